@@ -1,0 +1,38 @@
+-- Laws of the definitions, for every well-formed list of types.
+use Rattle.std.specs.Prelude.{◌≡◌, ℕ, ◌+◌, ◌<◌, List, length, true, Option, Some, IsTrue}
+use Rattle.std.specs.Option.{option_map_or}
+use Rattle.hd_dbd.specs.declared.hierarchy.FreeSpace.{FreeSpace}
+use Rattle.hd_dbd.specs.declared.hierarchy.SegType.{SegType}
+use Rattle.hd_dbd.specs.Segment.{Segment}
+use Rattle.hd_dbd.specs.Hierarchy.{type_of, level_of}
+use Rattle.hd_dbd.specs.DatabaseRules.{well_formed}
+use Rattle.hd_dbd.specs.Rows.{valid, twins_in_order}
+use Rattle.hd_dbd.specs.Paths.{row_at, is_twin}
+use Rattle.hd_dbd.specs.Forest.{Forest, sequence, forest_fits}
+
+-- The level of a type is one more than its parent's, and the root's is 1.
+abbrev pub LevelsFollowParents : Type 0
+LevelsFollowParents =
+    (block_size : ℕ) (frspc : FreeSpace) (types : List SegType) (c : ℕ) (t : SegType) → IsTrue (well_formed block_size frspc types)
+    → type_of types c ≡ Some t → level_of types c ≡ option_map_or (λ p. level_of types p) t.parent 0 + 1
+
+-- The hierarchic sequence of a forest of the database is a valid list of rows.
+abbrev pub SequencesAreValid : Type 0
+SequencesAreValid =
+    (block_size : ℕ) (frspc : FreeSpace) (types : List SegType) (f : Forest Segment) → IsTrue (well_formed block_size frspc types)
+    → forest_fits types f ≡ true → valid types (sequence f) ≡ true
+
+-- Each valid list of rows is the hierarchic sequence of exactly one forest of the database.
+abbrev pub ValidRowsAreOneForest : Type 0
+ValidRowsAreOneForest =
+    (block_size : ℕ) (frspc : FreeSpace) (types : List SegType) (rows : List Segment) → IsTrue (well_formed block_size frspc types)
+    → valid types rows ≡ true
+    → (f : Forest Segment) × (forest_fits types f ≡ true) × (sequence f ≡ rows)
+    × ((g : Forest Segment) → forest_fits types g ≡ true → sequence g ≡ rows → g ≡ f)
+
+-- Of any two twins in a valid list the earlier is in key order before the later.
+abbrev pub TwinsAscend : Type 0
+TwinsAscend =
+    (block_size : ℕ) (frspc : FreeSpace) (types : List SegType) (rows : List Segment) (i j : ℕ) → IsTrue (well_formed block_size frspc types)
+    → valid types rows ≡ true → i < j → j < length rows → is_twin types rows i j ≡ true
+    → twins_in_order types (row_at rows i) (row_at rows j) ≡ true

@@ -1,0 +1,17 @@
+pub mod Naming
+pub mod Segment
+pub mod Hierarchy
+pub mod Prefixes
+pub mod Facts
+pub mod DatabaseRules
+pub mod Letters
+pub mod ProgramRules
+pub mod Views
+pub mod Rows
+pub mod Paths
+pub mod Forest
+pub mod Positions
+pub mod Calls
+pub mod Gets
+pub mod Logs
+pub mod Laws

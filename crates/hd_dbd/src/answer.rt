@@ -1,0 +1,34 @@
+/// The status code of a call, as DL/I puts it into the PCB. Blank, GA and GK mean done.
+#[derive(Clone, Copy, Debug, PartialEq, Eq)]
+pub enum Status {
+    Blank,
+    GA,
+    GK,
+    GB,
+    GE,
+    GP,
+    II,
+    DA,
+    DJ,
+    LB,
+    LC,
+    LD,
+    LE,
+    AC,
+    AD,
+    AH,
+    AJ,
+    AK,
+    AM,
+}
+
+/// Why a call gave no status: no memory, no room in the volume, a failed access, a session that an earlier
+/// failed access has ended, or an I/O area of a wrong length.
+#[derive(Clone, Copy, Debug, PartialEq, Eq)]
+pub enum Refused {
+    Memory,
+    Full,
+    Device,
+    Broken,
+    Area,
+}

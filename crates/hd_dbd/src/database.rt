@@ -1,0 +1,202 @@
+ghost use Rattle.std.specs.Prelude.{◌≡◌, ◌⊎◌, ◌-◌, ◌<◌, ◌≤◌, false, length, IsTrue, IfOk, OnOk, IfErr, option_copied};
+ghost use Rattle.hd_dbd.specs.Hierarchy.{type_of, parent_of, level_of, longest_path};
+ghost use Rattle.hd_dbd.specs.Prefixes.{prefix_length, pointers_at, children_of, stored_size};
+ghost use Rattle.hd_dbd.specs.DatabaseRules.{well_formed};
+
+use crate::facts::TypeFacts;
+use crate::hierarchy::{FreeSpace, SegType};
+use crate::naming::Name8;
+use std::alloc::{AllocError, Global};
+use std::marker::Model;
+use thiserror::Error;
+
+/// Why a DBD is refused: the rule that it breaks, with the code of the segment type that breaks it where the rule is
+/// of one. `Memory` says nothing of the DBD.
+#[derive(Clone, Copy, Debug, Drop, PartialEq, Eq, Error)]
+pub enum DbdFault {
+    /// No segment type.
+    #[error("type 0, B1")]
+    B1,
+    /// More than 255 segment types.
+    #[error("type 0, B2")]
+    B2,
+    /// More than 15 levels.
+    #[error("type {0}, B3")]
+    B3(u8),
+    /// A parent that is no earlier type; a root with a parent.
+    #[error("type {0}, B4")]
+    B4(u8),
+    /// A segment, field or key without a byte, or a field or key outside its segment.
+    #[error("type {0}, B5")]
+    B5(u8),
+    /// A root without a unique key.
+    #[error("type {0}, B6")]
+    B6(u8),
+    /// A name that an earlier type has, or that two fields of the type have.
+    #[error("type {0}, B7")]
+    B7(u8),
+    /// A segment, or three entries of the index, that do not fit into a block.
+    #[error("type {0}, B8")]
+    B8(u8),
+    /// A key of more than 255 bytes.
+    #[error("type {0}, B9")]
+    B9(u8),
+    /// A block size that is no multiple of 8 from 128 to 32,768, or FRSPC out of range.
+    #[error("type 0, B10")]
+    B10,
+    /// No memory.
+    #[error("no memory")]
+    Memory,
+}
+
+/// A well-formed database description: its name, its block size and FRSPC, and its segment types.
+///
+/// It also keeps what layers ask of a type again and again, so that nothing is worked out at an access.
+#[derive(Debug, Drop)]
+pub struct Dbd {
+    name: Name8,
+    block_size: u32,
+    frspc: FreeSpace,
+    types: Vec<SegType>,
+    facts: Vec<TypeFacts>,
+    children: Vec<Vec<u8>>,
+    longest: usize,
+}
+
+impl Model for Dbd {
+    ghost use Rattle.std.specs.Prelude.{◌≡◌, IsTrue, map};
+    ghost use Rattle.hd_dbd.specs.Hierarchy.{Database, longest_path};
+    ghost use Rattle.hd_dbd.specs.DatabaseRules.{well_formed};
+    ghost use Rattle.hd_dbd.specs.Facts.{facts_of, children_lists};
+
+    ghost Value = { Database };
+
+    ghost view = { λ d. record { name = d.name; block_size = d.block_size; frspc = d.frspc; types = d.types.items } };
+
+    ghost invariant = { λ d.
+        IsTrue (well_formed d.block_size d.frspc d.types.items)
+        × (d.facts.items ≡ facts_of d.types.items)
+        × (map (λ v. v.items) d.children.items ≡ children_lists d.types.items)
+        × (d.longest ≡ longest_path d.types.items) };
+}
+
+impl Dbd {
+    ghost use Rattle.hd_dbd.specs.Facts.{facts_at};
+
+    /// A database of these types, where they keep to the rules that `DbdFault` names. The block size is in bytes.
+    pub fn new(
+        alloc: Global,
+        name: Name8,
+        block_size: u32,
+        frspc: FreeSpace,
+        types: Vec<SegType>,
+    ) -> Result<Dbd, DbdFault>
+        ensures ok { IfOk result (λ d. d ≡ record { name = name; block_size = block_size; frspc = frspc; types = types.items }) }
+        ensures well_formed { OnOk result (IsTrue (well_formed block_size frspc types.items)) }
+        ensures fault { IfErr result (λ f. (f ≡ DbdFault.Memory) ⊎ (well_formed block_size frspc types.items ≡ false)) }
+    {
+        Err(DbdFault::B1)
+    }
+
+    /// The name in the DBD statement.
+    pub fn name(&self) -> &Name8
+        ensures { result.now ≡ self.now.name }
+    {
+        &self.name
+    }
+
+    /// The bytes of a block.
+    pub fn block_size(&self) -> u32
+        ensures { result ≡ self.now.block_size }
+    {
+        self.block_size
+    }
+
+    /// How much space a load leaves free.
+    pub fn frspc(&self) -> FreeSpace
+        ensures { result ≡ self.now.frspc }
+    {
+        self.frspc
+    }
+
+    /// The segment types in the order of their codes, the first of which is 1.
+    pub fn types(&self) -> &[SegType]
+        ensures types { result.now ≡ self.now.types }
+        ensures fit { IsTrue (well_formed self.now.block_size self.now.frspc self.now.types) }
+    {
+        &self.types
+    }
+
+    /// The type of a code, if there is one.
+    pub fn type_of(&self, code: u8) -> Option<&SegType>
+        ensures value { option_copied result ≡ type_of self.now.types code }
+        ensures fit { IsTrue (well_formed self.now.block_size self.now.frspc self.now.types) }
+    {
+        let types = &self.types;
+        if code == 0 {
+            return None;
+        }
+        types.get(code as usize - 1)
+    }
+
+    /// The code of the type's parent; `None` for the root and for no type.
+    pub fn parent_of(&self, code: u8) -> Option<u8>
+        ensures { result ≡ parent_of self.now.types code }
+    {
+        self.type_of(code)?.parent
+    }
+
+    /// The level of a type, 1 for the root; 0 for no type.
+    pub fn level(&self, code: u8) -> u8
+        ensures level { result ≡ level_of self.now.types code }
+        ensures bound { result ≤ 15 }
+        ensures fit { IsTrue (well_formed self.now.block_size self.now.frspc self.now.types) }
+    {
+        self.facts_of(code).level
+    }
+
+    /// The bytes of a type's prefix: code, delete byte and pointers; 0 for no type.
+    pub fn prefix_length(&self, code: u8) -> u16
+        ensures { result ≡ prefix_length self.now.types code }
+    {
+        self.facts_of(code).prefix
+    }
+
+    /// Where in the prefix of its parent the pointers to a type's twins stand; 0 for the root and for no type.
+    pub fn pointers_at(&self, code: u8) -> u16
+        ensures { result ≡ pointers_at self.now.types code }
+    {
+        self.facts_of(code).pointers
+    }
+
+    /// The codes of a type's child types, in order; none for no type.
+    pub fn children_of(&self, code: u8) -> &[u8]
+        ensures { result.now ≡ children_of self.now.types code }
+    {
+        &[]
+    }
+
+    /// The bytes that a segment of the type takes in a block: its prefix and its bytes, rounded up to a multiple of 8;
+    /// 0 for no type.
+    pub fn stored_size(&self, code: u8) -> u16
+        ensures { result ≡ stored_size self.now.types code }
+    {
+        self.facts_of(code).size
+    }
+
+    /// The bytes of the longest path of segments, from a root down.
+    pub fn longest_path(&self) -> usize
+        ensures { result ≡ longest_path self.now.types }
+    {
+        self.longest
+    }
+
+    /// What is kept of a type; zeros for no type.
+    fn facts_of(&self, code: u8) -> TypeFacts
+        ensures value { result ≡ facts_at self.now.types code }
+        ensures level { result.level ≤ 15 }
+        ensures fit { IsTrue (well_formed self.now.block_size self.now.frspc self.now.types) }
+    {
+        TypeFacts { level: 0, prefix: 0, pointers: 0, size: 0 }
+    }
+}

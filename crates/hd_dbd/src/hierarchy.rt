@@ -1,0 +1,48 @@
+use crate::naming::Name8;
+
+/// RULES: where a new twin goes that has no unique key, before or behind the twins of equal key (of all, without
+/// key), or before the one on which the position stands.
+#[derive(Clone, Copy, Debug, PartialEq, Eq)]
+pub enum Rule {
+    First,
+    Last,
+    Here,
+}
+
+/// FRSPC: each `fbff`th block is left free for growth (0 for none), and `fspf` percent of every other block.
+#[derive(Clone, Copy, Debug, PartialEq, Eq)]
+pub struct FreeSpace {
+    pub fbff: u32,
+    pub fspf: u32,
+}
+
+/// The sequence field of a type: its first byte, counted from 1, and its length in bytes.
+#[derive(Clone, Copy, Debug, PartialEq, Eq)]
+pub struct Key {
+    pub start: u32,
+    pub length: u32,
+    pub unique: bool,
+}
+
+/// A field that a qualification may name: its first byte, counted from 1, and its length in bytes.
+#[derive(Clone, Copy, Debug, PartialEq, Eq)]
+pub struct Field {
+    pub name: Name8,
+    pub start: u32,
+    pub length: u32,
+}
+
+/// A segment type. Its code is its place among the types of the database, from 1, and `parent` is the code of its
+/// parent type. `length` is that of its segments in bytes; `backward` and `last_pointer` say which pointers are kept:
+/// twin backward in each segment, and last child in each parent.
+#[derive(Debug, Drop)]
+pub struct SegType {
+    pub name: Name8,
+    pub parent: Option<u8>,
+    pub length: u32,
+    pub key: Option<Key>,
+    pub rule: Rule,
+    pub backward: bool,
+    pub last_pointer: bool,
+    pub fields: Vec<Field>,
+}

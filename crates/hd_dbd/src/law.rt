@@ -1,0 +1,21 @@
+ghost use Rattle.hd_dbd.specs.Laws.{LevelsFollowParents, SequencesAreValid, ValidRowsAreOneForest, TwinsAscend};
+
+/// The level of a type is one more than its parent's, and the root's is 1.
+pub fn law_levels_follow_parents()
+    ensures { LevelsFollowParents }
+{}
+
+/// The hierarchic sequence of a forest of the database is a valid list of rows.
+pub fn law_sequences_are_valid()
+    ensures { SequencesAreValid }
+{}
+
+/// Each valid list of rows is the hierarchic sequence of exactly one forest of the database.
+pub fn law_valid_rows_are_one_forest()
+    ensures { ValidRowsAreOneForest }
+{}
+
+/// Of any two twins in a valid list of rows the earlier stands before the later in key order.
+pub fn law_twins_ascend()
+    ensures { TwinsAscend }
+{}

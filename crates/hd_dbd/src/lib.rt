@@ -1,0 +1,27 @@
+//! The types of a database, the views of a program, rows, and what calls answer.
+//!
+//! The definitions that every contract of `hd` cites stand in this crate's `specs/`.
+#![tactic(auto)]
+
+mod answer;
+mod call;
+mod database;
+mod facts;
+mod hierarchy;
+mod law;
+mod naming;
+mod program;
+mod row;
+mod rules;
+
+pub use answer::{Refused, Status};
+pub use call::Get;
+pub use database::{Dbd, DbdFault};
+pub use hierarchy::{Field, FreeSpace, Key, Rule, SegType};
+pub use law::{
+    law_levels_follow_parents, law_sequences_are_valid, law_twins_ascend,
+    law_valid_rows_are_one_forest,
+};
+pub use naming::Name8;
+pub use program::{Pcb, Psb, PsbFault, Sens};
+pub use row::Row;

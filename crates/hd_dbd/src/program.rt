@@ -1,0 +1,104 @@
+ghost use Rattle.std.specs.Prelude.{◌≡◌, ◌⊎◌, ◌↔◌, ◌<◌, ◌≤◌, false, length, IsTrue, IfOk, OnOk, IfErr};
+ghost use Rattle.hd_dbd.specs.ProgramRules.{type_names, program_fits};
+
+use crate::database::Dbd;
+use crate::naming::Name8;
+use std::alloc::{AllocError, Global};
+use std::marker::Model;
+use thiserror::Error;
+
+/// SENSEG: a segment type that a PCB sees, its parent's name, and its own PROCOPT, if it has one.
+#[derive(Debug, Drop)]
+pub struct Sens {
+    pub name: Name8,
+    pub parent: Option<Name8>,
+    pub procopt: Option<String>,
+}
+
+/// PCB: one view of a database, with the PROCOPT of the types that have none of their own.
+#[derive(Debug, Drop)]
+pub struct Pcb {
+    pub procopt: String,
+    pub sens: Vec<Sens>,
+}
+
+/// The name of a segment type, and the code of its parent.
+#[derive(Clone, Copy, Debug, PartialEq, Eq)]
+pub struct TypeName {
+    name: Name8,
+    parent: Option<u8>,
+}
+
+/// Why a PSB is refused: the rule that it breaks, with the number of the PCB that breaks it, from 1. `Memory` says
+/// nothing of the PSB.
+#[derive(Clone, Copy, Debug, Drop, PartialEq, Eq, Error)]
+pub enum PsbFault {
+    /// A SENSEG that names no segment of the DBD.
+    #[error("pcb {0}, P1")]
+    P1(u8),
+    /// A SENSEG whose parent is not the DBD's, or is not seen.
+    #[error("pcb {0}, P2")]
+    P2(u8),
+    /// SENSEGs that are not in the order of the DBD, or of which one stands twice.
+    #[error("pcb {0}, P3")]
+    P3(u8),
+    /// A PROCOPT without a letter, with another letter, with P alone, with L and a letter but S, or with L on only one
+    /// of PCB and SENSEG.
+    #[error("pcb {0}, P4")]
+    P4(u8),
+    /// A PCB that loads beside others.
+    #[error("pcb {0}, P5")]
+    P5(u8),
+    /// A PCB without SENSEG; 0 where there is no PCB, or more than 255.
+    #[error("pcb {0}, P6")]
+    P6(u8),
+    /// No memory.
+    #[error("no memory")]
+    Memory,
+}
+
+/// A well-formed program specification block: its PCBs, and the names and parents of the types that they were made
+/// for.
+#[derive(Debug, Drop)]
+pub struct Psb {
+    made_for: Vec<TypeName>,
+    pcbs: Vec<Pcb>,
+}
+
+impl Model for Psb {
+    ghost use Rattle.std.specs.Prelude.{IsTrue};
+    ghost use Rattle.hd_dbd.specs.ProgramRules.{Program, program_fits};
+
+    ghost Value = { Program };
+
+    ghost view = { λ p. record { made_for = p.made_for.items; pcbs = p.pcbs.items } };
+
+    ghost invariant = { λ p. IsTrue (program_fits p.made_for.items p.pcbs.items) };
+}
+
+impl Psb {
+    /// A program of these PCBs over the database, where they keep to the rules that `PsbFault` names.
+    pub fn new(alloc: Global, dbd: &Dbd, pcbs: Vec<Pcb>) -> Result<Psb, PsbFault>
+        ensures ok { IfOk result (λ p. p ≡ record { made_for = type_names dbd.now.types; pcbs = pcbs.items }) }
+        ensures well_formed { OnOk result (IsTrue (program_fits (type_names dbd.now.types) pcbs.items)) }
+        ensures fault { IfErr result (λ f. (f ≡ PsbFault.Memory) ⊎ (program_fits (type_names dbd.now.types) pcbs.items ≡ false)) }
+    {
+        Err(PsbFault::P6(0))
+    }
+
+    /// The PCBs, numbered from 1 to at most 255.
+    pub fn pcbs(&self) -> &[Pcb]
+        ensures pcbs { result.now ≡ self.now.pcbs }
+        ensures count { (0 < length self.now.pcbs) × (length self.now.pcbs ≤ 255) }
+        ensures fit { IsTrue (program_fits self.now.made_for self.now.pcbs) }
+    {
+        &self.pcbs
+    }
+
+    /// Whether the names and parents of the database's types are, in order, those that the program was made for.
+    pub fn matches(&self, dbd: &Dbd) -> bool
+        ensures { IsTrue result ↔ (self.now.made_for ≡ type_names dbd.now.types) }
+    {
+        false
+    }
+}
