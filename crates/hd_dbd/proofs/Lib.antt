@@ -1,0 +1,2 @@
+pub mod KeyLengths
+pub mod RowLengths

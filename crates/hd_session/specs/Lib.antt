@@ -1,0 +1,5 @@
+pub mod Buffer
+pub mod Walk
+pub mod Place
+pub mod RowCalls
+pub mod Session

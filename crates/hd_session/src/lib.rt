@@ -1,0 +1,14 @@
+//! Calls of the PCBs of one program over a plain list of rows.
+#![tactic(auto)]
+
+mod buffer;
+mod place;
+mod request;
+mod rows;
+mod search;
+mod validity;
+
+pub use buffer::IoArea;
+pub use request::{Answer, Call};
+pub use rows::RowSession;
+pub use validity::valid_rows;
