@@ -23,5 +23,5 @@ pub use law::{
     law_valid_rows_are_one_forest,
 };
 pub use naming::Name8;
-pub use program::{Pcb, Psb, PsbFault, Sens};
+pub use program::{Pcb, Psb, PsbFault, Sens, gives_get};
 pub use row::Row;

@@ -1,4 +1,5 @@
 ghost use Rattle.std.specs.Prelude.{◌≡◌, ◌⊎◌, ◌↔◌, ◌<◌, ◌≤◌, false, length, IsTrue, IfOk, OnOk, IfErr};
+ghost use Rattle.hd_dbd.specs.Letters.{gives_get};
 ghost use Rattle.hd_dbd.specs.ProgramRules.{type_names, program_fits};
 
 use crate::database::Dbd;
@@ -101,4 +102,52 @@ impl Psb {
     {
         false
     }
+}
+
+impl Pcb {
+    ghost use Rattle.std.specs.Prelude.{option_copied};
+    ghost use Rattle.hd_dbd.specs.Views.{letters_of, letters_for, reads_some};
+
+    /// The letters of PROCOPT that hold for the type of a name, where the PCB sees it: its own, or else the PCB's.
+    pub fn letters_for(&self, name: &Name8) -> Option<&[u8]>
+        ensures { option_copied result ≡ letters_for self.now name.now }
+    {
+        for sens in &self.sens {
+            if sens.name == *name {
+                return Some(self.letters_of(sens));
+            }
+        }
+        None
+    }
+
+    /// Whether some type that the PCB sees may be read.
+    pub fn reads_some(&self) -> bool
+        ensures { result ≡ reads_some self.now }
+    {
+        for sens in &self.sens {
+            if gives_get(self.letters_of(sens)) {
+                return true;
+            }
+        }
+        false
+    }
+
+    /// The letters that hold for a type that the PCB sees.
+    fn letters_of<'a>(&'a self, sens: &'a Sens) -> &'a [u8]
+        ensures { result.now ≡ letters_of self.now sens.now }
+    {
+        match &sens.procopt {
+            Some(own) => own.as_bytes(),
+            None => self.procopt.as_bytes(),
+        }
+    }
+}
+
+/// Whether letters of PROCOPT give gets: G, or R, D or A, which include it.
+pub fn gives_get(letters: &[u8]) -> bool
+    ensures { result ≡ gives_get letters.now }
+{
+    letters
+        .iter()
+        .any(|b| *b == b'G' || *b == b'R' || *b == b'D' || *b == b'A')
 }
