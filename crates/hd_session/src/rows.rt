@@ -4,8 +4,7 @@ ghost use Rattle.hd_dbd.specs.ProgramRules.{type_names};
 ghost use Rattle.hd_dbd.specs.Rows.{valid};
 ghost use Rattle.hd_dbd.specs.Paths.{row_at};
 ghost use Rattle.hd_dbd.specs.Positions.{at_start};
-ghost use Rattle.hd_dbd.specs.Gets.{search_start, crossing, get_status, get_missing, get_step, onto};
-ghost use Rattle.hd_session.specs.Buffer.{Buffer};
+ghost use Rattle.hd_dbd.specs.Gets.{search_start, crossing, get_status, get_step, onto};
 ghost use Rattle.hd_session.specs.Place.{position_of, place_of};
 ghost use Rattle.hd_session.specs.RowCalls.{get_named, row_step, reply_of};
 ghost use Rattle.hd_session.specs.Session.{call_step};
@@ -94,17 +93,8 @@ fn search_start(position: &RowPosition, get: Get) -> usize
     }
 }
 
-/// What a get answers that finds no row: GE for GU; for GN GB, and the PCB is back at the start.
-fn missing(position: RowPosition, get: Get) -> (Answer, RowPosition)
-    ensures { (b : Buffer) → b.key ≡ [] → b.area ≡ [] → (reply_of result.0 b, position_of result.1) ≡ get_missing (position_of position) get }
-{
-    match get {
-        Get::Unique => (bare(Status::GE), position),
-        Get::Next => (bare(Status::GB), RowPosition::start()),
-    }
-}
-
-/// GU and GN without a segment search argument.
+/// GU and GN without a segment search argument. Where no row satisfies, GU answers GE; GN answers GB, and the PCB is
+/// back at the start.
 fn get_step(
     dbd: &Dbd,
     pcb: &Pcb,
@@ -124,7 +114,10 @@ fn get_step(
             let answer = give_row(dbd, pcb, rows, number, status, io);
             (answer, onto(dbd, rows, number))
         }
-        None => missing(position, get),
+        None => match get {
+            Get::Unique => (bare(Status::GE), position),
+            Get::Next => (bare(Status::GB), RowPosition::start()),
+        },
     }
 }
 
