@@ -208,6 +208,13 @@ impl<'a> RowSession<'a> {
         })
     }
 
+    /// The database of the session.
+    pub fn dbd(&self) -> &'a Dbd
+        ensures { result.now.types ≡ self.now.types }
+    {
+        self.dbd
+    }
+
     /// One call of a PCB, numbered from 1, with key and area in `io`, which is one of the session's database. It takes
     /// no memory and is never refused.
     pub fn call(&mut self, pcb: u8, call: &Call, io: &mut IoArea) -> Result<Answer, Refused>

@@ -1,0 +1,4 @@
+pub mod StepText
+pub mod Deck
+pub mod Printing
+pub mod Runs

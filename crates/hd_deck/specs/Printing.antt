@@ -1,0 +1,77 @@
+-- The lines that a run prints, one for each entry of its log.
+use Rattle.std.specs.Prelude.{ℕ, ◌+◌, ◌/◌, ◌%◌, List, [], ◌∷◌, ◌++◌, cond, nat_le, nat_lt, ◌&&◌, ◌==◌, Option, codes, decimal, replicate, flat_map, unwrap_or}
+use Rattle.hd_dbd.specs.declared.answer.Status.{Status}
+use Rattle.hd_dbd.specs.declared.answer.Status.TheVariants.{Blank, GA, GK, GB, GE, GP, II, DA, DJ, LB, LC, LD, LE, AC, AD, AH, AJ, AK, AM}
+use Rattle.hd_dbd.specs.Calls.{Reply}
+use Rattle.hd_dbd.specs.Logs.{Outcome, replied, area, full, memory, Entry, Log}
+
+abbrev pub status_text : Status → List ℕ
+status_text Blank = codes "  "
+status_text GA = codes "GA"
+status_text GK = codes "GK"
+status_text GB = codes "GB"
+status_text GE = codes "GE"
+status_text GP = codes "GP"
+status_text II = codes "II"
+status_text DA = codes "DA"
+status_text DJ = codes "DJ"
+status_text LB = codes "LB"
+status_text LC = codes "LC"
+status_text LD = codes "LD"
+status_text LE = codes "LE"
+status_text AC = codes "AC"
+status_text AD = codes "AD"
+status_text AH = codes "AH"
+status_text AJ = codes "AJ"
+status_text AK = codes "AK"
+status_text AM = codes "AM"
+
+-- a digit below 16, lower case
+abbrev pub hex_digit : ℕ → ℕ
+hex_digit n = cond (nat_lt n 10) (48 + n) (87 + n)
+
+-- a byte from 32 to 126 as it is, but a backslash doubled; any other by two digits behind a backslash and an x
+abbrev pub shown_byte : ℕ → List ℕ
+shown_byte b =
+    cond (b == 92) (92 ∷ 92 ∷ [])
+    (cond (nat_le 32 b && nat_le b 126) (b ∷ []) (92 ∷ 120 ∷ hex_digit (b / 16) ∷ hex_digit (b % 16) ∷ []))
+
+abbrev pub shown : List ℕ → List ℕ
+shown bytes = flat_map shown_byte bytes
+
+abbrev pub two_digits : ℕ → List ℕ
+two_digits n = (48 + n / 10) ∷ (48 + n % 10) ∷ []
+
+-- the number of the call, the PCB and the function
+abbrev pub head_text : ℕ → ℕ → List ℕ → List ℕ
+head_text number pcb function = decimal number ++ codes " " ++ decimal pcb ++ codes " " ++ function
+
+abbrev pub bracket_text : Status → List ℕ
+bracket_text status = codes " [" ++ status_text status ++ codes "] "
+
+-- level and segment, eight blanks where there is none
+abbrev pub place_text : ℕ → Option (List ℕ) → List ℕ
+place_text level segment = two_digits level ++ codes " " ++ unwrap_or segment (replicate 8 32)
+
+abbrev pub bytes_text : List ℕ → List ℕ → List ℕ
+bytes_text key bytes = codes " key=" ++ shown key ++ codes " area=" ++ shown bytes ++ codes "\n"
+
+-- an answer, or else a refusal's name in place of all that
+abbrev pub outcome_text : Outcome → List ℕ
+outcome_text (replied r) = bracket_text r.status ++ place_text r.level r.segment ++ bytes_text r.key r.area
+outcome_text area = codes " [!!] Area\n"
+outcome_text full = codes " [!!] Full\n"
+outcome_text memory = codes " [!!] Memory\n"
+
+-- the line of one entry
+abbrev pub line_of : {Image : Type 0} → ℕ → Entry Image → List ℕ
+line_of number e = head_text number e.pcb e.call.function ++ outcome_text e.outcome
+
+-- the lines of entries, the first of which has the number
+abbrev pub lines_from : {Image : Type 0} → ℕ → List (Entry Image) → List ℕ
+lines_from number [] = []
+lines_from number (e ∷ es) = line_of number e ++ lines_from (number + 1) es
+
+-- what a run prints
+abbrev pub print : {Image : Type 0} → Log Image → List ℕ
+print log = lines_from 1 log.entries

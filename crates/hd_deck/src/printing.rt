@@ -1,0 +1,166 @@
+ghost use Rattle.std.specs.Prelude.{◌≡◌, ◌<◌, ◌++◌, unwrap_or, replicate, OnOk};
+ghost use Rattle.std.specs.Io.KnownBytes.{Appends};
+ghost use Rattle.hd_dbd.specs.Logs.{replied};
+ghost use Rattle.hd_session.specs.RowCalls.{reply_of};
+ghost use Rattle.hd_deck.specs.Printing.{status_text, hex_digit, shown, shown_byte, two_digits, head_text, bracket_text, place_text, bytes_text, outcome_text};
+
+use hd_dbd::{Name8, Status};
+use hd_session::{Answer, IoArea};
+use itoa::Buffer;
+use std::io::Write;
+use thiserror::Error;
+
+/// A write failed. How much went out before it is not known.
+#[derive(Clone, Copy, Debug, Drop, PartialEq, Eq, Error)]
+#[error("write failed")]
+pub struct WriteFault;
+
+/// Writes all of the bytes.
+fn put<W: Write>(out: &mut W, bytes: &[u8]) -> Result<(), WriteFault>
+    ensures { OnOk result (Appends (W.contents out.old) (W.contents out.new) bytes.now) }
+{
+    match out.write_all(bytes) {
+        Ok(()) => Ok(()),
+        Err(_) => Err(WriteFault),
+    }
+}
+
+fn status_text(status: Status) -> &'static [u8; 2]
+    ensures { result.now ≡ status_text status }
+{
+    match status {
+        Status::Blank => b"  ",
+        Status::GA => b"GA",
+        Status::GK => b"GK",
+        Status::GB => b"GB",
+        Status::GE => b"GE",
+        Status::GP => b"GP",
+        Status::II => b"II",
+        Status::DA => b"DA",
+        Status::DJ => b"DJ",
+        Status::LB => b"LB",
+        Status::LC => b"LC",
+        Status::LD => b"LD",
+        Status::LE => b"LE",
+        Status::AC => b"AC",
+        Status::AD => b"AD",
+        Status::AH => b"AH",
+        Status::AJ => b"AJ",
+        Status::AK => b"AK",
+        Status::AM => b"AM",
+    }
+}
+
+fn hex_digit(n: u8) -> u8
+    requires { n < 16 }
+    ensures { result ≡ hex_digit n }
+{
+    if n < 10 { b'0' + n } else { b'a' - 10 + n }
+}
+
+/// Writes bytes so that each is seen.
+fn put_shown<W: Write>(out: &mut W, bytes: &[u8]) -> Result<(), WriteFault>
+    ensures { OnOk result (Appends (W.contents out.old) (W.contents out.new) (shown bytes.now)) }
+{
+    for byte in bytes {
+        put_shown_byte(out, *byte)?;
+    }
+    Ok(())
+}
+
+fn put_shown_byte<W: Write>(out: &mut W, byte: u8) -> Result<(), WriteFault>
+    ensures { OnOk result (Appends (W.contents out.old) (W.contents out.new) (shown_byte byte)) }
+{
+    match byte {
+        b'\\' => put(out, b"\\\\"),
+        32..=126 => put(out, &[byte]),
+        _ => put(
+            out,
+            &[b'\\', b'x', hex_digit(byte / 16), hex_digit(byte % 16)],
+        ),
+    }
+}
+
+/// Writes the number of the call, the PCB and the function.
+fn put_head<W: Write>(out: &mut W, number: u64, pcb: u8, function: &[u8]) -> Result<(), WriteFault>
+    ensures { OnOk result (Appends (W.contents out.old) (W.contents out.new) (head_text number pcb function.now)) }
+{
+    let mut digits = Buffer::new();
+    put(out, digits.format(number).as_bytes())?;
+    put(out, b" ")?;
+    put(out, digits.format(pcb).as_bytes())?;
+    put(out, b" ")?;
+    put(out, function)
+}
+
+/// Writes the status in its brackets.
+fn put_status<W: Write>(out: &mut W, status: Status) -> Result<(), WriteFault>
+    ensures { OnOk result (Appends (W.contents out.old) (W.contents out.new) (bracket_text status)) }
+{
+    put(out, b" [")?;
+    put(out, status_text(status))?;
+    put(out, b"] ")
+}
+
+/// A number below 100 in two digits.
+fn two_digits(number: u8) -> [u8; 2]
+    ensures { result ≡ two_digits number }
+{
+    [b'0' + number / 10, b'0' + number % 10]
+}
+
+/// Writes level and segment.
+fn put_place<W: Write>(out: &mut W, level: u8, segment: &Option<Name8>) -> Result<(), WriteFault>
+    ensures { OnOk result (Appends (W.contents out.old) (W.contents out.new) (place_text level segment.now)) }
+{
+    put(out, &two_digits(level))?;
+    put(out, b" ")?;
+    put(out, segment_text(segment))
+}
+
+/// A segment's name, and blanks where there is none.
+fn segment_text(segment: &Option<Name8>) -> &[u8]
+    ensures { result.now ≡ unwrap_or segment.now (replicate 8 32) }
+{
+    match segment {
+        Some(name) => name.bytes(),
+        None => b"        ",
+    }
+}
+
+/// Writes key and area.
+fn put_bytes<W: Write>(out: &mut W, io: &IoArea) -> Result<(), WriteFault>
+    ensures { OnOk result (Appends (W.contents out.old) (W.contents out.new) (bytes_text io.now.key io.now.area)) }
+{
+    put(out, b" key=")?;
+    put_shown(out, io.key())?;
+    put(out, b" area=")?;
+    put_shown(out, io.area())?;
+    put(out, b"\n")
+}
+
+/// Writes an answer, from its status on.
+fn put_answer<W: Write>(out: &mut W, answer: &Answer, io: &IoArea) -> Result<(), WriteFault>
+    ensures { OnOk result (Appends (W.contents out.old) (W.contents out.new) (outcome_text (replied (reply_of answer.now io.now)))) }
+{
+    put_status(out, answer.status)?;
+    put_place(out, answer.level, &answer.segment)?;
+    put_bytes(out, io)
+}
+
+/// Writes the line of one call that was answered: the call's number, from 1, its PCB's number and its function, then
+/// status, level, segment, key and area.
+pub fn print_answer<W: Write>(
+    out: &mut W,
+    number: u64,
+    pcb: u8,
+    function: &[u8; 4],
+    answer: &Answer,
+    io: &IoArea,
+) -> Result<(), WriteFault>
+    ensures { OnOk result (Appends (W.contents out.old) (W.contents out.new)
+        (head_text number pcb function.now ++ outcome_text (replied (reply_of answer.now io.now)))) }
+{
+    put_head(out, number, pcb, function)?;
+    put_answer(out, answer, io)
+}
