@@ -1,0 +1,28 @@
+//! The program `hd`: plays a deck of DL/I calls over the sample database.
+#![tactic(auto)]
+
+mod input;
+mod play;
+mod sample;
+mod stop;
+
+use std::env;
+use std::io;
+use std::process::ExitCode;
+
+fn main(rt: HostRuntime) -> ExitCode {
+    let Ok(args) = env::args(&rt) else {
+        return ExitCode::from(play::COMMAND_LINE);
+    };
+    let Ok(words) = args.skip(1).collect::<Vec<String>>(rt.alloc()) else {
+        return ExitCode::from(stop::Stop::Memory.status());
+    };
+    let status = play::play(
+        &rt,
+        words.as_slice(),
+        &mut rt.reader(),
+        &mut io::writer(&rt),
+        &mut rt.stderr(),
+    );
+    ExitCode::from(status)
+}

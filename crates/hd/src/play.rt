@@ -1,0 +1,84 @@
+use crate::input::read_whole;
+use crate::sample;
+use crate::stop::Stop;
+use clap::{Command, Error};
+use hd_dbd::Row;
+use hd_deck::{read_deck, run_rows};
+use hd_session::{RowSession, valid_rows};
+use std::alloc::Global;
+use std::fs::File;
+use std::io::{BufWriter, Read, Write};
+use std::rt::Files;
+
+/// The status where the command line is not understood.
+pub const COMMAND_LINE: u8 = 64;
+
+/// The bytes of output that go out in one piece.
+const PIECE: usize = 65_536;
+
+/// Does what the words behind the program's name ask for, and gives the status of the program: 0 done; 1 a sample out
+/// of sequence; 2 a text refused; 3 a failed read or write; 4 no memory; 64 a command line that is not understood,
+/// help among them, whose text is `clap`'s.
+///
+/// Without words it reads a deck from `input` and plays it over the sample database. What the calls answer goes to
+/// `out`; why the program ended early goes to `err`.
+pub fn play<R, I, O, E>(rt: &R, words: &[String], input: &mut I, out: &mut O, err: &mut E) -> u8
+where
+    R: Files<File = File> + AllocGlobal,
+    I: Read,
+    O: Write,
+    E: Write,
+{
+    if let Err(error) = read_words(rt.alloc(), words) {
+        let _ = write!(err, "{error}");
+        return COMMAND_LINE;
+    }
+    match play_sample(rt.alloc(), input, out) {
+        Ok(()) => 0,
+        Err(stop) => {
+            let _ = writeln!(err, "{stop}");
+            stop.status()
+        }
+    }
+}
+
+/// Judges the words of the command line.
+fn read_words(alloc: Global, words: &[String]) -> Result<(), Error> {
+    let command = Command::new(alloc, "hd")
+        .version("0.1.0")
+        .about("Plays a deck of DL/I calls, read from standard input, over a sample database")
+        .no_binary_name(true);
+    let _matches = command.try_get_matches_from(words)?;
+    Ok(())
+}
+
+/// Plays the deck that a reader holds over the sample.
+fn play_sample<I: Read, O: Write>(alloc: Global, input: &mut I, out: &mut O) -> Result<(), Stop> {
+    let rows = sample::rows(alloc)?;
+    play_rows(alloc, rows, input, out)
+}
+
+/// Plays the deck that a reader holds over rows of the sample database.
+fn play_rows<I: Read, O: Write>(
+    alloc: Global,
+    rows: Vec<Row>,
+    input: &mut I,
+    out: &mut O,
+) -> Result<(), Stop> {
+    let dbd = sample::database(alloc)?;
+    let psb = sample::program(alloc, &dbd)?;
+    if !valid_rows(&dbd, &rows) {
+        return Err(Stop::Sample);
+    }
+    let text = read_whole(alloc, input)?;
+    let steps = read_deck(alloc, &text, psb.pcbs().len() as u8)?;
+    let mut session = RowSession::new(alloc, &dbd, &psb, rows)?;
+    let Ok(mut lines) = BufWriter::with_capacity(alloc, PIECE, out) else {
+        return Err(Stop::Memory);
+    };
+    run_rows(alloc, &mut session, &steps, &mut lines)?;
+    match lines.flush() {
+        Ok(()) => Ok(()),
+        Err(_) => Err(Stop::Device),
+    }
+}
