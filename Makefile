@@ -1,0 +1,26 @@
+# `make` proves hd and leaves it at bin/hd; `make run` plays the sample deck; `make try` plays it unproved, in under a
+# minute; `make test` is the gate.
+.PHONY: all run try test clean
+
+all: bin/hd
+
+CRATES = $(shell sed -n 's/^\([a-z_0-9]*\):.*/\1/p' crates.txt)
+SOURCES = $(foreach crate,$(CRATES),$(shell find crates/$(crate) -type f -not -path '*/out/*'))
+
+bin/hd: crates.txt $(SOURCES)
+	cd crates/hd && rt run >/dev/null </dev/null
+	mkdir -p bin
+	cp crates/hd/out/hd bin/hd
+
+run: bin/hd
+	bin/hd <crates/hd/stdin
+
+try:
+	@echo 'This is the unproved build: it is run before any proof.' >&2
+	cd crates/hd && rt try
+
+test:
+	rt ci
+
+clean:
+	rm -rf bin crates/*/out
