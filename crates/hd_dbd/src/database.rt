@@ -197,6 +197,11 @@ impl Dbd {
         ensures level { result.level ≤ 15 }
         ensures fit { IsTrue (well_formed self.now.block_size self.now.frspc self.now.types) }
     {
-        TypeFacts { level: 0, prefix: 0, pointers: 0, size: 0 }
+        TypeFacts {
+            level: 0,
+            prefix: 0,
+            pointers: 0,
+            size: 0,
+        }
     }
 }
