@@ -1,1 +1,4 @@
 pub mod Tables
+pub mod Levels
+pub mod Fitting
+pub mod Kept

@@ -1,4 +1,4 @@
-ghost use Rattle.std.specs.Prelude.{◌≡◌, ℕ, ◌+◌, ◌-◌, ◌*◌, ◌<◌, ◌≤◌, ◌==◌, cond, IfOk, length, map, slice_index, option_copied};
+ghost use Rattle.std.specs.Prelude.{◌≡◌, ℕ, ◌+◌, ◌-◌, ◌*◌, ◌<◌, ◌≤◌, ◌==◌, cond, IfOk, length, map, slice_index, slice_index_or, option_copied, []};
 ghost use Rattle.std.specs.Option.{option_map_or};
 ghost use Rattle.hd_dbd.specs.Hierarchy.{type_of, level_of, levels_of, weights, greatest, longest_path};
 ghost use Rattle.hd_dbd.specs.Prefixes.{twin_part, child_part, is_child_of, child_parts, prefix_length, pointers_at, children_of, rounded_up, stored_size};
@@ -262,4 +262,33 @@ pub fn facts_of(
         table.push(facts_at(types, levels, place as u8 + 1))?;
     }
     Ok(table)
+}
+
+/// What a table has for the type of a code; zeros for no type.
+pub fn facts_in(table: &[TypeFacts], code: u8) -> TypeFacts
+    ensures { result ≡ cond (code == 0) (record { level = 0; prefix = 0; pointers = 0; size = 0 }) (slice_index_or table.now (code - 1) (record { level = 0; prefix = 0; pointers = 0; size = 0 })) }
+{
+    let none = TypeFacts {
+        level: 0,
+        prefix: 0,
+        pointers: 0,
+        size: 0,
+    };
+    if code == 0 {
+        return none;
+    }
+    table.get(code as usize - 1).copied().unwrap_or(none)
+}
+
+/// What a table has for the type of a code; nothing for no type.
+pub fn children_in(lists: &[Vec<u8>], code: u8) -> &[u8]
+    ensures { result.now ≡ cond (code == 0) [] (slice_index_or (map (λ codes. codes.items) lists.now) (code - 1) []) }
+{
+    if code == 0 {
+        return &[];
+    }
+    match lists.get(code as usize - 1) {
+        Some(codes) => codes,
+        None => &[],
+    }
 }
