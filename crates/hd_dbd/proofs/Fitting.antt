@@ -1,15 +1,14 @@
 -- What holds of the types of a well-formed database.
-use Rattle.std.proofs.Common.{◌≡◌, ℕ, zero, suc, ◌+◌, ◌-◌, ◌<◌, ◌≤◌, List, [], ◌∷◌, length, Bool, true, false, ◌&&◌, arith, ap, sym, ◌∙◌, refl, subst, cond, Option, Some, None, IsTrue}
-use Rattle.std.specs.Prelude.{slice_get, slice_index, nat_lt, nat_le, not, ◌||◌, ◌==◌, ◌⊎◌, is_none}
+use Rattle.std.proofs.Common.{◌≡◌, ℕ, zero, suc, ◌+◌, ◌-◌, ◌<◌, ◌≤◌, List, [], ◌∷◌, length, Bool, true, arith, ap, sym, ◌∙◌, refl, subst, ◌&&◌, Option, Some, None, IsTrue, inl, inr}
+use Rattle.std.specs.Prelude.{slice_get, nat_le, not, ◌||◌, ◌⊎◌}
 use Rattle.std.specs.Option.{option_map_or}
-use Rattle.std.proofs.lemmas.Bool.{and_parts, leb-true, ltb-true, cases_eq, cases_lt}
-use Rattle.std.proofs.Common.{inl, inr}
-use Rattle.hd_dbd.proofs.Levels.{type_of-zero, type_of-later, type_of-past, level_of-zero, level_of-past}
+use Rattle.std.proofs.lemmas.Bool.{and_parts, leb-true, cases_eq, cases_lt}
 use Rattle.hd_dbd.specs.declared.hierarchy.FreeSpace.{FreeSpace}
 use Rattle.hd_dbd.specs.declared.hierarchy.SegType.{SegType}
 use Rattle.hd_dbd.specs.Hierarchy.{type_of, level_of}
-use Rattle.hd_dbd.specs.Prefixes.{is_child_of, children_from, children_of, prefix_length, rounded_up, stored_size}
-use Rattle.hd_dbd.specs.DatabaseRules.{parent_fits, level_fits, parts_fit, root_key_fits, names_fit, sizes_fit, key_length_fits, block_size_fits, type_fits, types_fit_from, well_formed}
+use Rattle.hd_dbd.specs.Prefixes.{prefix_length, rounded_up, stored_size}
+use Rattle.hd_dbd.specs.DatabaseRules.{parent_fits, block_size_fits, type_fits, types_fit_from, well_formed}
+use Rattle.hd_dbd.proofs.Levels.{type_of-zero, type_of-later, level_of-zero, level_of-past}
 
 -- each of the types keeps to its rules
 pub fits_at : (block_size : ℕ) (types : List SegType) (c : ℕ) (ts : List SegType) (i : ℕ) (t : SegType)
@@ -38,7 +37,7 @@ pub type_of-fits : (block_size : ℕ) (types : List SegType) (c : ℕ) (t : SegT
     → types_fit_from block_size types 1 types ≡ true → type_of types c ≡ Some t → type_fits block_size types c t ≡ true
 type_of-fits block_size types c t fit here = fits_by block_size types c t fit here (cases_eq c 0)
 
--- the parts of the rules of a type, by number
+-- what the rules say of the level, the parent and the stored size of a type
 pub level_part : (block_size : ℕ) (types : List SegType) (c : ℕ) (t : SegType) → type_fits block_size types c t ≡ true → level_of types c ≤ 15
 level_part block_size types c t fit =
     let all = and_parts _ _ fit in
@@ -77,7 +76,8 @@ size_by block_size types c (Some t) fit is =
 pub size_bound : (block_size : ℕ) (types : List SegType) (c : ℕ)
     → types_fit_from block_size types 1 types ≡ true → block_size_fits block_size ≡ true → stored_size types c ≤ 65535
 size_bound block_size types c fit size =
-    let most : block_size ≤ 32768 = leb-true block_size 32768 (and_parts _ _ (and_parts _ _ size).0).1 in
+    let bounds : (nat_le 128 block_size && nat_le block_size 32768) ≡ true = (and_parts _ _ size).0 in
+    let most : block_size ≤ 32768 = leb-true block_size 32768 (and_parts (nat_le 128 block_size) (nat_le block_size 32768) bounds).1 in
     let small : stored_size types c ≤ block_size = size_by block_size types c (type_of types c) fit refl in
     omega arith
 

@@ -1,16 +1,16 @@
 -- What a database keeps of each type is found again by the type's code.
-use Rattle.std.proofs.Common.{◌≡◌, ℕ, zero, suc, ◌+◌, ◌-◌, ◌<◌, ◌≤◌, List, [], ◌∷◌, length, take, get_or, Bool, true, false, ◌&&◌, arith, ap, sym, ◌∙◌, refl, subst, cond, Option, Some, None, IsTrue, inl, inr}
-use Rattle.std.specs.Prelude.{slice_get, slice_index_or, nat_lt, ◌==◌, ◌⊎◌, is_none, option_and_then}
+use Rattle.std.proofs.Common.{◌≡◌, ℕ, suc, ◌+◌, ◌-◌, ◌<◌, ◌≤◌, List, [], ◌∷◌, length, take, Bool, true, false, ◌&&◌, arith, ap, sym, ◌∙◌, refl, cond, Option, Some, None, inl, inr}
+use Rattle.std.specs.Prelude.{slice_index_or, nat_lt, ◌==◌, ◌⊎◌, is_none, option_and_then}
 use Rattle.std.specs.Option.{option_map_or}
-use Rattle.std.proofs.lemmas.Bool.{and_parts, leb-true, ltb-true, eqb-true, eq-eqb, ne_eqb, cond-true, cond-false, cases_eq, cases_lt}
+use Rattle.std.proofs.lemmas.Bool.{and_parts, ltb-true, eq-eqb, ne_eqb, cond-true, cond-false, cases_eq, cases_lt}
 use Rattle.std.proofs.lemmas.List.{get_or_past}
 use Rattle.std.proofs.lemmas.Option.{get_or_from_slice_get}
 use Rattle.hd_dbd.specs.declared.facts.TypeFacts.{TypeFacts}
 use Rattle.hd_dbd.specs.declared.hierarchy.SegType.{SegType}
-use Rattle.hd_dbd.specs.Hierarchy.{type_of, level_of, parent_of}
+use Rattle.hd_dbd.specs.Hierarchy.{type_of, level_of}
 use Rattle.hd_dbd.specs.Prefixes.{twin_part, child_parts, is_child_of, children_from, children_of, prefix_length, pointers_at, rounded_up, stored_size}
 use Rattle.hd_dbd.specs.Facts.{table_from, facts_at, facts_of, children_lists}
-use Rattle.hd_dbd.specs.DatabaseRules.{parent_fits, type_fits, types_fit_from}
+use Rattle.hd_dbd.specs.DatabaseRules.{types_fit_from}
 use Rattle.hd_dbd.proofs.Tables.{length-table_from, slice_get-table_from}
 use Rattle.hd_dbd.proofs.Levels.{type_of-zero, type_of-past, level_of-zero, level_of-past}
 use Rattle.hd_dbd.proofs.Fitting.{parent_part}
@@ -65,10 +65,10 @@ facts_found types c = facts_by types c (cases_eq c 0)
 -- a parent that is an earlier type is not the type 0, and none from the type's own code on
 not_the_parent : (p c k : ℕ) → (nat_lt 0 p && nat_lt p k) ≡ true → (c ≡ 0) ⊎ (k ≤ c) → (p == c) ≡ false
 not_the_parent p c k earlier (inl none) =
-    let above : 0 < p = ltb-true 0 p (and_parts _ _ earlier).0 in
+    let above : 0 < p = ltb-true 0 p (and_parts (nat_lt 0 p) (nat_lt p k) earlier).0 in
     ne_eqb p c (λ e. omega arith)
 not_the_parent p c k earlier (inr later) =
-    let below : p < k = ltb-true p k (and_parts _ _ earlier).1 in
+    let below : p < k = ltb-true p k (and_parts (nat_lt 0 p) (nat_lt p k) earlier).1 in
     ne_eqb p c (λ e. omega arith)
 
 earlier_parent : (k p : ℕ) (root : Bool) → cond root false (nat_lt 0 p && nat_lt p k) ≡ true → (nat_lt 0 p && nat_lt p k) ≡ true

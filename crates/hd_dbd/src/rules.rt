@@ -1,4 +1,4 @@
-ghost use Rattle.std.specs.Prelude.{◌≡◌, ◌≢◌, ◌+◌, ◌-◌, ◌*◌, ◌≤◌, ◌<◌, ◌||◌, Some, Ok, Err, IfErr, bytes_eq, cond, is_ok, length, nat_le, not, slice_get};
+ghost use Rattle.std.specs.Prelude.{◌≡◌, ◌≢◌, ◌+◌, ◌-◌, ◌*◌, ◌≤◌, ◌<◌, ◌||◌, Ok, Err, IfErr, bytes_eq, cond, is_ok, length, nat_le, not};
 ghost use Rattle.std.specs.List.{list_any};
 ghost use Rattle.hd_dbd.specs.Hierarchy.{levels_of};
 ghost use Rattle.hd_dbd.specs.DatabaseRules.{block_size_fits, free_space_fits, parent_fits, level_fits, part_fits, fields_fit, parts_fit, root_key_fits, field_names_differ, names_fit, sizes_fit, key_length_fits, type_fits, types_fit_from};
@@ -146,7 +146,7 @@ fn check_type(
         (cond (not (names_fit types.now code segment.now)) (Err (DbdFault.B7 code))
         (cond (not (sizes_fit block_size types.now code segment.now)) (Err (DbdFault.B8 code))
         (cond (not (key_length_fits segment.now)) (Err (DbdFault.B9 code)) (Ok tt))))))) }
-    ensures broken { IfErr result (λ f. f ≢ DbdFault.Memory) }
+    ensures not_memory { IfErr result (λ f. f ≢ DbdFault.Memory) }
 {
     if !level_fits(level_at(levels, code), code, segment) {
         return Err(DbdFault::B3(code));
@@ -177,7 +177,7 @@ pub fn check_types(block_size: u32, types: &[SegType], levels: &[u8]) -> Result<
     requires count { length types.now ≤ 255 }
     requires levels { levels.now ≡ levels_of types.now }
     ensures ok { is_ok result ≡ types_fit_from block_size types.now 1 types.now }
-    ensures broken { IfErr result (λ f. f ≢ DbdFault.Memory) }
+    ensures not_memory { IfErr result (λ f. f ≢ DbdFault.Memory) }
 {
     for (place, segment) in types.iter().enumerate() {
         check_type(block_size, types, levels, place as u8 + 1, segment)?;

@@ -1,4 +1,4 @@
-use Rattle.std.proofs.Common.{◌≡◌, ℕ, ◌+◌, ◌-◌, List, ◌++◌, length, ap, ◌∙◌}
+use Rattle.std.proofs.Common.{◌+◌, ◌-◌, List, ◌++◌, length, ap, ◌∙◌}
 use Rattle.hd_dbd.specs.declared.facts.TypeFacts.{TypeFacts}
 use Rattle.hd_dbd.specs.Facts.{table_from, facts_at}
 use Rattle.hd_dbd.proofs.Tables.{table_more}

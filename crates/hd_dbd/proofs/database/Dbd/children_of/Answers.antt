@@ -1,4 +1,4 @@
-use Rattle.std.proofs.Common.{◌≡◌, ℕ, ◌-◌, List, [], cond, map, ap, sym, ◌∙◌, Vec, Global}
+use Rattle.std.proofs.Common.{ℕ, ◌-◌, List, [], cond, map, ap, ◌∙◌, Vec, Global}
 use Rattle.std.specs.Prelude.{◌==◌, slice_index_or}
 use Rattle.hd_dbd.specs.Hierarchy.{Database}
 use Rattle.hd_dbd.specs.Prefixes.{children_of}

@@ -1,8 +1,8 @@
-use Rattle.std.proofs.Common.{◌≡◌, ℕ, ◌-◌, ◌≤◌, List, cond, true, arith, ap, sym, ◌∙◌, subst}
+use Rattle.std.proofs.Common.{◌≡◌, ◌-◌, ◌≤◌, List, cond, arith, ap, ◌∙◌}
 use Rattle.std.specs.Prelude.{◌==◌, slice_index_or}
 use Rattle.hd_dbd.specs.declared.facts.TypeFacts.{TypeFacts}
 use Rattle.hd_dbd.specs.Hierarchy.{Database, level_of}
-use Rattle.hd_dbd.specs.Facts.{facts_at, facts_of}
+use Rattle.hd_dbd.specs.Facts.{facts_at}
 use Rattle.hd_dbd.proofs.Fitting.{types_fit, level_of-at_most}
 use Rattle.hd_dbd.proofs.Kept.{no_facts, facts_found}
 use Rattle.hd_dbd.proofs.database.Dbd.facts_of.Goals as goal
