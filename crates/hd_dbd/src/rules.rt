@@ -11,15 +11,16 @@ use crate::naming::Name8;
 pub fn block_size_fits(block_size: u32) -> bool
     ensures { result ≡ block_size_fits block_size }
 {
-    128 <= block_size && block_size <= 32768 && block_size % 8 == 0
+    (128..=32768).contains(&block_size) && block_size % 8 == 0
 }
 
 pub fn free_space_fits(frspc: &FreeSpace) -> bool
     ensures { result ≡ free_space_fits frspc.now }
 {
-    (frspc.fbff == 0 || 2 <= frspc.fbff && frspc.fbff <= 100) && frspc.fspf <= 99
+    (frspc.fbff == 0 || (2..=100).contains(&frspc.fbff)) && frspc.fspf <= 99
 }
 
+/// Whether the root has no parent, and any other type an earlier one.
 fn parent_fits(code: u8, segment: &SegType) -> bool
     ensures { result ≡ parent_fits code segment.now }
 {
@@ -32,6 +33,7 @@ fn parent_fits(code: u8, segment: &SegType) -> bool
     }
 }
 
+/// Whether a type is at most on level 15; a type without a right parent has no level to judge.
 fn level_fits(level: u8, code: u8, segment: &SegType) -> bool
     ensures { result ≡ (not (parent_fits code segment.now) || nat_le level 15) }
 {
@@ -56,6 +58,7 @@ fn fields_fit(length: u32, fields: &[Field]) -> bool
     true
 }
 
+/// Whether the segment has a byte, and its key and its fields lie inside it.
 fn parts_fit(segment: &SegType) -> bool
     ensures { result ≡ parts_fit segment.now }
 {
@@ -66,6 +69,7 @@ fn parts_fit(segment: &SegType) -> bool
         && fields_fit(segment.length, &segment.fields)
 }
 
+/// Whether the root has a unique key.
 fn root_key_fits(code: u8, segment: &SegType) -> bool
     ensures { result ≡ root_key_fits code segment.now }
 {
@@ -95,6 +99,7 @@ fn has_type(types: &[SegType], name: &Name8) -> bool
     types.iter().any(|segment| segment.name == *name)
 }
 
+/// Whether no earlier type has the type's name, and no two of its fields have one name.
 fn names_fit(types: &[SegType], code: u8, segment: &SegType) -> bool
     requires { (0 < code) × (code ≤ length types.now) }
     ensures { result ≡ names_fit types.now code segment.now }
@@ -109,6 +114,7 @@ fn index_fits(block_size: u32, key_length: u32) -> bool
     3 * (u64::from(key_length) + 4) + 12 <= u64::from(block_size)
 }
 
+/// Whether a segment of the type, and for the root three entries of its index, fit into a block.
 fn sizes_fit(block_size: u32, types: &[SegType], code: u8, segment: &SegType) -> bool
     requires { length types.now ≤ 255 }
     ensures { result ≡ sizes_fit block_size types.now code segment.now }
