@@ -1,11 +1,14 @@
-ghost use Rattle.std.specs.Prelude.{◌≡◌, ◌⊎◌, ◌-◌, ◌<◌, ◌≤◌, false, length, IsTrue, IfOk, OnOk, IfErr, option_copied};
+ghost use Rattle.std.specs.Prelude.{◌≡◌, ◌⊎◌, ◌≤◌, false, IsTrue, IfOk, OnOk, IfErr, option_copied};
 ghost use Rattle.hd_dbd.specs.Hierarchy.{type_of, parent_of, level_of, longest_path};
 ghost use Rattle.hd_dbd.specs.Prefixes.{prefix_length, pointers_at, children_of, stored_size};
 ghost use Rattle.hd_dbd.specs.DatabaseRules.{well_formed};
 
-use crate::facts::TypeFacts;
+use crate::facts::{
+    TypeFacts, children_in, children_lists, facts_in, facts_of, levels_of, longest_path, type_of,
+};
 use crate::hierarchy::{FreeSpace, SegType};
 use crate::naming::Name8;
+use crate::rules::{block_size_fits, check_types, free_space_fits};
 use std::alloc::{AllocError, Global};
 use std::marker::Model;
 use thiserror::Error;
@@ -47,6 +50,17 @@ pub enum DbdFault {
     /// No memory.
     #[error("no memory")]
     Memory,
+}
+
+impl From<AllocError> for DbdFault {
+    ghost use Rattle.hd_dbd.specs.declared.database.DbdFault.TheVariants.{Memory};
+    ghost use Rattle.std.specs.Prelude.{◌≡◌};
+
+    ghost from_gives = { λ _ e. e ≡ Memory };
+
+    fn from(_refused: AllocError) -> DbdFault {
+        DbdFault::Memory
+    }
 }
 
 /// A well-formed database description: its name, its block size and FRSPC, and its segment types.
@@ -95,7 +109,29 @@ impl Dbd {
         ensures well_formed { OnOk result (IsTrue (well_formed block_size frspc types.items)) }
         ensures fault { IfErr result (λ f. (f ≡ DbdFault.Memory) ⊎ (well_formed block_size frspc types.items ≡ false)) }
     {
-        Err(DbdFault::B1)
+        if !block_size_fits(block_size) || !free_space_fits(&frspc) {
+            return Err(DbdFault::B10);
+        }
+        if types.is_empty() {
+            return Err(DbdFault::B1);
+        }
+        if types.len() > 255 {
+            return Err(DbdFault::B2);
+        }
+        let levels = levels_of(alloc, &types)?;
+        check_types(block_size, &types, &levels)?;
+        let facts = facts_of(alloc, &types, &levels)?;
+        let children = children_lists(alloc, &types)?;
+        let longest = longest_path(alloc, &types)?;
+        Ok(Dbd {
+            name,
+            block_size,
+            frspc,
+            types,
+            facts,
+            children,
+            longest,
+        })
     }
 
     /// The name in the DBD statement.
@@ -132,11 +168,7 @@ impl Dbd {
         ensures value { option_copied result ≡ type_of self.now.types code }
         ensures fit { IsTrue (well_formed self.now.block_size self.now.frspc self.now.types) }
     {
-        let types = &self.types;
-        if code == 0 {
-            return None;
-        }
-        types.get(code as usize - 1)
+        type_of(&self.types, code)
     }
 
     /// The code of the type's parent; `None` for the root and for no type.
@@ -173,7 +205,7 @@ impl Dbd {
     pub fn children_of(&self, code: u8) -> &[u8]
         ensures { result.now ≡ children_of self.now.types code }
     {
-        &[]
+        children_in(&self.children, code)
     }
 
     /// The bytes that a segment of the type takes in a block: its prefix and its bytes, rounded up to a multiple of 8;
@@ -197,6 +229,6 @@ impl Dbd {
         ensures level { result.level ≤ 15 }
         ensures fit { IsTrue (well_formed self.now.block_size self.now.frspc self.now.types) }
     {
-        TypeFacts { level: 0, prefix: 0, pointers: 0, size: 0 }
+        facts_in(&self.facts, code)
     }
 }

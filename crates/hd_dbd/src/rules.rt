@@ -1,5 +1,192 @@
-ghost use Rattle.std.specs.Prelude.{◌≡◌, ℕ, ◌+◌, ◌-◌, ◌≤◌, ◌<◌, Some, IfErr, length, is_ok, slice_get};
+ghost use Rattle.std.specs.Prelude.{◌≡◌, ◌≢◌, ◌+◌, ◌-◌, ◌*◌, ◌≤◌, ◌<◌, ◌||◌, Ok, Err, IfErr, bytes_eq, cond, is_ok, length, nat_le, not};
+ghost use Rattle.std.specs.List.{list_any};
 ghost use Rattle.hd_dbd.specs.Hierarchy.{levels_of};
 ghost use Rattle.hd_dbd.specs.DatabaseRules.{block_size_fits, free_space_fits, parent_fits, level_fits, part_fits, fields_fit, parts_fit, root_key_fits, field_names_differ, names_fit, sizes_fit, key_length_fits, type_fits, types_fit_from};
 
+use crate::database::DbdFault;
+use crate::facts::{level_at, stored_size};
 use crate::hierarchy::{Field, FreeSpace, SegType};
+use crate::naming::Name8;
+
+pub fn block_size_fits(block_size: u32) -> bool
+    ensures { result ≡ block_size_fits block_size }
+{
+    (128..=32768).contains(&block_size) && block_size % 8 == 0
+}
+
+pub fn free_space_fits(frspc: &FreeSpace) -> bool
+    ensures { result ≡ free_space_fits frspc.now }
+{
+    (frspc.fbff == 0 || (2..=100).contains(&frspc.fbff)) && frspc.fspf <= 99
+}
+
+/// Whether the root has no parent, and any other type an earlier one.
+fn parent_fits(code: u8, segment: &SegType) -> bool
+    ensures { result ≡ parent_fits code segment.now }
+{
+    if code == 1 {
+        segment.parent.is_none()
+    } else {
+        segment
+            .parent
+            .is_some_and(|parent| 0 < parent && parent < code)
+    }
+}
+
+/// Whether a type is at most on level 15; a type without a right parent has no level to judge.
+fn level_fits(level: u8, code: u8, segment: &SegType) -> bool
+    ensures { result ≡ (not (parent_fits code segment.now) || nat_le level 15) }
+{
+    !parent_fits(code, segment) || level <= 15
+}
+
+/// Whether a part has a byte, and lies inside a segment of the length.
+fn part_fits(length: u32, start: u32, own: u32) -> bool
+    ensures { result ≡ part_fits length start own }
+{
+    0 < own && 0 < start && u64::from(start) + u64::from(own) <= u64::from(length) + 1
+}
+
+fn fields_fit(length: u32, fields: &[Field]) -> bool
+    ensures { result ≡ fields_fit length fields.now }
+{
+    for field in fields {
+        if !part_fits(length, field.start, field.length) {
+            return false;
+        }
+    }
+    true
+}
+
+/// Whether the segment has a byte, and its key and its fields lie inside it.
+fn parts_fit(segment: &SegType) -> bool
+    ensures { result ≡ parts_fit segment.now }
+{
+    0 < segment.length
+        && segment
+            .key
+            .is_none_or(|key| part_fits(segment.length, key.start, key.length))
+        && fields_fit(segment.length, &segment.fields)
+}
+
+/// Whether the root has a unique key.
+fn root_key_fits(code: u8, segment: &SegType) -> bool
+    ensures { result ≡ root_key_fits code segment.now }
+{
+    code != 1 || segment.key.is_some_and(|key| key.unique)
+}
+
+fn has_field(fields: &[Field], name: &Name8) -> bool
+    ensures { result ≡ list_any (λ f. bytes_eq f.name name.now) fields.now }
+{
+    fields.iter().any(|field| field.name == *name)
+}
+
+fn field_names_differ(fields: &[Field]) -> bool
+    ensures { result ≡ field_names_differ fields.now }
+{
+    for (place, field) in fields.iter().enumerate() {
+        if has_field(&fields[place + 1..], &field.name) {
+            return false;
+        }
+    }
+    true
+}
+
+fn has_type(types: &[SegType], name: &Name8) -> bool
+    ensures { result ≡ list_any (λ t. bytes_eq t.name name.now) types.now }
+{
+    types.iter().any(|segment| segment.name == *name)
+}
+
+/// Whether no earlier type has the type's name, and no two of its fields have one name.
+fn names_fit(types: &[SegType], code: u8, segment: &SegType) -> bool
+    requires { (0 < code) × (code ≤ length types.now) }
+    ensures { result ≡ names_fit types.now code segment.now }
+{
+    !has_type(&types[..code as usize - 1], &segment.name) && field_names_differ(&segment.fields)
+}
+
+/// Whether three entries of the index, with a key each, fit into a block.
+fn index_fits(block_size: u32, key_length: u32) -> bool
+    ensures { result ≡ nat_le (3 * (key_length + 4) + 12) block_size }
+{
+    3 * (u64::from(key_length) + 4) + 12 <= u64::from(block_size)
+}
+
+/// Whether a segment of the type, and for the root three entries of its index, fit into a block.
+fn sizes_fit(block_size: u32, types: &[SegType], code: u8, segment: &SegType) -> bool
+    requires { length types.now ≤ 255 }
+    ensures { result ≡ sizes_fit block_size types.now code segment.now }
+{
+    stored_size(types, code) + 8 <= u64::from(block_size)
+        && (code != 1
+            || segment
+                .key
+                .is_none_or(|key| index_fits(block_size, key.length)))
+}
+
+fn key_length_fits(segment: &SegType) -> bool
+    ensures { result ≡ key_length_fits segment.now }
+{
+    segment.key.is_none_or(|key| key.length <= 255)
+}
+
+/// The rule of the least number that the type of a code breaks, if it breaks one.
+fn check_type(
+    block_size: u32,
+    types: &[SegType],
+    levels: &[u8],
+    code: u8,
+    segment: &SegType,
+) -> Result<(), DbdFault>
+    requires count { length types.now ≤ 255 }
+    requires levels { levels.now ≡ levels_of types.now }
+    requires here { (0 < code) × (code ≤ length types.now) }
+    ensures ok { is_ok result ≡ type_fits block_size types.now code segment.now }
+    ensures first { result ≡
+        cond (not (level_fits types.now code segment.now)) (Err (DbdFault.B3 code))
+        (cond (not (parent_fits code segment.now)) (Err (DbdFault.B4 code))
+        (cond (not (parts_fit segment.now)) (Err (DbdFault.B5 code))
+        (cond (not (root_key_fits code segment.now)) (Err (DbdFault.B6 code))
+        (cond (not (names_fit types.now code segment.now)) (Err (DbdFault.B7 code))
+        (cond (not (sizes_fit block_size types.now code segment.now)) (Err (DbdFault.B8 code))
+        (cond (not (key_length_fits segment.now)) (Err (DbdFault.B9 code)) (Ok tt))))))) }
+    ensures not_memory { IfErr result (λ f. f ≢ DbdFault.Memory) }
+{
+    if !level_fits(level_at(levels, code), code, segment) {
+        return Err(DbdFault::B3(code));
+    }
+    if !parent_fits(code, segment) {
+        return Err(DbdFault::B4(code));
+    }
+    if !parts_fit(segment) {
+        return Err(DbdFault::B5(code));
+    }
+    if !root_key_fits(code, segment) {
+        return Err(DbdFault::B6(code));
+    }
+    if !names_fit(types, code, segment) {
+        return Err(DbdFault::B7(code));
+    }
+    if !sizes_fit(block_size, types, code, segment) {
+        return Err(DbdFault::B8(code));
+    }
+    if !key_length_fits(segment) {
+        return Err(DbdFault::B9(code));
+    }
+    Ok(())
+}
+
+/// The rule of the least number that the first type breaks that breaks one.
+pub fn check_types(block_size: u32, types: &[SegType], levels: &[u8]) -> Result<(), DbdFault>
+    requires count { length types.now ≤ 255 }
+    requires levels { levels.now ≡ levels_of types.now }
+    ensures ok { is_ok result ≡ types_fit_from block_size types.now 1 types.now }
+    ensures not_memory { IfErr result (λ f. f ≢ DbdFault.Memory) }
+{
+    for (place, segment) in types.iter().enumerate() {
+        check_type(block_size, types, levels, place as u8 + 1, segment)?;
+    }
+    Ok(())
+}
