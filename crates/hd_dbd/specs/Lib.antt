@@ -4,6 +4,7 @@ pub mod Hierarchy
 pub mod Prefixes
 pub mod Facts
 pub mod DatabaseRules
+pub mod DatabaseFaults
 pub mod Letters
 pub mod ProgramRules
 pub mod Views

@@ -1,7 +1,8 @@
-ghost use Rattle.std.specs.Prelude.{◌≡◌, ◌⊎◌, ◌≤◌, false, IsTrue, IfOk, OnOk, IfErr, option_copied};
+ghost use Rattle.std.specs.Prelude.{◌≡◌, ◌⊎◌, ◌≤◌, false, IsTrue, IfOk, OnOk, IfErr, Err, option_copied};
 ghost use Rattle.hd_dbd.specs.Hierarchy.{type_of, parent_of, level_of, longest_path};
 ghost use Rattle.hd_dbd.specs.Prefixes.{prefix_length, pointers_at, children_of, stored_size};
 ghost use Rattle.hd_dbd.specs.DatabaseRules.{well_formed};
+ghost use Rattle.hd_dbd.specs.DatabaseFaults.{verdict};
 
 use crate::facts::{
     TypeFacts, children_in, children_lists, facts_in, facts_of, levels_of, longest_path, type_of,
@@ -108,6 +109,7 @@ impl Dbd {
         ensures ok { IfOk result (λ d. d ≡ record { name = name; block_size = block_size; frspc = frspc; types = types.items }) }
         ensures well_formed { OnOk result (IsTrue (well_formed block_size frspc types.items)) }
         ensures fault { IfErr result (λ f. (f ≡ DbdFault.Memory) ⊎ (well_formed block_size frspc types.items ≡ false)) }
+        ensures first { IfErr result (λ f. (f ≡ DbdFault.Memory) ⊎ (verdict block_size frspc types.items ≡ Err f)) }
     {
         if !block_size_fits(block_size) || !free_space_fits(&frspc) {
             return Err(DbdFault::B10);

@@ -2,6 +2,7 @@ ghost use Rattle.std.specs.Prelude.{◌≡◌, ◌≢◌, ◌+◌, ◌-◌, ◌*
 ghost use Rattle.std.specs.List.{list_any};
 ghost use Rattle.hd_dbd.specs.Hierarchy.{levels_of};
 ghost use Rattle.hd_dbd.specs.DatabaseRules.{block_size_fits, free_space_fits, parent_fits, level_fits, part_fits, fields_fit, parts_fit, root_key_fits, field_names_differ, names_fit, sizes_fit, key_length_fits, type_fits, types_fit_from};
+ghost use Rattle.hd_dbd.specs.DatabaseFaults.{type_verdict, types_verdict_from};
 
 use crate::database::DbdFault;
 use crate::facts::{level_at, stored_size};
@@ -144,14 +145,7 @@ fn check_type(
     requires levels { levels.now ≡ levels_of types.now }
     requires here { (0 < code) × (code ≤ length types.now) }
     ensures ok { is_ok result ≡ type_fits block_size types.now code segment.now }
-    ensures first { result ≡
-        cond (not (level_fits types.now code segment.now)) (Err (DbdFault.B3 code))
-        (cond (not (parent_fits code segment.now)) (Err (DbdFault.B4 code))
-        (cond (not (parts_fit segment.now)) (Err (DbdFault.B5 code))
-        (cond (not (root_key_fits code segment.now)) (Err (DbdFault.B6 code))
-        (cond (not (names_fit types.now code segment.now)) (Err (DbdFault.B7 code))
-        (cond (not (sizes_fit block_size types.now code segment.now)) (Err (DbdFault.B8 code))
-        (cond (not (key_length_fits segment.now)) (Err (DbdFault.B9 code)) (Ok tt))))))) }
+    ensures first { result ≡ type_verdict block_size types.now code segment.now }
     ensures not_memory { IfErr result (λ f. f ≢ DbdFault.Memory) }
 {
     if !level_fits(level_at(levels, code), code, segment) {
@@ -183,6 +177,7 @@ pub fn check_types(block_size: u32, types: &[SegType], levels: &[u8]) -> Result<
     requires count { length types.now ≤ 255 }
     requires levels { levels.now ≡ levels_of types.now }
     ensures ok { is_ok result ≡ types_fit_from block_size types.now 1 types.now }
+    ensures first { result ≡ types_verdict_from block_size types.now 1 types.now }
     ensures not_memory { IfErr result (λ f. f ≢ DbdFault.Memory) }
 {
     for (place, segment) in types.iter().enumerate() {
