@@ -51,13 +51,13 @@ number_in bytes = number_before_blanks (unpadded bytes)
 -- What a line says: nothing, of which PCB the calls that follow are, or a call and how often it is made.
 pub data Statement : Type 0 where
   comment : Statement
-  status : ℕ → Statement
+  select : ℕ → Statement
   call : ℕ → CallText → Statement
 
 -- S: the PCB's number, one of so many; else K3
-abbrev pub read_status : ℕ → ℕ → List ℕ → Result Statement DeckFault
-read_status pcbs n line =
-    option_map_or (λ k. cond (nat_lt 0 k && nat_le k pcbs) (Ok (status k)) (Err (K3 n))) (number_in (drop 1 line)) (Err (K3 n))
+abbrev pub read_select : ℕ → ℕ → List ℕ → Result Statement DeckFault
+read_select pcbs n line =
+    option_map_or (λ k. cond (nat_lt 0 k && nat_le k pcbs) (Ok (select k)) (Err (K3 n))) (number_in (drop 1 line)) (Err (K3 n))
 
 -- L: how often the call is made, in columns 2 to 5: once where they are blank, and never 0 times
 abbrev pub repeat_in : List ℕ → Option ℕ
@@ -90,7 +90,7 @@ abbrev pub read_line : ℕ → ℕ → List ℕ → Result Statement DeckFault
 read_line pcbs n line =
     cond (nat_lt 255 (length line)) (Err (K6 n))
     (cond (is_blank line || column line 1 == 42) (Ok comment)
-    (cond (column line 1 == 83) (read_status pcbs n line)
+    (cond (column line 1 == 83) (read_select pcbs n line)
     (cond (column line 1 == 76) (read_call n line) (Err (K1 n)))))
 
 -- ---- the lines of a deck
@@ -98,13 +98,13 @@ read_line pcbs n line =
 -- the PCB of the calls that follow a line
 abbrev pub pcb_after : Statement → ℕ → ℕ
 pcb_after comment pcb = pcb
-pcb_after (status k) pcb = k
+pcb_after (select k) pcb = k
 pcb_after (call k text) pcb = pcb
 
 -- the steps that a line adds
 abbrev pub steps_said : Statement → ℕ → List StepText
 steps_said comment pcb = []
-steps_said (status k) pcb = []
+steps_said (select k) pcb = []
 steps_said (call k text) pcb = record { pcb = pcb; repeat = k; call = text } ∷ []
 
 -- steps in front of those that follow, if these are without a fault

@@ -1,4 +1,5 @@
 pub mod StepText
 pub mod Deck
+pub mod Lines
 pub mod Printing
 pub mod Runs

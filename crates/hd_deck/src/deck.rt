@@ -1,8 +1,12 @@
-ghost use Rattle.std.specs.Prelude.{◌≡◌, ◌≢◌, ◌<◌, ◌≤◌, length, All, IfOk, IfErr};
+ghost use Rattle.std.specs.Prelude.{◌≡◌, ◌≢◌, ◌<◌, ◌≤◌, ◌∷◌, ◌++◌, length, All, IfOk, IfErr};
+ghost use Rattle.std.specs.Str.Lines.{lines, strip_carriage_return};
 ghost use Rattle.hd_deck.specs.StepText.{StepFits};
-ghost use Rattle.hd_deck.specs.Deck.{deck};
+ghost use Rattle.hd_deck.specs.Deck.{deck, pcb_after, steps_said};
+ghost use Rattle.hd_deck.specs.Lines.{said};
 
+use crate::line::{Statement, read_line};
 use crate::step::Step;
+use memchr::memchr;
 use std::alloc::Global;
 use thiserror::Error;
 
@@ -40,5 +44,86 @@ pub fn read_deck(alloc: Global, bytes: &[u8], pcbs: u8) -> Result<Vec<Step>, Dec
     ensures fit { IfOk result (λ v. All (StepFits pcbs) v.items) }
     ensures few { IfOk result (λ v. length v.items ≤ length bytes.now) }
 {
-    Err(DeckFault::Memory)
+    let mut steps = Vec::new(alloc);
+    let mut rest = bytes;
+    let mut number = 1;
+    let mut pcb = 1;
+    'lines: while !rest.is_empty() {
+        let (line, after) = next_line(rest);
+        let statement = read_line(alloc, line, number, pcbs)?;
+        pcb = follow(&mut steps, pcb, statement)?;
+        number += 1;
+        rest = after;
+    }
+    Ok(steps)
+}
+
+/// Adds the step that a line says, and gives the PCB of the calls that follow.
+fn follow(steps: &mut Vec<Step>, pcb: u8, statement: Statement) -> Result<u8, DeckFault>
+    ensures steps { IfOk result (λ _. steps.new.items ≡ steps.old.items ++ steps_said (said statement) pcb) }
+    ensures pcb { IfOk result (λ k. k ≡ pcb_after (said statement) pcb) }
+    ensures memory { IfErr result (λ e. e ≡ DeckFault.Memory) }
+{
+    match statement {
+        Statement::Comment => Ok(pcb),
+        Statement::Select(selected) => Ok(selected),
+        Statement::Call(repeat, call) => {
+            steps
+                .push(Step { pcb, repeat, call })
+                .map_err(|_| DeckFault::Memory)?;
+            Ok(pcb)
+        }
+    }
+}
+
+/// The first line, without its end, and what follows it.
+fn next_line(bytes: &[u8]) -> (&[u8], &[u8])
+    requires { 0 < length bytes.now }
+    ensures value { lines bytes.now ≡ result.0.now ∷ lines result.1.now }
+    ensures less { length result.1.now < length bytes.now }
+{
+    match memchr(b'\n', bytes) {
+        Some(end) => (without_return(&bytes[..end]), &bytes[end + 1..]),
+        None => (bytes, &[]),
+    }
+}
+
+/// The line without a carriage return at its end.
+fn without_return(line: &[u8]) -> &[u8]
+    ensures { result.now ≡ strip_carriage_return line.now }
+{
+    match line.split_last() {
+        Some((b'\r', front)) => front,
+        _ => line,
+    }
+}
+
+#[cfg(test)]
+mod tests {
+    use super::*;
+
+    fn fault(alloc: Global, bytes: &[u8]) -> Option<DeckFault> {
+        read_deck(alloc, bytes, 3).err()
+    }
+
+    #[test]
+    fn refuses_faulty_lines(rt: HostRuntime) {
+        assert_eq!(rt; fault(rt.alloc(), b"X"), Some(DeckFault::K1(1)));
+        assert_eq!(rt; fault(rt.alloc(), b"L     G1"), Some(DeckFault::K2(1)));
+        assert_eq!(rt; fault(rt.alloc(), b"\nS 9\nX"), Some(DeckFault::K3(2)));
+        assert_eq!(rt; fault(rt.alloc(), b"L  0  GN"), Some(DeckFault::K5(1)));
+        assert_eq!(rt; fault(rt.alloc(), &[b' '; 256]), Some(DeckFault::K6(1)));
+    }
+
+    #[test]
+    fn reads_a_call(rt: HostRuntime) {
+        let steps = read_deck(rt.alloc(), b"S 3\r\n* a comment\n\nL   4 GN", 3).expect(
+            &rt, "a deck",
+        );
+        assert_eq!(rt; steps.len(), 1);
+        let step = &steps[0];
+        assert_eq!(rt; (step.pcb, step.repeat), (3, 4));
+        assert_eq!(rt; &step.call.func, b"GN  ");
+        assert_eq!(rt; step.call.ssas.len(), 0);
+    }
 }

@@ -2,6 +2,7 @@
 #![tactic(auto)]
 
 mod deck;
+mod line;
 mod printing;
 mod run;
 mod step;

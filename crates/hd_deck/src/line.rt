@@ -1,0 +1,211 @@
+ghost use Rattle.std.specs.Prelude.{◌≡◌, ◌≢◌, ◌==◌, ◌<◌, ◌≤◌, min, length, map, option_map, Ok, Err, IfOk, IfErr, IfSome};
+ghost use Rattle.std.specs.List.{prefix_len};
+ghost use Rattle.hd_dbd.specs.Naming.{is_letter};
+ghost use Rattle.hd_deck.specs.Deck.{call, call_in, column, columns, has_function, is_blank, is_digit, is_function, number_in, read_call, read_line, read_select, repeat_in, ssas_in, select, unpadded, value_of};
+ghost use Rattle.hd_deck.specs.Lines.{said, StatementFits};
+
+use crate::deck::DeckFault;
+use hd_session::Call;
+use std::alloc::{AllocError, Global};
+
+/// What a line of a deck says.
+#[derive(Drop)]
+pub(crate) enum Statement {
+    Comment,
+    /// The PCB of the calls that follow.
+    Select(u8),
+    /// A call, and how often it is made.
+    Call(u16, Call),
+}
+
+/// What a line says, or its first fault.
+pub(crate) fn read_line(
+    alloc: Global,
+    line: &[u8],
+    number: usize,
+    pcbs: u8,
+) -> Result<Statement, DeckFault>
+    ensures says { IfOk result (λ s. read_line pcbs number line.now ≡ Ok (said s)) }
+    ensures fault { IfErr result (λ e. e ≢ DeckFault.Memory → read_line pcbs number line.now ≡ Err e) }
+    ensures fit { IfOk result (λ s. StatementFits pcbs (said s)) }
+{
+    if line.len() > 255 {
+        return Err(DeckFault::K6(number));
+    }
+    if is_blank(line) {
+        return Ok(Statement::Comment);
+    }
+    match column(line, 1) {
+        b'*' => Ok(Statement::Comment),
+        b'S' => Ok(Statement::Select(read_select(line, number, pcbs)?)),
+        b'L' => {
+            let (repeat, call) = read_call(alloc, line, number)?;
+            Ok(Statement::Call(repeat, call))
+        }
+        _ => Err(DeckFault::K1(number)),
+    }
+}
+
+/// The PCB that a line with an S in front selects, one of so many.
+fn read_select(line: &[u8], number: usize, pcbs: u8) -> Result<u8, DeckFault>
+    requires { 0 < length line.now }
+    ensures says { IfOk result (λ k. read_select pcbs number line.now ≡ Ok (select k)) }
+    ensures fault { IfErr result (λ e. (e ≢ DeckFault.Memory) × (read_select pcbs number line.now ≡ Err e)) }
+    ensures fit { IfOk result (λ k. (0 < k) × (k ≤ pcbs)) }
+{
+    match number_in(&line[1..]) {
+        Some(pcb) if 0 < pcb && pcb <= pcbs as u32 => Ok(pcb as u8),
+        _ => Err(DeckFault::K3(number)),
+    }
+}
+
+/// The call of a line with an L in front, and how often it is made.
+fn read_call(alloc: Global, line: &[u8], number: usize) -> Result<(u16, Call), DeckFault>
+    ensures says { IfOk result (λ r. read_call number line.now ≡ Ok (call r.0 r.1)) }
+    ensures fault { IfErr result (λ e. e ≢ DeckFault.Memory → read_call number line.now ≡ Err e) }
+    ensures fit { IfOk result (λ r. (0 < r.0) × (r.0 ≤ 9999)) }
+{
+    let Some(repeat) = repeat_in(line) else {
+        return Err(DeckFault::K5(number));
+    };
+    if !has_function(line) {
+        return Err(DeckFault::K2(number));
+    }
+    let call = call_in(alloc, line).map_err(|_| DeckFault::Memory)?;
+    Ok((repeat, call))
+}
+
+/// The call that an L line makes, if its columns are right.
+fn call_in(alloc: Global, line: &[u8]) -> Result<Call, AllocError>
+    ensures { IfOk result (λ c. c ≡ call_in line.now) }
+{
+    let ssas = ssas_in(alloc, line)?;
+    Ok(Call {
+        func: four_columns(line, 7),
+        ssas,
+        area: Vec::new(alloc),
+    })
+}
+
+/// What stands from column 12 on, if the line goes so far.
+fn ssas_in(alloc: Global, line: &[u8]) -> Result<Vec<Vec<u8>>, AllocError>
+    ensures { IfOk result (λ v. map (λ s. s.items) v.items ≡ ssas_in line.now) }
+{
+    let mut ssas = Vec::new(alloc);
+    if line.len() > 11 {
+        let ssa = Vec::from_slice(alloc, &line[11..])?;
+        ssas.push(ssa)?;
+    }
+    Ok(ssas)
+}
+
+/// How often an L line's call is made, by columns 2 to 5.
+fn repeat_in(line: &[u8]) -> Option<u16>
+    ensures value { result ≡ repeat_in line.now }
+    ensures fit { IfSome result (λ k. (0 < k) × (k ≤ 9999)) }
+{
+    let columns = four_columns(line, 2);
+    if is_blank(&columns) {
+        return Some(1);
+    }
+    match number_in(&columns)? {
+        0 => None,
+        repeat => Some(repeat as u16),
+    }
+}
+
+/// Whether an L line has a function in columns 7 to 10, between blanks.
+fn has_function(line: &[u8]) -> bool
+    ensures { result ≡ has_function line.now }
+{
+    column(line, 6) == b' ' && is_function(&four_columns(line, 7)) && column(line, 11) == b' '
+}
+
+/// Whether letters stand in front, one at the least, and blanks alone behind them.
+fn is_function(bytes: &[u8]) -> bool
+    ensures { result ≡ is_function bytes.now }
+{
+    let letters = letters_in_front(bytes);
+    letters > 0 && is_blank(&bytes[letters..])
+}
+
+/// The number that the bytes spell between blanks, or 10,000 where it is more.
+fn number_in(bytes: &[u8]) -> Option<u32>
+    ensures { result ≡ option_map (λ n. min n 10000) (number_in bytes.now) }
+{
+    let bytes = unpadded(bytes);
+    let digits = digits_in_front(bytes);
+    if digits > 0 && is_blank(&bytes[digits..]) {
+        Some(value_of(&bytes[..digits]))
+    } else {
+        None
+    }
+}
+
+/// The number that digits spell, or 10,000 where it is more.
+fn value_of(digits: &[u8]) -> u32
+    ensures { result ≡ min (value_of digits.now) 10000 }
+{
+    let mut value: u32 = 0;
+    for digit in digits {
+        value = (10 * value + digit.saturating_sub(b'0') as u32).min(10_000);
+    }
+    value
+}
+
+/// The bytes without the blanks at their front.
+fn unpadded(bytes: &[u8]) -> &[u8]
+    ensures { result.now ≡ unpadded bytes.now }
+{
+    &bytes[blanks_in_front(bytes)..]
+}
+
+fn blanks_in_front(bytes: &[u8]) -> usize
+    ensures value { result ≡ prefix_len (λ b. b == 32) bytes.now }
+    ensures bound { result ≤ length bytes.now }
+{
+    bytes.iter().take_while(|b| **b == b' ').count()
+}
+
+fn digits_in_front(bytes: &[u8]) -> usize
+    ensures value { result ≡ prefix_len is_digit bytes.now }
+    ensures bound { result ≤ length bytes.now }
+{
+    bytes.iter().take_while(|b| b.is_ascii_digit()).count()
+}
+
+fn letters_in_front(bytes: &[u8]) -> usize
+    ensures value { result ≡ prefix_len is_letter bytes.now }
+    ensures bound { result ≤ length bytes.now }
+{
+    bytes.iter().take_while(|b| b.is_ascii_uppercase()).count()
+}
+
+fn is_blank(bytes: &[u8]) -> bool
+    ensures { result ≡ is_blank bytes.now }
+{
+    bytes.iter().all(|b| *b == b' ')
+}
+
+/// The byte in a column, counted from 1.
+fn column(line: &[u8], number: usize) -> u8
+    requires { 0 < number }
+    ensures { result ≡ column line.now number }
+{
+    line.get(number - 1).copied().unwrap_or(b' ')
+}
+
+/// Four bytes from a column on, counted from 1.
+fn four_columns(line: &[u8], number: usize) -> [u8; 4]
+    requires above { 0 < number }
+    requires below { number ≤ 252 }
+    ensures value { result ≡ columns line.now number 4 }
+    ensures len { length result ≡ 4 }
+{
+    [
+        column(line, number),
+        column(line, number + 1),
+        column(line, number + 2),
+        column(line, number + 3),
+    ]
+}
