@@ -1,1 +1,3 @@
 pub mod Names
+pub mod LevelLaw
+pub mod Sequences
