@@ -1,3 +1,4 @@
 pub mod Names
 pub mod LevelLaw
 pub mod Sequences
+pub mod Forests
