@@ -1,14 +1,14 @@
 -- A valid list of rows is the sequence of one forest that fits.
-use Rattle.std.proofs.Common.{◌≡◌, ℕ, zero, suc, ◌+◌, ◌-◌, ◌<◌, ◌≤◌, List, [], ◌∷◌, ◌++◌, length, Bool, true, false, ◌&&◌, arith, ap, sym, ◌∙◌, subst, Option, Some, None, refl, inl, inr}
+use Rattle.std.proofs.Common.{◌≡◌, ℕ, zero, suc, ◌+◌, ◌-◌, ◌<◌, ◌≤◌, List, [], ◌∷◌, ◌++◌, length, true, false, arith, ap, sym, ◌∙◌, subst, Option, Some, None, refl, inl, inr}
 use Rattle.std.specs.Prelude.{slice_get, ◌==◌}
-use Rattle.std.specs.Option.{option_map_or, option_eq}
+use Rattle.std.specs.Option.{option_map_or}
 use Rattle.std.proofs.lemmas.Bool.{and_parts, and_from, eqb-true, cases_lt}
 use Rattle.std.proofs.lemmas.List.{append_assoc, append-nil, length-append}
 use Rattle.std.proofs.lemmas.Option.{slice_get_within}
 use Rattle.hd_dbd.specs.declared.hierarchy.SegType.{SegType}
 use Rattle.hd_dbd.specs.Segment.{Segment}
 use Rattle.hd_dbd.specs.Hierarchy.{parent_of, level_of}
-use Rattle.hd_dbd.specs.Rows.{valid_from, may_follow, next_path, level, is_below, is_in_order, row_fits, siblings_in_order}
+use Rattle.hd_dbd.specs.Rows.{valid_from, may_follow, next_path, level, is_below, row_fits, siblings_in_order}
 use Rattle.hd_dbd.specs.Forest.{Forest, empty, node, sequence, fits_below}
 use Rattle.hd_dbd.proofs.LevelLaw.{Leveled, depth_below}
 use Rattle.hd_dbd.proofs.Names.{option_eq-Decides}
@@ -95,7 +95,8 @@ read_node types leveled fuel again P Q r rows parent before enough deep ends fir
     ap (λ (o : Option Segment). option_map_or (λ p. siblings_in_order types p r) o true) (sym first ∙ sym (slice_get_behind P Q))
     ∙ ap (λ (k : ℕ). option_map_or (λ p. siblings_in_order types p r) (slice_get (P ++ Q) k) true) one_up ∙ two.1 in
     let deeper : length (P ++ r ∷ []) ≡ length P + 1 = length-append P (r ∷ []) in
-    let left : valid_from types (P ++ r ∷ []) rows ≡ true = ap (λ (path : List Segment). valid_from types path rows) (sym (next_is types P Q r at)) ∙ parts.1 in
+    let next : next_path types (P ++ Q) r ≡ P ++ r ∷ [] = next_is types P Q r at in
+    let left : valid_from types (P ++ r ∷ []) rows ≡ true = subst (λ (path : List Segment). valid_from types path rows ≡ true) next parts.1 in
     let down : Read types (P ++ r ∷ []) rows (Some r.code) None =
     again (P ++ r ∷ []) [] rows (Some r.code) None enough (deeper ∙ sym at) (r, P, refl, refl) refl (upto_after types leveled (P ++ r ∷ []) rows left)
     (ap (λ (path : List Segment). valid_from types path rows) (append-nil (P ++ r ∷ [])) ∙ left) in

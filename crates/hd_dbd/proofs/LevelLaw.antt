@@ -1,6 +1,6 @@
 -- In a well-formed list of types each type's level is one more than its parent's.
-use Rattle.std.proofs.Common.{◌≡◌, ℕ, zero, suc, ◌+◌, ◌-◌, ◌<◌, ◌≤◌, List, [], ◌∷◌, ◌++◌, length, get_or, Bool, true, false, ◌&&◌, cond, arith, ap, sym, ◌∙◌, Option, Some, None, refl, subst, IsTrue, inl, inr}
-use Rattle.std.specs.Prelude.{slice_get, slice_index, nat_lt, nat_le, is_none, ◌==◌, option_and_then}
+use Rattle.std.proofs.Common.{◌≡◌, ℕ, zero, suc, ◌+◌, ◌-◌, ◌<◌, List, [], ◌∷◌, ◌++◌, length, get_or, true, false, ◌&&◌, cond, arith, ap, sym, ◌∙◌, Option, Some, None, refl, subst, IsTrue, inl, inr}
+use Rattle.std.specs.Prelude.{slice_get, slice_index, nat_lt, is_none, ◌==◌, option_and_then}
 use Rattle.std.specs.Option.{option_map_or}
 use Rattle.std.proofs.lemmas.List.{length-append, get_or_append_left, get_or_at}
 use Rattle.std.proofs.lemmas.Bool.{and_parts, ltb-true, cases_eq, cond-true, cond-false, eq-eqb, ne_eqb}
@@ -9,7 +9,7 @@ use Rattle.hd_dbd.specs.declared.hierarchy.FreeSpace.{FreeSpace}
 use Rattle.hd_dbd.specs.declared.hierarchy.SegType.{SegType}
 use Rattle.hd_dbd.specs.Segment.{Segment}
 use Rattle.hd_dbd.specs.Hierarchy.{type_of, parent_of, weights_from, levels_of, level_of}
-use Rattle.hd_dbd.specs.DatabaseRules.{well_formed, types_fit_from, type_fits, parent_fits, level_fits, block_size_fits, free_space_fits}
+use Rattle.hd_dbd.specs.DatabaseRules.{well_formed, types_fit_from, type_fits, parent_fits}
 use Rattle.hd_dbd.specs.Rows.{level, row_fits}
 
 -- what a list of weights has at its front is kept

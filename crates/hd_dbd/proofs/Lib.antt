@@ -2,3 +2,4 @@ pub mod Names
 pub mod LevelLaw
 pub mod Sequences
 pub mod Forests
+pub mod Twins

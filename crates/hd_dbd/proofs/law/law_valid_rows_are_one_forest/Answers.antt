@@ -1,6 +1,5 @@
-use Rattle.std.proofs.Common.{◌≡◌, List, [], ◌++◌, ap, sym, ◌∙◌, None}
+use Rattle.std.proofs.Common.{[], sym, ◌∙◌, None}
 use Rattle.std.proofs.lemmas.List.{append-nil}
-use Rattle.hd_dbd.specs.Segment.{Segment}
 use Rattle.hd_dbd.specs.Forest.{sequence}
 use Rattle.hd_dbd.proofs.LevelLaw.{leveled}
 use Rattle.hd_dbd.proofs.Forests.{valid_forest, one_forest}
