@@ -80,6 +80,17 @@ Reads types fuel =
     → length rows ≤ fuel → length P ≡ depth_below types parent → EndsWith parent P → slice_get Q 0 ≡ before → Upto types (length P + 1) rows
     → valid_from types (P ++ Q) rows ≡ true → Read types P rows parent before
 
+-- a row, what depends on it, what stands behind, and the rest are all rows
+joined : (r : Segment) (below behind rest left rows : List Segment) → behind ++ rest ≡ left → below ++ left ≡ rows → (r ∷ (below ++ behind)) ++ rest ≡ r ∷ rows
+joined r below behind rest left rows e f = ap (λ (rs : List Segment). r ∷ rs) (append_assoc below behind rest ∙ ap (λ (rs : List Segment). below ++ rs) e ∙ f)
+
+-- a row of the parent in order, what depends on it, and what stands behind fit together
+node_fits : (types : List SegType) (r : Segment) (below behind : Forest Segment) (parent : Option ℕ) (before : Option Segment) → row_fits types r ≡ true
+    → parent_of types r.code ≡ parent → option_map_or (λ p. siblings_in_order types p r) before true ≡ true → fits_below types (Some r.code) None below ≡ true
+    → fits_below types parent (Some r) behind ≡ true → fits_below types parent before (node r below behind) ≡ true
+node_fits types r below behind parent before fits own order down on =
+    and_from _ _ (and_from _ _ (and_from _ _ (and_from _ _ fits ((option_eq-Decides _ _).1 own)) order) down) on
+
 -- a row just below the path's first part, what depends on it, and the rows of its parent behind it
 read_node : (types : List SegType) (leveled : Leveled types) (fuel : ℕ) → Reads types fuel
     → (P Q : List Segment) (r : Segment) (rows : List Segment) (parent : Option ℕ) (before : Option Segment)
@@ -109,8 +120,8 @@ read_node types leveled fuel again P Q r rows parent before enough deep ends fir
       forest = node r down.forest on.forest;
       rest = on.rest;
       last = on.last;
-      is = ap (λ (rs : List Segment). r ∷ rs) (append_assoc (sequence down.forest) (sequence on.forest) on.rest ∙ ap (λ (rs : List Segment). sequence down.forest ++ rs) on.is ∙ down.is);
-      fits = and_from _ _ (and_from _ _ (and_from _ _ (and_from _ _ one.0 ((option_eq-Decides _ _).1 own)) order) down.fits) on.fits;
+      is = joined r (sequence down.forest) (sequence on.forest) on.rest down.rest rows on.is down.is;
+      fits = node_fits types r down.forest on.forest parent before one.0 own order down.fits on.fits;
       ends = on.ends;
       left = on.left;
       short = (let a : length down.rest ≤ length rows = down.short in let b : length on.rest ≤ length down.rest = on.short in omega arith);
