@@ -1,6 +1,11 @@
-pub mod KeyLengths
-pub mod RowLengths
-pub mod Tables
+pub mod Names
+pub mod LevelLaw
 pub mod Levels
+pub mod Tables
 pub mod Fitting
 pub mod Kept
+pub mod KeyLengths
+pub mod RowLengths
+pub mod Sequences
+pub mod Forests
+pub mod Twins
