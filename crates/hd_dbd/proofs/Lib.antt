@@ -9,3 +9,4 @@ pub mod RowLengths
 pub mod Sequences
 pub mod Forests
 pub mod Twins
+pub mod Faults

@@ -1,8 +1,8 @@
-ghost use Rattle.std.specs.Prelude.{◌≡◌, ◌⊎◌, ◌↔◌, ◌<◌, ◌≤◌, ◌-◌, ◌&&◌, ◌||◌, ◌==◌, true, false, length, IsTrue, IsOk, IfOk, OnOk, IfErr, IfSome, bytes_eq, option_copied, option_map, slice_get, find, position};
+ghost use Rattle.std.specs.Prelude.{◌≡◌, ◌⊎◌, ◌↔◌, ◌<◌, ◌≤◌, ◌-◌, ◌&&◌, ◌||◌, ◌==◌, true, length, Some, IsTrue, IfOk, OnOk, IfErr, IfSome, IsNone, bytes_eq, option_copied, option_map, slice_get, find, position};
 ghost use Rattle.std.specs.Option.{option_map_or, option_eq};
 ghost use Rattle.std.specs.List.{list_any, list_all};
 ghost use Rattle.hd_dbd.specs.Letters.{gives_get, gives_load, is_access_letter, gives_access, only_loads, is_procopt};
-ghost use Rattle.hd_dbd.specs.ProgramRules.{type_names, code_named, parent_named, sees, names_fit, parents_fit, order_fits, own_procopt_fits, procopts_fit, load_fits, pcb_fits, program_fits};
+ghost use Rattle.hd_dbd.specs.ProgramRules.{type_names, code_named, parent_named, sees, names_fit, parents_fit, order_fits, own_procopt_fits, procopts_fit, load_fits, pcb_fault, program_fault, program_fits};
 
 use crate::database::Dbd;
 use crate::hierarchy::SegType;
@@ -81,16 +81,19 @@ impl Model for Psb {
 }
 
 impl Psb {
-    /// A program of these PCBs over the database, where they keep to the rules that `PsbFault` names.
+    /// A program of these PCBs over the database, where they keep to the rules that `PsbFault` names; else the first
+    /// rule that the first PCB breaks that breaks one.
     pub fn new(alloc: Global, dbd: &Dbd, pcbs: Vec<Pcb>) -> Result<Psb, PsbFault>
         ensures ok { IfOk result (λ p. p ≡ record { made_for = type_names dbd.now.types; pcbs = pcbs.items }) }
         ensures well_formed { OnOk result (IsTrue (program_fits (type_names dbd.now.types) pcbs.items)) }
-        ensures fault { IfErr result (λ f. (f ≡ PsbFault.Memory) ⊎ (program_fits (type_names dbd.now.types) pcbs.items ≡ false)) }
+        ensures fault { IfErr result (λ f. (f ≡ PsbFault.Memory) ⊎ (program_fault (type_names dbd.now.types) pcbs.items ≡ Some f)) }
     {
         let Ok(made_for) = type_names(alloc, dbd.types()) else {
             return Err(PsbFault::Memory);
         };
-        keep_rules(&made_for, &pcbs)?;
+        if let Some(fault) = program_fault(&made_for, &pcbs) {
+            return Err(fault);
+        }
         Ok(Psb { made_for, pcbs })
     }
 
@@ -338,43 +341,46 @@ fn load_fits(count: usize, pcb: &Pcb) -> bool
     !gives_load(pcb.procopt.as_bytes()) || count == 1
 }
 
-/// The first of the rules P1 to P6 that a PCB breaks, as one of so many and with its number.
-fn keep_pcb_rules(names: &[TypeName], count: usize, pcb: &Pcb, number: u8) -> Result<(), PsbFault>
-    ensures { IsOk result ↔ IsTrue (pcb_fits names.now count pcb.now) }
+/// The first of the rules P1 to P6 that a PCB breaks, one of so many, with its number.
+fn pcb_fault(names: &[TypeName], count: usize, number: u8, pcb: &Pcb) -> Option<PsbFault>
+    ensures { result ≡ pcb_fault names.now count number pcb.now }
 {
     if !names_fit(names, pcb) {
-        return Err(PsbFault::P1(number));
+        return Some(PsbFault::P1(number));
     }
     if !parents_fit(names, pcb) {
-        return Err(PsbFault::P2(number));
+        return Some(PsbFault::P2(number));
     }
     if !order_fits(names, pcb) {
-        return Err(PsbFault::P3(number));
+        return Some(PsbFault::P3(number));
     }
     if !procopts_fit(pcb) {
-        return Err(PsbFault::P4(number));
+        return Some(PsbFault::P4(number));
     }
     if !load_fits(count, pcb) {
-        return Err(PsbFault::P5(number));
+        return Some(PsbFault::P5(number));
     }
     if pcb.sens.is_empty() {
-        return Err(PsbFault::P6(number));
+        return Some(PsbFault::P6(number));
     }
-    Ok(())
+    None
 }
 
-/// The first rule that the first PCB breaks that breaks one, or that their number breaks.
-fn keep_rules(names: &[TypeName], pcbs: &[Pcb]) -> Result<(), PsbFault>
-    ensures ok { IsOk result ↔ IsTrue (program_fits names.now pcbs.now) }
-    ensures fault { IfErr result (λ f. program_fits names.now pcbs.now ≡ false) }
+/// Why these PCBs are no program, if they are none.
+fn program_fault(names: &[TypeName], pcbs: &[Pcb]) -> Option<PsbFault>
+    ensures fault { result ≡ program_fault names.now pcbs.now }
+    ensures none { IsNone result → IsTrue (program_fits names.now pcbs.now) }
 {
     if pcbs.is_empty() || pcbs.len() > 255 {
-        return Err(PsbFault::P6(0));
+        return Some(PsbFault::P6(0));
     }
     for (place, pcb) in pcbs.iter().enumerate() {
-        keep_pcb_rules(names, pcbs.len(), pcb, (place + 1) as u8)?;
+        let fault = pcb_fault(names, pcbs.len(), (place + 1) as u8, pcb);
+        if fault.is_some() {
+            return fault;
+        }
     }
-    Ok(())
+    None
 }
 
 /// The name and parent of a type.
