@@ -8,7 +8,7 @@ use Rattle.hd_dbd.specs.declared.program.Pcb.{Pcb}
 use Rattle.hd_dbd.specs.declared.program.PsbFault.{PsbFault}
 use Rattle.hd_dbd.specs.declared.program.PsbFault.TheVariants.{P1, P2, P3, P4, P5, P6}
 use Rattle.hd_dbd.specs.declared.program.TypeName.{TypeName}
-use Rattle.hd_dbd.specs.ProgramRules.{names_fit, parents_fit, order_fits, procopts_fit, load_fits, has_sens, pcb_fits, program_fits, pcb_fault, fault_from, program_fault}
+use Rattle.hd_dbd.specs.ProgramRules.{seen_names_fit, parents_fit, order_fits, procopts_fit, load_fits, has_sens, pcb_fits, program_fits, pcb_fault, fault_from, program_fault}
 
 -- where no fault comes, the test passed
 passed : (b : Bool) (fault : PsbFault) (later : Option PsbFault) → cond (not b) (Some fault) later ≡ None → (b ≡ true) × (later ≡ None)
@@ -26,7 +26,7 @@ neither (Some f) b none = cc
 -- a PCB without a fault keeps P1 to P6
 pcb_passes : (names : List TypeName) (count number : ℕ) (pcb : Pcb) → pcb_fault names count number pcb ≡ None → pcb_fits names count pcb ≡ true
 pcb_passes names count number pcb none =
-    let one = passed (names_fit names pcb) (P1 number) _ none in
+    let one = passed (seen_names_fit names pcb) (P1 number) _ none in
     let two = passed (parents_fit names pcb) (P2 number) _ one.1 in
     let three = passed (order_fits names pcb) (P3 number) _ two.1 in
     let four = passed (procopts_fit pcb) (P4 number) _ three.1 in

@@ -51,7 +51,8 @@ field_names_differ (f ∷ fs) = not (list_any (λ g. bytes_eq g.name f.name) fs)
 abbrev pub names_fit : List SegType → ℕ → SegType → Bool
 names_fit types c t = not (list_any (λ u. bytes_eq u.name t.name) (take (c - 1) types)) && field_names_differ t.fields.items
 
--- B8: a stored segment fits into a block behind its first 8 bytes, and three entries of the index behind its first 12
+-- B8: a stored segment fits into a block behind its first 8 bytes; and for the root, three entries of its index behind
+-- the first 12
 abbrev pub sizes_fit : ℕ → List SegType → ℕ → SegType → Bool
 sizes_fit block_size types c t =
     nat_le (stored_size types c + 8) block_size

@@ -44,7 +44,7 @@ sought s rows p get = first_from (satisfies s rows) (search_start p get) (search
 
 -- ---- what is found
 
--- GA where the row's level is less than that of the type before it, GK where it is the same and the type another
+-- GA where the row's level is less than that of the row last given, GK where it is the same and the type another
 abbrev pub crossing : Option Place → ℕ → ℕ → Status
 crossing None level code = Blank
 crossing (Some p) level code = cond (nat_lt level p.level) GA (cond (level == p.level && not (code == p.code)) GK Blank)
@@ -68,7 +68,8 @@ onto types rows i = record {
 abbrev pub unheld : Position → Position
 unheld p = record p { held = [] }
 
--- Where no row satisfies, GU answers GE and leaves the position; GN answers GB, and the PCB is back at the start.
+-- Where no row satisfies, GU answers GE, and but for the hold the position stays; GN answers GB, and the PCB is back at the
+-- start.
 abbrev pub get_missing : Position → Get → Reply × Position
 get_missing p Unique = (bare GE, unheld p)
 get_missing p Next = (bare GB, at_start)

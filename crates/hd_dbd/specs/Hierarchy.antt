@@ -29,7 +29,7 @@ weights_from weight so_far (t ∷ ts) =
 abbrev pub weights : (SegType → ℕ) → List SegType → List ℕ
 weights weight types = weights_from weight [] types
 
--- the levels of the types: the root's is 1, and every other type's is one more than its parent's
+-- the levels of the types: in a well-formed list the root's is 1, and every other type's is one more than its parent's
 abbrev pub levels_of : List SegType → List ℕ
 levels_of types = weights (λ _. 1) types
 

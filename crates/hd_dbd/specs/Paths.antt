@@ -16,7 +16,7 @@ row_at rows i = slice_index_or rows i no_row
 abbrev pub level_at : List SegType → List Segment → ℕ → ℕ
 level_at types rows i = level types (row_at rows i)
 
--- of the rows before number n, the last whose level is below the given one
+-- of the rows before number n, the last whose level is less than the given one
 abbrev pub nearest_above : List SegType → List Segment → ℕ → ℕ → Option ℕ
 nearest_above types rows l zero = None
 nearest_above types rows l (suc k) = cond (nat_lt (level_at types rows k) l) (Some k) (nearest_above types rows l k)
@@ -25,7 +25,7 @@ nearest_above types rows l (suc k) = cond (nat_lt (level_at types rows k) l) (So
 abbrev pub parent_row : List SegType → List Segment → ℕ → Option ℕ
 parent_row types rows i = nearest_above types rows (level_at types rows i) i
 
--- that row with its parents, root first
+-- of the rows before number n, the last whose level is less than the given one, and its parents, root first
 abbrev pub path_above : List SegType → List Segment → ℕ → ℕ → List ℕ
 path_above types rows l zero = []
 path_above types rows l (suc k) =
@@ -48,8 +48,10 @@ end_within types rows l (suc n) i = cond (nat_le (level_at types rows i) l) i (e
 abbrev pub end_of : List SegType → List Segment → ℕ → ℕ
 end_of types rows i = end_within types rows (level_at types rows i) (length rows - (i + 1)) (i + 1)
 
--- rows i and j are twins: of one type, and of one parent or both roots
+-- rows i and j are of one parent, or both roots
+abbrev pub have_one_parent : List SegType → List Segment → ℕ → ℕ → Bool
+have_one_parent types rows i j = option_eq (λ p q. p == q) (parent_row types rows i) (parent_row types rows j)
+
+-- rows i and j are twins: of one type and of one parent
 abbrev pub is_twin : List SegType → List Segment → ℕ → ℕ → Bool
-is_twin types rows i j =
-    (row_at rows i).code == (row_at rows j).code
-    && option_eq (λ p q. p == q) (parent_row types rows i) (parent_row types rows j)
+is_twin types rows i j = (row_at rows i).code == (row_at rows j).code && have_one_parent types rows i j

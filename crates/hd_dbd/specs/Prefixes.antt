@@ -43,7 +43,7 @@ children_from p c (t ∷ ts) = cond (is_child_of p t) (c ∷ children_from p (c 
 abbrev pub children_of : List SegType → ℕ → List ℕ
 children_of types p = children_from p 1 types
 
--- the next multiple of 8
+-- the least multiple of 8 that is not less
 abbrev pub rounded_up : ℕ → ℕ
 rounded_up n = (n + 7) / 8 * 8
 

@@ -34,8 +34,8 @@ abbrev pub sees : Pcb → List ℕ → Bool
 sees pcb name = list_any (λ s. bytes_eq s.name name) pcb.sens.items
 
 -- P1: each SENSEG names a type of the database
-abbrev pub names_fit : List TypeName → Pcb → Bool
-names_fit names pcb = list_all (λ s. is_some (code_named names s.name)) pcb.sens.items
+abbrev pub seen_names_fit : List TypeName → Pcb → Bool
+seen_names_fit names pcb = list_all (λ s. is_some (code_named names s.name)) pcb.sens.items
 
 -- P2: each SENSEG has the parent that its type has in the database, and the PCB sees it
 abbrev pub parents_fit : List TypeName → Pcb → Bool
@@ -72,7 +72,7 @@ has_sens pcb = nat_lt 0 (length pcb.sens.items)
 -- P1 to P6 for one PCB of so many
 abbrev pub pcb_fits : List TypeName → ℕ → Pcb → Bool
 pcb_fits names count pcb =
-    names_fit names pcb && parents_fit names pcb && order_fits names pcb && procopts_fit pcb && load_fits count pcb && has_sens pcb
+    seen_names_fit names pcb && parents_fit names pcb && order_fits names pcb && procopts_fit pcb && load_fits count pcb && has_sens pcb
 
 -- P6: at least one PCB, and at most 255; then each PCB's rules
 abbrev pub program_fits : List TypeName → List Pcb → Bool
@@ -82,7 +82,7 @@ program_fits names pcbs =
 -- the first of the rules P1 to P6 that a PCB breaks, one of so many, with its number
 abbrev pub pcb_fault : List TypeName → ℕ → ℕ → Pcb → Option PsbFault
 pcb_fault names count number pcb =
-    cond (not (names_fit names pcb)) (Some (P1 number)) (cond (not (parents_fit names pcb)) (Some (P2 number))
+    cond (not (seen_names_fit names pcb)) (Some (P1 number)) (cond (not (parents_fit names pcb)) (Some (P2 number))
     (cond (not (order_fits names pcb)) (Some (P3 number)) (cond (not (procopts_fit pcb)) (Some (P4 number))
     (cond (not (load_fits count pcb)) (Some (P5 number)) (cond (not (has_sens pcb)) (Some (P6 number)) None)))))
 

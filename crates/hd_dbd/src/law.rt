@@ -1,4 +1,4 @@
-ghost use Rattle.hd_dbd.specs.Laws.{LevelsFollowParents, SequencesAreValid, ValidRowsAreOneForest, TwinsAscend};
+ghost use Rattle.hd_dbd.specs.Laws.{LevelsFollowParents, SequencesAreValid, ValidRowsAreOneForest, TwinsAscend, ValidRowsAreInSequence, PathsFollowParents};
 
 /// The level of a type is one more than its parent's, and the root's is 1.
 pub fn law_levels_follow_parents()
@@ -18,4 +18,14 @@ pub fn law_valid_rows_are_one_forest()
 /// Of any two twins in a valid list of rows the earlier stands before the later in key order.
 pub fn law_twins_ascend()
     ensures { TwinsAscend }
+{}
+
+/// The valid lists of rows are just those in hierarchic sequence, told without a walk.
+pub fn law_valid_rows_are_in_sequence()
+    ensures { ValidRowsAreInSequence }
+{}
+
+/// The path of a row is that of its parent, and the row.
+pub fn law_paths_follow_parents()
+    ensures { PathsFollowParents }
 {}

@@ -19,8 +19,8 @@ pub use call::Get;
 pub use database::{Dbd, DbdFault};
 pub use hierarchy::{Field, FreeSpace, Key, Rule, SegType};
 pub use law::{
-    law_levels_follow_parents, law_sequences_are_valid, law_twins_ascend,
-    law_valid_rows_are_one_forest,
+    law_levels_follow_parents, law_paths_follow_parents, law_sequences_are_valid, law_twins_ascend,
+    law_valid_rows_are_in_sequence, law_valid_rows_are_one_forest,
 };
 pub use naming::Name8;
 pub use program::{Pcb, Psb, PsbFault, Sens, gives_get};

@@ -2,7 +2,7 @@ ghost use Rattle.std.specs.Prelude.{◌≡◌, ◌⊎◌, ◌↔◌, ◌<◌, �
 ghost use Rattle.std.specs.Option.{option_map_or, option_eq};
 ghost use Rattle.std.specs.List.{list_any, list_all};
 ghost use Rattle.hd_dbd.specs.Letters.{gives_get, gives_load, is_access_letter, gives_access, only_loads, is_procopt};
-ghost use Rattle.hd_dbd.specs.ProgramRules.{type_names, code_named, parent_named, sees, names_fit, parents_fit, order_fits, own_procopt_fits, procopts_fit, load_fits, pcb_fault, program_fault, program_fits};
+ghost use Rattle.hd_dbd.specs.ProgramRules.{type_names, code_named, parent_named, sees, seen_names_fit, parents_fit, order_fits, own_procopt_fits, procopts_fit, load_fits, pcb_fault, program_fault, program_fits};
 
 use crate::database::Dbd;
 use crate::hierarchy::SegType;
@@ -263,8 +263,8 @@ fn sees(pcb: &Pcb, name: &Name8) -> bool
 }
 
 /// Whether each SENSEG names a type of the database.
-fn names_fit(names: &[TypeName], pcb: &Pcb) -> bool
-    ensures { result ≡ names_fit names.now pcb.now }
+fn seen_names_fit(names: &[TypeName], pcb: &Pcb) -> bool
+    ensures { result ≡ seen_names_fit names.now pcb.now }
 {
     pcb.sens
         .iter()
@@ -345,7 +345,7 @@ fn load_fits(count: usize, pcb: &Pcb) -> bool
 fn pcb_fault(names: &[TypeName], count: usize, number: u8, pcb: &Pcb) -> Option<PsbFault>
     ensures { result ≡ pcb_fault names.now count number pcb.now }
 {
-    if !names_fit(names, pcb) {
+    if !seen_names_fit(names, pcb) {
         return Some(PsbFault::P1(number));
     }
     if !parents_fit(names, pcb) {
