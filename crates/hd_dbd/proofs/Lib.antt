@@ -10,3 +10,4 @@ pub mod Sequences
 pub mod Forests
 pub mod Twins
 pub mod Faults
+pub mod RowPaths
