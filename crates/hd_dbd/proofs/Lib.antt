@@ -11,3 +11,5 @@ pub mod Forests
 pub mod Twins
 pub mod Faults
 pub mod RowPaths
+pub mod Walks
+pub mod InSequence
