@@ -2,7 +2,8 @@ ghost use Rattle.std.specs.Prelude.{◌≡◌, ◌⊎◌, ◌↔◌, ◌<◌, �
 ghost use Rattle.std.specs.Option.{option_map_or, option_eq};
 ghost use Rattle.std.specs.List.{list_any, list_all};
 ghost use Rattle.hd_dbd.specs.Letters.{gives_get, gives_load, is_access_letter, gives_access, only_loads, is_procopt};
-ghost use Rattle.hd_dbd.specs.ProgramRules.{type_names, code_named, parent_named, sees, seen_names_fit, parents_fit, order_fits, own_procopt_fits, procopts_fit, load_fits, pcb_fault, program_fault, program_fits};
+ghost use Rattle.hd_dbd.specs.ProgramRules.{type_names, code_named, parent_named, sees, seen_names_fit, parents_fit, order_fits, own_procopt_fits, procopts_fit, load_fits, program_fits};
+ghost use Rattle.hd_dbd.specs.ProgramFaults.{pcb_fault, program_fault};
 
 use crate::database::Dbd;
 use crate::hierarchy::SegType;

@@ -1,5 +1,5 @@
 use Rattle.std.proofs.Common.{◌≡◌, ◌+◌, drop, length}
-use Rattle.hd_dbd.specs.ProgramRules.{fault_from}
+use Rattle.hd_dbd.specs.ProgramFaults.{fault_from}
 use Rattle.hd_dbd.proofs.program.program_fault.Given as goal
 
 -- what is left of the list gives the answer of all of it
