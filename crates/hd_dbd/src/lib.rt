@@ -7,6 +7,7 @@ mod answer;
 mod call;
 mod database;
 mod facts;
+mod fault_law;
 mod hierarchy;
 mod law;
 mod naming;
@@ -17,6 +18,7 @@ mod rules;
 pub use answer::{Refused, Status};
 pub use call::Get;
 pub use database::{Dbd, DbdFault};
+pub use fault_law::{law_databases_have_no_fault, law_programs_have_no_fault};
 pub use hierarchy::{Field, FreeSpace, Key, Rule, SegType};
 pub use law::{
     law_levels_follow_parents, law_paths_follow_parents, law_sequences_are_valid, law_twins_ascend,
