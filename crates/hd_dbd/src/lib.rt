@@ -11,7 +11,9 @@ mod fault_law;
 mod hierarchy;
 mod law;
 mod naming;
+mod procopt;
 mod program;
+mod program_rules;
 mod row;
 mod rules;
 
@@ -25,5 +27,6 @@ pub use law::{
     law_valid_rows_are_in_sequence, law_valid_rows_are_one_forest,
 };
 pub use naming::Name8;
-pub use program::{Pcb, Psb, PsbFault, Sens, gives_get};
+pub use procopt::gives_get;
+pub use program::{Pcb, Psb, PsbFault, Sens};
 pub use row::Row;
