@@ -1,67 +1,75 @@
 -- What holds of the types of a well-formed database.
-use Rattle.std.proofs.Common.{◌≡◌, ℕ, zero, suc, ◌+◌, ◌-◌, ◌<◌, ◌≤◌, List, [], ◌∷◌, length, Bool, true, arith, ap, sym, ◌∙◌, refl, subst, ◌&&◌, Option, Some, None, IsTrue, inl, inr}
-use Rattle.std.specs.Prelude.{slice_get, nat_le, not, ◌||◌, ◌⊎◌}
+use Rattle.std.proofs.Common.{◌≡◌, ℕ, zero, suc, ◌+◌, ◌-◌, ◌<◌, ◌≤◌, List, [], ◌∷◌, length, Bool, true, false, arith, ap, sym, ◌∙◌, refl, ◌&&◌, cond, Option, Some, None, IsTrue, inl, inr}
+use Rattle.std.specs.Prelude.{slice_get, nat_le, nat_lt, is_none, not, ◌||◌, ◌==◌, ◌⊎◌}
 use Rattle.std.specs.Option.{option_map_or}
-use Rattle.std.proofs.lemmas.Bool.{and_parts, leb-true, cases_eq, cases_lt}
+use Rattle.std.proofs.lemmas.Bool.{and_parts, leb-true, ltb-true, cases_eq}
+use Rattle.std.proofs.lemmas.Option.{slice_get_cases}
 use Rattle.hd_dbd.specs.declared.hierarchy.FreeSpace.{FreeSpace}
 use Rattle.hd_dbd.specs.declared.hierarchy.SegType.{SegType}
 use Rattle.hd_dbd.specs.Hierarchy.{type_of, level_of}
 use Rattle.hd_dbd.specs.Prefixes.{prefix_length, rounded_up, stored_size}
-use Rattle.hd_dbd.specs.DatabaseRules.{parent_fits, block_size_fits, type_fits, types_fit_from, well_formed}
-use Rattle.hd_dbd.proofs.Levels.{type_of-zero, type_of-later, level_of-zero, level_of-past}
+use Rattle.hd_dbd.specs.DatabaseRules.{level_fits, parent_fits, block_size_fits, type_fits, types_fit_from, well_formed}
+use Rattle.hd_dbd.proofs.Levels.{type_of-later, type_within, level_of-zero, level_of-past}
 
--- each of the types keeps to its rules
-pub fits_at : (block_size : ℕ) (types : List SegType) (c : ℕ) (ts : List SegType) (i : ℕ) (t : SegType)
+-- each of the last types of a list keeps to its rules
+fits_at : (block_size : ℕ) (types : List SegType) (c : ℕ) (ts : List SegType) (i : ℕ) (t : SegType)
     → types_fit_from block_size types c ts ≡ true → slice_get ts i ≡ Some t → type_fits block_size types (c + i) t ≡ true
 fits_at block_size types c [] i t fit here = cc
 fits_at block_size types c (u ∷ us) zero t fit here =
-    let first : type_fits block_size types c u ≡ true = (and_parts _ _ fit).0 in
     let same : u ≡ t = cc in
-    let at : c ≡ c + 0 = omega arith in
-    subst (λ (n : ℕ). type_fits block_size types n t ≡ true) at (subst (λ (v : SegType). type_fits block_size types c v ≡ true) same first)
+    let at : c + 0 ≡ c = omega arith in
+    ap (λ (n : ℕ). type_fits block_size types n t) at ∙ ap (λ (v : SegType). type_fits block_size types c v) (sym same) ∙ (and_parts _ _ fit).0
 fits_at block_size types c (u ∷ us) (suc i) t fit here =
-    let at : c + 1 + i ≡ c + suc i = omega arith in
-    subst (λ (n : ℕ). type_fits block_size types n t ≡ true) at (fits_at block_size types (c + 1) us i t (and_parts _ _ fit).1 here)
-
-fits_by : (block_size : ℕ) (types : List SegType) (c : ℕ) (t : SegType)
-    → types_fit_from block_size types 1 types ≡ true → type_of types c ≡ Some t → (c ≡ 0) ⊎ (c ≡ 0 → ⊥) → type_fits block_size types c t ≡ true
-fits_by block_size types c t fit here (inl none) =
-    let nothing : type_of types c ≡ None = type_of-zero types c none in
-    cc
-fits_by block_size types c t fit here (inr some) =
-    let at : 1 + (c - 1) ≡ c = omega arith in
-    subst (λ (n : ℕ). type_fits block_size types n t ≡ true) at (fits_at block_size types 1 types (c - 1) t fit (sym (type_of-later types c some) ∙ here))
+    let at : c + suc i ≡ c + 1 + i = omega arith in
+    ap (λ (n : ℕ). type_fits block_size types n t) at ∙ fits_at block_size types (c + 1) us i t (and_parts _ _ fit).1 here
 
 -- the type of a code keeps to its rules
 pub type_of-fits : (block_size : ℕ) (types : List SegType) (c : ℕ) (t : SegType)
     → types_fit_from block_size types 1 types ≡ true → type_of types c ≡ Some t → type_fits block_size types c t ≡ true
-type_of-fits block_size types c t fit here = fits_by block_size types c t fit here (cases_eq c 0)
+type_of-fits block_size types c t fit here =
+    let within = type_within types c t here in
+    let at : c ≡ 1 + (c - 1) = (let some : 0 < c = within.0 in omega arith) in
+    ap (λ (n : ℕ). type_fits block_size types n t) at ∙ fits_at block_size types 1 types (c - 1) t fit within.1
 
--- what the rules say of the level, the parent and the stored size of a type
-pub level_part : (block_size : ℕ) (types : List SegType) (c : ℕ) (t : SegType) → type_fits block_size types c t ≡ true → level_of types c ≤ 15
+-- what the rules say of the level and the parent of a type
+placed : (block_size : ℕ) (types : List SegType) (c : ℕ) (t : SegType) → type_fits block_size types c t ≡ true
+    → (level_fits types c t && parent_fits c t) ≡ true
+placed block_size types c t fit =
+    let all = and_parts _ _ fit in
+    let to_sizes = and_parts _ _ all.0 in
+    let to_names = and_parts _ _ to_sizes.0 in
+    let to_root_key = and_parts _ _ to_names.0 in
+    (and_parts _ _ to_root_key.0).0
+
+level_part : (block_size : ℕ) (types : List SegType) (c : ℕ) (t : SegType) → type_fits block_size types c t ≡ true → level_of types c ≤ 15
 level_part block_size types c t fit =
-    let all = and_parts _ _ fit in
-    let to_sizes = and_parts _ _ all.0 in
-    let to_names = and_parts _ _ to_sizes.0 in
-    let to_root_key = and_parts _ _ to_names.0 in
-    let to_parts = and_parts _ _ to_root_key.0 in
-    let to_parent = and_parts _ _ to_parts.0 in
-    leb-true (level_of types c) 15 (ap (λ (b : Bool). not b || nat_le (level_of types c) 15) (sym to_parent.1) ∙ to_parent.0)
+    let both = and_parts (level_fits types c t) (parent_fits c t) (placed block_size types c t fit) in
+    leb-true (level_of types c) 15 (ap (λ (b : Bool). not b || nat_le (level_of types c) 15) (sym both.1) ∙ both.0)
 
-pub parent_part : (block_size : ℕ) (types : List SegType) (c : ℕ) (t : SegType) → type_fits block_size types c t ≡ true → parent_fits c t ≡ true
-parent_part block_size types c t fit =
-    let all = and_parts _ _ fit in
-    let to_sizes = and_parts _ _ all.0 in
-    let to_names = and_parts _ _ to_sizes.0 in
-    let to_root_key = and_parts _ _ to_names.0 in
-    let to_parts = and_parts _ _ to_root_key.0 in
-    (and_parts _ _ to_parts.0).1
+-- a parent's code is below the type's, and not 0
+abbrev pub IsEarlier : Option ℕ → ℕ → Type 0
+IsEarlier None c = Unit {0}
+IsEarlier (Some p) c = (0 < p) × (p < c)
 
-pub size_part : (block_size : ℕ) (types : List SegType) (c : ℕ) (t : SegType) → type_fits block_size types c t ≡ true → stored_size types c + 8 ≤ block_size
+earlier : (c : ℕ) (parent : Option ℕ) → cond (c == 1) (is_none parent) (option_map_or (λ p. nat_lt 0 p && nat_lt p c) parent false) ≡ true → IsEarlier parent c
+earlier c None fits = tt
+earlier c (Some p) fits =
+    let both = and_parts (nat_lt 0 p) (nat_lt p c) (no_root (c == 1) fits) in
+    (ltb-true 0 p both.0, ltb-true p c both.1)
+  where
+    no_root : (root : Bool) → cond root false (nat_lt 0 p && nat_lt p c) ≡ true → (nat_lt 0 p && nat_lt p c) ≡ true
+    no_root true h = cc
+    no_root false h = h
+
+-- a type that fits has an earlier parent, or none
+pub parent_part : (block_size : ℕ) (types : List SegType) (c : ℕ) (t : SegType) → type_fits block_size types c t ≡ true → IsEarlier t.parent c
+parent_part block_size types c t fit = earlier c t.parent (and_parts _ _ (placed block_size types c t fit)).1
+
+-- and its segments fit into a block
+size_part : (block_size : ℕ) (types : List SegType) (c : ℕ) (t : SegType) → type_fits block_size types c t ≡ true → stored_size types c + 8 ≤ block_size
 size_part block_size types c t fit =
-    let all = and_parts _ _ fit in
-    let to_sizes = and_parts _ _ all.0 in
-    leb-true (stored_size types c + 8) block_size (and_parts _ _ to_sizes.1).0
+    let sizes = and_parts _ _ (and_parts _ _ fit).0 in
+    leb-true (stored_size types c + 8) block_size (and_parts _ _ sizes.1).0
 
 size_by : (block_size : ℕ) (types : List SegType) (c : ℕ) (o : Option SegType)
     → types_fit_from block_size types 1 types ≡ true → type_of types c ≡ o → stored_size types c ≤ block_size
@@ -81,27 +89,16 @@ size_bound block_size types c fit size =
     let small : stored_size types c ≤ block_size = size_by block_size types c (type_of types c) fit refl in
     omega arith
 
-slice_get-inside : (types : List SegType) (i : ℕ) → i < length types → slice_get types i ≡ None → ⊥
-slice_get-inside [] i below none = omega arith
-slice_get-inside (t ∷ ts) zero below none = cc
-slice_get-inside (t ∷ ts) (suc i) below none = slice_get-inside ts i (omega arith) none
-
-level_past : (block_size : ℕ) (types : List SegType) (c : ℕ)
-    → type_of types c ≡ None → (c ≡ 0 → ⊥) → (c - 1 < length types) ⊎ (length types ≤ c - 1) → level_of types c ≤ 15
-level_past block_size types c is some (inl below) =
-    let none : slice_get types (c - 1) ≡ None = sym (type_of-later types c some) ∙ is in
-    absurd (slice_get-inside types (c - 1) below none)
-level_past block_size types c is some (inr past) =
-    let low : level_of types c ≡ 0 = level_of-past types c some past in
-    omega arith
-
 level_by : (block_size : ℕ) (types : List SegType) (c : ℕ) (o : Option SegType)
     → types_fit_from block_size types 1 types ≡ true → type_of types c ≡ o → (c ≡ 0) ⊎ (c ≡ 0 → ⊥) → level_of types c ≤ 15
 level_by block_size types c (Some t) fit is place = level_part block_size types c t (type_of-fits block_size types c t fit is)
 level_by block_size types c None fit is (inl none) =
     let low : level_of types c ≡ 0 = level_of-zero types c none in
     omega arith
-level_by block_size types c None fit is (inr some) = level_past block_size types c is some (cases_lt (c - 1) (length types))
+level_by block_size types c None fit is (inr some) = elim (slice_get_cases types (c - 1)).1 [
+  | inl found ↦ (let a_type : type_of types c ≡ Some found.0 = type_of-later types c some ∙ found.2 in cc)
+  | inr past ↦ (let low : level_of types c ≡ 0 = level_of-past types c some past.0 in omega arith)
+]
 
 -- no type is below level 15
 pub level_of-at_most : (block_size : ℕ) (types : List SegType) (c : ℕ) → types_fit_from block_size types 1 types ≡ true → level_of types c ≤ 15

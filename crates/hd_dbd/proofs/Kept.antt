@@ -1,8 +1,8 @@
 -- What a database keeps of each type is found again by the type's code.
-use Rattle.std.proofs.Common.{◌≡◌, ℕ, suc, ◌+◌, ◌-◌, ◌<◌, ◌≤◌, List, [], ◌∷◌, length, take, Bool, true, false, ◌&&◌, arith, ap, sym, ◌∙◌, refl, cond, Option, Some, None, inl, inr}
-use Rattle.std.specs.Prelude.{slice_index_or, nat_lt, ◌==◌, ◌⊎◌, is_none, option_and_then}
+use Rattle.std.proofs.Common.{◌≡◌, ℕ, suc, ◌+◌, ◌-◌, ◌<◌, ◌≤◌, List, [], ◌∷◌, length, take, true, false, arith, ap, sym, ◌∙◌, refl, cond, Option, Some, None, inl, inr}
+use Rattle.std.specs.Prelude.{slice_index_or, ◌==◌, ◌⊎◌, option_and_then}
 use Rattle.std.specs.Option.{option_map_or}
-use Rattle.std.proofs.lemmas.Bool.{and_parts, ltb-true, eq-eqb, ne_eqb, cond-true, cond-false, cases_eq, cases_lt}
+use Rattle.std.proofs.lemmas.Bool.{and_parts, eq-eqb, ne_eqb, cond-true, cond-false, cases_eq, cases_lt}
 use Rattle.std.proofs.lemmas.List.{get_or_past}
 use Rattle.std.proofs.lemmas.Option.{get_or_from_slice_get}
 use Rattle.hd_dbd.specs.declared.facts.TypeFacts.{TypeFacts}
@@ -13,7 +13,7 @@ use Rattle.hd_dbd.specs.Facts.{table_from, facts_at, facts_of, children_lists}
 use Rattle.hd_dbd.specs.DatabaseRules.{types_fit_from}
 use Rattle.hd_dbd.proofs.Tables.{length-table_from, slice_get-table_from}
 use Rattle.hd_dbd.proofs.Levels.{type_of-zero, type_of-past, level_of-zero, level_of-past}
-use Rattle.hd_dbd.proofs.Fitting.{parent_part}
+use Rattle.hd_dbd.proofs.Fitting.{IsEarlier, parent_part}
 
 -- what is kept of no type
 abbrev pub no_facts : TypeFacts
@@ -63,23 +63,10 @@ pub facts_found : (types : List SegType) (c : ℕ)
 facts_found types c = facts_by types c (cases_eq c 0)
 
 -- a parent that is an earlier type is not the type 0, and none from the type's own code on
-not_the_parent : (p c k : ℕ) → (nat_lt 0 p && nat_lt p k) ≡ true → (c ≡ 0) ⊎ (k ≤ c) → (p == c) ≡ false
-not_the_parent p c k earlier (inl none) =
-    let above : 0 < p = ltb-true 0 p (and_parts (nat_lt 0 p) (nat_lt p k) earlier).0 in
-    ne_eqb p c (λ e. omega arith)
-not_the_parent p c k earlier (inr later) =
-    let below : p < k = ltb-true p k (and_parts (nat_lt 0 p) (nat_lt p k) earlier).1 in
-    ne_eqb p c (λ e. omega arith)
-
-earlier_parent : (k p : ℕ) (root : Bool) → cond root false (nat_lt 0 p && nat_lt p k) ≡ true → (nat_lt 0 p && nat_lt p k) ≡ true
-earlier_parent k p true h = cc
-earlier_parent k p false h = h
-
-no_child : (c k : ℕ) (parent : Option ℕ)
-    → cond (k == 1) (is_none parent) (option_map_or (λ p. nat_lt 0 p && nat_lt p k) parent false) ≡ true
-    → (c ≡ 0) ⊎ (k ≤ c) → option_map_or (λ q. q == c) parent false ≡ false
-no_child c k None fit outside = refl
-no_child c k (Some p) fit outside = not_the_parent p c k (earlier_parent k p (k == 1) fit) outside
+no_child : (c k : ℕ) (parent : Option ℕ) → IsEarlier parent k → (c ≡ 0) ⊎ (k ≤ c) → option_map_or (λ q. q == c) parent false ≡ false
+no_child c k None early outside = refl
+no_child c k (Some p) early (inl none) = ne_eqb p c (λ e. omega arith)
+no_child c k (Some p) early (inr later) = ne_eqb p c (λ e. omega arith)
 
 outside_more : (c k n : ℕ) → (c ≡ 0) ⊎ (k + suc n ≤ c) → (c ≡ 0) ⊎ (k + 1 + n ≤ c)
 outside_more c k n (inl none) = inl none

@@ -1,26 +1,18 @@
 -- No valid row is longer than the longest path.
-use Rattle.std.proofs.Common.{◌≡◌, ℕ, zero, suc, ◌+◌, ◌-◌, ◌<◌, ◌≤◌, max, List, [], ◌∷◌, ◌++◌, length, true, false, arith, Option, Some, None, refl, ap, ◌∙◌, subst, sym}
+use Rattle.std.proofs.Common.{◌≡◌, ℕ, zero, suc, ◌+◌, ◌-◌, ◌≤◌, List, [], ◌∷◌, ◌++◌, length, true, false, arith, Option, Some, None, refl, ap, ◌∙◌, subst, sym}
 use Rattle.std.specs.Prelude.{IsTrue, slice_get, slice_index, ◌==◌}
 use Rattle.std.specs.Option.{option_map_or}
 use Rattle.std.proofs.lemmas.Bool.{and_parts, eqb-true}
-use Rattle.std.proofs.lemmas.List.{length-append, get_or_append_left, get_or_at}
+use Rattle.std.proofs.lemmas.List.{length-append, get_or_at}
 use Rattle.hd_dbd.specs.declared.hierarchy.SegType.{SegType}
 use Rattle.hd_dbd.specs.Segment.{Segment}
 use Rattle.hd_dbd.specs.Hierarchy.{weights_from, weights, greatest, longest_path, type_of}
 use Rattle.hd_dbd.specs.Rows.{row_fits, valid, valid_from, next_path}
 use Rattle.hd_dbd.specs.Paths.{row_at}
-use Rattle.hd_dbd.proofs.KeyLengths.{at_code}
-
--- what a list of weights has at its front is kept
-pub weights_front : (w : SegType → ℕ) (so_far : List ℕ) (ts : List SegType) (i : ℕ) → i < length so_far → slice_index (weights_from w so_far ts) i ≡ slice_index so_far i
-weights_front w so_far [] i below = refl
-weights_front w so_far (t ∷ ts) i below =
-    let own : ℕ = w t + option_map_or (λ p. slice_index so_far (p - 1)) t.parent 0 in
-    weights_front w (so_far ++ own ∷ []) ts i (omega (arith, length-append so_far (own ∷ [])))
-    ∙ get_or_append_left so_far (own ∷ []) 0 i below
+use Rattle.hd_dbd.proofs.Levels.{weights_front, type_within}
 
 -- a type weighs with those above it no less than alone
-pub weight_counts : (w : SegType → ℕ) (so_far : List ℕ) (ts : List SegType) (i : ℕ) (t : SegType) → slice_get ts i ≡ Some t → w t ≤ slice_index (weights_from w so_far ts) (length so_far + i)
+weight_counts : (w : SegType → ℕ) (so_far : List ℕ) (ts : List SegType) (i : ℕ) (t : SegType) → slice_get ts i ≡ Some t → w t ≤ slice_index (weights_from w so_far ts) (length so_far + i)
 weight_counts w so_far [] i t is = cc
 weight_counts w so_far (u ∷ us) zero t is =
     let own : ℕ = w u + option_map_or (λ p. slice_index so_far (p - 1)) u.parent 0 in
@@ -38,7 +30,7 @@ weight_counts w so_far (u ∷ us) (suc i) t is =
     subst (λ (n : ℕ). w t ≤ slice_index (weights_from w (so_far ++ own ∷ []) us) n) (sym place) (weight_counts w (so_far ++ own ∷ []) us i t is)
 
 -- no number of a list is above the greatest
-pub below_greatest : (xs : List ℕ) (i : ℕ) → slice_index xs i ≤ greatest xs
+below_greatest : (xs : List ℕ) (i : ℕ) → slice_index xs i ≤ greatest xs
 below_greatest [] i = omega arith
 below_greatest (x ∷ xs) zero = omega arith
 below_greatest (x ∷ xs) (suc i) = omega (arith, below_greatest xs i)
@@ -49,12 +41,12 @@ row_short_by types r (Some t) is fits =
     omega (
       arith,
       eqb-true (length r.bytes) t.length fits,
-      weight_counts (λ s. s.length) [] types (r.code - 1) t (at_code types r.code t is),
+      weight_counts (λ s. s.length) [] types (r.code - 1) t (type_within types r.code t is).1,
       below_greatest (weights (λ s. s.length) types) (0 + (r.code - 1)),
     )
 
 -- a row with its type's length is no longer than the longest path
-pub row_short : (types : List SegType) (r : Segment) → row_fits types r ≡ true → length r.bytes ≤ longest_path types
+row_short : (types : List SegType) (r : Segment) → row_fits types r ≡ true → length r.bytes ≤ longest_path types
 row_short types r fits = row_short_by types r (type_of types r.code) refl fits
 
 rows_short_from : (types : List SegType) (path rows : List Segment) (i : ℕ) → valid_from types path rows ≡ true → length (row_at rows i).bytes ≤ longest_path types

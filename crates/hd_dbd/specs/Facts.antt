@@ -1,5 +1,5 @@
 -- What a database keeps of each type, so that no layer works it out again.
-use Rattle.std.specs.Prelude.{◌≡◌, ℕ, zero, suc, ◌+◌, List, [], ◌∷◌, length, map}
+use Rattle.std.specs.Prelude.{ℕ, zero, suc, ◌+◌, List, [], ◌∷◌, length}
 use Rattle.hd_dbd.specs.declared.hierarchy.SegType.{SegType}
 use Rattle.hd_dbd.specs.declared.facts.TypeFacts.{TypeFacts}
 use Rattle.hd_dbd.specs.Hierarchy.{level_of}

@@ -1,7 +1,6 @@
 -- The types of a database. A type's code is its place in the list, from 1; the first is the root.
 use Rattle.std.specs.Prelude.{ℕ, ◌+◌, ◌-◌, List, [], ◌∷◌, ◌++◌, take, drop, max, ◌==◌, cond, Option, None, option_and_then, slice_get, slice_index}
 use Rattle.std.specs.Option.{option_map_or}
-use Rattle.hd_dbd.specs.declared.hierarchy.Key.{Key}
 use Rattle.hd_dbd.specs.declared.hierarchy.FreeSpace.{FreeSpace}
 use Rattle.hd_dbd.specs.declared.hierarchy.SegType.{SegType}
 

@@ -1,5 +1,5 @@
 -- The letters of PROCOPT. A stands for G, I, R and D; R and D include G.
-use Rattle.std.specs.Prelude.{ℕ, List, Bool, not, ◌&&◌, ◌||◌, ◌==◌}
+use Rattle.std.specs.Prelude.{ℕ, List, Bool, ◌&&◌, ◌||◌, ◌==◌}
 use Rattle.std.specs.List.{list_any, list_all}
 
 -- G, or R, D or A, which include it

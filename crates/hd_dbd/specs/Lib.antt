@@ -7,6 +7,7 @@ pub mod DatabaseRules
 pub mod DatabaseFaults
 pub mod Letters
 pub mod ProgramRules
+pub mod ProgramFaults
 pub mod Views
 pub mod Rows
 pub mod Paths

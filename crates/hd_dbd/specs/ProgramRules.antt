@@ -1,13 +1,11 @@
 -- What the PCBs of a well-formed program keep to. Each rule stands beside the number of its fault.
-use Rattle.std.specs.Prelude.{ℕ, ◌+◌, ◌-◌, List, [], ◌∷◌, length, map, Bool, true, false, not, ◌&&◌, ◌||◌, nat_le, nat_lt, ◌==◌, cond, Option, Some, None, is_some, option_map, option_and_then, slice_get, find, position, bytes_eq, string_bytes}
-use Rattle.std.specs.Option.{option_map_or, option_eq, option_or}
+use Rattle.std.specs.Prelude.{ℕ, ◌+◌, ◌-◌, List, [], ◌∷◌, length, map, Bool, true, false, not, ◌&&◌, ◌||◌, nat_le, nat_lt, ◌==◌, cond, Option, is_some, option_map, option_and_then, slice_get, find, position, bytes_eq, string_bytes}
+use Rattle.std.specs.Option.{option_map_or, option_eq}
 use Rattle.std.specs.List.{list_any, list_all}
 use Rattle.hd_dbd.specs.declared.hierarchy.SegType.{SegType}
 use Rattle.hd_dbd.specs.declared.program.Sens.{Sens}
 use Rattle.hd_dbd.specs.declared.program.Pcb.{Pcb}
 use Rattle.hd_dbd.specs.declared.program.TypeName.{TypeName}
-use Rattle.hd_dbd.specs.declared.program.PsbFault.{PsbFault}
-use Rattle.hd_dbd.specs.declared.program.PsbFault.TheVariants.{P1, P2, P3, P4, P5, P6}
 use Rattle.hd_dbd.specs.Letters.{gives_load, is_procopt}
 
 -- What callers see of a program: the names and parents of the types that it was made for, and its PCBs.
@@ -78,20 +76,3 @@ pcb_fits names count pcb =
 abbrev pub program_fits : List TypeName → List Pcb → Bool
 program_fits names pcbs =
     nat_lt 0 (length pcbs) && nat_le (length pcbs) 255 && list_all (λ pcb. pcb_fits names (length pcbs) pcb) pcbs
-
--- the first of the rules P1 to P6 that a PCB breaks, one of so many, with its number
-abbrev pub pcb_fault : List TypeName → ℕ → ℕ → Pcb → Option PsbFault
-pcb_fault names count number pcb =
-    cond (not (seen_names_fit names pcb)) (Some (P1 number)) (cond (not (parents_fit names pcb)) (Some (P2 number))
-    (cond (not (order_fits names pcb)) (Some (P3 number)) (cond (not (procopts_fit pcb)) (Some (P4 number))
-    (cond (not (load_fits count pcb)) (Some (P5 number)) (cond (not (has_sens pcb)) (Some (P6 number)) None)))))
-
--- the same of the first that breaks one, of PCBs whose numbers begin with the given one
-abbrev pub fault_from : List TypeName → ℕ → ℕ → List Pcb → Option PsbFault
-fault_from names count number [] = None
-fault_from names count number (pcb ∷ pcbs) = option_or (pcb_fault names count number pcb) (fault_from names count (number + 1) pcbs)
-
--- why these PCBs are no program: number 0 where there is none, or more than 255
-abbrev pub program_fault : List TypeName → List Pcb → Option PsbFault
-program_fault names pcbs =
-    cond (nat_lt 0 (length pcbs) && nat_le (length pcbs) 255) (fault_from names (length pcbs) 1 pcbs) (Some (P6 0))

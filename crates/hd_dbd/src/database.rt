@@ -1,15 +1,15 @@
-ghost use Rattle.std.specs.Prelude.{◌≡◌, ◌⊎◌, ◌≤◌, false, IsTrue, IfOk, OnOk, IfErr, Err, option_copied};
+ghost use Rattle.std.specs.Prelude.{◌≡◌, ◌⊎◌, ◌≤◌, Some, IsTrue, IfOk, OnOk, IfErr, option_copied};
 ghost use Rattle.hd_dbd.specs.Hierarchy.{type_of, parent_of, level_of, longest_path};
 ghost use Rattle.hd_dbd.specs.Prefixes.{prefix_length, pointers_at, children_of, stored_size};
 ghost use Rattle.hd_dbd.specs.DatabaseRules.{well_formed};
-ghost use Rattle.hd_dbd.specs.DatabaseFaults.{verdict};
+ghost use Rattle.hd_dbd.specs.DatabaseFaults.{database_fault};
 
 use crate::facts::{
     TypeFacts, children_in, children_lists, facts_in, facts_of, levels_of, longest_path, type_of,
 };
 use crate::hierarchy::{FreeSpace, SegType};
 use crate::naming::Name8;
-use crate::rules::{block_size_fits, check_types, free_space_fits};
+use crate::rules::{block_size_fits, free_space_fits, types_fault};
 use std::alloc::{AllocError, Global};
 use std::marker::Model;
 use thiserror::Error;
@@ -98,7 +98,8 @@ impl Model for Dbd {
 impl Dbd {
     ghost use Rattle.hd_dbd.specs.Facts.{facts_at};
 
-    /// A database of these types, where they keep to the rules that `DbdFault` names. The block size is in bytes.
+    /// A database of these types, where they keep to the rules that `DbdFault` names; else the first fault. The block
+    /// size is in bytes.
     pub fn new(
         alloc: Global,
         name: Name8,
@@ -108,8 +109,7 @@ impl Dbd {
     ) -> Result<Dbd, DbdFault>
         ensures ok { IfOk result (λ d. d ≡ record { name = name; block_size = block_size; frspc = frspc; types = types.items }) }
         ensures well_formed { OnOk result (IsTrue (well_formed block_size frspc types.items)) }
-        ensures fault { IfErr result (λ f. (f ≡ DbdFault.Memory) ⊎ (well_formed block_size frspc types.items ≡ false)) }
-        ensures first { IfErr result (λ f. (f ≡ DbdFault.Memory) ⊎ (verdict block_size frspc types.items ≡ Err f)) }
+        ensures fault { IfErr result (λ f. (f ≡ DbdFault.Memory) ⊎ (database_fault block_size frspc types.items ≡ Some f)) }
     {
         if !block_size_fits(block_size) || !free_space_fits(&frspc) {
             return Err(DbdFault::B10);
@@ -121,7 +121,9 @@ impl Dbd {
             return Err(DbdFault::B2);
         }
         let levels = levels_of(alloc, &types)?;
-        check_types(block_size, &types, &levels)?;
+        if let Some(fault) = types_fault(block_size, &types, &levels) {
+            return Err(fault);
+        }
         let facts = facts_of(alloc, &types, &levels)?;
         let children = children_lists(alloc, &types)?;
         let longest = longest_path(alloc, &types)?;

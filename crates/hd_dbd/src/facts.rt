@@ -1,4 +1,4 @@
-ghost use Rattle.std.specs.Prelude.{◌≡◌, ℕ, ◌+◌, ◌-◌, ◌*◌, ◌≤◌, ◌==◌, cond, IfOk, length, map, slice_index, slice_index_or, option_copied, []};
+ghost use Rattle.std.specs.Prelude.{◌≡◌, ℕ, ◌-◌, ◌*◌, ◌≤◌, ◌==◌, cond, IfOk, length, map, slice_index, slice_index_or, option_copied, []};
 ghost use Rattle.std.specs.Option.{option_map_or};
 ghost use Rattle.hd_dbd.specs.Hierarchy.{type_of, levels_of, weights, greatest, longest_path};
 ghost use Rattle.hd_dbd.specs.Prefixes.{twin_part, child_part, is_child_of, child_parts, prefix_length, pointers_at, children_of, rounded_up, stored_size};

@@ -7,21 +7,26 @@ mod answer;
 mod call;
 mod database;
 mod facts;
+mod fault_law;
 mod hierarchy;
 mod law;
 mod naming;
+mod procopt;
 mod program;
+mod program_rules;
 mod row;
 mod rules;
 
 pub use answer::{Refused, Status};
 pub use call::Get;
 pub use database::{Dbd, DbdFault};
+pub use fault_law::{law_databases_have_no_fault, law_programs_have_no_fault};
 pub use hierarchy::{Field, FreeSpace, Key, Rule, SegType};
 pub use law::{
     law_levels_follow_parents, law_paths_follow_parents, law_sequences_are_valid, law_twins_ascend,
     law_valid_rows_are_in_sequence, law_valid_rows_are_one_forest,
 };
 pub use naming::Name8;
-pub use program::{Pcb, Psb, PsbFault, Sens, gives_get};
+pub use procopt::gives_get;
+pub use program::{Pcb, Psb, PsbFault, Sens};
 pub use row::Row;

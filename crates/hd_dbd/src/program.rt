@@ -1,12 +1,12 @@
-ghost use Rattle.std.specs.Prelude.{◌≡◌, ◌⊎◌, ◌↔◌, ◌<◌, ◌≤◌, ◌-◌, ◌&&◌, ◌||◌, ◌==◌, true, length, Some, IsTrue, IfOk, OnOk, IfErr, IfSome, IsNone, bytes_eq, option_copied, option_map, slice_get, find, position};
-ghost use Rattle.std.specs.Option.{option_map_or, option_eq};
-ghost use Rattle.std.specs.List.{list_any, list_all};
-ghost use Rattle.hd_dbd.specs.Letters.{gives_get, gives_load, is_access_letter, gives_access, only_loads, is_procopt};
-ghost use Rattle.hd_dbd.specs.ProgramRules.{type_names, code_named, parent_named, sees, seen_names_fit, parents_fit, order_fits, own_procopt_fits, procopts_fit, load_fits, pcb_fault, program_fault, program_fits};
+ghost use Rattle.std.specs.Prelude.{◌≡◌, ◌⊎◌, ◌↔◌, ◌<◌, ◌≤◌, length, Some, IsTrue, IfOk, OnOk, IfErr};
+ghost use Rattle.hd_dbd.specs.ProgramRules.{type_names, program_fits};
+ghost use Rattle.hd_dbd.specs.ProgramFaults.{program_fault};
 
 use crate::database::Dbd;
 use crate::hierarchy::SegType;
 use crate::naming::Name8;
+use crate::procopt::gives_get;
+use crate::program_rules::program_fault;
 use std::alloc::{AllocError, Global};
 use std::marker::Model;
 use thiserror::Error;
@@ -29,8 +29,8 @@ pub struct Pcb {
 /// The name of a segment type, and the code of its parent.
 #[derive(Clone, Copy, Debug, PartialEq, Eq)]
 pub struct TypeName {
-    name: Name8,
-    parent: Option<u8>,
+    pub name: Name8,
+    pub parent: Option<u8>,
 }
 
 /// Why a PSB is refused: the rule that it breaks, with the number of the PCB that breaks it, from 1. `Memory` says
@@ -151,236 +151,6 @@ impl Pcb {
             None => self.procopt.as_bytes(),
         }
     }
-}
-
-/// Whether letters of PROCOPT give gets: G, or R, D or A, which include it.
-pub fn gives_get(letters: &[u8]) -> bool
-    ensures { result ≡ gives_get letters.now }
-{
-    letters
-        .iter()
-        .any(|b| *b == b'G' || *b == b'R' || *b == b'D' || *b == b'A')
-}
-
-/// Whether letters of PROCOPT give the load.
-fn gives_load(letters: &[u8]) -> bool
-    ensures { result ≡ gives_load letters.now }
-{
-    letters.iter().any(|b| *b == b'L')
-}
-
-/// Whether a letter of PROCOPT gives calls: G, I, R, D or A.
-fn is_access_letter(letter: u8) -> bool
-    ensures { result ≡ is_access_letter letter }
-{
-    matches!(letter, b'G' | b'I' | b'R' | b'D' | b'A')
-}
-
-/// Whether one of the letters gives calls.
-fn has_access_letter(letters: &[u8]) -> bool
-    ensures { result ≡ list_any is_access_letter letters.now }
-{
-    letters.iter().any(|b| is_access_letter(*b))
-}
-
-/// Whether each of the letters gives calls or is P.
-fn are_access_letters(letters: &[u8]) -> bool
-    ensures { result ≡ list_all (λ b. is_access_letter b || b == 80) letters.now }
-{
-    letters.iter().all(|b| is_access_letter(*b) || *b == b'P')
-}
-
-/// Whether the letters give calls, with P beside them at the most.
-fn gives_access(letters: &[u8]) -> bool
-    ensures { result ≡ gives_access letters.now }
-{
-    has_access_letter(letters) && are_access_letters(letters)
-}
-
-/// Whether each of the letters is L or S.
-fn are_load_letters(letters: &[u8]) -> bool
-    ensures { result ≡ list_all (λ b. b == 76 || b == 83) letters.now }
-{
-    letters.iter().all(|b| *b == b'L' || *b == b'S')
-}
-
-/// Whether the letters give the load, with S beside it at the most.
-fn only_loads(letters: &[u8]) -> bool
-    ensures { result ≡ only_loads letters.now }
-{
-    gives_load(letters) && are_load_letters(letters)
-}
-
-/// Whether the letters may stand as PROCOPT.
-fn is_procopt(letters: &[u8]) -> bool
-    ensures { result ≡ is_procopt letters.now }
-{
-    gives_access(letters) || only_loads(letters)
-}
-
-/// Where the type of a name stands among all.
-fn place_named(names: &[TypeName], name: &Name8) -> Option<usize>
-    ensures place { result ≡ position (λ t. bytes_eq t.name name.now) names.now }
-    ensures bound { IfSome result (λ i. i < length names.now) }
-{
-    names.iter().position(|t| t.name == *name)
-}
-
-/// The code of the type of a name.
-fn code_named(names: &[TypeName], name: &Name8) -> Option<usize>
-    ensures { result ≡ code_named names.now name.now }
-{
-    Some(place_named(names, name)? + 1)
-}
-
-/// The type of a name.
-fn type_named<'a>(names: &'a [TypeName], name: &Name8) -> Option<&'a TypeName>
-    ensures { option_copied result ≡ find (λ t. bytes_eq t.name name.now) names.now }
-{
-    names.iter().find(|t| t.name == *name)
-}
-
-/// The name of the type of a code.
-fn name_at(names: &[TypeName], code: u8) -> Option<Name8>
-    ensures { result ≡ option_map (λ q. q.name) (slice_get names.now (code - 1)) }
-{
-    let place = usize::from(code).saturating_sub(1);
-    Some(names.get(place)?.name)
-}
-
-/// The name of the parent of the type of a name.
-fn parent_named(names: &[TypeName], name: &Name8) -> Option<Name8>
-    ensures { result ≡ parent_named names.now name.now }
-{
-    name_at(names, type_named(names, name)?.parent?)
-}
-
-/// Whether the PCB sees the type of a name.
-fn sees(pcb: &Pcb, name: &Name8) -> bool
-    ensures { result ≡ sees pcb.now name.now }
-{
-    pcb.sens.iter().any(|s| s.name == *name)
-}
-
-/// Whether each SENSEG names a type of the database.
-fn seen_names_fit(names: &[TypeName], pcb: &Pcb) -> bool
-    ensures { result ≡ seen_names_fit names.now pcb.now }
-{
-    pcb.sens
-        .iter()
-        .all(|s| code_named(names, &s.name).is_some())
-}
-
-/// Whether a SENSEG has the parent of its type, and the PCB sees it.
-fn parent_fits(names: &[TypeName], pcb: &Pcb, sens: &Sens) -> bool
-    ensures { result ≡ (option_eq bytes_eq sens.now.parent (parent_named names.now sens.now.name)
-        && option_map_or (λ q. sees pcb.now q) sens.now.parent true) }
-{
-    if sens.parent != parent_named(names, &sens.name) {
-        return false;
-    }
-    match &sens.parent {
-        Some(parent) => sees(pcb, parent),
-        None => true,
-    }
-}
-
-/// Whether each SENSEG has the parent of its type, and the PCB sees it.
-fn parents_fit(names: &[TypeName], pcb: &Pcb) -> bool
-    ensures { result ≡ parents_fit names.now pcb.now }
-{
-    pcb.sens.iter().all(|s| parent_fits(names, pcb, s))
-}
-
-/// Whether the SENSEGs stand in the order of the database's types, and none twice.
-fn order_fits(names: &[TypeName], pcb: &Pcb) -> bool
-    ensures { result ≡ order_fits names.now pcb.now }
-{
-    let mut last = 0;
-    for sens in &pcb.sens {
-        let Some(code) = code_named(names, &sens.name) else {
-            return false;
-        };
-        if code <= last {
-            return false;
-        }
-        last = code;
-    }
-    true
-}
-
-/// Whether a SENSEG's own PROCOPT may stand beside the PCB's.
-fn own_procopt_fits(pcb: &Pcb, sens: &Sens) -> bool
-    ensures { result ≡ own_procopt_fits pcb.now sens.now }
-{
-    let Some(own) = &sens.procopt else {
-        return true;
-    };
-    let loads = gives_load(pcb.procopt.as_bytes());
-    is_procopt(own.as_bytes()) && gives_load(own.as_bytes()) == loads
-}
-
-/// Whether each SENSEG's own PROCOPT may stand beside the PCB's.
-fn own_procopts_fit(pcb: &Pcb) -> bool
-    ensures { result ≡ list_all (λ s. own_procopt_fits pcb.now s) pcb.now.sens.items }
-{
-    pcb.sens.iter().all(|s| own_procopt_fits(pcb, s))
-}
-
-/// Whether each PROCOPT may stand, and all of them load or none.
-fn procopts_fit(pcb: &Pcb) -> bool
-    ensures { result ≡ procopts_fit pcb.now }
-{
-    is_procopt(pcb.procopt.as_bytes()) && own_procopts_fit(pcb)
-}
-
-/// Whether the PCB stands alone, where it loads.
-fn load_fits(count: usize, pcb: &Pcb) -> bool
-    ensures { result ≡ load_fits count pcb.now }
-{
-    !gives_load(pcb.procopt.as_bytes()) || count == 1
-}
-
-/// The first of the rules P1 to P6 that a PCB breaks, one of so many, with its number.
-fn pcb_fault(names: &[TypeName], count: usize, number: u8, pcb: &Pcb) -> Option<PsbFault>
-    ensures { result ≡ pcb_fault names.now count number pcb.now }
-{
-    if !seen_names_fit(names, pcb) {
-        return Some(PsbFault::P1(number));
-    }
-    if !parents_fit(names, pcb) {
-        return Some(PsbFault::P2(number));
-    }
-    if !order_fits(names, pcb) {
-        return Some(PsbFault::P3(number));
-    }
-    if !procopts_fit(pcb) {
-        return Some(PsbFault::P4(number));
-    }
-    if !load_fits(count, pcb) {
-        return Some(PsbFault::P5(number));
-    }
-    if pcb.sens.is_empty() {
-        return Some(PsbFault::P6(number));
-    }
-    None
-}
-
-/// Why these PCBs are no program, if they are none.
-fn program_fault(names: &[TypeName], pcbs: &[Pcb]) -> Option<PsbFault>
-    ensures fault { result ≡ program_fault names.now pcbs.now }
-    ensures none { IsNone result → IsTrue (program_fits names.now pcbs.now) }
-{
-    if pcbs.is_empty() || pcbs.len() > 255 {
-        return Some(PsbFault::P6(0));
-    }
-    for (place, pcb) in pcbs.iter().enumerate() {
-        let fault = pcb_fault(names, pcbs.len(), (place + 1) as u8, pcb);
-        if fault.is_some() {
-            return fault;
-        }
-    }
-    None
 }
 
 /// The name and parent of a type.

@@ -1,8 +1,8 @@
-ghost use Rattle.std.specs.Prelude.{◌≡◌, ◌≢◌, ◌+◌, ◌-◌, ◌*◌, ◌≤◌, ◌<◌, ◌||◌, Ok, Err, IfErr, bytes_eq, cond, is_ok, length, nat_le, not};
+ghost use Rattle.std.specs.Prelude.{◌≡◌, ◌+◌, ◌*◌, ◌≤◌, ◌<◌, ◌||◌, IsNone, IsTrue, bytes_eq, length, nat_le, not};
 ghost use Rattle.std.specs.List.{list_any};
 ghost use Rattle.hd_dbd.specs.Hierarchy.{levels_of};
-ghost use Rattle.hd_dbd.specs.DatabaseRules.{block_size_fits, free_space_fits, parent_fits, level_fits, part_fits, fields_fit, parts_fit, root_key_fits, field_names_differ, names_fit, sizes_fit, key_length_fits, type_fits, types_fit_from};
-ghost use Rattle.hd_dbd.specs.DatabaseFaults.{type_verdict, types_verdict_from};
+ghost use Rattle.hd_dbd.specs.DatabaseRules.{block_size_fits, free_space_fits, parent_fits, part_fits, fields_fit, parts_fit, root_key_fits, field_names_differ, names_fit, sizes_fit, key_length_fits, types_fit_from};
+ghost use Rattle.hd_dbd.specs.DatabaseFaults.{type_fault, types_fault_from};
 
 use crate::database::DbdFault;
 use crate::facts::{level_at, stored_size};
@@ -133,55 +133,55 @@ fn key_length_fits(segment: &SegType) -> bool
     segment.key.is_none_or(|key| key.length <= 255)
 }
 
-/// The rule of the least number that the type of a code breaks, if it breaks one.
-fn check_type(
+/// The first of the rules B3 to B9 that the type of a code breaks.
+fn type_fault(
     block_size: u32,
     types: &[SegType],
     levels: &[u8],
     code: u8,
     segment: &SegType,
-) -> Result<(), DbdFault>
+) -> Option<DbdFault>
     requires count { length types.now ≤ 255 }
     requires levels { levels.now ≡ levels_of types.now }
     requires here { (0 < code) × (code ≤ length types.now) }
-    ensures ok { is_ok result ≡ type_fits block_size types.now code segment.now }
-    ensures first { result ≡ type_verdict block_size types.now code segment.now }
-    ensures not_memory { IfErr result (λ f. f ≢ DbdFault.Memory) }
+    ensures { result ≡ type_fault block_size types.now code segment.now }
 {
     if !level_fits(level_at(levels, code), code, segment) {
-        return Err(DbdFault::B3(code));
+        return Some(DbdFault::B3(code));
     }
     if !parent_fits(code, segment) {
-        return Err(DbdFault::B4(code));
+        return Some(DbdFault::B4(code));
     }
     if !parts_fit(segment) {
-        return Err(DbdFault::B5(code));
+        return Some(DbdFault::B5(code));
     }
     if !root_key_fits(code, segment) {
-        return Err(DbdFault::B6(code));
+        return Some(DbdFault::B6(code));
     }
     if !names_fit(types, code, segment) {
-        return Err(DbdFault::B7(code));
+        return Some(DbdFault::B7(code));
     }
     if !sizes_fit(block_size, types, code, segment) {
-        return Err(DbdFault::B8(code));
+        return Some(DbdFault::B8(code));
     }
     if !key_length_fits(segment) {
-        return Err(DbdFault::B9(code));
+        return Some(DbdFault::B9(code));
     }
-    Ok(())
+    None
 }
 
-/// The rule of the least number that the first type breaks that breaks one.
-pub fn check_types(block_size: u32, types: &[SegType], levels: &[u8]) -> Result<(), DbdFault>
+/// The first of the rules B3 to B9 that the first type breaks that breaks one.
+pub fn types_fault(block_size: u32, types: &[SegType], levels: &[u8]) -> Option<DbdFault>
     requires count { length types.now ≤ 255 }
     requires levels { levels.now ≡ levels_of types.now }
-    ensures ok { is_ok result ≡ types_fit_from block_size types.now 1 types.now }
-    ensures first { result ≡ types_verdict_from block_size types.now 1 types.now }
-    ensures not_memory { IfErr result (λ f. f ≢ DbdFault.Memory) }
+    ensures fault { result ≡ types_fault_from block_size types.now 1 types.now }
+    ensures none { IsNone result → IsTrue (types_fit_from block_size types.now 1 types.now) }
 {
     for (place, segment) in types.iter().enumerate() {
-        check_type(block_size, types, levels, place as u8 + 1, segment)?;
+        let fault = type_fault(block_size, types, levels, place as u8 + 1, segment);
+        if fault.is_some() {
+            return fault;
+        }
     }
-    Ok(())
+    None
 }

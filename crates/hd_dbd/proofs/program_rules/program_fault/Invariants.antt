@@ -1,6 +1,6 @@
 use Rattle.std.proofs.Common.{◌≡◌, ◌+◌, drop, length}
-use Rattle.hd_dbd.specs.ProgramRules.{fault_from}
-use Rattle.hd_dbd.proofs.program.program_fault.Given as goal
+use Rattle.hd_dbd.specs.ProgramFaults.{fault_from}
+use Rattle.hd_dbd.proofs.program_rules.program_fault.Given as goal
 
 -- what is left of the list gives the answer of all of it
 abbrev pub invariant-loop-place : goal.invariant-loop-place

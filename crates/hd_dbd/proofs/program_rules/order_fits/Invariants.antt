@@ -1,6 +1,6 @@
 use Rattle.std.proofs.Common.{◌≡◌, drop}
 use Rattle.hd_dbd.specs.ProgramRules.{order_fits, ascends_from}
-use Rattle.hd_dbd.proofs.program.order_fits.Given as goal
+use Rattle.hd_dbd.proofs.program_rules.order_fits.Given as goal
 
 -- what is left of the list gives the answer of all of it
 abbrev pub invariant-loop-sens : goal.invariant-loop-sens
