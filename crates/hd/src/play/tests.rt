@@ -21,7 +21,8 @@ fn play_deck(rt: &HostRuntime, deck: &[u8]) -> Played {
 #[test]
 fn plays_by_a_pcb_that_sees_no_students(rt: HostRuntime) {
     let end = play_deck(&rt, b"S 3\nL   4 GN\n");
-    let want = b"1 3 GN   [  ] 01 COURSE   key=101 area=101ALGEB\n2 3 GN   [  ] 02 CLASS    key=10101 area=01AB\n3 3 GN   [  ] 02 CLASS    key=10102 area=02CD\n4 3 GN   [GK] 02 BOOK     key=101 area=EULER\n";
+    let want =
+        b"1 3 GN   [  ] 01 COURSE   key=101 area=101ALGEB\n2 3 GN   [  ] 02 CLASS    key=10101 area=01AB\n3 3 GN   [  ] 02 CLASS    key=10102 area=02CD\n4 3 GN   [GK] 02 BOOK     key=101 area=EULER\n";
     assert_eq!(rt; end.out.as_slice(), want.as_slice());
     assert_eq!(rt; end.status, 0);
     assert_eq!(rt; end.err.len(), 0);
@@ -29,8 +30,12 @@ fn plays_by_a_pcb_that_sees_no_students(rt: HostRuntime) {
 
 #[test]
 fn keeps_a_position_for_each_pcb(rt: HostRuntime) {
-    let end = play_deck(&rt, b"S 2\r\nL     GN\r\n* back to PCB 1\r\nS 1\r\nL   2 GN\r\nL     GNP");
-    let want = b"1 2 GN   [  ] 01 COURSE   key=101 area=101ALGEB\n2 1 GN   [  ] 01 COURSE   key=101 area=101ALGEB\n3 1 GN   [  ] 02 CLASS    key=10101 area=01AB\n4 1 GNP  [AD] 00          key= area=\n";
+    let end = play_deck(
+        &rt,
+        b"S 2\r\nL     GN\r\n* back to PCB 1\r\nS 1\r\nL   2 GN\r\nL     GNP",
+    );
+    let want =
+        b"1 2 GN   [  ] 01 COURSE   key=101 area=101ALGEB\n2 1 GN   [  ] 01 COURSE   key=101 area=101ALGEB\n3 1 GN   [  ] 02 CLASS    key=10101 area=01AB\n4 1 GNP  [AD] 00          key= area=\n";
     assert_eq!(rt; end.out.as_slice(), want.as_slice());
     assert_eq!(rt; end.status, 0);
 }
@@ -41,7 +46,8 @@ fn finds_nothing_in_an_empty_database(rt: HostRuntime) {
     let mut out = Vec::new(rt.alloc());
     let rows = Vec::new(rt.alloc());
     let end = play_rows(rt.alloc(), rows, &mut input, &mut out);
-    let want = b"1 1 GU   [GE] 00          key= area=\n2 1 GN   [GB] 00          key= area=\n3 1 GU   [AJ] 00          key= area=\n";
+    let want =
+        b"1 1 GU   [GE] 00          key= area=\n2 1 GN   [GB] 00          key= area=\n3 1 GU   [AJ] 00          key= area=\n";
     assert!(rt; end.is_ok());
     assert_eq!(rt; out.as_slice(), want.as_slice());
 }
@@ -143,7 +149,10 @@ fn reads_on_after_an_interruption(rt: HostRuntime) {
     let mut err = Vec::new(rt.alloc());
     let status = play(&rt, &[], &mut input, &mut out, &mut err);
     assert_eq!(rt; status, 0);
-    assert_eq!(rt; out.as_slice(), b"1 1 GN   [  ] 01 COURSE   key=101 area=101ALGEB\n".as_slice());
+    assert_eq!(rt;
+        out.as_slice(),
+        b"1 1 GN   [  ] 01 COURSE   key=101 area=101ALGEB\n".as_slice()
+    );
 }
 
 #[test]
