@@ -17,7 +17,7 @@ run: bin/hd
 
 try:
 	@echo 'This is the unproved build: it is run before any proof.' >&2
-	cd crates/hd && rt try
+	cd crates/hd && rt try <stdin
 
 test:
 	rt ci

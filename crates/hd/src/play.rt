@@ -82,3 +82,6 @@ fn play_rows<I: Read, O: Write>(
         Err(_) => Err(Stop::Device),
     }
 }
+
+#[cfg(test)]
+mod tests;

@@ -10,3 +10,6 @@ pub mod Sequences
 pub mod Forests
 pub mod Twins
 pub mod Faults
+pub mod RowPaths
+pub mod Walks
+pub mod InSequence

@@ -102,14 +102,14 @@ siblings_trans types p q r h k = by_cases (siblings_cases types p q h) (siblings
 -- ---- what stands on the path
 
 -- in front of the place that a row takes the path is kept
-path_kept : (path : List Segment) (n i : ℕ) (ys : List Segment) → i < n → i < length path → slice_get (take n path ++ ys) i ≡ slice_get path i
+pub path_kept : (path : List Segment) (n i : ℕ) (ys : List Segment) → i < n → i < length path → slice_get (take n path ++ ys) i ≡ slice_get path i
 path_kept [] n i ys low within = absurd (omega arith)
 path_kept (x ∷ path) zero i ys low within = absurd (omega arith)
 path_kept (x ∷ path) (suc n) zero ys low within = refl
 path_kept (x ∷ path) (suc n) (suc i) ys low within = path_kept path n i ys (omega arith) (omega arith)
 
 -- there the row itself stands
-path_ends : (path : List Segment) (n : ℕ) (r : Segment) → n ≤ length path → slice_get (take n path ++ r ∷ []) n ≡ Some r
+pub path_ends : (path : List Segment) (n : ℕ) (r : Segment) → n ≤ length path → slice_get (take n path ++ r ∷ []) n ≡ Some r
 path_ends path zero r within = refl
 path_ends [] (suc n) r within = absurd (omega arith)
 path_ends (x ∷ path) (suc n) r within = path_ends path n r (omega arith)
@@ -173,7 +173,7 @@ ascend types leveled path (r ∷ rows) (suc i) (suc j) valid before within deep 
 -- ---- rows of one parent
 
 -- the nearest row above is an earlier one
-nearest_before : (types : List SegType) (rows : List Segment) (l n k : ℕ) → nearest_above types rows l n ≡ Some k → k < n
+pub nearest_before : (types : List SegType) (rows : List Segment) (l n k : ℕ) → nearest_above types rows l n ≡ Some k → k < n
 nearest_before types rows l zero k is = cc
 nearest_before types rows l (suc n) k is = elim (cases_Bool (nat_lt (level_at types rows n) l)) [
   | inl above ↦ (let found : Some n ≡ Some k = sym (cond-true (nat_lt (level_at types rows n) l) (Some n) (nearest_above types rows l n) above) ∙ is in
@@ -194,6 +194,19 @@ none_between types rows l i (suc j) one k from below = elim (cases_Bool (nat_lt 
   ]
 ]
 
+-- of two rows of one level and one parent, or roots, the second is in order behind the first
+pub rows_ascend : (types : List SegType) (leveled : Leveled types) (rows : List Segment) (i j : ℕ) → valid_from types [] rows ≡ true → i < j → j < length rows
+    → level_at types rows j ≡ level_at types rows i → parent_row types rows i ≡ parent_row types rows j
+    → siblings_in_order types (row_at rows i) (row_at rows j) ≡ true
+rows_ascend types leveled rows i j valid before within same parent =
+    let one : nearest_above types rows (level_at types rows i) i ≡ nearest_above types rows (level_at types rows i) j =
+    parent ∙ ap (λ (l : ℕ). nearest_above types rows l j) same in
+    let deep : (k : ℕ) → i ≤ k → k < j + 1 → level_at types rows i ≤ level_at types rows k = (λ k from below. elim (cases_eq k j) [
+      | inl last ↦ subst (λ (n : ℕ). level_at types rows i ≤ level_at types rows n) (sym last) (omega arith)
+      | inr other ↦ none_between types rows (level_at types rows i) i j one k from (omega arith)
+    ]) in
+    ascend types leveled [] rows i j valid before within deep same
+
 -- twins stand in key order
 pub twins_ascend : (types : List SegType) (leveled : Leveled types) (rows : List Segment) (i j : ℕ) → valid_from types [] rows ≡ true → i < j → j < length rows
     → is_twin types rows i j ≡ true → twins_in_order types (row_at rows i) (row_at rows j) ≡ true
@@ -202,11 +215,5 @@ twins_ascend types leveled rows i j valid before within twins =
     let code : (row_at rows i).code ≡ (row_at rows j).code = eqb-true (row_at rows i).code (row_at rows j).code parts.0 in
     let same : level_at types rows j ≡ level_at types rows i = ap (λ (c : ℕ). level_of types c) (sym code) in
     let parent : parent_row types rows i ≡ parent_row types rows j = (option_eq-Decides _ _).0 parts.1 in
-    let one : nearest_above types rows (level_at types rows i) i ≡ nearest_above types rows (level_at types rows i) j =
-    parent ∙ ap (λ (l : ℕ). nearest_above types rows l j) same in
-    let deep : (k : ℕ) → i ≤ k → k < j + 1 → level_at types rows i ≤ level_at types rows k = (λ k from below. elim (cases_eq k j) [
-      | inl last ↦ subst (λ (n : ℕ). level_at types rows i ≤ level_at types rows n) (sym last) (omega arith)
-      | inr other ↦ none_between types rows (level_at types rows i) i j one k from (omega arith)
-    ]) in
-    let order : siblings_in_order types (row_at rows i) (row_at rows j) ≡ true = ascend types leveled [] rows i j valid before within deep same in
-    sym (cond-true ((row_at rows i).code == (row_at rows j).code) (twins_in_order types (row_at rows i) (row_at rows j)) (nat_lt (row_at rows i).code (row_at rows j).code) parts.0) ∙ order
+    sym (cond-true ((row_at rows i).code == (row_at rows j).code) (twins_in_order types (row_at rows i) (row_at rows j)) (nat_lt (row_at rows i).code (row_at rows j).code) parts.0)
+    ∙ rows_ascend types leveled rows i j valid before within same parent

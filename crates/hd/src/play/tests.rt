@@ -1,0 +1,179 @@
+use super::*;
+use std::io;
+use std::io::ErrorKind;
+
+/// What a play of a deck wrote and answered.
+#[derive(Drop)]
+struct Played {
+    status: u8,
+    out: Vec<u8>,
+    err: Vec<u8>,
+}
+
+fn play_deck(rt: &HostRuntime, deck: &[u8]) -> Played {
+    let mut input = deck;
+    let mut out = Vec::new(rt.alloc());
+    let mut err = Vec::new(rt.alloc());
+    let status = play(rt, &[], &mut input, &mut out, &mut err);
+    Played { status, out, err }
+}
+
+#[test]
+fn plays_by_a_pcb_that_sees_no_students(rt: HostRuntime) {
+    let end = play_deck(&rt, b"S 3\nL   4 GN\n");
+    let want =
+        b"1 3 GN   [  ] 01 COURSE   key=101 area=101ALGEB\n2 3 GN   [  ] 02 CLASS    key=10101 area=01AB\n3 3 GN   [  ] 02 CLASS    key=10102 area=02CD\n4 3 GN   [GK] 02 BOOK     key=101 area=EULER\n";
+    assert_eq!(rt; end.out.as_slice(), want.as_slice());
+    assert_eq!(rt; end.status, 0);
+    assert_eq!(rt; end.err.len(), 0);
+}
+
+#[test]
+fn keeps_a_position_for_each_pcb(rt: HostRuntime) {
+    let end = play_deck(
+        &rt,
+        b"S 2\r\nL     GN\r\n* back to PCB 1\r\nS 1\r\nL   2 GN\r\nL     GNP",
+    );
+    let want =
+        b"1 2 GN   [  ] 01 COURSE   key=101 area=101ALGEB\n2 1 GN   [  ] 01 COURSE   key=101 area=101ALGEB\n3 1 GN   [  ] 02 CLASS    key=10101 area=01AB\n4 1 GNP  [AD] 00          key= area=\n";
+    assert_eq!(rt; end.out.as_slice(), want.as_slice());
+    assert_eq!(rt; end.status, 0);
+}
+
+#[test]
+fn finds_nothing_in_an_empty_database(rt: HostRuntime) {
+    let mut input: &[u8] = b"L     GU\nL     GN\nL     GU   COURSE";
+    let mut out = Vec::new(rt.alloc());
+    let rows = Vec::new(rt.alloc());
+    let end = play_rows(rt.alloc(), rows, &mut input, &mut out);
+    let want =
+        b"1 1 GU   [GE] 00          key= area=\n2 1 GN   [GB] 00          key= area=\n3 1 GU   [AJ] 00          key= area=\n";
+    assert!(rt; end.is_ok());
+    assert_eq!(rt; out.as_slice(), want.as_slice());
+}
+
+#[test]
+fn refuses_rows_out_of_sequence(rt: HostRuntime) {
+    let mut input: &[u8] = b"L     GN";
+    let mut out = Vec::new(rt.alloc());
+    let mut rows = sample::rows(rt.alloc()).expect(&rt, "memory");
+    rows.reverse();
+    let end = play_rows(rt.alloc(), rows, &mut input, &mut out);
+    assert_eq!(rt; end.err().map(|stop| stop.status()), Some(1));
+    assert_eq!(rt; out.len(), 0);
+}
+
+#[test]
+fn names_the_first_fault_of_a_deck(rt: HostRuntime) {
+    for (deck, line) in [
+        (b"X".as_slice(), b"DECK refused: line 1, K1\n".as_slice()),
+        (b"L     G1", b"DECK refused: line 1, K2\n"),
+        (b"L     GN\nS 9", b"DECK refused: line 2, K3\n"),
+        (b"L  0  GN", b"DECK refused: line 1, K5\n"),
+        (&[b' '; 256], b"DECK refused: line 1, K6\n"),
+        (b"D101ALGEB", b"DECK refused: line 1, K1\n"),
+    ] {
+        let end = play_deck(&rt, deck);
+        assert_eq!(rt; end.status, 2);
+        assert_eq!(rt; end.err.as_slice(), line);
+        assert_eq!(rt; end.out.len(), 0);
+    }
+}
+
+#[test]
+fn answers_words_with_the_text_of_clap(rt: HostRuntime) {
+    for word in ["--help", "--version", "deck", "-x"] {
+        let words = [String::from_str(rt.alloc(), word).expect(&rt, "memory")];
+        let mut input: &[u8] = b"L     GN";
+        let mut out = Vec::new(rt.alloc());
+        let mut err = Vec::new(rt.alloc());
+        let status = play(&rt, &words, &mut input, &mut out, &mut err);
+        assert_eq!(rt; status, COMMAND_LINE, "at {word}");
+        assert_eq!(rt; out.len(), 0);
+        assert!(rt; err.len() > 0);
+    }
+}
+
+/// A reader of one byte at a time, interrupted before each, that may fail at its end; and a writer that has no room.
+#[derive(Drop)]
+struct FaultyStream<'a> {
+    rest: &'a [u8],
+    interrupted: bool,
+    fails: bool,
+}
+
+fn faulty(rest: &[u8], fails: bool) -> FaultyStream<'_> {
+    FaultyStream {
+        rest,
+        interrupted: false,
+        fails,
+    }
+}
+
+impl Read for FaultyStream<'_> {
+    fn read(&mut self, buf: &mut [u8]) -> io::Result<usize> {
+        if !self.interrupted {
+            self.interrupted = true;
+            return Err(io::Error::from(ErrorKind::Interrupted));
+        }
+        self.interrupted = false;
+        let Some((first, rest)) = self.rest.split_first() else {
+            if self.fails {
+                return Err(io::Error::from(ErrorKind::Other));
+            }
+            return Ok(0);
+        };
+        let Some(place) = buf.first_mut() else {
+            return Ok(0);
+        };
+        *place = *first;
+        self.rest = rest;
+        Ok(1)
+    }
+}
+
+impl Write for FaultyStream<'_> {
+    fn write(&mut self, _buf: &[u8]) -> io::Result<usize> {
+        Err(io::Error::from(ErrorKind::StorageFull))
+    }
+
+    fn flush(&mut self) -> io::Result<()> {
+        Ok(())
+    }
+}
+
+#[test]
+fn reads_on_after_an_interruption(rt: HostRuntime) {
+    let mut input = faulty(b"L     GN\n", false);
+    let mut out = Vec::new(rt.alloc());
+    let mut err = Vec::new(rt.alloc());
+    let status = play(&rt, &[], &mut input, &mut out, &mut err);
+    assert_eq!(rt; status, 0);
+    assert_eq!(rt;
+        out.as_slice(),
+        b"1 1 GN   [  ] 01 COURSE   key=101 area=101ALGEB\n".as_slice()
+    );
+}
+
+#[test]
+fn tells_of_a_failed_read(rt: HostRuntime) {
+    let mut input = faulty(b"L     GN\n", true);
+    let mut out = Vec::new(rt.alloc());
+    let mut err = Vec::new(rt.alloc());
+    let status = play(&rt, &[], &mut input, &mut out, &mut err);
+    assert_eq!(rt; status, 3);
+    assert_eq!(rt; err.as_slice(), b"device failed\n".as_slice());
+    assert_eq!(rt; out.len(), 0);
+}
+
+#[test]
+fn tells_of_a_failed_write(rt: HostRuntime) {
+    for deck in [b"L     GN\n".as_slice(), b"L9999 GN\n"] {
+        let mut input = deck;
+        let mut out = faulty(b"", true);
+        let mut err = Vec::new(rt.alloc());
+        let status = play(&rt, &[], &mut input, &mut out, &mut err);
+        assert_eq!(rt; status, 3);
+        assert_eq!(rt; err.as_slice(), b"device failed\n".as_slice());
+    }
+}
