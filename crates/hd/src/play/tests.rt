@@ -1,4 +1,6 @@
 use super::*;
+use hd_dbd::{DbdFault, PsbFault, Refused};
+use hd_deck::{DeckFault, RunFault};
 use std::io;
 use std::io::ErrorKind;
 
@@ -175,5 +177,48 @@ fn tells_of_a_failed_write(rt: HostRuntime) {
         let status = play(&rt, &[], &mut input, &mut out, &mut err);
         assert_eq!(rt; status, 3);
         assert_eq!(rt; err.as_slice(), b"device failed\n".as_slice());
+    }
+}
+
+#[test]
+fn words_refusals_as_a_person_reads_them(rt: HostRuntime) {
+    for (stop, line) in [
+        (Stop::from(DbdFault::B10), "DBD refused: type 0, B10"),
+        (Stop::from(DbdFault::B1), "DBD refused: type 0, B1"),
+        (Stop::from(DbdFault::B2), "DBD refused: type 0, B2"),
+        (Stop::from(DbdFault::B3(16)), "DBD refused: type 16, B3"),
+        (Stop::from(DbdFault::B4(2)), "DBD refused: type 2, B4"),
+        (Stop::from(DbdFault::B5(1)), "DBD refused: type 1, B5"),
+        (Stop::from(DbdFault::B6(1)), "DBD refused: type 1, B6"),
+        (Stop::from(DbdFault::B7(3)), "DBD refused: type 3, B7"),
+        (Stop::from(DbdFault::B8(4)), "DBD refused: type 4, B8"),
+        (Stop::from(DbdFault::B9(1)), "DBD refused: type 1, B9"),
+        (Stop::from(PsbFault::P1(1)), "PSB refused: pcb 1, P1"),
+        (Stop::from(PsbFault::P2(2)), "PSB refused: pcb 2, P2"),
+        (Stop::from(PsbFault::P3(1)), "PSB refused: pcb 1, P3"),
+        (Stop::from(PsbFault::P4(1)), "PSB refused: pcb 1, P4"),
+        (Stop::from(PsbFault::P5(3)), "PSB refused: pcb 3, P5"),
+        (Stop::from(PsbFault::P6(0)), "PSB refused: pcb 0, P6"),
+    ] {
+        assert_eq!(rt;
+            stop.to_string(rt.alloc()).expect(&rt, "memory").as_str(),
+            line
+        );
+        assert_eq!(rt; stop.status(), 2);
+    }
+    for (stop, line, status) in [
+        (Stop::from(DbdFault::Memory), "no memory", 4),
+        (Stop::from(PsbFault::Memory), "no memory", 4),
+        (Stop::from(DeckFault::Memory), "no memory", 4),
+        (Stop::from(RunFault::Memory), "no memory", 4),
+        (Stop::from(Refused::Memory), "no memory", 4),
+        (Stop::from(RunFault::Write), "device failed", 3),
+        (Stop::Sample, "sample is not in hierarchic sequence", 1),
+    ] {
+        assert_eq!(rt;
+            stop.to_string(rt.alloc()).expect(&rt, "memory").as_str(),
+            line
+        );
+        assert_eq!(rt; stop.status(), status);
     }
 }
