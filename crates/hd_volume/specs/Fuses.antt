@@ -1,0 +1,27 @@
+-- What a fuse over a store is, and what an access makes of it.
+use Rattle.std.specs.Prelude.{◌≡◌, ℕ, ◌+◌, ◌-◌, ◌^◌, Bool, true, false, not, ◌&&◌, ◌||◌, ◌==◌, cond, min}
+
+-- the store below, the accesses still to pass, whether one has failed, and the accesses so far
+pub record Fused (S : Type 0) : Type 0 where
+  pub inner : S
+  pub passes : ℕ
+  pub is_blown : Bool
+  pub accesses : ℕ
+
+module _ {S : Type 0} where
+  -- the next access fails
+  abbrev pub fails_next : Fused S → Bool
+  fails_next fuse = fuse.passes == 0 && not fuse.is_blown
+
+  -- how many accesses the fuse has failed itself
+  abbrev pub failed : Fused S → ℕ
+  failed fuse = cond fuse.is_blown 1 0
+
+  -- the fuse after an access that left this store below
+  abbrev pub after_access : Fused S → S → Fused S
+  after_access fuse inner = record {
+    inner = inner;
+    passes = fuse.passes - 1;
+    is_blown = fuse.passes == 0;
+    accesses = min (fuse.accesses + 1) (2 ^ 64 - 1);
+  }
