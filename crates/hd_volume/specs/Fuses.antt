@@ -1,5 +1,8 @@
 -- What a fuse over a store is, and what an access makes of it.
-use Rattle.std.specs.Prelude.{◌≡◌, ℕ, ◌+◌, ◌-◌, ◌^◌, Bool, true, false, not, ◌&&◌, ◌||◌, ◌==◌, cond, min}
+use Rattle.std.specs.Prelude.{◌≡◌, ℕ, ◌+◌, ◌-◌, ◌^◌, Bool, true, false, not, ◌&&◌, ◌||◌, ◌==◌, cond, min, Result, Err}
+use Rattle.hd_dbd.specs.declared.answer.Refused.{Refused}
+use Rattle.hd_dbd.specs.declared.answer.Refused.TheVariants.{Device}
+use Rattle.hd_volume.specs.Stores.{CountsDevice, StaysSound}
 
 -- the store below, the accesses still to pass, whether one has failed, and the accesses so far
 pub record Fused (S : Type 0) : Type 0 where
@@ -22,6 +25,15 @@ module _ {S : Type 0} where
   after_access fuse inner = record {
     inner = inner;
     passes = fuse.passes - 1;
-    is_blown = fuse.passes == 0;
+    is_blown = fuse.is_blown || fuse.passes == 0;
     accesses = min (fuse.accesses + 1) (2 ^ 64 - 1);
   }
+
+-- an access at a fuse over a store with these meanings: the one that is due to fail fails with no effect below,
+-- and every other answers for the store below alone
+pub record Burns {S : Type 0} (failures : S → ℕ) (is_sound : S → Bool) (old : Fused S) (result : Result Unit Refused) (new : Fused S) : Type 0 where
+  pub fuse : new ≡ after_access old new.inner
+  pub fails : fails_next old ≡ true → result ≡ Err Device
+  pub spares : fails_next old ≡ true → new.inner ≡ old.inner
+  pub counts : fails_next old ≡ false → CountsDevice result (failures old.inner) (failures new.inner)
+  pub sound : fails_next old ≡ false → StaysSound result (is_sound old.inner) (is_sound new.inner)
