@@ -1,5 +1,6 @@
 ghost use Rattle.std.specs.Prelude.{◌≡◌, ◌+◌, ◌*◌, ◌<◌, ◌≤◌, ◌^◌, [], false, length, IfErr, IfOk, OnOk, OnErr, MatchResult};
-ghost use Rattle.hd_volume.specs.Stores.{CountsDevice, RefusesGrowth};
+ghost use Rattle.hd_volume.specs.Files.{Accesses, with_failure};
+ghost use Rattle.hd_volume.specs.Stores.{CountsDevice, RefusesGrowth, StaysSound};
 
 use crate::store::BlockStore;
 use hd_dbd::Refused;
@@ -54,7 +55,7 @@ impl<L: Ledger> FileStore<L> {
     }
 
     fn fail(&mut self) -> Refused
-        ensures counts { self.new ≡ record self.old { failures = self.old.failures + 1 } }
+        ensures counts { self.new ≡ with_failure self.old }
         ensures device { result ≡ Refused.Device }
     {
         self.failed.add(&mut self.share, 1);
@@ -89,7 +90,13 @@ impl<L: Ledger> BlockStore for FileStore<L> {
         self.length
     }
 
-    fn read(&mut self, n: u32, buf: &mut [u8]) -> Result<(), Refused> {
+    fn read(&mut self, n: u32, buf: &mut [u8]) -> Result<(), Refused>
+        ensures accesses { Accesses result self.old self.new }
+        ensures len { length buf.new ≡ length buf.old }
+        ensures refusal { IfErr result (λ e. e ≡ Refused.Device) }
+        ensures counts { CountsDevice result self.old.failures self.new.failures }
+        ensures sound { StaysSound result false false }
+    {
         let place = self.place_of(n);
         match self.file.read_exact_at(buf, place) {
             Ok(()) => Ok(()),
@@ -97,7 +104,12 @@ impl<L: Ledger> BlockStore for FileStore<L> {
         }
     }
 
-    fn write(&mut self, n: u32, bytes: &[u8]) -> Result<(), Refused> {
+    fn write(&mut self, n: u32, bytes: &[u8]) -> Result<(), Refused>
+        ensures accesses { Accesses result self.old self.new }
+        ensures refusal { IfErr result (λ e. e ≡ Refused.Device) }
+        ensures counts { CountsDevice result self.old.failures self.new.failures }
+        ensures sound { StaysSound result false false }
+    {
         let place = self.place_of(n);
         match self.file.write_all_at(bytes, place) {
             Ok(()) => Ok(()),
@@ -105,11 +117,22 @@ impl<L: Ledger> BlockStore for FileStore<L> {
         }
     }
 
-    fn reserve(&mut self, _blocks: u32) -> Result<(), Refused> {
+    fn reserve(&mut self, blocks: u32) -> Result<(), Refused>
+        ensures ok { result ≡ Ok tt }
+        ensures same { self.new ≡ self.old }
+        ensures room { OnOk result (blocks ≤ 2 ^ 32) }
+    {
         Ok(())
     }
 
-    fn grow(&mut self, blocks: u32) -> Result<(), Refused> {
+    fn grow(&mut self, blocks: u32) -> Result<(), Refused>
+        ensures grows { OnOk result (self.new ≡ record self.old { length = self.old.length + blocks * self.old.size }) }
+        ensures fails { OnErr result (self.new ≡ with_failure self.old) }
+        ensures device { IfErr result (λ e. e ≡ Refused.Device) }
+        ensures refusal { IfErr result (λ e. RefusesGrowth e (2 ^ 32) blocks) }
+        ensures counts { CountsDevice result self.old.failures self.new.failures }
+        ensures sound { StaysSound result false false }
+    {
         let Some(length) = self.length.checked_add(self.place_of(blocks)) else {
             return Err(self.fail());
         };
