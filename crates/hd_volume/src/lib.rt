@@ -10,3 +10,6 @@ pub use file::FileStore;
 pub use fuse::FuseStore;
 pub use memory::MemStore;
 pub use store::BlockStore;
+
+#[cfg(test)]
+mod tests;

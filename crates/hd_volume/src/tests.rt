@@ -1,0 +1,99 @@
+ghost use Rattle.std.specs.Prelude.{◌≡◌, ◌<◌, IfOk};
+
+use super::*;
+use hd_dbd::Refused;
+use std::alloc::{AllocError, Global};
+use std::fs::{File, OpenOptions};
+use std::io;
+use std::marker::Brand;
+use std::sync::ledger::{Blank, Ledger};
+use std::test::Fail;
+
+fn read_block<S: BlockStore>(store: &mut S, n: u32) -> Result<[u8; 4], Refused>
+    requires { S.size store.old ≡ 4 }
+    ensures { S.size store.new ≡ 4 }
+{
+    if u64::from(n) * 4 + 4 > store.length() {
+        return Err(Refused::Full);
+    }
+    let mut block = [0; 4];
+    store.read(n, &mut block)?;
+    Ok(block)
+}
+
+fn write_block<S: BlockStore>(store: &mut S, n: u32, byte: u8) -> Result<(), Refused>
+    requires { S.size store.old ≡ 4 }
+    ensures { S.size store.new ≡ 4 }
+{
+    if u64::from(n) * 4 + 4 > store.length() {
+        return Err(Refused::Full);
+    }
+    store.write(n, &[byte; 4])
+}
+
+fn three_blocks(alloc: Global) -> Result<MemStore, AllocError>
+    ensures { IfOk result (λ store. store.size ≡ 4) }
+{
+    let mut bytes = Vec::new(alloc);
+    bytes.resize(12, 0)?;
+    Ok(MemStore::new(4, bytes))
+}
+
+#[test]
+fn keeps_blocks_in_memory(rt: HostRuntime) -> Result<(), Fail> {
+    let mut store = three_blocks(rt.alloc())?;
+    assert_eq!(rt; store.reserve(2), Ok(()));
+    assert_eq!(rt; store.grow(2), Ok(()));
+    assert_eq!(rt; write_block(&mut store, 3, 7), Ok(()));
+    assert_eq!(rt; read_block(&mut store, 3), Ok([7; 4]));
+    assert_eq!(rt; read_block(&mut store, 4), Ok([0; 4]));
+    assert_eq!(rt; store.block_size(), 4);
+    assert_eq!(rt; store.length(), 20);
+    let want = [0, 0, 0, 0, 0, 0, 0, 0, 0, 0, 0, 0, 7, 7, 7, 7, 0, 0, 0, 0];
+    assert_eq!(rt; store.into_bytes().as_slice(), want.as_slice());
+    Ok(())
+}
+
+#[test]
+fn finds_no_memory_for_all_blocks(rt: HostRuntime) -> Result<(), Fail> {
+    let mut bytes = Vec::new(rt.alloc());
+    bytes.push(5)?;
+    let mut store = MemStore::new(32768, bytes);
+    assert_eq!(rt; store.reserve(u32::MAX), Err(Refused::Memory));
+    assert_eq!(rt; store.grow(u32::MAX), Err(Refused::Memory));
+    assert_eq!(rt; store.into_bytes().as_slice(), [5].as_slice());
+    Ok(())
+}
+
+/// Grows by three blocks, writes two blocks and reads them.
+fn play(store: &mut FuseStore<MemStore>) -> [Result<(), Refused>; 5]
+    requires { store.old.inner.size ≡ 4 }
+    ensures { store.new.inner.size ≡ 4 }
+{
+    [
+        store.grow(3),
+        write_block(store, 0, 1),
+        write_block(store, 2, 2),
+        read_block(store, 0).map(|_| ()),
+        read_block(store, 2).map(|_| ()),
+    ]
+}
+
+#[test]
+fn fails_one_access(rt: HostRuntime) -> Result<(), Fail> {
+    for k in 0..6 {
+        let mut store = FuseStore::new(three_blocks(rt.alloc())?, k);
+        let answers = play(&mut store);
+        for (answer, n) in answers.iter().zip(0u64..) {
+            let want = if n == k { Err(Refused::Device) } else { Ok(()) };
+            assert_eq!(rt; *answer, want, "access {n} of a fuse of {k}");
+        }
+        assert_eq!(rt; store.accesses(), 5);
+        let bytes = store.into_inner().into_bytes();
+        let length = if k == 0 { 12 } else { 24 };
+        assert_eq!(rt; bytes.len(), length);
+        assert_eq!(rt; bytes.first(), Some(&if k == 1 { 0 } else { 1 }));
+        assert_eq!(rt; bytes.get(8), Some(&if k == 2 { 0 } else { 2 }));
+    }
+    Ok(())
+}
