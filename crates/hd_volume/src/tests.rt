@@ -4,10 +4,10 @@ use super::*;
 use hd_dbd::Refused;
 use std::alloc::{AllocError, Global};
 use std::fs::{File, OpenOptions};
-use std::io;
 use std::marker::Brand;
 use std::sync::ledger::{Blank, Ledger};
 use std::test::Fail;
+use std::{fs, io};
 
 fn read_block<S: BlockStore>(store: &mut S, n: u32) -> Result<[u8; 4], Refused>
     requires { S.size store.old ≡ 4 }
@@ -95,5 +95,91 @@ fn fails_one_access(rt: HostRuntime) -> Result<(), Fail> {
         assert_eq!(rt; bytes.first(), Some(&if k == 1 { 0 } else { 1 }));
         assert_eq!(rt; bytes.get(8), Some(&if k == 2 { 0 } else { 2 }));
     }
+    Ok(())
+}
+
+/// What calls of a store of blocks of four bytes answered, its length at the end, and the block last read.
+#[derive(Drop)]
+struct Filled {
+    answers: [Result<(), Refused>; 5],
+    length: u64,
+    block: [u8; 4],
+}
+
+/// Grows by two blocks, writes block 1 and reads it, and reads past the end.
+fn fill_counted<L: Ledger>(file: File, blank: Blank) -> io::Result<Filled>
+    requires name { blank.name ≡ L.name }
+    requires parts { blank.parts ≡ L.parts }
+    requires share { 0 < blank.parts }
+{
+    let mut store: FileStore<L> = FileStore::over(file, 4, blank)?;
+    let mut block = [0; 4];
+    let answers = [
+        store.reserve(2),
+        store.grow(2),
+        store.write(1, &[9; 4]),
+        store.read(1, &mut block),
+        store.read(3, &mut [0; 4]),
+    ];
+    let length = store.length();
+    Ok(Filled {
+        answers,
+        length,
+        block,
+    })
+}
+
+fn fill(file: File) -> io::Result<Filled> {
+    fill_counted::<Brand>(file, Blank::new(1))
+}
+
+const PAST_THE_END: [Result<(), Refused>; 5] = [
+    Ok(()),
+    Ok(()),
+    Ok(()),
+    Ok(()),
+    Err(Refused::Device),
+];
+
+#[test]
+fn keeps_blocks_in_a_file(rt: HostRuntime) -> Result<(), Fail> {
+    let mut new = OpenOptions::new();
+    new.read(true).write(true).create(true).truncate(true);
+    let filled = fill(new.open(&rt, "blocks")?)?;
+    assert_eq!(rt; filled.answers, PAST_THE_END);
+    assert_eq!(rt; filled.length, 8);
+    assert_eq!(rt; filled.block, [9; 4]);
+    let bytes = fs::read(&rt, "blocks")?;
+    assert_eq!(rt; bytes.as_slice(), [0, 0, 0, 0, 9, 9, 9, 9].as_slice());
+    let mut old = OpenOptions::new();
+    old.read(true).write(true);
+    let again = fill(old.open(&rt, "blocks")?)?;
+    assert_eq!(rt; again.answers, [Ok(()); 5]);
+    assert_eq!(rt; again.length, 16);
+    fs::remove_file(&rt, "blocks")?;
+    Ok(())
+}
+
+#[test]
+fn takes_a_file_of_any_length(rt: HostRuntime) -> Result<(), Fail> {
+    let mut new = OpenOptions::new();
+    new.read(true).write(true).create(true).truncate(true);
+    let file = new.open(&rt, "odd_bytes")?;
+    file.set_len(5)?;
+    let filled = fill(file)?;
+    assert_eq!(rt; filled.answers, PAST_THE_END);
+    assert_eq!(rt; filled.length, 13);
+    fs::remove_file(&rt, "odd_bytes")?;
+    Ok(())
+}
+
+#[test]
+fn tells_of_a_full_device(rt: HostRuntime) -> Result<(), Fail> {
+    let mut old = OpenOptions::new();
+    old.read(true).write(true);
+    let filled = fill(old.open(&rt, "/dev/full")?)?;
+    let device = Err(Refused::Device);
+    assert_eq!(rt; filled.answers, [Ok(()), device, device, Ok(()), Ok(())]);
+    assert_eq!(rt; filled.length, 0);
     Ok(())
 }
