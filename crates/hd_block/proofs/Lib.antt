@@ -1,0 +1,6 @@
+pub mod Walk
+pub mod Reroute
+pub mod TakeLemmas
+pub mod GiveLemmas
+pub mod FrameLemmas
+pub mod LawLemmas

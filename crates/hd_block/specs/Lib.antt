@@ -1,0 +1,5 @@
+pub mod Extents
+pub mod Parts
+pub mod Changes
+pub mod Laws
+pub mod Found
