@@ -1,3 +1,4 @@
 pub mod LineCuts
 pub mod Columns
 pub mod Sources
+pub mod WorkedSources
