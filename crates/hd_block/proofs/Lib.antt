@@ -4,3 +4,4 @@ pub mod TakeLemmas
 pub mod GiveLemmas
 pub mod FrameLemmas
 pub mod LawLemmas
+pub mod PartLemmas

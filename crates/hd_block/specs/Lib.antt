@@ -3,3 +3,4 @@ pub mod Parts
 pub mod Changes
 pub mod Laws
 pub mod Found
+pub mod Walk

@@ -11,4 +11,4 @@ pub use holes::take_hole;
 pub use law::{
     law_one_division, law_room_is_filled, law_segments_are_apart, law_writes_keep_division,
 };
-pub use parts::Part;
+pub use parts::{Part, Parts};
