@@ -1,4 +1,4 @@
-ghost use Rattle.std.specs.Prelude.{◌≡◌, ◌+◌, ◌*◌, ◌<◌, ◌≤◌, ◌^◌, [], false, length, IfErr, IfOk, OnOk, OnErr, MatchResult};
+ghost use Rattle.std.specs.Prelude.{◌≡◌, ◌+◌, ◌*◌, ◌<◌, ◌≤◌, ◌^◌, [], false, length, IfErr, IfOk, OnOk, OnErr};
 ghost use Rattle.hd_volume.specs.Files.{Accesses, with_failure};
 ghost use Rattle.hd_volume.specs.Stores.{CountsDevice, RefusesGrowth, StaysSound};
 
@@ -54,6 +54,7 @@ impl<L: Ledger> FileStore<L> {
         })
     }
 
+    /// Counts a failed access.
     fn fail(&mut self) -> Refused
         ensures counts { self.new ≡ with_failure self.old }
         ensures device { result ≡ Refused.Device }
@@ -62,6 +63,7 @@ impl<L: Ledger> FileStore<L> {
         Refused::Device
     }
 
+    /// The bytes before block `n`.
     fn place_of(&self, n: u32) -> u64
         ensures { result ≡ n * self.now.size }
     {

@@ -1,4 +1,4 @@
-ghost use Rattle.std.specs.Prelude.{◌≡◌, ◌+◌, ◌-◌, ◌*◌, ◌<◌, ◌≤◌, ◌&&◌, not, ℕ, true, false, length, Err, IfErr, OnOk, IsTrue, if◌then◌else◌};
+ghost use Rattle.std.specs.Prelude.{◌≡◌, ◌+◌, ◌-◌, ◌≤◌, ◌&&◌, not, true, false, length, Err, IfErr, OnOk, IsTrue};
 ghost use Rattle.hd_bytes.specs.Blocks.{block_of, with_block, grown, HasBlock};
 ghost use Rattle.hd_volume.specs.Fuses.{fails_next, failed, after_access, Burns};
 ghost use Rattle.hd_volume.specs.Stores.{CountsDevice, StaysSound, RefusesGrowth};
@@ -9,7 +9,8 @@ use std::marker::Model;
 
 /// A store that passes so many accesses on to another, fails the next one, and passes all later ones.
 ///
-/// An access is a `read`, a `write` or a `grow`. The one that fails leaves the store below as it was.
+/// An access is a `read`, a `write` or a `grow`. The one that fails leaves the store below as it was. After it a
+/// `read` or a `write` of a block that is not there answers `Ok` and reaches nothing.
 #[derive(Drop)]
 pub struct FuseStore<S: BlockStore> {
     inner: S,
@@ -53,6 +54,7 @@ impl<S: BlockStore> FuseStore<S> {
         self.inner
     }
 
+    /// Counts an access. `Device` says that it is the one that fails.
     fn spend(&mut self) -> Result<(), Refused>
         ensures fuse { self.new ≡ after_access self.old self.old.inner }
         ensures inner { self.new.inner ≡ self.old.inner }
@@ -72,7 +74,7 @@ impl<S: BlockStore> FuseStore<S> {
         Err(Refused::Device)
     }
 
-    /// After its failure callers are asked nothing, so a block that is not there is passed over.
+    /// An access to block `n` may reach the store below. After the failure callers are not asked for a block that is there.
     fn may_pass(&self, n: u32) -> bool
         ensures passes { self.now.is_blown ≡ false → result ≡ true }
         ensures there { result ≡ true → self.now.is_blown ≡ true → IsTrue (S.is_sound self.now.inner) → HasBlock (S.size self.now.inner) (S.contents self.now.inner) n }
@@ -98,7 +100,10 @@ impl<S: BlockStore> BlockStore for FuseStore<S> {
         self.inner.block_size()
     }
 
-    fn length(&self) -> u64 {
+    fn length(&self) -> u64
+        ensures value { IsTrue (S.is_sound self.now.inner) → result ≡ length (S.contents self.now.inner) }
+        ensures sound { IsTrue (S.is_sound self.now.inner && not self.now.is_blown) → result ≡ length (S.contents self.now.inner) }
+    {
         self.inner.length()
     }
 

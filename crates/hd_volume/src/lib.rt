@@ -1,4 +1,4 @@
-//! Stores of blocks.
+//! Stores of blocks: in memory, in a file, and a fuse that fails one access of the store below it.
 #![tactic(auto)]
 
 mod file;

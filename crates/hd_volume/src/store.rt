@@ -1,4 +1,4 @@
-ghost use Rattle.std.specs.Prelude.{◌≡◌, ◌+◌, ◌-◌, ◌*◌, ◌<◌, ◌≤◌, ℕ, Bool, IsTrue, List, length, IfErr, OnOk};
+ghost use Rattle.std.specs.Prelude.{◌≡◌, ◌-◌, ◌<◌, ◌≤◌, ℕ, Bool, IsTrue, List, length, IfErr, OnOk};
 ghost use Rattle.hd_bytes.specs.Blocks.{block_of, with_block, grown, HasBlock};
 ghost use Rattle.hd_volume.specs.Stores.{CountsDevice, StaysSound, RefusesGrowth};
 

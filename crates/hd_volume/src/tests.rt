@@ -9,6 +9,7 @@ use std::sync::ledger::{Blank, Ledger};
 use std::test::Fail;
 use std::{fs, io};
 
+/// Reads a block of four bytes. `Full` says that the store has no such block.
 fn read_block<S: BlockStore>(store: &mut S, n: u32) -> Result<[u8; 4], Refused>
     requires { S.size store.old ≡ 4 }
     ensures { S.size store.new ≡ 4 }
@@ -21,6 +22,7 @@ fn read_block<S: BlockStore>(store: &mut S, n: u32) -> Result<[u8; 4], Refused>
     Ok(block)
 }
 
+/// Writes four equal bytes to a block. `Full` says that the store has no such block.
 fn write_block<S: BlockStore>(store: &mut S, n: u32, byte: u8) -> Result<(), Refused>
     requires { S.size store.old ≡ 4 }
     ensures { S.size store.new ≡ 4 }
