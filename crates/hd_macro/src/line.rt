@@ -1,7 +1,5 @@
-ghost use Rattle.std.specs.Prelude.{◌≡◌, ◌≢◌, [], cond, option_to_list, Ok, Err, IfOk, IfErr};
-ghost use Rattle.std.specs.Option.{option_map_or};
+ghost use Rattle.std.specs.Prelude.{◌≡◌, ◌≢◌, [], option_to_list, Ok, Err, IfOk, IfErr};
 ghost use Rattle.hd_macro.specs.Cards.{word, behind_word};
-ghost use Rattle.hd_macro.specs.Operands.{ended};
 ghost use Rattle.hd_macro.specs.Source.{nothing, operands, begin_statement, ending, finished, go_on, is_cut, read_line, read_open, skip_remarks, with_piece};
 ghost use Rattle.hd_macro.specs.Views.{open_of, reading_of, step_of};
 
@@ -148,10 +146,10 @@ fn skip_remarks(statement: Statement, number: usize, columns: &[u8; 80]) -> Resu
     }
 }
 
-/// Reads the text of a card from its operands on.
+/// Reads the text of a card from its operands on. That of a statement that lays out the listing is not judged.
 fn with_text(
     alloc: Global,
-    statement: Statement,
+    mut statement: Statement,
     reading: Reading,
     number: usize,
     columns: &[u8; 80],
@@ -163,48 +161,31 @@ fn with_text(
     let (piece, behind) = split_word(text);
     let goes_on = goes_on(columns) && is_cut(piece, behind);
     if is_listing(&statement.operation) {
-        return Ok(with_listing(statement, reading, columns, goes_on));
+        return Ok(if goes_on {
+            going_on(statement, reading)
+        } else {
+            ending(statement, columns)
+        });
     }
     let reading = read_text(alloc, reading, piece, number)?;
-    with_operands(statement, reading, number, columns, goes_on)
-}
-
-/// A statement that lays out the listing, whose operand text is not judged.
-fn with_listing(statement: Statement, reading: Reading, columns: &[u8; 80], goes_on: bool) -> Step
-    ensures { step_of result ≡ cond goes_on (record { done = []; open_behind = operands statement (reading_of reading) }) (ending statement columns.now) }
-{
     if goes_on {
-        Step {
-            done: None,
-            open_behind: Open::Operands(statement, reading),
-        }
-    } else {
-        ending(statement, columns)
-    }
-}
-
-/// A statement with the operand text so far, which goes on or ends.
-fn with_operands(
-    mut statement: Statement,
-    reading: Reading,
-    number: usize,
-    columns: &[u8; 80],
-    goes_on: bool,
-) -> Result<Step, LineFault>
-    ensures step { IfOk result (λ s. (cond goes_on (Ok (record { done = []; open_behind = operands statement (reading_of reading) })) (option_map_or (λ os. Ok (ending (record statement { operands = os }) columns.now)) (ended (reading_of reading)) (Err (LineFault.M4 number)))) ≡ Ok (step_of s)) }
-    ensures fault { IfErr result (λ e. e ≢ LineFault.Memory → (cond goes_on (Ok (record { done = []; open_behind = operands statement (reading_of reading) })) (option_map_or (λ os. Ok (ending (record statement { operands = os }) columns.now)) (ended (reading_of reading)) (Err (LineFault.M4 number)))) ≡ Err e) }
-{
-    if goes_on {
-        return Ok(Step {
-            done: None,
-            open_behind: Open::Operands(statement, reading),
-        });
+        return Ok(going_on(statement, reading));
     }
     statement.operands = ended(reading, number)?;
     Ok(ending(statement, columns))
 }
 
-/// A statement that ends with a columns, or whose remarks go on.
+/// A statement whose operands go on.
+fn going_on(statement: Statement, reading: Reading) -> Step
+    ensures { step_of result ≡ record { done = []; open_behind = operands statement (reading_of reading) } }
+{
+    Step {
+        done: None,
+        open_behind: Open::Operands(statement, reading),
+    }
+}
+
+/// A statement that ends with a card, or whose remarks go on.
 fn ending(statement: Statement, columns: &[u8; 80]) -> Step
     ensures { step_of result ≡ ending statement columns.now }
 {
