@@ -4,3 +4,4 @@ pub mod Changes
 pub mod Laws
 pub mod Found
 pub mod Walk
+pub mod Lent

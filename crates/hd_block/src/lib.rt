@@ -1,13 +1,13 @@
 //! A data block as the list of its extents: free elements and segments.
 #![tactic(auto)]
 
+mod block;
 mod gives;
 mod holes;
 mod law;
 mod parts;
 
-pub use gives::give_hole;
-pub use holes::take_hole;
+pub use block::Block;
 pub use law::{
     law_one_division, law_room_is_filled, law_segments_are_apart, law_writes_keep_division,
 };
