@@ -66,3 +66,106 @@ impl<'a> Block<'a> {
         Parts::new(self.bytes, self.dbd)
     }
 }
+
+#[cfg(test)]
+mod tests {
+    use super::*;
+    use crate::Part;
+    use hd_dbd::{DbdFault, FreeSpace, Key, Name8, Rule, SegType};
+    use std::alloc::{AllocError, Global};
+
+    /// A type of the sample database without its fields; key 0 for none, which is unique where it has three bytes or
+    /// fewer.
+    fn type_of(alloc: Global, name: Name8, parent: Option<u8>, length: u32, key: u32) -> SegType {
+        let start = 1;
+        let unique = key <= 3;
+        SegType {
+            name,
+            parent,
+            length,
+            key: if key == 0 {
+                None
+            } else {
+                Some(Key {
+                    start,
+                    length: key,
+                    unique,
+                })
+            },
+            rule: Rule::Last,
+            backward: key != 4,
+            last_pointer: key == 2 || key == 0,
+            fields: Vec::new(alloc),
+        }
+    }
+
+    fn sample_types(alloc: Global) -> Result<Vec<SegType>, AllocError> {
+        let course = Name8::from_padded(*b"COURSE  ").unwrap();
+        let class = Name8::from_padded(*b"CLASS   ").unwrap();
+        let student = Name8::from_padded(*b"STUD    ").unwrap();
+        let book = Name8::from_padded(*b"BOOK    ").unwrap();
+        Ok(vec![in alloc;
+            type_of(alloc, course, None, 8, 3),
+            type_of(alloc, class, Some(1), 4, 2),
+            type_of(alloc, student, Some(2), 6, 4),
+            type_of(alloc, book, Some(1), 5, 0),
+        ]?)
+    }
+
+    fn sample(alloc: Global) -> Result<Dbd, DbdFault> {
+        let name = Name8::from_padded(*b"EDU     ").unwrap();
+        let frspc = FreeSpace { fbff: 0, fspf: 0 };
+        let types = sample_types(alloc)?;
+        Dbd::new(alloc, name, 128, frspc, types)
+    }
+
+    /// Block 2 of the sample image: a book, a course, and a hole.
+    fn sample_block() -> [u8; 128] {
+        let mut bytes = [0; 128];
+        bytes[..4].copy_from_slice(b"\0\x40\x01\0");
+        bytes[8] = 4;
+        bytes[18..23].copy_from_slice(b"EULER");
+        bytes[24] = 1;
+        bytes[33] = 0x88;
+        bytes[50..58].copy_from_slice(b"205LOGIC");
+        bytes[67] = 64;
+        bytes
+    }
+
+    #[test]
+    fn reads_the_parts_of_a_block(rt: HostRuntime) {
+        let dbd = sample(rt.alloc()).expect(&rt, "a database");
+        let mut bytes = sample_block();
+        let block = Block::new(&mut bytes, &dbd);
+        let mut parts = block.parts();
+        assert_eq!(rt; parts.next(), Some(Part::Used(8, 16)));
+        assert_eq!(rt; parts.next(), Some(Part::Used(24, 40)));
+        assert_eq!(rt; parts.next(), Some(Part::Free(64, 64)));
+        assert_eq!(rt; parts.next(), None);
+    }
+
+    #[test]
+    fn takes_a_hole_behind_one_that_is_too_small(rt: HostRuntime) {
+        let dbd = sample(rt.alloc()).expect(&rt, "a database");
+        let mut bytes = sample_block();
+        let mut block = Block::new(&mut bytes, &dbd);
+        block.give(8, 16);
+        assert_eq!(rt; block.take(24), Some(64));
+        assert_eq!(rt; &bytes[..2], b"\0\x08".as_slice());
+        assert_eq!(rt; &bytes[8..16], b"\0\x58\0\x10\0\0\0\0".as_slice());
+        assert_eq!(rt; &bytes[88..96], b"\0\0\0\x28\0\0\0\0".as_slice());
+    }
+
+    #[test]
+    fn joins_holes_into_one(rt: HostRuntime) {
+        let dbd = sample(rt.alloc()).expect(&rt, "a database");
+        let mut bytes = sample_block();
+        let mut block = Block::new(&mut bytes, &dbd);
+        block.give(8, 16);
+        block.give(24, 40);
+        assert_eq!(rt; block.take(128), None);
+        let mut parts = block.parts();
+        assert_eq!(rt; parts.next(), Some(Part::Free(8, 120)));
+        assert_eq!(rt; parts.next(), None);
+    }
+}
