@@ -1,5 +1,5 @@
 -- The segments that a change of the chain of free elements leaves.
-use Rattle.std.proofs.Common.{◌≡◌, ◌≢◌, ℕ, ◌+◌, ◌-◌, ◌<◌, ◌≤◌, ◌⊎◌, inl, inr, List, [], ◌∷◌, ◌++◌, length, slice_index, refl, sym, ap, ◌∙◌, subst, arith}
+use Rattle.std.proofs.Common.{◌≡◌, ◌≢◌, ℕ, ◌+◌, ◌≤◌, ◌⊎◌, inl, inr, List, [], ◌∷◌, ◌++◌, sym, ◌∙◌, subst, arith}
 use Rattle.hd_bytes.specs.Ranges.{AgreeOn, ChangesOnly}
 use Rattle.hd_bytes.specs.Numbers.{number_at}
 use Rattle.hd_block.specs.Extents.{Extent, free, used, taken, UsedAt}
@@ -87,6 +87,7 @@ pub given-link-clear : {sizes : ℕ → ℕ} {b : List ℕ} {xs : List Extent} {
 given-link-clear {sizes} {b} {xs} {offset} {n} {link} place k s u =
     used-clear sizes b 8 (number_at 2 b 0) 0 s.before (s.extent ∷ s.behind) offset link.next link.link place k (omega arith) s.way (subst (λ z. UsedAt 8 z place k) s.whole u)
 
+-- another segment is behind what is given back
 past-given : (offset n place k : ℕ) (extent : Extent) (xs : List Extent) → (extent ≡ used n) ⊎ (extent ≡ taken n) → place ≢ offset → UsedAt offset (extent ∷ xs) place k → offset + n ≤ place
 past-given offset n place k extent xs (inl e) other u =
     elim (subst (λ z. UsedAt offset (z ∷ xs) place k) e u) [ inl d ↦ absurd (other (sym d.0)) | inr v ↦ used-ahead (offset + n) xs place k v ]

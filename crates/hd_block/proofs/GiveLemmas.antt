@@ -1,5 +1,5 @@
 -- Room is given back, and joined to the holes beside it.
-use Rattle.std.proofs.Common.{ne_eqb, ◌≡◌, ◌≢◌, ℕ, ◌+◌, ◌-◌, ◌%◌, ◌<◌, ◌≤◌, ◌⊎◌, inl, inr, List, [], ◌∷◌, ◌++◌, length, slice_index, refl, sym, ap, ◌∙◌, subst, arith, append_assoc, cond}
+use Rattle.std.proofs.Common.{ne_eqb, ◌≡◌, ◌≢◌, ℕ, ◌+◌, ◌%◌, ◌<◌, ◌≤◌, ◌⊎◌, inl, inr, List, [], ◌∷◌, ◌++◌, length, refl, sym, ap, ◌∙◌, arith, append_assoc, cond}
 use Rattle.std.proofs.lemmas.Bool.{eq-eqb}
 use Rattle.hd_bytes.specs.Ranges.{ChangesOnly}
 use Rattle.hd_bytes.specs.Numbers.{number_at}
@@ -10,7 +10,7 @@ use Rattle.hd_block.specs.Found.{Way, IsLinked, IsBehind}
 use Rattle.hd_block.specs.declared.gives.Link.{Link}
 use Rattle.hd_block.specs.declared.gives.Behind.{Behind}
 use Rattle.hd_block.proofs.Walk.{fill-within}
-use Rattle.hd_block.proofs.Reroute.{Redirects, LeadsOn, to, way-within, way-link, way-next, way-apart, reroute, fill-same}
+use Rattle.hd_block.proofs.Reroute.{Redirects, to, way-within, way-link, way-next, way-apart, reroute, fill-same}
 
 -- ---- the hole behind
 
@@ -137,6 +137,7 @@ pub record EndsFree (sizes : ℕ → ℕ) (b : List ℕ) (p f l : ℕ) (xs : Lis
   pub way : Way sizes b p f l front m m link
   pub element : IsElement b m size
 
+-- a way that leads nowhere has no extents
 way-empty : (sizes : ℕ → ℕ) (b : List ℕ) (p f l : ℕ) (xs : List Extent) (q g m : ℕ) → l + 8 ≤ p → Way sizes b p f l xs q g m → q ≤ p → xs ≡ []
 way-empty sizes b p f l [] q g m h w o = refl
 way-empty sizes b p f l (free n ∷ xs) q g m h w o =
@@ -146,6 +147,7 @@ way-empty sizes b p f l (used n ∷ xs) q g m h w o =
 way-empty sizes b p f l (taken n ∷ xs) q g m h w o =
     let r = way-within sizes b (p + n) f l xs q g m (omega arith) w.3 in absurd (omega arith)
 
+-- where the element that the number stands in ends at the end of a way, it is the last on it
 way-last : (sizes : ℕ → ℕ) (b : List ℕ) (p f l : ℕ) (xs : List Extent) (q g m : ℕ) → l + 8 ≤ p → Way sizes b p f l xs q g m → p ≤ m → m + number_at 2 b (m + 2) ≡ q
     → EndsFree sizes b p f l xs m
 way-last sizes b p f l [] q g m h w o e = absurd (omega arith)

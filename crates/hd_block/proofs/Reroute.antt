@@ -1,9 +1,8 @@
 -- A write of one number of the chain of free elements, and of what lies behind a place.
-use Rattle.std.proofs.Common.{◌≡◌, ◌≢◌, ℕ, ◌+◌, ◌-◌, ◌%◌, ◌<◌, ◌≤◌, ◌⊎◌, inl, inr, List, [], ◌∷◌, ◌++◌, length, slice_index, refl, sym, ap, ◌∙◌, subst, arith, append_assoc}
-use Rattle.hd_bytes.specs.Ranges.{ChangesOnly}
+use Rattle.std.proofs.Common.{◌≡◌, ◌≢◌, ℕ, ◌+◌, ◌<◌, ◌≤◌, ◌⊎◌, inl, inr, List, [], ◌∷◌, ◌++◌, length, slice_index, refl, sym, ap, ◌∙◌, subst, arith}
 use Rattle.hd_bytes.specs.Numbers.{number_at}
-use Rattle.hd_bytes.proofs.NumberLemmas.{number-same, number-below, number-above}
-use Rattle.hd_block.specs.Extents.{Extent, free, used, taken, IsElement, IsSegment, Fill, IsDivided}
+use Rattle.hd_bytes.proofs.NumberLemmas.{number-same}
+use Rattle.hd_block.specs.Extents.{Extent, free, used, taken, IsElement, IsSegment, Fill}
 use Rattle.hd_block.specs.Found.{Way}
 
 -- below q only the two bytes at m may differ
@@ -18,10 +17,12 @@ pub data LeadsOn (b b' : List ℕ) (m q : ℕ) : Type 0 where
   past : q < number_at 2 b' m → LeadsOn b b' m q
   to : number_at 2 b' m ≡ q → (8 ≤ m → m + number_at 2 b (m + 2) ≢ q) → LeadsOn b b' m q
 
+-- a number clear of the two bytes stays
 number-kept : {b b' : List ℕ} {m q : ℕ} → Redirects b b' m q → (k p : ℕ) → p + k ≤ q → (p + k ≤ m) ⊎ (m + 2 ≤ p) → number_at k b' p ≡ number_at k b p
 number-kept {b} {b'} r k p h (inl l) = number-same k p b' b (λ j a c. r.below j (omega arith) (omega arith))
 number-kept {b} {b'} r k p h (inr l) = number-same k p b' b (λ j a c. r.above j (omega arith) (omega arith))
 
+-- a byte clear of them stays
 byte-kept : {b b' : List ℕ} {m q : ℕ} → Redirects b b' m q → (p : ℕ) → p < q → (p < m) ⊎ (m + 2 ≤ p) → slice_index b' p ≡ slice_index b p
 byte-kept r p h (inl l) = r.below p h l
 byte-kept r p h (inr l) = r.above p h l
@@ -71,6 +72,7 @@ not-at {b} {b'} {m} {q} p n f l r (inl e) h w s k other (past z) = let t : numbe
 not-at {b} {b'} {m} {q} p n f l r (inl e) h w s k other (to z y) = let t : number_at 2 b' l ≡ number_at 2 b' m = ap (number_at 2 b') (sym e) in λ u. omega arith
 not-at {b} {b'} {m} {q} p n f l r (inr e) h w s k other z = λ u. other (u ∙ number-kept r 2 l (omega arith) (inl (omega arith)) ∙ k)
 
+-- a segment's code is clear of them
 clear-of : {m l p n : ℕ} → (m ≡ l) ⊎ (p + n ≤ m) → l + 8 ≤ p → 8 ≤ n → (p < m) ⊎ (m + 2 ≤ p)
 clear-of (inl e) h s = inr (omega arith)
 clear-of (inr e) h s = inl (omega arith)
@@ -79,6 +81,7 @@ clear-of (inr e) h s = inl (omega arith)
 pub segment-kept : {sizes : ℕ → ℕ} {b b' : List ℕ} {p n : ℕ} → slice_index b' p ≡ slice_index b p → IsSegment sizes b p n → IsSegment sizes b' p n
 segment-kept {sizes} e s = record { size = ap sizes e ∙ s.size; some = s.some; whole = s.whole }
 
+-- the element that they stand in still does not end where they lead
 element-apart : {b b' : List ℕ} {m q p n : ℕ} → m ≡ p → 8 ≤ p → p + n ≤ q → number_at 2 b (p + 2) ≡ n → LeadsOn b b' m q → number_at 2 b' p ≢ p + n
 element-apart {b} {b'} e l w s (ends z) = let t = ap (number_at 2 b') (sym e) in λ u. omega arith
 element-apart {b} {b'} e l w s (past z) = let t = ap (number_at 2 b') (sym e) in λ u. omega arith
@@ -87,6 +90,7 @@ element-apart {b} {b'} {m} {q} {p} {n} e l w s (to z y) =
     let len : m + number_at 2 b (m + 2) ≡ p + n = ap (λ (i : ℕ). i + number_at 2 b (i + 2)) e ∙ ap (λ (i : ℕ). p + i) s in
     λ u. y (omega arith) (len ∙ sym u ∙ t ∙ z)
 
+-- a free element on the way stays one
 element-kept : {b b' : List ℕ} {m q p n : ℕ} → Redirects b b' m q → (m ≡ p) ⊎ (p + n ≤ m) → 8 ≤ p → p + n ≤ q → IsElement b p n
     → LeadsOn b b' m q → IsElement b' p n
 element-kept {b} {b'} {m} {q} {p} {n} r (inl e) l w s z =

@@ -1,12 +1,12 @@
 -- The front of a hole is taken.
-use Rattle.std.proofs.Common.{ne_eqb, ◌≡◌, ◌≢◌, ℕ, ◌+◌, ◌-◌, ◌%◌, ◌<◌, ◌≤◌, ◌⊎◌, inl, inr, List, [], ◌∷◌, ◌++◌, length, slice_index, refl, sym, ap, ◌∙◌, subst, arith, cond}
+use Rattle.std.proofs.Common.{ne_eqb, ◌≡◌, ◌≢◌, ℕ, ◌+◌, ◌-◌, ◌%◌, ◌<◌, ◌≤◌, inl, inr, List, ◌∷◌, ◌++◌, slice_index, refl, sym, ap, ◌∙◌, arith, cond}
 use Rattle.std.proofs.lemmas.Bool.{le-leb, eq-eqb}
 use Rattle.hd_bytes.specs.Ranges.{ChangesOnly}
 use Rattle.hd_bytes.specs.Numbers.{number_at}
-use Rattle.hd_bytes.proofs.NumberLemmas.{number-same, number-below, number-above}
-use Rattle.hd_block.specs.Extents.{Extent, free, used, taken, IsElement, Fill, IsDivided}
+use Rattle.hd_bytes.proofs.NumberLemmas.{number-below, number-above}
+use Rattle.hd_block.specs.Extents.{Extent, free, taken, IsElement, Fill, IsDivided}
 use Rattle.hd_block.specs.Changes.{split_hole, after_take}
-use Rattle.hd_block.specs.Found.{Way, SeeksHole, Stands}
+use Rattle.hd_block.specs.Found.{SeeksHole, Stands}
 use Rattle.hd_block.proofs.Walk.{fill-ahead}
 use Rattle.hd_block.proofs.Reroute.{Redirects, LeadsOn, ends, past, way-within, reroute, fill-same}
 

@@ -1,5 +1,5 @@
 -- A walk along the free elements of a block, as a way from offset 8 to a place.
-use Rattle.std.proofs.Common.{◌≡◌, ◌≢◌, ℕ, ◌+◌, ◌-◌, ◌%◌, ◌<◌, ◌≤◌, ◌⊎◌, inl, inr, nat_le, Bool, true, false, List, [], ◌∷◌, ◌++◌, length, slice_index, Option, Some, None, refl, sym, ap, ◌∙◌, subst, arith, append_assoc, cond}
+use Rattle.std.proofs.Common.{◌≡◌, ◌≢◌, ℕ, ◌+◌, ◌%◌, ◌<◌, ◌≤◌, ◌⊎◌, inl, inr, nat_le, false, List, [], ◌∷◌, ◌++◌, length, Some, None, refl, sym, ap, ◌∙◌, subst, arith, append_assoc, cond}
 use Rattle.std.proofs.lemmas.Bool.{lt-leb}
 use Rattle.hd_bytes.specs.Numbers.{number_at}
 use Rattle.hd_block.specs.Extents.{Extent, free, used, taken, IsElement, IsSegment, Fill, IsDivided, UsedAt, TakenAt}
@@ -73,6 +73,7 @@ passes-offset offset n g m = record {
 pub begins : (sizes : ℕ → ℕ) (b : List ℕ) (kept : Keeps) (xs : List Extent) → IsDivided sizes b xs → kept [] 8 xs → Progress sizes b kept xs 8 (number_at 2 b 0) 0
 begins sizes b kept xs h k = record { before = []; behind = xs; place = 8; way = (refl, refl, refl); fill = h; far = omega arith; whole = refl; keeps = k }
 
+-- a walk goes on past what is not free
 go-on : (sizes : ℕ → ℕ) (b : List ℕ) (kept : Keeps) (xs : List Extent) (end g m : ℕ) (before behind : List Extent) (place : ℕ)
     → Way sizes b 8 (number_at 2 b 0) 0 before place g m → Fill sizes b place g behind → end ≤ place → xs ≡ before ++ behind → kept before place behind → Passes kept g → g ≢ 0
     → Stands sizes b kept xs end g m (number_at 2 b (g + 2))
@@ -180,6 +181,7 @@ at-ahead p (used k ∷ xs) place n (inr h) = let r = at-ahead (p + k) xs place n
 at-ahead p (taken k ∷ xs) place n (inl e) = omega arith
 at-ahead p (taken k ∷ xs) place n (inr h) = let r = at-ahead (p + k) xs place n h in omega arith
 
+-- it goes on to the offset
 arrive : (sizes : ℕ → ℕ) (b : List ℕ) (xs : List Extent) (link : Link) (offset n : ℕ) (before behind : List Extent) (place : ℕ) → 0 < place
     → Way sizes b 8 (number_at 2 b 0) 0 before place link.next link.link → Fill sizes b place link.next behind → xs ≡ before ++ behind → At place behind offset n
     → (link.next ≡ 0) ⊎ (offset ≤ link.next) → IsLinked sizes b xs offset n link

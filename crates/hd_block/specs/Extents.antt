@@ -1,6 +1,6 @@
 -- The extents that fill a data block from offset 8: free elements, and segments. A size function gives the bytes that a
 -- segment with a code takes, 0 where there is no such type.
-use Rattle.std.specs.Prelude.{◌≡◌, ◌≢◌, ◌⊎◌, ℕ, ◌+◌, ◌%◌, ◌<◌, ◌≤◌, List, [], ◌∷◌, length, slice_index}
+use Rattle.std.specs.Prelude.{◌≡◌, ◌≢◌, ◌⊎◌, ℕ, ◌+◌, ◌%◌, ◌≤◌, List, [], ◌∷◌, length, slice_index}
 use Rattle.hd_bytes.specs.Numbers.{number_at}
 
 -- A free element, a segment, or room that was handed out and has no segment yet, each with its length.

@@ -1,6 +1,5 @@
-use Rattle.std.proofs.Common.{◌≡◌, ◌≢◌, ◌<◌, ◌≤◌, ◌+◌, ℕ, refl, sym, arith}
+use Rattle.std.proofs.Common.{◌≡◌, ◌≢◌, ◌+◌, refl, sym, arith}
 use Rattle.hd_bytes.specs.Numbers.{number_at}
-use Rattle.hd_block.specs.declared.gives.Behind.{Behind}
 use Rattle.hd_block.proofs.GiveLemmas.{none-behind, some-behind}
 use Rattle.hd_block.proofs.gives.find_behind.Goals as goal
 use Rattle.hd_block.proofs.gives.find_behind.Goals.{then-next-place-via-then-next-place, then-next-place-via-else-next-place+then-bytes-place-lt8}

@@ -1,4 +1,4 @@
-use Rattle.std.proofs.Common.{◌≡◌, ◌≢◌, ◌<◌, ◌≤◌, ◌+◌, ℕ, inl, inr, arith}
+use Rattle.std.proofs.Common.{◌≢◌, inl, inr, arith}
 use Rattle.hd_block.specs.Found.{SeeksOffset}
 use Rattle.hd_block.proofs.Walk.{begins, stands, passes-offset, passes-before, arrives}
 use Rattle.hd_block.proofs.gives.find_link.Goals as goal

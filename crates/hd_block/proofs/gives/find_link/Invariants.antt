@@ -1,4 +1,4 @@
-use Rattle.std.proofs.Common.{◌<◌, ◌≤◌, ◌+◌, ◌-◌, ℕ, List, length}
+use Rattle.std.proofs.Common.{◌<◌, ◌≤◌, ◌+◌, ◌-◌, ℕ, List}
 use Rattle.hd_block.specs.Extents.{Extent, IsDivided}
 use Rattle.hd_block.specs.Found.{At, Progress, SeeksOffset}
 use Rattle.hd_block.proofs.gives.find_link.Given as goal

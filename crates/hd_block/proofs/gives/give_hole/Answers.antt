@@ -1,4 +1,4 @@
-use Rattle.std.proofs.Common.{◌≡◌, ◌≢◌, ◌<◌, ◌≤◌, ◌+◌, ◌∙◌, ℕ, sym, ap, arith}
+use Rattle.std.proofs.Common.{◌≡◌, ◌≢◌, ◌≤◌, ◌+◌, ◌∙◌, ℕ, sym, ap, arith}
 use Rattle.hd_bytes.specs.Numbers.{number_at}
 use Rattle.hd_block.proofs.Walk.{at-either}
 use Rattle.hd_block.proofs.GiveLemmas.{gives-own, gives-joined}

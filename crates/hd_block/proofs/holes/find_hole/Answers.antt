@@ -1,5 +1,4 @@
-use Rattle.std.proofs.Common.{◌≡◌, ◌≢◌, ◌<◌, ◌≤◌, ◌+◌, ℕ, refl, arith}
-use Rattle.hd_bytes.specs.Numbers.{number_at}
+use Rattle.std.proofs.Common.{◌≢◌, refl, arith}
 use Rattle.hd_block.proofs.Walk.{begins, stands, passes-hole, passes-small, none-past, fill-within}
 use Rattle.hd_block.specs.Found.{SeeksHole}
 use Rattle.hd_block.proofs.holes.find_hole.Goals as goal

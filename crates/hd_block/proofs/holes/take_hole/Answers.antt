@@ -1,4 +1,4 @@
-use Rattle.std.proofs.Common.{◌≡◌, ◌≤◌, ◌+◌, arith, ◌∙◌}
+use Rattle.std.proofs.Common.{arith, ◌∙◌}
 use Rattle.hd_block.proofs.Walk.{fill-within}
 use Rattle.hd_block.proofs.TakeLemmas.{takes-whole, takes-four, no-crumb}
 use Rattle.hd_block.proofs.FrameLemmas.{takes-whole-others, takes-four-others}

@@ -1,7 +1,5 @@
 use Rattle.std.proofs.Common.{arith}
 use Rattle.hd_bytes.specs.Numbers.{number_at}
-use Rattle.hd_bytes.proofs.NumberLemmas.{number-below}
-use Rattle.hd_block.proofs.FrameLemmas.{used-ahead}
 use Rattle.hd_block.proofs.LawLemmas.{one-division}
 use Rattle.hd_block.proofs.law.law_one_division.Goals as goal
 

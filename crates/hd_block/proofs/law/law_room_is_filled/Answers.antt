@@ -1,7 +1,6 @@
 use Rattle.std.proofs.Common.{arith}
 use Rattle.hd_bytes.specs.Numbers.{number_at}
 use Rattle.hd_bytes.proofs.NumberLemmas.{number-below}
-use Rattle.hd_block.proofs.FrameLemmas.{used-ahead}
 use Rattle.hd_block.proofs.LawLemmas.{fill-filled, taken-ahead}
 use Rattle.hd_block.proofs.law.law_room_is_filled.Goals as goal
 

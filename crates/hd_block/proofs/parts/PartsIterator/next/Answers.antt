@@ -1,4 +1,4 @@
-use Rattle.std.proofs.Common.{◌≡◌, ◌≤◌, ◌+◌, ◌∙◌, sym, arith}
+use Rattle.std.proofs.Common.{◌∙◌, sym, arith}
 use Rattle.hd_dbd.specs.Prefixes.{stored_size}
 use Rattle.hd_block.proofs.PartLemmas.{from-end}
 use Rattle.hd_block.proofs.parts.PartsIterator.next.Goals as goal
