@@ -6,9 +6,8 @@ mod play;
 mod sample;
 mod stop;
 
-use std::env;
-use std::io;
 use std::process::ExitCode;
+use std::{env, io};
 
 fn main(rt: HostRuntime) -> ExitCode {
     let Ok(args) = env::args(&rt) else {

@@ -1,6 +1,7 @@
 use crate::input::read_whole;
 use crate::sample;
 use crate::stop::Stop;
+use clap::error::ErrorKind;
 use clap::{Command, Error};
 use hd_dbd::Row;
 use hd_deck::{read_deck, run_rows};
@@ -30,16 +31,22 @@ where
     E: Write,
 {
     if let Err(error) = read_words(rt.alloc(), words) {
+        if error.kind() == ErrorKind::OutOfMemory {
+            return stopped(&Stop::Memory, err);
+        }
         let _ = write!(err, "{error}");
         return COMMAND_LINE;
     }
     match play_sample(rt.alloc(), input, out) {
         Ok(()) => 0,
-        Err(stop) => {
-            let _ = writeln!(err, "{stop}");
-            stop.status()
-        }
+        Err(stop) => stopped(&stop, err),
     }
+}
+
+/// Says why the program stops, and gives its status.
+fn stopped<E: Write>(stop: &Stop, err: &mut E) -> u8 {
+    let _ = writeln!(err, "{stop}");
+    stop.status()
 }
 
 /// Judges the words of the command line.

@@ -23,7 +23,12 @@ fn book() -> Name8 {
 }
 
 /// A sequence field at the front of its segment, with the key that it makes.
-fn sequence_field(alloc: Global, name: Name8, length: u32, unique: bool) -> Result<(Option<Key>, Vec<Field>), AllocError> {
+fn sequence_field(
+    alloc: Global,
+    name: Name8,
+    length: u32,
+    unique: bool,
+) -> Result<(Option<Key>, Vec<Field>), AllocError> {
     let start = 1;
     let key = Key {
         start,

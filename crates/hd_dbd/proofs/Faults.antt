@@ -10,7 +10,7 @@ use Rattle.hd_dbd.specs.declared.program.Pcb.{Pcb}
 use Rattle.hd_dbd.specs.declared.program.PsbFault.TheVariants.{P1, P2, P3, P4, P5, P6}
 use Rattle.hd_dbd.specs.declared.program.TypeName.{TypeName}
 use Rattle.hd_dbd.specs.DatabaseRules.{block_size_fits, free_space_fits, level_fits, parent_fits, parts_fit, root_key_fits, names_fit, sizes_fit, key_length_fits, type_fits, types_fit_from, well_formed}
-use Rattle.hd_dbd.specs.DatabaseFaults.{type_fault, types_fault_from, database_fault}
+use Rattle.hd_dbd.specs.DatabaseFaults.{type_fault, types_fault_from, size_fault, database_fault}
 use Rattle.hd_dbd.specs.ProgramRules.{seen_names_fit, parents_fit, order_fits, procopts_fit, load_fits, has_sens, pcb_fits, program_fits}
 use Rattle.hd_dbd.specs.ProgramFaults.{pcb_fault, fault_from, program_fault}
 
@@ -56,14 +56,21 @@ types_agree block_size types c (t ∷ ts) =
     ∙ ap (λ (b : Bool). b && is_none (types_fault_from block_size types (c + 1) ts)) (type_agrees block_size types c t)
     ∙ ap (λ (b : Bool). type_fits block_size types c t && b) (types_agree block_size types (c + 1) ts)
 
+-- block size, FRSPC and number of types are right just where they have no fault
+size_agrees : (block_size : ℕ) (frspc : FreeSpace) (types : List SegType)
+    → is_none (size_fault block_size frspc types) ≡ (block_size_fits block_size && free_space_fits frspc && nat_lt 0 (length types) && nat_le (length types) 255)
+size_agrees block_size frspc types =
+    next true (block_size_fits block_size && free_space_fits frspc) B10 _ _
+    (next _ (nat_lt 0 (length types)) B1 _ _
+    (last _ (nat_le (length types) 255) B2))
+
 -- a database keeps all rules just where it has no fault
 pub database_agrees : (block_size : ℕ) (frspc : FreeSpace) (types : List SegType) → is_none (database_fault block_size frspc types) ≡ well_formed block_size frspc types
 database_agrees block_size frspc types =
-    next true (block_size_fits block_size && free_space_fits frspc) B10 _ _
-    (next _ (nat_lt 0 (length types)) B1 _ _
-    (next _ (nat_le (length types) 255) B2 _ _
-    (ap (λ (b : Bool). block_size_fits block_size && free_space_fits frspc && nat_lt 0 (length types) && nat_le (length types) 255 && b)
-    (types_agree block_size types 1 types))))
+    either (size_fault block_size frspc types) (types_fault_from block_size types 1 types)
+    ∙ ap (λ (b : Bool). b && is_none (types_fault_from block_size types 1 types)) (size_agrees block_size frspc types)
+    ∙ ap (λ (b : Bool). block_size_fits block_size && free_space_fits frspc && nat_lt 0 (length types) && nat_le (length types) 255 && b)
+    (types_agree block_size types 1 types)
 
 -- a PCB keeps P1 to P6 just where it has no fault
 pcb_agrees : (names : List TypeName) (count number : ℕ) (pcb : Pcb) → is_none (pcb_fault names count number pcb) ≡ pcb_fits names count pcb

@@ -21,12 +21,15 @@ abbrev pub types_fault_from : ℕ → List SegType → ℕ → List SegType → 
 types_fault_from block_size types c [] = None
 types_fault_from block_size types c (t ∷ ts) = option_or (type_fault block_size types c t) (types_fault_from block_size types (c + 1) ts)
 
+-- B10, B1 and B2: a fault of the block size or FRSPC, or of the number of types
+abbrev pub size_fault : ℕ → FreeSpace → List SegType → Option DbdFault
+size_fault block_size frspc types =
+    cond (not (block_size_fits block_size && free_space_fits frspc)) (Some B10)
+    (cond (not (nat_lt 0 (length types))) (Some B1) (cond (not (nat_le (length types) 255)) (Some B2) None))
+
 -- why this is no database
 abbrev pub database_fault : ℕ → FreeSpace → List SegType → Option DbdFault
-database_fault block_size frspc types =
-    cond (not (block_size_fits block_size && free_space_fits frspc)) (Some B10)
-    (cond (not (nat_lt 0 (length types))) (Some B1) (cond (not (nat_le (length types) 255)) (Some B2)
-    (types_fault_from block_size types 1 types)))
+database_fault block_size frspc types = option_or (size_fault block_size frspc types) (types_fault_from block_size types 1 types)
 
 -- A database is well formed just where no fault stands.
 abbrev pub DatabasesHaveNoFault : Type 0

@@ -1,8 +1,8 @@
-ghost use Rattle.std.specs.Prelude.{◌≡◌, ◌⊎◌, ◌≤◌, Some, IsTrue, IfOk, OnOk, IfErr, option_copied};
+ghost use Rattle.std.specs.Prelude.{◌≡◌, ◌⊎◌, true, is_none, ◌≤◌, Some, IsTrue, IfOk, OnOk, IfErr, option_copied};
 ghost use Rattle.hd_dbd.specs.Hierarchy.{type_of, parent_of, level_of, longest_path};
 ghost use Rattle.hd_dbd.specs.Prefixes.{prefix_length, pointers_at, children_of, stored_size};
 ghost use Rattle.hd_dbd.specs.DatabaseRules.{well_formed};
-ghost use Rattle.hd_dbd.specs.DatabaseFaults.{database_fault};
+ghost use Rattle.hd_dbd.specs.DatabaseFaults.{size_fault, database_fault};
 
 use crate::facts::{
     TypeFacts, children_in, children_lists, facts_in, facts_of, levels_of, longest_path, type_of,
@@ -99,7 +99,7 @@ impl Dbd {
     ghost use Rattle.hd_dbd.specs.Facts.{facts_at};
 
     /// A database of these types, where they keep to the rules that `DbdFault` names; else the first fault. The block
-    /// size is in bytes.
+    /// size is in bytes. B10, B1 and B2 are told without memory.
     pub fn new(
         alloc: Global,
         name: Name8,
@@ -110,6 +110,7 @@ impl Dbd {
         ensures ok { IfOk result (λ d. d ≡ record { name = name; block_size = block_size; frspc = frspc; types = types.items }) }
         ensures well_formed { OnOk result (IsTrue (well_formed block_size frspc types.items)) }
         ensures fault { IfErr result (λ f. (f ≡ DbdFault.Memory) ⊎ (database_fault block_size frspc types.items ≡ Some f)) }
+        ensures memory { IfErr result (λ f. f ≡ DbdFault.Memory → is_none (size_fault block_size frspc types.items) ≡ true) }
     {
         if !block_size_fits(block_size) || !free_space_fits(&frspc) {
             return Err(DbdFault::B10);

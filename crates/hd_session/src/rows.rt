@@ -47,13 +47,7 @@ fn crossing(last: Option<LastType>, level: u8, code: u8) -> Status
 }
 
 /// The status of a get that found the row of a number.
-fn get_status(
-    dbd: &Dbd,
-    rows: &[Row],
-    position: &RowPosition,
-    get: Get,
-    number: usize,
-) -> Status
+fn get_status(dbd: &Dbd, rows: &[Row], position: &RowPosition, get: Get, number: usize) -> Status
     requires { number < length rows.now }
     ensures { result ≡ get_status dbd.now.types rows.now (position_of position.now) get number }
 {

@@ -1,4 +1,6 @@
 use super::*;
+use hd_dbd::{DbdFault, PsbFault, Refused};
+use hd_deck::{DeckFault, RunFault};
 use std::io;
 use std::io::ErrorKind;
 
@@ -21,7 +23,8 @@ fn play_deck(rt: &HostRuntime, deck: &[u8]) -> Played {
 #[test]
 fn plays_by_a_pcb_that_sees_no_students(rt: HostRuntime) {
     let end = play_deck(&rt, b"S 3\nL   4 GN\n");
-    let want = b"1 3 GN   [  ] 01 COURSE   key=101 area=101ALGEB\n2 3 GN   [  ] 02 CLASS    key=10101 area=01AB\n3 3 GN   [  ] 02 CLASS    key=10102 area=02CD\n4 3 GN   [GK] 02 BOOK     key=101 area=EULER\n";
+    let want =
+        b"1 3 GN   [  ] 01 COURSE   key=101 area=101ALGEB\n2 3 GN   [  ] 02 CLASS    key=10101 area=01AB\n3 3 GN   [  ] 02 CLASS    key=10102 area=02CD\n4 3 GN   [GK] 02 BOOK     key=101 area=EULER\n";
     assert_eq!(rt; end.out.as_slice(), want.as_slice());
     assert_eq!(rt; end.status, 0);
     assert_eq!(rt; end.err.len(), 0);
@@ -29,8 +32,12 @@ fn plays_by_a_pcb_that_sees_no_students(rt: HostRuntime) {
 
 #[test]
 fn keeps_a_position_for_each_pcb(rt: HostRuntime) {
-    let end = play_deck(&rt, b"S 2\r\nL     GN\r\n* back to PCB 1\r\nS 1\r\nL   2 GN\r\nL     GNP");
-    let want = b"1 2 GN   [  ] 01 COURSE   key=101 area=101ALGEB\n2 1 GN   [  ] 01 COURSE   key=101 area=101ALGEB\n3 1 GN   [  ] 02 CLASS    key=10101 area=01AB\n4 1 GNP  [AD] 00          key= area=\n";
+    let end = play_deck(
+        &rt,
+        b"S 2\r\nL     GN\r\n* back to PCB 1\r\nS 1\r\nL   2 GN\r\nL     GNP",
+    );
+    let want =
+        b"1 2 GN   [  ] 01 COURSE   key=101 area=101ALGEB\n2 1 GN   [  ] 01 COURSE   key=101 area=101ALGEB\n3 1 GN   [  ] 02 CLASS    key=10101 area=01AB\n4 1 GNP  [AD] 00          key= area=\n";
     assert_eq!(rt; end.out.as_slice(), want.as_slice());
     assert_eq!(rt; end.status, 0);
 }
@@ -41,7 +48,8 @@ fn finds_nothing_in_an_empty_database(rt: HostRuntime) {
     let mut out = Vec::new(rt.alloc());
     let rows = Vec::new(rt.alloc());
     let end = play_rows(rt.alloc(), rows, &mut input, &mut out);
-    let want = b"1 1 GU   [GE] 00          key= area=\n2 1 GN   [GB] 00          key= area=\n3 1 GU   [AJ] 00          key= area=\n";
+    let want =
+        b"1 1 GU   [GE] 00          key= area=\n2 1 GN   [GB] 00          key= area=\n3 1 GU   [AJ] 00          key= area=\n";
     assert!(rt; end.is_ok());
     assert_eq!(rt; out.as_slice(), want.as_slice());
 }
@@ -143,7 +151,10 @@ fn reads_on_after_an_interruption(rt: HostRuntime) {
     let mut err = Vec::new(rt.alloc());
     let status = play(&rt, &[], &mut input, &mut out, &mut err);
     assert_eq!(rt; status, 0);
-    assert_eq!(rt; out.as_slice(), b"1 1 GN   [  ] 01 COURSE   key=101 area=101ALGEB\n".as_slice());
+    assert_eq!(rt;
+        out.as_slice(),
+        b"1 1 GN   [  ] 01 COURSE   key=101 area=101ALGEB\n".as_slice()
+    );
 }
 
 #[test]
@@ -167,4 +178,131 @@ fn tells_of_a_failed_write(rt: HostRuntime) {
         assert_eq!(rt; status, 3);
         assert_eq!(rt; err.as_slice(), b"device failed\n".as_slice());
     }
+}
+
+#[test]
+fn words_refusals_as_a_person_reads_them(rt: HostRuntime) {
+    for (stop, line) in [
+        (Stop::from(DbdFault::B10), "DBD refused: type 0, B10"),
+        (Stop::from(DbdFault::B1), "DBD refused: type 0, B1"),
+        (Stop::from(DbdFault::B2), "DBD refused: type 0, B2"),
+        (Stop::from(DbdFault::B3(16)), "DBD refused: type 16, B3"),
+        (Stop::from(DbdFault::B4(2)), "DBD refused: type 2, B4"),
+        (Stop::from(DbdFault::B5(1)), "DBD refused: type 1, B5"),
+        (Stop::from(DbdFault::B6(1)), "DBD refused: type 1, B6"),
+        (Stop::from(DbdFault::B7(3)), "DBD refused: type 3, B7"),
+        (Stop::from(DbdFault::B8(4)), "DBD refused: type 4, B8"),
+        (Stop::from(DbdFault::B9(1)), "DBD refused: type 1, B9"),
+        (Stop::from(PsbFault::P1(1)), "PSB refused: pcb 1, P1"),
+        (Stop::from(PsbFault::P2(2)), "PSB refused: pcb 2, P2"),
+        (Stop::from(PsbFault::P3(1)), "PSB refused: pcb 1, P3"),
+        (Stop::from(PsbFault::P4(1)), "PSB refused: pcb 1, P4"),
+        (Stop::from(PsbFault::P5(3)), "PSB refused: pcb 3, P5"),
+        (Stop::from(PsbFault::P6(0)), "PSB refused: pcb 0, P6"),
+    ] {
+        assert_eq!(rt;
+            stop.to_string(rt.alloc()).expect(&rt, "memory").as_str(),
+            line
+        );
+        assert_eq!(rt; stop.status(), 2);
+    }
+    for (stop, line, status) in [
+        (Stop::from(DbdFault::Memory), "no memory", 4),
+        (Stop::from(PsbFault::Memory), "no memory", 4),
+        (Stop::from(DeckFault::Memory), "no memory", 4),
+        (Stop::from(RunFault::Memory), "no memory", 4),
+        (Stop::from(Refused::Memory), "no memory", 4),
+        (Stop::from(RunFault::Write), "device failed", 3),
+        (Stop::Sample, "sample is not in hierarchic sequence", 1),
+    ] {
+        assert_eq!(rt;
+            stop.to_string(rt.alloc()).expect(&rt, "memory").as_str(),
+            line
+        );
+        assert_eq!(rt; stop.status(), status);
+    }
+}
+
+/// A writer that keeps the first bytes in room of its own, and takes no memory.
+#[derive(Drop)]
+struct Page {
+    bytes: [u8; 256],
+    len: usize,
+}
+
+impl Page {
+    fn blank() -> Page {
+        Page {
+            bytes: [0; 256],
+            len: 0,
+        }
+    }
+
+    fn text(&self) -> &[u8] {
+        self.bytes.get(..self.len).unwrap_or(&[])
+    }
+}
+
+impl Write for Page {
+    fn write(&mut self, buf: &[u8]) -> io::Result<usize> {
+        for byte in buf {
+            if let Some(place) = self.bytes.get_mut(self.len) {
+                *place = *byte;
+                self.len = self.len.saturating_add(1);
+            }
+        }
+        Ok(buf.len())
+    }
+
+    fn flush(&mut self) -> io::Result<()> {
+        Ok(())
+    }
+}
+
+/// Takes pieces of memory, the largest that there are, until none is left.
+fn take_all(alloc: Global, taken: &mut Vec<Vec<u8>>) {
+    let mut size: usize = 1 << 46;
+    for _ in 0..65_536 {
+        match Vec::with_capacity(alloc, size) {
+            Ok(piece) => {
+                if taken.push(piece).is_err() {
+                    return;
+                }
+            }
+            Err(_) => size /= 2,
+        }
+    }
+}
+
+#[test]
+fn tells_of_each_growth_that_finds_no_memory(rt: HostRuntime) {
+    let mut spare = Vec::with_capacity(rt.alloc(), 1024).expect(&rt, "memory");
+    let mut taken = Vec::with_capacity(rt.alloc(), 65_536).expect(&rt, "memory");
+    for _ in 0..1024 {
+        let piece: Vec<u8> = Vec::with_capacity(rt.alloc(), 512).expect(&rt, "memory");
+        let _ = spare.push(piece);
+    }
+    take_all(rt.alloc(), &mut taken);
+    let mut refused = 0u32;
+    let mut status = 4;
+    for _ in 0..1024 {
+        let mut input: &[u8] = b"S 3\nL     GN\n";
+        let mut out = Page::blank();
+        let mut err = Page::blank();
+        status = play(&rt, &[], &mut input, &mut out, &mut err);
+        if status == 0 {
+            assert_eq!(rt;
+                out.text(),
+                b"1 3 GN   [  ] 01 COURSE   key=101 area=101ALGEB\n".as_slice()
+            );
+            break;
+        }
+        assert_eq!(rt; status, 4);
+        assert_eq!(rt; out.text().len(), 0);
+        assert_eq!(rt; err.text(), b"no memory\n".as_slice());
+        refused = refused.saturating_add(1);
+        let _ = spare.pop();
+    }
+    assert_eq!(rt; status, 0);
+    assert!(rt; refused > 0);
 }
