@@ -41,6 +41,23 @@ used-beside sizes b p f l (used k ∷ xs) zs q g m place n h w (inr u) = used-be
 pub agree-both : (place n : ℕ) (a b c : List ℕ) → AgreeOn place n a b → AgreeOn place n b c → AgreeOn place n a c
 agree-both place n a b c h i = λ k l u. h k l u ∙ i k l u
 
+-- a change behind the head of a block leaves its kind and level
+pub head-room : {p n : ℕ} {b b' : List ℕ} → 8 ≤ p → ChangesOnly p n b b' → AgreeOn 2 6 b b'
+head-room l c = agree-changed 2 6 c (inl (omega arith))
+
+-- so does a change of a number that leads to a hole
+pub head-link : {m : ℕ} {b b' : List ℕ} → (8 ≤ m) ⊎ (m ≡ 0) → ChangesOnly m 2 b b' → AgreeOn 2 6 b b'
+head-link (inl l) c = agree-changed 2 6 c (inl (omega arith))
+head-link (inr e) c = agree-changed 2 6 c (inr (omega arith))
+
+-- and so do the four writes that put a hole in the chain
+pub head-four : {p m : ℕ} {b b1 b2 b3 b4 : List ℕ} → 8 ≤ p → (8 ≤ m) ⊎ (m ≡ 0)
+    → ChangesOnly p 2 b b1 → ChangesOnly (p + 2) 2 b1 b2 → ChangesOnly (p + 4) 4 b2 b3 → ChangesOnly m 2 b3 b4 → AgreeOn 2 6 b b4
+head-four {p} {m} {b} {b1} {b2} {b3} {b4} l link c1 c2 c3 c4 =
+    agree-both 2 6 b b3 b4
+    (agree-both 2 6 b b2 b3 (agree-both 2 6 b b1 b2 (head-room l c1) (head-room (omega arith) c2)) (head-room (omega arith) c3))
+    (head-link link c4)
+
 -- what is clear of a range is clear of a part of it
 pub clear-part : (place n g m p k : ℕ) → (place + n ≤ g) ⊎ (g + m ≤ place) → g ≤ p → p + k ≤ g + m → (place + n ≤ p) ⊎ (p + k ≤ place)
 clear-part place n g m p k (inl o) l u = inl (omega arith)

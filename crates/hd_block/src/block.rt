@@ -1,4 +1,4 @@
-ghost use Rattle.std.specs.Prelude.{◌≡◌, ◌≢◌, ◌⊎◌, ◌+◌, ◌%◌, ◌≤◌, ◌<◌, ℕ, List, length, OnSome, IfNone};
+ghost use Rattle.std.specs.Prelude.{◌≡◌, ◌≢◌, ◌⊎◌, ◌+◌, ◌%◌, ◌≤◌, ◌<◌, ℕ, List, length, OnSome, IfSome, IfNone};
 ghost use Rattle.hd_bytes.specs.Ranges.{AgreeOn};
 ghost use Rattle.hd_dbd.specs.Prefixes.{stored_size};
 ghost use Rattle.hd_block.specs.Extents.{Extent, IsDivided, AreWhole, UsedAt, TakenAt};
@@ -22,7 +22,7 @@ pub struct Block<'a> {
 impl<'a> Block<'a> {
     ghost use Rattle.hd_block.specs.Lent.{bytes_of, sizes_of, lender_of, IsSameBlock};
 
-    /// These bytes as a block.
+    /// These bytes as a block, of 8 to 32,768 bytes; it is not compared with the database's block size.
     pub fn new(bytes: &'a mut [u8], dbd: &'a Dbd) -> Block<'a>
         requires { (8 ≤ length bytes.old) × (length bytes.old ≤ 32768) }
         ensures lender { lender_of result ≡ bytes.entry.ghost_name }
@@ -32,20 +32,24 @@ impl<'a> Block<'a> {
         Block { bytes, dbd }
     }
 
-    /// Takes the front of the first hole that is large enough, and says where it begins.
+    /// Takes the front of the first hole that is large enough, and says where it begins. The size is above 0 and a
+    /// multiple of 8.
     pub fn take(&mut self, size: u16) -> Option<u16>
         requires { (0 < size) × (size % 8 ≡ 0) }
         ensures same { IsSameBlock self.old self.new }
         ensures len { length (bytes_of self.new) ≡ length (bytes_of self.old) }
         ensures found { (xs : List Extent) → IsDivided (sizes_of self.old) (bytes_of self.old) xs → result ≡ hole_at size 8 xs }
         ensures after { (xs : List Extent) → IsDivided (sizes_of self.old) (bytes_of self.old) xs → OnSome result (IsDivided (sizes_of self.old) (bytes_of self.new) (after_take size xs)) }
+        ensures fits { IfSome result (λ p. (8 ≤ p) × (p + size ≤ length (bytes_of self.old))) }
         ensures none { IfNone result (bytes_of self.new ≡ bytes_of self.old) }
+        ensures head { AgreeOn 2 6 (bytes_of self.old) (bytes_of self.new) }
         ensures others { (xs : List Extent) (q n : ℕ) → IsDivided (sizes_of self.old) (bytes_of self.old) xs → UsedAt 8 xs q n → AgreeOn q n (bytes_of self.old) (bytes_of self.new) }
     {
         take_hole(self.bytes, size)
     }
 
-    /// Gives back the segment, or the room, at an offset, and joins it to the holes beside it.
+    /// Gives back the segment, or the room, at an offset, and joins it to the holes beside it. Offset and size are
+    /// multiples of 8, at least 8, inside the block.
     pub fn give(&mut self, offset: u16, size: u16)
         requires offset { (8 ≤ offset) × (offset % 8 ≡ 0) }
         requires size { (8 ≤ size) × (size % 8 ≡ 0) }
@@ -53,12 +57,14 @@ impl<'a> Block<'a> {
         ensures same { IsSameBlock self.old self.new }
         ensures len { length (bytes_of self.new) ≡ length (bytes_of self.old) }
         ensures after { (xs : List Extent) → IsDivided (sizes_of self.old) (bytes_of self.old) xs → UsedAt 8 xs offset size ⊎ TakenAt 8 xs offset size → IsDivided (sizes_of self.old) (bytes_of self.new) (after_give offset 8 xs) }
+        ensures head { AgreeOn 2 6 (bytes_of self.old) (bytes_of self.new) }
         ensures others { (xs : List Extent) (q n : ℕ) → IsDivided (sizes_of self.old) (bytes_of self.old) xs → UsedAt 8 xs offset size ⊎ TakenAt 8 xs offset size → UsedAt 8 xs q n → q ≢ offset → AgreeOn q n (bytes_of self.old) (bytes_of self.new) }
     {
         give_hole(self.bytes, offset, size);
     }
 
-    /// The free elements and segments, in order.
+    /// The free elements and segments, in order, of a block whose handed-out room is all filled; else up to the first
+    /// place where no part fits.
     pub fn parts(&self) -> Parts<'_>
         ensures parts { result ≡ parts_in (sizes_of self.now) (bytes_of self.now) }
         ensures divided { (xs : List Extent) → IsDivided (sizes_of self.now) (bytes_of self.now) xs → AreWhole xs → result ≡ parts_of 8 xs }

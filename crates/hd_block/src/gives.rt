@@ -24,6 +24,7 @@ pub struct Behind {
 fn find_link(bytes: &[u8], offset: u16) -> Link
     requires { (8 ≤ offset) × (offset + 8 ≤ length bytes.now) }
     ensures place { result.link < offset }
+    ensures head { (8 ≤ result.link) ⊎ (result.link ≡ 0) }
     ensures found { (sizes : ℕ → ℕ) (xs : List Extent) (n : ℕ) → IsDivided sizes bytes.now xs → At 8 xs offset n → IsLinked sizes bytes.now xs offset n result }
 {
     let mut link = 0;
@@ -62,6 +63,7 @@ pub fn give_hole(bytes: &mut [u8], offset: u16, size: u16)
     requires within { offset + size ≤ length bytes.old }
     ensures after { (sizes : ℕ → ℕ) (xs : List Extent) → IsDivided sizes bytes.old xs → UsedAt 8 xs offset size ⊎ TakenAt 8 xs offset size → IsDivided sizes bytes.new (after_give offset 8 xs) }
     ensures len { length bytes.new ≡ length bytes.old }
+    ensures head { AgreeOn 2 6 bytes.old bytes.new }
     ensures others { (sizes : ℕ → ℕ) (xs : List Extent) (q n : ℕ) → IsDivided sizes bytes.old xs → UsedAt 8 xs offset size ⊎ TakenAt 8 xs offset size → UsedAt 8 xs q n → q ≢ offset → AgreeOn q n bytes.old bytes.new }
 {
     let link = find_link(bytes, offset);

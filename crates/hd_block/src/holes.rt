@@ -1,4 +1,4 @@
-ghost use Rattle.std.specs.Prelude.{◌≡◌, ◌+◌, ◌%◌, ◌≤◌, ◌<◌, ℕ, List, length, None, MatchOption, OnSome, IfSome, IfNone};
+ghost use Rattle.std.specs.Prelude.{◌≡◌, ◌⊎◌, ◌+◌, ◌%◌, ◌≤◌, ◌<◌, ℕ, List, length, None, MatchOption, OnSome, IfSome, IfNone};
 ghost use Rattle.hd_bytes.specs.Ranges.{AgreeOn};
 ghost use Rattle.hd_block.specs.Extents.{Extent, IsDivided, UsedAt};
 ghost use Rattle.hd_block.specs.Changes.{hole_at, after_take};
@@ -19,6 +19,7 @@ pub struct Hole {
 fn find_hole(bytes: &[u8], size: u16) -> Option<Hole>
     requires { 8 ≤ length bytes.now }
     ensures place { IfSome result (λ h. (h.link + 2 ≤ length bytes.now) × (h.place + 8 ≤ length bytes.now) × (size ≤ h.len)) }
+    ensures head { IfSome result (λ h. (8 ≤ h.place) × ((8 ≤ h.link) ⊎ (h.link ≡ 0))) }
     ensures found { (sizes : ℕ → ℕ) (xs : List Extent) → IsDivided sizes bytes.now xs → MatchOption result (hole_at size 8 xs ≡ None) (IsFound sizes bytes.now size xs) }
 {
     let mut link = 0;
@@ -48,16 +49,21 @@ pub fn take_hole(bytes: &mut [u8], size: u16) -> Option<u16>
     requires size { (0 < size) × (size % 8 ≡ 0) }
     ensures found { (sizes : ℕ → ℕ) (xs : List Extent) → IsDivided sizes bytes.old xs → result ≡ hole_at size 8 xs }
     ensures after { (sizes : ℕ → ℕ) (xs : List Extent) → IsDivided sizes bytes.old xs → OnSome result (IsDivided sizes bytes.new (after_take size xs)) }
+    ensures fits { IfSome result (λ p. (8 ≤ p) × (p + size ≤ length bytes.old)) }
     ensures none { IfNone result (bytes.new ≡ bytes.old) }
     ensures len { length bytes.new ≡ length bytes.old }
+    ensures head { AgreeOn 2 6 bytes.old bytes.new }
     ensures others { (sizes : ℕ → ℕ) (xs : List Extent) (q n : ℕ) → IsDivided sizes bytes.old xs → UsedAt 8 xs q n → AgreeOn q n bytes.old bytes.new }
 {
     let hole = find_hole(bytes, size)?;
+    let rest = hole.place + size as usize;
+    if rest > bytes.len() {
+        return None;
+    }
     if hole.len == size {
         write_u16(bytes, hole.link, hole.next);
         return Some(hole.place as u16);
     }
-    let rest = hole.place + size as usize;
     if rest + 8 > bytes.len() {
         return None;
     }

@@ -2,7 +2,7 @@ use Rattle.std.proofs.Common.{◌≡◌, ◌≢◌, ◌≤◌, ◌+◌, ◌∙�
 use Rattle.hd_bytes.specs.Numbers.{number_at}
 use Rattle.hd_block.proofs.Walk.{at-either}
 use Rattle.hd_block.proofs.GiveLemmas.{gives-own, gives-joined}
-use Rattle.hd_block.proofs.FrameLemmas.{gives-own-others, gives-joined-others}
+use Rattle.hd_block.proofs.FrameLemmas.{agree-both, head-room, head-link, head-four, gives-own-others, gives-joined-others}
 use Rattle.hd_block.proofs.gives.give_hole.Goals as goal
 use Rattle.hd_block.proofs.gives.give_hole.Goals.{else-link-ge8-via-then-link-ge8+else-link-len, else-link-ge8-via-else-link-ge8}
 
@@ -21,6 +21,10 @@ returns-then-link-len-clause-others c sizes xs q n h u v other =
     let s = c.find_link-link.ensures.found sizes xs c.args.size h (at-either xs c.args.offset c.args.size u) in
     gives-joined-others q n s v c.write_u16.ensures.changes c.write_u16-then-link-len.ensures.changes
 
+pub returns-then-link-len-clause-head : goal.returns-then-link-len-clause-head
+returns-then-link-len-clause-head c =
+    agree-both 2 6 _ _ _ (head-link c.find_link-link.ensures.head c.write_u16.ensures.changes) (head-room (omega (arith, c.if-link-ge8.true)) c.write_u16-then-link-len.ensures.changes)
+
 pub returns-clause-after : goal.returns-clause-after
 returns-clause-after c sizes xs h u =
     let s = c.find_link-link.ensures.found sizes xs c.args.size h (at-either xs c.args.offset c.args.size u) in
@@ -35,6 +39,10 @@ returns-clause-after c sizes xs h u =
     in
     gives-own s t apart c.requires.size.0 c.requires.size.1 c.write_u16-2.ensures.changes c.write_u16-3.ensures.changes c.write_u32.ensures.changes c.write_u16-4.ensures.changes
     c.write_u16-2.ensures.reads_back c.write_u16-3.ensures.reads_back c.write_u32.ensures.reads_back c.write_u16-4.ensures.reads_back
+
+pub returns-clause-head : goal.returns-clause-head
+returns-clause-head c =
+    head-four c.requires.offset.0 c.find_link-link.ensures.head c.write_u16-2.ensures.changes c.write_u16-3.ensures.changes c.write_u32.ensures.changes c.write_u16-4.ensures.changes
 
 pub returns-clause-others : goal.returns-clause-others
 returns-clause-others c sizes xs q n h u v other =

@@ -1,4 +1,4 @@
-use Rattle.std.proofs.Common.{◌≢◌, refl, arith}
+use Rattle.std.proofs.Common.{◌≢◌, inl, inr, refl, arith}
 use Rattle.hd_block.proofs.Walk.{begins, stands, passes-hole, passes-small, none-past, fill-within}
 use Rattle.hd_block.specs.Found.{SeeksHole}
 use Rattle.hd_block.proofs.holes.find_hole.Goals as goal
@@ -6,6 +6,7 @@ use Rattle.hd_block.proofs.holes.find_hole.Goals as goal
 pub walk-init : goal.walk-init
 walk-init c = record {
   link = omega arith;
+  head = inr refl;
   end = omega arith;
   small = omega arith;
   progress = λ sizes xs h. rw c.read_u16-place.ensures (begins sizes c.args.bytes.now (SeeksHole c.args.size xs) xs h (refl, refl));
@@ -27,6 +28,7 @@ walk-preserved c =
     let some : c.walk.place ≢ 0 = λ z. omega (arith, c.walk.invariant.end) in
     record {
       link = omega arith;
+      head = inl (omega (arith, c.walk.invariant.end));
       end = omega arith;
       small = omega arith;
       progress = λ sizes xs h. rw c.read_u16-next.ensures (passes-small (stands (c.walk.invariant.progress sizes xs h) (passes-hole c.args.size xs c.walk.place) some) (omega (arith, c.read_u16-len.ensures, c.if-size-len.false)));
