@@ -1,4 +1,3 @@
-pub mod LineCuts
 pub mod Columns
 pub mod Sources
 pub mod WorkedSources

@@ -1,13 +1,11 @@
 -- The columns of a line, which count from 1. A line is blank past its end.
 use Rattle.std.specs.Prelude.{ℕ, ◌-◌, List, ◌++◌, length, take, drop, replicate, Bool, not, ◌||◌, ◌==◌, nat_le, slice_index, bytes_eq, codes}
-use Rattle.std.specs.List.{list_all, list_any, prefix_len}
+use Rattle.std.specs.List.{list_any, prefix_len}
+use Rattle.hd_lines.specs.Blanks.{is_blank}
 
 -- the eighty columns of a line
 abbrev pub card : List ℕ → List ℕ
 card line = line ++ replicate (80 - length line) 32
-
-abbrev pub is_blank : List ℕ → Bool
-is_blank bytes = list_all (λ b. b == 32) bytes
 
 -- the columns that may have text: 1 to 71
 abbrev pub text_columns : List ℕ → List ℕ
@@ -17,7 +15,7 @@ text_columns line = take 71 (card line)
 abbrev pub goes_on : List ℕ → Bool
 goes_on line = not (slice_index (card line) 71 == 32)
 
--- a star in column 1, or blanks in columns 1 to 72
+-- a comment or a blank line: a star in column 1, or blanks in columns 1 to 72
 abbrev pub is_ignored : List ℕ → Bool
 is_ignored line = slice_index (card line) 0 == 42 || is_blank (take 72 (card line))
 
@@ -31,10 +29,6 @@ word bytes = take (prefix_len (λ b. not (b == 32)) bytes) bytes
 
 abbrev pub behind_word : List ℕ → List ℕ
 behind_word bytes = drop (prefix_len (λ b. not (b == 32)) bytes) bytes
-
--- the bytes from the first that is not blank on
-abbrev pub unpadded : List ℕ → List ℕ
-unpadded bytes = drop (prefix_len (λ b. b == 32) bytes) bytes
 
 -- a statement that only lays out the listing of an assembler
 abbrev pub is_listing : List ℕ → Bool

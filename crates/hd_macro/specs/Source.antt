@@ -3,7 +3,8 @@ use Rattle.std.specs.Prelude.{ℕ, ◌+◌, ◌-◌, List, [], ◌∷◌, ◌++�
 use Rattle.std.specs.Option.{option_map_or}
 use Rattle.std.specs.Str.Lines.{lines}
 use Rattle.hd_macro.specs.Statements.{StatementText}
-use Rattle.hd_macro.specs.Cards.{card, is_blank, text_columns, goes_on, is_ignored, has_other_byte, word, behind_word, unpadded, is_listing}
+use Rattle.hd_lines.specs.Blanks.{is_blank, unpadded}
+use Rattle.hd_macro.specs.Cards.{card, text_columns, goes_on, is_ignored, has_other_byte, word, behind_word, is_listing}
 use Rattle.hd_macro.specs.Operands.{Reading, unread, read_text, ended}
 use Rattle.hd_macro.specs.declared.source.LineFault.{LineFault}
 use Rattle.hd_macro.specs.declared.source.LineFault.TheVariants.{M1, M2, M3, M4}
@@ -26,7 +27,7 @@ pub record Step : Type 0 where
 abbrev pub finished : StatementText → List StatementText
 finished s = cond (is_listing s.operation) [] (s ∷ [])
 
--- A statement that ends with line's columns, or whose remarks go on.
+-- A statement ends with a line, or its remarks go on in the next, as column 72 says.
 abbrev pub ending : StatementText → List ℕ → Step
 ending s line = cond (goes_on line) (record { done = []; open_behind = remarks s }) (record { done = finished s; open_behind = nothing })
 

@@ -1,6 +1,9 @@
 ghost use Rattle.std.specs.Prelude.{◌≡◌, ◌==◌, ◌≤◌, length, not, take};
 ghost use Rattle.std.specs.List.{prefix_len};
-ghost use Rattle.hd_macro.specs.Cards.{card, goes_on, has_other_byte, is_blank, is_ignored, is_listing, text_columns, unpadded, word, behind_word};
+ghost use Rattle.hd_lines.specs.Blanks.{is_blank};
+ghost use Rattle.hd_macro.specs.Cards.{card, goes_on, has_other_byte, is_ignored, is_listing, text_columns, word, behind_word};
+
+use hd_lines::is_blank;
 
 /// The eighty columns of a line.
 pub(crate) fn card(line: &[u8]) -> [u8; 80]
@@ -41,12 +44,6 @@ pub(crate) fn is_indented(columns: &[u8; 80]) -> bool
     is_blank(&columns[..15])
 }
 
-fn is_blank(bytes: &[u8]) -> bool
-    ensures { result ≡ is_blank bytes.now }
-{
-    bytes.iter().all(|b| *b == b' ')
-}
-
 /// Whether a line has a byte that is not ASCII.
 pub(crate) fn has_other_byte(line: &[u8]) -> bool
     ensures { result ≡ has_other_byte line.now }
@@ -68,20 +65,6 @@ fn word_len(bytes: &[u8]) -> usize
     ensures bound { result ≤ length bytes.now }
 {
     bytes.iter().take_while(|b| **b != b' ').count()
-}
-
-/// The bytes from the first that is not blank on.
-pub(crate) fn unpadded(bytes: &[u8]) -> &[u8]
-    ensures { result.now ≡ unpadded bytes.now }
-{
-    &bytes[blanks_in_front(bytes)..]
-}
-
-fn blanks_in_front(bytes: &[u8]) -> usize
-    ensures value { result ≡ prefix_len (λ b. b == 32) bytes.now }
-    ensures bound { result ≤ length bytes.now }
-{
-    bytes.iter().take_while(|b| **b == b' ').count()
 }
 
 /// Whether an operation only lays out the listing of an assembler.

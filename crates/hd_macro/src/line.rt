@@ -5,12 +5,12 @@ ghost use Rattle.hd_macro.specs.Views.{open_of, reading_of, step_of};
 
 use crate::card::{
     card, goes_on, has_other_byte, is_ignored, is_indented, is_listing, split_word, text_columns,
-    unpadded,
 };
 use crate::operand::{ended, read_text, unread};
 use crate::reading::Reading;
 use crate::source::LineFault;
 use crate::statement::Statement;
+use hd_lines::unpadded;
 use std::alloc::Global;
 
 /// What stands open behind a line.

@@ -1,11 +1,10 @@
 ghost use Rattle.std.specs.Prelude.{◌≡◌, ◌≢◌, ◌<◌, [], ◌∷◌, ◌++◌, length, option_to_list, Ok, Err, IfOk, IfErr};
-ghost use Rattle.std.specs.Str.Lines.{lines, strip_carriage_return};
 ghost use Rattle.hd_macro.specs.Source.{source, at_end};
 ghost use Rattle.hd_macro.specs.Views.{open_of};
 
 use crate::line::{Open, read_line};
 use crate::statement::Statement;
-use memchr::memchr;
+use hd_lines::next_line;
 use std::alloc::Global;
 use thiserror::Error;
 
@@ -69,28 +68,6 @@ fn at_end(standing: &Open, number: usize) -> Result<(), LineFault>
     match standing {
         Open::Nothing => Ok(()),
         _ => Err(LineFault::M3(number)),
-    }
-}
-
-/// The first line, without its end, and what follows it.
-fn next_line(bytes: &[u8]) -> (&[u8], &[u8])
-    requires { 0 < length bytes.now }
-    ensures value { lines bytes.now ≡ result.0.now ∷ lines result.1.now }
-    ensures less { length result.1.now < length bytes.now }
-{
-    match memchr(b'\n', bytes) {
-        Some(end) => (without_return(&bytes[..end]), &bytes[end + 1..]),
-        None => (bytes, &[]),
-    }
-}
-
-/// The line without a carriage return at its end.
-fn without_return(line: &[u8]) -> &[u8]
-    ensures { result.now ≡ strip_carriage_return line.now }
-{
-    match line.split_last() {
-        Some((b'\r', front)) => front,
-        _ => line,
     }
 }
 

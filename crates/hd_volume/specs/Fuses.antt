@@ -29,8 +29,8 @@ module _ {S : Type 0} where
     accesses = min (fuse.accesses + 1) (2 ^ 64 - 1);
   }
 
--- an access at a fuse over a store with these meanings: the one that is due to fail fails with no effect below,
--- and every other answers for the store below alone
+-- An access at a fuse over a store with these meanings: the one that is due to fail fails with no effect below; every other
+-- answers Device exactly where the store below counted a failure, and leaves it sound where it did not.
 pub record Burns {S : Type 0} (failures : S → ℕ) (is_sound : S → Bool) (old : Fused S) (result : Result Unit Refused) (new : Fused S) : Type 0 where
   pub fuse : new ≡ after_access old new.inner
   pub fails : fails_next old ≡ true → result ≡ Err Device

@@ -7,7 +7,8 @@ use crate::store::BlockStore;
 use hd_dbd::Refused;
 use std::marker::Model;
 
-/// A store that passes so many accesses on to another, fails the next one, and passes all later ones.
+/// A store that passes so many accesses on to another, fails the next one, and passes all later ones that are of a block
+/// which is there.
 ///
 /// An access is a `read`, a `write` or a `grow`. The one that fails leaves the store below as it was. After it a
 /// `read` or a `write` of a block that is not there answers `Ok` and reaches nothing.
@@ -133,6 +134,7 @@ impl<S: BlockStore> BlockStore for FuseStore<S> {
         ensures burns { Burns S.failures S.is_sound self.old result self.new }
         ensures counts { CountsDevice result (S.failures self.old.inner + failed self.old) (S.failures self.new.inner + failed self.new) }
         ensures sound { StaysSound result (S.is_sound self.old.inner && not self.old.is_blown) (S.is_sound self.new.inner && not self.new.is_blown) }
+        ensures beyond { OnOk result (IsTrue (S.is_sound self.old.inner) → (HasBlock (S.size self.old.inner) (S.contents self.old.inner) n → ⊥) → self.new.inner ≡ self.old.inner) }
         ensures value { OnOk result (IsTrue (S.is_sound self.old.inner) → HasBlock (S.size self.old.inner) (S.contents self.old.inner) n → S.contents self.new.inner ≡ with_block (S.size self.old.inner) (S.contents self.old.inner) n bytes.now) }
         ensures len { OnOk result (IsTrue (S.is_sound self.old.inner) → length (S.contents self.new.inner) ≡ length (S.contents self.old.inner)) }
         ensures refusal { IfErr result (λ e. e ≡ Refused.Device) }
