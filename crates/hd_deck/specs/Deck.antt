@@ -3,6 +3,7 @@ use Rattle.std.specs.Prelude.{ℕ, ◌+◌, ◌-◌, ◌*◌, List, [], ◌∷�
 use Rattle.std.specs.Option.{option_map_or}
 use Rattle.std.specs.List.{list_all, prefix_len}
 use Rattle.std.specs.Str.Lines.{lines}
+use Rattle.hd_lines.specs.Blanks.{is_blank, unpadded}
 use Rattle.hd_dbd.specs.Naming.{is_letter}
 use Rattle.hd_dbd.specs.Calls.{CallText}
 use Rattle.hd_deck.specs.StepText.{StepText}
@@ -10,10 +11,6 @@ use Rattle.hd_deck.specs.declared.deck.DeckFault.{DeckFault}
 use Rattle.hd_deck.specs.declared.deck.DeckFault.TheVariants.{K1, K2, K3, K5, K6}
 
 -- ---- columns
-
--- blanks alone
-abbrev pub is_blank : List ℕ → Bool
-is_blank bytes = list_all (λ b. b == 32) bytes
 
 -- the byte in a column
 abbrev pub column : List ℕ → ℕ → ℕ
@@ -27,10 +24,6 @@ columns line c count = take count (drop (c - 1) line ++ replicate count 32)
 
 abbrev pub is_digit : ℕ → Bool
 is_digit b = nat_le 48 b && nat_le b 57
-
--- the bytes without the blanks at their front
-abbrev pub unpadded : List ℕ → List ℕ
-unpadded bytes = drop (prefix_len (λ b. b == 32) bytes) bytes
 
 -- the number that decimal digits spell
 abbrev pub value_of : List ℕ → ℕ

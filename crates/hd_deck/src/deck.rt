@@ -1,12 +1,11 @@
 ghost use Rattle.std.specs.Prelude.{◌≡◌, ◌≢◌, ◌<◌, ◌≤◌, ◌∷◌, ◌++◌, length, All, IfOk, IfErr};
-ghost use Rattle.std.specs.Str.Lines.{lines, strip_carriage_return};
 ghost use Rattle.hd_deck.specs.StepText.{StepFits};
 ghost use Rattle.hd_deck.specs.Deck.{deck, pcb_after, steps_said};
 ghost use Rattle.hd_deck.specs.Lines.{said};
 
 use crate::line::{Statement, read_line};
 use crate::step::Step;
-use memchr::memchr;
+use hd_lines::next_line;
 use std::alloc::Global;
 use thiserror::Error;
 
@@ -73,28 +72,6 @@ fn follow(steps: &mut Vec<Step>, pcb: u8, statement: Statement) -> Result<u8, De
                 .map_err(|_| DeckFault::Memory)?;
             Ok(pcb)
         }
-    }
-}
-
-/// The first line, without its end, and what follows it.
-fn next_line(bytes: &[u8]) -> (&[u8], &[u8])
-    requires { 0 < length bytes.now }
-    ensures value { lines bytes.now ≡ result.0.now ∷ lines result.1.now }
-    ensures less { length result.1.now < length bytes.now }
-{
-    match memchr(b'\n', bytes) {
-        Some(end) => (without_return(&bytes[..end]), &bytes[end + 1..]),
-        None => (bytes, &[]),
-    }
-}
-
-/// The line without a carriage return at its end.
-fn without_return(line: &[u8]) -> &[u8]
-    ensures { result.now ≡ strip_carriage_return line.now }
-{
-    match line.split_last() {
-        Some((b'\r', front)) => front,
-        _ => line,
     }
 }
 

@@ -1,10 +1,11 @@
 ghost use Rattle.std.specs.Prelude.{◌≡◌, ◌≢◌, ◌==◌, ◌<◌, ◌≤◌, min, length, map, option_map, Ok, Err, IfOk, IfErr, IfSome};
 ghost use Rattle.std.specs.List.{prefix_len};
 ghost use Rattle.hd_dbd.specs.Naming.{is_letter};
-ghost use Rattle.hd_deck.specs.Deck.{call, call_in, column, columns, has_function, is_blank, is_digit, is_function, number_in, read_call, read_line, read_select, repeat_in, ssas_in, select, unpadded, value_of};
+ghost use Rattle.hd_deck.specs.Deck.{call, call_in, column, columns, has_function, is_digit, is_function, number_in, read_call, read_line, read_select, repeat_in, ssas_in, select, value_of};
 ghost use Rattle.hd_deck.specs.Lines.{said, StatementFits};
 
 use crate::deck::DeckFault;
+use hd_lines::{is_blank, unpadded};
 use hd_session::Call;
 use std::alloc::{AllocError, Global};
 
@@ -153,20 +154,6 @@ fn value_of(digits: &[u8]) -> u32
     value
 }
 
-/// The bytes without the blanks at their front.
-fn unpadded(bytes: &[u8]) -> &[u8]
-    ensures { result.now ≡ unpadded bytes.now }
-{
-    &bytes[blanks_in_front(bytes)..]
-}
-
-fn blanks_in_front(bytes: &[u8]) -> usize
-    ensures value { result ≡ prefix_len (λ b. b == 32) bytes.now }
-    ensures bound { result ≤ length bytes.now }
-{
-    bytes.iter().take_while(|b| **b == b' ').count()
-}
-
 fn digits_in_front(bytes: &[u8]) -> usize
     ensures value { result ≡ prefix_len is_digit bytes.now }
     ensures bound { result ≤ length bytes.now }
@@ -179,12 +166,6 @@ fn letters_in_front(bytes: &[u8]) -> usize
     ensures bound { result ≤ length bytes.now }
 {
     bytes.iter().take_while(|b| b.is_ascii_uppercase()).count()
-}
-
-fn is_blank(bytes: &[u8]) -> bool
-    ensures { result ≡ is_blank bytes.now }
-{
-    bytes.iter().all(|b| *b == b' ')
 }
 
 /// The byte in a column, counted from 1.

@@ -1,6 +1,7 @@
 use Rattle.std.proofs.Common.{arith, ◌≡◌, ◌<◌, ◌∙◌, sym, ap, ℕ, List, false, Some, None, cond, ◌==◌, Option, option_and_then}
 use Rattle.std.proofs.lemmas.Bool.Decides.{nat_tests}
-use Rattle.hd_deck.specs.Deck.{columns, is_blank, number_in, repeat_in}
+use Rattle.hd_lines.specs.Blanks.{is_blank}
+use Rattle.hd_deck.specs.Deck.{columns, number_in, repeat_in}
 use Rattle.hd_deck.proofs.Numbers.{read_columns}
 use Rattle.hd_deck.proofs.line.repeat_in.Goals as goal
 

@@ -1,8 +1,8 @@
 use Rattle.std.proofs.Common.{arith, ◌+◌, ◌-◌, ◌∷◌, ◌∙◌, List, ℕ, length, drop, ap, sym, length-drop}
 use Rattle.std.proofs.lemmas.List.{take_all}
 use Rattle.std.specs.Str.Lines.{lines}
-use Rattle.hd_deck.proofs.LineCuts.{line_to_feed, line_to_end}
-use Rattle.hd_deck.proofs.deck.next_line.Goals as goal
+use Rattle.hd_lines.proofs.LineCuts.{line_to_feed, line_to_end}
+use Rattle.hd_lines.proofs.cut.next_line.Goals as goal
 
 pub returns-in-Some-clause-value : goal.returns-in-Some-clause-value
 returns-in-Some-clause-value c =

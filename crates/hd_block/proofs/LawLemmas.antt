@@ -1,0 +1,100 @@
+-- Divisions are unique, and stay where segments are written.
+use Rattle.std.proofs.Common.{◌≡◌, ℕ, ◌+◌, ◌-◌, ◌<◌, ◌≤◌, ◌⊎◌, inl, inr, List, [], ◌∷◌, slice_index, refl, sym, ap, ◌∙◌, arith, ne_eqb}
+use Rattle.std.proofs.lemmas.Bool.{eq-eqb}
+use Rattle.hd_bytes.specs.Ranges.{ChangesOnly}
+use Rattle.hd_bytes.specs.Numbers.{number_at}
+use Rattle.hd_bytes.proofs.NumberLemmas.{number-below}
+use Rattle.hd_block.specs.Extents.{Extent, free, used, taken, IsElement, IsSegment, Fill, AreWhole, UsedAt, TakenAt}
+use Rattle.hd_block.specs.Changes.{after_fill}
+use Rattle.hd_block.proofs.Walk.{fill-within, at-ahead, at-taken}
+use Rattle.hd_block.proofs.Reroute.{fill-same, segment-kept}
+use Rattle.hd_block.proofs.FrameLemmas.{used-ahead}
+
+-- a free element before a change
+element-before : {p n : ℕ} {b b' : List ℕ} (q m : ℕ) → ChangesOnly p n b b' → q + m ≤ p → IsElement b q m → IsElement b' q m
+element-before q m c l e =
+    let some = e.some in
+    record {
+      len = number-below 2 (q + 2) c (omega arith) ∙ e.len;
+      task = number-below 4 (q + 4) c (omega arith) ∙ e.task;
+      some = some;
+      whole = e.whole;
+      apart = λ v. e.apart (sym (number-below 2 q c (omega arith)) ∙ v);
+    }
+
+-- a change inside a segment, past its code
+pub fill-written : (sizes : ℕ → ℕ) (b b' : List ℕ) (p f : ℕ) (xs : List Extent) (place n : ℕ) → Fill sizes b p f xs → UsedAt p xs place n → ChangesOnly (place + 1) (n - 1) b b' → Fill sizes b' p f xs
+fill-written sizes b b' p f [] place n h u c = absurd u
+fill-written sizes b b' p f (free m ∷ xs) place n h u c =
+    let some = h.1.some in
+    let ahead = used-ahead (p + m) xs place n u in
+    let next : number_at 2 b' p ≡ number_at 2 b p = number-below 2 p c (omega arith) in
+    (h.0, element-before p m c (omega arith) h.1, rw next (fill-written sizes b b' (p + m) (number_at 2 b p) xs place n h.2 u c))
+fill-written sizes b b' p f (taken m ∷ xs) place n h u c = (h.0, h.1, h.2, fill-written sizes b b' (p + m) f xs place n h.3 u c)
+fill-written sizes b b' p f (used m ∷ xs) place n h (inl e) c =
+    let some = h.1.some in
+    (h.0, segment-kept (c.below p (omega arith)) h.1, fill-same sizes b b' (p + m) f xs c.len (λ j l. c.above j (omega arith)) h.2)
+fill-written sizes b b' p f (used m ∷ xs) place n h (inr u) c =
+    let ahead = used-ahead (p + m) xs place n u in
+    let some = h.1.some in
+    (h.0, segment-kept (c.below p (omega arith)) h.1, fill-written sizes b b' (p + m) f xs place n h.2 u c)
+
+-- room that was handed out stands behind where the extents begin
+pub taken-ahead : (p : ℕ) (xs : List Extent) (place n : ℕ) → TakenAt p xs place n → p ≤ place
+taken-ahead p xs place n u = at-ahead p xs place n (at-taken p xs place n u)
+
+-- a segment that is put into room of its size
+pub fill-filled : (sizes : ℕ → ℕ) (b b' : List ℕ) (p f : ℕ) (xs : List Extent) (place n : ℕ) → Fill sizes b p f xs → TakenAt p xs place n → ChangesOnly place n b b'
+    → sizes (slice_index b' place) ≡ n → Fill sizes b' p f (after_fill place p xs)
+fill-filled sizes b b' p f [] place n h u c e = absurd u
+fill-filled sizes b b' p f (free m ∷ xs) place n h u c e =
+    let some = h.1.some in
+    let ahead = taken-ahead (p + m) xs place n u in
+    let next : number_at 2 b' p ≡ number_at 2 b p = number-below 2 p c (omega arith) in
+    (h.0, element-before p m c (omega arith) h.1, rw next (fill-filled sizes b b' (p + m) (number_at 2 b p) xs place n h.2 u c e))
+fill-filled sizes b b' p f (used m ∷ xs) place n h u c e =
+    let some = h.1.some in
+    let ahead = taken-ahead (p + m) xs place n u in
+    (h.0, segment-kept (c.below p (omega arith)) h.1, fill-filled sizes b b' (p + m) f xs place n h.2 u c e)
+fill-filled sizes b b' p f (taken m ∷ xs) place n h (inl d) c e =
+    let segment : IsSegment sizes b' p m = record { size = ap (λ (z : ℕ). sizes (slice_index b' z)) d.0 ∙ e ∙ sym d.1; some = h.1; whole = h.2 } in
+    rw (eq-eqb p place d.0) (h.0, segment, fill-same sizes b b' (p + m) f xs c.len (λ j l. c.above j (omega arith)) h.3)
+fill-filled sizes b b' p f (taken m ∷ xs) place n h (inr u) c e =
+    let ahead = taken-ahead (p + m) xs place n u in
+    let some = h.1 in
+    rw (ne_eqb p place (λ v. omega arith)) (h.0, h.1, h.2, fill-filled sizes b b' (p + m) f xs place n h.3 u c e)
+
+-- the segments at two places are one, or one ends before the other begins
+pub used-apart : (p : ℕ) (xs : List Extent) (place n other m : ℕ) → UsedAt p xs place n → UsedAt p xs other m
+    → ((place ≡ other) × (n ≡ m)) ⊎ (place + n ≤ other) ⊎ (other + m ≤ place)
+used-apart p [] place n other m u v = absurd u
+used-apart p (free k ∷ xs) place n other m u v = used-apart (p + k) xs place n other m u v
+used-apart p (taken k ∷ xs) place n other m u v = used-apart (p + k) xs place n other m u v
+used-apart p (used k ∷ xs) place n other m (inl e) (inl d) = inl (omega arith, omega arith)
+used-apart p (used k ∷ xs) place n other m (inl e) (inr v) = let r = used-ahead (p + k) xs other m v in inr (inl (omega arith))
+used-apart p (used k ∷ xs) place n other m (inr u) (inl d) = let r = used-ahead (p + k) xs place n u in inr (inr (omega arith))
+used-apart p (used k ∷ xs) place n other m (inr u) (inr v) = used-apart (p + k) xs place n other m u v
+
+-- bytes have one division
+pub one-division : (sizes : ℕ → ℕ) (b : List ℕ) (p f : ℕ) (xs ys : List Extent) → 0 < p → AreWhole xs → AreWhole ys → Fill sizes b p f xs → Fill sizes b p f ys → xs ≡ ys
+one-division sizes b p f (taken n ∷ xs) ys k s t h i = absurd s
+one-division sizes b p f [] (taken m ∷ ys) k s t h i = absurd t
+one-division sizes b p f (free n ∷ xs) (taken m ∷ ys) k s t h i = absurd t
+one-division sizes b p f (used n ∷ xs) (taken m ∷ ys) k s t h i = absurd t
+one-division sizes b p f [] [] k s t h i = refl
+one-division sizes b p f [] (free m ∷ ys) k s t h i = absurd (omega arith)
+one-division sizes b p f [] (used m ∷ ys) k s t h i = let some = i.1.some in let w = fill-within sizes b (p + m) f ys i.2 in absurd (omega arith)
+one-division sizes b p f (free n ∷ xs) [] k s t h i = absurd (omega arith)
+one-division sizes b p f (used n ∷ xs) [] k s t h i = let some = h.1.some in let w = fill-within sizes b (p + n) f xs h.2 in absurd (omega arith)
+one-division sizes b p f (free n ∷ xs) (used m ∷ ys) k s t h i = absurd (i.0 h.0)
+one-division sizes b p f (used n ∷ xs) (free m ∷ ys) k s t h i = absurd (h.0 i.0)
+one-division sizes b p f (free n ∷ xs) (free m ∷ ys) k s t h i =
+    let same : m ≡ n = sym i.1.len ∙ h.1.len in
+    let rest : Fill sizes b (p + n) (number_at 2 b p) ys = rw (← same) i.2 in
+    ap (λ (z : ℕ). free z ∷ xs) (sym same) ∙ ap (λ (z : List Extent). free m ∷ z) (one-division sizes b (p + n) (number_at 2 b p) xs ys (omega arith) s t h.2 rest)
+one-division sizes b p f (used n ∷ xs) (used m ∷ ys) k s t h i =
+    let e = h.1.size in
+    let d = i.1.size in
+    let same : m ≡ n = cc in
+    let rest : Fill sizes b (p + n) f ys = rw (← same) i.2 in
+    ap (λ (z : ℕ). used z ∷ xs) (sym same) ∙ ap (λ (z : List Extent). used m ∷ z) (one-division sizes b (p + n) f xs ys (omega arith) s t h.2 rest)

@@ -1,0 +1,47 @@
+-- What taking and giving room do to the extents of a block.
+use Rattle.std.specs.Prelude.{ℕ, ◌+◌, ◌-◌, nat_le, ◌==◌, cond, List, [], ◌∷◌, Option, Some, None}
+use Rattle.hd_block.specs.Extents.{Extent, free, used, taken}
+
+-- ---- taking
+
+-- of extents that begin at p, where the first hole of that size or more begins
+abbrev pub hole_at : ℕ → ℕ → List Extent → Option ℕ
+hole_at size p [] = None
+hole_at size p (free n ∷ xs) = cond (nat_le size n) (Some p) (hole_at size (p + n) xs)
+hole_at size p (used n ∷ xs) = hole_at size (p + n) xs
+hole_at size p (taken n ∷ xs) = hole_at size (p + n) xs
+
+-- a hole of n bytes whose front is taken, before other extents
+abbrev pub split_hole : ℕ → ℕ → List Extent → List Extent
+split_hole size n xs = taken size ∷ cond (n == size) xs (free (n - size) ∷ xs)
+
+-- the extents after the front of the first large enough hole is taken
+abbrev pub after_take : ℕ → List Extent → List Extent
+after_take size [] = []
+after_take size (free n ∷ xs) = cond (nat_le size n) (split_hole size n xs) (free n ∷ after_take size xs)
+after_take size (used n ∷ xs) = used n ∷ after_take size xs
+after_take size (taken n ∷ xs) = taken n ∷ after_take size xs
+
+-- of extents that begin at p, those after room that was handed out at a place has got its segment
+abbrev pub after_fill : ℕ → ℕ → List Extent → List Extent
+after_fill place p [] = []
+after_fill place p (free n ∷ xs) = free n ∷ after_fill place (p + n) xs
+after_fill place p (used n ∷ xs) = used n ∷ after_fill place (p + n) xs
+after_fill place p (taken n ∷ xs) = cond (p == place) (used n ∷ xs) (taken n ∷ after_fill place (p + n) xs)
+
+-- ---- giving back
+
+-- a hole of n bytes before other extents, joined to a hole that begins them
+abbrev pub hole_before : ℕ → List Extent → List Extent
+hole_before n [] = free n ∷ []
+hole_before n (free m ∷ xs) = free (n + m) ∷ xs
+hole_before n (used m ∷ xs) = free n ∷ used m ∷ xs
+hole_before n (taken m ∷ xs) = free n ∷ taken m ∷ xs
+
+-- Of extents that begin at p, those after the segment or the room at a place is freed: just that extent becomes a hole,
+-- which is joined to the holes beside it.
+abbrev pub after_give : ℕ → ℕ → List Extent → List Extent
+after_give place p [] = []
+after_give place p (free n ∷ xs) = hole_before n (after_give place (p + n) xs)
+after_give place p (used n ∷ xs) = cond (p == place) (hole_before n xs) (used n ∷ after_give place (p + n) xs)
+after_give place p (taken n ∷ xs) = cond (p == place) (hole_before n xs) (taken n ∷ after_give place (p + n) xs)

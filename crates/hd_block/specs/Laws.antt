@@ -1,0 +1,27 @@
+-- Laws of divided blocks, for every size function.
+use Rattle.std.specs.Prelude.{◌≡◌, ◌⊎◌, ℕ, ◌+◌, ◌-◌, ◌≤◌, List, slice_index}
+use Rattle.hd_bytes.specs.Ranges.{ChangesOnly}
+use Rattle.hd_block.specs.Extents.{Extent, IsDivided, AreWhole, UsedAt, TakenAt}
+use Rattle.hd_block.specs.Changes.{after_fill}
+
+-- A block has at most one division into free elements and segments.
+abbrev pub OneDivision : Type 0
+OneDivision =
+    (sizes : ℕ → ℕ) (bytes : List ℕ) (xs ys : List Extent) → IsDivided sizes bytes xs → AreWhole xs → IsDivided sizes bytes ys → AreWhole ys → xs ≡ ys
+
+-- A change inside a segment, past its code, keeps the division.
+abbrev pub WritesKeepDivision : Type 0
+WritesKeepDivision =
+    (sizes : ℕ → ℕ) (old new : List ℕ) (xs : List Extent) (place n : ℕ) → IsDivided sizes old xs → UsedAt 8 xs place n
+    → ChangesOnly (place + 1) (n - 1) old new → IsDivided sizes new xs
+
+-- A segment that is put where room of its size was handed out takes that room.
+abbrev pub RoomIsFilled : Type 0
+RoomIsFilled =
+    (sizes : ℕ → ℕ) (old new : List ℕ) (xs : List Extent) (place n : ℕ) → IsDivided sizes old xs → TakenAt 8 xs place n
+    → ChangesOnly place n old new → sizes (slice_index new place) ≡ n → IsDivided sizes new (after_fill place 8 xs)
+
+-- Two segments of a block are one, or apart.
+abbrev pub SegmentsAreApart : Type 0
+SegmentsAreApart =
+    (xs : List Extent) (p n q m : ℕ) → UsedAt 8 xs p n → UsedAt 8 xs q m → ((p ≡ q) × (n ≡ m)) ⊎ (p + n ≤ q) ⊎ (q + m ≤ p)

@@ -1,0 +1,29 @@
+-- What a reader of a block finds, whatever its bytes are: parts up to the first place where there is none that fits.
+use Rattle.std.specs.Prelude.{ℕ, zero, suc, ◌+◌, ◌-◌, ◌==◌, ◌&&◌, nat_le, Bool, cond, List, [], ◌∷◌, length, slice_index}
+use Rattle.hd_bytes.specs.Numbers.{number_at}
+use Rattle.hd_block.specs.declared.parts.Part.{Part}
+use Rattle.hd_block.specs.declared.parts.Part.TheVariants.{Free, Used}
+
+-- a part of n bytes at a place has room for an element, and ends within the block
+abbrev pub part_fits : List ℕ → ℕ → ℕ → Bool
+part_fits bytes place n = nat_le 8 n && nat_le (place + n) (length bytes)
+
+-- At most so many parts from a place on, where the next free element begins at `next`.
+unfoldable pub walk_parts : (ℕ → ℕ) → List ℕ → ℕ → ℕ → ℕ → List Part
+walk_parts sizes bytes zero place next = []
+walk_parts sizes bytes (suc more) place next =
+    cond (place == next)
+    (cond (part_fits bytes place (number_at 2 bytes (place + 2)))
+    (Free place (number_at 2 bytes (place + 2)) ∷ walk_parts sizes bytes more (place + number_at 2 bytes (place + 2)) (number_at 2 bytes place))
+    [])
+    (cond (part_fits bytes place (sizes (slice_index bytes place)))
+    (Used place (sizes (slice_index bytes place)) ∷ walk_parts sizes bytes more (place + sizes (slice_index bytes place)) next)
+    [])
+
+-- all parts from a place on
+abbrev pub parts_from : (ℕ → ℕ) → List ℕ → ℕ → ℕ → List Part
+parts_from sizes bytes place next = walk_parts sizes bytes (length bytes - place) place next
+
+-- the parts of a block
+abbrev pub parts_in : (ℕ → ℕ) → List ℕ → List Part
+parts_in sizes bytes = parts_from sizes bytes 8 (number_at 2 bytes 0)

@@ -1,0 +1,75 @@
+ghost use Rattle.std.specs.Prelude.{◌≡◌, ◌⊎◌, ◌+◌, ◌%◌, ◌≤◌, ◌<◌, ℕ, List, length, None, MatchOption, OnSome, IfSome, IfNone};
+ghost use Rattle.hd_bytes.specs.Ranges.{AgreeOn};
+ghost use Rattle.hd_block.specs.Extents.{Extent, IsDivided, UsedAt};
+ghost use Rattle.hd_block.specs.Changes.{hole_at, after_take};
+ghost use Rattle.hd_block.specs.Found.{IsFound};
+
+use hd_bytes::{read_u16, write_u16, write_u32};
+
+/// A free element, and where the number stands that leads to it.
+#[derive(Clone, Copy)]
+pub struct Hole {
+    pub link: usize,
+    pub place: usize,
+    pub len: u16,
+    pub next: u16,
+}
+
+/// The first free element of at least this size; a chain that does not ascend ends the search.
+fn find_hole(bytes: &[u8], size: u16) -> Option<Hole>
+    requires { 8 ≤ length bytes.now }
+    ensures place { IfSome result (λ h. (h.link + 2 ≤ length bytes.now) × (h.place + 8 ≤ length bytes.now) × (size ≤ h.len)) }
+    ensures head { IfSome result (λ h. (8 ≤ h.place) × ((8 ≤ h.link) ⊎ (h.link ≡ 0))) }
+    ensures found { (sizes : ℕ → ℕ) (xs : List Extent) → IsDivided sizes bytes.now xs → MatchOption result (hole_at size 8 xs ≡ None) (IsFound sizes bytes.now size xs) }
+{
+    let mut link = 0;
+    let mut end = 8;
+    let mut place = read_u16(bytes, 0) as usize;
+    'walk: while place >= end && place + 8 <= bytes.len() {
+        let len = read_u16(bytes, place + 2);
+        let next = read_u16(bytes, place);
+        if size <= len {
+            return Some(Hole {
+                link,
+                place,
+                len,
+                next,
+            });
+        }
+        link = place;
+        end = place + 8;
+        place = next as usize;
+    }
+    None
+}
+
+/// Takes the front of the first hole that is large enough.
+pub fn take_hole(bytes: &mut [u8], size: u16) -> Option<u16>
+    requires block { (8 ≤ length bytes.old) × (length bytes.old ≤ 32768) }
+    requires size { (0 < size) × (size % 8 ≡ 0) }
+    ensures found { (sizes : ℕ → ℕ) (xs : List Extent) → IsDivided sizes bytes.old xs → result ≡ hole_at size 8 xs }
+    ensures after { (sizes : ℕ → ℕ) (xs : List Extent) → IsDivided sizes bytes.old xs → OnSome result (IsDivided sizes bytes.new (after_take size xs)) }
+    ensures fits { IfSome result (λ p. (8 ≤ p) × (p + size ≤ length bytes.old)) }
+    ensures none { IfNone result (bytes.new ≡ bytes.old) }
+    ensures len { length bytes.new ≡ length bytes.old }
+    ensures head { AgreeOn 2 6 bytes.old bytes.new }
+    ensures others { (sizes : ℕ → ℕ) (xs : List Extent) (q n : ℕ) → IsDivided sizes bytes.old xs → UsedAt 8 xs q n → AgreeOn q n bytes.old bytes.new }
+{
+    let hole = find_hole(bytes, size)?;
+    let rest = hole.place + size as usize;
+    if rest > bytes.len() {
+        return None;
+    }
+    if hole.len == size {
+        write_u16(bytes, hole.link, hole.next);
+        return Some(hole.place as u16);
+    }
+    if rest + 8 > bytes.len() {
+        return None;
+    }
+    write_u16(bytes, rest, hole.next);
+    write_u16(bytes, rest + 2, hole.len - size);
+    write_u32(bytes, rest + 4, 0);
+    write_u16(bytes, hole.link, rest as u16);
+    Some(hole.place as u16)
+}

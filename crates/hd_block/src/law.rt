@@ -1,0 +1,21 @@
+ghost use Rattle.hd_block.specs.Laws.{OneDivision, WritesKeepDivision, RoomIsFilled, SegmentsAreApart};
+
+/// A block has at most one division into free elements and segments.
+pub fn law_one_division()
+    ensures { OneDivision }
+{}
+
+/// A change inside a segment, past its code, keeps the division.
+pub fn law_writes_keep_division()
+    ensures { WritesKeepDivision }
+{}
+
+/// A segment that is put where room of its size was handed out takes that room.
+pub fn law_room_is_filled()
+    ensures { RoomIsFilled }
+{}
+
+/// Two segments of a block are one, or apart.
+pub fn law_segments_are_apart()
+    ensures { SegmentsAreApart }
+{}

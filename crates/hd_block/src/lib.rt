@@ -1,0 +1,14 @@
+//! A data block as the list of its extents: free elements and segments.
+#![tactic(auto)]
+
+mod block;
+mod gives;
+mod holes;
+mod law;
+mod parts;
+
+pub use block::Block;
+pub use law::{
+    law_one_division, law_room_is_filled, law_segments_are_apart, law_writes_keep_division,
+};
+pub use parts::{Part, Parts};

@@ -1,0 +1,114 @@
+ghost use Rattle.std.specs.Prelude.{◌≡◌, ◌+◌, ◌≤◌, [], ◌∷◌, length, MatchOption};
+ghost use Rattle.std.specs.Iterator.{YieldsFirst, item_count};
+ghost use Rattle.hd_bytes.specs.Numbers.{number_at};
+ghost use Rattle.hd_dbd.specs.Prefixes.{stored_size};
+ghost use Rattle.hd_block.specs.Walk.{parts_in, parts_from};
+
+use hd_bytes::read_u16;
+use hd_dbd::Dbd;
+use std::iter::FusedIterator;
+use std::marker::Model;
+
+/// A part of a data block: a free element or a segment, with its offset and its length in bytes.
+#[derive(Clone, Copy, Debug, PartialEq, Eq)]
+pub enum Part {
+    Free(u16, u16),
+    Used(u16, u16),
+}
+
+/// The parts of a block from its front, seen as the list of those that are left; it ends where no part fits.
+#[derive(Drop)]
+pub struct Parts<'a> {
+    bytes: &'a [u8],
+    dbd: &'a Dbd,
+    place: usize,
+    next: u16,
+}
+
+impl<'a> Model for Parts<'a> {
+    ghost use Rattle.std.specs.Prelude.{List, length, ◌≤◌};
+    ghost use Rattle.hd_dbd.specs.Prefixes.{stored_size};
+    ghost use Rattle.hd_block.specs.declared.parts.Part.{Part};
+    ghost use Rattle.hd_block.specs.Walk.{parts_from};
+
+    ghost Value = { List Part };
+
+    ghost view = { λ s. parts_from (stored_size s.dbd.now.types) s.bytes.now s.place s.next };
+
+    ghost invariant = { λ s. (s.place ≤ length s.bytes.now) × (length s.bytes.now ≤ 32768) };
+}
+
+impl<'a> Parts<'a> {
+    /// All parts of a block.
+    pub(crate) fn new(bytes: &'a [u8], dbd: &'a Dbd) -> Parts<'a>
+        requires { (8 ≤ length bytes.now) × (length bytes.now ≤ 32768) }
+        ensures { result ≡ parts_in (stored_size dbd.now.types) bytes.now }
+    {
+        let next = read_u16(bytes, 0);
+        Parts {
+            bytes,
+            dbd,
+            place: 8,
+            next,
+        }
+    }
+}
+
+impl<'a> Iterator for Parts<'a> {
+    type Item = Part;
+
+    ghost next_gives = { YieldsFirst (λ rest. rest) };
+
+    ghost remaining = { item_count (λ rest. rest) };
+
+    fn next(&mut self) -> Option<Part> {
+        match read_part(self.bytes, self.dbd, self.place, self.next) {
+            Some(step) => {
+                self.place += step.size as usize;
+                self.next = step.next;
+                Some(step.part)
+            }
+            None => {
+                self.place = self.bytes.len();
+                None
+            }
+        }
+    }
+}
+
+impl<'a> FusedIterator for Parts<'a> {}
+
+/// A part, its length, and the free element behind it.
+#[derive(Clone, Copy)]
+pub struct Step {
+    pub part: Part,
+    pub size: u16,
+    pub next: u16,
+}
+
+/// The part at a place, where the next free element begins at `next`.
+fn read_part(bytes: &[u8], dbd: &Dbd, place: usize, next: u16) -> Option<Step>
+    requires { (place ≤ length bytes.now) × (length bytes.now ≤ 32768) }
+    ensures { MatchOption result (parts_from (stored_size dbd.now.types) bytes.now place next ≡ []) (λ s. (place + s.size ≤ length bytes.now) × (parts_from (stored_size dbd.now.types) bytes.now place next ≡ s.part ∷ parts_from (stored_size dbd.now.types) bytes.now (place + s.size) s.next)) }
+{
+    let left = bytes.len() - place;
+    if left < 8 {
+        return None;
+    }
+    let is_free = place == next as usize;
+    let size = if is_free {
+        read_u16(bytes, place + 2)
+    } else {
+        dbd.stored_size(bytes[place])
+    };
+    if size < 8 || left < size as usize {
+        return None;
+    }
+    if is_free {
+        let next = read_u16(bytes, place);
+        let part = Part::Free(place as u16, size);
+        return Some(Step { part, size, next });
+    }
+    let part = Part::Used(place as u16, size);
+    Some(Step { part, size, next })
+}

@@ -1,0 +1,130 @@
+ghost use Rattle.std.specs.Prelude.{◌≡◌, ◌≢◌, ◌<◌, [], ◌∷◌, ◌++◌, length, option_to_list, Ok, Err, IfOk, IfErr};
+ghost use Rattle.hd_macro.specs.Source.{source, at_end};
+ghost use Rattle.hd_macro.specs.Views.{open_of};
+
+use crate::line::{Open, read_line};
+use crate::statement::Statement;
+use hd_lines::next_line;
+use std::alloc::Global;
+use thiserror::Error;
+
+/// Why the lines of a source are refused, with the number of the line, from 1. `Memory` says nothing of the source.
+#[derive(Clone, Copy, Debug, Drop, PartialEq, Eq, Error)]
+pub enum LineFault {
+    /// A line of more than 80 bytes.
+    #[error("line {0}, M1")]
+    M1(usize),
+    /// A byte that is not ASCII.
+    #[error("line {0}, M2")]
+    M2(usize),
+    /// A line that should continue the one before it and does not, or is missing.
+    #[error("line {0}, M3")]
+    M3(usize),
+    /// Operand text that is none.
+    #[error("line {0}, M4")]
+    M4(usize),
+    /// No memory.
+    #[error("no memory")]
+    Memory,
+}
+
+/// The statements of a source in their order, or the first line with a fault, and in it the least number.
+pub fn statements(alloc: Global, bytes: &[u8]) -> Result<Vec<Statement>, LineFault>
+    ensures statements { IfOk result (λ v. source bytes.now ≡ Ok v.items) }
+    ensures fault { IfErr result (λ e. e ≢ LineFault.Memory → source bytes.now ≡ Err e) }
+{
+    let mut statements = Vec::new(alloc);
+    let mut rest = bytes;
+    let mut number = 1;
+    let mut standing = Open::Nothing;
+    'lines: while !rest.is_empty() {
+        let (line, after) = next_line(rest);
+        let step = read_line(alloc, standing, number, line)?;
+        keep(&mut statements, step.done)?;
+        standing = step.open_behind;
+        number += 1;
+        rest = after;
+    }
+    at_end(&standing, number)?;
+    Ok(statements)
+}
+
+/// Adds the statement that ends with a line, if one does.
+fn keep(statements: &mut Vec<Statement>, done: Option<Statement>) -> Result<(), LineFault>
+    ensures statements { IfOk result (λ _. statements.new.items ≡ statements.old.items ++ option_to_list done) }
+    ensures memory { IfErr result (λ e. e ≡ LineFault.Memory) }
+{
+    match done {
+        Some(statement) => statements.push(statement).map_err(|_| LineFault::Memory),
+        None => Ok(()),
+    }
+}
+
+/// Finds a line missing behind the last, where something stands open.
+fn at_end(standing: &Open, number: usize) -> Result<(), LineFault>
+    ensures none { IfOk result (λ _. at_end (open_of standing.now) number ≡ Ok []) }
+    ensures fault { IfErr result (λ e. (e ≢ LineFault.Memory) × (at_end (open_of standing.now) number ≡ Err e)) }
+{
+    match standing {
+        Open::Nothing => Ok(()),
+        _ => Err(LineFault::M3(number)),
+    }
+}
+
+#[cfg(test)]
+mod tests {
+    use super::*;
+
+    fn fault(alloc: Global, bytes: &[u8]) -> Option<LineFault> {
+        statements(alloc, bytes).err()
+    }
+
+    #[test]
+    fn refuses_faulty_lines(rt: HostRuntime) {
+        assert_eq!(rt; fault(rt.alloc(), &[b' '; 81]), Some(LineFault::M1(1)));
+        assert_eq!(rt; fault(rt.alloc(), b"*\n* \x80"), Some(LineFault::M2(2)));
+        assert_eq!(rt;
+            fault(
+                rt.alloc(),
+                b"         SEGM  NAME=BOOK,PARENT=((COURSE,DBLE)),BYTES=5,PTR=TB,        X\n                RULES=(,HERE)\n"
+            ),
+            Some(LineFault::M3(2))
+        );
+        assert_eq!(rt; fault(rt.alloc(), b" DBD KEY="), Some(LineFault::M4(1)));
+    }
+
+    #[test]
+    fn joins_a_continued_statement(rt: HostRuntime) {
+        let source =
+            b"* a sample\r\n\n PRINT NOGEN\n         SEGM  NAME=BOOK,PARENT=((COURSE,DBLE)),BYTES=5,PTR=TB,        X\n               RULES=(,HERE)\n DBDGEN";
+        let found = statements(rt.alloc(), source).expect(&rt, "a source");
+        assert_eq!(rt; found.len(), 2);
+        let segment = &found[0];
+        assert_eq!(rt; segment.operation.as_slice(), b"SEGM".as_slice());
+        assert_eq!(rt; segment.line, 4);
+        assert_eq!(rt; segment.operands.len(), 5);
+        let rules = &segment.operands[4];
+        assert_eq!(rt; rules.keyword.as_slice(), b"RULES".as_slice());
+        assert_eq!(rt; rules.value.as_slice(), b"(,HERE)".as_slice());
+    }
+
+    #[test]
+    fn refuses_a_million_open_brackets(rt: HostRuntime) {
+        let mut source = Vec::from_slice(
+            rt.alloc(),
+            b" X A=(,                                                                X\n",
+        )
+        .expect(&rt, "memory");
+        for _ in 0..19_000 {
+            source
+                .extend_from_slice(
+                    b"               ((((((((((((((((((((((((((((((((((((((((((((((((((((((((X\n",
+                )
+                .expect(&rt, "memory");
+        }
+        source
+            .extend_from_slice(b"               (\n")
+            .expect(&rt, "memory");
+        assert_eq!(rt; fault(rt.alloc(), &source), Some(LineFault::M4(19_002)));
+    }
+}

@@ -1,0 +1,4 @@
+pub mod Stores
+pub mod Memory
+pub mod Fuses
+pub mod Files

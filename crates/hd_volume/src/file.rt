@@ -1,0 +1,149 @@
+ghost use Rattle.std.specs.Prelude.{◌≡◌, ◌+◌, ◌*◌, ◌<◌, ◌≤◌, ◌^◌, [], false, length, IfErr, IfOk, OnOk, OnErr};
+ghost use Rattle.hd_volume.specs.Files.{Accesses, with_failure};
+ghost use Rattle.hd_volume.specs.Stores.{CountsDevice, RefusesGrowth, StaysSound};
+
+use crate::store::BlockStore;
+use hd_dbd::Refused;
+use std::fs::File;
+use std::io;
+use std::marker::Model;
+use std::os::unix::fs::FileExt;
+use std::sync::ledger::{Blank, Book, Ledger, Share};
+
+/// Blocks in a file of any length. Nothing is promised of its bytes.
+#[derive(Drop)]
+pub struct FileStore<L: Ledger> {
+    file: File,
+    block_size: usize,
+    length: u64,
+    failed: Book<L>,
+    share: Share<L>,
+}
+
+impl<L: Ledger> Model for FileStore<L> {
+    ghost use Rattle.hd_volume.specs.Files.{Filed, MayCount};
+
+    ghost Value = { Filed };
+
+    ghost view = { λ s. record { size = s.block_size; length = s.length; failures = s.failed.total } };
+
+    ghost invariant = { λ s. MayCount s.block_size s.share.parts };
+}
+
+impl<L: Ledger> FileStore<L> {
+    /// The store of an open file's blocks, of `block_size` bytes. Failed accesses are counted in the ledger of `blank`.
+    ///
+    /// An error says that the file did not tell its length.
+    pub fn over(file: File, block_size: usize, blank: Blank) -> io::Result<FileStore<L>>
+        requires some { 0 < block_size }
+        requires small { block_size ≤ 32768 }
+        requires name { blank.name ≡ L.name }
+        requires parts { blank.parts ≡ L.parts }
+        requires share { 0 < blank.parts }
+        ensures size { IfOk result (λ s. s.size ≡ block_size) }
+        ensures failures { IfOk result (λ s. s.failures ≡ 0) }
+    {
+        let length = file.metadata()?.len();
+        let (failed, share) = blank.open();
+        Ok(FileStore {
+            file,
+            block_size,
+            length,
+            failed,
+            share,
+        })
+    }
+
+    /// Counts a failed access.
+    fn fail(&mut self) -> Refused
+        ensures counts { self.new ≡ with_failure self.old }
+        ensures device { result ≡ Refused.Device }
+    {
+        self.failed.add(&mut self.share, 1);
+        Refused::Device
+    }
+
+    /// The bytes before block `n`.
+    fn place_of(&self, n: u32) -> u64
+        ensures { result ≡ n * self.now.size }
+    {
+        u64::from(n) * self.block_size as u64
+    }
+}
+
+impl<L: Ledger> BlockStore for FileStore<L> {
+    ghost size = { λ s. s.size };
+
+    ghost contents = { λ _. [] };
+
+    ghost is_sound = { λ _. false };
+
+    ghost failures = { λ s. s.failures };
+
+    ghost room = { λ _. 2 ^ 32 };
+
+    fn block_size(&self) -> usize {
+        self.block_size
+    }
+
+    fn length(&self) -> u64
+        ensures { result ≡ self.now.length }
+    {
+        self.length
+    }
+
+    fn read(&mut self, n: u32, buf: &mut [u8]) -> Result<(), Refused>
+        ensures accesses { Accesses result self.old self.new }
+        ensures len { length buf.new ≡ length buf.old }
+        ensures refusal { IfErr result (λ e. e ≡ Refused.Device) }
+        ensures counts { CountsDevice result self.old.failures self.new.failures }
+        ensures sound { StaysSound result false false }
+    {
+        let place = self.place_of(n);
+        match self.file.read_exact_at(buf, place) {
+            Ok(()) => Ok(()),
+            Err(_) => Err(self.fail()),
+        }
+    }
+
+    fn write(&mut self, n: u32, bytes: &[u8]) -> Result<(), Refused>
+        ensures accesses { Accesses result self.old self.new }
+        ensures refusal { IfErr result (λ e. e ≡ Refused.Device) }
+        ensures counts { CountsDevice result self.old.failures self.new.failures }
+        ensures sound { StaysSound result false false }
+    {
+        let place = self.place_of(n);
+        match self.file.write_all_at(bytes, place) {
+            Ok(()) => Ok(()),
+            Err(_) => Err(self.fail()),
+        }
+    }
+
+    fn reserve(&mut self, blocks: u32) -> Result<(), Refused>
+        ensures ok { result ≡ Ok tt }
+        ensures same { self.new ≡ self.old }
+        ensures room { OnOk result (blocks ≤ 2 ^ 32) }
+    {
+        Ok(())
+    }
+
+    fn grow(&mut self, blocks: u32) -> Result<(), Refused>
+        ensures grows { OnOk result (self.new ≡ record self.old { length = self.old.length + blocks * self.old.size }) }
+        ensures fails { OnErr result (self.new ≡ with_failure self.old) }
+        ensures device { IfErr result (λ e. e ≡ Refused.Device) }
+        ensures refusal { IfErr result (λ e. RefusesGrowth e (2 ^ 32) blocks) }
+        ensures counts { CountsDevice result self.old.failures self.new.failures }
+        ensures sound { StaysSound result false false }
+    {
+        let Some(length) = self.length.checked_add(self.place_of(blocks)) else {
+            return Err(self.fail());
+        };
+        match self.file.set_len(length) {
+            Ok(()) => {
+                self.length = length;
+                Ok(())
+            }
+            Err(_) => Err(self.fail()),
+        }
+    }
+}

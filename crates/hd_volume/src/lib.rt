@@ -1,0 +1,15 @@
+//! Stores of blocks: in memory, in a file, and a fuse that fails one access of the store below it.
+#![tactic(auto)]
+
+mod file;
+mod fuse;
+mod memory;
+mod store;
+
+pub use file::FileStore;
+pub use fuse::FuseStore;
+pub use memory::MemStore;
+pub use store::BlockStore;
+
+#[cfg(test)]
+mod tests;
