@@ -59,13 +59,13 @@ edup p a ap_ok a_ok =
     ∷ record { procopt = text p a (codes "A") (lit< tt) a_ok; sens = vec p a without_students (lit< tt) }
     ∷ []
 
-abbrev row : ℕ → List ℕ → Segment
-row code bytes = record { code = code; bytes = bytes }
+abbrev one_row : ℕ → List ℕ → Segment
+one_row code bytes = record { code = code; bytes = bytes }
 
 abbrev sample : List Segment
 sample =
-    row 1 (codes "101ALGEB") ∷ row 2 (codes "01AB") ∷ row 3 (codes "ADAM01") ∷ row 3 (codes "EVE 02") ∷ row 2 (codes "02CD")
-    ∷ row 4 (codes "EULER") ∷ row 1 (codes "205LOGIC") ∷ []
+    one_row 1 (codes "101ALGEB") ∷ one_row 2 (codes "01AB") ∷ one_row 3 (codes "ADAM01") ∷ one_row 3 (codes "EVE 02") ∷ one_row 2 (codes "02CD")
+    ∷ one_row 4 (codes "EULER") ∷ one_row 1 (codes "205LOGIC") ∷ []
 
 abbrev asked : ℕ → ℕ → List ℕ → StepText
 asked pcb repeat function = record { pcb = pcb; repeat = repeat; call = record { function = function; ssas = []; area = [] } }
