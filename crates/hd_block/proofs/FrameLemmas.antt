@@ -50,13 +50,9 @@ pub head-link : {m : ℕ} {b b' : List ℕ} → (8 ≤ m) ⊎ (m ≡ 0) → Chan
 head-link (inl l) c = agree-changed 2 6 c (inl (omega arith))
 head-link (inr e) c = agree-changed 2 6 c (inr (omega arith))
 
--- and so do the four writes that put a hole in the chain
-pub head-four : {p m : ℕ} {b b1 b2 b3 b4 : List ℕ} → 8 ≤ p → (8 ≤ m) ⊎ (m ≡ 0)
-    → ChangesOnly p 2 b b1 → ChangesOnly (p + 2) 2 b1 b2 → ChangesOnly (p + 4) 4 b2 b3 → ChangesOnly m 2 b3 b4 → AgreeOn 2 6 b b4
-head-four {p} {m} {b} {b1} {b2} {b3} {b4} l link c1 c2 c3 c4 =
-    agree-both 2 6 b b3 b4
-    (agree-both 2 6 b b2 b3 (agree-both 2 6 b b1 b2 (head-room l c1) (head-room (omega arith) c2)) (head-room (omega arith) c3))
-    (head-link link c4)
+-- and so do the two writes that put a hole in the chain
+pub head-two : {p m : ℕ} {b b1 b2 : List ℕ} → 8 ≤ p → (8 ≤ m) ⊎ (m ≡ 0) → ChangesOnly p 8 b b1 → ChangesOnly m 2 b1 b2 → AgreeOn 2 6 b b2
+head-two {p} {m} {b} {b1} {b2} l link c1 c2 = agree-both 2 6 b b1 b2 (head-room l c1) (head-link link c2)
 
 -- what is clear of a range is clear of a part of it
 pub clear-part : (place n g m p k : ℕ) → (place + n ≤ g) ⊎ (g + m ≤ place) → g ≤ p → p + k ≤ g + m → (place + n ≤ p) ⊎ (p + k ≤ place)
@@ -84,17 +80,14 @@ pub takes-whole-others : {sizes : ℕ → ℕ} {b : List ℕ} {kept : Keeps} {xs
 takes-whole-others {m = m} b' place k s u c = agree-changed place k c (clear-part place k m 8 m 2 (link-clear place k s u) (omega arith) (omega arith))
 
 -- and where the front of a larger one is taken
-pub takes-four-others : {sizes : ℕ → ℕ} {b : List ℕ} {kept : Keeps} {xs : List Extent} {end g m n : ℕ} {b1 b2 b3 b4 : List ℕ} (size place k : ℕ) → Stands sizes b kept xs end g m n → UsedAt 8 xs place k
-    → size + 8 ≤ n → ChangesOnly (g + size) 2 b b1 → ChangesOnly (g + size + 2) 2 b1 b2 → ChangesOnly (g + size + 4) 4 b2 b3 → ChangesOnly m 2 b3 b4 → AgreeOn place k b b4
-takes-four-others {sizes} {b} {kept} {xs} {end} {g} {m} {n} {b1} {b2} {b3} {b4} size place k s u l c1 c2 c3 c4 =
+pub takes-front-others : {sizes : ℕ → ℕ} {b : List ℕ} {kept : Keeps} {xs : List Extent} {end g m n : ℕ} {b1 b2 : List ℕ} (size place k : ℕ) → Stands sizes b kept xs end g m n → UsedAt 8 xs place k
+    → size + 8 ≤ n → ChangesOnly (g + size) 8 b b1 → ChangesOnly m 2 b1 b2 → AgreeOn place k b b2
+takes-front-others {sizes} {b} {kept} {xs} {end} {g} {m} {n} {b1} {b2} size place k s u l c1 c2 =
     let link = link-clear place k s u in
     let hole = hole-clear place k s u in
-    agree-both place k b b3 b4
-    (agree-both place k b b2 b3 (agree-both place k b b1 b2
-    (agree-changed place k c1 (clear-part place k g n (g + size) 2 hole (omega arith) (omega arith)))
-    (agree-changed place k c2 (clear-part place k g n (g + size + 2) 2 hole (omega arith) (omega arith))))
-    (agree-changed place k c3 (clear-part place k g n (g + size + 4) 4 hole (omega arith) (omega arith))))
-    (agree-changed place k c4 (clear-part place k m 8 m 2 link (omega arith) (omega arith)))
+    agree-both place k b b1 b2
+    (agree-changed place k c1 (clear-part place k g n (g + size) 8 hole (omega arith) (omega arith)))
+    (agree-changed place k c2 (clear-part place k m 8 m 2 link (omega arith) (omega arith)))
 
 -- ---- giving back
 
@@ -120,17 +113,14 @@ given-clear {sizes} {b} {xs} {offset} {n} {link} place k s u other =
     ]
 
 -- other segments stay where a hole of its own is made
-pub gives-own-others : {sizes : ℕ → ℕ} {b : List ℕ} {xs : List Extent} {offset n : ℕ} {link : Link} {b1 b2 b3 b4 : List ℕ} (place k : ℕ) → IsLinked sizes b xs offset n link → UsedAt 8 xs place k → place ≢ offset
-    → 8 ≤ n → ChangesOnly offset 2 b b1 → ChangesOnly (offset + 2) 2 b1 b2 → ChangesOnly (offset + 4) 4 b2 b3 → ChangesOnly link.link 2 b3 b4 → AgreeOn place k b b4
-gives-own-others {sizes} {b} {xs} {offset} {n} {link} {b1} {b2} {b3} {b4} place k s u other l c1 c2 c3 c4 =
+pub gives-own-others : {sizes : ℕ → ℕ} {b : List ℕ} {xs : List Extent} {offset n : ℕ} {link : Link} {b1 b2 : List ℕ} (place k : ℕ) → IsLinked sizes b xs offset n link → UsedAt 8 xs place k → place ≢ offset
+    → 8 ≤ n → ChangesOnly offset 8 b b1 → ChangesOnly link.link 2 b1 b2 → AgreeOn place k b b2
+gives-own-others {sizes} {b} {xs} {offset} {n} {link} {b1} {b2} place k s u other l c1 c2 =
     let at = given-link-clear place k s u in
     let own = given-clear place k s u other in
-    agree-both place k b b3 b4
-    (agree-both place k b b2 b3 (agree-both place k b b1 b2
-    (agree-changed place k c1 (clear-part place k offset n offset 2 own (omega arith) (omega arith)))
-    (agree-changed place k c2 (clear-part place k offset n (offset + 2) 2 own (omega arith) (omega arith))))
-    (agree-changed place k c3 (clear-part place k offset n (offset + 4) 4 own (omega arith) (omega arith))))
-    (agree-changed place k c4 (clear-part place k link.link 8 link.link 2 at (omega arith) (omega arith)))
+    agree-both place k b b1 b2
+    (agree-changed place k c1 (clear-part place k offset n offset 8 own (omega arith) (omega arith)))
+    (agree-changed place k c2 (clear-part place k link.link 8 link.link 2 at (omega arith) (omega arith)))
 
 -- and where the hole before is made longer
 pub gives-joined-others : {sizes : ℕ → ℕ} {b : List ℕ} {xs : List Extent} {offset n : ℕ} {link : Link} {b1 b2 : List ℕ} (place k : ℕ) → IsLinked sizes b xs offset n link → UsedAt 8 xs place k

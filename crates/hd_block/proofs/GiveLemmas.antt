@@ -92,39 +92,39 @@ give-way sizes b p f l (taken n ∷ xs) ys zs q g m place h w o apart e =
 
 -- ---- a hole of its own
 
--- no free element ends where the room begins: it becomes one, by the four writes that do it
-pub gives-own : {sizes : ℕ → ℕ} {b : List ℕ} {xs : List Extent} {offset n : ℕ} {link : Link} {behind : Behind} {b1 b2 b3 b4 : List ℕ} (s : IsLinked sizes b xs offset n link)
+-- no free element ends where the room begins: it becomes one, by the two writes that do it
+pub gives-own : {sizes : ℕ → ℕ} {b : List ℕ} {xs : List Extent} {offset n : ℕ} {link : Link} {behind : Behind} {b1 b2 : List ℕ} (s : IsLinked sizes b xs offset n link)
     → IsBehind sizes b (offset + n) s.behind behind → (8 ≤ link.link → link.link + number_at 2 b (link.link + 2) ≢ offset) → 8 ≤ n → n % 8 ≡ 0
-    → ChangesOnly offset 2 b b1 → ChangesOnly (offset + 2) 2 b1 b2 → ChangesOnly (offset + 4) 4 b2 b3 → ChangesOnly link.link 2 b3 b4
-    → number_at 2 b1 offset ≡ behind.next → number_at 2 b2 (offset + 2) ≡ n + behind.more → number_at 4 b3 (offset + 4) ≡ 0 → number_at 2 b4 link.link ≡ offset
-    → IsDivided sizes b4 (after_give offset 8 xs)
-gives-own {sizes} {b} {xs} {offset} {n} {link} {behind} {b1} {b2} {b3} {b4} s t apart some even c1 c2 c3 c4 n1 n2 n3 n4 =
+    → ChangesOnly offset 8 b b1 → ChangesOnly link.link 2 b1 b2
+    → number_at 2 b1 offset ≡ behind.next → number_at 2 b1 (offset + 2) ≡ n + behind.more → number_at 4 b1 (offset + 4) ≡ 0 → number_at 2 b2 link.link ≡ offset
+    → IsDivided sizes b2 (after_give offset 8 xs)
+gives-own {sizes} {b} {xs} {offset} {n} {link} {behind} {b1} {b2} s t apart some even c1 c2 n1 n2 n3 n4 =
     let m : ℕ = link.link in
     let total : ℕ = n + behind.more in
     let whole_more = t.whole in
     let in_way = way-within sizes b 8 (number_at 2 b 0) 0 s.before offset link.next m (omega arith) s.way in
-    let next : number_at 2 b4 offset ≡ behind.next =
-    number-above 2 offset c4 (omega arith) ∙ number-below 2 offset c3 (omega arith) ∙ number-below 2 offset c2 (omega arith) ∙ n1 in
+    let next : number_at 2 b2 offset ≡ behind.next =
+    number-above 2 offset c2 (omega arith) ∙ n1 in
     let sum : offset + total ≡ offset + n + behind.more = omega arith in
-    let r : Redirects b b4 m offset = record {
-      len = c4.len ∙ c3.len ∙ c2.len ∙ c1.len;
-      below = λ k h i. c4.below k i ∙ c3.below k (omega arith) ∙ c2.below k (omega arith) ∙ c1.below k (omega arith);
-      above = λ k h i. c4.above k i ∙ c3.below k (omega arith) ∙ c2.below k (omega arith) ∙ c1.below k (omega arith);
+    let r : Redirects b b2 m offset = record {
+      len = c2.len ∙ c1.len;
+      below = λ k h i. c2.below k i ∙ c1.below k (omega arith);
+      above = λ k h i. c2.above k i ∙ c1.below k (omega arith);
     } in
-    let element : IsElement b4 offset total = record {
-      len = number-above 2 (offset + 2) c4 (omega arith) ∙ number-below 2 (offset + 2) c3 (omega arith) ∙ n2;
-      task = number-above 4 (offset + 4) c4 (omega arith) ∙ n3;
+    let element : IsElement b2 offset total = record {
+      len = number-above 2 (offset + 2) c2 (omega arith) ∙ n2;
+      task = number-above 4 (offset + 4) c2 (omega arith) ∙ n3;
       some = omega arith;
       whole = omega arith;
       apart = λ u. t.apart (sym next ∙ u ∙ sum);
     } in
-    let rest : Fill sizes b4 (offset + n + behind.more) behind.next t.rest =
-    fill-same sizes b b4 (offset + n + behind.more) behind.next t.rest r.len (λ k l. c4.above k (omega arith) ∙ c3.above k (omega arith) ∙ c2.above k (omega arith) ∙ c1.above k (omega arith)) t.fill in
-    let rest' : Fill sizes b4 (offset + total) (number_at 2 b4 offset) t.rest = rw (next, sum) rest in
+    let rest : Fill sizes b2 (offset + n + behind.more) behind.next t.rest =
+    fill-same sizes b b2 (offset + n + behind.more) behind.next t.rest r.len (λ k l. c2.above k (omega arith) ∙ c1.above k (omega arith)) t.fill in
+    let rest' : Fill sizes b2 (offset + total) (number_at 2 b2 offset) t.rest = rw (next, sum) rest in
     let parts : after_give offset 8 xs ≡ s.before ++ free total ∷ t.rest =
     ap (after_give offset 8) s.whole ∙ give-way sizes b 8 (number_at 2 b 0) 0 s.before (s.extent ∷ s.behind) (free total ∷ t.rest) offset link.next m offset (omega arith) s.way (omega arith) apart
     (give-here offset n s.extent s.behind s.is ∙ t.joined n) in
-    rw parts (reroute sizes b b4 8 (number_at 2 b 0) 0 s.before (free total ∷ t.rest) offset link.next m s.way refl (omega arith) r (to n4 apart) (sym n4, element, rest'))
+    rw parts (reroute sizes b b2 8 (number_at 2 b 0) 0 s.before (free total ∷ t.rest) offset link.next m s.way refl (omega arith) r (to n4 apart) (sym n4, element, rest'))
 
 -- ---- a longer hole
 

@@ -3,7 +3,7 @@ use Rattle.std.proofs.Common.{ne_eqb, ◌≡◌, ◌≢◌, ℕ, ◌+◌, ◌-�
 use Rattle.std.proofs.lemmas.Bool.{le-leb, eq-eqb}
 use Rattle.hd_bytes.specs.Ranges.{ChangesOnly}
 use Rattle.hd_bytes.specs.Numbers.{number_at}
-use Rattle.hd_bytes.proofs.NumberLemmas.{number-below, number-above}
+use Rattle.hd_bytes.proofs.NumberLemmas.{number-above}
 use Rattle.hd_block.specs.Extents.{Extent, free, taken, IsElement, Fill, IsDivided}
 use Rattle.hd_block.specs.Changes.{split_hole, after_take}
 use Rattle.hd_block.specs.Found.{SeeksHole, Stands}
@@ -55,20 +55,20 @@ takes-front {sizes} {b} {xs} {end} {g} {m} {n} size b' s l some whole r same lin
 pub no-crumb : {n size : ℕ} → n % 8 ≡ 0 → size ≤ n → n ≢ size → size % 8 ≡ 0 → size + 8 ≤ n
 no-crumb even l e h = omega arith
 
--- the same by the four writes that do it
-pub takes-four : {sizes : ℕ → ℕ} {b : List ℕ} {xs : List Extent} {end g m n : ℕ} {b1 b2 b3 b4 : List ℕ} (size : ℕ) → Stands sizes b (SeeksHole size xs) xs end g m n → size + 8 ≤ n → 0 < size → size % 8 ≡ 0
-    → ChangesOnly (g + size) 2 b b1 → ChangesOnly (g + size + 2) 2 b1 b2 → ChangesOnly (g + size + 4) 4 b2 b3 → ChangesOnly m 2 b3 b4
-    → number_at 2 b1 (g + size) ≡ number_at 2 b g → number_at 2 b2 (g + size + 2) ≡ n - size → number_at 4 b3 (g + size + 4) ≡ 0 → number_at 2 b4 m ≡ g + size
-    → IsDivided sizes b4 (after_take size xs)
-takes-four {sizes} {b} {xs} {end} {g} {m} {n} {b1} {b2} {b3} {b4} size s l some whole c1 c2 c3 c4 n1 n2 n3 n4 =
+-- the same by the two writes that do it
+pub takes-two : {sizes : ℕ → ℕ} {b : List ℕ} {xs : List Extent} {end g m n : ℕ} {b1 b2 : List ℕ} (size : ℕ) → Stands sizes b (SeeksHole size xs) xs end g m n → size + 8 ≤ n → 0 < size → size % 8 ≡ 0
+    → ChangesOnly (g + size) 8 b b1 → ChangesOnly m 2 b1 b2
+    → number_at 2 b1 (g + size) ≡ number_at 2 b g → number_at 2 b1 (g + size + 2) ≡ n - size → number_at 4 b1 (g + size + 4) ≡ 0 → number_at 2 b2 m ≡ g + size
+    → IsDivided sizes b2 (after_take size xs)
+takes-two {sizes} {b} {xs} {end} {g} {m} {n} {b1} {b2} size s l some whole c1 c2 n1 n2 n3 n4 =
     let in_way = way-within sizes b 8 (number_at 2 b 0) 0 s.before g g m (omega arith) s.way in
-    let r : Redirects b b4 m g = record {
-      len = c4.len ∙ c3.len ∙ c2.len ∙ c1.len;
-      below = λ k h i. c4.below k i ∙ c3.below k (omega arith) ∙ c2.below k (omega arith) ∙ c1.below k (omega arith);
-      above = λ k h i. c4.above k i ∙ c3.below k (omega arith) ∙ c2.below k (omega arith) ∙ c1.below k (omega arith);
+    let r : Redirects b b2 m g = record {
+      len = c2.len ∙ c1.len;
+      below = λ k h i. c2.below k i ∙ c1.below k (omega arith);
+      above = λ k h i. c2.above k i ∙ c1.below k (omega arith);
     } in
-    takes-front size b4 s l some whole r (λ k h. c4.above k (omega arith) ∙ c3.above k (omega arith) ∙ c2.above k (omega arith) ∙ c1.above k (omega arith))
+    takes-front size b2 s l some whole r (λ k h. c2.above k (omega arith) ∙ c1.above k (omega arith))
     n4
-    (number-above 2 (g + size) c4 (omega arith) ∙ number-below 2 (g + size) c3 (omega arith) ∙ number-below 2 (g + size) c2 (omega arith) ∙ n1)
-    (number-above 2 (g + size + 2) c4 (omega arith) ∙ number-below 2 (g + size + 2) c3 (omega arith) ∙ n2)
-    (number-above 4 (g + size + 4) c4 (omega arith) ∙ n3)
+    (number-above 2 (g + size) c2 (omega arith) ∙ n1)
+    (number-above 2 (g + size + 2) c2 (omega arith) ∙ n2)
+    (number-above 4 (g + size + 4) c2 (omega arith) ∙ n3)

@@ -4,7 +4,8 @@ ghost use Rattle.hd_block.specs.Extents.{Extent, Fill, IsDivided, UsedAt, TakenA
 ghost use Rattle.hd_block.specs.Changes.{after_give};
 ghost use Rattle.hd_block.specs.Found.{At, IsLinked, IsBehind};
 
-use hd_bytes::{read_u16, write_u16, write_u32};
+use crate::element::write_element;
+use hd_bytes::{read_u16, write_u16};
 
 /// Where the number stands that leads past an offset, and the free element that it leads to.
 #[derive(Clone, Copy)]
@@ -74,8 +75,6 @@ pub fn give_hole(bytes: &mut [u8], offset: u16, size: u16)
         write_u16(bytes, link.link + 2, len + (size + behind.more));
         return;
     }
-    write_u16(bytes, offset as usize, behind.next);
-    write_u16(bytes, offset as usize + 2, size + behind.more);
-    write_u32(bytes, offset as usize + 4, 0);
+    write_element(bytes, offset as usize, behind.next, size + behind.more);
     write_u16(bytes, link.link, offset);
 }

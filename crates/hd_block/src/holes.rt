@@ -4,7 +4,8 @@ ghost use Rattle.hd_block.specs.Extents.{Extent, IsDivided, UsedAt};
 ghost use Rattle.hd_block.specs.Changes.{hole_at, after_take};
 ghost use Rattle.hd_block.specs.Found.{IsFound};
 
-use hd_bytes::{read_u16, write_u16, write_u32};
+use crate::element::write_element;
+use hd_bytes::{read_u16, write_u16};
 
 /// A free element, and where the number stands that leads to it.
 #[derive(Clone, Copy)]
@@ -67,9 +68,7 @@ pub fn take_hole(bytes: &mut [u8], size: u16) -> Option<u16>
     if rest + 8 > bytes.len() {
         return None;
     }
-    write_u16(bytes, rest, hole.next);
-    write_u16(bytes, rest + 2, hole.len - size);
-    write_u32(bytes, rest + 4, 0);
+    write_element(bytes, rest, hole.next, hole.len - size);
     write_u16(bytes, hole.link, rest as u16);
     Some(hole.place as u16)
 }

@@ -2,6 +2,7 @@
 #![tactic(auto)]
 
 mod block;
+mod element;
 mod gives;
 mod holes;
 mod law;

@@ -1,9 +1,9 @@
 -- Reading and writing a number at a place of a list of bytes.
-use Rattle.std.proofs.Common.{◌≡◌, ℕ, zero, suc, ◌+◌, ◌^◌, ◌<◌, ◌≤◌, List, ◌++◌, length, take, drop, slice_index, refl, sym, ap, ◌∙◌, arith}
+use Rattle.std.proofs.Common.{◌≡◌, ℕ, zero, suc, ◌+◌, ◌*◌, ◌^◌, ◌<◌, ◌≤◌, List, ◌++◌, length, take, drop, slice_index, refl, sym, ap, ◌∙◌, arith}
 use Rattle.std.proofs.lemmas.List.{get_or-drop, drop_at}
 use Rattle.std.proofs.lemmas.Grind.{common_steps}
 use Rattle.byteorder.specs.Endian.{big_from, big_bytes}
-use Rattle.byteorder.specs.Numbers.{big_number-reads_back}
+use Rattle.byteorder.specs.Numbers.{big_from-bytes, big_number-reads_back}
 use Rattle.hd_bytes.specs.Ranges.{with_bytes, AgreeOn, ChangesOnly}
 use Rattle.hd_bytes.specs.Numbers.{number_at}
 
@@ -47,6 +47,23 @@ number-with b n x p h l =
     let behind : drop p all ≡ big_bytes n x ++ rest = drop_at (take p b) (big_bytes n x ++ rest) p front in
     let zero_more : p + 0 ≡ p = omega arith in
     ap (λ (i : ℕ). big_from i n all) (sym zero_more) ∙ sym (big_from-drop n 0 p all) ∙ ap (big_from 0 n) behind ∙ big_number-reads_back n x rest l
+
+-- the halves of a number of four bytes that was written are read back
+pub halves-with : (b : List ℕ) (high low p : ℕ) → p + 4 ≤ length b → high < 65536 → low < 65536
+    → (number_at 2 (with_bytes b p (big_bytes 4 (high * 65536 + low))) p ≡ high) × (number_at 2 (with_bytes b p (big_bytes 4 (high * 65536 + low))) (p + 2) ≡ low)
+unfolding number_at
+halves-with b high low p h u v =
+    let x : ℕ = high * 65536 + low in
+    let rest : List ℕ = drop (p + 4) b in
+    let all : List ℕ = take p b ++ (big_bytes 4 x ++ rest) in
+    let front : length (take p b) ≡ p = grind (arith, common_steps) in
+    let behind : drop p all ≡ big_bytes 4 x ++ rest = drop_at (take p b) (big_bytes 4 x ++ rest) p front in
+    let zero_more : p + 0 ≡ p = omega arith in
+    let first : big_from 0 2 (big_bytes 4 x ++ rest) ≡ high = omega arith in
+    let second : big_from 2 2 (big_bytes 4 x ++ rest) ≡ low = big_from-bytes 2 x rest ∙ omega arith in (
+      ap (λ (i : ℕ). big_from i 2 all) (sym zero_more) ∙ sym (big_from-drop 2 0 p all) ∙ ap (big_from 0 2) behind ∙ first,
+      sym (big_from-drop 2 2 p all) ∙ ap (big_from 2 2) behind ∙ second,
+    )
 
 -- a number that a change does not touch
 pub number-below : {p n : ℕ} {a b : List ℕ} (k q : ℕ) → ChangesOnly p n a b → q + k ≤ p → number_at k b q ≡ number_at k a q

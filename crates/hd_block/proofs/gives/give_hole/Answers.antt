@@ -2,7 +2,7 @@ use Rattle.std.proofs.Common.{◌≡◌, ◌≢◌, ◌≤◌, ◌+◌, ◌∙�
 use Rattle.hd_bytes.specs.Numbers.{number_at}
 use Rattle.hd_block.proofs.Walk.{at-either}
 use Rattle.hd_block.proofs.GiveLemmas.{gives-own, gives-joined}
-use Rattle.hd_block.proofs.FrameLemmas.{agree-both, head-room, head-link, head-four, gives-own-others, gives-joined-others}
+use Rattle.hd_block.proofs.FrameLemmas.{agree-both, head-room, head-link, head-two, gives-own-others, gives-joined-others}
 use Rattle.hd_block.proofs.gives.give_hole.Goals as goal
 use Rattle.hd_block.proofs.gives.give_hole.Goals.{else-link-ge8-via-then-link-ge8+else-link-len, else-link-ge8-via-else-link-ge8}
 
@@ -37,14 +37,14 @@ returns-clause-after c sizes xs h u =
       | else-link-ge8-via-else-link-ge8 w ↦ omega (arith, w.if-link-ge8.false)
     ]
     in
-    gives-own s t apart c.requires.size.0 c.requires.size.1 c.write_u16-2.ensures.changes c.write_u16-3.ensures.changes c.write_u32.ensures.changes c.write_u16-4.ensures.changes
-    c.write_u16-2.ensures.reads_back c.write_u16-3.ensures.reads_back c.write_u32.ensures.reads_back c.write_u16-4.ensures.reads_back
+    gives-own s t apart c.requires.size.0 c.requires.size.1 c.write_element.ensures.changes c.write_u16-2.ensures.changes
+    c.write_element.ensures.next c.write_element.ensures.len c.write_element.ensures.task c.write_u16-2.ensures.reads_back
 
 pub returns-clause-head : goal.returns-clause-head
 returns-clause-head c =
-    head-four c.requires.offset.0 c.find_link-link.ensures.head c.write_u16-2.ensures.changes c.write_u16-3.ensures.changes c.write_u32.ensures.changes c.write_u16-4.ensures.changes
+    head-two c.requires.offset.0 c.find_link-link.ensures.head c.write_element.ensures.changes c.write_u16-2.ensures.changes
 
 pub returns-clause-others : goal.returns-clause-others
 returns-clause-others c sizes xs q n h u v other =
     let s = c.find_link-link.ensures.found sizes xs c.args.size h (at-either xs c.args.offset c.args.size u) in
-    gives-own-others q n s v other c.requires.size.0 c.write_u16-2.ensures.changes c.write_u16-3.ensures.changes c.write_u32.ensures.changes c.write_u16-4.ensures.changes
+    gives-own-others q n s v other c.requires.size.0 c.write_element.ensures.changes c.write_u16-2.ensures.changes

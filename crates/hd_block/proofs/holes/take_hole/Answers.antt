@@ -1,7 +1,7 @@
 use Rattle.std.proofs.Common.{arith, ◌∙◌}
 use Rattle.hd_block.proofs.Walk.{fill-within}
-use Rattle.hd_block.proofs.TakeLemmas.{takes-whole, takes-four, no-crumb}
-use Rattle.hd_block.proofs.FrameLemmas.{head-link, head-four, takes-whole-others, takes-four-others}
+use Rattle.hd_block.proofs.TakeLemmas.{takes-whole, takes-two, no-crumb}
+use Rattle.hd_block.proofs.FrameLemmas.{head-link, head-two, takes-whole-others, takes-front-others}
 use Rattle.hd_block.proofs.holes.take_hole.Goals as goal
 
 pub returns-then-rest-bytes-clause-found : goal.returns-then-rest-bytes-clause-found
@@ -34,15 +34,15 @@ pub returns-clause-after : goal.returns-clause-after
 returns-clause-after c sizes xs h =
     let f = c.in_ok-hole.ensures.found sizes xs h in
     let crumb = no-crumb f.stands.element.whole f.large c.if-hole-size.false c.requires.size.1 in
-    takes-four c.args.size f.stands crumb c.requires.size.0 c.requires.size.1 c.write_u16-2.ensures.changes c.write_u16-3.ensures.changes c.write_u32.ensures.changes c.write_u16-4.ensures.changes
-    (c.write_u16-2.ensures.reads_back ∙ f.next) c.write_u16-3.ensures.reads_back c.write_u32.ensures.reads_back c.write_u16-4.ensures.reads_back
+    takes-two c.args.size f.stands crumb c.requires.size.0 c.requires.size.1 c.write_element.ensures.changes c.write_u16-2.ensures.changes
+    (c.write_element.ensures.next ∙ f.next) c.write_element.ensures.len c.write_element.ensures.task c.write_u16-2.ensures.reads_back
 
 pub returns-clause-head : goal.returns-clause-head
 returns-clause-head c =
-    head-four (omega (arith, c.in_ok-hole.ensures.head.0)) c.in_ok-hole.ensures.head.1 c.write_u16-2.ensures.changes c.write_u16-3.ensures.changes c.write_u32.ensures.changes c.write_u16-4.ensures.changes
+    head-two (omega (arith, c.in_ok-hole.ensures.head.0)) c.in_ok-hole.ensures.head.1 c.write_element.ensures.changes c.write_u16-2.ensures.changes
 
 pub returns-clause-others : goal.returns-clause-others
 returns-clause-others c sizes xs q n h u =
     let f = c.in_ok-hole.ensures.found sizes xs h in
     let crumb = no-crumb f.stands.element.whole f.large c.if-hole-size.false c.requires.size.1 in
-    takes-four-others c.args.size q n f.stands u crumb c.write_u16-2.ensures.changes c.write_u16-3.ensures.changes c.write_u32.ensures.changes c.write_u16-4.ensures.changes
+    takes-front-others c.args.size q n f.stands u crumb c.write_element.ensures.changes c.write_u16-2.ensures.changes
