@@ -1,11 +1,10 @@
 -- A run of some calls, and then of others.
-use Rattle.std.proofs.Common.{◌≡◌, ℕ, zero, suc, ◌+◌, ◌-◌, ◌<◌, ◌≤◌, take, drop, get_or, List, [], ◌∷◌, ◌++◌, length, replicate, arith, ap, sym, ◌∙◌, Option, Some, None, refl, subst}
-use Rattle.std.specs.Prelude.{flat_map, option_map, option_to_list, slice_get}
+use Rattle.std.proofs.Common.{◌≡◌, ℕ, zero, suc, ◌+◌, ◌-◌, ◌<◌, ◌≤◌, take, drop, get_or, List, [], ◌∷◌, ◌++◌, length, replicate, arith, ap, sym, ◌∙◌, Option, Some, None, refl}
+use Rattle.std.specs.Prelude.{option_map, option_to_list, slice_get}
 use Rattle.std.specs.Option.{option_map_or}
 use Rattle.std.specs.Io.KnownBytes.{Appends}
 use Rattle.std.proofs.lemmas.List.{append_assoc, append-nil, replicate_more, length-replicate, take_more, length-append, take-append-le, take-append-drop}
 use Rattle.std.proofs.Math.Seq.{take-append-add}
-use Rattle.std.proofs.lemmas.Option.{slice_get_read}
 use Rattle.hd_dbd.specs.declared.program.Pcb.{Pcb}
 use Rattle.hd_dbd.specs.Segment.{Segment}
 use Rattle.hd_dbd.specs.Calls.{Reply}

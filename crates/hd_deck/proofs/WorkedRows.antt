@@ -1,7 +1,7 @@
 -- Worked decks over the sample database, computed by the definitions themselves: an edit of a definition that changes an
 -- answer is refused here.
 use Rattle.std.proofs.Common.{◌≡◌, ℕ, ◌<◌, ◌^◌, List, [], ◌∷◌, length, map, true, false, Option, Some, None, refl, arith, lit<}
-use Rattle.std.specs.Prelude.{codes, IsUtf8, String, Result, Ok, Err}
+use Rattle.std.specs.Prelude.{codes, IsUtf8, String, Ok, Err}
 use Rattle.std.specs.Global.{Global, Vec}
 use denote.RawPtr.{Ptr}
 use Rattle.hd_dbd.specs.declared.hierarchy.Field.{Field}
@@ -15,8 +15,6 @@ use Rattle.hd_dbd.specs.DatabaseRules.{well_formed}
 use Rattle.hd_dbd.specs.ProgramRules.{program_fits, type_names}
 use Rattle.hd_dbd.specs.Rows.{valid}
 use Rattle.hd_dbd.specs.Positions.{at_start}
-use Rattle.hd_session.specs.Session.{Session}
-use Rattle.hd_deck.specs.declared.deck.DeckFault.{DeckFault}
 use Rattle.hd_deck.specs.declared.deck.DeckFault.TheVariants.{K1, K2, K3, K5}
 use Rattle.hd_deck.specs.StepText.{StepText}
 use Rattle.hd_deck.specs.Deck.{deck}

@@ -1,7 +1,7 @@
 -- A deck, line by line. Columns count from 1, and a line is blank past its end.
-use Rattle.std.specs.Prelude.{ℕ, ◌+◌, ◌-◌, ◌*◌, List, [], ◌∷◌, ◌++◌, length, take, drop, replicate, fold, Bool, not, ◌&&◌, ◌||◌, nat_lt, nat_le, ◌==◌, cond, Option, None, Some, option_and_then, Result, Ok, Err, slice_index_or}
+use Rattle.std.specs.Prelude.{ℕ, ◌+◌, ◌-◌, ◌*◌, List, [], ◌∷◌, ◌++◌, length, take, drop, replicate, fold, Bool, ◌&&◌, ◌||◌, nat_lt, nat_le, ◌==◌, cond, Option, None, Some, option_and_then, Result, Ok, Err, slice_index_or}
 use Rattle.std.specs.Option.{option_map_or}
-use Rattle.std.specs.List.{list_all, prefix_len}
+use Rattle.std.specs.List.{prefix_len}
 use Rattle.std.specs.Str.Lines.{lines}
 use Rattle.hd_lines.specs.Blanks.{is_blank, unpadded}
 use Rattle.hd_dbd.specs.Naming.{is_letter}

@@ -1,5 +1,5 @@
 -- The log of a run of a deck over a session of rows.
-use Rattle.std.specs.Prelude.{◌≡◌, ℕ, ◌≤◌, List, [], ◌∷◌, ◌++◌, length, take, flat_map, replicate, Option, option_map, option_to_list}
+use Rattle.std.specs.Prelude.{◌≡◌, ℕ, ◌≤◌, List, [], ◌∷◌, ◌++◌, length, take, flat_map, replicate, option_map, option_to_list}
 use Rattle.std.specs.Option.{option_map_or}
 use Rattle.hd_dbd.specs.Segment.{Segment}
 use Rattle.hd_dbd.specs.Calls.{Reply, CallText}

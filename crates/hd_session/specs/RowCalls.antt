@@ -1,5 +1,5 @@
 -- One call over a plain list of rows, which knows GU and GN without a segment search argument.
-use Rattle.std.specs.Prelude.{ℕ, List, length, Bool, ◌==◌, cond, Option, Some, None, bytes_eq, codes}
+use Rattle.std.specs.Prelude.{ℕ, List, length, ◌==◌, cond, Option, Some, None, bytes_eq, codes}
 use Rattle.std.specs.Option.{option_map_or}
 use Rattle.hd_dbd.specs.declared.answer.Status.TheVariants.{AD, AJ, AM}
 use Rattle.hd_dbd.specs.declared.call.Get.{Get}

@@ -1,8 +1,6 @@
-use Rattle.std.proofs.Common.{◌≡◌, ℕ, ◌+◌, List, [], ◌∷◌, ◌++◌, length, replicate, arith, ap, sym, ◌∙◌, subst}
+use Rattle.std.proofs.Common.{ℕ, ◌+◌, List, [], ◌∷◌, ◌++◌, replicate, ap, ◌∙◌, subst}
 use Rattle.std.specs.Io.KnownBytes.{Appends}
 use Rattle.std.proofs.lemmas.Result.{err_from_is_err_and}
-use Rattle.hd_dbd.specs.declared.program.Pcb.{Pcb}
-use Rattle.hd_session.specs.Session.{Session}
 use Rattle.hd_deck.specs.Printing.{lines_from}
 use Rattle.hd_deck.specs.Runs.{Turn, entries_of}
 use Rattle.hd_deck.proofs.Turns.{appends_both, replicate_after, replicate_text, some_replicated}
