@@ -48,10 +48,10 @@ impl<'a> Block<'a> {
         take_hole(self.bytes, size)
     }
 
-    /// Gives back the segment, or the room, at an offset, and joins it to the holes beside it. Offset and size are
-    /// multiples of 8, at least 8, inside the block.
+    /// Gives back the segment, or the room, at an offset, and joins it to the holes beside it. Both are at
+    /// least 8 and inside the block, and the size is a multiple of 8.
     pub fn give(&mut self, offset: u16, size: u16)
-        requires offset { (8 ≤ offset) × (offset % 8 ≡ 0) }
+        requires offset { 8 ≤ offset }
         requires size { (8 ≤ size) × (size % 8 ≡ 0) }
         requires within { offset + size ≤ length (bytes_of self.old) }
         ensures same { IsSameBlock self.old self.new }

@@ -59,7 +59,7 @@ fn find_behind(bytes: &[u8], place: usize, next: u16) -> Behind
 /// Frees the bytes at an offset, and joins them to the holes beside them.
 pub fn give_hole(bytes: &mut [u8], offset: u16, size: u16)
     requires block { length bytes.old ≤ 32768 }
-    requires offset { (8 ≤ offset) × (offset % 8 ≡ 0) }
+    requires offset { 8 ≤ offset }
     requires size { (8 ≤ size) × (size % 8 ≡ 0) }
     requires within { offset + size ≤ length bytes.old }
     ensures after { (sizes : ℕ → ℕ) (xs : List Extent) → IsDivided sizes bytes.old xs → UsedAt 8 xs offset size ⊎ TakenAt 8 xs offset size → IsDivided sizes bytes.new (after_give offset 8 xs) }

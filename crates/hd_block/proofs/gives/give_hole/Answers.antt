@@ -42,7 +42,7 @@ returns-clause-after c sizes xs h u =
 
 pub returns-clause-head : goal.returns-clause-head
 returns-clause-head c =
-    head-two c.requires.offset.0 c.find_link-link.ensures.head c.write_element.ensures.changes c.write_u16-2.ensures.changes
+    head-two c.requires.offset c.find_link-link.ensures.head c.write_element.ensures.changes c.write_u16-2.ensures.changes
 
 pub returns-clause-others : goal.returns-clause-others
 returns-clause-others c sizes xs q n h u v other =
