@@ -1,0 +1,4 @@
+//! The linked forest: which forest of segments the pointers of a database's records stand for.
+//!
+//! The definitions stand in this crate's `specs/`.
+#![tactic(auto)]
