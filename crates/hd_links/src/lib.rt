@@ -1,4 +1,8 @@
 //! The linked forest: which forest of segments the pointers of a database's records stand for.
 //!
-//! The definitions stand in this crate's `specs/`.
+//! The definitions stand in this crate's `specs/`, the laws in `law`.
 #![tactic(auto)]
+
+mod law;
+
+pub use law::law_pointers_decide;
