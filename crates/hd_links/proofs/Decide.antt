@@ -1,6 +1,6 @@
 -- Where the records are linked they hold a forest.
 use Rattle.std.proofs.Common.{◌≡◌, ℕ, List, true, subst, refl, None}
-use Rattle.hd_dbd.specs.declared.hierarchy.SegType.{SegType}
+use Rattle.hd_dbd.specs.Types.{SegmentType}
 use Rattle.hd_dbd.specs.Forest.{Forest, empty, node}
 use Rattle.hd_links.specs.Links.{Links, IsLinkGraph}
 use Rattle.hd_links.specs.Placed.{Placed, nowhere, NamesChildren, Lies, Holds}
@@ -10,7 +10,7 @@ use Rattle.hd_links.proofs.Forms.{Formed, is_behind, fits}
 use Rattle.hd_links.proofs.Build.{built, built_roots, built_stand, built_formed}
 use Rattle.hd_links.proofs.Counts.{once}
 
-pub exists : (types : List SegType) (O : Ordered types) (bound : ℕ) (m : Links) → IsLinkGraph types bound m → AreLinked types m → (f : Forest Placed) × Holds types m f
+pub exists : (types : List SegmentType) (O : Ordered types) (bound : ℕ) (m : Links) → IsLinkGraph types bound m → AreLinked types m → (f : Forest Placed) × Holds types m f
 exists types O bound m G L =
     let f : Forest Placed = built types m L O bound G in
     let lies : Lies types m f = record {

@@ -2,12 +2,12 @@
 use Rattle.std.proofs.Common.{◌≡◌, ℕ, zero, suc, ◌+◌, ◌<◌, ◌≤◌, List, true, arith, ap, sym, ◌∙◌, refl, subst, Some, None, inl, inr}
 use Rattle.std.specs.Prelude.{◌==◌}
 use Rattle.std.proofs.lemmas.Bool.{cases_eq, cases_order, eq-eqb, ne_eqb, cond-true, cond-false}
-use Rattle.hd_dbd.specs.declared.hierarchy.SegType.{SegType}
+use Rattle.hd_dbd.specs.Types.{SegmentType}
 use Rattle.hd_dbd.specs.Segment.{Segment}
 use Rattle.hd_dbd.specs.Rows.{twins_in_order}
 use Rattle.hd_dbd.specs.Forest.{Forest, empty, node}
 use Rattle.hd_links.specs.Links.{Links, IsSegment, IsLinkGraph, segment_at, is_child_type, is_backward_kept}
-use Rattle.hd_links.specs.Placed.{Placed, count, first_of, last_of, nowhere, and_then, and_all, StandAll, Stands, NamesChildren, Holds}
+use Rattle.hd_links.specs.Placed.{Placed, count, first_of, last_of, nowhere, with_node, with_nodes, StandAll, Stands, NamesChildren, Holds}
 use Rattle.hd_links.specs.Pointers.{PointsTo, PointersAreTyped, IsTwinBefore, Precedes, EndsAfter, TwinsLinkBack, IsReached, AreLinked}
 use Rattle.hd_links.proofs.Types.{Ordered}
 use Rattle.hd_links.proofs.Forms.{Formed, is_behind, low, formed, follows_code, follows_key, segment_is}
@@ -21,14 +21,14 @@ TableFits m table = (t : ℕ) → PointsTo m t (table t)
 nowhere_fits : (m : Links) → TableFits m nowhere
 nowhere_fits m t p = absurd (omega arith)
 
-then_fits : (types : List SegType) (m : Links) (table : ℕ → ℕ) (r : Placed) (k n : Forest Placed) → TableFits m table → Stands types m table r k n → TableFits m (and_then table r)
+then_fits : (types : List SegmentType) (m : Links) (table : ℕ → ℕ) (r : Placed) (k n : Forest Placed) → TableFits m table → Stands types m table r k n → TableFits m (with_node table r)
 then_fits types m table r k n T s t = elim (cases_eq r.segment.code t) [
   | inl e ↦ subst (PointsTo m t) (sym (cond-true (r.segment.code == t) r.address (table t) (eq-eqb r.segment.code t e))) (λ p. (s.there.here, s.code ∙ e))
   | inr ne ↦ subst (PointsTo m t) (sym (cond-false (r.segment.code == t) r.address (table t) (ne_eqb r.segment.code t ne))) (T t)
 ]
 
 -- the node at an address
-pub record At (types : List SegType) (m : Links) (a : ℕ) : Type 0 where
+pub record At (types : List SegmentType) (m : Links) (a : ℕ) : Type 0 where
   pub table : ℕ → ℕ
   pub parent : ℕ
   pub row : Placed
@@ -39,7 +39,7 @@ pub record At (types : List SegType) (m : Links) (a : ℕ) : Type 0 where
   pub formed : Formed types parent (node row below after)
   pub fits : TableFits m table
 
-pub find : (types : List SegType) (m : Links) (a : ℕ) (b : ℕ → ℕ) (c : ℕ) (f : Forest Placed) → StandAll types m b f → Formed types c f → TableFits m b → 0 < count a f → At types m a
+pub find : (types : List SegmentType) (m : Links) (a : ℕ) (b : ℕ → ℕ) (c : ℕ) (f : Forest Placed) → StandAll types m b f → Formed types c f → TableFits m b → 0 < count a f → At types m a
 find types m a b c empty l h T p = absurd (omega arith)
 find types m a b c (node r k n) l h T p =
     elim (cases_eq r.address a) [
@@ -47,18 +47,18 @@ find types m a b c (node r k n) l h T p =
       | inr ne ↦ (let z : is_at r.address a ≡ 0 = none_at r.address a ne in
           elim (zero_or (count a k)) [
             | inr q ↦ find types m a nowhere r.segment.code k l.1 h.2 (nowhere_fits m) q
-            | inl q ↦ find types m a (and_then b r) c n l.2 h.3 (then_fits types m b r k n T l.0) (omega arith)
+            | inl q ↦ find types m a (with_node b r) c n l.2 h.3 (then_fits types m b r k n T l.0) (omega arith)
           ])
     ]
 
 -- the first sibling of a type
-pub record First (types : List SegType) (m : Links) (c : ℕ) (b : ℕ → ℕ) (t p : ℕ) : Type 0 where
+pub record First (types : List SegmentType) (m : Links) (c : ℕ) (b : ℕ → ℕ) (t p : ℕ) : Type 0 where
   pub typed : is_child_type types c t ≡ true
   pub there : IsSegment m p
   pub code : m.code p ≡ t
-  pub prev : is_backward_kept types t ≡ true → m.prev p ≡ b t
+  pub backward : is_backward_kept types t ≡ true → m.backward p ≡ b t
 
-pub first_is : (types : List SegType) (m : Links) (c : ℕ) (b : ℕ → ℕ) (f : Forest Placed) (t : ℕ) → StandAll types m b f → Formed types c f → 0 < first_of f t → First types m c b t (first_of f t)
+pub first_is : (types : List SegmentType) (m : Links) (c : ℕ) (b : ℕ → ℕ) (f : Forest Placed) (t : ℕ) → StandAll types m b f → Formed types c f → 0 < first_of f t → First types m c b t (first_of f t)
 first_is types m c b empty t l h p = absurd (omega arith)
 first_is types m c b (node r k n) t l h p =
     elim (cases_eq r.segment.code t) [
@@ -67,61 +67,61 @@ first_is types m c b (node r k n) t l h p =
             typed = subst (λ x. is_child_type types c x ≡ true) e h.0;
             there = l.0.there;
             code = l.0.code ∙ e;
-            prev = λ q. l.0.prev (subst (λ x. is_backward_kept types x ≡ true) (sym e) q) ∙ ap b e;
+            backward = λ q. l.0.backward (subst (λ x. is_backward_kept types x ≡ true) (sym e) q) ∙ ap b e;
           })
       | inr ne ↦
           (let e : first_of (node r k n) t ≡ first_of n t = cond-false _ _ _ (ne_eqb r.segment.code t ne) in
-          let F : First types m c (and_then b r) t (first_of n t) = first_is types m c (and_then b r) n t l.2 h.3 (subst (λ x. 0 < x) e p) in
+          let F : First types m c (with_node b r) t (first_of n t) = first_is types m c (with_node b r) n t l.2 h.3 (subst (λ x. 0 < x) e p) in
           subst (First types m c b t) (sym e)
-          (record { typed = F.typed; there = F.there; code = F.code; prev = λ q. F.prev q ∙ cond-false _ _ _ (ne_eqb r.segment.code t ne) }))
+          (record { typed = F.typed; there = F.there; code = F.code; backward = λ q. F.backward q ∙ cond-false _ _ _ (ne_eqb r.segment.code t ne) }))
     ]
 
 -- the last of no siblings
-last_none : (types : List SegType) (m : Links) (b : ℕ → ℕ) (f : Forest Placed) (t : ℕ) → StandAll types m b f → first_of f t ≡ 0 → and_all b f t ≡ b t
+last_none : (types : List SegmentType) (m : Links) (b : ℕ → ℕ) (f : Forest Placed) (t : ℕ) → StandAll types m b f → first_of f t ≡ 0 → with_nodes b f t ≡ b t
 last_none types m b empty t l e = refl
 last_none types m b (node r k n) t l e =
     elim (cases_eq r.segment.code t) [
       | inl q ↦ absurd (let z : first_of (node r k n) t ≡ r.address = cond-true _ _ _ (eq-eqb r.segment.code t q) in let p : 0 < r.address = l.0.there.some in omega arith)
-      | inr ne ↦ last_none types m (and_then b r) n t l.2 (sym (cond-false _ _ _ (ne_eqb r.segment.code t ne)) ∙ e) ∙ cond-false _ _ _ (ne_eqb r.segment.code t ne)
+      | inr ne ↦ last_none types m (with_node b r) n t l.2 (sym (cond-false _ _ _ (ne_eqb r.segment.code t ne)) ∙ e) ∙ cond-false _ _ _ (ne_eqb r.segment.code t ne)
     ]
 
-ends : (types : List SegType) (m : Links) (b : ℕ → ℕ) (f : Forest Placed) (t : ℕ) → StandAll types m b f → 0 < first_of f t → (k : ℕ) × EndsAfter m k (first_of f t) (and_all b f t)
+ends : (types : List SegmentType) (m : Links) (b : ℕ → ℕ) (f : Forest Placed) (t : ℕ) → StandAll types m b f → 0 < first_of f t → (k : ℕ) × EndsAfter m k (first_of f t) (with_nodes b f t)
 ends types m b empty t l p = absurd (omega arith)
 ends types m b (node r k n) t l p =
     elim (cases_eq r.segment.code t) [
       | inl q ↦
           (let own : first_of (node r k n) t ≡ r.address = cond-true _ _ _ (eq-eqb r.segment.code t q) in
-          let nx : m.next r.address ≡ first_of n t = l.0.next ∙ ap (first_of n) q in
+          let nx : m.forward r.address ≡ first_of n t = l.0.forward ∙ ap (first_of n) q in
           elim (zero_or (first_of n t)) [
             | inl z ↦ (
               0,
-              subst (λ x. EndsAfter m 0 x (and_all b (node r k n) t)) (sym own) (
+              subst (λ x. EndsAfter m 0 x (with_nodes b (node r k n) t)) (sym own) (
                 l.0.there.some,
-                sym (cond-true _ _ _ (eq-eqb r.segment.code t q)) ∙ sym (last_none types m (and_then b r) n t l.2 z),
+                sym (cond-true _ _ _ (eq-eqb r.segment.code t q)) ∙ sym (last_none types m (with_node b r) n t l.2 z),
                 nx ∙ z,
               ),
             )
             | inr z ↦
-                (let i : (k : ℕ) × EndsAfter m k (first_of n t) (and_all (and_then b r) n t) = ends types m (and_then b r) n t l.2 z in (
+                (let i : (k : ℕ) × EndsAfter m k (first_of n t) (with_nodes (with_node b r) n t) = ends types m (with_node b r) n t l.2 z in (
                   suc i.0,
-                  subst (λ x. EndsAfter m (suc i.0) x (and_all b (node r k n) t)) (sym own) (
+                  subst (λ x. EndsAfter m (suc i.0) x (with_nodes b (node r k n) t)) (sym own) (
                     l.0.there.some,
-                    subst (λ x. EndsAfter m i.0 x (and_all b (node r k n) t)) (sym nx) i.1,
+                    subst (λ x. EndsAfter m i.0 x (with_nodes b (node r k n) t)) (sym nx) i.1,
                   ),
                 ))
           ])
       | inr ne ↦
           (let e : first_of (node r k n) t ≡ first_of n t = cond-false _ _ _ (ne_eqb r.segment.code t ne) in
-          subst (λ x. (j : ℕ) × EndsAfter m j x (and_all b (node r k n) t)) (sym e)
-          (ends types m (and_then b r) n t l.2 (subst (λ x. 0 < x) e p)))
+          subst (λ x. (j : ℕ) × EndsAfter m j x (with_nodes b (node r k n) t)) (sym e)
+          (ends types m (with_node b r) n t l.2 (subst (λ x. 0 < x) e p)))
     ]
 
-last_typed : (types : List SegType) (m : Links) (b : ℕ → ℕ) (f : Forest Placed) (t : ℕ) → StandAll types m b f → TableFits m b → PointsTo m t (and_all b f t)
+last_typed : (types : List SegmentType) (m : Links) (b : ℕ → ℕ) (f : Forest Placed) (t : ℕ) → StandAll types m b f → TableFits m b → PointsTo m t (with_nodes b f t)
 last_typed types m b empty t l T = T t
-last_typed types m b (node r k n) t l T = last_typed types m (and_then b r) n t l.2 (then_fits types m b r k n T l.0)
+last_typed types m b (node r k n) t l T = last_typed types m (with_node b r) n t l.2 (then_fits types m b r k n T l.0)
 
 -- what is reached: all below and behind the first ones that are
-reach : (types : List SegType) (m : Links) (c : ℕ) (b : ℕ → ℕ) (f : Forest Placed) → StandAll types m b f → Formed types c f
+reach : (types : List SegmentType) (m : Links) (c : ℕ) (b : ℕ → ℕ) (f : Forest Placed) → StandAll types m b f → Formed types c f
     → ((t : ℕ) → 0 < first_of f t → (n : ℕ) × IsReached types m n (first_of f t))
     → (a : ℕ) → 0 < count a f → (n : ℕ) × IsReached types m n a
 reach types m c b empty l h w a p = absurd (omega arith)
@@ -154,12 +154,12 @@ reach types m c b (node r k n) l h w a p =
                   ),
                 ))
                 a q
-            | inl q ↦ reach types m c (and_then b r) n l.2 h.3
+            | inl q ↦ reach types m c (with_node b r) n l.2 h.3
                 (λ t s. elim (cases_eq r.segment.code t) [
                   | inl e ↦
-                      (let F : First types m c (and_then b r) t (first_of n t) = first_is types m c (and_then b r) n t l.2 h.3 s in (
+                      (let F : First types m c (with_node b r) t (first_of n t) = first_is types m c (with_node b r) n t l.2 h.3 s in (
                         suc top.0,
-                        (F.there, (r.address, top.1, inl (record { holder = l.0.there; names = l.0.next ∙ ap (first_of n) e }))),
+                        (F.there, (r.address, top.1, inl (record { holder = l.0.there; names = l.0.forward ∙ ap (first_of n) e }))),
                       ))
                   | inr e ↦
                       (let z2 : first_of (node r k n) t ≡ first_of n t = cond-false _ _ _ (ne_eqb r.segment.code t e) in
@@ -170,7 +170,7 @@ reach types m c b (node r k n) l h w a p =
     ]
 
 -- keys of twins
-key_of : (types : List SegType) (m : Links) (c : ℕ) (b : ℕ → ℕ) (r : Segment) (n : Forest Placed) → StandAll types m b n → Formed types c n → is_behind types (Some r) n ≡ true
+key_of : (types : List SegmentType) (m : Links) (c : ℕ) (b : ℕ → ℕ) (r : Segment) (n : Forest Placed) → StandAll types m b n → Formed types c n → is_behind types (Some r) n ≡ true
     → 0 < first_of n r.code → twins_in_order types r (segment_at m (first_of n r.code)) ≡ true
 key_of types m c b r empty l h f p = absurd (omega arith)
 key_of types m c b r (node s k n) l h f p =
@@ -183,7 +183,7 @@ key_of types m c b r (node s k n) l h f p =
           let z : first_of (node s k n) r.code ≡ 0 = low types c s k n r.code h (elim (cases_order r.code s.segment.code) [ inl q ↦ absurd (ne q) | inr w ↦ elim w [ inl q ↦ q | inr q ↦ absurd (omega arith) ] ]) in omega arith)
     ]
 
-module _ (types : List SegType) (O : Ordered types) (bound : ℕ) (m : Links) (G : IsLinkGraph types bound m) (f : Forest Placed) (H : Holds types m f) where
+module _ (types : List SegmentType) (O : Ordered types) (bound : ℕ) (m : Links) (G : IsLinkGraph types bound m) (f : Forest Placed) (H : Holds types m f) where
   is_formed : Formed types 0 f
   is_formed = formed types O 0 None f H.fits
 
@@ -191,12 +191,12 @@ module _ (types : List SegType) (O : Ordered types) (bound : ℕ) (m : Links) (G
   at a s = find types m a nowhere 0 f H.lies.nodes is_formed (nowhere_fits m) (let e : count a f ≡ 1 = H.once a s in omega arith)
 
   -- the twin behind a segment
-  behind : (h : ℕ) (s : IsSegment m h) → 0 < m.next h → First types m (at h s).parent (and_then (at h s).table (at h s).row) (at h s).row.segment.code (m.next h)
+  behind : (h : ℕ) (s : IsSegment m h) → 0 < m.forward h → First types m (at h s).parent (with_node (at h s).table (at h s).row) (at h s).row.segment.code (m.forward h)
   behind h s p =
       let A : At types m h = at h s in
-      let e : first_of A.after A.row.segment.code ≡ m.next h = sym A.stands.0.next ∙ ap m.next A.is in
-      subst (First types m A.parent (and_then A.table A.row) A.row.segment.code) e
-      (first_is types m A.parent (and_then A.table A.row) A.after A.row.segment.code A.stands.2 A.formed.3 (subst (λ x. 0 < x) (sym e) p))
+      let e : first_of A.after A.row.segment.code ≡ m.forward h = sym A.stands.0.forward ∙ ap m.forward A.is in
+      subst (First types m A.parent (with_node A.table A.row) A.row.segment.code) e
+      (first_is types m A.parent (with_node A.table A.row) A.after A.row.segment.code A.stands.2 A.formed.3 (subst (λ x. 0 < x) (sym e) p))
 
   own_code : (h : ℕ) (s : IsSegment m h) → (at h s).row.segment.code ≡ m.code h
   own_code h s = sym (at h s).stands.0.code ∙ ap m.code (at h s).is
@@ -226,19 +226,19 @@ module _ (types : List SegType) (O : Ordered types) (bound : ℕ) (m : Links) (G
         })
   ]
 
-  first_child : (h t : ℕ) → m.here h ≡ true → is_child_type types (m.code h) t ≡ true → 0 < m.first h t → First types m (m.code h) nowhere t (m.first h t)
+  first_child : (h t : ℕ) → m.here h ≡ true → is_child_type types (m.code h) t ≡ true → 0 < m.first_child h t → First types m (m.code h) nowhere t (m.first_child h t)
   first_child h t here q p =
       let C : Children h = children h here in
-      let e : first_of C.below t ≡ m.first h t = sym (C.named.first t q) in
+      let e : first_of C.below t ≡ m.first_child h t = sym (C.named.first t q) in
       subst (First types m (m.code h) nowhere t) e (first_is types m (m.code h) nowhere C.below t C.stand C.formed (subst (λ x. 0 < x) (sym e) p))
 
   typed : PointersAreTyped types m
   typed = record {
-    delete = λ a s. sym (ap m.delete (at a s).is) ∙ (at a s).stands.0.delete;
-    next = λ a s p. ((behind a s p).there.here, (behind a s p).code ∙ own_code a s);
-    prev = λ a s kept.
+    delete_byte = λ a s. sym (ap m.delete_byte (at a s).is) ∙ (at a s).stands.0.delete_byte;
+    forward = λ a s p. ((behind a s p).there.here, (behind a s p).code ∙ own_code a s);
+    backward = λ a s kept.
         (let A : At types m a = at a s in
-        let e : m.prev a ≡ A.table A.row.segment.code = sym (ap m.prev A.is) ∙ A.stands.0.prev (subst (λ x. is_backward_kept types x ≡ true) (sym (own_code a s)) kept) in
+        let e : m.backward a ≡ A.table A.row.segment.code = sym (ap m.backward A.is) ∙ A.stands.0.backward (subst (λ x. is_backward_kept types x ≡ true) (sym (own_code a s)) kept) in
         subst (PointsTo m (m.code a)) (sym e) (subst (λ x. PointsTo m x (A.table A.row.segment.code)) (own_code a s) (A.fits A.row.segment.code)));
     first = λ a t here q p. ((first_child a t here q p).there.here, (first_child a t here q p).code);
     last = λ a t here q kept.
@@ -305,22 +305,22 @@ module _ (types : List SegType) (O : Ordered types) (bound : ℕ) (m : Links) (G
   back : TwinsLinkBack types m
   back = record {
     twins = λ a h s kept T.
-        (let p : 0 < m.next h = subst (λ x. 0 < x) (sym T.names) s.some in
+        (let p : 0 < m.forward h = subst (λ x. 0 < x) (sym T.names) s.some in
         let A : At types m h = at h T.holder in
-        let F : First types m A.parent (and_then A.table A.row) A.row.segment.code (m.next h) = behind h T.holder p in
+        let F : First types m A.parent (with_node A.table A.row) A.row.segment.code (m.forward h) = behind h T.holder p in
         let c : m.code a ≡ A.row.segment.code = sym (ap m.code T.names) ∙ F.code in
-        sym (ap m.prev T.names) ∙ F.prev (subst (λ x. is_backward_kept types x ≡ true) c kept)
+        sym (ap m.backward T.names) ∙ F.backward (subst (λ x. is_backward_kept types x ≡ true) c kept)
         ∙ cond-true _ _ _ (eq-eqb A.row.segment.code A.row.segment.code refl) ∙ A.is);
     firsts = λ a h t s kept P.
-        (let p : 0 < m.first h t = subst (λ x. 0 < x) (sym P.names) s.some in
-        let F : First types m (m.code h) nowhere t (m.first h t) = first_child h t P.holder P.typed p in
+        (let p : 0 < m.first_child h t = subst (λ x. 0 < x) (sym P.names) s.some in
+        let F : First types m (m.code h) nowhere t (m.first_child h t) = first_child h t P.holder P.typed p in
         let c : m.code a ≡ t = sym (ap m.code P.names) ∙ F.code in
-        sym (ap m.prev P.names) ∙ F.prev (subst (λ x. is_backward_kept types x ≡ true) c kept));
+        sym (ap m.backward P.names) ∙ F.backward (subst (λ x. is_backward_kept types x ≡ true) c kept));
     lasts = λ h t here q kept p.
         (let C : Children h = children h here in
-        let e : first_of C.below t ≡ m.first h t = sym (C.named.first t q) in
-        let e2 : last_of C.below t ≡ m.last h t = sym (C.named.last t q kept) in
-        subst (λ x. (n : ℕ) × EndsAfter m n (m.first h t) x) e2
+        let e : first_of C.below t ≡ m.first_child h t = sym (C.named.first t q) in
+        let e2 : last_of C.below t ≡ m.last_child h t = sym (C.named.last t q kept) in
+        subst (λ x. (n : ℕ) × EndsAfter m n (m.first_child h t) x) e2
         (subst (λ x. (n : ℕ) × EndsAfter m n x (last_of C.below t)) e
         (ends types m nowhere C.below t C.stand (subst (λ x. 0 < x) (sym e) p))));
     no_lasts = λ h t here q kept z.
@@ -331,11 +331,11 @@ module _ (types : List SegType) (O : Ordered types) (bound : ℕ) (m : Links) (G
   keys : (a h : ℕ) → IsSegment m a → IsTwinBefore m h a → twins_in_order types (segment_at m h) (segment_at m a) ≡ true
   keys a h s T =
       let A : At types m h = at h T.holder in
-      let e : first_of A.after A.row.segment.code ≡ a = sym A.stands.0.next ∙ ap m.next A.is ∙ T.names in
+      let e : first_of A.after A.row.segment.code ≡ a = sym A.stands.0.forward ∙ ap m.forward A.is ∙ T.names in
       let own : A.row.segment ≡ segment_at m h = sym (segment_is types m A.table A.row A.below A.after A.stands.0) ∙ ap (segment_at m) A.is in
       subst (λ x. twins_in_order types x (segment_at m a) ≡ true) own
       (subst (λ x. twins_in_order types A.row.segment (segment_at m x) ≡ true) e
-      (key_of types m A.parent (and_then A.table A.row) A.row.segment A.after A.stands.2 A.formed.3 A.formed.1 (subst (λ x. 0 < x) (sym e) s.some)))
+      (key_of types m A.parent (with_node A.table A.row) A.row.segment A.after A.stands.2 A.formed.3 A.formed.1 (subst (λ x. 0 < x) (sym e) s.some)))
 
   pub linked : AreLinked types m
   linked = record { typed = typed; single = record { some = some; one = one }; back = back; keys = keys; reached = is_reached }

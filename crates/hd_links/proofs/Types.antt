@@ -5,7 +5,7 @@ use Rattle.std.specs.List.{list_any}
 use Rattle.std.specs.Option.{option_map_or}
 use Rattle.std.proofs.lemmas.Bool.{and_parts, cases_eq, cases_Bool, eqb-true, eq-eqb, ne_eqb, or_cases, or_left, or_right, cond-true, cond-false, false≢true}
 use Rattle.hd_dbd.specs.declared.hierarchy.FreeSpace.{FreeSpace}
-use Rattle.hd_dbd.specs.declared.hierarchy.SegType.{SegType}
+use Rattle.hd_dbd.specs.Types.{SegmentType}
 use Rattle.hd_dbd.specs.Segment.{Segment}
 use Rattle.hd_dbd.specs.Hierarchy.{type_of, parent_of}
 use Rattle.hd_dbd.specs.Prefixes.{is_child_of, children_from, children_of}
@@ -48,7 +48,7 @@ above_in c t (u ∷ us) a h = elim (in_cases u t us h) [
 
 -- ---- the children in a list of types
 
-children_above : (c p k : ℕ) (ts : List SegType) → c < k → AllAbove c (children_from p k ts)
+children_above : (c p k : ℕ) (ts : List SegmentType) → c < k → AllAbove c (children_from p k ts)
 children_above c p k [] l = tt
 children_above c p k (t ∷ ts) l = elim (cases_Bool (is_child_of p t)) [
   | inl e ↦ subst (λ (x : List ℕ). AllAbove c x) (sym (cond-true (is_child_of p t) (k ∷ children_from p (k + 1) ts) (children_from p (k + 1) ts) e))
@@ -57,7 +57,7 @@ children_above c p k (t ∷ ts) l = elim (cases_Bool (is_child_of p t)) [
       (children_above c p (k + 1) ts (omega arith))
 ]
 
-children_ascend : (p k : ℕ) (ts : List SegType) → Ascending (children_from p k ts)
+children_ascend : (p k : ℕ) (ts : List SegmentType) → Ascending (children_from p k ts)
 children_ascend p k [] = tt
 children_ascend p k (t ∷ ts) = elim (cases_Bool (is_child_of p t)) [
   | inl e ↦ subst Ascending (sym (cond-true (is_child_of p t) (k ∷ children_from p (k + 1) ts) (children_from p (k + 1) ts) e))
@@ -67,21 +67,21 @@ children_ascend p k (t ∷ ts) = elim (cases_Bool (is_child_of p t)) [
 ]
 
 -- the child types of a type ascend
-pub types_ascend : (types : List SegType) (c : ℕ) → Ascending (child_types types c)
+pub types_ascend : (types : List SegmentType) (c : ℕ) → Ascending (child_types types c)
 types_ascend types c = elim (cases_eq c 0) [
   | inl e ↦ subst Ascending (sym (cond-true (c == 0) (1 ∷ []) (children_of types c) (eq-eqb c 0 e))) (tt, tt)
   | inr ne ↦ subst Ascending (sym (cond-false (c == 0) (1 ∷ []) (children_of types c) (ne_eqb c 0 ne))) (children_ascend c 1 types)
 ]
 
 -- a child in the list: its type
-record Child (p k t : ℕ) (ts : List SegType) : Type 0 where
+record Child (p k t : ℕ) (ts : List SegmentType) : Type 0 where
   place : ℕ
-  type : SegType
+  type : SegmentType
   is : slice_get ts place ≡ Some type
   code : k + place ≡ t
   child : is_child_of p type ≡ true
 
-child_at : (p k t : ℕ) (ts : List SegType) → is_in (children_from p k ts) t ≡ true → Child p k t ts
+child_at : (p k t : ℕ) (ts : List SegmentType) → is_in (children_from p k ts) t ≡ true → Child p k t ts
 child_at p k t [] h = absurd (false≢true h)
 child_at p k t (u ∷ us) h = elim (cases_Bool (is_child_of p u)) [
   | inl e ↦ elim (in_cases k t (children_from p (k + 1) us) (ap (λ (x : List ℕ). is_in x t) (sym (cond-true (is_child_of p u) (k ∷ children_from p (k + 1) us) (children_from p (k + 1) us) e)) ∙ h)) [
@@ -94,7 +94,7 @@ child_at p k t (u ∷ us) h = elim (cases_Bool (is_child_of p u)) [
     later : Child p (k + 1) t us → Child p k t (u ∷ us)
     later C = record { place = suc C.place; type = C.type; is = C.is; code = (let e : k + 1 + C.place ≡ t = C.code in omega arith); child = C.child }
 
-at_child : (p k i : ℕ) (ts : List SegType) (v : SegType) → slice_get ts i ≡ Some v → is_child_of p v ≡ true → is_in (children_from p k ts) (k + i) ≡ true
+at_child : (p k i : ℕ) (ts : List SegmentType) (v : SegmentType) → slice_get ts i ≡ Some v → is_child_of p v ≡ true → is_in (children_from p k ts) (k + i) ≡ true
 at_child p k i [] v h c = cc
 at_child p k zero (u ∷ us) v h c =
     let same : u ≡ v = cc in
@@ -121,7 +121,7 @@ above_some zero l = absurd (omega arith)
 above_some (suc n) l = refl
 
 -- a type that fits is the root's type, or has a parent
-roots_alone : (c : ℕ) (t : SegType) → parent_fits c t ≡ true → t.parent ≡ None → c ≡ 1
+roots_alone : (c : ℕ) (t : SegmentType) → parent_fits c t ≡ true → t.parent ≡ None → c ≡ 1
 roots_alone c t fits none = elim (cases_eq c 1) [
   | inl e ↦ e
   | inr ne ↦ absurd (false≢true (ap (λ (o : Option ℕ). option_map_or (λ p. nat_lt 0 p && nat_lt p c) o false) (sym none)
@@ -137,26 +137,26 @@ child_parent p None h = cc
 child_parent p (Some q) h = ap (λ (n : ℕ). Some n) (eqb-true q p h)
 
 -- a row that fits has a type
-pub row_type : (types : List SegType) (r : Segment) → row_fits types r ≡ true → (t : SegType) × (type_of types r.code ≡ Some t)
+pub row_type : (types : List SegmentType) (r : Segment) → row_fits types r ≡ true → (t : SegmentType) × (type_of types r.code ≡ Some t)
 row_type types r fits = some_type (type_of types r.code) fits
   where
-    some_type : (o : Option SegType) → option_map_or (λ t. length r.bytes == t.length) o false ≡ true → (t : SegType) × (o ≡ Some t)
+    some_type : (o : Option SegmentType) → option_map_or (λ t. length r.bytes == t.length) o false ≡ true → (t : SegmentType) × (o ≡ Some t)
     some_type None h = cc
     some_type (Some t) h = (t, refl)
 
 -- What a proof needs to know of the child types: which type's they are, and that they come later.
-pub record Ordered (types : List SegType) : Type 0 where
+pub record Ordered (types : List SegmentType) : Type 0 where
   pub ascending : (c : ℕ) → Ascending (child_types types c)
   pub later : (c t : ℕ) → is_child_type types c t ≡ true → c < t
   pub parent : (c : ℕ) (r : Segment) → row_fits types r ≡ true → is_child_type types c r.code ≡ true → parent_of types r.code ≡ above c
   pub child : (c : ℕ) (r : Segment) → row_fits types r ≡ true → parent_of types r.code ≡ above c → is_child_type types c r.code ≡ true
 
 -- a row that fits has another code than the header
-pub code_some : (types : List SegType) (r : Segment) → row_fits types r ≡ true → 0 < r.code
+pub code_some : (types : List SegmentType) (r : Segment) → row_fits types r ≡ true → 0 < r.code
 code_some types r fits = let t = row_type types r fits in (type_within types r.code t.0 t.1).0
 
-module _ (block_size : ℕ) (frspc : FreeSpace) (types : List SegType) (formed : IsTrue (well_formed block_size frspc types)) where
-  type_parent : (c : ℕ) (t : SegType) → type_of types c ≡ Some t → parent_fits c t ≡ true
+module _ (block_size : ℕ) (frspc : FreeSpace) (types : List SegmentType) (formed : IsTrue (well_formed block_size frspc types)) where
+  type_parent : (c : ℕ) (t : SegmentType) → type_of types c ≡ Some t → parent_fits c t ≡ true
   type_parent c t is =
       let all = and_parts _ _ (type_of-fits block_size types c t (types_fit block_size frspc types formed) is) in
       let to_sizes = and_parts _ _ all.0 in
@@ -164,14 +164,14 @@ module _ (block_size : ℕ) (frspc : FreeSpace) (types : List SegType) (formed :
       let to_root_key = and_parts _ _ to_names.0 in
       (and_parts _ _ (and_parts _ _ to_root_key.0).0).1
 
-  parent_is : (c : ℕ) (t : SegType) → type_of types c ≡ Some t → parent_of types c ≡ t.parent
-  parent_is c t is = ap (λ (o : Option SegType). option_and_then (λ (u : SegType). u.parent) o) is
+  parent_is : (c : ℕ) (t : SegmentType) → type_of types c ≡ Some t → parent_of types c ≡ t.parent
+  parent_is c t is = ap (λ (o : Option SegmentType). option_and_then (λ (u : SegmentType). u.parent) o) is
 
-  none_parent : (t : SegType) → type_of types 1 ≡ Some t → t.parent ≡ None
+  none_parent : (t : SegmentType) → type_of types 1 ≡ Some t → t.parent ≡ None
   none_parent t is = root_parent t.parent (type_parent 1 t is)
 
   -- the type of a child of another than the header
-  child_type : (p t : ℕ) → is_in (children_of types p) t ≡ true → (u : SegType) × (type_of types t ≡ Some u) × (u.parent ≡ Some p)
+  child_type : (p t : ℕ) → is_in (children_of types p) t ≡ true → (u : SegmentType) × (type_of types t ≡ Some u) × (u.parent ≡ Some p)
   child_type p t h =
       let C : Child p 1 t types = child_at p 1 t types h in
       let e : 1 + C.place ≡ t = C.code in

@@ -1,15 +1,15 @@
 -- What the records say at their addresses is one forest.
 use Rattle.std.proofs.Common.{◌≡◌, ℕ, None, ◌<◌, List, arith, ap, sym, ◌∙◌, refl, inl, inr}
 use Rattle.std.proofs.lemmas.Bool.{cases_eq, cases_order, cases_Bool, eq-eqb, ne_eqb, cond-true, cond-false, false≢true}
-use Rattle.hd_dbd.specs.declared.hierarchy.SegType.{SegType}
+use Rattle.hd_dbd.specs.Types.{SegmentType}
 use Rattle.hd_dbd.specs.Forest.{Forest, empty, node}
 use Rattle.hd_links.specs.Links.{Links, is_child_type}
-use Rattle.hd_links.specs.Placed.{Placed, first_of, nowhere, and_then, StandAll, Holds}
+use Rattle.hd_links.specs.Placed.{Placed, first_of, nowhere, with_node, StandAll, Holds}
 use Rattle.hd_links.proofs.Types.{Ordered}
 use Rattle.hd_links.proofs.Forms.{Formed, low, none_of, formed}
 
 -- first ones alike, one forest
-pub same : (types : List SegType) (m : Links) (c d : ℕ) (tf tg : ℕ → ℕ) (f g : Forest Placed)
+pub same : (types : List SegmentType) (m : Links) (c d : ℕ) (tf tg : ℕ → ℕ) (f g : Forest Placed)
     → StandAll types m tf f → StandAll types m tg g → Formed types c f → Formed types d g
     → ((t : ℕ) → first_of f t ≡ first_of g t) → f ≡ g
 same types m c d tf tg empty empty lf lg ff fg e = refl
@@ -35,19 +35,19 @@ same types m c d tf tg (node r k n) (node s k2 n2) lf lg ff fg e =
     let rows : r ≡ s = (λ i. record { address = addresses i; segment = segments i }) in
     let kids : k ≡ k2 = same types m r.segment.code s.segment.code nowhere nowhere k k2 lf.1 lg.1 ff.2 fg.2
     (λ t. elim (cases_Bool (is_child_type types r.segment.code t)) [
-      | inl q ↦ sym (lf.0.children.first t q) ∙ ap (λ a. m.first a t) addresses ∙ lg.0.children.first t (ap (λ x. is_child_type types x t) (sym codes) ∙ q)
+      | inl q ↦ sym (lf.0.children.first t q) ∙ ap (λ a. m.first_child a t) addresses ∙ lg.0.children.first t (ap (λ x. is_child_type types x t) (sym codes) ∙ q)
       | inr q ↦ none_of types r.segment.code t k ff.2 (λ w. false≢true (sym q ∙ w))
           ∙ sym (none_of types s.segment.code t k2 fg.2 (λ w. false≢true (sym q ∙ ap (λ x. is_child_type types x t) codes ∙ w)))
     ]) in
-    let nexts : n ≡ n2 = same types m c d (and_then tf r) (and_then tg s) n n2 lf.2 lg.2 ff.3 fg.3
+    let nexts : n ≡ n2 = same types m c d (with_node tf r) (with_node tg s) n n2 lf.2 lg.2 ff.3 fg.3
     (λ t. elim (cases_eq r.segment.code t) [
-      | inl q ↦ ap (first_of n) (sym q) ∙ sym lf.0.next ∙ ap m.next addresses ∙ lg.0.next ∙ ap (first_of n2) (sym codes ∙ q)
+      | inl q ↦ ap (first_of n) (sym q) ∙ sym lf.0.forward ∙ ap m.forward addresses ∙ lg.0.forward ∙ ap (first_of n2) (sym codes ∙ q)
       | inr q ↦ sym (cond-false _ _ _ (ne_eqb r.segment.code t q)) ∙ e t ∙ cond-false _ _ _ (ne_eqb s.segment.code t (λ z. q (codes ∙ z)))
     ]) in
     λ i. node (rows i) (kids i) (nexts i)
 
 -- the records hold one forest at most
-pub unique : (types : List SegType) (O : Ordered types) (m : Links) (f g : Forest Placed) → Holds types m f → Holds types m g → f ≡ g
+pub unique : (types : List SegmentType) (O : Ordered types) (m : Links) (f g : Forest Placed) → Holds types m f → Holds types m g → f ≡ g
 unique types O m f g hf hg =
     let ff : Formed types 0 f = formed types O 0 None f hf.fits in
     let fg : Formed types 0 g = formed types O 0 None g hg.fits in

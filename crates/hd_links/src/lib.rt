@@ -5,4 +5,4 @@
 
 mod law;
 
-pub use law::law_pointers_decide;
+pub use law::{law_held_twins_ascend, law_pointers_decide};
