@@ -7,13 +7,26 @@ use Rattle.hd_dbd.specs.Rows.{twins_in_order}
 use Rattle.hd_dbd.specs.Forest.{Forest, empty, node}
 use Rattle.hd_links.specs.Links.{Links, IsSegment, IsLinkGraph, segment_at, child_types, is_child_type, is_backward_kept}
 use Rattle.hd_links.specs.Placed.{Placed, first_of, nowhere, with_node, with_nodes, StandAll, NamesChildren}
-use Rattle.hd_links.specs.Pointers.{EndsAfter, IsReached, AreLinked}
+use Rattle.hd_links.specs.Pointers.{IsTwinAfter, IsReached, AreLinked}
 use Rattle.hd_links.proofs.Types.{Ordered, AllAbove, Ascending, is_in, in_cases, in_head, in_tail}
 use Rattle.hd_links.proofs.Forms.{Formed, is_behind, code_follows, key_follows}
 
 pub zero_or : (n : ℕ) → (n ≡ 0) ⊎ (0 < n)
 zero_or zero = inl refl
 zero_or (suc n) = inr (omega arith)
+
+-- the chain of twins from p ends with the segment l, after so many twins
+abbrev pub EndsAfter : Links → ℕ → ℕ → ℕ → Type 0
+EndsAfter m zero p l = (0 < p) × (p ≡ l) × (m.forward p ≡ 0)
+EndsAfter m (suc n) p l = (0 < p) × EndsAfter m n (m.forward p) l
+
+pub ends_from : (m : Links) (n p l : ℕ) → IsTwinAfter m n p l → m.forward l ≡ 0 → EndsAfter m n p l
+ends_from m zero p l h e = (h.0, h.1, ap m.forward h.1 ∙ e)
+ends_from m (suc n) p l h e = (h.0, ends_from m n (m.forward p) l h.1 e)
+
+pub chain_from : (m : Links) (n p l : ℕ) → EndsAfter m n p l → IsTwinAfter m n p l × (m.forward l ≡ 0)
+chain_from m zero p l h = ((h.0, h.1), ap m.forward (sym h.1) ∙ h.2)
+chain_from m (suc n) p l h = (let i = chain_from m n (m.forward p) l h.1 in ((h.0, i.0), i.1))
 
 -- the forest of the chains of these types, the first in front
 abbrev pub chains : (ℕ → Forest Placed → Forest Placed) → List ℕ → Forest Placed
@@ -243,7 +256,8 @@ module _ (types : List SegmentType) (m : Links) (L : AreLinked types m) (O : Ord
       let asc : Ascending ts = O.ascending (m.code h) in
       record {
         first = λ t q. sym (k_first n f h ts FF ts (λ u s. s) asc t q);
-        last = λ t q kept. sym (k_last n f h ts FF nowhere (m.last_child h t) ts (λ u s. s) asc t q (L.back.no_lasts h t here q kept) (L.back.lasts h t here q kept));
+        last = λ t q kept. sym (k_last n f h ts FF nowhere (m.last_child h t) ts (λ u s. s) asc t q (L.back.no_lasts h t here q kept)
+            (λ some. (let E = L.back.lasts h t here q kept some in (E.0.0, ends_from m E.0.0 (m.first_child h t) (m.last_child h t) E.0.1 E.1))));
       }
 
   pub b_stand : (b : ℕ → ℕ) (n f p t : ℕ) (rest : Forest Placed) → Fit n f p t → Above t rest → (0 < p → is_backward_kept types t ≡ true → m.backward p ≡ b t)

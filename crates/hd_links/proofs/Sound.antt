@@ -8,10 +8,10 @@ use Rattle.hd_dbd.specs.Rows.{twins_in_order}
 use Rattle.hd_dbd.specs.Forest.{Forest, empty, node}
 use Rattle.hd_links.specs.Links.{Links, IsSegment, IsLinkGraph, segment_at, is_child_type, is_backward_kept}
 use Rattle.hd_links.specs.Placed.{Placed, count, first_of, last_of, nowhere, with_node, with_nodes, StandAll, Stands, NamesChildren, Holds}
-use Rattle.hd_links.specs.Pointers.{PointsTo, PointersAreTyped, IsTwinBefore, Precedes, EndsAfter, TwinsLinkBack, IsReached, AreLinked}
+use Rattle.hd_links.specs.Pointers.{PointsTo, PointersAreTyped, IsTwinBefore, Precedes, TwinsLinkBack, IsReached, AreLinked}
 use Rattle.hd_links.proofs.Types.{Ordered}
 use Rattle.hd_links.proofs.Forms.{Formed, is_behind, low, formed, follows_code, follows_key, segment_is}
-use Rattle.hd_links.proofs.Build.{zero_or}
+use Rattle.hd_links.proofs.Build.{zero_or, EndsAfter, chain_from}
 use Rattle.hd_links.proofs.Counts.{is_at, one_at, none_at, slot, total, names, count_all, total_least, total_two, count_zero}
 
 -- each address in the table is that of a segment of the type
@@ -320,9 +320,10 @@ module _ (types : List SegmentType) (O : Ordered types) (bound : ℕ) (m : Links
         (let C : Children h = children h here in
         let e : first_of C.below t ≡ m.first_child h t = sym (C.named.first t q) in
         let e2 : last_of C.below t ≡ m.last_child h t = sym (C.named.last t q kept) in
-        subst (λ x. (n : ℕ) × EndsAfter m n (m.first_child h t) x) e2
+        let E : (n : ℕ) × EndsAfter m n (m.first_child h t) (m.last_child h t) = subst (λ x. (n : ℕ) × EndsAfter m n (m.first_child h t) x) e2
         (subst (λ x. (n : ℕ) × EndsAfter m n x (last_of C.below t)) e
-        (ends types m nowhere C.below t C.stand (subst (λ x. 0 < x) (sym e) p))));
+        (ends types m nowhere C.below t C.stand (subst (λ x. 0 < x) (sym e) p))) in
+        let F = chain_from m E.0 (m.first_child h t) (m.last_child h t) E.1 in ((E.0, F.0), F.1));
     no_lasts = λ h t here q kept z.
         (let C : Children h = children h here in
         C.named.last t q kept ∙ last_none types m nowhere C.below t C.stand (sym (C.named.first t q) ∙ z));

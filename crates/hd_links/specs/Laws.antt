@@ -8,8 +8,9 @@ use Rattle.hd_dbd.specs.Rows.{twins_in_order}
 use Rattle.hd_dbd.specs.Paths.{row_at, is_twin}
 use Rattle.hd_dbd.specs.Forest.{Forest, sequence}
 use Rattle.hd_links.specs.Links.{Links, IsLinkGraph}
-use Rattle.hd_links.specs.Placed.{Placed, forest_of, Holds}
+use Rattle.hd_links.specs.Placed.{Placed, forest_of, count, Lies, Holds}
 use Rattle.hd_links.specs.Pointers.{AreLinked}
+use Rattle.hd_links.specs.Changes.{AgreeAt, Agree, linked, unlinked, replaced, with_leaf, without_span, with_bytes, CanLink, CanUnlink, CanReplace}
 
 -- The records hold one placed forest and no other.
 abbrev pub HoldsOne : List SegmentType → Links → Type 0
@@ -28,3 +29,33 @@ HeldTwinsAscend =
     (block_size : ℕ) (frspc : FreeSpace) (types : List SegmentType) (m : Links) (f : Forest Placed) (i j : ℕ) → IsTrue (well_formed block_size frspc types)
     → Holds types m f → let rows : List Segment = sequence (forest_of f) in
     i < j → j < length rows → is_twin types rows i j ≡ true → twins_in_order types (row_at rows i) (row_at rows j) ≡ true
+
+-- Where a placed forest lies depends on the header and the placed addresses alone.
+abbrev pub LiesByItsPlaces : Type 0
+LiesByItsPlaces =
+    (types : List SegmentType) (bound : ℕ) (m m2 : Links) (f : Forest Placed) → IsLinkGraph types bound m
+    → AgreeAt types m m2 0 → ((a : ℕ) → 0 < count a f → AgreeAt types m m2 a) → Lies types m f → Lies types m2 f
+
+-- After a leaf was linked the records hold the forest with the leaf, all other addresses kept.
+abbrev pub LinkingAddsALeaf : Type 0
+LinkingAddsALeaf =
+    (block_size : ℕ) (frspc : FreeSpace) (types : List SegmentType) (bound : ℕ) (m m2 : Links) (f : Forest Placed) (h y : ℕ) (p : Placed)
+    → IsTrue (well_formed block_size frspc types) → IsLinkGraph types bound m → Holds types m f
+    → CanLink types m h y p → p.address < bound → Agree types (linked m h y p) m2
+    → IsLinkGraph types bound m2 × Holds types m2 (with_leaf h y p f)
+
+-- After a span was unlinked the records hold the forest without it, all other addresses kept.
+abbrev pub UnlinkingTakesASpan : Type 0
+UnlinkingTakesASpan =
+    (block_size : ℕ) (frspc : FreeSpace) (types : List SegmentType) (bound : ℕ) (m m2 : Links) (f : Forest Placed) (h y a : ℕ)
+    → IsTrue (well_formed block_size frspc types) → IsLinkGraph types bound m → Holds types m f
+    → CanUnlink types m h y a → Agree types (unlinked m h y a (without_span h a f)) m2
+    → IsLinkGraph types bound m2 × Holds types m2 (without_span h a f)
+
+-- After a segment's bytes were replaced the records hold the forest with these bytes, all addresses kept.
+abbrev pub ReplacingChangesBytes : Type 0
+ReplacingChangesBytes =
+    (block_size : ℕ) (frspc : FreeSpace) (types : List SegmentType) (bound : ℕ) (m m2 : Links) (f : Forest Placed) (a : ℕ) (bytes : List ℕ)
+    → IsTrue (well_formed block_size frspc types) → IsLinkGraph types bound m → Holds types m f
+    → CanReplace types m a bytes → Agree types (replaced m a bytes) m2
+    → IsLinkGraph types bound m2 × Holds types m2 (with_bytes a bytes f)

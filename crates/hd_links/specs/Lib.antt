@@ -1,4 +1,5 @@
 pub mod Links
 pub mod Placed
 pub mod Pointers
+pub mod Changes
 pub mod Laws

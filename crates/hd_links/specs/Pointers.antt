@@ -37,10 +37,14 @@ pub record PredecessorsAreOne (types : List SegmentType) (m : Links) : Type 0 wh
   pub some : (a : ℕ) → IsSegment m a → (h : ℕ) × Precedes types m h a
   pub one : (a g h : ℕ) → IsSegment m a → Precedes types m g a → Precedes types m h a → g ≡ h
 
--- The chain of twins from p ends with the segment l, after so many twins.
-abbrev pub EndsAfter : Links → ℕ → ℕ → ℕ → Type 0
-EndsAfter m zero p l = (0 < p) × (p ≡ l) × (m.forward p ≡ 0)
-EndsAfter m (suc n) p l = (0 < p) × EndsAfter m n (m.forward p) l
+-- The chain of twins from p comes to the segment a after so many twins.
+abbrev pub IsTwinAfter : Links → ℕ → ℕ → ℕ → Type 0
+IsTwinAfter m zero p a = (0 < p) × (p ≡ a)
+IsTwinAfter m (suc n) p a = (0 < p) × IsTwinAfter m n (m.forward p) a
+
+-- the segment a is in the chain of twins from p
+abbrev pub IsInChain : Links → ℕ → ℕ → Type 0
+IsInChain m p a = (n : ℕ) × IsTwinAfter m n p a
 
 -- Twin backward, where it is kept, is the preceding twin, or 0 where a first child pointer precedes; last child, where it
 -- is kept, is the last twin of the chain from first child, or 0 where that is 0.
@@ -48,7 +52,7 @@ pub record TwinsLinkBack (types : List SegmentType) (m : Links) : Type 0 where
   pub twins : (a h : ℕ) → IsSegment m a → is_backward_kept types (m.code a) ≡ true → IsTwinBefore m h a → m.backward a ≡ h
   pub firsts : (a h t : ℕ) → IsSegment m a → is_backward_kept types (m.code a) ≡ true → IsParentOfFirst types m h t a → m.backward a ≡ 0
   pub lasts : (h t : ℕ) → m.here h ≡ true → is_child_type types (m.code h) t ≡ true → is_last_kept types t ≡ true
-      → 0 < m.first_child h t → (n : ℕ) × EndsAfter m n (m.first_child h t) (m.last_child h t)
+      → 0 < m.first_child h t → IsInChain m (m.first_child h t) (m.last_child h t) × (m.forward (m.last_child h t) ≡ 0)
   pub no_lasts : (h t : ℕ) → m.here h ≡ true → is_child_type types (m.code h) t ≡ true → is_last_kept types t ≡ true
       → m.first_child h t ≡ 0 → m.last_child h t ≡ 0
 
