@@ -75,7 +75,7 @@ twins_trans types p q r code h k =
     (ap (λ (c : ℕ). bytes_ordered (type_of types c) p.bytes q.bytes) (sym code) ∙ h) k
 
 -- rows of one parent in order are twins in order, or the second is of a later type
-siblings_cases : (types : List SegmentType) (p r : Segment) → siblings_in_order types p r ≡ true → ((p.code ≡ r.code) × (twins_in_order types p r ≡ true)) ⊎ (p.code < r.code)
+pub siblings_cases : (types : List SegmentType) (p r : Segment) → siblings_in_order types p r ≡ true → ((p.code ≡ r.code) × (twins_in_order types p r ≡ true)) ⊎ (p.code < r.code)
 siblings_cases types p r h = elim (cases_eq p.code r.code) [
   | inl same ↦ inl (same, sym (cond-true (p.code == r.code) (twins_in_order types p r) (nat_lt p.code r.code) (eq-eqb p.code r.code same)) ∙ h)
   | inr other ↦ inr (ltb-true p.code r.code (sym (cond-false (p.code == r.code) (twins_in_order types p r) (nat_lt p.code r.code) (ne_eqb p.code r.code other)) ∙ h))
@@ -89,7 +89,7 @@ siblings_later types p r later =
     cond-false (p.code == r.code) (twins_in_order types p r) (nat_lt p.code r.code) (ne_eqb p.code r.code (λ same. omega arith)) ∙ lt-ltb p.code r.code later
 
 -- the order of rows of one parent goes on over one that stands between
-siblings_trans : (types : List SegmentType) (p q r : Segment) → siblings_in_order types p q ≡ true → siblings_in_order types q r ≡ true → siblings_in_order types p r ≡ true
+pub siblings_trans : (types : List SegmentType) (p q r : Segment) → siblings_in_order types p q ≡ true → siblings_in_order types q r ≡ true → siblings_in_order types p r ≡ true
 siblings_trans types p q r h k = by_cases (siblings_cases types p q h) (siblings_cases types q r k)
   where
     by_cases : ((p.code ≡ q.code) × (twins_in_order types p q ≡ true)) ⊎ (p.code < q.code)

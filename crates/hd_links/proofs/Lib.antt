@@ -5,3 +5,8 @@ pub mod Build
 pub mod Counts
 pub mod Sound
 pub mod Decide
+pub mod Joins
+pub mod Touch
+pub mod Lift
+pub mod Places
+pub mod Linking

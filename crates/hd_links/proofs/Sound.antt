@@ -338,5 +338,5 @@ module _ (types : List SegmentType) (O : Ordered types) (bound : ℕ) (m : Links
       (subst (λ x. twins_in_order types A.row.segment (segment_at m x) ≡ true) e
       (key_of types m A.parent (with_node A.table A.row) A.row.segment A.after A.stands.2 A.formed.3 A.formed.1 (subst (λ x. 0 < x) (sym e) s.some)))
 
-  pub linked : AreLinked types m
-  linked = record { typed = typed; single = record { some = some; one = one }; back = back; keys = keys; reached = is_reached }
+  pub are_linked : AreLinked types m
+  are_linked = record { typed = typed; single = record { some = some; one = one }; back = back; keys = keys; reached = is_reached }

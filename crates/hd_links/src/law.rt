@@ -1,4 +1,4 @@
-ghost use Rattle.hd_links.specs.Laws.{PointersDecide, HeldTwinsAscend};
+ghost use Rattle.hd_links.specs.Laws.{PointersDecide, HeldTwinsAscend, LiesByItsPlaces, LinkingAddsALeaf};
 
 /// The pointers of a database's records decide which forest they hold.
 pub fn law_pointers_decide()
@@ -8,4 +8,14 @@ pub fn law_pointers_decide()
 /// Of any two twins of a forest that is held, the earlier stands before the later in key order.
 pub fn law_held_twins_ascend()
     ensures { HeldTwinsAscend }
+{}
+
+/// Where a placed forest lies depends on the header and the placed addresses alone.
+pub fn law_lies_by_its_places()
+    ensures { LiesByItsPlaces }
+{}
+
+/// After a leaf was linked the records hold the forest with the leaf, all other addresses kept.
+pub fn law_linking_adds_a_leaf()
+    ensures { LinkingAddsALeaf }
 {}

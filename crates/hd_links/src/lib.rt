@@ -5,4 +5,6 @@
 
 mod law;
 
-pub use law::{law_held_twins_ascend, law_pointers_decide};
+pub use law::{
+    law_held_twins_ascend, law_lies_by_its_places, law_linking_adds_a_leaf, law_pointers_decide,
+};
