@@ -10,3 +10,6 @@ pub mod Touch
 pub mod Lift
 pub mod Places
 pub mod Linking
+pub mod Gaps
+pub mod Unlinking
+pub mod Replacing

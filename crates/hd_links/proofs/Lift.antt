@@ -296,6 +296,16 @@ module _ (types : List SegmentType) (O : Ordered types) (bound : ℕ) (m : Links
         ))
   ]
 
+  pub changed_count : (h : ℕ) (g : Forest Placed → Forest Placed) (K : Forest Placed) → Spot types m h f K → (a : ℕ) → count a (with_children h g f) + count a K ≡ count a f + count a (g K)
+  changed_count h g K S a = elim S.is [
+    | inl e ↦
+        (let x : count a (with_children h g f) ≡ count a (g K) = ap (count a) (cond-true (h == 0) (g f) (change_below h g f) (eq-eqb h 0 e.0) ∙ ap g e.1) in
+        let y : count a f ≡ count a K = ap (count a) e.1 in omega arith)
+    | inr e ↦ ap (λ (x : Forest Placed). count a x + count a K)
+        (cond-false (h == 0) (g f) (change_below h g f) (ne_eqb h 0 (λ (q : h ≡ 0). (let p : 0 < h = e.0 in omega arith))))
+        ∙ below_count h g K f (at_most_once types m f H h) e.1 a
+  ]
+
   module _ (m2 : Links) (h : ℕ) (g : Forest Placed → Forest Placed) (K : Forest Placed) (S : Spot types m h f K)
       (same : (a : ℕ) → m.here a ≡ true → (a ≡ h → ⊥) → count a K ≡ 0 → AgreeAt types m m2 a)
       (own : 0 < h → Keeps m m2 h × (m2.forward h ≡ m.forward h) × (is_backward_kept types (m.code h) ≡ true → m2.backward h ≡ m.backward h))
@@ -329,10 +339,4 @@ module _ (types : List SegmentType) (O : Ordered types) (bound : ℕ) (m : Links
       | inl e ↦ subst (Formed types 0) (sym (at_header e.0 ∙ ap g e.1)) (subst (λ x. Formed types x (g K)) (ap m.code e.0 ∙ G.header_code) good)
       | inr e ↦ subst (Formed types 0) (sym (at_segment e.0))
           (below_formed h g types m K 0 nowhere f H.lies.nodes whole_formed (at_most_once types m f H h) (λ p. e.1) good)
-    ]
-
-    pub changed_count : (a : ℕ) → count a (with_children h g f) + count a K ≡ count a f + count a (g K)
-    changed_count a = elim S.is [
-      | inl e ↦ (let x : count a (with_children h g f) ≡ count a (g K) = ap (count a) (at_header e.0 ∙ ap g e.1) in let y : count a f ≡ count a K = ap (count a) e.1 in omega arith)
-      | inr e ↦ ap (λ (x : Forest Placed). count a x + count a K) (at_segment e.0) ∙ below_count h g K f (at_most_once types m f H h) e.1 a
     ]

@@ -1,7 +1,7 @@
 -- What linking a leaf does.
-use Rattle.std.proofs.Common.{◌≡◌, ℕ, ◌+◌, ◌<◌, ◌≤◌, List, Bool, true, false, arith, ap, sym, ◌∙◌, refl, subst, cond, None, inl, inr}
+use Rattle.std.proofs.Common.{◌≡◌, ℕ, ◌+◌, ◌<◌, ◌≤◌, List, true, arith, ap, sym, ◌∙◌, refl, subst, cond, None, inl, inr}
 use Rattle.std.specs.Prelude.{◌==◌, ◌||◌, ◌&&◌}
-use Rattle.std.proofs.lemmas.Bool.{cases_eq, eq-eqb, ne_eqb, cond-true, cond-false, false≢true, and_from}
+use Rattle.std.proofs.lemmas.Bool.{cases_eq, eq-eqb, ne_eqb, cond-true, cond-false, false≢true}
 use Rattle.hd_dbd.specs.Types.{SegmentType}
 use Rattle.hd_dbd.specs.Rows.{row_fits, twins_in_order}
 use Rattle.hd_dbd.specs.Forest.{Forest, empty, node}
@@ -15,7 +15,7 @@ use Rattle.hd_links.proofs.Build.{zero_or, last_same}
 use Rattle.hd_links.proofs.Counts.{is_at, one_at, none_at, count_zero, node_there, absent, not_own}
 use Rattle.hd_links.proofs.Sound.{are_linked}
 use Rattle.hd_links.proofs.Joins.{join, AllPlaced, all_placed, pick, pick_zero, pick_some, count_join, first_join, last_join, last_none, last_some, last_one, one_counts, first_counts, IsOne, NotBelow, one_not_below, none_below, not_below_left}
-use Rattle.hd_links.proofs.Touch.{Keeps, Touch, behind, before}
+use Rattle.hd_links.proofs.Touch.{all_three, not_second, not_third, Keeps, Touch, behind, before}
 use Rattle.hd_links.proofs.Lift.{Spot, spot, at_most_once, changed_lies, changed_formed, changed_count}
 use Rattle.hd_links.proofs.Places.{chain_one, one_there, FirstPlace, first_place, TwinPlace, twin_place, Place, formed_first, formed_behind}
 
@@ -315,19 +315,6 @@ module _ (types : List SegmentType) (O : Ordered types) (bound : ℕ) (m m2 : Li
   unfolding new_list
   list_last u = last_join nowhere place.front (node p empty place.rest) u
 
-  -- a test of three parts
-  all_three : (a b c : Bool) → a ≡ true → b ≡ true → c ≡ true → (a && b && c) ≡ true
-  all_three a b c e f i = and_from _ _ (and_from _ _ e f) i
-
-  not_second : (a b c : Bool) → b ≡ false → (a && b && c) ≡ false
-  not_second true b c e = ap (λ x. x && c) e
-  not_second false b c e = refl
-
-  not_third : (a b c : Bool) → c ≡ false → (a && b && c) ≡ false
-  not_third true true c e = e
-  not_third true false c e = refl
-  not_third false b c e = refl
-
   names_first : (u : ℕ) → is_child_type types (m.code h) u ≡ true → m2.first_child h u ≡ first_of new_list u
   names_first u q =
       (A h).first_child u (ahere h C.parent) (child_same h u h_old q)
@@ -465,16 +452,10 @@ module _ (types : List SegmentType) (O : Ordered types) (bound : ℕ) (m m2 : Li
   new_count : (a : ℕ) → count a (with_leaf h y p f) ≡ is_at p.address a + count a f
   new_count a =
       let c : count a (with_children h g f) + count a K ≡ count a f + count a (g K)
-      = changed_count types O bound m G f H m2 h g K S others parent_kept stands_K named_K good a in
+      = changed_count types O bound m G f H h g K S a in
       let i : count a (g K) ≡ count a place.front + count a (node p empty place.rest) = ap (count a) place.new ∙ count_join a place.front (node p empty place.rest) in
       let j : count a K ≡ count a place.front + count a place.rest = count_K a in
       ap (count a) leaf_is ∙ omega arith
-    where
-      stands_K : StandAll types m2 nowhere (g K)
-      stands_K = subst (StandAll types m2 nowhere) (sym g_is) list_stands
-
-      named_K : NamesChildren types m2 (m.code h) h (g K)
-      named_K = subst (NamesChildren types m2 (m.code h) h) (sym g_is) (record { first = names_first; last = names_last })
 
   pub leaf_held : IsLinkGraph types bound m2 × Holds types m2 (with_leaf h y p f)
   leaf_held =

@@ -1,6 +1,6 @@
 -- What stands in the records, when one twin forward and one twin backward change.
-use Rattle.std.proofs.Common.{◌≡◌, ℕ, ◌+◌, ◌<◌, ◌≤◌, List, true, arith, ap, sym, ◌∙◌, refl, subst, inl, inr}
-use Rattle.std.proofs.lemmas.Bool.{cases_eq, eq-eqb, ne_eqb, cond-true, cond-false}
+use Rattle.std.proofs.Common.{Bool, true, false, ◌&&◌, ◌≡◌, ℕ, ◌+◌, ◌<◌, ◌≤◌, List, arith, ap, sym, ◌∙◌, refl, subst, inl, inr}
+use Rattle.std.proofs.lemmas.Bool.{and_from, cases_eq, eq-eqb, ne_eqb, cond-true, cond-false}
 use Rattle.hd_dbd.specs.Types.{SegmentType}
 use Rattle.hd_dbd.specs.Forest.{Forest, empty, node}
 use Rattle.hd_links.specs.Links.{Links, is_child_type, is_backward_kept, is_last_kept}
@@ -9,6 +9,19 @@ use Rattle.hd_links.specs.Changes.{AgreeAt}
 use Rattle.hd_links.proofs.Build.{zero_or, then_same}
 use Rattle.hd_links.proofs.Counts.{is_at, one_at, count_zero}
 use Rattle.hd_links.proofs.Joins.{join, AllPlaced, all_placed, pick, pick_zero, pick_some, count_join, first_join, last_none, last_one, one_counts, first_counts, NotBelow}
+
+-- a test of three parts
+pub all_three : (a b c : Bool) → a ≡ true → b ≡ true → c ≡ true → (a && b && c) ≡ true
+all_three a b c e f i = and_from _ _ (and_from _ _ e f) i
+
+pub not_second : (a b c : Bool) → b ≡ false → (a && b && c) ≡ false
+not_second true b c e = ap (λ x. x && c) e
+not_second false b c e = refl
+
+pub not_third : (a b c : Bool) → c ≡ false → (a && b && c) ≡ false
+not_third true true c e = e
+not_third true false c e = refl
+not_third false b c e = refl
 
 -- m2 says of the segment a what m says, but for its twins and its children
 pub record Keeps (m m2 : Links) (a : ℕ) : Type 0 where

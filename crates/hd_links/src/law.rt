@@ -1,4 +1,4 @@
-ghost use Rattle.hd_links.specs.Laws.{PointersDecide, HeldTwinsAscend, LiesByItsPlaces, LinkingAddsALeaf};
+ghost use Rattle.hd_links.specs.Laws.{PointersDecide, HeldTwinsAscend, LiesByItsPlaces, LinkingAddsALeaf, UnlinkingTakesASpan, ReplacingChangesBytes};
 
 /// The pointers of a database's records decide which forest they hold.
 pub fn law_pointers_decide()
@@ -18,4 +18,14 @@ pub fn law_lies_by_its_places()
 /// After a leaf was linked the records hold the forest with the leaf, all other addresses kept.
 pub fn law_linking_adds_a_leaf()
     ensures { LinkingAddsALeaf }
+{}
+
+/// After a span was unlinked the records hold the forest without it, all other addresses kept.
+pub fn law_unlinking_takes_a_span()
+    ensures { UnlinkingTakesASpan }
+{}
+
+/// After a segment's bytes were replaced the records hold the forest with these bytes, all addresses kept.
+pub fn law_replacing_changes_bytes()
+    ensures { ReplacingChangesBytes }
 {}
