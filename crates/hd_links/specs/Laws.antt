@@ -1,16 +1,19 @@
 -- Laws of the linked forest, for every well-formed list of types.
-use Rattle.std.specs.Prelude.{◌≡◌, ℕ, ◌<◌, List, length, true, IsTrue}
+use Rattle.std.specs.Prelude.{◌≡◌, ℕ, ◌+◌, ◌<◌, List, [], length, true, ◌&&◌, ◌==◌, Some, IsTrue}
+use Rattle.std.specs.Option.{option_map_or, option_eq}
 use Rattle.hd_dbd.specs.declared.hierarchy.FreeSpace.{FreeSpace}
 use Rattle.hd_dbd.specs.Types.{SegmentType}
 use Rattle.hd_dbd.specs.DatabaseRules.{well_formed}
 use Rattle.hd_dbd.specs.Segment.{Segment}
 use Rattle.hd_dbd.specs.Rows.{twins_in_order}
-use Rattle.hd_dbd.specs.Paths.{row_at, is_twin}
+use Rattle.hd_dbd.specs.Paths.{row_at, parent_row, end_of, is_twin}
+use Rattle.hd_dbd.specs.Gets.{first_from}
 use Rattle.hd_dbd.specs.Forest.{Forest, sequence}
-use Rattle.hd_links.specs.Links.{Links, IsLinkGraph}
+use Rattle.hd_links.specs.Links.{Links, IsSegment, IsLinkGraph, segment_at, is_child_type}
 use Rattle.hd_links.specs.Placed.{Placed, forest_of, count, Lies, Holds}
 use Rattle.hd_links.specs.Pointers.{AreLinked}
 use Rattle.hd_links.specs.Changes.{AgreeAt, Agree, linked, unlinked, replaced, with_leaf, without_span, with_bytes, CanLink, CanUnlink, CanReplace}
+use Rattle.hd_links.specs.Steps.{rows_of, address_at, path_at, tip_from, LeadsDown, next_row, behind_span}
 
 -- The records hold one placed forest and no other.
 abbrev pub HoldsOne : List SegmentType → Links → Type 0
@@ -59,3 +62,33 @@ ReplacingChangesBytes =
     → IsTrue (well_formed block_size frspc types) → IsLinkGraph types bound m → Holds types m f
     → CanReplace types m a bytes → Agree types (replaced m a bytes) m2
     → IsLinkGraph types bound m2 × Holds types m2 (with_bytes a bytes f)
+
+-- Each row has the address of a segment that says what the row is, and each segment is one row.
+pub record RowsHaveAddresses (m : Links) (f : Forest Placed) : Type 0 where
+  pub there : (i : ℕ) → i < length (rows_of f) → IsSegment m (address_at f i)
+  pub same : (i : ℕ) → i < length (rows_of f) → segment_at m (address_at f i) ≡ row_at (rows_of f) i
+  pub each : (a : ℕ) → IsSegment m a → (i : ℕ) × (i < length (rows_of f)) × (address_at f i ≡ a)
+  pub once : (i j : ℕ) → i < length (rows_of f) → j < length (rows_of f) → address_at f i ≡ address_at f j → i ≡ j
+
+-- Addresses are row numbers.
+abbrev pub AddressesAreRows : Type 0
+AddressesAreRows = (types : List SegmentType) (m : Links) (f : Forest Placed) → Holds types m f → RowsHaveAddresses m f
+
+-- The step from row i by pointers is the step by rows: its path leads down to it; first child and twin forward are the
+-- first row of its own, of the type, and its next twin; and the next row, and the row behind its span.
+pub record StepsAreRows (types : List SegmentType) (m : Links) (f : Forest Placed) (i : ℕ) : Type 0 where
+  pub path : LeadsDown types m 0 (path_at types f i)
+  pub tip : tip_from 0 (path_at types f i) ≡ address_at f i
+  pub first_child : (t : ℕ) → is_child_type types (row_at (rows_of f) i).code t ≡ true
+      → m.first_child (address_at f i) t
+      ≡ option_map_or (λ j. address_at f j) (first_from (λ j. option_eq (λ p q. p == q) (parent_row types (rows_of f) j) (Some i) && (row_at (rows_of f) j).code == t) (i + 1) (length (rows_of f))) 0
+  pub twin : m.forward (address_at f i) ≡ option_map_or (λ j. address_at f j) (first_from (λ j. is_twin types (rows_of f) i j) (i + 1) (length (rows_of f))) 0
+  pub next : next_row types m (path_at types f i) ≡ address_at f (i + 1)
+  pub behind : behind_span types m (path_at types f i) ≡ address_at f (end_of types (rows_of f) i)
+
+-- Where a forest is held, the steps by pointers are those by rows, from each row and from the beginning.
+abbrev pub PointersFollowRows : Type 0
+PointersFollowRows =
+    (block_size : ℕ) (frspc : FreeSpace) (types : List SegmentType) (bound : ℕ) (m : Links) (f : Forest Placed) → IsTrue (well_formed block_size frspc types)
+    → IsLinkGraph types bound m → Holds types m f
+    → ((i : ℕ) → i < length (rows_of f) → StepsAreRows types m f i) × (next_row types m [] ≡ address_at f 0)

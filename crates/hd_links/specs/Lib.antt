@@ -2,4 +2,5 @@ pub mod Links
 pub mod Placed
 pub mod Pointers
 pub mod Changes
+pub mod Steps
 pub mod Laws
