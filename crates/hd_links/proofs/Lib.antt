@@ -13,3 +13,6 @@ pub mod Linking
 pub mod Gaps
 pub mod Unlinking
 pub mod Replacing
+pub mod Numbers
+pub mod Ways
+pub mod Standing
