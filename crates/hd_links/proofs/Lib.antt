@@ -16,3 +16,4 @@ pub mod Replacing
 pub mod Numbers
 pub mod Ways
 pub mod Standing
+pub mod Following

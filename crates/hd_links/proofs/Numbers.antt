@@ -1,8 +1,7 @@
 -- Rows and their addresses, by number.
-use Rattle.std.proofs.Common.{◌≡◌, ℕ, zero, suc, ◌+◌, ◌-◌, ◌<◌, ◌≤◌, List, [], ◌∷◌, ◌++◌, length, get_or, true, false, arith, ap, ap₂, sym, ◌∙◌, refl, subst, cond, inl, inr, Option, Some, None, Bool}
-use Rattle.std.specs.Prelude.{◌==◌, ◌⊎◌, map, slice_index, nat_lt, nat_le}
-use Rattle.std.specs.Option.{option_map_or}
-use Rattle.std.proofs.lemmas.Bool.{cases_eq, cases_order, cases_lt, eq-eqb, ne_eqb, cond-true, cond-false, lt-ltb, le-ltb, lt-leb}
+use Rattle.std.proofs.Common.{◌≡◌, ℕ, zero, suc, ◌+◌, ◌<◌, ◌≤◌, List, [], ◌∷◌, ◌++◌, length, get_or, false, arith, ap, ap₂, sym, ◌∙◌, refl, inl, inr, Some, None, Bool}
+use Rattle.std.specs.Prelude.{map, slice_index, nat_lt, nat_le}
+use Rattle.std.proofs.lemmas.Bool.{cases_eq, cases_order, cases_lt, cond-true, cond-false, lt-ltb, le-ltb, lt-leb}
 use Rattle.std.proofs.lemmas.List.{append_assoc, append-nil, length-append, length-map, get_or-map, get_or_at, get_or_past}
 use Rattle.hd_dbd.specs.Types.{SegmentType}
 use Rattle.hd_dbd.specs.Segment.{Segment}
@@ -10,8 +9,8 @@ use Rattle.hd_dbd.specs.Paths.{row_at, no_row, level_at, nearest_above, path_abo
 use Rattle.hd_dbd.specs.Gets.{least_within}
 use Rattle.hd_dbd.specs.Rows.{level}
 use Rattle.hd_dbd.specs.Forest.{Forest, empty, node, sequence}
-use Rattle.hd_links.specs.Links.{Links, IsSegment, segment_at}
-use Rattle.hd_links.specs.Placed.{Placed, forest_of, count, nowhere, with_node, StandAll, Holds}
+use Rattle.hd_links.specs.Links.{Links, segment_at}
+use Rattle.hd_links.specs.Placed.{Placed, count, nowhere, with_node, StandAll, Holds}
 use Rattle.hd_links.specs.Steps.{rows_of, addresses, address_at}
 use Rattle.hd_links.specs.Laws.{RowsHaveAddresses}
 use Rattle.hd_links.proofs.Forms.{segment_is}

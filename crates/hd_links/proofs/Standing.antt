@@ -1,24 +1,21 @@
 -- Where a row of a held forest stands: its path, what is behind it, and the pointers that lead there.
-use Rattle.std.proofs.Common.{◌≡◌, ℕ, zero, suc, ◌+◌, ◌-◌, ◌<◌, ◌≤◌, List, [], ◌∷◌, ◌++◌, length, Bool, true, false, arith, ap, ap₂, sym, ◌∙◌, refl, subst, cond, inl, inr, Option, Some, None, IsTrue}
-use Rattle.std.specs.Prelude.{◌==◌, ◌⊎◌, nat_lt, map}
-use Rattle.std.proofs.lemmas.Bool.{cases_eq, cases_lt, cases_Bool, eq-eqb, ne_eqb, cond-true, cond-false, lt-ltb, le-ltb, false≢true}
-use Rattle.std.proofs.lemmas.List.{append_assoc, append-nil, length-append, length-map}
+use Rattle.std.proofs.Common.{◌≡◌, ℕ, zero, suc, ◌+◌, ◌-◌, ◌<◌, ◌≤◌, List, [], ◌∷◌, ◌++◌, length, true, arith, ap, ap₂, sym, ◌∙◌, refl, subst, inl, inr, Option, Some, None}
+use Rattle.std.specs.Prelude.{◌==◌, nat_lt, map}
+use Rattle.std.proofs.lemmas.Bool.{cases_eq, cases_lt, cases_Bool, eq-eqb, ne_eqb, cond-true, cond-false, lt-ltb, false≢true}
+use Rattle.std.proofs.lemmas.List.{append_assoc, append-nil, length-append}
 use Rattle.hd_dbd.specs.Types.{SegmentType}
-use Rattle.hd_dbd.specs.Segment.{Segment}
-use Rattle.hd_dbd.specs.Hierarchy.{parent_of, level_of}
 use Rattle.hd_dbd.specs.Rows.{level, row_fits}
 use Rattle.hd_dbd.specs.Paths.{row_at, level_at, nearest_above, path_above, path_of, parent_row}
 use Rattle.hd_dbd.specs.Forest.{Forest, empty, node, sequence}
 use Rattle.hd_dbd.proofs.LevelLaw.{Leveled, depth_below}
-use Rattle.hd_links.specs.Links.{Links, IsSegment, IsLinkGraph, segment_at, child_types, is_child_type}
-use Rattle.hd_links.specs.Placed.{Placed, first_of, nowhere, with_node, StandAll, NamesChildren, Holds}
-use Rattle.hd_links.specs.Pointers.{IsTwinAfter, IsInChain}
+use Rattle.hd_links.specs.Links.{Links, IsLinkGraph, child_types, is_child_type}
+use Rattle.hd_links.specs.Placed.{Placed, first_of, nowhere, with_node, StandAll, Holds}
+use Rattle.hd_links.specs.Pointers.{IsInChain}
 use Rattle.hd_links.specs.Steps.{rows_of, address_at, first_some, child_among, later_than, behind_child, behind_from, tip_from, LeadsDown}
 use Rattle.hd_links.proofs.Types.{Ordered, above, above_some, code_some}
 use Rattle.hd_links.proofs.Forms.{Formed, is_behind, none_of, formed, follows_code, segment_is}
-use Rattle.hd_links.proofs.Build.{zero_or}
 use Rattle.hd_links.proofs.Numbers.{map_end, rows_length, head_at, row_is, address_is, AllDeeper, deeper_both, skip_path, skip_nearest}
-use Rattle.hd_links.proofs.Ways.{some_both, head_of, first_below, first_behind, tip_end, behind_end, leads_end, chain_more, head_both}
+use Rattle.hd_links.proofs.Ways.{some_both, first_behind, tip_end, behind_end, leads_end, chain_more, head_both}
 
 -- the first of these rows is on this level or above it
 abbrev pub UpTo : List SegmentType → ℕ → List Placed → Type 0

@@ -1,12 +1,10 @@
 -- Steps by pointers, over lists of types and along paths.
-use Rattle.std.proofs.Common.{◌≡◌, ℕ, zero, suc, ◌+◌, ◌<◌, ◌≤◌, List, [], ◌∷◌, ◌++◌, length, Bool, true, false, arith, ap, sym, ◌∙◌, refl, subst, cond, inl, inr, Option, Some, None}
-use Rattle.std.specs.Prelude.{◌==◌, ◌⊎◌, nat_lt, map}
-use Rattle.std.proofs.lemmas.Bool.{cases_eq, cases_lt, cases_order, eq-eqb, ne_eqb, cond-true, cond-false, lt-ltb, le-ltb, false≢true}
+use Rattle.std.proofs.Common.{◌≡◌, ℕ, zero, suc, ◌<◌, ◌≤◌, List, [], ◌∷◌, ◌++◌, true, arith, ap, sym, ◌∙◌, refl, subst, inl, inr, Some}
+use Rattle.std.proofs.lemmas.Bool.{cases_eq, cases_lt, eq-eqb, ne_eqb, cond-true, cond-false, lt-ltb, le-ltb, false≢true}
 use Rattle.hd_dbd.specs.Types.{SegmentType}
-use Rattle.hd_dbd.specs.Segment.{Segment}
 use Rattle.hd_dbd.specs.Forest.{Forest, empty, node, sequence}
 use Rattle.hd_links.specs.Links.{Links, child_types, is_child_type}
-use Rattle.hd_links.specs.Placed.{Placed, first_of, nowhere, with_node, StandAll}
+use Rattle.hd_links.specs.Placed.{Placed, first_of, with_node, StandAll}
 use Rattle.hd_links.specs.Pointers.{IsTwinAfter, IsInChain}
 use Rattle.hd_links.specs.Steps.{first_some, child_among, later_than, behind_child, behind_from, tip_from, LeadsDown}
 use Rattle.hd_links.proofs.Types.{Ascending, AllAbove, above_in, is_in, in_cases, in_head, in_tail}

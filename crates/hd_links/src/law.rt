@@ -1,4 +1,4 @@
-ghost use Rattle.hd_links.specs.Laws.{PointersDecide, HeldTwinsAscend, LiesByItsPlaces, LinkingAddsALeaf, UnlinkingTakesASpan, ReplacingChangesBytes};
+ghost use Rattle.hd_links.specs.Laws.{PointersDecide, HeldTwinsAscend, LiesByItsPlaces, LinkingAddsALeaf, UnlinkingTakesASpan, ReplacingChangesBytes, AddressesAreRows, PointersFollowRows};
 
 /// The pointers of a database's records decide which forest they hold.
 pub fn law_pointers_decide()
@@ -28,4 +28,15 @@ pub fn law_unlinking_takes_a_span()
 /// After a segment's bytes were replaced the records hold the forest with these bytes, all addresses kept.
 pub fn law_replacing_changes_bytes()
     ensures { ReplacingChangesBytes }
+{}
+
+/// Each placed address is that of one row, and each row has one address.
+pub fn law_addresses_are_rows()
+    ensures { AddressesAreRows }
+{}
+
+/// The path of a row by addresses, its first children, its next twin, the next row and the row behind its span are by
+/// pointers what they are by rows.
+pub fn law_pointers_follow_rows()
+    ensures { PointersFollowRows }
 {}

@@ -1,0 +1,270 @@
+-- The steps by pointers are those by rows.
+use Rattle.std.proofs.Common.{◌≡◌, ℕ, zero, suc, ◌+◌, ◌-◌, ◌<◌, ◌≤◌, List, [], ◌∷◌, ◌++◌, length, Bool, true, false, ◌&&◌, arith, ap, ap₂, sym, ◌∙◌, refl, subst, inl, inr, Option, Some, None}
+use Rattle.std.specs.Prelude.{◌==◌, nat_le, map}
+use Rattle.std.specs.Option.{option_map_or, option_eq}
+use Rattle.std.proofs.lemmas.Bool.{cases_eq, cases_order, cases_Bool, and_parts, and_from, eq-eqb, eqb-true, ne_eqb, cond-true, cond-false, le-leb}
+use Rattle.std.proofs.lemmas.List.{append_assoc, length-append}
+use Rattle.hd_dbd.specs.Types.{SegmentType}
+use Rattle.hd_dbd.specs.Segment.{Segment}
+use Rattle.hd_dbd.specs.Rows.{level, row_fits}
+use Rattle.hd_dbd.specs.Paths.{row_at, level_at, nearest_above, parent_row, end_within, end_of, is_twin}
+use Rattle.hd_dbd.specs.Gets.{least_within, first_from}
+use Rattle.hd_dbd.specs.Forest.{Forest, empty, node, sequence}
+use Rattle.hd_dbd.proofs.LevelLaw.{Leveled, depth_below}
+use Rattle.hd_dbd.proofs.Names.{option_eq-Decides}
+use Rattle.hd_links.specs.Links.{Links, IsLinkGraph, child_types, is_child_type}
+use Rattle.hd_links.specs.Placed.{Placed, first_of, nowhere, with_node, Holds}
+use Rattle.hd_links.specs.Steps.{rows_of, address_at, path_at, first_some, child_among, behind_from, tip_from, LeadsDown, next_row, behind_span}
+use Rattle.hd_links.specs.Laws.{StepsAreRows, RowsHaveAddresses}
+use Rattle.hd_links.proofs.Types.{Ordered, above}
+use Rattle.hd_links.proofs.Forms.{Formed}
+use Rattle.hd_links.proofs.Numbers.{rows_length, head_at, row_is, address_is, AllDeeper, skip_end, nearest_from, skip_least, least_none, rows_addressed}
+use Rattle.hd_links.proofs.Ways.{first_below, head_both}
+use Rattle.hd_links.proofs.Standing.{UpTo, Siblings, RowAt, all_deeper, at_start, own_row, own_address, own_level, own_path, own_parent, own_down, own_tip, own_behind, children_at, siblings_at}
+
+-- the test finds the rows of one parent, or roots, and one code
+pub record Seeks (types : List SegmentType) (rows : List Segment) (q : Option ℕ) (t : ℕ) (test : ℕ → Bool) : Type 0 where
+  pub finds : (j : ℕ) → parent_row types rows j ≡ q → (row_at rows j).code ≡ t → test j ≡ true
+  pub only : (j : ℕ) → test j ≡ true → (parent_row types rows j ≡ q) × ((row_at rows j).code ≡ t)
+
+fails : (types : List SegmentType) (rows : List Segment) (q : Option ℕ) (t : ℕ) (test : ℕ → Bool) → Seeks types rows q t test → (j : ℕ)
+    → (parent_row types rows j ≡ q → (row_at rows j).code ≡ t → ⊥) → test j ≡ false
+fails types rows q t test K j h = elim (cases_Bool (test j)) [
+  | inl e ↦ (let w = K.only j e in absurd (h w.0 w.1))
+  | inr e ↦ e
+]
+
+module _ (types : List SegmentType) (O : Ordered types) (leveled : Leveled types) (bound : ℕ) (m : Links) (G : IsLinkGraph types bound m) (f : Forest Placed) (H : Holds types m f) where
+  -- each row fits
+  row_fit : (j : ℕ) → j < length (rows_of f) → row_fits types (row_at (rows_of f) j) ≡ true
+  row_fit j l =
+      let A : RowsHaveAddresses m f = rows_addressed types m f H in
+      ap (row_fits types) (sym (A.same j l)) ∙ G.fits (address_at f j) (A.there j l)
+
+  -- all rows that are left
+  left_over : (n : ℕ) (P : List ℕ) (q : Option ℕ) (h : ℕ) (b : ℕ → ℕ) (g : Forest Placed) (rest : List Placed) → Siblings types m f n P q h b g rest
+      → length (rows_of f) ≡ n + (length (sequence g) + length rest)
+  left_over n P q h b g rest S =
+      rows_length f ∙ ap (λ (x : List Placed). length x) S.whole ∙ length-append S.front (sequence g ++ rest)
+      ∙ ap₂ (λ x y. x + y) S.number (length-append (sequence g) rest)
+
+  -- the rows that depend on a row are below none of those before it
+  inside : (n : ℕ) (P : List ℕ) (q : Option ℕ) (h : ℕ) (b : ℕ → ℕ) (r : Placed) (k g : Forest Placed) (rest : List Placed) → Siblings types m f n P q h b (node r k g) rest
+      → (t : ℕ) (test : ℕ → Bool) → Seeks types (rows_of f) q t test
+      → (j : ℕ) → n + 1 ≤ j → j < n + 1 + length (sequence k) → test j ≡ false
+  inside n P q h b r k g rest S t test K j from to =
+      fails types (rows_of f) q t test K j (λ parent code.
+      let deep : length P + 1 < level_at types (rows_of f) j = deep_at j from to in
+      let own : level_at types (rows_of f) n ≡ length P + 1 = own_level types O leveled bound m G f H n P q h b r k g rest S in
+      let N : (p : ℕ) × (nearest_above types (rows_of f) (level_at types (rows_of f) j) j ≡ Some p) × (n ≤ p)
+      = nearest_from types (rows_of f) (level_at types (rows_of f) j) n j (omega arith) (omega arith) in
+      let e : q ≡ Some N.0 = sym parent ∙ N.1 in
+      let l : N.0 < n = S.before N.0 e in
+      let u : n ≤ N.0 = N.2 in omega arith)
+    where
+      C : Siblings types m f (n + 1) (P ++ n ∷ []) (Some n) r.address nowhere k (sequence g ++ rest)
+      C = children_at types O leveled bound m G f H n P q h b r k g rest S
+
+      deep_list : (xs : List Placed) (front tail : List Placed) → sequence f ≡ front ++ (xs ++ tail) → AllDeeper types (length P + 1) xs → (d : ℕ) → d < length xs
+          → length P + 1 < level_at types (rows_of f) (length front + d)
+      deep_list [] front tail w a d l = absurd (omega arith)
+      deep_list (x ∷ xs) front tail w a zero l =
+          subst (λ i. length P + 1 < level_at types (rows_of f) i) (omega arith)
+          (subst (λ y. length P + 1 < y) (sym (ap (level types) (row_is f front x (xs ++ tail) (length front) w refl))) a.0)
+      deep_list (x ∷ xs) front tail w a (suc d) l =
+          let more : length (front ++ x ∷ []) ≡ length front + 1 = length-append front (x ∷ []) in
+          subst (λ i. length P + 1 < level_at types (rows_of f) i) (omega arith)
+          (deep_list xs (front ++ x ∷ []) tail (w ∙ sym (append_assoc front (x ∷ []) (xs ++ tail))) a.1 d (omega arith))
+
+      deep_at : (j : ℕ) → n + 1 ≤ j → j < n + 1 + length (sequence k) → length P + 1 < level_at types (rows_of f) j
+      deep_at j from to =
+          let long : length (P ++ n ∷ []) ≡ length P + 1 = length-append P (n ∷ []) in
+          let dc : depth_below types (above (m.code r.address)) ≡ length (P ++ n ∷ []) = C.depth in
+          let a : AllDeeper types (length P + 1) (sequence k)
+          = all_deeper types O leveled bound m G f H (length P + 1) (m.code r.address) nowhere k C.stand C.formed (omega arith) in
+          let num : length C.front ≡ n + 1 = C.number in
+          subst (λ i. length P + 1 < level_at types (rows_of f) i) (omega arith) (deep_list (sequence k) C.front (sequence g ++ rest) C.whole a (j - (n + 1)) (omega arith))
+
+  -- behind what depends on their parent no sibling is
+  past : (n : ℕ) (P : List ℕ) (q : Option ℕ) (h : ℕ) (b : ℕ → ℕ) (rest : List Placed) → Siblings types m f n P q h b empty rest
+      → (t : ℕ) (test : ℕ → Bool) → is_child_type types (m.code h) t ≡ true → Seeks types (rows_of f) q t test
+      → (j : ℕ) → n ≤ j → j < n + length rest → test j ≡ false
+  past n P q h b [] S t test c K j from to = absurd (omega arith)
+  past n P q h b (x ∷ rest) S t test c K j from to =
+      fails types (rows_of f) q t test K j (λ parent code.
+      let all : length (rows_of f) ≡ n + (0 + length (x ∷ rest)) = left_over n P q h b empty (x ∷ rest) S in
+      let fit : row_fits types (row_at (rows_of f) j) ≡ true = row_fit j (omega arith) in
+      let own : level_at types (rows_of f) j ≡ length P + 1
+      = leveled.law (row_at (rows_of f) j) fit
+      ∙ ap (λ (o : Option ℕ). depth_below types o + 1) (O.parent (m.code h) (row_at (rows_of f) j) fit (ap (is_child_type types (m.code h)) code ∙ c))
+      ∙ ap (λ y. y + 1) S.depth in
+      let first : level_at types (rows_of f) n ≡ level types x.segment = ap (level types) (row_is f S.front x rest n S.whole S.number) in
+      let low : level types x.segment ≤ length P = S.shallow in
+      elim (cases_eq j n) [
+        | inl e ↦ (let s : level_at types (rows_of f) j ≡ level_at types (rows_of f) n = ap (level_at types (rows_of f)) e in omega arith)
+        | inr ne ↦
+            (let less : n < j = elim (cases_order n j) [ inl e ↦ absurd (ne (sym e)) | inr w ↦ elim w [ inl v ↦ v | inr v ↦ absurd (omega arith) ] ] in
+            let N : (p : ℕ) × (nearest_above types (rows_of f) (level_at types (rows_of f) j) j ≡ Some p) × (n ≤ p)
+            = nearest_from types (rows_of f) (level_at types (rows_of f) j) n j less (omega arith) in
+            let e : q ≡ Some N.0 = sym parent ∙ N.1 in
+            let l : N.0 < n = S.before N.0 e in
+            let u : n ≤ N.0 = N.2 in omega arith)
+      ])
+
+  -- the first of some siblings of a type is the first row of its parent and type
+  scan : (n : ℕ) (P : List ℕ) (q : Option ℕ) (h : ℕ) (b : ℕ → ℕ) (g : Forest Placed) (rest : List Placed) → Siblings types m f n P q h b g rest
+      → (t : ℕ) (test : ℕ → Bool) → is_child_type types (m.code h) t ≡ true → Seeks types (rows_of f) q t test
+      → (d : ℕ) → d ≡ length (sequence g) + length rest → option_map_or (λ j. address_at f j) (least_within test d n) 0 ≡ first_of g t
+  scan n P q h b empty rest S t test c K d e =
+      ap (λ (o : Option ℕ). option_map_or (λ j. address_at f j) o 0)
+      (least_none test d n (λ j from to. past n P q h b rest S t test c K j from (omega arith)))
+  scan n P q h b (node r k g) rest S t test c K d e =
+      let both : length (sequence k ++ sequence g) ≡ length (sequence k) + length (sequence g) = length-append (sequence k) (sequence g) in
+      let left : ℕ = length (sequence g) + length rest in
+      let split : d ≡ suc (length (sequence k) + left) = omega arith in
+      let code : (row_at (rows_of f) n).code ≡ r.segment.code = ap (λ (s : Segment). s.code) (own_row types O leveled bound m G f H n P q h b r k g rest S) in
+      elim (cases_eq r.segment.code t) [
+        | inl w ↦
+            (let found : test n ≡ true = K.finds n (own_parent types O leveled bound m G f H n P q h b r k g rest S) (code ∙ w) in
+            ap (λ (o : Option ℕ). option_map_or (λ j. address_at f j) o 0)
+            (ap (λ x. least_within test x n) split ∙ cond-true (test n) (Some n) (least_within test (length (sequence k) + left) (n + 1)) found)
+            ∙ own_address types O leveled bound m G f H n P q h b r k g rest S
+            ∙ sym (cond-true (r.segment.code == t) r.address (first_of g t) (eq-eqb r.segment.code t w)))
+        | inr w ↦
+            (let none : test n ≡ false = fails types (rows_of f) q t test K n (λ p x. w (sym code ∙ x)) in
+            ap (λ (o : Option ℕ). option_map_or (λ j. address_at f j) o 0)
+            (ap (λ x. least_within test x n) split
+            ∙ cond-false (test n) (Some n) (least_within test (length (sequence k) + left) (n + 1)) none
+            ∙ skip_least test (length (sequence k)) left (n + 1) (inside n P q h b r k g rest S t test K))
+            ∙ scan (n + 1 + length (sequence k)) P q h (with_node b r) g rest (siblings_at types O leveled bound m G f H n P q h b r k g rest S) t test c K left refl
+            ∙ sym (cond-false (r.segment.code == t) r.address (first_of g t) (ne_eqb r.segment.code t w)))
+      ]
+
+  -- where the walk to the end of a span stops
+  stops : (l : ℕ) (front rest : List Placed) → sequence f ≡ front ++ rest → UpTo types l rest → end_within types (rows_of f) l (length rest) (length front) ≡ length front
+  stops l front [] whole low = refl
+  stops l front (x ∷ rest) whole low =
+      let own : level_at types (rows_of f) (length front) ≡ level types x.segment = ap (level types) (row_is f front x rest (length front) whole refl) in
+      let le : level types x.segment ≤ l = low in
+      cond-true (nat_le (level_at types (rows_of f) (length front)) l) (length front) (end_within types (rows_of f) l (length rest) (length front + 1))
+      (le-leb (level_at types (rows_of f) (length front)) l (omega arith))
+
+  module _ (i : ℕ) (F : RowAt types O leveled bound m G f H i) where
+    R : List Segment
+    R = rows_of f
+
+    S : Siblings types m f i F.path F.parent F.holder F.table (node F.row F.below F.after) F.rest
+    S = F.stands
+
+    C : Siblings types m f (i + 1) (F.path ++ i ∷ []) (Some i) F.row.address nowhere F.below (sequence F.after ++ F.rest)
+    C = children_at types O leveled bound m G f H i F.path F.parent F.holder F.table F.row F.below F.after F.rest F.stands
+
+    B : Siblings types m f (i + 1 + length (sequence F.below)) F.path F.parent F.holder (with_node F.table F.row) F.after F.rest
+    B = siblings_at types O leveled bound m G f H i F.path F.parent F.holder F.table F.row F.below F.after F.rest F.stands
+
+    row_code : (row_at (rows_of f) i).code ≡ F.row.segment.code
+    row_code = ap (λ (s : Segment). s.code) (own_row types O leveled bound m G f H i F.path F.parent F.holder F.table F.row F.below F.after F.rest F.stands)
+
+    address : address_at f i ≡ F.row.address
+    address = own_address types O leveled bound m G f H i F.path F.parent F.holder F.table F.row F.below F.after F.rest F.stands
+
+    parent : parent_row types (rows_of f) i ≡ F.parent
+    parent = own_parent types O leveled bound m G f H i F.path F.parent F.holder F.table F.row F.below F.after F.rest F.stands
+
+    path_is : path_at types f i ≡ map (λ j. address_at f j) (F.path ++ i ∷ [])
+    path_is = ap (map (λ j. address_at f j)) (own_path types O leveled bound m G f H i F.path F.parent F.holder F.table F.row F.below F.after F.rest F.stands)
+
+    tip_is : tip_from 0 (path_at types f i) ≡ F.row.address
+    tip_is = ap (tip_from 0) path_is ∙ own_tip types O leveled bound m G f H i F.path F.parent F.holder F.table F.row F.below F.after F.rest F.stands
+
+    behind_is : behind_span types m (path_at types f i) ≡ head_at (sequence F.after ++ F.rest)
+    behind_is = ap (behind_from types m 0 0) path_is ∙ own_behind types O leveled bound m G f H i F.path F.parent F.holder F.table F.row F.below F.after F.rest F.stands
+
+    all_below : length (rows_of f) - (i + 1) ≡ length (sequence F.below) + length (sequence F.after ++ F.rest)
+    all_below = (let e : length (rows_of f) ≡ i + 1 + (length (sequence F.below) + length (sequence F.after ++ F.rest))
+        = left_over (i + 1) (F.path ++ i ∷ []) (Some i) F.row.address nowhere F.below (sequence F.after ++ F.rest) C in omega arith)
+
+    child_found : (t : ℕ) → is_child_type types (row_at (rows_of f) i).code t ≡ true
+        → m.first_child (address_at f i) t
+        ≡ option_map_or (λ j. address_at f j) (first_from (λ j. option_eq (λ p q. p == q) (parent_row types (rows_of f) j) (Some i) && (row_at (rows_of f) j).code == t) (i + 1) (length (rows_of f))) 0
+    child_found t q =
+        let own : is_child_type types F.row.segment.code t ≡ true = ap (λ c. is_child_type types c t) (sym row_code) ∙ q in
+        let code : m.code F.row.address ≡ F.row.segment.code = F.stands.stand.0.code in
+        ap (λ a. m.first_child a t) address ∙ F.stands.stand.0.children.first t own
+        ∙ sym (scan (i + 1) (F.path ++ i ∷ []) (Some i) F.row.address nowhere F.below (sequence F.after ++ F.rest) C t
+        (λ j. option_eq (λ p q. p == q) (parent_row types (rows_of f) j) (Some i) && (row_at (rows_of f) j).code == t)
+        (ap (λ c. is_child_type types c t) code ∙ own)
+        (record {
+          finds = λ j p c. and_from _ _ ((option_eq-Decides _ _).1 p) (eq-eqb _ _ c);
+          only = λ j e. (let w = and_parts _ _ e in ((option_eq-Decides _ _).0 w.0, eqb-true _ _ w.1));
+        })
+        (length (rows_of f) - (i + 1)) all_below)
+
+    twins_seek : Seeks types (rows_of f) F.parent F.row.segment.code (λ j. is_twin types (rows_of f) i j)
+    twins_seek = record {
+      finds = λ j p c. and_from _ _ (eq-eqb _ _ (row_code ∙ sym c)) ((option_eq-Decides _ _).1 (parent ∙ sym p));
+      only = λ j e. (let w = and_parts _ _ e in (sym ((option_eq-Decides _ _).0 w.1) ∙ parent, sym (eqb-true _ _ w.0) ∙ row_code));
+    }
+
+    twin_found : m.forward (address_at f i) ≡ option_map_or (λ j. address_at f j) (first_from (λ j. is_twin types (rows_of f) i j) (i + 1) (length (rows_of f))) 0
+    twin_found =
+        let left : ℕ = length (sequence F.after) + length F.rest in
+        let more : length (sequence F.after ++ F.rest) ≡ length (sequence F.after) + length F.rest = length-append (sequence F.after) F.rest in
+        let all : length (rows_of f) - (i + 1) ≡ length (sequence F.below) + length (sequence F.after ++ F.rest) = all_below in
+        let split : length (rows_of f) - (i + 1) ≡ length (sequence F.below) + left = omega arith in
+        let found : option_map_or (λ j. address_at f j) (least_within (λ j. is_twin types (rows_of f) i j) left (i + 1 + length (sequence F.below))) 0 ≡ first_of F.after F.row.segment.code
+        = scan (i + 1 + length (sequence F.below)) F.path F.parent F.holder (with_node F.table F.row) F.after F.rest B F.row.segment.code (λ j. is_twin types (rows_of f) i j) F.stands.formed.0 twins_seek left refl in
+        let skip : least_within (λ j. is_twin types (rows_of f) i j) (length (sequence F.below) + left) (i + 1)
+        ≡ least_within (λ j. is_twin types (rows_of f) i j) left (i + 1 + length (sequence F.below))
+        = skip_least (λ j. is_twin types (rows_of f) i j) (length (sequence F.below)) left (i + 1)
+        (inside i F.path F.parent F.holder F.table F.row F.below F.after F.rest F.stands F.row.segment.code (λ j. is_twin types (rows_of f) i j) twins_seek) in
+        ap m.forward address ∙ F.stands.stand.0.forward ∙ sym found
+        ∙ sym (ap (λ (o : Option ℕ). option_map_or (λ j. address_at f j) o 0) (ap (λ d. least_within (λ j. is_twin types (rows_of f) i j) d (i + 1)) split ∙ skip))
+
+    next_found : next_row types m (path_at types f i) ≡ address_at f (i + 1)
+    next_found =
+        let code : m.code F.row.address ≡ F.row.segment.code = F.stands.stand.0.code in
+        ap₂ (λ x y. first_some (child_among m x (child_types types (m.code x))) y) tip_is behind_is
+        ∙ ap (λ c. first_some (child_among m F.row.address (child_types types c)) (head_at (sequence F.after ++ F.rest))) code
+        ∙ ap (λ x. first_some x (head_at (sequence F.after ++ F.rest)))
+        (first_below types m O.ascending F.row.segment.code F.row.address nowhere F.below F.stands.stand.1 F.stands.formed.2 F.stands.stand.0.children.first)
+        ∙ head_both types m nowhere F.below (sequence F.after ++ F.rest) F.stands.stand.1
+        ∙ sym (address_is f C.front (sequence F.below ++ (sequence F.after ++ F.rest)) (i + 1) C.whole C.number)
+
+    end_is : end_of types (rows_of f) i ≡ i + 1 + length (sequence F.below)
+    end_is =
+        let lv : level_at types (rows_of f) i ≡ length F.path + 1 = own_level types O leveled bound m G f H i F.path F.parent F.holder F.table F.row F.below F.after F.rest F.stands in
+        let long : length (F.path ++ i ∷ []) ≡ length F.path + 1 = length-append F.path (i ∷ []) in
+        let depth : depth_below types (above (m.code F.row.address)) ≡ length (F.path ++ i ∷ []) = C.depth in
+        let deep : AllDeeper types (length F.path + 1) (sequence F.below) = all_deeper types O leveled bound m G f H (length F.path + 1) (m.code F.row.address) nowhere F.below C.stand C.formed (omega arith) in
+        let num : i + 1 ≡ length C.front = sym C.number in
+        let both : length (C.front ++ sequence F.below) ≡ length C.front + length (sequence F.below) = length-append C.front (sequence F.below) in
+        let low : UpTo types (length F.path + 1) (sequence F.after ++ F.rest) = subst (λ l. UpTo types l (sequence F.after ++ F.rest)) long C.shallow in
+        let split : sequence f ≡ (C.front ++ sequence F.below) ++ (sequence F.after ++ F.rest) = C.whole ∙ sym (append_assoc C.front (sequence F.below) (sequence F.after ++ F.rest)) in
+        ap (λ l. end_within types (rows_of f) l (length (rows_of f) - (i + 1)) (i + 1)) lv
+        ∙ ap₂ (λ d n. end_within types (rows_of f) (length F.path + 1) d n) all_below num
+        ∙ skip_end types f (length F.path + 1) C.front (sequence F.below) (sequence F.after ++ F.rest) (length (sequence F.after ++ F.rest)) C.whole deep
+        ∙ ap (end_within types (rows_of f) (length F.path + 1) (length (sequence F.after ++ F.rest))) (sym both)
+        ∙ stops (length F.path + 1) (C.front ++ sequence F.below) (sequence F.after ++ F.rest) split low
+        ∙ omega arith
+
+    -- the steps from the row
+    pub stepped : StepsAreRows types m f i
+    stepped = record {
+      path = subst (LeadsDown types m 0) (sym path_is) (own_down types O leveled bound m G f H i F.path F.parent F.holder F.table F.row F.below F.after F.rest F.stands);
+      tip = tip_is ∙ sym address;
+      first_child = child_found;
+      twin = twin_found;
+      next = next_found;
+      behind = behind_is ∙ sym (ap (address_at f) end_is ∙ address_is f B.front (sequence F.after ++ F.rest) (i + 1 + length (sequence F.below)) B.whole B.number);
+    }
+
+  -- and from the beginning
+  pub first_found : next_row types m [] ≡ address_at f 0
+  first_found =
+      let T : Siblings types m f 0 [] None 0 nowhere f [] = at_start types O leveled bound m G f H in
+      ap (λ x. first_some x 0)
+      (ap (λ c. child_among m 0 (child_types types c)) G.header_code
+      ∙ first_below types m O.ascending 0 0 nowhere f H.lies.nodes (subst (λ c. Formed types c f) G.header_code T.formed) H.lies.roots.first)
+      ∙ head_both types m nowhere f [] H.lies.nodes
+      ∙ sym (address_is f T.front (sequence f ++ []) 0 T.whole T.number)
