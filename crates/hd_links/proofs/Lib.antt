@@ -17,3 +17,4 @@ pub mod Numbers
 pub mod Ways
 pub mod Standing
 pub mod Following
+pub mod Broken

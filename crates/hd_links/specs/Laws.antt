@@ -9,9 +9,9 @@ use Rattle.hd_dbd.specs.Rows.{twins_in_order}
 use Rattle.hd_dbd.specs.Paths.{row_at, parent_row, end_of, is_twin}
 use Rattle.hd_dbd.specs.Gets.{first_from}
 use Rattle.hd_dbd.specs.Forest.{Forest, sequence}
-use Rattle.hd_links.specs.Links.{Links, IsSegment, IsLinkGraph, segment_at, is_child_type}
+use Rattle.hd_links.specs.Links.{Links, IsSegment, IsLinkGraph, segment_at, is_child_type, is_last_kept}
 use Rattle.hd_links.specs.Placed.{Placed, forest_of, count, Lies, Holds}
-use Rattle.hd_links.specs.Pointers.{AreLinked}
+use Rattle.hd_links.specs.Pointers.{Precedes, IsTwinAfter, IsReached, AreLinked}
 use Rattle.hd_links.specs.Changes.{AgreeAt, Agree, linked, unlinked, replaced, with_leaf, without_span, with_bytes, CanLink, CanUnlink, CanReplace}
 use Rattle.hd_links.specs.Steps.{rows_of, address_at, path_at, tip_from, LeadsDown, next_row, behind_span}
 
@@ -92,3 +92,21 @@ PointersFollowRows =
     (block_size : ℕ) (frspc : FreeSpace) (types : List SegmentType) (bound : ℕ) (m : Links) (f : Forest Placed) → IsTrue (well_formed block_size frspc types)
     → IsLinkGraph types bound m → Holds types m f
     → ((i : ℕ) → i < length (rows_of f) → StepsAreRows types m f i) × (next_row types m [] ≡ address_at f 0)
+
+-- The records hold no forest.
+abbrev pub HoldNone : List SegmentType → Links → Type 0
+HoldNone types m = (f : Forest Placed) → Holds types m f → ⊥
+
+-- What no forest is held with: a ring of twins; a segment that two records name; a last child with a twin behind it; and a
+-- segment that is not reached.
+pub record BrokenRecords (types : List SegmentType) (m : Links) : Type 0 where
+  pub ring : (a n : ℕ) → IsSegment m a → IsTwinAfter m n (m.forward a) a → HoldNone types m
+  pub twice : (a g h : ℕ) → IsSegment m a → Precedes types m g a → Precedes types m h a → (g ≡ h → ⊥) → HoldNone types m
+  pub middle : (h t : ℕ) → m.here h ≡ true → is_child_type types (m.code h) t ≡ true → is_last_kept types t ≡ true → 0 < m.first_child h t → 0 < m.forward (m.last_child h t) → HoldNone types m
+  pub unreached : (a : ℕ) → IsSegment m a → ((n : ℕ) → IsReached types m n a → ⊥) → HoldNone types m
+
+-- Broken records hold no forest.
+abbrev pub BrokenRecordsHoldNone : Type 0
+BrokenRecordsHoldNone =
+    (block_size : ℕ) (frspc : FreeSpace) (types : List SegmentType) (bound : ℕ) (m : Links) → IsTrue (well_formed block_size frspc types)
+    → IsLinkGraph types bound m → BrokenRecords types m

@@ -1,4 +1,4 @@
-ghost use Rattle.hd_links.specs.Laws.{PointersDecide, HeldTwinsAscend, LiesByItsPlaces, LinkingAddsALeaf, UnlinkingTakesASpan, ReplacingChangesBytes, AddressesAreRows, PointersFollowRows};
+ghost use Rattle.hd_links.specs.Laws.{PointersDecide, HeldTwinsAscend, LiesByItsPlaces, LinkingAddsALeaf, UnlinkingTakesASpan, ReplacingChangesBytes, AddressesAreRows, PointersFollowRows, BrokenRecordsHoldNone};
 
 /// The pointers of a database's records decide which forest they hold.
 pub fn law_pointers_decide()
@@ -39,4 +39,10 @@ pub fn law_addresses_are_rows()
 /// pointers what they are by rows.
 pub fn law_pointers_follow_rows()
     ensures { PointersFollowRows }
+{}
+
+/// A ring of twins, a segment named twice, a last child in the middle of its chain, and a segment that is not reached are
+/// in no forest.
+pub fn law_broken_records_hold_none()
+    ensures { BrokenRecordsHoldNone }
 {}

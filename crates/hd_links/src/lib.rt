@@ -6,7 +6,7 @@
 mod law;
 
 pub use law::{
-    law_addresses_are_rows, law_held_twins_ascend, law_lies_by_its_places, law_linking_adds_a_leaf,
-    law_pointers_decide, law_pointers_follow_rows, law_replacing_changes_bytes,
-    law_unlinking_takes_a_span,
+    law_addresses_are_rows, law_broken_records_hold_none, law_held_twins_ascend,
+    law_lies_by_its_places, law_linking_adds_a_leaf, law_pointers_decide, law_pointers_follow_rows,
+    law_replacing_changes_bytes, law_unlinking_takes_a_span,
 };
