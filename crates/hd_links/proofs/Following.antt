@@ -49,18 +49,21 @@ module _ (types : List SegmentType) (O : Ordered types) (leveled : Leveled types
       ∙ ap₂ (λ x y. x + y) S.number (length-append (sequence g) rest)
 
   -- the rows that depend on a row are below none of those before it
-  inside : (n : ℕ) (P : List ℕ) (q : Option ℕ) (h : ℕ) (b : ℕ → ℕ) (r : Placed) (k g : Forest Placed) (rest : List Placed) → Siblings types m f n P q h b (node r k g) rest
-      → (t : ℕ) (test : ℕ → Bool) → Seeks types (rows_of f) q t test
+  pub inside : (n : ℕ) (P : List ℕ) (q : Option ℕ) (h : ℕ) (b : ℕ → ℕ) (r : Placed) (k g : Forest Placed) (rest : List Placed) → Siblings types m f n P q h b (node r k g) rest
+      → (test : ℕ → Bool) → ((j : ℕ) → test j ≡ true → parent_row types (rows_of f) j ≡ q)
       → (j : ℕ) → n + 1 ≤ j → j < n + 1 + length (sequence k) → test j ≡ false
-  inside n P q h b r k g rest S t test K j from to =
-      fails types (rows_of f) q t test K j (λ parent code.
-      let deep : length P + 1 < level_at types (rows_of f) j = deep_at j from to in
-      let own : level_at types (rows_of f) n ≡ length P + 1 = own_level types O leveled bound m G f H n P q h b r k g rest S in
-      let N : (p : ℕ) × (nearest_above types (rows_of f) (level_at types (rows_of f) j) j ≡ Some p) × (n ≤ p)
-      = nearest_from types (rows_of f) (level_at types (rows_of f) j) n j (omega arith) (omega arith) in
-      let e : q ≡ Some N.0 = sym parent ∙ N.1 in
-      let l : N.0 < n = S.before N.0 e in
-      let u : n ≤ N.0 = N.2 in omega arith)
+  inside n P q h b r k g rest S test only j from to = elim (cases_Bool (test j)) [
+    | inr e ↦ e
+    | inl e ↦ absurd
+        (let parent : parent_row types (rows_of f) j ≡ q = only j e in
+        let deep : length P + 1 < level_at types (rows_of f) j = deep_at j from to in
+        let own : level_at types (rows_of f) n ≡ length P + 1 = own_level types O leveled bound m G f H n P q h b r k g rest S in
+        let N : (p : ℕ) × (nearest_above types (rows_of f) (level_at types (rows_of f) j) j ≡ Some p) × (n ≤ p)
+        = nearest_from types (rows_of f) (level_at types (rows_of f) j) n j (omega arith) (omega arith) in
+        let e : q ≡ Some N.0 = sym parent ∙ N.1 in
+        let l : N.0 < n = S.before N.0 e in
+        let u : n ≤ N.0 = N.2 in omega arith)
+  ]
     where
       C : Siblings types m f (n + 1) (P ++ n ∷ []) (Some n) r.address nowhere k (sequence g ++ rest)
       C = children_at types O leveled bound m G f H n P q h b r k g rest S
@@ -135,7 +138,7 @@ module _ (types : List SegmentType) (O : Ordered types) (leveled : Leveled types
             ap (λ (o : Option ℕ). option_map_or (λ j. address_at f j) o 0)
             (ap (λ x. least_within test x n) split
             ∙ cond-false (test n) (Some n) (least_within test (length (sequence k) + left) (n + 1)) none
-            ∙ skip_least test (length (sequence k)) left (n + 1) (inside n P q h b r k g rest S t test K))
+            ∙ skip_least test (length (sequence k)) left (n + 1) (inside n P q h b r k g rest S test (λ j w. (K.only j w).0)))
             ∙ scan (n + 1 + length (sequence k)) P q h (with_node b r) g rest (siblings_at types O leveled bound m G f H n P q h b r k g rest S) t test c K left refl
             ∙ sym (cond-false (r.segment.code == t) r.address (first_of g t) (ne_eqb r.segment.code t w)))
       ]
@@ -217,7 +220,7 @@ module _ (types : List SegmentType) (O : Ordered types) (leveled : Leveled types
         let skip : least_within (λ j. is_twin types (rows_of f) i j) (length (sequence F.below) + left) (i + 1)
         ≡ least_within (λ j. is_twin types (rows_of f) i j) left (i + 1 + length (sequence F.below))
         = skip_least (λ j. is_twin types (rows_of f) i j) (length (sequence F.below)) left (i + 1)
-        (inside i F.path F.parent F.holder F.table F.row F.below F.after F.rest F.stands F.row.segment.code (λ j. is_twin types (rows_of f) i j) twins_seek) in
+        (inside i F.path F.parent F.holder F.table F.row F.below F.after F.rest F.stands (λ j. is_twin types (rows_of f) i j) (λ j w. (twins_seek.only j w).0)) in
         ap m.forward address ∙ F.stands.stand.0.forward ∙ sym found
         ∙ sym (ap (λ (o : Option ℕ). option_map_or (λ j. address_at f j) o 0) (ap (λ d. least_within (λ j. is_twin types (rows_of f) i j) d (i + 1)) split ∙ skip))
 
@@ -231,7 +234,7 @@ module _ (types : List SegmentType) (O : Ordered types) (leveled : Leveled types
         ∙ head_both types m nowhere F.below (sequence F.after ++ F.rest) F.stands.stand.1
         ∙ sym (address_is f C.front (sequence F.below ++ (sequence F.after ++ F.rest)) (i + 1) C.whole C.number)
 
-    end_is : end_of types (rows_of f) i ≡ i + 1 + length (sequence F.below)
+    pub end_is : end_of types (rows_of f) i ≡ i + 1 + length (sequence F.below)
     end_is =
         let lv : level_at types (rows_of f) i ≡ length F.path + 1 = own_level types O leveled bound m G f H i F.path F.parent F.holder F.table F.row F.below F.after F.rest F.stands in
         let long : length (F.path ++ i ∷ []) ≡ length F.path + 1 = length-append F.path (i ∷ []) in

@@ -18,3 +18,5 @@ pub mod Ways
 pub mod Standing
 pub mod Following
 pub mod Broken
+pub mod Sequels
+pub mod RowChanges

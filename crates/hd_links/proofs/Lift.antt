@@ -63,7 +63,7 @@ find_children types m h c b (node r k n) l F p = elim (cases_eq r.address h) [
 ]
 
 module _ (h : ℕ) (g : Forest Placed → Forest Placed) where
-  opened : (r : Placed) (k n : Forest Placed) → (r.address ≡ h → ⊥) → change_below h g (node r k n) ≡ node r (change_below h g k) (change_below h g n)
+  pub opened : (r : Placed) (k n : Forest Placed) → (r.address ≡ h → ⊥) → change_below h g (node r k n) ≡ node r (change_below h g k) (change_below h g n)
   opened r k n ne = cond-false (r.address == h) (node r (g k) n) (node r (change_below h g k) (change_below h g n)) (ne_eqb r.address h ne)
 
   pub at_own : (r : Placed) (k n : Forest Placed) → r.address ≡ h → change_below h g (node r k n) ≡ node r (g k) n

@@ -55,7 +55,7 @@ order_same types p p2 r r2 cp cr kp kr = elim (cases_eq p.code r.code) [
 module _ (a : ℕ) (bytes : List ℕ) where
   -- ---- the forest
 
-  address_kept : (r : Placed) → (rewritten a bytes r).address ≡ r.address
+  pub address_kept : (r : Placed) → (rewritten a bytes r).address ≡ r.address
   address_kept r = elim (cases_eq r.address a) [
     | inl e ↦ ap (λ (x : Placed). x.address) (cond-true (r.address == a) (record { address = r.address; segment = record { code = r.segment.code; bytes = bytes } }) r (eq-eqb r.address a e))
     | inr ne ↦ ap (λ (x : Placed). x.address) (cond-false (r.address == a) (record { address = r.address; segment = record { code = r.segment.code; bytes = bytes } }) r (ne_eqb r.address a ne))

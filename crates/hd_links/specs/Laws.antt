@@ -1,5 +1,5 @@
 -- Laws of the linked forest, for every well-formed list of types.
-use Rattle.std.specs.Prelude.{◌≡◌, ℕ, ◌+◌, ◌<◌, List, [], length, true, ◌&&◌, ◌==◌, Some, IsTrue}
+use Rattle.std.specs.Prelude.{◌∷◌, ◌++◌, take, drop, slice_set, nat_le, ◌≡◌, ℕ, ◌+◌, ◌<◌, List, [], length, true, ◌&&◌, ◌==◌, Some, IsTrue}
 use Rattle.std.specs.Option.{option_map_or, option_eq}
 use Rattle.hd_dbd.specs.declared.hierarchy.FreeSpace.{FreeSpace}
 use Rattle.hd_dbd.specs.Types.{SegmentType}
@@ -13,7 +13,7 @@ use Rattle.hd_links.specs.Links.{Links, IsSegment, IsLinkGraph, segment_at, is_c
 use Rattle.hd_links.specs.Placed.{Placed, forest_of, count, Lies, Holds}
 use Rattle.hd_links.specs.Pointers.{Precedes, IsTwinAfter, IsReached, AreLinked}
 use Rattle.hd_links.specs.Changes.{AgreeAt, Agree, linked, unlinked, replaced, with_leaf, without_span, with_bytes, CanLink, CanUnlink, CanReplace}
-use Rattle.hd_links.specs.Steps.{rows_of, address_at, path_at, tip_from, LeadsDown, next_row, behind_span}
+use Rattle.hd_links.specs.Steps.{rows_of, addresses, address_at, path_at, tip_from, LeadsDown, next_row, behind_span}
 
 -- The records hold one placed forest and no other.
 abbrev pub HoldsOne : List SegmentType → Links → Type 0
@@ -92,6 +92,39 @@ PointersFollowRows =
     (block_size : ℕ) (frspc : FreeSpace) (types : List SegmentType) (bound : ℕ) (m : Links) (f : Forest Placed) → IsTrue (well_formed block_size frspc types)
     → IsLinkGraph types bound m → Holds types m f
     → ((i : ℕ) → i < length (rows_of f) → StepsAreRows types m f i) × (next_row types m [] ≡ address_at f 0)
+
+-- The row of a new leaf below h goes in at number n: behind the span of its twin y; as the first of its type, among the
+-- roots at the beginning, and below row i at the first of its own that is of the type or a later one, or behind its span.
+pub record LeafGoesInAt (types : List SegmentType) (f : Forest Placed) (h y : ℕ) (p : Placed) (n : ℕ) : Type 0 where
+  pub rows : sequence (with_leaf h y p f) ≡ take n (sequence f) ++ p ∷ drop n (sequence f)
+  pub behind : (i : ℕ) → i < length (rows_of f) → 0 < y → address_at f i ≡ y → n ≡ end_of types (rows_of f) i
+  pub first_root : y ≡ 0 → h ≡ 0 → n ≡ 0
+  pub first_below : (i : ℕ) → i < length (rows_of f) → y ≡ 0 → address_at f i ≡ h
+      → n
+      ≡ option_map_or (λ j. j) (first_from (λ j. option_eq (λ a b. a == b) (parent_row types (rows_of f) j) (Some i) && nat_le p.segment.code (row_at (rows_of f) j).code) (i + 1) (end_of types (rows_of f) i))
+      (end_of types (rows_of f) i)
+
+-- A leaf that is linked is one row more.
+abbrev pub LeavesGoInBetweenRows : Type 0
+LeavesGoInBetweenRows =
+    (block_size : ℕ) (frspc : FreeSpace) (types : List SegmentType) (bound : ℕ) (m : Links) (f : Forest Placed) (h y : ℕ) (p : Placed)
+    → IsTrue (well_formed block_size frspc types) → IsLinkGraph types bound m → Holds types m f → CanLink types m h y p
+    → (n : ℕ) × LeafGoesInAt types f h y p n
+
+-- A span that is unlinked is the rows from its first to its end.
+abbrev pub SpansAreRowsToTheirEnd : Type 0
+SpansAreRowsToTheirEnd =
+    (block_size : ℕ) (frspc : FreeSpace) (types : List SegmentType) (bound : ℕ) (m : Links) (f : Forest Placed) (h y a i : ℕ)
+    → IsTrue (well_formed block_size frspc types) → IsLinkGraph types bound m → Holds types m f → CanUnlink types m h y a
+    → i < length (rows_of f) → address_at f i ≡ a
+    → sequence (without_span h a f) ≡ take i (sequence f) ++ drop (end_of types (rows_of f) i) (sequence f)
+
+-- Bytes that are replaced change one row, and no address.
+abbrev pub BytesChangeOneRow : Type 0
+BytesChangeOneRow =
+    (types : List SegmentType) (m : Links) (f : Forest Placed) (i : ℕ) (bytes : List ℕ) → Holds types m f → i < length (rows_of f)
+    → (rows_of (with_bytes (address_at f i) bytes f) ≡ slice_set (rows_of f) i (record { code = (row_at (rows_of f) i).code; bytes = bytes }))
+    × (addresses (with_bytes (address_at f i) bytes f) ≡ addresses f)
 
 -- The records hold no forest.
 abbrev pub HoldNone : List SegmentType → Links → Type 0

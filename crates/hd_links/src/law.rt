@@ -1,4 +1,4 @@
-ghost use Rattle.hd_links.specs.Laws.{PointersDecide, HeldTwinsAscend, LiesByItsPlaces, LinkingAddsALeaf, UnlinkingTakesASpan, ReplacingChangesBytes, AddressesAreRows, PointersFollowRows, BrokenRecordsHoldNone};
+ghost use Rattle.hd_links.specs.Laws.{PointersDecide, HeldTwinsAscend, LiesByItsPlaces, LinkingAddsALeaf, UnlinkingTakesASpan, ReplacingChangesBytes, AddressesAreRows, PointersFollowRows, BrokenRecordsHoldNone, LeavesGoInBetweenRows, SpansAreRowsToTheirEnd, BytesChangeOneRow};
 
 /// The pointers of a database's records decide which forest they hold.
 pub fn law_pointers_decide()
@@ -39,6 +39,21 @@ pub fn law_addresses_are_rows()
 /// pointers what they are by rows.
 pub fn law_pointers_follow_rows()
     ensures { PointersFollowRows }
+{}
+
+/// A leaf that is linked is one row more, at the number where it goes in.
+pub fn law_leaves_go_in_between_rows()
+    ensures { LeavesGoInBetweenRows }
+{}
+
+/// A span that is unlinked is the rows from its first to its end.
+pub fn law_spans_are_rows_to_their_end()
+    ensures { SpansAreRowsToTheirEnd }
+{}
+
+/// Bytes that are replaced change one row, and no address.
+pub fn law_bytes_change_one_row()
+    ensures { BytesChangeOneRow }
 {}
 
 /// A ring of twins, a segment named twice, a last child in the middle of its chain, and a segment that is not reached are

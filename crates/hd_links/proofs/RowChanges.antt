@@ -1,0 +1,280 @@
+-- Linking, unlinking and replacing, told of the rows by their numbers.
+use Rattle.std.proofs.Common.{◌≡◌, ℕ, suc, ◌+◌, ◌-◌, ◌<◌, ◌≤◌, List, [], ◌∷◌, ◌++◌, length, take, drop, get_or, Bool, true, false, ◌&&◌, arith, ap, ap₂, sym, ◌∙◌, refl, subst, cond, inl, inr, Option, Some}
+use Rattle.std.specs.Prelude.{◌==◌, nat_lt, nat_le, map, slice_set}
+use Rattle.std.specs.Option.{option_map_or, option_eq}
+use Rattle.std.proofs.lemmas.Bool.{cases_eq, cases_Bool, cases_lt, and_parts, and_from, eq-eqb, ne_eqb, cond-true, cond-false, false≢true, lt-ltb, le-ltb, le-leb, lt-leb}
+use Rattle.std.proofs.lemmas.List.{append_assoc, length-append, length-map, length-set, take_at, drop_at, get_or-map, get_or-set_same, get_or-set_other, same_lists}
+use Rattle.hd_dbd.specs.Types.{SegmentType}
+use Rattle.hd_dbd.specs.Segment.{Segment}
+use Rattle.hd_dbd.specs.Paths.{row_at, no_row, parent_row, end_of}
+use Rattle.hd_dbd.specs.Gets.{least_within, first_from}
+use Rattle.hd_dbd.specs.Forest.{Forest, empty, node, sequence}
+use Rattle.hd_dbd.proofs.LevelLaw.{Leveled}
+use Rattle.hd_dbd.proofs.Names.{option_eq-Decides}
+use Rattle.hd_links.specs.Links.{Links, IsLinkGraph, is_child_type}
+use Rattle.hd_links.specs.Placed.{Placed, first_of, nowhere, with_node, Holds}
+use Rattle.hd_links.specs.Pointers.{IsTwinAfter}
+use Rattle.hd_links.specs.Changes.{put_first, put_behind, take_out, with_leaf, without_span, rewritten, with_bytes, CanLink, CanUnlink}
+use Rattle.hd_links.specs.Steps.{rows_of, addresses, address_at}
+use Rattle.hd_links.specs.Laws.{RowsHaveAddresses, LeafGoesInAt}
+use Rattle.hd_links.proofs.Types.{Ordered, in_cases}
+use Rattle.hd_links.proofs.Forms.{Formed, none_of}
+use Rattle.hd_links.proofs.Unique.{same}
+use Rattle.hd_links.proofs.Build.{zero_or}
+use Rattle.hd_links.proofs.Joins.{IsOne, first_one}
+use Rattle.hd_links.proofs.Lift.{Spot, spot}
+use Rattle.hd_links.proofs.Places.{chain_one}
+use Rattle.hd_links.proofs.Gaps.{next_one}
+use Rattle.hd_links.proofs.Replacing.{address_kept}
+use Rattle.hd_links.proofs.Numbers.{rows_map, rows_length, rows_addressed, skip_least}
+use Rattle.hd_links.proofs.Standing.{Siblings, RowAt, row_found, own_row, own_address, own_parent, children_at, siblings_at}
+use Rattle.hd_links.proofs.Following.{inside, end_is}
+use Rattle.hd_links.proofs.Sequels.{Around, around, number_is, span_end, InRow, in_row, lesser, FirstIn, first_in, put_in}
+
+-- the rows up to one's span, and those behind it
+regroup : (a b : List Placed) (r : Placed) (c d e : List Placed) → a ++ ((b ++ (r ∷ (c ++ d))) ++ e) ≡ (a ++ b) ++ (r ∷ (c ++ (d ++ e)))
+regroup a b r c d e =
+    ap (λ (x : List Placed). a ++ x) (append_assoc b (r ∷ (c ++ d)) e ∙ ap (λ (x : List Placed). b ++ (r ∷ x)) (append_assoc c d e))
+    ∙ sym (append_assoc a b (r ∷ (c ++ (d ++ e))))
+
+span_front : (a b : List Placed) (r : Placed) (c d : List Placed) → (a ++ b) ++ (r ∷ (c ++ d)) ≡ ((a ++ b) ++ (r ∷ c)) ++ d
+span_front a b r c d = sym (append_assoc (a ++ b) (r ∷ c) d)
+
+-- the rows of one parent of a type or a later one
+abbrev Seeking : List SegmentType → List Segment → Option ℕ → ℕ → ℕ → Bool
+Seeking types rows q t j = option_eq (λ a b. a == b) (parent_row types rows j) q && nat_le t (row_at rows j).code
+
+module _ (types : List SegmentType) (O : Ordered types) (leveled : Leveled types) (bound : ℕ) (m : Links) (G : IsLinkGraph types bound m) (f : Forest Placed) (H : Holds types m f) where
+  -- behind the siblings of lesser type comes the first that is sought
+  place_scan : (n : ℕ) (P : List ℕ) (q : Option ℕ) (h : ℕ) (b : ℕ → ℕ) (g : Forest Placed) (rest : List Placed) → Siblings types m f n P q h b g rest → (t d e : ℕ)
+      → d ≡ length (sequence g) → e ≡ n + length (sequence g) → option_map_or (λ j. j) (least_within (Seeking types (rows_of f) q t) d n) e ≡ n + lesser t g
+  place_scan n P q h b empty rest S t d e is ends =
+      ap (λ x. option_map_or (λ j. j) (least_within (Seeking types (rows_of f) q t) x n) e) is ∙ ends
+  place_scan n P q h b (node r k g) rest S t d e is ends =
+      let both : length (sequence k ++ sequence g) ≡ length (sequence k) + length (sequence g) = length-append (sequence k) (sequence g) in
+      let split : d ≡ suc (length (sequence k) + length (sequence g)) = omega arith in
+      let code : (row_at (rows_of f) n).code ≡ r.segment.code = ap (λ (s : Segment). s.code) (own_row types O leveled bound m G f H n P q h b r k g rest S) in
+      elim (cases_lt r.segment.code t) [
+        | inl less ↦
+            (let none : Seeking types (rows_of f) q t n ≡ false = elim (cases_Bool (Seeking types (rows_of f) q t n)) [
+              | inr w ↦ w
+              | inl w ↦ absurd (false≢true (sym (lt-leb t (row_at (rows_of f) n).code (subst (λ c. c < t) (sym code) less)) ∙ (and_parts _ _ w).1))
+            ] in
+            ap (λ x. option_map_or (λ j. j) (least_within (Seeking types (rows_of f) q t) x n) e) split
+            ∙ ap (λ (o : Option ℕ). option_map_or (λ j. j) o e)
+            (cond-false (Seeking types (rows_of f) q t n) (Some n) (least_within (Seeking types (rows_of f) q t) (length (sequence k) + length (sequence g)) (n + 1)) none
+            ∙ skip_least (Seeking types (rows_of f) q t) (length (sequence k)) (length (sequence g)) (n + 1)
+            (inside types O leveled bound m G f H n P q h b r k g rest S (Seeking types (rows_of f) q t) (λ j w. (option_eq-Decides _ _).0 (and_parts _ _ w).0)))
+            ∙ place_scan (n + 1 + length (sequence k)) P q h (with_node b r) g rest (siblings_at types O leveled bound m G f H n P q h b r k g rest S) t (length (sequence g)) e refl (omega arith)
+            ∙ (let own : lesser t (node r k g) ≡ suc (length (sequence k) + lesser t g)
+            = cond-true (nat_lt r.segment.code t) (suc (length (sequence k) + lesser t g)) 0 (lt-ltb r.segment.code t less) in omega arith))
+        | inr more ↦
+            (let found : Seeking types (rows_of f) q t n ≡ true
+            = and_from _ _ ((option_eq-Decides _ _).1 (own_parent types O leveled bound m G f H n P q h b r k g rest S)) (le-leb t (row_at (rows_of f) n).code (subst (λ c. t ≤ c) (sym code) more)) in
+            ap (λ x. option_map_or (λ j. j) (least_within (Seeking types (rows_of f) q t) x n) e) split
+            ∙ ap (λ (o : Option ℕ). option_map_or (λ j. j) o e)
+            (cond-true (Seeking types (rows_of f) q t n) (Some n) (least_within (Seeking types (rows_of f) q t) (length (sequence k) + length (sequence g)) (n + 1)) found)
+            ∙ (let own : lesser t (node r k g) ≡ 0 = cond-false (nat_lt r.segment.code t) (suc (length (sequence k) + lesser t g)) 0 (le-ltb r.segment.code t more) in omega arith))
+      ]
+
+  -- ---- a leaf
+
+  -- behind a twin
+  behind_twin : (h y : ℕ) (p : Placed) → CanLink types m h y p → 0 < y → (n : ℕ) × LeafGoesInAt types f h y p n
+  behind_twin h y p C some =
+      let T = spot types O bound m G f H h C.parent in
+      let K : Forest Placed = T.0 in
+      let S : Spot types m h f K = T.1 in
+      let c = C.twin some in
+      let one : IsOne p.segment.code y K = chain_one types m p.segment.code y nowhere K S.stand c.0 (subst (λ x. IsTwinAfter m c.0 x y) (S.named.first p.segment.code C.typed) c.1) in
+      let I : InRow types m y p K = in_row types m p.segment.code y (m.code h) p nowhere K S.stand S.formed one in
+      let ne : y ≡ 0 → ⊥ = (λ (e : y ≡ 0). omega arith) in
+      let D : Around h (cond (y == 0) (put_first p) (put_behind y p)) K f = around types m h (cond (y == 0) (put_first p) (put_behind y p)) K f H S in
+      let own : cond (y == 0) (put_first p) (put_behind y p) K ≡ put_behind y p K
+      = ap (λ (g : Forest Placed → Forest Placed). g K) (cond-false (y == 0) (put_first p) (put_behind y p) (ne_eqb y 0 ne)) in
+      let whole : sequence f ≡ (D.before ++ I.front) ++ (I.row ∷ (sequence I.under ++ (I.rest ++ D.behind)))
+      = D.whole ∙ ap (λ (x : List Placed). D.before ++ (x ++ D.behind)) I.whole ∙ regroup D.before I.front I.row (sequence I.under) I.rest D.behind in
+      let changed : sequence (with_leaf h y p f) ≡ (D.before ++ I.front) ++ (I.row ∷ (sequence I.under ++ (p ∷ (I.rest ++ D.behind))))
+      = D.changed ∙ ap (λ (x : List Placed). D.before ++ (x ++ D.behind)) (ap sequence own ∙ I.put) ∙ regroup D.before I.front I.row (sequence I.under) (p ∷ I.rest) D.behind in
+      let up_to : List Placed = (D.before ++ I.front) ++ (I.row ∷ sequence I.under) in
+      let long : length up_to ≡ length (D.before ++ I.front) + length (I.row ∷ sequence I.under) = length-append (D.before ++ I.front) (I.row ∷ sequence I.under) in (
+        length up_to,
+        record {
+          rows = put_in p (sequence f) up_to (I.rest ++ D.behind) (sequence (with_leaf h y p f))
+              (whole ∙ span_front D.before I.front I.row (sequence I.under) (I.rest ++ D.behind))
+              (changed ∙ span_front D.before I.front I.row (sequence I.under) (p ∷ (I.rest ++ D.behind))) (length up_to) refl;
+          behind = λ i within q at.
+              (let num : length (D.before ++ I.front) ≡ i
+              = number_is types O leveled bound m G f H i within (D.before ++ I.front) I.row (sequence I.under ++ (I.rest ++ D.behind)) whole (at ∙ sym I.is) in
+              let ends : end_of types (rows_of f) i ≡ i + 1 + length (sequence I.under)
+              = span_end types O leveled bound m G f H i within (D.before ++ I.front) I.table I.row I.under I.after (I.rest ++ D.behind) whole (at ∙ sym I.is) I.stands I.stand I.formed in
+              omega arith);
+          first_root = λ z e. absurd (ne z);
+          first_below = λ i within z at. absurd (ne z);
+        },
+      )
+
+  -- no root stands before a new first one
+  none_lesser : (t : ℕ) (K : Forest Placed) → Formed types 0 K → is_child_type types 0 t ≡ true → lesser t K ≡ 0
+  none_lesser t empty F c = refl
+  none_lesser t (node r k n) F c =
+      let a : 1 ≡ t = elim (in_cases 1 t [] c) [ inl e ↦ e | inr e ↦ absurd (false≢true e) ] in
+      let b : 1 ≡ r.segment.code = elim (in_cases 1 r.segment.code [] F.0) [ inl e ↦ e | inr e ↦ absurd (false≢true e) ] in
+      cond-false (nat_lt r.segment.code t) (suc (length (sequence k) + lesser t n)) 0 (le-ltb r.segment.code t (omega arith))
+
+  -- as the first
+  as_first : (h y : ℕ) (p : Placed) → CanLink types m h y p → y ≡ 0 → (n : ℕ) × LeafGoesInAt types f h y p n
+  as_first h y p C zero_y =
+      let T = spot types O bound m G f H h C.parent in
+      let K : Forest Placed = T.0 in
+      let S : Spot types m h f K = T.1 in
+      let I : FirstIn p K = first_in p K in
+      let D : Around h (cond (y == 0) (put_first p) (put_behind y p)) K f = around types m h (cond (y == 0) (put_first p) (put_behind y p)) K f H S in
+      let own : cond (y == 0) (put_first p) (put_behind y p) K ≡ put_first p K
+      = ap (λ (g : Forest Placed → Forest Placed). g K) (cond-true (y == 0) (put_first p) (put_behind y p) (eq-eqb y 0 zero_y)) in
+      let whole : sequence f ≡ (D.before ++ I.front) ++ (I.rest ++ D.behind)
+      = D.whole ∙ ap (λ (x : List Placed). D.before ++ (x ++ D.behind)) I.whole
+      ∙ ap (λ (x : List Placed). D.before ++ x) (append_assoc I.front I.rest D.behind) ∙ sym (append_assoc D.before I.front (I.rest ++ D.behind)) in
+      let changed : sequence (with_leaf h y p f) ≡ (D.before ++ I.front) ++ (p ∷ (I.rest ++ D.behind))
+      = D.changed ∙ ap (λ (x : List Placed). D.before ++ (x ++ D.behind)) (ap sequence own ∙ I.put)
+      ∙ ap (λ (x : List Placed). D.before ++ x) (append_assoc I.front (p ∷ I.rest) D.behind) ∙ sym (append_assoc D.before I.front (p ∷ (I.rest ++ D.behind))) in
+      let long : length (D.before ++ I.front) ≡ length D.before + length I.front = length-append D.before I.front in
+      let part : length I.front ≡ lesser p.segment.code K = I.long in (
+        length (D.before ++ I.front),
+        record {
+          rows = put_in p (sequence f) (D.before ++ I.front) (I.rest ++ D.behind) (sequence (with_leaf h y p f)) whole changed (length (D.before ++ I.front)) refl;
+          behind = λ i within q at. absurd (omega arith);
+          first_root = λ z e.
+              (let none : length D.before ≡ 0 = ap (λ (x : List Placed). length x) (D.root e).0 in
+              let zero_code : m.code h ≡ 0 = ap m.code e ∙ G.header_code in
+              let few : lesser p.segment.code K ≡ 0
+              = none_lesser p.segment.code K (subst (λ x. Formed types x K) zero_code S.formed) (subst (λ x. is_child_type types x p.segment.code ≡ true) zero_code C.typed) in
+              omega arith);
+          first_below = λ i within z at.
+              (let A : RowsHaveAddresses m f = rows_addressed types m f H in
+              let some : 0 < h = subst (λ x. 0 < x) at (A.there i within).some in
+              let B = D.below some in
+              let split : sequence f ≡ B.0 ++ (B.1 ∷ (sequence K ++ D.behind)) = D.whole ∙ ap (λ (x : List Placed). x ++ (sequence K ++ D.behind)) B.2 ∙ append_assoc B.0 (B.1 ∷ []) (sequence K ++ D.behind) in
+              let num : length B.0 ≡ i = number_is types O leveled bound m G f H i within B.0 B.1 (sequence K ++ D.behind) split (at ∙ sym B.3) in
+              let front : length D.before ≡ length B.0 + 1 = ap (λ (x : List Placed). length x) B.2 ∙ length-append B.0 (B.1 ∷ []) in
+              let F : RowAt types O leveled bound m G f H i = row_found types O leveled bound m G f H i within in
+              let own_at : address_at f i ≡ F.row.address = own_address types O leveled bound m G f H i F.path F.parent F.holder F.table F.row F.below F.after F.rest F.stands in
+              let here : F.row.address ≡ h = sym own_at ∙ at in
+              let code : F.row.segment.code ≡ m.code h = sym F.stands.stand.0.code ∙ ap m.code here in
+              let below : F.below ≡ K
+              = same types m F.row.segment.code (m.code h) nowhere nowhere F.below K F.stands.stand.1 S.stand F.stands.formed.2 S.formed
+              (λ t. elim (cases_Bool (is_child_type types F.row.segment.code t)) [
+                | inl q ↦ sym (F.stands.stand.0.children.first t q) ∙ ap (λ x. m.first_child x t) here ∙ S.named.first t (ap (λ c. is_child_type types c t) (sym code) ∙ q)
+                | inr q ↦ none_of types F.row.segment.code t F.below F.stands.formed.2 (λ w. false≢true (sym q ∙ w))
+                    ∙ sym (none_of types (m.code h) t K S.formed (λ w. false≢true (sym q ∙ ap (λ c. is_child_type types c t) code ∙ w)))
+              ]) in
+              let ends : end_of types (rows_of f) i ≡ i + 1 + length (sequence F.below) = end_is types O leveled bound m G f H i F in
+              let scan : option_map_or (λ j. j) (first_from (Seeking types (rows_of f) (Some i) p.segment.code) (i + 1) (end_of types (rows_of f) i)) (end_of types (rows_of f) i) ≡ i + 1 + lesser p.segment.code F.below
+              = place_scan (i + 1) (F.path ++ i ∷ []) (Some i) F.row.address nowhere F.below (sequence F.after ++ F.rest)
+              (children_at types O leveled bound m G f H i F.path F.parent F.holder F.table F.row F.below F.after F.rest F.stands)
+              p.segment.code (end_of types (rows_of f) i - (i + 1)) (end_of types (rows_of f) i) (omega arith) ends in
+              let less : lesser p.segment.code F.below ≡ lesser p.segment.code K = ap (lesser p.segment.code) below in
+              let total : length (D.before ++ I.front) ≡ i + 1 + lesser p.segment.code F.below = omega arith in
+              total ∙ sym scan);
+        },
+      )
+
+  pub leaf_in : (h y : ℕ) (p : Placed) → CanLink types m h y p → (n : ℕ) × LeafGoesInAt types f h y p n
+  leaf_in h y p C = elim (zero_or y) [ inl z ↦ as_first h y p C z | inr some ↦ behind_twin h y p C some ]
+
+  -- ---- a span
+
+  pub span_out : (h y a i : ℕ) → CanUnlink types m h y a → i < length (rows_of f) → address_at f i ≡ a
+      → sequence (without_span h a f) ≡ take i (sequence f) ++ drop (end_of types (rows_of f) i) (sequence f)
+  span_out h y a i C within at =
+      let T = spot types O bound m G f H h C.parent in
+      let K : Forest Placed = T.0 in
+      let S : Spot types m h f K = T.1 in
+      let one : IsOne (m.code a) a K = elim (zero_or y) [
+        | inl e ↦
+            (let is : first_of K (m.code a) ≡ a
+            = sym (S.named.first (m.code a) C.typed) ∙ sym (cond-true (y == 0) (m.first_child h (m.code a)) (m.forward y) (eq-eqb y 0 e)) ∙ C.here in
+            subst (λ x. IsOne (m.code a) x K) is (first_one K (m.code a) (subst (λ x. 0 < x) (sym is) C.some)))
+        | inr some ↦
+            (let c = C.twin some in
+            let y_one : IsOne (m.code a) y K = chain_one types m (m.code a) y nowhere K S.stand c.0 (subst (λ x. IsTwinAfter m c.0 x y) (S.named.first (m.code a) C.typed) c.1) in
+            let is : m.forward y ≡ a = sym (cond-false (y == 0) (m.first_child h (m.code a)) (m.forward y) (ne_eqb y 0 (λ (e : y ≡ 0). omega arith))) ∙ C.here in
+            subst (λ x. IsOne (m.code a) x K) is (next_one types m (m.code a) y nowhere K S.stand y_one (subst (λ x. 0 < x) (sym is) C.some)))
+      ] in
+      let I : InRow types m a (record { address = a; segment = no_row }) K = in_row types m (m.code a) a (m.code h) (record { address = a; segment = no_row }) nowhere K S.stand S.formed one in
+      let D : Around h (take_out a) K f = around types m h (take_out a) K f H S in
+      let whole : sequence f ≡ (D.before ++ I.front) ++ (I.row ∷ (sequence I.under ++ (I.rest ++ D.behind)))
+      = D.whole ∙ ap (λ (x : List Placed). D.before ++ (x ++ D.behind)) I.whole ∙ regroup D.before I.front I.row (sequence I.under) I.rest D.behind in
+      let changed : sequence (without_span h a f) ≡ (D.before ++ I.front) ++ (I.rest ++ D.behind)
+      = D.changed ∙ ap (λ (x : List Placed). D.before ++ (x ++ D.behind)) I.out
+      ∙ ap (λ (x : List Placed). D.before ++ x) (append_assoc I.front I.rest D.behind) ∙ sym (append_assoc D.before I.front (I.rest ++ D.behind)) in
+      let num : length (D.before ++ I.front) ≡ i
+      = number_is types O leveled bound m G f H i within (D.before ++ I.front) I.row (sequence I.under ++ (I.rest ++ D.behind)) whole (at ∙ sym I.is) in
+      let ends : end_of types (rows_of f) i ≡ i + 1 + length (sequence I.under)
+      = span_end types O leveled bound m G f H i within (D.before ++ I.front) I.table I.row I.under I.after (I.rest ++ D.behind) whole (at ∙ sym I.is) I.stands I.stand I.formed in
+      let long : length ((D.before ++ I.front) ++ (I.row ∷ sequence I.under)) ≡ length (D.before ++ I.front) + length (I.row ∷ sequence I.under)
+      = length-append (D.before ++ I.front) (I.row ∷ sequence I.under) in
+      changed
+      ∙ ap₂ (λ (u v : List Placed). u ++ v)
+      (sym (ap (take i) whole ∙ take_at (D.before ++ I.front) (I.row ∷ (sequence I.under ++ (I.rest ++ D.behind))) i num))
+      (sym (ap (drop (end_of types (rows_of f) i)) (whole ∙ span_front D.before I.front I.row (sequence I.under) (I.rest ++ D.behind))
+      ∙ drop_at ((D.before ++ I.front) ++ (I.row ∷ sequence I.under)) (I.rest ++ D.behind) (end_of types (rows_of f) i) (omega arith)))
+
+-- ---- bytes
+
+map_sequence : (a : ℕ) (bytes : List ℕ) (f : Forest Placed) → sequence (with_bytes a bytes f) ≡ map (rewritten a bytes) (sequence f)
+map_sequence a bytes empty = refl
+map_sequence a bytes (node r k n) =
+    ap (λ (x : List Placed). rewritten a bytes r ∷ x)
+    (ap₂ (λ (x y : List Placed). x ++ y) (map_sequence a bytes k) (map_sequence a bytes n) ∙ sym (maps (sequence k) (sequence n)))
+  where
+    maps : (xs ys : List Placed) → map (rewritten a bytes) (xs ++ ys) ≡ map (rewritten a bytes) xs ++ map (rewritten a bytes) ys
+    maps [] ys = refl
+    maps (x ∷ xs) ys = ap (λ (zs : List Placed). rewritten a bytes x ∷ zs) (maps xs ys)
+
+addresses_kept : (a : ℕ) (bytes : List ℕ) (xs : List Placed) → map (λ (p : Placed). p.address) (map (rewritten a bytes) xs) ≡ map (λ (p : Placed). p.address) xs
+addresses_kept a bytes [] = refl
+addresses_kept a bytes (x ∷ xs) = ap₂ (λ (u : ℕ) (v : List ℕ). u ∷ v) (address_kept a bytes x) (addresses_kept a bytes xs)
+
+pub bytes_in : (types : List SegmentType) (m : Links) (f : Forest Placed) (i : ℕ) (bytes : List ℕ) → Holds types m f → i < length (rows_of f)
+    → (rows_of (with_bytes (address_at f i) bytes f) ≡ slice_set (rows_of f) i (record { code = (row_at (rows_of f) i).code; bytes = bytes }))
+    × (addresses (with_bytes (address_at f i) bytes f) ≡ addresses f)
+bytes_in types m f i bytes H within =
+    let a : ℕ = address_at f i in
+    let A : RowsHaveAddresses m f = rows_addressed types m f H in
+    let nobody : Placed = record { address = 0; segment = no_row } in
+    let len : length (rows_of f) ≡ length (sequence f) = rows_length f in
+    let new : Segment = record { code = (row_at (rows_of f) i).code; bytes = bytes } in
+    let twice : rows_of (with_bytes a bytes f) ≡ map (λ (p : Placed). p.segment) (map (rewritten a bytes) (sequence f))
+    = rows_map (with_bytes a bytes f) ∙ ap (map (λ (p : Placed). p.segment)) (map_sequence a bytes f) in
+    let long : length (rows_of (with_bytes a bytes f)) ≡ length (sequence f)
+    = ap (λ (x : List Segment). length x) twice ∙ length-map (map (rewritten a bytes) (sequence f)) (λ (p : Placed). p.segment) ∙ length-map (sequence f) (rewritten a bytes) in
+    let set_long : length (slice_set (rows_of f) i new) ≡ length (rows_of f) = length-set (rows_of f) i new in (
+      same_lists (rows_of (with_bytes a bytes f)) (slice_set (rows_of f) i new) (long ∙ sym len ∙ sym set_long)
+          (λ k d below.
+          let k_in : k < length (sequence f) = omega arith in
+          let map_len : length (map (rewritten a bytes) (sequence f)) ≡ length (sequence f) = length-map (sequence f) (rewritten a bytes) in
+          let here : Placed = get_or (sequence f) k nobody in
+          let at : here.address ≡ address_at f k = sym (get_or-map (λ (p : Placed). p.address) (sequence f) k nobody 0 k_in) in
+          let got : get_or (rows_of (with_bytes a bytes f)) k d ≡ (rewritten a bytes here).segment
+          = ap (λ (x : List Segment). get_or x k d) twice
+          ∙ get_or-map (λ (p : Placed). p.segment) (map (rewritten a bytes) (sequence f)) k (rewritten a bytes nobody) d (omega arith)
+          ∙ ap (λ (p : Placed). p.segment) (get_or-map (rewritten a bytes) (sequence f) k nobody (rewritten a bytes nobody) k_in) in
+          let row : (e : Segment) → get_or (rows_of f) k e ≡ here.segment
+          = (λ e. ap (λ (x : List Segment). get_or x k e) (rows_map f) ∙ get_or-map (λ (p : Placed). p.segment) (sequence f) k nobody e k_in) in
+          elim (cases_eq k i) [
+            | inl e ↦
+                (let own : here.address ≡ a = at ∙ ap (address_at f) e in
+                got
+                ∙ ap (λ (p : Placed). p.segment) (cond-true (here.address == a) (record { address = here.address; segment = record { code = here.segment.code; bytes = bytes } }) here (eq-eqb here.address a own))
+                ∙ ap (λ (s : Segment). record { code = s.code; bytes = bytes }) (sym (row no_row) ∙ ap (row_at (rows_of f)) e)
+                ∙ sym (ap (λ x. get_or (slice_set (rows_of f) i new) x d) e ∙ get_or-set_same (rows_of f) i new d within))
+            | inr ne ↦
+                (let other : here.address ≡ a → ⊥ = (λ q. ne (A.once k i (omega arith) within (sym at ∙ q))) in
+                got
+                ∙ ap (λ (p : Placed). p.segment) (cond-false (here.address == a) (record { address = here.address; segment = record { code = here.segment.code; bytes = bytes } }) here (ne_eqb here.address a other))
+                ∙ sym (row d)
+                ∙ sym (get_or-set_other (rows_of f) i k new d ne))
+          ]),
+      ap (map (λ (p : Placed). p.address)) (map_sequence a bytes f) ∙ addresses_kept a bytes (sequence f),
+    )
