@@ -20,3 +20,4 @@ pub mod Following
 pub mod Broken
 pub mod Sequels
 pub mod RowChanges
+mod WorkedImage
