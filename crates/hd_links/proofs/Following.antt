@@ -1,26 +1,27 @@
 -- The steps by pointers are those by rows.
-use Rattle.std.proofs.Common.{◌≡◌, ℕ, zero, suc, ◌+◌, ◌-◌, ◌<◌, ◌≤◌, List, [], ◌∷◌, ◌++◌, length, Bool, true, false, ◌&&◌, arith, ap, ap₂, sym, ◌∙◌, refl, subst, inl, inr, Option, Some, None}
-use Rattle.std.specs.Prelude.{◌==◌, nat_le, map}
+use Rattle.std.proofs.Common.{◌≡◌, ℕ, zero, suc, ◌+◌, ◌-◌, ◌<◌, ◌≤◌, List, [], ◌∷◌, ◌++◌, length, take, Bool, true, false, ◌&&◌, arith, ap, ap₂, sym, ◌∙◌, refl, subst, inl, inr, Option, Some, None}
+use Rattle.std.specs.Prelude.{◌==◌, nat_le, nat_lt, map}
 use Rattle.std.specs.Option.{option_map_or, option_eq}
-use Rattle.std.proofs.lemmas.Bool.{cases_eq, cases_order, cases_Bool, and_parts, and_from, eq-eqb, eqb-true, ne_eqb, cond-true, cond-false, le-leb}
-use Rattle.std.proofs.lemmas.List.{append_assoc, length-append}
+use Rattle.std.proofs.lemmas.Bool.{lt-ltb, le-ltb, cases_lt, cases_eq, cases_order, cases_Bool, and_parts, and_from, eq-eqb, eqb-true, ne_eqb, cond-true, cond-false, le-leb}
+use Rattle.std.proofs.lemmas.List.{append_assoc, append-nil, length-append, take_all, take-append-le, take-map}
 use Rattle.hd_dbd.specs.Types.{SegmentType}
 use Rattle.hd_dbd.specs.Segment.{Segment}
+use Rattle.hd_dbd.specs.Hierarchy.{parent_of}
 use Rattle.hd_dbd.specs.Rows.{level, row_fits}
-use Rattle.hd_dbd.specs.Paths.{row_at, level_at, nearest_above, parent_row, end_within, end_of, is_twin}
+use Rattle.hd_dbd.specs.Paths.{path_above, path_of, row_at, level_at, nearest_above, parent_row, end_within, end_of, is_twin}
 use Rattle.hd_dbd.specs.Gets.{least_within, first_from}
 use Rattle.hd_dbd.specs.Forest.{Forest, empty, node, sequence}
 use Rattle.hd_dbd.proofs.LevelLaw.{Leveled, depth_below}
 use Rattle.hd_dbd.proofs.Names.{option_eq-Decides}
 use Rattle.hd_links.specs.Links.{Links, IsLinkGraph, child_types, is_child_type}
 use Rattle.hd_links.specs.Placed.{Placed, first_of, nowhere, with_node, Holds}
-use Rattle.hd_links.specs.Steps.{rows_of, address_at, path_at, first_some, child_among, behind_from, tip_from, LeadsDown, next_row, behind_span}
+use Rattle.hd_links.specs.Steps.{rows_of, address_at, path_at, path_on, first_some, child_among, behind_from, tip_from, LeadsDown, next_row, behind_span}
 use Rattle.hd_links.specs.Laws.{StepsAreRows, RowsHaveAddresses}
 use Rattle.hd_links.proofs.Types.{Ordered, above}
 use Rattle.hd_links.proofs.Forms.{Formed}
-use Rattle.hd_links.proofs.Numbers.{rows_length, head_at, row_is, address_is, AllDeeper, skip_end, nearest_from, skip_least, least_none, rows_addressed}
+use Rattle.hd_links.proofs.Numbers.{map_end, skip_path, rows_length, head_at, row_is, address_is, AllDeeper, skip_end, nearest_from, skip_least, least_none, rows_addressed}
 use Rattle.hd_links.proofs.Ways.{first_below, head_both}
-use Rattle.hd_links.proofs.Standing.{UpTo, Siblings, RowAt, all_deeper, at_start, own_row, own_address, own_level, own_path, own_parent, own_down, own_tip, own_behind, children_at, siblings_at}
+use Rattle.hd_links.proofs.Standing.{UpTo, Siblings, RowAt, row_found, all_deeper, at_start, own_row, own_address, own_level, own_path, own_parent, own_down, own_tip, own_behind, children_at, siblings_at}
 
 -- the test finds the rows of one parent, or roots, and one code
 pub record Seeks (types : List SegmentType) (rows : List Segment) (q : Option ℕ) (t : ℕ) (test : ℕ → Bool) : Type 0 where
@@ -143,6 +144,65 @@ module _ (types : List SegmentType) (O : Ordered types) (leveled : Leveled types
             ∙ sym (cond-false (r.segment.code == t) r.address (first_of g t) (ne_eqb r.segment.code t w)))
       ]
 
+  -- a path is as long as its row's level
+  path_length : (i : ℕ) → i < length (rows_of f) → length (path_of types (rows_of f) i) ≡ level_at types (rows_of f) i
+  path_length i within =
+      let F : RowAt types O leveled bound m G f H i = row_found types O leveled bound m G f H i within in
+      ap (λ (x : List ℕ). length x) (own_path types O leveled bound m G f H i F.path F.parent F.holder F.table F.row F.below F.after F.rest F.stands)
+      ∙ length-append F.path (i ∷ []) ∙ sym (own_level types O leveled bound m G f H i F.path F.parent F.holder F.table F.row F.below F.after F.rest F.stands)
+
+  -- the path above a level is the front of that above a lower one
+  path_front : (l k n : ℕ) → l < k → n ≤ length (rows_of f) → path_above types (rows_of f) (l + 1) n ≡ take l (path_above types (rows_of f) k n)
+  path_front l k zero less within = sym (take_all l [] (omega arith))
+  path_front l k (suc n) less within =
+      let R : List Segment = rows_of f in
+      let long : length (path_of types R n) ≡ level_at types R n = path_length n (omega arith) in
+      let both : length (path_of types R n) ≡ length (path_above types R (level_at types R n) n) + 1 = length-append (path_above types R (level_at types R n) n) (n ∷ []) in
+      elim (cases_lt (level_at types R n) (l + 1)) [
+        | inl low ↦
+            cond-true (nat_lt (level_at types R n) (l + 1)) (path_of types R n) (path_above types R (l + 1) n) (lt-ltb (level_at types R n) (l + 1) low)
+            ∙ sym (take_all l (path_of types R n) (omega arith))
+            ∙ sym (ap (take l) (cond-true (nat_lt (level_at types R n) k) (path_of types R n) (path_above types R k n) (lt-ltb (level_at types R n) k (omega arith))))
+        | inr high ↦
+            cond-false (nat_lt (level_at types R n) (l + 1)) (path_of types R n) (path_above types R (l + 1) n) (le-ltb (level_at types R n) (l + 1) high)
+            ∙ elim (cases_lt (level_at types R n) k) [
+              | inl some ↦
+                  path_front l (level_at types R n) n (omega arith) (omega arith)
+                  ∙ sym (take-append-le l (path_above types R (level_at types R n) n) (n ∷ []) (omega arith))
+                  ∙ sym (ap (take l) (cond-true (nat_lt (level_at types R n) k) (path_of types R n) (path_above types R k n) (lt-ltb (level_at types R n) k some)))
+              | inr deep ↦
+                  path_front l k n less (omega arith)
+                  ∙ sym (ap (take l) (cond-false (nat_lt (level_at types R n) k) (path_of types R n) (path_above types R k n) (le-ltb (level_at types R n) k deep)))
+            ]
+      ]
+
+  -- the path above a level behind row i is the front of its path
+  path_behind : (l i : ℕ) → i < length (rows_of f) → path_above types (rows_of f) (l + 1) (suc i) ≡ take l (path_of types (rows_of f) i)
+  path_behind l i within =
+      let R : List Segment = rows_of f in
+      path_front l (suc (l + level_at types R i)) (suc i) (omega arith) (omega arith)
+      ∙ ap (take l) (cond-true (nat_lt (level_at types R i) (suc (l + level_at types R i))) (path_of types R i) (path_above types R (suc (l + level_at types R i)) i)
+      (lt-ltb (level_at types R i) (suc (l + level_at types R i)) (omega arith)))
+
+  -- and by addresses
+  addresses_on : (i j : ℕ) → path_of types (rows_of f) j ≡ take (level_at types (rows_of f) j - 1) (path_of types (rows_of f) i) ++ j ∷ [] → path_at types f j ≡ path_on types f i j
+  addresses_on i j e =
+      ap (map (λ k. address_at f k)) e ∙ map_end (λ k. address_at f k) (take (level_at types (rows_of f) j - 1) (path_of types (rows_of f) i)) j
+      ∙ ap (λ (x : List ℕ). x ++ address_at f j ∷ []) (sym (take-map (λ k. address_at f k) (level_at types (rows_of f) j - 1) (path_of types (rows_of f) i)))
+
+  level_some : (j : ℕ) → j < length (rows_of f) → 0 < level_at types (rows_of f) j
+  level_some j within = (let e : level_at types (rows_of f) j ≡ depth_below types (parent_of types (row_at (rows_of f) j).code) + 1 = leveled.law (row_at (rows_of f) j) (row_fit j within) in omega arith)
+
+  path_next : (i : ℕ) → i + 1 < length (rows_of f) → path_at types f (i + 1) ≡ path_on types f i (i + 1)
+  path_next i within =
+      let some : 0 < level_at types (rows_of f) (i + 1) = level_some (i + 1) within in
+      let up : level_at types (rows_of f) (i + 1) ≡ level_at types (rows_of f) (i + 1) - 1 + 1 = omega arith in
+      let next : i + 1 ≡ suc i = omega arith in
+      addresses_on i (i + 1) (ap (λ (x : List ℕ). x ++ (i + 1) ∷ [])
+      (ap (λ l. path_above types (rows_of f) l (i + 1)) up
+      ∙ ap (path_above types (rows_of f) (level_at types (rows_of f) (i + 1) - 1 + 1)) next
+      ∙ path_behind (level_at types (rows_of f) (i + 1) - 1) i (omega arith)))
+
   -- where the walk to the end of a span stops
   stops : (l : ℕ) (front rest : List Placed) → sequence f ≡ front ++ rest → UpTo types l rest → end_within types (rows_of f) l (length rest) (length front) ≡ length front
   stops l front [] whole low = refl
@@ -251,6 +311,45 @@ module _ (types : List SegmentType) (O : Ordered types) (leveled : Leveled types
         ∙ stops (length F.path + 1) (C.front ++ sequence F.below) (sequence F.after ++ F.rest) split low
         ∙ omega arith
 
+    less_deep : (l k : ℕ) (xs : List Placed) → l ≤ k → AllDeeper types k xs → AllDeeper types l xs
+    less_deep l k [] le a = tt
+    less_deep l k (x ∷ xs) le a = ((let d : k < level types x.segment = a.0 in omega arith), less_deep l k xs le a.1)
+
+    path_end : end_of types (rows_of f) i < length (rows_of f) → path_at types f (end_of types (rows_of f) i) ≡ path_on types f i (end_of types (rows_of f) i)
+    path_end within =
+        let e : ℕ = end_of types (rows_of f) i in
+        let ends : e ≡ i + 1 + length (sequence F.below) = end_is in
+        let some : 0 < level_at types (rows_of f) e = level_some e within in
+        let long : length (F.path ++ i ∷ []) ≡ length F.path + 1 = length-append F.path (i ∷ []) in
+        let depth : depth_below types (above (m.code F.row.address)) ≡ length (F.path ++ i ∷ []) = C.depth in
+        let low : level_at types (rows_of f) e ≤ length F.path + 1 = low_end (sequence F.after ++ F.rest) B.whole (subst (λ l. UpTo types l (sequence F.after ++ F.rest)) long C.shallow) within ends in
+        let deep : AllDeeper types (level_at types (rows_of f) e - 1) (sequence F.below)
+        = less_deep (level_at types (rows_of f) e - 1) (length F.path + 1) (sequence F.below) (omega arith)
+        (all_deeper types O leveled bound m G f H (length F.path + 1) (m.code F.row.address) nowhere F.below C.stand C.formed (omega arith)) in
+        let num : length C.front ≡ i + 1 = C.number in
+        let up : level_at types (rows_of f) e ≡ level_at types (rows_of f) e - 1 + 1 = omega arith in
+        let place : e ≡ length C.front + length (sequence F.below) = omega arith in
+        let first : length C.front ≡ suc i = omega arith in
+        let all : length (rows_of f) ≡ i + 1 + (length (sequence F.below) + length (sequence F.after ++ F.rest))
+        = left_over (i + 1) (F.path ++ i ∷ []) (Some i) F.row.address nowhere F.below (sequence F.after ++ F.rest) C in
+        addresses_on i e (ap (λ (x : List ℕ). x ++ e ∷ [])
+        (ap (λ l. path_above types (rows_of f) l e) up
+        ∙ ap (path_above types (rows_of f) (level_at types (rows_of f) e - 1 + 1)) place
+        ∙ skip_path types f (level_at types (rows_of f) e - 1) C.front (sequence F.below) (sequence F.after ++ F.rest) C.whole deep
+        ∙ ap (path_above types (rows_of f) (level_at types (rows_of f) e - 1 + 1)) first
+        ∙ path_behind (level_at types (rows_of f) e - 1) i (omega arith)))
+      where
+        low_end : (xs : List Placed) → sequence f ≡ B.front ++ xs → UpTo types (length F.path + 1) xs → end_of types (rows_of f) i < length (rows_of f)
+            → end_of types (rows_of f) i ≡ i + 1 + length (sequence F.below) → level_at types (rows_of f) (end_of types (rows_of f) i) ≤ length F.path + 1
+        low_end [] whole u within ends =
+            absurd (let all : length (sequence f) ≡ length B.front = ap (λ (x : List Placed). length x) (whole ∙ append-nil B.front) in
+            let len : length (rows_of f) ≡ length (sequence f) = rows_length f in
+            let num : length B.front ≡ i + 1 + length (sequence F.below) = B.number in omega arith)
+        low_end (x ∷ xs) whole u within ends =
+            (let own : level_at types (rows_of f) (end_of types (rows_of f) i) ≡ level types x.segment
+            = ap (level types) (row_is f B.front x xs (end_of types (rows_of f) i) whole (B.number ∙ sym ends)) in
+            let le : level types x.segment ≤ length F.path + 1 = u in omega arith)
+
     -- the steps from the row
     pub stepped : StepsAreRows types m f i
     stepped = record {
@@ -259,6 +358,8 @@ module _ (types : List SegmentType) (O : Ordered types) (leveled : Leveled types
       first_child = child_found;
       twin = twin_found;
       next = next_found;
+      next_path = path_next i;
+      behind_path = path_end;
       behind = behind_is ∙ sym (ap (address_at f) end_is ∙ address_is f B.front (sequence F.after ++ F.rest) (i + 1 + length (sequence F.below)) B.whole B.number);
     }
 

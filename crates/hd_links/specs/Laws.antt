@@ -13,7 +13,7 @@ use Rattle.hd_links.specs.Links.{Links, IsSegment, IsLinkGraph, segment_at, is_c
 use Rattle.hd_links.specs.Placed.{Placed, forest_of, count, Lies, Holds}
 use Rattle.hd_links.specs.Pointers.{Precedes, IsTwinAfter, IsReached, AreLinked}
 use Rattle.hd_links.specs.Changes.{AgreeAt, Agree, linked, unlinked, replaced, with_leaf, without_span, with_bytes, CanLink, CanUnlink, CanReplace}
-use Rattle.hd_links.specs.Steps.{rows_of, addresses, address_at, path_at, tip_from, LeadsDown, next_row, behind_span}
+use Rattle.hd_links.specs.Steps.{rows_of, addresses, address_at, path_at, path_on, tip_from, LeadsDown, next_row, behind_span}
 
 -- The records hold one placed forest and no other.
 abbrev pub HoldsOne : List SegmentType → Links → Type 0
@@ -75,7 +75,7 @@ abbrev pub AddressesAreRows : Type 0
 AddressesAreRows = (types : List SegmentType) (m : Links) (f : Forest Placed) → Holds types m f → RowsHaveAddresses m f
 
 -- The step from row i by pointers is the step by rows: its path leads down to it; first child and twin forward are the
--- first row of its own, of the type, and its next twin; and the next row, and the row behind its span.
+-- first row of its own, of the type, and its next twin; then the next row and the row behind its span, and their paths.
 pub record StepsAreRows (types : List SegmentType) (m : Links) (f : Forest Placed) (i : ℕ) : Type 0 where
   pub path : LeadsDown types m 0 (path_at types f i)
   pub tip : tip_from 0 (path_at types f i) ≡ address_at f i
@@ -85,6 +85,8 @@ pub record StepsAreRows (types : List SegmentType) (m : Links) (f : Forest Place
   pub twin : m.forward (address_at f i) ≡ option_map_or (λ j. address_at f j) (first_from (λ j. is_twin types (rows_of f) i j) (i + 1) (length (rows_of f))) 0
   pub next : next_row types m (path_at types f i) ≡ address_at f (i + 1)
   pub behind : behind_span types m (path_at types f i) ≡ address_at f (end_of types (rows_of f) i)
+  pub next_path : i + 1 < length (rows_of f) → path_at types f (i + 1) ≡ path_on types f i (i + 1)
+  pub behind_path : end_of types (rows_of f) i < length (rows_of f) → path_at types f (end_of types (rows_of f) i) ≡ path_on types f i (end_of types (rows_of f) i)
 
 -- Where a forest is held, the steps by pointers are those by rows, from each row and from the beginning.
 abbrev pub PointersFollowRows : Type 0

@@ -1,8 +1,8 @@
 -- Rows by their addresses, and the steps from row to row by pointers.
-use Rattle.std.specs.Prelude.{◌≡◌, ℕ, List, [], ◌∷◌, true, ◌==◌, nat_lt, cond, map, slice_index}
+use Rattle.std.specs.Prelude.{◌-◌, ◌++◌, take, ◌≡◌, ℕ, List, [], ◌∷◌, true, ◌==◌, nat_lt, cond, map, slice_index}
 use Rattle.hd_dbd.specs.Types.{SegmentType}
 use Rattle.hd_dbd.specs.Segment.{Segment}
-use Rattle.hd_dbd.specs.Paths.{path_of}
+use Rattle.hd_dbd.specs.Paths.{level_at, path_of}
 use Rattle.hd_dbd.specs.Forest.{Forest, sequence}
 use Rattle.hd_links.specs.Links.{Links, child_types, is_child_type}
 use Rattle.hd_links.specs.Placed.{Placed, forest_of}
@@ -25,6 +25,10 @@ address_at f i = slice_index (addresses f) i
 -- the addresses of a row and its parents, root first
 abbrev pub path_at : List SegmentType → Forest Placed → ℕ → List ℕ
 path_at types f i = map (λ k. address_at f k) (path_of types (rows_of f) i)
+
+-- the path of row i up to the level above row j, and then row j
+abbrev pub path_on : List SegmentType → Forest Placed → ℕ → ℕ → List ℕ
+path_on types f i j = take (level_at types (rows_of f) j - 1) (path_at types f i) ++ address_at f j ∷ []
 
 -- ---- paths by pointers
 
