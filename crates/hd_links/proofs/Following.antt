@@ -19,9 +19,12 @@ use Rattle.hd_links.specs.Steps.{rows_of, address_at, path_at, path_on, first_so
 use Rattle.hd_links.specs.Laws.{StepsAreRows, RowsHaveAddresses}
 use Rattle.hd_links.proofs.Types.{Ordered, above}
 use Rattle.hd_links.proofs.Forms.{Formed}
+use Rattle.hd_links.proofs.Joins.{IsOne}
+use Rattle.hd_links.proofs.Places.{chain_one}
+use Rattle.hd_links.specs.Pointers.{IsInChain}
 use Rattle.hd_links.proofs.Numbers.{map_end, skip_path, rows_length, head_at, row_is, address_is, AllDeeper, skip_end, nearest_from, skip_least, least_none, rows_addressed}
 use Rattle.hd_links.proofs.Ways.{first_below, head_both}
-use Rattle.hd_links.proofs.Standing.{UpTo, Siblings, RowAt, row_found, all_deeper, at_start, own_row, own_address, own_level, own_path, own_parent, own_down, own_tip, own_behind, children_at, siblings_at}
+use Rattle.hd_links.proofs.Standing.{UpTo, Siblings, RowAt, row_found, own_addresses, all_deeper, at_start, own_row, own_address, own_level, own_path, own_parent, own_down, own_tip, own_behind, children_at, siblings_at}
 
 -- the test finds the rows of one parent, or roots, and one code
 pub record Seeks (types : List SegmentType) (rows : List Segment) (q : Option ℕ) (t : ℕ) (test : ℕ → Bool) : Type 0 where
@@ -203,6 +206,68 @@ module _ (types : List SegmentType) (O : Ordered types) (leveled : Leveled types
       ∙ ap (path_above types (rows_of f) (level_at types (rows_of f) (i + 1) - 1 + 1)) next
       ∙ path_behind (level_at types (rows_of f) (i + 1) - 1) i (omega arith)))
 
+  -- ---- one path to each row
+
+  -- a sibling at an address
+  record SiblingAt (P : List ℕ) (q : Option ℕ) (h a : ℕ) : Type 0 where
+    number : ℕ
+    table : ℕ → ℕ
+    row : Placed
+    below : Forest Placed
+    after : Forest Placed
+    rest : List Placed
+    stands : Siblings types m f number P q h table (node row below after) rest
+    is : row.address ≡ a
+
+  sibling : (n : ℕ) (P : List ℕ) (q : Option ℕ) (h : ℕ) (b : ℕ → ℕ) (g : Forest Placed) (rest : List Placed) → Siblings types m f n P q h b g rest
+      → (t a : ℕ) → IsOne t a g → SiblingAt P q h a
+  sibling n P q h b empty rest S t a o = absurd o
+  sibling n P q h b (node r k g) rest S t a (inl e) = record { number = n; table = b; row = r; below = k; after = g; rest = rest; stands = S; is = e.0 }
+  sibling n P q h b (node r k g) rest S t a (inr o) =
+      sibling (n + 1 + length (sequence k)) P q h (with_node b r) g rest (siblings_at types O leveled bound m G f H n P q h b r k g rest S) t a o
+
+  -- the first step of a path that leads down
+  landing : (n : ℕ) (P : List ℕ) (q : Option ℕ) (h : ℕ) (b : ℕ → ℕ) (g : Forest Placed) (rest : List Placed) → Siblings types m f n P q h b g rest
+      → ((t : ℕ) → is_child_type types (m.code h) t ≡ true → m.first_child h t ≡ first_of g t)
+      → (a : ℕ) → is_child_type types (m.code h) (m.code a) ≡ true → IsInChain m (m.first_child h (m.code a)) a → SiblingAt P q h a
+  landing n P q h b g rest S all a typed c =
+      let chain : IsInChain m (first_of g (m.code a)) a = subst (λ x. IsInChain m x a) (all (m.code a) typed) c in
+      sibling n P q h b g rest S (m.code a) a (chain_one types m (m.code a) a b g S.stand chain.0 chain.1)
+
+  -- its path
+  landed : (P : List ℕ) (q : Option ℕ) (h a : ℕ) (D : SiblingAt P q h a) → map (λ k. address_at f k) (P ++ D.number ∷ []) ≡ map (λ k. address_at f k) P ++ a ∷ []
+  landed P q h a D =
+      own_addresses types O leveled bound m G f H D.number P q h D.table D.row D.below D.after D.rest D.stands ∙ ap (λ x. map (λ k. address_at f k) P ++ x ∷ []) D.is
+
+  descend : (i : ℕ) → i < length (rows_of f) → (n : ℕ) (P : List ℕ) (q : Option ℕ) (h : ℕ) (b : ℕ → ℕ) (g : Forest Placed) (rest : List Placed) → Siblings types m f n P q h b g rest
+      → ((t : ℕ) → is_child_type types (m.code h) t ≡ true → m.first_child h t ≡ first_of g t)
+      → (a : ℕ) (path : List ℕ) → LeadsDown types m h (a ∷ path) → tip_from a path ≡ address_at f i → map (λ k. address_at f k) P ++ (a ∷ path) ≡ path_at types f i
+  descend i within n P q h b g rest S all a [] L tip =
+      let A : RowsHaveAddresses m f = rows_addressed types m f H in
+      let D : SiblingAt P q h a = landing n P q h b g rest S all a L.0 L.1 in
+      let at : address_at f D.number ≡ a = own_address types O leveled bound m G f H D.number P q h D.table D.row D.below D.after D.rest D.stands ∙ D.is in
+      let long : length (rows_of f) ≡ D.number + (length (sequence (node D.row D.below D.after)) + length D.rest)
+      = left_over D.number P q h D.table (node D.row D.below D.after) D.rest D.stands in
+      let e : D.number ≡ i = A.once D.number i (omega arith) within (at ∙ tip) in
+      sym (landed P q h a D)
+      ∙ sym (ap (map (λ k. address_at f k)) (own_path types O leveled bound m G f H D.number P q h D.table D.row D.below D.after D.rest D.stands))
+      ∙ ap (path_at types f) e
+  descend i within n P q h b g rest S all a (c ∷ path) L tip =
+      let D : SiblingAt P q h a = landing n P q h b g rest S all a L.0 L.1 in
+      let code : m.code D.row.address ≡ D.row.segment.code = D.stands.stand.0.code in
+      sym (append_assoc (map (λ k. address_at f k) P) (a ∷ []) (c ∷ path))
+      ∙ ap (λ (x : List ℕ). x ++ (c ∷ path)) (sym (landed P q h a D))
+      ∙ descend i within (D.number + 1) (P ++ D.number ∷ []) (Some D.number) D.row.address nowhere D.below (sequence D.after ++ D.rest)
+      (children_at types O leveled bound m G f H D.number P q h D.table D.row D.below D.after D.rest D.stands)
+      (λ t w. D.stands.stand.0.children.first t (ap (λ x. is_child_type types x t) (sym code) ∙ w))
+      c path (subst (λ x. LeadsDown types m x (c ∷ path)) (sym D.is) L.2) tip
+
+  one_path : (i : ℕ) → i < length (rows_of f) → (path : List ℕ) → LeadsDown types m 0 path → tip_from 0 path ≡ address_at f i → path ≡ path_at types f i
+  one_path i within [] L tip = absurd (let A : RowsHaveAddresses m f = rows_addressed types m f H in let some : 0 < address_at f i = (A.there i within).some in omega arith)
+  one_path i within (a ∷ path) L tip =
+      descend i within 0 [] None 0 nowhere f [] (at_start types O leveled bound m G f H)
+      (λ t w. H.lies.roots.first t (ap (λ x. is_child_type types x t) (sym G.header_code) ∙ w)) a path L tip
+
   -- where the walk to the end of a span stops
   stops : (l : ℕ) (front rest : List Placed) → sequence f ≡ front ++ rest → UpTo types l rest → end_within types (rows_of f) l (length rest) (length front) ≡ length front
   stops l front [] whole low = refl
@@ -213,9 +278,6 @@ module _ (types : List SegmentType) (O : Ordered types) (leveled : Leveled types
       (le-leb (level_at types (rows_of f) (length front)) l (omega arith))
 
   module _ (i : ℕ) (F : RowAt types O leveled bound m G f H i) where
-    R : List Segment
-    R = rows_of f
-
     S : Siblings types m f i F.path F.parent F.holder F.table (node F.row F.below F.after) F.rest
     S = F.stands
 
@@ -351,10 +413,11 @@ module _ (types : List SegmentType) (O : Ordered types) (leveled : Leveled types
             let le : level types x.segment ≤ length F.path + 1 = u in omega arith)
 
     -- the steps from the row
-    pub stepped : StepsAreRows types m f i
-    stepped = record {
+    pub stepped : i < length (rows_of f) → StepsAreRows types m f i
+    stepped within = record {
       path = subst (LeadsDown types m 0) (sym path_is) (own_down types O leveled bound m G f H i F.path F.parent F.holder F.table F.row F.below F.after F.rest F.stands);
       tip = tip_is ∙ sym address;
+      only = one_path i within;
       first_child = child_found;
       twin = twin_found;
       next = next_found;

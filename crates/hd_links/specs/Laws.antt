@@ -74,11 +74,12 @@ pub record RowsHaveAddresses (m : Links) (f : Forest Placed) : Type 0 where
 abbrev pub AddressesAreRows : Type 0
 AddressesAreRows = (types : List SegmentType) (m : Links) (f : Forest Placed) → Holds types m f → RowsHaveAddresses m f
 
--- The step from row i by pointers is the step by rows: its path leads down to it; first child and twin forward are the
+-- The step from row i by pointers is the step by rows: its path leads down to it, and no other; first child and twin forward are the
 -- first row of its own, of the type, and its next twin; then the next row and the row behind its span, and their paths.
 pub record StepsAreRows (types : List SegmentType) (m : Links) (f : Forest Placed) (i : ℕ) : Type 0 where
   pub path : LeadsDown types m 0 (path_at types f i)
   pub tip : tip_from 0 (path_at types f i) ≡ address_at f i
+  pub only : (path : List ℕ) → LeadsDown types m 0 path → tip_from 0 path ≡ address_at f i → path ≡ path_at types f i
   pub first_child : (t : ℕ) → is_child_type types (row_at (rows_of f) i).code t ≡ true
       → m.first_child (address_at f i) t
       ≡ option_map_or (λ j. address_at f j) (first_from (λ j. option_eq (λ p q. p == q) (parent_row types (rows_of f) j) (Some i) && (row_at (rows_of f) j).code == t) (i + 1) (length (rows_of f))) 0

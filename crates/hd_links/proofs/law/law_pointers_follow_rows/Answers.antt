@@ -8,6 +8,6 @@ pub returns : goal.returns
 returns c block_size frspc types bound m f formed graph holds =
     let O = ordered block_size frspc types formed in
     let levels = leveled block_size frspc types formed in (
-      λ i within. stepped types O levels bound m graph f holds i (row_found types O levels bound m graph f holds i within),
+      λ i within. stepped types O levels bound m graph f holds i (row_found types O levels bound m graph f holds i within) within,
       first_found types O levels bound m graph f holds,
     )
