@@ -75,7 +75,7 @@ twins_trans types p q r code h k =
     (ap (λ (c : ℕ). bytes_ordered (type_of types c) p.bytes q.bytes) (sym code) ∙ h) k
 
 -- rows of one parent in order are twins in order, or the second is of a later type
-pub siblings_cases : (types : List SegmentType) (p r : Segment) → siblings_in_order types p r ≡ true → ((p.code ≡ r.code) × (twins_in_order types p r ≡ true)) ⊎ (p.code < r.code)
+siblings_cases : (types : List SegmentType) (p r : Segment) → siblings_in_order types p r ≡ true → ((p.code ≡ r.code) × (twins_in_order types p r ≡ true)) ⊎ (p.code < r.code)
 siblings_cases types p r h = elim (cases_eq p.code r.code) [
   | inl same ↦ inl (same, sym (cond-true (p.code == r.code) (twins_in_order types p r) (nat_lt p.code r.code) (eq-eqb p.code r.code same)) ∙ h)
   | inr other ↦ inr (ltb-true p.code r.code (sym (cond-false (p.code == r.code) (twins_in_order types p r) (nat_lt p.code r.code) (ne_eqb p.code r.code other)) ∙ h))

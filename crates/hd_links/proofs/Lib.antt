@@ -18,6 +18,7 @@ pub mod Ways
 pub mod Standing
 pub mod Following
 pub mod Broken
+pub mod Backward
 pub mod Sequels
 pub mod RowChanges
 mod WorkedImage

@@ -63,22 +63,38 @@ address_is f front (r ∷ rest) n whole number =
 
 -- ---- each address is one row
 
-occurs : ℕ → List Placed → ℕ
+-- how many of the nodes have the address
+pub occurs : ℕ → List Placed → ℕ
 occurs a [] = 0
 occurs a (p ∷ ps) = is_at p.address a + occurs a ps
 
-occurs_both : (a : ℕ) (xs ys : List Placed) → occurs a (xs ++ ys) ≡ occurs a xs + occurs a ys
+pub occurs_both : (a : ℕ) (xs ys : List Placed) → occurs a (xs ++ ys) ≡ occurs a xs + occurs a ys
 unfolding occurs
 occurs_both a [] ys = omega arith
 occurs_both a (x ∷ xs) ys = (let i : occurs a (xs ++ ys) ≡ occurs a xs + occurs a ys = occurs_both a xs ys in omega arith)
 
-occurs_count : (a : ℕ) (f : Forest Placed) → occurs a (sequence f) ≡ count a f
+pub occurs_count : (a : ℕ) (f : Forest Placed) → occurs a (sequence f) ≡ count a f
 unfolding occurs
 occurs_count a empty = refl
 occurs_count a (node r k n) =
     (let i : occurs a (sequence k) ≡ count a k = occurs_count a k in
     let j : occurs a (sequence n) ≡ count a n = occurs_count a n in
     let b : occurs a (sequence k ++ sequence n) ≡ occurs a (sequence k) + occurs a (sequence n) = occurs_both a (sequence k) (sequence n) in omega arith)
+
+-- the node of a number is in front of a place, or behind it
+pub front_occurs : (xs ys : List Placed) (k : ℕ) → k < length xs → 0 < occurs (slice_index (map (λ (p : Placed). p.address) (xs ++ ys)) k) xs
+unfolding occurs
+front_occurs [] ys k l = absurd (omega arith)
+front_occurs (x ∷ xs) ys zero l = (let o : is_at x.address x.address ≡ 1 = one_at x.address x.address refl in omega arith)
+front_occurs (x ∷ xs) ys (suc k) l = (let i : 0 < occurs (slice_index (map (λ (p : Placed). p.address) (xs ++ ys)) k) xs = front_occurs xs ys k (omega arith) in omega arith)
+
+pub back_occurs : (xs ys : List Placed) (k : ℕ) → length xs ≤ k → k < length xs + length ys → 0 < occurs (slice_index (map (λ (p : Placed). p.address) (xs ++ ys)) k) ys
+unfolding occurs
+back_occurs [] [] k l m = absurd (omega arith)
+back_occurs [] (y ∷ ys) zero l m = (let o : is_at y.address y.address ≡ 1 = one_at y.address y.address refl in omega arith)
+back_occurs [] (y ∷ ys) (suc k) l m = (let i : 0 < occurs (slice_index (map (λ (p : Placed). p.address) ([] ++ ys)) k) ys = back_occurs [] ys k (omega arith) (omega arith) in omega arith)
+back_occurs (x ∷ xs) ys zero l m = absurd (omega arith)
+back_occurs (x ∷ xs) ys (suc k) l m = back_occurs xs ys k (omega arith) (omega arith)
 
 index_of : (a : ℕ) (xs : List Placed) → 0 < occurs a xs → (i : ℕ) × (i < length xs) × (slice_index (map (λ (p : Placed). p.address) xs) i ≡ a)
 unfolding occurs

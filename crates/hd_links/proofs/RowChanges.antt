@@ -1,8 +1,8 @@
 -- Linking, unlinking and replacing, told of the rows by their numbers.
 use Rattle.std.proofs.Common.{◌≡◌, ℕ, suc, ◌+◌, ◌-◌, ◌<◌, ◌≤◌, List, [], ◌∷◌, ◌++◌, length, take, drop, get_or, Bool, true, false, ◌&&◌, arith, ap, ap₂, sym, ◌∙◌, refl, subst, cond, inl, inr, Option, Some}
-use Rattle.std.specs.Prelude.{◌==◌, nat_lt, nat_le, map, slice_set}
+use Rattle.std.specs.Prelude.{◌||◌, slice_index, ◌==◌, nat_lt, nat_le, map, slice_set}
 use Rattle.std.specs.Option.{option_map_or, option_eq}
-use Rattle.std.proofs.lemmas.Bool.{cases_eq, cases_Bool, cases_lt, and_parts, and_from, eq-eqb, ne_eqb, cond-true, cond-false, false≢true, lt-ltb, le-ltb, le-leb, lt-leb}
+use Rattle.std.proofs.lemmas.Bool.{or_left, or_right, cases_eq, cases_Bool, cases_lt, and_parts, and_from, eq-eqb, ne_eqb, cond-true, cond-false, false≢true, lt-ltb, le-ltb, le-leb, lt-leb}
 use Rattle.std.proofs.lemmas.List.{append_assoc, length-append, length-map, length-set, take_at, drop_at, get_or-map, get_or-set_same, get_or-set_other, same_lists}
 use Rattle.hd_dbd.specs.Types.{SegmentType}
 use Rattle.hd_dbd.specs.Segment.{Segment}
@@ -12,21 +12,22 @@ use Rattle.hd_dbd.specs.Forest.{Forest, empty, node, sequence}
 use Rattle.hd_dbd.proofs.LevelLaw.{Leveled}
 use Rattle.hd_dbd.proofs.Names.{option_eq-Decides}
 use Rattle.hd_links.specs.Links.{Links, IsLinkGraph, is_child_type}
-use Rattle.hd_links.specs.Placed.{Placed, first_of, nowhere, with_node, Holds}
+use Rattle.hd_links.specs.Placed.{Placed, count, first_of, nowhere, with_node, Holds}
 use Rattle.hd_links.specs.Pointers.{IsTwinAfter}
 use Rattle.hd_links.specs.Changes.{put_first, put_behind, take_out, with_leaf, without_span, rewritten, with_bytes, CanLink, CanUnlink}
 use Rattle.hd_links.specs.Steps.{rows_of, addresses, address_at}
-use Rattle.hd_links.specs.Laws.{RowsHaveAddresses, LeafGoesInAt}
+use Rattle.hd_links.specs.Laws.{RowsHaveAddresses, LeafGoesInAt, RowsLeave}
 use Rattle.hd_links.proofs.Types.{Ordered, in_cases}
 use Rattle.hd_links.proofs.Forms.{Formed, none_of}
 use Rattle.hd_links.proofs.Unique.{same}
 use Rattle.hd_links.proofs.Build.{zero_or}
 use Rattle.hd_links.proofs.Joins.{IsOne, first_one}
-use Rattle.hd_links.proofs.Lift.{Spot, spot}
+use Rattle.hd_links.proofs.Counts.{absent}
+use Rattle.hd_links.proofs.Lift.{Spot, spot, at_most_once}
 use Rattle.hd_links.proofs.Places.{chain_one}
 use Rattle.hd_links.proofs.Gaps.{next_one}
 use Rattle.hd_links.proofs.Replacing.{address_kept}
-use Rattle.hd_links.proofs.Numbers.{rows_map, rows_length, rows_addressed, skip_least}
+use Rattle.hd_links.proofs.Numbers.{occurs, occurs_both, occurs_count, front_occurs, back_occurs, rows_map, rows_length, rows_addressed, skip_least}
 use Rattle.hd_links.proofs.Standing.{Siblings, RowAt, row_found, own_row, own_address, own_parent, children_at, siblings_at}
 use Rattle.hd_links.proofs.Following.{inside, end_is}
 use Rattle.hd_links.proofs.Sequels.{Around, around, number_is, span_end, InRow, in_row, lesser, FirstIn, first_in, put_in}
@@ -185,7 +186,7 @@ module _ (types : List SegmentType) (O : Ordered types) (leveled : Leveled types
   -- ---- a span
 
   pub span_out : (h y a i : ℕ) → CanUnlink types m h y a → i < length (rows_of f) → address_at f i ≡ a
-      → sequence (without_span h a f) ≡ take i (sequence f) ++ drop (end_of types (rows_of f) i) (sequence f)
+      → RowsLeave m f h y a i (end_of types (rows_of f) i)
   span_out h y a i C within at =
       let T = spot types O bound m G f H h C.parent in
       let K : Forest Placed = T.0 in
@@ -214,11 +215,63 @@ module _ (types : List SegmentType) (O : Ordered types) (leveled : Leveled types
       = span_end types O leveled bound m G f H i within (D.before ++ I.front) I.table I.row I.under I.after (I.rest ++ D.behind) whole (at ∙ sym I.is) I.stands I.stand I.formed in
       let long : length ((D.before ++ I.front) ++ (I.row ∷ sequence I.under)) ≡ length (D.before ++ I.front) + length (I.row ∷ sequence I.under)
       = length-append (D.before ++ I.front) (I.row ∷ sequence I.under) in
-      changed
-      ∙ ap₂ (λ (u v : List Placed). u ++ v)
-      (sym (ap (take i) whole ∙ take_at (D.before ++ I.front) (I.row ∷ (sequence I.under ++ (I.rest ++ D.behind))) i num))
-      (sym (ap (drop (end_of types (rows_of f) i)) (whole ∙ span_front D.before I.front I.row (sequence I.under) (I.rest ++ D.behind))
-      ∙ drop_at ((D.before ++ I.front) ++ (I.row ∷ sequence I.under)) (I.rest ++ D.behind) (end_of types (rows_of f) i) (omega arith)))
+      let e : ℕ = end_of types (rows_of f) i in
+      let X : List Placed = D.before ++ I.front in
+      let M : List Placed = I.row ∷ sequence I.under in
+      let Z : List Placed = I.rest ++ D.behind in
+      let cut : sequence f ≡ (X ++ M) ++ Z = whole ∙ span_front D.before I.front I.row (sequence I.under) Z in
+      let A : RowsHaveAddresses m f = rows_addressed types m f H in
+      let len : length (rows_of f) ≡ length (sequence f) = rows_length f in
+      let all_long : length (sequence f) ≡ length (X ++ M) + length Z = ap (λ (x : List Placed). length x) cut ∙ length-append (X ++ M) Z in
+      let xm_long : length (X ++ M) ≡ length X + length M = length-append X M in
+      let mz_long : length (M ++ Z) ≡ length M + length Z = length-append M Z in
+      let counted : (b : ℕ) → count b f ≡ occurs b X + (occurs b M + occurs b Z) = (λ b.
+      sym (occurs_count b f) ∙ ap (occurs b) (cut ∙ append_assoc X M Z) ∙ occurs_both b X (M ++ Z) ∙ ap (λ x. occurs b X + x) (occurs_both b M Z)) in
+      let kept : (b : ℕ) → count b (without_span h a f) ≡ occurs b X + occurs b Z = (λ b.
+      sym (occurs_count b (without_span h a f)) ∙ ap (occurs b) changed ∙ occurs_both b X Z) in
+      record {
+        rows =
+            changed
+            ∙ ap₂ (λ (u v : List Placed). u ++ v)
+            (sym (ap (take i) whole ∙ take_at (D.before ++ I.front) (I.row ∷ (sequence I.under ++ (I.rest ++ D.behind))) i num))
+            (sym (ap (drop (end_of types (rows_of f) i)) (whole ∙ span_front D.before I.front I.row (sequence I.under) (I.rest ++ D.behind))
+            ∙ drop_at ((D.before ++ I.front) ++ (I.row ∷ sequence I.under)) (I.rest ++ D.behind) (end_of types (rows_of f) i) (omega arith)));
+        left = λ k below.
+            (let b : ℕ = address_at f k in
+            let some : 0 < b = (A.there k below).some in
+            let one : count b f ≤ 1 = at_most_once types m f H b in
+            let c : count b f ≡ occurs b X + (occurs b M + occurs b Z) = counted b in
+            let d : count b (without_span h a f) ≡ occurs b X + occurs b Z = kept b in
+            let no_zero : (b == 0) ≡ false = ne_eqb b 0 (λ (z : b ≡ 0). omega arith) in
+            elim (cases_lt k i) [
+              | inl before ↦
+                  (let o : 0 < occurs b X = subst (λ (x : List Placed). 0 < occurs (slice_index (map (λ (p : Placed). p.address) x) k) X) (sym (cut ∙ append_assoc X M Z)) (front_occurs X (M ++ Z) k (omega arith)) in
+                  let l : 0 < count b (without_span h a f) = omega arith in
+                  or_right (b == 0) (nat_lt 0 (count b (without_span h a f))) (lt-ltb 0 (count b (without_span h a f)) l)
+                  ∙ sym (or_left (nat_lt k i) (nat_le e k) (lt-ltb k i before)))
+              | inr from ↦ elim (cases_lt k e) [
+                | inl inside ↦
+                    (let o : 0 < occurs b (M ++ Z)
+                    = subst (λ (x : List Placed). 0 < occurs (slice_index (map (λ (p : Placed). p.address) x) k) (M ++ Z)) (sym (cut ∙ append_assoc X M Z)) (back_occurs X (M ++ Z) k (omega arith) (omega arith)) in
+                    let o2 : occurs b (M ++ Z) ≡ occurs b M + occurs b Z = occurs_both b M Z in
+                    let u : 0 < occurs b (X ++ M)
+                    = subst (λ (x : List Placed). 0 < occurs (slice_index (map (λ (p : Placed). p.address) x) k) (X ++ M)) (sym cut) (front_occurs (X ++ M) Z k (omega arith)) in
+                    let u2 : occurs b (X ++ M) ≡ occurs b X + occurs b M = occurs_both b X M in
+                    ap₂ (λ u v. u || v) no_zero (le-ltb 0 (count b (without_span h a f)) (omega arith))
+                    ∙ sym (ap₂ (λ u v. u || v) (le-ltb k i from) (lt-leb e k inside)))
+                | inr past ↦
+                    (let o : 0 < occurs b Z = subst (λ (x : List Placed). 0 < occurs (slice_index (map (λ (p : Placed). p.address) x) k) Z) (sym cut) (back_occurs (X ++ M) Z k (omega arith) (omega arith)) in
+                    let l : 0 < count b (without_span h a f) = omega arith in
+                    or_right (b == 0) (nat_lt 0 (count b (without_span h a f))) (lt-ltb 0 (count b (without_span h a f)) l)
+                    ∙ sym (or_right (nat_lt k i) (nat_le e k) (le-leb e k past)))
+              ]
+            ]);
+        others = λ b gone.
+            (let z : count b f ≡ 0 = absent types m b nowhere f H.lies.nodes gone in
+            let c : count b f ≡ occurs b X + (occurs b M + occurs b Z) = counted b in
+            let d : count b (without_span h a f) ≡ occurs b X + occurs b Z = kept b in
+            ap₂ (λ u v. u || v) (ne_eqb b 0 (λ (q : b ≡ 0). false≢true (sym gone ∙ ap m.here q ∙ G.header))) (le-ltb 0 (count b (without_span h a f)) (omega arith)));
+      }
 
 -- ---- bytes
 

@@ -1,5 +1,5 @@
 -- Laws of the linked forest, for every well-formed list of types.
-use Rattle.std.specs.Prelude.{◌∷◌, ◌++◌, take, drop, slice_set, nat_le, ◌≡◌, ℕ, ◌+◌, ◌<◌, List, [], length, true, ◌&&◌, ◌==◌, Some, IsTrue}
+use Rattle.std.specs.Prelude.{false, nat_lt, ◌||◌, ◌∷◌, ◌++◌, take, drop, slice_set, nat_le, ◌≡◌, ℕ, ◌+◌, ◌<◌, List, [], length, true, ◌&&◌, ◌==◌, Some, IsTrue}
 use Rattle.std.specs.Option.{option_map_or, option_eq}
 use Rattle.hd_dbd.specs.declared.hierarchy.FreeSpace.{FreeSpace}
 use Rattle.hd_dbd.specs.Types.{SegmentType}
@@ -9,9 +9,9 @@ use Rattle.hd_dbd.specs.Rows.{twins_in_order}
 use Rattle.hd_dbd.specs.Paths.{row_at, parent_row, end_of, is_twin}
 use Rattle.hd_dbd.specs.Gets.{first_from}
 use Rattle.hd_dbd.specs.Forest.{Forest, sequence}
-use Rattle.hd_links.specs.Links.{Links, IsSegment, IsLinkGraph, segment_at, is_child_type, is_last_kept}
+use Rattle.hd_links.specs.Links.{Links, IsSegment, IsLinkGraph, segment_at, is_child_type, is_backward_kept, is_last_kept}
 use Rattle.hd_links.specs.Placed.{Placed, forest_of, count, Lies, Holds}
-use Rattle.hd_links.specs.Pointers.{Precedes, IsTwinAfter, IsReached, AreLinked}
+use Rattle.hd_links.specs.Pointers.{Precedes, IsTwinAfter, IsInChain, IsReached, AreLinked}
 use Rattle.hd_links.specs.Changes.{AgreeAt, Agree, linked, unlinked, replaced, with_leaf, without_span, with_bytes, CanLink, CanUnlink, CanReplace}
 use Rattle.hd_links.specs.Steps.{rows_of, addresses, address_at, path_at, path_on, tip_from, LeadsDown, next_row, behind_span}
 
@@ -114,13 +114,26 @@ LeavesGoInBetweenRows =
     → IsTrue (well_formed block_size frspc types) → IsLinkGraph types bound m → Holds types m f → CanLink types m h y p
     → (n : ℕ) × LeafGoesInAt types f h y p n
 
+-- Rows i up to number e leave: the rows before and behind them stay, and so do their records.
+pub record RowsLeave (m : Links) (f : Forest Placed) (h y a i e : ℕ) : Type 0 where
+  pub rows : sequence (without_span h a f) ≡ take i (sequence f) ++ drop e (sequence f)
+  pub left : (k : ℕ) → k < length (rows_of f) → (unlinked m h y a (without_span h a f)).here (address_at f k) ≡ (nat_lt k i || nat_le e k)
+  pub others : (b : ℕ) → m.here b ≡ false → (unlinked m h y a (without_span h a f)).here b ≡ false
+
 -- A span that is unlinked is the rows from its first to its end.
 abbrev pub SpansAreRowsToTheirEnd : Type 0
 SpansAreRowsToTheirEnd =
     (block_size : ℕ) (frspc : FreeSpace) (types : List SegmentType) (bound : ℕ) (m : Links) (f : Forest Placed) (h y a i : ℕ)
     → IsTrue (well_formed block_size frspc types) → IsLinkGraph types bound m → Holds types m f → CanUnlink types m h y a
-    → i < length (rows_of f) → address_at f i ≡ a
-    → sequence (without_span h a f) ≡ take i (sequence f) ++ drop (end_of types (rows_of f) i) (sequence f)
+    → i < length (rows_of f) → address_at f i ≡ a → RowsLeave m f h y a i (end_of types (rows_of f) i)
+
+-- Where twin backward is kept it names the twin behind which a span is unlinked, or 0 for the first.
+abbrev pub BackwardNamesTheTwinBefore : Type 0
+BackwardNamesTheTwinBefore =
+    (block_size : ℕ) (frspc : FreeSpace) (types : List SegmentType) (bound : ℕ) (m : Links) (f : Forest Placed) (h a : ℕ)
+    → IsTrue (well_formed block_size frspc types) → IsLinkGraph types bound m → Holds types m f
+    → m.here h ≡ true → is_child_type types (m.code h) (m.code a) ≡ true → IsInChain m (m.first_child h (m.code a)) a → is_backward_kept types (m.code a) ≡ true
+    → CanUnlink types m h (m.backward a) a
 
 -- Bytes that are replaced change one row, and no address.
 abbrev pub BytesChangeOneRow : Type 0

@@ -1,4 +1,4 @@
-ghost use Rattle.hd_links.specs.Laws.{PointersDecide, HeldTwinsAscend, LiesByItsPlaces, LinkingAddsALeaf, UnlinkingTakesASpan, ReplacingChangesBytes, AddressesAreRows, PointersFollowRows, BrokenRecordsHoldNone, LeavesGoInBetweenRows, SpansAreRowsToTheirEnd, BytesChangeOneRow};
+ghost use Rattle.hd_links.specs.Laws.{PointersDecide, HeldTwinsAscend, LiesByItsPlaces, LinkingAddsALeaf, UnlinkingTakesASpan, ReplacingChangesBytes, AddressesAreRows, PointersFollowRows, BrokenRecordsHoldNone, LeavesGoInBetweenRows, SpansAreRowsToTheirEnd, BytesChangeOneRow, BackwardNamesTheTwinBefore};
 
 /// The pointers of a database's records decide which forest they hold.
 pub fn law_pointers_decide()
@@ -49,6 +49,11 @@ pub fn law_leaves_go_in_between_rows()
 /// A span that is unlinked is the rows from its first to its end.
 pub fn law_spans_are_rows_to_their_end()
     ensures { SpansAreRowsToTheirEnd }
+{}
+
+/// Where twin backward is kept it names the twin behind which a span is unlinked, or 0 for the first.
+pub fn law_backward_names_the_twin_before()
+    ensures { BackwardNamesTheTwinBefore }
 {}
 
 /// Bytes that are replaced change one row, and no address.
