@@ -1,6 +1,7 @@
 -- The sample image of the documents, worked: its records hold the sample's forest.
-use Rattle.std.proofs.Common.{◌≡◌, ℕ, ◌<◌, List, [], ◌∷◌, true, arith, refl, subst, cond, inl, inr}
+use Rattle.std.proofs.Common.{◌≡◌, ℕ, zero, suc, ◌<◌, List, [], ◌∷◌, true, arith, ap, sym, ◌∙◌, refl, subst, cond, inl, inr}
 use Rattle.std.specs.Prelude.{◌==◌, codes}
+use Rattle.std.proofs.lemmas.Bool.{cases_eq, eq-eqb, ne_eqb, cond-true, cond-false}
 use Rattle.hd_dbd.specs.Segment.{Segment}
 use Rattle.hd_dbd.specs.Rows.{row_fits}
 use Rattle.hd_dbd.specs.Sample.{sample_types, sample_rows, row}
@@ -9,14 +10,11 @@ use Rattle.hd_dbd.proofs.WorkedSample.{sample_is_well_formed}
 use Rattle.hd_links.specs.Links.{Links, IsSegment, IsLinkGraph, segment_at, is_last_kept}
 use Rattle.hd_links.specs.Placed.{Placed, count, first_of, last_of, NamesChildren, Lies, Holds}
 use Rattle.hd_links.specs.Steps.{rows_of, path_at, next_row, behind_span}
-use Rattle.hd_links.specs.Laws.{HoldNone}
+use Rattle.hd_links.specs.Pointers.{Precedes, IsReached}
+use Rattle.hd_links.proofs.Build.{zero_or}
+use Rattle.hd_links.specs.Laws.{HoldNone, BrokenRecords}
 use Rattle.hd_links.proofs.Types.{is_in, in_cases, ordered}
 use Rattle.hd_links.proofs.Broken.{broken}
-
--- what a list of pairs has for a number, 0 where it has none
-found : List (ℕ × ℕ) → ℕ → ℕ
-found [] a = 0
-found (x ∷ xs) a = cond (x.0 == a) x.1 (found xs a)
 
 -- the records of the image
 abbrev places : List ℕ
@@ -189,7 +187,13 @@ steps_worked = (refl, refl, refl, refl, refl, refl)
 path_worked : path_at sample_types sample_forest 3 ≡ 136 ∷ 176 ∷ 216 ∷ []
 path_worked = refl
 
--- ---- a ring of two books beside it, which nothing names
+-- ---- images that hold no forest
+
+-- broken records over the image's segments
+broken_image : (m : Links) → IsLinkGraph sample_types 512 m → BrokenRecords sample_types m
+broken_image m G = broken sample_types (ordered 128 (record { fbff = 0; fspf = 0 }) sample_types sample_is_well_formed) 512 m G
+
+-- a ring of two books beside it, which nothing names
 
 abbrev ring : Links
 ring = record {
@@ -224,5 +228,77 @@ ring_graph = record {
 -- they hold no forest
 pub ring_holds_none : HoldNone sample_types ring
 ring_holds_none =
-    (broken sample_types (ordered 128 (record { fbff = 0; fspf = 0 }) sample_types sample_is_well_formed) 512 ring ring_graph).ring 320 1 (record { some = omega arith; here = refl })
+    (broken_image ring ring_graph).ring 320 1 (record { some = omega arith; here = refl })
     (omega arith, (omega arith, refl))
+
+-- the second course names the second class too, which is the first class's twin
+abbrev twice : Links
+twice = record image { first_child = λ a t. cond (a == 280) (cond (t == 2) 232 0) (image.first_child a t) }
+
+twice_graph : IsLinkGraph sample_types 512 twice
+twice_graph = record {
+  header = refl;
+  header_code = refl;
+  fits = λ a s. sample_graph.fits a (record { some = s.some; here = s.here });
+  below = λ a s. sample_graph.below a (record { some = s.some; here = s.here });
+}
+
+pub twice_holds_none : HoldNone sample_types twice
+twice_holds_none =
+    (broken_image twice twice_graph).twice 232 176 280 (record { some = omega arith; here = refl })
+    (inl (record { holder = record { some = omega arith; here = refl }; names = refl }))
+    (inr (2, record { holder = refl; typed = refl; names = refl })) (λ (e : 176 ≡ 280). omega arith)
+
+-- the first course's last class is its first, behind which a twin stands
+abbrev middle : Links
+middle = record image { last_child = λ a t. cond (a == 136) (cond (t == 2) 176 264) (image.last_child a t) }
+
+middle_graph : IsLinkGraph sample_types 512 middle
+middle_graph = record {
+  header = refl;
+  header_code = refl;
+  fits = λ a s. sample_graph.fits a (record { some = s.some; here = s.here });
+  below = λ a s. sample_graph.below a (record { some = s.some; here = s.here });
+}
+
+pub middle_holds_none : HoldNone sample_types middle
+middle_holds_none = (broken_image middle middle_graph).middle 136 2 refl refl refl (omega arith) (omega arith)
+
+-- the first course names no book
+abbrev unnamed : Links
+unnamed = record image { first_child = λ a t. cond (a == 136) (cond (t == 2) 176 0) (image.first_child a t); last_child = λ a t. cond (a == 136) (cond (t == 2) 232 0) (image.last_child a t) }
+
+unnamed_graph : IsLinkGraph sample_types 512 unnamed
+unnamed_graph = record {
+  header = refl;
+  header_code = refl;
+  fits = λ a s. sample_graph.fits a (record { some = s.some; here = s.here });
+  below = λ a s. sample_graph.below a (record { some = s.some; here = s.here });
+}
+
+differ : (a b : ℕ) → (a ≡ b → ⊥) → a ≡ b → ⊥
+differ a b ne e = ne e
+
+-- no record names the book
+no_holder : (h : ℕ) → Precedes sample_types unnamed h 264 → ⊥
+no_holder h (inl T) =
+    each_place (λ a. unnamed.forward a ≡ 264 → ⊥) (λ (e : 280 ≡ 264). omega arith) (λ (e : 232 ≡ 264). omega arith) (λ (e : 216 ≡ 264). omega arith)
+    (λ (e : 0 ≡ 264). omega arith) (λ (e : 0 ≡ 264). omega arith) (λ (e : 0 ≡ 264). omega arith) (λ (e : 0 ≡ 264). omega arith) h
+    (record { some = T.holder.some; here = T.holder.here }) T.names
+no_holder h (inr P) = elim (zero_or h) [
+  | inl z ↦ absurd (differ 136 264 (λ (e : 136 ≡ 264). omega arith) (ap (λ x. unnamed.first_child x P.0) (sym z) ∙ P.1.names))
+  | inr some ↦ each_place (λ a. (t : ℕ) → unnamed.first_child a t ≡ 264 → ⊥)
+      (λ t e. elim (cases_eq t 2) [
+        | inl q ↦ differ 176 264 (λ (e : 176 ≡ 264). omega arith) (sym (cond-true (t == 2) 176 0 (eq-eqb t 2 q)) ∙ e)
+        | inr q ↦ differ 0 264 (λ (e : 0 ≡ 264). omega arith) (sym (cond-false (t == 2) 176 0 (ne_eqb t 2 q)) ∙ e)
+      ])
+      (λ t (e : 200 ≡ 264). omega arith) (λ t (e : 0 ≡ 264). omega arith) (λ t (e : 0 ≡ 264). omega arith) (λ t (e : 0 ≡ 264). omega arith)
+      (λ t (e : 0 ≡ 264). omega arith) (λ t (e : 0 ≡ 264). omega arith) h (record { some = some; here = P.1.holder }) P.0 P.1.names
+]
+
+unnamed_unreached : (n : ℕ) → IsReached sample_types unnamed n 264 → ⊥
+unnamed_unreached zero w = differ 264 0 (λ (e : 264 ≡ 0). omega arith) w
+unnamed_unreached (suc n) w = no_holder w.1.0 w.1.2
+
+pub unnamed_holds_none : HoldNone sample_types unnamed
+unnamed_holds_none = (broken_image unnamed unnamed_graph).unreached 264 (record { some = omega arith; here = refl }) unnamed_unreached
