@@ -3,7 +3,7 @@ use Rattle.std.proofs.Common.{◌≡◌, ℕ, zero, suc, ◌+◌, ◌<◌, List,
 use Rattle.hd_dbd.specs.Types.{SegmentType}
 use Rattle.hd_links.specs.Links.{Links, IsSegment, IsLinkGraph}
 use Rattle.hd_links.specs.Pointers.{IsTwinAfter, IsReached, AreLinked}
-use Rattle.hd_links.specs.Laws.{BrokenRecords}
+use Rattle.hd_links.specs.Broken.{BrokenRecords}
 use Rattle.hd_links.proofs.Types.{Ordered}
 use Rattle.hd_links.proofs.Build.{reached_once}
 use Rattle.hd_links.proofs.Sound.{are_linked}

@@ -15,8 +15,7 @@ use Rattle.hd_dbd.proofs.LevelLaw.{Leveled, depth_below}
 use Rattle.hd_dbd.proofs.Names.{option_eq-Decides}
 use Rattle.hd_links.specs.Links.{Links, IsLinkGraph, child_types, is_child_type}
 use Rattle.hd_links.specs.Placed.{Placed, first_of, nowhere, with_node, Holds}
-use Rattle.hd_links.specs.Steps.{rows_of, address_at, path_at, path_on, first_some, child_among, behind_from, tip_from, LeadsDown, next_row, behind_span}
-use Rattle.hd_links.specs.Laws.{StepsAreRows, RowsHaveAddresses}
+use Rattle.hd_links.specs.Steps.{rows_of, address_at, path_at, path_on, first_some, child_among, behind_from, tip_from, LeadsDown, next_row, behind_span, StepsAreRows, RowsHaveAddresses}
 use Rattle.hd_links.proofs.Types.{Ordered, above}
 use Rattle.hd_links.proofs.Forms.{Formed}
 use Rattle.hd_links.proofs.Joins.{IsOne}

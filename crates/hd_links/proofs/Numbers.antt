@@ -11,8 +11,7 @@ use Rattle.hd_dbd.specs.Rows.{level}
 use Rattle.hd_dbd.specs.Forest.{Forest, empty, node, sequence}
 use Rattle.hd_links.specs.Links.{Links, segment_at}
 use Rattle.hd_links.specs.Placed.{Placed, count, nowhere, with_node, StandAll, Holds}
-use Rattle.hd_links.specs.Steps.{rows_of, addresses, address_at}
-use Rattle.hd_links.specs.Laws.{RowsHaveAddresses}
+use Rattle.hd_links.specs.Steps.{rows_of, addresses, address_at, RowsHaveAddresses}
 use Rattle.hd_links.proofs.Forms.{segment_is}
 use Rattle.hd_links.proofs.Build.{zero_or}
 use Rattle.hd_links.proofs.Counts.{is_at, one_at, none_at, node_there}

@@ -15,8 +15,8 @@ use Rattle.hd_links.specs.Links.{Links, IsLinkGraph, is_child_type}
 use Rattle.hd_links.specs.Placed.{Placed, count, first_of, nowhere, with_node, Holds}
 use Rattle.hd_links.specs.Pointers.{IsTwinAfter}
 use Rattle.hd_links.specs.Changes.{put_first, put_behind, take_out, with_leaf, without_span, rewritten, with_bytes, CanLink, CanUnlink}
-use Rattle.hd_links.specs.Steps.{rows_of, addresses, address_at}
-use Rattle.hd_links.specs.Laws.{RowsHaveAddresses, LeafGoesInAt, RowsLeave}
+use Rattle.hd_links.specs.Steps.{rows_of, addresses, address_at, RowsHaveAddresses}
+use Rattle.hd_links.specs.Numbers.{LeafGoesInAt, RowsLeave}
 use Rattle.hd_links.proofs.Types.{Ordered, in_cases}
 use Rattle.hd_links.proofs.Forms.{Formed, none_of}
 use Rattle.hd_links.proofs.Unique.{same}

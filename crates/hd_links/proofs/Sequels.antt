@@ -10,8 +10,7 @@ use Rattle.hd_dbd.proofs.LevelLaw.{Leveled}
 use Rattle.hd_links.specs.Links.{Links, IsLinkGraph, is_child_type}
 use Rattle.hd_links.specs.Placed.{Placed, count, nowhere, with_node, StandAll, Stands, Holds}
 use Rattle.hd_links.specs.Changes.{put_first, put_behind, take_out, change_below, with_children}
-use Rattle.hd_links.specs.Steps.{rows_of, address_at}
-use Rattle.hd_links.specs.Laws.{RowsHaveAddresses}
+use Rattle.hd_links.specs.Steps.{rows_of, address_at, RowsHaveAddresses}
 use Rattle.hd_links.proofs.Types.{Ordered}
 use Rattle.hd_links.proofs.Forms.{Formed, none_of}
 use Rattle.hd_links.proofs.Unique.{same}

@@ -12,7 +12,7 @@ use Rattle.hd_links.specs.Placed.{Placed, count, first_of, last_of, NamesChildre
 use Rattle.hd_links.specs.Steps.{rows_of, path_at, next_row, behind_span}
 use Rattle.hd_links.specs.Pointers.{Precedes, IsReached}
 use Rattle.hd_links.proofs.Build.{zero_or}
-use Rattle.hd_links.specs.Laws.{HoldNone, BrokenRecords}
+use Rattle.hd_links.specs.Broken.{HoldNone, BrokenRecords}
 use Rattle.hd_links.proofs.Types.{is_in, in_cases, ordered}
 use Rattle.hd_links.proofs.Broken.{broken}
 
