@@ -16,6 +16,8 @@ pub mod Replacing
 pub mod Numbers
 pub mod Ways
 pub mod Standing
+pub mod Scans
+pub mod PathSteps
 pub mod Following
 pub mod Broken
 pub mod Backward

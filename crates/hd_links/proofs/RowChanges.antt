@@ -29,7 +29,8 @@ use Rattle.hd_links.proofs.Gaps.{next_one}
 use Rattle.hd_links.proofs.Replacing.{address_kept}
 use Rattle.hd_links.proofs.Numbers.{occurs, occurs_both, occurs_count, front_occurs, back_occurs, rows_map, rows_length, rows_addressed, skip_least}
 use Rattle.hd_links.proofs.Standing.{Siblings, RowAt, row_found, own_row, own_address, own_parent, children_at, siblings_at}
-use Rattle.hd_links.proofs.Following.{inside, end_is}
+use Rattle.hd_links.proofs.Scans.{inside}
+use Rattle.hd_links.proofs.Following.{end_is}
 use Rattle.hd_links.proofs.Sequels.{Around, around, number_is, span_end, InRow, in_row, lesser, FirstIn, first_in, put_in}
 
 -- the rows up to one's span, and those behind it
