@@ -20,6 +20,7 @@ pub mod Scans
 pub mod PathSteps
 pub mod Following
 pub mod Broken
+pub mod Ends
 pub mod Backward
 pub mod Sequels
 pub mod RowChanges

@@ -9,7 +9,7 @@ use Rattle.hd_dbd.specs.Paths.{row_at, end_of, is_twin}
 use Rattle.hd_dbd.specs.Forest.{Forest, sequence}
 use Rattle.hd_links.specs.Links.{Links, IsLinkGraph, is_child_type, is_backward_kept}
 use Rattle.hd_links.specs.Placed.{Placed, forest_of, count, Lies, Holds}
-use Rattle.hd_links.specs.Pointers.{IsInChain, AreLinked}
+use Rattle.hd_links.specs.Pointers.{IsInChain, AreLinked, PointersAreTyped, PredecessorsAreOne, IsTwinAfter}
 use Rattle.hd_links.specs.Changes.{AgreeAt, Agree, linked, unlinked, replaced, with_leaf, without_span, with_bytes, CanLink, CanUnlink, CanReplace}
 use Rattle.hd_links.specs.Steps.{rows_of, addresses, address_at, RowsHaveAddresses, next_row, StepsAreRows}
 use Rattle.hd_links.specs.Numbers.{LeafGoesInAt, RowsLeave}
@@ -25,6 +25,15 @@ PointersDecide =
     (block_size : ℕ) (frspc : FreeSpace) (types : List SegmentType) (bound : ℕ) (m : Links) → IsTrue (well_formed block_size frspc types)
     → IsLinkGraph types bound m
     → (AreLinked types m → HoldsOne types m) × ((f : Forest Placed) → Holds types m f → AreLinked types m)
+
+-- Where each pointer is of its type and each segment has one predecessor, each chain of twins from a first child ends, within
+-- as many twins as there are addresses.
+abbrev pub ChainsEnd : Type 0
+ChainsEnd =
+    (block_size : ℕ) (frspc : FreeSpace) (types : List SegmentType) (bound : ℕ) (m : Links) (h t : ℕ) → IsTrue (well_formed block_size frspc types)
+    → IsLinkGraph types bound m → PointersAreTyped types m → PredecessorsAreOne types m
+    → m.here h ≡ true → is_child_type types (m.code h) t ≡ true → 0 < m.first_child h t
+    → (n : ℕ) × (l : ℕ) × (n < bound) × IsTwinAfter m n (m.first_child h t) l × (m.forward l ≡ 0)
 
 -- Of any two twins of a forest that is held, the earlier is in key order before the later.
 abbrev pub HeldTwinsAscend : Type 0

@@ -1,8 +1,14 @@
-ghost use Rattle.hd_links.specs.Laws.{PointersDecide, HeldTwinsAscend, LiesByItsPlaces, LinkingAddsALeaf, UnlinkingTakesASpan, ReplacingChangesBytes, AddressesAreRows, PointersFollowRows, BrokenRecordsHoldNone, LeavesGoInBetweenRows, SpansAreRowsToTheirEnd, BytesChangeOneRow, BackwardNamesTheTwinBefore};
+ghost use Rattle.hd_links.specs.Laws.{PointersDecide, HeldTwinsAscend, LiesByItsPlaces, LinkingAddsALeaf, UnlinkingTakesASpan, ReplacingChangesBytes, AddressesAreRows, PointersFollowRows, BrokenRecordsHoldNone, LeavesGoInBetweenRows, SpansAreRowsToTheirEnd, BytesChangeOneRow, BackwardNamesTheTwinBefore, ChainsEnd};
 
 /// The pointers of a database's records decide which forest they hold.
 pub fn law_pointers_decide()
     ensures { PointersDecide }
+{}
+
+/// Each chain of twins from a first child ends, where each pointer is of its type and each segment has one predecessor:
+/// what a walk along the twins may rest on before keys and paths are judged.
+pub fn law_chains_end()
+    ensures { ChainsEnd }
 {}
 
 /// Of any two twins of a forest that is held, the earlier stands before the later in key order.
