@@ -3,7 +3,7 @@ use Rattle.std.proofs.Common.{◌≡◌, ℕ, suc, ◌+◌, ◌-◌, ◌<◌, �
 use Rattle.std.specs.Prelude.{◌||◌, slice_index, ◌==◌, nat_lt, nat_le, map, slice_set}
 use Rattle.std.specs.Option.{option_map_or, option_eq}
 use Rattle.std.proofs.lemmas.Bool.{or_left, or_right, cases_eq, cases_Bool, cases_lt, and_parts, and_from, eq-eqb, ne_eqb, cond-true, cond-false, false≢true, lt-ltb, le-ltb, le-leb, lt-leb}
-use Rattle.std.proofs.lemmas.List.{append_assoc, length-append, length-map, length-set, take_at, drop_at, get_or-map, get_or-set_same, get_or-set_other, same_lists}
+use Rattle.std.proofs.lemmas.List.{take-map, drop-map, append_assoc, length-append, length-map, length-set, take_at, drop_at, get_or-map, get_or-set_same, get_or-set_other, same_lists}
 use Rattle.hd_dbd.specs.Types.{SegmentType}
 use Rattle.hd_dbd.specs.Segment.{Segment}
 use Rattle.hd_dbd.specs.Paths.{row_at, no_row, parent_row, end_of}
@@ -27,7 +27,7 @@ use Rattle.hd_links.proofs.Lift.{Spot, spot, at_most_once}
 use Rattle.hd_links.proofs.Places.{chain_one}
 use Rattle.hd_links.proofs.Gaps.{next_one}
 use Rattle.hd_links.proofs.Replacing.{address_kept}
-use Rattle.hd_links.proofs.Numbers.{occurs, occurs_both, occurs_count, front_occurs, back_occurs, rows_map, rows_length, rows_addressed, skip_least}
+use Rattle.hd_links.proofs.Numbers.{map_both, occurs, occurs_both, occurs_count, front_occurs, back_occurs, rows_map, rows_length, rows_addressed, skip_least}
 use Rattle.hd_links.proofs.Standing.{Siblings, RowAt, row_found, own_row, own_address, own_parent, children_at, siblings_at}
 use Rattle.hd_links.proofs.Scans.{inside}
 use Rattle.hd_links.proofs.Following.{end_is}
@@ -41,6 +41,30 @@ regroup a b r c d e =
 
 span_front : (a b : List Placed) (r : Placed) (c d : List Placed) → (a ++ b) ++ (r ∷ (c ++ d)) ≡ ((a ++ b) ++ (r ∷ c)) ++ d
 span_front a b r c d = sym (append_assoc (a ++ b) (r ∷ c) d)
+
+-- ---- nodes, rows and addresses
+
+put_map : {Y : Type 0} (g : Placed → Y) (xs : List Placed) (p : Placed) (n : ℕ) → map g (take n xs ++ p ∷ drop n xs) ≡ take n (map g xs) ++ g p ∷ drop n (map g xs)
+put_map {Y = Y} g xs p n = map_both g (take n xs) (p ∷ drop n xs) ∙ ap₂ (λ (u v : List Y). u ++ (g p ∷ v)) (sym (take-map g n xs)) (sym (drop-map g n xs))
+
+out_map : {Y : Type 0} (g : Placed → Y) (xs : List Placed) (i e : ℕ) → map g (take i xs ++ drop e xs) ≡ take i (map g xs) ++ drop e (map g xs)
+out_map {Y = Y} g xs i e = map_both g (take i xs) (drop e xs) ∙ ap₂ (λ (u v : List Y). u ++ v) (sym (take-map g i xs)) (sym (drop-map g e xs))
+
+rows_put : (f2 f : Forest Placed) (p : Placed) (n : ℕ) → sequence f2 ≡ take n (sequence f) ++ p ∷ drop n (sequence f) → rows_of f2 ≡ take n (rows_of f) ++ p.segment ∷ drop n (rows_of f)
+rows_put f2 f p n e =
+    rows_map f2 ∙ ap (map (λ (q : Placed). q.segment)) e ∙ put_map (λ (q : Placed). q.segment) (sequence f) p n
+    ∙ sym (ap (λ (x : List Segment). take n x ++ p.segment ∷ drop n x) (rows_map f))
+
+places_put : (f2 f : Forest Placed) (p : Placed) (n : ℕ) → sequence f2 ≡ take n (sequence f) ++ p ∷ drop n (sequence f) → addresses f2 ≡ take n (addresses f) ++ p.address ∷ drop n (addresses f)
+places_put f2 f p n e = ap (map (λ (q : Placed). q.address)) e ∙ put_map (λ (q : Placed). q.address) (sequence f) p n
+
+rows_out : (f2 f : Forest Placed) (i e : ℕ) → sequence f2 ≡ take i (sequence f) ++ drop e (sequence f) → rows_of f2 ≡ take i (rows_of f) ++ drop e (rows_of f)
+rows_out f2 f i e is =
+    rows_map f2 ∙ ap (map (λ (q : Placed). q.segment)) is ∙ out_map (λ (q : Placed). q.segment) (sequence f) i e
+    ∙ sym (ap (λ (x : List Segment). take i x ++ drop e x) (rows_map f))
+
+places_out : (f2 f : Forest Placed) (i e : ℕ) → sequence f2 ≡ take i (sequence f) ++ drop e (sequence f) → addresses f2 ≡ take i (addresses f) ++ drop e (addresses f)
+places_out f2 f i e is = ap (map (λ (q : Placed). q.address)) is ∙ out_map (λ (q : Placed). q.address) (sequence f) i e
 
 -- the rows of one parent of a type or a later one
 abbrev Seeking : List SegmentType → List Segment → Option ℕ → ℕ → ℕ → Bool
@@ -99,12 +123,15 @@ module _ (types : List SegmentType) (O : Ordered types) (leveled : Leveled types
       let changed : sequence (with_leaf h y p f) ≡ (D.before ++ I.front) ++ (I.row ∷ (sequence I.under ++ (p ∷ (I.rest ++ D.behind))))
       = D.changed ∙ ap (λ (x : List Placed). D.before ++ (x ++ D.behind)) (ap sequence own ∙ I.put) ∙ regroup D.before I.front I.row (sequence I.under) (p ∷ I.rest) D.behind in
       let up_to : List Placed = (D.before ++ I.front) ++ (I.row ∷ sequence I.under) in
-      let long : length up_to ≡ length (D.before ++ I.front) + length (I.row ∷ sequence I.under) = length-append (D.before ++ I.front) (I.row ∷ sequence I.under) in (
+      let long : length up_to ≡ length (D.before ++ I.front) + length (I.row ∷ sequence I.under) = length-append (D.before ++ I.front) (I.row ∷ sequence I.under) in
+      let nodes : sequence (with_leaf h y p f) ≡ take (length up_to) (sequence f) ++ p ∷ drop (length up_to) (sequence f)
+      = put_in p (sequence f) up_to (I.rest ++ D.behind) (sequence (with_leaf h y p f))
+      (whole ∙ span_front D.before I.front I.row (sequence I.under) (I.rest ++ D.behind))
+      (changed ∙ span_front D.before I.front I.row (sequence I.under) (p ∷ (I.rest ++ D.behind))) (length up_to) refl in (
         length up_to,
         record {
-          rows = put_in p (sequence f) up_to (I.rest ++ D.behind) (sequence (with_leaf h y p f))
-              (whole ∙ span_front D.before I.front I.row (sequence I.under) (I.rest ++ D.behind))
-              (changed ∙ span_front D.before I.front I.row (sequence I.under) (p ∷ (I.rest ++ D.behind))) (length up_to) refl;
+          rows = rows_put (with_leaf h y p f) f p (length up_to) nodes;
+          places = places_put (with_leaf h y p f) f p (length up_to) nodes;
           behind = λ i within q at.
               (let num : length (D.before ++ I.front) ≡ i
               = number_is types O leveled bound m G f H i within (D.before ++ I.front) I.row (sequence I.under ++ (I.rest ++ D.behind)) whole (at ∙ sym I.is) in
@@ -141,10 +168,13 @@ module _ (types : List SegmentType) (O : Ordered types) (leveled : Leveled types
       = D.changed ∙ ap (λ (x : List Placed). D.before ++ (x ++ D.behind)) (ap sequence own ∙ I.put)
       ∙ ap (λ (x : List Placed). D.before ++ x) (append_assoc I.front (p ∷ I.rest) D.behind) ∙ sym (append_assoc D.before I.front (p ∷ (I.rest ++ D.behind))) in
       let long : length (D.before ++ I.front) ≡ length D.before + length I.front = length-append D.before I.front in
-      let part : length I.front ≡ lesser p.segment.code K = I.long in (
+      let part : length I.front ≡ lesser p.segment.code K = I.long in
+      let nodes : sequence (with_leaf h y p f) ≡ take (length (D.before ++ I.front)) (sequence f) ++ p ∷ drop (length (D.before ++ I.front)) (sequence f)
+      = put_in p (sequence f) (D.before ++ I.front) (I.rest ++ D.behind) (sequence (with_leaf h y p f)) whole changed (length (D.before ++ I.front)) refl in (
         length (D.before ++ I.front),
         record {
-          rows = put_in p (sequence f) (D.before ++ I.front) (I.rest ++ D.behind) (sequence (with_leaf h y p f)) whole changed (length (D.before ++ I.front)) refl;
+          rows = rows_put (with_leaf h y p f) f p (length (D.before ++ I.front)) nodes;
+          places = places_put (with_leaf h y p f) f p (length (D.before ++ I.front)) nodes;
           behind = λ i within q at. absurd (omega arith);
           first_root = λ z e.
               (let none : length D.before ≡ 0 = ap (λ (x : List Placed). length x) (D.root e).0 in
@@ -230,13 +260,15 @@ module _ (types : List SegmentType) (O : Ordered types) (leveled : Leveled types
       sym (occurs_count b f) ∙ ap (occurs b) (cut ∙ append_assoc X M Z) ∙ occurs_both b X (M ++ Z) ∙ ap (λ x. occurs b X + x) (occurs_both b M Z)) in
       let kept : (b : ℕ) → count b (without_span h a f) ≡ occurs b X + occurs b Z = (λ b.
       sym (occurs_count b (without_span h a f)) ∙ ap (occurs b) changed ∙ occurs_both b X Z) in
+      let nodes : sequence (without_span h a f) ≡ take i (sequence f) ++ drop e (sequence f) =
+      changed
+      ∙ ap₂ (λ (u v : List Placed). u ++ v)
+      (sym (ap (take i) whole ∙ take_at (D.before ++ I.front) (I.row ∷ (sequence I.under ++ (I.rest ++ D.behind))) i num))
+      (sym (ap (drop (end_of types (rows_of f) i)) (whole ∙ span_front D.before I.front I.row (sequence I.under) (I.rest ++ D.behind))
+      ∙ drop_at ((D.before ++ I.front) ++ (I.row ∷ sequence I.under)) (I.rest ++ D.behind) (end_of types (rows_of f) i) (omega arith))) in
       record {
-        rows =
-            changed
-            ∙ ap₂ (λ (u v : List Placed). u ++ v)
-            (sym (ap (take i) whole ∙ take_at (D.before ++ I.front) (I.row ∷ (sequence I.under ++ (I.rest ++ D.behind))) i num))
-            (sym (ap (drop (end_of types (rows_of f) i)) (whole ∙ span_front D.before I.front I.row (sequence I.under) (I.rest ++ D.behind))
-            ∙ drop_at ((D.before ++ I.front) ++ (I.row ∷ sequence I.under)) (I.rest ++ D.behind) (end_of types (rows_of f) i) (omega arith)));
+        rows = rows_out (without_span h a f) f i e nodes;
+        places = places_out (without_span h a f) f i e nodes;
         left = λ k below.
             (let b : ℕ = address_at f k in
             let some : 0 < b = (A.there k below).some in
