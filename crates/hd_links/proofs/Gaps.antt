@@ -48,6 +48,19 @@ pub record OutPlace (t a : ℕ) (K : Forest Placed) : Type 0 where
   pub address : row.address ≡ a
   pub code : row.segment.code ≡ t
 
+-- behind another node
+out_on : (t a : ℕ) (r : Placed) (k n : Forest Placed) → (r.address ≡ a → ⊥) → OutPlace t a n → OutPlace t a (node r k n)
+out_on t a r k n ne P = record {
+  front = node r k P.front;
+  row = P.row;
+  gone = P.gone;
+  rest = P.rest;
+  is = ap (λ (x : Forest Placed). node r k x) P.is;
+  out = cond-false (r.address == a) n (node r k (take_out a n)) (ne_eqb r.address a ne) ∙ ap (λ (x : Forest Placed). node r k x) P.out;
+  address = P.address;
+  code = P.code;
+}
+
 pub out_place : (t a : ℕ) (K : Forest Placed) → IsOne t a K → count a K ≤ 1 → OutPlace t a K
 out_place t a empty o once = absurd o
 out_place t a (node r k n) o once = elim (cases_eq r.address a) [
@@ -65,17 +78,7 @@ out_place t a (node r k n) o once = elim (cases_eq r.address a) [
     ];
   }
   | inr ne ↦
-      (let P : OutPlace t a n = out_place t a n (elim o [ inl q ↦ absurd (ne q.0) | inr q ↦ q ]) (omega arith) in
-      record {
-        front = node r k P.front;
-        row = P.row;
-        gone = P.gone;
-        rest = P.rest;
-        is = ap (λ (x : Forest Placed). node r k x) P.is;
-        out = cond-false (r.address == a) n (node r k (take_out a n)) (ne_eqb r.address a ne) ∙ ap (λ (x : Forest Placed). node r k x) P.out;
-        address = P.address;
-        code = P.code;
-      })
+      out_on t a r k n ne (out_place t a n (elim o [ inl q ↦ absurd (ne q.0) | inr q ↦ q ]) (omega arith))
 ]
 
 -- the nodes that are left are in order

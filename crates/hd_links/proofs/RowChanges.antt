@@ -106,16 +106,9 @@ module _ (types : List SegmentType) (O : Ordered types) (leveled : Leveled types
   -- ---- a leaf
 
   -- behind a twin
-  behind_twin : (h y : ℕ) (p : Placed) → CanLink types m h y p → 0 < y → (n : ℕ) × LeafGoesInAt types f h y p n
-  behind_twin h y p C some =
-      let T = spot types O bound m G f H h C.parent in
-      let K : Forest Placed = T.0 in
-      let S : Spot types m h f K = T.1 in
-      let c = C.twin some in
-      let one : IsOne p.segment.code y K = chain_one types m p.segment.code y nowhere K S.stand c.0 (subst (λ x. IsTwinAfter m c.0 x y) (S.named.first p.segment.code C.typed) c.1) in
-      let I : InRow types m y p K = in_row types m p.segment.code y (m.code h) p nowhere K S.stand S.formed one in
+  behind_in : (h y : ℕ) (p : Placed) (K : Forest Placed) → 0 < y → InRow types m y p K → Around h (cond (y == 0) (put_first p) (put_behind y p)) K f → (n : ℕ) × LeafGoesInAt types f h y p n
+  behind_in h y p K some I D =
       let ne : y ≡ 0 → ⊥ = (λ (e : y ≡ 0). omega arith) in
-      let D : Around h (cond (y == 0) (put_first p) (put_behind y p)) K f = around types m h (cond (y == 0) (put_first p) (put_behind y p)) K f H S in
       let own : cond (y == 0) (put_first p) (put_behind y p) K ≡ put_behind y p K
       = ap (λ (g : Forest Placed → Forest Placed). g K) (cond-false (y == 0) (put_first p) (put_behind y p) (ne_eqb y 0 ne)) in
       let whole : sequence f ≡ (D.before ++ I.front) ++ (I.row ∷ (sequence I.under ++ (I.rest ++ D.behind)))
@@ -143,6 +136,16 @@ module _ (types : List SegmentType) (O : Ordered types) (leveled : Leveled types
         },
       )
 
+  behind_twin : (h y : ℕ) (p : Placed) → CanLink types m h y p → 0 < y → (n : ℕ) × LeafGoesInAt types f h y p n
+  behind_twin h y p C some =
+      let T = spot types O bound m G f H h C.parent in
+      let K : Forest Placed = T.0 in
+      let S : Spot types m h f K = T.1 in
+      let c = C.twin some in
+      let one : IsOne p.segment.code y K = chain_one types m p.segment.code y nowhere K S.stand c.0 (subst (λ x. IsTwinAfter m c.0 x y) (S.named.first p.segment.code C.typed) c.1) in
+      let I : InRow types m y p K = in_row types m p.segment.code y (m.code h) p nowhere K S.stand S.formed one in
+      behind_in h y p K some I (around types m h (cond (y == 0) (put_first p) (put_behind y p)) K f H S)
+
   -- no root stands before a new first one
   none_lesser : (t : ℕ) (K : Forest Placed) → Formed types 0 K → is_child_type types 0 t ≡ true → lesser t K ≡ 0
   none_lesser t empty F c = refl
@@ -152,13 +155,9 @@ module _ (types : List SegmentType) (O : Ordered types) (leveled : Leveled types
       cond-false (nat_lt r.segment.code t) (suc (length (sequence k) + lesser t n)) 0 (le-ltb r.segment.code t (omega arith))
 
   -- as the first
-  as_first : (h y : ℕ) (p : Placed) → CanLink types m h y p → y ≡ 0 → (n : ℕ) × LeafGoesInAt types f h y p n
-  as_first h y p C zero_y =
-      let T = spot types O bound m G f H h C.parent in
-      let K : Forest Placed = T.0 in
-      let S : Spot types m h f K = T.1 in
-      let I : FirstIn p K = first_in p K in
-      let D : Around h (cond (y == 0) (put_first p) (put_behind y p)) K f = around types m h (cond (y == 0) (put_first p) (put_behind y p)) K f H S in
+  first_place : (h y : ℕ) (p : Placed) → CanLink types m h y p → y ≡ 0 → (K : Forest Placed) → Spot types m h f K → FirstIn p K → Around h (cond (y == 0) (put_first p) (put_behind y p)) K f
+      → (n : ℕ) × LeafGoesInAt types f h y p n
+  first_place h y p C zero_y K S I D =
       let own : cond (y == 0) (put_first p) (put_behind y p) K ≡ put_first p K
       = ap (λ (g : Forest Placed → Forest Placed). g K) (cond-true (y == 0) (put_first p) (put_behind y p) (eq-eqb y 0 zero_y)) in
       let whole : sequence f ≡ (D.before ++ I.front) ++ (I.rest ++ D.behind)
@@ -211,30 +210,22 @@ module _ (types : List SegmentType) (O : Ordered types) (leveled : Leveled types
         },
       )
 
+  as_first : (h y : ℕ) (p : Placed) → CanLink types m h y p → y ≡ 0 → (n : ℕ) × LeafGoesInAt types f h y p n
+  as_first h y p C zero_y =
+      let T = spot types O bound m G f H h C.parent in
+      let K : Forest Placed = T.0 in
+      let S : Spot types m h f K = T.1 in
+      first_place h y p C zero_y K S (first_in p K) (around types m h (cond (y == 0) (put_first p) (put_behind y p)) K f H S)
+
   pub leaf_in : (h y : ℕ) (p : Placed) → CanLink types m h y p → (n : ℕ) × LeafGoesInAt types f h y p n
   leaf_in h y p C = elim (zero_or y) [ inl z ↦ as_first h y p C z | inr some ↦ behind_twin h y p C some ]
 
   -- ---- a span
 
-  pub span_out : (h y a i : ℕ) → CanUnlink types m h y a → i < length (rows_of f) → address_at f i ≡ a
+  -- the rows before and behind a node's span
+  span_cut : (h y a i : ℕ) (K : Forest Placed) → InRow types m a (record { address = a; segment = no_row }) K → Around h (take_out a) K f → i < length (rows_of f) → address_at f i ≡ a
       → RowsLeave m f h y a i (end_of types (rows_of f) i)
-  span_out h y a i C within at =
-      let T = spot types O bound m G f H h C.parent in
-      let K : Forest Placed = T.0 in
-      let S : Spot types m h f K = T.1 in
-      let one : IsOne (m.code a) a K = elim (zero_or y) [
-        | inl e ↦
-            (let is : first_of K (m.code a) ≡ a
-            = sym (S.named.first (m.code a) C.typed) ∙ sym (cond-true (y == 0) (m.first_child h (m.code a)) (m.forward y) (eq-eqb y 0 e)) ∙ C.here in
-            subst (λ x. IsOne (m.code a) x K) is (first_one K (m.code a) (subst (λ x. 0 < x) (sym is) C.some)))
-        | inr some ↦
-            (let c = C.twin some in
-            let y_one : IsOne (m.code a) y K = chain_one types m (m.code a) y nowhere K S.stand c.0 (subst (λ x. IsTwinAfter m c.0 x y) (S.named.first (m.code a) C.typed) c.1) in
-            let is : m.forward y ≡ a = sym (cond-false (y == 0) (m.first_child h (m.code a)) (m.forward y) (ne_eqb y 0 (λ (e : y ≡ 0). omega arith))) ∙ C.here in
-            subst (λ x. IsOne (m.code a) x K) is (next_one types m (m.code a) y nowhere K S.stand y_one (subst (λ x. 0 < x) (sym is) C.some)))
-      ] in
-      let I : InRow types m a (record { address = a; segment = no_row }) K = in_row types m (m.code a) a (m.code h) (record { address = a; segment = no_row }) nowhere K S.stand S.formed one in
-      let D : Around h (take_out a) K f = around types m h (take_out a) K f H S in
+  span_cut h y a i K I D within at =
       let whole : sequence f ≡ (D.before ++ I.front) ++ (I.row ∷ (sequence I.under ++ (I.rest ++ D.behind)))
       = D.whole ∙ ap (λ (x : List Placed). D.before ++ (x ++ D.behind)) I.whole ∙ regroup D.before I.front I.row (sequence I.under) I.rest D.behind in
       let changed : sequence (without_span h a f) ≡ (D.before ++ I.front) ++ (I.rest ++ D.behind)
@@ -306,6 +297,25 @@ module _ (types : List SegmentType) (O : Ordered types) (leveled : Leveled types
             ap₂ (λ u v. u || v) (ne_eqb b 0 (λ (q : b ≡ 0). false≢true (sym gone ∙ ap m.here q ∙ G.header))) (le-ltb 0 (count b (without_span h a f)) (omega arith)));
       }
 
+  pub span_out : (h y a i : ℕ) → CanUnlink types m h y a → i < length (rows_of f) → address_at f i ≡ a
+      → RowsLeave m f h y a i (end_of types (rows_of f) i)
+  span_out h y a i C within at =
+      let T = spot types O bound m G f H h C.parent in
+      let K : Forest Placed = T.0 in
+      let S : Spot types m h f K = T.1 in
+      let one : IsOne (m.code a) a K = elim (zero_or y) [
+        | inl e ↦
+            (let is : first_of K (m.code a) ≡ a
+            = sym (S.named.first (m.code a) C.typed) ∙ sym (cond-true (y == 0) (m.first_child h (m.code a)) (m.forward y) (eq-eqb y 0 e)) ∙ C.here in
+            subst (λ x. IsOne (m.code a) x K) is (first_one K (m.code a) (subst (λ x. 0 < x) (sym is) C.some)))
+        | inr some ↦
+            (let c = C.twin some in
+            let y_one : IsOne (m.code a) y K = chain_one types m (m.code a) y nowhere K S.stand c.0 (subst (λ x. IsTwinAfter m c.0 x y) (S.named.first (m.code a) C.typed) c.1) in
+            let is : m.forward y ≡ a = sym (cond-false (y == 0) (m.first_child h (m.code a)) (m.forward y) (ne_eqb y 0 (λ (e : y ≡ 0). omega arith))) ∙ C.here in
+            subst (λ x. IsOne (m.code a) x K) is (next_one types m (m.code a) y nowhere K S.stand y_one (subst (λ x. 0 < x) (sym is) C.some)))
+      ] in
+      span_cut h y a i K (in_row types m (m.code a) a (m.code h) (record { address = a; segment = no_row }) nowhere K S.stand S.formed one) (around types m h (take_out a) K f H S) within at
+
 -- ---- bytes
 
 map_sequence : (a : ℕ) (bytes : List ℕ) (f : Forest Placed) → sequence (with_bytes a bytes f) ≡ map (rewritten a bytes) (sequence f)
@@ -321,6 +331,14 @@ map_sequence a bytes (node r k n) =
 addresses_kept : (a : ℕ) (bytes : List ℕ) (xs : List Placed) → map (λ (p : Placed). p.address) (map (rewritten a bytes) xs) ≡ map (λ (p : Placed). p.address) xs
 addresses_kept a bytes [] = refl
 addresses_kept a bytes (x ∷ xs) = ap₂ (λ (u : ℕ) (v : List ℕ). u ∷ v) (address_kept a bytes x) (addresses_kept a bytes xs)
+
+rewritten_own : (a : ℕ) (bytes : List ℕ) (x : Placed) → x.address ≡ a → (rewritten a bytes x).segment ≡ record { code = x.segment.code; bytes = bytes }
+rewritten_own a bytes x e =
+    ap (λ (p : Placed). p.segment) (cond-true (x.address == a) (record { address = x.address; segment = record { code = x.segment.code; bytes = bytes } }) x (eq-eqb x.address a e))
+
+rewritten_other : (a : ℕ) (bytes : List ℕ) (x : Placed) → (x.address ≡ a → ⊥) → (rewritten a bytes x).segment ≡ x.segment
+rewritten_other a bytes x ne =
+    ap (λ (p : Placed). p.segment) (cond-false (x.address == a) (record { address = x.address; segment = record { code = x.segment.code; bytes = bytes } }) x (ne_eqb x.address a ne))
 
 pub bytes_in : (types : List SegmentType) (m : Links) (f : Forest Placed) (i : ℕ) (bytes : List ℕ) → Holds types m f → i < length (rows_of f)
     → (rows_of (with_bytes (address_at f i) bytes f) ≡ slice_set (rows_of f) i (record { code = (row_at (rows_of f) i).code; bytes = bytes }))
@@ -352,13 +370,13 @@ bytes_in types m f i bytes H within =
             | inl e ↦
                 (let own : here.address ≡ a = at ∙ ap (address_at f) e in
                 got
-                ∙ ap (λ (p : Placed). p.segment) (cond-true (here.address == a) (record { address = here.address; segment = record { code = here.segment.code; bytes = bytes } }) here (eq-eqb here.address a own))
+                ∙ rewritten_own a bytes here own
                 ∙ ap (λ (s : Segment). record { code = s.code; bytes = bytes }) (sym (row no_row) ∙ ap (row_at (rows_of f)) e)
                 ∙ sym (ap (λ x. get_or (slice_set (rows_of f) i new) x d) e ∙ get_or-set_same (rows_of f) i new d within))
             | inr ne ↦
                 (let other : here.address ≡ a → ⊥ = (λ q. ne (A.once k i (omega arith) within (sym at ∙ q))) in
                 got
-                ∙ ap (λ (p : Placed). p.segment) (cond-false (here.address == a) (record { address = here.address; segment = record { code = here.segment.code; bytes = bytes } }) here (ne_eqb here.address a other))
+                ∙ rewritten_other a bytes here other
                 ∙ sym (row d)
                 ∙ sym (get_or-set_other (rows_of f) i k new d ne))
           ]),
