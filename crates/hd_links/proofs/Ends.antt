@@ -4,7 +4,7 @@ use Rattle.std.specs.Prelude.{◌==◌}
 use Rattle.std.proofs.lemmas.Bool.{cases_eq, cases_order, eq-eqb, ne_eqb, cond-true, cond-false}
 use Rattle.hd_dbd.specs.Types.{SegmentType}
 use Rattle.hd_links.specs.Links.{Links, IsSegment, IsLinkGraph, is_child_type}
-use Rattle.hd_links.specs.Pointers.{PointersAreTyped, PredecessorsAreOne, IsTwinAfter}
+use Rattle.hd_links.specs.Pointers.{PointersAreTyped, PredecessorsAreOne, IsTwinAfter, IsInChain}
 use Rattle.hd_links.proofs.Types.{Ordered}
 use Rattle.hd_links.proofs.Build.{zero_or}
 use Rattle.hd_links.proofs.Counts.{not_own}
@@ -64,6 +64,21 @@ twin_at m p (suc j) h = (
       (twin_at m (m.forward p) j (λ i l. subst (λ x. 0 < x) (sym (along_front m p i)) (h (suc i) (omega arith)))),
 )
 
+-- a chain has one end
+one_end : (m : Links) (n k p l a : ℕ) → IsTwinAfter m n p l → m.forward l ≡ 0 → IsTwinAfter m k p a → m.forward a ≡ 0 → a ≡ l
+one_end m zero zero p l a v e w f = sym w.1 ∙ v.1
+one_end m zero (suc k) p l a v e w f = absurd (goes k w.1 (ap m.forward v.1 ∙ e))
+  where
+    goes : (k : ℕ) → IsTwinAfter m k (m.forward p) a → m.forward p ≡ 0 → ⊥
+    goes zero w z = (let some : 0 < m.forward p = w.0 in omega arith)
+    goes (suc k) w z = (let some : 0 < m.forward p = w.0 in omega arith)
+one_end m (suc n) zero p l a v e w f = absurd (goes n v.1 (ap m.forward w.1 ∙ f))
+  where
+    goes : (n : ℕ) → IsTwinAfter m n (m.forward p) l → m.forward p ≡ 0 → ⊥
+    goes zero v z = (let some : 0 < m.forward p = v.0 in omega arith)
+    goes (suc n) v z = (let some : 0 < m.forward p = v.0 in omega arith)
+one_end m (suc n) (suc k) p l a v e w f = one_end m n k (m.forward p) l a v.1 e w.1 f
+
 module _ (types : List SegmentType) (O : Ordered types) (bound : ℕ) (m : Links) (G : IsLinkGraph types bound m) (typed : PointersAreTyped types m) (single : PredecessorsAreOne types m)
     (h t : ℕ) (here : m.here h ≡ true) (child : is_child_type types (m.code h) t ≡ true) (some : 0 < m.first_child h t) where
   first_there : IsSegment m (m.first_child h t)
@@ -106,5 +121,9 @@ module _ (types : List SegmentType) (O : Ordered types) (bound : ℕ) (m : Links
   ]
 
   -- the chain ends within as many twins as there are addresses
-  pub chain_ends : (n : ℕ) × (l : ℕ) × (n < bound) × IsTwinAfter m n (m.first_child h t) l × (m.forward l ≡ 0)
-  chain_ends = go bound 0 (omega arith) (λ x q. (let e : x ≡ 0 = omega arith in subst (λ y. IsSegment m (along m (m.first_child h t) y)) (sym e) first_there))
+  end_found : (n : ℕ) × (l : ℕ) × (n < bound) × IsTwinAfter m n (m.first_child h t) l × (m.forward l ≡ 0)
+  end_found = go bound 0 (omega arith) (λ x q. (let e : x ≡ 0 = omega arith in subst (λ y. IsSegment m (along m (m.first_child h t) y)) (sym e) first_there))
+
+  -- with one segment
+  pub chain_ends : (n : ℕ) × (l : ℕ) × (n < bound) × IsTwinAfter m n (m.first_child h t) l × (m.forward l ≡ 0) × ((a : ℕ) → IsInChain m (m.first_child h t) a → m.forward a ≡ 0 → a ≡ l)
+  chain_ends = (let E = end_found in (E.0, E.1, E.2, E.3, E.4, λ a c e. one_end m E.0 c.0 (m.first_child h t) E.1 a E.3 E.4 c.1 e))

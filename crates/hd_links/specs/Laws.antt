@@ -26,14 +26,15 @@ PointersDecide =
     → IsLinkGraph types bound m
     → (AreLinked types m → HoldsOne types m) × ((f : Forest Placed) → Holds types m f → AreLinked types m)
 
--- Where each pointer is of its type and each segment has one predecessor, each chain of twins from a first child ends, within
--- as many twins as there are addresses.
+-- Where each pointer is of its type and each segment has one predecessor, each chain of twins from a first child ends, with
+-- one segment, and within as many twins as there are addresses.
 abbrev pub ChainsEnd : Type 0
 ChainsEnd =
     (block_size : ℕ) (frspc : FreeSpace) (types : List SegmentType) (bound : ℕ) (m : Links) (h t : ℕ) → IsTrue (well_formed block_size frspc types)
     → IsLinkGraph types bound m → PointersAreTyped types m → PredecessorsAreOne types m
     → m.here h ≡ true → is_child_type types (m.code h) t ≡ true → 0 < m.first_child h t
     → (n : ℕ) × (l : ℕ) × (n < bound) × IsTwinAfter m n (m.first_child h t) l × (m.forward l ≡ 0)
+    × ((a : ℕ) → IsInChain m (m.first_child h t) a → m.forward a ≡ 0 → a ≡ l)
 
 -- Of any two twins of a forest that is held, the earlier is in key order before the later.
 abbrev pub HeldTwinsAscend : Type 0
