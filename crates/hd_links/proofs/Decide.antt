@@ -1,12 +1,12 @@
 -- Where the records are linked they hold a forest.
-use Rattle.std.proofs.Common.{◌≡◌, ℕ, List, true, subst, refl, None}
+use Rattle.std.proofs.Common.{ℕ, List, subst, None}
 use Rattle.hd_dbd.specs.Types.{SegmentType}
-use Rattle.hd_dbd.specs.Forest.{Forest, empty, node}
+use Rattle.hd_dbd.specs.Forest.{Forest}
 use Rattle.hd_links.specs.Links.{Links, IsLinkGraph}
 use Rattle.hd_links.specs.Placed.{Placed, nowhere, NamesChildren, Lies, Holds}
 use Rattle.hd_links.specs.Pointers.{AreLinked}
 use Rattle.hd_links.proofs.Types.{Ordered}
-use Rattle.hd_links.proofs.Forms.{Formed, is_behind, fits}
+use Rattle.hd_links.proofs.Forms.{first_behind_none, Formed, fits}
 use Rattle.hd_links.proofs.Build.{built, built_roots, built_stand, built_formed}
 use Rattle.hd_links.proofs.Counts.{once}
 
@@ -21,11 +21,7 @@ exists types O bound m G L =
       f,
       record {
         lies = lies;
-        fits = fits types O bound m G 0 nowhere None f lies.nodes formed (alone f);
+        fits = fits types O bound m G 0 nowhere None f lies.nodes formed (first_behind_none types f);
         once = λ a s. once types O bound m G L.typed L.single f lies formed (L.reached a s).0 a s (L.reached a s).1;
       },
     )
-  where
-    alone : (g : Forest Placed) → is_behind types None g ≡ true
-    alone empty = refl
-    alone (node q k n) = refl

@@ -24,6 +24,11 @@ Formed types c empty = Unit {0}
 Formed types c (node p k n) =
     (is_child_type types c p.segment.code ≡ true) × (is_behind types (Some p.segment) n ≡ true) × Formed types p.segment.code k × Formed types c n
 
+-- nothing need stand before the first
+pub first_behind_none : (types : List SegmentType) (f : Forest Placed) → is_behind types None f ≡ true
+first_behind_none types empty = refl
+first_behind_none types (node p k n) = refl
+
 -- the codes of siblings never fall
 pub follows_code : (types : List SegmentType) (p q : Placed) (k n : Forest Placed) → is_behind types (Some p.segment) (node q k n) ≡ true → p.segment.code ≤ q.segment.code
 follows_code types p q k n h = elim (cases_eq p.segment.code q.segment.code) [
@@ -88,10 +93,6 @@ fits types O bound m G c table before (node p k n) s h b =
     let own : parent_of types p.segment.code ≡ above c = O.parent c p.segment row h.0 in
     let below : fits_below types (Some p.segment.code) None (forest_of k) ≡ true
     = ap (λ (o : Option ℕ). fits_below types o None (forest_of k)) (sym (above_some p.segment.code (code_some types p.segment row)))
-    ∙ fits types O bound m G p.segment.code nowhere None k s.1 h.2 (alone k) in
+    ∙ fits types O bound m G p.segment.code nowhere None k s.1 h.2 (first_behind_none types k) in
     and_from _ _ (and_from _ _ (and_from _ _ (and_from _ _ row ((option_eq-Decides _ _).1 own)) b) below)
     (fits types O bound m G c (with_node table p) (Some p.segment) n s.2 h.3 h.1)
-  where
-    alone : (g : Forest Placed) → is_behind types None g ≡ true
-    alone empty = refl
-    alone (node q k2 n2) = refl

@@ -24,6 +24,15 @@ pub all_placed : (types : List SegmentType) (m : Links) (b : ℕ → ℕ) (f g :
 all_placed types m b empty g s = tt
 all_placed types m b (node r k n) g s = (s.0.there.some, all_placed types m (with_node b r) n g s.2)
 
+-- the second part stands behind the first
+pub stands_right : (types : List SegmentType) (m : Links) (b : ℕ → ℕ) (f g : Forest Placed) → StandAll types m b (join f g) → StandAll types m (with_nodes b f) g
+stands_right types m b empty g s = s
+stands_right types m b (node r k n) g s = stands_right types m (with_node b r) n g s.2
+
+pub placed_right : (types : List SegmentType) (m : Links) (b : ℕ → ℕ) (f : Forest Placed) → StandAll types m b f → AllPlaced f
+placed_right types m b empty s = tt
+placed_right types m b (node r k n) s = (s.0.there.some, placed_right types m (with_node b r) n s.2)
+
 -- the first that is not 0
 abbrev pub pick : ℕ → ℕ → ℕ
 pick x y = cond (x == 0) y x

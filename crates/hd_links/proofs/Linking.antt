@@ -10,11 +10,11 @@ use Rattle.hd_links.specs.Placed.{Placed, count, first_of, last_of, nowhere, wit
 use Rattle.hd_links.specs.Pointers.{IsTwinAfter, AreLinked}
 use Rattle.hd_links.specs.Changes.{AgreeAt, Agree, twin_behind, linked, put_first, put_behind, with_children, with_leaf, CanLink}
 use Rattle.hd_links.proofs.Types.{Ordered}
-use Rattle.hd_links.proofs.Forms.{Formed, is_behind, segment_is, fits}
+use Rattle.hd_links.proofs.Forms.{first_behind_none, Formed, segment_is, fits}
 use Rattle.hd_links.proofs.Build.{zero_or, last_same}
 use Rattle.hd_links.proofs.Counts.{is_at, one_at, none_at, count_zero, node_there, absent, not_own}
 use Rattle.hd_links.proofs.Sound.{are_linked}
-use Rattle.hd_links.proofs.Joins.{join, AllPlaced, all_placed, pick, pick_zero, pick_some, count_join, first_join, last_join, last_none, last_some, last_one, one_counts, first_counts, IsOne, NotBelow, one_not_below, none_below, not_below_left}
+use Rattle.hd_links.proofs.Joins.{stands_right, placed_right, join, AllPlaced, all_placed, pick, pick_zero, pick_some, count_join, first_join, last_join, last_none, last_some, last_one, one_counts, first_counts, IsOne, NotBelow, one_not_below, none_below, not_below_left}
 use Rattle.hd_links.proofs.Touch.{all_three, not_second, not_third, Keeps, Touch, behind, before}
 use Rattle.hd_links.proofs.Lift.{Spot, spot, at_most_once, changed_lies, changed_formed, changed_count}
 use Rattle.hd_links.proofs.Places.{chain_one, one_there, FirstPlace, first_place, TwinPlace, twin_place, Place, formed_first, formed_behind}
@@ -254,15 +254,11 @@ module _ (types : List SegmentType) (O : Ordered types) (bound : ℕ) (m m2 : Li
         let i : 0 < count y place.front = y_front q in omega arith)
   ]
 
-  right : (b : ℕ → ℕ) (front rest : Forest Placed) → StandAll types m b (join front rest) → StandAll types m (with_nodes b front) rest
-  right b empty rest s = s
-  right b (node r k n) rest s = right (with_node b r) n rest s.2
-
   rest_stands : StandAll types m2 (with_node (with_nodes nowhere place.front) p) place.rest
   unfolding z
   rest_stands =
       behind types m m2 (IsSegment m) h p.segment.code y (twin_behind m h p.segment.code y) p.address p.address touch
-      (with_nodes nowhere place.front) (with_node (with_nodes nowhere place.front) p) place.rest (right nowhere place.front place.rest stand_K)
+      (with_nodes nowhere place.front) (with_node (with_nodes nowhere place.front) p) place.rest (stands_right types m nowhere place.front place.rest stand_K)
       (λ a q. each a (let c : count a K ≡ count a place.front + count a place.rest = count_K a in omega arith))
       (λ a. (let c : count a K ≡ count a place.front + count a place.rest = count_K a in let o : count a K ≤ 1 = once_K a in omega arith))
       (let c : count h K ≡ count h place.front + count h place.rest = count_K h in let o : count h K ≡ 0 = S.own in omega arith)
@@ -352,7 +348,7 @@ module _ (types : List SegmentType) (O : Ordered types) (bound : ℕ) (m m2 : Li
             elim (zero_or (twin_behind m h p.segment.code y)) [
               | inl o ↦ cond-true (h == h && u == p.segment.code && twin_behind m h p.segment.code y == 0) p.address (m.last_child h u)
                   (all_three (h == h) (u == p.segment.code) (twin_behind m h p.segment.code y == 0) (eq-eqb h h refl) (eq-eqb u p.segment.code e) (eq-eqb (twin_behind m h p.segment.code y) 0 o))
-                  ∙ sym own ∙ sym (last_none (with_node (with_nodes nowhere place.front) p) place.rest u rest_placed (rest_is ∙ o)) ∙ sym (list_last u)
+                  ∙ sym own ∙ sym (last_none (with_node (with_nodes nowhere place.front) p) place.rest u (placed_right types m (with_nodes nowhere place.front) place.rest (stands_right types m nowhere place.front place.rest stand_K)) (rest_is ∙ o)) ∙ sym (list_last u)
               | inr some ↦ cond-false (h == h && u == p.segment.code && twin_behind m h p.segment.code y == 0) p.address (m.last_child h u)
                   (not_third (h == h) (u == p.segment.code) (twin_behind m h p.segment.code y == 0)
                   (ne_eqb (twin_behind m h p.segment.code y) 0 (λ (i : twin_behind m h p.segment.code y ≡ 0). omega arith)))
@@ -367,14 +363,6 @@ module _ (types : List SegmentType) (O : Ordered types) (bound : ℕ) (m m2 : Li
             (sym (cond-false (p.segment.code == u) p.address (with_nodes nowhere place.front u) (ne_eqb p.segment.code u (λ i. ne (sym i)))))
             ∙ sym (list_last u)
       ]
-    where
-      rest_placed : AllPlaced place.rest
-      rest_placed = placed_right nowhere place.front place.rest stand_K
-        where
-          placed_right : (b : ℕ → ℕ) (front rest : Forest Placed) → StandAll types m b (join front rest) → AllPlaced rest
-          placed_right b empty empty s = tt
-          placed_right b empty (node r k n) s = (s.0.there.some, placed_right (with_node b r) empty n s.2)
-          placed_right b (node r k n) rest s = placed_right (with_node b r) n rest s.2
 
   good : Formed types (m.code h) (g K)
   unfolding g
@@ -466,7 +454,7 @@ module _ (types : List SegmentType) (O : Ordered types) (bound : ℕ) (m m2 : Li
         graph,
         record {
           lies = lies;
-          fits = fits types O bound m2 graph 0 nowhere None (with_leaf h y p f) lies.nodes form (alone (with_leaf h y p f));
+          fits = fits types O bound m2 graph 0 nowhere None (with_leaf h y p f) lies.nodes form (first_behind_none types (with_leaf h y p f));
           once = λ a s. elim (cases_eq a p.address) [
             | inl e ↦
                 (let n : count a (with_leaf h y p f) ≡ is_at p.address a + count a f = new_count a in
@@ -479,7 +467,3 @@ module _ (types : List SegmentType) (O : Ordered types) (bound : ℕ) (m m2 : Li
           ];
         },
       )
-    where
-      alone : (x : Forest Placed) → is_behind types None x ≡ true
-      alone empty = refl
-      alone (node r k n) = refl

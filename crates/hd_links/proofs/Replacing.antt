@@ -14,7 +14,7 @@ use Rattle.hd_links.specs.Links.{Links, IsSegment, IsLinkGraph, segment_at, is_c
 use Rattle.hd_links.specs.Placed.{Placed, count, first_of, nowhere, with_node, with_nodes, StandAll, Stands, NamesChildren, Holds}
 use Rattle.hd_links.specs.Changes.{Agree, replaced, rewritten, with_bytes, CanReplace}
 use Rattle.hd_links.proofs.Types.{Ordered}
-use Rattle.hd_links.proofs.Forms.{Formed, is_behind, formed, segment_is, fits}
+use Rattle.hd_links.proofs.Forms.{first_behind_none, Formed, is_behind, formed, segment_is, fits}
 use Rattle.hd_links.proofs.Counts.{is_at}
 
 -- ---- two rows with one key
@@ -182,11 +182,7 @@ module _ (a : ℕ) (bytes : List ℕ) where
             graph,
             record {
               lies = record { roots = named 0 0 f G.header G.header_code H.lies.roots; nodes = stands };
-              fits = fits types O bound m2 graph 0 nowhere None (with_bytes a bytes f) stands form (alone (with_bytes a bytes f));
+              fits = fits types O bound m2 graph 0 nowhere None (with_bytes a bytes f) stands form (first_behind_none types (with_bytes a bytes f));
               once = λ b s. bytes_count b f ∙ H.once b (record { some = s.some; here = sym (A b).here ∙ s.here });
             },
           )
-        where
-          alone : (x : Forest Placed) → is_behind types None x ≡ true
-          alone empty = refl
-          alone (node r k n) = refl

@@ -10,11 +10,11 @@ use Rattle.hd_links.specs.Placed.{Placed, count, first_of, last_of, nowhere, wit
 use Rattle.hd_links.specs.Pointers.{IsTwinAfter, Precedes, AreLinked}
 use Rattle.hd_links.specs.Changes.{AgreeAt, Agree, unlinked, take_out, with_children, without_span, CanUnlink}
 use Rattle.hd_links.proofs.Types.{Ordered}
-use Rattle.hd_links.proofs.Forms.{Formed, is_behind, fits}
+use Rattle.hd_links.proofs.Forms.{first_behind_none, Formed, fits}
 use Rattle.hd_links.proofs.Build.{zero_or, last_same}
 use Rattle.hd_links.proofs.Counts.{is_at, count_zero, node_there, not_own}
 use Rattle.hd_links.proofs.Sound.{are_linked}
-use Rattle.hd_links.proofs.Joins.{join, AllPlaced, all_placed, pick, pick_zero, pick_some, count_join, first_join, last_join, last_none, last_some, last_one, one_counts, first_counts, first_one, IsOne, NotBelow, one_not_below, none_below, not_below_left}
+use Rattle.hd_links.proofs.Joins.{stands_right, placed_right, join, AllPlaced, all_placed, pick, pick_zero, pick_some, count_join, first_join, last_join, last_none, last_some, last_one, one_counts, first_counts, first_one, IsOne, NotBelow, one_not_below, none_below, not_below_left}
 use Rattle.hd_links.proofs.Touch.{all_three, not_second, not_third, Keeps, Touch, behind, before}
 use Rattle.hd_links.proofs.Lift.{Spot, spot, at_most_once, changed_lies, changed_formed, changed_count}
 use Rattle.hd_links.proofs.Places.{chain_one, one_there}
@@ -70,12 +70,8 @@ module _ (types : List SegmentType) (O : Ordered types) (bound : ℕ) (m m2 : Li
   front_placed : AllPlaced place.front
   front_placed = all_placed types m nowhere place.front (node place.row place.gone place.rest) stand_K
 
-  right : (b : ℕ → ℕ) (front rest : Forest Placed) → StandAll types m b (join front rest) → StandAll types m (with_nodes b front) rest
-  right b empty rest s = s
-  right b (node r k n) rest s = right (with_node b r) n rest s.2
-
   stand_right : StandAll types m (with_nodes nowhere place.front) (node place.row place.gone place.rest)
-  stand_right = right nowhere place.front (node place.row place.gone place.rest) stand_K
+  stand_right = stands_right types m nowhere place.front (node place.row place.gone place.rest) stand_K
 
   row_first : first_of (node place.row place.gone place.rest) (m.code a) ≡ a
   row_first = cond-true (place.row.segment.code == m.code a) place.row.address (first_of place.rest (m.code a)) (eq-eqb place.row.segment.code (m.code a) place.code) ∙ place.address
@@ -342,17 +338,13 @@ module _ (types : List SegmentType) (O : Ordered types) (bound : ℕ) (m m2 : Li
             ∙ S.named.first u q ∙ K_first u ∙ ap (pick (first_of place.front u)) (row_other u (λ i. ne (sym i))) ∙ sym (list_first u)
       ]
 
-  placed_right : (b : ℕ → ℕ) (rest : Forest Placed) → StandAll types m b rest → AllPlaced rest
-  placed_right b empty s = tt
-  placed_right b (node r k n) s = (s.0.there.some, placed_right (with_node b r) n s.2)
-
   names_last : (u : ℕ) → is_child_type types (m.code h) u ≡ true → is_last_kept types u ≡ true → m2.last_child h u ≡ last_of (join place.front place.rest) u
   names_last u q kept =
       (A h).last_child u parent_left q kept
       ∙ elim (cases_eq u (m.code a)) [
         | inl e ↦
             (let rest_is : first_of place.rest u ≡ m.forward a = ap (first_of place.rest) e ∙ z_is in
-            let placed : AllPlaced place.rest = placed_right (with_node (with_nodes nowhere place.front) place.row) place.rest stand_right.2 in
+            let placed : AllPlaced place.rest = placed_right types m (with_node (with_nodes nowhere place.front) place.row) place.rest stand_right.2 in
             elim (zero_or (m.forward a)) [
               | inl o ↦ cond-true (h == h && u == m.code a && m.forward a == 0) y (m.last_child h u)
                   (all_three (h == h) (u == m.code a) (m.forward a == 0) (eq-eqb h h refl) (eq-eqb u (m.code a) e) (eq-eqb (m.forward a) 0 o))
@@ -435,7 +427,7 @@ module _ (types : List SegmentType) (O : Ordered types) (bound : ℕ) (m m2 : Li
         graph,
         record {
           lies = lies;
-          fits = fits types O bound m2 graph 0 nowhere None (without_span h a f) lies.nodes form (alone (without_span h a f));
+          fits = fits types O bound m2 graph 0 nowhere None (without_span h a f) lies.nodes form (first_behind_none types (without_span h a f));
           once = λ b s.
               (let old : Stays b = there_stays b s in
               let i : count b f ≡ 1 = H.once b (is_segment b old) in
@@ -443,7 +435,3 @@ module _ (types : List SegmentType) (O : Ordered types) (bound : ℕ) (m m2 : Li
               let c : count b left + span b ≡ count b f = count_left b in omega arith);
         },
       )
-    where
-      alone : (x : Forest Placed) → is_behind types None x ≡ true
-      alone empty = refl
-      alone (node r k n) = refl
