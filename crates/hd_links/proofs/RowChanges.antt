@@ -340,6 +340,16 @@ rewritten_other : (a : ℕ) (bytes : List ℕ) (x : Placed) → (x.address ≡ a
 rewritten_other a bytes x ne =
     ap (λ (p : Placed). p.segment) (cond-false (x.address == a) (record { address = x.address; segment = record { code = x.segment.code; bytes = bytes } }) x (ne_eqb x.address a ne))
 
+-- the row of a number in the changed list
+row_set : (xs : List Segment) (i k : ℕ) (bytes : List ℕ) (a : ℕ) (x : Placed) (d : Segment) → i < length xs → (k ≡ i → x.address ≡ a) → ((k ≡ i → ⊥) → x.address ≡ a → ⊥)
+    → ((e : Segment) → get_or xs k e ≡ x.segment) → (rewritten a bytes x).segment ≡ get_or (slice_set xs i (record { code = (row_at xs i).code; bytes = bytes })) k d
+row_set xs i k bytes a x d within own other row = elim (cases_eq k i) [
+  | inl e ↦ rewritten_own a bytes x (own e)
+      ∙ ap (λ (s : Segment). record { code = s.code; bytes = bytes }) (sym (row no_row) ∙ ap (row_at xs) e)
+      ∙ sym (ap (λ y. get_or (slice_set xs i (record { code = (row_at xs i).code; bytes = bytes })) y d) e ∙ get_or-set_same xs i (record { code = (row_at xs i).code; bytes = bytes }) d within)
+  | inr ne ↦ rewritten_other a bytes x (other ne) ∙ sym (row d) ∙ sym (get_or-set_other xs i k (record { code = (row_at xs i).code; bytes = bytes }) d ne)
+]
+
 pub bytes_in : (types : List SegmentType) (m : Links) (f : Forest Placed) (i : ℕ) (bytes : List ℕ) → Holds types m f → i < length (rows_of f)
     → (rows_of (with_bytes (address_at f i) bytes f) ≡ slice_set (rows_of f) i (record { code = (row_at (rows_of f) i).code; bytes = bytes }))
     × (addresses (with_bytes (address_at f i) bytes f) ≡ addresses f)
@@ -366,19 +376,6 @@ bytes_in types m f i bytes H within =
           ∙ ap (λ (p : Placed). p.segment) (get_or-map (rewritten a bytes) (sequence f) k nobody (rewritten a bytes nobody) k_in) in
           let row : (e : Segment) → get_or (rows_of f) k e ≡ here.segment
           = (λ e. ap (λ (x : List Segment). get_or x k e) (rows_map f) ∙ get_or-map (λ (p : Placed). p.segment) (sequence f) k nobody e k_in) in
-          elim (cases_eq k i) [
-            | inl e ↦
-                (let own : here.address ≡ a = at ∙ ap (address_at f) e in
-                got
-                ∙ rewritten_own a bytes here own
-                ∙ ap (λ (s : Segment). record { code = s.code; bytes = bytes }) (sym (row no_row) ∙ ap (row_at (rows_of f)) e)
-                ∙ sym (ap (λ x. get_or (slice_set (rows_of f) i new) x d) e ∙ get_or-set_same (rows_of f) i new d within))
-            | inr ne ↦
-                (let other : here.address ≡ a → ⊥ = (λ q. ne (A.once k i (omega arith) within (sym at ∙ q))) in
-                got
-                ∙ rewritten_other a bytes here other
-                ∙ sym (row d)
-                ∙ sym (get_or-set_other (rows_of f) i k new d ne))
-          ]),
+          got ∙ row_set (rows_of f) i k bytes a here d within (λ e. at ∙ ap (address_at f) e) (λ ne q. ne (A.once k i (omega arith) within (sym at ∙ q))) row),
       ap (map (λ (p : Placed). p.address)) (map_sequence a bytes f) ∙ addresses_kept a bytes (sequence f),
     )
