@@ -1,11 +1,12 @@
--- The twin before a segment, by twin backward.
+-- The twin before a segment, by twin backward, and the last of a chain, by last child.
 use Rattle.std.proofs.Common.{◌≡◌, ℕ, zero, suc, ◌<◌, List, true, arith, ap, sym, ◌∙◌, refl, subst, inl, inr}
 use Rattle.std.specs.Prelude.{◌==◌, ◌⊎◌}
 use Rattle.std.proofs.lemmas.Bool.{eq-eqb, ne_eqb, cond-true, cond-false}
 use Rattle.hd_dbd.specs.Types.{SegmentType}
-use Rattle.hd_links.specs.Links.{Links, IsSegment, is_child_type, is_backward_kept}
+use Rattle.hd_links.specs.Links.{Links, IsSegment, is_child_type, is_backward_kept, is_last_kept}
 use Rattle.hd_links.specs.Pointers.{IsTwinAfter, IsInChain, AreLinked}
-use Rattle.hd_links.specs.Changes.{CanUnlink}
+use Rattle.hd_links.specs.Changes.{twin_behind, CanUnlink}
+use Rattle.hd_links.proofs.Build.{zero_or}
 use Rattle.hd_links.proofs.Types.{Ordered}
 
 module _ (types : List SegmentType) (O : Ordered types) (m : Links) (L : AreLinked types m) (h t : ℕ) (here : m.here h ≡ true) (typed : is_child_type types (m.code h) t ≡ true) where
@@ -74,3 +75,20 @@ module _ (types : List SegmentType) (O : Ordered types) (m : Links) (L : AreLink
       some_of : (n p : ℕ) → IsTwinAfter m n p a → 0 < a
       some_of zero p w = subst (λ x. 0 < x) w.1 w.0
       some_of (suc n) p w = some_of n (m.forward p) w.1
+
+-- the last of the twins, by last child
+pub last_found : (types : List SegmentType) (m : Links) → AreLinked types m → (h t : ℕ) → m.here h ≡ true → is_child_type types (m.code h) t ≡ true → is_last_kept types t ≡ true
+    → (0 < m.last_child h t → IsInChain m (m.first_child h t) (m.last_child h t)) × (twin_behind m h t (m.last_child h t) ≡ 0)
+last_found types m L h t here typed kept = elim (zero_or (m.first_child h t)) [
+  | inl z ↦
+      (let none : m.last_child h t ≡ 0 = L.back.no_lasts h t here typed kept z in
+      (λ p. absurd (omega arith), cond-true (m.last_child h t == 0) (m.first_child h t) (m.forward (m.last_child h t)) (eq-eqb (m.last_child h t) 0 none) ∙ z))
+  | inr p ↦
+      (let E = L.back.lasts h t here typed kept p in
+      let some : 0 < m.last_child h t = ends E.0.0 (m.first_child h t) E.0.1 in
+      (λ q. E.0, cond-false (m.last_child h t == 0) (m.first_child h t) (m.forward (m.last_child h t)) (ne_eqb (m.last_child h t) 0 (λ (e : m.last_child h t ≡ 0). omega arith)) ∙ E.1))
+]
+  where
+    ends : (n p : ℕ) → IsTwinAfter m n p (m.last_child h t) → 0 < m.last_child h t
+    ends zero p w = subst (λ x. 0 < x) w.1 w.0
+    ends (suc n) p w = ends n (m.forward p) w.1

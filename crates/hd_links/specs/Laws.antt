@@ -7,10 +7,10 @@ use Rattle.hd_dbd.specs.Segment.{Segment}
 use Rattle.hd_dbd.specs.Rows.{twins_in_order}
 use Rattle.hd_dbd.specs.Paths.{row_at, end_of, is_twin}
 use Rattle.hd_dbd.specs.Forest.{Forest, sequence}
-use Rattle.hd_links.specs.Links.{Links, IsLinkGraph, is_child_type, is_backward_kept}
+use Rattle.hd_links.specs.Links.{Links, IsLinkGraph, is_child_type, is_backward_kept, is_last_kept}
 use Rattle.hd_links.specs.Placed.{Placed, forest_of, count, Lies, Holds}
 use Rattle.hd_links.specs.Pointers.{IsInChain, AreLinked, PointersAreTyped, PredecessorsAreOne, IsTwinAfter}
-use Rattle.hd_links.specs.Changes.{AgreeAt, Agree, linked, unlinked, replaced, with_leaf, without_span, with_bytes, CanLink, CanUnlink, CanReplace}
+use Rattle.hd_links.specs.Changes.{AgreeAt, Agree, twin_behind, linked, unlinked, replaced, with_leaf, without_span, with_bytes, CanLink, CanUnlink, CanReplace}
 use Rattle.hd_links.specs.Steps.{rows_of, addresses, address_at, RowsHaveAddresses, next_row, StepsAreRows}
 use Rattle.hd_links.specs.Numbers.{LeafGoesInAt, RowsLeave}
 use Rattle.hd_links.specs.Broken.{BrokenRecords}
@@ -105,6 +105,14 @@ BackwardNamesTheTwinBefore =
     → IsTrue (well_formed block_size frspc types) → IsLinkGraph types bound m → Holds types m f
     → m.here h ≡ true → is_child_type types (m.code h) (m.code a) ≡ true → IsInChain m (m.first_child h (m.code a)) a → is_backward_kept types (m.code a) ≡ true
     → CanUnlink types m h (m.backward a) a
+
+-- Where last child is kept it names the twin behind which a new last one is linked, or 0 for the first.
+abbrev pub LastChildEndsTheTwins : Type 0
+LastChildEndsTheTwins =
+    (block_size : ℕ) (frspc : FreeSpace) (types : List SegmentType) (bound : ℕ) (m : Links) (f : Forest Placed) (h t : ℕ)
+    → IsTrue (well_formed block_size frspc types) → IsLinkGraph types bound m → Holds types m f
+    → m.here h ≡ true → is_child_type types (m.code h) t ≡ true → is_last_kept types t ≡ true
+    → (0 < m.last_child h t → IsInChain m (m.first_child h t) (m.last_child h t)) × (twin_behind m h t (m.last_child h t) ≡ 0)
 
 -- Bytes that are replaced change one row, and no address.
 abbrev pub BytesChangeOneRow : Type 0

@@ -1,4 +1,4 @@
-ghost use Rattle.hd_links.specs.Laws.{PointersDecide, HeldTwinsAscend, LiesByItsPlaces, LinkingAddsALeaf, UnlinkingTakesASpan, ReplacingChangesBytes, AddressesAreRows, PointersFollowRows, BrokenRecordsHoldNone, LeavesGoInBetweenRows, SpansAreRowsToTheirEnd, BytesChangeOneRow, BackwardNamesTheTwinBefore, ChainsEnd};
+ghost use Rattle.hd_links.specs.Laws.{PointersDecide, HeldTwinsAscend, LiesByItsPlaces, LinkingAddsALeaf, UnlinkingTakesASpan, ReplacingChangesBytes, AddressesAreRows, PointersFollowRows, BrokenRecordsHoldNone, LeavesGoInBetweenRows, SpansAreRowsToTheirEnd, BytesChangeOneRow, BackwardNamesTheTwinBefore, ChainsEnd, LastChildEndsTheTwins};
 
 /// The pointers of a database's records decide which forest they hold.
 pub fn law_pointers_decide()
@@ -60,6 +60,11 @@ pub fn law_spans_are_rows_to_their_end()
 /// Where twin backward is kept it names the twin behind which a span is unlinked, or 0 for the first.
 pub fn law_backward_names_the_twin_before()
     ensures { BackwardNamesTheTwinBefore }
+{}
+
+/// Where last child is kept it names the twin behind which a new last one is linked, or 0 for the first.
+pub fn law_last_child_ends_the_twins()
+    ensures { LastChildEndsTheTwins }
 {}
 
 /// Bytes that are replaced change one row, and no address.
