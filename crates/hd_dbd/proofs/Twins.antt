@@ -89,7 +89,7 @@ siblings_later types p r later =
     cond-false (p.code == r.code) (twins_in_order types p r) (nat_lt p.code r.code) (ne_eqb p.code r.code (λ same. omega arith)) ∙ lt-ltb p.code r.code later
 
 -- the order of rows of one parent goes on over one that stands between
-siblings_trans : (types : List SegmentType) (p q r : Segment) → siblings_in_order types p q ≡ true → siblings_in_order types q r ≡ true → siblings_in_order types p r ≡ true
+pub siblings_trans : (types : List SegmentType) (p q r : Segment) → siblings_in_order types p q ≡ true → siblings_in_order types q r ≡ true → siblings_in_order types p r ≡ true
 siblings_trans types p q r h k = by_cases (siblings_cases types p q h) (siblings_cases types q r k)
   where
     by_cases : ((p.code ≡ q.code) × (twins_in_order types p q ≡ true)) ⊎ (p.code < q.code)

@@ -1,0 +1,27 @@
+pub mod Types
+pub mod Forms
+pub mod Unique
+pub mod Build
+pub mod Counts
+pub mod Sound
+pub mod Decide
+pub mod Joins
+pub mod Touch
+pub mod Lift
+pub mod Places
+pub mod Linking
+pub mod Gaps
+pub mod Unlinking
+pub mod Replacing
+pub mod Numbers
+pub mod Ways
+pub mod Standing
+pub mod Scans
+pub mod PathSteps
+pub mod Following
+pub mod Broken
+pub mod Ends
+pub mod Backward
+pub mod Sequels
+pub mod RowChanges
+mod WorkedImage
