@@ -6,7 +6,7 @@ use Rattle.hd_dbd.specs.Types.{SegmentType}
 use Rattle.hd_dbd.specs.Rows.{twins_in_order}
 use Rattle.hd_dbd.specs.Forest.{Forest, empty, node}
 use Rattle.hd_links.specs.Links.{Links, IsSegment, IsLinkGraph, segment_at, child_types, is_child_type, is_backward_kept}
-use Rattle.hd_links.specs.Placed.{Placed, first_of, nowhere, with_node, with_nodes, StandAll, NamesChildren}
+use Rattle.hd_links.specs.Placed.{Placed, first_of, nowhere, with_node, with_nodes, NodesLie, NamesChildren}
 use Rattle.hd_links.specs.Pointers.{IsTwinAfter, IsReached, AreLinked}
 use Rattle.hd_links.proofs.Types.{Ordered, AllAbove, Ascending, is_in, in_cases, in_head, in_tail}
 use Rattle.hd_links.proofs.Forms.{Formed, is_behind, code_follows, key_follows}
@@ -64,7 +64,7 @@ pub last_same : (b b2 : ℕ → ℕ) (u : ℕ) (f : Forest Placed) → b u ≡ b
 last_same b b2 u empty e = e
 last_same b b2 u (node r k n) e = last_same (with_node b r) (with_node b2 r) u n (then_same b b2 r u e)
 
-stand_same : (types : List SegmentType) (m : Links) (b b2 : ℕ → ℕ) (t : ℕ) (f : Forest Placed) → Above t f → ((u : ℕ) → t < u → b u ≡ b2 u) → StandAll types m b f → StandAll types m b2 f
+stand_same : (types : List SegmentType) (m : Links) (b b2 : ℕ → ℕ) (t : ℕ) (f : Forest Placed) → Above t f → ((u : ℕ) → t < u → b u ≡ b2 u) → NodesLie types m b f → NodesLie types m b2 f
 stand_same types m b b2 t empty h e l = tt
 stand_same types m b b2 t (node r k n) h e l = (
   record { there = l.0.there; code = l.0.code; bytes = l.0.bytes; delete_byte = l.0.delete_byte; forward = l.0.forward; backward = λ q. l.0.backward q ∙ e r.segment.code h.0; children = l.0.children },
@@ -232,9 +232,9 @@ module _ (types : List SegmentType) (m : Links) (L : AreLinked types m) (O : Ord
               ∙ k_last b l ts w2 a.1 t (elim (in_cases v t ts h) [ inl e2 ↦ absurd (ne e2) | inr s ↦ s ]) z e
         ]
 
-    pub k_stand : ((t : ℕ) (rest : Forest Placed) → is_in all t ≡ true → Above t rest → StandAll types m nowhere rest → StandAll types m nowhere (build types m f (m.first_child p t) rest))
+    pub k_stand : ((t : ℕ) (rest : Forest Placed) → is_in all t ≡ true → Above t rest → NodesLie types m nowhere rest → NodesLie types m nowhere (build types m f (m.first_child p t) rest))
         → (ts : List ℕ) → ((t : ℕ) → is_in ts t ≡ true → is_in all t ≡ true) → Ascending ts
-        → StandAll types m nowhere (chains (λ t below. build types m f (m.first_child p t) below) ts)
+        → NodesLie types m nowhere (chains (λ t below. build types m f (m.first_child p t) below) ts)
     k_stand ih [] w a = tt
     k_stand ih (t ∷ ts) w a =
         let w2 : (u : ℕ) → is_in ts u ≡ true → is_in all u ≡ true = (λ u q. w u (in_tail t u ts q)) in
@@ -261,7 +261,7 @@ module _ (types : List SegmentType) (m : Links) (L : AreLinked types m) (O : Ord
       }
 
   pub b_stand : (b : ℕ → ℕ) (n f p t : ℕ) (rest : Forest Placed) → Fit n f p t → Above t rest → (0 < p → is_backward_kept types t ≡ true → m.backward p ≡ b t)
-      → StandAll types m b rest → StandAll types m b (build types m f p rest)
+      → NodesLie types m b rest → NodesLie types m b (build types m f p rest)
   b_stand b n zero p t rest F h e l = l
   b_stand b n (suc f) zero t rest F h e l = l
   b_stand b n (suc f) (suc p) t rest F h e l =
@@ -344,7 +344,7 @@ module _ (types : List SegmentType) (m : Links) (L : AreLinked types m) (O : Ord
     unfolding built
     built_roots = names_children 1 fuel 0 G.header fits
 
-    pub built_stand : StandAll types m nowhere built
+    pub built_stand : NodesLie types m nowhere built
     unfolding built
     built_stand = k_stand 1 fuel 0 (child_types types (m.code 0)) fits
         (λ t below w a l. b_stand nowhere 1 fuel (m.first_child 0 t) t below (fits t w) a

@@ -5,7 +5,7 @@ use Rattle.std.proofs.lemmas.Bool.{cases_eq, cases_Bool, eq-eqb, ne_eqb, cond-tr
 use Rattle.hd_dbd.specs.Types.{SegmentType}
 use Rattle.hd_dbd.specs.Forest.{Forest, empty, node}
 use Rattle.hd_links.specs.Links.{Links, IsSegment, IsLinkGraph, segment_at, is_child_type}
-use Rattle.hd_links.specs.Placed.{Placed, count, first_of, nowhere, with_node, StandAll, NamesChildren, Lies}
+use Rattle.hd_links.specs.Placed.{Placed, count, first_of, nowhere, with_node, NodesLie, NamesChildren, Lies}
 use Rattle.hd_links.specs.Pointers.{IsParentOfFirst, Precedes, IsReached, PointersAreTyped, PredecessorsAreOne}
 use Rattle.hd_links.proofs.Types.{Ordered, code_some}
 use Rattle.hd_links.proofs.Forms.{Formed, none_of}
@@ -91,7 +91,7 @@ module _ (types : List SegmentType) (O : Ordered types) (bound : ℕ) (m : Links
       ]
 
   -- each place of an address is the head of a chain, or a pointer of some node names it
-  pub count_eq : (a : ℕ) → IsSegment m a → (c : ℕ) (b : ℕ → ℕ) (f : Forest Placed) → StandAll types m b f → Formed types c f
+  pub count_eq : (a : ℕ) → IsSegment m a → (c : ℕ) (b : ℕ → ℕ) (f : Forest Placed) → NodesLie types m b f → Formed types c f
       → count a f ≡ is_at (first_of f (m.code a)) a + total (λ x. is_at (slot types m x a) a) f
   count_eq a s c b empty l h = (let p : 0 < a = s.some in let e : is_at 0 a ≡ 0 = none_at 0 a (λ (e : 0 ≡ a). omega arith) in omega arith)
   count_eq a s c b (node r k n) l h =
@@ -130,14 +130,14 @@ module _ (types : List SegmentType) (O : Ordered types) (bound : ℕ) (m : Links
       (let c : count a f ≡ is_at (first_of f (m.code a)) a + total (λ x. is_at (slot types m x a) a) f = count_eq a s 0 nowhere f l.nodes h in
       let e : is_at (first_of f (m.code a)) a ≡ is_at (slot types m 0 a) a = ap (λ x. is_at x a) (roots_slot f l.roots h a s) in omega arith)
 
-pub total_same : (types : List SegmentType) (m : Links) (e e2 : ℕ → ℕ) (b : ℕ → ℕ) (f : Forest Placed) → StandAll types m b f → ((x : ℕ) → IsSegment m x → e x ≡ e2 x) → total e f ≡ total e2 f
+pub total_same : (types : List SegmentType) (m : Links) (e e2 : ℕ → ℕ) (b : ℕ → ℕ) (f : Forest Placed) → NodesLie types m b f → ((x : ℕ) → IsSegment m x → e x ≡ e2 x) → total e f ≡ total e2 f
 total_same types m e e2 b empty l h = refl
 total_same types m e e2 b (node r k n) l h =
     (let x : e r.address ≡ e2 r.address = h r.address l.0.there in
     let y : total e k ≡ total e2 k = total_same types m e e2 nowhere k l.1 h in
     let z : total e n ≡ total e2 n = total_same types m e e2 (with_node b r) n l.2 h in omega arith)
 
-pub total_least : (types : List SegmentType) (m : Links) (e e2 : ℕ → ℕ) (b : ℕ → ℕ) (f : Forest Placed) → StandAll types m b f → ((x : ℕ) → IsSegment m x → e x ≤ e2 x) → total e f ≤ total e2 f
+pub total_least : (types : List SegmentType) (m : Links) (e e2 : ℕ → ℕ) (b : ℕ → ℕ) (f : Forest Placed) → NodesLie types m b f → ((x : ℕ) → IsSegment m x → e x ≤ e2 x) → total e f ≤ total e2 f
 total_least types m e e2 b empty l h = omega arith
 total_least types m e e2 b (node r k n) l h =
     (let x : e r.address ≤ e2 r.address = h r.address l.0.there in
@@ -159,7 +159,7 @@ count_total a empty = refl
 count_total a (node r k n) = (let x : count a k ≡ total (λ x. is_at x a) k = count_total a k in let y : count a n ≡ total (λ x. is_at x a) n = count_total a n in omega arith)
 
 -- the header is no node
-pub count_zero : (types : List SegmentType) (m : Links) (b : ℕ → ℕ) (f : Forest Placed) → StandAll types m b f → count 0 f ≡ 0
+pub count_zero : (types : List SegmentType) (m : Links) (b : ℕ → ℕ) (f : Forest Placed) → NodesLie types m b f → count 0 f ≡ 0
 count_zero types m b empty l = refl
 count_zero types m b (node r k n) l =
     (let p : 0 < r.address = l.0.there.some in
@@ -168,7 +168,7 @@ count_zero types m b (node r k n) l =
     let y : count 0 n ≡ 0 = count_zero types m (with_node b r) n l.2 in omega arith)
 
 -- where no record is, no node is
-pub absent : (types : List SegmentType) (m : Links) (a : ℕ) (b : ℕ → ℕ) (f : Forest Placed) → StandAll types m b f → m.here a ≡ false → count a f ≡ 0
+pub absent : (types : List SegmentType) (m : Links) (a : ℕ) (b : ℕ → ℕ) (f : Forest Placed) → NodesLie types m b f → m.here a ≡ false → count a f ≡ 0
 absent types m a b empty l h = refl
 absent types m a b (node r k n) l h =
     (let w : is_at r.address a ≡ 0 = none_at r.address a (λ z. false≢true (sym h ∙ sym (ap m.here z) ∙ l.0.there.here)) in
@@ -176,7 +176,7 @@ absent types m a b (node r k n) l h =
     let y : count a n ≡ 0 = absent types m a (with_node b r) n l.2 h in omega arith)
 
 -- a node is a segment
-pub node_there : (types : List SegmentType) (m : Links) (a : ℕ) (b : ℕ → ℕ) (f : Forest Placed) → StandAll types m b f → 0 < count a f → IsSegment m a
+pub node_there : (types : List SegmentType) (m : Links) (a : ℕ) (b : ℕ → ℕ) (f : Forest Placed) → NodesLie types m b f → 0 < count a f → IsSegment m a
 node_there types m a b f l p = record {
   some = elim (zero_or a) [
     | inl e ↦ absurd (let z : count 0 f ≡ 0 = count_zero types m b f l in let q : count a f ≡ count 0 f = ap (λ x. count x f) e in omega arith)

@@ -10,7 +10,7 @@ use Rattle.hd_dbd.specs.Rows.{row_fits, siblings_in_order, twins_in_order}
 use Rattle.hd_dbd.specs.Forest.{Forest, empty, node, fits_below}
 use Rattle.hd_dbd.proofs.Names.{option_eq-Decides}
 use Rattle.hd_links.specs.Links.{Links, IsLinkGraph, is_child_type, segment_at}
-use Rattle.hd_links.specs.Placed.{Placed, forest_of, first_of, nowhere, with_node, StandAll, Stands}
+use Rattle.hd_links.specs.Placed.{Placed, forest_of, first_of, nowhere, with_node, NodesLie, NodeLies}
 use Rattle.hd_links.proofs.Types.{Ordered, above, above_some, code_some}
 
 -- the first of these nodes may stand behind a row
@@ -81,12 +81,12 @@ formed types O c before (node p k n) h =
       formed types O c (Some p.segment) n d.1,
     )
 
-pub segment_is : (types : List SegmentType) (m : Links) (table : ℕ → ℕ) (p : Placed) (k n : Forest Placed) → Stands types m table p k n → segment_at m p.address ≡ p.segment
+pub segment_is : (types : List SegmentType) (m : Links) (table : ℕ → ℕ) (p : Placed) (k n : Forest Placed) → NodeLies types m table p k n → segment_at m p.address ≡ p.segment
 segment_is types m table p k n s = (λ i. record { code = s.code i; bytes = s.bytes i })
 
 -- and what is formed and stands in the records fits
 pub fits : (types : List SegmentType) (O : Ordered types) (bound : ℕ) (m : Links) (G : IsLinkGraph types bound m) (c : ℕ) (table : ℕ → ℕ) (before : Option Segment) (f : Forest Placed)
-    → StandAll types m table f → Formed types c f → is_behind types before f ≡ true → fits_below types (above c) before (forest_of f) ≡ true
+    → NodesLie types m table f → Formed types c f → is_behind types before f ≡ true → fits_below types (above c) before (forest_of f) ≡ true
 fits types O bound m G c table before empty s h b = refl
 fits types O bound m G c table before (node p k n) s h b =
     let row : row_fits types p.segment ≡ true = ap (row_fits types) (sym (segment_is types m table p k n s.0)) ∙ G.fits p.address s.0.there in

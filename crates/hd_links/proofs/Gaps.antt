@@ -7,7 +7,7 @@ use Rattle.hd_dbd.specs.Rows.{siblings_in_order}
 use Rattle.hd_dbd.specs.Forest.{Forest, empty, node}
 use Rattle.hd_dbd.proofs.Twins.{siblings_trans}
 use Rattle.hd_links.specs.Links.{Links}
-use Rattle.hd_links.specs.Placed.{Placed, count, first_of, with_node, with_nodes, StandAll}
+use Rattle.hd_links.specs.Placed.{Placed, count, first_of, with_node, with_nodes, NodesLie}
 use Rattle.hd_links.specs.Changes.{take_out}
 use Rattle.hd_links.proofs.Forms.{Formed, is_behind}
 use Rattle.hd_links.proofs.Build.{zero_or}
@@ -15,7 +15,7 @@ use Rattle.hd_links.proofs.Counts.{is_at, one_at}
 use Rattle.hd_links.proofs.Joins.{join, AllPlaced, all_placed, pick_zero, first_join, last_none, one_counts, first_one, IsOne}
 
 -- the twin behind one of the nodes is one of them
-pub next_one : (types : List SegmentType) (m : Links) (t y : ℕ) (b : ℕ → ℕ) (K : Forest Placed) → StandAll types m b K → IsOne t y K → 0 < m.forward y → IsOne t (m.forward y) K
+pub next_one : (types : List SegmentType) (m : Links) (t y : ℕ) (b : ℕ → ℕ) (K : Forest Placed) → NodesLie types m b K → IsOne t y K → 0 < m.forward y → IsOne t (m.forward y) K
 next_one types m t y b empty s o some = absurd o
 next_one types m t y b (node r k n) s (inl e) some =
     let is : m.forward y ≡ first_of n t = ap m.forward (sym e.0) ∙ s.0.forward ∙ ap (first_of n) e.1 in
@@ -23,7 +23,7 @@ next_one types m t y b (node r k n) s (inl e) some =
 next_one types m t y b (node r k n) s (inr o) some = inr (next_one types m t y (with_node b r) n s.2 o some)
 
 -- the last of the front names the first behind
-pub last_forward : (types : List SegmentType) (m : Links) (t : ℕ) (b : ℕ → ℕ) (front rest : Forest Placed) → StandAll types m b (join front rest) → 0 < first_of front t
+pub last_forward : (types : List SegmentType) (m : Links) (t : ℕ) (b : ℕ → ℕ) (front rest : Forest Placed) → NodesLie types m b (join front rest) → 0 < first_of front t
     → m.forward (with_nodes b front t) ≡ first_of rest t
 last_forward types m t b empty rest s some = absurd (omega arith)
 last_forward types m t b (node r k n) rest s some = elim (zero_or (first_of n t)) [

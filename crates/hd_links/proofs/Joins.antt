@@ -6,7 +6,7 @@ use Rattle.std.proofs.lemmas.List.{append_assoc}
 use Rattle.hd_dbd.specs.Types.{SegmentType}
 use Rattle.hd_dbd.specs.Forest.{Forest, empty, node, sequence}
 use Rattle.hd_links.specs.Links.{Links}
-use Rattle.hd_links.specs.Placed.{Placed, count, first_of, with_node, with_nodes, StandAll}
+use Rattle.hd_links.specs.Placed.{Placed, count, first_of, with_node, with_nodes, NodesLie}
 use Rattle.hd_links.proofs.Build.{zero_or, last_same}
 use Rattle.hd_links.proofs.Counts.{is_at, one_at}
 
@@ -20,16 +20,16 @@ abbrev pub AllPlaced : Forest Placed → Type 0
 AllPlaced empty = Unit {0}
 AllPlaced (node r k n) = (0 < r.address) × AllPlaced n
 
-pub all_placed : (types : List SegmentType) (m : Links) (b : ℕ → ℕ) (f g : Forest Placed) → StandAll types m b (join f g) → AllPlaced f
+pub all_placed : (types : List SegmentType) (m : Links) (b : ℕ → ℕ) (f g : Forest Placed) → NodesLie types m b (join f g) → AllPlaced f
 all_placed types m b empty g s = tt
 all_placed types m b (node r k n) g s = (s.0.there.some, all_placed types m (with_node b r) n g s.2)
 
 -- the second part stands behind the first
-pub stands_right : (types : List SegmentType) (m : Links) (b : ℕ → ℕ) (f g : Forest Placed) → StandAll types m b (join f g) → StandAll types m (with_nodes b f) g
+pub stands_right : (types : List SegmentType) (m : Links) (b : ℕ → ℕ) (f g : Forest Placed) → NodesLie types m b (join f g) → NodesLie types m (with_nodes b f) g
 stands_right types m b empty g s = s
 stands_right types m b (node r k n) g s = stands_right types m (with_node b r) n g s.2
 
-pub placed_right : (types : List SegmentType) (m : Links) (b : ℕ → ℕ) (f : Forest Placed) → StandAll types m b f → AllPlaced f
+pub placed_right : (types : List SegmentType) (m : Links) (b : ℕ → ℕ) (f : Forest Placed) → NodesLie types m b f → AllPlaced f
 placed_right types m b empty s = tt
 placed_right types m b (node r k n) s = (s.0.there.some, placed_right types m (with_node b r) n s.2)
 

@@ -19,7 +19,7 @@ pub mod Standing
 pub mod Scans
 pub mod PathSteps
 pub mod Following
-pub mod Broken
+pub mod Faulty
 pub mod Ends
 pub mod Backward
 pub mod Sequels

@@ -6,7 +6,7 @@ use Rattle.hd_dbd.specs.Types.{SegmentType}
 use Rattle.hd_dbd.specs.Segment.{Segment}
 use Rattle.hd_dbd.specs.Forest.{Forest, empty, node}
 use Rattle.hd_links.specs.Links.{Links, IsLinkGraph, is_child_type, is_backward_kept}
-use Rattle.hd_links.specs.Placed.{Placed, count, first_of, nowhere, with_node, with_nodes, StandAll, NamesChildren, Lies, Holds}
+use Rattle.hd_links.specs.Placed.{Placed, count, first_of, nowhere, with_node, with_nodes, NodesLie, NamesChildren, Lies, Holds}
 use Rattle.hd_links.specs.Changes.{AgreeAt, change_below, with_children}
 use Rattle.hd_links.proofs.Types.{Ordered}
 use Rattle.hd_links.proofs.Forms.{Formed, is_behind, formed}
@@ -37,11 +37,11 @@ children_least h (node r k n) K (inr (inr e)) a = (let i : count a K + is_at h a
 pub record Found (types : List SegmentType) (m : Links) (h : ℕ) (f : Forest Placed) : Type 0 where
   pub below : Forest Placed
   pub is : ChildrenOf h f below
-  pub stand : StandAll types m nowhere below
+  pub stand : NodesLie types m nowhere below
   pub formed : Formed types (m.code h) below
   pub named : NamesChildren types m (m.code h) h below
 
-pub find_children : (types : List SegmentType) (m : Links) (h c : ℕ) (b : ℕ → ℕ) (f : Forest Placed) → StandAll types m b f → Formed types c f → 0 < count h f → Found types m h f
+pub find_children : (types : List SegmentType) (m : Links) (h c : ℕ) (b : ℕ → ℕ) (f : Forest Placed) → NodesLie types m b f → Formed types c f → 0 < count h f → Found types m h f
 find_children types m h c b empty l F p = absurd (omega arith)
 find_children types m h c b (node r k n) l F p = elim (cases_eq r.address h) [
   | inl e ↦
@@ -96,7 +96,7 @@ module _ (h : ℕ) (g : Forest Placed → Forest Placed) where
     | inr ne ↦ ap (is_behind types before) (opened r k n ne)
   ]
 
-  pub below_formed : (types : List SegmentType) (m : Links) (K : Forest Placed) (c : ℕ) (b : ℕ → ℕ) (f : Forest Placed) → StandAll types m b f → Formed types c f → count h f ≤ 1
+  pub below_formed : (types : List SegmentType) (m : Links) (K : Forest Placed) (c : ℕ) (b : ℕ → ℕ) (f : Forest Placed) → NodesLie types m b f → Formed types c f → count h f ≤ 1
       → (0 < count h f → ChildrenOf h f K) → Formed types (m.code h) (g K) → Formed types c (change_below h g f)
   below_formed types m K c b empty l F o C G = tt
   below_formed types m K c b (node r k n) l F o C G = elim (cases_eq r.address h) [
@@ -166,10 +166,10 @@ module _ (h : ℕ) (g : Forest Placed → Forest Placed) where
 
   module _ (types : List SegmentType) (m m2 : Links) (K : Forest Placed) (own : Keeps m m2 h) (own_forward : m2.forward h ≡ m.forward h)
       (own_backward : is_backward_kept types (m.code h) ≡ true → m2.backward h ≡ m.backward h)
-      (stand : StandAll types m2 nowhere (g K)) (names : NamesChildren types m2 (m.code h) h (g K)) where
-    pub below_stand : (b : ℕ → ℕ) (f : Forest Placed) → StandAll types m b f → ((a : ℕ) → count a f ≤ 1) → (0 < count h f → ChildrenOf h f K)
+      (stand : NodesLie types m2 nowhere (g K)) (names : NamesChildren types m2 (m.code h) h (g K)) where
+    pub below_stand : (b : ℕ → ℕ) (f : Forest Placed) → NodesLie types m b f → ((a : ℕ) → count a f ≤ 1) → (0 < count h f → ChildrenOf h f K)
         → ((a : ℕ) → 0 < count a f → (a ≡ h → ⊥) → (0 < count h f → count a K ≡ 0) → AgreeAt types m m2 a)
-        → StandAll types m2 b (change_below h g f)
+        → NodesLie types m2 b (change_below h g f)
     below_stand b empty l once C same = tt
     below_stand b (node r k n) l once C same =
         let oh : count h (node r k n) ≤ 1 = once h in
@@ -184,13 +184,13 @@ module _ (h : ℕ) (g : Forest Placed → Forest Placed) where
                 ]
               ] in
               let code : m.code h ≡ r.segment.code = ap m.code (sym e) ∙ l.0.code in
-              subst (StandAll types m2 b) (sym (at_own r k n e)) (
+              subst (NodesLie types m2 b) (sym (at_own r k n e)) (
                 move types m m2 b b r k (g k) n n l.0 (subst (Keeps m m2) (sym e) own)
                     (subst (λ (x : Forest Placed). NamesChildren types m2 r.segment.code r.address (g x)) (sym is_k)
                     (subst (λ x. NamesChildren types m2 r.segment.code x (g K)) (sym e) (subst (λ x. NamesChildren types m2 x h (g K)) code names)))
                     (ap m2.forward e ∙ own_forward ∙ ap m.forward (sym e) ∙ l.0.forward)
                     (λ q. ap m2.backward e ∙ own_backward (ap (λ x. is_backward_kept types x) code ∙ q) ∙ ap m.backward (sym e) ∙ l.0.backward q),
-                subst (λ (x : Forest Placed). StandAll types m2 nowhere (g x)) (sym is_k) stand,
+                subst (λ (x : Forest Placed). NodesLie types m2 nowhere (g x)) (sym is_k) stand,
                 frame types m m2 (with_node b r) n l.2
                     (λ a p. same a (omega arith)
                     (λ w. (let z : count a n ≡ count h n = ap (λ x. count x n) w in omega arith))
@@ -209,7 +209,7 @@ module _ (h : ℕ) (g : Forest Placed → Forest Placed) where
                 ]
               ]) in
               let here : m.here r.address ≡ true = l.0.there.here in
-              subst (StandAll types m2 b) (sym (opened r k n ne)) (
+              subst (NodesLie types m2 b) (sym (opened r k n ne)) (
                 move types m m2 b b r k (change_below h g k) n (change_below h g n) l.0
                     (record { here = A.here; code = A.code here; bytes = A.bytes l.0.there; delete_byte = A.delete_byte l.0.there })
                     (record {
@@ -257,7 +257,7 @@ at_most_once types m f H a = elim (zero_or (count a f)) [
 -- the nodes below a record, the header or a segment
 pub record Spot (types : List SegmentType) (m : Links) (h : ℕ) (f K : Forest Placed) : Type 0 where
   pub is : ((h ≡ 0) × (f ≡ K)) ⊎ ((0 < h) × ChildrenOf h f K)
-  pub stand : StandAll types m nowhere K
+  pub stand : NodesLie types m nowhere K
   pub formed : Formed types (m.code h) K
   pub named : NamesChildren types m (m.code h) h K
   pub part : (a : ℕ) → count a K ≤ count a f
@@ -309,7 +309,7 @@ module _ (types : List SegmentType) (O : Ordered types) (bound : ℕ) (m : Links
   module _ (m2 : Links) (h : ℕ) (g : Forest Placed → Forest Placed) (K : Forest Placed) (S : Spot types m h f K)
       (same : (a : ℕ) → m.here a ≡ true → (a ≡ h → ⊥) → count a K ≡ 0 → AgreeAt types m m2 a)
       (own : 0 < h → Keeps m m2 h × (m2.forward h ≡ m.forward h) × (is_backward_kept types (m.code h) ≡ true → m2.backward h ≡ m.backward h))
-      (stand : StandAll types m2 nowhere (g K)) (names : NamesChildren types m2 (m.code h) h (g K)) (good : Formed types (m.code h) (g K)) where
+      (stand : NodesLie types m2 nowhere (g K)) (names : NamesChildren types m2 (m.code h) h (g K)) (good : Formed types (m.code h) (g K)) where
     at_header : h ≡ 0 → with_children h g f ≡ g f
     at_header z = cond-true (h == 0) (g f) (change_below h g f) (eq-eqb h 0 z)
 

@@ -6,7 +6,7 @@ use Rattle.hd_dbd.specs.Types.{SegmentType}
 use Rattle.hd_dbd.specs.Rows.{row_fits, twins_in_order}
 use Rattle.hd_dbd.specs.Forest.{Forest, empty, node}
 use Rattle.hd_links.specs.Links.{Links, IsSegment, IsLinkGraph, segment_at, is_child_type, is_backward_kept, is_last_kept}
-use Rattle.hd_links.specs.Placed.{Placed, count, first_of, last_of, nowhere, with_node, with_nodes, StandAll, Stands, NamesChildren, Lies, Holds}
+use Rattle.hd_links.specs.Placed.{Placed, count, first_of, last_of, nowhere, with_node, with_nodes, NodesLie, NodeLies, NamesChildren, Lies, Holds}
 use Rattle.hd_links.specs.Pointers.{IsTwinAfter, AreLinked}
 use Rattle.hd_links.specs.Changes.{AgreeAt, Agree, twin_behind, linked, put_first, put_behind, with_children, with_leaf, CanLink}
 use Rattle.hd_links.proofs.Types.{Ordered}
@@ -50,7 +50,7 @@ module _ (types : List SegmentType) (O : Ordered types) (bound : ℕ) (m m2 : Li
   place = elim (zero_or y) [
     | inl e ↦
         (let P : FirstPlace p.segment.code p K = first_place p K in
-        let front : AllPlaced P.front = all_placed types m nowhere P.front P.rest (subst (StandAll types m nowhere) P.is S.stand) in
+        let front : AllPlaced P.front = all_placed types m nowhere P.front P.rest (subst (NodesLie types m nowhere) P.is S.stand) in
         record {
           front = P.front;
           rest = P.rest;
@@ -76,8 +76,8 @@ module _ (types : List SegmentType) (O : Ordered types) (bound : ℕ) (m m2 : Li
         })
   ]
 
-  stand_K : StandAll types m nowhere (join place.front place.rest)
-  stand_K = subst (StandAll types m nowhere) place.is S.stand
+  stand_K : NodesLie types m nowhere (join place.front place.rest)
+  stand_K = subst (NodesLie types m nowhere) place.is S.stand
 
   front_placed : AllPlaced place.front
   front_placed = all_placed types m nowhere place.front place.rest stand_K
@@ -219,7 +219,7 @@ module _ (types : List SegmentType) (O : Ordered types) (bound : ℕ) (m m2 : Li
   new_code : (linked m h y p).code p.address ≡ p.segment.code
   new_code = cond-true (p.address == p.address) p.segment.code (m.code p.address) own_eq
 
-  new_stands : Stands types m2 (with_nodes nowhere place.front) p empty place.rest
+  new_stands : NodeLies types m2 (with_nodes nowhere place.front) p empty place.rest
   new_stands = record {
     there = record { some = new_some; here = (A p.address).here ∙ new_here };
     code = (A p.address).code new_here ∙ new_code;
@@ -254,7 +254,7 @@ module _ (types : List SegmentType) (O : Ordered types) (bound : ℕ) (m m2 : Li
         let i : 0 < count y place.front = y_front q in omega arith)
   ]
 
-  rest_stands : StandAll types m2 (with_node (with_nodes nowhere place.front) p) place.rest
+  rest_stands : NodesLie types m2 (with_node (with_nodes nowhere place.front) p) place.rest
   unfolding z
   rest_stands =
       behind types m m2 (IsSegment m) h p.segment.code y (twin_behind m h p.segment.code y) p.address p.address touch
@@ -275,7 +275,7 @@ module _ (types : List SegmentType) (O : Ordered types) (bound : ℕ) (m m2 : Li
   new_list : Forest Placed
   new_list = join place.front (node p empty place.rest)
 
-  list_stands : StandAll types m2 nowhere new_list
+  list_stands : NodesLie types m2 nowhere new_list
   unfolding z new_list
   list_stands =
       before types m m2 (IsSegment m) h p.segment.code y (twin_behind m h p.segment.code y) p.address p.address touch
@@ -447,7 +447,7 @@ module _ (types : List SegmentType) (O : Ordered types) (bound : ℕ) (m m2 : Li
 
   pub leaf_held : IsLinkGraph types bound m2 × Holds types m2 (with_leaf h y p f)
   leaf_held =
-      let stands_K : StandAll types m2 nowhere (g K) = subst (StandAll types m2 nowhere) (sym g_is) list_stands in
+      let stands_K : NodesLie types m2 nowhere (g K) = subst (NodesLie types m2 nowhere) (sym g_is) list_stands in
       let named_K : NamesChildren types m2 (m.code h) h (g K) = subst (NamesChildren types m2 (m.code h) h) (sym g_is) (record { first = names_first; last = names_last }) in
       let lies : Lies types m2 (with_leaf h y p f) = subst (Lies types m2) (sym leaf_is) (changed_lies types O bound m G f H m2 h g K S others parent_kept stands_K named_K good) in
       let form : Formed types 0 (with_leaf h y p f) = subst (Formed types 0) (sym leaf_is) (changed_formed types O bound m G f H m2 h g K S others parent_kept stands_K named_K good) in (

@@ -10,7 +10,7 @@ use Rattle.hd_dbd.specs.Gets.{least_within}
 use Rattle.hd_dbd.specs.Rows.{level}
 use Rattle.hd_dbd.specs.Forest.{Forest, empty, node, sequence}
 use Rattle.hd_links.specs.Links.{Links, segment_at}
-use Rattle.hd_links.specs.Placed.{Placed, count, nowhere, with_node, StandAll, Holds}
+use Rattle.hd_links.specs.Placed.{Placed, count, nowhere, with_node, NodesLie, Holds}
 use Rattle.hd_links.specs.Steps.{rows_of, addresses, address_at, RowsHaveAddresses}
 use Rattle.hd_links.proofs.Forms.{segment_is}
 use Rattle.hd_links.proofs.Build.{zero_or}
@@ -139,7 +139,7 @@ unfolding EachStands
 each_both m [] ys a b = b
 each_both m (x ∷ xs) ys a b = (a.0, each_both m xs ys a.1 b)
 
-each_stands : (types : List SegmentType) (m : Links) (b : ℕ → ℕ) (f : Forest Placed) → StandAll types m b f → EachStands m (sequence f)
+each_stands : (types : List SegmentType) (m : Links) (b : ℕ → ℕ) (f : Forest Placed) → NodesLie types m b f → EachStands m (sequence f)
 unfolding EachStands
 each_stands types m b empty s = tt
 each_stands types m b (node r k n) s =

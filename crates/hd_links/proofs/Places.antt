@@ -6,7 +6,7 @@ use Rattle.hd_dbd.specs.Types.{SegmentType}
 use Rattle.hd_dbd.specs.Rows.{twins_in_order}
 use Rattle.hd_dbd.specs.Forest.{Forest, empty, node}
 use Rattle.hd_links.specs.Links.{Links, IsSegment, segment_at, is_child_type}
-use Rattle.hd_links.specs.Placed.{Placed, first_of, nowhere, with_node, with_nodes, StandAll}
+use Rattle.hd_links.specs.Placed.{Placed, first_of, nowhere, with_node, with_nodes, NodesLie}
 use Rattle.hd_links.specs.Pointers.{IsTwinAfter}
 use Rattle.hd_links.specs.Changes.{twin_behind, put_first, put_behind}
 use Rattle.hd_links.proofs.Forms.{Formed, is_behind, follows_code, code_follows, key_follows, segment_is}
@@ -14,7 +14,7 @@ use Rattle.hd_links.proofs.Joins.{join, IsOne}
 
 -- ---- chains are twins among the nodes
 
-pub chain_one : (types : List SegmentType) (m : Links) (t y : ℕ) (b : ℕ → ℕ) (K : Forest Placed) → StandAll types m b K → (n : ℕ) → IsTwinAfter m n (first_of K t) y → IsOne t y K
+pub chain_one : (types : List SegmentType) (m : Links) (t y : ℕ) (b : ℕ → ℕ) (K : Forest Placed) → NodesLie types m b K → (n : ℕ) → IsTwinAfter m n (first_of K t) y → IsOne t y K
 chain_one types m t y b empty s zero w = absurd (let p : 0 < 0 = w.0 in omega arith)
 chain_one types m t y b empty s (suc i) w = absurd (let p : 0 < 0 = w.0 in omega arith)
 chain_one types m t y b (node r k n) s zero w = elim (cases_eq r.segment.code t) [
@@ -29,7 +29,7 @@ chain_one types m t y b (node r k n) s (suc i) w = elim (cases_eq r.segment.code
       inr (chain_one types m t y (with_node b r) n s.2 (suc i) (subst (λ x. IsTwinAfter m (suc i) x y) z w)))
 ]
 
-pub one_there : (types : List SegmentType) (m : Links) (t y : ℕ) (b : ℕ → ℕ) (K : Forest Placed) → StandAll types m b K → IsOne t y K → IsSegment m y × (m.code y ≡ t)
+pub one_there : (types : List SegmentType) (m : Links) (t y : ℕ) (b : ℕ → ℕ) (K : Forest Placed) → NodesLie types m b K → IsOne t y K → IsSegment m y × (m.code y ≡ t)
 one_there types m t y b empty s o = absurd o
 one_there types m t y b (node r k n) s (inl e) = (subst (IsSegment m) e.0 s.0.there, ap m.code (sym e.0) ∙ s.0.code ∙ e.1)
 one_there types m t y b (node r k n) s (inr o) = one_there types m t y (with_node b r) n s.2 o
@@ -75,7 +75,7 @@ pub record TwinPlace (m : Links) (t y : ℕ) (b : ℕ → ℕ) (p : Placed) (K :
   pub some : 0 < first_of front t
   pub behind : first_of rest t ≡ m.forward y
 
-pub twin_place : (types : List SegmentType) (m : Links) (t y : ℕ) (b : ℕ → ℕ) (p : Placed) (K : Forest Placed) → StandAll types m b K → m.code y ≡ t → IsOne t y K → TwinPlace m t y b p K
+pub twin_place : (types : List SegmentType) (m : Links) (t y : ℕ) (b : ℕ → ℕ) (p : Placed) (K : Forest Placed) → NodesLie types m b K → m.code y ≡ t → IsOne t y K → TwinPlace m t y b p K
 twin_place types m t y b p empty s c o = absurd o
 twin_place types m t y b p (node r k n) s c o = elim (cases_eq r.address y) [
   | inl e ↦
@@ -117,7 +117,7 @@ pub record Place (m : Links) (h t y : ℕ) (p : Placed) (g : Forest Placed → F
 
 -- ---- it is in order there
 
-pub formed_first : (types : List SegmentType) (m : Links) (c : ℕ) (b : ℕ → ℕ) (p : Placed) (K : Forest Placed) → StandAll types m b K → Formed types c K → is_child_type types c p.segment.code ≡ true
+pub formed_first : (types : List SegmentType) (m : Links) (c : ℕ) (b : ℕ → ℕ) (p : Placed) (K : Forest Placed) → NodesLie types m b K → Formed types c K → is_child_type types c p.segment.code ≡ true
     → (0 < first_of K p.segment.code → twins_in_order types p.segment (segment_at m (first_of K p.segment.code)) ≡ true) → Formed types c (put_first p K)
 formed_first types m c b p empty s F q T = (q, refl, tt, tt)
 formed_first types m c b p (node r k n) s F q T = elim (cases_Bool (nat_lt r.segment.code p.segment.code)) [
@@ -154,7 +154,7 @@ formed_first types m c b p (node r k n) s F q T = elim (cases_Bool (nat_lt r.seg
           ∙ code_follows types r.segment p.segment l
     ]
 
-pub formed_behind : (types : List SegmentType) (m : Links) (c y : ℕ) (b : ℕ → ℕ) (p : Placed) (K : Forest Placed) → StandAll types m b K → Formed types c K → is_child_type types c p.segment.code ≡ true
+pub formed_behind : (types : List SegmentType) (m : Links) (c y : ℕ) (b : ℕ → ℕ) (p : Placed) (K : Forest Placed) → NodesLie types m b K → Formed types c K → is_child_type types c p.segment.code ≡ true
     → m.code y ≡ p.segment.code → twins_in_order types (segment_at m y) p.segment ≡ true
     → (0 < m.forward y → twins_in_order types p.segment (segment_at m (m.forward y)) ≡ true) → Formed types c (put_behind y p K)
 formed_behind types m c y b p empty s F q cy T1 T2 = tt
@@ -173,7 +173,7 @@ formed_behind types m c y b p (node r k n) s F q cy T1 T2 = elim (cases_eq r.add
       (F.0, same n ∙ F.1, F.2, formed_behind types m c y (with_node b r) p n s.2 F.3 q cy T1 T2)
 ]
   where
-    head : (n : Forest Placed) → StandAll types m (with_node b r) n → is_behind types (Some r.segment) n ≡ true → r.segment.code ≡ p.segment.code
+    head : (n : Forest Placed) → NodesLie types m (with_node b r) n → is_behind types (Some r.segment) n ≡ true → r.segment.code ≡ p.segment.code
         → (0 < first_of n p.segment.code → twins_in_order types p.segment (segment_at m (first_of n p.segment.code)) ≡ true) → is_behind types (Some p.segment) n ≡ true
     head empty s2 e code T = refl
     head (node u k2 n2) s2 e code T =

@@ -11,7 +11,7 @@ use Rattle.hd_dbd.specs.Hierarchy.{type_of, key_in}
 use Rattle.hd_dbd.specs.Rows.{row_fits, siblings_in_order, twins_in_order, key_of}
 use Rattle.hd_dbd.specs.Forest.{Forest, empty, node}
 use Rattle.hd_links.specs.Links.{Links, IsSegment, IsLinkGraph, segment_at, is_child_type, is_backward_kept}
-use Rattle.hd_links.specs.Placed.{Placed, count, first_of, nowhere, with_node, with_nodes, StandAll, Stands, NamesChildren, Holds}
+use Rattle.hd_links.specs.Placed.{Placed, count, first_of, nowhere, with_node, with_nodes, NodesLie, NodeLies, NamesChildren, Holds}
 use Rattle.hd_links.specs.Changes.{Agree, replaced, rewritten, with_bytes, CanReplace}
 use Rattle.hd_links.proofs.Types.{Ordered}
 use Rattle.hd_links.proofs.Forms.{first_behind_none, Formed, is_behind, formed, segment_is, fits}
@@ -92,7 +92,7 @@ module _ (a : ℕ) (bytes : List ℕ) where
   bytes_last b b2 (node r k n) t e = bytes_last (with_node b r) (with_node b2 (rewritten a bytes r)) n t (table_kept b b2 r t e)
 
   module _ (types : List SegmentType) (m m2 : Links) (C : CanReplace types m a bytes) (A : Agree types (replaced m a bytes) m2) where
-    key_kept : (b : ℕ → ℕ) (r : Placed) (k n : Forest Placed) → Stands types m b r k n → key_of types (rewritten a bytes r).segment ≡ key_of types r.segment
+    key_kept : (b : ℕ → ℕ) (r : Placed) (k n : Forest Placed) → NodeLies types m b r k n → key_of types (rewritten a bytes r).segment ≡ key_of types r.segment
     key_kept b r k n s = elim (cases_eq r.address a) [
       | inl e ↦
           (let own : segment_at m a ≡ r.segment = ap (segment_at m) (sym e) ∙ segment_is types m b r k n s in
@@ -113,7 +113,7 @@ module _ (a : ℕ) (bytes : List ℕ) where
     there b s = record { some = s.some; here = s.here }
 
     -- each node stands with its bytes
-    pub bytes_stand : (b b2 : ℕ → ℕ) (f : Forest Placed) → ((t : ℕ) → b2 t ≡ b t) → StandAll types m b f → StandAll types m2 b2 (with_bytes a bytes f)
+    pub bytes_stand : (b b2 : ℕ → ℕ) (f : Forest Placed) → ((t : ℕ) → b2 t ≡ b t) → NodesLie types m b f → NodesLie types m2 b2 (with_bytes a bytes f)
     bytes_stand b b2 empty e s = tt
     bytes_stand b b2 (node r k n) e s =
         let ra : r.address ≡ (rewritten a bytes r).address = sym (address_kept r) in
@@ -136,7 +136,7 @@ module _ (a : ℕ) (bytes : List ℕ) where
         )
 
     -- and in order
-    pub bytes_formed : (c : ℕ) (b : ℕ → ℕ) (f : Forest Placed) → StandAll types m b f → Formed types c f → Formed types c (with_bytes a bytes f)
+    pub bytes_formed : (c : ℕ) (b : ℕ → ℕ) (f : Forest Placed) → NodesLie types m b f → Formed types c f → Formed types c (with_bytes a bytes f)
     bytes_formed c b empty s F = tt
     bytes_formed c b (node r k n) s F = (
       ap (is_child_type types c) (code_kept r) ∙ F.0,
@@ -145,7 +145,7 @@ module _ (a : ℕ) (bytes : List ℕ) where
       bytes_formed c (with_node b r) n s.2 F.3,
     )
       where
-        head : (n : Forest Placed) → StandAll types m (with_node b r) n → is_behind types (Some r.segment) n ≡ true → is_behind types (Some (rewritten a bytes r).segment) (with_bytes a bytes n) ≡ true
+        head : (n : Forest Placed) → NodesLie types m (with_node b r) n → is_behind types (Some r.segment) n ≡ true → is_behind types (Some (rewritten a bytes r).segment) (with_bytes a bytes n) ≡ true
         head empty s2 e = refl
         head (node u k2 n2) s2 e =
             order_same types r.segment (rewritten a bytes r).segment u.segment (rewritten a bytes u).segment (code_kept r) (code_kept u)
@@ -177,7 +177,7 @@ module _ (a : ℕ) (bytes : List ℕ) where
 
       pub bytes_held : IsLinkGraph types bound m2 × Holds types m2 (with_bytes a bytes f)
       bytes_held =
-          let stands : StandAll types m2 nowhere (with_bytes a bytes f) = bytes_stand nowhere nowhere f (λ t. refl) H.lies.nodes in
+          let stands : NodesLie types m2 nowhere (with_bytes a bytes f) = bytes_stand nowhere nowhere f (λ t. refl) H.lies.nodes in
           let form : Formed types 0 (with_bytes a bytes f) = bytes_formed 0 nowhere f H.lies.nodes (formed types O 0 None f H.fits) in (
             graph,
             record {

@@ -8,7 +8,7 @@ use Rattle.hd_dbd.specs.Paths.{end_of}
 use Rattle.hd_dbd.specs.Forest.{Forest, empty, node, sequence}
 use Rattle.hd_dbd.proofs.LevelLaw.{Leveled}
 use Rattle.hd_links.specs.Links.{Links, IsLinkGraph, is_child_type}
-use Rattle.hd_links.specs.Placed.{Placed, count, nowhere, with_node, StandAll, Stands, Holds}
+use Rattle.hd_links.specs.Placed.{Placed, count, nowhere, with_node, NodesLie, NodeLies, Holds}
 use Rattle.hd_links.specs.Changes.{put_first, put_behind, take_out, change_below, with_children}
 use Rattle.hd_links.specs.Steps.{rows_of, address_at, RowsHaveAddresses}
 use Rattle.hd_links.proofs.Types.{Ordered}
@@ -137,7 +137,7 @@ module _ (types : List SegmentType) (O : Ordered types) (leveled : Leveled types
       A.once (length front) i (omega arith) within (address_is f front (r ∷ rest) (length front) whole refl ∙ sym at)
 
   -- the children of a row are one forest
-  pub below_is : (i : ℕ) (F : RowAt types O leveled bound m G f H i) (b : ℕ → ℕ) (r : Placed) (k n : Forest Placed) → F.row.address ≡ r.address → Stands types m b r k n → StandAll types m nowhere k
+  pub below_is : (i : ℕ) (F : RowAt types O leveled bound m G f H i) (b : ℕ → ℕ) (r : Placed) (k n : Forest Placed) → F.row.address ≡ r.address → NodeLies types m b r k n → NodesLie types m nowhere k
       → Formed types r.segment.code k → F.below ≡ k
   below_is i F b r k n at s stand form =
       let code : F.row.segment.code ≡ r.segment.code = sym F.stands.stand.0.code ∙ ap m.code at ∙ s.code in
@@ -150,7 +150,7 @@ module _ (types : List SegmentType) (O : Ordered types) (leveled : Leveled types
 
   -- the span of a row ends behind what stands below it
   pub span_end : (i : ℕ) → i < length (rows_of f) → (front : List Placed) (b : ℕ → ℕ) (r : Placed) (k n : Forest Placed) (rest : List Placed) → sequence f ≡ front ++ (r ∷ (sequence k ++ rest))
-      → address_at f i ≡ r.address → Stands types m b r k n → StandAll types m nowhere k → Formed types r.segment.code k → end_of types (rows_of f) i ≡ i + 1 + length (sequence k)
+      → address_at f i ≡ r.address → NodeLies types m b r k n → NodesLie types m nowhere k → Formed types r.segment.code k → end_of types (rows_of f) i ≡ i + 1 + length (sequence k)
   span_end i within front b r k n rest whole at s stand form =
       let F : RowAt types O leveled bound m G f H i = row_found types O leveled bound m G f H i within in
       let own : address_at f i ≡ F.row.address = own_address types O leveled bound m G f H i F.path F.parent F.holder F.table F.row F.below F.after F.rest F.stands in
@@ -167,14 +167,14 @@ pub record InRow (types : List SegmentType) (m : Links) (y : ℕ) (p : Placed) (
   pub after : Forest Placed
   pub rest : List Placed
   pub is : row.address ≡ y
-  pub stands : Stands types m table row under after
-  pub stand : StandAll types m nowhere under
+  pub stands : NodeLies types m table row under after
+  pub stand : NodesLie types m nowhere under
   pub formed : Formed types row.segment.code under
   pub whole : sequence K ≡ front ++ (row ∷ (sequence under ++ rest))
   pub put : sequence (put_behind y p K) ≡ front ++ (row ∷ (sequence under ++ (p ∷ rest)))
   pub out : sequence (take_out y K) ≡ front ++ rest
 
-pub in_row : (types : List SegmentType) (m : Links) (t y c : ℕ) (p : Placed) (b : ℕ → ℕ) (K : Forest Placed) → StandAll types m b K → Formed types c K → IsOne t y K → InRow types m y p K
+pub in_row : (types : List SegmentType) (m : Links) (t y c : ℕ) (p : Placed) (b : ℕ → ℕ) (K : Forest Placed) → NodesLie types m b K → Formed types c K → IsOne t y K → InRow types m y p K
 in_row types m t y c p b empty s F o = absurd o
 in_row types m t y c p b (node r k n) s F o = elim (cases_eq r.address y) [
   | inl e ↦ record {

@@ -7,7 +7,7 @@ use Rattle.hd_dbd.specs.Segment.{Segment}
 use Rattle.hd_dbd.specs.Rows.{twins_in_order}
 use Rattle.hd_dbd.specs.Forest.{Forest, empty, node}
 use Rattle.hd_links.specs.Links.{Links, IsSegment, IsLinkGraph, segment_at, is_child_type, is_backward_kept}
-use Rattle.hd_links.specs.Placed.{Placed, count, first_of, last_of, nowhere, with_node, with_nodes, StandAll, Stands, NamesChildren, Holds}
+use Rattle.hd_links.specs.Placed.{Placed, count, first_of, last_of, nowhere, with_node, with_nodes, NodesLie, NodeLies, NamesChildren, Holds}
 use Rattle.hd_links.specs.Pointers.{PointsTo, PointersAreTyped, IsTwinBefore, Precedes, TwinsLinkBack, IsReached, AreLinked}
 use Rattle.hd_links.proofs.Types.{Ordered}
 use Rattle.hd_links.proofs.Forms.{Formed, is_behind, low, formed, follows_code, follows_key, segment_is}
@@ -21,7 +21,7 @@ TableFits m table = (t : ℕ) → PointsTo m t (table t)
 nowhere_fits : (m : Links) → TableFits m nowhere
 nowhere_fits m t p = absurd (omega arith)
 
-then_fits : (types : List SegmentType) (m : Links) (table : ℕ → ℕ) (r : Placed) (k n : Forest Placed) → TableFits m table → Stands types m table r k n → TableFits m (with_node table r)
+then_fits : (types : List SegmentType) (m : Links) (table : ℕ → ℕ) (r : Placed) (k n : Forest Placed) → TableFits m table → NodeLies types m table r k n → TableFits m (with_node table r)
 then_fits types m table r k n T s t = elim (cases_eq r.segment.code t) [
   | inl e ↦ subst (PointsTo m t) (sym (cond-true (r.segment.code == t) r.address (table t) (eq-eqb r.segment.code t e))) (λ p. (s.there.here, s.code ∙ e))
   | inr ne ↦ subst (PointsTo m t) (sym (cond-false (r.segment.code == t) r.address (table t) (ne_eqb r.segment.code t ne))) (T t)
@@ -35,11 +35,11 @@ pub record At (types : List SegmentType) (m : Links) (a : ℕ) : Type 0 where
   pub below : Forest Placed
   pub after : Forest Placed
   pub is : row.address ≡ a
-  pub stands : StandAll types m table (node row below after)
+  pub stands : NodesLie types m table (node row below after)
   pub formed : Formed types parent (node row below after)
   pub fits : TableFits m table
 
-pub find : (types : List SegmentType) (m : Links) (a : ℕ) (b : ℕ → ℕ) (c : ℕ) (f : Forest Placed) → StandAll types m b f → Formed types c f → TableFits m b → 0 < count a f → At types m a
+pub find : (types : List SegmentType) (m : Links) (a : ℕ) (b : ℕ → ℕ) (c : ℕ) (f : Forest Placed) → NodesLie types m b f → Formed types c f → TableFits m b → 0 < count a f → At types m a
 find types m a b c empty l h T p = absurd (omega arith)
 find types m a b c (node r k n) l h T p =
     elim (cases_eq r.address a) [
@@ -58,7 +58,7 @@ pub record First (types : List SegmentType) (m : Links) (c : ℕ) (b : ℕ → �
   pub code : m.code p ≡ t
   pub backward : is_backward_kept types t ≡ true → m.backward p ≡ b t
 
-pub first_is : (types : List SegmentType) (m : Links) (c : ℕ) (b : ℕ → ℕ) (f : Forest Placed) (t : ℕ) → StandAll types m b f → Formed types c f → 0 < first_of f t → First types m c b t (first_of f t)
+pub first_is : (types : List SegmentType) (m : Links) (c : ℕ) (b : ℕ → ℕ) (f : Forest Placed) (t : ℕ) → NodesLie types m b f → Formed types c f → 0 < first_of f t → First types m c b t (first_of f t)
 first_is types m c b empty t l h p = absurd (omega arith)
 first_is types m c b (node r k n) t l h p =
     elim (cases_eq r.segment.code t) [
@@ -77,7 +77,7 @@ first_is types m c b (node r k n) t l h p =
     ]
 
 -- the last of no siblings
-last_none : (types : List SegmentType) (m : Links) (b : ℕ → ℕ) (f : Forest Placed) (t : ℕ) → StandAll types m b f → first_of f t ≡ 0 → with_nodes b f t ≡ b t
+last_none : (types : List SegmentType) (m : Links) (b : ℕ → ℕ) (f : Forest Placed) (t : ℕ) → NodesLie types m b f → first_of f t ≡ 0 → with_nodes b f t ≡ b t
 last_none types m b empty t l e = refl
 last_none types m b (node r k n) t l e =
     elim (cases_eq r.segment.code t) [
@@ -85,7 +85,7 @@ last_none types m b (node r k n) t l e =
       | inr ne ↦ last_none types m (with_node b r) n t l.2 (sym (cond-false _ _ _ (ne_eqb r.segment.code t ne)) ∙ e) ∙ cond-false _ _ _ (ne_eqb r.segment.code t ne)
     ]
 
-ends : (types : List SegmentType) (m : Links) (b : ℕ → ℕ) (f : Forest Placed) (t : ℕ) → StandAll types m b f → 0 < first_of f t → (k : ℕ) × EndsAfter m k (first_of f t) (with_nodes b f t)
+ends : (types : List SegmentType) (m : Links) (b : ℕ → ℕ) (f : Forest Placed) (t : ℕ) → NodesLie types m b f → 0 < first_of f t → (k : ℕ) × EndsAfter m k (first_of f t) (with_nodes b f t)
 ends types m b empty t l p = absurd (omega arith)
 ends types m b (node r k n) t l p =
     elim (cases_eq r.segment.code t) [
@@ -116,12 +116,12 @@ ends types m b (node r k n) t l p =
           (ends types m (with_node b r) n t l.2 (subst (λ x. 0 < x) e p)))
     ]
 
-last_typed : (types : List SegmentType) (m : Links) (b : ℕ → ℕ) (f : Forest Placed) (t : ℕ) → StandAll types m b f → TableFits m b → PointsTo m t (with_nodes b f t)
+last_typed : (types : List SegmentType) (m : Links) (b : ℕ → ℕ) (f : Forest Placed) (t : ℕ) → NodesLie types m b f → TableFits m b → PointsTo m t (with_nodes b f t)
 last_typed types m b empty t l T = T t
 last_typed types m b (node r k n) t l T = last_typed types m (with_node b r) n t l.2 (then_fits types m b r k n T l.0)
 
 -- what is reached: all below and behind the first ones that are
-reach : (types : List SegmentType) (m : Links) (c : ℕ) (b : ℕ → ℕ) (f : Forest Placed) → StandAll types m b f → Formed types c f
+reach : (types : List SegmentType) (m : Links) (c : ℕ) (b : ℕ → ℕ) (f : Forest Placed) → NodesLie types m b f → Formed types c f
     → ((t : ℕ) → 0 < first_of f t → (n : ℕ) × IsReached types m n (first_of f t))
     → (a : ℕ) → 0 < count a f → (n : ℕ) × IsReached types m n a
 reach types m c b empty l h w a p = absurd (omega arith)
@@ -170,7 +170,7 @@ reach types m c b (node r k n) l h w a p =
     ]
 
 -- keys of twins
-key_of : (types : List SegmentType) (m : Links) (c : ℕ) (b : ℕ → ℕ) (r : Segment) (n : Forest Placed) → StandAll types m b n → Formed types c n → is_behind types (Some r) n ≡ true
+key_of : (types : List SegmentType) (m : Links) (c : ℕ) (b : ℕ → ℕ) (r : Segment) (n : Forest Placed) → NodesLie types m b n → Formed types c n → is_behind types (Some r) n ≡ true
     → 0 < first_of n r.code → twins_in_order types r (segment_at m (first_of n r.code)) ≡ true
 key_of types m c b r empty l h f p = absurd (omega arith)
 key_of types m c b r (node s k n) l h f p =
@@ -204,7 +204,7 @@ module _ (types : List SegmentType) (O : Ordered types) (bound : ℕ) (m : Links
   -- what a record has below it
   pub record Children (h : ℕ) : Type 0 where
     pub below : Forest Placed
-    pub stand : StandAll types m nowhere below
+    pub stand : NodesLie types m nowhere below
     pub formed : Formed types (m.code h) below
     pub named : NamesChildren types m (m.code h) h below
 

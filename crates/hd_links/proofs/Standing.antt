@@ -9,7 +9,7 @@ use Rattle.hd_dbd.specs.Paths.{row_at, level_at, nearest_above, path_above, path
 use Rattle.hd_dbd.specs.Forest.{Forest, empty, node, sequence}
 use Rattle.hd_dbd.proofs.LevelLaw.{Leveled, depth_below}
 use Rattle.hd_links.specs.Links.{Links, IsLinkGraph, child_types, is_child_type}
-use Rattle.hd_links.specs.Placed.{Placed, first_of, nowhere, with_node, StandAll, Holds}
+use Rattle.hd_links.specs.Placed.{Placed, first_of, nowhere, with_node, NodesLie, Holds}
 use Rattle.hd_links.specs.Pointers.{IsInChain}
 use Rattle.hd_links.specs.Steps.{rows_of, address_at, first_some, child_among, later_than, behind_child, behind_from, tip_from, LeadsDown}
 use Rattle.hd_links.proofs.Types.{Ordered, above, above_some, code_some}
@@ -34,7 +34,7 @@ pub record Siblings (types : List SegmentType) (m : Links) (f : Forest Placed) (
   pub whole : sequence f ≡ front ++ (sequence g ++ rest)
   pub number : length front ≡ n
   pub here : m.here h ≡ true
-  pub stand : StandAll types m b g
+  pub stand : NodesLie types m b g
   pub formed : Formed types (m.code h) g
   pub tip : tip_from 0 (map (λ k. address_at f k) P) ≡ h
   pub down : LeadsDown types m 0 (map (λ k. address_at f k) P)
@@ -51,19 +51,19 @@ pub record Siblings (types : List SegmentType) (m : Links) (f : Forest Placed) (
 
 module _ (types : List SegmentType) (O : Ordered types) (leveled : Leveled types) (bound : ℕ) (m : Links) (G : IsLinkGraph types bound m) (f : Forest Placed) (H : Holds types m f) where
   -- a sibling fits, and its level is one below the parent's
-  fits_row : (b : ℕ → ℕ) (r : Placed) (k g : Forest Placed) → StandAll types m b (node r k g) → row_fits types r.segment ≡ true
+  fits_row : (b : ℕ → ℕ) (r : Placed) (k g : Forest Placed) → NodesLie types m b (node r k g) → row_fits types r.segment ≡ true
   fits_row b r k g s = ap (row_fits types) (sym (segment_is types m b r k g s.0)) ∙ G.fits r.address s.0.there
 
-  sibling_level : (c : ℕ) (b : ℕ → ℕ) (r : Placed) (k g : Forest Placed) → StandAll types m b (node r k g) → Formed types c (node r k g)
+  sibling_level : (c : ℕ) (b : ℕ → ℕ) (r : Placed) (k g : Forest Placed) → NodesLie types m b (node r k g) → Formed types c (node r k g)
       → level types r.segment ≡ depth_below types (above c) + 1
   sibling_level c b r k g s F =
       leveled.law r.segment (fits_row b r k g s)
       ∙ ap (λ (o : Option ℕ). depth_below types o + 1) (O.parent c r.segment (fits_row b r k g s) F.0)
 
-  below_level : (b : ℕ → ℕ) (r : Placed) (k g : Forest Placed) → StandAll types m b (node r k g) → depth_below types (above r.segment.code) ≡ level types r.segment
+  below_level : (b : ℕ → ℕ) (r : Placed) (k g : Forest Placed) → NodesLie types m b (node r k g) → depth_below types (above r.segment.code) ≡ level types r.segment
   below_level b r k g s = ap (λ (o : Option ℕ). depth_below types o) (above_some r.segment.code (code_some types r.segment (fits_row b r k g s)))
 
-  pub all_deeper : (l c : ℕ) (b : ℕ → ℕ) (g : Forest Placed) → StandAll types m b g → Formed types c g → l ≤ depth_below types (above c) → AllDeeper types l (sequence g)
+  pub all_deeper : (l c : ℕ) (b : ℕ → ℕ) (g : Forest Placed) → NodesLie types m b g → Formed types c g → l ≤ depth_below types (above c) → AllDeeper types l (sequence g)
   all_deeper l c b empty s F d = tt
   all_deeper l c b (node r k g) s F d =
       let lv : level types r.segment ≡ depth_below types (above c) + 1 = sibling_level c b r k g s F in
@@ -207,7 +207,7 @@ module _ (types : List SegmentType) (O : Ordered types) (leveled : Leveled types
         at_least empty = tt
         at_least (node s k2 n2) = omega arith
 
-        head_level : (x : Forest Placed) → StandAll types m (with_node b r) x → Formed types (m.code h) x → (xs : List Placed) → UpTo types (length P) xs → length (P ++ n ∷ []) ≡ length P + 1
+        head_level : (x : Forest Placed) → NodesLie types m (with_node b r) x → Formed types (m.code h) x → (xs : List Placed) → UpTo types (length P) xs → length (P ++ n ∷ []) ≡ length P + 1
             → UpTo types (length (P ++ n ∷ [])) (sequence x ++ xs)
         head_level empty s F [] u e = tt
         head_level empty s F (p ∷ ps) u e = omega arith

@@ -4,7 +4,7 @@ use Rattle.std.proofs.lemmas.Bool.{and_from, cases_eq, eq-eqb, ne_eqb, cond-true
 use Rattle.hd_dbd.specs.Types.{SegmentType}
 use Rattle.hd_dbd.specs.Forest.{Forest, empty, node}
 use Rattle.hd_links.specs.Links.{Links, is_child_type, is_backward_kept, is_last_kept}
-use Rattle.hd_links.specs.Placed.{Placed, count, first_of, nowhere, with_node, with_nodes, StandAll, Stands, NamesChildren}
+use Rattle.hd_links.specs.Placed.{Placed, count, first_of, nowhere, with_node, with_nodes, NodesLie, NodeLies, NamesChildren}
 use Rattle.hd_links.specs.Changes.{AgreeAt}
 use Rattle.hd_links.proofs.Build.{zero_or, then_same}
 use Rattle.hd_links.proofs.Counts.{is_at, one_at, count_zero}
@@ -36,10 +36,10 @@ pub record KeepsChildren (types : List SegmentType) (m m2 : Links) (a : ℕ) : T
   pub last : (t : ℕ) → is_child_type types (m.code a) t ≡ true → is_last_kept types t ≡ true → m2.last_child a t ≡ m.last_child a t
 
 -- a node with other twins
-pub move : (types : List SegmentType) (m m2 : Links) (b b2 : ℕ → ℕ) (r : Placed) (k k2 n n2 : Forest Placed) → Stands types m b r k n → Keeps m m2 r.address
+pub move : (types : List SegmentType) (m m2 : Links) (b b2 : ℕ → ℕ) (r : Placed) (k k2 n n2 : Forest Placed) → NodeLies types m b r k n → Keeps m m2 r.address
     → NamesChildren types m2 r.segment.code r.address k2
     → m2.forward r.address ≡ first_of n2 r.segment.code → (is_backward_kept types r.segment.code ≡ true → m2.backward r.address ≡ b2 r.segment.code)
-    → Stands types m2 b2 r k2 n2
+    → NodeLies types m2 b2 r k2 n2
 move types m m2 b b2 r k k2 n n2 s K N ef eb = record {
   there = record { some = s.there.some; here = K.here ∙ s.there.here };
   code = K.code ∙ s.code;
@@ -50,14 +50,14 @@ move types m m2 b b2 r k k2 n n2 s K N ef eb = record {
   children = N;
 }
 
-pub children_kept : (types : List SegmentType) (m m2 : Links) (b : ℕ → ℕ) (r : Placed) (k n : Forest Placed) → Stands types m b r k n → KeepsChildren types m m2 r.address
+pub children_kept : (types : List SegmentType) (m m2 : Links) (b : ℕ → ℕ) (r : Placed) (k n : Forest Placed) → NodeLies types m b r k n → KeepsChildren types m m2 r.address
     → NamesChildren types m2 r.segment.code r.address k
 children_kept types m m2 b r k n s C = record {
   first = λ t q. C.first t (ap (λ x. is_child_type types x t) s.code ∙ q) ∙ s.children.first t q;
   last = λ t q kept. C.last t (ap (λ x. is_child_type types x t) s.code ∙ q) kept ∙ s.children.last t q kept;
 }
 
-pub tables_same : (types : List SegmentType) (m : Links) (b b2 : ℕ → ℕ) (f : Forest Placed) → ((u : ℕ) → b u ≡ b2 u) → StandAll types m b f → StandAll types m b2 f
+pub tables_same : (types : List SegmentType) (m : Links) (b b2 : ℕ → ℕ) (f : Forest Placed) → ((u : ℕ) → b u ≡ b2 u) → NodesLie types m b f → NodesLie types m b2 f
 tables_same types m b b2 empty e l = tt
 tables_same types m b b2 (node r k n) e l = (
   record { there = l.0.there; code = l.0.code; bytes = l.0.bytes; delete_byte = l.0.delete_byte; forward = l.0.forward; backward = λ q. l.0.backward q ∙ e r.segment.code; children = l.0.children },
@@ -66,7 +66,7 @@ tables_same types m b b2 (node r k n) e l = (
 )
 
 -- what is said of other addresses does not matter
-pub frame : (types : List SegmentType) (m m2 : Links) (b : ℕ → ℕ) (f : Forest Placed) → StandAll types m b f → ((a : ℕ) → 0 < count a f → AgreeAt types m m2 a) → StandAll types m2 b f
+pub frame : (types : List SegmentType) (m m2 : Links) (b : ℕ → ℕ) (f : Forest Placed) → NodesLie types m b f → ((a : ℕ) → 0 < count a f → AgreeAt types m m2 a) → NodesLie types m2 b f
 frame types m m2 b empty l h = tt
 frame types m m2 b (node r k n) l h =
     let own : 0 < count r.address (node r k n) = (let o : is_at r.address r.address ≡ 1 = one_at r.address r.address refl in omega arith) in
@@ -92,7 +92,7 @@ pub record Touch (types : List SegmentType) (m m2 : Links) (S : ℕ → Type 0) 
 
 module _ (types : List SegmentType) (m m2 : Links) (S : ℕ → Type 0) (h t y z w v : ℕ) (T : Touch types m m2 S h y z w v) where
   -- where none of the three is
-  pub calm : (b : ℕ → ℕ) (f : Forest Placed) → StandAll types m b f → ((a : ℕ) → 0 < count a f → S a) → count h f ≡ 0 → count y f ≡ 0 → count z f ≡ 0 → StandAll types m2 b f
+  pub calm : (b : ℕ → ℕ) (f : Forest Placed) → NodesLie types m b f → ((a : ℕ) → 0 < count a f → S a) → count h f ≡ 0 → count y f ≡ 0 → count z f ≡ 0 → NodesLie types m2 b f
   calm b empty l each ch cy cz = tt
   calm b (node r k n) l each ch cy cz =
       let o : is_at r.address r.address ≡ 1 = one_at r.address r.address refl in
@@ -108,8 +108,8 @@ module _ (types : List SegmentType) (m m2 : Links) (S : ℕ → Type 0) (h t y z
       )
 
   -- the nodes behind the place, the first of whose type is z
-  pub behind : (b b2 : ℕ → ℕ) (f : Forest Placed) → StandAll types m b f → ((a : ℕ) → 0 < count a f → S a) → ((a : ℕ) → count a f ≤ 1)
-      → count h f ≡ 0 → count y f ≡ 0 → first_of f t ≡ z → b2 t ≡ v → ((u : ℕ) → (t ≡ u → ⊥) → b u ≡ b2 u) → StandAll types m2 b2 f
+  pub behind : (b b2 : ℕ → ℕ) (f : Forest Placed) → NodesLie types m b f → ((a : ℕ) → 0 < count a f → S a) → ((a : ℕ) → count a f ≤ 1)
+      → count h f ≡ 0 → count y f ≡ 0 → first_of f t ≡ z → b2 t ≡ v → ((u : ℕ) → (t ≡ u → ⊥) → b u ≡ b2 u) → NodesLie types m2 b2 f
   behind b b2 empty l each once ch cy ez e1 e2 = tt
   behind b b2 (node r k n) l each once ch cy ez e1 e2 =
       let o : is_at r.address r.address ≡ 1 = one_at r.address r.address refl in
@@ -154,11 +154,11 @@ module _ (types : List SegmentType) (m m2 : Links) (S : ℕ → Type 0) (h t y z
       ]
 
   -- the nodes before the place, the last of whose type is y
-  pub before : (b : ℕ → ℕ) (front rest rest2 : Forest Placed) → StandAll types m b (join front rest) → ((a : ℕ) → 0 < count a front → S a)
+  pub before : (b : ℕ → ℕ) (front rest rest2 : Forest Placed) → NodesLie types m b (join front rest) → ((a : ℕ) → 0 < count a front → S a)
       → ((a : ℕ) → count a (join front rest) ≤ 1) → count h (join front rest) ≡ 0 → (0 < z → 0 < count z rest) → NotBelow y front
       → (0 < first_of front t → y ≡ with_nodes b front t) → (0 < y → m.code y ≡ t)
       → first_of rest2 t ≡ w → ((u : ℕ) → (t ≡ u → ⊥) → first_of rest u ≡ first_of rest2 u)
-      → StandAll types m2 (with_nodes b front) rest2 → StandAll types m2 b (join front rest2)
+      → NodesLie types m2 (with_nodes b front) rest2 → NodesLie types m2 b (join front rest2)
   before b empty rest rest2 l each once ch cz ny ly cy ew eu l2 = l2
   before b (node r k n) rest rest2 l each once ch cz ny ly cy ew eu l2 =
       let o : is_at r.address r.address ≡ 1 = one_at r.address r.address refl in

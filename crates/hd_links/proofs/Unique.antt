@@ -4,13 +4,13 @@ use Rattle.std.proofs.lemmas.Bool.{cases_eq, cases_order, cases_Bool, eq-eqb, ne
 use Rattle.hd_dbd.specs.Types.{SegmentType}
 use Rattle.hd_dbd.specs.Forest.{Forest, empty, node}
 use Rattle.hd_links.specs.Links.{Links, is_child_type}
-use Rattle.hd_links.specs.Placed.{Placed, first_of, nowhere, with_node, StandAll, Holds}
+use Rattle.hd_links.specs.Placed.{Placed, first_of, nowhere, with_node, NodesLie, Holds}
 use Rattle.hd_links.proofs.Types.{Ordered}
 use Rattle.hd_links.proofs.Forms.{Formed, low, none_of, formed}
 
 -- first ones alike, one forest
 pub same : (types : List SegmentType) (m : Links) (c d : ℕ) (tf tg : ℕ → ℕ) (f g : Forest Placed)
-    → StandAll types m tf f → StandAll types m tg g → Formed types c f → Formed types d g
+    → NodesLie types m tf f → NodesLie types m tg g → Formed types c f → Formed types d g
     → ((t : ℕ) → first_of f t ≡ first_of g t) → f ≡ g
 same types m c d tf tg empty empty lf lg ff fg e = refl
 same types m c d tf tg empty (node s k2 n2) lf lg ff fg e =

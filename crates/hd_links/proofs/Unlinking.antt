@@ -6,7 +6,7 @@ use Rattle.hd_dbd.specs.Types.{SegmentType}
 use Rattle.hd_dbd.specs.Rows.{row_fits}
 use Rattle.hd_dbd.specs.Forest.{Forest, empty, node}
 use Rattle.hd_links.specs.Links.{Links, IsSegment, IsLinkGraph, segment_at, is_child_type, is_backward_kept, is_last_kept}
-use Rattle.hd_links.specs.Placed.{Placed, count, first_of, last_of, nowhere, with_node, with_nodes, StandAll, NamesChildren, Lies, Holds}
+use Rattle.hd_links.specs.Placed.{Placed, count, first_of, last_of, nowhere, with_node, with_nodes, NodesLie, NamesChildren, Lies, Holds}
 use Rattle.hd_links.specs.Pointers.{IsTwinAfter, Precedes, AreLinked}
 use Rattle.hd_links.specs.Changes.{AgreeAt, Agree, unlinked, take_out, with_children, without_span, CanUnlink}
 use Rattle.hd_links.proofs.Types.{Ordered}
@@ -64,13 +64,13 @@ module _ (types : List SegmentType) (O : Ordered types) (bound : ℕ) (m m2 : Li
   place : OutPlace (m.code a) a K
   place = out_place (m.code a) a K a_one (once_K a)
 
-  stand_K : StandAll types m nowhere (join place.front (node place.row place.gone place.rest))
-  stand_K = subst (StandAll types m nowhere) place.is S.stand
+  stand_K : NodesLie types m nowhere (join place.front (node place.row place.gone place.rest))
+  stand_K = subst (NodesLie types m nowhere) place.is S.stand
 
   front_placed : AllPlaced place.front
   front_placed = all_placed types m nowhere place.front (node place.row place.gone place.rest) stand_K
 
-  stand_right : StandAll types m (with_nodes nowhere place.front) (node place.row place.gone place.rest)
+  stand_right : NodesLie types m (with_nodes nowhere place.front) (node place.row place.gone place.rest)
   stand_right = stands_right types m nowhere place.front (node place.row place.gone place.rest) stand_K
 
   row_first : first_of (node place.row place.gone place.rest) (m.code a) ≡ a
@@ -266,7 +266,7 @@ module _ (types : List SegmentType) (O : Ordered types) (bound : ℕ) (m m2 : Li
         let i : 0 < count y place.front = y_front q in omega arith)
   ]
 
-  rest_stands : StandAll types m2 (with_nodes nowhere place.front) place.rest
+  rest_stands : NodesLie types m2 (with_nodes nowhere place.front) place.rest
   rest_stands =
       behind types m m2 Stays h (m.code a) y (m.forward a) (m.forward a) y touch
       (with_node (with_nodes nowhere place.front) place.row) (with_nodes nowhere place.front) place.rest stand_right.2
@@ -285,7 +285,7 @@ module _ (types : List SegmentType) (O : Ordered types) (bound : ℕ) (m m2 : Li
   row_other : (u : ℕ) → (m.code a ≡ u → ⊥) → first_of (node place.row place.gone place.rest) u ≡ first_of place.rest u
   row_other u ne = cond-false (place.row.segment.code == u) place.row.address (first_of place.rest u) (ne_eqb place.row.segment.code u (λ e. ne (sym place.code ∙ e)))
 
-  list_stands : StandAll types m2 nowhere (join place.front place.rest)
+  list_stands : NodesLie types m2 nowhere (join place.front place.rest)
   list_stands =
       before types m m2 Stays h (m.code a) y (m.forward a) (m.forward a) y touch
       nowhere place.front (node place.row place.gone place.rest) place.rest stand_K
@@ -419,7 +419,7 @@ module _ (types : List SegmentType) (O : Ordered types) (bound : ℕ) (m m2 : Li
   pub span_gone : IsLinkGraph types bound m2 × Holds types m2 (without_span h a f)
   unfolding left
   span_gone =
-      let stands_K : StandAll types m2 nowhere (take_out a K) = subst (StandAll types m2 nowhere) (sym place.out) list_stands in
+      let stands_K : NodesLie types m2 nowhere (take_out a K) = subst (NodesLie types m2 nowhere) (sym place.out) list_stands in
       let named_K : NamesChildren types m2 (m.code h) h (take_out a K) = subst (NamesChildren types m2 (m.code h) h) (sym place.out) (record { first = names_first; last = names_last }) in
       let good : Formed types (m.code h) (take_out a K) = formed_out types (m.code h) a K S.formed in
       let lies : Lies types m2 (without_span h a f) = changed_lies types O bound m G f H m2 h (take_out a) K S others parent_kept stands_K named_K good in

@@ -4,7 +4,7 @@ use Rattle.std.proofs.lemmas.Bool.{cases_eq, cases_lt, eq-eqb, ne_eqb, cond-true
 use Rattle.hd_dbd.specs.Types.{SegmentType}
 use Rattle.hd_dbd.specs.Forest.{Forest, empty, node, sequence}
 use Rattle.hd_links.specs.Links.{Links, child_types, is_child_type}
-use Rattle.hd_links.specs.Placed.{Placed, first_of, with_node, StandAll}
+use Rattle.hd_links.specs.Placed.{Placed, first_of, with_node, NodesLie}
 use Rattle.hd_links.specs.Pointers.{IsTwinAfter, IsInChain}
 use Rattle.hd_links.specs.Steps.{first_some, child_among, later_than, behind_child, behind_from, tip_from, LeadsDown}
 use Rattle.hd_links.proofs.Types.{Ascending, AllAbove, above_in, is_in, in_cases, in_head, in_tail}
@@ -53,7 +53,7 @@ HeadIn ts empty = Unit {0}
 HeadIn ts (node r k n) = is_in ts r.segment.code ≡ true
 
 -- the first of siblings, by their types in order
-pub head_is : (types : List SegmentType) (m : Links) (c : ℕ) (b : ℕ → ℕ) (f : Forest Placed) (ts : List ℕ) → StandAll types m b f → Formed types c f → Ascending ts
+pub head_is : (types : List SegmentType) (m : Links) (c : ℕ) (b : ℕ → ℕ) (f : Forest Placed) (ts : List ℕ) → NodesLie types m b f → Formed types c f → Ascending ts
     → HeadIn ts f → head_of f ≡ among (first_of f) ts
 head_is types m c b empty ts l h a w = sym (among_zero (first_of empty) ts (λ t. refl))
 head_is types m c b (node r k n) [] l h a w = absurd (false≢true w)
@@ -104,7 +104,7 @@ head_in types c empty h = tt
 head_in types c (node r k n) h = h.0
 
 -- the first of the children of a record
-pub first_below : (types : List SegmentType) (m : Links) (asc : (c : ℕ) → Ascending (child_types types c)) (c h : ℕ) (b : ℕ → ℕ) (k : Forest Placed) → StandAll types m b k → Formed types c k
+pub first_below : (types : List SegmentType) (m : Links) (asc : (c : ℕ) → Ascending (child_types types c)) (c h : ℕ) (b : ℕ → ℕ) (k : Forest Placed) → NodesLie types m b k → Formed types c k
     → ((t : ℕ) → is_child_type types c t ≡ true → m.first_child h t ≡ first_of k t) → child_among m h (child_types types c) ≡ head_of k
 first_below types m asc c h b k l F e =
     child_among_is m h (child_types types c)
@@ -113,7 +113,7 @@ first_below types m asc c h b k l F e =
 
 -- what follows a node among its siblings
 pub first_behind : (types : List SegmentType) (m : Links) (asc : (c : ℕ) → Ascending (child_types types c)) (c h : ℕ) (b : ℕ → ℕ) (r : Placed) (k n : Forest Placed)
-    → StandAll types m b (node r k n) → Formed types c (node r k n)
+    → NodesLie types m b (node r k n) → Formed types c (node r k n)
     → ((t : ℕ) → r.segment.code < t → is_child_type types c t ≡ true → first_of n t ≡ m.first_child h t)
     → first_some (m.forward r.address) (child_among m h (later_than r.segment.code (child_types types c))) ≡ head_of n
 first_behind types m asc c h b r k n l F rest =
@@ -146,6 +146,6 @@ chain_more m zero p a w some = (w.0, (subst (λ x. 0 < m.forward x) (sym w.1) so
 chain_more m (suc n) p a w some = (w.0, chain_more m n (m.forward p) a w.1 some)
 
 -- the head of a list that begins with siblings
-pub head_both : (types : List SegmentType) (m : Links) (b : ℕ → ℕ) (f : Forest Placed) (xs : List Placed) → StandAll types m b f → first_some (head_of f) (head_at xs) ≡ head_at (sequence f ++ xs)
+pub head_both : (types : List SegmentType) (m : Links) (b : ℕ → ℕ) (f : Forest Placed) (xs : List Placed) → NodesLie types m b f → first_some (head_of f) (head_at xs) ≡ head_at (sequence f ++ xs)
 head_both types m b empty xs s = some_zero 0 (head_at xs) refl
 head_both types m b (node r k n) xs s = some_own r.address (head_at xs) s.0.there.some

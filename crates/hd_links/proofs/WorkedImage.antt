@@ -12,9 +12,9 @@ use Rattle.hd_links.specs.Placed.{Placed, count, first_of, last_of, NamesChildre
 use Rattle.hd_links.specs.Steps.{rows_of, path_at, next_row, behind_span}
 use Rattle.hd_links.specs.Pointers.{Precedes, IsReached}
 use Rattle.hd_links.proofs.Build.{zero_or}
-use Rattle.hd_links.specs.Broken.{HoldNone, BrokenRecords}
+use Rattle.hd_links.specs.Faulty.{HoldNone, FaultyRecords}
 use Rattle.hd_links.proofs.Types.{is_in, in_cases, ordered}
-use Rattle.hd_links.proofs.Broken.{broken}
+use Rattle.hd_links.proofs.Faulty.{faulty}
 
 -- the records of the image
 abbrev places : List ℕ
@@ -189,9 +189,9 @@ path_worked = refl
 
 -- ---- images that hold no forest
 
--- broken records over the image's segments
-broken_image : (m : Links) → IsLinkGraph sample_types 512 m → BrokenRecords sample_types m
-broken_image m G = broken sample_types (ordered 128 (record { fbff = 0; fspf = 0 }) sample_types sample_is_well_formed) 512 m G
+-- faulty records over the image's segments
+faulty_image : (m : Links) → IsLinkGraph sample_types 512 m → FaultyRecords sample_types m
+faulty_image m G = faulty sample_types (ordered 128 (record { fbff = 0; fspf = 0 }) sample_types sample_is_well_formed) 512 m G
 
 -- a ring of two books beside it, which nothing names
 
@@ -228,7 +228,7 @@ ring_graph = record {
 -- they hold no forest
 pub ring_holds_none : HoldNone sample_types ring
 ring_holds_none =
-    (broken_image ring ring_graph).ring 320 1 (record { some = omega arith; here = refl })
+    (faulty_image ring ring_graph).ring 320 1 (record { some = omega arith; here = refl })
     (omega arith, (omega arith, refl))
 
 -- the second course names the second class too, which is the first class's twin
@@ -245,7 +245,7 @@ twice_graph = record {
 
 pub twice_holds_none : HoldNone sample_types twice
 twice_holds_none =
-    (broken_image twice twice_graph).twice 232 176 280 (record { some = omega arith; here = refl })
+    (faulty_image twice twice_graph).twice 232 176 280 (record { some = omega arith; here = refl })
     (inl (record { holder = record { some = omega arith; here = refl }; names = refl }))
     (inr (2, record { holder = refl; typed = refl; names = refl })) (λ (e : 176 ≡ 280). omega arith)
 
@@ -262,7 +262,7 @@ middle_graph = record {
 }
 
 pub middle_holds_none : HoldNone sample_types middle
-middle_holds_none = (broken_image middle middle_graph).middle 136 2 refl refl refl (omega arith) (omega arith)
+middle_holds_none = (faulty_image middle middle_graph).middle 136 2 refl refl refl (omega arith) (omega arith)
 
 -- the first course names no book
 abbrev unnamed : Links
@@ -301,4 +301,4 @@ unnamed_unreached zero w = differ 264 0 (λ (e : 264 ≡ 0). omega arith) w
 unnamed_unreached (suc n) w = no_holder w.1.0 w.1.2
 
 pub unnamed_holds_none : HoldNone sample_types unnamed
-unnamed_holds_none = (broken_image unnamed unnamed_graph).unreached 264 (record { some = omega arith; here = refl }) unnamed_unreached
+unnamed_holds_none = (faulty_image unnamed unnamed_graph).unreached 264 (record { some = omega arith; here = refl }) unnamed_unreached

@@ -13,7 +13,7 @@ use Rattle.hd_links.specs.Pointers.{IsInChain, AreLinked, PointersAreTyped, Pred
 use Rattle.hd_links.specs.Changes.{AgreeAt, Agree, twin_behind, linked, unlinked, replaced, with_leaf, without_span, with_bytes, CanLink, CanUnlink, CanReplace}
 use Rattle.hd_links.specs.Steps.{rows_of, addresses, address_at, RowsHaveAddresses, next_row, StepsAreRows}
 use Rattle.hd_links.specs.Numbers.{LeafGoesInAt, RowsLeave}
-use Rattle.hd_links.specs.Broken.{BrokenRecords}
+use Rattle.hd_links.specs.Faulty.{FaultyRecords}
 
 -- The records hold one placed forest and no other.
 abbrev pub HoldsOne : List SegmentType → Links → Type 0
@@ -121,8 +121,8 @@ BytesChangeOneRow =
     → (rows_of (with_bytes (address_at f i) bytes f) ≡ slice_set (rows_of f) i (record { code = (row_at (rows_of f) i).code; bytes = bytes }))
     × (addresses (with_bytes (address_at f i) bytes f) ≡ addresses f)
 
--- Broken records hold no forest.
-abbrev pub BrokenRecordsHoldNone : Type 0
-BrokenRecordsHoldNone =
+-- Faulty records hold no forest.
+abbrev pub FaultyRecordsHoldNone : Type 0
+FaultyRecordsHoldNone =
     (block_size : ℕ) (frspc : FreeSpace) (types : List SegmentType) (bound : ℕ) (m : Links) → IsTrue (well_formed block_size frspc types)
-    → IsLinkGraph types bound m → BrokenRecords types m
+    → IsLinkGraph types bound m → FaultyRecords types m

@@ -4,5 +4,5 @@ pub mod Pointers
 pub mod Changes
 pub mod Steps
 pub mod Numbers
-pub mod Broken
+pub mod Faulty
 pub mod Laws

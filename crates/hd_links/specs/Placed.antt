@@ -49,7 +49,7 @@ pub record NamesChildren (types : List SegmentType) (m : Links) (c a : ℕ) (bel
 
 -- At the node's address stand its segment, delete byte 0, the next twin and, where it is kept, the twin before, which the
 -- table has, and the nodes below it.
-pub record Stands (types : List SegmentType) (m : Links) (table : ℕ → ℕ) (p : Placed) (below behind : Forest Placed) : Type 0 where
+pub record NodeLies (types : List SegmentType) (m : Links) (table : ℕ → ℕ) (p : Placed) (below behind : Forest Placed) : Type 0 where
   pub there : IsSegment m p.address
   pub code : m.code p.address ≡ p.segment.code
   pub bytes : m.bytes p.address ≡ p.segment.bytes
@@ -59,18 +59,18 @@ pub record Stands (types : List SegmentType) (m : Links) (table : ℕ → ℕ) (
   pub children : NamesChildren types m p.segment.code p.address below
 
 -- Each of these nodes and of those below them stands at its address.
-abbrev pub StandAll : List SegmentType → Links → (ℕ → ℕ) → Forest Placed → Type 0
-StandAll types m table empty = Unit {0}
-StandAll types m table (node p below behind) =
-    Stands types m table p below behind × StandAll types m nowhere below × StandAll types m (with_node table p) behind
+abbrev pub NodesLie : List SegmentType → Links → (ℕ → ℕ) → Forest Placed → Type 0
+NodesLie types m table empty = Unit {0}
+NodesLie types m table (node p below behind) =
+    NodeLies types m table p below behind × NodesLie types m nowhere below × NodesLie types m (with_node table p) behind
 
 -- The placed forest lies in the records: the header names its first and its last root, and each node stands at its address.
 pub record Lies (types : List SegmentType) (m : Links) (f : Forest Placed) : Type 0 where
   pub roots : NamesChildren types m 0 0 f
-  pub nodes : StandAll types m nowhere f
+  pub nodes : NodesLie types m nowhere f
 
 -- The records hold the placed forest: it lies in them, it is a forest of the database, and each segment is one of its
--- nodes, once.
+-- nodes, once. Of the index and of the blocks it says nothing.
 pub record Holds (types : List SegmentType) (m : Links) (f : Forest Placed) : Type 0 where
   pub lies : Lies types m f
   pub fits : forest_fits types (forest_of f) ≡ true

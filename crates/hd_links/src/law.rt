@@ -1,4 +1,4 @@
-ghost use Rattle.hd_links.specs.Laws.{PointersDecide, HeldTwinsAscend, LiesByItsPlaces, LinkingAddsALeaf, UnlinkingTakesASpan, ReplacingChangesBytes, AddressesAreRows, PointersFollowRows, BrokenRecordsHoldNone, LeavesGoInBetweenRows, SpansAreRowsToTheirEnd, BytesChangeOneRow, BackwardNamesTheTwinBefore, ChainsEnd, LastChildEndsTheTwins};
+ghost use Rattle.hd_links.specs.Laws.{PointersDecide, HeldTwinsAscend, LiesByItsPlaces, LinkingAddsALeaf, UnlinkingTakesASpan, ReplacingChangesBytes, AddressesAreRows, PointersFollowRows, FaultyRecordsHoldNone, LeavesGoInBetweenRows, SpansAreRowsToTheirEnd, BytesChangeOneRow, BackwardNamesTheTwinBefore, ChainsEnd, LastChildEndsTheTwins};
 
 /// The pointers of a database's records decide which forest they hold.
 pub fn law_pointers_decide()
@@ -74,6 +74,6 @@ pub fn law_bytes_change_one_row()
 
 /// A ring of twins, a segment named twice, a last child in the middle of its chain, and a segment that is not reached are
 /// in no forest.
-pub fn law_broken_records_hold_none()
-    ensures { BrokenRecordsHoldNone }
+pub fn law_faulty_records_hold_none()
+    ensures { FaultyRecordsHoldNone }
 {}

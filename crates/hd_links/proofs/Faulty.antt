@@ -3,7 +3,7 @@ use Rattle.std.proofs.Common.{◌≡◌, ℕ, zero, suc, ◌+◌, ◌<◌, List,
 use Rattle.hd_dbd.specs.Types.{SegmentType}
 use Rattle.hd_links.specs.Links.{Links, IsSegment, IsLinkGraph}
 use Rattle.hd_links.specs.Pointers.{IsTwinAfter, IsReached, AreLinked}
-use Rattle.hd_links.specs.Broken.{BrokenRecords}
+use Rattle.hd_links.specs.Faulty.{FaultyRecords}
 use Rattle.hd_links.proofs.Types.{Ordered}
 use Rattle.hd_links.proofs.Build.{reached_once}
 use Rattle.hd_links.proofs.Sound.{are_linked}
@@ -21,8 +21,8 @@ reached_on types m L (suc n) k p a w s t =
     goes zero t = t.0
     goes (suc n) t = t.0
 
-pub broken : (types : List SegmentType) (O : Ordered types) (bound : ℕ) (m : Links) → IsLinkGraph types bound m → BrokenRecords types m
-broken types O bound m G = record {
+pub faulty : (types : List SegmentType) (O : Ordered types) (bound : ℕ) (m : Links) → IsLinkGraph types bound m → FaultyRecords types m
+faulty types O bound m G = record {
   ring = λ a n s t f H.
       (let L : AreLinked types m = are_linked types O bound m G f H in
       let w = L.reached a s in

@@ -1,6 +1,0 @@
-use Rattle.hd_links.proofs.Types.{ordered}
-use Rattle.hd_links.proofs.Broken.{broken}
-use Rattle.hd_links.proofs.law.law_broken_records_hold_none.Goals as goal
-
-pub returns : goal.returns
-returns c block_size frspc types bound m formed graph = broken types (ordered block_size frspc types formed) bound m graph
