@@ -1,0 +1,5 @@
+pub mod Tables
+pub mod Values
+pub mod Operands
+pub mod Drafts
+pub mod Sources
