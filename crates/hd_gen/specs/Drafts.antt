@@ -9,9 +9,11 @@ use Rattle.hd_gen.specs.declared.fault.GenFault.{GenFault}
 use Rattle.hd_gen.specs.declared.fault.GenFault.TheVariants.{G5}
 use Rattle.hd_gen.specs.declared.table.Operation.{Operation}
 use Rattle.hd_gen.specs.declared.table.Operation.TheVariants as operations
+use Rattle.hd_gen.specs.Tables.{usual_block_size}
 use Rattle.hd_gen.specs.Operands.{Given}
 
--- The database's name, once it is known, its block size and free space, and its types; or a program's PCBs.
+-- The database's name, once it is known, its block size and free space, and its types; or a program's PCBs. A DBD's draft has
+-- no PCBs, and a PSB's has nothing else.
 pub record Draft : Type 0 where
   pub name : Option (List ℕ)
   pub block_size : ℕ
@@ -20,9 +22,10 @@ pub record Draft : Type 0 where
   pub pcbs : List View
 
 abbrev pub empty_draft : Draft
-empty_draft = record { name = None; block_size = 2048; frspc = record { fbff = 0; fspf = 0 }; types = []; pcbs = [] }
+empty_draft = record { name = None; block_size = usual_block_size; frspc = record { fbff = 0; fspf = 0 }; types = []; pcbs = [] }
 
--- The code of the first type of a name, 0 where there is none. Codes end at 255.
+-- The code of the first type of a name, 0 where there is none, which no database lets stand as a parent's. Codes end at 255,
+-- and no database has more types.
 abbrev pub code_of : List SegmentType → List ℕ → ℕ
 code_of types name = option_map_or (λ i. i + 1) (position (λ t. bytes_eq t.name name) (take 255 types)) 0
 
@@ -56,7 +59,7 @@ abbrev pub with_seen : Given → List ℕ → View → View
 with_seen g name pcb =
     record pcb { sens = pcb.sens ++ record { name = name; parent = g.parent.name; procopt = g.procopt } ∷ [] }
 
--- what a needed operand gives; G5 where it is missing
+-- what follows with the value of a needed operand, or, for one without value, where it stands; G5 where it is missing
 abbrev pub needed : {A B : Type 0} → ℕ → Option A → (A → Result B GenFault) → Result B GenFault
 needed line (Some x) more = more x
 needed line None more = Err (G5 line)
@@ -65,7 +68,7 @@ abbrev pub needs : {B : Type 0} → ℕ → Bool → Result B GenFault → Resul
 needs line true more = more
 needs line false more = Err (G5 line)
 
--- The draft behind a statement with these operands. Needed are NAME and ACCESS of DBD; NAME and BYTES of SEGM; NAME, BYTES
+-- The draft behind a statement with these operands. An LCHILD is judged and not kept. Needed are NAME and ACCESS of DBD; NAME and BYTES of SEGM; NAME, BYTES
 -- and START of FIELD; NAME of LCHILD; TYPE, DBDNAME and PROCOPT of PCB; NAME of SENSEG.
 abbrev pub with_statement : Operation → ℕ → Draft → Given → Result Draft GenFault
 with_statement operations.Dbd line d g = needed line g.name (λ name. needs line g.has_access (Ok (record d { name = Some name })))
@@ -79,7 +82,7 @@ with_statement operations.Lchild line d g = needed line g.name (λ _. Ok d)
 with_statement operations.Dbdgen line d g = Ok d
 with_statement operations.Finish line d g = Ok d
 with_statement operations.Pcb line d g =
-    needed line g.procopt (λ letters. needs line (g.is_database && g.has_database_name)
+    needed line g.procopt (λ letters. needs line (g.has_type && g.has_database_name)
     (Ok (record d { pcbs = d.pcbs ++ record { procopt = letters; sens = [] } ∷ [] })))
 with_statement operations.Senseg line d g = needed line g.name (λ name. Ok (record d { pcbs = with_last (λ pcb. with_seen g name pcb) d.pcbs }))
 with_statement operations.Psbgen line d g = Ok d

@@ -2,19 +2,23 @@
 use Rattle.std.specs.Prelude.{ℕ, List, [], ◌∷◌, ◌++◌, Bool, true, false, ◌&&◌, cond, Option, Some, None, is_some, Result, Ok, Err, bytes_eq, codes}
 use Rattle.std.specs.Option.{option_map_or}
 use Rattle.std.specs.List.{list_any}
+use Rattle.std.specs.Result.{result_map_both}
 use Rattle.hd_macro.specs.Statements.{OperandText}
 use Rattle.hd_dbd.specs.declared.hierarchy.FreeSpace.{FreeSpace}
 use Rattle.hd_dbd.specs.declared.hierarchy.Rule.{Rule}
 use Rattle.hd_dbd.specs.declared.hierarchy.Rule.TheVariants.{Last}
 use Rattle.hd_gen.specs.declared.fault.GenFault.{GenFault}
 use Rattle.hd_gen.specs.declared.fault.GenFault.TheVariants.{G3, G4}
+use Rattle.hd_gen.specs.declared.given.Context.{Context}
+use Rattle.hd_gen.specs.declared.operand.FieldName.{FieldName}
+use Rattle.hd_gen.specs.declared.operand.Parent.{Parent}
 use Rattle.hd_gen.specs.declared.table.Operation.{Operation}
 use Rattle.hd_gen.specs.declared.table.Meaning.{Meaning}
 use Rattle.hd_gen.specs.declared.table.Meaning.TheVariants as meanings
 use Rattle.hd_gen.specs.declared.value.Wrong.{Wrong}
 use Rattle.hd_gen.specs.declared.value.Wrong.TheVariants.{NotSupported, IllFormed}
-use Rattle.hd_gen.specs.Tables.{look_up, operands_of, main_keyword, positionings}
-use Rattle.hd_gen.specs.Values.{Value, value_in, then, only_if, ParentText, FieldText, name_in, number_in, is_access, block_size_in, free_space_in, parent_in, seen_parent_in, twins_in, rule_in, field_in, is_data_type, index_in, is_word, database_in, letters_in}
+use Rattle.hd_gen.specs.Tables.{look_up, operands_of, main_keyword, positionings, usual_block_size}
+use Rattle.hd_gen.specs.Values.{Value, value_in, then, only_if, name_in, number_in, is_access, block_size_in, free_space_in, parent_in, seen_parent_in, twins_in, rule_in, field_in, is_data_type, index_in, is_word, database_in, letters_in}
 
 -- What the operands of a statement give. Without them POINTER is TWIN, RULES is LAST, a PARENT is 0, the child pointer is
 -- SNGL, the block size is 2,048 bytes, and no space is left free.
@@ -23,7 +27,7 @@ pub record Given : Type 0 where
   pub has_access : Bool
   pub block_size : ℕ
   pub frspc : FreeSpace
-  pub parent : ParentText
+  pub parent : Parent
   pub length : Option ℕ
   pub backward : Bool
   pub rule : Rule
@@ -31,26 +35,20 @@ pub record Given : Type 0 where
   pub unique : Option Bool
   pub start : Option ℕ
   -- TYPE=DB stands in a PCB
-  pub is_database : Bool
+  pub has_type : Bool
   pub has_database_name : Bool
   pub procopt : Option (List ℕ)
 
 abbrev pub nothing_given : Given
 nothing_given =
     record {
-        name = None; has_access = false; block_size = 2048; frspc = record { fbff = 0; fspf = 0 };
+        name = None; has_access = false; block_size = usual_block_size; frspc = record { fbff = 0; fspf = 0 };
         parent = record { name = None; last_pointer = false }; length = None; backward = false; rule = Last; unique = None; start = None;
-        is_database = false; has_database_name = false; procopt = None
+        has_type = false; has_database_name = false; procopt = None
     }
 
--- Where a statement stands: the SEGM is the root, the type has a sequence field already, and the database that a PSB is for.
-pub record Context : Type 0 where
-  pub is_root : Bool
-  pub has_key : Bool
-  pub database : Option (List ℕ)
-
 -- a field's name, and whether it is a sequence field; a second one of a type is ill-formed
-abbrev pub with_field : Bool → Given → FieldText → Result Given Wrong
+abbrev pub with_field : Bool → Given → FieldName → Result Given Wrong
 with_field has_key g f = cond (has_key && is_some f.unique) (Err IllFormed) (Ok (record g { name = Some f.name; unique = f.unique }))
 
 -- what is given, with the value of an operand of this meaning
@@ -69,17 +67,16 @@ with_value c meanings.Start g v = then (number_in v) (λ x. Ok (record g { start
 with_value c meanings.DataType g v = then (only_if (is_data_type v)) (λ _. Ok g)
 with_value c meanings.IndexSegment g v = then (index_in v) (λ x. Ok (record g { name = Some x }))
 with_value c meanings.IndexPointer g v = then (only_if (is_word (codes "INDX" ∷ []) v)) (λ _. Ok g)
-with_value c meanings.DatabaseType g v = then (only_if (is_word (codes "DB" ∷ []) v)) (λ _. Ok (record g { is_database = true }))
+with_value c meanings.DatabaseType g v = then (only_if (is_word (codes "DB" ∷ []) v)) (λ _. Ok (record g { has_type = true }))
 with_value c meanings.DatabaseName g v = then (database_in c.database v) (λ _. Ok (record g { has_database_name = true }))
 with_value c meanings.Procopt g v = then (letters_in v) (λ x. Ok (record g { procopt = Some x }))
 with_value c meanings.Positioning g v = then (only_if (is_word positionings v)) (λ _. Ok g)
 with_value c meanings.NotUsed g v = Ok g
 
--- a fault of a statement's line
-abbrev pub at_line : {A : Type 0} → ℕ → Result A Wrong → Result A GenFault
-at_line line (Ok x) = Ok x
-at_line line (Err NotSupported) = Err (G3 line)
-at_line line (Err IllFormed) = Err (G4 line)
+-- the fault of a statement's line
+abbrev pub fault_at : ℕ → Wrong → GenFault
+fault_at line NotSupported = G3 line
+fault_at line IllFormed = G4 line
 
 -- the operand stands among these already, by this or its other keyword
 abbrev pub is_given : Operation → List OperandText → OperandText → Bool
@@ -90,7 +87,7 @@ is_given operation before o =
 abbrev pub with_operand : Context → Operation → ℕ → List OperandText → Given → OperandText → Result Given GenFault
 with_operand c operation line before g o =
     option_map_or (λ meaning.
-    cond (is_given operation before o) (Err (G4 line)) (at_line line (with_value c meaning g (value_in o.value))))
+    cond (is_given operation before o) (Err (G4 line)) (result_map_both (λ h. h) (λ wrong. fault_at line wrong) (with_value c meaning g (value_in o.value))))
     (look_up (operands_of operation) o.keyword) (Err (G3 line))
 
 -- what follows a part without a fault

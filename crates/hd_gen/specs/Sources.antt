@@ -12,12 +12,13 @@ use Rattle.hd_dbd.specs.ProgramRules.{Program, type_names}
 use Rattle.hd_dbd.specs.ProgramFaults.{program_fault}
 use Rattle.hd_gen.specs.declared.fault.GenFault.{GenFault}
 use Rattle.hd_gen.specs.declared.fault.GenFault.TheVariants as faults
+use Rattle.hd_gen.specs.declared.given.Context.{Context}
 use Rattle.hd_gen.specs.declared.table.Operation.{Operation}
 use Rattle.hd_gen.specs.declared.table.Operation.TheVariants as operations
 use Rattle.hd_gen.specs.declared.table.Stage.{Stage}
 use Rattle.hd_gen.specs.declared.table.Stage.TheVariants as stages
 use Rattle.hd_gen.specs.Tables.{look_up, dbd_operations, psb_operations, next_stage, is_complete}
-use Rattle.hd_gen.specs.Operands.{Given, Context, given, next}
+use Rattle.hd_gen.specs.Operands.{Given, given, next}
 use Rattle.hd_gen.specs.Drafts.{Draft, empty_draft, with_statement}
 
 -- A source is a DBD's, or a PSB's for the database of a name.
@@ -46,9 +47,9 @@ context_of kind d =
     record { is_root = length d.types == 0; has_key = has_key_last d.types; database = database_of_kind kind }
 
 -- an LCHILD that does not stand at the root
-abbrev pub is_lchild_below : Operation → Draft → Bool
-is_lchild_below operations.Lchild d = nat_lt 1 (length d.types)
-is_lchild_below operation d = false
+abbrev pub is_lchild_below_root : Operation → Draft → Bool
+is_lchild_below_root operations.Lchild d = nat_lt 1 (length d.types)
+is_lchild_below_root operation d = false
 
 -- How far a source is read, and what it says so far.
 pub record Progress : Type 0 where
@@ -59,7 +60,7 @@ pub record Progress : Type 0 where
 -- needs are tested.
 abbrev pub placed : Kind → Operation → Stage → Draft → StatementText → Result Progress GenFault
 placed kind operation stage d s =
-    cond (is_lchild_below operation d) (Err (faults.G3 s.line))
+    cond (is_lchild_below_root operation d) (Err (faults.G3 s.line))
     (next (given (context_of kind d) operation s.line s.operands) (λ g.
     next (with_statement operation s.line d g) (λ e. Ok (record { stage = stage; draft = e }))))
 
@@ -97,7 +98,7 @@ draft_of kind bytes =
 abbrev pub checked_database : Database → Result Database GenFault
 checked_database d = option_map_or (λ f. Err (faults.Dbd f)) (database_fault d.block_size d.frspc d.types) (Ok d)
 
--- The database of a DBD source. Its name is known where it is complete.
+-- The database of a DBD source. A complete one has its name, so the last G2 never comes.
 abbrev pub dbd_of : List ℕ → Result Database GenFault
 dbd_of bytes =
     next (draft_of dbd bytes) (λ d.

@@ -37,8 +37,8 @@ psb_operations =
     ∷ entry (codes "END") operations.End ∷ []
 
 -- How far a source is read, behind a statement, if it may stand there. DBD; at most one DATASET; one or more SEGM, each with
--- its FIELDs and LCHILDs behind it; DBDGEN; then FINISH and END, if they stand there. One or more PCB, each with its SENSEGs
--- behind it; PSBGEN; then END, if it stands there.
+-- its FIELDs and LCHILDs behind it (an LCHILD below the root is not supported, which is judged next); DBDGEN; then FINISH and
+-- END, if they stand there. One or more PCB, each with its SENSEGs behind it; PSBGEN; then END, if it stands there.
 abbrev pub next_stage : Stage → Operation → Option Stage
 next_stage stages.Start operations.Dbd = Some stages.Named
 next_stage stages.Start operations.Pcb = Some stages.Pcbs
@@ -115,14 +115,14 @@ abbrev pub child_pointers : List (Entry Bool)
 child_pointers = entry (codes "SNGL") false ∷ entry (codes "DBLE") true ∷ []
 
 -- RULES: where a new twin goes
-abbrev pub rules : List (Entry Rule)
-rules = entry (codes "FIRST") First ∷ entry (codes "LAST") Last ∷ entry (codes "HERE") Here ∷ []
+abbrev pub twin_rules : List (Entry Rule)
+twin_rules = entry (codes "FIRST") First ∷ entry (codes "LAST") Last ∷ entry (codes "HERE") Here ∷ []
 
 -- NAME of a FIELD: whether a sequence field is unique
 abbrev pub sequence_fields : List (Entry Bool)
 sequence_fields = entry (codes "U") true ∷ entry (codes "M") false ∷ []
 
--- the words that may stand for ACCESS=(HIDAM,..), TYPE of a FIELD, and POS
+-- the words that may stand behind HIDAM in ACCESS, for TYPE of a FIELD, and for POS
 abbrev pub access_methods : List (List ℕ)
 access_methods = codes "VSAM" ∷ codes "OSAM" ∷ []
 
@@ -131,3 +131,7 @@ data_types = codes "C" ∷ codes "X" ∷ codes "P" ∷ codes "F" ∷ codes "H" �
 
 abbrev pub positionings : List (List ℕ)
 positionings = codes "S" ∷ codes "SINGLE" ∷ []
+
+-- the bytes of a block where SIZE is not given
+abbrev pub usual_block_size : ℕ
+usual_block_size = 2048

@@ -7,17 +7,26 @@ use Rattle.hd_lines.specs.Digits.{is_digit, value_of}
 use Rattle.hd_dbd.specs.declared.hierarchy.FreeSpace.{FreeSpace}
 use Rattle.hd_dbd.specs.declared.hierarchy.Rule.{Rule}
 use Rattle.hd_dbd.specs.Naming.{is_name}
+use Rattle.hd_gen.specs.declared.operand.FieldName.{FieldName}
+use Rattle.hd_gen.specs.declared.operand.Parent.{Parent}
 use Rattle.hd_gen.specs.declared.value.Wrong.{Wrong}
 use Rattle.hd_gen.specs.declared.value.Wrong.TheVariants.{NotSupported, IllFormed}
-use Rattle.hd_gen.specs.Tables.{Entry, look_up, twin_pointers, child_pointers, rules, sequence_fields, access_methods, data_types, positionings}
+use Rattle.hd_gen.specs.Tables.{Entry, look_up, twin_pointers, child_pointers, twin_rules, sequence_fields, access_methods, data_types, positionings}
 
 -- ---- shapes
+
+-- Words between commas, of which any may be empty: one, two, three, or more.
+pub data Words : Type 0 where
+  one : List ℕ → Words
+  two : List ℕ → List ℕ → Words
+  three : List ℕ → List ℕ → List ℕ → Words
+  many : Words
 
 -- A value: a word; words in brackets, as (A,B); words in two brackets, as ((A,B)); or brackets in another way.
 pub data Value : Type 0 where
   word : List ℕ → Value
-  listed : List (List ℕ) → Value
-  doubly_listed : List (List ℕ) → Value
+  listed : Words → Value
+  doubly_listed : Words → Value
   other : Value
 
 -- 40 and 41 are the brackets, 44 is the comma
@@ -30,10 +39,16 @@ unbracketed text =
     cond (nat_le 2 (length text) && slice_index text 0 == 40 && slice_index text (length text - 1) == 41)
     (Some (drop 1 (take (length text - 1) text))) None
 
-abbrev pub words : List ℕ → List (List ℕ)
-words text = slice_split (λ b. b == 44) text
+abbrev pub as_words : List (List ℕ) → Words
+as_words (a ∷ []) = one a
+as_words (a ∷ b ∷ []) = two a b
+as_words (a ∷ b ∷ c ∷ []) = three a b c
+as_words ws = many
 
--- a text in which no bracket stands, as a value
+abbrev pub words : List ℕ → Words
+words text = as_words (slice_split (λ b. b == 44) text)
+
+-- a text as a value of this shape, or, where a bracket stands in it, as one with brackets in another way
 abbrev pub flat : (List ℕ → Value) → List ℕ → Value
 flat shape text = cond (has_bracket text) other (shape text)
 
@@ -49,9 +64,13 @@ abbrev pub then : {A B : Type 0} → Result A Wrong → (A → Result B Wrong) �
 then (Ok x) next = next x
 then (Err wrong) next = Err wrong
 
+-- a word with blanks behind it, up to eight bytes
+abbrev pub padded : List ℕ → List ℕ
+padded w = w ++ replicate (8 - length w) 32
+
 -- a name, in its eight bytes
 abbrev pub name_of : List ℕ → Result (List ℕ) Wrong
-name_of w = cond (is_name (w ++ replicate (8 - length w) 32)) (Ok (w ++ replicate (8 - length w) 32)) (Err IllFormed)
+name_of w = cond (is_name (padded w)) (Ok (padded w)) (Err IllFormed)
 
 -- a number of decimal digits, below 2 to the power of 32
 abbrev pub is_number : List ℕ → Bool
@@ -81,69 +100,59 @@ number_in value = Err NotSupported
 -- ACCESS=HIDAM, (HIDAM), (HIDAM,VSAM) or (HIDAM,OSAM)
 abbrev pub is_access : Value → Bool
 is_access (word w) = bytes_eq w (codes "HIDAM")
-is_access (listed (w ∷ [])) = bytes_eq w (codes "HIDAM")
-is_access (listed (w ∷ m ∷ [])) = bytes_eq w (codes "HIDAM") && is_one_of access_methods m
+is_access (listed (one w)) = bytes_eq w (codes "HIDAM")
+is_access (listed (two w m)) = bytes_eq w (codes "HIDAM") && is_one_of access_methods m
 is_access value = false
 
--- SIZE=n, (n) or (n,m), of which n is the block size; m is not judged
+-- SIZE=n, (n) or (n,m), of which n is the block size; m is any word, or none
 abbrev pub block_size_in : Value → Result ℕ Wrong
 block_size_in (word n) = number_of n
-block_size_in (listed (n ∷ [])) = number_of n
-block_size_in (listed (n ∷ m ∷ [])) = number_of n
+block_size_in (listed (one n)) = number_of n
+block_size_in (listed (two n m)) = number_of n
 block_size_in value = Err NotSupported
 
 -- FRSPC=(fbff,fspf)
 abbrev pub free_space_in : Value → Result FreeSpace Wrong
-free_space_in (listed (b ∷ s ∷ [])) = then (number_of b) (λ fbff. then (number_of s) (λ fspf. Ok (record { fbff = fbff; fspf = fspf })))
+free_space_in (listed (two b s)) = then (number_of b) (λ fbff. then (number_of s) (λ fspf. Ok (record { fbff = fbff; fspf = fspf })))
 free_space_in value = Err NotSupported
 
--- A type's parent, if it has one, and whether its parent keeps last child.
-pub record ParentText : Type 0 where
-  pub name : Option (List ℕ)
-  pub last_pointer : Bool
-
 -- (name), (name,SNGL) or (name,DBLE)
-abbrev pub parent_of_words : List (List ℕ) → Result ParentText Wrong
-parent_of_words (w ∷ []) = then (name_of w) (λ name. Ok (record { name = Some name; last_pointer = false }))
-parent_of_words (w ∷ p ∷ []) =
+abbrev pub parent_of_words : Words → Result Parent Wrong
+parent_of_words (one w) = then (name_of w) (λ name. Ok (record { name = Some name; last_pointer = false }))
+parent_of_words (two w p) =
     then (ok_or (look_up child_pointers p) NotSupported) (λ last. then (name_of w) (λ name. Ok (record { name = Some name; last_pointer = last })))
 parent_of_words ws = Err NotSupported
 
 -- PARENT of a SEGM: 0 for none, a name, or that in one bracket or two
-abbrev pub parent_in : Value → Result ParentText Wrong
-parent_in (word w) = cond (bytes_eq w (codes "0")) (Ok (record { name = None; last_pointer = false })) (parent_of_words (w ∷ []))
+abbrev pub parent_in : Value → Result Parent Wrong
+parent_in (word w) = cond (bytes_eq w (codes "0")) (Ok (record { name = None; last_pointer = false })) (parent_of_words (one w))
 parent_in (listed ws) = parent_of_words ws
 parent_in (doubly_listed ws) = parent_of_words ws
 parent_in other = Err NotSupported
 
 -- PARENT of a SENSEG: 0 for none, or a name
-abbrev pub seen_parent_in : Value → Result ParentText Wrong
+abbrev pub seen_parent_in : Value → Result Parent Wrong
 seen_parent_in (word w) = parent_in (word w)
 seen_parent_in value = Err NotSupported
 
 -- POINTER of a SEGM, the root or not: whether twin backward is kept
 abbrev pub twins_in : Bool → Value → Result Bool Wrong
 twins_in is_root (word w) = ok_or (look_up (twin_pointers is_root) w) NotSupported
-twins_in is_root (listed (w ∷ [])) = ok_or (look_up (twin_pointers is_root) w) NotSupported
+twins_in is_root (listed (one w)) = ok_or (look_up (twin_pointers is_root) w) NotSupported
 twins_in is_root value = Err NotSupported
 
--- RULES=(x,FIRST), (x,LAST) or (x,HERE); x has no effect
+-- RULES=(x,FIRST), (x,LAST) or (x,HERE); x is any word, or none, and has no effect
 abbrev pub rule_in : Value → Result Rule Wrong
-rule_in (listed (x ∷ r ∷ [])) = ok_or (look_up rules r) NotSupported
+rule_in (listed (two x r)) = ok_or (look_up twin_rules r) NotSupported
 rule_in value = Err NotSupported
 
--- A field's name; where it is a sequence field, whether that is unique.
-pub record FieldText : Type 0 where
-  pub name : List ℕ
-  pub unique : Option Bool
-
 -- NAME of a FIELD: a name, (name), (name,SEQ), (name,SEQ,U) or (name,SEQ,M)
-abbrev pub field_in : Value → Result FieldText Wrong
+abbrev pub field_in : Value → Result FieldName Wrong
 field_in (word w) = then (name_of w) (λ name. Ok (record { name = name; unique = None }))
-field_in (listed (w ∷ [])) = then (name_of w) (λ name. Ok (record { name = name; unique = None }))
-field_in (listed (w ∷ s ∷ [])) =
+field_in (listed (one w)) = then (name_of w) (λ name. Ok (record { name = name; unique = None }))
+field_in (listed (two w s)) =
     then (only_if (bytes_eq s (codes "SEQ"))) (λ _. then (name_of w) (λ name. Ok (record { name = name; unique = Some true })))
-field_in (listed (w ∷ s ∷ u ∷ [])) =
+field_in (listed (three w s u)) =
     then (only_if (bytes_eq s (codes "SEQ"))) (λ _. then (ok_or (look_up sequence_fields u) NotSupported)
     (λ unique. then (name_of w) (λ name. Ok (record { name = name; unique = Some unique }))))
 field_in value = Err NotSupported
@@ -155,7 +164,7 @@ is_data_type value = false
 
 -- NAME of an LCHILD: (segment,dbd)
 abbrev pub index_in : Value → Result (List ℕ) Wrong
-index_in (listed (s ∷ d ∷ [])) = then (name_of s) (λ segment. then (name_of d) (λ _. Ok segment))
+index_in (listed (two s d)) = then (name_of s) (λ segment. then (name_of d) (λ _. Ok segment))
 index_in value = Err NotSupported
 
 -- POINTER of an LCHILD, TYPE and POS of a PCB: one word alone
@@ -170,7 +179,7 @@ is_database_name database name = option_map_or (λ d. bytes_eq d name) database 
 abbrev pub database_in : Option (List ℕ) → Value → Result (List ℕ) Wrong
 database_in database value = then (name_in value) (λ name. cond (is_database_name database name) (Ok name) (Err IllFormed))
 
--- PROCOPT: letters, judged with the program; in a source each is ASCII
+-- PROCOPT: its letters, which are judged with the program; in a source each is ASCII already
 abbrev pub letters_in : Value → Result (List ℕ) Wrong
 letters_in (word w) = cond (list_all (λ b. nat_lt b 128) w) (Ok w) (Err IllFormed)
 letters_in value = Err NotSupported

@@ -2,6 +2,8 @@
 #![tactic(auto)]
 
 mod fault;
+mod given;
+mod operand;
 mod table;
 mod value;
 

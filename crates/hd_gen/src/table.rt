@@ -122,58 +122,106 @@ pub(crate) fn meaning_of(operation: Operation, keyword: &[u8]) -> Option<Meaning
     ensures { result ≡ look_up (operands_of operation) keyword.now }
 {
     match operation {
-        Operation::Dbd => match keyword {
-            b"NAME" => Some(Meaning::Name),
-            b"ACCESS" => Some(Meaning::Access),
-            b"PASSWD" => Some(Meaning::NotUsed),
-            _ => None,
-        },
-        Operation::Dataset => match keyword {
-            b"SIZE" => Some(Meaning::BlockSize),
-            b"FRSPC" => Some(Meaning::FreeSpace),
-            b"DD1" | b"DEVICE" | b"SCAN" | b"MODEL" => Some(Meaning::NotUsed),
-            _ => None,
-        },
-        Operation::Segm => match keyword {
-            b"NAME" => Some(Meaning::Name),
-            b"PARENT" => Some(Meaning::Parent),
-            b"BYTES" => Some(Meaning::Length),
-            b"POINTER" | b"PTR" => Some(Meaning::Twins),
-            b"RULES" => Some(Meaning::Rules),
-            b"FREQ" => Some(Meaning::NotUsed),
-            _ => None,
-        },
-        Operation::Field => match keyword {
-            b"NAME" => Some(Meaning::FieldName),
-            b"BYTES" => Some(Meaning::Length),
-            b"START" => Some(Meaning::Start),
-            b"TYPE" => Some(Meaning::DataType),
-            _ => None,
-        },
-        Operation::Lchild => match keyword {
-            b"NAME" => Some(Meaning::IndexSegment),
-            b"POINTER" | b"PTR" => Some(Meaning::IndexPointer),
-            _ => None,
-        },
-        Operation::Pcb => match keyword {
-            b"TYPE" => Some(Meaning::DatabaseType),
-            b"DBDNAME" | b"NAME" => Some(Meaning::DatabaseName),
-            b"PROCOPT" => Some(Meaning::Procopt),
-            b"POS" => Some(Meaning::Positioning),
-            b"KEYLEN" | b"PCBNAME" => Some(Meaning::NotUsed),
-            _ => None,
-        },
-        Operation::Senseg => match keyword {
-            b"NAME" => Some(Meaning::Name),
-            b"PARENT" => Some(Meaning::SeenParent),
-            b"PROCOPT" => Some(Meaning::Procopt),
-            _ => None,
-        },
-        Operation::Psbgen => match keyword {
-            b"LANG" | b"PSBNAME" | b"CMPAT" | b"IOASIZE" | b"SSASIZE" => Some(Meaning::NotUsed),
-            _ => None,
-        },
+        Operation::Dbd => dbd_operand(keyword),
+        Operation::Dataset => dataset_operand(keyword),
+        Operation::Segm => segm_operand(keyword),
+        Operation::Field => field_operand(keyword),
+        Operation::Lchild => lchild_operand(keyword),
+        Operation::Pcb => pcb_operand(keyword),
+        Operation::Senseg => senseg_operand(keyword),
+        Operation::Psbgen => psbgen_operand(keyword),
         Operation::Dbdgen | Operation::Finish | Operation::End => None,
+    }
+}
+
+fn dbd_operand(keyword: &[u8]) -> Option<Meaning>
+    ensures { result ≡ look_up (operands_of Operation.Dbd) keyword.now }
+{
+    match keyword {
+        b"NAME" => Some(Meaning::Name),
+        b"ACCESS" => Some(Meaning::Access),
+        b"PASSWD" => Some(Meaning::NotUsed),
+        _ => None,
+    }
+}
+
+fn dataset_operand(keyword: &[u8]) -> Option<Meaning>
+    ensures { result ≡ look_up (operands_of Operation.Dataset) keyword.now }
+{
+    match keyword {
+        b"SIZE" => Some(Meaning::BlockSize),
+        b"FRSPC" => Some(Meaning::FreeSpace),
+        b"DD1" | b"DEVICE" | b"SCAN" | b"MODEL" => Some(Meaning::NotUsed),
+        _ => None,
+    }
+}
+
+fn segm_operand(keyword: &[u8]) -> Option<Meaning>
+    ensures { result ≡ look_up (operands_of Operation.Segm) keyword.now }
+{
+    match keyword {
+        b"NAME" => Some(Meaning::Name),
+        b"PARENT" => Some(Meaning::Parent),
+        b"BYTES" => Some(Meaning::Length),
+        b"POINTER" | b"PTR" => Some(Meaning::Twins),
+        b"RULES" => Some(Meaning::Rules),
+        b"FREQ" => Some(Meaning::NotUsed),
+        _ => None,
+    }
+}
+
+fn field_operand(keyword: &[u8]) -> Option<Meaning>
+    ensures { result ≡ look_up (operands_of Operation.Field) keyword.now }
+{
+    match keyword {
+        b"NAME" => Some(Meaning::FieldName),
+        b"BYTES" => Some(Meaning::Length),
+        b"START" => Some(Meaning::Start),
+        b"TYPE" => Some(Meaning::DataType),
+        _ => None,
+    }
+}
+
+fn lchild_operand(keyword: &[u8]) -> Option<Meaning>
+    ensures { result ≡ look_up (operands_of Operation.Lchild) keyword.now }
+{
+    match keyword {
+        b"NAME" => Some(Meaning::IndexSegment),
+        b"POINTER" | b"PTR" => Some(Meaning::IndexPointer),
+        _ => None,
+    }
+}
+
+fn pcb_operand(keyword: &[u8]) -> Option<Meaning>
+    ensures { result ≡ look_up (operands_of Operation.Pcb) keyword.now }
+{
+    match keyword {
+        b"TYPE" => Some(Meaning::DatabaseType),
+        b"DBDNAME" | b"NAME" => Some(Meaning::DatabaseName),
+        b"PROCOPT" => Some(Meaning::Procopt),
+        b"POS" => Some(Meaning::Positioning),
+        b"KEYLEN" | b"PCBNAME" => Some(Meaning::NotUsed),
+        _ => None,
+    }
+}
+
+fn senseg_operand(keyword: &[u8]) -> Option<Meaning>
+    ensures { result ≡ look_up (operands_of Operation.Senseg) keyword.now }
+{
+    match keyword {
+        b"NAME" => Some(Meaning::Name),
+        b"PARENT" => Some(Meaning::SeenParent),
+        b"PROCOPT" => Some(Meaning::Procopt),
+        _ => None,
+    }
+}
+
+fn psbgen_operand(keyword: &[u8]) -> Option<Meaning>
+    ensures { result ≡ look_up (operands_of Operation.Psbgen) keyword.now }
+{
+    match keyword {
+        b"LANG" | b"PSBNAME" | b"CMPAT" | b"IOASIZE" | b"SSASIZE" => Some(Meaning::NotUsed),
+        _ => None,
     }
 }
 
