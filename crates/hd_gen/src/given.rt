@@ -43,7 +43,7 @@ pub(crate) struct Given<'a> {
     /// TYPE=DB stands in a PCB.
     pub has_type: bool,
     pub has_database_name: bool,
-    pub procopt: Option<&'a [u8]>,
+    pub procopt: Option<&'a str>,
 }
 
 impl<'a> Model for Given<'a> {

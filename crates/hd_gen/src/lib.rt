@@ -1,6 +1,7 @@
 //! The DBD and the PSB of a source, written in the statements of IMS.
 #![tactic(auto)]
 
+mod draft;
 mod fault;
 mod given;
 mod operand;

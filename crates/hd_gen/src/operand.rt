@@ -3,7 +3,7 @@ ghost use Rattle.std.specs.List.{list_all};
 ghost use Rattle.std.specs.Result.{result_map_both};
 ghost use Rattle.hd_gen.specs.Shapes.{value_of, words_of};
 ghost use Rattle.hd_gen.specs.Tables.{look_up, child_pointers, twins, twin_pointers, twin_rules, sequence_fields, access_methods, data_types, positionings};
-ghost use Rattle.hd_gen.specs.Values.{then, name_of, is_one_of, name_in, number_in, is_access, block_size_in, free_space_in, parent_of_words, parent_in, seen_parent_in, twins_in, rule_in, field_in, is_data_type, index_in, is_word, database_in, letters_in};
+ghost use Rattle.hd_gen.specs.Values.{word, then, name_of, is_one_of, name_in, number_in, is_access, block_size_in, free_space_in, parent_of_words, parent_in, seen_parent_in, twins_in, rule_in, field_in, is_data_type, index_in, is_word, database_in, letters_in};
 
 use crate::value::{Value, Words, Wrong, name_of, number_of};
 use hd_dbd::{FreeSpace, Name8, Rule};
@@ -283,13 +283,24 @@ pub(crate) fn database_in(database: Option<Name8>, value: Value<'_>) -> Result<N
 }
 
 /// PROCOPT: its letters, which are judged with the program.
-pub(crate) fn letters_in<'a>(value: Value<'a>) -> Result<&'a [u8], Wrong>
+pub(crate) fn letters_in<'a>(value: Value<'a>) -> Result<&'a str, Wrong>
     ensures { result_map_both (λ w. w.now) (λ e. e) result ≡ letters_in (value_of value.entry) }
 {
     match value {
-        Value::Word(letters) if is_ascii(letters) => Ok(letters),
-        Value::Word(_) => Err(Wrong::IllFormed),
+        Value::Word(letters) => ascii_text(letters),
         _ => Err(Wrong::NotSupported),
+    }
+}
+
+fn ascii_text(letters: &[u8]) -> Result<&str, Wrong>
+    ensures { result_map_both (λ w. w.now) (λ e. e) result ≡ letters_in (word letters.now) }
+{
+    if !is_ascii(letters) {
+        return Err(Wrong::IllFormed);
+    }
+    match str::from_utf8(letters) {
+        Ok(text) => Ok(text),
+        Err(_) => Err(Wrong::IllFormed),
     }
 }
 
