@@ -1,8 +1,8 @@
 -- The database of a DBD source, and the program of a PSB source; or the first fault.
-use Rattle.std.specs.Prelude.{ℕ, ◌+◌, List, [], ◌∷◌, length, Bool, true, false, ◌==◌, nat_lt, cond, Option, Some, None, is_some, Result, Ok, Err}
+use Rattle.std.specs.Prelude.{ℕ, ◌+◌, ◌-◌, List, [], ◌∷◌, length, Bool, true, false, ◌==◌, nat_lt, cond, Option, Some, None, is_some, slice_get, Result, Ok, Err}
 use Rattle.std.specs.Option.{option_map_or}
+use Rattle.std.specs.Result.{result_map_both}
 use Rattle.std.specs.Str.Lines.{lines}
-use Rattle.hd_macro.specs.declared.source.LineFault.{LineFault}
 use Rattle.hd_macro.specs.Statements.{StatementText}
 use Rattle.hd_macro.specs.Source.{source}
 use Rattle.hd_dbd.specs.Types.{SegmentType, View}
@@ -13,6 +13,9 @@ use Rattle.hd_dbd.specs.ProgramFaults.{program_fault}
 use Rattle.hd_gen.specs.declared.fault.GenFault.{GenFault}
 use Rattle.hd_gen.specs.declared.fault.GenFault.TheVariants as faults
 use Rattle.hd_gen.specs.declared.given.Context.{Context}
+use Rattle.hd_gen.specs.declared.source.Kind.{Kind}
+use Rattle.hd_gen.specs.declared.source.Kind.TheVariants as kinds
+use Rattle.hd_gen.specs.declared.source.Progress.{Progress}
 use Rattle.hd_gen.specs.declared.table.Operation.{Operation}
 use Rattle.hd_gen.specs.declared.table.Operation.TheVariants as operations
 use Rattle.hd_gen.specs.declared.table.Stage.{Stage}
@@ -21,26 +24,19 @@ use Rattle.hd_gen.specs.Tables.{look_up, dbd_operations, psb_operations, next_st
 use Rattle.hd_gen.specs.Operands.{Given, given, next}
 use Rattle.hd_gen.specs.Drafts.{Draft, empty_draft, with_statement}
 
--- A source is a DBD's, or a PSB's for the database of a name.
-pub data Kind : Type 0 where
-  dbd : Kind
-  psb : List ℕ → Kind
-
 -- the statement of an operation, if the source has it
 abbrev pub operation_of : Kind → List ℕ → Option Operation
-operation_of dbd word = look_up dbd_operations word
-operation_of (psb name) word = look_up psb_operations word
+operation_of kinds.Dbd word = look_up dbd_operations word
+operation_of (kinds.Psb name) word = look_up psb_operations word
 
 -- the last type has a sequence field
 abbrev pub has_key_last : List SegmentType → Bool
-has_key_last [] = false
-has_key_last (t ∷ []) = is_some t.key
-has_key_last (t ∷ u ∷ us) = has_key_last (u ∷ us)
+has_key_last types = option_map_or (λ t. is_some t.key) (slice_get types (length types - 1)) false
 
 -- the name of the database that a program is for
 abbrev pub database_of_kind : Kind → Option (List ℕ)
-database_of_kind dbd = None
-database_of_kind (psb name) = Some name
+database_of_kind kinds.Dbd = None
+database_of_kind (kinds.Psb name) = Some name
 
 abbrev pub context_of : Kind → Draft → Context
 context_of kind d =
@@ -50,11 +46,6 @@ context_of kind d =
 abbrev pub is_lchild_below_root : Operation → Draft → Bool
 is_lchild_below_root operations.Lchild d = nat_lt 1 (length d.types)
 is_lchild_below_root operation d = false
-
--- How far a source is read, and what it says so far.
-pub record Progress : Type 0 where
-  pub stage : Stage
-  pub draft : Draft
 
 -- A statement that may stand here: G3 where it is an LCHILD below the root; then its operands are read, and those that it
 -- needs are tested.
@@ -84,10 +75,7 @@ line_behind bytes = length (lines bytes) + 1
 
 -- the statements of a source, or the first fault of its lines
 abbrev pub statements_in : List ℕ → Result (List StatementText) GenFault
-statements_in bytes = of_lines (source bytes) where
-  of_lines : Result (List StatementText) LineFault → Result (List StatementText) GenFault
-  of_lines (Ok ss) = Ok ss
-  of_lines (Err fault) = Err (faults.Line fault)
+statements_in bytes = result_map_both (λ ss. ss) (λ fault. faults.Line fault) (source bytes)
 
 -- what a source says
 abbrev pub draft_of : Kind → List ℕ → Result Draft GenFault
@@ -101,13 +89,13 @@ checked_database d = option_map_or (λ f. Err (faults.Dbd f)) (database_fault d.
 -- The database of a DBD source. A complete one has its name, so the last G2 never comes.
 abbrev pub dbd_of : List ℕ → Result Database GenFault
 dbd_of bytes =
-    next (draft_of dbd bytes) (λ d.
+    next (draft_of kinds.Dbd bytes) (λ d.
     option_map_or (λ name. checked_database (record { name = name; block_size = d.block_size; frspc = d.frspc; types = d.types })) d.name
     (Err (faults.G2 (line_behind bytes))))
 
 -- the program of a PSB source, for a database
 abbrev pub psb_of : List ℕ → Database → Result Program GenFault
 psb_of bytes database =
-    next (draft_of (psb database.name) bytes) (λ d.
+    next (draft_of (kinds.Psb database.name) bytes) (λ d.
     option_map_or (λ f. Err (faults.Psb f)) (program_fault (type_names database.types) d.pcbs)
     (Ok (record { made_for = type_names database.types; pcbs = d.pcbs })))

@@ -5,7 +5,9 @@ mod draft;
 mod fault;
 mod given;
 mod operand;
+mod source;
 mod table;
 mod value;
 
 pub use fault::GenFault;
+pub use source::{read_dbd, read_psb};
