@@ -41,8 +41,14 @@ with_last change (x ∷ y ∷ ys) = x ∷ with_last change (y ∷ ys)
 abbrev pub segment_type : List SegmentType → Given → List ℕ → ℕ → SegmentType
 segment_type types g name len =
     record {
-        name = name; parent = option_map (λ p. code_of types p) g.parent.name; length = len; key = None; rule = g.rule;
-        backward = g.backward; last_pointer = g.parent.last_pointer; fields = []
+      name = name;
+      parent = option_map (λ p. code_of types p) g.parent.name;
+      length = len;
+      key = None;
+      rule = g.rule;
+      backward = g.backward;
+      last_pointer = g.parent.last_pointer;
+      fields = [];
     }
 
 -- the key that a sequence field makes

@@ -42,9 +42,19 @@ pub record Given : Type 0 where
 abbrev pub nothing_given : Given
 nothing_given =
     record {
-        name = None; has_access = false; block_size = usual_block_size; frspc = record { fbff = 0; fspf = 0 };
-        parent = record { name = None; last_pointer = false }; length = None; backward = false; rule = Last; unique = None; start = None;
-        has_type = false; has_database_name = false; procopt = None
+      name = None;
+      has_access = false;
+      block_size = usual_block_size;
+      frspc = record { fbff = 0; fspf = 0 };
+      parent = record { name = None; last_pointer = false };
+      length = None;
+      backward = false;
+      rule = Last;
+      unique = None;
+      start = None;
+      has_type = false;
+      has_database_name = false;
+      procopt = None;
     }
 
 -- a field's name, and whether it is a sequence field; a second one of a type is ill-formed

@@ -27,11 +27,11 @@ impl Model for Draft {
     ghost Value = { Draft };
 
     ghost view = { λ d. record {
-        name = d.name;
-        block_size = d.block_size;
-        frspc = d.frspc;
-        types = d.types.items;
-        pcbs = d.pcbs.items;
+      name = d.name;
+      block_size = d.block_size;
+      frspc = d.frspc;
+      types = d.types.items;
+      pcbs = d.pcbs.items;
     } };
 }
 
@@ -198,11 +198,7 @@ fn with_field(line: usize, mut draft: Draft, given: &Given<'_>) -> Result<Draft,
 
 /// Gives the last type one field more.
 #[tactic(auto, using(crate::proofs::Lasts::with_last_is))]
-fn add_field(
-    types: &mut Vec<SegType>,
-    field: Field,
-    given: &Given<'_>,
-) -> Result<(), GenFault>
+fn add_field(types: &mut Vec<SegType>, field: Field, given: &Given<'_>) -> Result<(), GenFault>
     ensures types { IfOk result (λ _. types.new.items ≡ with_last (λ t. with_type_field given.now field.name field.start field.length t) types.old.items) }
     ensures memory { IfErr result (λ e. e ≡ GenFault.Memory) }
 {
@@ -236,10 +232,7 @@ fn with_type_field(
             unique,
         });
     }
-    segment
-        .fields
-        .push(field)
-        .map_err(|_| GenFault::Memory)?;
+    segment.fields.push(field).map_err(|_| GenFault::Memory)?;
     Ok(segment)
 }
 
@@ -308,12 +301,7 @@ fn add_pcb(pcbs: &mut Vec<Pcb>, pcb: Pcb) -> Result<(), GenFault>
 }
 
 /// A PCB that sees one type more.
-fn with_seen(
-    alloc: Global,
-    mut pcb: Pcb,
-    name: Name8,
-    given: &Given<'_>,
-) -> Result<Pcb, GenFault>
+fn with_seen(alloc: Global, mut pcb: Pcb, name: Name8, given: &Given<'_>) -> Result<Pcb, GenFault>
     ensures seen { IfOk result (λ p. p ≡ with_seen given.now name pcb) }
     ensures memory { IfErr result (λ e. e ≡ GenFault.Memory) }
 {

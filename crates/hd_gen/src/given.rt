@@ -53,19 +53,19 @@ impl<'a> Model for Given<'a> {
     ghost Value = { Given };
 
     ghost view = { λ g. record {
-        name = g.name;
-        has_access = g.has_access;
-        block_size = g.block_size;
-        frspc = g.frspc;
-        parent = g.parent;
-        length = g.length;
-        backward = g.backward;
-        rule = g.rule;
-        unique = g.unique;
-        start = g.start;
-        has_type = g.has_type;
-        has_database_name = g.has_database_name;
-        procopt = option_copied g.procopt;
+      name = g.name;
+      has_access = g.has_access;
+      block_size = g.block_size;
+      frspc = g.frspc;
+      parent = g.parent;
+      length = g.length;
+      backward = g.backward;
+      rule = g.rule;
+      unique = g.unique;
+      start = g.start;
+      has_type = g.has_type;
+      has_database_name = g.has_database_name;
+      procopt = option_copied g.procopt;
     } };
 }
 

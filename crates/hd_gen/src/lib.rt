@@ -11,3 +11,6 @@ mod value;
 
 pub use fault::GenFault;
 pub use source::{read_dbd, read_psb};
+
+#[cfg(test)]
+mod tests;
