@@ -5,6 +5,7 @@ use Rattle.std.specs.List.{prefix_len}
 use Rattle.std.specs.Str.Lines.{lines}
 use Rattle.hd_lines.specs.Blanks.{is_blank, unpadded}
 use Rattle.hd_lines.specs.Digits.{is_digit, value_of}
+use Rattle.hd_lines.specs.Reading.{then, before}
 use Rattle.hd_dbd.specs.Naming.{is_letter}
 use Rattle.hd_dbd.specs.Calls.{CallText}
 use Rattle.hd_deck.specs.StepText.{StepText}
@@ -93,16 +94,6 @@ abbrev pub steps_said : Statement → ℕ → List StepText
 steps_said comment pcb = []
 steps_said (select k) pcb = []
 steps_said (call k text) pcb = record { pcb = pcb; repeat = k; call = text } ∷ []
-
--- steps in front of those that follow, if these are without a fault
-abbrev pub before : List StepText → Result (List StepText) DeckFault → Result (List StepText) DeckFault
-before steps (Ok more) = Ok (steps ++ more)
-before steps (Err fault) = Err fault
-
--- what follows a line without a fault
-abbrev pub then : Result Statement DeckFault → (Statement → Result (List StepText) DeckFault) → Result (List StepText) DeckFault
-then (Ok s) next = next s
-then (Err fault) next = Err fault
 
 -- the steps of the lines from number n on, with the PCB of their calls; or the first fault
 abbrev pub steps_from : ℕ → ℕ → ℕ → List (List ℕ) → Result (List StepText) DeckFault

@@ -1,6 +1,6 @@
 -- Worked sources, computed by the definitions themselves: an edit of a definition that changes what a source says is
 -- refused here.
-use Rattle.std.proofs.Common.{◌≡◌, ℕ, List, [], ◌∷◌, ◌++◌, refl}
+use Rattle.std.proofs.Common.{◌≡◌, ℕ, List, [], ◌++◌, refl}
 use Rattle.std.specs.Prelude.{codes, Ok, Err}
 use Rattle.hd_dbd.specs.declared.database.DbdFault.TheVariants.{B6, B10}
 use Rattle.hd_dbd.specs.declared.program.PsbFault.TheVariants.{P1, P4}

@@ -1,10 +1,9 @@
 -- What a source says so far, statement by statement.
-use Rattle.std.specs.Prelude.{ℕ, ◌+◌, List, [], ◌∷◌, ◌++◌, length, take, Bool, true, false, ◌&&◌, ◌==◌, nat_lt, cond, Option, Some, None, option_map, is_some, position, Result, Ok, Err, bytes_eq}
+use Rattle.std.specs.Prelude.{ℕ, ◌+◌, List, [], ◌∷◌, ◌++◌, take, Bool, true, false, ◌&&◌, Option, Some, None, option_map, position, Result, Ok, Err, bytes_eq}
 use Rattle.std.specs.Option.{option_map_or, option_or}
 use Rattle.hd_dbd.specs.declared.hierarchy.FreeSpace.{FreeSpace}
-use Rattle.hd_dbd.specs.declared.hierarchy.Field.{Field}
 use Rattle.hd_dbd.specs.declared.hierarchy.Key.{Key}
-use Rattle.hd_dbd.specs.Types.{SegmentType, SeenType, View}
+use Rattle.hd_dbd.specs.Types.{SegmentType, View}
 use Rattle.hd_gen.specs.declared.fault.GenFault.{GenFault}
 use Rattle.hd_gen.specs.declared.fault.GenFault.TheVariants.{G5}
 use Rattle.hd_gen.specs.declared.table.Operation.{Operation}

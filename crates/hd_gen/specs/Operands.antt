@@ -18,7 +18,8 @@ use Rattle.hd_gen.specs.declared.table.Meaning.TheVariants as meanings
 use Rattle.hd_gen.specs.declared.value.Wrong.{Wrong}
 use Rattle.hd_gen.specs.declared.value.Wrong.TheVariants.{NotSupported, IllFormed}
 use Rattle.hd_gen.specs.Tables.{look_up, operands_of, main_keyword, positionings, usual_block_size}
-use Rattle.hd_gen.specs.Values.{Value, value_in, then, only_if, name_in, number_in, is_access, block_size_in, free_space_in, parent_in, seen_parent_in, twins_in, rule_in, field_in, is_data_type, index_in, is_word, database_in, letters_in}
+use Rattle.hd_gen.specs.Values.{Value, value_in, only_if, name_in, number_in, is_access, block_size_in, free_space_in, parent_in, seen_parent_in, twins_in, rule_in, field_in, is_data_type, index_in, is_word, database_in, letters_in}
+use Rattle.hd_lines.specs.Reading.{then}
 
 -- What the operands of a statement give. Without them POINTER is TWIN, RULES is LAST, a PARENT is 0, the child pointer is
 -- SNGL, the block size is 2,048 bytes, and no space is left free.
@@ -100,16 +101,11 @@ with_operand c operation line before g o =
     cond (is_given operation before o) (Err (G4 line)) (result_map_both (λ h. h) (λ wrong. fault_at line wrong) (with_value c meaning g (value_in o.value))))
     (look_up (operands_of operation) o.keyword) (Err (G3 line))
 
--- what follows a part without a fault
-abbrev pub next : {A B : Type 0} → Result A GenFault → (A → Result B GenFault) → Result B GenFault
-next (Ok x) more = more x
-next (Err fault) more = Err fault
-
 -- what the operands give behind those that stand before them, from left to right; or the first fault
 abbrev pub given_from : Context → Operation → ℕ → List OperandText → Given → List OperandText → Result Given GenFault
 given_from c operation line before g [] = Ok g
 given_from c operation line before g (o ∷ os) =
-    next (with_operand c operation line before g o) (λ h. given_from c operation line (before ++ o ∷ []) h os)
+    then (with_operand c operation line before g o) (λ h. given_from c operation line (before ++ o ∷ []) h os)
 
 abbrev pub given : Context → Operation → ℕ → List OperandText → Result Given GenFault
 given c operation line os = given_from c operation line [] nothing_given os

@@ -1,11 +1,12 @@
 -- The database of a DBD source, and the program of a PSB source; or the first fault.
-use Rattle.std.specs.Prelude.{ℕ, ◌+◌, ◌-◌, List, [], ◌∷◌, length, Bool, true, false, ◌==◌, nat_lt, cond, Option, Some, None, is_some, slice_get, Result, Ok, Err}
+use Rattle.std.specs.Prelude.{ℕ, ◌+◌, ◌-◌, List, [], ◌∷◌, length, Bool, false, ◌==◌, nat_lt, cond, Option, Some, None, is_some, slice_get, Result, Ok, Err}
 use Rattle.std.specs.Option.{option_map_or}
 use Rattle.std.specs.Result.{result_map_both}
 use Rattle.std.specs.Str.Lines.{lines}
+use Rattle.hd_lines.specs.Reading.{then}
 use Rattle.hd_macro.specs.Statements.{StatementText}
 use Rattle.hd_macro.specs.Source.{source}
-use Rattle.hd_dbd.specs.Types.{SegmentType, View}
+use Rattle.hd_dbd.specs.Types.{SegmentType}
 use Rattle.hd_dbd.specs.Hierarchy.{Database}
 use Rattle.hd_dbd.specs.DatabaseFaults.{database_fault}
 use Rattle.hd_dbd.specs.ProgramRules.{Program, type_names}
@@ -21,7 +22,7 @@ use Rattle.hd_gen.specs.declared.table.Operation.TheVariants as operations
 use Rattle.hd_gen.specs.declared.table.Stage.{Stage}
 use Rattle.hd_gen.specs.declared.table.Stage.TheVariants as stages
 use Rattle.hd_gen.specs.Tables.{look_up, dbd_operations, psb_operations, next_stage, is_complete}
-use Rattle.hd_gen.specs.Operands.{Given, given, next}
+use Rattle.hd_gen.specs.Operands.{given}
 use Rattle.hd_gen.specs.Drafts.{Draft, empty_draft, with_statement}
 
 -- the statement of an operation, if the source has it
@@ -52,8 +53,8 @@ is_lchild_below_root operation d = false
 abbrev pub placed : Kind → Operation → Stage → Draft → StatementText → Result Progress GenFault
 placed kind operation stage d s =
     cond (is_lchild_below_root operation d) (Err (faults.G3 s.line))
-    (next (given (context_of kind d) operation s.line s.operands) (λ g.
-    next (with_statement operation s.line d g) (λ e. Ok (record { stage = stage; draft = e }))))
+    (then (given (context_of kind d) operation s.line s.operands) (λ g.
+    then (with_statement operation s.line d g) (λ e. Ok (record { stage = stage; draft = e }))))
 
 -- One statement more: G1 where the source has no such statement, G2 where it may not stand here.
 abbrev pub with_next : Kind → Progress → StatementText → Result Progress GenFault
@@ -65,7 +66,7 @@ with_next kind p s =
 -- what the statements say behind others; G2, at the line behind the last, where DBDGEN or PSBGEN is missing
 abbrev pub draft_from : Kind → ℕ → Progress → List StatementText → Result Draft GenFault
 draft_from kind end p [] = cond (is_complete p.stage) (Ok p.draft) (Err (faults.G2 end))
-draft_from kind end p (s ∷ ss) = next (with_next kind p s) (λ q. draft_from kind end q ss)
+draft_from kind end p (s ∷ ss) = then (with_next kind p s) (λ q. draft_from kind end q ss)
 
 -- ---- sources
 
@@ -80,7 +81,7 @@ statements_in bytes = result_map_both (λ ss. ss) (λ fault. faults.Line fault) 
 -- what a source says
 abbrev pub draft_of : Kind → List ℕ → Result Draft GenFault
 draft_of kind bytes =
-    next (statements_in bytes) (λ ss. draft_from kind (line_behind bytes) (record { stage = stages.Start; draft = empty_draft }) ss)
+    then (statements_in bytes) (λ ss. draft_from kind (line_behind bytes) (record { stage = stages.Start; draft = empty_draft }) ss)
 
 -- a database that keeps to its rules, or the rule that it breaks
 abbrev pub checked_database : Database → Result Database GenFault
@@ -89,13 +90,13 @@ checked_database d = option_map_or (λ f. Err (faults.Dbd f)) (database_fault d.
 -- The database of a DBD source. A complete one has its name, so the last G2 never comes.
 abbrev pub dbd_of : List ℕ → Result Database GenFault
 dbd_of bytes =
-    next (draft_of kinds.Dbd bytes) (λ d.
+    then (draft_of kinds.Dbd bytes) (λ d.
     option_map_or (λ name. checked_database (record { name = name; block_size = d.block_size; frspc = d.frspc; types = d.types })) d.name
     (Err (faults.G2 (line_behind bytes))))
 
 -- the program of a PSB source, for a database
 abbrev pub psb_of : List ℕ → Database → Result Program GenFault
 psb_of bytes database =
-    next (draft_of (kinds.Psb database.name) bytes) (λ d.
+    then (draft_of (kinds.Psb database.name) bytes) (λ d.
     option_map_or (λ f. Err (faults.Psb f)) (program_fault (type_names database.types) d.pcbs)
     (Ok (record { made_for = type_names database.types; pcbs = d.pcbs })))

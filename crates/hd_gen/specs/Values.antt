@@ -1,9 +1,10 @@
 -- What the value of an operand says. A value that the tables do not show is not supported (G3); in a right place a wrong
 -- name or number is ill-formed (G4).
-use Rattle.std.specs.Prelude.{ℕ, ◌+◌, ◌-◌, List, [], ◌∷◌, ◌++◌, length, take, drop, replicate, Bool, true, false, not, ◌&&◌, ◌||◌, nat_lt, nat_le, ◌==◌, cond, Option, Some, None, option_map, is_some, Result, Ok, Err, slice_index, bytes_eq, codes}
+use Rattle.std.specs.Prelude.{ℕ, ◌-◌, List, [], ◌∷◌, ◌++◌, length, take, drop, replicate, Bool, true, false, ◌&&◌, ◌||◌, nat_lt, nat_le, ◌==◌, cond, Option, Some, None, Result, Ok, Err, slice_index, bytes_eq, codes}
 use Rattle.std.specs.Option.{ok_or, option_map_or}
 use Rattle.std.specs.List.{list_any, list_all, slice_split}
 use Rattle.hd_lines.specs.Digits.{is_digit, value_of}
+use Rattle.hd_lines.specs.Reading.{then}
 use Rattle.hd_dbd.specs.declared.hierarchy.FreeSpace.{FreeSpace}
 use Rattle.hd_dbd.specs.declared.hierarchy.Rule.{Rule}
 use Rattle.hd_dbd.specs.Naming.{is_name}
@@ -11,7 +12,7 @@ use Rattle.hd_gen.specs.declared.operand.FieldName.{FieldName}
 use Rattle.hd_gen.specs.declared.operand.Parent.{Parent}
 use Rattle.hd_gen.specs.declared.value.Wrong.{Wrong}
 use Rattle.hd_gen.specs.declared.value.Wrong.TheVariants.{NotSupported, IllFormed}
-use Rattle.hd_gen.specs.Tables.{Entry, look_up, twin_pointers, child_pointers, twin_rules, sequence_fields, access_methods, data_types, positionings}
+use Rattle.hd_gen.specs.Tables.{look_up, twin_pointers, child_pointers, twin_rules, sequence_fields, access_methods, data_types}
 
 -- ---- shapes
 
@@ -58,11 +59,6 @@ value_in text =
     (flat (λ t. listed (words t)) inner)) (unbracketed text) (flat word text)
 
 -- ---- names, numbers and words
-
--- what follows a part that is right
-abbrev pub then : {A B : Type 0} → Result A Wrong → (A → Result B Wrong) → Result B Wrong
-then (Ok x) next = next x
-then (Err wrong) next = Err wrong
 
 -- a word with blanks behind it, up to eight bytes
 abbrev pub padded : List ℕ → List ℕ

@@ -3,7 +3,8 @@ ghost use Rattle.std.specs.List.{list_any};
 ghost use Rattle.hd_gen.specs.Operands.{nothing_given, with_field, with_value, fault_at, is_given, with_operand, given_from, given};
 ghost use Rattle.hd_gen.specs.Shapes.{value_of};
 ghost use Rattle.hd_gen.specs.Tables.{main_keyword};
-ghost use Rattle.hd_gen.specs.Values.{then, only_if, value_in};
+ghost use Rattle.hd_gen.specs.Values.{only_if, value_in};
+ghost use Rattle.hd_lines.specs.Reading.{then};
 
 use crate::fault::GenFault;
 use crate::operand::{

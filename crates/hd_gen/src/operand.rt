@@ -3,7 +3,8 @@ ghost use Rattle.std.specs.List.{list_all};
 ghost use Rattle.std.specs.Result.{result_map_both};
 ghost use Rattle.hd_gen.specs.Shapes.{value_of, words_of};
 ghost use Rattle.hd_gen.specs.Tables.{look_up, child_pointers, twins, twin_pointers, twin_rules, sequence_fields, access_methods, data_types, positionings};
-ghost use Rattle.hd_gen.specs.Values.{word, then, name_of, is_one_of, name_in, number_in, is_access, block_size_in, free_space_in, parent_of_words, parent_in, seen_parent_in, twins_in, rule_in, field_in, is_data_type, index_in, is_word, database_in, letters_in};
+ghost use Rattle.hd_gen.specs.Values.{word, name_of, is_one_of, name_in, number_in, is_access, block_size_in, free_space_in, parent_of_words, parent_in, seen_parent_in, twins_in, rule_in, field_in, is_data_type, index_in, is_word, database_in, letters_in};
+ghost use Rattle.hd_lines.specs.Reading.{then};
 
 use crate::value::{Value, Words, Wrong, name_of, number_of};
 use hd_dbd::{FreeSpace, Name8, Rule};

@@ -1,5 +1,5 @@
-use Rattle.std.proofs.Common.{◌≡◌, ℕ, ◌+◌, ◌<◌, List, [], ◌∷◌, length, take, drop, ◌==◌, arith, ap, sym, ◌∙◌}
-use Rattle.std.specs.List.{slice_split, position_or_len}
+use Rattle.std.proofs.Common.{◌+◌, ◌∷◌, take, drop, ◌==◌, arith, ap, sym, ◌∙◌}
+use Rattle.std.specs.List.{slice_split}
 use Rattle.hd_gen.proofs.Cuts.{one_word, first_word}
 use Rattle.hd_gen.proofs.value.cut.Goals as goal
 
