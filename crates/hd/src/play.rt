@@ -72,8 +72,8 @@ fn play_rows<I: Read, O: Write>(
     input: &mut I,
     out: &mut O,
 ) -> Result<(), Stop> {
-    let dbd = sample::database(alloc)?;
-    let psb = sample::program(alloc, &dbd)?;
+    let dbd = sample::database(alloc).map_err(|fault| Stop::database(fault))?;
+    let psb = sample::program(alloc, &dbd).map_err(|fault| Stop::program(fault))?;
     if !valid_rows(&dbd, &rows) {
         return Err(Stop::Sample);
     }

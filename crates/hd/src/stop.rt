@@ -1,5 +1,6 @@
-use hd_dbd::{DbdFault, PsbFault, Refused};
+use hd_dbd::Refused;
 use hd_deck::{DeckFault, RunFault};
+use hd_gen::GenFault;
 use std::alloc::{AllocError, AllocFailed};
 use thiserror::Error;
 
@@ -9,9 +10,9 @@ pub enum Stop {
     #[error("sample is not in hierarchic sequence")]
     Sample,
     #[error("DBD refused: {0}")]
-    Database(DbdFault),
+    Database(GenFault),
     #[error("PSB refused: {0}")]
-    Program(PsbFault),
+    Program(GenFault),
     #[error("DECK refused: {0}")]
     Deck(DeckFault),
     #[error("device failed")]
@@ -21,6 +22,22 @@ pub enum Stop {
 }
 
 impl Stop {
+    /// The DBD's source is refused, or could not be read for want of memory.
+    pub fn database(fault: GenFault) -> Stop {
+        match fault {
+            GenFault::Memory => Stop::Memory,
+            _ => Stop::Database(fault),
+        }
+    }
+
+    /// The PSB's source is refused, or could not be read for want of memory.
+    pub fn program(fault: GenFault) -> Stop {
+        match fault {
+            GenFault::Memory => Stop::Memory,
+            _ => Stop::Program(fault),
+        }
+    }
+
     /// The status with which the program ends.
     pub fn status(&self) -> u8 {
         match self {
@@ -28,24 +45,6 @@ impl Stop {
             Stop::Database(_) | Stop::Program(_) | Stop::Deck(_) => 2,
             Stop::Device => 3,
             Stop::Memory => 4,
-        }
-    }
-}
-
-impl From<DbdFault> for Stop {
-    fn from(fault: DbdFault) -> Stop {
-        match fault {
-            DbdFault::Memory => Stop::Memory,
-            _ => Stop::Database(fault),
-        }
-    }
-}
-
-impl From<PsbFault> for Stop {
-    fn from(fault: PsbFault) -> Stop {
-        match fault {
-            PsbFault::Memory => Stop::Memory,
-            _ => Stop::Program(fault),
         }
     }
 }

@@ -1,4 +1,4 @@
-ghost use Rattle.std.specs.Prelude.{◌≡◌, ◌⊎◌, true, is_none, ◌≤◌, Some, IsTrue, IfOk, OnOk, IfErr, option_copied};
+ghost use Rattle.std.specs.Prelude.{◌≡◌, ◌⊎◌, true, is_none, ◌≤◌, Some, None, IsTrue, IfOk, OnOk, IfErr, option_copied};
 ghost use Rattle.hd_dbd.specs.Hierarchy.{type_of, parent_of, level_of, longest_path};
 ghost use Rattle.hd_dbd.specs.Prefixes.{prefix_length, pointers_at, children_of, stored_size};
 ghost use Rattle.hd_dbd.specs.DatabaseRules.{well_formed};
@@ -109,6 +109,7 @@ impl Dbd {
     ) -> Result<Dbd, DbdFault>
         ensures ok { IfOk result (λ d. d ≡ record { name = name; block_size = block_size; frspc = frspc; types = types.items }) }
         ensures well_formed { OnOk result (IsTrue (well_formed block_size frspc types.items)) }
+        ensures none { OnOk result (database_fault block_size frspc types.items ≡ None) }
         ensures fault { IfErr result (λ f. (f ≡ DbdFault.Memory) ⊎ (database_fault block_size frspc types.items ≡ Some f)) }
         ensures memory { IfErr result (λ f. f ≡ DbdFault.Memory → is_none (size_fault block_size frspc types.items) ≡ true) }
     {

@@ -1,4 +1,4 @@
-ghost use Rattle.std.specs.Prelude.{◌≡◌, ◌⊎◌, ◌↔◌, ◌<◌, ◌≤◌, length, Some, IsTrue, IfOk, OnOk, IfErr};
+ghost use Rattle.std.specs.Prelude.{◌≡◌, ◌⊎◌, ◌↔◌, ◌<◌, ◌≤◌, length, Some, None, IsTrue, IfOk, OnOk, IfErr};
 ghost use Rattle.hd_dbd.specs.ProgramRules.{type_names, program_fits};
 ghost use Rattle.hd_dbd.specs.ProgramFaults.{program_fault};
 
@@ -104,6 +104,7 @@ impl Psb {
     pub fn new(alloc: Global, dbd: &Dbd, pcbs: Vec<Pcb>) -> Result<Psb, PsbFault>
         ensures ok { IfOk result (λ p. p ≡ record { made_for = type_names dbd.now.types; pcbs = pcbs.items }) }
         ensures well_formed { OnOk result (IsTrue (program_fits (type_names dbd.now.types) pcbs.items)) }
+        ensures none { OnOk result (program_fault (type_names dbd.now.types) pcbs.items ≡ None) }
         ensures fault { IfErr result (λ f. (f ≡ PsbFault.Memory) ⊎ (program_fault (type_names dbd.now.types) pcbs.items ≡ Some f)) }
     {
         let Ok(made_for) = type_names(alloc, dbd.types()) else {

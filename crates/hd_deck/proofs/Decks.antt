@@ -1,15 +1,12 @@
 -- A deck, from one line to the next.
-use Rattle.std.proofs.Common.{◌≡◌, ℕ, ◌+◌, ◌<◌, ◌≤◌, List, [], ◌∷◌, ◌++◌, length, All, Result, Ok, Err, arith, ◌∙◌, ap, refl, sym, append_assoc}
+use Rattle.std.proofs.Common.{◌≡◌, ℕ, ◌+◌, ◌<◌, ◌≤◌, List, [], ◌∷◌, ◌++◌, length, All, Result, Ok, arith, ◌∙◌, ap, sym}
 use Rattle.std.proofs.lemmas.List.Elements.{All-from_recursion, All-push}
+use Rattle.hd_lines.specs.Reading.{then, before}
+use Rattle.hd_lines.proofs.Parts.{before_both}
 use Rattle.hd_deck.specs.StepText.{StepText, StepFits}
-use Rattle.hd_deck.specs.Deck.{Statement, comment, select, call, read_line, pcb_after, steps_said, before, then, steps_from}
+use Rattle.hd_deck.specs.Deck.{Statement, comment, select, call, read_line, pcb_after, steps_said, steps_from}
 use Rattle.hd_deck.specs.Lines.{StatementFits}
 use Rattle.hd_deck.specs.declared.deck.DeckFault.{DeckFault}
-
--- steps in front of steps in front of others are both in front of them
-before_both : (front next : List StepText) (more : Result (List StepText) DeckFault) → before front (before next more) ≡ before (front ++ next) more
-before_both front next (Ok steps) = ap Ok (sym (append_assoc front next steps))
-before_both front next (Err fault) = refl
 
 -- the steps of a deck are those of its lines so far, of one more line, and of the others
 pub one_more_line : (pcbs n pcb : ℕ) (done : List StepText) (lines : List (List ℕ)) (line : List ℕ) (more : List (List ℕ)) (s : Statement) (total : Result (List StepText) DeckFault) → lines ≡ line ∷ more → read_line pcbs n line ≡ Ok s → before done (steps_from pcbs n pcb lines) ≡ total → before (done ++ steps_said s pcb) (steps_from pcbs (n + 1) (pcb_after s pcb) more) ≡ total

@@ -6,7 +6,8 @@ use Rattle.std.proofs.lemmas.List.Folds.{length-prefix_len}
 use Rattle.std.proofs.lemmas.List.Sums.{prefix_len_passes, prefix_len-le-length}
 use Rattle.std.proofs.lemmas.Bool.Decides.{nat_tests}
 use Rattle.hd_lines.specs.Blanks.{unpadded}
-use Rattle.hd_deck.specs.Deck.{is_digit, value_of, number_in}
+use Rattle.hd_deck.specs.Deck.{number_in}
+use Rattle.hd_lines.specs.Digits.{is_digit, value_of}
 
 -- a digit is no more than that of nine
 digit_below : (b : ℕ) → is_digit b ≡ true → b ≤ 57

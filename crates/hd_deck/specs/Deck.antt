@@ -1,9 +1,11 @@
 -- A deck, line by line. Columns count from 1, and a line is blank past its end.
-use Rattle.std.specs.Prelude.{ℕ, ◌+◌, ◌-◌, ◌*◌, List, [], ◌∷◌, ◌++◌, length, take, drop, replicate, fold, Bool, ◌&&◌, ◌||◌, nat_lt, nat_le, ◌==◌, cond, Option, None, Some, option_and_then, Result, Ok, Err, slice_index_or}
+use Rattle.std.specs.Prelude.{ℕ, ◌+◌, ◌-◌, List, [], ◌∷◌, ◌++◌, length, take, drop, replicate, Bool, ◌&&◌, ◌||◌, nat_lt, nat_le, ◌==◌, cond, Option, None, Some, option_and_then, Result, Ok, Err, slice_index_or}
 use Rattle.std.specs.Option.{option_map_or}
 use Rattle.std.specs.List.{prefix_len}
 use Rattle.std.specs.Str.Lines.{lines}
 use Rattle.hd_lines.specs.Blanks.{is_blank, unpadded}
+use Rattle.hd_lines.specs.Digits.{is_digit, value_of}
+use Rattle.hd_lines.specs.Reading.{then, before}
 use Rattle.hd_dbd.specs.Naming.{is_letter}
 use Rattle.hd_dbd.specs.Calls.{CallText}
 use Rattle.hd_deck.specs.StepText.{StepText}
@@ -21,13 +23,6 @@ abbrev pub columns : List ℕ → ℕ → ℕ → List ℕ
 columns line c count = take count (drop (c - 1) line ++ replicate count 32)
 
 -- ---- numbers
-
-abbrev pub is_digit : ℕ → Bool
-is_digit b = nat_le 48 b && nat_le b 57
-
--- the number that decimal digits spell
-abbrev pub value_of : List ℕ → ℕ
-value_of digits = fold (λ n d. 10 * n + (d - 48)) 0 digits
 
 -- the number that one digit or more spell, where nothing but blanks stands behind them
 abbrev pub number_before_blanks : List ℕ → Option ℕ
@@ -99,16 +94,6 @@ abbrev pub steps_said : Statement → ℕ → List StepText
 steps_said comment pcb = []
 steps_said (select k) pcb = []
 steps_said (call k text) pcb = record { pcb = pcb; repeat = k; call = text } ∷ []
-
--- steps in front of those that follow, if these are without a fault
-abbrev pub before : List StepText → Result (List StepText) DeckFault → Result (List StepText) DeckFault
-before steps (Ok more) = Ok (steps ++ more)
-before steps (Err fault) = Err fault
-
--- what follows a line without a fault
-abbrev pub then : Result Statement DeckFault → (Statement → Result (List StepText) DeckFault) → Result (List StepText) DeckFault
-then (Ok s) next = next s
-then (Err fault) next = Err fault
 
 -- the steps of the lines from number n on, with the PCB of their calls; or the first fault
 abbrev pub steps_from : ℕ → ℕ → ℕ → List (List ℕ) → Result (List StepText) DeckFault

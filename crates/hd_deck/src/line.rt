@@ -1,7 +1,8 @@
 ghost use Rattle.std.specs.Prelude.{◌≡◌, ◌≢◌, ◌==◌, ◌<◌, ◌≤◌, min, length, map, option_map, Ok, Err, IfOk, IfErr, IfSome};
 ghost use Rattle.std.specs.List.{prefix_len};
 ghost use Rattle.hd_dbd.specs.Naming.{is_letter};
-ghost use Rattle.hd_deck.specs.Deck.{call, call_in, column, columns, has_function, is_digit, is_function, number_in, read_call, read_line, read_select, repeat_in, ssas_in, select, value_of};
+ghost use Rattle.hd_deck.specs.Deck.{call, call_in, column, columns, has_function, is_function, number_in, read_call, read_line, read_select, repeat_in, ssas_in, select};
+ghost use Rattle.hd_lines.specs.Digits.{is_digit, value_of};
 ghost use Rattle.hd_deck.specs.Lines.{said, StatementFits};
 
 use crate::deck::DeckFault;

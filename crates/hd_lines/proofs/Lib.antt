@@ -1,1 +1,2 @@
 mod LineCuts
+pub mod Parts

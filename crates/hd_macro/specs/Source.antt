@@ -1,9 +1,10 @@
 -- A source, line by line, and the statements of its lines.
-use Rattle.std.specs.Prelude.{ℕ, ◌+◌, ◌-◌, List, [], ◌∷◌, ◌++◌, length, take, drop, Bool, not, ◌&&◌, ◌||◌, nat_lt, ◌==◌, cond, Result, Ok, Err, slice_index}
+use Rattle.std.specs.Prelude.{ℕ, ◌+◌, ◌-◌, List, [], ◌∷◌, length, take, drop, Bool, not, ◌&&◌, ◌||◌, nat_lt, ◌==◌, cond, Result, Ok, Err, slice_index}
 use Rattle.std.specs.Option.{option_map_or}
 use Rattle.std.specs.Str.Lines.{lines}
 use Rattle.hd_macro.specs.Statements.{StatementText}
 use Rattle.hd_lines.specs.Blanks.{is_blank, unpadded}
+use Rattle.hd_lines.specs.Reading.{then, before}
 use Rattle.hd_macro.specs.Cards.{card, text_columns, goes_on, is_ignored, has_other_byte, word, behind_word, is_listing}
 use Rattle.hd_macro.specs.Operands.{Reading, unread, read_text, ended}
 use Rattle.hd_macro.specs.declared.source.LineFault.{LineFault}
@@ -86,16 +87,6 @@ abbrev pub at_end : Open → ℕ → Result (List StatementText) LineFault
 at_end nothing n = Ok []
 at_end (operands s r) n = Err (M3 n)
 at_end (remarks s) n = Err (M3 n)
-
--- statements in front of those that follow, if these are without a fault
-abbrev pub before : List StatementText → Result (List StatementText) LineFault → Result (List StatementText) LineFault
-before done (Ok more) = Ok (done ++ more)
-before done (Err fault) = Err fault
-
--- what follows a line without a fault
-abbrev pub then : Result Step LineFault → (Step → Result (List StatementText) LineFault) → Result (List StatementText) LineFault
-then (Ok s) next = next s
-then (Err fault) next = Err fault
 
 -- the statements of the lines from number n on, behind what stands open; or the first fault
 abbrev pub statements_from : Open → ℕ → List (List ℕ) → Result (List StatementText) LineFault

@@ -2,7 +2,8 @@ use Rattle.std.proofs.Common.{arith, ◌≡◌, ◌<◌, ◌≤◌, ◌+◌, ◌
 use Rattle.std.specs.Str.Lines.{lines}
 use Rattle.std.proofs.lemmas.List.Elements.{All-append}
 use Rattle.hd_deck.specs.StepText.{StepText, StepFits}
-use Rattle.hd_deck.specs.Deck.{deck, before, steps_from, steps_said}
+use Rattle.hd_deck.specs.Deck.{deck, steps_from, steps_said}
+use Rattle.hd_lines.specs.Reading.{before}
 use Rattle.hd_deck.specs.Lines.{said}
 use Rattle.hd_deck.proofs.Decks.{one_more_line, said_fits, pcb_after_fits, one_step}
 use Rattle.hd_deck.proofs.deck.read_deck.Goals as goal

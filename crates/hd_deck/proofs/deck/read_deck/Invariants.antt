@@ -1,7 +1,8 @@
 use Rattle.std.proofs.Common.{◌≡◌, ◌+◌, ◌<◌, ◌≤◌, length, All}
 use Rattle.std.specs.Str.Lines.{lines}
 use Rattle.hd_deck.specs.StepText.{StepFits}
-use Rattle.hd_deck.specs.Deck.{deck, before, steps_from}
+use Rattle.hd_deck.specs.Deck.{deck, steps_from}
+use Rattle.hd_lines.specs.Reading.{before}
 use Rattle.hd_deck.proofs.deck.read_deck.Given as goal
 
 abbrev pub invariant-lines : goal.invariant-lines

@@ -3,7 +3,7 @@ use Rattle.std.proofs.lemmas.Iterator.{YieldsList-from_slice}
 use Rattle.std.proofs.lemmas.Iterator.Consumers.{count_from_yields_List}
 use Rattle.std.proofs.lemmas.Iterator.Search.{YieldsList-from_take_while}
 use Rattle.std.proofs.lemmas.List.Folds.{length-prefix_len}
-use Rattle.hd_deck.specs.Deck.{is_digit}
+use Rattle.hd_lines.specs.Digits.{is_digit}
 use Rattle.hd_deck.proofs.line.digits_in_front.Goals as goal
 
 pub returns-clause-value : goal.returns-clause-value

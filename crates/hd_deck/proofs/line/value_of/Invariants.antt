@@ -1,5 +1,5 @@
 use Rattle.std.proofs.Common.{◌≡◌, min, take}
-use Rattle.hd_deck.specs.Deck.{value_of}
+use Rattle.hd_lines.specs.Digits.{value_of}
 use Rattle.hd_deck.proofs.line.value_of.Given as goal
 
 abbrev pub invariant-loop-digit : goal.invariant-loop-digit

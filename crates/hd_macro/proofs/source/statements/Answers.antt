@@ -1,7 +1,8 @@
 use Rattle.std.proofs.Common.{arith, ◌≡◌, ◌+◌, sym, subst, List}
 use Rattle.std.specs.Str.Lines.{lines}
 use Rattle.hd_macro.specs.Statements.{StatementText}
-use Rattle.hd_macro.specs.Source.{source, before, statements_from}
+use Rattle.hd_macro.specs.Source.{source, statements_from}
+use Rattle.hd_lines.specs.Reading.{before}
 use Rattle.hd_macro.specs.Views.{open_of, step_of}
 use Rattle.hd_macro.proofs.Sources.{one_more_line}
 use Rattle.hd_macro.proofs.source.statements.Goals as goal

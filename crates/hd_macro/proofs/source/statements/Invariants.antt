@@ -1,6 +1,7 @@
 use Rattle.std.proofs.Common.{◌≡◌, ◌+◌, ◌≤◌, length}
 use Rattle.std.specs.Str.Lines.{lines}
-use Rattle.hd_macro.specs.Source.{source, before, statements_from}
+use Rattle.hd_macro.specs.Source.{source, statements_from}
+use Rattle.hd_lines.specs.Reading.{before}
 use Rattle.hd_macro.specs.Views.{open_of}
 use Rattle.hd_macro.proofs.source.statements.Given as goal
 

@@ -1,0 +1,4 @@
+pub mod Cuts
+pub mod Lasts
+pub mod Ascii
+pub mod WorkedSources

@@ -1,0 +1,101 @@
+-- Worked sources, computed by the definitions themselves: an edit of a definition that changes what a source says is
+-- refused here.
+use Rattle.std.proofs.Common.{◌≡◌, ℕ, List, [], ◌++◌, refl}
+use Rattle.std.specs.Prelude.{codes, Ok, Err}
+use Rattle.hd_dbd.specs.declared.database.DbdFault.TheVariants.{B6, B10}
+use Rattle.hd_dbd.specs.declared.program.PsbFault.TheVariants.{P1, P4}
+use Rattle.hd_dbd.specs.ProgramRules.{type_names}
+use Rattle.hd_dbd.specs.Sample.{sample_types, sample_database, sample_pcbs}
+use Rattle.hd_gen.specs.declared.fault.GenFault.TheVariants.{G1, G2, G3, G4, G5, Dbd, Psb}
+use Rattle.hd_gen.specs.Sources.{dbd_of, psb_of}
+
+-- the source of the sample database, with its second line, the SEGM statement of its root, that segment's FIELD, and what
+-- follows its last SEGM
+abbrev source_with : List ℕ → List ℕ → List ℕ → List ℕ → List ℕ
+source_with dataset root field end =
+    codes "         DBD   NAME=EDU,ACCESS=(HIDAM,VSAM)\n" ++ dataset ++ root
+    ++ codes "         LCHILD NAME=(EDUXS,EDUX),POINTER=INDX\n" ++ field
+    ++ codes "         SEGM  NAME=CLASS,PARENT=((COURSE,DBLE)),BYTES=4,PTR=TB\n"
+    ++ codes "         FIELD NAME=(ED,SEQ,U),BYTES=2,START=1,TYPE=C\n"
+    ++ codes "         SEGM  NAME=STUD,PARENT=((CLASS,SNGL)),BYTES=6,PTR=T\n"
+    ++ codes "         FIELD NAME=(SNAME,SEQ,M),BYTES=4,START=1,TYPE=C\n"
+    ++ codes "         SEGM  NAME=BOOK,PARENT=((COURSE,DBLE)),BYTES=5,PTR=TB,        X\n"
+    ++ codes "               RULES=(,HERE)\n" ++ end
+
+abbrev dataset : List ℕ
+dataset = codes "         DATASET DD1=EDUDD,DEVICE=3390,SIZE=128\n"
+
+abbrev root : List ℕ
+root = codes "         SEGM  NAME=COURSE,PARENT=0,BYTES=8,POINTER=TWINBWD\n"
+
+abbrev field : List ℕ
+field = codes "         FIELD NAME=(NUM,SEQ,U),BYTES=3,START=1,TYPE=C\n"
+
+abbrev end : List ℕ
+end = codes "         DBDGEN\n         FINISH\n         END\n"
+
+-- the sample
+pub sample_source : dbd_of (source_with dataset root field end) ≡ Ok sample_database
+sample_source = refl
+
+-- a statement that a DBD source does not have
+pub other_statement : dbd_of (source_with dataset root field (codes "         XYZ\n")) ≡ Err (G1 12)
+other_statement = refl
+
+-- no DBDGEN
+pub no_dbdgen : dbd_of (source_with dataset root field []) ≡ Err (G2 12)
+no_dbdgen = refl
+
+-- a variable length
+pub variable_length : dbd_of (source_with dataset (codes "         SEGM  NAME=COURSE,PARENT=0,BYTES=(8,4)\n") field end) ≡ Err (G3 3)
+variable_length = refl
+
+-- a parent that is no name
+pub number_for_parent : dbd_of (source_with dataset (codes "         SEGM  NAME=COURSE,PARENT=1,BYTES=8\n") field end) ≡ Err (G4 3)
+number_for_parent = refl
+
+-- an operand that stands twice, under two keywords
+pub given_twice : dbd_of (source_with dataset (codes "         SEGM  NAME=COURSE,PTR=T,POINTER=HIER,BYTES=8\n") field end) ≡ Err (G4 3)
+given_twice = refl
+
+-- no length
+pub no_length : dbd_of (source_with dataset root (codes "         FIELD NAME=(NUM,SEQ,U),START=1,TYPE=C\n") end) ≡ Err (G5 5)
+no_length = refl
+
+-- a fault of the database
+pub small_block : dbd_of (source_with (codes "         DATASET SIZE=100\n") root field end) ≡ Err (Dbd B10)
+small_block = refl
+
+pub root_without_unique_key : dbd_of (source_with dataset root (codes "         FIELD NAME=(NUM,SEQ,M),BYTES=3,START=1\n") end) ≡ Err (Dbd (B6 1))
+root_without_unique_key = refl
+
+-- the source of the sample program, with the first line of its PCBs
+abbrev seen : List ℕ
+seen =
+    codes "         SENSEG NAME=COURSE,PARENT=0\n" ++ codes "         SENSEG NAME=CLASS,PARENT=COURSE\n"
+    ++ codes "         SENSEG NAME=STUD,PARENT=CLASS\n" ++ codes "         SENSEG NAME=BOOK,PARENT=COURSE\n"
+
+abbrev program_with : List ℕ → List ℕ → List ℕ
+program_with first sens =
+    first ++ sens
+    ++ codes "         PCB   TYPE=DB,DBDNAME=EDU,PROCOPT=A,KEYLEN=9\n" ++ seen
+    ++ codes "         PCB   TYPE=DB,NAME=EDU,PROCOPT=A,KEYLEN=9\n"
+    ++ codes "         SENSEG NAME=COURSE\n" ++ codes "         SENSEG NAME=CLASS,PARENT=COURSE\n" ++ codes "         SENSEG NAME=BOOK,PARENT=COURSE\n"
+    ++ codes "         PSBGEN LANG=COBOL,PSBNAME=EDUP\n         END\n"
+
+abbrev first_pcb : List ℕ
+first_pcb = codes "         PCB   TYPE=DB,DBDNAME=EDU,PROCOPT=AP,KEYLEN=9\n"
+
+pub sample_program : psb_of (program_with first_pcb seen) sample_database ≡ Ok (record { made_for = type_names sample_types; pcbs = sample_pcbs })
+sample_program = refl
+
+-- the name of another database
+pub other_database : psb_of (program_with (codes "         PCB   TYPE=DB,DBDNAME=EDV,PROCOPT=AP\n") seen) sample_database ≡ Err (G4 1)
+other_database = refl
+
+-- faults of the program
+pub unknown_segment : psb_of (program_with first_pcb (seen ++ codes "         SENSEG NAME=LAB,PARENT=COURSE\n")) sample_database ≡ Err (Psb (P1 1))
+unknown_segment = refl
+
+pub paths_alone : psb_of (program_with (codes "         PCB   TYPE=DB,DBDNAME=EDU,PROCOPT=P\n") seen) sample_database ≡ Err (Psb (P4 1))
+paths_alone = refl

@@ -1,0 +1,6 @@
+pub mod Tables
+pub mod Values
+pub mod Shapes
+pub mod Operands
+pub mod Drafts
+pub mod Sources

@@ -1,0 +1,16 @@
+//! The DBD and the PSB of a source, written in the statements of IMS.
+#![tactic(auto)]
+
+mod draft;
+mod fault;
+mod given;
+mod operand;
+mod source;
+mod table;
+mod value;
+
+pub use fault::GenFault;
+pub use source::{read_dbd, read_psb};
+
+#[cfg(test)]
+mod tests;
