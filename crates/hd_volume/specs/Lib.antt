@@ -1,4 +1,12 @@
 pub mod Stores
+pub mod Images
+pub mod Edits
+pub mod Buffers
+pub mod Headers
+pub mod Volumes
+pub mod Records
+pub mod Entries
+pub mod Rooms
 pub mod Memory
 pub mod Fuses
 pub mod Files

@@ -1,6 +1,8 @@
 //! Stores of blocks: in memory, in a file, and a fuse that fails one access of the store below it.
 #![tactic(auto)]
 
+mod blocks;
+mod buffer;
 mod file;
 mod fuse;
 mod memory;
