@@ -5,7 +5,7 @@ use Rattle.std.specs.Option.{option_map_or}
 use Rattle.std.proofs.lemmas.Bool.{and_parts, and_from, eqb-true, cases_lt}
 use Rattle.std.proofs.lemmas.List.{append_assoc, append-nil, length-append}
 use Rattle.std.proofs.lemmas.Option.{slice_get_within}
-use Rattle.hd_dbd.specs.declared.hierarchy.SegType.{SegType}
+use Rattle.hd_dbd.specs.Types.{SegmentType}
 use Rattle.hd_dbd.specs.Segment.{Segment}
 use Rattle.hd_dbd.specs.Hierarchy.{parent_of, level_of}
 use Rattle.hd_dbd.specs.Rows.{valid_from, may_follow, next_path, level, is_below, row_fits, siblings_in_order}
@@ -15,12 +15,12 @@ use Rattle.hd_dbd.proofs.Names.{option_eq-Decides}
 use Rattle.hd_dbd.proofs.Sequences.{EndsWith, slice_get_behind, end_at, next_is}
 
 -- the first row, if there is one, is on this level or above it
-abbrev Upto : List SegType → ℕ → List Segment → Type 0
+abbrev Upto : List SegmentType → ℕ → List Segment → Type 0
 Upto types depth [] = Unit {0}
 Upto types depth (r ∷ rows) = level types r ≤ depth
 
 -- a row that may follow a path is at most one level below its end
-pub low_after : (types : List SegType) (leveled : Leveled types) (path : List Segment) (r : Segment) → may_follow types path r ≡ true → level types r ≤ length path + 1
+pub low_after : (types : List SegmentType) (leveled : Leveled types) (path : List Segment) (r : Segment) → may_follow types path r ≡ true → level types r ≤ length path + 1
 low_after types leveled path r follows =
     let parts = and_parts _ _ follows in
     let firsts = and_parts _ _ parts.0 in
@@ -36,7 +36,7 @@ low_after types leveled path r follows =
         by_place (Some q) is found = (let within : level types r - 2 < length path = slice_get_within path (level types r - 2) q is in omega arith)
 
 -- a row just below the path's first part is of the parent that this part ends with
-parent_is : (types : List SegType) (leveled : Leveled types) (P Q : List Segment) (r : Segment) (parent : Option ℕ)
+parent_is : (types : List SegmentType) (leveled : Leveled types) (P Q : List Segment) (r : Segment) (parent : Option ℕ)
     → length P ≡ depth_below types parent → EndsWith parent P → row_fits types r ≡ true → is_below types (P ++ Q) r ≡ true → level types r ≡ length P + 1
     → parent_of types r.code ≡ parent
 parent_is types leveled P Q r parent deep ends fits below at = by_own (parent_of types r.code) refl parent deep ends below (leveled.law r fits)
@@ -58,7 +58,7 @@ parent_is types leveled P Q r parent deep ends fits below at = by_own (parent_of
         is ∙ ap (λ (n : ℕ). Some n) (sym (eqb-true ends.0.code p same) ∙ ends.3)
 
 -- A forest of the first rows below a parent, and the rows behind it.
-record Read (types : List SegType) (P rows : List Segment) (parent : Option ℕ) (before : Option Segment) : Type 0 where
+record Read (types : List SegmentType) (P rows : List Segment) (parent : Option ℕ) (before : Option Segment) : Type 0 where
   forest : Forest Segment
   rest : List Segment
   last : List Segment
@@ -69,12 +69,12 @@ record Read (types : List SegType) (P rows : List Segment) (parent : Option ℕ)
   short : length rest ≤ length rows
 
 -- rows that are valid behind a path begin at most one level below its end
-upto_after : (types : List SegType) (leveled : Leveled types) (path rows : List Segment) → valid_from types path rows ≡ true → Upto types (length path + 1) rows
+upto_after : (types : List SegmentType) (leveled : Leveled types) (path rows : List Segment) → valid_from types path rows ≡ true → Upto types (length path + 1) rows
 upto_after types leveled path [] valid = tt
 upto_after types leveled path (r ∷ rows) valid = low_after types leveled path r (and_parts _ _ valid).0
 
 -- so many rows at most, valid behind a path, can be read
-abbrev Reads : List SegType → ℕ → Type 0
+abbrev Reads : List SegmentType → ℕ → Type 0
 Reads types fuel =
     (P Q rows : List Segment) (parent : Option ℕ) (before : Option Segment)
     → length rows ≤ fuel → length P ≡ depth_below types parent → EndsWith parent P → slice_get Q 0 ≡ before → Upto types (length P + 1) rows
@@ -85,14 +85,14 @@ joined : (r : Segment) (below behind rest left rows : List Segment) → behind +
 joined r below behind rest left rows e f = ap (λ (rs : List Segment). r ∷ rs) (append_assoc below behind rest ∙ ap (λ (rs : List Segment). below ++ rs) e ∙ f)
 
 -- a row of the parent in order, what depends on it, and what stands behind fit together
-node_fits : (types : List SegType) (r : Segment) (below behind : Forest Segment) (parent : Option ℕ) (before : Option Segment) → row_fits types r ≡ true
+node_fits : (types : List SegmentType) (r : Segment) (below behind : Forest Segment) (parent : Option ℕ) (before : Option Segment) → row_fits types r ≡ true
     → parent_of types r.code ≡ parent → option_map_or (λ p. siblings_in_order types p r) before true ≡ true → fits_below types (Some r.code) None below ≡ true
     → fits_below types parent (Some r) behind ≡ true → fits_below types parent before (node r below behind) ≡ true
 node_fits types r below behind parent before fits own order down on =
     and_from _ _ (and_from _ _ (and_from _ _ (and_from _ _ fits ((option_eq-Decides _ _).1 own)) order) down) on
 
 -- a row just below the path's first part, what depends on it, and the rows of its parent behind it
-read_node : (types : List SegType) (leveled : Leveled types) (fuel : ℕ) → Reads types fuel
+read_node : (types : List SegmentType) (leveled : Leveled types) (fuel : ℕ) → Reads types fuel
     → (P Q : List Segment) (r : Segment) (rows : List Segment) (parent : Option ℕ) (before : Option Segment)
     → length rows ≤ fuel → length P ≡ depth_below types parent → EndsWith parent P → slice_get Q 0 ≡ before → level types r ≡ length P + 1
     → valid_from types (P ++ Q) (r ∷ rows) ≡ true → Read types P (r ∷ rows) parent before
@@ -128,7 +128,7 @@ read_node types leveled fuel again P Q r rows parent before enough deep ends fir
     }
 
 -- rows that are valid behind a path are a forest below the path's first part, and rows behind it
-read : (types : List SegType) (leveled : Leveled types) (fuel : ℕ) → Reads types fuel
+read : (types : List SegmentType) (leveled : Leveled types) (fuel : ℕ) → Reads types fuel
 read types leveled fuel P Q [] parent before enough deep ends first low valid =
     record { forest = empty; rest = []; last = Q; is = refl; fits = refl; ends = tt; left = valid; short = omega arith }
 read types leveled zero P Q (r ∷ rows) parent before enough deep ends first low valid = absurd (omega arith)
@@ -138,7 +138,7 @@ read types leveled (suc fuel) P Q (r ∷ rows) parent before enough deep ends fi
 ]
 
 -- no row stands above the first level
-none_above : (types : List SegType) (leveled : Leveled types) (path rows : List Segment) → Upto types 0 rows → valid_from types path rows ≡ true → rows ≡ []
+none_above : (types : List SegmentType) (leveled : Leveled types) (path rows : List Segment) → Upto types 0 rows → valid_from types path rows ≡ true → rows ≡ []
 none_above types leveled path [] low valid = refl
 none_above types leveled path (r ∷ rows) low valid =
     let parts = and_parts _ _ (and_parts _ _ (and_parts _ _ valid).0).0 in
@@ -147,7 +147,7 @@ none_above types leveled path (r ∷ rows) low valid =
     absurd (omega arith)
 
 -- a valid list is the sequence of a forest that fits
-pub valid_forest : (types : List SegType) (leveled : Leveled types) (rows : List Segment) → valid_from types [] rows ≡ true
+pub valid_forest : (types : List SegmentType) (leveled : Leveled types) (rows : List Segment) → valid_from types [] rows ≡ true
     → (f : Forest Segment) × (fits_below types None None f ≡ true) × (sequence f ≡ rows)
 valid_forest types leveled rows valid =
     let all : Read types [] rows None None = read types leveled (length rows) [] [] rows None None (omega arith) refl tt refl (upto_after types leveled [] rows valid) valid in
@@ -155,7 +155,7 @@ valid_forest types leveled rows valid =
     (all.forest, all.fits, sym (append-nil (sequence all.forest)) ∙ ap (λ (rs : List Segment). sequence all.forest ++ rs) (sym over) ∙ all.is)
 
 -- the first row below a parent is one level below it
-top_level : (types : List SegType) (leveled : Leveled types) (parent : Option ℕ) (before : Option Segment) (r : Segment) (below behind : Forest Segment)
+top_level : (types : List SegmentType) (leveled : Leveled types) (parent : Option ℕ) (before : Option Segment) (r : Segment) (below behind : Forest Segment)
     → fits_below types parent before (node r below behind) ≡ true → level types r ≡ depth_below types parent + 1
 top_level types leveled parent before r below behind fits =
     let b = and_parts _ _ (and_parts _ _ fits).0 in
@@ -164,7 +164,7 @@ top_level types leveled parent before r below behind fits =
     leveled.law r p.0 ∙ ap (λ (o : Option ℕ). depth_below types o + 1) own
 
 -- behind what depends on a row nothing stands deeper than the row
-upto_level : (types : List SegType) (leveled : Leveled types) (parent : Option ℕ) (before : Option Segment) (f : Forest Segment) (xs : List Segment) (l : ℕ)
+upto_level : (types : List SegmentType) (leveled : Leveled types) (parent : Option ℕ) (before : Option Segment) (f : Forest Segment) (xs : List Segment) (l : ℕ)
     → l ≡ depth_below types parent + 1 → fits_below types parent before f ≡ true → Upto types (depth_below types parent) xs → Upto types l (sequence f ++ xs)
 upto_level types leveled parent before empty [] l is fits low = tt
 upto_level types leveled parent before empty (x ∷ xs) l is fits low = (let first : level types x ≤ depth_below types parent = low in omega arith)
@@ -172,7 +172,7 @@ upto_level types leveled parent before (node r below behind) xs l is fits low =
     (let top : level types r ≡ depth_below types parent + 1 = top_level types leveled parent before r below behind fits in omega arith)
 
 -- one list, one forest
-pub one_forest : (types : List SegType) (leveled : Leveled types) (f g : Forest Segment) (parent : Option ℕ) (bf bg : Option Segment) (xs ys : List Segment)
+pub one_forest : (types : List SegmentType) (leveled : Leveled types) (f g : Forest Segment) (parent : Option ℕ) (bf bg : Option Segment) (xs ys : List Segment)
     → fits_below types parent bf f ≡ true → fits_below types parent bg g ≡ true → Upto types (depth_below types parent) xs → Upto types (depth_below types parent) ys
     → sequence f ++ xs ≡ sequence g ++ ys → (f ≡ g) × (xs ≡ ys)
 one_forest types leveled empty empty parent bf bg xs ys ff fg hx hy e = (refl, e)

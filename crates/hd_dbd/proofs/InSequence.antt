@@ -3,7 +3,7 @@ use Rattle.std.proofs.Common.{◌≡◌, ℕ, zero, suc, ◌+◌, ◌-◌, ◌<�
 use Rattle.std.specs.Prelude.{slice_get, ◌==◌, nat_lt, option_map}
 use Rattle.std.specs.Option.{option_map_or}
 use Rattle.std.proofs.lemmas.Bool.{and_parts, and_from, eq-eqb, eqb-true, le-ltb, ltb-false, cases_Bool, cond-true, cond-false}
-use Rattle.hd_dbd.specs.declared.hierarchy.SegType.{SegType}
+use Rattle.hd_dbd.specs.Types.{SegmentType}
 use Rattle.hd_dbd.specs.Segment.{Segment}
 use Rattle.hd_dbd.specs.Hierarchy.{parent_of, level_of}
 use Rattle.hd_dbd.specs.Rows.{valid_from, may_follow, is_below, is_in_order, row_fits, siblings_in_order}
@@ -16,11 +16,11 @@ use Rattle.hd_dbd.proofs.Twins.{rows_ascend, nearest_before}
 use Rattle.hd_dbd.proofs.Walks.{walked, valid_each, each_valid, IsStepwise, more, nearest_on, on_nearest}
 
 -- the code of a row's parent
-abbrev parent_code : List SegType → List Segment → ℕ → Option ℕ
+abbrev parent_code : List SegmentType → List Segment → ℕ → Option ℕ
 parent_code types rows i = option_map (λ j. (row_at rows j).code) (parent_row types rows i)
 
 -- where no row before is above the level, none is the nearest
-none_above : (types : List SegType) (rows : List Segment) (l n : ℕ) → ((k : ℕ) → k < n → l ≤ level_at types rows k) → nearest_above types rows l n ≡ None
+none_above : (types : List SegmentType) (rows : List Segment) (l n : ℕ) → ((k : ℕ) → k < n → l ≤ level_at types rows k) → nearest_above types rows l n ≡ None
 none_above types rows l zero deep = refl
 none_above types rows l (suc n) deep =
     cond-false (nat_lt (level_at types rows n) l) (Some n) (nearest_above types rows l n) (le-ltb (level_at types rows n) l (deep n (omega arith)))
@@ -29,7 +29,7 @@ none_above types rows l (suc n) deep =
 -- ---- valid rows are in sequence
 
 -- valid rows have a level each, at most one below the end of the path
-valid_stepwise : (types : List SegType) (leveled : Leveled types) (rows : List Segment) (n : ℕ) → valid_from types [] rows ≡ true → n ≤ length rows → IsStepwise types rows n
+valid_stepwise : (types : List SegmentType) (leveled : Leveled types) (rows : List Segment) (n : ℕ) → valid_from types [] rows ≡ true → n ≤ length rows → IsStepwise types rows n
 valid_stepwise types leveled rows n valid within = record {
   some = λ k below. (let follows : may_follow types (walked types [] rows k) (row_at rows k) ≡ true = valid_each types [] rows valid k (omega arith) in
       let fits : row_fits types (row_at rows k) ≡ true = (and_parts _ _ (and_parts _ _ follows).0).0 in
@@ -39,7 +39,7 @@ valid_stepwise types leveled rows n valid within = record {
 }
 
 -- the nearest row above one that may follow the walk's path is of its parent type
-parent_found : (types : List SegType) (leveled : Leveled types) (rows : List Segment) (i : ℕ) → IsStepwise types rows i
+parent_found : (types : List SegmentType) (leveled : Leveled types) (rows : List Segment) (i : ℕ) → IsStepwise types rows i
     → may_follow types (walked types [] rows i) (row_at rows i) ≡ true → parent_code types rows i ≡ parent_of types (row_at rows i).code
 parent_found types leveled rows i steps follows =
     let two = and_parts _ _ follows in
@@ -73,7 +73,7 @@ parent_found types leveled rows i steps follows =
             ∙ sym is
 
 -- valid rows are in hierarchic sequence
-pub in_sequence : (types : List SegType) (leveled : Leveled types) (rows : List Segment) → valid_from types [] rows ≡ true → IsInSequence types rows
+pub in_sequence : (types : List SegmentType) (leveled : Leveled types) (rows : List Segment) → valid_from types [] rows ≡ true → IsInSequence types rows
 in_sequence types leveled rows valid = record {
   fit = λ i within. fit i within;
   parents = λ i within. parents i within;
@@ -95,7 +95,7 @@ in_sequence types leveled rows valid = record {
 -- ---- rows in sequence are valid
 
 -- the last row before another on its level or above it, if on its level, has the same nearest row above as the other
-same_above : (types : List SegType) (rows : List Segment) (l n k : ℕ) → nearest_above types rows (l + 1) n ≡ Some k → level_at types rows k ≡ l
+same_above : (types : List SegmentType) (rows : List Segment) (l n k : ℕ) → nearest_above types rows (l + 1) n ≡ Some k → level_at types rows k ≡ l
     → nearest_above types rows l k ≡ nearest_above types rows l n
 same_above types rows l zero k is at = cc
 same_above types rows l (suc n) k is at = elim (cases_Bool (nat_lt (level_at types rows n) (l + 1))) [
@@ -110,7 +110,7 @@ same_above types rows l (suc n) k is at = elim (cases_Bool (nat_lt (level_at typ
 ]
 
 -- the row may stand below what the walk's path ends with, where the nearest row above is of its parent type
-below_nearest : (types : List SegType) (leveled : Leveled types) (rows : List Segment) (i : ℕ) → IsInSequence types rows → i < length rows → IsStepwise types rows i
+below_nearest : (types : List SegmentType) (leveled : Leveled types) (rows : List Segment) (i : ℕ) → IsInSequence types rows → i < length rows → IsStepwise types rows i
     → is_below types (walked types [] rows i) (row_at rows i) ≡ true
 below_nearest types leveled rows i ordered within steps =
     by_parent (parent_of types (row_at rows i).code) refl (leveled.law (row_at rows i) (ordered.fit i within))
@@ -138,7 +138,7 @@ below_nearest types leveled rows i ordered within steps =
             ∙ eq-eqb (row_at rows k).code p code_is
 
 -- the row is in order behind what stands on the path at its level, where rows of one parent are in order
-behind_nearest : (types : List SegType) (rows : List Segment) (i : ℕ) → IsInSequence types rows → i < length rows → 0 < level_at types rows i → IsStepwise types rows i
+behind_nearest : (types : List SegmentType) (rows : List Segment) (i : ℕ) → IsInSequence types rows → i < length rows → 0 < level_at types rows i → IsStepwise types rows i
     → is_in_order types (walked types [] rows i) (row_at rows i) ≡ true
 behind_nearest types rows i ordered within some steps =
     by_place (omega arith) (slice_get (walked types [] rows i) (level_at types rows i - 1)) refl
@@ -159,7 +159,7 @@ behind_nearest types rows i ordered within some steps =
         ∙ ordered.siblings place.0 i before within ((option_eq-Decides _ _).1 parent)
 
 -- each row of a hierarchic sequence may follow the path of those before it
-each_follows : (types : List SegType) (leveled : Leveled types) (rows : List Segment) → IsInSequence types rows → (n : ℕ) → n < length rows → IsStepwise types rows n
+each_follows : (types : List SegmentType) (leveled : Leveled types) (rows : List Segment) → IsInSequence types rows → (n : ℕ) → n < length rows → IsStepwise types rows n
     → may_follow types (walked types [] rows n) (row_at rows n) ≡ true
 each_follows types leveled rows ordered n within steps =
     let fits : row_fits types (row_at rows n) ≡ true = ordered.fit n within in
@@ -167,7 +167,7 @@ each_follows types leveled rows ordered n within steps =
     and_from _ _ (and_from _ _ fits (below_nearest types leveled rows n ordered within steps)) (behind_nearest types rows n ordered within (omega arith) steps)
 
 -- the rows of a hierarchic sequence have a level each, at most one below the end of the path
-sequence_stepwise : (types : List SegType) (leveled : Leveled types) (rows : List Segment) → IsInSequence types rows → (n : ℕ) → n ≤ length rows → IsStepwise types rows n
+sequence_stepwise : (types : List SegmentType) (leveled : Leveled types) (rows : List Segment) → IsInSequence types rows → (n : ℕ) → n ≤ length rows → IsStepwise types rows n
 sequence_stepwise types leveled rows ordered zero within = record {
   some = λ k below. absurd (omega arith);
   reach = λ k below. absurd (omega arith);
@@ -180,7 +180,7 @@ sequence_stepwise types leveled rows ordered (suc n) within =
     more types rows n steps (omega arith) reach
 
 -- rows in hierarchic sequence are valid
-pub sequence_valid : (types : List SegType) (leveled : Leveled types) (rows : List Segment) → IsInSequence types rows → valid_from types [] rows ≡ true
+pub sequence_valid : (types : List SegmentType) (leveled : Leveled types) (rows : List Segment) → IsInSequence types rows → valid_from types [] rows ≡ true
 sequence_valid types leveled rows ordered =
     each_valid types [] rows
     (λ n within. each_follows types leveled rows ordered n within (sequence_stepwise types leveled rows ordered n (omega arith)))

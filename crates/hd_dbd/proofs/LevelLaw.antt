@@ -5,7 +5,7 @@ use Rattle.std.specs.Option.{option_map_or}
 use Rattle.std.proofs.lemmas.List.{length-append, get_or_at}
 use Rattle.std.proofs.lemmas.Option.{slice_get_within, slice_get-get_or}
 use Rattle.hd_dbd.specs.declared.hierarchy.FreeSpace.{FreeSpace}
-use Rattle.hd_dbd.specs.declared.hierarchy.SegType.{SegType}
+use Rattle.hd_dbd.specs.Types.{SegmentType}
 use Rattle.hd_dbd.specs.Segment.{Segment}
 use Rattle.hd_dbd.specs.Hierarchy.{type_of, parent_of, weights_from, levels_of, level_of}
 use Rattle.hd_dbd.specs.DatabaseRules.{well_formed}
@@ -19,13 +19,13 @@ IsBefore None n = Unit {0}
 IsBefore (Some p) n = p - 1 < n
 
 -- what a parent weighs is kept
-parent_kept : (w : SegType → ℕ) (so_far : List ℕ) (ts : List SegType) (parent : Option ℕ) → IsBefore parent (length so_far)
+parent_kept : (w : SegmentType → ℕ) (so_far : List ℕ) (ts : List SegmentType) (parent : Option ℕ) → IsBefore parent (length so_far)
     → option_map_or (λ p. slice_index so_far (p - 1)) parent 0 ≡ option_map_or (λ p. slice_index (weights_from w so_far ts) (p - 1)) parent 0
 parent_kept w so_far ts None below = refl
 parent_kept w so_far ts (Some p) below = sym (weights_front w so_far ts (p - 1) below)
 
 -- each type weighs its own weight and that of its parent
-weights_at : (w : SegType → ℕ) (so_far : List ℕ) (ts : List SegType) (j : ℕ) (t : SegType) → slice_get ts j ≡ Some t → IsBefore t.parent (length so_far + j)
+weights_at : (w : SegmentType → ℕ) (so_far : List ℕ) (ts : List SegmentType) (j : ℕ) (t : SegmentType) → slice_get ts j ≡ Some t → IsBefore t.parent (length so_far + j)
     → slice_index (weights_from w so_far ts) (length so_far + j) ≡ w t + option_map_or (λ p. slice_index (weights_from w so_far ts) (p - 1)) t.parent 0
 weights_at w so_far [] j t is below = cc
 weights_at w so_far (u ∷ us) zero t is below =
@@ -33,12 +33,12 @@ weights_at w so_far (u ∷ us) zero t is below =
     let same : u ≡ t = cc in
     let here : length so_far + 0 ≡ length so_far = omega arith in
     let earlier : IsBefore u.parent (length so_far) =
-    subst (λ (n : ℕ). IsBefore u.parent n) here (subst (λ (v : SegType). IsBefore v.parent (length so_far + 0)) (sym same) below) in
+    subst (λ (n : ℕ). IsBefore u.parent n) here (subst (λ (v : SegmentType). IsBefore v.parent (length so_far + 0)) (sym same) below) in
     ap (λ (n : ℕ). slice_index (weights_from w so_far (u ∷ us)) n) here
     ∙ weights_front w (so_far ++ own ∷ []) us (length so_far) (omega (arith, length-append so_far (own ∷ [])))
     ∙ get_or_at so_far own [] 0 (length so_far) refl
     ∙ ap (λ (n : ℕ). w u + n) (parent_kept w so_far (u ∷ us) u.parent earlier)
-    ∙ ap (λ (v : SegType). w v + option_map_or (λ p. slice_index (weights_from w so_far (u ∷ us)) (p - 1)) v.parent 0) same
+    ∙ ap (λ (v : SegmentType). w v + option_map_or (λ p. slice_index (weights_from w so_far (u ∷ us)) (p - 1)) v.parent 0) same
 weights_at w so_far (u ∷ us) (suc j) t is below =
     let own : ℕ = w u + option_map_or (λ p. slice_index so_far (p - 1)) u.parent 0 in
     let place : length so_far + suc j ≡ length (so_far ++ own ∷ []) + j = omega (arith, length-append so_far (own ∷ [])) in
@@ -46,7 +46,7 @@ weights_at w so_far (u ∷ us) (suc j) t is below =
     ∙ weights_at w (so_far ++ own ∷ []) us j t is (subst (λ (n : ℕ). IsBefore t.parent n) place below)
 
 -- every type of a well-formed list has an earlier parent, or none
-pub parents_earlier : (block_size : ℕ) (frspc : FreeSpace) (types : List SegType) (c : ℕ) (t : SegType) → IsTrue (well_formed block_size frspc types)
+pub parents_earlier : (block_size : ℕ) (frspc : FreeSpace) (types : List SegmentType) (c : ℕ) (t : SegmentType) → IsTrue (well_formed block_size frspc types)
     → type_of types c ≡ Some t → IsEarlier t.parent c
 parents_earlier block_size frspc types c t formed is =
     parent_part block_size types c t (type_of-fits block_size types c t (types_fit block_size frspc types formed) is)
@@ -55,13 +55,13 @@ before : (parent : Option ℕ) (c : ℕ) → IsEarlier parent c → IsBefore par
 before None c early = tt
 before (Some p) c early = omega arith
 
-parent_level : (types : List SegType) (parent : Option ℕ) (c : ℕ) → IsEarlier parent c
+parent_level : (types : List SegmentType) (parent : Option ℕ) (c : ℕ) → IsEarlier parent c
     → option_map_or (λ p. slice_index (levels_of types) (p - 1)) parent 0 ≡ option_map_or (λ p. level_of types p) parent 0
 parent_level types None c early = refl
 parent_level types (Some p) c early = sym (level_of-later types p (λ none. omega arith))
 
 -- a type with such a parent has a level one more than its parent's
-pub level_above : (types : List SegType) (c : ℕ) (t : SegType) → IsEarlier t.parent c → type_of types c ≡ Some t → level_of types c ≡ option_map_or (λ p. level_of types p) t.parent 0 + 1
+pub level_above : (types : List SegmentType) (c : ℕ) (t : SegmentType) → IsEarlier t.parent c → type_of types c ≡ Some t → level_of types c ≡ option_map_or (λ p. level_of types p) t.parent 0 + 1
 level_above types c t early is =
     let within = type_within types c t is in
     let early_place : IsBefore t.parent (0 + (c - 1)) = subst (λ (n : ℕ). IsBefore t.parent n) (omega arith) (before t.parent c early) in
@@ -73,34 +73,34 @@ level_above types c t early is =
     ∙ omega arith
 
 -- how deep the rows below a parent are: 0 for the roots
-abbrev pub depth_below : List SegType → Option ℕ → ℕ
+abbrev pub depth_below : List SegmentType → Option ℕ → ℕ
 depth_below types parent = option_map_or (λ p. level_of types p) parent 0
 
 -- What the levels of rows are: one more than that of the parent's type, which is not 0.
-pub record Leveled (types : List SegType) : Type 0 where
+pub record Leveled (types : List SegmentType) : Type 0 where
   pub law : (r : Segment) → row_fits types r ≡ true → level types r ≡ depth_below types (parent_of types r.code) + 1
   pub parents : (r : Segment) (p : ℕ) → row_fits types r ≡ true → parent_of types r.code ≡ Some p → 0 < level_of types p
 
 -- a row that fits has a type
-typed : (types : List SegType) (r : Segment) → row_fits types r ≡ true → (t : SegType) × (type_of types r.code ≡ Some t)
+typed : (types : List SegmentType) (r : Segment) → row_fits types r ≡ true → (t : SegmentType) × (type_of types r.code ≡ Some t)
 typed types r fits = some_type (type_of types r.code) fits
   where
-    some_type : (o : Option SegType) → option_map_or (λ t. length r.bytes == t.length) o false ≡ true → (t : SegType) × (o ≡ Some t)
+    some_type : (o : Option SegmentType) → option_map_or (λ t. length r.bytes == t.length) o false ≡ true → (t : SegmentType) × (o ≡ Some t)
     some_type None h = cc
     some_type (Some t) h = (t, refl)
 
-type_at : (types : List SegType) (p : ℕ) (d : SegType) → 0 < p → p - 1 < length types → (u : SegType) × (type_of types p ≡ Some u)
+type_at : (types : List SegmentType) (p : ℕ) (d : SegmentType) → 0 < p → p - 1 < length types → (u : SegmentType) × (type_of types p ≡ Some u)
 type_at types p d some within =
     (get_or types (p - 1) d, type_of-later types p (λ none. omega arith) ∙ slice_get-get_or types (p - 1) d within)
 
 -- the rows of a well-formed list of types have such levels
-pub leveled : (block_size : ℕ) (frspc : FreeSpace) (types : List SegType) → IsTrue (well_formed block_size frspc types) → Leveled types
+pub leveled : (block_size : ℕ) (frspc : FreeSpace) (types : List SegmentType) → IsTrue (well_formed block_size frspc types) → Leveled types
 leveled block_size frspc types formed = record {
   law = λ r fits. (let t = typed types r fits in
       level_above types r.code t.0 (parents_earlier block_size frspc types r.code t.0 formed t.1) t.1
-      ∙ ap (λ (o : Option SegType). option_map_or (λ p. level_of types p) (option_and_then (λ (u : SegType). u.parent) o) 0 + 1) (sym t.1));
+      ∙ ap (λ (o : Option SegmentType). option_map_or (λ p. level_of types p) (option_and_then (λ (u : SegmentType). u.parent) o) 0 + 1) (sym t.1));
   parents = λ r p fits is. (let t = typed types r fits in
-      let own : t.0.parent ≡ Some p = ap (λ (o : Option SegType). option_and_then (λ (u : SegType). u.parent) o) (sym t.1) ∙ is in
+      let own : t.0.parent ≡ Some p = ap (λ (o : Option SegmentType). option_and_then (λ (u : SegmentType). u.parent) o) (sym t.1) ∙ is in
       let early : (0 < p) × (p < r.code) = subst (λ (o : Option ℕ). IsEarlier o r.code) own (parents_earlier block_size frspc types r.code t.0 formed t.1) in
       let within : r.code - 1 < length types = slice_get_within types (r.code - 1) t.0 (type_within types r.code t.0 t.1).1 in
       let u = type_at types p t.0 early.0 (omega arith) in

@@ -13,3 +13,4 @@ pub mod Faults
 pub mod RowPaths
 pub mod Walks
 pub mod InSequence
+pub mod WorkedSample

@@ -4,7 +4,7 @@ use Rattle.std.specs.Prelude.{IsTrue, slice_get, slice_index, ◌==◌}
 use Rattle.std.specs.Option.{option_map_or}
 use Rattle.std.proofs.lemmas.Bool.{and_parts, eqb-true}
 use Rattle.std.proofs.lemmas.List.{length-append, get_or_at}
-use Rattle.hd_dbd.specs.declared.hierarchy.SegType.{SegType}
+use Rattle.hd_dbd.specs.Types.{SegmentType}
 use Rattle.hd_dbd.specs.Segment.{Segment}
 use Rattle.hd_dbd.specs.Hierarchy.{weights_from, weights, greatest, longest_path, type_of}
 use Rattle.hd_dbd.specs.Rows.{row_fits, valid, valid_from, next_path}
@@ -12,7 +12,7 @@ use Rattle.hd_dbd.specs.Paths.{row_at}
 use Rattle.hd_dbd.proofs.Levels.{weights_front, type_within}
 
 -- a type weighs with those above it no less than alone
-weight_counts : (w : SegType → ℕ) (so_far : List ℕ) (ts : List SegType) (i : ℕ) (t : SegType) → slice_get ts i ≡ Some t → w t ≤ slice_index (weights_from w so_far ts) (length so_far + i)
+weight_counts : (w : SegmentType → ℕ) (so_far : List ℕ) (ts : List SegmentType) (i : ℕ) (t : SegmentType) → slice_get ts i ≡ Some t → w t ≤ slice_index (weights_from w so_far ts) (length so_far + i)
 weight_counts w so_far [] i t is = cc
 weight_counts w so_far (u ∷ us) zero t is =
     let own : ℕ = w u + option_map_or (λ p. slice_index so_far (p - 1)) u.parent 0 in
@@ -35,7 +35,7 @@ below_greatest [] i = omega arith
 below_greatest (x ∷ xs) zero = omega arith
 below_greatest (x ∷ xs) (suc i) = omega (arith, below_greatest xs i)
 
-row_short_by : (types : List SegType) (r : Segment) (o : Option SegType) → type_of types r.code ≡ o → option_map_or (λ t. length r.bytes == t.length) o false ≡ true → length r.bytes ≤ longest_path types
+row_short_by : (types : List SegmentType) (r : Segment) (o : Option SegmentType) → type_of types r.code ≡ o → option_map_or (λ t. length r.bytes == t.length) o false ≡ true → length r.bytes ≤ longest_path types
 row_short_by types r None is fits = cc
 row_short_by types r (Some t) is fits =
     omega (
@@ -46,14 +46,14 @@ row_short_by types r (Some t) is fits =
     )
 
 -- a row with its type's length is no longer than the longest path
-row_short : (types : List SegType) (r : Segment) → row_fits types r ≡ true → length r.bytes ≤ longest_path types
+row_short : (types : List SegmentType) (r : Segment) → row_fits types r ≡ true → length r.bytes ≤ longest_path types
 row_short types r fits = row_short_by types r (type_of types r.code) refl fits
 
-rows_short_from : (types : List SegType) (path rows : List Segment) (i : ℕ) → valid_from types path rows ≡ true → length (row_at rows i).bytes ≤ longest_path types
+rows_short_from : (types : List SegmentType) (path rows : List Segment) (i : ℕ) → valid_from types path rows ≡ true → length (row_at rows i).bytes ≤ longest_path types
 rows_short_from types path [] i valid = omega arith
 rows_short_from types path (r ∷ rs) zero valid = row_short types r (and_parts _ _ (and_parts _ _ (and_parts _ _ valid).0).0).0
 rows_short_from types path (r ∷ rs) (suc i) valid = rows_short_from types (next_path types path r) rs i (and_parts _ _ valid).1
 
 -- no row of a valid list is longer than the longest path
-pub rows_short : (types : List SegType) (rows : List Segment) (i : ℕ) → IsTrue (valid types rows) → length (row_at rows i).bytes ≤ longest_path types
+pub rows_short : (types : List SegmentType) (rows : List Segment) (i : ℕ) → IsTrue (valid types rows) → length (row_at rows i).bytes ≤ longest_path types
 rows_short types rows i all = rows_short_from types [] rows i all

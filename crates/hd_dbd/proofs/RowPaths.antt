@@ -3,12 +3,12 @@ use Rattle.std.proofs.Common.{◌≡◌, ℕ, zero, suc, List, [], ◌∷◌, �
 use Rattle.std.specs.Prelude.{nat_lt}
 use Rattle.std.specs.Option.{option_map_or}
 use Rattle.std.proofs.lemmas.Bool.{cases_Bool, cond-true, cond-false}
-use Rattle.hd_dbd.specs.declared.hierarchy.SegType.{SegType}
+use Rattle.hd_dbd.specs.Types.{SegmentType}
 use Rattle.hd_dbd.specs.Segment.{Segment}
 use Rattle.hd_dbd.specs.Paths.{level_at, nearest_above, parent_row, path_above, path_of}
 
 -- the rows above a level, before a row, are the nearest of them with its parents
-path_above_is : (types : List SegType) (rows : List Segment) (l n : ℕ)
+path_above_is : (types : List SegmentType) (rows : List Segment) (l n : ℕ)
     → path_above types rows l n ≡ option_map_or (λ p. path_of types rows p) (nearest_above types rows l n) []
 path_above_is types rows l zero = refl
 path_above_is types rows l (suc n) = elim (cases_Bool (nat_lt (level_at types rows n) l)) [
@@ -22,6 +22,6 @@ path_above_is types rows l (suc n) = elim (cases_Bool (nat_lt (level_at types ro
 ]
 
 -- the path of a row is that of its parent, and the row
-pub path_follows : (types : List SegType) (rows : List Segment) (i : ℕ)
+pub path_follows : (types : List SegmentType) (rows : List Segment) (i : ℕ)
     → path_of types rows i ≡ option_map_or (λ p. path_of types rows p) (parent_row types rows i) [] ++ i ∷ []
 path_follows types rows i = ap (λ (path : List ℕ). path ++ i ∷ []) (path_above_is types rows (level_at types rows i) i)

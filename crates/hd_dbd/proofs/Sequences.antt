@@ -4,7 +4,7 @@ use Rattle.std.specs.Prelude.{slice_get, ◌==◌}
 use Rattle.std.specs.Option.{option_map_or}
 use Rattle.std.proofs.lemmas.Bool.{and_parts, and_from, eq-eqb}
 use Rattle.std.proofs.lemmas.List.{append_assoc, append-nil, take_at, length-append}
-use Rattle.hd_dbd.specs.declared.hierarchy.SegType.{SegType}
+use Rattle.hd_dbd.specs.Types.{SegmentType}
 use Rattle.hd_dbd.specs.Segment.{Segment}
 use Rattle.hd_dbd.specs.Hierarchy.{parent_of}
 use Rattle.hd_dbd.specs.Rows.{valid_from, may_follow, next_path, level, is_below, is_in_order, row_fits, siblings_in_order}
@@ -23,7 +23,7 @@ slice_get_behind [] ys = refl
 slice_get_behind (x ∷ xs) ys = slice_get_behind xs ys
 
 -- a place from which a path with this end is read is that of the parent
-pub end_at : (types : List SegType) (front path Q : List Segment) (r q : Segment) → path ≡ front ++ q ∷ [] → level types r ≡ length path + 1
+pub end_at : (types : List SegmentType) (front path Q : List Segment) (r q : Segment) → path ≡ front ++ q ∷ [] → level types r ≡ length path + 1
     → slice_get (path ++ Q) (level types r - 2) ≡ Some q
 end_at types front path Q r q is at =
     let place : level types r - 2 ≡ length front = omega (arith, at, ap (λ (xs : List Segment). length xs) is, length-append front (q ∷ [])) in
@@ -32,13 +32,13 @@ end_at types front path Q r q is at =
     ∙ slice_get_behind front (q ∷ Q)
 
 -- the row may stand below the parent that the path ends with
-below_by : (types : List SegType) (P Q : List Segment) (r : Segment) (parent : Option ℕ) → EndsWith parent P → level types r ≡ length P + 1
+below_by : (types : List SegmentType) (P Q : List Segment) (r : Segment) (parent : Option ℕ) → EndsWith parent P → level types r ≡ length P + 1
     → option_map_or (λ p. option_map_or (λ q. q.code == p) (slice_get (P ++ Q) (level types r - 2)) false) parent true ≡ true
 below_by types P Q r None ends at = refl
 below_by types P Q r (Some p) ends at =
     ap (λ (o : Option Segment). option_map_or (λ s. s.code == p) o false) (end_at types ends.1 P Q r ends.0 ends.2 at) ∙ eq-eqb ends.0.code p ends.3
 
-follows : (types : List SegType) (P Q : List Segment) (r : Segment) (parent : Option ℕ) (before : Option Segment) → EndsWith parent P
+follows : (types : List SegmentType) (P Q : List Segment) (r : Segment) (parent : Option ℕ) (before : Option Segment) → EndsWith parent P
     → level types r ≡ length P + 1 → slice_get Q 0 ≡ before → row_fits types r ≡ true → parent_of types r.code ≡ parent
     → option_map_or (λ p. siblings_in_order types p r) before true ≡ true → may_follow types (P ++ Q) r ≡ true
 follows types P Q r parent before ends at first fits own order =
@@ -51,13 +51,13 @@ follows types P Q r parent before ends at first fits own order =
     and_from _ _ (and_from _ _ fits below) in_order
 
 -- the path of a row that stands just below the path's first part
-pub next_is : (types : List SegType) (P Q : List Segment) (r : Segment) → level types r ≡ length P + 1 → next_path types (P ++ Q) r ≡ P ++ r ∷ []
+pub next_is : (types : List SegmentType) (P Q : List Segment) (r : Segment) → level types r ≡ length P + 1 → next_path types (P ++ Q) r ≡ P ++ r ∷ []
 next_is types P Q r at =
     let one_up : length P ≡ level types r - 1 = omega arith in
     ap (λ (xs : List Segment). xs ++ r ∷ []) (take_at P Q (level types r - 1) one_up)
 
 -- after a forest that fits, the rest is judged from a path with the same parents
-pub walk : (types : List SegType) (leveled : Leveled types) (f : Forest Segment) (P Q rest : List Segment) (parent : Option ℕ) (before : Option Segment)
+pub walk : (types : List SegmentType) (leveled : Leveled types) (f : Forest Segment) (P Q rest : List Segment) (parent : Option ℕ) (before : Option Segment)
     → length P ≡ depth_below types parent → EndsWith parent P → slice_get Q 0 ≡ before → fits_below types parent before f ≡ true
     → (last : List Segment) × (valid_from types (P ++ Q) (sequence f ++ rest) ≡ valid_from types (P ++ last) rest)
 walk types leveled empty P Q rest parent before deep ends first fits = (Q, refl)

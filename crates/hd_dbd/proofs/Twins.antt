@@ -8,7 +8,7 @@ use Rattle.std.proofs.lemmas.Cmp.{nat_list_cmp_total}
 use Rattle.std.proofs.lemmas.Bool.{and_parts, eqb-true, eq-eqb, ne_eqb, ltb-true, ltb-false, lt-ltb, cases_eq, cases_Bool, cond-true, cond-false}
 use Rattle.std.proofs.lemmas.Option.{slice_get_within}
 use Rattle.hd_dbd.specs.declared.hierarchy.Key.{Key}
-use Rattle.hd_dbd.specs.declared.hierarchy.SegType.{SegType}
+use Rattle.hd_dbd.specs.Types.{SegmentType}
 use Rattle.hd_dbd.specs.Segment.{Segment}
 use Rattle.hd_dbd.specs.Hierarchy.{type_of, parent_of, level_of, key_in}
 use Rattle.hd_dbd.specs.Rows.{valid_from, may_follow, next_path, level, is_in_order, row_fits, twins_in_order, siblings_in_order}
@@ -60,36 +60,36 @@ keys_trans (Some key) x y z h k = by_unique key.unique h k
     by_unique false h k = up_to_trans x y z h k
 
 -- the second of two segments of a type may stand behind the first
-abbrev bytes_ordered : Option SegType → List ℕ → List ℕ → Bool
+abbrev bytes_ordered : Option SegmentType → List ℕ → List ℕ → Bool
 bytes_ordered o a b = option_map_or (λ t. keys_ordered t.key (key_in t a) (key_in t b)) o false
 
-bytes_trans : (o : Option SegType) (a b c : List ℕ) → bytes_ordered o a b ≡ true → bytes_ordered o b c ≡ true → bytes_ordered o a c ≡ true
+bytes_trans : (o : Option SegmentType) (a b c : List ℕ) → bytes_ordered o a b ≡ true → bytes_ordered o b c ≡ true → bytes_ordered o a c ≡ true
 bytes_trans None a b c h k = cc
 bytes_trans (Some t) a b c h k = keys_trans t.key (key_in t a) (key_in t b) (key_in t c) h k
 
 -- ---- the order of rows of one parent
 
-twins_trans : (types : List SegType) (p q r : Segment) → q.code ≡ r.code → twins_in_order types p q ≡ true → twins_in_order types q r ≡ true → twins_in_order types p r ≡ true
+twins_trans : (types : List SegmentType) (p q r : Segment) → q.code ≡ r.code → twins_in_order types p q ≡ true → twins_in_order types q r ≡ true → twins_in_order types p r ≡ true
 twins_trans types p q r code h k =
     bytes_trans (type_of types r.code) p.bytes q.bytes r.bytes
     (ap (λ (c : ℕ). bytes_ordered (type_of types c) p.bytes q.bytes) (sym code) ∙ h) k
 
 -- rows of one parent in order are twins in order, or the second is of a later type
-siblings_cases : (types : List SegType) (p r : Segment) → siblings_in_order types p r ≡ true → ((p.code ≡ r.code) × (twins_in_order types p r ≡ true)) ⊎ (p.code < r.code)
+siblings_cases : (types : List SegmentType) (p r : Segment) → siblings_in_order types p r ≡ true → ((p.code ≡ r.code) × (twins_in_order types p r ≡ true)) ⊎ (p.code < r.code)
 siblings_cases types p r h = elim (cases_eq p.code r.code) [
   | inl same ↦ inl (same, sym (cond-true (p.code == r.code) (twins_in_order types p r) (nat_lt p.code r.code) (eq-eqb p.code r.code same)) ∙ h)
   | inr other ↦ inr (ltb-true p.code r.code (sym (cond-false (p.code == r.code) (twins_in_order types p r) (nat_lt p.code r.code) (ne_eqb p.code r.code other)) ∙ h))
 ]
 
-siblings_twins : (types : List SegType) (p r : Segment) → p.code ≡ r.code → twins_in_order types p r ≡ true → siblings_in_order types p r ≡ true
+siblings_twins : (types : List SegmentType) (p r : Segment) → p.code ≡ r.code → twins_in_order types p r ≡ true → siblings_in_order types p r ≡ true
 siblings_twins types p r same order = cond-true (p.code == r.code) (twins_in_order types p r) (nat_lt p.code r.code) (eq-eqb p.code r.code same) ∙ order
 
-siblings_later : (types : List SegType) (p r : Segment) → p.code < r.code → siblings_in_order types p r ≡ true
+siblings_later : (types : List SegmentType) (p r : Segment) → p.code < r.code → siblings_in_order types p r ≡ true
 siblings_later types p r later =
     cond-false (p.code == r.code) (twins_in_order types p r) (nat_lt p.code r.code) (ne_eqb p.code r.code (λ same. omega arith)) ∙ lt-ltb p.code r.code later
 
 -- the order of rows of one parent goes on over one that stands between
-siblings_trans : (types : List SegType) (p q r : Segment) → siblings_in_order types p q ≡ true → siblings_in_order types q r ≡ true → siblings_in_order types p r ≡ true
+siblings_trans : (types : List SegmentType) (p q r : Segment) → siblings_in_order types p q ≡ true → siblings_in_order types q r ≡ true → siblings_in_order types p r ≡ true
 siblings_trans types p q r h k = by_cases (siblings_cases types p q h) (siblings_cases types q r k)
   where
     by_cases : ((p.code ≡ q.code) × (twins_in_order types p q ≡ true)) ⊎ (p.code < q.code)
@@ -115,15 +115,15 @@ path_ends [] (suc n) r within = absurd (omega arith)
 path_ends (x ∷ path) (suc n) r within = path_ends path n r (omega arith)
 
 -- the row is behind another, or is it
-abbrev IsFrom : List SegType → Segment → Segment → Type 0
+abbrev IsFrom : List SegmentType → Segment → Segment → Type 0
 IsFrom types r p = (r ≡ p) ⊎ (siblings_in_order types r p ≡ true)
 
-behind_both : (types : List SegType) (r p s : Segment) → IsFrom types r p → siblings_in_order types p s ≡ true → siblings_in_order types r s ≡ true
+behind_both : (types : List SegmentType) (r p s : Segment) → IsFrom types r p → siblings_in_order types p s ≡ true → siblings_in_order types r s ≡ true
 behind_both types r p s (inl same) next = ap (λ (q : Segment). siblings_in_order types q s) same ∙ next
 behind_both types r p s (inr order) next = siblings_trans types r p s order next
 
 -- a row that follows on the level of one on the path is in order behind it
-follows_on : (types : List SegType) (path : List Segment) (r p s : Segment) → slice_get path (level types r - 1) ≡ Some p → may_follow types path s ≡ true
+follows_on : (types : List SegmentType) (path : List Segment) (r p s : Segment) → slice_get path (level types r - 1) ≡ Some p → may_follow types path s ≡ true
     → level types s ≡ level types r → siblings_in_order types p s ≡ true
 follows_on types path r p s on follows same =
     let order : is_in_order types path s ≡ true = (and_parts _ _ follows).1 in
@@ -132,7 +132,7 @@ follows_on types path r p s on follows same =
     ∙ order
 
 -- Where row r or one behind it stands on the path, and no row above its level comes before row m, row m of its level is behind it.
-behind : (types : List SegType) (leveled : Leveled types) (r : Segment) (path rows : List Segment) (m : ℕ) (p : Segment)
+behind : (types : List SegmentType) (leveled : Leveled types) (r : Segment) (path rows : List Segment) (m : ℕ) (p : Segment)
     → 0 < level types r → slice_get path (level types r - 1) ≡ Some p → IsFrom types r p → valid_from types path rows ≡ true → m < length rows
     → ((k : ℕ) → k < m + 1 → level types r ≤ level types (row_at rows k)) → level types (row_at rows m) ≡ level types r
     → siblings_in_order types r (row_at rows m) ≡ true
@@ -154,7 +154,7 @@ behind types leveled r path (s ∷ rows) (suc m) p some on from valid within dee
     ]
 
 -- Of two rows of one level, with none above it between them, the second is in order behind the first.
-ascend : (types : List SegType) (leveled : Leveled types) (path rows : List Segment) (i j : ℕ) → valid_from types path rows ≡ true → i < j → j < length rows
+ascend : (types : List SegmentType) (leveled : Leveled types) (path rows : List Segment) (i j : ℕ) → valid_from types path rows ≡ true → i < j → j < length rows
     → ((k : ℕ) → i ≤ k → k < j + 1 → level types (row_at rows i) ≤ level types (row_at rows k)) → level types (row_at rows j) ≡ level types (row_at rows i)
     → siblings_in_order types (row_at rows i) (row_at rows j) ≡ true
 ascend types leveled path [] i j valid before within deep same = absurd (omega arith)
@@ -173,7 +173,7 @@ ascend types leveled path (r ∷ rows) (suc i) (suc j) valid before within deep 
 -- ---- rows of one parent
 
 -- the nearest row above is an earlier one
-pub nearest_before : (types : List SegType) (rows : List Segment) (l n k : ℕ) → nearest_above types rows l n ≡ Some k → k < n
+pub nearest_before : (types : List SegmentType) (rows : List Segment) (l n k : ℕ) → nearest_above types rows l n ≡ Some k → k < n
 nearest_before types rows l zero k is = cc
 nearest_before types rows l (suc n) k is = elim (cases_Bool (nat_lt (level_at types rows n) l)) [
   | inl above ↦ (let found : Some n ≡ Some k = sym (cond-true (nat_lt (level_at types rows n) l) (Some n) (nearest_above types rows l n) above) ∙ is in
@@ -182,7 +182,7 @@ nearest_before types rows l (suc n) k is = elim (cases_Bool (nat_lt (level_at ty
 ]
 
 -- where two rows have one nearest row above, none above stands between them
-none_between : (types : List SegType) (rows : List Segment) (l i j : ℕ) → nearest_above types rows l i ≡ nearest_above types rows l j
+none_between : (types : List SegmentType) (rows : List Segment) (l i j : ℕ) → nearest_above types rows l i ≡ nearest_above types rows l j
     → (k : ℕ) → i ≤ k → k < j → l ≤ level_at types rows k
 none_between types rows l i zero one k from below = absurd (omega arith)
 none_between types rows l i (suc j) one k from below = elim (cases_Bool (nat_lt (level_at types rows j) l)) [
@@ -195,7 +195,7 @@ none_between types rows l i (suc j) one k from below = elim (cases_Bool (nat_lt 
 ]
 
 -- of two rows of one level and one parent, or roots, the second is in order behind the first
-pub rows_ascend : (types : List SegType) (leveled : Leveled types) (rows : List Segment) (i j : ℕ) → valid_from types [] rows ≡ true → i < j → j < length rows
+pub rows_ascend : (types : List SegmentType) (leveled : Leveled types) (rows : List Segment) (i j : ℕ) → valid_from types [] rows ≡ true → i < j → j < length rows
     → level_at types rows j ≡ level_at types rows i → parent_row types rows i ≡ parent_row types rows j
     → siblings_in_order types (row_at rows i) (row_at rows j) ≡ true
 rows_ascend types leveled rows i j valid before within same parent =
@@ -208,7 +208,7 @@ rows_ascend types leveled rows i j valid before within same parent =
     ascend types leveled [] rows i j valid before within deep same
 
 -- twins stand in key order
-pub twins_ascend : (types : List SegType) (leveled : Leveled types) (rows : List Segment) (i j : ℕ) → valid_from types [] rows ≡ true → i < j → j < length rows
+pub twins_ascend : (types : List SegmentType) (leveled : Leveled types) (rows : List Segment) (i j : ℕ) → valid_from types [] rows ≡ true → i < j → j < length rows
     → is_twin types rows i j ≡ true → twins_in_order types (row_at rows i) (row_at rows j) ≡ true
 twins_ascend types leveled rows i j valid before within twins =
     let parts = and_parts _ _ twins in

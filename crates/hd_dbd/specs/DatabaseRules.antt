@@ -4,7 +4,7 @@ use Rattle.std.specs.Option.{option_map_or}
 use Rattle.std.specs.List.{list_any}
 use Rattle.hd_dbd.specs.declared.hierarchy.Field.{Field}
 use Rattle.hd_dbd.specs.declared.hierarchy.FreeSpace.{FreeSpace}
-use Rattle.hd_dbd.specs.declared.hierarchy.SegType.{SegType}
+use Rattle.hd_dbd.specs.Types.{SegmentType}
 use Rattle.hd_dbd.specs.Hierarchy.{level_of}
 use Rattle.hd_dbd.specs.Prefixes.{stored_size}
 
@@ -17,12 +17,12 @@ abbrev pub free_space_fits : FreeSpace → Bool
 free_space_fits f = (f.fbff == 0 || nat_le 2 f.fbff && nat_le f.fbff 100) && nat_le f.fspf 99
 
 -- B4: the root has no parent, and every other type an earlier one
-abbrev pub parent_fits : ℕ → SegType → Bool
+abbrev pub parent_fits : ℕ → SegmentType → Bool
 parent_fits c t =
     cond (c == 1) (is_none t.parent) (option_map_or (λ p. nat_lt 0 p && nat_lt p c) t.parent false)
 
 -- B3: a type with such a parent is at most on level 15
-abbrev pub level_fits : List SegType → ℕ → SegType → Bool
+abbrev pub level_fits : List SegmentType → ℕ → SegmentType → Bool
 level_fits types c t = not (parent_fits c t) || nat_le (level_of types c) 15
 
 -- a part of at least one byte inside a segment of a length, by its start, which counts from 1, and its own length
@@ -34,12 +34,12 @@ fields_fit len [] = true
 fields_fit len (f ∷ fs) = part_fits len f.start f.length && fields_fit len fs
 
 -- B5: the segment has a byte, and its key and its fields lie inside it
-abbrev pub parts_fit : SegType → Bool
+abbrev pub parts_fit : SegmentType → Bool
 parts_fit t =
-    nat_lt 0 t.length && option_map_or (λ k. part_fits t.length k.start k.length) t.key true && fields_fit t.length t.fields.items
+    nat_lt 0 t.length && option_map_or (λ k. part_fits t.length k.start k.length) t.key true && fields_fit t.length t.fields
 
 -- B6: the root has a unique key
-abbrev pub root_key_fits : ℕ → SegType → Bool
+abbrev pub root_key_fits : ℕ → SegmentType → Bool
 root_key_fits c t = not (c == 1) || option_map_or (λ k. k.unique) t.key false
 
 -- no two fields have one name
@@ -48,33 +48,33 @@ field_names_differ [] = true
 field_names_differ (f ∷ fs) = not (list_any (λ g. bytes_eq g.name f.name) fs) && field_names_differ fs
 
 -- B7: no earlier type has the type's name, and no two of its fields have one name
-abbrev pub names_fit : List SegType → ℕ → SegType → Bool
-names_fit types c t = not (list_any (λ u. bytes_eq u.name t.name) (take (c - 1) types)) && field_names_differ t.fields.items
+abbrev pub names_fit : List SegmentType → ℕ → SegmentType → Bool
+names_fit types c t = not (list_any (λ u. bytes_eq u.name t.name) (take (c - 1) types)) && field_names_differ t.fields
 
 -- B8: a stored segment fits into a block behind its first 8 bytes; and for the root, three entries of its index behind
 -- the first 12
-abbrev pub sizes_fit : ℕ → List SegType → ℕ → SegType → Bool
+abbrev pub sizes_fit : ℕ → List SegmentType → ℕ → SegmentType → Bool
 sizes_fit block_size types c t =
     nat_le (stored_size types c + 8) block_size
     && (not (c == 1) || option_map_or (λ k. nat_le (3 * (k.length + 4) + 12) block_size) t.key true)
 
 -- B9: a key has at most 255 bytes
-abbrev pub key_length_fits : SegType → Bool
+abbrev pub key_length_fits : SegmentType → Bool
 key_length_fits t = option_map_or (λ k. nat_le k.length 255) t.key true
 
 -- B3 to B9 for the type of a code
-abbrev pub type_fits : ℕ → List SegType → ℕ → SegType → Bool
+abbrev pub type_fits : ℕ → List SegmentType → ℕ → SegmentType → Bool
 type_fits block_size types c t =
     level_fits types c t && parent_fits c t && parts_fit t && root_key_fits c t && names_fit types c t
     && sizes_fit block_size types c t && key_length_fits t
 
 -- the same for the last types of a list, the first of which has code c
-abbrev pub types_fit_from : ℕ → List SegType → ℕ → List SegType → Bool
+abbrev pub types_fit_from : ℕ → List SegmentType → ℕ → List SegmentType → Bool
 types_fit_from block_size types c [] = true
 types_fit_from block_size types c (t ∷ ts) = type_fits block_size types c t && types_fit_from block_size types (c + 1) ts
 
 -- B10; B1, at least one type, and B2, at most 255; then each type's rules
-abbrev pub well_formed : ℕ → FreeSpace → List SegType → Bool
+abbrev pub well_formed : ℕ → FreeSpace → List SegmentType → Bool
 well_formed block_size frspc types =
     block_size_fits block_size && free_space_fits frspc
     && nat_lt 0 (length types) && nat_le (length types) 255

@@ -1,6 +1,6 @@
 -- What a database keeps of each type, so that no layer works it out again.
 use Rattle.std.specs.Prelude.{ℕ, zero, suc, ◌+◌, List, [], ◌∷◌, length}
-use Rattle.hd_dbd.specs.declared.hierarchy.SegType.{SegType}
+use Rattle.hd_dbd.specs.Types.{SegmentType}
 use Rattle.hd_dbd.specs.declared.facts.TypeFacts.{TypeFacts}
 use Rattle.hd_dbd.specs.Hierarchy.{level_of}
 use Rattle.hd_dbd.specs.Prefixes.{prefix_length, pointers_at, stored_size, children_of}
@@ -11,12 +11,12 @@ table_from f c zero = []
 table_from f c (suc n) = f c ∷ table_from f (c + 1) n
 
 -- the level, the length of the prefix, where its pointers stand in its parent's prefix, and the size in a block
-abbrev pub facts_at : List SegType → ℕ → TypeFacts
+abbrev pub facts_at : List SegmentType → ℕ → TypeFacts
 facts_at types c = record { level = level_of types c; prefix = prefix_length types c; pointers = pointers_at types c; size = stored_size types c }
 
-abbrev pub facts_of : List SegType → List TypeFacts
+abbrev pub facts_of : List SegmentType → List TypeFacts
 facts_of types = table_from (facts_at types) 1 (length types)
 
 -- the codes of the children of each type
-abbrev pub children_lists : List SegType → List (List ℕ)
+abbrev pub children_lists : List SegmentType → List (List ℕ)
 children_lists types = table_from (children_of types) 1 (length types)

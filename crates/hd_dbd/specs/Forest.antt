@@ -1,7 +1,7 @@
 -- Forests, and their hierarchic sequence.
 use Rattle.std.specs.Prelude.{ℕ, List, [], ◌∷◌, ◌++◌, Bool, true, ◌&&◌, ◌==◌, Option, Some, None}
 use Rattle.std.specs.Option.{option_map_or, option_eq}
-use Rattle.hd_dbd.specs.declared.hierarchy.SegType.{SegType}
+use Rattle.hd_dbd.specs.Types.{SegmentType}
 use Rattle.hd_dbd.specs.Segment.{Segment}
 use Rattle.hd_dbd.specs.Rows.{row_fits, siblings_in_order}
 use Rattle.hd_dbd.specs.Hierarchy.{parent_of}
@@ -19,7 +19,7 @@ sequence (node r below behind) = r ∷ (sequence below ++ sequence behind)
 
 -- The nodes below a parent of the given type, the first of them behind a row: each row has a type with its length, of
 -- that parent, and may stand behind the row before it among them.
-abbrev pub fits_below : List SegType → Option ℕ → Option Segment → Forest Segment → Bool
+abbrev pub fits_below : List SegmentType → Option ℕ → Option Segment → Forest Segment → Bool
 fits_below types parent before empty = true
 fits_below types parent before (node r below behind) =
     row_fits types r
@@ -29,5 +29,5 @@ fits_below types parent before (node r below behind) =
     && fits_below types parent (Some r) behind
 
 -- a forest of the database
-abbrev pub forest_fits : List SegType → Forest Segment → Bool
+abbrev pub forest_fits : List SegmentType → Forest Segment → Bool
 forest_fits types f = fits_below types None None f

@@ -1,7 +1,7 @@
 -- The get calls: where they begin to look, which row they find, and where that leaves the PCB.
 use Rattle.std.specs.Prelude.{ℕ, zero, suc, ◌+◌, ◌-◌, List, [], length, Bool, not, ◌&&◌, nat_lt, ◌==◌, cond, Option, Some, None}
 use Rattle.std.specs.Option.{option_map_or}
-use Rattle.hd_dbd.specs.declared.hierarchy.SegType.{SegType}
+use Rattle.hd_dbd.specs.Types.{SegmentType}
 use Rattle.hd_dbd.specs.declared.answer.Status.{Status}
 use Rattle.hd_dbd.specs.declared.answer.Status.TheVariants.{Blank, GA, GK, GB, GE}
 use Rattle.hd_dbd.specs.declared.call.Get.{Get}
@@ -50,12 +50,12 @@ crossing None level code = Blank
 crossing (Some p) level code = cond (nat_lt level p.level) GA (cond (level == p.level && not (code == p.code)) GK Blank)
 
 -- only GN tells of a crossing
-abbrev pub get_status : List SegType → List Segment → Position → Get → ℕ → Status
+abbrev pub get_status : List SegmentType → List Segment → Position → Get → ℕ → Status
 get_status types rows p Unique i = Blank
 get_status types rows p Next i = crossing p.last (level_at types rows i) (row_at rows i).code
 
 -- the position behind the row, on it, and with it as the parent
-abbrev pub onto : List SegType → List Segment → ℕ → Position
+abbrev pub onto : List SegmentType → List Segment → ℕ → Position
 onto types rows i = record {
   passed = i + 1;
   standing = Some i;

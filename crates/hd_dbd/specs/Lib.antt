@@ -1,4 +1,5 @@
 pub mod Naming
+pub mod Types
 pub mod Segment
 pub mod Hierarchy
 pub mod Prefixes
@@ -17,3 +18,4 @@ pub mod Calls
 pub mod Gets
 pub mod Logs
 pub mod Laws
+pub mod Sample

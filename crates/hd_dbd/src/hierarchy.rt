@@ -1,4 +1,5 @@
 use crate::naming::Name8;
+use std::marker::Model;
 
 /// RULES: where a new twin goes that has no unique key, before or behind the twins of equal key (of all, without
 /// key), or before the one on which the position stands.
@@ -45,4 +46,21 @@ pub struct SegType {
     pub backward: bool,
     pub last_pointer: bool,
     pub fields: Vec<Field>,
+}
+
+impl Model for SegType {
+    ghost use Rattle.hd_dbd.specs.Types.{SegmentType};
+
+    ghost Value = { SegmentType };
+
+    ghost view = { λ t. record {
+      name = t.name;
+      parent = t.parent;
+      length = t.length;
+      key = t.key;
+      rule = t.rule;
+      backward = t.backward;
+      last_pointer = t.last_pointer;
+      fields = t.fields.items;
+    } };
 }

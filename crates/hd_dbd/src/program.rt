@@ -19,11 +19,29 @@ pub struct Sens {
     pub procopt: Option<String>,
 }
 
+impl Model for Sens {
+    ghost use Rattle.std.specs.Prelude.{option_map, string_bytes};
+    ghost use Rattle.hd_dbd.specs.Types.{SeenType};
+
+    ghost Value = { SeenType };
+
+    ghost view = { λ s. record { name = s.name; parent = s.parent; procopt = option_map string_bytes s.procopt } };
+}
+
 /// PCB: one view of a database, with the PROCOPT of the types that have none of their own.
 #[derive(Debug, Drop)]
 pub struct Pcb {
     pub procopt: String,
     pub sens: Vec<Sens>,
+}
+
+impl Model for Pcb {
+    ghost use Rattle.std.specs.Prelude.{string_bytes};
+    ghost use Rattle.hd_dbd.specs.Types.{View};
+
+    ghost Value = { View };
+
+    ghost view = { λ p. record { procopt = string_bytes p.procopt; sens = p.sens.items } };
 }
 
 /// The name of a segment type, and the code of its parent.

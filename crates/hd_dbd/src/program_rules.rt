@@ -112,7 +112,7 @@ fn own_procopt_fits(pcb: &Pcb, sens: &Sens) -> bool
 
 /// Whether each SENSEG's own PROCOPT may stand beside the PCB's.
 fn own_procopts_fit(pcb: &Pcb) -> bool
-    ensures { result ≡ list_all (λ s. own_procopt_fits pcb.now s) pcb.now.sens.items }
+    ensures { result ≡ list_all (λ s. own_procopt_fits pcb.now s) pcb.now.sens }
 {
     pcb.sens.iter().all(|s| own_procopt_fits(pcb, s))
 }

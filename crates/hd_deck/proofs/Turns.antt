@@ -5,7 +5,7 @@ use Rattle.std.specs.Option.{option_map_or}
 use Rattle.std.specs.Io.KnownBytes.{Appends}
 use Rattle.std.proofs.lemmas.List.{append_assoc, append-nil, replicate_more, length-replicate, take_more, length-append, take-append-le, take-append-drop}
 use Rattle.std.proofs.Math.Seq.{take-append-add}
-use Rattle.hd_dbd.specs.declared.program.Pcb.{Pcb}
+use Rattle.hd_dbd.specs.Types.{View}
 use Rattle.hd_dbd.specs.Segment.{Segment}
 use Rattle.hd_dbd.specs.Calls.{Reply}
 use Rattle.hd_dbd.specs.Logs.{Entry}
@@ -51,22 +51,22 @@ appends_both (Some u) None c xs ys h k = absurd h
 appends_both (Some u) (Some v) None xs ys h k = absurd k
 appends_both (Some u) (Some v) (Some w) xs ys h k = k ∙ ap (λ (t : List ℕ). t ++ ys) h ∙ append_assoc u xs ys
 
-some_pcb : (pcbs : List Pcb) (i : ℕ) → i < length pcbs → (pcb : Pcb) × (slice_get pcbs i ≡ Some pcb)
+some_pcb : (pcbs : List View) (i : ℕ) → i < length pcbs → (pcb : View) × (slice_get pcbs i ≡ Some pcb)
 some_pcb [] i below = absurd (omega arith)
 some_pcb (p ∷ ps) zero below = (p, refl)
 some_pcb (p ∷ ps) (suc i) below = some_pcb ps i (omega arith)
 
-one_entry_by : (s : Session) (t : Turn) (o : Option (Reply × Session)) (pcb : Pcb) → call_step s t.pcb t.call ≡ o → slice_get s.pcbs (t.pcb - 1) ≡ Some pcb → length (option_to_list (option_map (entry_of s t) o)) ≡ 1
+one_entry_by : (s : Session) (t : Turn) (o : Option (Reply × Session)) (pcb : View) → call_step s t.pcb t.call ≡ o → slice_get s.pcbs (t.pcb - 1) ≡ Some pcb → length (option_to_list (option_map (entry_of s t) o)) ≡ 1
 one_entry_by s t None pcb is there = cc
 one_entry_by s t (Some r) pcb is there = refl
 
 -- a call of a PCB that is there gives one entry
 pub one_entry : (s : Session) (t : Turn) → 0 < t.pcb → t.pcb ≤ length s.pcbs → length (option_to_list (option_map (entry_of s t) (call_step s t.pcb t.call))) ≡ 1
 one_entry s t low high =
-    let there : (pcb : Pcb) × (slice_get s.pcbs (t.pcb - 1) ≡ Some pcb) = some_pcb s.pcbs (t.pcb - 1) (omega arith) in
+    let there : (pcb : View) × (slice_get s.pcbs (t.pcb - 1) ≡ Some pcb) = some_pcb s.pcbs (t.pcb - 1) (omega arith) in
     one_entry_by s t (call_step s t.pcb t.call) there.0 refl there.1
 
-pcbs_kept : (s : Session) (t : Turn) (o : Option Pcb)
+pcbs_kept : (s : Session) (t : Turn) (o : Option View)
     → (option_map_or (λ r. r.1) (option_map (λ pcb. stepped s t.pcb (row_step (record { types = s.types; pcb = pcb }) s.rows (position_at s t.pcb) t.call)) o) s).pcbs ≡ s.pcbs
 pcbs_kept s t None = refl
 pcbs_kept s t (Some pcb) = refl
@@ -83,7 +83,7 @@ entries_count s (suc k) t low high =
       arith,
       length-append (option_to_list (option_map (entry_of s t) (call_step s t.pcb t.call))) (entries_of (after_turn s t) (replicate k t)),
       one_entry s t low high,
-      entries_count (after_turn s t) k t low (omega (arith, ap (λ (ps : List Pcb). length ps) (after_turn_pcbs s t))),
+      entries_count (after_turn s t) k t low (omega (arith, ap (λ (ps : List View). length ps) (after_turn_pcbs s t))),
     )
 
 -- one more call

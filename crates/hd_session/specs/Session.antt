@@ -1,15 +1,15 @@
 -- A session over a plain list of rows: what stays the same, the rows, and the position of each PCB.
 use Rattle.std.specs.Prelude.{ℕ, ◌-◌, List, Option, option_map, slice_get, slice_index_or, slice_set}
-use Rattle.hd_dbd.specs.declared.hierarchy.SegType.{SegType}
-use Rattle.hd_dbd.specs.declared.program.Pcb.{Pcb}
+use Rattle.hd_dbd.specs.Types.{SegmentType}
+use Rattle.hd_dbd.specs.Types.{View}
 use Rattle.hd_dbd.specs.Segment.{Segment}
 use Rattle.hd_dbd.specs.Positions.{Position, at_start}
 use Rattle.hd_dbd.specs.Calls.{Reply, CallText}
 use Rattle.hd_session.specs.RowCalls.{row_step}
 
 pub record Session : Type 0 where
-  pub types : List SegType
-  pub pcbs : List Pcb
+  pub types : List SegmentType
+  pub pcbs : List View
   pub rows : List Segment
   pub positions : List Position
 

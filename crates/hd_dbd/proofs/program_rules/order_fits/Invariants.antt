@@ -4,4 +4,4 @@ use Rattle.hd_dbd.proofs.program_rules.order_fits.Given as goal
 
 -- what is left of the list gives the answer of all of it
 abbrev pub invariant-loop-sens : goal.invariant-loop-sens
-invariant-loop-sens l = ascends_from l.names l.last (drop l.sens-index l.pcb.sens.items) ≡ order_fits l.names l.pcb
+invariant-loop-sens l = ascends_from l.names l.last (drop l.sens-index l.pcb.sens) ≡ order_fits l.names l.pcb

@@ -2,7 +2,7 @@ use Rattle.std.proofs.Common.{◌≡◌, ℕ, ◌+◌, List, ◌++◌, length, t
 use Rattle.std.specs.Io.KnownBytes.{Appends}
 use Rattle.std.proofs.lemmas.Result.{err_from_is_err_and}
 use Rattle.std.proofs.lemmas.List.{length-append}
-use Rattle.hd_dbd.specs.declared.program.Pcb.{Pcb}
+use Rattle.hd_dbd.specs.Types.{View}
 use Rattle.hd_dbd.specs.Segment.{Segment}
 use Rattle.hd_dbd.specs.Logs.{Entry}
 use Rattle.hd_session.specs.Session.{Session}
@@ -25,7 +25,7 @@ loop-step-preserved g c =
     let number : c.loop-step.made + 1 ≡ 1 + c.loop-step.made = omega arith in
     let repeats : c.from-made.result ≡ s.repeat = c.from-made.ensures ∙ ap (λ (r : StepText). r.repeat) c.step.view_is in
     let count : length (entries_of middle (step_turns s)) ≡ s.repeat =
-    entries_count middle s.repeat (record { pcb = s.pcb; call = s.call }) fits.some_pcb (omega (arith, fits.known_pcb, ap (λ (ps : List Pcb). length ps) c.loop-step.invariant.pcbs)) in
+    entries_count middle s.repeat (record { pcb = s.pcb; call = s.call }) fits.some_pcb (omega (arith, fits.known_pcb, ap (λ (ps : List View). length ps) c.loop-step.invariant.pcbs)) in
     let whole : entries_of old (turns_of (take (i + 1) steps)) ≡ entries_of old front ++ entries_of middle (step_turns s) =
     ap (λ (ts : List Turn). entries_of old ts) more ∙ entries_of_append old front (step_turns s)
     ∙ ap (λ (q : Session). entries_of old front ++ entries_of q (step_turns s)) (sym c.loop-step.invariant.after) in
