@@ -36,8 +36,8 @@ impl<'a> Model for Parts<'a> {
 }
 
 impl<'a> Parts<'a> {
-    /// All parts of a block.
-    pub(crate) fn new(bytes: &'a [u8], sizes: &'a [u16]) -> Parts<'a>
+    /// All parts of these bytes, of 8 to 32,768, with the bytes that the segments of each type take, by code.
+    pub fn new(bytes: &'a [u8], sizes: &'a [u16]) -> Parts<'a>
         requires { (8 ≤ length bytes.now) × (length bytes.now ≤ 32768) }
         ensures { result ≡ parts_in (slice_index sizes.now) bytes.now }
     {
