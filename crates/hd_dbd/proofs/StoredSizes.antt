@@ -25,10 +25,15 @@ none-past types c past =
 
 -- the table has each type's, and 0 where there is no type
 pub stored_sizes-at : (types : List SegmentType) (c : ℕ) → slice_index (stored_sizes types) c ≡ stored_size types c
-stored_sizes-at types c =
-    elim (cases_lt c (length types + 1)) [
-      | inl l ↦ get_or_from_slice_get (stored_sizes types) c (stored_size types (0 + c)) 0 (slice_get-table_from (stored_size types) 0 (length types + 1) c l) ∙ ap (stored_size types) (omega arith)
-      | inr l ↦ get_or_past (stored_sizes types) c 0 (omega (arith, length-table_from (stored_size types) 0 (length types + 1))) ∙ sym (none-past types c (omega arith))
+stored_sizes-at types zero = refl
+stored_sizes-at types (suc i) =
+    elim (cases_lt i (length types)) [
+      | inl l ↦
+          get_or_from_slice_get (table_from (stored_size types) 1 (length types)) i (stored_size types (1 + i)) 0 (slice_get-table_from (stored_size types) 1 (length types) i l)
+          ∙ ap (stored_size types) (let e : 1 + i ≡ suc i = omega arith in e)
+      | inr l ↦
+          get_or_past (table_from (stored_size types) 1 (length types)) i 0 (omega (arith, length-table_from (stored_size types) 1 (length types)))
+          ∙ sym (none-past types (suc i) (omega arith))
     ]
 
 size-of : (types : List SegmentType) (c n : ℕ) (o : Option SegmentType) → type_of types c ≡ o → ((t : SegmentType) → o ≡ Some t → stored_size types c + 8 ≤ n) → 8 ≤ n → stored_size types c + 8 ≤ n

@@ -23,4 +23,4 @@ children_lists types = table_from (children_of types) 1 (length types)
 
 -- the bytes that the segments of each type take in a block, by code; none of code 0
 abbrev pub stored_sizes : List SegmentType → List ℕ
-stored_sizes types = table_from (stored_size types) 0 (length types + 1)
+stored_sizes types = 0 ∷ table_from (stored_size types) 1 (length types)

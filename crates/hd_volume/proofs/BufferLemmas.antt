@@ -284,3 +284,12 @@ module _ {size : ℕ} {c : List ℕ} {head hand head' : Buffer} (k : Buffers siz
   image-head-written =
       ap (λ (t : List ℕ). put_in size t head') (unchanged-put size (put_in size c head) hand front-hand un)
       ∙ unchanged-put size (put_in size c head) head' head-written.at_front w.unchanged ∙ stored-image
+
+put-stands : (size n : ℕ) (c bytes : List ℕ) (holds : Bool) → (holds ≡ true → HasBlock size c n) → (holds ≡ true → block_of size c n ≡ bytes) → cond holds (with_block size c n bytes) c ≡ c
+put-stands size n c bytes true there same = rw (← same refl) (with-own size n c (there refl))
+put-stands size n c bytes false there same = refl
+
+-- where the image stands in the store, so does the block in hand
+pub hand-stands : {size : ℕ} {c : List ℕ} {head hand : Buffer} → Buffers size c head hand → c ≡ image_of size c head hand → put_in size c hand ≡ c
+hand-stands {size} {c} {head} {hand} k same =
+    put-stands size hand.number c hand.bytes.items hand.holds k.are.in_hand.there (λ holds. ap (λ (t : List ℕ). block_of size t hand.number) same ∙ image-hand k holds)

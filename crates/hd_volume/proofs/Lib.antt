@@ -1,1 +1,4 @@
 pub mod BufferLemmas
+pub mod ExtentLemmas
+pub mod MapLemmas
+pub mod SpaceLemmas

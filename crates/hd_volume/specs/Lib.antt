@@ -7,6 +7,9 @@ pub mod Volumes
 pub mod Records
 pub mod Entries
 pub mod Rooms
+pub mod Spaces
+pub mod Calls
+pub mod Lends
 pub mod Memory
 pub mod Fuses
 pub mod Files

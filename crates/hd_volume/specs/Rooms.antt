@@ -11,10 +11,14 @@ use Rattle.hd_volume.specs.Volumes.{VolumeState, block_at, kind_of, IsKind}
 abbrev pub is_free : ℕ → List ℕ → ℕ → Bool
 is_free size image n = not (n == 0) && kind_of (block_of size image n) == 3
 
+-- 1 where it holds, else 0
+abbrev pub one_if : Bool → ℕ
+one_if holds = cond holds 1 0
+
 -- how many of the first n blocks are free
 abbrev pub free_below : ℕ → List ℕ → ℕ → ℕ
 free_below size image zero = 0
-free_below size image (suc n) = free_below size image n + cond (is_free size image n) 1 0
+free_below size image (suc n) = free_below size image n + one_if (is_free size image n)
 
 -- the blocks to spare: those by which the volume may still grow, and the free ones
 abbrev pub spare : VolumeState → ℕ

@@ -108,6 +108,7 @@ impl<S: BlockStore> Blocks<S> {
     pub fn fetch(&mut self, n: u32) -> Result<(), Refused>
         requires there { IsTrue self.old.is_sound → (0 < n) × HasBlock self.old.size self.old.image n }
         ensures image { OnOk result (IsTrue self.old.is_sound → self.new.image ≡ self.old.image) }
+        ensures stands { OnOk result (IsTrue self.old.is_sound → self.old.stored ≡ self.old.image → self.new.stored ≡ self.old.image) }
         ensures hand { OnOk result (self.new.hand ≡ n) }
         ensures first { OnOk result (IsTrue self.old.is_sound → KeepsFirst self.old.size self.old.stored self.new.stored) }
         ensures refusal { IfErr result (λ e. e ≡ Refused.Device) }
@@ -116,13 +117,15 @@ impl<S: BlockStore> Blocks<S> {
         ensures size { self.new.size ≡ self.old.size }
         ensures room { self.new.room ≡ self.old.room }
     {
-        bring(&mut self.store, &mut self.hand, n)
+        bring(&mut self.store, &mut self.hand, n)?;
+        Ok(())
     }
 
     /// The bytes of the block in hand.
     pub fn hand(&self) -> &[u8]
         ensures value { IsTrue self.now.is_sound → 0 < self.now.hand → result.now ≡ block_of self.now.size self.now.image self.now.hand }
         ensures len { length result.now ≡ self.now.size }
+        ensures small { length result.now ≤ 32768 }
     {
         &self.hand.bytes
     }

@@ -46,6 +46,7 @@ pub fn bring<S: BlockStore>(store: &mut S, buffer: &mut Buffer, n: u32) -> Resul
     ensures contents { OnOk result (IsTrue (S.is_sound store.old) → put_in (S.size store.old) (S.contents store.new) buffer.new ≡ put_in (S.size store.old) (S.contents store.old) buffer.old) }
     ensures length { OnOk result (IsTrue (S.is_sound store.old) → length (S.contents store.new) ≡ length (S.contents store.old)) }
     ensures first { OnOk result (IsTrue (S.is_sound store.old) → HasBlock (S.size store.old) (S.contents store.old) 0 → (buffer.old.holds ≡ true → buffer.old.number ≢ 0) → block_of (S.size store.old) (S.contents store.new) 0 ≡ block_of (S.size store.old) (S.contents store.old) 0) }
+    ensures stands { OnOk result (IsTrue (S.is_sound store.old) → put_in (S.size store.old) (S.contents store.old) buffer.old ≡ S.contents store.old → S.contents store.new ≡ S.contents store.old) }
     ensures ready { OnOk result (IsTrue (S.is_sound store.old) → IsBuffer (S.size store.old) (S.contents store.new) buffer.new) }
     ensures holds { OnOk result ((buffer.new.holds ≡ true) × (buffer.new.number ≡ n)) }
     ensures len { vec_len buffer.new.bytes ≡ S.size store.old }

@@ -5,13 +5,17 @@ mod blocks;
 mod buffer;
 mod file;
 mod fuse;
+mod load;
 mod memory;
+mod space;
 mod store;
+mod volume;
 
 pub use file::FileStore;
 pub use fuse::FuseStore;
 pub use memory::MemStore;
 pub use store::BlockStore;
+pub use volume::Volume;
 
 #[cfg(test)]
 mod tests;

@@ -1,0 +1,67 @@
+ghost use Rattle.std.specs.Prelude.{◌≡◌, ◌≤◌, length, slice_index};
+ghost use Rattle.hd_block.specs.Walk.{parts_in};
+ghost use Rattle.hd_volume.specs.Rooms.{largest_hole};
+ghost use Rattle.hd_volume.specs.Spaces.{IsContent};
+
+use hd_block::{Part, Parts};
+
+/// The kind of a data block.
+pub const DATA: u8 = 1;
+
+/// The kind of an index block.
+pub const INDEX: u8 = 2;
+
+/// The kind of a free block.
+pub const FREE: u8 = 3;
+
+/// What is kept of a block: its kind, and a length that no hole of it exceeds, which says something of a data block alone.
+#[derive(Clone, Copy)]
+pub struct Content {
+    pub kind: u8,
+    pub hole: u16,
+}
+
+/// What a volume keeps of its blocks, so that no block is read in vain: each one's content, block 0 left aside; by code
+/// the lowest data block that may have a hole of the type's size; how many blocks are free, and the lowest that may be.
+#[derive(Drop)]
+pub struct Space {
+    pub contents: Vec<Content>,
+    pub lowest: Vec<u32>,
+    pub free: u32,
+    pub lowest_free: u32,
+}
+
+/// The bytes that a segment with a code takes; 0 where there is no type.
+pub fn size_of(sizes: &[u16], code: u8) -> u16
+    ensures { result ≡ slice_index sizes.now code }
+{
+    sizes.get(code as usize).copied().unwrap_or(0)
+}
+
+/// The length of the largest hole of a block.
+pub fn largest_hole(bytes: &[u8], sizes: &[u16]) -> u16
+    requires { (8 ≤ length bytes.now) × (length bytes.now ≤ 32768) }
+    ensures { result ≡ largest_hole (parts_in (slice_index sizes.now) bytes.now) }
+{
+    let mut largest = 0;
+    for part in Parts::new(bytes, sizes) {
+        if let Part::Free(_, len) = part {
+            largest = largest.max(len);
+        }
+    }
+    largest
+}
+
+/// What is kept of a block with these bytes.
+pub fn content_of(bytes: &[u8], sizes: &[u16]) -> Content
+    requires { (8 ≤ length bytes.now) × (length bytes.now ≤ 32768) }
+    ensures { IsContent (slice_index sizes.now) bytes.now result }
+{
+    let kind = bytes[2];
+    let hole = if kind == DATA {
+        largest_hole(bytes, sizes)
+    } else {
+        0
+    };
+    Content { kind, hole }
+}
