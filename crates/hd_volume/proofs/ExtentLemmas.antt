@@ -92,3 +92,22 @@ module _ (sizes : ℕ → ℕ) (b : List ℕ) (xs : List Extent) (divides : IsDi
 
   pub segment-none : (q : ℕ) → ((n : ℕ) → UsedAt 8 xs q n → ⊥) → segment_in sizes b q ≡ None
   segment-none q h = ap (λ parts. option_map (λ m. bytes_at b q m) (used_at parts q)) parts-are ∙ ap (option_map (λ m. bytes_at b q m)) (not-found 8 xs q h)
+
+same-by : (sizes : ℕ → ℕ) (b b' : List ℕ) (xs ys : List Extent) (h : IsDivided sizes b xs) (k : IsDivided sizes b' ys) (w : AreWhole xs) (z : AreWhole ys) (q : ℕ) (o : Option ℕ)
+    → used_at (parts_of 8 xs) q ≡ o → ((n : ℕ) → UsedAt 8 xs q n → UsedAt 8 ys q n × AgreeOn q n b b') → ((n : ℕ) → UsedAt 8 ys q n → UsedAt 8 xs q n)
+    → segment_in sizes b' q ≡ segment_in sizes b q
+same-by sizes b b' xs ys h k w z q (Some n) is on back =
+    let u = found-used 8 xs q n is in
+    let v = on n u in
+    let i = used-is sizes b 8 _ xs q n h u in
+    let j = used-is sizes b' 8 _ ys q n k v.0 in
+    segment-is sizes b' ys k z q n v.0 ∙ ap (λ (t : List ℕ). Some t) (sym (agree-bytes_at q n b b' i.within j.within v.1)) ∙ sym (segment-is sizes b xs h w q n u)
+same-by sizes b b' xs ys h k w z q None is on back =
+    let none = λ (n : ℕ) (u : UsedAt 8 xs q n). (let found : ◌≡◌ {A = Option ℕ} None (Some n) = sym is ∙ used-found sizes b 8 _ xs q n h u in let f : ⊥ = cc in f) in
+    segment-none sizes b' ys k z q (λ n v. none n (back n v)) ∙ sym (segment-none sizes b xs h w q none)
+
+-- where two blocks have the same segment at a place, with the same bytes, or none
+pub segment-same : (sizes : ℕ → ℕ) (b b' : List ℕ) (xs ys : List Extent) → IsDivided sizes b xs → IsDivided sizes b' ys → AreWhole xs → AreWhole ys → (q : ℕ)
+    → ((n : ℕ) → UsedAt 8 xs q n → UsedAt 8 ys q n × AgreeOn q n b b') → ((n : ℕ) → UsedAt 8 ys q n → UsedAt 8 xs q n)
+    → segment_in sizes b' q ≡ segment_in sizes b q
+segment-same sizes b b' xs ys h k w z q on back = same-by sizes b b' xs ys h k w z q (used_at (parts_of 8 xs) q) refl on back

@@ -5,7 +5,9 @@ use Rattle.std.proofs.lemmas.Nat.{row_fits}
 use Rattle.std.proofs.lemmas.List.{get_or_append_left, get_or-append-add}
 use Rattle.hd_block.specs.Walk.{parts_in}
 use Rattle.hd_bytes.specs.Blocks.{block_of, HasBlock}
-use Rattle.hd_bytes.proofs.BlockLemmas.{place-of}
+use Rattle.hd_bytes.specs.Numbers.{number_at}
+use Rattle.hd_bytes.proofs.BlockLemmas.{place-of, byte-in-block}
+use Rattle.hd_bytes.proofs.NumberLemmas.{number-same}
 use Rattle.hd_volume.specs.declared.space.Content.{Content}
 use Rattle.hd_volume.specs.Volumes.{VolumeState, block_at, kind_of, IsKind}
 use Rattle.hd_volume.specs.Rooms.{is_free, one_if, free_below, largest_hole}
@@ -50,3 +52,8 @@ content-before xs x d m below = get_or_append_left xs (x ∷ []) d m below
 
 pub content-last : (xs : List Content) (x d : Content) (m : ℕ) → m ≡ length xs → slice_index_or (xs ++ x ∷ []) m d ≡ x
 content-last xs x d m is = let at : m ≡ length xs + 0 = omega arith in rw at (get_or-append-add xs (x ∷ []) 0 d)
+
+-- the numbers of block 0 are those of the image
+pub number-in-first : (size k p : ℕ) (image : List ℕ) → HasBlock size image 0 → p + k ≤ size → number_at k (block_of size image 0) p ≡ number_at k image p
+number-in-first size k p image there fits =
+    number-same k p (block_of size image 0) image (λ j low high. byte-in-block size 0 j image there (omega arith) ∙ ap (slice_index image) (let e : 0 * size + j ≡ j = omega arith in e))

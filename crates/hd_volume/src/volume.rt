@@ -2,7 +2,9 @@ ghost use Rattle.std.specs.Prelude.{◌≡◌, ◌+◌, ◌≤◌, ◌<◌, true
 ghost use Rattle.hd_bytes.specs.Blocks.{block_of, HasBlock};
 ghost use Rattle.hd_dbd.specs.Facts.{stored_sizes};
 ghost use Rattle.hd_volume.specs.Stores.{CountsDevice, StaysSound, IsGivenBack};
-ghost use Rattle.hd_volume.specs.Volumes.{IsFormatted};
+ghost use Rattle.hd_bytes.specs.Numbers.{number_at};
+ghost use Rattle.hd_volume.specs.Headers.{header_of};
+ghost use Rattle.hd_volume.specs.Volumes.{IsFormatted, block_at};
 ghost use Rattle.hd_volume.specs.Records.{find};
 ghost use Rattle.hd_volume.specs.Calls.{IsCall, IsRead, HasSegment, IsWritten};
 
@@ -10,9 +12,19 @@ use crate::blocks::Blocks;
 use crate::load::{size_table, survey};
 use crate::space::{Space, size_of};
 use crate::store::BlockStore;
+use hd_bytes::read_u32;
 use hd_dbd::{Dbd, Refused};
 use std::alloc::Global;
 use std::marker::Model;
+
+/// Where the header has its numbers of four bytes.
+const FIRST_ROOT: usize = 28;
+
+const LAST_ROOT: usize = 32;
+
+const TOP: usize = 36;
+
+const HEIGHT: usize = 40;
 
 /// A volume over a store: a finite map from addresses to segments, and blocks for an index.
 ///
@@ -80,6 +92,112 @@ impl<S: BlockStore> Volume<S> {
         let end = segment_end(self.blocks.hand(), &self.sizes, at);
         Ok(&self.blocks.hand()[at..end])
     }
+
+    /// Writes bytes into the segment at an address, from an offset past its code on.
+    pub fn write_at(&mut self, address: u32, offset: usize, bytes: &[u8]) -> Result<(), Refused>
+        requires formatted { IsTrue self.old.is_sound → IsFormatted self.old }
+        requires past_code { 0 < offset }
+        requires there { IsTrue self.old.is_sound → HasSegment self.old address (offset + length bytes.now) }
+        ensures call { IsCall self.old result self.new }
+        ensures written { OnOk result (IsTrue self.old.is_sound → IsWritten self.old address offset bytes.now self.new) }
+        ensures refusal { IfErr result (λ e. e ≡ Refused.Device) }
+        ensures room { self.new.room ≡ self.old.room }
+    {
+        let size = self.blocks.block_size();
+        let at = address as usize % size;
+        self.blocks.fetch(address / size as u32)?;
+        if offset > size - at || bytes.len() > size - at - offset {
+            return Ok(());
+        }
+        self.blocks.write_hand(at + offset, bytes);
+        Ok(())
+    }
+
+    /// The bytes of a block.
+    pub fn block(&mut self, n: u32) -> Result<&[u8], Refused>
+        requires there { IsTrue self.old.is_sound → HasBlock self.old.size self.old.image n }
+        ensures value { IfOk result (λ r. IsTrue self.old.is_sound → r.now ≡ block_at self.old n) }
+        ensures* after { sem 𝓛 (Rests S.row S.BlockStore self.entry (λ new. IsRead self.old result new)) }
+        ensures refusal { IfErr result (λ e. e ≡ Refused.Device) }
+    {
+        if n == 0 {
+            return Ok(self.blocks.head());
+        }
+        self.blocks.fetch(n)?;
+        Ok(self.blocks.hand())
+    }
+
+    /// All bytes, which need be no whole number of blocks.
+    pub fn length(&self) -> u64
+        ensures { IsTrue self.now.is_sound → result ≡ length self.now.image }
+    {
+        self.blocks.length()
+    }
+
+    /// The address of the first root, 0 for none.
+    pub fn first_root(&self) -> u32
+        ensures { IsTrue self.now.is_sound → HasBlock self.now.size self.now.image 0 → result ≡ (header_of self.now.image).first_root }
+    {
+        head_number(&self.blocks, FIRST_ROOT)
+    }
+
+    /// The address of the last root, 0 for none.
+    pub fn last_root(&self) -> u32
+        ensures { IsTrue self.now.is_sound → HasBlock self.now.size self.now.image 0 → result ≡ (header_of self.now.image).last_root }
+    {
+        head_number(&self.blocks, LAST_ROOT)
+    }
+
+    /// The number of the top index block, 0 for none.
+    pub fn top(&self) -> u32
+        ensures { IsTrue self.now.is_sound → HasBlock self.now.size self.now.image 0 → result ≡ (header_of self.now.image).top }
+    {
+        head_number(&self.blocks, TOP)
+    }
+
+    /// The height of the index, 0 for none.
+    pub fn height(&self) -> u32
+        ensures { IsTrue self.now.is_sound → HasBlock self.now.size self.now.image 0 → result ≡ (header_of self.now.image).height }
+    {
+        head_number(&self.blocks, HEIGHT)
+    }
+
+    /// Finds memory for so many calls of `put` and `take_block`. `Memory` leaves all as it was.
+    pub fn reserve(&mut self, blocks: u32) -> Result<(), Refused>
+        ensures call { IsCall self.old result self.new }
+        ensures room { OnOk result (blocks ≤ self.new.room) }
+        ensures no_less { self.old.room ≤ self.new.room }
+        ensures image { IsTrue self.new.is_sound → (self.new.image ≡ self.old.image) × (self.new.stored ≡ self.old.stored) }
+        ensures refusal { IfErr result (λ e. e ≡ Refused.Memory) }
+    {
+        if self.space.contents.reserve(blocks as usize).is_err() {
+            return Err(Refused::Memory);
+        }
+        self.blocks.reserve(blocks)
+    }
+
+    /// Writes what is changed to the store, block 0 after all others.
+    pub fn flush(&mut self) -> Result<(), Refused>
+        ensures image { OnOk result (IsTrue self.old.is_sound → (self.new.image ≡ self.old.image) × (self.new.stored ≡ self.old.image)) }
+        ensures refusal { IfErr result (λ e. e ≡ Refused.Device) }
+        ensures counts { CountsDevice result self.old.failures self.new.failures }
+        ensures sound { StaysSound result self.old.is_sound self.new.is_sound }
+        ensures size { self.new.size ≡ self.old.size }
+        ensures sizes { self.new.sizes ≡ self.old.sizes }
+        ensures room { self.new.room ≡ self.old.room }
+    {
+        self.blocks.flush()
+    }
+
+    /// The store as it stands; what is not flushed is lost.
+    pub fn into_store(self) -> S
+        ensures contents { S.contents result ≡ self.stored }
+        ensures sound { S.is_sound result ≡ self.is_sound }
+        ensures failures { S.failures result ≡ self.failures }
+        ensures size { S.size result ≡ self.size }
+    {
+        self.blocks.into_store()
+    }
 }
 
 /// Where the segment at a place of a block ends, at most at the end of the block.
@@ -89,4 +207,12 @@ fn segment_end(block: &[u8], sizes: &[u16], at: usize) -> usize
 {
     let len = size_of(sizes, block[at]) as usize;
     (at + len).min(block.len())
+}
+
+/// The number of four bytes at a place of block 0.
+fn head_number<S: BlockStore>(blocks: &Blocks<S>, place: usize) -> u32
+    requires { place + 4 ≤ blocks.now.size }
+    ensures { IsTrue blocks.now.is_sound → HasBlock blocks.now.size blocks.now.image 0 → result ≡ number_at 4 blocks.now.image place }
+{
+    read_u32(blocks.head(), place)
 }
