@@ -68,7 +68,8 @@ pub record HasChanged (v w : VolumeState) (n : ℕ) : Type 0 where
   pub same : AreSame v w
   pub change : ChangesBlock v.size n v.image w.image
 
-free-same : (size : ℕ) (a b : List ℕ) (n : ℕ) → ((m : ℕ) → m ≢ 0 → kind_of (block_of size b m) ≡ kind_of (block_of size a m)) → free_below size b n ≡ free_below size a n
+-- where all kinds stay, so does the number of free blocks
+pub free-same : (size : ℕ) (a b : List ℕ) (n : ℕ) → ((m : ℕ) → m ≢ 0 → kind_of (block_of size b m) ≡ kind_of (block_of size a m)) → free_below size b n ≡ free_below size a n
 free-same size a b zero h = refl
 free-same size a b (suc n) h =
     let one : one_if (is_free size b n) ≡ one_if (is_free size a n) =

@@ -1,4 +1,5 @@
-ghost use Rattle.std.specs.Prelude.{◌≡◌, ◌≤◌, length, slice_index};
+ghost use Rattle.std.specs.Prelude.{◌≡◌, ◌≤◌, ℕ, length, slice_index, slice_set, vec_len};
+ghost use Rattle.std.specs.Vec.{vec_capacity};
 ghost use Rattle.hd_block.specs.Walk.{parts_in};
 ghost use Rattle.hd_volume.specs.Rooms.{largest_hole};
 ghost use Rattle.hd_volume.specs.Spaces.{IsContent};
@@ -64,4 +65,44 @@ pub fn content_of(bytes: &[u8], sizes: &[u16]) -> Content
         0
     };
     Content { kind, hole }
+}
+
+/// Notes another content of a block.
+pub fn set_content(space: &mut Space, n: u32, content: Content)
+    ensures contents { space.new.contents.items ≡ slice_set space.old.contents.items n content }
+    ensures len { vec_len space.new.contents ≡ vec_len space.old.contents }
+    ensures capacity { vec_capacity space.new.contents ≡ vec_capacity space.old.contents }
+    ensures lowest { space.new.lowest ≡ space.old.lowest }
+    ensures free { space.new.free ≡ space.old.free }
+    ensures lowest_free { space.new.lowest_free ≡ space.old.lowest_free }
+{
+    let n = n as usize;
+    if n < space.contents.len() {
+        space.contents[n] = content;
+    }
+}
+
+/// Makes each number at most n.
+fn lower(numbers: &mut Vec<u32>, n: u32)
+    ensures len { vec_len numbers.new ≡ vec_len numbers.old }
+    ensures lower { (c : ℕ) → (slice_index numbers.new.items c ≤ slice_index numbers.old.items c) × (slice_index numbers.new.items c ≤ n) }
+{
+    for number in numbers.iter_mut() {
+        if *number > n {
+            *number = n;
+        }
+    }
+}
+
+/// Notes that a data block may have a hole of so many bytes.
+pub fn open_block(space: &mut Space, n: u32, hole: u16)
+    ensures contents { space.new.contents.items ≡ slice_set space.old.contents.items n (record { kind = 1; hole = hole }) }
+    ensures len { vec_len space.new.contents ≡ vec_len space.old.contents }
+    ensures capacity { vec_capacity space.new.contents ≡ vec_capacity space.old.contents }
+    ensures lowest { (c : ℕ) → (slice_index space.new.lowest.items c ≤ slice_index space.old.lowest.items c) × (slice_index space.new.lowest.items c ≤ n) }
+    ensures free { space.new.free ≡ space.old.free }
+    ensures lowest_free { space.new.lowest_free ≡ space.old.lowest_free }
+{
+    set_content(space, n, Content { kind: DATA, hole });
+    lower(&mut space.lowest, n);
 }

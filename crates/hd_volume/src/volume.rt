@@ -6,11 +6,11 @@ ghost use Rattle.hd_bytes.specs.Numbers.{number_at};
 ghost use Rattle.hd_volume.specs.Headers.{header_of};
 ghost use Rattle.hd_volume.specs.Volumes.{IsFormatted, block_at};
 ghost use Rattle.hd_volume.specs.Records.{find};
-ghost use Rattle.hd_volume.specs.Calls.{IsCall, IsRead, HasSegment, IsWritten};
+ghost use Rattle.hd_volume.specs.Calls.{IsCall, IsRead, HasSegment, IsWritten, IsFreed};
 
 use crate::blocks::Blocks;
 use crate::load::{size_table, survey};
-use crate::space::{Space, size_of};
+use crate::space::{Space, open_block, size_of};
 use crate::store::BlockStore;
 use hd_bytes::read_u32;
 use hd_dbd::{Dbd, Refused};
@@ -113,6 +113,28 @@ impl<S: BlockStore> Volume<S> {
         Ok(())
     }
 
+    /// Frees the segment at an address. A data block that becomes empty stays one.
+    pub fn free(&mut self, address: u32) -> Result<(), Refused>
+        requires formatted { IsTrue self.old.is_sound → IsFormatted self.old }
+        requires there { IsTrue self.old.is_sound → HasSegment self.old address 0 }
+        ensures call { IsCall self.old result self.new }
+        ensures freed { OnOk result (IsTrue self.old.is_sound → IsFreed self.old address self.new) }
+        ensures refusal { IfErr result (λ e. e ≡ Refused.Device) }
+        ensures room { self.new.room ≡ self.old.room }
+    {
+        let size = self.blocks.block_size();
+        let n = address / size as u32;
+        let at = address as usize % size;
+        self.blocks.fetch(n)?;
+        let len = segment_length(self.blocks.hand(), &self.sizes, at);
+        if at < 8 || len < 8 || len as usize > size - at {
+            return Ok(());
+        }
+        self.blocks.give(&self.sizes, at as u16, len);
+        open_block(&mut self.space, n, size as u16);
+        Ok(())
+    }
+
     /// The bytes of a block.
     pub fn block(&mut self, n: u32) -> Result<&[u8], Refused>
         requires there { IsTrue self.old.is_sound → HasBlock self.old.size self.old.image n }
@@ -198,6 +220,14 @@ impl<S: BlockStore> Volume<S> {
     {
         self.blocks.into_store()
     }
+}
+
+/// The bytes of the segment at a place of a block, as its code says.
+fn segment_length(block: &[u8], sizes: &[u16], at: usize) -> u16
+    requires { at < length block.now }
+    ensures { result ≡ slice_index sizes.now (slice_index block.now at) }
+{
+    size_of(sizes, block[at])
 }
 
 /// Where the segment at a place of a block ends, at most at the end of the block.

@@ -10,7 +10,7 @@ use Rattle.hd_volume.specs.Calls.{IsWritten, HasSegment}
 use Rattle.hd_volume.specs.Spaces.{volume_of, room_for, IsSpaceOf}
 use Rattle.hd_volume.proofs.MapLemmas.{find-there}
 use Rattle.hd_volume.proofs.FrameLemmas.{HasChanged}
-use Rattle.hd_volume.proofs.CallLemmas.{write-writes, write-space, changed-by, segment-within}
+use Rattle.hd_volume.proofs.CallLemmas.{write-writes, write-space, changed-by, segment-within, free-space}
 use Rattle.hd_volume.proofs.volume.Volume.write_at.Goals as goal
 use Rattle.hd_volume.proofs.volume.Volume.write_at.Goals.{then-offset-size-via-then-offset-size, then-offset-size-via-else-offset-size+then-bytes-size}
 
