@@ -1,6 +1,8 @@
 -- What the calls on segments do to a volume.
 use Rattle.std.proofs.Common.{◌≡◌, ◌≢◌, ◌⊎◌, inl, inr, ℕ, ◌+◌, ◌-◌, ◌*◌, ◌/◌, ◌%◌, ◌<◌, ◌≤◌, min, List, [], length, slice_index, slice_index_or, slice_set, vec_len, get_or-set_other, get_or-set_same, Option, Some, None, refl, sym, ap, ◌∙◌, arith, ne_eqb, subst}
-use Rattle.std.proofs.lemmas.Bool.{cases_eq, eq-eqb}
+use Rattle.std.proofs.lemmas.Bool.{cases_lt, cases_eq, eq-eqb}
+use Rattle.std.proofs.lemmas.List.{get_or_past}
+use Rattle.std.proofs.Math.ListN.{length-set}
 use Rattle.hd_bytes.specs.Ranges.{bytes_at, with_bytes, AgreeOn}
 use Rattle.hd_bytes.specs.Blocks.{block_of, HasBlock}
 use Rattle.hd_bytes.proofs.BlockLemmas.{place-of, length-block}
@@ -238,3 +240,68 @@ module _ (v w : VolumeState) (a : ℕ) (f : IsFormatted v) (h : HasSegment v a 0
       let len = length-block v.size (a / v.size) w.image (let t = freed-there.there in let l = c.change.len in omega arith) in
       let most = freed-in.most in
       opened-space v w (a / v.size) hole space new-space c f.header k o free-is lowest-is later freed-found.kind (freed-in.kind ∙ freed-found.kind) (looked-at v (a / v.size) f.header some freed-there.there) (omega arith)
+
+-- ---- seeking a hole
+
+-- what is kept stays true where the bound of a data block is made its largest hole
+pub mended-space : (size : ℕ) (sizes image : List ℕ) (space new : Space) (n hole : ℕ) → IsSpaceOf size sizes image space → new.contents.items ≡ slice_set space.contents.items n (record { kind = 1; hole = hole })
+    → vec_len new.contents ≡ vec_len space.contents → new.lowest ≡ space.lowest → new.free ≡ space.free → new.lowest_free ≡ space.lowest_free
+    → 0 < n → n < blocks_in size image → (content_at space n).kind ≡ 1 → hole ≡ largest_hole (parts_in (slice_index sizes) (block_of size image n)) → IsSpaceOf size sizes image new
+mended-space size sizes image space new n hole h contents len lowest free-is lowest-is some below is hole-is =
+    let x : Content = record { kind = 1; hole = hole } in
+    let low : n < vec_len space.contents = omega (arith, h.len) in
+    let old = h.contents n some below in
+    let own = content-own space new n x contents low in
+    let bound : largest_hole (parts_in (slice_index sizes) (block_of size image n)) ≤ (content_at space n).hole = old.bound is in
+    record {
+      len = len ∙ h.len;
+      contents = λ m more under. elim (cases_eq m n) [
+        | inl e ↦ (let P : ℕ → Type 0 = λ i. IsContent (slice_index sizes) (block_of size image i) (content_at new i) in
+            let R : Content → Type 0 = λ y. IsContent (slice_index sizes) (block_of size image n) y in
+            subst P (sym e) (subst R (sym own) (record { kind_is = sym is ∙ old.kind_is; bound = λ _. omega arith })))
+        | inr other ↦ (let R : Content → Type 0 = λ y. IsContent (slice_index sizes) (block_of size image m) y in
+            subst R (sym (content-other space new n m x contents other)) (h.contents m more under))
+      ];
+      lowest = λ k m more under beneath is-data.
+          let before : m < slice_index space.lowest.items k = rw lowest at under in
+          elim (cases_eq m n) [
+            | inl e ↦ (let P : ℕ → Type 0 = λ i. (content_at new i).hole < slice_index sizes k in
+                let Q : ℕ → Type 0 = λ i. i < slice_index space.lowest.items k in
+                let kept = h.lowest k n some (subst Q e before) below is in
+                let R : Content → Type 0 = λ y. y.hole < slice_index sizes k in
+                subst P (sym e) (subst R (sym own) (omega arith)))
+            | inr other ↦ (let same = content-other space new n m x contents other in rw same (h.lowest k m more before beneath (rw same at is-data)))
+          ];
+      free = free-is ∙ h.free;
+      lowest_free = λ m more under beneath three. h.lowest_free m more (rw lowest-is at under) beneath three;
+    }
+
+lowest-set : (xs : List ℕ) (code n c m : ℕ) → m < slice_index (slice_set xs code n) c → ((c ≡ code) × (m < n)) ⊎ (m < slice_index xs c)
+lowest-set xs code n c m h =
+    elim (cases_eq c code) [
+      | inr other ↦ inr (rw (get_or-set_other xs code c n 0 other) at h)
+      | inl same ↦ elim (cases_lt code (length xs)) [
+        | inl low ↦ (let at : m < slice_index (slice_set xs code n) code = rw same at h in inl (same, rw (get_or-set_same xs code n 0 low) at at))
+        | inr past ↦ (let none : slice_index (slice_set xs code n) c ≡ 0 = get_or_past (slice_set xs code n) c 0 (omega (arith, length-set xs code n)) in absurd (omega arith))
+      ]
+    ]
+
+-- what is kept stays true where a type's lowest block is made one below which no data block has a hole of its size
+pub lowest-space : (size : ℕ) (sizes image : List ℕ) (space new : Space) (code n : ℕ) → IsSpaceOf size sizes image space → new.contents ≡ space.contents → new.lowest.items ≡ slice_set space.lowest.items code n
+    → new.free ≡ space.free → new.lowest_free ≡ space.lowest_free
+    → ((m : ℕ) → 0 < m → m < n → m < blocks_in size image → (content_at space m).kind ≡ 1 → (content_at space m).hole < slice_index sizes code) → IsSpaceOf size sizes image new
+lowest-space size sizes image space new code n h contents lowest free-is lowest-is passed =
+    let same = λ (m : ℕ). (let e : content_at new m ≡ content_at space m = ap (λ v. slice_index_or v.items m (record { kind = 0; hole = 0 })) contents in e) in
+    record {
+      len = ap (λ v. vec_len v) contents ∙ h.len;
+      contents = λ m some below. rw (same m) (h.contents m some below);
+      lowest = λ k m some under beneath is-data.
+          let is-data' : (content_at space m).kind ≡ 1 = rw (same m) at is-data in
+          let kept : (content_at space m).hole < slice_index sizes k = elim (lowest-set space.lowest.items code n k m (rw lowest at under)) [
+            | inl e ↦ (let P : ℕ → Type 0 = λ i. (content_at space m).hole < slice_index sizes i in subst P (sym e.0) (passed m some e.1 beneath is-data'))
+            | inr before ↦ h.lowest k m some before beneath is-data'
+          ] in
+          rw (same m) kept;
+      free = free-is ∙ h.free;
+      lowest_free = λ m some under beneath three. h.lowest_free m some (rw lowest-is at under) beneath three;
+    }

@@ -1,6 +1,9 @@
 -- Blocks of a store in memory, and the image that they and the store make.
-use Rattle.std.specs.Prelude.{◌≡◌, ◌≢◌, ℕ, ◌<◌, ◌≤◌, Bool, true, false, cond, IsTrue, List, vec_len}
+use Rattle.std.specs.Prelude.{◌≡◌, ◌≢◌, ℕ, ◌<◌, ◌≤◌, Bool, true, false, cond, IsTrue, List, Result, vec_len}
 use Rattle.hd_bytes.specs.Blocks.{block_of, with_block, HasBlock}
+use Rattle.hd_dbd.specs.declared.answer.Refused.{Refused}
+use Rattle.hd_volume.specs.Stores.{CountsDevice, StaysSound}
+use Rattle.hd_volume.specs.Images.{KeepsFirst}
 use Rattle.hd_volume.specs.declared.buffer.Buffer.{Buffer}
 
 -- the bytes with a buffer's block put in, if it holds one
@@ -47,3 +50,14 @@ pub record AreKept (store_size : ℕ) (contents : List ℕ) (is_sound : Bool) (s
   pub hand_len : vec_len hand.bytes ≡ size
   pub head_number : head.number ≡ 0
   pub ready : IsTrue is_sound → AreBuffers size contents head hand
+
+-- A call that brings at most one block to hand, and changes nothing of the image; where the store has all of it, so it does
+-- afterwards.
+pub record IsFetch {T : Type 0} (old : Buffered) (result : Result T Refused) (new : Buffered) : Type 0 where
+  pub counts : CountsDevice result old.failures new.failures
+  pub sound : StaysSound result old.is_sound new.is_sound
+  pub size : new.size ≡ old.size
+  pub room : new.room ≡ old.room
+  pub image : IsTrue new.is_sound → new.image ≡ old.image
+  pub stands : IsTrue new.is_sound → old.stored ≡ old.image → new.stored ≡ new.image
+  pub first : IsTrue new.is_sound → KeepsFirst old.size old.stored new.stored

@@ -9,6 +9,7 @@ pub mod Entries
 pub mod Rooms
 pub mod Spaces
 pub mod Calls
+pub mod Steps
 pub mod Lends
 pub mod Memory
 pub mod Fuses

@@ -1,5 +1,6 @@
 -- What a volume keeps of its blocks, so that no block is read in vain.
 use Rattle.std.specs.Prelude.{◌≡◌, ℕ, ◌+◌, ◌-◌, ◌/◌, ◌%◌, ◌<◌, ◌≤◌, Bool, false, IsTrue, List, length, min, slice_index, slice_index_or, vec_len}
+use Rattle.std.specs.Vec.{vec_capacity}
 use Rattle.hd_block.specs.Walk.{parts_in}
 use Rattle.hd_volume.specs.declared.space.Content.{Content}
 use Rattle.hd_volume.specs.declared.space.Space.{Space}
@@ -50,3 +51,9 @@ pub record IsKeptVolume (size : ℕ) (sizes image : List ℕ) (is_sound : Bool) 
   pub fits : AreSizes size sizes
   pub small : vec_len space.contents ≤ 65536
   pub true_of : IsTrue is_sound → IsSpaceOf size sizes image space
+
+-- the tables keep their lengths and capacities, and the number of free blocks stays
+pub record KeepsTables (old new : Space) : Type 0 where
+  pub len : vec_len new.contents ≡ vec_len old.contents
+  pub capacity : vec_capacity new.contents ≡ vec_capacity old.contents
+  pub free : new.free ≡ old.free

@@ -7,6 +7,7 @@ mod file;
 mod fuse;
 mod load;
 mod memory;
+mod seek;
 mod space;
 mod store;
 mod volume;

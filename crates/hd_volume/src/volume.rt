@@ -31,9 +31,9 @@ const HEIGHT: usize = 40;
 /// It keeps block 0 and one block more in memory, and a few bytes of each block.
 #[derive(Drop)]
 pub struct Volume<S: BlockStore> {
-    blocks: Blocks<S>,
-    space: Space,
-    sizes: Vec<u16>,
+    pub(crate) blocks: Blocks<S>,
+    pub(crate) space: Space,
+    pub(crate) sizes: Vec<u16>,
 }
 
 impl<S: BlockStore> Model for Volume<S> {
