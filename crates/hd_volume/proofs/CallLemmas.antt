@@ -143,13 +143,13 @@ pub record IsOpened (space : Space) (n hole : ℕ) (new : Space) : Type 0 where
   pub len : vec_len new.contents ≡ vec_len space.contents
   pub lowest : (c : ℕ) → (slice_index new.lowest.items c ≤ slice_index space.lowest.items c) × (slice_index new.lowest.items c ≤ n)
 
-content-own : (space new : Space) (n : ℕ) (x : Content) → new.contents.items ≡ slice_set space.contents.items n x → n < vec_len space.contents → content_at new n ≡ x
+pub content-own : (space new : Space) (n : ℕ) (x : Content) → new.contents.items ≡ slice_set space.contents.items n x → n < vec_len space.contents → content_at new n ≡ x
 content-own space new n x e below =
     let d : Content = record { kind = 0; hole = 0 } in
     let low : n < length space.contents.items = omega (arith, space.contents.ok.0) in
     ap (λ (xs : List Content). slice_index_or xs n d) e ∙ get_or-set_same space.contents.items n x d low
 
-content-other : (space new : Space) (n m : ℕ) (x : Content) → new.contents.items ≡ slice_set space.contents.items n x → m ≢ n → content_at new m ≡ content_at space m
+pub content-other : (space new : Space) (n m : ℕ) (x : Content) → new.contents.items ≡ slice_set space.contents.items n x → m ≢ n → content_at new m ≡ content_at space m
 content-other space new n m x e other =
     let d : Content = record { kind = 0; hole = 0 } in
     ap (λ (xs : List Content). slice_index_or xs m d) e ∙ get_or-set_other space.contents.items n m x d other

@@ -1,6 +1,6 @@
 -- A divided block into which bytes are written, into which a segment is put, or of which one is freed.
 use Rattle.std.proofs.Common.{◌≡◌, ◌≢◌, ◌⊎◌, inl, inr, ℕ, ◌+◌, ◌-◌, ◌<◌, ◌≤◌, Bool, true, false, cond, ◌==◌, nat_le, max, List, [], ◌∷◌, ◌++◌, length, take, drop, slice_index, Option, Some, None, refl, sym, ap, ◌∙◌, arith, ne_eqb, subst}
-use Rattle.std.proofs.lemmas.Bool.{cases_lt, cases_eq, eq-eqb, eqb-true, leb-true, le-leb, lt-leb}
+use Rattle.std.proofs.lemmas.Bool.{cases_lt, cases_eq, eq-eqb, eqb-true, leb-true, leb-false, le-leb, lt-leb}
 use Rattle.std.proofs.lemmas.Grind.{common_steps, same_number_lists}
 use Rattle.hd_bytes.specs.Ranges.{bytes_at, with_bytes, AgreeOn, ChangesOnly}
 use Rattle.hd_bytes.proofs.BlockLemmas.{length-bytes_at, byte-at, agree-bytes_at, agree-changed, bytes-with}
@@ -359,3 +359,15 @@ free-edits sizes b b' xs q n h w u t =
       holes = rw (before, after) x.holes;
       most = rw after (largest-within sizes b' 8 _ zs divides);
     }
+
+none-by : (n p m : ℕ) (xs : List Extent) (big : Bool) → big ≡ nat_le n m → (hole_at n (p + m) xs ≡ None → largest_hole (parts_of (p + m) xs) < n) → cond big (Some p) (hole_at n (p + m) xs) ≡ None
+    → max m (largest_hole (parts_of (p + m) xs)) < n
+none-by n p m xs true is more none = absurd (cc)
+none-by n p m xs false is more none = let low : m < n = leb-false n m (sym is) in let rest = more none in omega arith
+
+-- where no hole of a size is found, all are smaller
+pub none-large : (n p : ℕ) (xs : List Extent) → 0 < n → AreWhole xs → hole_at n p xs ≡ None → largest_hole (parts_of p xs) < n
+none-large n p [] some w none = some
+none-large n p (free m ∷ xs) some w none = none-by n p m xs (nat_le n m) refl (none-large n (p + m) xs some w) none
+none-large n p (used m ∷ xs) some w none = none-large n (p + m) xs some w none
+none-large n p (taken m ∷ xs) some w none = absurd w

@@ -4,4 +4,6 @@ pub mod EditLemmas
 pub mod MapLemmas
 pub mod FrameLemmas
 pub mod CallLemmas
+pub mod PutLemmas
+pub mod KindLemmas
 pub mod SpaceLemmas

@@ -7,6 +7,7 @@ mod file;
 mod fuse;
 mod load;
 mod memory;
+mod puts;
 mod seek;
 mod space;
 mod store;

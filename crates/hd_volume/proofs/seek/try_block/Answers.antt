@@ -5,6 +5,7 @@ use Rattle.hd_volume.specs.Rooms.{largest_hole}
 use Rattle.hd_volume.specs.Spaces.{content_at}
 use Rattle.hd_volume.specs.declared.space.Content.{Content}
 use Rattle.hd_volume.proofs.CallLemmas.{mended-space}
+use Rattle.hd_volume.proofs.PutLemmas.{put-puts}
 use Rattle.hd_volume.proofs.seek.try_block.Goals as goal
 
 pub returns-clause-space : goal.returns-clause-space

@@ -1,0 +1,140 @@
+-- A block of a volume that becomes one of another kind.
+use Rattle.std.proofs.Common.{◌≡◌, ◌≢◌, ◌⊎◌, inl, inr, ℕ, zero, suc, ◌+◌, ◌-◌, ◌*◌, ◌/◌, ◌%◌, ◌<◌, ◌≤◌, Bool, true, false, cond, not, ◌&&◌, ◌==◌, min, List, [], length, slice_index, slice_set, vec_len, Option, Some, None, refl, sym, ap, ◌∙◌, arith, ne_eqb, subst}
+use Rattle.std.proofs.lemmas.Bool.{cases_lt, cases_eq, eq-eqb}
+use Rattle.hd_bytes.specs.Blocks.{block_of, HasBlock}
+use Rattle.hd_block.specs.Walk.{parts_in}
+use Rattle.hd_volume.specs.declared.space.Space.{Space}
+use Rattle.hd_volume.specs.declared.space.Content.{Content}
+use Rattle.hd_volume.specs.Images.{ChangesBlock}
+use Rattle.hd_volume.specs.Headers.{Header, header_of, HasHeader}
+use Rattle.hd_volume.specs.Volumes.{VolumeState, block_at, kind_of, IsKind, HasExtents, IsFormatted}
+use Rattle.hd_volume.specs.Records.{segment_in, find}
+use Rattle.hd_volume.specs.Rooms.{spare, is_free, one_if, free_below, largest_hole, HasHole}
+use Rattle.hd_volume.specs.Spaces.{blocks_in, content_at, IsContent, IsSpaceOf}
+use Rattle.hd_volume.specs.Calls.{KeepsHoles, KeepsSegments}
+use Rattle.hd_volume.specs.Steps as step
+use Rattle.hd_volume.proofs.FrameLemmas.{AreSame, HasChanged, block-seen, find-frame, kind-back, kind-on, other-blocks, other-segments, keeps-header, has-header}
+use Rattle.hd_volume.proofs.CallLemmas.{find-new, looked-at, content-own, content-other}
+
+-- ---- counting free blocks
+
+free-kept : (size : ℕ) (a b : List ℕ) (n N : ℕ) → N ≤ n → ((m : ℕ) → m ≢ n → kind_of (block_of size b m) ≡ kind_of (block_of size a m)) → free_below size b N ≡ free_below size a N
+free-kept size a b n zero low h = refl
+free-kept size a b n (suc N) low h =
+    let one : is_free size b N ≡ is_free size a N = ap (λ (k : ℕ). not (N == 0) && k == 3) (h N (λ e. omega arith)) in
+    rw (free-kept size a b n N (omega arith) h, one) refl
+
+-- one block alone may have become free, or have ceased to be so
+pub free-changed : (size : ℕ) (a b : List ℕ) (n N : ℕ) → n < N → ((m : ℕ) → m ≢ n → kind_of (block_of size b m) ≡ kind_of (block_of size a m))
+    → free_below size b N + one_if (is_free size a n) ≡ free_below size a N + one_if (is_free size b n)
+free-changed size a b n zero low h = absurd (omega arith)
+free-changed size a b n (suc N) low h =
+    elim (cases_eq N n) [
+      | inl e ↦
+          (let before = free-kept size a b n N (omega arith) h in
+          let P : ℕ → Type 0 = λ i. free_below size b N + one_if (is_free size b i) + one_if (is_free size a n) ≡ free_below size a N + one_if (is_free size a i) + one_if (is_free size b n) in
+          subst P (sym e) (omega arith))
+      | inr other ↦
+          (let rest = free-changed size a b n N (omega arith) h in
+          let one : is_free size b N ≡ is_free size a N = ap (λ (k : ℕ). not (N == 0) && k == 3) (h N other) in
+          let same : one_if (is_free size b N) ≡ one_if (is_free size a N) = ap one_if one in
+          omega arith)
+    ]
+
+pub is-free : (size : ℕ) (a : List ℕ) (n : ℕ) → n ≢ 0 → kind_of (block_of size a n) ≡ 3 → one_if (is_free size a n) ≡ 1
+is-free size a n some is = rw (ne_eqb n 0 some, eq-eqb (kind_of (block_of size a n)) 3 is) refl
+
+pub not-free : (size : ℕ) (a : List ℕ) (n : ℕ) → kind_of (block_of size a n) ≢ 3 → one_if (is_free size a n) ≡ 0
+not-free size a n is = (let e : is_free size a n ≡ false = rw (ne_eqb (kind_of (block_of size a n)) 3 is) (and-false (not (n == 0))) in ap one_if e)
+  where
+    and-false : (t : Bool) → (t && false) ≡ false
+    and-false true = refl
+    and-false false = refl
+
+-- where some block is free, the number is not 0
+pub some-free : (size : ℕ) (a : List ℕ) (n N : ℕ) → n < N → n ≢ 0 → kind_of (block_of size a n) ≡ 3 → 0 < free_below size a N
+some-free size a n zero low some is = absurd (omega arith)
+some-free size a n (suc N) low some is =
+    elim (cases_eq N n) [
+      | inl e ↦ (let one = is-free size a n some is in
+          let P : ℕ → Type 0 = λ i. 0 < free_below size a N + one_if (is_free size a i) in subst P (sym e) (omega arith))
+      | inr other ↦ (let rest = some-free size a n N (omega arith) some is in omega arith)
+    ]
+
+-- where none is, it is 0
+pub none-free : (size : ℕ) (a : List ℕ) (N : ℕ) → ((m : ℕ) → m ≢ 0 → m < N → kind_of (block_of size a m) ≡ 3 → ⊥) → free_below size a N ≡ 0
+none-free size a zero h = refl
+none-free size a (suc N) h =
+    let one : one_if (is_free size a N) ≡ 0 = elim (cases_eq N 0) [
+      | inl z ↦ (let e : is_free size a N ≡ false = rw (eq-eqb N 0 z) refl in ap one_if e)
+      | inr some ↦ not-free size a N (λ is. h N some (omega arith) is)
+    ] in
+    let rest = none-free size a N (λ m some low. h m some (omega arith)) in
+    omega arith
+
+-- ---- a block that was not for data
+
+module _ {v w : VolumeState} {n : ℕ} (c : HasChanged v w n) (f : IsFormatted v) (was : kind_of (block_at v n) ≢ 1) where
+  -- the volume stays formatted, if the block is divided where it is now for data
+  pub made-formatted : header_of w.image ≡ header_of v.image → (kind_of (block_of v.size w.image n) ≡ 1 → HasExtents (slice_index v.sizes) (block_of v.size w.image n)) → IsFormatted w
+  made-formatted same extents = record {
+    header = has-header c f.header same;
+    divided = λ m k.
+        let P : List ℕ → Type 0 = λ b. HasExtents (slice_index w.sizes) b in
+        let Q : List ℕ → Type 0 = λ z. HasExtents (slice_index z) (block_of v.size w.image m) in
+        let kind : kind_of (block_of v.size w.image m) ≡ 1 = ap kind_of (sym (block-seen c.same m)) ∙ k.kind_is in
+        subst P (sym (block-seen c.same m)) (subst Q (sym c.same.sizes)
+        (elim (cases_eq m n) [
+          | inl e ↦ (let R : ℕ → Type 0 = λ i. HasExtents (slice_index v.sizes) (block_of v.size w.image i) in
+              subst R (sym e) (extents (ap (λ (i : ℕ). kind_of (block_of v.size w.image i)) (sym e) ∙ kind)))
+          | inr other ↦ (let R : List ℕ → Type 0 = λ b. HasExtents (slice_index v.sizes) b in
+              let own : kind_of (block_of v.size w.image m) ≡ kind_of (block_at v m) = ap kind_of (other-blocks c f.header m other) in
+              subst R (sym (other-blocks c f.header m other)) (f.divided m (kind-back c.same 1 m c.change.len own k)))
+        ]));
+  }
+
+  -- and all segments stay, if there is none in the block
+  pub made-segments : (kind_of (block_of v.size w.image n) ≡ 1 → (p : ℕ) → segment_in (slice_index v.sizes) (block_of v.size w.image n) p ≡ None) → KeepsSegments v w
+  made-segments none a =
+      elim (cases_eq (a / v.size) n) [
+        | inr other ↦ other-segments c f.header a other
+        | inl here ↦ elim (cases_eq (a / v.size) 0) [
+          | inl z ↦ first z
+          | inr some ↦
+              (let before : find v a ≡ None = gone v a some (λ e. was (ap (λ (i : ℕ). kind_of (block_at v i)) (sym here) ∙ e)) in
+              elim (cases_eq (kind_of (block_of v.size w.image (a / v.size))) 1) [
+                | inl is ↦ find-new v w c.same a some is ∙ (let P : ℕ → Type 0 = λ i. segment_in (slice_index v.sizes) (block_of v.size w.image i) (a % v.size) ≡ None in
+                    subst P (sym here) (none (ap (λ (i : ℕ). kind_of (block_of v.size w.image i)) (sym here) ∙ is) (a % v.size))) ∙ sym before
+                | inr isnt ↦ (let after : find w a ≡ None = rw (c.same.size, c.same.sizes, ne_eqb (a / v.size) 0 some, ne_eqb (kind_of (block_of v.size w.image (a / v.size))) 1 isnt) refl in after ∙ sym before)
+              ])
+        ]
+      ]
+    where
+      gone : (u : VolumeState) (b : ℕ) → b / u.size ≢ 0 → kind_of (block_at u (b / u.size)) ≢ 1 → find u b ≡ None
+      gone u b some isnt = rw (ne_eqb (b / u.size) 0 some, ne_eqb (kind_of (block_at u (b / u.size))) 1 isnt) refl
+
+      first : a / v.size ≡ 0 → find w a ≡ find v a
+      first z = rw (c.same.size, c.same.sizes, eq-eqb (a / v.size) 0 z) refl
+
+  pub made-holes : KeepsHoles v w
+  made-holes k h =
+      let m : ℕ = h.block in
+      let other : m ≢ n = λ e. was (ap (λ (i : ℕ). kind_of (block_at v i)) (sym e) ∙ h.is_data.kind_is) in
+      let same = other-blocks c f.header m other in
+      let P : List ℕ → Type 0 = λ b. k ≤ largest_hole (parts_in (slice_index w.sizes) b) in
+      let Q : List ℕ → Type 0 = λ z. k ≤ largest_hole (parts_in (slice_index z) (block_of v.size w.image m)) in
+      let R : List ℕ → Type 0 = λ b. k ≤ largest_hole (parts_in (slice_index v.sizes) b) in
+      record {
+        block = m;
+        is_data = kind-on c.same 1 m c.change.len (ap kind_of same) h.is_data;
+        large = subst P (sym (block-seen c.same m)) (subst Q (sym c.same.sizes) (subst R (sym same) h.large));
+      }
+
+  -- the blocks to spare, where the block was free or is so now
+  pub made-spare : header_of w.image ≡ header_of v.image → n < (header_of v.image).count → spare w + one_if (is_free v.size v.image n) ≡ spare v + one_if (is_free v.size w.image n)
+  made-spare same low =
+      let count : (header_of w.image).count ≡ (header_of v.image).count = ap (λ (h : Header). h.count) same in
+      let largest : (header_of w.image).largest ≡ (header_of v.image).largest = ap (λ (h : Header). h.largest) same in
+      let free = free-changed v.size v.image w.image n (header_of v.image).count low (λ m other. ap kind_of (other-blocks c f.header m other)) in
+      let all : spare w ≡ (header_of v.image).largest - (header_of v.image).count + free_below v.size w.image (header_of v.image).count = rw (count, largest, c.same.size) refl in
+      omega arith

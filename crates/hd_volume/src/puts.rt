@@ -1,0 +1,47 @@
+ghost use Rattle.std.specs.Prelude.{◌≡◌, ◌≢◌, ◌⊎◌, ◌+◌, ◌≤◌, ◌<◌, ℕ, IsTrue, length, slice_index, IfOk, IfErr, IfSome, IfNone, OnOk};
+ghost use Rattle.hd_volume.specs.Volumes.{IsFormatted, IsKind};
+ghost use Rattle.hd_volume.specs.Rooms.{spare, HasHole};
+ghost use Rattle.hd_volume.specs.Calls.{IsCall, IsRead, IsPut};
+ghost use Rattle.hd_volume.specs.Steps.{HasRoom, IsPutIn, HasFree, IsMade};
+
+use crate::seek::seek_hole;
+use crate::store::BlockStore;
+use crate::volume::Volume;
+use hd_dbd::Refused;
+
+impl<S: BlockStore> Volume<S> {
+    /// Puts a segment into the hole of a data block.
+    fn put_in(&mut self, n: u32, bytes: &[u8]) -> Result<u32, Refused>
+        requires formatted { IsTrue self.old.is_sound → IsFormatted self.old }
+        requires whole { (0 < length bytes.now) × (slice_index self.old.sizes (slice_index bytes.now 0) ≡ length bytes.now) }
+        requires has_room { IsTrue self.old.is_sound → HasRoom self.old n (length bytes.now) }
+        requires small { n < 65536 }
+        ensures call { IsCall self.old result self.new }
+        ensures placed { IfOk result (λ address. IsTrue self.old.is_sound → IsPutIn self.old n address bytes.now self.new) }
+        ensures refusal { IfErr result (λ e. e ≡ Refused.Device) }
+        ensures room { self.new.room ≡ self.old.room }
+    {
+        let size = self.blocks.block_size();
+        self.blocks.fetch(n)?;
+        match self.blocks.take(&self.sizes, bytes.len() as u16) {
+            None => Ok(0),
+            Some(at) => {
+                self.blocks.write_hand(at as usize, bytes);
+                Ok(n * size as u32 + u32::from(at))
+            }
+        }
+    }
+
+    /// The lowest data block with a hole of the size of a type's segments, if there is one.
+    fn find_hole(&mut self, code: u8) -> Result<Option<u32>, Refused>
+        requires formatted { IsTrue self.old.is_sound → IsFormatted self.old }
+        ensures read { IsRead self.old result self.new }
+        ensures found { IfOk result (λ o. IsTrue self.old.is_sound → IfSome o (λ n. HasRoom self.old n (slice_index self.old.sizes code))) }
+        ensures none { IfOk result (λ o. IsTrue self.old.is_sound → IfNone o (HasHole self.old (slice_index self.old.sizes code) → ⊥)) }
+        ensures small { IfOk result (λ o. IfSome o (λ n. n < 65536)) }
+        ensures refusal { IfErr result (λ e. e ≡ Refused.Device) }
+    {
+        let found = seek_hole(&mut self.blocks, &mut self.space, &self.sizes, code)?;
+        Ok(found)
+    }
+}
