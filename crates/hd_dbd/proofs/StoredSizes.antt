@@ -4,7 +4,7 @@ use Rattle.std.specs.Prelude.{slice_get}
 use Rattle.std.specs.Option.{option_map_or}
 use Rattle.std.proofs.lemmas.Option.{get_or_from_slice_get, slice_get_cases}
 use Rattle.std.proofs.lemmas.List.{get_or_past}
-use Rattle.std.proofs.lemmas.Bool.{and_parts, leb-true, cases_eq, cases_lt}
+use Rattle.std.proofs.lemmas.Bool.{and_parts, leb-true, eqb-true, cases_eq, cases_lt}
 use Rattle.hd_dbd.specs.declared.hierarchy.FreeSpace.{FreeSpace}
 use Rattle.hd_dbd.specs.Types.{SegmentType}
 use Rattle.hd_dbd.specs.Hierarchy.{type_of}
@@ -48,6 +48,10 @@ block_size-bounds block_size frspc types fit =
     let bounds : (nat_le 128 block_size && nat_le block_size 32768) ≡ true = (and_parts _ _ (size_fits block_size frspc types fit)).0 in
     let both = and_parts (nat_le 128 block_size) (nat_le block_size 32768) bounds in
     (leb-true 128 block_size both.0, leb-true block_size 32768 both.1)
+
+-- and it is a multiple of 8
+pub block_size-whole : (block_size : ℕ) (frspc : FreeSpace) (types : List SegmentType) → IsTrue (well_formed block_size frspc types) → block_size % 8 ≡ 0
+block_size-whole block_size frspc types fit = eqb-true (block_size % 8) 0 (and_parts _ _ (size_fits block_size frspc types fit)).1
 
 -- each stored segment fits into a block behind its first 8 bytes
 pub stored_size-fits : (block_size : ℕ) (frspc : FreeSpace) (types : List SegmentType) (c : ℕ) → IsTrue (well_formed block_size frspc types) → stored_size types c + 8 ≤ block_size

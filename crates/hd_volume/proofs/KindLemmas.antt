@@ -138,3 +138,46 @@ module _ {v w : VolumeState} {n : ℕ} (c : HasChanged v w n) (f : IsFormatted v
       let free = free-changed v.size v.image w.image n (header_of v.image).count low (λ m other. ap kind_of (other-blocks c f.header m other)) in
       let all : spare w ≡ (header_of v.image).largest - (header_of v.image).count + free_below v.size w.image (header_of v.image).count = rw (count, largest, c.same.size) refl in
       omega arith
+
+-- ---- what is kept
+
+-- what is kept stays true where another content of the block is noted
+pub made-space : (v w : VolumeState) (n : ℕ) (space new : Space) (x : Content) → HasChanged v w n → HasHeader v.size v.image → IsSpaceOf v.size v.sizes v.image space → n ≢ 0 → n < blocks_in v.size v.image
+    → new.contents.items ≡ slice_set space.contents.items n x → vec_len new.contents ≡ vec_len space.contents → IsContent (slice_index v.sizes) (block_of v.size w.image n) x
+    → ((c : ℕ) → slice_index new.lowest.items c ≤ slice_index space.lowest.items c) → (x.kind ≡ 1 → (c : ℕ) → slice_index new.lowest.items c ≤ n)
+    → new.free + one_if (is_free v.size v.image n) ≡ space.free + one_if (is_free v.size w.image n)
+    → new.lowest_free ≤ space.lowest_free → (kind_of (block_of v.size w.image n) ≡ 3 → new.lowest_free ≤ n) → IsSpaceOf v.size v.sizes w.image new
+made-space v w n space new x c header h some below contents len own lower opened free lowest_free given =
+    let blocks : blocks_in v.size w.image ≡ blocks_in v.size v.image = ap (λ (k : ℕ). min (k / v.size) 65536) c.change.len in
+    let low : n < vec_len space.contents = omega (arith, h.len) in
+    let mine = content-own space new n x contents low in
+    record {
+      len = len ∙ h.len ∙ sym blocks;
+      contents = λ m more under. elim (cases_eq m n) [
+        | inl e ↦ (let P : ℕ → Type 0 = λ i. IsContent (slice_index v.sizes) (block_of v.size w.image i) (content_at new i) in
+          let R : Content → Type 0 = λ y. IsContent (slice_index v.sizes) (block_of v.size w.image n) y in
+          subst P (sym e) (subst R (sym mine) own))
+        | inr other ↦ (let old = h.contents m more (rw blocks at under) in
+          let R : Content → Type 0 = λ y. IsContent (slice_index v.sizes) (block_of v.size w.image m) y in
+          let S : List ℕ → Type 0 = λ b. IsContent (slice_index v.sizes) b (content_at space m) in
+          subst R (sym (content-other space new n m x contents other)) (subst S (sym (other-blocks c header m other)) old))
+      ];
+      lowest = λ k m more under beneath is-data.
+        let less = lower k in
+        elim (cases_eq m n) [
+          | inl e ↦ (let P : ℕ → Type 0 = λ i. (content_at new i).kind ≡ 1 in
+            let one : x.kind ≡ 1 = ap (λ (y : Content). y.kind) (sym mine) ∙ subst P e is-data in
+            let most = opened one k in absurd (omega arith))
+          | inr other ↦ (let same = content-other space new n m x contents other in
+            let kept = h.lowest k m more (omega arith) (rw blocks at beneath) (rw same at is-data) in rw same kept)
+        ];
+      free =
+        let count = free-changed v.size v.image w.image n (blocks_in v.size v.image) below (λ m other. ap kind_of (other-blocks c header m other)) in
+        let before = h.free in
+        let e : free_below v.size w.image (blocks_in v.size v.image) ≡ free_below v.size w.image (blocks_in v.size w.image) = ap (λ (k : ℕ). free_below v.size w.image k) (sym blocks) in
+        omega arith;
+      lowest_free = λ m more under beneath three. elim (cases_eq m n) [
+        | inl e ↦ (let P : ℕ → Type 0 = λ i. kind_of (block_of v.size w.image i) ≡ 3 in let most = given (subst P e three) in omega arith)
+        | inr other ↦ h.lowest_free m more (omega arith) (rw blocks at beneath) (ap kind_of (sym (other-blocks c header m other)) ∙ three)
+      ];
+    }

@@ -48,6 +48,7 @@ pub record AreSizes (size : ℕ) (sizes : List ℕ) : Type 0 where
 pub record IsKeptVolume (size : ℕ) (sizes image : List ℕ) (is_sound : Bool) (space : Space) : Type 0 where
   pub least : 128 ≤ size
   pub most : size ≤ 32768
+  pub eighths : size % 8 ≡ 0
   pub fits : AreSizes size sizes
   pub small : vec_len space.contents ≤ 65536
   pub true_of : IsTrue is_sound → IsSpaceOf size sizes image space

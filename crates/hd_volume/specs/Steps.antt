@@ -1,5 +1,5 @@
 -- The steps of which putting a segment and taking a block are made.
-use Rattle.std.specs.Prelude.{◌≡◌, ◌⊎◌, ℕ, ◌+◌, ◌-◌, ◌/◌, ◌<◌, ◌≤◌, List, length, Option, Some, None, slice_index}
+use Rattle.std.specs.Prelude.{◌≡◌, ◌⊎◌, ℕ, ◌+◌, ◌-◌, ◌/◌, ◌<◌, ◌≤◌, List, [], ◌∷◌, length, Option, Some, None, slice_index}
 use Rattle.hd_bytes.specs.Blocks.{HasBlock}
 use Rattle.hd_block.specs.Walk.{parts_in}
 use Rattle.hd_volume.specs.Images.{ChangesBlock}
@@ -46,3 +46,7 @@ pub record IsMade (old : VolumeState) (n kind : ℕ) (new : VolumeState) : Type 
   pub segments : KeepsSegments old new
   pub spares : spare old ≡ spare new + 1
   pub holes : KeepsHoles old new
+
+-- the first bytes of a data block with one hole, which begins at offset 8 and whose length has these two bytes
+abbrev pub data_head : ℕ → ℕ → List ℕ
+data_head high low = 0 ∷ 8 ∷ 1 ∷ 0 ∷ 0 ∷ 0 ∷ 0 ∷ 0 ∷ 0 ∷ 0 ∷ high ∷ low ∷ 0 ∷ 0 ∷ 0 ∷ 0 ∷ []

@@ -1,4 +1,4 @@
-ghost use Rattle.std.specs.Prelude.{◌≡◌, ◌⊎◌, ◌+◌, ◌≤◌, ◌<◌, ◌==◌, ◌++◌, ◌∷◌, [], ℕ, vec_len, slice_index, IsTrue, length, IfOk, IfErr, OnOk, OnErr};
+ghost use Rattle.std.specs.Prelude.{◌≡◌, ◌⊎◌, ◌+◌, ◌≤◌, ◌<◌, ◌==◌, ◌++◌, ◌∷◌, ◌%◌, [], ℕ, vec_len, slice_index, IsTrue, length, IfOk, IfErr, OnOk, OnErr};
 ghost use Rattle.std.specs.Vec.{vec_capacity};
 ghost use Rattle.hd_bytes.specs.Blocks.{block_of, HasBlock};
 ghost use Rattle.hd_dbd.specs.Facts.{stored_sizes};
@@ -19,7 +19,7 @@ const MOST_BLOCKS: u64 = 65536;
 pub fn size_table(alloc: Global, dbd: &Dbd) -> Result<Vec<u16>, AllocError>
     ensures sizes { IfOk result (λ v. v.items ≡ stored_sizes dbd.now.types) }
     ensures fit { IfOk result (λ v. AreSizes dbd.now.block_size v.items) }
-    ensures block { (128 ≤ dbd.now.block_size) × (dbd.now.block_size ≤ 32768) }
+    ensures block { (128 ≤ dbd.now.block_size) × (dbd.now.block_size ≤ 32768) × (dbd.now.block_size % 8 ≡ 0) }
 {
     let count = dbd.types().len();
     let mut sizes = Vec::new(alloc);

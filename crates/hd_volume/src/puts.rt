@@ -1,10 +1,11 @@
-ghost use Rattle.std.specs.Prelude.{◌≡◌, ◌≢◌, ◌⊎◌, ◌+◌, ◌≤◌, ◌<◌, ℕ, IsTrue, length, slice_index, IfOk, IfErr, IfSome, IfNone, OnOk};
+ghost use Rattle.std.specs.Prelude.{◌≡◌, ◌≢◌, ◌⊎◌, ◌+◌, ◌-◌, ◌≤◌, ◌<◌, ℕ, IsTrue, length, slice_index, IfOk, IfErr, IfSome, IfNone, OnOk};
 ghost use Rattle.hd_volume.specs.Volumes.{IsFormatted, IsKind};
 ghost use Rattle.hd_volume.specs.Rooms.{spare, HasHole};
 ghost use Rattle.hd_volume.specs.Calls.{IsCall, IsRead, IsPut};
-ghost use Rattle.hd_volume.specs.Steps.{HasRoom, IsPutIn, HasFree, IsMade};
+ghost use Rattle.hd_volume.specs.Steps.{HasRoom, IsPutIn, HasFree, IsMade, data_head};
 
 use crate::seek::seek_hole;
+use crate::space::{Content, DATA, fill_free};
 use crate::store::BlockStore;
 use crate::volume::Volume;
 use hd_dbd::Refused;
@@ -44,4 +45,28 @@ impl<S: BlockStore> Volume<S> {
         let found = seek_hole(&mut self.blocks, &mut self.space, &self.sizes, code)?;
         Ok(found)
     }
+
+    /// Makes a free block one for data, with one hole.
+    fn make_data(&mut self, n: u32) -> Result<(), Refused>
+        requires formatted { IsTrue self.old.is_sound → IsFormatted self.old }
+        requires free { IsTrue self.old.is_sound → IsKind self.old 3 n }
+        ensures call { IsCall self.old result self.new }
+        ensures made { OnOk result (IsTrue self.old.is_sound → IsMade self.old n 1 self.new) }
+        ensures has_room { OnOk result (IsTrue self.old.is_sound → HasRoom self.new n (self.old.size - 8)) }
+        ensures refusal { IfErr result (λ e. e ≡ Refused.Device) }
+        ensures room { self.new.room ≡ self.old.room }
+    {
+        let hole = self.blocks.block_size() as u16 - 8;
+        self.blocks.fetch(n)?;
+        self.blocks.write_hand(0, &data_head((hole / 256) as u8, (hole % 256) as u8));
+        fill_free(&mut self.space, n, Content { kind: DATA, hole });
+        Ok(())
+    }
+}
+
+/// The first bytes of a data block with one hole, whose length has these two bytes.
+fn data_head(high: u8, low: u8) -> [u8; 16]
+    ensures { result ≡ data_head high low }
+{
+    [0, 8, DATA, 0, 0, 0, 0, 0, 0, 0, high, low, 0, 0, 0, 0]
 }

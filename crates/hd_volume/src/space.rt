@@ -1,4 +1,4 @@
-ghost use Rattle.std.specs.Prelude.{◌≡◌, ◌≤◌, ℕ, length, slice_index, slice_set, vec_len};
+ghost use Rattle.std.specs.Prelude.{◌≡◌, ◌≤◌, ◌<◌, ◌+◌, ◌-◌, ℕ, length, slice_index, slice_set, vec_len};
 ghost use Rattle.std.specs.Vec.{vec_capacity};
 ghost use Rattle.hd_block.specs.Walk.{parts_in};
 ghost use Rattle.hd_volume.specs.Rooms.{largest_hole};
@@ -105,4 +105,35 @@ pub fn open_block(space: &mut Space, n: u32, hole: u16)
 {
     set_content(space, n, Content { kind: DATA, hole });
     lower(&mut space.lowest, n);
+}
+
+/// Notes that a free block has got another content.
+pub fn fill_free(space: &mut Space, n: u32, content: Content)
+    ensures contents { space.new.contents.items ≡ slice_set space.old.contents.items n content }
+    ensures len { vec_len space.new.contents ≡ vec_len space.old.contents }
+    ensures capacity { vec_capacity space.new.contents ≡ vec_capacity space.old.contents }
+    ensures lowest { (c : ℕ) → slice_index space.new.lowest.items c ≤ slice_index space.old.lowest.items c }
+    ensures opened { content.kind ≡ 1 → (c : ℕ) → slice_index space.new.lowest.items c ≤ n }
+    ensures free { space.new.free ≡ space.old.free - 1 }
+    ensures lowest_free { space.new.lowest_free ≡ space.old.lowest_free }
+{
+    set_content(space, n, content);
+    if content.kind == DATA {
+        lower(&mut space.lowest, n);
+    }
+    space.free = space.free.saturating_sub(1);
+}
+
+/// Notes that a block has become free.
+pub fn empty_block(space: &mut Space, n: u32)
+    ensures contents { space.new.contents.items ≡ slice_set space.old.contents.items n (record { kind = 3; hole = 0 }) }
+    ensures len { vec_len space.new.contents ≡ vec_len space.old.contents }
+    ensures capacity { vec_capacity space.new.contents ≡ vec_capacity space.old.contents }
+    ensures lowest { space.new.lowest ≡ space.old.lowest }
+    ensures free { space.old.free < 4294967295 → space.new.free ≡ space.old.free + 1 }
+    ensures lowest_free { (space.new.lowest_free ≤ space.old.lowest_free) × (space.new.lowest_free ≤ n) }
+{
+    set_content(space, n, Content { kind: FREE, hole: 0 });
+    space.free = space.free.saturating_add(1);
+    space.lowest_free = space.lowest_free.min(n);
 }

@@ -13,6 +13,7 @@ use Rattle.hd_volume.specs.Spaces.{volume_of, room_for, IsSpaceOf}
 use Rattle.hd_volume.proofs.FrameLemmas.{HasChanged}
 use Rattle.hd_volume.proofs.CallLemmas.{changed-by}
 use Rattle.hd_volume.proofs.PutLemmas.{if-some-map, if-none-map, room-of, no-hole}
+use Rattle.hd_volume.proofs.KindLemmas.{made-spare}
 use Rattle.hd_volume.proofs.volume.Volume.find_hole.Goals as goal
 
 pub returns-clause-found : goal.returns-clause-found

@@ -30,6 +30,7 @@ invariant_of-self-in-None g c =
     record {
       least = rw size c.self.invariant.least;
       most = rw size c.self.invariant.most;
+      eighths = rw size c.self.invariant.eighths;
       fits = rw size c.self.invariant.fits;
       small = c.self.invariant.small;
       true_of = λ sound.
@@ -85,6 +86,7 @@ invariant_of-self-in-Some g c =
     record {
       least = rw size c.self.invariant.least;
       most = rw size c.self.invariant.most;
+      eighths = rw size c.self.invariant.eighths;
       fits = rw size c.self.invariant.fits;
       small = c.self.invariant.small;
       true_of = λ sound.

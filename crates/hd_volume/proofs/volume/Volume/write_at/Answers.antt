@@ -48,6 +48,7 @@ invariant_of-self-2 g c =
     record {
       least = rw size c.self.invariant.least;
       most = rw size c.self.invariant.most;
+      eighths = rw size c.self.invariant.eighths;
       fits = rw size c.self.invariant.fits;
       small = c.self.invariant.small;
       true_of = λ sound.
