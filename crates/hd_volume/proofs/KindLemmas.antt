@@ -1,8 +1,18 @@
 -- A block of a volume that becomes one of another kind.
-use Rattle.std.proofs.Common.{◌≡◌, ◌≢◌, ◌⊎◌, inl, inr, ℕ, zero, suc, ◌+◌, ◌-◌, ◌*◌, ◌/◌, ◌%◌, ◌<◌, ◌≤◌, Bool, true, false, cond, not, ◌&&◌, ◌==◌, min, List, [], length, slice_index, slice_set, vec_len, Option, Some, None, refl, sym, ap, ◌∙◌, arith, ne_eqb, subst}
+use Rattle.std.proofs.Common.{◌≡◌, ◌≢◌, ◌⊎◌, inl, inr, ℕ, zero, suc, ◌+◌, ◌-◌, ◌*◌, ◌/◌, ◌%◌, ◌<◌, ◌≤◌, Bool, true, false, cond, not, ◌&&◌, ◌==◌, min, max, List, [], ◌∷◌, length, slice_index, slice_set, vec_len, Option, Some, None, refl, sym, ap, ◌∙◌, arith, ne_eqb, subst}
 use Rattle.std.proofs.lemmas.Bool.{cases_lt, cases_eq, eq-eqb}
 use Rattle.hd_bytes.specs.Blocks.{block_of, HasBlock}
+use Rattle.std.proofs.Math.Nat.{mul-div_cancel}
+use Rattle.hd_bytes.specs.Numbers.{number_at}
+use Rattle.hd_bytes.specs.Ranges.{with_bytes}
+use Rattle.hd_bytes.proofs.BlockLemmas.{length-block}
+use Rattle.hd_bytes.proofs.NumberLemmas.{length-with}
+use Rattle.hd_block.specs.Extents.{Extent, free, IsDivided, AreWhole, UsedAt}
+use Rattle.hd_block.proofs.PartLemmas.{parts-divided}
 use Rattle.hd_block.specs.Walk.{parts_in}
+use Rattle.hd_volume.specs.Steps.{data_head}
+use Rattle.hd_volume.proofs.SpaceLemmas.{whole-block}
+use Rattle.hd_volume.proofs.ExtentLemmas.{segment-none}
 use Rattle.hd_volume.specs.declared.space.Space.{Space}
 use Rattle.hd_volume.specs.declared.space.Content.{Content}
 use Rattle.hd_volume.specs.Images.{ChangesBlock}
@@ -147,7 +157,7 @@ pub made-space : (v w : VolumeState) (n : ℕ) (space new : Space) (x : Content)
     → ((c : ℕ) → slice_index new.lowest.items c ≤ slice_index space.lowest.items c) → (x.kind ≡ 1 → (c : ℕ) → slice_index new.lowest.items c ≤ n)
     → new.free + one_if (is_free v.size v.image n) ≡ space.free + one_if (is_free v.size w.image n)
     → new.lowest_free ≤ space.lowest_free → (kind_of (block_of v.size w.image n) ≡ 3 → new.lowest_free ≤ n) → IsSpaceOf v.size v.sizes w.image new
-made-space v w n space new x c header h some below contents len own lower opened free lowest_free given =
+made-space v w n space new x c header h some below contents len own lower opened balance lowest_free given =
     let blocks : blocks_in v.size w.image ≡ blocks_in v.size v.image = ap (λ (k : ℕ). min (k / v.size) 65536) c.change.len in
     let low : n < vec_len space.contents = omega (arith, h.len) in
     let mine = content-own space new n x contents low in
@@ -155,29 +165,119 @@ made-space v w n space new x c header h some below contents len own lower opened
       len = len ∙ h.len ∙ sym blocks;
       contents = λ m more under. elim (cases_eq m n) [
         | inl e ↦ (let P : ℕ → Type 0 = λ i. IsContent (slice_index v.sizes) (block_of v.size w.image i) (content_at new i) in
-          let R : Content → Type 0 = λ y. IsContent (slice_index v.sizes) (block_of v.size w.image n) y in
-          subst P (sym e) (subst R (sym mine) own))
+            let R : Content → Type 0 = λ y. IsContent (slice_index v.sizes) (block_of v.size w.image n) y in
+            subst P (sym e) (subst R (sym mine) own))
         | inr other ↦ (let old = h.contents m more (rw blocks at under) in
-          let R : Content → Type 0 = λ y. IsContent (slice_index v.sizes) (block_of v.size w.image m) y in
-          let S : List ℕ → Type 0 = λ b. IsContent (slice_index v.sizes) b (content_at space m) in
-          subst R (sym (content-other space new n m x contents other)) (subst S (sym (other-blocks c header m other)) old))
+            let R : Content → Type 0 = λ y. IsContent (slice_index v.sizes) (block_of v.size w.image m) y in
+            let S : List ℕ → Type 0 = λ b. IsContent (slice_index v.sizes) b (content_at space m) in
+            subst R (sym (content-other space new n m x contents other)) (subst S (sym (other-blocks c header m other)) old))
       ];
       lowest = λ k m more under beneath is-data.
-        let less = lower k in
-        elim (cases_eq m n) [
-          | inl e ↦ (let P : ℕ → Type 0 = λ i. (content_at new i).kind ≡ 1 in
-            let one : x.kind ≡ 1 = ap (λ (y : Content). y.kind) (sym mine) ∙ subst P e is-data in
-            let most = opened one k in absurd (omega arith))
-          | inr other ↦ (let same = content-other space new n m x contents other in
-            let kept = h.lowest k m more (omega arith) (rw blocks at beneath) (rw same at is-data) in rw same kept)
-        ];
+          let less = lower k in
+          elim (cases_eq m n) [
+            | inl e ↦ (let P : ℕ → Type 0 = λ i. (content_at new i).kind ≡ 1 in
+                let one : x.kind ≡ 1 = ap (λ (y : Content). y.kind) (sym mine) ∙ subst P e is-data in
+                let most = opened one k in absurd (omega arith))
+            | inr other ↦ (let same = content-other space new n m x contents other in
+                let kept = h.lowest k m more (omega arith) (rw blocks at beneath) (rw same at is-data) in rw same kept)
+          ];
       free =
-        let count = free-changed v.size v.image w.image n (blocks_in v.size v.image) below (λ m other. ap kind_of (other-blocks c header m other)) in
-        let before = h.free in
-        let e : free_below v.size w.image (blocks_in v.size v.image) ≡ free_below v.size w.image (blocks_in v.size w.image) = ap (λ (k : ℕ). free_below v.size w.image k) (sym blocks) in
-        omega arith;
+          let count = free-changed v.size v.image w.image n (blocks_in v.size v.image) below (λ m other. ap kind_of (other-blocks c header m other)) in
+          let before = h.free in
+          let e : free_below v.size w.image (blocks_in v.size v.image) ≡ free_below v.size w.image (blocks_in v.size w.image) = ap (λ (k : ℕ). free_below v.size w.image k) (sym blocks) in
+          omega arith;
       lowest_free = λ m more under beneath three. elim (cases_eq m n) [
         | inl e ↦ (let P : ℕ → Type 0 = λ i. kind_of (block_of v.size w.image i) ≡ 3 in let most = given (subst P e three) in omega arith)
         | inr other ↦ h.lowest_free m more (omega arith) (rw blocks at beneath) (ap kind_of (sym (other-blocks c header m other)) ∙ three)
       ];
     }
+
+-- a block of a formatted volume is counted
+pub below-count : (v : VolumeState) (n : ℕ) → HasHeader v.size v.image → 0 < v.size → HasBlock v.size v.image n → n < (header_of v.image).count
+below-count v n h some there =
+    let low = whole-block v.size n v.image some there in
+    let count : length v.image / v.size ≡ (header_of v.image).count = rw h.whole (mul-div_cancel (header_of v.image).count some) in
+    omega arith
+
+-- ---- a data block with one hole
+
+fresh-number : (b : List ℕ) (high low : ℕ) → (number_at 2 (with_bytes b 0 (data_head high low)) 0 ≡ 8) × (number_at 2 (with_bytes b 0 (data_head high low)) 10 ≡ high * 256 + low)
+    × (number_at 4 (with_bytes b 0 (data_head high low)) 12 ≡ 0) × (number_at 2 (with_bytes b 0 (data_head high low)) 8 ≡ 0)
+unfolding number_at
+fresh-number b high low = (refl, omega arith, refl, refl)
+
+pub fresh-divides : (sizes : ℕ → ℕ) (b : List ℕ) (size high low : ℕ) → length b ≡ size → 128 ≤ size → size % 8 ≡ 0 → high * 256 + low ≡ size - 8
+    → IsDivided sizes (with_bytes b 0 (data_head high low)) (free (size - 8) ∷ [])
+fresh-divides sizes b size high low len least whole is =
+    let b' : List ℕ = with_bytes b 0 (data_head high low) in
+    let k = fresh-number b high low in
+    let long = length-with b (data_head high low) 0 (omega arith) in
+    let next = k.3 in
+    (sym k.0, record { len = k.1 ∙ is; task = k.2; some = omega arith; whole = omega arith; apart = λ e. omega arith }, (omega arith, next))
+
+module _ (v w : VolumeState) (n high low : ℕ) (f : IsFormatted v) (free-is : IsKind v 3 n) (least : 128 ≤ v.size) (eighths : v.size % 8 ≡ 0)
+    (c : HasChanged v w n) (new : block_of v.size w.image n ≡ with_bytes (block_at v n) 0 (data_head high low)) (size-is : high * 256 + low ≡ v.size - 8) where
+  data-divides : IsDivided (slice_index v.sizes) (block_of v.size w.image n) (free (v.size - 8) ∷ [])
+  data-divides =
+      let P : List ℕ → Type 0 = λ b. IsDivided (slice_index v.sizes) b (free (v.size - 8) ∷ []) in
+      subst P (sym new) (fresh-divides (slice_index v.sizes) (block_at v n) v.size high low (length-block v.size n v.image free-is.there) least eighths size-is)
+
+  data-kind : kind_of (block_of v.size w.image n) ≡ 1
+  data-kind = ap kind_of new
+
+  data-large : largest_hole (parts_in (slice_index v.sizes) (block_of v.size w.image n)) ≡ v.size - 8
+  data-large = ap largest_hole (parts-divided (slice_index v.sizes) (block_of v.size w.image n) (free (v.size - 8) ∷ []) data-divides tt) ∙ (let e : max (v.size - 8) 0 ≡ v.size - 8 = omega arith in e)
+
+  data-later : n ≢ 0
+  data-later = (let l = free-is.later in λ e. omega arith)
+
+  data-was : kind_of (block_at v n) ≢ 1
+  data-was = (let k = free-is.kind_is in λ e. omega arith)
+
+  data-is : IsKind w 1 n
+  data-is = record {
+    there = (let t = free-is.there in let l = c.change.len in rw c.same.size (omega arith));
+    later = free-is.later;
+    kind_is = ap kind_of (block-seen c.same n) ∙ data-kind;
+  }
+
+  pub data-made : step.IsMade v n 1 w
+  data-made =
+      let header = keeps-header c f.header (omega arith) data-later in
+      let some : 0 < v.size = omega arith in
+      record {
+        formatted = made-formatted c f data-was header (λ _. record { extents = free (v.size - 8) ∷ []; divides = data-divides; whole = tt });
+        is = data-is;
+        block = c.change;
+        header = header;
+        segments = made-segments c f data-was (λ _ p. segment-none (slice_index v.sizes) (block_of v.size w.image n) (free (v.size - 8) ∷ []) data-divides tt p (λ k u. u));
+        spares =
+            let s = made-spare c f data-was header (below-count v n f.header some free-is.there) in
+            let one = is-free v.size v.image n data-later free-is.kind_is in
+            let none = not-free v.size w.image n (let k = data-kind in λ e. omega arith) in
+            omega arith;
+        holes = made-holes c f data-was;
+      }
+
+  pub data-room : step.HasRoom w n (v.size - 8)
+  data-room =
+      let P : List ℕ → Type 0 = λ b. v.size - 8 ≤ largest_hole (parts_in (slice_index w.sizes) b) in
+      let Q : List ℕ → Type 0 = λ z. v.size - 8 ≤ largest_hole (parts_in (slice_index z) (block_of v.size w.image n)) in
+      let large = data-large in
+      record { is_data = data-is; large = subst P (sym (block-seen c.same n)) (subst Q (sym c.same.sizes) (omega arith)) }
+
+  pub data-space : (space new-space : Space) (hole : ℕ) → IsSpaceOf v.size v.sizes v.image space → hole ≡ v.size - 8
+      → new-space.contents.items ≡ slice_set space.contents.items n (record { kind = 1; hole = hole }) → vec_len new-space.contents ≡ vec_len space.contents
+      → ((k : ℕ) → slice_index new-space.lowest.items k ≤ slice_index space.lowest.items k) → ((k : ℕ) → slice_index new-space.lowest.items k ≤ n)
+      → new-space.free ≡ space.free - 1 → new-space.lowest_free ≡ space.lowest_free → IsSpaceOf v.size v.sizes w.image new-space
+  data-space space new-space hole h hole-is contents len lower opened free-less lowest-is =
+      let some : 0 < v.size = omega arith in
+      let below = looked-at v n f.header some free-is.there in
+      let one = is-free v.size v.image n data-later free-is.kind_is in
+      let none = not-free v.size w.image n (let k = data-kind in λ e. omega arith) in
+      let kind = data-kind in
+      let positive = some-free v.size v.image n (blocks_in v.size v.image) below data-later free-is.kind_is in
+      let count = h.free in
+      let large = data-large in
+      made-space v w n space new-space (record { kind = 1; hole = hole }) c f.header h data-later below contents len
+      (record { kind_is = sym data-kind; bound = λ _. omega arith }) lower (λ _. opened) (omega arith) (omega arith) (λ three. absurd (omega arith))

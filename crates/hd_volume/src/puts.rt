@@ -58,7 +58,8 @@ impl<S: BlockStore> Volume<S> {
     {
         let hole = self.blocks.block_size() as u16 - 8;
         self.blocks.fetch(n)?;
-        self.blocks.write_hand(0, &data_head((hole / 256) as u8, (hole % 256) as u8));
+        self.blocks
+            .write_hand(0, &data_head((hole / 256) as u8, (hole % 256) as u8));
         fill_free(&mut self.space, n, Content { kind: DATA, hole });
         Ok(())
     }

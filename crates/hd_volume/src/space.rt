@@ -133,7 +133,14 @@ pub fn empty_block(space: &mut Space, n: u32)
     ensures free { space.old.free < 4294967295 → space.new.free ≡ space.old.free + 1 }
     ensures lowest_free { (space.new.lowest_free ≤ space.old.lowest_free) × (space.new.lowest_free ≤ n) }
 {
-    set_content(space, n, Content { kind: FREE, hole: 0 });
+    set_content(
+        space,
+        n,
+        Content {
+            kind: FREE,
+            hole: 0,
+        },
+    );
     space.free = space.free.saturating_add(1);
     space.lowest_free = space.lowest_free.min(n);
 }
