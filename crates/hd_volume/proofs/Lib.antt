@@ -6,4 +6,5 @@ pub mod FrameLemmas
 pub mod CallLemmas
 pub mod PutLemmas
 pub mod KindLemmas
+pub mod GrowLemmas
 pub mod SpaceLemmas
