@@ -23,7 +23,7 @@ use Rattle.hd_volume.specs.Steps as step
 use Rattle.hd_volume.proofs.MapLemmas.{past-end}
 use Rattle.hd_volume.proofs.EditLemmas.{put-byte}
 use Rattle.hd_volume.proofs.FrameLemmas.{AreSame, block-seen, find-frame, free-same}
-use Rattle.hd_volume.proofs.SpaceLemmas.{has-block, whole-block, number-in-first, free-more, content-before, content-last}
+use Rattle.hd_volume.proofs.SpaceLemmas.{has-block, whole-block, number-in-first, free-more, one-most, content-before, content-last}
 
 -- ---- one number of the header
 
@@ -238,3 +238,116 @@ module _ {v w : VolumeState} (g : IsGrown v w) (f : IsFormatted v) (positive : 0
               large = subst P (sym (block-seen g.same m)) (subst Q (sym g.same.sizes) (subst R (sym same) h.large));
             };
       }
+
+-- what is kept stays true with the content of the new block
+pub grown-space : {v w : VolumeState} (g : IsGrown v w) (f : IsFormatted v) (positive : 0 < v.size) (space new : Space) → IsSpaceOf v.size v.sizes v.image space
+    → new.contents.items ≡ space.contents.items ++ record { kind = 3; hole = 0 } ∷ [] → vec_len new.contents ≡ vec_len space.contents + 1 → new.lowest ≡ space.lowest
+    → new.free ≡ space.free + 1 → new.lowest_free ≤ space.lowest_free → new.lowest_free ≤ vec_len space.contents → IsSpaceOf v.size v.sizes w.image new
+grown-space {v} {w} g f positive space new h contents len lowest free-is low-free lower =
+    let n : ℕ = (header_of v.image).count in
+    let x : Content = record { kind = 3; hole = 0 } in
+    let d : Content = record { kind = 0; hole = 0 } in
+    let below = g.below in
+    let bound = f.header.bound in
+    let quotient : length v.image / v.size ≡ n = rw f.header.whole (mul-div_cancel n positive) in
+    let long : length w.image ≡ (n + 1) * v.size = (let l = g.len in let t = f.header.whole in omega arith) in
+    let quotient' : length w.image / v.size ≡ n + 1 = rw long (mul-div_cancel (n + 1) positive) in
+    let old-blocks : blocks_in v.size v.image ≡ n = omega arith in
+    let new-blocks : blocks_in v.size w.image ≡ n + 1 = omega arith in
+    let old-len : length space.contents.items ≡ n = sym space.contents.ok.0 ∙ h.len ∙ old-blocks in
+    let before = λ (m : ℕ) (l : m < n). (let e : content_at new m ≡ content_at space m = ap (λ (xs : List Content). slice_index_or xs m d) contents ∙ content-before space.contents.items x d m (omega arith) in e) in
+    record {
+      len = omega (arith, h.len);
+      contents = λ m some under. elim (cases_lt m n) [
+        | inl l ↦ (let old = h.contents m some (omega arith) in
+            let R : Content → Type 0 = λ y. IsContent (slice_index v.sizes) (block_of v.size w.image m) y in
+            let S : List ℕ → Type 0 = λ b. IsContent (slice_index v.sizes) b (content_at space m) in
+            subst R (sym (before m l)) (subst S (sym (grown-block g f positive m (λ e. omega arith) (λ e. omega arith))) old))
+        | inr high ↦ (let here : m ≡ n = omega arith in
+            let own : content_at new m ≡ x = ap (λ (xs : List Content). slice_index_or xs m d) contents ∙ content-last space.contents.items x d m (omega arith) in
+            let R : Content → Type 0 = λ y. IsContent (slice_index v.sizes) (block_of v.size w.image m) y in
+            let kind : kind_of (block_of v.size w.image m) ≡ 3 = ap (λ (i : ℕ). kind_of (block_of v.size w.image i)) here ∙ g.kind in
+            subst R (sym own) (record { kind_is = sym kind; bound = λ e. absurd (cc) }))
+      ];
+      lowest = λ k m some under beneath is-data. elim (cases_lt m n) [
+        | inl l ↦ (let same = before m l in rw same (h.lowest k m some (rw lowest at under) (omega arith) (rw same at is-data)))
+        | inr high ↦ (let here : m ≡ n = omega arith in
+            let own : content_at new m ≡ x = ap (λ (xs : List Content). slice_index_or xs m d) contents ∙ content-last space.contents.items x d m (omega arith) in
+            let three : (content_at new m).kind ≡ 3 = ap (λ (y : Content). y.kind) own in absurd (omega arith))
+      ];
+      free =
+          let more = grown-free g f positive in
+          let old = h.free in
+          let one : free_below v.size v.image (blocks_in v.size v.image) ≡ free_below v.size v.image n = ap (λ (k : ℕ). free_below v.size v.image k) old-blocks in
+          let two : free_below v.size w.image (blocks_in v.size w.image) ≡ free_below v.size w.image (n + 1) = ap (λ (k : ℕ). free_below v.size w.image k) new-blocks in
+          omega arith;
+      lowest_free = λ m some under beneath three.
+          let l : m < n = omega (arith, h.len) in
+          h.lowest_free m some (omega arith) (omega arith) (ap kind_of (sym (grown-block g f positive m (λ e. omega arith) (λ e. omega arith))) ∙ three);
+    }
+
+-- a volume that grew by a block of zeros, then got the new count, and then the kind of the new block
+pub is-grown : (v w : VolumeState) (i1 i2 : List ℕ) → IsFormatted v → 44 ≤ v.size → AreSame v w → (header_of v.image).count < (header_of v.image).largest
+    → i1 ≡ grown v.size v.image 1 → ChangesBlock v.size 0 i1 i2 → block_of v.size i2 0 ≡ with_bytes (block_of v.size i1 0) 12 (big_bytes 4 ((header_of v.image).count + 1))
+    → ChangesBlock v.size (header_of v.image).count i2 w.image → block_of v.size w.image (header_of v.image).count ≡ with_bytes (block_of v.size i2 (header_of v.image).count) 2 (3 ∷ [])
+    → IsGrown v w
+is-grown v w i1 i2 f least same below one two head three kind =
+    let n : ℕ = (header_of v.image).count in
+    let first = f.header.first in
+    let whole = f.header.whole in
+    let bound = f.header.bound in
+    let more : length i1 ≡ length v.image + 1 * v.size = ap length one ∙ length-grown v.size 1 v.image in
+    let len2 = two.len in
+    let len3 = three.len in
+    let some : 0 < n = elim (cases_eq n 0) [
+      | inl z ↦ (let none : n * v.size ≡ 0 = rw z (let e : 0 * v.size ≡ 0 = omega arith in e) in absurd (omega arith))
+      | inr s ↦ omega arith
+    ] in
+    let zeroth : block_of v.size i1 0 ≡ block_of v.size v.image 0 = ap (λ (i : List ℕ). block_of v.size i 0) one ∙ block-grown v.size 1 0 v.image first in
+    let number : HasNumber v.size 12 (n + 1) v.image w.image = record {
+      least = least;
+      before = first;
+      after = omega arith;
+      fits = omega arith;
+      small = omega arith;
+      block = three.others 0 (omega arith) (λ e. omega arith) ∙ head ∙ ap (λ (b : List ℕ). with_bytes b 12 (big_bytes 4 (n + 1))) zeroth;
+    } in
+    let there : HasBlock v.size i2 n = omega arith in
+    let long = length-block v.size n i2 there in
+    record {
+      same = same;
+      len = omega arith;
+      others = λ m t later.
+          let low : m < n = elim (cases_lt m n) [
+            | inl l ↦ l
+            | inr h ↦ (let past : n * v.size ≤ m * v.size = mul-le-mul_right v.size h in absurd (omega arith))
+          ] in
+          three.others m (omega arith) (λ e. omega arith) ∙ two.others m (omega arith) later ∙ ap (λ (i : List ℕ). block_of v.size i m) one ∙ block-grown v.size 1 m v.image t;
+      kind = ap kind_of kind ∙ ap (λ (i : ℕ). slice_index (with_bytes (block_of v.size i2 n) 2 (3 ∷ [])) i) (let e : 2 ≡ 2 + 0 = refl in e) ∙ put-byte (block_of v.size i2 n) (3 ∷ []) 2 0 (omega arith) (omega arith);
+      header = header-count v.size (n + 1) v.image w.image number;
+      below = below;
+    }
+
+-- a formatted volume has as many whole blocks as it counts
+pub formatted-count : (v : VolumeState) → HasHeader v.size v.image → 0 < v.size → blocks_in v.size v.image ≡ (header_of v.image).count
+formatted-count v h positive =
+    let quotient : length v.image / v.size ≡ (header_of v.image).count = rw h.whole (mul-div_cancel (header_of v.image).count positive) in
+    let within = h.within in
+    let bound = h.bound in
+    omega arith
+
+-- and one at least
+pub formatted-some : (v : VolumeState) → HasHeader v.size v.image → 0 < v.size → 0 < (header_of v.image).count
+formatted-some v h positive =
+    let n : ℕ = (header_of v.image).count in
+    let whole = h.whole in
+    let first = h.first in
+    elim (cases_eq n 0) [
+      | inl z ↦ (let none : n * v.size ≡ 0 = rw z (let e : 0 * v.size ≡ 0 = omega arith in e) in absurd (omega arith))
+      | inr s ↦ omega arith
+    ]
+
+-- no more blocks are free than there are
+pub free-most : (size : ℕ) (image : List ℕ) (n : ℕ) → free_below size image n ≤ n
+free-most size image zero = omega arith
+free-most size image (suc n) = let rest = free-most size image n in let one = one-most (is_free size image n) in omega arith

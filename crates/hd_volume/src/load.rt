@@ -13,7 +13,7 @@ use hd_dbd::{Dbd, Refused};
 use std::alloc::{AllocError, Global};
 
 /// The most blocks that a volume has.
-const MOST_BLOCKS: u64 = 65536;
+pub const MOST_BLOCKS: u32 = 65536;
 
 /// The bytes that the segments of each type take, by code.
 pub fn size_table(alloc: Global, dbd: &Dbd) -> Result<Vec<u16>, AllocError>
@@ -48,7 +48,7 @@ pub fn survey<S: BlockStore>(
     ensures room { blocks.new.room ≡ blocks.old.room }
 {
     let size = blocks.block_size() as u64;
-    let count = (blocks.length() / size).min(MOST_BLOCKS) as u32;
+    let count = (blocks.length() / size).min(u64::from(MOST_BLOCKS)) as u32;
     let mut space = empty_space(alloc, sizes.len())?;
     for n in 0..count {
         let content = survey_block(blocks, sizes, n)?;

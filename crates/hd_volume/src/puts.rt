@@ -1,13 +1,15 @@
 ghost use Rattle.std.specs.Prelude.{◌≡◌, ◌≢◌, ◌⊎◌, ◌+◌, ◌-◌, ◌≤◌, ◌<◌, ℕ, IsTrue, length, slice_index, IfOk, IfErr, IfSome, IfNone, OnOk};
+ghost use Rattle.hd_volume.specs.Headers.{header_of};
 ghost use Rattle.hd_volume.specs.Volumes.{IsFormatted, IsKind};
 ghost use Rattle.hd_volume.specs.Rooms.{spare, HasHole};
 ghost use Rattle.hd_volume.specs.Calls.{IsCall, IsRead, IsPut};
 ghost use Rattle.hd_volume.specs.Steps.{HasRoom, IsPutIn, HasFree, IsMade, data_head};
 
+use crate::load::MOST_BLOCKS;
 use crate::seek::seek_hole;
-use crate::space::{Content, DATA, fill_free};
+use crate::space::{Content, DATA, FREE, add_free, fill_free, make_room};
 use crate::store::BlockStore;
-use crate::volume::Volume;
+use crate::volume::{COUNT, LARGEST, Volume, head_number};
 use hd_dbd::Refused;
 
 impl<S: BlockStore> Volume<S> {
@@ -61,6 +63,30 @@ impl<S: BlockStore> Volume<S> {
         self.blocks
             .write_hand(0, &data_head((hole / 256) as u8, (hole % 256) as u8));
         fill_free(&mut self.space, n, Content { kind: DATA, hole });
+        Ok(())
+    }
+
+    /// Grows the volume by a free block.
+    fn extend(&mut self) -> Result<(), Refused>
+        requires formatted { IsTrue self.old.is_sound → IsFormatted self.old }
+        ensures call { IsCall self.old result self.new }
+        ensures grown { OnOk result (IsTrue self.old.is_sound → HasFree self.old (header_of self.old.image).count self.new) }
+        ensures kept { IfErr result (λ _. IsTrue self.new.is_sound → self.new.image ≡ self.old.image) }
+        ensures full { IfErr result (λ e. e ≡ Refused.Full → IsTrue self.old.is_sound → (header_of self.old.image).largest ≤ (header_of self.old.image).count) }
+        ensures memory { IfErr result (λ e. e ≡ Refused.Memory → self.old.room ≡ 0) }
+        ensures refusal { IfErr result (λ e. (e ≡ Refused.Memory) ⊎ (e ≡ Refused.Full) ⊎ (e ≡ Refused.Device)) }
+        ensures room { IsTrue self.new.is_sound → self.old.room ≤ self.new.room + 1 }
+    {
+        let n = self.space.contents.len() as u32;
+        if n >= head_number(&self.blocks, LARGEST).min(MOST_BLOCKS) {
+            return Err(Refused::Full);
+        }
+        make_room(&mut self.space)?;
+        self.blocks.grow()?;
+        self.blocks.write_head(COUNT, n + 1);
+        self.blocks.fetch(n)?;
+        self.blocks.write_hand(2, &[FREE]);
+        add_free(&mut self.space);
         Ok(())
     }
 }

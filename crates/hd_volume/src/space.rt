@@ -1,10 +1,11 @@
-ghost use Rattle.std.specs.Prelude.{◌≡◌, ◌≤◌, ◌<◌, ◌+◌, ◌-◌, ℕ, length, slice_index, slice_set, vec_len};
+ghost use Rattle.std.specs.Prelude.{◌≡◌, ◌≤◌, ◌<◌, ◌+◌, ◌-◌, ℕ, ◌++◌, ◌∷◌, [], length, slice_index, slice_set, vec_len, OnOk, IfErr};
 ghost use Rattle.std.specs.Vec.{vec_capacity};
 ghost use Rattle.hd_block.specs.Walk.{parts_in};
 ghost use Rattle.hd_volume.specs.Rooms.{largest_hole};
 ghost use Rattle.hd_volume.specs.Spaces.{IsContent};
 
 use hd_block::{Part, Parts};
+use hd_dbd::Refused;
 
 /// The kind of a data block.
 pub const DATA: u8 = 1;
@@ -143,4 +144,48 @@ pub fn empty_block(space: &mut Space, n: u32)
     );
     space.free = space.free.saturating_add(1);
     space.lowest_free = space.lowest_free.min(n);
+}
+
+/// Finds memory for the content of one block more.
+pub fn make_room(space: &mut Space) -> Result<(), Refused>
+    ensures some { OnOk result (vec_len space.new.contents < vec_capacity space.new.contents) }
+    ensures contents { space.new.contents.items ≡ space.old.contents.items }
+    ensures len { vec_len space.new.contents ≡ vec_len space.old.contents }
+    ensures capacity { vec_capacity space.old.contents ≤ vec_capacity space.new.contents }
+    ensures full { IfErr result (λ _. vec_capacity space.old.contents ≤ vec_len space.old.contents) }
+    ensures lowest { space.new.lowest ≡ space.old.lowest }
+    ensures free { (space.new.free ≡ space.old.free) × (space.new.lowest_free ≡ space.old.lowest_free) }
+    ensures refusal { IfErr result (λ e. e ≡ Refused.Memory) }
+{
+    if space.contents.len() < space.contents.capacity() {
+        return Ok(());
+    }
+    if space.contents.reserve(1).is_err() {
+        return Err(Refused::Memory);
+    }
+    Ok(())
+}
+
+/// Notes a free block behind the last, for which memory was found.
+pub fn add_free(space: &mut Space)
+    requires { vec_len space.old.contents < vec_capacity space.old.contents }
+    ensures contents { space.new.contents.items ≡ space.old.contents.items ++ record { kind = 3; hole = 0 } ∷ [] }
+    ensures len { vec_len space.new.contents ≡ vec_len space.old.contents + 1 }
+    ensures capacity { vec_capacity space.old.contents ≤ vec_capacity space.new.contents }
+    ensures lowest { space.new.lowest ≡ space.old.lowest }
+    ensures free { space.old.free < 4294967295 → space.new.free ≡ space.old.free + 1 }
+    ensures lowest_free { (space.new.lowest_free ≤ space.old.lowest_free) × (space.new.lowest_free ≤ vec_len space.old.contents) }
+{
+    let n = space.contents.len();
+    let block = Content {
+        kind: FREE,
+        hole: 0,
+    };
+    if space.contents.push(block).is_err() {
+        return;
+    }
+    space.free = space.free.saturating_add(1);
+    if (space.lowest_free as usize) > n {
+        space.lowest_free = n as u32;
+    }
 }

@@ -18,6 +18,10 @@ use std::alloc::Global;
 use std::marker::Model;
 
 /// Where the header has its numbers of four bytes.
+pub const COUNT: usize = 12;
+
+pub const LARGEST: usize = 16;
+
 const FIRST_ROOT: usize = 28;
 
 const LAST_ROOT: usize = 32;
@@ -240,7 +244,7 @@ fn segment_end(block: &[u8], sizes: &[u16], at: usize) -> usize
 }
 
 /// The number of four bytes at a place of block 0.
-fn head_number<S: BlockStore>(blocks: &Blocks<S>, place: usize) -> u32
+pub fn head_number<S: BlockStore>(blocks: &Blocks<S>, place: usize) -> u32
     requires { place + 4 ≤ blocks.now.size }
     ensures { IsTrue blocks.now.is_sound → HasBlock blocks.now.size blocks.now.image 0 → result ≡ number_at 4 blocks.now.image place }
 {

@@ -14,7 +14,7 @@ use Rattle.hd_volume.proofs.FrameLemmas.{HasChanged}
 use Rattle.hd_volume.proofs.CallLemmas.{changed-by}
 use Rattle.hd_volume.proofs.PutLemmas.{if-some-map, if-none-map, room-of, no-hole}
 use Rattle.hd_volume.proofs.KindLemmas.{made-spare}
-use Rattle.hd_volume.proofs.GrowLemmas.{grown-has}
+use Rattle.hd_volume.proofs.GrowLemmas.{is-grown}
 use Rattle.hd_volume.proofs.volume.Volume.find_hole.Goals as goal
 
 pub returns-clause-found : goal.returns-clause-found
