@@ -7,4 +7,5 @@ pub mod CallLemmas
 pub mod PutLemmas
 pub mod KindLemmas
 pub mod GrowLemmas
+pub mod JoinLemmas
 pub mod SpaceLemmas

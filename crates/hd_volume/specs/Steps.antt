@@ -7,7 +7,7 @@ use Rattle.hd_volume.specs.Headers.{header_of}
 use Rattle.hd_volume.specs.Volumes.{VolumeState, block_at, kind_of, IsKind, IsFormatted}
 use Rattle.hd_volume.specs.Records.{find}
 use Rattle.hd_volume.specs.Rooms.{spare, largest_hole, HasHole}
-use Rattle.hd_volume.specs.Calls.{KeepsOthers, KeepsSegments, KeepsHoles, MayGrow}
+use Rattle.hd_volume.specs.Calls.{KeepsOthers, KeepsSegments, KeepsIndex, KeepsHoles, MayGrow}
 
 -- A data block has a hole of at least n bytes.
 pub record HasRoom (v : VolumeState) (n need : ℕ) : Type 0 where
@@ -50,3 +50,14 @@ pub record IsMade (old : VolumeState) (n kind : ℕ) (new : VolumeState) : Type 
 -- the first bytes of a data block with one hole, which begins at offset 8 and whose length has these two bytes
 abbrev pub data_head : ℕ → ℕ → List ℕ
 data_head high low = 0 ∷ 8 ∷ 1 ∷ 0 ∷ 0 ∷ 0 ∷ 0 ∷ 0 ∷ 0 ∷ 0 ∷ high ∷ low ∷ 0 ∷ 0 ∷ 0 ∷ 0 ∷ []
+
+-- Data block n has room for so many bytes. A hole that was there is used; else a free block or a new one has become it.
+pub record IsReady (old : VolumeState) (n need : ℕ) (new : VolumeState) : Type 0 where
+  pub formatted : IsFormatted new
+  pub room : HasRoom new n need
+  pub segments : KeepsSegments old new
+  pub index : KeepsIndex old new
+  pub grows : MayGrow old new
+  pub spares : spare old ≤ spare new + 1
+  pub in_hole : HasHole old need → spare new ≡ spare old
+  pub holes : KeepsHoles old new

@@ -3,10 +3,10 @@ ghost use Rattle.hd_volume.specs.Headers.{header_of};
 ghost use Rattle.hd_volume.specs.Volumes.{IsFormatted, IsKind};
 ghost use Rattle.hd_volume.specs.Rooms.{spare, HasHole};
 ghost use Rattle.hd_volume.specs.Calls.{IsCall, IsRead, IsPut};
-ghost use Rattle.hd_volume.specs.Steps.{HasRoom, IsPutIn, HasFree, IsMade, data_head};
+ghost use Rattle.hd_volume.specs.Steps.{HasRoom, IsPutIn, HasFree, IsMade, IsReady, data_head};
 
 use crate::load::MOST_BLOCKS;
-use crate::seek::seek_hole;
+use crate::seek::{seek_free, seek_hole};
 use crate::space::{Content, DATA, FREE, add_free, fill_free, make_room};
 use crate::store::BlockStore;
 use crate::volume::{COUNT, LARGEST, Volume, head_number};
@@ -42,6 +42,7 @@ impl<S: BlockStore> Volume<S> {
         ensures found { IfOk result (λ o. IsTrue self.old.is_sound → IfSome o (λ n. HasRoom self.old n (slice_index self.old.sizes code))) }
         ensures none { IfOk result (λ o. IsTrue self.old.is_sound → IfNone o (HasHole self.old (slice_index self.old.sizes code) → ⊥)) }
         ensures small { IfOk result (λ o. IfSome o (λ n. n < 65536)) }
+        ensures fits { (c : ℕ) → slice_index self.old.sizes c + 8 ≤ self.old.size }
         ensures refusal { IfErr result (λ e. e ≡ Refused.Device) }
     {
         let found = seek_hole(&mut self.blocks, &mut self.space, &self.sizes, code)?;
@@ -88,6 +89,115 @@ impl<S: BlockStore> Volume<S> {
         self.blocks.write_hand(2, &[FREE]);
         add_free(&mut self.space);
         Ok(())
+    }
+
+    /// The lowest free block, if there is one.
+    fn lowest_free(&mut self) -> Option<u32>
+        requires formatted { IsTrue self.old.is_sound → IsFormatted self.old }
+        ensures same { self.new ≡ self.old }
+        ensures found { IfSome result (λ n. IsTrue self.old.is_sound → IsKind self.old 3 n) }
+        ensures none { IfNone result (IsTrue self.old.is_sound → (m : ℕ) → IsKind self.old 3 m → ⊥) }
+        ensures small { IfSome result (λ n. n < 65536) }
+        ensures some { 0 < self.old.size }
+    {
+        if self.space.free == 0 {
+            return None;
+        }
+        let n = seek_free(&mut self.space);
+        if n == 0 { None } else { Some(n) }
+    }
+
+    /// The lowest free block. The volume grows by one where there is none.
+    fn free_block(&mut self) -> Result<u32, Refused>
+        requires formatted { IsTrue self.old.is_sound → IsFormatted self.old }
+        ensures call { IsCall self.old result self.new }
+        ensures free { IfOk result (λ n. IsTrue self.old.is_sound → HasFree self.old n self.new) }
+        ensures small { IfOk result (λ n. n < 65536) }
+        ensures kept { IfErr result (λ _. IsTrue self.new.is_sound → self.new.image ≡ self.old.image) }
+        ensures full { IfErr result (λ e. e ≡ Refused.Full → IsTrue self.old.is_sound → spare self.old ≡ 0) }
+        ensures memory { IfErr result (λ e. e ≡ Refused.Memory → self.old.room ≡ 0) }
+        ensures refusal { IfErr result (λ e. (e ≡ Refused.Memory) ⊎ (e ≡ Refused.Full) ⊎ (e ≡ Refused.Device)) }
+        ensures room { IsTrue self.new.is_sound → self.old.room ≤ self.new.room + 1 }
+    {
+        match self.lowest_free() {
+            Some(n) => Ok(n),
+            None => self.grown_block(),
+        }
+    }
+
+    /// The lowest free block of the volume grown by one.
+    fn grown_block(&mut self) -> Result<u32, Refused>
+        requires formatted { IsTrue self.old.is_sound → IsFormatted self.old }
+        ensures call { IsCall self.old result self.new }
+        ensures free { IfOk result (λ n. IsTrue self.old.is_sound → HasFree self.old n self.new) }
+        ensures small { IfOk result (λ n. n < 65536) }
+        ensures kept { IfErr result (λ _. IsTrue self.new.is_sound → self.new.image ≡ self.old.image) }
+        ensures full { IfErr result (λ e. e ≡ Refused.Full → IsTrue self.old.is_sound → (header_of self.old.image).largest ≤ (header_of self.old.image).count) }
+        ensures memory { IfErr result (λ e. e ≡ Refused.Memory → self.old.room ≡ 0) }
+        ensures refusal { IfErr result (λ e. (e ≡ Refused.Memory) ⊎ (e ≡ Refused.Full) ⊎ (e ≡ Refused.Device)) }
+        ensures room { IsTrue self.new.is_sound → self.old.room ≤ self.new.room + 1 }
+        ensures some { 0 < self.old.size }
+    {
+        let _ = &self.blocks;
+        self.extend()?;
+        match self.lowest_free() {
+            Some(n) => Ok(n),
+            None => Ok(0),
+        }
+    }
+
+    /// A data block with one hole, which was free or by which the volume has grown.
+    fn new_block(&mut self) -> Result<u32, Refused>
+        requires formatted { IsTrue self.old.is_sound → IsFormatted self.old }
+        ensures call { IsCall self.old result self.new }
+        ensures ready { IfOk result (λ n. IsTrue self.old.is_sound → (need : ℕ) → need + 8 ≤ self.old.size → (HasHole self.old need → ⊥) → IsReady self.old n need self.new) }
+        ensures small { IfOk result (λ n. n < 65536) }
+        ensures kept { IfErr result (λ _. IsTrue self.new.is_sound → self.new.image ≡ self.old.image) }
+        ensures full { IfErr result (λ e. e ≡ Refused.Full → IsTrue self.old.is_sound → spare self.old ≡ 0) }
+        ensures memory { IfErr result (λ e. e ≡ Refused.Memory → self.old.room ≡ 0) }
+        ensures refusal { IfErr result (λ e. (e ≡ Refused.Memory) ⊎ (e ≡ Refused.Full) ⊎ (e ≡ Refused.Device)) }
+        ensures room { IsTrue self.new.is_sound → self.old.room ≤ self.new.room + 1 }
+    {
+        let n = self.free_block()?;
+        self.make_data(n)?;
+        Ok(n)
+    }
+
+    /// A data block with room for a segment of a type.
+    fn ready_block(&mut self, code: u8) -> Result<u32, Refused>
+        requires formatted { IsTrue self.old.is_sound → IsFormatted self.old }
+        ensures call { IsCall self.old result self.new }
+        ensures ready { IfOk result (λ n. IsTrue self.old.is_sound → IsReady self.old n (slice_index self.old.sizes code) self.new) }
+        ensures small { IfOk result (λ n. n < 65536) }
+        ensures kept { IfErr result (λ _. IsTrue self.new.is_sound → self.new.image ≡ self.old.image) }
+        ensures full { IfErr result (λ e. e ≡ Refused.Full → IsTrue self.old.is_sound → (spare self.old ≡ 0) × (HasHole self.old (slice_index self.old.sizes code) → ⊥)) }
+        ensures memory { IfErr result (λ e. e ≡ Refused.Memory → self.old.room ≡ 0) }
+        ensures refusal { IfErr result (λ e. (e ≡ Refused.Memory) ⊎ (e ≡ Refused.Full) ⊎ (e ≡ Refused.Device)) }
+        ensures room { IsTrue self.new.is_sound → self.old.room ≤ self.new.room + 1 }
+    {
+        match self.find_hole(code)? {
+            Some(n) => Ok(n),
+            None => self.new_block(),
+        }
+    }
+
+    /// Puts a segment, its prefix first and padded to a multiple of 8, and says its address.
+    ///
+    /// `Full` says that there is no block to spare and no hole of its size; `Memory` comes only where no room is reserved.
+    pub fn put(&mut self, bytes: &[u8]) -> Result<u32, Refused>
+        requires formatted { IsTrue self.old.is_sound → IsFormatted self.old }
+        requires whole { (0 < length bytes.now) × (slice_index self.old.sizes (slice_index bytes.now 0) ≡ length bytes.now) }
+        ensures call { IsCall self.old result self.new }
+        ensures put { IfOk result (λ address. IsTrue self.old.is_sound → IsPut self.old address bytes.now self.new) }
+        ensures kept { IfErr result (λ _. IsTrue self.new.is_sound → self.new.image ≡ self.old.image) }
+        ensures full { IfErr result (λ e. e ≡ Refused.Full → IsTrue self.old.is_sound → (spare self.old ≡ 0) × (HasHole self.old (length bytes.now) → ⊥)) }
+        ensures memory { IfErr result (λ e. e ≡ Refused.Memory → self.old.room ≡ 0) }
+        ensures refusal { IfErr result (λ e. (e ≡ Refused.Memory) ⊎ (e ≡ Refused.Full) ⊎ (e ≡ Refused.Device)) }
+        ensures room { IsTrue self.new.is_sound → self.old.room ≤ self.new.room + 1 }
+    {
+        let n = self.ready_block(bytes[0])?;
+        let address = self.put_in(n, bytes)?;
+        Ok(address)
     }
 }
 
