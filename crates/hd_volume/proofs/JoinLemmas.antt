@@ -11,7 +11,7 @@ use Rattle.hd_volume.specs.Rooms.{spare, free_below, largest_hole, HasHole}
 use Rattle.hd_dbd.specs.declared.answer.Refused.{Refused}
 use Rattle.hd_dbd.specs.declared.answer.Refused.TheVariants.{Memory, Full, Device, Broken, Area}
 use Rattle.hd_volume.specs.Stores.{CountsFor, SoundFor}
-use Rattle.hd_volume.specs.Calls.{IsCall, IsRead, KeepsHoles, KeepsOthers, KeepsSegments, KeepsIndex, MayGrow, IsPut}
+use Rattle.hd_volume.specs.Calls.{IsCall, IsRead, KeepsHoles, KeepsOthers, KeepsSegments, KeepsIndex, MayGrow, IsPut, IsTakenBlock}
 use Rattle.hd_volume.specs.declared.space.Space.{Space}
 use Rattle.hd_volume.specs.declared.space.Content.{Content}
 use Rattle.hd_volume.specs.Spaces.{blocks_in, content_at, IsContent, IsSpaceOf}
@@ -319,3 +319,39 @@ ready-after {v} {w} {u} o n need r = record {
 pub hole-after : {v w : VolumeState} → AreOne v w → (need : ℕ) → HasHole w need → HasHole v need
 hole-after o need h =
     one-holes (record { same = record { size = sym o.same.size; sizes = sym o.same.sizes }; image = sym o.image }) need h
+
+-- ---- a free block that becomes one for the index
+
+pub taken-block : {u v w : VolumeState} (n level : ℕ) → AreSame u v → AreSame v w → IsFormatted u → step.HasFree u n v → step.IsMadeIndex v n level w → IsTakenBlock u n level w
+taken-block {u} {v} {w} n level t s f h m =
+    let same : header_of w.image ≡ header_of v.image = m.made.header in
+    let count : (header_of w.image).count ≡ (header_of v.image).count = ap (λ (x : Header). x.count) same in
+    let long : length u.image ≤ length v.image =
+    (let a = f.header.whole in
+    let b : length v.image ≡ (header_of v.image).count * u.size = h.formatted.header.whole ∙ (let e : (header_of v.image).count * v.size ≡ (header_of v.image).count * u.size = rw t.size refl in e) in
+    elim h.grows.count [
+      | inl e ↦ (let same-count : (header_of v.image).count * u.size ≡ (header_of u.image).count * u.size = ap (λ (k : ℕ). k * u.size) e in omega arith)
+      | inr e ↦ (let more-count : (header_of v.image).count * u.size ≡ ((header_of u.image).count + 1) * u.size = ap (λ (k : ℕ). k * u.size) e in omega arith)
+    ]) in
+    let there = λ (k : ℕ) (x : HasBlock u.size u.image k). (let y : HasBlock v.size v.image k = rw t.size (omega arith) in y) in
+    let others = λ (k : ℕ) (x : HasBlock u.size u.image k) (later : 0 < k) (apart : k ≢ n). (let y : block_at w k ≡ block_at u k = block-seen s k ∙ m.made.block.others k (there k x) apart ∙ h.others k x later in y) in
+    record {
+      formatted = m.made.formatted;
+      was = h.was;
+      is = m.made.is;
+      level_is = m.level_is;
+      empty = m.empty;
+      others = others;
+      segments = λ b. m.made.segments b ∙ h.segments b;
+      index = λ k is.
+          let first = h.others k is.there is.later in
+          others k is.there is.later (λ e.
+          (let two : kind_of (block_at v k) ≡ 2 = ap kind_of first ∙ is.kind_is in
+          let three : kind_of (block_at v k) ≡ 3 = ap (λ (i : ℕ). kind_of (block_at v i)) e ∙ h.is.kind_is in omega arith));
+      grows = record {
+        count = rw count h.grows.count;
+        header = same ∙ h.grows.header ∙ (let e : record (header_of u.image) { count = (header_of v.image).count } ≡ record (header_of u.image) { count = (header_of w.image).count } = rw count refl in e);
+      };
+      spares = (let a = h.spares in let b = m.made.spares in omega arith);
+      holes = λ k x. m.made.holes k (h.holes k x);
+    }

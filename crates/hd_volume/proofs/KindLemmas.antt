@@ -6,7 +6,7 @@ use Rattle.std.proofs.Math.Nat.{mul-div_cancel}
 use Rattle.hd_bytes.specs.Numbers.{number_at}
 use Rattle.hd_bytes.specs.Ranges.{with_bytes}
 use Rattle.hd_bytes.proofs.BlockLemmas.{length-block}
-use Rattle.hd_bytes.proofs.NumberLemmas.{length-with}
+use Rattle.hd_bytes.proofs.NumberLemmas.{length-with, changes-with}
 use Rattle.hd_block.specs.Extents.{Extent, free, IsDivided, AreWhole, UsedAt}
 use Rattle.hd_block.proofs.PartLemmas.{parts-divided}
 use Rattle.hd_block.specs.Walk.{parts_in}
@@ -23,7 +23,9 @@ use Rattle.hd_volume.specs.Rooms.{spare, is_free, one_if, free_below, largest_ho
 use Rattle.hd_volume.specs.Spaces.{blocks_in, content_at, IsContent, IsSpaceOf}
 use Rattle.hd_volume.specs.Calls.{KeepsHoles, KeepsSegments}
 use Rattle.hd_volume.specs.Steps as step
-use Rattle.hd_volume.proofs.FrameLemmas.{AreSame, HasChanged, block-seen, find-frame, kind-back, kind-on, other-blocks, other-segments, keeps-header, has-header}
+use Rattle.hd_volume.specs.Calls as call
+use Rattle.hd_volume.proofs.EditLemmas.{put-byte}
+use Rattle.hd_volume.proofs.FrameLemmas.{AreSame, HasChanged, block-seen, find-frame, kind-back, kind-on, other-blocks, other-segments, keeps-header, has-header, keeps-space}
 use Rattle.hd_volume.proofs.CallLemmas.{find-new, looked-at, content-own, content-other}
 
 -- ---- counting free blocks
@@ -281,3 +283,179 @@ module _ (v w : VolumeState) (n high low : ℕ) (f : IsFormatted v) (free-is : I
       let large = data-large in
       made-space v w n space new-space (record { kind = 1; hole = hole }) c f.header h data-later below contents len
       (record { kind_is = sym data-kind; bound = λ _. omega arith }) lower (λ _. opened) (omega arith) (omega arith) (λ three. absurd (omega arith))
+
+-- ---- a block that is for data neither before nor after
+
+module _ (v w : VolumeState) (n k k' : ℕ) (f : IsFormatted v) (was : IsKind v k n) (other : k ≢ 1) (other' : k' ≢ 1) (least : 44 ≤ v.size)
+    (c : HasChanged v w n) (now : kind_of (block_of v.size w.image n) ≡ k') where
+  plain-was : kind_of (block_at v n) ≢ 1
+  plain-was = λ e. other (sym was.kind_is ∙ e)
+
+  plain-later : n ≢ 0
+  plain-later = (let l = was.later in λ e. omega arith)
+
+  pub plain-header : header_of w.image ≡ header_of v.image
+  plain-header = keeps-header c f.header least plain-later
+
+  pub plain-formatted : IsFormatted w
+  plain-formatted = made-formatted c f plain-was plain-header (λ e. absurd (other' (sym now ∙ e)))
+
+  pub plain-segments : KeepsSegments v w
+  plain-segments = made-segments c f plain-was (λ e. absurd (other' (sym now ∙ e)))
+
+  pub plain-holes : KeepsHoles v w
+  plain-holes = made-holes c f plain-was
+
+  pub plain-is : IsKind w k' n
+  plain-is = record {
+    there = (let t = was.there in let l = c.change.len in rw c.same.size (omega arith));
+    later = was.later;
+    kind_is = ap kind_of (block-seen c.same n) ∙ now;
+  }
+
+  pub plain-spare : spare w + one_if (is_free v.size v.image n) ≡ spare v + one_if (is_free v.size w.image n)
+  plain-spare = (let some : 0 < v.size = omega arith in made-spare c f plain-was plain-header (below-count v n f.header some was.there))
+
+  pub plain-space : (space new : Space) (x : Content) → IsSpaceOf v.size v.sizes v.image space → x.kind ≡ k'
+      → new.contents.items ≡ slice_set space.contents.items n x → vec_len new.contents ≡ vec_len space.contents
+      → ((m : ℕ) → slice_index new.lowest.items m ≤ slice_index space.lowest.items m)
+      → new.free + one_if (is_free v.size v.image n) ≡ space.free + one_if (is_free v.size w.image n)
+      → new.lowest_free ≤ space.lowest_free → (k' ≡ 3 → new.lowest_free ≤ n) → IsSpaceOf v.size v.sizes w.image new
+  plain-space space new x h x-is contents len lower balance lowest given =
+      let some : 0 < v.size = omega arith in
+      made-space v w n space new x c f.header h plain-later (looked-at v n f.header some was.there) contents len
+      (record { kind_is = x-is ∙ sym now; bound = λ e. absurd (other' (sym x-is ∙ e)) }) lower (λ e. absurd (other' (sym x-is ∙ e))) balance lowest (λ e. given (sym now ∙ e))
+
+-- ---- an index block
+
+two-one : ◌≢◌ {A = ℕ} 2 1
+two-one e = omega arith
+
+three-one : ◌≢◌ {A = ℕ} 3 1
+three-one e = omega arith
+
+zeros-none : (k : ℕ) → slice_index [] k ≡ 0
+zeros-none k = refl
+
+zeros-more : (xs : List ℕ) → ((k : ℕ) → slice_index xs k ≡ 0) → (k : ℕ) → slice_index (0 ∷ xs) k ≡ 0
+zeros-more xs h zero = refl
+zeros-more xs h (suc k) = h k
+
+eight-zeros : (k : ℕ) → slice_index (0 ∷ 0 ∷ 0 ∷ 0 ∷ 0 ∷ 0 ∷ 0 ∷ 0 ∷ []) k ≡ 0
+eight-zeros = zeros-more (0 ∷ 0 ∷ 0 ∷ 0 ∷ 0 ∷ 0 ∷ 0 ∷ []) (zeros-more (0 ∷ 0 ∷ 0 ∷ 0 ∷ 0 ∷ 0 ∷ []) (zeros-more (0 ∷ 0 ∷ 0 ∷ 0 ∷ 0 ∷ []) (zeros-more (0 ∷ 0 ∷ 0 ∷ 0 ∷ []) (zeros-more (0 ∷ 0 ∷ 0 ∷ []) (zeros-more (0 ∷ 0 ∷ []) (zeros-more (0 ∷ []) (zeros-more [] zeros-none)))))))
+
+head-zeros : (level k : ℕ) → 4 ≤ k → slice_index (0 ∷ 0 ∷ 2 ∷ level ∷ 0 ∷ 0 ∷ 0 ∷ 0 ∷ 0 ∷ 0 ∷ 0 ∷ 0 ∷ []) k ≡ 0
+head-zeros level zero h = absurd (omega arith)
+head-zeros level (suc zero) h = absurd (omega arith)
+head-zeros level (suc (suc zero)) h = absurd (omega arith)
+head-zeros level (suc (suc (suc zero))) h = absurd (omega arith)
+head-zeros level (suc (suc (suc (suc k)))) h = eight-zeros k
+
+abbrev pub index_head : ℕ → List ℕ
+index_head level = 0 ∷ 0 ∷ 2 ∷ level ∷ 0 ∷ 0 ∷ 0 ∷ 0 ∷ 0 ∷ 0 ∷ 0 ∷ 0 ∷ []
+
+module _ (v w : VolumeState) (n level : ℕ) (f : IsFormatted v) (was : IsKind v 3 n) (least : 128 ≤ v.size) (c : HasChanged v w n)
+    (new : block_of v.size w.image n ≡ with_bytes (block_at v n) 0 (index_head level)) where
+  pub index-made : step.IsMadeIndex v n level w
+  index-made =
+      let now : kind_of (block_of v.size w.image n) ≡ 2 = ap kind_of new in
+      let three = three-one in
+      let two = two-one in
+      let low : 44 ≤ v.size = omega arith in
+      let seen = block-seen c.same n in
+      let long = length-block v.size n v.image was.there in
+      record {
+        made = record {
+          formatted = plain-formatted v w n 3 2 f was three two low c now;
+          is = plain-is v w n 3 2 f was three two low c now;
+          block = c.change;
+          header = plain-header v w n 3 2 f was three two low c now;
+          segments = plain-segments v w n 3 2 f was three two low c now;
+          spares =
+              (let s = plain-spare v w n 3 2 f was three two low c now in
+              let one = is-free v.size v.image n (let l = was.later in λ e. omega arith) was.kind_is in
+              let none = not-free v.size w.image n (λ e. omega arith) in omega arith);
+          holes = plain-holes v w n 3 2 f was three two low c now;
+        };
+        level_is = ap (λ (b : List ℕ). slice_index b 3) (seen ∙ new);
+        empty = λ k h l.
+            ap (λ (b : List ℕ). slice_index b k) (seen ∙ new) ∙ ap (λ (i : ℕ). slice_index (with_bytes (block_at v n) 0 (index_head level)) i) (let e : k ≡ 0 + k = omega arith in e)
+            ∙ put-byte (block_at v n) (index_head level) 0 k (omega arith) l ∙ head-zeros level k h;
+      }
+
+  pub index-space : (space new-space : Space) → IsSpaceOf v.size v.sizes v.image space
+      → new-space.contents.items ≡ slice_set space.contents.items n (record { kind = 2; hole = 0 }) → vec_len new-space.contents ≡ vec_len space.contents
+      → ((m : ℕ) → slice_index new-space.lowest.items m ≤ slice_index space.lowest.items m) → new-space.free ≡ space.free - 1 → new-space.lowest_free ≡ space.lowest_free
+      → IsSpaceOf v.size v.sizes w.image new-space
+  index-space space new-space h contents len lower less lowest =
+      let now : kind_of (block_of v.size w.image n) ≡ 2 = ap kind_of new in
+      let some : 0 < v.size = omega arith in
+      let later : n ≢ 0 = (let l = was.later in λ e. omega arith) in
+      let one = is-free v.size v.image n later was.kind_is in
+      let none = not-free v.size w.image n (λ e. omega arith) in
+      let positive = some-free v.size v.image n (blocks_in v.size v.image) (looked-at v n f.header some was.there) later was.kind_is in
+      let count = h.free in
+      plain-space v w n 3 2 f was three-one two-one (omega arith) c now space new-space (record { kind = 2; hole = 0 }) h refl contents len lower (omega arith) (omega arith) (λ e. absurd (omega arith))
+
+module _ (v w : VolumeState) (n : ℕ) (f : IsFormatted v) (was : IsKind v 2 n) (least : 128 ≤ v.size) (c : HasChanged v w n)
+    (new : block_of v.size w.image n ≡ with_bytes (block_at v n) 2 (3 ∷ [])) where
+  given-kind : kind_of (block_of v.size w.image n) ≡ 3
+  given-kind = (let long = length-block v.size n v.image was.there in ap kind_of new ∙ put-byte (block_at v n) (3 ∷ []) 2 0 (omega arith) (omega arith))
+
+  pub block-given : call.IsGivenBlock v n w
+  block-given =
+      let two = two-one in
+      let three = three-one in
+      let low : 44 ≤ v.size = omega arith in
+      record {
+        formatted = plain-formatted v w n 2 3 f was two three low c given-kind;
+        is = plain-is v w n 2 3 f was two three low c given-kind;
+        block = c.change;
+        segments = plain-segments v w n 2 3 f was two three low c given-kind;
+        header = plain-header v w n 2 3 f was two three low c given-kind;
+        spares =
+            (let s = plain-spare v w n 2 3 f was two three low c given-kind in
+            let one = is-free v.size w.image n (let l = was.later in λ e. omega arith) given-kind in
+            let none = not-free v.size v.image n (let k = was.kind_is in λ e. omega arith) in omega arith);
+        holes = plain-holes v w n 2 3 f was two three low c given-kind;
+      }
+
+  pub given-space : (space new-space : Space) → IsSpaceOf v.size v.sizes v.image space
+      → new-space.contents.items ≡ slice_set space.contents.items n (record { kind = 3; hole = 0 }) → vec_len new-space.contents ≡ vec_len space.contents
+      → new-space.lowest ≡ space.lowest → new-space.free ≡ space.free + 1 → new-space.lowest_free ≤ space.lowest_free → new-space.lowest_free ≤ n
+      → IsSpaceOf v.size v.sizes w.image new-space
+  given-space space new-space h contents len lowest more low-free lower =
+      let one = is-free v.size w.image n (let l = was.later in λ e. omega arith) given-kind in
+      let none = not-free v.size v.image n (let k = was.kind_is in λ e. omega arith) in
+      plain-space v w n 2 3 f was two-one three-one (omega arith) c given-kind space new-space (record { kind = 3; hole = 0 }) h refl contents len
+      (λ m. (let e : slice_index new-space.lowest.items m ≡ slice_index space.lowest.items m = ap (λ l. slice_index l.items m) lowest in omega arith)) (omega arith) low-free (λ _. lower)
+
+module _ (v w : VolumeState) (n offset : ℕ) (bs : List ℕ) (f : IsFormatted v) (was : IsKind v 2 n) (least : 128 ≤ v.size) (behind : 4 ≤ offset) (within : offset + length bs ≤ v.size) (c : HasChanged v w n)
+    (new : block_of v.size w.image n ≡ with_bytes (block_at v n) offset bs) where
+  kept-kind : kind_of (block_of v.size w.image n) ≡ kind_of (block_at v n)
+  kept-kind =
+      let long = length-block v.size n v.image was.there in
+      let x = changes-with (block_at v n) bs offset (omega arith) in
+      ap kind_of new ∙ x.below 2 (omega arith)
+
+  pub block-written : call.IsWrittenBlock v n offset bs w
+  block-written =
+      let two = two-one in
+      let low : 44 ≤ v.size = omega arith in
+      let now : kind_of (block_of v.size w.image n) ≡ 2 = kept-kind ∙ was.kind_is in
+      record {
+        formatted = plain-formatted v w n 2 2 f was two two low c now;
+        is = plain-is v w n 2 2 f was two two low c now;
+        value = block-seen c.same n ∙ new;
+        block = c.change;
+        segments = plain-segments v w n 2 2 f was two two low c now;
+        header = plain-header v w n 2 2 f was two two low c now;
+        spares =
+            (let s = plain-spare v w n 2 2 f was two two low c now in
+            let one = not-free v.size w.image n (λ e. omega arith) in
+            let none = not-free v.size v.image n (let k = was.kind_is in λ e. omega arith) in omega arith);
+        holes = plain-holes v w n 2 2 f was two two low c now;
+      }
+
+  pub written-space : (space : Space) → IsSpaceOf v.size v.sizes v.image space → IsSpaceOf v.size v.sizes w.image space
+  written-space space h = keeps-space c f.header space h kept-kind (λ one below. absurd (let k = was.kind_is in omega arith))

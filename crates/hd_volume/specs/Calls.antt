@@ -121,3 +121,14 @@ pub record HasNewHeader (old : VolumeState) (header : Header) (new : VolumeState
   pub segments : KeepsSegments old new
   pub spares : spare new ≡ spare old
   pub holes : KeepsHoles old new
+
+-- Bytes were written into index block n.
+pub record IsWrittenBlock (old : VolumeState) (n offset : ℕ) (bytes : List ℕ) (new : VolumeState) : Type 0 where
+  pub formatted : IsFormatted new
+  pub is : IsKind new 2 n
+  pub value : block_at new n ≡ with_bytes (block_at old n) offset bytes
+  pub block : ChangesBlock old.size n old.image new.image
+  pub segments : KeepsSegments old new
+  pub header : header_of new.image ≡ header_of old.image
+  pub spares : spare new ≡ spare old
+  pub holes : KeepsHoles old new

@@ -61,3 +61,9 @@ pub record IsReady (old : VolumeState) (n need : ℕ) (new : VolumeState) : Type
   pub spares : spare old ≤ spare new + 1
   pub in_hole : HasHole old need → spare new ≡ spare old
   pub holes : KeepsHoles old new
+
+-- Free block n has become an index block of a level, with no entry and none behind it.
+pub record IsMadeIndex (old : VolumeState) (n level : ℕ) (new : VolumeState) : Type 0 where
+  pub made : IsMade old n 2 new
+  pub level_is : slice_index (block_at new n) 3 ≡ level
+  pub empty : (k : ℕ) → 4 ≤ k → k < 12 → slice_index (block_at new n) k ≡ 0

@@ -108,7 +108,7 @@ impl<S: BlockStore> Volume<S> {
     }
 
     /// The lowest free block. The volume grows by one where there is none.
-    fn free_block(&mut self) -> Result<u32, Refused>
+    pub(crate) fn free_block(&mut self) -> Result<u32, Refused>
         requires formatted { IsTrue self.old.is_sound → IsFormatted self.old }
         ensures call { IsCall self.old result self.new }
         ensures free { IfOk result (λ n. IsTrue self.old.is_sound → HasFree self.old n self.new) }
