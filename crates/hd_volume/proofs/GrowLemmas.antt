@@ -22,7 +22,8 @@ use Rattle.hd_volume.specs.Calls.{KeepsHoles, KeepsSegments, MayGrow}
 use Rattle.hd_volume.specs.Steps as step
 use Rattle.hd_volume.proofs.MapLemmas.{past-end}
 use Rattle.hd_volume.proofs.EditLemmas.{put-byte}
-use Rattle.hd_volume.proofs.FrameLemmas.{AreSame, block-seen, find-frame, free-same}
+use Rattle.hd_volume.specs.Calls as call
+use Rattle.hd_volume.proofs.FrameLemmas.{AreSame, HasChanged, block-seen, find-frame, free-same, other-blocks, other-segments, kind-back, kind-on}
 use Rattle.hd_volume.proofs.SpaceLemmas.{has-block, whole-block, number-in-first, free-more, one-most, content-before, content-last}
 
 -- ---- one number of the header
@@ -351,3 +352,65 @@ formatted-some v h positive =
 pub free-most : (size : ℕ) (image : List ℕ) (n : ℕ) → free_below size image n ≤ n
 free-most size image zero = omega arith
 free-most size image (suc n) = let rest = free-most size image n in let one = one-most (is_free size image n) in omega arith
+
+-- ---- a number of the header that is set
+
+module _ (v w : VolumeState) (h : Header) (f : IsFormatted v) (positive : 0 < v.size) (c : HasChanged v w 0) (is : header_of w.image ≡ h)
+    (mark : h.mark ≡ (header_of v.image).mark) (count : h.count ≡ (header_of v.image).count) (largest : h.largest ≡ (header_of v.image).largest) where
+  set-kinds : (m : ℕ) → m ≢ 0 → kind_of (block_of v.size w.image m) ≡ kind_of (block_at v m)
+  set-kinds m some = ap kind_of (other-blocks c f.header m some)
+
+  pub header-set : call.HasNewHeader v h w
+  header-set =
+      let count-is : (header_of w.image).count ≡ (header_of v.image).count = ap (λ (x : Header). x.count) is ∙ count in
+      let largest-is : (header_of w.image).largest ≡ (header_of v.image).largest = ap (λ (x : Header). x.largest) is ∙ largest in
+      let len = c.change.len in
+      let first = f.header.first in
+      record {
+        formatted = λ _. record {
+          header = record {
+            first = rw c.same.size (omega arith);
+            mark = ap (λ (x : Header). x.mark) is ∙ mark ∙ f.header.mark;
+            whole = len ∙ f.header.whole ∙ (let e : (header_of v.image).count * v.size ≡ (header_of w.image).count * w.size = rw (count-is, c.same.size) refl in e);
+            within = rw (count-is, largest-is) f.header.within;
+            bound = rw largest-is f.header.bound;
+          };
+          divided = λ m k.
+              let some : m ≢ 0 = (let l = k.later in λ e. omega arith) in
+              let P : List ℕ → Type 0 = λ b. HasExtents (slice_index w.sizes) b in
+              let Q : List ℕ → Type 0 = λ z. HasExtents (slice_index z) (block_of v.size w.image m) in
+              let R : List ℕ → Type 0 = λ b. HasExtents (slice_index v.sizes) b in
+              subst P (sym (block-seen c.same m)) (subst Q (sym c.same.sizes) (subst R (sym (other-blocks c f.header m some)) (f.divided m (kind-back c.same 1 m len (set-kinds m some) k))));
+        };
+        is = is;
+        block = c.change;
+        segments = λ a. elim (cases_eq (a / v.size) 0) [
+          | inl z ↦ (let e : find w a ≡ find v a = rw (c.same.size, c.same.sizes, eq-eqb (a / v.size) 0 z) refl in e)
+          | inr some ↦ other-segments c f.header a some
+        ];
+        spares =
+            (let free = free-same v.size v.image w.image (header_of v.image).count set-kinds in
+            rw (count-is, largest-is, c.same.size, free) refl);
+        holes = λ k x.
+            let m : ℕ = x.block in
+            let some : m ≢ 0 = (let l = x.is_data.later in λ e. omega arith) in
+            let P : List ℕ → Type 0 = λ b. k ≤ largest_hole (parts_in (slice_index w.sizes) b) in
+            let Q : List ℕ → Type 0 = λ z. k ≤ largest_hole (parts_in (slice_index z) (block_of v.size w.image m)) in
+            let R : List ℕ → Type 0 = λ b. k ≤ largest_hole (parts_in (slice_index v.sizes) b) in
+            record { block = m; is_data = kind-on c.same 1 m len (set-kinds m some) x.is_data; large = subst P (sym (block-seen c.same m)) (subst Q (sym c.same.sizes) (subst R (sym (other-blocks c f.header m some)) x.large)) };
+      }
+
+-- what is kept of the blocks says nothing of block 0
+pub set-space : (v w : VolumeState) (space : Space) → IsFormatted v → HasChanged v w 0 → IsSpaceOf v.size v.sizes v.image space → IsSpaceOf v.size v.sizes w.image space
+set-space v w space f c h =
+    let blocks : blocks_in v.size w.image ≡ blocks_in v.size v.image = ap (λ (k : ℕ). min (k / v.size) 65536) c.change.len in
+    record {
+      len = h.len ∙ sym blocks;
+      contents = λ m some below.
+          (let R : List ℕ → Type 0 = λ b. IsContent (slice_index v.sizes) b (content_at space m) in
+          subst R (sym (other-blocks c f.header m (λ e. omega arith))) (h.contents m some (rw blocks at below)));
+      lowest = λ k m some low below. h.lowest k m some low (rw blocks at below);
+      free = h.free ∙ (let e : free_below v.size v.image (blocks_in v.size v.image) ≡ free_below v.size w.image (blocks_in v.size w.image) =
+          sym (free-same v.size v.image w.image (blocks_in v.size v.image) (λ m some. ap kind_of (other-blocks c f.header m some))) ∙ ap (λ (k : ℕ). free_below v.size w.image k) (sym blocks) in e);
+      lowest_free = λ m some low below three. h.lowest_free m some low (rw blocks at below) (ap kind_of (sym (other-blocks c f.header m (λ e. omega arith))) ∙ three);
+    }

@@ -5,6 +5,7 @@ mod blocks;
 mod buffer;
 mod file;
 mod fuse;
+mod header;
 mod index_blocks;
 mod load;
 mod memory;

@@ -22,13 +22,13 @@ pub const COUNT: usize = 12;
 
 pub const LARGEST: usize = 16;
 
-const FIRST_ROOT: usize = 28;
+pub const FIRST_ROOT: usize = 28;
 
-const LAST_ROOT: usize = 32;
+pub const LAST_ROOT: usize = 32;
 
-const TOP: usize = 36;
+pub const TOP: usize = 36;
 
-const HEIGHT: usize = 40;
+pub const HEIGHT: usize = 40;
 
 /// A volume over a store: a finite map from addresses to segments, and blocks for an index.
 ///
