@@ -8,4 +8,5 @@ pub mod PutLemmas
 pub mod KindLemmas
 pub mod GrowLemmas
 pub mod JoinLemmas
+pub mod LawLemmas
 pub mod SpaceLemmas

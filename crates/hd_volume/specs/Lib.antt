@@ -10,6 +10,7 @@ pub mod Rooms
 pub mod Spaces
 pub mod Calls
 pub mod Steps
+pub mod Laws
 pub mod Lends
 pub mod Memory
 pub mod Fuses

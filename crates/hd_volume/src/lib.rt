@@ -7,6 +7,7 @@ mod file;
 mod fuse;
 mod header;
 mod index_blocks;
+mod law;
 mod load;
 mod memory;
 mod puts;
@@ -17,6 +18,7 @@ mod volume;
 
 pub use file::FileStore;
 pub use fuse::FuseStore;
+pub use law::{law_entries_depend_on_index_blocks, law_segments_depend_on_data_blocks};
 pub use memory::MemStore;
 pub use store::BlockStore;
 pub use volume::Volume;
