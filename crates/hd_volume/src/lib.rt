@@ -25,3 +25,5 @@ pub use volume::Volume;
 
 #[cfg(test)]
 mod tests;
+#[cfg(test)]
+mod volume_tests;
