@@ -6,7 +6,7 @@ use Rattle.std.specs.Vec.{with_items}
 use Rattle.std.specs.declared.vec.Vec.{Vec}
 use Rattle.std.specs.declared.alloc.Global.{Global}
 use Rattle.hd_bytes.specs.Blocks.{block_of, with_block, grown, HasBlock}
-use Rattle.hd_bytes.proofs.BlockLemmas.{with-own, length-with_block, own-with, with-twice, other-with, block-grown, length-grown}
+use Rattle.hd_bytes.proofs.BlockLemmas.{with-own, length-with_block, own-with, other-with, block-grown, length-grown}
 use Rattle.hd_volume.specs.declared.buffer.Buffer.{Buffer}
 use Rattle.hd_volume.specs.Buffers.{put_in, image_of, IsBuffer, AreBuffers, AreKept, number_of}
 use Rattle.hd_volume.specs.Images.{ChangesBlock}

@@ -1,28 +1,28 @@
 -- What the calls on segments do to a volume.
-use Rattle.std.proofs.Common.{◌≡◌, ◌≢◌, ◌⊎◌, inl, inr, ℕ, ◌+◌, ◌-◌, ◌*◌, ◌/◌, ◌%◌, ◌<◌, ◌≤◌, min, List, [], length, slice_index, slice_index_or, slice_set, vec_len, get_or-set_other, get_or-set_same, Option, Some, None, refl, sym, ap, ◌∙◌, arith, ne_eqb, subst}
+use Rattle.std.proofs.Common.{◌≡◌, ◌≢◌, ◌⊎◌, inl, inr, ℕ, ◌+◌, ◌*◌, ◌/◌, ◌%◌, ◌<◌, ◌≤◌, min, List, length, slice_index, slice_index_or, slice_set, vec_len, get_or-set_other, get_or-set_same, Some, refl, sym, ap, ◌∙◌, arith, ne_eqb, subst}
 use Rattle.std.proofs.lemmas.Bool.{cases_lt, cases_eq, eq-eqb}
 use Rattle.std.proofs.lemmas.List.{get_or_past}
 use Rattle.std.proofs.Math.ListN.{length-set}
-use Rattle.hd_bytes.specs.Ranges.{bytes_at, with_bytes, AgreeOn}
+use Rattle.hd_bytes.specs.Ranges.{bytes_at, with_bytes}
 use Rattle.hd_bytes.specs.Blocks.{block_of, HasBlock}
 use Rattle.hd_bytes.proofs.BlockLemmas.{place-of, length-block}
-use Rattle.hd_block.specs.Extents.{Extent, IsDivided, AreWhole, UsedAt}
+use Rattle.hd_block.specs.Extents.{UsedAt}
 use Rattle.hd_block.specs.Walk.{parts_in}
 use Rattle.std.proofs.Math.Nat.{mul-div_cancel}
 use Rattle.hd_volume.specs.declared.space.Space.{Space}
 use Rattle.hd_volume.specs.declared.space.Content.{Content}
-use Rattle.hd_volume.specs.Edits.{IsTaken, IsGiven}
+use Rattle.hd_volume.specs.Edits.{IsGiven}
 use Rattle.hd_volume.specs.Images.{ChangesBlock}
-use Rattle.hd_volume.specs.Headers.{Header, header_of, HasHeader}
+use Rattle.hd_volume.specs.Headers.{header_of, HasHeader}
 use Rattle.hd_volume.specs.Volumes.{VolumeState, block_at, kind_of, IsKind, HasExtents, IsFormatted}
-use Rattle.hd_volume.specs.Records.{used_at, segment_in, find}
-use Rattle.hd_volume.specs.Rooms.{spare, free_below, largest_hole, HasHole}
+use Rattle.hd_volume.specs.Records.{segment_in, find}
+use Rattle.hd_volume.specs.Rooms.{free_below, largest_hole}
 use Rattle.hd_volume.specs.Spaces.{blocks_in, content_at, IsContent, IsSpaceOf}
-use Rattle.hd_volume.specs.Calls.{KeepsHoles, KeepsOthers, HasSegment, IsWritten, IsFreed}
+use Rattle.hd_volume.specs.Calls.{KeepsOthers, HasSegment, IsWritten, IsFreed}
 use Rattle.hd_volume.proofs.MapLemmas.{IsFound, find-some, find-in, find-there}
-use Rattle.hd_volume.proofs.ExtentLemmas.{used-is, segment-some, segment-is}
-use Rattle.hd_volume.proofs.EditLemmas.{IsEdited, write-edits, IsPutIn, put-edits, IsFreeIn, free-edits}
-use Rattle.hd_volume.proofs.FrameLemmas.{AreSame, HasChanged, block-seen, find-frame, kind-back, kind-on, other-blocks, other-segments, keeps-header, has-header, keeps-kinds, keeps-spare, keeps-formatted, keeps-holes, keeps-space, free-same}
+use Rattle.hd_volume.proofs.ExtentLemmas.{used-is, segment-some}
+use Rattle.hd_volume.proofs.EditLemmas.{IsEdited, write-edits, IsFreeIn, free-edits}
+use Rattle.hd_volume.proofs.FrameLemmas.{AreSame, HasChanged, block-seen, kind-on, other-blocks, other-segments, keeps-header, keeps-kinds, keeps-spare, keeps-formatted, keeps-holes, keeps-space, free-same}
 use Rattle.hd_volume.proofs.SpaceLemmas.{whole-block}
 
 -- in a data block the map has the segments of the block

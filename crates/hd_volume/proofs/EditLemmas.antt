@@ -1,9 +1,9 @@
 -- A divided block into which bytes are written, into which a segment is put, or of which one is freed.
-use Rattle.std.proofs.Common.{◌≡◌, ◌≢◌, ◌⊎◌, inl, inr, ℕ, ◌+◌, ◌-◌, ◌<◌, ◌≤◌, Bool, true, false, cond, ◌==◌, nat_le, max, List, [], ◌∷◌, ◌++◌, length, take, drop, slice_index, Option, Some, None, refl, sym, ap, ◌∙◌, arith, ne_eqb, subst}
-use Rattle.std.proofs.lemmas.Bool.{cases_lt, cases_eq, eq-eqb, eqb-true, leb-true, leb-false, le-leb, lt-leb}
+use Rattle.std.proofs.Common.{◌≡◌, ◌≢◌, ◌⊎◌, inl, inr, ℕ, ◌+◌, ◌-◌, ◌<◌, ◌≤◌, Bool, true, false, cond, ◌==◌, nat_le, max, List, [], ◌∷◌, length, slice_index, Some, None, refl, sym, ap, ◌∙◌, arith, subst}
+use Rattle.std.proofs.lemmas.Bool.{cases_lt, eq-eqb, eqb-true, leb-true, leb-false}
 use Rattle.std.proofs.lemmas.Grind.{common_steps, same_number_lists}
-use Rattle.hd_bytes.specs.Ranges.{bytes_at, with_bytes, AgreeOn, ChangesOnly}
-use Rattle.hd_bytes.proofs.BlockLemmas.{length-bytes_at, byte-at, agree-bytes_at, agree-changed, bytes-with}
+use Rattle.hd_bytes.specs.Ranges.{bytes_at, with_bytes, ChangesOnly}
+use Rattle.hd_bytes.proofs.BlockLemmas.{length-bytes_at, byte-at, agree-changed, bytes-with}
 use Rattle.hd_bytes.proofs.NumberLemmas.{changes-with, length-with, number-below}
 use Rattle.hd_block.specs.Extents.{Extent, free, used, taken, Fill, IsDivided, AreWhole, UsedAt, TakenAt}
 use Rattle.hd_block.specs.Changes.{hole_at, after_take, split_hole, after_fill, after_give, hole_before}
@@ -13,7 +13,7 @@ use Rattle.hd_block.proofs.Walk.{fill-within}
 use Rattle.hd_block.proofs.FrameLemmas.{used-ahead, agree-both}
 use Rattle.hd_block.proofs.LawLemmas.{fill-written, fill-filled, used-apart}
 use Rattle.hd_block.proofs.PartLemmas.{parts-divided}
-use Rattle.hd_volume.specs.Records.{used_at, segment_in}
+use Rattle.hd_volume.specs.Records.{segment_in}
 use Rattle.hd_volume.specs.Rooms.{largest_hole}
 use Rattle.hd_volume.specs.Edits.{IsTaken, IsGiven}
 use Rattle.hd_volume.proofs.ExtentLemmas.{used-is, segment-is, segment-none, segment-same}

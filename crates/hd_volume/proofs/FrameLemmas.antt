@@ -1,22 +1,20 @@
 -- What a change of one block leaves of a volume.
-use Rattle.std.proofs.Common.{◌≡◌, ◌≢◌, ◌⊎◌, inl, inr, ℕ, zero, suc, ◌+◌, ◌-◌, ◌*◌, ◌/◌, ◌%◌, ◌<◌, ◌≤◌, Bool, true, false, cond, ◌==◌, not, ◌&&◌, min, List, [], ◌∷◌, length, slice_index, Option, Some, None, IsTrue, vec_len, refl, sym, ap, ◌∙◌, arith, ne_eqb, subst}
+use Rattle.std.proofs.Common.{◌≡◌, ◌≢◌, inl, inr, ℕ, zero, suc, ◌+◌, ◌*◌, ◌/◌, ◌<◌, ◌≤◌, ◌==◌, not, ◌&&◌, min, List, length, slice_index, refl, sym, ap, ◌∙◌, arith, subst}
 use Rattle.std.proofs.lemmas.Bool.{cases_lt, cases_eq, eq-eqb}
 use Rattle.std.proofs.lemmas.Nat.{row_fits}
 use Rattle.std.proofs.Math.Nat.{mul-le-mul_right}
-use Rattle.hd_bytes.specs.Ranges.{bytes_at, AgreeOn}
-use Rattle.hd_bytes.specs.Numbers.{number_at}
 use Rattle.hd_bytes.specs.Blocks.{block_of, HasBlock}
-use Rattle.hd_bytes.proofs.BlockLemmas.{byte-in-block, agree-bytes_at, length-block}
+use Rattle.hd_bytes.proofs.BlockLemmas.{byte-in-block, agree-bytes_at}
 use Rattle.hd_bytes.proofs.NumberLemmas.{number-same}
 use Rattle.hd_block.specs.Walk.{parts_in}
 use Rattle.hd_volume.specs.declared.space.Space.{Space}
 use Rattle.hd_volume.specs.Images.{ChangesBlock}
 use Rattle.hd_volume.specs.Headers.{Header, header_of, HasHeader}
 use Rattle.hd_volume.specs.Volumes.{VolumeState, block_at, kind_of, IsKind, HasExtents, IsFormatted}
-use Rattle.hd_volume.specs.Records.{used_at, segment_in, find}
-use Rattle.hd_volume.specs.Rooms.{is_free, one_if, free_below, spare, largest_hole, HasHole}
-use Rattle.hd_volume.specs.Spaces.{blocks_in, content_at, IsContent, IsSpaceOf}
-use Rattle.hd_volume.specs.Calls.{KeepsHoles, HasSegment}
+use Rattle.hd_volume.specs.Records.{find}
+use Rattle.hd_volume.specs.Rooms.{is_free, one_if, free_below, spare, largest_hole}
+use Rattle.hd_volume.specs.Spaces.{blocks_in, content_at, IsSpaceOf}
+use Rattle.hd_volume.specs.Calls.{KeepsHoles}
 use Rattle.hd_volume.proofs.MapLemmas.{past-end}
 
 -- ---- the header

@@ -1,11 +1,11 @@
 -- A volume that grows by a free block, and a header of which one number is changed.
-use Rattle.std.proofs.Common.{◌≡◌, ◌≢◌, ◌⊎◌, inl, inr, ℕ, zero, suc, ◌+◌, ◌-◌, ◌*◌, ◌/◌, ◌%◌, ◌^◌, ◌<◌, ◌≤◌, Bool, true, false, cond, not, ◌&&◌, ◌==◌, min, List, [], ◌∷◌, ◌++◌, length, slice_index, slice_index_or, vec_len, Option, Some, None, refl, sym, ap, ◌∙◌, arith, add-one, ne_eqb, lit≤, subst}
+use Rattle.std.proofs.Common.{◌≡◌, ◌≢◌, ◌⊎◌, inl, inr, ℕ, zero, suc, ◌+◌, ◌-◌, ◌*◌, ◌/◌, ◌<◌, ◌≤◌, not, ◌&&◌, ◌==◌, min, List, [], ◌∷◌, ◌++◌, length, slice_index, slice_index_or, vec_len, None, refl, sym, ap, ◌∙◌, arith, ne_eqb, lit≤, subst}
 use Rattle.std.proofs.lemmas.Bool.{cases_lt, cases_eq, eq-eqb}
 use Rattle.std.proofs.lemmas.Nat.{row_fits}
 use Rattle.std.proofs.Math.Nat.{mul-div_cancel, mul-le-mul_right}
 use Rattle.byteorder.specs.Endian.{big_bytes}
 use Rattle.hd_bytes.specs.Numbers.{number_at}
-use Rattle.hd_bytes.specs.Ranges.{bytes_at, with_bytes, AgreeOn}
+use Rattle.hd_bytes.specs.Ranges.{bytes_at, with_bytes}
 use Rattle.hd_bytes.specs.Blocks.{block_of, grown, HasBlock}
 use Rattle.hd_bytes.proofs.BlockLemmas.{byte-in-block, agree-bytes_at, length-block, length-grown, block-grown}
 use Rattle.hd_bytes.proofs.NumberLemmas.{number-same, number-with, changes-with}
@@ -15,8 +15,8 @@ use Rattle.hd_volume.specs.declared.space.Content.{Content}
 use Rattle.hd_volume.specs.Images.{ChangesBlock}
 use Rattle.hd_volume.specs.Headers.{Header, header_of, HasHeader}
 use Rattle.hd_volume.specs.Volumes.{VolumeState, block_at, kind_of, IsKind, HasExtents, IsFormatted}
-use Rattle.hd_volume.specs.Records.{segment_in, find}
-use Rattle.hd_volume.specs.Rooms.{spare, is_free, one_if, free_below, largest_hole, HasHole}
+use Rattle.hd_volume.specs.Records.{find}
+use Rattle.hd_volume.specs.Rooms.{spare, is_free, one_if, free_below, largest_hole}
 use Rattle.hd_volume.specs.Spaces.{blocks_in, content_at, IsContent, IsSpaceOf}
 use Rattle.hd_volume.specs.Calls.{KeepsHoles, KeepsSegments, MayGrow}
 use Rattle.hd_volume.specs.Steps as step
@@ -24,7 +24,7 @@ use Rattle.hd_volume.proofs.MapLemmas.{past-end}
 use Rattle.hd_volume.proofs.EditLemmas.{put-byte}
 use Rattle.hd_volume.specs.Calls as call
 use Rattle.hd_volume.proofs.FrameLemmas.{AreSame, HasChanged, block-seen, find-frame, free-same, other-blocks, other-segments, kind-back, kind-on}
-use Rattle.hd_volume.proofs.SpaceLemmas.{has-block, whole-block, number-in-first, free-more, one-most, content-before, content-last}
+use Rattle.hd_volume.proofs.SpaceLemmas.{number-in-first, free-more, one-most, content-before, content-last}
 
 -- ---- one number of the header
 

@@ -1,20 +1,18 @@
 -- Steps of a volume one after another.
-use Rattle.std.proofs.Common.{◌≡◌, ◌≢◌, ◌⊎◌, inl, inr, ℕ, ◌+◌, ◌-◌, ◌*◌, ◌/◌, ◌%◌, ◌<◌, ◌≤◌, Bool, true, false, IsTrue, List, length, slice_index, slice_index_or, vec_len, Option, Some, None, Result, Ok, Err, IfOk, IfErr, refl, sym, ap, ◌∙◌, arith, subst}
+use Rattle.std.proofs.Common.{◌≡◌, ◌≢◌, ◌⊎◌, inl, inr, ℕ, ◌+◌, ◌*◌, ◌<◌, ◌≤◌, Bool, false, IsTrue, List, length, slice_index, slice_index_or, vec_len, Result, Ok, Err, IfOk, IfErr, refl, sym, ap, ◌∙◌, arith, subst}
 use Rattle.std.proofs.lemmas.Bool.{cases_lt, cases_eq}
 use Rattle.hd_bytes.specs.Blocks.{block_of, HasBlock}
 use Rattle.hd_block.specs.Walk.{parts_in}
-use Rattle.hd_volume.specs.Images.{ChangesBlock, KeepsFirst}
+use Rattle.hd_volume.specs.Images.{KeepsFirst}
 use Rattle.hd_volume.specs.Headers.{Header, header_of, HasHeader}
 use Rattle.hd_volume.specs.Volumes.{VolumeState, block_at, kind_of, IsKind, HasExtents, IsFormatted}
-use Rattle.hd_volume.specs.Records.{find}
-use Rattle.hd_volume.specs.Rooms.{spare, free_below, largest_hole, HasHole}
+use Rattle.hd_volume.specs.Rooms.{spare, largest_hole, HasHole}
 use Rattle.hd_dbd.specs.declared.answer.Refused.{Refused}
 use Rattle.hd_dbd.specs.declared.answer.Refused.TheVariants.{Memory, Full, Device, Broken, Area}
 use Rattle.hd_volume.specs.Stores.{CountsFor, SoundFor}
-use Rattle.hd_volume.specs.Calls.{IsCall, IsRead, KeepsHoles, KeepsOthers, KeepsSegments, KeepsIndex, MayGrow, IsPut, IsTakenBlock}
+use Rattle.hd_volume.specs.Calls.{IsCall, IsRead, KeepsHoles, KeepsSegments, MayGrow, IsPut, IsTakenBlock}
 use Rattle.hd_volume.specs.declared.space.Space.{Space}
-use Rattle.hd_volume.specs.declared.space.Content.{Content}
-use Rattle.hd_volume.specs.Spaces.{blocks_in, content_at, IsContent, IsSpaceOf}
+use Rattle.hd_volume.specs.Spaces.{blocks_in, content_at, IsSpaceOf}
 use Rattle.hd_volume.proofs.CallLemmas.{looked-at}
 use Rattle.hd_volume.proofs.SpaceLemmas.{has-block}
 use Rattle.hd_volume.specs.Steps as step

@@ -1,13 +1,13 @@
 -- A block of a volume that becomes one of another kind.
-use Rattle.std.proofs.Common.{◌≡◌, ◌≢◌, ◌⊎◌, inl, inr, ℕ, zero, suc, ◌+◌, ◌-◌, ◌*◌, ◌/◌, ◌%◌, ◌<◌, ◌≤◌, Bool, true, false, cond, not, ◌&&◌, ◌==◌, min, max, List, [], ◌∷◌, length, slice_index, slice_set, vec_len, Option, Some, None, refl, sym, ap, ◌∙◌, arith, ne_eqb, subst}
-use Rattle.std.proofs.lemmas.Bool.{cases_lt, cases_eq, eq-eqb}
+use Rattle.std.proofs.Common.{◌≡◌, ◌≢◌, inl, inr, ℕ, zero, suc, ◌+◌, ◌-◌, ◌*◌, ◌/◌, ◌%◌, ◌<◌, ◌≤◌, Bool, true, false, not, ◌&&◌, ◌==◌, min, max, List, [], ◌∷◌, length, slice_index, slice_set, vec_len, None, refl, sym, ap, ◌∙◌, arith, ne_eqb, subst}
+use Rattle.std.proofs.lemmas.Bool.{cases_eq, eq-eqb}
 use Rattle.hd_bytes.specs.Blocks.{block_of, HasBlock}
 use Rattle.std.proofs.Math.Nat.{mul-div_cancel}
 use Rattle.hd_bytes.specs.Numbers.{number_at}
 use Rattle.hd_bytes.specs.Ranges.{with_bytes}
 use Rattle.hd_bytes.proofs.BlockLemmas.{length-block}
 use Rattle.hd_bytes.proofs.NumberLemmas.{length-with, changes-with}
-use Rattle.hd_block.specs.Extents.{Extent, free, IsDivided, AreWhole, UsedAt}
+use Rattle.hd_block.specs.Extents.{free, IsDivided}
 use Rattle.hd_block.proofs.PartLemmas.{parts-divided}
 use Rattle.hd_block.specs.Walk.{parts_in}
 use Rattle.hd_volume.specs.Steps.{data_head}
@@ -15,17 +15,16 @@ use Rattle.hd_volume.proofs.SpaceLemmas.{whole-block}
 use Rattle.hd_volume.proofs.ExtentLemmas.{segment-none}
 use Rattle.hd_volume.specs.declared.space.Space.{Space}
 use Rattle.hd_volume.specs.declared.space.Content.{Content}
-use Rattle.hd_volume.specs.Images.{ChangesBlock}
 use Rattle.hd_volume.specs.Headers.{Header, header_of, HasHeader}
 use Rattle.hd_volume.specs.Volumes.{VolumeState, block_at, kind_of, IsKind, HasExtents, IsFormatted}
 use Rattle.hd_volume.specs.Records.{segment_in, find}
-use Rattle.hd_volume.specs.Rooms.{spare, is_free, one_if, free_below, largest_hole, HasHole}
+use Rattle.hd_volume.specs.Rooms.{spare, is_free, one_if, free_below, largest_hole}
 use Rattle.hd_volume.specs.Spaces.{blocks_in, content_at, IsContent, IsSpaceOf}
 use Rattle.hd_volume.specs.Calls.{KeepsHoles, KeepsSegments}
 use Rattle.hd_volume.specs.Steps as step
 use Rattle.hd_volume.specs.Calls as call
 use Rattle.hd_volume.proofs.EditLemmas.{put-byte}
-use Rattle.hd_volume.proofs.FrameLemmas.{AreSame, HasChanged, block-seen, find-frame, kind-back, kind-on, other-blocks, other-segments, keeps-header, has-header, keeps-space}
+use Rattle.hd_volume.proofs.FrameLemmas.{HasChanged, block-seen, kind-back, kind-on, other-blocks, other-segments, keeps-header, has-header, keeps-space}
 use Rattle.hd_volume.proofs.CallLemmas.{find-new, looked-at, content-own, content-other}
 
 -- ---- counting free blocks

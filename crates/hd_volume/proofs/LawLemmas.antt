@@ -1,12 +1,12 @@
 -- On what segments and entries depend.
-use Rattle.std.proofs.Common.{◌≡◌, ◌≢◌, ℕ, zero, suc, ◌+◌, ◌/◌, ◌%◌, ◌<◌, ◌≤◌, ◌==◌, cond, inl, inr, List, [], ◌∷◌, ◌++◌, slice_index, Option, None, refl, sym, ap, ◌∙◌, arith, ne_eqb}
+use Rattle.std.proofs.Common.{◌≡◌, ◌≢◌, ℕ, zero, suc, ◌/◌, inl, inr, List, [], ◌∷◌, ◌++◌, None, refl, sym, ap, ◌∙◌, arith, ne_eqb}
 use Rattle.std.proofs.lemmas.Bool.{cases_eq, eq-eqb}
 use Rattle.hd_bytes.specs.Numbers.{number_at}
 use Rattle.hd_bytes.specs.Blocks.{block_of}
 use Rattle.hd_volume.specs.Headers.{header_of}
-use Rattle.hd_volume.specs.Volumes.{VolumeState, block_at, kind_of, IsKind}
-use Rattle.hd_volume.specs.Records.{segment_in, find}
-use Rattle.hd_volume.specs.Entries.{Entry, entries_in, chain_from, entry_blocks, entries_of, entries}
+use Rattle.hd_volume.specs.Volumes.{VolumeState, block_at, kind_of}
+use Rattle.hd_volume.specs.Records.{find}
+use Rattle.hd_volume.specs.Entries.{Entry, entries_in, chain_from, entry_blocks, entries_of}
 use Rattle.hd_volume.specs.Calls.{KeepsIndex}
 use Rattle.hd_volume.specs.Laws.{SegmentsFrame, AreIndex, EntriesFrame}
 use Rattle.hd_volume.proofs.FrameLemmas.{AreSame, block-seen, find-frame}

@@ -1,21 +1,19 @@
 -- A volume as a map.
-use Rattle.std.proofs.Common.{◌≡◌, ◌≢◌, ◌⊎◌, inl, inr, ℕ, zero, suc, ◌+◌, ◌-◌, ◌*◌, ◌/◌, ◌%◌, ◌<◌, ◌≤◌, Bool, true, false, cond, ◌==◌, min, List, [], ◌∷◌, length, take, drop, slice_index, Option, Some, None, Result, Ok, IsTrue, refl, sym, ap, ◌∙◌, arith, ne_eqb, subst}
+use Rattle.std.proofs.Common.{◌≡◌, ◌≢◌, inl, inr, ℕ, ◌+◌, ◌-◌, ◌*◌, ◌/◌, ◌%◌, ◌≤◌, cond, ◌==◌, min, List, [], length, slice_index, Option, Some, None, Ok, IsTrue, refl, sym, ap, ◌∙◌, arith, ne_eqb, subst}
 use Rattle.std.proofs.lemmas.Bool.{cases_lt, cases_eq, eq-eqb}
 use Rattle.std.proofs.lemmas.Grind.{common_steps}
 use Rattle.std.proofs.lemmas.Nat.{row_fits}
 use Rattle.std.proofs.Math.Nat.{min-eq_left, mul-le-mul_right}
-use Rattle.hd_bytes.specs.Ranges.{bytes_at, AgreeOn}
+use Rattle.hd_bytes.specs.Ranges.{bytes_at}
 use Rattle.hd_bytes.specs.Blocks.{block_of, HasBlock}
-use Rattle.hd_bytes.proofs.BlockLemmas.{place-of}
-use Rattle.hd_dbd.specs.declared.answer.Refused.{Refused}
-use Rattle.hd_volume.specs.Images.{KeepsFirst, ChangesBlock}
+use Rattle.hd_volume.specs.Images.{KeepsFirst}
 use Rattle.hd_volume.specs.Buffers.{Buffered}
-use Rattle.hd_volume.specs.Headers.{header_of, HasHeader}
-use Rattle.hd_volume.specs.Volumes.{VolumeState, block_at, kind_of, IsKind, HasExtents, IsFormatted}
-use Rattle.hd_volume.specs.Records.{used_at, segment_in, find}
+use Rattle.hd_volume.specs.Headers.{header_of}
+use Rattle.hd_volume.specs.Volumes.{VolumeState, block_at, kind_of, IsKind, IsFormatted}
+use Rattle.hd_volume.specs.Records.{segment_in, find}
 use Rattle.hd_volume.specs.Spaces.{volume_of}
-use Rattle.hd_volume.specs.Calls.{IsCall, IsRead, HasSegment}
-use Rattle.hd_volume.proofs.ExtentLemmas.{used-is, segment-some, segment-is, segment-none}
+use Rattle.hd_volume.specs.Calls.{IsRead, HasSegment}
+use Rattle.hd_volume.proofs.ExtentLemmas.{used-is, segment-some}
 
 -- ---- blocks of a formatted volume
 

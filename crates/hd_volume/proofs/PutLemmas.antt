@@ -1,29 +1,24 @@
 -- Putting a segment into a block.
-use Rattle.std.proofs.Common.{◌≡◌, ◌≢◌, ◌⊎◌, inl, inr, ℕ, zero, suc, ◌+◌, ◌-◌, ◌*◌, ◌/◌, ◌%◌, ◌<◌, ◌≤◌, Bool, true, false, not, ◌&&◌, ◌==◌, min, List, [], length, slice_index, Option, Some, None, IfSome, IfNone, refl, sym, ap, ◌∙◌, arith, ne_eqb, subst}
-use Rattle.std.proofs.lemmas.Bool.{cases_lt, cases_eq, eq-eqb}
+use Rattle.std.proofs.Common.{◌≡◌, ◌≢◌, inl, inr, ℕ, ◌+◌, ◌-◌, ◌*◌, ◌/◌, ◌%◌, ◌<◌, ◌≤◌, List, length, slice_index, Option, Some, None, IfSome, IfNone, sym, ap, ◌∙◌, arith, subst}
+use Rattle.std.proofs.lemmas.Bool.{cases_eq}
 use Rattle.std.proofs.lemmas.Nat.{div-mul-add, mod-mul-add}
-use Rattle.std.proofs.Math.Nat.{mul-div_cancel}
-use Rattle.hd_bytes.specs.Ranges.{bytes_at, with_bytes, AgreeOn}
-use Rattle.hd_bytes.specs.Blocks.{block_of, HasBlock}
-use Rattle.hd_bytes.proofs.BlockLemmas.{place-of, length-block}
-use Rattle.hd_block.specs.Extents.{Extent, IsDivided, AreWhole, UsedAt}
+use Rattle.hd_bytes.specs.Ranges.{with_bytes}
+use Rattle.hd_bytes.specs.Blocks.{block_of}
 use Rattle.hd_block.specs.Walk.{parts_in}
 use Rattle.hd_block.specs.Parts.{parts_of}
 use Rattle.hd_block.proofs.PartLemmas.{parts-divided}
 use Rattle.hd_volume.specs.declared.space.Space.{Space}
-use Rattle.hd_volume.specs.declared.space.Content.{Content}
-use Rattle.hd_volume.specs.Edits.{IsTaken, IsGiven}
+use Rattle.hd_volume.specs.Edits.{IsTaken}
 use Rattle.hd_volume.specs.Images.{ChangesBlock}
-use Rattle.hd_volume.specs.Headers.{Header, header_of, HasHeader}
-use Rattle.hd_volume.specs.Volumes.{VolumeState, block_at, kind_of, IsKind, HasExtents, IsFormatted}
-use Rattle.hd_volume.specs.Records.{segment_in, find}
-use Rattle.hd_volume.specs.Rooms.{spare, is_free, one_if, free_below, largest_hole, HasHole}
-use Rattle.hd_volume.specs.Spaces.{blocks_in, content_at, IsContent, IsSpaceOf}
-use Rattle.hd_volume.specs.Calls.{KeepsHoles, KeepsOthers, KeepsSegments, HasSegment}
+use Rattle.hd_volume.specs.Headers.{HasHeader}
+use Rattle.hd_volume.specs.Volumes.{VolumeState, block_at, kind_of, IsFormatted}
+use Rattle.hd_volume.specs.Records.{segment_in}
+use Rattle.hd_volume.specs.Rooms.{largest_hole, HasHole}
+use Rattle.hd_volume.specs.Spaces.{blocks_in, IsSpaceOf}
 use Rattle.hd_volume.specs.Steps as step
 use Rattle.hd_volume.proofs.MapLemmas.{find-in}
 use Rattle.hd_volume.proofs.EditLemmas.{IsPutIn, put-edits, none-large}
-use Rattle.hd_volume.proofs.FrameLemmas.{AreSame, HasChanged, block-seen, find-frame, kind-back, kind-on, other-blocks, other-segments, keeps-header, has-header, keeps-kinds, keeps-spare, keeps-formatted, keeps-holes, keeps-space, free-same}
+use Rattle.hd_volume.proofs.FrameLemmas.{HasChanged, block-seen, kind-on, other-blocks, keeps-header, keeps-kinds, keeps-spare, keeps-formatted, keeps-space}
 use Rattle.hd_volume.proofs.CallLemmas.{find-new, keeps-others, looked-at}
 use Rattle.hd_volume.proofs.SpaceLemmas.{has-block}
 

@@ -1,17 +1,15 @@
 -- What is kept of the blocks of a volume.
-use Rattle.std.proofs.Common.{◌≡◌, ◌≢◌, ◌⊎◌, inl, inr, ℕ, zero, suc, ◌+◌, ◌-◌, ◌*◌, ◌/◌, ◌%◌, ◌<◌, ◌≤◌, Bool, true, false, cond, not, ◌&&◌, ◌==◌, min, List, [], ◌∷◌, ◌++◌, length, slice_index, slice_index_or, refl, sym, ap, ◌∙◌, arith, add-one, ne_eqb, IsTrue, vec_len}
-use Rattle.std.proofs.lemmas.Bool.{cases_lt, cases_eq}
+use Rattle.std.proofs.Common.{◌≡◌, inl, inr, ℕ, zero, suc, ◌+◌, ◌*◌, ◌/◌, ◌%◌, ◌<◌, ◌≤◌, Bool, true, false, ◌==◌, List, [], ◌∷◌, ◌++◌, length, slice_index, slice_index_or, refl, ap, ◌∙◌, arith, add-one, ne_eqb}
+use Rattle.std.proofs.lemmas.Bool.{cases_lt}
 use Rattle.std.proofs.lemmas.Nat.{row_fits}
 use Rattle.std.proofs.lemmas.List.{get_or_append_left, get_or-append-add}
-use Rattle.hd_block.specs.Walk.{parts_in}
 use Rattle.hd_bytes.specs.Blocks.{block_of, HasBlock}
 use Rattle.hd_bytes.specs.Numbers.{number_at}
 use Rattle.hd_bytes.proofs.BlockLemmas.{place-of, byte-in-block}
 use Rattle.hd_bytes.proofs.NumberLemmas.{number-same}
 use Rattle.hd_volume.specs.declared.space.Content.{Content}
-use Rattle.hd_volume.specs.Volumes.{VolumeState, block_at, kind_of, IsKind}
-use Rattle.hd_volume.specs.Rooms.{is_free, one_if, free_below, largest_hole}
-use Rattle.hd_volume.specs.Spaces.{IsContent}
+use Rattle.hd_volume.specs.Volumes.{kind_of}
+use Rattle.hd_volume.specs.Rooms.{is_free, one_if, free_below}
 
 -- a whole block is one of the image's
 pub has-block : (size n : ℕ) (image : List ℕ) → 0 < size → n < length image / size → HasBlock size image n

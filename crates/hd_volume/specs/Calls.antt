@@ -1,6 +1,6 @@
 -- What the calls of a volume do to it.
-use Rattle.std.specs.Prelude.{◌≡◌, ◌≢◌, ◌⊎◌, ℕ, ◌+◌, ◌-◌, ◌/◌, ◌<◌, ◌≤◌, IsTrue, List, length, Option, Some, None, Result, slice_index, IfSome}
-use Rattle.hd_bytes.specs.Blocks.{block_of, HasBlock}
+use Rattle.std.specs.Prelude.{◌≡◌, ◌≢◌, ◌⊎◌, ℕ, ◌+◌, ◌-◌, ◌/◌, ◌<◌, ◌≤◌, IsTrue, List, length, Some, None, Result, slice_index}
+use Rattle.hd_bytes.specs.Blocks.{HasBlock}
 use Rattle.hd_bytes.specs.Ranges.{with_bytes}
 use Rattle.hd_dbd.specs.declared.answer.Refused.{Refused}
 use Rattle.hd_volume.specs.Stores.{CountsDevice, StaysSound}

@@ -1,5 +1,5 @@
 -- What taking room in a block and giving it back do to its bytes, whatever its division.
-use Rattle.std.specs.Prelude.{◌≡◌, ◌≢◌, ◌⊎◌, ℕ, List, length, Option, OnSome, IfNone}
+use Rattle.std.specs.Prelude.{◌≡◌, ◌≢◌, ◌⊎◌, ℕ, List, Option, OnSome, IfNone}
 use Rattle.hd_bytes.specs.Ranges.{AgreeOn}
 use Rattle.hd_block.specs.Extents.{Extent, IsDivided, UsedAt, TakenAt}
 use Rattle.hd_block.specs.Changes.{hole_at, after_take, after_give}

@@ -1,5 +1,5 @@
 -- What a volume ends as, once a reference into it has ended.
-use Rattle.std.specs.Prelude.{◌≡◌, ⊤, ℕ, IsTrue, List, Result}
+use Rattle.std.specs.Prelude.{⊤}
 use Rattle.std.specs.Borrow.{Fml, RattleType, MutBor, follows_so}
 use mathlib.Core.Option.{none}
 use Rattle.hd_volume.specs.declared.store.BlockStore as store

@@ -1,5 +1,5 @@
 -- What a volume keeps of its blocks, so that no block is read in vain.
-use Rattle.std.specs.Prelude.{◌≡◌, ℕ, ◌+◌, ◌-◌, ◌/◌, ◌%◌, ◌<◌, ◌≤◌, Bool, false, IsTrue, List, length, min, slice_index, slice_index_or, vec_len}
+use Rattle.std.specs.Prelude.{◌≡◌, ℕ, ◌+◌, ◌-◌, ◌/◌, ◌%◌, ◌<◌, ◌≤◌, Bool, IsTrue, List, length, min, slice_index, slice_index_or, vec_len}
 use Rattle.std.specs.Vec.{vec_capacity}
 use Rattle.hd_block.specs.Walk.{parts_in}
 use Rattle.hd_volume.specs.declared.space.Content.{Content}
@@ -7,7 +7,7 @@ use Rattle.hd_volume.specs.declared.space.Space.{Space}
 use Rattle.hd_bytes.specs.Blocks.{block_of}
 use Rattle.hd_volume.specs.Buffers.{Buffered}
 use Rattle.hd_volume.specs.Volumes.{VolumeState, kind_of}
-use Rattle.hd_volume.specs.Rooms.{is_free, free_below, largest_hole}
+use Rattle.hd_volume.specs.Rooms.{free_below, largest_hole}
 
 -- the volume that blocks and stored sizes are, with room for so many growths
 abbrev pub volume_of : Buffered → List ℕ → ℕ → VolumeState

@@ -1,5 +1,5 @@
 -- What callers see of a volume, and its kinds of block.
-use Rattle.std.specs.Prelude.{◌≡◌, ◌≢◌, ℕ, ◌<◌, Bool, List, slice_index}
+use Rattle.std.specs.Prelude.{◌≡◌, ℕ, ◌<◌, Bool, List, slice_index}
 use Rattle.hd_bytes.specs.Blocks.{block_of, HasBlock}
 use Rattle.hd_block.specs.Extents.{Extent, IsDivided, AreWhole}
 use Rattle.hd_volume.specs.Headers.{HasHeader}

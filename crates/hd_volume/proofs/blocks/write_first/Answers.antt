@@ -1,7 +1,4 @@
-use Rattle.std.proofs.Common.{◌≡◌, ℕ, ◌+◌, ◌<◌, ◌≤◌, List, [], length, true, IsTrue, subst, sym, ap, ◌∙◌, rules, arith}
-use Rattle.hd_bytes.specs.Blocks.{block_of, grown, HasBlock}
-use Rattle.hd_volume.specs.Buffers.{Buffered, AreBuffers, image_of, put_in, number_of}
-use Rattle.hd_volume.specs.Images.{ChangesBlock, KeepsFirst}
+use Rattle.std.proofs.Common.{◌∙◌}
 use Rattle.hd_volume.proofs.BufferLemmas.{Buffers, IsWritten, stored-image, head-written, image-head-written}
 use Rattle.hd_volume.proofs.blocks.write_first.Goals as goal
 

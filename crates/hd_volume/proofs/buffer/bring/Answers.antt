@@ -1,6 +1,6 @@
-use Rattle.std.proofs.Common.{◌≡◌, ℕ, List, ◌++◌, length, take, drop, ap, sym, ◌∙◌, IsTrue, arith, rules}
+use Rattle.std.proofs.Common.{◌≡◌, ◌++◌, length, take, drop, sym, ◌∙◌, IsTrue, arith, rules}
 use Rattle.std.proofs.lemmas.List.{take_at}
-use Rattle.hd_bytes.specs.Blocks.{HasBlock, block_of}
+use Rattle.hd_bytes.specs.Blocks.{HasBlock}
 use Rattle.hd_bytes.proofs.BlockLemmas.{with-own}
 use Rattle.hd_volume.proofs.BufferLemmas.{other-put_in}
 use Rattle.hd_volume.proofs.buffer.bring.Goals as goal

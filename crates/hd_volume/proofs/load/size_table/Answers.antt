@@ -1,4 +1,4 @@
-use Rattle.std.proofs.Common.{◌≡◌, ◌+◌, ◌-◌, ◌<◌, ◌≤◌, ◌%◌, ℕ, List, [], ◌++◌, length, slice_index, ap, sym, ◌∙◌, arith}
+use Rattle.std.proofs.Common.{◌≡◌, ◌+◌, ◌-◌, ◌<◌, ◌%◌, ℕ, List, [], ◌++◌, length, slice_index, ap, sym, ◌∙◌, arith}
 use Rattle.std.proofs.lemmas.List.{append-nil}
 use Rattle.hd_dbd.specs.Facts.{table_from, stored_sizes}
 use Rattle.hd_dbd.specs.Prefixes.{stored_size}

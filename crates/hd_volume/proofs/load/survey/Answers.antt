@@ -1,10 +1,9 @@
-use Rattle.std.proofs.Common.{◌≡◌, ◌⊎◌, inl, inr, ℕ, ◌+◌, ◌<◌, ◌≤◌, List, ◌++◌, [], ◌∷◌, length, cond, ◌==◌, IsTrue, slice_index, slice_index_or, vec_len, refl, subst, sym, ap, ◌∙◌, rules, arith}
+use Rattle.std.proofs.Common.{◌≡◌, inl, inr, ℕ, ◌+◌, ◌<◌, ◌≤◌, List, length, ◌==◌, IsTrue, slice_index, slice_index_or, refl, subst, sym, ap, ◌∙◌, arith}
 use Rattle.std.proofs.lemmas.Bool.{cases_lt}
 use Rattle.hd_bytes.specs.Blocks.{block_of}
 use Rattle.hd_volume.specs.declared.space.Content.{Content}
-use Rattle.hd_volume.specs.Volumes.{kind_of}
 use Rattle.hd_volume.specs.Rooms.{one_if, free_below}
-use Rattle.hd_volume.specs.Spaces.{IsContent, content_at}
+use Rattle.hd_volume.specs.Spaces.{IsContent}
 use Rattle.hd_volume.proofs.SpaceLemmas.{one-most, free-more, free-counted, content-before, content-last}
 use Rattle.hd_volume.proofs.load.survey.Goals as goal
 

@@ -1,10 +1,6 @@
-use Rattle.std.proofs.Common.{◌≡◌, ℕ, ◌<◌, ◌≤◌, List, IsTrue, slice_index, vec_len, refl, subst, sym, ap, ◌∙◌, rules, arith}
-use Rattle.hd_block.specs.Walk.{parts_in}
-use Rattle.hd_bytes.specs.Blocks.{block_of}
-use Rattle.hd_volume.specs.Rooms.{largest_hole}
+use Rattle.std.proofs.Common.{◌≡◌, ◌<◌, IsTrue, slice_index, vec_len, refl, sym, ap, ◌∙◌, arith}
 use Rattle.hd_volume.specs.Spaces.{IsSpaceOf, blocks_in, content_at}
 use Rattle.hd_volume.specs.declared.space.Content.{Content}
-use Rattle.hd_volume.specs.declared.space.Space.{Space}
 use Rattle.hd_volume.proofs.CallLemmas.{lowest-space}
 use Rattle.hd_volume.proofs.seek.seek_hole.Goals as goal
 

@@ -1,11 +1,10 @@
-use Rattle.std.proofs.Common.{◌≡◌, ℕ, ◌<◌, List, IsTrue, slice_index, refl, subst, sym, ap, ◌∙◌, rules, arith}
+use Rattle.std.proofs.Common.{◌≡◌, ℕ, ◌<◌, List, IsTrue, slice_index, refl, sym, ap, ◌∙◌, rules, arith}
 use Rattle.hd_block.specs.Walk.{parts_in}
 use Rattle.hd_bytes.specs.Blocks.{block_of}
 use Rattle.hd_volume.specs.Rooms.{largest_hole}
 use Rattle.hd_volume.specs.Spaces.{content_at}
 use Rattle.hd_volume.specs.declared.space.Content.{Content}
 use Rattle.hd_volume.proofs.CallLemmas.{mended-space}
-use Rattle.hd_volume.proofs.PutLemmas.{put-puts}
 use Rattle.hd_volume.proofs.seek.try_block.Goals as goal
 
 pub returns-clause-space : goal.returns-clause-space

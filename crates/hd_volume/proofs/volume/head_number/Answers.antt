@@ -1,6 +1,5 @@
-use Rattle.std.proofs.Common.{◌≡◌, ℕ, List, ap, ◌∙◌}
+use Rattle.std.proofs.Common.{ℕ, List, ap, ◌∙◌}
 use Rattle.hd_bytes.specs.Numbers.{number_at}
-use Rattle.hd_volume.proofs.FrameLemmas.{keeps-holes}
 use Rattle.hd_volume.proofs.SpaceLemmas.{number-in-first}
 use Rattle.hd_volume.proofs.volume.head_number.Goals as goal
 

@@ -1,4 +1,4 @@
-use Rattle.std.proofs.Common.{◌≡◌, ◌==◌, ℕ, ◌<◌, List, true, false, Bool, length, slice_index, inl, inr, sym, ap, ◌∙◌, rules, arith}
+use Rattle.std.proofs.Common.{◌≡◌, ◌==◌, ℕ, ◌<◌, List, true, false, length, slice_index, inl, inr, sym, ap, ◌∙◌, rules, arith}
 use Rattle.std.proofs.lemmas.Bool.{cases_eq, eq-eqb}
 use Rattle.hd_dbd.proofs.StoredSizes.{stored_sizes-at}
 use Rattle.hd_volume.proofs.volume_tests.put_whole.Goals as goal

@@ -1,4 +1,4 @@
-use Rattle.std.proofs.Common.{◌≡◌, ℕ, List, IsTrue, subst, sym, ap, ◌∙◌}
+use Rattle.std.proofs.Common.{◌≡◌, ℕ, List, IsTrue, subst, ◌∙◌}
 use Rattle.hd_volume.specs.Buffers.{Buffered, put_in}
 use Rattle.hd_volume.proofs.BufferLemmas.{buffers-of, hand-stands}
 use Rattle.hd_volume.proofs.blocks.Blocks.fetch.Goals as goal

@@ -1,7 +1,5 @@
-use Rattle.std.proofs.Common.{◌≡◌, ℕ, ◌+◌, ◌<◌, ◌≤◌, List, [], length, true, IsTrue, subst, sym, ap, ◌∙◌, rules, arith}
-use Rattle.hd_bytes.specs.Blocks.{block_of, grown, HasBlock}
-use Rattle.hd_volume.specs.Buffers.{Buffered, AreBuffers, image_of, put_in, number_of}
-use Rattle.hd_volume.specs.Images.{ChangesBlock, KeepsFirst}
+use Rattle.std.proofs.Common.{◌≡◌, ℕ, IsTrue, subst, ◌∙◌}
+use Rattle.hd_volume.specs.Buffers.{Buffered, image_of, put_in}
 use Rattle.hd_volume.proofs.BufferLemmas.{buffers-of, IsWritten, hand-written, image-hand-written}
 use Rattle.hd_volume.proofs.blocks.Blocks.flush.Goals as goal
 

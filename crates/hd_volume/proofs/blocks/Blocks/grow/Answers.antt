@@ -1,7 +1,6 @@
-use Rattle.std.proofs.Common.{◌≡◌, ℕ, ◌+◌, ◌<◌, ◌≤◌, List, [], length, true, IsTrue, subst, sym, ap, ◌∙◌, rules, arith}
-use Rattle.hd_bytes.specs.Blocks.{block_of, grown, HasBlock}
-use Rattle.hd_volume.specs.Buffers.{Buffered, AreBuffers, image_of, put_in, number_of}
-use Rattle.hd_volume.specs.Images.{ChangesBlock, KeepsFirst}
+use Rattle.std.proofs.Common.{◌≡◌, ℕ, List, IsTrue, subst, sym, ◌∙◌, arith}
+use Rattle.hd_bytes.specs.Blocks.{grown, HasBlock}
+use Rattle.hd_volume.specs.Buffers.{Buffered, image_of}
 use Rattle.hd_volume.proofs.BufferLemmas.{buffers-of, image-length, grown-buffers, image-grown}
 use Rattle.hd_volume.proofs.blocks.Blocks.grow.Goals as goal
 

@@ -1,8 +1,6 @@
-use Rattle.std.proofs.Common.{◌≡◌, ℕ, ◌+◌, ◌<◌, ◌≤◌, List, length, [], IsTrue, subst, sym, ap, ◌∙◌, arith}
-use Rattle.hd_bytes.specs.Blocks.{block_of, HasBlock}
-use Rattle.hd_bytes.specs.Ranges.{with_bytes}
-use Rattle.hd_volume.specs.Buffers.{Buffered, image_of}
-use Rattle.hd_volume.specs.Images.{ChangesBlock}
+use Rattle.std.proofs.Common.{◌≡◌, ◌<◌, [], IsTrue, subst, sym, ◌∙◌}
+use Rattle.hd_bytes.specs.Blocks.{block_of}
+use Rattle.hd_volume.specs.Buffers.{Buffered}
 use Rattle.hd_volume.proofs.BufferLemmas.{buffers-of, hand-block}
 use Rattle.hd_volume.proofs.blocks.Blocks.hand.Goals as goal
 

@@ -1,9 +1,9 @@
-use Rattle.std.proofs.Common.{◌≡◌, ℕ, ◌+◌, ◌<◌, ◌≤◌, List, [], length, true, IsTrue, subst, sym, ap, ◌∙◌, rules, arith}
-use Rattle.hd_bytes.specs.Blocks.{block_of, grown, HasBlock}
-use Rattle.hd_volume.specs.Buffers.{Buffered, AreBuffers, image_of, put_in, number_of}
-use Rattle.hd_volume.specs.Images.{ChangesBlock, KeepsFirst}
+use Rattle.std.proofs.Common.{◌<◌, [], length, IsTrue, subst, sym, ap, ◌∙◌}
+use Rattle.hd_bytes.specs.Blocks.{block_of}
+use Rattle.hd_volume.specs.Buffers.{Buffered, image_of}
+use Rattle.hd_volume.specs.Images.{ChangesBlock}
 use Rattle.std.proofs.Common.{slice_index}
-use Rattle.hd_volume.specs.Edits.{IsTaken, IsGiven}
+use Rattle.hd_volume.specs.Edits.{IsTaken}
 use Rattle.hd_volume.proofs.BufferLemmas.{buffers-of, hand-block, hand-changes, hand-new, edited}
 use Rattle.hd_volume.proofs.blocks.Blocks.take.Goals as goal
 

@@ -1,4 +1,4 @@
-use Rattle.std.proofs.Common.{◌≡◌, ℕ, ◌+◌, ◌<◌, ◌≤◌, List, length, [], IsTrue, subst, sym, ap, ◌∙◌, arith}
+use Rattle.std.proofs.Common.{◌≡◌, ℕ, List, length, IsTrue, subst, sym, ap, ◌∙◌, arith}
 use Rattle.hd_bytes.specs.Blocks.{block_of, HasBlock}
 use Rattle.hd_bytes.specs.Ranges.{with_bytes}
 use Rattle.hd_volume.specs.Buffers.{Buffered, image_of}

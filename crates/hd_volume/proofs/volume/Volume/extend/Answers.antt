@@ -1,18 +1,15 @@
-use Rattle.std.proofs.Common.{◌≡◌, ◌≢◌, ℕ, ◌/◌, ◌%◌, ◌+◌, ◌-◌, ◌*◌, ◌<◌, ◌≤◌, min, List, [], ◌∷◌, ◌++◌, length, slice_index, vec_len, IsTrue, refl, subst, sym, ap, ◌∙◌, rules, arith}
+use Rattle.std.proofs.Common.{◌≡◌, ℕ, ◌+◌, ◌*◌, ◌<◌, ◌≤◌, [], ◌∷◌, ◌++◌, length, vec_len, IsTrue, refl, subst, sym, ap, ◌∙◌, arith}
 use Rattle.std.specs.Vec.{vec_capacity}
-use Rattle.std.proofs.Math.Nat.{mul-div_cancel}
 use Rattle.byteorder.specs.Endian.{big_bytes}
-use Rattle.hd_bytes.specs.Numbers.{number_at}
 use Rattle.hd_bytes.specs.Blocks.{block_of, grown, HasBlock}
 use Rattle.hd_bytes.specs.Ranges.{with_bytes}
 use Rattle.hd_bytes.proofs.BlockLemmas.{length-grown}
 use Rattle.hd_volume.specs.Images.{ChangesBlock}
 use Rattle.hd_volume.specs.Buffers.{Buffered}
 use Rattle.hd_volume.specs.Headers.{header_of}
-use Rattle.hd_volume.specs.Volumes.{VolumeState, block_at, kind_of, IsKind, IsFormatted}
+use Rattle.hd_volume.specs.Volumes.{VolumeState, IsFormatted}
 use Rattle.hd_volume.specs.Steps.{HasFree}
-use Rattle.hd_volume.specs.Spaces.{volume_of, room_for, blocks_in, IsSpaceOf}
-use Rattle.hd_volume.specs.declared.space.Space.{Space}
+use Rattle.hd_volume.specs.Spaces.{volume_of, room_for, blocks_in}
 use Rattle.hd_volume.proofs.FrameLemmas.{AreSame}
 use Rattle.hd_volume.proofs.GrowLemmas.{IsGrown, is-grown, grown-has, grown-space, formatted-count, formatted-some, free-most}
 use Rattle.hd_volume.proofs.volume.Volume.extend.Goals as goal

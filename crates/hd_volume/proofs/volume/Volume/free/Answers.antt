@@ -1,11 +1,11 @@
-use Rattle.std.proofs.Common.{◌≡◌, ◌≢◌, ℕ, ◌/◌, ◌%◌, ◌+◌, ◌-◌, ◌<◌, ◌≤◌, List, length, slice_index, vec_len, IsTrue, refl, subst, sym, ap, ◌∙◌, rules, arith}
+use Rattle.std.proofs.Common.{◌≡◌, ℕ, ◌/◌, ◌%◌, ◌<◌, length, slice_index, vec_len, IsTrue, refl, subst, sym, ap, ◌∙◌, arith}
 use Rattle.std.specs.Vec.{vec_capacity}
 use Rattle.hd_bytes.specs.Blocks.{block_of, HasBlock}
 use Rattle.hd_volume.specs.Edits.{IsGiven}
 use Rattle.hd_volume.specs.Buffers.{Buffered}
-use Rattle.hd_volume.specs.Volumes.{VolumeState, block_at, IsKind, IsFormatted}
+use Rattle.hd_volume.specs.Volumes.{VolumeState, block_at, IsFormatted}
 use Rattle.hd_volume.specs.Calls.{IsFreed, HasSegment}
-use Rattle.hd_volume.specs.Spaces.{volume_of, room_for, IsSpaceOf}
+use Rattle.hd_volume.specs.Spaces.{volume_of, room_for}
 use Rattle.hd_volume.proofs.MapLemmas.{find-there}
 use Rattle.hd_volume.proofs.FrameLemmas.{HasChanged}
 use Rattle.hd_volume.proofs.CallLemmas.{free-frees, free-space, IsOpened, changed-by, segment-within, segment-size}

@@ -1,15 +1,14 @@
-use Rattle.std.proofs.Common.{◌≡◌, ◌≢◌, ℕ, ◌+◌, ◌-◌, ◌<◌, ◌≤◌, List, [], ◌∷◌, length, slice_index, vec_len, IsTrue, refl, subst, sym, ap, ◌∙◌, rules, arith}
+use Rattle.std.proofs.Common.{◌≡◌, ℕ, ◌<◌, ◌≤◌, [], ◌∷◌, vec_len, IsTrue, refl, subst, sym, ap, ◌∙◌, arith}
 use Rattle.std.specs.Vec.{vec_capacity}
-use Rattle.hd_bytes.specs.Blocks.{block_of, HasBlock}
+use Rattle.hd_bytes.specs.Blocks.{block_of}
 use Rattle.hd_bytes.specs.Ranges.{with_bytes}
 use Rattle.hd_volume.specs.Buffers.{Buffered}
 use Rattle.hd_volume.specs.Volumes.{VolumeState, block_at, IsKind, IsFormatted}
-use Rattle.hd_volume.specs.Steps.{IsMadeIndex}
-use Rattle.hd_volume.specs.Calls.{IsGivenBlock, IsWrittenBlock}
-use Rattle.hd_volume.specs.Spaces.{volume_of, room_for, blocks_in, IsSpaceOf}
+use Rattle.hd_volume.specs.Calls.{IsGivenBlock}
+use Rattle.hd_volume.specs.Spaces.{volume_of, room_for, blocks_in}
 use Rattle.hd_volume.proofs.FrameLemmas.{HasChanged}
 use Rattle.hd_volume.proofs.CallLemmas.{changed-by}
-use Rattle.hd_volume.proofs.KindLemmas.{block-given, given-space, index_head}
+use Rattle.hd_volume.proofs.KindLemmas.{block-given, given-space}
 use Rattle.hd_volume.proofs.GrowLemmas.{free-most}
 use Rattle.hd_volume.proofs.volume.Volume.give_block.Goals as goal
 

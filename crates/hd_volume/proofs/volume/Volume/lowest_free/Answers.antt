@@ -1,7 +1,7 @@
-use Rattle.std.proofs.Common.{◌≡◌, ◌≢◌, ℕ, ◌<◌, ◌≤◌, List, vec_len, IsTrue, IfSome, IfNone, refl, subst, sym, ap, ◌∙◌, rules, arith}
+use Rattle.std.proofs.Common.{ℕ, ◌<◌, vec_len, IsTrue, subst, sym, arith}
 use Rattle.std.specs.Vec.{vec_capacity}
 use Rattle.hd_volume.specs.Volumes.{VolumeState, IsKind, IsFormatted}
-use Rattle.hd_volume.specs.Spaces.{volume_of, room_for, IsSpaceOf}
+use Rattle.hd_volume.specs.Spaces.{volume_of, room_for}
 use Rattle.hd_volume.proofs.JoinLemmas.{sought-space, sought-found, sought-none, none-counted}
 use Rattle.hd_volume.proofs.volume.Volume.lowest_free.Goals as goal
 use Rattle.hd_volume.proofs.volume.Volume.lowest_free.Goals.{then-n-eq0, else-n-eq0}

@@ -1,5 +1,5 @@
-use Rattle.std.proofs.Common.{◌≡◌, ℕ, ◌+◌, ◌-◌, ◌<◌, ◌≤◌, IsTrue, subst, sym, ap, ◌∙◌, arith}
-use Rattle.hd_volume.specs.Volumes.{VolumeState, IsKind}
+use Rattle.std.proofs.Common.{◌≡◌, IsTrue, sym, arith}
+use Rattle.hd_volume.specs.Volumes.{VolumeState}
 use Rattle.hd_volume.specs.Steps.{HasRoom}
 use Rattle.hd_volume.proofs.FrameLemmas.{AreSame}
 use Rattle.hd_volume.proofs.JoinLemmas.{ready-new}

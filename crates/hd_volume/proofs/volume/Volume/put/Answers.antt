@@ -1,4 +1,4 @@
-use Rattle.std.proofs.Common.{◌≡◌, ℕ, IsTrue, slice_index, sym, ap, ◌∙◌}
+use Rattle.std.proofs.Common.{IsTrue, slice_index}
 use Rattle.hd_volume.specs.Volumes.{VolumeState}
 use Rattle.hd_volume.proofs.FrameLemmas.{AreSame}
 use Rattle.hd_volume.proofs.JoinLemmas.{put-from}

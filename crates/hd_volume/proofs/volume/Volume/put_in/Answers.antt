@@ -1,17 +1,15 @@
-use Rattle.std.proofs.Common.{◌≡◌, ◌≢◌, ℕ, ◌/◌, ◌%◌, ◌+◌, ◌-◌, ◌*◌, ◌<◌, ◌≤◌, List, length, slice_index, vec_len, IsTrue, Option, Some, None, IfSome, IfNone, refl, subst, sym, ap, ◌∙◌, rules, arith}
+use Rattle.std.proofs.Common.{◌≡◌, ℕ, ◌+◌, ◌*◌, ◌<◌, ◌≤◌, List, length, slice_index, vec_len, IsTrue, Some, None, refl, subst, sym, ap, ◌∙◌, arith}
 use Rattle.std.specs.Vec.{vec_capacity}
-use Rattle.hd_bytes.specs.Blocks.{block_of, HasBlock}
+use Rattle.hd_bytes.specs.Blocks.{block_of}
 use Rattle.hd_bytes.specs.Ranges.{with_bytes}
 use Rattle.hd_bytes.proofs.BlockLemmas.{length-block}
 use Rattle.hd_volume.specs.Edits.{IsTaken}
 use Rattle.hd_volume.specs.Images.{ChangesBlock}
 use Rattle.hd_volume.specs.Buffers.{Buffered}
-use Rattle.hd_volume.specs.Volumes.{VolumeState, block_at, kind_of, IsKind, IsFormatted}
-use Rattle.hd_volume.specs.Rooms.{HasHole}
+use Rattle.hd_volume.specs.Volumes.{VolumeState, block_at, IsFormatted}
 use Rattle.hd_volume.specs.Steps.{HasRoom, IsPutIn}
-use Rattle.hd_volume.specs.Spaces.{volume_of, room_for, IsSpaceOf}
+use Rattle.hd_volume.specs.Spaces.{volume_of, room_for}
 use Rattle.hd_volume.proofs.FrameLemmas.{HasChanged}
-use Rattle.hd_volume.proofs.CallLemmas.{changed-by}
 use Rattle.hd_volume.proofs.PutLemmas.{address-block, address-place, changes-both, put-puts, put-space, room-found}
 use Rattle.hd_volume.proofs.volume.Volume.put_in.Goals as goal
 

@@ -1,5 +1,5 @@
-use Rattle.std.proofs.Common.{◌≡◌, ℕ, ◌+◌, ◌<◌, ◌≤◌, IsTrue, IfOk, slice_index, subst, sym, ap, ◌∙◌, arith}
-use Rattle.hd_volume.specs.Volumes.{VolumeState, IsKind}
+use Rattle.std.proofs.Common.{ℕ, ◌+◌, ◌≤◌, IsTrue, slice_index}
+use Rattle.hd_volume.specs.Volumes.{VolumeState}
 use Rattle.hd_volume.specs.Rooms.{HasHole}
 use Rattle.hd_volume.proofs.JoinLemmas.{AreOne, read-one, ready-after, hole-after, if-ok-map}
 use Rattle.hd_volume.proofs.volume.Volume.ready_block.Goals as goal

@@ -1,10 +1,8 @@
-use Rattle.std.proofs.Common.{◌≡◌, ◌≢◌, ℕ, ◌/◌, ◌%◌, ◌+◌, ◌-◌, ◌<◌, List, length, min, slice_index, vec_len, Ok, Some, IsTrue, Bor, refl, subst, sym, ap, ◌∙◌, rules, arith}
+use Rattle.std.proofs.Common.{◌≡◌, ℕ, ◌/◌, ◌%◌, ◌+◌, ◌<◌, length, min, slice_index, vec_len, IsTrue, refl, subst, sym, ap, ◌∙◌, arith}
 use Rattle.std.specs.Vec.{vec_capacity}
 use Rattle.hd_bytes.specs.Blocks.{block_of, HasBlock}
 use Rattle.hd_volume.specs.Volumes.{VolumeState, block_at}
-use Rattle.hd_volume.specs.Records.{find}
-use Rattle.hd_volume.specs.Calls.{IsRead}
-use Rattle.hd_volume.specs.Spaces.{volume_of, room_for}
+use Rattle.hd_volume.specs.Spaces.{room_for}
 use Rattle.hd_volume.proofs.MapLemmas.{find-there, segment-read, IsBrought, is-read-seen}
 use Rattle.hd_volume.proofs.volume.Volume.segment_at.Goals as goal
 

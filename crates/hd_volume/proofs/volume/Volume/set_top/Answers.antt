@@ -1,7 +1,7 @@
-use Rattle.std.proofs.Common.{◌≡◌, ℕ, ◌+◌, ◌<◌, ◌≤◌, List, length, vec_len, IsTrue, refl, subst, sym, ap, ◌∙◌, rules, arith}
+use Rattle.std.proofs.Common.{◌≡◌, ℕ, vec_len, IsTrue, refl, subst, sym, ap, arith}
 use Rattle.std.specs.Vec.{vec_capacity}
 use Rattle.hd_volume.specs.Buffers.{Buffered}
-use Rattle.hd_volume.specs.Headers.{Header, header_of}
+use Rattle.hd_volume.specs.Headers.{header_of}
 use Rattle.hd_volume.specs.Volumes.{VolumeState, IsFormatted}
 use Rattle.hd_volume.specs.Calls.{HasNewHeader}
 use Rattle.hd_volume.specs.Spaces.{volume_of, room_for}

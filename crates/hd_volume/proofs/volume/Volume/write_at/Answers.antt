@@ -1,16 +1,14 @@
-use Rattle.std.proofs.Common.{◌≡◌, ◌≢◌, ℕ, ◌/◌, ◌%◌, ◌+◌, ◌-◌, ◌<◌, ◌≤◌, List, length, vec_len, IsTrue, refl, subst, sym, ap, ◌∙◌, rules, arith}
+use Rattle.std.proofs.Common.{◌≡◌, ℕ, ◌/◌, ◌%◌, ◌+◌, ◌<◌, List, length, vec_len, IsTrue, refl, subst, sym, ap, ◌∙◌, arith}
 use Rattle.std.specs.Vec.{vec_capacity}
 use Rattle.hd_bytes.specs.Blocks.{block_of, HasBlock}
 use Rattle.hd_bytes.specs.Ranges.{with_bytes}
-use Rattle.hd_bytes.proofs.BlockLemmas.{length-block}
-use Rattle.hd_volume.specs.Images.{ChangesBlock}
 use Rattle.hd_volume.specs.Buffers.{Buffered}
-use Rattle.hd_volume.specs.Volumes.{VolumeState, block_at, kind_of, IsKind, IsFormatted}
+use Rattle.hd_volume.specs.Volumes.{VolumeState, block_at, IsFormatted}
 use Rattle.hd_volume.specs.Calls.{IsWritten, HasSegment}
-use Rattle.hd_volume.specs.Spaces.{volume_of, room_for, IsSpaceOf}
+use Rattle.hd_volume.specs.Spaces.{volume_of, room_for}
 use Rattle.hd_volume.proofs.MapLemmas.{find-there}
 use Rattle.hd_volume.proofs.FrameLemmas.{HasChanged}
-use Rattle.hd_volume.proofs.CallLemmas.{write-writes, write-space, changed-by, segment-within, free-space}
+use Rattle.hd_volume.proofs.CallLemmas.{write-writes, write-space, changed-by, segment-within}
 use Rattle.hd_volume.proofs.volume.Volume.write_at.Goals as goal
 use Rattle.hd_volume.proofs.volume.Volume.write_at.Goals.{then-offset-size-via-then-offset-size, then-offset-size-via-else-offset-size+then-bytes-size}
 
