@@ -1,5 +1,5 @@
 -- Steps of a volume one after another.
-use Rattle.std.proofs.Common.{◌≡◌, ◌≢◌, ◌⊎◌, inl, inr, ℕ, ◌+◌, ◌*◌, ◌<◌, ◌≤◌, Bool, false, IsTrue, List, length, slice_index, slice_index_or, vec_len, Result, Ok, Err, IfOk, IfErr, refl, sym, ap, ◌∙◌, arith, subst}
+use Rattle.std.proofs.Common.{◌/◌, ◌≡◌, ◌≢◌, ◌⊎◌, inl, inr, ℕ, ◌+◌, ◌*◌, ◌<◌, ◌≤◌, Bool, false, IsTrue, List, length, slice_index, slice_index_or, vec_len, Result, Ok, Err, IfOk, IfErr, refl, sym, ap, ◌∙◌, arith, subst}
 use Rattle.std.proofs.lemmas.Bool.{cases_lt, cases_eq}
 use Rattle.hd_bytes.specs.Blocks.{block_of, HasBlock}
 use Rattle.hd_block.specs.Walk.{parts_in}
@@ -76,6 +76,9 @@ module _ {v w : VolumeState} (o : AreOne v w) where
   pub ready-found : (n need : ℕ) → IsFormatted v → step.HasRoom v n need → step.IsReady v n need w
   ready-found n need f r = record {
     formatted = one-formatted f;
+    place = inl r.is_data;
+    blocks = λ m there later other. one-block m;
+    longer = (let l : length w.image ≡ length v.image = ap length o.image in omega arith);
     room = one-room n need r;
     segments = one-segments;
     index = λ m k. one-block m;
@@ -146,12 +149,29 @@ no-spare v f positive full none =
 
 -- ---- a free block that becomes one for data, and a segment put into it
 
-pub ready-new : {u v w : VolumeState} (n need : ℕ) → AreSame v w → step.HasFree u n v → step.IsMade v n 1 w → step.HasRoom w n need → (HasHole u need → ⊥) → u.size ≡ v.size → step.IsReady u n need w
-ready-new {u} {v} {w} n need s h m r none size =
+-- a volume that was given a free block is no shorter
+free-longer : {u v : VolumeState} (n : ℕ) → IsFormatted u → step.HasFree u n v → v.size ≡ u.size → length u.image ≤ length v.image
+free-longer {u} {v} n f h size =
+    let a = f.header.whole in
+    let b : length v.image ≡ (header_of v.image).count * u.size = h.formatted.header.whole ∙ (let e : (header_of v.image).count * v.size ≡ (header_of v.image).count * u.size = rw size refl in e) in
+    elim h.grows.count [
+      | inl e ↦ (let same-count : (header_of v.image).count * u.size ≡ (header_of u.image).count * u.size = ap (λ (i : ℕ). i * u.size) e in omega arith)
+      | inr e ↦ (let more-count : (header_of v.image).count * u.size ≡ ((header_of u.image).count + 1) * u.size = ap (λ (i : ℕ). i * u.size) e in omega arith)
+    ]
+
+-- and so are its blocks
+free-there : {u v : VolumeState} (n : ℕ) → IsFormatted u → step.HasFree u n v → v.size ≡ u.size → (k : ℕ) → HasBlock u.size u.image k → HasBlock v.size v.image k
+free-there n f h size k x = rw size (let l = free-longer n f h size in omega arith)
+
+pub ready-new : {u v w : VolumeState} (n need : ℕ) → AreSame v w → IsFormatted u → step.HasFree u n v → step.IsMade v n 1 w → step.HasRoom w n need → (HasHole u need → ⊥) → u.size ≡ v.size → step.IsReady u n need w
+ready-new {u} {v} {w} n need s f h m r none size =
     let same : header_of w.image ≡ header_of v.image = m.header in
     let count : (header_of w.image).count ≡ (header_of v.image).count = ap (λ (x : Header). x.count) same in
     record {
       formatted = m.formatted;
+      place = elim h.was [ inl k ↦ inr (inl k) | inr e ↦ inr (inr e) ];
+      blocks = λ k x later apart. block-seen s k ∙ m.block.others k (free-there n f h (sym size) k x) apart ∙ h.others k x later;
+      longer = (let l = m.block.len in let g = free-longer n f h (sym size) in omega arith);
       room = r;
       segments = λ b. m.segments b ∙ h.segments b;
       index = λ k is.
@@ -170,12 +190,21 @@ ready-new {u} {v} {w} n need s h m r none size =
       holes = λ k x. m.holes k (h.holes k x);
     }
 
-pub put-from : {u v w : VolumeState} (n need a : ℕ) (bs : List ℕ) → AreSame v w → step.IsReady u n need v → step.IsPutIn v n a bs w → need ≡ length bs → IsPut u a bs w
-put-from {u} {v} {w} n need a bs s r p need-is =
+-- the blocks of a volume that was made ready are still there
+ready-there : {u v : VolumeState} {n need : ℕ} (k : ℕ) → step.IsReady u n need v → v.size ≡ u.size → HasBlock u.size u.image k → HasBlock v.size v.image k
+ready-there k r size x = rw size (let l = r.longer in omega arith)
+
+pub put-from : {u v w : VolumeState} (n need a : ℕ) (bs : List ℕ) → v.size ≡ u.size → AreSame v w → step.IsReady u n need v → step.IsPutIn v n a bs w → need ≡ length bs → IsPut u a bs w
+put-from {u} {v} {w} n need a bs size s r p need-is =
+    let at : a / u.size ≡ n = ap (λ (z : ℕ). a / z) (sym size) ∙ p.at in
     let same : header_of w.image ≡ header_of v.image = p.header in
     let count : (header_of w.image).count ≡ (header_of v.image).count = ap (λ (x : Header). x.count) same in
     record {
       formatted = p.formatted;
+      place = (let P : ℕ → Type 0 = λ k. IsKind u 1 k ⊎ IsKind u 3 k ⊎ (k ≡ (header_of u.image).count) in subst P (sym at) r.place);
+      blocks = λ k x later apart.
+          let other : k ≢ n = λ e. apart (e ∙ sym at) in
+          block-seen s k ∙ p.block.others k (ready-there k r size x) other ∙ r.blocks k x later other;
       was = sym (r.segments a) ∙ p.was;
       is = p.is;
       others = λ b other. p.others b other ∙ r.segments b;
@@ -301,6 +330,13 @@ read-one h s = record { same = record { size = h.call.size; sizes = h.call.sizes
 pub ready-after : {v w u : VolumeState} (o : AreOne v w) (n need : ℕ) → step.IsReady w n need u → step.IsReady v n need u
 ready-after {v} {w} {u} o n need r = record {
   formatted = r.formatted;
+  place = elim r.place [
+    | inl k ↦ inl (one-back o 1 n k)
+    | inr (inl k) ↦ inr (inl (one-back o 3 n k))
+    | inr (inr e) ↦ inr (inr (e ∙ ap (λ (i : List ℕ). (header_of i).count) o.image))
+  ];
+  blocks = λ m x later other. r.blocks m (let l : length w.image ≡ length v.image = ap length o.image in rw o.same.size (omega arith)) later other ∙ one-block o m;
+  longer = (let l : length w.image ≡ length v.image = ap length o.image in let m = r.longer in omega arith);
   room = r.room;
   segments = λ b. r.segments b ∙ one-segments o b;
   index = λ m k. r.index m (one-kind o 2 m k) ∙ one-block o m;

@@ -408,6 +408,7 @@ module _ (v w : VolumeState) (n : ℕ) (f : IsFormatted v) (was : IsKind v 2 n) 
       let low : 44 ≤ v.size = omega arith in
       record {
         formatted = plain-formatted v w n 2 3 f was two three low c given-kind;
+        was = was;
         is = plain-is v w n 2 3 f was two three low c given-kind;
         block = c.change;
         segments = plain-segments v w n 2 3 f was two three low c given-kind;

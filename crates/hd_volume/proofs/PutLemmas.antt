@@ -14,7 +14,7 @@ use Rattle.hd_volume.specs.Headers.{HasHeader}
 use Rattle.hd_volume.specs.Volumes.{VolumeState, block_at, kind_of, IsFormatted}
 use Rattle.hd_volume.specs.Records.{segment_in}
 use Rattle.hd_volume.specs.Rooms.{largest_hole, HasHole}
-use Rattle.hd_volume.specs.Spaces.{blocks_in, IsSpaceOf}
+use Rattle.hd_volume.specs.Spaces.{blocks_in, IsSpaceOf, IsSeen}
 use Rattle.hd_volume.specs.Steps as step
 use Rattle.hd_volume.proofs.MapLemmas.{find-in}
 use Rattle.hd_volume.proofs.EditLemmas.{IsPutIn, put-edits, none-large}
@@ -123,3 +123,7 @@ no-hole v need header some h hole =
     let small = h hole.block hole.is_data.later (looked-at v hole.block header some hole.is_data.there) hole.is_data.kind_is in
     let large = hole.large in
     omega arith
+
+-- a block that was seen has the hole
+pub hole-of : (v : VolumeState) (need : ℕ) → 0 < v.size → IsSeen (slice_index v.sizes) v.size v.image need → HasHole v need
+hole-of v need some h = let low = h.below in record { block = h.block; is_data = record { there = has-block v.size h.block v.image some (omega arith); later = h.later; kind_is = h.is_data }; large = h.large }

@@ -44,7 +44,7 @@ KeepsSegments old new = (b : ℕ) → find new b ≡ find old b
 abbrev pub KeepsIndex : VolumeState → VolumeState → Type 0
 KeepsIndex old new = (n : ℕ) → IsKind old 2 n → block_at new n ≡ block_at old n
 
--- every hole stays, or has become larger
+-- where there was a hole of some size, there still is one as large
 abbrev pub KeepsHoles : VolumeState → VolumeState → Type 0
 KeepsHoles old new = (n : ℕ) → HasHole old n → HasHole new n
 
@@ -76,10 +76,12 @@ pub record MayGrow (old new : VolumeState) : Type 0 where
   pub count : ((header_of new.image).count ≡ (header_of old.image).count) ⊎ ((header_of new.image).count ≡ (header_of old.image).count + 1)
   pub header : header_of new.image ≡ record (header_of old.image) { count = (header_of new.image).count }
 
--- A segment was put at an address where there was none. Of the blocks that were there at most one data block or one free
--- block has changed; a hole of its size is used where there is one.
+-- A segment was put at an address where there was none, in a block that was for data, was free, or is new; no other block
+-- but block 0 has changed. A hole of its size is used where there is one.
 pub record IsPut (old : VolumeState) (address : ℕ) (bytes : List ℕ) (new : VolumeState) : Type 0 where
   pub formatted : IsFormatted new
+  pub place : IsKind old 1 (address / old.size) ⊎ IsKind old 3 (address / old.size) ⊎ (address / old.size ≡ (header_of old.image).count)
+  pub blocks : (m : ℕ) → HasBlock old.size old.image m → 0 < m → m ≢ address / old.size → block_at new m ≡ block_at old m
   pub was : find old address ≡ None
   pub is : find new address ≡ Some bytes
   pub others : KeepsOthers old new address
@@ -89,7 +91,7 @@ pub record IsPut (old : VolumeState) (address : ℕ) (bytes : List ℕ) (new : V
   pub in_hole : HasHole old (length bytes) → spare new ≡ spare old
   pub holes : (n : ℕ) → length bytes < n → HasHole old n → HasHole new (n - length bytes)
 
--- Block n, which was free or is new, is an index block of a level, with no entry and none behind it.
+-- Block n, which was free or is new, is an index block of a level; its count and its next block are 0.
 pub record IsTakenBlock (old : VolumeState) (n level : ℕ) (new : VolumeState) : Type 0 where
   pub formatted : IsFormatted new
   pub was : (IsKind old 3 n) ⊎ (n ≡ (header_of old.image).count)
@@ -106,6 +108,7 @@ pub record IsTakenBlock (old : VolumeState) (n level : ℕ) (new : VolumeState) 
 -- Index block n has become a free block.
 pub record IsGivenBlock (old : VolumeState) (n : ℕ) (new : VolumeState) : Type 0 where
   pub formatted : IsFormatted new
+  pub was : IsKind old 2 n
   pub is : IsKind new 3 n
   pub block : ChangesBlock old.size n old.image new.image
   pub segments : KeepsSegments old new

@@ -1,4 +1,5 @@
--- The entries of the index, and the blocks that bear them: one chain of index blocks from the top block on.
+-- The entries of the index, and the blocks that bear them, of a volume of version 1: one chain of index blocks from the
+-- top block on.
 use Rattle.std.specs.Prelude.{ℕ, zero, suc, ◌+◌, ◌==◌, cond, List, [], ◌∷◌, ◌++◌}
 use Rattle.hd_bytes.specs.Numbers.{number_at}
 use Rattle.hd_bytes.specs.Ranges.{bytes_at}

@@ -16,7 +16,7 @@ used_at (Used p n ∷ parts) place = cond (p == place) (Some n) (used_at parts p
 abbrev pub segment_in : (ℕ → ℕ) → List ℕ → ℕ → Option (List ℕ)
 segment_in sizes block place = option_map (λ n. bytes_at block place n) (used_at (parts_in sizes block) place)
 
--- the segment at an address: in a data block behind block 0, prefix and bytes
+-- the segment at an address, in a data block behind block 0: its prefix, its bytes and its padding
 abbrev pub find : VolumeState → ℕ → Option (List ℕ)
 find v a =
     cond (a / v.size == 0) None

@@ -58,3 +58,11 @@ pub record KeepsTables (old new : Space) : Type 0 where
   pub len : vec_len new.contents ≡ vec_len old.contents
   pub capacity : vec_capacity new.contents ≡ vec_capacity old.contents
   pub free : new.free ≡ old.free
+
+-- Some block that is looked at is for data and has a hole of at least this size.
+pub record IsSeen (sizes : ℕ → ℕ) (size : ℕ) (image : List ℕ) (need : ℕ) : Type 0 where
+  pub block : ℕ
+  pub later : 0 < block
+  pub below : block < blocks_in size image
+  pub is_data : kind_of (block_of size image block) ≡ 1
+  pub large : need ≤ largest_hole (parts_in sizes (block_of size image block))

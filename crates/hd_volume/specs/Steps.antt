@@ -1,5 +1,5 @@
 -- The steps of which putting a segment and taking a block are made.
-use Rattle.std.specs.Prelude.{◌≡◌, ◌⊎◌, ℕ, ◌+◌, ◌-◌, ◌/◌, ◌<◌, ◌≤◌, List, [], ◌∷◌, length, Some, None, slice_index}
+use Rattle.std.specs.Prelude.{◌≡◌, ◌≢◌, ◌⊎◌, ℕ, ◌+◌, ◌-◌, ◌/◌, ◌<◌, ◌≤◌, List, [], ◌∷◌, length, Some, None, slice_index}
 use Rattle.hd_bytes.specs.Blocks.{HasBlock}
 use Rattle.hd_block.specs.Walk.{parts_in}
 use Rattle.hd_volume.specs.Images.{ChangesBlock}
@@ -54,6 +54,9 @@ data_head high low = 0 ∷ 8 ∷ 1 ∷ 0 ∷ 0 ∷ 0 ∷ 0 ∷ 0 ∷ 0 ∷ 0 ∷
 -- Data block n has room for so many bytes. A hole that was there is used; else a free block or a new one has become it.
 pub record IsReady (old : VolumeState) (n need : ℕ) (new : VolumeState) : Type 0 where
   pub formatted : IsFormatted new
+  pub place : IsKind old 1 n ⊎ IsKind old 3 n ⊎ (n ≡ (header_of old.image).count)
+  pub blocks : (m : ℕ) → HasBlock old.size old.image m → 0 < m → m ≢ n → block_at new m ≡ block_at old m
+  pub longer : length old.image ≤ length new.image
   pub room : HasRoom new n need
   pub segments : KeepsSegments old new
   pub index : KeepsIndex old new

@@ -1,4 +1,4 @@
-ghost use Rattle.std.specs.Prelude.{◌≡◌, ◌≢◌, ◌⊎◌, ◌+◌, ◌-◌, ◌≤◌, ◌<◌, ℕ, IsTrue, length, slice_index, IfOk, IfErr, IfSome, IfNone, OnOk};
+ghost use Rattle.std.specs.Prelude.{◌≡◌, ◌≢◌, ◌⊎◌, ◌+◌, ◌-◌, ◌≤◌, ◌<◌, ℕ, IsTrue, length, slice_index, true, false, IfOk, IfErr, IfSome, IfNone, OnOk};
 ghost use Rattle.hd_volume.specs.Headers.{header_of};
 ghost use Rattle.hd_volume.specs.Volumes.{IsFormatted, IsKind};
 ghost use Rattle.hd_volume.specs.Rooms.{spare, HasHole};
@@ -6,7 +6,7 @@ ghost use Rattle.hd_volume.specs.Calls.{IsCall, IsRead, IsPut};
 ghost use Rattle.hd_volume.specs.Steps.{HasRoom, IsPutIn, HasFree, IsMade, IsReady, data_head};
 
 use crate::load::MOST_BLOCKS;
-use crate::seek::{seek_free, seek_hole};
+use crate::seek::{seek_free, seek_hole, seek_size};
 use crate::space::{Content, DATA, FREE, add_free, fill_free, make_room};
 use crate::store::BlockStore;
 use crate::volume::{COUNT, LARGEST, Volume, head_number};
@@ -89,6 +89,28 @@ impl<S: BlockStore> Volume<S> {
         self.blocks.write_hand(2, &[FREE]);
         add_free(&mut self.space);
         Ok(())
+    }
+
+    /// The blocks to spare: those by which the volume may still grow, and the free ones.
+    pub fn spare(&self) -> u32
+        requires formatted { IsTrue self.now.is_sound → IsFormatted self.now }
+        ensures { IsTrue self.now.is_sound → result ≡ spare self.now }
+    {
+        let count = self.space.contents.len() as u32;
+        let growth = head_number(&self.blocks, LARGEST).saturating_sub(count);
+        growth.saturating_add(self.space.free)
+    }
+
+    /// Some data block has a hole of at least so many bytes.
+    pub fn has_hole(&mut self, size: u16) -> Result<bool, Refused>
+        requires formatted { IsTrue self.old.is_sound → IsFormatted self.old }
+        ensures read { IsRead self.old result self.new }
+        ensures found { IfOk result (λ f. IsTrue self.old.is_sound → f ≡ true → HasHole self.old size) }
+        ensures none { IfOk result (λ f. IsTrue self.old.is_sound → f ≡ false → HasHole self.old size → ⊥) }
+        ensures refusal { IfErr result (λ e. e ≡ Refused.Device) }
+    {
+        let found = seek_size(&mut self.blocks, &mut self.space, &self.sizes, size)?;
+        Ok(found)
     }
 
     /// The lowest free block, if there is one.

@@ -5,7 +5,7 @@ ghost use Rattle.hd_block.specs.Walk.{parts_in};
 ghost use Rattle.hd_volume.specs.Buffers.{IsFetch};
 ghost use Rattle.hd_volume.specs.Volumes.{kind_of};
 ghost use Rattle.hd_volume.specs.Rooms.{largest_hole};
-ghost use Rattle.hd_volume.specs.Spaces.{IsSpaceOf, blocks_in, content_at, KeepsTables};
+ghost use Rattle.hd_volume.specs.Spaces.{IsSpaceOf, IsSeen, blocks_in, content_at, KeepsTables};
 
 use crate::blocks::Blocks;
 use crate::space::{Content, DATA, FREE, Space, largest_hole, set_content, size_of};
@@ -110,4 +110,30 @@ pub fn seek_free(space: &mut Space) -> u32
         }
     }
     0
+}
+
+/// Some data block has a hole of at least this size. Blocks that can't have one are not read.
+pub fn seek_size<S: BlockStore>(
+    blocks: &mut Blocks<S>,
+    space: &mut Space,
+    sizes: &[u16],
+    size: u16,
+) -> Result<bool, Refused>
+    requires least { 8 ≤ blocks.old.size }
+    requires few { vec_len space.old.contents ≤ 65536 }
+    requires space_is { IsTrue blocks.old.is_sound → IsSpaceOf blocks.old.size sizes.now blocks.old.image space.old }
+    ensures fetch { IsFetch blocks.old result blocks.new }
+    ensures space { IsTrue blocks.new.is_sound → IsSpaceOf blocks.old.size sizes.now blocks.old.image space.new }
+    ensures tables { KeepsTables space.old space.new }
+    ensures found { IfOk result (λ f. IsTrue blocks.old.is_sound → f ≡ true → IsSeen (slice_index sizes.now) blocks.old.size blocks.old.image size) }
+    ensures none { IfOk result (λ f. IsTrue blocks.old.is_sound → f ≡ false → (n : ℕ) → 0 < n → n < blocks_in blocks.old.size blocks.old.image → kind_of (block_of blocks.old.size blocks.old.image n) ≡ 1 → largest_hole (parts_in (slice_index sizes.now) (block_of blocks.old.size blocks.old.image n)) < size) }
+    ensures refusal { IfErr result (λ e. e ≡ Refused.Device) }
+{
+    let count = space.contents.len() as u32;
+    for n in 1..count {
+        if try_block(blocks, space, sizes, n, size)? {
+            return Ok(true);
+        }
+    }
+    Ok(false)
 }
