@@ -9,4 +9,5 @@ pub mod KindLemmas
 pub mod GrowLemmas
 pub mod JoinLemmas
 pub mod LawLemmas
+pub mod CreateLemmas
 pub mod SpaceLemmas

@@ -11,6 +11,7 @@ pub mod Spaces
 pub mod Calls
 pub mod Steps
 pub mod Laws
+pub mod Creates
 pub mod Lends
 pub mod Memory
 pub mod Fuses

@@ -104,6 +104,17 @@ impl<S: BlockStore> Blocks<S> {
         self.head.changed = true;
     }
 
+    /// Writes bytes at the front of block 0.
+    pub fn write_front(&mut self, bytes: &[u8])
+        requires { length bytes.now ≤ self.old.size }
+        ensures rest { self.new ≡ record self.old { image = self.new.image } }
+        ensures others { IsTrue self.old.is_sound → HasBlock self.old.size self.old.image 0 → ChangesBlock self.old.size 0 self.old.image self.new.image }
+        ensures block { IsTrue self.old.is_sound → HasBlock self.old.size self.old.image 0 → block_of self.old.size self.new.image 0 ≡ with_bytes (block_of self.old.size self.old.image 0) 0 bytes.now }
+    {
+        write_bytes(&mut self.head.bytes, 0, bytes);
+        self.head.changed = true;
+    }
+
     /// Brings a block past block 0 to hand.
     pub fn fetch(&mut self, n: u32) -> Result<(), Refused>
         requires there { IsTrue self.old.is_sound → (0 < n) × HasBlock self.old.size self.old.image n }

@@ -3,6 +3,7 @@
 
 mod blocks;
 mod buffer;
+mod create;
 mod file;
 mod fuse;
 mod header;
