@@ -155,7 +155,7 @@ fn puts_segments_into_the_first_large_enough_hole(rt: HostRuntime) -> Result<(),
     Ok(())
 }
 
-/// The accesses of 5,000 puts.
+/// The accesses of 5,000 puts into a new volume.
 fn count_accesses<L: Ledger>(alloc: Global, file: File, blank: Blank, dbd: &Dbd) -> io::Result<u64>
     requires name { blank.name ≡ L.name }
     requires parts { blank.parts ≡ L.parts }
@@ -164,7 +164,7 @@ fn count_accesses<L: Ledger>(alloc: Global, file: File, blank: Blank, dbd: &Dbd)
 {
     let store: FileStore<L> = FileStore::over(file, 128, blank)?;
     let store = FuseStore::new(store, u64::MAX);
-    let Ok(mut volume) = Volume::load(alloc, store, dbd) else {
+    let Ok(mut volume) = Volume::create(alloc, store, dbd, 65536) else {
         return Ok(0);
     };
     for n in 0..5000u32 {
@@ -178,6 +178,9 @@ fn count_accesses<L: Ledger>(alloc: Global, file: File, blank: Blank, dbd: &Dbd)
             return Ok(0);
         }
     }
+    if volume.flush().is_err() {
+        return Ok(0);
+    }
     Ok(volume.into_store().accesses())
 }
 
@@ -190,11 +193,13 @@ fn accesses(alloc: Global, file: File, dbd: &Dbd) -> io::Result<u64>
 #[test]
 fn reads_no_block_in_vain(rt: HostRuntime) -> Result<(), Fail> {
     let dbd = sample(rt.alloc()).expect(&rt, "a database");
-    fs::write(&rt, "puts", &header(1))?;
-    let mut old = OpenOptions::new();
-    old.read(true).write(true);
-    let count = accesses(rt.alloc(), old.open(&rt, "puts")?, &dbd)?;
+    let mut new = OpenOptions::new();
+    new.read(true).write(true).create(true).truncate(true);
+    let count = accesses(rt.alloc(), new.open(&rt, "puts")?, &dbd)?;
     assert!(rt; count > 0 && count < 4000, "{count} accesses");
+    let image = fs::read(&rt, "puts")?;
+    assert_eq!(rt; image.get(..12), header(0).get(..12));
+    assert_eq!(rt; image.get(16..48), header(0).get(16..48));
     fs::remove_file(&rt, "puts")?;
     Ok(())
 }
