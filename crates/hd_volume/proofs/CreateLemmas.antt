@@ -1,18 +1,17 @@
 -- A new volume.
-use Rattle.std.proofs.Common.{◌≡◌, ◌≢◌, ◌⊎◌, inl, inr, ℕ, zero, suc, ◌+◌, ◌-◌, ◌*◌, ◌/◌, ◌%◌, ◌<◌, ◌≤◌, min, List, [], ◌∷◌, length, take, drop, replicate, slice_index, Option, None, refl, sym, ap, ◌∙◌, arith, ne_eqb, subst}
+use Rattle.std.proofs.Common.{◌≡◌, ◌≢◌, inl, inr, ℕ, ◌*◌, ◌/◌, ◌<◌, ◌≤◌, List, [], ◌∷◌, length, take, drop, replicate, slice_index, None, refl, sym, ap, ◌∙◌, arith, ne_eqb}
 use Rattle.std.proofs.lemmas.Bool.{cases_eq, eq-eqb}
 use Rattle.std.proofs.lemmas.List.{take_all}
 use Rattle.std.proofs.Math.Nat.{mul-div_cancel, mul-le-mul_right}
 use Rattle.hd_bytes.specs.Numbers.{number_at}
 use Rattle.hd_bytes.specs.Ranges.{bytes_at, with_bytes}
 use Rattle.hd_bytes.specs.Blocks.{block_of, HasBlock}
-use Rattle.hd_bytes.proofs.BlockLemmas.{length-block}
 use Rattle.hd_bytes.proofs.NumberLemmas.{length-with}
 use Rattle.hd_volume.specs.declared.space.Space.{Space}
-use Rattle.hd_volume.specs.Headers.{Header, header_of, HasHeader}
-use Rattle.hd_volume.specs.Volumes.{VolumeState, block_at, kind_of, IsKind, IsFormatted}
+use Rattle.hd_volume.specs.Headers.{Header, header_of}
+use Rattle.hd_volume.specs.Volumes.{VolumeState, block_at, kind_of}
 use Rattle.hd_volume.specs.Records.{find}
-use Rattle.hd_volume.specs.Rooms.{free_below, is_free}
+use Rattle.hd_volume.specs.Rooms.{free_below}
 use Rattle.hd_volume.specs.Spaces.{blocks_in, IsSpaceOf}
 use Rattle.hd_volume.specs.Creates.{new_header, head_list, IsCreated}
 use Rattle.hd_volume.proofs.FrameLemmas.{header-same}

@@ -1,8 +1,8 @@
-use Rattle.std.proofs.Common.{◌≡◌, ℕ, ◌<◌, ◌≤◌, true, false, vec_len, IsTrue, refl, subst, sym, ap, ◌∙◌, arith}
+use Rattle.std.proofs.Common.{◌≡◌, ℕ, true, false, vec_len, IsTrue, subst, sym, arith}
 use Rattle.std.specs.Vec.{vec_capacity}
 use Rattle.hd_volume.specs.Volumes.{VolumeState, IsFormatted}
 use Rattle.hd_volume.specs.Rooms.{HasHole}
-use Rattle.hd_volume.specs.Spaces.{volume_of, room_for, IsSeen}
+use Rattle.hd_volume.specs.Spaces.{volume_of, room_for}
 use Rattle.hd_volume.proofs.PutLemmas.{no-hole, hole-of}
 use Rattle.hd_volume.proofs.volume.Volume.has_hole.Goals as goal
 

@@ -1,9 +1,9 @@
-use Rattle.std.proofs.Common.{◌≡◌, ℕ, ◌+◌, ◌-◌, ◌<◌, ◌≤◌, min, vec_len, IsTrue, refl, subst, sym, ap, ◌∙◌, arith}
+use Rattle.std.proofs.Common.{◌≡◌, ℕ, ◌-◌, vec_len, IsTrue, subst, sym, ap, ◌∙◌, arith}
 use Rattle.std.specs.Vec.{vec_capacity}
 use Rattle.hd_volume.specs.Headers.{header_of}
 use Rattle.hd_volume.specs.Volumes.{VolumeState, IsFormatted}
 use Rattle.hd_volume.specs.Rooms.{spare, free_below}
-use Rattle.hd_volume.specs.Spaces.{volume_of, room_for, blocks_in}
+use Rattle.hd_volume.specs.Spaces.{volume_of, room_for}
 use Rattle.hd_volume.proofs.GrowLemmas.{formatted-count, free-most}
 use Rattle.hd_volume.proofs.volume.Volume.spare.Goals as goal
 
