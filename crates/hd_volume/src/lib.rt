@@ -1,4 +1,5 @@
-//! Stores of blocks: in memory, in a file, and a fuse that fails one access of the store below it.
+//! A volume over a store of blocks: a finite map from addresses to segments, and blocks for an index. Stores are in
+//! memory, in a file, or a fuse that fails one access of the store below it.
 #![tactic(auto)]
 
 mod blocks;
