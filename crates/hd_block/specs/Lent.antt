@@ -1,7 +1,6 @@
 -- What a contract sees of a `Block`.
-use Rattle.std.specs.Prelude.{◌≡◌, ℕ, List}
+use Rattle.std.specs.Prelude.{◌≡◌, ℕ, List, slice_index}
 use Rattle.std.specs.Borrow.{GName}
-use Rattle.hd_dbd.specs.Prefixes.{stored_size}
 use Rattle.hd_block.specs.declared.block.Block.{Block}
 
 -- the block's bytes
@@ -10,13 +9,13 @@ bytes_of b = b.bytes.now
 
 -- the bytes that a segment with a code takes
 abbrev pub sizes_of : Block → ℕ → ℕ
-sizes_of b = stored_size b.dbd.now.types
+sizes_of b = slice_index b.sizes.now
 
 -- the ghost name of the reference to the bytes
 abbrev pub lender_of : Block → GName
 lender_of b = b.bytes.ghost_name
 
--- two blocks borrow the same bytes, for the same database
+-- two blocks borrow the same bytes, with the same sizes
 pub record IsSameBlock (old new : Block) : Type 0 where
   pub lender : lender_of new ≡ lender_of old
   pub sizes : sizes_of new ≡ sizes_of old

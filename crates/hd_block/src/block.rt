@@ -1,6 +1,5 @@
-ghost use Rattle.std.specs.Prelude.{◌≡◌, ◌≢◌, ◌⊎◌, ◌+◌, ◌%◌, ◌≤◌, ◌<◌, ℕ, List, length, OnSome, IfSome, IfNone};
+ghost use Rattle.std.specs.Prelude.{◌≡◌, ◌≢◌, ◌⊎◌, ◌+◌, ◌%◌, ◌≤◌, ◌<◌, ℕ, List, length, slice_index, OnSome, IfSome, IfNone};
 ghost use Rattle.hd_bytes.specs.Ranges.{AgreeOn};
-ghost use Rattle.hd_dbd.specs.Prefixes.{stored_size};
 ghost use Rattle.hd_block.specs.Extents.{Extent, IsDivided, AreWhole, UsedAt, TakenAt};
 ghost use Rattle.hd_block.specs.Changes.{hole_at, after_take, after_give};
 ghost use Rattle.hd_block.specs.Parts.{parts_of};
@@ -9,27 +8,26 @@ ghost use Rattle.hd_block.specs.Walk.{parts_in};
 use crate::gives::give_hole;
 use crate::holes::take_hole;
 use crate::parts::Parts;
-use hd_dbd::Dbd;
 
-/// A data block of a database.
+/// A data block, with the bytes that the segments of each type take in it, by code.
 #[derive(Drop)]
 pub struct Block<'a> {
     bytes: &'a mut [u8],
-    dbd: &'a Dbd,
+    sizes: &'a [u16],
     ghost sized: { (8 ≤ length bytes.now) × (length bytes.now ≤ 32768) },
 }
 
 impl<'a> Block<'a> {
     ghost use Rattle.hd_block.specs.Lent.{bytes_of, sizes_of, lender_of, IsSameBlock};
 
-    /// These bytes as a block, of 8 to 32,768 bytes; it is not compared with the database's block size.
-    pub fn new(bytes: &'a mut [u8], dbd: &'a Dbd) -> Block<'a>
+    /// These bytes as a block, of 8 to 32,768 bytes. A size is 0 where there is no type, and so it is past the last.
+    pub fn new(bytes: &'a mut [u8], sizes: &'a [u16]) -> Block<'a>
         requires { (8 ≤ length bytes.old) × (length bytes.old ≤ 32768) }
         ensures lender { lender_of result ≡ bytes.entry.ghost_name }
         ensures bytes { bytes_of result ≡ bytes.old }
-        ensures sizes { sizes_of result ≡ stored_size dbd.now.types }
+        ensures sizes { sizes_of result ≡ slice_index sizes.now }
     {
-        Block { bytes, dbd }
+        Block { bytes, sizes }
     }
 
     /// Takes the front of the first hole that is large enough, and says where it begins. The size is above 0 and a
@@ -69,7 +67,7 @@ impl<'a> Block<'a> {
         ensures parts { result ≡ parts_in (sizes_of self.now) (bytes_of self.now) }
         ensures divided { (xs : List Extent) → IsDivided (sizes_of self.now) (bytes_of self.now) xs → AreWhole xs → result ≡ parts_of 8 xs }
     {
-        Parts::new(self.bytes, self.dbd)
+        Parts::new(self.bytes, self.sizes)
     }
 }
 
@@ -77,53 +75,9 @@ impl<'a> Block<'a> {
 mod tests {
     use super::*;
     use crate::Part;
-    use hd_dbd::{DbdFault, FreeSpace, Key, Name8, Rule, SegType};
-    use std::alloc::{AllocError, Global};
 
-    /// A type of the sample database without its fields; key 0 for none, which is unique where it has three bytes or
-    /// fewer.
-    fn type_of(alloc: Global, name: Name8, parent: Option<u8>, length: u32, key: u32) -> SegType {
-        let start = 1;
-        let unique = key <= 3;
-        SegType {
-            name,
-            parent,
-            length,
-            key: if key == 0 {
-                None
-            } else {
-                Some(Key {
-                    start,
-                    length: key,
-                    unique,
-                })
-            },
-            rule: Rule::Last,
-            backward: key != 4,
-            last_pointer: key == 2 || key == 0,
-            fields: Vec::new(alloc),
-        }
-    }
-
-    fn sample_types(alloc: Global) -> Result<Vec<SegType>, AllocError> {
-        let course = Name8::from_padded(*b"COURSE  ").unwrap();
-        let class = Name8::from_padded(*b"CLASS   ").unwrap();
-        let student = Name8::from_padded(*b"STUD    ").unwrap();
-        let book = Name8::from_padded(*b"BOOK    ").unwrap();
-        Ok(vec![in alloc;
-            type_of(alloc, course, None, 8, 3),
-            type_of(alloc, class, Some(1), 4, 2),
-            type_of(alloc, student, Some(2), 6, 4),
-            type_of(alloc, book, Some(1), 5, 0),
-        ]?)
-    }
-
-    fn sample(alloc: Global) -> Result<Dbd, DbdFault> {
-        let name = Name8::from_padded(*b"EDU     ").unwrap();
-        let frspc = FreeSpace { fbff: 0, fspf: 0 };
-        let types = sample_types(alloc)?;
-        Dbd::new(alloc, name, 128, frspc, types)
-    }
+    /// The sizes of a course, a class, a student and a book.
+    const SIZES: [u16; 5] = [0, 40, 24, 16, 16];
 
     /// Block 2 of the sample image: a book, a course, and a hole.
     fn sample_block() -> [u8; 128] {
@@ -140,9 +94,8 @@ mod tests {
 
     #[test]
     fn reads_the_parts_of_a_block(rt: HostRuntime) {
-        let dbd = sample(rt.alloc()).expect(&rt, "a database");
         let mut bytes = sample_block();
-        let block = Block::new(&mut bytes, &dbd);
+        let block = Block::new(&mut bytes, &SIZES);
         let mut parts = block.parts();
         assert_eq!(rt; parts.next(), Some(Part::Used(8, 16)));
         assert_eq!(rt; parts.next(), Some(Part::Used(24, 40)));
@@ -152,9 +105,8 @@ mod tests {
 
     #[test]
     fn takes_a_hole_behind_one_that_is_too_small(rt: HostRuntime) {
-        let dbd = sample(rt.alloc()).expect(&rt, "a database");
         let mut bytes = sample_block();
-        let mut block = Block::new(&mut bytes, &dbd);
+        let mut block = Block::new(&mut bytes, &SIZES);
         block.give(8, 16);
         assert_eq!(rt; block.take(24), Some(64));
         assert_eq!(rt; &bytes[..2], b"\0\x08".as_slice());
@@ -164,9 +116,8 @@ mod tests {
 
     #[test]
     fn joins_holes_into_one(rt: HostRuntime) {
-        let dbd = sample(rt.alloc()).expect(&rt, "a database");
         let mut bytes = sample_block();
-        let mut block = Block::new(&mut bytes, &dbd);
+        let mut block = Block::new(&mut bytes, &SIZES);
         block.give(8, 16);
         block.give(24, 40);
         assert_eq!(rt; block.take(128), None);

@@ -1,11 +1,9 @@
-ghost use Rattle.std.specs.Prelude.{◌≡◌, ◌+◌, ◌≤◌, [], ◌∷◌, length, MatchOption};
+ghost use Rattle.std.specs.Prelude.{◌≡◌, ◌+◌, ◌≤◌, [], ◌∷◌, length, slice_index, MatchOption};
 ghost use Rattle.std.specs.Iterator.{YieldsFirst, item_count};
 ghost use Rattle.hd_bytes.specs.Numbers.{number_at};
-ghost use Rattle.hd_dbd.specs.Prefixes.{stored_size};
 ghost use Rattle.hd_block.specs.Walk.{parts_in, parts_from};
 
 use hd_bytes::read_u16;
-use hd_dbd::Dbd;
 use std::iter::FusedIterator;
 use std::marker::Model;
 
@@ -20,34 +18,33 @@ pub enum Part {
 #[derive(Drop)]
 pub struct Parts<'a> {
     bytes: &'a [u8],
-    dbd: &'a Dbd,
+    sizes: &'a [u16],
     place: usize,
     next: u16,
 }
 
 impl<'a> Model for Parts<'a> {
-    ghost use Rattle.std.specs.Prelude.{List, length, ◌≤◌};
-    ghost use Rattle.hd_dbd.specs.Prefixes.{stored_size};
+    ghost use Rattle.std.specs.Prelude.{List, length, slice_index, ◌≤◌};
     ghost use Rattle.hd_block.specs.declared.parts.Part.{Part};
     ghost use Rattle.hd_block.specs.Walk.{parts_from};
 
     ghost Value = { List Part };
 
-    ghost view = { λ s. parts_from (stored_size s.dbd.now.types) s.bytes.now s.place s.next };
+    ghost view = { λ s. parts_from (slice_index s.sizes.now) s.bytes.now s.place s.next };
 
     ghost invariant = { λ s. (s.place ≤ length s.bytes.now) × (length s.bytes.now ≤ 32768) };
 }
 
 impl<'a> Parts<'a> {
-    /// All parts of a block.
-    pub(crate) fn new(bytes: &'a [u8], dbd: &'a Dbd) -> Parts<'a>
+    /// All parts of these bytes, of 8 to 32,768, with the bytes that the segments of each type take, by code.
+    pub fn new(bytes: &'a [u8], sizes: &'a [u16]) -> Parts<'a>
         requires { (8 ≤ length bytes.now) × (length bytes.now ≤ 32768) }
-        ensures { result ≡ parts_in (stored_size dbd.now.types) bytes.now }
+        ensures { result ≡ parts_in (slice_index sizes.now) bytes.now }
     {
         let next = read_u16(bytes, 0);
         Parts {
             bytes,
-            dbd,
+            sizes,
             place: 8,
             next,
         }
@@ -62,7 +59,7 @@ impl<'a> Iterator for Parts<'a> {
     ghost remaining = { item_count (λ rest. rest) };
 
     fn next(&mut self) -> Option<Part> {
-        match read_part(self.bytes, self.dbd, self.place, self.next) {
+        match read_part(self.bytes, self.sizes, self.place, self.next) {
             Some(step) => {
                 self.place += step.size as usize;
                 self.next = step.next;
@@ -86,10 +83,17 @@ pub struct Step {
     pub next: u16,
 }
 
+/// The bytes that a segment with a code takes; 0 where there is no type.
+fn size_of(sizes: &[u16], code: u8) -> u16
+    ensures { result ≡ slice_index sizes.now code }
+{
+    sizes.get(code as usize).copied().unwrap_or(0)
+}
+
 /// The part at a place, where the next free element begins at `next`.
-fn read_part(bytes: &[u8], dbd: &Dbd, place: usize, next: u16) -> Option<Step>
+fn read_part(bytes: &[u8], sizes: &[u16], place: usize, next: u16) -> Option<Step>
     requires { (place ≤ length bytes.now) × (length bytes.now ≤ 32768) }
-    ensures { MatchOption result (parts_from (stored_size dbd.now.types) bytes.now place next ≡ []) (λ s. (place + s.size ≤ length bytes.now) × (parts_from (stored_size dbd.now.types) bytes.now place next ≡ s.part ∷ parts_from (stored_size dbd.now.types) bytes.now (place + s.size) s.next)) }
+    ensures { MatchOption result (parts_from (slice_index sizes.now) bytes.now place next ≡ []) (λ s. (place + s.size ≤ length bytes.now) × (parts_from (slice_index sizes.now) bytes.now place next ≡ s.part ∷ parts_from (slice_index sizes.now) bytes.now (place + s.size) s.next)) }
 {
     let left = bytes.len() - place;
     if left < 8 {
@@ -99,7 +103,7 @@ fn read_part(bytes: &[u8], dbd: &Dbd, place: usize, next: u16) -> Option<Step>
     let size = if is_free {
         read_u16(bytes, place + 2)
     } else {
-        dbd.stored_size(bytes[place])
+        size_of(sizes, bytes[place])
     };
     if size < 8 || left < size as usize {
         return None;

@@ -66,7 +66,7 @@ pub parent_part : (block_size : ℕ) (types : List SegmentType) (c : ℕ) (t : S
 parent_part block_size types c t fit = earlier c t.parent (and_parts _ _ (placed block_size types c t fit)).1
 
 -- and its segments fit into a block
-size_part : (block_size : ℕ) (types : List SegmentType) (c : ℕ) (t : SegmentType) → type_fits block_size types c t ≡ true → stored_size types c + 8 ≤ block_size
+pub size_part : (block_size : ℕ) (types : List SegmentType) (c : ℕ) (t : SegmentType) → type_fits block_size types c t ≡ true → stored_size types c + 8 ≤ block_size
 size_part block_size types c t fit =
     let sizes = and_parts _ _ (and_parts _ _ fit).0 in
     leb-true (stored_size types c + 8) block_size (and_parts _ _ sizes.1).0

@@ -3,6 +3,7 @@ pub mod LevelLaw
 pub mod Levels
 pub mod Tables
 pub mod Fitting
+pub mod StoredSizes
 pub mod Kept
 pub mod KeyLengths
 pub mod RowLengths

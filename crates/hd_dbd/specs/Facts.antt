@@ -20,3 +20,7 @@ facts_of types = table_from (facts_at types) 1 (length types)
 -- the codes of the children of each type
 abbrev pub children_lists : List SegmentType → List (List ℕ)
 children_lists types = table_from (children_of types) 1 (length types)
+
+-- the bytes that the segments of each type take in a block, by code; none of code 0
+abbrev pub stored_sizes : List SegmentType → List ℕ
+stored_sizes types = 0 ∷ table_from (stored_size types) 1 (length types)

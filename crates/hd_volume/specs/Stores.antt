@@ -1,5 +1,5 @@
 -- What the calls of a block store say of its count of failures and of its soundness, by what they answer.
-use Rattle.std.specs.Prelude.{◌≡◌, ℕ, ◌<◌, Bool, false, Result, MatchResult}
+use Rattle.std.specs.Prelude.{◌≡◌, ◌⊎◌, ℕ, ◌<◌, Bool, false, IsTrue, List, Result, MatchResult}
 use Rattle.hd_dbd.specs.declared.answer.Refused.{Refused}
 use Rattle.hd_dbd.specs.declared.answer.Refused.TheVariants.{Memory, Full, Device, Broken, Area}
 
@@ -33,3 +33,11 @@ RefusesGrowth Full room blocks = ⊥
 RefusesGrowth Device room blocks = Unit {0}
 RefusesGrowth Broken room blocks = ⊥
 RefusesGrowth Area room blocks = ⊥
+
+-- A store that is given back with a refusal: nothing was changed for want of memory, or an access failed.
+pub record IsGivenBack {S : Type 0} (size : S → ℕ) (contents : S → List ℕ) (is_sound : S → Bool) (failures : S → ℕ) (old : S) (given : S × Refused) : Type 0 where
+  pub refusal : (given.1 ≡ Memory) ⊎ (given.1 ≡ Device)
+  pub counts : CountsFor given.1 (failures old) (failures given.0)
+  pub sound : SoundFor given.1 (is_sound old) (is_sound given.0)
+  pub kept : given.1 ≡ Memory → IsTrue (is_sound old) → contents given.0 ≡ contents old
+  pub size_kept : size given.0 ≡ size old

@@ -1,15 +1,31 @@
-//! Stores of blocks: in memory, in a file, and a fuse that fails one access of the store below it.
+//! A volume over a store of blocks: a finite map from addresses to segments, and blocks for an index. Stores are in
+//! memory, in a file, or a fuse that fails one access of the store below it.
 #![tactic(auto)]
 
+mod blocks;
+mod buffer;
+mod create;
 mod file;
 mod fuse;
+mod header;
+mod index_blocks;
+mod law;
+mod load;
 mod memory;
+mod puts;
+mod seek;
+mod space;
 mod store;
+mod volume;
 
 pub use file::FileStore;
 pub use fuse::FuseStore;
+pub use law::{law_entries_depend_on_index_blocks, law_segments_depend_on_data_blocks};
 pub use memory::MemStore;
 pub use store::BlockStore;
+pub use volume::Volume;
 
 #[cfg(test)]
 mod tests;
+#[cfg(test)]
+mod volume_tests;

@@ -1,19 +1,18 @@
 use Rattle.std.proofs.Common.{◌≡◌, ◌≤◌, ◌+◌, ◌∙◌, inl, inr, length, slice_index, arith}
 use Rattle.hd_bytes.specs.Numbers.{number_at}
-use Rattle.hd_dbd.specs.Prefixes.{stored_size}
 use Rattle.hd_block.proofs.PartLemmas.{from-end, from-none, from-free, from-used}
 use Rattle.hd_block.proofs.parts.read_part.Goals as goal
 use Rattle.hd_block.proofs.parts.read_part.Goals.{then-is_free, else-is_free, then-size-lt8-via-then-size-lt8, then-size-lt8-via-else-size-lt8+then-left-size}
 
 pub returns-then-left-lt8 : goal.returns-then-left-lt8
-returns-then-left-lt8 c = from-end (stored_size c.args.dbd.now.types) c.args.bytes.now c.args.place c.args.next (omega arith)
+returns-then-left-lt8 c = from-end (slice_index c.args.sizes.now) c.args.bytes.now c.args.place c.args.next (omega arith)
 
 pub returns-then-size-lt8 : goal.returns-then-size-lt8
 returns-then-size-lt8 c =
-    from-none (stored_size c.args.dbd.now.types) c.args.bytes.now c.args.place c.args.next c.if-is_free.size
+    from-none (slice_index c.args.sizes.now) c.args.bytes.now c.args.place c.args.next c.if-is_free.size
     (elim c.if-is_free.branch [
       | then-is_free w ↦ inl (w.if-is_free.true, w.size-is ∙ w.read_u16-size.ensures)
-      | else-is_free w ↦ inr (w.if-is_free.false, w.size-is ∙ w.stored_size-size.ensures)
+      | else-is_free w ↦ inr (w.if-is_free.false, w.size-is ∙ w.size_of-size.ensures)
     ])
     (elim c.then-size-lt8.branch [
       | then-size-lt8-via-then-size-lt8 w ↦ inl w.if-size-lt8.true
@@ -29,15 +28,15 @@ returns-then-is_free-2 c =
     ]
     in
     let within : c.args.place + c.if-is_free.size ≤ length c.args.bytes.now = omega (arith, c.if-left-size.false, c.requires.0) in
-    (within, rw c.read_u16-next.ensures (from-free (stored_size c.args.dbd.now.types) c.args.bytes.now c.args.place c.args.next c.if-is_free.size c.if-is_free-2.true len c.if-size-lt8.false within))
+    (within, rw c.read_u16-next.ensures (from-free (slice_index c.args.sizes.now) c.args.bytes.now c.args.place c.args.next c.if-is_free.size c.if-is_free-2.true len c.if-size-lt8.false within))
 
 pub returns : goal.returns
 returns c =
-    let len : c.if-is_free.size ≡ stored_size c.args.dbd.now.types (slice_index c.args.bytes.now c.args.place) =
+    let len : c.if-is_free.size ≡ slice_index c.args.sizes.now (slice_index c.args.bytes.now c.args.place) =
     elim c.if-is_free.branch [
       | then-is_free w ↦ absurd (c.if-is_free-2.false w.if-is_free.true)
-      | else-is_free w ↦ w.size-is ∙ w.stored_size-size.ensures
+      | else-is_free w ↦ w.size-is ∙ w.size_of-size.ensures
     ]
     in
     let within : c.args.place + c.if-is_free.size ≤ length c.args.bytes.now = omega (arith, c.if-left-size.false, c.requires.0) in
-    (within, from-used (stored_size c.args.dbd.now.types) c.args.bytes.now c.args.place c.args.next c.if-is_free.size c.if-is_free-2.false len c.if-size-lt8.false within)
+    (within, from-used (slice_index c.args.sizes.now) c.args.bytes.now c.args.place c.args.next c.if-is_free.size c.if-is_free-2.false len c.if-size-lt8.false within)

@@ -1,0 +1,13 @@
+pub mod BufferLemmas
+pub mod ExtentLemmas
+pub mod EditLemmas
+pub mod MapLemmas
+pub mod FrameLemmas
+pub mod CallLemmas
+pub mod PutLemmas
+pub mod KindLemmas
+pub mod GrowLemmas
+pub mod JoinLemmas
+pub mod LawLemmas
+pub mod CreateLemmas
+pub mod SpaceLemmas

@@ -1,0 +1,63 @@
+-- Blocks of a store in memory, and the image that they and the store make.
+use Rattle.std.specs.Prelude.{◌≡◌, ◌≢◌, ℕ, ◌<◌, ◌≤◌, Bool, true, false, cond, IsTrue, List, Result, vec_len}
+use Rattle.hd_bytes.specs.Blocks.{block_of, with_block, HasBlock}
+use Rattle.hd_dbd.specs.declared.answer.Refused.{Refused}
+use Rattle.hd_volume.specs.Stores.{CountsDevice, StaysSound}
+use Rattle.hd_volume.specs.Images.{KeepsFirst}
+use Rattle.hd_volume.specs.declared.buffer.Buffer.{Buffer}
+
+-- the bytes with a buffer's block put in, if it holds one
+abbrev pub put_in : ℕ → List ℕ → Buffer → List ℕ
+put_in size contents b = cond b.holds (with_block size contents b.number b.bytes.items) contents
+
+-- the store's bytes with the block in hand and block 0 put in
+abbrev pub image_of : ℕ → List ℕ → Buffer → Buffer → List ℕ
+image_of size contents head hand = put_in size (put_in size contents hand) head
+
+-- a buffer holds a block of the store, as it stands there unless it was changed
+pub record IsBuffer (size : ℕ) (contents : List ℕ) (b : Buffer) : Type 0 where
+  pub there : b.holds ≡ true → HasBlock size contents b.number
+  pub same : b.holds ≡ true → b.changed ≡ false → b.bytes.items ≡ block_of size contents b.number
+
+-- One buffer is for block 0, which it holds where there is one; the other is for a later block.
+pub record AreBuffers (size : ℕ) (contents : List ℕ) (head hand : Buffer) : Type 0 where
+  pub at_front : IsBuffer size contents head
+  pub in_hand : IsBuffer size contents hand
+  pub first : HasBlock size contents 0 → head.holds ≡ true
+  pub later : hand.holds ≡ true → hand.number ≢ 0
+
+-- What is seen of a store through buffers: all bytes as they will stand once they are written back, those of the store
+-- as they stand, the store's meanings, and the number of the block in hand, 0 for none.
+pub record Buffered : Type 0 where
+  pub image : List ℕ
+  pub stored : List ℕ
+  pub is_sound : Bool
+  pub failures : ℕ
+  pub room : ℕ
+  pub size : ℕ
+  pub hand : ℕ
+
+-- the number of the block that a buffer holds, 0 for none
+abbrev pub number_of : Buffer → ℕ
+number_of b = cond b.holds b.number 0
+
+-- what buffers over a store keep
+pub record AreKept (store_size : ℕ) (contents : List ℕ) (is_sound : Bool) (size : ℕ) (head hand : Buffer) : Type 0 where
+  pub same_size : store_size ≡ size
+  pub some : 0 < size
+  pub small : size ≤ 32768
+  pub head_len : vec_len head.bytes ≡ size
+  pub hand_len : vec_len hand.bytes ≡ size
+  pub head_number : head.number ≡ 0
+  pub ready : IsTrue is_sound → AreBuffers size contents head hand
+
+-- A call that brings at most one block to hand, and changes nothing of the image; where the store has all of it, so it does
+-- afterwards.
+pub record IsFetch {T : Type 0} (old : Buffered) (result : Result T Refused) (new : Buffered) : Type 0 where
+  pub counts : CountsDevice result old.failures new.failures
+  pub sound : StaysSound result old.is_sound new.is_sound
+  pub size : new.size ≡ old.size
+  pub room : new.room ≡ old.room
+  pub image : IsTrue new.is_sound → new.image ≡ old.image
+  pub stands : IsTrue new.is_sound → old.stored ≡ old.image → new.stored ≡ new.image
+  pub first : IsTrue new.is_sound → KeepsFirst old.size old.stored new.stored

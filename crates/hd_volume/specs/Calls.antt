@@ -1,0 +1,137 @@
+-- What the calls of a volume do to it.
+use Rattle.std.specs.Prelude.{◌≡◌, ◌≢◌, ◌⊎◌, ℕ, ◌+◌, ◌-◌, ◌/◌, ◌<◌, ◌≤◌, IsTrue, List, length, Some, None, Result, slice_index}
+use Rattle.hd_bytes.specs.Blocks.{HasBlock}
+use Rattle.hd_bytes.specs.Ranges.{with_bytes}
+use Rattle.hd_dbd.specs.declared.answer.Refused.{Refused}
+use Rattle.hd_volume.specs.Stores.{CountsDevice, StaysSound}
+use Rattle.hd_volume.specs.Images.{ChangesBlock, KeepsFirst}
+use Rattle.hd_volume.specs.Headers.{Header, header_of}
+use Rattle.hd_volume.specs.Volumes.{VolumeState, block_at, kind_of, IsKind, IsFormatted}
+use Rattle.hd_volume.specs.Records.{find}
+use Rattle.hd_volume.specs.Rooms.{spare, HasHole}
+
+-- What every call does but a flush: Device is answered exactly where a failed access was counted; the sizes stay; and
+-- while the store is sound, its own block 0 stays.
+pub record IsCall {T : Type 0} (old : VolumeState) (result : Result T Refused) (new : VolumeState) : Type 0 where
+  pub counts : CountsDevice result old.failures new.failures
+  pub sound : StaysSound result old.is_sound new.is_sound
+  pub size : new.size ≡ old.size
+  pub sizes : new.sizes ≡ old.sizes
+  pub first : IsTrue new.is_sound → KeepsFirst old.size old.stored new.stored
+
+-- A call that changes nothing of the image; where the store has all of it, so it does afterwards.
+pub record IsRead {T : Type 0} (old : VolumeState) (result : Result T Refused) (new : VolumeState) : Type 0 where
+  pub call : IsCall old result new
+  pub image : IsTrue new.is_sound → new.image ≡ old.image
+  pub stands : IsTrue new.is_sound → old.stored ≡ old.image → new.stored ≡ new.image
+  pub room : new.room ≡ old.room
+
+-- there is a segment of at least n bytes at an address
+pub record HasSegment (v : VolumeState) (address n : ℕ) : Type 0 where
+  pub bytes : List ℕ
+  pub is : find v address ≡ Some bytes
+  pub long : n ≤ length bytes
+
+-- all segments but the one at an address, if there is one, stay where they are
+abbrev pub KeepsOthers : VolumeState → VolumeState → ℕ → Type 0
+KeepsOthers old new address = (b : ℕ) → b ≢ address → find new b ≡ find old b
+
+-- all segments stay where they are
+abbrev pub KeepsSegments : VolumeState → VolumeState → Type 0
+KeepsSegments old new = (b : ℕ) → find new b ≡ find old b
+
+-- every index block stays as it is
+abbrev pub KeepsIndex : VolumeState → VolumeState → Type 0
+KeepsIndex old new = (n : ℕ) → IsKind old 2 n → block_at new n ≡ block_at old n
+
+-- where there was a hole of some size, there still is one as large
+abbrev pub KeepsHoles : VolumeState → VolumeState → Type 0
+KeepsHoles old new = (n : ℕ) → HasHole old n → HasHole new n
+
+-- Bytes were written into the segment at an address, in its block alone.
+pub record IsWritten (old : VolumeState) (address offset : ℕ) (bytes : List ℕ) (new : VolumeState) : Type 0 where
+  pub formatted : IsFormatted new
+  pub is : (s : List ℕ) → find old address ≡ Some s → find new address ≡ Some (with_bytes s offset bytes)
+  pub others : KeepsOthers old new address
+  pub block : ChangesBlock old.size (address / old.size) old.image new.image
+  pub kinds : (n : ℕ) → kind_of (block_at new n) ≡ kind_of (block_at old n)
+  pub header : header_of new.image ≡ header_of old.image
+  pub spares : spare new ≡ spare old
+  pub holes : KeepsHoles old new
+
+-- The segment at an address was freed, in its block alone, which stays a data block; its bytes are room again.
+pub record IsFreed (old : VolumeState) (address : ℕ) (new : VolumeState) : Type 0 where
+  pub formatted : IsFormatted new
+  pub gone : find new address ≡ None
+  pub others : KeepsOthers old new address
+  pub block : ChangesBlock old.size (address / old.size) old.image new.image
+  pub kinds : (n : ℕ) → kind_of (block_at new n) ≡ kind_of (block_at old n)
+  pub header : header_of new.image ≡ header_of old.image
+  pub spares : spare new ≡ spare old
+  pub hole : (s : List ℕ) → find old address ≡ Some s → HasHole new (length s)
+  pub holes : KeepsHoles old new
+
+-- The volume may have grown by a block.
+pub record MayGrow (old new : VolumeState) : Type 0 where
+  pub count : ((header_of new.image).count ≡ (header_of old.image).count) ⊎ ((header_of new.image).count ≡ (header_of old.image).count + 1)
+  pub header : header_of new.image ≡ record (header_of old.image) { count = (header_of new.image).count }
+
+-- A segment was put at an address where there was none, in a block that was for data, was free, or is new; no other block
+-- but block 0 has changed. A hole of its size is used where there is one.
+pub record IsPut (old : VolumeState) (address : ℕ) (bytes : List ℕ) (new : VolumeState) : Type 0 where
+  pub formatted : IsFormatted new
+  pub place : IsKind old 1 (address / old.size) ⊎ IsKind old 3 (address / old.size) ⊎ (address / old.size ≡ (header_of old.image).count)
+  pub blocks : (m : ℕ) → HasBlock old.size old.image m → 0 < m → m ≢ address / old.size → block_at new m ≡ block_at old m
+  pub was : find old address ≡ None
+  pub is : find new address ≡ Some bytes
+  pub others : KeepsOthers old new address
+  pub index : KeepsIndex old new
+  pub grows : MayGrow old new
+  pub spares : spare old ≤ spare new + 1
+  pub in_hole : HasHole old (length bytes) → spare new ≡ spare old
+  pub holes : (n : ℕ) → length bytes < n → HasHole old n → HasHole new (n - length bytes)
+
+-- Block n, which was free or is new, is an index block of a level; its count and its next block are 0.
+pub record IsTakenBlock (old : VolumeState) (n level : ℕ) (new : VolumeState) : Type 0 where
+  pub formatted : IsFormatted new
+  pub was : (IsKind old 3 n) ⊎ (n ≡ (header_of old.image).count)
+  pub is : IsKind new 2 n
+  pub level_is : slice_index (block_at new n) 3 ≡ level
+  pub empty : (k : ℕ) → 4 ≤ k → k < 12 → slice_index (block_at new n) k ≡ 0
+  pub others : (m : ℕ) → HasBlock old.size old.image m → 0 < m → m ≢ n → block_at new m ≡ block_at old m
+  pub segments : KeepsSegments old new
+  pub index : KeepsIndex old new
+  pub grows : MayGrow old new
+  pub spares : spare old ≡ spare new + 1
+  pub holes : KeepsHoles old new
+
+-- Index block n has become a free block.
+pub record IsGivenBlock (old : VolumeState) (n : ℕ) (new : VolumeState) : Type 0 where
+  pub formatted : IsFormatted new
+  pub was : IsKind old 2 n
+  pub is : IsKind new 3 n
+  pub block : ChangesBlock old.size n old.image new.image
+  pub segments : KeepsSegments old new
+  pub header : header_of new.image ≡ header_of old.image
+  pub spares : spare new ≡ spare old + 1
+  pub holes : KeepsHoles old new
+
+-- The header has these fields, and all else of the image stays.
+pub record HasNewHeader (old : VolumeState) (header : Header) (new : VolumeState) : Type 0 where
+  pub formatted : IsFormatted old → IsFormatted new
+  pub is : header_of new.image ≡ header
+  pub block : ChangesBlock old.size 0 old.image new.image
+  pub segments : KeepsSegments old new
+  pub spares : spare new ≡ spare old
+  pub holes : KeepsHoles old new
+
+-- Bytes were written into index block n.
+pub record IsWrittenBlock (old : VolumeState) (n offset : ℕ) (bytes : List ℕ) (new : VolumeState) : Type 0 where
+  pub formatted : IsFormatted new
+  pub is : IsKind new 2 n
+  pub value : block_at new n ≡ with_bytes (block_at old n) offset bytes
+  pub block : ChangesBlock old.size n old.image new.image
+  pub segments : KeepsSegments old new
+  pub header : header_of new.image ≡ header_of old.image
+  pub spares : spare new ≡ spare old
+  pub holes : KeepsHoles old new

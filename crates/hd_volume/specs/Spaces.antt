@@ -1,0 +1,68 @@
+-- What a volume keeps of its blocks, so that no block is read in vain.
+use Rattle.std.specs.Prelude.{◌≡◌, ℕ, ◌+◌, ◌-◌, ◌/◌, ◌%◌, ◌<◌, ◌≤◌, Bool, IsTrue, List, length, min, slice_index, slice_index_or, vec_len}
+use Rattle.std.specs.Vec.{vec_capacity}
+use Rattle.hd_block.specs.Walk.{parts_in}
+use Rattle.hd_volume.specs.declared.space.Content.{Content}
+use Rattle.hd_volume.specs.declared.space.Space.{Space}
+use Rattle.hd_bytes.specs.Blocks.{block_of}
+use Rattle.hd_volume.specs.Buffers.{Buffered}
+use Rattle.hd_volume.specs.Volumes.{VolumeState, kind_of}
+use Rattle.hd_volume.specs.Rooms.{free_below, largest_hole}
+
+-- the volume that blocks and stored sizes are, with room for so many growths
+abbrev pub volume_of : Buffered → List ℕ → ℕ → VolumeState
+volume_of b sizes room = record { image = b.image; stored = b.stored; is_sound = b.is_sound; failures = b.failures; room = room; size = b.size; sizes = sizes }
+
+-- so many growths find memory, in the store and for what is kept of each block
+abbrev pub room_for : ℕ → ℕ → ℕ → ℕ
+room_for store_room len capacity = min store_room (capacity - len)
+
+-- how many blocks of an image are looked at: the whole ones, at most 65,536
+abbrev pub blocks_in : ℕ → List ℕ → ℕ
+blocks_in size image = min (length image / size) 65536
+
+-- what is kept of block n
+abbrev pub content_at : Space → ℕ → Content
+content_at space n = slice_index_or space.contents.items n (record { kind = 0; hole = 0 })
+
+-- What is kept of a block is its kind and, of a data block, a length that no hole of it exceeds.
+pub record IsContent (sizes : ℕ → ℕ) (block : List ℕ) (content : Content) : Type 0 where
+  pub kind_is : content.kind ≡ kind_of block
+  pub bound : content.kind ≡ 1 → largest_hole (parts_in sizes block) ≤ content.hole
+
+-- What is kept is true: of each block behind block 0; for each type, that no data block below the lowest has a hole of its
+-- size; the number of free blocks; and that none is free below the lowest.
+pub record IsSpaceOf (size : ℕ) (sizes image : List ℕ) (space : Space) : Type 0 where
+  pub len : vec_len space.contents ≡ blocks_in size image
+  pub contents : (n : ℕ) → 0 < n → n < blocks_in size image → IsContent (slice_index sizes) (block_of size image n) (content_at space n)
+  pub lowest : (c n : ℕ) → 0 < n → n < slice_index space.lowest.items c → n < blocks_in size image → (content_at space n).kind ≡ 1 → (content_at space n).hole < slice_index sizes c
+  pub free : space.free ≡ free_below size image (blocks_in size image)
+  pub lowest_free : (n : ℕ) → 0 < n → n < space.lowest_free → n < blocks_in size image → kind_of (block_of size image n) ≡ 3 → ⊥
+
+-- Stored sizes: each fits into a block behind its first 8 bytes, and is a multiple of 8.
+pub record AreSizes (size : ℕ) (sizes : List ℕ) : Type 0 where
+  pub fit : (c : ℕ) → slice_index sizes c + 8 ≤ size
+  pub whole : (c : ℕ) → slice_index sizes c % 8 ≡ 0
+
+-- what a volume keeps
+pub record IsKeptVolume (size : ℕ) (sizes image : List ℕ) (is_sound : Bool) (space : Space) : Type 0 where
+  pub least : 128 ≤ size
+  pub most : size ≤ 32768
+  pub eighths : size % 8 ≡ 0
+  pub fits : AreSizes size sizes
+  pub small : vec_len space.contents ≤ 65536
+  pub true_of : IsTrue is_sound → IsSpaceOf size sizes image space
+
+-- the tables keep their lengths and capacities, and the number of free blocks stays
+pub record KeepsTables (old new : Space) : Type 0 where
+  pub len : vec_len new.contents ≡ vec_len old.contents
+  pub capacity : vec_capacity new.contents ≡ vec_capacity old.contents
+  pub free : new.free ≡ old.free
+
+-- Some block that is looked at is for data and has a hole of at least this size.
+pub record IsSeen (sizes : ℕ → ℕ) (size : ℕ) (image : List ℕ) (need : ℕ) : Type 0 where
+  pub block : ℕ
+  pub later : 0 < block
+  pub below : block < blocks_in size image
+  pub is_data : kind_of (block_of size image block) ≡ 1
+  pub large : need ≤ largest_hole (parts_in sizes (block_of size image block))

@@ -1,0 +1,72 @@
+-- The steps of which putting a segment and taking a block are made.
+use Rattle.std.specs.Prelude.{◌≡◌, ◌≢◌, ◌⊎◌, ℕ, ◌+◌, ◌-◌, ◌/◌, ◌<◌, ◌≤◌, List, [], ◌∷◌, length, Some, None, slice_index}
+use Rattle.hd_bytes.specs.Blocks.{HasBlock}
+use Rattle.hd_block.specs.Walk.{parts_in}
+use Rattle.hd_volume.specs.Images.{ChangesBlock}
+use Rattle.hd_volume.specs.Headers.{header_of}
+use Rattle.hd_volume.specs.Volumes.{VolumeState, block_at, IsKind, IsFormatted}
+use Rattle.hd_volume.specs.Records.{find}
+use Rattle.hd_volume.specs.Rooms.{spare, largest_hole, HasHole}
+use Rattle.hd_volume.specs.Calls.{KeepsOthers, KeepsSegments, KeepsIndex, KeepsHoles, MayGrow}
+
+-- A data block has a hole of at least n bytes.
+pub record HasRoom (v : VolumeState) (n need : ℕ) : Type 0 where
+  pub is_data : IsKind v 1 n
+  pub large : need ≤ largest_hole (parts_in (slice_index v.sizes) (block_at v n))
+
+-- A segment was put into the hole of data block n.
+pub record IsPutIn (old : VolumeState) (n address : ℕ) (bytes : List ℕ) (new : VolumeState) : Type 0 where
+  pub formatted : IsFormatted new
+  pub at : address / old.size ≡ n
+  pub was : find old address ≡ None
+  pub is : find new address ≡ Some bytes
+  pub others : KeepsOthers old new address
+  pub block : ChangesBlock old.size n old.image new.image
+  pub header : header_of new.image ≡ header_of old.image
+  pub spares : spare new ≡ spare old
+  pub holes : (k : ℕ) → length bytes < k → HasHole old k → HasHole new (k - length bytes)
+
+-- Block n is free: it was, and nothing has changed, or the volume has grown by it.
+pub record HasFree (old : VolumeState) (n : ℕ) (new : VolumeState) : Type 0 where
+  pub formatted : IsFormatted new
+  pub is : IsKind new 3 n
+  pub was : (IsKind old 3 n) ⊎ (n ≡ (header_of old.image).count)
+  pub others : (m : ℕ) → HasBlock old.size old.image m → 0 < m → block_at new m ≡ block_at old m
+  pub grows : MayGrow old new
+  pub segments : KeepsSegments old new
+  pub spares : spare new ≡ spare old
+  pub holes : KeepsHoles old new
+
+-- Free block n has become a block of another kind, with no segment in it.
+pub record IsMade (old : VolumeState) (n kind : ℕ) (new : VolumeState) : Type 0 where
+  pub formatted : IsFormatted new
+  pub is : IsKind new kind n
+  pub block : ChangesBlock old.size n old.image new.image
+  pub header : header_of new.image ≡ header_of old.image
+  pub segments : KeepsSegments old new
+  pub spares : spare old ≡ spare new + 1
+  pub holes : KeepsHoles old new
+
+-- the first bytes of a data block with one hole, which begins at offset 8 and whose length has these two bytes
+abbrev pub data_head : ℕ → ℕ → List ℕ
+data_head high low = 0 ∷ 8 ∷ 1 ∷ 0 ∷ 0 ∷ 0 ∷ 0 ∷ 0 ∷ 0 ∷ 0 ∷ high ∷ low ∷ 0 ∷ 0 ∷ 0 ∷ 0 ∷ []
+
+-- Data block n has room for so many bytes. A hole that was there is used; else a free block or a new one has become it.
+pub record IsReady (old : VolumeState) (n need : ℕ) (new : VolumeState) : Type 0 where
+  pub formatted : IsFormatted new
+  pub place : IsKind old 1 n ⊎ IsKind old 3 n ⊎ (n ≡ (header_of old.image).count)
+  pub blocks : (m : ℕ) → HasBlock old.size old.image m → 0 < m → m ≢ n → block_at new m ≡ block_at old m
+  pub longer : length old.image ≤ length new.image
+  pub room : HasRoom new n need
+  pub segments : KeepsSegments old new
+  pub index : KeepsIndex old new
+  pub grows : MayGrow old new
+  pub spares : spare old ≤ spare new + 1
+  pub in_hole : HasHole old need → spare new ≡ spare old
+  pub holes : KeepsHoles old new
+
+-- Free block n has become an index block of a level, with no entry and none behind it.
+pub record IsMadeIndex (old : VolumeState) (n level : ℕ) (new : VolumeState) : Type 0 where
+  pub made : IsMade old n 2 new
+  pub level_is : slice_index (block_at new n) 3 ≡ level
+  pub empty : (k : ℕ) → 4 ≤ k → k < 12 → slice_index (block_at new n) k ≡ 0

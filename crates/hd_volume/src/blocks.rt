@@ -1,0 +1,297 @@
+ghost use Rattle.std.specs.Prelude.{◌≡◌, ◌+◌, ◌≤◌, ◌<◌, ◌%◌, ℕ, List, true, false, vec_len, IsTrue, length, OnOk, OnSome, IfOk, IfErr, IfSome, IfNone, slice_index};
+ghost use Rattle.hd_bytes.specs.Blocks.{block_of, grown, HasBlock};
+ghost use Rattle.hd_bytes.specs.Ranges.{with_bytes};
+ghost use Rattle.byteorder.specs.Endian.{big_bytes};
+ghost use Rattle.hd_volume.specs.Edits.{IsTaken, IsGiven};
+ghost use Rattle.hd_volume.specs.Stores.{CountsDevice, StaysSound, RefusesGrowth, IsGivenBack};
+ghost use Rattle.hd_volume.specs.Images.{ChangesBlock, KeepsFirst};
+ghost use Rattle.hd_volume.specs.Buffers.{AreBuffers, image_of};
+
+use crate::buffer::{Buffer, bring, write_back};
+use crate::store::BlockStore;
+use hd_block::Block;
+use hd_bytes::{write_bytes, write_u32};
+use hd_dbd::Refused;
+use std::alloc::{AllocError, Global};
+use std::marker::Model;
+
+/// The blocks of a store, of which block 0 and one more are in memory.
+#[derive(Drop)]
+pub struct Blocks<S: BlockStore> {
+    store: S,
+    head: Buffer,
+    hand: Buffer,
+    block_size: usize,
+}
+
+impl<S: BlockStore> Model for Blocks<S> {
+    ghost use Rattle.hd_volume.specs.Buffers.{Buffered, AreKept, image_of, number_of};
+
+    ghost Value = { Buffered };
+
+    ghost view = { λ v. record {
+      image = image_of v.block_size (S.contents v.store) v.head v.hand;
+      stored = S.contents v.store;
+      is_sound = S.is_sound v.store;
+      failures = S.failures v.store;
+      room = S.room v.store;
+      size = v.block_size;
+      hand = number_of v.hand;
+    } };
+
+    ghost invariant = { λ v. AreKept (S.size v.store) (S.contents v.store) (S.is_sound v.store) v.block_size v.head v.hand };
+}
+
+impl<S: BlockStore> Blocks<S> {
+    /// The blocks of a store, whose block 0 is read if it has one. A refusal gives the store back.
+    pub fn new(alloc: Global, mut store: S) -> Result<Blocks<S>, (S, Refused)>
+        ensures image { IfOk result (λ b. IsTrue (S.is_sound store) → (b.image ≡ S.contents store) × (b.stored ≡ S.contents store)) }
+        ensures store { IfOk result (λ b. (b.is_sound ≡ S.is_sound store) × (b.failures ≡ S.failures store) × (b.room ≡ S.room store) × (b.size ≡ S.size store)) }
+        ensures refusal { IfErr result (λ e. IsGivenBack S.size S.contents S.is_sound S.failures store e) }
+    {
+        let block_size = store.block_size();
+        let Ok(mut head) = empty_buffer(alloc, block_size) else {
+            return Err((store, Refused::Memory));
+        };
+        let Ok(hand) = empty_buffer(alloc, block_size) else {
+            return Err((store, Refused::Memory));
+        };
+        if store.length() >= block_size as u64 {
+            if let Err(refused) = bring(&mut store, &mut head, 0) {
+                return Err((store, refused));
+            }
+        }
+        Ok(Blocks {
+            store,
+            head,
+            hand,
+            block_size,
+        })
+    }
+
+    /// The bytes of a block.
+    pub fn block_size(&self) -> usize
+        ensures value { result ≡ self.now.size }
+        ensures some { 0 < result }
+        ensures small { result ≤ 32768 }
+    {
+        self.block_size
+    }
+
+    /// All bytes, which need be no whole number of blocks.
+    pub fn length(&self) -> u64
+        ensures { IsTrue self.now.is_sound → result ≡ length self.now.image }
+    {
+        self.store.length()
+    }
+
+    /// The bytes of block 0; zeros where there is none.
+    pub fn head(&self) -> &[u8]
+        ensures value { IsTrue self.now.is_sound → HasBlock self.now.size self.now.image 0 → result.now ≡ block_of self.now.size self.now.image 0 }
+        ensures len { length result.now ≡ self.now.size }
+    {
+        &self.head.bytes
+    }
+
+    /// Writes a number of four bytes into block 0.
+    pub fn write_head(&mut self, place: usize, number: u32)
+        requires { place + 4 ≤ self.old.size }
+        ensures rest { self.new ≡ record self.old { image = self.new.image } }
+        ensures others { IsTrue self.old.is_sound → HasBlock self.old.size self.old.image 0 → ChangesBlock self.old.size 0 self.old.image self.new.image }
+        ensures block { IsTrue self.old.is_sound → HasBlock self.old.size self.old.image 0 → block_of self.old.size self.new.image 0 ≡ with_bytes (block_of self.old.size self.old.image 0) place (big_bytes 4 number) }
+    {
+        write_u32(&mut self.head.bytes, place, number);
+        self.head.changed = true;
+    }
+
+    /// Writes bytes at the front of block 0.
+    pub fn write_front(&mut self, bytes: &[u8])
+        requires { length bytes.now ≤ self.old.size }
+        ensures rest { self.new ≡ record self.old { image = self.new.image } }
+        ensures others { IsTrue self.old.is_sound → HasBlock self.old.size self.old.image 0 → ChangesBlock self.old.size 0 self.old.image self.new.image }
+        ensures block { IsTrue self.old.is_sound → HasBlock self.old.size self.old.image 0 → block_of self.old.size self.new.image 0 ≡ with_bytes (block_of self.old.size self.old.image 0) 0 bytes.now }
+    {
+        write_bytes(&mut self.head.bytes, 0, bytes);
+        self.head.changed = true;
+    }
+
+    /// Brings a block past block 0 to hand.
+    pub fn fetch(&mut self, n: u32) -> Result<(), Refused>
+        requires there { IsTrue self.old.is_sound → (0 < n) × HasBlock self.old.size self.old.image n }
+        ensures image { OnOk result (IsTrue self.old.is_sound → self.new.image ≡ self.old.image) }
+        ensures stands { OnOk result (IsTrue self.old.is_sound → self.old.stored ≡ self.old.image → self.new.stored ≡ self.old.image) }
+        ensures hand { OnOk result (self.new.hand ≡ n) }
+        ensures first { OnOk result (IsTrue self.old.is_sound → KeepsFirst self.old.size self.old.stored self.new.stored) }
+        ensures refusal { IfErr result (λ e. e ≡ Refused.Device) }
+        ensures counts { CountsDevice result self.old.failures self.new.failures }
+        ensures sound { StaysSound result self.old.is_sound self.new.is_sound }
+        ensures size { self.new.size ≡ self.old.size }
+        ensures room { self.new.room ≡ self.old.room }
+    {
+        bring(&mut self.store, &mut self.hand, n)?;
+        Ok(())
+    }
+
+    /// The bytes of the block in hand.
+    pub fn hand(&self) -> &[u8]
+        ensures value { IsTrue self.now.is_sound → 0 < self.now.hand → result.now ≡ block_of self.now.size self.now.image self.now.hand }
+        ensures len { length result.now ≡ self.now.size }
+        ensures small { length result.now ≤ 32768 }
+    {
+        &self.hand.bytes
+    }
+
+    /// Writes bytes into the block in hand.
+    pub fn write_hand(&mut self, at: usize, bytes: &[u8])
+        requires { at + length bytes.now ≤ self.old.size }
+        ensures rest { self.new ≡ record self.old { image = self.new.image } }
+        ensures others { IsTrue self.old.is_sound → 0 < self.old.hand → ChangesBlock self.old.size self.old.hand self.old.image self.new.image }
+        ensures block { IsTrue self.old.is_sound → 0 < self.old.hand → block_of self.old.size self.new.image self.old.hand ≡ with_bytes (block_of self.old.size self.old.image self.old.hand) at bytes.now }
+    {
+        write_bytes(&mut self.hand.bytes, at, bytes);
+        self.hand.changed = true;
+    }
+
+    /// Takes the front of the first hole of the block in hand that is large enough.
+    pub fn take(&mut self, sizes: &[u16], size: u16) -> Option<u16>
+        requires block { 8 ≤ self.old.size }
+        requires size { (0 < size) × (size % 8 ≡ 0) }
+        ensures rest { self.new ≡ record self.old { image = self.new.image } }
+        ensures others { IsTrue self.old.is_sound → 0 < self.old.hand → ChangesBlock self.old.size self.old.hand self.old.image self.new.image }
+        ensures block { IsTrue self.old.is_sound → 0 < self.old.hand → IsTaken (slice_index sizes.now) size (block_of self.old.size self.old.image self.old.hand) result (block_of self.old.size self.new.image self.old.hand) }
+        ensures fits { IfSome result (λ p. (8 ≤ p) × (p + size ≤ self.old.size)) }
+    {
+        self.hand.changed = true;
+        take_from(&mut self.hand.bytes, sizes, size)
+    }
+
+    /// Gives back the segment at an offset in the block in hand.
+    pub fn give(&mut self, sizes: &[u16], offset: u16, size: u16)
+        requires offset { 8 ≤ offset }
+        requires size { (8 ≤ size) × (size % 8 ≡ 0) }
+        requires within { offset + size ≤ self.old.size }
+        ensures rest { self.new ≡ record self.old { image = self.new.image } }
+        ensures others { IsTrue self.old.is_sound → 0 < self.old.hand → ChangesBlock self.old.size self.old.hand self.old.image self.new.image }
+        ensures block { IsTrue self.old.is_sound → 0 < self.old.hand → IsGiven (slice_index sizes.now) offset size (block_of self.old.size self.old.image self.old.hand) (block_of self.old.size self.new.image self.old.hand) }
+    {
+        self.hand.changed = true;
+        give_to(&mut self.hand.bytes, sizes, offset, size);
+    }
+
+    /// Finds memory for the growth by so many blocks. `Memory` leaves all as it was.
+    pub fn reserve(&mut self, blocks: u32) -> Result<(), Refused>
+        ensures room { OnOk result (blocks ≤ self.new.room) }
+        ensures no_less { self.old.room ≤ self.new.room }
+        ensures room_kept { IfErr result (λ _. self.new.room ≡ self.old.room) }
+        ensures image { IsTrue self.old.is_sound → (self.new.image ≡ self.old.image) × (self.new.stored ≡ self.old.stored) }
+        ensures refusal { IfErr result (λ e. e ≡ Refused.Memory) }
+        ensures failures { self.new.failures ≡ self.old.failures }
+        ensures sound { self.new.is_sound ≡ self.old.is_sound }
+        ensures size { self.new.size ≡ self.old.size }
+    {
+        self.store.reserve(blocks)
+    }
+
+    /// Adds a block of zeros behind the last. `Memory`, only beyond the room reserved, leaves all as it was.
+    pub fn grow(&mut self) -> Result<(), Refused>
+        requires there { IsTrue self.old.is_sound → HasBlock self.old.size self.old.image 0 }
+        ensures image { OnOk result (IsTrue self.old.is_sound → self.new.image ≡ grown self.old.size self.old.image 1) }
+        ensures room { OnOk result (self.old.room ≤ self.new.room + 1) }
+        ensures refusal { IfErr result (λ e. RefusesGrowth e self.old.room 1) }
+        ensures kept { IfErr result (λ e. e ≡ Refused.Memory → IsTrue self.old.is_sound → self.new.image ≡ self.old.image) }
+        ensures room_kept { IfErr result (λ e. e ≡ Refused.Memory → self.new.room ≡ self.old.room) }
+        ensures first { IsTrue self.new.is_sound → KeepsFirst self.old.size self.old.stored self.new.stored }
+        ensures counts { CountsDevice result self.old.failures self.new.failures }
+        ensures sound { StaysSound result self.old.is_sound self.new.is_sound }
+        ensures size { self.new.size ≡ self.old.size }
+    {
+        self.store.grow(1)?;
+        Ok(())
+    }
+
+    /// Writes what is changed to the store: the block in hand, and then block 0.
+    pub fn flush(&mut self) -> Result<(), Refused>
+        ensures image { OnOk result (IsTrue self.old.is_sound → (self.new.image ≡ self.old.image) × (self.new.stored ≡ self.old.image)) }
+        ensures refusal { IfErr result (λ e. e ≡ Refused.Device) }
+        ensures counts { CountsDevice result self.old.failures self.new.failures }
+        ensures sound { StaysSound result self.old.is_sound self.new.is_sound }
+        ensures size { self.new.size ≡ self.old.size }
+        ensures room { self.new.room ≡ self.old.room }
+    {
+        write_back(&mut self.store, &mut self.hand)?;
+        write_first(&mut self.store, &mut self.head, &self.hand)?;
+        Ok(())
+    }
+
+    /// The store as it stands; what is not flushed is lost.
+    pub fn into_store(self) -> S
+        ensures contents { S.contents result ≡ self.stored }
+        ensures sound { S.is_sound result ≡ self.is_sound }
+        ensures failures { S.failures result ≡ self.failures }
+        ensures size { S.size result ≡ self.size }
+        ensures room { S.room result ≡ self.room }
+    {
+        self.store
+    }
+}
+
+/// A buffer that holds no block.
+fn empty_buffer(alloc: Global, block_size: usize) -> Result<Buffer, AllocError>
+    ensures len { IfOk result (λ b. vec_len b.bytes ≡ block_size) }
+    ensures empty { IfOk result (λ b. (b.holds ≡ false) × (b.number ≡ 0)) }
+{
+    let bytes = vec![in alloc; 0u8; block_size]?;
+    Ok(Buffer {
+        bytes,
+        number: 0,
+        holds: false,
+        changed: false,
+    })
+}
+
+/// Writes block 0 to the store, if it was changed, once the block in hand stands there.
+fn write_first<S: BlockStore>(
+    store: &mut S,
+    head: &mut Buffer,
+    hand: &Buffer,
+) -> Result<(), Refused>
+    requires len { (vec_len head.old.bytes ≡ S.size store.old) × (vec_len hand.now.bytes ≡ S.size store.old) }
+    requires ready { IsTrue (S.is_sound store.old) → AreBuffers (S.size store.old) (S.contents store.old) head.old hand.now }
+    requires number { head.old.number ≡ 0 }
+    requires others_stand { IsTrue (S.is_sound store.old) → hand.now.holds ≡ true → hand.now.changed ≡ false }
+    ensures contents { OnOk result (IsTrue (S.is_sound store.old) → S.contents store.new ≡ image_of (S.size store.old) (S.contents store.old) head.old hand.now) }
+    ensures image { OnOk result (IsTrue (S.is_sound store.old) → image_of (S.size store.old) (S.contents store.new) head.new hand.now ≡ image_of (S.size store.old) (S.contents store.old) head.old hand.now) }
+    ensures ready { OnOk result (IsTrue (S.is_sound store.old) → AreBuffers (S.size store.old) (S.contents store.new) head.new hand.now) }
+    ensures len { vec_len head.new.bytes ≡ S.size store.old }
+    ensures number { head.new.number ≡ 0 }
+    ensures refusal { IfErr result (λ e. e ≡ Refused.Device) }
+    ensures counts { CountsDevice result (S.failures store.old) (S.failures store.new) }
+    ensures sound { StaysSound result (S.is_sound store.old) (S.is_sound store.new) }
+    ensures size { S.size store.new ≡ S.size store.old }
+    ensures room { S.room store.new ≡ S.room store.old }
+{
+    let _ = hand;
+    write_back(store, head)?;
+    Ok(())
+}
+
+fn take_from(bytes: &mut [u8], sizes: &[u16], size: u16) -> Option<u16>
+    requires block { (8 ≤ length bytes.old) × (length bytes.old ≤ 32768) }
+    requires size { (0 < size) × (size % 8 ≡ 0) }
+    ensures len { length bytes.new ≡ length bytes.old }
+    ensures taken { IsTaken (slice_index sizes.now) size bytes.old result bytes.new }
+    ensures fits { IfSome result (λ p. (8 ≤ p) × (p + size ≤ length bytes.old)) }
+{
+    Block::new(bytes, sizes).take(size)
+}
+
+fn give_to(bytes: &mut [u8], sizes: &[u16], offset: u16, size: u16)
+    requires block { length bytes.old ≤ 32768 }
+    requires offset { 8 ≤ offset }
+    requires size { (8 ≤ size) × (size % 8 ≡ 0) }
+    requires within { offset + size ≤ length bytes.old }
+    ensures len { length bytes.new ≡ length bytes.old }
+    ensures given { IsGiven (slice_index sizes.now) offset size bytes.old bytes.new }
+{
+    Block::new(bytes, sizes).give(offset, size);
+}

@@ -1,0 +1,68 @@
+ghost use Rattle.std.specs.Prelude.{◌≡◌, ◌≢◌, true, false, vec_len, IsTrue, length, OnOk, IfErr};
+ghost use Rattle.hd_bytes.specs.Blocks.{block_of, HasBlock};
+ghost use Rattle.hd_volume.specs.Stores.{CountsDevice, StaysSound};
+ghost use Rattle.hd_volume.specs.Buffers.{put_in, IsBuffer};
+
+use crate::store::BlockStore;
+use hd_dbd::Refused;
+
+/// A block of a store in memory, if it holds one.
+#[derive(Drop)]
+pub struct Buffer {
+    pub bytes: Vec<u8>,
+    pub number: u32,
+    pub holds: bool,
+    pub changed: bool,
+}
+
+/// Writes the buffer's block to the store, if it was changed.
+pub fn write_back<S: BlockStore>(store: &mut S, buffer: &mut Buffer) -> Result<(), Refused>
+    requires len { vec_len buffer.old.bytes ≡ S.size store.old }
+    requires ready { IsTrue (S.is_sound store.old) → IsBuffer (S.size store.old) (S.contents store.old) buffer.old }
+    ensures contents { OnOk result (IsTrue (S.is_sound store.old) → S.contents store.new ≡ put_in (S.size store.old) (S.contents store.old) buffer.old) }
+    ensures length { OnOk result (IsTrue (S.is_sound store.old) → length (S.contents store.new) ≡ length (S.contents store.old)) }
+    ensures bytes { buffer.new.bytes ≡ buffer.old.bytes }
+    ensures number { buffer.new.number ≡ buffer.old.number }
+    ensures holds { buffer.new.holds ≡ buffer.old.holds }
+    ensures unchanged { OnOk result (buffer.new.holds ≡ true → buffer.new.changed ≡ false) }
+    ensures refusal { IfErr result (λ e. e ≡ Refused.Device) }
+    ensures counts { CountsDevice result (S.failures store.old) (S.failures store.new) }
+    ensures sound { StaysSound result (S.is_sound store.old) (S.is_sound store.new) }
+    ensures size { S.size store.new ≡ S.size store.old }
+    ensures room { S.room store.new ≡ S.room store.old }
+{
+    if buffer.holds && buffer.changed {
+        store.write(buffer.number, &buffer.bytes)?;
+        buffer.changed = false;
+    }
+    Ok(())
+}
+
+/// Brings a block to the buffer. The one that it holds is written back first.
+pub fn bring<S: BlockStore>(store: &mut S, buffer: &mut Buffer, n: u32) -> Result<(), Refused>
+    requires len { vec_len buffer.old.bytes ≡ S.size store.old }
+    requires ready { IsTrue (S.is_sound store.old) → IsBuffer (S.size store.old) (S.contents store.old) buffer.old }
+    requires there { IsTrue (S.is_sound store.old) → HasBlock (S.size store.old) (S.contents store.old) n }
+    ensures contents { OnOk result (IsTrue (S.is_sound store.old) → put_in (S.size store.old) (S.contents store.new) buffer.new ≡ put_in (S.size store.old) (S.contents store.old) buffer.old) }
+    ensures length { OnOk result (IsTrue (S.is_sound store.old) → length (S.contents store.new) ≡ length (S.contents store.old)) }
+    ensures first { OnOk result (IsTrue (S.is_sound store.old) → HasBlock (S.size store.old) (S.contents store.old) 0 → (buffer.old.holds ≡ true → buffer.old.number ≢ 0) → block_of (S.size store.old) (S.contents store.new) 0 ≡ block_of (S.size store.old) (S.contents store.old) 0) }
+    ensures stands { OnOk result (IsTrue (S.is_sound store.old) → put_in (S.size store.old) (S.contents store.old) buffer.old ≡ S.contents store.old → S.contents store.new ≡ S.contents store.old) }
+    ensures ready { OnOk result (IsTrue (S.is_sound store.old) → IsBuffer (S.size store.old) (S.contents store.new) buffer.new) }
+    ensures holds { OnOk result ((buffer.new.holds ≡ true) × (buffer.new.number ≡ n)) }
+    ensures len { vec_len buffer.new.bytes ≡ S.size store.old }
+    ensures refusal { IfErr result (λ e. e ≡ Refused.Device) }
+    ensures counts { CountsDevice result (S.failures store.old) (S.failures store.new) }
+    ensures sound { StaysSound result (S.is_sound store.old) (S.is_sound store.new) }
+    ensures size { S.size store.new ≡ S.size store.old }
+    ensures room { S.room store.new ≡ S.room store.old }
+{
+    if buffer.holds && buffer.number == n {
+        return Ok(());
+    }
+    write_back(store, buffer)?;
+    store.read(n, &mut buffer.bytes)?;
+    buffer.number = n;
+    buffer.holds = true;
+    buffer.changed = false;
+    Ok(())
+}

@@ -1,0 +1,69 @@
+ghost use Rattle.std.specs.Prelude.{◌≡◌, ◌≤◌, ◌<◌, ◌*◌, [], length, replicate, IsTrue, IfOk, IfErr};
+ghost use Rattle.hd_dbd.specs.Facts.{stored_sizes};
+ghost use Rattle.hd_volume.specs.Creates.{IsCreated, IsGivenNew, head_list};
+
+use crate::store::BlockStore;
+use crate::volume::Volume;
+use hd_dbd::{Dbd, Refused};
+use std::alloc::Global;
+
+impl<S: BlockStore> Volume<S> {
+    /// A new volume of one block, of version 1 and this largest count, 1 to 65,536, in an empty store. A refusal gives the
+    /// store back.
+    pub fn create(
+        alloc: Global,
+        mut store: S,
+        dbd: &Dbd,
+        largest: u32,
+    ) -> Result<Volume<S>, (S, Refused)>
+        requires size { S.size store ≡ dbd.now.block_size }
+        requires empty { IsTrue (S.is_sound store) → S.contents store ≡ [] }
+        requires bounds { (0 < largest) × (largest ≤ 65536) }
+        ensures created { IfOk result (λ v. IsTrue (S.is_sound store) → IsCreated dbd.now.name dbd.now.block_size largest v) }
+        ensures store { IfOk result (λ v. (v.is_sound ≡ S.is_sound store) × (v.failures ≡ S.failures store) × (v.size ≡ S.size store) × (v.sizes ≡ stored_sizes dbd.now.types)) }
+        ensures refusal { IfErr result (λ e. IsGivenNew S.size S.contents S.is_sound S.failures store e) }
+    {
+        if let Err(refused) = store.grow(1) {
+            return Err((store, refused));
+        }
+        match Volume::load(alloc, store, dbd) {
+            Ok(mut volume) => {
+                volume.format(dbd.name().bytes(), largest);
+                Ok(volume)
+            }
+            Err(given) => Err(given),
+        }
+    }
+
+    /// Writes the header of a new volume.
+    fn format(&mut self, name: &[u8; 8], largest: u32)
+        requires one { IsTrue self.old.is_sound → length self.old.image ≡ self.old.size }
+        requires stored { IsTrue self.old.is_sound → self.old.stored ≡ replicate (1 * self.old.size) 0 }
+        requires bounds { (0 < largest) × (largest ≤ 65536) }
+        requires eight { length name.now ≡ 8 }
+        ensures rest { self.new ≡ record self.old { image = self.new.image } }
+        ensures created { IsTrue self.old.is_sound → IsCreated name.now self.old.size largest self.new }
+    {
+        let size = self.blocks.block_size() as u16;
+        self.blocks.write_front(&head_bytes(name, size, largest));
+    }
+}
+
+/// The first bytes of a new volume.
+fn head_bytes(n: &[u8; 8], size: u16, largest: u32) -> [u8; 44]
+    requires { largest ≤ 65536 }
+    ensures { result ≡ head_list n.now size largest }
+{
+    let [a, b, c, d] = [
+        (largest / 16_777_216) as u8,
+        (largest / 65536 % 256) as u8,
+        (largest / 256 % 256) as u8,
+        (largest % 256) as u8,
+    ];
+    let [high, low] = [(size / 256) as u8, (size % 256) as u8];
+    [
+        b'H', b'D', b'V', b'O', b'L', b'U', b'M', b'E', 0, 1, high, low, 0, 0, 0, 1, a, b, c, d,
+        n[0], n[1], n[2], n[3], n[4], n[5], n[6], n[7], 0, 0, 0, 0, 0, 0, 0, 0, 0, 0, 0, 0, 0, 0,
+        0, 0,
+    ]
+}

@@ -1,0 +1,121 @@
+ghost use Rattle.std.specs.Prelude.{◌≡◌, ◌⊎◌, ◌+◌, ◌≤◌, ◌<◌, ◌==◌, ◌++◌, ◌∷◌, ◌%◌, [], ℕ, vec_len, slice_index, IsTrue, length, IfOk, IfErr, OnOk, OnErr};
+ghost use Rattle.std.specs.Vec.{vec_capacity};
+ghost use Rattle.hd_bytes.specs.Blocks.{block_of, HasBlock};
+ghost use Rattle.hd_dbd.specs.Facts.{stored_sizes};
+ghost use Rattle.hd_volume.specs.Stores.{CountsDevice, StaysSound};
+ghost use Rattle.hd_volume.specs.Rooms.{one_if};
+ghost use Rattle.hd_volume.specs.Spaces.{IsSpaceOf, IsContent, AreSizes};
+
+use crate::blocks::Blocks;
+use crate::space::{Content, FREE, Space, content_of};
+use crate::store::BlockStore;
+use hd_dbd::{Dbd, Refused};
+use std::alloc::{AllocError, Global};
+
+/// The most blocks that a volume has.
+pub const MOST_BLOCKS: u32 = 65536;
+
+/// The bytes that the segments of each type take, by code.
+pub fn size_table(alloc: Global, dbd: &Dbd) -> Result<Vec<u16>, AllocError>
+    ensures sizes { IfOk result (λ v. v.items ≡ stored_sizes dbd.now.types) }
+    ensures fit { IfOk result (λ v. AreSizes dbd.now.block_size v.items) }
+    ensures block { (128 ≤ dbd.now.block_size) × (dbd.now.block_size ≤ 32768) × (dbd.now.block_size % 8 ≡ 0) }
+{
+    let count = dbd.types().len();
+    let mut sizes = Vec::new(alloc);
+    sizes.push(0)?;
+    for place in 0..count {
+        sizes.push(dbd.stored_size(place as u8 + 1))?;
+    }
+    Ok(sizes)
+}
+
+/// What a volume keeps of its blocks, each of which is read.
+pub fn survey<S: BlockStore>(
+    alloc: Global,
+    blocks: &mut Blocks<S>,
+    sizes: &[u16],
+) -> Result<Space, Refused>
+    requires least { 8 ≤ blocks.old.size }
+    requires stands { IsTrue blocks.old.is_sound → blocks.old.stored ≡ blocks.old.image }
+    ensures space { IfOk result (λ space. IsTrue blocks.old.is_sound → IsSpaceOf blocks.old.size sizes.now blocks.old.image space) }
+    ensures small { IfOk result (λ space. vec_len space.contents ≤ 65536) }
+    ensures image { IsTrue blocks.new.is_sound → (blocks.new.image ≡ blocks.old.image) × (blocks.new.stored ≡ blocks.old.stored) }
+    ensures refusal { IfErr result (λ e. (e ≡ Refused.Memory) ⊎ (e ≡ Refused.Device)) }
+    ensures counts { CountsDevice result blocks.old.failures blocks.new.failures }
+    ensures sound { StaysSound result blocks.old.is_sound blocks.new.is_sound }
+    ensures size { blocks.new.size ≡ blocks.old.size }
+    ensures room { blocks.new.room ≡ blocks.old.room }
+{
+    let size = blocks.block_size() as u64;
+    let count = (blocks.length() / size).min(u64::from(MOST_BLOCKS)) as u32;
+    let mut space = empty_space(alloc, sizes.len())?;
+    for n in 0..count {
+        let content = survey_block(blocks, sizes, n)?;
+        note(&mut space, content)?;
+    }
+    Ok(space)
+}
+
+/// What is kept of no block, with types of codes below a number.
+fn empty_space(alloc: Global, types: usize) -> Result<Space, Refused>
+    ensures contents { IfOk result (λ space. (space.contents.items ≡ []) × (vec_len space.contents ≡ 0)) }
+    ensures lowest { IfOk result (λ space. (c : ℕ) → slice_index space.lowest.items c ≤ 1) }
+    ensures free { IfOk result (λ space. (space.free ≡ 0) × (space.lowest_free ≡ 1)) }
+    ensures refusal { IfErr result (λ e. e ≡ Refused.Memory) }
+{
+    let Ok(lowest) = vec![in alloc; 1u32; types] else {
+        return Err(Refused::Memory);
+    };
+    Ok(Space {
+        contents: Vec::new(alloc),
+        lowest,
+        free: 0,
+        lowest_free: 1,
+    })
+}
+
+/// What is kept of a block, which is read; block 0 is left aside.
+fn survey_block<S: BlockStore>(
+    blocks: &mut Blocks<S>,
+    sizes: &[u16],
+    n: u32,
+) -> Result<Content, Refused>
+    requires least { 8 ≤ blocks.old.size }
+    requires there { IsTrue blocks.old.is_sound → HasBlock blocks.old.size blocks.old.image n }
+    ensures content { IfOk result (λ content. IsTrue blocks.old.is_sound → 0 < n → IsContent (slice_index sizes.now) (block_of blocks.old.size blocks.old.image n) content) }
+    ensures first { IfOk result (λ content. n ≡ 0 → content.kind ≡ 0) }
+    ensures image { OnOk result (IsTrue blocks.old.is_sound → blocks.new.image ≡ blocks.old.image) }
+    ensures stands { OnOk result (IsTrue blocks.old.is_sound → blocks.old.stored ≡ blocks.old.image → blocks.new.stored ≡ blocks.old.image) }
+    ensures refusal { IfErr result (λ e. e ≡ Refused.Device) }
+    ensures counts { CountsDevice result blocks.old.failures blocks.new.failures }
+    ensures sound { StaysSound result blocks.old.is_sound blocks.new.is_sound }
+    ensures size { blocks.new.size ≡ blocks.old.size }
+    ensures room { blocks.new.room ≡ blocks.old.room }
+{
+    if n == 0 {
+        return Ok(Content { kind: 0, hole: 0 });
+    }
+    blocks.fetch(n)?;
+    Ok(content_of(blocks.hand(), sizes))
+}
+
+/// Notes the content of the next block.
+pub fn note(space: &mut Space, content: Content) -> Result<(), Refused>
+    requires { space.old.free < 4294967295 }
+    ensures contents { OnOk result (space.new.contents.items ≡ space.old.contents.items ++ content ∷ []) }
+    ensures len { OnOk result (vec_len space.new.contents ≡ vec_len space.old.contents + 1) }
+    ensures free { OnOk result (space.new.free ≡ space.old.free + one_if (content.kind == 3)) }
+    ensures lowest { space.new.lowest ≡ space.old.lowest }
+    ensures lowest_free { space.new.lowest_free ≡ space.old.lowest_free }
+    ensures refusal { IfErr result (λ e. e ≡ Refused.Memory) }
+    ensures full { OnErr result (vec_capacity space.old.contents ≤ vec_len space.old.contents) }
+{
+    if space.contents.push(content).is_err() {
+        return Err(Refused::Memory);
+    }
+    if content.kind == FREE {
+        space.free += 1;
+    }
+    Ok(())
+}

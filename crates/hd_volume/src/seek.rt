@@ -1,0 +1,139 @@
+ghost use Rattle.std.specs.Prelude.{◌≡◌, ◌+◌, ◌≤◌, ◌<◌, ℕ, true, false, IsTrue, length, slice_index, slice_set, vec_len, IfOk, IfSome, IfNone, IfErr, OnOk};
+ghost use Rattle.std.specs.Vec.{vec_capacity};
+ghost use Rattle.hd_bytes.specs.Blocks.{block_of, HasBlock};
+ghost use Rattle.hd_block.specs.Walk.{parts_in};
+ghost use Rattle.hd_volume.specs.Buffers.{IsFetch};
+ghost use Rattle.hd_volume.specs.Volumes.{kind_of};
+ghost use Rattle.hd_volume.specs.Rooms.{largest_hole};
+ghost use Rattle.hd_volume.specs.Spaces.{IsSpaceOf, IsSeen, blocks_in, content_at, KeepsTables};
+
+use crate::blocks::Blocks;
+use crate::space::{Content, DATA, FREE, Space, largest_hole, set_content, size_of};
+use crate::store::BlockStore;
+use hd_dbd::Refused;
+
+/// The lowest data block with a hole of the size of a type's segments, if there is one. Blocks that can't have one are not
+/// read.
+pub fn seek_hole<S: BlockStore>(
+    blocks: &mut Blocks<S>,
+    space: &mut Space,
+    sizes: &[u16],
+    code: u8,
+) -> Result<Option<u32>, Refused>
+    requires least { 8 ≤ blocks.old.size }
+    requires few { vec_len space.old.contents ≤ 65536 }
+    requires space_is { IsTrue blocks.old.is_sound → IsSpaceOf blocks.old.size sizes.now blocks.old.image space.old }
+    ensures fetch { IsFetch blocks.old result blocks.new }
+    ensures space { IsTrue blocks.new.is_sound → IsSpaceOf blocks.old.size sizes.now blocks.old.image space.new }
+    ensures tables { KeepsTables space.old space.new }
+    ensures found { IfOk result (λ o. IsTrue blocks.old.is_sound → IfSome o (λ n. (0 < n) × (n < blocks_in blocks.old.size blocks.old.image) × (kind_of (block_of blocks.old.size blocks.old.image n) ≡ 1) × (slice_index sizes.now code ≤ largest_hole (parts_in (slice_index sizes.now) (block_of blocks.old.size blocks.old.image n))))) }
+    ensures none { IfOk result (λ o. IsTrue blocks.old.is_sound → IfNone o ((n : ℕ) → 0 < n → n < blocks_in blocks.old.size blocks.old.image → kind_of (block_of blocks.old.size blocks.old.image n) ≡ 1 → largest_hole (parts_in (slice_index sizes.now) (block_of blocks.old.size blocks.old.image n)) < slice_index sizes.now code)) }
+    ensures small { IfOk result (λ o. IfSome o (λ n. n < 65536)) }
+    ensures refusal { IfErr result (λ e. e ≡ Refused.Device) }
+{
+    let size = size_of(sizes, code);
+    let start = space.lowest.get(code as usize).copied().unwrap_or(1).max(1);
+    let count = space.contents.len() as u32;
+    for n in start..count {
+        if try_block(blocks, space, sizes, n, size)? {
+            set_lowest(&mut space.lowest, code, n);
+            return Ok(Some(n));
+        }
+    }
+    set_lowest(&mut space.lowest, code, count);
+    Ok(None)
+}
+
+/// A block is for data and has a hole of this size. It is read only where it may have one, and what is kept of it is mended.
+fn try_block<S: BlockStore>(
+    blocks: &mut Blocks<S>,
+    space: &mut Space,
+    sizes: &[u16],
+    n: u32,
+    size: u16,
+) -> Result<bool, Refused>
+    requires least { 8 ≤ blocks.old.size }
+    requires space_is { IsTrue blocks.old.is_sound → IsSpaceOf blocks.old.size sizes.now blocks.old.image space.old }
+    requires there { IsTrue blocks.old.is_sound → (0 < n) × (n < blocks_in blocks.old.size blocks.old.image) }
+    ensures fetch { IsFetch blocks.old result blocks.new }
+    ensures space { IsTrue blocks.new.is_sound → IsSpaceOf blocks.old.size sizes.now blocks.old.image space.new }
+    ensures tables { KeepsTables space.old space.new }
+    ensures lowest { space.new.lowest ≡ space.old.lowest }
+    ensures others { (m : ℕ) → (m ≡ n → ⊥) → content_at space.new m ≡ content_at space.old m }
+    ensures found { IfOk result (λ f. IsTrue blocks.old.is_sound → f ≡ true → (kind_of (block_of blocks.old.size blocks.old.image n) ≡ 1) × (size ≤ largest_hole (parts_in (slice_index sizes.now) (block_of blocks.old.size blocks.old.image n)))) }
+    ensures passed { IfOk result (λ f. IsTrue blocks.old.is_sound → f ≡ false → (content_at space.new n).kind ≡ 1 → (content_at space.new n).hole < size) }
+    ensures refusal { IfErr result (λ e. e ≡ Refused.Device) }
+{
+    let content = content_of_block(space, n);
+    if content.kind != DATA || content.hole < size {
+        return Ok(false);
+    }
+    blocks.fetch(n)?;
+    let hole = largest_hole(blocks.hand(), sizes);
+    set_content(space, n, Content { kind: DATA, hole });
+    Ok(hole >= size)
+}
+
+/// What is kept of a block; nothing of one that is not there.
+fn content_of_block(space: &Space, n: u32) -> Content
+    ensures { result ≡ content_at space.now n }
+{
+    let none = Content { kind: 0, hole: 0 };
+    space.contents.get(n as usize).copied().unwrap_or(none)
+}
+
+/// Notes the lowest block that may have a hole of a type's size.
+fn set_lowest(lowest: &mut Vec<u32>, code: u8, n: u32)
+    ensures len { vec_len lowest.new ≡ vec_len lowest.old }
+    ensures value { lowest.new.items ≡ slice_set lowest.old.items code n }
+{
+    let code = code as usize;
+    if code < lowest.len() {
+        lowest[code] = n;
+    }
+}
+
+/// The lowest free block; 0 where there is none.
+pub fn seek_free(space: &mut Space) -> u32
+    requires { vec_len space.old.contents ≤ 65536 }
+    ensures contents { space.new.contents ≡ space.old.contents }
+    ensures lowest { space.new.lowest ≡ space.old.lowest }
+    ensures free { space.new.free ≡ space.old.free }
+    ensures found { 0 < result → (result < vec_len space.old.contents) × ((content_at space.old result).kind ≡ 3) × (space.new.lowest_free ≡ result) × ((m : ℕ) → 0 < m → space.old.lowest_free ≤ m → m < result → (content_at space.old m).kind ≡ 3 → ⊥) }
+    ensures none { result ≡ 0 → (space.new.lowest_free ≡ space.old.lowest_free) × ((m : ℕ) → 0 < m → space.old.lowest_free ≤ m → m < vec_len space.old.contents → (content_at space.old m).kind ≡ 3 → ⊥) }
+{
+    let count = space.contents.len() as u32;
+    for n in space.lowest_free.max(1)..count {
+        if content_of_block(space, n).kind == FREE {
+            space.lowest_free = n;
+            return n;
+        }
+    }
+    0
+}
+
+/// Some data block has a hole of at least this size. Blocks that can't have one are not read.
+pub fn seek_size<S: BlockStore>(
+    blocks: &mut Blocks<S>,
+    space: &mut Space,
+    sizes: &[u16],
+    size: u16,
+) -> Result<bool, Refused>
+    requires least { 8 ≤ blocks.old.size }
+    requires few { vec_len space.old.contents ≤ 65536 }
+    requires space_is { IsTrue blocks.old.is_sound → IsSpaceOf blocks.old.size sizes.now blocks.old.image space.old }
+    ensures fetch { IsFetch blocks.old result blocks.new }
+    ensures space { IsTrue blocks.new.is_sound → IsSpaceOf blocks.old.size sizes.now blocks.old.image space.new }
+    ensures tables { KeepsTables space.old space.new }
+    ensures found { IfOk result (λ f. IsTrue blocks.old.is_sound → f ≡ true → IsSeen (slice_index sizes.now) blocks.old.size blocks.old.image size) }
+    ensures none { IfOk result (λ f. IsTrue blocks.old.is_sound → f ≡ false → (n : ℕ) → 0 < n → n < blocks_in blocks.old.size blocks.old.image → kind_of (block_of blocks.old.size blocks.old.image n) ≡ 1 → largest_hole (parts_in (slice_index sizes.now) (block_of blocks.old.size blocks.old.image n)) < size) }
+    ensures refusal { IfErr result (λ e. e ≡ Refused.Device) }
+{
+    let count = space.contents.len() as u32;
+    for n in 1..count {
+        if try_block(blocks, space, sizes, n, size)? {
+            return Ok(true);
+        }
+    }
+    Ok(false)
+}

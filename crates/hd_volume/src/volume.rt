@@ -1,0 +1,252 @@
+ghost use Rattle.std.specs.Prelude.{◌≡◌, ◌+◌, ◌≤◌, ◌<◌, true, false, vec_len, IsTrue, length, min, slice_index, IfOk, IfErr, OnOk, Some};
+ghost use Rattle.hd_bytes.specs.Blocks.{block_of, HasBlock};
+ghost use Rattle.hd_dbd.specs.Facts.{stored_sizes};
+ghost use Rattle.hd_volume.specs.Stores.{CountsDevice, StaysSound, IsGivenBack};
+ghost use Rattle.hd_bytes.specs.Numbers.{number_at};
+ghost use Rattle.hd_volume.specs.Headers.{header_of};
+ghost use Rattle.hd_volume.specs.Volumes.{IsFormatted, block_at};
+ghost use Rattle.hd_volume.specs.Records.{find};
+ghost use Rattle.hd_volume.specs.Calls.{IsCall, IsRead, HasSegment, IsWritten, IsFreed};
+
+use crate::blocks::Blocks;
+use crate::load::{size_table, survey};
+use crate::space::{Space, open_block, size_of};
+use crate::store::BlockStore;
+use hd_bytes::read_u32;
+use hd_dbd::{Dbd, Refused};
+use std::alloc::Global;
+use std::marker::Model;
+
+/// Where the header has its numbers of four bytes.
+pub const COUNT: usize = 12;
+
+pub const LARGEST: usize = 16;
+
+pub const FIRST_ROOT: usize = 28;
+
+pub const LAST_ROOT: usize = 32;
+
+pub const TOP: usize = 36;
+
+pub const HEIGHT: usize = 40;
+
+/// A volume over a store: a finite map from addresses to segments, and blocks for an index.
+///
+/// It keeps block 0 and one block more in memory, and a few bytes of each block.
+#[derive(Drop)]
+pub struct Volume<S: BlockStore> {
+    pub(crate) blocks: Blocks<S>,
+    pub(crate) space: Space,
+    pub(crate) sizes: Vec<u16>,
+}
+
+impl<S: BlockStore> Model for Volume<S> {
+    ghost use Rattle.std.specs.Prelude.{vec_len};
+    ghost use Rattle.std.specs.Vec.{vec_capacity};
+    ghost use Rattle.hd_volume.specs.Volumes.{VolumeState};
+    ghost use Rattle.hd_volume.specs.Spaces.{IsKeptVolume, volume_of, room_for};
+
+    ghost Value = { VolumeState };
+
+    ghost view = { λ v. volume_of v.blocks v.sizes.items (room_for v.blocks.room (vec_len v.space.contents) (vec_capacity v.space.contents)) };
+
+    ghost invariant = { λ v. IsKeptVolume v.blocks.size v.sizes.items v.blocks.image v.blocks.is_sound v.space };
+}
+
+impl<S: BlockStore> Volume<S> {
+    ghost use Rattle.std.specs.Borrow.{sem};
+    ghost use Rattle.hd_volume.specs.Lends.{Rests};
+
+    /// The volume over a store, whatever its bytes are. At most 65,536 whole blocks are read. A refusal gives the store
+    /// back.
+    pub fn load(alloc: Global, store: S, dbd: &Dbd) -> Result<Volume<S>, (S, Refused)>
+        requires { S.size store ≡ dbd.now.block_size }
+        ensures image { IfOk result (λ v. IsTrue (S.is_sound store) → (v.image ≡ S.contents store) × (v.stored ≡ S.contents store)) }
+        ensures store { IfOk result (λ v. (v.is_sound ≡ S.is_sound store) × (v.failures ≡ S.failures store) × (v.size ≡ S.size store) × (v.sizes ≡ stored_sizes dbd.now.types)) }
+        ensures refusal { IfErr result (λ e. IsGivenBack S.size S.contents S.is_sound S.failures store e) }
+    {
+        let Ok(sizes) = size_table(alloc, dbd) else {
+            return Err((store, Refused::Memory));
+        };
+        let mut blocks = match Blocks::new(alloc, store) {
+            Ok(blocks) => blocks,
+            Err(given) => return Err(given),
+        };
+        match survey(alloc, &mut blocks, &sizes) {
+            Ok(space) => Ok(Volume {
+                blocks,
+                space,
+                sizes,
+            }),
+            Err(refused) => Err((blocks.into_store(), refused)),
+        }
+    }
+
+    /// The bytes of the segment at an address, its prefix first.
+    pub fn segment_at(&mut self, address: u32) -> Result<&[u8], Refused>
+        requires formatted { IsTrue self.old.is_sound → IsFormatted self.old }
+        requires there { IsTrue self.old.is_sound → HasSegment self.old address 0 }
+        ensures value { IfOk result (λ r. IsTrue self.old.is_sound → find self.old address ≡ Some r.now) }
+        ensures* after { sem 𝓛 (Rests S.row S.BlockStore self.entry (λ new. IsRead self.old result new)) }
+        ensures refusal { IfErr result (λ e. e ≡ Refused.Device) }
+    {
+        let size = self.blocks.block_size();
+        let at = address as usize % size;
+        self.blocks.fetch(address / size as u32)?;
+        let end = segment_end(self.blocks.hand(), &self.sizes, at);
+        Ok(&self.blocks.hand()[at..end])
+    }
+
+    /// Writes bytes into the segment at an address, from an offset past its code on.
+    pub fn write_at(&mut self, address: u32, offset: usize, bytes: &[u8]) -> Result<(), Refused>
+        requires formatted { IsTrue self.old.is_sound → IsFormatted self.old }
+        requires past_code { 0 < offset }
+        requires there { IsTrue self.old.is_sound → HasSegment self.old address (offset + length bytes.now) }
+        ensures call { IsCall self.old result self.new }
+        ensures written { OnOk result (IsTrue self.old.is_sound → IsWritten self.old address offset bytes.now self.new) }
+        ensures refusal { IfErr result (λ e. e ≡ Refused.Device) }
+        ensures room { self.new.room ≡ self.old.room }
+    {
+        let size = self.blocks.block_size();
+        let at = address as usize % size;
+        self.blocks.fetch(address / size as u32)?;
+        if offset > size - at || bytes.len() > size - at - offset {
+            return Ok(());
+        }
+        self.blocks.write_hand(at + offset, bytes);
+        Ok(())
+    }
+
+    /// Frees the segment at an address. A data block that becomes empty stays one.
+    pub fn free(&mut self, address: u32) -> Result<(), Refused>
+        requires formatted { IsTrue self.old.is_sound → IsFormatted self.old }
+        requires there { IsTrue self.old.is_sound → HasSegment self.old address 0 }
+        ensures call { IsCall self.old result self.new }
+        ensures freed { OnOk result (IsTrue self.old.is_sound → IsFreed self.old address self.new) }
+        ensures refusal { IfErr result (λ e. e ≡ Refused.Device) }
+        ensures room { self.new.room ≡ self.old.room }
+    {
+        let size = self.blocks.block_size();
+        let n = address / size as u32;
+        let at = address as usize % size;
+        self.blocks.fetch(n)?;
+        let len = segment_length(self.blocks.hand(), &self.sizes, at);
+        if at < 8 || len < 8 || len as usize > size - at {
+            return Ok(());
+        }
+        self.blocks.give(&self.sizes, at as u16, len);
+        open_block(&mut self.space, n, size as u16);
+        Ok(())
+    }
+
+    /// The bytes of a block.
+    pub fn block(&mut self, n: u32) -> Result<&[u8], Refused>
+        requires there { IsTrue self.old.is_sound → HasBlock self.old.size self.old.image n }
+        ensures value { IfOk result (λ r. IsTrue self.old.is_sound → r.now ≡ block_at self.old n) }
+        ensures* after { sem 𝓛 (Rests S.row S.BlockStore self.entry (λ new. IsRead self.old result new)) }
+        ensures refusal { IfErr result (λ e. e ≡ Refused.Device) }
+    {
+        if n == 0 {
+            return Ok(self.blocks.head());
+        }
+        self.blocks.fetch(n)?;
+        Ok(self.blocks.hand())
+    }
+
+    /// All bytes, which need be no whole number of blocks.
+    pub fn length(&self) -> u64
+        ensures { IsTrue self.now.is_sound → result ≡ length self.now.image }
+    {
+        self.blocks.length()
+    }
+
+    /// The address of the first root, 0 for none.
+    pub fn first_root(&self) -> u32
+        ensures { IsTrue self.now.is_sound → HasBlock self.now.size self.now.image 0 → result ≡ (header_of self.now.image).first_root }
+    {
+        head_number(&self.blocks, FIRST_ROOT)
+    }
+
+    /// The address of the last root, 0 for none.
+    pub fn last_root(&self) -> u32
+        ensures { IsTrue self.now.is_sound → HasBlock self.now.size self.now.image 0 → result ≡ (header_of self.now.image).last_root }
+    {
+        head_number(&self.blocks, LAST_ROOT)
+    }
+
+    /// The number of the top index block, 0 for none.
+    pub fn top(&self) -> u32
+        ensures { IsTrue self.now.is_sound → HasBlock self.now.size self.now.image 0 → result ≡ (header_of self.now.image).top }
+    {
+        head_number(&self.blocks, TOP)
+    }
+
+    /// The height of the index, 0 for none.
+    pub fn height(&self) -> u32
+        ensures { IsTrue self.now.is_sound → HasBlock self.now.size self.now.image 0 → result ≡ (header_of self.now.image).height }
+    {
+        head_number(&self.blocks, HEIGHT)
+    }
+
+    /// Finds memory for so many calls of `put` and `take_block`. `Memory` leaves all as it was.
+    pub fn reserve(&mut self, blocks: u32) -> Result<(), Refused>
+        ensures call { IsCall self.old result self.new }
+        ensures room { OnOk result (blocks ≤ self.new.room) }
+        ensures no_less { self.old.room ≤ self.new.room }
+        ensures image { IsTrue self.new.is_sound → (self.new.image ≡ self.old.image) × (self.new.stored ≡ self.old.stored) }
+        ensures refusal { IfErr result (λ e. e ≡ Refused.Memory) }
+    {
+        if self.space.contents.reserve(blocks as usize).is_err() {
+            return Err(Refused::Memory);
+        }
+        self.blocks.reserve(blocks)
+    }
+
+    /// Writes what is changed to the store, block 0 after all others.
+    pub fn flush(&mut self) -> Result<(), Refused>
+        ensures image { OnOk result (IsTrue self.old.is_sound → (self.new.image ≡ self.old.image) × (self.new.stored ≡ self.old.image)) }
+        ensures refusal { IfErr result (λ e. e ≡ Refused.Device) }
+        ensures counts { CountsDevice result self.old.failures self.new.failures }
+        ensures sound { StaysSound result self.old.is_sound self.new.is_sound }
+        ensures size { self.new.size ≡ self.old.size }
+        ensures sizes { self.new.sizes ≡ self.old.sizes }
+        ensures room { self.new.room ≡ self.old.room }
+    {
+        self.blocks.flush()
+    }
+
+    /// The store as it stands; what is not flushed is lost.
+    pub fn into_store(self) -> S
+        ensures contents { S.contents result ≡ self.stored }
+        ensures sound { S.is_sound result ≡ self.is_sound }
+        ensures failures { S.failures result ≡ self.failures }
+        ensures size { S.size result ≡ self.size }
+    {
+        self.blocks.into_store()
+    }
+}
+
+/// The bytes of the segment at a place of a block, as its code says.
+fn segment_length(block: &[u8], sizes: &[u16], at: usize) -> u16
+    requires { at < length block.now }
+    ensures { result ≡ slice_index sizes.now (slice_index block.now at) }
+{
+    size_of(sizes, block[at])
+}
+
+/// Where the segment at a place of a block ends, at most at the end of the block.
+fn segment_end(block: &[u8], sizes: &[u16], at: usize) -> usize
+    requires { at < length block.now }
+    ensures { result ≡ min (at + slice_index sizes.now (slice_index block.now at)) (length block.now) }
+{
+    let len = size_of(sizes, block[at]) as usize;
+    (at + len).min(block.len())
+}
+
+/// The number of four bytes at a place of block 0.
+pub fn head_number<S: BlockStore>(blocks: &Blocks<S>, place: usize) -> u32
+    requires { place + 4 ≤ blocks.now.size }
+    ensures { IsTrue blocks.now.is_sound → HasBlock blocks.now.size blocks.now.image 0 → result ≡ number_at 4 blocks.now.image place }
+{
+    read_u32(blocks.head(), place)
+}

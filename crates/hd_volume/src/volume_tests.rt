@@ -1,0 +1,205 @@
+ghost use Rattle.std.specs.Prelude.{◌≡◌, ◌<◌, false, IfOk};
+ghost use Rattle.hd_dbd.specs.Facts.{stored_sizes};
+
+use super::*;
+use hd_dbd::{Dbd, DbdFault, FreeSpace, Key, Name8, Refused, Rule, SegType};
+use std::alloc::{AllocError, Global};
+use std::fs::{File, OpenOptions};
+use std::marker::Brand;
+use std::sync::ledger::{Blank, Ledger};
+use std::test::Fail;
+use std::{fs, io};
+
+/// A type of the sample database without its fields; key 0 for none, which is unique where it has three bytes or fewer.
+fn type_of(alloc: Global, name: Name8, parent: Option<u8>, length: u32, key: u32) -> SegType {
+    SegType {
+        name,
+        parent,
+        length,
+        key: if key == 0 {
+            None
+        } else {
+            Some(Key {
+                start: 1,
+                length: key,
+                unique: key <= 3,
+            })
+        },
+        rule: Rule::Last,
+        backward: key != 4,
+        last_pointer: key == 2 || key == 0,
+        fields: Vec::new(alloc),
+    }
+}
+
+fn sample_types(alloc: Global) -> Result<Vec<SegType>, AllocError> {
+    let course = Name8::from_padded(*b"COURSE  ").unwrap();
+    let class = Name8::from_padded(*b"CLASS   ").unwrap();
+    let student = Name8::from_padded(*b"STUD    ").unwrap();
+    let book = Name8::from_padded(*b"BOOK    ").unwrap();
+    Ok(vec![in alloc;
+        type_of(alloc, course, None, 8, 3),
+        type_of(alloc, class, Some(1), 4, 2),
+        type_of(alloc, student, Some(2), 6, 4),
+        type_of(alloc, book, Some(1), 5, 0),
+    ]?)
+}
+
+fn sample(alloc: Global) -> Result<Dbd, DbdFault>
+    ensures { IfOk result (λ dbd. dbd.block_size ≡ 128) }
+{
+    let name = Name8::from_padded(*b"EDU     ").unwrap();
+    let frspc = FreeSpace { fbff: 0, fspf: 0 };
+    let types = sample_types(alloc)?;
+    Dbd::new(alloc, name, 128, frspc, types)
+}
+
+/// The header of the sample database's volume of so many blocks, at most 255, and a largest count of 65,536.
+fn header(blocks: u8) -> [u8; 128] {
+    let mut bytes = [0; 128];
+    bytes[..8].copy_from_slice(b"HDVOLUME");
+    bytes[9] = 1;
+    bytes[11] = 128;
+    bytes[15] = blocks;
+    bytes[17] = 1;
+    bytes[20..28].copy_from_slice(b"EDU     ");
+    bytes
+}
+
+/// Puts a segment of its type's size; `Area` says that it has another.
+fn put_whole<S: BlockStore>(volume: &mut Volume<S>, dbd: &Dbd, bytes: &[u8]) -> Result<u32, Refused>
+    requires unsound { volume.old.is_sound ≡ false }
+    requires sizes { volume.old.sizes ≡ stored_sizes dbd.now.types }
+    ensures unsound { volume.new.is_sound ≡ false }
+    ensures sizes { volume.new.sizes ≡ volume.old.sizes }
+{
+    if bytes.is_empty() || bytes.len() != dbd.stored_size(bytes[0]) as usize {
+        return Err(Refused::Area);
+    }
+    volume.put(bytes)
+}
+
+/// A student's segment.
+const STUDENT: [u8; 16] = *b"\x03\0\0\0\0\0ADAM01\0\0\0\0";
+
+/// A course's segment.
+const COURSE: [u8; 40] = [
+    1, 0, 0, 0, 0, 0, 0, 0, 0, 0, 0, 0, 0, 0, 0, 0, 0, 0, 0, 0, 0, 0, 0, 0, 0, 0, 50, 48, 53, 76,
+    79, 71, 73, 67, 0, 0, 0, 0, 0, 0,
+];
+
+/// Where segments and blocks go in a volume of a data block with two students and two holes, and a free block.
+fn find_places<L: Ledger>(
+    alloc: Global,
+    file: File,
+    blank: Blank,
+    dbd: &Dbd,
+) -> io::Result<[Result<u32, Refused>; 8]>
+    requires name { blank.name ≡ L.name }
+    requires parts { blank.parts ≡ L.parts }
+    requires share { 0 < blank.parts }
+    requires size { dbd.now.block_size ≡ 128 }
+{
+    let store: FileStore<L> = FileStore::over(file, 128, blank)?;
+    let Ok(mut volume) = Volume::load(alloc, store, dbd) else {
+        return Ok([Err(Refused::Memory); 8]);
+    };
+    let first = put_whole(&mut volume, dbd, &STUDENT);
+    let second = put_whole(&mut volume, dbd, &COURSE);
+    let third = put_whole(&mut volume, dbd, &COURSE);
+    let fourth = put_whole(&mut volume, dbd, &COURSE);
+    let fifth = put_whole(&mut volume, dbd, &COURSE);
+    let sixth = volume.take_block(0);
+    let seventh = volume.free(136).map(|_| 0);
+    let eighth = put_whole(&mut volume, dbd, &STUDENT);
+    Ok([first, second, third, fourth, fifth, sixth, seventh, eighth])
+}
+
+fn places(alloc: Global, file: File, dbd: &Dbd) -> io::Result<[Result<u32, Refused>; 8]>
+    requires { dbd.now.block_size ≡ 128 }
+{
+    find_places::<Brand>(alloc, file, Blank::new(1), dbd)
+}
+
+#[test]
+fn puts_segments_into_the_first_large_enough_hole(rt: HostRuntime) -> Result<(), Fail> {
+    let dbd = sample(rt.alloc()).expect(&rt, "a database");
+    let mut image = Vec::new(rt.alloc());
+    image.extend_from_slice(&header(3))?;
+    let mut block = [0; 128];
+    block[..3].copy_from_slice(b"\0\x18\x01");
+    block[8..24].copy_from_slice(&STUDENT);
+    block[24..32].copy_from_slice(b"\0\x30\0\x08\0\0\0\0");
+    block[32..48].copy_from_slice(&STUDENT);
+    block[48..56].copy_from_slice(b"\0\0\0\x50\0\0\0\0");
+    image.extend_from_slice(&block)?;
+    let mut free = [0; 128];
+    free[2] = 3;
+    image.extend_from_slice(&free)?;
+    fs::write(&rt, "places", &image)?;
+    let mut old = OpenOptions::new();
+    old.read(true).write(true);
+    let found = places(rt.alloc(), old.open(&rt, "places")?, &dbd)?;
+    let want = [
+        Ok(128 + 48),
+        Ok(128 + 64),
+        Ok(256 + 8),
+        Ok(256 + 48),
+        Ok(256 + 88),
+        Ok(3),
+        Ok(0),
+        Ok(128 + 8),
+    ];
+    assert_eq!(rt; found, want);
+    fs::remove_file(&rt, "places")?;
+    Ok(())
+}
+
+/// The accesses of 5,000 puts into a new volume.
+fn count_accesses<L: Ledger>(alloc: Global, file: File, blank: Blank, dbd: &Dbd) -> io::Result<u64>
+    requires name { blank.name ≡ L.name }
+    requires parts { blank.parts ≡ L.parts }
+    requires share { 0 < blank.parts }
+    requires size { dbd.now.block_size ≡ 128 }
+{
+    let store: FileStore<L> = FileStore::over(file, 128, blank)?;
+    let store = FuseStore::new(store, u64::MAX);
+    let Ok(mut volume) = Volume::create(alloc, store, dbd, 65536) else {
+        return Ok(0);
+    };
+    for n in 0..5000u32 {
+        if put_whole(
+            &mut volume,
+            dbd,
+            if n % 10 == 0 { &COURSE } else { &STUDENT },
+        )
+        .is_err()
+        {
+            return Ok(0);
+        }
+    }
+    if volume.flush().is_err() {
+        return Ok(0);
+    }
+    Ok(volume.into_store().accesses())
+}
+
+fn accesses(alloc: Global, file: File, dbd: &Dbd) -> io::Result<u64>
+    requires { dbd.now.block_size ≡ 128 }
+{
+    count_accesses::<Brand>(alloc, file, Blank::new(1), dbd)
+}
+
+#[test]
+fn reads_no_block_in_vain(rt: HostRuntime) -> Result<(), Fail> {
+    let dbd = sample(rt.alloc()).expect(&rt, "a database");
+    let mut new = OpenOptions::new();
+    new.read(true).write(true).create(true).truncate(true);
+    let count = accesses(rt.alloc(), new.open(&rt, "puts")?, &dbd)?;
+    assert!(rt; count > 0 && count < 4000, "{count} accesses");
+    let image = fs::read(&rt, "puts")?;
+    assert_eq!(rt; image.get(..12), header(0).get(..12));
+    assert_eq!(rt; image.get(16..48), header(0).get(16..48));
+    fs::remove_file(&rt, "puts")?;
+    Ok(())
+}
