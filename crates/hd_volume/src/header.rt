@@ -1,12 +1,40 @@
-ghost use Rattle.std.specs.Prelude.{◌≡◌, IsTrue};
+ghost use Rattle.std.specs.Prelude.{◌≡◌, ◌≤◌, IsTrue};
+ghost use Rattle.hd_bytes.specs.Blocks.{HasBlock};
+ghost use Rattle.hd_bytes.specs.Numbers.{number_at};
 ghost use Rattle.hd_volume.specs.Headers.{header_of};
 ghost use Rattle.hd_volume.specs.Volumes.{IsFormatted};
 ghost use Rattle.hd_volume.specs.Calls.{HasNewHeader};
 
+use crate::blocks::Blocks;
 use crate::store::BlockStore;
-use crate::volume::{FIRST_ROOT, HEIGHT, LAST_ROOT, TOP, Volume};
+use crate::volume::{COUNT, FIRST_ROOT, HEIGHT, LARGEST, LAST_ROOT, TOP, Volume, head_number};
+use hd_bytes::read_u16;
+
+/// Where the header has its version, of two bytes.
+const VERSION: usize = 8;
 
 impl<S: BlockStore> Volume<S> {
+    /// The version of the volume's layout.
+    pub fn version(&self) -> u16
+        ensures { IsTrue self.now.is_sound → HasBlock self.now.size self.now.image 0 → result ≡ (header_of self.now.image).version }
+    {
+        head_version(&self.blocks)
+    }
+
+    /// How many blocks the header counts, block 0 among them.
+    pub fn block_count(&self) -> u32
+        ensures { IsTrue self.now.is_sound → HasBlock self.now.size self.now.image 0 → result ≡ (header_of self.now.image).count }
+    {
+        head_number(&self.blocks, COUNT)
+    }
+
+    /// The largest count of blocks to which the volume may grow.
+    pub fn largest_count(&self) -> u32
+        ensures { IsTrue self.now.is_sound → HasBlock self.now.size self.now.image 0 → result ≡ (header_of self.now.image).largest }
+    {
+        head_number(&self.blocks, LARGEST)
+    }
+
     /// Sets the address of the first root, 0 for none. Nothing is read or written.
     pub fn set_first_root(&mut self, address: u32)
         requires formatted { IsTrue self.old.is_sound → IsFormatted self.old }
@@ -42,4 +70,12 @@ impl<S: BlockStore> Volume<S> {
     {
         self.blocks.write_head(HEIGHT, height);
     }
+}
+
+/// The version in block 0.
+fn head_version<S: BlockStore>(blocks: &Blocks<S>) -> u16
+    requires { 10 ≤ blocks.now.size }
+    ensures { IsTrue blocks.now.is_sound → HasBlock blocks.now.size blocks.now.image 0 → result ≡ number_at 2 blocks.now.image 8 }
+{
+    read_u16(blocks.head(), VERSION)
 }
