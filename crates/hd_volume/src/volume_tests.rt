@@ -203,3 +203,30 @@ fn reads_no_block_in_vain(rt: HostRuntime) -> Result<(), Fail> {
     fs::remove_file(&rt, "puts")?;
     Ok(())
 }
+
+/// Version, count and largest count of a new volume, and its bytes.
+fn new_volume(alloc: Global, dbd: &Dbd) -> Option<(u16, u32, u32, Vec<u8>)>
+    requires { dbd.now.block_size ≡ 128 }
+{
+    let store = MemStore::new(128, Vec::new(alloc));
+    let Ok(mut volume) = Volume::create(alloc, store, dbd, 16) else {
+        return None;
+    };
+    let version = volume.version();
+    let count = volume.block_count();
+    let largest = volume.largest_count();
+    volume.flush().ok()?;
+    Some((version, count, largest, volume.into_store().into_bytes()))
+}
+
+#[test]
+fn creates_a_volume_of_one_block(rt: HostRuntime) {
+    let dbd = sample(rt.alloc()).expect(&rt, "a database");
+    let (version, count, largest, bytes) = new_volume(rt.alloc(), &dbd).expect(&rt, "a new volume");
+    assert_eq!(rt; (version, count, largest), (1, 1, 16));
+    assert_eq!(rt; bytes.len(), 128);
+    assert_eq!(rt;
+        bytes.get(..28),
+        Some(b"HDVOLUME\0\x01\0\x80\0\0\0\x01\0\0\0\x10EDU     ".as_slice())
+    );
+}
