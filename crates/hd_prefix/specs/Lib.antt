@@ -1,0 +1,3 @@
+pub mod Pointers
+pub mod Fields
+pub mod Layouts
