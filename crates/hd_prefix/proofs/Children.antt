@@ -80,8 +80,8 @@ child_is block_size types c t fit child =
       of = above.1;
       child = found.2;
       at =
-        ap (λ (o : Option ℕ). option_map_or (λ p. option_map_or (λ s. twin_part p s) (type_of types p) 0 + child_parts p (take (t - 1) types)) o 0) named
-        ∙ ap (λ (o : Option SegmentType). option_map_or (λ s. twin_part c s) o 0 + child_parts c (take (t - 1) types)) above.1;
+          ap (λ (o : Option ℕ). option_map_or (λ p. option_map_or (λ s. twin_part p s) (type_of types p) 0 + child_parts p (take (t - 1) types)) o 0) named
+          ∙ ap (λ (o : Option SegmentType). option_map_or (λ s. twin_part c s) o 0 + child_parts c (take (t - 1) types)) above.1;
     }
 
 -- the length of a type's prefix

@@ -1,2 +1,4 @@
 pub mod Children
+pub mod Sizes
 pub mod Places
+pub mod Writes

@@ -1,16 +1,19 @@
 -- The places of the pointers of one type.
 use Rattle.std.proofs.Common.{◌≡◌, ℕ, ◌+◌, ◌<◌, ◌≤◌, ◌≢◌, ◌⊎◌, List, Bool, true, false, arith, ap, sym, ◌∙◌, refl, cond, ◌&&◌, Option, Some, None, inl, inr}
-use Rattle.std.specs.Prelude.{◌==◌, option_map}
+use Rattle.std.specs.Prelude.{◌==◌, option_map, IfSome, IsTrue}
 use Rattle.std.specs.Option.{option_map_or}
 use Rattle.std.proofs.lemmas.Bool.{and_parts, cases_eq, cases_lt, cond-true}
 use Rattle.std.proofs.lemmas.Option.{cond_some, same_Some}
 use Rattle.hd_dbd.specs.Types.{SegmentType}
 use Rattle.hd_dbd.specs.Hierarchy.{type_of}
-use Rattle.hd_dbd.specs.Prefixes.{keeps_backward, twin_part, child_part, child_parts, prefix_length, pointers_at}
-use Rattle.hd_dbd.specs.DatabaseRules.{types_fit_from}
+use Rattle.hd_dbd.specs.Prefixes.{keeps_backward, twin_part, child_part, child_parts, prefix_length, pointers_at, stored_size}
+use Rattle.hd_dbd.specs.declared.hierarchy.FreeSpace.{FreeSpace}
+use Rattle.hd_dbd.specs.DatabaseRules.{types_fit_from, well_formed}
+use Rattle.hd_dbd.proofs.Fitting.{types_fit, size_fits, size_bound}
+use Rattle.hd_prefix.proofs.Sizes.{stored_long}
 use Rattle.hd_prefix.specs.declared.pointer.Pointer.{Pointer}
 use Rattle.hd_prefix.specs.declared.pointer.Pointer.TheVariants.{TwinForward, TwinBackward, FirstChild, LastChild}
-use Rattle.hd_prefix.specs.Pointers.{is_backward_kept, is_last_kept, is_child, place_of}
+use Rattle.hd_prefix.specs.Pointers.{is_backward_kept, is_last_kept, is_child, place_of, IsApart}
 use Rattle.hd_prefix.proofs.Children.{IsChild, child_is, prefix_is, child_before, child_inside}
 
 -- What is known of a pointer that stands at a place.
@@ -104,10 +107,6 @@ place_inside types c (LastChild t) x h =
     bound : (m p q x y : ℕ) → m ≤ p → p + y ≤ q → 6 ≤ m → y ≡ 8 → x ≡ p + 4 → (2 ≤ x) × (x + 4 ≤ q)
     bound m p q x y e f g h i = (omega arith, omega arith)
 
--- two places of pointers have no byte in common
-abbrev pub IsApart : ℕ → ℕ → Type 0
-IsApart x y = (x + 4 ≤ y) ⊎ (y + 4 ≤ x)
-
 turned : (x y : ℕ) → IsApart x y → IsApart y x
 turned x y (inl h) = inr h
 turned x y (inr h) = inl h
@@ -191,3 +190,35 @@ places_apart types c (LastChild t) TwinForward x y other h k = turned y x (forwa
 places_apart types c (LastChild t) TwinBackward x y other h k = turned y x (backward_first types c t y x k (last_within types c t x h))
 places_apart types c (LastChild t) (FirstChild u) x y other h k = turned y x (first_last_apart types c u t y x k h)
 places_apart types c (LastChild t) (LastChild u) x y other h k = lasts_apart types c t u x y other (last_within types c t x h) (last_within types c u y k)
+
+-- the place of a pointer of a database's type, where it is kept
+pub inside_some : (block_size : ℕ) (frspc : FreeSpace) (types : List SegmentType) (c : ℕ) (pointer : Pointer) (o : Option ℕ) → IsTrue (well_formed block_size frspc types)
+    → o ≡ place_of types c pointer → IfSome o (λ x. (2 ≤ x) × (x + 4 ≤ prefix_length types c))
+inside_some block_size frspc types c pointer None fit is = tt
+inside_some block_size frspc types c pointer (Some x) fit is =
+    place_inside types c pointer x (placed block_size types c pointer x (types_fit block_size frspc types fit) (sym is))
+
+apart_other : (block_size : ℕ) (types : List SegmentType) (c : ℕ) (p q : Pointer) (x : ℕ) (o : Option ℕ) → types_fit_from block_size types 1 types ≡ true
+    → q ≢ p → IsPlaced types c p x → place_of types c q ≡ o → IfSome o (λ y. IsApart x y)
+apart_other block_size types c p q x None fit other at is = tt
+apart_other block_size types c p q x (Some y) fit other at is = places_apart types c p q x y (λ e. other (sym e)) at (placed block_size types c q y fit is)
+
+pub apart_some : (block_size : ℕ) (frspc : FreeSpace) (types : List SegmentType) (c : ℕ) (pointer : Pointer) (o : Option ℕ) → IsTrue (well_formed block_size frspc types)
+    → o ≡ place_of types c pointer → IfSome o (λ x. (other : Pointer) → other ≢ pointer → IfSome (place_of types c other) (λ y. IsApart x y))
+apart_some block_size frspc types c pointer None fit is = tt
+apart_some block_size frspc types c pointer (Some x) fit is =
+    let all = types_fit block_size frspc types fit in
+    λ (other : Pointer) (ne : other ≢ pointer). apart_other block_size types c pointer other x (place_of types c other) all ne (placed block_size types c pointer x all (sym is)) refl
+
+-- the pointers to a child type stand low enough for a number of two bytes
+pub pointers_low : (block_size : ℕ) (frspc : FreeSpace) (types : List SegmentType) (c t : ℕ) → IsTrue (well_formed block_size frspc types)
+    → is_child types c t ≡ true → pointers_at types t + 4 ≤ 65535
+pointers_low block_size frspc types c t fit child =
+    let all = types_fit block_size frspc types fit in
+    let k = child_is block_size types c t all child in
+    let in_prefix = child_inside types c t k in
+    let bound : stored_size types c ≤ 65535 = size_bound block_size types c all (size_fits block_size frspc types fit) in
+    sums _ _ _ _ _ in_prefix.1 (part_some k.own) (stored_long types c) bound
+  where
+    sums : (p y q n s : ℕ) → p + y ≤ q → 4 ≤ y → q + n ≤ s → s ≤ 65535 → p + 4 ≤ 65535
+    sums p y q n s e f g h = omega arith

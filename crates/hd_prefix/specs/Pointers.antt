@@ -1,5 +1,5 @@
 -- The pointers of a segment: which of them its type keeps, and where they stand in the prefix.
-use Rattle.std.specs.Prelude.{ℕ, ◌+◌, List, Bool, false, ◌&&◌, ◌==◌, cond, Option, Some, None, option_map}
+use Rattle.std.specs.Prelude.{◌⊎◌, ℕ, ◌+◌, ◌≤◌, List, Bool, false, ◌&&◌, ◌==◌, cond, Option, Some, None, option_map}
 use Rattle.std.specs.Option.{option_map_or}
 use Rattle.hd_dbd.specs.Types.{SegmentType}
 use Rattle.hd_dbd.specs.Hierarchy.{type_of, parent_of}
@@ -26,3 +26,7 @@ place_of types c TwinForward = option_map (λ _. 2) (type_of types c)
 place_of types c TwinBackward = cond (is_backward_kept types c) (Some 6) None
 place_of types c (FirstChild t) = cond (is_child types c t) (Some (pointers_at types t)) None
 place_of types c (LastChild t) = cond (is_child types c t && is_last_kept types t) (Some (pointers_at types t + 4)) None
+
+-- two places of pointers have no byte in common
+abbrev pub IsApart : ℕ → ℕ → Type 0
+IsApart x y = (x + 4 ≤ y) ⊎ (y + 4 ≤ x)

@@ -1,0 +1,15 @@
+use Rattle.std.proofs.Common.{◌≡◌, sym, ◌∙◌, Some}
+use Rattle.hd_prefix.specs.Pointers.{place_of}
+use Rattle.hd_prefix.specs.Fields.{IsPointerSet}
+use Rattle.hd_prefix.proofs.Writes.{pointer_set, match_some}
+use Rattle.hd_prefix.proofs.layout.Layout.write.Goals as goal
+
+pub returns-in-Some : goal.returns-in-Some
+returns-in-Some c =
+    let types = c.args.self.now.dbd.now.types in
+    let code = c.args.self.now.code in
+    let is : place_of types code c.args.pointer ≡ Some c.in-Some.place = sym c.place_of.ensures.place ∙ c.in-Some.is in
+    match_some (place_of types code c.args.pointer) c.in-Some.place (c.write_u32.new.bytes ≡ c.args.segment.now) (λ x. IsPointerSet types code c.args.pointer c.args.address c.args.segment.now c.write_u32.new.bytes)
+    is
+    (pointer_set types code c.args.pointer c.in-Some.place c.args.address c.args.segment.now c.write_u32.new.bytes is c.in-Some.ensures.inside c.in-Some.ensures.apart
+    c.requires c.write_u32.ensures.changes c.write_u32.ensures.reads_back)
