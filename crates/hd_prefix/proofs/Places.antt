@@ -66,7 +66,7 @@ part_some s = by s.last_pointer
     by false = omega arith
 
 -- the twin pointers are ten bytes or six
-twins_some : (c : ℕ) (p : SegmentType) → 6 ≤ twin_part c p
+pub twins_some : (c : ℕ) (p : SegmentType) → 6 ≤ twin_part c p
 twins_some c p = by (keeps_backward c p)
   where
     by : (b : Bool) → 6 ≤ cond b 10 6

@@ -52,3 +52,12 @@ pub record IsBytesSet (types : List SegmentType) (c : ℕ) (bytes old new : List
   pub code : code_of new ≡ code_of old
   pub delete_byte : delete_byte_of new ≡ delete_byte_of old
   pub pointers : (pointer : Pointer) → pointer_of types c pointer new ≡ pointer_of types c pointer old
+
+-- A segment is a row that stands nowhere yet: of the size of its type, with the row's code and bytes, and 0 in delete byte
+-- and pointers.
+pub record IsNewSegment (types : List SegmentType) (c : ℕ) (row segment : List ℕ) : Type 0 where
+  pub size : length segment ≡ stored_size types c
+  pub code : code_of segment ≡ c
+  pub delete_byte : delete_byte_of segment ≡ 0
+  pub pointers : (pointer : Pointer) → pointer_of types c pointer segment ≡ 0
+  pub bytes : bytes_of types c segment ≡ row
