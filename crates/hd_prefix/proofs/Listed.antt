@@ -62,5 +62,5 @@ children_listed types c t = elim (cases_eq t 0) [
       ∙ in_list c 1 (t - 1) types
       ∙ ap (λ (o : Option SegmentType). option_map_or (is_child_of c) o false) (sym (type_of-later types t some))
       ∙ child_of_type c (type_of types t)
-    )
+      )
 ]

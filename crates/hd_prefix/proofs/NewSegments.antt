@@ -69,9 +69,9 @@ new_segment_is types c bytes low len inside =
       delete_byte = zeros 1 (omega arith) (omega arith);
       pointers = λ pointer. pointers_zero prefix (new_segment types c bytes) (place_of types c pointer) zeros (inside pointer);
       bytes =
-        ap (λ (n : ℕ). bytes_at (new_segment types c bytes) prefix n) (sym len)
-        ∙ ap (λ (p : ℕ). bytes_at (new_segment types c bytes) p (length bytes)) (sym next)
-        ∙ bytes-laid_out c (prefix - 1) bytes padding;
+          ap (λ (n : ℕ). bytes_at (new_segment types c bytes) prefix n) (sym len)
+          ∙ ap (λ (p : ℕ). bytes_at (new_segment types c bytes) p (length bytes)) (sym next)
+          ∙ bytes-laid_out c (prefix - 1) bytes padding;
     }
   where
     sums : (p n s b : ℕ) → 2 ≤ p → p + n ≤ s → b ≡ n → 1 + (p - 1) + b + (s - p - b) ≡ s

@@ -64,17 +64,21 @@ number_put x bytes old room four =
     let there : bytes_at all x (length bytes) ≡ bytes = bytes-with old bytes x room in
     let len : length all ≡ length old = length-with old bytes x room in
     let byte : (j : ℕ) → j < 4 → slice_index all (x + j) ≡ slice_index bytes j = λ (j : ℕ) (low : j < 4).
-      sym (byte-at all x (length bytes) j (omega arith) (omega arith)) ∙ ap (λ (b : List ℕ). slice_index b j) there in
+    sym (byte-at all x (length bytes) j (omega arith) (omega arith)) ∙ ap (λ (b : List ℕ). slice_index b j) there in
     same _ _ _ _ _ _ _ _ (ap (slice_index all) (zero_more x) ∙ byte 0 (omega arith)) (ap (slice_index all) (one_more x) ∙ byte 1 (omega arith)) (ap (slice_index all) (two_more x) ∙ byte 2 (omega arith)) (ap (slice_index all) (three_more x) ∙ byte 3 (omega arith))
   where
     zero_more : (n : ℕ) → n ≡ n + 0
     zero_more n = omega arith
+
     one_more : (n : ℕ) → suc n ≡ n + 1
     one_more n = omega arith
+
     two_more : (n : ℕ) → suc (suc n) ≡ n + 2
     two_more n = omega arith
+
     three_more : (n : ℕ) → suc (suc (suc n)) ≡ n + 3
     three_more n = omega arith
+
     same : (a b d e f g h i : ℕ) → a ≡ f → b ≡ g → d ≡ h → e ≡ i
         → a * 256 ^ 3 + (b * 256 ^ 2 + (d * 256 ^ 1 + (e * 256 ^ 0 + 0))) ≡ f * 256 ^ 3 + (g * 256 ^ 2 + (h * 256 ^ 1 + (i * 256 ^ 0 + 0)))
     same a b d e f g h i p q r s = cc
@@ -115,6 +119,7 @@ bytes_with types c bytes old low len inside long =
   where
     sums : (p n s l b : ℕ) → p + n ≤ s → s ≤ l → b ≡ n → p + b ≤ l
     sums p n s l b e f g = omega arith
+
     kept : (n start : ℕ) (old new : List ℕ) (o : Option ℕ) → ChangesOnly start n old new → IfSome o (λ x. (2 ≤ x) × (x + 4 ≤ start))
         → option_map_or (λ place. number_at 4 new place) o 0 ≡ option_map_or (λ place. number_at 4 old place) o 0
     kept n start old new None changes inside = refl
