@@ -1,5 +1,5 @@
 -- Where the pointers to the child types of a type stand in its prefix.
-use Rattle.std.proofs.Common.{◌≡◌, ℕ, zero, suc, ◌+◌, ◌-◌, ◌<◌, ◌≤◌, List, [], ◌∷◌, length, take, Bool, true, false, arith, ap, sym, ◌∙◌, refl, cond, subst, Option, Some, None, inl, inr}
+use Rattle.std.proofs.Common.{◌≡◌, ℕ, zero, suc, ◌+◌, ◌-◌, ◌<◌, ◌≤◌, List, [], ◌∷◌, length, take, true, false, arith, ap, sym, ◌∙◌, refl, cond, subst, Option, Some, None, inl, inr}
 use Rattle.std.specs.Prelude.{slice_get, ◌==◌, option_and_then, sum_by}
 use Rattle.std.specs.Option.{option_map_or}
 use Rattle.std.proofs.lemmas.Bool.{eqb-true, cond-true}

@@ -1,9 +1,9 @@
 -- The child types of a type are those that its list of children has.
-use Rattle.std.proofs.Common.{◌≡◌, ℕ, zero, suc, ◌+◌, ◌-◌, ◌<◌, ◌≤◌, List, [], ◌∷◌, Bool, true, false, arith, ap, sym, ◌∙◌, refl, cond, Option, Some, None, inl, inr}
-use Rattle.std.specs.Prelude.{slice_get, ◌==◌, ◌||◌, option_and_then, ◌⊎◌}
+use Rattle.std.proofs.Common.{◌≡◌, ℕ, zero, suc, ◌+◌, ◌-◌, ◌<◌, List, [], ◌∷◌, Bool, true, false, arith, ap, sym, ◌∙◌, refl, cond, Option, Some, None, inl, inr}
+use Rattle.std.specs.Prelude.{slice_get, ◌==◌, ◌||◌, option_and_then}
 use Rattle.std.specs.List.{list_any}
 use Rattle.std.specs.Option.{option_map_or}
-use Rattle.std.proofs.lemmas.Bool.{eq-eqb, ne_eqb, cases_eq, cases_lt}
+use Rattle.std.proofs.lemmas.Bool.{eq-eqb, ne_eqb, cases_eq}
 use Rattle.hd_dbd.specs.Types.{SegmentType}
 use Rattle.hd_dbd.specs.Hierarchy.{type_of}
 use Rattle.hd_dbd.specs.Prefixes.{is_child_of, children_from, children_of}

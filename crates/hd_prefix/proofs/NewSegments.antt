@@ -1,16 +1,16 @@
 -- A row that is made a stored segment.
-use Rattle.std.proofs.Common.{◌≡◌, ℕ, zero, suc, ◌+◌, ◌-◌, ◌*◌, ◌^◌, ◌<◌, ◌≤◌, List, [], ◌∷◌, ◌++◌, length, take, drop, slice_index, arith, ap, sym, ◌∙◌, refl, Option, Some, None}
+use Rattle.std.proofs.Common.{◌≡◌, ℕ, zero, suc, ◌+◌, ◌-◌, ◌*◌, ◌^◌, ◌<◌, ◌≤◌, List, ◌∷◌, ◌++◌, length, take, slice_index, arith, ap, sym, ◌∙◌, refl, Option, Some, None}
 use Rattle.std.specs.Prelude.{IfSome, replicate}
 use Rattle.std.specs.Option.{option_map_or}
 use Rattle.std.proofs.lemmas.Grind.{common_steps}
-use Rattle.std.proofs.lemmas.List.{length-append, length-replicate, get_or_append_left, get_or-replicate, drop_at, take_at}
+use Rattle.std.proofs.lemmas.List.{length-replicate, get_or_append_left, get_or-replicate, drop_at, take_at}
 use Rattle.hd_bytes.specs.Ranges.{bytes_at}
 use Rattle.hd_bytes.specs.Numbers.{number_at}
 use Rattle.hd_dbd.specs.Types.{SegmentType}
 use Rattle.hd_dbd.specs.Prefixes.{prefix_length, stored_size}
 use Rattle.hd_prefix.specs.declared.pointer.Pointer.{Pointer}
 use Rattle.hd_prefix.specs.Pointers.{place_of}
-use Rattle.hd_prefix.specs.Fields.{pointer_of, length_of, bytes_of, new_segment, IsNewSegment}
+use Rattle.hd_prefix.specs.Fields.{length_of, new_segment, IsNewSegment}
 use Rattle.hd_prefix.proofs.Sizes.{stored_long}
 
 -- a number whose bytes are all 0

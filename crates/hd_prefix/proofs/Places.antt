@@ -1,12 +1,12 @@
 -- The places of the pointers of one type.
-use Rattle.std.proofs.Common.{◌≡◌, ℕ, ◌+◌, ◌<◌, ◌≤◌, ◌≢◌, ◌⊎◌, List, Bool, true, false, arith, ap, sym, ◌∙◌, refl, cond, ◌&&◌, Option, Some, None, inl, inr}
-use Rattle.std.specs.Prelude.{◌==◌, option_map, IfSome, IsTrue}
+use Rattle.std.proofs.Common.{◌≡◌, ℕ, ◌+◌, ◌≤◌, ◌≢◌, List, Bool, true, false, arith, ap, sym, ◌∙◌, refl, cond, ◌&&◌, Option, Some, None, inl, inr}
+use Rattle.std.specs.Prelude.{option_map, IfSome, IsTrue}
 use Rattle.std.specs.Option.{option_map_or}
 use Rattle.std.proofs.lemmas.Bool.{and_parts, cases_eq, cases_lt, cond-true}
 use Rattle.std.proofs.lemmas.Option.{cond_some, same_Some}
 use Rattle.hd_dbd.specs.Types.{SegmentType}
 use Rattle.hd_dbd.specs.Hierarchy.{type_of}
-use Rattle.hd_dbd.specs.Prefixes.{keeps_backward, twin_part, child_part, child_parts, prefix_length, pointers_at, stored_size}
+use Rattle.hd_dbd.specs.Prefixes.{keeps_backward, twin_part, child_part, prefix_length, pointers_at, stored_size}
 use Rattle.hd_dbd.specs.declared.hierarchy.FreeSpace.{FreeSpace}
 use Rattle.hd_dbd.specs.DatabaseRules.{types_fit_from, well_formed}
 use Rattle.hd_dbd.proofs.Fitting.{types_fit, size_fits, size_bound}

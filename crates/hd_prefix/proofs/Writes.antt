@@ -2,15 +2,15 @@
 use Rattle.std.proofs.Common.{◌≡◌, ℕ, suc, ◌+◌, ◌*◌, ◌^◌, slice_index, ◌<◌, ◌≤◌, ◌≢◌, ◌⊎◌, List, length, arith, ap, sym, ◌∙◌, refl, subst, Option, Some, None, inl, inr}
 use Rattle.std.specs.Prelude.{IfSome, MatchOption}
 use Rattle.std.specs.Option.{option_map_or}
-use Rattle.hd_bytes.specs.Ranges.{bytes_at, with_bytes, AgreeOn, ChangesOnly}
+use Rattle.hd_bytes.specs.Ranges.{bytes_at, with_bytes, ChangesOnly}
 use Rattle.hd_bytes.specs.Numbers.{number_at}
-use Rattle.hd_bytes.proofs.NumberLemmas.{number-same, number-below, number-above, changes-with, length-with}
+use Rattle.hd_bytes.proofs.NumberLemmas.{number-below, number-above, changes-with, length-with}
 use Rattle.hd_bytes.proofs.BlockLemmas.{byte-at, bytes-with, agree-bytes_at, agree-changed}
 use Rattle.hd_dbd.specs.Types.{SegmentType}
 use Rattle.hd_dbd.specs.Prefixes.{prefix_length, stored_size}
 use Rattle.hd_prefix.specs.declared.pointer.Pointer.{Pointer}
 use Rattle.hd_prefix.specs.Pointers.{place_of, IsApart}
-use Rattle.hd_prefix.specs.Fields.{code_of, delete_byte_of, pointer_of, length_of, bytes_of, IsPointerSet, IsBytesSet}
+use Rattle.hd_prefix.specs.Fields.{pointer_of, length_of, bytes_of, IsPointerSet, IsBytesSet}
 use Rattle.hd_prefix.proofs.Sizes.{stored_long}
 
 -- the address in a pointer that is kept

@@ -1,4 +1,4 @@
-use Rattle.std.proofs.Common.{◌≡◌, Some, sym}
+use Rattle.std.proofs.Common.{Some, sym}
 use Rattle.hd_prefix.proofs.Places.{inside_some, apart_some}
 use Rattle.hd_prefix.proofs.Writes.{pointer_with}
 use Rattle.hd_prefix.proofs.law.law_pointers_are_set.Goals as goal

@@ -1,5 +1,4 @@
-use Rattle.std.proofs.Common.{◌≡◌, ap, sym, ◌∙◌}
-use Rattle.hd_prefix.specs.declared.pointer.Pointer.{Pointer}
+use Rattle.std.proofs.Common.{ap, sym, ◌∙◌}
 use Rattle.hd_prefix.specs.Pointers.{place_of}
 use Rattle.hd_prefix.proofs.Places.{inside_some, apart_some}
 use Rattle.hd_prefix.proofs.layout.Layout.place_of.Goals as goal
