@@ -3,6 +3,7 @@ pub mod Sizes
 pub mod Places
 pub mod Fitting
 pub mod Writes
+pub mod Numbers
 pub mod Listed
 pub mod NewSegments
 pub mod WorkedSegments

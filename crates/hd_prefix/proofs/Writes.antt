@@ -1,6 +1,6 @@
 -- A field of a segment is written, and the others stay.
 use Rattle.std.proofs.Common.{◌≡◌, ℕ, suc, ◌+◌, ◌*◌, ◌^◌, slice_index, ◌<◌, ◌≤◌, ◌≢◌, ◌⊎◌, List, length, arith, ap, sym, ◌∙◌, refl, subst, Option, Some, None, inl, inr}
-use Rattle.std.specs.Prelude.{IfSome, MatchOption}
+use Rattle.std.specs.Prelude.{IfSome, OnSome, MatchOption}
 use Rattle.std.specs.Option.{option_map_or}
 use Rattle.hd_bytes.specs.Ranges.{bytes_at, with_bytes, ChangesOnly}
 use Rattle.hd_bytes.specs.Numbers.{number_at}
@@ -124,3 +124,6 @@ bytes_with types c bytes old low len inside long =
         → option_map_or (λ place. number_at 4 new place) o 0 ≡ option_map_or (λ place. number_at 4 old place) o 0
     kept n start old new None changes inside = refl
     kept n start old new (Some x) changes inside = number_beside start n x old new changes (inr inside.1)
+
+pub on_some : {A : Type 0} (o : Option A) (x : A) (P : Type 0) → o ≡ Some x → P → OnSome o P
+on_some o x P is holds = subst (λ z. OnSome z P) (sym is) holds

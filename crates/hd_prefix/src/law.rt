@@ -1,4 +1,4 @@
-ghost use Rattle.hd_prefix.specs.Laws.{PointersStandInside, PointersStandApart, PointersAreSet, BytesAreSet, NewSegmentsAreRows, ChildrenAreListed};
+ghost use Rattle.hd_prefix.specs.Laws.{PointersStandInside, PointersStandApart, PointersAreSet, BytesAreSet, NewSegmentsAreRows, ChildrenAreListed, PointersAreNumbers};
 
 /// Each pointer stands inside the prefix, behind code and delete byte.
 pub fn law_pointers_stand_inside()
@@ -28,4 +28,9 @@ pub fn law_new_segments_are_rows()
 /// The child types of a type are those that its list of children has.
 pub fn law_children_are_listed()
     ensures { ChildrenAreListed }
+{}
+
+/// The pointers of a segment are the numbers at their places, each where it is kept.
+pub fn law_pointers_are_numbers()
+    ensures { PointersAreNumbers }
 {}

@@ -1,4 +1,5 @@
-ghost use Rattle.std.specs.Prelude.{◌≡◌, ◌≢◌, ◌+◌, ◌≤◌, length, IfOk, IfSome, MatchOption};
+ghost use Rattle.std.specs.Prelude.{◌≡◌, ◌≢◌, ◌+◌, ◌≤◌, length, IfOk, IfSome, OnSome, MatchOption};
+ghost use Rattle.hd_bytes.specs.Ranges.{ChangesOnly};
 ghost use Rattle.hd_dbd.specs.Prefixes.{prefix_length, stored_size};
 ghost use Rattle.hd_prefix.specs.declared.pointer.Pointer.{Pointer};
 ghost use Rattle.hd_prefix.specs.declared.pointer.Pointer.TheVariants.{TwinForward, TwinBackward, FirstChild, LastChild};
@@ -72,7 +73,8 @@ impl<'a> Layout<'a> {
     /// Writes an address, 0 for none, into a pointer of a stored segment; nothing where the pointer is not kept.
     pub fn write(&self, segment: &mut [u8], pointer: Pointer, address: u32)
         requires { stored_size (types_of self.now) (type_code self.now) ≤ length segment.old }
-        ensures { MatchOption (place_of (types_of self.now) (type_code self.now) pointer) (segment.new ≡ segment.old) (λ _. IsPointerSet (types_of self.now) (type_code self.now) pointer address segment.old segment.new) }
+        ensures changes { MatchOption (place_of (types_of self.now) (type_code self.now) pointer) (segment.new ≡ segment.old) (λ x. ChangesOnly x 4 segment.old segment.new) }
+        ensures set { OnSome (place_of (types_of self.now) (type_code self.now) pointer) (IsPointerSet (types_of self.now) (type_code self.now) pointer address segment.old segment.new) }
     {
         if let Some(place) = self.place_of(pointer) {
             write_u32(segment, place as usize, address);
