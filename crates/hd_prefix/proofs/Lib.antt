@@ -1,0 +1,9 @@
+pub mod Children
+pub mod Sizes
+pub mod Places
+pub mod Fitting
+pub mod Writes
+pub mod Numbers
+pub mod Listed
+pub mod NewSegments
+pub mod WorkedSegments

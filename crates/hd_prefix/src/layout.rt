@@ -1,0 +1,183 @@
+ghost use Rattle.std.specs.Prelude.{◌≡◌, ◌≢◌, ◌+◌, ◌≤◌, length, IfOk, IfSome, OnSome, MatchOption};
+ghost use Rattle.hd_bytes.specs.Ranges.{ChangesOnly};
+ghost use Rattle.hd_dbd.specs.Prefixes.{prefix_length, stored_size};
+ghost use Rattle.hd_prefix.specs.declared.pointer.Pointer.{Pointer};
+ghost use Rattle.hd_prefix.specs.declared.pointer.Pointer.TheVariants.{TwinForward, TwinBackward, FirstChild, LastChild};
+ghost use Rattle.hd_prefix.specs.Pointers.{is_backward_kept, is_last_kept, is_child, place_of, IsApart};
+ghost use Rattle.hd_prefix.specs.Fields.{pointer_of, length_of, bytes_of, new_segment, IsPointerSet};
+
+use crate::pointer::Pointer;
+use hd_bytes::{read_u32, write_u32};
+use hd_dbd::Dbd;
+use std::alloc::{AllocError, Global};
+
+/// Where the fields of a type's segments stand: a view over what the database keeps of the type.
+#[derive(Clone, Copy)]
+pub struct Layout<'a> {
+    dbd: &'a Dbd,
+    code: u8,
+}
+
+impl<'a> Layout<'a> {
+    ghost use Rattle.hd_prefix.specs.Layouts.{types_of, type_code, IsFit};
+
+    /// The layout of the segments of the type of a code. Where the code has no type it has no prefix and keeps no
+    /// pointer.
+    pub fn of(dbd: &'a Dbd, code: u8) -> Layout<'a>
+        ensures types { types_of result ≡ dbd.now.types }
+        ensures code { type_code result ≡ code }
+    {
+        Layout { dbd, code }
+    }
+
+    /// The bytes of a prefix: code, delete byte and pointers; 0 for no type.
+    pub fn prefix_length(&self) -> u16
+        ensures { result ≡ prefix_length (types_of self.now) (type_code self.now) }
+    {
+        self.dbd.prefix_length(self.code)
+    }
+
+    /// The bytes that a segment takes: prefix, its own bytes and padding; 0 for no type.
+    pub fn stored_size(&self) -> u16
+        ensures { result ≡ stored_size (types_of self.now) (type_code self.now) }
+    {
+        self.dbd.stored_size(self.code)
+    }
+
+    /// Where a pointer stands in the prefix; `None` where the type does not keep it, or has no such child type. No two
+    /// pointers have a byte in common.
+    pub fn place_of(&self, pointer: Pointer) -> Option<u16>
+        ensures place { result ≡ place_of (types_of self.now) (type_code self.now) pointer }
+        ensures inside { IfSome result (λ x. (2 ≤ x) × (x + 4 ≤ prefix_length (types_of self.now) (type_code self.now))) }
+        ensures apart { IfSome result (λ x. (other : Pointer) → other ≢ pointer → IfSome (place_of (types_of self.now) (type_code self.now) other) (λ y. IsApart x y)) }
+    {
+        match pointer {
+            Pointer::TwinForward => self.forward_place(),
+            Pointer::TwinBackward => self.backward_place(),
+            Pointer::FirstChild(child) => self.first_place(child),
+            Pointer::LastChild(child) => self.last_place(child),
+        }
+    }
+
+    /// The address in a pointer of a stored segment; 0 for none, and where the pointer is not kept.
+    pub fn read(&self, segment: &[u8], pointer: Pointer) -> u32
+        requires { stored_size (types_of self.now) (type_code self.now) ≤ length segment.now }
+        ensures { result ≡ pointer_of (types_of self.now) (type_code self.now) pointer segment.now }
+    {
+        match self.place_of(pointer) {
+            Some(place) => read_u32(segment, place as usize),
+            None => 0,
+        }
+    }
+
+    /// Writes an address, 0 for none, into a pointer of a stored segment; nothing where the pointer is not kept.
+    pub fn write(&self, segment: &mut [u8], pointer: Pointer, address: u32)
+        requires { stored_size (types_of self.now) (type_code self.now) ≤ length segment.old }
+        ensures changes { MatchOption (place_of (types_of self.now) (type_code self.now) pointer) (segment.new ≡ segment.old) (λ x. ChangesOnly x 4 segment.old segment.new) }
+        ensures set { OnSome (place_of (types_of self.now) (type_code self.now) pointer) (IsPointerSet (types_of self.now) (type_code self.now) pointer address segment.old segment.new) }
+    {
+        if let Some(place) = self.place_of(pointer) {
+            write_u32(segment, place as usize, address);
+        }
+    }
+
+    /// The segment's own bytes, without prefix and padding; none for no type.
+    pub fn bytes<'s>(&self, segment: &'s [u8]) -> &'s [u8]
+        requires { stored_size (types_of self.now) (type_code self.now) ≤ length segment.now }
+        ensures { result.now ≡ bytes_of (types_of self.now) (type_code self.now) segment.now }
+    {
+        let start = self.prefix_length() as usize;
+        &segment[start..start + self.length()]
+    }
+
+    /// A row of the type as a whole stored segment that no pointer leads from.
+    pub fn new_segment(&self, alloc: Global, bytes: &[u8]) -> Result<Vec<u8>, AllocError>
+        ensures { IfOk result (λ v. v.items ≡ new_segment (types_of self.now) (type_code self.now) bytes.now) }
+    {
+        let prefix = self.prefix_length() as usize;
+        let size = self.stored_size() as usize;
+        let padding = size.saturating_sub(prefix).saturating_sub(bytes.len());
+        let mut segment = Vec::with_capacity(alloc, size)?;
+        segment.push(self.code)?;
+        segment.resize(prefix.max(1), 0)?;
+        segment.extend_from_slice(bytes)?;
+        segment.resize(segment.len() + padding, 0)?;
+        Ok(segment)
+    }
+
+    /// The length of the segment's own bytes.
+    fn length(&self) -> usize
+        ensures value { result ≡ length_of (types_of self.now) (type_code self.now) }
+        ensures bound { result ≤ 4294967295 }
+    {
+        match self.dbd.type_of(self.code) {
+            Some(segment) => segment.length as usize,
+            None => 0,
+        }
+    }
+
+    fn forward_place(&self) -> Option<u16>
+        ensures { result ≡ place_of (types_of self.now) (type_code self.now) TwinForward }
+    {
+        match self.dbd.type_of(self.code) {
+            Some(_) => Some(2),
+            None => None,
+        }
+    }
+
+    fn backward_place(&self) -> Option<u16>
+        ensures { result ≡ place_of (types_of self.now) (type_code self.now) TwinBackward }
+    {
+        if self.keeps_backward() { Some(6) } else { None }
+    }
+
+    fn first_place(&self, child: u8) -> Option<u16>
+        ensures value { result ≡ place_of (types_of self.now) (type_code self.now) (FirstChild child) }
+        ensures fit { IsFit self.now }
+    {
+        if self.is_child(child) {
+            Some(self.dbd.pointers_at(child))
+        } else {
+            None
+        }
+    }
+
+    fn last_place(&self, child: u8) -> Option<u16>
+        ensures value { result ≡ place_of (types_of self.now) (type_code self.now) (LastChild child) }
+        ensures fit { IsFit self.now }
+    {
+        if self.is_child(child) && self.keeps_last(child) {
+            Some(self.dbd.pointers_at(child) + 4)
+        } else {
+            None
+        }
+    }
+
+    fn keeps_backward(&self) -> bool
+        ensures { result ≡ is_backward_kept (types_of self.now) (type_code self.now) }
+    {
+        match self.dbd.type_of(self.code) {
+            Some(segment) => self.code == 1 || segment.backward,
+            None => false,
+        }
+    }
+
+    fn keeps_last(&self, child: u8) -> bool
+        ensures { result ≡ is_last_kept (types_of self.now) child }
+    {
+        match self.dbd.type_of(child) {
+            Some(segment) => segment.last_pointer,
+            None => false,
+        }
+    }
+
+    fn is_child(&self, child: u8) -> bool
+        ensures value { result ≡ is_child (types_of self.now) (type_code self.now) child }
+        ensures fit { IsFit self.now }
+    {
+        match self.dbd.type_of(child) {
+            Some(segment) => segment.parent == Some(self.code),
+            None => false,
+        }
+    }
+}

@@ -1,0 +1,18 @@
+//! A segment's prefix as its fields: code, delete byte and pointers.
+#![tactic(auto)]
+
+mod fields;
+mod law;
+mod layout;
+mod pointer;
+#[cfg(test)]
+mod tests;
+
+pub use fields::{code_of, delete_byte_of};
+pub use law::{
+    law_bytes_are_set, law_children_are_listed, law_new_segments_are_rows,
+    law_pointers_are_numbers, law_pointers_are_set, law_pointers_stand_apart,
+    law_pointers_stand_inside,
+};
+pub use layout::Layout;
+pub use pointer::Pointer;

@@ -1,0 +1,132 @@
+use crate::{Layout, Pointer, code_of, delete_byte_of};
+use hd_dbd::{Dbd, DbdFault, FreeSpace, Key, Name8, Rule, SegType};
+use std::alloc::{AllocError, Global};
+
+/// A type of the sample database without its fields; key 0 for none, which is unique where it has three bytes or
+/// fewer.
+fn type_of(alloc: Global, name: Name8, parent: Option<u8>, length: u32, key: u32) -> SegType {
+    let start = 1;
+    let unique = key <= 3;
+    SegType {
+        name,
+        parent,
+        length,
+        key: if key == 0 {
+            None
+        } else {
+            Some(Key {
+                start,
+                length: key,
+                unique,
+            })
+        },
+        rule: Rule::Last,
+        backward: key != 4,
+        last_pointer: key == 2 || key == 0,
+        fields: Vec::new(alloc),
+    }
+}
+
+fn sample_types(alloc: Global) -> Result<Vec<SegType>, AllocError> {
+    let course = Name8::from_padded(*b"COURSE  ").unwrap();
+    let class = Name8::from_padded(*b"CLASS   ").unwrap();
+    let student = Name8::from_padded(*b"STUD    ").unwrap();
+    let book = Name8::from_padded(*b"BOOK    ").unwrap();
+    Ok(vec![in alloc;
+        type_of(alloc, course, None, 8, 3),
+        type_of(alloc, class, Some(1), 4, 2),
+        type_of(alloc, student, Some(2), 6, 4),
+        type_of(alloc, book, Some(1), 5, 0),
+    ]?)
+}
+
+fn sample(alloc: Global) -> Result<Dbd, DbdFault> {
+    let name = Name8::from_padded(*b"EDU     ").unwrap();
+    let frspc = FreeSpace { fbff: 0, fspf: 0 };
+    let types = sample_types(alloc)?;
+    Dbd::new(alloc, name, 128, frspc, types)
+}
+
+/// The first course of the sample image, its first class, that class's first student, and the course's book.
+const COURSE: [u8; 40] =
+    *b"\x01\0\0\0\x01\x18\0\0\0\0\0\0\0\xb0\0\0\0\xe8\0\0\x01\x08\0\0\x01\x08101ALGEB\0\0\0\0\0\0";
+
+const CLASS: [u8; 24] = *b"\x02\0\0\0\0\xe8\0\0\0\0\0\0\0\xc801AB\0\0\0\0\0\0";
+
+const STUDENT: [u8; 16] = *b"\x03\0\0\0\0\xd8ADAM01\0\0\0\0";
+
+const BOOK: [u8; 16] = *b"\x04\0\0\0\0\0\0\0\0\0EULER\0";
+
+/// The address in a pointer of a segment of the sample; `None` where the segment is too short for its type.
+fn address_in(dbd: &Dbd, segment: &[u8], pointer: Pointer) -> Option<u32> {
+    let layout = Layout::of(dbd, *segment.first()?);
+    if segment.len() < layout.stored_size() as usize {
+        return None;
+    }
+    Some(layout.read(segment, pointer))
+}
+
+/// The segment's own bytes; none where it is too short for its type.
+fn bytes_in<'a>(dbd: &Dbd, segment: &'a [u8], code: u8) -> &'a [u8] {
+    let layout = Layout::of(dbd, code);
+    if segment.len() < layout.stored_size() as usize {
+        return &[];
+    }
+    layout.bytes(segment)
+}
+
+#[test]
+fn reads_the_fields_of_the_sample(rt: HostRuntime) {
+    let dbd = sample(rt.alloc()).expect(&rt, "a database");
+    let first_class = Pointer::FirstChild(2);
+    assert_eq!(rt; address_in(&dbd, &COURSE, Pointer::TwinForward), Some(280));
+    assert_eq!(rt; address_in(&dbd, &COURSE, Pointer::TwinBackward), Some(0));
+    assert_eq!(rt; address_in(&dbd, &COURSE, first_class), Some(176));
+    assert_eq!(rt; address_in(&dbd, &COURSE, Pointer::LastChild(2)), Some(232));
+    assert_eq!(rt;
+        address_in(&dbd, &COURSE, Pointer::FirstChild(4)),
+        Some(264)
+    );
+    assert_eq!(rt; address_in(&dbd, &COURSE, Pointer::LastChild(4)), Some(264));
+    assert_eq!(rt; bytes_in(&dbd, &COURSE, 1), b"101ALGEB".as_slice());
+    assert_eq!(rt; address_in(&dbd, &CLASS, Pointer::TwinForward), Some(232));
+    assert_eq!(rt; address_in(&dbd, &CLASS, Pointer::FirstChild(3)), Some(200));
+    assert_eq!(rt; bytes_in(&dbd, &CLASS, 2), b"01AB".as_slice());
+    assert_eq!(rt; address_in(&dbd, &STUDENT, Pointer::TwinForward), Some(216));
+    assert_eq!(rt; address_in(&dbd, &STUDENT, Pointer::TwinBackward), Some(0));
+    assert_eq!(rt; bytes_in(&dbd, &STUDENT, 3), b"ADAM01".as_slice());
+    assert_eq!(rt; (code_of(&BOOK), delete_byte_of(&BOOK)), (4, 0));
+    assert_eq!(rt; bytes_in(&dbd, &BOOK, 4), b"EULER".as_slice());
+}
+
+#[test]
+fn says_where_pointers_stand(rt: HostRuntime) {
+    let dbd = sample(rt.alloc()).expect(&rt, "a database");
+    let class = Layout::of(&dbd, 2);
+    assert_eq!(rt; class.place_of(Pointer::TwinBackward), Some(6));
+    assert_eq!(rt; class.place_of(Pointer::FirstChild(3)), Some(10));
+    assert_eq!(rt; class.place_of(Pointer::LastChild(3)), None);
+    assert_eq!(rt; class.place_of(Pointer::FirstChild(4)), None);
+    let student = Layout::of(&dbd, 3);
+    assert_eq!(rt; student.place_of(Pointer::TwinBackward), None);
+    let none = Layout::of(&dbd, 5);
+    assert_eq!(rt; none.place_of(Pointer::TwinForward), None);
+    assert_eq!(rt; (none.prefix_length(), none.stored_size()), (0, 0));
+}
+
+#[test]
+fn makes_a_segment_and_writes_a_pointer(rt: HostRuntime) {
+    let dbd = sample(rt.alloc()).expect(&rt, "a database");
+    let layout = Layout::of(&dbd, 4);
+    let mut book = layout
+        .new_segment(rt.alloc(), b"EULER")
+        .expect(&rt, "a segment");
+    assert_eq!(rt; book.as_slice(), BOOK.as_slice());
+    if layout.stored_size() as usize <= book.len() {
+        layout.write(&mut book, Pointer::TwinBackward, 264);
+    }
+    assert_eq!(rt;
+        book.as_slice(),
+        b"\x04\0\0\0\0\0\0\0\x01\x08EULER\0".as_slice()
+    );
+}
