@@ -1,16 +1,16 @@
 -- The table of the bytes that segments take in a block.
-use Rattle.std.proofs.Common.{◌≡◌, ◌⊎◌, inl, inr, ℕ, zero, suc, ◌+◌, ◌-◌, ◌*◌, ◌/◌, ◌%◌, ◌<◌, ◌≤◌, List, [], ◌∷◌, length, true, slice_index, refl, sym, ap, ◌∙◌, arith, Option, Some, None, IsTrue, nat_le, ◌&&◌}
+use Rattle.std.proofs.Common.{◌≡◌, inl, inr, ℕ, zero, suc, ◌+◌, ◌-◌, ◌%◌, ◌<◌, ◌≤◌, List, length, true, slice_index, refl, sym, ap, ◌∙◌, arith, Option, Some, None, IsTrue, nat_le, ◌&&◌}
 use Rattle.std.specs.Prelude.{slice_get}
 use Rattle.std.specs.Option.{option_map_or}
 use Rattle.std.proofs.lemmas.Option.{get_or_from_slice_get, slice_get_cases}
 use Rattle.std.proofs.lemmas.List.{get_or_past}
-use Rattle.std.proofs.lemmas.Bool.{and_parts, leb-true, eqb-true, cases_eq, cases_lt}
+use Rattle.std.proofs.lemmas.Bool.{and_parts, leb-true, eqb-true, cases_lt}
 use Rattle.hd_dbd.specs.declared.hierarchy.FreeSpace.{FreeSpace}
 use Rattle.hd_dbd.specs.Types.{SegmentType}
 use Rattle.hd_dbd.specs.Hierarchy.{type_of}
 use Rattle.hd_dbd.specs.Prefixes.{prefix_length, rounded_up, stored_size}
 use Rattle.hd_dbd.specs.Facts.{table_from, stored_sizes}
-use Rattle.hd_dbd.specs.DatabaseRules.{block_size_fits, well_formed, types_fit_from}
+use Rattle.hd_dbd.specs.DatabaseRules.{well_formed}
 use Rattle.hd_dbd.proofs.Levels.{type_of-later}
 use Rattle.hd_dbd.proofs.Tables.{length-table_from, slice_get-table_from}
 use Rattle.hd_dbd.proofs.Fitting.{type_of-fits, size_part, size_fits, types_fit}

@@ -9,6 +9,10 @@ use Rattle.hd_dbd.specs.Hierarchy.{type_of, parent_of}
 abbrev pub keeps_backward : ℕ → SegmentType → Bool
 keeps_backward c t = c == 1 || t.backward
 
+-- the segments of the type of a code keep twin backward
+abbrev pub is_backward_kept : List SegmentType → ℕ → Bool
+is_backward_kept types c = option_map_or (λ t. keeps_backward c t) (type_of types c) false
+
 -- code, delete byte, twin forward and, where it is kept, twin backward
 abbrev pub twin_part : ℕ → SegmentType → ℕ
 twin_part c t = cond (keeps_backward c t) 10 6

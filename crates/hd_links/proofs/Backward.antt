@@ -3,7 +3,8 @@ use Rattle.std.proofs.Common.{◌≡◌, ℕ, zero, suc, ◌<◌, List, true, ar
 use Rattle.std.specs.Prelude.{◌==◌, ◌⊎◌}
 use Rattle.std.proofs.lemmas.Bool.{eq-eqb, ne_eqb, cond-true, cond-false}
 use Rattle.hd_dbd.specs.Types.{SegmentType}
-use Rattle.hd_links.specs.Links.{Links, IsSegment, is_child_type, is_backward_kept, is_last_kept}
+use Rattle.hd_links.specs.Links.{Links, IsSegment, is_child_type, is_last_kept}
+use Rattle.hd_dbd.specs.Prefixes.{is_backward_kept}
 use Rattle.hd_links.specs.Pointers.{IsTwinAfter, IsInChain, AreLinked}
 use Rattle.hd_links.specs.Changes.{twin_behind, CanUnlink}
 use Rattle.hd_links.proofs.Build.{zero_or}

@@ -5,7 +5,8 @@ use Rattle.std.proofs.lemmas.Bool.{cases_eq, cases_order, cases_Bool, eq-eqb, ne
 use Rattle.hd_dbd.specs.Types.{SegmentType}
 use Rattle.hd_dbd.specs.Rows.{twins_in_order}
 use Rattle.hd_dbd.specs.Forest.{Forest, empty, node}
-use Rattle.hd_links.specs.Links.{Links, IsSegment, IsLinkGraph, segment_at, child_types, is_child_type, is_backward_kept}
+use Rattle.hd_links.specs.Links.{Links, IsSegment, IsLinkGraph, segment_at, child_types, is_child_type}
+use Rattle.hd_dbd.specs.Prefixes.{is_backward_kept}
 use Rattle.hd_links.specs.Placed.{Placed, first_of, nowhere, with_node, with_nodes, NodesLie, NamesChildren}
 use Rattle.hd_links.specs.Pointers.{IsTwinAfter, IsReached, AreLinked}
 use Rattle.hd_links.proofs.Types.{Ordered, AllAbove, Ascending, is_in, in_cases, in_head, in_tail}

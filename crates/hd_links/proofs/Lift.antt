@@ -5,7 +5,8 @@ use Rattle.std.proofs.lemmas.Bool.{cases_eq, eq-eqb, ne_eqb, cond-true, cond-fal
 use Rattle.hd_dbd.specs.Types.{SegmentType}
 use Rattle.hd_dbd.specs.Segment.{Segment}
 use Rattle.hd_dbd.specs.Forest.{Forest, empty, node}
-use Rattle.hd_links.specs.Links.{Links, IsLinkGraph, is_child_type, is_backward_kept}
+use Rattle.hd_links.specs.Links.{Links, IsLinkGraph, is_child_type}
+use Rattle.hd_dbd.specs.Prefixes.{is_backward_kept}
 use Rattle.hd_links.specs.Placed.{Placed, count, first_of, nowhere, with_node, with_nodes, NodesLie, NamesChildren, Lies, Holds}
 use Rattle.hd_links.specs.Changes.{AgreeAt, change_below, with_children}
 use Rattle.hd_links.proofs.Types.{Ordered}

@@ -10,7 +10,8 @@ use Rattle.hd_dbd.specs.Segment.{Segment}
 use Rattle.hd_dbd.specs.Hierarchy.{type_of, key_in}
 use Rattle.hd_dbd.specs.Rows.{row_fits, siblings_in_order, twins_in_order, key_of}
 use Rattle.hd_dbd.specs.Forest.{Forest, empty, node}
-use Rattle.hd_links.specs.Links.{Links, IsSegment, IsLinkGraph, segment_at, is_child_type, is_backward_kept}
+use Rattle.hd_links.specs.Links.{Links, IsSegment, IsLinkGraph, segment_at, is_child_type}
+use Rattle.hd_dbd.specs.Prefixes.{is_backward_kept}
 use Rattle.hd_links.specs.Placed.{Placed, count, first_of, nowhere, with_node, with_nodes, NodesLie, NodeLies, NamesChildren, Holds}
 use Rattle.hd_links.specs.Changes.{Agree, replaced, rewritten, with_bytes, CanReplace}
 use Rattle.hd_links.proofs.Types.{Ordered}

@@ -6,7 +6,8 @@ use Rattle.hd_dbd.specs.Types.{SegmentType}
 use Rattle.hd_dbd.specs.Segment.{Segment}
 use Rattle.hd_dbd.specs.Rows.{twins_in_order}
 use Rattle.hd_dbd.specs.Forest.{Forest, empty, node}
-use Rattle.hd_links.specs.Links.{Links, IsSegment, IsLinkGraph, segment_at, is_child_type, is_backward_kept}
+use Rattle.hd_links.specs.Links.{Links, IsSegment, IsLinkGraph, segment_at, is_child_type}
+use Rattle.hd_dbd.specs.Prefixes.{is_backward_kept}
 use Rattle.hd_links.specs.Placed.{Placed, count, first_of, last_of, nowhere, with_node, with_nodes, NodesLie, NodeLies, NamesChildren, Holds}
 use Rattle.hd_links.specs.Pointers.{PointsTo, PointersAreTyped, IsTwinBefore, Precedes, TwinsLinkBack, IsReached, AreLinked}
 use Rattle.hd_links.proofs.Types.{Ordered}

@@ -3,7 +3,8 @@ use Rattle.std.specs.Prelude.{◌≡◌, ℕ, ◌<◌, List, true, false, ◌&&�
 use Rattle.hd_dbd.specs.Types.{SegmentType}
 use Rattle.hd_dbd.specs.Rows.{row_fits, twins_in_order, key_of}
 use Rattle.hd_dbd.specs.Forest.{Forest, empty, node}
-use Rattle.hd_links.specs.Links.{Links, IsSegment, segment_at, is_child_type, is_backward_kept, is_last_kept}
+use Rattle.hd_links.specs.Links.{Links, IsSegment, segment_at, is_child_type, is_last_kept}
+use Rattle.hd_dbd.specs.Prefixes.{is_backward_kept}
 use Rattle.hd_links.specs.Placed.{Placed, count}
 use Rattle.hd_links.specs.Pointers.{IsInChain}
 

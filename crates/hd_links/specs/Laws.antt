@@ -7,7 +7,8 @@ use Rattle.hd_dbd.specs.Segment.{Segment}
 use Rattle.hd_dbd.specs.Rows.{twins_in_order}
 use Rattle.hd_dbd.specs.Paths.{row_at, end_of, is_twin}
 use Rattle.hd_dbd.specs.Forest.{Forest, sequence}
-use Rattle.hd_links.specs.Links.{Links, IsLinkGraph, is_child_type, is_backward_kept, is_last_kept}
+use Rattle.hd_links.specs.Links.{Links, IsLinkGraph, is_child_type, is_last_kept}
+use Rattle.hd_dbd.specs.Prefixes.{is_backward_kept}
 use Rattle.hd_links.specs.Placed.{Placed, forest_of, count, Lies, Holds}
 use Rattle.hd_links.specs.Pointers.{IsInChain, AreLinked, PointersAreTyped, PredecessorsAreOne, IsTwinAfter}
 use Rattle.hd_links.specs.Changes.{AgreeAt, Agree, twin_behind, linked, unlinked, replaced, with_leaf, without_span, with_bytes, CanLink, CanUnlink, CanReplace}

@@ -5,7 +5,7 @@ use Rattle.std.specs.Option.{option_map_or}
 use Rattle.hd_dbd.specs.Types.{SegmentType}
 use Rattle.hd_dbd.specs.Segment.{Segment}
 use Rattle.hd_dbd.specs.Hierarchy.{type_of}
-use Rattle.hd_dbd.specs.Prefixes.{keeps_backward, children_of}
+use Rattle.hd_dbd.specs.Prefixes.{children_of}
 use Rattle.hd_dbd.specs.Rows.{row_fits}
 
 -- For each address: whether a record stands there, its code, its delete byte, the segment's bytes, twin forward, twin
@@ -37,10 +37,6 @@ child_types types c = cond (c == 0) (1 ∷ []) (children_of types c)
 -- t is a child type of c
 abbrev pub is_child_type : List SegmentType → ℕ → ℕ → Bool
 is_child_type types c t = list_any (λ u. u == t) (child_types types c)
-
--- the segments of the type keep twin backward
-abbrev pub is_backward_kept : List SegmentType → ℕ → Bool
-is_backward_kept types c = option_map_or (λ t. keeps_backward c t) (type_of types c) false
 
 -- the parents of the type's segments keep last child; the header always keeps last root
 abbrev pub is_last_kept : List SegmentType → ℕ → Bool

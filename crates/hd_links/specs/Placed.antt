@@ -3,7 +3,8 @@ use Rattle.std.specs.Prelude.{◌≡◌, ℕ, ◌+◌, List, true, ◌==◌, con
 use Rattle.hd_dbd.specs.Types.{SegmentType}
 use Rattle.hd_dbd.specs.Segment.{Segment}
 use Rattle.hd_dbd.specs.Forest.{Forest, empty, node, forest_fits}
-use Rattle.hd_links.specs.Links.{Links, IsSegment, is_child_type, is_backward_kept, is_last_kept}
+use Rattle.hd_links.specs.Links.{Links, IsSegment, is_child_type, is_last_kept}
+use Rattle.hd_dbd.specs.Prefixes.{is_backward_kept}
 
 -- A segment and its address.
 pub record Placed : Type 0 where

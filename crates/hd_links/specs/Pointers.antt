@@ -2,7 +2,8 @@
 use Rattle.std.specs.Prelude.{◌≡◌, ℕ, zero, suc, ◌<◌, List, true, ◌⊎◌}
 use Rattle.hd_dbd.specs.Types.{SegmentType}
 use Rattle.hd_dbd.specs.Rows.{twins_in_order}
-use Rattle.hd_links.specs.Links.{Links, IsSegment, segment_at, is_child_type, is_backward_kept, is_last_kept}
+use Rattle.hd_links.specs.Links.{Links, IsSegment, segment_at, is_child_type, is_last_kept}
+use Rattle.hd_dbd.specs.Prefixes.{is_backward_kept}
 
 -- A pointer is 0, or it names a segment of the type.
 abbrev pub PointsTo : Links → ℕ → ℕ → Type 0

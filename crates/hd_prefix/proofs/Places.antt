@@ -13,7 +13,8 @@ use Rattle.hd_dbd.proofs.Fitting.{types_fit, size_fits, size_bound}
 use Rattle.hd_prefix.proofs.Sizes.{stored_long}
 use Rattle.hd_prefix.specs.declared.pointer.Pointer.{Pointer}
 use Rattle.hd_prefix.specs.declared.pointer.Pointer.TheVariants.{TwinForward, TwinBackward, FirstChild, LastChild}
-use Rattle.hd_prefix.specs.Pointers.{is_backward_kept, is_last_kept, is_child, place_of, IsApart}
+use Rattle.hd_prefix.specs.Pointers.{is_last_kept, is_child, place_of, IsApart}
+use Rattle.hd_dbd.specs.Prefixes.{is_backward_kept}
 use Rattle.hd_prefix.proofs.Children.{IsChild, child_is, prefix_is, child_before, child_inside}
 
 -- What is known of a pointer that stands at a place.

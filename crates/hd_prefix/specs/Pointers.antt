@@ -3,13 +3,9 @@ use Rattle.std.specs.Prelude.{◌⊎◌, ℕ, ◌+◌, ◌≤◌, List, Bool, fa
 use Rattle.std.specs.Option.{option_map_or}
 use Rattle.hd_dbd.specs.Types.{SegmentType}
 use Rattle.hd_dbd.specs.Hierarchy.{type_of, parent_of}
-use Rattle.hd_dbd.specs.Prefixes.{keeps_backward, pointers_at}
+use Rattle.hd_dbd.specs.Prefixes.{is_backward_kept, pointers_at}
 use Rattle.hd_prefix.specs.declared.pointer.Pointer.{Pointer}
 use Rattle.hd_prefix.specs.declared.pointer.Pointer.TheVariants.{TwinForward, TwinBackward, FirstChild, LastChild}
-
--- the segments of the type of code c keep twin backward
-abbrev pub is_backward_kept : List SegmentType → ℕ → Bool
-is_backward_kept types c = option_map_or (λ t. keeps_backward c t) (type_of types c) false
 
 -- the parents of segments of the type of code t keep last child for them
 abbrev pub is_last_kept : List SegmentType → ℕ → Bool

@@ -3,7 +3,8 @@ ghost use Rattle.hd_bytes.specs.Ranges.{ChangesOnly};
 ghost use Rattle.hd_dbd.specs.Prefixes.{prefix_length, stored_size};
 ghost use Rattle.hd_prefix.specs.declared.pointer.Pointer.{Pointer};
 ghost use Rattle.hd_prefix.specs.declared.pointer.Pointer.TheVariants.{TwinForward, TwinBackward, FirstChild, LastChild};
-ghost use Rattle.hd_prefix.specs.Pointers.{is_backward_kept, is_last_kept, is_child, place_of, IsApart};
+ghost use Rattle.hd_prefix.specs.Pointers.{is_last_kept, is_child, place_of, IsApart};
+ghost use Rattle.hd_dbd.specs.Prefixes.{is_backward_kept};
 ghost use Rattle.hd_prefix.specs.Fields.{pointer_of, length_of, bytes_of, new_segment, IsPointerSet};
 
 use crate::pointer::Pointer;
