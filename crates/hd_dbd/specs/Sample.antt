@@ -44,11 +44,12 @@ sample_pcbs =
     record { procopt = codes "AP"; sens = all_seen } ∷ record { procopt = codes "A"; sens = all_seen }
     ∷ record { procopt = codes "A"; sens = all_but_students } ∷ []
 
--- the rows, in hierarchic sequence
-abbrev pub row : ℕ → List ℕ → Segment
-row code bytes = record { code = code; bytes = bytes }
+-- a segment of the type of a code
+abbrev pub of_type : ℕ → List ℕ → Segment
+of_type code bytes = record { code = code; bytes = bytes }
 
+-- the rows, in hierarchic sequence
 abbrev pub sample_rows : List Segment
 sample_rows =
-    row 1 (codes "101ALGEB") ∷ row 2 (codes "01AB") ∷ row 3 (codes "ADAM01") ∷ row 3 (codes "EVE 02") ∷ row 2 (codes "02CD")
-    ∷ row 4 (codes "EULER") ∷ row 1 (codes "205LOGIC") ∷ []
+    of_type 1 (codes "101ALGEB") ∷ of_type 2 (codes "01AB") ∷ of_type 3 (codes "ADAM01") ∷ of_type 3 (codes "EVE 02") ∷ of_type 2 (codes "02CD")
+    ∷ of_type 4 (codes "EULER") ∷ of_type 1 (codes "205LOGIC") ∷ []

@@ -157,20 +157,20 @@ formed_first types m c b p (node r k n) s F q T = elim (cases_Bool (nat_lt r.seg
 pub formed_behind : (types : List SegmentType) (m : Links) (c y : ℕ) (b : ℕ → ℕ) (p : Placed) (K : Forest Placed) → NodesLie types m b K → Formed types c K → is_child_type types c p.segment.code ≡ true
     → m.code y ≡ p.segment.code → twins_in_order types (segment_at m y) p.segment ≡ true
     → (0 < m.forward y → twins_in_order types p.segment (segment_at m (m.forward y)) ≡ true) → Formed types c (put_behind y p K)
-formed_behind types m c y b p empty s F q cy T1 T2 = tt
-formed_behind types m c y b p (node r k n) s F q cy T1 T2 = elim (cases_eq r.address y) [
+formed_behind types m c y b p empty s F q cy earlier later = tt
+formed_behind types m c y b p (node r k n) s F q cy earlier later = elim (cases_eq r.address y) [
   | inl e ↦
       (let code : r.segment.code ≡ p.segment.code = sym s.0.code ∙ ap m.code e ∙ cy in
       let own : segment_at m y ≡ r.segment = ap (segment_at m) (sym e) ∙ segment_is types m b r k n s.0 in
       let fw : m.forward y ≡ first_of n p.segment.code = ap m.forward (sym e) ∙ s.0.forward ∙ ap (first_of n) code in
       subst (Formed types c) (sym (cond-true (r.address == y) (node r k (node p empty n)) (node r k (put_behind y p n)) (eq-eqb r.address y e))) (
         F.0,
-        key_follows types r.segment p.segment (ap (λ x. twins_in_order types x p.segment) (sym own) ∙ T1) code,
+        key_follows types r.segment p.segment (ap (λ x. twins_in_order types x p.segment) (sym own) ∙ earlier) code,
         F.2,
-        (q, head n s.2 F.1 code (subst (λ x. 0 < x → twins_in_order types p.segment (segment_at m x) ≡ true) fw T2), tt, F.3),
+        (q, head n s.2 F.1 code (subst (λ x. 0 < x → twins_in_order types p.segment (segment_at m x) ≡ true) fw later), tt, F.3),
       ))
   | inr ne ↦ subst (Formed types c) (sym (cond-false (r.address == y) (node r k (node p empty n)) (node r k (put_behind y p n)) (ne_eqb r.address y ne)))
-      (F.0, same n ∙ F.1, F.2, formed_behind types m c y (with_node b r) p n s.2 F.3 q cy T1 T2)
+      (F.0, same n ∙ F.1, F.2, formed_behind types m c y (with_node b r) p n s.2 F.3 q cy earlier later)
 ]
   where
     head : (n : Forest Placed) → NodesLie types m (with_node b r) n → is_behind types (Some r.segment) n ≡ true → r.segment.code ≡ p.segment.code

@@ -4,7 +4,7 @@ use Rattle.std.specs.Prelude.{◌==◌, codes}
 use Rattle.std.proofs.lemmas.Bool.{cases_eq, eq-eqb, ne_eqb, cond-true, cond-false}
 use Rattle.hd_dbd.specs.Segment.{Segment}
 use Rattle.hd_dbd.specs.Rows.{row_fits}
-use Rattle.hd_dbd.specs.Sample.{sample_types, sample_rows, row}
+use Rattle.hd_dbd.specs.Sample.{sample_types, sample_rows, of_type}
 use Rattle.hd_dbd.specs.Forest.{Forest, empty, node}
 use Rattle.hd_dbd.proofs.WorkedSample.{sample_is_well_formed}
 use Rattle.hd_links.specs.Links.{Links, IsSegment, IsLinkGraph, segment_at, is_last_kept}
@@ -46,11 +46,11 @@ at a s = record { address = a; segment = s }
 
 abbrev sample_forest : Forest Placed
 sample_forest =
-    node (at 136 (row 1 (codes "101ALGEB")))
-    (node (at 176 (row 2 (codes "01AB")))
-    (node (at 200 (row 3 (codes "ADAM01"))) empty (node (at 216 (row 3 (codes "EVE 02"))) empty empty))
-    (node (at 232 (row 2 (codes "02CD"))) empty (node (at 264 (row 4 (codes "EULER"))) empty empty)))
-    (node (at 280 (row 1 (codes "205LOGIC"))) empty empty)
+    node (at 136 (of_type 1 (codes "101ALGEB")))
+    (node (at 176 (of_type 2 (codes "01AB")))
+    (node (at 200 (of_type 3 (codes "ADAM01"))) empty (node (at 216 (of_type 3 (codes "EVE 02"))) empty empty))
+    (node (at 232 (of_type 2 (codes "02CD"))) empty (node (at 264 (of_type 4 (codes "EULER"))) empty empty)))
+    (node (at 280 (of_type 1 (codes "205LOGIC"))) empty empty)
 
 -- its rows are the sample's
 sample_sequence : rows_of sample_forest ≡ sample_rows
@@ -87,7 +87,7 @@ book : (a : ℕ) (f : Forest Placed) → NamesChildren sample_types image 4 a f
 book a f = record { first = λ t q. cc; last = λ t q kept. cc }
 
 students : Forest Placed
-students = node (at 200 (row 3 (codes "ADAM01"))) empty (node (at 216 (row 3 (codes "EVE 02"))) empty empty)
+students = node (at 200 (of_type 3 (codes "ADAM01"))) empty (node (at 216 (of_type 3 (codes "EVE 02"))) empty empty)
 
 -- it lies in the records
 sample_lies : Lies sample_types image sample_forest
