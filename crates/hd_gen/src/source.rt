@@ -70,7 +70,7 @@ fn draft_of(alloc: Global, kind: &Kind, bytes: &[u8]) -> Result<Draft, GenFault>
     ensures fault { IfErr result (λ e. e ≢ GenFault.Memory → draft_of kind.now bytes.now ≡ Err e) }
 {
     let statements = statements_in(alloc, bytes)?;
-    read_statements(alloc, kind, line_behind(bytes), &statements)
+    read_statements(alloc, kind, bytes, &statements)
 }
 
 /// The statements of a source, or the first fault of its lines.
@@ -99,15 +99,15 @@ fn line_behind(bytes: &[u8]) -> usize
     number
 }
 
-/// What statements say from the beginning on; `end` is the number of the line behind the last.
+/// What the statements of a source say from the beginning on.
 fn read_statements(
     alloc: Global,
     kind: &Kind,
-    end: usize,
+    bytes: &[u8],
     statements: &[Statement],
 ) -> Result<Draft, GenFault>
-    ensures draft { IfOk result (λ d. draft_from kind.now end (record { stage = Stage.Start; draft = empty_draft }) statements.now ≡ Ok d) }
-    ensures fault { IfErr result (λ e. e ≢ GenFault.Memory → draft_from kind.now end (record { stage = Stage.Start; draft = empty_draft }) statements.now ≡ Err e) }
+    ensures draft { IfOk result (λ d. draft_from kind.now (line_behind bytes.now) (record { stage = Stage.Start; draft = empty_draft }) statements.now ≡ Ok d) }
+    ensures fault { IfErr result (λ e. e ≢ GenFault.Memory → draft_from kind.now (line_behind bytes.now) (record { stage = Stage.Start; draft = empty_draft }) statements.now ≡ Err e) }
 {
     let mut progress = Progress {
         stage: Stage::Start,
@@ -119,7 +119,7 @@ fn read_statements(
     if is_complete(progress.stage) {
         Ok(progress.draft)
     } else {
-        Err(GenFault::G2(end))
+        Err(GenFault::G2(line_behind(bytes)))
     }
 }
 
