@@ -70,3 +70,6 @@ pub fn rows(alloc: Global) -> Result<Vec<Row>, AllocError> {
     rows.push(row(alloc, 1, b"205LOGIC")?)?;
     Ok(rows)
 }
+
+#[cfg(test)]
+mod tests;
