@@ -71,9 +71,9 @@ pub record IsFreed (old : VolumeState) (address : ℕ) (new : VolumeState) : Typ
   pub hole : (s : List ℕ) → find old address ≡ Some s → HasHole new (length s)
   pub holes : KeepsHoles old new
 
--- The volume may have grown by a block.
-pub record MayGrow (old new : VolumeState) : Type 0 where
-  pub count : ((header_of new.image).count ≡ (header_of old.image).count) ⊎ ((header_of new.image).count ≡ (header_of old.image).count + 1)
+-- The volume has not grown, or it has by block n.
+pub record MayGrow (old : VolumeState) (n : ℕ) (new : VolumeState) : Type 0 where
+  pub count : ((header_of new.image).count ≡ (header_of old.image).count) ⊎ ((n ≡ (header_of old.image).count) × ((header_of new.image).count ≡ (header_of old.image).count + 1))
   pub header : header_of new.image ≡ record (header_of old.image) { count = (header_of new.image).count }
 
 -- A segment was put at an address where there was none, in a block that was for data, was free, or is new; no other block
@@ -86,7 +86,7 @@ pub record IsPut (old : VolumeState) (address : ℕ) (bytes : List ℕ) (new : V
   pub is : find new address ≡ Some bytes
   pub others : KeepsOthers old new address
   pub index : KeepsIndex old new
-  pub grows : MayGrow old new
+  pub grows : MayGrow old (address / old.size) new
   pub spares : spare old ≤ spare new + 1
   pub in_hole : HasHole old (length bytes) → spare new ≡ spare old
   pub holes : (n : ℕ) → length bytes < n → HasHole old n → HasHole new (n - length bytes)
@@ -101,7 +101,7 @@ pub record IsTakenBlock (old : VolumeState) (n level : ℕ) (new : VolumeState) 
   pub others : (m : ℕ) → HasBlock old.size old.image m → 0 < m → m ≢ n → block_at new m ≡ block_at old m
   pub segments : KeepsSegments old new
   pub index : KeepsIndex old new
-  pub grows : MayGrow old new
+  pub grows : MayGrow old n new
   pub spares : spare old ≡ spare new + 1
   pub holes : KeepsHoles old new
 

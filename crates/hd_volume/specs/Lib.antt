@@ -6,6 +6,7 @@ pub mod Headers
 pub mod Volumes
 pub mod Records
 pub mod Entries
+pub mod Indexes
 pub mod Rooms
 pub mod Spaces
 pub mod Calls

@@ -32,7 +32,7 @@ pub record HasFree (old : VolumeState) (n : ℕ) (new : VolumeState) : Type 0 wh
   pub is : IsKind new 3 n
   pub was : (IsKind old 3 n) ⊎ (n ≡ (header_of old.image).count)
   pub others : (m : ℕ) → HasBlock old.size old.image m → 0 < m → block_at new m ≡ block_at old m
-  pub grows : MayGrow old new
+  pub grows : MayGrow old n new
   pub segments : KeepsSegments old new
   pub spares : spare new ≡ spare old
   pub holes : KeepsHoles old new
@@ -60,7 +60,7 @@ pub record IsReady (old : VolumeState) (n need : ℕ) (new : VolumeState) : Type
   pub room : HasRoom new n need
   pub segments : KeepsSegments old new
   pub index : KeepsIndex old new
-  pub grows : MayGrow old new
+  pub grows : MayGrow old n new
   pub spares : spare old ≤ spare new + 1
   pub in_hole : HasHole old need → spare new ≡ spare old
   pub holes : KeepsHoles old new

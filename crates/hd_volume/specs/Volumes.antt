@@ -1,5 +1,5 @@
 -- What callers see of a volume, and its kinds of block.
-use Rattle.std.specs.Prelude.{◌≡◌, ℕ, ◌<◌, Bool, List, slice_index}
+use Rattle.std.specs.Prelude.{◌≡◌, ◌⊎◌, ℕ, ◌<◌, Bool, List, slice_index}
 use Rattle.hd_bytes.specs.Blocks.{block_of, HasBlock}
 use Rattle.hd_block.specs.Extents.{Extent, IsDivided, AreWhole}
 use Rattle.hd_volume.specs.Headers.{HasHeader}
@@ -43,3 +43,7 @@ pub record HasExtents (sizes : ℕ → ℕ) (block : List ℕ) : Type 0 where
 pub record IsFormatted (v : VolumeState) : Type 0 where
   pub header : HasHeader v.size v.image
   pub divided : (n : ℕ) → IsKind v 1 n → HasExtents (slice_index v.sizes) (block_at v n)
+
+-- Each block behind block 0 is one for data, for the index, or free.
+abbrev pub HasKinds : VolumeState → Type 0
+HasKinds v = (n : ℕ) → HasBlock v.size v.image n → 0 < n → IsKind v 1 n ⊎ IsKind v 2 n ⊎ IsKind v 3 n

@@ -67,11 +67,12 @@ impl<S: BlockStore> Volume<S> {
         Ok(())
     }
 
-    /// Grows the volume by a free block.
-    fn extend(&mut self) -> Result<(), Refused>
+    /// Grows the volume by a free block, and says its number.
+    fn extend(&mut self) -> Result<u32, Refused>
         requires formatted { IsTrue self.old.is_sound → IsFormatted self.old }
         ensures call { IsCall self.old result self.new }
-        ensures grown { OnOk result (IsTrue self.old.is_sound → HasFree self.old (header_of self.old.image).count self.new) }
+        ensures free { IfOk result (λ n. IsTrue self.old.is_sound → HasFree self.old n self.new) }
+        ensures small { IfOk result (λ n. n < 65536) }
         ensures kept { IfErr result (λ _. IsTrue self.new.is_sound → self.new.image ≡ self.old.image) }
         ensures full { IfErr result (λ e. e ≡ Refused.Full → IsTrue self.old.is_sound → (header_of self.old.image).largest ≤ (header_of self.old.image).count) }
         ensures memory { IfErr result (λ e. e ≡ Refused.Memory → self.old.room ≡ 0) }
@@ -88,7 +89,7 @@ impl<S: BlockStore> Volume<S> {
         self.blocks.fetch(n)?;
         self.blocks.write_hand(2, &[FREE]);
         add_free(&mut self.space);
-        Ok(())
+        Ok(n)
     }
 
     /// The blocks to spare: those by which the volume may still grow, and the free ones.
@@ -143,28 +144,7 @@ impl<S: BlockStore> Volume<S> {
     {
         match self.lowest_free() {
             Some(n) => Ok(n),
-            None => self.grown_block(),
-        }
-    }
-
-    /// The lowest free block of the volume grown by one.
-    fn grown_block(&mut self) -> Result<u32, Refused>
-        requires formatted { IsTrue self.old.is_sound → IsFormatted self.old }
-        ensures call { IsCall self.old result self.new }
-        ensures free { IfOk result (λ n. IsTrue self.old.is_sound → HasFree self.old n self.new) }
-        ensures small { IfOk result (λ n. n < 65536) }
-        ensures kept { IfErr result (λ _. IsTrue self.new.is_sound → self.new.image ≡ self.old.image) }
-        ensures full { IfErr result (λ e. e ≡ Refused.Full → IsTrue self.old.is_sound → (header_of self.old.image).largest ≤ (header_of self.old.image).count) }
-        ensures memory { IfErr result (λ e. e ≡ Refused.Memory → self.old.room ≡ 0) }
-        ensures refusal { IfErr result (λ e. (e ≡ Refused.Memory) ⊎ (e ≡ Refused.Full) ⊎ (e ≡ Refused.Device)) }
-        ensures room { IsTrue self.new.is_sound → self.old.room ≤ self.new.room + 1 }
-        ensures some { 0 < self.old.size }
-    {
-        let _ = &self.blocks;
-        self.extend()?;
-        match self.lowest_free() {
-            Some(n) => Ok(n),
-            None => Ok(0),
+            None => self.extend(),
         }
     }
 

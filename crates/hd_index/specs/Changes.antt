@@ -1,0 +1,28 @@
+-- What a change of the index does to the rest of a volume.
+use Rattle.std.specs.Prelude.{◌≡◌, ℕ, ◌≤◌, List}
+use Rattle.hd_dbd.specs.Hierarchy.{Database}
+use Rattle.hd_volume.specs.Headers.{header_of}
+use Rattle.hd_volume.specs.Volumes.{VolumeState, block_at, IsKind, HasKinds}
+use Rattle.hd_volume.specs.Calls.{KeepsSegments, KeepsHoles}
+use Rattle.hd_volume.specs.Entries.{Entry, entries}
+use Rattle.hd_volume.specs.Indexes.{root_key_length, HasIndex}
+
+-- The volume is of the database's block size, and has an index for its root keys.
+pub record IsIndexOf (d : Database) (v : VolumeState) : Type 0 where
+  pub size : v.size ≡ d.block_size
+  pub index : HasIndex (root_key_length d.types) v
+
+-- the entries of the index of a database's volume, from left to right
+abbrev pub entries_for : Database → VolumeState → List Entry
+entries_for d v = entries (root_key_length d.types) v
+
+-- The index has changed: all segments and data blocks stay, no other block has become one for data, and of the header all
+-- but the count, the top and the height.
+pub record IsIndexChange (old new : VolumeState) : Type 0 where
+  pub segments : KeepsSegments old new
+  pub data : (n : ℕ) → IsKind old 1 n → block_at new n ≡ block_at old n
+  pub others : (n : ℕ) → IsKind new 1 n → IsKind old 1 n
+  pub kinds : HasKinds old → HasKinds new
+  pub count : (header_of old.image).count ≤ (header_of new.image).count
+  pub header : header_of new.image ≡ record (header_of old.image) { count = (header_of new.image).count; top = (header_of new.image).top; height = (header_of new.image).height }
+  pub holes : KeepsHoles old new

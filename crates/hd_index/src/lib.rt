@@ -1,0 +1,8 @@
+//! The root index of a volume: an ordered map from the roots' keys to their addresses.
+#![tactic(auto)]
+
+mod change;
+mod search;
+
+pub use change::{insert, remove};
+pub use search::{find, next_from};
