@@ -1,0 +1,4 @@
+pub mod Records
+pub mod Pointing
+pub mod Holding
+pub mod Laws
