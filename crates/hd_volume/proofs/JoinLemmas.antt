@@ -19,7 +19,7 @@ use Rattle.hd_volume.specs.Steps as step
 use Rattle.hd_volume.proofs.FrameLemmas.{AreSame, block-seen}
 use Rattle.hd_volume.proofs.MapLemmas.{kind-there}
 use Rattle.std.proofs.lemmas.Nat.{row_fits}
-use Rattle.hd_volume.proofs.KindLemmas.{below-count, none-free, some-free}
+use Rattle.hd_volume.proofs.KindLemmas.{none-free, some-free}
 
 -- ---- one image
 
@@ -66,8 +66,8 @@ module _ {v w : VolumeState} (o : AreOne v w) where
   pub one-holes : KeepsHoles v w
   one-holes k h = let r = one-room h.block k (record { is_data = h.is_data; large = h.large }) in record { block = h.block; is_data = r.is_data; large = r.large }
 
-  pub one-grows : MayGrow v w
-  one-grows =
+  pub one-grows : (n : ℕ) → MayGrow v n w
+  one-grows n =
       let same : header_of w.image ≡ header_of v.image = ap header_of o.image in
       let count : (header_of w.image).count ≡ (header_of v.image).count = ap (λ (h : Header). h.count) same in
       record { count = inl count; header = same ∙ (let e : header_of v.image ≡ record (header_of v.image) { count = (header_of w.image).count } = rw count refl in e) }
@@ -82,7 +82,7 @@ module _ {v w : VolumeState} (o : AreOne v w) where
     room = one-room n need r;
     segments = one-segments;
     index = λ m k. one-block m;
-    grows = one-grows;
+    grows = one-grows n;
     spares = (let e = one-spare in omega arith);
     in_hole = λ _. one-spare;
     holes = one-holes;
@@ -95,7 +95,7 @@ module _ {v w : VolumeState} (o : AreOne v w) where
     is = one-kind 3 n k;
     was = inl k;
     others = λ m there later. one-block m;
-    grows = one-grows;
+    grows = one-grows n;
     segments = one-segments;
     spares = one-spare;
     holes = one-holes;
@@ -109,32 +109,13 @@ module _ {v w : VolumeState} (o : AreOne v w) where
     was = elim h.was [ inl k ↦ inl (one-back 3 n k) | inr e ↦ inr (e ∙ ap (λ (i : List ℕ). (header_of i).count) o.image) ];
     others = λ m there later. h.others m (let l : length w.image ≡ length v.image = ap length o.image in rw o.same.size (omega arith)) later ∙ one-block m;
     grows = record {
-      count = (let C : List ℕ → Type 0 = λ i. ((header_of u.image).count ≡ (header_of i).count) ⊎ ((header_of u.image).count ≡ (header_of i).count + 1) in subst C o.image h.grows.count);
+      count = (let C : List ℕ → Type 0 = λ i. ((header_of u.image).count ≡ (header_of i).count) ⊎ ((n ≡ (header_of i).count) × ((header_of u.image).count ≡ (header_of i).count + 1)) in subst C o.image h.grows.count);
       header = (let H : List ℕ → Type 0 = λ i. header_of u.image ≡ record (header_of i) { count = (header_of u.image).count } in subst H o.image h.grows.header);
     };
     segments = λ b. h.segments b ∙ one-segments b;
     spares = h.spares ∙ one-spare;
     holes = λ k x. h.holes k (one-holes k x);
   }
-
--- another free block of a volume that has one serves as well
-pub free-other : {v w : VolumeState} (n m : ℕ) → AreSame v w → IsFormatted v → 0 < v.size → step.HasFree v n w → IsKind w 3 m → step.HasFree v m w
-free-other {v} {w} n m s f positive h k =
-    elim (cases_lt m (header_of v.image).count) [
-      | inl low ↦
-          (let there : HasBlock v.size v.image m = counted v f positive m low in
-          let was : IsKind v 3 m = record { there = there; later = k.later; kind_is = sym (ap kind_of (h.others m there k.later)) ∙ k.kind_is } in
-          record { formatted = h.formatted; is = k; was = inl was; others = h.others; grows = h.grows; segments = h.segments; spares = h.spares; holes = h.holes })
-      | inr high ↦
-          (let low = below-count w m h.formatted.header (rw s.size positive) k.there in
-          let last : m ≡ (header_of v.image).count = elim h.grows.count [ inl e ↦ omega arith | inr e ↦ omega arith ] in
-          record { formatted = h.formatted; is = k; was = inr last; others = h.others; grows = h.grows; segments = h.segments; spares = h.spares; holes = h.holes })
-    ]
-  where
-    counted : (v : VolumeState) → IsFormatted v → 0 < v.size → (m : ℕ) → m < (header_of v.image).count → HasBlock v.size v.image m
-    counted v f positive m low =
-        let fits : m * v.size + v.size ≤ (header_of v.image).count * v.size = row_fits m v.size (header_of v.image).count v.size low (omega arith) in
-        let whole = f.header.whole in omega arith
 
 -- with no free block and no room to grow there is none to spare
 pub no-spare : (v : VolumeState) → IsFormatted v → 0 < v.size → (header_of v.image).largest ≤ (header_of v.image).count → ((m : ℕ) → IsKind v 3 m → ⊥) → spare v ≡ 0
@@ -156,7 +137,7 @@ free-longer {u} {v} n f h size =
     let b : length v.image ≡ (header_of v.image).count * u.size = h.formatted.header.whole ∙ (let e : (header_of v.image).count * v.size ≡ (header_of v.image).count * u.size = rw size refl in e) in
     elim h.grows.count [
       | inl e ↦ (let same-count : (header_of v.image).count * u.size ≡ (header_of u.image).count * u.size = ap (λ (i : ℕ). i * u.size) e in omega arith)
-      | inr e ↦ (let more-count : (header_of v.image).count * u.size ≡ ((header_of u.image).count + 1) * u.size = ap (λ (i : ℕ). i * u.size) e in omega arith)
+      | inr e ↦ (let more-count : (header_of v.image).count * u.size ≡ ((header_of u.image).count + 1) * u.size = ap (λ (i : ℕ). i * u.size) e.1 in omega arith)
     ]
 
 -- and so are its blocks
@@ -215,7 +196,7 @@ put-from {u} {v} {w} n need a bs size s r p need-is =
           let there : HasBlock v.size v.image k = kind-there v.size k (header_of v.image).count 2 v.image r.formatted.header.whole (λ e. omega arith) two in
           block-seen s k ∙ p.block.others k there apart ∙ first;
       grows = record {
-        count = rw count r.grows.count;
+        count = (let C : ℕ → Type 0 = λ k. ((header_of v.image).count ≡ (header_of u.image).count) ⊎ ((k ≡ (header_of u.image).count) × ((header_of v.image).count ≡ (header_of u.image).count + 1)) in rw count (subst C (sym at) r.grows.count));
         header = same ∙ r.grows.header ∙ (let e : record (header_of u.image) { count = (header_of v.image).count } ≡ record (header_of u.image) { count = (header_of w.image).count } = rw count refl in e);
       };
       spares = (let x = r.spares in let y = p.spares in omega arith);
@@ -341,7 +322,7 @@ ready-after {v} {w} {u} o n need r = record {
   segments = λ b. r.segments b ∙ one-segments o b;
   index = λ m k. r.index m (one-kind o 2 m k) ∙ one-block o m;
   grows = record {
-    count = (let C : List ℕ → Type 0 = λ i. ((header_of u.image).count ≡ (header_of i).count) ⊎ ((header_of u.image).count ≡ (header_of i).count + 1) in subst C o.image r.grows.count);
+    count = (let C : List ℕ → Type 0 = λ i. ((header_of u.image).count ≡ (header_of i).count) ⊎ ((n ≡ (header_of i).count) × ((header_of u.image).count ≡ (header_of i).count + 1)) in subst C o.image r.grows.count);
     header = (let H : List ℕ → Type 0 = λ i. header_of u.image ≡ record (header_of i) { count = (header_of u.image).count } in subst H o.image r.grows.header);
   };
   spares = (let e = one-spare o in let s = r.spares in omega arith);
@@ -365,7 +346,7 @@ taken-block {u} {v} {w} n level t s f h m =
     let b : length v.image ≡ (header_of v.image).count * u.size = h.formatted.header.whole ∙ (let e : (header_of v.image).count * v.size ≡ (header_of v.image).count * u.size = rw t.size refl in e) in
     elim h.grows.count [
       | inl e ↦ (let same-count : (header_of v.image).count * u.size ≡ (header_of u.image).count * u.size = ap (λ (k : ℕ). k * u.size) e in omega arith)
-      | inr e ↦ (let more-count : (header_of v.image).count * u.size ≡ ((header_of u.image).count + 1) * u.size = ap (λ (k : ℕ). k * u.size) e in omega arith)
+      | inr e ↦ (let more-count : (header_of v.image).count * u.size ≡ ((header_of u.image).count + 1) * u.size = ap (λ (k : ℕ). k * u.size) e.1 in omega arith)
     ]) in
     let there = λ (k : ℕ) (x : HasBlock u.size u.image k). (let y : HasBlock v.size v.image k = rw t.size (omega arith) in y) in
     let others = λ (k : ℕ) (x : HasBlock u.size u.image k) (later : 0 < k) (apart : k ≢ n). (let y : block_at w k ≡ block_at u k = block-seen s k ∙ m.made.block.others k (there k x) apart ∙ h.others k x later in y) in

@@ -70,8 +70,8 @@ invariant_of-self-2 g c =
           (let l = low.0 in omega arith) (let l = low.1 in let m = c.make_room.ensures.len in omega arith));
     }
 
-pub returns-clause-grown : goal.returns-clause-grown
-returns-clause-grown g c =
+pub returns-clause-free : goal.returns-clause-free
+returns-clause-free g c =
     let room : ℕ = room_for c.self.inside.blocks.room (vec_len c.self.inside.space.contents) (vec_capacity c.self.inside.space.contents) in
     let v : VolumeState = volume_of c.self.inside.blocks c.self.inside.sizes.items room in
     let F : VolumeState → Type 0 = λ u. IsTrue u.is_sound → IsFormatted u in
@@ -86,7 +86,7 @@ returns-clause-grown g c =
     let n : ℕ = (header_of v.image).count in
     let room2 : ℕ = room_for c.write_hand.new.self.room (vec_len c.add_free.new.space.contents) (vec_capacity c.add_free.new.space.contents) in
     let w : VolumeState = volume_of c.write_hand.new.self c.self.inside.sizes.items room2 in
-    let P : VolumeState → Type 0 = λ u. IsTrue u.is_sound → HasFree u (header_of u.image).count w in
+    let P : VolumeState → Type 0 = λ u. IsTrue u.is_sound → HasFree u c.len-n.result w in
     subst P c.self.view_is
     (λ before.
     let f : IsFormatted v = subst F (sym c.self.view_is) c.requires.formatted before in
@@ -113,4 +113,4 @@ returns-clause-grown g c =
     let below : n < (header_of v.image).largest = (let l : c.head_number.result ≡ (header_of v.image).largest = c.head_number.ensures before first in let t = c.if-n-min.false in let m = c.min.ensures in omega arith) in
     let same : AreSame v w = record { size = s4; sizes = refl } in
     let grew : IsGrown v w = is-grown v w c.grow.new.self.image c.write_head.new.self.image f (omega arith) same below i1 c2 h2 c4 h4 in
-    grown-has grew f (omega arith))
+    subst (λ (k : ℕ). HasFree v k w) (sym len) (grown-has grew f (omega arith)))
