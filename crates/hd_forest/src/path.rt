@@ -6,7 +6,7 @@ use std::marker::Model;
 const MOST_LEVELS: usize = 15;
 
 /// The addresses of a row and its parents, root first; none before the first row and behind the last.
-#[derive(Clone, Copy, Debug)]
+#[derive(Clone, Debug, Drop)]
 pub struct Path {
     addresses: [u32; 15],
     count: usize,
