@@ -197,8 +197,15 @@ pub record SameRoots (v w : VolumeState) : Type 0 where
   pub first : (header_of w.image).first_root ≡ (header_of v.image).first_root
   pub last : (header_of w.image).last_root ≡ (header_of v.image).last_root
 
--- where the same segment is found at an address, the record there says the same
-pub found-same : (types : List SegmentType) (v w : VolumeState) (b : ℕ) → SameRoots v w → find w b ≡ find v b → SameAt (links_of types v) (links_of types w) b
+-- a root, or a child
+root-same : (b x y p q : ℕ) → (b ≡ 0 → x ≡ y) → p ≡ q → cond (b == 0) x p ≡ cond (b == 0) y q
+root-same b x y p q roots same = elim (cases_eq b 0) [
+  | inl e ↦ cond-true (b == 0) x p (eq-eqb b 0 e) ∙ roots e ∙ sym (cond-true (b == 0) y q (eq-eqb b 0 e))
+  | inr ne ↦ cond-false (b == 0) x p (ne_eqb b 0 ne) ∙ same ∙ sym (cond-false (b == 0) y q (ne_eqb b 0 ne))
+]
+
+-- where the same segment is found at an address, or the header has the same roots, the record there says the same
+pub found-same : (types : List SegmentType) (v w : VolumeState) (b : ℕ) → (b ≡ 0 → SameRoots v w) → find w b ≡ find v b → SameAt (links_of types v) (links_of types w) b
 found-same types v w b roots e =
     let stored : stored_at w b ≡ stored_at v b = ap (λ o. option_map_or (λ segment. segment) o []) e in
     record {
@@ -212,9 +219,11 @@ found-same types v w b roots e =
     same-pointers : stored_at w b ≡ stored_at v b → (pointer : Pointer) → pointer_in (links_of types w) b pointer ≡ pointer_in (links_of types v) b pointer
     same-pointers stored TwinForward = ap (λ s. pointer_of types (code_of s) TwinForward s) stored
     same-pointers stored TwinBackward = ap (λ s. pointer_of types (code_of s) TwinBackward s) stored
-    same-pointers stored (FirstChild t) = ap₂ (λ x s. cond (b == 0) x (pointer_of types (code_of s) (FirstChild t) s)) roots.first stored
-    same-pointers stored (LastChild t) = ap₂ (λ x s. cond (b == 0) x (pointer_of types (code_of s) (LastChild t) s)) roots.last stored
+    same-pointers stored (FirstChild t) =
+        root-same b (header_of w.image).first_root (header_of v.image).first_root _ _ (λ z. (roots z).first) (ap (λ s. pointer_of types (code_of s) (FirstChild t) s) stored)
+    same-pointers stored (LastChild t) =
+        root-same b (header_of w.image).last_root (header_of v.image).last_root _ _ (λ z. (roots z).last) (ap (λ s. pointer_of types (code_of s) (LastChild t) s) stored)
 
 pub records-stay : RecordsStay
 records-stay types v w segments first last b =
-    same-agree types (links_of types v) (links_of types w) b (found-same types v w b (record { first = first; last = last }) (segments b))
+    same-agree types (links_of types v) (links_of types w) b (found-same types v w b (λ _. record { first = first; last = last }) (segments b))
