@@ -1,2 +1,3 @@
 pub mod SameRecords
 pub mod Roots
+pub mod Found
