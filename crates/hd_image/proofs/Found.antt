@@ -1,28 +1,25 @@
 -- A segment that is found in a database's volume.
-use Rattle.std.proofs.Common.{◌≡◌, ◌≢◌, ℕ, ◌+◌, ◌*◌, ◌/◌, ◌%◌, ◌<◌, ◌≤◌, List, [], length, slice_index, Bool, true, false, ◌||◌, ◌==◌, refl, sym, ap, ap₂, subst, ◌∙◌, Option, Some, None, arith, IsTrue, ne_eqb, inl, inr}
+use Rattle.std.proofs.Common.{◌≡◌, ◌≢◌, ℕ, ◌+◌, ◌*◌, ◌/◌, ◌%◌, ◌<◌, ◌≤◌, List, [], length, slice_index, Bool, true, false, ◌||◌, ◌==◌, refl, sym, ap, ap₂, subst, ◌∙◌, Option, Some, None, arith, ne_eqb, inl, inr}
 use Rattle.std.specs.Prelude.{is_some}
 use Rattle.std.specs.Option.{option_map_or}
 use Rattle.std.proofs.Math.Nat.{mod-lt, zero-div}
 use Rattle.std.proofs.lemmas.Bool.{cases_eq, eq-eqb}
-use Rattle.hd_bytes.specs.Ranges.{bytes_at}
 use Rattle.hd_bytes.proofs.BlockLemmas.{byte-at, length-bytes_at, place-of}
 use Rattle.hd_dbd.specs.Types.{SegmentType}
-use Rattle.hd_dbd.specs.Segment.{Segment}
 use Rattle.hd_dbd.specs.Hierarchy.{Database, type_of}
-use Rattle.hd_dbd.specs.Prefixes.{prefix_length, rounded_up, stored_size}
+use Rattle.hd_dbd.specs.Prefixes.{prefix_length, stored_size}
 use Rattle.hd_dbd.specs.Rows.{row_fits}
-use Rattle.hd_dbd.specs.Facts.{stored_sizes}
 use Rattle.hd_dbd.proofs.StoredSizes.{stored_sizes-at, block_size-bounds}
-use Rattle.hd_volume.specs.Volumes.{VolumeState, block_at, IsFormatted}
+use Rattle.hd_volume.specs.Volumes.{VolumeState, block_at}
 use Rattle.hd_volume.specs.Records.{find}
 use Rattle.hd_volume.proofs.ExtentLemmas.{used-is, segment-some}
 use Rattle.hd_volume.proofs.MapLemmas.{find-some, find-there}
 use Rattle.hd_prefix.specs.Fields.{code_of, length_of, bytes_of}
 use Rattle.hd_prefix.proofs.Sizes.{stored_long, length_is, size_is}
-use Rattle.hd_links.specs.Links.{IsSegment, IsLinkGraph}
+use Rattle.hd_links.specs.Links.{IsSegment}
 use Rattle.hd_image.specs.Records.{stored_at, links_of, IsVolumeOf}
 use Rattle.hd_image.specs.Laws.{IsDatabase, RecordsAreALinkGraph}
-use Rattle.hd_image.proofs.Roots.{none-at_header, header-code}
+use Rattle.hd_image.proofs.Roots.{header-code}
 
 -- A segment at an address has a type and the bytes that the type's segments take, and stands in the image behind block 0.
 pub record HasSegmentOf (d : Database) (v : VolumeState) (a : ℕ) : Type 0 where

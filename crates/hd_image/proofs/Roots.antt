@@ -1,9 +1,9 @@
 -- A root that is set in the header.
-use Rattle.std.proofs.Common.{◌≡◌, ◌≢◌, ◌/◌, ℕ, List, [], Bool, true, false, ◌&&◌, ◌||◌, ◌==◌, cond, refl, sym, ap, ◌∙◌, Option, None, subst, inl, inr, ne_eqb, arith}
+use Rattle.std.proofs.Common.{◌≡◌, ℕ, List, [], true, false, ◌&&◌, ◌||◌, ◌==◌, cond, refl, sym, ap, ◌∙◌, None, subst, inl, inr, arith}
 use Rattle.std.specs.Option.{option_map_or}
 use Rattle.std.proofs.Math.Nat.{zero-div}
 use Rattle.std.proofs.Math.Bool.{or-false}
-use Rattle.std.proofs.lemmas.Bool.{cases_eq, eq-eqb, eqb-true, cond-true, cond-false, cases_Bool}
+use Rattle.std.proofs.lemmas.Bool.{cases_eq, eq-eqb, eqb-true}
 use Rattle.hd_dbd.specs.Types.{SegmentType}
 use Rattle.hd_volume.specs.Headers.{Header, header_of}
 use Rattle.hd_volume.specs.Volumes.{VolumeState}
@@ -15,8 +15,8 @@ use Rattle.hd_links.specs.Links.{Links, IsSegment, is_child_type}
 use Rattle.hd_links.specs.Changes.{AgreeAt, Agree}
 use Rattle.hd_image.specs.Laws.{SettingARootSetsAPointer}
 use Rattle.hd_image.specs.Pointing.{with_pointer}
-use Rattle.hd_image.specs.Records.{stored_at, links_of}
-use Rattle.hd_image.proofs.SameRecords.{SameAt, same-agree, elsewhere-same, found-same}
+use Rattle.hd_image.specs.Records.{links_of}
+use Rattle.hd_image.proofs.SameRecords.{same-agree, elsewhere-same, found-same}
 
 -- no segment stands at 0, where the header is
 pub none-at_header : (v : VolumeState) → find v 0 ≡ None

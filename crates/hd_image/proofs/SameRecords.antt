@@ -1,8 +1,7 @@
 -- Records that say the same, and those of which one pointer is changed.
-use Rattle.std.proofs.Common.{◌≡◌, ◌≢◌, ◌⊎◌, ℕ, List, [], Bool, true, false, ◌&&◌, ◌||◌, ◌==◌, cond, refl, sym, ap, ap₂, ◌∙◌, subst, inl, inr, Option, Some, None, ne_eqb, arith}
+use Rattle.std.proofs.Common.{◌≡◌, ◌≢◌, ◌⊎◌, ℕ, List, [], ◌&&◌, ◌||◌, ◌==◌, cond, refl, sym, ap, ◌∙◌, subst, inl, inr, ne_eqb}
 use Rattle.std.specs.Prelude.{is_some}
 use Rattle.std.specs.Option.{option_map_or}
-use Rattle.std.proofs.Math.Nat.{zero-div}
 use Rattle.std.proofs.lemmas.Bool.{cases_eq, eq-eqb, cond-true, cond-false}
 use Rattle.hd_dbd.specs.Types.{SegmentType}
 use Rattle.hd_volume.specs.Headers.{header_of}
