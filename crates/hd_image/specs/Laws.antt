@@ -1,6 +1,7 @@
 -- Laws of the records of a volume.
-use Rattle.std.specs.Prelude.{◌≡◌, ℕ, List, length, true, Some, IsTrue}
+use Rattle.std.specs.Prelude.{◌≡◌, ◌≢◌, ℕ, List, length, true, Some, None, IsTrue, ◌<◌}
 use Rattle.hd_bytes.specs.Numbers.{number_at}
+use Rattle.hd_bytes.specs.Ranges.{with_bytes}
 use Rattle.hd_dbd.specs.Types.{SegmentType}
 use Rattle.hd_dbd.specs.Hierarchy.{Database}
 use Rattle.hd_dbd.specs.DatabaseRules.{well_formed}
@@ -8,14 +9,16 @@ use Rattle.hd_dbd.specs.Segment.{Segment}
 use Rattle.hd_dbd.specs.Prefixes.{prefix_length}
 use Rattle.hd_dbd.specs.Rows.{row_fits}
 use Rattle.hd_dbd.specs.Forest.{Forest}
-use Rattle.hd_volume.specs.Headers.{header_of}
+use Rattle.hd_volume.specs.Headers.{Header, header_of}
 use Rattle.hd_volume.specs.Volumes.{VolumeState}
-use Rattle.hd_volume.specs.Calls.{IsWritten, HasNewHeader, KeepsSegments}
+use Rattle.hd_volume.specs.Records.{find}
+use Rattle.hd_volume.specs.Calls.{IsWritten, IsFreed, IsPut, HasNewHeader, KeepsSegments}
 use Rattle.hd_prefix.specs.declared.pointer.Pointer.{Pointer}
 use Rattle.hd_prefix.specs.declared.pointer.Pointer.TheVariants.{FirstChild, LastChild}
 use Rattle.hd_prefix.specs.Pointers.{place_of}
+use Rattle.hd_prefix.specs.Fields.{new_segment}
 use Rattle.hd_links.specs.Links.{IsSegment, IsLinkGraph}
-use Rattle.hd_links.specs.Changes.{Agree, replaced}
+use Rattle.hd_links.specs.Changes.{AgreeAt, Agree, replaced}
 use Rattle.hd_image.specs.Records.{links_of, IsVolumeOf}
 use Rattle.hd_image.specs.Pointing.{with_pointer}
 use Rattle.hd_image.specs.Holding.{HoldsForest}

@@ -1,5 +1,7 @@
 -- One pointer of one record changed.
-use Rattle.std.specs.Prelude.{ℕ, ◌&&◌, ◌==◌, cond}
+use Rattle.std.specs.Prelude.{ℕ, List, ◌&&◌, ◌==◌, cond}
+use Rattle.hd_dbd.specs.Types.{SegmentType}
+use Rattle.hd_dbd.specs.Prefixes.{is_backward_kept}
 use Rattle.hd_prefix.specs.declared.pointer.Pointer.{Pointer}
 use Rattle.hd_prefix.specs.declared.pointer.Pointer.TheVariants.{TwinForward, TwinBackward, FirstChild, LastChild}
 use Rattle.hd_links.specs.Links.{Links}
