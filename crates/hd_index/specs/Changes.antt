@@ -20,7 +20,7 @@ entries_for d v = entries (root_key_length d.types) v
 -- but the count, the top and the height.
 pub record IsIndexChange (old new : VolumeState) : Type 0 where
   pub segments : KeepsSegments old new
-  pub data : (n : ℕ) → IsKind old 1 n → block_at new n ≡ block_at old n
+  pub data_blocks : (n : ℕ) → IsKind old 1 n → block_at new n ≡ block_at old n
   pub others : (n : ℕ) → IsKind new 1 n → IsKind old 1 n
   pub kinds : HasKinds old → HasKinds new
   pub count : (header_of old.image).count ≤ (header_of new.image).count
