@@ -2,6 +2,8 @@
 #![tactic(auto)]
 
 mod change;
+mod entries;
+mod place;
 mod search;
 
 pub use change::{insert, remove};
