@@ -7,5 +7,5 @@ mod law;
 
 pub use law::{
     law_a_volume_holds_one_forest, law_records_are_a_link_graph, law_records_stay,
-    law_setting_a_root_sets_a_pointer,    law_writing_replaces_bytes, law_writing_sets_a_pointer,
+    law_setting_a_root_sets_a_pointer, law_writing_replaces_bytes, law_writing_sets_a_pointer,
 };
