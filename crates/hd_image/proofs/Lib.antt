@@ -3,3 +3,4 @@ pub mod Roots
 pub mod Found
 pub mod Writes
 pub mod Puts
+pub mod Empty
