@@ -1,3 +1,4 @@
 pub mod Walks
 pub mod Updates
+pub mod Sets
 pub mod Laws

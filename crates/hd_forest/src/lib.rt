@@ -6,6 +6,7 @@ mod law;
 mod path;
 mod read;
 mod walk;
+mod write;
 
 pub use change::{link, replace, unlink_span};
 pub use law::law_walking_gives_the_sequence;
