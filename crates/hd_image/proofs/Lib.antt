@@ -4,3 +4,6 @@ pub mod Found
 pub mod Writes
 pub mod Puts
 pub mod Empty
+pub mod Sorted
+pub mod RootEntries
+pub mod RightHolds
