@@ -7,3 +7,7 @@ pub mod Empty
 pub mod Sorted
 pub mod RootEntries
 pub mod RightHolds
+pub mod PointerNoFault
+pub mod BlockNoFault
+pub mod IndexNoFault
+pub mod NoFault
