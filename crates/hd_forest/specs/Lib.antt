@@ -1,4 +1,5 @@
 pub mod Walks
 pub mod Updates
 pub mod Sets
+pub mod Leaves
 pub mod Laws

@@ -3,6 +3,7 @@
 
 mod change;
 mod law;
+mod leaf;
 mod path;
 mod read;
 mod walk;
