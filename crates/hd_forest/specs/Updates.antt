@@ -6,7 +6,7 @@ use Rattle.hd_dbd.specs.Segment.{Segment}
 use Rattle.hd_dbd.specs.Prefixes.{stored_size}
 use Rattle.hd_dbd.specs.Forest.{Forest}
 use Rattle.hd_volume.specs.Headers.{header_of}
-use Rattle.hd_volume.specs.Volumes.{VolumeState, HasKinds}
+use Rattle.hd_volume.specs.Volumes.{VolumeState, IsKind, HasKinds}
 use Rattle.hd_volume.specs.Rooms.{spare, HasHole}
 use Rattle.hd_volume.specs.Calls.{KeepsIndex, KeepsHoles}
 use Rattle.hd_links.specs.Links.{Links}
@@ -20,11 +20,13 @@ use Rattle.hd_forest.specs.Walks.{tip, parent_on}
 abbrev pub MayLink : List SegmentType → Links → ℕ → ℕ → Segment → Type 0
 MayLink types m h y row = (a : ℕ) → m.here a ≡ false → CanLink types m h y (record { address = a; segment = row })
 
--- The index stays, and so does all of the header but the count and the roots; the blocks are still of the three kinds.
+-- The index stays, and so does all of the header but the count and the roots; no other block has become an index block, data
+-- blocks stay data blocks, and the blocks are still of the three kinds.
 pub record KeepsTheRest (old new : VolumeState) : Type 0 where
   pub index : KeepsIndex old new
+  pub others : (n : ℕ) → IsKind new 2 n → IsKind old 2 n
+  pub data_blocks : (n : ℕ) → IsKind old 1 n → IsKind new 1 n
   pub header : header_of new.image ≡ record (header_of old.image) { count = (header_of new.image).count; first_root = (header_of new.image).first_root; last_root = (header_of new.image).last_root }
-  pub count : (header_of old.image).count ≤ (header_of new.image).count
   pub kinds : HasKinds old → HasKinds new
 
 -- The row was linked below h behind its twin y, or as the first of its type where y is 0, and stands at the address a: the
@@ -36,6 +38,8 @@ pub record IsLinked (d : Database) (old : VolumeState) (h y : ℕ) (row : Segmen
   pub records : Agree d.types (linked (links_of d.types old) h y (record { address = a; segment = row })) (links_of d.types new)
   pub forest : (f : Forest Placed) → Holds d.types (links_of d.types old) f → Holds d.types (links_of d.types new) (with_leaf h y (record { address = a; segment = row }) f)
   pub rest : KeepsTheRest old new
+  pub count : (header_of old.image).count ≤ (header_of new.image).count
+  pub grows : (header_of new.image).count ≤ (header_of old.image).count + 1
   pub spares : spare old ≤ spare new + 1
   pub in_hole : HasHole old (stored_size d.types row.code) → spare new ≡ spare old
   pub holes : (n : ℕ) → stored_size d.types row.code < n → HasHole old n → HasHole new (n - stored_size d.types row.code)
@@ -48,6 +52,7 @@ pub record IsUnlinked (d : Database) (old : VolumeState) (path : List ℕ) (new 
       × Agree d.types (unlinked (links_of d.types old) (parent_on path) y (tip path) (without_span (parent_on path) (tip path) f)) (links_of d.types new)
   pub forest : (f : Forest Placed) → Holds d.types (links_of d.types old) f → Holds d.types (links_of d.types new) (without_span (parent_on path) (tip path) f)
   pub rest : KeepsTheRest old new
+  pub count : (header_of new.image).count ≡ (header_of old.image).count
   pub spares : spare new ≡ spare old
   pub holes : KeepsHoles old new
 
@@ -57,5 +62,6 @@ pub record IsReplaced (d : Database) (old : VolumeState) (a : ℕ) (bytes : List
   pub records : Agree d.types (replaced (links_of d.types old) a bytes) (links_of d.types new)
   pub forest : (f : Forest Placed) → Holds d.types (links_of d.types old) f → Holds d.types (links_of d.types new) (with_bytes a bytes f)
   pub rest : KeepsTheRest old new
+  pub count : (header_of new.image).count ≡ (header_of old.image).count
   pub spares : spare new ≡ spare old
   pub holes : KeepsHoles old new

