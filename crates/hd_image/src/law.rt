@@ -1,4 +1,4 @@
-ghost use Rattle.hd_image.specs.Laws.{RecordsAreALinkGraph, RecordsStay, WritingSetsAPointer, SettingARootSetsAPointer, WritingReplacesBytes, AVolumeHoldsOneForest};
+ghost use Rattle.hd_image.specs.Laws.{RecordsAreALinkGraph, RecordsStay, WritingSetsAPointer, SettingARootSetsAPointer, PuttingAddsARecord, FreeingTakesARecord, NewVolumesAreEmpty, WritingReplacesBytes, AVolumeHoldsOneForest};
 
 /// The records of a database's volume are a link graph, whose addresses are places in its image.
 pub fn law_records_are_a_link_graph()
@@ -23,6 +23,21 @@ pub fn law_setting_a_root_sets_a_pointer()
 /// A row's bytes that were written behind a segment's prefix change its bytes alone.
 pub fn law_writing_replaces_bytes()
     ensures { WritingReplacesBytes }
+{}
+
+/// A segment that was put is one record more.
+pub fn law_putting_adds_a_record()
+    ensures { PuttingAddsARecord }
+{}
+
+/// A segment that was freed is one record less.
+pub fn law_freeing_takes_a_record()
+    ensures { FreeingTakesARecord }
+{}
+
+/// A new volume holds the forest without rows.
+pub fn law_new_volumes_are_empty()
+    ensures { NewVolumesAreEmpty }
 {}
 
 /// A volume holds one forest of a database at most.

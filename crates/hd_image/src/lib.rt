@@ -6,6 +6,7 @@
 mod law;
 
 pub use law::{
-    law_a_volume_holds_one_forest, law_records_are_a_link_graph, law_records_stay,
-    law_setting_a_root_sets_a_pointer,    law_writing_replaces_bytes, law_writing_sets_a_pointer,
+    law_a_volume_holds_one_forest, law_freeing_takes_a_record, law_new_volumes_are_empty,
+    law_putting_adds_a_record, law_records_are_a_link_graph, law_records_stay,
+    law_setting_a_root_sets_a_pointer, law_writing_replaces_bytes, law_writing_sets_a_pointer,
 };

@@ -1,2 +1,4 @@
 pub mod Maps
 pub mod Changes
+pub mod Counts
+pub mod Places

@@ -2,7 +2,9 @@
 #![tactic(auto)]
 
 mod change;
+mod entries;
+mod place;
 mod search;
 
-pub use change::{insert, remove};
+pub use change::{growth, insert, lacks_room, remove};
 pub use search::{find, next_from};

@@ -153,6 +153,15 @@ impl<S: BlockStore> Volume<S> {
         Ok(self.blocks.hand())
     }
 
+    /// The bytes of a block.
+    pub fn block_size(&self) -> usize
+        ensures value { result ≡ self.now.size }
+        ensures least { 128 ≤ result }
+        ensures most { result ≤ 32768 }
+    {
+        self.blocks.block_size()
+    }
+
     /// All bytes, which need be no whole number of blocks.
     pub fn length(&self) -> u64
         ensures { IsTrue self.now.is_sound → result ≡ length self.now.image }

@@ -1,0 +1,31 @@
+-- What a well-formed database says of its root's key.
+use Rattle.std.proofs.Common.{◌≡◌, ◌+◌, ◌*◌, ◌≤◌, ℕ, List, [], ◌∷◌, true, IsTrue, Some, None, arith, refl, Option}
+use Rattle.std.specs.Prelude.{nat_le, nat_lt, ◌&&◌, not, ◌==◌, length}
+use Rattle.std.specs.Option.{option_map_or}
+use Rattle.std.proofs.lemmas.Bool.{and_parts, leb-true}
+use Rattle.hd_dbd.specs.declared.hierarchy.FreeSpace.{FreeSpace}
+use Rattle.hd_dbd.specs.declared.hierarchy.Key.{Key}
+use Rattle.hd_dbd.specs.Types.{SegmentType}
+use Rattle.hd_dbd.specs.Hierarchy.{type_of}
+use Rattle.hd_dbd.specs.DatabaseRules.{well_formed}
+use Rattle.hd_dbd.proofs.Fitting.{type_of-fits, types_fit}
+use Rattle.hd_dbd.proofs.StoredSizes.{block_size-bounds}
+use Rattle.hd_volume.specs.Indexes.{root_key_length}
+
+-- three entries find room behind the first 12 bytes of a block, and a key has at most 255 bytes
+three-of : (size : ℕ) (key : Option Key) → 128 ≤ size → option_map_or (λ k. nat_le (3 * (k.length + 4) + 12) size) key true ≡ true → option_map_or (λ k. nat_le k.length 255) key true ≡ true
+    → (3 * (option_map_or (λ k. k.length) key 0 + 4) + 12 ≤ size) × (option_map_or (λ k. k.length) key 0 ≤ 255)
+three-of size None least three short = (omega arith, omega arith)
+three-of size (Some k) least three short = (leb-true (3 * (k.length + 4) + 12) size three, leb-true k.length 255 short)
+
+root-of : (size : ℕ) (frspc : FreeSpace) (types : List SegmentType) (o : Option SegmentType) → IsTrue (well_formed size frspc types) → type_of types 1 ≡ o
+    → (3 * (option_map_or (λ t. option_map_or (λ k. k.length) t.key 0) o 0 + 4) + 12 ≤ size) × (option_map_or (λ t. option_map_or (λ k. k.length) t.key 0) o 0 ≤ 255)
+root-of size frspc types None well is = (let b = block_size-bounds size frspc types well in omega arith, omega arith)
+root-of size frspc types (Some t) well is =
+    let fits = and_parts _ _ (type_of-fits size types 1 t (types_fit size frspc types well) is) in
+    let sizes = and_parts _ _ (and_parts _ _ fits.0).1 in
+    let bounds = block_size-bounds size frspc types well in
+    three-of size t.key bounds.0 sizes.1 fits.1
+
+pub root-fits : (size : ℕ) (frspc : FreeSpace) (types : List SegmentType) → IsTrue (well_formed size frspc types) → (3 * (root_key_length types + 4) + 12 ≤ size) × (root_key_length types ≤ 255)
+root-fits size frspc types well = root-of size frspc types (type_of types 1) well refl

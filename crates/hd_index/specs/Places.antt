@@ -1,0 +1,32 @@
+-- Where a key stands or belongs in the index: the walk along the chain to its block.
+use Rattle.std.specs.Prelude.{ℕ, zero, suc, ◌+◌, ◌*◌, ◌==◌, cond, List, nat_lt}
+use Rattle.hd_bytes.specs.Numbers.{number_at}
+use Rattle.hd_volume.specs.Headers.{header_of}
+use Rattle.hd_volume.specs.Volumes.{VolumeState, block_at}
+use Rattle.hd_volume.specs.Entries.{entries_in}
+use Rattle.hd_index.specs.declared.entries.Seen.{Seen}
+use Rattle.hd_index.specs.declared.place.Place.{Place}
+use Rattle.hd_index.specs.Counts.{below_count}
+
+-- where an entry stands in its block
+abbrev pub entry_place : ℕ → ℕ → ℕ
+entry_place key_length index = 12 + index * (key_length + 4)
+
+-- how many entries of a block are below a key, and the block behind it, or 0 where not all are
+abbrev pub seen_in : ℕ → List ℕ → List ℕ → Seen
+seen_in key_length key block = record {
+  index = below_count key (entries_in key_length block);
+  next = cond (nat_lt (below_count key (entries_in key_length block)) (number_at 2 block 4)) 0 (number_at 4 block 8);
+}
+
+-- the place of a key in at most so many blocks from block n on, if one of them has an entry that is not below it; else the
+-- end of the last, or the place so far
+abbrev pub place_from : ℕ → VolumeState → List ℕ → ℕ → ℕ → Place → Place
+place_from key_length v key zero n place = place
+place_from key_length v key (suc more) n place =
+    cond (n == 0) place
+    (place_from key_length v key more (seen_in key_length key (block_at v n)).next (record { block = n; index = (seen_in key_length key (block_at v n)).index }))
+
+-- the place of a key in the index; block 0 where it has no block
+abbrev pub place_of : ℕ → VolumeState → List ℕ → Place
+place_of key_length v key = place_from key_length v key (header_of v.image).largest (header_of v.image).top (record { block = 0; index = 0 })
