@@ -11,7 +11,11 @@ use hd_dbd::{Dbd, Refused};
 use hd_volume::{BlockStore, Volume};
 
 /// The address of the next twin of a segment, 0 for none.
-pub fn next_twin<S: BlockStore>(volume: &mut Volume<S>, dbd: &Dbd, address: u32) -> Result<u32, Refused>
+pub fn next_twin<S: BlockStore>(
+    volume: &mut Volume<S>,
+    dbd: &Dbd,
+    address: u32,
+) -> Result<u32, Refused>
     requires of { IsTrue volume.old.is_sound → IsVolumeOf dbd.now volume.old }
     requires there { IsTrue volume.old.is_sound → IsSegment (links_of dbd.now.types volume.old) address }
     ensures read { IsRead volume.old result volume.new }
@@ -23,7 +27,12 @@ pub fn next_twin<S: BlockStore>(volume: &mut Volume<S>, dbd: &Dbd, address: u32)
 }
 
 /// The address of the first child of a type below a parent, 0 for none; below the address 0, the header, the first root.
-pub fn first_child<S: BlockStore>(volume: &mut Volume<S>, dbd: &Dbd, parent: u32, code: u8) -> Result<u32, Refused>
+pub fn first_child<S: BlockStore>(
+    volume: &mut Volume<S>,
+    dbd: &Dbd,
+    parent: u32,
+    code: u8,
+) -> Result<u32, Refused>
     requires of { IsTrue volume.old.is_sound → IsVolumeOf dbd.now volume.old }
     requires there { IsTrue volume.old.is_sound → (links_of dbd.now.types volume.old).here parent ≡ true }
     ensures read { IsRead volume.old result volume.new }
@@ -36,7 +45,12 @@ pub fn first_child<S: BlockStore>(volume: &mut Volume<S>, dbd: &Dbd, parent: u32
 
 /// The address of the last child of a type below a parent, 0 for none and where the type's parents do not keep it; below the
 /// address 0, the header, the last root.
-pub fn last_child<S: BlockStore>(volume: &mut Volume<S>, dbd: &Dbd, parent: u32, code: u8) -> Result<u32, Refused>
+pub fn last_child<S: BlockStore>(
+    volume: &mut Volume<S>,
+    dbd: &Dbd,
+    parent: u32,
+    code: u8,
+) -> Result<u32, Refused>
     requires of { IsTrue volume.old.is_sound → IsVolumeOf dbd.now volume.old }
     requires there { IsTrue volume.old.is_sound → (links_of dbd.now.types volume.old).here parent ≡ true }
     ensures read { IsRead volume.old result volume.new }
@@ -57,7 +71,11 @@ pub fn parent_on(path: &Path) -> u32
 
 /// The address of the twin before the last row of a path, 0 where it is the first. Where its type keeps no twin backward the
 /// twins before it are read.
-pub fn prev_twin<S: BlockStore>(volume: &mut Volume<S>, dbd: &Dbd, path: &Path) -> Result<u32, Refused>
+pub fn prev_twin<S: BlockStore>(
+    volume: &mut Volume<S>,
+    dbd: &Dbd,
+    path: &Path,
+) -> Result<u32, Refused>
     requires of { IsTrue volume.old.is_sound → IsVolumeOf dbd.now volume.old }
     requires holds { IsTrue volume.old.is_sound → HasForest dbd.now volume.old }
     requires there { IsTrue volume.old.is_sound → (0 < length path.now) × LeadsDown dbd.now.types (links_of dbd.now.types volume.old) 0 path.now }
