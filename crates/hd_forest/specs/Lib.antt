@@ -1,3 +1,4 @@
 pub mod Walks
+pub mod Twins
 pub mod Updates
 pub mod Laws
