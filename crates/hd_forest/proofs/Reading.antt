@@ -77,3 +77,7 @@ lent d v a s fit of there is =
       stored = stored-found d v a h ∙ same;
       long = subst (λ x. stored_size d.types (code_of x) ≤ length x) same (omega arith);
     }
+
+-- a store that is sound after a call that read was so before
+pub sound-before : {A : Type 0} {x : A} (u v : VolumeState) → IsRead {T = A} u (Ok x) v → IsTrue v.is_sound → IsTrue u.is_sound
+sound-before u v r s = rw (← r.call.sound) s
