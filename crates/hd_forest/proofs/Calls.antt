@@ -1,5 +1,5 @@
 -- Calls of a volume one after another.
-use Rattle.std.proofs.Common.{◌≡◌, ℕ, Bool, false, IsTrue, List, Result, Ok, Err, refl, ◌∙◌, arith}
+use Rattle.std.proofs.Common.{◌≡◌, ℕ, Bool, false, IsTrue, List, Result, Ok, Err, IfOk, refl, ◌∙◌, arith}
 use Rattle.hd_dbd.specs.declared.answer.Refused.{Refused}
 use Rattle.hd_dbd.specs.declared.answer.Refused.TheVariants.{Memory, Full, Device, Broken, Area}
 use Rattle.hd_volume.specs.Stores.{SoundFor, StaysSound}
@@ -55,3 +55,8 @@ reads-join {u = u} {v = v} {w = w} r a b = record {
   stands = λ s h. b.stands s (a.stands (sound-back r v.is_sound w.is_sound b.call.sound s) h);
   room = b.room ∙ a.room;
 }
+
+-- what holds of an answer, by what held of it
+pub if-ok : {A : Type 0} {P Q : A → Type 0} (r : Result A Refused) → IfOk r P → ((x : A) → P x → Q x) → IfOk r Q
+if-ok (Ok x) h f = f x h
+if-ok (Err e) h f = tt

@@ -1,3 +1,5 @@
 pub mod Calls
 pub mod Reading
 pub mod Chains
+pub mod Tips
+pub mod Held
