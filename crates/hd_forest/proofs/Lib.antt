@@ -3,3 +3,4 @@ pub mod Reading
 pub mod Chains
 pub mod Tips
 pub mod Held
+pub mod FirstChildren

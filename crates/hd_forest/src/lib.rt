@@ -2,6 +2,7 @@
 #![tactic(auto)]
 
 mod change;
+mod children;
 mod law;
 mod path;
 mod read;

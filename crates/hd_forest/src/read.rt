@@ -15,14 +15,14 @@ use hd_prefix::{Layout, Pointer};
 use hd_volume::{BlockStore, Volume};
 
 /// The code of a lent segment, 0 for no bytes.
-fn code_in(segment: &[u8]) -> u8
+pub fn code_in(segment: &[u8]) -> u8
     ensures { result ≡ code_of segment.now }
 {
     segment.first().copied().unwrap_or(0)
 }
 
 /// The address in a pointer of a lent segment, 0 where it is shorter than its type's segments.
-fn pointer_in(dbd: &Dbd, segment: &[u8], pointer: Pointer) -> u32
+pub fn pointer_in(dbd: &Dbd, segment: &[u8], pointer: Pointer) -> u32
     ensures { stored_size dbd.now.types (code_of segment.now) ≤ length segment.now → result ≡ pointer_of dbd.now.types (code_of segment.now) pointer segment.now }
 {
     let layout = Layout::of(dbd, code_in(segment));

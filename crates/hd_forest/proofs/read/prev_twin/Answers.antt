@@ -44,20 +44,20 @@ returns-then-keeps_backward-clause-read g c = reads-join c.read_pointer.result c
 pub returns-then-keeps_backward-clause-value : goal.returns-then-keeps_backward-clause-value
 returns-then-keeps_backward-clause-value g c = if-ok c.read_pointer.result c.read_pointer.ensures.value
     (λ r value sound.
-      let d = c.args.dbd.now in
-      let u = c.args.volume.now in
-      let m : Links = links_of d.types u in
-      let same = after-read d u c.code_at.new.volume c.in_ok-code.ensures.read sound in
-      let H = held d u c.types.ensures.fit (c.requires.of sound) (c.requires.holds sound) in
-      let B = last-below d u c.args.path.now c.parent_on-parent.result c.tip_of-address.result H (c.requires.there sound) c.parent_on-parent.ensures c.tip_of-address.ensures in
-      let a : ℕ = c.tip_of-address.result in
-      let kept : is_backward_kept d.types (m.code a) ≡ true =
-      ap (is_backward_kept d.types) (sym (c.in_ok-code.ensures.value sound)) ∙ sym c.keeps_backward.ensures ∙ c.if-keeps_backward.true in
-      let e : r ≡ m.backward a = value same.sound ∙ ap (λ (k : Links). k.backward a) same.links in
-      let un : CanUnlink d.types m c.parent_on-parent.result r a =
-      subst (λ x. CanUnlink d.types m c.parent_on-parent.result x a) (sym e)
-      (found d.types H.ordered m H.linked c.parent_on-parent.result (m.code a) B.parent B.typed a refl B.chain kept) in
-      rw (← c.parent_on-parent.ensures, ← c.tip_of-address.ensures) un)
+    let d = c.args.dbd.now in
+    let u = c.args.volume.now in
+    let m : Links = links_of d.types u in
+    let same = after-read d u c.code_at.new.volume c.in_ok-code.ensures.read sound in
+    let H = held d u c.types.ensures.fit (c.requires.of sound) (c.requires.holds sound) in
+    let B = last-below d u c.args.path.now c.parent_on-parent.result c.tip_of-address.result H (c.requires.there sound) c.parent_on-parent.ensures c.tip_of-address.ensures in
+    let a : ℕ = c.tip_of-address.result in
+    let kept : is_backward_kept d.types (m.code a) ≡ true =
+    ap (is_backward_kept d.types) (sym (c.in_ok-code.ensures.value sound)) ∙ sym c.keeps_backward.ensures ∙ c.if-keeps_backward.true in
+    let e : r ≡ m.backward a = value same.sound ∙ ap (λ (k : Links). k.backward a) same.links in
+    let un : CanUnlink d.types m c.parent_on-parent.result r a =
+    subst (λ x. CanUnlink d.types m c.parent_on-parent.result x a) (sym e)
+    (found d.types H.ordered m H.linked c.parent_on-parent.result (m.code a) B.parent B.typed a refl B.chain kept) in
+    rw (← c.parent_on-parent.ensures, ← c.tip_of-address.ensures) un)
 
 pub first_child-requires-clause-of : goal.first_child-requires-clause-of
 first_child-requires-clause-of g c now =
@@ -108,19 +108,19 @@ returns-clause-read g c = reads-join c.twin_before.result (reads-join (Ok c.in_o
 pub returns-clause-value : goal.returns-clause-value
 returns-clause-value g c = if-ok c.twin_before.result c.twin_before.ensures.value
     (λ r value sound.
-      let d = c.args.dbd.now in
-      let u = c.args.volume.now in
-      let w = c.first_child.new.volume in
-      let m : Links = links_of d.types u in
-      let both = reads-join (Ok c.in_ok-first.first) c.in_ok-code.ensures.read c.in_ok-first.ensures.read in
-      let mid = after-read d u c.code_at.new.volume c.in_ok-code.ensures.read sound in
-      let same = after-read d u w both sound in
-      let H = held d u c.types.ensures.fit (c.requires.of sound) (c.requires.holds sound) in
-      let B = last-below d u c.args.path.now c.parent_on-parent.result c.tip_of-address.result H (c.requires.there sound) c.parent_on-parent.ensures c.tip_of-address.ensures in
-      let a : ℕ = c.tip_of-address.result in
-      let h : ℕ = c.parent_on-parent.result in
-      let first : c.in_ok-first.first ≡ m.first_child h (m.code a) =
-      c.in_ok-first.ensures.value mid.sound ∙ ap (λ (k : Links). k.first_child h c.in_ok-code.code) mid.links ∙ ap (m.first_child h) (c.in_ok-code.ensures.value sound) in
-      let at : IsBehind m (m.first_child h (m.code a)) r a =
-      subst (λ x. IsBehind m x r a) first (subst (λ (k : Links). IsBehind k c.in_ok-first.first r a) same.links (value same.sound)) in
-      rw (← c.parent_on-parent.ensures, ← c.tip_of-address.ensures) (unlinks d.types H.ordered (length u.image) m H.graph H.linked h a B r at))
+    let d = c.args.dbd.now in
+    let u = c.args.volume.now in
+    let w = c.first_child.new.volume in
+    let m : Links = links_of d.types u in
+    let both = reads-join (Ok c.in_ok-first.first) c.in_ok-code.ensures.read c.in_ok-first.ensures.read in
+    let mid = after-read d u c.code_at.new.volume c.in_ok-code.ensures.read sound in
+    let same = after-read d u w both sound in
+    let H = held d u c.types.ensures.fit (c.requires.of sound) (c.requires.holds sound) in
+    let B = last-below d u c.args.path.now c.parent_on-parent.result c.tip_of-address.result H (c.requires.there sound) c.parent_on-parent.ensures c.tip_of-address.ensures in
+    let a : ℕ = c.tip_of-address.result in
+    let h : ℕ = c.parent_on-parent.result in
+    let first : c.in_ok-first.first ≡ m.first_child h (m.code a) =
+    c.in_ok-first.ensures.value mid.sound ∙ ap (λ (k : Links). k.first_child h c.in_ok-code.code) mid.links ∙ ap (m.first_child h) (c.in_ok-code.ensures.value sound) in
+    let at : IsBehind m (m.first_child h (m.code a)) r a =
+    subst (λ x. IsBehind m x r a) first (subst (λ (k : Links). IsBehind k c.in_ok-first.first r a) same.links (value same.sound)) in
+    rw (← c.parent_on-parent.ensures, ← c.tip_of-address.ensures) (unlinks d.types H.ordered (length u.image) m H.graph H.linked h a B r at))
