@@ -1,3 +1,5 @@
 pub mod Walks
+pub mod Twins
+pub mod Children
 pub mod Updates
 pub mod Laws

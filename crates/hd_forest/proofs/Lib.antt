@@ -1,0 +1,6 @@
+pub mod Calls
+pub mod Reading
+pub mod Chains
+pub mod Tips
+pub mod Held
+pub mod FirstChildren
