@@ -1,3 +1,9 @@
+pub mod Calls
+pub mod Reading
+pub mod Chains
+pub mod Tips
+pub mod Held
+pub mod FirstChildren
 pub mod Keeping
 pub mod Setting
 pub mod Laying

@@ -1,4 +1,6 @@
 pub mod Walks
+pub mod Twins
+pub mod Children
 pub mod Updates
 pub mod Sets
 pub mod Leaves

@@ -8,7 +8,11 @@ use hd_dbd::{Dbd, Refused};
 use hd_volume::{BlockStore, Volume};
 
 /// Goes from the last row of a path to the row behind it, and from no path to the first root; behind the last row is none.
-pub fn next_row<S: BlockStore>(volume: &mut Volume<S>, dbd: &Dbd, path: &mut Path) -> Result<(), Refused>
+pub fn next_row<S: BlockStore>(
+    volume: &mut Volume<S>,
+    dbd: &Dbd,
+    path: &mut Path,
+) -> Result<(), Refused>
     requires of { IsTrue volume.old.is_sound → IsVolumeOf dbd.now volume.old }
     requires holds { IsTrue volume.old.is_sound → HasForest dbd.now volume.old }
     requires there { IsTrue volume.old.is_sound → AreSegments (links_of dbd.now.types volume.old) path.old }
@@ -22,7 +26,11 @@ pub fn next_row<S: BlockStore>(volume: &mut Volume<S>, dbd: &Dbd, path: &mut Pat
 }
 
 /// Goes from the last row of a path to the row behind its span; behind the last there is none.
-pub fn next_after_span<S: BlockStore>(volume: &mut Volume<S>, dbd: &Dbd, path: &mut Path) -> Result<(), Refused>
+pub fn next_after_span<S: BlockStore>(
+    volume: &mut Volume<S>,
+    dbd: &Dbd,
+    path: &mut Path,
+) -> Result<(), Refused>
     requires of { IsTrue volume.old.is_sound → IsVolumeOf dbd.now volume.old }
     requires holds { IsTrue volume.old.is_sound → HasForest dbd.now volume.old }
     requires there { IsTrue volume.old.is_sound → AreSegments (links_of dbd.now.types volume.old) path.old }
