@@ -11,6 +11,7 @@ use Rattle.hd_volume.specs.Rooms.{spare, HasHole}
 use Rattle.hd_volume.specs.Records.{find}
 use Rattle.hd_volume.specs.Calls.{KeepsIndex, KeepsHoles, IsWritten, IsFreed, IsPut, HasNewHeader}
 use Rattle.hd_volume.proofs.MapLemmas.{find-there, kind-there}
+use Rattle.hd_volume.proofs.JoinLemmas.{AreOne, one-spare, one-holes}
 use Rattle.hd_forest.specs.Updates.{KeepsTheRest}
 use Rattle.hd_forest.specs.Sets.{KeepsBlocks}
 
@@ -212,3 +213,18 @@ module _ {v w : VolumeState} {a : ℕ} {s : List ℕ} (f : IsFormatted v) (size 
 
   pub count-put : ((header_of v.image).count ≤ (header_of w.image).count) × ((header_of w.image).count ≤ (header_of v.image).count + 1)
   count-put = elim h.grows.count [ inl e ↦ (omega arith, omega arith) | inr e ↦ (let more = e.1 in (omega arith, omega arith)) ]
+
+-- ---- a call that reads
+
+-- two states of a volume with one image
+pub keeps-same : (u v : VolumeState) → v.image ≡ u.image → v.size ≡ u.size → v.sizes ≡ u.sizes → KeepsBlocks u v
+keeps-same u v image size sizes =
+    let blocks : (n : ℕ) → block_at v n ≡ block_at u n = λ n i. block_of (size i) (image i) n in
+    let one : AreOne u v = record { same = record { size = size; sizes = sizes }; image = image } in
+    let same : SameKinds u v = record { size = size; len = ap length image; kind = λ n there later. ap kind_of (blocks n) } in
+    record {
+      rest = rest-kept same (λ n is. blocks n) (header-kept u v (ap header_of image));
+      count = ap (λ (i : List ℕ). (header_of i).count) image;
+      spares = one-spare one;
+      holes = one-holes one;
+    }

@@ -7,3 +7,4 @@ pub mod FirstChildren
 pub mod Keeping
 pub mod Setting
 pub mod Laying
+pub mod Exchanging

@@ -1,6 +1,7 @@
 ghost use Rattle.std.specs.Prelude.{◌≡◌, ◌⊎◌, ◌+◌, ◌≤◌, ◌<◌, true, length, IsTrue, IfOk, IfErr, OnOk};
 ghost use Rattle.hd_dbd.specs.Rows.{row_fits};
-ghost use Rattle.hd_dbd.specs.Prefixes.{stored_size};
+ghost use Rattle.hd_dbd.specs.Prefixes.{prefix_length, stored_size};
+ghost use Rattle.hd_dbd.specs.DatabaseRules.{well_formed};
 ghost use Rattle.hd_volume.specs.Rooms.{spare, HasHole, HasFreeBlock};
 ghost use Rattle.hd_volume.specs.Calls.{IsCall};
 ghost use Rattle.hd_links.specs.Changes.{CanReplace};
@@ -8,6 +9,7 @@ ghost use Rattle.hd_image.specs.Records.{links_of, IsVolumeOf};
 ghost use Rattle.hd_forest.specs.Walks.{HasForest};
 ghost use Rattle.hd_forest.specs.Updates.{MayLink, IsLinked, IsReplaced};
 
+use crate::read::code_at;
 use hd_dbd::{Dbd, Refused};
 use hd_volume::{BlockStore, Volume};
 
@@ -56,6 +58,16 @@ pub fn replace<S: BlockStore>(
     ensures refusal { IfErr result (λ e. e ≡ Refused.Device) }
     ensures room { volume.new.room ≡ volume.old.room }
 {
-    let _ = (volume, dbd, address, bytes);
-    Ok(())
+    let code = code_at(volume, dbd, address)?;
+    volume.write_at(address, place_of_bytes(dbd, code), bytes)
+}
+
+/// Where the bytes of a type's segments begin: behind the prefix, and behind the code where there is no such type.
+fn place_of_bytes(dbd: &Dbd, code: u8) -> usize
+    ensures value { 0 < prefix_length dbd.now.types code → result ≡ prefix_length dbd.now.types code }
+    ensures some { 0 < result }
+    ensures fit { IsTrue (well_formed dbd.now.block_size dbd.now.frspc dbd.now.types) }
+{
+    let _ = dbd.types();
+    dbd.prefix_length(code).max(1) as usize
 }
