@@ -8,3 +8,5 @@ pub mod Keeping
 pub mod Setting
 pub mod Laying
 pub mod Exchanging
+pub mod Agreeing
+pub mod Naming
