@@ -7,7 +7,7 @@ use Rattle.hd_bytes.specs.Blocks.{block_of, HasBlock}
 use Rattle.hd_volume.specs.Images.{ChangesBlock}
 use Rattle.hd_volume.specs.Headers.{Header, header_of}
 use Rattle.hd_volume.specs.Volumes.{VolumeState, block_at, kind_of, IsKind, IsFormatted, HasKinds}
-use Rattle.hd_volume.specs.Rooms.{spare, HasHole}
+use Rattle.hd_volume.specs.Rooms.{spare, HasHole, HasFreeBlock}
 use Rattle.hd_volume.specs.Records.{find}
 use Rattle.hd_volume.specs.Calls.{KeepsIndex, KeepsHoles, IsWritten, IsFreed, IsPut, HasNewHeader}
 use Rattle.hd_volume.proofs.MapLemmas.{find-there, kind-there}
@@ -228,3 +228,9 @@ keeps-same u v image size sizes =
       spares = one-spare one;
       holes = one-holes one;
     }
+
+-- a block that was free is so
+pub free-seen : (u v : VolumeState) → v.image ≡ u.image → v.size ≡ u.size → HasFreeBlock u → HasFreeBlock v
+free-seen u v image size free =
+    let same : SameKinds u v = record { size = size; len = ap length image; kind = λ n there later i. kind_of (block_of (size i) (image i) n) } in
+    (free.0, kind-on same 3 free.0 free.1)

@@ -10,3 +10,5 @@ pub mod Laying
 pub mod Exchanging
 pub mod Agreeing
 pub mod Naming
+pub mod Leafing
+pub mod Linking
