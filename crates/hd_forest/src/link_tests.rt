@@ -1,12 +1,14 @@
+ghost use Rattle.std.specs.Prelude.{◌≤◌};
+
 use crate::test_volumes::{Work, kinds, new_file, sample, work_on};
 use hd_dbd::Refused;
 use std::fs;
 use std::test::Fail;
 
-/// Blocks 1 and 2 of the sample image.
-fn sample_blocks() -> [u8; 256] {
-    let mut bytes = [0; 256];
-    bytes[..3].copy_from_slice(b"\0\0\x01");
+/// Block 1 of the sample image.
+fn first_block() -> [u8; 128] {
+    let mut bytes = [0; 128];
+    bytes[2] = 1;
     bytes[8..42].copy_from_slice(
         b"\x01\0\0\0\x01\x18\0\0\0\0\0\0\0\xb0\0\0\0\xe8\0\0\x01\x08\0\0\x01\x08101ALGEB",
     );
@@ -14,11 +16,19 @@ fn sample_blocks() -> [u8; 256] {
     bytes[72..84].copy_from_slice(b"\x03\0\0\0\0\xd8ADAM01");
     bytes[88..100].copy_from_slice(b"\x03\0\0\0\0\0EVE 02");
     bytes[104..122].copy_from_slice(b"\x02\0\0\0\0\0\0\0\0\xb0\0\0\0\x0002CD");
-    bytes[128..131].copy_from_slice(b"\0\x40\x01");
-    bytes[136..151].copy_from_slice(b"\x04\0\0\0\0\0\0\0\0\0EULER");
-    bytes[152..162].copy_from_slice(b"\x01\0\0\0\0\0\0\0\0\x88");
-    bytes[178..186].copy_from_slice(b"205LOGIC");
-    bytes[195] = 0x40;
+    bytes
+}
+
+/// Block 2 of the sample image.
+fn second_block() -> [u8; 128] {
+    let mut bytes = [0; 128];
+    bytes[1] = 0x40;
+    bytes[2] = 1;
+    bytes[8] = 4;
+    bytes[18..23].copy_from_slice(b"EULER");
+    bytes[24..34].copy_from_slice(b"\x01\0\0\0\0\0\0\0\0\x88");
+    bytes[50..58].copy_from_slice(b"205LOGIC");
+    bytes[67] = 0x40;
     bytes
 }
 
@@ -34,7 +44,8 @@ fn links_the_sample_row_by_row(rt: HostRuntime) -> Result<(), Fail> {
         image.get(28..36),
         Some(b"\0\0\0\x88\0\0\x01\x18".as_slice())
     );
-    assert_eq!(rt; image.get(128..), Some(sample_blocks().as_slice()));
+    assert_eq!(rt; image.get(128..256), Some(first_block().as_slice()));
+    assert_eq!(rt; image.get(256..), Some(second_block().as_slice()));
     fs::remove_file(&rt, "sample")?;
     Ok(())
 }
@@ -45,12 +56,11 @@ fn replaces_the_bytes_of_a_row(rt: HostRuntime) -> Result<(), Fail> {
     let file = new_file(&rt, "replaced")?;
     let (answer, _) = work_on(rt.alloc(), file, &dbd, Work::Replaced, u64::MAX)?;
     assert_eq!(rt; answer, Ok(264));
-    let mut want = sample_blocks();
-    want[146..151].copy_from_slice(b"GAUSS");
-    assert_eq!(rt;
-        fs::read(&rt, "replaced")?.get(128..),
-        Some(want.as_slice())
-    );
+    let image = fs::read(&rt, "replaced")?;
+    assert_eq!(rt; image.get(128..256), Some(first_block().as_slice()));
+    let mut want = second_block();
+    want[18..23].copy_from_slice(b"GAUSS");
+    assert_eq!(rt; image.get(256..), Some(want.as_slice()));
     fs::remove_file(&rt, "replaced")?;
     Ok(())
 }
@@ -70,6 +80,13 @@ fn answers_device_at_each_access(rt: HostRuntime) -> Result<(), Fail> {
     Ok(())
 }
 
+/// The image has these bytes at a place.
+fn has_bytes(image: &[u8], place: usize, bytes: &[u8]) -> bool
+    requires { place ≤ 1024 }
+{
+    image.get(place..place + bytes.len()) == Some(bytes)
+}
+
 #[test]
 fn mends_each_sort_of_pointer(rt: HostRuntime) -> Result<(), Fail> {
     let dbd = kinds(rt.alloc()).expect(&rt, "a database");
@@ -77,23 +94,42 @@ fn mends_each_sort_of_pointer(rt: HostRuntime) -> Result<(), Fail> {
     let (answer, _) = work_on(rt.alloc(), file, &dbd, Work::Kinds, u64::MAX)?;
     assert_eq!(rt; answer, Ok(136));
     let image = fs::read(&rt, "kinds")?;
-    let root =
-        b"\x01\0\0\0\0\0\0\0\0\0\0\0\0\xd0\0\0\0\xf0\0\0\0\xe0\0\0\x01\x38\0\0\x01\x88\0\0\x01\x58001ROOT.";
-    assert_eq!(rt; image.get(136..178), Some(root.as_slice()));
-    let plain = b"\x02\0\0\0\0\xc81.\x02\0\0\0\0\x003.\x02\0\0\0\0\xc02.\x02\0\0\0\0\xb80.";
-    assert_eq!(rt; image.get(184..216), Some(plain.as_slice()));
-    let ended = b"\x03\0\0\0\0\xe81.\x03\0\0\0\0\x003.\x03\0\0\0\0\xe02.\x03\0\0\0\0\xd80.";
-    assert_eq!(rt; image.get(216..248), Some(ended.as_slice()));
-    let twinned =
-        b"\x04\0\0\0\x01\x28\0\0\x01\x381.\0\0\0\0\x04\0\0\0\0\0\0\0\x01\x283.\0\0\0\0\x04\0\0\0\x01\x18\0\0\x01\x082.\0\0\0\0\x04\0\0\0\x01\x08\0\0\0\x000.\0\0\0\0";
-    assert_eq!(rt; image.get(264..328), Some(twinned.as_slice()));
-    let both =
-        b"\x05\0\0\0\x01\x68\0\0\x01\x881.\0\0\0\0\x05\0\0\0\0\0\0\0\x01\x683.\0\0\0\0\x05\0\0\0\x01\x58\0\0\x01\x482.\0\0\0\0";
-    assert_eq!(rt; image.get(328..376), Some(both.as_slice()));
-    assert_eq!(rt;
-        image.get(392..404),
-        Some(b"\x05\0\0\0\x01\x48\0\0\0\x000.".as_slice())
+    assert!(rt;
+        has_bytes(
+            &image,
+            136,
+            b"\x01\0\0\0\0\0\0\0\0\0\0\0\0\xd0\0\0\0\xf0\0\0\0\xe0\0\0\x01\x38\0\0\x01\x88\0\0\x01\x58001ROOT."
+        )
     );
+    assert!(rt;
+        has_bytes(
+            &image,
+            184,
+            b"\x02\0\0\0\0\xc81.\x02\0\0\0\0\x003.\x02\0\0\0\0\xc02.\x02\0\0\0\0\xb80."
+        )
+    );
+    assert!(rt;
+        has_bytes(
+            &image,
+            216,
+            b"\x03\0\0\0\0\xe81.\x03\0\0\0\0\x003.\x03\0\0\0\0\xe02.\x03\0\0\0\0\xd80."
+        )
+    );
+    assert!(rt;
+        has_bytes(
+            &image,
+            264,
+            b"\x04\0\0\0\x01\x28\0\0\x01\x381.\0\0\0\0\x04\0\0\0\0\0\0\0\x01\x283.\0\0\0\0\x04\0\0\0\x01\x18\0\0\x01\x082.\0\0\0\0\x04\0\0\0\x01\x08\0\0\0\x000.\0\0\0\0"
+        )
+    );
+    assert!(rt;
+        has_bytes(
+            &image,
+            328,
+            b"\x05\0\0\0\x01\x68\0\0\x01\x881.\0\0\0\0\x05\0\0\0\0\0\0\0\x01\x683.\0\0\0\0\x05\0\0\0\x01\x58\0\0\x01\x482.\0\0\0\0"
+        )
+    );
+    assert!(rt; has_bytes(&image, 392, b"\x05\0\0\0\x01\x48\0\0\0\x000."));
     fs::remove_file(&rt, "kinds")?;
     Ok(())
 }
