@@ -1,0 +1,7 @@
+//! The pointer checker: a volume holds a forest of its database, or it has a least fault.
+#![tactic(auto)]
+
+mod element;
+mod fault;
+
+pub use fault::Fault;
