@@ -3,5 +3,6 @@
 
 mod element;
 mod fault;
+mod place;
 
 pub use fault::Fault;
