@@ -1,9 +1,33 @@
 -- What the phases of a check find.
-use Rattle.std.specs.Prelude.{◌≡◌, ℕ}
+use Rattle.std.specs.Prelude.{◌≡◌, ℕ, ◌*◌, ◌≤◌, ◌≢◌, ◌⊎◌, codes}
 use Rattle.hd_dbd.specs.Hierarchy.{Database}
+use Rattle.hd_volume.specs.Headers.{Header, HasHeader, IsOf, header_of}
 use Rattle.hd_volume.specs.Volumes.{VolumeState}
 use Rattle.hd_image.specs.Standing.{Line, Stands, phase_of, number_of, ComesBefore}
 use Rattle.hd_check.specs.declared.fault.Fault.{Fault}
+
+-- The header counts an image of so many bytes, in blocks of a size: all that it must say but that it is there.
+pub record CountsImage (size len : ℕ) (h : Header) : Type 0 where
+  pub mark : h.mark ≡ codes "HDVOLUME"
+  pub whole : len ≡ h.count * size
+  pub within : h.count ≤ h.largest
+  pub bound : h.largest ≤ 65536
+
+-- the header is of the database
+abbrev pub IsNamed : Database → Header → Type 0
+IsNamed d h = (h.name ≡ d.name) × (h.block_size ≡ d.block_size)
+
+-- What is wrong with a header by itself, the least number first.
+abbrev pub IsWrongHeader : Database → ℕ → ℕ → Header → Fault → Type 0
+IsWrongHeader d size len h f =
+    ((f ≡ record { number = 1; address = 0; other = 0 }) × (CountsImage size len h → ⊥))
+    ⊎ (((f ≡ record { number = 2; address = 0; other = h.version }) × CountsImage size len h × (h.version ≢ 1))
+    ⊎ ((f ≡ record { number = 3; address = 0; other = 0 }) × CountsImage size len h × (h.version ≡ 1) × ((h.name ≢ d.name) ⊎ (h.block_size ≢ d.block_size))))
+
+-- The header is one of the database, and of a version that is known.
+pub record IsHeaderRight (d : Database) (v : VolumeState) : Type 0 where
+  pub header : HasHeader d.block_size v.image
+  pub known : IsOf 1 d.name d.block_size (header_of v.image)
 
 -- The fault stands in a volume, and of the faults of its phase none comes before it.
 pub record IsLeastOf (d : Database) (v : VolumeState) (phase : ℕ) (fault : Fault) : Type 0 where

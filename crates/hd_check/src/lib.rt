@@ -3,6 +3,7 @@
 
 mod element;
 mod fault;
+mod header;
 mod place;
 
 pub use fault::Fault;
