@@ -82,7 +82,6 @@ wrong-third d v right known other = record {
 }
 
 module _ (d : Database) (v : VolumeState) (size : v.size ≡ d.block_size) (least : 128 ≤ v.size) (there : HasBlock v.size v.image 0) where
-
   -- the header of block 0 alone is that of the image
   pub head-is : header_of (block_at v 0) ≡ header_of v.image
   head-is =

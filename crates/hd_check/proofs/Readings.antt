@@ -69,6 +69,7 @@ at-end sizes block places place next r over = r.fill [] (place-is, none r.rest r
   where
     place-is : place ≡ length block
     place-is = (let l = r.within in omega arith)
+
     none : (ps : List ℕ) → AreFreeElements block r.end next ps → next ≡ 0
     none [] h = h
     none (p ∷ ps) h = elim r.ahead [
@@ -84,37 +85,44 @@ past-free sizes block places place r inside = go r.rest r.chain r.among r.back
     go : (ps : List ℕ) → AreFreeElements block r.end place ps → ((q : ℕ) → place ≤ q → IsAmong q places → IsAmong q ps) → ((q : ℕ) → IsAmong q ps → IsAmong q places)
         → (8 ≤ number_at 2 block (place + 2)) × IsRead sizes block places (place + number_at 2 block (place + 2)) (number_at 2 block place)
     go [] h among back = (let l = r.first in absurd (omega arith))
-    go (p ∷ ps) h among back = (element.some, record {
-      end = place + number_at 2 block (place + 2);
-      rest = ps;
-      chain = chain;
-      past = omega arith;
-      ahead = ahead ps chain;
-      among = λ q l i. elim (among q (omega arith) i) [ inl e ↦ absurd (let s = element.some in let f = h.0 in omega arith) | inr j ↦ j ];
-      back = λ q i. back q (inr i);
-      way = r.way ++ (place + number_at 2 block (place + 2)) ∷ [];
-      read = read-on sizes block places 8 r.way place (place + number_at 2 block (place + 2)) r.read (record {
-        some = inside;
-        right = λ n. n.apart here;
-        free = λ i. refl;
-        used = λ n. absurd (n here);
-      });
-      eighth = (let w = element.length_whole in let e = r.eighth in omega arith);
-      first = (let l = r.first in omega arith);
-      within = element.within;
-      fill = λ xs f w. r.fill (free (number_at 2 block (place + 2)) ∷ xs)
-          (refl, record { len = refl; task = element.task; some = element.some; whole = element.length_whole; apart = apart ps chain }, f) w;
-    })
+    go (p ∷ ps) h among back = (
+      element.some,
+      record {
+        end = place + number_at 2 block (place + 2);
+        rest = ps;
+        chain = chain;
+        past = omega arith;
+        ahead = ahead ps chain;
+        among = λ q l i. elim (among q (omega arith) i) [ inl e ↦ absurd (let s = element.some in let f = h.0 in omega arith) | inr j ↦ j ];
+        back = λ q i. back q (inr i);
+        way = r.way ++ (place + number_at 2 block (place + 2)) ∷ [];
+        read = read-on sizes block places 8 r.way place (place + number_at 2 block (place + 2)) r.read (record {
+          some = inside;
+          right = λ n. n.apart here;
+          free = λ i. refl;
+          used = λ n. absurd (n here);
+        });
+        eighth = (let w = element.length_whole in let e = r.eighth in omega arith);
+        first = (let l = r.first in omega arith);
+        within = element.within;
+        fill = λ xs f w. r.fill (free (number_at 2 block (place + 2)) ∷ xs)
+            (refl, record { len = refl; task = element.task; some = element.some; whole = element.length_whole; apart = apart ps chain }, f) w;
+      },
+    )
       where
         element : IsFreeElement block place
         element = subst (IsFreeElement block) (sym h.0) h.2
+
         chain : AreFreeElements block (place + number_at 2 block (place + 2)) (number_at 2 block place) ps
         chain = subst (λ (x : ℕ). AreFreeElements block (x + number_at 2 block (x + 2)) (number_at 2 block x) ps) (sym h.0) h.3
+
         here : IsAmong place places
         here = back place (inl h.0)
+
         ahead : (rs : List ℕ) → AreFreeElements block (place + number_at 2 block (place + 2)) (number_at 2 block place) rs → (number_at 2 block place ≡ 0) ⊎ (place + number_at 2 block (place + 2) ≤ number_at 2 block place)
         ahead [] k = inl k
         ahead (x ∷ xs) k = (let e = k.0 in let l = k.1 in inr (omega arith))
+
         apart : (rs : List ℕ) → AreFreeElements block (place + number_at 2 block (place + 2)) (number_at 2 block place) rs → number_at 2 block place ≢ place + number_at 2 block (place + 2)
         apart [] k = λ e. (let z : number_at 2 block place ≡ 0 = k in let l = r.first in omega arith)
         apart (x ∷ xs) k = λ e. (let f = k.0 in let l = k.1 in omega arith)
@@ -149,10 +157,10 @@ past-used sizes block places place next n r inside other size whole room = recor
     some = inside;
     right = λ x. x.fits (let s = room.some in omega arith) (let w = room.within in omega arith)
         (λ q i l. (let j = r.among q (omega arith) i in let m = not-before block r.end next r.rest q r.chain j in
-          elim room.before [
-            | inl b ↦ past-all q j b l
-            | inr b ↦ omega arith
-          ]));
+        elim room.before [
+          | inl b ↦ past-all q j b l
+          | inr b ↦ omega arith
+        ]));
     free = λ i. absurd (not-there sizes block places place next r other i);
     used = λ x. ap (λ (k : ℕ). place + k) (sym size);
   });

@@ -13,7 +13,10 @@ fn is_element(block: &[u8], place: usize) -> bool
         return false;
     }
     let length = read_u16(block, place + 2) as usize;
-    length % 8 == 0 && length >= 8 && length <= block.len() - place && read_u32(block, place + 4) == 0
+    length % 8 == 0
+        && length >= 8
+        && length <= block.len() - place
+        && read_u32(block, place + 4) == 0
 }
 
 /// Whether the free elements of a data block are a right chain.

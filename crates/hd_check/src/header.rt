@@ -19,7 +19,10 @@ fn counts_image(head: &[u8], size: u64, image_length: u64) -> bool
 {
     let count = read_u32(head, 12);
     let largest = read_u32(head, 16);
-    &head[..8] == &MARK[..] && u64::from(count) * size == image_length && count <= largest && largest <= 65536
+    &head[..8] == &MARK[..]
+        && u64::from(count) * size == image_length
+        && count <= largest
+        && largest <= 65536
 }
 
 /// Whether a header is of a database.

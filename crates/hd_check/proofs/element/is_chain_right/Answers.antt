@@ -43,9 +43,11 @@ loop-turn-preserved c =
           (subst (λ (n : ℕ). C n (number_at 2 block c.loop-turn.next) ps) c.read_u16.ensures (subst (λ (m : ℕ). C c.read_u16.result m ps) c.read_u16-next-in-loop-turn.ensures h)));
       wrong = λ all h.
           (let left = i.wrong all h in
-          let on = goes-on block c.loop-turn.end c.loop-turn.next left.0 left.1 c.if-next-eq0.false in
-          (on.rest, subst (λ (n : ℕ). C n c.read_u16-next-in-loop-turn.result on.rest) (sym c.read_u16.ensures)
-            (subst (λ (m : ℕ). C (number_at 2 block (c.loop-turn.next + 2)) m on.rest) (sym c.read_u16-next-in-loop-turn.ensures) on.chain)));
+          let on = goes-on block c.loop-turn.end c.loop-turn.next left.0 left.1 c.if-next-eq0.false in (
+            on.rest,
+            subst (λ (n : ℕ). C n c.read_u16-next-in-loop-turn.result on.rest) (sym c.read_u16.ensures)
+                (subst (λ (m : ℕ). C (number_at 2 block (c.loop-turn.next + 2)) m on.rest) (sym c.read_u16-next-in-loop-turn.ensures) on.chain),
+          ));
       past = (let e = c.read_u16.ensures in let s = element.some in let p = i.past in omega arith);
       within = (let e = c.read_u16.ensures in let w = element.within in omega arith);
     }

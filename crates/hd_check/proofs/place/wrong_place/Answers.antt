@@ -29,8 +29,12 @@ returns-in-None-clause-some c = λ places h.
     let size = stored_sizes-at c.args.dbd.now.types (slice_index c.args.block.now c.loop-turn.at.place) in
     elim (cases_eq c.loop-turn.at.place c.loop-turn.at.next) [
       | inl e ↦ absurd (let s = sym c.in-None.is ∙ c.behind.ensures.free e in cc)
-      | inr ne ↦ (r.way, r.read, c.if-at-block.false,
-          no-room sizes c.args.block.now places c.loop-turn.at.place c.loop-turn.at.next (stored_size c.args.dbd.now.types (slice_index c.args.block.now c.loop-turn.at.place)) r ne size (c.in-None.ensures.used ne))
+      | inr ne ↦ (
+        r.way,
+        r.read,
+        c.if-at-block.false,
+        no-room sizes c.args.block.now places c.loop-turn.at.place c.loop-turn.at.next (stored_size c.args.dbd.now.types (slice_index c.args.block.now c.loop-turn.at.place)) r ne size (c.in-None.ensures.used ne),
+      )
     ]
 
 pub loop-turn-preserved : goal.loop-turn-preserved
@@ -44,7 +48,7 @@ loop-turn-preserved c =
       | inl e ↦
           (let is : next ≡ record { place = place + number_at 2 block (place + 2); next = number_at 2 block place } = (let s = sym c.in-Some.is ∙ c.behind.ensures.free e in cc) in
           let both = λ (places : List ℕ) (h : HasFreeElements block places). past-free (stored_sizes types) block places place
-              (subst (λ (n : ℕ). IsRead (stored_sizes types) block places place n) (sym e) (c.loop-turn.invariant.read places h)) c.if-at-block.false in
+          (subst (λ (n : ℕ). IsRead (stored_sizes types) block places place n) (sym e) (c.loop-turn.invariant.read places h)) c.if-at-block.false in
           record {
             read = λ places h. subst (λ (x : Reading). IsRead (stored_sizes types) block places x.place x.next) (sym is) (both places h).1;
             past =
@@ -56,7 +60,7 @@ loop-turn-preserved c =
           record {
             read = λ places h. subst (λ (x : Reading). IsRead (stored_sizes types) block places x.place x.next) (sym room.1)
                 (past-used (stored_sizes types) block places place c.loop-turn.at.next (stored_size types code) (c.loop-turn.invariant.read places h) c.if-at-block.false ne
-                  (stored_sizes-at types code) (stored_size-whole types code) room.0);
+                (stored_sizes-at types code) (stored_size-whole types code) room.0);
             past =
                 (let some = room.0.some in let p = c.loop-turn.invariant.past in
                 let at : next.place ≡ place + stored_size types code = ap (λ (x : Reading). x.place) room.1 in omega arith);
