@@ -4,3 +4,11 @@ pub mod Chains
 pub mod Tips
 pub mod Held
 pub mod FirstChildren
+pub mod Keeping
+pub mod Setting
+pub mod Laying
+pub mod Exchanging
+pub mod Agreeing
+pub mod Naming
+pub mod Leafing
+pub mod Linking

@@ -2,4 +2,6 @@ pub mod Walks
 pub mod Twins
 pub mod Children
 pub mod Updates
+pub mod Sets
+pub mod Leaves
 pub mod Laws

@@ -4,10 +4,12 @@
 mod change;
 mod children;
 mod law;
+mod leaf;
 mod path;
 mod read;
 mod unlink;
 mod walk;
+mod write;
 
 pub use change::{link, replace};
 pub use law::law_walking_gives_the_sequence;
