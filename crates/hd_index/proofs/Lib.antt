@@ -1,3 +1,5 @@
 pub mod MapLemmas
 pub mod BlockLemmas
 pub mod RoomLemmas
+pub mod CallLemmas
+pub mod ChainLemmas

@@ -11,7 +11,12 @@ use hd_volume::{BlockStore, Volume};
 /// Enters the root of a new key.
 ///
 /// `Full` says that there are fewer blocks to spare than it may need; `Memory` comes only where room for fewer is reserved.
-pub fn insert<S: BlockStore>(volume: &mut Volume<S>, dbd: &Dbd, key: &[u8], address: u32) -> Result<(), Refused>
+pub fn insert<S: BlockStore>(
+    volume: &mut Volume<S>,
+    dbd: &Dbd,
+    key: &[u8],
+    address: u32,
+) -> Result<(), Refused>
     requires index { IsTrue volume.old.is_sound → IsIndexOf dbd.now volume.old }
     requires whole { length key.now ≡ root_key_length dbd.now.types }
     requires new { IsTrue volume.old.is_sound → address_of key.now (entries_for dbd.now volume.old) ≡ None }

@@ -141,6 +141,10 @@ pub fn seen_in(block: &[u8], key_length: usize, key: &[u8]) -> Seen
 {
     let count = entry_count(block, key_length);
     let index = place_in(block, key_length, count, key);
-    let next = if index < count { 0 } else { read_u32(block, NEXT) };
+    let next = if index < count {
+        0
+    } else {
+        read_u32(block, NEXT)
+    };
     Seen { index, next }
 }

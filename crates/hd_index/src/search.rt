@@ -9,7 +9,11 @@ use hd_volume::{BlockStore, Volume};
 /// The address of the root of a key, if there is one.
 ///
 /// Over a volume without an index it answers something, or `Device`.
-pub fn find<S: BlockStore>(volume: &mut Volume<S>, dbd: &Dbd, key: &[u8]) -> Result<Option<u32>, Refused>
+pub fn find<S: BlockStore>(
+    volume: &mut Volume<S>,
+    dbd: &Dbd,
+    key: &[u8],
+) -> Result<Option<u32>, Refused>
     ensures read { IsRead volume.old result volume.new }
     ensures value { IfOk result (λ r. IsTrue volume.old.is_sound → IsIndexOf dbd.now volume.old → r ≡ address_of key.now (entries_for dbd.now volume.old)) }
     ensures refusal { IfErr result (λ e. e ≡ Refused.Device) }
@@ -21,7 +25,11 @@ pub fn find<S: BlockStore>(volume: &mut Volume<S>, dbd: &Dbd, key: &[u8]) -> Res
 /// The address of the root of the least key that is not below a key, if there is one.
 ///
 /// Over a volume without an index it answers something, or `Device`.
-pub fn next_from<S: BlockStore>(volume: &mut Volume<S>, dbd: &Dbd, key: &[u8]) -> Result<Option<u32>, Refused>
+pub fn next_from<S: BlockStore>(
+    volume: &mut Volume<S>,
+    dbd: &Dbd,
+    key: &[u8],
+) -> Result<Option<u32>, Refused>
     ensures read { IsRead volume.old result volume.new }
     ensures value { IfOk result (λ r. IsTrue volume.old.is_sound → IsIndexOf dbd.now volume.old → r ≡ address_from key.now (entries_for dbd.now volume.old)) }
     ensures refusal { IfErr result (λ e. e ≡ Refused.Device) }
