@@ -1,5 +1,5 @@
 -- What a change of the index does to the rest of a volume.
-use Rattle.std.specs.Prelude.{◌≡◌, ℕ, ◌≤◌, List}
+use Rattle.std.specs.Prelude.{◌≡◌, ℕ, ◌+◌, ◌≤◌, List}
 use Rattle.hd_dbd.specs.Hierarchy.{Database}
 use Rattle.hd_volume.specs.Headers.{header_of}
 use Rattle.hd_volume.specs.Volumes.{VolumeState, block_at, IsKind, HasKinds}
@@ -16,13 +16,14 @@ pub record IsIndexOf (d : Database) (v : VolumeState) : Type 0 where
 abbrev pub entries_for : Database → VolumeState → List Entry
 entries_for d v = entries (root_key_length d.types) v
 
--- The index has changed: all segments and data blocks stay, no other block has become one for data, and of the header all
--- but the count, the top and the height.
-pub record IsIndexChange (old new : VolumeState) : Type 0 where
+-- The index has changed: all segments and data blocks stay, no other block has become one for data, the volume has grown by at
+-- most so many blocks, and of the header all but the count, the top and the height stay.
+pub record IsIndexChange (old : VolumeState) (more : ℕ) (new : VolumeState) : Type 0 where
   pub segments : KeepsSegments old new
   pub data_blocks : (n : ℕ) → IsKind old 1 n → block_at new n ≡ block_at old n
   pub others : (n : ℕ) → IsKind new 1 n → IsKind old 1 n
   pub kinds : HasKinds old → HasKinds new
   pub count : (header_of old.image).count ≤ (header_of new.image).count
+  pub grows : (header_of new.image).count ≤ (header_of old.image).count + more
   pub header : header_of new.image ≡ record (header_of old.image) { count = (header_of new.image).count; top = (header_of new.image).top; height = (header_of new.image).height }
   pub holes : KeepsHoles old new

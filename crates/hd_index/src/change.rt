@@ -1,12 +1,30 @@
-ghost use Rattle.std.specs.Prelude.{◌≡◌, ◌⊎◌, ◌+◌, ◌≤◌, ◌<◌, length, None, IsTrue, IfErr, OnOk};
+ghost use Rattle.std.specs.Prelude.{◌≡◌, ◌⊎◌, ◌+◌, ◌≤◌, ◌<◌, length, true, None, IsTrue, IfErr, OnOk};
+ghost use Rattle.hd_volume.specs.Volumes.{IsFormatted};
 ghost use Rattle.hd_volume.specs.Rooms.{spare};
 ghost use Rattle.hd_volume.specs.Calls.{IsCall};
-ghost use Rattle.hd_volume.specs.Indexes.{root_key_length, index_growth};
+ghost use Rattle.hd_volume.specs.Indexes.{root_key_length, index_growth, lacks_room};
 ghost use Rattle.hd_index.specs.Maps.{address_of, with_entry, without_key};
 ghost use Rattle.hd_index.specs.Changes.{IsIndexOf, entries_for, IsIndexChange};
 
 use hd_dbd::{Dbd, Refused};
 use hd_volume::{BlockStore, Volume};
+
+/// The blocks that an insert may need.
+pub fn growth<S: BlockStore>(volume: &Volume<S>) -> u32
+    ensures { IsTrue volume.now.is_sound → result ≡ index_growth volume.now }
+{
+    let _ = volume;
+    1
+}
+
+/// Whether an insert may lack room, beside so many blocks for other uses; where it says no, and there are so many blocks more
+/// to spare after these, an insert is not refused as full.
+pub fn lacks_room<S: BlockStore>(volume: &Volume<S>, others: u32) -> bool
+    requires formatted { IsTrue volume.now.is_sound → IsFormatted volume.now }
+    ensures { IsTrue volume.now.is_sound → result ≡ lacks_room others volume.now }
+{
+    u64::from(volume.spare()) < u64::from(others) + u64::from(growth(volume))
+}
 
 /// Enters the root of a new key.
 ///
@@ -23,10 +41,10 @@ pub fn insert<S: BlockStore>(
     ensures call { IsCall volume.old result volume.new }
     ensures index { OnOk result (IsTrue volume.old.is_sound → IsIndexOf dbd.now volume.new) }
     ensures entries { OnOk result (IsTrue volume.old.is_sound → entries_for dbd.now volume.new ≡ with_entry (record { key = key.now; address = address }) (entries_for dbd.now volume.old)) }
-    ensures changed { OnOk result (IsTrue volume.old.is_sound → IsIndexChange volume.old volume.new) }
+    ensures changed { OnOk result (IsTrue volume.old.is_sound → IsIndexChange volume.old (index_growth volume.old) volume.new) }
     ensures spares { OnOk result (IsTrue volume.old.is_sound → spare volume.old ≤ spare volume.new + index_growth volume.old) }
     ensures kept { IfErr result (λ _. IsTrue volume.new.is_sound → volume.new.image ≡ volume.old.image) }
-    ensures full { IfErr result (λ e. e ≡ Refused.Full → IsTrue volume.old.is_sound → spare volume.old < index_growth volume.old) }
+    ensures full { IfErr result (λ e. e ≡ Refused.Full → IsTrue volume.old.is_sound → lacks_room 0 volume.old ≡ true) }
     ensures memory { IfErr result (λ e. e ≡ Refused.Memory → volume.old.room < index_growth volume.old) }
     ensures refusal { IfErr result (λ e. (e ≡ Refused.Memory) ⊎ (e ≡ Refused.Full) ⊎ (e ≡ Refused.Device)) }
     ensures room { IsTrue volume.new.is_sound → volume.old.room ≤ volume.new.room + index_growth volume.old }
@@ -41,7 +59,7 @@ pub fn remove<S: BlockStore>(volume: &mut Volume<S>, dbd: &Dbd, key: &[u8]) -> R
     ensures call { IsCall volume.old result volume.new }
     ensures index { OnOk result (IsTrue volume.old.is_sound → IsIndexOf dbd.now volume.new) }
     ensures entries { OnOk result (IsTrue volume.old.is_sound → entries_for dbd.now volume.new ≡ without_key key.now (entries_for dbd.now volume.old)) }
-    ensures changed { OnOk result (IsTrue volume.old.is_sound → IsIndexChange volume.old volume.new) }
+    ensures changed { OnOk result (IsTrue volume.old.is_sound → IsIndexChange volume.old 0 volume.new) }
     ensures spares { OnOk result (IsTrue volume.old.is_sound → spare volume.old ≤ spare volume.new) }
     ensures refusal { IfErr result (λ e. e ≡ Refused.Device) }
     ensures room { volume.new.room ≡ volume.old.room }

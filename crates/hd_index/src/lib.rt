@@ -6,5 +6,5 @@ mod entries;
 mod place;
 mod search;
 
-pub use change::{insert, remove};
+pub use change::{growth, insert, lacks_room, remove};
 pub use search::{find, next_from};

@@ -1,5 +1,5 @@
 -- The index of a volume of version 1: no block, or one chain of index blocks of level 0 from the top block on.
-use Rattle.std.specs.Prelude.{◌≡◌, ◌⊎◌, ℕ, ◌+◌, ◌-◌, ◌/◌, ◌<◌, ◌≤◌, Bool, true, ◌&&◌, List, [], ◌∷◌, slice_index}
+use Rattle.std.specs.Prelude.{◌≡◌, ◌⊎◌, ℕ, ◌+◌, ◌-◌, ◌/◌, ◌<◌, ◌≤◌, Bool, true, ◌&&◌, nat_lt, List, [], ◌∷◌, slice_index}
 use Rattle.std.specs.Ordering.{nat_cmp, is_lt}
 use Rattle.std.specs.Cmp.Lexicographic.{slice_cmp}
 use Rattle.std.specs.Option.{option_map_or}
@@ -8,6 +8,7 @@ use Rattle.hd_dbd.specs.Types.{SegmentType}
 use Rattle.hd_dbd.specs.Hierarchy.{type_of}
 use Rattle.hd_volume.specs.Headers.{header_of}
 use Rattle.hd_volume.specs.Volumes.{VolumeState, block_at, IsKind, IsFormatted}
+use Rattle.hd_volume.specs.Rooms.{spare}
 use Rattle.hd_volume.specs.Entries.{Entry, entry_blocks, entries}
 
 -- the bytes of an index's keys, which are the keys of the roots
@@ -59,5 +60,9 @@ pub record HasIndex (key_length : ℕ) (v : VolumeState) : Type 0 where
   pub ascend : keys_ascend (entries key_length v) ≡ true
 
 -- so many blocks may be needed for one entry more
-abbrev pub index_growth : VolumeState → ℕ
+unfoldable pub index_growth : VolumeState → ℕ
 index_growth v = 1
+
+-- beside so many blocks for other uses one entry more may lack room
+unfoldable pub lacks_room : ℕ → VolumeState → Bool
+lacks_room others v = nat_lt (spare v) (others + index_growth v)

@@ -1,9 +1,11 @@
 -- Laws of volumes: on what segments and entries depend.
-use Rattle.std.specs.Prelude.{◌≡◌, ℕ, ◌<◌, List, [], ◌∷◌}
+use Rattle.std.specs.Prelude.{◌≡◌, ℕ, ◌+◌, ◌<◌, ◌≤◌, false}
 use Rattle.hd_volume.specs.Headers.{header_of}
-use Rattle.hd_volume.specs.Volumes.{VolumeState, block_at, kind_of, IsKind}
+use Rattle.hd_volume.specs.Volumes.{VolumeState, block_at, kind_of, IsKind, IsFormatted}
 use Rattle.hd_volume.specs.Records.{find}
-use Rattle.hd_volume.specs.Entries.{entry_blocks, entries}
+use Rattle.hd_volume.specs.Rooms.{spare}
+use Rattle.hd_volume.specs.Entries.{entries}
+use Rattle.hd_volume.specs.Indexes.{HasIndex, index_growth, lacks_room}
 use Rattle.hd_volume.specs.Calls.{KeepsIndex}
 
 -- Segments depend on the data blocks alone: where these stay, and no other block has become one, all segments stay.
@@ -14,15 +16,12 @@ SegmentsFrame =
     → ((n : ℕ) → 0 < n → kind_of (block_at w n) ≡ 1 → kind_of (block_at v n) ≡ 1)
     → (address : ℕ) → find w address ≡ find v address
 
--- all these blocks are index blocks
-abbrev pub AreIndex : VolumeState → List ℕ → Type 0
-AreIndex v [] = Unit {0}
-AreIndex v (n ∷ blocks) = IsKind v 2 n × AreIndex v blocks
-
--- Entries depend on the index blocks, and on the header's top block, alone: where the blocks that bear them are index blocks
--- and all index blocks stay, all entries stay. The largest count bounds the chain, and never changes.
-abbrev pub EntriesFrame : Type 0
-EntriesFrame =
-    (key_length : ℕ) (v w : VolumeState)
-    → (header_of w.image).top ≡ (header_of v.image).top → (header_of w.image).largest ≡ (header_of v.image).largest
-    → AreIndex v (entry_blocks v) → KeepsIndex v w → entries key_length w ≡ entries key_length v
+-- The index depends on the index blocks, and on the header's top and height, alone: where these stay and no other block has
+-- become one, the volume has the same index, which may need as much room.
+abbrev pub IndexStays : Type 0
+IndexStays =
+    (key_length : ℕ) (v w : VolumeState) → HasIndex key_length v → IsFormatted w → w.size ≡ v.size
+    → header_of w.image ≡ record (header_of v.image) { count = (header_of w.image).count; first_root = (header_of w.image).first_root; last_root = (header_of w.image).last_root }
+    → KeepsIndex v w → ((n : ℕ) → IsKind w 2 n → IsKind v 2 n)
+    → HasIndex key_length w × (entries key_length w ≡ entries key_length v) × (index_growth w ≡ index_growth v)
+    × ((more others : ℕ) → spare v ≤ spare w + more → lacks_room (more + others) v ≡ false → lacks_room others w ≡ false)

@@ -1,11 +1,11 @@
-ghost use Rattle.hd_volume.specs.Laws.{SegmentsFrame, EntriesFrame};
+ghost use Rattle.hd_volume.specs.Laws.{SegmentsFrame, IndexStays};
 
 /// Segments depend on the data blocks alone.
 pub fn law_segments_depend_on_data_blocks()
     ensures { SegmentsFrame }
 {}
 
-/// Entries depend on the index blocks, and on the header's top block, alone.
-pub fn law_entries_depend_on_index_blocks()
-    ensures { EntriesFrame }
+/// The index depends on the index blocks, and on the header's top and height, alone.
+pub fn law_an_index_stays()
+    ensures { IndexStays }
 {}

@@ -20,7 +20,7 @@ mod volume;
 
 pub use file::FileStore;
 pub use fuse::FuseStore;
-pub use law::{law_entries_depend_on_index_blocks, law_segments_depend_on_data_blocks};
+pub use law::{law_an_index_stays, law_segments_depend_on_data_blocks};
 pub use memory::MemStore;
 pub use store::BlockStore;
 pub use volume::Volume;

@@ -1,0 +1,45 @@
+-- Paths of addresses, and the walk from row to row.
+use Rattle.std.specs.Prelude.{◌≡◌, ℕ, zero, suc, ◌-◌, List, [], ◌∷◌, ◌++◌, length, take, ◌==◌, cond}
+use Rattle.hd_dbd.specs.Types.{SegmentType}
+use Rattle.hd_dbd.specs.Hierarchy.{Database, level_of}
+use Rattle.hd_dbd.specs.Forest.{Forest}
+use Rattle.hd_volume.specs.Volumes.{VolumeState}
+use Rattle.hd_links.specs.Links.{Links, IsSegment}
+use Rattle.hd_links.specs.Placed.{Placed, Holds}
+use Rattle.hd_links.specs.Steps.{tip_from, next_row, behind_span}
+use Rattle.hd_image.specs.Records.{links_of}
+
+-- the last address of a path, 0 for none
+abbrev pub tip : List ℕ → ℕ
+tip path = tip_from 0 path
+
+-- the address before the last of a path: 0, the header, above a root
+abbrev pub parent_on : List ℕ → ℕ
+parent_on path = tip (take (length path - 1) path)
+
+-- each address of the path is that of a segment
+abbrev pub AreSegments : Links → List ℕ → Type 0
+AreSegments m [] = Unit {0}
+AreSegments m (a ∷ path) = IsSegment m a × AreSegments m path
+
+-- The path of the row at an address just behind what a path leads to: as much of the path as is above the row's level, and
+-- the row; no path for the address 0.
+abbrev pub moved : List SegmentType → Links → List ℕ → ℕ → List ℕ
+moved types m path a = cond (a == 0) [] (take (level_of types (m.code a) - 1) path ++ a ∷ [])
+
+-- the path of the row behind the last of a path, none behind the last row; that of the first root behind no path
+abbrev pub next_on : List SegmentType → Links → List ℕ → List ℕ
+next_on types m path = moved types m path (next_row types m path)
+
+-- the path of the row behind the span of the last of a path, none where there is none
+abbrev pub next_after_span_on : List SegmentType → Links → List ℕ → List ℕ
+next_after_span_on types m path = moved types m path (behind_span types m path)
+
+-- the path after so many steps from row to row, from the first row on
+abbrev pub walked : List SegmentType → Links → ℕ → List ℕ
+walked types m zero = next_on types m []
+walked types m (suc n) = next_on types m (walked types m n)
+
+-- the volume's records hold a placed forest
+abbrev pub HasForest : Database → VolumeState → Type 0
+HasForest d v = (f : Forest Placed) × Holds d.types (links_of d.types v) f

@@ -1,0 +1,60 @@
+ghost use Rattle.std.specs.Prelude.{◌≡◌, ◌-◌, ◌≤◌, [], ◌∷◌, ◌++◌, length, take};
+
+use std::marker::Model;
+
+/// The most levels of a database.
+const MOST_LEVELS: usize = 15;
+
+/// The addresses of a row and its parents, root first; none before the first row and behind the last.
+#[derive(Clone, Debug, Drop)]
+pub struct Path {
+    addresses: [u32; 15],
+    count: usize,
+}
+
+impl Model for Path {
+    ghost use Rattle.std.specs.Prelude.{ℕ, List, take, ◌≤◌};
+
+    ghost Value = { List ℕ };
+
+    ghost view = { λ p. take p.count p.addresses };
+
+    ghost invariant = { λ p. p.count ≤ 15 };
+}
+
+impl Path {
+    /// The path of no row.
+    pub fn new() -> Path
+        ensures { result ≡ [] }
+    {
+        Path {
+            addresses: [0; 15],
+            count: 0,
+        }
+    }
+
+    /// The addresses, root first; at most 15.
+    pub fn addresses(&self) -> &[u32]
+        ensures value { result.now ≡ self.now }
+        ensures few { length self.now ≤ 15 }
+    {
+        &self.addresses[..self.count]
+    }
+
+    /// Goes to no row.
+    pub fn clear(&mut self)
+        ensures { self.new ≡ [] }
+    {
+        self.count = 0;
+    }
+
+    /// Goes to a row of a level, from 1 to 15: what is above the level stays.
+    pub fn step(&mut self, level: u8, address: u32)
+        requires { level ≤ 15 }
+        ensures { self.new ≡ take (level - 1) self.old ++ address ∷ [] }
+    {
+        let kept = (level as usize).saturating_sub(1).min(self.count);
+        self.addresses[kept] = address;
+        self.count = kept + 1;
+    }
+}

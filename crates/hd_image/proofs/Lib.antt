@@ -1,0 +1,4 @@
+pub mod SameRecords
+pub mod Roots
+pub mod Found
+pub mod Writes

@@ -1,0 +1,46 @@
+ghost use Rattle.hd_image.specs.Laws.{RecordsAreALinkGraph, RecordsStay, WritingSetsAPointer, SettingARootSetsAPointer, PuttingAddsARecord, FreeingTakesARecord, NewVolumesAreEmpty, WritingReplacesBytes, AVolumeHoldsOneForest};
+
+/// The records of a database's volume are a link graph, whose addresses are places in its image.
+pub fn law_records_are_a_link_graph()
+    ensures { RecordsAreALinkGraph }
+{}
+
+/// Where all segments and the header's roots stay, the records stay.
+pub fn law_records_stay()
+    ensures { RecordsStay }
+{}
+
+/// An address that was written into a pointer of a segment changes that pointer of the records alone.
+pub fn law_writing_sets_a_pointer()
+    ensures { WritingSetsAPointer }
+{}
+
+/// A root that was set in the header is its first or last child.
+pub fn law_setting_a_root_sets_a_pointer()
+    ensures { SettingARootSetsAPointer }
+{}
+
+/// A row's bytes that were written behind a segment's prefix change its bytes alone.
+pub fn law_writing_replaces_bytes()
+    ensures { WritingReplacesBytes }
+{}
+
+/// A segment that was put is one record more.
+pub fn law_putting_adds_a_record()
+    ensures { PuttingAddsARecord }
+{}
+
+/// A segment that was freed is one record less.
+pub fn law_freeing_takes_a_record()
+    ensures { FreeingTakesARecord }
+{}
+
+/// A new volume holds the forest without rows.
+pub fn law_new_volumes_are_empty()
+    ensures { NewVolumesAreEmpty }
+{}
+
+/// A volume holds one forest of a database at most.
+pub fn law_a_volume_holds_one_forest()
+    ensures { AVolumeHoldsOneForest }
+{}
