@@ -10,6 +10,7 @@ use hd_dbd::{Dbd, Refused};
 use hd_volume::{BlockStore, Volume};
 
 /// The blocks that an insert may need.
+#[tactic(auto, unfolding(hd_volume::specs::Indexes::index_growth))]
 pub fn growth<S: BlockStore>(volume: &Volume<S>) -> u32
     ensures { IsTrue volume.now.is_sound → result ≡ index_growth volume.now }
 {
@@ -19,6 +20,7 @@ pub fn growth<S: BlockStore>(volume: &Volume<S>) -> u32
 
 /// Whether an insert may lack room, beside so many blocks for other uses; where it says no, and there are so many blocks more
 /// to spare after these, an insert is not refused as full.
+#[tactic(auto, unfolding(hd_volume::specs::Indexes::lacks_room))]
 pub fn lacks_room<S: BlockStore>(volume: &Volume<S>, others: u32) -> bool
     requires formatted { IsTrue volume.now.is_sound → IsFormatted volume.now }
     ensures { IsTrue volume.now.is_sound → result ≡ lacks_room others volume.now }

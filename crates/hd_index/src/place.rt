@@ -4,9 +4,12 @@ ghost use Rattle.hd_volume.specs.Volumes.{block_at};
 ghost use Rattle.hd_volume.specs.Calls.{IsRead};
 ghost use Rattle.hd_volume.specs.Entries.{entries_in};
 ghost use Rattle.hd_volume.specs.Indexes.{keys_ascend, IsEntryBlock, HasIndex};
-ghost use Rattle.hd_index.specs.Places.{seen_in, place_of};
+ghost use Rattle.std.specs.Prelude.{◌⊎◌, length, Option, Some, None, option_map, slice_get, bytes_eq};
+ghost use Rattle.hd_volume.specs.Indexes.{entry_room};
+ghost use Rattle.hd_bytes.specs.Numbers.{number_at};
+ghost use Rattle.hd_index.specs.Places.{seen_in, place_of, found_at};
 
-use crate::entries::{FIRST, Seen, seen_in};
+use crate::entries::{FIRST, Seen, address_at, entry_count, key_at, seen_in};
 use hd_dbd::Refused;
 use hd_volume::{BlockStore, Volume};
 
@@ -18,6 +21,13 @@ const MOST_BLOCKS: u32 = 65536;
 pub struct Place {
     pub block: u32,
     pub index: usize,
+}
+
+/// The address of an entry, and whether it has the key that was sought.
+#[derive(Clone, Copy, Debug)]
+pub struct Found {
+    pub address: u32,
+    pub is_key: bool,
 }
 
 /// A block is one of the volume's.
@@ -78,4 +88,41 @@ pub fn seek<S: BlockStore>(
         n = seen.next;
     }
     Ok(place)
+}
+
+/// The entry of a block at an index, if there is one.
+fn found_in(block: &[u8], key_length: usize, index: usize, key: &[u8]) -> Option<Found>
+    requires short { key_length ≤ 255 }
+    requires least { 12 ≤ length block.now }
+    ensures { number_at 2 block.now 4 ≤ entry_room key_length (length block.now) → result ≡ option_map (λ e. record { address = e.address; is_key = bytes_eq e.key key.now }) (slice_get (entries_in key_length block.now) index) }
+{
+    if index >= entry_count(block, key_length) {
+        return None;
+    }
+    Some(Found {
+        address: address_at(block, key_length, index),
+        is_key: key_at(block, key_length, index) == key,
+    })
+}
+
+/// The entry at a place, if there is one.
+pub fn entry_at<S: BlockStore>(
+    volume: &mut Volume<S>,
+    key_length: usize,
+    place: Place,
+    key: &[u8],
+) -> Result<Option<Found>, Refused>
+    requires short { key_length ≤ 255 }
+    ensures read { IsRead volume.old result volume.new }
+    ensures value { IfOk result (λ found. IsTrue volume.old.is_sound → (place.block ≡ 0) ⊎ IsEntryBlock key_length volume.old place.block → found ≡ found_at key_length volume.old key.now place) }
+    ensures refusal { IfErr result (λ e. e ≡ Refused.Device) }
+{
+    if place.block == 0 || !has_block(volume, place.block) {
+        return Ok(None);
+    }
+    let block = volume.block(place.block)?;
+    if block.len() < FIRST {
+        return Ok(None);
+    }
+    Ok(found_in(block, key_length, place.index, key))
 }

@@ -21,7 +21,7 @@ loop-init g c =
       most = most;
       left = λ s h. (let L : ℕ → Type 0 = λ n. IsLeft k v n in subst L (sym (top s h)) (index-left k v h));
       same = λ s h. ap (λ (m : ℕ). place_from k v c.args.key.now m c.top-n.result (record { block = 0; index = 0 })) (let m = most s h in let e : c.min-most.result - 0 ≡ (header_of v.image).largest = omega arith in e)
-      ∙ ap (λ (n : ℕ). place_from k v c.args.key.now (header_of v.image).largest n (record { block = 0; index = 0 })) (top s h);
+          ∙ ap (λ (n : ℕ). place_from k v c.args.key.now (header_of v.image).largest n (record { block = 0; index = 0 })) (top s h);
     }
 
 pub loop-preserved : goal.loop-preserved
