@@ -11,3 +11,4 @@ pub mod JoinLemmas
 pub mod LawLemmas
 pub mod CreateLemmas
 pub mod SpaceLemmas
+pub mod IndexLemmas
