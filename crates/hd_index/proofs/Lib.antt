@@ -3,3 +3,4 @@ pub mod BlockLemmas
 pub mod RoomLemmas
 pub mod CallLemmas
 pub mod ChainLemmas
+pub mod EditLemmas

@@ -1,6 +1,7 @@
 //! The root index of a volume: an ordered map from the roots' keys to their addresses.
 #![tactic(auto)]
 
+mod bytes;
 mod change;
 mod entries;
 mod place;
