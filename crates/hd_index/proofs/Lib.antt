@@ -4,3 +4,4 @@ pub mod RoomLemmas
 pub mod CallLemmas
 pub mod ChainLemmas
 pub mod EditLemmas
+pub mod EntryLemmas
