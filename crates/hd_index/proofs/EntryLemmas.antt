@@ -100,3 +100,124 @@ byte-below b xs p j fits l = (changes-with b xs p fits).below j l
 
 pub length-put : (b xs : List ℕ) (p : ℕ) → p + length xs ≤ length b → length (with_bytes b p xs) ≡ length b
 length-put b xs p fits = (changes-with b xs p fits).len
+
+-- ---- an entry more, an entry less, another count, another block behind
+
+-- The bytes of an index block: its level, its count, its entries and the block behind it.
+pub record AreBytes (k : ℕ) (b : List ℕ) (c : ℕ) (es : List Entry) (next : ℕ) : Type 0 where
+  pub level : slice_index b 3 ≡ 0
+  pub count : number_at 2 b 4 ≡ c
+  pub entries : entries_at k b 12 c ≡ es
+  pub next_is : number_at 4 b 8 ≡ next
+  pub fits : 12 + c * (k + 4) ≤ length b
+
+-- another count of entries, of bytes that are there already
+pub put-count : (k : ℕ) (b two : List ℕ) (c d : ℕ) (es fs : List Entry) (next : ℕ) → AreBytes k b c es next → length two ≡ 2 → number_at 2 two 0 ≡ d → entries_at k b 12 d ≡ fs → 12 + d * (k + 4) ≤ length b
+    → AreBytes k (with_bytes b 4 two) d fs next
+put-count k b two c d es fs next h len is fs-are fits =
+    let room = h.fits in
+    let same = bytes-apart b two 4 12 (d * (k + 4)) (omega arith) fits (inr (omega arith)) in
+    let long = length-put b two 4 (omega arith) in
+    record {
+      level = byte-below b two 4 3 (omega arith) (omega arith) ∙ h.level;
+      count = number-put b two 4 2 0 (omega arith) (omega arith) ∙ is;
+      entries = entries-same k (with_bytes b 4 two) b 12 12 d (omega arith) fits same ∙ fs-are;
+      next_is = number-apart b two 4 4 8 (omega arith) (inr (omega arith)) ∙ h.next_is;
+      fits = omega arith;
+    }
+
+-- another block behind
+pub put-next : (k : ℕ) (b four : List ℕ) (c : ℕ) (es : List Entry) (next x : ℕ) → AreBytes k b c es next → length four ≡ 4 → number_at 4 four 0 ≡ x → AreBytes k (with_bytes b 8 four) c es x
+put-next k b four c es next x h len is =
+    let room = h.fits in
+    let same = bytes-apart b four 8 12 (c * (k + 4)) (omega arith) (omega arith) (inr (omega arith)) in
+    let long = length-put b four 8 (omega arith) in
+    record {
+      level = byte-below b four 8 3 (omega arith) (omega arith) ∙ h.level;
+      count = number-apart b four 8 2 4 (omega arith) (inl (omega arith)) ∙ h.count;
+      entries = entries-same k (with_bytes b 8 four) b 12 12 c (omega arith) (omega arith) same ∙ h.entries;
+      next_is = number-put b four 8 4 0 (omega arith) (omega arith) ∙ is;
+      fits = omega arith;
+    }
+
+-- bytes put behind the front of the block, whatever they are
+pub put-behind : (k : ℕ) (b xs : List ℕ) (p c : ℕ) (es : List Entry) (next : ℕ) → AreBytes k b c es next → 12 ≤ p → p + length xs ≤ length b → AreBytes k (with_bytes b p xs) c (entries_at k (with_bytes b p xs) 12 c) next
+put-behind k b xs p c es next h behind fits =
+    let room = h.fits in
+    let long = length-put b xs p fits in
+    record {
+      level = byte-below b xs p 3 fits (omega arith) ∙ h.level;
+      count = number-apart b xs p 2 4 fits (inl (omega arith)) ∙ h.count;
+      entries = refl;
+      next_is = number-apart b xs p 4 8 fits (inl (omega arith)) ∙ h.next_is;
+      fits = omega arith;
+    }
+
+-- an entry's bytes: its key, and its address
+pub record IsEntryBytes (k : ℕ) (xs : List ℕ) (e : Entry) : Type 0 where
+  pub len : length xs ≡ k + 4
+  pub key : take k xs ≡ e.key
+  pub address : number_at 4 xs k ≡ e.address
+
+three-parts : (i d k : ℕ) → (i + d + 1) * (k + 4) ≡ i * (k + 4) + (k + 4) + d * (k + 4)
+three-parts i d k = omega arith
+
+-- the bytes with the entries from one on moved up by one, and an entry put before them
+pub added : ℕ → ℕ → ℕ → List ℕ → List ℕ → List ℕ
+added k i c b xs = with_bytes (with_bytes b (12 + i * (k + 4) + (k + 4)) (bytes_at b (12 + i * (k + 4)) ((c - i) * (k + 4)))) (12 + i * (k + 4)) xs
+
+-- are these entries, one more
+pub entries-added : (k : ℕ) (b xs : List ℕ) (i c : ℕ) (e : Entry) → i ≤ c → 12 + (c + 1) * (k + 4) ≤ length b → IsEntryBytes k xs e
+    → entries_at k (added k i c b xs) 12 (c + 1) ≡ take i (entries_at k b 12 c) ++ (e ∷ drop i (entries_at k b 12 c))
+unfolding added
+entries-added k b xs i c e low fits x =
+    let w : ℕ = k + 4 in
+    let p : ℕ = 12 + i * (k + 4) in
+    let l : ℕ = (c - i) * (k + 4) in
+    let total : (c + 1) * (k + 4) ≡ i * (k + 4) + (k + 4) + l = ap (λ (x : ℕ). (x + 1) * (k + 4)) (let e : c ≡ i + (c - i) = omega arith in e) ∙ three-parts i (c - i) k in
+    let moved : List ℕ = bytes_at b p l in
+    let b1 : List ℕ = with_bytes b (p + w) moved in
+    let b2 : List ℕ = with_bytes b1 p xs in
+    let lm : length moved ≡ l = length-bytes_at b p l (omega arith) in
+    let l1 : length b1 ≡ length b = length-put b moved (p + w) (omega arith) in
+    let lx = x.len in
+    let l2 : length b2 ≡ length b1 = length-put b1 xs p (omega arith) in
+    let front : entries_at k b2 12 i ≡ entries_at k b 12 i = entries-same k b2 b 12 12 i (omega arith) (omega arith)
+    (bytes-apart b1 xs p 12 (i * (k + 4)) (omega arith) (omega arith) (inl (omega arith)) ∙ bytes-apart b moved (p + w) 12 (i * (k + 4)) (omega arith) (omega arith) (inl (omega arith))) in
+    let key : bytes_at b2 p k ≡ e.key = bytes-put b1 xs p k (omega arith) (omega arith) ∙ x.key in
+    let address : number_at 4 b2 (p + k) ≡ e.address = number-put b1 xs p 4 k (omega arith) (omega arith) ∙ x.address in
+    let one : entry_of k b2 p ≡ e = rw (key, address) refl in
+    let rear : entries_at k b2 (p + k + 4) (c - i) ≡ entries_at k b p (c - i) =
+    ap (λ (j : ℕ). entries_at k b2 j (c - i)) (let e : p + k + 4 ≡ p + w = omega arith in e)
+    ∙ entries-same k b2 b (p + w) p (c - i) (omega arith) (omega arith)
+    (bytes-apart b1 xs p (p + w) l (omega arith) (omega arith) (inr (omega arith)) ∙ ap (bytes_at b1 (p + w)) (sym lm) ∙ bytes-with b moved (p + w) (omega arith)) in
+    let all : entries_at k b2 12 (c + 1) ≡ entries_at k b2 12 i ++ (entry_of k b2 p ∷ entries_at k b2 (p + k + 4) (c - i)) =
+    ap (entries_at k b2 12) (let e : c + 1 ≡ i + suc (c - i) = omega arith in e) ∙ entries-split k b2 12 i (suc (c - i)) in
+    all ∙ ap (λ (es : List Entry). es ++ (entry_of k b2 p ∷ entries_at k b2 (p + k + 4) (c - i))) (front ∙ sym (entries-take k b 12 i c low))
+    ∙ ap (λ (f : Entry). take i (entries_at k b 12 c) ++ (f ∷ entries_at k b2 (p + k + 4) (c - i))) one
+    ∙ ap (λ (es : List Entry). take i (entries_at k b 12 c) ++ (e ∷ es)) (rear ∙ sym (entries-drop k b 12 i c low))
+
+-- the bytes with the entries behind one moved down by one
+pub taken : ℕ → ℕ → ℕ → List ℕ → List ℕ
+taken k i c b = with_bytes b (12 + i * (k + 4)) (bytes_at b (12 + i * (k + 4) + (k + 4)) ((c - (i + 1)) * (k + 4)))
+
+-- are these entries, one less
+pub entries-taken : (k : ℕ) (b : List ℕ) (i c : ℕ) → i < c → 12 + c * (k + 4) ≤ length b → entries_at k (taken k i c b) 12 (c - 1) ≡ take i (entries_at k b 12 c) ++ drop (suc i) (entries_at k b 12 c)
+unfolding taken
+entries-taken k b i c low fits =
+    let w : ℕ = k + 4 in
+    let p : ℕ = 12 + i * (k + 4) in
+    let l : ℕ = (c - (i + 1)) * (k + 4) in
+    let total : c * (k + 4) ≡ i * (k + 4) + (k + 4) + l = ap (λ (x : ℕ). x * (k + 4)) (let e : c ≡ i + (c - (i + 1)) + 1 = omega arith in e) ∙ three-parts i (c - (i + 1)) k in
+    let moved : List ℕ = bytes_at b (p + w) l in
+    let b1 : List ℕ = with_bytes b p moved in
+    let lm : length moved ≡ l = length-bytes_at b (p + w) l (omega arith) in
+    let l1 : length b1 ≡ length b = length-put b moved p (omega arith) in
+    let front : entries_at k b1 12 i ≡ entries_at k b 12 i = entries-same k b1 b 12 12 i (omega arith) (omega arith) (bytes-apart b moved p 12 (i * (k + 4)) (omega arith) (omega arith) (inl (omega arith))) in
+    let rear : entries_at k b1 p (c - (i + 1)) ≡ entries_at k b (p + w) (c - (i + 1)) =
+    entries-same k b1 b p (p + w) (c - (i + 1)) (omega arith) (omega arith) (ap (bytes_at b1 p) (sym lm) ∙ bytes-with b moved p (omega arith)) in
+    let behind : drop (suc i) (entries_at k b 12 c) ≡ entries_at k b (p + w) (c - (i + 1)) =
+    entries-drop k b 12 (suc i) c (omega arith) ∙ ap (λ (j : ℕ). entries_at k b j (c - suc i)) (let e : 12 + suc i * (k + 4) ≡ p + w = omega arith in e) ∙ ap (entries_at k b (p + w)) (let e : c - suc i ≡ c - (i + 1) = omega arith in e) in
+    ap (entries_at k b1 12) (let e : c - 1 ≡ i + (c - (i + 1)) = omega arith in e) ∙ entries-split k b1 12 i (c - (i + 1))
+    ∙ ap (λ (es : List Entry). es ++ entries_at k b1 p (c - (i + 1))) (front ∙ sym (entries-take k b 12 i c (omega arith)))
+    ∙ ap (λ (es : List Entry). take i (entries_at k b 12 c) ++ es) (rear ∙ sym behind)
