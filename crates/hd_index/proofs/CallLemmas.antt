@@ -1,5 +1,5 @@
 -- Calls of a volume one after another.
-use Rattle.std.proofs.Common.{◌≡◌, ℕ, ◌+◌, ◌*◌, ◌<◌, ◌≤◌, Bool, false, IsTrue, List, length, Result, Ok, Err, refl, sym, ap, ◌∙◌, arith, subst}
+use Rattle.std.proofs.Common.{◌≡◌, ℕ, ◌+◌, ◌*◌, ◌<◌, ◌≤◌, Bool, false, IsTrue, OnOk, List, length, Result, Ok, Err, refl, sym, ap, ◌∙◌, arith, subst}
 use Rattle.hd_dbd.specs.declared.answer.Refused.{Refused}
 use Rattle.hd_dbd.specs.declared.answer.Refused.TheVariants.{Memory, Full, Device, Broken, Area}
 use Rattle.hd_volume.specs.Stores.{SoundFor, StaysSound}
@@ -20,6 +20,11 @@ was-sound Device a b h s = (let none : IsTrue false = rw h at s in absurd (cc))
 pub sound-back : {A : Type 0} (r : Result A Refused) (a b : Bool) → StaysSound r a b → IsTrue b → IsTrue a
 sound-back (Ok x) a b h s = rw (← h) s
 sound-back (Err e) a b h s = was-sound e a b h s
+
+-- what holds where a call is not refused
+pub on-ok-map : {A E P Q : Type 0} (r : Result A E) → (P → Q) → OnOk r P → OnOk r Q
+on-ok-map (Ok x) f h = f h
+on-ok-map (Err e) f h = h
 
 -- what a call answers matters only where it refuses
 pub call-ok : {A B : Type 0} {u v : VolumeState} {x : A} (y : B) → IsCall {T = A} u (Ok x) v → IsCall {T = B} u (Ok y) v

@@ -16,7 +16,8 @@ const CHUNK: usize = 1024;
 
 /// The two bytes of a number.
 pub fn two_bytes(number: u16) -> [u8; 2]
-    ensures { number_at 2 result 0 ≡ number }
+    ensures len { length result ≡ 2 }
+    ensures value { number_at 2 result 0 ≡ number }
 {
     let mut bytes = [0; 2];
     write_u16(&mut bytes, 0, number);
@@ -25,7 +26,8 @@ pub fn two_bytes(number: u16) -> [u8; 2]
 
 /// The four bytes of a number.
 pub fn four_bytes(number: u32) -> [u8; 4]
-    ensures { number_at 4 result 0 ≡ number }
+    ensures len { length result ≡ 4 }
+    ensures value { number_at 4 result 0 ≡ number }
 {
     let mut bytes = [0; 4];
     write_u32(&mut bytes, 0, number);

@@ -3,6 +3,7 @@
 
 mod bytes;
 mod change;
+mod edit;
 mod entries;
 mod place;
 mod search;
