@@ -5,3 +5,4 @@ pub mod CallLemmas
 pub mod ChainLemmas
 pub mod EditLemmas
 pub mod EntryLemmas
+pub mod SpliceLemmas

@@ -1,13 +1,14 @@
--- Changes of one index block.
-use Rattle.std.specs.Prelude.{◌≡◌, ℕ, ◌+◌, ◌≤◌, List}
+-- Changes of index blocks.
+use Rattle.std.specs.Prelude.{◌≡◌, ◌≢◌, ◌⊎◌, ℕ, ◌+◌, ◌≤◌, List, [], ◌∷◌}
 use Rattle.hd_bytes.specs.Numbers.{number_at}
 use Rattle.hd_volume.specs.Images.{ChangesBlock}
 use Rattle.hd_volume.specs.Headers.{header_of}
 use Rattle.hd_volume.specs.Volumes.{VolumeState, block_at, IsKind, IsFormatted}
 use Rattle.hd_volume.specs.Rooms.{spare}
 use Rattle.hd_volume.specs.Calls.{KeepsSegments, KeepsHoles}
-use Rattle.hd_volume.specs.Entries.{Entry, entries_in}
-use Rattle.hd_volume.specs.Indexes.{IsEntryBlock}
+use Rattle.hd_volume.specs.Entries.{Entry, entries_in, entries_of}
+use Rattle.hd_volume.specs.Indexes.{IsEntryBlock, IsAmong}
+use Rattle.hd_index.specs.Changes.{IsIndexChange}
 
 -- Index block n may have changed, and nothing else has.
 pub record IsEdit (old : VolumeState) (n : ℕ) (new : VolumeState) : Type 0 where
@@ -37,3 +38,31 @@ pub record Bears (key_length : ℕ) (v : VolumeState) (n : ℕ) (es : List Entry
 pub record HasNewEntries (key_length : ℕ) (old : VolumeState) (n : ℕ) (es : List Entry) (next : ℕ) (new : VolumeState) : Type 0 where
   pub edit : IsEdit old n new
   pub bears : Bears key_length new n es next
+
+-- Index block n has changed, index block m has changed or come, and no other: the volume has grown by at most so many blocks.
+pub record IsIndexStep (old : VolumeState) (n m more : ℕ) (new : VolumeState) : Type 0 where
+  pub size : new.size ≡ old.size
+  pub sizes : new.sizes ≡ old.sizes
+  pub formatted : IsFormatted new
+  pub others : (b : ℕ) → IsKind old 2 b → b ≢ n → b ≢ m → block_at new b ≡ block_at old b
+  pub stay : (b : ℕ) → IsKind old 2 b → IsKind new 2 b
+  pub back : (b : ℕ) → IsKind new 2 b → IsKind old 2 b ⊎ (b ≡ m)
+  pub change : IsIndexChange old more new
+  pub header : header_of new.image ≡ record (header_of old.image) { count = (header_of new.image).count }
+  pub spares : spare old ≤ spare new + more
+
+-- These blocks are a run of the chain from a number on to another.
+abbrev pub IsRun : ℕ → VolumeState → ℕ → List ℕ → ℕ → Type 0
+IsRun key_length v start [] end = start ≡ end
+IsRun key_length v start (n ∷ blocks) end = (start ≡ n) × IsEntryBlock key_length v n × IsRun key_length v (number_at 4 (block_at v n) 8) blocks end
+
+-- The entries of block n are now these, in it or in it and block m behind it; nothing else of the index has changed.
+pub record IsSpliced (key_length : ℕ) (old : VolumeState) (n : ℕ) (es : List Entry) (more : ℕ) (new : VolumeState) : Type 0 where
+  pub block : ℕ
+  pub step : IsIndexStep old n block more new
+  pub new_or_same : (block ≡ n) ⊎ (IsKind old 2 block → ⊥)
+  pub blocks : List ℕ
+  pub run : IsRun key_length new n blocks (number_at 4 (block_at old n) 8)
+  pub among : IsAmong block blocks
+  pub first : IsAmong n blocks
+  pub entries : entries_of key_length new blocks ≡ es
