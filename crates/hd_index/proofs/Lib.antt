@@ -6,3 +6,4 @@ pub mod ChainLemmas
 pub mod EditLemmas
 pub mod EntryLemmas
 pub mod SpliceLemmas
+pub mod StepLemmas
