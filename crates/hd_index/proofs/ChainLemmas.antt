@@ -10,11 +10,12 @@ use Rattle.hd_volume.specs.Entries.{Entry, entries_in, entries_of, chain_from, e
 use Rattle.hd_volume.specs.Indexes.{keys_ascend, entry_room, IsEntryBlock, IsChain, IsAmong, HasIndex}
 use Rattle.hd_index.specs.declared.entries.Seen.{Seen}
 use Rattle.hd_index.specs.declared.place.Place.{Place}
+use Rattle.hd_index.specs.declared.place.Spot.{Spot}
 use Rattle.hd_index.specs.Counts.{below_count}
 use Rattle.hd_index.specs.declared.place.Found.{Found}
 use Rattle.hd_index.specs.Maps.{address_of, address_from}
-use Rattle.hd_index.specs.Places.{seen_in, place_from, place_of, found_at, address_found}
-use Rattle.hd_index.proofs.MapLemmas.{ascend-parts, AreBelow, none-below, below-all, below-append, address-behind, from-behind, address-here, address-none, address-from-here}
+use Rattle.hd_index.specs.Places.{seen_in, place_from, place_of, found_at, address_found, HasPlace, no_spot, spot_in, spot_at, spot_of}
+use Rattle.hd_index.proofs.MapLemmas.{ascend-parts, below-most, AreBelow, none-below, below-all, below-append, address-behind, from-behind, address-here, address-none, address-from-here}
 use Rattle.hd_index.proofs.BlockLemmas.{length-entries, get-past, get-within}
 use Rattle.std.proofs.lemmas.List.{append_assoc}
 
@@ -272,21 +273,44 @@ index-found k v key h = elim (place-block k v key h) [
 ]
 
 -- the place that the walk finds is none or in a block of entries
-pub place-there : (k : ℕ) (v : VolumeState) (key : List ℕ) → HasIndex k v → ((place_of k v key).block ≡ 0) ⊎ IsEntryBlock k v (place_of k v key).block
+pub place-there : (k : ℕ) (v : VolumeState) (key : List ℕ) → HasIndex k v → ((place_of k v key).block ≡ 0) ⊎ HasPlace k v (place_of k v key)
 place-there k v key h = elim (place-block k v key h) [
   | inl none ↦ inl (ap (λ (p : Place). p.block) none.0)
-  | inr p ↦ inr p.1
+  | inr p ↦ inr (record {
+    block = p.1;
+    within =
+        (let at = p.0.index_is in
+        let most = below-most key (entries_in k (block_at v (place_of k v key).block)) in
+        let len = length-entries k (block_at v (place_of k v key).block) 12 (number_at 2 (block_at v (place_of k v key).block) 4) in omega arith);
+  })
 ]
 
+-- what is read at a place has the entry found there
+pub spot-found : (k : ℕ) (v : VolumeState) (key : List ℕ) (p : Place) → (spot_at k v key p).found ≡ found_at k v key p
+spot-found k v key p = by-test (p.block == 0)
+  where
+    by-test : (t : Bool) → (cond t no_spot (spot_in k key (block_at v p.block) p)).found
+        ≡ cond t None (option_map (λ e. record { address = e.address; is_key = bytes_eq e.key key }) (slice_get (entries_in k (block_at v p.block)) p.index))
+    by-test true = refl
+    by-test false = refl
+
 -- a walk, and then a look at the place that it found
-pub place-found-by : (l k : ℕ) (v m : VolumeState) (key : List ℕ) (p : Place) (found : Option Found) → l ≡ k → HasIndex k v → m.size ≡ v.size → m.image ≡ v.image
-    → (HasIndex l v → p ≡ place_of l v key) → ((p.block ≡ 0) ⊎ IsEntryBlock l m p.block → found ≡ found_at l m key p) → found ≡ found_at k v key (place_of k v key)
-place-found-by l k v m key p found same h size image walked looked =
-    let H : ℕ → Type 0 = λ i. HasIndex i v in
-    let at : p ≡ place_of k v key = walked (subst H (sym same) h) ∙ ap (λ (i : ℕ). place_of i v key) same in
-    let T : Place → Type 0 = λ q. (q.block ≡ 0) ⊎ IsEntryBlock k v q.block in
-    let there : (p.block ≡ 0) ⊎ IsEntryBlock k v p.block = subst T (sym at) (place-there k v key h) in
-    let E : ℕ → Type 0 = λ i. IsEntryBlock i m p.block in
-    let there-then : (p.block ≡ 0) ⊎ IsEntryBlock l m p.block = elim there [ inl z ↦ inl z | inr e ↦ inr (subst E (sym same) (entry-block-same k v m p.block size image e)) ] in
-    let one : found_at l m key p ≡ found_at k v key p = rw (same, size, image) refl in
-    looked there-then ∙ one ∙ ap (found_at k v key) at
+pub place-spot-by : (k : ℕ) (v m : VolumeState) (key : List ℕ) (p : Place) (spot : Spot) → HasIndex k v → m.size ≡ v.size → m.image ≡ v.image → p ≡ place_of k v key
+    → ((p.block ≡ 0) ⊎ HasPlace k m p → spot ≡ spot_at k m key p) → spot ≡ spot_of k v key
+place-spot-by k v m key p spot h size image at looked =
+    let T : Place → Type 0 = λ q. (q.block ≡ 0) ⊎ HasPlace k v q in
+    let there : (p.block ≡ 0) ⊎ HasPlace k v p = subst T (sym at) (place-there k v key h) in
+    let same : block_at m p.block ≡ block_at v p.block = rw (size, image) refl in
+    let there-then : (p.block ≡ 0) ⊎ HasPlace k m p = elim there [
+      | inl z ↦ inl z
+      | inr e ↦ inr (record {
+        block = entry-block-same k v m p.block size image e.block;
+        within = (let c : number_at 2 (block_at m p.block) 4 ≡ number_at 2 (block_at v p.block) 4 = ap (λ (b : List ℕ). number_at 2 b 4) same in let w = e.within in omega arith);
+      })
+    ] in
+    let one : spot_at k m key p ≡ spot_at k v key p = rw (size, image) refl in
+    looked there-then ∙ one ∙ ap (spot_at k v key) at
+
+-- what is read at a key's place, with keys of the length of the root's
+pub located : (l k : ℕ) (v : VolumeState) (key : List ℕ) (spot : Spot) → l ≡ k → HasIndex k v → (HasIndex l v → spot ≡ spot_of l v key) → spot ≡ spot_of k v key
+located l k v key spot same h read = (let H : ℕ → Type 0 = λ i. HasIndex i v in read (subst H (sym same) h) ∙ ap (λ (i : ℕ). spot_of i v key) same)

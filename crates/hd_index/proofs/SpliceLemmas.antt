@@ -185,8 +185,8 @@ joined k v w front rest blocks n top chain same-front same-rest run =
     record {
       chain = run-chain k w (header_of w.image).top n front (blocks ++ rest) f' (run-chain k w n (number_at 4 (block_at v n) 8) blocks rest run r');
       entries = entries-append k w front (blocks ++ rest)
-      ∙ ap (λ (es : List Entry). es ++ entries_of k w (blocks ++ rest)) (run-entries k v w (header_of v.image).top n front same-front f)
-      ∙ ap (λ (es : List Entry). entries_of k v front ++ es) (entries-append k w blocks rest ∙ ap (λ (es : List Entry). entries_of k w blocks ++ es) (chain-entries k v w (number_at 4 (block_at v n) 8) rest same-rest r));
+          ∙ ap (λ (es : List Entry). es ++ entries_of k w (blocks ++ rest)) (run-entries k v w (header_of v.image).top n front same-front f)
+          ∙ ap (λ (es : List Entry). entries_of k v front ++ es) (entries-append k w blocks rest ∙ ap (λ (es : List Entry). entries_of k w blocks ++ es) (chain-entries k v w (number_at 4 (block_at v n) 8) rest same-rest r));
     }
 
 -- a block of entries that stays
@@ -216,23 +216,25 @@ spliced k u w key p es more some h at s ascend =
     let some' : 0 < w.size = (let z = s.step.size in omega arith) in
     let blocks : entry_blocks w ≡ all = index-blocks k w all s.step.formatted.header some' j.chain in
     let bear : entries k w ≡ entries_of k u at.front ++ (es ++ entries_of k u at.rest) =
-    ap (entries_of k w) blocks ∙ j.entries ∙ ap (λ (t : List Entry). entries_of k u at.front ++ (t ++ entries_of k u at.rest)) s.entries in
-    (record {
-      formatted = s.step.formatted;
-      version = ap (λ (x : Header). x.version) s.step.header ∙ h.version;
-      height = elim h.height [ inl z ↦ inl (top ∙ z.0, height ∙ z.1) | inr z ↦ inr (let t = z.0 in omega arith, height ∙ z.1) ];
-      chain = (let C : List ℕ → Type 0 = λ t. IsChain k w (header_of w.image).top t in subst C (sym blocks) j.chain);
-      reached = λ b kind.
-          let M : List ℕ → Type 0 = λ t. IsAmong b t in
-          let N : ℕ → Type 0 = λ i. IsAmong i all in
-          subst M (sym blocks)
-          (elim (s.step.back b kind) [
-            | inr e ↦ subst N (sym e) (among-right s.block at.front (s.blocks ++ at.rest) (among-left s.block s.blocks at.rest s.among))
-            | inl was ↦ elim (among-cases b at.front (n ∷ at.rest) (subst M at.split (h.reached b was))) [
-              | inl a ↦ among-left b at.front (s.blocks ++ at.rest) a
-              | inr (inl e) ↦ subst N (sym e) (among-right n at.front (s.blocks ++ at.rest) (among-left n s.blocks at.rest s.first))
-              | inr (inr a) ↦ among-right b at.front (s.blocks ++ at.rest) (among-right b s.blocks at.rest a)
-            ]
-          ]);
-      ascend = ap keys_ascend bear ∙ ascend;
-    }, bear)
+    ap (entries_of k w) blocks ∙ j.entries ∙ ap (λ (t : List Entry). entries_of k u at.front ++ (t ++ entries_of k u at.rest)) s.entries in (
+      record {
+        formatted = s.step.formatted;
+        version = ap (λ (x : Header). x.version) s.step.header ∙ h.version;
+        height = elim h.height [ inl z ↦ inl (top ∙ z.0, height ∙ z.1) | inr z ↦ inr (let t = z.0 in omega arith, height ∙ z.1) ];
+        chain = (let C : List ℕ → Type 0 = λ t. IsChain k w (header_of w.image).top t in subst C (sym blocks) j.chain);
+        reached = λ b kind.
+            let M : List ℕ → Type 0 = λ t. IsAmong b t in
+            let N : ℕ → Type 0 = λ i. IsAmong i all in
+            subst M (sym blocks)
+            (elim (s.step.back b kind) [
+              | inr e ↦ subst N (sym e) (among-right s.block at.front (s.blocks ++ at.rest) (among-left s.block s.blocks at.rest s.among))
+              | inl was ↦ elim (among-cases b at.front (n ∷ at.rest) (subst M at.split (h.reached b was))) [
+                | inl a ↦ among-left b at.front (s.blocks ++ at.rest) a
+                | inr (inl e) ↦ subst N (sym e) (among-right n at.front (s.blocks ++ at.rest) (among-left n s.blocks at.rest s.first))
+                | inr (inr a) ↦ among-right b at.front (s.blocks ++ at.rest) (among-right b s.blocks at.rest a)
+              ]
+            ]);
+        ascend = ap keys_ascend bear ∙ ascend;
+      },
+      bear,
+    )

@@ -4,12 +4,13 @@ ghost use Rattle.hd_volume.specs.Volumes.{block_at};
 ghost use Rattle.hd_volume.specs.Calls.{IsRead};
 ghost use Rattle.hd_volume.specs.Entries.{entries_in};
 ghost use Rattle.hd_volume.specs.Indexes.{keys_ascend, IsEntryBlock, HasIndex};
-ghost use Rattle.std.specs.Prelude.{◌⊎◌, length, Option, Some, None, option_map, slice_get, bytes_eq};
+ghost use Rattle.std.specs.Prelude.{◌⊎◌, ◌<◌, length, min, option_map, slice_get, bytes_eq, IfSome};
 ghost use Rattle.hd_volume.specs.Indexes.{entry_room};
 ghost use Rattle.hd_bytes.specs.Numbers.{number_at};
-ghost use Rattle.hd_index.specs.Places.{seen_in, place_of, found_at};
+ghost use Rattle.hd_index.specs.Places.{entry_place, seen_in, place_of, HasPlace, no_spot, spot_in, spot_at, spot_of};
 
-use crate::entries::{FIRST, Seen, address_at, entry_count, key_at, seen_in};
+use crate::entries::{FIRST, NEXT, Seen, address_at, entry_count, key_at, seen_in};
+use hd_bytes::read_u32;
 use hd_dbd::Refused;
 use hd_volume::{BlockStore, Volume};
 
@@ -28,6 +29,17 @@ pub struct Place {
 pub struct Found {
     pub address: u32,
     pub is_key: bool,
+}
+
+/// What is read at a place: the block, 0 for none, the index, how many entries the block has, the block behind it, and the
+/// entry at the index, if there is one.
+#[derive(Clone, Copy, Debug)]
+pub struct Spot {
+    pub block: u32,
+    pub index: usize,
+    pub count: usize,
+    pub next: u32,
+    pub found: Option<Found>,
 }
 
 /// A block is one of the volume's.
@@ -94,7 +106,8 @@ pub fn seek<S: BlockStore>(
 fn found_in(block: &[u8], key_length: usize, index: usize, key: &[u8]) -> Option<Found>
     requires short { key_length ≤ 255 }
     requires least { 12 ≤ length block.now }
-    ensures { number_at 2 block.now 4 ≤ entry_room key_length (length block.now) → result ≡ option_map (λ e. record { address = e.address; is_key = bytes_eq e.key key.now }) (slice_get (entries_in key_length block.now) index) }
+    ensures value { number_at 2 block.now 4 ≤ entry_room key_length (length block.now) → result ≡ option_map (λ e. record { address = e.address; is_key = bytes_eq e.key key.now }) (slice_get (entries_in key_length block.now) index) }
+    ensures within { IfSome result (λ _. index < min (number_at 2 block.now 4) (entry_room key_length (length block.now))) }
 {
     if index >= entry_count(block, key_length) {
         return None;
@@ -105,24 +118,82 @@ fn found_in(block: &[u8], key_length: usize, index: usize, key: &[u8]) -> Option
     })
 }
 
-/// The entry at a place, if there is one.
-pub fn entry_at<S: BlockStore>(
+/// What is read at a place in the bytes of its block.
+fn spot_in(block: &[u8], key_length: usize, place: Place, key: &[u8]) -> Spot
+    requires short { key_length ≤ 255 }
+    requires least { 12 ≤ length block.now }
+    ensures value { number_at 2 block.now 4 ≤ entry_room key_length (length block.now) → place.index ≤ number_at 2 block.now 4 → result ≡ spot_in key_length key.now block.now place }
+    ensures index { result.index ≤ result.count }
+    ensures count { result.count ≤ 65535 }
+    ensures fits { entry_place key_length result.count ≤ length block.now }
+    ensures within { IfSome result.found (λ _. result.index < result.count) }
+{
+    let count = entry_count(block, key_length);
+    Spot {
+        block: place.block,
+        index: place.index.min(count),
+        count,
+        next: read_u32(block, NEXT),
+        found: found_in(block, key_length, place.index, key),
+    }
+}
+
+/// What is read where there is no block.
+fn no_spot() -> Spot
+    ensures { result ≡ no_spot }
+{
+    Spot {
+        block: 0,
+        index: 0,
+        count: 0,
+        next: 0,
+        found: None,
+    }
+}
+
+/// Reads what is at a place.
+fn spot_at<S: BlockStore>(
     volume: &mut Volume<S>,
     key_length: usize,
     place: Place,
     key: &[u8],
-) -> Result<Option<Found>, Refused>
+) -> Result<Spot, Refused>
     requires short { key_length ≤ 255 }
     ensures read { IsRead volume.old result volume.new }
-    ensures value { IfOk result (λ found. IsTrue volume.old.is_sound → (place.block ≡ 0) ⊎ IsEntryBlock key_length volume.old place.block → found ≡ found_at key_length volume.old key.now place) }
+    ensures value { IfOk result (λ spot. IsTrue volume.old.is_sound → (place.block ≡ 0) ⊎ HasPlace key_length volume.old place → spot ≡ spot_at key_length volume.old key.now place) }
+    ensures index { IfOk result (λ spot. spot.index ≤ spot.count) }
+    ensures count { IfOk result (λ spot. spot.count ≤ 65535) }
+    ensures fits { IfOk result (λ spot. entry_place key_length spot.count ≤ volume.old.size) }
+    ensures within { IfOk result (λ spot. IfSome spot.found (λ _. spot.index < spot.count)) }
     ensures refusal { IfErr result (λ e. e ≡ Refused.Device) }
 {
+    let size = volume.block_size();
     if place.block == 0 || !has_block(volume, place.block) {
-        return Ok(None);
+        return Ok(no_spot());
     }
     let block = volume.block(place.block)?;
-    if block.len() < FIRST {
-        return Ok(None);
+    if block.len() != size {
+        return Ok(no_spot());
     }
-    Ok(found_in(block, key_length, place.index, key))
+    Ok(spot_in(block, key_length, place, key))
+}
+
+/// Reads what is at the place of a key.
+pub fn locate<S: BlockStore>(
+    volume: &mut Volume<S>,
+    key_length: usize,
+    key: &[u8],
+) -> Result<Spot, Refused>
+    requires short { key_length ≤ 255 }
+    ensures read { IsRead volume.old result volume.new }
+    ensures value { IfOk result (λ spot. IsTrue volume.old.is_sound → HasIndex key_length volume.old → spot ≡ spot_of key_length volume.old key.now) }
+    ensures index { IfOk result (λ spot. spot.index ≤ spot.count) }
+    ensures count { IfOk result (λ spot. spot.count ≤ 65535) }
+    ensures fits { IfOk result (λ spot. entry_place key_length spot.count ≤ volume.old.size) }
+    ensures within { IfOk result (λ spot. IfSome spot.found (λ _. spot.index < spot.count)) }
+    ensures refusal { IfErr result (λ e. e ≡ Refused.Device) }
+{
+    let place = seek(volume, key_length, key)?;
+    let spot = spot_at(volume, key_length, place, key)?;
+    Ok(spot)
 }

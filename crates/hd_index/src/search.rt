@@ -5,7 +5,7 @@ ghost use Rattle.hd_index.specs.Places.{address_found};
 ghost use Rattle.hd_index.specs.Changes.{IsIndexOf, entries_for};
 
 use crate::entries::root_key_length;
-use crate::place::{Found, entry_at, seek};
+use crate::place::{Found, locate};
 use hd_dbd::{Dbd, Refused};
 use hd_volume::{BlockStore, Volume};
 
@@ -63,7 +63,6 @@ fn look_up<S: BlockStore>(
     ensures refusal { IfErr result (λ e. e ≡ Refused.Device) }
 {
     let key_length = root_key_length(dbd);
-    let place = seek(volume, key_length, key)?;
-    let found = entry_at(volume, key_length, place, key)?;
-    Ok(found)
+    let spot = locate(volume, key_length, key)?;
+    Ok(spot.found)
 }

@@ -10,8 +10,8 @@ use Rattle.hd_index.proofs.place.found_in.Goals as goal
 abbrev found : Bool → ℕ → Found
 found t x = record { address = x; is_key = t }
 
-pub returns-then-index-entry_count : goal.returns-then-index-entry_count
-returns-then-index-entry_count c fits =
+pub returns-then-index-entry_count-clause-value : goal.returns-then-index-entry_count-clause-value
+returns-then-index-entry_count-clause-value c fits =
     let b = c.args.block.now in
     let k = c.args.key_length in
     let n : ℕ = number_at 2 b 4 in
@@ -20,8 +20,8 @@ returns-then-index-entry_count c fits =
     let none : slice_get (entries_in k b) c.args.index ≡ None = get-past (entries_in k b) c.args.index (omega arith) in
     sym (ap (λ (o : Option Entry). option_map (λ e. record { address = e.address; is_key = bytes_eq e.key c.args.key.now }) o) none)
 
-pub returns : goal.returns
-returns c fits =
+pub returns-clause-value : goal.returns-clause-value
+returns-clause-value c fits =
     let b = c.args.block.now in
     let k = c.args.key_length in
     let n : ℕ = number_at 2 b 4 in
