@@ -104,8 +104,12 @@ edit-written u w n p bytes size sizes was h = record {
 
 -- ---- behind a call that only read
 
-one-turned : {u v : VolumeState} → AreOne u v → AreOne v u
+pub one-turned : {u v : VolumeState} → AreOne u v → AreOne v u
 one-turned o = record { same = record { size = sym o.same.size; sizes = sym o.same.sizes }; image = sym o.image }
+
+-- a block that is there is there
+pub one-there : {u v : VolumeState} → AreOne u v → (n : ℕ) → HasBlock u.size u.image n → HasBlock v.size v.image n
+one-there {u} {v} o n h = (let l : length v.image ≡ length u.image = ap length o.image in let t : n * u.size + u.size ≤ length u.image = h in rw o.same.size (omega arith))
 
 -- the block of one image
 pub one-block-at : {u v : VolumeState} → AreOne u v → (n : ℕ) → block_at v n ≡ block_at u n

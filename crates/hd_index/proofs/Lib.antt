@@ -7,3 +7,4 @@ pub mod EditLemmas
 pub mod EntryLemmas
 pub mod SpliceLemmas
 pub mod StepLemmas
+pub mod ChangeLemmas

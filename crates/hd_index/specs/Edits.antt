@@ -6,8 +6,8 @@ use Rattle.hd_volume.specs.Headers.{header_of}
 use Rattle.hd_volume.specs.Volumes.{VolumeState, block_at, IsKind, IsFormatted}
 use Rattle.hd_volume.specs.Rooms.{spare}
 use Rattle.hd_volume.specs.Calls.{KeepsSegments, KeepsHoles}
-use Rattle.hd_volume.specs.Entries.{Entry, entries_in, entries_of}
-use Rattle.hd_volume.specs.Indexes.{IsEntryBlock, IsAmong}
+use Rattle.hd_volume.specs.Entries.{Entry, entries_in, entries_of, entries}
+use Rattle.hd_volume.specs.Indexes.{IsEntryBlock, IsAmong, HasIndex}
 use Rattle.hd_index.specs.Changes.{IsIndexChange}
 
 -- Index block n may have changed, and nothing else has.
@@ -66,3 +66,11 @@ pub record IsSpliced (key_length : ℕ) (old : VolumeState) (n : ℕ) (es : List
   pub among : IsAmong block blocks
   pub first : IsAmong n blocks
   pub entries : entries_of key_length new blocks ≡ es
+
+-- The volume has an index with these entries; the rest of it is as the change of an index leaves it.
+pub record IsChanged (key_length : ℕ) (old : VolumeState) (es : List Entry) (more : ℕ) (new : VolumeState) : Type 0 where
+  pub size : new.size ≡ old.size
+  pub index : HasIndex key_length new
+  pub entries : entries key_length new ≡ es
+  pub change : IsIndexChange old more new
+  pub spares : spare old ≤ spare new + more

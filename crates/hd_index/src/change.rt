@@ -2,10 +2,15 @@ ghost use Rattle.std.specs.Prelude.{◌≡◌, ◌⊎◌, ◌+◌, ◌≤◌, �
 ghost use Rattle.hd_volume.specs.Volumes.{IsFormatted};
 ghost use Rattle.hd_volume.specs.Rooms.{spare, free_blocks};
 ghost use Rattle.hd_volume.specs.Calls.{IsCall};
-ghost use Rattle.hd_volume.specs.Indexes.{root_key_length, index_growth, lacks_room};
+ghost use Rattle.hd_volume.specs.Indexes.{root_key_length, index_growth, lacks_room, HasIndex};
+ghost use Rattle.hd_volume.specs.Entries.{entries};
+ghost use Rattle.hd_index.specs.Edits.{IsChanged};
 ghost use Rattle.hd_index.specs.Maps.{address_of, with_entry, without_key};
 ghost use Rattle.hd_index.specs.Changes.{IsIndexOf, entries_for, IsIndexChange};
 
+use crate::edit::remove_entry;
+use crate::entries::root_key_length;
+use crate::place::locate;
 use hd_dbd::{Dbd, Refused};
 use hd_volume::{BlockStore, Volume};
 
@@ -68,6 +73,29 @@ pub fn remove<S: BlockStore>(volume: &mut Volume<S>, dbd: &Dbd, key: &[u8]) -> R
     ensures refusal { IfErr result (λ e. e ≡ Refused.Device) }
     ensures room { volume.new.room ≡ volume.old.room }
 {
-    let _ = (volume, dbd, key);
-    Ok(())
+    let key_length = root_key_length(dbd);
+    remove_key(volume, key_length, key)
+}
+
+/// Takes the root of a key of a length out of the index.
+fn remove_key<S: BlockStore>(
+    volume: &mut Volume<S>,
+    key_length: usize,
+    key: &[u8],
+) -> Result<(), Refused>
+    requires index { IsTrue volume.old.is_sound → HasIndex key_length volume.old }
+    requires short { key_length ≤ 255 }
+    ensures call { IsCall volume.old result volume.new }
+    ensures changed { OnOk result (IsTrue volume.old.is_sound → IsChanged key_length volume.old (without_key key.now (entries key_length volume.old)) 0 volume.new) }
+    ensures refusal { IfErr result (λ e. e ≡ Refused.Device) }
+    ensures room { volume.new.room ≡ volume.old.room }
+{
+    let spot = locate(volume, key_length, key)?;
+    let Some(found) = spot.found else {
+        return Ok(());
+    };
+    if !found.is_key {
+        return Ok(());
+    }
+    remove_entry(volume, key_length, spot.block, spot.index, spot.count)
 }

@@ -1,12 +1,10 @@
-ghost use Rattle.std.specs.Prelude.{◌≡◌, ◌≤◌, true, false, IsTrue, IfOk, IfErr};
+ghost use Rattle.std.specs.Prelude.{◌≡◌, ◌⊎◌, ◌≤◌, ◌<◌, true, false, length, min, option_map, slice_get, bytes_eq, IsTrue, IfOk, IfErr, IfSome};
 ghost use Rattle.hd_bytes.specs.Blocks.{HasBlock};
+ghost use Rattle.hd_bytes.specs.Numbers.{number_at};
 ghost use Rattle.hd_volume.specs.Volumes.{block_at};
 ghost use Rattle.hd_volume.specs.Calls.{IsRead};
 ghost use Rattle.hd_volume.specs.Entries.{entries_in};
-ghost use Rattle.hd_volume.specs.Indexes.{keys_ascend, IsEntryBlock, HasIndex};
-ghost use Rattle.std.specs.Prelude.{◌⊎◌, ◌<◌, length, min, option_map, slice_get, bytes_eq, IfSome};
-ghost use Rattle.hd_volume.specs.Indexes.{entry_room};
-ghost use Rattle.hd_bytes.specs.Numbers.{number_at};
+ghost use Rattle.hd_volume.specs.Indexes.{keys_ascend, entry_room, IsEntryBlock, HasIndex};
 ghost use Rattle.hd_index.specs.Places.{entry_place, seen_in, place_of, HasPlace, no_spot, spot_in, spot_at, spot_of};
 
 use crate::entries::{FIRST, NEXT, Seen, address_at, entry_count, key_at, seen_in};
@@ -164,6 +162,7 @@ fn spot_at<S: BlockStore>(
     ensures index { IfOk result (λ spot. spot.index ≤ spot.count) }
     ensures count { IfOk result (λ spot. spot.count ≤ 65535) }
     ensures fits { IfOk result (λ spot. entry_place key_length spot.count ≤ volume.old.size) }
+    ensures size { IfOk result (λ _. (128 ≤ volume.old.size) × (volume.old.size ≤ 32768)) }
     ensures within { IfOk result (λ spot. IfSome spot.found (λ _. spot.index < spot.count)) }
     ensures refusal { IfErr result (λ e. e ≡ Refused.Device) }
 {
@@ -190,6 +189,7 @@ pub fn locate<S: BlockStore>(
     ensures index { IfOk result (λ spot. spot.index ≤ spot.count) }
     ensures count { IfOk result (λ spot. spot.count ≤ 65535) }
     ensures fits { IfOk result (λ spot. entry_place key_length spot.count ≤ volume.old.size) }
+    ensures size { IfOk result (λ _. (128 ≤ volume.old.size) × (volume.old.size ≤ 32768)) }
     ensures within { IfOk result (λ spot. IfSome spot.found (λ _. spot.index < spot.count)) }
     ensures refusal { IfErr result (λ e. e ≡ Refused.Device) }
 {
