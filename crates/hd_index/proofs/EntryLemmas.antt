@@ -7,6 +7,7 @@ use Rattle.hd_bytes.specs.Ranges.{bytes_at, with_bytes, ChangesOnly}
 use Rattle.hd_bytes.proofs.BlockLemmas.{length-bytes_at, byte-at, agree-bytes_at, agree-changed, bytes-with}
 use Rattle.hd_bytes.proofs.NumberLemmas.{big_from-drop, number-same, changes-with, number-below, number-above}
 use Rattle.hd_volume.specs.Entries.{Entry, entries_at}
+use Rattle.hd_bytes.specs.Blocks.{HasBlock}
 use Rattle.hd_volume.specs.Entries.{entries_in}
 use Rattle.hd_volume.specs.Volumes.{VolumeState, block_at}
 use Rattle.hd_volume.specs.Indexes.{entry_room, IsEntryBlock}
@@ -167,6 +168,9 @@ pub record IsEntryBytes (k : ℕ) (xs : List ℕ) (e : Entry) : Type 0 where
 pub three-parts : (i d k : ℕ) → (i + d + 1) * (k + 4) ≡ i * (k + 4) + (k + 4) + d * (k + 4)
 three-parts i d k = omega arith
 
+two-parts : (i d k : ℕ) → (i + d) * (k + 4) ≡ i * (k + 4) + d * (k + 4)
+two-parts i d k = omega arith
+
 one-part : (c k : ℕ) → (c + 1) * (k + 4) ≡ c * (k + 4) + (k + 4)
 one-part c k = omega arith
 
@@ -323,3 +327,50 @@ pub taken-bytes : (k : ℕ) (u w : VolumeState) (n i c : ℕ) (two : List ℕ)
     → HasNewBytes u n (with_bytes (taken k i c (block_at u n)) 4 two) w
 unfolding taken
 taken-bytes k u w n i c two h = h
+
+-- ---- a block divided
+
+-- the upper entries of a block, copied to an empty one by three writes
+pub fill-edit : (k : ℕ) (u w : VolumeState) (n m h c : ℕ) (two four : List ℕ) (next t : ℕ) → IsEntryBlock k u n → number_at 2 (block_at u n) 4 ≡ c → h ≤ c → 12 + c * (k + 4) ≤ u.size → HasBlock u.size u.image m
+    → AreBytes k (block_at u m) 0 [] t → length two ≡ 2 → number_at 2 two 0 ≡ c - h → length four ≡ 4 → number_at 4 four 0 ≡ next
+    → HasNewBytes u m (with_bytes (with_bytes (with_bytes (block_at u m) 12 (bytes_at (block_at u n) (12 + h * (k + 4)) ((c - h) * (k + 4)))) 4 two) 8 four) w
+    → HasNewEntries k u m (drop h (entries_in k (block_at u n))) next w
+fill-edit k u w n m h c two four next t is count low fits there empty l2 v2 l4 v4 e =
+    let source : List ℕ = block_at u n in
+    let b : List ℕ = block_at u m in
+    let p : ℕ = 12 + h * (k + 4) in
+    let l : ℕ = (c - h) * (k + 4) in
+    let total : c * (k + 4) ≡ h * (k + 4) + l = ap (λ (x : ℕ). x * (k + 4)) (let e : c ≡ h + (c - h) = omega arith in e) ∙ two-parts h (c - h) k in
+    let ls : length source ≡ u.size = length-at u n is.is.there in
+    let lb : length b ≡ u.size = length-at u m there in
+    let xs : List ℕ = bytes_at source p l in
+    let lx : length xs ≡ l = length-bytes_at source p l (omega arith) in
+    let b1 : List ℕ = with_bytes b 12 xs in
+    let l1 : length b1 ≡ length b = length-put b xs 12 (omega arith) in
+    let first = put-behind k b xs 12 0 [] t empty (omega arith) (omega arith) in
+    let upper : entries_at k b1 12 (c - h) ≡ drop h (entries_at k source 12 c) =
+    entries-same k b1 source 12 p (c - h) (omega arith) (omega arith) (ap (bytes_at b1 12) (sym lx) ∙ bytes-with b xs 12 (omega arith)) ∙ sym (entries-drop k source 12 h c low) in
+    let second = put-count k b1 two 0 (c - h) (entries_at k b1 12 0) (drop h (entries_at k source 12 c)) t first l2 v2 upper (omega arith) in
+    let third = put-next k (with_bytes b1 4 two) four (c - h) (drop h (entries_at k source 12 c)) t next second l4 v4 in
+    let G : ℕ → Type 0 = λ j. HasNewEntries k u m (drop h (entries_at k source 12 j)) next w in
+    let most = is.count in
+    subst G (sym count) (bears-by k u w m (with_bytes (with_bytes b1 4 two) 8 four) (c - h) (drop h (entries_at k source 12 c)) next e third (omega arith))
+
+-- a block that keeps its lower entries and names another behind it, by two writes
+pub link-edit : (k : ℕ) (u w : VolumeState) (n h c : ℕ) (two four : List ℕ) (next : ℕ) → IsEntryBlock k u n → number_at 2 (block_at u n) 4 ≡ c → h ≤ c → 12 + c * (k + 4) ≤ u.size
+    → length two ≡ 2 → number_at 2 two 0 ≡ h → length four ≡ 4 → number_at 4 four 0 ≡ next
+    → HasNewBytes u n (with_bytes (with_bytes (block_at u n) 8 four) 4 two) w
+    → HasNewEntries k u n (take h (entries_in k (block_at u n))) next w
+link-edit k u w n h c two four next is count low fits l2 v2 l4 v4 e =
+    let b : List ℕ = block_at u n in
+    let lb : length b ≡ u.size = length-at u n is.is.there in
+    let total : c * (k + 4) ≡ h * (k + 4) + (c - h) * (k + 4) = ap (λ (x : ℕ). x * (k + 4)) (let e : c ≡ h + (c - h) = omega arith in e) ∙ two-parts h (c - h) k in
+    let own : AreBytes k b c (entries_at k b 12 c) (number_at 4 b 8) = record { level = is.level; count = count; entries = refl; next_is = refl; fits = omega arith } in
+    let first = put-next k b four c (entries_at k b 12 c) (number_at 4 b 8) next own l4 v4 in
+    let b1 : List ℕ = with_bytes b 8 four in
+    let l1 : length b1 ≡ length b = length-put b four 8 (omega arith) in
+    let lower : entries_at k b1 12 h ≡ take h (entries_at k b 12 c) = sym (entries-take k b1 12 h c low) ∙ ap (take h) first.entries in
+    let second = put-count k b1 two c h (entries_at k b 12 c) (take h (entries_at k b 12 c)) next first l2 v2 lower (omega arith) in
+    let G : ℕ → Type 0 = λ j. HasNewEntries k u n (take h (entries_at k b 12 j)) next w in
+    let most = is.count in
+    subst G (sym count) (bears-by k u w n (with_bytes b1 4 two) h (take h (entries_at k b 12 c)) next e second (omega arith))

@@ -1,10 +1,12 @@
 -- Changes of index blocks.
-use Rattle.std.specs.Prelude.{◌≡◌, ◌≢◌, ◌⊎◌, ℕ, ◌+◌, ◌≤◌, List, [], ◌∷◌}
+use Rattle.std.specs.Prelude.{◌≡◌, ◌≢◌, ◌⊎◌, ℕ, ◌+◌, ◌≤◌, IsTrue, List, [], ◌∷◌, take, drop}
+use Rattle.hd_dbd.specs.declared.answer.Refused.{Refused}
+use Rattle.hd_dbd.specs.declared.answer.Refused.TheVariants.{Memory, Full, Device}
 use Rattle.hd_bytes.specs.Numbers.{number_at}
 use Rattle.hd_volume.specs.Images.{ChangesBlock}
 use Rattle.hd_volume.specs.Headers.{header_of}
 use Rattle.hd_volume.specs.Volumes.{VolumeState, block_at, IsKind, IsFormatted}
-use Rattle.hd_volume.specs.Rooms.{spare}
+use Rattle.hd_volume.specs.Rooms.{spare, HasFreeBlock}
 use Rattle.hd_volume.specs.Calls.{KeepsSegments, KeepsHoles}
 use Rattle.hd_volume.specs.Entries.{Entry, entries_in, entries_of, entries}
 use Rattle.hd_volume.specs.Indexes.{IsEntryBlock, IsAmong, HasIndex}
@@ -74,3 +76,19 @@ pub record IsChanged (key_length : ℕ) (old : VolumeState) (es : List Entry) (m
   pub entries : entries key_length new ≡ es
   pub change : IsIndexChange old more new
   pub spares : spare old ≤ spare new + more
+
+-- The entries of block n from an index on have gone to block m, which is new and stands behind it; behind that stands a block.
+pub record IsHalved (key_length : ℕ) (old : VolumeState) (n m half next : ℕ) (new : VolumeState) : Type 0 where
+  pub apart : m ≢ n
+  pub fresh : IsKind old 2 m → ⊥
+  pub step : IsIndexStep old n m 1 new
+  pub low : Bears key_length new n (take half (entries_in key_length (block_at old n))) m
+  pub high : Bears key_length new m (drop half (entries_in key_length (block_at old n))) next
+
+-- A change that needed a block was refused: nothing was changed, for want of blocks or of memory, or an access failed.
+pub record IsRefused (old : VolumeState) (e : Refused) (new : VolumeState) : Type 0 where
+  pub kept : IsTrue new.is_sound → new.image ≡ old.image
+  pub full : e ≡ Full → IsTrue old.is_sound → spare old ≡ 0
+  pub memory : e ≡ Memory → old.room ≡ 0
+  pub no_free : e ≡ Memory → IsTrue old.is_sound → HasFreeBlock old → ⊥
+  pub refusal : (e ≡ Memory) ⊎ (e ≡ Full) ⊎ (e ≡ Device)

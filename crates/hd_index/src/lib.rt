@@ -3,6 +3,7 @@
 
 mod bytes;
 mod change;
+mod divide;
 mod edit;
 mod entries;
 mod place;
