@@ -374,3 +374,10 @@ link-edit k u w n h c two four next is count low fits l2 v2 l4 v4 e =
     let G : ℕ → Type 0 = λ j. HasNewEntries k u n (take h (entries_at k b 12 j)) next w in
     let most = is.count in
     subst G (sym count) (bears-by k u w n (with_bytes b1 4 two) h (take h (entries_at k b 12 c)) next e second (omega arith))
+
+-- the bytes of a block that bears no entry
+pub bytes-of-none : (k : ℕ) (v : VolumeState) (n next : ℕ) → Bears k v n [] next → 12 ≤ v.size → AreBytes k (block_at v n) 0 [] next
+bytes-of-none k v n next h least =
+    let len = length-at v n h.is.is.there in
+    let none : number_at 2 (block_at v n) 4 ≡ 0 = sym (length-entries k (block_at v n) 12 (number_at 2 (block_at v n) 4)) ∙ ap length h.entries in
+    record { level = h.is.level; count = none; entries = refl; next_is = h.next_is; fits = omega arith }

@@ -1,7 +1,7 @@
 -- Steps of a change of the index: what they keep of the volume.
-use Rattle.std.proofs.Common.{◌≡◌, ◌≢◌, ◌⊎◌, inl, inr, ℕ, zero, suc, ◌+◌, ◌*◌, ◌<◌, ◌≤◌, List, [], ◌∷◌, length, slice_index, refl, sym, ap, ◌∙◌, arith, subst}
+use Rattle.std.proofs.Common.{◌≡◌, ◌≢◌, ◌⊎◌, inl, inr, ℕ, zero, suc, ◌+◌, ◌*◌, ◌<◌, ◌≤◌, List, [], ◌∷◌, length, take, drop, replicate, slice_index, refl, sym, ap, ◌∙◌, arith, subst}
 use Rattle.std.proofs.lemmas.Bool.{cases_eq, cases_lt}
-use Rattle.std.proofs.lemmas.List.{append-nil}
+use Rattle.std.proofs.lemmas.List.{append-nil, get_or-replicate}
 use Rattle.std.proofs.lemmas.Nat.{row_fits}
 use Rattle.std.proofs.Math.Nat.{mul-le-mul_right}
 use Rattle.hd_bytes.specs.Numbers.{number_at}
@@ -17,8 +17,9 @@ use Rattle.hd_volume.specs.Indexes.{entry_room, IsEntryBlock}
 use Rattle.hd_volume.proofs.FrameLemmas.{AreSame}
 use Rattle.hd_volume.proofs.KindLemmas.{below-count}
 use Rattle.hd_index.specs.Changes.{IsIndexChange}
-use Rattle.hd_index.specs.Edits.{IsEdit, HasNewBytes, Bears, HasNewEntries, IsIndexStep, IsSpliced}
+use Rattle.hd_index.specs.Edits.{IsEdit, HasNewBytes, Bears, HasNewEntries, IsIndexStep, IsSpliced, IsHalved}
 use Rattle.hd_index.proofs.EditLemmas.{edit-other}
+use Rattle.hd_index.proofs.SpliceLemmas.{same-entry-block}
 
 -- ---- blocks that are there
 
@@ -159,3 +160,139 @@ edit-spliced k u w n es h = record {
   first = inl refl;
   entries = append-nil (entries_in k (block_at w n)) ∙ h.bears.entries;
 }
+
+-- ---- a block that was taken
+
+module _ {u w : VolumeState} (m : ℕ) (same : AreSame u w) (f : IsFormatted u) (some : 0 < u.size) (t : IsTakenBlock u m 0 w) where
+  taken-count : (header_of u.image).count ≤ (header_of w.image).count
+  taken-count = elim t.grows.count [ inl e ↦ omega arith | inr e ↦ (let x = e.1 in omega arith) ]
+
+  taken-more : (header_of w.image).count ≤ (header_of u.image).count + 1
+  taken-more = elim t.grows.count [ inl e ↦ omega arith | inr e ↦ (let x = e.1 in omega arith) ]
+
+  taken-on : (b : ℕ) → HasBlock u.size u.image b → HasBlock w.size w.image b
+  taken-on b there = there-on u w b f.header t.formatted.header some taken-count there
+
+  -- every other block was there
+  taken-back : (b : ℕ) → b ≢ m → HasBlock w.size w.image b → HasBlock u.size u.image b
+  taken-back b other there =
+      let size = same.size in
+      let low = below-count w b t.formatted.header (omega arith) there in
+      there-below u b f.header (elim t.grows.count [ inl e ↦ omega arith | inr e ↦ (let x = e.0 in let y = e.1 in omega arith) ])
+
+  -- the block was neither for data nor for the index
+  taken-apart : (j b : ℕ) → j ≢ 3 → IsKind u j b → b ≢ m
+  taken-apart j b other k x =
+      elim t.was [
+        | inl three ↦ other (sym k.kind_is ∙ ap (λ (i : ℕ). kind_of (block_at u i)) x ∙ three.kind_is)
+        | inr last ↦ (let low = below-count u b f.header some k.there in omega arith)
+      ]
+
+  pub taken-fresh : IsKind u 2 m → ⊥
+  taken-fresh k = taken-apart 2 m (λ x. omega arith) k refl
+
+  taken-kind-on : (j b : ℕ) → b ≢ m → IsKind u j b → IsKind w j b
+  taken-kind-on j b other k = record { there = taken-on b k.there; later = k.later; kind_is = ap kind_of (t.others b k.there k.later other) ∙ k.kind_is }
+
+  taken-kind-back : (j b : ℕ) → b ≢ m → IsKind w j b → IsKind u j b
+  taken-kind-back j b other k = (let old = taken-back b other k.there in record { there = old; later = k.later; kind_is = ap kind_of (sym (t.others b old k.later other)) ∙ k.kind_is })
+
+  taken-kinds : HasKinds u → HasKinds w
+  taken-kinds h b there later = elim (cases_eq b m) [
+    | inl e ↦ inr (inl (let K : ℕ → Type 0 = λ i. IsKind w 2 i in subst K (sym e) t.is))
+    | inr other ↦ elim (h b (taken-back b other there) later) [
+      | inl one ↦ inl (taken-kind-on 1 b other one)
+      | inr (inl two) ↦ inr (inl (taken-kind-on 2 b other two))
+      | inr (inr three) ↦ inr (inr (taken-kind-on 3 b other three))
+    ]
+  ]
+
+  pub taken-step : (n : ℕ) → IsIndexStep u n m 1 w
+  taken-step n = record {
+    size = same.size;
+    sizes = same.sizes;
+    formatted = t.formatted;
+    others = λ b k p q. t.index b k;
+    stay = λ b k. taken-kind-on 2 b (taken-apart 2 b (λ x. omega arith) k) k;
+    back = λ b k. elim (cases_eq b m) [ inl e ↦ inr e | inr other ↦ inl (taken-kind-back 2 b other k) ];
+    change = record {
+      segments = t.segments;
+      data_blocks = λ b k. t.others b k.there k.later (taken-apart 1 b (λ x. omega arith) k);
+      others = λ b k. taken-kind-back 1 b (λ x. (let one : 2 ≡ 1 = sym t.is.kind_is ∙ ap (λ (i : ℕ). kind_of (block_at w i)) (sym x) ∙ k.kind_is in omega arith)) k;
+      kinds = taken-kinds;
+      count = taken-count;
+      grows = taken-more;
+      header = three-header (header_of u.image) (header_of w.image) t.grows.header;
+      holes = t.holes;
+    };
+    header = t.grows.header;
+    spares = (let s = t.spares in omega arith);
+  }
+
+  -- a block of entries stays
+  pub taken-stays : (k n : ℕ) → IsEntryBlock k u n → IsEntryBlock k w n × (block_at w n ≡ block_at u n)
+  taken-stays k n h = same-entry-block k u w n same.size (taken-kind-on 2 n (taken-apart 2 n (λ x. omega arith) h.is) h.is) (t.index n h.is) h
+
+-- bytes of 0
+zeros : List ℕ
+zeros = replicate 12 0
+
+zeros-at : (j : ℕ) → j < 12 → slice_index zeros j ≡ 0
+unfolding zeros
+zeros-at j l = get_or-replicate 12 j 0 0 l
+
+-- four bytes of 0 are 0, and so are two
+zero-four : (b : List ℕ) → ((j : ℕ) → 4 ≤ j → j < 12 → slice_index b j ≡ 0) → number_at 4 b 8 ≡ 0
+unfolding number_at zeros
+zero-four b h = number-same 4 8 b zeros (λ j l m. h j (omega arith) (omega arith) ∙ sym (zeros-at j (omega arith)))
+
+zero-two : (b : List ℕ) → ((j : ℕ) → 4 ≤ j → j < 12 → slice_index b j ≡ 0) → number_at 2 b 4 ≡ 0
+unfolding number_at zeros
+zero-two b h = number-same 2 4 b zeros (λ j l m. h j (omega arith) (omega arith) ∙ sym (zeros-at j (omega arith)))
+
+-- a block that was taken bears no entry
+pub taken-bears : (k m : ℕ) {u w : VolumeState} → IsTakenBlock u m 0 w → Bears k w m [] 0
+taken-bears k m {u} {w} t =
+    let count = zero-two (block_at w m) t.empty in
+    record {
+      is = record { is = t.is; level = t.level_is; count = omega arith };
+      entries = ap (entries_at k (block_at w m) 12) count;
+      next_is = zero-four (block_at w m) t.empty;
+    }
+
+-- what a block bears stays where another is edited
+pub bears-kept : (k m n : ℕ) {u w : VolumeState} (es : List Entry) (next : ℕ) → IsEdit u n w → m ≢ n → Bears k u m es next → Bears k w m es next
+bears-kept k m n {u} {w} es next e other h =
+    let same = edit-other n m e h.is.is.there other in
+    let stays = same-entry-block k u w m e.size ((edit-step e).stay m h.is.is) same h.is in
+    record { is = stays.0; entries = ap (entries_in k) same ∙ h.entries; next_is = ap (λ (b : List ℕ). number_at 4 b 8) same ∙ h.next_is }
+
+-- a block taken, filled with the upper entries of another, which then keeps the lower ones
+pub halved : {u v x w : VolumeState} (k n m half next : ℕ) → AreSame u v → IsFormatted u → 0 < u.size → IsEntryBlock k u n → IsTakenBlock u m 0 v
+    → HasNewEntries k v m (drop half (entries_in k (block_at v n))) next x → HasNewEntries k x n (take half (entries_in k (block_at x n))) m w → IsHalved k u n m half next w
+halved {u} {v} {x} {w} k n m half next same f some is t high low =
+    let stays = taken-stays m same f some t k n is in
+    let fresh = taken-fresh m same f some t in
+    let apart : m ≢ n = λ e. fresh (let K : ℕ → Type 0 = λ i. IsKind u 2 i in subst K (sym e) is.is) in
+    let own : block_at x n ≡ block_at u n = edit-other m n high.edit stays.0.is.there (λ e. apart (sym e)) ∙ stays.1 in
+    let one = taken-step m same f some t n in
+    let two = step-join n m 1 m f some one high.edit (inr refl) in
+    let H : List ℕ → Type 0 = λ b. Bears k w m (drop half (entries_in k b)) next in
+    let L : List ℕ → Type 0 = λ b. Bears k w n (take half (entries_in k b)) m in
+    record {
+      apart = apart;
+      fresh = fresh;
+      step = step-join n m 1 n f some two low.edit (inl refl);
+      low = subst L own low.bears;
+      high = subst H stays.1 (bears-kept k m n (drop half (entries_in k (block_at v n))) next low.edit apart high.bears);
+    }
+
+-- the lower block stays until then
+pub lower-stays : {u v x : VolumeState} (k n m : ℕ) (es : List Entry) (next : ℕ) → AreSame u v → IsFormatted u → 0 < u.size → IsEntryBlock k u n → IsTakenBlock u m 0 v → HasNewEntries k v m es next x
+    → IsEntryBlock k x n × (block_at x n ≡ block_at u n)
+lower-stays {u} {v} {x} k n m es next same f some is t high =
+    let stays = taken-stays m same f some t k n is in
+    let apart : n ≢ m = λ e. taken-fresh m same f some t (let K : ℕ → Type 0 = λ i. IsKind u 2 i in subst K e is.is) in
+    let own = edit-other m n high.edit stays.0.is.there apart in
+    let r = same-entry-block k v x n high.edit.size ((edit-step high.edit).stay n stays.0.is) own stays.0 in
+    (r.0, own ∙ stays.1)

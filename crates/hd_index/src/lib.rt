@@ -5,6 +5,7 @@ mod bytes;
 mod change;
 mod divide;
 mod edit;
+mod enter;
 mod entries;
 mod place;
 mod search;
