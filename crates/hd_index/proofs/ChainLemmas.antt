@@ -314,3 +314,24 @@ place-spot-by k v m key p spot h size image at looked =
 -- what is read at a key's place, with keys of the length of the root's
 pub located : (l k : ℕ) (v : VolumeState) (key : List ℕ) (spot : Spot) → l ≡ k → HasIndex k v → (HasIndex l v → spot ≡ spot_of l v key) → spot ≡ spot_of k v key
 located l k v key spot same h read = (let H : ℕ → Type 0 = λ i. HasIndex i v in read (subst H (sym same) h) ∙ ap (λ (i : ℕ). spot_of i v key) same)
+
+-- the walk in one image
+place-same : (k : ℕ) (u v : VolumeState) (key : List ℕ) → v.size ≡ u.size → v.image ≡ u.image → (more n : ℕ) (p : Place) → place_from k v key more n p ≡ place_from k u key more n p
+place-same k u v key size image zero n p = refl
+place-same k u v key size image (suc more) n p =
+    let same = seen-same k u v n key size image in
+    ap (λ (t : Place). cond (n == 0) p t)
+    (place-same k u v key size image more (seen_in k key (block_at v n)).next (record { block = n; index = (seen_in k key (block_at v n)).index })
+    ∙ ap (λ (s : Seen). place_from k u key more s.next (record { block = n; index = s.index })) same)
+
+-- and what is read at the place
+pub spot-same : (k : ℕ) (u v : VolumeState) (key : List ℕ) → v.size ≡ u.size → v.image ≡ u.image → spot_of k v key ≡ spot_of k u key
+spot-same k u v key size image =
+    let walk : place_of k v key ≡ place_of k u key =
+    place-same k u v key size image (header_of v.image).largest (header_of v.image).top (record { block = 0; index = 0 })
+    ∙ ap (λ (i : List ℕ). place_from k u key (header_of i).largest (header_of i).top (record { block = 0; index = 0 })) image in
+    let one : spot_at k v key (place_of k v key) ≡ spot_at k u key (place_of k v key) = spot-at-same (place_of k v key) in
+    one ∙ ap (spot_at k u key) walk
+  where
+    spot-at-same : (p : Place) → spot_at k v key p ≡ spot_at k u key p
+    spot-at-same p = rw (size, image) refl

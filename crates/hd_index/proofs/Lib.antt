@@ -8,3 +8,4 @@ pub mod EntryLemmas
 pub mod SpliceLemmas
 pub mod StepLemmas
 pub mod ChangeLemmas
+pub mod InsertLemmas

@@ -6,7 +6,7 @@ ghost use Rattle.hd_volume.specs.Calls.{IsCall};
 ghost use Rattle.hd_volume.specs.Entries.{entries, entries_in};
 ghost use Rattle.hd_volume.specs.Indexes.{entry_room, IsEntryBlock, HasIndex};
 ghost use Rattle.hd_index.specs.Maps.{address_of, with_entry};
-ghost use Rattle.hd_index.specs.Places.{entry_place};
+ghost use Rattle.hd_index.specs.Places.{entry_place, spot_of};
 ghost use Rattle.hd_index.specs.Edits.{IsSpliced, IsChanged, IsRefused};
 
 use crate::divide::divide;
@@ -90,4 +90,52 @@ fn lower_part(index: usize, count: usize) -> usize
     ensures lower { index < result → result < count }
 {
     if index == count { count } else { count / 2 }
+}
+
+/// Enters the root of a new key at the spot of its key.
+fn insert_at<S: BlockStore>(
+    volume: &mut Volume<S>,
+    spot: Spot,
+    key: &[u8],
+    address: u32,
+) -> Result<(), Refused>
+    requires index { IsTrue volume.old.is_sound → HasIndex (length key.now) volume.old }
+    requires new { IsTrue volume.old.is_sound → address_of key.now (entries (length key.now) volume.old) ≡ None }
+    requires spot { IsTrue volume.old.is_sound → spot ≡ spot_of (length key.now) volume.old key.now }
+    requires within { spot.index ≤ spot.count }
+    requires short { length key.now ≤ 255 }
+    requires three { 3 * (length key.now + 4) + 12 ≤ volume.old.size }
+    requires fits { entry_place (length key.now) spot.count ≤ volume.old.size }
+    ensures call { IsCall volume.old result volume.new }
+    ensures changed { OnOk result (IsTrue volume.old.is_sound → IsChanged (length key.now) volume.old (with_entry (record { key = key.now; address = address }) (entries (length key.now) volume.old)) 1 volume.new) }
+    ensures refused { IfErr result (λ e. IsRefused volume.old e volume.new) }
+    ensures room { IsTrue volume.new.is_sound → volume.old.room ≤ volume.new.room + 1 }
+{
+    let room = entry_room(key.len(), volume.block_size());
+    if spot.block == 0 {
+        return insert_first(volume, key, address);
+    }
+    if spot.count < room {
+        return add_entry(volume, spot.block, spot.index, spot.count, key, address);
+    }
+    insert_divided(volume, spot, key, address)
+}
+
+/// Enters the root of a new key.
+pub fn insert_key<S: BlockStore>(
+    volume: &mut Volume<S>,
+    key: &[u8],
+    address: u32,
+) -> Result<(), Refused>
+    requires index { IsTrue volume.old.is_sound → HasIndex (length key.now) volume.old }
+    requires new { IsTrue volume.old.is_sound → address_of key.now (entries (length key.now) volume.old) ≡ None }
+    requires short { length key.now ≤ 255 }
+    requires three { 3 * (length key.now + 4) + 12 ≤ volume.old.size }
+    ensures call { IsCall volume.old result volume.new }
+    ensures changed { OnOk result (IsTrue volume.old.is_sound → IsChanged (length key.now) volume.old (with_entry (record { key = key.now; address = address }) (entries (length key.now) volume.old)) 1 volume.new) }
+    ensures refused { IfErr result (λ e. IsRefused volume.old e volume.new) }
+    ensures room { IsTrue volume.new.is_sound → volume.old.room ≤ volume.new.room + 1 }
+{
+    let spot = locate(volume, key.len(), key)?;
+    insert_at(volume, spot, key, address)
 }

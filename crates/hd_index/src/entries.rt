@@ -65,6 +65,8 @@ pub fn entry_room(key_length: usize, size: usize) -> usize
     requires least { 12 ≤ size }
     ensures value { result ≡ entry_room key_length size }
     ensures within { entry_place key_length result ≤ size }
+    ensures most { (count : ℕ) → entry_place key_length count ≤ size → count ≤ result }
+    ensures more { (count : ℕ) → count < result → entry_place key_length (count + 1) ≤ size }
 {
     (size - FIRST) / (key_length + ADDRESS)
 }
