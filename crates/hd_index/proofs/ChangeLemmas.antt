@@ -167,3 +167,17 @@ is-key f h = by-test f.is_key h
     by-test : (t : Bool) → not t ≡ false → t ≡ true
     by-test true e = refl
     by-test false e = absurd (cc)
+
+-- a spot with a block is one of the index
+pub spot-block : (k : ℕ) (u : VolumeState) (key : List ℕ) (spot : Spot) → HasIndex k u → spot ≡ spot_of k u key → spot.block ≢ 0 → IsSpot k u key spot
+spot-block k u key spot h read some = elim (spot-cases k u key spot h read) [
+  | inl none ↦ absurd (some (ap (λ (s : Spot). s.block) none.0))
+  | inr s ↦ s
+]
+
+-- one with no block is of an index with none
+pub spot-none : (k : ℕ) (u : VolumeState) (key : List ℕ) (spot : Spot) → HasIndex k u → spot ≡ spot_of k u key → spot.block ≡ 0 → (entry_blocks u ≡ []) × ((header_of u.image).top ≡ 0)
+spot-none k u key spot h read none = elim (spot-cases k u key spot h read) [
+  | inl e ↦ (e.1, e.2)
+  | inr s ↦ (let l = s.is.is.later in absurd (omega arith))
+]

@@ -24,7 +24,8 @@ use Rattle.hd_index.proofs.EditLemmas.{edit-other}
 use Rattle.hd_index.proofs.SpliceLemmas.{same-entry-block, index-blocks, spliced}
 use Rattle.hd_index.proofs.MapLemmas.{with-behind, with-here, address-behind, ascend-with}
 use Rattle.hd_index.proofs.ChainLemmas.{place-entries}
-use Rattle.hd_index.proofs.ChangeLemmas.{IsSpot}
+use Rattle.hd_index.proofs.ChangeLemmas.{IsSpot, change-none}
+use Rattle.hd_volume.proofs.JoinLemmas.{AreOne, one-formatted, one-spare}
 use Rattle.hd_index.proofs.StepLemmas.{step-join, bears-kept, change-join, taken-step, taken-bears}
 
 -- ---- a divided block
@@ -247,3 +248,23 @@ entered k u w e spot more few some h none s splice =
     let r = spliced k u w e.key place new more some h s.at splice (ap keys_ascend (sym all) ∙ ascend-with e (entries k u) h.ascend none) in
     let spares = splice.step.spares in
     record { size = splice.step.size; index = r.0; entries = r.1 ∙ sym all; change = changed-more few splice.step.change; spares = omega arith }
+
+-- the first entry is the one more
+pub first-entered : (k : ℕ) (u w : VolumeState) (e : Entry) → entry_blocks u ≡ [] → IsChanged k u (e ∷ []) 1 w → IsChanged k u (with_entry e (entries k u)) 1 w
+first-entered k u w e none h =
+    let C : List Entry → Type 0 = λ es. IsChanged k u (with_entry e es) 1 w in
+    subst C (sym (ap (entries_of k u) none)) h
+
+-- the same change, behind a read
+pub changed-before : (k : ℕ) (u v w : VolumeState) (es fs : List Entry) (more : ℕ) → AreOne u v → 0 < u.size → HasIndex k u → fs ≡ es → IsChanged k v fs more w → IsChanged k u es more w
+changed-before k u v w es fs more o some h same c =
+    let I : ℕ → Type 0 = λ i. IsIndexChange u i w in
+    let spares = c.spares in
+    let one = one-spare o in
+    record {
+      size = c.size ∙ o.same.size;
+      index = c.index;
+      entries = c.entries ∙ same;
+      change = subst I (let e : 0 + more ≡ more = omega arith in e) (change-join 0 more h.formatted (one-formatted o h.formatted) some o.same.size (change-none u v o) c.change);
+      spares = omega arith;
+    }

@@ -9,6 +9,7 @@ ghost use Rattle.hd_index.specs.Maps.{address_of, with_entry, without_key};
 ghost use Rattle.hd_index.specs.Changes.{IsIndexOf, entries_for, IsIndexChange};
 
 use crate::edit::remove_entry;
+use crate::enter::insert_key;
 use crate::entries::root_key_length;
 use crate::place::locate;
 use hd_dbd::{Dbd, Refused};
@@ -58,8 +59,11 @@ pub fn insert<S: BlockStore>(
     ensures refusal { IfErr result (λ e. (e ≡ Refused.Memory) ⊎ (e ≡ Refused.Full) ⊎ (e ≡ Refused.Device)) }
     ensures room { IsTrue volume.new.is_sound → volume.old.room ≤ volume.new.room + index_growth volume.old }
 {
-    let _ = (volume, dbd, key, address);
-    Ok(())
+    if volume.block_size() != dbd.block_size() as usize {
+        return Ok(());
+    }
+    let _key_length = root_key_length(dbd);
+    insert_key(volume, key, address)
 }
 
 /// Takes the root of a key out of the index; a key that it does not have leaves it as it is.
