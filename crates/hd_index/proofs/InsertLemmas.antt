@@ -8,10 +8,11 @@ use Rattle.hd_bytes.specs.Numbers.{number_at}
 use Rattle.hd_bytes.specs.Blocks.{block_of, HasBlock}
 use Rattle.hd_volume.specs.Headers.{Header, header_of, HasHeader}
 use Rattle.hd_volume.specs.Volumes.{VolumeState, block_at, kind_of, IsKind, IsFormatted, HasKinds}
-use Rattle.hd_volume.specs.Rooms.{spare}
+use Rattle.hd_volume.specs.Rooms.{spare, free_blocks, HasFreeBlock}
+use Rattle.hd_volume.proofs.KindLemmas.{none-free}
 use Rattle.hd_volume.specs.Calls.{HasNewHeader, IsTakenBlock}
 use Rattle.hd_volume.specs.Entries.{Entry, entries_in, entries_of, chain_from, entry_blocks, entries}
-use Rattle.hd_volume.specs.Indexes.{keys_ascend, IsEntryBlock, IsChain, IsAmong, HasIndex}
+use Rattle.hd_volume.specs.Indexes.{keys_ascend, index_growth, IsEntryBlock, IsChain, IsAmong, HasIndex}
 use Rattle.hd_volume.proofs.FrameLemmas.{AreSame}
 use Rattle.hd_index.specs.declared.place.Place.{Place}
 use Rattle.hd_index.specs.declared.place.Spot.{Spot}
@@ -26,7 +27,7 @@ use Rattle.hd_index.proofs.MapLemmas.{with-behind, with-here, address-behind, as
 use Rattle.hd_index.proofs.ChainLemmas.{place-entries}
 use Rattle.hd_index.proofs.ChangeLemmas.{IsSpot, change-none}
 use Rattle.hd_volume.proofs.JoinLemmas.{AreOne, one-formatted, one-spare}
-use Rattle.hd_index.proofs.StepLemmas.{step-join, bears-kept, change-join, taken-step, taken-bears}
+use Rattle.hd_index.proofs.StepLemmas.{there-below, step-join, bears-kept, change-join, taken-step, taken-bears}
 
 -- ---- a divided block
 
@@ -268,3 +269,11 @@ changed-before k u v w es fs more o some h same c =
       change = subst I (let e : 0 + more ≡ more = omega arith in e) (change-join 0 more h.formatted (one-formatted o h.formatted) some o.same.size (change-none u v o) c.change);
       spares = omega arith;
     }
+
+-- where no block is free there are fewer than an insert may need
+pub few-free : (v : VolumeState) → IsFormatted v → (HasFreeBlock v → ⊥) → free_blocks v < index_growth v
+unfolding index_growth
+few-free v f none =
+    let free = none-free v.size v.image (header_of v.image).count
+    (λ m some low is. none (m, record { there = there-below v m f.header low; later = omega arith; kind_is = is })) in
+    omega arith
