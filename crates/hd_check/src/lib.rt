@@ -6,5 +6,6 @@ mod element;
 mod fault;
 mod header;
 mod place;
+mod segments;
 
 pub use fault::Fault;
