@@ -4,3 +4,4 @@ pub mod Chains
 pub mod Tips
 pub mod Held
 pub mod FirstChildren
+pub mod Climbs
