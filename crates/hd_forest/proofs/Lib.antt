@@ -5,3 +5,4 @@ pub mod Tips
 pub mod Held
 pub mod FirstChildren
 pub mod Climbs
+pub mod Walking
