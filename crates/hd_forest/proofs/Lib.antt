@@ -6,3 +6,5 @@ pub mod Held
 pub mod FirstChildren
 pub mod Climbs
 pub mod Walking
+pub mod Keeping
+pub mod Setting

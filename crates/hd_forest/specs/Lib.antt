@@ -2,4 +2,5 @@ pub mod Walks
 pub mod Twins
 pub mod Children
 pub mod Updates
+pub mod Sets
 pub mod Laws

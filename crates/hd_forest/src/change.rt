@@ -1,7 +1,7 @@
 ghost use Rattle.std.specs.Prelude.{◌≡◌, ◌⊎◌, ◌+◌, ◌≤◌, ◌<◌, true, length, IsTrue, IfOk, IfErr, OnOk};
 ghost use Rattle.hd_dbd.specs.Rows.{row_fits};
 ghost use Rattle.hd_dbd.specs.Prefixes.{stored_size};
-ghost use Rattle.hd_volume.specs.Rooms.{spare, HasHole};
+ghost use Rattle.hd_volume.specs.Rooms.{spare, HasHole, HasFreeBlock};
 ghost use Rattle.hd_volume.specs.Calls.{IsCall};
 ghost use Rattle.hd_links.specs.Changes.{CanReplace};
 ghost use Rattle.hd_image.specs.Records.{links_of, IsVolumeOf};
@@ -14,7 +14,8 @@ use hd_volume::{BlockStore, Volume};
 /// Links a new row below a parent, 0 for a root, behind its preceding twin, 0 for none, and says its address. No memory is
 /// taken but what the volume may grow by.
 ///
-/// `Full` says that there is no block to spare and no hole of its size; `Memory` comes only where no room is reserved.
+/// `Full` says that there is no block to spare and no hole of its size; `Memory` comes only where the volume would have to
+/// grow and no room is reserved.
 pub fn link<S: BlockStore>(
     volume: &mut Volume<S>,
     dbd: &Dbd,
@@ -32,6 +33,8 @@ pub fn link<S: BlockStore>(
     ensures kept { IfErr result (λ _. IsTrue volume.new.is_sound → volume.new.image ≡ volume.old.image) }
     ensures full { IfErr result (λ e. e ≡ Refused.Full → IsTrue volume.old.is_sound → (spare volume.old ≡ 0) × (HasHole volume.old (stored_size dbd.now.types code) → ⊥)) }
     ensures memory { IfErr result (λ e. e ≡ Refused.Memory → volume.old.room ≡ 0) }
+    ensures no_free { IfErr result (λ e. e ≡ Refused.Memory → IsTrue volume.old.is_sound → HasFreeBlock volume.old → ⊥) }
+    ensures no_hole { IfErr result (λ e. e ≡ Refused.Memory → IsTrue volume.old.is_sound → HasHole volume.old (stored_size dbd.now.types code) → ⊥) }
     ensures refusal { IfErr result (λ e. (e ≡ Refused.Memory) ⊎ (e ≡ Refused.Full) ⊎ (e ≡ Refused.Device)) }
     ensures room { IsTrue volume.new.is_sound → volume.old.room ≤ volume.new.room + 1 }
 {

@@ -8,6 +8,7 @@ mod path;
 mod read;
 mod unlink;
 mod walk;
+mod write;
 
 pub use change::{link, replace};
 pub use law::law_walking_gives_the_sequence;

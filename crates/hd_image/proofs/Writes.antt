@@ -37,7 +37,7 @@ pub elsewhere-found : (types : List SegmentType) (v w : VolumeState) (a place : 
 elsewhere-found types v w a place bytes written b ne = found-same types v w b (λ _. roots-stay v w written.header) (written.others b ne)
 
 -- a pointer of a segment behind the header
-pointer-behind : (types : List SegmentType) (v : VolumeState) (a : ℕ) (s : List ℕ) (pointer : Pointer) → 0 < a → stored_at v a ≡ s
+pub pointer-behind : (types : List SegmentType) (v : VolumeState) (a : ℕ) (s : List ℕ) (pointer : Pointer) → 0 < a → stored_at v a ≡ s
     → pointer_in (links_of types v) a pointer ≡ pointer_of types (code_of s) pointer s
 pointer-behind types v a s TwinForward some is = ap (λ s. pointer_of types (code_of s) TwinForward s) is
 pointer-behind types v a s TwinBackward some is = ap (λ s. pointer_of types (code_of s) TwinBackward s) is

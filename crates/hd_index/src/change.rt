@@ -1,6 +1,6 @@
 ghost use Rattle.std.specs.Prelude.{◌≡◌, ◌⊎◌, ◌+◌, ◌≤◌, ◌<◌, length, true, None, IsTrue, IfErr, OnOk};
 ghost use Rattle.hd_volume.specs.Volumes.{IsFormatted};
-ghost use Rattle.hd_volume.specs.Rooms.{spare};
+ghost use Rattle.hd_volume.specs.Rooms.{spare, free_blocks};
 ghost use Rattle.hd_volume.specs.Calls.{IsCall};
 ghost use Rattle.hd_volume.specs.Indexes.{root_key_length, index_growth, lacks_room};
 ghost use Rattle.hd_index.specs.Maps.{address_of, with_entry, without_key};
@@ -28,7 +28,8 @@ pub fn lacks_room<S: BlockStore>(volume: &Volume<S>, others: u32) -> bool
 
 /// Enters the root of a new key.
 ///
-/// `Full` says that there are fewer blocks to spare than it may need; `Memory` comes only where room for fewer is reserved.
+/// `Full` says that there are fewer blocks to spare than it may need; `Memory` comes only where the volume
+/// would have to grow and room for fewer is reserved.
 pub fn insert<S: BlockStore>(volume: &mut Volume<S>, dbd: &Dbd, key: &[u8], address: u32) -> Result<(), Refused>
     requires index { IsTrue volume.old.is_sound → IsIndexOf dbd.now volume.old }
     requires whole { length key.now ≡ root_key_length dbd.now.types }
@@ -41,6 +42,7 @@ pub fn insert<S: BlockStore>(volume: &mut Volume<S>, dbd: &Dbd, key: &[u8], addr
     ensures kept { IfErr result (λ _. IsTrue volume.new.is_sound → volume.new.image ≡ volume.old.image) }
     ensures full { IfErr result (λ e. e ≡ Refused.Full → IsTrue volume.old.is_sound → lacks_room 0 volume.old ≡ true) }
     ensures memory { IfErr result (λ e. e ≡ Refused.Memory → volume.old.room < index_growth volume.old) }
+    ensures few { IfErr result (λ e. e ≡ Refused.Memory → IsTrue volume.old.is_sound → free_blocks volume.old < index_growth volume.old) }
     ensures refusal { IfErr result (λ e. (e ≡ Refused.Memory) ⊎ (e ≡ Refused.Full) ⊎ (e ≡ Refused.Device)) }
     ensures room { IsTrue volume.new.is_sound → volume.old.room ≤ volume.new.room + index_growth volume.old }
 {

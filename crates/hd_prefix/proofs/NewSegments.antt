@@ -1,10 +1,10 @@
 -- A row that is made a stored segment.
-use Rattle.std.proofs.Common.{◌≡◌, ℕ, zero, suc, ◌+◌, ◌-◌, ◌*◌, ◌^◌, ◌<◌, ◌≤◌, List, ◌∷◌, ◌++◌, length, take, slice_index, arith, ap, sym, ◌∙◌, refl, Option, Some, None}
-use Rattle.std.specs.Prelude.{IfSome, replicate}
+use Rattle.std.proofs.Common.{◌≡◌, ℕ, zero, suc, ◌+◌, ◌-◌, ◌*◌, ◌^◌, ◌<◌, ◌≤◌, List, ◌∷◌, ◌++◌, length, take, drop, slice_index, arith, ap, ap₂, sym, ◌∙◌, refl, Option, Some, None}
+use Rattle.std.specs.Prelude.{IfSome, replicate, slice_set}
 use Rattle.std.specs.Option.{option_map_or}
 use Rattle.std.proofs.lemmas.Grind.{common_steps}
-use Rattle.std.proofs.lemmas.List.{length-replicate, get_or_append_left, get_or-replicate, drop_at, take_at}
-use Rattle.hd_bytes.specs.Ranges.{bytes_at}
+use Rattle.std.proofs.lemmas.List.{length-replicate, get_or_append_left, get_or-replicate, take-replicate, drop-replicate, drop_at, take_at}
+use Rattle.hd_bytes.specs.Ranges.{bytes_at, with_bytes}
 use Rattle.hd_bytes.specs.Numbers.{number_at}
 use Rattle.hd_dbd.specs.Types.{SegmentType}
 use Rattle.hd_dbd.specs.Prefixes.{prefix_length, stored_size}
@@ -76,3 +76,25 @@ new_segment_is types c bytes low len inside =
   where
     sums : (p n s b : ℕ) → 2 ≤ p → p + n ≤ s → b ≡ n → 1 + (p - 1) + b + (s - p - b) ≡ s
     sums p n s b e f g = omega arith
+
+-- a code and bytes that are written over zeros
+pub laid_over : (c prefix size : ℕ) (bytes : List ℕ) → 1 ≤ prefix → prefix + length bytes ≤ size
+    → with_bytes (slice_set (replicate size 0) 0 c) prefix bytes ≡ c ∷ (replicate (prefix - 1) 0 ++ (bytes ++ replicate (size - prefix - length bytes) 0))
+laid_over c zero size bytes some fits = absurd (omega arith)
+laid_over c (suc q) zero bytes some fits = absurd (omega arith)
+laid_over c (suc q) (suc n) bytes some fits = ap₂ (λ (x y : List ℕ). c ∷ (x ++ (bytes ++ y))) (front q n (omega arith)) (back q n (length bytes))
+  where
+    front : (q n : ℕ) → q ≤ n → take {A = ℕ} q (replicate n 0) ≡ replicate (suc q - 1) 0
+    front q n low = take-replicate q n 0 low ∙ ap (λ (k : ℕ). replicate k 0) (nulls q)
+      where
+        nulls : (q : ℕ) → q ≡ suc q - 1
+        nulls q = omega arith
+
+    back : (q n l : ℕ) → drop {A = ℕ} (suc q + l) (c ∷ replicate n 0) ≡ replicate (suc n - suc q - l) 0
+    back q n l = ap (λ (k : ℕ). drop k (c ∷ replicate n 0)) (next q l) ∙ drop-replicate (q + l) n 0 ∙ ap (λ (k : ℕ). replicate k 0) (rest q n l)
+      where
+        next : (q l : ℕ) → suc q + l ≡ suc (q + l)
+        next q l = omega arith
+
+        rest : (q n l : ℕ) → n - (q + l) ≡ suc n - suc q - l
+        rest q n l = omega arith

@@ -1,6 +1,7 @@
-ghost use Rattle.std.specs.Prelude.{◌≡◌, ◌≢◌, ◌+◌, ◌≤◌, length, IfOk, IfSome, OnSome, MatchOption};
+ghost use Rattle.std.specs.Prelude.{◌≡◌, ◌≢◌, ◌+◌, ◌≤◌, length, true, IfSome, OnSome, MatchOption};
 ghost use Rattle.hd_bytes.specs.Ranges.{ChangesOnly};
 ghost use Rattle.hd_dbd.specs.Prefixes.{prefix_length, stored_size};
+ghost use Rattle.hd_dbd.specs.Rows.{row_fits};
 ghost use Rattle.hd_prefix.specs.declared.pointer.Pointer.{Pointer};
 ghost use Rattle.hd_prefix.specs.declared.pointer.Pointer.TheVariants.{TwinForward, TwinBackward, FirstChild, LastChild};
 ghost use Rattle.hd_prefix.specs.Pointers.{is_last_kept, is_child, place_of, IsApart};
@@ -8,9 +9,8 @@ ghost use Rattle.hd_dbd.specs.Prefixes.{is_backward_kept};
 ghost use Rattle.hd_prefix.specs.Fields.{pointer_of, length_of, bytes_of, new_segment, IsPointerSet};
 
 use crate::pointer::Pointer;
-use hd_bytes::{read_u32, write_u32};
+use hd_bytes::{read_u32, write_bytes, write_u32};
 use hd_dbd::Dbd;
-use std::alloc::{AllocError, Global};
 
 /// Where the fields of a type's segments stand: a view over what the database keeps of the type.
 #[derive(Clone, Copy)]
@@ -91,19 +91,16 @@ impl<'a> Layout<'a> {
         &segment[start..start + self.length()]
     }
 
-    /// A row of the type as a whole stored segment that no pointer leads from.
-    pub fn new_segment(&self, alloc: Global, bytes: &[u8]) -> Result<Vec<u8>, AllocError>
-        ensures { IfOk result (λ v. v.items ≡ new_segment (types_of self.now) (type_code self.now) bytes.now) }
+    /// Makes room of the type's stored size a row of the type, as a whole stored segment that no pointer leads from.
+    pub fn write_new(&self, segment: &mut [u8], bytes: &[u8])
+        requires fits { row_fits (types_of self.now) (record { code = type_code self.now; bytes = bytes.now }) ≡ true }
+        requires size { length segment.old ≡ stored_size (types_of self.now) (type_code self.now) }
+        ensures { segment.new ≡ new_segment (types_of self.now) (type_code self.now) bytes.now }
     {
         let prefix = self.prefix_length() as usize;
-        let size = self.stored_size() as usize;
-        let padding = size.saturating_sub(prefix).saturating_sub(bytes.len());
-        let mut segment = Vec::with_capacity(alloc, size)?;
-        segment.push(self.code)?;
-        segment.resize(prefix.max(1), 0)?;
-        segment.extend_from_slice(bytes)?;
-        segment.resize(segment.len() + padding, 0)?;
-        Ok(segment)
+        segment.fill(0);
+        segment[0] = self.code;
+        write_bytes(segment, prefix, bytes);
     }
 
     /// The length of the segment's own bytes.

@@ -114,19 +114,25 @@ fn says_where_pointers_stand(rt: HostRuntime) {
     assert_eq!(rt; (none.prefix_length(), none.stored_size()), (0, 0));
 }
 
+/// Makes a row of a type a new segment, if it fits and the room has the type's size.
+fn make(dbd: &Dbd, code: u8, segment: &mut [u8], bytes: &[u8]) {
+    let layout = Layout::of(dbd, code);
+    if let Some(own) = dbd.type_of(code) {
+        if bytes.len() == own.length as usize && segment.len() == layout.stored_size() as usize {
+            layout.write_new(segment, bytes);
+        }
+    }
+}
+
 #[test]
 fn makes_a_segment_and_writes_a_pointer(rt: HostRuntime) {
     let dbd = sample(rt.alloc()).expect(&rt, "a database");
+    let mut book = [0xffu8; 16];
+    make(&dbd, 4, &mut book, b"EULER");
+    assert_eq!(rt; book, BOOK);
     let layout = Layout::of(&dbd, 4);
-    let mut book = layout
-        .new_segment(rt.alloc(), b"EULER")
-        .expect(&rt, "a segment");
-    assert_eq!(rt; book.as_slice(), BOOK.as_slice());
-    if layout.stored_size() as usize <= book.len() {
+    if layout.stored_size() <= 16 {
         layout.write(&mut book, Pointer::TwinBackward, 264);
     }
-    assert_eq!(rt;
-        book.as_slice(),
-        b"\x04\0\0\0\0\0\0\0\x01\x08EULER\0".as_slice()
-    );
+    assert_eq!(rt; book, *b"\x04\0\0\0\0\0\0\0\x01\x08EULER\0");
 }

@@ -19,7 +19,7 @@ AreIndex v (n ∷ blocks) = IsKind v 2 n × AreIndex v blocks
 -- the blocks of a chain are index blocks
 pub chain-index : (key_length : ℕ) (v : VolumeState) (start : ℕ) (blocks : List ℕ) → IsChain key_length v start blocks → AreIndex v blocks
 chain-index key_length v start [] h = tt
-chain-index key_length v start (n ∷ blocks) h = (h.1.is , chain-index key_length v (number_at 4 (block_at v n) 8) blocks h.2)
+chain-index key_length v start (n ∷ blocks) h = (h.1.is, chain-index key_length v (number_at 4 (block_at v n) 8) blocks h.2)
 
 -- one chain
 chain-same : (v w : VolumeState) (more n : ℕ) → AreIndex v (chain_from v more n) → KeepsIndex v w → chain_from w more n ≡ chain_from v more n
@@ -46,7 +46,6 @@ entries-same key_length v w (n ∷ blocks) h keeps =
 module _ {key_length : ℕ} {v w : VolumeState} (x : HasIndex key_length v) (f : IsFormatted w) (size : w.size ≡ v.size)
     (header : header_of w.image ≡ record (header_of v.image) { count = (header_of w.image).count; first_root = (header_of w.image).first_root; last_root = (header_of w.image).last_root })
     (keeps : KeepsIndex v w) (back : (n : ℕ) → IsKind w 2 n → IsKind v 2 n) where
-
   top-same : (header_of w.image).top ≡ (header_of v.image).top
   top-same = ap (λ (h : Header). h.top) header
 
@@ -74,7 +73,7 @@ module _ {key_length : ℕ} {v w : VolumeState} (x : HasIndex key_length v) (f :
   chain-stays start [] h = h
   chain-stays start (n ∷ blocks) h =
       let C : ℕ → Type 0 = λ s. IsChain key_length w s blocks in
-      (h.0 , entry-block-stays n h.1 , subst C (sym (ap (λ (b : List ℕ). number_at 4 b 8) (keeps n h.1.is))) (chain-stays (number_at 4 (block_at v n) 8) blocks h.2))
+      (h.0, entry-block-stays n h.1, subst C (sym (ap (λ (b : List ℕ). number_at 4 b 8) (keeps n h.1.is))) (chain-stays (number_at 4 (block_at v n) 8) blocks h.2))
 
   has-index : HasIndex key_length w
   has-index =
@@ -94,8 +93,13 @@ module _ {key_length : ℕ} {v w : VolumeState} (x : HasIndex key_length v) (f :
   pub stays : HasIndex key_length w × (entries key_length w ≡ entries key_length v) × (index_growth w ≡ index_growth v)
       × ((more others : ℕ) → spare v ≤ spare w + more → lacks_room (more + others) v ≡ false → lacks_room others w ≡ false)
   unfolding index_growth lacks_room
-  stays = (has-index , entries-stay , refl , λ more others less room.
-      (let enough : more + others + 1 ≤ spare v = ltb-false (spare v) (more + others + 1) room in le-ltb (spare w) (others + 1) (omega arith)))
+  stays = (
+    has-index,
+    entries-stay,
+    refl,
+    λ more others less room.
+        (let enough : more + others + 1 ≤ spare v = ltb-false (spare v) (more + others + 1) room in le-ltb (spare w) (others + 1) (omega arith)),
+  )
 
 pub index-stays : IndexStays
 index-stays key_length v w x f size header keeps back = stays x f size header keeps back

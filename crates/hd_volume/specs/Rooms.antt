@@ -35,3 +35,11 @@ pub record HasHole (v : VolumeState) (n : ℕ) : Type 0 where
   pub block : ℕ
   pub is_data : IsKind v 1 block
   pub large : n ≤ largest_hole (parts_in (slice_index v.sizes) (block_at v block))
+
+-- how many blocks are free
+abbrev pub free_blocks : VolumeState → ℕ
+free_blocks v = free_below v.size v.image (header_of v.image).count
+
+-- some block is free
+abbrev pub HasFreeBlock : VolumeState → Type 0
+HasFreeBlock v = (n : ℕ) × IsKind v 3 n

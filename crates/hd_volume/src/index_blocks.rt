@@ -1,7 +1,7 @@
 ghost use Rattle.std.specs.Prelude.{◌≡◌, ◌≢◌, ◌⊎◌, ◌+◌, ◌≤◌, ◌<◌, ℕ, IsTrue, length, slice_index, IfOk, IfErr, OnOk};
 ghost use Rattle.hd_bytes.specs.Ranges.{with_bytes};
 ghost use Rattle.hd_volume.specs.Volumes.{IsFormatted, IsKind, block_at};
-ghost use Rattle.hd_volume.specs.Rooms.{spare};
+ghost use Rattle.hd_volume.specs.Rooms.{spare, HasFreeBlock};
 ghost use Rattle.hd_volume.specs.Calls.{IsCall, IsTakenBlock, IsGivenBlock, IsWrittenBlock};
 ghost use Rattle.hd_volume.specs.Steps.{IsMadeIndex};
 
@@ -37,7 +37,8 @@ impl<S: BlockStore> Volume<S> {
     /// Takes a free block, or one by which the volume grows, for an index block of a level with no entry, and says its
     /// number.
     ///
-    /// `Full` says that there is no block to spare; `Memory` comes only where no room is reserved.
+    /// `Full` says that there is no block to spare; `Memory` comes only where the volume would
+    /// have to grow and no room is reserved.
     pub fn take_block(&mut self, level: u8) -> Result<u32, Refused>
         requires formatted { IsTrue self.old.is_sound → IsFormatted self.old }
         ensures call { IsCall self.old result self.new }
@@ -45,6 +46,7 @@ impl<S: BlockStore> Volume<S> {
         ensures kept { IfErr result (λ _. IsTrue self.new.is_sound → self.new.image ≡ self.old.image) }
         ensures full { IfErr result (λ e. e ≡ Refused.Full → IsTrue self.old.is_sound → spare self.old ≡ 0) }
         ensures memory { IfErr result (λ e. e ≡ Refused.Memory → self.old.room ≡ 0) }
+        ensures no_free { IfErr result (λ e. e ≡ Refused.Memory → IsTrue self.old.is_sound → HasFreeBlock self.old → ⊥) }
         ensures refusal { IfErr result (λ e. (e ≡ Refused.Memory) ⊎ (e ≡ Refused.Full) ⊎ (e ≡ Refused.Device)) }
         ensures room { IsTrue self.new.is_sound → self.old.room ≤ self.new.room + 1 }
     {

@@ -1,7 +1,7 @@
 ghost use Rattle.std.specs.Prelude.{◌≡◌, ◌≢◌, ◌⊎◌, ◌+◌, ◌-◌, ◌≤◌, ◌<◌, ℕ, IsTrue, length, slice_index, true, false, IfOk, IfErr, IfSome, IfNone, OnOk};
 ghost use Rattle.hd_volume.specs.Headers.{header_of};
 ghost use Rattle.hd_volume.specs.Volumes.{IsFormatted, IsKind};
-ghost use Rattle.hd_volume.specs.Rooms.{spare, HasHole};
+ghost use Rattle.hd_volume.specs.Rooms.{spare, HasHole, HasFreeBlock};
 ghost use Rattle.hd_volume.specs.Calls.{IsCall, IsRead, IsPut};
 ghost use Rattle.hd_volume.specs.Steps.{HasRoom, IsPutIn, HasFree, IsMade, IsReady, data_head};
 
@@ -139,6 +139,7 @@ impl<S: BlockStore> Volume<S> {
         ensures kept { IfErr result (λ _. IsTrue self.new.is_sound → self.new.image ≡ self.old.image) }
         ensures full { IfErr result (λ e. e ≡ Refused.Full → IsTrue self.old.is_sound → spare self.old ≡ 0) }
         ensures memory { IfErr result (λ e. e ≡ Refused.Memory → self.old.room ≡ 0) }
+        ensures no_free { IfErr result (λ e. e ≡ Refused.Memory → IsTrue self.old.is_sound → HasFreeBlock self.old → ⊥) }
         ensures refusal { IfErr result (λ e. (e ≡ Refused.Memory) ⊎ (e ≡ Refused.Full) ⊎ (e ≡ Refused.Device)) }
         ensures room { IsTrue self.new.is_sound → self.old.room ≤ self.new.room + 1 }
     {
@@ -157,6 +158,7 @@ impl<S: BlockStore> Volume<S> {
         ensures kept { IfErr result (λ _. IsTrue self.new.is_sound → self.new.image ≡ self.old.image) }
         ensures full { IfErr result (λ e. e ≡ Refused.Full → IsTrue self.old.is_sound → spare self.old ≡ 0) }
         ensures memory { IfErr result (λ e. e ≡ Refused.Memory → self.old.room ≡ 0) }
+        ensures no_free { IfErr result (λ e. e ≡ Refused.Memory → IsTrue self.old.is_sound → HasFreeBlock self.old → ⊥) }
         ensures refusal { IfErr result (λ e. (e ≡ Refused.Memory) ⊎ (e ≡ Refused.Full) ⊎ (e ≡ Refused.Device)) }
         ensures room { IsTrue self.new.is_sound → self.old.room ≤ self.new.room + 1 }
     {
@@ -174,6 +176,8 @@ impl<S: BlockStore> Volume<S> {
         ensures kept { IfErr result (λ _. IsTrue self.new.is_sound → self.new.image ≡ self.old.image) }
         ensures full { IfErr result (λ e. e ≡ Refused.Full → IsTrue self.old.is_sound → (spare self.old ≡ 0) × (HasHole self.old (slice_index self.old.sizes code) → ⊥)) }
         ensures memory { IfErr result (λ e. e ≡ Refused.Memory → self.old.room ≡ 0) }
+        ensures no_free { IfErr result (λ e. e ≡ Refused.Memory → IsTrue self.old.is_sound → HasFreeBlock self.old → ⊥) }
+        ensures no_hole { IfErr result (λ e. e ≡ Refused.Memory → IsTrue self.old.is_sound → HasHole self.old (slice_index self.old.sizes code) → ⊥) }
         ensures refusal { IfErr result (λ e. (e ≡ Refused.Memory) ⊎ (e ≡ Refused.Full) ⊎ (e ≡ Refused.Device)) }
         ensures room { IsTrue self.new.is_sound → self.old.room ≤ self.new.room + 1 }
     {
@@ -185,7 +189,8 @@ impl<S: BlockStore> Volume<S> {
 
     /// Puts a segment, its prefix first and padded to a multiple of 8, and says its address.
     ///
-    /// `Full` says that there is no block to spare and no hole of its size; `Memory` comes only where no room is reserved.
+    /// `Full` says that there is no block to spare and no hole of its size; `Memory` comes only where the volume would have to
+    /// grow and no room is reserved.
     pub fn put(&mut self, bytes: &[u8]) -> Result<u32, Refused>
         requires formatted { IsTrue self.old.is_sound → IsFormatted self.old }
         requires whole { (0 < length bytes.now) × (slice_index self.old.sizes (slice_index bytes.now 0) ≡ length bytes.now) }
@@ -194,6 +199,8 @@ impl<S: BlockStore> Volume<S> {
         ensures kept { IfErr result (λ _. IsTrue self.new.is_sound → self.new.image ≡ self.old.image) }
         ensures full { IfErr result (λ e. e ≡ Refused.Full → IsTrue self.old.is_sound → (spare self.old ≡ 0) × (HasHole self.old (length bytes.now) → ⊥)) }
         ensures memory { IfErr result (λ e. e ≡ Refused.Memory → self.old.room ≡ 0) }
+        ensures no_free { IfErr result (λ e. e ≡ Refused.Memory → IsTrue self.old.is_sound → HasFreeBlock self.old → ⊥) }
+        ensures no_hole { IfErr result (λ e. e ≡ Refused.Memory → IsTrue self.old.is_sound → HasHole self.old (length bytes.now) → ⊥) }
         ensures refusal { IfErr result (λ e. (e ≡ Refused.Memory) ⊎ (e ≡ Refused.Full) ⊎ (e ≡ Refused.Device)) }
         ensures room { IsTrue self.new.is_sound → self.old.room ≤ self.new.room + 1 }
     {

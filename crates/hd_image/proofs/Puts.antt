@@ -1,0 +1,152 @@
+-- A segment that is put into a database's volume.
+use Rattle.std.proofs.Common.{◌≡◌, ◌≢◌, ℕ, ◌<◌, ◌/◌, List, [], Bool, true, false, not, ◌&&◌, ◌||◌, ◌==◌, subst, inl, inr, refl, sym, ap, ap₂, ◌∙◌, Option, Some, arith, ne_eqb}
+use Rattle.std.specs.Prelude.{is_some}
+use Rattle.std.specs.Option.{option_map_or}
+use Rattle.std.proofs.Math.Nat.{zero-div}
+use Rattle.std.proofs.lemmas.Bool.{cases_eq, eq-eqb, cond-true, cond-false, false≢true}
+use Rattle.hd_dbd.specs.Types.{SegmentType}
+use Rattle.hd_volume.specs.Headers.{Header}
+use Rattle.hd_volume.specs.Volumes.{VolumeState}
+use Rattle.hd_volume.specs.Records.{find}
+use Rattle.hd_volume.specs.Calls.{IsPut}
+use Rattle.hd_volume.proofs.MapLemmas.{find-some}
+use Rattle.hd_prefix.specs.declared.pointer.Pointer.{Pointer}
+use Rattle.hd_prefix.specs.declared.pointer.Pointer.TheVariants.{TwinForward, TwinBackward, FirstChild, LastChild}
+use Rattle.hd_prefix.specs.Fields.{code_of, delete_byte_of, pointer_of, bytes_of}
+use Rattle.hd_links.specs.Links.{Links}
+use Rattle.hd_links.specs.Changes.{AgreeAt}
+use Rattle.hd_image.specs.Records.{stored_at, links_of}
+use Rattle.hd_image.specs.Pointing.{with_record, without_record}
+use Rattle.hd_image.specs.Laws.{PuttingAddsARecord, FreeingTakesARecord}
+use Rattle.hd_image.proofs.SameRecords.{SameRoots, SameAt, pointer_in, same-agree, found-same}
+use Rattle.hd_image.proofs.Writes.{pointer-behind, roots-stay}
+
+-- The record at the address says what a stored segment does.
+pub record SaysOf (types : List SegmentType) (m : Links) (a : ℕ) (s : List ℕ) : Type 0 where
+  pub here : m.here a ≡ true
+  pub code : m.code a ≡ code_of s
+  pub bytes : m.bytes a ≡ bytes_of types (code_of s) s
+  pub delete_byte : m.delete_byte a ≡ delete_byte_of s
+  pub pointers : (pointer : Pointer) → pointer_in m a pointer ≡ pointer_of types (code_of s) pointer s
+
+pub found-says : (types : List SegmentType) (v : VolumeState) (a : ℕ) (s : List ℕ) → 0 < a → find v a ≡ Some s → SaysOf types (links_of types v) a s
+found-says types v a s some is =
+    let stored : stored_at v a ≡ s = ap (λ o. option_map_or (λ segment. segment) o []) is in
+    record {
+      here = ap₂ (λ (x : Bool) (o : Option (List ℕ)). x || is_some o) (ne_eqb a 0 (λ e. omega arith)) is;
+      code = ap code_of stored;
+      bytes = ap (λ s. bytes_of types (code_of s) s) stored;
+      delete_byte = ap delete_byte_of stored;
+      pointers = λ pointer. pointer-behind types v a s pointer some stored;
+    }
+
+-- a volume that has grown has the same roots
+pub put-roots : (v w : VolumeState) (a : ℕ) (s : List ℕ) → IsPut v a s w → SameRoots v w
+put-roots v w a s put = record { first = ap (λ (h : Header). h.first_root) put.grows.header; last = ap (λ (h : Header). h.last_root) put.grows.header }
+
+-- no other record changes
+pub put-elsewhere : (types : List SegmentType) (v w : VolumeState) (a : ℕ) (s : List ℕ) → IsPut v a s w → (b : ℕ) → b ≢ a → SameAt (links_of types v) (links_of types w) b
+put-elsewhere types v w a s put b ne = found-same types v w b (λ _. put-roots v w a s put) (put.others b ne)
+
+-- and there was none at the address
+pub put-free : (types : List SegmentType) (v w : VolumeState) (a : ℕ) (s : List ℕ) → 0 < a → IsPut v a s w → (links_of types v).here a ≡ false
+put-free types v w a s some put = ap₂ (λ (x : Bool) (o : Option (List ℕ)). x || is_some o) (ne_eqb a 0 (λ e. omega arith)) put.was
+
+-- with one record more, elsewhere all stays
+more-elsewhere : (types : List SegmentType) (m m2 : Links) (a : ℕ) (s : List ℕ) (b : ℕ) → b ≢ a → SameAt m m2 b → SameAt (with_record types m a s) m2 b
+more-elsewhere types m m2 a s b ne same =
+    let off : (b == a) ≡ false = ne_eqb b a ne in
+    record {
+      here = same.here ∙ sym (ap (λ x. x || m.here b) off);
+      code = same.code ∙ sym (cond-false (b == a) _ (m.code b) off);
+      bytes = same.bytes ∙ sym (cond-false (b == a) _ (m.bytes b) off);
+      delete_byte = same.delete_byte ∙ sym (cond-false (b == a) _ (m.delete_byte b) off);
+      pointers = pointers same off;
+    }
+  where
+    pointers : SameAt m m2 b → (b == a) ≡ false → (pointer : Pointer) → pointer_in m2 b pointer ≡ pointer_in (with_record types m a s) b pointer
+    pointers same off TwinForward = same.pointers TwinForward ∙ sym (cond-false (b == a) _ (m.forward b) off)
+    pointers same off TwinBackward = same.pointers TwinBackward ∙ sym (cond-false (b == a) _ (m.backward b) off)
+    pointers same off (FirstChild t) = same.pointers (FirstChild t) ∙ sym (cond-false (b == a) _ (m.first_child b t) off)
+    pointers same off (LastChild t) = same.pointers (LastChild t) ∙ sym (cond-false (b == a) _ (m.last_child b t) off)
+
+-- and there stands what the segment says
+more-there : (types : List SegmentType) (m m2 : Links) (a : ℕ) (s : List ℕ) → SaysOf types m2 a s → SameAt (with_record types m a s) m2 a
+more-there types m m2 a s says =
+    let on : (a == a) ≡ true = eq-eqb a a refl in
+    record {
+      here = says.here ∙ sym (ap (λ x. x || m.here a) on);
+      code = says.code ∙ sym (cond-true (a == a) _ (m.code a) on);
+      bytes = says.bytes ∙ sym (cond-true (a == a) _ (m.bytes a) on);
+      delete_byte = says.delete_byte ∙ sym (cond-true (a == a) _ (m.delete_byte a) on);
+      pointers = pointers on;
+    }
+  where
+    pointers : (a == a) ≡ true → (pointer : Pointer) → pointer_in m2 a pointer ≡ pointer_in (with_record types m a s) a pointer
+    pointers on TwinForward = says.pointers TwinForward ∙ sym (cond-true (a == a) _ (m.forward a) on)
+    pointers on TwinBackward = says.pointers TwinBackward ∙ sym (cond-true (a == a) _ (m.backward a) on)
+    pointers on (FirstChild t) = says.pointers (FirstChild t) ∙ sym (cond-true (a == a) _ (m.first_child a t) on)
+    pointers on (LastChild t) = says.pointers (LastChild t) ∙ sym (cond-true (a == a) _ (m.last_child a t) on)
+
+-- an address that has a segment is not that of the header
+found-later : (v : VolumeState) (a : ℕ) (s : List ℕ) → find v a ≡ Some s → 0 < a
+found-later v a s is = elim (cases_eq a 0) [
+  | inl e ↦ absurd ((find-some v a s is).later (ap (λ (k : ℕ). k / v.size) e ∙ zero-div v.size))
+  | inr ne ↦ omega arith
+]
+
+pub putting-adds : PuttingAddsARecord
+putting-adds types v w a s some size put =
+    let later : 0 < a = found-later w a s put.is in (
+      later,
+      λ b. same-agree types (with_record types (links_of types v) a s) (links_of types w) b (elim (cases_eq b a) [
+        | inl e ↦ subst (λ (k : ℕ). SameAt (with_record types (links_of types v) a s) (links_of types w) k) (sym e)
+            (more-there types (links_of types v) (links_of types w) a s (found-says types w a s later put.is))
+        | inr ne ↦ more-elsewhere types (links_of types v) (links_of types w) a s b ne (put-elsewhere types v w a s put b ne)
+      ]),
+    )
+
+-- ---- a segment that is freed
+
+-- with one record less, elsewhere all stays
+less-elsewhere : (m m2 : Links) (a b : ℕ) → b ≢ a → SameAt m m2 b → SameAt (without_record m a) m2 b
+less-elsewhere m m2 a b ne same = record {
+  here = same.here ∙ sym (ap (λ x. not x && m.here b) (ne_eqb b a ne));
+  code = same.code;
+  bytes = same.bytes;
+  delete_byte = same.delete_byte;
+  pointers = pointers;
+}
+  where
+    pointers : (pointer : Pointer) → pointer_in m2 b pointer ≡ pointer_in (without_record m a) b pointer
+    pointers TwinForward = same.pointers TwinForward
+    pointers TwinBackward = same.pointers TwinBackward
+    pointers (FirstChild t) = same.pointers (FirstChild t)
+    pointers (LastChild t) = same.pointers (LastChild t)
+
+-- and there is none
+less-there : (types : List SegmentType) (m m2 : Links) (a : ℕ) → m2.here a ≡ false → AgreeAt types (without_record m a) m2 a
+less-there types m m2 a gone =
+    let none : (without_record m a).here a ≡ false = ap (λ x. not x && m.here a) (eq-eqb a a refl) in
+    record {
+      here = gone ∙ sym none;
+      code = λ h. no (sym none ∙ h);
+      bytes = λ s. no (sym none ∙ s.here);
+      delete_byte = λ s. no (sym none ∙ s.here);
+      forward = λ s. no (sym none ∙ s.here);
+      backward = λ s _. no (sym none ∙ s.here);
+      first_child = λ t h _. no (sym none ∙ h);
+      last_child = λ t h _ _. no (sym none ∙ h);
+    }
+  where
+    no : {A : Type 0} → false ≡ true → A
+    no e = absurd (false≢true e)
+
+pub freeing-takes : FreeingTakesARecord
+freeing-takes types v w a s freed b = elim (cases_eq b a) [
+  | inl e ↦ subst (λ (k : ℕ). AgreeAt types (without_record (links_of types v) a) (links_of types w) k) (sym e)
+      (less-there types (links_of types v) (links_of types w) a
+      (ap₂ (λ (x : Bool) (o : Option (List ℕ)). x || is_some o) (ne_eqb a 0 (λ e. let some = s.some in omega arith)) freed.gone))
+  | inr ne ↦ same-agree types (without_record (links_of types v) a) (links_of types w) b
+      (less-elsewhere (links_of types v) (links_of types w) a b ne (found-same types v w b (λ _. roots-stay v w freed.header) (freed.others b ne)))
+]
