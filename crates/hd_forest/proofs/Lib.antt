@@ -8,3 +8,5 @@ pub mod Climbs
 pub mod Walking
 pub mod Keeping
 pub mod Setting
+pub mod Frames
+pub mod FreeSteps
