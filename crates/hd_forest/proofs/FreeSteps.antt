@@ -105,7 +105,7 @@ among-agree : (types : List SegmentType) (m k : Links) (a : ℕ) → AgreeAt typ
 among-agree types m k a A here [] all = refl
 among-agree types m k a A here (t ∷ ts) all = ap₂ first_some (A.first_child t here (all t (in_head t t ts refl))) (among-agree types m k a A here ts (λ u q. all u (in_tail t u ts q)))
 
-front-of : (xs : List ℕ) (a : ℕ) → take (length (xs ++ a ∷ []) - 1) (xs ++ a ∷ []) ≡ xs
+pub front-of : (xs : List ℕ) (a : ℕ) → take (length (xs ++ a ∷ []) - 1) (xs ++ a ∷ []) ≡ xs
 front-of xs a =
     let n : length (xs ++ a ∷ []) - 1 ≡ length xs = (let l : length (xs ++ a ∷ []) ≡ length xs + length (a ∷ []) = length-append xs (a ∷ []) in omega arith) in
     ap (λ i. take i (xs ++ a ∷ [])) n ∙ take-append-le (length xs) xs (a ∷ []) (omega arith) ∙ take-all xs
@@ -114,7 +114,7 @@ front-of xs a =
     take-all [] = refl
     take-all (y ∷ ys) = ap (λ (zs : List ℕ). y ∷ zs) (take-all ys)
 
-some-first : (f : Frame) (fs : List Frame) (down : Bool) → 0 < left_of down (f ∷ fs) f.row.address
+pub some-first : (f : Frame) (fs : List Frame) (down : Bool) → 0 < left_of down (f ∷ fs) f.row.address
 some-first f fs down = (let o : is_at f.row.address f.row.address ≡ 1 = one_at f.row.address f.row.address refl in omega arith)
 
 module _ (types : List SegmentType) (O : Ordered types) (m k : Links) (span : ℕ → ℕ) (down : Bool) where

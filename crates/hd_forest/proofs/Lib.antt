@@ -10,3 +10,4 @@ pub mod Keeping
 pub mod Setting
 pub mod Frames
 pub mod FreeSteps
+pub mod FreeSpans
