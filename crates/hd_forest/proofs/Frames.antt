@@ -46,6 +46,7 @@ steps_of down (f ∷ fs) = cond down (2 * size_of f.under) 0 + (1 + (2 * size_of
 pub record RowStands (types : List SegmentType) (m : Links) (p : Placed) (under : Forest Placed) : Type 0 where
   pub there : IsSegment m p.address
   pub code : m.code p.address ≡ p.segment.code
+  pub bytes : m.bytes p.address ≡ p.segment.bytes
   pub children : NamesChildren types m p.segment.code p.address under
   pub nodes : NodesLie types m nowhere under
   pub formed : Formed types p.segment.code under
@@ -65,7 +66,7 @@ Stand types m (f ∷ (q ∷ fs)) = StandsBelow types m q.row f × Stand types m 
 module _ (types : List SegmentType) (O : Ordered types) (m : Links) where
   pub row-stands : (f : Frame) (fs : List Frame) → Stand types m (f ∷ fs) → RowStands types m f.row f.under
   row-stands f [] s = s.0
-  row-stands f (q ∷ fs) s = record { there = s.0.nodes.0.there; code = s.0.nodes.0.code; children = s.0.nodes.0.children; nodes = s.0.nodes.1; formed = s.0.formed.2 }
+  row-stands f (q ∷ fs) s = record { there = s.0.nodes.0.there; code = s.0.nodes.0.code; bytes = s.0.nodes.0.bytes; children = s.0.nodes.0.children; nodes = s.0.nodes.1; formed = s.0.formed.2 }
 
   pub stand-tail : (f : Frame) (fs : List Frame) → Stand types m (f ∷ fs) → Stand types m fs
   stand-tail f [] s = tt

@@ -11,3 +11,4 @@ pub mod Setting
 pub mod Frames
 pub mod FreeSteps
 pub mod FreeSpans
+pub mod SpanStarts
