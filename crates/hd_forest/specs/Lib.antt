@@ -1,7 +1,7 @@
 pub mod Walks
 pub mod Twins
 pub mod Children
-pub mod Spans
 pub mod Updates
 pub mod Sets
+pub mod Spans
 pub mod Laws

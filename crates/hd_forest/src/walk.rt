@@ -121,7 +121,7 @@ fn behind<S: BlockStore>(volume: &mut Volume<S>, dbd: &Dbd, path: &Path) -> Resu
 
 /// What stands behind a row as far as its twins and its parent tell, 0 for none: its next twin, or the first child of its
 /// parent of a later type.
-fn beside<S: BlockStore>(
+pub fn beside<S: BlockStore>(
     volume: &mut Volume<S>,
     dbd: &Dbd,
     parent: u32,
