@@ -12,3 +12,4 @@ pub mod Frames
 pub mod FreeSteps
 pub mod FreeSpans
 pub mod SpanStarts
+pub mod Freed
