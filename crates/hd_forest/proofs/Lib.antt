@@ -12,3 +12,10 @@ pub mod Agreeing
 pub mod Naming
 pub mod Leafing
 pub mod Linking
+pub mod Climbs
+pub mod Walking
+pub mod Frames
+pub mod FreeSteps
+pub mod FreeSpans
+pub mod SpanStarts
+pub mod Freed

@@ -81,3 +81,10 @@ lent d v a s fit of there is =
 -- a store that is sound after a call that read was so before
 pub sound-before : {A : Type 0} {x : A} (u v : VolumeState) → IsRead {T = A} u (Ok x) v → IsTrue v.is_sound → IsTrue u.is_sound
 sound-before u v r s = rw (← r.call.sound) s
+
+-- what was known of the volume and of its records is known after a call that read
+pub volume-kept : {A : Type 0} {x : A} (d : Database) (u v : VolumeState) → IsRead {T = A} u (Ok x) v → (IsTrue u.is_sound → IsVolumeOf d u) → IsTrue v.is_sound → IsVolumeOf d v
+volume-kept d u v r of now = (let sound = sound-before u v r now in (after-read d u v r sound).volume (of sound))
+
+pub links-kept : {A : Type 0} {x : A} (d : Database) (P : Links → Type 0) (u v : VolumeState) → IsRead {T = A} u (Ok x) v → (IsTrue u.is_sound → P (links_of d.types u)) → IsTrue v.is_sound → P (links_of d.types v)
+links-kept d P u v r of now = (let sound = sound-before u v r now in subst P (sym (after-read d u v r sound).links) (of sound))

@@ -4,4 +4,5 @@ pub mod Children
 pub mod Updates
 pub mod Sets
 pub mod Leaves
+pub mod Spans
 pub mod Laws

@@ -122,7 +122,7 @@ pub fn last_child<S: BlockStore>(
 }
 
 /// The last of some addresses, 0 for none.
-fn last_of(addresses: &[u32]) -> u32
+pub fn last_of(addresses: &[u32]) -> u32
     ensures { result ≡ tip addresses.now }
 {
     let mut last = 0;
