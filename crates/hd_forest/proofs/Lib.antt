@@ -13,3 +13,4 @@ pub mod FreeSteps
 pub mod FreeSpans
 pub mod SpanStarts
 pub mod Freed
+pub mod SpanEnds
