@@ -14,3 +14,4 @@ pub mod FreeSpans
 pub mod SpanStarts
 pub mod Freed
 pub mod SpanEnds
+pub mod Taken
