@@ -15,3 +15,4 @@ pub mod SpanStarts
 pub mod Freed
 pub mod SpanEnds
 pub mod Taken
+pub mod Unlinks
