@@ -1,5 +1,5 @@
 -- Calls of a volume one after another.
-use Rattle.std.proofs.Common.{◌≡◌, ℕ, Bool, false, IsTrue, List, Result, Ok, Err, IfOk, refl, ◌∙◌, arith}
+use Rattle.std.proofs.Common.{◌≡◌, ℕ, Bool, false, IsTrue, List, Result, Ok, Err, IfOk, OnOk, refl, ◌∙◌, arith}
 use Rattle.hd_dbd.specs.declared.answer.Refused.{Refused}
 use Rattle.hd_dbd.specs.declared.answer.Refused.TheVariants.{Memory, Full, Device, Broken, Area}
 use Rattle.hd_volume.specs.Stores.{SoundFor, StaysSound}
@@ -60,3 +60,8 @@ reads-join {u = u} {v = v} {w = w} r a b = record {
 pub if-ok : {A : Type 0} {P Q : A → Type 0} (r : Result A Refused) → IfOk r P → ((x : A) → P x → Q x) → IfOk r Q
 if-ok (Ok x) h f = f x h
 if-ok (Err e) h f = tt
+
+-- what holds after a call, by what held
+pub on-ok : {A : Type 0} {P Q : Type 0} (r : Result A Refused) → OnOk r P → (P → Q) → OnOk r Q
+on-ok (Ok x) h f = f h
+on-ok (Err e) h f = tt

@@ -16,3 +16,4 @@ pub mod Freed
 pub mod SpanEnds
 pub mod Taken
 pub mod Unlinks
+pub mod UnlinkSpan

@@ -120,11 +120,11 @@ module _ (types : List SegmentType) (O : Ordered types) (bound : ℕ) (m : Links
       let under : count y place.gone ≡ 0 = not-under y place.front place.row place.gone place.rest (subst (NotBelow y) place.is beside) in
       let names : m.forward y ≡ a = sym (cond-false (y == 0) (m.first_child h (m.code a)) (m.forward y) (ne_eqb y 0 (λ (e : y ≡ 0). omega arith))) ∙ C.here in
       let apart : is_at a y ≡ 0 = none_at a y (λ e.
-          (let own : m.forward a ≡ a = ap m.forward e ∙ names in
-          let behind : 0 < m.forward a = subst (λ x. 0 < x) (sym own) B.there.some in
-          let gone = no-behind behind in
-          let here : span_of a place.gone a ≡ 0 = subst (λ x. span_of a place.gone x ≡ 0) own gone in
-          let at : is_at a a ≡ 1 = one_at a a refl in omega arith)) in
+      (let own : m.forward a ≡ a = ap m.forward e ∙ names in
+      let behind : 0 < m.forward a = subst (λ x. 0 < x) (sym own) B.there.some in
+      let gone = no-behind behind in
+      let here : span_of a place.gone a ≡ 0 = subst (λ x. span_of a place.gone x ≡ 0) own gone in
+      let at : is_at a a ≡ 1 = one_at a a refl in omega arith)) in
       omega arith
 
   pub taken : Taken types m f h y a

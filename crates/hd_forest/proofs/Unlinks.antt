@@ -40,7 +40,7 @@ other-parent b h q r ne = rw (ne_eqb b h ne) (by q r)
     by false z = refl
 
 -- what is said where the twin y, or the parent h, has come to name x as the next
-record Followed (m k : Links) (h t y x b : ℕ) : Type 0 where
+pub record Followed (m k : Links) (h t y x b : ℕ) : Type 0 where
   pub here : k.here b ≡ m.here b
   pub code : k.code b ≡ m.code b
   pub bytes : k.bytes b ≡ m.bytes b
@@ -50,7 +50,7 @@ record Followed (m k : Links) (h t y x b : ℕ) : Type 0 where
   pub first_child : (u : ℕ) → k.first_child b u ≡ cond (b == h && u == t && y == 0) x (m.first_child b u)
   pub last_child : (u : ℕ) → k.last_child b u ≡ m.last_child b u
 
-followed : (m : Links) (h t y x b : ℕ) → Followed m (following m h t y x) h t y x b
+pub followed : (m : Links) (h t y x b : ℕ) → Followed m (following m h t y x) h t y x b
 followed m h t y x b = elim (cases_Bool (y == 0)) [
   | inl e ↦ subst (λ (k : Links). Followed m k h t y x b) (sym (cond-true (y == 0) (with_pointer m (FirstChild t) h x) (with_pointer m TwinForward y x) e)) (record {
     here = refl;
