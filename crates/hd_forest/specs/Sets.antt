@@ -21,6 +21,10 @@ following m h t y x = cond (y == 0) (with_pointer m (FirstChild t) h x) (with_po
 abbrev pub preceding : Links → ℕ → ℕ → ℕ → ℕ → Links
 preceding m h t y x = cond (y == 0) (with_pointer m (LastChild t) h x) (with_pointer m TwinBackward y x)
 
+-- the records with a leaf a of type t below h that its twins y and x name, or h where there is none
+abbrev pub named : Links → ℕ → ℕ → ℕ → ℕ → ℕ → Links
+named m h t y x a = preceding (following m h t y a) h t x a
+
 -- Such a record is there: h has children of type t, and y, if it is not 0, is a segment of that type.
 pub record IsTwinPlace (types : List SegmentType) (m : Links) (h t y : ℕ) : Type 0 where
   pub parent : m.here h ≡ true

@@ -4,6 +4,7 @@
 mod change;
 mod children;
 mod law;
+mod leaf;
 mod path;
 mod read;
 mod unlink;

@@ -1,5 +1,6 @@
 -- Data blocks with extents have a right chain of free elements, and no place with nothing.
 use Rattle.std.proofs.Common.{◌≡◌, ◌≢◌, ◌⊎◌, inl, inr, ℕ, zero, ◌+◌, ◌*◌, ◌%◌, ◌<◌, ◌≤◌, List, [], ◌∷◌, length, slice_index, refl, sym, ap, subst, ◌∙◌, arith}
+use Rattle.std.proofs.lemmas.Bool.{cases_eq}
 use Rattle.hd_bytes.specs.Numbers.{number_at}
 use Rattle.hd_block.specs.Extents.{Extent, free, used, taken, IsElement, IsSegment, Fill, IsDivided, AreWhole}
 use Rattle.hd_volume.specs.Volumes.{VolumeState, block_at, IsKind, HasExtents}
@@ -110,14 +111,58 @@ no-end sizes bytes places from next (taken n ∷ xs) way place f w to back read 
 has-frees : (sizes : ℕ → ℕ) (bytes : List ℕ) (xs : List Extent) → IsDivided sizes bytes xs → AreWhole xs → HasFreeElements bytes (frees 8 xs)
 has-frees sizes bytes xs f w = chained sizes bytes 7 8 (number_at 2 bytes 0) xs f w refl (inl (omega arith))
 
+-- a block with extents has a chain of free elements
+pub divided-chain : (sizes : ℕ → ℕ) (block : List ℕ) → HasExtents sizes block → ((places : List ℕ) → HasFreeElements block places → ⊥) → ⊥
+divided-chain sizes block e none = none (frees 8 e.extents) (has-frees sizes block e.extents e.divides e.whole)
+
+-- and reading it comes to no place with nothing
+pub divided-place : (sizes block places way : List ℕ) (place : ℕ) → HasExtents (slice_index sizes) block → HasFreeElements block places
+    → IsReadTo sizes block places 8 way place → place < length block → IsNoSegment sizes block places place → ⊥
+divided-place sizes block places way place e chain read short none =
+    let same : places ≡ frees 8 e.extents = one-chain block 7 (number_at 2 block 0) places (frees 8 e.extents) chain (has-frees (slice_index sizes) block e.extents e.divides e.whole) in
+    no-end sizes block places 8 (number_at 2 block 0) e.extents way place e.divides e.whole
+    (λ q l i. subst (IsAmong q) same i) (λ q i. subst (IsAmong q) (sym same) i) read short none
+
+-- a number is one of some or none of them
+is-among : (q : ℕ) (ps : List ℕ) → IsAmong q ps ⊎ (IsAmong q ps → ⊥)
+is-among q [] = inr (λ i. i)
+is-among q (p ∷ ps) = elim (cases_eq q p) [
+  | inl e ↦ inl (inl e)
+  | inr ne ↦ elim (is-among q ps) [
+    | inl i ↦ inl (inr i)
+    | inr none ↦ inr (λ i. elim i [ inl e ↦ ne e | inr j ↦ none j ])
+  ]
+]
+
+-- a step comes to one place
+one-step : (sizes block places : List ℕ) (from m n : ℕ) → IsStep sizes block places from m → IsStep sizes block places from n → m ≡ n
+one-step sizes block places from m n h k = elim (is-among from places) [
+  | inl i ↦ h.free i ∙ sym (k.free i)
+  | inr none ↦ h.used none ∙ sym (k.used none)
+]
+
+-- reading a block comes to one place with nothing at most
+one-place : (sizes block places : List ℕ) (from : ℕ) (way other : List ℕ) (p q : ℕ) → IsReadTo sizes block places from way p → IsReadTo sizes block places from other q
+    → IsNoSegment sizes block places p → IsNoSegment sizes block places q → p ≡ q
+one-place sizes block places from [] [] p q h k x y = sym h ∙ k
+one-place sizes block places from [] (n ∷ other) p q h k x y = absurd (k.0.right (subst (IsNoSegment sizes block places) (sym h) x))
+one-place sizes block places from (n ∷ way) [] p q h k x y = absurd (h.0.right (subst (IsNoSegment sizes block places) (sym k) y))
+one-place sizes block places from (n ∷ way) (m ∷ other) p q h k x y =
+    let R : ℕ → Type 0 = λ f. IsReadTo sizes block places f other q in
+    one-place sizes block places n way other p q h.1 (subst R (one-step sizes block places from m n k.0 h.0) k.1) x y
+
+-- whatever chain it is read by
+pub one-wrong-place : (sizes block ps qs way other : List ℕ) (p q : ℕ) → HasFreeElements block ps → HasFreeElements block qs → IsReadTo sizes block ps 8 way p → IsReadTo sizes block qs 8 other q
+    → IsNoSegment sizes block ps p → IsNoSegment sizes block qs q → p ≡ q
+one-wrong-place sizes block ps qs way other p q f g h k x y =
+    let same : qs ≡ ps = one-chain block 7 (number_at 2 block 0) qs ps g f in
+    let R : List ℕ → Type 0 = λ places. IsReadTo sizes block places 8 other q in
+    let N : List ℕ → Type 0 = λ places. IsNoSegment sizes block places q in
+    one-place sizes block ps 8 way other p q h (subst R same k) x (subst N same y)
+
 pub none-wrong-chain : (v : VolumeState) (a x : ℕ) → ((n : ℕ) → IsKind v 1 n → HasExtents (slice_index v.sizes) (block_at v n)) → IsWrongChain v a x → ⊥
-none-wrong-chain v a x divided h =
-    let e = divided h.0 h.1 in
-    h.2 (frees 8 e.extents) (has-frees (slice_index v.sizes) (block_at v h.0) e.extents e.divides e.whole)
+none-wrong-chain v a x divided h = divided-chain (slice_index v.sizes) (block_at v h.0) (divided h.0 h.1) h.2
 
 pub none-wrong-place : (v : VolumeState) (a x : ℕ) → ((n : ℕ) → IsKind v 1 n → HasExtents (slice_index v.sizes) (block_at v n)) → IsWrongPlace v a x → ⊥
 none-wrong-place v a x divided (n, place, places, way, kind, chain, read, short, none, at, other) =
-    let e = divided n kind in
-    let same : places ≡ frees 8 e.extents = one-chain (block_at v n) 7 (number_at 2 (block_at v n) 0) places (frees 8 e.extents) chain (has-frees (slice_index v.sizes) (block_at v n) e.extents e.divides e.whole) in
-    no-end v.sizes (block_at v n) places 8 (number_at 2 (block_at v n) 0) e.extents way place e.divides e.whole
-    (λ q l i. subst (IsAmong q) same i) (λ q i. subst (IsAmong q) (sym same) i) read short none
+    divided-place v.sizes (block_at v n) places way place (divided n kind) chain read short none

@@ -1,6 +1,6 @@
 -- The entries in the bytes of an index block.
 use Rattle.std.proofs.Common.{◌≡◌, ◌≢◌, ◌⊎◌, inl, inr, ℕ, zero, suc, ◌+◌, ◌*◌, ◌<◌, ◌≤◌, Bool, true, false, cond, List, [], ◌∷◌, ◌++◌, length, take, drop, Option, Some, None, refl, sym, ap, ◌∙◌, arith, subst}
-use Rattle.std.specs.Prelude.{◌&&◌}
+use Rattle.std.specs.Prelude.{◌&&◌, slice_get}
 use Rattle.std.proofs.lemmas.Bool.{and_parts, cases_Bool, cases_lt}
 use Rattle.hd_bytes.specs.Numbers.{number_at}
 use Rattle.hd_bytes.specs.Ranges.{bytes_at}
@@ -72,3 +72,30 @@ above-through k b key p n m j a here l low = elim (cases_lt m j) [
   | inl under ↦ not-below (bytes_at b (p + m * (k + 4)) k) (bytes_at b (p + j * (k + 4)) k) key (ascend-at k b p n m j a under low) here
   | inr over ↦ (let e : j ≡ m = omega arith in ap (λ (i : ℕ). key_less (bytes_at b (p + i * (k + 4)) k) key) e ∙ here)
 ]
+
+-- the entry at a place of a block
+abbrev pub entry_of : ℕ → List ℕ → ℕ → Entry
+entry_of k b x = record { key = bytes_at b x k; address = number_at 4 b (x + k) }
+
+-- the entry of a block at an index
+pub entry-get : (k : ℕ) (b : List ℕ) (p n i : ℕ) → i < n → slice_get (entries_at k b p n) i ≡ Some (entry_of k b (p + i * (k + 4)))
+entry-get k b p zero i l = absurd (omega arith)
+entry-get k b p (suc n) zero l = ap (λ (x : ℕ). Some (entry_of k b x)) (let e : p ≡ p + 0 * (k + 4) = omega arith in e)
+entry-get k b p (suc n) (suc i) l =
+    entry-get k b (p + k + 4) n i (omega arith) ∙ ap (λ (x : ℕ). Some (entry_of k b x)) (let e : p + k + 4 + i * (k + 4) ≡ p + suc i * (k + 4) = omega arith in e)
+
+-- there is none past the last
+pub get-past : {A : Type 0} (xs : List A) (i : ℕ) → length xs ≤ i → slice_get xs i ≡ None
+get-past [] i l = refl
+get-past (x ∷ xs) zero l = absurd (omega arith)
+get-past (x ∷ xs) (suc i) l = get-past xs i (omega arith)
+
+-- an element of a list
+pub record IsAt {A : Type 0} (xs : List A) (i : ℕ) : Type 0 where
+  pub element : A
+  pub is : slice_get xs i ≡ Some element
+
+pub get-within : {A : Type 0} (xs : List A) (i : ℕ) → i < length xs → IsAt xs i
+get-within [] i l = absurd (omega arith)
+get-within (x ∷ xs) zero l = record { element = x; is = refl }
+get-within (x ∷ xs) (suc i) l = let r = get-within xs i (omega arith) in record { element = r.element; is = r.is }

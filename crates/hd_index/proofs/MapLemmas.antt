@@ -77,6 +77,10 @@ below-all k (e ∷ es) h = by-test (key_less e.key k) refl h (below-all k es)
     by-test true is l rest = (is, rest (omega arith))
     by-test false is l rest = absurd (omega arith)
 
+pub none-below : (k : List ℕ) → AreBelow k []
+unfolding AreBelow
+none-below k = tt
+
 pub below-append : (k : List ℕ) (xs ys : List Entry) → AreBelow k xs → AreBelow k ys → AreBelow k (xs ++ ys)
 unfolding AreBelow
 below-append k [] ys h g = g

@@ -1,5 +1,7 @@
 -- What a well-formed database says of its root's key.
-use Rattle.std.proofs.Common.{◌≡◌, ◌+◌, ◌*◌, ◌≤◌, ℕ, List, [], ◌∷◌, true, IsTrue, Some, None, arith, refl, Option}
+use Rattle.std.proofs.lemmas.Bool.{cases_lt}
+use Rattle.std.proofs.Math.Nat.{mul-le-mul_right}
+use Rattle.std.proofs.Common.{inl, inr, ◌≡◌, ◌+◌, ◌-◌, ◌*◌, ◌/◌, ◌<◌, ◌≤◌, ℕ, List, [], ◌∷◌, true, IsTrue, Some, None, arith, refl, Option}
 use Rattle.std.specs.Prelude.{nat_le, nat_lt, ◌&&◌, not, ◌==◌, length}
 use Rattle.std.specs.Option.{option_map_or}
 use Rattle.std.proofs.lemmas.Bool.{and_parts, leb-true}
@@ -29,3 +31,29 @@ root-of size frspc types (Some t) well is =
 
 pub root-fits : (size : ℕ) (frspc : FreeSpace) (types : List SegmentType) → IsTrue (well_formed size frspc types) → (3 * (root_key_length types + 4) + 12 ≤ size) × (root_key_length types ≤ 255)
 root-fits size frspc types well = root-of size frspc types (type_of types 1) well refl
+
+-- so many entries find room, and no more
+pub room-most : (k s c : ℕ) → 12 + c * (k + 4) ≤ s → c ≤ (s - 12) / (k + 4)
+room-most k s c fits = elim (cases_lt ((s - 12) / (k + 4)) c) [
+  | inl more ↦
+      (let q : ℕ = (s - 12) / (k + 4) in
+      let up : (q + 1) * (k + 4) ≤ c * (k + 4) = mul-le-mul_right (k + 4) (let l : q + 1 ≤ c = omega arith in l) in
+      let parts : (q + 1) * (k + 4) ≡ (k + 4) * q + (k + 4) = omega arith in
+      let rest : s - 12 < (k + 4) * q + (k + 4) = quotient (s - 12) (k + 4) (omega arith) in
+      absurd (omega arith))
+  | inr l ↦ l
+]
+  where
+    quotient : (x w : ℕ) → 0 < w → x < w * (x / w) + w
+    quotient x w some = omega arith
+
+pub room-within : (k s c : ℕ) → 12 ≤ s → c ≤ (s - 12) / (k + 4) → 12 + c * (k + 4) ≤ s
+room-within k s c least l =
+    let q : ℕ = (s - 12) / (k + 4) in
+    let up : c * (k + 4) ≤ q * (k + 4) = mul-le-mul_right (k + 4) l in
+    let turn : q * (k + 4) ≡ (k + 4) * q = omega arith in
+    let rest : (k + 4) * q ≤ s - 12 = quotient (s - 12) (k + 4) in
+    omega arith
+  where
+    quotient : (x w : ℕ) → w * (x / w) ≤ x
+    quotient x w = omega arith

@@ -1,11 +1,14 @@
 -- Where a key stands or belongs in the index: the walk along the chain to its block.
-use Rattle.std.specs.Prelude.{ℕ, zero, suc, ◌+◌, ◌*◌, ◌==◌, cond, List, nat_lt}
+use Rattle.std.specs.Prelude.{ℕ, zero, suc, ◌+◌, ◌*◌, ◌≤◌, ◌==◌, cond, List, Option, None, Some, option_map, slice_get, bytes_eq, nat_lt}
 use Rattle.hd_bytes.specs.Numbers.{number_at}
 use Rattle.hd_volume.specs.Headers.{header_of}
 use Rattle.hd_volume.specs.Volumes.{VolumeState, block_at}
 use Rattle.hd_volume.specs.Entries.{entries_in}
+use Rattle.hd_volume.specs.Indexes.{IsEntryBlock}
 use Rattle.hd_index.specs.declared.entries.Seen.{Seen}
+use Rattle.hd_index.specs.declared.place.Found.{Found}
 use Rattle.hd_index.specs.declared.place.Place.{Place}
+use Rattle.hd_index.specs.declared.place.Spot.{Spot}
 use Rattle.hd_index.specs.Counts.{below_count}
 
 -- where an entry stands in its block
@@ -30,3 +33,41 @@ place_from key_length v key (suc more) n place =
 -- the place of a key in the index; block 0 where it has no block
 abbrev pub place_of : ℕ → VolumeState → List ℕ → Place
 place_of key_length v key = place_from key_length v key (header_of v.image).largest (header_of v.image).top (record { block = 0; index = 0 })
+
+-- the entry at a place, if there is one: its address, and whether it has the key
+abbrev pub found_at : ℕ → VolumeState → List ℕ → Place → Option Found
+found_at key_length v key place =
+    cond (place.block == 0) None
+    (option_map (λ e. record { address = e.address; is_key = bytes_eq e.key key }) (slice_get (entries_in key_length (block_at v place.block)) place.index))
+
+-- its address where it has the key
+abbrev pub address_found : Option Found → Option ℕ
+address_found None = None
+address_found (Some found) = cond found.is_key (Some found.address) None
+
+-- A place is in a block of entries, or at its end.
+pub record HasPlace (key_length : ℕ) (v : VolumeState) (place : Place) : Type 0 where
+  pub block : IsEntryBlock key_length v place.block
+  pub within : place.index ≤ number_at 2 (block_at v place.block) 4
+
+-- what is read where there is no block
+abbrev pub no_spot : Spot
+no_spot = record { block = 0; index = 0; count = 0; next = 0; found = None }
+
+-- what is read at a place in the bytes of its block
+abbrev pub spot_in : ℕ → List ℕ → List ℕ → Place → Spot
+spot_in key_length key block place = record {
+  block = place.block;
+  index = place.index;
+  count = number_at 2 block 4;
+  next = number_at 4 block 8;
+  found = option_map (λ e. record { address = e.address; is_key = bytes_eq e.key key }) (slice_get (entries_in key_length block) place.index);
+}
+
+-- what is read at a place
+abbrev pub spot_at : ℕ → VolumeState → List ℕ → Place → Spot
+spot_at key_length v key place = cond (place.block == 0) no_spot (spot_in key_length key (block_at v place.block) place)
+
+-- what is read at the place of a key
+abbrev pub spot_of : ℕ → VolumeState → List ℕ → Spot
+spot_of key_length v key = spot_at key_length v key (place_of key_length v key)

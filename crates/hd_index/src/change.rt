@@ -1,15 +1,22 @@
-ghost use Rattle.std.specs.Prelude.{◌≡◌, ◌⊎◌, ◌+◌, ◌≤◌, ◌<◌, length, true, None, IsTrue, IfErr, OnOk};
+ghost use Rattle.std.specs.Prelude.{◌≡◌, ◌⊎◌, ◌+◌, ◌*◌, ◌≤◌, ◌<◌, length, true, None, IsTrue, IfErr, OnOk};
 ghost use Rattle.hd_volume.specs.Volumes.{IsFormatted};
 ghost use Rattle.hd_volume.specs.Rooms.{spare, free_blocks};
 ghost use Rattle.hd_volume.specs.Calls.{IsCall};
-ghost use Rattle.hd_volume.specs.Indexes.{root_key_length, index_growth, lacks_room};
+ghost use Rattle.hd_volume.specs.Indexes.{root_key_length, index_growth, lacks_room, HasIndex};
+ghost use Rattle.hd_volume.specs.Entries.{entries};
+ghost use Rattle.hd_index.specs.Edits.{IsChanged};
 ghost use Rattle.hd_index.specs.Maps.{address_of, with_entry, without_key};
 ghost use Rattle.hd_index.specs.Changes.{IsIndexOf, entries_for, IsIndexChange};
 
+use crate::edit::remove_entry;
+use crate::enter::insert_key;
+use crate::entries::{ADDRESS, FIRST, root_key_length};
+use crate::place::locate;
 use hd_dbd::{Dbd, Refused};
 use hd_volume::{BlockStore, Volume};
 
 /// The blocks that an insert may need.
+#[tactic(auto, unfolding(hd_volume::specs::Indexes::index_growth))]
 pub fn growth<S: BlockStore>(volume: &Volume<S>) -> u32
     ensures { IsTrue volume.now.is_sound → result ≡ index_growth volume.now }
 {
@@ -19,6 +26,7 @@ pub fn growth<S: BlockStore>(volume: &Volume<S>) -> u32
 
 /// Whether an insert may lack room, beside so many blocks for other uses; where it says no, and there are so many blocks more
 /// to spare after these, an insert is not refused as full.
+#[tactic(auto, unfolding(hd_volume::specs::Indexes::lacks_room))]
 pub fn lacks_room<S: BlockStore>(volume: &Volume<S>, others: u32) -> bool
     requires formatted { IsTrue volume.now.is_sound → IsFormatted volume.now }
     ensures { IsTrue volume.now.is_sound → result ≡ lacks_room others volume.now }
@@ -30,7 +38,13 @@ pub fn lacks_room<S: BlockStore>(volume: &Volume<S>, others: u32) -> bool
 ///
 /// `Full` says that there are fewer blocks to spare than it may need; `Memory` comes only where the volume
 /// would have to grow and room for fewer is reserved.
-pub fn insert<S: BlockStore>(volume: &mut Volume<S>, dbd: &Dbd, key: &[u8], address: u32) -> Result<(), Refused>
+#[tactic(auto, unfolding(hd_volume::specs::Indexes::index_growth, hd_volume::specs::Indexes::lacks_room))]
+pub fn insert<S: BlockStore>(
+    volume: &mut Volume<S>,
+    dbd: &Dbd,
+    key: &[u8],
+    address: u32,
+) -> Result<(), Refused>
     requires index { IsTrue volume.old.is_sound → IsIndexOf dbd.now volume.old }
     requires whole { length key.now ≡ root_key_length dbd.now.types }
     requires new { IsTrue volume.old.is_sound → address_of key.now (entries_for dbd.now volume.old) ≡ None }
@@ -46,8 +60,19 @@ pub fn insert<S: BlockStore>(volume: &mut Volume<S>, dbd: &Dbd, key: &[u8], addr
     ensures refusal { IfErr result (λ e. (e ≡ Refused.Memory) ⊎ (e ≡ Refused.Full) ⊎ (e ≡ Refused.Device)) }
     ensures room { IsTrue volume.new.is_sound → volume.old.room ≤ volume.new.room + index_growth volume.old }
 {
-    let _ = (volume, dbd, key, address);
-    Ok(())
+    if !is_roomy(volume, dbd) {
+        return Ok(());
+    }
+    insert_key(volume, key, address)
+}
+
+/// Three entries find room in a block, as in every block of the database's size.
+fn is_roomy<S: BlockStore>(volume: &Volume<S>, dbd: &Dbd) -> bool
+    ensures three { result ≡ true → 3 * (root_key_length dbd.now.types + 4) + 12 ≤ volume.now.size }
+    ensures own { volume.now.size ≡ dbd.now.block_size → result ≡ true }
+    ensures short { root_key_length dbd.now.types ≤ 255 }
+{
+    volume.block_size() >= FIRST + 3 * (root_key_length(dbd) + ADDRESS)
 }
 
 /// Takes the root of a key out of the index; a key that it does not have leaves it as it is.
@@ -61,6 +86,29 @@ pub fn remove<S: BlockStore>(volume: &mut Volume<S>, dbd: &Dbd, key: &[u8]) -> R
     ensures refusal { IfErr result (λ e. e ≡ Refused.Device) }
     ensures room { volume.new.room ≡ volume.old.room }
 {
-    let _ = (volume, dbd, key);
-    Ok(())
+    let key_length = root_key_length(dbd);
+    remove_key(volume, key_length, key)
+}
+
+/// Takes the root of a key of a length out of the index.
+fn remove_key<S: BlockStore>(
+    volume: &mut Volume<S>,
+    key_length: usize,
+    key: &[u8],
+) -> Result<(), Refused>
+    requires index { IsTrue volume.old.is_sound → HasIndex key_length volume.old }
+    requires short { key_length ≤ 255 }
+    ensures call { IsCall volume.old result volume.new }
+    ensures changed { OnOk result (IsTrue volume.old.is_sound → IsChanged key_length volume.old (without_key key.now (entries key_length volume.old)) 0 volume.new) }
+    ensures refusal { IfErr result (λ e. e ≡ Refused.Device) }
+    ensures room { volume.new.room ≡ volume.old.room }
+{
+    let spot = locate(volume, key_length, key)?;
+    let Some(found) = spot.found else {
+        return Ok(());
+    };
+    if !found.is_key {
+        return Ok(());
+    }
+    remove_entry(volume, key_length, spot.block, spot.index, spot.count)
 }

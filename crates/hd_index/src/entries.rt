@@ -65,6 +65,8 @@ pub fn entry_room(key_length: usize, size: usize) -> usize
     requires least { 12 ≤ size }
     ensures value { result ≡ entry_room key_length size }
     ensures within { entry_place key_length result ≤ size }
+    ensures most { (count : ℕ) → entry_place key_length count ≤ size → count ≤ result }
+    ensures more { (count : ℕ) → count < result → entry_place key_length (count + 1) ≤ size }
 {
     (size - FIRST) / (key_length + ADDRESS)
 }
@@ -141,6 +143,10 @@ pub fn seen_in(block: &[u8], key_length: usize, key: &[u8]) -> Seen
 {
     let count = entry_count(block, key_length);
     let index = place_in(block, key_length, count, key);
-    let next = if index < count { 0 } else { read_u32(block, NEXT) };
+    let next = if index < count {
+        0
+    } else {
+        read_u32(block, NEXT)
+    };
     Seen { index, next }
 }

@@ -1,6 +1,199 @@
-/// A place in the index: a block, 0 for none, and so many entries of it stand before.
+ghost use Rattle.std.specs.Prelude.{◌≡◌, ◌⊎◌, ◌≤◌, ◌<◌, true, false, length, min, option_map, slice_get, bytes_eq, IsTrue, IfOk, IfErr, IfSome};
+ghost use Rattle.hd_bytes.specs.Blocks.{HasBlock};
+ghost use Rattle.hd_bytes.specs.Numbers.{number_at};
+ghost use Rattle.hd_volume.specs.Volumes.{block_at};
+ghost use Rattle.hd_volume.specs.Calls.{IsRead};
+ghost use Rattle.hd_volume.specs.Entries.{entries_in};
+ghost use Rattle.hd_volume.specs.Indexes.{keys_ascend, entry_room, IsEntryBlock, HasIndex};
+ghost use Rattle.hd_index.specs.Places.{entry_place, seen_in, place_of, HasPlace, no_spot, spot_in, spot_at, spot_of};
+
+use crate::entries::{FIRST, NEXT, Seen, address_at, entry_count, key_at, seen_in};
+use hd_bytes::read_u32;
+use hd_dbd::Refused;
+use hd_volume::{BlockStore, Volume};
+
+/// The most blocks that a volume has.
+const MOST_BLOCKS: u32 = 65536;
+
+/// A place in the index: a block, 0 for none, and how many of its entries stand before.
 #[derive(Clone, Copy, Debug)]
 pub struct Place {
     pub block: u32,
     pub index: usize,
+}
+
+/// The address of an entry, and whether it has the key that was sought.
+#[derive(Clone, Copy, Debug)]
+pub struct Found {
+    pub address: u32,
+    pub is_key: bool,
+}
+
+/// What is read at a place: the block, 0 for none, the index, how many entries the block has, the block behind it, and the
+/// entry at the index, if there is one.
+#[derive(Clone, Copy, Debug)]
+pub struct Spot {
+    pub block: u32,
+    pub index: usize,
+    pub count: usize,
+    pub next: u32,
+    pub found: Option<Found>,
+}
+
+/// A block is one of the volume's.
+pub fn has_block<S: BlockStore>(volume: &Volume<S>, n: u32) -> bool
+    ensures there { IsTrue volume.now.is_sound → result ≡ true → HasBlock volume.now.size volume.now.image n }
+    ensures missing { IsTrue volume.now.is_sound → result ≡ false → HasBlock volume.now.size volume.now.image n → ⊥ }
+    ensures least { 128 ≤ volume.now.size }
+{
+    let size = volume.block_size() as u64;
+    u64::from(n) * size + size <= volume.length()
+}
+
+/// Looks for a key in a block of the index. A block that the volume does not have has no entry.
+fn look<S: BlockStore>(
+    volume: &mut Volume<S>,
+    key_length: usize,
+    n: u32,
+    key: &[u8],
+) -> Result<Seen, Refused>
+    requires short { key_length ≤ 255 }
+    ensures read { IsRead volume.old result volume.new }
+    ensures value { IfOk result (λ seen. IsTrue volume.old.is_sound → IsEntryBlock key_length volume.old n → keys_ascend (entries_in key_length (block_at volume.old n)) ≡ true → seen ≡ seen_in key_length key.now (block_at volume.old n)) }
+    ensures refusal { IfErr result (λ e. e ≡ Refused.Device) }
+{
+    if !has_block(volume, n) {
+        return Ok(Seen { index: 0, next: 0 });
+    }
+    let block = volume.block(n)?;
+    if block.len() < FIRST {
+        return Ok(Seen { index: 0, next: 0 });
+    }
+    Ok(seen_in(block, key_length, key))
+}
+
+/// The place of a key: in the first block with an entry that is not below it, or the end of the last block.
+pub fn seek<S: BlockStore>(
+    volume: &mut Volume<S>,
+    key_length: usize,
+    key: &[u8],
+) -> Result<Place, Refused>
+    requires short { key_length ≤ 255 }
+    ensures read { IsRead volume.old result volume.new }
+    ensures value { IfOk result (λ place. IsTrue volume.old.is_sound → HasIndex key_length volume.old → place ≡ place_of key_length volume.old key.now) }
+    ensures refusal { IfErr result (λ e. e ≡ Refused.Device) }
+{
+    let mut n = volume.top();
+    let mut place = Place { block: 0, index: 0 };
+    let most = volume.largest_count().min(MOST_BLOCKS);
+    for _ in 0..most {
+        if n == 0 {
+            return Ok(place);
+        }
+        let seen = look(volume, key_length, n, key)?;
+        place = Place {
+            block: n,
+            index: seen.index,
+        };
+        n = seen.next;
+    }
+    Ok(place)
+}
+
+/// The entry of a block at an index, if there is one.
+fn found_in(block: &[u8], key_length: usize, index: usize, key: &[u8]) -> Option<Found>
+    requires short { key_length ≤ 255 }
+    requires least { 12 ≤ length block.now }
+    ensures value { number_at 2 block.now 4 ≤ entry_room key_length (length block.now) → result ≡ option_map (λ e. record { address = e.address; is_key = bytes_eq e.key key.now }) (slice_get (entries_in key_length block.now) index) }
+    ensures within { IfSome result (λ _. index < min (number_at 2 block.now 4) (entry_room key_length (length block.now))) }
+{
+    if index >= entry_count(block, key_length) {
+        return None;
+    }
+    Some(Found {
+        address: address_at(block, key_length, index),
+        is_key: key_at(block, key_length, index) == key,
+    })
+}
+
+/// What is read at a place in the bytes of its block.
+fn spot_in(block: &[u8], key_length: usize, place: Place, key: &[u8]) -> Spot
+    requires short { key_length ≤ 255 }
+    requires least { 12 ≤ length block.now }
+    ensures value { number_at 2 block.now 4 ≤ entry_room key_length (length block.now) → place.index ≤ number_at 2 block.now 4 → result ≡ spot_in key_length key.now block.now place }
+    ensures index { result.index ≤ result.count }
+    ensures count { result.count ≤ 65535 }
+    ensures fits { entry_place key_length result.count ≤ length block.now }
+    ensures within { IfSome result.found (λ _. result.index < result.count) }
+{
+    let count = entry_count(block, key_length);
+    Spot {
+        block: place.block,
+        index: place.index.min(count),
+        count,
+        next: read_u32(block, NEXT),
+        found: found_in(block, key_length, place.index, key),
+    }
+}
+
+/// What is read where there is no block.
+fn no_spot() -> Spot
+    ensures { result ≡ no_spot }
+{
+    Spot {
+        block: 0,
+        index: 0,
+        count: 0,
+        next: 0,
+        found: None,
+    }
+}
+
+/// Reads what is at a place.
+fn spot_at<S: BlockStore>(
+    volume: &mut Volume<S>,
+    key_length: usize,
+    place: Place,
+    key: &[u8],
+) -> Result<Spot, Refused>
+    requires short { key_length ≤ 255 }
+    ensures read { IsRead volume.old result volume.new }
+    ensures value { IfOk result (λ spot. IsTrue volume.old.is_sound → (place.block ≡ 0) ⊎ HasPlace key_length volume.old place → spot ≡ spot_at key_length volume.old key.now place) }
+    ensures index { IfOk result (λ spot. spot.index ≤ spot.count) }
+    ensures count { IfOk result (λ spot. spot.count ≤ 65535) }
+    ensures fits { IfOk result (λ spot. entry_place key_length spot.count ≤ volume.old.size) }
+    ensures size { IfOk result (λ _. (128 ≤ volume.old.size) × (volume.old.size ≤ 32768)) }
+    ensures within { IfOk result (λ spot. IfSome spot.found (λ _. spot.index < spot.count)) }
+    ensures refusal { IfErr result (λ e. e ≡ Refused.Device) }
+{
+    let size = volume.block_size();
+    if place.block == 0 || !has_block(volume, place.block) {
+        return Ok(no_spot());
+    }
+    let block = volume.block(place.block)?;
+    if block.len() != size {
+        return Ok(no_spot());
+    }
+    Ok(spot_in(block, key_length, place, key))
+}
+
+/// Reads what is at the place of a key.
+pub fn locate<S: BlockStore>(
+    volume: &mut Volume<S>,
+    key_length: usize,
+    key: &[u8],
+) -> Result<Spot, Refused>
+    requires short { key_length ≤ 255 }
+    ensures read { IsRead volume.old result volume.new }
+    ensures value { IfOk result (λ spot. IsTrue volume.old.is_sound → HasIndex key_length volume.old → spot ≡ spot_of key_length volume.old key.now) }
+    ensures index { IfOk result (λ spot. spot.index ≤ spot.count) }
+    ensures count { IfOk result (λ spot. spot.count ≤ 65535) }
+    ensures fits { IfOk result (λ spot. entry_place key_length spot.count ≤ volume.old.size) }
+    ensures size { IfOk result (λ _. (128 ≤ volume.old.size) × (volume.old.size ≤ 32768)) }
+    ensures within { IfOk result (λ spot. IfSome spot.found (λ _. spot.index < spot.count)) }
+    ensures refusal { IfErr result (λ e. e ≡ Refused.Device) }
+{
+    let place = seek(volume, key_length, key)?;
+    let spot = spot_at(volume, key_length, place, key)?;
+    Ok(spot)
 }

@@ -13,3 +13,4 @@ pub mod CreateLemmas
 pub mod SpaceLemmas
 pub mod IndexLemmas
 pub mod KeyLemmas
+pub mod CallSteps

@@ -1,0 +1,49 @@
+use Rattle.std.proofs.Common.{◌≡◌, ◌<◌, ◌≤◌, ℕ, List, IsTrue, OnOk, length, ap, ◌∙◌, sym, arith}
+use Rattle.hd_volume.specs.Entries.{Entry, entries}
+use Rattle.hd_volume.proofs.JoinLemmas.{read-one}
+use Rattle.hd_index.specs.Maps.{address_of, with_entry}
+use Rattle.hd_index.specs.Edits.{IsChanged}
+use Rattle.hd_index.proofs.CallLemmas.{on-ok-map}
+use Rattle.hd_index.proofs.ChainLemmas.{spot-same}
+use Rattle.hd_index.proofs.ChangeLemmas.{index-after}
+use Rattle.hd_index.proofs.InsertLemmas.{changed-before}
+use Rattle.hd_index.proofs.enter.insert_key.Goals as goal
+
+pub insert_at-requires-clause-index : goal.insert_at-requires-clause-index
+insert_at-requires-clause-index g c now =
+    let u = c.args.volume.now in
+    let v = c.locate.new.volume in
+    let sound : IsTrue u.is_sound = rw (← c.in_ok-spot.ensures.read.call.sound) now in
+    (index-after (length c.args.key.now) u v (read-one c.in_ok-spot.ensures.read now) (c.requires.index sound)).0
+
+pub insert_at-requires-clause-new : goal.insert_at-requires-clause-new
+insert_at-requires-clause-new g c now =
+    let u = c.args.volume.now in
+    let v = c.locate.new.volume in
+    let sound : IsTrue u.is_sound = rw (← c.in_ok-spot.ensures.read.call.sound) now in
+    ap (address_of c.args.key.now) ((index-after (length c.args.key.now) u v (read-one c.in_ok-spot.ensures.read now) (c.requires.index sound)).1) ∙ c.requires.new sound
+
+pub insert_at-requires-clause-spot : goal.insert_at-requires-clause-spot
+insert_at-requires-clause-spot g c now =
+    let u = c.args.volume.now in
+    let v = c.locate.new.volume in
+    let sound : IsTrue u.is_sound = rw (← c.in_ok-spot.ensures.read.call.sound) now in
+    let o = read-one c.in_ok-spot.ensures.read now in
+    c.in_ok-spot.ensures.value sound (c.requires.index sound) ∙ sym (spot-same (length c.args.key.now) u v c.args.key.now o.same.size o.image)
+
+pub returns-clause-changed : goal.returns-clause-changed
+returns-clause-changed g c =
+    let u = c.args.volume.now in
+    let v = c.locate.new.volume in
+    let w = c.insert_at.new.volume in
+    let k : ℕ = length c.args.key.now in
+    let e : Entry = record { key = c.args.key.now; address = c.args.address } in
+    on-ok-map c.insert_at.result
+    (λ (changed : IsTrue v.is_sound → IsChanged k v (with_entry e (entries k v)) 1 w) (sound : IsTrue u.is_sound).
+    let now : IsTrue v.is_sound = rw c.in_ok-spot.ensures.read.call.sound sound in
+    let h = c.requires.index sound in
+    let o = read-one c.in_ok-spot.ensures.read now in
+    let three = c.requires.three in
+    let same = (index-after k u v o h).1 in
+    changed-before k u v w (with_entry e (entries k u)) (with_entry e (entries k v)) 1 o (omega arith) h (ap (with_entry e) same) (changed now))
+    c.insert_at.ensures.changed

@@ -1,0 +1,92 @@
+ghost use Rattle.std.specs.Prelude.{◌≡◌, ◌+◌, ◌≤◌, ◌<◌, ◌∷◌, ◌++◌, IsTrue, length, take, drop, suc, IfErr, OnOk};
+ghost use Rattle.hd_bytes.specs.Numbers.{number_at};
+ghost use Rattle.hd_volume.specs.Volumes.{IsFormatted, block_at};
+ghost use Rattle.hd_volume.specs.Calls.{IsCall};
+ghost use Rattle.hd_volume.specs.Entries.{entries_in};
+ghost use Rattle.hd_volume.specs.Indexes.{entry_room, IsEntryBlock};
+ghost use Rattle.hd_index.specs.Places.{entry_place};
+ghost use Rattle.hd_index.specs.Edits.{Bears, HasNewEntries};
+
+use crate::bytes::{copy_down, four_bytes, move_up, two_bytes, write_part};
+use crate::entries::{ADDRESS, COUNT, NEXT, entry_place};
+use hd_bytes::write_u32;
+use hd_dbd::Refused;
+use hd_volume::{BlockStore, Volume};
+
+/// The bytes of an entry at the front: its key and its address.
+fn entry_bytes(key: &[u8], address: u32) -> [u8; 259]
+    requires short { length key.now ≤ 255 }
+    ensures len { length result ≡ 259 }
+    ensures key { take (length key.now) result ≡ key.now }
+    ensures address { number_at 4 result (length key.now) ≡ address }
+{
+    let mut entry = [0; 259];
+    entry[..key.len()].copy_from_slice(key);
+    write_u32(&mut entry, key.len(), address);
+    entry
+}
+
+/// Puts an entry into a block, before the entry at an index.
+pub fn add_entry<S: BlockStore>(
+    volume: &mut Volume<S>,
+    n: u32,
+    index: usize,
+    count: usize,
+    key: &[u8],
+    address: u32,
+) -> Result<(), Refused>
+    requires formatted { IsTrue volume.old.is_sound → IsFormatted volume.old }
+    requires block { IsTrue volume.old.is_sound → IsEntryBlock (length key.now) volume.old n }
+    requires count { IsTrue volume.old.is_sound → number_at 2 (block_at volume.old n) 4 ≡ count }
+    requires index { index ≤ count }
+    requires short { length key.now ≤ 255 }
+    requires small { count ≤ 65534 }
+    requires most { volume.old.size ≤ 32768 }
+    requires room { count < entry_room (length key.now) volume.old.size }
+    requires fits { entry_place (length key.now) (count + 1) ≤ volume.old.size }
+    ensures call { IsCall volume.old result volume.new }
+    ensures added { OnOk result (IsTrue volume.old.is_sound → HasNewEntries (length key.now) volume.old n (take index (entries_in (length key.now) (block_at volume.old n)) ++ (record { key = key.now; address = address } ∷ drop index (entries_in (length key.now) (block_at volume.old n)))) (number_at 4 (block_at volume.old n) 8) volume.new) }
+    ensures refusal { IfErr result (λ e. e ≡ Refused.Device) }
+    ensures room { volume.new.room ≡ volume.old.room }
+{
+    let width = key.len() + ADDRESS;
+    let place = entry_place(key.len(), index);
+    let entry = entry_bytes(key, address);
+    move_up(volume, n, place, place + width, (count - index) * width)?;
+    write_part(volume, n, place, &entry[..width])?;
+    write_part(volume, n, COUNT, &two_bytes((count + 1) as u16))
+}
+
+/// Takes the entry at an index out of a block.
+pub fn remove_entry<S: BlockStore>(
+    volume: &mut Volume<S>,
+    key_length: usize,
+    n: u32,
+    index: usize,
+    count: usize,
+) -> Result<(), Refused>
+    requires formatted { IsTrue volume.old.is_sound → IsFormatted volume.old }
+    requires block { IsTrue volume.old.is_sound → IsEntryBlock key_length volume.old n }
+    requires count { IsTrue volume.old.is_sound → number_at 2 (block_at volume.old n) 4 ≡ count }
+    requires index { index < count }
+    requires short { key_length ≤ 255 }
+    requires small { count ≤ 65535 }
+    requires most { volume.old.size ≤ 32768 }
+    requires fits { entry_place key_length count ≤ volume.old.size }
+    ensures call { IsCall volume.old result volume.new }
+    ensures taken { OnOk result (IsTrue volume.old.is_sound → HasNewEntries key_length volume.old n (take index (entries_in key_length (block_at volume.old n)) ++ drop (suc index) (entries_in key_length (block_at volume.old n))) (number_at 4 (block_at volume.old n) 8) volume.new) }
+    ensures refusal { IfErr result (λ e. e ≡ Refused.Device) }
+    ensures room { volume.new.room ≡ volume.old.room }
+{
+    let width = key_length + ADDRESS;
+    let place = entry_place(key_length, index);
+    copy_down(
+        volume,
+        n,
+        place + width,
+        n,
+        place,
+        (count - (index + 1)) * width,
+    )?;
+    write_part(volume, n, COUNT, &two_bytes((count - 1) as u16))
+}
