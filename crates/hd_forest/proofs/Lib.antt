@@ -1,4 +1,3 @@
-pub mod Calls
 pub mod Reading
 pub mod Chains
 pub mod Tips

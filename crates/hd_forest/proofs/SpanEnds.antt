@@ -22,25 +22,11 @@ use Rattle.hd_image.specs.Laws.{IsDatabase}
 use Rattle.hd_image.proofs.Found.{records-link}
 use Rattle.hd_forest.specs.Walks.{AreSegments}
 use Rattle.hd_forest.specs.Spans.{IsSpan, without_span_of, below_on, Freeing, freed_on, IsStep}
+use Rattle.hd_forest.proofs.Agreeing.{agree-trans}
 use Rattle.hd_forest.proofs.Frames.{RowStands, size_of}
 use Rattle.hd_forest.proofs.FreeSteps.{cut, agree-here}
 use Rattle.hd_forest.proofs.FreeSpans.{InSpan, step, on-segments, all-gone, no-step}
 use Rattle.hd_forest.proofs.SpanStarts.{span_of, at-start, steps-within, room}
-
-pub agree-trans : (types : List SegmentType) (m k l : Links) → Agree types m k → Agree types k l → Agree types m l
-agree-trans types m k l A B a = record {
-  here = (B a).here ∙ (A a).here;
-  code = λ h. (B a).code ((A a).here ∙ h) ∙ (A a).code h;
-  bytes = λ s. (B a).bytes (on s) ∙ (A a).bytes s;
-  delete_byte = λ s. (B a).delete_byte (on s) ∙ (A a).delete_byte s;
-  forward = λ s. (B a).forward (on s) ∙ (A a).forward s;
-  backward = λ s kept. (B a).backward (on s) (ap (λ c. is_backward_kept types c) ((A a).code s.here) ∙ kept) ∙ (A a).backward s kept;
-  first_child = λ t h c. (B a).first_child t ((A a).here ∙ h) (ap (λ x. is_child_type types x t) ((A a).code h) ∙ c) ∙ (A a).first_child t h c;
-  last_child = λ t h c kept. (B a).last_child t ((A a).here ∙ h) (ap (λ x. is_child_type types x t) ((A a).code h) ∙ c) kept ∙ (A a).last_child t h c kept;
-}
-  where
-    on : IsSegment m a → IsSegment k a
-    on s = record { some = s.some; here = (A a).here ∙ s.here }
 
 -- more steps are enough too
 more-steps : (types : List SegmentType) (m : Links) (span : ℕ → ℕ) (n k : ℕ) (s : Freeing) → n ≤ k → InSpan types m span n s → InSpan types m span k s

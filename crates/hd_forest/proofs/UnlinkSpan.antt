@@ -21,7 +21,7 @@ use Rattle.hd_forest.proofs.Tips.{IsBelow, twins-there}
 use Rattle.hd_forest.proofs.Held.{Held, held, last-below}
 use Rattle.hd_forest.proofs.Keeping.{keeps-trans}
 use Rattle.hd_forest.proofs.Freed.{recorded-after}
-use Rattle.hd_forest.proofs.SpanEnds.{agree-trans}
+use Rattle.hd_forest.proofs.Agreeing.{agree-trans}
 use Rattle.hd_forest.proofs.Taken.{Taken, taken}
 use Rattle.hd_forest.proofs.Unlinks.{Followed, followed, span-kept, unlinked-is}
 

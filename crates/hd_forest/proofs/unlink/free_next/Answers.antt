@@ -7,7 +7,7 @@ use Rattle.hd_image.specs.Pointing.{without_record}
 use Rattle.hd_forest.specs.Walks.{tip, AreSegments}
 use Rattle.hd_forest.specs.Spans.{below_on, freed_last, IsStep}
 use Rattle.hd_forest.specs.Sets.{IsRecorded}
-use Rattle.hd_forest.proofs.Calls.{if-ok}
+use Rattle.hd_volume.proofs.CallSteps.{if-ok}
 use Rattle.hd_forest.proofs.Reading.{after-read, links-kept}
 use Rattle.hd_forest.proofs.Freed.{recorded-after, recorded-read, went-down, freed-one}
 use Rattle.hd_forest.proofs.unlink.free_next.Goals as goal

@@ -8,7 +8,7 @@ use Rattle.hd_links.specs.Placed.{Placed}
 use Rattle.hd_image.specs.Records.{links_of, IsVolumeOf}
 use Rattle.hd_image.proofs.Found.{records-link}
 use Rattle.hd_forest.specs.Spans.{IsSpan, below_on, Freeing, freed_on, IsStep}
-use Rattle.hd_forest.proofs.Calls.{call-ok, call-none}
+use Rattle.hd_volume.proofs.CallSteps.{call-ok, call-none}
 use Rattle.hd_forest.proofs.Keeping.{keeps-refl, keeps-trans}
 use Rattle.hd_forest.proofs.FreeSpans.{InSpan}
 use Rattle.hd_forest.proofs.SpanStarts.{span_of}

@@ -10,11 +10,16 @@ use Rattle.hd_forest.specs.Walks.{tip, parent_on}
 use Rattle.hd_forest.specs.Sets.{following, preceding, IsTwinPlace, IsRecorded}
 use Rattle.hd_forest.specs.Spans.{IsSpan, HasSpan, without_span_of}
 use Rattle.hd_forest.specs.Updates.{IsUnlinked}
-use Rattle.hd_forest.proofs.Calls.{reads-join, on-ok}
+use Rattle.hd_volume.proofs.CallSteps.{reads-join}
 use Rattle.hd_forest.proofs.Reading.{after-read, sound-before, volume-kept, links-kept}
 use Rattle.hd_forest.proofs.Held.{held, last-below}
 use Rattle.hd_forest.proofs.UnlinkSpan.{place-before, place-behind, span-there, done}
 use Rattle.hd_forest.proofs.unlink.unlink_span.Goals as goal
+
+-- what holds after a call, by what held
+on-ok : {A : Type 0} {P Q : Type 0} (r : Result A Refused) → OnOk r P → (P → Q) → OnOk r Q
+on-ok (Ok x) h f = f h
+on-ok (Err e) h f = tt
 
 -- four numbers, by what they are
 by-all : (P : ℕ → ℕ → ℕ → ℕ → Type 0) (h h2 a a2 t t2 w w2 : ℕ) → h ≡ h2 → a ≡ a2 → t ≡ t2 → w ≡ w2 → P h a t w → P h2 a2 t2 w2
