@@ -2,3 +2,4 @@ pub mod ChainSteps
 pub mod Readings
 pub mod HeaderFaults
 pub mod BlockFaults
+pub mod PlaceLemmas
