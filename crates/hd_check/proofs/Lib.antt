@@ -3,3 +3,4 @@ pub mod Readings
 pub mod HeaderFaults
 pub mod BlockFaults
 pub mod PlaceLemmas
+pub mod Lookups

@@ -5,6 +5,7 @@ mod block;
 mod element;
 mod fault;
 mod header;
+mod lookup;
 mod place;
 mod segments;
 
