@@ -4,3 +4,6 @@ pub mod HeaderFaults
 pub mod BlockFaults
 pub mod PlaceLemmas
 pub mod Lookups
+pub mod NamedLemmas
+pub mod WrongLemmas
+pub mod ChildPointers

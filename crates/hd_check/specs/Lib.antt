@@ -1,3 +1,4 @@
 pub mod Phases
 pub mod Reading
 pub mod Places
+pub mod Judging

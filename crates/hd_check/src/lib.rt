@@ -7,6 +7,7 @@ mod fault;
 mod header;
 mod lookup;
 mod place;
+mod pointers;
 mod segments;
 
 pub use fault::Fault;
