@@ -5,9 +5,10 @@ use Rattle.std.specs.Option.{option_map_or}
 use Rattle.std.proofs.lemmas.Bool.{cases_Bool, cond-false, cond-true, or_right, false≢true}
 use Rattle.hd_dbd.specs.Types.{SegmentType}
 use Rattle.hd_dbd.specs.Hierarchy.{type_of}
+use Rattle.hd_dbd.specs.Prefixes.{is_backward_kept}
 use Rattle.hd_volume.specs.Volumes.{VolumeState}
 use Rattle.hd_prefix.specs.declared.pointer.Pointer.{Pointer}
-use Rattle.hd_prefix.specs.declared.pointer.Pointer.TheVariants.{FirstChild, LastChild}
+use Rattle.hd_prefix.specs.declared.pointer.Pointer.TheVariants.{TwinForward, TwinBackward, FirstChild, LastChild}
 use Rattle.hd_prefix.specs.Fields.{code_of, pointer_of}
 use Rattle.hd_prefix.specs.Pointers as prefix
 use Rattle.hd_prefix.proofs.Numbers.{has_pointers}
@@ -40,3 +41,19 @@ last-unkept types t code segment x is other =
       | inr not_kept ↦ not_kept
     ]) in
     is ∙ (has_pointers types code segment).last_child t ∙ (let z : (prefix.is_child types code t && prefix.is_last_kept types t) ≡ false = (ap (λ b. prefix.is_child types code t && b) none ∙ and-none (prefix.is_child types code t)) in cond-false _ _ _ z)
+
+-- the code of a record is that of its segment
+pub code-read : (types : List SegmentType) (v : VolumeState) (a code : ℕ) (segment : List ℕ) → stored_at v a ≡ segment → code ≡ code_of segment → code ≡ (links_of types v).code a
+code-read types v a code segment stored own = own ∙ ap code_of (sym stored)
+
+pub forward-read : (types : List SegmentType) (v : VolumeState) (a code : ℕ) (segment : List ℕ) (x : ℕ) → stored_at v a ≡ segment → code ≡ code_of segment
+    → x ≡ pointer_of types code TwinForward segment → x ≡ (links_of types v).forward a
+forward-read types v a code segment x stored own is = is ∙ read-at types v a code segment TwinForward stored own
+
+pub backward-read : (types : List SegmentType) (v : VolumeState) (a code : ℕ) (segment : List ℕ) (x : ℕ) → stored_at v a ≡ segment → code ≡ code_of segment
+    → x ≡ pointer_of types code TwinBackward segment → x ≡ (links_of types v).backward a
+backward-read types v a code segment x stored own is = is ∙ read-at types v a code segment TwinBackward stored own
+
+-- a twin backward that is not kept reads as 0
+pub backward-unkept : (types : List SegmentType) (code : ℕ) (segment : List ℕ) (x : ℕ) → x ≡ pointer_of types code TwinBackward segment → is_backward_kept types code ≡ false → x ≡ 0
+backward-unkept types code segment x is other = is ∙ (has_pointers types code segment).backward ∙ cond-false _ _ _ other

@@ -7,3 +7,4 @@ pub mod Lookups
 pub mod NamedLemmas
 pub mod WrongLemmas
 pub mod ChildPointers
+pub mod RecordFaults

@@ -24,7 +24,6 @@ right-by : (m : Links) (a code own : ℕ) → a ≢ 0 → m.here a ≡ true → 
 right-by m a code own some there is same = (let e : (m.code a == code) ≡ true = eq-eqb (m.code a) code (is ∙ same) in rw (ne_eqb a 0 some, there, e) refl)
 
 module _ (types : List SegmentType) (v : VolumeState) (ps : List Place) (h : ArePlaces types v ps) where
-
   -- where no place is, no segment stands
   pub not-here : (a : ℕ) → a ≢ 0 → ((code : ℕ) → IsPlaceOf (record { address = a; code = code }) ps → ⊥) → (links_of types v).here a ≡ false
   not-here a some none = elim (cases_Bool ((links_of types v).here a)) [

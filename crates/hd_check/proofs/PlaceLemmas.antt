@@ -61,9 +61,10 @@ block-from sizes b first p next (taken n ∷ xs) f = lower (first + p) (first + 
 block-ascends : (sizes : ℕ → ℕ) (b : List ℕ) (first p next : ℕ) (xs : List Extent) → Fill sizes b p next xs → PlacesAscend (places_in b first (parts_of p xs))
 block-ascends sizes b first p next [] f = tt
 block-ascends sizes b first p next (free n ∷ xs) f = block-ascends sizes b first (p + n) _ xs f.2
-block-ascends sizes b first p next (used n ∷ xs) f =
-    (lower (first + p + 1) (first + (p + n)) (places_in b first (parts_of (p + n) xs)) (let s = f.1.some in omega arith) (block-from sizes b first (p + n) next xs f.2),
-    block-ascends sizes b first (p + n) next xs f.2)
+block-ascends sizes b first p next (used n ∷ xs) f = (
+  lower (first + p + 1) (first + (p + n)) (places_in b first (parts_of (p + n) xs)) (let s = f.1.some in omega arith) (block-from sizes b first (p + n) next xs f.2),
+  block-ascends sizes b first (p + n) next xs f.2,
+)
 block-ascends sizes b first p next (taken n ∷ xs) f = block-ascends sizes b first (p + n) next xs f.3
 
 -- ---- lists of places
@@ -88,14 +89,14 @@ from-both a (p ∷ ps) qs h k = (h.0, from-both a ps qs h.1 k)
 
 ascend-both : (a : ℕ) (ps qs : List Place) → PlacesAscend ps → PlacesAscend qs → ((p : Place) → IsPlaceOf p ps → p.address < a) → AreFrom a qs → PlacesAscend (ps ++ qs)
 ascend-both a [] qs h k below from = k
-ascend-both a (p ∷ ps) qs h k below from =
-    (from-both (p.address + 1) ps qs h.0 (lower (p.address + 1) a qs (let l = below p (inl refl) in omega arith) from),
-    ascend-both a ps qs h.1 k (λ q i. below q (inr i)) from)
+ascend-both a (p ∷ ps) qs h k below from = (
+  from-both (p.address + 1) ps qs h.0 (lower (p.address + 1) a qs (let l = below p (inl refl) in omega arith) from),
+  ascend-both a ps qs h.1 k (λ q i. below q (inr i)) from,
+)
 
 -- ---- a volume
 
 module _ (types : List SegmentType) (v : VolumeState) (h : HasHeader v.size v.image) (some : 0 < v.size) (r : AreBlocksRight v) where
-
   -- the block of a number behind block 0 that the header counts
   counted : (n : ℕ) → n < (header_of v.image).count → HasBlock v.size v.image n
   counted n low = (let whole = h.whole in let fits : n * v.size + v.size ≤ (header_of v.image).count * v.size = row_fits n v.size (header_of v.image).count v.size low (omega arith) in omega arith)
@@ -116,8 +117,10 @@ module _ (types : List SegmentType) (v : VolumeState) (h : HasHeader v.size v.im
         (let k : IsKind v 1 n = record { there = counted n low; later = later; kind_is = one } in
         let e = r.divided n k in
         let P : List Place → Type 0 = λ ps. PlacesAscend ps × AreFrom (n * v.size) ps in
-        subst P (sym (at-data n k)) (block-ascends (slice_index v.sizes) (block_at v n) (n * v.size) 8 _ e.extents e.divides,
-          lower (n * v.size) (n * v.size + 8) (places_in (block_at v n) (n * v.size) (parts_of 8 e.extents)) (omega arith) (block-from (slice_index v.sizes) (block_at v n) (n * v.size) 8 _ e.extents e.divides)))
+        subst P (sym (at-data n k)) (
+          block-ascends (slice_index v.sizes) (block_at v n) (n * v.size) 8 _ e.extents e.divides,
+          lower (n * v.size) (n * v.size + 8) (places_in (block_at v n) (n * v.size) (parts_of 8 e.extents)) (omega arith) (block-from (slice_index v.sizes) (block_at v n) (n * v.size) 8 _ e.extents e.divides),
+        ))
     | inr other ↦ (let P : List Place → Type 0 = λ ps. PlacesAscend ps × AreFrom (n * v.size) ps in subst P (sym (at-other n other)) (tt, tt))
   ]
 
@@ -177,12 +180,13 @@ module _ (types : List SegmentType) (v : VolumeState) (h : HasHeader v.size v.im
   behind-ascends (suc n) low =
       let before = behind-ascends n (omega arith) in
       let next : n + 1 < (header_of v.image).count = omega arith in
-      let own = at-ascends (n + 1) (omega arith) next in
-      (ascend-both ((n + 1) * v.size) (places_behind v n) (places_at v (n + 1)) before.0 own.0 before.1 own.1,
-      λ p i. elim (in-either p (places_behind v n) (places_at v (n + 1)) i) [
-        | inl j ↦ (let l = before.1 p j in let f : (suc n + 1) * v.size ≡ (n + 1) * v.size + v.size = omega arith in omega arith)
-        | inr j ↦ (let t = (at-there (n + 1) (omega arith) next p j).2 in omega arith)
-      ])
+      let own = at-ascends (n + 1) (omega arith) next in (
+        ascend-both ((n + 1) * v.size) (places_behind v n) (places_at v (n + 1)) before.0 own.0 before.1 own.1,
+        λ p i. elim (in-either p (places_behind v n) (places_at v (n + 1)) i) [
+          | inl j ↦ (let l = before.1 p j in let f : (suc n + 1) * v.size ≡ (n + 1) * v.size + v.size = omega arith in omega arith)
+          | inr j ↦ (let t = (at-there (n + 1) (omega arith) next p j).2 in omega arith)
+        ],
+      )
 
   -- each is a segment's
   behind-there : (n : ℕ) → n < (header_of v.image).count → (p : Place) → IsPlaceOf p (places_behind v n) → IsSegment (links_of types v) p.address × ((links_of types v).code p.address ≡ p.code)
