@@ -8,3 +8,4 @@ pub mod NamedLemmas
 pub mod WrongLemmas
 pub mod ChildPointers
 pub mod RecordFaults
+pub mod TypedRecords
