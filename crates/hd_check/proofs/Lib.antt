@@ -9,3 +9,5 @@ pub mod WrongLemmas
 pub mod ChildPointers
 pub mod RecordFaults
 pub mod TypedRecords
+pub mod Lent
+pub mod RecordSteps

@@ -79,11 +79,13 @@ points types m h p r i some =
     let here : m.here p.address ≡ true = elim (cases_Bool (m.here p.address)) [
       | inl there ↦ there
       | inr absent ↦ absurd (false≢true (sym none ∙ (let e : names_none m p ≡ true = rw (ne_eqb p.address 0 (λ z. omega arith), absent) refl in e)))
-    ] in
-    (here, elim (cases_eq (m.code p.address) p.type_code) [
-      | inl e ↦ e
-      | inr ne ↦ absurd (false≢true (sym another ∙ (let e : names_another m p ≡ true = rw (ne_eqb p.address 0 (λ z. omega arith), here, ne_eqb (m.code p.address) p.type_code ne) refl in e)))
-    ])
+    ] in (
+      here,
+      elim (cases_eq (m.code p.address) p.type_code) [
+        | inl e ↦ e
+        | inr ne ↦ absurd (false≢true (sym another ∙ (let e : names_another m p ≡ true = rw (ne_eqb p.address 0 (λ z. omega arith), here, ne_eqb (m.code p.address) p.type_code ne) refl in e)))
+      ],
+    )
 
 in-back : (p : Named) (ps qs : List Named) → IsNamedIn p qs → IsNamedIn p (ps ++ qs)
 in-back p [] qs i = i
@@ -116,7 +118,6 @@ last-in types m h t (u ∷ us) i k = elim (in_cases u t us i) [
 ]
 
 module _ (types : List SegmentType) (m : Links) (zero-code : m.code 0 ≡ 0) (right : (h : ℕ) → m.here h ≡ true → IsRecordRight types m h) where
-
   -- a record's pointers to children are among its pointers
   children-in : (h : ℕ) (p : Named) → IsNamedIn p (child_pointers types m h (child_types types (m.code h))) → IsNamedIn p (pointers_of types m h)
   children-in h p i = elim (cases_eq h 0) [
@@ -196,7 +197,6 @@ before-it k l a h same (inr (p, inl less)) = inl less
 before-it k l a h same (inr (p, inr both)) = inr both
 
 module _ (d : Database) (v : VolumeState) (h : ℕ) (there : (links_of d.types v).here h ≡ true) (earlier : (a : ℕ) → a < h → (links_of d.types v).here a ≡ true → IsRecordRight d.types (links_of d.types v) a) where
-
   -- nothing of the phase comes before a fault at h if nothing of a lesser number is wrong there
   nothing-before : (l : Line) → phase_of l ≡ 3 → ((k : Line) → number_of k h < number_of l h → IsWrongAs d.types (links_of d.types v) k h → ⊥)
       → (k : Line) (a o : ℕ) → phase_of k ≡ 3 → Stands d v k a o → ComesBefore k a l h → ⊥

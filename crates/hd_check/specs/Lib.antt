@@ -2,3 +2,4 @@ pub mod Phases
 pub mod Reading
 pub mod Places
 pub mod Judging
+pub mod Lending

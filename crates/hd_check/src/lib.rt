@@ -8,6 +8,7 @@ mod header;
 mod lookup;
 mod place;
 mod pointers;
+mod records;
 mod segments;
 
 pub use fault::Fault;

@@ -7,6 +7,7 @@ ghost use Rattle.hd_dbd.specs.Hierarchy.{Database};
 ghost use Rattle.hd_image.specs.PointerFaults.{child_pointers, pointers_of};
 ghost use Rattle.hd_check.specs.Places.{ArePlaces, PlacesAscend};
 ghost use Rattle.hd_volume.specs.Headers.{header_of};
+ghost use Rattle.hd_check.specs.Lending.{IsLent};
 ghost use Rattle.hd_check.specs.Judging.{wrong_among, wrong_or, IsRecordRight, IsWrongRecord};
 
 use crate::fault::Fault;
@@ -107,8 +108,8 @@ fn judge_segment(places: &[Place], dbd: &Dbd, code: u8, segment: &[u8]) -> Wrong
 /// What is wrong with a segment at an address.
 pub fn segment_fault(places: &[Place], dbd: &Dbd, address: u32, segment: &[u8]) -> Option<Fault>
     requires ascend { PlacesAscend places.now }
-    ensures none { 1 < length segment.now → code_of segment.now ≢ 0 → stored_size dbd.now.types (code_of segment.now) ≤ length segment.now → (v : VolumeState) → ArePlaces dbd.now.types v places.now → stored_at v address ≡ segment.now → address ≢ 0 → IfNone result (IsRecordRight dbd.now.types (links_of dbd.now.types v) address) }
-    ensures some { 1 < length segment.now → code_of segment.now ≢ 0 → stored_size dbd.now.types (code_of segment.now) ≤ length segment.now → (v : VolumeState) → ArePlaces dbd.now.types v places.now → stored_at v address ≡ segment.now → address ≢ 0 → IfSome result (λ f. IsWrongRecord dbd.now.types (links_of dbd.now.types v) address f) }
+    ensures none { (v : VolumeState) → ArePlaces dbd.now.types v places.now → IsLent dbd.now.types v address segment.now → IfNone result (IsRecordRight dbd.now.types (links_of dbd.now.types v) address) }
+    ensures some { (v : VolumeState) → ArePlaces dbd.now.types v places.now → IsLent dbd.now.types v address segment.now → IfSome result (λ f. IsWrongRecord dbd.now.types (links_of dbd.now.types v) address f) }
 {
     let code = segment.first().copied().unwrap_or(0);
     if code == 0 || segment.len() < 2 || segment.len() < dbd.stored_size(code) as usize {
