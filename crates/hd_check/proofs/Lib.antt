@@ -2,3 +2,12 @@ pub mod ChainSteps
 pub mod Readings
 pub mod HeaderFaults
 pub mod BlockFaults
+pub mod PlaceLemmas
+pub mod Lookups
+pub mod NamedLemmas
+pub mod WrongLemmas
+pub mod ChildPointers
+pub mod RecordFaults
+pub mod TypedRecords
+pub mod Lent
+pub mod RecordSteps

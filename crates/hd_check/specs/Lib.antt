@@ -1,3 +1,5 @@
 pub mod Phases
 pub mod Reading
 pub mod Places
+pub mod Judging
+pub mod Lending

@@ -5,7 +5,7 @@ ghost use Rattle.hd_volume.specs.Headers.{HasHeader};
 ghost use Rattle.hd_volume.specs.Volumes.{block_at, kind_of, HasExtents};
 ghost use Rattle.hd_volume.specs.Calls.{IsRead};
 ghost use Rattle.hd_check.specs.Phases.{IsRightBlock, IsWrongBlock, AreBlocksRight, IsLeastOf};
-ghost use Rattle.hd_check.specs.Places.{places_at, places_of};
+ghost use Rattle.hd_check.specs.Places.{places_at, ArePlaces};
 
 use crate::element::is_chain_right;
 use crate::fault::Fault;
@@ -89,7 +89,7 @@ pub fn blocks_fault<S: BlockStore>(
     requires size { (volume.old.size ≡ dbd.now.block_size) × (volume.old.sizes ≡ stored_sizes dbd.now.types) }
     ensures read { IsRead volume.old result volume.new }
     ensures none { IfOk result (λ o. IsTrue volume.old.is_sound → IfNone o (AreBlocksRight volume.old)) }
-    ensures places { IfOk result (λ o. IsTrue volume.old.is_sound → IfNone o (places.new.items ≡ places_of volume.old)) }
+    ensures places { IfOk result (λ o. IsTrue volume.old.is_sound → IfNone o (ArePlaces dbd.now.types volume.old places.new.items)) }
     ensures some { IfOk result (λ o. IsTrue volume.old.is_sound → IfSome o (λ f. IsLeastOf dbd.now volume.old 2 f)) }
     ensures refusal { IfErr result (λ e. (e ≡ Refused.Device) ⊎ (e ≡ Refused.Memory)) }
 {

@@ -5,7 +5,10 @@ mod block;
 mod element;
 mod fault;
 mod header;
+mod lookup;
 mod place;
+mod pointers;
+mod records;
 mod segments;
 
 pub use fault::Fault;

@@ -5,12 +5,14 @@ use Rattle.hd_bytes.specs.Blocks.{HasBlock}
 use Rattle.hd_dbd.specs.Hierarchy.{Database}
 use Rattle.hd_volume.specs.Headers.{HasHeader, header_of}
 use Rattle.hd_volume.specs.Volumes.{VolumeState, block_at}
+use Rattle.hd_volume.proofs.KindLemmas.{below-count}
 use Rattle.hd_volume.proofs.CallSteps.{read-ok, reads-join}
 use Rattle.hd_check.specs.declared.fault.Fault.{Fault}
 use Rattle.hd_check.specs.Phases.{IsRightBlock, IsWrongBlock, AreBlocksRight, IsLeastOf}
 use Rattle.hd_check.specs.declared.segments.Place.{Place}
-use Rattle.hd_check.specs.Places.{places_at, places_behind}
+use Rattle.hd_check.specs.Places.{places_at, places_behind, ArePlaces}
 use Rattle.hd_check.proofs.BlockFaults.{wrong-least, all-right}
+use Rattle.hd_check.proofs.PlaceLemmas.{are-places}
 use Rattle.hd_check.proofs.block.blocks_fault.Goals as goal
 
 pub returns-in-Some-clause-some : goal.returns-in-Some-clause-some
@@ -90,3 +92,20 @@ loop-n-preserved g c =
           more ∙ ap (λ (ps : List Place). ps ++ places_at w n) (i.places sound) ∙ ap (λ (ps : List Place). places_behind v (n - 1) ++ ps) (here ∙ ap (places_at v) (sym own))
           ∙ sym (ap (places_behind v) last));
     }
+
+pub returns-clause-places : goal.returns-clause-places
+returns-clause-places g c = λ sound.
+    let v : VolumeState = c.args.volume.now in
+    let i = c.loop-n.invariant in
+    let h : HasHeader v.size v.image = c.requires.header sound in
+    let first = h.first in
+    let count = c.block_count.ensures sound first in
+    let low = c.min-count.ensures in
+    let bound = h.bound in
+    let within = h.within in
+    let end = c.loop-n-test.false in
+    let some : 0 < v.size = (let own = c.block_size-size.ensures.value in let least = c.block_size-size.ensures.least in omega arith) in
+    let right : AreBlocksRight v = all-right v h some (λ m later less. i.right sound m later (omega arith)) in
+    let counted : 0 < (header_of v.image).count = below-count v 0 h some first in
+    let last : c.loop-n.n - 1 ≡ (header_of v.image).count - 1 = (let most = c.loop-n.auto.n-end in let m = most (omega arith) in omega arith) in
+    subst (ArePlaces c.args.dbd.now.types v) (sym (i.places sound ∙ ap (places_behind v) last)) (are-places c.args.dbd.now.types v h some right)

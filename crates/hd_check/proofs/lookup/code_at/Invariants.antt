@@ -1,0 +1,15 @@
+use Rattle.std.proofs.Common.{◌≡◌, ℕ, ◌-◌, ◌<◌, ◌≤◌, length}
+use Rattle.hd_check.proofs.Lookups.{place-at}
+use Rattle.hd_check.proofs.lookup.code_at.Given as goal
+
+-- what is before the middle part stands before the address, and what is behind it behind the address
+abbrev pub invariant-loop-low : goal.invariant-loop-low
+invariant-loop-low l = record {
+  order : l.low ≤ l.high;
+  most : l.high ≤ length l.places;
+  below : (j : ℕ) → j < l.low → (place-at l.places j).address < l.address;
+  above : (j : ℕ) → l.high ≤ j → j < length l.places → l.address < (place-at l.places j).address;
+}
+
+abbrev pub decreases-loop-low : goal.decreases-loop-low
+decreases-loop-low l = l.high - l.low

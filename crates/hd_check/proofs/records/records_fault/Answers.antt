@@ -1,0 +1,93 @@
+use Rattle.std.proofs.Common.{◌≡◌, ◌<◌, ◌≤◌, ◌+◌, ℕ, List, Ok, IsTrue, IfNone, IfSome, length, inl, inr, true, refl, sym, ap, subst, ◌∙◌, arith}
+use Rattle.std.proofs.lemmas.Bool.{cases_lt}
+use Rattle.hd_dbd.specs.Types.{SegmentType}
+use Rattle.hd_dbd.specs.Hierarchy.{Database}
+use Rattle.hd_volume.specs.Volumes.{VolumeState}
+use Rattle.hd_volume.proofs.CallSteps.{read-ok, reads-join}
+use Rattle.hd_volume.proofs.PutLemmas.{if-some-map}
+use Rattle.hd_links.specs.Links.{Links, IsSegment}
+use Rattle.hd_image.specs.Records.{links_of}
+use Rattle.hd_image.proofs.Roots.{header-code}
+use Rattle.hd_check.specs.declared.fault.Fault.{Fault}
+use Rattle.hd_check.specs.declared.segments.Place.{Place}
+use Rattle.hd_check.specs.Places.{ArePlaces}
+use Rattle.hd_check.specs.Phases.{IsLeastOf}
+use Rattle.hd_check.specs.Judging.{IsRecordRight, IsWrongRecord}
+use Rattle.hd_check.proofs.Lookups.{place-at, among}
+use Rattle.hd_check.proofs.Lent.{links-same}
+use Rattle.hd_check.proofs.RecordSteps.{from-none, places-same, before-right, all-right}
+use Rattle.hd_check.proofs.TypedRecords.{typed, wrong-least}
+use Rattle.hd_check.proofs.records.records_fault.Goals as goal
+
+pub returns-then-is_some-clause-some : goal.returns-then-is_some-clause-some
+returns-then-is_some-clause-some g c = λ sound.
+    let d : Database = c.args.dbd.now in
+    let v : VolumeState = c.args.volume.now in
+    let first = (c.requires.of sound).formatted.header.first in
+    if-some-map c.roots_fault-roots.result (λ f w. wrong-least d v 0 refl (λ a less. absurd (omega arith)) f w)
+    (c.roots_fault-roots.ensures.some d v (c.requires.places sound) (c.first_root.ensures sound first) (c.last_root.ensures sound first))
+
+pub fault_at-requires-clause-there : goal.fault_at-requires-clause-there
+fault_at-requires-clause-there g c = λ now.
+    let v : VolumeState = c.args.volume.now in
+    let w : VolumeState = c.loop-place.volume in
+    let i = c.loop-place.invariant in
+    let types : List SegmentType = c.args.dbd.now.types in
+    let sound : IsTrue v.is_sound = rw (← i.read.call.sound) now in
+    let same = links-same types v w (i.read.image now) i.read.call.size i.read.call.sizes in
+    let at = (c.requires.places sound).there (place-at c.args.places.now c.loop-place.place-index) (among c.args.places.now c.loop-place.place-index c.loop-place-test.true) in
+    subst (λ (m : Links). IsSegment m (place-at c.args.places.now c.loop-place.place-index).address) (sym same) at.0
+
+pub returns-then-is_some-2-clause-read : goal.returns-then-is_some-2-clause-read
+returns-then-is_some-2-clause-read g c = reads-join (Ok c.in_ok-found.found) c.loop-place.invariant.read c.in_ok-found.ensures.read
+
+pub returns-then-is_some-2-clause-some : goal.returns-then-is_some-2-clause-some
+returns-then-is_some-2-clause-some g c = λ sound.
+    let d : Database = c.args.dbd.now in
+    let types : List SegmentType = d.types in
+    let v : VolumeState = c.args.volume.now in
+    let w : VolumeState = c.loop-place.volume in
+    let i = c.loop-place.invariant in
+    let ps : List Place = c.args.places.now in
+    let n : ℕ = c.loop-place.place-index in
+    let now : IsTrue w.is_sound = rw i.read.call.sound sound in
+    let same = links-same types v w (i.read.image now) i.read.call.size i.read.call.sizes in
+    let places = c.requires.places sound in
+    let within : n < length ps = c.loop-place-test.true in
+    let at = places.there (place-at ps n) (among ps n within) in
+    if-some-map c.in_ok-found.found
+    (λ f x. wrong-least d v (place-at ps n).address at.0.here (before-right types v ps places (i.roots sound) n within (i.right sound)) f
+    (subst (λ (m : Links). IsWrongRecord types m (place-at ps n).address f) same x))
+    (c.in_ok-found.ensures.some now (places-same types v w ps same places))
+
+pub loop-place-preserved : goal.loop-place-preserved
+loop-place-preserved g c =
+    let types : List SegmentType = c.args.dbd.now.types in
+    let v : VolumeState = c.args.volume.now in
+    let w : VolumeState = c.loop-place.volume in
+    let i = c.loop-place.invariant in
+    let ps : List Place = c.args.places.now in
+    let n : ℕ = c.loop-place.place-index in
+    record {
+      read = read-ok 0 (reads-join (Ok c.in_ok-found.found) i.read c.in_ok-found.ensures.read);
+      roots = i.roots;
+      right = λ sound j low. elim (cases_lt j n) [
+        | inl before ↦ i.right sound j before
+        | inr high ↦
+            (let now : IsTrue w.is_sound = rw i.read.call.sound sound in
+            let same = links-same types v w (i.read.image now) i.read.call.size i.read.call.sizes in
+            let at : j ≡ n = omega arith in
+            let own : IsRecordRight types (links_of types w) (place-at ps n).address =
+            from-none c.in_ok-found.found (sym c.is_some-in-loop-place.ensures ∙ c.if-is_some-2.false) (c.in_ok-found.ensures.none now (places-same types v w ps same (c.requires.places sound))) in
+            subst (λ (k : ℕ). IsRecordRight types (links_of types v) (place-at ps k).address) (sym at) (subst (λ (m : Links). IsRecordRight types m (place-at ps n).address) same own))
+      ];
+    }
+
+pub returns-clause-none : goal.returns-clause-none
+returns-clause-none g c = λ sound.
+    let types : List SegmentType = c.args.dbd.now.types in
+    let v : VolumeState = c.args.volume.now in
+    let i = c.loop-place.invariant in
+    let end = c.loop-place-test.false in
+    typed types (links_of types v) (header-code types v)
+    (all-right types v c.args.places.now (c.requires.places sound) (i.roots sound) (λ j low. i.right sound j (omega arith)))
