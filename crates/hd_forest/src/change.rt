@@ -1,15 +1,19 @@
 ghost use Rattle.std.specs.Prelude.{◌≡◌, ◌⊎◌, ◌+◌, ◌≤◌, ◌<◌, true, length, IsTrue, IfOk, IfErr, OnOk};
 ghost use Rattle.hd_dbd.specs.Rows.{row_fits};
-ghost use Rattle.hd_dbd.specs.Prefixes.{stored_size};
+ghost use Rattle.hd_dbd.specs.Facts.{stored_sizes};
+ghost use Rattle.hd_dbd.specs.Prefixes.{prefix_length, stored_size};
+ghost use Rattle.hd_dbd.specs.DatabaseRules.{well_formed};
 ghost use Rattle.hd_volume.specs.Rooms.{spare, HasHole, HasFreeBlock};
-ghost use Rattle.hd_volume.specs.Calls.{IsCall};
-ghost use Rattle.hd_links.specs.Steps.{LeadsDown};
-ghost use Rattle.hd_links.specs.Changes.{CanReplace};
+ghost use Rattle.hd_volume.specs.Calls.{IsCall, IsRead};
+ghost use Rattle.hd_links.specs.Changes.{twin_behind, CanReplace};
 ghost use Rattle.hd_image.specs.Records.{links_of, IsVolumeOf};
 ghost use Rattle.hd_forest.specs.Walks.{HasForest};
-ghost use Rattle.hd_forest.specs.Updates.{MayLink, IsLinked, IsUnlinked, IsReplaced};
+ghost use Rattle.hd_forest.specs.Sets.{named, IsTwinPlace, IsRecorded};
+ghost use Rattle.hd_forest.specs.Updates.{MayLink, IsLinked, IsReplaced};
 
-use crate::path::Path;
+use crate::leaf::put_leaf;
+use crate::read::{code_at, first_child, next_twin};
+use crate::write::{set_following, set_preceding};
 use hd_dbd::{Dbd, Refused};
 use hd_volume::{BlockStore, Volume};
 
@@ -18,8 +22,16 @@ use hd_volume::{BlockStore, Volume};
 ///
 /// `Full` says that there is no block to spare and no hole of its size; `Memory` comes only where the volume would have to
 /// grow and no room is reserved.
-pub fn link<S: BlockStore>(volume: &mut Volume<S>, dbd: &Dbd, parent: u32, after: u32, code: u8, bytes: &[u8]) -> Result<u32, Refused>
+pub fn link<S: BlockStore>(
+    volume: &mut Volume<S>,
+    dbd: &Dbd,
+    parent: u32,
+    after: u32,
+    code: u8,
+    bytes: &[u8],
+) -> Result<u32, Refused>
     requires fits { row_fits dbd.now.types (record { code = code; bytes = bytes.now }) ≡ true }
+    requires sizes { volume.old.sizes ≡ stored_sizes dbd.now.types }
     requires of { IsTrue volume.old.is_sound → IsVolumeOf dbd.now volume.old }
     requires holds { IsTrue volume.old.is_sound → HasForest dbd.now volume.old }
     requires place { IsTrue volume.old.is_sound → MayLink dbd.now.types (links_of dbd.now.types volume.old) parent after (record { code = code; bytes = bytes.now }) }
@@ -33,26 +45,20 @@ pub fn link<S: BlockStore>(volume: &mut Volume<S>, dbd: &Dbd, parent: u32, after
     ensures refusal { IfErr result (λ e. (e ≡ Refused.Memory) ⊎ (e ≡ Refused.Full) ⊎ (e ≡ Refused.Device)) }
     ensures room { IsTrue volume.new.is_sound → volume.old.room ≤ volume.new.room + 1 }
 {
-    let _ = (volume, dbd, parent, after, code, bytes);
-    Ok(0)
-}
-
-/// Unlinks the last row of a path, and frees it and all below it, however many.
-pub fn unlink_span<S: BlockStore>(volume: &mut Volume<S>, dbd: &Dbd, path: &Path) -> Result<(), Refused>
-    requires of { IsTrue volume.old.is_sound → IsVolumeOf dbd.now volume.old }
-    requires holds { IsTrue volume.old.is_sound → HasForest dbd.now volume.old }
-    requires there { IsTrue volume.old.is_sound → (0 < length path.now) × LeadsDown dbd.now.types (links_of dbd.now.types volume.old) 0 path.now }
-    ensures call { IsCall volume.old result volume.new }
-    ensures unlinked { OnOk result (IsTrue volume.old.is_sound → IsUnlinked dbd.now volume.old path.now volume.new) }
-    ensures refusal { IfErr result (λ e. e ≡ Refused.Device) }
-    ensures room { volume.new.room ≡ volume.old.room }
-{
-    let _ = (volume, dbd, path);
-    Ok(())
+    let _ = dbd.types();
+    let behind = twin_behind(volume, dbd, parent, after, code)?;
+    let address = put_leaf(volume, dbd, after, behind, code, bytes)?;
+    name_leaf(volume, dbd, parent, after, behind, code, address)?;
+    Ok(address)
 }
 
 /// Replaces the bytes of a segment by others with the same key.
-pub fn replace<S: BlockStore>(volume: &mut Volume<S>, dbd: &Dbd, address: u32, bytes: &[u8]) -> Result<(), Refused>
+pub fn replace<S: BlockStore>(
+    volume: &mut Volume<S>,
+    dbd: &Dbd,
+    address: u32,
+    bytes: &[u8],
+) -> Result<(), Refused>
     requires of { IsTrue volume.old.is_sound → IsVolumeOf dbd.now volume.old }
     requires there { IsTrue volume.old.is_sound → CanReplace dbd.now.types (links_of dbd.now.types volume.old) address bytes.now }
     ensures call { IsCall volume.old result volume.new }
@@ -60,6 +66,59 @@ pub fn replace<S: BlockStore>(volume: &mut Volume<S>, dbd: &Dbd, address: u32, b
     ensures refusal { IfErr result (λ e. e ≡ Refused.Device) }
     ensures room { volume.new.room ≡ volume.old.room }
 {
-    let _ = (volume, dbd, address, bytes);
-    Ok(())
+    let code = code_at(volume, dbd, address)?;
+    volume.write_at(address, place_of_bytes(dbd, code), bytes)
+}
+
+/// The twin behind a twin, or the first child of a type where the twin is 0; 0 for none.
+fn twin_behind<S: BlockStore>(
+    volume: &mut Volume<S>,
+    dbd: &Dbd,
+    parent: u32,
+    twin: u32,
+    code: u8,
+) -> Result<u32, Refused>
+    requires of { IsTrue volume.old.is_sound → IsVolumeOf dbd.now volume.old }
+    requires there { IsTrue volume.old.is_sound → IsTwinPlace dbd.now.types (links_of dbd.now.types volume.old) parent code twin }
+    ensures read { IsRead volume.old result volume.new }
+    ensures value { IfOk result (λ r. IsTrue volume.old.is_sound → r ≡ twin_behind (links_of dbd.now.types volume.old) parent code twin) }
+    ensures refusal { IfErr result (λ e. e ≡ Refused.Device) }
+{
+    if twin == 0 {
+        first_child(volume, dbd, parent, code)
+    } else {
+        next_twin(volume, dbd, twin)
+    }
+}
+
+/// Names a new leaf between its twins: by the one before it and the one behind it, or by the parent where there is none.
+fn name_leaf<S: BlockStore>(
+    volume: &mut Volume<S>,
+    dbd: &Dbd,
+    parent: u32,
+    after: u32,
+    behind: u32,
+    code: u8,
+    address: u32,
+) -> Result<(), Refused>
+    requires of { IsTrue volume.old.is_sound → IsVolumeOf dbd.now volume.old }
+    requires before { IsTrue volume.old.is_sound → IsTwinPlace dbd.now.types (links_of dbd.now.types volume.old) parent code after }
+    requires behind { IsTrue volume.old.is_sound → IsTwinPlace dbd.now.types (links_of dbd.now.types volume.old) parent code behind }
+    ensures call { IsCall volume.old result volume.new }
+    ensures named { OnOk result (IsTrue volume.old.is_sound → IsRecorded dbd.now volume.old (named (links_of dbd.now.types volume.old) parent code after behind address) volume.new) }
+    ensures refusal { IfErr result (λ e. e ≡ Refused.Device) }
+    ensures room { volume.new.room ≡ volume.old.room }
+{
+    set_following(volume, dbd, parent, after, code, address)?;
+    set_preceding(volume, dbd, parent, behind, code, address)
+}
+
+/// Where the bytes of a type's segments begin: behind the prefix, and behind the code where there is no such type.
+fn place_of_bytes(dbd: &Dbd, code: u8) -> usize
+    ensures value { 0 < prefix_length dbd.now.types code → result ≡ prefix_length dbd.now.types code }
+    ensures some { 0 < result }
+    ensures fit { IsTrue (well_formed dbd.now.block_size dbd.now.frspc dbd.now.types) }
+{
+    let _ = dbd.types();
+    dbd.prefix_length(code).max(1) as usize
 }

@@ -2,13 +2,18 @@
 #![tactic(auto)]
 
 mod change;
+mod children;
 mod law;
+mod leaf;
 mod path;
 mod read;
+mod unlink;
 mod walk;
+mod write;
 
-pub use change::{link, replace, unlink_span};
+pub use change::{link, replace};
 pub use law::law_walking_gives_the_sequence;
 pub use path::Path;
 pub use read::{first_child, last_child, next_twin, parent_on, prev_twin};
+pub use unlink::unlink_span;
 pub use walk::{next_after_span, next_row};

@@ -1,4 +1,4 @@
-ghost use Rattle.std.specs.Prelude.{◌≡◌, ◌-◌, ◌≤◌, [], ◌∷◌, ◌++◌, length, take};
+ghost use Rattle.std.specs.Prelude.{◌≡◌, ◌-◌, ◌≤◌, ◌<◌, [], ◌∷◌, ◌++◌, length, take};
 
 use std::marker::Model;
 
@@ -56,5 +56,21 @@ impl Path {
         let kept = (level as usize).saturating_sub(1).min(self.count);
         self.addresses[kept] = address;
         self.count = kept + 1;
+    }
+
+    /// Goes down to a row below the last; at most 15 are kept.
+    pub fn push(&mut self, address: u32)
+        ensures { length self.old < 15 → self.new ≡ self.old ++ address ∷ [] }
+    {
+        let kept = self.count.min(MOST_LEVELS - 1);
+        self.addresses[kept] = address;
+        self.count = kept + 1;
+    }
+
+    /// Goes up to the row above the last.
+    pub fn up(&mut self)
+        ensures { self.new ≡ take (length self.old - 1) self.old }
+    {
+        self.count = self.count.saturating_sub(1);
     }
 }

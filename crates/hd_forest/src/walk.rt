@@ -1,14 +1,22 @@
-ghost use Rattle.std.specs.Prelude.{◌≡◌, length, IsTrue, IfErr, OnOk};
+ghost use Rattle.std.specs.Prelude.{◌≡◌, ◌<◌, true, length, IsTrue, IfOk, IfErr, OnOk};
 ghost use Rattle.hd_volume.specs.Calls.{IsRead};
+ghost use Rattle.hd_links.specs.Links.{IsSegment, child_types};
+ghost use Rattle.hd_links.specs.Steps.{first_some, child_among, later_than, behind_span, next_row};
 ghost use Rattle.hd_image.specs.Records.{links_of, IsVolumeOf};
-ghost use Rattle.hd_forest.specs.Walks.{AreSegments, HasForest, next_on, next_after_span_on};
+ghost use Rattle.hd_forest.specs.Walks.{AreSegments, HasForest, moved, next_on, next_after_span_on};
 
+use crate::children::{below, below_later};
 use crate::path::Path;
+use crate::read::{code_at, last_of, next_twin, tip_of};
 use hd_dbd::{Dbd, Refused};
 use hd_volume::{BlockStore, Volume};
 
 /// Goes from the last row of a path to the row behind it, and from no path to the first root; behind the last row is none.
-pub fn next_row<S: BlockStore>(volume: &mut Volume<S>, dbd: &Dbd, path: &mut Path) -> Result<(), Refused>
+pub fn next_row<S: BlockStore>(
+    volume: &mut Volume<S>,
+    dbd: &Dbd,
+    path: &mut Path,
+) -> Result<(), Refused>
     requires of { IsTrue volume.old.is_sound → IsVolumeOf dbd.now volume.old }
     requires holds { IsTrue volume.old.is_sound → HasForest dbd.now volume.old }
     requires there { IsTrue volume.old.is_sound → AreSegments (links_of dbd.now.types volume.old) path.old }
@@ -17,12 +25,17 @@ pub fn next_row<S: BlockStore>(volume: &mut Volume<S>, dbd: &Dbd, path: &mut Pat
     ensures kept { IfErr result (λ _. path.new ≡ path.old) }
     ensures refusal { IfErr result (λ e. e ≡ Refused.Device) }
 {
-    let _ = (volume, dbd, path);
-    Ok(())
+    let _ = dbd.types();
+    let address = next_address(volume, dbd, path)?;
+    step(volume, dbd, path, address)
 }
 
 /// Goes from the last row of a path to the row behind its span; behind the last there is none.
-pub fn next_after_span<S: BlockStore>(volume: &mut Volume<S>, dbd: &Dbd, path: &mut Path) -> Result<(), Refused>
+pub fn next_after_span<S: BlockStore>(
+    volume: &mut Volume<S>,
+    dbd: &Dbd,
+    path: &mut Path,
+) -> Result<(), Refused>
     requires of { IsTrue volume.old.is_sound → IsVolumeOf dbd.now volume.old }
     requires holds { IsTrue volume.old.is_sound → HasForest dbd.now volume.old }
     requires there { IsTrue volume.old.is_sound → AreSegments (links_of dbd.now.types volume.old) path.old }
@@ -31,6 +44,101 @@ pub fn next_after_span<S: BlockStore>(volume: &mut Volume<S>, dbd: &Dbd, path: &
     ensures kept { IfErr result (λ _. path.new ≡ path.old) }
     ensures refusal { IfErr result (λ e. e ≡ Refused.Device) }
 {
-    let _ = (volume, dbd, path);
+    let _ = dbd.types();
+    let address = behind(volume, dbd, path)?;
+    step(volume, dbd, path, address)
+}
+
+/// Goes to the row at an address just behind what a path leads to, or to none for the address 0.
+fn step<S: BlockStore>(
+    volume: &mut Volume<S>,
+    dbd: &Dbd,
+    path: &mut Path,
+    address: u32,
+) -> Result<(), Refused>
+    requires of { IsTrue volume.old.is_sound → IsVolumeOf dbd.now volume.old }
+    requires there { IsTrue volume.old.is_sound → 0 < address → IsSegment (links_of dbd.now.types volume.old) address }
+    ensures read { IsRead volume.old result volume.new }
+    ensures value { OnOk result (IsTrue volume.old.is_sound → path.new ≡ moved dbd.now.types (links_of dbd.now.types volume.old) path.old address) }
+    ensures kept { IfErr result (λ _. path.new ≡ path.old) }
+    ensures refusal { IfErr result (λ e. e ≡ Refused.Device) }
+{
+    if address == 0 {
+        path.clear();
+        return Ok(());
+    }
+    let code = code_at(volume, dbd, address)?;
+    path.step(dbd.level(code), address);
     Ok(())
+}
+
+/// The address of the row behind the last of a path, 0 for none: the first below it, or the one behind its span; of the
+/// first root where the path is empty.
+fn next_address<S: BlockStore>(
+    volume: &mut Volume<S>,
+    dbd: &Dbd,
+    path: &Path,
+) -> Result<u32, Refused>
+    requires of { IsTrue volume.old.is_sound → IsVolumeOf dbd.now volume.old }
+    requires there { IsTrue volume.old.is_sound → AreSegments (links_of dbd.now.types volume.old) path.now }
+    ensures read { IsRead volume.old result volume.new }
+    ensures value { IfOk result (λ r. IsTrue volume.old.is_sound → r ≡ next_row dbd.now.types (links_of dbd.now.types volume.old) path.now) }
+    ensures refusal { IfErr result (λ e. e ≡ Refused.Device) }
+{
+    let _ = dbd.types();
+    let last = tip_of(path);
+    if last == 0 {
+        return Ok(volume.first_root());
+    }
+    let child = below(volume, dbd, last)?;
+    if child != 0 {
+        return Ok(child);
+    }
+    behind(volume, dbd, path)
+}
+
+/// The address of the row behind the span of the last row of a path, 0 for none: from the last row upward the first that
+/// has something beside it.
+fn behind<S: BlockStore>(volume: &mut Volume<S>, dbd: &Dbd, path: &Path) -> Result<u32, Refused>
+    requires of { IsTrue volume.old.is_sound → IsVolumeOf dbd.now volume.old }
+    requires there { IsTrue volume.old.is_sound → AreSegments (links_of dbd.now.types volume.old) path.now }
+    ensures read { IsRead volume.old result volume.new }
+    ensures value { IfOk result (λ r. IsTrue volume.old.is_sound → r ≡ behind_span dbd.now.types (links_of dbd.now.types volume.old) path.now) }
+    ensures refusal { IfErr result (λ e. e ≡ Refused.Device) }
+{
+    let addresses = path.addresses();
+    let mut level = addresses.len();
+    while level > 0 {
+        level -= 1;
+        let parent = last_of(&addresses[..level]);
+        let address = beside(volume, dbd, parent, addresses[level])?;
+        if address != 0 {
+            return Ok(address);
+        }
+    }
+    Ok(0)
+}
+
+/// What stands behind a row as far as its twins and its parent tell, 0 for none: its next twin, or the first child of its
+/// parent of a later type.
+pub fn beside<S: BlockStore>(
+    volume: &mut Volume<S>,
+    dbd: &Dbd,
+    parent: u32,
+    address: u32,
+) -> Result<u32, Refused>
+    requires of { IsTrue volume.old.is_sound → IsVolumeOf dbd.now volume.old }
+    requires there { IsTrue volume.old.is_sound → IsSegment (links_of dbd.now.types volume.old) address }
+    requires above { IsTrue volume.old.is_sound → (links_of dbd.now.types volume.old).here parent ≡ true }
+    ensures read { IsRead volume.old result volume.new }
+    ensures value { IfOk result (λ r. IsTrue volume.old.is_sound → r ≡ first_some ((links_of dbd.now.types volume.old).forward address) (child_among (links_of dbd.now.types volume.old) parent (later_than ((links_of dbd.now.types volume.old).code address) (child_types dbd.now.types ((links_of dbd.now.types volume.old).code parent))))) }
+    ensures refusal { IfErr result (λ e. e ≡ Refused.Device) }
+{
+    let _ = dbd.types();
+    let twin = next_twin(volume, dbd, address)?;
+    if twin != 0 || parent == 0 {
+        return Ok(twin);
+    }
+    let code = code_at(volume, dbd, address)?;
+    below_later(volume, dbd, parent, code)
 }

@@ -3,3 +3,11 @@ pub mod Roots
 pub mod Found
 pub mod Writes
 pub mod Puts
+pub mod Empty
+pub mod Sorted
+pub mod RootEntries
+pub mod RightHolds
+pub mod PointerNoFault
+pub mod BlockNoFault
+pub mod IndexNoFault
+pub mod NoFault

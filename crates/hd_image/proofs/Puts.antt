@@ -1,19 +1,19 @@
 -- A segment that is put into a database's volume.
-use Rattle.std.proofs.Common.{◌≡◌, ◌≢◌, ℕ, ◌<◌, ◌/◌, List, [], Bool, true, false, not, ◌&&◌, ◌||◌, ◌==◌, cond, subst, inl, inr, refl, sym, ap, ap₂, ◌∙◌, Option, Some, None, arith, ne_eqb}
+use Rattle.std.proofs.Common.{◌≡◌, ◌≢◌, ℕ, ◌<◌, ◌/◌, List, [], Bool, true, false, not, ◌&&◌, ◌||◌, ◌==◌, subst, inl, inr, refl, sym, ap, ap₂, ◌∙◌, Option, Some, arith, ne_eqb}
 use Rattle.std.specs.Prelude.{is_some}
 use Rattle.std.specs.Option.{option_map_or}
 use Rattle.std.proofs.Math.Nat.{zero-div}
 use Rattle.std.proofs.lemmas.Bool.{cases_eq, eq-eqb, cond-true, cond-false, false≢true}
 use Rattle.hd_dbd.specs.Types.{SegmentType}
-use Rattle.hd_volume.specs.Headers.{Header, header_of}
+use Rattle.hd_volume.specs.Headers.{Header}
 use Rattle.hd_volume.specs.Volumes.{VolumeState}
 use Rattle.hd_volume.specs.Records.{find}
-use Rattle.hd_volume.specs.Calls.{IsPut, IsFreed}
+use Rattle.hd_volume.specs.Calls.{IsPut}
 use Rattle.hd_volume.proofs.MapLemmas.{find-some}
 use Rattle.hd_prefix.specs.declared.pointer.Pointer.{Pointer}
 use Rattle.hd_prefix.specs.declared.pointer.Pointer.TheVariants.{TwinForward, TwinBackward, FirstChild, LastChild}
 use Rattle.hd_prefix.specs.Fields.{code_of, delete_byte_of, pointer_of, bytes_of}
-use Rattle.hd_links.specs.Links.{Links, IsSegment}
+use Rattle.hd_links.specs.Links.{Links}
 use Rattle.hd_links.specs.Changes.{AgreeAt}
 use Rattle.hd_image.specs.Records.{stored_at, links_of}
 use Rattle.hd_image.specs.Pointing.{with_record, without_record}

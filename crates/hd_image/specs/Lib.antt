@@ -6,3 +6,5 @@ pub mod BlockFaults
 pub mod PointerFaults
 pub mod IndexFaults
 pub mod Standing
+pub mod Right
+pub mod Exact

@@ -1,4 +1,5 @@
 ghost use Rattle.hd_image.specs.Laws.{RecordsAreALinkGraph, RecordsStay, WritingSetsAPointer, SettingARootSetsAPointer, PuttingAddsARecord, FreeingTakesARecord, NewVolumesAreEmpty, WritingReplacesBytes, AVolumeHoldsOneForest};
+ghost use Rattle.hd_image.specs.Exact.{RightVolumesHoldAForest, HeldForestsHaveNoFault};
 
 /// The records of a database's volume are a link graph, whose addresses are places in its image.
 pub fn law_records_are_a_link_graph()
@@ -43,4 +44,14 @@ pub fn law_new_volumes_are_empty()
 /// A volume holds one forest of a database at most.
 pub fn law_a_volume_holds_one_forest()
     ensures { AVolumeHoldsOneForest }
+{}
+
+/// A volume with which nothing is wrong holds a forest.
+pub fn law_right_volumes_hold_a_forest()
+    ensures { RightVolumesHoldAForest }
+{}
+
+/// In a volume that holds a forest no fault stands.
+pub fn law_held_forests_have_no_fault()
+    ensures { HeldForestsHaveNoFault }
 {}

@@ -1,4 +1,4 @@
-//! The records of a volume as a link graph, and when a volume holds a forest.
+//! The records of a volume as a link graph, when a volume holds a forest, and what can be wrong with it.
 //!
 //! The definitions stand in this crate's `specs/`, the laws in `law`.
 #![tactic(auto)]
@@ -6,7 +6,8 @@
 mod law;
 
 pub use law::{
-    law_a_volume_holds_one_forest, law_freeing_takes_a_record, law_new_volumes_are_empty,
-    law_putting_adds_a_record, law_records_are_a_link_graph, law_records_stay,
-    law_setting_a_root_sets_a_pointer, law_writing_replaces_bytes, law_writing_sets_a_pointer,
+    law_a_volume_holds_one_forest, law_freeing_takes_a_record, law_held_forests_have_no_fault,
+    law_new_volumes_are_empty, law_putting_adds_a_record, law_records_are_a_link_graph,
+    law_records_stay, law_right_volumes_hold_a_forest, law_setting_a_root_sets_a_pointer,
+    law_writing_replaces_bytes, law_writing_sets_a_pointer,
 };

@@ -46,7 +46,7 @@ head-header b name size largest len =
     header-by (with_bytes b 0 (head_list name size largest)) _ name 1 size 1 largest 0 0 0 0 refl n.0 n.1 n.2 n.3 (eight-bytes name len) n.4 n.5 n.6 n.7
 
 -- a block by itself is an image of one block
-own-block : (size : ℕ) (b : List ℕ) → length b ≡ size → block_of size b 0 ≡ b
+pub own-block : (size : ℕ) (b : List ℕ) → length b ≡ size → block_of size b 0 ≡ b
 own-block size b len = (let z : 0 * size ≡ 0 = omega arith in let e : take size (drop (0 * size) b) ≡ take size b = rw z refl in e) ∙ take_all size b (omega arith)
 
 -- what is kept of the blocks says nothing of an image of one

@@ -12,3 +12,5 @@ pub mod LawLemmas
 pub mod CreateLemmas
 pub mod SpaceLemmas
 pub mod IndexLemmas
+pub mod KeyLemmas
+pub mod CallSteps

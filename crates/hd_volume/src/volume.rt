@@ -1,4 +1,4 @@
-ghost use Rattle.std.specs.Prelude.{◌≡◌, ◌+◌, ◌≤◌, ◌<◌, true, false, vec_len, IsTrue, length, min, slice_index, IfOk, IfErr, OnOk, Some};
+ghost use Rattle.std.specs.Prelude.{◌≡◌, ◌+◌, ◌%◌, ◌≤◌, ◌<◌, true, false, vec_len, IsTrue, length, min, slice_index, IfOk, IfErr, OnOk, Some};
 ghost use Rattle.hd_bytes.specs.Blocks.{block_of, HasBlock};
 ghost use Rattle.hd_dbd.specs.Facts.{stored_sizes};
 ghost use Rattle.hd_volume.specs.Stores.{CountsDevice, StaysSound, IsGivenBack};
@@ -158,6 +158,7 @@ impl<S: BlockStore> Volume<S> {
         ensures value { result ≡ self.now.size }
         ensures least { 128 ≤ result }
         ensures most { result ≤ 32768 }
+        ensures whole { result % 8 ≡ 0 }
     {
         self.blocks.block_size()
     }

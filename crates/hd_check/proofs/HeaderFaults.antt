@@ -1,0 +1,109 @@
+-- The least fault of the first phase is what is wrong with the header.
+use Rattle.std.proofs.Common.{◌≡◌, ◌≢◌, ◌⊎◌, inl, inr, ℕ, ◌+◌, ◌*◌, ◌<◌, ◌≤◌, List, length, refl, sym, ap, subst, ◌∙◌, arith}
+use Rattle.hd_bytes.specs.Blocks.{block_of, HasBlock}
+use Rattle.hd_bytes.proofs.BlockLemmas.{length-block}
+use Rattle.hd_dbd.specs.Hierarchy.{Database}
+use Rattle.hd_volume.specs.Headers.{Header, HasHeader, IsOf, header_of}
+use Rattle.hd_volume.specs.Volumes.{VolumeState, block_at}
+use Rattle.hd_volume.proofs.FrameLemmas.{header-same}
+use Rattle.hd_volume.proofs.CreateLemmas.{own-block}
+use Rattle.hd_image.specs.Standing.{Line, no_volume, no_version, another_database, wrong_chain, wrong_place, no_kind, deleted, points_nowhere, points_to_another, two_predecessors, no_predecessor, wrong_backward, wrong_last, out_of_order, not_reached, wrong_top, wrong_form, named_twice, unreached_block, entry_out_of_order, wrong_entry, no_entry, Stands, phase_of, number_of, ComesBefore}
+use Rattle.hd_check.specs.declared.fault.Fault.{Fault}
+use Rattle.hd_check.specs.Phases.{CountsImage, IsNamed, IsWrongHeader, IsHeaderRight, IsLeastOf}
+
+-- a line of the first phase
+first-lines : (P : Line → Type 0) → P no_volume → P no_version → P another_database → (k : Line) → phase_of k ≡ 1 → P k
+first-lines P a b c no_volume h = a
+first-lines P a b c no_version h = b
+first-lines P a b c another_database h = c
+first-lines P a b c wrong_chain h = absurd (omega arith)
+first-lines P a b c wrong_place h = absurd (omega arith)
+first-lines P a b c no_kind h = absurd (omega arith)
+first-lines P a b c deleted h = absurd (omega arith)
+first-lines P a b c points_nowhere h = absurd (omega arith)
+first-lines P a b c points_to_another h = absurd (omega arith)
+first-lines P a b c two_predecessors h = absurd (omega arith)
+first-lines P a b c no_predecessor h = absurd (omega arith)
+first-lines P a b c wrong_backward h = absurd (omega arith)
+first-lines P a b c wrong_last h = absurd (omega arith)
+first-lines P a b c out_of_order h = absurd (omega arith)
+first-lines P a b c not_reached h = absurd (omega arith)
+first-lines P a b c wrong_top h = absurd (omega arith)
+first-lines P a b c wrong_form h = absurd (omega arith)
+first-lines P a b c named_twice h = absurd (omega arith)
+first-lines P a b c unreached_block h = absurd (omega arith)
+first-lines P a b c entry_out_of_order h = absurd (omega arith)
+first-lines P a b c wrong_entry h = absurd (omega arith)
+first-lines P a b c no_entry h = absurd (omega arith)
+
+-- at one address of one phase the lesser number comes first
+lesser : (k l : Line) (a b : ℕ) → phase_of k ≡ phase_of l → (a < b → ⊥) → ComesBefore k a l b → number_of k a < number_of l b
+lesser k l a b same low (inl p) = absurd (omega arith)
+lesser k l a b same low (inr (p, inl less)) = absurd (low less)
+lesser k l a b same low (inr (p, inr both)) = both.1
+
+-- what comes before line l at address 0 has a lesser number
+before-zero : (d : Database) (v : VolumeState) (l : Line) → phase_of l ≡ 1 → (k : Line) (a o : ℕ) → phase_of k ≡ 1 → ComesBefore k a l 0 → number_of k a < number_of l 0
+before-zero d v l one k a o is before = lesser k l a 0 (is ∙ sym one) (λ e. omega arith) before
+
+pub wrong-first : (d : Database) (v : VolumeState) → (HasHeader d.block_size v.image → ⊥) → IsLeastOf d v 1 (record { number = 1; address = 0; other = 0 })
+wrong-first d v none = record {
+  line = no_volume;
+  of = refl;
+  number = refl;
+  stands = (none, refl, refl);
+  least = λ k a o is stands before.
+      (let less = before-zero d v no_volume refl k a o is before in
+      first-lines (λ x. number_of x a < 1 → ⊥) (λ n. omega arith) (λ n. omega arith) (λ n. omega arith) k is less);
+}
+
+wrong-second : (d : Database) (v : VolumeState) → HasHeader d.block_size v.image → (header_of v.image).version ≢ 1
+    → IsLeastOf d v 1 (record { number = 2; address = 0; other = (header_of v.image).version })
+wrong-second d v right other = record {
+  line = no_version;
+  of = refl;
+  number = refl;
+  stands = (other, refl, refl);
+  least = λ k a o is stands before.
+      (let less = before-zero d v no_version refl k a o is before in
+      first-lines (λ x. Stands d v x a o → number_of x a < 2 → ⊥) (λ s n. s.0 right) (λ s n. omega arith) (λ s n. omega arith) k is stands less);
+}
+
+wrong-third : (d : Database) (v : VolumeState) → HasHeader d.block_size v.image → (header_of v.image).version ≡ 1
+    → ((header_of v.image).name ≢ d.name) ⊎ ((header_of v.image).block_size ≢ d.block_size) → IsLeastOf d v 1 (record { number = 3; address = 0; other = 0 })
+wrong-third d v right known other = record {
+  line = another_database;
+  of = refl;
+  number = refl;
+  stands = (other, refl, refl);
+  least = λ k a o is stands before.
+      (let less = before-zero d v another_database refl k a o is before in
+      first-lines (λ x. Stands d v x a o → number_of x a < 3 → ⊥) (λ s n. s.0 right) (λ s n. s.0 known) (λ s n. omega arith) k is stands less);
+}
+
+module _ (d : Database) (v : VolumeState) (size : v.size ≡ d.block_size) (least : 128 ≤ v.size) (there : HasBlock v.size v.image 0) where
+  -- the header of block 0 alone is that of the image
+  pub head-is : header_of (block_at v 0) ≡ header_of v.image
+  head-is =
+      let len : length (block_at v 0) ≡ v.size = length-block v.size 0 v.image there in
+      header-same v.size (block_at v 0) v.image (omega arith) (omega arith) there (own-block v.size (block_at v 0) len)
+
+  whole-header : CountsImage v.size (length v.image) (header_of v.image) → HasHeader d.block_size v.image
+  whole-header c = subst (λ (s : ℕ). HasHeader s v.image) size (record { first = there; mark = c.mark; whole = c.whole; within = c.within; bound = c.bound })
+
+  counted : HasHeader d.block_size v.image → CountsImage v.size (length v.image) (header_of v.image)
+  counted h = (let x = subst (λ (s : ℕ). HasHeader s v.image) (sym size) h in record { mark = x.mark; whole = x.whole; within = x.within; bound = x.bound })
+
+  pub header-right : CountsImage v.size (length v.image) (header_of (block_at v 0)) × ((header_of (block_at v 0)).version ≡ 1) × IsNamed d (header_of (block_at v 0)) → IsHeaderRight d v
+  header-right h =
+      let P : Header → Type 0 = λ x. CountsImage v.size (length v.image) x × (x.version ≡ 1) × IsNamed d x in
+      let g = subst P head-is h in
+      record { header = whole-header g.0; known = record { version_is = g.1; name_is = g.2.0; size_is = g.2.1 } }
+
+  wrong-by : (f : Fault) → IsWrongHeader d v.size (length v.image) (header_of v.image) f → IsLeastOf d v 1 f
+  wrong-by f (inl w) = subst (IsLeastOf d v 1) (sym w.0) (wrong-first d v (λ h. w.1 (counted h)))
+  wrong-by f (inr (inl w)) = subst (IsLeastOf d v 1) (sym w.0) (wrong-second d v (whole-header w.1) w.2)
+  wrong-by f (inr (inr w)) = subst (IsLeastOf d v 1) (sym w.0) (wrong-third d v (whole-header w.1) w.2 w.3)
+
+  pub header-wrong : (f : Fault) → IsWrongHeader d v.size (length v.image) (header_of (block_at v 0)) f → IsLeastOf d v 1 f
+  header-wrong f w = wrong-by f (subst (λ (h : Header). IsWrongHeader d v.size (length v.image) h f) head-is w)

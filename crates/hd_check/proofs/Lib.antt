@@ -1,0 +1,4 @@
+pub mod ChainSteps
+pub mod Readings
+pub mod HeaderFaults
+pub mod BlockFaults

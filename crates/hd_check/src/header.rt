@@ -1,0 +1,77 @@
+ghost use Rattle.std.specs.Prelude.{◌≡◌, ◌≢◌, ◌≤◌, ◌⊎◌, length, true, false, IsTrue, IfOk, IfErr, IfNone, IfSome};
+ghost use Rattle.hd_volume.specs.Headers.{IsOf, header_of};
+ghost use Rattle.hd_volume.specs.Calls.{IsRead};
+ghost use Rattle.hd_check.specs.Phases.{CountsImage, IsNamed, IsWrongHeader, IsHeaderRight, IsLeastOf};
+
+use crate::fault::Fault;
+use hd_bytes::{read_u16, read_u32};
+use hd_dbd::{Dbd, Refused};
+use hd_volume::{BlockStore, Volume};
+
+/// The first eight bytes of a volume, `HDVOLUME`.
+const MARK: [u8; 8] = [72, 68, 86, 79, 76, 85, 77, 69];
+
+/// Whether a header counts an image of so many bytes, in blocks of a size.
+fn counts_image(head: &[u8], size: u64, image_length: u64) -> bool
+    requires { (44 ≤ length head.now) × (size ≤ 32768) }
+    ensures right { result ≡ true → CountsImage size image_length (header_of head.now) }
+    ensures wrong { result ≡ false → CountsImage size image_length (header_of head.now) → ⊥ }
+{
+    let count = read_u32(head, 12);
+    let largest = read_u32(head, 16);
+    &head[..8] == &MARK[..]
+        && u64::from(count) * size == image_length
+        && count <= largest
+        && largest <= 65536
+}
+
+/// Whether a header is of a database.
+fn is_of(head: &[u8], dbd: &Dbd) -> bool
+    requires { 44 ≤ length head.now }
+    ensures right { result ≡ true → IsNamed dbd.now (header_of head.now) }
+    ensures wrong { result ≡ false → ((header_of head.now).name ≢ dbd.now.name) ⊎ ((header_of head.now).block_size ≢ dbd.now.block_size) }
+{
+    &head[20..28] == &dbd.name().bytes()[..] && u32::from(read_u16(head, 10)) == dbd.block_size()
+}
+
+/// What is wrong with a header of an image of so many bytes.
+fn fault_of(head: &[u8], size: u64, image_length: u64, dbd: &Dbd) -> Option<Fault>
+    requires { size ≤ 32768 }
+    ensures none { 44 ≤ length head.now → IfNone result (CountsImage size image_length (header_of head.now) × ((header_of head.now).version ≡ 1) × IsNamed dbd.now (header_of head.now)) }
+    ensures some { 44 ≤ length head.now → IfSome result (λ f. IsWrongHeader dbd.now size image_length (header_of head.now) f) }
+{
+    if head.len() < 44 {
+        return None;
+    }
+    if !counts_image(head, size, image_length) {
+        return Some(Fault::at(1, 0, 0));
+    }
+    let version = read_u16(head, 8);
+    if version != 1 {
+        return Some(Fault::at(2, 0, u32::from(version)));
+    }
+    if !is_of(head, dbd) {
+        return Some(Fault::at(3, 0, 0));
+    }
+    None
+}
+
+/// What is wrong with a volume's header.
+pub fn header_fault<S: BlockStore>(
+    volume: &mut Volume<S>,
+    dbd: &Dbd,
+) -> Result<Option<Fault>, Refused>
+    requires size { volume.old.size ≡ dbd.now.block_size }
+    ensures read { IsRead volume.old result volume.new }
+    ensures none { IfOk result (λ o. IsTrue volume.old.is_sound → IfNone o (IsHeaderRight dbd.now volume.old)) }
+    ensures some { IfOk result (λ o. IsTrue volume.old.is_sound → IfSome o (λ f. IsLeastOf dbd.now volume.old 1 f)) }
+    ensures refusal { IfErr result (λ e. e ≡ Refused.Device) }
+{
+    let size = volume.block_size() as u64;
+    let image_length = volume.length();
+    if image_length < size {
+        return Ok(Some(Fault::at(1, 0, 0)));
+    }
+    let head = volume.block(0)?;
+    Ok(fault_of(head, size, image_length, dbd))
+}

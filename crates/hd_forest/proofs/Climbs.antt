@@ -1,0 +1,106 @@
+-- The climb along a path.
+use Rattle.std.proofs.Common.{◌≡◌, ◌≢◌, ℕ, zero, suc, ◌+◌, ◌-◌, ◌<◌, ◌≤◌, List, [], ◌∷◌, ◌++◌, length, take, slice_index, true, cond, refl, sym, ap, ap₂, subst, ◌∙◌, arith, ne_eqb, inl, inr}
+use Rattle.std.specs.Prelude.{◌==◌, nat_lt}
+use Rattle.std.proofs.lemmas.List.{take_more}
+use Rattle.std.proofs.lemmas.Bool.{cond-false, le-ltb, eq-eqb, cond-true}
+use Rattle.hd_dbd.specs.Types.{SegmentType}
+use Rattle.hd_links.specs.Links.{Links, IsSegment, IsLinkGraph, child_types, is_child_type}
+use Rattle.hd_links.specs.Pointers.{PointersAreTyped}
+use Rattle.hd_links.specs.Steps.{tip_from, first_some, child_among, later_than, behind_child, behind_from, behind_span}
+use Rattle.hd_links.proofs.Types.{types_ascend, is_in, in_head, in_tail}
+use Rattle.hd_links.proofs.Build.{zero_or}
+use Rattle.hd_links.proofs.Ways.{some_zero, some_own, some_both, behind_end, later_in}
+use Rattle.hd_forest.specs.Walks.{tip, AreSegments}
+
+-- ---- what stands beside a row
+
+-- what stands behind the row a below h, as far as its twins and h tell
+abbrev pub beside_of : List SegmentType → Links → ℕ → ℕ → ℕ
+beside_of types m h a = first_some (m.forward a) (child_among m h (later_than (m.code a) (child_types types (m.code h))))
+
+-- the header has no later child type than the roots'
+pub none-later : (types : List SegmentType) (m : Links) (h a : ℕ) → h ≡ 0 → m.code 0 ≡ 0 → 0 < m.code a → beside_of types m h a ≡ m.forward a
+none-later types m h a e header some =
+    let kinds : child_types types (m.code h) ≡ 1 ∷ [] = ap (λ x. child_types types (m.code x)) e ∙ cond-true (m.code 0 == 0) _ _ (eq-eqb (m.code 0) 0 header) ∙ refl in
+    let late : later_than (m.code a) (1 ∷ []) ≡ [] = cond-false (nat_lt (m.code a) 1) (1 ∷ []) [] (le-ltb (m.code a) 1 (omega arith)) in
+    ap (λ (x : List ℕ). first_some (m.forward a) (child_among m h (later_than (m.code a) x))) kinds
+    ∙ ap (λ (x : List ℕ). first_some (m.forward a) (child_among m h x)) late
+    ∙ elim (zero_or (m.forward a)) [ inl z ↦ some_zero (m.forward a) 0 z ∙ sym z | inr p ↦ some_own (m.forward a) 0 p ]
+
+-- ---- up the path
+
+take-one-more : (xs : List ℕ) (k : ℕ) → k < length xs → take (k + 1) xs ≡ take k xs ++ slice_index xs k ∷ []
+take-one-more xs k l = take_more xs k 0 l
+
+-- the span of the last of so many rows is followed by what is beside it, or by what follows the span of the one above it
+pub up : (types : List SegmentType) (m : Links) (path : List ℕ) (k : ℕ) → k < length path
+    → behind_span types m (take (k + 1) path) ≡ first_some (beside_of types m (tip (take k path)) (slice_index path k)) (behind_span types m (take k path))
+up types m path k l =
+    let a : ℕ = slice_index path k in
+    let h : ℕ = tip (take k path) in
+    ap (behind_span types m) (take-one-more path k l)
+    ∙ behind_end types m 0 0 (take k path) a
+    ∙ some_both (m.forward a) (child_among m h (later_than (m.code a) (child_types types (m.code h)))) (behind_span types m (take k path))
+
+-- ---- rows of the path, and where it goes, are segments
+
+pub on-path : (m : Links) (path : List ℕ) (k : ℕ) → AreSegments m path → k < length path → IsSegment m (slice_index path k)
+on-path m [] k s l = absurd (omega arith)
+on-path m (a ∷ path) zero s l = s.0
+on-path m (a ∷ path) (suc k) s l = on-path m path k s.1 (omega arith)
+
+tip-here : (m : Links) (h : ℕ) (path : List ℕ) → m.here h ≡ true → AreSegments m path → m.here (tip_from h path) ≡ true
+tip-here m h [] here s = here
+tip-here m h (a ∷ path) here s = tip-here m a path s.0.here s.1
+
+take-segments : (m : Links) (k : ℕ) (path : List ℕ) → AreSegments m path → AreSegments m (take k path)
+take-segments m zero path s = tt
+take-segments m (suc k) [] s = tt
+take-segments m (suc k) (a ∷ path) s = (s.0, take-segments m k path s.1)
+
+pub above-here : (m : Links) (path : List ℕ) (k : ℕ) → m.here 0 ≡ true → AreSegments m path → m.here (tip (take k path)) ≡ true
+above-here m path k header s = tip-here m 0 (take k path) header (take-segments m k path s)
+
+-- the last of a path has an address
+pub tip-some : (m : Links) (h : ℕ) (path : List ℕ) → AreSegments m path → 0 < length path → IsSegment m (tip_from h path)
+tip-some m h [] s l = absurd (omega arith)
+tip-some m h (a ∷ []) s l = s.0
+tip-some m h (a ∷ (b ∷ path)) s l = tip-some m a (b ∷ path) s.1 (omega arith)
+
+-- an address that is 0 or a segment's
+abbrev pub MayBe : Links → ℕ → Type 0
+MayBe m a = 0 < a → IsSegment m a
+
+some-may : (m : Links) (x y : ℕ) → MayBe m x → MayBe m y → MayBe m (first_some x y)
+some-may m x y p q = elim (zero_or x) [
+  | inl z ↦ subst (MayBe m) (sym (some_zero x y z)) q
+  | inr s ↦ subst (MayBe m) (sym (some_own x y s)) p
+]
+
+among-may : (types : List SegmentType) (m : Links) → PointersAreTyped types m → (h : ℕ) (ts : List ℕ) → m.here h ≡ true → ((t : ℕ) → is_in ts t ≡ true → is_child_type types (m.code h) t ≡ true)
+    → MayBe m (child_among m h ts)
+among-may types m typed h [] here all = λ l. absurd (omega arith)
+among-may types m typed h (t ∷ ts) here all = some-may m (m.first_child h t) (child_among m h ts)
+    (λ l. record { some = l; here = (typed.first h t here (all t (in_head t t ts refl)) l).0 })
+    (among-may types m typed h ts here (λ u q. all u (in_tail t u ts q)))
+
+pub below-may : (types : List SegmentType) (m : Links) → PointersAreTyped types m → (h : ℕ) → m.here h ≡ true → MayBe m (child_among m h (child_types types (m.code h)))
+below-may types m typed h here = among-may types m typed h (child_types types (m.code h)) here (λ t q. q)
+
+behind-may : (types : List SegmentType) (m : Links) → PointersAreTyped types m → (h rest : ℕ) (path : List ℕ) → m.here h ≡ true → MayBe m rest → AreSegments m path
+    → MayBe m (behind_from types m h rest path)
+behind-may types m typed h rest [] here r s = r
+behind-may types m typed h rest (a ∷ path) here r s = behind-may types m typed a (behind_child types m h rest a) path s.0.here
+    (some-may m (m.forward a) (first_some (child_among m h (later_than (m.code a) (child_types types (m.code h)))) rest)
+    (λ l. record { some = l; here = (typed.forward a s.0 l).0 })
+    (some-may m (child_among m h (later_than (m.code a) (child_types types (m.code h)))) rest
+    (among-may types m typed h (later_than (m.code a) (child_types types (m.code h))) here (λ t q. (later_in (m.code a) (child_types types (m.code h)) (types_ascend types (m.code h)) t q).1)) r))
+    s.1
+
+pub span-may : (types : List SegmentType) (m : Links) → PointersAreTyped types m → m.here 0 ≡ true → (path : List ℕ) → AreSegments m path → MayBe m (behind_span types m path)
+span-may types m typed header path s = behind-may types m typed 0 0 path header (λ l. absurd (omega arith)) s
+
+pub next-may : (types : List SegmentType) (m : Links) → PointersAreTyped types m → m.here 0 ≡ true → (path : List ℕ) → AreSegments m path
+    → MayBe m (first_some (child_among m (tip path) (child_types types (m.code (tip path)))) (behind_span types m path))
+next-may types m typed header path s = some-may m (child_among m (tip path) (child_types types (m.code (tip path)))) (behind_span types m path)
+    (below-may types m typed (tip path) (tip-here m 0 path header s)) (span-may types m typed header path s)

@@ -1,0 +1,35 @@
+-- The first children that a segment of the records names.
+use Rattle.std.proofs.Common.{◌≡◌, ◌≢◌, ℕ, ◌<◌, List, [], ◌∷◌, length, refl, sym, ap, ap₂, ◌∙◌, arith, ne_eqb}
+use Rattle.std.specs.Prelude.{◌==◌}
+use Rattle.std.proofs.lemmas.Bool.{cond-false}
+use Rattle.hd_dbd.specs.Types.{SegmentType}
+use Rattle.hd_dbd.specs.Hierarchy.{Database}
+use Rattle.hd_dbd.specs.Prefixes.{children_of}
+use Rattle.hd_volume.specs.Headers.{header_of}
+use Rattle.hd_volume.specs.Volumes.{VolumeState}
+use Rattle.hd_prefix.specs.declared.pointer.Pointer.TheVariants.{FirstChild}
+use Rattle.hd_prefix.specs.Fields.{code_of, pointer_of}
+use Rattle.hd_links.specs.Links.{Links, IsSegment, IsLinkGraph, child_types}
+use Rattle.hd_links.specs.Steps.{first_some, child_among}
+use Rattle.hd_links.proofs.Types.{Ordered, ordered}
+use Rattle.hd_links.proofs.Counts.{segment_code}
+use Rattle.hd_image.specs.Records.{links_of, stored_at, pointer_at, IsVolumeOf}
+use Rattle.hd_image.specs.Laws.{IsDatabase}
+use Rattle.hd_image.proofs.Found.{records-link}
+use Rattle.hd_forest.specs.Children.{child_in}
+
+-- those of the records are those that the stored segment names
+pub child-stored : (types : List SegmentType) (v : VolumeState) (a : ℕ) (s ts : List ℕ) → a ≢ 0 → stored_at v a ≡ s → child_among (links_of types v) a ts ≡ child_in types s ts
+child-stored types v a s [] ne is = refl
+child-stored types v a s (t ∷ ts) ne is =
+    ap₂ first_some
+    (cond-false (a == 0) (header_of v.image).first_root (pointer_at types v (FirstChild t) a) (ne_eqb a 0 ne) ∙ ap (λ x. pointer_of types (code_of x) (FirstChild t) x) is)
+    (child-stored types v a s ts ne is)
+
+-- a segment's child types are those of its code
+pub types-stored : (d : Database) (v : VolumeState) (a : ℕ) (s : List ℕ) → IsDatabase d → IsVolumeOf d v → IsSegment (links_of d.types v) a → stored_at v a ≡ s
+    → child_types d.types ((links_of d.types v).code a) ≡ children_of d.types (code_of s)
+types-stored d v a s fit of there is =
+    let m : Links = links_of d.types v in
+    let some : 0 < m.code a = segment_code d.types (ordered d.block_size d.frspc d.types fit) (length v.image) m (records-link d v fit of) a there in
+    cond-false (m.code a == 0) (1 ∷ []) (children_of d.types (m.code a)) (ne_eqb (m.code a) 0 (λ (e : m.code a ≡ 0). omega arith)) ∙ ap (λ x. children_of d.types (code_of x)) is

@@ -1,0 +1,90 @@
+-- What is read of a volume's records, and what reading leaves of them.
+use Rattle.std.proofs.Common.{◌≡◌, ◌≢◌, ℕ, ◌<◌, ◌≤◌, IsTrue, List, length, Result, Ok, Some, Bool, true, ◌||◌, ◌==◌, refl, sym, ap, subst, ◌∙◌, arith, inl, inr}
+use Rattle.std.specs.Prelude.{is_some}
+use Rattle.hd_bytes.specs.Blocks.{HasBlock}
+use Rattle.hd_dbd.specs.declared.answer.Refused.{Refused}
+use Rattle.hd_dbd.specs.Types.{SegmentType}
+use Rattle.hd_dbd.specs.Hierarchy.{Database}
+use Rattle.hd_dbd.specs.Prefixes.{stored_size}
+use Rattle.hd_dbd.specs.Forest.{Forest}
+use Rattle.hd_volume.specs.Volumes.{VolumeState}
+use Rattle.hd_volume.specs.Records.{find}
+use Rattle.hd_volume.specs.Calls.{IsRead, HasSegment}
+use Rattle.hd_volume.proofs.JoinLemmas.{one-formatted}
+use Rattle.hd_prefix.specs.Fields.{code_of}
+use Rattle.hd_links.specs.Links.{Links, IsSegment}
+use Rattle.hd_links.specs.Placed.{Placed, Holds}
+use Rattle.hd_image.specs.Records.{links_of, IsVolumeOf, stored_at}
+use Rattle.hd_image.specs.Laws.{IsDatabase}
+use Rattle.hd_image.proofs.Found.{segment-found, stored-found}
+use Rattle.hd_forest.specs.Walks.{HasForest}
+
+-- ---- one image
+
+pub links-same : (types : List SegmentType) (u v : VolumeState) → v.image ≡ u.image → v.size ≡ u.size → v.sizes ≡ u.sizes → links_of types v ≡ links_of types u
+links-same types u v image size sizes = λ i. links_of types (record v { image = image i; size = size i; sizes = sizes i })
+
+pub volume-same : (d : Database) (u v : VolumeState) → v.image ≡ u.image → v.size ≡ u.size → v.sizes ≡ u.sizes → IsVolumeOf d u → IsVolumeOf d v
+volume-same d u v image size sizes of = record {
+  formatted = one-formatted (record { same = record { size = size; sizes = sizes }; image = image }) of.formatted;
+  size = size ∙ of.size;
+  sizes = sizes ∙ of.sizes;
+}
+
+pub forest-same : (d : Database) (u v : VolumeState) → links_of d.types v ≡ links_of d.types u → HasForest d u → HasForest d v
+forest-same d u v e h = (h.0, subst (λ m. Holds d.types m h.0) (sym e) h.1)
+
+-- What reading leaves, while the store is sound.
+pub record IsSame (d : Database) (u v : VolumeState) : Type 0 where
+  pub sound : IsTrue v.is_sound
+  pub links : links_of d.types v ≡ links_of d.types u
+  pub volume : IsVolumeOf d u → IsVolumeOf d v
+  pub forest : HasForest d u → HasForest d v
+  pub image : v.image ≡ u.image
+
+pub after-read : {A : Type 0} {x : A} (d : Database) (u v : VolumeState) → IsRead {T = A} u (Ok x) v → IsTrue u.is_sound → IsSame d u v
+after-read d u v r s =
+    let now : IsTrue v.is_sound = rw r.call.sound s in
+    let links = links-same d.types u v (r.image now) r.call.size r.call.sizes in
+    record {
+      sound = now;
+      links = links;
+      volume = volume-same d u v (r.image now) r.call.size r.call.sizes;
+      forest = forest-same d u v links;
+      image = r.image now;
+    }
+
+-- ---- one segment
+
+-- a segment is found
+pub has-segment : (d : Database) (v : VolumeState) (a : ℕ) → IsDatabase d → IsVolumeOf d v → IsSegment (links_of d.types v) a → HasSegment v a 0
+has-segment d v a fit of s = (let h = segment-found d v a fit of s in record { bytes = h.bytes; is = h.is; long = omega arith })
+
+-- What is found at a segment's address is stored there, as long as its type's segments are.
+pub record IsLent (types : List SegmentType) (v : VolumeState) (a : ℕ) (s : List ℕ) : Type 0 where
+  pub stored : stored_at v a ≡ s
+  pub long : stored_size types (code_of s) ≤ length s
+
+some-eq : {A : Type 0} (x y : A) → Some x ≡ Some y → x ≡ y
+some-eq x y e = cc
+
+pub lent : (d : Database) (v : VolumeState) (a : ℕ) (s : List ℕ) → IsDatabase d → IsVolumeOf d v → IsSegment (links_of d.types v) a → find v a ≡ Some s → IsLent d.types v a s
+lent d v a s fit of there is =
+    let h = segment-found d v a fit of there in
+    let same : h.bytes ≡ s = some-eq h.bytes s (sym h.is ∙ is) in
+    let size : length h.bytes ≡ stored_size d.types (code_of h.bytes) = h.size in
+    record {
+      stored = stored-found d v a h ∙ same;
+      long = subst (λ x. stored_size d.types (code_of x) ≤ length x) same (omega arith);
+    }
+
+-- a store that is sound after a call that read was so before
+pub sound-before : {A : Type 0} {x : A} (u v : VolumeState) → IsRead {T = A} u (Ok x) v → IsTrue v.is_sound → IsTrue u.is_sound
+sound-before u v r s = rw (← r.call.sound) s
+
+-- what was known of the volume and of its records is known after a call that read
+pub volume-kept : {A : Type 0} {x : A} (d : Database) (u v : VolumeState) → IsRead {T = A} u (Ok x) v → (IsTrue u.is_sound → IsVolumeOf d u) → IsTrue v.is_sound → IsVolumeOf d v
+volume-kept d u v r of now = (let sound = sound-before u v r now in (after-read d u v r sound).volume (of sound))
+
+pub links-kept : {A : Type 0} {x : A} (d : Database) (P : Links → Type 0) (u v : VolumeState) → IsRead {T = A} u (Ok x) v → (IsTrue u.is_sound → P (links_of d.types u)) → IsTrue v.is_sound → P (links_of d.types v)
+links-kept d P u v r of now = (let sound = sound-before u v r now in subst P (sym (after-read d u v r sound).links) (of sound))

@@ -1,0 +1,23 @@
+use Rattle.std.proofs.Common.{◌≡◌, ◌≢◌, ℕ, ◌<◌, List, sym, ap, ap₂, ◌∙◌, arith}
+use Rattle.hd_dbd.specs.Prefixes.{children_of}
+use Rattle.hd_prefix.specs.Fields.{code_of}
+use Rattle.hd_links.specs.Links.{Links}
+use Rattle.hd_links.specs.Steps.{child_among}
+use Rattle.hd_image.specs.Records.{links_of}
+use Rattle.hd_forest.specs.Children.{child_in}
+use Rattle.hd_forest.proofs.Reading.{lent}
+use Rattle.hd_forest.proofs.FirstChildren.{child-stored, types-stored}
+use Rattle.hd_forest.proofs.children.below.Goals as goal
+
+pub returns-clause-value : goal.returns-clause-value
+returns-clause-value g c sound =
+    let d = c.args.dbd.now in
+    let v = c.args.volume.now in
+    let a : ℕ = c.args.address in
+    let s = c.in_ok-segment.segment.now in
+    let there = c.requires.there sound in
+    let l = lent d v a s c.types.ensures.fit (c.requires.of sound) there (c.in_ok-segment.ensures.value sound) in
+    let ne : a ≢ 0 = λ e. (let some : 0 < a = there.some in omega arith) in
+    c.child_in.ensures l.long
+    ∙ ap (child_in d.types s) (c.children_of-types.ensures ∙ ap (children_of d.types) c.code_in.ensures ∙ sym (types-stored d v a s c.types.ensures.fit (c.requires.of sound) there l.stored))
+    ∙ sym (child-stored d.types v a s _ ne l.stored)

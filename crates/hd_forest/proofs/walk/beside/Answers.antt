@@ -1,0 +1,62 @@
+use Rattle.std.proofs.Common.{◌≡◌, ◌≢◌, ℕ, ◌<◌, List, IsTrue, Ok, true, length, sym, ap, subst, ◌∙◌, refl, arith, inl, inr}
+use Rattle.hd_links.specs.Links.{Links, IsSegment, child_types}
+use Rattle.hd_links.specs.Steps.{first_some, child_among, later_than}
+use Rattle.hd_links.proofs.Build.{zero_or}
+use Rattle.hd_links.proofs.Counts.{segment_code}
+use Rattle.hd_links.proofs.Types.{ordered}
+use Rattle.hd_links.proofs.Ways.{some_zero, some_own}
+use Rattle.hd_image.specs.Records.{links_of}
+use Rattle.hd_image.proofs.Found.{records-link}
+use Rattle.hd_forest.proofs.Calls.{reads-join, if-ok}
+use Rattle.hd_forest.proofs.Reading.{after-read, volume-kept, links-kept}
+use Rattle.hd_forest.proofs.Climbs.{beside_of, none-later}
+use Rattle.hd_forest.proofs.walk.beside.Goals as goal
+use Rattle.hd_forest.proofs.walk.beside.Goals.{then-twin-ne0-via-then-twin-ne0, then-twin-ne0-via-else-twin-ne0+then-parent-eq0}
+
+pub returns-then-twin-ne0-clause-value : goal.returns-then-twin-ne0-clause-value
+returns-then-twin-ne0-clause-value g c sound =
+    let d = c.args.dbd.now in
+    let u = c.args.volume.now in
+    let m : Links = links_of d.types u in
+    let a : ℕ = c.args.address in
+    let h : ℕ = c.args.parent in
+    let twin : c.in_ok-twin.twin ≡ m.forward a = c.in_ok-twin.ensures.value sound in
+    elim c.then-twin-ne0.branch [
+      | then-twin-ne0-via-then-twin-ne0 w ↦
+          (let ne : c.in_ok-twin.twin ≢ 0 = λ e. (let f = w.if-twin-ne0.true in f e) in
+          let some : 0 < m.forward a = subst (λ x. 0 < x) twin (elim (zero_or c.in_ok-twin.twin) [ inl z ↦ absurd (ne z) | inr p ↦ p ]) in
+          twin ∙ sym (some_own (m.forward a) (child_among m h (later_than (m.code a) (child_types d.types (m.code h)))) some))
+      | then-twin-ne0-via-else-twin-ne0+then-parent-eq0 w ↦
+          (let G = records-link d u c.types.ensures.fit (c.requires.of sound) in
+          let O = ordered d.block_size d.frspc d.types c.types.ensures.fit in
+          twin ∙ sym (none-later d.types m h a w.if-parent-eq0.true G.header_code (segment_code d.types O (length u.image) m G a (c.requires.there sound))))
+    ]
+
+pub code_at-requires-clause-of : goal.code_at-requires-clause-of
+code_at-requires-clause-of g c = volume-kept c.args.dbd.now c.args.volume.now c.next_twin.new.volume c.in_ok-twin.ensures.read c.requires.of
+
+pub below_later-requires-clause-of : goal.below_later-requires-clause-of
+below_later-requires-clause-of g c =
+    volume-kept c.args.dbd.now c.args.volume.now c.code_at.new.volume (reads-join (Ok c.in_ok-code.code) c.in_ok-twin.ensures.read c.in_ok-code.ensures.read) c.requires.of
+
+pub returns-clause-read : goal.returns-clause-read
+returns-clause-read g c = reads-join c.below_later.result (reads-join (Ok c.in_ok-code.code) c.in_ok-twin.ensures.read c.in_ok-code.ensures.read) c.below_later.ensures.read
+
+pub returns-clause-value : goal.returns-clause-value
+returns-clause-value g c = if-ok c.below_later.result c.below_later.ensures.value
+    (λ r value sound.
+    let d = c.args.dbd.now in
+    let u = c.args.volume.now in
+    let m : Links = links_of d.types u in
+    let a : ℕ = c.args.address in
+    let h : ℕ = c.args.parent in
+    let both = reads-join (Ok c.in_ok-code.code) c.in_ok-twin.ensures.read c.in_ok-code.ensures.read in
+    let one = after-read d u c.next_twin.new.volume c.in_ok-twin.ensures.read sound in
+    let two = after-read d u c.code_at.new.volume both sound in
+    let code : c.in_ok-code.code ≡ m.code a = c.in_ok-code.ensures.value one.sound ∙ ap (λ (k : Links). k.code a) one.links in
+    let none : m.forward a ≡ 0 = sym (c.in_ok-twin.ensures.value sound) ∙ c.if-twin-ne0.false in
+    let rest : ℕ = child_among m h (later_than (m.code a) (child_types d.types (m.code h))) in
+    value two.sound
+    ∙ ap (λ (k : Links). child_among k h (later_than c.in_ok-code.code (child_types d.types (k.code h)))) two.links
+    ∙ ap (λ (x : ℕ). child_among m h (later_than x (child_types d.types (m.code h)))) code
+    ∙ sym (some_zero (m.forward a) rest none))

@@ -1,0 +1,71 @@
+ghost use Rattle.std.specs.Prelude.{◌≡◌, ◌≤◌, length, IsTrue, IfOk, IfErr};
+ghost use Rattle.hd_dbd.specs.Prefixes.{stored_size, children_of};
+ghost use Rattle.hd_volume.specs.Calls.{IsRead};
+ghost use Rattle.hd_prefix.specs.Fields.{code_of};
+ghost use Rattle.hd_links.specs.Links.{IsSegment, child_types};
+ghost use Rattle.hd_links.specs.Steps.{child_among, later_than};
+ghost use Rattle.hd_image.specs.Records.{links_of, IsVolumeOf};
+ghost use Rattle.hd_forest.specs.Children.{child_in};
+
+use crate::read::{code_in, pointer_in};
+use hd_dbd::{Dbd, Refused};
+use hd_prefix::Pointer;
+use hd_volume::{BlockStore, Volume};
+
+/// The types that come behind a type, of some types in order.
+fn later_than(code: u8, types: &[u8]) -> &[u8]
+    ensures { result.now ≡ later_than code types.now }
+{
+    for (place, later) in types.iter().enumerate() {
+        if code < *later {
+            return &types[place..];
+        }
+    }
+    &[]
+}
+
+/// The first child that a lent segment names, of some types in order, 0 for none.
+fn child_in(dbd: &Dbd, segment: &[u8], types: &[u8]) -> u32
+    ensures { stored_size dbd.now.types (code_of segment.now) ≤ length segment.now → result ≡ child_in dbd.now.types segment.now types.now }
+{
+    for code in types {
+        let child = pointer_in(dbd, segment, Pointer::FirstChild(*code));
+        if child != 0 {
+            return child;
+        }
+    }
+    0
+}
+
+/// The first row below a segment, 0 for none.
+pub fn below<S: BlockStore>(volume: &mut Volume<S>, dbd: &Dbd, address: u32) -> Result<u32, Refused>
+    requires of { IsTrue volume.old.is_sound → IsVolumeOf dbd.now volume.old }
+    requires there { IsTrue volume.old.is_sound → IsSegment (links_of dbd.now.types volume.old) address }
+    ensures read { IsRead volume.old result volume.new }
+    ensures value { IfOk result (λ r. IsTrue volume.old.is_sound → r ≡ child_among (links_of dbd.now.types volume.old) address (child_types dbd.now.types ((links_of dbd.now.types volume.old).code address))) }
+    ensures refusal { IfErr result (λ e. e ≡ Refused.Device) }
+{
+    let _ = dbd.types();
+    let segment = volume.segment_at(address)?;
+    let types = dbd.children_of(code_in(segment));
+    Ok(child_in(dbd, segment, types))
+}
+
+/// The first row below a segment of a type behind a type, 0 for none.
+pub fn below_later<S: BlockStore>(
+    volume: &mut Volume<S>,
+    dbd: &Dbd,
+    address: u32,
+    code: u8,
+) -> Result<u32, Refused>
+    requires of { IsTrue volume.old.is_sound → IsVolumeOf dbd.now volume.old }
+    requires there { IsTrue volume.old.is_sound → IsSegment (links_of dbd.now.types volume.old) address }
+    ensures read { IsRead volume.old result volume.new }
+    ensures value { IfOk result (λ r. IsTrue volume.old.is_sound → r ≡ child_among (links_of dbd.now.types volume.old) address (later_than code (child_types dbd.now.types ((links_of dbd.now.types volume.old).code address)))) }
+    ensures refusal { IfErr result (λ e. e ≡ Refused.Device) }
+{
+    let _ = dbd.types();
+    let segment = volume.segment_at(address)?;
+    let types = later_than(code, dbd.children_of(code_in(segment)));
+    Ok(child_in(dbd, segment, types))
+}

@@ -1,0 +1,118 @@
+-- In a volume that holds a forest no fault stands.
+use Rattle.std.proofs.Common.{◌≡◌, ◌≢◌, ◌⊎◌, inl, inr, ℕ, ◌<◌, List, [], ◌∷◌, length, Bool, true, false, None, refl, sym, ap, subst, ◌∙◌, arith, ne_eqb}
+use Rattle.std.specs.Prelude.{◌==◌, ◌&&◌, not, bytes_eq}
+use Rattle.std.specs.List.{list_all, list_any}
+use Rattle.std.proofs.lemmas.Bool.{and_from, cases_eq, eq-eqb, or_left, or_right, false≢true}
+use Rattle.std.proofs.lemmas.Slice.Eq.{bytes_eq-Decides}
+use Rattle.hd_dbd.specs.Hierarchy.{Database}
+use Rattle.hd_dbd.specs.Rows.{key_of}
+use Rattle.hd_dbd.specs.Forest.{Forest}
+use Rattle.hd_volume.specs.Headers.{HasHeader}
+use Rattle.hd_volume.specs.Volumes.{VolumeState}
+use Rattle.hd_volume.specs.Entries.{Entry, entry_blocks, entries_of, entries}
+use Rattle.hd_volume.specs.Indexes.{root_key_length}
+use Rattle.hd_links.specs.Links.{Links, IsSegment, IsLinkGraph, segment_at}
+use Rattle.hd_links.specs.Placed.{Placed, nowhere}
+use Rattle.hd_links.specs.Pointers.{AreLinked}
+use Rattle.hd_links.proofs.Types.{Ordered, ordered}
+use Rattle.hd_links.proofs.Forms.{Formed, formed}
+use Rattle.hd_links.proofs.Sound.{are_linked}
+use Rattle.hd_image.specs.Records.{links_of}
+use Rattle.hd_image.specs.Holding.{root_entries, HoldsPlaced}
+use Rattle.hd_image.specs.Laws.{IsDatabase}
+use Rattle.hd_image.specs.BlockFaults.{IsNoVolume, IsOfAnother, IsOfNoKind}
+use Rattle.hd_image.specs.IndexFaults.{names_a_root, HasWrongEntry, HasNoEntry}
+use Rattle.hd_image.specs.Standing.{Line, no_volume, no_version, another_database, wrong_chain, wrong_place, no_kind, deleted, points_nowhere, points_to_another, two_predecessors, no_predecessor, wrong_backward, wrong_last, out_of_order, not_reached, wrong_top, wrong_form, named_twice, unreached_block, entry_out_of_order, wrong_entry, no_entry, Stands}
+use Rattle.hd_image.specs.Exact.{HeldForestsHaveNoFault}
+use Rattle.hd_image.proofs.Found.{records-link}
+use Rattle.hd_image.proofs.Sorted.{IsIn}
+use Rattle.hd_image.proofs.RootEntries.{names-root, each-root}
+use Rattle.hd_image.proofs.BlockNoFault.{none-wrong-chain, none-wrong-place}
+use Rattle.hd_image.proofs.PointerNoFault as pointer
+use Rattle.hd_image.proofs.IndexNoFault as index
+
+-- what is true of each of some entries is true of all
+all-of-each : (test : Entry → Bool) (es : List Entry) → ((e : Entry) → IsIn e es → test e ≡ true) → list_all test es ≡ true
+all-of-each test [] h = refl
+all-of-each test (e ∷ es) h = and_from _ _ (h e (inl refl)) (all-of-each test es (λ x i. h x (inr i)))
+
+-- one of the entries has its address
+any-of : (a : ℕ) (e : Entry) (es : List Entry) → e.address ≡ a → IsIn e es → list_any (λ x. x.address == a) es ≡ true
+any-of a e [] at i = absurd i
+any-of a e (x ∷ xs) at (inl is) = or_left _ _ (eq-eqb x.address a (sym (ap (λ (y : Entry). y.address) is) ∙ at))
+any-of a e (x ∷ xs) at (inr i) = or_right _ _ (any-of a e xs at i)
+
+module _ (d : Database) (v : VolumeState) (f : Forest Placed) (fit : IsDatabase d) (h : HoldsPlaced d v f) where
+  abbrev m : Links
+  m = links_of d.types v
+
+  graph : IsLinkGraph d.types (length v.image) m
+  graph = records-link d v fit h.volume
+
+  order : Ordered d.types
+  order = ordered d.block_size d.frspc d.types fit
+
+  linked : AreLinked d.types m
+  linked = are_linked d.types order (length v.image) m graph f h.records
+
+  shape : Formed d.types 0 f
+  shape = formed d.types order 0 None f h.records.fits
+
+  none-header : (a x : ℕ) → IsNoVolume d v a x → ⊥
+  none-header a x n = n.0 (subst (λ (size : ℕ). HasHeader size v.image) h.volume.size h.volume.formatted.header)
+
+  none-other : (a x : ℕ) → IsOfAnother d v a x → ⊥
+  none-other a x n = elim n.0 [ inl e ↦ e h.name | inr e ↦ e h.block_size ]
+
+  none-kind : (a x : ℕ) → IsOfNoKind v a x → ⊥
+  none-kind a x n = elim (h.kinds n.0 n.1 n.2) [
+    | inl k ↦ n.3 k.kind_is
+    | inr (inl k) ↦ n.4 k.kind_is
+    | inr (inr k) ↦ n.5 k.kind_is
+  ]
+
+  -- each entry names a root of its key
+  names-all : list_all (λ e. names_a_root d m e) (entries (root_key_length d.types) v) ≡ true
+  names-all = ap (list_all (λ e. names_a_root d m e)) h.entries ∙ all-of-each (λ e. names_a_root d m e) (root_entries d.types f)
+      (λ e i.
+      let n = names-root d.block_size d.frspc d.types order (length v.image) m graph fit nowhere f e h.records.lies.nodes shape i in
+      let some : not (e.address == 0) ≡ true = (let s = n.0.some in ap not (ne_eqb e.address 0 (λ z. omega arith))) in
+      and_from _ _ (and_from _ _ (and_from _ _ some n.0.here) (eq-eqb (m.code e.address) 1 n.1)) ((bytes_eq-Decides _ _).1 n.2))
+
+  none-wrong-entry : (a x : ℕ) → HasWrongEntry d v a x → ⊥
+  none-wrong-entry a x w = index.none-found (λ e. names_a_root d m e) (root_key_length d.types) v (entry_blocks v) w.0 x names-all w.1 w.2
+
+  none-without : (a x : ℕ) → HasNoEntry d v a x → ⊥
+  none-without a x n =
+      let once = h.records.once a n.0 in
+      let entry = each-root d.block_size d.frspc d.types order (length v.image) m graph fit a nowhere f h.records.lies.nodes shape (omega arith) n.1 in
+      let found : list_any (λ e. e.address == a) (entries (root_key_length d.types) v) ≡ true =
+      ap (list_any (λ (e : Entry). e.address == a)) h.entries ∙ any-of a (record { key = key_of d.types (segment_at m a); address = a }) (root_entries d.types f) refl entry in
+      false≢true (sym n.2 ∙ found)
+
+  none : (line : Line) (a x : ℕ) → Stands d v line a x → ⊥
+  none no_volume a x s = none-header a x s
+  none no_version a x s = s.0 h.index.version
+  none another_database a x s = none-other a x s
+  none wrong_chain a x s = none-wrong-chain v a x h.volume.formatted.divided s
+  none wrong_place a x s = none-wrong-place v a x h.volume.formatted.divided s
+  none no_kind a x s = none-kind a x s
+  none deleted a x s = pointer.none-deleted d.types (length v.image) m graph linked a x s
+  none points_nowhere a x s = pointer.none-nowhere d.types (length v.image) m graph linked a x s
+  none points_to_another a x s = pointer.none-another d.types (length v.image) m graph linked a x s
+  none two_predecessors a x s = pointer.none-twice d.types (length v.image) m graph linked a x s
+  none no_predecessor a x s = pointer.none-without d.types (length v.image) m graph linked a x s
+  none wrong_backward a x s = pointer.none-backward d.types (length v.image) m graph linked a x s
+  none wrong_last a x s = pointer.none-last d.types (length v.image) m graph linked a x s
+  none out_of_order a x s = pointer.none-order d.types (length v.image) m graph linked a x s
+  none not_reached a x s = pointer.none-unreached d.types (length v.image) m graph linked a x s
+  none wrong_top a x s = index.none-wrong-top (root_key_length d.types) v h.index a x s
+  none wrong_form a x s = index.none-wrong-form (root_key_length d.types) v h.index a x s
+  none named_twice a x s = index.none-twice (root_key_length d.types) v h.index a x s
+  none unreached_block a x s = index.none-unreached (root_key_length d.types) v h.index a x s
+  none entry_out_of_order a x s = index.none-out-of-order (root_key_length d.types) v h.index a x s
+  none wrong_entry a x s = none-wrong-entry a x s
+  none no_entry a x s = none-without a x s
+
+pub no-fault : HeldForestsHaveNoFault
+no-fault d v f line a x fit h s = none d v f fit h line a x s
