@@ -7,7 +7,7 @@ use Rattle.hd_bytes.specs.Ranges.{bytes_at}
 use Rattle.hd_volume.specs.Entries.{Entry, entries_at}
 use Rattle.hd_volume.specs.Indexes.{key_less, is_below_first, keys_ascend}
 use Rattle.hd_index.specs.Counts.{below_count}
-use Rattle.hd_index.proofs.MapLemmas.{less-trans}
+use Rattle.hd_volume.proofs.KeyLemmas.{less-trans}
 
 -- a block has so many entries
 pub length-entries : (k : ℕ) (b : List ℕ) (p n : ℕ) → length (entries_at k b p n) ≡ n

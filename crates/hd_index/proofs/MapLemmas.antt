@@ -8,31 +8,29 @@ use Rattle.std.proofs.lemmas.Bool.{and_parts, cases_Bool, cases_lt}
 use Rattle.std.proofs.lemmas.Map.Text.{is_eq-slice_cmp}
 use Rattle.hd_volume.specs.Entries.{Entry}
 use Rattle.hd_volume.specs.Indexes.{key_less, is_below_first, keys_ascend}
+use Rattle.hd_volume.proofs.KeyLemmas.{less-trans, less-not}
 use Rattle.hd_index.specs.Maps.{address_of, address_from, with_entry, without_key}
 use Rattle.hd_index.specs.Counts.{below_count}
 
 -- ---- the order of keys
 
-less-is : (o : Ordering) → is_lt o ≡ true → o ≡ Less
-less-is Less h = refl
-less-is Equal h = cc
-less-is Greater h = cc
-
--- a key below one that is below a third is below that
-pub less-trans : (x y z : List ℕ) → key_less x y ≡ true → key_less y z ≡ true → key_less x z ≡ true
-less-trans x y z h k = ap is_lt (nat_list_cmp_total.trans x y z (less-is _ h) (less-is _ k))
-
--- of two keys one alone is the lesser
-pub less-not : (x y : List ℕ) → key_less x y ≡ true → key_less y x ≡ false
-less-not x y h = ap is_lt (nat_list_cmp_total.antisymm y x) ∙ ap (λ (o : Ordering). is_lt (ordering_reverse o)) (less-is _ h)
-
 -- a lesser key is no equal one
 pub less-other : (x y : List ℕ) → key_less x y ≡ true → bytes_eq x y ≡ false
-less-other x y h = sym (is_eq-slice_cmp x y) ∙ ap is_eq (less-is _ h)
+less-other x y h = sym (is_eq-slice_cmp x y) ∙ by-test (slice_cmp nat_cmp x y) h
+  where
+    by-test : (o : Ordering) → is_lt o ≡ true → is_eq o ≡ false
+    by-test Less e = refl
+    by-test Equal e = cc
+    by-test Greater e = refl
 
 -- nor is a greater one
 pub greater-other : (x y : List ℕ) → key_less y x ≡ true → bytes_eq x y ≡ false
-greater-other x y h = sym (is_eq-slice_cmp x y) ∙ ap is_eq (nat_list_cmp_total.antisymm x y ∙ ap ordering_reverse (less-is _ h))
+greater-other x y h = sym (is_eq-slice_cmp x y) ∙ ap is_eq (nat_list_cmp_total.antisymm x y) ∙ by-test (slice_cmp nat_cmp y x) h
+  where
+    by-test : (o : Ordering) → is_lt o ≡ true → is_eq (ordering_reverse o) ≡ false
+    by-test Less e = refl
+    by-test Equal e = cc
+    by-test Greater e = cc
 
 by-order : (o : Ordering) → is_lt o ≡ false → is_eq o ≡ false → is_lt (ordering_reverse o) ≡ true
 by-order Less h k = cc

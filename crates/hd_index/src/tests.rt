@@ -67,6 +67,7 @@ fn enter<S: BlockStore>(
     address: u32,
 ) -> Result<bool, Refused>
     requires index { IsTrue volume.old.is_sound → IsIndexOf dbd.now volume.old }
+    requires size { volume.old.size ≡ dbd.now.block_size }
     requires whole { length key.now ≡ root_key_length dbd.now.types }
     ensures index { OnOk result (IsTrue volume.new.is_sound → IsIndexOf dbd.now volume.new) }
 {

@@ -3,7 +3,7 @@ use Rattle.hd_bytes.specs.Ranges.{bytes_at, with_bytes}
 use Rattle.hd_volume.specs.Volumes.{block_at}
 use Rattle.hd_volume.proofs.JoinLemmas.{calls-join}
 use Rattle.hd_index.specs.Edits.{HasNewBytes}
-use Rattle.hd_index.proofs.CallLemmas.{call-ok, call-none}
+use Rattle.hd_volume.proofs.CallSteps.{call-ok, call-none}
 use Rattle.hd_index.proofs.EditLemmas.{move-step, move-none}
 use Rattle.hd_index.proofs.bytes.move_up.Goals as goal
 

@@ -6,7 +6,7 @@ use Rattle.hd_volume.specs.Indexes.{HasIndex, keys_ascend}
 use Rattle.hd_index.specs.declared.entries.Seen.{Seen}
 use Rattle.hd_index.specs.declared.place.Place.{Place}
 use Rattle.hd_index.specs.Places.{seen_in, place_from, place_of}
-use Rattle.hd_index.proofs.CallLemmas.{reads-join, read-ok, read-none}
+use Rattle.hd_volume.proofs.CallSteps.{reads-join, read-ok, read-none}
 use Rattle.hd_index.proofs.ChainLemmas.{IsLeft, left-block, left-next, place-step, place-end, entry-block-same, seen-same, index-left}
 use Rattle.hd_index.proofs.place.seek.Goals as goal
 
