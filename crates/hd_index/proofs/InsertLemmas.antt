@@ -161,7 +161,7 @@ module _ {v w : VolumeState} {h : Header} (same : AreSame v w) (n : HasNewHeader
 
 -- ---- the first block
 
-no-chain : (v : VolumeState) (more : ℕ) → chain_from v more 0 ≡ []
+pub no-chain : (v : VolumeState) (more : ℕ) → chain_from v more 0 ≡ []
 no-chain v zero = refl
 no-chain v (suc more) = refl
 

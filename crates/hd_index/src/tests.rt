@@ -51,6 +51,7 @@ fn new_volume<S: BlockStore + Drop>(
     requires size { S.size store ≡ dbd.now.block_size }
     requires empty { IsTrue (S.is_sound store) → S.contents store ≡ [] }
     requires bounds { (0 < largest) × (largest ≤ 65536) }
+    ensures size { IfSome result (λ v. v.size ≡ dbd.now.block_size) }
     ensures index { IfSome result (λ v. IsTrue v.is_sound → IsIndexOf dbd.now v) }
 {
     match Volume::create(alloc, store, dbd, largest) {
@@ -59,7 +60,7 @@ fn new_volume<S: BlockStore + Drop>(
     }
 }
 
-/// Enters a key, unless it is there.
+/// Enters a key, unless it is there, once there is room.
 fn enter<S: BlockStore>(
     volume: &mut Volume<S>,
     dbd: &Dbd,
@@ -70,7 +71,9 @@ fn enter<S: BlockStore>(
     requires size { volume.old.size ≡ dbd.now.block_size }
     requires whole { length key.now ≡ root_key_length dbd.now.types }
     ensures index { OnOk result (IsTrue volume.new.is_sound → IsIndexOf dbd.now volume.new) }
+    ensures size { volume.new.size ≡ volume.old.size }
 {
+    volume.reserve(1)?;
     if find(volume, dbd, key)?.is_some() {
         return Ok(false);
     }
@@ -87,6 +90,34 @@ fn key_of(n: u32) -> [u8; 3] {
     ]
 }
 
+/// Takes out the key of a number, if it is to go.
+fn leave<S: BlockStore>(
+    volume: &mut Volume<S>,
+    dbd: &Dbd,
+    n: u32,
+    goes: bool,
+) -> Result<(), Refused>
+    requires index { IsTrue volume.old.is_sound → IsIndexOf dbd.now volume.old }
+    ensures index { OnOk result (IsTrue volume.new.is_sound → IsIndexOf dbd.now volume.new) }
+    ensures size { volume.new.size ≡ volume.old.size }
+{
+    if !goes {
+        return Ok(());
+    }
+    remove(volume, dbd, &key_of(n))?;
+    Ok(())
+}
+
+/// The address of the least key.
+fn least<S: BlockStore>(volume: &mut Volume<S>, dbd: &Dbd) -> Result<Option<u32>, Refused>
+    requires index { IsTrue volume.old.is_sound → IsIndexOf dbd.now volume.old }
+    ensures index { OnOk result (IsTrue volume.new.is_sound → IsIndexOf dbd.now volume.new) }
+    ensures size { volume.new.size ≡ volume.old.size }
+{
+    let found = next_from(volume, dbd, &[])?;
+    Ok(found)
+}
+
 /// Enters so many keys in an order, takes some out between, and compares the index with a map. A refusal gives `None`.
 fn agrees<S: BlockStore>(
     alloc: Global,
@@ -95,6 +126,7 @@ fn agrees<S: BlockStore>(
     count: u32,
     step: u32,
 ) -> Option<bool>
+    requires size { volume.old.size ≡ dbd.now.block_size }
     requires index { IsTrue volume.old.is_sound → IsIndexOf dbd.now volume.old }
     requires three { root_key_length dbd.now.types ≡ 3 }
     requires some { 0 < count }
@@ -106,11 +138,11 @@ fn agrees<S: BlockStore>(
         let n = i * step % count;
         enter(volume, dbd, &key_of(n), n + 1).ok()?;
         map.insert(n, n + 1).ok()?;
+        let gone = i / 2 * step % count;
         if i % 3 == 2 {
-            let gone = i / 2 * step % count;
-            remove(volume, dbd, &key_of(gone)).ok()?;
             map.remove(&gone);
         }
+        leave(volume, dbd, gone, i % 3 == 2).ok()?;
     }
     for n in 0..count {
         let next = map.range(n..).next().map(|(_, address)| *address);
@@ -155,13 +187,14 @@ fn walks_hundreds_of_blocks(rt: HostRuntime) -> Result<(), Fail> {
 
 /// The blocks of a volume after so many ascending keys. A refusal gives `None`.
 fn ascending<S: BlockStore>(volume: &mut Volume<S>, dbd: &Dbd, count: u32) -> Option<u32>
+    requires size { volume.old.size ≡ dbd.now.block_size }
     requires index { IsTrue volume.old.is_sound → IsIndexOf dbd.now volume.old }
     requires three { root_key_length dbd.now.types ≡ 3 }
     requires small { count < 65536 }
+    ensures size { volume.new.size ≡ volume.old.size }
     ensures index { OnSome result (IsTrue volume.new.is_sound → IsIndexOf dbd.now volume.new) }
 {
     for n in 0..count {
-        volume.reserve(1).ok()?;
         enter(volume, dbd, &key_of(n), n + 1).ok()?;
     }
     Some(volume.block_count())
@@ -184,18 +217,19 @@ fn fills_its_blocks_with_ascending_keys(rt: HostRuntime) -> Result<(), Fail> {
 
 /// What an index of 17 keys finds from its first key on: after 16 were taken out, and after the last; then after a new one.
 fn emptied<S: BlockStore>(volume: &mut Volume<S>, dbd: &Dbd) -> Option<[Option<u32>; 3]>
+    requires size { volume.old.size ≡ dbd.now.block_size }
     requires index { IsTrue volume.old.is_sound → IsIndexOf dbd.now volume.old }
     requires three { root_key_length dbd.now.types ≡ 3 }
 {
     ascending(volume, dbd, 17)?;
     for n in 0..16 {
-        remove(volume, dbd, &key_of(n)).ok()?;
+        leave(volume, dbd, n, true).ok()?;
     }
-    let first = next_from(volume, dbd, &key_of(0)).ok()?;
-    remove(volume, dbd, &key_of(16)).ok()?;
-    let second = next_from(volume, dbd, &key_of(0)).ok()?;
+    let first = least(volume, dbd).ok()?;
+    leave(volume, dbd, 16, true).ok()?;
+    let second = least(volume, dbd).ok()?;
     ascending(volume, dbd, 1)?;
-    let third = next_from(volume, dbd, &key_of(0)).ok()?;
+    let third = least(volume, dbd).ok()?;
     Some([first, second, third])
 }
 
@@ -209,25 +243,24 @@ fn keeps_an_emptied_block(rt: HostRuntime) -> Result<(), Fail> {
     Ok(())
 }
 
-/// Enters 20 keys of 255 bytes that differ in their last, and says how many are found.
-fn long_keys<S: BlockStore>(volume: &mut Volume<S>, dbd: &Dbd) -> Option<u32>
+/// Enters 20 keys of 255 bytes that differ in their last, and says whether all are found.
+fn long_keys<S: BlockStore>(volume: &mut Volume<S>, dbd: &Dbd) -> Option<bool>
+    requires size { volume.old.size ≡ dbd.now.block_size }
     requires index { IsTrue volume.old.is_sound → IsIndexOf dbd.now volume.old }
     requires long { root_key_length dbd.now.types ≡ 255 }
-    ensures few { IfSome result (λ found. found ≤ 20) }
 {
     let mut key = [7; 255];
     for n in 0..20u8 {
         key[254] = n * 7 % 20;
         enter(volume, dbd, &key, u32::from(n)).ok()?;
     }
-    let mut found = 0;
     for n in 0..20u8 {
         key[254] = n * 7 % 20;
-        if find(volume, dbd, &key).ok()? == Some(u32::from(n)) {
-            found += 1;
+        if find(volume, dbd, &key).ok()? != Some(u32::from(n)) {
+            return Some(false);
         }
     }
-    Some(found)
+    Some(true)
 }
 
 #[test]
@@ -235,7 +268,7 @@ fn keeps_three_long_keys_in_a_block(rt: HostRuntime) -> Result<(), Fail> {
     let dbd = database(rt.alloc(), 792, 255).expect(&rt, "a database");
     let store = MemStore::new(792, Vec::new(rt.alloc()));
     let mut volume = new_volume(rt.alloc(), store, &dbd, 65536).expect(&rt, "a volume");
-    assert_eq!(rt; long_keys(&mut volume, &dbd), Some(20));
+    assert_eq!(rt; long_keys(&mut volume, &dbd), Some(true));
     assert!(rt; volume.block_count() > 7, "{} blocks", volume.block_count());
     Ok(())
 }
@@ -291,10 +324,9 @@ fn refused_access(alloc: Global, dbd: &Dbd, passes: u64) -> Result<(), Refused>
         return Err(Refused::Device);
     };
     for n in 0..40 {
-        volume.reserve(1)?;
         enter(&mut volume, dbd, &key_of(40 - n), n)?;
     }
-    remove(&mut volume, dbd, &key_of(7))?;
+    leave(&mut volume, dbd, 7, true)?;
     volume.flush()
 }
 
@@ -302,12 +334,12 @@ fn refused_access(alloc: Global, dbd: &Dbd, passes: u64) -> Result<(), Refused>
 fn says_device_of_each_refused_access(rt: HostRuntime) -> Result<(), Fail> {
     let dbd = database(rt.alloc(), 128, 3).expect(&rt, "a database");
     let mut refused = 0;
-    for passes in 0..2000 {
+    for passes in 0..2000u64 {
         match refused_access(rt.alloc(), &dbd, passes) {
             Ok(()) => break,
             Err(e) => assert_eq!(rt; e, Refused::Device, "after {passes} accesses"),
         }
-        refused += 1;
+        refused = passes + 1;
     }
     assert!(rt; refused > 20 && refused < 2000, "{refused} refused");
     Ok(())
