@@ -1,10 +1,10 @@
 -- The entries of a block whose bytes have changed.
-use Rattle.std.proofs.Common.{◌≡◌, ◌≢◌, ◌⊎◌, inl, inr, ℕ, zero, suc, ◌+◌, ◌-◌, ◌*◌, ◌<◌, ◌≤◌, List, [], ◌∷◌, ◌++◌, length, take, drop, slice_index, get_or, refl, sym, ap, ◌∙◌, arith, subst}
+use Rattle.std.proofs.Common.{◌≡◌, ◌⊎◌, inl, inr, ℕ, zero, suc, ◌+◌, ◌-◌, ◌*◌, ◌<◌, ◌≤◌, List, [], ◌∷◌, ◌++◌, length, take, drop, slice_index, refl, sym, ap, ◌∙◌, arith, subst}
 use Rattle.std.proofs.lemmas.Grind.{common_steps}
-use Rattle.std.proofs.lemmas.List.{take-append-drop, append_assoc, drop-drop, take_at, drop_at, take-take, drop-take, length-take, length-take-le}
+use Rattle.std.proofs.lemmas.List.{drop-drop, take_at, drop_at, take-take, drop-take}
 use Rattle.hd_bytes.specs.Numbers.{number_at}
-use Rattle.hd_bytes.specs.Ranges.{bytes_at, with_bytes, ChangesOnly}
-use Rattle.hd_bytes.proofs.BlockLemmas.{length-bytes_at, byte-at, agree-bytes_at, agree-changed, bytes-with}
+use Rattle.hd_bytes.specs.Ranges.{bytes_at, with_bytes}
+use Rattle.hd_bytes.proofs.BlockLemmas.{length-bytes_at, agree-bytes_at, agree-changed, bytes-with}
 use Rattle.hd_bytes.proofs.NumberLemmas.{big_from-drop, number-same, changes-with, number-below, number-above}
 use Rattle.hd_volume.specs.Entries.{Entry, entries_at}
 use Rattle.hd_bytes.specs.Blocks.{HasBlock}
@@ -18,10 +18,6 @@ use Rattle.hd_index.proofs.BlockLemmas.{entry_of, length-entries}
 -- ---- parts of a block's bytes
 
 -- a number behind the first bytes
-number-drop : (n p : ℕ) (b : List ℕ) → number_at n (drop p b) 0 ≡ number_at n b p
-unfolding number_at
-number-drop n p b = big_from-drop n 0 p b ∙ ap (λ (i : ℕ). number_at n b i) (let e : p + 0 ≡ p = omega arith in e)
-
 number-drop-at : (n p i : ℕ) (b : List ℕ) → number_at n (drop p b) i ≡ number_at n b (p + i)
 unfolding number_at
 number-drop-at n p i b = big_from-drop n i p b
@@ -235,11 +231,6 @@ entries-taken k b i c low fits =
     ∙ ap (λ (es : List Entry). take i (entries_at k b 12 c) ++ es) (rear ∙ sym behind)
 
 -- ---- the edits of blocks
-
--- what a block of entries is, by its bytes
-pub own-bytes : (k : ℕ) (v : VolumeState) (n : ℕ) → IsEntryBlock k v n → 12 + number_at 2 (block_at v n) 4 * (k + 4) ≤ v.size
-    → AreBytes k (block_at v n) (number_at 2 (block_at v n) 4) (entries_in k (block_at v n)) (number_at 4 (block_at v n) 8)
-own-bytes k v n h fits = record { level = h.level; count = refl; entries = refl; next_is = refl; fits = (let l = length-at v n h.is.there in omega arith) }
 
 -- a block with new bytes bears their entries
 pub bears-by : (k : ℕ) (u w : VolumeState) (n : ℕ) (b : List ℕ) (c : ℕ) (es : List Entry) (next : ℕ) → HasNewBytes u n b w → AreBytes k b c es next → c ≤ entry_room k u.size → HasNewEntries k u n es next w

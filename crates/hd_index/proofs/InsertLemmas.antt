@@ -1,27 +1,25 @@
 -- What an entry more makes of an index: in a block with room, in a divided block, in the first block.
 use Rattle.std.specs.Prelude.{bytes_eq}
-use Rattle.std.proofs.Common.{◌≡◌, ◌≢◌, ◌⊎◌, inl, inr, ℕ, zero, suc, ◌+◌, ◌-◌, ◌*◌, ◌<◌, ◌≤◌, Bool, true, false, cond, List, [], ◌∷◌, ◌++◌, length, take, drop, Some, None, refl, sym, ap, ◌∙◌, arith, subst}
-use Rattle.std.proofs.lemmas.Bool.{cases_eq}
-use Rattle.std.proofs.lemmas.List.{append_assoc, append-nil, take-append-drop, take-take, drop-append-le, length-take-le, length-drop, take_at}
+use Rattle.std.proofs.Common.{◌≡◌, ◌⊎◌, inl, inr, ℕ, zero, suc, ◌+◌, ◌-◌, ◌*◌, ◌<◌, ◌≤◌, Bool, true, false, cond, List, [], ◌∷◌, ◌++◌, length, take, drop, Some, None, refl, sym, ap, ◌∙◌, arith, subst}
+use Rattle.std.proofs.lemmas.List.{append_assoc, append-nil, take-append-drop, take-take, drop-append-le, length-take-le, length-drop}
 use Rattle.std.proofs.Math.Seq.{take-append-add, drop-append-add}
 use Rattle.hd_bytes.specs.Numbers.{number_at}
 use Rattle.hd_bytes.specs.Blocks.{block_of, HasBlock}
-use Rattle.hd_volume.specs.Headers.{Header, header_of, HasHeader}
+use Rattle.hd_volume.specs.Headers.{Header, header_of}
 use Rattle.hd_volume.specs.Volumes.{VolumeState, block_at, kind_of, IsKind, IsFormatted, HasKinds}
-use Rattle.hd_volume.specs.Rooms.{spare, free_blocks, HasFreeBlock}
+use Rattle.hd_volume.specs.Rooms.{free_blocks, HasFreeBlock}
 use Rattle.hd_volume.proofs.KindLemmas.{none-free}
 use Rattle.hd_volume.specs.Calls.{HasNewHeader, IsTakenBlock}
 use Rattle.hd_volume.specs.Entries.{Entry, entries_in, entries_of, chain_from, entry_blocks, entries}
-use Rattle.hd_volume.specs.Indexes.{keys_ascend, index_growth, IsEntryBlock, IsChain, IsAmong, HasIndex}
+use Rattle.hd_volume.specs.Indexes.{keys_ascend, index_growth, IsChain, IsAmong, HasIndex}
 use Rattle.hd_volume.proofs.FrameLemmas.{AreSame}
 use Rattle.hd_index.specs.declared.place.Place.{Place}
 use Rattle.hd_index.specs.declared.place.Spot.{Spot}
 use Rattle.hd_index.specs.Maps.{address_of, with_entry}
 use Rattle.hd_index.specs.Counts.{below_count}
 use Rattle.hd_index.specs.Changes.{IsIndexChange}
-use Rattle.hd_index.specs.Edits.{IsEdit, Bears, HasNewEntries, IsIndexStep, IsSpliced, IsChanged, IsHalved}
+use Rattle.hd_index.specs.Edits.{Bears, HasNewEntries, IsSpliced, IsChanged, IsHalved}
 use Rattle.hd_index.proofs.BlockLemmas.{length-entries}
-use Rattle.hd_index.proofs.EditLemmas.{edit-other}
 use Rattle.hd_index.proofs.SpliceLemmas.{same-entry-block, index-blocks, spliced}
 use Rattle.hd_index.proofs.MapLemmas.{with-behind, with-here, address-behind, ascend-with}
 use Rattle.hd_index.proofs.ChainLemmas.{place-entries}

@@ -1,13 +1,13 @@
 -- A new volume has an index of no entry; and one that was only read, or found memory, has the index that it had.
-use Rattle.std.proofs.Common.{◌≡◌, ◌≢◌, inl, inr, ℕ, zero, suc, ◌+◌, ◌*◌, ◌<◌, ◌≤◌, List, [], length, min, Option, Some, None, false, refl, sym, ap, ◌∙◌, arith, subst}
+use Rattle.std.proofs.Common.{◌≡◌, inl, ℕ, ◌+◌, ◌*◌, ◌<◌, ◌≤◌, List, [], length, Option, Some, None, false, refl, sym, ap, ◌∙◌, arith, subst}
 use Rattle.std.proofs.lemmas.List.{length-take, length-drop}
 use Rattle.std.proofs.Math.Nat.{mul-le-mul_right}
 use Rattle.hd_dbd.specs.Hierarchy.{Database}
 use Rattle.hd_volume.specs.Headers.{Header, header_of}
-use Rattle.hd_volume.specs.Volumes.{VolumeState, IsKind}
+use Rattle.hd_volume.specs.Volumes.{VolumeState}
 use Rattle.hd_volume.specs.Creates.{IsCreated}
-use Rattle.hd_volume.specs.Entries.{chain_from, entry_blocks, entries, entries_of}
-use Rattle.hd_volume.specs.Indexes.{root_key_length, keys_ascend, IsChain, IsAmong, HasIndex}
+use Rattle.hd_volume.specs.Entries.{chain_from, entry_blocks, entries_of}
+use Rattle.hd_volume.specs.Indexes.{root_key_length, keys_ascend, IsChain, HasIndex}
 use Rattle.hd_volume.proofs.JoinLemmas.{AreOne}
 use Rattle.std.specs.Option.{is_some}
 use Rattle.hd_index.specs.Changes.{IsIndexOf, entries_for}

@@ -1,23 +1,20 @@
 -- Steps of a change of the index: what they keep of the volume.
-use Rattle.std.proofs.Common.{◌≡◌, ◌≢◌, ◌⊎◌, inl, inr, ℕ, zero, suc, ◌+◌, ◌*◌, ◌<◌, ◌≤◌, List, [], ◌∷◌, length, take, drop, replicate, slice_index, refl, sym, ap, ◌∙◌, arith, subst}
-use Rattle.std.proofs.lemmas.Bool.{cases_eq, cases_lt}
+use Rattle.std.proofs.Common.{◌≡◌, ◌≢◌, ◌⊎◌, inl, inr, ℕ, ◌+◌, ◌*◌, ◌<◌, ◌≤◌, List, [], ◌∷◌, length, take, drop, replicate, slice_index, refl, sym, ap, ◌∙◌, arith, subst}
+use Rattle.std.proofs.lemmas.Bool.{cases_eq}
 use Rattle.std.proofs.lemmas.List.{append-nil, get_or-replicate}
 use Rattle.std.proofs.lemmas.Nat.{row_fits}
-use Rattle.std.proofs.Math.Nat.{mul-le-mul_right}
 use Rattle.hd_bytes.specs.Numbers.{number_at}
-use Rattle.hd_bytes.specs.Blocks.{block_of, HasBlock}
+use Rattle.hd_bytes.specs.Blocks.{HasBlock}
 use Rattle.hd_bytes.proofs.NumberLemmas.{number-same}
-use Rattle.hd_volume.specs.Images.{ChangesBlock}
 use Rattle.hd_volume.specs.Headers.{Header, header_of, HasHeader}
 use Rattle.hd_volume.specs.Volumes.{VolumeState, block_at, kind_of, IsKind, IsFormatted, HasKinds}
-use Rattle.hd_volume.specs.Rooms.{spare}
-use Rattle.hd_volume.specs.Calls.{IsTakenBlock, KeepsSegments}
+use Rattle.hd_volume.specs.Calls.{IsTakenBlock}
 use Rattle.hd_volume.specs.Entries.{Entry, entries_in, entries_at}
-use Rattle.hd_volume.specs.Indexes.{entry_room, IsEntryBlock}
+use Rattle.hd_volume.specs.Indexes.{IsEntryBlock}
 use Rattle.hd_volume.proofs.FrameLemmas.{AreSame}
 use Rattle.hd_volume.proofs.KindLemmas.{below-count}
 use Rattle.hd_index.specs.Changes.{IsIndexChange}
-use Rattle.hd_index.specs.Edits.{IsEdit, HasNewBytes, Bears, HasNewEntries, IsIndexStep, IsSpliced, IsHalved}
+use Rattle.hd_index.specs.Edits.{IsEdit, Bears, HasNewEntries, IsIndexStep, IsSpliced, IsHalved}
 use Rattle.hd_index.proofs.EditLemmas.{edit-other}
 use Rattle.hd_index.proofs.SpliceLemmas.{same-entry-block}
 

@@ -1,4 +1,4 @@
-use Rattle.std.proofs.Common.{◌≡◌, ◌<◌, ◌≤◌, ℕ, List, IsTrue, OnOk, length, ap, ◌∙◌, sym, arith}
+use Rattle.std.proofs.Common.{ℕ, IsTrue, length, ap, ◌∙◌, sym, arith}
 use Rattle.hd_volume.specs.Entries.{Entry, entries}
 use Rattle.hd_volume.proofs.JoinLemmas.{read-one}
 use Rattle.hd_index.specs.Maps.{address_of, with_entry}

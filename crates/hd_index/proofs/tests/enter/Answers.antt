@@ -1,7 +1,5 @@
-use Rattle.std.proofs.Common.{◌≡◌, ℕ, IsTrue, Option, Some, None, false, sym, ap, ◌∙◌}
-use Rattle.std.specs.Option.{is_some}
+use Rattle.std.proofs.Common.{IsTrue, sym, ap, ◌∙◌}
 use Rattle.hd_volume.proofs.JoinLemmas.{AreOne, read-one}
-use Rattle.hd_index.specs.Changes.{IsIndexOf, entries_for}
 use Rattle.hd_index.specs.Maps.{address_of}
 use Rattle.hd_index.proofs.NewLemmas.{index-of-one, entries-of-one, was-none}
 use Rattle.hd_index.proofs.tests.enter.Goals as goal

@@ -1,4 +1,4 @@
-use Rattle.std.proofs.Common.{◌≡◌, IsTrue, sym, ◌∙◌}
+use Rattle.std.proofs.Common.{◌≡◌, ◌∙◌}
 use Rattle.hd_volume.specs.Indexes.{root_key_length}
 use Rattle.hd_index.proofs.NewLemmas.{new-index}
 use Rattle.hd_index.proofs.tests.new_volume.Goals as goal
