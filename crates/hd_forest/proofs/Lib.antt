@@ -1,4 +1,3 @@
-pub mod Calls
 pub mod Reading
 pub mod Chains
 pub mod Tips
@@ -19,3 +18,7 @@ pub mod FreeSteps
 pub mod FreeSpans
 pub mod SpanStarts
 pub mod Freed
+pub mod SpanEnds
+pub mod Taken
+pub mod Unlinks
+pub mod UnlinkSpan

@@ -5,8 +5,12 @@ mod change;
 mod children;
 mod law;
 mod leaf;
+#[cfg(test)]
+mod link_tests;
 mod path;
 mod read;
+#[cfg(test)]
+mod test_volumes;
 mod unlink;
 mod walk;
 mod write;

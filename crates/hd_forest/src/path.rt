@@ -69,7 +69,8 @@ impl Path {
 
     /// Goes up to the row above the last.
     pub fn up(&mut self)
-        ensures { self.new ≡ take (length self.old - 1) self.old }
+        ensures value { self.new ≡ take (length self.old - 1) self.old }
+        ensures few { length self.new < 15 }
     {
         self.count = self.count.saturating_sub(1);
     }

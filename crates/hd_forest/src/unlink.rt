@@ -52,6 +52,7 @@ fn free_span<S: BlockStore>(volume: &mut Volume<S>, dbd: &Dbd, address: u32) -> 
     ensures refusal { IfErr result (λ e. e ≡ Refused.Device) }
     ensures room { volume.new.room ≡ volume.old.room }
 {
+    let _ = dbd.types();
     let mut path = Path::new();
     path.push(address);
     let mut down = true;

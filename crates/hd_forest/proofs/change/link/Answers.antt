@@ -10,10 +10,9 @@ use Rattle.hd_volume.specs.Rooms.{HasHole, HasFreeBlock}
 use Rattle.hd_volume.specs.Calls.{IsCall}
 use Rattle.hd_volume.proofs.JoinLemmas.{calls-join}
 use Rattle.hd_links.specs.Links.{Links}
-use Rattle.hd_links.specs.Changes.{twin_behind}
 use Rattle.hd_image.specs.Records.{links_of}
 use Rattle.hd_forest.specs.Sets.{IsTwinPlace}
-use Rattle.hd_forest.proofs.Calls.{call-ok}
+use Rattle.hd_volume.proofs.CallSteps.{call-ok}
 use Rattle.hd_forest.proofs.Reading.{after-read, sound-before}
 use Rattle.hd_forest.proofs.Keeping.{keeps-same, free-seen}
 use Rattle.hd_forest.proofs.Naming.{sound-as}

@@ -1,4 +1,3 @@
-use Rattle.hd_forest.proofs.SpanStarts.{room}
 use Rattle.hd_forest.proofs.Walking.{walking}
 use Rattle.hd_forest.proofs.law.law_walking_gives_the_sequence.Goals as goal
 

@@ -1,4 +1,3 @@
-use Rattle.std.proofs.Common.{ℕ, List}
 use Rattle.std.proofs.lemmas.Result.{IfOk-weaker}
 use Rattle.hd_dbd.specs.Segment.{Segment}
 use Rattle.hd_forest.proofs.Laying.{put-whole, leaf-put}

@@ -9,7 +9,7 @@ use Rattle.hd_links.proofs.Backward.{found}
 use Rattle.hd_image.specs.Records.{links_of, IsVolumeOf}
 use Rattle.hd_forest.specs.Walks.{tip, parent_on, HasForest}
 use Rattle.hd_forest.specs.Twins.{IsTwinWithin, IsBehind}
-use Rattle.hd_forest.proofs.Calls.{read-ok, reads-join, if-ok}
+use Rattle.hd_volume.proofs.CallSteps.{read-ok, reads-join, if-ok}
 use Rattle.hd_forest.proofs.Reading.{after-read, sound-before}
 use Rattle.hd_forest.proofs.Held.{Held, held, last-below}
 use Rattle.hd_forest.proofs.Tips.{IsBelow, within, unlinks}

@@ -2,7 +2,7 @@ use Rattle.std.proofs.Common.{◌≡◌, ◌≢◌, ◌-◌, ◌+◌, ◌<◌, �
 use Rattle.hd_links.specs.Links.{Links, IsSegment}
 use Rattle.hd_image.specs.Records.{links_of}
 use Rattle.hd_forest.specs.Twins.{IsTwinWithin, IsBehind}
-use Rattle.hd_forest.proofs.Calls.{read-ok, reads-join}
+use Rattle.hd_volume.proofs.CallSteps.{read-ok, reads-join}
 use Rattle.hd_forest.proofs.Reading.{after-read, sound-before}
 use Rattle.hd_forest.proofs.Chains.{twin-some, nearer, passed}
 use Rattle.hd_forest.proofs.read.twin_before.Goals as goal

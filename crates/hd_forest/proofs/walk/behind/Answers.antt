@@ -6,7 +6,7 @@ use Rattle.hd_links.proofs.Build.{zero_or}
 use Rattle.hd_links.proofs.Ways.{some_zero, some_own}
 use Rattle.hd_image.specs.Records.{links_of}
 use Rattle.hd_forest.specs.Walks.{tip, AreSegments}
-use Rattle.hd_forest.proofs.Calls.{reads-join, read-ok}
+use Rattle.hd_volume.proofs.CallSteps.{reads-join, read-ok}
 use Rattle.hd_forest.proofs.Reading.{after-read, links-kept}
 use Rattle.hd_forest.proofs.Climbs.{beside_of, up, on-path, above-here}
 use Rattle.hd_forest.proofs.walk.behind.Goals as goal

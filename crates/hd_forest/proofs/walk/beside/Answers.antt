@@ -7,7 +7,7 @@ use Rattle.hd_links.proofs.Types.{ordered}
 use Rattle.hd_links.proofs.Ways.{some_zero, some_own}
 use Rattle.hd_image.specs.Records.{links_of}
 use Rattle.hd_image.proofs.Found.{records-link}
-use Rattle.hd_forest.proofs.Calls.{reads-join, if-ok}
+use Rattle.hd_volume.proofs.CallSteps.{reads-join, if-ok}
 use Rattle.hd_forest.proofs.Reading.{after-read, volume-kept, links-kept}
 use Rattle.hd_forest.proofs.Climbs.{beside_of, none-later}
 use Rattle.hd_forest.proofs.walk.beside.Goals as goal

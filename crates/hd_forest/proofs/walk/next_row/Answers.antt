@@ -1,7 +1,7 @@
 use Rattle.std.proofs.Common.{◌≡◌, ℕ, ◌<◌, sym, subst, refl}
 use Rattle.hd_links.specs.Links.{Links, IsSegment}
 use Rattle.hd_image.specs.Records.{links_of}
-use Rattle.hd_forest.proofs.Calls.{reads-join}
+use Rattle.hd_volume.proofs.CallSteps.{reads-join}
 use Rattle.hd_forest.proofs.Reading.{links-kept, volume-kept}
 use Rattle.hd_forest.proofs.Held.{held}
 use Rattle.hd_forest.proofs.Climbs.{MayBe, next-may}

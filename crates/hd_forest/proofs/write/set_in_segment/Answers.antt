@@ -1,6 +1,5 @@
-use Rattle.std.proofs.Common.{◌≡◌, ap, sym, ◌∙◌, subst, Some, None}
+use Rattle.std.proofs.Common.{sym, ◌∙◌}
 use Rattle.std.proofs.lemmas.Result.{on_ok_weaker}
-use Rattle.hd_prefix.specs.Pointers.{place_of}
 use Rattle.hd_forest.proofs.Setting.{recorded-written, recorded-idle, unkept-idle, pointer-room}
 use Rattle.hd_forest.proofs.write.set_in_segment.Goals as goal
 
