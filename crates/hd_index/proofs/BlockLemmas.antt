@@ -89,6 +89,7 @@ pub record IsAt {A : Type 0} (xs : List A) (i : ℕ) : Type 0 where
   pub element : A
   pub is : slice_get xs i ≡ Some element
 
+-- a list has an element at each place before its end
 pub get-within : {A : Type 0} (xs : List A) (i : ℕ) → i < length xs → IsAt xs i
 get-within [] i l = absurd (omega arith)
 get-within (x ∷ xs) zero l = record { element = x; is = refl }

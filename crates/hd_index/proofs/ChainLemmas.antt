@@ -197,9 +197,11 @@ module _ (k : ℕ) (v : VolumeState) (key blocks : List ℕ) (p : Place) (some :
   here-found : (x : Entry) → slice_get (entries_in k (block_at v p.block)) p.index ≡ Some x → found_at k v key p ≡ Some (record { address = x.address; is_key = bytes_eq x.key key })
   here-found x is = rw (ne_eqb p.block 0 some, is) refl
 
+  -- where the place has no entry nothing is found there
   none-found : slice_get (entries_in k (block_at v p.block)) p.index ≡ None → found_at k v key p ≡ None
   none-found is = rw (ne_eqb p.block 0 some, is) refl
 
+  -- an entry at the place decides both answers
   within-found : (x : Entry) → slice_get (entries_in k (block_at v p.block)) p.index ≡ Some x → p.index < length (entries_in k (block_at v p.block)) → keys_ascend (entries_of k v blocks) ≡ true → IsFound k v key (entries_of k v blocks) p
   within-found x is l ascend =
       let front : List Entry = entries_of k v h.front in
@@ -221,6 +223,7 @@ module _ (k : ℕ) (v : VolumeState) (key blocks : List ℕ) (p : Place) (some :
       by-equal true e es rest own up = address-here key es rest x own e
       by-equal false e es rest own up = (address-none key es rest x own e up).0
 
+  -- behind the last entry there is none that is not below the key
   past-found : length (entries_in k (block_at v p.block)) ≤ p.index → IsFound k v key (entries_of k v blocks) p
   past-found l =
       let front : List Entry = entries_of k v h.front in
@@ -234,6 +237,7 @@ module _ (k : ℕ) (v : VolumeState) (key blocks : List ℕ) (p : Place) (some :
         from = ap (λ (o : Option Found). option_map (λ f. f.address) o) none ∙ sym (ap (address_from key) all ∙ from-behind key front (es ++ []) h.passed ∙ from-behind key es [] below);
       }
 
+  -- the place of a key decides both answers
   pub place-found : keys_ascend (entries_of k v blocks) ≡ true → IsFound k v key (entries_of k v blocks) p
   place-found ascend = elim (cases_lt p.index (length (entries_in k (block_at v p.block)))) [
     | inl l ↦ (let x = get-within (entries_in k (block_at v p.block)) p.index l in within-found x.element x.is l ascend)

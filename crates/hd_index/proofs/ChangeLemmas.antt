@@ -157,6 +157,7 @@ not-key f h = by-test f.is_key h
     by-test true e = absurd (cc)
     by-test false e = refl
 
+-- an entry that is not another key's has the key
 pub is-key : (f : Found) → not f.is_key ≡ false → f.is_key ≡ true
 is-key f h = by-test f.is_key h
   where

@@ -93,6 +93,7 @@ edit-join {u} {v} {w} n a b =
 
 -- ---- behind a call that only read
 
+-- one image, seen from the other side
 pub one-turned : {u v : VolumeState} → AreOne u v → AreOne v u
 one-turned o = record { same = record { size = sym o.same.size; sizes = sym o.same.sizes }; image = sym o.image }
 
@@ -104,6 +105,7 @@ one-there {u} {v} o n h = (let l : length v.image ≡ length u.image = ap length
 pub one-block-at : {u v : VolumeState} → AreOne u v → (n : ℕ) → block_at v n ≡ block_at u n
 one-block-at o n = rw (o.same.size, o.image) refl
 
+-- the same edit, of the state before the read
 pub edit-before : {u v w : VolumeState} (n : ℕ) → AreOne u v → IsEdit v n w → IsEdit u n w
 edit-before {u} {v} {w} n o h =
     let C : List ℕ → Type 0 = λ i. ChangesBlock u.size n i w.image in

@@ -14,6 +14,7 @@ use Rattle.hd_index.specs.Changes.{IsIndexOf, entries_for}
 use Rattle.hd_index.proofs.ChangeLemmas.{index-after}
 use Rattle.hd_index.proofs.InsertLemmas.{no-chain}
 
+-- a new volume has an index of no entry
 pub new-index : (k size largest : ℕ) (name : List ℕ) (v : VolumeState) → v.size ≡ size → IsCreated name size largest v → HasIndex k v
 new-index k size largest name v same c =
     let top : (header_of v.image).top ≡ 0 = ap (λ (h : Header). h.top) c.header in
@@ -34,9 +35,11 @@ new-index k size largest name v same c =
       ascend = ap (λ (bs : List ℕ). keys_ascend (entries_of k v bs)) none;
     }
 
+-- an index of one image
 pub index-of-one : (d : Database) (u v : VolumeState) → AreOne u v → IsIndexOf d u → IsIndexOf d v
 index-of-one d u v o h = record { size = o.same.size ∙ h.size; index = (index-after (root_key_length d.types) u v o h.index).0 }
 
+-- and its entries
 pub entries-of-one : (d : Database) (u v : VolumeState) → AreOne u v → IsIndexOf d u → entries_for d v ≡ entries_for d u
 entries-of-one d u v o h = (index-after (root_key_length d.types) u v o h.index).1
 
