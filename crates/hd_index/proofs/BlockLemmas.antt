@@ -1,13 +1,13 @@
 -- The entries in the bytes of an index block.
-use Rattle.std.proofs.Common.{◌≡◌, ◌≢◌, ◌⊎◌, inl, inr, ℕ, zero, suc, ◌+◌, ◌*◌, ◌<◌, ◌≤◌, Bool, true, false, cond, List, [], ◌∷◌, ◌++◌, length, take, drop, Option, Some, None, refl, sym, ap, ◌∙◌, arith, subst}
-use Rattle.std.specs.Prelude.{◌&&◌, slice_get}
+use Rattle.std.proofs.Common.{◌≡◌, inl, inr, ℕ, zero, suc, ◌+◌, ◌*◌, ◌<◌, ◌≤◌, true, false, List, [], ◌∷◌, length, Some, refl, ap, ◌∙◌, arith}
+use Rattle.std.specs.Prelude.{slice_get}
 use Rattle.std.proofs.lemmas.Bool.{and_parts, cases_Bool, cases_lt}
 use Rattle.hd_bytes.specs.Numbers.{number_at}
 use Rattle.hd_bytes.specs.Ranges.{bytes_at}
 use Rattle.hd_volume.specs.Entries.{Entry, entries_at}
 use Rattle.hd_volume.specs.Indexes.{key_less, is_below_first, keys_ascend}
 use Rattle.hd_index.specs.Counts.{below_count}
-use Rattle.hd_index.proofs.MapLemmas.{less-trans}
+use Rattle.hd_volume.proofs.KeyLemmas.{less-trans}
 
 -- a block has so many entries
 pub length-entries : (k : ℕ) (b : List ℕ) (p n : ℕ) → length (entries_at k b p n) ≡ n
@@ -84,17 +84,12 @@ entry-get k b p (suc n) zero l = ap (λ (x : ℕ). Some (entry_of k b x)) (let e
 entry-get k b p (suc n) (suc i) l =
     entry-get k b (p + k + 4) n i (omega arith) ∙ ap (λ (x : ℕ). Some (entry_of k b x)) (let e : p + k + 4 + i * (k + 4) ≡ p + suc i * (k + 4) = omega arith in e)
 
--- there is none past the last
-pub get-past : {A : Type 0} (xs : List A) (i : ℕ) → length xs ≤ i → slice_get xs i ≡ None
-get-past [] i l = refl
-get-past (x ∷ xs) zero l = absurd (omega arith)
-get-past (x ∷ xs) (suc i) l = get-past xs i (omega arith)
-
 -- an element of a list
 pub record IsAt {A : Type 0} (xs : List A) (i : ℕ) : Type 0 where
   pub element : A
   pub is : slice_get xs i ≡ Some element
 
+-- a list has an element at each place before its end
 pub get-within : {A : Type 0} (xs : List A) (i : ℕ) → i < length xs → IsAt xs i
 get-within [] i l = absurd (omega arith)
 get-within (x ∷ xs) zero l = record { element = x; is = refl }

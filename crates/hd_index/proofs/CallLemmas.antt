@@ -1,60 +1,7 @@
--- Calls of a volume one after another.
-use Rattle.std.proofs.Common.{◌≡◌, ℕ, ◌+◌, ◌*◌, ◌<◌, ◌≤◌, Bool, false, IsTrue, OnOk, List, length, Result, Ok, Err, refl, sym, ap, ◌∙◌, arith, subst}
-use Rattle.hd_dbd.specs.declared.answer.Refused.{Refused}
-use Rattle.hd_dbd.specs.declared.answer.Refused.TheVariants.{Memory, Full, Device, Broken, Area}
-use Rattle.hd_volume.specs.Stores.{SoundFor, StaysSound}
-use Rattle.hd_volume.specs.Images.{KeepsFirst}
-use Rattle.hd_volume.specs.Volumes.{VolumeState}
-use Rattle.hd_volume.specs.Calls.{IsCall, IsRead}
-use Rattle.hd_volume.proofs.JoinLemmas.{calls-join}
+-- What holds where a call is not refused.
+use Rattle.std.proofs.Common.{OnOk, Result, Ok, Err}
 
--- a store that is sound after a refusal was so before
-pub was-sound : (e : Refused) (a b : Bool) → SoundFor e a b → IsTrue b → IsTrue a
-was-sound Memory a b h s = rw (← h) s
-was-sound Full a b h s = rw (← h) s
-was-sound Broken a b h s = rw (← h) s
-was-sound Area a b h s = rw (← h) s
-was-sound Device a b h s = (let none : IsTrue false = rw h at s in absurd (cc))
-
--- and before any call
-pub sound-back : {A : Type 0} (r : Result A Refused) (a b : Bool) → StaysSound r a b → IsTrue b → IsTrue a
-sound-back (Ok x) a b h s = rw (← h) s
-sound-back (Err e) a b h s = was-sound e a b h s
-
--- what holds where a call is not refused
+-- what follows from it holds as well
 pub on-ok-map : {A E P Q : Type 0} (r : Result A E) → (P → Q) → OnOk r P → OnOk r Q
 on-ok-map (Ok x) f h = f h
 on-ok-map (Err e) f h = h
-
--- what a call answers matters only where it refuses
-pub call-ok : {A B : Type 0} {u v : VolumeState} {x : A} (y : B) → IsCall {T = A} u (Ok x) v → IsCall {T = B} u (Ok y) v
-call-ok y h = record { counts = h.counts; sound = h.sound; size = h.size; sizes = h.sizes; first = h.first }
-
-pub read-ok : {A B : Type 0} {u v : VolumeState} {x : A} (y : B) → IsRead {T = A} u (Ok x) v → IsRead {T = B} u (Ok y) v
-read-ok y h = record { call = call-ok y h.call; image = h.image; stands = h.stands; room = h.room }
-
-first-same : (size : ℕ) (a : List ℕ) → KeepsFirst size a a
-first-same size a = record { len = omega arith; first = λ h. refl }
-
--- no call at all
-pub call-none : {A : Type 0} (u : VolumeState) (x : A) → IsCall {T = A} u (Ok x) u
-call-none u x = record { counts = refl; sound = refl; size = refl; sizes = refl; first = λ s. first-same u.size u.stored }
-
-pub read-none : {A : Type 0} (u : VolumeState) (x : A) → IsRead {T = A} u (Ok x) u
-read-none u x = record { call = call-none u x; image = λ s. refl; stands = λ s h. h; room = refl }
-
--- two calls that read are one
-pub reads-join : {A B : Type 0} {u v w : VolumeState} {x : A} (r : Result B Refused) → IsRead {T = A} u (Ok x) v → IsRead {T = B} v r w → IsRead {T = B} u r w
-reads-join {u = u} {v = v} {w = w} r a b = record {
-  call = calls-join r a.call b.call;
-  image = λ s. b.image s ∙ a.image (sound-back r v.is_sound w.is_sound b.call.sound s);
-  stands = λ s h. b.stands s (a.stands (sound-back r v.is_sound w.is_sound b.call.sound s) h);
-  room = b.room ∙ a.room;
-}
-
--- where Device alone is answered, all is kept while the store is sound
-pub device-kept : {A : Type 0} {u v : VolumeState} (e : Refused) → e ≡ Device → IsCall {T = A} u (Err e) v → IsTrue v.is_sound → ⊥
-device-kept {A} {u} {v} e is h s =
-    let P : Refused → Type 0 = λ r. SoundFor r u.is_sound v.is_sound in
-    let none : v.is_sound ≡ false = subst P is h.sound in
-    let no : IsTrue false = rw none at s in absurd (cc)

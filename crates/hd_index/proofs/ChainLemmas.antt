@@ -1,13 +1,13 @@
 -- The chain of an index's blocks, and the walk along it.
-use Rattle.std.proofs.Common.{◌≡◌, ◌≢◌, ◌⊎◌, inl, inr, ℕ, zero, suc, ◌+◌, ◌*◌, ◌<◌, ◌≤◌, Bool, true, false, cond, List, [], ◌∷◌, ◌++◌, length, Option, Some, None, refl, sym, ap, ◌∙◌, arith, subst, ne_eqb}
+use Rattle.std.proofs.lemmas.Option.{slice_get_past}
+use Rattle.std.proofs.Common.{◌≡◌, ◌≢◌, ◌⊎◌, inl, inr, ℕ, zero, suc, ◌<◌, ◌≤◌, Bool, true, false, cond, List, [], ◌∷◌, ◌++◌, length, Option, Some, None, refl, sym, ap, ◌∙◌, arith, subst, ne_eqb}
 use Rattle.std.specs.Prelude.{◌==◌, nat_lt, slice_index, slice_get, option_map, bytes_eq}
-use Rattle.std.proofs.lemmas.Bool.{cases_Bool, cases_lt, cases_eq, eq-eqb, lt-ltb, ltb-true, ltb-false}
+use Rattle.std.proofs.lemmas.Bool.{cases_lt, cases_eq, ltb-true, ltb-false}
 use Rattle.hd_bytes.specs.Numbers.{number_at}
-use Rattle.hd_bytes.specs.Blocks.{block_of, HasBlock}
 use Rattle.hd_volume.specs.Headers.{header_of}
-use Rattle.hd_volume.specs.Volumes.{VolumeState, block_at, kind_of, IsKind}
+use Rattle.hd_volume.specs.Volumes.{VolumeState, block_at, kind_of}
 use Rattle.hd_volume.specs.Entries.{Entry, entries_in, entries_of, chain_from, entry_blocks, entries}
-use Rattle.hd_volume.specs.Indexes.{keys_ascend, entry_room, IsEntryBlock, IsChain, IsAmong, HasIndex}
+use Rattle.hd_volume.specs.Indexes.{keys_ascend, entry_room, IsEntryBlock, IsChain, HasIndex}
 use Rattle.hd_index.specs.declared.entries.Seen.{Seen}
 use Rattle.hd_index.specs.declared.place.Place.{Place}
 use Rattle.hd_index.specs.declared.place.Spot.{Spot}
@@ -16,7 +16,7 @@ use Rattle.hd_index.specs.declared.place.Found.{Found}
 use Rattle.hd_index.specs.Maps.{address_of, address_from}
 use Rattle.hd_index.specs.Places.{seen_in, place_from, place_of, found_at, address_found, HasPlace, no_spot, spot_in, spot_at, spot_of}
 use Rattle.hd_index.proofs.MapLemmas.{ascend-parts, below-most, AreBelow, none-below, below-all, below-append, address-behind, from-behind, address-here, address-none, address-from-here}
-use Rattle.hd_index.proofs.BlockLemmas.{length-entries, get-past, get-within}
+use Rattle.hd_index.proofs.BlockLemmas.{length-entries, get-within}
 use Rattle.std.proofs.lemmas.List.{append_assoc}
 
 -- What is left of the chain from a number on, if one is left: its keys ascend.
@@ -197,9 +197,11 @@ module _ (k : ℕ) (v : VolumeState) (key blocks : List ℕ) (p : Place) (some :
   here-found : (x : Entry) → slice_get (entries_in k (block_at v p.block)) p.index ≡ Some x → found_at k v key p ≡ Some (record { address = x.address; is_key = bytes_eq x.key key })
   here-found x is = rw (ne_eqb p.block 0 some, is) refl
 
+  -- where the place has no entry nothing is found there
   none-found : slice_get (entries_in k (block_at v p.block)) p.index ≡ None → found_at k v key p ≡ None
   none-found is = rw (ne_eqb p.block 0 some, is) refl
 
+  -- an entry at the place decides both answers
   within-found : (x : Entry) → slice_get (entries_in k (block_at v p.block)) p.index ≡ Some x → p.index < length (entries_in k (block_at v p.block)) → keys_ascend (entries_of k v blocks) ≡ true → IsFound k v key (entries_of k v blocks) p
   within-found x is l ascend =
       let front : List Entry = entries_of k v h.front in
@@ -221,6 +223,7 @@ module _ (k : ℕ) (v : VolumeState) (key blocks : List ℕ) (p : Place) (some :
       by-equal true e es rest own up = address-here key es rest x own e
       by-equal false e es rest own up = (address-none key es rest x own e up).0
 
+  -- behind the last entry there is none that is not below the key
   past-found : length (entries_in k (block_at v p.block)) ≤ p.index → IsFound k v key (entries_of k v blocks) p
   past-found l =
       let front : List Entry = entries_of k v h.front in
@@ -228,12 +231,13 @@ module _ (k : ℕ) (v : VolumeState) (key blocks : List ℕ) (p : Place) (some :
       let end : h.rest ≡ [] = elim h.last [ inl x ↦ absurd (omega arith) | inr e ↦ e ] in
       let all : entries_of k v blocks ≡ front ++ (es ++ []) = place-entries k v key blocks p h ∙ ap (λ (t : List ℕ). front ++ (es ++ entries_of k v t)) end in
       let below = below-all key es (let e = h.index_is in omega arith) in
-      let none = none-found (get-past es p.index l) in
+      let none = none-found (slice_get_past es p.index l) in
       record {
         of = ap address_found none ∙ sym (ap (address_of key) all ∙ address-behind key front (es ++ []) h.passed ∙ address-behind key es [] below);
         from = ap (λ (o : Option Found). option_map (λ f. f.address) o) none ∙ sym (ap (address_from key) all ∙ from-behind key front (es ++ []) h.passed ∙ from-behind key es [] below);
       }
 
+  -- the place of a key decides both answers
   pub place-found : keys_ascend (entries_of k v blocks) ≡ true → IsFound k v key (entries_of k v blocks) p
   place-found ascend = elim (cases_lt p.index (length (entries_in k (block_at v p.block)))) [
     | inl l ↦ (let x = get-within (entries_in k (block_at v p.block)) p.index l in within-found x.element x.is l ascend)

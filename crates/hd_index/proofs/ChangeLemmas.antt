@@ -1,12 +1,9 @@
 -- What an entry more or less in a block makes of the index.
-use Rattle.std.proofs.Common.{◌≡◌, ◌≢◌, ◌⊎◌, inl, inr, ℕ, zero, suc, ◌+◌, ◌<◌, ◌≤◌, Bool, true, false, cond, List, [], ◌∷◌, ◌++◌, length, take, drop, Option, Some, None, refl, sym, ap, ◌∙◌, arith, subst, ne_eqb}
+use Rattle.std.proofs.Common.{◌≡◌, ◌≢◌, ◌⊎◌, inl, inr, ℕ, suc, ◌<◌, Bool, true, false, cond, List, [], ◌∷◌, ◌++◌, take, drop, Option, Some, None, refl, sym, ap, ◌∙◌, arith, subst, ne_eqb}
 use Rattle.std.specs.Prelude.{◌==◌, not, slice_get, option_map, bytes_eq}
-use Rattle.std.proofs.lemmas.Bool.{cases_Bool}
-use Rattle.std.proofs.lemmas.List.{append_assoc, append-nil}
 use Rattle.hd_bytes.specs.Numbers.{number_at}
 use Rattle.hd_volume.specs.Headers.{Header, header_of}
-use Rattle.hd_volume.specs.Volumes.{VolumeState, block_at, kind_of, IsKind, IsFormatted}
-use Rattle.hd_volume.specs.Rooms.{spare}
+use Rattle.hd_volume.specs.Volumes.{VolumeState, block_at}
 use Rattle.hd_volume.specs.Entries.{Entry, entries_in, entries_of, entry_blocks, entries}
 use Rattle.hd_volume.specs.Indexes.{keys_ascend, IsEntryBlock, HasIndex}
 use Rattle.hd_volume.proofs.JoinLemmas.{AreOne, one-kind, one-formatted, one-segments, one-spare, one-holes}
@@ -14,12 +11,11 @@ use Rattle.hd_volume.proofs.IndexLemmas.{index-stays}
 use Rattle.hd_index.specs.declared.place.Found.{Found}
 use Rattle.hd_index.specs.declared.place.Place.{Place}
 use Rattle.hd_index.specs.declared.place.Spot.{Spot}
-use Rattle.hd_index.specs.Maps.{address_of, with_entry, without_key}
+use Rattle.hd_index.specs.Maps.{address_of, without_key}
 use Rattle.hd_index.specs.Changes.{IsIndexChange}
-use Rattle.hd_index.specs.Counts.{below_count}
 use Rattle.hd_index.specs.Places.{place_of, no_spot, spot_in, spot_of, address_found}
-use Rattle.hd_index.specs.Edits.{HasNewEntries, IsSpliced, IsChanged}
-use Rattle.hd_index.proofs.MapLemmas.{AreBelow, with-behind, without-behind, without-here, with-here, address-behind, ascend-with, ascend-without}
+use Rattle.hd_index.specs.Edits.{HasNewEntries, IsChanged}
+use Rattle.hd_index.proofs.MapLemmas.{without-behind, without-here, ascend-without}
 use Rattle.hd_index.proofs.ChainLemmas.{IsPlace, place-block, place-entries, index-found, spot-found}
 use Rattle.hd_index.proofs.EditLemmas.{edit-before, one-block-at, one-turned, one-there}
 use Rattle.hd_index.proofs.SpliceLemmas.{spliced}
@@ -161,6 +157,7 @@ not-key f h = by-test f.is_key h
     by-test true e = absurd (cc)
     by-test false e = refl
 
+-- an entry that is not another key's has the key
 pub is-key : (f : Found) → not f.is_key ≡ false → f.is_key ≡ true
 is-key f h = by-test f.is_key h
   where

@@ -1,6 +1,5 @@
 -- Changes of one index block, one after another.
-use Rattle.std.proofs.Common.{◌≡◌, ◌≢◌, ◌⊎◌, inl, inr, ℕ, zero, suc, ◌+◌, ◌-◌, ◌*◌, ◌<◌, ◌≤◌, List, [], ◌∷◌, ◌++◌, length, take, drop, get_or, refl, sym, ap, ◌∙◌, arith, subst}
-use Rattle.std.proofs.lemmas.Grind.{common_steps, same_number_lists}
+use Rattle.std.proofs.Common.{◌≡◌, ◌≢◌, inl, inr, ℕ, ◌+◌, ◌*◌, ◌≤◌, List, [], ◌++◌, length, take, drop, refl, sym, ap, ◌∙◌, arith, subst}
 use Rattle.std.proofs.lemmas.List.{take-append-drop, append_assoc, drop-drop, take_at, drop_at, take-append-le, length-append, length-take-le, take-take}
 use Rattle.std.proofs.Math.Seq.{take-add}
 use Rattle.hd_bytes.specs.Ranges.{bytes_at, with_bytes}
@@ -11,9 +10,6 @@ use Rattle.hd_bytes.proofs.NumberLemmas.{changes-with}
 use Rattle.hd_volume.specs.Images.{ChangesBlock}
 use Rattle.hd_volume.specs.Headers.{header_of}
 use Rattle.hd_volume.specs.Volumes.{VolumeState, block_at, IsKind, IsFormatted}
-use Rattle.hd_volume.specs.Rooms.{spare}
-use Rattle.hd_volume.specs.Calls.{IsWrittenBlock}
-use Rattle.hd_volume.proofs.FrameLemmas.{AreSame}
 use Rattle.hd_volume.proofs.JoinLemmas.{AreOne, one-kind, one-segments, one-spare, one-holes}
 use Rattle.hd_index.specs.Edits.{IsEdit, HasNewBytes}
 
@@ -95,15 +91,9 @@ edit-join {u} {v} {w} n a b =
       holes = λ k h. b.holes k (a.holes k h);
     }
 
--- bytes were written into a block
-pub edit-written : (u w : VolumeState) (n p : ℕ) (bytes : List ℕ) → w.size ≡ u.size → w.sizes ≡ u.sizes → IsKind u 2 n → IsWrittenBlock u n p bytes w → HasNewBytes u n (with_bytes (block_at u n) p bytes) w
-edit-written u w n p bytes size sizes was h = record {
-  edit = record { size = size; sizes = sizes; formatted = h.formatted; was = was; is = h.is; block = h.block; segments = h.segments; header = h.header; spares = h.spares; holes = h.holes };
-  value = h.value;
-}
-
 -- ---- behind a call that only read
 
+-- one image, seen from the other side
 pub one-turned : {u v : VolumeState} → AreOne u v → AreOne v u
 one-turned o = record { same = record { size = sym o.same.size; sizes = sym o.same.sizes }; image = sym o.image }
 
@@ -115,6 +105,7 @@ one-there {u} {v} o n h = (let l : length v.image ≡ length u.image = ap length
 pub one-block-at : {u v : VolumeState} → AreOne u v → (n : ℕ) → block_at v n ≡ block_at u n
 one-block-at o n = rw (o.same.size, o.image) refl
 
+-- the same edit, of the state before the read
 pub edit-before : {u v w : VolumeState} (n : ℕ) → AreOne u v → IsEdit v n w → IsEdit u n w
 edit-before {u} {v} {w} n o h =
     let C : List ℕ → Type 0 = λ i. ChangesBlock u.size n i w.image in

@@ -1,10 +1,10 @@
 -- The entries of a block whose bytes have changed.
-use Rattle.std.proofs.Common.{◌≡◌, ◌≢◌, ◌⊎◌, inl, inr, ℕ, zero, suc, ◌+◌, ◌-◌, ◌*◌, ◌<◌, ◌≤◌, List, [], ◌∷◌, ◌++◌, length, take, drop, slice_index, get_or, refl, sym, ap, ◌∙◌, arith, subst}
+use Rattle.std.proofs.Common.{◌≡◌, ◌⊎◌, inl, inr, ℕ, zero, suc, ◌+◌, ◌-◌, ◌*◌, ◌<◌, ◌≤◌, List, [], ◌∷◌, ◌++◌, length, take, drop, slice_index, refl, sym, ap, ◌∙◌, arith, subst}
 use Rattle.std.proofs.lemmas.Grind.{common_steps}
-use Rattle.std.proofs.lemmas.List.{take-append-drop, append_assoc, drop-drop, take_at, drop_at, take-take, drop-take, length-take, length-take-le}
+use Rattle.std.proofs.lemmas.List.{drop-drop, take_at, drop_at, take-take, drop-take}
 use Rattle.hd_bytes.specs.Numbers.{number_at}
-use Rattle.hd_bytes.specs.Ranges.{bytes_at, with_bytes, ChangesOnly}
-use Rattle.hd_bytes.proofs.BlockLemmas.{length-bytes_at, byte-at, agree-bytes_at, agree-changed, bytes-with}
+use Rattle.hd_bytes.specs.Ranges.{bytes_at, with_bytes}
+use Rattle.hd_bytes.proofs.BlockLemmas.{length-bytes_at, agree-bytes_at, agree-changed, bytes-with}
 use Rattle.hd_bytes.proofs.NumberLemmas.{big_from-drop, number-same, changes-with, number-below, number-above}
 use Rattle.hd_volume.specs.Entries.{Entry, entries_at}
 use Rattle.hd_bytes.specs.Blocks.{HasBlock}
@@ -18,10 +18,6 @@ use Rattle.hd_index.proofs.BlockLemmas.{entry_of, length-entries}
 -- ---- parts of a block's bytes
 
 -- a number behind the first bytes
-number-drop : (n p : ℕ) (b : List ℕ) → number_at n (drop p b) 0 ≡ number_at n b p
-unfolding number_at
-number-drop n p b = big_from-drop n 0 p b ∙ ap (λ (i : ℕ). number_at n b i) (let e : p + 0 ≡ p = omega arith in e)
-
 number-drop-at : (n p i : ℕ) (b : List ℕ) → number_at n (drop p b) i ≡ number_at n b (p + i)
 unfolding number_at
 number-drop-at n p i b = big_from-drop n i p b
@@ -35,6 +31,7 @@ number-in n p m i b fits within =
 pub bytes-front : (b : List ℕ) (p m n : ℕ) → m ≤ n → bytes_at (bytes_at b p n) 0 m ≡ bytes_at b p m
 bytes-front b p m n l = take-take m n (drop p b) l
 
+-- and of those behind them
 pub bytes-back : (b : List ℕ) (p m n : ℕ) → drop m (bytes_at b p (m + n)) ≡ bytes_at b (p + m) n
 bytes-back b p m n = drop-take m n (drop p b) ∙ ap (take n) (drop-drop m p b)
 
@@ -61,17 +58,20 @@ entries-same k a b p q (suc n) fa fb same =
 
 -- ---- parts of the entries
 
+-- some entries, and those behind them
 pub entries-split : (k : ℕ) (b : List ℕ) (p m n : ℕ) → entries_at k b p (m + n) ≡ entries_at k b p m ++ entries_at k b (p + m * (k + 4)) n
 entries-split k b p zero n = ap (λ (i : ℕ). entries_at k b p i) (let e : 0 + n ≡ n = omega arith in e) ∙ ap (λ (i : ℕ). entries_at k b i n) (let e : p ≡ p + 0 * (k + 4) = omega arith in e)
 entries-split k b p (suc m) n =
     ap (λ (i : ℕ). entries_at k b p i) (let e : suc m + n ≡ suc (m + n) = omega arith in e)
     ∙ ap (λ (es : List Entry). entry_of k b p ∷ es) (entries-split k b (p + k + 4) m n ∙ ap (λ (i : ℕ). entries_at k b (p + k + 4) m ++ entries_at k b i n) (let e : p + k + 4 + m * (k + 4) ≡ p + suc m * (k + 4) = omega arith in e))
 
+-- the first entries of a block
 pub entries-take : (k : ℕ) (b : List ℕ) (p i n : ℕ) → i ≤ n → take i (entries_at k b p n) ≡ entries_at k b p i
 entries-take k b p i n l =
     ap (λ (j : ℕ). take i (entries_at k b p j)) (let e : n ≡ i + (n - i) = omega arith in e) ∙ ap (take i) (entries-split k b p i (n - i))
     ∙ take_at (entries_at k b p i) (entries_at k b (p + i * (k + 4)) (n - i)) i (length-entries k b p i)
 
+-- its entries from one on
 pub entries-drop : (k : ℕ) (b : List ℕ) (p i n : ℕ) → i ≤ n → drop i (entries_at k b p n) ≡ entries_at k b (p + i * (k + 4)) (n - i)
 entries-drop k b p i n l =
     ap (λ (j : ℕ). drop i (entries_at k b p j)) (let e : n ≡ i + (n - i) = omega arith in e) ∙ ap (drop i) (entries-split k b p i (n - i))
@@ -86,6 +86,7 @@ bytes-apart b xs p q m fits within apart =
     let l = c.len in
     sym (agree-bytes_at q m b (with_bytes b p xs) within (omega arith) (agree-changed q m c apart))
 
+-- nor was a number in them
 pub number-apart : (b xs : List ℕ) (p n q : ℕ) → p + length xs ≤ length b → (q + n ≤ p) ⊎ (p + length xs ≤ q) → number_at n (with_bytes b p xs) q ≡ number_at n b q
 number-apart b xs p n q fits (inl l) = number-below n q (changes-with b xs p fits) l
 number-apart b xs p n q fits (inr l) = number-above n q (changes-with b xs p fits) l
@@ -101,9 +102,11 @@ number-put b xs p n i fits within =
 pub bytes-put : (b xs : List ℕ) (p m : ℕ) → p + length xs ≤ length b → m ≤ length xs → bytes_at (with_bytes b p xs) p m ≡ take m xs
 bytes-put b xs p m fits within = sym (bytes-front (with_bytes b p xs) p m (length xs) within) ∙ ap (λ (t : List ℕ). bytes_at t 0 m) (bytes-with b xs p fits)
 
+-- a byte before the place stays
 pub byte-below : (b xs : List ℕ) (p j : ℕ) → p + length xs ≤ length b → j < p → slice_index (with_bytes b p xs) j ≡ slice_index b j
 byte-below b xs p j fits l = (changes-with b xs p fits).below j l
 
+-- the length stays
 pub length-put : (b xs : List ℕ) (p : ℕ) → p + length xs ≤ length b → length (with_bytes b p xs) ≡ length b
 length-put b xs p fits = (changes-with b xs p fits).len
 
@@ -165,12 +168,15 @@ pub record IsEntryBytes (k : ℕ) (xs : List ℕ) (e : Entry) : Type 0 where
   pub key : take k xs ≡ e.key
   pub address : number_at 4 xs k ≡ e.address
 
+-- the bytes of the entries before one, of it, and of those behind it
 pub three-parts : (i d k : ℕ) → (i + d + 1) * (k + 4) ≡ i * (k + 4) + (k + 4) + d * (k + 4)
 three-parts i d k = omega arith
 
+-- the bytes of the entries before one and from it on
 two-parts : (i d k : ℕ) → (i + d) * (k + 4) ≡ i * (k + 4) + d * (k + 4)
 two-parts i d k = omega arith
 
+-- the bytes of some entries and of one more
 one-part : (c k : ℕ) → (c + 1) * (k + 4) ≡ c * (k + 4) + (k + 4)
 one-part c k = omega arith
 
@@ -235,11 +241,6 @@ entries-taken k b i c low fits =
     ∙ ap (λ (es : List Entry). take i (entries_at k b 12 c) ++ es) (rear ∙ sym behind)
 
 -- ---- the edits of blocks
-
--- what a block of entries is, by its bytes
-pub own-bytes : (k : ℕ) (v : VolumeState) (n : ℕ) → IsEntryBlock k v n → 12 + number_at 2 (block_at v n) 4 * (k + 4) ≤ v.size
-    → AreBytes k (block_at v n) (number_at 2 (block_at v n) 4) (entries_in k (block_at v n)) (number_at 4 (block_at v n) 8)
-own-bytes k v n h fits = record { level = h.level; count = refl; entries = refl; next_is = refl; fits = (let l = length-at v n h.is.there in omega arith) }
 
 -- a block with new bytes bears their entries
 pub bears-by : (k : ℕ) (u w : VolumeState) (n : ℕ) (b : List ℕ) (c : ℕ) (es : List Entry) (next : ℕ) → HasNewBytes u n b w → AreBytes k b c es next → c ≤ entry_room k u.size → HasNewEntries k u n es next w
@@ -322,6 +323,7 @@ pub added-bytes : (k : ℕ) (u w : VolumeState) (n i c : ℕ) (xs two : List ℕ
 unfolding added
 added-bytes k u w n i c xs two h = h
 
+-- and of an entry moved out
 pub taken-bytes : (k : ℕ) (u w : VolumeState) (n i c : ℕ) (two : List ℕ)
     → HasNewBytes u n (with_bytes (with_bytes (block_at u n) (12 + i * (k + 4)) (bytes_at (block_at u n) (12 + i * (k + 4) + (k + 4)) ((c - (i + 1)) * (k + 4)))) 4 two) w
     → HasNewBytes u n (with_bytes (taken k i c (block_at u n)) 4 two) w

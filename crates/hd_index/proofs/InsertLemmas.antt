@@ -1,27 +1,25 @@
 -- What an entry more makes of an index: in a block with room, in a divided block, in the first block.
 use Rattle.std.specs.Prelude.{bytes_eq}
-use Rattle.std.proofs.Common.{◌≡◌, ◌≢◌, ◌⊎◌, inl, inr, ℕ, zero, suc, ◌+◌, ◌-◌, ◌*◌, ◌<◌, ◌≤◌, Bool, true, false, cond, List, [], ◌∷◌, ◌++◌, length, take, drop, Some, None, refl, sym, ap, ◌∙◌, arith, subst}
-use Rattle.std.proofs.lemmas.Bool.{cases_eq}
-use Rattle.std.proofs.lemmas.List.{append_assoc, append-nil, take-append-drop, take-take, drop-append-le, length-take-le, length-drop, take_at}
+use Rattle.std.proofs.Common.{◌≡◌, ◌⊎◌, inl, inr, ℕ, zero, suc, ◌+◌, ◌-◌, ◌*◌, ◌<◌, ◌≤◌, Bool, true, false, cond, List, [], ◌∷◌, ◌++◌, length, take, drop, Some, None, refl, sym, ap, ◌∙◌, arith, subst}
+use Rattle.std.proofs.lemmas.List.{append_assoc, append-nil, take-append-drop, take-take, drop-append-le, length-take-le, length-drop}
 use Rattle.std.proofs.Math.Seq.{take-append-add, drop-append-add}
 use Rattle.hd_bytes.specs.Numbers.{number_at}
 use Rattle.hd_bytes.specs.Blocks.{block_of, HasBlock}
-use Rattle.hd_volume.specs.Headers.{Header, header_of, HasHeader}
+use Rattle.hd_volume.specs.Headers.{Header, header_of}
 use Rattle.hd_volume.specs.Volumes.{VolumeState, block_at, kind_of, IsKind, IsFormatted, HasKinds}
-use Rattle.hd_volume.specs.Rooms.{spare, free_blocks, HasFreeBlock}
+use Rattle.hd_volume.specs.Rooms.{free_blocks, HasFreeBlock}
 use Rattle.hd_volume.proofs.KindLemmas.{none-free}
 use Rattle.hd_volume.specs.Calls.{HasNewHeader, IsTakenBlock}
 use Rattle.hd_volume.specs.Entries.{Entry, entries_in, entries_of, chain_from, entry_blocks, entries}
-use Rattle.hd_volume.specs.Indexes.{keys_ascend, index_growth, IsEntryBlock, IsChain, IsAmong, HasIndex}
+use Rattle.hd_volume.specs.Indexes.{keys_ascend, index_growth, IsChain, IsAmong, HasIndex}
 use Rattle.hd_volume.proofs.FrameLemmas.{AreSame}
 use Rattle.hd_index.specs.declared.place.Place.{Place}
 use Rattle.hd_index.specs.declared.place.Spot.{Spot}
 use Rattle.hd_index.specs.Maps.{address_of, with_entry}
 use Rattle.hd_index.specs.Counts.{below_count}
 use Rattle.hd_index.specs.Changes.{IsIndexChange}
-use Rattle.hd_index.specs.Edits.{IsEdit, Bears, HasNewEntries, IsIndexStep, IsSpliced, IsChanged, IsHalved}
+use Rattle.hd_index.specs.Edits.{Bears, HasNewEntries, IsSpliced, IsChanged, IsHalved}
 use Rattle.hd_index.proofs.BlockLemmas.{length-entries}
-use Rattle.hd_index.proofs.EditLemmas.{edit-other}
 use Rattle.hd_index.proofs.SpliceLemmas.{same-entry-block, index-blocks, spliced}
 use Rattle.hd_index.proofs.MapLemmas.{with-behind, with-here, address-behind, ascend-with}
 use Rattle.hd_index.proofs.ChainLemmas.{place-entries}
@@ -35,11 +33,13 @@ use Rattle.hd_index.proofs.StepLemmas.{there-below, step-join, bears-kept, chang
 pub bears-count : (k : ℕ) (v : VolumeState) (n : ℕ) (es : List Entry) (next : ℕ) → Bears k v n es next → number_at 2 (block_at v n) 4 ≡ length es
 bears-count k v n es next h = sym (length-entries k (block_at v n) 12 (number_at 2 (block_at v n) 4)) ∙ ap length h.entries
 
+-- the lower block counts the entries that it kept
 pub low-count : (k : ℕ) (u v : VolumeState) (n m half next c : ℕ) → IsHalved k u n m half next v → number_at 2 (block_at u n) 4 ≡ c → half ≤ c → number_at 2 (block_at v n) 4 ≡ half
 low-count k u v n m half next c h count low =
     let len = length-entries k (block_at u n) 12 (number_at 2 (block_at u n) 4) in
     bears-count k v n (take half (entries_in k (block_at u n))) m h.low ∙ length-take-le half (entries_in k (block_at u n)) (omega arith)
 
+-- the upper block counts the others
 pub high-count : (k : ℕ) (u v : VolumeState) (n m half next c : ℕ) → IsHalved k u n m half next v → number_at 2 (block_at u n) 4 ≡ c → half ≤ c → number_at 2 (block_at v m) 4 ≡ c - half
 high-count k u v n m half next c h count low =
     let len = length-entries k (block_at u n) 12 (number_at 2 (block_at u n) 4) in
@@ -120,18 +120,22 @@ module _ {v w : VolumeState} {h : Header} (same : AreSame v w) (n : HasNewHeader
   head-other : (b : ℕ) → HasBlock v.size v.image b → 0 < b → block_at w b ≡ block_at v b
   head-other b there later = ap (λ (z : ℕ). block_of z w.image b) same.size ∙ n.block.others b there (λ e. omega arith)
 
+  -- no block has come
   head-there : (b : ℕ) → HasBlock w.size w.image b → HasBlock v.size v.image b
   head-there b there = (let l = n.block.len in let t : b * v.size + v.size ≤ length w.image = rw same.size at there in omega arith)
 
+  -- each block keeps its kind
   head-on : (j b : ℕ) → IsKind v j b → IsKind w j b
   head-on j b k =
       let l = n.block.len in
       let t : b * v.size + v.size ≤ length v.image = k.there in
       record { there = rw same.size (omega arith); later = k.later; kind_is = ap kind_of (head-other b k.there k.later) ∙ k.kind_is }
 
+  -- each block had its kind
   head-back : (j b : ℕ) → IsKind w j b → IsKind v j b
   head-back j b k = (let there = head-there b k.there in record { there = there; later = k.later; kind_is = ap kind_of (sym (head-other b there k.later)) ∙ k.kind_is })
 
+  -- the kinds stay the three
   head-kinds : HasKinds v → HasKinds w
   head-kinds k b there later = elim (k b (head-there b there) later) [
     | inl one ↦ inl (head-on 1 b one)
@@ -139,6 +143,7 @@ module _ {v w : VolumeState} {h : Header} (same : AreSame v w) (n : HasNewHeader
     | inr (inr three) ↦ inr (inr (head-on 3 b three))
   ]
 
+  -- a new top or height changes the index alone
   head-change : h.count ≡ (header_of v.image).count → h ≡ record (header_of v.image) { count = h.count; top = h.top; height = h.height } → IsIndexChange v 0 w
   head-change count all =
       let c : (header_of w.image).count ≡ (header_of v.image).count = ap (λ (x : Header). x.count) n.is ∙ count in
@@ -153,6 +158,7 @@ module _ {v w : VolumeState} {h : Header} (same : AreSame v w) (n : HasNewHeader
         holes = n.holes;
       }
 
+  -- what a block bears stays
   head-bears : (k m : ℕ) (es : List Entry) (next : ℕ) → Bears k v m es next → Bears k w m es next
   head-bears k m es next b =
       let same-block = head-other m b.is.is.there b.is.is.later in
@@ -161,7 +167,8 @@ module _ {v w : VolumeState} {h : Header} (same : AreSame v w) (n : HasNewHeader
 
 -- ---- the first block
 
-no-chain : (v : VolumeState) (more : ℕ) → chain_from v more 0 ≡ []
+-- from block 0 there is no chain
+pub no-chain : (v : VolumeState) (more : ℕ) → chain_from v more 0 ≡ []
 no-chain v zero = refl
 no-chain v (suc more) = refl
 

@@ -9,3 +9,4 @@ pub mod SpliceLemmas
 pub mod StepLemmas
 pub mod ChangeLemmas
 pub mod InsertLemmas
+pub mod NewLemmas

@@ -1,39 +1,38 @@
 -- The index as an ordered map: an entry more, an entry less, and what is found.
-use Rattle.std.proofs.Common.{◌≡◌, ◌≢◌, ◌⊎◌, inl, inr, ℕ, zero, suc, ◌+◌, ◌<◌, ◌≤◌, Bool, true, false, cond, List, [], ◌∷◌, ◌++◌, length, take, drop, Option, Some, None, Ordering, Less, Equal, Greater, refl, sym, ap, ◌∙◌, arith, subst}
+use Rattle.std.proofs.Common.{◌≡◌, ◌⊎◌, inl, inr, ℕ, suc, ◌<◌, ◌≤◌, Bool, true, false, cond, List, [], ◌∷◌, ◌++◌, length, take, drop, Some, None, Ordering, Less, Equal, Greater, refl, sym, ap, ◌∙◌, arith}
 use Rattle.std.specs.Prelude.{slice_get, bytes_eq, ◌&&◌, option_map}
 use Rattle.std.specs.Ordering.{nat_cmp, is_lt, is_eq, ordering_reverse}
 use Rattle.std.specs.Cmp.Lexicographic.{slice_cmp}
 use Rattle.std.proofs.lemmas.Cmp.{nat_list_cmp_total}
-use Rattle.std.proofs.lemmas.Bool.{and_parts, cases_Bool, cases_lt}
+use Rattle.std.proofs.lemmas.Bool.{and_parts}
 use Rattle.std.proofs.lemmas.Map.Text.{is_eq-slice_cmp}
 use Rattle.hd_volume.specs.Entries.{Entry}
 use Rattle.hd_volume.specs.Indexes.{key_less, is_below_first, keys_ascend}
+use Rattle.hd_volume.proofs.KeyLemmas.{less-trans, less-not}
 use Rattle.hd_index.specs.Maps.{address_of, address_from, with_entry, without_key}
 use Rattle.hd_index.specs.Counts.{below_count}
 
 -- ---- the order of keys
 
-less-is : (o : Ordering) → is_lt o ≡ true → o ≡ Less
-less-is Less h = refl
-less-is Equal h = cc
-less-is Greater h = cc
-
--- a key below one that is below a third is below that
-pub less-trans : (x y z : List ℕ) → key_less x y ≡ true → key_less y z ≡ true → key_less x z ≡ true
-less-trans x y z h k = ap is_lt (nat_list_cmp_total.trans x y z (less-is _ h) (less-is _ k))
-
--- of two keys one alone is the lesser
-pub less-not : (x y : List ℕ) → key_less x y ≡ true → key_less y x ≡ false
-less-not x y h = ap is_lt (nat_list_cmp_total.antisymm y x) ∙ ap (λ (o : Ordering). is_lt (ordering_reverse o)) (less-is _ h)
-
 -- a lesser key is no equal one
 pub less-other : (x y : List ℕ) → key_less x y ≡ true → bytes_eq x y ≡ false
-less-other x y h = sym (is_eq-slice_cmp x y) ∙ ap is_eq (less-is _ h)
+less-other x y h = sym (is_eq-slice_cmp x y) ∙ by-test (slice_cmp nat_cmp x y) h
+  where
+    by-test : (o : Ordering) → is_lt o ≡ true → is_eq o ≡ false
+    by-test Less e = refl
+    by-test Equal e = cc
+    by-test Greater e = refl
 
 -- nor is a greater one
 pub greater-other : (x y : List ℕ) → key_less y x ≡ true → bytes_eq x y ≡ false
-greater-other x y h = sym (is_eq-slice_cmp x y) ∙ ap is_eq (nat_list_cmp_total.antisymm x y ∙ ap ordering_reverse (less-is _ h))
+greater-other x y h = sym (is_eq-slice_cmp x y) ∙ ap is_eq (nat_list_cmp_total.antisymm x y) ∙ by-test (slice_cmp nat_cmp y x) h
+  where
+    by-test : (o : Ordering) → is_lt o ≡ true → is_eq (ordering_reverse o) ≡ false
+    by-test Less e = refl
+    by-test Equal e = cc
+    by-test Greater e = cc
 
+-- of two keys that differ one is the lesser
 by-order : (o : Ordering) → is_lt o ≡ false → is_eq o ≡ false → is_lt (ordering_reverse o) ≡ true
 by-order Less h k = cc
 by-order Equal h k = cc
@@ -68,6 +67,7 @@ pub AreBelow : List ℕ → List Entry → Type 0
 AreBelow k [] = Unit {0}
 AreBelow k (e ∷ es) = (key_less e.key k ≡ true) × AreBelow k es
 
+-- where as many are below a key as there are, all are
 pub below-all : (k : List ℕ) (es : List Entry) → length es ≤ below_count k es → AreBelow k es
 unfolding AreBelow
 below-all k [] h = tt
@@ -77,10 +77,12 @@ below-all k (e ∷ es) h = by-test (key_less e.key k) refl h (below-all k es)
     by-test true is l rest = (is, rest (omega arith))
     by-test false is l rest = absurd (omega arith)
 
+-- no entries are all below a key
 pub none-below : (k : List ℕ) → AreBelow k []
 unfolding AreBelow
 none-below k = tt
 
+-- two lists below a key are one below it
 pub below-append : (k : List ℕ) (xs ys : List Entry) → AreBelow k xs → AreBelow k ys → AreBelow k (xs ++ ys)
 unfolding AreBelow
 below-append k [] ys h g = g
@@ -88,21 +90,25 @@ below-append k (x ∷ xs) ys h g = (h.0, below-append k xs ys h.1 g)
 
 -- ---- behind entries that are below a key
 
+-- a key is sought behind the entries that are below it
 pub address-behind : (k : List ℕ) (xs ys : List Entry) → AreBelow k xs → address_of k (xs ++ ys) ≡ address_of k ys
 unfolding AreBelow
 address-behind k [] ys h = refl
 address-behind k (x ∷ xs) ys h = rw (less-other x.key k h.0) (address-behind k xs ys h.1)
 
+-- so is the least key that is not below one
 pub from-behind : (k : List ℕ) (xs ys : List Entry) → AreBelow k xs → address_from k (xs ++ ys) ≡ address_from k ys
 unfolding AreBelow
 from-behind k [] ys h = refl
 from-behind k (x ∷ xs) ys h = rw h.0 (from-behind k xs ys h.1)
 
+-- a new entry goes behind those that are below it
 pub with-behind : (e : Entry) (xs ys : List Entry) → AreBelow e.key xs → with_entry e (xs ++ ys) ≡ xs ++ with_entry e ys
 unfolding AreBelow
 with-behind e [] ys h = refl
 with-behind e (x ∷ xs) ys h = rw (less-not x.key e.key h.0) (ap (λ (t : List Entry). x ∷ t) (with-behind e xs ys h.1))
 
+-- an entry is taken out behind those that are below it
 pub without-behind : (k : List ℕ) (xs ys : List Entry) → AreBelow k xs → without_key k (xs ++ ys) ≡ xs ++ without_key k ys
 unfolding AreBelow
 without-behind k [] ys h = refl
@@ -121,6 +127,7 @@ without-above k (e ∷ es) h a =
     first [] b = refl
     first (x ∷ xs) b = less-trans k e.key x.key h b
 
+-- a key below the first entry is not there
 pub address-above : (k : List ℕ) (es : List Entry) → is_below_first k es ≡ true → keys_ascend es ≡ true → address_of k es ≡ None
 address-above k [] h a = refl
 address-above k (e ∷ es) h a =
@@ -225,6 +232,7 @@ without-here k (e ∷ es) bs x there same = by-test (key_less e.key k) refl ther
 
 -- ---- keys still ascend
 
+-- a new entry above a key leaves the first one above it
 first-with : (k : List ℕ) (n : Entry) (es : List Entry) → key_less k n.key ≡ true → is_below_first k es ≡ true → is_below_first k (with_entry n es) ≡ true
 first-with k n [] h b = h
 first-with k n (e ∷ es) h b = by-test (key_less n.key e.key)
@@ -250,10 +258,12 @@ ascend-with n (e ∷ es) a none = by-equal (bytes_eq e.key n.key) refl none (asc
     by-equal true is none rest = absurd (cc)
     by-equal false is none rest = by-test (key_less n.key e.key) refl (eq-turned e.key n.key is) (rest none)
 
+-- a key below another that is below the first entry is below it
 first-trans : (k l : List ℕ) (es : List Entry) → key_less k l ≡ true → is_below_first l es ≡ true → is_below_first k es ≡ true
 first-trans k l [] h b = refl
 first-trans k l (e ∷ es) h b = less-trans k l e.key h b
 
+-- an entry less leaves the first one above a key
 first-without : (k j : List ℕ) (es : List Entry) → is_below_first k es ≡ true → keys_ascend es ≡ true → is_below_first k (without_key j es) ≡ true
 first-without k j [] b a = refl
 first-without k j (e ∷ es) b a =

@@ -1,8 +1,8 @@
 -- What a well-formed database says of its root's key.
 use Rattle.std.proofs.lemmas.Bool.{cases_lt}
 use Rattle.std.proofs.Math.Nat.{mul-le-mul_right}
-use Rattle.std.proofs.Common.{inl, inr, ◌≡◌, ◌+◌, ◌-◌, ◌*◌, ◌/◌, ◌<◌, ◌≤◌, ℕ, List, [], ◌∷◌, true, IsTrue, Some, None, arith, refl, Option}
-use Rattle.std.specs.Prelude.{nat_le, nat_lt, ◌&&◌, not, ◌==◌, length}
+use Rattle.std.proofs.Common.{inl, inr, ◌≡◌, ◌+◌, ◌-◌, ◌*◌, ◌/◌, ◌<◌, ◌≤◌, ℕ, List, true, IsTrue, Some, None, arith, refl, Option}
+use Rattle.std.specs.Prelude.{nat_le}
 use Rattle.std.specs.Option.{option_map_or}
 use Rattle.std.proofs.lemmas.Bool.{and_parts, leb-true}
 use Rattle.hd_dbd.specs.declared.hierarchy.FreeSpace.{FreeSpace}
@@ -20,6 +20,7 @@ three-of : (size : ℕ) (key : Option Key) → 128 ≤ size → option_map_or (�
 three-of size None least three short = (omega arith, omega arith)
 three-of size (Some k) least three short = (leb-true (3 * (k.length + 4) + 12) size three, leb-true k.length 255 short)
 
+-- the same of the root type, if there is one
 root-of : (size : ℕ) (frspc : FreeSpace) (types : List SegmentType) (o : Option SegmentType) → IsTrue (well_formed size frspc types) → type_of types 1 ≡ o
     → (3 * (option_map_or (λ t. option_map_or (λ k. k.length) t.key 0) o 0 + 4) + 12 ≤ size) × (option_map_or (λ t. option_map_or (λ k. k.length) t.key 0) o 0 ≤ 255)
 root-of size frspc types None well is = (let b = block_size-bounds size frspc types well in omega arith, omega arith)
@@ -29,6 +30,7 @@ root-of size frspc types (Some t) well is =
     let bounds = block_size-bounds size frspc types well in
     three-of size t.key bounds.0 sizes.1 fits.1
 
+-- and of the root's key
 pub root-fits : (size : ℕ) (frspc : FreeSpace) (types : List SegmentType) → IsTrue (well_formed size frspc types) → (3 * (root_key_length types + 4) + 12 ≤ size) × (root_key_length types ≤ 255)
 root-fits size frspc types well = root-of size frspc types (type_of types 1) well refl
 
@@ -47,6 +49,7 @@ room-most k s c fits = elim (cases_lt ((s - 12) / (k + 4)) c) [
     quotient : (x w : ℕ) → 0 < w → x < w * (x / w) + w
     quotient x w some = omega arith
 
+-- entries that find room end within the block
 pub room-within : (k s c : ℕ) → 12 ≤ s → c ≤ (s - 12) / (k + 4) → 12 + c * (k + 4) ≤ s
 room-within k s c least l =
     let q : ℕ = (s - 12) / (k + 4) in

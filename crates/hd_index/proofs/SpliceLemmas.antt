@@ -1,14 +1,12 @@
 -- A chain of which some blocks are changed, or come between others.
-use Rattle.std.proofs.Common.{◌≡◌, ◌≢◌, ◌⊎◌, inl, inr, ℕ, zero, suc, ◌+◌, ◌*◌, ◌<◌, ◌≤◌, Bool, true, false, eqb, cond, List, [], ◌∷◌, ◌++◌, length, refl, sym, ap, ◌∙◌, arith, subst, ne_eqb}
-use Rattle.std.specs.Prelude.{◌==◌, slice_index}
+use Rattle.std.proofs.Common.{◌≡◌, ◌≢◌, ◌⊎◌, inl, inr, ℕ, zero, suc, ◌<◌, ◌≤◌, true, false, eqb, List, [], ◌∷◌, ◌++◌, length, refl, sym, ap, ◌∙◌, arith, subst, ne_eqb}
+use Rattle.std.specs.Prelude.{slice_index}
 use Rattle.std.specs.List.{IsDistinct, AllByRecursion, list_any}
-use Rattle.std.proofs.lemmas.Bool.{cases_eq, eq-eqb, eqb-true}
-use Rattle.std.proofs.lemmas.List.{append_assoc, length-append}
+use Rattle.std.proofs.lemmas.Bool.{cases_eq, eq-eqb}
 use Rattle.std.proofs.lemmas.Map.Steps.{length-le_from_distinct_below}
 use Rattle.hd_bytes.specs.Numbers.{number_at}
-use Rattle.hd_bytes.specs.Blocks.{HasBlock}
 use Rattle.hd_volume.specs.Headers.{Header, header_of, HasHeader}
-use Rattle.hd_volume.specs.Volumes.{VolumeState, block_at, kind_of, IsKind, IsFormatted}
+use Rattle.hd_volume.specs.Volumes.{VolumeState, block_at, IsKind}
 use Rattle.hd_volume.specs.Entries.{Entry, entries_in, entries_of, chain_from, entry_blocks, entries}
 use Rattle.hd_volume.specs.Indexes.{keys_ascend, entry_room, IsEntryBlock, IsChain, IsAmong, HasIndex}
 use Rattle.hd_volume.proofs.KindLemmas.{below-count}
@@ -18,15 +16,18 @@ use Rattle.hd_index.proofs.ChainLemmas.{IsPlace, entries-append}
 
 -- ---- one of some numbers
 
+-- one of the second list is one of both
 pub among-right : (n : ℕ) (xs ys : List ℕ) → IsAmong n ys → IsAmong n (xs ++ ys)
 among-right n [] ys h = h
 among-right n (x ∷ xs) ys h = inr (among-right n xs ys h)
 
+-- one of the first list is one of both
 pub among-left : (n : ℕ) (xs ys : List ℕ) → IsAmong n xs → IsAmong n (xs ++ ys)
 among-left n [] ys h = absurd h
 among-left n (x ∷ xs) ys (inl e) = inl e
 among-left n (x ∷ xs) ys (inr h) = inr (among-left n xs ys h)
 
+-- one of both is one of either
 pub among-cases : (n : ℕ) (xs ys : List ℕ) → IsAmong n (xs ++ ys) → IsAmong n xs ⊎ IsAmong n ys
 among-cases n [] ys h = inr h
 among-cases n (x ∷ xs) ys (inl e) = inl (inl e)
@@ -50,6 +51,7 @@ pub record IsSuffix (k : ℕ) (v : VolumeState) (n most : ℕ) : Type 0 where
   pub chain : IsChain k v n (n ∷ tail)
   pub len : length (n ∷ tail) ≤ most
 
+-- so does each block that is among its blocks
 pub chain-suffix : (k : ℕ) (v : VolumeState) (s n : ℕ) (xs : List ℕ) → IsChain k v s xs → IsAmong n xs → IsSuffix k v n (length xs)
 chain-suffix k v s n [] c h = absurd h
 chain-suffix k v s n (x ∷ xs) c (inl e) =
@@ -66,6 +68,7 @@ chain-once k v s n xs c h =
     let same = ap length (chain-unique k v n (n ∷ xs) (n ∷ r.tail) own r.chain) in
     let l = r.len in omega arith
 
+-- a chain from one of its blocks on
 pub chain-behind : (k : ℕ) (v : VolumeState) (s : ℕ) (xs ys : List ℕ) (n : ℕ) → IsChain k v s (xs ++ (n ∷ ys)) → IsChain k v n (n ∷ ys)
 chain-behind k v s [] ys n c = (refl, c.1, c.2)
 chain-behind k v s (x ∷ xs) ys n c = chain-behind k v (number_at 4 (block_at v x) 8) xs ys n c.2
@@ -80,15 +83,18 @@ front-once k v s n (x ∷ xs) ys c (inr h) = front-once k v (number_at 4 (block_
 
 -- ---- a chain is short
 
+-- a number that is not among others differs from each
 all-apart : (n : ℕ) (xs : List ℕ) → (IsAmong n xs → ⊥) → AllByRecursion (λ y. eqb n y ≡ false) xs
 all-apart n [] h = tt
 all-apart n (x ∷ xs) h = (ne_eqb n x (λ e. h (inl e)), all-apart n xs (λ a. h (inr a)))
 
+-- the blocks of a chain are all different
 chain-distinct : (k : ℕ) (v : VolumeState) (s : ℕ) (xs : List ℕ) → IsChain k v s xs → IsDistinct eqb xs
 unfolding IsDistinct
 chain-distinct k v s [] c = tt
 chain-distinct k v s (x ∷ xs) c = (all-apart x xs (chain-once k v s x xs c), chain-distinct k v (number_at 4 (block_at v x) 8) xs c.2)
 
+-- a number equal to one of a list is among it
 any-among : (n : ℕ) (xs : List ℕ) → list_any (eqb n) xs ≡ true → IsAmong n xs
 any-among n [] h = cc
 any-among n (x ∷ xs) h = elim (cases_eq n x) [
@@ -96,6 +102,7 @@ any-among n (x ∷ xs) h = elim (cases_eq n x) [
   | inr other ↦ inr (any-among n xs (rw (ne_eqb n x other) at h))
 ]
 
+-- each block of a chain is one of entries
 pub chain-kind : (k : ℕ) (v : VolumeState) (s n : ℕ) (xs : List ℕ) → IsChain k v s xs → IsAmong n xs → IsEntryBlock k v n
 chain-kind k v s n [] c h = absurd h
 chain-kind k v s n (x ∷ xs) c (inl e) = (let E : ℕ → Type 0 = λ i. IsEntryBlock k v i in subst E (sym e) c.1)
@@ -122,10 +129,12 @@ chain-whole k v (suc more) s (x ∷ xs) c l =
 
 -- ---- parts of a chain
 
+-- a run, and a chain from its end on, are a chain
 pub run-chain : (k : ℕ) (v : VolumeState) (s t : ℕ) (xs ys : List ℕ) → IsRun k v s xs t → IsChain k v t ys → IsChain k v s (xs ++ ys)
 run-chain k v s t [] ys r c = (let C : ℕ → Type 0 = λ i. IsChain k v i ys in subst C (sym r) c)
 run-chain k v s t (x ∷ xs) ys r c = (r.0, r.1, run-chain k v (number_at 4 (block_at v x) 8) t xs ys r.2 c)
 
+-- the front of a chain is a run
 pub chain-front : (k : ℕ) (v : VolumeState) (s n : ℕ) (xs ys : List ℕ) → IsChain k v s (xs ++ (n ∷ ys)) → IsRun k v s xs n
 chain-front k v s n [] ys c = c.0
 chain-front k v s n (x ∷ xs) ys c = (c.0, c.1, chain-front k v (number_at 4 (block_at v x) 8) n xs ys c.2)
@@ -134,6 +143,7 @@ chain-front k v s n (x ∷ xs) ys c = (c.0, c.1, chain-front k v (number_at 4 (b
 abbrev pub AreSameBlocks : ℕ → VolumeState → VolumeState → List ℕ → Type 0
 AreSameBlocks k v w xs = (n : ℕ) → IsAmong n xs → IsEntryBlock k v n → IsEntryBlock k w n × (block_at w n ≡ block_at v n)
 
+-- a run of blocks that stay
 pub run-same : (k : ℕ) (v w : VolumeState) (s t : ℕ) (xs : List ℕ) → AreSameBlocks k v w xs → IsRun k v s xs t → IsRun k w s xs t
 run-same k v w s t [] h r = r
 run-same k v w s t (x ∷ xs) h r =
@@ -141,6 +151,7 @@ run-same k v w s t (x ∷ xs) h r =
     let R : List ℕ → Type 0 = λ b. IsRun k w (number_at 4 b 8) xs t in
     (r.0, one.0, subst R (sym one.1) (run-same k v w (number_at 4 (block_at v x) 8) t xs (λ n a. h n (inr a)) r.2))
 
+-- a chain of blocks that stay
 pub chain-same : (k : ℕ) (v w : VolumeState) (s : ℕ) (xs : List ℕ) → AreSameBlocks k v w xs → IsChain k v s xs → IsChain k w s xs
 chain-same k v w s [] h r = r
 chain-same k v w s (x ∷ xs) h r =
@@ -148,12 +159,14 @@ chain-same k v w s (x ∷ xs) h r =
     let R : List ℕ → Type 0 = λ b. IsChain k w (number_at 4 b 8) xs in
     (r.0, one.0, subst R (sym one.1) (chain-same k v w (number_at 4 (block_at v x) 8) xs (λ n a. h n (inr a)) r.2))
 
+-- a run of blocks that stay bears the same entries
 pub run-entries : (k : ℕ) (v w : VolumeState) (s t : ℕ) (xs : List ℕ) → AreSameBlocks k v w xs → IsRun k v s xs t → entries_of k w xs ≡ entries_of k v xs
 run-entries k v w s t [] h r = refl
 run-entries k v w s t (x ∷ xs) h r =
     let one = h x (inl refl) r.1 in
     ap (λ (b : List ℕ). entries_in k b ++ entries_of k w xs) one.1 ∙ ap (λ (es : List Entry). entries_in k (block_at v x) ++ es) (run-entries k v w (number_at 4 (block_at v x) 8) t xs (λ n a. h n (inr a)) r.2)
 
+-- so does a chain
 pub chain-entries : (k : ℕ) (v w : VolumeState) (s : ℕ) (xs : List ℕ) → AreSameBlocks k v w xs → IsChain k v s xs → entries_of k w xs ≡ entries_of k v xs
 chain-entries k v w s [] h r = refl
 chain-entries k v w s (x ∷ xs) h r =
@@ -162,6 +175,7 @@ chain-entries k v w s (x ∷ xs) h r =
 
 -- ---- the index with a block changed, or one more behind it
 
+-- a chain has no more blocks than the largest count
 pub length-at-most : (k : ℕ) (v : VolumeState) (s : ℕ) (xs : List ℕ) → HasHeader v.size v.image → 0 < v.size → IsChain k v s xs → length xs ≤ (header_of v.image).largest
 length-at-most k v s xs h some c = (let a = chain-short k v s xs h some c in let b = h.within in omega arith)
 
@@ -174,6 +188,7 @@ pub record IsJoined (k : ℕ) (v w : VolumeState) (front : List ℕ) (n : ℕ) (
   pub chain : IsChain k w (header_of w.image).top (front ++ (blocks ++ rest))
   pub entries : entries_of k w (front ++ (blocks ++ rest)) ≡ entries_of k v front ++ (entries_of k w blocks ++ entries_of k v rest)
 
+-- other blocks come in place of one
 pub joined : (k : ℕ) (v w : VolumeState) (front rest blocks : List ℕ) (n : ℕ) → (header_of w.image).top ≡ (header_of v.image).top → IsChain k v (header_of v.image).top (front ++ (n ∷ rest))
     → AreSameBlocks k v w front → AreSameBlocks k v w rest → IsRun k w n blocks (number_at 4 (block_at v n) 8) → IsJoined k v w front n rest blocks
 joined k v w front rest blocks n top chain same-front same-rest run =

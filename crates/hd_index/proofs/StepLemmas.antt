@@ -1,23 +1,20 @@
 -- Steps of a change of the index: what they keep of the volume.
-use Rattle.std.proofs.Common.{◌≡◌, ◌≢◌, ◌⊎◌, inl, inr, ℕ, zero, suc, ◌+◌, ◌*◌, ◌<◌, ◌≤◌, List, [], ◌∷◌, length, take, drop, replicate, slice_index, refl, sym, ap, ◌∙◌, arith, subst}
-use Rattle.std.proofs.lemmas.Bool.{cases_eq, cases_lt}
+use Rattle.std.proofs.Common.{◌≡◌, ◌≢◌, ◌⊎◌, inl, inr, ℕ, ◌+◌, ◌*◌, ◌<◌, ◌≤◌, List, [], ◌∷◌, length, take, drop, replicate, slice_index, refl, sym, ap, ◌∙◌, arith, subst}
+use Rattle.std.proofs.lemmas.Bool.{cases_eq}
 use Rattle.std.proofs.lemmas.List.{append-nil, get_or-replicate}
 use Rattle.std.proofs.lemmas.Nat.{row_fits}
-use Rattle.std.proofs.Math.Nat.{mul-le-mul_right}
 use Rattle.hd_bytes.specs.Numbers.{number_at}
-use Rattle.hd_bytes.specs.Blocks.{block_of, HasBlock}
+use Rattle.hd_bytes.specs.Blocks.{HasBlock}
 use Rattle.hd_bytes.proofs.NumberLemmas.{number-same}
-use Rattle.hd_volume.specs.Images.{ChangesBlock}
 use Rattle.hd_volume.specs.Headers.{Header, header_of, HasHeader}
 use Rattle.hd_volume.specs.Volumes.{VolumeState, block_at, kind_of, IsKind, IsFormatted, HasKinds}
-use Rattle.hd_volume.specs.Rooms.{spare}
-use Rattle.hd_volume.specs.Calls.{IsTakenBlock, KeepsSegments}
+use Rattle.hd_volume.specs.Calls.{IsTakenBlock}
 use Rattle.hd_volume.specs.Entries.{Entry, entries_in, entries_at}
-use Rattle.hd_volume.specs.Indexes.{entry_room, IsEntryBlock}
+use Rattle.hd_volume.specs.Indexes.{IsEntryBlock}
 use Rattle.hd_volume.proofs.FrameLemmas.{AreSame}
 use Rattle.hd_volume.proofs.KindLemmas.{below-count}
 use Rattle.hd_index.specs.Changes.{IsIndexChange}
-use Rattle.hd_index.specs.Edits.{IsEdit, HasNewBytes, Bears, HasNewEntries, IsIndexStep, IsSpliced, IsHalved}
+use Rattle.hd_index.specs.Edits.{IsEdit, Bears, HasNewEntries, IsIndexStep, IsSpliced, IsHalved}
 use Rattle.hd_index.proofs.EditLemmas.{edit-other}
 use Rattle.hd_index.proofs.SpliceLemmas.{same-entry-block}
 
@@ -39,18 +36,21 @@ there-on u v b hu hv some more there = there-below v b hv (let low = below-count
 pub count-header : (a b : Header) → b ≡ a → b ≡ record a { count = b.count }
 count-header a b e = (let c : b.count ≡ a.count = ap (λ (h : Header). h.count) e in e ∙ (let x : a ≡ record a { count = b.count } = rw c refl in x))
 
+-- nor the top and the height
 pub three-header : (a b : Header) → b ≡ record a { count = b.count } → b ≡ record a { count = b.count; top = b.top; height = b.height }
 three-header a b e =
     let t : b.top ≡ a.top = ap (λ (h : Header). h.top) e in
     let g : b.height ≡ a.height = ap (λ (h : Header). h.height) e in
     e ∙ (let x : record a { count = b.count } ≡ record a { count = b.count; top = b.top; height = b.height } = rw (t, g) refl in x)
 
+-- a header of which these three have changed twice
 pub join-header : (a b c : Header) → b ≡ record a { count = b.count; top = b.top; height = b.height } → c ≡ record b { count = c.count; top = c.top; height = c.height }
     → c ≡ record a { count = c.count; top = c.top; height = c.height }
 join-header a b c one two = two ∙ ap (λ (h : Header). record h { count = c.count; top = c.top; height = c.height }) one
 
 -- ---- one change behind another
 
+-- two changes of the index are one
 pub change-join : {u v w : VolumeState} (a b : ℕ) → IsFormatted u → IsFormatted v → 0 < u.size → v.size ≡ u.size → IsIndexChange u a v → IsIndexChange v b w → IsIndexChange u (a + b) w
 change-join {u} {v} {w} a b f g some size x y = record {
   segments = λ s. y.segments s ∙ x.segments s;
@@ -71,15 +71,18 @@ module _ {u w : VolumeState} {n : ℕ} (e : IsEdit u n w) where
   edit-len : length w.image ≡ length u.image
   edit-len = e.block.len
 
+  -- another block keeps its kind
   edit-on : (j b : ℕ) → b ≢ n → IsKind u j b → IsKind w j b
   edit-on j b other k =
       let l = edit-len in
       let t : b * u.size + u.size ≤ length u.image = k.there in
       record { there = rw e.size (omega arith); later = k.later; kind_is = ap kind_of (edit-other n b e k.there other) ∙ k.kind_is }
 
+  -- no block has come
   edit-there : (b : ℕ) → HasBlock w.size w.image b → HasBlock u.size u.image b
   edit-there b h = (let l = edit-len in let t : b * u.size + u.size ≤ length w.image = rw e.size at h in omega arith)
 
+  -- another block had its kind
   edit-back : (j b : ℕ) → b ≢ n → IsKind w j b → IsKind u j b
   edit-back j b other k =
       let there = edit-there b k.there in
@@ -89,9 +92,11 @@ module _ {u w : VolumeState} {n : ℕ} (e : IsEdit u n w) where
   edit-apart : (j b : ℕ) → j ≢ 2 → IsKind u j b → b ≢ n
   edit-apart j b other k x = other (sym k.kind_is ∙ ap (λ (i : ℕ). kind_of (block_at u i)) x ∙ e.was.kind_is)
 
+  -- nor is it afterwards
   edit-apart-new : (j b : ℕ) → j ≢ 2 → IsKind w j b → b ≢ n
   edit-apart-new j b other k x = other (sym k.kind_is ∙ ap (λ (i : ℕ). kind_of (block_at w i)) x ∙ e.is.kind_is)
 
+  -- the kinds stay the three
   edit-kinds : HasKinds u → HasKinds w
   edit-kinds k b there later = elim (cases_eq b n) [
     | inl same ↦ inr (inl (let K : ℕ → Type 0 = λ i. IsKind w 2 i in subst K (sym same) e.is))
@@ -102,6 +107,7 @@ module _ {u w : VolumeState} {n : ℕ} (e : IsEdit u n w) where
     ]
   ]
 
+  -- an edit changes the index alone
   pub edit-change : IsIndexChange u 0 w
   edit-change =
       let count : (header_of w.image).count ≡ (header_of u.image).count = ap (λ (h : Header). h.count) e.header in
@@ -116,6 +122,7 @@ module _ {u w : VolumeState} {n : ℕ} (e : IsEdit u n w) where
         holes = e.holes;
       }
 
+  -- an edit is a step
   pub edit-step : IsIndexStep u n n 0 w
   edit-step = record {
     size = e.size;
@@ -167,9 +174,11 @@ module _ {u w : VolumeState} (m : ℕ) (same : AreSame u w) (f : IsFormatted u) 
   taken-count : (header_of u.image).count ≤ (header_of w.image).count
   taken-count = elim t.grows.count [ inl e ↦ omega arith | inr e ↦ (let x = e.1 in omega arith) ]
 
+  -- by one at most
   taken-more : (header_of w.image).count ≤ (header_of u.image).count + 1
   taken-more = elim t.grows.count [ inl e ↦ omega arith | inr e ↦ (let x = e.1 in omega arith) ]
 
+  -- each block is still there
   taken-on : (b : ℕ) → HasBlock u.size u.image b → HasBlock w.size w.image b
   taken-on b there = there-on u w b f.header t.formatted.header some taken-count there
 
@@ -188,15 +197,19 @@ module _ {u w : VolumeState} (m : ℕ) (same : AreSame u w) (f : IsFormatted u) 
         | inr last ↦ (let low = below-count u b f.header some k.there in omega arith)
       ]
 
+  -- the block was not of the index
   pub taken-fresh : IsKind u 2 m → ⊥
   taken-fresh k = taken-apart 2 m (λ x. omega arith) k refl
 
+  -- another block keeps its kind
   taken-kind-on : (j b : ℕ) → b ≢ m → IsKind u j b → IsKind w j b
   taken-kind-on j b other k = record { there = taken-on b k.there; later = k.later; kind_is = ap kind_of (t.others b k.there k.later other) ∙ k.kind_is }
 
+  -- another block had its kind
   taken-kind-back : (j b : ℕ) → b ≢ m → IsKind w j b → IsKind u j b
   taken-kind-back j b other k = (let old = taken-back b other k.there in record { there = old; later = k.later; kind_is = ap kind_of (sym (t.others b old k.later other)) ∙ k.kind_is })
 
+  -- the kinds stay the three
   taken-kinds : HasKinds u → HasKinds w
   taken-kinds h b there later = elim (cases_eq b m) [
     | inl e ↦ inr (inl (let K : ℕ → Type 0 = λ i. IsKind w 2 i in subst K (sym e) t.is))
@@ -207,6 +220,7 @@ module _ {u w : VolumeState} (m : ℕ) (same : AreSame u w) (f : IsFormatted u) 
     ]
   ]
 
+  -- taking a block is a step
   pub taken-step : (n : ℕ) → IsIndexStep u n m 1 w
   taken-step n = record {
     size = same.size;
@@ -237,6 +251,7 @@ module _ {u w : VolumeState} (m : ℕ) (same : AreSame u w) (f : IsFormatted u) 
 zeros : List ℕ
 zeros = replicate 12 0
 
+-- each of them is 0
 zeros-at : (j : ℕ) → j < 12 → slice_index zeros j ≡ 0
 unfolding zeros
 zeros-at j l = get_or-replicate 12 j 0 0 l
@@ -246,6 +261,7 @@ zero-four : (b : List ℕ) → ((j : ℕ) → 4 ≤ j → j < 12 → slice_index
 unfolding number_at zeros
 zero-four b h = number-same 4 8 b zeros (λ j l m. h j (omega arith) (omega arith) ∙ sym (zeros-at j (omega arith)))
 
+-- so are two
 zero-two : (b : List ℕ) → ((j : ℕ) → 4 ≤ j → j < 12 → slice_index b j ≡ 0) → number_at 2 b 4 ≡ 0
 unfolding number_at zeros
 zero-two b h = number-same 2 4 b zeros (λ j l m. h j (omega arith) (omega arith) ∙ sym (zeros-at j (omega arith)))

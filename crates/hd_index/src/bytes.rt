@@ -1,4 +1,4 @@
-ghost use Rattle.std.specs.Prelude.{◌≡◌, ◌≢◌, ◌+◌, ◌≤◌, IsTrue, length, take, IfOk, IfErr, OnOk};
+ghost use Rattle.std.specs.Prelude.{◌≡◌, ◌+◌, ◌≤◌, IsTrue, length, take, IfOk, IfErr, OnOk};
 ghost use Rattle.hd_bytes.specs.Numbers.{number_at};
 ghost use Rattle.hd_bytes.specs.Blocks.{HasBlock};
 ghost use Rattle.hd_bytes.specs.Ranges.{bytes_at, with_bytes};
@@ -6,7 +6,6 @@ ghost use Rattle.hd_volume.specs.Volumes.{IsFormatted, IsKind, block_at};
 ghost use Rattle.hd_volume.specs.Calls.{IsCall, IsRead};
 ghost use Rattle.hd_index.specs.Edits.{HasNewBytes};
 
-use crate::place::has_block;
 use hd_bytes::{write_u16, write_u32};
 use hd_dbd::Refused;
 use hd_volume::{BlockStore, Volume};

@@ -1,4 +1,4 @@
-ghost use Rattle.std.specs.Prelude.{◌≡◌, ◌⊎◌, ◌+◌, ◌*◌, ◌≤◌, ◌<◌, length, true, None, IsTrue, IfErr, OnOk};
+ghost use Rattle.std.specs.Prelude.{◌≡◌, ◌⊎◌, ◌+◌, ◌≤◌, ◌<◌, length, true, None, IsTrue, IfErr, OnOk};
 ghost use Rattle.hd_volume.specs.Volumes.{IsFormatted};
 ghost use Rattle.hd_volume.specs.Rooms.{spare, free_blocks};
 ghost use Rattle.hd_volume.specs.Calls.{IsCall};
@@ -10,7 +10,7 @@ ghost use Rattle.hd_index.specs.Changes.{IsIndexOf, entries_for, IsIndexChange};
 
 use crate::edit::remove_entry;
 use crate::enter::insert_key;
-use crate::entries::{ADDRESS, FIRST, root_key_length};
+use crate::entries::root_key_length;
 use crate::place::locate;
 use hd_dbd::{Dbd, Refused};
 use hd_volume::{BlockStore, Volume};
@@ -46,6 +46,7 @@ pub fn insert<S: BlockStore>(
     address: u32,
 ) -> Result<(), Refused>
     requires index { IsTrue volume.old.is_sound → IsIndexOf dbd.now volume.old }
+    requires size { volume.old.size ≡ dbd.now.block_size }
     requires whole { length key.now ≡ root_key_length dbd.now.types }
     requires new { IsTrue volume.old.is_sound → address_of key.now (entries_for dbd.now volume.old) ≡ None }
     ensures call { IsCall volume.old result volume.new }
@@ -60,19 +61,8 @@ pub fn insert<S: BlockStore>(
     ensures refusal { IfErr result (λ e. (e ≡ Refused.Memory) ⊎ (e ≡ Refused.Full) ⊎ (e ≡ Refused.Device)) }
     ensures room { IsTrue volume.new.is_sound → volume.old.room ≤ volume.new.room + index_growth volume.old }
 {
-    if !is_roomy(volume, dbd) {
-        return Ok(());
-    }
-    insert_key(volume, key, address)
-}
-
-/// Three entries find room in a block, as in every block of the database's size.
-fn is_roomy<S: BlockStore>(volume: &Volume<S>, dbd: &Dbd) -> bool
-    ensures three { result ≡ true → 3 * (root_key_length dbd.now.types + 4) + 12 ≤ volume.now.size }
-    ensures own { volume.now.size ≡ dbd.now.block_size → result ≡ true }
-    ensures short { root_key_length dbd.now.types ≤ 255 }
-{
-    volume.block_size() >= FIRST + 3 * (root_key_length(dbd) + ADDRESS)
+    let key_length = root_key_length(dbd);
+    insert_key(volume, key_length, key, address)
 }
 
 /// Takes the root of a key out of the index; a key that it does not have leaves it as it is.

@@ -5,10 +5,10 @@ ghost use Rattle.hd_volume.specs.Calls.{IsCall};
 ghost use Rattle.hd_volume.specs.Entries.{entries_in};
 ghost use Rattle.hd_volume.specs.Indexes.{entry_room, IsEntryBlock};
 ghost use Rattle.hd_index.specs.Places.{entry_place};
-ghost use Rattle.hd_index.specs.Edits.{Bears, HasNewEntries};
+ghost use Rattle.hd_index.specs.Edits.{HasNewEntries};
 
-use crate::bytes::{copy_down, four_bytes, move_up, two_bytes, write_part};
-use crate::entries::{ADDRESS, COUNT, NEXT, entry_place};
+use crate::bytes::{copy_down, move_up, two_bytes, write_part};
+use crate::entries::{ADDRESS, COUNT, entry_place};
 use hd_bytes::write_u32;
 use hd_dbd::Refused;
 use hd_volume::{BlockStore, Volume};

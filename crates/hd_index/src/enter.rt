@@ -1,4 +1,4 @@
-ghost use Rattle.std.specs.Prelude.{◌≡◌, ◌≢◌, ◌+◌, ◌*◌, ◌≤◌, ◌<◌, ◌∷◌, ◌++◌, [], None, IsTrue, length, take, drop, IfErr, OnOk};
+ghost use Rattle.std.specs.Prelude.{◌≡◌, ◌+◌, ◌*◌, ◌≤◌, ◌<◌, ◌∷◌, ◌++◌, [], None, IsTrue, length, take, drop, IfErr, OnOk};
 ghost use Rattle.hd_bytes.specs.Numbers.{number_at};
 ghost use Rattle.hd_volume.specs.Headers.{header_of};
 ghost use Rattle.hd_volume.specs.Volumes.{IsFormatted, block_at};
@@ -124,18 +124,20 @@ fn insert_at<S: BlockStore>(
 /// Enters the root of a new key.
 pub fn insert_key<S: BlockStore>(
     volume: &mut Volume<S>,
+    key_length: usize,
     key: &[u8],
     address: u32,
 ) -> Result<(), Refused>
     requires index { IsTrue volume.old.is_sound → HasIndex (length key.now) volume.old }
     requires new { IsTrue volume.old.is_sound → address_of key.now (entries (length key.now) volume.old) ≡ None }
-    requires short { length key.now ≤ 255 }
-    requires three { 3 * (length key.now + 4) + 12 ≤ volume.old.size }
+    requires whole { length key.now ≡ key_length }
+    requires short { key_length ≤ 255 }
+    requires three { 3 * (key_length + 4) + 12 ≤ volume.old.size }
     ensures call { IsCall volume.old result volume.new }
     ensures changed { OnOk result (IsTrue volume.old.is_sound → IsChanged (length key.now) volume.old (with_entry (record { key = key.now; address = address }) (entries (length key.now) volume.old)) 1 volume.new) }
     ensures refused { IfErr result (λ e. IsRefused volume.old e volume.new) }
     ensures room { IsTrue volume.new.is_sound → volume.old.room ≤ volume.new.room + 1 }
 {
-    let spot = locate(volume, key.len(), key)?;
+    let spot = locate(volume, key_length, key)?;
     insert_at(volume, spot, key, address)
 }

@@ -12,3 +12,6 @@ mod search;
 
 pub use change::{growth, insert, lacks_room, remove};
 pub use search::{find, next_from};
+
+#[cfg(test)]
+mod tests;

@@ -21,14 +21,9 @@ pub fn find<S: BlockStore>(
     ensures value { IfOk result (λ r. IsTrue volume.old.is_sound → IsIndexOf dbd.now volume.old → r ≡ address_of key.now (entries_for dbd.now volume.old)) }
     ensures refusal { IfErr result (λ e. e ≡ Refused.Device) }
 {
-    let found = look_up(volume, dbd, key)?;
-    match found {
-        None => Ok(None),
-        Some(found) => Ok(if found.is_key {
-            Some(found.address)
-        } else {
-            None
-        }),
+    match look_up(volume, dbd, key)? {
+        Some(found) if found.is_key => Ok(Some(found.address)),
+        _ => Ok(None),
     }
 }
 
@@ -45,10 +40,7 @@ pub fn next_from<S: BlockStore>(
     ensures refusal { IfErr result (λ e. e ≡ Refused.Device) }
 {
     let found = look_up(volume, dbd, key)?;
-    match found {
-        None => Ok(None),
-        Some(found) => Ok(Some(found.address)),
-    }
+    Ok(found.map(|found| found.address))
 }
 
 /// The entry at the place of a key, if there is one.

@@ -1,4 +1,4 @@
-use Rattle.std.proofs.Common.{◌≡◌, IsTrue, List, ℕ, take, ap, sym, ◌∙◌, arith}
+use Rattle.std.proofs.Common.{◌≡◌, IsTrue, List, ℕ, take, ap, ◌∙◌}
 use Rattle.hd_bytes.specs.Ranges.{bytes_at, with_bytes}
 use Rattle.hd_volume.specs.Volumes.{block_at}
 use Rattle.hd_index.specs.Edits.{HasNewBytes}

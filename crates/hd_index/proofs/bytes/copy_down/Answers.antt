@@ -1,6 +1,6 @@
-use Rattle.std.proofs.Common.{◌≡◌, ◌≤◌, ◌+◌, ◌-◌, ℕ, min, IsTrue, Ok, ap, sym, ◌∙◌, arith}
+use Rattle.std.proofs.Common.{IsTrue, Ok, ◌∙◌, arith}
 use Rattle.hd_volume.proofs.JoinLemmas.{calls-join}
-use Rattle.hd_index.proofs.CallLemmas.{call-ok}
+use Rattle.hd_volume.proofs.CallSteps.{call-ok}
 use Rattle.hd_index.proofs.EditLemmas.{copy-step}
 use Rattle.hd_index.proofs.bytes.copy_down.Goals as goal
 

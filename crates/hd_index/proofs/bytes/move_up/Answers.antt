@@ -1,9 +1,9 @@
-use Rattle.std.proofs.Common.{◌≡◌, ◌≤◌, ◌+◌, ◌-◌, ℕ, min, IsTrue, Ok, List, refl, ap, sym, subst, ◌∙◌, arith}
+use Rattle.std.proofs.Common.{◌≡◌, ◌+◌, ◌-◌, ℕ, IsTrue, Ok, List, refl, subst, ◌∙◌, arith}
 use Rattle.hd_bytes.specs.Ranges.{bytes_at, with_bytes}
 use Rattle.hd_volume.specs.Volumes.{block_at}
 use Rattle.hd_volume.proofs.JoinLemmas.{calls-join}
 use Rattle.hd_index.specs.Edits.{HasNewBytes}
-use Rattle.hd_index.proofs.CallLemmas.{call-ok, call-none}
+use Rattle.hd_volume.proofs.CallSteps.{call-ok, call-none}
 use Rattle.hd_index.proofs.EditLemmas.{move-step, move-none}
 use Rattle.hd_index.proofs.bytes.move_up.Goals as goal
 

@@ -1,9 +1,5 @@
-use Rattle.std.proofs.Common.{◌≡◌, ◌<◌, IsTrue, IfErr}
 use Rattle.hd_index.specs.Edits.{IsRefused}
 use Rattle.hd_dbd.specs.declared.answer.Refused.{Refused}
-use Rattle.hd_dbd.specs.declared.answer.Refused.TheVariants.{Memory}
-use Rattle.hd_volume.specs.Rooms.{free_blocks}
-use Rattle.hd_volume.specs.Indexes.{index_growth}
 use Rattle.hd_volume.proofs.JoinLemmas.{if-err-map}
 use Rattle.hd_index.proofs.InsertLemmas.{few-free}
 use Rattle.hd_index.proofs.change.insert.Goals as goal

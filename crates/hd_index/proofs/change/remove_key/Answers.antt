@@ -1,13 +1,11 @@
-use Rattle.std.proofs.Common.{◌≡◌, ◌<◌, ◌≤◌, ◌++◌, ℕ, suc, take, drop, true, false, IsTrue, OnOk, None, ap, sym, subst, ◌∙◌, arith, Option}
+use Rattle.std.proofs.Common.{◌<◌, ◌++◌, ℕ, suc, take, drop, IsTrue, ap, ◌∙◌, arith}
 use Rattle.hd_bytes.specs.Numbers.{number_at}
-use Rattle.hd_volume.specs.Volumes.{VolumeState, block_at}
-use Rattle.hd_volume.specs.Entries.{entries, entries_in}
-use Rattle.hd_volume.proofs.JoinLemmas.{AreOne, read-one}
-use Rattle.hd_index.specs.declared.place.Found.{Found}
+use Rattle.hd_volume.specs.Volumes.{block_at}
+use Rattle.hd_volume.specs.Entries.{entries_in}
+use Rattle.hd_volume.proofs.JoinLemmas.{read-one}
 use Rattle.hd_index.specs.declared.place.Spot.{Spot}
-use Rattle.hd_index.specs.Maps.{without_key}
 use Rattle.hd_index.specs.Places.{address_found}
-use Rattle.hd_index.specs.Edits.{HasNewEntries, IsChanged}
+use Rattle.hd_index.specs.Edits.{HasNewEntries}
 use Rattle.hd_index.proofs.CallLemmas.{on-ok-map}
 use Rattle.hd_index.proofs.ChainLemmas.{entry-block-same}
 use Rattle.hd_index.proofs.ChangeLemmas.{spot-there, remains, removed, not-key, is-key}

@@ -1,6 +1,6 @@
-use Rattle.std.proofs.Common.{◌≡◌, ◌≢◌, ◌≤◌, ◌<◌, inl, inr, ℕ, IsTrue, List, drop, refl, subst, ap, sym, ◌∙◌, arith}
+use Rattle.std.proofs.Common.{ℕ, IsTrue, List, drop, ap, ◌∙◌, arith}
 use Rattle.hd_bytes.specs.Numbers.{number_at}
-use Rattle.hd_volume.specs.Volumes.{VolumeState, block_at}
+use Rattle.hd_volume.specs.Volumes.{block_at}
 use Rattle.hd_volume.specs.Entries.{Entry, entries_in}
 use Rattle.hd_volume.proofs.FrameLemmas.{AreSame}
 use Rattle.hd_index.proofs.StepLemmas.{taken-stays, taken-bears, lower-stays, halved}

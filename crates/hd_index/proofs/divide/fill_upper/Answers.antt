@@ -1,4 +1,4 @@
-use Rattle.std.proofs.Common.{◌≡◌, ◌≤◌, ◌<◌, ◌+◌, ◌-◌, ◌*◌, ℕ, IsTrue, OnOk, List, length, subst, ap, sym, ◌∙◌, arith}
+use Rattle.std.proofs.Common.{◌≡◌, ◌+◌, ◌-◌, ◌*◌, ℕ, IsTrue, List, subst, arith}
 use Rattle.hd_bytes.specs.Ranges.{bytes_at, with_bytes}
 use Rattle.hd_volume.specs.Volumes.{block_at}
 use Rattle.hd_index.specs.Edits.{HasNewBytes}

@@ -1,4 +1,4 @@
-use Rattle.std.proofs.Common.{◌≡◌, ◌≤◌, ◌<◌, ◌+◌, ◌-◌, ◌*◌, ℕ, IsTrue, OnOk, List, take, length, subst, ap, sym, ◌∙◌, arith}
+use Rattle.std.proofs.Common.{◌≡◌, ◌+◌, ◌-◌, ◌*◌, ℕ, IsTrue, List, take, length, subst, ap, ◌∙◌, arith}
 use Rattle.hd_index.proofs.CallLemmas.{on-ok-map}
 use Rattle.std.proofs.lemmas.List.{length-take-le, take-take}
 use Rattle.hd_bytes.specs.Ranges.{bytes_at, with_bytes}

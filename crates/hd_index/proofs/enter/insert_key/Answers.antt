@@ -1,10 +1,10 @@
-use Rattle.std.proofs.Common.{◌≡◌, ◌<◌, ◌≤◌, ℕ, List, IsTrue, OnOk, length, ap, ◌∙◌, sym, arith}
+use Rattle.std.proofs.Common.{ℕ, IsTrue, length, ap, ◌∙◌, sym, arith}
 use Rattle.hd_volume.specs.Entries.{Entry, entries}
 use Rattle.hd_volume.proofs.JoinLemmas.{read-one}
 use Rattle.hd_index.specs.Maps.{address_of, with_entry}
 use Rattle.hd_index.specs.Edits.{IsChanged}
 use Rattle.hd_index.proofs.CallLemmas.{on-ok-map}
-use Rattle.hd_index.proofs.ChainLemmas.{spot-same}
+use Rattle.hd_index.proofs.ChainLemmas.{located, spot-same}
 use Rattle.hd_index.proofs.ChangeLemmas.{index-after}
 use Rattle.hd_index.proofs.InsertLemmas.{changed-before}
 use Rattle.hd_index.proofs.enter.insert_key.Goals as goal
@@ -29,7 +29,7 @@ insert_at-requires-clause-spot g c now =
     let v = c.locate.new.volume in
     let sound : IsTrue u.is_sound = rw (← c.in_ok-spot.ensures.read.call.sound) now in
     let o = read-one c.in_ok-spot.ensures.read now in
-    c.in_ok-spot.ensures.value sound (c.requires.index sound) ∙ sym (spot-same (length c.args.key.now) u v c.args.key.now o.same.size o.image)
+    located c.args.key_length (length c.args.key.now) u c.args.key.now c.in_ok-spot.spot (sym c.requires.whole) (c.requires.index sound) (c.in_ok-spot.ensures.value sound) ∙ sym (spot-same (length c.args.key.now) u v c.args.key.now o.same.size o.image)
 
 pub returns-clause-changed : goal.returns-clause-changed
 returns-clause-changed g c =

@@ -1,4 +1,4 @@
-use Rattle.std.proofs.Common.{◌+◌, ◌≤◌, arith}
+use Rattle.std.proofs.Common.{◌+◌, arith}
 use Rattle.hd_index.proofs.RoomLemmas.{room-most, room-within}
 use Rattle.hd_index.proofs.entries.entry_room.Goals as goal
 

@@ -1,4 +1,4 @@
-use Rattle.std.proofs.Common.{◌≡◌, ℕ, ◌+◌, ◌-◌, ◌/◌, ◌≤◌, ◌<◌, arith, sym, ◌∙◌}
+use Rattle.std.proofs.Common.{ℕ, ◌+◌, ◌-◌, ◌/◌, arith, sym, ◌∙◌}
 use Rattle.hd_index.proofs.BlockLemmas.{below-at, below-through, above-through}
 use Rattle.hd_index.proofs.entries.place_in.Goals as goal
 

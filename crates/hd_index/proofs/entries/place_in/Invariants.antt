@@ -1,4 +1,4 @@
-use Rattle.std.proofs.Common.{◌≡◌, ℕ, ◌-◌, ◌+◌, ◌*◌, ◌<◌, ◌≤◌, true, false}
+use Rattle.std.proofs.Common.{◌≡◌, ℕ, ◌-◌, ◌<◌, ◌≤◌, true, false}
 use Rattle.hd_bytes.specs.Ranges.{bytes_at}
 use Rattle.hd_volume.specs.Entries.{entries_at}
 use Rattle.hd_volume.specs.Indexes.{key_less, keys_ascend}

@@ -1,4 +1,4 @@
-use Rattle.std.proofs.Common.{◌≡◌, ◌≤◌, ◌+◌, ◌*◌, arith}
+use Rattle.std.proofs.Common.{arith}
 use Rattle.hd_index.proofs.RoomLemmas.{root-fits}
 use Rattle.hd_index.proofs.entries.root_key_length.Goals as goal
 

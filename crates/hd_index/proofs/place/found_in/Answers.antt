@@ -1,10 +1,11 @@
-use Rattle.std.proofs.Common.{◌≡◌, ◌≤◌, ◌<◌, ◌+◌, ◌*◌, ℕ, Bool, List, Option, Some, None, length, ap, sym, ◌∙◌, arith, refl}
+use Rattle.std.proofs.lemmas.Option.{slice_get_past}
+use Rattle.std.proofs.Common.{◌≡◌, ◌+◌, ◌*◌, ℕ, Bool, List, Option, Some, None, ap, sym, ◌∙◌, arith}
 use Rattle.std.specs.Prelude.{option_map, slice_get, bytes_eq}
 use Rattle.hd_bytes.specs.Numbers.{number_at}
 use Rattle.hd_bytes.specs.Ranges.{bytes_at}
-use Rattle.hd_volume.specs.Entries.{Entry, entries_at, entries_in}
+use Rattle.hd_volume.specs.Entries.{Entry, entries_in}
 use Rattle.hd_index.specs.declared.place.Found.{Found}
-use Rattle.hd_index.proofs.BlockLemmas.{entry_of, length-entries, entry-get, get-past}
+use Rattle.hd_index.proofs.BlockLemmas.{entry_of, length-entries, entry-get}
 use Rattle.hd_index.proofs.place.found_in.Goals as goal
 
 abbrev found : Bool → ℕ → Found
@@ -17,7 +18,7 @@ returns-then-index-entry_count-clause-value c fits =
     let n : ℕ = number_at 2 b 4 in
     let len = length-entries k b 12 n in
     let v = c.entry_count.ensures.value in
-    let none : slice_get (entries_in k b) c.args.index ≡ None = get-past (entries_in k b) c.args.index (omega arith) in
+    let none : slice_get (entries_in k b) c.args.index ≡ None = slice_get_past (entries_in k b) c.args.index (omega arith) in
     sym (ap (λ (o : Option Entry). option_map (λ e. record { address = e.address; is_key = bytes_eq e.key c.args.key.now }) o) none)
 
 pub returns-clause-value : goal.returns-clause-value

@@ -1,4 +1,4 @@
-use Rattle.std.proofs.Common.{◌≡◌, IsTrue}
+use Rattle.std.proofs.Common.{IsTrue}
 use Rattle.hd_index.proofs.ChainLemmas.{place-spot-by}
 use Rattle.hd_index.proofs.place.locate.Goals as goal
 

@@ -1,4 +1,4 @@
-use Rattle.std.proofs.Common.{◌≡◌, ◌≤◌, ◌<◌, length, ap, ◌∙◌, arith}
+use Rattle.std.proofs.Common.{◌≡◌, length, ap, ◌∙◌, arith}
 use Rattle.hd_bytes.proofs.BlockLemmas.{length-block}
 use Rattle.hd_volume.specs.Volumes.{block_at}
 use Rattle.hd_index.proofs.place.look.Goals as goal

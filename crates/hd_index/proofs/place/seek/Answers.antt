@@ -1,12 +1,11 @@
-use Rattle.std.proofs.Common.{◌≡◌, ◌≢◌, ◌≤◌, ◌<◌, ◌+◌, ◌-◌, ℕ, List, suc, IsTrue, Ok, length, ap, refl, sym, subst, ◌∙◌, arith}
+use Rattle.std.proofs.Common.{◌≡◌, ◌≢◌, ◌+◌, ◌-◌, ℕ, List, suc, IsTrue, Ok, ap, refl, sym, subst, ◌∙◌, arith}
 use Rattle.hd_volume.specs.Headers.{header_of}
-use Rattle.hd_volume.specs.Volumes.{VolumeState, block_at}
+use Rattle.hd_volume.specs.Volumes.{block_at}
 use Rattle.hd_volume.specs.Entries.{entries_in}
 use Rattle.hd_volume.specs.Indexes.{HasIndex, keys_ascend}
 use Rattle.hd_index.specs.declared.entries.Seen.{Seen}
-use Rattle.hd_index.specs.declared.place.Place.{Place}
-use Rattle.hd_index.specs.Places.{seen_in, place_from, place_of}
-use Rattle.hd_index.proofs.CallLemmas.{reads-join, read-ok, read-none}
+use Rattle.hd_index.specs.Places.{seen_in, place_from}
+use Rattle.hd_volume.proofs.CallSteps.{reads-join, read-ok, read-none}
 use Rattle.hd_index.proofs.ChainLemmas.{IsLeft, left-block, left-next, place-step, place-end, entry-block-same, seen-same, index-left}
 use Rattle.hd_index.proofs.place.seek.Goals as goal
 

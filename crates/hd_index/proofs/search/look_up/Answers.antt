@@ -1,9 +1,9 @@
-use Rattle.std.proofs.Common.{◌≡◌, ℕ, ap, ◌∙◌, Option, subst, sym}
+use Rattle.std.proofs.Common.{ℕ, ap, ◌∙◌, Option}
 use Rattle.std.specs.Prelude.{option_map}
-use Rattle.hd_volume.specs.Indexes.{root_key_length, HasIndex}
+use Rattle.hd_volume.specs.Indexes.{root_key_length}
 use Rattle.hd_index.specs.declared.place.Found.{Found}
 use Rattle.hd_index.specs.declared.place.Spot.{Spot}
-use Rattle.hd_index.specs.Places.{place_of, found_at, spot_of, address_found}
+use Rattle.hd_index.specs.Places.{place_of, address_found}
 use Rattle.hd_index.proofs.ChainLemmas.{index-found, spot-found, located}
 use Rattle.hd_index.proofs.search.look_up.Goals as goal
 
