@@ -1,6 +1,7 @@
 ghost use Rattle.std.specs.Prelude.{◌≡◌, ◌<◌, ◌≤◌, false, IfOk};
 ghost use Rattle.hd_dbd.specs.Facts.{stored_sizes};
 
+use crate::link_tests::has_bytes;
 use crate::test_volumes::{link_behind, link_row, link_sample, new_file, sample, type_of};
 use crate::{Path, next_row, prev_twin, unlink_span};
 use hd_dbd::{Dbd, DbdFault, FreeSpace, Name8, Refused, SegType};
@@ -239,13 +240,10 @@ fn unlinks_a_class_with_its_students(rt: HostRuntime) -> Result<(), Fail> {
         b"101ALGEB\n02CD\nEULER\n205LOGIC\n".as_slice()
     );
     let image = fs::read(&rt, "unlinked")?;
-    assert_eq!(rt; image.get(128..130), Some(b"\0\x30".as_slice()));
-    assert_eq!(rt;
-        image.get(146..154),
-        Some(b"\0\0\0\xe8\0\0\0\xe8".as_slice())
-    );
-    assert_eq!(rt; image.get(176..184), Some(b"\0\0\0\x38\0\0\0\0".as_slice()));
-    assert_eq!(rt; image.get(238..242), Some(b"\0\0\0\0".as_slice()));
+    assert!(rt; has_bytes(&image, 128, b"\0\x30"));
+    assert!(rt; has_bytes(&image, 146, b"\0\0\0\xe8\0\0\0\xe8"));
+    assert!(rt; has_bytes(&image, 176, b"\0\0\0\x38\0\0\0\0"));
+    assert!(rt; has_bytes(&image, 238, b"\0\0\0\0"));
     fs::remove_file(&rt, "unlinked")?;
     Ok(())
 }
