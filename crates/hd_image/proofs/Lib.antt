@@ -1,6 +1,7 @@
 pub mod SameRecords
 pub mod Roots
 pub mod Found
+pub mod Saying
 pub mod Writes
 pub mod Puts
 pub mod Empty

@@ -1,7 +1,5 @@
 -- Bytes that are written into a segment of a database's volume.
-use Rattle.std.proofs.Common.{◌≡◌, ◌≢◌, ℕ, ◌<◌, List, [], ◌||◌, ◌==◌, refl, sym, ap, subst, ◌∙◌, Some, arith, ne_eqb, inl, inr}
-use Rattle.std.specs.Prelude.{is_some}
-use Rattle.std.specs.Option.{option_map_or}
+use Rattle.std.proofs.Common.{◌≡◌, ◌≢◌, ℕ, ◌<◌, List, ◌==◌, refl, sym, ap, subst, ◌∙◌, Some, arith, ne_eqb, inl, inr}
 use Rattle.std.proofs.lemmas.Bool.{cases_eq, eq-eqb, cond-true, cond-false}
 use Rattle.hd_bytes.specs.Numbers.{number_at}
 use Rattle.hd_bytes.specs.Ranges.{with_bytes}
@@ -15,7 +13,7 @@ use Rattle.hd_volume.specs.Calls.{IsWritten}
 use Rattle.hd_prefix.specs.declared.pointer.Pointer.{Pointer}
 use Rattle.hd_prefix.specs.declared.pointer.Pointer.TheVariants.{TwinForward, TwinBackward, FirstChild, LastChild}
 use Rattle.hd_prefix.specs.Pointers.{place_of}
-use Rattle.hd_prefix.specs.Fields.{code_of, delete_byte_of, pointer_of, bytes_of, IsPointerSet, IsBytesSet}
+use Rattle.hd_prefix.specs.Fields.{code_of, pointer_of, bytes_of, IsPointerSet, IsBytesSet}
 use Rattle.hd_prefix.proofs.Places.{inside_some, apart_some}
 use Rattle.hd_prefix.proofs.Fitting.{row_is}
 use Rattle.hd_prefix.proofs.Writes.{pointer_with, bytes_with}
@@ -25,6 +23,7 @@ use Rattle.hd_image.specs.Records.{stored_at, links_of}
 use Rattle.hd_image.specs.Pointing.{with_pointer}
 use Rattle.hd_image.specs.Laws.{WritingSetsAPointer, WritingReplacesBytes}
 use Rattle.hd_image.proofs.SameRecords.{SameRoots, SameAt, IsSetAt, pointer_in, same-agree, with-same, found-same}
+use Rattle.hd_image.proofs.Saying.{found-says}
 use Rattle.hd_image.proofs.Found.{segment-found, stored-found}
 
 -- the header's roots stay where the header does
@@ -36,30 +35,19 @@ pub elsewhere-found : (types : List SegmentType) (v w : VolumeState) (a place : 
     → SameAt (links_of types v) (links_of types w) b
 elsewhere-found types v w a place bytes written b ne = found-same types v w b (λ _. roots-stay v w written.header) (written.others b ne)
 
--- a pointer of a segment behind the header
-pub pointer-behind : (types : List SegmentType) (v : VolumeState) (a : ℕ) (s : List ℕ) (pointer : Pointer) → 0 < a → stored_at v a ≡ s
-    → pointer_in (links_of types v) a pointer ≡ pointer_of types (code_of s) pointer s
-pointer-behind types v a s TwinForward some is = ap (λ s. pointer_of types (code_of s) TwinForward s) is
-pointer-behind types v a s TwinBackward some is = ap (λ s. pointer_of types (code_of s) TwinBackward s) is
-pointer-behind types v a s (FirstChild t) some is =
-    cond-false (a == 0) (header_of v.image).first_root _ (ne_eqb a 0 (λ e. omega arith)) ∙ ap (λ s. pointer_of types (code_of s) (FirstChild t) s) is
-pointer-behind types v a s (LastChild t) some is =
-    cond-false (a == 0) (header_of v.image).last_root _ (ne_eqb a 0 (λ e. omega arith)) ∙ ap (λ s. pointer_of types (code_of s) (LastChild t) s) is
-
 -- a pointer that is set in a stored segment is set in its record
 set-at : (types : List SegmentType) (v w : VolumeState) (pointer : Pointer) (a x : ℕ) (s t : List ℕ) → 0 < a → find v a ≡ Some s → find w a ≡ Some t
     → IsPointerSet types (code_of s) pointer x s t → IsSetAt (links_of types v) (links_of types w) pointer a x
 set-at types v w pointer a x s t some was is set =
-    let before : stored_at v a ≡ s = ap (λ o. option_map_or (λ segment. segment) o []) was in
-    let after : stored_at w a ≡ t = ap (λ o. option_map_or (λ segment. segment) o []) is in
+    let before = found-says types v a s some was in
+    let after = found-says types w a t some is in
     record {
-      here = ap (λ o. a == 0 || is_some o) is ∙ sym (ap (λ o. a == 0 || is_some o) was);
-      code = ap code_of after ∙ set.code ∙ sym (ap code_of before);
-      bytes = ap (λ s. bytes_of types (code_of s) s) after ∙ ap (λ c. bytes_of types c t) set.code ∙ set.bytes ∙ sym (ap (λ s. bytes_of types (code_of s) s) before);
-      delete_byte = ap delete_byte_of after ∙ set.delete_byte ∙ sym (ap delete_byte_of before);
-      is = pointer-behind types w a t pointer some after ∙ ap (λ c. pointer_of types c pointer t) set.code ∙ set.is;
-      others = λ other ne.
-          pointer-behind types w a t other some after ∙ ap (λ c. pointer_of types c other t) set.code ∙ set.others other ne ∙ sym (pointer-behind types v a s other some before);
+      here = after.here ∙ sym before.here;
+      code = after.code ∙ set.code ∙ sym before.code;
+      bytes = after.bytes ∙ ap (λ c. bytes_of types c t) set.code ∙ set.bytes ∙ sym before.bytes;
+      delete_byte = after.delete_byte ∙ set.delete_byte ∙ sym before.delete_byte;
+      is = after.pointers pointer ∙ ap (λ c. pointer_of types c pointer t) set.code ∙ set.is;
+      others = λ other ne. after.pointers other ∙ ap (λ c. pointer_of types c other t) set.code ∙ set.others other ne ∙ sym (before.pointers other);
     }
 
 pub writing-sets : WritingSetsAPointer
@@ -98,15 +86,15 @@ replaced-elsewhere m m2 a bytes b ne s = record {
 replaced-at : (types : List SegmentType) (v w : VolumeState) (a : ℕ) (bytes s t : List ℕ) → 0 < a → find v a ≡ Some s → find w a ≡ Some t
     → IsBytesSet types (code_of s) bytes s t → SameAt (replaced (links_of types v) a bytes) (links_of types w) a
 replaced-at types v w a bytes s t some was is set =
-    let before : stored_at v a ≡ s = ap (λ o. option_map_or (λ segment. segment) o []) was in
-    let after : stored_at w a ≡ t = ap (λ o. option_map_or (λ segment. segment) o []) is in
+    let before = found-says types v a s some was in
+    let after = found-says types w a t some is in
     record {
-      here = ap (λ o. a == 0 || is_some o) is ∙ sym (ap (λ o. a == 0 || is_some o) was);
-      code = ap code_of after ∙ set.code ∙ sym (ap code_of before);
-      bytes = ap (λ s. bytes_of types (code_of s) s) after ∙ ap (λ c. bytes_of types c t) set.code ∙ set.is ∙ sym (cond-true (a == a) bytes _ (eq-eqb a a refl));
-      delete_byte = ap delete_byte_of after ∙ set.delete_byte ∙ sym (ap delete_byte_of before);
+      here = after.here ∙ sym before.here;
+      code = after.code ∙ set.code ∙ sym before.code;
+      bytes = after.bytes ∙ ap (λ c. bytes_of types c t) set.code ∙ set.is ∙ sym (cond-true (a == a) bytes _ (eq-eqb a a refl));
+      delete_byte = after.delete_byte ∙ set.delete_byte ∙ sym before.delete_byte;
       pointers = λ pointer.
-          pointer-behind types w a t pointer some after ∙ ap (λ c. pointer_of types c pointer t) set.code ∙ set.pointers pointer ∙ sym (pointer-behind types v a s pointer some before)
+          after.pointers pointer ∙ ap (λ c. pointer_of types c pointer t) set.code ∙ set.pointers pointer ∙ sym (before.pointers pointer)
           ∙ sym (replaced-pointers (links_of types v) a bytes a pointer);
     }
 
