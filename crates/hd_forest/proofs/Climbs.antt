@@ -1,10 +1,10 @@
 -- The climb along a path.
-use Rattle.std.proofs.Common.{◌≡◌, ◌≢◌, ℕ, zero, suc, ◌+◌, ◌-◌, ◌<◌, ◌≤◌, List, [], ◌∷◌, ◌++◌, length, take, slice_index, true, cond, refl, sym, ap, ap₂, subst, ◌∙◌, arith, ne_eqb, inl, inr}
+use Rattle.std.proofs.Common.{◌≡◌, ℕ, zero, suc, ◌+◌, ◌<◌, List, [], ◌∷◌, ◌++◌, length, take, slice_index, true, refl, sym, ap, subst, ◌∙◌, arith, inl, inr}
 use Rattle.std.specs.Prelude.{◌==◌, nat_lt}
 use Rattle.std.proofs.lemmas.List.{take_more}
 use Rattle.std.proofs.lemmas.Bool.{cond-false, le-ltb, eq-eqb, cond-true}
 use Rattle.hd_dbd.specs.Types.{SegmentType}
-use Rattle.hd_links.specs.Links.{Links, IsSegment, IsLinkGraph, child_types, is_child_type}
+use Rattle.hd_links.specs.Links.{Links, IsSegment, child_types, is_child_type}
 use Rattle.hd_links.specs.Pointers.{PointersAreTyped}
 use Rattle.hd_links.specs.Steps.{tip_from, first_some, child_among, later_than, behind_child, behind_from, behind_span}
 use Rattle.hd_links.proofs.Types.{types_ascend, is_in, in_head, in_tail}

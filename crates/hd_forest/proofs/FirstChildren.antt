@@ -1,5 +1,5 @@
 -- The first children that a segment of the records names.
-use Rattle.std.proofs.Common.{◌≡◌, ◌≢◌, ℕ, ◌<◌, List, [], ◌∷◌, length, refl, sym, ap, ap₂, ◌∙◌, arith, ne_eqb}
+use Rattle.std.proofs.Common.{◌≡◌, ◌≢◌, ℕ, ◌<◌, List, [], ◌∷◌, length, refl, ap, ap₂, ◌∙◌, arith, ne_eqb}
 use Rattle.std.specs.Prelude.{◌==◌}
 use Rattle.std.proofs.lemmas.Bool.{cond-false}
 use Rattle.hd_dbd.specs.Types.{SegmentType}
@@ -9,9 +9,9 @@ use Rattle.hd_volume.specs.Headers.{header_of}
 use Rattle.hd_volume.specs.Volumes.{VolumeState}
 use Rattle.hd_prefix.specs.declared.pointer.Pointer.TheVariants.{FirstChild}
 use Rattle.hd_prefix.specs.Fields.{code_of, pointer_of}
-use Rattle.hd_links.specs.Links.{Links, IsSegment, IsLinkGraph, child_types}
+use Rattle.hd_links.specs.Links.{Links, IsSegment, child_types}
 use Rattle.hd_links.specs.Steps.{first_some, child_among}
-use Rattle.hd_links.proofs.Types.{Ordered, ordered}
+use Rattle.hd_links.proofs.Types.{ordered}
 use Rattle.hd_links.proofs.Counts.{segment_code}
 use Rattle.hd_image.specs.Records.{links_of, stored_at, pointer_at, IsVolumeOf}
 use Rattle.hd_image.specs.Laws.{IsDatabase}

@@ -1,19 +1,16 @@
 -- A path into a span, with what is left to be freed at each of its rows.
-use Rattle.std.proofs.Common.{Some, ◌≡◌, ◌≢◌, ◌⊎◌, ℕ, zero, suc, ◌+◌, ◌-◌, ◌*◌, ◌<◌, ◌≤◌, List, [], ◌∷◌, ◌++◌, length, take, Bool, true, false, cond, refl, sym, ap, ap₂, subst, ◌∙◌, arith, inl, inr}
+use Rattle.std.proofs.Common.{Some, ◌≡◌, ℕ, ◌+◌, ◌*◌, ◌<◌, ◌≤◌, List, [], ◌∷◌, ◌++◌, Bool, true, false, cond, sym, ap, subst, ◌∙◌, arith}
 use Rattle.std.specs.Prelude.{◌==◌}
-use Rattle.std.proofs.lemmas.Bool.{cases_eq, cond-true, cond-false, eq-eqb, ne_eqb}
+use Rattle.std.proofs.lemmas.Bool.{cond-false, ne_eqb}
 use Rattle.hd_dbd.specs.Types.{SegmentType}
-use Rattle.hd_dbd.specs.Hierarchy.{level_of}
 use Rattle.hd_dbd.specs.Forest.{Forest, empty, node}
-use Rattle.hd_links.specs.Links.{Links, IsSegment, IsLinkGraph, child_types, is_child_type}
-use Rattle.hd_links.specs.Placed.{Placed, count, first_of, nowhere, with_node, NodesLie, NodeLies, NamesChildren}
-use Rattle.hd_links.specs.Changes.{AgreeAt, Agree}
-use Rattle.hd_links.specs.Steps.{tip_from, first_some, child_among, later_than}
-use Rattle.hd_links.proofs.Types.{Ordered, is_in, in_head, in_tail}
+use Rattle.hd_links.specs.Links.{Links, IsSegment, child_types, is_child_type}
+use Rattle.hd_links.specs.Placed.{Placed, count, first_of, nowhere, with_node, NodesLie, NamesChildren}
+use Rattle.hd_links.specs.Steps.{first_some, child_among, later_than}
+use Rattle.hd_links.proofs.Types.{Ordered}
 use Rattle.hd_links.proofs.Forms.{Formed, is_behind, follows_code}
-use Rattle.hd_links.proofs.Counts.{is_at, one_at, none_at}
-use Rattle.hd_links.proofs.Ways.{head_of, first_below, first_behind, tip_end, later_in}
-use Rattle.hd_forest.specs.Walks.{tip, parent_on, AreSegments}
+use Rattle.hd_links.proofs.Counts.{is_at}
+use Rattle.hd_links.proofs.Ways.{head_of, first_below, first_behind}
 
 -- A row on the path, with the nodes below it and those behind it below one parent.
 pub record Frame : Type 0 where

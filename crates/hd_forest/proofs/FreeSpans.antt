@@ -1,7 +1,7 @@
 -- A span on its way to be freed.
-use Rattle.std.proofs.Common.{◌≡◌, ◌≢◌, ◌⊎◌, ℕ, zero, suc, ◌+◌, ◌-◌, ◌*◌, ◌<◌, ◌≤◌, List, [], ◌∷◌, ◌++◌, length, take, Bool, true, false, not, ◌&&◌, cond, refl, sym, ap, ap₂, subst, ◌∙◌, arith, inl, inr}
+use Rattle.std.proofs.Common.{◌≡◌, ◌≢◌, ℕ, suc, ◌+◌, ◌-◌, ◌<◌, ◌≤◌, List, [], ◌∷◌, ◌++◌, length, take, Bool, true, false, not, ◌&&◌, cond, refl, sym, ap, subst, ◌∙◌, arith, inl, inr}
 use Rattle.std.specs.Prelude.{◌==◌}
-use Rattle.std.proofs.lemmas.Bool.{cases_eq, cases_Bool, cond-true, cond-false, eq-eqb, ne_eqb, and_parts, false≢true}
+use Rattle.std.proofs.lemmas.Bool.{cases_Bool, cond-true, cond-false, eq-eqb, ne_eqb, and_parts, false≢true}
 use Rattle.std.proofs.lemmas.List.{append-nil}
 use Rattle.hd_dbd.specs.Types.{SegmentType}
 use Rattle.hd_dbd.specs.Forest.{Forest, empty, node}
@@ -9,10 +9,10 @@ use Rattle.hd_links.specs.Links.{Links, IsSegment}
 use Rattle.hd_links.specs.Placed.{Placed, count}
 use Rattle.hd_links.specs.Changes.{AgreeAt, Agree}
 use Rattle.hd_links.proofs.Types.{Ordered}
-use Rattle.hd_links.proofs.Counts.{is_at, one_at, none_at}
+use Rattle.hd_links.proofs.Counts.{is_at}
 use Rattle.hd_links.proofs.Ways.{head_of, tip_end}
 use Rattle.hd_image.specs.Pointing.{without_record}
-use Rattle.hd_forest.specs.Walks.{tip, parent_on, AreSegments}
+use Rattle.hd_forest.specs.Walks.{tip, AreSegments}
 use Rattle.hd_forest.specs.Spans.{below_on, beside_on, extended, Freeing, freed_on}
 use Rattle.hd_forest.proofs.Frames.{Frame, path_of, left_of, size_of, steps_of, Stand, row-stands, stand-tail, stand-down, stand-beside}
 use Rattle.hd_forest.proofs.FreeSteps.{cut, seen, cut-one, cut-same, front-of, some-first, below-read, beside-read}

@@ -1,21 +1,19 @@
 -- One step of freeing a span.
-use Rattle.std.proofs.Common.{◌≡◌, ◌≢◌, ◌⊎◌, ℕ, zero, suc, ◌+◌, ◌-◌, ◌*◌, ◌<◌, ◌≤◌, List, [], ◌∷◌, ◌++◌, length, take, Bool, true, false, not, ◌&&◌, ◌||◌, cond, refl, sym, ap, ap₂, subst, ◌∙◌, arith, inl, inr}
+use Rattle.std.proofs.Common.{◌≡◌, ℕ, ◌+◌, ◌-◌, ◌<◌, ◌≤◌, List, [], ◌∷◌, ◌++◌, length, take, Bool, true, false, not, ◌&&◌, ◌||◌, refl, sym, ap, ap₂, ◌∙◌, arith, inl, inr}
 use Rattle.std.specs.Prelude.{◌==◌, nat_lt}
-use Rattle.std.proofs.lemmas.Bool.{cases_eq, cases_Bool, cond-true, cond-false, eq-eqb, ne_eqb, lt-ltb, le-ltb, and_parts, false≢true}
-use Rattle.std.proofs.lemmas.List.{append-nil, length-append, take-append-le}
+use Rattle.std.proofs.lemmas.Bool.{cases_eq, cond-false, eq-eqb, ne_eqb, lt-ltb, le-ltb, false≢true}
+use Rattle.std.proofs.lemmas.List.{length-append, take-append-le}
 use Rattle.hd_dbd.specs.Types.{SegmentType}
-use Rattle.hd_dbd.specs.Forest.{Forest, empty, node}
 use Rattle.hd_links.specs.Links.{Links, IsSegment, child_types, is_child_type}
-use Rattle.hd_links.specs.Placed.{Placed, count, nowhere, NodesLie}
 use Rattle.hd_links.specs.Changes.{AgreeAt, Agree}
-use Rattle.hd_links.specs.Steps.{tip_from, first_some, child_among, later_than}
+use Rattle.hd_links.specs.Steps.{first_some, child_among, later_than}
 use Rattle.hd_links.proofs.Types.{Ordered, is_in, in_head, in_tail}
 use Rattle.hd_links.proofs.Counts.{is_at, one_at, none_at}
 use Rattle.hd_links.proofs.Ways.{head_of, tip_end, later_in}
 use Rattle.hd_image.specs.Pointing.{without_record}
-use Rattle.hd_forest.specs.Walks.{tip, parent_on, AreSegments}
-use Rattle.hd_forest.specs.Spans.{below_on, beside_on, extended, Freeing, freed_on}
-use Rattle.hd_forest.proofs.Frames.{Frame, path_of, left_of, size_of, steps_of, RowStands, StandsBelow, Stand, row-stands, stand-tail, below-is, beside-is, stand-down, stand-beside}
+use Rattle.hd_forest.specs.Walks.{tip, parent_on}
+use Rattle.hd_forest.specs.Spans.{below_on, beside_on}
+use Rattle.hd_forest.proofs.Frames.{Frame, path_of, left_of, Stand, row-stands, below-is, beside-is}
 
 -- ---- records of which some are gone
 

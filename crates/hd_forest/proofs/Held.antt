@@ -1,6 +1,5 @@
 -- What a volume's records are where they hold a forest.
 use Rattle.std.proofs.Common.{◌≡◌, ℕ, ◌<◌, List, length, sym, subst}
-use Rattle.hd_dbd.specs.Types.{SegmentType}
 use Rattle.hd_dbd.specs.Hierarchy.{Database}
 use Rattle.hd_volume.specs.Volumes.{VolumeState}
 use Rattle.hd_links.specs.Links.{Links, IsLinkGraph}

@@ -1,19 +1,15 @@
 -- What is read of a volume's records, and what reading leaves of them.
-use Rattle.std.proofs.Common.{◌≡◌, ◌≢◌, ℕ, ◌<◌, ◌≤◌, IsTrue, List, length, Result, Ok, Some, Bool, true, ◌||◌, ◌==◌, refl, sym, ap, subst, ◌∙◌, arith, inl, inr}
-use Rattle.std.specs.Prelude.{is_some}
-use Rattle.hd_bytes.specs.Blocks.{HasBlock}
-use Rattle.hd_dbd.specs.declared.answer.Refused.{Refused}
+use Rattle.std.proofs.Common.{◌≡◌, ℕ, ◌≤◌, IsTrue, List, length, Ok, Some, sym, subst, ◌∙◌, arith}
 use Rattle.hd_dbd.specs.Types.{SegmentType}
 use Rattle.hd_dbd.specs.Hierarchy.{Database}
 use Rattle.hd_dbd.specs.Prefixes.{stored_size}
-use Rattle.hd_dbd.specs.Forest.{Forest}
 use Rattle.hd_volume.specs.Volumes.{VolumeState}
 use Rattle.hd_volume.specs.Records.{find}
 use Rattle.hd_volume.specs.Calls.{IsRead, HasSegment}
 use Rattle.hd_volume.proofs.JoinLemmas.{one-formatted}
 use Rattle.hd_prefix.specs.Fields.{code_of}
 use Rattle.hd_links.specs.Links.{Links, IsSegment}
-use Rattle.hd_links.specs.Placed.{Placed, Holds}
+use Rattle.hd_links.specs.Placed.{Holds}
 use Rattle.hd_image.specs.Records.{links_of, IsVolumeOf, stored_at}
 use Rattle.hd_image.specs.Laws.{IsDatabase}
 use Rattle.hd_image.proofs.Found.{segment-found, stored-found}

@@ -1,25 +1,22 @@
 -- A span from its first step to its last.
-use Rattle.std.proofs.Common.{◌≡◌, ◌≢◌, ℕ, zero, suc, ◌+◌, ◌-◌, ◌*◌, ◌<◌, ◌≤◌, List, [], ◌∷◌, length, Bool, true, false, ◌&&◌, ◌||◌, cond, Some, None, Option, IsTrue, Result, Ok, refl, sym, ap, subst, ◌∙◌, arith}
+use Rattle.std.proofs.Common.{◌≡◌, ◌≢◌, ℕ, suc, ◌+◌, ◌*◌, ◌<◌, ◌≤◌, List, [], ◌∷◌, length, Bool, true, false, ◌&&◌, ◌||◌, None, Option, refl, sym, ap, subst, arith}
 use Rattle.std.specs.Prelude.{◌==◌, nat_lt}
-use Rattle.std.proofs.lemmas.Bool.{le-ltb}
 use Rattle.std.proofs.Math.Nat.{mul-le-mul_left}
 use Rattle.hd_dbd.specs.Types.{SegmentType}
-use Rattle.hd_dbd.specs.Prefixes.{is_backward_kept}
-use Rattle.hd_dbd.specs.Hierarchy.{Database, level_of}
+use Rattle.hd_dbd.specs.Hierarchy.{Database}
 use Rattle.hd_dbd.specs.Forest.{Forest, fits_below}
 use Rattle.hd_dbd.proofs.LevelLaw.{leveled}
 use Rattle.hd_dbd.proofs.Fitting.{types_fit, level_of-at_most}
 use Rattle.hd_dbd.proofs.StoredSizes.{block_size-bounds}
 use Rattle.hd_volume.specs.Headers.{header_of}
 use Rattle.hd_volume.specs.Volumes.{VolumeState}
-use Rattle.hd_links.specs.Links.{Links, IsSegment, IsLinkGraph, segment_at, is_child_type}
-use Rattle.hd_links.specs.Placed.{Placed, forest_of, count}
-use Rattle.hd_links.specs.Changes.{AgreeAt, Agree}
+use Rattle.hd_links.specs.Links.{Links, IsLinkGraph, segment_at}
+use Rattle.hd_links.specs.Placed.{Placed, forest_of}
+use Rattle.hd_links.specs.Changes.{Agree}
 use Rattle.hd_links.proofs.Types.{Ordered, ordered, above_some, code_some}
 use Rattle.hd_links.proofs.Forms.{formed}
 use Rattle.hd_image.specs.Records.{links_of, IsVolumeOf}
 use Rattle.hd_image.specs.Laws.{IsDatabase}
-use Rattle.hd_image.proofs.Found.{records-link}
 use Rattle.hd_forest.specs.Walks.{AreSegments}
 use Rattle.hd_forest.specs.Spans.{IsSpan, without_span_of, below_on, Freeing, freed_on, IsStep}
 use Rattle.hd_forest.proofs.Agreeing.{agree-trans}

@@ -1,21 +1,21 @@
 -- Where the freeing of a span begins, and how long it takes.
-use Rattle.std.proofs.Common.{◌≡◌, ◌≢◌, ◌⊎◌, ℕ, zero, suc, ◌+◌, ◌-◌, ◌*◌, ◌<◌, ◌≤◌, List, [], ◌∷◌, ◌++◌, length, Bool, true, false, ◌&&◌, ◌||◌, cond, Option, refl, sym, ap, ap₂, subst, ◌∙◌, arith, inl, inr, IsTrue}
+use Rattle.std.proofs.Common.{◌≡◌, ◌≢◌, ℕ, zero, suc, ◌+◌, ◌*◌, ◌<◌, ◌≤◌, List, [], ◌∷◌, length, Bool, true, false, ◌&&◌, ◌||◌, cond, Option, refl, sym, ap, ◌∙◌, arith, inl, inr}
 use Rattle.std.specs.Prelude.{◌==◌, nat_lt}
-use Rattle.std.proofs.lemmas.Bool.{cases_eq, cases_lt, cond-true, cond-false, eq-eqb, ne_eqb, lt-ltb, le-ltb}
+use Rattle.std.proofs.lemmas.Bool.{cases_eq, cases_lt, cond-true, cond-false, ne_eqb, lt-ltb, le-ltb}
 use Rattle.std.proofs.lemmas.List.{length-append}
 use Rattle.hd_dbd.specs.Types.{SegmentType}
-use Rattle.hd_dbd.specs.Rows.{row_fits, level}
+use Rattle.hd_dbd.specs.Rows.{row_fits}
 use Rattle.hd_dbd.specs.Hierarchy.{level_of, parent_of}
 use Rattle.hd_dbd.specs.Forest.{Forest, empty, node}
 use Rattle.hd_dbd.proofs.LevelLaw.{Leveled, depth_below}
-use Rattle.hd_links.specs.Links.{Links, IsSegment, IsLinkGraph, segment_at, is_child_type}
-use Rattle.hd_links.specs.Placed.{Placed, count, nowhere, NodesLie, NodeLies}
+use Rattle.hd_links.specs.Links.{Links, IsLinkGraph}
+use Rattle.hd_links.specs.Placed.{Placed, count, nowhere, NodesLie}
 use Rattle.hd_links.specs.Changes.{AgreeAt, Agree}
-use Rattle.hd_links.proofs.Types.{Ordered, above, above_some, code_some}
+use Rattle.hd_links.proofs.Types.{Ordered, above_some, code_some}
 use Rattle.hd_links.proofs.Counts.{is_at, one_at, none_at}
 use Rattle.hd_links.proofs.Ways.{head_of}
 use Rattle.hd_forest.specs.Spans.{below_on, Freeing}
-use Rattle.hd_forest.proofs.Frames.{Frame, path_of, left_of, size_of, steps_of, RowStands, Stand, row-stands, stand-tail, stand-down}
+use Rattle.hd_forest.proofs.Frames.{Frame, path_of, left_of, size_of, RowStands, Stand, row-stands, stand-down}
 use Rattle.hd_forest.proofs.FreeSteps.{cut, agree-here, below-read}
 use Rattle.hd_forest.proofs.FreeSpans.{InSpan}
 

@@ -1,22 +1,20 @@
 -- The span that an unlinked row takes with it.
-use Rattle.std.proofs.Common.{◌≡◌, ◌≢◌, ℕ, zero, suc, ◌+◌, ◌<◌, ◌≤◌, List, Bool, true, false, cond, Some, None, Option, refl, sym, ap, subst, ◌∙◌, arith, inl, inr}
+use Rattle.std.proofs.Common.{◌≡◌, ℕ, ◌+◌, ◌<◌, ◌≤◌, List, true, Some, None, Option, refl, sym, ap, subst, ◌∙◌, arith}
 use Rattle.std.specs.Prelude.{◌==◌}
-use Rattle.std.proofs.lemmas.Bool.{cases_eq, cond-true, cond-false, eq-eqb, ne_eqb}
+use Rattle.std.proofs.lemmas.Bool.{cond-false, ne_eqb}
 use Rattle.hd_dbd.specs.Types.{SegmentType}
 use Rattle.hd_dbd.specs.Forest.{Forest, empty, node, fits_below}
-use Rattle.hd_links.specs.Links.{Links, IsSegment, IsLinkGraph, segment_at, is_child_type}
-use Rattle.hd_links.specs.Placed.{Placed, forest_of, count, first_of, nowhere, with_node, with_nodes, NodesLie, NamesChildren, Holds}
+use Rattle.hd_links.specs.Links.{Links, IsLinkGraph, segment_at}
+use Rattle.hd_links.specs.Placed.{Placed, forest_of, count, first_of, nowhere, with_nodes, NodesLie, NamesChildren, Holds}
 use Rattle.hd_links.specs.Pointers.{IsTwinAfter}
-use Rattle.hd_links.specs.Changes.{AgreeAt, CanUnlink, take_out, without_span}
-use Rattle.hd_links.proofs.Types.{Ordered, above, above_some, code_some}
+use Rattle.hd_links.specs.Changes.{CanUnlink, take_out, without_span}
+use Rattle.hd_links.proofs.Types.{Ordered, above_some, code_some}
 use Rattle.hd_links.proofs.Forms.{Formed, fits, first_behind_none}
-use Rattle.hd_links.proofs.Counts.{is_at, one_at, none_at, count_zero, node_there}
-use Rattle.hd_links.proofs.Build.{zero_or}
+use Rattle.hd_links.proofs.Counts.{is_at, one_at, none_at}
 use Rattle.hd_links.proofs.Joins.{join, IsOne, NotBelow, count_join, first_one, one_counts, one_not_below, stands_right}
-use Rattle.hd_links.proofs.Places.{chain_one, one_there}
+use Rattle.hd_links.proofs.Places.{chain_one}
 use Rattle.hd_links.proofs.Gaps.{OutPlace, out_place}
 use Rattle.hd_links.proofs.Lift.{Spot, spot, at_most_once, changed_count}
-use Rattle.hd_links.proofs.Touch.{frame}
 use Rattle.hd_forest.specs.Spans.{IsSpan}
 use Rattle.hd_forest.proofs.Tips.{IsBelow}
 use Rattle.hd_forest.proofs.SpanStarts.{span_of}

@@ -1,12 +1,12 @@
 -- Where the last row of a path stands.
-use Rattle.std.proofs.Common.{◌≡◌, ℕ, zero, suc, ◌-◌, ◌+◌, ◌<◌, ◌≤◌, List, [], ◌∷◌, length, take, true, cond, refl, sym, ap, subst, ◌∙◌, arith, inl, inr}
+use Rattle.std.proofs.Common.{◌≡◌, ℕ, zero, suc, ◌-◌, ◌<◌, ◌≤◌, List, [], ◌∷◌, length, take, true, sym, ap, subst, ◌∙◌, arith, inl, inr}
 use Rattle.std.specs.Prelude.{◌==◌}
 use Rattle.std.proofs.lemmas.Bool.{eq-eqb, ne_eqb, cond-true, cond-false}
 use Rattle.hd_dbd.specs.Types.{SegmentType}
 use Rattle.hd_links.specs.Links.{Links, IsSegment, IsLinkGraph, is_child_type}
-use Rattle.hd_links.specs.Pointers.{IsTwinAfter, IsInChain, PointersAreTyped, PredecessorsAreOne, AreLinked}
+use Rattle.hd_links.specs.Pointers.{IsTwinAfter, IsInChain, PointersAreTyped, AreLinked}
 use Rattle.hd_links.specs.Steps.{tip_from, LeadsDown}
-use Rattle.hd_links.specs.Changes.{twin_behind, CanUnlink}
+use Rattle.hd_links.specs.Changes.{CanUnlink}
 use Rattle.hd_links.proofs.Types.{Ordered}
 use Rattle.hd_links.proofs.Ends.{chain_ends}
 use Rattle.hd_forest.specs.Twins.{AreTwins, IsTwinWithin, IsBehind}

@@ -1,6 +1,5 @@
 -- The steps that unlink the last row of a path.
-use Rattle.std.proofs.Common.{◌≡◌, ℕ, ◌<◌, List, length, true, IsTrue, Ok, refl, sym, ap, subst, ◌∙◌, arith}
-use Rattle.hd_dbd.specs.Types.{SegmentType}
+use Rattle.std.proofs.Common.{◌≡◌, ℕ, ◌<◌, List, length, IsTrue, Ok, refl, ap, ◌∙◌}
 use Rattle.hd_dbd.specs.Hierarchy.{Database}
 use Rattle.hd_dbd.specs.Forest.{Forest}
 use Rattle.hd_volume.specs.Volumes.{VolumeState}
@@ -23,7 +22,7 @@ use Rattle.hd_forest.proofs.Keeping.{keeps-trans}
 use Rattle.hd_forest.proofs.Freed.{recorded-after}
 use Rattle.hd_forest.proofs.Agreeing.{agree-trans}
 use Rattle.hd_forest.proofs.Taken.{Taken, taken}
-use Rattle.hd_forest.proofs.Unlinks.{Followed, followed, span-kept, unlinked-is}
+use Rattle.hd_forest.proofs.Unlinks.{followed, span-kept, unlinked-is}
 
 module _ (d : Database) (u : VolumeState) (fit : IsDatabase d) (of : IsVolumeOf d u) (path : List ℕ) (down : (0 < length path) × LeadsDown d.types (links_of d.types u) 0 path)
     (y : ℕ) (can : CanUnlink d.types (links_of d.types u) (parent_on path) y (tip path)) where

@@ -1,5 +1,5 @@
 -- The walk from row to row is the hierarchic sequence.
-use Rattle.std.proofs.Common.{◌≡◌, ◌≢◌, ℕ, zero, suc, ◌+◌, ◌-◌, ◌<◌, ◌≤◌, List, [], ◌∷◌, ◌++◌, length, take, map, slice_index, IsTrue, refl, sym, ap, subst, ◌∙◌, arith, ne_eqb}
+use Rattle.std.proofs.Common.{◌≡◌, ℕ, zero, suc, ◌+◌, ◌-◌, ◌<◌, ◌≤◌, List, [], ◌∷◌, ◌++◌, length, take, refl, sym, ap, ◌∙◌, arith, ne_eqb}
 use Rattle.std.specs.Prelude.{◌==◌}
 use Rattle.std.proofs.lemmas.Bool.{cond-true, cond-false, eq-eqb}
 use Rattle.std.proofs.lemmas.List.{get_or_past}
@@ -7,12 +7,12 @@ use Rattle.std.proofs.Math.ListN.{length-map}
 use Rattle.hd_dbd.specs.Types.{SegmentType}
 use Rattle.hd_dbd.specs.Hierarchy.{level_of}
 use Rattle.hd_dbd.specs.Segment.{Segment}
-use Rattle.hd_dbd.specs.Paths.{row_at, level_at, path_of}
+use Rattle.hd_dbd.specs.Paths.{row_at, level_at}
 use Rattle.hd_dbd.specs.Forest.{Forest, sequence}
 use Rattle.hd_dbd.proofs.LevelLaw.{leveled}
-use Rattle.hd_links.specs.Links.{Links, IsSegment, IsLinkGraph, segment_at}
-use Rattle.hd_links.specs.Placed.{Placed, Holds}
-use Rattle.hd_links.specs.Steps.{tip_from, next_row, rows_of, addresses, address_at, path_at, path_on, RowsHaveAddresses, StepsAreRows}
+use Rattle.hd_links.specs.Links.{Links, segment_at}
+use Rattle.hd_links.specs.Placed.{Placed}
+use Rattle.hd_links.specs.Steps.{next_row, rows_of, addresses, address_at, path_at, RowsHaveAddresses, StepsAreRows}
 use Rattle.hd_links.proofs.Numbers.{rows_addressed, rows_length}
 use Rattle.hd_links.proofs.Types.{ordered}
 use Rattle.hd_links.proofs.Standing.{row_found}

@@ -13,6 +13,8 @@ mod read;
 mod test_volumes;
 mod unlink;
 mod walk;
+#[cfg(test)]
+mod walk_tests;
 mod write;
 
 pub use change::{link, replace};

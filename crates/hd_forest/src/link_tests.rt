@@ -81,7 +81,7 @@ fn answers_device_at_each_access(rt: HostRuntime) -> Result<(), Fail> {
 }
 
 /// The image has these bytes at a place.
-fn has_bytes(image: &[u8], place: usize, bytes: &[u8]) -> bool
+pub fn has_bytes(image: &[u8], place: usize, bytes: &[u8]) -> bool
     requires { place ≤ 1024 }
 {
     image.get(place..place + bytes.len()) == Some(bytes)

@@ -59,7 +59,7 @@ impl Path {
     }
 
     /// Goes down to a row below the last; at most 15 are kept.
-    pub fn push(&mut self, address: u32)
+    pub(crate) fn push(&mut self, address: u32)
         ensures { length self.old < 15 → self.new ≡ self.old ++ address ∷ [] }
     {
         let kept = self.count.min(MOST_LEVELS - 1);
@@ -68,7 +68,7 @@ impl Path {
     }
 
     /// Goes up to the row above the last.
-    pub fn up(&mut self)
+    pub(crate) fn up(&mut self)
         ensures value { self.new ≡ take (length self.old - 1) self.old }
         ensures few { length self.new < 15 }
     {

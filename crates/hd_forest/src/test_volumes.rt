@@ -11,7 +11,7 @@ use std::marker::Brand;
 use std::sync::ledger::{Blank, Ledger};
 
 /// A type of the sample database without its fields; key 0 for none, which is unique where it has three bytes or fewer.
-fn type_of(alloc: Global, name: Name8, parent: Option<u8>, length: u32, key: u32) -> SegType {
+pub fn type_of(alloc: Global, name: Name8, parent: Option<u8>, length: u32, key: u32) -> SegType {
     SegType {
         name,
         parent,
@@ -55,7 +55,7 @@ pub fn sample(alloc: Global) -> Result<Dbd, DbdFault>
 }
 
 /// Links a row; `Area` says that it has not its type's length.
-fn link_row<S: BlockStore>(
+pub fn link_row<S: BlockStore>(
     volume: &mut Volume<S>,
     dbd: &Dbd,
     parent: u32,
@@ -77,7 +77,7 @@ fn link_row<S: BlockStore>(
 }
 
 /// Links the sample sequence row by row, and says the address of its book.
-fn link_sample<S: BlockStore>(volume: &mut Volume<S>, dbd: &Dbd) -> Result<u32, Refused>
+pub fn link_sample<S: BlockStore>(volume: &mut Volume<S>, dbd: &Dbd) -> Result<u32, Refused>
     requires unsound { volume.old.is_sound ≡ false }
     requires sizes { volume.old.sizes ≡ stored_sizes dbd.now.types }
     ensures unsound { volume.new.is_sound ≡ false }
@@ -128,7 +128,7 @@ fn link_kinds<S: BlockStore>(volume: &mut Volume<S>, dbd: &Dbd) -> Result<u32, R
 }
 
 /// Links so many rows of a type below a parent, each behind the one before it.
-fn link_behind<S: BlockStore>(
+pub fn link_behind<S: BlockStore>(
     volume: &mut Volume<S>,
     dbd: &Dbd,
     parent: u32,

@@ -1,9 +1,5 @@
-use Rattle.std.proofs.Common.{◌≡◌, ◌≢◌, ℕ, ◌<◌, List, sym, ap, ap₂, ◌∙◌, arith}
+use Rattle.std.proofs.Common.{◌≢◌, ℕ, ◌<◌, sym, ap, ◌∙◌, arith}
 use Rattle.hd_dbd.specs.Prefixes.{children_of}
-use Rattle.hd_prefix.specs.Fields.{code_of}
-use Rattle.hd_links.specs.Links.{Links}
-use Rattle.hd_links.specs.Steps.{child_among}
-use Rattle.hd_image.specs.Records.{links_of}
 use Rattle.hd_forest.specs.Children.{child_in}
 use Rattle.hd_forest.proofs.Reading.{lent}
 use Rattle.hd_forest.proofs.FirstChildren.{child-stored, types-stored}

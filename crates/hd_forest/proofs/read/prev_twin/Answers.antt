@@ -1,18 +1,14 @@
-use Rattle.std.proofs.Common.{◌≡◌, ◌<◌, ℕ, List, length, take, true, IsTrue, Ok, ap, sym, subst, ◌∙◌, refl, arith}
-use Rattle.hd_dbd.specs.Hierarchy.{Database}
+use Rattle.std.proofs.Common.{◌≡◌, ℕ, length, true, Ok, ap, sym, subst, ◌∙◌, refl}
 use Rattle.hd_dbd.specs.Prefixes.{is_backward_kept}
-use Rattle.hd_volume.specs.Volumes.{VolumeState}
-use Rattle.hd_links.specs.Links.{Links, IsSegment, is_child_type}
-use Rattle.hd_links.specs.Pointers.{AreLinked, IsInChain}
+use Rattle.hd_links.specs.Links.{Links, IsSegment}
 use Rattle.hd_links.specs.Changes.{CanUnlink}
 use Rattle.hd_links.proofs.Backward.{found}
-use Rattle.hd_image.specs.Records.{links_of, IsVolumeOf}
-use Rattle.hd_forest.specs.Walks.{tip, parent_on, HasForest}
-use Rattle.hd_forest.specs.Twins.{IsTwinWithin, IsBehind}
-use Rattle.hd_volume.proofs.CallSteps.{read-ok, reads-join, if-ok}
+use Rattle.hd_image.specs.Records.{links_of}
+use Rattle.hd_forest.specs.Twins.{IsBehind}
+use Rattle.hd_volume.proofs.CallSteps.{reads-join, if-ok}
 use Rattle.hd_forest.proofs.Reading.{after-read, sound-before}
-use Rattle.hd_forest.proofs.Held.{Held, held, last-below}
-use Rattle.hd_forest.proofs.Tips.{IsBelow, within, unlinks}
+use Rattle.hd_forest.proofs.Held.{held, last-below}
+use Rattle.hd_forest.proofs.Tips.{within, unlinks}
 use Rattle.hd_forest.proofs.read.prev_twin.Goals as goal
 
 pub code_at-requires-clause-there : goal.code_at-requires-clause-there

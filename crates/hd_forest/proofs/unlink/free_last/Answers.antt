@@ -1,4 +1,4 @@
-use Rattle.std.proofs.Common.{◌≡◌, ◌≢◌, true, false, ℕ, ◌-◌, List, ◌∷◌, ◌++◌, [], length, take, IsTrue, Ok, sym, ap, subst, ◌∙◌}
+use Rattle.std.proofs.Common.{◌≢◌, true, false, ℕ, List, ◌∷◌, ◌++◌, [], sym, ap, subst, ◌∙◌}
 use Rattle.hd_links.specs.Links.{Links, IsSegment}
 use Rattle.hd_image.specs.Records.{links_of}
 use Rattle.hd_image.specs.Pointing.{without_record}

@@ -1,12 +1,11 @@
-use Rattle.std.proofs.Common.{◌≡◌, ◌≢◌, ℕ, ◌-◌, List, ◌∷◌, ◌++◌, Bool, true, false, not, ◌&&◌, length, take, IsTrue, Ok, refl, sym, ap, ap₂, subst, ◌∙◌}
+use Rattle.std.proofs.Common.{◌≡◌, ℕ, List, Bool, true, false, not, ◌&&◌, IsTrue, refl, sym, subst, ◌∙◌}
 use Rattle.std.specs.Prelude.{◌==◌}
 use Rattle.std.proofs.lemmas.Bool.{and_parts}
-use Rattle.hd_links.specs.Links.{Links, IsSegment}
-use Rattle.hd_image.specs.Records.{links_of, IsVolumeOf}
+use Rattle.hd_links.specs.Links.{Links}
+use Rattle.hd_image.specs.Records.{links_of}
 use Rattle.hd_image.specs.Pointing.{without_record}
 use Rattle.hd_forest.specs.Walks.{tip, AreSegments}
 use Rattle.hd_forest.specs.Spans.{below_on, freed_last, IsStep}
-use Rattle.hd_forest.specs.Sets.{IsRecorded}
 use Rattle.hd_volume.proofs.CallSteps.{if-ok}
 use Rattle.hd_forest.proofs.Reading.{after-read, links-kept}
 use Rattle.hd_forest.proofs.Freed.{recorded-after, recorded-read, went-down, freed-one}

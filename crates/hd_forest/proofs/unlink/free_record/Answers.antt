@@ -1,15 +1,10 @@
-use Rattle.std.proofs.Common.{◌≡◌, List, ℕ, Some, Result, Ok, Err, IsTrue, OnOk, ◌∙◌}
+use Rattle.std.proofs.Common.{Result, Ok, Err, IsTrue, OnOk}
 use Rattle.hd_dbd.specs.declared.answer.Refused.{Refused}
 use Rattle.hd_dbd.specs.Hierarchy.{Database}
-use Rattle.hd_volume.specs.Volumes.{VolumeState}
-use Rattle.hd_volume.specs.Calls.{IsFreed, IsCall}
-use Rattle.hd_links.specs.Links.{Links, IsSegment}
-use Rattle.hd_image.specs.Laws.{IsDatabase, FreeingTakesARecord}
-use Rattle.hd_image.specs.Records.{links_of, IsVolumeOf}
+use Rattle.hd_volume.specs.Calls.{IsFreed}
+use Rattle.hd_image.specs.Records.{links_of}
 use Rattle.hd_image.specs.Pointing.{without_record}
-use Rattle.hd_image.proofs.Found.{segment-found}
 use Rattle.hd_forest.specs.Sets.{IsRecorded}
-use Rattle.hd_forest.proofs.Keeping.{keeps-freed}
 use Rattle.hd_forest.proofs.Freed.{freed-record}
 use Rattle.hd_forest.proofs.unlink.free_record.Goals as goal
 

@@ -1,13 +1,10 @@
-use Rattle.std.proofs.Common.{◌≡◌, ◌≢◌, ℕ, suc, ◌+◌, ◌-◌, ◌*◌, ◌<◌, ◌≤◌, List, [], ◌∷◌, ◌++◌, length, Bool, true, false, IsTrue, Ok, refl, sym, ap, subst, ◌∙◌, arith}
+use Rattle.std.proofs.Common.{◌≡◌, ◌≢◌, ℕ, suc, ◌+◌, ◌-◌, ◌*◌, List, [], ◌∷◌, ◌++◌, length, Bool, false, IsTrue, Ok, refl, sym, ap, subst, ◌∙◌, arith}
 use Rattle.std.specs.Prelude.{◌==◌}
 use Rattle.std.proofs.lemmas.Bool.{eq-eqb, eqb-true, false≢true}
-use Rattle.hd_dbd.specs.Forest.{Forest}
 use Rattle.hd_volume.proofs.JoinLemmas.{calls-join}
 use Rattle.hd_links.specs.Links.{Links}
-use Rattle.hd_links.specs.Placed.{Placed}
-use Rattle.hd_image.specs.Records.{links_of, IsVolumeOf}
+use Rattle.hd_image.specs.Records.{links_of}
 use Rattle.hd_image.proofs.Found.{records-link}
-use Rattle.hd_forest.specs.Spans.{IsSpan, below_on, Freeing, freed_on, IsStep}
 use Rattle.hd_volume.proofs.CallSteps.{call-ok, call-none}
 use Rattle.hd_forest.proofs.Keeping.{keeps-refl, keeps-trans}
 use Rattle.hd_forest.proofs.FreeSpans.{InSpan}

@@ -1,7 +1,6 @@
 use Rattle.hd_links.specs.Links.{Links, IsSegment}
 use Rattle.std.proofs.Common.{sym, subst}
 use Rattle.hd_image.specs.Records.{links_of}
-use Rattle.hd_forest.specs.Walks.{tip}
 use Rattle.hd_forest.proofs.Climbs.{tip-some}
 use Rattle.hd_forest.proofs.unlink.go_down.Goals as goal
 

@@ -1,15 +1,12 @@
-use Rattle.std.proofs.Common.{◌≡◌, ℕ, ◌<◌, List, length, true, IsTrue, Result, Ok, Err, OnOk, sym, ap, subst, ◌∙◌}
+use Rattle.std.proofs.Common.{◌≡◌, ℕ, IsTrue, Result, Ok, Err, OnOk, sym, ap, subst, ◌∙◌}
 use Rattle.hd_dbd.specs.declared.answer.Refused.{Refused}
 use Rattle.hd_dbd.specs.Forest.{Forest}
-use Rattle.hd_dbd.specs.Hierarchy.{Database}
-use Rattle.hd_volume.specs.Volumes.{VolumeState}
 use Rattle.hd_links.specs.Links.{Links, IsSegment}
 use Rattle.hd_links.specs.Placed.{Placed}
-use Rattle.hd_image.specs.Records.{links_of, IsVolumeOf}
+use Rattle.hd_image.specs.Records.{links_of}
 use Rattle.hd_forest.specs.Walks.{tip, parent_on}
 use Rattle.hd_forest.specs.Sets.{following, preceding, IsTwinPlace, IsRecorded}
 use Rattle.hd_forest.specs.Spans.{IsSpan, HasSpan, without_span_of}
-use Rattle.hd_forest.specs.Updates.{IsUnlinked}
 use Rattle.hd_volume.proofs.CallSteps.{reads-join}
 use Rattle.hd_forest.proofs.Reading.{after-read, sound-before, volume-kept, links-kept}
 use Rattle.hd_forest.proofs.Held.{held, last-below}

@@ -1,11 +1,11 @@
-use Rattle.std.proofs.Common.{◌≡◌, ◌≢◌, ℕ, ◌+◌, ◌-◌, ◌<◌, ◌≤◌, List, IsTrue, Ok, true, length, take, slice_index, sym, ap, ap₂, subst, ◌∙◌, refl, arith, inl, inr}
+use Rattle.std.proofs.Common.{◌≡◌, ◌≢◌, ℕ, ◌+◌, ◌-◌, ◌<◌, ◌≤◌, List, Ok, true, length, take, slice_index, sym, ap, ap₂, subst, ◌∙◌, refl, arith, inl, inr}
 use Rattle.hd_dbd.specs.Types.{SegmentType}
 use Rattle.hd_links.specs.Links.{Links, IsSegment}
 use Rattle.hd_links.specs.Steps.{behind_span, first_some}
 use Rattle.hd_links.proofs.Build.{zero_or}
 use Rattle.hd_links.proofs.Ways.{some_zero, some_own}
 use Rattle.hd_image.specs.Records.{links_of}
-use Rattle.hd_forest.specs.Walks.{tip, AreSegments}
+use Rattle.hd_forest.specs.Walks.{tip}
 use Rattle.hd_volume.proofs.CallSteps.{reads-join, read-ok}
 use Rattle.hd_forest.proofs.Reading.{after-read, links-kept}
 use Rattle.hd_forest.proofs.Climbs.{beside_of, up, on-path, above-here}

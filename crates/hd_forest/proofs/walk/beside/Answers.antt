@@ -1,6 +1,6 @@
-use Rattle.std.proofs.Common.{◌≡◌, ◌≢◌, ℕ, ◌<◌, List, IsTrue, Ok, true, length, sym, ap, subst, ◌∙◌, refl, arith, inl, inr}
-use Rattle.hd_links.specs.Links.{Links, IsSegment, child_types}
-use Rattle.hd_links.specs.Steps.{first_some, child_among, later_than}
+use Rattle.std.proofs.Common.{◌≡◌, ◌≢◌, ℕ, ◌<◌, Ok, length, sym, ap, subst, ◌∙◌, inl, inr}
+use Rattle.hd_links.specs.Links.{Links, child_types}
+use Rattle.hd_links.specs.Steps.{child_among, later_than}
 use Rattle.hd_links.proofs.Build.{zero_or}
 use Rattle.hd_links.proofs.Counts.{segment_code}
 use Rattle.hd_links.proofs.Types.{ordered}
@@ -8,8 +8,8 @@ use Rattle.hd_links.proofs.Ways.{some_zero, some_own}
 use Rattle.hd_image.specs.Records.{links_of}
 use Rattle.hd_image.proofs.Found.{records-link}
 use Rattle.hd_volume.proofs.CallSteps.{reads-join, if-ok}
-use Rattle.hd_forest.proofs.Reading.{after-read, volume-kept, links-kept}
-use Rattle.hd_forest.proofs.Climbs.{beside_of, none-later}
+use Rattle.hd_forest.proofs.Reading.{after-read, volume-kept}
+use Rattle.hd_forest.proofs.Climbs.{none-later}
 use Rattle.hd_forest.proofs.walk.beside.Goals as goal
 use Rattle.hd_forest.proofs.walk.beside.Goals.{then-twin-ne0-via-then-twin-ne0, then-twin-ne0-via-else-twin-ne0+then-parent-eq0}
 

@@ -1,4 +1,4 @@
-use Rattle.std.proofs.Common.{◌≡◌, ◌≢◌, ℕ, ◌+◌, ◌-◌, ◌<◌, ◌≤◌, List, [], ◌∷◌, IsTrue, Ok, true, length, take, sym, ap, ap₂, subst, ◌∙◌, refl, arith, inl, inr}
+use Rattle.std.proofs.Common.{◌≡◌, ◌≢◌, ℕ, ◌<◌, List, [], ◌∷◌, sym, ap, subst, ◌∙◌, refl, arith, inl, inr}
 use Rattle.std.specs.Prelude.{◌==◌}
 use Rattle.std.proofs.lemmas.Bool.{cond-true, eq-eqb}
 use Rattle.hd_dbd.specs.Types.{SegmentType}
@@ -9,7 +9,7 @@ use Rattle.hd_links.proofs.Ways.{some_zero, some_own}
 use Rattle.hd_image.specs.Records.{links_of}
 use Rattle.hd_image.proofs.Found.{records-link}
 use Rattle.hd_forest.specs.Walks.{tip, AreSegments}
-use Rattle.hd_volume.proofs.CallSteps.{reads-join, read-ok, if-ok}
+use Rattle.hd_volume.proofs.CallSteps.{if-ok}
 use Rattle.hd_forest.proofs.Reading.{after-read, links-kept}
 use Rattle.hd_forest.proofs.Climbs.{tip-some}
 use Rattle.hd_forest.proofs.walk.next_address.Goals as goal
