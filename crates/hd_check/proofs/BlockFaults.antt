@@ -1,14 +1,14 @@
 -- The least fault of the second phase is what is wrong with the first wrong block.
-use Rattle.std.proofs.Common.{◌≡◌, ◌≢◌, ◌⊎◌, inl, inr, ℕ, ◌+◌, ◌*◌, ◌<◌, ◌≤◌, List, length, slice_index, refl, sym, ap, subst, ◌∙◌, arith}
+use Rattle.std.proofs.Common.{◌≡◌, ◌≢◌, ◌⊎◌, inl, inr, ℕ, ◌+◌, ◌*◌, ◌<◌, ◌≤◌, List, slice_index, refl, sym, ap, subst, ◌∙◌, arith}
 use Rattle.std.proofs.lemmas.Bool.{cases_order}
 use Rattle.hd_bytes.specs.Blocks.{HasBlock}
 use Rattle.std.proofs.lemmas.Nat.{row_fits}
 use Rattle.hd_bytes.proofs.BlockLemmas.{length-block}
 use Rattle.hd_dbd.specs.Hierarchy.{Database}
 use Rattle.hd_volume.specs.Headers.{HasHeader, header_of}
-use Rattle.hd_volume.specs.Volumes.{VolumeState, block_at, kind_of, IsKind, HasExtents}
+use Rattle.hd_volume.specs.Volumes.{VolumeState, block_at, kind_of}
 use Rattle.hd_volume.proofs.KindLemmas.{below-count}
-use Rattle.hd_image.specs.BlockFaults.{HasFreeElements, IsNoSegment, IsReadTo, IsWrongChain, IsWrongPlace, IsOfNoKind}
+use Rattle.hd_image.specs.BlockFaults.{HasFreeElements, IsWrongPlace}
 use Rattle.hd_image.specs.Standing.{Line, no_volume, no_version, another_database, wrong_chain, wrong_place, no_kind, deleted, points_nowhere, points_to_another, two_predecessors, no_predecessor, wrong_backward, wrong_last, out_of_order, not_reached, wrong_top, wrong_form, named_twice, unreached_block, entry_out_of_order, wrong_entry, no_entry, Stands, phase_of, number_of, ComesBefore}
 use Rattle.hd_image.proofs.BlockNoFault.{divided-chain, divided-place, one-wrong-place}
 use Rattle.hd_check.specs.declared.fault.Fault.{Fault}

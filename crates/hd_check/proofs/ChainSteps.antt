@@ -1,5 +1,5 @@
 -- One step along the free elements of a block.
-use Rattle.std.proofs.Common.{◌≡◌, ◌≢◌, ℕ, ◌+◌, ◌<◌, List, [], ◌∷◌, refl, sym, ap, subst, ◌∙◌, arith}
+use Rattle.std.proofs.Common.{◌≢◌, ℕ, ◌+◌, ◌<◌, List, [], ◌∷◌, refl, sym, subst}
 use Rattle.hd_bytes.specs.Numbers.{number_at}
 use Rattle.hd_image.specs.BlockFaults.{IsFreeElement, AreFreeElements}
 

@@ -1,8 +1,8 @@
 -- The pointers to children that are read of a segment, by its records.
-use Rattle.std.proofs.Common.{◌≡◌, ◌≢◌, ℕ, List, Bool, true, false, cond, inl, inr, refl, sym, ap, subst, ◌∙◌, ne_eqb}
-use Rattle.std.specs.Prelude.{◌&&◌, ◌||◌, ◌==◌}
+use Rattle.std.proofs.Common.{◌≡◌, ◌≢◌, ℕ, List, Bool, true, false, inl, inr, refl, sym, ap, ◌∙◌, ne_eqb}
+use Rattle.std.specs.Prelude.{◌&&◌, ◌==◌}
 use Rattle.std.specs.Option.{option_map_or}
-use Rattle.std.proofs.lemmas.Bool.{cases_Bool, cond-false, cond-true, or_right, false≢true}
+use Rattle.std.proofs.lemmas.Bool.{cases_Bool, cond-false, or_right, false≢true}
 use Rattle.hd_dbd.specs.Types.{SegmentType}
 use Rattle.hd_dbd.specs.Hierarchy.{type_of}
 use Rattle.hd_dbd.specs.Prefixes.{is_backward_kept}
@@ -12,7 +12,7 @@ use Rattle.hd_prefix.specs.declared.pointer.Pointer.TheVariants.{TwinForward, Tw
 use Rattle.hd_prefix.specs.Fields.{code_of, pointer_of}
 use Rattle.hd_prefix.specs.Pointers as prefix
 use Rattle.hd_prefix.proofs.Numbers.{has_pointers}
-use Rattle.hd_links.specs.Links.{Links, is_last_kept}
+use Rattle.hd_links.specs.Links.{is_last_kept}
 use Rattle.hd_image.specs.Records.{links_of, stored_at, pointer_at}
 
 -- what is read of a segment is what its record says

@@ -1,9 +1,9 @@
 -- The least fault of the first phase is what is wrong with the header.
-use Rattle.std.proofs.Common.{◌≡◌, ◌≢◌, ◌⊎◌, inl, inr, ℕ, ◌+◌, ◌*◌, ◌<◌, ◌≤◌, List, length, refl, sym, ap, subst, ◌∙◌, arith}
-use Rattle.hd_bytes.specs.Blocks.{block_of, HasBlock}
+use Rattle.std.proofs.Common.{◌≡◌, ◌≢◌, ◌⊎◌, inl, inr, ℕ, ◌<◌, ◌≤◌, length, refl, sym, subst, ◌∙◌, arith}
+use Rattle.hd_bytes.specs.Blocks.{HasBlock}
 use Rattle.hd_bytes.proofs.BlockLemmas.{length-block}
 use Rattle.hd_dbd.specs.Hierarchy.{Database}
-use Rattle.hd_volume.specs.Headers.{Header, HasHeader, IsOf, header_of}
+use Rattle.hd_volume.specs.Headers.{Header, HasHeader, header_of}
 use Rattle.hd_volume.specs.Volumes.{VolumeState, block_at}
 use Rattle.hd_volume.proofs.FrameLemmas.{header-same}
 use Rattle.hd_volume.proofs.CreateLemmas.{own-block}

@@ -1,8 +1,8 @@
 -- A segment that is found in a volume, as it is lent.
-use Rattle.std.proofs.Common.{◌≡◌, ◌≢◌, ℕ, ◌<◌, ◌≤◌, List, length, Some, refl, sym, ap, subst, ◌∙◌, arith}
+use Rattle.std.proofs.Common.{◌≡◌, ℕ, ◌<◌, ◌≤◌, List, length, Some, sym, subst, ◌∙◌, arith}
 use Rattle.hd_dbd.specs.Types.{SegmentType}
 use Rattle.hd_dbd.specs.Hierarchy.{Database}
-use Rattle.hd_dbd.specs.Prefixes.{prefix_length, stored_size}
+use Rattle.hd_dbd.specs.Prefixes.{prefix_length}
 use Rattle.hd_dbd.proofs.Levels.{type_within}
 use Rattle.hd_volume.specs.Volumes.{VolumeState}
 use Rattle.hd_volume.specs.Records.{find}
@@ -11,9 +11,9 @@ use Rattle.hd_prefix.specs.Fields.{code_of}
 use Rattle.hd_prefix.proofs.Sizes.{stored_long}
 use Rattle.hd_prefix.proofs.Fitting.{row_is}
 use Rattle.hd_links.specs.Links.{IsSegment}
-use Rattle.hd_image.specs.Records.{links_of, stored_at, IsVolumeOf}
+use Rattle.hd_image.specs.Records.{links_of, IsVolumeOf}
 use Rattle.hd_image.specs.Laws.{IsDatabase}
-use Rattle.hd_image.proofs.Found.{HasSegmentOf, segment-found, stored-found, row-found}
+use Rattle.hd_image.proofs.Found.{segment-found, stored-found, row-found}
 use Rattle.hd_check.specs.Lending.{IsLent}
 
 pub has-segment : (d : Database) (v : VolumeState) (a : ℕ) → IsDatabase d → IsVolumeOf d v → IsSegment (links_of d.types v) a → HasSegment v a 0

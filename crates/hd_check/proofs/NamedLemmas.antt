@@ -1,10 +1,10 @@
 -- What is wrong with one pointer, by what stands where it points.
-use Rattle.std.proofs.Common.{◌≡◌, ◌≢◌, ℕ, List, [], ◌∷◌, true, false, inl, inr, refl, sym, ap, subst, ◌∙◌, arith, ne_eqb}
+use Rattle.std.proofs.Common.{◌≡◌, ◌≢◌, ℕ, List, [], ◌∷◌, true, false, inl, inr, refl, sym, ◌∙◌, arith, ne_eqb}
 use Rattle.std.specs.Prelude.{◌==◌}
-use Rattle.std.proofs.lemmas.Bool.{cases_Bool, cases_eq, eq-eqb}
+use Rattle.std.proofs.lemmas.Bool.{cases_Bool, eq-eqb}
 use Rattle.hd_dbd.specs.Types.{SegmentType}
 use Rattle.hd_volume.specs.Volumes.{VolumeState}
-use Rattle.hd_links.specs.Links.{Links, IsSegment}
+use Rattle.hd_links.specs.Links.{Links}
 use Rattle.hd_image.specs.Records.{links_of}
 use Rattle.hd_check.specs.declared.segments.Place.{Place}
 use Rattle.hd_check.specs.Places.{IsPlaceOf, ArePlaces}

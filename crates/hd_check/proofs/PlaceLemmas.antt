@@ -1,25 +1,24 @@
 -- The places that are noted block by block are those of the volume's segments.
-use Rattle.std.proofs.Common.{◌≡◌, ◌≢◌, ◌⊎◌, inl, inr, ℕ, zero, suc, ◌+◌, ◌-◌, ◌*◌, ◌/◌, ◌%◌, ◌<◌, ◌≤◌, List, [], ◌∷◌, ◌++◌, length, slice_index, Bool, true, false, ◌==◌, cond, Option, Some, None, refl, sym, ap, subst, ◌∙◌, arith, ne_eqb}
-use Rattle.std.specs.Prelude.{is_some, option_map}
+use Rattle.std.proofs.Common.{◌≡◌, ◌≢◌, ◌⊎◌, inl, inr, ℕ, zero, suc, ◌+◌, ◌-◌, ◌*◌, ◌/◌, ◌%◌, ◌<◌, ◌≤◌, List, [], ◌∷◌, ◌++◌, slice_index, true, false, ◌==◌, Option, Some, None, refl, sym, ap, subst, ◌∙◌, arith, ne_eqb}
+use Rattle.std.specs.Prelude.{option_map}
 use Rattle.std.proofs.lemmas.Bool.{cases_eq, eq-eqb, cond-true, cond-false, false≢true}
 use Rattle.std.proofs.lemmas.Nat.{div-mul-add, mod-mul-add, row_fits}
 use Rattle.hd_bytes.specs.Ranges.{bytes_at}
 use Rattle.hd_bytes.specs.Blocks.{HasBlock}
 use Rattle.hd_bytes.proofs.BlockLemmas.{byte-at, length-block, place-of}
-use Rattle.hd_block.specs.Extents.{Extent, free, used, taken, Fill, AreWhole, UsedAt}
+use Rattle.hd_block.specs.Extents.{Extent, free, used, taken, Fill, UsedAt}
 use Rattle.hd_block.specs.Parts.{parts_of}
 use Rattle.hd_block.specs.declared.parts.Part.{Part}
-use Rattle.hd_block.specs.Walk.{parts_in}
 use Rattle.hd_block.proofs.PartLemmas.{parts-divided}
 use Rattle.hd_dbd.specs.Types.{SegmentType}
 use Rattle.hd_volume.specs.Headers.{HasHeader, header_of}
-use Rattle.hd_volume.specs.Volumes.{VolumeState, block_at, kind_of, IsKind, HasExtents}
+use Rattle.hd_volume.specs.Volumes.{VolumeState, block_at, kind_of, IsKind}
 use Rattle.hd_volume.specs.Records.{find, used_at, segment_in}
 use Rattle.hd_volume.proofs.ExtentLemmas.{used-is, found-used, used-found}
 use Rattle.hd_volume.proofs.MapLemmas.{IsFound, find-some, find-in, kind-there}
 use Rattle.hd_volume.proofs.KindLemmas.{below-count}
 use Rattle.hd_prefix.specs.Fields.{code_of}
-use Rattle.hd_links.specs.Links.{Links, IsSegment}
+use Rattle.hd_links.specs.Links.{IsSegment}
 use Rattle.hd_image.specs.Records.{stored_at, links_of}
 use Rattle.hd_check.specs.declared.segments.Place.{Place}
 use Rattle.hd_check.specs.Phases.{AreBlocksRight}

@@ -1,5 +1,5 @@
 -- The records of a volume, place by place.
-use Rattle.std.proofs.Common.{◌≡◌, ◌≢◌, ◌⊎◌, inl, inr, ℕ, ◌+◌, ◌<◌, ◌≤◌, List, length, Bool, true, false, Option, Some, None, IfNone, refl, sym, ap, subst, ◌∙◌, arith}
+use Rattle.std.proofs.Common.{◌≡◌, inl, inr, ℕ, ◌<◌, List, length, true, false, Option, Some, None, IfNone, sym, ap, subst, arith}
 use Rattle.std.specs.Prelude.{is_some}
 use Rattle.std.proofs.lemmas.Bool.{cases_eq, cases_lt}
 use Rattle.hd_dbd.specs.Types.{SegmentType}
@@ -9,7 +9,7 @@ use Rattle.hd_image.specs.Records.{links_of}
 use Rattle.hd_check.specs.declared.segments.Place.{Place}
 use Rattle.hd_check.specs.Places.{IsPlaceOf, ArePlaces}
 use Rattle.hd_check.specs.Judging.{IsRecordRight}
-use Rattle.hd_check.proofs.Lookups.{place-at, among, number-of, in-order}
+use Rattle.hd_check.proofs.Lookups.{place-at, number-of, in-order}
 
 pub from-none : {A : Type 0} {P : Type 0} (o : Option A) → is_some o ≡ false → IfNone o P → P
 from-none None h p = p

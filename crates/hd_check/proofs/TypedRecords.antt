@@ -1,17 +1,17 @@
 -- The third phase: records whose pointers are typed, and the first that is wrong.
-use Rattle.std.proofs.Common.{◌≡◌, ◌≢◌, ◌⊎◌, inl, inr, ℕ, ◌+◌, ◌<◌, ◌≤◌, List, [], ◌∷◌, ◌++◌, Bool, true, false, cond, Option, Some, None, refl, sym, ap, subst, ◌∙◌, arith, ne_eqb}
-use Rattle.std.specs.Prelude.{◌==◌, ◌&&◌, not, find, option_map}
-use Rattle.std.proofs.lemmas.Bool.{cases_Bool, cases_eq, cases_order, eq-eqb, eqb-true, cond-true, cond-false, false≢true, and_parts}
+use Rattle.std.proofs.Common.{◌≡◌, ◌≢◌, ◌⊎◌, inl, inr, ℕ, ◌<◌, List, [], ◌∷◌, ◌++◌, Bool, true, false, cond, Some, refl, sym, ap, subst, ◌∙◌, arith, ne_eqb}
+use Rattle.std.specs.Prelude.{◌==◌, find, option_map}
+use Rattle.std.proofs.lemmas.Bool.{cases_Bool, cases_eq, eq-eqb, cond-true, cond-false, false≢true}
 use Rattle.hd_dbd.specs.Types.{SegmentType}
 use Rattle.hd_dbd.specs.Hierarchy.{Database}
 use Rattle.hd_dbd.specs.Prefixes.{is_backward_kept}
 use Rattle.hd_volume.specs.Volumes.{VolumeState}
-use Rattle.hd_links.specs.Links.{Links, IsSegment, child_types, is_child_type, is_last_kept}
+use Rattle.hd_links.specs.Links.{Links, child_types, is_last_kept}
 use Rattle.hd_links.specs.Pointers.{PointsTo, PointersAreTyped}
 use Rattle.hd_links.specs.Steps.{first_some}
 use Rattle.hd_links.proofs.Types.{is_in, in_cases}
 use Rattle.hd_image.specs.Records.{links_of}
-use Rattle.hd_image.specs.PointerFaults.{Named, child_pointers, twin_pointers, pointers_of, names_none, names_another, IsDeleted, PointsNowhere, PointsToAnother}
+use Rattle.hd_image.specs.PointerFaults.{Named, child_pointers, twin_pointers, pointers_of, names_none, names_another}
 use Rattle.hd_image.specs.Standing.{Line, no_volume, no_version, another_database, wrong_chain, wrong_place, no_kind, deleted, points_nowhere, points_to_another, two_predecessors, no_predecessor, wrong_backward, wrong_last, out_of_order, not_reached, wrong_top, wrong_form, named_twice, unreached_block, entry_out_of_order, wrong_entry, no_entry, Stands, phase_of, number_of, ComesBefore}
 use Rattle.hd_check.specs.declared.fault.Fault.{Fault}
 use Rattle.hd_check.specs.Phases.{IsLeastOf}

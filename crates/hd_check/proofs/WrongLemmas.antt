@@ -1,8 +1,6 @@
 -- What is wrong with several pointers, one after another.
-use Rattle.std.proofs.Common.{◌≡◌, ◌≢◌, ℕ, List, [], ◌∷◌, ◌++◌, Bool, true, false, cond, inl, inr, refl, sym, ap, subst, ◌∙◌, arith, ne_eqb}
-use Rattle.std.specs.Prelude.{◌==◌, ◌||◌, ◌&&◌}
-use Rattle.std.specs.Option.{option_map_or}
-use Rattle.std.proofs.lemmas.Bool.{cases_Bool, cases_eq, eq-eqb, cond-true, cond-false, false≢true, or_right}
+use Rattle.std.proofs.Common.{◌≡◌, ℕ, List, [], ◌∷◌, ◌++◌, Bool, true, false, cond, inl, inr, refl, sym, ap, ◌∙◌, ne_eqb}
+use Rattle.std.proofs.lemmas.Bool.{cases_Bool, cases_eq, eq-eqb, cond-true, cond-false}
 use Rattle.hd_dbd.specs.Types.{SegmentType}
 use Rattle.hd_links.specs.Links.{Links, is_last_kept}
 use Rattle.hd_links.specs.Steps.{first_some}

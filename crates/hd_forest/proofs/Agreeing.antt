@@ -1,11 +1,11 @@
 -- Records that agree, and the same pointer changed in both.
-use Rattle.std.proofs.Common.{◌≡◌, ℕ, List, Bool, true, false, ◌&&◌, ◌==◌, cond, refl, sym, ap, ◌∙◌}
+use Rattle.std.proofs.Common.{◌≡◌, ℕ, List, Bool, true, false, ◌&&◌, ◌==◌, cond, refl, ap, ◌∙◌}
 use Rattle.hd_dbd.specs.Types.{SegmentType}
 use Rattle.hd_dbd.specs.Prefixes.{is_backward_kept}
 use Rattle.hd_prefix.specs.declared.pointer.Pointer.{Pointer}
 use Rattle.hd_prefix.specs.declared.pointer.Pointer.TheVariants.{TwinForward, TwinBackward, FirstChild, LastChild}
 use Rattle.hd_links.specs.Links.{Links, IsSegment, is_child_type}
-use Rattle.hd_links.specs.Changes.{AgreeAt, Agree}
+use Rattle.hd_links.specs.Changes.{Agree}
 use Rattle.hd_image.specs.Pointing.{with_pointer}
 use Rattle.hd_forest.specs.Sets.{following, preceding, named, IsTwinPlace}
 

@@ -1,15 +1,14 @@
 -- The bytes of a segment are replaced.
-use Rattle.std.proofs.Common.{◌≡◌, ℕ, ◌+◌, ◌<◌, ◌≤◌, List, length, true, refl, sym, ap, subst, ◌∙◌, arith}
+use Rattle.std.proofs.Common.{◌≡◌, ℕ, ◌+◌, ◌<◌, ◌≤◌, List, length, sym, ap, subst, ◌∙◌, arith}
 use Rattle.hd_dbd.specs.Hierarchy.{Database}
 use Rattle.hd_dbd.specs.Prefixes.{prefix_length, stored_size}
-use Rattle.hd_dbd.specs.Rows.{row_fits}
 use Rattle.hd_volume.specs.Volumes.{VolumeState}
 use Rattle.hd_volume.specs.Calls.{IsWritten, HasSegment}
 use Rattle.hd_prefix.specs.Fields.{code_of}
 use Rattle.hd_prefix.proofs.Fitting.{row_is}
 use Rattle.hd_prefix.proofs.Sizes.{stored_long}
-use Rattle.hd_links.specs.Links.{Links, IsSegment}
-use Rattle.hd_links.specs.Changes.{Agree, replaced, CanReplace}
+use Rattle.hd_links.specs.Links.{Links}
+use Rattle.hd_links.specs.Changes.{replaced, CanReplace}
 use Rattle.hd_links.proofs.Types.{ordered}
 use Rattle.hd_links.proofs.Replacing.{bytes_held}
 use Rattle.hd_image.specs.Records.{links_of, IsVolumeOf}
@@ -19,7 +18,6 @@ use Rattle.hd_image.proofs.Writes.{writing-replaces}
 use Rattle.hd_forest.specs.Updates.{IsReplaced}
 use Rattle.hd_forest.specs.Sets.{IsRecorded}
 use Rattle.hd_forest.proofs.Keeping.{keeps-same, keeps-trans, keeps-written}
-use Rattle.hd_forest.proofs.Reading.{IsSame}
 
 -- what was known of one state is known of another with the same image
 pub recorded-after : (d : Database) (u v w : VolumeState) (m : Links) → IsVolumeOf d v → v.image ≡ u.image → v.size ≡ u.size → v.sizes ≡ u.sizes

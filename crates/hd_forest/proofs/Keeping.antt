@@ -1,5 +1,5 @@
 -- Steps that leave the blocks of a volume as they are.
-use Rattle.std.proofs.Common.{◌≡◌, ◌≢◌, ℕ, ◌+◌, ◌*◌, ◌/◌, ◌<◌, ◌≤◌, List, length, slice_index, refl, sym, ap, subst, ◌∙◌, arith, inl, inr, Some}
+use Rattle.std.proofs.Common.{◌≡◌, ◌≢◌, ℕ, ◌+◌, ◌*◌, ◌/◌, ◌<◌, ◌≤◌, List, length, refl, sym, ap, subst, ◌∙◌, arith, inl, inr, Some}
 use Rattle.std.proofs.lemmas.Bool.{cases_lt, cases_eq}
 use Rattle.std.proofs.lemmas.Nat.{row_fits}
 use Rattle.std.proofs.Math.Nat.{mul-le-mul_right}
@@ -7,9 +7,9 @@ use Rattle.hd_bytes.specs.Blocks.{block_of, HasBlock}
 use Rattle.hd_volume.specs.Images.{ChangesBlock}
 use Rattle.hd_volume.specs.Headers.{Header, header_of}
 use Rattle.hd_volume.specs.Volumes.{VolumeState, block_at, kind_of, IsKind, IsFormatted, HasKinds}
-use Rattle.hd_volume.specs.Rooms.{spare, HasHole, HasFreeBlock}
+use Rattle.hd_volume.specs.Rooms.{HasFreeBlock}
 use Rattle.hd_volume.specs.Records.{find}
-use Rattle.hd_volume.specs.Calls.{KeepsIndex, KeepsHoles, IsWritten, IsFreed, IsPut, HasNewHeader}
+use Rattle.hd_volume.specs.Calls.{KeepsIndex, IsWritten, IsFreed, IsPut, HasNewHeader}
 use Rattle.hd_volume.proofs.MapLemmas.{find-there, kind-there}
 use Rattle.hd_volume.proofs.JoinLemmas.{AreOne, one-spare, one-holes}
 use Rattle.hd_forest.specs.Updates.{KeepsTheRest}

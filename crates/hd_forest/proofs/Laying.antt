@@ -1,5 +1,5 @@
 -- A new leaf as it is laid out, and put.
-use Rattle.std.proofs.Common.{◌≡◌, ◌≢◌, ℕ, ◌+◌, ◌-◌, ◌<◌, ◌≤◌, List, length, Bool, true, false, cond, ◌==◌, slice_index, refl, sym, ap, subst, ◌∙◌, arith, Option, Some, None, IsTrue}
+use Rattle.std.proofs.Common.{◌≡◌, ℕ, ◌+◌, ◌-◌, ◌<◌, ◌≤◌, List, length, Bool, true, false, cond, ◌==◌, slice_index, refl, sym, ap, subst, ◌∙◌, arith, Option, Some, None, IsTrue}
 use Rattle.std.specs.Prelude.{OnSome, MatchOption, option_map}
 use Rattle.std.specs.Option.{option_map_or}
 use Rattle.std.proofs.lemmas.Bool.{false≢true}
@@ -8,24 +8,22 @@ use Rattle.hd_dbd.specs.declared.hierarchy.FreeSpace.{FreeSpace}
 use Rattle.hd_dbd.specs.Types.{SegmentType}
 use Rattle.hd_dbd.specs.Segment.{Segment}
 use Rattle.hd_dbd.specs.Hierarchy.{Database, type_of}
-use Rattle.hd_dbd.specs.Prefixes.{is_backward_kept, stored_size}
+use Rattle.hd_dbd.specs.Prefixes.{is_backward_kept}
 use Rattle.hd_dbd.specs.Rows.{row_fits}
 use Rattle.hd_dbd.specs.Facts.{stored_sizes}
 use Rattle.hd_dbd.specs.DatabaseRules.{well_formed}
-use Rattle.hd_dbd.proofs.StoredSizes.{stored_sizes-at, block_size-bounds, stored_size-fits}
-use Rattle.hd_volume.specs.Headers.{header_of}
+use Rattle.hd_dbd.proofs.StoredSizes.{stored_sizes-at, block_size-bounds}
 use Rattle.hd_volume.specs.Volumes.{VolumeState}
 use Rattle.hd_volume.specs.Rooms.{HasHole}
 use Rattle.hd_volume.specs.Calls.{IsPut}
-use Rattle.hd_prefix.specs.declared.pointer.Pointer.{Pointer}
 use Rattle.hd_prefix.specs.declared.pointer.Pointer.TheVariants.{TwinForward, TwinBackward, FirstChild, LastChild}
 use Rattle.hd_prefix.specs.Pointers.{place_of}
-use Rattle.hd_prefix.specs.Fields.{code_of, pointer_of, new_segment, IsPointerSet, IsNewSegment}
+use Rattle.hd_prefix.specs.Fields.{new_segment, IsPointerSet, IsNewSegment}
 use Rattle.hd_prefix.proofs.Places.{inside_some}
 use Rattle.hd_prefix.proofs.Fitting.{row_is}
 use Rattle.hd_prefix.proofs.Sizes.{stored_long}
 use Rattle.hd_prefix.proofs.NewSegments.{new_segment_is}
-use Rattle.hd_image.specs.Records.{links_of, IsVolumeOf}
+use Rattle.hd_image.specs.Records.{IsVolumeOf}
 use Rattle.hd_image.specs.Laws.{IsDatabase}
 use Rattle.hd_image.proofs.Puts.{putting-adds, put-free}
 use Rattle.hd_forest.specs.Leaves.{IsLeaf, IsLeafPut}

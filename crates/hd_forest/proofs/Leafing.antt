@@ -1,8 +1,7 @@
 -- The records with a new leaf, by the steps that link it.
-use Rattle.std.proofs.Common.{◌≡◌, ◌≢◌, ℕ, ◌<◌, List, Bool, true, false, ◌&&◌, ◌||◌, ◌==◌, cond, refl, sym, ap, ap₂, ◌∙◌, arith, ne_eqb}
-use Rattle.std.proofs.lemmas.Bool.{eqb-true, eqb-false, false≢true}
+use Rattle.std.proofs.Common.{◌≡◌, ◌≢◌, ℕ, ◌<◌, List, Bool, true, false, ◌&&◌, ◌==◌, cond, refl, sym, ap, ◌∙◌, arith, ne_eqb}
+use Rattle.std.proofs.lemmas.Bool.{eqb-true, false≢true}
 use Rattle.hd_dbd.specs.Types.{SegmentType}
-use Rattle.hd_dbd.specs.Segment.{Segment}
 use Rattle.hd_dbd.specs.Prefixes.{is_backward_kept}
 use Rattle.hd_prefix.specs.declared.pointer.Pointer.TheVariants.{TwinForward, TwinBackward, FirstChild, LastChild}
 use Rattle.hd_prefix.specs.Fields.{code_of, bytes_of, pointer_of}

@@ -1,10 +1,9 @@
 -- A new row is linked.
-use Rattle.std.proofs.Common.{◌≡◌, ◌≢◌, ℕ, ◌+◌, ◌-◌, ◌<◌, ◌≤◌, List, length, Bool, true, false, ◌||◌, ◌==◌, cond, refl, sym, ap, subst, ◌∙◌, arith, inl, inr, ne_eqb}
+use Rattle.std.proofs.Common.{◌≡◌, ◌≢◌, ℕ, ◌+◌, ◌<◌, ◌≤◌, List, length, true, false, ◌||◌, ◌==◌, sym, ap, subst, ◌∙◌, arith, inl, inr, ne_eqb}
 use Rattle.std.proofs.lemmas.Bool.{cases_eq, cases_Bool, eq-eqb, cond-true, cond-false, false≢true}
 use Rattle.hd_dbd.specs.Types.{SegmentType}
 use Rattle.hd_dbd.specs.Segment.{Segment}
 use Rattle.hd_dbd.specs.Hierarchy.{Database}
-use Rattle.hd_volume.specs.Headers.{header_of}
 use Rattle.hd_volume.specs.Volumes.{VolumeState}
 use Rattle.hd_links.specs.Links.{Links, IsSegment, IsLinkGraph, is_child_type}
 use Rattle.hd_links.specs.Placed.{Placed}
@@ -21,7 +20,7 @@ use Rattle.hd_forest.specs.Leaves.{IsLeaf, IsLeafPut}
 use Rattle.hd_forest.specs.Sets.{named, IsTwinPlace, IsRecorded}
 use Rattle.hd_forest.proofs.Chains.{twin-some}
 use Rattle.hd_forest.proofs.Tips.{twins-there}
-use Rattle.hd_forest.proofs.Held.{Held, held}
+use Rattle.hd_forest.proofs.Held.{held}
 use Rattle.hd_forest.proofs.Reading.{links-same}
 use Rattle.hd_forest.proofs.Keeping.{keeps-same, rest-trans}
 use Rattle.hd_forest.proofs.Agreeing.{agree-trans, agree-named, place-stays}

@@ -1,10 +1,10 @@
 -- A new leaf is named by its twins or its parent.
-use Rattle.std.proofs.Common.{◌≡◌, ℕ, Bool, IsTrue, sym, subst}
+use Rattle.std.proofs.Common.{◌≡◌, ℕ, Bool, IsTrue, subst}
 use Rattle.hd_dbd.specs.Hierarchy.{Database}
 use Rattle.hd_volume.specs.Volumes.{VolumeState}
 use Rattle.hd_links.specs.Links.{Links}
 use Rattle.hd_links.specs.Changes.{Agree}
-use Rattle.hd_image.specs.Records.{links_of, IsVolumeOf}
+use Rattle.hd_image.specs.Records.{links_of}
 use Rattle.hd_forest.specs.Sets.{following, preceding, named, IsRecorded}
 use Rattle.hd_forest.proofs.Keeping.{keeps-trans}
 use Rattle.hd_forest.proofs.Agreeing.{agree-trans, agree-preceding}

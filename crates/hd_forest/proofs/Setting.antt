@@ -1,10 +1,10 @@
 -- A pointer that is written into a segment or into the header.
-use Rattle.std.proofs.Common.{◌≡◌, ◌≢◌, ◌⊎◌, ℕ, ◌+◌, ◌<◌, ◌≤◌, List, [], ◌∷◌, length, Bool, true, false, ◌&&◌, ◌||◌, ◌==◌, cond, refl, sym, ap, ap₂, subst, ◌∙◌, arith, inl, inr, Option, Some, None, IsTrue, ne_eqb}
-use Rattle.std.specs.Prelude.{option_map, option_and_then}
+use Rattle.std.proofs.Common.{◌≡◌, ◌≢◌, ℕ, ◌+◌, ◌≤◌, List, [], ◌∷◌, length, Bool, true, false, ◌&&◌, ◌||◌, ◌==◌, cond, refl, sym, ap, ap₂, subst, ◌∙◌, arith, inl, inr, Option, Some, None, IsTrue, ne_eqb}
+use Rattle.std.specs.Prelude.{option_map}
 use Rattle.std.specs.List.{list_any}
 use Rattle.std.specs.Option.{option_map_or, unwrap_or}
 use Rattle.std.proofs.Math.Bool.{or-false}
-use Rattle.std.proofs.lemmas.Bool.{cases_eq, cases_Bool, eq-eqb, eqb-true, cond-true, cond-false, false≢true}
+use Rattle.std.proofs.lemmas.Bool.{cases_eq, eq-eqb, eqb-true, cond-false, false≢true}
 use Rattle.hd_bytes.specs.Numbers.{number_at}
 use Rattle.hd_dbd.specs.declared.hierarchy.FreeSpace.{FreeSpace}
 use Rattle.hd_dbd.specs.Types.{SegmentType}
@@ -13,9 +13,8 @@ use Rattle.hd_dbd.specs.Prefixes.{is_backward_kept, prefix_length, stored_size, 
 use Rattle.hd_dbd.specs.DatabaseRules.{well_formed}
 use Rattle.hd_dbd.proofs.Levels.{type_of-zero}
 use Rattle.hd_dbd.proofs.Fitting.{types_fit, type_of-fits, parent_part, IsEarlier}
-use Rattle.hd_volume.specs.Headers.{Header, header_of}
+use Rattle.hd_volume.specs.Headers.{header_of}
 use Rattle.hd_volume.specs.Volumes.{VolumeState}
-use Rattle.hd_volume.specs.Records.{find}
 use Rattle.hd_volume.specs.Calls.{IsWritten, HasNewHeader, HasSegment}
 use Rattle.hd_prefix.specs.declared.pointer.Pointer.{Pointer}
 use Rattle.hd_prefix.specs.declared.pointer.Pointer.TheVariants.{TwinForward, TwinBackward, FirstChild, LastChild}
@@ -25,8 +24,8 @@ use Rattle.hd_prefix.specs.Fields.{code_of}
 use Rattle.hd_prefix.proofs.Sizes.{stored_long}
 use Rattle.hd_prefix.proofs.Listed.{children_listed}
 use Rattle.hd_prefix.proofs.Children.{child_is}
-use Rattle.hd_links.specs.Links.{Links, IsSegment, is_child_type, is_last_kept, child_types}
-use Rattle.hd_links.specs.Changes.{AgreeAt, Agree}
+use Rattle.hd_links.specs.Links.{Links, IsSegment, is_child_type, is_last_kept}
+use Rattle.hd_links.specs.Changes.{Agree}
 use Rattle.hd_image.specs.Records.{links_of, IsVolumeOf}
 use Rattle.hd_image.specs.Pointing.{with_pointer}
 use Rattle.hd_image.specs.Laws.{IsDatabase}

@@ -1,5 +1,5 @@
 -- Laws of the walk through a volume's rows.
-use Rattle.std.specs.Prelude.{◌≡◌, ℕ, ◌<◌, List, [], length}
+use Rattle.std.specs.Prelude.{◌≡◌, ℕ, ◌<◌, [], length}
 use Rattle.hd_dbd.specs.Hierarchy.{Database}
 use Rattle.hd_dbd.specs.Paths.{row_at}
 use Rattle.hd_dbd.specs.Forest.{Forest}

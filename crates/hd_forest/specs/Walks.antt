@@ -1,5 +1,5 @@
 -- Paths of addresses, and the walk from row to row.
-use Rattle.std.specs.Prelude.{◌≡◌, ℕ, zero, suc, ◌-◌, List, [], ◌∷◌, ◌++◌, length, take, ◌==◌, cond}
+use Rattle.std.specs.Prelude.{ℕ, zero, suc, ◌-◌, List, [], ◌∷◌, ◌++◌, length, take, ◌==◌, cond}
 use Rattle.hd_dbd.specs.Types.{SegmentType}
 use Rattle.hd_dbd.specs.Hierarchy.{Database, level_of}
 use Rattle.hd_dbd.specs.Forest.{Forest}

@@ -1,11 +1,11 @@
 -- Data blocks with extents have a right chain of free elements, and no place with nothing.
-use Rattle.std.proofs.Common.{◌≡◌, ◌≢◌, ◌⊎◌, inl, inr, ℕ, zero, ◌+◌, ◌*◌, ◌%◌, ◌<◌, ◌≤◌, List, [], ◌∷◌, length, slice_index, refl, sym, ap, subst, ◌∙◌, arith}
+use Rattle.std.proofs.Common.{◌≡◌, ◌≢◌, ◌⊎◌, inl, inr, ℕ, ◌+◌, ◌%◌, ◌<◌, ◌≤◌, List, [], ◌∷◌, length, slice_index, refl, sym, ap, subst, ◌∙◌, arith}
 use Rattle.std.proofs.lemmas.Bool.{cases_eq}
 use Rattle.hd_bytes.specs.Numbers.{number_at}
 use Rattle.hd_block.specs.Extents.{Extent, free, used, taken, IsElement, IsSegment, Fill, IsDivided, AreWhole}
 use Rattle.hd_volume.specs.Volumes.{VolumeState, block_at, IsKind, HasExtents}
 use Rattle.hd_volume.specs.Indexes.{IsAmong}
-use Rattle.hd_image.specs.BlockFaults.{IsFreeElement, AreFreeElements, HasFreeElements, IsWrongChain, IsNoSegment, IsStep, IsReadTo, IsWrongPlace}
+use Rattle.hd_image.specs.BlockFaults.{AreFreeElements, HasFreeElements, IsWrongChain, IsNoSegment, IsStep, IsReadTo, IsWrongPlace}
 
 -- the places of the free elements among extents that begin at a place
 abbrev pub frees : ℕ → List Extent → List ℕ

@@ -1,15 +1,15 @@
 -- A volume with an index, whose entries are those of the roots of a held forest, has no fault of the index.
-use Rattle.std.proofs.Common.{◌≡◌, ◌≢◌, ◌⊎◌, inl, inr, ℕ, zero, suc, ◌+◌, ◌-◌, ◌<◌, ◌≤◌, List, [], ◌∷◌, ◌++◌, length, drop, Bool, true, false, cond, Option, Some, None, append_assoc, refl, sym, ap, subst, ◌∙◌, arith}
-use Rattle.std.specs.Prelude.{◌==◌, ◌&&◌, not, find, option_map, slice_index}
-use Rattle.std.specs.List.{list_all, list_any}
-use Rattle.std.proofs.lemmas.Bool.{and_parts, and_from, cases_eq, cases_Bool, eq-eqb, or_left, or_right, false≢true, cond-true}
+use Rattle.std.proofs.Common.{◌≡◌, inl, inr, ℕ, suc, ◌-◌, ◌<◌, ◌≤◌, List, [], ◌∷◌, ◌++◌, length, drop, Bool, true, false, Option, Some, None, append_assoc, refl, sym, ap, subst, ◌∙◌, arith}
+use Rattle.std.specs.Prelude.{not, find, option_map}
+use Rattle.std.specs.List.{list_all}
+use Rattle.std.proofs.lemmas.Bool.{and_parts}
 use Rattle.std.proofs.lemmas.List.Folds.{list_all-append}
 use Rattle.hd_bytes.specs.Numbers.{number_at}
 use Rattle.hd_volume.specs.Headers.{header_of}
 use Rattle.hd_volume.specs.Volumes.{VolumeState, block_at, IsKind}
 use Rattle.hd_volume.specs.Entries.{Entry, entry_blocks, entries_in, entries_of, entries}
-use Rattle.hd_volume.specs.Indexes.{entry_room, IsEntryBlock, IsChain, IsAmong, key_less, is_below_first, keys_ascend, HasIndex}
-use Rattle.hd_image.specs.IndexFaults.{IsOfLevel, IsWrongTop, IsWrongForm, NamesBlock, IsNamedTwice, IsUnreachedBlock, last_entry, first_not_above, HasEntryOutOfOrder}
+use Rattle.hd_volume.specs.Indexes.{IsEntryBlock, IsChain, IsAmong, key_less, keys_ascend, HasIndex}
+use Rattle.hd_image.specs.IndexFaults.{IsWrongTop, IsWrongForm, NamesBlock, IsNamedTwice, IsUnreachedBlock, last_entry, first_not_above, HasEntryOutOfOrder}
 
 -- ---- chains
 

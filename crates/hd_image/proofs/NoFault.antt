@@ -1,17 +1,17 @@
 -- In a volume that holds a forest no fault stands.
-use Rattle.std.proofs.Common.{◌≡◌, ◌≢◌, ◌⊎◌, inl, inr, ℕ, ◌<◌, List, [], ◌∷◌, length, Bool, true, false, None, refl, sym, ap, subst, ◌∙◌, arith, ne_eqb}
-use Rattle.std.specs.Prelude.{◌==◌, ◌&&◌, not, bytes_eq}
+use Rattle.std.proofs.Common.{◌≡◌, inl, inr, ℕ, List, [], ◌∷◌, length, Bool, true, None, refl, sym, ap, subst, ◌∙◌, arith, ne_eqb}
+use Rattle.std.specs.Prelude.{◌==◌, not}
 use Rattle.std.specs.List.{list_all, list_any}
-use Rattle.std.proofs.lemmas.Bool.{and_from, cases_eq, eq-eqb, or_left, or_right, false≢true}
+use Rattle.std.proofs.lemmas.Bool.{and_from, eq-eqb, or_left, or_right, false≢true}
 use Rattle.std.proofs.lemmas.Slice.Eq.{bytes_eq-Decides}
 use Rattle.hd_dbd.specs.Hierarchy.{Database}
 use Rattle.hd_dbd.specs.Rows.{key_of}
 use Rattle.hd_dbd.specs.Forest.{Forest}
 use Rattle.hd_volume.specs.Headers.{HasHeader}
 use Rattle.hd_volume.specs.Volumes.{VolumeState}
-use Rattle.hd_volume.specs.Entries.{Entry, entry_blocks, entries_of, entries}
+use Rattle.hd_volume.specs.Entries.{Entry, entry_blocks, entries}
 use Rattle.hd_volume.specs.Indexes.{root_key_length}
-use Rattle.hd_links.specs.Links.{Links, IsSegment, IsLinkGraph, segment_at}
+use Rattle.hd_links.specs.Links.{Links, IsLinkGraph, segment_at}
 use Rattle.hd_links.specs.Placed.{Placed, nowhere}
 use Rattle.hd_links.specs.Pointers.{AreLinked}
 use Rattle.hd_links.proofs.Types.{Ordered, ordered}

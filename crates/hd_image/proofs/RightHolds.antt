@@ -1,27 +1,25 @@
 -- A volume with which nothing is wrong holds a forest.
-use Rattle.std.proofs.Common.{◌≡◌, ◌⊎◌, inl, inr, ℕ, ◌<◌, List, [], ◌∷◌, length, Bool, true, false, None, refl, sym, ap, subst, ◌∙◌, arith}
-use Rattle.std.specs.Prelude.{◌==◌, ◌&&◌, not, bytes_eq}
+use Rattle.std.proofs.Common.{◌≡◌, inl, inr, ℕ, ◌<◌, List, [], ◌∷◌, length, Bool, true, None, refl, sym, ap, subst, ◌∙◌, arith}
+use Rattle.std.specs.Prelude.{◌==◌, not}
 use Rattle.std.specs.List.{list_all, list_any}
 use Rattle.std.proofs.lemmas.Bool.{and_parts, or_cases, cases_eq, eqb-true, eq-eqb, false≢true}
 use Rattle.std.proofs.lemmas.Slice.Eq.{bytes_eq-Decides}
-use Rattle.hd_dbd.specs.Types.{SegmentType}
 use Rattle.hd_dbd.specs.Hierarchy.{Database}
 use Rattle.hd_dbd.specs.Rows.{key_of}
 use Rattle.hd_dbd.specs.Forest.{Forest}
 use Rattle.hd_volume.specs.Headers.{HasHeader}
-use Rattle.hd_volume.specs.Volumes.{VolumeState, IsFormatted}
+use Rattle.hd_volume.specs.Volumes.{IsFormatted}
 use Rattle.hd_volume.specs.Entries.{Entry, entries}
-use Rattle.hd_volume.specs.Indexes.{root_key_length, keys_ascend, HasIndex}
+use Rattle.hd_volume.specs.Indexes.{root_key_length, keys_ascend}
 use Rattle.hd_links.specs.Links.{Links, IsSegment, IsLinkGraph, segment_at}
 use Rattle.hd_links.specs.Placed.{Placed, nowhere, Holds}
 use Rattle.hd_links.proofs.Types.{Ordered, ordered}
 use Rattle.hd_links.proofs.Forms.{Formed, formed}
 use Rattle.hd_links.proofs.Decide.{exists}
 use Rattle.hd_image.specs.Records.{links_of, IsVolumeOf}
-use Rattle.hd_image.specs.Holding.{root_entries, HoldsPlaced}
+use Rattle.hd_image.specs.Holding.{root_entries}
 use Rattle.hd_image.specs.Laws.{IsDatabase}
 use Rattle.hd_image.specs.IndexFaults.{names_a_root}
-use Rattle.hd_image.specs.Right.{IsRight, EntriesAreRight}
 use Rattle.hd_image.specs.Exact.{RightVolumesHoldAForest}
 use Rattle.hd_image.proofs.Found.{records-link}
 use Rattle.hd_image.proofs.Sorted.{IsIn, same-entries}

@@ -1,8 +1,7 @@
 -- The entries that the roots of a held forest want.
-use Rattle.std.proofs.Common.{◌≡◌, ◌⊎◌, inl, inr, ℕ, zero, ◌+◌, ◌<◌, ◌≤◌, List, [], ◌∷◌, true, false, cond, Option, Some, None, IsTrue, refl, sym, ap, subst, ◌∙◌, arith}
-use Rattle.std.specs.Prelude.{◌==◌, ◌&&◌, not}
+use Rattle.std.proofs.Common.{◌≡◌, inl, inr, ℕ, ◌<◌, List, true, false, Option, Some, None, IsTrue, refl, sym, ap, subst, ◌∙◌, arith}
 use Rattle.std.specs.Option.{option_map_or}
-use Rattle.std.proofs.lemmas.Bool.{and_parts, cases_eq, eqb-true, eq-eqb, ne_eqb, cond-true, cond-false, false≢true}
+use Rattle.std.proofs.lemmas.Bool.{and_parts, cases_eq, ne_eqb, false≢true}
 use Rattle.hd_dbd.specs.Types.{SegmentType}
 use Rattle.hd_dbd.specs.declared.hierarchy.Key.{Key}
 use Rattle.hd_dbd.specs.declared.hierarchy.FreeSpace.{FreeSpace}
@@ -13,12 +12,12 @@ use Rattle.hd_dbd.specs.DatabaseRules.{well_formed}
 use Rattle.hd_dbd.specs.Forest.{Forest, empty, node}
 use Rattle.hd_dbd.proofs.Fitting.{type_of-fits, types_fit}
 use Rattle.hd_volume.specs.Entries.{Entry}
-use Rattle.hd_volume.specs.Indexes.{key_less, is_below_first, keys_ascend}
+use Rattle.hd_volume.specs.Indexes.{key_less, keys_ascend}
 use Rattle.hd_links.specs.Links.{Links, IsSegment, IsLinkGraph, is_child_type, segment_at}
 use Rattle.hd_links.specs.Placed.{Placed, count, nowhere, with_node, NodesLie, NodeLies}
 use Rattle.hd_links.proofs.Types.{Ordered, row_type, code_some}
 use Rattle.hd_links.proofs.Counts.{none_at}
-use Rattle.hd_links.proofs.Forms.{Formed, is_behind, follows_key, segment_is}
+use Rattle.hd_links.proofs.Forms.{Formed, follows_key, segment_is}
 use Rattle.hd_image.specs.Holding.{root_entries}
 use Rattle.hd_image.proofs.Sorted.{IsIn}
 

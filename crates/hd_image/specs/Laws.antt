@@ -1,7 +1,6 @@
 -- Laws of the records of a volume.
 use Rattle.std.specs.Prelude.{◌≡◌, ℕ, List, length, true, Some, IsTrue, ◌<◌}
 use Rattle.hd_bytes.specs.Numbers.{number_at}
-use Rattle.hd_bytes.specs.Ranges.{with_bytes}
 use Rattle.hd_dbd.specs.Types.{SegmentType}
 use Rattle.hd_dbd.specs.Hierarchy.{Database}
 use Rattle.hd_dbd.specs.DatabaseRules.{well_formed}

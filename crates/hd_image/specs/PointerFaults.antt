@@ -1,6 +1,6 @@
 -- What can be wrong with the pointers of a volume whose blocks are right: one word for each line of the fault table, with
 -- where the fault stands and what else it names, 0 where it names nothing. Each phase supposes that no earlier fault stands.
-use Rattle.std.specs.Prelude.{◌≡◌, ◌≢◌, ◌⊎◌, ℕ, ◌<◌, List, [], ◌∷◌, ◌++◌, Bool, true, false, not, ◌&&◌, ◌==◌, cond, Option, Some, option_map, find}
+use Rattle.std.specs.Prelude.{◌≡◌, ◌≢◌, ◌⊎◌, ℕ, ◌<◌, List, [], ◌∷◌, ◌++◌, Bool, true, false, not, ◌&&◌, ◌==◌, cond, Some, option_map, find}
 use Rattle.hd_dbd.specs.Types.{SegmentType}
 use Rattle.hd_dbd.specs.Prefixes.{is_backward_kept}
 use Rattle.hd_dbd.specs.Rows.{twins_in_order}

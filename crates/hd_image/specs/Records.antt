@@ -1,5 +1,5 @@
 -- The link graph of a volume: what the records of its image say, by their addresses.
-use Rattle.std.specs.Prelude.{◌≡◌, ℕ, List, [], Option, ◌||◌, ◌==◌, cond, is_some}
+use Rattle.std.specs.Prelude.{◌≡◌, ℕ, List, [], ◌||◌, ◌==◌, cond, is_some}
 use Rattle.std.specs.Option.{option_map_or}
 use Rattle.hd_dbd.specs.Types.{SegmentType}
 use Rattle.hd_dbd.specs.Hierarchy.{Database}

@@ -20,8 +20,8 @@ mod volume;
 
 pub use file::FileStore;
 pub use fuse::FuseStore;
-pub use load::size_table;
 pub use law::{law_an_index_stays, law_segments_depend_on_data_blocks};
+pub use load::size_table;
 pub use memory::MemStore;
 pub use store::BlockStore;
 pub use volume::Volume;

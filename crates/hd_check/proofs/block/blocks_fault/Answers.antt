@@ -1,4 +1,4 @@
-use Rattle.std.proofs.Common.{◌≡◌, ◌≤◌, ◌<◌, ◌+◌, ◌-◌, ◌*◌, ◌++◌, ℕ, suc, List, Option, Ok, IsTrue, IfSome, IfNone, length, inl, inr, arith, refl, sym, ap, subst, ◌∙◌}
+use Rattle.std.proofs.Common.{◌≡◌, ◌≤◌, ◌<◌, ◌+◌, ◌-◌, ◌*◌, ◌++◌, ℕ, suc, List, Option, Ok, IsTrue, IfSome, IfNone, inl, inr, arith, refl, sym, ap, subst, ◌∙◌}
 use Rattle.std.proofs.lemmas.Nat.{row_fits}
 use Rattle.std.proofs.lemmas.Bool.{cases_lt}
 use Rattle.hd_bytes.specs.Blocks.{HasBlock}
@@ -8,7 +8,7 @@ use Rattle.hd_volume.specs.Volumes.{VolumeState, block_at}
 use Rattle.hd_volume.proofs.KindLemmas.{below-count}
 use Rattle.hd_volume.proofs.CallSteps.{read-ok, reads-join}
 use Rattle.hd_check.specs.declared.fault.Fault.{Fault}
-use Rattle.hd_check.specs.Phases.{IsRightBlock, IsWrongBlock, AreBlocksRight, IsLeastOf}
+use Rattle.hd_check.specs.Phases.{IsRightBlock, IsWrongBlock, AreBlocksRight}
 use Rattle.hd_check.specs.declared.segments.Place.{Place}
 use Rattle.hd_check.specs.Places.{places_at, places_behind, ArePlaces}
 use Rattle.hd_check.proofs.BlockFaults.{wrong-least, all-right}

@@ -1,7 +1,7 @@
-use Rattle.std.proofs.Common.{◌≡◌, ◌≤◌, ◌<◌, ◌+◌, ℕ, List, [], ◌∷◌, length, arith, refl, sym, ap, subst, ◌∙◌}
+use Rattle.std.proofs.Common.{◌<◌, ◌+◌, ℕ, List, [], ◌∷◌, arith, sym, subst}
 use Rattle.hd_bytes.specs.Numbers.{number_at}
-use Rattle.hd_image.specs.BlockFaults.{IsFreeElement, AreFreeElements, HasFreeElements}
-use Rattle.hd_check.proofs.ChainSteps.{GoesOn, goes-on, one-more}
+use Rattle.hd_image.specs.BlockFaults.{IsFreeElement, AreFreeElements}
+use Rattle.hd_check.proofs.ChainSteps.{goes-on, one-more}
 use Rattle.hd_check.proofs.element.is_chain_right.Goals as goal
 
 pub loop-turn-init : goal.loop-turn-init

@@ -1,4 +1,4 @@
-use Rattle.std.proofs.Common.{◌≡◌, ◌≤◌, ◌+◌, ℕ, List, length}
+use Rattle.std.proofs.Common.{◌≤◌, ◌+◌, ℕ, List, length}
 use Rattle.hd_image.specs.BlockFaults.{AreFreeElements, HasFreeElements}
 use Rattle.hd_check.proofs.element.is_chain_right.Given as goal
 

@@ -1,4 +1,4 @@
-use Rattle.std.proofs.Common.{◌≡◌, ◌≤◌, ◌<◌, ◌+◌, ℕ, List, length, IsTrue, IfNone, IfSome, arith, sym, ap, subst, ◌∙◌}
+use Rattle.std.proofs.Common.{◌≡◌, ◌≤◌, ℕ, List, length, arith, sym, ap, subst, ◌∙◌}
 use Rattle.hd_bytes.specs.Blocks.{HasBlock}
 use Rattle.hd_bytes.proofs.BlockLemmas.{length-block}
 use Rattle.hd_dbd.specs.Hierarchy.{Database}
@@ -6,7 +6,7 @@ use Rattle.hd_volume.specs.Headers.{header_of}
 use Rattle.hd_volume.specs.Volumes.{VolumeState, block_at}
 use Rattle.hd_volume.proofs.PutLemmas.{if-some-map, if-none-map}
 use Rattle.hd_check.specs.declared.fault.Fault.{Fault}
-use Rattle.hd_check.specs.Phases.{CountsImage, IsNamed, IsWrongHeader, IsHeaderRight, IsLeastOf}
+use Rattle.hd_check.specs.Phases.{CountsImage, IsNamed, IsWrongHeader, IsLeastOf}
 use Rattle.hd_check.proofs.HeaderFaults.{wrong-first, header-right, header-wrong}
 use Rattle.hd_check.proofs.header.header_fault.Goals as goal
 

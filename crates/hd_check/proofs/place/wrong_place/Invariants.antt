@@ -1,4 +1,4 @@
-use Rattle.std.proofs.Common.{◌≡◌, ◌≤◌, ◌+◌, ℕ, List, length}
+use Rattle.std.proofs.Common.{◌≤◌, ◌+◌, ℕ, List}
 use Rattle.hd_dbd.specs.Facts.{stored_sizes}
 use Rattle.hd_image.specs.BlockFaults.{HasFreeElements}
 use Rattle.hd_check.proofs.Readings.{IsRead}

@@ -1,14 +1,11 @@
-use Rattle.std.proofs.Common.{◌≡◌, ◌≢◌, ◌<◌, ◌+◌, ℕ, List, ◌∷◌, [], length, drop, true, false, cond, slice_index_or, refl, sym, ap, subst, ◌∙◌, ne_eqb}
-use Rattle.std.specs.Prelude.{◌&&◌, ◌||◌, ◌==◌}
-use Rattle.std.specs.Option.{option_map_or}
+use Rattle.std.proofs.Common.{◌≡◌, ◌+◌, ℕ, List, ◌∷◌, [], drop, slice_index_or, sym, ap, subst, ◌∙◌}
 use Rattle.std.proofs.lemmas.List.{drop_more}
 use Rattle.std.proofs.Math.ListN.{drop_of_length-le}
 use Rattle.hd_dbd.specs.Types.{SegmentType}
-use Rattle.hd_volume.specs.Volumes.{VolumeState}
 use Rattle.hd_prefix.specs.declared.pointer.Pointer.TheVariants.{FirstChild, LastChild}
-use Rattle.hd_prefix.specs.Fields.{code_of, pointer_of}
-use Rattle.hd_links.specs.Links.{Links, is_last_kept}
-use Rattle.hd_image.specs.Records.{links_of, stored_at}
+use Rattle.hd_prefix.specs.Fields.{pointer_of}
+use Rattle.hd_links.specs.Links.{Links}
+use Rattle.hd_image.specs.Records.{links_of}
 use Rattle.hd_image.specs.PointerFaults.{child_pointers}
 use Rattle.hd_check.specs.declared.pointers.Wrong.{Wrong}
 use Rattle.hd_check.specs.Judging.{wrong_among, wrong_or}

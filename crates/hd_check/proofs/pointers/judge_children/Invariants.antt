@@ -1,5 +1,4 @@
 use Rattle.std.proofs.Common.{◌≡◌, ◌≢◌, ℕ, drop}
-use Rattle.hd_dbd.specs.Types.{SegmentType}
 use Rattle.hd_volume.specs.Volumes.{VolumeState}
 use Rattle.hd_image.specs.Records.{links_of, stored_at}
 use Rattle.hd_image.specs.PointerFaults.{child_pointers}

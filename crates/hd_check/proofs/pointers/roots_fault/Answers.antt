@@ -1,4 +1,4 @@
-use Rattle.std.proofs.Common.{◌≡◌, ◌∷◌, [], refl, sym, ap, subst, ◌∙◌}
+use Rattle.std.proofs.Common.{◌∷◌, [], refl, ap, ◌∙◌}
 use Rattle.hd_image.specs.Records.{links_of}
 use Rattle.hd_check.specs.Judging.{wrong_among, wrong_or}
 use Rattle.hd_check.specs.declared.pointers.Wrong.{Wrong}

@@ -1,5 +1,4 @@
-use Rattle.std.proofs.Common.{◌≡◌, ◌≢◌, ℕ, IfNone, IfSome, refl, sym, ap, subst, ◌∙◌}
-use Rattle.hd_check.specs.Places.{IsPlaceOf}
+use Rattle.std.proofs.Common.{sym}
 use Rattle.hd_check.proofs.NamedLemmas.{nowhere-wrong, another-wrong, right-wrong}
 use Rattle.hd_check.proofs.pointers.wrong_of.Goals as goal
 

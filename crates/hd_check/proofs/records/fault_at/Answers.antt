@@ -1,5 +1,3 @@
-use Rattle.std.proofs.Common.{◌≡◌, IsTrue, IfNone, IfSome, refl, sym, ap, subst, ◌∙◌}
-use Rattle.hd_volume.proofs.CallSteps.{read-ok}
 use Rattle.hd_check.proofs.Lent.{has-segment, lent}
 use Rattle.hd_check.proofs.records.fault_at.Goals as goal
 

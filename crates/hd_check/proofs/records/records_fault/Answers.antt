@@ -1,4 +1,4 @@
-use Rattle.std.proofs.Common.{◌≡◌, ◌<◌, ◌≤◌, ◌+◌, ℕ, List, Ok, IsTrue, IfNone, IfSome, length, inl, inr, true, refl, sym, ap, subst, ◌∙◌, arith}
+use Rattle.std.proofs.Common.{◌≡◌, ◌<◌, ℕ, List, Ok, IsTrue, length, inl, inr, refl, sym, subst, ◌∙◌, arith}
 use Rattle.std.proofs.lemmas.Bool.{cases_lt}
 use Rattle.hd_dbd.specs.Types.{SegmentType}
 use Rattle.hd_dbd.specs.Hierarchy.{Database}
@@ -8,10 +8,7 @@ use Rattle.hd_volume.proofs.PutLemmas.{if-some-map}
 use Rattle.hd_links.specs.Links.{Links, IsSegment}
 use Rattle.hd_image.specs.Records.{links_of}
 use Rattle.hd_image.proofs.Roots.{header-code}
-use Rattle.hd_check.specs.declared.fault.Fault.{Fault}
 use Rattle.hd_check.specs.declared.segments.Place.{Place}
-use Rattle.hd_check.specs.Places.{ArePlaces}
-use Rattle.hd_check.specs.Phases.{IsLeastOf}
 use Rattle.hd_check.specs.Judging.{IsRecordRight, IsWrongRecord}
 use Rattle.hd_check.proofs.Lookups.{place-at, among}
 use Rattle.hd_check.proofs.Lent.{links-same}

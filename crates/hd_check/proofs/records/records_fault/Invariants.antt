@@ -1,4 +1,4 @@
-use Rattle.std.proofs.Common.{◌≡◌, ◌<◌, ℕ, IsTrue, Ok}
+use Rattle.std.proofs.Common.{◌<◌, ℕ, IsTrue, Ok}
 use Rattle.hd_volume.specs.Calls.{IsRead}
 use Rattle.hd_image.specs.Records.{links_of}
 use Rattle.hd_check.specs.Judging.{IsRecordRight}
