@@ -56,6 +56,7 @@ record Wrong (v : VolumeState) (k : Line) (a : ℕ) : Type 0 where
   short : place < v.size
   is : IsWrongIn v n k place
 
+-- what stands in the second phase says that a block is wrong
 wrong-of : (d : Database) (v : VolumeState) (k : Line) (a o : ℕ) → 0 < v.size → phase_of k ≡ 2 → Stands d v k a o → Wrong v k a
 wrong-of d v k a o some two = second-lines (λ x. Stands d v x a o → Wrong v x a)
     (λ s. record { n = s.0; there = s.1.there; later = s.1.later; place = 0; at = (let e = s.3 in omega arith); short = some; is = inl (refl, refl, s.1.kind_is, s.2) })
@@ -128,6 +129,7 @@ least-of d v n k place f some right two number at short wrong stands = record {
       ]);
 }
 
+-- what is wrong with the first wrong block is the least fault
 pub wrong-least : (d : Database) (v : VolumeState) (n : ℕ) (f : Fault) → 0 < v.size → HasBlock v.size v.image n → 0 < n → ((m : ℕ) → 0 < m → m < n → IsRightBlock v.sizes (block_at v m))
     → IsWrongBlock v.sizes (block_at v n) (n * v.size) f → IsLeastOf d v 2 f
 wrong-least d v n f some there later right (inl c) =

@@ -21,14 +21,17 @@ read-at : (types : List SegmentType) (v : VolumeState) (a code : ℕ) (segment :
 read-at types v a code segment pointer stored own =
     ap (λ (c : ℕ). pointer_of types c pointer segment) own ∙ ap (λ (s : List ℕ). pointer_of types (code_of s) pointer s) (sym stored)
 
+-- the first child that is read is that of the record
 pub first-read : (types : List SegmentType) (v : VolumeState) (a t code : ℕ) (segment : List ℕ) (x : ℕ) → a ≢ 0 → stored_at v a ≡ segment → code ≡ code_of segment
     → x ≡ pointer_of types code (FirstChild t) segment → x ≡ (links_of types v).first_child a t
 first-read types v a t code segment x some stored own is = is ∙ read-at types v a code segment (FirstChild t) stored own ∙ sym (cond-false (a == 0) _ (pointer_at types v (FirstChild t) a) (ne_eqb a 0 some))
 
+-- and so is the last child
 pub last-read : (types : List SegmentType) (v : VolumeState) (a t code : ℕ) (segment : List ℕ) (x : ℕ) → a ≢ 0 → stored_at v a ≡ segment → code ≡ code_of segment
     → x ≡ pointer_of types code (LastChild t) segment → x ≡ (links_of types v).last_child a t
 last-read types v a t code segment x some stored own is = is ∙ read-at types v a code segment (LastChild t) stored own ∙ sym (cond-false (a == 0) _ (pointer_at types v (LastChild t) a) (ne_eqb a 0 some))
 
+-- nothing and something is nothing
 and-none : (b : Bool) → (b && false) ≡ false
 and-none true = refl
 and-none false = refl
@@ -46,10 +49,12 @@ last-unkept types t code segment x is other =
 pub code-read : (types : List SegmentType) (v : VolumeState) (a code : ℕ) (segment : List ℕ) → stored_at v a ≡ segment → code ≡ code_of segment → code ≡ (links_of types v).code a
 code-read types v a code segment stored own = own ∙ ap code_of (sym stored)
 
+-- the twin forward that is read is that of the record
 pub forward-read : (types : List SegmentType) (v : VolumeState) (a code : ℕ) (segment : List ℕ) (x : ℕ) → stored_at v a ≡ segment → code ≡ code_of segment
     → x ≡ pointer_of types code TwinForward segment → x ≡ (links_of types v).forward a
 forward-read types v a code segment x stored own is = is ∙ read-at types v a code segment TwinForward stored own
 
+-- and so is the twin backward
 pub backward-read : (types : List SegmentType) (v : VolumeState) (a code : ℕ) (segment : List ℕ) (x : ℕ) → stored_at v a ≡ segment → code ≡ code_of segment
     → x ≡ pointer_of types code TwinBackward segment → x ≡ (links_of types v).backward a
 backward-read types v a code segment x stored own is = is ∙ read-at types v a code segment TwinBackward stored own

@@ -16,9 +16,11 @@ use Rattle.hd_image.specs.Laws.{IsDatabase}
 use Rattle.hd_image.proofs.Found.{segment-found, stored-found, row-found}
 use Rattle.hd_check.specs.Lending.{IsLent}
 
+-- a segment of the records is one of the volume
 pub has-segment : (d : Database) (v : VolumeState) (a : ℕ) → IsDatabase d → IsVolumeOf d v → IsSegment (links_of d.types v) a → HasSegment v a 0
 has-segment d v a fit of s = (let h = segment-found d v a fit of s in record { bytes = h.bytes; is = h.is; long = omega arith })
 
+-- what is found at an address is what is lent
 pub lent : (d : Database) (v : VolumeState) (a : ℕ) (s : List ℕ) → IsDatabase d → IsVolumeOf d v → IsSegment (links_of d.types v) a → find v a ≡ Some s → IsLent d.types v a s
 lent d v a s fit of there is =
     let h = segment-found d v a fit of there in

@@ -7,21 +7,25 @@ use Rattle.hd_check.specs.Places.{IsPlaceOf, AreFrom, PlacesAscend}
 abbrev pub place-at : List Place → ℕ → Place
 place-at ps j = slice_index_or ps j (record { address = 0; code = 0 })
 
+-- a place of a number is one of the places
 pub among : (ps : List Place) (j : ℕ) → j < length ps → IsPlaceOf (place-at ps j) ps
 among [] j l = absurd (omega arith)
 among (p ∷ ps) zero l = inl refl
 among (p ∷ ps) (suc j) l = inr (among ps j (omega arith))
 
+-- each of the places has a number
 pub number-of : (p : Place) (ps : List Place) → IsPlaceOf p ps → (j : ℕ) × (j < length ps) × (place-at ps j ≡ p)
 number-of p [] i = absurd i
 number-of p (q ∷ ps) (inl e) = (0, omega arith, sym e)
 number-of p (q ∷ ps) (inr i) = (let r = number-of p ps i in (suc r.0, (let l = r.1 in omega arith), r.2))
 
+-- all places stand from an address on
 from-at : (a : ℕ) (ps : List Place) (j : ℕ) → AreFrom a ps → j < length ps → a ≤ (place-at ps j).address
 from-at a [] j h l = absurd (omega arith)
 from-at a (p ∷ ps) zero h l = h.0
 from-at a (p ∷ ps) (suc j) h l = from-at a ps j h.1 (omega arith)
 
+-- a later place stands behind an earlier one
 pub in-order : (ps : List Place) (i j : ℕ) → PlacesAscend ps → i < j → j < length ps → (place-at ps i).address < (place-at ps j).address
 in-order [] i j h less l = absurd (omega arith)
 in-order (p ∷ ps) zero zero h less l = absurd (omega arith)

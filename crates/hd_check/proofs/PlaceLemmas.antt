@@ -33,6 +33,7 @@ record IsNoted (b : List ℕ) (first p : ℕ) (xs : List Extent) (pl : Place) : 
   used : UsedAt p xs place size
   is : pl ≡ record { address = first + place; code = slice_index b place }
 
+-- a place among those noted is noted
 noted : (b : List ℕ) (first p : ℕ) (xs : List Extent) (pl : Place) → IsPlaceOf pl (places_in b first (parts_of p xs)) → IsNoted b first p xs pl
 noted b first p [] pl i = absurd i
 noted b first p (free n ∷ xs) pl i = (let r = noted b first (p + n) xs pl i in record { place = r.place; size = r.size; used = r.used; is = r.is })
@@ -40,6 +41,7 @@ noted b first p (used n ∷ xs) pl (inl e) = record { place = p; size = n; used 
 noted b first p (used n ∷ xs) pl (inr i) = (let r = noted b first (p + n) xs pl i in record { place = r.place; size = r.size; used = inr r.used; is = r.is })
 noted b first p (taken n ∷ xs) pl i = (let r = noted b first (p + n) xs pl i in record { place = r.place; size = r.size; used = r.used; is = r.is })
 
+-- a segment of the block is noted
 note : (b : List ℕ) (first p : ℕ) (xs : List Extent) (q k : ℕ) → UsedAt p xs q k → IsPlaceOf (record { address = first + q; code = slice_index b q }) (places_in b first (parts_of p xs))
 note b first p [] q k u = absurd u
 note b first p (free n ∷ xs) q k u = note b first (p + n) xs q k u
@@ -47,16 +49,19 @@ note b first p (used n ∷ xs) q k (inl e) = inl (ap (λ (x : ℕ). record { add
 note b first p (used n ∷ xs) q k (inr u) = inr (note b first (p + n) xs q k u)
 note b first p (taken n ∷ xs) q k u = note b first (p + n) xs q k u
 
+-- what stands from an address on stands from a lower one on
 lower : (a b : ℕ) (ps : List Place) → a ≤ b → AreFrom b ps → AreFrom a ps
 lower a b [] l h = tt
 lower a b (p ∷ ps) l h = ((let k = h.0 in omega arith), lower a b ps l h.1)
 
+-- the places of a block stand in it
 block-from : (sizes : ℕ → ℕ) (b : List ℕ) (first p next : ℕ) (xs : List Extent) → Fill sizes b p next xs → AreFrom (first + p) (places_in b first (parts_of p xs))
 block-from sizes b first p next [] f = tt
 block-from sizes b first p next (free n ∷ xs) f = lower (first + p) (first + (p + n)) (places_in b first (parts_of (p + n) xs)) (omega arith) (block-from sizes b first (p + n) _ xs f.2)
 block-from sizes b first p next (used n ∷ xs) f = (omega arith, lower (first + p) (first + (p + n)) (places_in b first (parts_of (p + n) xs)) (omega arith) (block-from sizes b first (p + n) next xs f.2))
 block-from sizes b first p next (taken n ∷ xs) f = lower (first + p) (first + (p + n)) (places_in b first (parts_of (p + n) xs)) (omega arith) (block-from sizes b first (p + n) next xs f.3)
 
+-- and ascend
 block-ascends : (sizes : ℕ → ℕ) (b : List ℕ) (first p next : ℕ) (xs : List Extent) → Fill sizes b p next xs → PlacesAscend (places_in b first (parts_of p xs))
 block-ascends sizes b first p next [] f = tt
 block-ascends sizes b first p next (free n ∷ xs) f = block-ascends sizes b first (p + n) _ xs f.2
@@ -68,24 +73,29 @@ block-ascends sizes b first p next (taken n ∷ xs) f = block-ascends sizes b fi
 
 -- ---- lists of places
 
+-- a place of two lists together is in one of them
 in-either : (p : Place) (ps qs : List Place) → IsPlaceOf p (ps ++ qs) → IsPlaceOf p ps ⊎ IsPlaceOf p qs
 in-either p [] qs i = inr i
 in-either p (x ∷ ps) qs (inl e) = inl (inl e)
 in-either p (x ∷ ps) qs (inr i) = elim (in-either p ps qs i) [ inl j ↦ inl (inr j) | inr j ↦ inr j ]
 
+-- what is in the first is in both together
 in-front : (p : Place) (ps qs : List Place) → IsPlaceOf p ps → IsPlaceOf p (ps ++ qs)
 in-front p [] qs i = absurd i
 in-front p (x ∷ ps) qs (inl e) = inl e
 in-front p (x ∷ ps) qs (inr i) = inr (in-front p ps qs i)
 
+-- and so is what is in the second
 in-back : (p : Place) (ps qs : List Place) → IsPlaceOf p qs → IsPlaceOf p (ps ++ qs)
 in-back p [] qs i = i
 in-back p (x ∷ ps) qs i = inr (in-back p ps qs i)
 
+-- both stand from an address on
 from-both : (a : ℕ) (ps qs : List Place) → AreFrom a ps → AreFrom a qs → AreFrom a (ps ++ qs)
 from-both a [] qs h k = k
 from-both a (p ∷ ps) qs h k = (h.0, from-both a ps qs h.1 k)
 
+-- both ascend, the second behind the first
 ascend-both : (a : ℕ) (ps qs : List Place) → PlacesAscend ps → PlacesAscend qs → ((p : Place) → IsPlaceOf p ps → p.address < a) → AreFrom a qs → PlacesAscend (ps ++ qs)
 ascend-both a [] qs h k below from = k
 ascend-both a (p ∷ ps) qs h k below from = (
@@ -110,6 +120,7 @@ module _ (types : List SegmentType) (v : VolumeState) (h : HasHeader v.size v.im
   at-other : (n : ℕ) → kind_of (block_at v n) ≢ 1 → places_at v n ≡ []
   at-other n other = cond-false (kind_of (block_at v n) == 1) _ _ (ne_eqb (kind_of (block_at v n)) 1 other)
 
+  -- the places of a block ascend, and stand from its beginning on
   at-ascends : (n : ℕ) → 0 < n → n < (header_of v.image).count → PlacesAscend (places_at v n) × AreFrom (n * v.size) (places_at v n)
   at-ascends n later low = elim (cases_eq (kind_of (block_at v n)) 1) [
     | inl one ↦
@@ -203,6 +214,7 @@ module _ (types : List SegmentType) (v : VolumeState) (h : HasHeader v.size v.im
     | inr ne ↦ in-front p (places_behind v n) (places_at v (n + 1)) (behind-has p n m later (omega arith) i)
   ]
 
+  -- a segment is found
   found-some : (a : ℕ) → IsSegment (links_of types v) a → (s : List ℕ) × (find v a ≡ Some s)
   found-some a x = by (find v a) refl
     where
@@ -210,6 +222,7 @@ module _ (types : List SegmentType) (v : VolumeState) (h : HasHeader v.size v.im
       by (Some s) is = (s, is)
       by None is = absurd (let some-a = x.some in let none : (links_of types v).here a ≡ false = rw (ne_eqb a 0 (λ z. omega arith), is) refl in false≢true (sym none ∙ x.here))
 
+  -- all together
   pub places : ArePlaces types v (places_of v)
   places =
       let count-some : 0 < (header_of v.image).count = below-count v 0 h some h.first in
@@ -226,5 +239,6 @@ module _ (types : List SegmentType) (v : VolumeState) (h : HasHeader v.size v.im
             behind-has _ ((header_of v.image).count - 1) n (let l = f.later in omega arith) (omega arith) (at-all a s.0 s.1));
       }
 
+-- of any volume whose blocks are right
 pub are-places : (types : List SegmentType) (v : VolumeState) → HasHeader v.size v.image → 0 < v.size → AreBlocksRight v → ArePlaces types v (places_of v)
 are-places types v h some r = places types v h some r

@@ -9,7 +9,7 @@ use Rattle.hd_check.specs.Reading.{IsRoom}
 
 -- What is known of a block that was read up to a place, where the next free element begins at `next`: the free elements from
 -- there on, that the place was read to, and that what is left gives the extents of all.
-pub record IsRead (sizes block places : List ℕ) (place next : ℕ) : Type 0 where
+pub record IsReadUpTo (sizes block places : List ℕ) (place next : ℕ) : Type 0 where
   pub end : ℕ
   pub rest : List ℕ
   pub chain : AreFreeElements block end next rest
@@ -25,7 +25,7 @@ pub record IsRead (sizes block places : List ℕ) (place next : ℕ) : Type 0 wh
   pub fill : (xs : List Extent) → Fill (slice_index sizes) block place next xs → AreWhole xs → HasExtents (slice_index sizes) block
 
 -- at the beginning
-pub at-first : (sizes block places : List ℕ) → 8 ≤ length block → HasFreeElements block places → IsRead sizes block places 8 (number_at 2 block 0)
+pub at-first : (sizes block places : List ℕ) → 8 ≤ length block → HasFreeElements block places → IsReadUpTo sizes block places 8 (number_at 2 block 0)
 at-first sizes block places long chain = record {
   end = 7;
   rest = places;
@@ -64,7 +64,7 @@ read-on sizes block places from [] place next h s = (subst (λ (p : ℕ). IsStep
 read-on sizes block places from (n ∷ way) place next h s = (h.0, read-on sizes block places n way place next h.1 s)
 
 -- where the block ends, its extents are read
-pub at-end : (sizes block places : List ℕ) (place next : ℕ) → IsRead sizes block places place next → length block ≤ place → HasExtents (slice_index sizes) block
+pub at-end : (sizes block places : List ℕ) (place next : ℕ) → IsReadUpTo sizes block places place next → length block ≤ place → HasExtents (slice_index sizes) block
 at-end sizes block places place next r over = r.fill [] (place-is, none r.rest r.chain) tt
   where
     place-is : place ≡ length block
@@ -78,12 +78,12 @@ at-end sizes block places place next r over = r.fill [] (place-is, none r.rest r
     ]
 
 -- behind a free element
-pub past-free : (sizes block places : List ℕ) (place : ℕ) → IsRead sizes block places place place → place < length block
-    → (8 ≤ number_at 2 block (place + 2)) × IsRead sizes block places (place + number_at 2 block (place + 2)) (number_at 2 block place)
+pub past-free : (sizes block places : List ℕ) (place : ℕ) → IsReadUpTo sizes block places place place → place < length block
+    → (8 ≤ number_at 2 block (place + 2)) × IsReadUpTo sizes block places (place + number_at 2 block (place + 2)) (number_at 2 block place)
 past-free sizes block places place r inside = go r.rest r.chain r.among r.back
   where
     go : (ps : List ℕ) → AreFreeElements block r.end place ps → ((q : ℕ) → place ≤ q → IsAmong q places → IsAmong q ps) → ((q : ℕ) → IsAmong q ps → IsAmong q places)
-        → (8 ≤ number_at 2 block (place + 2)) × IsRead sizes block places (place + number_at 2 block (place + 2)) (number_at 2 block place)
+        → (8 ≤ number_at 2 block (place + 2)) × IsReadUpTo sizes block places (place + number_at 2 block (place + 2)) (number_at 2 block place)
     go [] h among back = (let l = r.first in absurd (omega arith))
     go (p ∷ ps) h among back = (
       element.some,
@@ -128,7 +128,7 @@ past-free sizes block places place r inside = go r.rest r.chain r.among r.back
         apart (x ∷ xs) k = λ e. (let f = k.0 in let l = k.1 in omega arith)
 
 -- no free element begins at a place that the next one does not name
-not-there : (sizes block places : List ℕ) (place next : ℕ) → IsRead sizes block places place next → place ≢ next → IsAmong place places → ⊥
+not-there : (sizes block places : List ℕ) (place next : ℕ) → IsReadUpTo sizes block places place next → place ≢ next → IsAmong place places → ⊥
 not-there sizes block places place next r other i =
     let j = r.among place (omega arith) i in
     let low = not-before block r.end next r.rest place r.chain j in
@@ -142,8 +142,8 @@ not-there sizes block places place next r other i =
     none (p ∷ ps) h j = elim r.ahead [ inl z ↦ (let e = h.0 in let l = h.1 in absurd (omega arith)) | inr l ↦ other (let m = not-before block r.end next (p ∷ ps) place h j in omega arith) ]
 
 -- behind a segment
-pub past-used : (sizes block places : List ℕ) (place next n : ℕ) → IsRead sizes block places place next → place < length block → place ≢ next
-    → slice_index sizes (slice_index block place) ≡ n → n % 8 ≡ 0 → IsRoom block place next n → IsRead sizes block places (place + n) next
+pub past-used : (sizes block places : List ℕ) (place next n : ℕ) → IsReadUpTo sizes block places place next → place < length block → place ≢ next
+    → slice_index sizes (slice_index block place) ≡ n → n % 8 ≡ 0 → IsRoom block place next n → IsReadUpTo sizes block places (place + n) next
 past-used sizes block places place next n r inside other size whole room = record {
   end = r.end;
   rest = r.rest;
@@ -181,7 +181,7 @@ past-used sizes block places place next n r inside other size whole room = recor
         none (p ∷ ps) h k z = (let e = h.0 in let s = h.1 in absurd (omega arith))
 
 -- a place where there is no room for a segment
-pub no-room : (sizes block places : List ℕ) (place next n : ℕ) → IsRead sizes block places place next → place ≢ next
+pub no-room : (sizes block places : List ℕ) (place next n : ℕ) → IsReadUpTo sizes block places place next → place ≢ next
     → slice_index sizes (slice_index block place) ≡ n → (IsRoom block place next n → ⊥) → IsNoSegment sizes block places place
 no-room sizes block places place next n r other size none = record {
   apart = not-there sizes block places place next r other;

@@ -20,11 +20,13 @@ IsPointerFault a w f =
     ((f ≡ record { number = 7; address = a; other = w.nowhere }) × (w.nowhere ≢ 0))
     ⊎ ((f ≡ record { number = 8; address = a; other = w.another }) × (w.nowhere ≡ 0) × (w.another ≢ 0))
 
+-- where nothing is found the record is right
 pub right-none : (types : List SegmentType) (m : Links) (h : ℕ) (w : Wrong) (o : Option Fault) → (h ≢ 0 → m.delete_byte h ≡ 0) → w ≡ wrong_among m (pointers_of types m h)
     → IfNone o (w ≡ record { nowhere = 0; another = 0 }) → IfNone o (IsRecordRight types m h)
 right-none types m h w None delete is none = record { delete_byte = delete; pointers = sym is ∙ none }
 right-none types m h w (Some f) delete is none = tt
 
+-- what is found is wrong with the record
 pub wrong-some : (types : List SegmentType) (m : Links) (h : ℕ) (w : Wrong) (o : Option Fault) → (h ≢ 0 → m.delete_byte h ≡ 0) → w ≡ wrong_among m (pointers_of types m h)
     → IfSome o (λ f. IsPointerFault h w f) → IfSome o (λ f. IsWrongRecord types m h f)
 wrong-some types m h w None delete is some = tt

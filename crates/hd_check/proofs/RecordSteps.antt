@@ -11,10 +11,12 @@ use Rattle.hd_check.specs.Places.{IsPlaceOf, ArePlaces}
 use Rattle.hd_check.specs.Judging.{IsRecordRight}
 use Rattle.hd_check.proofs.Lookups.{place-at, number-of, in-order}
 
+-- what holds of none holds where there is none
 pub from-none : {A : Type 0} {P : Type 0} (o : Option A) → is_some o ≡ false → IfNone o P → P
 from-none None h p = p
 from-none (Some x) h p = cc
 
+-- the same records have the same places
 pub places-same : (types : List SegmentType) (v w : VolumeState) (ps : List Place) → links_of types w ≡ links_of types v → ArePlaces types v ps → ArePlaces types w ps
 places-same types v w ps e h = record {
   ascend = h.ascend;

@@ -23,12 +23,15 @@ use Rattle.hd_check.specs.Judging.{first_wrong, wrong_among, IsRecordRight, IsWr
 abbrev pub SkipsZero : (Named → Bool) → Type 0
 SkipsZero test = (p : Named) → test p ≡ true → p.address ≢ 0
 
+-- a pointer of 0 does not name nothing
 none-skips : (m : Links) → SkipsZero (λ p. names_none m p)
 none-skips m p h = λ z. false≢true (sym (let e : names_none m p ≡ false = rw (eq-eqb p.address 0 z) refl in e) ∙ h)
 
+-- nor another type
 another-skips : (m : Links) → SkipsZero (λ p. names_another m p)
 another-skips m p h = λ z. false≢true (sym (let e : names_another m p ≡ false = rw (eq-eqb p.address 0 z) refl in e) ∙ h)
 
+-- what is found first is the first wrong one
 found-first : (test : Named → Bool) (ps : List Named) (x : ℕ) → SkipsZero test → option_map (λ p. p.address) (find test ps) ≡ Some x → (first_wrong test ps ≡ x) × (x ≢ 0)
 found-first test [] x skips h = cc
 found-first test (p ∷ ps) x skips h = elim (cases_Bool (test p)) [
@@ -41,6 +44,7 @@ found-first test (p ∷ ps) x skips h = elim (cases_Bool (test p)) [
       ((let e : first_wrong test (p ∷ ps) ≡ first_wrong test ps = rw isnt refl in e) ∙ rest.0, rest.1))
 ]
 
+-- and the first wrong one is found
 first-found : (test : Named → Bool) (ps : List Named) → SkipsZero test → first_wrong test ps ≢ 0 → option_map (λ p. p.address) (find test ps) ≡ Some (first_wrong test ps)
 first-found test [] skips some = absurd (some refl)
 first-found test (p ∷ ps) skips some = elim (cases_Bool (test p)) [
@@ -58,12 +62,14 @@ abbrev pub IsNamedIn : Named → List Named → Type 0
 IsNamedIn p [] = ⊥
 IsNamedIn p (q ∷ qs) = (p ≡ q) ⊎ IsNamedIn p qs
 
+-- the first that is not 0 is 0 where both are
 some-zero : (x y : ℕ) → first_some x y ≡ 0 → (x ≡ 0) × (y ≡ 0)
 some-zero x y h = elim (cases_eq x 0) [
   | inl e ↦ (e, rw (eq-eqb x 0 e) at h)
   | inr ne ↦ absurd (ne (rw (ne_eqb x 0 ne) at h))
 ]
 
+-- where no pointer is wrong, none of them is
 none-wrong : (test : Named → Bool) (ps : List Named) (p : Named) → SkipsZero test → first_wrong test ps ≡ 0 → IsNamedIn p ps → test p ≡ false
 none-wrong test [] p skips h i = absurd i
 none-wrong test (q ∷ qs) p skips h (inl e) = elim (cases_Bool (test q)) [
@@ -72,6 +78,7 @@ none-wrong test (q ∷ qs) p skips h (inl e) = elim (cases_Bool (test q)) [
 ]
 none-wrong test (q ∷ qs) p skips h (inr i) = none-wrong test qs p skips (some-zero (cond (test q) q.address 0) (first_wrong test qs) h).1 i
 
+-- each pointer of a right record is of its type
 points : (types : List SegmentType) (m : Links) (h : ℕ) (p : Named) → IsRecordRight types m h → IsNamedIn p (pointers_of types m h) → PointsTo m p.type_code p.address
 points types m h p r i some =
     let none = none-wrong (λ q. names_none m q) (pointers_of types m h) p (none-skips m) (ap (λ w. w.nowhere) r.pointers) i in
@@ -87,15 +94,18 @@ points types m h p r i some =
       ],
     )
 
+-- what is in the second list is in both
 in-back : (p : Named) (ps qs : List Named) → IsNamedIn p qs → IsNamedIn p (ps ++ qs)
 in-back p [] qs i = i
 in-back p (x ∷ ps) qs i = inr (in-back p ps qs i)
 
+-- and so is what is in the first
 in-front : (p : Named) (ps qs : List Named) → IsNamedIn p ps → IsNamedIn p (ps ++ qs)
 in-front p [] qs i = absurd i
 in-front p (x ∷ ps) qs (inl e) = inl e
 in-front p (x ∷ ps) qs (inr i) = inr (in-front p ps qs i)
 
+-- the first child of a child type is among the pointers
 first-in : (types : List SegmentType) (m : Links) (h t : ℕ) (ts : List ℕ) → is_in ts t ≡ true → IsNamedIn (record { address = m.first_child h t; type_code = t }) (child_pointers types m h ts)
 first-in types m h t [] i = absurd (false≢true i)
 first-in types m h t (u ∷ us) i = elim (in_cases u t us i) [
@@ -106,6 +116,7 @@ first-in types m h t (u ∷ us) i = elim (in_cases u t us i) [
   ])
 ]
 
+-- and so is the last child, where it is kept
 last-in : (types : List SegmentType) (m : Links) (h t : ℕ) (ts : List ℕ) → is_in ts t ≡ true → is_last_kept types t ≡ true → IsNamedIn (record { address = m.last_child h t; type_code = t }) (child_pointers types m h ts)
 last-in types m h t [] i k = absurd (false≢true i)
 last-in types m h t (u ∷ us) i k = elim (in_cases u t us i) [
@@ -129,10 +140,12 @@ module _ (types : List SegmentType) (m : Links) (zero-code : m.code 0 ≡ 0) (ri
         (in-back p (twin_pointers types m h) (child_pointers types m h (child_types types (m.code h))) i)
   ]
 
+  -- a segment's pointers to twins are among its pointers
   twins-in : (a : ℕ) (p : Named) → 0 < a → IsNamedIn p (twin_pointers types m a) → IsNamedIn p (pointers_of types m a)
   twins-in a p some i = subst (IsNamedIn p) (sym (cond-false (a == 0) (child_pointers types m a (1 ∷ [])) (twin_pointers types m a ++ child_pointers types m a (child_types types (m.code a))) (ne_eqb a 0 (λ z. omega arith))))
       (in-front p (twin_pointers types m a) (child_pointers types m a (child_types types (m.code a))) i)
 
+  -- records that are right are typed
   pub typed : PointersAreTyped types m
   typed = record {
     delete_byte = λ a s. (right a s.here).delete_byte (λ z. (let some = s.some in omega arith));
@@ -177,6 +190,7 @@ IsWrongAs types m k a =
     ⊎ (((number_of k a ≡ 7) × ((wrong_among m (pointers_of types m a)).nowhere ≢ 0))
     ⊎ ((number_of k a ≡ 8) × ((wrong_among m (pointers_of types m a)).another ≢ 0)))
 
+-- what stands in the third phase says that a record is wrong
 wrong-as : (d : Database) (v : VolumeState) (k : Line) (a o : ℕ) → phase_of k ≡ 3 → Stands d v k a o → ((links_of d.types v).here a ≡ true) × IsWrongAs d.types (links_of d.types v) k a
 wrong-as d v k a o three = third-lines (λ x. Stands d v x a o → ((links_of d.types v).here a ≡ true) × IsWrongAs d.types (links_of d.types v) x a)
     (λ s. (s.0.here, inl (refl, λ z. (let some = s.0.some in omega arith), λ z. (let some = s.1 in omega arith))))
@@ -207,6 +221,7 @@ module _ (d : Database) (v : VolumeState) (h : ℕ) (there : (links_of d.types v
         | inr both ↦ none k (let n = both.1 in let e : number_of k a ≡ number_of k h = ap (number_of k) both.0 in omega arith) (subst (IsWrongAs d.types (links_of d.types v) k) both.0 w.1)
       ]
 
+  -- what is wrong with the first wrong record is the least fault
   pub wrong-least : (f : Fault) → IsWrongRecord d.types (links_of d.types v) h f → IsLeastOf d v 3 f
   wrong-least f (inl w) =
       subst (IsLeastOf d v 3) (sym w.0) (record {

@@ -8,12 +8,14 @@ use Rattle.hd_image.specs.PointerFaults.{Named, names_none, names_another, child
 use Rattle.hd_check.specs.declared.pointers.Wrong.{Wrong}
 use Rattle.hd_check.specs.Judging.{first_wrong, wrong_among, wrong_or}
 
+-- the first of three numbers that is not 0
 first-first : (x y z : ℕ) → first_some (first_some x y) z ≡ first_some x (first_some y z)
 first-first x y z = elim (cases_eq x 0) [
   | inl e ↦ rw (eq-eqb x 0 e) refl
   | inr ne ↦ rw (ne_eqb x 0 ne, ne_eqb x 0 ne) refl
 ]
 
+-- 0 comes last
 first-zero : (x : ℕ) → first_some x 0 ≡ x
 first-zero x = elim (cases_eq x 0) [
   | inl e ↦ rw (eq-eqb x 0 e) (sym e)
@@ -28,6 +30,7 @@ or-or w x y = (λ i. record { nowhere = first-first w.nowhere x.nowhere y.nowher
 pub or-none : (w : Wrong) → wrong_or w (record { nowhere = 0; another = 0 }) ≡ w
 or-none w = (λ i. record { nowhere = first-zero w.nowhere i; another = first-zero w.another i })
 
+-- the first wrong pointer of two lists
 first-parts : (test : Named → Bool) (ps qs : List Named) → first_wrong test (ps ++ qs) ≡ first_some (first_wrong test ps) (first_wrong test qs)
 first-parts test [] qs = refl
 first-parts test (p ∷ ps) qs = ap (first_some (cond (test p) p.address 0)) (first-parts test ps qs) ∙ sym (first-first (cond (test p) p.address 0) (first_wrong test ps) (first_wrong test qs))

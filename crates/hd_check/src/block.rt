@@ -12,7 +12,7 @@ use crate::fault::Fault;
 use crate::place::wrong_place;
 use crate::segments::{Place, note_segments};
 use hd_dbd::{Dbd, Refused};
-use hd_volume::{BlockStore, Volume, size_table};
+use hd_volume::{BlockStore, DATA, FREE, INDEX, Volume, size_table};
 use std::alloc::Global;
 
 /// What is wrong with a data block that begins at an address.
@@ -40,8 +40,8 @@ fn block_fault(block: &[u8], dbd: &Dbd, first: u32) -> Option<Fault>
     ensures some { IfSome result (λ f. IsWrongBlock (stored_sizes dbd.now.types) block.now first f) }
 {
     match block[2] {
-        1 => data_fault(block, dbd, first),
-        2 | 3 => None,
+        DATA => data_fault(block, dbd, first),
+        INDEX | FREE => None,
         _ => Some(Fault::at(19, first, 0)),
     }
 }
@@ -70,7 +70,7 @@ fn fault_at<S: BlockStore>(
         return Ok(None);
     }
     let fault = block_fault(block, dbd, first);
-    if block[2] == 1 {
+    if block[2] == DATA {
         note_segments(places, block, sizes, first)?;
     }
     Ok(fault)

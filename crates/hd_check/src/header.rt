@@ -6,10 +6,7 @@ ghost use Rattle.hd_check.specs.Phases.{CountsImage, IsNamed, IsWrongHeader, IsH
 use crate::fault::Fault;
 use hd_bytes::{read_u16, read_u32};
 use hd_dbd::{Dbd, Refused};
-use hd_volume::{BlockStore, Volume};
-
-/// The first eight bytes of a volume, `HDVOLUME`.
-const MARK: [u8; 8] = [72, 68, 86, 79, 76, 85, 77, 69];
+use hd_volume::{BLOCK_SIZE, BlockStore, COUNT, LARGEST, MARK, NAME, VERSION, Volume};
 
 /// Whether a header counts an image of so many bytes, in blocks of a size.
 fn counts_image(head: &[u8], size: u64, image_length: u64) -> bool
@@ -17,8 +14,8 @@ fn counts_image(head: &[u8], size: u64, image_length: u64) -> bool
     ensures right { result ≡ true → CountsImage size image_length (header_of head.now) }
     ensures wrong { result ≡ false → CountsImage size image_length (header_of head.now) → ⊥ }
 {
-    let count = read_u32(head, 12);
-    let largest = read_u32(head, 16);
+    let count = read_u32(head, COUNT);
+    let largest = read_u32(head, LARGEST);
     &head[..8] == &MARK[..]
         && u64::from(count) * size == image_length
         && count <= largest
@@ -31,7 +28,8 @@ fn is_of(head: &[u8], dbd: &Dbd) -> bool
     ensures right { result ≡ true → IsNamed dbd.now (header_of head.now) }
     ensures wrong { result ≡ false → ((header_of head.now).name ≢ dbd.now.name) ⊎ ((header_of head.now).block_size ≢ dbd.now.block_size) }
 {
-    &head[20..28] == &dbd.name().bytes()[..] && u32::from(read_u16(head, 10)) == dbd.block_size()
+    &head[NAME..NAME + 8] == &dbd.name().bytes()[..]
+        && u32::from(read_u16(head, BLOCK_SIZE)) == dbd.block_size()
 }
 
 /// What is wrong with a header of an image of so many bytes.
@@ -46,7 +44,7 @@ fn fault_of(head: &[u8], size: u64, image_length: u64, dbd: &Dbd) -> Option<Faul
     if !counts_image(head, size, image_length) {
         return Some(Fault::at(1, 0, 0));
     }
-    let version = read_u16(head, 8);
+    let version = read_u16(head, VERSION);
     if version != 1 {
         return Some(Fault::at(2, 0, u32::from(version)));
     }

@@ -160,9 +160,11 @@ one-wrong-place sizes block ps qs way other p q f g h k x y =
     let N : List ℕ → Type 0 = λ places. IsNoSegment sizes block places q in
     one-place sizes block ps 8 way other p q h (subst R same k) x (subst N same y)
 
+-- no data block with extents has a wrong chain
 pub none-wrong-chain : (v : VolumeState) (a x : ℕ) → ((n : ℕ) → IsKind v 1 n → HasExtents (slice_index v.sizes) (block_at v n)) → IsWrongChain v a x → ⊥
 none-wrong-chain v a x divided h = divided-chain (slice_index v.sizes) (block_at v h.0) (divided h.0 h.1) h.2
 
+-- nor a place with nothing
 pub none-wrong-place : (v : VolumeState) (a x : ℕ) → ((n : ℕ) → IsKind v 1 n → HasExtents (slice_index v.sizes) (block_at v n)) → IsWrongPlace v a x → ⊥
 none-wrong-place v a x divided (n, place, places, way, kind, chain, read, short, none, at, other) =
     divided-place v.sizes (block_at v n) places way place (divided n kind) chain read short none

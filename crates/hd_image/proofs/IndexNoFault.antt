@@ -32,6 +32,7 @@ record Behind (k : ℕ) (v : VolumeState) (bs : List ℕ) (n : ℕ) : Type 0 whe
   short : suc (length rest) ≤ length bs
   is : drop (length bs - suc (length rest)) bs ≡ n ∷ rest
 
+-- each block of a chain has the chain behind it
 behind : (k : ℕ) (v : VolumeState) (s : ℕ) (bs : List ℕ) (n : ℕ) → IsChain k v s bs → IsAmong n bs → Behind k v bs n
 behind k v s [] n h i = absurd i
 behind k v s (b ∷ bs) n h (inl e) = record {
@@ -52,6 +53,7 @@ behind k v s (b ∷ bs) n h (inr i) =
       is = ap (λ (x : ℕ). drop x (b ∷ bs)) (let z : suc (length bs) - suc (length r.rest) ≡ suc (length bs - suc (length r.rest)) = omega arith in z) ∙ r.is;
     }
 
+-- equal lists begin alike
 heads-same : (x y : ℕ) (xs ys : List ℕ) → x ∷ xs ≡ y ∷ ys → x ≡ y
 heads-same x y xs ys h = cc
 
@@ -60,6 +62,7 @@ first-block : (k : ℕ) (v : VolumeState) (s : ℕ) (bs : List ℕ) → IsChain 
 first-block k v s [] h some = (let z : s ≡ 0 = h in absurd (omega arith))
 first-block k v s (b ∷ bs) h some = subst (IsEntryBlock k v) (sym h.0) h.1
 
+-- a chain with a block begins at one
 chain-start : (k : ℕ) (v : VolumeState) (s n : ℕ) (bs : List ℕ) → IsChain k v s bs → IsAmong n bs → 0 < s
 chain-start k v s n [] h i = absurd i
 chain-start k v s n (b ∷ bs) h i = (let e = h.0 in let l = h.1.is.later in omega arith)
@@ -76,10 +79,12 @@ abbrev pub Ascend : Option Entry → List Entry → Type 0
 Ascend left [] = Unit {0}
 Ascend left (e ∷ es) = IsAbove left e × Ascend (Some e) es
 
+-- what ascends behind an entry ascends from it on
 ascend-on : (l : Entry) (es : List Entry) → keys_ascend (l ∷ es) ≡ true → Ascend (Some l) es
 ascend-on l [] h = tt
 ascend-on l (e ∷ es) h = (let d = and_parts _ _ h in (d.0, ascend-on e es d.1))
 
+-- what ascends ascends from nothing on
 ascend-all : (es : List Entry) → keys_ascend es ≡ true → Ascend None es
 ascend-all [] h = tt
 ascend-all (e ∷ es) h = (tt, ascend-on e es h)
@@ -89,6 +94,7 @@ ascend-behind : (left : Option Entry) (xs ys : List Entry) → Ascend left (xs +
 ascend-behind left [] ys h = h
 ascend-behind left (x ∷ xs) ys h = ascend-behind (Some x) xs ys h.1
 
+-- where entries ascend none is out of order
 none-not-above : (left : Option Entry) (xs ys : List Entry) → Ascend left (xs ++ ys) → first_not_above left xs ≡ None
 none-not-above left [] ys h = refl
 none-not-above None (x ∷ xs) ys h = none-not-above (Some x) xs ys h.1
@@ -100,6 +106,7 @@ entries-parts k v [] ys = refl
 entries-parts k v (x ∷ xs) ys =
     ap (λ (es : List Entry). entries_in k (block_at v x) ++ es) (entries-parts k v xs ys) ∙ sym (append_assoc (entries_in k (block_at v x)) (entries_of k v xs) (entries_of k v ys))
 
+-- nothing was found, so nothing is named
 no-entry-found : (o : Option Entry) (x : ℕ) → o ≡ None → option_map (λ e. e.address) o ≡ Some x → ⊥
 no-entry-found o x none some = (let e : None ≡ Some x = ap (λ q. option_map (λ (y : Entry). y.address) q) (sym none) ∙ some in cc)
 
@@ -115,10 +122,12 @@ all-of test k v (b ∷ bs) n h i =
       | inr j ↦ all-of test k v bs n both.1 j
     ]
 
+-- where a test is true of all, none fails it
 find-none : (test : Entry → Bool) (es : List Entry) → list_all test es ≡ true → find (λ e. not (test e)) es ≡ None
 find-none test [] h = refl
 find-none test (e ∷ es) h = (let d = and_parts _ _ h in let x : not (test e) ≡ false = ap not d.0 in rw x (find-none test es d.1))
 
+-- not in any block
 pub none-found : (test : Entry → Bool) (k : ℕ) (v : VolumeState) (bs : List ℕ) (n x : ℕ) → list_all test (entries_of k v bs) ≡ true → IsAmong n bs
     → option_map (λ e. e.address) (find (λ e. not (test e)) (entries_in k (block_at v n))) ≡ Some x → ⊥
 none-found test k v bs n x h i some = no-entry-found _ x (find-none test (entries_in k (block_at v n)) (all-of test k v bs n h i)) some
@@ -128,6 +137,7 @@ module _ (k : ℕ) (v : VolumeState) (h : HasIndex k v) where
   index-block : (n : ℕ) → IsKind v 2 n → Behind k v (entry_blocks v) n
   index-block n kind = behind k v (header_of v.image).top (entry_blocks v) n h.chain (h.reached n kind)
 
+  -- the top is right
   pub none-wrong-top : (a x : ℕ) → IsWrongTop v a x → ⊥
   none-wrong-top a x f = elim h.height [
     | inl z ↦ elim f.2 [
@@ -144,6 +154,7 @@ module _ (k : ℕ) (v : VolumeState) (h : HasIndex k v) where
     ]
   ]
 
+  -- the form of each block is right
   pub none-wrong-form : (a x : ℕ) → IsWrongForm k v a x → ⊥
   none-wrong-form a x (n, kind, at, other, wrong) =
       let b = index-block n kind in
@@ -180,12 +191,15 @@ module _ (k : ℕ) (v : VolumeState) (h : HasIndex k v) where
       let same : p.rest ≡ q.rest = one-chain k v (number_at 4 (block_at v g) 8) p.rest q.rest p.chain (subst C (b.1 ∙ sym a.1) q.chain) in
       heads-same g i p.rest q.rest (sym p.is ∙ ap (λ (r : List ℕ). drop (length (entry_blocks v) - suc (length r)) (entry_blocks v)) same ∙ q.is)
 
+  -- no block is named twice
   pub none-twice : (a x : ℕ) → IsNamedTwice v a x → ⊥
   none-twice a x f = f.6 (one-holder f.0 f.1 f.2 f.3 f.4 f.5)
 
+  -- each block is reached
   pub none-unreached : (a x : ℕ) → IsUnreachedBlock v a x → ⊥
   none-unreached a x f = f.2 (h.reached f.0 f.1)
 
+  -- no entry is out of order
   pub none-out-of-order : (a x : ℕ) → HasEntryOutOfOrder k v a x → ⊥
   none-out-of-order a x f =
       let n : ℕ = f.0 in

@@ -46,24 +46,31 @@ module _ (d : Database) (v : VolumeState) (f : Forest Placed) (fit : IsDatabase 
   abbrev m : Links
   m = links_of d.types v
 
+  -- the records are a link graph
   graph : IsLinkGraph d.types (length v.image) m
   graph = records-link d v fit h.volume
 
+  -- the types are in order
   order : Ordered d.types
   order = ordered d.block_size d.frspc d.types fit
 
+  -- the records are linked
   linked : AreLinked d.types m
   linked = are_linked d.types order (length v.image) m graph f h.records
 
+  -- the forest has the shape of the database
   shape : Formed d.types 0 f
   shape = formed d.types order 0 None f h.records.fits
 
+  -- there is a header
   none-header : (a x : ℕ) → IsNoVolume d v a x → ⊥
   none-header a x n = n.0 (subst (λ (size : ℕ). HasHeader size v.image) h.volume.size h.volume.formatted.header)
 
+  -- it is of the database
   none-other : (a x : ℕ) → IsOfAnother d v a x → ⊥
   none-other a x n = elim n.0 [ inl e ↦ e h.name | inr e ↦ e h.block_size ]
 
+  -- each block has a kind
   none-kind : (a x : ℕ) → IsOfNoKind v a x → ⊥
   none-kind a x n = elim (h.kinds n.0 n.1 n.2) [
     | inl k ↦ n.3 k.kind_is
@@ -79,9 +86,11 @@ module _ (d : Database) (v : VolumeState) (f : Forest Placed) (fit : IsDatabase 
       let some : not (e.address == 0) ≡ true = (let s = n.0.some in ap not (ne_eqb e.address 0 (λ z. omega arith))) in
       and_from _ _ (and_from _ _ (and_from _ _ some n.0.here) (eq-eqb (m.code e.address) 1 n.1)) ((bytes_eq-Decides _ _).1 n.2))
 
+  -- no entry names another thing
   none-wrong-entry : (a x : ℕ) → HasWrongEntry d v a x → ⊥
   none-wrong-entry a x w = index.none-found (λ e. names_a_root d m e) (root_key_length d.types) v (entry_blocks v) w.0 x names-all w.1 w.2
 
+  -- no root is without an entry
   none-without : (a x : ℕ) → HasNoEntry d v a x → ⊥
   none-without a x n =
       let once = h.records.once a n.0 in
@@ -90,6 +99,7 @@ module _ (d : Database) (v : VolumeState) (f : Forest Placed) (fit : IsDatabase 
       ap (list_any (λ (e : Entry). e.address == a)) h.entries ∙ any-of a (record { key = key_of d.types (segment_at m a); address = a }) (root_entries d.types f) refl entry in
       false≢true (sym n.2 ∙ found)
 
+  -- line by line
   none : (line : Line) (a x : ℕ) → Stands d v line a x → ⊥
   none no_volume a x s = none-header a x s
   none no_version a x s = s.0 h.index.version
@@ -114,5 +124,6 @@ module _ (d : Database) (v : VolumeState) (f : Forest Placed) (fit : IsDatabase 
   none wrong_entry a x s = none-wrong-entry a x s
   none no_entry a x s = none-without a x s
 
+-- of any forest that is held
 pub no-fault : HeldForestsHaveNoFault
 no-fault d v f line a x fit h s = none d v f fit h line a x s

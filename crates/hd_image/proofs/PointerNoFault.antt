@@ -14,6 +14,7 @@ abbrev pub AllPoint : Links → List Named → Type 0
 AllPoint m [] = Unit {0}
 AllPoint m (p ∷ ps) = PointsTo m p.type_code p.address × AllPoint m ps
 
+-- the pointers of two lists
 all-both : (m : Links) (ps qs : List Named) → AllPoint m ps → AllPoint m qs → AllPoint m (ps ++ qs)
 all-both m [] qs h k = k
 all-both m (p ∷ ps) qs h k = (h.0, all-both m ps qs h.1 k)
@@ -37,6 +38,7 @@ find-none : (m : Links) (test : Named → Bool) (ps : List Named) → ((p : Name
 find-none m test [] h a = refl
 find-none m test (p ∷ ps) h a = rw (h p a.0) (find-none m test ps h a.1)
 
+-- nothing was found, so nothing is named
 not-found : (o : Option Named) (x : ℕ) → o ≡ None → option_map (λ p. p.address) o ≡ Some x → ⊥
 not-found o x none some = (let e : None ≡ Some x = ap (λ q. option_map (λ (p : Named). p.address) q) (sym none) ∙ some in cc)
 
@@ -54,6 +56,7 @@ module _ (types : List SegmentType) (bound : ℕ) (m : Links) (G : IsLinkGraph t
         ],
       )
 
+  -- the pointers to twins are right
   twins-point : (a : ℕ) → IsSegment m a → AllPoint m (twin_pointers types m a)
   twins-point a s = (
     L.typed.forward a s,
@@ -63,6 +66,7 @@ module _ (types : List SegmentType) (bound : ℕ) (m : Links) (G : IsLinkGraph t
     ],
   )
 
+  -- all pointers of a record are right
   all-point : (h : ℕ) → m.here h ≡ true → AllPoint m (pointers_of types m h)
   all-point h there = elim (cases_eq h 0) [
     | inl e ↦ subst (AllPoint m) (sym (cond-true (h == 0) _ _ (eq-eqb h 0 e)))
@@ -72,35 +76,44 @@ module _ (types : List SegmentType) (bound : ℕ) (m : Links) (G : IsLinkGraph t
         (all-both m (twin_pointers types m h) (child_pointers types m h (child_types types (m.code h))) (twins-point h (record { some = omega arith; here = there })) (children-point h (child_types types (m.code h)) there (λ t i. i)))
   ]
 
+  -- no delete byte is set
   pub none-deleted : (a x : ℕ) → IsDeleted m a x → ⊥
   none-deleted a x h = (let z = L.typed.delete_byte a h.0 in let some = h.1 in absurd (omega arith))
 
+  -- no pointer names no segment
   pub none-nowhere : (h x : ℕ) → PointsNowhere types m h x → ⊥
   none-nowhere h x f = not-found _ x (find-none m (λ p. names_none m p) (pointers_of types m h) (names-some m) (all-point h f.0)) f.1
 
+  -- no pointer names a segment of another type
   pub none-another : (h x : ℕ) → PointsToAnother types m h x → ⊥
   none-another h x f = not-found _ x (find-none m (λ p. names_another m p) (pointers_of types m h) (names-own m) (all-point h f.0)) f.1
 
+  -- no segment has two predecessors
   pub none-twice : (a x : ℕ) → HasTwoPredecessors types m a x → ⊥
   none-twice a x h = (let e : h.0 ≡ x = L.single.one a h.0 x h.1 h.2 h.3 in let less = h.4 in absurd (omega arith))
 
+  -- each segment has one
   pub none-without : (a x : ℕ) → HasNoPredecessor types m a x → ⊥
   none-without a x h = (let p = L.single.some a h.0 in h.1 p.0 p.1)
 
+  -- no twin backward is wrong
   pub none-backward : (a x : ℕ) → IsWrongBackward types m a x → ⊥
   none-backward a x h = elim h.3 [
     | inl b ↦ b.2 (L.back.twins a b.0 h.0 h.1 b.1)
     | inr b ↦ b.3 (L.back.firsts a b.0 b.1 h.0 h.1 b.2)
   ]
 
+  -- no last child is wrong
   pub none-last : (a x : ℕ) → HasWrongLast types m a x → ⊥
   none-last a x h = elim h.4 [
     | inl b ↦ b.1 (L.back.no_lasts a h.0 h.1 h.2 h.3 b.0)
     | inr b ↦ (let l = L.back.lasts a h.0 h.1 h.2 h.3 (let ne = b.0 in omega arith) in b.1 l.0 l.1)
   ]
 
+  -- no key is out of order
   pub none-order : (a x : ℕ) → IsOutOfOrder types m a x → ⊥
   none-order a x h = false≢true (sym h.2 ∙ L.keys a x h.0 h.1)
 
+  -- each segment is reached
   pub none-unreached : (a x : ℕ) → IsNotReached types m a x → ⊥
   none-unreached a x h = (let r = L.reached a h.0 in h.1 r.0 r.1)

@@ -50,12 +50,14 @@ module _ (d : Database) (m : Links) where
     root : m.code e.address ≡ 1
     key : key_of d.types (segment_at m e.address) ≡ e.key
 
+  -- an address that is not 0
   some-address : (a : ℕ) → not (a == 0) ≡ true → 0 < a
   some-address a h = elim (cases_eq a 0) [
     | inl e ↦ absurd (false≢true (sym (ap not (eq-eqb a 0 e)) ∙ h))
     | inr ne ↦ omega arith
   ]
 
+  -- what the test of an entry says
   named : (e : Entry) → names_a_root d m e ≡ true → Named e
   named e h =
       let last = and_parts _ _ h in
@@ -86,6 +88,7 @@ module _ (d : Database) (m : Links) where
       let key : found.0.key ≡ r.key = sym n.key ∙ ap (λ (a : ℕ). key_of d.types (segment_at m a)) found.2 ∙ root.2 in
       subst (λ (x : Entry). IsIn x es) (entry-is found.0.key found.0.address r key found.2) found.1)
 
+-- the forest is built from the pointers, and the entries are those of its roots
 pub right-holds : RightVolumesHoldAForest
 right-holds d v fit r =
     let H : ℕ → Type 0 = λ size. HasHeader size v.image in

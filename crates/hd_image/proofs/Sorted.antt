@@ -27,6 +27,7 @@ past-first : (e x : Entry) (xs : List Entry) → IsIn e (x ∷ xs) → (e ≡ x 
 past-first e x xs (inl is) other = absurd (other is)
 past-first e x xs (inr i) other = i
 
+-- each entry of the one is in the other, so they are one list
 pub same-entries : (es rs : List Entry) → keys_ascend es ≡ true → keys_ascend rs ≡ true → ((e : Entry) → IsIn e es → IsIn e rs) → ((e : Entry) → IsIn e rs → IsIn e es) → es ≡ rs
 same-entries [] [] a b to back = refl
 same-entries [] (r ∷ rs) a b to back = absurd (back r (inl refl))

@@ -10,8 +10,15 @@ use crate::store::BlockStore;
 use crate::volume::{COUNT, FIRST_ROOT, HEIGHT, LARGEST, LAST_ROOT, TOP, Volume, head_number};
 use hd_bytes::read_u16;
 
-/// Where the header has its version, of two bytes.
-const VERSION: usize = 8;
+/// The first eight bytes of a volume.
+pub const MARK: [u8; 8] = *b"HDVOLUME";
+
+/// Where the header has its version and the block size, of two bytes each, and the name of its database, of eight.
+pub const VERSION: usize = 8;
+
+pub const BLOCK_SIZE: usize = 10;
+
+pub const NAME: usize = 20;
 
 impl<S: BlockStore> Volume<S> {
     /// The version of the volume's layout.

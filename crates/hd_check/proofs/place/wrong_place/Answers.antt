@@ -6,14 +6,14 @@ use Rattle.hd_dbd.specs.Prefixes.{stored_size}
 use Rattle.hd_dbd.proofs.StoredSizes.{stored_sizes-at, stored_size-whole}
 use Rattle.hd_image.specs.BlockFaults.{HasFreeElements}
 use Rattle.hd_check.specs.declared.place.Reading.{Reading}
-use Rattle.hd_check.proofs.Readings.{IsRead, at-first, at-end, past-free, past-used, no-room}
+use Rattle.hd_check.proofs.Readings.{IsReadUpTo, at-first, at-end, past-free, past-used, no-room}
 use Rattle.hd_check.proofs.place.wrong_place.Goals as goal
 
 pub loop-turn-init : goal.loop-turn-init
 loop-turn-init c =
     let sizes : List ℕ = stored_sizes c.args.dbd.now.types in
     record {
-      read = λ places h. subst (λ (n : ℕ). IsRead sizes c.args.block.now places 8 n) (sym c.read_u16.ensures) (at-first sizes c.args.block.now places c.requires.size.0 h);
+      read = λ places h. subst (λ (n : ℕ). IsReadUpTo sizes c.args.block.now places 8 n) (sym c.read_u16.ensures) (at-first sizes c.args.block.now places c.requires.size.0 h);
       past = omega arith;
     }
 
@@ -48,9 +48,9 @@ loop-turn-preserved c =
       | inl e ↦
           (let is : next ≡ record { place = place + number_at 2 block (place + 2); next = number_at 2 block place } = (let s = sym c.in-Some.is ∙ c.behind.ensures.free e in cc) in
           let both = λ (places : List ℕ) (h : HasFreeElements block places). past-free (stored_sizes types) block places place
-          (subst (λ (n : ℕ). IsRead (stored_sizes types) block places place n) (sym e) (c.loop-turn.invariant.read places h)) c.if-at-block.false in
+          (subst (λ (n : ℕ). IsReadUpTo (stored_sizes types) block places place n) (sym e) (c.loop-turn.invariant.read places h)) c.if-at-block.false in
           record {
-            read = λ places h. subst (λ (x : Reading). IsRead (stored_sizes types) block places x.place x.next) (sym is) (both places h).1;
+            read = λ places h. subst (λ (x : Reading). IsReadUpTo (stored_sizes types) block places x.place x.next) (sym is) (both places h).1;
             past =
                 (let chain = c.requires.chain in let eight = (both chain.0 chain.1).0 in let p = c.loop-turn.invariant.past in
                 let at : next.place ≡ place + number_at 2 block (place + 2) = ap (λ (x : Reading). x.place) is in omega arith);
@@ -58,7 +58,7 @@ loop-turn-preserved c =
       | inr ne ↦
           (let room = c.in-Some.ensures.used ne in
           record {
-            read = λ places h. subst (λ (x : Reading). IsRead (stored_sizes types) block places x.place x.next) (sym room.1)
+            read = λ places h. subst (λ (x : Reading). IsReadUpTo (stored_sizes types) block places x.place x.next) (sym room.1)
                 (past-used (stored_sizes types) block places place c.loop-turn.at.next (stored_size types code) (c.loop-turn.invariant.read places h) c.if-at-block.false ne
                 (stored_sizes-at types code) (stored_size-whole types code) room.0);
             past =
