@@ -15,6 +15,7 @@ pub record IsNearer (m : Links) (bound p a : ℕ) : Type 0 where
   pub there : IsSegment m p
   pub next : IsTwinWithin m bound (m.forward p) a
 
+-- the next twin is nearer by one
 pub nearer : (m : Links) (bound p a : ℕ) → IsTwinWithin m (suc bound) p a → p ≢ a → IsNearer m bound p a
 nearer m bound p a w ne = by w.after w.few w.is w.twins
   where

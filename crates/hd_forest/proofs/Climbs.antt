@@ -29,6 +29,7 @@ none-later types m h a e header some =
 
 -- ---- up the path
 
+-- so many rows of a path, and the next one
 take-one-more : (xs : List ℕ) (k : ℕ) → k < length xs → take (k + 1) xs ≡ take k xs ++ slice_index xs k ∷ []
 take-one-more xs k l = take_more xs k 0 l
 
@@ -44,20 +45,24 @@ up types m path k l =
 
 -- ---- rows of the path, and where it goes, are segments
 
+-- each row of the path is a segment
 pub on-path : (m : Links) (path : List ℕ) (k : ℕ) → AreSegments m path → k < length path → IsSegment m (slice_index path k)
 on-path m [] k s l = absurd (omega arith)
 on-path m (a ∷ path) zero s l = s.0
 on-path m (a ∷ path) (suc k) s l = on-path m path k s.1 (omega arith)
 
+-- and so is the last, or it is the header
 tip-here : (m : Links) (h : ℕ) (path : List ℕ) → m.here h ≡ true → AreSegments m path → m.here (tip_from h path) ≡ true
 tip-here m h [] here s = here
 tip-here m h (a ∷ path) here s = tip-here m a path s.0.here s.1
 
+-- so many rows of the path are segments
 take-segments : (m : Links) (k : ℕ) (path : List ℕ) → AreSegments m path → AreSegments m (take k path)
 take-segments m zero path s = tt
 take-segments m (suc k) [] s = tt
 take-segments m (suc k) (a ∷ path) s = (s.0, take-segments m k path s.1)
 
+-- the row above one of the path is a record
 pub above-here : (m : Links) (path : List ℕ) (k : ℕ) → m.here 0 ≡ true → AreSegments m path → m.here (tip (take k path)) ≡ true
 above-here m path k header s = tip-here m 0 (take k path) header (take-segments m k path s)
 
@@ -71,12 +76,14 @@ tip-some m h (a ∷ (b ∷ path)) s l = tip-some m a (b ∷ path) s.1 (omega ari
 abbrev pub MayBe : Links → ℕ → Type 0
 MayBe m a = 0 < a → IsSegment m a
 
+-- the first of two that is not 0 may be a segment
 some-may : (m : Links) (x y : ℕ) → MayBe m x → MayBe m y → MayBe m (first_some x y)
 some-may m x y p q = elim (zero_or x) [
   | inl z ↦ subst (MayBe m) (sym (some_zero x y z)) q
   | inr s ↦ subst (MayBe m) (sym (some_own x y s)) p
 ]
 
+-- a first child may be one
 among-may : (types : List SegmentType) (m : Links) → PointersAreTyped types m → (h : ℕ) (ts : List ℕ) → m.here h ≡ true → ((t : ℕ) → is_in ts t ≡ true → is_child_type types (m.code h) t ≡ true)
     → MayBe m (child_among m h ts)
 among-may types m typed h [] here all = λ l. absurd (omega arith)
@@ -84,9 +91,11 @@ among-may types m typed h (t ∷ ts) here all = some-may m (m.first_child h t) (
     (λ l. record { some = l; here = (typed.first h t here (all t (in_head t t ts refl)) l).0 })
     (among-may types m typed h ts here (λ u q. all u (in_tail t u ts q)))
 
+-- the first row below a record may be one
 pub below-may : (types : List SegmentType) (m : Links) → PointersAreTyped types m → (h : ℕ) → m.here h ≡ true → MayBe m (child_among m h (child_types types (m.code h)))
 below-may types m typed h here = among-may types m typed h (child_types types (m.code h)) here (λ t q. q)
 
+-- what follows a span from h down may be one
 behind-may : (types : List SegmentType) (m : Links) → PointersAreTyped types m → (h rest : ℕ) (path : List ℕ) → m.here h ≡ true → MayBe m rest → AreSegments m path
     → MayBe m (behind_from types m h rest path)
 behind-may types m typed h rest [] here r s = r
@@ -97,9 +106,11 @@ behind-may types m typed h rest (a ∷ path) here r s = behind-may types m typed
     (among-may types m typed h (later_than (m.code a) (child_types types (m.code h))) here (λ t q. (later_in (m.code a) (child_types types (m.code h)) (types_ascend types (m.code h)) t q).1)) r))
     s.1
 
+-- what follows the span of the last row of a path may be one
 pub span-may : (types : List SegmentType) (m : Links) → PointersAreTyped types m → m.here 0 ≡ true → (path : List ℕ) → AreSegments m path → MayBe m (behind_span types m path)
 span-may types m typed header path s = behind-may types m typed 0 0 path header (λ l. absurd (omega arith)) s
 
+-- the next row may be one
 pub next-may : (types : List SegmentType) (m : Links) → PointersAreTyped types m → m.here 0 ≡ true → (path : List ℕ) → AreSegments m path
     → MayBe m (first_some (child_among m (tip path) (child_types types (m.code (tip path)))) (behind_span types m path))
 next-may types m typed header path s = some-may m (child_among m (tip path) (child_types types (m.code (tip path)))) (behind_span types m path)

@@ -28,6 +28,7 @@ abbrev pub left_of : Bool → List Frame → ℕ → ℕ
 left_of down [] b = 0
 left_of down (f ∷ fs) b = cond down (count b f.under) 0 + (is_at f.row.address b + (count b f.behind + left_of false fs b))
 
+-- how many nodes there are
 abbrev pub size_of : Forest Placed → ℕ
 size_of empty = 0
 size_of (node p k n) = 1 + (size_of k + size_of n)
@@ -55,16 +56,19 @@ pub record StandsBelow (types : List SegmentType) (m : Links) (q : Placed) (f : 
   pub formed : Formed types q.segment.code (node f.row f.under f.behind)
   pub later : (t : ℕ) → f.row.segment.code < t → is_child_type types q.segment.code t ≡ true → first_of f.behind t ≡ m.first_child q.address t
 
+-- each row on the path stands below the one before it
 abbrev pub Stand : List SegmentType → Links → List Frame → Type 0
 Stand types m [] = Unit {0}
 Stand types m (f ∷ []) = RowStands types m f.row f.under × (f.behind ≡ empty)
 Stand types m (f ∷ (q ∷ fs)) = StandsBelow types m q.row f × Stand types m (q ∷ fs)
 
 module _ (types : List SegmentType) (O : Ordered types) (m : Links) where
+  -- each row on the path stands in the records
   pub row-stands : (f : Frame) (fs : List Frame) → Stand types m (f ∷ fs) → RowStands types m f.row f.under
   row-stands f [] s = s.0
   row-stands f (q ∷ fs) s = record { there = s.0.nodes.0.there; code = s.0.nodes.0.code; bytes = s.0.nodes.0.bytes; children = s.0.nodes.0.children; nodes = s.0.nodes.1; formed = s.0.formed.2 }
 
+  -- the path without its last row stands
   pub stand-tail : (f : Frame) (fs : List Frame) → Stand types m (f ∷ fs) → Stand types m fs
   stand-tail f [] s = tt
   stand-tail f (q ∷ fs) s = s.1

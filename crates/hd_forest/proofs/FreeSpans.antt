@@ -30,12 +30,15 @@ pub record InSpan (types : List SegmentType) (m : Links) (span : ℕ → ℕ) (s
 module _ (types : List SegmentType) (O : Ordered types) (m : Links) (span : ℕ → ℕ) (once : (b : ℕ) → span b ≤ 1) where
   -- ---- the way down
 
+  -- a row goes on the path
   extended-some : (path : List ℕ) (a : ℕ) → 0 < a → extended path a ≡ path ++ a ∷ []
   extended-some path a some = ap (λ (x : List ℕ). path ++ x) (cond-false (a == 0) [] (a ∷ []) (ne_eqb a 0 (λ (e : a ≡ 0). omega arith)))
 
+  -- no row leaves the path as it is
   extended-none : (path : List ℕ) (a : ℕ) → a ≡ 0 → extended path a ≡ path
   extended-none path a none = ap (λ (x : List ℕ). path ++ x) (cond-true (a == 0) [] (a ∷ []) (eq-eqb a 0 none)) ∙ append-nil path
 
+  -- the first row below goes on the path
   go-down : (n : ℕ) (k : Links) (f : Frame) (fs : List Frame) (x : Forest Placed) → f.under ≡ x → Stand types m (f ∷ fs) → steps_of true (f ∷ fs) ≤ suc n
       → ((b : ℕ) → left_of true (f ∷ fs) b ≤ span b) → Agree types (cut m span (left_of true (f ∷ fs))) k → below_on types k (path_of (f ∷ fs)) ≢ 0
       → InSpan types m span n (record { path = extended (path_of (f ∷ fs)) (below_on types k (path_of (f ∷ fs))); down = true; records = k })
@@ -59,6 +62,7 @@ module _ (types : List SegmentType) (O : Ordered types) (m : Links) (span : ℕ 
 
   -- ---- one is freed
 
+  -- the last row leaves, and what is beside it comes on the path
   free-last : (n : ℕ) (k : Links) (down : Bool) (f : Frame) (fs : List Frame) (x : Forest Placed) → f.behind ≡ x → Stand types m (f ∷ fs) → steps_of down (f ∷ fs) ≤ suc n
       → ((b : ℕ) → left_of down (f ∷ fs) b ≤ span b) → Agree types (cut m span (left_of down (f ∷ fs))) k → ((b : ℕ) → cond down (count b f.under) 0 ≡ 0)
       → InSpan types m span n (record {
@@ -112,6 +116,7 @@ module _ (types : List SegmentType) (O : Ordered types) (m : Links) (span : ℕ 
 
   -- ---- the step
 
+  -- where the step does not go down, nothing is below
   no-under : (down : Bool) (k : Links) (f : Frame) (fs : List Frame) → Stand types m (f ∷ fs) → Agree types (cut m span (left_of down (f ∷ fs))) k
       → (down && not (below_on types k (path_of (f ∷ fs)) == 0)) ≡ false → (b : ℕ) → cond down (count b f.under) 0 ≡ 0
   no-under false k f fs s A e b = refl
@@ -154,10 +159,12 @@ module _ (types : List SegmentType) (O : Ordered types) (m : Links) (span : ℕ 
 
   -- ---- the rows on the path are left
 
+  -- a path of segments with one more
   are-append : (k : Links) (xs : List ℕ) (a : ℕ) → AreSegments k xs → IsSegment k a → AreSegments k (xs ++ a ∷ [])
   are-append k [] a s t = (t, tt)
   are-append k (x ∷ xs) a s t = (s.0, are-append k xs a s.1 t)
 
+  -- the rows on the path are segments that are left
   are-left : (k : Links) (down : Bool) (fs : List Frame) → Stand types m fs → ((b : ℕ) → 0 < left_of down fs b → AgreeAt types m k b) → AreSegments k (path_of fs)
   are-left k down [] s A = tt
   are-left k down (f ∷ fs) s A =
@@ -166,6 +173,7 @@ module _ (types : List SegmentType) (O : Ordered types) (m : Links) (span : ℕ 
       (are-left k false fs (stand-tail types O m f fs s) (λ b l. A b (let x : 0 < left_of false fs b = l in omega arith)))
       (record { some = R.there.some; here = (A f.row.address (some-first f fs down)).here ∙ R.there.here })
 
+  -- the path is one of segments
   pub on-segments : (n : ℕ) (s : Freeing) → InSpan types m span n s → AreSegments s.records s.path
   on-segments n s I = subst (AreSegments s.records) (sym I.path)
       (are-left s.records s.down I.frames I.stand (λ b l. seen types m s.records span (left_of s.down I.frames) I.records b l))

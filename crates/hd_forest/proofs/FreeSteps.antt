@@ -52,14 +52,17 @@ agree-gone types m k b e f =
       last_child = λ t there c kept. absurd (no there);
     }
 
+-- nothing that fails in one part holds
 and-false : (x : Bool) → (x && false) ≡ false
 and-false true = refl
 and-false false = refl
 
+-- what holds in one part rests on the other
 and-true : (x : Bool) → (x && true) ≡ x
 and-true true = refl
 and-true false = refl
 
+-- what holds in one part holds
 or-true : (x : Bool) → (x || true) ≡ true
 or-true true = refl
 or-true false = refl
@@ -98,11 +101,13 @@ module _ (types : List SegmentType) (m k : Links) (span : ℕ → ℕ) where
 
 -- ---- what is read of them
 
+-- first children are named alike where two records agree
 among-agree : (types : List SegmentType) (m k : Links) (a : ℕ) → AgreeAt types m k a → m.here a ≡ true → (ts : List ℕ) → ((t : ℕ) → is_in ts t ≡ true → is_child_type types (m.code a) t ≡ true)
     → child_among k a ts ≡ child_among m a ts
 among-agree types m k a A here [] all = refl
 among-agree types m k a A here (t ∷ ts) all = ap₂ first_some (A.first_child t here (all t (in_head t t ts refl))) (among-agree types m k a A here ts (λ u q. all u (in_tail t u ts q)))
 
+-- a path without its last row
 pub front-of : (xs : List ℕ) (a : ℕ) → take (length (xs ++ a ∷ []) - 1) (xs ++ a ∷ []) ≡ xs
 front-of xs a =
     let n : length (xs ++ a ∷ []) - 1 ≡ length xs = (let l : length (xs ++ a ∷ []) ≡ length xs + length (a ∷ []) = length-append xs (a ∷ []) in omega arith) in
@@ -112,6 +117,7 @@ front-of xs a =
     take-all [] = refl
     take-all (y ∷ ys) = ap (λ (zs : List ℕ). y ∷ zs) (take-all ys)
 
+-- the last row of the path is left
 pub some-first : (f : Frame) (fs : List Frame) (down : Bool) → 0 < left_of down (f ∷ fs) f.row.address
 some-first f fs down = (let o : is_at f.row.address f.row.address ≡ 1 = one_at f.row.address f.row.address refl in omega arith)
 

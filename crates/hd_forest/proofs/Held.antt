@@ -19,6 +19,7 @@ pub record Held (d : Database) (v : VolumeState) : Type 0 where
   pub graph : IsLinkGraph d.types (length v.image) (links_of d.types v)
   pub linked : AreLinked d.types (links_of d.types v)
 
+-- where a forest is held, the pointers are linked
 pub held : (d : Database) (v : VolumeState) → IsDatabase d → IsVolumeOf d v → HasForest d v → Held d v
 held d v fit of h =
     let O = ordered d.block_size d.frspc d.types fit in

@@ -17,9 +17,11 @@ use Rattle.hd_forest.specs.Walks.{HasForest}
 
 -- ---- one image
 
+-- the records of one image are one
 pub links-same : (types : List SegmentType) (u v : VolumeState) → v.image ≡ u.image → v.size ≡ u.size → v.sizes ≡ u.sizes → links_of types v ≡ links_of types u
 links-same types u v image size sizes = λ i. links_of types (record v { image = image i; size = size i; sizes = sizes i })
 
+-- one image is that of one database
 pub volume-same : (d : Database) (u v : VolumeState) → v.image ≡ u.image → v.size ≡ u.size → v.sizes ≡ u.sizes → IsVolumeOf d u → IsVolumeOf d v
 volume-same d u v image size sizes of = record {
   formatted = one-formatted (record { same = record { size = size; sizes = sizes }; image = image }) of.formatted;
@@ -27,6 +29,7 @@ volume-same d u v image size sizes of = record {
   sizes = sizes ∙ of.sizes;
 }
 
+-- and holds one forest
 pub forest-same : (d : Database) (u v : VolumeState) → links_of d.types v ≡ links_of d.types u → HasForest d u → HasForest d v
 forest-same d u v e h = (h.0, subst (λ m. Holds d.types m h.0) (sym e) h.1)
 
@@ -38,6 +41,7 @@ pub record IsSame (d : Database) (u v : VolumeState) : Type 0 where
   pub forest : HasForest d u → HasForest d v
   pub image : v.image ≡ u.image
 
+-- all of it is so after a call that read
 pub after-read : {A : Type 0} {x : A} (d : Database) (u v : VolumeState) → IsRead {T = A} u (Ok x) v → IsTrue u.is_sound → IsSame d u v
 after-read d u v r s =
     let now : IsTrue v.is_sound = rw r.call.sound s in
@@ -61,9 +65,11 @@ pub record IsLent (types : List SegmentType) (v : VolumeState) (a : ℕ) (s : Li
   pub stored : stored_at v a ≡ s
   pub long : stored_size types (code_of s) ≤ length s
 
+-- two that are there and equal are one
 some-eq : {A : Type 0} (x y : A) → Some x ≡ Some y → x ≡ y
 some-eq x y e = cc
 
+-- a segment that is found is lent whole
 pub lent : (d : Database) (v : VolumeState) (a : ℕ) (s : List ℕ) → IsDatabase d → IsVolumeOf d v → IsSegment (links_of d.types v) a → find v a ≡ Some s → IsLent d.types v a s
 lent d v a s fit of there is =
     let h = segment-found d v a fit of there in
@@ -82,5 +88,6 @@ sound-before u v r s = rw (← r.call.sound) s
 pub volume-kept : {A : Type 0} {x : A} (d : Database) (u v : VolumeState) → IsRead {T = A} u (Ok x) v → (IsTrue u.is_sound → IsVolumeOf d u) → IsTrue v.is_sound → IsVolumeOf d v
 volume-kept d u v r of now = (let sound = sound-before u v r now in (after-read d u v r sound).volume (of sound))
 
+-- and what was known of its records
 pub links-kept : {A : Type 0} {x : A} (d : Database) (P : Links → Type 0) (u v : VolumeState) → IsRead {T = A} u (Ok x) v → (IsTrue u.is_sound → P (links_of d.types u)) → IsTrue v.is_sound → P (links_of d.types v)
 links-kept d P u v r of now = (let sound = sound-before u v r now in subst P (sym (after-read d u v r sound).links) (of sound))

@@ -30,12 +30,15 @@ more-steps : (types : List SegmentType) (m : Links) (span : ℕ → ℕ) (n k : 
 more-steps types m span n k s le I = record { frames = I.frames; stand = I.stand; path = I.path; few = (let f = I.few in omega arith); within = I.within; records = I.records }
 
 module _ (d : Database) (fit : IsDatabase d) (bound a : ℕ) (m : Links) (G : IsLinkGraph d.types bound m) (under : Forest Placed) (S : IsSpan d.types m a under) where
+  -- the types are ordered
   O : Ordered d.types
   O = ordered d.block_size d.frspc d.types fit
 
+  -- the row of the span
   abbrev own : Placed
   own = record { address = a; segment = segment_at m a }
 
+  -- it stands, with what is below it
   stands : RowStands d.types m own under
   stands = record {
     there = S.there;
@@ -84,6 +87,7 @@ module _ (d : Database) (fit : IsDatabase d) (bound a : ℕ) (m : Links) (G : Is
       or-none true = refl
       or-none false = refl
 
+  -- with no step left there is no path
   pub spent : (k : Links) (path : List ℕ) (down : Bool) → InSpan d.types m (span_of a under) 0 (record { path = path; down = down; records = k }) → path ≡ []
   spent k path down I = no-step d.types O m (span_of a under) S.once (record { path = path; down = down; records = k }) I
 

@@ -25,6 +25,7 @@ span_of a under b = is_at a b + count b under
 
 -- ---- the start
 
+-- what is in the span is left, or out of it
 kept : (x y : Bool) (n : ℕ) → y ≡ (n == 0 || nat_lt 0 n) → (x && y) ≡ x
 kept x y n e = (let one : (n == 0 || nat_lt 0 n) ≡ true = some n in both x y (e ∙ one))
   where
@@ -36,6 +37,7 @@ kept x y n e = (let one : (n == 0 || nat_lt 0 n) ≡ true = some n in both x y (
     both true v e = e
     both false v e = refl
 
+-- at first the path is the row of the span, and all is left
 pub at-start : (types : List SegmentType) (m : Links) (p : Placed) (under : Forest Placed) → RowStands types m p under
     → InSpan types m (span_of p.address under) (2 * size_of under + 1) (record { path = p.address ∷ []; down = true; records = m })
 at-start types m p under R =
@@ -62,14 +64,17 @@ abbrev pub total_below : Forest Placed → ℕ → ℕ
 total_below f zero = 0
 total_below f (suc n) = total_below f n + count n f
 
+-- below a bound are no more nodes than addresses
 few-below : (f : Forest Placed) → ((b : ℕ) → count b f ≤ 1) → (n : ℕ) → total_below f n ≤ n
 few-below f once zero = omega arith
 few-below f once (suc n) = (let i = few-below f once n in let o = once n in omega arith)
 
+-- no node stands below a bound
 none-below : (n : ℕ) → total_below empty n ≡ 0
 none-below zero = refl
 none-below (suc n) = (let i = none-below n in omega arith)
 
+-- a node stands below a bound, or it does not
 one-below : (p : Placed) (k n : Forest Placed) (i : ℕ) → total_below (node p k n) i ≡ cond {A = ℕ} (nat_lt p.address i) 1 0 + (total_below k i + total_below n i)
 one-below p k n zero = (let no : cond {A = ℕ} (nat_lt p.address 0) 1 0 ≡ 0 = cond-false (nat_lt p.address 0) 1 0 (le-ltb p.address 0 (omega arith)) in omega arith)
 one-below p k n (suc i) =
@@ -94,6 +99,7 @@ one-below p k n (suc i) =
       ])
     ]
 
+-- all nodes stand below the bound of the addresses
 pub size-below : (types : List SegmentType) (m : Links) (bound : ℕ) (G : IsLinkGraph types bound m) (b : ℕ → ℕ) (f : Forest Placed) → NodesLie types m b f → size_of f ≡ total_below f bound
 size-below types m bound G b empty s = sym (none-below bound)
 size-below types m bound G b (node p k n) s =
@@ -119,6 +125,7 @@ steps-within types m bound G p under R once =
 -- ---- how deep the path is
 
 module _ (types : List SegmentType) (O : Ordered types) (leveled : Leveled types) (bound : ℕ) (m : Links) (G : IsLinkGraph types bound m) where
+  -- a row that stands fits
   row-fits : (p : Placed) (under : Forest Placed) → RowStands types m p under → row_fits types p.segment ≡ true
   row-fits p under R = ap (row_fits types) (λ i. record { code = sym R.code i; bytes = sym R.bytes i }) ∙ G.fits p.address R.there
 

@@ -19,6 +19,7 @@ use Rattle.hd_forest.specs.Spans.{IsSpan}
 use Rattle.hd_forest.proofs.Tips.{IsBelow}
 use Rattle.hd_forest.proofs.SpanStarts.{span_of}
 
+-- the second part of what is in order is in order
 formed-right : (types : List SegmentType) (c : ℕ) (f g : Forest Placed) → Formed types c (join f g) → Formed types c g
 formed-right types c empty g F = F
 formed-right types c (node r k n) g F = formed-right types c n g F.3
@@ -39,39 +40,50 @@ pub record Taken (types : List SegmentType) (m : Links) (f : Forest Placed) (h y
 
 module _ (types : List SegmentType) (O : Ordered types) (bound : ℕ) (m : Links) (G : IsLinkGraph types bound m) (f : Forest Placed) (H : Holds types m f) (h y a : ℕ)
     (B : IsBelow types m h a) (C : CanUnlink types m h y a) where
+  -- the nodes below h
   abbrev K : Forest Placed
   K = (spot types O bound m G f H h C.parent).0
 
+  -- and what is known of them
   abbrev S : Spot types m h f K
   S = (spot types O bound m G f H h C.parent).1
 
+  -- no address stands twice in the forest
   once-all : (b : ℕ) → count b f ≤ 1
   once-all b = at_most_once types m f H b
 
+  -- nor among these
   once-K : (b : ℕ) → count b K ≤ 1
   once-K b = (let i = S.part b in let o = once-all b in omega arith)
 
+  -- a is one of them
   a-one : IsOne (m.code a) a K
   a-one = chain_one types m (m.code a) a nowhere K S.stand B.chain.0 (subst (λ x. IsTwinAfter m B.chain.0 x a) (S.named.first (m.code a) B.typed) B.chain.1)
 
+  -- where a stands among them
   place : OutPlace (m.code a) a K
   place = out_place (m.code a) a K a-one (once-K a)
 
+  -- the nodes before it, a and those behind it stand
   stand-K : NodesLie types m nowhere (join place.front (node place.row place.gone place.rest))
   stand-K = subst (NodesLie types m nowhere) place.is S.stand
 
+  -- so do a and those behind it
   stand : NodesLie types m (with_nodes nowhere place.front) (node place.row place.gone place.rest)
   stand = stands_right types m nowhere place.front (node place.row place.gone place.rest) stand-K
 
+  -- and they are in order
   formed-K : Formed types (m.code h) (node place.row place.gone place.rest)
   formed-K = formed-right types (m.code h) place.front (node place.row place.gone place.rest) (subst (Formed types (m.code h)) place.is S.formed)
 
+  -- how often an address stands among them
   counted : (b : ℕ) → count b K ≡ count b place.front + (span_of a place.gone b + count b place.rest)
   counted b =
       let e : count b K ≡ count b place.front + count b (node place.row place.gone place.rest) = ap (count b) place.is ∙ count_join b place.front (node place.row place.gone place.rest) in
       let at : is_at place.row.address b ≡ is_at a b = ap (λ x. is_at x b) place.address in
       omega arith
 
+  -- what is left and the span are all
   left-all : (b : ℕ) → count b (without_span h a f) + span_of a place.gone b ≡ count b f
   left-all b =
       let c : count b (without_span h a f) + count b K ≡ count b f + count b (take_out a K) = changed_count types O bound m G f H h (take_out a) K S b in
@@ -79,13 +91,16 @@ module _ (types : List SegmentType) (O : Ordered types) (bound : ℕ) (m : Links
       let n = counted b in
       omega arith
 
+  -- the row at a is of its type
   own-code : place.row.segment.code ≡ m.code a
   own-code = place.code
 
+  -- what is below a fits
   fits-under : fits_below types (Some (m.code a)) None (forest_of place.gone) ≡ true
   fits-under = subst (λ (o : Option ℕ). fits_below types o None (forest_of place.gone) ≡ true) (above_some (m.code a) (code_some types (segment_at m a) (G.fits a B.there)))
       (fits types O bound m G (m.code a) nowhere None place.gone stand.1 (subst (λ c. Formed types c place.gone) own-code formed-K.2) (first_behind_none types place.gone))
 
+  -- a and what is below it is a span
   the-span : IsSpan types m a place.gone
   the-span = record {
     there = B.there;
@@ -95,6 +110,7 @@ module _ (types : List SegmentType) (O : Ordered types) (bound : ℕ) (m : Links
     once = λ b. (let n = counted b in let o = once-K b in omega arith);
   }
 
+  -- h is not in it
   no-parent : span_of a place.gone h ≡ 0
   no-parent = (let n = counted h in let o : count h K ≡ 0 = S.own in omega arith)
 
@@ -125,5 +141,6 @@ module _ (types : List SegmentType) (O : Ordered types) (bound : ℕ) (m : Links
       let at : is_at a a ≡ 1 = one_at a a refl in omega arith)) in
       omega arith
 
+  -- all of it together
   pub taken : Taken types m f h y a
   taken = record { under = place.gone; span = the-span; left = left-all; parent = no-parent; before = no-before; behind = no-behind }

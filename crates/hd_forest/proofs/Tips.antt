@@ -20,6 +20,7 @@ twins-there types m typed t (suc n) p a s c w =
     let T = typed.forward p s some in
     twins-there types m typed t n (m.forward p) a (record { some = some; here = T.0 }) (T.1 ∙ c) w.1
 
+-- and all on the way are segments
 are-twins : (types : List SegmentType) (m : Links) → PointersAreTyped types m → (n p a : ℕ) → IsSegment m p → IsTwinAfter m n p a → AreTwins m n p
 are-twins types m typed zero p a s w = tt
 are-twins types m typed (suc n) p a s w =
@@ -45,6 +46,7 @@ pub record IsBelow (types : List SegmentType) (m : Links) (h a : ℕ) : Type 0 w
 abbrev pub above_tip : ℕ → List ℕ → ℕ
 above_tip h path = tip_from h (take (length path - 1) path)
 
+-- a row in the chain of a child type stands below its parent
 pub below-chain : (types : List SegmentType) (m : Links) → PointersAreTyped types m → (h a : ℕ) → m.here h ≡ true → is_child_type types (m.code h) (m.code a) ≡ true
     → IsInChain m (m.first_child h (m.code a)) a → IsBelow types m h a
 below-chain types m typed h a here child chain =
@@ -57,6 +59,7 @@ below-chain types m typed h a here child chain =
       chain = chain;
     }
 
+-- the last row of a path that leads down stands below the one before it
 pub tip-below : (types : List SegmentType) (m : Links) → PointersAreTyped types m → (h : ℕ) (path : List ℕ) → m.here h ≡ true → 0 < length path → LeadsDown types m h path
     → IsBelow types m (above_tip h path) (tip_from h path)
 tip-below types m typed h [] here some down = absurd (omega arith)
@@ -68,6 +71,7 @@ tip-below types m typed h (a ∷ (b ∷ path)) here some down =
     (tip-below types m typed a (b ∷ path) own.there.here (omega arith) down.2)
 
 module _ (types : List SegmentType) (O : Ordered types) (bound : ℕ) (m : Links) (G : IsLinkGraph types bound m) (L : AreLinked types m) (h a : ℕ) (B : IsBelow types m h a) where
+  -- the chain has a first twin
   some : 0 < m.first_child h (m.code a)
   some = twin-some m B.chain.0 (m.first_child h (m.code a)) a B.chain.1
 

@@ -26,22 +26,28 @@ use Rattle.hd_forest.proofs.Unlinks.{followed, span-kept, unlinked-is}
 
 module _ (d : Database) (u : VolumeState) (fit : IsDatabase d) (of : IsVolumeOf d u) (path : List ℕ) (down : (0 < length path) × LeadsDown d.types (links_of d.types u) 0 path)
     (y : ℕ) (can : CanUnlink d.types (links_of d.types u) (parent_on path) y (tip path)) where
+  -- the records
   abbrev m : Links
   m = links_of d.types u
 
+  -- the parent
   abbrev h : ℕ
   h = parent_on path
 
+  -- the row
   abbrev a : ℕ
   a = tip path
 
   module _ (f : Forest Placed) (H : Holds d.types m f) where
+    -- where the records hold a forest they are linked
     abbrev K : Held d u
     K = held d u fit of (f, H)
 
+    -- the row stands below its parent
     abbrev B : IsBelow d.types m h a
     B = last-below d u path h a K down refl refl
 
+    -- its span
     abbrev T : Taken d.types m f h y a
     T = taken d.types K.ordered (length u.image) m K.graph f H h y a B can
 
@@ -81,6 +87,7 @@ module _ (d : Database) (u : VolumeState) (fit : IsDatabase d) (of : IsVolumeOf 
       pub records-are : (k : Links) → Agree d.types (without_span_of m2 a T.under) k → Agree d.types (unlinked m h y a (without_span h a f)) k
       records-are k A = agree-trans d.types (unlinked m h y a (without_span h a f)) (without_span_of m2 a T.under) k (unlinked-is d.types (length u.image) m m1 m2 K.graph f H h y a T A1 A2) A
 
+      -- and the forest is without its span
       pub forest-is : (k : Links) → Agree d.types (without_span_of m2 a T.under) k → Holds d.types k (without_span h a f)
       forest-is k A = (span_gone d.types K.ordered (length u.image) m k K.graph f H h y a can (records-are k A)).1
 

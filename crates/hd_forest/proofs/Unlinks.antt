@@ -20,18 +20,21 @@ use Rattle.hd_forest.proofs.Taken.{Taken}
 
 -- ---- one twin pointer changed
 
+-- a third part that holds does not matter
 both-true : (p q r : Bool) → r ≡ true → (p && q && r) ≡ (p && q)
 both-true true true r e = e
 both-true true false r e = refl
 both-true false true r e = refl
 both-true false false r e = refl
 
+-- with a third part that fails nothing holds
 both-false : (p q r : Bool) → r ≡ false → (p && q && r) ≡ false
 both-false true true r e = e
 both-false true false r e = refl
 both-false false true r e = refl
 both-false false false r e = refl
 
+-- another parent is not named
 other-parent : (b h : ℕ) (q r : Bool) → b ≢ h → (b == h && q && r) ≡ false
 other-parent b h q r ne = rw (ne_eqb b h ne) (by q r)
   where
@@ -50,6 +53,7 @@ pub record Followed (m k : Links) (h t y x b : ℕ) : Type 0 where
   pub first_child : (u : ℕ) → k.first_child b u ≡ cond (b == h && u == t && y == 0) x (m.first_child b u)
   pub last_child : (u : ℕ) → k.last_child b u ≡ m.last_child b u
 
+-- so it is where what comes next is named
 pub followed : (m : Links) (h t y x b : ℕ) → Followed m (following m h t y x) h t y x b
 followed m h t y x b = elim (cases_Bool (y == 0)) [
   | inl e ↦ subst (λ (k : Links). Followed m k h t y x b) (sym (cond-true (y == 0) (with_pointer m (FirstChild t) h x) (with_pointer m TwinForward y x) e)) (record {
@@ -85,6 +89,7 @@ record Preceded (m k : Links) (h t y x b : ℕ) : Type 0 where
   pub first_child : (u : ℕ) → k.first_child b u ≡ m.first_child b u
   pub last_child : (u : ℕ) → k.last_child b u ≡ cond (b == h && u == t && y == 0) x (m.last_child b u)
 
+-- and where what came before is
 preceded : (m : Links) (h t y x b : ℕ) → Preceded m (preceding m h t y x) h t y x b
 preceded m h t y x b = elim (cases_Bool (y == 0)) [
   | inl e ↦ subst (λ (k : Links). Preceded m k h t y x b) (sym (cond-true (y == 0) (with_pointer m (LastChild t) h x) (with_pointer m TwinBackward y x) e)) (record {
@@ -113,49 +118,63 @@ preceded m h t y x b = elim (cases_Bool (y == 0)) [
 
 -- what two records say between which both pointers have changed
 module _ (types : List SegmentType) (m m1 m2 : Links) (h t y w b : ℕ) (A1 : AgreeAt types (following m h t y w) m1 b) (A2 : AgreeAt types (preceding m1 h t w y) m2 b) where
+  -- the first change
   F : Followed m (following m h t y w) h t y w b
   F = followed m h t y w b
 
+  -- the second
   P : Preceded m1 (preceding m1 h t w y) h t w y b
   P = preceded m1 h t w y b
 
+  -- the records are where they were
   pub here-both : m2.here b ≡ m.here b
   here-both = A2.here ∙ P.here ∙ A1.here ∙ F.here
 
+  -- after the first change too
   here-one : m1.here b ≡ m.here b
   here-one = A1.here ∙ F.here
 
+  -- a code stays at the first change
   code-one : m.here b ≡ true → m1.code b ≡ m.code b
   code-one s = A1.code (F.here ∙ s) ∙ F.code
 
+  -- and at both
   pub code-both : m.here b ≡ true → m2.code b ≡ m.code b
   code-both s = A2.code (P.here ∙ here-one ∙ s) ∙ P.code ∙ code-one s
 
+  -- a segment is one after the first change
   in-following : IsSegment m b → IsSegment (following m h t y w) b
   in-following s = record { some = s.some; here = F.here ∙ s.here }
 
+  -- and after the second
   in-preceding : IsSegment m b → IsSegment (preceding m1 h t w y) b
   in-preceding s = record { some = s.some; here = P.here ∙ here-one ∙ s.here }
 
+  -- bytes stay
   pub bytes-both : IsSegment m b → m2.bytes b ≡ m.bytes b
   bytes-both s = A2.bytes (in-preceding s) ∙ P.bytes ∙ A1.bytes (in-following s) ∙ F.bytes
 
+  -- delete bytes stay
   pub delete-both : IsSegment m b → m2.delete_byte b ≡ m.delete_byte b
   delete-both s = A2.delete_byte (in-preceding s) ∙ P.delete_byte ∙ A1.delete_byte (in-following s) ∙ F.delete_byte
 
+  -- twin forward changes at the twin before
   pub forward-both : IsSegment m b → m2.forward b ≡ cond (b == y) w (m.forward b)
   forward-both s = A2.forward (in-preceding s) ∙ P.forward ∙ A1.forward (in-following s) ∙ F.forward s.some
 
+  -- twin backward changes at the twin behind
   pub backward-both : IsSegment m b → is_backward_kept types (m.code b) ≡ true → m2.backward b ≡ cond (b == w) y (m.backward b)
   backward-both s kept =
       A2.backward (in-preceding s) (ap (is_backward_kept types) (P.code ∙ code-one s.here) ∙ kept) ∙ P.backward s.some
       ∙ ap (λ x. cond (b == w) y x) (A1.backward (in-following s) (ap (is_backward_kept types) F.code ∙ kept) ∙ F.backward)
 
+  -- first child changes where no twin is before
   pub first-both : (u : ℕ) → m.here b ≡ true → is_child_type types (m.code b) u ≡ true → m2.first_child b u ≡ cond (b == h && u == t && y == 0) w (m.first_child b u)
   first-both u s c =
       A2.first_child u (P.here ∙ here-one ∙ s) (ap (λ x. is_child_type types x u) (P.code ∙ code-one s) ∙ c) ∙ P.first_child u
       ∙ A1.first_child u (F.here ∙ s) (ap (λ x. is_child_type types x u) F.code ∙ c) ∙ F.first_child u
 
+  -- last child changes where no twin is behind
   pub last-both : (u : ℕ) → m.here b ≡ true → is_child_type types (m.code b) u ≡ true → is_last_kept types u ≡ true → m2.last_child b u ≡ cond (b == h && u == t && w == 0) y (m.last_child b u)
   last-both u s c kept =
       A2.last_child u (P.here ∙ here-one ∙ s) (ap (λ x. is_child_type types x u) (P.code ∙ code-one s) ∙ c) kept ∙ P.last_child u
@@ -183,12 +202,15 @@ module _ (types : List SegmentType) (bound : ℕ) (m m1 m2 : Links) (G : IsLinkG
       (λ e. (let p : 0 < y = subst (λ x. 0 < x) e some in let z : span_of a T.under b ≡ 0 = ap (span_of a T.under) e ∙ T.before p in omega arith))
       (λ e. (let p : 0 < m.forward a = subst (λ x. 0 < x) e some in let z : span_of a T.under b ≡ 0 = ap (span_of a T.under) e ∙ T.behind p in omega arith))
 
+  -- a says what it said
   own-at : AgreeAt types m m2 a
   own-at = apart a T.span.there.some (let o : is_at a a ≡ 1 = one_at a a refl in omega arith)
 
+  -- and is of its type
   own-code : m2.code a ≡ m.code a
   own-code = own-at.code T.span.there.here
 
+  -- the span stands as it stood
   pub span-kept : IsSpan types m2 a T.under
   span-kept = record {
     there = record { some = T.span.there.some; here = own-at.here ∙ T.span.there.here };
@@ -207,6 +229,7 @@ module _ (types : List SegmentType) (bound : ℕ) (m m1 m2 : Links) (G : IsLinkG
       (let some = T.span.there.some in let apart-own : is_at a 0 ≡ 0 = none_at a 0 (λ (e : a ≡ 0). omega arith) in
       let z : count 0 T.under ≡ 0 = count_zero types m nowhere T.under T.span.nodes in omega arith)
 
+  -- what is left is what the forest without the span has
   here-left : (b : ℕ) → (m.here b && (span_of a T.under b == 0)) ≡ (b == 0 || nat_lt 0 (count b (without_span h a f)))
   here-left b = elim (zero_or b) [
     | inl e ↦

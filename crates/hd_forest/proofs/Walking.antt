@@ -22,6 +22,7 @@ use Rattle.hd_image.proofs.Found.{records-link}
 use Rattle.hd_forest.specs.Walks.{tip, moved, next_on, walked}
 use Rattle.hd_forest.specs.Laws.{WalkingGivesTheSequence}
 
+-- of no row nothing is above
 take-none : (n : ℕ) → take {A = ℕ} n [] ≡ []
 take-none zero = refl
 take-none (suc n) = refl
@@ -37,12 +38,15 @@ module _ (types : List SegmentType) (m : Links) (f : Forest Placed) (R : RowsHav
       cond-false (a == 0) [] (take (level_of types (m.code a) - 1) path ++ a ∷ []) (ne_eqb a 0 (λ (e : a ≡ 0). omega arith))
       ∙ ap (λ n. take (n - 1) path ++ a ∷ []) code
 
+  -- behind the last row is no address
   past-rows : (i : ℕ) → length (rows_of f) ≤ i → address_at f i ≡ 0
   past-rows i l = get_or_past (addresses f) i 0 (let e : length (addresses f) ≡ length (rows_of f) = length-map (sequence f) (λ (p : Placed). p.address) ∙ sym (rows_length f) in omega arith)
 
+  -- and no path
   moved-past : (path : List ℕ) (i : ℕ) → length (rows_of f) ≤ i → moved types m path (address_at f i) ≡ []
   moved-past path i l = (let a : ℕ = address_at f i in cond-true (a == 0) [] (take (level_of types (m.code a) - 1) path ++ a ∷ []) (eq-eqb a 0 (past-rows i l)))
 
+  -- after i steps the walk stands on the path of row i
   walked-path : (i : ℕ) → i < length (rows_of f) → walked types m i ≡ path_at types f i
   walked-path zero l = ap (moved types m []) first ∙ moved-to [] 0 l ∙ ap (λ (xs : List ℕ). xs ++ address_at f 0 ∷ []) (take-none (level_at types (rows_of f) 0 - 1))
   walked-path (suc i) l =
@@ -55,15 +59,18 @@ module _ (types : List SegmentType) (m : Links) (f : Forest Placed) (R : RowsHav
       ∙ sym (S.next_path (omega arith))
       ∙ ap (path_at types f) (sym next)
 
+  -- whose segment is that row
   walked-row : (i : ℕ) → i < length (rows_of f) → segment_at m (tip (walked types m i)) ≡ row_at (rows_of f) i
   walked-row i l = ap (λ (p : List ℕ). segment_at m (tip p)) (walked-path i l) ∙ ap (segment_at m) (steps i l).tip ∙ R.same i l
 
+  -- behind the last row the walk has no path
   walked-end : (n : ℕ) → length (rows_of f) ≡ n → walked types m n ≡ []
   walked-end zero e = ap (moved types m []) first ∙ moved-past [] 0 (omega arith)
   walked-end (suc i) e =
       let here : i < length (rows_of f) = omega arith in
       ap (next_on types m) (walked-path i here) ∙ ap (moved types m (path_at types f i)) (steps i here).next ∙ moved-past (path_at types f i) (i + 1) (omega arith)
 
+-- the law of the walk
 pub walking : WalkingGivesTheSequence
 walking d v f fit of holds =
     let types : List SegmentType = d.types in
