@@ -33,7 +33,3 @@ lent d v a s fit of there is =
       two = two;
       whole = (let e = h.size in omega arith);
     })
-
--- two states with one image have the same records
-pub links-same : (types : List SegmentType) (u v : VolumeState) → v.image ≡ u.image → v.size ≡ u.size → v.sizes ≡ u.sizes → links_of types v ≡ links_of types u
-links-same types u v image size sizes = λ i. links_of types (record v { image = image i; size = size i; sizes = sizes i })

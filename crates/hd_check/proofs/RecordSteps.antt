@@ -16,6 +16,11 @@ pub from-none : {A : Type 0} {P : Type 0} (o : Option A) → is_some o ≡ false
 from-none None h p = p
 from-none (Some x) h p = cc
 
+-- of none nothing is asked where there is some
+pub some-none : {A : Type 0} (P : Type 0) (o : Option A) → is_some o ≡ true → IfNone o P
+some-none P None h = cc
+some-none P (Some x) h = tt
+
 -- the same records have the same places
 pub places-same : (types : List SegmentType) (v w : VolumeState) (ps : List Place) → links_of types w ≡ links_of types v → ArePlaces types v ps → ArePlaces types w ps
 places-same types v w ps e h = record {

@@ -28,7 +28,6 @@ fn fault_at<S: BlockStore>(
     ensures some { IfOk result (λ o. IsTrue volume.old.is_sound → ArePlaces dbd.now.types volume.old places.now → IfSome o (λ f. IsWrongRecord dbd.now.types (links_of dbd.now.types volume.old) address f)) }
     ensures refusal { IfErr result (λ e. e ≡ Refused.Device) }
 {
-    let _ = dbd.types();
     let segment = volume.segment_at(address)?;
     Ok(segment_fault(places, dbd, address, segment))
 }

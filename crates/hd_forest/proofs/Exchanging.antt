@@ -48,7 +48,7 @@ module _ (d : Database) (v : VolumeState) (a c place : ℕ) (bytes : List ℕ) (
   pub recorded-replaced : (w : VolumeState) → w.size ≡ v.size → w.sizes ≡ v.sizes → IsWritten v a place bytes w → IsRecorded d v (replaced (links_of d.types v) a bytes) w
   recorded-replaced w size sizes written =
       let h = segment-found d v a fit of can.there in
-      let after : IsVolumeOf d w = record { formatted = written.formatted; size = size ∙ of.size; sizes = sizes ∙ of.sizes } in
+      let after : IsVolumeOf d w = record { fit = of.fit; formatted = written.formatted; size = size ∙ of.size; sizes = sizes ∙ of.sizes } in
       record {
         volume = after;
         records = writing-replaces d v w a bytes fit of after can.there can.fits (subst (λ (k : ℕ). IsWritten v a k bytes w) place-is written);

@@ -25,7 +25,7 @@ pub freed-record : (d : Database) (v w : VolumeState) (a : ℕ) → IsDatabase d
 freed-record d v w a fit of there size sizes freed =
     let s = segment-found d v a fit of there in
     record {
-      volume = record { formatted = freed.formatted; size = size ∙ of.size; sizes = sizes ∙ of.sizes };
+      volume = record { fit = of.fit; formatted = freed.formatted; size = size ∙ of.size; sizes = sizes ∙ of.sizes };
       records = freeing-takes d.types v w a there freed;
       keeps = keeps-freed v w a s.bytes of.formatted size s.is freed;
     }

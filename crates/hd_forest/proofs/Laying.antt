@@ -124,7 +124,7 @@ leaf-put d v w row y x a segment fit of size sizes leaf put =
     let some : 0 < v.size = positive _ _ (block_size-bounds d.block_size d.frspc d.types fit).0 of.size in
     let added = putting-adds d.types v w a segment some size put in
     record {
-      volume = record { formatted = put.formatted; size = size ∙ of.size; sizes = sizes ∙ of.sizes };
+      volume = record { fit = of.fit; formatted = put.formatted; size = size ∙ of.size; sizes = sizes ∙ of.sizes };
       some = added.0;
       free = put-free d.types v w a segment added.0 put;
       segment = segment;

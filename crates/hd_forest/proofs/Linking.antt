@@ -21,7 +21,7 @@ use Rattle.hd_forest.specs.Sets.{named, IsTwinPlace, IsRecorded}
 use Rattle.hd_forest.proofs.Chains.{twin-some}
 use Rattle.hd_forest.proofs.Tips.{twins-there}
 use Rattle.hd_forest.proofs.Held.{held}
-use Rattle.hd_forest.proofs.Reading.{links-same}
+use Rattle.hd_image.proofs.OneImage.{links-same}
 use Rattle.hd_forest.proofs.Keeping.{keeps-same, rest-trans}
 use Rattle.hd_forest.proofs.Agreeing.{agree-trans, agree-named, place-stays}
 use Rattle.hd_forest.proofs.Leafing.{linked-named}

@@ -13,23 +13,12 @@ use Rattle.hd_links.specs.Placed.{Holds}
 use Rattle.hd_image.specs.Records.{links_of, IsVolumeOf, stored_at}
 use Rattle.hd_image.specs.Laws.{IsDatabase}
 use Rattle.hd_image.proofs.Found.{segment-found, stored-found}
+use Rattle.hd_image.proofs.OneImage.{links-same, volume-same}
 use Rattle.hd_forest.specs.Walks.{HasForest}
 
 -- ---- one image
 
--- the records of one image are one
-pub links-same : (types : List SegmentType) (u v : VolumeState) → v.image ≡ u.image → v.size ≡ u.size → v.sizes ≡ u.sizes → links_of types v ≡ links_of types u
-links-same types u v image size sizes = λ i. links_of types (record v { image = image i; size = size i; sizes = sizes i })
-
--- one image is that of one database
-pub volume-same : (d : Database) (u v : VolumeState) → v.image ≡ u.image → v.size ≡ u.size → v.sizes ≡ u.sizes → IsVolumeOf d u → IsVolumeOf d v
-volume-same d u v image size sizes of = record {
-  formatted = one-formatted (record { same = record { size = size; sizes = sizes }; image = image }) of.formatted;
-  size = size ∙ of.size;
-  sizes = sizes ∙ of.sizes;
-}
-
--- and holds one forest
+-- one image holds one forest
 pub forest-same : (d : Database) (u v : VolumeState) → links_of d.types v ≡ links_of d.types u → HasForest d u → HasForest d v
 forest-same d u v e h = (h.0, subst (λ m. Holds d.types m h.0) (sym e) h.1)
 

@@ -113,7 +113,7 @@ is-one f p n x is named one = is ∙ ap f (sym named ∙ one)
 pub recorded-first : (d : Database) (v w : VolumeState) (x : ℕ) → IsVolumeOf d v → w ≡ record v { image = w.image }
     → HasNewHeader v (record (header_of v.image) { first_root = x }) w → IsRecorded d v (with_pointer (links_of d.types v) (FirstChild 1) 0 x) w
 recorded-first d v w x of rest h = record {
-  volume = record { formatted = h.formatted of.formatted; size = ap (λ (u : VolumeState). u.size) rest ∙ of.size; sizes = ap (λ (u : VolumeState). u.sizes) rest ∙ of.sizes };
+  volume = record { fit = of.fit; formatted = h.formatted of.formatted; size = ap (λ (u : VolumeState). u.size) rest ∙ of.size; sizes = ap (λ (u : VolumeState). u.sizes) rest ∙ of.sizes };
   records = (setting-root d.types v w x).0 h;
   keeps = keeps-rooted v w x (header_of v.image).last_root (ap (λ (u : VolumeState). u.size) rest) h;
 }
@@ -121,7 +121,7 @@ recorded-first d v w x of rest h = record {
 pub recorded-last : (d : Database) (v w : VolumeState) (x : ℕ) → IsVolumeOf d v → w ≡ record v { image = w.image }
     → HasNewHeader v (record (header_of v.image) { last_root = x }) w → IsRecorded d v (with_pointer (links_of d.types v) (LastChild 1) 0 x) w
 recorded-last d v w x of rest h = record {
-  volume = record { formatted = h.formatted of.formatted; size = ap (λ (u : VolumeState). u.size) rest ∙ of.size; sizes = ap (λ (u : VolumeState). u.sizes) rest ∙ of.sizes };
+  volume = record { fit = of.fit; formatted = h.formatted of.formatted; size = ap (λ (u : VolumeState). u.size) rest ∙ of.size; sizes = ap (λ (u : VolumeState). u.sizes) rest ∙ of.sizes };
   records = (setting-root d.types v w x).1 h;
   keeps = keeps-rooted v w (header_of v.image).first_root x (ap (λ (u : VolumeState). u.size) rest) h;
 }
@@ -198,7 +198,7 @@ pub recorded-written : (d : Database) (v w : VolumeState) (pointer : Pointer) (a
     → IsWritten v a place bytes w → IsRecorded d v (with_pointer (links_of d.types v) pointer a x) w
 recorded-written d v w pointer a c place x bytes fit of size sizes s is at four number written =
     let h = segment-found d v a fit of s in
-    let after : IsVolumeOf d w = record { formatted = written.formatted; size = size ∙ of.size; sizes = sizes ∙ of.sizes } in
+    let after : IsVolumeOf d w = record { fit = of.fit; formatted = written.formatted; size = size ∙ of.size; sizes = sizes ∙ of.sizes } in
     record {
       volume = after;
       records = subst (λ (y : ℕ). Agree d.types (with_pointer (links_of d.types v) pointer a y) (links_of d.types w)) number

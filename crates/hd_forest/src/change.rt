@@ -45,7 +45,6 @@ pub fn link<S: BlockStore>(
     ensures refusal { IfErr result (λ e. (e ≡ Refused.Memory) ⊎ (e ≡ Refused.Full) ⊎ (e ≡ Refused.Device)) }
     ensures room { IsTrue volume.new.is_sound → volume.old.room ≤ volume.new.room + 1 }
 {
-    let _ = dbd.types();
     let behind = twin_behind(volume, dbd, parent, after, code)?;
     let address = put_leaf(volume, dbd, after, behind, code, bytes)?;
     name_leaf(volume, dbd, parent, after, behind, code, address)?;

@@ -45,7 +45,6 @@ pub fn below<S: BlockStore>(volume: &mut Volume<S>, dbd: &Dbd, address: u32) -> 
     ensures value { IfOk result (λ r. IsTrue volume.old.is_sound → r ≡ child_among (links_of dbd.now.types volume.old) address (child_types dbd.now.types ((links_of dbd.now.types volume.old).code address))) }
     ensures refusal { IfErr result (λ e. e ≡ Refused.Device) }
 {
-    let _ = dbd.types();
     let segment = volume.segment_at(address)?;
     let types = dbd.children_of(code_in(segment));
     Ok(child_in(dbd, segment, types))
@@ -64,7 +63,6 @@ pub fn below_later<S: BlockStore>(
     ensures value { IfOk result (λ r. IsTrue volume.old.is_sound → r ≡ child_among (links_of dbd.now.types volume.old) address (later_than code (child_types dbd.now.types ((links_of dbd.now.types volume.old).code address)))) }
     ensures refusal { IfErr result (λ e. e ≡ Refused.Device) }
 {
-    let _ = dbd.types();
     let segment = volume.segment_at(address)?;
     let types = later_than(code, dbd.children_of(code_in(segment)));
     Ok(child_in(dbd, segment, types))

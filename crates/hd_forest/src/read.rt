@@ -45,7 +45,6 @@ fn read_pointer<S: BlockStore>(
     ensures value { IfOk result (λ r. IsTrue volume.old.is_sound → r ≡ pointer_at dbd.now.types volume.old pointer address) }
     ensures refusal { IfErr result (λ e. e ≡ Refused.Device) }
 {
-    let _ = dbd.types();
     let segment = volume.segment_at(address)?;
     Ok(pointer_in(dbd, segment, pointer))
 }
@@ -62,7 +61,6 @@ pub fn code_at<S: BlockStore>(
     ensures value { IfOk result (λ r. IsTrue volume.old.is_sound → r ≡ (links_of dbd.now.types volume.old).code address) }
     ensures refusal { IfErr result (λ e. e ≡ Refused.Device) }
 {
-    let _ = dbd.types();
     let segment = volume.segment_at(address)?;
     Ok(code_in(segment))
 }
@@ -198,7 +196,6 @@ pub fn prev_twin<S: BlockStore>(
     ensures value { IfOk result (λ r. IsTrue volume.old.is_sound → CanUnlink dbd.now.types (links_of dbd.now.types volume.old) (parent_on path.now) r (tip path.now)) }
     ensures refusal { IfErr result (λ e. e ≡ Refused.Device) }
 {
-    let _ = dbd.types();
     let (parent, address) = (parent_on(path), tip_of(path));
     let code = code_at(volume, dbd, address)?;
     if keeps_backward(dbd, code) {

@@ -33,7 +33,6 @@ pub fn unlink_span<S: BlockStore>(
     ensures refusal { IfErr result (λ e. e ≡ Refused.Device) }
     ensures room { volume.new.room ≡ volume.old.room }
 {
-    let _ = dbd.types();
     let (parent, address) = (parent_on(path), tip_of(path));
     let before = prev_twin(volume, dbd, path)?;
     let code = code_at(volume, dbd, address)?;
@@ -52,7 +51,6 @@ fn free_span<S: BlockStore>(volume: &mut Volume<S>, dbd: &Dbd, address: u32) -> 
     ensures refusal { IfErr result (λ e. e ≡ Refused.Device) }
     ensures room { volume.new.room ≡ volume.old.room }
 {
-    let _ = dbd.types();
     let mut path = Path::new();
     path.push(address);
     let mut down = true;
@@ -176,6 +174,5 @@ fn free_record<S: BlockStore>(
     ensures refusal { IfErr result (λ e. e ≡ Refused.Device) }
     ensures room { volume.new.room ≡ volume.old.room }
 {
-    let _ = dbd.types();
     volume.free(address)
 }

@@ -25,7 +25,6 @@ pub fn next_row<S: BlockStore>(
     ensures kept { IfErr result (λ _. path.new ≡ path.old) }
     ensures refusal { IfErr result (λ e. e ≡ Refused.Device) }
 {
-    let _ = dbd.types();
     let address = next_address(volume, dbd, path)?;
     step(volume, dbd, path, address)
 }
@@ -44,7 +43,6 @@ pub fn next_after_span<S: BlockStore>(
     ensures kept { IfErr result (λ _. path.new ≡ path.old) }
     ensures refusal { IfErr result (λ e. e ≡ Refused.Device) }
 {
-    let _ = dbd.types();
     let address = behind(volume, dbd, path)?;
     step(volume, dbd, path, address)
 }
@@ -85,7 +83,6 @@ fn next_address<S: BlockStore>(
     ensures value { IfOk result (λ r. IsTrue volume.old.is_sound → r ≡ next_row dbd.now.types (links_of dbd.now.types volume.old) path.now) }
     ensures refusal { IfErr result (λ e. e ≡ Refused.Device) }
 {
-    let _ = dbd.types();
     let last = tip_of(path);
     if last == 0 {
         return Ok(volume.first_root());
@@ -134,7 +131,6 @@ pub fn beside<S: BlockStore>(
     ensures value { IfOk result (λ r. IsTrue volume.old.is_sound → r ≡ first_some ((links_of dbd.now.types volume.old).forward address) (child_among (links_of dbd.now.types volume.old) parent (later_than ((links_of dbd.now.types volume.old).code address) (child_types dbd.now.types ((links_of dbd.now.types volume.old).code parent))))) }
     ensures refusal { IfErr result (λ e. e ≡ Refused.Device) }
 {
-    let _ = dbd.types();
     let twin = next_twin(volume, dbd, address)?;
     if twin != 0 || parent == 0 {
         return Ok(twin);

@@ -67,7 +67,7 @@ module _ (d : Database) (v : VolumeState) (largest : ℕ) (fit : IsDatabase d) (
 
 pub new-empty : NewVolumesAreEmpty
 new-empty d v largest fit size sizes created = record {
-  volume = record { formatted = created.formatted; size = size; sizes = sizes };
+  volume = record { fit = fit; formatted = created.formatted; size = size; sizes = sizes };
   name = ap (λ (h : Header). h.name) created.header;
   block_size = ap (λ (h : Header). h.block_size) created.header;
   records = holds-none d v largest fit size created;

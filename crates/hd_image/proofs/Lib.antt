@@ -1,4 +1,5 @@
 pub mod SameRecords
+pub mod OneImage
 pub mod Roots
 pub mod Found
 pub mod Saying

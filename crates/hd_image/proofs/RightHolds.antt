@@ -93,7 +93,7 @@ pub right-holds : RightVolumesHoldAForest
 right-holds d v fit r =
     let H : ℕ → Type 0 = λ size. HasHeader size v.image in
     let formatted : IsFormatted v = record { header = subst H (sym r.sized.size) r.blocks.header; divided = r.blocks.divided } in
-    let volume : IsVolumeOf d v = record { formatted = formatted; size = r.sized.size; sizes = r.sized.sizes } in
+    let volume : IsVolumeOf d v = record { fit = fit; formatted = formatted; size = r.sized.size; sizes = r.sized.sizes } in
     let m : Links = links_of d.types v in
     let G : IsLinkGraph d.types (length v.image) m = records-link d v fit volume in
     let E = exists d.types (ordered d.block_size d.frspc d.types fit) (length v.image) m G r.pointers in (

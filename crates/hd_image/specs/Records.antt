@@ -1,8 +1,9 @@
 -- The link graph of a volume: what the records of its image say, by their addresses.
-use Rattle.std.specs.Prelude.{◌≡◌, ℕ, List, [], ◌||◌, ◌==◌, cond, is_some}
+use Rattle.std.specs.Prelude.{◌≡◌, ℕ, List, [], ◌||◌, ◌==◌, cond, is_some, IsTrue}
 use Rattle.std.specs.Option.{option_map_or}
 use Rattle.hd_dbd.specs.Types.{SegmentType}
 use Rattle.hd_dbd.specs.Hierarchy.{Database}
+use Rattle.hd_dbd.specs.DatabaseRules.{well_formed}
 use Rattle.hd_dbd.specs.Facts.{stored_sizes}
 use Rattle.hd_volume.specs.Headers.{header_of}
 use Rattle.hd_volume.specs.Volumes.{VolumeState, IsFormatted}
@@ -34,9 +35,10 @@ links_of types v = record {
   last_child = λ a t. cond (a == 0) (header_of v.image).last_root (pointer_at types v (LastChild t) a);
 }
 
--- What the calls on the segments of a database ask of a volume: a header, extents in every data block, and blocks and
--- segments of the database's sizes.
+-- What the calls on the segments of a database ask of a volume: a database that its constructor accepts, a header, extents in
+-- every data block, and blocks and segments of the database's sizes.
 pub record IsVolumeOf (d : Database) (v : VolumeState) : Type 0 where
+  pub fit : IsTrue (well_formed d.block_size d.frspc d.types)
   pub formatted : IsFormatted v
   pub size : v.size ≡ d.block_size
   pub sizes : v.sizes ≡ stored_sizes d.types

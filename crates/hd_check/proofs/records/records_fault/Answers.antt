@@ -7,12 +7,12 @@ use Rattle.hd_volume.proofs.CallSteps.{read-ok, reads-join}
 use Rattle.hd_volume.proofs.PutLemmas.{if-some-map}
 use Rattle.hd_links.specs.Links.{Links, IsSegment}
 use Rattle.hd_image.specs.Records.{links_of}
+use Rattle.hd_image.proofs.OneImage.{links-same, volume-same}
 use Rattle.hd_image.proofs.Roots.{header-code}
 use Rattle.hd_check.specs.declared.segments.Place.{Place}
 use Rattle.hd_check.specs.Judging.{IsRecordRight, IsWrongRecord}
 use Rattle.hd_check.proofs.Lookups.{place-at, among}
-use Rattle.hd_check.proofs.Lent.{links-same}
-use Rattle.hd_check.proofs.RecordSteps.{from-none, places-same, before-right, all-right}
+use Rattle.hd_check.proofs.RecordSteps.{from-none, some-none, places-same, before-right, all-right}
 use Rattle.hd_check.proofs.TypedRecords.{typed, wrong-least}
 use Rattle.hd_check.proofs.records.records_fault.Goals as goal
 
@@ -34,6 +34,15 @@ fault_at-requires-clause-there g c = λ now.
     let same = links-same types v w (i.read.image now) i.read.call.size i.read.call.sizes in
     let at = (c.requires.places sound).there (place-at c.args.places.now c.loop-place.place-index) (among c.args.places.now c.loop-place.place-index c.loop-place-test.true) in
     subst (λ (m : Links). IsSegment m (place-at c.args.places.now c.loop-place.place-index).address) (sym same) at.0
+
+pub fault_at-requires-clause-of : goal.fault_at-requires-clause-of
+fault_at-requires-clause-of g c = λ now.
+    let i = c.loop-place.invariant in
+    let sound : IsTrue c.args.volume.now.is_sound = rw (← i.read.call.sound) now in
+    volume-same c.args.dbd.now c.args.volume.now c.loop-place.volume (i.read.image now) i.read.call.size i.read.call.sizes (c.requires.of sound)
+
+pub returns-then-is_some-2-clause-none : goal.returns-then-is_some-2-clause-none
+returns-then-is_some-2-clause-none g c = λ sound. some-none _ c.in_ok-found.found (sym c.is_some-in-loop-place.ensures ∙ c.if-is_some-2.true)
 
 pub returns-then-is_some-2-clause-read : goal.returns-then-is_some-2-clause-read
 returns-then-is_some-2-clause-read g c = reads-join (Ok c.in_ok-found.found) c.loop-place.invariant.read c.in_ok-found.ensures.read

@@ -22,7 +22,7 @@ use Rattle.hd_forest.proofs.change.link.Goals as goal
 pub twin_behind-requires-clause-there : goal.twin_behind-requires-clause-there
 twin_behind-requires-clause-there g c sound =
     let row : Segment = record { code = c.args.code; bytes = c.args.bytes.now } in
-    (has-place c.args.dbd.now c.args.volume.now c.args.parent c.args.after row c.types.ensures.fit (c.requires.of sound) (c.requires.holds sound) (c.requires.place sound)).before
+    (has-place c.args.dbd.now c.args.volume.now c.args.parent c.args.after row (c.requires.of sound).fit (c.requires.of sound) (c.requires.holds sound) (c.requires.place sound)).before
 
 pub put_leaf-requires-clause-of : goal.put_leaf-requires-clause-of
 put_leaf-requires-clause-of g c now =
@@ -68,7 +68,7 @@ name_leaf-requires-clause-before g c now =
     let sound = sound-before u v c.in_ok-behind.ensures.read there in
     let same = after-read d u v c.in_ok-behind.ensures.read sound in
     let put = c.in_ok-address.ensures.put there in
-    let place = has-place d u c.args.parent c.args.after row c.types.ensures.fit (c.requires.of sound) (c.requires.holds sound) (c.requires.place sound) in
+    let place = has-place d u c.args.parent c.args.after row (c.requires.of sound).fit (c.requires.of sound) (c.requires.holds sound) (c.requires.place sound) in
     place-put d.types (links_of d.types v) (links_of d.types w) c.args.parent c.args.code c.args.after c.in_ok-address.address put.segment put.free put.records
     (subst (λ (m : Links). IsTwinPlace d.types m c.args.parent c.args.code c.args.after) (sym same.links) place.before)
 
@@ -83,7 +83,7 @@ name_leaf-requires-clause-behind g c now =
     let sound = sound-before u v c.in_ok-behind.ensures.read there in
     let same = after-read d u v c.in_ok-behind.ensures.read sound in
     let put = c.in_ok-address.ensures.put there in
-    let place = has-place d u c.args.parent c.args.after row c.types.ensures.fit (c.requires.of sound) (c.requires.holds sound) (c.requires.place sound) in
+    let place = has-place d u c.args.parent c.args.after row (c.requires.of sound).fit (c.requires.of sound) (c.requires.holds sound) (c.requires.place sound) in
     place-put d.types (links_of d.types v) (links_of d.types w) c.args.parent c.args.code c.in_ok-behind.behind c.in_ok-address.address put.segment put.free put.records
     (subst (λ (m : Links). IsTwinPlace d.types m c.args.parent c.args.code c.in_ok-behind.behind) (sym same.links)
     (subst (λ (b : ℕ). IsTwinPlace d.types (links_of d.types u) c.args.parent c.args.code b) (sym (c.in_ok-behind.ensures.value sound)) place.behind))
@@ -117,6 +117,6 @@ returns-clause-linked g c sound =
     let same = after-read d u v c.in_ok-behind.ensures.read sound in
     let read = c.in_ok-behind.ensures.read.call in
     let now = sound-as w.is_sound v.is_sound (sym c.in_ok-address.ensures.call.sound) same.sound in
-    link-done d u v w c.name_leaf.new.volume c.args.parent c.args.after c.in_ok-behind.behind c.in_ok-address.address row c.types.ensures.fit (c.requires.of sound) (c.requires.holds sound)
+    link-done d u v w c.name_leaf.new.volume c.args.parent c.args.after c.in_ok-behind.behind c.in_ok-address.address row (c.requires.of sound).fit (c.requires.of sound) (c.requires.holds sound)
     (c.requires.place sound) same.image read.size read.sizes (same.volume (c.requires.of sound)) (c.in_ok-behind.ensures.value sound)
     (c.in_ok-address.ensures.put same.sound) (c.in_ok-name_leaf.ensures.named now)

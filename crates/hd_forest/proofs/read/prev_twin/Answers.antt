@@ -15,7 +15,7 @@ pub code_at-requires-clause-there : goal.code_at-requires-clause-there
 code_at-requires-clause-there g c sound =
     let d = c.args.dbd.now in
     let u = c.args.volume.now in
-    let H = held d u c.types.ensures.fit (c.requires.of sound) (c.requires.holds sound) in
+    let H = held d u (c.requires.of sound).fit (c.requires.of sound) (c.requires.holds sound) in
     (last-below d u c.args.path.now c.parent_on-parent.result c.tip_of-address.result H (c.requires.there sound) c.parent_on-parent.ensures c.tip_of-address.ensures).there
 
 pub read_pointer-requires-clause-of : goal.read_pointer-requires-clause-of
@@ -30,7 +30,7 @@ read_pointer-requires-clause-there g c now =
     let u = c.args.volume.now in
     let sound = sound-before u c.code_at.new.volume c.in_ok-code.ensures.read now in
     let same = after-read d u c.code_at.new.volume c.in_ok-code.ensures.read sound in
-    let H = held d u c.types.ensures.fit (c.requires.of sound) (c.requires.holds sound) in
+    let H = held d u (c.requires.of sound).fit (c.requires.of sound) (c.requires.holds sound) in
     let B = last-below d u c.args.path.now c.parent_on-parent.result c.tip_of-address.result H (c.requires.there sound) c.parent_on-parent.ensures c.tip_of-address.ensures in
     subst (λ (m : Links). IsSegment m c.tip_of-address.result) (sym same.links) B.there
 
@@ -44,7 +44,7 @@ returns-then-keeps_backward-clause-value g c = if-ok c.read_pointer.result c.rea
     let u = c.args.volume.now in
     let m : Links = links_of d.types u in
     let same = after-read d u c.code_at.new.volume c.in_ok-code.ensures.read sound in
-    let H = held d u c.types.ensures.fit (c.requires.of sound) (c.requires.holds sound) in
+    let H = held d u (c.requires.of sound).fit (c.requires.of sound) (c.requires.holds sound) in
     let B = last-below d u c.args.path.now c.parent_on-parent.result c.tip_of-address.result H (c.requires.there sound) c.parent_on-parent.ensures c.tip_of-address.ensures in
     let a : ℕ = c.tip_of-address.result in
     let kept : is_backward_kept d.types (m.code a) ≡ true =
@@ -67,7 +67,7 @@ first_child-requires-clause-there g c now =
     let u = c.args.volume.now in
     let sound = sound-before u c.code_at.new.volume c.in_ok-code.ensures.read now in
     let same = after-read d u c.code_at.new.volume c.in_ok-code.ensures.read sound in
-    let H = held d u c.types.ensures.fit (c.requires.of sound) (c.requires.holds sound) in
+    let H = held d u (c.requires.of sound).fit (c.requires.of sound) (c.requires.holds sound) in
     let B = last-below d u c.args.path.now c.parent_on-parent.result c.tip_of-address.result H (c.requires.there sound) c.parent_on-parent.ensures c.tip_of-address.ensures in
     subst (λ (m : Links). m.here c.parent_on-parent.result ≡ true) (sym same.links) B.parent
 
@@ -90,7 +90,7 @@ twin_before-requires-clause-there g c now =
     let sound = sound-before u w both now in
     let mid = after-read d u c.code_at.new.volume c.in_ok-code.ensures.read sound in
     let same = after-read d u w both sound in
-    let H = held d u c.types.ensures.fit (c.requires.of sound) (c.requires.holds sound) in
+    let H = held d u (c.requires.of sound).fit (c.requires.of sound) (c.requires.holds sound) in
     let B = last-below d u c.args.path.now c.parent_on-parent.result c.tip_of-address.result H (c.requires.there sound) c.parent_on-parent.ensures c.tip_of-address.ensures in
     let a : ℕ = c.tip_of-address.result in
     let h : ℕ = c.parent_on-parent.result in
@@ -111,7 +111,7 @@ returns-clause-value g c = if-ok c.twin_before.result c.twin_before.ensures.valu
     let both = reads-join (Ok c.in_ok-first.first) c.in_ok-code.ensures.read c.in_ok-first.ensures.read in
     let mid = after-read d u c.code_at.new.volume c.in_ok-code.ensures.read sound in
     let same = after-read d u w both sound in
-    let H = held d u c.types.ensures.fit (c.requires.of sound) (c.requires.holds sound) in
+    let H = held d u (c.requires.of sound).fit (c.requires.of sound) (c.requires.holds sound) in
     let B = last-below d u c.args.path.now c.parent_on-parent.result c.tip_of-address.result H (c.requires.there sound) c.parent_on-parent.ensures c.tip_of-address.ensures in
     let a : ℕ = c.tip_of-address.result in
     let h : ℕ = c.parent_on-parent.result in

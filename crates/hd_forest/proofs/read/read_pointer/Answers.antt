@@ -7,7 +7,7 @@ pub returns-clause-value : goal.returns-clause-value
 returns-clause-value g c sound =
     let d = c.args.dbd.now in
     let s = c.in_ok-segment.segment.now in
-    let fit = c.types.ensures.fit in
+    let fit = (c.requires.of sound).fit in
     let of = c.requires.of sound in
     let there = c.requires.there sound in
     let found = c.in_ok-segment.ensures.value sound in

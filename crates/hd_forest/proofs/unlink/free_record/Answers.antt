@@ -16,5 +16,5 @@ returns-clause-freed g c = by c.free.result c.free.ensures.freed
 
     by : (r : Result (Unit {0}) Refused) → OnOk r (IsTrue c.args.volume.now.is_sound → IsFreed c.args.volume.now c.args.address c.free.new.self)
         → OnOk r (IsTrue c.args.volume.now.is_sound → IsRecorded d c.args.volume.now (without_record (links_of d.types c.args.volume.now) c.args.address) c.free.new.self)
-    by (Ok x) h = λ sound. freed-record d c.args.volume.now c.free.new.self c.args.address c.types.ensures.fit (c.requires.of sound) (c.requires.there sound) c.free.ensures.call.size c.free.ensures.call.sizes (h sound)
+    by (Ok x) h = λ sound. freed-record d c.args.volume.now c.free.new.self c.args.address (c.requires.of sound).fit (c.requires.of sound) (c.requires.there sound) c.free.ensures.call.size c.free.ensures.call.sizes (h sound)
     by (Err e) h = tt

@@ -21,13 +21,13 @@ loop-init g c =
     let d = c.args.dbd.now in
     let u = c.args.volume.now in
     let m : Links = links_of d.types u in
-    let fit = c.types.ensures.fit in
     record {
       call = call-none u 0;
       room = refl;
       volume_is = λ sound. c.requires.of sound;
       keeps = λ sound. keeps-refl u;
       left = λ sound under S.
+          let fit = (c.requires.of sound).fit in
           let G = records-link d u fit (c.requires.of sound) in
           let most : c.saturating_mul-most.result - 0 ≡ length u.image * 2 =
           (let e = c.saturating_mul-most.ensures in let len : c.length.result ≡ length u.image = c.length.ensures sound in let low = twice-fits d u fit (c.requires.of sound) in omega arith) in
@@ -41,7 +41,7 @@ returns-then-is_empty-clause-freed g c sound under S =
     let d = c.args.dbd.now in
     let u = c.args.volume.now in
     let m : Links = links_of d.types u in
-    let fit = c.types.ensures.fit in
+    let fit = (c.requires.of sound).fit in
     let G = records-link d u fit (c.requires.of sound) in
     let inv = c.loop.invariant in
     let none : c.loop.path ≡ [] = no-length c.loop.path (ap length (sym c.addresses.ensures.value) ∙ eqb-true (length c.addresses.result.now) 0 (sym c.is_empty.ensures ∙ c.if-is_empty.true)) in
@@ -60,9 +60,9 @@ free_next-requires-clause-there g c now =
     let d = c.args.dbd.now in
     let u = c.args.volume.now in
     let m : Links = links_of d.types u in
-    let fit = c.types.ensures.fit in
     let inv = c.loop.invariant in
     let sound : IsTrue u.is_sound = rw (← inv.call.sound) now in
+    let fit = (c.requires.of sound).fit in
     let G = records-link d u fit (c.requires.of sound) in
     let S = c.requires.there sound in
     on-way d fit (length u.image) c.args.address m G S.0 S.1 (c.saturating_mul-most.result - c.loop.counter) (links_of d.types c.loop.volume) c.loop.path c.loop.down (inv.left sound S.0 S.1)
@@ -72,9 +72,9 @@ free_next-requires-clause-deep g c now asked more =
     let d = c.args.dbd.now in
     let u = c.args.volume.now in
     let m : Links = links_of d.types u in
-    let fit = c.types.ensures.fit in
     let inv = c.loop.invariant in
     let sound : IsTrue u.is_sound = rw (← inv.call.sound) now in
+    let fit = (c.requires.of sound).fit in
     let G = records-link d u fit (c.requires.of sound) in
     let S = c.requires.there sound in
     has-room d fit (length u.image) c.args.address m G S.0 S.1 (c.saturating_mul-most.result - c.loop.counter) (links_of d.types c.loop.volume) c.loop.path c.loop.down (inv.left sound S.0 S.1)
@@ -87,7 +87,6 @@ loop-preserved g c =
     let v = c.loop.volume in
     let w = c.free_next.new.volume in
     let m : Links = links_of d.types u in
-    let fit = c.types.ensures.fit in
     let inv = c.loop.invariant in
     let done = λ (sound : IsTrue u.is_sound). (let now : IsTrue v.is_sound = rw inv.call.sound sound in c.in_ok-down.ensures.freed now) in
     record {
@@ -96,6 +95,7 @@ loop-preserved g c =
       volume_is = λ sound. (done sound).records.volume;
       keeps = λ sound. keeps-trans (inv.volume_is sound).formatted (inv.keeps sound) (done sound).records.keeps;
       left = λ sound under S.
+          let fit = (c.requires.of sound).fit in
           let G = records-link d u fit (c.requires.of sound) in
           let more : c.saturating_mul-most.result - c.loop.counter ≡ suc (c.saturating_mul-most.result - (c.loop.counter + 1)) = (let t = c.loop-test.true in omega arith) in
           let some = some-path c.loop.path c.addresses.result.now c.is_empty.result c.addresses.ensures.value c.is_empty.ensures c.if-is_empty.false in
@@ -109,7 +109,7 @@ returns-clause-freed g c sound under S =
     let d = c.args.dbd.now in
     let u = c.args.volume.now in
     let m : Links = links_of d.types u in
-    let fit = c.types.ensures.fit in
+    let fit = (c.requires.of sound).fit in
     let G = records-link d u fit (c.requires.of sound) in
     let inv = c.loop.invariant in
     let k : Links = links_of d.types c.loop.volume in

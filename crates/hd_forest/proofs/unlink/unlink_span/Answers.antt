@@ -30,7 +30,7 @@ code_at-requires-clause-there g c =
     let d = c.args.dbd.now in
     let u = c.args.volume.now in
     links-kept d (λ (m : Links). IsSegment m c.tip_of-address.result) u c.prev_twin.new.volume c.in_ok-before.ensures.read
-    (λ sound. (last-below d u c.args.path.now c.parent_on-parent.result c.tip_of-address.result (held d u c.types.ensures.fit (c.requires.of sound) (c.requires.holds sound)) (c.requires.there sound)
+    (λ sound. (last-below d u c.args.path.now c.parent_on-parent.result c.tip_of-address.result (held d u (c.requires.of sound).fit (c.requires.of sound) (c.requires.holds sound)) (c.requires.there sound)
     c.parent_on-parent.ensures c.tip_of-address.ensures).there)
 
 pub next_twin-requires-clause-of : goal.next_twin-requires-clause-of
@@ -42,7 +42,7 @@ next_twin-requires-clause-there g c =
     let d = c.args.dbd.now in
     let u = c.args.volume.now in
     links-kept d (λ (m : Links). IsSegment m c.tip_of-address.result) u c.code_at.new.volume (reads-join (Ok c.in_ok-code.code) c.in_ok-before.ensures.read c.in_ok-code.ensures.read)
-    (λ sound. (last-below d u c.args.path.now c.parent_on-parent.result c.tip_of-address.result (held d u c.types.ensures.fit (c.requires.of sound) (c.requires.holds sound)) (c.requires.there sound)
+    (λ sound. (last-below d u c.args.path.now c.parent_on-parent.result c.tip_of-address.result (held d u (c.requires.of sound).fit (c.requires.of sound) (c.requires.holds sound)) (c.requires.there sound)
     c.parent_on-parent.ensures c.tip_of-address.ensures).there)
 
 pub set_following-requires-clause-of : goal.set_following-requires-clause-of
@@ -64,7 +64,7 @@ set_following-requires-clause-there g c now =
     let one = after-read d u c.prev_twin.new.volume c.in_ok-before.ensures.read sound in
     let F = c.requires.holds sound in
     let code : c.in_ok-code.code ≡ m.code (tip path) = c.in_ok-code.ensures.value one.sound ∙ ap (λ (k : Links). k.code c.tip_of-address.result) one.links ∙ ap m.code c.tip_of-address.ensures in
-    let place = place-before d u c.types.ensures.fit (c.requires.of sound) path (c.requires.there sound) y (c.in_ok-before.ensures.value sound) F.0 F.1 in
+    let place = place-before d u (c.requires.of sound).fit (c.requires.of sound) path (c.requires.there sound) y (c.in_ok-before.ensures.value sound) F.0 F.1 in
     subst (λ (k : Links). IsTwinPlace d.types k c.parent_on-parent.result c.in_ok-code.code y) (sym same.links)
     (subst (λ x. IsTwinPlace d.types m x c.in_ok-code.code y) (sym c.parent_on-parent.ensures) (subst (λ t. IsTwinPlace d.types m (parent_on path) t y) (sym code) place))
 
@@ -91,7 +91,7 @@ set_preceding-requires-clause-there g c now1 =
     by-all (λ h a t w. IsRecorded d v (following m h t y w) v1) c.parent_on-parent.result (parent_on path) c.tip_of-address.result (tip path) c.in_ok-code.code (m.code (tip path)) c.in_ok-behind.behind (m.forward (tip path))
     c.parent_on-parent.ensures c.tip_of-address.ensures code behind
     (subst (λ (k : Links). IsRecorded d v (following k c.parent_on-parent.result c.in_ok-code.code y c.in_ok-behind.behind) v1) same.links (c.in_ok-set_following.ensures.set same.sound)) in
-    let place = place-behind d u c.types.ensures.fit (c.requires.of sound) path (c.requires.there sound) y (c.in_ok-before.ensures.value sound) F.0 F.1 (links_of d.types v1) set.records in
+    let place = place-behind d u (c.requires.of sound).fit (c.requires.of sound) path (c.requires.there sound) y (c.in_ok-before.ensures.value sound) F.0 F.1 (links_of d.types v1) set.records in
     by-all (λ h a t w. IsTwinPlace d.types (links_of d.types v1) h t w) (parent_on path) c.parent_on-parent.result (tip path) c.tip_of-address.result (m.code (tip path)) c.in_ok-code.code (m.forward (tip path)) c.in_ok-behind.behind
     (sym c.parent_on-parent.ensures) (sym c.tip_of-address.ensures) (sym code) (sym behind) place
 
@@ -126,7 +126,7 @@ free_span-requires-clause-there g c now2 =
     by-all (λ h a t w. IsRecorded d v1 (preceding m1 h t w y) v2) c.parent_on-parent.result (parent_on path) c.tip_of-address.result (tip path) c.in_ok-code.code (m.code (tip path)) c.in_ok-behind.behind (m.forward (tip path))
     c.parent_on-parent.ensures c.tip_of-address.ensures code behind (c.in_ok-set_preceding.ensures.set now1) in
     subst (HasSpan d.types (links_of d.types v2)) (sym c.tip_of-address.ensures)
-    (span-there d u c.types.ensures.fit (c.requires.of sound) path (c.requires.there sound) y (c.in_ok-before.ensures.value sound) F.0 F.1 m1 (links_of d.types v2) set.records back.records)
+    (span-there d u (c.requires.of sound).fit (c.requires.of sound) path (c.requires.there sound) y (c.in_ok-before.ensures.value sound) F.0 F.1 m1 (links_of d.types v2) set.records back.records)
 
 pub returns-clause-unlinked : goal.returns-clause-unlinked
 returns-clause-unlinked g c = on-ok c.free_span.result c.free_span.ensures.freed (λ free sound.
@@ -158,4 +158,4 @@ returns-clause-unlinked g c = on-ok c.free_span.result c.free_span.ensures.freed
     let w = c.free_span.new.volume in
     let now2 : IsTrue v2.is_sound = rw c.in_ok-set_preceding.ensures.call.sound now1 in
     let freed = subst (λ x. (under : Forest Placed) → IsSpan d.types (links_of d.types v2) x under → IsRecorded d v2 (without_span_of (links_of d.types v2) x under) w) c.tip_of-address.ensures (free now2) in
-    done d u c.types.ensures.fit (c.requires.of sound) path (c.requires.there sound) y (c.in_ok-before.ensures.value sound) v v1 v2 w F.0 F.1 all sound (same.volume (c.requires.of sound)) set back freed)
+    done d u (c.requires.of sound).fit (c.requires.of sound) path (c.requires.there sound) y (c.in_ok-before.ensures.value sound) v v1 v2 w F.0 F.1 all sound (same.volume (c.requires.of sound)) set back freed)

@@ -27,8 +27,8 @@ returns-then-twin-ne0-clause-value g c sound =
           let some : 0 < m.forward a = subst (λ x. 0 < x) twin (elim (zero_or c.in_ok-twin.twin) [ inl z ↦ absurd (ne z) | inr p ↦ p ]) in
           twin ∙ sym (some_own (m.forward a) (child_among m h (later_than (m.code a) (child_types d.types (m.code h)))) some))
       | then-twin-ne0-via-else-twin-ne0+then-parent-eq0 w ↦
-          (let G = records-link d u c.types.ensures.fit (c.requires.of sound) in
-          let O = ordered d.block_size d.frspc d.types c.types.ensures.fit in
+          (let G = records-link d u (c.requires.of sound).fit (c.requires.of sound) in
+          let O = ordered d.block_size d.frspc d.types (c.requires.of sound).fit in
           twin ∙ sym (none-later d.types m h a w.if-parent-eq0.true G.header_code (segment_code d.types O (length u.image) m G a (c.requires.there sound))))
     ]
 

@@ -32,7 +32,7 @@ returns-then-last-eq0-clause-value g c sound =
     let d = c.args.dbd.now in
     let u = c.args.volume.now in
     let m : Links = links_of d.types u in
-    let G = records-link d u c.types.ensures.fit (c.requires.of sound) in
+    let G = records-link d u (c.requires.of sound).fit (c.requires.of sound) in
     let none : c.args.path.now ≡ [] = no-path m c.args.path.now (c.requires.there sound) (sym c.tip_of-last.ensures ∙ c.if-last-eq0.true) in
     c.first_root.ensures sound (c.requires.of sound).formatted.header.first
     ∙ sym (first-root d.types m G.header_code)

@@ -17,7 +17,7 @@ step-requires-clause-there g c =
     links-kept d (λ (m : Links). 0 < c.in_ok-address.address → IsSegment m c.in_ok-address.address) u c.next_address.new.volume c.in_ok-address.ensures.read
     (λ sound.
     let m : Links = links_of d.types u in
-    let H = held d u c.types.ensures.fit (c.requires.of sound) (c.requires.holds sound) in
+    let H = held d u (c.requires.of sound).fit (c.requires.of sound) (c.requires.holds sound) in
     subst (MayBe m) (sym (c.in_ok-address.ensures.value sound)) (next-may d.types m H.linked.typed refl c.args.path.now (c.requires.there sound)))
 
 pub returns-clause-read : goal.returns-clause-read
