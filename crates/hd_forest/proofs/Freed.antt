@@ -17,7 +17,7 @@ use Rattle.hd_image.proofs.Puts.{freeing-takes}
 use Rattle.hd_forest.specs.Walks.{tip}
 use Rattle.hd_forest.specs.Spans.{below_on, beside_on, extended, Freeing, freed_last, freed_on, IsStep}
 use Rattle.hd_forest.specs.Sets.{KeepsBlocks, IsRecorded}
-use Rattle.hd_forest.proofs.Keeping.{keeps-freed, keeps-trans}
+use Rattle.hd_forest.proofs.Keeping.{keeps-freed, keeps-same, keeps-trans}
 
 -- the records are without it, in blocks that stay
 pub freed-record : (d : Database) (v w : VolumeState) (a : ℕ) → IsDatabase d → IsVolumeOf d v → IsSegment (links_of d.types v) a → w.size ≡ v.size → w.sizes ≡ v.sizes → IsFreed v a w
@@ -32,32 +32,10 @@ freed-record d v w a fit of there size sizes freed =
 
 -- ---- reads before
 
--- one image is kept
-keeps-image : (u v : VolumeState) → v.image ≡ u.image → v.size ≡ u.size → v.sizes ≡ u.sizes → KeepsBlocks u v
-keeps-image u v image size sizes = subst (KeepsBlocks u) (λ i. record v { image = sym image i; size = sym size i; sizes = sym sizes i }) same
-  where
-    same : KeepsBlocks u (record v { image = u.image; size = u.size; sizes = u.sizes })
-    same = record {
-      rest = record {
-        index = λ n is. refl;
-        others = λ n is. record { there = is.there; later = is.later; kind_is = is.kind_is };
-        data_blocks = λ n is. record { there = is.there; later = is.later; kind_is = is.kind_is };
-        header = refl;
-        kinds = λ h n there later. elim (h n there later) [
-          | inl k ↦ inl (record { there = k.there; later = k.later; kind_is = k.kind_is })
-          | inr (inl k) ↦ inr (inl (record { there = k.there; later = k.later; kind_is = k.kind_is }))
-          | inr (inr k) ↦ inr (inr (record { there = k.there; later = k.later; kind_is = k.kind_is }))
-        ];
-      };
-      count = refl;
-      spares = refl;
-      holes = λ n h. record { block = h.block; is_data = record { there = h.is_data.there; later = h.is_data.later; kind_is = h.is_data.kind_is }; large = h.large };
-    }
-
 pub recorded-after : {A : Type 0} {x : A} (d : Database) (m : Links) (u v w : VolumeState) → IsRead {T = A} u (Ok x) v → IsTrue u.is_sound → IsVolumeOf d v → IsRecorded d v m w → IsRecorded d u m w
 recorded-after d m u v w r sound of h =
     let now : IsTrue v.is_sound = rw r.call.sound sound in
-    record { volume = h.volume; records = h.records; keeps = keeps-trans of.formatted (keeps-image u v (r.image now) r.call.size r.call.sizes) h.keeps }
+    record { volume = h.volume; records = h.records; keeps = keeps-trans of.formatted (keeps-same u v (r.image now) r.call.size r.call.sizes) h.keeps }
 
 -- ---- the step
 
@@ -102,7 +80,7 @@ recorded-read d u v r sound of =
     record {
       volume = same.volume of;
       records = λ a. subst (λ (k : Links). AgreeAt d.types (links_of d.types u) k a) (sym same.links) (same-at a);
-      keeps = keeps-image u v same.image r.call.size r.call.sizes;
+      keeps = keeps-same u v same.image r.call.size r.call.sizes;
     }
   where
     same-at : (b : ℕ) → AgreeAt d.types (links_of d.types u) (links_of d.types u) b

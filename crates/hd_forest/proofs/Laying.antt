@@ -28,6 +28,7 @@ use Rattle.hd_image.specs.Laws.{IsDatabase}
 use Rattle.hd_image.proofs.Puts.{putting-adds, put-free}
 use Rattle.hd_forest.specs.Leaves.{IsLeaf, IsLeafPut}
 use Rattle.hd_forest.proofs.Keeping.{rest-put, count-put}
+use Rattle.hd_forest.proofs.Setting.{no-place}
 
 -- A row was made a new segment, and its twins' addresses were written.
 pub record AreLaid (types : List SegmentType) (c : ℕ) (row : List ℕ) (y x : ℕ) (s0 s1 s2 : List ℕ) : Type 0 where
@@ -84,14 +85,10 @@ bare-leaf types c row y x s half none = record {
   last_child = half.last_child;
 }
 
-kept-place : {A : Type 0} (b : Bool) (x : A) → cond b (Some x) None ≡ None → b ≡ true → ⊥
-kept-place true x e h = cc
-kept-place false x e h = cc
-
 backward-by : (types : List SegmentType) (c : ℕ) (row : List ℕ) (y x : ℕ) (s1 s2 : List ℕ) (o : Option ℕ) → place_of types c TwinBackward ≡ o → IsLeaf types (record { code = c; bytes = row }) 0 x s1
     → MatchOption o (s2 ≡ s1) (λ p. ChangesOnly p 4 s1 s2) → OnSome o (IsPointerSet types c TwinBackward y s1 s2) → IsLeaf types (record { code = c; bytes = row }) y x s2
 backward-by types c row y x s1 s2 None is half same set =
-    subst (λ s. IsLeaf types (record { code = c; bytes = row }) y x s) (sym same) (bare-leaf types c row y x s1 half (kept-place (is_backward_kept types c) 6 is))
+    subst (λ s. IsLeaf types (record { code = c; bytes = row }) y x s) (sym same) (bare-leaf types c row y x s1 half (no-place (is_backward_kept types c) 6 is))
 backward-by types c row y x s1 s2 (Some p) is half same set = whole-leaf types c row y x s1 s2 half set
 
 forward-by : {P : Type 0} (x : ℕ) (o : Option SegmentType) (t : SegmentType) → o ≡ Some t → OnSome (option_map (λ _. x) o) P → P

@@ -45,10 +45,6 @@ after-read d u v r s =
 
 -- ---- one segment
 
--- a segment is found
-pub has-segment : (d : Database) (v : VolumeState) (a : ℕ) → IsDatabase d → IsVolumeOf d v → IsSegment (links_of d.types v) a → HasSegment v a 0
-has-segment d v a fit of s = (let h = segment-found d v a fit of s in record { bytes = h.bytes; is = h.is; long = omega arith })
-
 -- What is found at a segment's address is stored there, as long as its type's segments are.
 pub record IsLent (types : List SegmentType) (v : VolumeState) (a : ℕ) (s : List ℕ) : Type 0 where
   pub stored : stored_at v a ≡ s

@@ -144,7 +144,8 @@ child-listed : (types : List SegmentType) (c t : ℕ) → c ≢ 0 → is_child_t
 child-listed types c t some h =
     sym (children_listed types c t) ∙ ap (λ (ts : List ℕ). list_any (λ u. u == t) ts) (sym (cond-false (c == 0) (1 ∷ []) (children_of types c) (ne_eqb c 0 some))) ∙ h
 
-no-place : {A : Type 0} (b : Bool) (x : A) → cond b (Some x) None ≡ None → b ≡ true → ⊥
+-- a place that is none is not kept
+pub no-place : {A : Type 0} (b : Bool) (x : A) → cond b (Some x) None ≡ None → b ≡ true → ⊥
 no-place true x e h = cc
 no-place false x e h = cc
 

@@ -5,6 +5,7 @@ use Rattle.std.specs.List.{list_all}
 use Rattle.std.proofs.lemmas.Bool.{and_parts}
 use Rattle.std.proofs.lemmas.List.Folds.{list_all-append}
 use Rattle.hd_bytes.specs.Numbers.{number_at}
+use Rattle.hd_volume.proofs.IndexLemmas.{entries-append}
 use Rattle.hd_volume.specs.Headers.{header_of}
 use Rattle.hd_volume.specs.Volumes.{VolumeState, block_at, IsKind}
 use Rattle.hd_volume.specs.Entries.{Entry, entry_blocks, entries_in, entries_of, entries}
@@ -99,12 +100,6 @@ none-not-above : (left : Option Entry) (xs ys : List Entry) → Ascend left (xs 
 none-not-above left [] ys h = refl
 none-not-above None (x ∷ xs) ys h = none-not-above (Some x) xs ys h.1
 none-not-above (Some l) (x ∷ xs) ys h = rw h.0 (none-not-above (Some x) xs ys h.1)
-
--- the entries of two parts of a chain
-entries-parts : (k : ℕ) (v : VolumeState) (xs ys : List ℕ) → entries_of k v (xs ++ ys) ≡ entries_of k v xs ++ entries_of k v ys
-entries-parts k v [] ys = refl
-entries-parts k v (x ∷ xs) ys =
-    ap (λ (es : List Entry). entries_in k (block_at v x) ++ es) (entries-parts k v xs ys) ∙ sym (append_assoc (entries_in k (block_at v x)) (entries_of k v xs) (entries_of k v ys))
 
 -- nothing was found, so nothing is named
 no-entry-found : (o : Option Entry) (x : ℕ) → o ≡ None → option_map (λ e. e.address) o ≡ Some x → ⊥
@@ -207,6 +202,6 @@ module _ (k : ℕ) (v : VolumeState) (h : HasIndex k v) where
       let later : List ℕ = f.2 in
       let E : List Entry → Type 0 = λ es. Ascend None es in
       let whole : Ascend None (entries_of k v before ++ (entries_in k (block_at v n) ++ entries_of k v later)) =
-      subst E (ap (entries_of k v) f.3 ∙ entries-parts k v before (n ∷ later)) (ascend-all (entries k v) h.ascend) in
+      subst E (ap (entries_of k v) f.3 ∙ entries-append k v before (n ∷ later)) (ascend-all (entries k v) h.ascend) in
       no-entry-found _ x (none-not-above (last_entry None (entries_of k v before)) (entries_in k (block_at v n)) (entries_of k v later)
       (ascend-behind None (entries_of k v before) (entries_in k (block_at v n) ++ entries_of k v later) whole)) f.4

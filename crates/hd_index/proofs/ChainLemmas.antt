@@ -18,6 +18,7 @@ use Rattle.hd_index.specs.Places.{seen_in, place_from, place_of, found_at, addre
 use Rattle.hd_index.proofs.MapLemmas.{ascend-parts, below-most, AreBelow, none-below, below-all, below-append, address-behind, from-behind, address-here, address-none, address-from-here}
 use Rattle.hd_index.proofs.BlockLemmas.{length-entries, get-within}
 use Rattle.std.proofs.lemmas.List.{append_assoc}
+use Rattle.hd_volume.proofs.IndexLemmas.{entries-append}
 
 -- What is left of the chain from a number on, if one is left: its keys ascend.
 pub record IsLeft (k : ℕ) (v : VolumeState) (n : ℕ) : Type 0 where
@@ -85,12 +86,6 @@ pub index-left : (k : ℕ) (v : VolumeState) → HasIndex k v → IsLeft k v (he
 index-left k v h = record { blocks = entry_blocks v; chain = h.chain; ascend = h.ascend }
 
 -- ---- a place in the chain
-
--- the entries of two parts of a chain
-pub entries-append : (k : ℕ) (v : VolumeState) (xs ys : List ℕ) → entries_of k v (xs ++ ys) ≡ entries_of k v xs ++ entries_of k v ys
-entries-append k v [] ys = refl
-entries-append k v (x ∷ xs) ys =
-    ap (λ (t : List Entry). entries_in k (block_at v x) ++ t) (entries-append k v xs ys) ∙ sym (append_assoc (entries_in k (block_at v x)) (entries_of k v xs) (entries_of k v ys))
 
 -- A place in a chain: a block of it, before which all entries are below a key, and how many in it are; some in it is not, or
 -- it is the last.

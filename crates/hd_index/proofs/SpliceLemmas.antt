@@ -12,7 +12,8 @@ use Rattle.hd_volume.specs.Indexes.{keys_ascend, entry_room, IsEntryBlock, IsCha
 use Rattle.hd_volume.proofs.KindLemmas.{below-count}
 use Rattle.hd_index.specs.declared.place.Place.{Place}
 use Rattle.hd_index.specs.Edits.{IsRun, IsSpliced}
-use Rattle.hd_index.proofs.ChainLemmas.{IsPlace, entries-append}
+use Rattle.hd_volume.proofs.IndexLemmas.{entries-append}
+use Rattle.hd_index.proofs.ChainLemmas.{IsPlace}
 
 -- ---- one of some numbers
 

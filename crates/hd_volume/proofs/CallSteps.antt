@@ -6,17 +6,9 @@ use Rattle.hd_volume.specs.Stores.{SoundFor, StaysSound}
 use Rattle.hd_volume.specs.Images.{KeepsFirst}
 use Rattle.hd_volume.specs.Volumes.{VolumeState}
 use Rattle.hd_volume.specs.Calls.{IsCall, IsRead}
-use Rattle.hd_volume.proofs.JoinLemmas.{calls-join}
+use Rattle.hd_volume.proofs.JoinLemmas.{calls-join, was-sound}
 
--- a store that is sound after a refusal was so before
-pub was-sound : (e : Refused) (a b : Bool) → SoundFor e a b → IsTrue b → IsTrue a
-was-sound Memory a b h s = rw (← h) s
-was-sound Full a b h s = rw (← h) s
-was-sound Broken a b h s = rw (← h) s
-was-sound Area a b h s = rw (← h) s
-was-sound Device a b h s = (let none : IsTrue false = rw h at s in absurd (cc))
-
--- and before any call
+-- a store that is sound after any call was so before
 pub sound-back : {A : Type 0} (r : Result A Refused) (a b : Bool) → StaysSound r a b → IsTrue b → IsTrue a
 sound-back (Ok x) a b h s = rw (← h) s
 sound-back (Err e) a b h s = was-sound e a b h s

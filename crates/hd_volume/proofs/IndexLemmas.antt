@@ -1,6 +1,7 @@
 -- On what the index depends.
 use Rattle.std.proofs.Common.{◌≡◌, ℕ, zero, suc, ◌+◌, ◌<◌, ◌≤◌, ◌⊎◌, inl, inr, List, [], ◌∷◌, ◌++◌, true, false, nat_lt, slice_index, refl, sym, ap, subst, ◌∙◌, arith, ne_eqb}
 use Rattle.std.proofs.lemmas.Bool.{cases_eq, eq-eqb, ltb-false, le-ltb}
+use Rattle.std.proofs.lemmas.List.{append_assoc}
 use Rattle.hd_bytes.specs.Numbers.{number_at}
 use Rattle.hd_volume.specs.Headers.{Header, header_of}
 use Rattle.hd_volume.specs.Volumes.{VolumeState, block_at, kind_of, IsKind, IsFormatted}
@@ -35,6 +36,12 @@ chain-same v w (suc more) n h keeps =
           ap (λ (i : ℕ). n ∷ chain_from w more i) same ∙ ap (λ (ns : List ℕ). n ∷ ns) rest in
           let f : chain_from w (suc more) n ≡ chain_from v (suc more) n = rw (ne_eqb n 0 some) e in f)
     ]
+
+-- the entries of two parts of a chain
+pub entries-append : (k : ℕ) (v : VolumeState) (xs ys : List ℕ) → entries_of k v (xs ++ ys) ≡ entries_of k v xs ++ entries_of k v ys
+entries-append k v [] ys = refl
+entries-append k v (x ∷ xs) ys =
+    ap (λ (t : List Entry). entries_in k (block_at v x) ++ t) (entries-append k v xs ys) ∙ sym (append_assoc (entries_in k (block_at v x)) (entries_of k v xs) (entries_of k v ys))
 
 -- the same entries in each block
 entries-same : (key_length : ℕ) (v w : VolumeState) (blocks : List ℕ) → AreIndex v blocks → KeepsIndex v w → entries_of key_length w blocks ≡ entries_of key_length v blocks

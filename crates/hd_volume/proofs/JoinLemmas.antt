@@ -278,7 +278,8 @@ counts-join e a b c same h = rw same at h
 sound-join : (e : Refused) (a b c : Bool) → b ≡ a → SoundFor e b c → SoundFor e a c
 sound-join e a b c same h = rw same at h
 
-was-sound : (e : Refused) (a b : Bool) → SoundFor e a b → IsTrue b → IsTrue a
+-- a store that is sound after a refusal was so before
+pub was-sound : (e : Refused) (a b : Bool) → SoundFor e a b → IsTrue b → IsTrue a
 was-sound Memory a b h s = rw (← h) s
 was-sound Full a b h s = rw (← h) s
 was-sound Broken a b h s = rw (← h) s
