@@ -3,3 +3,5 @@ pub mod Reading
 pub mod Places
 pub mod Judging
 pub mod Lending
+pub mod Tables
+pub mod IndexPhases

@@ -10,5 +10,6 @@ mod place;
 mod pointers;
 mod records;
 mod segments;
+mod tables;
 
 pub use fault::Fault;
