@@ -82,7 +82,7 @@ pub record Leveled (types : List SegmentType) : Type 0 where
   pub parents : (r : Segment) (p : ℕ) → row_fits types r ≡ true → parent_of types r.code ≡ Some p → 0 < level_of types p
 
 -- a row that fits has a type
-typed : (types : List SegmentType) (r : Segment) → row_fits types r ≡ true → (t : SegmentType) × (type_of types r.code ≡ Some t)
+pub typed : (types : List SegmentType) (r : Segment) → row_fits types r ≡ true → (t : SegmentType) × (type_of types r.code ≡ Some t)
 typed types r fits = some_type (type_of types r.code) fits
   where
     some_type : (o : Option SegmentType) → option_map_or (λ t. length r.bytes == t.length) o false ≡ true → (t : SegmentType) × (o ≡ Some t)

@@ -15,3 +15,4 @@ pub mod RowPaths
 pub mod Walks
 pub mod InSequence
 pub mod WorkedSample
+pub mod Loading

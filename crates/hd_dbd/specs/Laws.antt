@@ -1,5 +1,5 @@
 -- Laws of the definitions, for every well-formed list of types.
-use Rattle.std.specs.Prelude.{◌≡◌, ◌↔◌, ℕ, ◌+◌, ◌<◌, List, [], ◌∷◌, ◌++◌, length, true, Some, IsTrue, option_map}
+use Rattle.std.specs.Prelude.{◌≡◌, ◌↔◌, ℕ, ◌+◌, ◌<◌, List, [], ◌∷◌, ◌++◌, length, true, Some, None, IsTrue, option_map}
 use Rattle.std.specs.Option.{option_map_or}
 use Rattle.hd_dbd.specs.declared.hierarchy.FreeSpace.{FreeSpace}
 use Rattle.hd_dbd.specs.Types.{SegmentType}
@@ -9,6 +9,7 @@ use Rattle.hd_dbd.specs.DatabaseRules.{well_formed}
 use Rattle.hd_dbd.specs.Rows.{valid, row_fits, siblings_in_order, twins_in_order}
 use Rattle.hd_dbd.specs.Paths.{row_at, parent_row, path_of, have_one_parent, is_twin}
 use Rattle.hd_dbd.specs.Forest.{Forest, sequence, forest_fits}
+use Rattle.hd_dbd.specs.Loads.{last_path, load_fault}
 
 -- The level of a type is one more than its parent's, and the root's is 1.
 abbrev pub LevelsFollowParents : Type 0
@@ -56,3 +57,10 @@ abbrev pub PathsFollowParents : Type 0
 PathsFollowParents =
     (types : List SegmentType) (rows : List Segment) (i : ℕ)
     → path_of types rows i ≡ option_map_or (λ p. path_of types rows p) (parent_row types rows i) [] ++ i ∷ []
+
+-- A row of its type's length may be loaded behind valid rows just where they are valid with it.
+abbrev pub LoadedRowsAreValid : Type 0
+LoadedRowsAreValid =
+    (block_size : ℕ) (frspc : FreeSpace) (types : List SegmentType) (rows : List Segment) (new : Segment) → IsTrue (well_formed block_size frspc types)
+    → valid types rows ≡ true → row_fits types new ≡ true
+    → (load_fault types (last_path types rows) new ≡ None) ↔ (valid types (rows ++ new ∷ []) ≡ true)

@@ -17,5 +17,6 @@ pub mod Positions
 pub mod Calls
 pub mod Gets
 pub mod Logs
+pub mod Loads
 pub mod Laws
 pub mod Sample

@@ -1,4 +1,4 @@
-ghost use Rattle.hd_dbd.specs.Laws.{LevelsFollowParents, SequencesAreValid, ValidRowsAreOneForest, TwinsAscend, ValidRowsAreInSequence, PathsFollowParents};
+ghost use Rattle.hd_dbd.specs.Laws.{LevelsFollowParents, SequencesAreValid, ValidRowsAreOneForest, TwinsAscend, ValidRowsAreInSequence, PathsFollowParents, LoadedRowsAreValid};
 
 /// The level of a type is one more than its parent's, and the root's is 1.
 pub fn law_levels_follow_parents()
@@ -28,4 +28,9 @@ pub fn law_valid_rows_are_in_sequence()
 /// The path of a row is that of its parent, and the row.
 pub fn law_paths_follow_parents()
     ensures { PathsFollowParents }
+{}
+
+/// A row of its type's length may be loaded behind valid rows just where they are valid with it.
+pub fn law_loaded_rows_are_valid()
+    ensures { LoadedRowsAreValid }
 {}
