@@ -1,8 +1,9 @@
 -- When a volume holds a forest.
-use Rattle.std.specs.Prelude.{◌≡◌, List, [], ◌∷◌}
+use Rattle.std.specs.Prelude.{◌≡◌, ℕ, List, [], ◌∷◌, true}
 use Rattle.hd_dbd.specs.Types.{SegmentType}
 use Rattle.hd_dbd.specs.Hierarchy.{Database}
 use Rattle.hd_dbd.specs.Segment.{Segment}
+use Rattle.hd_dbd.specs.Facts.{stored_sizes}
 use Rattle.hd_dbd.specs.Rows.{key_of}
 use Rattle.hd_dbd.specs.Forest.{Forest, empty, node}
 use Rattle.hd_volume.specs.Headers.{header_of}
@@ -10,6 +11,7 @@ use Rattle.hd_volume.specs.Volumes.{VolumeState, HasKinds}
 use Rattle.hd_volume.specs.Entries.{Entry, entries}
 use Rattle.hd_volume.specs.Indexes.{root_key_length, HasIndex}
 use Rattle.hd_links.specs.Placed.{Placed, forest_of, Holds}
+use Rattle.hd_links.specs.Steps.{rows_of}
 use Rattle.hd_image.specs.Records.{links_of, IsVolumeOf}
 
 -- the keys and addresses of the roots, in order
@@ -32,3 +34,11 @@ pub record HoldsPlaced (d : Database) (v : VolumeState) (placed : Forest Placed)
 -- The volume holds the forest, placed somehow.
 abbrev pub HoldsForest : Database → VolumeState → Forest Segment → Type 0
 HoldsForest d v f = (placed : Forest Placed) × (forest_of placed ≡ f) × HoldsPlaced d v placed
+
+-- The volume holds these rows: they are the hierarchic sequence of a forest that it holds.
+abbrev pub HoldsRows : Database → VolumeState → List Segment → Type 0
+HoldsRows d v rows = (placed : Forest Placed) × (rows_of placed ≡ rows) × HoldsPlaced d v placed
+
+-- the volume that is loaded for a database from these bytes
+abbrev pub volume_of : Database → List ℕ → VolumeState
+volume_of d image = record { image = image; stored = image; is_sound = true; failures = 0; room = 0; size = d.block_size; sizes = stored_sizes d.types }

@@ -9,8 +9,7 @@ ghost use Rattle.hd_session.specs.RowCalls.{reply_of};
 
 use crate::buffer::IoArea;
 use crate::request::Answer;
-use crate::validity::key_in;
-use hd_dbd::{Dbd, Pcb, Row, Status, gives_get};
+use hd_dbd::{Dbd, Pcb, Row, Status, gives_get, key_in};
 
 /// Whether the type of the code is seen and may be read.
 fn may_get(dbd: &Dbd, pcb: &Pcb, code: u8) -> bool

@@ -1,0 +1,3 @@
+pub mod PathRows
+pub mod Spelling
+pub mod WorkedStreams

@@ -1,0 +1,101 @@
+-- The unload stream: how rows are spelled, and what is wrong with bytes that spell none.
+use Rattle.std.specs.Prelude.{◌≡◌, ◌⊎◌, ℕ, ◌+◌, ◌-◌, ◌<◌, ◌^◌, List, [], ◌∷◌, ◌++◌, length, take, drop, codes, true, ◌&&◌, ◌==◌, nat_lt, bytes_eq, cond, Option, Some, None, option_map}
+use Rattle.std.specs.Option.{option_map_or, option_or}
+use Rattle.std.specs.Int.{w16, w32, to_be_bytes, from_be_bytes}
+use Rattle.hd_dbd.specs.declared.answer.Status.{Status}
+use Rattle.hd_dbd.specs.declared.answer.Status.TheVariants.{Blank, GA, GK, GB, GE, GP, II, DA, DJ, AC, AD, AH, AJ, AK, AM}
+use Rattle.hd_dbd.specs.Types.{SegmentType}
+use Rattle.hd_dbd.specs.Hierarchy.{Database, type_of}
+use Rattle.hd_dbd.specs.Segment.{Segment}
+use Rattle.hd_dbd.specs.Rows.{valid}
+use Rattle.hd_dbd.specs.Loads.{last_path, load_fault}
+use Rattle.hd_unload.specs.declared.fault.RecordFault.{RecordFault}
+use Rattle.hd_unload.specs.declared.fault.RecordFault.TheVariants.{U1, U2, U3, U4, LB, LC, LD, LE}
+
+-- ---- spelling
+
+-- the 18 bytes of the header: the mark, version 1 and the database's name
+abbrev pub head_bytes : Database → List ℕ
+head_bytes d = codes "HDUNLOAD" ++ to_be_bytes w16 1 ++ d.name
+
+-- a record: the row's code, its length, and its bytes
+abbrev pub record_bytes : Segment → List ℕ
+record_bytes r = r.code ∷ to_be_bytes w16 (length r.bytes) ++ r.bytes
+
+abbrev pub records_bytes : List Segment → List ℕ
+records_bytes [] = []
+records_bytes (r ∷ rows) = record_bytes r ++ records_bytes rows
+
+-- the end: code 0, and the number of records
+abbrev pub end_bytes : ℕ → List ℕ
+end_bytes count = 0 ∷ to_be_bytes w32 count
+
+-- the unload stream of rows
+abbrev pub unload_bytes : Database → List Segment → List ℕ
+unload_bytes d rows = head_bytes d ++ records_bytes rows ++ end_bytes (length rows)
+
+-- The bytes are the unload stream of these rows.
+pub record IsStreamOf (d : Database) (stream : List ℕ) (rows : List Segment) : Type 0 where
+  pub spelled : stream ≡ unload_bytes d rows
+  pub valid : valid d.types rows ≡ true
+  pub few : length rows < 2 ^ 32
+
+-- ---- what is wrong
+
+-- with the header: fewer than 18 bytes, or others
+abbrev pub head_fault : Database → List ℕ → Option RecordFault
+head_fault d stream = cond (nat_lt (length stream) 18) (Some U2) (cond (bytes_eq (take 18 stream) (head_bytes d)) None (Some U1))
+
+-- with the end of so many records, by the bytes behind its code
+abbrev pub end_fault : ℕ → List ℕ → Option RecordFault
+end_fault count rest = cond (nat_lt (length rest) 4) (Some U2) (cond (length rest == 4 && from_be_bytes w32 rest == count) None (Some U4))
+
+-- with the spelling of a record of a type of some length, by the bytes behind its code
+abbrev pub spelling_fault : ℕ → List ℕ → Option RecordFault
+spelling_fault own rest =
+    cond (nat_lt (length rest) 2) (Some U2) (cond (from_be_bytes w16 rest == own) (cond (nat_lt (length rest - 2) own) (Some U2) None) (Some U4))
+
+-- the row of a code and a length, by the bytes behind its code
+abbrev pub row_of : ℕ → ℕ → List ℕ → Segment
+row_of code own rest = record { code = code; bytes = take own (drop 2 rest) }
+
+-- the fault that the status of a load is
+abbrev pub refusal_of : Status → RecordFault
+refusal_of Status.LB = LB
+refusal_of Status.LC = LC
+refusal_of Status.LD = LD
+refusal_of Status.LE = LE
+refusal_of Blank = LE
+refusal_of GA = LE
+refusal_of GK = LE
+refusal_of GB = LE
+refusal_of GE = LE
+refusal_of GP = LE
+refusal_of II = LE
+refusal_of DA = LE
+refusal_of DJ = LE
+refusal_of AC = LE
+refusal_of AD = LE
+refusal_of AH = LE
+refusal_of AJ = LE
+refusal_of AK = LE
+refusal_of AM = LE
+
+-- with the record that begins some bytes, behind these rows: its spelling comes before its load
+abbrev pub record_fault : List SegmentType → List Segment → List ℕ → Option RecordFault
+record_fault types rows [] = Some U2
+record_fault types rows (code ∷ rest) =
+    cond (code == 0) (end_fault (length rows) rest)
+    (option_map_or (λ t. option_or (spelling_fault t.length rest) (option_map refusal_of (load_fault types (last_path types rows) (row_of code t.length rest))))
+    (type_of types code) (Some U3))
+
+-- Behind the header the bytes spell these rows, and then others follow.
+pub record Spells (d : Database) (stream : List ℕ) (rows : List Segment) (rest : List ℕ) : Type 0 where
+  pub is : stream ≡ head_bytes d ++ records_bytes rows ++ rest
+  pub valid : valid d.types rows ≡ true
+
+-- The stream is refused at a record: at its header, 0, or at the first with a fault.
+abbrev pub IsRefusedAt : Database → List ℕ → ℕ → RecordFault → Type 0
+IsRefusedAt d stream n fault =
+    ((n ≡ 0) × (head_fault d stream ≡ Some fault))
+    ⊎ ((rows : List Segment) × (rest : List ℕ) × Spells d stream rows rest × (n ≡ length rows + 1) × (record_fault d.types rows rest ≡ Some fault))

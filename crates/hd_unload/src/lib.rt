@@ -1,0 +1,8 @@
+//! The unload stream of a forest, and the reload that makes a volume of it.
+#![tactic(auto)]
+
+mod fault;
+mod path;
+mod record;
+
+pub use fault::{RecordFault, ReloadFault};
