@@ -6,3 +6,4 @@ pub mod Steps
 pub mod Numbers
 pub mod Faulty
 pub mod Laws
+pub mod LastRows
