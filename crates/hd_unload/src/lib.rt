@@ -2,6 +2,7 @@
 #![tactic(auto)]
 
 mod fault;
+mod judge;
 mod path;
 mod record;
 

@@ -1,4 +1,6 @@
-ghost use Rattle.std.specs.Prelude.{◌≡◌, ◌-◌, ◌≤◌, ◌<◌, [], ◌∷◌, ◌++◌, length, take, option_map, slice_get};
+ghost use Rattle.std.specs.Prelude.{◌≡◌, ◌-◌, ◌≤◌, ◌<◌, [], ◌∷◌, ◌++◌, ◌==◌, length, take, option_map, slice_get};
+ghost use Rattle.std.specs.List.{list_any};
+ghost use Rattle.hd_links.specs.LastRows.{segments_of};
 ghost use Rattle.hd_unload.specs.Paths.{placed_of};
 
 use std::marker::Model;
@@ -29,6 +31,18 @@ impl<'a> Model for LoadPath<'a> {
     ghost invariant = { λ p. (p.count ≤ 15) × (length p.rows ≡ 15) };
 }
 
+/// Whether one of some rows is of a type.
+fn any_of_type(rows: &[Loaded<'_>], code: u8) -> bool
+    ensures { result ≡ list_any (λ r. r.code == code) rows.now }
+{
+    for row in rows {
+        if row.code == code {
+            return true;
+        }
+    }
+    false
+}
+
 impl<'a> LoadPath<'a> {
     /// The path before the first row.
     pub fn new() -> LoadPath<'a>
@@ -53,6 +67,13 @@ impl<'a> LoadPath<'a> {
         } else {
             None
         }
+    }
+
+    /// Whether a row on the path is of a type.
+    pub fn has_type(&self, code: u8) -> bool
+        ensures { result ≡ list_any (λ q. q.code == code) (segments_of self.now) }
+    {
+        any_of_type(&self.rows[..self.count], code)
     }
 
     /// Goes to a row of a level, from 1 to 15: what is above the level stays.
