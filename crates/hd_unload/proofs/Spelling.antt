@@ -64,9 +64,9 @@ row-right code own (a ∷ b ∷ rs) bytes e =
     let spelled : to_be_bytes w16 own ≡ a ∷ b ∷ [] = be_bytes_2 (a ∷ b ∷ []) own refl (λ i. two i) (sym own-is) in (
       len,
       ap (λ (xs : List ℕ). code ∷ (a ∷ b ∷ xs)) (sym (take-append-drop own rs))
-      ∙ ap (λ (xs : List ℕ). code ∷ (xs ++ (take own rs ++ drop own rs))) (sym spelled)
-      ∙ ap (λ (n : ℕ). code ∷ (to_be_bytes w16 n ++ (take own rs ++ drop own rs))) (sym len)
-      ∙ ap (λ (xs : List ℕ). code ∷ (to_be_bytes w16 (length (take own rs)) ++ (take own rs ++ xs))) (behind-two own),
+          ∙ ap (λ (xs : List ℕ). code ∷ (xs ++ (take own rs ++ drop own rs))) (sym spelled)
+          ∙ ap (λ (n : ℕ). code ∷ (to_be_bytes w16 n ++ (take own rs ++ drop own rs))) (sym len)
+          ∙ ap (λ (xs : List ℕ). code ∷ (to_be_bytes w16 (length (take own rs)) ++ (take own rs ++ xs))) (behind-two own),
     )
   where
     behind-two : (n : ℕ) → drop n rs ≡ drop (2 + n) (a ∷ b ∷ rs)
@@ -96,8 +96,8 @@ next-right types left x own rest t code bytes behind first all typed same none c
     let both = row-right x own rest (behind-first left x rest first all) none in (
       row-fits types t (record { code = code; bytes = bytes }) (ap (λ (c : ℕ). type_of types c) code-is ∙ typed) (ap (λ (xs : List ℕ). length xs) bytes-is ∙ both.0 ∙ same),
       first ∙ both.1
-      ∙ ap₂ (λ (n : ℕ) (xs : List ℕ). record_bytes (record { code = n; bytes = xs }) ++ drop (2 + own) rest) (sym code-is) (sym bytes-is)
-      ∙ ap (λ (xs : List ℕ). record_bytes (record { code = code; bytes = bytes }) ++ xs) (sym behind-is),
+          ∙ ap₂ (λ (n : ℕ) (xs : List ℕ). record_bytes (record { code = n; bytes = xs }) ++ drop (2 + own) rest) (sym code-is) (sym bytes-is)
+          ∙ ap (λ (xs : List ℕ). record_bytes (record { code = code; bytes = bytes }) ++ xs) (sym behind-is),
     )
 
 -- bytes that begin with a header's bytes

@@ -1,3 +1,5 @@
 pub mod Streams
 pub mod Loads
 pub mod Paths
+pub mod Steps
+pub mod Refusals

@@ -31,7 +31,7 @@ fn has_unique_key(dbd: &Dbd, code: u8) -> bool
 }
 
 /// The key of a row, without bytes where its type has none.
-fn key_of<'a>(dbd: &Dbd, code: u8, bytes: &'a [u8]) -> &'a [u8]
+pub fn key_of<'a>(dbd: &Dbd, code: u8, bytes: &'a [u8]) -> &'a [u8]
     ensures { result.now ≡ key_of dbd.now.types (record { code = code; bytes = bytes.now }) }
 {
     match dbd.type_of(code) {

@@ -3,7 +3,10 @@
 
 mod fault;
 mod judge;
+mod load;
+mod loading;
 mod path;
 mod record;
 
 pub use fault::{RecordFault, ReloadFault};
+pub use loading::{Reloaded, reload};

@@ -14,6 +14,7 @@ pub struct Loaded<'a> {
 }
 
 /// The row loaded last and its parents, root first.
+#[derive(Drop)]
 pub struct LoadPath<'a> {
     rows: [Loaded<'a>; 15],
     count: usize,
