@@ -1,11 +1,11 @@
--- Records that are linked have no fault of pointers.
+-- Records that are linked have no fault of pointers, phase by phase.
 use Rattle.std.proofs.Common.{◌≡◌, inl, inr, ℕ, List, [], ◌∷◌, ◌++◌, Bool, true, false, Option, Some, None, refl, sym, ap, subst, ◌∙◌, arith, ne_eqb}
 use Rattle.std.specs.Prelude.{◌==◌, find, option_map}
 use Rattle.std.proofs.lemmas.Bool.{cases_eq, cases_Bool, eq-eqb, cond-true, cond-false, false≢true}
 use Rattle.hd_dbd.specs.Types.{SegmentType}
 use Rattle.hd_dbd.specs.Prefixes.{is_backward_kept}
-use Rattle.hd_links.specs.Links.{Links, IsSegment, IsLinkGraph, child_types, is_child_type, is_last_kept}
-use Rattle.hd_links.specs.Pointers.{PointsTo, AreLinked}
+use Rattle.hd_links.specs.Links.{Links, IsSegment, child_types, is_child_type, is_last_kept}
+use Rattle.hd_links.specs.Pointers.{PointsTo, PointersAreTyped, PredecessorsAreOne, TwinsLinkBack, KeysAscend, IsReached}
 use Rattle.hd_links.proofs.Types.{is_in, in_head, in_tail}
 use Rattle.hd_image.specs.PointerFaults.{Named, child_pointers, twin_pointers, pointers_of, names_none, names_another, IsDeleted, PointsNowhere, PointsToAnother, HasTwoPredecessors, HasNoPredecessor, IsWrongBackward, HasWrongLast, IsOutOfOrder, IsNotReached}
 
@@ -42,16 +42,16 @@ find-none m test (p ∷ ps) h a = rw (h p a.0) (find-none m test ps h a.1)
 not-found : (o : Option Named) (x : ℕ) → o ≡ None → option_map (λ p. p.address) o ≡ Some x → ⊥
 not-found o x none some = (let e : None ≡ Some x = ap (λ q. option_map (λ (p : Named). p.address) q) (sym none) ∙ some in cc)
 
-module _ (types : List SegmentType) (bound : ℕ) (m : Links) (G : IsLinkGraph types bound m) (L : AreLinked types m) where
+module _ (types : List SegmentType) (m : Links) (header : m.code 0 ≡ 0) (typed : PointersAreTyped types m) where
   -- the pointers to children are right
   children-point : (h : ℕ) (ts : List ℕ) → m.here h ≡ true → ((t : ℕ) → is_in ts t ≡ true → is_child_type types (m.code h) t ≡ true) → AllPoint m (child_pointers types m h ts)
   children-point h [] there own = tt
   children-point h (t ∷ ts) there own =
-      let typed : is_child_type types (m.code h) t ≡ true = own t (in_head t t ts refl) in
+      let child : is_child_type types (m.code h) t ≡ true = own t (in_head t t ts refl) in
       let rest = children-point h ts there (λ u i. own u (in_tail t u ts i)) in (
-        L.typed.first h t there typed,
+        typed.first h t there child,
         elim (cases_Bool (is_last_kept types t)) [
-          | inl kept ↦ subst (AllPoint m) (sym (cond-true (is_last_kept types t) _ _ kept)) (L.typed.last h t there typed kept, rest)
+          | inl kept ↦ subst (AllPoint m) (sym (cond-true (is_last_kept types t) _ _ kept)) (typed.last h t there child kept, rest)
           | inr not_kept ↦ subst (AllPoint m) (sym (cond-false (is_last_kept types t) _ _ not_kept)) rest
         ],
       )
@@ -59,9 +59,9 @@ module _ (types : List SegmentType) (bound : ℕ) (m : Links) (G : IsLinkGraph t
   -- the pointers to twins are right
   twins-point : (a : ℕ) → IsSegment m a → AllPoint m (twin_pointers types m a)
   twins-point a s = (
-    L.typed.forward a s,
+    typed.forward a s,
     elim (cases_Bool (is_backward_kept types (m.code a))) [
-      | inl kept ↦ subst (AllPoint m) (sym (cond-true (is_backward_kept types (m.code a)) _ _ kept)) (L.typed.backward a s kept, tt)
+      | inl kept ↦ subst (AllPoint m) (sym (cond-true (is_backward_kept types (m.code a)) _ _ kept)) (typed.backward a s kept, tt)
       | inr not_kept ↦ subst (AllPoint m) (sym (cond-false (is_backward_kept types (m.code a)) _ _ not_kept)) tt
     ],
   )
@@ -71,14 +71,14 @@ module _ (types : List SegmentType) (bound : ℕ) (m : Links) (G : IsLinkGraph t
   all-point h there = elim (cases_eq h 0) [
     | inl e ↦ subst (AllPoint m) (sym (cond-true (h == 0) _ _ (eq-eqb h 0 e)))
         (children-point h (1 ∷ []) there
-        (λ t i. (let head : m.code h ≡ 0 = ap m.code e ∙ G.header_code in subst (λ (c : ℕ). is_child_type types c t ≡ true) (sym head) i)))
+        (λ t i. (let head : m.code h ≡ 0 = ap m.code e ∙ header in subst (λ (c : ℕ). is_child_type types c t ≡ true) (sym head) i)))
     | inr ne ↦ subst (AllPoint m) (sym (cond-false (h == 0) _ _ (ne_eqb h 0 ne)))
         (all-both m (twin_pointers types m h) (child_pointers types m h (child_types types (m.code h))) (twins-point h (record { some = omega arith; here = there })) (children-point h (child_types types (m.code h)) there (λ t i. i)))
   ]
 
   -- no delete byte is set
   pub none-deleted : (a x : ℕ) → IsDeleted m a x → ⊥
-  none-deleted a x h = (let z = L.typed.delete_byte a h.0 in let some = h.1 in absurd (omega arith))
+  none-deleted a x h = (let z = typed.delete_byte a h.0 in let some = h.1 in absurd (omega arith))
 
   -- no pointer names no segment
   pub none-nowhere : (h x : ℕ) → PointsNowhere types m h x → ⊥
@@ -88,32 +88,34 @@ module _ (types : List SegmentType) (bound : ℕ) (m : Links) (G : IsLinkGraph t
   pub none-another : (h x : ℕ) → PointsToAnother types m h x → ⊥
   none-another h x f = not-found _ x (find-none m (λ p. names_another m p) (pointers_of types m h) (names-own m) (all-point h f.0)) f.1
 
+module _ (types : List SegmentType) (m : Links) (single : PredecessorsAreOne types m) where
   -- no segment has two predecessors
   pub none-twice : (a x : ℕ) → HasTwoPredecessors types m a x → ⊥
-  none-twice a x h = (let e : h.0 ≡ x = L.single.one a h.0 x h.1 h.2 h.3 in let less = h.4 in absurd (omega arith))
+  none-twice a x h = (let e : h.0 ≡ x = single.one a h.0 x h.1 h.2 h.3 in let less = h.4 in absurd (omega arith))
 
   -- each segment has one
   pub none-without : (a x : ℕ) → HasNoPredecessor types m a x → ⊥
-  none-without a x h = (let p = L.single.some a h.0 in h.1 p.0 p.1)
+  none-without a x h = (let p = single.some a h.0 in h.1 p.0 p.1)
 
+module _ (types : List SegmentType) (m : Links) (back : TwinsLinkBack types m) where
   -- no twin backward is wrong
   pub none-backward : (a x : ℕ) → IsWrongBackward types m a x → ⊥
   none-backward a x h = elim h.3 [
-    | inl b ↦ b.2 (L.back.twins a b.0 h.0 h.1 b.1)
-    | inr b ↦ b.3 (L.back.firsts a b.0 b.1 h.0 h.1 b.2)
+    | inl b ↦ b.2 (back.twins a b.0 h.0 h.1 b.1)
+    | inr b ↦ b.3 (back.firsts a b.0 b.1 h.0 h.1 b.2)
   ]
 
   -- no last child is wrong
   pub none-last : (a x : ℕ) → HasWrongLast types m a x → ⊥
   none-last a x h = elim h.4 [
-    | inl b ↦ b.1 (L.back.no_lasts a h.0 h.1 h.2 h.3 b.0)
-    | inr b ↦ (let l = L.back.lasts a h.0 h.1 h.2 h.3 (let ne = b.0 in omega arith) in b.1 l.0 l.1)
+    | inl b ↦ b.1 (back.no_lasts a h.0 h.1 h.2 h.3 b.0)
+    | inr b ↦ (let l = back.lasts a h.0 h.1 h.2 h.3 (let ne = b.0 in omega arith) in b.1 l.0 l.1)
   ]
 
-  -- no key is out of order
-  pub none-order : (a x : ℕ) → IsOutOfOrder types m a x → ⊥
-  none-order a x h = false≢true (sym h.2 ∙ L.keys a x h.0 h.1)
+-- no key is out of order
+pub none-order : (types : List SegmentType) (m : Links) → KeysAscend types m → (a x : ℕ) → IsOutOfOrder types m a x → ⊥
+none-order types m keys a x h = false≢true (sym h.2 ∙ keys a x h.0 h.1)
 
-  -- each segment is reached
-  pub none-unreached : (a x : ℕ) → IsNotReached types m a x → ⊥
-  none-unreached a x h = (let r = L.reached a h.0 in h.1 r.0 r.1)
+-- each segment is reached
+pub none-unreached : (types : List SegmentType) (m : Links) → ((a : ℕ) → IsSegment m a → (n : ℕ) × IsReached types m n a) → (a x : ℕ) → IsNotReached types m a x → ⊥
+none-unreached types m reached a x h = (let r = reached a h.0 in h.1 r.0 r.1)
