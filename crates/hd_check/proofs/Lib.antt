@@ -11,3 +11,4 @@ pub mod RecordFaults
 pub mod TypedRecords
 pub mod Lent
 pub mod RecordSteps
+pub mod Noting
