@@ -12,3 +12,6 @@ pub mod TypedRecords
 pub mod Lent
 pub mod RecordSteps
 pub mod Noting
+pub mod Holders
+pub mod Matching
+pub mod OneEach

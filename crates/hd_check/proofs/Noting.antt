@@ -5,7 +5,7 @@ use Rattle.std.proofs.lemmas.List.{append_assoc}
 use Rattle.std.proofs.lemmas.Bool.{cond-false}
 use Rattle.hd_dbd.specs.Types.{SegmentType}
 use Rattle.hd_dbd.specs.Prefixes.{children_of}
-use Rattle.hd_links.specs.Links.{Links, child_types}
+use Rattle.hd_links.specs.Links.{Links}
 use Rattle.hd_check.specs.declared.fault.Fault.{Fault}
 use Rattle.hd_check.specs.declared.segments.Place.{Place}
 use Rattle.hd_check.specs.declared.tables.Naming.{Naming}

@@ -1,4 +1,6 @@
 ghost use Rattle.std.specs.Prelude.{◌≡◌, ◌≢◌, ◌≤◌, ◌++◌, ◌∷◌, [], ℕ, length, drop, IfOk, IfErr, IfNone, IfSome, OnOk};
+ghost use Rattle.std.specs.Ordering.{nat_cmp};
+ghost use Rattle.std.specs.List.Sorted.{IsNonDecreasingBy, IsStableByKey};
 ghost use Rattle.hd_dbd.specs.Hierarchy.{Database};
 ghost use Rattle.hd_dbd.specs.Prefixes.{stored_size};
 ghost use Rattle.hd_volume.specs.Volumes.{VolumeState};
@@ -100,4 +102,30 @@ fn first_unmatched(places: &[Place], namings: &[Naming]) -> Option<Fault>
         }
     }
     None
+}
+
+/// Puts pointers in order of what they name; those that name the same stay in order.
+fn sort_namings(namings: &mut Vec<Naming>) -> Result<(), Refused>
+    ensures sorted { OnOk result (IsNonDecreasingBy (λ (n : Naming). n.target) namings.new.items) }
+    ensures stable { IsStableByKey (λ (n : Naming). n.target) nat_cmp namings.old.items namings.new.items }
+    ensures refusal { IfErr result (λ e. e ≡ Refused.Memory) }
+{
+    match namings.sort_by_key(|naming| naming.target) {
+        Ok(()) => Ok(()),
+        Err(_) => Err(Refused::Memory),
+    }
+}
+
+/// What is wrong with the predecessors of the segments: each must have just one. The pointers are put in order of what they name.
+pub fn predecessors_fault(
+    namings: &mut Vec<Naming>,
+    places: &[Place],
+) -> Result<Option<Fault>, Refused>
+    ensures none { (d : Database) (v : VolumeState) → IsVolumeOf d v → ArePlaces d.types v places.now → PointersAreTyped d.types (links_of d.types v) → AreNamings d.types (links_of d.types v) places.now namings.old.items → IfOk result (λ o. IfNone o (PredecessorsAreOne d.types (links_of d.types v))) }
+    ensures table { (d : Database) (v : VolumeState) → IsVolumeOf d v → ArePlaces d.types v places.now → PointersAreTyped d.types (links_of d.types v) → AreNamings d.types (links_of d.types v) places.now namings.old.items → IfOk result (λ o. IfNone o (ArePredecessors d.types (links_of d.types v) places.now namings.new.items)) }
+    ensures some { (d : Database) (v : VolumeState) → IsVolumeOf d v → ArePlaces d.types v places.now → PointersAreTyped d.types (links_of d.types v) → AreNamings d.types (links_of d.types v) places.now namings.old.items → IfOk result (λ o. IfSome o (λ f. IsLeastOf d v 4 f)) }
+    ensures refusal { IfErr result (λ e. e ≡ Refused.Memory) }
+{
+    sort_namings(namings)?;
+    Ok(first_unmatched(places, namings))
 }

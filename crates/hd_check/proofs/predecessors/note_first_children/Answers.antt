@@ -1,4 +1,4 @@
-use Rattle.std.proofs.Common.{◌≡◌, ◌+◌, ◌++◌, ◌∷◌, [], ℕ, List, drop, slice_index_or, sym, ap, subst, ◌∙◌}
+use Rattle.std.proofs.Common.{◌≡◌, ◌+◌, ◌++◌, [], ℕ, List, drop, slice_index_or, sym, ap, subst, ◌∙◌}
 use Rattle.std.proofs.lemmas.List.{drop_more, append-nil}
 use Rattle.std.proofs.Math.ListN.{drop_of_length-le}
 use Rattle.hd_dbd.specs.Types.{SegmentType}
@@ -6,7 +6,6 @@ use Rattle.hd_prefix.specs.declared.pointer.Pointer.TheVariants.{FirstChild}
 use Rattle.hd_prefix.specs.Fields.{pointer_of}
 use Rattle.hd_links.specs.Links.{Links}
 use Rattle.hd_image.specs.Records.{links_of}
-use Rattle.hd_check.specs.declared.tables.Naming.{Naming}
 use Rattle.hd_check.specs.Namings.{first_namings}
 use Rattle.hd_check.proofs.ChildPointers.{first-read}
 use Rattle.hd_check.proofs.Noting.{child-noted}

@@ -14,8 +14,7 @@ use Rattle.hd_image.proofs.Roots.{header-code}
 use Rattle.hd_check.specs.declared.segments.Place.{Place}
 use Rattle.hd_check.specs.Judging.{IsRecordRight, IsWrongRecord}
 use Rattle.hd_check.specs.declared.tables.Naming.{Naming}
-use Rattle.hd_check.specs.Tables.{AreForwards}
-use Rattle.hd_check.specs.Namings.{segment_namings, namings_at, forwards_of, AreNamings}
+use Rattle.hd_check.specs.Namings.{segment_namings, namings_at, forwards_of}
 use Rattle.hd_check.proofs.Noting.{forward-noted, place-noted, forwards-are}
 use Rattle.hd_check.proofs.Lookups.{place-at, among}
 use Rattle.hd_check.proofs.RecordSteps.{from-none, some-none, places-same, before-right, all-right}
