@@ -11,3 +11,7 @@ pub mod RecordFaults
 pub mod TypedRecords
 pub mod Lent
 pub mod RecordSteps
+pub mod Noting
+pub mod Holders
+pub mod Matching
+pub mod OneEach

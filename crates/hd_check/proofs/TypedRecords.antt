@@ -205,7 +205,7 @@ right-not-wrong types m k a r (inr (inl w)) = w.1 (ap (λ x. x.nowhere) r.pointe
 right-not-wrong types m k a r (inr (inr w)) = w.1 (ap (λ x. x.another) r.pointers)
 
 -- what comes before a fault at h stands before h, or at h with a lesser number
-before-it : (k l : Line) (a h : ℕ) → phase_of k ≡ phase_of l → ComesBefore k a l h → (a < h) ⊎ ((a ≡ h) × (number_of k a < number_of l h))
+pub before-it : (k l : Line) (a h : ℕ) → phase_of k ≡ phase_of l → ComesBefore k a l h → (a < h) ⊎ ((a ≡ h) × (number_of k a < number_of l h))
 before-it k l a h same (inl p) = absurd (omega arith)
 before-it k l a h same (inr (p, inl less)) = inl less
 before-it k l a h same (inr (p, inr both)) = inr both

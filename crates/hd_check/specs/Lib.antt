@@ -4,4 +4,5 @@ pub mod Places
 pub mod Judging
 pub mod Lending
 pub mod Tables
+pub mod Namings
 pub mod IndexPhases

@@ -8,6 +8,7 @@ mod header;
 mod lookup;
 mod place;
 mod pointers;
+mod predecessors;
 mod records;
 mod segments;
 mod tables;

@@ -1,4 +1,4 @@
-ghost use Rattle.std.specs.Prelude.{◌≡◌, ◌<◌, length, IsTrue, IfOk, IfErr, IfNone, IfSome};
+ghost use Rattle.std.specs.Prelude.{◌≡◌, ◌⊎◌, ◌++◌, ◌∷◌, [], IsTrue, IfOk, IfErr, IfNone, IfSome};
 ghost use Rattle.hd_volume.specs.Calls.{IsRead};
 ghost use Rattle.hd_links.specs.Links.{IsSegment};
 ghost use Rattle.hd_links.specs.Pointers.{PointersAreTyped};
@@ -6,15 +6,21 @@ ghost use Rattle.hd_image.specs.Records.{links_of, IsVolumeOf};
 ghost use Rattle.hd_check.specs.Phases.{IsLeastOf};
 ghost use Rattle.hd_check.specs.Places.{ArePlaces, PlacesAscend};
 ghost use Rattle.hd_check.specs.Judging.{IsRecordRight, IsWrongRecord};
+ghost use Rattle.hd_check.specs.Tables.{AreForwards};
+ghost use Rattle.hd_check.specs.Namings.{segment_namings, AreNamings};
 
 use crate::fault::Fault;
 use crate::pointers::{roots_fault, segment_fault};
+use crate::predecessors::{note_naming, note_pointers};
 use crate::segments::Place;
+use crate::tables::Naming;
 use hd_dbd::{Dbd, Refused};
 use hd_volume::{BlockStore, Volume};
 
-/// What is wrong with the segment at an address.
+/// What is wrong with the segment at an address. Its twin forward pointer, and the pointers by which it names others, are noted.
 fn fault_at<S: BlockStore>(
+    forwards: &mut Vec<u32>,
+    namings: &mut Vec<Naming>,
     places: &[Place],
     volume: &mut Volume<S>,
     dbd: &Dbd,
@@ -26,32 +32,44 @@ fn fault_at<S: BlockStore>(
     ensures read { IsRead volume.old result volume.new }
     ensures none { IfOk result (λ o. IsTrue volume.old.is_sound → ArePlaces dbd.now.types volume.old places.now → IfNone o (IsRecordRight dbd.now.types (links_of dbd.now.types volume.old) address)) }
     ensures some { IfOk result (λ o. IsTrue volume.old.is_sound → ArePlaces dbd.now.types volume.old places.now → IfSome o (λ f. IsWrongRecord dbd.now.types (links_of dbd.now.types volume.old) address f)) }
-    ensures refusal { IfErr result (λ e. e ≡ Refused.Device) }
+    ensures forwards { IfOk result (λ o. IsTrue volume.old.is_sound → forwards.new.items ≡ forwards.old.items ++ (links_of dbd.now.types volume.old).forward address ∷ []) }
+    ensures namings { IfOk result (λ o. IsTrue volume.old.is_sound → namings.new.items ≡ namings.old.items ++ segment_namings dbd.now.types (links_of dbd.now.types volume.old) address) }
+    ensures refusal { IfErr result (λ e. (e ≡ Refused.Device) ⊎ (e ≡ Refused.Memory)) }
 {
     let segment = volume.segment_at(address)?;
-    Ok(segment_fault(places, dbd, address, segment))
+    let fault = segment_fault(places, dbd, address, segment);
+    note_pointers(forwards, namings, dbd, address, segment)?;
+    Ok(fault)
 }
 
-/// What is wrong with the records of a volume whose blocks are right: a delete byte, or what a pointer names.
+/// What is wrong with the records of a volume whose blocks are right: a delete byte, or what a pointer names. Where nothing is,
+/// the twin forward pointers are noted, and the pointers by which segments are named, in order of their holders.
 pub fn records_fault<S: BlockStore>(
+    forwards: &mut Vec<u32>,
+    namings: &mut Vec<Naming>,
     places: &[Place],
     volume: &mut Volume<S>,
     dbd: &Dbd,
 ) -> Result<Option<Fault>, Refused>
+    requires empty { (forwards.old.items ≡ []) × (namings.old.items ≡ []) }
     requires ascend { PlacesAscend places.now }
     requires of { IsTrue volume.old.is_sound → IsVolumeOf dbd.now volume.old }
     requires places { IsTrue volume.old.is_sound → ArePlaces dbd.now.types volume.old places.now }
     ensures read { IsRead volume.old result volume.new }
     ensures none { IfOk result (λ o. IsTrue volume.old.is_sound → IfNone o (PointersAreTyped dbd.now.types (links_of dbd.now.types volume.old))) }
     ensures some { IfOk result (λ o. IsTrue volume.old.is_sound → IfSome o (λ f. IsLeastOf dbd.now volume.old 3 f)) }
-    ensures refusal { IfErr result (λ e. e ≡ Refused.Device) }
+    ensures forwards { IfOk result (λ o. IsTrue volume.old.is_sound → IfNone o (AreForwards (links_of dbd.now.types volume.old) places.now forwards.new.items)) }
+    ensures namings { IfOk result (λ o. IsTrue volume.old.is_sound → IfNone o (AreNamings dbd.now.types (links_of dbd.now.types volume.old) places.now namings.new.items)) }
+    ensures refusal { IfErr result (λ e. (e ≡ Refused.Device) ⊎ (e ≡ Refused.Memory)) }
 {
-    let roots = roots_fault(places, volume.first_root(), volume.last_root());
+    let first = volume.first_root();
+    let roots = roots_fault(places, first, volume.last_root());
     if roots.is_some() {
         return Ok(roots);
     }
+    note_naming(namings, first, 0)?;
     for place in places {
-        let found = fault_at(places, volume, dbd, place.address)?;
+        let found = fault_at(forwards, namings, places, volume, dbd, place.address)?;
         if found.is_some() {
             return Ok(found);
         }

@@ -1,4 +1,6 @@
-use Rattle.std.proofs.Common.{◌≡◌, ◌<◌, ℕ, List, Ok, IsTrue, length, inl, inr, refl, sym, subst, ◌∙◌, arith}
+use Rattle.std.proofs.Common.{◌≡◌, ◌<◌, ◌+◌, ◌++◌, ◌∷◌, [], ℕ, List, Ok, IsTrue, length, drop, inl, inr, refl, sym, ap, subst, ◌∙◌, arith}
+use Rattle.std.proofs.lemmas.List.{drop_more, append-nil}
+use Rattle.std.proofs.Math.ListN.{drop_of_length-le}
 use Rattle.std.proofs.lemmas.Bool.{cases_lt}
 use Rattle.hd_dbd.specs.Types.{SegmentType}
 use Rattle.hd_dbd.specs.Hierarchy.{Database}
@@ -11,6 +13,9 @@ use Rattle.hd_image.proofs.OneImage.{links-same, volume-same}
 use Rattle.hd_image.proofs.Roots.{header-code}
 use Rattle.hd_check.specs.declared.segments.Place.{Place}
 use Rattle.hd_check.specs.Judging.{IsRecordRight, IsWrongRecord}
+use Rattle.hd_check.specs.declared.tables.Naming.{Naming}
+use Rattle.hd_check.specs.Namings.{segment_namings, namings_at, forwards_of}
+use Rattle.hd_check.proofs.Noting.{forward-noted, place-noted, forwards-are}
 use Rattle.hd_check.proofs.Lookups.{place-at, among}
 use Rattle.hd_check.proofs.RecordSteps.{from-none, some-none, places-same, before-right, all-right}
 use Rattle.hd_check.proofs.TypedRecords.{typed, wrong-least}
@@ -22,7 +27,7 @@ returns-then-is_some-clause-some g c = λ sound.
     let v : VolumeState = c.args.volume.now in
     let first = (c.requires.of sound).formatted.header.first in
     if-some-map c.roots_fault-roots.result (λ f w. wrong-least d v 0 refl (λ a less. absurd (omega arith)) f w)
-    (c.roots_fault-roots.ensures.some d v (c.requires.places sound) (c.first_root.ensures sound first) (c.last_root.ensures sound first))
+    (c.roots_fault-roots.ensures.some d v (c.requires.places sound) (c.first_root-first.ensures sound first) (c.last_root.ensures sound first))
 
 pub fault_at-requires-clause-there : goal.fault_at-requires-clause-there
 fault_at-requires-clause-there g c = λ now.
@@ -87,6 +92,26 @@ loop-place-preserved g c =
             from-none c.in_ok-found.found (sym c.is_some-in-loop-place.ensures ∙ c.if-is_some-2.false) (c.in_ok-found.ensures.none now (places-same types v w ps same (c.requires.places sound))) in
             subst (λ (k : ℕ). IsRecordRight types (links_of types v) (place-at ps k).address) (sym at) (subst (λ (m : Links). IsRecordRight types m (place-at ps n).address) same own))
       ];
+      forwards = λ sound.
+          (let now : IsTrue w.is_sound = rw i.read.call.sound sound in
+          let same = links-same types v w (i.read.image now) i.read.call.size i.read.call.sizes in
+          let a : ℕ = (place-at ps n).address in
+          let items : List ℕ = c.loop-place.forwards.items in
+          let more : c.fault_at.new.forwards.items ≡ items ++ (links_of types v).forward a ∷ [] =
+          c.in_ok-found.ensures.forwards now ∙ ap (λ (m : Links). items ++ m.forward a ∷ []) same in
+          forward-noted (links_of types v) (place-at ps n) items c.fault_at.new.forwards.items (drop (n + 1) ps) more
+          ∙ ap (λ (l : List Place). items ++ forwards_of (links_of types v) l) (sym (drop_more ps n (record { address = 0; code = 0 }) c.loop-place-test.true))
+          ∙ i.forwards sound);
+      namings = λ sound.
+          (let now : IsTrue w.is_sound = rw i.read.call.sound sound in
+          let same = links-same types v w (i.read.image now) i.read.call.size i.read.call.sizes in
+          let a : ℕ = (place-at ps n).address in
+          let items : List Naming = c.loop-place.namings.items in
+          let more : c.fault_at.new.namings.items ≡ items ++ segment_namings types (links_of types v) a =
+          c.in_ok-found.ensures.namings now ∙ ap (λ (m : Links). items ++ segment_namings types m a) same in
+          place-noted types (links_of types v) (place-at ps n) items c.fault_at.new.namings.items (drop (n + 1) ps) more
+          ∙ ap (λ (l : List Place). items ++ namings_at types (links_of types v) l) (sym (drop_more ps n (record { address = 0; code = 0 }) c.loop-place-test.true))
+          ∙ i.namings sound);
     }
 
 pub returns-clause-none : goal.returns-clause-none
@@ -97,3 +122,26 @@ returns-clause-none g c = λ sound.
     let end = c.loop-place-test.false in
     typed types (links_of types v) (header-code types v)
     (all-right types v c.args.places.now (c.requires.places sound) (i.roots sound) (λ j low. i.right sound j (omega arith)))
+
+pub returns-then-is_some-2-clause-forwards : goal.returns-then-is_some-2-clause-forwards
+returns-then-is_some-2-clause-forwards g c = λ sound. some-none _ c.in_ok-found.found (sym c.is_some-in-loop-place.ensures ∙ c.if-is_some-2.true)
+
+pub returns-then-is_some-2-clause-namings : goal.returns-then-is_some-2-clause-namings
+returns-then-is_some-2-clause-namings g c = λ sound. some-none _ c.in_ok-found.found (sym c.is_some-in-loop-place.ensures ∙ c.if-is_some-2.true)
+
+pub returns-clause-forwards : goal.returns-clause-forwards
+returns-clause-forwards g c = λ sound.
+    let ps : List Place = c.args.places.now in
+    let m : Links = links_of c.args.dbd.now.types c.args.volume.now in
+    let items : List ℕ = c.loop-place.forwards.items in
+    let end : drop c.loop-place.place-index ps ≡ [] = drop_of_length-le ps c.loop-place-test.false in
+    forwards-are m ps items (sym (append-nil items) ∙ ap (λ (l : List Place). items ++ forwards_of m l) (sym end) ∙ c.loop-place.invariant.forwards sound)
+
+pub returns-clause-namings : goal.returns-clause-namings
+returns-clause-namings g c = λ sound.
+    let ps : List Place = c.args.places.now in
+    let types : List SegmentType = c.args.dbd.now.types in
+    let m : Links = links_of types c.args.volume.now in
+    let items : List Naming = c.loop-place.namings.items in
+    let end : drop c.loop-place.place-index ps ≡ [] = drop_of_length-le ps c.loop-place-test.false in
+    sym (append-nil items) ∙ ap (λ (l : List Place). items ++ namings_at types m l) (sym end) ∙ c.loop-place.invariant.namings sound
