@@ -1,3 +1,4 @@
 pub mod PathRows
 pub mod Spelling
+pub mod Reading
 pub mod WorkedStreams

@@ -1,5 +1,6 @@
 ghost use Rattle.std.specs.Prelude.{◌≡◌, ◌≢◌, ◌⊎◌, ◌-◌, [], ◌∷◌, ◌++◌, List, length, take, true, None, IsTrue, IfOk, IfErr, OnOk};
 ghost use Rattle.hd_dbd.specs.Facts.{stored_sizes};
+ghost use Rattle.hd_dbd.specs.DatabaseRules.{well_formed};
 ghost use Rattle.hd_dbd.specs.Segment.{Segment};
 ghost use Rattle.hd_dbd.specs.Rows.{row_fits, level, next_path};
 ghost use Rattle.hd_dbd.specs.Loads.{load_fault};
@@ -87,6 +88,7 @@ pub fn load_row<'a, S: BlockStore>(
     ensures call { IsCall volume.old result volume.new }
     ensures loaded { OnOk result (IsTrue volume.old.is_sound → (rows : List Segment) → IsLoadedTo dbd.now rows path.old volume.old → IsRowLoaded dbd.now volume.old rows (record { code = code; bytes = bytes.now }) path.new volume.new) }
     ensures path { OnOk result (segments_of path.new ≡ next_path dbd.now.types (segments_of path.old) (record { code = code; bytes = bytes.now })) }
+    ensures fit { OnOk result (IsTrue (well_formed dbd.now.block_size dbd.now.frspc dbd.now.types)) }
     ensures full { IfErr result (λ e. e ≡ Refused.Full → IsTrue volume.old.is_sound → LacksRoom dbd.now volume.old (record { code = code; bytes = bytes.now })) }
     ensures refusal { IfErr result (λ e. (e ≡ Refused.Memory) ⊎ (e ≡ Refused.Full) ⊎ (e ≡ Refused.Device)) }
 {

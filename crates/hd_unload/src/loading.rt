@@ -1,6 +1,7 @@
-ghost use Rattle.std.specs.Prelude.{◌≡◌, ◌≤◌, ◌<◌, ◌++◌, ℕ, List, [], length, true, false, None, IsTrue, IfOk, IfErr, OnOk};
+ghost use Rattle.std.specs.Prelude.{◌≡◌, ◌≤◌, ◌<◌, ◌++◌, ℕ, List, [], length, ◌+◌, ◌^◌, true, false, None, IsTrue, IfOk, IfErr, IfNone, IfSome, OnOk};
 ghost use Rattle.hd_bytes.specs.Blocks.{HasBlock};
 ghost use Rattle.hd_dbd.specs.Facts.{stored_sizes};
+ghost use Rattle.hd_dbd.specs.DatabaseRules.{well_formed};
 ghost use Rattle.hd_dbd.specs.Segment.{Segment};
 ghost use Rattle.hd_dbd.specs.Rows.{row_fits, next_path};
 ghost use Rattle.hd_dbd.specs.Loads.{load_fault};
@@ -10,7 +11,7 @@ ghost use Rattle.hd_links.specs.LastRows.{segments_of};
 ghost use Rattle.hd_volume.specs.Creates.{IsCreated};
 ghost use Rattle.hd_unload.specs.Loads.{IsReloaded};
 ghost use Rattle.hd_unload.specs.Refusals.{as_call, IsFaultOfRow, IsFaultOf, IsGivenFrom, IsGivenUp};
-ghost use Rattle.hd_unload.specs.Steps.{IsLoadedTo, IsRowLoaded, IsLoadedAll};
+ghost use Rattle.hd_unload.specs.Steps.{IsLoadedTo, IsRowLoaded, IsReadTo, IsLoadedAll};
 ghost use Rattle.hd_unload.specs.Streams.{head_bytes};
 
 use crate::fault::{RecordFault, ReloadFault};
@@ -46,6 +47,7 @@ fn load_record<'a, S: BlockStore>(
     ensures may { OnOk result (load_fault dbd.now.types (segments_of path.old) (record { code = code; bytes = bytes.now }) ≡ None) }
     ensures loaded { OnOk result (IsTrue volume.old.is_sound → (rows : List Segment) → IsLoadedTo dbd.now rows path.old volume.old → IsRowLoaded dbd.now volume.old rows (record { code = code; bytes = bytes.now }) path.new volume.new) }
     ensures path { OnOk result (segments_of path.new ≡ next_path dbd.now.types (segments_of path.old) (record { code = code; bytes = bytes.now })) }
+    ensures fit { OnOk result (IsTrue (well_formed dbd.now.block_size dbd.now.frspc dbd.now.types)) }
     ensures fault { IfErr result (λ e. IsFaultOfRow dbd.now (segments_of path.old) (record { code = code; bytes = bytes.now }) number volume.old e) }
 {
     if let Some(status) = load_fault(path, dbd, code, bytes) {
@@ -59,7 +61,35 @@ fn load_record<'a, S: BlockStore>(
     }
 }
 
-/// Loads the records of a stream, of which this is left, and says how many they are.
+/// Reads the next record of a stream behind so many, and loads it; what is left, or none at the end.
+fn load_next<'a, S: BlockStore>(
+    volume: &mut Volume<S>,
+    dbd: &Dbd,
+    path: &mut LoadPath<'a>,
+    left: &'a [u8],
+    count: u64,
+) -> Result<Option<&'a [u8]>, ReloadFault>
+    requires sizes { (volume.old.size ≡ dbd.now.block_size) × (volume.old.sizes ≡ stored_sizes dbd.now.types) }
+    requires loaded { IsTrue volume.old.is_sound → (rows : List Segment) × IsLoadedTo dbd.now rows path.old volume.old }
+    requires small { count + 1 < 2 ^ 64 }
+    ensures call { IsCall volume.old (as_call result) volume.new }
+    ensures shorter { IfOk result (λ o. IfSome o (λ rest. length rest.now < length left.now)) }
+    ensures next { IfOk result (λ o. IfSome o (λ rest. (stream : List ℕ) (largest : ℕ) → IsReadTo dbd.now stream largest count left.now path.old volume.old → IsReadTo dbd.now stream largest (count + 1) rest.now path.new volume.new)) }
+    ensures end { IfOk result (λ o. IfNone o (count < 2 ^ 32)) }
+    ensures all { IfOk result (λ o. IfNone o ((stream : List ℕ) (largest : ℕ) → IsReadTo dbd.now stream largest count left.now path.old volume.old → IsLoadedAll dbd.now stream largest count volume.new)) }
+    ensures fault { IfErr result (λ e. (stream : List ℕ) (largest : ℕ) → IsReadTo dbd.now stream largest count left.now path.old volume.old → IsFaultOf dbd.now stream largest volume.old.is_sound e) }
+{
+    let number = count + 1;
+    let record = match next_record(left, count, dbd) {
+        Err(fault) => return Err(ReloadFault::Record(fault, number)),
+        Ok(None) => return Ok(None),
+        Ok(Some(record)) => record,
+    };
+    load_record(volume, dbd, path, record.code, record.bytes, number)?;
+    Ok(Some(record.rest))
+}
+
+/// Loads the records of a stream, and says how many they are.
 fn load_records<S: BlockStore>(
     volume: &mut Volume<S>,
     dbd: &Dbd,
@@ -73,18 +103,14 @@ fn load_records<S: BlockStore>(
 {
     let mut path = LoadPath::new();
     let mut left = records;
-    for count in 0..=records.len() {
-        let number = count as u64 + 1;
-        match next_record(left, count as u64, dbd) {
-            Err(fault) => return Err(ReloadFault::Record(fault, number)),
+    for count in 0..records.len() {
+        match load_next(volume, dbd, &mut path, left, count as u64) {
+            Err(fault) => return Err(fault),
             Ok(None) => return Ok(count as u32),
-            Ok(Some(record)) => {
-                load_record(volume, dbd, &mut path, record.code, record.bytes, number)?;
-                left = record.rest;
-            }
+            Ok(Some(rest)) => left = rest,
         }
     }
-    Err(ReloadFault::Record(RecordFault::U2, 0))
+    Err(ReloadFault::Record(RecordFault::U2, records.len() as u64 + 1))
 }
 
 /// Makes a volume of an unload stream in an empty store: version 1, of this largest count, 1 to 65,536 blocks, and flushed.
