@@ -19,6 +19,11 @@ last_on empty = []
 last_on (node p below empty) = p ∷ last_on below
 last_on (node p below (node q k n)) = last_on (node q k n)
 
+-- the roots, in order
+abbrev pub roots_of : Forest Placed → List Placed
+roots_of empty = []
+roots_of (node p below behind) = p ∷ roots_of behind
+
 -- the segments of some rows
 abbrev pub segments_of : List Placed → List Segment
 segments_of path = map (λ p. p.segment) path
@@ -35,6 +40,7 @@ twin_on_path types path row = option_map_or (λ q. cond (q.segment.code == row.c
 pub record IsLoadedLast (types : List SegmentType) (m : Links) (f : Forest Placed) (h y : ℕ) (p : Placed) : Type 0 where
   pub may : CanLink types m h y p
   pub rows : sequence (with_leaf h y p f) ≡ sequence f ++ p ∷ []
+  pub roots : roots_of (with_leaf h y p f) ≡ cond (h == 0) (roots_of f ++ p ∷ []) (roots_of f)
   pub last : last_on (with_leaf h y p f) ≡ take (level types p.segment - 1) (last_on f) ++ p ∷ []
 
 -- A row that may be loaded behind the last row of a forest goes in below its parent on that row's path, behind its twin there.
