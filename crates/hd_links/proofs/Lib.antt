@@ -24,4 +24,6 @@ pub mod Ends
 pub mod Backward
 pub mod Sequels
 pub mod RowChanges
+pub mod LastRows
+pub mod LastPath
 mod WorkedImage

@@ -1,3 +1,4 @@
+ghost use Rattle.hd_links.specs.LastRows.{LoadedRowsComeLast};
 ghost use Rattle.hd_links.specs.Laws.{PointersDecide, HeldTwinsAscend, LiesByItsPlaces, LinkingAddsALeaf, UnlinkingTakesASpan, ReplacingChangesBytes, AddressesAreRows, PointersFollowRows, FaultyRecordsHoldNone, LeavesGoInBetweenRows, SpansAreRowsToTheirEnd, BytesChangeOneRow, BackwardNamesTheTwinBefore, ChainsEnd, LastChildEndsTheTwins};
 
 /// The pointers of a database's records decide which forest they hold.
@@ -76,4 +77,10 @@ pub fn law_bytes_change_one_row()
 /// in no forest.
 pub fn law_faulty_records_hold_none()
     ensures { FaultyRecordsHoldNone }
+{}
+
+/// A row that may be loaded behind the last row of a forest goes in below its parent on that row's path, behind its twin there,
+/// and comes last.
+pub fn law_loaded_rows_come_last()
+    ensures { LoadedRowsComeLast }
 {}
