@@ -11,3 +11,7 @@ pub mod RecordFaults
 pub mod TypedRecords
 pub mod Lent
 pub mod RecordSteps
+pub mod IndexTables
+pub mod RootKeys
+pub mod LateLines
+pub mod FormFaults

@@ -1,11 +1,12 @@
 -- What the phases of a check find of an index, and the tables that they keep of it.
-use Rattle.std.specs.Prelude.{◌≡◌, ◌⊎◌, ℕ, ◌+◌, ◌<◌, ◌≤◌, List, [], ◌∷◌, slice_index}
+use Rattle.std.specs.Prelude.{◌≡◌, ◌⊎◌, ℕ, ◌<◌, ◌≤◌, List, [], ◌∷◌, ◌++◌, slice_index, slice_index_or}
 use Rattle.hd_bytes.specs.Numbers.{number_at}
 use Rattle.hd_volume.specs.Headers.{header_of}
 use Rattle.hd_volume.specs.Volumes.{VolumeState, block_at, IsKind}
-use Rattle.hd_volume.specs.Indexes.{entry_room, IsAmong}
+use Rattle.hd_volume.specs.Indexes.{entry_room}
 use Rattle.hd_image.specs.IndexFaults.{IsOfLevel, NamesBlock}
 use Rattle.hd_check.specs.declared.tables.IndexBlock.{IndexBlock}
+use Rattle.hd_check.specs.declared.tables.Form.{Form}
 
 -- The index block n has a level below the height and no more entries than find room, and the next block, if there is one, is an
 -- index block of its level.
@@ -40,3 +41,41 @@ pub record AreIndexBlocks (v : VolumeState) (blocks : List IndexBlock) : Type 0 
   pub ascend : BlocksAscend 0 blocks
   pub there : (b : IndexBlock) → IsBlockOf b blocks → IsKind v 2 b.number × (b.next ≡ number_at 4 (block_at v b.number) 8)
   pub all : (n : ℕ) → IsKind v 2 n → IsBlockOf (record { number = n; next = number_at 4 (block_at v n) 8 }) blocks
+
+-- the index block of a number
+abbrev pub index_block_of : VolumeState → ℕ → IndexBlock
+index_block_of v n = record { number = n; next = number_at 4 (block_at v n) 8 }
+
+-- the index block at an index of a table
+abbrev pub index_block_at : List IndexBlock → ℕ → IndexBlock
+index_block_at blocks i = slice_index_or blocks i (record { number = 0; next = 0 })
+
+-- what an index block says of its form
+abbrev pub form_of : VolumeState → ℕ → Form
+form_of v n = record { level = slice_index (block_at v n) 3; count = number_at 2 (block_at v n) 4 }
+
+-- the form at an index of a table
+abbrev pub form_at : List Form → ℕ → Form
+form_at forms i = slice_index_or forms i (record { level = 0; count = 0 })
+
+-- these are the forms of the blocks, one for each
+abbrev pub AreForms : VolumeState → List IndexBlock → List Form → Type 0
+AreForms v [] [] = Unit {0}
+AreForms v [] (f ∷ fs) = ⊥
+AreForms v (b ∷ bs) [] = ⊥
+AreForms v (b ∷ bs) (f ∷ fs) = (f ≡ form_of v b.number) × AreForms v bs fs
+
+-- Block n and its form are noted behind others, or it is no index block.
+abbrev pub IsNotedBlock : VolumeState → ℕ → List IndexBlock → List Form → List IndexBlock → List Form → Type 0
+IsNotedBlock v n blocks forms more_blocks more_forms =
+    (IsKind v 2 n × (more_blocks ≡ blocks ++ (index_block_of v n ∷ [])) × (more_forms ≡ forms ++ (form_of v n ∷ [])))
+    ⊎ ((IsKind v 2 n → ⊥) × (more_blocks ≡ blocks) × (more_forms ≡ forms))
+
+-- Top and height are both 0, or top is an index block of level 0 and the height is 1.
+pub record IsTopRight (v : VolumeState) : Type 0 where
+  pub height : (((header_of v.image).top ≡ 0) × ((header_of v.image).height ≡ 0)) ⊎ ((0 < (header_of v.image).top) × ((header_of v.image).height ≡ 1))
+  pub top : 0 < (header_of v.image).top → IsOfLevel v 0 (header_of v.image).top
+
+-- the index block n is not right, and those before it are
+abbrev pub IsFirstWrong : ℕ → VolumeState → ℕ → Type 0
+IsFirstWrong key_length v n = IsKind v 2 n × (IsRightIndexBlock key_length v n → ⊥) × ((m : ℕ) → m < n → IsKind v 2 m → IsRightIndexBlock key_length v m)

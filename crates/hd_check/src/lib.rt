@@ -3,11 +3,14 @@
 
 mod block;
 mod element;
+mod entry;
 mod fault;
 mod header;
+mod index;
 mod lookup;
 mod place;
 mod pointers;
+mod position;
 mod records;
 mod segments;
 mod tables;

@@ -1,0 +1,50 @@
+ghost use Rattle.std.specs.Prelude.{◌≡◌, ◌+◌, ◌*◌, ◌≤◌, length, IsTrue};
+ghost use Rattle.hd_dbd.specs.DatabaseRules.{well_formed};
+ghost use Rattle.hd_bytes.specs.Numbers.{number_at};
+ghost use Rattle.hd_bytes.specs.Ranges.{bytes_at};
+ghost use Rattle.hd_volume.specs.Indexes.{root_key_length, entry_room};
+
+use hd_dbd::Dbd;
+
+/// Where an index block has its level, its count of entries, the number of the block behind it, and its first entry.
+pub const LEVEL: usize = 3;
+
+pub const COUNT: usize = 4;
+
+pub const NEXT: usize = 8;
+
+pub const FIRST: usize = 12;
+
+/// What an entry takes behind its key.
+pub const ADDRESS: usize = 4;
+
+/// The bytes of an index's keys.
+pub fn root_key_length(dbd: &Dbd) -> usize
+    ensures value { result ≡ root_key_length dbd.now.types }
+    ensures short { result ≤ 255 }
+{
+    key_length_of_root(dbd)
+}
+
+/// The bytes of the key of the root, 0 where it has none.
+fn key_length_of_root(dbd: &Dbd) -> usize
+    ensures value { result ≡ root_key_length dbd.now.types }
+    ensures fit { IsTrue (well_formed dbd.now.block_size dbd.now.frspc dbd.now.types) }
+{
+    match dbd.type_of(1) {
+        None => 0,
+        Some(root) => match root.key {
+            None => 0,
+            Some(key) => key.length as usize,
+        },
+    }
+}
+
+/// How many entries find room in a block.
+pub fn entry_room(key_length: usize, size: usize) -> usize
+    requires short { key_length ≤ 255 }
+    requires least { 12 ≤ size }
+    ensures { result ≡ entry_room key_length size }
+{
+    (size - FIRST) / (key_length + ADDRESS)
+}
