@@ -15,3 +15,4 @@ pub mod IndexTables
 pub mod RootKeys
 pub mod LateLines
 pub mod FormFaults
+pub mod TwiceNamed

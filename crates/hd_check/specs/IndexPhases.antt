@@ -1,5 +1,5 @@
 -- What the phases of a check find of an index, and the tables that they keep of it.
-use Rattle.std.specs.Prelude.{◌≡◌, ◌⊎◌, ℕ, ◌<◌, ◌≤◌, List, [], ◌∷◌, ◌++◌, slice_index, slice_index_or}
+use Rattle.std.specs.Prelude.{◌≡◌, ◌⊎◌, ℕ, ◌<◌, ◌≤◌, List, [], ◌∷◌, ◌++◌, length, map, slice_index, slice_index_or}
 use Rattle.hd_bytes.specs.Numbers.{number_at}
 use Rattle.hd_volume.specs.Headers.{header_of}
 use Rattle.hd_volume.specs.Volumes.{VolumeState, block_at, IsKind}
@@ -79,3 +79,11 @@ pub record IsTopRight (v : VolumeState) : Type 0 where
 -- the index block n is not right, and those before it are
 abbrev pub IsFirstWrong : ℕ → VolumeState → ℕ → Type 0
 IsFirstWrong key_length v n = IsKind v 2 n × (IsRightIndexBlock key_length v n → ⊥) × ((m : ℕ) → m < n → IsKind v 2 m → IsRightIndexBlock key_length v m)
+
+-- what is named as a block, 0 for none: as the top block, and as the next one of each block
+abbrev pub names_of : ℕ → List IndexBlock → List ℕ
+names_of top blocks = top ∷ map (λ b. b.next) blocks
+
+-- the number stands twice among these
+abbrev pub IsTwice : ℕ → List ℕ → Type 0
+IsTwice n names = (i j : ℕ) × (i < j) × (j < length names) × (slice_index names i ≡ n) × (slice_index names j ≡ n)

@@ -8,6 +8,7 @@ mod fault;
 mod header;
 mod index;
 mod lookup;
+mod names;
 mod place;
 mod pointers;
 mod position;
