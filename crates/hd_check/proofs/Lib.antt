@@ -16,3 +16,4 @@ pub mod RootKeys
 pub mod LateLines
 pub mod FormFaults
 pub mod TwiceNamed
+pub mod Walks

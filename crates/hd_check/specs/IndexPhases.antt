@@ -1,9 +1,9 @@
 -- What the phases of a check find of an index, and the tables that they keep of it.
-use Rattle.std.specs.Prelude.{◌≡◌, ◌⊎◌, ℕ, ◌<◌, ◌≤◌, List, [], ◌∷◌, ◌++◌, length, map, slice_index, slice_index_or}
+use Rattle.std.specs.Prelude.{Bool, true, false, ◌≡◌, ◌⊎◌, ℕ, ◌<◌, ◌≤◌, List, [], ◌∷◌, ◌++◌, length, map, slice_index, slice_index_or}
 use Rattle.hd_bytes.specs.Numbers.{number_at}
 use Rattle.hd_volume.specs.Headers.{header_of}
 use Rattle.hd_volume.specs.Volumes.{VolumeState, block_at, IsKind}
-use Rattle.hd_volume.specs.Indexes.{entry_room}
+use Rattle.hd_volume.specs.Indexes.{entry_room, IsAmong}
 use Rattle.hd_image.specs.IndexFaults.{IsOfLevel, NamesBlock}
 use Rattle.hd_check.specs.declared.tables.IndexBlock.{IndexBlock}
 use Rattle.hd_check.specs.declared.tables.Form.{Form}
@@ -87,3 +87,34 @@ names_of top blocks = top ∷ map (λ b. b.next) blocks
 -- the number stands twice among these
 abbrev pub IsTwice : ℕ → List ℕ → Type 0
 IsTwice n names = (i j : ℕ) × (i < j) × (j < length names) × (slice_index names i ≡ n) × (slice_index names j ≡ n)
+
+-- The table of a volume's index blocks, each of which is right by itself and named at most once, and the top block.
+pub record IsChainable (key_length : ℕ) (v : VolumeState) (blocks : List IndexBlock) (top : ℕ) : Type 0 where
+  pub table : AreIndexBlocks v blocks
+  pub top_is : top ≡ (header_of v.image).top
+  pub right : IsIndexRight key_length v
+  pub once : AreNamedOnce v
+
+-- Index blocks one behind the other, from one number to another.
+abbrev pub IsPath : VolumeState → ℕ → List ℕ → ℕ → Type 0
+IsPath v start [] end = start ≡ end
+IsPath v start (n ∷ blocks) end = (start ≡ n) × IsKind v 2 n × IsPath v (number_at 4 (block_at v n) 8) blocks end
+
+-- the mark of a number, none past the last
+abbrev pub mark_at : List Bool → ℕ → Bool
+mark_at marks i = slice_index_or marks i false
+
+-- the marks before one are all made
+abbrev pub AreMarkedBefore : ℕ → List Bool → Type 0
+AreMarkedBefore i marks = (j : ℕ) → j < i → mark_at marks j ≡ true
+
+-- Just the blocks of a path from the top block are marked.
+pub record AreMarks (blocks : List IndexBlock) (chain : List ℕ) (marks : List Bool) : Type 0 where
+  pub passed : (i : ℕ) → i < length blocks → mark_at marks i ≡ true → IsAmong (index_block_at blocks i).number chain
+  pub marked : (i : ℕ) → i < length blocks → IsAmong (index_block_at blocks i).number chain → mark_at marks i ≡ true
+
+-- The chain from the top block was walked to its end.
+pub record IsWalked (v : VolumeState) (top : ℕ) (blocks : List IndexBlock) (chain : List ℕ) (marks : List Bool) : Type 0 where
+  pub path : IsPath v top chain 0
+  pub short : length chain ≤ length blocks
+  pub are_marks : AreMarks blocks chain marks

@@ -2,6 +2,7 @@
 #![tactic(auto)]
 
 mod block;
+mod chain;
 mod element;
 mod entry;
 mod fault;
