@@ -17,3 +17,4 @@ pub mod LateLines
 pub mod FormFaults
 pub mod TwiceNamed
 pub mod Walks
+pub mod UnnamedRoots

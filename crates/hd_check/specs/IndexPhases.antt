@@ -1,10 +1,14 @@
 -- What the phases of a check find of an index, and the tables that they keep of it.
-use Rattle.std.specs.Prelude.{Bool, true, false, ◌≡◌, ◌⊎◌, ℕ, ◌<◌, ◌≤◌, List, [], ◌∷◌, ◌++◌, length, map, slice_index, slice_index_or}
+use Rattle.std.specs.Prelude.{◌==◌, Bool, true, false, ◌≡◌, ◌⊎◌, ℕ, ◌<◌, ◌≤◌, List, [], ◌∷◌, ◌++◌, length, map, slice_index, slice_index_or}
 use Rattle.hd_bytes.specs.Numbers.{number_at}
+use Rattle.std.specs.List.{list_any}
+use Rattle.hd_volume.specs.Entries.{entries}
 use Rattle.hd_volume.specs.Headers.{header_of}
 use Rattle.hd_volume.specs.Volumes.{VolumeState, block_at, IsKind}
 use Rattle.hd_volume.specs.Indexes.{entry_room, IsAmong}
 use Rattle.hd_image.specs.IndexFaults.{IsOfLevel, NamesBlock}
+use Rattle.hd_check.specs.declared.segments.Place.{Place}
+use Rattle.hd_check.specs.Places.{IsPlaceOf}
 use Rattle.hd_check.specs.declared.tables.IndexBlock.{IndexBlock}
 use Rattle.hd_check.specs.declared.tables.Form.{Form}
 
@@ -118,3 +122,18 @@ pub record IsWalked (v : VolumeState) (top : ℕ) (blocks : List IndexBlock) (ch
   pub path : IsPath v top chain 0
   pub short : length chain ≤ length blocks
   pub are_marks : AreMarks blocks chain marks
+
+-- These are the addresses of the entries of an index.
+pub record AreNamed (key_length : ℕ) (v : VolumeState) (named : List ℕ) : Type 0 where
+  pub there : (a : ℕ) → IsAmong a named → list_any (λ e. e.address == a) (entries key_length v) ≡ true
+  pub all : (a : ℕ) → list_any (λ e. e.address == a) (entries key_length v) ≡ true → IsAmong a named
+
+-- the roots at these places are among these addresses
+abbrev pub AreRootsAmong : List Place → List ℕ → Type 0
+AreRootsAmong places named = (p : Place) → IsPlaceOf p places → p.code ≡ 1 → IsAmong p.address named
+
+-- The root at an address is none of these, and those before it are.
+pub record IsFirstUnnamed (places : List Place) (named : List ℕ) (a : ℕ) : Type 0 where
+  pub place : IsPlaceOf (record { address = a; code = 1 }) places
+  pub unnamed : IsAmong a named → ⊥
+  pub before : (p : Place) → IsPlaceOf p places → p.code ≡ 1 → p.address < a → IsAmong p.address named

@@ -14,6 +14,7 @@ mod place;
 mod pointers;
 mod position;
 mod records;
+mod roots;
 mod segments;
 mod tables;
 
