@@ -18,3 +18,5 @@ pub mod FormFaults
 pub mod TwiceNamed
 pub mod Walks
 pub mod UnnamedRoots
+pub mod EntrySteps
+pub mod NamedEntries

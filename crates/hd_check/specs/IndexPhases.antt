@@ -1,8 +1,9 @@
 -- What the phases of a check find of an index, and the tables that they keep of it.
-use Rattle.std.specs.Prelude.{◌==◌, Bool, true, false, ◌≡◌, ◌⊎◌, ℕ, ◌<◌, ◌≤◌, List, [], ◌∷◌, ◌++◌, length, map, slice_index, slice_index_or}
+use Rattle.std.specs.Prelude.{◌+◌, ◌*◌, ◌==◌, Bool, true, false, ◌≡◌, ◌⊎◌, ℕ, ◌<◌, ◌≤◌, List, [], ◌∷◌, ◌++◌, length, map, slice_index, slice_index_or}
 use Rattle.hd_bytes.specs.Numbers.{number_at}
 use Rattle.std.specs.List.{list_any}
-use Rattle.hd_volume.specs.Entries.{entries}
+use Rattle.hd_bytes.specs.Ranges.{bytes_at}
+use Rattle.hd_volume.specs.Entries.{Entry, entries}
 use Rattle.hd_volume.specs.Headers.{header_of}
 use Rattle.hd_volume.specs.Volumes.{VolumeState, block_at, IsKind}
 use Rattle.hd_volume.specs.Indexes.{entry_room, IsAmong}
@@ -137,3 +138,11 @@ pub record IsFirstUnnamed (places : List Place) (named : List ℕ) (a : ℕ) : T
   pub place : IsPlaceOf (record { address = a; code = 1 }) places
   pub unnamed : IsAmong a named → ⊥
   pub before : (p : Place) → IsPlaceOf p places → p.code ≡ 1 → p.address < a → IsAmong p.address named
+
+-- where an entry stands in its block
+abbrev pub entry_place : ℕ → ℕ → ℕ
+entry_place key_length index = 12 + index * (key_length + 4)
+
+-- the entry of an index block at an index
+abbrev pub entry_in : ℕ → List ℕ → ℕ → Entry
+entry_in key_length block index = record { key = bytes_at block (entry_place key_length index) key_length; address = number_at 4 block (entry_place key_length index + key_length) }

@@ -4,6 +4,7 @@
 mod block;
 mod chain;
 mod element;
+mod entries;
 mod entry;
 mod fault;
 mod header;
