@@ -20,3 +20,4 @@ pub mod Walks
 pub mod UnnamedRoots
 pub mod EntrySteps
 pub mod NamedEntries
+pub mod OrderSteps

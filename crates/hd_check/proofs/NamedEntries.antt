@@ -1,5 +1,5 @@
 -- What the entries of an index name, block by block.
-use Rattle.std.proofs.Common.{◌≡◌, ◌⊎◌, inl, inr, ℕ, zero, suc, ◌+◌, ◌*◌, ◌<◌, ◌≤◌, List, [], ◌∷◌, ◌++◌, length, map, Bool, true, false, Option, Some, None, refl, sym, ap, subst, ◌∙◌, arith}
+use Rattle.std.proofs.Common.{◌≡◌, ◌⊎◌, inl, inr, ℕ, ◌+◌, ◌*◌, ◌<◌, ◌≤◌, List, [], ◌∷◌, ◌++◌, length, map, Bool, true, Option, Some, None, refl, sym, ap, subst, ◌∙◌, arith}
 use Rattle.std.specs.Prelude.{◌==◌, not, find, option_map}
 use Rattle.std.specs.List.{list_all, list_any}
 use Rattle.std.proofs.lemmas.Bool.{cases_lt, cases_eq, eq-eqb, eqb-true, or_cases, or_left, or_right, and_from, false≢true}
@@ -9,7 +9,7 @@ use Rattle.std.proofs.lemmas.List.Folds.{list_all-append}
 use Rattle.hd_bytes.specs.Numbers.{number_at}
 use Rattle.hd_dbd.specs.Hierarchy.{Database}
 use Rattle.hd_volume.specs.Headers.{header_of}
-use Rattle.hd_volume.specs.Volumes.{VolumeState, block_at, IsKind}
+use Rattle.hd_volume.specs.Volumes.{VolumeState, block_at}
 use Rattle.hd_volume.specs.Entries.{Entry, entries_in, entries_of, entry_blocks, entries}
 use Rattle.hd_volume.specs.Indexes.{root_key_length, IsEntryBlock, IsChain, IsAmong}
 use Rattle.hd_image.specs.IndexFaults.{names_a_root}
@@ -20,7 +20,7 @@ use Rattle.hd_image.specs.Right.{IndexIsFormed}
 use Rattle.hd_image.specs.Standing.{wrong_entry}
 use Rattle.hd_check.specs.declared.tables.IndexBlock.{IndexBlock}
 use Rattle.hd_check.specs.Phases.{IsLeastOf}
-use Rattle.hd_check.specs.IndexPhases.{IsBlockOf, AreIndexBlocks, AreNamed, index_block_of, index_block_at}
+use Rattle.hd_check.specs.IndexPhases.{AreIndexBlocks, AreNamed, index_block_of, index_block_at}
 use Rattle.hd_check.proofs.IndexTables.{among, index-of, in-order}
 use Rattle.hd_check.proofs.EntrySteps.{none-failing}
 use Rattle.hd_check.proofs.LateLines.{least-late, stands-12}

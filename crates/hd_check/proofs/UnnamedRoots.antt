@@ -1,5 +1,5 @@
 -- The roots of a volume among the addresses of the entries.
-use Rattle.std.proofs.Common.{◌≡◌, ◌⊎◌, inl, inr, ℕ, zero, suc, ◌+◌, ◌<◌, ◌≤◌, List, [], ◌∷◌, length, Result, Ok, Err, Bool, true, false, slice_index, slice_index_or, refl, sym, ap, subst, ◌∙◌, arith}
+use Rattle.std.proofs.Common.{◌≡◌, inl, inr, ℕ, zero, suc, ◌<◌, ◌≤◌, List, [], ◌∷◌, length, true, false, slice_index, slice_index_or, refl, sym, ap, subst, ◌∙◌, arith}
 use Rattle.std.specs.Prelude.{◌==◌}
 use Rattle.std.specs.List.{list_any, Contains}
 use Rattle.std.specs.List.Sorted.{IsPermutation}
@@ -13,7 +13,7 @@ use Rattle.hd_links.specs.Links.{IsSegment}
 use Rattle.hd_image.specs.Records.{links_of}
 use Rattle.hd_image.specs.Standing.{no_entry}
 use Rattle.hd_check.specs.declared.segments.Place.{Place}
-use Rattle.hd_check.specs.Places.{IsPlaceOf, AreFrom, PlacesAscend, ArePlaces}
+use Rattle.hd_check.specs.Places.{IsPlaceOf, PlacesAscend, ArePlaces}
 use Rattle.hd_check.specs.Phases.{IsLeastOf}
 use Rattle.hd_check.specs.IndexPhases.{AreNamed, AreRootsAmong, IsFirstUnnamed}
 use Rattle.hd_check.proofs.Lookups.{place-at, among, number-of, in-order}

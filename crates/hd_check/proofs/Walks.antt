@@ -1,6 +1,5 @@
 -- The walk along an index's blocks: each that it comes to is new, so it ends.
-use Rattle.std.proofs.Common.{◌≡◌, ◌≢◌, ◌⊎◌, inl, inr, ℕ, zero, suc, ◌+◌, ◌-◌, ◌*◌, ◌<◌, ◌≤◌, List, [], ◌∷◌, ◌++◌, length, Bool, true, false, cond, slice_index, slice_index_or, slice_set, replicate, length-append, get_or-set_other, get_or-set_same, refl, sym, ap, subst, ◌∙◌, arith, ne_eqb}
-use Rattle.std.specs.Prelude.{◌==◌}
+use Rattle.std.proofs.Common.{◌≡◌, ◌⊎◌, inl, inr, ℕ, zero, suc, ◌+◌, ◌*◌, ◌<◌, ◌≤◌, List, [], ◌∷◌, ◌++◌, length, Bool, true, false, cond, slice_set, replicate, length-append, get_or-set_other, get_or-set_same, refl, sym, ap, subst, ◌∙◌, arith, ne_eqb}
 use Rattle.std.specs.List.{sum_by}
 use Rattle.std.proofs.lemmas.Bool.{cases_lt, cases_eq, cases_Bool, eq-eqb, false≢true}
 use Rattle.std.proofs.lemmas.Nat.{mul-le}
@@ -8,19 +7,18 @@ use Rattle.std.proofs.lemmas.List.Sums.{sum_by-cons, sum_by-set}
 use Rattle.hd_bytes.specs.Numbers.{number_at}
 use Rattle.hd_dbd.specs.Hierarchy.{Database}
 use Rattle.hd_dbd.proofs.StoredSizes.{block_size-bounds}
-use Rattle.hd_volume.specs.Headers.{HasHeader, header_of}
+use Rattle.hd_volume.specs.Headers.{header_of}
 use Rattle.hd_volume.specs.Volumes.{VolumeState, block_at, IsKind}
 use Rattle.hd_volume.specs.Rooms.{one_if}
 use Rattle.hd_volume.specs.Entries.{chain_from, entry_blocks}
-use Rattle.hd_volume.specs.Indexes.{root_key_length, IsEntryBlock, IsChain, IsAmong}
+use Rattle.hd_volume.specs.Indexes.{root_key_length, IsChain, IsAmong}
 use Rattle.hd_volume.proofs.KindLemmas.{below-count}
-use Rattle.hd_image.specs.IndexFaults.{NamesBlock, IsUnreachedBlock}
 use Rattle.hd_image.specs.Records.{IsVolumeOf}
 use Rattle.hd_image.specs.Right.{IndexIsFormed}
 use Rattle.hd_image.specs.Standing.{unreached_block}
 use Rattle.hd_check.specs.declared.tables.IndexBlock.{IndexBlock}
 use Rattle.hd_check.specs.Phases.{IsLeastOf}
-use Rattle.hd_check.specs.IndexPhases.{IsBlockOf, BlocksAscend, AreIndexBlocks, IsIndexRight, IsChainable, IsPath, AreMarks, AreMarkedBefore, IsWalked, mark_at, index_block_of, index_block_at}
+use Rattle.hd_check.specs.IndexPhases.{IsBlockOf, BlocksAscend, IsIndexRight, IsChainable, IsPath, AreMarks, AreMarkedBefore, IsWalked, mark_at, index_block_of, index_block_at}
 use Rattle.hd_check.proofs.IndexTables.{among, index-of, in-order, one-index}
 use Rattle.hd_check.proofs.LateLines.{least-late, stands-10}
 

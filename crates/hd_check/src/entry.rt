@@ -87,7 +87,8 @@ pub fn key_at(block: &[u8], key_length: usize, index: usize) -> &[u8]
     requires short { key_length ≤ 255 }
     requires small { index ≤ 65535 }
     requires within { entry_place key_length (index + 1) ≤ length block.now }
-    ensures { result.now ≡ bytes_at block.now (entry_place key_length index) key_length }
+    ensures value { result.now ≡ bytes_at block.now (entry_place key_length index) key_length }
+    ensures len { length result.now ≡ key_length }
 {
     let place = entry_place(key_length, index);
     &block[place..place + key_length]

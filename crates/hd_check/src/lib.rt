@@ -11,6 +11,7 @@ mod header;
 mod index;
 mod lookup;
 mod names;
+mod order;
 mod place;
 mod pointers;
 mod position;

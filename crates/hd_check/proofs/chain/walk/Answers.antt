@@ -1,4 +1,4 @@
-use Rattle.std.proofs.Common.{rules, ◌≡◌, ◌≤◌, ◌+◌, ℕ, List, ◌∷◌, [], ◌++◌, Bool, true, length, slice_set, length-set, sym, subst, ◌∙◌, arith}
+use Rattle.std.proofs.Common.{rules, ◌≡◌, ◌+◌, ℕ, List, ◌∷◌, [], ◌++◌, true, slice_set, length-set, sym, subst, ◌∙◌, arith}
 use Rattle.hd_check.specs.declared.tables.IndexBlock.{IndexBlock}
 use Rattle.hd_check.specs.IndexPhases.{index_block_at}
 use Rattle.hd_check.proofs.Walks.{IsWalking, walk-goes-on, walk-stops, walk-ends}

@@ -1,4 +1,4 @@
-use Rattle.std.proofs.Common.{◌≡◌, ◌*◌, ◌<◌, ◌≤◌, ◌++◌, ℕ, List, map, Option, Some, true, Ok, IsTrue, IfNone, IfSome, inl, inr, length, sym, ap, subst, ◌∙◌, arith}
+use Rattle.std.proofs.Common.{◌≡◌, ◌*◌, ◌<◌, ◌++◌, ℕ, List, map, Option, Some, true, Ok, IsTrue, IfNone, IfSome, inl, inr, length, sym, ap, subst, ◌∙◌, arith}
 use Rattle.std.specs.Prelude.{not, find, option_map}
 use Rattle.std.specs.List.{list_all}
 use Rattle.std.proofs.lemmas.Bool.{cases_lt}

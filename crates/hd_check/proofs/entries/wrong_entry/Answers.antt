@@ -1,4 +1,4 @@
-use Rattle.std.proofs.Common.{rules, ◌≡◌, ◌<◌, ◌+◌, ◌∷◌, [], ◌++◌, ℕ, List, map, Bool, true, false, Ok, IsTrue, append_assoc, refl, sym, ap, subst, ◌∙◌, arith}
+use Rattle.std.proofs.Common.{rules, ◌≡◌, ◌+◌, ◌∷◌, [], ◌++◌, ℕ, List, map, true, Ok, IsTrue, append_assoc, refl, sym, ap, subst, ◌∙◌, arith}
 use Rattle.std.specs.List.{list_all}
 use Rattle.hd_bytes.specs.Numbers.{number_at}
 use Rattle.hd_volume.specs.Volumes.{VolumeState, block_at}
@@ -10,7 +10,7 @@ use Rattle.hd_image.specs.Records.{links_of}
 use Rattle.hd_image.proofs.OneImage.{links-same, volume-same}
 use Rattle.hd_check.specs.IndexPhases.{entry_in}
 use Rattle.hd_check.proofs.RecordSteps.{places-same}
-use Rattle.hd_check.proofs.EntrySteps.{entry-block-same, entries-more, all-more, addresses-more, wrong-found, judged-same, read-memory}
+use Rattle.hd_check.proofs.EntrySteps.{entries-more, all-more, addresses-more, wrong-found, judged-same, read-memory}
 use Rattle.hd_check.proofs.entries.wrong_entry.Goals as goal
 
 pub judge_entry-requires-clause-of : goal.judge_entry-requires-clause-of
