@@ -15,3 +15,13 @@ pub mod Noting
 pub mod Holders
 pub mod Matching
 pub mod OneEach
+pub mod IndexTables
+pub mod RootKeys
+pub mod LateLines
+pub mod FormFaults
+pub mod TwiceNamed
+pub mod Walks
+pub mod UnnamedRoots
+pub mod EntrySteps
+pub mod NamedEntries
+pub mod OrderSteps

@@ -11,3 +11,10 @@ pub struct IndexBlock {
     pub number: u32,
     pub next: u32,
 }
+
+/// What an index block says of its form: its level, and how many entries it counts.
+#[derive(Clone, Copy, Debug)]
+pub struct Form {
+    pub level: u8,
+    pub count: u16,
+}
