@@ -11,3 +11,6 @@ pub mod RecordFaults
 pub mod TypedRecords
 pub mod Lent
 pub mod RecordSteps
+pub mod TwinChains
+pub mod PlaceNumbers
+pub mod Owning

@@ -5,3 +5,4 @@ pub mod Judging
 pub mod Lending
 pub mod Tables
 pub mod IndexPhases
+pub mod Matched

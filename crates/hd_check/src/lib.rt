@@ -2,6 +2,7 @@
 #![tactic(auto)]
 
 mod block;
+mod chains;
 mod element;
 mod fault;
 mod header;
