@@ -14,3 +14,4 @@ pub mod RecordSteps
 pub mod TwinChains
 pub mod PlaceNumbers
 pub mod Owning
+pub mod Reaching

@@ -1,7 +1,8 @@
 -- The numbers of the places of a volume whose pointers are matched.
-use Rattle.std.proofs.Common.{◌≡◌, ◌≢◌, inl, inr, ℕ, ◌*◌, ◌<◌, ◌≤◌, List, length, true, false, sym, ap, subst, ◌∙◌, arith}
-use Rattle.std.proofs.lemmas.Bool.{cases_eq, cases_lt, eq-eqb, eqb-true, false≢true}
+use Rattle.std.proofs.Common.{◌≡◌, ◌≢◌, inl, inr, ℕ, ◌-◌, ◌*◌, ◌<◌, ◌≤◌, List, length, true, false, sym, ap, subst, ◌∙◌, arith}
+use Rattle.std.proofs.lemmas.Bool.{cases_eq, cases_lt, eq-eqb, eqb-true, false≢true, and_parts, leb-true}
 use Rattle.std.proofs.lemmas.Nat.{mul-le}
+use Rattle.std.proofs.lemmas.Option.{slice_get_within}
 use Rattle.std.specs.Prelude.{◌==◌}
 use Rattle.hd_dbd.specs.Hierarchy.{Database}
 use Rattle.hd_dbd.proofs.StoredSizes.{block_size-bounds}
@@ -11,7 +12,9 @@ use Rattle.hd_links.specs.Links.{IsSegment, is_child_type}
 use Rattle.hd_links.specs.Pointers.{IsTwinBefore, IsParentOfFirst, Precedes}
 use Rattle.hd_links.proofs.Types.{ordered}
 use Rattle.hd_image.specs.Records.{links_of}
-use Rattle.hd_image.proofs.Found.{records-link}
+use Rattle.hd_prefix.specs.Fields.{code_of}
+use Rattle.hd_image.proofs.Found.{records-link, segment-found, stored-found}
+use Rattle.hd_dbd.proofs.Levels.{type_within}
 use Rattle.hd_check.specs.declared.segments.Place.{Place}
 use Rattle.hd_check.specs.Places.{IsPlaceOf, PlacesAscend}
 use Rattle.hd_check.specs.Tables.{place_at, nobody}
@@ -109,3 +112,17 @@ module _ (d : Database) (v : VolumeState) (ps : List Place) (M : IsMatched d v p
       let size : v.size ≤ 32768 = (let most = (block_size-bounds d.block_size d.frspc d.types M.volume.fit).1 in let own = M.volume.size in omega arith) in
       let most : (header_of v.image).count * v.size ≤ 65536 * 32768 = mul-le (header_of v.image).count v.size 65536 32768 (omega arith) size in
       absurd (omega arith)
+
+  -- there are no more types than a byte can name
+  types-few : length d.types ≤ 255
+  types-few = leb-true (length d.types) 255 (and_parts _ _ (and_parts _ _ M.volume.fit).0).1
+
+  -- the code of a segment is a byte
+  pub code-short : (a : ℕ) → IsSegment (links_of d.types v) a → (links_of d.types v).code a ≤ 255
+  code-short a s =
+      let h = segment-found d v a M.volume.fit M.volume s in
+      let own : (links_of d.types v).code a ≡ code_of h.bytes = ap code_of (stored-found d v a h) in
+      let is = (type_within d.types (code_of h.bytes) h.own h.typed).1 in
+      let within : code_of h.bytes - 1 < length d.types = slice_get_within d.types (code_of h.bytes - 1) h.own is in
+      let most = types-few in
+      omega arith

@@ -9,6 +9,7 @@ mod header;
 mod lookup;
 mod place;
 mod pointers;
+mod reached;
 mod records;
 mod segments;
 mod tables;
