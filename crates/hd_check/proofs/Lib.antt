@@ -15,3 +15,4 @@ pub mod TwinChains
 pub mod PlaceNumbers
 pub mod Owning
 pub mod Reaching
+pub mod KeyOrder

@@ -9,7 +9,7 @@ use Rattle.hd_dbd.proofs.StoredSizes.{block_size-bounds}
 use Rattle.hd_volume.specs.Headers.{header_of}
 use Rattle.hd_volume.specs.Volumes.{VolumeState}
 use Rattle.hd_links.specs.Links.{IsSegment, is_child_type}
-use Rattle.hd_links.specs.Pointers.{IsTwinBefore, IsParentOfFirst, Precedes}
+use Rattle.hd_links.specs.Pointers.{PointersAreTyped, PredecessorsAreOne, IsTwinBefore, IsParentOfFirst, Precedes}
 use Rattle.hd_links.proofs.Types.{ordered}
 use Rattle.hd_image.specs.Records.{links_of}
 use Rattle.hd_prefix.specs.Fields.{code_of}
@@ -19,8 +19,21 @@ use Rattle.hd_check.specs.declared.segments.Place.{Place}
 use Rattle.hd_check.specs.Places.{IsPlaceOf, PlacesAscend}
 use Rattle.hd_check.specs.Tables.{place_at, nobody}
 use Rattle.hd_check.specs.Matched.{IsMatched}
+use Rattle.hd_image.proofs.OneImage.{links-same, volume-same}
+use Rattle.hd_check.proofs.RecordSteps.{places-same}
 use Rattle.hd_check.proofs.Lookups.{among, number-of, in-order}
 use Rattle.hd_check.proofs.TwinChains.{next-there, twin-by, first-alone}
+
+-- what is matched in one image is matched in it at any time
+pub matched-same : (d : Database) (v w : VolumeState) (ps : List Place) → w.image ≡ v.image → w.size ≡ v.size → w.sizes ≡ v.sizes → IsMatched d v ps → IsMatched d w ps
+matched-same d v w ps image size sizes M =
+    let same : links_of d.types w ≡ links_of d.types v = links-same d.types v w image size sizes in
+    record {
+      volume = volume-same d v w image size sizes M.volume;
+      stand = places-same d.types v w ps same M.stand;
+      typed = subst (PointersAreTyped d.types) (sym same) M.typed;
+      single = subst (PredecessorsAreOne d.types) (sym same) M.single;
+    }
 
 -- places in order have one number each
 pub one-number : (ps : List Place) (i j : ℕ) → PlacesAscend ps → i < length ps → j < length ps → (place_at ps i).address ≡ (place_at ps j).address → i ≡ j

@@ -6,3 +6,4 @@ pub mod Lending
 pub mod Tables
 pub mod IndexPhases
 pub mod Matched
+pub mod Keys

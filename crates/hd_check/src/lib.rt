@@ -6,6 +6,7 @@ mod chains;
 mod element;
 mod fault;
 mod header;
+mod keys;
 mod lookup;
 mod place;
 mod pointers;
