@@ -1,5 +1,6 @@
 -- A segment that is found in a volume, as it is lent.
 use Rattle.std.proofs.Common.{◌≡◌, ℕ, ◌<◌, ◌≤◌, List, length, Some, sym, subst, ◌∙◌, arith}
+use Rattle.hd_dbd.specs.Types.{SegmentType}
 use Rattle.hd_dbd.specs.Hierarchy.{Database}
 use Rattle.hd_dbd.specs.Prefixes.{prefix_length}
 use Rattle.hd_dbd.proofs.Levels.{type_within}

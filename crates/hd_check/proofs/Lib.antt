@@ -16,3 +16,6 @@ pub mod PlaceNumbers
 pub mod Owning
 pub mod Reaching
 pub mod KeyOrder
+pub mod TwinPointers
+pub mod LastChildren
+pub mod TwinFaults

@@ -24,6 +24,10 @@ use Rattle.hd_check.proofs.RecordSteps.{places-same}
 use Rattle.hd_check.proofs.Lookups.{among, number-of, in-order}
 use Rattle.hd_check.proofs.TwinChains.{next-there, twin-by, first-alone}
 
+-- numbers that do not compare as equal are not
+pub ne-by : (x y : ℕ) → (x == y) ≡ false → x ≢ y
+ne-by x y other same = false≢true (sym other ∙ eq-eqb x y same)
+
 -- what is matched in one image is matched in it at any time
 pub matched-same : (d : Database) (v w : VolumeState) (ps : List Place) → w.image ≡ v.image → w.size ≡ v.size → w.sizes ≡ v.sizes → IsMatched d v ps → IsMatched d w ps
 matched-same d v w ps image size sizes M =

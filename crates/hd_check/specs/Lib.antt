@@ -7,3 +7,4 @@ pub mod Tables
 pub mod IndexPhases
 pub mod Matched
 pub mod Keys
+pub mod Twins

@@ -47,8 +47,8 @@ pub fn stands_at(places: &[Place], address: u32, code: u8) -> bool
     }
 }
 
-/// The twin forward of the segment at the place of a number.
-fn next_of(forwards: &[u32], number: usize) -> u32
+/// What a table has for the place of a number, 0 past its end.
+pub fn number_in(forwards: &[u32], number: usize) -> u32
     ensures { result ≡ slice_index forwards.now number }
 {
     forwards.get(number).copied().unwrap_or(0)
@@ -67,7 +67,7 @@ fn own_chain(places: &[Place], forwards: &[u32], owners: &mut Vec<u32>, first: u
     let mut number = first;
     while owners[number] == NOBODY {
         owners[number] = owner;
-        match number_of(places, next_of(forwards, number)) {
+        match number_of(places, number_in(forwards, number)) {
             None => return,
             Some(twin) => number = twin,
         }

@@ -14,5 +14,6 @@ mod reached;
 mod records;
 mod segments;
 mod tables;
+mod twins;
 
 pub use fault::Fault;

@@ -35,7 +35,7 @@ loop-owners-preserved c =
     let many = i.as_many in
     let within : n < length xs = omega arith in
     let found = c.in-Some.ensures.some in
-    let next : slice_index c.args.forwards.now n ≡ (place_at ps c.in-Some.twin).address = sym c.next_of.ensures ∙ sym found.1 in
+    let next : slice_index c.args.forwards.now n ≡ (place_at ps c.in-Some.twin).address = sym c.number_in.ensures ∙ sym found.1 in
     record {
       inside = found.0;
       as_many = length-set xs n w ∙ i.as_many;
@@ -84,7 +84,7 @@ returns-in-None-clause-closed c = λ d v M F closed.
     let inside = i.inside in
     let many = i.as_many in
     let within : c.loop-owners.number < length c.loop-owners.owners.items = omega arith in
-    open-end d v c.args.places.now M c.loop-owners.owners.items c.loop-owners.number c.args.owner c.next_of.result within c.requires.some (sym (F.names c.loop-owners.number inside) ∙ sym c.next_of.ensures)
+    open-end d v c.args.places.now M c.loop-owners.owners.items c.loop-owners.number c.args.owner c.number_in.result within c.requires.some (sym (F.names c.loop-owners.number inside) ∙ sym c.number_in.ensures)
     (c.in-None.ensures.none M.stand.ascend) (i.ahead d v M F closed)
 
 pub returns-clause-first : goal.returns-clause-first
