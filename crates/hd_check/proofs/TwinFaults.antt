@@ -6,7 +6,7 @@ use Rattle.hd_dbd.specs.Hierarchy.{Database}
 use Rattle.hd_dbd.specs.Types.{SegmentType}
 use Rattle.hd_volume.specs.Headers.{header_of}
 use Rattle.hd_volume.specs.Volumes.{VolumeState}
-use Rattle.hd_links.specs.Links.{Links, IsSegment, is_child_type, is_last_kept}
+use Rattle.hd_links.specs.Links.{Links, is_child_type}
 use Rattle.hd_links.specs.Pointers.{TwinsLinkBack}
 use Rattle.hd_image.specs.Records.{links_of}
 use Rattle.hd_image.specs.PointerFaults.{IsWrongBackward, HasWrongLast, IsWrongLast}
@@ -17,7 +17,7 @@ use Rattle.hd_check.specs.declared.fault.Fault.{Fault}
 use Rattle.hd_check.specs.Phases.{IsLeastOf}
 use Rattle.hd_check.specs.Tables.{place_at}
 use Rattle.hd_check.specs.Matched.{IsMatched}
-use Rattle.hd_check.specs.Twins.{HasChildren, IsBackwardRight, IsLastRight, AreLastsRight, AreTwinsRight, AreTwinsWrong}
+use Rattle.hd_check.specs.Twins.{HasChildren, IsBackwardRight, IsLastRight, AreTwinsRight, AreTwinsWrong}
 use Rattle.hd_check.proofs.PlaceNumbers.{stands, number-at, number-below}
 use Rattle.hd_check.proofs.LastChildren.{right-not-wrong}
 

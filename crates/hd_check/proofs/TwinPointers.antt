@@ -4,8 +4,8 @@ use Rattle.std.proofs.lemmas.Bool.{cases_eq, false≢true}
 use Rattle.hd_dbd.specs.Hierarchy.{Database}
 use Rattle.hd_dbd.specs.Prefixes.{is_backward_kept}
 use Rattle.hd_volume.specs.Volumes.{VolumeState}
-use Rattle.hd_links.specs.Links.{IsSegment, is_child_type, is_last_kept}
-use Rattle.hd_links.specs.Pointers.{IsTwinBefore, IsParentOfFirst, Precedes, IsInChain}
+use Rattle.hd_links.specs.Links.{is_child_type, is_last_kept}
+use Rattle.hd_links.specs.Pointers.{Precedes, IsInChain}
 use Rattle.hd_image.specs.Records.{links_of}
 use Rattle.hd_image.specs.PointerFaults.{IsWrongBackward, IsWrongLast}
 use Rattle.hd_check.specs.declared.segments.Place.{Place}

@@ -1,4 +1,4 @@
-use Rattle.std.proofs.Common.{◌≡◌, ◌≤◌, ℕ, length, sym, subst, ◌∙◌, arith}
+use Rattle.std.proofs.Common.{◌≤◌, ℕ, length, sym, subst, arith}
 use Rattle.hd_dbd.specs.Prefixes.{stored_size}
 use Rattle.hd_image.specs.Records.{links_of}
 use Rattle.hd_check.specs.Tables.{place_at}

@@ -1,6 +1,5 @@
-use Rattle.std.proofs.Common.{sym, ap, ◌∙◌}
+use Rattle.std.proofs.Common.{sym, ◌∙◌}
 use Rattle.std.proofs.lemmas.Bool.{false≢true}
-use Rattle.hd_check.specs.Tables.{place_at}
 use Rattle.hd_check.proofs.TwinPointers.{has-children}
 use Rattle.hd_check.proofs.twins.wrong_child.Goals as goal
 

@@ -1,4 +1,4 @@
-use Rattle.std.proofs.Common.{◌≡◌, ◌≢◌, ℕ, List, slice_index_or, true, sym, ap, subst, ◌∙◌}
+use Rattle.std.proofs.Common.{◌≢◌, ℕ, List, slice_index_or, sym, ap, ◌∙◌}
 use Rattle.hd_volume.proofs.PutLemmas.{if-some-map}
 use Rattle.hd_links.proofs.Types.{is_in}
 use Rattle.hd_image.specs.Records.{links_of}
