@@ -48,10 +48,10 @@ pub fn stands_at(places: &[Place], address: u32, code: u8) -> bool
 }
 
 /// What a table has for the place of a number, 0 past its end.
-pub fn number_in(forwards: &[u32], number: usize) -> u32
-    ensures { result ≡ slice_index forwards.now number }
+pub fn number_in(table: &[u32], number: usize) -> u32
+    ensures { result ≡ slice_index table.now number }
 {
-    forwards.get(number).copied().unwrap_or(0)
+    table.get(number).copied().unwrap_or(0)
 }
 
 /// Writes the owner of a chain of twins to each of its segments, from the one of a number on.
