@@ -25,3 +25,11 @@ pub mod UnnamedRoots
 pub mod EntrySteps
 pub mod NamedEntries
 pub mod OrderSteps
+pub mod TwinChains
+pub mod PlaceNumbers
+pub mod Owning
+pub mod Reaching
+pub mod KeyOrder
+pub mod TwinPointers
+pub mod LastChildren
+pub mod TwinFaults

@@ -7,3 +7,6 @@ pub mod Tables
 pub mod Namings
 pub mod IndexPhases
 pub mod LeftKeys
+pub mod Matched
+pub mod Keys
+pub mod Twins

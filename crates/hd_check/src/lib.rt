@@ -3,12 +3,14 @@
 
 mod block;
 mod chain;
+mod chains;
 mod element;
 mod entries;
 mod entry;
 mod fault;
 mod header;
 mod index;
+mod keys;
 mod lookup;
 mod names;
 mod order;
@@ -16,9 +18,11 @@ mod place;
 mod pointers;
 mod predecessors;
 mod position;
+mod reached;
 mod records;
 mod roots;
 mod segments;
 mod tables;
+mod twins;
 
 pub use fault::Fault;
