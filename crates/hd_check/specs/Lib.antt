@@ -10,3 +10,4 @@ pub mod LeftKeys
 pub mod Matched
 pub mod Keys
 pub mod Twins
+pub mod Checks

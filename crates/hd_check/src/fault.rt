@@ -1,8 +1,11 @@
 ghost use Rattle.std.specs.Prelude.{◌≡◌};
 
+use thiserror::Error;
+
 /// What is wrong with a volume: a number of the fault table, the address where it stands, and what else it names, 0 where
 /// it names nothing.
-#[derive(Clone, Copy, Debug, PartialEq, Eq)]
+#[derive(Clone, Copy, Debug, Drop, PartialEq, Eq, Error)]
+#[error("fault {number} at {address}, other {other}")]
 pub struct Fault {
     pub number: u8,
     pub address: u32,

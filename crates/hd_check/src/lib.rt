@@ -4,6 +4,7 @@
 mod block;
 mod chain;
 mod chains;
+mod checking;
 mod element;
 mod entries;
 mod entry;
@@ -25,4 +26,5 @@ mod segments;
 mod tables;
 mod twins;
 
+pub use checking::{CheckFault, Passed, check};
 pub use fault::Fault;
