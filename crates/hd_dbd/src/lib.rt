@@ -21,6 +21,7 @@ mod rules;
 pub use answer::{Refused, Status};
 pub use call::Get;
 pub use database::{Dbd, DbdFault};
+pub use facts::type_of;
 pub use fault_law::{law_databases_have_no_fault, law_programs_have_no_fault};
 pub use hierarchy::{Field, FreeSpace, Key, Rule, SegType};
 pub use keys::key_in;

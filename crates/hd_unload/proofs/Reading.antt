@@ -1,5 +1,5 @@
 -- Reading a stream record by record, and loading it.
-use Rattle.std.proofs.Common.{◌≡◌, ℕ, ◌+◌, ◌<◌, ◌^◌, IfSome, IfNone, List, [], ◌∷◌, ◌++◌, length, true, Option, Some, None, IsTrue, refl, sym, ap, ◌∙◌, subst, inr, arith}
+use Rattle.std.proofs.Common.{◌≡◌, ℕ, ◌+◌, ◌<◌, ◌^◌, IfSome, List, [], ◌∷◌, ◌++◌, length, true, Option, Some, None, IsTrue, refl, sym, ap, ◌∙◌, subst, inr, arith}
 use Rattle.std.specs.Prelude.{map, option_map}
 use Rattle.std.proofs.lemmas.List.{append_assoc, length-append}
 use Rattle.hd_dbd.specs.declared.answer.Status.{Status}
@@ -20,6 +20,7 @@ use Rattle.hd_dbd.specs.Facts.{stored_sizes}
 use Rattle.hd_dbd.specs.Forest.{empty}
 use Rattle.hd_image.specs.Holding.{HoldsPlaced, HoldsRows}
 use Rattle.hd_image.proofs.Empty.{new-empty}
+use Rattle.hd_unload.specs.declared.record.Record.{Record as NextRecord}
 use Rattle.hd_unload.specs.declared.fault.RecordFault.{RecordFault}
 use Rattle.hd_unload.specs.declared.fault.ReloadFault.{ReloadFault}
 use Rattle.hd_unload.specs.declared.fault.ReloadFault.TheVariants.{Record, Full, Memory, Device}
@@ -79,8 +80,8 @@ legal-more d rows (k ∷ loadings) old new row legal fits may step holds =
       legal.2,
       subst (λ (v : VolumeState). IsLoadStep d k.before k.row v) (sym (first-more loadings old new row)) legal.3,
       legal-more d (rows ++ k.row ∷ []) loadings old new row legal.4 fits
-      (subst (λ (rs : List Segment). load_fault d.types (last_path d.types rs) row ≡ None) same may) step
-      (subst (λ (rs : List Segment). HoldsRows d new (rs ++ row ∷ [])) same holds),
+          (subst (λ (rs : List Segment). load_fault d.types (last_path d.types rs) row ≡ None) same may) step
+          (subst (λ (rs : List Segment). HoldsRows d new (rs ++ row ∷ [])) same holds),
     )
 
 -- a load with one row more
@@ -151,8 +152,13 @@ pub row-refused : (d : Database) (stream : List ℕ) (largest count : ℕ) (left
     → ((rows : List Segment) → record_fault d.types rows left ≡ option_map refusal_of (load_fault d.types (last_path d.types rows) row))
     → IsFaultOfRow d (segments_of path) row (count + 1) v e → IsFaultOf d stream largest v.is_sound e
 row-refused d stream largest count left rest path v row (Record fault n) read fits is faults wrong =
-    inr (read.rows, left, read.spells, wrong.0 ∙ ap (λ (n : ℕ). n + 1) (sym read.counted),
-    faults read.rows ∙ ap (λ (p : List Segment). option_map refusal_of (load_fault d.types p row)) (sym read.last) ∙ wrong.1)
+    inr (
+      read.rows,
+      left,
+      read.spells,
+      wrong.0 ∙ ap (λ (n : ℕ). n + 1) (sym read.counted),
+      faults read.rows ∙ ap (λ (p : List Segment). option_map refusal_of (load_fault d.types p row)) (sym read.last) ∙ wrong.1,
+    )
 row-refused d stream largest count left rest path v row (Full n) read fits is faults wrong = λ sound. record {
   rows = read.rows;
   row = row;
@@ -170,14 +176,14 @@ row-refused d stream largest count left rest path v row Device read fits is faul
 
 -- ---- the whole stream
 
--- what is said of a value that is there
-pub of-some : {A : Type 0} {P : A → Type 0} (o : Option A) (x : A) → o ≡ Some x → IfSome o P → P x
-of-some None x e h = cc
-of-some {P = P} (Some y) x e h = (let same : y ≡ x = cc in subst P same h)
-
-pub of-none : {A : Type 0} {P : Type 0} (o : Option A) → o ≡ None → IfNone o P → P
-of-none None e h = h
-of-none (Some y) e h = cc
+-- a row that is said to be there fits, and the record spells it
+pub row-there : (types : List SegmentType) (left : List ℕ) (o : Option NextRecord) (r : NextRecord) → o ≡ Some r
+    → IfSome o (λ x. (row_fits types (record { code = x.code; bytes = x.bytes.now }) ≡ true) × (left ≡ record_bytes (record { code = x.code; bytes = x.bytes.now }) ++ x.rest.now))
+    → (row_fits types (record { code = r.code; bytes = r.bytes.now }) ≡ true) × (left ≡ record_bytes (record { code = r.code; bytes = r.bytes.now }) ++ r.rest.now)
+row-there types left None r e h = cc
+row-there types left (Some x) r e h =
+    (let same : x ≡ r = cc in
+    subst (λ (y : NextRecord). (row_fits types (record { code = y.code; bytes = y.bytes.now }) ≡ true) × (left ≡ record_bytes (record { code = y.code; bytes = y.bytes.now }) ++ y.rest.now)) same h)
 
 -- nothing was read yet
 pub read-none : (d : Database) (stream records : List ℕ) (largest : ℕ) (path : List Placed) (v : VolumeState) → stream ≡ head_bytes d ++ records

@@ -61,34 +61,6 @@ fn load_record<'a, S: BlockStore>(
     }
 }
 
-/// Reads the next record of a stream behind so many, and loads it; what is left, or none at the end.
-fn load_next<'a, S: BlockStore>(
-    volume: &mut Volume<S>,
-    dbd: &Dbd,
-    path: &mut LoadPath<'a>,
-    left: &'a [u8],
-    count: u64,
-) -> Result<Option<&'a [u8]>, ReloadFault>
-    requires sizes { (volume.old.size ≡ dbd.now.block_size) × (volume.old.sizes ≡ stored_sizes dbd.now.types) }
-    requires loaded { IsTrue volume.old.is_sound → (rows : List Segment) × IsLoadedTo dbd.now rows path.old volume.old }
-    requires small { count + 1 < 2 ^ 64 }
-    ensures call { IsCall volume.old (as_call result) volume.new }
-    ensures shorter { IfOk result (λ o. IfSome o (λ rest. length rest.now < length left.now)) }
-    ensures next { IfOk result (λ o. IfSome o (λ rest. (stream : List ℕ) (largest : ℕ) → IsReadTo dbd.now stream largest count left.now path.old volume.old → IsReadTo dbd.now stream largest (count + 1) rest.now path.new volume.new)) }
-    ensures end { IfOk result (λ o. IfNone o (count < 2 ^ 32)) }
-    ensures all { IfOk result (λ o. IfNone o ((stream : List ℕ) (largest : ℕ) → IsReadTo dbd.now stream largest count left.now path.old volume.old → IsLoadedAll dbd.now stream largest count volume.new)) }
-    ensures fault { IfErr result (λ e. (stream : List ℕ) (largest : ℕ) → IsReadTo dbd.now stream largest count left.now path.old volume.old → IsFaultOf dbd.now stream largest volume.old.is_sound e) }
-{
-    let number = count + 1;
-    let record = match next_record(left, count, dbd) {
-        Err(fault) => return Err(ReloadFault::Record(fault, number)),
-        Ok(None) => return Ok(None),
-        Ok(Some(record)) => record,
-    };
-    load_record(volume, dbd, path, record.code, record.bytes, number)?;
-    Ok(Some(record.rest))
-}
-
 /// Loads the records of a stream, and says how many they are.
 fn load_records<S: BlockStore>(
     volume: &mut Volume<S>,
@@ -101,13 +73,19 @@ fn load_records<S: BlockStore>(
     ensures rows { IfOk result (λ n. (stream : List ℕ) → stream ≡ head_bytes dbd.now ++ records.now → (largest : ℕ) → (IsTrue volume.old.is_sound → IsCreated dbd.now.name dbd.now.block_size largest volume.old) → IsLoadedAll dbd.now stream largest n volume.new) }
     ensures fault { IfErr result (λ e. (stream : List ℕ) → stream ≡ head_bytes dbd.now ++ records.now → (largest : ℕ) → (IsTrue volume.old.is_sound → IsCreated dbd.now.name dbd.now.block_size largest volume.old) → IsFaultOf dbd.now stream largest volume.old.is_sound e) }
 {
+    let types = dbd.types();
     let mut path = LoadPath::new();
     let mut left = records;
     for count in 0..records.len() {
-        match load_next(volume, dbd, &mut path, left, count as u64) {
-            Err(fault) => return Err(fault),
+        let number = count as u64 + 1;
+        let record = match next_record(left, count as u64, types) {
+            Err(fault) => return Err(ReloadFault::Record(fault, number)),
             Ok(None) => return Ok(count as u32),
-            Ok(Some(rest)) => left = rest,
+            Ok(Some(record)) => record,
+        };
+        match load_record(volume, dbd, &mut path, record.code, record.bytes, number) {
+            Err(fault) => return Err(fault),
+            Ok(()) => left = record.rest,
         }
     }
     Err(ReloadFault::Record(RecordFault::U2, records.len() as u64 + 1))

@@ -7,7 +7,7 @@ ghost use Rattle.hd_dbd.specs.Loads.{last_path, load_fault};
 ghost use Rattle.hd_unload.specs.Streams.{head_bytes, head_fault, record_bytes, end_bytes, end_fault, spelling_fault, record_fault, refusal_of};
 
 use crate::fault::RecordFault;
-use hd_dbd::Dbd;
+use hd_dbd::{Dbd, SegType, type_of};
 
 /// A record of a stream: its row's code, the row's bytes, and what follows the record.
 #[derive(Clone, Copy)]
@@ -62,12 +62,12 @@ fn end_fault(rest: &[u8], count: u64) -> Option<RecordFault>
 pub fn next_record<'a>(
     left: &'a [u8],
     count: u64,
-    dbd: &Dbd,
+    types: &[SegType],
 ) -> Result<Option<Record<'a>>, RecordFault>
-    ensures err { IfErr result (λ e. (rows : List Segment) → length rows ≡ count → record_fault dbd.now.types rows left.now ≡ Some e) }
+    ensures err { IfErr result (λ e. (rows : List Segment) → length rows ≡ count → record_fault types.now rows left.now ≡ Some e) }
     ensures end { IfOk result (λ o. IfNone o ((left.now ≡ end_bytes count) × (count < 2 ^ 32))) }
-    ensures some { IfOk result (λ o. IfSome o (λ r. (row_fits dbd.now.types (record { code = r.code; bytes = r.bytes.now }) ≡ true) × (left.now ≡ record_bytes (record { code = r.code; bytes = r.bytes.now }) ++ r.rest.now))) }
-    ensures fault { IfOk result (λ o. IfSome o (λ r. (rows : List Segment) → record_fault dbd.now.types rows left.now ≡ option_map refusal_of (load_fault dbd.now.types (last_path dbd.now.types rows) (record { code = r.code; bytes = r.bytes.now })))) }
+    ensures some { IfOk result (λ o. IfSome o (λ r. (row_fits types.now (record { code = r.code; bytes = r.bytes.now }) ≡ true) × (left.now ≡ record_bytes (record { code = r.code; bytes = r.bytes.now }) ++ r.rest.now))) }
+    ensures fault { IfOk result (λ o. IfSome o (λ r. (rows : List Segment) → record_fault types.now rows left.now ≡ option_map refusal_of (load_fault types.now (last_path types.now rows) (record { code = r.code; bytes = r.bytes.now })))) }
 {
     let Some((code, rest)) = left.split_first() else {
         return Err(RecordFault::U2);
@@ -78,7 +78,7 @@ pub fn next_record<'a>(
             Some(fault) => Err(fault),
         };
     }
-    let Some(segment) = dbd.type_of(*code) else {
+    let Some(segment) = type_of(types, *code) else {
         return Err(RecordFault::U3);
     };
     let record = read_record(*code, rest, segment.length as usize)?;

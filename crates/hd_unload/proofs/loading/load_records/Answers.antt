@@ -15,18 +15,30 @@ use Rattle.hd_unload.specs.Steps.{IsLoadedTo, IsRowLoaded, IsReadTo, IsLoadedAll
 use Rattle.hd_unload.specs.Streams.{head_bytes}
 use Rattle.hd_unload.proofs.loading.load_records.Goals as goal
 
--- src/loading.rt:106:5
+-- src/loading.rt:79:5
 pub loop-count-init : goal.loop-count-init
 loop-count-init g c = ?
 
--- src/loading.rt:107:15
-pub load_next-requires-clause-loaded : goal.load_next-requires-clause-loaded
-load_next-requires-clause-loaded g c = ?
-
--- src/loading.rt:108:27
+-- src/loading.rt:82:27
 pub returns-in-Err-clause-fault : goal.returns-in-Err-clause-fault
 returns-in-Err-clause-fault g c = ?
 
--- src/loading.rt:93:1
+-- src/loading.rt:83:25
+pub returns-in-Ok-None-clause-rows : goal.returns-in-Ok-None-clause-rows
+returns-in-Ok-None-clause-rows g c = ?
+
+-- src/loading.rt:86:15
+pub load_record-requires-clause-loaded : goal.load_record-requires-clause-loaded
+load_record-requires-clause-loaded g c = ?
+
+-- src/loading.rt:87:27
+pub returns-in-Err-load_record-clause-fault : goal.returns-in-Err-load_record-clause-fault
+returns-in-Err-load_record-clause-fault g c = ?
+
+-- src/loading.rt:79:5
+pub loop-count-preserved : goal.loop-count-preserved
+loop-count-preserved g c = ?
+
+-- src/loading.rt:65:1
 pub returns-clause-fault : goal.returns-clause-fault
 returns-clause-fault g c = ?
