@@ -10,5 +10,5 @@ pub returns-clause-loaded : goal.returns-clause-loaded
 returns-clause-loaded g c =
     if-ok c.link.result c.link.ensures.linked
     (λ a linked sound rows path loaded may parent twin.
-        dependent-loaded c.args.dbd.now c.args.volume.now c.link.new.volume c.args.parent c.args.after a (record { code = c.args.code; bytes = c.args.bytes.now })
-        c.requires.dependent c.requires.fits (linked sound) rows path loaded may parent twin)
+    dependent-loaded c.args.dbd.now c.args.volume.now c.link.new.volume c.args.parent c.args.after a (record { code = c.args.code; bytes = c.args.bytes.now })
+    c.requires.dependent c.requires.fits (linked sound) rows path loaded may parent twin)
