@@ -3,3 +3,4 @@ pub mod Spelling
 pub mod Reading
 pub mod WorkedStreams
 pub mod Loaded
+pub mod LoadedRoots

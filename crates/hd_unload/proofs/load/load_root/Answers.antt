@@ -8,7 +8,7 @@ use Rattle.hd_volume.proofs.JoinLemmas.{calls-join}
 use Rattle.hd_index.specs.Changes.{entries_for}
 use Rattle.hd_index.specs.Maps.{address_of, with_entry}
 use Rattle.hd_unload.specs.Loads.{LacksRoom}
-use Rattle.hd_unload.proofs.Loaded.{may-link-root, lacks-beside, root-linked, root-loaded}
+use Rattle.hd_unload.proofs.LoadedRoots.{may-link-root, lacks-beside, root-linked, root-loaded}
 use Rattle.hd_unload.proofs.load.load_root.Goals as goal
 
 pub returns-then-lacks_room-clause-full : goal.returns-then-lacks_room-clause-full
