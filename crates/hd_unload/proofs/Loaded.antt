@@ -1,5 +1,5 @@
 -- A row that is linked behind the last row of a volume.
-use Rattle.std.proofs.Common.{◌≡◌, ℕ, ◌+◌, ◌-◌, ◌<◌, ◌≤◌, List, [], ◌∷◌, ◌++◌, length, take, drop, true, false, ◌==◌, cond, IsTrue, Option, Some, None, refl, sym, ap, subst, ◌∙◌, arith, ne_eqb, inl, inr}
+use Rattle.std.proofs.Common.{◌≡◌, ℕ, zero, suc, ◌+◌, ◌-◌, ◌<◌, ◌≤◌, List, [], ◌∷◌, ◌++◌, length, take, drop, true, false, ◌==◌, cond, IsTrue, Option, Some, None, refl, sym, ap, subst, ◌∙◌, arith, ne_eqb, inl, inr}
 use Rattle.std.specs.Prelude.{map, nat_lt, nat_le, ◌&&◌, slice_get, option_and_then}
 use Rattle.std.specs.Option.{option_map_or}
 use Rattle.std.proofs.lemmas.Bool.{and_parts, cases_eq, cond-false, or_right, false≢true, ltb-true, leb-true, eqb-true}
@@ -10,7 +10,7 @@ use Rattle.hd_dbd.specs.Types.{SegmentType}
 use Rattle.hd_dbd.specs.Hierarchy.{Database, type_of, parent_of, part_of, key_in}
 use Rattle.hd_dbd.specs.DatabaseRules.{well_formed, part_fits}
 use Rattle.hd_dbd.specs.Segment.{Segment}
-use Rattle.hd_dbd.specs.Rows.{row_fits, level, key_of}
+use Rattle.hd_dbd.specs.Rows.{row_fits, level, key_of, next_path}
 use Rattle.hd_dbd.specs.Loads.{load_fault}
 use Rattle.hd_dbd.specs.Forest.{Forest, empty, node, sequence}
 use Rattle.hd_dbd.proofs.Fitting.{IsEarlier, type_of-fits, types_fit}
@@ -208,3 +208,21 @@ dependent-loaded d v w h y a row dependent fits I rows path L may parent twin =
       };
       step = linked-step d v w L.placed h y a row L.holds E I;
     }
+
+-- ---- the path of a row
+
+-- a row stands at some level
+pub level-some : (block_size : ℕ) (frspc : FreeSpace) (types : List SegmentType) (row : Segment) → IsTrue (well_formed block_size frspc types) → row_fits types row ≡ true → 0 < level types row
+level-some block_size frspc types row fit fits =
+    (let law : level types row ≡ depth_below types (parent_of types row.code) + 1 = (leveled block_size frspc types fit).law row fits in omega arith)
+
+-- the segments of the first rows of a path
+segments-take : (n : ℕ) (path : List Placed) → segments_of (take n path) ≡ take n (segments_of path)
+segments-take zero path = refl
+segments-take (suc n) [] = refl
+segments-take (suc n) (q ∷ path) = ap (λ (rows : List Segment). q.segment ∷ rows) (segments-take n path)
+
+-- a path that goes on to a row is the row's
+pub path-stepped : (types : List SegmentType) (path : List Placed) (p : Placed) → segments_of (take (level types p.segment - 1) path ++ p ∷ []) ≡ next_path types (segments_of path) p.segment
+path-stepped types path p =
+    map_end (λ (q : Placed). q.segment) (take (level types p.segment - 1) path) p ∙ ap (λ (rows : List Segment). rows ++ p.segment ∷ []) (segments-take (level types p.segment - 1) path)
