@@ -2,3 +2,5 @@ pub mod PathRows
 pub mod Spelling
 pub mod Reading
 pub mod WorkedStreams
+pub mod Loaded
+pub mod LoadedRoots

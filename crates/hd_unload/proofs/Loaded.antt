@@ -1,0 +1,228 @@
+-- A row that is linked behind the last row of a volume.
+use Rattle.std.proofs.Common.{◌≡◌, ℕ, zero, suc, ◌+◌, ◌-◌, ◌<◌, ◌≤◌, List, [], ◌∷◌, ◌++◌, length, take, drop, true, false, ◌==◌, cond, IsTrue, Option, Some, None, refl, sym, ap, subst, ◌∙◌, arith, ne_eqb, inl, inr}
+use Rattle.std.specs.Prelude.{map, nat_lt, nat_le, ◌&&◌, slice_get, option_and_then}
+use Rattle.std.specs.Option.{option_map_or}
+use Rattle.std.proofs.lemmas.Bool.{and_parts, cases_eq, cond-false, or_right, false≢true, ltb-true, leb-true, eqb-true}
+use Rattle.std.proofs.lemmas.List.{append-nil, length-take-le, length-drop}
+use Rattle.hd_dbd.specs.declared.hierarchy.FreeSpace.{FreeSpace}
+use Rattle.hd_dbd.specs.declared.hierarchy.Key.{Key}
+use Rattle.hd_dbd.specs.Types.{SegmentType}
+use Rattle.hd_dbd.specs.Hierarchy.{Database, type_of, parent_of, part_of, key_in}
+use Rattle.hd_dbd.specs.DatabaseRules.{well_formed, part_fits}
+use Rattle.hd_dbd.specs.Segment.{Segment}
+use Rattle.hd_dbd.specs.Rows.{row_fits, level, key_of, next_path}
+use Rattle.hd_dbd.specs.Loads.{load_fault}
+use Rattle.hd_dbd.specs.Forest.{Forest, empty, node, sequence}
+use Rattle.hd_dbd.proofs.Fitting.{IsEarlier, type_of-fits, types_fit}
+use Rattle.hd_dbd.proofs.LevelLaw.{leveled, parents_earlier, depth_below}
+use Rattle.hd_volume.specs.Headers.{Header, header_of}
+use Rattle.hd_volume.specs.Volumes.{VolumeState}
+use Rattle.hd_volume.specs.Rooms.{spare}
+use Rattle.hd_volume.specs.Entries.{Entry, entries}
+use Rattle.hd_volume.specs.Indexes.{root_key_length, HasIndex, key_less, is_below_first, keys_ascend, index_growth, lacks_room}
+use Rattle.hd_volume.proofs.IndexLemmas.{index-stays}
+use Rattle.hd_volume.proofs.KeyLemmas.{less-trans}
+use Rattle.hd_links.specs.Links.{Links, IsSegment, IsLinkGraph, segment_at, is_child_type}
+use Rattle.hd_links.specs.Placed.{Placed, nowhere, Holds}
+use Rattle.hd_links.specs.Changes.{Agree, linked, with_leaf}
+use Rattle.hd_links.specs.Steps.{rows_of}
+use Rattle.hd_links.specs.LastRows.{last_on, roots_of, segments_of, parent_on_path, twin_on_path, IsLoadedLast}
+use Rattle.hd_links.proofs.Types.{ordered}
+use Rattle.hd_links.proofs.Forms.{formed}
+use Rattle.hd_links.proofs.Touch.{frame}
+use Rattle.hd_links.proofs.LastPath.{loaded}
+use Rattle.hd_links.proofs.Numbers.{map_end, rows_map}
+use Rattle.hd_image.specs.Records.{links_of, IsVolumeOf}
+use Rattle.hd_image.specs.Holding.{root_entries, HoldsPlaced}
+use Rattle.hd_image.proofs.Found.{records-link}
+use Rattle.hd_image.proofs.RootEntries.{roots-ascend}
+use Rattle.hd_image.proofs.Roots.{header-child}
+use Rattle.hd_image.proofs.SameRecords.{records-stay}
+use Rattle.hd_forest.specs.Updates.{MayLink, IsLinked}
+use Rattle.hd_index.specs.Changes.{IsIndexOf, entries_for, IsIndexChange}
+use Rattle.hd_index.specs.Maps.{address_of, with_entry}
+use Rattle.hd_index.specs.Counts.{below_count}
+use Rattle.hd_index.proofs.MapLemmas.{AreBelow, below-all, address-behind, with-behind}
+use Rattle.hd_unload.specs.Loads.{blocks_for, IsLoadStep, LacksRoom}
+use Rattle.hd_unload.specs.Steps.{IsLoadedTo, IsRowLoaded}
+
+-- ---- the entries of roots
+
+-- the key and the address of a root
+abbrev pub entry_for : List SegmentType → Placed → Entry
+entry_for types p = record { key = key_of types p.segment; address = p.address }
+
+-- the entries are those of the roots, in order
+pub entries-map : (types : List SegmentType) (f : Forest Placed) → root_entries types f ≡ map (λ p. entry_for types p) (roots_of f)
+entries-map types empty = refl
+entries-map types (node p k n) = ap (λ (es : List Entry). entry_for types p ∷ es) (entries-map types n)
+
+-- ---- records that agree
+
+-- hold the same forest
+pub held-agree : (types : List SegmentType) (bound : ℕ) (m m2 : Links) (f : Forest Placed) → IsLinkGraph types bound m → Agree types m m2 → Holds types m f → Holds types m2 f
+held-agree types bound m m2 f G A H = record {
+  lies = record {
+    roots = record {
+      first = λ t q. (A 0).first_child t G.header (ap (λ x. is_child_type types x t) G.header_code ∙ q) ∙ H.lies.roots.first t q;
+      last = λ t q kept. (A 0).last_child t G.header (ap (λ x. is_child_type types x t) G.header_code ∙ q) kept ∙ H.lies.roots.last t q kept;
+    };
+    nodes = frame types m m2 nowhere f H.lies.nodes (λ a p. A a);
+  };
+  fits = H.fits;
+  once = λ a s. H.once a (record { some = s.some; here = sym (A a).here ∙ s.here });
+}
+
+-- The segment at an address stays.
+abbrev pub Stays : Links → Links → ℕ → Type 0
+Stays m m2 a = IsSegment m2 a × (segment_at m2 a ≡ segment_at m a)
+
+pub stays-agree : (types : List SegmentType) (m m2 : Links) → Agree types m m2 → (a : ℕ) → IsSegment m a → Stays m m2 a
+stays-agree types m m2 A a s = (
+  record { some = s.some; here = (A a).here ∙ s.here },
+  λ i. record { code = (A a).code s.here i; bytes = (A a).bytes s i },
+)
+
+-- also where a leaf is linked at another
+pub stays-linked : (types : List SegmentType) (m m2 : Links) (h y : ℕ) (p : Placed) → m.here p.address ≡ false → Agree types (linked m h y p) m2 → (a : ℕ) → IsSegment m a → Stays m m2 a
+stays-linked types m m2 h y p free A a s =
+    let other : a ≡ p.address → ⊥ = λ (e : a ≡ p.address). false≢true (sym free ∙ sym (ap m.here e) ∙ s.here) in
+    let apart : a == p.address ≡ false = ne_eqb a p.address other in
+    let there : IsSegment (linked m h y p) a = record { some = s.some; here = or_right (a == p.address) (m.here a) s.here } in
+    let kept : Stays (linked m h y p) m2 a = stays-agree types (linked m h y p) m2 A a there in (
+      kept.0,
+      kept.1 ∙ (λ i. record { code = cond-false (a == p.address) p.segment.code (m.code a) apart i; bytes = cond-false (a == p.address) p.segment.bytes (m.bytes a) apart i }),
+    )
+
+-- ---- where a row goes in
+
+-- a row that may be loaded comes last
+pub comes-last : (d : Database) (v : VolumeState) (f : Forest Placed) (row : Segment) (a : ℕ) → HoldsPlaced d v f → row_fits d.types row ≡ true
+    → load_fault d.types (segments_of (last_on f)) row ≡ None → (links_of d.types v).here a ≡ false
+    → IsLoadedLast d.types (links_of d.types v) f (parent_on_path d.types (last_on f) row) (twin_on_path d.types (last_on f) row) (record { address = a; segment = row })
+comes-last d v f row a H fits may free =
+    loaded d.types (ordered d.block_size d.frspc d.types H.volume.fit) (leveled d.block_size d.frspc d.types H.volume.fit) (length v.image) (links_of d.types v)
+    (records-link d v H.volume.fit H.volume) f H.records (record { address = a; segment = row }) fits may free (parent_of d.types row.code) refl
+
+-- also behind the last row of a path, below its parent and behind its twin there
+pub last-at : (d : Database) (v : VolumeState) (rows : List Segment) (path : List Placed) (row : Segment) (h y a : ℕ) (L : IsLoadedTo d rows path v) → row_fits d.types row ≡ true
+    → load_fault d.types (segments_of path) row ≡ None → h ≡ parent_on_path d.types path row → y ≡ twin_on_path d.types path row → (links_of d.types v).here a ≡ false
+    → IsLoadedLast d.types (links_of d.types v) L.placed h y (record { address = a; segment = row })
+last-at d v rows path row h y a L fits may parent twin free =
+    let m : Links = links_of d.types v in
+    let p : Placed = record { address = a; segment = row } in
+    let own = comes-last d v L.placed row a L.holds fits (ap (λ q. load_fault d.types (segments_of q) row) L.last ∙ may) free in
+    subst (λ (x : ℕ). IsLoadedLast d.types m L.placed x y p) (ap (λ q. parent_on_path d.types q row) L.last ∙ sym parent)
+    (subst (λ (x : ℕ). IsLoadedLast d.types m L.placed (parent_on_path d.types (last_on L.placed) row) x p) (ap (λ q. twin_on_path d.types q row) L.last ∙ sym twin) own)
+
+-- so it may be linked there
+pub may-link : (d : Database) (v : VolumeState) (row : Segment) (h y : ℕ) → row_fits d.types row ≡ true
+    → ((rows : List Segment) × (path : List Placed) × IsLoadedTo d rows path v × (load_fault d.types (segments_of path) row ≡ None)
+    × (h ≡ parent_on_path d.types path row) × (y ≡ twin_on_path d.types path row))
+    → MayLink d.types (links_of d.types v) h y row
+may-link d v row h y fits L a free = (last-at d v L.0 L.1 row h y a L.2 fits L.3 L.4 L.5 free).may
+
+-- ---- a volume in which a row was linked behind the last
+
+module _ (d : Database) (v w : VolumeState) (f : Forest Placed) (h y a : ℕ) (row : Segment) (H : HoldsPlaced d v f)
+    (E : IsLoadedLast d.types (links_of d.types v) f h y (record { address = a; segment = row })) (I : IsLinked d v h y row a w) where
+  abbrev leaf : Placed
+  leaf = record { address = a; segment = row }
+
+  abbrev grown : Forest Placed
+  grown = with_leaf h y leaf f
+
+  -- the records hold the forest with the leaf
+  pub grown-held : Holds d.types (links_of d.types w) grown
+  grown-held = I.forest f H.records
+
+  -- the index stays
+  pub index-kept : HasIndex (root_key_length d.types) w × (entries (root_key_length d.types) w ≡ entries (root_key_length d.types) v) × (index_growth w ≡ index_growth v)
+      × ((more others : ℕ) → spare v ≤ spare w + more → lacks_room (more + others) v ≡ false → lacks_room others w ≡ false)
+  index-kept = index-stays (root_key_length d.types) v w H.index I.volume.formatted (I.volume.size ∙ sym H.volume.size) I.rest.header I.rest.index I.rest.others
+
+  -- the entries are those of the roots before
+  pub entries-before : entries_for d w ≡ root_entries d.types f
+  entries-before = index-kept.1 ∙ H.entries
+
+  -- the rows have it last
+  pub rows-grown : rows_of grown ≡ rows_of f ++ row ∷ []
+  rows-grown =
+      rows_map grown ∙ ap (λ (ps : List Placed). map (λ p. p.segment) ps) E.rows ∙ map_end (λ (p : Placed). p.segment) (sequence f) leaf
+      ∙ ap (λ (rows : List Segment). rows ++ row ∷ []) (sym (rows_map f))
+
+  -- the name and the sizes in the header stay
+  pub name-kept : (header_of w.image).name ≡ d.name
+  name-kept = ap (λ (x : Header). x.name) I.rest.header ∙ H.name
+
+  pub size-kept : (header_of w.image).block_size ≡ d.block_size
+  size-kept = ap (λ (x : Header). x.block_size) I.rest.header ∙ H.block_size
+
+  -- below a row the roots stay, and so the volume holds the forest with the leaf
+  pub grown-below : (h ≡ 0 → ⊥) → HoldsPlaced d w grown
+  grown-below some = record {
+    volume = I.volume;
+    name = name-kept;
+    block_size = size-kept;
+    records = grown-held;
+    index = index-kept.0;
+    entries =
+        (let roots : roots_of grown ≡ roots_of f = E.roots ∙ cond-false (h == 0) (roots_of f ++ leaf ∷ []) (roots_of f) (ne_eqb h 0 some) in
+        entries-before ∙ entries-map d.types f ∙ ap (λ (ps : List Placed). map (λ p. entry_for d.types p) ps) (sym roots) ∙ sym (entries-map d.types grown));
+    kinds = I.rest.kinds H.kinds;
+  }
+
+  -- all segments stay
+  pub segments-kept : (b : ℕ) → IsSegment (links_of d.types v) b → Stays (links_of d.types v) (links_of d.types w) b
+  segments-kept = stays-linked d.types (links_of d.types v) (links_of d.types w) h y leaf I.free I.records
+
+  pub linked-step : IsLoadStep d v row w
+  linked-step = record {
+    largest = ap (λ (x : Header). x.largest) I.rest.header;
+    stays = segments-kept;
+    room = (let less : spare v ≤ spare w + 1 = I.spares in omega arith);
+  }
+
+-- ---- a row that is no root
+
+-- it has a parent
+pub parent-some : (d : Database) (v : VolumeState) (h y : ℕ) (p : Placed) (f : Forest Placed) → HoldsPlaced d v f → IsLoadedLast d.types (links_of d.types v) f h y p
+    → (p.segment.code ≡ 1 → ⊥) → h ≡ 0 → ⊥
+parent-some d v h y p f H E dependent none =
+    dependent (header-child d.types v p.segment.code (ap (λ (b : ℕ). is_child_type d.types ((links_of d.types v).code b) p.segment.code) (sym none) ∙ E.may.typed))
+
+-- it is loaded once it is linked
+pub dependent-loaded : (d : Database) (v w : VolumeState) (h y a : ℕ) (row : Segment) → (row.code ≡ 1 → ⊥) → row_fits d.types row ≡ true → IsLinked d v h y row a w
+    → (rows : List Segment) (path : List Placed) → IsLoadedTo d rows path v → load_fault d.types (segments_of path) row ≡ None
+    → h ≡ parent_on_path d.types path row → y ≡ twin_on_path d.types path row
+    → IsRowLoaded d v rows row (take (level d.types row - 1) path ++ record { address = a; segment = row } ∷ []) w
+dependent-loaded d v w h y a row dependent fits I rows path L may parent twin =
+    let p : Placed = record { address = a; segment = row } in
+    let E = last-at d v rows path row h y a L fits may parent twin I.free in
+    record {
+      loaded = record {
+        placed = with_leaf h y p L.placed;
+        holds = grown-below d v w L.placed h y a row L.holds E I (parent-some d v h y p L.placed L.holds E dependent);
+        rows_are = rows-grown d v w L.placed h y a row L.holds E I ∙ ap (λ (rs : List Segment). rs ++ row ∷ []) L.rows_are;
+        last = E.last ∙ ap (λ (q : List Placed). take (level d.types row - 1) q ++ p ∷ []) L.last;
+      };
+      step = linked-step d v w L.placed h y a row L.holds E I;
+    }
+
+-- ---- the path of a row
+
+-- a row stands at some level
+pub level-some : (block_size : ℕ) (frspc : FreeSpace) (types : List SegmentType) (row : Segment) → IsTrue (well_formed block_size frspc types) → row_fits types row ≡ true → 0 < level types row
+level-some block_size frspc types row fit fits =
+    (let law : level types row ≡ depth_below types (parent_of types row.code) + 1 = (leveled block_size frspc types fit).law row fits in omega arith)
+
+-- the segments of the first rows of a path
+segments-take : (n : ℕ) (path : List Placed) → segments_of (take n path) ≡ take n (segments_of path)
+segments-take zero path = refl
+segments-take (suc n) [] = refl
+segments-take (suc n) (q ∷ path) = ap (λ (rows : List Segment). q.segment ∷ rows) (segments-take n path)
+
+-- a path that goes on to a row is the row's
+pub path-stepped : (types : List SegmentType) (path : List Placed) (p : Placed) → segments_of (take (level types p.segment - 1) path ++ p ∷ []) ≡ next_path types (segments_of path) p.segment
+path-stepped types path p =
+    map_end (λ (q : Placed). q.segment) (take (level types p.segment - 1) path) p ∙ ap (λ (rows : List Segment). rows ++ p.segment ∷ []) (segments-take (level types p.segment - 1) path)

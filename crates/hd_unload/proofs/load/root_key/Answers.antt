@@ -1,0 +1,7 @@
+use Rattle.std.proofs.Common.{ℕ, List, length, ap, ◌∙◌}
+use Rattle.hd_unload.proofs.LoadedRoots.{root-key-long}
+use Rattle.hd_unload.proofs.load.root_key.Goals as goal
+
+pub returns-clause-whole : goal.returns-clause-whole
+returns-clause-whole c =
+    ap (λ (key : List ℕ). length key) c.key_of.ensures ∙ root-key-long c.args.dbd.now.block_size c.args.dbd.now.frspc c.args.dbd.now.types c.args.bytes.now c.types.ensures.fit c.requires
