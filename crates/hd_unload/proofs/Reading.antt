@@ -1,5 +1,5 @@
 -- Reading a stream record by record, and loading it.
-use Rattle.std.proofs.Common.{◌≡◌, ℕ, ◌+◌, ◌<◌, ◌^◌, IfSome, List, [], ◌∷◌, ◌++◌, length, true, Option, Some, None, IsTrue, refl, sym, ap, ◌∙◌, subst, inr, arith}
+use Rattle.std.proofs.Common.{◌≡◌, ℕ, ◌+◌, ◌<◌, ◌^◌, ◌≤◌, IfSome, IfNone, Bool, List, [], ◌∷◌, ◌++◌, length, true, Option, Some, None, IsTrue, refl, sym, ap, ◌∙◌, subst, inr, arith}
 use Rattle.std.specs.Prelude.{map, option_map}
 use Rattle.std.proofs.lemmas.List.{append_assoc, length-append}
 use Rattle.hd_dbd.specs.declared.answer.Status.{Status}
@@ -201,3 +201,50 @@ read-none d stream records largest path v is fit none size sizes new = record {
     empty-holds : (d : Database) (largest : ℕ) (v : VolumeState) → IsTrue (well_formed d.block_size d.frspc d.types) → v.size ≡ d.block_size → v.sizes ≡ stored_sizes d.types
         → IsCreated d.name d.block_size largest v → HoldsPlaced d v empty
     empty-holds d largest v fit size sizes new = new-empty d v largest fit size sizes new
+
+-- what is said of an end holds where it is the end
+pub at-end : (left : List ℕ) (count : ℕ) (o : Option NextRecord) → o ≡ None → IfNone o ((left ≡ end_bytes count) × (count < 2 ^ 32)) → (left ≡ end_bytes count) × (count < 2 ^ 32)
+at-end left count None e h = h
+at-end left count (Some x) e h = cc
+
+-- what is wrong with a record, by its row alone
+pub row-faults : (types : List SegmentType) (left : List ℕ) (o : Option NextRecord) (r : NextRecord) → o ≡ Some r
+    → IfSome o (λ x. (rows : List Segment) → record_fault types rows left ≡ option_map refusal_of (load_fault types (last_path types rows) (record { code = x.code; bytes = x.bytes.now })))
+    → (rows : List Segment) → record_fault types rows left ≡ option_map refusal_of (load_fault types (last_path types rows) (record { code = r.code; bytes = r.bytes.now }))
+row-faults types left None r e h = cc
+row-faults types left (Some x) r e h =
+    (let same : x ≡ r = cc in
+    subst (λ (y : NextRecord). (rows : List Segment) → record_fault types rows left ≡ option_map refusal_of (load_fault types (last_path types rows) (record { code = y.code; bytes = y.bytes.now }))) same h)
+
+-- a record is longer than what follows it
+pub rest-shorter : (row : Segment) (left rest : List ℕ) → left ≡ record_bytes row ++ rest → length rest < length left
+rest-shorter row left rest is =
+    (let l : length left ≡ length (record_bytes row) + length rest = ap (λ (xs : List ℕ). length xs) is ∙ length-append (record_bytes row) rest in
+    let some : 0 < length (record_bytes row) = omega arith in
+    omega arith)
+
+-- nothing is left where as many bytes were read as there are records
+pub none-left : (left : List ℕ) (count all : ℕ) → count + length left ≤ all → all ≤ count → left ≡ []
+none-left [] count all short over = refl
+none-left (x ∷ left) count all short over = absurd (omega arith)
+
+-- a fault of a volume that is as sound as another
+pub fault-sound : (d : Database) (stream : List ℕ) (largest : ℕ) (a b : Bool) (e : ReloadFault) → a ≡ b → IsFaultOf d stream largest a e → IsFaultOf d stream largest b e
+fault-sound d stream largest a b e same h = subst (λ (s : Bool). IsFaultOf d stream largest s e) same h
+
+-- the same, where the types were read apart
+pub row-refused-of : (d : Database) (types : List SegmentType) → types ≡ d.types → (stream : List ℕ) (largest count : ℕ) (left rest : List ℕ) (path : List Placed) (v : VolumeState) (row : Segment) (e : ReloadFault)
+    → IsReadTo d stream largest count left path v → row_fits types row ≡ true → left ≡ record_bytes row ++ rest
+    → ((rows : List Segment) → record_fault types rows left ≡ option_map refusal_of (load_fault types (last_path types rows) row))
+    → IsFaultOfRow d (segments_of path) row (count + 1) v e → IsFaultOf d stream largest v.is_sound e
+row-refused-of d types same stream largest count left rest path v row e read fits is faults wrong =
+    row-refused d stream largest count left rest path v row e read (subst (λ (ts : List SegmentType). row_fits ts row ≡ true) same fits) is
+    (subst (λ (ts : List SegmentType). (rows : List Segment) → record_fault ts rows left ≡ option_map refusal_of (load_fault ts (last_path ts rows) row)) same faults) wrong
+
+pub read-more-of : (d : Database) (types : List SegmentType) → types ≡ d.types → (stream : List ℕ) (largest count : ℕ) (left rest : List ℕ) (path after : List Placed) (old new : VolumeState) (row : Segment)
+    → IsReadTo d stream largest count left path old → IsTrue (well_formed d.block_size d.frspc d.types) → row_fits types row ≡ true → left ≡ record_bytes row ++ rest
+    → load_fault d.types (segments_of path) row ≡ None → segments_of after ≡ next_path d.types (segments_of path) row
+    → (IsTrue new.is_sound → IsTrue old.is_sound) → (IsTrue old.is_sound → (rows : List Segment) → IsLoadedTo d rows path old → IsRowLoaded d old rows row after new)
+    → IsReadTo d stream largest (count + 1) rest after new
+read-more-of d types same stream largest count left rest path after old new row read fit fits is may last-is was loaded =
+    read-more d stream largest count left rest path after old new row read fit (subst (λ (ts : List SegmentType). row_fits ts row ≡ true) same fits) is may last-is was loaded

@@ -1,44 +1,66 @@
-use Rattle.std.proofs.Common.{rules, ◌≡◌, ◌≤◌, ◌<◌, ◌++◌, ℕ, List, [], length, ◌+◌, ◌^◌, true, false, None, IsTrue, IfOk, IfErr, IfNone, IfSome, OnOk, ◌-◌, ◌*◌, ◌/◌, ◌%◌, Bool, nat_eq, nat_lt, ◌∷◌, slice_index_or, slice_set, bit_and, bit_or, Fits, w8, w32, w64, Bor, MutBor}
-use Rattle.hd_bytes.specs.Blocks.{HasBlock}
-use Rattle.hd_dbd.specs.Facts.{stored_sizes}
-use Rattle.hd_dbd.specs.DatabaseRules.{well_formed}
+use Rattle.std.proofs.Common.{◌≡◌, ◌+◌, ◌≤◌, ◌<◌, ◌++◌, ℕ, List, length, true, IsTrue, Ok, Some, refl, sym, subst, arith}
+use Rattle.hd_dbd.specs.Types.{SegmentType}
+use Rattle.hd_dbd.specs.Hierarchy.{Database}
 use Rattle.hd_dbd.specs.Segment.{Segment}
-use Rattle.hd_dbd.specs.Rows.{row_fits, next_path}
-use Rattle.hd_dbd.specs.Loads.{load_fault}
-use Rattle.hd_volume.specs.Headers.{header_of}
-use Rattle.hd_volume.specs.Calls.{IsCall}
-use Rattle.hd_links.specs.LastRows.{segments_of}
-use Rattle.hd_volume.specs.Creates.{IsCreated}
-use Rattle.hd_unload.specs.Loads.{IsReloaded}
-use Rattle.hd_unload.specs.Refusals.{as_call, IsFaultOfRow, IsFaultOf, IsGivenFrom, IsGivenUp}
-use Rattle.hd_unload.specs.Steps.{IsLoadedTo, IsRowLoaded, IsReadTo, IsLoadedAll}
-use Rattle.hd_unload.specs.Streams.{head_bytes}
+use Rattle.hd_volume.proofs.CallSteps.{call-none, call-ok}
+use Rattle.hd_volume.proofs.JoinLemmas.{calls-join}
+use Rattle.hd_unload.specs.declared.fault.RecordFault.TheVariants.{U2}
+use Rattle.hd_unload.specs.Streams.{head_bytes, record_fault}
+use Rattle.hd_unload.proofs.Reading.{read-none, read-more-of, read-all, read-refused, row-refused-of, row-there, row-faults, at-end, rest-shorter, none-left, fault-sound}
 use Rattle.hd_unload.proofs.loading.load_records.Goals as goal
 
--- src/loading.rt:79:5
 pub loop-count-init : goal.loop-count-init
-loop-count-init g c = ?
+loop-count-init g c = record {
+  call = call-none c.args.volume.now 0;
+  short = omega arith;
+  read = λ stream is largest new. read-none c.args.dbd.now stream c.args.records.now largest c.new-path.result c.args.volume.now is c.types-types.ensures.fit c.new-path.ensures
+      c.requires.sizes.0 c.requires.sizes.1 new;
+}
 
--- src/loading.rt:82:27
 pub returns-in-Err-clause-fault : goal.returns-in-Err-clause-fault
-returns-in-Err-clause-fault g c = ?
+returns-in-Err-clause-fault g c = λ stream is largest new.
+    read-refused c.args.dbd.now stream largest c.loop-count.count c.loop-count.left.now c.loop-count.path c.loop-count.volume (c.loop-count.count + 1) c.in-Err.fault
+    (c.loop-count.invariant.read stream is largest new) refl
+    (λ rows counted. subst (λ (ts : List SegmentType). record_fault ts rows c.loop-count.left.now ≡ Some c.in-Err.fault) c.types-types.ensures.types (c.in-Err.ensures.err rows counted))
 
--- src/loading.rt:83:25
 pub returns-in-Ok-None-clause-rows : goal.returns-in-Ok-None-clause-rows
-returns-in-Ok-None-clause-rows g c = ?
+returns-in-Ok-None-clause-rows g c = λ stream is largest new.
+    let e = at-end c.loop-count.left.now c.loop-count.count c.in-Ok-None.field-0 c.in-Ok-None.field-0-is c.in-Ok-None.ensures.end in
+    read-all c.args.dbd.now stream largest c.loop-count.count c.loop-count.left.now c.loop-count.path c.loop-count.volume c.loop-count.volume (c.loop-count.invariant.read stream is largest new) e.0 e.1 refl
 
--- src/loading.rt:86:15
 pub load_record-requires-clause-loaded : goal.load_record-requires-clause-loaded
-load_record-requires-clause-loaded g c = ?
+load_record-requires-clause-loaded g c = λ now.
+    let sound : IsTrue c.args.volume.now.is_sound = rw (← c.loop-count.invariant.call.sound) now in
+    let new = c.requires.new sound in
+    let read = c.loop-count.invariant.read (head_bytes c.args.dbd.now ++ c.args.records.now) refl new.0 (λ _. new.1) in
+    (read.rows, read.loaded now)
 
--- src/loading.rt:87:27
 pub returns-in-Err-load_record-clause-fault : goal.returns-in-Err-load_record-clause-fault
-returns-in-Err-load_record-clause-fault g c = ?
+returns-in-Err-load_record-clause-fault g c = λ stream is largest new.
+    let d : Database = c.args.dbd.now in
+    let there = row-there c.types-types.result.now c.loop-count.left.now c.in-Ok-Some.field-0 c.in-Ok-Some.record c.in-Ok-Some.field-0-is c.in-Ok-Some.ensures.some in
+    let faults = row-faults c.types-types.result.now c.loop-count.left.now c.in-Ok-Some.field-0 c.in-Ok-Some.record c.in-Ok-Some.field-0-is c.in-Ok-Some.ensures.fault in
+    fault-sound d stream largest c.loop-count.volume.is_sound c.args.volume.now.is_sound c.in-Err-load_record.fault c.loop-count.invariant.call.sound
+    (row-refused-of d c.types-types.result.now c.types-types.ensures.types stream largest c.loop-count.count c.loop-count.left.now c.in-Ok-Some.record.rest.now c.loop-count.path c.loop-count.volume _ c.in-Err-load_record.fault
+    (c.loop-count.invariant.read stream is largest new) there.0 there.1 faults c.in-Err-load_record.ensures.fault)
 
--- src/loading.rt:79:5
 pub loop-count-preserved : goal.loop-count-preserved
-loop-count-preserved g c = ?
+loop-count-preserved g c =
+    let i = c.loop-count.invariant in
+    let o = c.in-Ok.ensures in
+    let there = row-there c.types-types.result.now c.loop-count.left.now c.in-Ok-Some.field-0 c.in-Ok-Some.record c.in-Ok-Some.field-0-is c.in-Ok-Some.ensures.some in
+    record {
+      call = call-ok 0 (calls-join (Ok c.in-Ok.field-0) i.call o.call);
+      short = (let less = rest-shorter _ c.loop-count.left.now c.in-Ok-Some.record.rest.now there.1 in let s = i.short in omega arith);
+      read = λ stream is largest new. read-more-of c.args.dbd.now c.types-types.result.now c.types-types.ensures.types stream largest c.loop-count.count c.loop-count.left.now c.in-Ok-Some.record.rest.now c.loop-count.path c.load_record.new.path
+          c.loop-count.volume c.load_record.new.volume _ (i.read stream is largest new) o.fit there.0 there.1 o.may o.path (λ now. rw (← o.call.sound) now) o.loaded;
+    }
 
--- src/loading.rt:65:1
 pub returns-clause-fault : goal.returns-clause-fault
-returns-clause-fault g c = ?
+returns-clause-fault g c = λ stream is largest new.
+    let i = c.loop-count.invariant in
+    let over : length c.args.records.now ≤ c.loop-count.count = c.loop-count-test.false in
+    let at : c.loop-count.count ≡ length c.args.records.now = omega (arith, over, c.loop-count.auto.count-end) in
+    let none = none-left c.loop-count.left.now c.loop-count.count (length c.args.records.now) i.short over in
+    read-refused c.args.dbd.now stream largest c.loop-count.count c.loop-count.left.now c.loop-count.path c.loop-count.volume (length c.args.records.now + 1) U2
+    (i.read stream is largest new) (omega (arith, at)) (λ rows counted. subst (λ (xs : List ℕ). record_fault c.args.dbd.now.types rows xs ≡ Some U2) (sym none) refl)
