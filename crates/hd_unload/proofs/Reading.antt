@@ -32,7 +32,7 @@ use Rattle.hd_unload.specs.Refusals.{IsFaultOfRow, IsFaultOf}
 -- ---- one row more
 
 -- nothing behind a list changes it
-nothing-behind : {A : Type 0} (xs : List A) → xs ++ [] ≡ xs
+pub nothing-behind : {A : Type 0} (xs : List A) → xs ++ [] ≡ xs
 nothing-behind [] = refl
 nothing-behind (x ∷ xs) = ap (λ ys. x ∷ ys) (nothing-behind xs)
 

@@ -1,0 +1,163 @@
+-- A volume that was loaded whole, and what its store has then.
+use Rattle.std.proofs.Common.{◌≡◌, ◌≢◌, ℕ, ◌+◌, ◌<◌, List, [], ◌∷◌, ◌++◌, length, Bool, true, false, IsTrue, Result, Ok, Err, IfErr, IfOk, inl, inr, refl, sym, ap, ap₂, subst, ◌∙◌, replicate, take, drop, ◌≤◌, arith}
+use Rattle.std.specs.Prelude.{◌*◌}
+use Rattle.std.proofs.lemmas.List.{append_assoc, take_all, length-replicate}
+use Rattle.hd_bytes.specs.Blocks.{block_of, HasBlock}
+use Rattle.hd_dbd.specs.declared.answer.Refused.{Refused}
+use Rattle.hd_dbd.specs.Hierarchy.{Database}
+use Rattle.hd_dbd.specs.Facts.{stored_sizes}
+use Rattle.hd_dbd.specs.Segment.{Segment}
+use Rattle.hd_dbd.specs.Forest.{Forest}
+use Rattle.hd_dbd.specs.Loads.{Loading, rows_loaded, image_before, IsLegalLoad}
+use Rattle.hd_volume.specs.Headers.{Header, header_of}
+use Rattle.hd_volume.specs.Volumes.{VolumeState, kind_of, IsKind}
+use Rattle.hd_volume.specs.Creates.{IsCreated}
+use Rattle.hd_volume.specs.Indexes.{root_key_length}
+use Rattle.hd_volume.proofs.IndexLemmas.{index-stays}
+use Rattle.hd_links.specs.Links.{Links}
+use Rattle.hd_links.specs.Placed.{Placed, Holds}
+use Rattle.hd_image.specs.Records.{links_of}
+use Rattle.hd_image.specs.Holding.{HoldsPlaced, HoldsRows, volume_of}
+use Rattle.hd_image.proofs.OneImage.{links-same, volume-same}
+use Rattle.hd_volume.specs.Stores.{CountsFor, SoundFor}
+use Rattle.hd_volume.specs.Images.{KeepsFirst}
+use Rattle.hd_unload.specs.declared.fault.ReloadFault.{ReloadFault}
+use Rattle.hd_unload.specs.declared.fault.ReloadFault.TheVariants.{Device}
+use Rattle.hd_unload.specs.Refusals.{refused_by, IsGivenFrom, IsGivenUp}
+use Rattle.hd_unload.specs.Loads.{IsLoadStep, IsLoad, IsReloaded}
+use Rattle.hd_unload.specs.Steps.{IsLoadedAll}
+use Rattle.hd_unload.proofs.Reading.{nothing-behind}
+
+-- ---- one image
+
+module _ (d : Database) (u v : VolumeState) (image : v.image ≡ u.image) (size : v.size ≡ u.size) (sizes : v.sizes ≡ u.sizes) where
+  -- a block of one image has one kind
+  kind-on : (k n : ℕ) → IsKind u k n → IsKind v k n
+  kind-on k n x = record {
+    there = subst (λ (s : ℕ). HasBlock s v.image n) (sym size) (subst (λ (im : List ℕ). HasBlock u.size im n) (sym image) x.there);
+    later = x.later;
+    kind_is = ap₂ (λ (s : ℕ) (im : List ℕ). kind_of (block_of s im n)) size image ∙ x.kind_is;
+  }
+
+  kind-back : (k n : ℕ) → IsKind v k n → IsKind u k n
+  kind-back k n x = record {
+    there = subst (λ (s : ℕ). HasBlock s u.image n) size (subst (λ (im : List ℕ). HasBlock v.size im n) image x.there);
+    later = x.later;
+    kind_is = sym (ap₂ (λ (s : ℕ) (im : List ℕ). kind_of (block_of s im n)) size image) ∙ x.kind_is;
+  }
+
+  -- one image holds one forest
+  pub held-same : (f : Forest Placed) → HoldsPlaced d u f → HoldsPlaced d v f
+  held-same f h =
+      let of = volume-same d u v image size sizes h.volume in
+      let header : header_of v.image ≡ record (header_of u.image) { count = (header_of v.image).count; first_root = (header_of v.image).first_root; last_root = (header_of v.image).last_root } =
+      subst (λ (im : List ℕ). header_of im ≡ record (header_of u.image) { count = (header_of im).count; first_root = (header_of im).first_root; last_root = (header_of im).last_root }) (sym image) refl in
+      let stays = index-stays (root_key_length d.types) u v h.index of.formatted size header (λ n k. ap₂ (λ (s : ℕ) (im : List ℕ). block_of s im n) size image) (λ n k. kind-back 2 n k) in
+      record {
+        volume = of;
+        name = ap (λ (im : List ℕ). (header_of im).name) image ∙ h.name;
+        block_size = ap (λ (im : List ℕ). (header_of im).block_size) image ∙ h.block_size;
+        records = subst (λ (m : Links). Holds d.types m f) (sym (links-same d.types u v image size sizes)) h.records;
+        index = stays.0;
+        entries = stays.1 ∙ h.entries;
+        kinds = λ n there later. elim (h.kinds n (subst (λ (s : ℕ). HasBlock s u.image n) size (subst (λ (im : List ℕ). HasBlock v.size im n) image there)) later) [
+          | inl k ↦ inl (kind-on 1 n k)
+          | inr (inl k) ↦ inr (inl (kind-on 2 n k))
+          | inr (inr k) ↦ inr (inr (kind-on 3 n k))
+        ];
+      }
+
+-- ---- the last image of a load
+
+-- it holds the rows
+legal-held : (d : Database) (rows : List Segment) (loadings : List (Loading VolumeState)) (last : VolumeState) → IsLegalLoad (HoldsRows d) (IsLoadStep d) d.types rows loadings last
+    → HoldsRows d last (rows ++ rows_loaded loadings)
+legal-held d rows [] last legal = subst (λ (rs : List Segment). HoldsRows d last rs) (sym (nothing-behind rows)) legal
+legal-held d rows (l ∷ ls) last legal = subst (λ (rs : List Segment). HoldsRows d last rs) (append_assoc rows (l.row ∷ []) (rows_loaded ls)) (legal-held d (rows ++ l.row ∷ []) ls last legal.4)
+
+pub load-held : (d : Database) (largest : ℕ) (rows : List Segment) (v : VolumeState) → IsLoad d largest rows v → HoldsRows d v rows
+load-held d largest rows v load = subst (λ (rs : List Segment). HoldsRows d v rs) load.rows_are (legal-held d [] load.loadings v load.legal)
+
+-- it has the first's largest count
+legal-largest : (d : Database) (rows : List Segment) (loadings : List (Loading VolumeState)) (last : VolumeState) → IsLegalLoad (HoldsRows d) (IsLoadStep d) d.types rows loadings last
+    → (header_of last.image).largest ≡ (header_of (image_before loadings last).image).largest
+legal-largest d rows [] last legal = refl
+legal-largest d rows (l ∷ ls) last legal = legal-largest d (rows ++ l.row ∷ []) ls last legal.4 ∙ legal.3.largest
+
+pub load-largest : (d : Database) (largest : ℕ) (rows : List Segment) (v : VolumeState) → IsLoad d largest rows v → (header_of v.image).largest ≡ largest
+load-largest d largest rows v load = legal-largest d [] load.loadings v load.legal ∙ ap (λ (h : Header). h.largest) load.new.header
+
+-- ---- the store
+
+-- the bytes of a volume that was loaded whole
+pub reloaded : (d : Database) (stream : List ℕ) (largest segments count blocks : ℕ) (v : VolumeState) (contents : List ℕ) → IsLoadedAll d stream largest count v → IsTrue v.is_sound
+    → v.size ≡ d.block_size → v.sizes ≡ stored_sizes d.types → contents ≡ v.image → blocks ≡ (header_of v.image).count → segments ≡ count
+    → IsReloaded d stream largest segments blocks contents
+reloaded d stream largest segments count blocks v contents all sound size sizes is counted segments-are =
+    let load = all.load sound in
+    let held = load-held d largest all.rows v load in
+    record {
+      rows = all.rows;
+      stream_of = all.stream_of;
+      holds = (held.0, held.1, held-same d v (volume_of d contents) is (sym size) (sym sizes) held.0 held.2);
+      version = ap (λ (im : List ℕ). (header_of im).version) is ∙ held.2.index.version;
+      largest_is = ap (λ (im : List ℕ). (header_of im).largest) is ∙ load-largest d largest all.rows v load;
+      segments_are = segments-are ∙ all.counted;
+      blocks_are = counted ∙ sym (ap (λ (im : List ℕ). (header_of im).count) is);
+    }
+
+-- it has a first block
+pub first-there : (d : Database) (largest : ℕ) (rows : List Segment) (v : VolumeState) → IsLoad d largest rows v → HasBlock v.size v.image 0
+first-there d largest rows v load = (load-held d largest rows v load).2.volume.formatted.header.first
+
+-- ---- answers
+
+-- what holds of an answer, by two things that held of it
+pub if-ok-both : {A E : Type 0} {P Q R : A → Type 0} (r : Result A E) → IfOk r P → IfOk r Q → ((x : A) → P x → Q x → R x) → IfOk r R
+if-ok-both (Ok x) p q f = f x p q
+if-ok-both (Err e) p q f = tt
+
+-- what holds of a refusal, by what held of it
+pub if-err-to : {A E : Type 0} {P Q : E → Type 0} (r : Result A E) → IfErr r P → ((e : E) → P e → Q e) → IfErr r Q
+if-err-to (Ok x) p f = tt
+if-err-to (Err e) p f = f e p
+
+-- a volume that is given up for a failed access
+pub given-device : {S : Type 0} (old v : VolumeState) (size : S → ℕ) (contents : S → List ℕ) (is_sound : S → Bool) (failures : S → ℕ) (e : S × ReloadFault)
+    → v.failures ≡ old.failures → v.size ≡ old.size → e.1 ≡ Device → v.failures < failures e.0 → is_sound e.0 ≡ false → size e.0 ≡ v.size
+    → IsGivenFrom size contents is_sound failures old e
+given-device old v size contents is_sound failures e counts same device more unsound size-is = record {
+  counts = subst (λ (f : ReloadFault). CountsFor (refused_by f) old.failures (failures e.0)) (sym device) (let m = more in omega arith);
+  sound = subst (λ (f : ReloadFault). SoundFor (refused_by f) old.is_sound (is_sound e.0)) (sym device) unsound;
+  none = λ ne. absurd (ne device);
+  size_kept = size-is ∙ same;
+}
+
+-- block 0 of zeros that stayed
+zeros-stayed : (size : ℕ) (stored contents : List ℕ) → stored ≡ replicate (1 * size) 0 → KeepsFirst size stored contents → block_of size contents 0 ≡ replicate size 0
+zeros-stayed size stored contents zeros keeps =
+    let one : 1 * size ≡ size = omega arith in
+    let len : length stored ≡ size = ap (λ (xs : List ℕ). length xs) zeros ∙ length-replicate (1 * size) 0 ∙ one in
+    let there : HasBlock size stored 0 = omega arith in
+    let zero : List ℕ = replicate size 0 in
+    let whole : length zero ≤ size = (let l : length zero ≡ size = length-replicate size 0 in omega arith) in
+    keeps.first there
+    ∙ ap (λ (xs : List ℕ). block_of size xs 0) (zeros ∙ ap (λ (n : ℕ). replicate n 0) one)
+    ∙ ap (λ (n : ℕ). take size (drop n zero)) (let none : 0 * size ≡ 0 = omega arith in none)
+    ∙ take_all size zero whole
+
+-- a store that is given up has no volume
+pub given-up : {S : Type 0} (d : Database) (largest : ℕ) (v : VolumeState) (store : S) (size : S → ℕ) (contents : S → List ℕ) (is_sound : S → Bool) (failures : S → ℕ) (e : S × ReloadFault)
+    → v.is_sound ≡ is_sound store → v.failures ≡ failures store → (v.size ≡ size store) × (v.sizes ≡ stored_sizes d.types) → size store ≡ d.block_size
+    → (IsTrue (is_sound store) → IsCreated d.name d.block_size largest v) → IsGivenFrom size contents is_sound failures v e → IsGivenUp size contents is_sound failures store e
+given-up d largest v store size contents is_sound failures e sound counts sizes own new given = record {
+  counts = subst (λ (n : ℕ). CountsFor (refused_by e.1) n (failures e.0)) counts given.counts;
+  sound = subst (λ (b : Bool). SoundFor (refused_by e.1) b (is_sound e.0)) sound given.sound;
+  none = λ ne s.
+      (let now : IsTrue v.is_sound = subst (λ (b : Bool). IsTrue b) (sym sound) s in
+      let zeros = (new s).stored in
+      let same : d.block_size ≡ v.size = sym own ∙ sym sizes.0 in
+      inr (subst (λ (n : ℕ). block_of n (contents e.0) 0 ≡ replicate n 0) sizes.0
+      (zeros-stayed v.size v.stored (contents e.0) (subst (λ (n : ℕ). v.stored ≡ replicate (1 * n) 0) same zeros) (given.none ne now))));
+  size_kept = given.size_kept ∙ sizes.0;
+}
