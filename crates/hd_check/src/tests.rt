@@ -220,7 +220,7 @@ fn returns_for_each_change_of_a_byte(rt: HostRuntime) -> Result<(), Fail> {
             match edited(alloc, &dbd, &[(place, byte)]) {
                 Some(Ok(_)) => passed += 1,
                 Some(Err(CheckFault::Fault(_))) => {}
-                _ => return Err(Fail),
+                _ => assert!(rt; false, "another answer"),
             }
         }
     }

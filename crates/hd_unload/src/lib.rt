@@ -7,6 +7,8 @@ mod load;
 mod loading;
 mod path;
 mod record;
+#[cfg(test)]
+mod tests;
 
 pub use fault::{RecordFault, ReloadFault};
 pub use loading::{Reloaded, reload};

@@ -1,0 +1,211 @@
+ghost use Rattle.std.specs.Prelude.{◌≡◌, ◌≤◌, ◌<◌, IfOk};
+
+use super::*;
+use hd_dbd::{Dbd, DbdFault, FreeSpace, Key, Name8, Rule, SegType};
+use hd_volume::{BlockStore, FuseStore, MemStore};
+use std::alloc::{AllocError, Global};
+use std::test::Fail;
+
+/// A type of the sample database without its fields; key 0 for none, which is unique where it has three bytes or fewer.
+fn type_of(alloc: Global, name: Name8, parent: Option<u8>, length: u32, key: u32) -> SegType {
+    SegType {
+        name,
+        parent,
+        length,
+        key: if key == 0 {
+            None
+        } else {
+            Some(Key {
+                start: 1,
+                length: key,
+                unique: key <= 3,
+            })
+        },
+        rule: Rule::Last,
+        backward: key != 4,
+        last_pointer: key == 2 || key == 0,
+        fields: Vec::new(alloc),
+    }
+}
+
+fn sample_types(alloc: Global) -> Result<Vec<SegType>, AllocError> {
+    let course = Name8::from_padded(*b"COURSE  ").unwrap();
+    let class = Name8::from_padded(*b"CLASS   ").unwrap();
+    let student = Name8::from_padded(*b"STUD    ").unwrap();
+    let book = Name8::from_padded(*b"BOOK    ").unwrap();
+    Ok(vec![in alloc;
+        type_of(alloc, course, None, 8, 3),
+        type_of(alloc, class, Some(1), 4, 2),
+        type_of(alloc, student, Some(2), 6, 4),
+        type_of(alloc, book, Some(1), 5, 0),
+    ]?)
+}
+
+/// The sample database.
+fn sample(alloc: Global) -> Result<Dbd, DbdFault>
+    ensures { IfOk result (λ dbd. dbd.block_size ≡ 128) }
+{
+    let name = Name8::from_padded(*b"EDU     ").unwrap();
+    let frspc = FreeSpace { fbff: 0, fspf: 0 };
+    let types = sample_types(alloc)?;
+    Dbd::new(alloc, name, 128, frspc, types)
+}
+
+/// The header of the sample's streams.
+const HEAD: &[u8] = b"HDUNLOAD\0\x01EDU     ";
+
+/// The records of the sample, and the end.
+const SAMPLE: &[u8] =
+    b"\x01\0\x08101ALGEB\x02\0\x0401AB\x03\0\x06ADAM01\x03\0\x06EVE 02\x02\0\x0402CD\x04\0\x05EULER\x01\0\x08205LOGIC\0\0\0\0\x07";
+
+/// A stream of these records.
+fn stream(alloc: Global, records: &[u8]) -> Result<Vec<u8>, AllocError> {
+    let mut bytes = Vec::new(alloc);
+    bytes.extend_from_slice(HEAD)?;
+    bytes.extend_from_slice(records)?;
+    Ok(bytes)
+}
+
+/// Segments, blocks and the bytes of a reloaded volume, or the fault; `None` where there is no memory.
+fn reloaded(
+    alloc: Global,
+    records: &[u8],
+    largest: u32,
+) -> Option<Result<(u32, u32, Vec<u8>), ReloadFault>>
+    requires { (0 < largest) × (largest ≤ 65536) }
+{
+    let dbd = sample(alloc).ok()?;
+    let bytes = stream(alloc, records).ok()?;
+    let store = MemStore::new(128, Vec::new(alloc));
+    Some(match reload(alloc, &dbd, &bytes, store, largest) {
+        Ok(volume) => Ok((volume.segments, volume.blocks, volume.store.into_bytes())),
+        Err(given) => Err(given.1),
+    })
+}
+
+/// The fault of a stream of these records.
+fn fault_of(alloc: Global, records: &[u8], largest: u32) -> Option<ReloadFault>
+    requires { (0 < largest) × (largest ≤ 65536) }
+{
+    match reloaded(alloc, records, largest)? {
+        Ok(_) => None,
+        Err(fault) => Some(fault),
+    }
+}
+
+/// Segments and blocks of a volume of these records.
+fn counts_of(alloc: Global, records: &[u8], largest: u32) -> Option<(u32, u32)>
+    requires { (0 < largest) × (largest ≤ 65536) }
+{
+    match reloaded(alloc, records, largest)? {
+        Ok(made) => Some((made.0, made.1)),
+        Err(_) => None,
+    }
+}
+
+#[test]
+fn reloads_the_sample(rt: HostRuntime) -> Result<(), Fail> {
+    let alloc = rt.alloc();
+    assert_eq!(rt; counts_of(alloc, SAMPLE, 16), Some((7, 4)));
+    assert_eq!(rt; counts_of(alloc, b"\0\0\0\0\0", 1), Some((0, 1)));
+    assert_eq!(rt; fault_of(alloc, SAMPLE, 1), Some(ReloadFault::Full(1)));
+    assert_eq!(rt; fault_of(alloc, SAMPLE, 2), Some(ReloadFault::Full(1)));
+    assert_eq!(rt; fault_of(alloc, SAMPLE, 3), Some(ReloadFault::Full(6)));
+    Ok(())
+}
+
+#[test]
+fn refuses_the_first_bad_record(rt: HostRuntime) -> Result<(), Fail> {
+    let alloc = rt.alloc();
+    assert_eq!(rt;
+        fault_of(alloc, b"\x01\0\x08205LOGIC\x01\0\x08101ALGEB", 16),
+        Some(ReloadFault::Record(RecordFault::LC, 2))
+    );
+    assert_eq!(rt;
+        fault_of(alloc, b"\x03\0\x06ADAM01", 16),
+        Some(ReloadFault::Record(RecordFault::LD, 1))
+    );
+    assert_eq!(rt;
+        fault_of(alloc, b"\x01\0\x08101ALGEB\x01\0\x08101ALGEB", 16),
+        Some(ReloadFault::Record(RecordFault::LB, 2))
+    );
+    assert_eq!(rt;
+        fault_of(
+            alloc,
+            b"\x01\0\x08101ALGEB\x04\0\x05EULER\x02\0\x0401AB",
+            16
+        ),
+        Some(ReloadFault::Record(RecordFault::LE, 3))
+    );
+    assert_eq!(rt;
+        fault_of(alloc, b"\x01\0\x08101ALGEB\x05", 16),
+        Some(ReloadFault::Record(RecordFault::U3, 2))
+    );
+    assert_eq!(rt;
+        fault_of(alloc, b"\x01\0\x08101ALGEB\0\0\0\0\x02", 16),
+        Some(ReloadFault::Record(RecordFault::U4, 2))
+    );
+    Ok(())
+}
+
+#[test]
+fn a_cut_stream_is_truncated(rt: HostRuntime) -> Result<(), Fail> {
+    let alloc = rt.alloc();
+    let dbd = sample(alloc).expect(&rt, "a database");
+    let whole = stream(alloc, SAMPLE)?;
+    for length in 0..whole.len() {
+        let store = MemStore::new(128, Vec::new(alloc));
+        match reload(alloc, &dbd, &whole[..length], store, 16) {
+            Err((left, ReloadFault::Record(RecordFault::U2, _))) => {
+                let bytes = left.into_bytes();
+                assert!(rt; bytes.iter().take(128).all(|byte| *byte == 0));
+            }
+            _ => assert!(rt; false, "another answer"),
+        }
+    }
+    Ok(())
+}
+
+/// Whether a reload over a fuse that fails after so many accesses answers as it must: with `Device`, or not at all by it.
+fn fused(alloc: Global, dbd: &Dbd, bytes: &[u8], passes: u64) -> Option<bool>
+    requires { dbd.now.block_size ≡ 128 }
+{
+    let store = FuseStore::new(MemStore::new(128, Vec::new(alloc)), passes);
+    match reload(alloc, dbd, bytes, store, 16) {
+        Ok(_) => Some(true),
+        Err((_, ReloadFault::Device)) => Some(false),
+        Err(_) => None,
+    }
+}
+
+#[test]
+fn each_access_that_fails_is_told(rt: HostRuntime) -> Result<(), Fail> {
+    let alloc = rt.alloc();
+    let dbd = sample(alloc).expect(&rt, "a database");
+    let whole = stream(alloc, SAMPLE)?;
+    for passes in 0..200 {
+        match fused(alloc, &dbd, &whole, passes) {
+            Some(true) => {
+                assert!(rt; passes > 10);
+                return Ok(());
+            }
+            Some(false) => {}
+            None => assert!(rt; false, "another refusal"),
+        }
+    }
+    assert!(rt; false, "no end");
+    Ok(())
+}
+
+#[test]
+fn five_thousand_twins_take_717_blocks(rt: HostRuntime) -> Result<(), Fail> {
+    let alloc = rt.alloc();
+    let mut records = Vec::new(alloc);
+    records.extend_from_slice(b"\x01\0\x08101ALGEB\x02\0\x0401AB")?;
+    for _ in 0..5000 {
+        records.extend_from_slice(b"\x03\0\x06ADAM01")?;
+    }
+    records.extend_from_slice(b"\0\0\0\x13\x8a")?;
+    assert_eq!(rt; counts_of(alloc, &records, 65536), Some((5002, 717)));
+    Ok(())
+}
