@@ -149,7 +149,8 @@ impl Dbd {
 
     /// The bytes of a block.
     pub fn block_size(&self) -> u32
-        ensures { result ≡ self.now.block_size }
+        ensures value { result ≡ self.now.block_size }
+        ensures bounds { (128 ≤ result) × (result ≤ 32768) }
     {
         self.block_size
     }
