@@ -1,49 +1,39 @@
 -- A row that is linked behind the last row of a volume.
-use Rattle.std.proofs.Common.{◌≡◌, ℕ, zero, suc, ◌+◌, ◌-◌, ◌<◌, ◌≤◌, List, [], ◌∷◌, ◌++◌, length, take, drop, true, false, ◌==◌, cond, IsTrue, Option, Some, None, refl, sym, ap, subst, ◌∙◌, arith, ne_eqb, inl, inr}
-use Rattle.std.specs.Prelude.{map, nat_lt, nat_le, ◌&&◌, slice_get, option_and_then}
-use Rattle.std.specs.Option.{option_map_or}
-use Rattle.std.proofs.lemmas.Bool.{and_parts, cases_eq, cond-false, or_right, false≢true, ltb-true, leb-true, eqb-true}
-use Rattle.std.proofs.lemmas.List.{append-nil, length-take-le, length-drop}
+use Rattle.std.proofs.Common.{◌≡◌, ℕ, ◌+◌, ◌-◌, ◌<◌, ◌≤◌, List, [], ◌∷◌, ◌++◌, length, take, true, false, ◌==◌, IsTrue, None, refl, sym, ap, subst, ◌∙◌, arith, ne_eqb}
+use Rattle.std.specs.Prelude.{map}
+use Rattle.std.proofs.lemmas.Bool.{cond-false, or_right, false≢true}
+use Rattle.std.proofs.lemmas.List.{take-map}
 use Rattle.hd_dbd.specs.declared.hierarchy.FreeSpace.{FreeSpace}
-use Rattle.hd_dbd.specs.declared.hierarchy.Key.{Key}
 use Rattle.hd_dbd.specs.Types.{SegmentType}
-use Rattle.hd_dbd.specs.Hierarchy.{Database, type_of, parent_of, part_of, key_in}
-use Rattle.hd_dbd.specs.DatabaseRules.{well_formed, part_fits}
+use Rattle.hd_dbd.specs.Hierarchy.{Database, parent_of}
+use Rattle.hd_dbd.specs.DatabaseRules.{well_formed}
 use Rattle.hd_dbd.specs.Segment.{Segment}
 use Rattle.hd_dbd.specs.Rows.{row_fits, level, key_of, next_path}
 use Rattle.hd_dbd.specs.Loads.{load_fault}
 use Rattle.hd_dbd.specs.Forest.{Forest, empty, node, sequence}
-use Rattle.hd_dbd.proofs.Fitting.{IsEarlier, type_of-fits, types_fit}
-use Rattle.hd_dbd.proofs.LevelLaw.{leveled, parents_earlier, depth_below}
+use Rattle.hd_dbd.proofs.LevelLaw.{leveled, depth_below}
 use Rattle.hd_volume.specs.Headers.{Header, header_of}
 use Rattle.hd_volume.specs.Volumes.{VolumeState}
 use Rattle.hd_volume.specs.Rooms.{spare}
 use Rattle.hd_volume.specs.Entries.{Entry, entries}
-use Rattle.hd_volume.specs.Indexes.{root_key_length, HasIndex, key_less, is_below_first, keys_ascend, index_growth, lacks_room}
+use Rattle.hd_volume.specs.Indexes.{root_key_length, HasIndex, index_growth, lacks_room}
 use Rattle.hd_volume.proofs.IndexLemmas.{index-stays}
-use Rattle.hd_volume.proofs.KeyLemmas.{less-trans}
 use Rattle.hd_links.specs.Links.{Links, IsSegment, IsLinkGraph, segment_at, is_child_type}
 use Rattle.hd_links.specs.Placed.{Placed, nowhere, Holds}
 use Rattle.hd_links.specs.Changes.{Agree, linked, with_leaf}
 use Rattle.hd_links.specs.Steps.{rows_of}
 use Rattle.hd_links.specs.LastRows.{last_on, roots_of, segments_of, parent_on_path, twin_on_path, IsLoadedLast}
 use Rattle.hd_links.proofs.Types.{ordered}
-use Rattle.hd_links.proofs.Forms.{formed}
 use Rattle.hd_links.proofs.Touch.{frame}
 use Rattle.hd_links.proofs.LastPath.{loaded}
 use Rattle.hd_links.proofs.Numbers.{map_end, rows_map}
-use Rattle.hd_image.specs.Records.{links_of, IsVolumeOf}
+use Rattle.hd_image.specs.Records.{links_of}
 use Rattle.hd_image.specs.Holding.{root_entries, HoldsPlaced}
 use Rattle.hd_image.proofs.Found.{records-link}
-use Rattle.hd_image.proofs.RootEntries.{roots-ascend}
 use Rattle.hd_image.proofs.Roots.{header-child}
-use Rattle.hd_image.proofs.SameRecords.{records-stay}
 use Rattle.hd_forest.specs.Updates.{MayLink, IsLinked}
-use Rattle.hd_index.specs.Changes.{IsIndexOf, entries_for, IsIndexChange}
-use Rattle.hd_index.specs.Maps.{address_of, with_entry}
-use Rattle.hd_index.specs.Counts.{below_count}
-use Rattle.hd_index.proofs.MapLemmas.{AreBelow, below-all, address-behind, with-behind}
-use Rattle.hd_unload.specs.Loads.{blocks_for, IsLoadStep, LacksRoom}
+use Rattle.hd_index.specs.Changes.{entries_for}
+use Rattle.hd_unload.specs.Loads.{IsLoadStep}
 use Rattle.hd_unload.specs.Steps.{IsLoadedTo, IsRowLoaded}
 
 -- ---- the entries of roots
@@ -77,6 +67,7 @@ held-agree types bound m m2 f G A H = record {
 abbrev pub Stays : Links → Links → ℕ → Type 0
 Stays m m2 a = IsSegment m2 a × (segment_at m2 a ≡ segment_at m a)
 
+-- it does where records agree
 pub stays-agree : (types : List SegmentType) (m m2 : Links) → Agree types m m2 → (a : ℕ) → IsSegment m a → Stays m m2 a
 stays-agree types m m2 A a s = (
   record { some = s.some; here = (A a).here ∙ s.here },
@@ -126,6 +117,7 @@ may-link d v row h y fits L a free = (last-at d v L.0 L.1 row h y a L.2 fits L.3
 
 module _ (d : Database) (v w : VolumeState) (f : Forest Placed) (h y a : ℕ) (row : Segment) (H : HoldsPlaced d v f)
     (E : IsLoadedLast d.types (links_of d.types v) f h y (record { address = a; segment = row })) (I : IsLinked d v h y row a w) where
+  -- the leaf, and the forest with it
   abbrev leaf : Placed
   leaf = record { address = a; segment = row }
 
@@ -151,10 +143,11 @@ module _ (d : Database) (v w : VolumeState) (f : Forest Placed) (h y a : ℕ) (r
       rows_map grown ∙ ap (λ (ps : List Placed). map (λ p. p.segment) ps) E.rows ∙ map_end (λ (p : Placed). p.segment) (sequence f) leaf
       ∙ ap (λ (rows : List Segment). rows ++ row ∷ []) (sym (rows_map f))
 
-  -- the name and the sizes in the header stay
+  -- the name in the header stays
   pub name-kept : (header_of w.image).name ≡ d.name
   name-kept = ap (λ (x : Header). x.name) I.rest.header ∙ H.name
 
+  -- and so does its block size
   pub size-kept : (header_of w.image).block_size ≡ d.block_size
   size-kept = ap (λ (x : Header). x.block_size) I.rest.header ∙ H.block_size
 
@@ -176,6 +169,7 @@ module _ (d : Database) (v w : VolumeState) (f : Forest Placed) (h y a : ℕ) (r
   pub segments-kept : (b : ℕ) → IsSegment (links_of d.types v) b → Stays (links_of d.types v) (links_of d.types w) b
   segments-kept = stays-linked d.types (links_of d.types v) (links_of d.types w) h y leaf I.free I.records
 
+  -- and no more blocks were taken than the row may need
   pub linked-step : IsLoadStep d v row w
   linked-step = record {
     largest = ap (λ (x : Header). x.largest) I.rest.header;
@@ -216,13 +210,17 @@ pub level-some : (block_size : ℕ) (frspc : FreeSpace) (types : List SegmentTyp
 level-some block_size frspc types row fit fits =
     (let law : level types row ≡ depth_below types (parent_of types row.code) + 1 = (leveled block_size frspc types fit).law row fits in omega arith)
 
--- the segments of the first rows of a path
-segments-take : (n : ℕ) (path : List Placed) → segments_of (take n path) ≡ take n (segments_of path)
-segments-take zero path = refl
-segments-take (suc n) [] = refl
-segments-take (suc n) (q ∷ path) = ap (λ (rows : List Segment). q.segment ∷ rows) (segments-take n path)
+-- a path that goes on at a level goes on at the row's, where that is the level
+pub path-at : (types : List SegmentType) (path new : List Placed) (p : Placed) (n : ℕ) → new ≡ take (n - 1) path ++ p ∷ [] → n ≡ level types p.segment
+    → new ≡ take (level types p.segment - 1) path ++ p ∷ []
+path-at types path new p n stepped at = stepped ∙ ap (λ (k : ℕ). take (k - 1) path ++ p ∷ []) at
 
--- a path that goes on to a row is the row's
-pub path-stepped : (types : List SegmentType) (path : List Placed) (p : Placed) → segments_of (take (level types p.segment - 1) path ++ p ∷ []) ≡ next_path types (segments_of path) p.segment
-path-stepped types path p =
-    map_end (λ (q : Placed). q.segment) (take (level types p.segment - 1) path) p ∙ ap (λ (rows : List Segment). rows ++ p.segment ∷ []) (segments-take (level types p.segment - 1) path)
+-- a path that goes on at a row's level is the path of the row
+pub path-stepped : (types : List SegmentType) (path new : List Placed) (p : Placed) → new ≡ take (level types p.segment - 1) path ++ p ∷ []
+    → segments_of new ≡ next_path types (segments_of path) p.segment
+path-stepped types path new p stepped =
+    let whole : segments_of (take (level types p.segment - 1) path ++ p ∷ []) ≡ segments_of (take (level types p.segment - 1) path) ++ p.segment ∷ []
+    = map_end (λ (q : Placed). q.segment) (take (level types p.segment - 1) path) p in
+    let front : segments_of (take (level types p.segment - 1) path) ≡ take (level types p.segment - 1) (segments_of path)
+    = sym (take-map (λ (q : Placed). q.segment) (level types p.segment - 1) path) in
+    ap (λ (q : List Placed). segments_of q) stepped ∙ whole ∙ ap (λ (rows : List Segment). rows ++ p.segment ∷ []) front

@@ -1,8 +1,8 @@
 -- A root that is linked behind the last row of a volume, and entered into its index.
-use Rattle.std.proofs.Common.{◌≡◌, ℕ, ◌+◌, ◌-◌, ◌<◌, ◌≤◌, List, [], ◌∷◌, ◌++◌, length, take, drop, true, false, ◌==◌, cond, IsTrue, Option, Some, None, refl, sym, ap, subst, ◌∙◌, arith, ne_eqb, inl, inr}
+use Rattle.std.proofs.Common.{◌≡◌, ℕ, ◌+◌, ◌-◌, ◌<◌, ◌≤◌, List, [], ◌∷◌, ◌++◌, length, take, drop, true, false, ◌==◌, IsTrue, Option, Some, None, refl, sym, ap, subst, ◌∙◌, arith, inl}
 use Rattle.std.specs.Prelude.{map, nat_lt, nat_le, ◌&&◌, slice_get, option_and_then}
 use Rattle.std.specs.Option.{option_map_or}
-use Rattle.std.proofs.lemmas.Bool.{and_parts, cases_eq, cond-false, or_right, false≢true, ltb-true, leb-true, eqb-true}
+use Rattle.std.proofs.lemmas.Bool.{and_parts, false≢true, ltb-true, leb-true, eqb-true}
 use Rattle.std.proofs.lemmas.List.{append-nil, length-take-le, length-drop}
 use Rattle.hd_dbd.specs.declared.hierarchy.FreeSpace.{FreeSpace}
 use Rattle.hd_dbd.specs.declared.hierarchy.Key.{Key}
@@ -12,38 +12,32 @@ use Rattle.hd_dbd.specs.DatabaseRules.{well_formed, part_fits}
 use Rattle.hd_dbd.specs.Segment.{Segment}
 use Rattle.hd_dbd.specs.Rows.{row_fits, level, key_of}
 use Rattle.hd_dbd.specs.Loads.{load_fault}
-use Rattle.hd_dbd.specs.Forest.{Forest, empty, node, sequence}
+use Rattle.hd_dbd.specs.Forest.{Forest}
 use Rattle.hd_dbd.proofs.Fitting.{IsEarlier, type_of-fits, types_fit}
 use Rattle.hd_dbd.proofs.LevelLaw.{leveled, parents_earlier, depth_below}
-use Rattle.hd_volume.specs.Headers.{Header, header_of}
+use Rattle.hd_volume.specs.Headers.{Header}
 use Rattle.hd_volume.specs.Volumes.{VolumeState}
 use Rattle.hd_volume.specs.Rooms.{spare}
-use Rattle.hd_volume.specs.Entries.{Entry, entries}
-use Rattle.hd_volume.specs.Indexes.{root_key_length, HasIndex, key_less, is_below_first, keys_ascend, index_growth, lacks_room}
-use Rattle.hd_volume.proofs.IndexLemmas.{index-stays}
+use Rattle.hd_volume.specs.Entries.{Entry}
+use Rattle.hd_volume.specs.Indexes.{root_key_length, HasIndex, key_less, keys_ascend, index_growth, lacks_room}
 use Rattle.hd_volume.proofs.KeyLemmas.{less-trans}
-use Rattle.hd_links.specs.Links.{Links, IsSegment, IsLinkGraph, segment_at, is_child_type}
-use Rattle.hd_links.specs.Placed.{Placed, nowhere, Holds}
-use Rattle.hd_links.specs.Changes.{Agree, linked, with_leaf}
-use Rattle.hd_links.specs.Steps.{rows_of}
+use Rattle.hd_links.specs.Placed.{Placed, nowhere}
+use Rattle.hd_links.specs.Changes.{Agree, with_leaf}
 use Rattle.hd_links.specs.LastRows.{last_on, roots_of, segments_of, parent_on_path, twin_on_path, IsLoadedLast}
 use Rattle.hd_links.proofs.Types.{ordered}
 use Rattle.hd_links.proofs.Forms.{formed}
-use Rattle.hd_links.proofs.Touch.{frame}
-use Rattle.hd_links.proofs.LastPath.{loaded}
-use Rattle.hd_links.proofs.Numbers.{map_end, rows_map}
-use Rattle.hd_image.specs.Records.{links_of, IsVolumeOf}
+use Rattle.hd_links.proofs.Numbers.{map_end}
+use Rattle.hd_image.specs.Records.{links_of}
 use Rattle.hd_image.specs.Holding.{root_entries, HoldsPlaced}
 use Rattle.hd_image.proofs.Found.{records-link}
 use Rattle.hd_image.proofs.RootEntries.{roots-ascend}
-use Rattle.hd_image.proofs.Roots.{header-child}
 use Rattle.hd_image.proofs.SameRecords.{records-stay}
 use Rattle.hd_forest.specs.Updates.{MayLink, IsLinked}
 use Rattle.hd_index.specs.Changes.{IsIndexOf, entries_for, IsIndexChange}
 use Rattle.hd_index.specs.Maps.{address_of, with_entry}
 use Rattle.hd_index.specs.Counts.{below_count}
 use Rattle.hd_index.proofs.MapLemmas.{AreBelow, below-all, address-behind, with-behind}
-use Rattle.hd_unload.specs.Loads.{blocks_for, IsLoadStep, LacksRoom}
+use Rattle.hd_unload.specs.Loads.{IsLoadStep, LacksRoom}
 use Rattle.hd_unload.specs.Steps.{IsLoadedTo, IsRowLoaded}
 use Rattle.hd_unload.proofs.Loaded.{entry_for, entries-map, held-agree, stays-agree, last-at, may-link, grown-held, index-kept, entries-before, rows-grown, name-kept, size-kept, segments-kept}
 
@@ -145,10 +139,11 @@ pub lacks-beside : (d : Database) (v : VolumeState) (bytes : List ℕ) → lacks
 unfolding lacks_room
 lacks-beside d v bytes lacks = record { spares = ltb-true (spare v) (1 + index_growth v) lacks; holes = inl refl }
 
--- a volume in which it was linked behind the last root, and then was entered into the index
+-- a volume in which it was linked behind the last root, and then one in which it was entered into the index
 module _ (d : Database) (v w : VolumeState) (f : Forest Placed) (y a : ℕ) (bytes : List ℕ) (H : HoldsPlaced d v f)
     (E : IsLoadedLast d.types (links_of d.types v) f 0 y (record { address = a; segment = record { code = 1; bytes = bytes } }))
     (I : IsLinked d v 0 y (record { code = 1; bytes = bytes }) a w) where
+  -- the root, the forest with it, and its entry
   abbrev root : Segment
   root = record { code = 1; bytes = bytes }
 
@@ -175,6 +170,7 @@ module _ (d : Database) (v w : VolumeState) (f : Forest Placed) (y a : ℕ) (byt
       ∙ roots-ascend d.block_size d.frspc d.types O (length w.image) (links_of d.types w) (records-link d w H.volume.fit I.volume) H.volume.fit nowhere with_root held.lies.nodes
       (formed d.types O 0 None with_root held.fits))
 
+  -- the entries are still those of the other roots
   entries-then : entries_for d w ≡ root_entries d.types f ++ []
   entries-then = entries-before d v w f 0 y a root H E I ∙ sym (append-nil (root_entries d.types f))
 
@@ -204,6 +200,7 @@ module _ (d : Database) (v w : VolumeState) (f : Forest Placed) (y a : ℕ) (byt
       kinds = C.kinds (I.rest.kinds H.kinds);
     }
 
+    -- all segments stay, and no more blocks were taken than it may need
     pub root-step : IsLoadStep d v root x
     root-step = record {
       largest = ap (λ (z : Header). z.largest) C.header ∙ ap (λ (z : Header). z.largest) I.rest.header;
@@ -216,7 +213,7 @@ module _ (d : Database) (v w : VolumeState) (f : Forest Placed) (y a : ℕ) (byt
           omega arith);
     }
 
--- what its load was behind, by some rows and their path
+-- a root that may be loaded behind the last row of a path comes last
 pub root-at : (d : Database) (v : VolumeState) (rows : List Segment) (path : List Placed) (y a : ℕ) (bytes : List ℕ) (L : IsLoadedTo d rows path v)
     → row_fits d.types (record { code = 1; bytes = bytes }) ≡ true → load_fault d.types (segments_of path) (record { code = 1; bytes = bytes }) ≡ None
     → y ≡ twin_on_path d.types path (record { code = 1; bytes = bytes }) → (links_of d.types v).here a ≡ false
@@ -224,12 +221,13 @@ pub root-at : (d : Database) (v : VolumeState) (rows : List Segment) (path : Lis
 root-at d v rows path y a bytes L fits may twin free =
     last-at d v rows path (record { code = 1; bytes = bytes }) 0 y a L fits may (root-place d.block_size d.frspc d.types bytes path L.holds.volume.fit) twin free
 
--- once it is linked, the volume has its index, in which its key is new, and where there was room there is some
+-- The volume has its index, in which the key is new, and which has room for it where there was room beside a block more.
 pub record IsReadyFor (d : Database) (v : VolumeState) (key : List ℕ) (w : VolumeState) : Type 0 where
   pub index : HasIndex (root_key_length d.types) w
   pub new : address_of key (entries_for d w) ≡ None
   pub room : lacks_room 1 v ≡ false → lacks_room 0 w ≡ false
 
+-- so it is once the root is linked
 pub root-linked : (d : Database) (v w : VolumeState) (y a : ℕ) (bytes : List ℕ) → row_fits d.types (record { code = 1; bytes = bytes }) ≡ true
     → ((rows : List Segment) × (path : List Placed) × IsLoadedTo d rows path v × (load_fault d.types (segments_of path) (record { code = 1; bytes = bytes }) ≡ None)
     × (y ≡ twin_on_path d.types path (record { code = 1; bytes = bytes })))
@@ -241,17 +239,19 @@ root-linked d v w y a bytes fits L I =
     record { index = kept.0; new = key-new d v w L.2.placed y a bytes L.2.holds E I; room = λ enough. kept.3 1 0 I.spares enough }
 
 -- it is loaded once it is linked and entered
-pub root-loaded : (d : Database) (v w x : VolumeState) (y a : ℕ) (bytes : List ℕ) → row_fits d.types (record { code = 1; bytes = bytes }) ≡ true
+pub root-loaded : (d : Database) (v w x : VolumeState) (y a : ℕ) (bytes key : List ℕ) → row_fits d.types (record { code = 1; bytes = bytes }) ≡ true
     → IsLinked d v 0 y (record { code = 1; bytes = bytes }) a w → x.size ≡ w.size → x.sizes ≡ w.sizes → IsIndexOf d x
-    → entries_for d x ≡ with_entry (record { key = key_of d.types (record { code = 1; bytes = bytes }); address = a }) (entries_for d w)
+    → key ≡ key_of d.types (record { code = 1; bytes = bytes }) → entries_for d x ≡ with_entry (record { key = key; address = a }) (entries_for d w)
     → IsIndexChange w (index_growth w) x → spare w ≤ spare x + index_growth w
     → (rows : List Segment) (path : List Placed) → IsLoadedTo d rows path v → load_fault d.types (segments_of path) (record { code = 1; bytes = bytes }) ≡ None
     → y ≡ twin_on_path d.types path (record { code = 1; bytes = bytes })
     → IsRowLoaded d v rows (record { code = 1; bytes = bytes }) (record { address = a; segment = record { code = 1; bytes = bytes } } ∷ []) x
-root-loaded d v w x y a bytes fits I size sizes index entered C spares rows path L may twin =
+root-loaded d v w x y a bytes key fits I size sizes index is entry C spares rows path L may twin =
     let row : Segment = record { code = 1; bytes = bytes } in
     let p : Placed = record { address = a; segment = row } in
     let E = root-at d v rows path y a bytes L fits may twin I.free in
+    let entered : entries_for d x ≡ with_entry (record { key = key_of d.types row; address = a }) (entries_for d w)
+    = entry ∙ ap (λ (k : List ℕ). with_entry (record { key = k; address = a }) (entries_for d w)) is in
     let lowest : level d.types row ≡ 1 = root-level d.block_size d.frspc d.types bytes L.holds.volume.fit fits in
     record {
       loaded = record {

@@ -6,7 +6,7 @@ use Rattle.hd_dbd.specs.declared.answer.Refused.TheVariants.{Full}
 use Rattle.hd_volume.proofs.CallSteps.{call-ok}
 use Rattle.hd_volume.proofs.JoinLemmas.{calls-join}
 use Rattle.hd_index.specs.Changes.{entries_for}
-use Rattle.hd_index.specs.Maps.{address_of, with_entry}
+use Rattle.hd_index.specs.Maps.{address_of}
 use Rattle.hd_unload.specs.Loads.{LacksRoom}
 use Rattle.hd_unload.proofs.LoadedRoots.{may-link-root, lacks-beside, root-linked, root-loaded}
 use Rattle.hd_unload.proofs.load.load_root.Goals as goal
@@ -51,7 +51,5 @@ returns-clause-loaded g c = λ sound.
     let o = c.in_ok-address.ensures in
     let e = c.in_ok-insert.ensures in
     let after : IsTrue c.link.new.volume.is_sound = subst IsTrue (sym o.call.sound) sound in
-    root-loaded c.args.dbd.now c.args.volume.now c.link.new.volume c.insert.new.volume c.args.after c.in_ok-address.address c.args.bytes.now c.requires.fits (o.linked sound) e.call.size e.call.sizes
-    (e.index after)
-    (e.entries after ∙ ap (λ (k : List ℕ). with_entry (record { key = k; address = c.in_ok-address.address }) (entries_for c.args.dbd.now c.link.new.volume)) c.root_key.ensures.key)
-    (e.changed after) (e.spares after)
+    root-loaded c.args.dbd.now c.args.volume.now c.link.new.volume c.insert.new.volume c.args.after c.in_ok-address.address c.args.bytes.now c.root_key.result.now c.requires.fits (o.linked sound)
+    e.call.size e.call.sizes (e.index after) c.root_key.ensures.key (e.entries after) (e.changed after) (e.spares after)
