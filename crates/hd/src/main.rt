@@ -3,6 +3,7 @@
 
 mod input;
 mod play;
+mod reloading;
 mod sample;
 mod stop;
 

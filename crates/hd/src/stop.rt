@@ -1,6 +1,7 @@
 use hd_dbd::Refused;
 use hd_deck::{DeckFault, RunFault};
 use hd_gen::GenFault;
+use hd_unload::ReloadFault;
 use std::alloc::{AllocError, AllocFailed};
 use thiserror::Error;
 
@@ -15,6 +16,8 @@ pub enum Stop {
     Program(GenFault),
     #[error("DECK refused: {0}")]
     Deck(DeckFault),
+    #[error("reload refused: {0}")]
+    Reload(ReloadFault),
     #[error("device failed")]
     Device,
     #[error("no memory")]
@@ -41,7 +44,7 @@ impl Stop {
     /// The status with which the program ends.
     pub fn status(&self) -> u8 {
         match self {
-            Stop::Sample => 1,
+            Stop::Sample | Stop::Reload(_) => 1,
             Stop::Database(_) | Stop::Program(_) | Stop::Deck(_) => 2,
             Stop::Device => 3,
             Stop::Memory => 4,
@@ -63,6 +66,16 @@ impl From<RunFault> for Stop {
         match fault {
             RunFault::Memory => Stop::Memory,
             RunFault::Write => Stop::Device,
+        }
+    }
+}
+
+impl From<ReloadFault> for Stop {
+    fn from(fault: ReloadFault) -> Stop {
+        match fault {
+            ReloadFault::Memory => Stop::Memory,
+            ReloadFault::Device => Stop::Device,
+            _ => Stop::Reload(fault),
         }
     }
 }
