@@ -5,7 +5,7 @@ use Rattle.hd_dbd.specs.Hierarchy.{Database}
 use Rattle.hd_dbd.specs.DatabaseRules.{well_formed}
 use Rattle.hd_dbd.specs.Facts.{stored_sizes}
 use Rattle.hd_dbd.specs.declared.answer.Refused.{Refused}
-use Rattle.hd_volume.specs.Headers.{HasHeader, header_of}
+use Rattle.hd_volume.specs.Headers.{Header, HasHeader, header_of}
 use Rattle.hd_links.specs.Pointers.{AreLinked}
 use Rattle.hd_check.specs.declared.segments.Place.{Place}
 use Rattle.hd_check.specs.Places.{ArePlaces}
@@ -69,11 +69,11 @@ firsts-same d u v o e h = if-some-map o (λ f l. first-same d u v f e l) h
 pub none-same : (d : Database) (p : ℕ) (u v : VolumeState) → IsOne u v → NoneBefore d u p → NoneBefore d v p
 none-same d p u v e none = λ k a o l s. none k a o l (stands-same v u (turned e) d k a o s)
 
--- the top block that the other state names
-pub top-same : (u v : VolumeState) (top : ℕ) → IsOne u v → HasBlock u.size u.image 0 → IsTrue v.is_sound → (IsTrue v.is_sound → HasBlock v.size v.image 0 → top ≡ (header_of v.image).top) → top ≡ (header_of u.image).top
-top-same u v top e first now h =
-    let there : HasBlock v.size v.image 0 = subst (λ (i : List ℕ). HasBlock v.size i 0) (sym e.image) (subst (λ (n : ℕ). HasBlock n u.image 0) (sym e.size) first) in
-    h now there ∙ ap (λ (i : List ℕ). (header_of i).top) e.image
+-- a number that the header of the other state says
+pub header-says : (field : Header → ℕ) (u v : VolumeState) (n : ℕ) → IsOne u v → HasBlock u.size u.image 0 → IsTrue v.is_sound → (IsTrue v.is_sound → HasBlock v.size v.image 0 → n ≡ field (header_of v.image)) → n ≡ field (header_of u.image)
+header-says field u v n e first now h =
+    let there : HasBlock v.size v.image 0 = subst (λ (i : List ℕ). HasBlock v.size i 0) (sym e.image) (subst (λ (s : ℕ). HasBlock s u.image 0) (sym e.size) first) in
+    h now there ∙ ap (λ (i : List ℕ). field (header_of i)) e.image
 
 -- what holds of an answer, by two facts of it
 pub if-ok-both : {A : Type 0} {P Q R : A → Type 0} (r : Result A Refused) → IfOk r P → IfOk r Q → ((x : A) → P x → Q x → R x) → IfOk r R

@@ -36,3 +36,5 @@ pub mod TwinFaults
 pub mod EarlierFaults
 pub mod OneStore
 pub mod Joined
+pub mod Tallies
+pub mod Passing

@@ -14,7 +14,7 @@ use Rattle.hd_check.specs.Joining.{NoneBefore, HasRightBlocks}
 use Rattle.hd_check.proofs.RecordSteps.{from-none}
 use Rattle.hd_check.proofs.OneStore.{IsOne, turned, right-same, formed-same, table-same, bearers-same, entries-same}
 use Rattle.hd_check.proofs.EarlierFaults.{none-9, none-10, none-11}
-use Rattle.hd_check.proofs.Joined.{still-sound, was-sound, read-one, carried, found-here, firsts-same, none-same, top-same}
+use Rattle.hd_check.proofs.Joined.{still-sound, was-sound, read-one, carried, found-here, firsts-same, none-same, header-says}
 use Rattle.hd_check.proofs.phases.roots_fault.Goals as goal
 
 pub returns-then-is_some-clause-some : goal.returns-then-is_some-clause-some
@@ -28,7 +28,7 @@ returns-then-is_some-2-clause-some g c = λ sound.
     let k : ℕ = root_key_length d.types in
     let e : IsOne v w = read-one c.in_ok-found.ensures.read sound in
     let R : HasRightBlocks d v c.args.places.now = c.requires.right sound in
-    let top = top-same v w c.top-top.result e R.volume.formatted.header.first (still-sound c.in_ok-found.ensures.read sound) c.top-top.ensures in
+    let top = header-says (λ h. h.top) v w c.top-top.result e R.volume.formatted.header.first (still-sound c.in_ok-found.ensures.read sound) c.top-top.ensures in
     let is-none = sym c.is_some.ensures ∙ c.if-is_some.false in
     let right : IsIndexRight k v = from-none c.in_ok-found.found is-none (c.in_ok-found.ensures.none sound) in
     let all : AreIndexBlocks v c.index_fault.new.blocks.items = from-none c.in_ok-found.found is-none (c.in_ok-found.ensures.blocks sound) in
@@ -44,7 +44,7 @@ returns-then-is_some-3-clause-some g c = λ sound.
     let k : ℕ = root_key_length d.types in
     let e : IsOne v w = read-one c.in_ok-found.ensures.read sound in
     let R : HasRightBlocks d v c.args.places.now = c.requires.right sound in
-    let top = top-same v w c.top-top.result e R.volume.formatted.header.first (still-sound c.in_ok-found.ensures.read sound) c.top-top.ensures in
+    let top = header-says (λ h. h.top) v w c.top-top.result e R.volume.formatted.header.first (still-sound c.in_ok-found.ensures.read sound) c.top-top.ensures in
     let is-none = sym c.is_some.ensures ∙ c.if-is_some.false in
     let right : IsIndexRight k v = from-none c.in_ok-found.found is-none (c.in_ok-found.ensures.none sound) in
     let all : AreIndexBlocks v c.index_fault.new.blocks.items = from-none c.in_ok-found.found is-none (c.in_ok-found.ensures.blocks sound) in
@@ -72,7 +72,7 @@ names_roots_fault-requires-clause-formed g c = λ now.
     let sound = was-sound c.in_ok-found.ensures.read now in
     let e : IsOne v w = read-one c.in_ok-found.ensures.read sound in
     let R : HasRightBlocks d v c.args.places.now = c.requires.right sound in
-    let top = top-same v w c.top-top.result e R.volume.formatted.header.first (still-sound c.in_ok-found.ensures.read sound) c.top-top.ensures in
+    let top = header-says (λ h. h.top) v w c.top-top.result e R.volume.formatted.header.first (still-sound c.in_ok-found.ensures.read sound) c.top-top.ensures in
     let is-none = sym c.is_some.ensures ∙ c.if-is_some.false in
     let right : IsIndexRight k v = from-none c.in_ok-found.found is-none (c.in_ok-found.ensures.none sound) in
     let all : AreIndexBlocks v c.index_fault.new.blocks.items = from-none c.in_ok-found.found is-none (c.in_ok-found.ensures.blocks sound) in
@@ -102,7 +102,7 @@ names_roots_fault-requires-clause-chain g c = λ now.
     let sound = was-sound c.in_ok-found.ensures.read now in
     let e : IsOne v w = read-one c.in_ok-found.ensures.read sound in
     let R : HasRightBlocks d v c.args.places.now = c.requires.right sound in
-    let top = top-same v w c.top-top.result e R.volume.formatted.header.first (still-sound c.in_ok-found.ensures.read sound) c.top-top.ensures in
+    let top = header-says (λ h. h.top) v w c.top-top.result e R.volume.formatted.header.first (still-sound c.in_ok-found.ensures.read sound) c.top-top.ensures in
     let is-none = sym c.is_some.ensures ∙ c.if-is_some.false in
     let right : IsIndexRight k v = from-none c.in_ok-found.found is-none (c.in_ok-found.ensures.none sound) in
     let all : AreIndexBlocks v c.index_fault.new.blocks.items = from-none c.in_ok-found.found is-none (c.in_ok-found.ensures.blocks sound) in
@@ -121,7 +121,7 @@ names_roots_fault-requires-clause-before g c = λ now.
     let sound = was-sound c.in_ok-found.ensures.read now in
     let e : IsOne v w = read-one c.in_ok-found.ensures.read sound in
     let R : HasRightBlocks d v c.args.places.now = c.requires.right sound in
-    let top = top-same v w c.top-top.result e R.volume.formatted.header.first (still-sound c.in_ok-found.ensures.read sound) c.top-top.ensures in
+    let top = header-says (λ h. h.top) v w c.top-top.result e R.volume.formatted.header.first (still-sound c.in_ok-found.ensures.read sound) c.top-top.ensures in
     let is-none = sym c.is_some.ensures ∙ c.if-is_some.false in
     let right : IsIndexRight k v = from-none c.in_ok-found.found is-none (c.in_ok-found.ensures.none sound) in
     let all : AreIndexBlocks v c.index_fault.new.blocks.items = from-none c.in_ok-found.found is-none (c.in_ok-found.ensures.blocks sound) in
@@ -140,7 +140,7 @@ returns-clause-none g c = if-ok c.names_roots_fault.result c.names_roots_fault.e
     let k : ℕ = root_key_length d.types in
     let e : IsOne v w = read-one c.in_ok-found.ensures.read sound in
     let R : HasRightBlocks d v c.args.places.now = c.requires.right sound in
-    let top = top-same v w c.top-top.result e R.volume.formatted.header.first (still-sound c.in_ok-found.ensures.read sound) c.top-top.ensures in
+    let top = header-says (λ h. h.top) v w c.top-top.result e R.volume.formatted.header.first (still-sound c.in_ok-found.ensures.read sound) c.top-top.ensures in
     let is-none = sym c.is_some.ensures ∙ c.if-is_some.false in
     let right : IsIndexRight k v = from-none c.in_ok-found.found is-none (c.in_ok-found.ensures.none sound) in
     let all : AreIndexBlocks v c.index_fault.new.blocks.items = from-none c.in_ok-found.found is-none (c.in_ok-found.ensures.blocks sound) in
