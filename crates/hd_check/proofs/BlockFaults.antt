@@ -15,7 +15,7 @@ use Rattle.hd_check.specs.declared.fault.Fault.{Fault}
 use Rattle.hd_check.specs.Phases.{IsRightBlock, IsWrongAt, IsWrongBlock, AreBlocksRight, IsLeastOf}
 
 -- a line of the second phase
-second-lines : (P : Line → Type 0) → P wrong_chain → P wrong_place → P no_kind → (k : Line) → phase_of k ≡ 2 → P k
+pub second-lines : (P : Line → Type 0) → P wrong_chain → P wrong_place → P no_kind → (k : Line) → phase_of k ≡ 2 → P k
 second-lines P a b c no_volume h = absurd (omega arith)
 second-lines P a b c no_version h = absurd (omega arith)
 second-lines P a b c another_database h = absurd (omega arith)

@@ -12,7 +12,7 @@ use Rattle.hd_check.specs.declared.fault.Fault.{Fault}
 use Rattle.hd_check.specs.Phases.{CountsImage, IsNamed, IsWrongHeader, IsHeaderRight, IsLeastOf}
 
 -- a line of the first phase
-first-lines : (P : Line → Type 0) → P no_volume → P no_version → P another_database → (k : Line) → phase_of k ≡ 1 → P k
+pub first-lines : (P : Line → Type 0) → P no_volume → P no_version → P another_database → (k : Line) → phase_of k ≡ 1 → P k
 first-lines P a b c no_volume h = a
 first-lines P a b c no_version h = b
 first-lines P a b c another_database h = c

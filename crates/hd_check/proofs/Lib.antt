@@ -33,3 +33,8 @@ pub mod KeyOrder
 pub mod TwinPointers
 pub mod LastChildren
 pub mod TwinFaults
+pub mod EarlierFaults
+pub mod OneStore
+pub mod Joined
+pub mod Tallies
+pub mod Passing

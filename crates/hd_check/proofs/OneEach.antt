@@ -97,7 +97,7 @@ above-among t h (x ∷ xs) up (inr i) = above-among t h xs up.1 i
 -- ---- the lines of the phase
 
 -- a line of the fourth phase
-fourth-lines : (P : Line → Type 0) → P two_predecessors → P no_predecessor → (k : Line) → phase_of k ≡ 4 → P k
+pub fourth-lines : (P : Line → Type 0) → P two_predecessors → P no_predecessor → (k : Line) → phase_of k ≡ 4 → P k
 fourth-lines P a b no_volume h = absurd (omega arith)
 fourth-lines P a b no_version h = absurd (omega arith)
 fourth-lines P a b another_database h = absurd (omega arith)

@@ -159,7 +159,7 @@ module _ (types : List SegmentType) (m : Links) (zero-code : m.code 0 ≡ 0) (ri
 -- ---- the negative side
 
 -- a line of the third phase
-third-lines : (P : Line → Type 0) → P deleted → P points_nowhere → P points_to_another → (k : Line) → phase_of k ≡ 3 → P k
+pub third-lines : (P : Line → Type 0) → P deleted → P points_nowhere → P points_to_another → (k : Line) → phase_of k ≡ 3 → P k
 third-lines P a b c no_volume h = absurd (omega arith)
 third-lines P a b c no_version h = absurd (omega arith)
 third-lines P a b c another_database h = absurd (omega arith)

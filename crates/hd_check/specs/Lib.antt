@@ -10,4 +10,5 @@ pub mod LeftKeys
 pub mod Matched
 pub mod Keys
 pub mod Twins
+pub mod Joining
 pub mod Checks

@@ -1,10 +1,15 @@
-ghost use Rattle.std.specs.Prelude.{◌≡◌, IsTrue, IfOk, IfErr};
+ghost use Rattle.std.specs.Prelude.{◌≡◌, ◌<◌, ◌≤◌, ◌⊎◌, length, IsTrue, IfOk, IfErr};
+ghost use Rattle.hd_bytes.specs.Blocks.{HasBlock};
 ghost use Rattle.hd_dbd.specs.Facts.{stored_sizes};
+ghost use Rattle.hd_volume.specs.Headers.{header_of};
 ghost use Rattle.hd_volume.specs.Calls.{IsRead};
+ghost use Rattle.hd_check.specs.Joining.{roots_among};
 ghost use Rattle.hd_check.specs.Checks.{IsPassed, IsFaultOf, as_call};
 
 use crate::fault::Fault;
-use hd_dbd::Dbd;
+use crate::phases::first_fault;
+use crate::segments::Place;
+use hd_dbd::{Dbd, Refused};
 use hd_volume::{BlockStore, Volume};
 use std::alloc::Global;
 use thiserror::Error;
@@ -31,6 +36,51 @@ pub enum CheckFault {
     Device,
 }
 
+/// A number of segments, which are fewer than 2 to the 32.
+fn narrowed(count: usize) -> u32
+    ensures { count < 4294967296 → result ≡ count }
+{
+    count.min(u32::MAX as usize) as u32
+}
+
+/// How many of the places are those of roots.
+fn root_count(places: &[Place]) -> usize
+    ensures value { result ≡ roots_among places.now }
+    ensures few { result ≤ length places.now }
+{
+    let mut count = 0;
+    for place in places {
+        if place.code == 1 {
+            count += 1;
+        }
+    }
+    count
+}
+
+/// What is counted of a volume with these segments.
+fn counts_of<S: BlockStore>(places: &[Place], volume: &Volume<S>) -> Passed
+    ensures blocks { IsTrue volume.now.is_sound → HasBlock volume.now.size volume.now.image 0 → result.blocks ≡ (header_of volume.now.image).count }
+    ensures segments { length places.now < 4294967296 → result.segments ≡ length places.now }
+    ensures roots { length places.now < 4294967296 → result.roots ≡ roots_among places.now }
+{
+    Passed {
+        blocks: volume.block_count(),
+        segments: narrowed(places.len()),
+        roots: narrowed(root_count(places)),
+    }
+}
+
+/// Why a check came to no end.
+fn refusal_of(refused: Refused) -> CheckFault
+    requires { (refused ≡ Refused.Device) ⊎ (refused ≡ Refused.Memory) }
+    ensures { ((refused ≡ Refused.Device) × (result ≡ CheckFault.Device)) ⊎ ((refused ≡ Refused.Memory) × (result ≡ CheckFault.Memory)) }
+{
+    match refused {
+        Refused::Device => CheckFault::Device,
+        _ => CheckFault::Memory,
+    }
+}
+
 /// Whether a volume holds a forest of its database. It passes exactly where it holds one, and then it holds no other; else its least
 /// fault is named, by phase, then by address, then by number. No byte is changed.
 ///
@@ -46,5 +96,10 @@ pub fn check<S: BlockStore>(
     ensures passed { IfOk result (λ p. IsTrue volume.old.is_sound → IsPassed dbd.now volume.old p) }
     ensures fault { IfErr result (λ e. IsTrue volume.old.is_sound → IsFaultOf dbd.now volume.old e) }
 {
-    Err(CheckFault::Memory)
+    let mut places = Vec::new(alloc);
+    match first_fault(alloc, &mut places, volume, dbd) {
+        Ok(None) => Ok(counts_of(&places, volume)),
+        Ok(Some(fault)) => Err(CheckFault::Fault(fault)),
+        Err(refused) => Err(refusal_of(refused)),
+    }
 }

@@ -13,7 +13,7 @@ ghost use Rattle.hd_image.specs.IndexFaults.{names_a_root};
 ghost use Rattle.hd_image.specs.Records.{links_of, IsVolumeOf};
 ghost use Rattle.hd_image.specs.Right.{IndexIsFormed};
 ghost use Rattle.hd_check.specs.Phases.{IsLeastOf};
-ghost use Rattle.hd_check.specs.Places.{ArePlaces, PlacesAscend};
+ghost use Rattle.hd_check.specs.Places.{ArePlaces};
 ghost use Rattle.hd_check.specs.IndexPhases.{AreIndexBlocks, AreNamed, entry_in};
 
 use crate::entry::{count_of, entry_of, root_key_length};
@@ -62,7 +62,6 @@ fn has_key(dbd: &Dbd, segment: &[u8], key: &[u8]) -> bool
 
 /// Whether an address is that of a root.
 fn is_root(places: &[Place], address: u32) -> bool
-    requires { PlacesAscend places.now }
     ensures { (d : Database) (v : VolumeState) → ArePlaces d.types v places.now → result ≡ (not (address == 0) && (links_of d.types v).here address && ((links_of d.types v).code address == 1)) }
 {
     match code_at(places, address) {
@@ -79,7 +78,6 @@ fn names_root<S: BlockStore>(
     key: &[u8],
     address: u32,
 ) -> Result<bool, Refused>
-    requires ascend { PlacesAscend places.now }
     requires of { IsTrue volume.old.is_sound → IsVolumeOf dbd.now volume.old }
     requires places { IsTrue volume.old.is_sound → ArePlaces dbd.now.types volume.old places.now }
     ensures read { IsRead volume.old result volume.new }
@@ -101,7 +99,6 @@ fn judge_entry<S: BlockStore>(
     n: u32,
     index: usize,
 ) -> Result<(bool, u32), Refused>
-    requires ascend { PlacesAscend places.now }
     requires of { IsTrue volume.old.is_sound → IsVolumeOf dbd.now volume.old }
     requires places { IsTrue volume.old.is_sound → ArePlaces dbd.now.types volume.old places.now }
     requires block { IsTrue volume.old.is_sound → IsEntryBlock (root_key_length dbd.now.types) volume.old n }
@@ -127,7 +124,6 @@ fn wrong_entry<S: BlockStore>(
     dbd: &Dbd,
     n: u32,
 ) -> Result<Option<u32>, Refused>
-    requires ascend { PlacesAscend places.now }
     requires of { IsTrue volume.old.is_sound → IsVolumeOf dbd.now volume.old }
     requires places { IsTrue volume.old.is_sound → ArePlaces dbd.now.types volume.old places.now }
     requires block { IsTrue volume.old.is_sound → IsEntryBlock (root_key_length dbd.now.types) volume.old n }
@@ -161,7 +157,6 @@ pub fn entries_fault<S: BlockStore>(
     dbd: &Dbd,
 ) -> Result<Option<Fault>, Refused>
     requires empty { named.old.items ≡ [] }
-    requires ascend { PlacesAscend places.now }
     requires of { IsTrue volume.old.is_sound → IsVolumeOf dbd.now volume.old }
     requires formed { IsTrue volume.old.is_sound → IndexIsFormed (root_key_length dbd.now.types) volume.old }
     requires places { IsTrue volume.old.is_sound → ArePlaces dbd.now.types volume.old places.now }

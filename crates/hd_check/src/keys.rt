@@ -9,7 +9,6 @@ ghost use Rattle.hd_links.specs.Pointers.{Precedes, KeysAscend};
 ghost use Rattle.hd_image.specs.Records.{links_of, IsVolumeOf};
 ghost use Rattle.hd_image.specs.PointerFaults.{IsOutOfOrder};
 ghost use Rattle.hd_check.specs.Phases.{IsLeastOf};
-ghost use Rattle.hd_check.specs.Places.{PlacesAscend};
 ghost use Rattle.hd_check.specs.Tables.{place_at, ArePredecessors};
 ghost use Rattle.hd_check.specs.Matched.{IsMatched};
 ghost use Rattle.hd_check.specs.Keys.{is_keyed, keys_in_order, IsKeyRight};
@@ -180,7 +179,6 @@ pub fn keys_fault<S: BlockStore>(
     volume: &mut Volume<S>,
     dbd: &Dbd,
 ) -> Result<Option<Fault>, Refused>
-    requires ascend { PlacesAscend places.now }
     requires matched { IsTrue volume.old.is_sound → IsMatched dbd.now volume.old places.now }
     requires predecessors { IsTrue volume.old.is_sound → ArePredecessors dbd.now.types (links_of dbd.now.types volume.old) places.now namings.now }
     ensures read { IsRead volume.old result volume.new }

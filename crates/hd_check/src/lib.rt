@@ -15,6 +15,7 @@ mod keys;
 mod lookup;
 mod names;
 mod order;
+mod phases;
 mod place;
 mod pointers;
 mod position;

@@ -5,9 +5,8 @@ use crate::segments::Place;
 
 /// The code of the segment at an address, if one stands there.
 pub fn code_at(places: &[Place], address: u32) -> Option<u8>
-    requires { PlacesAscend places.now }
     ensures some { IfSome result (λ code. IsPlaceOf (record { address = address; code = code }) places.now) }
-    ensures none { IfNone result ((code : ℕ) → IsPlaceOf (record { address = address; code = code }) places.now → ⊥) }
+    ensures none { PlacesAscend places.now → IfNone result ((code : ℕ) → IsPlaceOf (record { address = address; code = code }) places.now → ⊥) }
 {
     let mut low = 0;
     let mut high = places.len();

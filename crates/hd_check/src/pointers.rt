@@ -5,7 +5,7 @@ ghost use Rattle.hd_prefix.specs.Fields.{code_of};
 ghost use Rattle.hd_image.specs.Records.{links_of, stored_at};
 ghost use Rattle.hd_dbd.specs.Hierarchy.{Database};
 ghost use Rattle.hd_image.specs.PointerFaults.{child_pointers, pointers_of};
-ghost use Rattle.hd_check.specs.Places.{ArePlaces, PlacesAscend};
+ghost use Rattle.hd_check.specs.Places.{ArePlaces};
 ghost use Rattle.hd_volume.specs.Headers.{header_of};
 ghost use Rattle.hd_check.specs.Lending.{IsLent};
 ghost use Rattle.hd_check.specs.Judging.{wrong_among, wrong_or, IsRecordRight, IsWrongRecord};
@@ -26,7 +26,6 @@ struct Wrong {
 
 /// What is wrong with one pointer, which may name a segment of a type.
 fn wrong_of(places: &[Place], address: u32, code: u8) -> Wrong
-    requires { PlacesAscend places.now }
     ensures { (d : Database) (v : VolumeState) → ArePlaces d.types v places.now → result ≡ wrong_among (links_of d.types v) (record { address = address; type_code = code } ∷ []) }
 {
     if address == 0 {
@@ -74,7 +73,6 @@ fn judge_children(
     types: &[u8],
     wrong: Wrong,
 ) -> Wrong
-    requires ascend { PlacesAscend places.now }
     requires own { code ≡ code_of segment.now }
     requires whole { stored_size dbd.now.types (code_of segment.now) ≤ length segment.now }
     ensures { (v : VolumeState) (a : ℕ) → ArePlaces dbd.now.types v places.now → stored_at v a ≡ segment.now → a ≢ 0 → result ≡ wrong_or wrong (wrong_among (links_of dbd.now.types v) (child_pointers dbd.now.types (links_of dbd.now.types v) a types.now)) }
@@ -92,7 +90,6 @@ fn judge_children(
 
 /// What is wrong with the pointers of a segment.
 fn judge_segment(places: &[Place], dbd: &Dbd, code: u8, segment: &[u8]) -> Wrong
-    requires ascend { PlacesAscend places.now }
     requires own { code ≡ code_of segment.now }
     requires some { code ≢ 0 }
     requires whole { stored_size dbd.now.types (code_of segment.now) ≤ length segment.now }
@@ -107,7 +104,6 @@ fn judge_segment(places: &[Place], dbd: &Dbd, code: u8, segment: &[u8]) -> Wrong
 
 /// What is wrong with a segment at an address.
 pub fn segment_fault(places: &[Place], dbd: &Dbd, address: u32, segment: &[u8]) -> Option<Fault>
-    requires ascend { PlacesAscend places.now }
     ensures none { (v : VolumeState) → ArePlaces dbd.now.types v places.now → IsLent dbd.now.types v address segment.now → IfNone result (IsRecordRight dbd.now.types (links_of dbd.now.types v) address) }
     ensures some { (v : VolumeState) → ArePlaces dbd.now.types v places.now → IsLent dbd.now.types v address segment.now → IfSome result (λ f. IsWrongRecord dbd.now.types (links_of dbd.now.types v) address f) }
 {
@@ -138,7 +134,6 @@ fn pointer_fault(address: u32, wrong: Wrong) -> Option<Fault>
 
 /// What is wrong with the header's first and last root.
 pub fn roots_fault(places: &[Place], first: u32, last: u32) -> Option<Fault>
-    requires ascend { PlacesAscend places.now }
     ensures none { (d : Database) (v : VolumeState) → ArePlaces d.types v places.now → first ≡ (header_of v.image).first_root → last ≡ (header_of v.image).last_root → IfNone result (IsRecordRight d.types (links_of d.types v) 0) }
     ensures some { (d : Database) (v : VolumeState) → ArePlaces d.types v places.now → first ≡ (header_of v.image).first_root → last ≡ (header_of v.image).last_root → IfSome result (λ f. IsWrongRecord d.types (links_of d.types v) 0 f) }
 {

@@ -4,7 +4,7 @@ ghost use Rattle.hd_links.specs.Links.{IsSegment};
 ghost use Rattle.hd_links.specs.Pointers.{PointersAreTyped};
 ghost use Rattle.hd_image.specs.Records.{links_of, IsVolumeOf};
 ghost use Rattle.hd_check.specs.Phases.{IsLeastOf};
-ghost use Rattle.hd_check.specs.Places.{ArePlaces, PlacesAscend};
+ghost use Rattle.hd_check.specs.Places.{ArePlaces};
 ghost use Rattle.hd_check.specs.Judging.{IsRecordRight, IsWrongRecord};
 ghost use Rattle.hd_check.specs.Tables.{AreForwards};
 ghost use Rattle.hd_check.specs.Namings.{segment_namings, AreNamings};
@@ -26,7 +26,6 @@ fn fault_at<S: BlockStore>(
     dbd: &Dbd,
     address: u32,
 ) -> Result<Option<Fault>, Refused>
-    requires ascend { PlacesAscend places.now }
     requires of { IsTrue volume.old.is_sound → IsVolumeOf dbd.now volume.old }
     requires there { IsTrue volume.old.is_sound → IsSegment (links_of dbd.now.types volume.old) address }
     ensures read { IsRead volume.old result volume.new }
@@ -52,7 +51,6 @@ pub fn records_fault<S: BlockStore>(
     dbd: &Dbd,
 ) -> Result<Option<Fault>, Refused>
     requires empty { (forwards.old.items ≡ []) × (namings.old.items ≡ []) }
-    requires ascend { PlacesAscend places.now }
     requires of { IsTrue volume.old.is_sound → IsVolumeOf dbd.now volume.old }
     requires places { IsTrue volume.old.is_sound → ArePlaces dbd.now.types volume.old places.now }
     ensures read { IsRead volume.old result volume.new }

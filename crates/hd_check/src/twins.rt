@@ -10,7 +10,6 @@ ghost use Rattle.hd_links.specs.Pointers.{Precedes, TwinsLinkBack};
 ghost use Rattle.hd_image.specs.Records.{links_of};
 ghost use Rattle.hd_image.specs.PointerFaults.{IsWrongBackward, IsWrongLast, HasWrongLast};
 ghost use Rattle.hd_check.specs.Phases.{IsLeastOf};
-ghost use Rattle.hd_check.specs.Places.{PlacesAscend};
 ghost use Rattle.hd_check.specs.Lending.{IsLent};
 ghost use Rattle.hd_check.specs.Tables.{place_at, AreForwards, ArePredecessors, AreOwners};
 ghost use Rattle.hd_check.specs.Matched.{IsMatched};
@@ -231,7 +230,6 @@ pub fn twins_fault<S: BlockStore>(
     volume: &mut Volume<S>,
     dbd: &Dbd,
 ) -> Result<Option<Fault>, Refused>
-    requires ascend { PlacesAscend places.now }
     requires matched { IsTrue volume.old.is_sound → IsMatched dbd.now volume.old places.now }
     requires predecessors { IsTrue volume.old.is_sound → ArePredecessors dbd.now.types (links_of dbd.now.types volume.old) places.now namings.now }
     requires forwards { IsTrue volume.old.is_sound → AreForwards (links_of dbd.now.types volume.old) places.now forwards.now }

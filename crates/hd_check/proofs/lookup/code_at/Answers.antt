@@ -24,9 +24,9 @@ loop-low-preserved-then-place-address-2 c =
     record {
       order = omega arith;
       most = i.most;
-      below = λ j low. elim (cases_eq j middle) [
+      below = λ ascend j low. elim (cases_eq j middle) [
         | inl e ↦ subst (λ (x : ℕ). (place-at ps x).address < c.args.address) (sym e) less
-        | inr ne ↦ (let before = in-order ps j middle c.requires (omega arith) (omega arith) in omega arith)
+        | inr ne ↦ (let before = in-order ps j middle ascend (omega arith) (omega arith) in omega arith)
       ];
       above = i.above;
     }
@@ -43,20 +43,20 @@ loop-low-preserved c =
       order = omega arith;
       most = omega arith;
       below = i.below;
-      above = λ j high within. elim (cases_eq j middle) [
+      above = λ ascend j high within. elim (cases_eq j middle) [
         | inl e ↦ subst (λ (x : ℕ). c.args.address < (place-at ps x).address) (sym e) more
-        | inr ne ↦ (let before = in-order ps middle j c.requires (omega arith) within in omega arith)
+        | inr ne ↦ (let before = in-order ps middle j ascend (omega arith) within in omega arith)
       ];
     }
 
 pub returns-clause-none : goal.returns-clause-none
-returns-clause-none c = λ code is.
+returns-clause-none c = λ ascend code is.
     let ps : List Place = c.args.places.now in
     let i = c.loop-low.invariant in
     let end = c.loop-low-test.false in
     let n = number-of (record { address = c.args.address; code = code }) ps is in
     let at : (place-at ps n.0).address ≡ c.args.address = ap (λ (p : Place). p.address) n.2 in
     elim (cases_lt n.0 c.loop-low.low) [
-      | inl low ↦ (let b = i.below n.0 low in absurd (omega arith))
-      | inr high ↦ (let within = n.1 in let a = i.above n.0 (omega arith) within in absurd (omega arith))
+      | inl low ↦ (let b = i.below ascend n.0 low in absurd (omega arith))
+      | inr high ↦ (let within = n.1 in let a = i.above ascend n.0 (omega arith) within in absurd (omega arith))
     ]

@@ -1,4 +1,5 @@
 use Rattle.std.proofs.Common.{ℕ, ◌-◌, ◌<◌, ◌≤◌, length}
+use Rattle.hd_check.specs.Places.{PlacesAscend}
 use Rattle.hd_check.proofs.Lookups.{place-at}
 use Rattle.hd_check.proofs.lookup.code_at.Given as goal
 
@@ -7,8 +8,8 @@ abbrev pub invariant-loop-low : goal.invariant-loop-low
 invariant-loop-low l = record {
   order : l.low ≤ l.high;
   most : l.high ≤ length l.places;
-  below : (j : ℕ) → j < l.low → (place-at l.places j).address < l.address;
-  above : (j : ℕ) → l.high ≤ j → j < length l.places → l.address < (place-at l.places j).address;
+  below : PlacesAscend l.places → (j : ℕ) → j < l.low → (place-at l.places j).address < l.address;
+  above : PlacesAscend l.places → (j : ℕ) → l.high ≤ j → j < length l.places → l.address < (place-at l.places j).address;
 }
 
 abbrev pub decreases-loop-low : goal.decreases-loop-low

@@ -1,0 +1,168 @@
+-- What each phase finds right excludes the faults of its lines.
+use Rattle.std.proofs.Common.{◌≡◌, inl, inr, ℕ, ◌+◌, ◌<◌, true, refl, sym, ◌∙◌, arith}
+use Rattle.std.specs.Prelude.{◌==◌}
+use Rattle.std.specs.List.{list_all, list_any}
+use Rattle.std.proofs.lemmas.Bool.{cases_lt, false≢true}
+use Rattle.hd_dbd.specs.Hierarchy.{Database}
+use Rattle.hd_volume.specs.Headers.{header_of}
+use Rattle.hd_volume.specs.Volumes.{VolumeState}
+use Rattle.hd_volume.specs.Entries.{entry_blocks, entries}
+use Rattle.hd_volume.specs.Indexes.{root_key_length, keys_ascend, HasIndex}
+use Rattle.hd_links.specs.Links.{IsSegment}
+use Rattle.hd_links.specs.Pointers.{PointersAreTyped, PredecessorsAreOne, TwinsLinkBack, KeysAscend, IsReached}
+use Rattle.hd_image.specs.Records.{links_of, IsVolumeOf}
+use Rattle.hd_image.specs.IndexFaults.{names_a_root, IsWrongTop, IsWrongForm}
+use Rattle.hd_image.specs.Right.{IndexIsFormed}
+use Rattle.hd_image.specs.Standing.{Line, no_volume, no_version, another_database, wrong_chain, wrong_place, no_kind, deleted, points_nowhere, points_to_another, two_predecessors, no_predecessor, wrong_backward, wrong_last, out_of_order, not_reached, wrong_top, wrong_form, named_twice, unreached_block, entry_out_of_order, wrong_entry, no_entry, Stands, phase_of, number_of, ComesBefore}
+use Rattle.hd_image.proofs.Roots.{header-code}
+use Rattle.hd_image.proofs.BlockNoFault.{none-wrong-chain, none-wrong-place}
+use Rattle.hd_image.proofs.PointerNoFault as pointer
+use Rattle.hd_image.proofs.IndexNoFault as index
+use Rattle.hd_check.specs.declared.fault.Fault.{Fault}
+use Rattle.hd_check.specs.Phases.{IsHeaderRight, AreBlocksRight, IsLeastOf}
+use Rattle.hd_check.specs.IndexPhases.{IsIndexRight, AreNamedOnce}
+use Rattle.hd_check.specs.Joining.{NoneBefore, IsFirstFault}
+use Rattle.hd_check.proofs.HeaderFaults.{first-lines}
+use Rattle.hd_check.proofs.BlockFaults.{second-lines}
+use Rattle.hd_check.proofs.TypedRecords.{third-lines}
+use Rattle.hd_check.proofs.OneEach.{fourth-lines}
+use Rattle.hd_check.proofs.LateLines.{stands-8, stands-9, stands-10, stands-11, stands-12, stands-13}
+
+-- a line of the fifth phase
+fifth-lines : (P : Line → Type 0) → P wrong_backward → P wrong_last → (k : Line) → phase_of k ≡ 5 → P k
+fifth-lines P a b wrong_backward h = a
+fifth-lines P a b wrong_last h = b
+fifth-lines P a b k h = absurd (omega arith)
+
+-- that of the sixth
+sixth-line : (P : Line → Type 0) → P out_of_order → (k : Line) → phase_of k ≡ 6 → P k
+sixth-line P a out_of_order h = a
+sixth-line P a k h = absurd (omega arith)
+
+-- that of the seventh
+seventh-line : (P : Line → Type 0) → P not_reached → (k : Line) → phase_of k ≡ 7 → P k
+seventh-line P a not_reached h = a
+seventh-line P a k h = absurd (omega arith)
+
+-- no line is of a phase before the first
+pub none-first : (d : Database) (v : VolumeState) → NoneBefore d v 1
+none-first d v no_volume a o l s = absurd (omega arith)
+none-first d v no_version a o l s = absurd (omega arith)
+none-first d v another_database a o l s = absurd (omega arith)
+none-first d v k a o l s = absurd (omega arith)
+
+-- the least fault of a phase is the least of all where none of an earlier phase stands
+pub first-of : (d : Database) (v : VolumeState) (p : ℕ) (f : Fault) → NoneBefore d v p → IsLeastOf d v p f → IsFirstFault d v f
+first-of d v p f none h = record {
+  line = h.line;
+  least = record {
+    stands = h.stands;
+    least = λ k a o s before.
+        (let of = h.of in
+        elim (cases_lt (phase_of k) p) [
+          | inl low ↦ none k a o low s
+          | inr high ↦ h.least k a o (elim before [ inl l ↦ (let x = l in absurd (omega arith)) | inr both ↦ both.0 ∙ of ]) s before
+        ]);
+  };
+  number = h.number;
+}
+
+module _ (d : Database) (v : VolumeState) where
+  -- where none of the next phase stands either
+  next : (p : ℕ) → NoneBefore d v p → ((k : Line) (a o : ℕ) → phase_of k ≡ p → Stands d v k a o → ⊥) → NoneBefore d v (p + 1)
+  next p none here k a o l s = elim (cases_lt (phase_of k) p) [
+    | inl low ↦ none k a o low s
+    | inr high ↦ here k a o (omega arith) s
+  ]
+
+  -- the header is right
+  pub none-2 : IsHeaderRight d v → NoneBefore d v 2
+  none-2 h = next 1 (none-first d v)
+      (λ k a o is. first-lines (λ x. Stands d v x a o → ⊥) (λ s. s.0 h.header) (λ s. s.0 h.known.version_is)
+      (λ s. elim s.0 [ inl e ↦ e h.known.name_is | inr e ↦ e h.known.size_is ]) k is)
+
+  -- the blocks are
+  pub none-3 : NoneBefore d v 2 → AreBlocksRight v → NoneBefore d v 3
+  none-3 none h = next 2 none
+      (λ k a o is. second-lines (λ x. Stands d v x a o → ⊥) (none-wrong-chain v a o h.divided) (none-wrong-place v a o h.divided)
+      (λ s. elim (h.kinds s.0 s.1 s.2) [
+        | inl x ↦ s.3 x.kind_is
+        | inr (inl x) ↦ s.4 x.kind_is
+        | inr (inr x) ↦ s.5 x.kind_is
+      ]) k is)
+
+  -- the pointers are typed
+  pub none-4 : NoneBefore d v 3 → PointersAreTyped d.types (links_of d.types v) → NoneBefore d v 4
+  none-4 none h = next 3 none
+      (λ k a o is. third-lines (λ x. Stands d v x a o → ⊥)
+      (pointer.none-deleted d.types (links_of d.types v) (header-code d.types v) h a o)
+      (pointer.none-nowhere d.types (links_of d.types v) (header-code d.types v) h a o)
+      (pointer.none-another d.types (links_of d.types v) (header-code d.types v) h a o) k is)
+
+  -- each segment has one predecessor
+  pub none-5 : NoneBefore d v 4 → PredecessorsAreOne d.types (links_of d.types v) → NoneBefore d v 5
+  none-5 none h = next 4 none
+      (λ k a o is. fourth-lines (λ x. Stands d v x a o → ⊥) (pointer.none-twice d.types (links_of d.types v) h a o) (pointer.none-without d.types (links_of d.types v) h a o) k is)
+
+  -- twins link back
+  pub none-6 : NoneBefore d v 5 → TwinsLinkBack d.types (links_of d.types v) → NoneBefore d v 6
+  none-6 none h = next 5 none
+      (λ k a o is. fifth-lines (λ x. Stands d v x a o → ⊥) (pointer.none-backward d.types (links_of d.types v) h a o) (pointer.none-last d.types (links_of d.types v) h a o) k is)
+
+  -- keys ascend
+  pub none-7 : NoneBefore d v 6 → KeysAscend d.types (links_of d.types v) → NoneBefore d v 7
+  none-7 none h = next 6 none (λ k a o is. sixth-line (λ x. Stands d v x a o → ⊥) (pointer.none-order d.types (links_of d.types v) h a o) k is)
+
+  -- each segment is reached
+  pub none-8 : NoneBefore d v 7 → ((a : ℕ) → IsSegment (links_of d.types v) a → (n : ℕ) × IsReached d.types (links_of d.types v) n a) → NoneBefore d v 8
+  none-8 none h = next 7 none (λ k a o is. seventh-line (λ x. Stands d v x a o → ⊥) (pointer.none-unreached d.types (links_of d.types v) h a o) k is)
+
+  -- a right index has a right top
+  right-top : (a o : ℕ) → IsIndexRight (root_key_length d.types) v → IsWrongTop v a o → ⊥
+  right-top a o h f = elim h.height [
+    | inl z ↦ elim f.2 [
+      | inl c ↦ c.1 z.1
+      | inr (inl c) ↦ c.0 z.0
+      | inr (inr (inl c)) ↦ (let e = z.1 in absurd (omega arith))
+      | inr (inr (inr c)) ↦ c.0 z.0
+    ]
+    | inr one ↦ elim f.2 [
+      | inl c ↦ (let e = c.0 in let l = one.0 in absurd (omega arith))
+      | inr (inl c) ↦ (let e = c.1 in let l = one.1 in absurd (omega arith))
+      | inr (inr (inl c)) ↦ (let l = one.1 in absurd (omega arith))
+      | inr (inr (inr c)) ↦ c.1 (h.top one.0)
+    ]
+  ]
+
+  -- and blocks of a right form
+  right-form : (a o : ℕ) → IsIndexRight (root_key_length d.types) v → IsWrongForm (root_key_length d.types) v a o → ⊥
+  right-form a o h (n, kind, at, other, wrong) =
+      let b = h.blocks n kind in
+      elim wrong [
+        | inl high ↦ high b.level
+        | inr (inl many) ↦ (let few = b.count in absurd (omega arith))
+        | inr (inr next) ↦ elim b.next [ inl z ↦ next.0 z | inr l ↦ next.1 l ]
+      ]
+
+  -- the index is right, block by block
+  pub none-9 : NoneBefore d v 8 → IsIndexRight (root_key_length d.types) v → NoneBefore d v 9
+  none-9 none h = next 8 none (λ k a o is s. elim (stands-8 d v k a o is s) [ inl top ↦ right-top a o h top | inr form ↦ right-form a o h form ])
+
+  -- no block is named twice
+  pub none-10 : NoneBefore d v 9 → AreNamedOnce v → NoneBefore d v 10
+  none-10 none h = next 9 none (λ k a o is s. (let f = stands-9 d v k a o is s in f.6 (h f.0 f.1 f.2 f.3 f.4 f.5)))
+
+  -- each block is reached
+  pub none-11 : NoneBefore d v 10 → IndexIsFormed (root_key_length d.types) v → NoneBefore d v 11
+  none-11 none h = next 10 none (λ k a o is s. (let f = stands-10 d v k a o is s in f.2 (h.reached f.0 f.1)))
+
+  -- the keys of the entries ascend
+  pub none-12 : NoneBefore d v 11 → IsVolumeOf d v → (header_of v.image).version ≡ 1 → IndexIsFormed (root_key_length d.types) v → keys_ascend (entries (root_key_length d.types) v) ≡ true → NoneBefore d v 12
+  none-12 none of known formed h =
+      let has : HasIndex (root_key_length d.types) v = record { formatted = of.formatted; version = known; height = formed.height; chain = formed.chain; reached = formed.reached; ascend = h } in
+      next 11 none (λ k a o is s. index.none-out-of-order (root_key_length d.types) v has a o (stands-11 d v k a o is s))
+
+  -- each entry names a root
+  pub none-13 : NoneBefore d v 12 → list_all (λ e. names_a_root d (links_of d.types v) e) (entries (root_key_length d.types) v) ≡ true → NoneBefore d v 13
+  none-13 none h = next 12 none
+      (λ k a o is s. (let w = stands-12 d v k a o is s in index.none-found (λ e. names_a_root d (links_of d.types v) e) (root_key_length d.types) v (entry_blocks v) w.0 o h w.1 w.2))

@@ -1,0 +1,175 @@
+-- What a check finds in an image it finds in each state of the volume with that image.
+use Rattle.std.proofs.Common.{◌≡◌, inl, inr, ℕ, List, [], ◌∷◌, true, sym, subst}
+use Rattle.std.specs.List.{list_all}
+use Rattle.hd_bytes.specs.Numbers.{number_at}
+use Rattle.hd_dbd.specs.Hierarchy.{Database}
+use Rattle.hd_volume.specs.Headers.{HasHeader, IsOf, header_of}
+use Rattle.hd_volume.specs.Volumes.{VolumeState, block_at, IsKind}
+use Rattle.hd_volume.specs.Entries.{entry_blocks, entries}
+use Rattle.hd_volume.specs.Indexes.{IsEntryBlock, IsChain, root_key_length}
+use Rattle.hd_image.specs.Records.{links_of}
+use Rattle.hd_image.proofs.OneImage.{links-same, volume-same}
+use Rattle.hd_image.specs.IndexFaults.{NamesBlock, names_a_root}
+use Rattle.hd_image.specs.Right.{IndexIsFormed, EntriesAreRight}
+use Rattle.hd_image.specs.Standing.{Line, no_volume, no_version, another_database, wrong_chain, wrong_place, no_kind, deleted, points_nowhere, points_to_another, two_predecessors, no_predecessor, wrong_backward, wrong_last, out_of_order, not_reached, wrong_top, wrong_form, named_twice, unreached_block, entry_out_of_order, wrong_entry, no_entry, Stands}
+use Rattle.hd_check.specs.declared.fault.Fault.{Fault}
+use Rattle.hd_check.specs.declared.tables.IndexBlock.{IndexBlock}
+use Rattle.hd_check.specs.Phases.{AreBlocksRight, IsLeastOf}
+use Rattle.hd_check.specs.IndexPhases.{AreIndexBlocks, AreNamed}
+use Rattle.hd_check.specs.declared.segments.Place.{Place}
+use Rattle.hd_check.specs.Joining.{HasRightBlocks}
+use Rattle.hd_check.proofs.RecordSteps.{places-same}
+
+-- Two states of a volume with one image, one block size and the same stored sizes.
+pub record IsOne (u v : VolumeState) : Type 0 where
+  pub image : v.image ≡ u.image
+  pub size : v.size ≡ u.size
+  pub sizes : v.sizes ≡ u.sizes
+
+-- in the other order
+pub turned : {u v : VolumeState} → IsOne u v → IsOne v u
+turned e = record { image = sym e.image; size = sym e.size; sizes = sym e.sizes }
+
+module _ (u v : VolumeState) (e : IsOne u v) where
+  -- the second state, with the image of the first
+  abbrev like : VolumeState
+  like = record v { image = u.image; size = u.size; sizes = u.sizes }
+
+  -- it is the second state
+  like-is : like ≡ v
+  like-is = (let image = sym e.image in let size = sym e.size in let sizes = sym e.sizes in λ i. record v { image = image i; size = size i; sizes = sizes i })
+
+  -- a block is of its kind
+  kind-like : (k n : ℕ) → IsKind u k n → IsKind like k n
+  kind-like k n h = record { there = h.there; later = h.later; kind_is = h.kind_is }
+
+  -- in both
+  kind-back : (k n : ℕ) → IsKind like k n → IsKind u k n
+  kind-back k n h = record { there = h.there; later = h.later; kind_is = h.kind_is }
+
+  -- a block is named
+  names-like : (h n : ℕ) → NamesBlock u h n → NamesBlock like h n
+  names-like h n (inl top) = inl top
+  names-like h n (inr (kind, next)) = inr (kind-like 2 h kind, next)
+
+  -- a chain is one
+  chain-like : (k s : ℕ) (bs : List ℕ) → IsChain k u s bs → IsChain k like s bs
+  chain-like k s [] h = h
+  chain-like k s (b ∷ bs) (at, block, rest) =
+      (at, record { is = kind-like 2 b block.is; level = block.level; count = block.count }, chain-like k (number_at 4 (block_at u b) 8) bs rest)
+
+  -- what stands in the one stands in the other
+  stands-like : (d : Database) (line : Line) (a o : ℕ) → Stands d u line a o → Stands d like line a o
+  stands-like d no_volume a o s = s
+  stands-like d no_version a o s = s
+  stands-like d another_database a o s = s
+  stands-like d wrong_chain a o (n, kind, none, at, other) = (n, kind-like 1 n kind, none, at, other)
+  stands-like d wrong_place a o (n, place, places, way, kind, chain, read, short, none, at, other) = (n, place, places, way, kind-like 1 n kind, chain, read, short, none, at, other)
+  stands-like d no_kind a o s = s
+  stands-like d deleted a o s = s
+  stands-like d points_nowhere a o s = s
+  stands-like d points_to_another a o s = s
+  stands-like d two_predecessors a o s = s
+  stands-like d no_predecessor a o s = s
+  stands-like d wrong_backward a o s = s
+  stands-like d wrong_last a o s = s
+  stands-like d out_of_order a o s = s
+  stands-like d not_reached a o s = s
+  stands-like d wrong_top a o (at, other, wrong) = (
+    at,
+    other,
+    elim wrong [
+      | inl c ↦ inl c
+      | inr (inl c) ↦ inr (inl c)
+      | inr (inr (inl c)) ↦ inr (inr (inl c))
+      | inr (inr (inr c)) ↦ inr (inr (inr (c.0, λ l. c.1 (kind-back 2 (header_of u.image).top l.0, l.1))))
+    ],
+  )
+  stands-like d wrong_form a o (n, kind, at, other, wrong) = (
+    n,
+    kind-like 2 n kind,
+    at,
+    other,
+    elim wrong [
+      | inl c ↦ inl c
+      | inr (inl c) ↦ inr (inl c)
+      | inr (inr c) ↦ inr (inr (c.0, λ l. c.1 (kind-back 2 (number_at 4 (block_at u n) 8) l.0, l.1)))
+    ],
+  )
+  stands-like d named_twice a o (n, g, h, kind, first, second, apart, at, other) = (n, g, h, kind-like 2 n kind, names-like g n first, names-like h n second, apart, at, other)
+  stands-like d unreached_block a o (n, kind, none, at, other) = (n, kind-like 2 n kind, none, at, other)
+  stands-like d entry_out_of_order a o s = s
+  stands-like d wrong_entry a o s = s
+  stands-like d no_entry a o s = s
+
+  pub stands-same : (d : Database) (line : Line) (a o : ℕ) → Stands d u line a o → Stands d v line a o
+  stands-same d line a o s = subst (λ (w : VolumeState). Stands d w line a o) like-is (stands-like d line a o s)
+
+  -- the blocks of the one are right where those of the other are
+  pub blocks-same : AreBlocksRight u → AreBlocksRight v
+  blocks-same h = subst AreBlocksRight like-is (record {
+    divided = λ n k. h.divided n (kind-back 1 n k);
+    kinds = λ n there later. elim (h.kinds n there later) [
+      | inl k ↦ inl (kind-like 1 n k)
+      | inr (inl k) ↦ inr (inl (kind-like 2 n k))
+      | inr (inr k) ↦ inr (inr (kind-like 3 n k))
+    ];
+  })
+
+  -- so is the index
+  pub formed-same : (k : ℕ) → IndexIsFormed k u → IndexIsFormed k v
+  formed-same k h = subst (IndexIsFormed k) like-is (record {
+    height = h.height;
+    chain = chain-like k _ _ h.chain;
+    reached = λ n kind. h.reached n (kind-back 2 n kind);
+  })
+
+  -- and the table of its blocks
+  pub table-same : (bs : List IndexBlock) → AreIndexBlocks u bs → AreIndexBlocks v bs
+  table-same bs h = subst (λ (w : VolumeState). AreIndexBlocks w bs) like-is (record {
+    ascend = h.ascend;
+    there = λ b i. (let t = h.there b i in (kind-like 2 b.number t.0, t.1));
+    all = λ n kind. h.all n (kind-back 2 n kind);
+  })
+
+  -- and what its entries name
+  pub named-same : (k : ℕ) (named : List ℕ) → AreNamed k u named → AreNamed k v named
+  named-same k named h = subst (λ (w : VolumeState). AreNamed k w named) like-is (record { there = h.there; all = h.all })
+
+  -- the entries that name roots
+  pub names-same : (d : Database) → list_all (λ x. names_a_root d (links_of d.types u) x) (entries (root_key_length d.types) u) ≡ true
+      → list_all (λ x. names_a_root d (links_of d.types v) x) (entries (root_key_length d.types) v) ≡ true
+  names-same d h = subst (λ (w : VolumeState). list_all (λ x. names_a_root d (links_of d.types w) x) (entries (root_key_length d.types) w) ≡ true) like-is h
+
+  -- and the blocks that bear entries
+  pub bearers-same : entry_blocks v ≡ entry_blocks u
+  bearers-same = (let image = e.image in let size = e.size in λ i. entry_blocks (record v { image = image i; size = size i; sizes = e.sizes i }))
+
+  -- what is right with the entries
+  pub entries-same : (d : Database) → EntriesAreRight d u → EntriesAreRight d v
+  entries-same d h = subst (EntriesAreRight d) like-is (record { ascend = h.ascend; name = h.name; each = h.each })
+
+  -- what is right with the blocks of the one is right with those of the other
+  pub right-same : (d : Database) (ps : List Place) → HasRightBlocks d u ps → HasRightBlocks d v ps
+  right-same d ps h =
+      let b = blocks-same (record { divided = h.blocks.divided; kinds = h.blocks.kinds }) in
+      record {
+        volume = volume-same d u v e.image e.size e.sizes h.volume;
+        blocks = record {
+          header = subst (λ (i : List ℕ). HasHeader d.block_size i) (sym e.image) h.blocks.header;
+          known = subst (λ (i : List ℕ). IsOf 1 d.name d.block_size (header_of i)) (sym e.image) h.blocks.known;
+          divided = b.divided;
+          kinds = b.kinds;
+        };
+        stand = places-same d.types u v ps (links-same d.types u v e.image e.size e.sizes) h.stand;
+      }
+
+-- the least fault of a phase is one
+pub least-same : (u v : VolumeState) (d : Database) (p : ℕ) (f : Fault) → IsOne u v → IsLeastOf d u p f → IsLeastOf d v p f
+least-same u v d p f e h = record {
+  line = h.line;
+  of = h.of;
+  number = h.number;
+  stands = stands-same u v e d h.line f.address f.other h.stands;
+  least = λ k a o is s before. h.least k a o is (stands-same v u (turned e) d k a o s) before;
+}

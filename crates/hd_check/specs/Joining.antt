@@ -1,0 +1,40 @@
+-- What the phases of a check find together: the least fault of all, and what is right where there is none.
+use Rattle.std.specs.Prelude.{◌≡◌, ◌==◌, ℕ, ◌+◌, ◌<◌, List, [], ◌∷◌, cond}
+use Rattle.hd_dbd.specs.Hierarchy.{Database}
+use Rattle.hd_volume.specs.Volumes.{VolumeState}
+use Rattle.hd_volume.specs.Indexes.{root_key_length}
+use Rattle.hd_links.specs.Pointers.{AreLinked}
+use Rattle.hd_image.specs.Records.{links_of, IsVolumeOf}
+use Rattle.hd_image.specs.Right.{BlocksAreRight, IndexIsFormed, EntriesAreRight}
+use Rattle.hd_image.specs.Standing.{Line, IsLeastFault, Stands, phase_of, number_of}
+use Rattle.hd_check.specs.declared.fault.Fault.{Fault}
+use Rattle.hd_check.specs.declared.segments.Place.{Place}
+use Rattle.hd_check.specs.Places.{ArePlaces}
+
+-- no fault of a phase before this one stands
+abbrev pub NoneBefore : Database → VolumeState → ℕ → Type 0
+NoneBefore d v phase = (line : Line) (a o : ℕ) → phase_of line < phase → Stands d v line a o → ⊥
+
+-- The fault is the least that stands in the volume.
+pub record IsFirstFault (d : Database) (v : VolumeState) (fault : Fault) : Type 0 where
+  pub line : Line
+  pub least : IsLeastFault d v line fault.address fault.other
+  pub number : fault.number ≡ number_of line fault.address
+
+-- The volume is one of the database, its header and its blocks are right, and these are the places of its segments.
+pub record HasRightBlocks (d : Database) (v : VolumeState) (places : List Place) : Type 0 where
+  pub volume : IsVolumeOf d v
+  pub blocks : BlocksAreRight d v
+  pub stand : ArePlaces d.types v places
+
+-- The blocks, the pointers, the index and its entries are right, and these are the places of the volume's segments.
+pub record IsFoundRight (d : Database) (v : VolumeState) (places : List Place) : Type 0 where
+  pub blocks : HasRightBlocks d v places
+  pub pointers : AreLinked d.types (links_of d.types v)
+  pub index : IndexIsFormed (root_key_length d.types) v
+  pub entries : EntriesAreRight d v
+
+-- how many of these places are those of roots
+abbrev pub roots_among : List Place → ℕ
+roots_among [] = 0
+roots_among (p ∷ ps) = cond (p.code == 1) 1 0 + roots_among ps
