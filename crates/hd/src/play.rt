@@ -90,7 +90,11 @@ fn reload_command<'a>(alloc: Global) -> Result<Command<'a>, Error> {
         .about("Makes a volume of an unload stream")
         .arg(file_word(alloc, "DBD", "The source of the database"))?
         .arg(file_word(alloc, "IN", "The unload stream"))?
-        .arg(file_word(alloc, "VOLUME", "The volume, which is made, or cut to nothing first"))?
+        .arg(file_word(
+            alloc,
+            "VOLUME",
+            "The volume, which is made, or cut to nothing first",
+        ))?
         .arg(blocks)?;
     Ok(command)
 }

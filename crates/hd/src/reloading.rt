@@ -67,7 +67,12 @@ fn fill<L: Ledger>(
 
 /// Makes a volume file of a stream, and says so. The DBD is read and judged first, then the stream is read, then the volume's
 /// file is made; only then is the stream judged.
-pub fn reload_file<R, O>(rt: &R, alloc: Global, request: Request<'_>, out: &mut O) -> Result<(), Stop>
+pub fn reload_file<R, O>(
+    rt: &R,
+    alloc: Global,
+    request: Request<'_>,
+    out: &mut O,
+) -> Result<(), Stop>
 where
     R: Files<File = File>,
     O: Write,
@@ -77,8 +82,14 @@ where
     let dbd = read_dbd(alloc, &source).map_err(|fault| Stop::database(fault))?;
     let stream = read_file(rt, alloc, request.input)?;
     let file = make_file(rt, request.volume)?;
-    let (segments, blocks) =
-        fill::<Brand>(alloc, &dbd, &stream, file, Blank::new(1), request.blocks)?;
+    let (segments, blocks) = fill::<Brand>(
+        alloc,
+        &dbd,
+        &stream,
+        file,
+        Blank::new(1),
+        request.blocks,
+    )?;
     match writeln!(out, "reloaded {segments} segments into {blocks} blocks") {
         Ok(()) => Ok(()),
         Err(_) => Err(Stop::Device),
