@@ -1,5 +1,3 @@
-ghost use Rattle.std.specs.Prelude.{◌<◌, ◌≤◌, IfOk, IfSome};
-
 use crate::input::read_whole;
 use crate::reloading::{Request, reload_file};
 use crate::sample;
@@ -60,9 +58,7 @@ fn stopped<E: Write>(stop: &Stop, err: &mut E) -> u8 {
 }
 
 /// What the words of the command line ask for: none for a deck over the sample.
-fn read_words(alloc: Global, words: &[String]) -> Result<Option<Request<'_>>, Error>
-    ensures { IfOk result (λ o. IfSome o (λ r. (0 < r.blocks) × (r.blocks ≤ 65536))) }
-{
+fn read_words(alloc: Global, words: &[String]) -> Result<Option<Request<'_>>, Error> {
     let command = Command::new(alloc, "hd")
         .version("0.1.0")
         .about("Plays a deck of DL/I calls, read from standard input, over a sample database")
@@ -76,7 +72,7 @@ fn read_words(alloc: Global, words: &[String]) -> Result<Option<Request<'_>>, Er
         dbd: given.get_str("DBD").unwrap_or(""),
         input: given.get_str("IN").unwrap_or(""),
         volume: given.get_str("VOLUME").unwrap_or(""),
-        blocks: given.get_one::<u32>("BLOCKS").unwrap_or(1).clamp(1, 65_536),
+        blocks: given.get_one::<u32>("BLOCKS").unwrap_or(1),
     }))
 }
 

@@ -1,4 +1,4 @@
-ghost use Rattle.std.specs.Prelude.{◌≡◌, ◌<◌, ◌≤◌};
+ghost use Rattle.std.specs.Prelude.{◌≡◌, ◌<◌};
 
 use crate::input::read_whole;
 use crate::stop::Stop;
@@ -53,13 +53,12 @@ fn fill<L: Ledger>(
     requires name { blank.name ≡ L.name }
     requires parts { blank.parts ≡ L.parts }
     requires share { 0 < blank.parts }
-    requires bounds { (0 < blocks) × (blocks ≤ 65536) }
 {
     let store: FileStore<L> = match FileStore::over(file, dbd.block_size() as usize, blank) {
         Ok(store) => store,
         Err(_) => return Err(Stop::Device),
     };
-    match reload(alloc, dbd, stream, store, blocks) {
+    match reload(alloc, dbd, stream, store, blocks.clamp(1, 65_536)) {
         Ok(loaded) => Ok((loaded.segments, loaded.blocks)),
         Err((_, fault)) => Err(Stop::from(fault)),
     }
@@ -76,7 +75,6 @@ pub fn reload_file<R, O>(
 where
     R: Files<File = File>,
     O: Write,
-    requires bounds { (0 < request.blocks) × (request.blocks ≤ 65536) }
 {
     let source = read_file(rt, alloc, request.dbd)?;
     let dbd = read_dbd(alloc, &source).map_err(|fault| Stop::database(fault))?;
