@@ -3,7 +3,6 @@
 
 mod input;
 mod play;
-mod reloading;
 mod sample;
 mod stop;
 

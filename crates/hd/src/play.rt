@@ -1,9 +1,8 @@
 use crate::input::read_whole;
-use crate::reloading::{Request, reload_file};
 use crate::sample;
 use crate::stop::Stop;
 use clap::error::ErrorKind;
-use clap::{Arg, Command, Error, value_parser};
+use clap::{Command, Error};
 use hd_dbd::Row;
 use hd_deck::{read_deck, run_rows};
 use hd_session::{RowSession, valid_rows};
@@ -19,11 +18,11 @@ pub const COMMAND_LINE: u8 = 64;
 const PIECE: usize = 65_536;
 
 /// Does what the words behind the program's name ask for, and gives the status of the program: 0 done; 1 a sample out
-/// of sequence, or a stream refused; 2 a text refused; 3 a failed read or write; 4 no memory; 64 a command line that is not understood,
+/// of sequence; 2 a text refused; 3 a failed read or write; 4 no memory; 64 a command line that is not understood,
 /// help among them, whose text is `clap`'s.
 ///
-/// Without words it reads a deck from `input` and plays it over the sample database. `reload` makes a volume of an unload stream.
-/// What the calls answer, and what was done, goes to `out`; why the program ended early goes to `err`.
+/// Without words it reads a deck from `input` and plays it over the sample database. What the calls answer goes to
+/// `out`; why the program ended early goes to `err`.
 pub fn play<R, I, O, E>(rt: &R, words: &[String], input: &mut I, out: &mut O, err: &mut E) -> u8
 where
     R: Files<File = File> + AllocGlobal,
@@ -31,21 +30,14 @@ where
     O: Write,
     E: Write,
 {
-    let request = match read_words(rt.alloc(), words) {
-        Ok(request) => request,
-        Err(error) => {
-            if error.kind() == ErrorKind::OutOfMemory {
-                return stopped(&Stop::Memory, err);
-            }
-            let _ = write!(err, "{error}");
-            return COMMAND_LINE;
+    if let Err(error) = read_words(rt.alloc(), words) {
+        if error.kind() == ErrorKind::OutOfMemory {
+            return stopped(&Stop::Memory, err);
         }
-    };
-    let done = match request {
-        None => play_sample(rt.alloc(), input, out),
-        Some(request) => reload_file(rt, rt.alloc(), request, out),
-    };
-    match done {
+        let _ = write!(err, "{error}");
+        return COMMAND_LINE;
+    }
+    match play_sample(rt.alloc(), input, out) {
         Ok(()) => 0,
         Err(stop) => stopped(&stop, err),
     }
@@ -57,47 +49,14 @@ fn stopped<E: Write>(stop: &Stop, err: &mut E) -> u8 {
     stop.status()
 }
 
-/// What the words of the command line ask for: none for a deck over the sample.
-fn read_words(alloc: Global, words: &[String]) -> Result<Option<Request<'_>>, Error> {
+/// Judges the words of the command line.
+fn read_words(alloc: Global, words: &[String]) -> Result<(), Error> {
     let command = Command::new(alloc, "hd")
         .version("0.1.0")
         .about("Plays a deck of DL/I calls, read from standard input, over a sample database")
-        .no_binary_name(true)
-        .subcommand(reload_command(alloc)?)?;
-    let matches = command.try_get_matches_from(words)?;
-    let Some((_, given)) = matches.subcommand() else {
-        return Ok(None);
-    };
-    Ok(Some(Request {
-        dbd: given.get_str("DBD").unwrap_or(""),
-        input: given.get_str("IN").unwrap_or(""),
-        volume: given.get_str("VOLUME").unwrap_or(""),
-        blocks: given.get_one::<u32>("BLOCKS").unwrap_or(1),
-    }))
-}
-
-/// The words of `hd reload`.
-fn reload_command<'a>(alloc: Global) -> Result<Command<'a>, Error> {
-    let blocks = Arg::new(alloc, "BLOCKS")
-        .required(true)
-        .help("The most blocks that the volume may have")
-        .value_parser(value_parser!(u32).range(1..=65_536));
-    let command = Command::new(alloc, "reload")
-        .about("Makes a volume of an unload stream")
-        .arg(file_word(alloc, "DBD", "The source of the database"))?
-        .arg(file_word(alloc, "IN", "The unload stream"))?
-        .arg(file_word(
-            alloc,
-            "VOLUME",
-            "The volume, which is made, or cut to nothing first",
-        ))?
-        .arg(blocks)?;
-    Ok(command)
-}
-
-/// A word that is the name of a file.
-fn file_word<'a>(alloc: Global, name: &'a str, help: &'a str) -> Arg<'a> {
-    Arg::new(alloc, name).required(true).help(help)
+        .no_binary_name(true);
+    let _matches = command.try_get_matches_from(words)?;
+    Ok(())
 }
 
 /// Plays the deck that a reader holds over the sample.

@@ -1,7 +1,6 @@
 use hd_dbd::Refused;
 use hd_deck::{DeckFault, RunFault};
 use hd_gen::GenFault;
-use hd_unload::ReloadFault;
 use std::alloc::{AllocError, AllocFailed};
 use thiserror::Error;
 
@@ -16,8 +15,6 @@ pub enum Stop {
     Program(GenFault),
     #[error("DECK refused: {0}")]
     Deck(DeckFault),
-    #[error("reload refused: {0}")]
-    Reload(ReloadFault),
     #[error("device failed")]
     Device,
     #[error("no memory")]
@@ -44,7 +41,7 @@ impl Stop {
     /// The status with which the program ends.
     pub fn status(&self) -> u8 {
         match self {
-            Stop::Sample | Stop::Reload(_) => 1,
+            Stop::Sample => 1,
             Stop::Database(_) | Stop::Program(_) | Stop::Deck(_) => 2,
             Stop::Device => 3,
             Stop::Memory => 4,
@@ -66,16 +63,6 @@ impl From<RunFault> for Stop {
         match fault {
             RunFault::Memory => Stop::Memory,
             RunFault::Write => Stop::Device,
-        }
-    }
-}
-
-impl From<ReloadFault> for Stop {
-    fn from(fault: ReloadFault) -> Stop {
-        match fault {
-            ReloadFault::Memory => Stop::Memory,
-            ReloadFault::Device => Stop::Device,
-            _ => Stop::Reload(fault),
         }
     }
 }

@@ -2,10 +2,8 @@ use super::*;
 use hd_dbd::{DbdFault, PsbFault, Refused};
 use hd_deck::{DeckFault, RunFault};
 use hd_gen::GenFault;
-use std::alloc::AllocError;
+use std::io;
 use std::io::ErrorKind;
-use std::test::Fail;
-use std::{fs, io};
 
 /// What a play of a deck wrote and answered.
 #[derive(Drop)]
@@ -358,99 +356,4 @@ fn tells_of_each_growth_that_finds_no_memory(rt: HostRuntime) {
     }
     assert_eq!(rt; status, 0);
     assert!(rt; refused > 0);
-}
-
-/// What `hd` did with these words.
-fn play_words(rt: &HostRuntime, words: &[&str]) -> Result<Played, AllocError> {
-    let mut given = Vec::new(rt.alloc());
-    for word in words {
-        given.push(String::from_str(rt.alloc(), word)?)?;
-    }
-    let mut input: &[u8] = b"";
-    let mut out = Vec::new(rt.alloc());
-    let mut err = Vec::new(rt.alloc());
-    let status = play(rt, &given, &mut input, &mut out, &mut err);
-    Ok(Played { status, out, err })
-}
-
-/// The stream of the sample.
-const STREAM: &[u8] =
-    b"HDUNLOAD\0\x01EDU     \x01\0\x08101ALGEB\x02\0\x0401AB\x03\0\x06ADAM01\x03\0\x06EVE 02\x02\0\x0402CD\x04\0\x05EULER\x01\0\x08205LOGIC\0\0\0\0\x07";
-
-#[test]
-fn reloads_a_stream_into_a_file(rt: HostRuntime) -> Result<(), Fail> {
-    fs::write(&rt, "reload.dbd", sample::DBD_SOURCE)?;
-    fs::write(&rt, "reload.in", STREAM)?;
-    for (blocks, status, out, err) in [
-        ("16", 0, "reloaded 7 segments into 4 blocks\n", ""),
-        ("1", 1, "", "reload refused: Full at record 1\n"),
-        ("2", 1, "", "reload refused: Full at record 1\n"),
-        ("3", 1, "", "reload refused: Full at record 6\n"),
-    ] {
-        let end = play_words(
-            &rt,
-            &["reload", "reload.dbd", "reload.in", "reload.volume", blocks],
-        )?;
-        assert_eq!(rt; end.status, status, "at {blocks}");
-        assert_eq!(rt; end.out.as_slice(), out.as_bytes());
-        assert_eq!(rt; end.err.as_slice(), err.as_bytes());
-        let volume = fs::read(&rt, "reload.volume")?;
-        assert_eq!(rt; volume.starts_with(b"HDVOLUME"), status == 0);
-    }
-    Ok(())
-}
-
-#[test]
-fn refuses_what_reload_is_given(rt: HostRuntime) -> Result<(), Fail> {
-    fs::write(&rt, "refused.dbd", sample::DBD_SOURCE)?;
-    fs::write(&rt, "refused.in", STREAM)?;
-    fs::write(&rt, "refused.cut", &STREAM[..25])?;
-    let cut = play_words(
-        &rt,
-        &[
-            "reload",
-            "refused.dbd",
-            "refused.cut",
-            "refused.volume",
-            "16",
-        ],
-    )?;
-    assert_eq!(rt; cut.status, 1);
-    assert_eq!(rt;
-        cut.err.as_slice(),
-        b"reload refused: U2 at record 1\n".as_slice()
-    );
-    let none = play_words(
-        &rt,
-        &[
-            "reload",
-            "refused.dbd",
-            "refused.none",
-            "refused.volume",
-            "16",
-        ],
-    )?;
-    assert_eq!(rt; none.status, 3);
-    assert_eq!(rt; none.err.as_slice(), b"device failed\n".as_slice());
-    let other = play_words(
-        &rt,
-        &["reload", "refused.in", "refused.in", "refused.volume", "16"],
-    )?;
-    assert_eq!(rt; other.status, 2);
-    let folder = play_words(&rt, &["reload", "refused.dbd", "refused.in", ".", "16"])?;
-    assert_eq!(rt; folder.status, 3);
-    for blocks in ["0", "65537", "many"] {
-        let end = play_words(
-            &rt,
-            &[
-                "reload",
-                "refused.dbd",
-                "refused.in",
-                "refused.volume",
-                blocks,
-            ],
-        )?;
-        assert_eq!(rt; end.status, COMMAND_LINE, "at {blocks}");
-    }
-    Ok(())
 }
