@@ -25,8 +25,6 @@ mod records;
 mod roots;
 mod segments;
 mod tables;
-#[cfg(test)]
-mod tests;
 mod twins;
 
 pub use checking::{CheckFault, Passed, check};
