@@ -1,7 +1,7 @@
 ghost use Rattle.std.specs.Prelude.{◌≡◌, ◌⊎◌, ◌≤◌, ◌<◌, ℕ, [], ◌++◌, ◌==◌, ◌&&◌, not, Some, map, find, bytes_eq, option_map, length, true, false, IsTrue, IfOk, IfErr, IfNone, IfSome};
 ghost use Rattle.std.specs.List.{list_all};
 ghost use Rattle.hd_bytes.specs.Numbers.{number_at};
-ghost use Rattle.hd_dbd.specs.Hierarchy.{Database, key_in};
+ghost use Rattle.hd_dbd.specs.Hierarchy.{Database};
 ghost use Rattle.hd_dbd.specs.Prefixes.{stored_size};
 ghost use Rattle.hd_dbd.specs.Rows.{key_of};
 ghost use Rattle.hd_volume.specs.Volumes.{VolumeState, block_at};
@@ -22,23 +22,9 @@ use crate::lookup::code_at;
 use crate::position::place_of;
 use crate::segments::Place;
 use crate::tables::IndexBlock;
-use hd_dbd::{Dbd, Refused, SegType};
+use hd_dbd::{Dbd, Refused, key_in};
 use hd_prefix::Layout;
 use hd_volume::{BlockStore, Volume};
-
-/// The key in the bytes of a segment of a type, without bytes where the type has none.
-fn key_in<'s>(kind: &SegType, bytes: &'s [u8]) -> &'s [u8]
-    ensures { result.now ≡ key_in kind.now bytes.now }
-{
-    match &kind.key {
-        Some(key) => {
-            let start = (key.start as usize).saturating_sub(1).min(bytes.len());
-            let end = (start + key.length as usize).min(bytes.len());
-            &bytes[start..end]
-        }
-        None => &[],
-    }
-}
 
 /// The key of a stored root.
 fn root_key_of<'s>(dbd: &Dbd, segment: &'s [u8]) -> &'s [u8]

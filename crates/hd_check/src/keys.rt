@@ -1,7 +1,6 @@
 ghost use Rattle.std.specs.Prelude.{◌≡◌, ◌≤◌, ◌<◌, length, take, true, false, IsTrue, IfOk, IfErr, IfNone, IfSome};
 ghost use Rattle.hd_dbd.specs.Prefixes.{stored_size};
 ghost use Rattle.hd_dbd.specs.Rows.{key_of, twins_in_order};
-ghost use Rattle.hd_dbd.specs.Hierarchy.{key_in};
 ghost use Rattle.hd_volume.specs.Calls.{IsRead};
 ghost use Rattle.hd_prefix.specs.Fields.{bytes_of};
 ghost use Rattle.hd_links.specs.Links.{IsSegment, segment_at};
@@ -17,26 +16,12 @@ use crate::chains::stands_at;
 use crate::fault::Fault;
 use crate::segments::Place;
 use crate::tables::Naming;
-use hd_dbd::{Dbd, Refused, SegType};
+use hd_dbd::{Dbd, Refused, key_in};
 use hd_prefix::Layout;
 use hd_volume::{BlockStore, Volume};
 
 /// The most bytes that a key has.
 const LONGEST_KEY: usize = 255;
-
-/// The key in the bytes of a segment of a type, without bytes where the type has none.
-fn key_in<'s>(kind: &SegType, bytes: &'s [u8]) -> &'s [u8]
-    ensures { result.now ≡ key_in kind.now bytes.now }
-{
-    match &kind.key {
-        Some(key) => {
-            let start = (key.start as usize).saturating_sub(1).min(bytes.len());
-            let end = (start + key.length as usize).min(bytes.len());
-            &bytes[start..end]
-        }
-        None => &[],
-    }
-}
 
 /// The key of a stored segment of a type.
 fn key_of<'s>(dbd: &Dbd, code: u8, segment: &'s [u8]) -> &'s [u8]
