@@ -1,17 +1,21 @@
-//! The program `hd`: plays a deck of DL/I calls over the sample database.
+//! The program `hd`: plays a deck of DL/I calls over the sample database, and checks and reloads volumes.
 #![tactic(auto)]
 
+mod checking;
+mod files;
 mod input;
 mod play;
+mod reloading;
 mod sample;
 mod stop;
+mod words;
 
 use std::process::ExitCode;
 use std::{env, io};
 
 fn main(rt: HostRuntime) -> ExitCode {
     let Ok(args) = env::args(&rt) else {
-        return ExitCode::from(play::COMMAND_LINE);
+        return ExitCode::from(stop::COMMAND_LINE);
     };
     let Ok(words) = args.skip(1).collect::<Vec<String>>(rt.alloc()) else {
         return ExitCode::from(stop::Stop::Memory.status());

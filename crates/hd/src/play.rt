@@ -1,8 +1,10 @@
+use crate::checking::check_file;
 use crate::input::read_whole;
+use crate::reloading::reload_file;
 use crate::sample;
-use crate::stop::Stop;
+use crate::stop::{COMMAND_LINE, Stop};
+use crate::words::{Request, read_words};
 use clap::error::ErrorKind;
-use clap::{Command, Error};
 use hd_dbd::Row;
 use hd_deck::{read_deck, run_rows};
 use hd_session::{RowSession, valid_rows};
@@ -11,18 +13,15 @@ use std::fs::File;
 use std::io::{BufWriter, Read, Write};
 use std::rt::Files;
 
-/// The status where the command line is not understood.
-pub const COMMAND_LINE: u8 = 64;
-
 /// The bytes of output that go out in one piece.
-const PIECE: usize = 65_536;
+pub const PIECE: usize = 65_536;
 
-/// Does what the words behind the program's name ask for, and gives the status of the program: 0 done; 1 a sample out
-/// of sequence; 2 a text refused; 3 a failed read or write; 4 no memory; 64 a command line that is not understood,
-/// help among them, whose text is `clap`'s.
+/// Does what the words behind the program's name ask for, and gives the status of the program: 0 done; 1 a fault in a volume or a
+/// stream, or no room for it; 2 a text refused; 3 a failed read or write; 4 no memory; 64 a command line that is not understood, help
+/// among them, whose text is `clap`'s, or one that would write over what it reads.
 ///
-/// Without words it reads a deck from `input` and plays it over the sample database. What the calls answer goes to
-/// `out`; why the program ended early goes to `err`.
+/// Without words it reads a deck from `input` and plays it over the sample database. `check` judges a volume, and `reload` makes one of
+/// an unload stream. What the calls answer, and what was done, goes to `out`; why the program ended early goes to `err`.
 pub fn play<R, I, O, E>(rt: &R, words: &[String], input: &mut I, out: &mut O, err: &mut E) -> u8
 where
     R: Files<File = File> + AllocGlobal,
@@ -30,16 +29,39 @@ where
     O: Write,
     E: Write,
 {
-    if let Err(error) = read_words(rt.alloc(), words) {
-        if error.kind() == ErrorKind::OutOfMemory {
-            return stopped(&Stop::Memory, err);
+    let request = match read_words(rt.alloc(), words) {
+        Ok(request) => request,
+        Err(error) => {
+            if error.kind() == ErrorKind::OutOfMemory {
+                return stopped(&Stop::Memory, err);
+            }
+            let _ = write!(err, "{error}");
+            return COMMAND_LINE;
         }
-        let _ = write!(err, "{error}");
-        return COMMAND_LINE;
-    }
-    match play_sample(rt.alloc(), input, out) {
+    };
+    match perform(rt, request, input, out) {
         Ok(()) => 0,
         Err(stop) => stopped(&stop, err),
+    }
+}
+
+/// Does what is asked for.
+fn perform<R, I, O>(rt: &R, request: Request<'_>, input: &mut I, out: &mut O) -> Result<(), Stop>
+where
+    R: Files<File = File> + AllocGlobal,
+    I: Read,
+    O: Write,
+{
+    let alloc = rt.alloc();
+    match request {
+        Request::Sample => play_sample(alloc, input, out),
+        Request::Check { dbd, volume } => check_file(rt, alloc, dbd, volume, out),
+        Request::Reload {
+            dbd,
+            input,
+            volume,
+            blocks,
+        } => reload_file(rt, alloc, dbd, input, volume, blocks, out),
     }
 }
 
@@ -47,16 +69,6 @@ where
 fn stopped<E: Write>(stop: &Stop, err: &mut E) -> u8 {
     let _ = writeln!(err, "{stop}");
     stop.status()
-}
-
-/// Judges the words of the command line.
-fn read_words(alloc: Global, words: &[String]) -> Result<(), Error> {
-    let command = Command::new(alloc, "hd")
-        .version("0.1.0")
-        .about("Plays a deck of DL/I calls, read from standard input, over a sample database")
-        .no_binary_name(true);
-    let _matches = command.try_get_matches_from(words)?;
-    Ok(())
 }
 
 /// Plays the deck that a reader holds over the sample.

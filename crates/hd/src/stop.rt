@@ -1,8 +1,14 @@
+use hd_check::{CheckFault, Fault};
 use hd_dbd::Refused;
 use hd_deck::{DeckFault, RunFault};
 use hd_gen::GenFault;
+use hd_unload::ReloadFault;
 use std::alloc::{AllocError, AllocFailed};
+use std::io;
 use thiserror::Error;
+
+/// The status where the command line is not understood.
+pub const COMMAND_LINE: u8 = 64;
 
 /// Why the program ended without having done its work. Its text is the line on standard error.
 #[derive(Debug, Drop, Error)]
@@ -15,6 +21,12 @@ pub enum Stop {
     Program(GenFault),
     #[error("DECK refused: {0}")]
     Deck(DeckFault),
+    #[error("{0}")]
+    Fault(Fault),
+    #[error("reload refused: {0}")]
+    Reload(ReloadFault),
+    #[error("an output is one of the files that are read")]
+    OverInput,
     #[error("device failed")]
     Device,
     #[error("no memory")]
@@ -41,10 +53,11 @@ impl Stop {
     /// The status with which the program ends.
     pub fn status(&self) -> u8 {
         match self {
-            Stop::Sample => 1,
+            Stop::Sample | Stop::Fault(_) | Stop::Reload(_) => 1,
             Stop::Database(_) | Stop::Program(_) | Stop::Deck(_) => 2,
             Stop::Device => 3,
             Stop::Memory => 4,
+            Stop::OverInput => COMMAND_LINE,
         }
     }
 }
@@ -67,12 +80,38 @@ impl From<RunFault> for Stop {
     }
 }
 
+impl From<CheckFault> for Stop {
+    fn from(fault: CheckFault) -> Stop {
+        match fault {
+            CheckFault::Fault(fault) => Stop::Fault(fault),
+            CheckFault::Memory => Stop::Memory,
+            CheckFault::Device => Stop::Device,
+        }
+    }
+}
+
+impl From<ReloadFault> for Stop {
+    fn from(fault: ReloadFault) -> Stop {
+        match fault {
+            ReloadFault::Memory => Stop::Memory,
+            ReloadFault::Device => Stop::Device,
+            _ => Stop::Reload(fault),
+        }
+    }
+}
+
 impl From<Refused> for Stop {
     fn from(refused: Refused) -> Stop {
         match refused {
             Refused::Memory => Stop::Memory,
             _ => Stop::Device,
         }
+    }
+}
+
+impl From<io::Error> for Stop {
+    fn from(_error: io::Error) -> Stop {
+        Stop::Device
     }
 }
 

@@ -2,15 +2,17 @@ use super::*;
 use hd_dbd::{DbdFault, PsbFault, Refused};
 use hd_deck::{DeckFault, RunFault};
 use hd_gen::GenFault;
-use std::io;
+use std::alloc::AllocError;
 use std::io::ErrorKind;
+use std::test::Fail;
+use std::{fs, io};
 
-/// What a play of a deck wrote and answered.
+/// What a play wrote and answered.
 #[derive(Drop)]
-struct Played {
-    status: u8,
-    out: Vec<u8>,
-    err: Vec<u8>,
+pub struct Played {
+    pub status: u8,
+    pub out: Vec<u8>,
+    pub err: Vec<u8>,
 }
 
 fn play_deck(rt: &HostRuntime, deck: &[u8]) -> Played {

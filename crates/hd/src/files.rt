@@ -1,0 +1,73 @@
+use crate::input::read_whole;
+use crate::stop::Stop;
+use hd_dbd::Dbd;
+use hd_gen::read_dbd;
+use std::alloc::Global;
+use std::fs::{File, OpenOptions};
+use std::os::unix::fs::MetadataExt;
+use std::rt::Files;
+
+/// Which file of this machine a file is, under whatever name it was opened.
+#[derive(Clone, Copy, PartialEq, Eq)]
+pub struct Identity {
+    device: u64,
+    number: u64,
+}
+
+impl Identity {
+    fn of(file: &File) -> Result<Identity, Stop> {
+        let metadata = file.metadata()?;
+        Ok(Identity {
+            device: metadata.dev(),
+            number: metadata.ino(),
+        })
+    }
+}
+
+/// A file that is read and not changed.
+pub fn open_file<R: Files<File = File>>(rt: &R, name: &str) -> Result<(File, Identity), Stop> {
+    let file = OpenOptions::new().read(true).open(rt, name)?;
+    let identity = Identity::of(&file)?;
+    Ok((file, identity))
+}
+
+/// All bytes of a file.
+pub fn read_file<R: Files<File = File>>(
+    rt: &R,
+    alloc: Global,
+    name: &str,
+) -> Result<(Vec<u8>, Identity), Stop> {
+    let (mut file, identity) = open_file(rt, name)?;
+    let bytes = read_whole(alloc, &mut file)?;
+    Ok((bytes, identity))
+}
+
+/// The database that a file of its source describes.
+pub fn read_database<R: Files<File = File>>(
+    rt: &R,
+    alloc: Global,
+    name: &str,
+) -> Result<(Dbd, Identity), Stop> {
+    let (source, identity) = read_file(rt, alloc, name)?;
+    let dbd = read_dbd(alloc, &source).map_err(|fault| Stop::database(fault))?;
+    Ok((dbd, identity))
+}
+
+/// A new file, or an older one of the name that is cut to nothing; never one of the files that the same command reads.
+pub fn make_file<R: Files<File = File>>(
+    rt: &R,
+    name: &str,
+    inputs: &[Identity],
+) -> Result<File, Stop> {
+    let mut options = OpenOptions::new();
+    options.read(true).write(true).create(true);
+    let file = options.open(rt, name)?;
+    let identity = Identity::of(&file)?;
+    if inputs.contains(&identity) {
+        return Err(Stop::OverInput);
+    }
+    if file.metadata()?.len() > 0 {
+        file.set_len(0)?;
+    }
+    Ok(file)
+}

@@ -1,0 +1,80 @@
+use clap::{Arg, Command, Error, value_parser};
+use std::alloc::Global;
+
+/// What the words of the command line ask for. All of them but `blocks` are names of files.
+#[derive(Clone, Copy)]
+pub enum Request<'a> {
+    /// A deck over the sample.
+    Sample,
+    Check {
+        dbd: &'a str,
+        volume: &'a str,
+    },
+    /// A volume of an unload stream, of at most so many blocks.
+    Reload {
+        dbd: &'a str,
+        input: &'a str,
+        volume: &'a str,
+        blocks: u32,
+    },
+}
+
+/// What the words behind the program's name ask for; an error is `clap`'s, help among them.
+pub fn read_words(alloc: Global, words: &[String]) -> Result<Request<'_>, Error> {
+    let command = Command::new(alloc, "hd")
+        .version("0.1.0")
+        .about(
+            "A hierarchical database. Without a command it plays a deck of DL/I calls, read from standard input, over a sample",
+        )
+        .no_binary_name(true)
+        .subcommand(check_command(alloc)?)?
+        .subcommand(reload_command(alloc)?)?;
+    let matches = command.try_get_matches_from(words)?;
+    let Some((name, given)) = matches.subcommand() else {
+        return Ok(Request::Sample);
+    };
+    let dbd = given.get_str("DBD").unwrap_or("");
+    let volume = given.get_str("VOLUME").unwrap_or("");
+    if name == "check" {
+        return Ok(Request::Check { dbd, volume });
+    }
+    Ok(Request::Reload {
+        dbd,
+        input: given.get_str("IN").unwrap_or(""),
+        volume,
+        blocks: given.get_one::<u32>("BLOCKS").unwrap_or(1),
+    })
+}
+
+/// The words of `hd check`.
+fn check_command<'a>(alloc: Global) -> Result<Command<'a>, Error> {
+    let command = Command::new(alloc, "check")
+        .about("Says whether a volume is sound, or names its least fault")
+        .arg(file_word(alloc, "DBD", "The source of the database"))?
+        .arg(file_word(alloc, "VOLUME", "The volume, which is read alone"))?;
+    Ok(command)
+}
+
+/// The words of `hd reload`.
+fn reload_command<'a>(alloc: Global) -> Result<Command<'a>, Error> {
+    let blocks = Arg::new(alloc, "BLOCKS")
+        .required(true)
+        .help("The most blocks that the volume may have")
+        .value_parser(value_parser!(u32).range(1..=65_536));
+    let command = Command::new(alloc, "reload")
+        .about("Makes a volume of an unload stream")
+        .arg(file_word(alloc, "DBD", "The source of the database"))?
+        .arg(file_word(alloc, "IN", "The unload stream"))?
+        .arg(file_word(
+            alloc,
+            "VOLUME",
+            "The volume, which is made, or cut to nothing first",
+        ))?
+        .arg(blocks)?;
+    Ok(command)
+}
+
+/// A word that is the name of a file.
+fn file_word<'a>(alloc: Global, name: &'a str, help: &'a str) -> Arg<'a> {
+    Arg::new(alloc, name).required(true).help(help)
+}
