@@ -1,4 +1,4 @@
-//! The program `hd`: plays a deck of DL/I calls over the sample database, and checks and reloads volumes.
+//! The program `hd`: plays a deck of DL/I calls over the sample database, and checks, unloads and reloads volumes.
 #![tactic(auto)]
 
 mod checking;
@@ -8,6 +8,7 @@ mod play;
 mod reloading;
 mod sample;
 mod stop;
+mod unloading;
 mod words;
 
 use std::process::ExitCode;

@@ -3,6 +3,7 @@ use crate::input::read_whole;
 use crate::reloading::reload_file;
 use crate::sample;
 use crate::stop::{COMMAND_LINE, Stop};
+use crate::unloading::unload_file;
 use crate::words::{Request, read_words};
 use clap::error::ErrorKind;
 use hd_dbd::Row;
@@ -20,8 +21,8 @@ pub const PIECE: usize = 65_536;
 /// stream, or no room for it; 2 a text refused; 3 a failed read or write; 4 no memory; 64 a command line that is not understood, help
 /// among them, whose text is `clap`'s, or one that would write over what it reads.
 ///
-/// Without words it reads a deck from `input` and plays it over the sample database. `check` judges a volume, and `reload` makes one of
-/// an unload stream. What the calls answer, and what was done, goes to `out`; why the program ended early goes to `err`.
+/// Without words it reads a deck from `input` and plays it over the sample database. `check` judges a volume, `unload` writes its
+/// unload stream, and `reload` makes a volume of one. What the calls answer, and what was done, goes to `out`; why the program ended early goes to `err`.
 pub fn play<R, I, O, E>(rt: &R, words: &[String], input: &mut I, out: &mut O, err: &mut E) -> u8
 where
     R: Files<File = File> + AllocGlobal,
@@ -56,6 +57,11 @@ where
     match request {
         Request::Sample => play_sample(alloc, input, out),
         Request::Check { dbd, volume } => check_file(rt, alloc, dbd, volume, out),
+        Request::Unload {
+            dbd,
+            volume,
+            out: stream,
+        } => unload_file(rt, alloc, dbd, volume, stream, out),
         Request::Reload {
             dbd,
             input,
@@ -104,3 +110,5 @@ fn play_rows<I: Read, O: Write>(
 
 #[cfg(test)]
 mod tests;
+#[cfg(test)]
+mod volume_tests;

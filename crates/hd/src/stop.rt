@@ -2,7 +2,7 @@ use hd_check::{CheckFault, Fault};
 use hd_dbd::Refused;
 use hd_deck::{DeckFault, RunFault};
 use hd_gen::GenFault;
-use hd_unload::ReloadFault;
+use hd_unload::{ReloadFault, UnloadFault};
 use std::alloc::{AllocError, AllocFailed};
 use std::io;
 use thiserror::Error;
@@ -86,6 +86,15 @@ impl From<CheckFault> for Stop {
             CheckFault::Fault(fault) => Stop::Fault(fault),
             CheckFault::Memory => Stop::Memory,
             CheckFault::Device => Stop::Device,
+        }
+    }
+}
+
+impl From<UnloadFault> for Stop {
+    fn from(fault: UnloadFault) -> Stop {
+        match fault {
+            UnloadFault::Check(fault) => Stop::from(fault),
+            UnloadFault::Write => Stop::Device,
         }
     }
 }

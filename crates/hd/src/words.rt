@@ -10,6 +10,11 @@ pub enum Request<'a> {
         dbd: &'a str,
         volume: &'a str,
     },
+    Unload {
+        dbd: &'a str,
+        volume: &'a str,
+        out: &'a str,
+    },
     /// A volume of an unload stream, of at most so many blocks.
     Reload {
         dbd: &'a str,
@@ -22,12 +27,14 @@ pub enum Request<'a> {
 /// What the words behind the program's name ask for; an error is `clap`'s, help among them.
 pub fn read_words(alloc: Global, words: &[String]) -> Result<Request<'_>, Error> {
     let command = Command::new(alloc, "hd")
+        .bin_name("hd")?
         .version("0.1.0")
         .about(
             "A hierarchical database. Without a command it plays a deck of DL/I calls, read from standard input, over a sample",
         )
         .no_binary_name(true)
         .subcommand(check_command(alloc)?)?
+        .subcommand(unload_command(alloc)?)?
         .subcommand(reload_command(alloc)?)?;
     let matches = command.try_get_matches_from(words)?;
     let Some((name, given)) = matches.subcommand() else {
@@ -37,6 +44,13 @@ pub fn read_words(alloc: Global, words: &[String]) -> Result<Request<'_>, Error>
     let volume = given.get_str("VOLUME").unwrap_or("");
     if name == "check" {
         return Ok(Request::Check { dbd, volume });
+    }
+    if name == "unload" {
+        return Ok(Request::Unload {
+            dbd,
+            volume,
+            out: given.get_str("OUT").unwrap_or(""),
+        });
     }
     Ok(Request::Reload {
         dbd,
@@ -51,7 +65,21 @@ fn check_command<'a>(alloc: Global) -> Result<Command<'a>, Error> {
     let command = Command::new(alloc, "check")
         .about("Says whether a volume is sound, or names its least fault")
         .arg(file_word(alloc, "DBD", "The source of the database"))?
-        .arg(file_word(alloc, "VOLUME", "The volume, which is read alone"))?;
+        .arg(file_word(alloc, "VOLUME", "The volume, which is not changed"))?;
+    Ok(command)
+}
+
+/// The words of `hd unload`.
+fn unload_command<'a>(alloc: Global) -> Result<Command<'a>, Error> {
+    let command = Command::new(alloc, "unload")
+        .about("Checks a volume, and writes its unload stream")
+        .arg(file_word(alloc, "DBD", "The source of the database"))?
+        .arg(file_word(alloc, "VOLUME", "The volume, which is not changed"))?
+        .arg(file_word(
+            alloc,
+            "OUT",
+            "The unload stream, which is made, or cut to nothing first",
+        ))?;
     Ok(command)
 }
 
