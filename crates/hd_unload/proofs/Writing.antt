@@ -1,5 +1,5 @@
 -- How the records of a volume's rows are written one after another.
-use Rattle.std.proofs.Common.{◌≡◌, ℕ, zero, suc, ◌+◌, ◌*◌, ◌<◌, ◌≤◌, List, [], ◌∷◌, ◌++◌, length, take, Bool, true, false, IsTrue, Option, Ok, refl, sym, ap, subst, ◌∙◌, arith, inl, inr}
+use Rattle.std.proofs.Common.{◌≡◌, ℕ, suc, ◌+◌, ◌*◌, ◌<◌, ◌≤◌, List, [], ◌∷◌, ◌++◌, length, take, Bool, true, false, IsTrue, Option, Ok, refl, sym, ap, subst, ◌∙◌, arith, inl, inr}
 use Rattle.std.specs.Io.KnownBytes.{Appends}
 use Rattle.std.proofs.KnownBytes.{Appends-nil, Appends-trans}
 use Rattle.std.proofs.lemmas.Bool.{cases_lt}
@@ -26,7 +26,7 @@ use Rattle.hd_forest.proofs.Climbs.{tip-some, next-segments}
 use Rattle.hd_forest.proofs.Held.{held}
 use Rattle.hd_forest.proofs.Reading.{after-read}
 use Rattle.hd_forest.proofs.Walking.{walking, walked-there}
-use Rattle.hd_unload.specs.Streams.{record_bytes, records_bytes}
+use Rattle.hd_unload.specs.Streams.{head_bytes, record_bytes, records_bytes, end_bytes, unload_bytes}
 use Rattle.hd_unload.specs.Unloads.{IsTurn}
 use Rattle.hd_unload.proofs.Reading.{nothing-behind}
 
@@ -127,3 +127,11 @@ module _ (d : Database) (v : VolumeState) (f : Forest Placed) (h : HoldsPlaced d
       let most : (header_of v.image).count * v.size ≤ 65536 * 32768 = mul-le (header_of v.image).count v.size 65536 32768 (omega arith) size in
       let rows = fewer_rows d.types (length v.image) m (records-link d v h.volume.fit h.volume) some f (rows_addressed d.types m f h.records) in
       (omega arith, omega arith)
+
+-- header, records and end are the stream
+pub stream-whole : (d : Database) (rows : List Segment) (count : ℕ) (head : List ℕ) (before a b after : Option (List ℕ)) → head ≡ head_bytes d → count ≡ length rows → Appends before a head
+    → Appends a b (records_bytes rows) → Appends b after (end_bytes count) → Appends before after (unload_bytes d rows)
+stream-whole d rows count head before a b after is counted first middle last =
+    Appends-trans before b after (head_bytes d ++ records_bytes rows) (end_bytes (length rows))
+    (Appends-trans before a b (head_bytes d) (records_bytes rows) (subst (Appends before a) is first) middle)
+    (subst (λ (n : ℕ). Appends b after (end_bytes n)) counted last)

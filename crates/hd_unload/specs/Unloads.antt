@@ -10,7 +10,6 @@ use Rattle.hd_volume.specs.Volumes.{VolumeState}
 use Rattle.hd_links.specs.Links.{Links, segment_at}
 use Rattle.hd_image.specs.Holding.{HoldsRows}
 use Rattle.hd_forest.specs.Walks.{tip, next_on, AreSegments}
-use Rattle.hd_check.specs.declared.checking.CheckFault.{CheckFault}
 use Rattle.hd_check.specs.declared.checking.CheckFault.TheVariants as check
 use Rattle.hd_check.specs.Checks.{IsFaultOf}
 use Rattle.hd_unload.specs.declared.fault.StreamFault.{StreamFault}

@@ -44,6 +44,15 @@ fn put_row<W: Write>(out: &mut W, code: u8, bytes: &[u8]) -> Result<(), StreamFa
     put(out, bytes)
 }
 
+/// Writes the end of a stream of so many records.
+fn put_end<W: Write>(out: &mut W, count: u32) -> Result<(), StreamFault>
+    ensures end { OnOk result (Appends (W.contents out.old) (W.contents out.new) (end_bytes count)) }
+    ensures refusal { IfErr result (λ e. e ≡ StreamFault.Write) }
+{
+    let [a, b, c, d] = count.to_be_bytes();
+    put(out, &[0, a, b, c, d])
+}
+
 /// Writes the record of a stored segment, which is as long as its type's segments.
 fn put_record<W: Write>(dbd: &Dbd, segment: &[u8], out: &mut W) -> Result<(), StreamFault>
     ensures record { OnOk result (stored_size dbd.now.types (code_of segment.now) ≤ length segment.now → Appends (W.contents out.old) (W.contents out.new) (record_bytes (record { code = code_of segment.now; bytes = bytes_of dbd.now.types (code_of segment.now) segment.now }))) }
@@ -135,7 +144,6 @@ pub fn write_stream<S: BlockStore, W: Write>(
 {
     put(out, &head_of(dbd))?;
     let count = write_records(volume, dbd, out)?;
-    let [a, b, c, d] = count.to_be_bytes();
-    put(out, &[0, a, b, c, d])?;
+    put_end(out, count)?;
     Ok(count)
 }

@@ -1,4 +1,4 @@
-use Rattle.std.proofs.Common.{◌≡◌, ◌+◌, ◌<◌, ◌≤◌, ℕ, List, length, IsTrue, Ok, true, false, refl, sym, subst, ◌∙◌, arith}
+use Rattle.std.proofs.Common.{◌≡◌, ℕ, List, length, IsTrue, Ok, true, false, sym, subst, arith}
 use Rattle.hd_volume.proofs.CallSteps.{read-ok, reads-join, read-none}
 use Rattle.hd_links.specs.Links.{Links}
 use Rattle.hd_image.specs.Records.{links_of}
