@@ -132,7 +132,8 @@ fn write_records<S: BlockStore, W: Write>(
 
 /// Writes the unload stream of the forest that a volume holds, and says how many segments it has.
 ///
-/// Each block that the walk comes to is read once. What is written goes out in small pieces: a writer with a buffer serves best.
+/// A block is read when the walk comes to a row in it, and again when it goes back up to one. What is written goes out in small pieces: a
+/// writer with a buffer serves best.
 pub fn write_stream<S: BlockStore, W: Write>(
     volume: &mut Volume<S>,
     dbd: &Dbd,
