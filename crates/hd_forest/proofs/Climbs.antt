@@ -1,16 +1,17 @@
 -- The climb along a path.
-use Rattle.std.proofs.Common.{◌≡◌, ℕ, zero, suc, ◌+◌, ◌<◌, List, [], ◌∷◌, ◌++◌, length, take, slice_index, true, refl, sym, ap, subst, ◌∙◌, arith, inl, inr}
+use Rattle.std.proofs.Common.{◌≡◌, ℕ, zero, suc, ◌+◌, ◌-◌, ◌<◌, List, [], ◌∷◌, ◌++◌, length, take, slice_index, true, refl, sym, ap, subst, ◌∙◌, arith, inl, inr}
 use Rattle.std.specs.Prelude.{◌==◌, nat_lt}
 use Rattle.std.proofs.lemmas.List.{take_more}
-use Rattle.std.proofs.lemmas.Bool.{cond-false, le-ltb, eq-eqb, cond-true}
+use Rattle.std.proofs.lemmas.Bool.{cond-false, le-ltb, eq-eqb, ne_eqb, cond-true}
 use Rattle.hd_dbd.specs.Types.{SegmentType}
+use Rattle.hd_dbd.specs.Hierarchy.{level_of}
 use Rattle.hd_links.specs.Links.{Links, IsSegment, child_types, is_child_type}
 use Rattle.hd_links.specs.Pointers.{PointersAreTyped}
-use Rattle.hd_links.specs.Steps.{tip_from, first_some, child_among, later_than, behind_child, behind_from, behind_span}
+use Rattle.hd_links.specs.Steps.{tip_from, first_some, child_among, later_than, behind_child, behind_from, behind_span, next_row}
 use Rattle.hd_links.proofs.Types.{types_ascend, is_in, in_head, in_tail}
 use Rattle.hd_links.proofs.Build.{zero_or}
 use Rattle.hd_links.proofs.Ways.{some_zero, some_own, some_both, behind_end, later_in}
-use Rattle.hd_forest.specs.Walks.{tip, AreSegments}
+use Rattle.hd_forest.specs.Walks.{tip, AreSegments, moved, next_on}
 
 -- ---- what stands beside a row
 
@@ -61,6 +62,11 @@ take-segments : (m : Links) (k : ℕ) (path : List ℕ) → AreSegments m path �
 take-segments m zero path s = tt
 take-segments m (suc k) [] s = tt
 take-segments m (suc k) (a ∷ path) s = (s.0, take-segments m k path s.1)
+
+-- a path of segments with one more
+pub are-append : (m : Links) (path : List ℕ) (a : ℕ) → AreSegments m path → IsSegment m a → AreSegments m (path ++ a ∷ [])
+are-append m [] a s t = (t, tt)
+are-append m (x ∷ path) a s t = (s.0, are-append m path a s.1 t)
 
 -- the row above one of the path is a record
 pub above-here : (m : Links) (path : List ℕ) (k : ℕ) → m.here 0 ≡ true → AreSegments m path → m.here (tip (take k path)) ≡ true
@@ -115,3 +121,18 @@ pub next-may : (types : List SegmentType) (m : Links) → PointersAreTyped types
     → MayBe m (first_some (child_among m (tip path) (child_types types (m.code (tip path)))) (behind_span types m path))
 next-may types m typed header path s = some-may m (child_among m (tip path) (child_types types (m.code (tip path)))) (behind_span types m path)
     (below-may types m typed (tip path) (tip-here m 0 path header s)) (span-may types m typed header path s)
+
+-- a step to an address leads to a path of segments
+moved-segments : (types : List SegmentType) (m : Links) (path : List ℕ) (a : ℕ) → AreSegments m path → MayBe m a → AreSegments m (moved types m path a)
+moved-segments types m path a s may =
+    let row : List ℕ = take (level_of types (m.code a) - 1) path ++ a ∷ [] in
+    elim (zero_or a) [
+      | inl z ↦ subst (AreSegments m) (sym (cond-true (a == 0) [] row (eq-eqb a 0 z))) tt
+      | inr l ↦
+          subst (AreSegments m) (sym (cond-false (a == 0) [] row (ne_eqb a 0 (λ (e : a ≡ 0). omega arith))))
+          (are-append m (take (level_of types (m.code a) - 1) path) a (take-segments m (level_of types (m.code a) - 1) path s) (may l))
+    ]
+
+-- and so does the step to the next row
+pub next-segments : (types : List SegmentType) (m : Links) → PointersAreTyped types m → m.here 0 ≡ true → (path : List ℕ) → AreSegments m path → AreSegments m (next_on types m path)
+next-segments types m typed header path s = moved-segments types m path (next_row types m path) s (next-may types m typed header path s)

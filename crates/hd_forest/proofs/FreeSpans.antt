@@ -13,6 +13,7 @@ use Rattle.hd_links.proofs.Counts.{is_at}
 use Rattle.hd_links.proofs.Ways.{head_of, tip_end}
 use Rattle.hd_image.specs.Pointing.{without_record}
 use Rattle.hd_forest.specs.Walks.{tip, AreSegments}
+use Rattle.hd_forest.proofs.Climbs.{are-append}
 use Rattle.hd_forest.specs.Spans.{below_on, beside_on, extended, Freeing, freed_on}
 use Rattle.hd_forest.proofs.Frames.{Frame, path_of, left_of, size_of, steps_of, Stand, row-stands, stand-tail, stand-down, stand-beside}
 use Rattle.hd_forest.proofs.FreeSteps.{cut, seen, cut-one, cut-same, front-of, some-first, below-read, beside-read}
@@ -158,11 +159,6 @@ module _ (types : List SegmentType) (O : Ordered types) (m : Links) (span : ℕ 
           ])
 
   -- ---- the rows on the path are left
-
-  -- a path of segments with one more
-  are-append : (k : Links) (xs : List ℕ) (a : ℕ) → AreSegments k xs → IsSegment k a → AreSegments k (xs ++ a ∷ [])
-  are-append k [] a s t = (t, tt)
-  are-append k (x ∷ xs) a s t = (s.0, are-append k xs a s.1 t)
 
   -- the rows on the path are segments that are left
   are-left : (k : Links) (down : Bool) (fs : List Frame) → Stand types m fs → ((b : ℕ) → 0 < left_of down fs b → AgreeAt types m k b) → AreSegments k (path_of fs)

@@ -1,23 +1,25 @@
 -- The walk from row to row is the hierarchic sequence.
-use Rattle.std.proofs.Common.{◌≡◌, ℕ, zero, suc, ◌+◌, ◌-◌, ◌<◌, ◌≤◌, List, [], ◌∷◌, ◌++◌, length, take, refl, sym, ap, ◌∙◌, arith, ne_eqb}
+use Rattle.std.proofs.Common.{◌≡◌, ℕ, zero, suc, ◌+◌, ◌-◌, ◌<◌, ◌≤◌, List, [], ◌∷◌, ◌++◌, length, take, refl, sym, ap, subst, ◌∙◌, arith, ne_eqb}
 use Rattle.std.specs.Prelude.{◌==◌}
 use Rattle.std.proofs.lemmas.Bool.{cond-true, cond-false, eq-eqb}
 use Rattle.std.proofs.lemmas.List.{get_or_past}
 use Rattle.std.proofs.Math.ListN.{length-map}
 use Rattle.hd_dbd.specs.Types.{SegmentType}
-use Rattle.hd_dbd.specs.Hierarchy.{level_of}
+use Rattle.hd_dbd.specs.Hierarchy.{Database, level_of}
 use Rattle.hd_dbd.specs.Segment.{Segment}
 use Rattle.hd_dbd.specs.Paths.{row_at, level_at}
 use Rattle.hd_dbd.specs.Forest.{Forest, sequence}
 use Rattle.hd_dbd.proofs.LevelLaw.{leveled}
-use Rattle.hd_links.specs.Links.{Links, segment_at}
-use Rattle.hd_links.specs.Placed.{Placed}
+use Rattle.hd_volume.specs.Volumes.{VolumeState}
+use Rattle.hd_links.specs.Links.{Links, IsSegment, segment_at}
+use Rattle.hd_links.specs.Placed.{Placed, Holds}
 use Rattle.hd_links.specs.Steps.{next_row, rows_of, addresses, address_at, path_at, RowsHaveAddresses, StepsAreRows}
 use Rattle.hd_links.proofs.Numbers.{rows_addressed, rows_length}
 use Rattle.hd_links.proofs.Types.{ordered}
 use Rattle.hd_links.proofs.Standing.{row_found}
 use Rattle.hd_links.proofs.Following.{stepped, first_found}
-use Rattle.hd_image.specs.Records.{links_of}
+use Rattle.hd_image.specs.Records.{links_of, IsVolumeOf}
+use Rattle.hd_image.specs.Laws.{IsDatabase}
 use Rattle.hd_image.proofs.Found.{records-link}
 use Rattle.hd_forest.specs.Walks.{tip, moved, next_on, walked}
 use Rattle.hd_forest.specs.Laws.{WalkingGivesTheSequence}
@@ -70,15 +72,34 @@ module _ (types : List SegmentType) (m : Links) (f : Forest Placed) (R : RowsHav
       let here : i < length (rows_of f) = omega arith in
       ap (next_on types m) (walked-path i here) ∙ ap (moved types m (path_at types f i)) (steps i here).next ∙ moved-past (path_at types f i) (i + 1) (omega arith)
 
+module _ (d : Database) (v : VolumeState) (f : Forest Placed) (fit : IsDatabase d) (of : IsVolumeOf d v) (holds : Holds d.types (links_of d.types v) f) where
+  abbrev m : Links
+  m = links_of d.types v
+
+  addressed : RowsHaveAddresses m f
+  addressed = rows_addressed d.types m f holds
+
+  steps-found : (i : ℕ) → i < length (rows_of f) → StepsAreRows d.types m f i
+  steps-found i l =
+      let O = ordered d.block_size d.frspc d.types fit in
+      let G = records-link d v fit of in
+      let levels = leveled d.block_size d.frspc d.types fit in
+      stepped d.types O levels (length v.image) m G f holds i (row_found d.types O levels (length v.image) m G f holds i l) l
+
+  first-step : next_row d.types m [] ≡ address_at f 0
+  first-step = first_found d.types (ordered d.block_size d.frspc d.types fit) (leveled d.block_size d.frspc d.types fit) (length v.image) m (records-link d v fit of) f holds
+
+  -- the walk comes to a segment at each row
+  pub walked-there : (i : ℕ) → i < length (rows_of f) → IsSegment m (tip (walked d.types m i))
+  walked-there i l =
+      subst (IsSegment m) (sym (ap tip (walked-path d.types m f addressed steps-found first-step i l) ∙ (steps-found i l).tip)) (addressed.there i l)
+
 -- the law of the walk
 pub walking : WalkingGivesTheSequence
 walking d v f fit of holds =
     let types : List SegmentType = d.types in
     let m : Links = links_of types v in
-    let O = ordered d.block_size d.frspc types fit in
-    let G = records-link d v fit of in
-    let levels = leveled d.block_size d.frspc types fit in
-    let R = rows_addressed types m f holds in
-    let steps = λ (i : ℕ) (l : i < length (rows_of f)). stepped types O levels (length v.image) m G f holds i (row_found types O levels (length v.image) m G f holds i l) l in
-    let first = first_found types O levels (length v.image) m G f holds in
+    let R = addressed d v f fit of holds in
+    let steps = steps-found d v f fit of holds in
+    let first = first-step d v f fit of holds in
     (λ i l. (walked-path types m f R steps first i l, walked-row types m f R steps first i l), walked-end types m f R steps first (length (rows_of f)) refl)

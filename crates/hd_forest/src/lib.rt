@@ -20,6 +20,6 @@ mod write;
 pub use change::{link, replace};
 pub use law::law_walking_gives_the_sequence;
 pub use path::Path;
-pub use read::{first_child, last_child, next_twin, parent_on, prev_twin};
+pub use read::{first_child, last_child, next_twin, parent_on, prev_twin, tip_of};
 pub use unlink::unlink_span;
 pub use walk::{next_after_span, next_row};

@@ -10,7 +10,7 @@ use Rattle.hd_links.proofs.Build.{zero_or}
 use Rattle.hd_links.proofs.Counts.{not_own}
 
 -- more different numbers than there are below a bound do not fit
-pigeon : (n k : ℕ) (f : ℕ → ℕ) → ((i : ℕ) → i < k → f i < n) → ((i j : ℕ) → i < k → j < k → f i ≡ f j → i ≡ j) → k ≤ n
+pub pigeon : (n k : ℕ) (f : ℕ → ℕ) → ((i : ℕ) → i < k → f i < n) → ((i j : ℕ) → i < k → j < k → f i ≡ f j → i ≡ j) → k ≤ n
 pigeon n zero f small one = omega arith
 pigeon zero (suc k) f small one = absurd (let q : f 0 < 0 = small 0 (omega arith) in omega arith)
 pigeon (suc n) (suc k) f small one = (let i : k ≤ n = pigeon n k g g_small g_one in omega arith)

@@ -26,4 +26,5 @@ pub mod Sequels
 pub mod RowChanges
 pub mod LastRows
 pub mod LastPath
+pub mod RowBounds
 mod WorkedImage

@@ -1,9 +1,8 @@
 -- A volume that was loaded whole, and what its store has then.
-use Rattle.std.proofs.Common.{◌≡◌, ◌≢◌, ℕ, ◌+◌, ◌<◌, List, [], ◌∷◌, ◌++◌, length, Bool, true, false, IsTrue, Result, Ok, Err, IfErr, IfOk, inl, inr, refl, sym, ap, ap₂, subst, ◌∙◌, replicate, take, drop, ◌≤◌, arith}
+use Rattle.std.proofs.Common.{◌≡◌, ℕ, ◌<◌, List, [], ◌∷◌, ◌++◌, length, Bool, false, IsTrue, Result, Ok, Err, IfErr, IfOk, inl, inr, refl, sym, ap, ap₂, subst, ◌∙◌, replicate, take, drop, ◌≤◌, arith}
 use Rattle.std.specs.Prelude.{◌*◌}
 use Rattle.std.proofs.lemmas.List.{append_assoc, take_all, length-replicate}
 use Rattle.hd_bytes.specs.Blocks.{block_of, HasBlock}
-use Rattle.hd_dbd.specs.declared.answer.Refused.{Refused}
 use Rattle.hd_dbd.specs.Hierarchy.{Database}
 use Rattle.hd_dbd.specs.Facts.{stored_sizes}
 use Rattle.hd_dbd.specs.Segment.{Segment}
@@ -16,7 +15,6 @@ use Rattle.hd_volume.specs.Indexes.{root_key_length}
 use Rattle.hd_volume.proofs.IndexLemmas.{index-stays}
 use Rattle.hd_links.specs.Links.{Links}
 use Rattle.hd_links.specs.Placed.{Placed, Holds}
-use Rattle.hd_image.specs.Records.{links_of}
 use Rattle.hd_image.specs.Holding.{HoldsPlaced, HoldsRows, volume_of}
 use Rattle.hd_image.proofs.OneImage.{links-same, volume-same}
 use Rattle.hd_volume.specs.Stores.{CountsFor, SoundFor}

@@ -5,3 +5,4 @@ pub mod Finishing
 pub mod WorkedStreams
 pub mod Loaded
 pub mod LoadedRoots
+pub mod Writing

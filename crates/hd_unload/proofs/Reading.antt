@@ -1,17 +1,15 @@
 -- Reading a stream record by record, and loading it.
 use Rattle.std.proofs.Common.{◌≡◌, ℕ, ◌+◌, ◌<◌, ◌^◌, ◌≤◌, IfSome, IfNone, Bool, List, [], ◌∷◌, ◌++◌, length, true, Option, Some, None, IsTrue, refl, sym, ap, ◌∙◌, subst, inr, arith}
-use Rattle.std.specs.Prelude.{map, option_map}
+use Rattle.std.specs.Prelude.{option_map}
 use Rattle.std.proofs.lemmas.List.{append_assoc, length-append}
-use Rattle.hd_dbd.specs.declared.answer.Status.{Status}
 use Rattle.hd_dbd.specs.Types.{SegmentType}
 use Rattle.hd_dbd.specs.Hierarchy.{Database}
 use Rattle.hd_dbd.specs.DatabaseRules.{well_formed}
 use Rattle.hd_dbd.specs.Segment.{Segment}
-use Rattle.hd_dbd.specs.Rows.{row_fits, next_path, valid_from}
+use Rattle.hd_dbd.specs.Rows.{row_fits, next_path}
 use Rattle.hd_dbd.specs.Loads.{path_after, last_path, load_fault, Loading, rows_loaded, image_before, IsLegalLoad}
 use Rattle.hd_dbd.proofs.LevelLaw.{leveled}
 use Rattle.hd_dbd.proofs.Loading.{loaded_valid}
-use Rattle.hd_volume.specs.Headers.{header_of}
 use Rattle.hd_volume.specs.Volumes.{VolumeState}
 use Rattle.hd_volume.specs.Creates.{IsCreated}
 use Rattle.hd_links.specs.Placed.{Placed}
@@ -24,8 +22,8 @@ use Rattle.hd_unload.specs.declared.record.Record.{Record as NextRecord}
 use Rattle.hd_unload.specs.declared.fault.RecordFault.{RecordFault}
 use Rattle.hd_unload.specs.declared.fault.ReloadFault.{ReloadFault}
 use Rattle.hd_unload.specs.declared.fault.ReloadFault.TheVariants.{Record, Full, Memory, Device}
-use Rattle.hd_unload.specs.Streams.{head_bytes, record_bytes, records_bytes, end_bytes, record_fault, refusal_of, Spells, IsStreamOf, IsRefusedAt}
-use Rattle.hd_unload.specs.Loads.{IsLoadStep, IsLoad, LacksRoom, IsFullAt}
+use Rattle.hd_unload.specs.Streams.{head_bytes, record_bytes, records_bytes, end_bytes, record_fault, refusal_of, IsRefusedAt}
+use Rattle.hd_unload.specs.Loads.{IsLoadStep, IsLoad}
 use Rattle.hd_unload.specs.Steps.{IsLoadedTo, IsRowLoaded, IsReadTo, IsLoadedAll}
 use Rattle.hd_unload.specs.Refusals.{IsFaultOfRow, IsFaultOf}
 

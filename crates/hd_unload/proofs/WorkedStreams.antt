@@ -5,7 +5,7 @@ use Rattle.hd_dbd.specs.Segment.{Segment}
 use Rattle.hd_dbd.specs.Sample.{sample_types, sample_database, sample_rows, of_type}
 use Rattle.hd_unload.specs.declared.fault.RecordFault.{RecordFault}
 use Rattle.hd_unload.specs.declared.fault.RecordFault.TheVariants.{U1, U2, U3, U4, LB, LC, LD, LE}
-use Rattle.hd_unload.specs.Streams.{head_bytes, record_bytes, records_bytes, end_bytes, unload_bytes, head_fault, record_fault}
+use Rattle.hd_unload.specs.Streams.{record_bytes, end_bytes, unload_bytes, head_fault, record_fault}
 
 -- the header, the records and the end of the sample's stream, byte for byte
 abbrev sample_head : List ℕ

@@ -3,3 +3,4 @@ pub mod Loads
 pub mod Paths
 pub mod Steps
 pub mod Refusals
+pub mod Unloads

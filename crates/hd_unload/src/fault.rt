@@ -50,6 +50,17 @@ pub enum ReloadFault {
     Device,
 }
 
+/// Why the unload stream of a volume is not written whole. How much went out is not known.
+#[derive(Clone, Copy, Debug, Drop, PartialEq, Eq, Error)]
+pub enum StreamFault {
+    /// An access of the volume's store failed.
+    #[error("device failed")]
+    Device,
+    /// A write failed.
+    #[error("write failed")]
+    Write,
+}
+
 impl RecordFault {
     /// The fault that the status of a load is.
     pub(crate) fn of_status(status: Status) -> RecordFault

@@ -7,8 +7,12 @@ mod load;
 mod loading;
 mod path;
 mod record;
+mod stream;
 #[cfg(test)]
 mod tests;
+mod unloading;
 
-pub use fault::{RecordFault, ReloadFault};
+pub use fault::{RecordFault, ReloadFault, StreamFault};
 pub use loading::{Reloaded, reload};
+pub use stream::write_stream;
+pub use unloading::{UnloadFault, unload};

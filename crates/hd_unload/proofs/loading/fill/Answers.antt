@@ -1,6 +1,4 @@
-use Rattle.std.proofs.Common.{◌≡◌, ◌++◌, ℕ, List, IsTrue, refl, ◌∙◌}
-use Rattle.hd_dbd.specs.Hierarchy.{Database}
-use Rattle.hd_volume.specs.Volumes.{VolumeState}
+use Rattle.std.proofs.Common.{◌++◌, IsTrue, refl, ◌∙◌}
 use Rattle.hd_unload.specs.Streams.{head_bytes}
 use Rattle.hd_unload.proofs.Finishing.{first-there, reloaded, if-ok-both, if-err-to, given-device}
 use Rattle.hd_unload.proofs.loading.fill.Goals as goal

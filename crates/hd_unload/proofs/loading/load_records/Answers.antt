@@ -1,7 +1,6 @@
-use Rattle.std.proofs.Common.{◌≡◌, ◌+◌, ◌≤◌, ◌<◌, ◌++◌, ℕ, List, length, true, IsTrue, Ok, Some, refl, sym, subst, arith}
+use Rattle.std.proofs.Common.{◌≡◌, ◌+◌, ◌≤◌, ◌++◌, ℕ, List, length, IsTrue, Ok, Some, refl, sym, subst, arith}
 use Rattle.hd_dbd.specs.Types.{SegmentType}
 use Rattle.hd_dbd.specs.Hierarchy.{Database}
-use Rattle.hd_dbd.specs.Segment.{Segment}
 use Rattle.hd_volume.proofs.CallSteps.{call-none, call-ok}
 use Rattle.hd_volume.proofs.JoinLemmas.{calls-join}
 use Rattle.hd_unload.specs.declared.fault.RecordFault.TheVariants.{U2}

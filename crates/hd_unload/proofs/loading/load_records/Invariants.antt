@@ -1,5 +1,4 @@
 use Rattle.std.proofs.Common.{◌≡◌, ◌+◌, ◌≤◌, ◌++◌, ℕ, List, length, IsTrue, Ok}
-use Rattle.hd_dbd.specs.DatabaseRules.{well_formed}
 use Rattle.hd_volume.specs.Creates.{IsCreated}
 use Rattle.hd_volume.specs.Calls.{IsCall}
 use Rattle.hd_unload.specs.Streams.{head_bytes}

@@ -1,4 +1,3 @@
-use Rattle.std.proofs.Common.{◌≡◌, ℕ, List, IsTrue}
 use Rattle.hd_unload.proofs.Reading.{fault-sound}
 use Rattle.hd_unload.proofs.Finishing.{if-err-to, given-up}
 use Rattle.hd_unload.proofs.loading.reload.Goals as goal

@@ -1,4 +1,3 @@
-use Rattle.std.proofs.Common.{ℕ, List}
 use Rattle.hd_unload.proofs.Spelling.{head-found}
 use Rattle.hd_unload.proofs.record.behind_head.Goals as goal
 

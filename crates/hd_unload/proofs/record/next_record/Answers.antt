@@ -1,7 +1,4 @@
-use Rattle.std.proofs.Common.{◌≡◌, ◌<◌, ◌^◌, ℕ, List, ◌∷◌, true, length, get_or, Option, Some, None, ap, sym, ◌∙◌, subst, arith}
-use Rattle.std.specs.Prelude.{◌==◌}
-use Rattle.std.specs.Option.{option_map_or}
-use Rattle.std.proofs.lemmas.Bool.{eq-eqb}
+use Rattle.std.proofs.Common.{◌≡◌, ℕ, ◌∷◌, ap, sym, ◌∙◌, arith}
 use Rattle.hd_dbd.specs.Types.{SegmentType}
 use Rattle.hd_unload.proofs.Spelling.{end-right, next-right, behind-first}
 use Rattle.hd_unload.proofs.record.next_record.Goals as goal

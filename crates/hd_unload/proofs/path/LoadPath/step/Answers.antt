@@ -1,4 +1,4 @@
-use Rattle.std.proofs.Common.{◌≡◌, ◌<◌, ◌≤◌, ◌-◌, ◌+◌, ◌++◌, ℕ, suc, List, [], ◌∷◌, length, take, inl, inr, refl, sym, ap, ◌∙◌, subst, arith}
+use Rattle.std.proofs.Common.{◌≡◌, ◌<◌, ◌-◌, ◌+◌, ◌++◌, ℕ, suc, List, [], ◌∷◌, length, take, inl, inr, ap, ◌∙◌, arith}
 use Rattle.std.specs.Prelude.{map, min, slice_set}
 use Rattle.std.proofs.lemmas.Bool.{cases_lt}
 use Rattle.hd_links.specs.Placed.{Placed}

@@ -1,0 +1,59 @@
+-- What is written of a volume, and what the calls that write it say of its store.
+use Rattle.std.specs.Prelude.{◌≡◌, ◌<◌, ℕ, List, length, Bool, true, false, Option, Result, Ok, Err}
+use Rattle.std.specs.Io.KnownBytes.{Appends}
+use Rattle.hd_dbd.specs.declared.answer.Refused.{Refused}
+use Rattle.hd_dbd.specs.declared.answer.Refused.TheVariants as refused
+use Rattle.hd_dbd.specs.Types.{SegmentType}
+use Rattle.hd_dbd.specs.Hierarchy.{Database}
+use Rattle.hd_dbd.specs.Segment.{Segment}
+use Rattle.hd_volume.specs.Volumes.{VolumeState}
+use Rattle.hd_links.specs.Links.{Links, segment_at}
+use Rattle.hd_image.specs.Holding.{HoldsRows}
+use Rattle.hd_forest.specs.Walks.{tip, next_on, AreSegments}
+use Rattle.hd_check.specs.declared.checking.CheckFault.TheVariants as check
+use Rattle.hd_check.specs.Checks.{IsFaultOf}
+use Rattle.hd_unload.specs.declared.fault.StreamFault.{StreamFault}
+use Rattle.hd_unload.specs.declared.fault.StreamFault.TheVariants as stream
+use Rattle.hd_unload.specs.declared.unloading.UnloadFault.{UnloadFault}
+use Rattle.hd_unload.specs.declared.unloading.UnloadFault.TheVariants as unload
+use Rattle.hd_unload.specs.Streams.{record_bytes, unload_bytes}
+
+-- The walk went on from a path to the next row: where there is one its record was written behind what stood there, and else nothing.
+pub record IsTurn (types : List SegmentType) (m : Links) (old : List ℕ) (before : Option (List ℕ)) (more : Bool) (new : List ℕ) (after : Option (List ℕ)) : Type 0 where
+  pub next : new ≡ next_on types m old
+  pub there : AreSegments m new
+  pub written : more ≡ true → (0 < tip new) × Appends before after (record_bytes (segment_at m (tip new)))
+  pub ended : more ≡ false → (tip new ≡ 0) × (after ≡ before)
+
+-- The unload stream of the rows that the volume holds was written behind what stood there, and they are so many.
+pub record IsUnloaded (d : Database) (v : VolumeState) (before after : Option (List ℕ)) (segments : ℕ) : Type 0 where
+  pub rows : List Segment
+  pub holds : HoldsRows d v rows
+  pub stream : Appends before after (unload_bytes d rows)
+  pub segments_are : segments ≡ length rows
+
+-- what the result of a write is, as far as the volume's store goes: only Device says that an access of it failed
+abbrev pub stream_call : {T : Type 0} → Result T StreamFault → Result T Refused
+stream_call (Ok x) = Ok x
+stream_call (Err stream.Device) = Err refused.Device
+stream_call (Err stream.Write) = Err refused.Full
+
+-- the same of an unload's result
+abbrev pub unload_call : {T : Type 0} → Result T UnloadFault → Result T Refused
+unload_call (Ok x) = Ok x
+unload_call (Err (unload.Check (check.Fault fault))) = Err refused.Full
+unload_call (Err (unload.Check check.Memory)) = Err refused.Memory
+unload_call (Err (unload.Check check.Device)) = Err refused.Device
+unload_call (Err unload.Write) = Err refused.Full
+
+-- What a refusal of an unload says of the volume: a fault is the least that stands in it, as a check's is.
+abbrev pub IsUnloadFaultOf : Database → VolumeState → UnloadFault → Type 0
+IsUnloadFaultOf d v (unload.Check fault) = IsFaultOf d v fault
+IsUnloadFaultOf d v unload.Write = Unit {0}
+
+-- The refusal comes before the first byte is written.
+abbrev pub ComesFirst : UnloadFault → Type 0
+ComesFirst (unload.Check (check.Fault fault)) = Unit {0}
+ComesFirst (unload.Check check.Memory) = Unit {0}
+ComesFirst (unload.Check check.Device) = ⊥
+ComesFirst unload.Write = ⊥

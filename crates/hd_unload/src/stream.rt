@@ -1,0 +1,150 @@
+ghost use Rattle.std.specs.Prelude.{◌≡◌, ◌≤◌, ◌<◌, ◌^◌, List, length, IsTrue, IfOk, IfErr, OnOk};
+ghost use Rattle.std.specs.Io.KnownBytes.{Appends};
+ghost use Rattle.hd_dbd.specs.Forest.{Forest};
+ghost use Rattle.hd_dbd.specs.Prefixes.{stored_size};
+ghost use Rattle.hd_dbd.specs.Segment.{Segment};
+ghost use Rattle.hd_volume.specs.Calls.{IsRead};
+ghost use Rattle.hd_prefix.specs.Fields.{code_of, bytes_of};
+ghost use Rattle.hd_links.specs.Links.{IsSegment, segment_at};
+ghost use Rattle.hd_links.specs.Placed.{Placed};
+ghost use Rattle.hd_links.specs.Steps.{rows_of};
+ghost use Rattle.hd_image.specs.Records.{links_of, IsVolumeOf};
+ghost use Rattle.hd_image.specs.Holding.{HoldsPlaced, HoldsRows};
+ghost use Rattle.hd_unload.specs.Streams.{head_bytes, record_bytes, records_bytes, end_bytes};
+ghost use Rattle.hd_forest.specs.Walks.{AreSegments, HasForest};
+ghost use Rattle.hd_unload.specs.Unloads.{IsTurn, IsUnloaded, stream_call};
+
+use crate::fault::StreamFault;
+use crate::record::head_of;
+use hd_dbd::Dbd;
+use hd_forest::{Path, next_row, tip_of};
+use hd_prefix::Layout;
+use hd_volume::{BlockStore, Volume};
+use std::io::Write;
+
+/// Writes all of the bytes.
+fn put<W: Write>(out: &mut W, bytes: &[u8]) -> Result<(), StreamFault>
+    ensures bytes { OnOk result (Appends (W.contents out.old) (W.contents out.new) bytes.now) }
+    ensures refusal { IfErr result (λ e. e ≡ StreamFault.Write) }
+{
+    match out.write_all(bytes) {
+        Ok(()) => Ok(()),
+        Err(_) => Err(StreamFault::Write),
+    }
+}
+
+/// Writes the record of a row: its code, its length and its bytes.
+fn put_row<W: Write>(out: &mut W, code: u8, bytes: &[u8]) -> Result<(), StreamFault>
+    requires { length bytes.now < 65536 }
+    ensures record { OnOk result (Appends (W.contents out.old) (W.contents out.new) (record_bytes (record { code = code; bytes = bytes.now }))) }
+    ensures refusal { IfErr result (λ e. e ≡ StreamFault.Write) }
+{
+    let [high, low] = (bytes.len() as u16).to_be_bytes();
+    put(out, &[code, high, low])?;
+    put(out, bytes)
+}
+
+/// Writes the end of a stream of so many records.
+fn put_end<W: Write>(out: &mut W, count: u32) -> Result<(), StreamFault>
+    ensures end { OnOk result (Appends (W.contents out.old) (W.contents out.new) (end_bytes count)) }
+    ensures refusal { IfErr result (λ e. e ≡ StreamFault.Write) }
+{
+    let [a, b, c, d] = count.to_be_bytes();
+    put(out, &[0, a, b, c, d])
+}
+
+/// Writes the record of a stored segment, which is as long as its type's segments.
+fn put_record<W: Write>(dbd: &Dbd, segment: &[u8], out: &mut W) -> Result<(), StreamFault>
+    ensures record { OnOk result (stored_size dbd.now.types (code_of segment.now) ≤ length segment.now → Appends (W.contents out.old) (W.contents out.new) (record_bytes (record { code = code_of segment.now; bytes = bytes_of dbd.now.types (code_of segment.now) segment.now }))) }
+    ensures refusal { IfErr result (λ e. e ≡ StreamFault.Write) }
+{
+    let code = segment.first().copied().unwrap_or(0);
+    let layout = Layout::of(dbd, code);
+    if segment.len() < layout.stored_size() as usize {
+        return Ok(());
+    }
+    put_row(out, code, layout.bytes(segment))
+}
+
+/// Writes the record of the segment at an address.
+fn write_record<S: BlockStore, W: Write>(
+    volume: &mut Volume<S>,
+    dbd: &Dbd,
+    address: u32,
+    out: &mut W,
+) -> Result<(), StreamFault>
+    requires of { IsTrue volume.old.is_sound → IsVolumeOf dbd.now volume.old }
+    requires there { IsTrue volume.old.is_sound → IsSegment (links_of dbd.now.types volume.old) address }
+    ensures read { IsRead volume.old (stream_call result) volume.new }
+    ensures record { OnOk result (IsTrue volume.old.is_sound → Appends (W.contents out.old) (W.contents out.new) (record_bytes (segment_at (links_of dbd.now.types volume.old) address))) }
+{
+    match volume.segment_at(address) {
+        Ok(segment) => put_record(dbd, segment, out),
+        Err(_) => Err(StreamFault::Device),
+    }
+}
+
+/// Goes on to the next row, and writes its record; says whether there is one.
+fn write_next<S: BlockStore, W: Write>(
+    volume: &mut Volume<S>,
+    dbd: &Dbd,
+    path: &mut Path,
+    out: &mut W,
+) -> Result<bool, StreamFault>
+    requires of { IsTrue volume.old.is_sound → IsVolumeOf dbd.now volume.old }
+    requires holds { IsTrue volume.old.is_sound → HasForest dbd.now volume.old }
+    requires there { IsTrue volume.old.is_sound → AreSegments (links_of dbd.now.types volume.old) path.old }
+    ensures read { IsRead volume.old (stream_call result) volume.new }
+    ensures turn { IfOk result (λ more. IsTrue volume.old.is_sound → IsTurn dbd.now.types (links_of dbd.now.types volume.old) path.old (W.contents out.old) more path.new (W.contents out.new)) }
+{
+    let Ok(()) = next_row(volume, dbd, path) else {
+        return Err(StreamFault::Device);
+    };
+    let address = tip_of(path);
+    if address == 0 {
+        return Ok(false);
+    }
+    write_record(volume, dbd, address, out)?;
+    Ok(true)
+}
+
+/// Writes the records of a volume's rows in hierarchic sequence, and says how many they are.
+fn write_records<S: BlockStore, W: Write>(
+    volume: &mut Volume<S>,
+    dbd: &Dbd,
+    out: &mut W,
+) -> Result<u32, StreamFault>
+    requires holds { IsTrue volume.old.is_sound → (rows : List Segment) × HoldsRows dbd.now volume.old rows }
+    ensures read { IsRead volume.old (stream_call result) volume.new }
+    ensures records { IfOk result (λ n. IsTrue volume.old.is_sound → (f : Forest Placed) → HoldsPlaced dbd.now volume.old f
+        → (n ≡ length (rows_of f)) × Appends (W.contents out.old) (W.contents out.new) (records_bytes (rows_of f))) }
+{
+    let most = volume.length().min(u64::from(u32::MAX)) as u32;
+    let mut path = Path::new();
+    for count in 0..most {
+        let more = write_next(volume, dbd, &mut path, out)?;
+        if !more {
+            return Ok(count);
+        }
+    }
+    Ok(most)
+}
+
+/// Writes the unload stream of the forest that a volume holds, and says how many segments it has.
+///
+/// A block is read when the walk comes to a row in it, and again when it goes back up to one. What is written goes out in small pieces: a
+/// writer with a buffer serves best.
+pub fn write_stream<S: BlockStore, W: Write>(
+    volume: &mut Volume<S>,
+    dbd: &Dbd,
+    out: &mut W,
+) -> Result<u32, StreamFault>
+    requires holds { IsTrue volume.old.is_sound → (rows : List Segment) × HoldsRows dbd.now volume.old rows }
+    ensures read { IsRead volume.old (stream_call result) volume.new }
+    ensures written { IfOk result (λ n. IsTrue volume.old.is_sound → IsUnloaded dbd.now volume.old (W.contents out.old) (W.contents out.new) n) }
+{
+    put(out, &head_of(dbd))?;
+    let count = write_records(volume, dbd, out)?;
+    put_end(out, count)?;
+    Ok(count)
+}
