@@ -109,6 +109,10 @@ fn play_rows<I: Read, O: Write>(
 }
 
 #[cfg(test)]
-mod tests;
+mod check_tests;
 #[cfg(test)]
-mod volume_tests;
+mod reload_tests;
+#[cfg(test)]
+mod testing;
+#[cfg(test)]
+mod tests;

@@ -1,19 +1,10 @@
+use super::testing::{Played, refusals_of_growth};
 use super::*;
 use hd_dbd::{DbdFault, PsbFault, Refused};
 use hd_deck::{DeckFault, RunFault};
 use hd_gen::GenFault;
-use std::alloc::AllocError;
+use std::io;
 use std::io::ErrorKind;
-use std::test::Fail;
-use std::{fs, io};
-
-/// What a play wrote and answered.
-#[derive(Drop)]
-pub struct Played {
-    pub status: u8,
-    pub out: Vec<u8>,
-    pub err: Vec<u8>,
-}
 
 fn play_deck(rt: &HostRuntime, deck: &[u8]) -> Played {
     let mut input = deck;
@@ -276,86 +267,9 @@ fn words_refusals_as_a_person_reads_them(rt: HostRuntime) {
     }
 }
 
-/// A writer that keeps the first bytes in room of its own, and takes no memory.
-#[derive(Drop)]
-struct Page {
-    bytes: [u8; 256],
-    len: usize,
-}
-
-impl Page {
-    fn blank() -> Page {
-        Page {
-            bytes: [0; 256],
-            len: 0,
-        }
-    }
-
-    fn text(&self) -> &[u8] {
-        self.bytes.get(..self.len).unwrap_or(&[])
-    }
-}
-
-impl Write for Page {
-    fn write(&mut self, buf: &[u8]) -> io::Result<usize> {
-        for byte in buf {
-            if let Some(place) = self.bytes.get_mut(self.len) {
-                *place = *byte;
-                self.len = self.len.saturating_add(1);
-            }
-        }
-        Ok(buf.len())
-    }
-
-    fn flush(&mut self) -> io::Result<()> {
-        Ok(())
-    }
-}
-
-/// Takes pieces of memory, the largest that there are, until none is left.
-fn take_all(alloc: Global, taken: &mut Vec<Vec<u8>>) {
-    let mut size: usize = 1 << 46;
-    for _ in 0..65_536 {
-        match Vec::with_capacity(alloc, size) {
-            Ok(piece) => {
-                if taken.push(piece).is_err() {
-                    return;
-                }
-            }
-            Err(_) => size /= 2,
-        }
-    }
-}
-
 #[test]
 fn tells_of_each_growth_that_finds_no_memory(rt: HostRuntime) {
-    let mut spare = Vec::with_capacity(rt.alloc(), 8192).expect(&rt, "memory");
-    let mut taken = Vec::with_capacity(rt.alloc(), 65_536).expect(&rt, "memory");
-    for _ in 0..8192 {
-        let piece: Vec<u8> = Vec::with_capacity(rt.alloc(), 512).expect(&rt, "memory");
-        let _ = spare.push(piece);
-    }
-    take_all(rt.alloc(), &mut taken);
-    let mut refused = 0u32;
-    let mut status = 4;
-    for _ in 0..8192 {
-        let mut input: &[u8] = b"S 3\nL     GN\n";
-        let mut out = Page::blank();
-        let mut err = Page::blank();
-        status = play(&rt, &[], &mut input, &mut out, &mut err);
-        if status == 0 {
-            assert_eq!(rt;
-                out.text(),
-                b"1 3 GN   [  ] 01 COURSE   key=101 area=101ALGEB\n".as_slice()
-            );
-            break;
-        }
-        assert_eq!(rt; status, 4);
-        assert_eq!(rt; out.text().len(), 0);
-        assert_eq!(rt; err.text(), b"no memory\n".as_slice());
-        refused = refused.saturating_add(1);
-        let _ = spare.pop();
-    }
-    assert_eq!(rt; status, 0);
+    let text = b"1 3 GN   [  ] 01 COURSE   key=101 area=101ALGEB\n";
+    let refused = refusals_of_growth(&rt, &[], b"S 3\nL     GN\n", text);
     assert!(rt; refused > 0);
 }

@@ -1,0 +1,292 @@
+use super::testing::{HEAD, STREAM, expect, play_words, refusals_of_growth, sample_with, words_of};
+use super::*;
+use std::fs;
+use std::test::Fail;
+
+#[test]
+fn unloads_and_reloads_the_sample(rt: HostRuntime) -> Result<(), Fail> {
+    fs::write(&rt, "sample.dbd", sample::DBD_SOURCE)?;
+    fs::write(&rt, "sample.volume", &sample_with(&[]))?;
+    let line = b"unloaded 7 segments\n";
+    expect(
+        &rt,
+        &["unload", "sample.dbd", "sample.volume", "sample.out"],
+        0,
+        line,
+        b"",
+    )?;
+    assert_eq!(rt; fs::read(&rt, "sample.out")?.as_slice(), STREAM);
+    assert_eq!(rt;
+        fs::read(&rt, "sample.volume")?.as_slice(),
+        sample_with(&[]).as_slice()
+    );
+    expect(
+        &rt,
+        &["reload", "sample.dbd", "sample.out", "sample.again", "16"],
+        0,
+        b"reloaded 7 segments into 4 blocks\n",
+        b"",
+    )?;
+    expect(
+        &rt,
+        &["check", "sample.dbd", "sample.again"],
+        0,
+        b"EDU passes: 4 blocks, 7 segments, 2 roots\n",
+        b"",
+    )?;
+    expect(
+        &rt,
+        &["unload", "sample.dbd", "sample.again", "sample.out"],
+        0,
+        line,
+        b"",
+    )?;
+    assert_eq!(rt; fs::read(&rt, "sample.out")?.as_slice(), STREAM);
+    Ok(())
+}
+
+#[test]
+fn follows_the_pointers_as_they_stand(rt: HostRuntime) -> Result<(), Fail> {
+    fs::write(&rt, "turned.dbd", sample::DBD_SOURCE)?;
+    fs::write(
+        &rt,
+        "turned.volume",
+        &sample_with(&[(205, b"\0"), (245, b"\xd8")]),
+    )?;
+    let words = ["unload", "turned.dbd", "turned.volume", "turned.out"];
+    expect(&rt, &words, 0, b"unloaded 7 segments\n", b"")?;
+    let mut stream = Vec::new(rt.alloc());
+    stream.extend_from_slice(HEAD)?;
+    stream.extend_from_slice(
+        b"\x01\0\x08101ALGEB\x02\0\x0401AB\x03\0\x06ADAM01\x02\0\x0402CD\x03\0\x06EVE 02\x04\0\x05EULER\x01\0\x08205LOGIC\0\0\0\0\x07",
+    )?;
+    assert_eq!(rt; fs::read(&rt, "turned.out")?.as_slice(), stream.as_slice());
+    Ok(())
+}
+
+#[test]
+fn fills_the_blocks_of_the_index(rt: HostRuntime) -> Result<(), Fail> {
+    fs::write(&rt, "roots.dbd", sample::DBD_SOURCE)?;
+    let mut stream = Vec::new(rt.alloc());
+    stream.extend_from_slice(HEAD)?;
+    for number in 1..=17u8 {
+        stream.extend_from_slice(b"\x01\0\x080")?;
+        stream.extend_from_slice(&[b'0' + number / 10, b'0' + number % 10])?;
+        stream.extend_from_slice(b"ALGEB")?;
+    }
+    stream.extend_from_slice(b"\0\0\0\0\x11")?;
+    fs::write(&rt, "roots.in", &stream)?;
+    expect(
+        &rt,
+        &["reload", "roots.dbd", "roots.in", "roots.volume", "16"],
+        0,
+        b"reloaded 17 segments into 9 blocks\n",
+        b"",
+    )?;
+    expect(
+        &rt,
+        &["check", "roots.dbd", "roots.volume"],
+        0,
+        b"EDU passes: 9 blocks, 17 segments, 17 roots\n",
+        b"",
+    )
+}
+
+#[test]
+fn takes_five_thousand_twins(rt: HostRuntime) -> Result<(), Fail> {
+    fs::write(&rt, "twins.dbd", sample::DBD_SOURCE)?;
+    let mut stream = Vec::new(rt.alloc());
+    stream.extend_from_slice(HEAD)?;
+    stream.extend_from_slice(b"\x01\0\x08101ALGEB\x02\0\x0401AB")?;
+    for _ in 0..5000 {
+        stream.extend_from_slice(b"\x03\0\x06ADAM01")?;
+    }
+    stream.extend_from_slice(b"\0\0\0\x13\x8a")?;
+    fs::write(&rt, "twins.in", &stream)?;
+    expect(
+        &rt,
+        &["reload", "twins.dbd", "twins.in", "twins.volume", "65536"],
+        0,
+        b"reloaded 5002 segments into 717 blocks\n",
+        b"",
+    )?;
+    expect(
+        &rt,
+        &["check", "twins.dbd", "twins.volume"],
+        0,
+        b"EDU passes: 717 blocks, 5002 segments, 1 roots\n",
+        b"",
+    )?;
+    expect(
+        &rt,
+        &["unload", "twins.dbd", "twins.volume", "twins.out"],
+        0,
+        b"unloaded 5002 segments\n",
+        b"",
+    )?;
+    assert_eq!(rt; fs::read(&rt, "twins.out")?.as_slice(), stream.as_slice());
+    Ok(())
+}
+
+#[test]
+fn reloads_once_memory_is_found(rt: HostRuntime) -> Result<(), Fail> {
+    fs::write(&rt, "grown.dbd", sample::DBD_SOURCE)?;
+    fs::write(&rt, "grown.in", STREAM)?;
+    let words = words_of(
+        rt.alloc(),
+        &["reload", "grown.dbd", "grown.in", "grown.volume", "16"],
+    )?;
+    let text = b"reloaded 7 segments into 4 blocks\n";
+    assert!(rt; refusals_of_growth(&rt, &words, b"", text) > 0);
+    Ok(())
+}
+
+#[test]
+fn unloads_once_memory_is_found(rt: HostRuntime) -> Result<(), Fail> {
+    fs::write(&rt, "copied.dbd", sample::DBD_SOURCE)?;
+    fs::write(&rt, "copied.volume", &sample_with(&[]))?;
+    let words = words_of(
+        rt.alloc(),
+        &["unload", "copied.dbd", "copied.volume", "copied.out"],
+    )?;
+    let text = b"unloaded 7 segments\n";
+    assert!(rt; refusals_of_growth(&rt, &words, b"", text) > 0);
+    Ok(())
+}
+
+#[test]
+fn tells_of_files_that_are_none(rt: HostRuntime) -> Result<(), Fail> {
+    fs::write(&rt, "files.dbd", sample::DBD_SOURCE)?;
+    fs::write(&rt, "files.volume", &sample_with(&[]))?;
+    for words in [
+        &["check", "files.none", "files.volume"] as &[&str],
+        &["check", "files.dbd", "files.none"],
+        &["check", "files.dbd", "."],
+        &["check", ".", "files.volume"],
+        &["unload", "files.dbd", "files.none", "files.out"],
+        &["unload", "files.dbd", "files.volume", "."],
+        &["unload", "files.dbd", "files.volume", "files.none/out"],
+        &["unload", "files.dbd", "files.volume", "/dev/full"],
+        &["reload", "files.dbd", "files.none", "files.again", "16"],
+        &["reload", "files.dbd", "files.volume", ".", "16"],
+    ] {
+        expect(&rt, words, 3, b"", b"device failed\n")?;
+    }
+    Ok(())
+}
+
+#[test]
+fn judges_the_source_first(rt: HostRuntime) -> Result<(), Fail> {
+    fs::write(&rt, "first.dbd", b"X\n")?;
+    for words in [
+        &["check", "first.dbd", "first.none"] as &[&str],
+        &["unload", "first.dbd", "first.none", "first.out"],
+        &["reload", "first.dbd", "first.none", "first.volume", "16"],
+    ] {
+        let end = play_words(&rt, words)?;
+        assert_eq!(rt; end.status, 2);
+        assert!(rt; end.err.starts_with(b"DBD refused: line 1, "));
+    }
+    Ok(())
+}
+
+#[test]
+fn writes_over_no_file_that_it_reads(rt: HostRuntime) -> Result<(), Fail> {
+    fs::write(&rt, "over.dbd", sample::DBD_SOURCE)?;
+    fs::write(&rt, "over.volume", &sample_with(&[]))?;
+    fs::write(&rt, "over.in", STREAM)?;
+    for words in [
+        &["unload", "over.dbd", "over.volume", "over.volume"] as &[&str],
+        &["unload", "over.dbd", "over.volume", "./over.dbd"],
+        &["reload", "over.dbd", "over.in", "over.in", "16"],
+        &["reload", "over.dbd", "over.in", "over.dbd", "16"],
+    ] {
+        let line = b"an output is one of the files that are read\n";
+        expect(&rt, words, COMMAND_LINE, b"", line)?;
+    }
+    assert_eq!(rt; fs::read(&rt, "over.dbd")?.as_slice(), sample::DBD_SOURCE);
+    assert_eq!(rt;
+        fs::read(&rt, "over.volume")?.as_slice(),
+        sample_with(&[]).as_slice()
+    );
+    assert_eq!(rt; fs::read(&rt, "over.in")?.as_slice(), STREAM);
+    Ok(())
+}
+
+#[test]
+fn reloads_a_stream_into_a_file(rt: HostRuntime) -> Result<(), Fail> {
+    fs::write(&rt, "reload.dbd", sample::DBD_SOURCE)?;
+    fs::write(&rt, "reload.in", STREAM)?;
+    for (blocks, status, out, err) in [
+        ("16", 0, "reloaded 7 segments into 4 blocks\n", ""),
+        ("1", 1, "", "reload refused: Full at record 1\n"),
+        ("2", 1, "", "reload refused: Full at record 1\n"),
+        ("3", 1, "", "reload refused: Full at record 6\n"),
+    ] {
+        let end = play_words(
+            &rt,
+            &["reload", "reload.dbd", "reload.in", "reload.volume", blocks],
+        )?;
+        assert_eq!(rt; end.status, status, "at {blocks}");
+        assert_eq!(rt; end.out.as_slice(), out.as_bytes());
+        assert_eq!(rt; end.err.as_slice(), err.as_bytes());
+        let volume = fs::read(&rt, "reload.volume")?;
+        assert_eq!(rt; volume.starts_with(b"HDVOLUME"), status == 0);
+    }
+    Ok(())
+}
+
+#[test]
+fn refuses_the_first_bad_record(rt: HostRuntime) -> Result<(), Fail> {
+    fs::write(&rt, "refused.dbd", sample::DBD_SOURCE)?;
+    for (records, line) in [
+        (
+            b"\x01\0\x08205LOGIC\x01\0\x08101ALGEB" as &[u8],
+            "reload refused: LC at record 2\n",
+        ),
+        (b"\x03\0\x06ADAM01", "reload refused: LD at record 1\n"),
+        (
+            b"\x01\0\x08101ALGEB\x01\0\x08101ALGEB",
+            "reload refused: LB at record 2\n",
+        ),
+        (
+            b"\x01\0\x08101ALGEB\x04\0\x05EULER\x02\0\x0401AB",
+            "reload refused: LE at record 3\n",
+        ),
+        (b"\x01\0\x08101", "reload refused: U2 at record 1\n"),
+    ] {
+        let mut stream = Vec::new(rt.alloc());
+        stream.extend_from_slice(HEAD)?;
+        stream.extend_from_slice(records)?;
+        fs::write(&rt, "refused.in", &stream)?;
+        let words = [
+            "reload",
+            "refused.dbd",
+            "refused.in",
+            "refused.volume",
+            "16",
+        ];
+        expect(&rt, &words, 1, b"", line.as_bytes())?;
+        assert!(rt; !fs::read(&rt, "refused.volume")?.starts_with(b"HDVOLUME"));
+    }
+    Ok(())
+}
+
+#[test]
+fn asks_for_one_block_to_65_536(rt: HostRuntime) -> Result<(), Fail> {
+    for blocks in ["0", "65537", "many", "-1", ""] {
+        let words = ["reload", "blocks.dbd", "blocks.in", "blocks.volume", blocks];
+        let end = play_words(&rt, &words)?;
+        assert_eq!(rt; end.status, COMMAND_LINE, "at {blocks}");
+        assert!(rt; end.err.len() > 0);
+    }
+    for words in [
+        &["reload", "blocks.dbd", "blocks.in", "blocks.volume"] as &[&str],
+        &["check", "blocks.dbd"],
+        &["unload", "blocks.dbd", "blocks.volume"],
+        &["check", "blocks.dbd", "blocks.volume", "more"],
+    ] {
+        assert_eq!(rt; play_words(&rt, words)?.status, COMMAND_LINE);
+    }
+    Ok(())
+}
