@@ -375,15 +375,21 @@ fn each_access_that_fails_is_told(rt: HostRuntime) -> Result<(), Fail> {
     Ok(())
 }
 
-/// Other values of a byte.
-fn others(byte: u8) -> [u8; 6] {
+/// Other values of a byte: the least, the greatest, its neighbours, and each bit the other way.
+fn others(byte: u8) -> [u8; 12] {
     [
         0,
         0xff,
         byte.wrapping_add(1),
         byte.wrapping_sub(1),
+        byte ^ 0x01,
+        byte ^ 0x02,
+        byte ^ 0x04,
+        byte ^ 0x08,
+        byte ^ 0x10,
+        byte ^ 0x20,
+        byte ^ 0x40,
         byte ^ 0x80,
-        byte ^ 0x18,
     ]
 }
 
