@@ -331,15 +331,22 @@ fn changes_no_byte(rt: HostRuntime) -> Result<(), Fail> {
     Ok(())
 }
 
-/// What a check answers over a fuse that passes so many accesses; `None` where the load already meets the one that fails.
-fn fused(alloc: Global, dbd: &Dbd, bytes: &[u8], passes: u64) -> Option<Result<Passed, CheckFault>>
+/// What a check answers over a fuse that passes so many accesses, and whether it met the one that fails; `None` where the load
+/// already meets it.
+fn fused(
+    alloc: Global,
+    dbd: &Dbd,
+    bytes: &[u8],
+    passes: u64,
+) -> Option<(Result<Passed, CheckFault>, bool)>
     requires { dbd.now.block_size ≡ 128 }
 {
     let store = FuseStore::new(store_of(alloc, bytes)?, passes);
-    match Volume::load(alloc, store, dbd) {
-        Ok(mut volume) => Some(check(alloc, &mut volume, dbd)),
-        Err(_) => None,
-    }
+    let Ok(mut volume) = Volume::load(alloc, store, dbd) else {
+        return None;
+    };
+    let answer = check(alloc, &mut volume, dbd);
+    Some((answer, volume.into_store().accesses() > passes))
 }
 
 /// How many accesses a check of an image makes, where it answers `Device` for each that fails and else this; `None` where it
@@ -354,11 +361,11 @@ fn told_accesses(
 {
     let mut told = 0u32;
     for passes in 0..100 {
-        let answer = fused(alloc, dbd, bytes, passes);
-        if answer == Some(Err(CheckFault::Device)) {
-            told += 1;
-        } else if answer.is_some() {
-            return if answer == wanted { Some(told) } else { None };
+        match fused(alloc, dbd, bytes, passes) {
+            None => {}
+            Some((Err(CheckFault::Device), true)) => told += 1,
+            Some((answer, false)) if Some(answer) == wanted => return Some(told),
+            Some(_) => return None,
         }
     }
     None
