@@ -29,3 +29,6 @@ mod twins;
 
 pub use checking::{CheckFault, Passed, check};
 pub use fault::Fault;
+
+#[cfg(test)]
+mod tests;

@@ -1,0 +1,418 @@
+ghost use Rattle.std.specs.Prelude.{◌≡◌, IfOk, IfSome};
+
+use super::*;
+use hd_dbd::{Dbd, DbdFault, FreeSpace, Key, Name8, Rule, SegType};
+use hd_volume::{FuseStore, MemStore, Volume};
+use std::alloc::{AllocError, Global};
+use std::test::Fail;
+
+/// A type of the sample database without its fields; key 0 for none, which is unique where it has three bytes or fewer.
+fn type_of(alloc: Global, name: Name8, parent: Option<u8>, length: u32, key: u32) -> SegType {
+    SegType {
+        name,
+        parent,
+        length,
+        key: if key == 0 {
+            None
+        } else {
+            Some(Key {
+                start: 1,
+                length: key,
+                unique: key <= 3,
+            })
+        },
+        rule: Rule::Last,
+        backward: key != 4,
+        last_pointer: key == 2 || key == 0,
+        fields: Vec::new(alloc),
+    }
+}
+
+fn sample_types(alloc: Global) -> Result<Vec<SegType>, AllocError> {
+    let course = Name8::from_padded(*b"COURSE  ").unwrap();
+    let class = Name8::from_padded(*b"CLASS   ").unwrap();
+    let student = Name8::from_padded(*b"STUD    ").unwrap();
+    let book = Name8::from_padded(*b"BOOK    ").unwrap();
+    Ok(vec![in alloc;
+        type_of(alloc, course, None, 8, 3),
+        type_of(alloc, class, Some(1), 4, 2),
+        type_of(alloc, student, Some(2), 6, 4),
+        type_of(alloc, book, Some(1), 5, 0),
+    ]?)
+}
+
+/// The sample database.
+fn sample(alloc: Global) -> Result<Dbd, DbdFault>
+    ensures { IfOk result (λ dbd. dbd.block_size ≡ 128) }
+{
+    let name = Name8::from_padded(*b"EDU     ").unwrap();
+    let frspc = FreeSpace { fbff: 0, fspf: 0 };
+    let types = sample_types(alloc)?;
+    Dbd::new(alloc, name, 128, frspc, types)
+}
+
+/// The bytes of the sample image that are not 0, each row with the place where it begins.
+const SAMPLE: [(usize, &[u8]); 12] = [
+    (
+        0,
+        b"HDVOLUME\0\x01\0\x80\0\0\0\x04\0\0\0\x10EDU     \0\0\0\x88\0\0\x01\x18\0\0\0\x03\0\0\0\x01",
+    ),
+    (128, b"\0\0\x01"),
+    (
+        136,
+        b"\x01\0\0\0\x01\x18\0\0\0\0\0\0\0\xb0\0\0\0\xe8\0\0\x01\x08\0\0\x01\x08101ALGEB",
+    ),
+    (176, b"\x02\0\0\0\0\xe8\0\0\0\0\0\0\0\xc801AB"),
+    (200, b"\x03\0\0\0\0\xd8ADAM01"),
+    (216, b"\x03\0\0\0\0\0EVE 02"),
+    (232, b"\x02\0\0\0\0\0\0\0\0\xb0\0\0\0\x0002CD"),
+    (256, b"\0\x40\x01"),
+    (264, b"\x04\0\0\0\0\0\0\0\0\0EULER"),
+    (
+        280,
+        b"\x01\0\0\0\0\0\0\0\0\x88\0\0\0\0\0\0\0\0\0\0\0\0\0\0\0\x00205LOGIC",
+    ),
+    (320, b"\0\0\0\x40"),
+    (
+        384,
+        b"\0\0\x02\0\0\x02\0\0\0\0\0\0101\0\0\0\x88205\0\0\x01\x18",
+    ),
+];
+
+/// Writes bytes at a place of an image, as far as the image goes.
+fn put(image: &mut [u8], place: usize, bytes: &[u8]) {
+    for (target, byte) in image.iter_mut().skip(place).zip(bytes) {
+        *target = *byte;
+    }
+}
+
+/// The sample image, of four blocks.
+fn image() -> [u8; 512] {
+    let mut bytes = [0; 512];
+    for row in &SAMPLE {
+        put(&mut bytes, row.0, row.1);
+    }
+    bytes
+}
+
+/// A store of an image; `None` where there is no memory for it.
+fn store_of(alloc: Global, bytes: &[u8]) -> Option<MemStore>
+    ensures { IfSome result (λ store. store.size ≡ 128) }
+{
+    let mut image = Vec::new(alloc);
+    image.extend_from_slice(bytes).ok()?;
+    Some(MemStore::new(128, image))
+}
+
+/// What a check of an image answers; `None` where there is no memory for the image itself.
+fn judged(alloc: Global, dbd: &Dbd, bytes: &[u8]) -> Option<Result<Passed, CheckFault>>
+    requires { dbd.now.block_size ≡ 128 }
+{
+    match Volume::load(alloc, store_of(alloc, bytes)?, dbd) {
+        Ok(mut volume) => Some(check(alloc, &mut volume, dbd)),
+        Err(_) => None,
+    }
+}
+
+/// What a check of the sample answers with other bytes at a place.
+fn edited(alloc: Global, dbd: &Dbd, edits: &[(usize, u8)]) -> Option<Result<Passed, CheckFault>>
+    requires { dbd.now.block_size ≡ 128 }
+{
+    let mut bytes = image();
+    for edit in edits {
+        if edit.0 < 512 {
+            bytes[edit.0] = edit.1;
+        }
+    }
+    judged(alloc, dbd, &bytes)
+}
+
+/// A fault of a check.
+fn fault(number: u8, address: u32, other: u32) -> Option<Result<Passed, CheckFault>> {
+    Some(Err(CheckFault::Fault(Fault {
+        number,
+        address,
+        other,
+    })))
+}
+
+/// The sample passes so.
+fn passes() -> Option<Result<Passed, CheckFault>> {
+    Some(Ok(Passed {
+        blocks: 4,
+        segments: 7,
+        roots: 2,
+    }))
+}
+
+#[test]
+fn passes_the_sample(rt: HostRuntime) -> Result<(), Fail> {
+    let dbd = sample(rt.alloc()).expect(&rt, "a database");
+    assert_eq!(rt; judged(rt.alloc(), &dbd, &image()), passes());
+    assert_eq!(rt; edited(rt.alloc(), &dbd, &[(19, 4)]), passes());
+    Ok(())
+}
+
+#[test]
+fn names_each_fault_by_its_edit(rt: HostRuntime) -> Result<(), Fail> {
+    let alloc = rt.alloc();
+    let dbd = sample(alloc).expect(&rt, "a database");
+    assert_eq!(rt; edited(alloc, &dbd, &[(9, 9)]), fault(2, 0, 9));
+    assert_eq!(rt; edited(alloc, &dbd, &[(20, 0x46)]), fault(3, 0, 0));
+    assert_eq!(rt; edited(alloc, &dbd, &[(327, 1)]), fault(4, 256, 0));
+    assert_eq!(rt; edited(alloc, &dbd, &[(264, 5)]), fault(5, 264, 0));
+    assert_eq!(rt; edited(alloc, &dbd, &[(177, 1)]), fault(6, 176, 1));
+    assert_eq!(rt; edited(alloc, &dbd, &[(157, 9)]), fault(7, 136, 265));
+    assert_eq!(rt; edited(alloc, &dbd, &[(157, 0x18)]), fault(8, 136, 280));
+    assert_eq!(rt;
+        edited(alloc, &dbd, &[(293, 0xe8), (297, 0xe8)]),
+        fault(9, 232, 280)
+    );
+    assert_eq!(rt;
+        edited(alloc, &dbd, &[(156, 0), (157, 0), (160, 0), (161, 0)]),
+        fault(10, 264, 0)
+    );
+    assert_eq!(rt; edited(alloc, &dbd, &[(241, 0)]), fault(11, 232, 0));
+    assert_eq!(rt; edited(alloc, &dbd, &[(153, 0xb0)]), fault(12, 136, 176));
+    assert_eq!(rt; edited(alloc, &dbd, &[(247, 0x31)]), fault(13, 232, 176));
+    assert_eq!(rt; edited(alloc, &dbd, &[(387, 1)]), fault(15, 0, 3));
+    assert_eq!(rt; edited(alloc, &dbd, &[(403, 0x30)]), fault(16, 384, 280));
+    assert_eq!(rt; edited(alloc, &dbd, &[(398, 0x32)]), fault(17, 384, 136));
+    assert_eq!(rt; edited(alloc, &dbd, &[(389, 1)]), fault(18, 280, 0));
+    assert_eq!(rt; edited(alloc, &dbd, &[(258, 7)]), fault(19, 256, 0));
+    assert_eq!(rt;
+        edited(alloc, &dbd, &[(34, 0), (35, 0x88)]),
+        fault(20, 0, 136)
+    );
+    Ok(())
+}
+
+#[test]
+fn names_the_least_of_several_faults(rt: HostRuntime) -> Result<(), Fail> {
+    let alloc = rt.alloc();
+    let dbd = sample(alloc).expect(&rt, "a database");
+    assert_eq!(rt; edited(alloc, &dbd, &[(19, 3)]), fault(1, 0, 0));
+    assert_eq!(rt; edited(alloc, &dbd, &[(257, 0x80)]), fault(4, 256, 0));
+    assert_eq!(rt; edited(alloc, &dbd, &[(323, 0x48)]), fault(4, 256, 0));
+    assert_eq!(rt; edited(alloc, &dbd, &[(323, 0x38)]), fault(5, 376, 0));
+    assert_eq!(rt;
+        edited(alloc, &dbd, &[(177, 1), (258, 7)]),
+        fault(19, 256, 0)
+    );
+    assert_eq!(rt;
+        edited(alloc, &dbd, &[(157, 9), (177, 1)]),
+        fault(7, 136, 265)
+    );
+    assert_eq!(rt; edited(alloc, &dbd, &[(389, 0)]), fault(18, 136, 0));
+    Ok(())
+}
+
+/// The sample with two books that name each other, and that nothing else names.
+fn ring() -> [u8; 512] {
+    let mut bytes = image();
+    bytes[257] = 0x60;
+    put(&mut bytes, 320, b"\x04\0\0\0\x01\x50\0\0\x01\x50ONE  \0");
+    put(&mut bytes, 336, b"\x04\0\0\0\x01\x40\0\0\x01\x40TWO  \0");
+    put(&mut bytes, 352, b"\0\0\0\x20");
+    bytes
+}
+
+#[test]
+fn finds_rings_and_segments_out_of_place(rt: HostRuntime) -> Result<(), Fail> {
+    let alloc = rt.alloc();
+    let dbd = sample(alloc).expect(&rt, "a database");
+    assert_eq!(rt; judged(alloc, &dbd, &ring()), fault(14, 320, 0));
+    let mut alone = image();
+    alone[257] = 0x50;
+    put(&mut alone, 320, b"\x04\0\0\0\x01\x40\0\0\x01\x40ONE  ");
+    put(&mut alone, 336, b"\0\0\0\x30");
+    assert_eq!(rt; judged(alloc, &dbd, &alone), fault(14, 320, 0));
+    assert_eq!(rt; edited(alloc, &dbd, &[(245, 0xd8)]), fault(9, 216, 232));
+    assert_eq!(rt; edited(alloc, &dbd, &[(245, 0xd8), (205, 0)]), passes());
+    Ok(())
+}
+
+#[test]
+fn cuts_are_no_volume(rt: HostRuntime) -> Result<(), Fail> {
+    let alloc = rt.alloc();
+    let dbd = sample(alloc).expect(&rt, "a database");
+    let whole = image();
+    for length in 0..512 {
+        assert_eq!(rt; judged(alloc, &dbd, &whole[..length]), fault(1, 0, 0));
+    }
+    let mut longer = [0; 513];
+    longer[..512].copy_from_slice(&whole);
+    assert_eq!(rt; judged(alloc, &dbd, &longer), fault(1, 0, 0));
+    Ok(())
+}
+
+#[test]
+fn finds_what_names_itself_or_nothing(rt: HostRuntime) -> Result<(), Fail> {
+    let alloc = rt.alloc();
+    let dbd = sample(alloc).expect(&rt, "a database");
+    assert_eq!(rt; edited(alloc, &dbd, &[(321, 0x40)]), fault(4, 256, 0));
+    assert_eq!(rt; edited(alloc, &dbd, &[(395, 3)]), fault(15, 384, 0));
+    assert_eq!(rt;
+        edited(alloc, &dbd, &[(306, 0x31), (308, 0x31)]),
+        fault(13, 280, 136)
+    );
+    assert_eq!(rt;
+        edited(alloc, &dbd, &[(140, 4), (141, 0)]),
+        fault(7, 136, 1024)
+    );
+    assert_eq!(rt; edited(alloc, &dbd, &[(30, 4), (31, 0)]), fault(7, 0, 1024));
+    let mut beyond = image();
+    put(&mut beyond, 138, &[0xff; 4]);
+    assert_eq!(rt; judged(alloc, &dbd, &beyond), fault(7, 136, u32::MAX));
+    Ok(())
+}
+
+/// A header without roots, 64 blocks of a kind, and an index block without entries, which is the top.
+fn alike(kind: u8) -> [u8; 8448] {
+    let mut bytes = [0; 8448];
+    put(
+        &mut bytes,
+        0,
+        b"HDVOLUME\0\x01\0\x80\0\0\0\x42\0\0\0\x42EDU     \0\0\0\0\0\0\0\0\0\0\0\x41\0\0\0\x01",
+    );
+    for n in 1..65 {
+        put(&mut bytes, n * 128 + 2, &[kind]);
+    }
+    put(&mut bytes, 8322, b"\x02");
+    bytes
+}
+
+#[test]
+fn judges_64_blocks_of_a_kind(rt: HostRuntime) -> Result<(), Fail> {
+    let alloc = rt.alloc();
+    let dbd = sample(alloc).expect(&rt, "a database");
+    let empty = Some(Ok(Passed {
+        blocks: 66,
+        segments: 0,
+        roots: 0,
+    }));
+    assert_eq!(rt; judged(alloc, &dbd, &alike(3)), empty);
+    assert_eq!(rt; judged(alloc, &dbd, &alike(2)), fault(19, 128, 0));
+    assert_eq!(rt; judged(alloc, &dbd, &alike(1)), fault(5, 136, 0));
+    assert_eq!(rt; judged(alloc, &dbd, &alike(7)), fault(19, 128, 0));
+    let mut bare = alike(3);
+    put(&mut bare, 36, &[0; 8]);
+    put(&mut bare, 8322, b"\x03");
+    assert_eq!(rt; judged(alloc, &dbd, &bare), empty);
+    let mut topless = alike(2);
+    put(&mut topless, 36, &[0; 8]);
+    assert_eq!(rt; judged(alloc, &dbd, &topless), fault(15, 128, 0));
+    Ok(())
+}
+
+/// Whether the store holds the bytes that it held, after a check and a flush; `None` where there is no memory for it.
+fn is_left(alloc: Global, dbd: &Dbd, bytes: &[u8]) -> Option<bool>
+    requires { dbd.now.block_size ≡ 128 }
+{
+    let Ok(mut volume) = Volume::load(alloc, store_of(alloc, bytes)?, dbd) else {
+        return None;
+    };
+    let _answer = check(alloc, &mut volume, dbd);
+    volume.flush().ok()?;
+    Some(volume.into_store().into_bytes().as_slice() == bytes)
+}
+
+#[test]
+fn changes_no_byte(rt: HostRuntime) -> Result<(), Fail> {
+    let alloc = rt.alloc();
+    let dbd = sample(alloc).expect(&rt, "a database");
+    let mut faulty = image();
+    put(&mut faulty, 403, b"0");
+    assert_eq!(rt; judged(alloc, &dbd, &faulty), fault(16, 384, 280));
+    assert_eq!(rt; is_left(alloc, &dbd, &image()), Some(true));
+    assert_eq!(rt; is_left(alloc, &dbd, &ring()), Some(true));
+    assert_eq!(rt; is_left(alloc, &dbd, &faulty), Some(true));
+    assert_eq!(rt; is_left(alloc, &dbd, &alike(2)), Some(true));
+    Ok(())
+}
+
+/// What a check answers over a fuse that passes so many accesses, and whether it met the one that fails; `None` where the load
+/// already meets it.
+fn fused(
+    alloc: Global,
+    dbd: &Dbd,
+    bytes: &[u8],
+    passes: u64,
+) -> Option<(Result<Passed, CheckFault>, bool)>
+    requires { dbd.now.block_size ≡ 128 }
+{
+    let store = FuseStore::new(store_of(alloc, bytes)?, passes);
+    let Ok(mut volume) = Volume::load(alloc, store, dbd) else {
+        return None;
+    };
+    let answer = check(alloc, &mut volume, dbd);
+    Some((answer, volume.into_store().accesses() > passes))
+}
+
+/// How many accesses a check of an image makes, where it answers `Device` for each that fails and else this; `None` where it
+/// answers anything else, or makes more than 100.
+fn told_accesses(
+    alloc: Global,
+    dbd: &Dbd,
+    bytes: &[u8],
+    wanted: Option<Result<Passed, CheckFault>>,
+) -> Option<u32>
+    requires { dbd.now.block_size ≡ 128 }
+{
+    let mut told = 0u32;
+    for passes in 0..100 {
+        match fused(alloc, dbd, bytes, passes) {
+            None => {}
+            Some((Err(CheckFault::Device), true)) => told += 1,
+            Some((answer, false)) if Some(answer) == wanted => return Some(told),
+            Some(_) => return None,
+        }
+    }
+    None
+}
+
+#[test]
+fn each_access_that_fails_is_told(rt: HostRuntime) -> Result<(), Fail> {
+    let alloc = rt.alloc();
+    let dbd = sample(alloc).expect(&rt, "a database");
+    let sound = told_accesses(alloc, &dbd, &image(), passes());
+    assert!(rt; sound.is_some_and(|count| count > 2 && count <= 16));
+    let ringed = told_accesses(alloc, &dbd, &ring(), fault(14, 320, 0));
+    assert!(rt; ringed.is_some_and(|count| count > 2 && count <= 16));
+    Ok(())
+}
+
+/// Other values of a byte: the least, the greatest, its neighbours, and each bit the other way.
+fn others(byte: u8) -> [u8; 12] {
+    [
+        0,
+        0xff,
+        byte.wrapping_add(1),
+        byte.wrapping_sub(1),
+        byte ^ 0x01,
+        byte ^ 0x02,
+        byte ^ 0x04,
+        byte ^ 0x08,
+        byte ^ 0x10,
+        byte ^ 0x20,
+        byte ^ 0x40,
+        byte ^ 0x80,
+    ]
+}
+
+#[test]
+fn returns_for_each_change_of_a_byte(rt: HostRuntime) -> Result<(), Fail> {
+    let alloc = rt.alloc();
+    let dbd = sample(alloc).expect(&rt, "a database");
+    let whole = image();
+    for place in 0..512 {
+        for byte in others(whole[place]) {
+            match edited(alloc, &dbd, &[(place, byte)]) {
+                Some(Ok(passed)) => assert_eq!(rt; passed.blocks, 4),
+                Some(Err(CheckFault::Fault(_))) => {}
+                _ => assert!(rt; false, "another answer at {place}"),
+            }
+        }
+    }
+    Ok(())
+}
