@@ -25,7 +25,7 @@ pub enum Stop {
     Fault(Fault),
     #[error("reload refused: {0}")]
     Reload(ReloadFault),
-    #[error("an output is one of the files that are read")]
+    #[error("output file is also an input, nothing was changed")]
     OverInput,
     #[error("device failed")]
     Device,

@@ -30,7 +30,7 @@ pub fn read_words(alloc: Global, words: &[String]) -> Result<Request<'_>, Error>
         .bin_name("hd")?
         .version("0.1.0")
         .about(
-            "A hierarchical database. Without a command it plays a deck of DL/I calls, read from standard input, over a sample",
+            "A hierarchical database. Without a command it plays a deck of DL/I calls, read from standard input, over a built-in sample database",
         )
         .no_binary_name(true)
         .subcommand(check_command(alloc)?)?
@@ -63,8 +63,8 @@ pub fn read_words(alloc: Global, words: &[String]) -> Result<Request<'_>, Error>
 /// The words of `hd check`.
 fn check_command<'a>(alloc: Global) -> Result<Command<'a>, Error> {
     let command = Command::new(alloc, "check")
-        .about("Says whether a volume is sound, or names its least fault")
-        .arg(file_word(alloc, "DBD", "The source of the database"))?
+        .about("Says whether a volume is sound, or names its first fault")
+        .arg(file_word(alloc, "DBD", "The file with the DBD source"))?
         .arg(file_word(alloc, "VOLUME", "The volume, which is not changed"))?;
     Ok(command)
 }
@@ -73,12 +73,12 @@ fn check_command<'a>(alloc: Global) -> Result<Command<'a>, Error> {
 fn unload_command<'a>(alloc: Global) -> Result<Command<'a>, Error> {
     let command = Command::new(alloc, "unload")
         .about("Checks a volume, and writes its unload stream")
-        .arg(file_word(alloc, "DBD", "The source of the database"))?
+        .arg(file_word(alloc, "DBD", "The file with the DBD source"))?
         .arg(file_word(alloc, "VOLUME", "The volume, which is not changed"))?
         .arg(file_word(
             alloc,
             "OUT",
-            "The unload stream, which is made, or cut to nothing first",
+            "The unload stream, made or cut to nothing first, even where the volume does not pass",
         ))?;
     Ok(command)
 }
@@ -87,16 +87,16 @@ fn unload_command<'a>(alloc: Global) -> Result<Command<'a>, Error> {
 fn reload_command<'a>(alloc: Global) -> Result<Command<'a>, Error> {
     let blocks = Arg::new(alloc, "BLOCKS")
         .required(true)
-        .help("The most blocks that the volume may have")
+        .help("The most blocks that the volume may have, 1 to 65536")
         .value_parser(value_parser!(u32).range(1..=65_536));
     let command = Command::new(alloc, "reload")
         .about("Makes a volume of an unload stream")
-        .arg(file_word(alloc, "DBD", "The source of the database"))?
+        .arg(file_word(alloc, "DBD", "The file with the DBD source"))?
         .arg(file_word(alloc, "IN", "The unload stream"))?
         .arg(file_word(
             alloc,
             "VOLUME",
-            "The volume, which is made, or cut to nothing first",
+            "The volume, made or cut to nothing first, even where the stream is refused",
         ))?
         .arg(blocks)?;
     Ok(command)

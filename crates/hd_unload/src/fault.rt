@@ -19,7 +19,7 @@ pub enum RecordFault {
     /// The length is not that of the type; or the end counts other records, or bytes follow it.
     #[error("U4")]
     U4,
-    /// The row before it has the same key, which is unique.
+    /// The twin before it has the same key, which is unique.
     #[error("LB")]
     LB,
     /// The twin before it has a greater key.

@@ -13,7 +13,7 @@ use std::io::Write;
 use thiserror::Error;
 
 /// Why a volume is not unloaded. After a fault, or where memory was wanting, nothing is written; after a failed access or a failed
-/// write some first part of the stream may be.
+/// write it is not known what went out.
 #[derive(Clone, Copy, Debug, Drop, PartialEq, Eq, Error)]
 pub enum UnloadFault {
     /// The volume does not pass, or the check came to no end.

@@ -201,7 +201,7 @@ fn writes_over_no_file_that_it_reads(rt: HostRuntime) -> Result<(), Fail> {
         &["reload", "over.dbd", "over.in", "over.in", "16"],
         &["reload", "over.dbd", "over.in", "over.dbd", "16"],
     ] {
-        let line = b"an output is one of the files that are read\n";
+        let line = b"output file is also an input, nothing was changed\n";
         expect(&rt, words, COMMAND_LINE, b"", line)?;
     }
     assert_eq!(rt; fs::read(&rt, "over.dbd")?.as_slice(), sample::DBD_SOURCE);
