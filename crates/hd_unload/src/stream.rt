@@ -1,4 +1,4 @@
-ghost use Rattle.std.specs.Prelude.{◌≡◌, ◌≤◌, ◌<◌, ◌^◌, List, length, IsTrue, IfOk, IfErr, OnOk};
+ghost use Rattle.std.specs.Prelude.{◌≡◌, ◌≤◌, ◌<◌, List, length, IsTrue, IfOk, IfErr, OnOk};
 ghost use Rattle.std.specs.Io.KnownBytes.{Appends};
 ghost use Rattle.hd_dbd.specs.Forest.{Forest};
 ghost use Rattle.hd_dbd.specs.Prefixes.{stored_size};
@@ -10,8 +10,8 @@ ghost use Rattle.hd_links.specs.Placed.{Placed};
 ghost use Rattle.hd_links.specs.Steps.{rows_of};
 ghost use Rattle.hd_image.specs.Records.{links_of, IsVolumeOf};
 ghost use Rattle.hd_image.specs.Holding.{HoldsPlaced, HoldsRows};
-ghost use Rattle.hd_unload.specs.Streams.{head_bytes, record_bytes, records_bytes, end_bytes};
 ghost use Rattle.hd_forest.specs.Walks.{AreSegments, HasForest};
+ghost use Rattle.hd_unload.specs.Streams.{head_bytes, record_bytes, records_bytes, end_bytes};
 ghost use Rattle.hd_unload.specs.Unloads.{IsTurn, IsUnloaded, stream_call};
 
 use crate::fault::StreamFault;

@@ -1,9 +1,11 @@
 ghost use Rattle.std.specs.Prelude.{◌≡◌, ◌≤◌, ◌<◌, IfOk};
 
 use super::*;
-use hd_dbd::{Dbd, DbdFault, FreeSpace, Key, Name8, Rule, SegType};
-use hd_volume::{BlockStore, FuseStore, MemStore};
+use hd_check::{CheckFault, Fault};
+use hd_dbd::{Dbd, DbdFault, FreeSpace, Key, Name8, Refused, Rule, SegType};
+use hd_volume::{BlockStore, FuseStore, MemStore, Volume};
 use std::alloc::{AllocError, Global};
+use std::io::{self, ErrorKind, Write};
 use std::test::Fail;
 
 /// A type of the sample database without its fields; key 0 for none, which is unique where it has three bytes or fewer.
@@ -208,4 +210,146 @@ fn five_thousand_twins_take_717_blocks(rt: HostRuntime) -> Result<(), Fail> {
     records.extend_from_slice(b"\0\0\0\x13\x8a")?;
     assert_eq!(rt; counts_of(alloc, &records, 65536), Some((5002, 717)));
     Ok(())
+}
+
+/// The bytes of a reloaded volume of these records, of at most 16 blocks.
+fn image_of(alloc: Global, records: &[u8]) -> Option<Vec<u8>> {
+    match reloaded(alloc, records, 16)? {
+        Ok(made) => Some(made.2),
+        Err(_) => None,
+    }
+}
+
+/// What an unload of the volume in a store into a writer answers.
+fn unloaded<S: BlockStore + Drop, W: Write>(
+    alloc: Global,
+    dbd: &Dbd,
+    store: S,
+    out: &mut W,
+) -> Result<u32, UnloadFault>
+    requires { S.size store ≡ dbd.now.block_size }
+{
+    match Volume::load(alloc, store, dbd) {
+        Ok(volume) => {
+            let mut volume = volume;
+            unload(alloc, &mut volume, dbd, out)
+        }
+        Err((_, Refused::Device)) => Err(UnloadFault::Check(CheckFault::Device)),
+        Err(_) => Err(UnloadFault::Check(CheckFault::Memory)),
+    }
+}
+
+/// How many segments a volume of these records has, and its stream, which is written without a check.
+fn copied(alloc: Global, dbd: &Dbd, records: &[u8]) -> Option<(u32, Vec<u8>)>
+    requires { dbd.now.block_size ≡ 128 }
+{
+    let bytes = stream(alloc, records).ok()?;
+    let store = MemStore::new(128, Vec::new(alloc));
+    let Ok(made) = reload(alloc, dbd, &bytes, store, 16) else {
+        return None;
+    };
+    let Ok(mut volume) = Volume::load(alloc, made.store, dbd) else {
+        return None;
+    };
+    let mut written = Vec::new(alloc);
+    let segments = write_stream(&mut volume, dbd, &mut written).ok()?;
+    Some((segments, written))
+}
+
+#[test]
+fn unloads_what_was_reloaded(rt: HostRuntime) -> Result<(), Fail> {
+    let alloc = rt.alloc();
+    let dbd = sample(alloc).expect(&rt, "a database");
+    for (records, segments) in [(SAMPLE, 7), (b"\0\0\0\0\0".as_slice(), 0)] {
+        let image = image_of(alloc, records).expect(&rt, "a volume");
+        let whole = stream(alloc, records)?;
+        let mut written = Vec::new(alloc);
+        let result = unloaded(alloc, &dbd, MemStore::new(128, image), &mut written);
+        assert_eq!(rt; result, Ok(segments));
+        assert_eq!(rt; written.as_slice(), whole.as_slice());
+        let (count, bytes) = copied(alloc, &dbd, records).expect(&rt, "a stream");
+        assert_eq!(rt; count, segments);
+        assert_eq!(rt; bytes.as_slice(), whole.as_slice());
+    }
+    Ok(())
+}
+
+#[test]
+fn unloads_nothing_of_an_empty_store(rt: HostRuntime) {
+    let alloc = rt.alloc();
+    let dbd = sample(alloc).expect(&rt, "a database");
+    let mut written = Vec::new(alloc);
+    let result = unloaded(
+        alloc,
+        &dbd,
+        MemStore::new(128, Vec::new(alloc)),
+        &mut written,
+    );
+    let fault = Fault {
+        number: 1,
+        address: 0,
+        other: 0,
+    };
+    assert_eq!(rt; result, Err(UnloadFault::Check(CheckFault::Fault(fault))));
+    assert!(rt; written.is_empty());
+}
+
+#[test]
+fn an_unload_tells_of_each_access_that_fails(rt: HostRuntime) -> Result<(), Fail> {
+    let alloc = rt.alloc();
+    let dbd = sample(alloc).expect(&rt, "a database");
+    let whole = stream(alloc, SAMPLE)?;
+    for passes in 0..200 {
+        let image = image_of(alloc, SAMPLE).expect(&rt, "a volume");
+        let store = FuseStore::new(MemStore::new(128, image), passes);
+        let mut written = Vec::new(alloc);
+        match unloaded(alloc, &dbd, store, &mut written) {
+            Ok(_) => {
+                assert!(rt; passes > 10);
+                assert_eq!(rt; written.as_slice(), whole.as_slice());
+                return Ok(());
+            }
+            Err(fault) => assert_eq!(rt; fault, UnloadFault::Check(CheckFault::Device)),
+        }
+    }
+    assert!(rt; false, "no end");
+    Ok(())
+}
+
+/// A writer that takes so many pieces, and then fails.
+#[derive(Drop)]
+struct Brittle {
+    pieces: u64,
+}
+
+impl Write for Brittle {
+    fn write(&mut self, buf: &[u8]) -> io::Result<usize> {
+        if self.pieces == 0 {
+            return Err(io::Error::from(ErrorKind::StorageFull));
+        }
+        self.pieces -= 1;
+        Ok(buf.len())
+    }
+
+    fn flush(&mut self) -> io::Result<()> {
+        Ok(())
+    }
+}
+
+#[test]
+fn an_unload_tells_of_each_write_that_fails(rt: HostRuntime) {
+    let alloc = rt.alloc();
+    let dbd = sample(alloc).expect(&rt, "a database");
+    for pieces in 0..100 {
+        let image = image_of(alloc, SAMPLE).expect(&rt, "a volume");
+        let mut out = Brittle { pieces };
+        match unloaded(alloc, &dbd, MemStore::new(128, image), &mut out) {
+            Ok(_) => {
+                assert!(rt; pieces > 7);
+                return;
+            }
+            Err(fault) => assert_eq!(rt; fault, UnloadFault::Write),
+        }
+    }
+    assert!(rt; false, "no end");
 }

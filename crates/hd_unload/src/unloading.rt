@@ -38,12 +38,12 @@ pub fn unload<S: BlockStore, W: Write>(
     ensures fault { IfErr result (λ e. IsTrue volume.old.is_sound → IsUnloadFaultOf dbd.now volume.old e) }
     ensures nothing { IfErr result (λ e. ComesFirst e → out.new ≡ out.old) }
 {
-    if let Err(fault) = check(alloc, volume, dbd) {
-        return Err(UnloadFault::Check(fault));
-    }
-    match write_stream(volume, dbd, out) {
-        Ok(segments) => Ok(segments),
-        Err(StreamFault::Device) => Err(UnloadFault::Check(CheckFault::Device)),
-        Err(StreamFault::Write) => Err(UnloadFault::Write),
+    match check(alloc, volume, dbd) {
+        Ok(_) => match write_stream(volume, dbd, out) {
+            Ok(segments) => Ok(segments),
+            Err(StreamFault::Device) => Err(UnloadFault::Check(CheckFault::Device)),
+            Err(StreamFault::Write) => Err(UnloadFault::Write),
+        },
+        Err(fault) => Err(UnloadFault::Check(fault)),
     }
 }

@@ -9,19 +9,19 @@ use Rattle.hd_unload.proofs.unloading.unload.Goals as goal
 pub write_stream-requires : goal.write_stream-requires
 write_stream-requires g c = record {
   holds = λ now.
-      let read = c.in_default.ensures.read in
-      let p = c.in_default.ensures.passed (sound-before c.args.volume.now c.check.new.volume read now) in
+      let read = c.in-Ok.ensures.read in
+      let p = c.in-Ok.ensures.passed (sound-before c.args.volume.now c.check.new.volume read now) in
       (rows_of p.placed, (p.placed, refl, held-same c.args.dbd.now c.args.volume.now c.check.new.volume (read.image now) read.call.size read.call.sizes p.placed p.holds));
 }
 
-pub returns-in-Ok-clause-read : goal.returns-in-Ok-clause-read
-returns-in-Ok-clause-read g c = reads-join (Ok c.in-Ok.segments) c.in_default.ensures.read c.in-Ok.ensures.read
+pub returns-in-Ok-write_stream-clause-read : goal.returns-in-Ok-write_stream-clause-read
+returns-in-Ok-write_stream-clause-read g c = reads-join (Ok c.in-Ok-write_stream.segments) c.in-Ok.ensures.read c.in-Ok-write_stream.ensures.read
 
-pub returns-in-Ok-clause-unloaded : goal.returns-in-Ok-clause-unloaded
-returns-in-Ok-clause-unloaded g c = λ sound.
-    let read = c.in_default.ensures.read in
+pub returns-in-Ok-write_stream-clause-unloaded : goal.returns-in-Ok-write_stream-clause-unloaded
+returns-in-Ok-write_stream-clause-unloaded g c = λ sound.
+    let read = c.in-Ok.ensures.read in
     let now : IsTrue c.check.new.volume.is_sound = rw read.call.sound sound in
-    let w = c.in-Ok.ensures.written now in
+    let w = c.in-Ok-write_stream.ensures.written now in
     record {
       rows = w.rows;
       holds = (w.holds.0, w.holds.1, held-same c.args.dbd.now c.check.new.volume c.args.volume.now (sym (read.image now)) (sym read.call.size) (sym read.call.sizes) w.holds.0 w.holds.2);
@@ -32,4 +32,4 @@ returns-in-Ok-clause-unloaded g c = λ sound.
 pub returns-in-Err-Write-clause-read : goal.returns-in-Err-Write-clause-read
 returns-in-Err-Write-clause-read g c =
     let last = rw c.in-Err-Write.field-0-is at c.in-Err-Write.ensures.read in
-    reads-join (Err Full) c.in_default.ensures.read last
+    reads-join (Err Full) c.in-Ok.ensures.read last
