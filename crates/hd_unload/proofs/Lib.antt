@@ -6,3 +6,4 @@ pub mod WorkedStreams
 pub mod Loaded
 pub mod LoadedRoots
 pub mod Writing
+pub mod Streaming
