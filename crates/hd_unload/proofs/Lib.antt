@@ -7,3 +7,4 @@ pub mod Loaded
 pub mod LoadedRoots
 pub mod Writing
 pub mod Streaming
+pub mod HeldStreams
