@@ -8,3 +8,4 @@ pub mod LoadedRoots
 pub mod Writing
 pub mod Streaming
 pub mod HeldStreams
+pub mod Accepting

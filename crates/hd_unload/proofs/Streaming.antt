@@ -23,7 +23,7 @@ pub code-some : (types : List SegmentType) (r : Segment) → row_fits types r �
 code-some types r fits = (let t = typed types r fits in (type_within types r.code t.0 t.1).0)
 
 -- the records of two rows that fit begin the same bytes only where they are one row, and the same bytes follow
-pub one-record : (types : List SegmentType) (r s : Segment) (a b : List ℕ) → row_fits types r ≡ true → row_fits types s ≡ true → record_bytes r ++ a ≡ record_bytes s ++ b → (r ≡ s) × (a ≡ b)
+one-record : (types : List SegmentType) (r s : Segment) (a b : List ℕ) → row_fits types r ≡ true → row_fits types s ≡ true → record_bytes r ++ a ≡ record_bytes s ++ b → (r ≡ s) × (a ≡ b)
 one-record types r s a b fits other is =
     let code : r.code ≡ s.code = ap (λ (xs : List ℕ). get_or xs 0 0) is in
     let t = typed types r fits in
@@ -37,7 +37,7 @@ one-record types r s a b fits other is =
 
 -- ---- all records
 
--- valid rows fit, the first of them before the others
+-- the first of valid rows fits
 pub first-fits : (types : List SegmentType) (path : List Segment) (r : Segment) (rows : List Segment) → valid_from types path (r ∷ rows) ≡ true → row_fits types r ≡ true
 first-fits types path r rows valid = (and_parts _ _ (and_parts _ _ (and_parts _ _ valid).0).0).0
 
@@ -45,8 +45,8 @@ first-fits types path r rows valid = (and_parts _ _ (and_parts _ _ (and_parts _ 
 no-end : (types : List SegmentType) (r : Segment) (n : ℕ) (a : List ℕ) → row_fits types r ≡ true → end_bytes n ≡ record_bytes r ++ a → ⊥
 no-end types r n a fits is = (let some = code-some types r fits in let none : 0 ≡ r.code = ap (λ (xs : List ℕ). get_or xs 0 0) is in omega arith)
 
--- where valid rows begin the records of others that an end follows, they are the first of those, and the others and the end follow
-pub first-rows : (types : List SegmentType) (path way : List Segment) (rows others : List Segment) (n : ℕ) (rest : List ℕ) → valid_from types path rows ≡ true → valid_from types way others ≡ true
+-- valid rows whose records begin those of others and an end are the first of the others, and the rest of them and the end follow
+first-rows : (types : List SegmentType) (path way : List Segment) (rows others : List Segment) (n : ℕ) (rest : List ℕ) → valid_from types path rows ≡ true → valid_from types way others ≡ true
     → records_bytes rows ++ end_bytes n ≡ records_bytes others ++ rest
     → (more : List Segment) × (rows ≡ others ++ more) × (rest ≡ records_bytes more ++ end_bytes n)
 first-rows types path way rows [] n rest valid other is = (rows, refl, sym is)
@@ -58,7 +58,7 @@ first-rows types path way (r ∷ rows) (s ∷ others) n rest valid other is =
     let more = first-rows types (next_path types path r) (next_path types way s) rows others n rest (and_parts _ _ valid).1 (and_parts _ _ other).1 one.1 in
     (more.0, ap₂ (λ (x : Segment) (xs : List Segment). x ∷ xs) one.0 more.1, more.2)
 
--- no rows that fit stand before an end that is one alone
+-- where valid rows and an end are spelled as an end alone, there are no rows
 none-more : (types : List SegmentType) (path more : List Segment) (n m : ℕ) → valid_from types path more ≡ true → end_bytes m ≡ records_bytes more ++ end_bytes n → more ≡ []
 none-more types path [] n m valid is = refl
 none-more types path (r ∷ more) n m valid is =
@@ -69,7 +69,7 @@ pub behind-valid : (types : List SegmentType) (path rows more : List Segment) �
 behind-valid types path [] more valid = (path, valid)
 behind-valid types path (r ∷ rows) more valid = behind-valid types (next_path types path r) rows more (and_parts _ _ valid).1
 
--- rows that a stream begins with are the first of its rows, and the others and the end follow
+-- valid rows that a stream begins with are the first of its rows, and the rest of them and the end follow
 pub spelled-first : (d : Database) (stream : List ℕ) (rows others : List Segment) (rest : List ℕ) → IsStreamOf d stream rows → valid_from d.types [] others ≡ true
     → stream ≡ head_bytes d ++ records_bytes others ++ rest
     → (more : List Segment) × (rows ≡ others ++ more) × (rest ≡ records_bytes more ++ end_bytes (length rows))
