@@ -5,7 +5,7 @@ pub fn law_streams_spell_one_list()
     ensures { StreamsSpellOneList }
 {}
 
-/// Of a stream that spells rows no record is refused.
+/// Of a stream that spells rows no record is refused, of a database whose name has its eight bytes.
 pub fn law_streams_are_not_refused()
     ensures { StreamsAreNotRefused }
 {}
