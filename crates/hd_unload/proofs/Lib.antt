@@ -6,3 +6,6 @@ pub mod WorkedStreams
 pub mod Loaded
 pub mod LoadedRoots
 pub mod Writing
+pub mod Streaming
+pub mod HeldStreams
+pub mod Accepting

@@ -4,3 +4,4 @@ pub mod Paths
 pub mod Steps
 pub mod Refusals
 pub mod Unloads
+pub mod Laws

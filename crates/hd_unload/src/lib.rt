@@ -3,6 +3,7 @@
 
 mod fault;
 mod judge;
+mod law;
 mod load;
 mod loading;
 mod path;
@@ -13,6 +14,9 @@ mod tests;
 mod unloading;
 
 pub use fault::{RecordFault, ReloadFault, StreamFault};
+pub use law::{
+    law_held_rows_have_a_stream, law_streams_are_not_refused, law_streams_spell_one_list,
+};
 pub use loading::{Reloaded, reload};
 pub use stream::write_stream;
 pub use unloading::{UnloadFault, unload};
