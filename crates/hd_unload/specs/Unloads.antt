@@ -11,7 +11,7 @@ use Rattle.hd_links.specs.Links.{Links, segment_at}
 use Rattle.hd_image.specs.Holding.{HoldsRows}
 use Rattle.hd_forest.specs.Walks.{tip, next_on, AreSegments}
 use Rattle.hd_check.specs.declared.checking.CheckFault.TheVariants as check
-use Rattle.hd_check.specs.Checks.{IsFaultOf}
+use Rattle.hd_check.specs.Checks.{IsFaultOf, as_call}
 use Rattle.hd_unload.specs.declared.fault.StreamFault.{StreamFault}
 use Rattle.hd_unload.specs.declared.fault.StreamFault.TheVariants as stream
 use Rattle.hd_unload.specs.declared.unloading.UnloadFault.{UnloadFault}
@@ -41,9 +41,7 @@ stream_call (Err stream.Write) = Err refused.Full
 -- the same of an unload's result
 abbrev pub unload_call : {T : Type 0} → Result T UnloadFault → Result T Refused
 unload_call (Ok x) = Ok x
-unload_call (Err (unload.Check (check.Fault fault))) = Err refused.Full
-unload_call (Err (unload.Check check.Memory)) = Err refused.Memory
-unload_call (Err (unload.Check check.Device)) = Err refused.Device
+unload_call (Err (unload.Check fault)) = as_call (Err fault)
 unload_call (Err unload.Write) = Err refused.Full
 
 -- What a refusal of an unload says of the volume: a fault is the least that stands in it, as a check's is.
