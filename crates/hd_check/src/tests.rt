@@ -1,99 +1,11 @@
-ghost use Rattle.std.specs.Prelude.{◌≡◌, IfOk, IfSome};
+ghost use Rattle.std.specs.Prelude.{◌≡◌, IfSome};
 
 use super::*;
-use hd_dbd::{Dbd, DbdFault, FreeSpace, Key, Name8, Rule, SegType};
+use hd_dbd::Dbd;
+use hd_sample::{database, image, put};
 use hd_volume::{FuseStore, MemStore, Volume};
-use std::alloc::{AllocError, Global};
+use std::alloc::Global;
 use std::test::Fail;
-
-/// A type of the sample database without its fields; key 0 for none, which is unique where it has three bytes or fewer.
-fn type_of(alloc: Global, name: Name8, parent: Option<u8>, length: u32, key: u32) -> SegType {
-    SegType {
-        name,
-        parent,
-        length,
-        key: if key == 0 {
-            None
-        } else {
-            Some(Key {
-                start: 1,
-                length: key,
-                unique: key <= 3,
-            })
-        },
-        rule: Rule::Last,
-        backward: key != 4,
-        last_pointer: key == 2 || key == 0,
-        fields: Vec::new(alloc),
-    }
-}
-
-fn sample_types(alloc: Global) -> Result<Vec<SegType>, AllocError> {
-    let course = Name8::from_padded(*b"COURSE  ").unwrap();
-    let class = Name8::from_padded(*b"CLASS   ").unwrap();
-    let student = Name8::from_padded(*b"STUD    ").unwrap();
-    let book = Name8::from_padded(*b"BOOK    ").unwrap();
-    Ok(vec![in alloc;
-        type_of(alloc, course, None, 8, 3),
-        type_of(alloc, class, Some(1), 4, 2),
-        type_of(alloc, student, Some(2), 6, 4),
-        type_of(alloc, book, Some(1), 5, 0),
-    ]?)
-}
-
-/// The sample database.
-fn sample(alloc: Global) -> Result<Dbd, DbdFault>
-    ensures { IfOk result (λ dbd. dbd.block_size ≡ 128) }
-{
-    let name = Name8::from_padded(*b"EDU     ").unwrap();
-    let frspc = FreeSpace { fbff: 0, fspf: 0 };
-    let types = sample_types(alloc)?;
-    Dbd::new(alloc, name, 128, frspc, types)
-}
-
-/// The bytes of the sample image that are not 0, each row with the place where it begins.
-const SAMPLE: [(usize, &[u8]); 12] = [
-    (
-        0,
-        b"HDVOLUME\0\x01\0\x80\0\0\0\x04\0\0\0\x10EDU     \0\0\0\x88\0\0\x01\x18\0\0\0\x03\0\0\0\x01",
-    ),
-    (128, b"\0\0\x01"),
-    (
-        136,
-        b"\x01\0\0\0\x01\x18\0\0\0\0\0\0\0\xb0\0\0\0\xe8\0\0\x01\x08\0\0\x01\x08101ALGEB",
-    ),
-    (176, b"\x02\0\0\0\0\xe8\0\0\0\0\0\0\0\xc801AB"),
-    (200, b"\x03\0\0\0\0\xd8ADAM01"),
-    (216, b"\x03\0\0\0\0\0EVE 02"),
-    (232, b"\x02\0\0\0\0\0\0\0\0\xb0\0\0\0\x0002CD"),
-    (256, b"\0\x40\x01"),
-    (264, b"\x04\0\0\0\0\0\0\0\0\0EULER"),
-    (
-        280,
-        b"\x01\0\0\0\0\0\0\0\0\x88\0\0\0\0\0\0\0\0\0\0\0\0\0\0\0\x00205LOGIC",
-    ),
-    (320, b"\0\0\0\x40"),
-    (
-        384,
-        b"\0\0\x02\0\0\x02\0\0\0\0\0\0101\0\0\0\x88205\0\0\x01\x18",
-    ),
-];
-
-/// Writes bytes at a place of an image, as far as the image goes.
-fn put(image: &mut [u8], place: usize, bytes: &[u8]) {
-    for (target, byte) in image.iter_mut().skip(place).zip(bytes) {
-        *target = *byte;
-    }
-}
-
-/// The sample image, of four blocks.
-fn image() -> [u8; 512] {
-    let mut bytes = [0; 512];
-    for row in &SAMPLE {
-        put(&mut bytes, row.0, row.1);
-    }
-    bytes
-}
 
 /// A store of an image; `None` where there is no memory for it.
 fn store_of(alloc: Global, bytes: &[u8]) -> Option<MemStore>
@@ -147,7 +59,7 @@ fn passes() -> Option<Result<Passed, CheckFault>> {
 
 #[test]
 fn passes_the_sample(rt: HostRuntime) -> Result<(), Fail> {
-    let dbd = sample(rt.alloc()).expect(&rt, "a database");
+    let dbd = database(rt.alloc()).expect(&rt, "a database");
     assert_eq!(rt; judged(rt.alloc(), &dbd, &image()), passes());
     assert_eq!(rt; edited(rt.alloc(), &dbd, &[(19, 4)]), passes());
     Ok(())
@@ -156,7 +68,7 @@ fn passes_the_sample(rt: HostRuntime) -> Result<(), Fail> {
 #[test]
 fn names_each_fault_by_its_edit(rt: HostRuntime) -> Result<(), Fail> {
     let alloc = rt.alloc();
-    let dbd = sample(alloc).expect(&rt, "a database");
+    let dbd = database(alloc).expect(&rt, "a database");
     assert_eq!(rt; edited(alloc, &dbd, &[(9, 9)]), fault(2, 0, 9));
     assert_eq!(rt; edited(alloc, &dbd, &[(20, 0x46)]), fault(3, 0, 0));
     assert_eq!(rt; edited(alloc, &dbd, &[(327, 1)]), fault(4, 256, 0));
@@ -190,7 +102,7 @@ fn names_each_fault_by_its_edit(rt: HostRuntime) -> Result<(), Fail> {
 #[test]
 fn names_the_least_of_several_faults(rt: HostRuntime) -> Result<(), Fail> {
     let alloc = rt.alloc();
-    let dbd = sample(alloc).expect(&rt, "a database");
+    let dbd = database(alloc).expect(&rt, "a database");
     assert_eq!(rt; edited(alloc, &dbd, &[(19, 3)]), fault(1, 0, 0));
     assert_eq!(rt; edited(alloc, &dbd, &[(257, 0x80)]), fault(4, 256, 0));
     assert_eq!(rt; edited(alloc, &dbd, &[(323, 0x48)]), fault(4, 256, 0));
@@ -220,7 +132,7 @@ fn ring() -> [u8; 512] {
 #[test]
 fn finds_rings_and_segments_out_of_place(rt: HostRuntime) -> Result<(), Fail> {
     let alloc = rt.alloc();
-    let dbd = sample(alloc).expect(&rt, "a database");
+    let dbd = database(alloc).expect(&rt, "a database");
     assert_eq!(rt; judged(alloc, &dbd, &ring()), fault(14, 320, 0));
     let mut alone = image();
     alone[257] = 0x50;
@@ -235,7 +147,7 @@ fn finds_rings_and_segments_out_of_place(rt: HostRuntime) -> Result<(), Fail> {
 #[test]
 fn cuts_are_no_volume(rt: HostRuntime) -> Result<(), Fail> {
     let alloc = rt.alloc();
-    let dbd = sample(alloc).expect(&rt, "a database");
+    let dbd = database(alloc).expect(&rt, "a database");
     let whole = image();
     for length in 0..512 {
         assert_eq!(rt; judged(alloc, &dbd, &whole[..length]), fault(1, 0, 0));
@@ -249,7 +161,7 @@ fn cuts_are_no_volume(rt: HostRuntime) -> Result<(), Fail> {
 #[test]
 fn finds_what_names_itself_or_nothing(rt: HostRuntime) -> Result<(), Fail> {
     let alloc = rt.alloc();
-    let dbd = sample(alloc).expect(&rt, "a database");
+    let dbd = database(alloc).expect(&rt, "a database");
     assert_eq!(rt; edited(alloc, &dbd, &[(321, 0x40)]), fault(4, 256, 0));
     assert_eq!(rt; edited(alloc, &dbd, &[(395, 3)]), fault(15, 384, 0));
     assert_eq!(rt;
@@ -285,7 +197,7 @@ fn alike(kind: u8) -> [u8; 8448] {
 #[test]
 fn judges_64_blocks_of_a_kind(rt: HostRuntime) -> Result<(), Fail> {
     let alloc = rt.alloc();
-    let dbd = sample(alloc).expect(&rt, "a database");
+    let dbd = database(alloc).expect(&rt, "a database");
     let empty = Some(Ok(Passed {
         blocks: 66,
         segments: 0,
@@ -320,7 +232,7 @@ fn is_left(alloc: Global, dbd: &Dbd, bytes: &[u8]) -> Option<bool>
 #[test]
 fn changes_no_byte(rt: HostRuntime) -> Result<(), Fail> {
     let alloc = rt.alloc();
-    let dbd = sample(alloc).expect(&rt, "a database");
+    let dbd = database(alloc).expect(&rt, "a database");
     let mut faulty = image();
     put(&mut faulty, 403, b"0");
     assert_eq!(rt; judged(alloc, &dbd, &faulty), fault(16, 384, 280));
@@ -374,7 +286,7 @@ fn told_accesses(
 #[test]
 fn each_access_that_fails_is_told(rt: HostRuntime) -> Result<(), Fail> {
     let alloc = rt.alloc();
-    let dbd = sample(alloc).expect(&rt, "a database");
+    let dbd = database(alloc).expect(&rt, "a database");
     let sound = told_accesses(alloc, &dbd, &image(), passes());
     assert!(rt; sound.is_some_and(|count| count > 2 && count <= 16));
     let ringed = told_accesses(alloc, &dbd, &ring(), fault(14, 320, 0));
@@ -403,7 +315,7 @@ fn others(byte: u8) -> [u8; 12] {
 #[test]
 fn returns_for_each_change_of_a_byte(rt: HostRuntime) -> Result<(), Fail> {
     let alloc = rt.alloc();
-    let dbd = sample(alloc).expect(&rt, "a database");
+    let dbd = database(alloc).expect(&rt, "a database");
     let whole = image();
     for place in 0..512 {
         for byte in others(whole[place]) {

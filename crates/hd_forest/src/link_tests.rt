@@ -1,7 +1,8 @@
 ghost use Rattle.std.specs.Prelude.{◌≤◌};
 
-use crate::test_volumes::{Work, kinds, new_file, sample, work_on};
+use crate::test_volumes::{Work, kinds, new_file, work_on};
 use hd_dbd::Refused;
+use hd_sample::database;
 use std::fs;
 use std::test::Fail;
 
@@ -34,7 +35,7 @@ fn second_block() -> [u8; 128] {
 
 #[test]
 fn links_the_sample_row_by_row(rt: HostRuntime) -> Result<(), Fail> {
-    let dbd = sample(rt.alloc()).expect(&rt, "a database");
+    let dbd = database(rt.alloc()).expect(&rt, "a database");
     let file = new_file(&rt, "sample")?;
     let (answer, _) = work_on(rt.alloc(), file, &dbd, Work::Sample, u64::MAX)?;
     assert_eq!(rt; answer, Ok(264));
@@ -52,7 +53,7 @@ fn links_the_sample_row_by_row(rt: HostRuntime) -> Result<(), Fail> {
 
 #[test]
 fn replaces_the_bytes_of_a_row(rt: HostRuntime) -> Result<(), Fail> {
-    let dbd = sample(rt.alloc()).expect(&rt, "a database");
+    let dbd = database(rt.alloc()).expect(&rt, "a database");
     let file = new_file(&rt, "replaced")?;
     let (answer, _) = work_on(rt.alloc(), file, &dbd, Work::Replaced, u64::MAX)?;
     assert_eq!(rt; answer, Ok(264));
@@ -67,7 +68,7 @@ fn replaces_the_bytes_of_a_row(rt: HostRuntime) -> Result<(), Fail> {
 
 #[test]
 fn answers_device_at_each_access(rt: HostRuntime) -> Result<(), Fail> {
-    let dbd = sample(rt.alloc()).expect(&rt, "a database");
+    let dbd = database(rt.alloc()).expect(&rt, "a database");
     let file = new_file(&rt, "refused")?;
     let (_, all) = work_on(rt.alloc(), file, &dbd, Work::Replaced, u64::MAX)?;
     assert!(rt; all > 4, "{all} accesses");
@@ -136,7 +137,7 @@ fn mends_each_sort_of_pointer(rt: HostRuntime) -> Result<(), Fail> {
 
 #[test]
 fn links_in_a_constant_number_of_accesses(rt: HostRuntime) -> Result<(), Fail> {
-    let dbd = sample(rt.alloc()).expect(&rt, "a database");
+    let dbd = database(rt.alloc()).expect(&rt, "a database");
     for (few, many) in [
         (Work::Behind(500), Work::Behind(1000)),
         (Work::First(500), Work::First(1000)),

@@ -2,57 +2,14 @@ ghost use Rattle.std.specs.Prelude.{◌≡◌, ◌<◌, false, IfOk};
 ghost use Rattle.hd_dbd.specs.Facts.{stored_sizes};
 
 use super::{last_child, link, replace};
-use hd_dbd::{Dbd, DbdFault, FreeSpace, Key, Name8, Refused, Rule, SegType};
+use hd_dbd::{Dbd, DbdFault, FreeSpace, Name8, Refused, SegType};
+use hd_sample::segment_type;
 use hd_volume::{BlockStore, FileStore, FuseStore, Volume};
 use std::alloc::{AllocError, Global};
 use std::fs::{File, OpenOptions};
 use std::io;
 use std::marker::Brand;
 use std::sync::ledger::{Blank, Ledger};
-
-/// A type of the sample database without its fields; key 0 for none, which is unique where it has three bytes or fewer.
-pub fn type_of(alloc: Global, name: Name8, parent: Option<u8>, length: u32, key: u32) -> SegType {
-    SegType {
-        name,
-        parent,
-        length,
-        key: if key == 0 {
-            None
-        } else {
-            Some(Key {
-                start: 1,
-                length: key,
-                unique: key <= 3,
-            })
-        },
-        rule: Rule::Last,
-        backward: key != 4,
-        last_pointer: key == 2 || key == 0,
-        fields: Vec::new(alloc),
-    }
-}
-
-fn sample_types(alloc: Global) -> Result<Vec<SegType>, AllocError> {
-    let course = Name8::from_padded(*b"COURSE  ").unwrap();
-    let class = Name8::from_padded(*b"CLASS   ").unwrap();
-    let student = Name8::from_padded(*b"STUD    ").unwrap();
-    let book = Name8::from_padded(*b"BOOK    ").unwrap();
-    Ok(vec![in alloc;
-        type_of(alloc, course, None, 8, 3),
-        type_of(alloc, class, Some(1), 4, 2),
-        type_of(alloc, student, Some(2), 6, 4),
-        type_of(alloc, book, Some(1), 5, 0),
-    ]?)
-}
-
-pub fn sample(alloc: Global) -> Result<Dbd, DbdFault>
-    ensures { IfOk result (λ dbd. dbd.block_size ≡ 128) }
-{
-    let name = Name8::from_padded(*b"EDU     ").unwrap();
-    let frspc = FreeSpace { fbff: 0, fspf: 0 };
-    let types = sample_types(alloc)?;
-    Dbd::new(alloc, name, 128, frspc, types)
-}
 
 /// Links a row; `Area` says that it has not its type's length.
 pub fn link_row<S: BlockStore>(
@@ -273,14 +230,14 @@ fn kinds_types(alloc: Global) -> Result<Vec<SegType>, AllocError> {
     let twinned = Name8::from_padded(*b"TWINNED ").unwrap();
     let both = Name8::from_padded(*b"BOTH    ").unwrap();
     let mut types = Vec::new(alloc);
-    types.push(type_of(alloc, root, None, 8, 3))?;
+    types.push(segment_type(alloc, root, None, 8, 3))?;
     for (name, backward, last_pointer) in [
         (plain, false, false),
         (ended, false, true),
         (twinned, true, false),
         (both, true, true),
     ] {
-        let mut child = type_of(alloc, name, Some(1), 2, 0);
+        let mut child = segment_type(alloc, name, Some(1), 2, 0);
         child.backward = backward;
         child.last_pointer = last_pointer;
         types.push(child)?;

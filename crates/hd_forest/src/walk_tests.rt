@@ -2,10 +2,11 @@ ghost use Rattle.std.specs.Prelude.{◌≡◌, ◌<◌, ◌≤◌, false, IfOk};
 ghost use Rattle.hd_dbd.specs.Facts.{stored_sizes};
 
 use crate::link_tests::has_bytes;
-use crate::test_volumes::{link_behind, link_row, link_sample, new_file, sample, type_of};
+use crate::test_volumes::{link_behind, link_row, link_sample, new_file};
 use crate::{Path, next_row, prev_twin, unlink_span};
 use hd_dbd::{Dbd, DbdFault, FreeSpace, Name8, Refused, SegType};
 use hd_prefix::{Layout, code_of};
+use hd_sample::{database, segment_type};
 use hd_volume::{BlockStore, FileStore, FuseStore, Volume};
 use std::alloc::{AllocError, Global};
 use std::fs::File;
@@ -209,7 +210,7 @@ fn level_types(alloc: Global) -> Result<Vec<SegType>, AllocError> {
         ]) {
             let parent = if level == 1 { None } else { Some(level - 1) };
             let key = u32::from(level == 1);
-            types.push(type_of(alloc, name, parent, 1, key))?;
+            types.push(segment_type(alloc, name, parent, 1, key))?;
         }
     }
     Ok(types)
@@ -217,7 +218,7 @@ fn level_types(alloc: Global) -> Result<Vec<SegType>, AllocError> {
 
 #[test]
 fn walks_the_sample_in_its_sequence(rt: HostRuntime) -> Result<(), Fail> {
-    let dbd = sample(rt.alloc()).expect(&rt, "a database");
+    let dbd = database(rt.alloc()).expect(&rt, "a database");
     let file = new_file(&rt, "walked")?;
     let (text, _) = work_on(rt.alloc(), file, &dbd, Work::Sample, u64::MAX)?;
     let text = text.expect(&rt, "a sequence");
@@ -231,7 +232,7 @@ fn walks_the_sample_in_its_sequence(rt: HostRuntime) -> Result<(), Fail> {
 
 #[test]
 fn unlinks_a_class_with_its_students(rt: HostRuntime) -> Result<(), Fail> {
-    let dbd = sample(rt.alloc()).expect(&rt, "a database");
+    let dbd = database(rt.alloc()).expect(&rt, "a database");
     let file = new_file(&rt, "unlinked")?;
     let (text, _) = work_on(rt.alloc(), file, &dbd, Work::Unlinked, u64::MAX)?;
     let text = text.expect(&rt, "a sequence");
@@ -273,7 +274,7 @@ fn walks_and_unlinks_a_chain_of_fifteen_levels(rt: HostRuntime) -> Result<(), Fa
 
 #[test]
 fn unlinks_five_thousand_twins_by_one_call(rt: HostRuntime) -> Result<(), Fail> {
-    let dbd = sample(rt.alloc()).expect(&rt, "a database");
+    let dbd = database(rt.alloc()).expect(&rt, "a database");
     let file = new_file(&rt, "twins")?;
     let (text, _) = work_on(rt.alloc(), file, &dbd, Work::Twins(5000), u64::MAX)?;
     assert!(rt; text.expect(&rt, "a sequence").is_empty());
@@ -290,7 +291,7 @@ fn unlinks_five_thousand_twins_by_one_call(rt: HostRuntime) -> Result<(), Fail> 
 
 #[test]
 fn answers_device_at_each_access_of_a_walk_and_an_unlink(rt: HostRuntime) -> Result<(), Fail> {
-    let dbd = sample(rt.alloc()).expect(&rt, "a database");
+    let dbd = database(rt.alloc()).expect(&rt, "a database");
     let file = new_file(&rt, "broken")?;
     let (_, all) = work_on(rt.alloc(), file, &dbd, Work::Unlinked, u64::MAX)?;
     assert!(rt; all > 4, "{all} accesses");

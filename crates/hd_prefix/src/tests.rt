@@ -1,51 +1,6 @@
 use crate::{Layout, Pointer, code_of, delete_byte_of};
-use hd_dbd::{Dbd, DbdFault, FreeSpace, Key, Name8, Rule, SegType};
-use std::alloc::{AllocError, Global};
-
-/// A type of the sample database without its fields; key 0 for none, which is unique where it has three bytes or
-/// fewer.
-fn type_of(alloc: Global, name: Name8, parent: Option<u8>, length: u32, key: u32) -> SegType {
-    let start = 1;
-    let unique = key <= 3;
-    SegType {
-        name,
-        parent,
-        length,
-        key: if key == 0 {
-            None
-        } else {
-            Some(Key {
-                start,
-                length: key,
-                unique,
-            })
-        },
-        rule: Rule::Last,
-        backward: key != 4,
-        last_pointer: key == 2 || key == 0,
-        fields: Vec::new(alloc),
-    }
-}
-
-fn sample_types(alloc: Global) -> Result<Vec<SegType>, AllocError> {
-    let course = Name8::from_padded(*b"COURSE  ").unwrap();
-    let class = Name8::from_padded(*b"CLASS   ").unwrap();
-    let student = Name8::from_padded(*b"STUD    ").unwrap();
-    let book = Name8::from_padded(*b"BOOK    ").unwrap();
-    Ok(vec![in alloc;
-        type_of(alloc, course, None, 8, 3),
-        type_of(alloc, class, Some(1), 4, 2),
-        type_of(alloc, student, Some(2), 6, 4),
-        type_of(alloc, book, Some(1), 5, 0),
-    ]?)
-}
-
-fn sample(alloc: Global) -> Result<Dbd, DbdFault> {
-    let name = Name8::from_padded(*b"EDU     ").unwrap();
-    let frspc = FreeSpace { fbff: 0, fspf: 0 };
-    let types = sample_types(alloc)?;
-    Dbd::new(alloc, name, 128, frspc, types)
-}
+use hd_dbd::Dbd;
+use hd_sample::database;
 
 /// The first course of the sample image, its first class, that class's first student, and the course's book.
 const COURSE: [u8; 40] =
@@ -77,7 +32,7 @@ fn bytes_in<'a>(dbd: &Dbd, segment: &'a [u8], code: u8) -> &'a [u8] {
 
 #[test]
 fn reads_the_fields_of_the_sample(rt: HostRuntime) {
-    let dbd = sample(rt.alloc()).expect(&rt, "a database");
+    let dbd = database(rt.alloc()).expect(&rt, "a database");
     let first_class = Pointer::FirstChild(2);
     assert_eq!(rt; address_in(&dbd, &COURSE, Pointer::TwinForward), Some(280));
     assert_eq!(rt; address_in(&dbd, &COURSE, Pointer::TwinBackward), Some(0));
@@ -101,7 +56,7 @@ fn reads_the_fields_of_the_sample(rt: HostRuntime) {
 
 #[test]
 fn says_where_pointers_stand(rt: HostRuntime) {
-    let dbd = sample(rt.alloc()).expect(&rt, "a database");
+    let dbd = database(rt.alloc()).expect(&rt, "a database");
     let class = Layout::of(&dbd, 2);
     assert_eq!(rt; class.place_of(Pointer::TwinBackward), Some(6));
     assert_eq!(rt; class.place_of(Pointer::FirstChild(3)), Some(10));
@@ -126,7 +81,7 @@ fn make(dbd: &Dbd, code: u8, segment: &mut [u8], bytes: &[u8]) {
 
 #[test]
 fn makes_a_segment_and_writes_a_pointer(rt: HostRuntime) {
-    let dbd = sample(rt.alloc()).expect(&rt, "a database");
+    let dbd = database(rt.alloc()).expect(&rt, "a database");
     let mut book = [0xffu8; 16];
     make(&dbd, 4, &mut book, b"EULER");
     assert_eq!(rt; book, BOOK);

@@ -1,58 +1,15 @@
-ghost use Rattle.std.specs.Prelude.{◌≡◌, ◌<◌, false, IfOk};
+ghost use Rattle.std.specs.Prelude.{◌≡◌, ◌<◌, false};
 ghost use Rattle.hd_dbd.specs.Facts.{stored_sizes};
 
 use super::*;
-use hd_dbd::{Dbd, DbdFault, FreeSpace, Key, Name8, Refused, Rule, SegType};
-use std::alloc::{AllocError, Global};
+use hd_dbd::{Dbd, Refused};
+use hd_sample::database;
+use std::alloc::Global;
 use std::fs::{File, OpenOptions};
 use std::marker::Brand;
 use std::sync::ledger::{Blank, Ledger};
 use std::test::Fail;
 use std::{fs, io};
-
-/// A type of the sample database without its fields; key 0 for none, which is unique where it has three bytes or fewer.
-fn type_of(alloc: Global, name: Name8, parent: Option<u8>, length: u32, key: u32) -> SegType {
-    SegType {
-        name,
-        parent,
-        length,
-        key: if key == 0 {
-            None
-        } else {
-            Some(Key {
-                start: 1,
-                length: key,
-                unique: key <= 3,
-            })
-        },
-        rule: Rule::Last,
-        backward: key != 4,
-        last_pointer: key == 2 || key == 0,
-        fields: Vec::new(alloc),
-    }
-}
-
-fn sample_types(alloc: Global) -> Result<Vec<SegType>, AllocError> {
-    let course = Name8::from_padded(*b"COURSE  ").unwrap();
-    let class = Name8::from_padded(*b"CLASS   ").unwrap();
-    let student = Name8::from_padded(*b"STUD    ").unwrap();
-    let book = Name8::from_padded(*b"BOOK    ").unwrap();
-    Ok(vec![in alloc;
-        type_of(alloc, course, None, 8, 3),
-        type_of(alloc, class, Some(1), 4, 2),
-        type_of(alloc, student, Some(2), 6, 4),
-        type_of(alloc, book, Some(1), 5, 0),
-    ]?)
-}
-
-fn sample(alloc: Global) -> Result<Dbd, DbdFault>
-    ensures { IfOk result (λ dbd. dbd.block_size ≡ 128) }
-{
-    let name = Name8::from_padded(*b"EDU     ").unwrap();
-    let frspc = FreeSpace { fbff: 0, fspf: 0 };
-    let types = sample_types(alloc)?;
-    Dbd::new(alloc, name, 128, frspc, types)
-}
 
 /// The header of the sample database's volume of so many blocks, at most 255, and a largest count of 65,536.
 fn header(blocks: u8) -> [u8; 128] {
@@ -123,7 +80,7 @@ fn places(alloc: Global, file: File, dbd: &Dbd) -> io::Result<[Result<u32, Refus
 
 #[test]
 fn puts_segments_into_the_first_large_enough_hole(rt: HostRuntime) -> Result<(), Fail> {
-    let dbd = sample(rt.alloc()).expect(&rt, "a database");
+    let dbd = database(rt.alloc()).expect(&rt, "a database");
     let mut image = Vec::new(rt.alloc());
     image.extend_from_slice(&header(3))?;
     let mut block = [0; 128];
@@ -192,7 +149,7 @@ fn accesses(alloc: Global, file: File, dbd: &Dbd) -> io::Result<u64>
 
 #[test]
 fn reads_no_block_in_vain(rt: HostRuntime) -> Result<(), Fail> {
-    let dbd = sample(rt.alloc()).expect(&rt, "a database");
+    let dbd = database(rt.alloc()).expect(&rt, "a database");
     let mut new = OpenOptions::new();
     new.read(true).write(true).create(true).truncate(true);
     let count = accesses(rt.alloc(), new.open(&rt, "puts")?, &dbd)?;
@@ -221,7 +178,7 @@ fn new_volume(alloc: Global, dbd: &Dbd) -> Option<(u16, u32, u32, Vec<u8>)>
 
 #[test]
 fn creates_a_volume_of_one_block(rt: HostRuntime) {
-    let dbd = sample(rt.alloc()).expect(&rt, "a database");
+    let dbd = database(rt.alloc()).expect(&rt, "a database");
     let (version, count, largest, bytes) = new_volume(rt.alloc(), &dbd).expect(&rt, "a new volume");
     assert_eq!(rt; (version, count, largest), (1, 1, 16));
     assert_eq!(rt; bytes.len(), 128);

@@ -1,5 +1,5 @@
 use super::testing::{
-    NOTHING, Parts, STREAM, expect, play_words, refusals_of_growth, sample_with, words_of,
+    NOTHING, Parts, expect, play_words, refusals_of_growth, sample_with, words_of,
 };
 use super::*;
 use hd_check::CheckFault;

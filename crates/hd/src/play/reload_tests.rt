@@ -1,5 +1,6 @@
-use super::testing::{HEAD, STREAM, expect, play_words, refusals_of_growth, sample_with, words_of};
+use super::testing::{expect, play_words, refusals_of_growth, sample_with, words_of};
 use super::*;
+use hd_sample::{HEAD, STREAM};
 use std::fs;
 use std::test::Fail;
 

@@ -1,4 +1,5 @@
 use super::play;
+use hd_sample::{image, put};
 use std::alloc::{AllocError, Global};
 use std::fs::File;
 use std::io;
@@ -52,54 +53,18 @@ pub fn expect<R: Files<File = File> + AllocGlobal + Abort>(
     Ok(())
 }
 
-/// The header of the sample's streams.
-pub const HEAD: &[u8] = b"HDUNLOAD\0\x01EDU     ";
-
-/// The stream of the sample.
-pub const STREAM: &[u8] =
-    b"HDUNLOAD\0\x01EDU     \x01\0\x08101ALGEB\x02\0\x0401AB\x03\0\x06ADAM01\x03\0\x06EVE 02\x02\0\x0402CD\x04\0\x05EULER\x01\0\x08205LOGIC\0\0\0\0\x07";
-
 /// A file's bytes, from places on.
 pub type Parts<'a> = &'a [(usize, &'a [u8])];
 
-/// The sample image, of four blocks; what is not named is 0.
-pub const SAMPLE: Parts<'static> = &[
-    (0, b"HDVOLUME\0\x01\0\x80\0\0\0\x04\0\0\0\x10EDU     "),
-    (28, b"\0\0\0\x88\0\0\x01\x18\0\0\0\x03\0\0\0\x01"),
-    (130, b"\x01"),
-    (
-        136,
-        b"\x01\0\0\0\x01\x18\0\0\0\0\0\0\0\xb0\0\0\0\xe8\0\0\x01\x08\0\0\x01\x08101ALGEB",
-    ),
-    (176, b"\x02\0\0\0\0\xe8\0\0\0\0\0\0\0\xc801AB"),
-    (200, b"\x03\0\0\0\0\xd8ADAM01"),
-    (216, b"\x03\0\0\0\0\0EVE 02"),
-    (232, b"\x02\0\0\0\0\0\0\0\0\xb0\0\0\0\002CD"),
-    (256, b"\0\x40\x01"),
-    (264, b"\x04\0\0\0\0\0\0\0\0\0EULER"),
-    (280, b"\x01\0\0\0\0\0\0\0\0\x88"),
-    (306, b"205LOGIC"),
-    (322, b"\0\x40"),
-    (384, b"\0\0\x02\0\0\x02"),
-    (396, b"101\0\0\0\x88205\0\0\x01\x18"),
-];
-
 pub const NOTHING: Parts<'static> = &[];
-
-/// The bytes with others from some places on.
-pub fn edited(image: [u8; 512], parts: Parts<'_>) -> [u8; 512] {
-    let mut bytes = image;
-    for (start, part) in parts {
-        for (place, byte) in bytes.iter_mut().skip(*start).zip(part.iter()) {
-            *place = *byte;
-        }
-    }
-    bytes
-}
 
 /// The sample image with other bytes from some places on.
 pub fn sample_with(parts: Parts<'_>) -> [u8; 512] {
-    edited(edited([0; 512], SAMPLE), parts)
+    let mut bytes = image();
+    for (place, part) in parts {
+        put(&mut bytes, *place, part);
+    }
+    bytes
 }
 
 /// A writer that keeps the first bytes in room of its own, and takes no memory.
