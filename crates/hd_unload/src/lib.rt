@@ -1,6 +1,8 @@
 //! The unload stream of a forest, and the reload that makes a volume of it.
 #![tactic(auto)]
 
+#[cfg(test)]
+mod check_tests;
 mod fault;
 mod judge;
 mod load;
