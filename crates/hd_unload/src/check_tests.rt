@@ -1,7 +1,7 @@
 ghost use Rattle.std.specs.Prelude.{◌≡◌, true, false};
 ghost use Rattle.hd_dbd.specs.Facts.{stored_sizes};
 
-use crate::load::root_key;
+use crate::row::root_key;
 use crate::tests::sample;
 use hd_check::{CheckFault, Fault, Passed, check};
 use hd_dbd::{Dbd, Refused};

@@ -5,10 +5,10 @@
 mod check_tests;
 mod fault;
 mod judge;
-mod load;
 mod loading;
 mod path;
 mod record;
+mod row;
 mod stream;
 #[cfg(test)]
 mod tests;
