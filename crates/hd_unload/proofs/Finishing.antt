@@ -1,5 +1,5 @@
 -- A volume that was loaded whole, and what its store has then.
-use Rattle.std.proofs.Common.{◌≡◌, ℕ, ◌<◌, List, [], ◌∷◌, ◌++◌, length, Bool, false, IsTrue, Result, Ok, Err, IfErr, IfOk, inr, refl, sym, ap, subst, ◌∙◌, replicate, take, drop, ◌≤◌, arith}
+use Rattle.std.proofs.Common.{◌≡◌, ℕ, ◌<◌, List, [], ◌∷◌, ◌++◌, length, Bool, false, IsTrue, Result, Ok, Err, IfOk, inr, refl, sym, ap, subst, ◌∙◌, replicate, take, drop, ◌≤◌, arith}
 use Rattle.std.specs.Prelude.{◌*◌}
 use Rattle.std.proofs.lemmas.List.{append_assoc, take_all, length-replicate}
 use Rattle.hd_bytes.specs.Blocks.{block_of, HasBlock}
@@ -70,11 +70,6 @@ first-there d largest rows v load = (load-held d largest rows v load).2.volume.f
 pub if-ok-both : {A E : Type 0} {P Q R : A → Type 0} (r : Result A E) → IfOk r P → IfOk r Q → ((x : A) → P x → Q x → R x) → IfOk r R
 if-ok-both (Ok x) p q f = f x p q
 if-ok-both (Err e) p q f = tt
-
--- what holds of a refusal, by what held of it
-pub if-err-to : {A E : Type 0} {P Q : E → Type 0} (r : Result A E) → IfErr r P → ((e : E) → P e → Q e) → IfErr r Q
-if-err-to (Ok x) p f = tt
-if-err-to (Err e) p f = f e p
 
 -- a volume that is given up for a failed access
 pub given-device : {S : Type 0} (old v : VolumeState) (size : S → ℕ) (contents : S → List ℕ) (is_sound : S → Bool) (failures : S → ℕ) (e : S × ReloadFault)
