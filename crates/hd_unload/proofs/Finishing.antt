@@ -1,22 +1,17 @@
 -- A volume that was loaded whole, and what its store has then.
-use Rattle.std.proofs.Common.{◌≡◌, ℕ, ◌<◌, List, [], ◌∷◌, ◌++◌, length, Bool, false, IsTrue, Result, Ok, Err, IfErr, IfOk, inl, inr, refl, sym, ap, ap₂, subst, ◌∙◌, replicate, take, drop, ◌≤◌, arith}
+use Rattle.std.proofs.Common.{◌≡◌, ℕ, ◌<◌, List, [], ◌∷◌, ◌++◌, length, Bool, false, IsTrue, Result, Ok, Err, IfOk, inr, refl, sym, ap, subst, ◌∙◌, replicate, take, drop, ◌≤◌, arith}
 use Rattle.std.specs.Prelude.{◌*◌}
 use Rattle.std.proofs.lemmas.List.{append_assoc, take_all, length-replicate}
 use Rattle.hd_bytes.specs.Blocks.{block_of, HasBlock}
 use Rattle.hd_dbd.specs.Hierarchy.{Database}
 use Rattle.hd_dbd.specs.Facts.{stored_sizes}
 use Rattle.hd_dbd.specs.Segment.{Segment}
-use Rattle.hd_dbd.specs.Forest.{Forest}
 use Rattle.hd_dbd.specs.Loads.{Loading, rows_loaded, image_before, IsLegalLoad}
 use Rattle.hd_volume.specs.Headers.{Header, header_of}
-use Rattle.hd_volume.specs.Volumes.{VolumeState, kind_of, IsKind}
+use Rattle.hd_volume.specs.Volumes.{VolumeState}
 use Rattle.hd_volume.specs.Creates.{IsCreated}
-use Rattle.hd_volume.specs.Indexes.{root_key_length}
-use Rattle.hd_volume.proofs.IndexLemmas.{index-stays}
-use Rattle.hd_links.specs.Links.{Links}
-use Rattle.hd_links.specs.Placed.{Placed, Holds}
-use Rattle.hd_image.specs.Holding.{HoldsPlaced, HoldsRows, volume_of}
-use Rattle.hd_image.proofs.OneImage.{links-same, volume-same}
+use Rattle.hd_image.specs.Holding.{HoldsRows, volume_of}
+use Rattle.hd_image.proofs.OneImage.{held-same}
 use Rattle.hd_volume.specs.Stores.{CountsFor, SoundFor}
 use Rattle.hd_volume.specs.Images.{KeepsFirst}
 use Rattle.hd_unload.specs.declared.fault.ReloadFault.{ReloadFault}
@@ -25,45 +20,6 @@ use Rattle.hd_unload.specs.Refusals.{refused_by, IsGivenFrom, IsGivenUp}
 use Rattle.hd_unload.specs.Loads.{IsLoadStep, IsLoad, IsReloaded}
 use Rattle.hd_unload.specs.Steps.{IsLoadedAll}
 use Rattle.hd_unload.proofs.Reading.{nothing-behind}
-
--- ---- one image
-
-module _ (d : Database) (u v : VolumeState) (image : v.image ≡ u.image) (size : v.size ≡ u.size) (sizes : v.sizes ≡ u.sizes) where
-  -- a block of one image has one kind
-  kind-on : (k n : ℕ) → IsKind u k n → IsKind v k n
-  kind-on k n x = record {
-    there = subst (λ (s : ℕ). HasBlock s v.image n) (sym size) (subst (λ (im : List ℕ). HasBlock u.size im n) (sym image) x.there);
-    later = x.later;
-    kind_is = ap₂ (λ (s : ℕ) (im : List ℕ). kind_of (block_of s im n)) size image ∙ x.kind_is;
-  }
-
-  kind-back : (k n : ℕ) → IsKind v k n → IsKind u k n
-  kind-back k n x = record {
-    there = subst (λ (s : ℕ). HasBlock s u.image n) size (subst (λ (im : List ℕ). HasBlock v.size im n) image x.there);
-    later = x.later;
-    kind_is = sym (ap₂ (λ (s : ℕ) (im : List ℕ). kind_of (block_of s im n)) size image) ∙ x.kind_is;
-  }
-
-  -- one image holds one forest
-  pub held-same : (f : Forest Placed) → HoldsPlaced d u f → HoldsPlaced d v f
-  held-same f h =
-      let of = volume-same d u v image size sizes h.volume in
-      let header : header_of v.image ≡ record (header_of u.image) { count = (header_of v.image).count; first_root = (header_of v.image).first_root; last_root = (header_of v.image).last_root } =
-      subst (λ (im : List ℕ). header_of im ≡ record (header_of u.image) { count = (header_of im).count; first_root = (header_of im).first_root; last_root = (header_of im).last_root }) (sym image) refl in
-      let stays = index-stays (root_key_length d.types) u v h.index of.formatted size header (λ n k. ap₂ (λ (s : ℕ) (im : List ℕ). block_of s im n) size image) (λ n k. kind-back 2 n k) in
-      record {
-        volume = of;
-        name = ap (λ (im : List ℕ). (header_of im).name) image ∙ h.name;
-        block_size = ap (λ (im : List ℕ). (header_of im).block_size) image ∙ h.block_size;
-        records = subst (λ (m : Links). Holds d.types m f) (sym (links-same d.types u v image size sizes)) h.records;
-        index = stays.0;
-        entries = stays.1 ∙ h.entries;
-        kinds = λ n there later. elim (h.kinds n (subst (λ (s : ℕ). HasBlock s u.image n) size (subst (λ (im : List ℕ). HasBlock v.size im n) image there)) later) [
-          | inl k ↦ inl (kind-on 1 n k)
-          | inr (inl k) ↦ inr (inl (kind-on 2 n k))
-          | inr (inr k) ↦ inr (inr (kind-on 3 n k))
-        ];
-      }
 
 -- ---- the last image of a load
 
@@ -114,11 +70,6 @@ first-there d largest rows v load = (load-held d largest rows v load).2.volume.f
 pub if-ok-both : {A E : Type 0} {P Q R : A → Type 0} (r : Result A E) → IfOk r P → IfOk r Q → ((x : A) → P x → Q x → R x) → IfOk r R
 if-ok-both (Ok x) p q f = f x p q
 if-ok-both (Err e) p q f = tt
-
--- what holds of a refusal, by what held of it
-pub if-err-to : {A E : Type 0} {P Q : E → Type 0} (r : Result A E) → IfErr r P → ((e : E) → P e → Q e) → IfErr r Q
-if-err-to (Ok x) p f = tt
-if-err-to (Err e) p f = f e p
 
 -- a volume that is given up for a failed access
 pub given-device : {S : Type 0} (old v : VolumeState) (size : S → ℕ) (contents : S → List ℕ) (is_sound : S → Bool) (failures : S → ℕ) (e : S × ReloadFault)

@@ -1,13 +1,15 @@
 //! The unload stream of a forest, and the reload that makes a volume of it.
 #![tactic(auto)]
 
+#[cfg(test)]
+mod check_tests;
 mod fault;
 mod judge;
 mod law;
-mod load;
 mod loading;
 mod path;
 mod record;
+mod row;
 mod stream;
 #[cfg(test)]
 mod tests;

@@ -16,9 +16,9 @@ ghost use Rattle.hd_unload.specs.Streams.{head_bytes};
 
 use crate::fault::{RecordFault, ReloadFault};
 use crate::judge::load_fault;
-use crate::load::load_row;
 use crate::path::LoadPath;
 use crate::record::{behind_head, next_record};
+use crate::row::load_row;
 use hd_dbd::{Dbd, Refused};
 use hd_volume::{BlockStore, Volume};
 use std::alloc::Global;

@@ -44,7 +44,7 @@ fn sample_types(alloc: Global) -> Result<Vec<SegType>, AllocError> {
 }
 
 /// The sample database.
-fn sample(alloc: Global) -> Result<Dbd, DbdFault>
+pub fn sample(alloc: Global) -> Result<Dbd, DbdFault>
     ensures { IfOk result (λ dbd. dbd.block_size ≡ 128) }
 {
     let name = Name8::from_padded(*b"EDU     ").unwrap();

@@ -1,6 +1,7 @@
 use Rattle.std.proofs.Common.{◌++◌, IsTrue, refl, ◌∙◌}
+use Rattle.std.proofs.lemmas.Result.{IfErr-weaker}
 use Rattle.hd_unload.specs.Streams.{head_bytes}
-use Rattle.hd_unload.proofs.Finishing.{first-there, reloaded, if-ok-both, if-err-to, given-device}
+use Rattle.hd_unload.proofs.Finishing.{first-there, reloaded, if-ok-both, given-device}
 use Rattle.hd_unload.proofs.loading.fill.Goals as goal
 
 pub finish-requires : goal.finish-requires
@@ -26,5 +27,5 @@ returns-in-Ok-clause-reloaded g c =
 pub returns-in-Ok-clause-given : goal.returns-in-Ok-clause-given
 returns-in-Ok-clause-given g c =
     let o = c.in-Ok.ensures in
-    if-err-to c.finish.result c.finish.ensures.given
-    (λ e h. given-device c.args.volume c.load_records.new.volume _ _ _ _ e o.call.counts o.call.size h.0 h.1 h.2 h.3)
+    IfErr-weaker c.finish.result _ _
+    (λ e h. given-device c.args.volume c.load_records.new.volume _ _ _ _ e o.call.counts o.call.size h.0 h.1 h.2 h.3) c.finish.ensures.given

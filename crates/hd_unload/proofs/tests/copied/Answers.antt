@@ -1,7 +1,7 @@
 use Rattle.std.proofs.Common.{◌≡◌, refl, sym, ap, ◌∙◌}
 use Rattle.hd_volume.specs.Memory.{Bytes}
 use Rattle.hd_image.specs.Holding.{volume_of}
-use Rattle.hd_unload.proofs.Finishing.{held-same}
+use Rattle.hd_image.proofs.OneImage.{held-same}
 use Rattle.hd_unload.proofs.tests.copied.Goals as goal
 
 -- what was reloaded is held by the volume that is loaded

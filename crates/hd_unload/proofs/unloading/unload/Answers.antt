@@ -3,7 +3,7 @@ use Rattle.hd_dbd.specs.declared.answer.Refused.TheVariants.{Full}
 use Rattle.hd_volume.proofs.CallSteps.{reads-join}
 use Rattle.hd_links.specs.Steps.{rows_of}
 use Rattle.hd_forest.proofs.Reading.{sound-before}
-use Rattle.hd_unload.proofs.Finishing.{held-same}
+use Rattle.hd_image.proofs.OneImage.{held-same}
 use Rattle.hd_unload.proofs.unloading.unload.Goals as goal
 
 pub write_stream-requires : goal.write_stream-requires

@@ -1,6 +1,6 @@
 use Rattle.std.proofs.Common.{ℕ, List, length, ap, ◌∙◌}
 use Rattle.hd_unload.proofs.LoadedRoots.{root-key-long}
-use Rattle.hd_unload.proofs.load.root_key.Goals as goal
+use Rattle.hd_unload.proofs.row.root_key.Goals as goal
 
 pub returns-clause-whole : goal.returns-clause-whole
 returns-clause-whole c =

@@ -19,7 +19,7 @@ use hd_index::{insert, lacks_room};
 use hd_volume::{BlockStore, Volume};
 
 /// The key of a root, which is as long as the keys of the index.
-fn root_key<'a>(dbd: &Dbd, bytes: &'a [u8]) -> &'a [u8]
+pub fn root_key<'a>(dbd: &Dbd, bytes: &'a [u8]) -> &'a [u8]
     requires { row_fits dbd.now.types (record { code = 1; bytes = bytes.now }) ≡ true }
     ensures key { result.now ≡ key_of dbd.now.types (record { code = 1; bytes = bytes.now }) }
     ensures whole { length result.now ≡ root_key_length dbd.now.types }

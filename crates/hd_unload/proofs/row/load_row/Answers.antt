@@ -4,7 +4,7 @@ use Rattle.hd_dbd.specs.Rows.{level}
 use Rattle.hd_links.specs.Placed.{Placed}
 use Rattle.hd_unload.specs.Steps.{IsRowLoaded}
 use Rattle.hd_unload.proofs.Loaded.{level-some, path-at, path-stepped}
-use Rattle.hd_unload.proofs.load.load_row.Goals as goal
+use Rattle.hd_unload.proofs.row.load_row.Goals as goal
 
 pub step-requires : goal.step-requires
 step-requires g c =

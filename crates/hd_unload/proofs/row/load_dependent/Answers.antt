@@ -1,6 +1,6 @@
 use Rattle.hd_volume.proofs.CallSteps.{if-ok}
 use Rattle.hd_unload.proofs.Loaded.{may-link, dependent-loaded}
-use Rattle.hd_unload.proofs.load.load_dependent.Goals as goal
+use Rattle.hd_unload.proofs.row.load_dependent.Goals as goal
 
 pub link-requires-clause-place : goal.link-requires-clause-place
 link-requires-clause-place g c = λ sound.

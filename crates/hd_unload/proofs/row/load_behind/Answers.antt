@@ -1,6 +1,6 @@
 use Rattle.hd_volume.proofs.CallSteps.{if-ok}
 use Rattle.hd_unload.proofs.LoadedRoots.{root-behind}
-use Rattle.hd_unload.proofs.load.load_behind.Goals as goal
+use Rattle.hd_unload.proofs.row.load_behind.Goals as goal
 
 pub returns-then-code-eq1-clause-loaded : goal.returns-then-code-eq1-clause-loaded
 returns-then-code-eq1-clause-loaded g c =

@@ -9,7 +9,7 @@ use Rattle.hd_index.specs.Changes.{entries_for}
 use Rattle.hd_index.specs.Maps.{address_of}
 use Rattle.hd_unload.specs.Loads.{LacksRoom}
 use Rattle.hd_unload.proofs.LoadedRoots.{may-link-root, lacks-beside, root-linked, root-loaded}
-use Rattle.hd_unload.proofs.load.load_root.Goals as goal
+use Rattle.hd_unload.proofs.row.load_root.Goals as goal
 
 pub returns-then-lacks_room-clause-full : goal.returns-then-lacks_room-clause-full
 returns-then-lacks_room-clause-full g c = λ full sound. lacks-beside c.args.dbd.now c.args.volume.now c.args.bytes.now (sym (c.if-lacks_room.ensures sound))
