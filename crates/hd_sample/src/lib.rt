@@ -5,6 +5,6 @@ mod stream;
 mod types;
 mod volume;
 
-pub use stream::{HEAD, STREAM};
+pub use stream::{RECORDS, stream_of};
 pub use types::{database, segment_type};
 pub use volume::{image, put};

@@ -2,11 +2,11 @@ ghost use Rattle.std.specs.Prelude.{◌≡◌, true, false};
 ghost use Rattle.hd_dbd.specs.Facts.{stored_sizes};
 
 use crate::row::root_key;
-use crate::tests::sample;
 use hd_check::{CheckFault, Fault, Passed, check};
 use hd_dbd::{Dbd, Refused};
 use hd_forest::{Path, link, unlink_span};
 use hd_index::insert;
+use hd_sample::database;
 use hd_volume::{BlockStore, FuseStore, MemStore, Volume};
 use std::alloc::Global;
 
@@ -149,7 +149,7 @@ fn lacks_entry(address: u32) -> Option<Result<Passed, CheckFault>> {
 #[test]
 fn a_linked_volume_passes_once_its_roots_are_entered(rt: HostRuntime) {
     let alloc = rt.alloc();
-    let dbd = sample(alloc).expect(&rt, "a database");
+    let dbd = database(alloc).expect(&rt, "a database");
     assert_eq!(rt; judged(alloc, &dbd, Work::BothRoots), passes(7));
     assert_eq!(rt; judged(alloc, &dbd, Work::FirstRoot), lacks_entry(280));
     assert_eq!(rt; judged(alloc, &dbd, Work::NoIndex), lacks_entry(136));
@@ -158,6 +158,6 @@ fn a_linked_volume_passes_once_its_roots_are_entered(rt: HostRuntime) {
 #[test]
 fn a_volume_passes_without_an_unlinked_span(rt: HostRuntime) {
     let alloc = rt.alloc();
-    let dbd = sample(alloc).expect(&rt, "a database");
+    let dbd = database(alloc).expect(&rt, "a database");
     assert_eq!(rt; judged(alloc, &dbd, Work::Unlinked), passes(4));
 }

@@ -2,71 +2,12 @@ ghost use Rattle.std.specs.Prelude.{◌≡◌, ◌≤◌, ◌<◌, IfOk};
 
 use super::*;
 use hd_check::{CheckFault, Fault};
-use hd_dbd::{Dbd, DbdFault, FreeSpace, Key, Name8, Refused, Rule, SegType};
+use hd_dbd::{Dbd, Refused};
+use hd_sample::{RECORDS, database, stream_of};
 use hd_volume::{BlockStore, FuseStore, MemStore, Volume};
 use std::alloc::{AllocError, Global};
 use std::io::{self, ErrorKind, Write};
 use std::test::Fail;
-
-/// A type of the sample database without its fields; key 0 for none, which is unique where it has three bytes or fewer.
-fn type_of(alloc: Global, name: Name8, parent: Option<u8>, length: u32, key: u32) -> SegType {
-    SegType {
-        name,
-        parent,
-        length,
-        key: if key == 0 {
-            None
-        } else {
-            Some(Key {
-                start: 1,
-                length: key,
-                unique: key <= 3,
-            })
-        },
-        rule: Rule::Last,
-        backward: key != 4,
-        last_pointer: key == 2 || key == 0,
-        fields: Vec::new(alloc),
-    }
-}
-
-fn sample_types(alloc: Global) -> Result<Vec<SegType>, AllocError> {
-    let course = Name8::from_padded(*b"COURSE  ").unwrap();
-    let class = Name8::from_padded(*b"CLASS   ").unwrap();
-    let student = Name8::from_padded(*b"STUD    ").unwrap();
-    let book = Name8::from_padded(*b"BOOK    ").unwrap();
-    Ok(vec![in alloc;
-        type_of(alloc, course, None, 8, 3),
-        type_of(alloc, class, Some(1), 4, 2),
-        type_of(alloc, student, Some(2), 6, 4),
-        type_of(alloc, book, Some(1), 5, 0),
-    ]?)
-}
-
-/// The sample database.
-pub fn sample(alloc: Global) -> Result<Dbd, DbdFault>
-    ensures { IfOk result (λ dbd. dbd.block_size ≡ 128) }
-{
-    let name = Name8::from_padded(*b"EDU     ").unwrap();
-    let frspc = FreeSpace { fbff: 0, fspf: 0 };
-    let types = sample_types(alloc)?;
-    Dbd::new(alloc, name, 128, frspc, types)
-}
-
-/// The header of the sample's streams.
-const HEAD: &[u8] = b"HDUNLOAD\0\x01EDU     ";
-
-/// The records of the sample, and the end.
-const SAMPLE: &[u8] =
-    b"\x01\0\x08101ALGEB\x02\0\x0401AB\x03\0\x06ADAM01\x03\0\x06EVE 02\x02\0\x0402CD\x04\0\x05EULER\x01\0\x08205LOGIC\0\0\0\0\x07";
-
-/// A stream of these records.
-fn stream(alloc: Global, records: &[u8]) -> Result<Vec<u8>, AllocError> {
-    let mut bytes = Vec::new(alloc);
-    bytes.extend_from_slice(HEAD)?;
-    bytes.extend_from_slice(records)?;
-    Ok(bytes)
-}
 
 /// Segments, blocks and the bytes of a reloaded volume, or the fault; `None` where there is no memory.
 fn reloaded(
@@ -76,8 +17,8 @@ fn reloaded(
 ) -> Option<Result<(u32, u32, Vec<u8>), ReloadFault>>
     requires { (0 < largest) × (largest ≤ 65536) }
 {
-    let dbd = sample(alloc).ok()?;
-    let bytes = stream(alloc, records).ok()?;
+    let dbd = database(alloc).ok()?;
+    let bytes = stream_of(alloc, records).ok()?;
     let store = MemStore::new(128, Vec::new(alloc));
     Some(match reload(alloc, &dbd, &bytes, store, largest) {
         Ok(volume) => Ok((volume.segments, volume.blocks, volume.store.into_bytes())),
@@ -108,11 +49,11 @@ fn counts_of(alloc: Global, records: &[u8], largest: u32) -> Option<(u32, u32)>
 #[test]
 fn reloads_the_sample(rt: HostRuntime) -> Result<(), Fail> {
     let alloc = rt.alloc();
-    assert_eq!(rt; counts_of(alloc, SAMPLE, 16), Some((7, 4)));
+    assert_eq!(rt; counts_of(alloc, RECORDS, 16), Some((7, 4)));
     assert_eq!(rt; counts_of(alloc, b"\0\0\0\0\0", 1), Some((0, 1)));
-    assert_eq!(rt; fault_of(alloc, SAMPLE, 1), Some(ReloadFault::Full(1)));
-    assert_eq!(rt; fault_of(alloc, SAMPLE, 2), Some(ReloadFault::Full(1)));
-    assert_eq!(rt; fault_of(alloc, SAMPLE, 3), Some(ReloadFault::Full(6)));
+    assert_eq!(rt; fault_of(alloc, RECORDS, 1), Some(ReloadFault::Full(1)));
+    assert_eq!(rt; fault_of(alloc, RECORDS, 2), Some(ReloadFault::Full(1)));
+    assert_eq!(rt; fault_of(alloc, RECORDS, 3), Some(ReloadFault::Full(6)));
     Ok(())
 }
 
@@ -153,8 +94,8 @@ fn refuses_the_first_bad_record(rt: HostRuntime) -> Result<(), Fail> {
 #[test]
 fn a_cut_stream_is_truncated(rt: HostRuntime) -> Result<(), Fail> {
     let alloc = rt.alloc();
-    let dbd = sample(alloc).expect(&rt, "a database");
-    let whole = stream(alloc, SAMPLE)?;
+    let dbd = database(alloc).expect(&rt, "a database");
+    let whole = stream_of(alloc, RECORDS)?;
     for length in 0..whole.len() {
         let store = MemStore::new(128, Vec::new(alloc));
         match reload(alloc, &dbd, &whole[..length], store, 16) {
@@ -183,8 +124,8 @@ fn fused(alloc: Global, dbd: &Dbd, bytes: &[u8], passes: u64) -> Option<bool>
 #[test]
 fn each_access_that_fails_is_told(rt: HostRuntime) -> Result<(), Fail> {
     let alloc = rt.alloc();
-    let dbd = sample(alloc).expect(&rt, "a database");
-    let whole = stream(alloc, SAMPLE)?;
+    let dbd = database(alloc).expect(&rt, "a database");
+    let whole = stream_of(alloc, RECORDS)?;
     for passes in 0..200 {
         match fused(alloc, &dbd, &whole, passes) {
             Some(true) => {
@@ -243,7 +184,7 @@ fn unloaded<S: BlockStore + Drop, W: Write>(
 fn copied(alloc: Global, dbd: &Dbd, records: &[u8]) -> Option<(u32, Vec<u8>)>
     requires { dbd.now.block_size ≡ 128 }
 {
-    let bytes = stream(alloc, records).ok()?;
+    let bytes = stream_of(alloc, records).ok()?;
     let store = MemStore::new(128, Vec::new(alloc));
     let Ok(made) = reload(alloc, dbd, &bytes, store, 16) else {
         return None;
@@ -259,10 +200,10 @@ fn copied(alloc: Global, dbd: &Dbd, records: &[u8]) -> Option<(u32, Vec<u8>)>
 #[test]
 fn unloads_what_was_reloaded(rt: HostRuntime) -> Result<(), Fail> {
     let alloc = rt.alloc();
-    let dbd = sample(alloc).expect(&rt, "a database");
-    for (records, segments) in [(SAMPLE, 7), (b"\0\0\0\0\0".as_slice(), 0)] {
+    let dbd = database(alloc).expect(&rt, "a database");
+    for (records, segments) in [(RECORDS, 7), (b"\0\0\0\0\0".as_slice(), 0)] {
         let image = image_of(alloc, records).expect(&rt, "a volume");
-        let whole = stream(alloc, records)?;
+        let whole = stream_of(alloc, records)?;
         let mut written = Vec::new(alloc);
         let result = unloaded(alloc, &dbd, MemStore::new(128, image), &mut written);
         assert_eq!(rt; result, Ok(segments));
@@ -277,7 +218,7 @@ fn unloads_what_was_reloaded(rt: HostRuntime) -> Result<(), Fail> {
 #[test]
 fn unloads_nothing_of_an_empty_store(rt: HostRuntime) {
     let alloc = rt.alloc();
-    let dbd = sample(alloc).expect(&rt, "a database");
+    let dbd = database(alloc).expect(&rt, "a database");
     let mut written = Vec::new(alloc);
     let result = unloaded(
         alloc,
@@ -297,10 +238,10 @@ fn unloads_nothing_of_an_empty_store(rt: HostRuntime) {
 #[test]
 fn an_unload_tells_of_each_access_that_fails(rt: HostRuntime) -> Result<(), Fail> {
     let alloc = rt.alloc();
-    let dbd = sample(alloc).expect(&rt, "a database");
-    let whole = stream(alloc, SAMPLE)?;
+    let dbd = database(alloc).expect(&rt, "a database");
+    let whole = stream_of(alloc, RECORDS)?;
     for passes in 0..200 {
-        let image = image_of(alloc, SAMPLE).expect(&rt, "a volume");
+        let image = image_of(alloc, RECORDS).expect(&rt, "a volume");
         let store = FuseStore::new(MemStore::new(128, image), passes);
         let mut written = Vec::new(alloc);
         match unloaded(alloc, &dbd, store, &mut written) {
@@ -339,9 +280,9 @@ impl Write for Brittle {
 #[test]
 fn an_unload_tells_of_each_write_that_fails(rt: HostRuntime) {
     let alloc = rt.alloc();
-    let dbd = sample(alloc).expect(&rt, "a database");
+    let dbd = database(alloc).expect(&rt, "a database");
     for pieces in 0..100 {
-        let image = image_of(alloc, SAMPLE).expect(&rt, "a volume");
+        let image = image_of(alloc, RECORDS).expect(&rt, "a volume");
         let mut out = Brittle { pieces };
         match unloaded(alloc, &dbd, MemStore::new(128, image), &mut out) {
             Ok(_) => {

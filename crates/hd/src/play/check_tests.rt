@@ -1,9 +1,10 @@
 use super::testing::{
-    NOTHING, Parts, expect, play_words, refusals_of_growth, sample_with, words_of,
+    NOTHING, Parts, expect, play_words, refusals_of_growth, remove, sample_with, words_of,
 };
 use super::*;
 use hd_check::CheckFault;
 use hd_dbd::Dbd;
+use hd_sample::put;
 use hd_unload::{UnloadFault, reload, unload};
 use hd_volume::{MemStore, Volume};
 use std::fs;
@@ -21,6 +22,7 @@ fn passes_the_sample(rt: HostRuntime) -> Result<(), Fail> {
         fs::write(&rt, "sound.volume", &sample_with(parts))?;
         expect(&rt, &["check", "sound.dbd", "sound.volume"], 0, line, b"")?;
     }
+    remove(&rt, &["sound.dbd", "sound.volume"])?;
     Ok(())
 }
 
@@ -84,6 +86,7 @@ fn names_the_least_fault(rt: HostRuntime) -> Result<(), Fail> {
         )?;
         assert!(rt; fs::read(&rt, "fault.out")?.is_empty());
     }
+    remove(&rt, &["fault.dbd", "fault.volume", "fault.out"])?;
     Ok(())
 }
 
@@ -110,14 +113,16 @@ fn finds_segments_that_nothing_leads_to(rt: HostRuntime) -> Result<(), Fail> {
         let line = b"fault 14 at 320, other 0\n";
         expect(&rt, &["check", "ring.dbd", "ring.volume"], 1, b"", line)?;
     }
+    remove(&rt, &["ring.dbd", "ring.volume"])?;
     Ok(())
 }
 
 #[test]
 fn takes_no_other_file_for_a_volume(rt: HostRuntime) -> Result<(), Fail> {
     fs::write(&rt, "none.dbd", sample::DBD_SOURCE)?;
-    let longer = [0; 513];
     let whole = sample_with(&[]);
+    let mut longer = [0; 513];
+    put(&mut longer, 0, &whole);
     for bytes in [
         b"" as &[u8],
         sample::DBD_SOURCE,
@@ -136,6 +141,7 @@ fn takes_no_other_file_for_a_volume(rt: HostRuntime) -> Result<(), Fail> {
             line,
         )?;
     }
+    remove(&rt, &["none.dbd", "none.volume", "none.out"])?;
     Ok(())
 }
 
@@ -203,6 +209,7 @@ fn judges_a_turned_bit_of_each_byte(rt: HostRuntime) -> Result<(), Fail> {
             assert_eq!(rt; play_words(&rt, &words)?.status, 0, "at {place}");
         }
     }
+    remove(&rt, &["bit.dbd", "bit.volume", "bit.out", "bit.again"])?;
     Ok(())
 }
 
@@ -213,5 +220,6 @@ fn checks_once_memory_is_found(rt: HostRuntime) -> Result<(), Fail> {
     let words = words_of(rt.alloc(), &["check", "judged.dbd", "judged.volume"])?;
     let text = b"EDU passes: 4 blocks, 7 segments, 2 roots\n";
     assert!(rt; refusals_of_growth(&rt, &words, b"", text) > 0);
+    remove(&rt, &["judged.dbd", "judged.volume"])?;
     Ok(())
 }

@@ -1,6 +1,6 @@
-use super::testing::{expect, play_words, refusals_of_growth, sample_with, words_of};
+use super::testing::{expect, play_words, refusals_of_growth, remove, sample_with, words_of};
 use super::*;
-use hd_sample::{HEAD, STREAM};
+use hd_sample::{RECORDS, stream_of};
 use std::fs;
 use std::test::Fail;
 
@@ -8,6 +8,7 @@ use std::test::Fail;
 fn unloads_and_reloads_the_sample(rt: HostRuntime) -> Result<(), Fail> {
     fs::write(&rt, "sample.dbd", sample::DBD_SOURCE)?;
     fs::write(&rt, "sample.volume", &sample_with(&[]))?;
+    let stream = stream_of(rt.alloc(), RECORDS)?;
     let line = b"unloaded 7 segments\n";
     expect(
         &rt,
@@ -16,7 +17,7 @@ fn unloads_and_reloads_the_sample(rt: HostRuntime) -> Result<(), Fail> {
         line,
         b"",
     )?;
-    assert_eq!(rt; fs::read(&rt, "sample.out")?.as_slice(), STREAM);
+    assert_eq!(rt; fs::read(&rt, "sample.out")?.as_slice(), stream.as_slice());
     assert_eq!(rt;
         fs::read(&rt, "sample.volume")?.as_slice(),
         sample_with(&[]).as_slice()
@@ -42,7 +43,11 @@ fn unloads_and_reloads_the_sample(rt: HostRuntime) -> Result<(), Fail> {
         line,
         b"",
     )?;
-    assert_eq!(rt; fs::read(&rt, "sample.out")?.as_slice(), STREAM);
+    assert_eq!(rt; fs::read(&rt, "sample.out")?.as_slice(), stream.as_slice());
+    remove(
+        &rt,
+        &["sample.dbd", "sample.volume", "sample.out", "sample.again"],
+    )?;
     Ok(())
 }
 
@@ -56,27 +61,26 @@ fn follows_the_pointers_as_they_stand(rt: HostRuntime) -> Result<(), Fail> {
     )?;
     let words = ["unload", "turned.dbd", "turned.volume", "turned.out"];
     expect(&rt, &words, 0, b"unloaded 7 segments\n", b"")?;
-    let mut stream = Vec::new(rt.alloc());
-    stream.extend_from_slice(HEAD)?;
-    stream.extend_from_slice(
+    let stream = stream_of(
+        rt.alloc(),
         b"\x01\0\x08101ALGEB\x02\0\x0401AB\x03\0\x06ADAM01\x02\0\x0402CD\x03\0\x06EVE 02\x04\0\x05EULER\x01\0\x08205LOGIC\0\0\0\0\x07",
     )?;
     assert_eq!(rt; fs::read(&rt, "turned.out")?.as_slice(), stream.as_slice());
+    remove(&rt, &["turned.dbd", "turned.volume", "turned.out"])?;
     Ok(())
 }
 
 #[test]
 fn fills_the_blocks_of_the_index(rt: HostRuntime) -> Result<(), Fail> {
     fs::write(&rt, "roots.dbd", sample::DBD_SOURCE)?;
-    let mut stream = Vec::new(rt.alloc());
-    stream.extend_from_slice(HEAD)?;
+    let mut records = Vec::new(rt.alloc());
     for number in 1..=17u8 {
-        stream.extend_from_slice(b"\x01\0\x080")?;
-        stream.extend_from_slice(&[b'0' + number / 10, b'0' + number % 10])?;
-        stream.extend_from_slice(b"ALGEB")?;
+        records.extend_from_slice(b"\x01\0\x080")?;
+        records.extend_from_slice(&[b'0' + number / 10, b'0' + number % 10])?;
+        records.extend_from_slice(b"ALGEB")?;
     }
-    stream.extend_from_slice(b"\0\0\0\0\x11")?;
-    fs::write(&rt, "roots.in", &stream)?;
+    records.extend_from_slice(b"\0\0\0\0\x11")?;
+    fs::write(&rt, "roots.in", &stream_of(rt.alloc(), &records)?)?;
     expect(
         &rt,
         &["reload", "roots.dbd", "roots.in", "roots.volume", "16"],
@@ -90,19 +94,21 @@ fn fills_the_blocks_of_the_index(rt: HostRuntime) -> Result<(), Fail> {
         0,
         b"EDU passes: 9 blocks, 17 segments, 17 roots\n",
         b"",
-    )
+    )?;
+    remove(&rt, &["roots.dbd", "roots.in", "roots.volume"])?;
+    Ok(())
 }
 
 #[test]
 fn takes_five_thousand_twins(rt: HostRuntime) -> Result<(), Fail> {
     fs::write(&rt, "twins.dbd", sample::DBD_SOURCE)?;
-    let mut stream = Vec::new(rt.alloc());
-    stream.extend_from_slice(HEAD)?;
-    stream.extend_from_slice(b"\x01\0\x08101ALGEB\x02\0\x0401AB")?;
+    let mut records = Vec::new(rt.alloc());
+    records.extend_from_slice(b"\x01\0\x08101ALGEB\x02\0\x0401AB")?;
     for _ in 0..5000 {
-        stream.extend_from_slice(b"\x03\0\x06ADAM01")?;
+        records.extend_from_slice(b"\x03\0\x06ADAM01")?;
     }
-    stream.extend_from_slice(b"\0\0\0\x13\x8a")?;
+    records.extend_from_slice(b"\0\0\0\x13\x8a")?;
+    let stream = stream_of(rt.alloc(), &records)?;
     fs::write(&rt, "twins.in", &stream)?;
     expect(
         &rt,
@@ -126,19 +132,21 @@ fn takes_five_thousand_twins(rt: HostRuntime) -> Result<(), Fail> {
         b"",
     )?;
     assert_eq!(rt; fs::read(&rt, "twins.out")?.as_slice(), stream.as_slice());
+    remove(&rt, &["twins.dbd", "twins.in", "twins.volume", "twins.out"])?;
     Ok(())
 }
 
 #[test]
 fn reloads_once_memory_is_found(rt: HostRuntime) -> Result<(), Fail> {
     fs::write(&rt, "grown.dbd", sample::DBD_SOURCE)?;
-    fs::write(&rt, "grown.in", STREAM)?;
+    fs::write(&rt, "grown.in", &stream_of(rt.alloc(), RECORDS)?)?;
     let words = words_of(
         rt.alloc(),
         &["reload", "grown.dbd", "grown.in", "grown.volume", "16"],
     )?;
     let text = b"reloaded 7 segments into 4 blocks\n";
     assert!(rt; refusals_of_growth(&rt, &words, b"", text) > 0);
+    remove(&rt, &["grown.dbd", "grown.in", "grown.volume"])?;
     Ok(())
 }
 
@@ -152,6 +160,7 @@ fn unloads_once_memory_is_found(rt: HostRuntime) -> Result<(), Fail> {
     )?;
     let text = b"unloaded 7 segments\n";
     assert!(rt; refusals_of_growth(&rt, &words, b"", text) > 0);
+    remove(&rt, &["copied.dbd", "copied.volume", "copied.out"])?;
     Ok(())
 }
 
@@ -173,6 +182,7 @@ fn tells_of_files_that_are_none(rt: HostRuntime) -> Result<(), Fail> {
     ] {
         expect(&rt, words, 3, b"", b"device failed\n")?;
     }
+    remove(&rt, &["files.dbd", "files.volume"])?;
     Ok(())
 }
 
@@ -188,6 +198,7 @@ fn judges_the_source_first(rt: HostRuntime) -> Result<(), Fail> {
         assert_eq!(rt; end.status, 2);
         assert!(rt; end.err.starts_with(b"DBD refused: line 1, "));
     }
+    remove(&rt, &["first.dbd"])?;
     Ok(())
 }
 
@@ -195,7 +206,8 @@ fn judges_the_source_first(rt: HostRuntime) -> Result<(), Fail> {
 fn writes_over_no_file_that_it_reads(rt: HostRuntime) -> Result<(), Fail> {
     fs::write(&rt, "over.dbd", sample::DBD_SOURCE)?;
     fs::write(&rt, "over.volume", &sample_with(&[]))?;
-    fs::write(&rt, "over.in", STREAM)?;
+    let stream = stream_of(rt.alloc(), RECORDS)?;
+    fs::write(&rt, "over.in", &stream)?;
     for words in [
         &["unload", "over.dbd", "over.volume", "over.volume"] as &[&str],
         &["unload", "over.dbd", "over.volume", "./over.dbd"],
@@ -210,14 +222,15 @@ fn writes_over_no_file_that_it_reads(rt: HostRuntime) -> Result<(), Fail> {
         fs::read(&rt, "over.volume")?.as_slice(),
         sample_with(&[]).as_slice()
     );
-    assert_eq!(rt; fs::read(&rt, "over.in")?.as_slice(), STREAM);
+    assert_eq!(rt; fs::read(&rt, "over.in")?.as_slice(), stream.as_slice());
+    remove(&rt, &["over.dbd", "over.volume", "over.in"])?;
     Ok(())
 }
 
 #[test]
 fn reloads_a_stream_into_a_file(rt: HostRuntime) -> Result<(), Fail> {
     fs::write(&rt, "reload.dbd", sample::DBD_SOURCE)?;
-    fs::write(&rt, "reload.in", STREAM)?;
+    fs::write(&rt, "reload.in", &stream_of(rt.alloc(), RECORDS)?)?;
     for (blocks, status, out, err) in [
         ("16", 0, "reloaded 7 segments into 4 blocks\n", ""),
         ("1", 1, "", "reload refused: Full at record 1\n"),
@@ -234,6 +247,7 @@ fn reloads_a_stream_into_a_file(rt: HostRuntime) -> Result<(), Fail> {
         let volume = fs::read(&rt, "reload.volume")?;
         assert_eq!(rt; volume.starts_with(b"HDVOLUME"), status == 0);
     }
+    remove(&rt, &["reload.dbd", "reload.in", "reload.volume"])?;
     Ok(())
 }
 
@@ -254,12 +268,9 @@ fn refuses_the_first_bad_record(rt: HostRuntime) -> Result<(), Fail> {
             b"\x01\0\x08101ALGEB\x04\0\x05EULER\x02\0\x0401AB",
             "reload refused: LE at record 3\n",
         ),
-        (b"\x01\0\x08101", "reload refused: U2 at record 1\n"),
+        (b"\x01\0\x08101A", "reload refused: U2 at record 1\n"),
     ] {
-        let mut stream = Vec::new(rt.alloc());
-        stream.extend_from_slice(HEAD)?;
-        stream.extend_from_slice(records)?;
-        fs::write(&rt, "refused.in", &stream)?;
+        fs::write(&rt, "refused.in", &stream_of(rt.alloc(), records)?)?;
         let words = [
             "reload",
             "refused.dbd",
@@ -270,6 +281,7 @@ fn refuses_the_first_bad_record(rt: HostRuntime) -> Result<(), Fail> {
         expect(&rt, &words, 1, b"", line.as_bytes())?;
         assert!(rt; !fs::read(&rt, "refused.volume")?.starts_with(b"HDVOLUME"));
     }
+    remove(&rt, &["refused.dbd", "refused.in", "refused.volume"])?;
     Ok(())
 }
 

@@ -2,11 +2,11 @@ use super::play;
 use hd_sample::{image, put};
 use std::alloc::{AllocError, Global};
 use std::fs::File;
-use std::io;
 use std::io::Write;
 use std::process::Abort;
 use std::rt::Files;
 use std::test::Fail;
+use std::{fs, io};
 
 /// What a play wrote and answered.
 #[derive(Drop)]
@@ -50,6 +50,14 @@ pub fn expect<R: Files<File = File> + AllocGlobal + Abort>(
     assert_eq!(rt; end.out.as_slice(), out);
     assert_eq!(rt; end.err.as_slice(), err);
     assert_eq!(rt; end.status, status);
+    Ok(())
+}
+
+/// Removes the files that a test made.
+pub fn remove<R: Files<File = File>>(rt: &R, names: &[&str]) -> io::Result<()> {
+    for name in names {
+        fs::remove_file(rt, *name)?;
+    }
     Ok(())
 }
 
