@@ -18,7 +18,6 @@ use Rattle.hd_dbd.specs.Facts.{stored_sizes}
 use Rattle.hd_dbd.specs.Forest.{empty}
 use Rattle.hd_image.specs.Holding.{HoldsPlaced, HoldsRows}
 use Rattle.hd_image.proofs.Empty.{new-empty}
-use Rattle.hd_unload.specs.declared.record.Record.{Record as NextRecord}
 use Rattle.hd_unload.specs.declared.fault.RecordFault.{RecordFault}
 use Rattle.hd_unload.specs.declared.fault.ReloadFault.{ReloadFault}
 use Rattle.hd_unload.specs.declared.fault.ReloadFault.TheVariants.{Record, Full, Memory, Device}
@@ -174,14 +173,15 @@ row-refused d stream largest count left rest path v row Device read fits is faul
 
 -- ---- the whole stream
 
--- a row that is said to be there fits, and the record spells it
-pub row-there : (types : List SegmentType) (left : List ℕ) (o : Option NextRecord) (r : NextRecord) → o ≡ Some r
-    → IfSome o (λ x. (row_fits types (record { code = x.code; bytes = x.bytes.now }) ≡ true) × (left ≡ record_bytes (record { code = x.code; bytes = x.bytes.now }) ++ x.rest.now))
-    → (row_fits types (record { code = r.code; bytes = r.bytes.now }) ≡ true) × (left ≡ record_bytes (record { code = r.code; bytes = r.bytes.now }) ++ r.rest.now)
-row-there types left None r e h = cc
-row-there types left (Some x) r e h =
-    (let same : x ≡ r = cc in
-    subst (λ (y : NextRecord). (row_fits types (record { code = y.code; bytes = y.bytes.now }) ≡ true) × (left ≡ record_bytes (record { code = y.code; bytes = y.bytes.now }) ++ y.rest.now)) same h)
+-- what is said of a value, if there is one, holds of the value
+pub at-some : {A : Type 0} (P : A → Type 0) (o : Option A) (x : A) → o ≡ Some x → IfSome o P → P x
+at-some P None x e h = cc
+at-some P (Some y) x e h = (let same : y ≡ x = cc in subst P same h)
+
+-- what is said where there is none holds where there is none
+pub at-none : {A P : Type 0} (o : Option A) → o ≡ None → IfNone o P → P
+at-none None e h = h
+at-none (Some x) e h = cc
 
 -- nothing was read yet
 pub read-none : (d : Database) (stream records : List ℕ) (largest : ℕ) (path : List Placed) (v : VolumeState) → stream ≡ head_bytes d ++ records
@@ -199,20 +199,6 @@ read-none d stream records largest path v is fit none size sizes new = record {
     empty-holds : (d : Database) (largest : ℕ) (v : VolumeState) → IsTrue (well_formed d.block_size d.frspc d.types) → v.size ≡ d.block_size → v.sizes ≡ stored_sizes d.types
         → IsCreated d.name d.block_size largest v → HoldsPlaced d v empty
     empty-holds d largest v fit size sizes new = new-empty d v largest fit size sizes new
-
--- what is said of an end holds where it is the end
-pub at-end : (left : List ℕ) (count : ℕ) (o : Option NextRecord) → o ≡ None → IfNone o ((left ≡ end_bytes count) × (count < 2 ^ 32)) → (left ≡ end_bytes count) × (count < 2 ^ 32)
-at-end left count None e h = h
-at-end left count (Some x) e h = cc
-
--- what is wrong with a record, by its row alone
-pub row-faults : (types : List SegmentType) (left : List ℕ) (o : Option NextRecord) (r : NextRecord) → o ≡ Some r
-    → IfSome o (λ x. (rows : List Segment) → record_fault types rows left ≡ option_map refusal_of (load_fault types (last_path types rows) (record { code = x.code; bytes = x.bytes.now })))
-    → (rows : List Segment) → record_fault types rows left ≡ option_map refusal_of (load_fault types (last_path types rows) (record { code = r.code; bytes = r.bytes.now }))
-row-faults types left None r e h = cc
-row-faults types left (Some x) r e h =
-    (let same : x ≡ r = cc in
-    subst (λ (y : NextRecord). (rows : List Segment) → record_fault types rows left ≡ option_map refusal_of (load_fault types (last_path types rows) (record { code = y.code; bytes = y.bytes.now }))) same h)
 
 -- a record is longer than what follows it
 pub rest-shorter : (row : Segment) (left rest : List ℕ) → left ≡ record_bytes row ++ rest → length rest < length left

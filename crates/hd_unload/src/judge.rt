@@ -1,4 +1,5 @@
-ghost use Rattle.std.specs.Prelude.{◌≡◌, [], length};
+ghost use Rattle.std.specs.Prelude.{◌≡◌, [], length, IsTrue};
+ghost use Rattle.hd_dbd.specs.DatabaseRules.{well_formed};
 ghost use Rattle.hd_dbd.specs.Rows.{key_of};
 ghost use Rattle.hd_dbd.specs.Loads.{has_unique_key, lacks_parent, order_fault, load_fault};
 ghost use Rattle.hd_links.specs.LastRows.{segments_of, parent_on_path, twin_on_path};
@@ -32,7 +33,8 @@ fn has_unique_key(dbd: &Dbd, code: u8) -> bool
 
 /// The key of a row, without bytes where its type has none.
 pub fn key_of<'a>(dbd: &Dbd, code: u8, bytes: &'a [u8]) -> &'a [u8]
-    ensures { result.now ≡ key_of dbd.now.types (record { code = code; bytes = bytes.now }) }
+    ensures key { result.now ≡ key_of dbd.now.types (record { code = code; bytes = bytes.now }) }
+    ensures fit { IsTrue (well_formed dbd.now.block_size dbd.now.frspc dbd.now.types) }
 {
     match dbd.type_of(code) {
         None => &[],

@@ -24,7 +24,6 @@ pub fn root_key<'a>(dbd: &Dbd, bytes: &'a [u8]) -> &'a [u8]
     ensures key { result.now ≡ key_of dbd.now.types (record { code = 1; bytes = bytes.now }) }
     ensures whole { length result.now ≡ root_key_length dbd.now.types }
 {
-    let _ = dbd.types();
     key_of(dbd, 1, bytes)
 }
 

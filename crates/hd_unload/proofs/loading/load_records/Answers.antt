@@ -5,7 +5,7 @@ use Rattle.hd_volume.proofs.CallSteps.{call-none, call-ok}
 use Rattle.hd_volume.proofs.JoinLemmas.{calls-join}
 use Rattle.hd_unload.specs.declared.fault.RecordFault.TheVariants.{U2}
 use Rattle.hd_unload.specs.Streams.{head_bytes, record_fault}
-use Rattle.hd_unload.proofs.Reading.{read-none, read-more-of, read-all, read-refused, row-refused-of, row-there, row-faults, at-end, rest-shorter, none-left, fault-sound}
+use Rattle.hd_unload.proofs.Reading.{read-none, read-more-of, read-all, read-refused, row-refused-of, at-some, at-none, rest-shorter, none-left, fault-sound}
 use Rattle.hd_unload.proofs.loading.load_records.Goals as goal
 
 pub loop-count-init : goal.loop-count-init
@@ -24,7 +24,7 @@ returns-in-Err-clause-fault g c = λ stream is largest new.
 
 pub returns-in-Ok-None-clause-rows : goal.returns-in-Ok-None-clause-rows
 returns-in-Ok-None-clause-rows g c = λ stream is largest new.
-    let e = at-end c.loop-count.left.now c.loop-count.count c.in-Ok-None.field-0 c.in-Ok-None.field-0-is c.in-Ok-None.ensures.end in
+    let e = at-none c.in-Ok-None.field-0 c.in-Ok-None.field-0-is c.in-Ok-None.ensures.end in
     read-all c.args.dbd.now stream largest c.loop-count.count c.loop-count.left.now c.loop-count.path c.loop-count.volume c.loop-count.volume (c.loop-count.invariant.read stream is largest new) e.0 e.1 refl
 
 pub load_record-requires-clause-loaded : goal.load_record-requires-clause-loaded
@@ -37,8 +37,8 @@ load_record-requires-clause-loaded g c = λ now.
 pub returns-in-Err-load_record-clause-fault : goal.returns-in-Err-load_record-clause-fault
 returns-in-Err-load_record-clause-fault g c = λ stream is largest new.
     let d : Database = c.args.dbd.now in
-    let there = row-there c.types-types.result.now c.loop-count.left.now c.in-Ok-Some.field-0 c.in-Ok-Some.record c.in-Ok-Some.field-0-is c.in-Ok-Some.ensures.some in
-    let faults = row-faults c.types-types.result.now c.loop-count.left.now c.in-Ok-Some.field-0 c.in-Ok-Some.record c.in-Ok-Some.field-0-is c.in-Ok-Some.ensures.fault in
+    let there = at-some _ c.in-Ok-Some.field-0 c.in-Ok-Some.record c.in-Ok-Some.field-0-is c.in-Ok-Some.ensures.some in
+    let faults = at-some _ c.in-Ok-Some.field-0 c.in-Ok-Some.record c.in-Ok-Some.field-0-is c.in-Ok-Some.ensures.fault in
     fault-sound d stream largest c.loop-count.volume.is_sound c.args.volume.now.is_sound c.in-Err-load_record.fault c.loop-count.invariant.call.sound
     (row-refused-of d c.types-types.result.now c.types-types.ensures.types stream largest c.loop-count.count c.loop-count.left.now c.in-Ok-Some.record.rest.now c.loop-count.path c.loop-count.volume _ c.in-Err-load_record.fault
     (c.loop-count.invariant.read stream is largest new) there.0 there.1 faults c.in-Err-load_record.ensures.fault)
@@ -47,7 +47,7 @@ pub loop-count-preserved : goal.loop-count-preserved
 loop-count-preserved g c =
     let i = c.loop-count.invariant in
     let o = c.in-Ok.ensures in
-    let there = row-there c.types-types.result.now c.loop-count.left.now c.in-Ok-Some.field-0 c.in-Ok-Some.record c.in-Ok-Some.field-0-is c.in-Ok-Some.ensures.some in
+    let there = at-some _ c.in-Ok-Some.field-0 c.in-Ok-Some.record c.in-Ok-Some.field-0-is c.in-Ok-Some.ensures.some in
     record {
       call = call-ok 0 (calls-join (Ok c.in-Ok.field-0) i.call o.call);
       short = (let less = rest-shorter _ c.loop-count.left.now c.in-Ok-Some.record.rest.now there.1 in let s = i.short in omega arith);
