@@ -45,6 +45,7 @@ fn judge<L: Ledger>(alloc: Global, dbd: &Dbd, file: File, blank: Blank) -> Resul
     }
 }
 
+/// As `judge`, with a ledger of its own for the accesses that fail.
 fn judge_file(alloc: Global, dbd: &Dbd, file: File) -> Result<Passed, Stop> {
     judge::<Brand>(alloc, dbd, file, Blank::new(1))
 }

@@ -32,6 +32,7 @@ fn fill<L: Ledger>(
     }
 }
 
+/// As `fill`, with a ledger of its own for the accesses that fail.
 fn fill_file(
     alloc: Global,
     dbd: &Dbd,

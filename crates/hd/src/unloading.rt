@@ -37,6 +37,7 @@ fn copy<L: Ledger>(
     Ok(segments)
 }
 
+/// As `copy`, with a ledger of its own for the accesses that fail.
 fn copy_file(alloc: Global, dbd: &Dbd, file: File, out: File) -> Result<u32, Stop> {
     copy::<Brand>(alloc, dbd, file, out, Blank::new(1))
 }

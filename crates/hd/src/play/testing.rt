@@ -64,6 +64,7 @@ pub fn remove<R: Files<File = File>>(rt: &R, names: &[&str]) -> io::Result<()> {
 /// A file's bytes, from places on.
 pub type Parts<'a> = &'a [(usize, &'a [u8])];
 
+/// No edit.
 pub const NOTHING: Parts<'static> = &[];
 
 /// The sample image with other bytes from some places on.
