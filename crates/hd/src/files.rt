@@ -3,9 +3,12 @@ use crate::stop::Stop;
 use hd_dbd::Dbd;
 use hd_gen::read_dbd;
 use std::alloc::Global;
-use std::fs::{File, OpenOptions};
+use std::fs::{File, Metadata, OpenOptions};
 use std::os::unix::fs::MetadataExt;
 use std::rt::Files;
+
+/// The bytes of output that go out in one piece.
+pub const PIECE: usize = 65_536;
 
 /// Which file of this machine a file is, under whatever name it was opened.
 #[derive(Clone, Copy, PartialEq, Eq)]
@@ -15,19 +18,18 @@ pub struct Identity {
 }
 
 impl Identity {
-    fn of(file: &File) -> Result<Identity, Stop> {
-        let metadata = file.metadata()?;
-        Ok(Identity {
+    fn of(metadata: &Metadata) -> Identity {
+        Identity {
             device: metadata.dev(),
             number: metadata.ino(),
-        })
+        }
     }
 }
 
 /// A file that is read and not changed.
 pub fn open_file<R: Files<File = File>>(rt: &R, name: &str) -> Result<(File, Identity), Stop> {
     let file = OpenOptions::new().read(true).open(rt, name)?;
-    let identity = Identity::of(&file)?;
+    let identity = Identity::of(&file.metadata()?);
     Ok((file, identity))
 }
 
@@ -62,11 +64,11 @@ pub fn make_file<R: Files<File = File>>(
     let mut options = OpenOptions::new();
     options.read(true).write(true).create(true);
     let file = options.open(rt, name)?;
-    let identity = Identity::of(&file)?;
-    if inputs.contains(&identity) {
+    let metadata = file.metadata()?;
+    if inputs.contains(&Identity::of(&metadata)) {
         return Err(Stop::OverInput);
     }
-    if file.metadata()?.len() > 0 {
+    if metadata.len() > 0 {
         file.set_len(0)?;
     }
     Ok(file)

@@ -1,4 +1,5 @@
 use crate::checking::check_file;
+use crate::files::PIECE;
 use crate::input::read_whole;
 use crate::reloading::reload_file;
 use crate::sample;
@@ -14,15 +15,13 @@ use std::fs::File;
 use std::io::{BufWriter, Read, Write};
 use std::rt::Files;
 
-/// The bytes of output that go out in one piece.
-pub const PIECE: usize = 65_536;
-
 /// Does what the words behind the program's name ask for, and gives the status of the program: 0 done; 1 a fault in a volume or a
 /// stream, or no room for it; 2 a text refused; 3 a failed read or write; 4 no memory; 64 a command line that is not understood, help
 /// among them, whose text is `clap`'s, or one that would write over what it reads.
 ///
 /// Without words it reads a deck from `input` and plays it over the sample database. `check` judges a volume, `unload` writes its
-/// unload stream, and `reload` makes a volume of one. What the calls answer, and what was done, goes to `out`; why the program ended early goes to `err`.
+/// unload stream, and `reload` makes a volume of one. What the calls answer, and what was done, goes to `out`; why the program ended
+/// early goes to `err`.
 pub fn play<R, I, O, E>(rt: &R, words: &[String], input: &mut I, out: &mut O, err: &mut E) -> u8
 where
     R: Files<File = File> + AllocGlobal,

@@ -7,7 +7,7 @@ use std::alloc::{AllocError, AllocFailed};
 use std::io;
 use thiserror::Error;
 
-/// The status where the command line is not understood.
+/// The status where the command line is not understood, or would write over an input.
 pub const COMMAND_LINE: u8 = 64;
 
 /// Why the program ended without having done its work. Its text is the line on standard error.

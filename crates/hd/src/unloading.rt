@@ -1,8 +1,7 @@
 ghost use Rattle.std.specs.Prelude.{◌≡◌, ◌<◌};
 
 use crate::checking::load_volume;
-use crate::files::{make_file, open_file, read_database};
-use crate::play::PIECE;
+use crate::files::{PIECE, make_file, open_file, read_database};
 use crate::stop::Stop;
 use hd_dbd::Dbd;
 use hd_unload::unload;

@@ -4,23 +4,17 @@ use Rattle.std.specs.Io.KnownBytes.{Appends}
 use Rattle.std.proofs.KnownBytes.{Appends-nil, Appends-trans}
 use Rattle.std.proofs.lemmas.Bool.{cases_lt}
 use Rattle.std.proofs.lemmas.List.{append_assoc, take_all, take_more}
-use Rattle.std.proofs.lemmas.Nat.{mul-le}
 use Rattle.hd_dbd.specs.Hierarchy.{Database}
 use Rattle.hd_dbd.specs.Segment.{Segment}
 use Rattle.hd_dbd.specs.Forest.{Forest}
 use Rattle.hd_dbd.specs.Paths.{row_at, no_row}
-use Rattle.hd_dbd.proofs.StoredSizes.{block_size-bounds}
-use Rattle.hd_volume.specs.Headers.{header_of}
 use Rattle.hd_volume.specs.Volumes.{VolumeState}
 use Rattle.hd_volume.specs.Calls.{IsRead}
 use Rattle.hd_links.specs.Links.{Links, IsSegment, segment_at}
 use Rattle.hd_links.specs.Placed.{Placed}
 use Rattle.hd_links.specs.Steps.{rows_of}
-use Rattle.hd_links.proofs.Numbers.{rows_addressed}
-use Rattle.hd_links.proofs.RowBounds.{fewer_rows}
 use Rattle.hd_image.specs.Records.{links_of, IsVolumeOf}
 use Rattle.hd_image.specs.Holding.{HoldsPlaced}
-use Rattle.hd_image.proofs.Found.{records-link}
 use Rattle.hd_forest.specs.Walks.{tip, next_on, walked, AreSegments, HasForest}
 use Rattle.hd_forest.proofs.Climbs.{tip-some, next-segments}
 use Rattle.hd_forest.proofs.Held.{held}
@@ -29,6 +23,7 @@ use Rattle.hd_forest.proofs.Walking.{walking, walked-there}
 use Rattle.hd_unload.specs.Streams.{head_bytes, record_bytes, records_bytes, end_bytes, unload_bytes}
 use Rattle.hd_unload.specs.Unloads.{IsTurn}
 use Rattle.hd_unload.proofs.Reading.{nothing-behind}
+use Rattle.hd_unload.proofs.HeldStreams.{held-few}
 
 -- the last address of a path of segments is one of a segment
 pub tip-there : (m : Links) (path : List ℕ) → AreSegments m path → 0 < tip path → IsSegment m (tip path)
@@ -112,21 +107,9 @@ module _ (d : Database) (v : VolumeState) (f : Forest Placed) (h : HoldsPlaced d
             (subst (λ (rows : List Segment). Appends before mid (records_bytes rows)) (take_all count (rows_of f) (omega arith)) w.stream),
       )
 
-  -- the rows are fewer than the bytes of the image, and than 2 to the 32
+  -- so many rows are fewer than the bytes of the image, and than 2 to the 32
   pub written-few : (count < length v.image) × (count < 4294967295)
-  written-few =
-      let few = w.few in
-      let header = h.volume.formatted.header in
-      let bounds = block_size-bounds d.block_size d.frspc d.types h.volume.fit in
-      let first = header.first in
-      let whole = header.whole in
-      let within = header.within in
-      let bound = header.bound in
-      let size : v.size ≤ 32768 = (let b = bounds.1 in let own = h.volume.size in omega arith) in
-      let some : 0 < length v.image = (let b = bounds.0 in let own = h.volume.size in omega arith) in
-      let most : (header_of v.image).count * v.size ≤ 65536 * 32768 = mul-le (header_of v.image).count v.size 65536 32768 (omega arith) size in
-      let rows = fewer_rows d.types (length v.image) m (records-link d v h.volume.fit h.volume) some f (rows_addressed d.types m f h.records) in
-      (omega arith, omega arith)
+  written-few = (let few = w.few in let rows = held-few d v f h in let image = rows.0 in let numbers = rows.1 in (omega arith, omega arith))
 
 -- header, records and end are the stream
 pub stream-whole : (d : Database) (rows : List Segment) (count : ℕ) (head : List ℕ) (before a b after : Option (List ℕ)) → head ≡ head_bytes d → count ≡ length rows → Appends before a head

@@ -3,7 +3,7 @@ ghost use Rattle.std.specs.Prelude.{◌≡◌, ◌≤◌, ◌<◌, IfOk};
 use super::*;
 use hd_check::{CheckFault, Fault};
 use hd_dbd::{Dbd, Refused};
-use hd_sample::{RECORDS, database, stream_of};
+use hd_sample::{RECORDS, database, image, stream_of};
 use hd_volume::{BlockStore, FuseStore, MemStore, Volume};
 use std::alloc::{AllocError, Global};
 use std::io::{self, ErrorKind, Write};
@@ -233,6 +233,41 @@ fn unloads_nothing_of_an_empty_store(rt: HostRuntime) {
     };
     assert_eq!(rt; result, Err(UnloadFault::Check(CheckFault::Fault(fault))));
     assert!(rt; written.is_empty());
+}
+
+#[test]
+fn reloads_what_passes_of_each_changed_byte(rt: HostRuntime) -> Result<(), Fail> {
+    let alloc = rt.alloc();
+    let dbd = database(alloc).expect(&rt, "a database");
+    let mut passed = 0u32;
+    let mut image = image();
+    for place in 0..512 {
+        let own = image[place];
+        for step in 1..=255u8 {
+            image[place] = own.wrapping_add(step);
+            let mut bytes = Vec::new(alloc);
+            bytes.extend_from_slice(&image)?;
+            let mut stream = Vec::new(alloc);
+            match unloaded(alloc, &dbd, MemStore::new(128, bytes), &mut stream) {
+                Ok(segments) => {
+                    passed = passed.saturating_add(1);
+                    let store = MemStore::new(128, Vec::new(alloc));
+                    let again = reload(alloc, &dbd, &stream, store, 16).map(|made| made.segments);
+                    assert!(rt;
+                        again.is_ok_and(|made| made == segments),
+                        "{step} more at {place}"
+                    );
+                }
+                Err(UnloadFault::Check(CheckFault::Fault(_))) => {
+                    assert!(rt; stream.is_empty());
+                }
+                Err(_) => assert!(rt; false, "{step} more at {place}"),
+            }
+        }
+        image[place] = own;
+    }
+    assert!(rt; passed > 0);
+    Ok(())
 }
 
 #[test]

@@ -2,11 +2,7 @@ use super::testing::{
     NOTHING, Parts, expect, play_words, refusals_of_growth, remove, sample_with, words_of,
 };
 use super::*;
-use hd_check::CheckFault;
-use hd_dbd::Dbd;
 use hd_sample::put;
-use hd_unload::{UnloadFault, reload, unload};
-use hd_volume::{MemStore, Volume};
 use std::fs;
 use std::test::Fail;
 
@@ -142,55 +138,6 @@ fn takes_no_other_file_for_a_volume(rt: HostRuntime) -> Result<(), Fail> {
         )?;
     }
     remove(&rt, &["none.dbd", "none.volume", "none.out"])?;
-    Ok(())
-}
-
-/// What an unload of an image answers, and what it writes.
-fn unloaded(
-    alloc: Global,
-    dbd: &Dbd,
-    image: &[u8],
-    stream: &mut Vec<u8>,
-) -> Option<Result<u32, UnloadFault>> {
-    let mut bytes = Vec::new(alloc);
-    bytes.extend_from_slice(image).ok()?;
-    let store = MemStore::new(dbd.block_size() as usize, bytes);
-    match Volume::load(alloc, store, dbd) {
-        Ok(mut volume) => Some(unload(alloc, &mut volume, dbd, stream)),
-        Err(_) => None,
-    }
-}
-
-#[test]
-fn reloads_what_passes_of_each_changed_byte(rt: HostRuntime) -> Result<(), Fail> {
-    let alloc = rt.alloc();
-    let dbd = sample::database(alloc).expect(&rt, "a database");
-    let mut passed = 0u32;
-    let mut image = sample_with(&[]);
-    for place in 0..512 {
-        let own = image[place];
-        for step in 1..=255u8 {
-            image[place] = own.wrapping_add(step);
-            let mut stream = Vec::new(alloc);
-            match unloaded(alloc, &dbd, &image, &mut stream) {
-                Some(Ok(segments)) => {
-                    passed = passed.saturating_add(1);
-                    let store = MemStore::new(dbd.block_size() as usize, Vec::new(alloc));
-                    let again = reload(alloc, &dbd, &stream, store, 16).map(|made| made.segments);
-                    assert!(rt;
-                        again.is_ok_and(|made| made == segments),
-                        "{step} more at {place}"
-                    );
-                }
-                Some(Err(UnloadFault::Check(CheckFault::Fault(_)))) => {
-                    assert!(rt; stream.is_empty());
-                }
-                _ => assert!(rt; false, "{step} more at {place}"),
-            }
-        }
-        image[place] = own;
-    }
-    assert!(rt; passed > 0);
     Ok(())
 }
 
