@@ -1,66 +1,80 @@
 -- Worked decks over the sample database, computed by the definitions themselves: an edit of a definition that changes an
 -- answer is refused here.
-use Rattle.std.proofs.Common.{◌≡◌, ℕ, List, [], ◌∷◌, map, refl}
-use Rattle.std.specs.Prelude.{codes, Ok, Err}
+use Rattle.std.proofs.Common.{◌≡◌, ℕ, List, [], ◌∷◌, ◌++◌, map, refl}
+use Rattle.std.specs.Prelude.{codes, Result, Ok, Err}
+use Rattle.std.specs.List.{concat}
+use Rattle.std.specs.Result.{result_map_both}
+use Rattle.std.specs.Fmt.{digits}
 use Rattle.hd_dbd.specs.Segment.{Segment}
 use Rattle.hd_dbd.specs.Positions.{at_start}
 use Rattle.hd_dbd.specs.Sample.{sample_types, sample_pcbs, sample_rows}
+use Rattle.hd_deck.specs.declared.deck.DeckFault.{DeckFault}
 use Rattle.hd_deck.specs.declared.deck.DeckFault.TheVariants.{K1, K2, K3, K5}
 use Rattle.hd_deck.specs.StepText.{StepText}
 use Rattle.hd_deck.specs.Deck.{deck}
-use Rattle.hd_deck.specs.Printing.{outcome_text}
+use Rattle.hd_deck.specs.Printing.{print}
 use Rattle.hd_deck.specs.Runs.{turns_of, row_log}
+
+-- what a deck prints over some rows of the sample, by its program's PCBs
+abbrev printed : List Segment → List ℕ → Result (List ℕ) DeckFault
+printed rows text =
+    result_map_both (λ steps.
+    print (row_log (record { types = sample_types; pcbs = sample_pcbs; rows = rows; positions = at_start ∷ at_start ∷ at_start ∷ [] }) (turns_of steps)))
+    (λ fault. fault) (deck 3 text)
+
+-- GN to the end of the database, and from its beginning again
+pub nine_gets_next : printed sample_rows (codes "L   9 GN\n")
+    ≡ Ok (codes "1 1 GN   [  ] 01 COURSE   key=101 area=101ALGEB\n"
+    ++ codes "2 1 GN   [  ] 02 CLASS    key=10101 area=01AB\n"
+    ++ codes "3 1 GN   [  ] 03 STUD     key=10101ADAM area=ADAM01\n"
+    ++ codes "4 1 GN   [  ] 03 STUD     key=10101EVE  area=EVE 02\n"
+    ++ codes "5 1 GN   [GA] 02 CLASS    key=10102 area=02CD\n"
+    ++ codes "6 1 GN   [GK] 02 BOOK     key=101 area=EULER\n"
+    ++ codes "7 1 GN   [GA] 01 COURSE   key=205 area=205LOGIC\n"
+    ++ codes "8 1 GN   [GB] 00          key= area=\n"
+    ++ codes "9 1 GN   [  ] 01 COURSE   key=101 area=101ALGEB\n")
+unfolding digits
+nine_gets_next = refl
+
+-- a PCB that sees no students
+pub four_by_the_third : printed sample_rows (codes "S 3\nL   4 GN")
+    ≡ Ok (codes "1 3 GN   [  ] 01 COURSE   key=101 area=101ALGEB\n"
+    ++ codes "2 3 GN   [  ] 02 CLASS    key=10101 area=01AB\n"
+    ++ codes "3 3 GN   [  ] 02 CLASS    key=10102 area=02CD\n"
+    ++ codes "4 3 GN   [GK] 02 BOOK     key=101 area=EULER\n")
+unfolding digits
+four_by_the_third = refl
+
+-- each PCB has its own position
+pub two_positions : printed sample_rows (codes "S 2\nL     GN\nS 1\nL   2 GN\n")
+    ≡ Ok (codes "1 2 GN   [  ] 01 COURSE   key=101 area=101ALGEB\n"
+    ++ codes "2 1 GN   [  ] 01 COURSE   key=101 area=101ALGEB\n"
+    ++ codes "3 1 GN   [  ] 02 CLASS    key=10101 area=01AB\n")
+unfolding digits
+two_positions = refl
+
+-- a function that is not known yet
+pub other_function : printed sample_rows (codes "L     GNP") ≡ Ok (codes "1 1 GNP  [AD] 00          key= area=\n")
+unfolding digits
+other_function = refl
+
+-- no rows
+pub empty_database : printed [] (codes "L     GU\nL     GN")
+    ≡ Ok (codes "1 1 GU   [GE] 00          key= area=\n" ++ codes "2 1 GN   [GB] 00          key= area=\n")
+unfolding digits
+empty_database = refl
+
+-- a call of two digits
+pub tenth_call : printed [] (codes "L  10 GN") ≡ Ok (concat (map (λ n. n ++ codes " 1 GN   [GB] 00          key= area=\n")
+    (codes "1" ∷ codes "2" ∷ codes "3" ∷ codes "4" ∷ codes "5" ∷ codes "6" ∷ codes "7" ∷ codes "8" ∷ codes "9" ∷ codes "10" ∷ [])))
+unfolding digits
+tenth_call = refl
+
+-- ---- decks and their faults
 
 abbrev asked : ℕ → ℕ → List ℕ → StepText
 asked pcb repeat function = record { pcb = pcb; repeat = repeat; call = record { function = function; ssas = []; area = [] } }
 
--- what the calls of some steps print behind their heads, over some rows
-abbrev answers : List Segment → List StepText → List (List ℕ)
-answers rows steps =
-    map (λ e. outcome_text e.outcome)
-    (row_log (record { types = sample_types; pcbs = sample_pcbs; rows = rows; positions = at_start ∷ at_start ∷ at_start ∷ [] }) (turns_of steps)).entries
-
--- GN to the end of the database, and from its beginning again
-pub nine_gets_next : answers sample_rows (asked 1 9 (codes "GN  ") ∷ [])
-    ≡ codes " [  ] 01 COURSE   key=101 area=101ALGEB\n"
-    ∷ codes " [  ] 02 CLASS    key=10101 area=01AB\n"
-    ∷ codes " [  ] 03 STUD     key=10101ADAM area=ADAM01\n"
-    ∷ codes " [  ] 03 STUD     key=10101EVE  area=EVE 02\n"
-    ∷ codes " [GA] 02 CLASS    key=10102 area=02CD\n"
-    ∷ codes " [GK] 02 BOOK     key=101 area=EULER\n"
-    ∷ codes " [GA] 01 COURSE   key=205 area=205LOGIC\n"
-    ∷ codes " [GB] 00          key= area=\n"
-    ∷ codes " [  ] 01 COURSE   key=101 area=101ALGEB\n"
-    ∷ []
-nine_gets_next = refl
-
--- a PCB that sees no students
-pub four_by_the_third : answers sample_rows (asked 3 4 (codes "GN  ") ∷ [])
-    ≡ codes " [  ] 01 COURSE   key=101 area=101ALGEB\n"
-    ∷ codes " [  ] 02 CLASS    key=10101 area=01AB\n"
-    ∷ codes " [  ] 02 CLASS    key=10102 area=02CD\n"
-    ∷ codes " [GK] 02 BOOK     key=101 area=EULER\n"
-    ∷ []
-four_by_the_third = refl
-
--- each PCB has its own position
-pub two_positions : answers sample_rows (asked 2 1 (codes "GN  ") ∷ asked 1 2 (codes "GN  ") ∷ [])
-    ≡ codes " [  ] 01 COURSE   key=101 area=101ALGEB\n"
-    ∷ codes " [  ] 01 COURSE   key=101 area=101ALGEB\n"
-    ∷ codes " [  ] 02 CLASS    key=10101 area=01AB\n"
-    ∷ []
-two_positions = refl
-
--- a function that is not known yet
-pub other_function : answers sample_rows (asked 1 1 (codes "GNP ") ∷ []) ≡ codes " [AD] 00          key= area=\n" ∷ []
-other_function = refl
-
--- no rows
-pub empty_database : answers [] (asked 1 1 (codes "GU  ") ∷ asked 1 1 (codes "GN  ") ∷ [])
-    ≡ codes " [GE] 00          key= area=\n" ∷ codes " [GB] 00          key= area=\n" ∷ []
-empty_database = refl
-
--- decks and their faults
 pub third_pcb : deck 3 (codes "S 3\nL   4 GN") ≡ Ok (asked 3 4 (codes "GN  ") ∷ [])
 third_pcb = refl
 

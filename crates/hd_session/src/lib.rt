@@ -2,6 +2,7 @@
 #![tactic(auto)]
 
 mod buffer;
+mod get;
 mod place;
 mod request;
 mod rows;

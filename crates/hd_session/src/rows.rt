@@ -1,19 +1,22 @@
-ghost use Rattle.std.specs.Prelude.{◌≡◌, ℕ, ◌<◌, ◌≤◌, [], Some, None, option_map, IfOk, IfErr, IsOk, IsTrue, length, map};
+ghost use Rattle.std.specs.Prelude.{◌≡◌, ℕ, ◌<◌, ◌≤◌, [], false, Some, None, option_map, IfOk, IsOk, IsTrue, length, map};
 ghost use Rattle.hd_dbd.specs.Hierarchy.{longest_path};
 ghost use Rattle.hd_dbd.specs.ProgramRules.{type_names};
 ghost use Rattle.hd_dbd.specs.Rows.{valid};
 ghost use Rattle.hd_dbd.specs.Paths.{row_at};
 ghost use Rattle.hd_dbd.specs.Positions.{at_start};
-ghost use Rattle.hd_dbd.specs.Gets.{search_start, crossing, get_status, get_step, onto};
+ghost use Rattle.hd_dbd.specs.Refusals.{OnlyMemory};
+ghost use Rattle.hd_calls.specs.declared.call.GetKind.TheVariants.{Unique, Next};
+ghost use Rattle.hd_calls.specs.Gets.{crossing, get_step, onto};
 ghost use Rattle.hd_session.specs.Place.{position_of, place_of};
-ghost use Rattle.hd_session.specs.RowCalls.{get_named, row_step, reply_of};
+ghost use Rattle.hd_session.specs.RowCalls.{row_step, reply_of};
 ghost use Rattle.hd_session.specs.Session.{call_step};
 
 use crate::buffer::IoArea;
+use crate::get::{RowGet, get_named};
 use crate::place::{LastType, RowPosition};
 use crate::request::{Answer, Call};
 use crate::search::{first_from, give_row};
-use hd_dbd::{Dbd, Get, Pcb, Psb, Refused, Row, Status};
+use hd_dbd::{Dbd, Pcb, Psb, Refused, Row, Status};
 use std::alloc::Global;
 use std::marker::Model;
 
@@ -46,24 +49,10 @@ fn crossing(last: Option<LastType>, level: u8, code: u8) -> Status
     }
 }
 
-/// The status of a get that found the row of a number.
-fn get_status(dbd: &Dbd, rows: &[Row], position: &RowPosition, get: Get, number: usize) -> Status
-    requires { number < length rows.now }
-    ensures { result ≡ get_status dbd.now.types rows.now (position_of position.now) get number }
-{
-    match get {
-        Get::Unique => Status::Blank,
-        Get::Next => {
-            let row = &rows[number];
-            crossing(position.last, dbd.level(row.code), row.code)
-        }
-    }
-}
-
-/// The position of a PCB that stands on the row of a number.
+/// The position of a PCB that GU or GN left on the row of a number.
 fn onto(dbd: &Dbd, rows: &[Row], number: usize) -> RowPosition
     requires { number < length rows.now }
-    ensures { position_of result ≡ onto dbd.now.types rows.now number }
+    ensures { position_of result ≡ onto dbd.now.types rows.now at_start Unique false [] number }
 {
     let row = &rows[number];
     RowPosition {
@@ -77,52 +66,49 @@ fn onto(dbd: &Dbd, rows: &[Row], number: usize) -> RowPosition
     }
 }
 
-/// The number of the first row that a get looks at.
-fn search_start(position: &RowPosition, get: Get) -> usize
-    ensures { result ≡ search_start (position_of position.now) get }
-{
-    match get {
-        Get::Unique => 0,
-        Get::Next => position.passed,
-    }
-}
-
-/// GU and GN without a segment search argument. Where no row satisfies, GU answers GE; GN answers GB, and the PCB is
-/// back at the start.
-fn get_step(
+/// GU without a segment search argument. Where no row satisfies it answers GE.
+fn get_unique(
     dbd: &Dbd,
     pcb: &Pcb,
     rows: &[Row],
     position: RowPosition,
-    get: Get,
     io: &mut IoArea,
 ) -> (Answer, RowPosition)
     requires empty { (io.old.key ≡ []) × (io.old.area ≡ []) }
     requires room { (i : ℕ) → length (row_at rows.now i).bytes ≤ io.old.room }
-    ensures step { (reply_of result.0 io.new, position_of result.1) ≡ get_step (record { types = dbd.now.types; pcb = pcb.now }) rows.now (position_of position) get }
+    ensures step { (reply_of result.0 io.new, position_of result.1) ≡ get_step (record { types = dbd.now.types; pcb = pcb.now }) rows.now (position_of position) Unique false [] }
     ensures same_room { io.new.room ≡ io.old.room }
 {
-    match first_from(dbd, pcb, rows, search_start(&position, get)) {
+    match first_from(dbd, pcb, rows, 0) {
         Some(number) => {
-            let status = get_status(dbd, rows, &position, get, number);
-            let answer = give_row(dbd, pcb, rows, number, status, io);
+            let answer = give_row(dbd, pcb, rows, number, Status::Blank, io);
             (answer, onto(dbd, rows, number))
         }
-        None => match get {
-            Get::Unique => (bare(Status::GE), position),
-            Get::Next => (bare(Status::GB), RowPosition::start()),
-        },
+        None => (bare(Status::GE), position),
     }
 }
 
-/// The get that a function names.
-fn get_named(function: &[u8; 4]) -> Option<Get>
-    ensures { result ≡ get_named function.now }
+/// GN without a segment search argument. Where no row satisfies it answers GB, and the PCB is back at the start.
+fn get_next(
+    dbd: &Dbd,
+    pcb: &Pcb,
+    rows: &[Row],
+    position: RowPosition,
+    io: &mut IoArea,
+) -> (Answer, RowPosition)
+    requires empty { (io.old.key ≡ []) × (io.old.area ≡ []) }
+    requires room { (i : ℕ) → length (row_at rows.now i).bytes ≤ io.old.room }
+    ensures step { (reply_of result.0 io.new, position_of result.1) ≡ get_step (record { types = dbd.now.types; pcb = pcb.now }) rows.now (position_of position) Next false [] }
+    ensures same_room { io.new.room ≡ io.old.room }
 {
-    match function {
-        b"GU  " => Some(Get::Unique),
-        b"GN  " => Some(Get::Next),
-        _ => None,
+    match first_from(dbd, pcb, rows, position.passed) {
+        Some(number) => {
+            let row = &rows[number];
+            let status = crossing(position.last, dbd.level(row.code), row.code);
+            let answer = give_row(dbd, pcb, rows, number, status, io);
+            (answer, onto(dbd, rows, number))
+        }
+        None => (bare(Status::GB), RowPosition::start()),
     }
 }
 
@@ -149,7 +135,10 @@ fn step(
     if !pcb.reads_some() {
         return (bare(Status::AM), position);
     }
-    get_step(dbd, pcb, rows, position, get, io)
+    match get {
+        RowGet::Unique => get_unique(dbd, pcb, rows, position, io),
+        RowGet::Next => get_next(dbd, pcb, rows, position, io),
+    }
 }
 
 /// A session of the PCBs of a program over a plain list of rows, which it keeps in memory. It answers GU and GN
@@ -186,7 +175,7 @@ impl<'a> RowSession<'a> {
         requires valid { IsTrue (valid dbd.now.types rows.items) }
         requires matches { psb.now.made_for ≡ type_names dbd.now.types }
         ensures start { IfOk result (λ s. s ≡ record { types = dbd.now.types; pcbs = psb.now.pcbs; rows = rows.items; positions = map (λ _. at_start) psb.now.pcbs }) }
-        ensures memory { IfErr result (λ e. e ≡ Refused.Memory) }
+        ensures memory { OnlyMemory result }
     {
         let mut positions = Vec::new(alloc);
         for _pcb in psb.pcbs() {

@@ -1,9 +1,11 @@
 ghost use Rattle.std.specs.Prelude.{◌≡◌, ◌<◌, ◌≤◌, ◌-◌, ◌+◌, ◌*◌, [], ◌++◌, length, IfSome};
 ghost use Rattle.hd_dbd.specs.Rows.{key_of};
 ghost use Rattle.hd_dbd.specs.Paths.{row_at, path_above, keys_of};
-ghost use Rattle.hd_dbd.specs.Views.{may_get};
 ghost use Rattle.hd_dbd.specs.Calls.{row_reply};
-ghost use Rattle.hd_dbd.specs.Gets.{satisfies, first_from};
+ghost use Rattle.hd_dbd.specs.Letters.{gives_get};
+ghost use Rattle.hd_dbd.specs.Searches.{first_from};
+ghost use Rattle.hd_calls.specs.Access.{may};
+ghost use Rattle.hd_calls.specs.Satisfies.{satisfies};
 ghost use Rattle.hd_session.specs.Buffer.{KEY_ROOM};
 ghost use Rattle.hd_session.specs.RowCalls.{reply_of};
 
@@ -13,7 +15,7 @@ use hd_dbd::{Dbd, Pcb, Row, Status, gives_get, key_in};
 
 /// Whether the type of the code is seen and may be read.
 fn may_get(dbd: &Dbd, pcb: &Pcb, code: u8) -> bool
-    ensures { result ≡ may_get (record { types = dbd.now.types; pcb = pcb.now }) code }
+    ensures { result ≡ may (record { types = dbd.now.types; pcb = pcb.now }) gives_get code }
 {
     let Some(segment) = dbd.type_of(code) else {
         return false;
@@ -27,7 +29,7 @@ fn may_get(dbd: &Dbd, pcb: &Pcb, code: u8) -> bool
 /// The first row from `begin` on that satisfies a call without an SSA.
 #[tactic(auto, using(crate::proofs::Searches::least_within_next))]
 pub fn first_from(dbd: &Dbd, pcb: &Pcb, rows: &[Row], begin: usize) -> Option<usize>
-    ensures found { result ≡ first_from (satisfies (record { types = dbd.now.types; pcb = pcb.now }) rows.now) begin (length rows.now) }
+    ensures found { result ≡ first_from (satisfies (record { types = dbd.now.types; pcb = pcb.now }) rows.now []) begin (length rows.now) }
     ensures within { IfSome result (λ i. i < length rows.now) }
 {
     for number in begin..rows.len() {

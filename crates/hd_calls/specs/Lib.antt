@@ -1,0 +1,12 @@
+pub mod Access
+pub mod Functions
+pub mod Ssas
+pub mod Satisfies
+pub mod Gets
+pub mod Places
+pub mod Moves
+pub mod Steps
+pub mod Runs
+pub mod Tags
+pub mod NoLostUpdate
+pub mod Laws
