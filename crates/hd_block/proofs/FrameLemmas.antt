@@ -21,7 +21,7 @@ pub used-clear : (sizes : ℕ → ℕ) (b : List ℕ) (p f l : ℕ) (xs zs : Lis
     → (place + n ≤ m) ⊎ (m + 8 ≤ place)
 used-clear sizes b p f l [] zs q g m place n h w u = let r = used-ahead p zs place n u in inr (omega arith)
 used-clear sizes b p f l (free k ∷ xs) zs q g m place n h w u =
-    let some = w.1.some in used-clear sizes b (p + k) (number_at 2 b p) p xs zs q g m place n (omega arith) w.2 u
+    let some = w.1.element.some in used-clear sizes b (p + k) (number_at 2 b p) p xs zs q g m place n (omega arith) w.2 u
 used-clear sizes b p f l (taken k ∷ xs) zs q g m place n h w u = used-clear sizes b (p + k) f l xs zs q g m place n (omega arith) w.3 u
 used-clear sizes b p f l (used k ∷ xs) zs q g m place n h w (inl e) = elim (way-link sizes b (p + k) f l xs q g m w.2) [ inl v ↦ inr (omega arith) | inr v ↦ inl (omega arith) ]
 used-clear sizes b p f l (used k ∷ xs) zs q g m place n h w (inr u) = used-clear sizes b (p + k) f l xs zs q g m place n (omega arith) w.2 u
@@ -31,7 +31,7 @@ pub used-beside : (sizes : ℕ → ℕ) (b : List ℕ) (p f l : ℕ) (xs zs : Li
     → (place + n ≤ q) ⊎ UsedAt q zs place n
 used-beside sizes b p f l [] zs q g m place n h w u = inr (subst (λ z. UsedAt z zs place n) w.0 u)
 used-beside sizes b p f l (free k ∷ xs) zs q g m place n h w u =
-    let some = w.1.some in used-beside sizes b (p + k) (number_at 2 b p) p xs zs q g m place n (omega arith) w.2 u
+    let some = w.1.element.some in used-beside sizes b (p + k) (number_at 2 b p) p xs zs q g m place n (omega arith) w.2 u
 used-beside sizes b p f l (taken k ∷ xs) zs q g m place n h w u = used-beside sizes b (p + k) f l xs zs q g m place n (omega arith) w.3 u
 used-beside sizes b p f l (used k ∷ xs) zs q g m place n h w (inl e) =
     let some = w.1.some in let r = way-within sizes b (p + k) f l xs q g m (omega arith) w.2 in inl (omega arith)

@@ -4,7 +4,7 @@ use Rattle.std.proofs.lemmas.Bool.{eq-eqb}
 use Rattle.hd_bytes.specs.Ranges.{ChangesOnly}
 use Rattle.hd_bytes.specs.Numbers.{number_at}
 use Rattle.hd_bytes.proofs.NumberLemmas.{number-below, number-above}
-use Rattle.hd_block.specs.Extents.{Extent, free, used, taken, IsElement, Fill, IsDivided}
+use Rattle.hd_block.specs.Extents.{Extent, free, used, taken, IsHole, Fill, IsDivided}
 use Rattle.hd_block.specs.Changes.{hole_before, after_give}
 use Rattle.hd_block.specs.Found.{Way, IsLinked, IsBehind}
 use Rattle.hd_block.specs.declared.gives.Link.{Link}
@@ -40,14 +40,14 @@ some-behind sizes b place next [] behind some h e more on = absurd (omega arith)
 some-behind sizes b place next (used m ∷ xs) behind some h e more on = absurd (h.0 e)
 some-behind sizes b place next (taken m ∷ xs) behind some h e more on = absurd (h.0 e)
 some-behind sizes b place next (free m ∷ xs) behind some h e more on =
-    let same : behind.more ≡ m = more ∙ h.1.len in
-    let large = h.1.some in
+    let same : behind.more ≡ m = more ∙ h.1.element.len in
+    let large = h.1.element.some in
     let within = fill-within sizes b (place + m) (number_at 2 b place) xs h.2 in (
       record {
         rest = xs;
         joined = λ n. rw same refl;
         fill = rw (same, on) h.2;
-        whole = rw same h.1.whole;
+        whole = rw same h.1.element.whole;
         apart = λ u. h.1.apart (sym on ∙ u ∙ ap (λ (z : ℕ). place + z) same);
       },
       omega arith,
@@ -62,10 +62,10 @@ give-here place n extent xs (inl e) = ap (λ z. after_give place place (z ∷ xs
 give-here place n extent xs (inr e) = ap (λ z. after_give place place (z ∷ xs)) e ∙ ap (λ t. cond t (hole_before n xs) (taken n ∷ after_give place (place + n) xs)) (eq-eqb place place refl)
 
 -- a hole on the way is not joined to what follows it
-hole-stays : (sizes : ℕ → ℕ) (b : List ℕ) (p n : ℕ) (xs zs : List Extent) (q g m : ℕ) → 8 ≤ p → IsElement b p n → Way sizes b (p + n) (number_at 2 b p) p xs q g m
+hole-stays : (sizes : ℕ → ℕ) (b : List ℕ) (p n : ℕ) (xs zs : List Extent) (q g m : ℕ) → 8 ≤ p → IsHole b p n → Way sizes b (p + n) (number_at 2 b p) p xs q g m
     → (8 ≤ m → m + number_at 2 b (m + 2) ≢ q) → hole_before n (xs ++ zs) ≡ free n ∷ (xs ++ zs)
 hole-stays sizes b p n [] zs q g m l e w apart =
-    let len : p + number_at 2 b (p + 2) ≡ p + n = ap (λ (z : ℕ). p + z) e.len in
+    let len : p + number_at 2 b (p + 2) ≡ p + n = ap (λ (z : ℕ). p + z) e.element.len in
     let at : m + number_at 2 b (m + 2) ≡ q = ap (λ (z : ℕ). z + number_at 2 b (z + 2)) (sym w.2) ∙ len ∙ w.0 in
     absurd (apart (omega arith) at)
 hole-stays sizes b p n (free k ∷ xs) zs q g m l e w apart = absurd (e.apart (sym w.0))
@@ -77,7 +77,7 @@ give-way : (sizes : ℕ → ℕ) (b : List ℕ) (p f l : ℕ) (xs ys zs : List E
     → (8 ≤ m → m + number_at 2 b (m + 2) ≢ q) → after_give place q ys ≡ zs → after_give place p (xs ++ ys) ≡ xs ++ zs
 give-way sizes b p f l [] ys zs q g m place h w o apart e = rw w.0 e
 give-way sizes b p f l (free n ∷ xs) ys zs q g m place h w o apart e =
-    let some = w.1.some in
+    let some = w.1.element.some in
     ap (hole_before n) (give-way sizes b (p + n) (number_at 2 b p) p xs ys zs q g m place (omega arith) w.2 o apart e)
     ∙ hole-stays sizes b p n xs zs q g m (omega arith) w.1 w.2 apart
 give-way sizes b p f l (used n ∷ xs) ys zs q g m place h w o apart e =
@@ -111,11 +111,13 @@ gives-own {sizes} {b} {xs} {offset} {n} {link} {behind} {b1} {b2} s t apart some
       below = λ k h i. c2.below k i ∙ c1.below k (omega arith);
       above = λ k h i. c2.above k i ∙ c1.below k (omega arith);
     } in
-    let element : IsElement b2 offset total = record {
-      len = number-above 2 (offset + 2) c2 (omega arith) ∙ n2;
-      task = number-above 4 (offset + 4) c2 (omega arith) ∙ n3;
-      some = omega arith;
-      whole = omega arith;
+    let element : IsHole b2 offset total = record {
+      element = record {
+        len = number-above 2 (offset + 2) c2 (omega arith) ∙ n2;
+        task = number-above 4 (offset + 4) c2 (omega arith) ∙ n3;
+        some = omega arith;
+        whole = omega arith;
+      };
       apart = λ u. t.apart (sym next ∙ u ∙ sum);
     } in
     let rest : Fill sizes b2 (offset + n + behind.more) behind.next t.rest =
@@ -135,13 +137,13 @@ pub record EndsFree (sizes : ℕ → ℕ) (b : List ℕ) (p f l : ℕ) (xs : Lis
   pub link : ℕ
   pub is : xs ≡ front ++ free size ∷ []
   pub way : Way sizes b p f l front m m link
-  pub element : IsElement b m size
+  pub hole : IsHole b m size
 
 -- a way that leads nowhere has no extents
 way-empty : (sizes : ℕ → ℕ) (b : List ℕ) (p f l : ℕ) (xs : List Extent) (q g m : ℕ) → l + 8 ≤ p → Way sizes b p f l xs q g m → q ≤ p → xs ≡ []
 way-empty sizes b p f l [] q g m h w o = refl
 way-empty sizes b p f l (free n ∷ xs) q g m h w o =
-    let some = w.1.some in let r = way-within sizes b (p + n) (number_at 2 b p) p xs q g m (omega arith) w.2 in absurd (omega arith)
+    let some = w.1.element.some in let r = way-within sizes b (p + n) (number_at 2 b p) p xs q g m (omega arith) w.2 in absurd (omega arith)
 way-empty sizes b p f l (used n ∷ xs) q g m h w o =
     let some = w.1.some in let r = way-within sizes b (p + n) f l xs q g m (omega arith) w.2 in absurd (omega arith)
 way-empty sizes b p f l (taken n ∷ xs) q g m h w o =
@@ -152,25 +154,25 @@ way-last : (sizes : ℕ → ℕ) (b : List ℕ) (p f l : ℕ) (xs : List Extent)
     → EndsFree sizes b p f l xs m
 way-last sizes b p f l [] q g m h w o e = absurd (omega arith)
 way-last sizes b p f l (free n ∷ xs) q g m h w o e =
-    let some = w.1.some in
-    let len = w.1.len in
+    let some = w.1.element.some in
+    let len = w.1.element.len in
     elim (way-link sizes b (p + n) (number_at 2 b p) p xs q g m w.2) [
       | inl d ↦
           let end : p + n ≡ q = ap (λ (z : ℕ). p + z) (sym len) ∙ ap (λ (z : ℕ). z + number_at 2 b (z + 2)) (sym d) ∙ e in
           let none = way-empty sizes b (p + n) (number_at 2 b p) p xs q g m (omega arith) w.2 (omega arith) in
-          record { front = []; size = n; link = l; is = ap (λ (z : List Extent). free n ∷ z) none; way = (sym d, sym w.0 ∙ sym d, refl); element = rw d w.1 }
+          record { front = []; size = n; link = l; is = ap (λ (z : List Extent). free n ∷ z) none; way = (sym d, sym w.0 ∙ sym d, refl); hole = rw d w.1 }
       | inr v ↦
           let r = way-last sizes b (p + n) (number_at 2 b p) p xs q g m (omega arith) w.2 v e in
-          record { front = free n ∷ r.front; size = r.size; link = r.link; is = ap (λ (z : List Extent). free n ∷ z) r.is; way = (w.0, w.1, r.way); element = r.element }
+          record { front = free n ∷ r.front; size = r.size; link = r.link; is = ap (λ (z : List Extent). free n ∷ z) r.is; way = (w.0, w.1, r.way); hole = r.hole }
     ]
 way-last sizes b p f l (used n ∷ xs) q g m h w o e =
     let later : p + n ≤ m = elim (way-link sizes b (p + n) f l xs q g m w.2) [ inl d ↦ absurd (omega arith) | inr v ↦ v ] in
     let r = way-last sizes b (p + n) f l xs q g m (omega arith) w.2 later e in
-    record { front = used n ∷ r.front; size = r.size; link = r.link; is = ap (λ (z : List Extent). used n ∷ z) r.is; way = (w.0, w.1, r.way); element = r.element }
+    record { front = used n ∷ r.front; size = r.size; link = r.link; is = ap (λ (z : List Extent). used n ∷ z) r.is; way = (w.0, w.1, r.way); hole = r.hole }
 way-last sizes b p f l (taken n ∷ xs) q g m h w o e =
     let later : p + n ≤ m = elim (way-link sizes b (p + n) f l xs q g m w.3) [ inl d ↦ absurd (omega arith) | inr v ↦ v ] in
     let r = way-last sizes b (p + n) f l xs q g m (omega arith) w.3 later e in
-    record { front = taken n ∷ r.front; size = r.size; link = r.link; is = ap (λ (z : List Extent). taken n ∷ z) r.is; way = (w.0, w.1, w.2, r.way); element = r.element }
+    record { front = taken n ∷ r.front; size = r.size; link = r.link; is = ap (λ (z : List Extent). taken n ∷ z) r.is; way = (w.0, w.1, w.2, r.way); hole = r.hole }
 
 -- a free element ends where the room begins: it becomes longer, by the two writes that do it
 pub gives-joined : {sizes : ℕ → ℕ} {b : List ℕ} {xs : List Extent} {offset n : ℕ} {link : Link} {behind : Behind} {b1 b2 : List ℕ} (s : IsLinked sizes b xs offset n link)
@@ -182,9 +184,9 @@ gives-joined {sizes} {b} {xs} {offset} {n} {link} {behind} {b1} {b2} s t low adj
     let m : ℕ = link.link in
     let e = way-last sizes b 8 (number_at 2 b 0) 0 s.before offset link.next m (omega arith) s.way low adjoins in
     let k : ℕ = e.size in
-    let k_len : number_at 2 b (m + 2) ≡ k = e.element.len in
-    let k_some = e.element.some in
-    let k_whole = e.element.whole in
+    let k_len : number_at 2 b (m + 2) ≡ k = e.hole.element.len in
+    let k_some = e.hole.element.some in
+    let k_whole = e.hole.element.whole in
     let total : ℕ = k + (n + behind.more) in
     let whole_more = t.whole in
     let in_way = way-within sizes b 8 (number_at 2 b 0) 0 e.front m m e.link (omega arith) e.way in
@@ -199,11 +201,13 @@ gives-joined {sizes} {b} {xs} {offset} {n} {link} {behind} {b1} {b2} s t low adj
       below = λ i h j. c2.below i (omega arith) ∙ c1.below i (omega arith);
       above = λ i h j. c2.below i (omega arith) ∙ c1.below i (omega arith);
     } in
-    let element : IsElement b2 m total = record {
-      len = n2 ∙ ap (λ (z : ℕ). z + (n + behind.more)) k_len;
-      task = number-above 4 (m + 4) c2 (omega arith) ∙ number-above 4 (m + 4) c1 (omega arith) ∙ e.element.task;
-      some = omega arith;
-      whole = omega arith;
+    let element : IsHole b2 m total = record {
+      element = record {
+        len = n2 ∙ ap (λ (z : ℕ). z + (n + behind.more)) k_len;
+        task = number-above 4 (m + 4) c2 (omega arith) ∙ number-above 4 (m + 4) c1 (omega arith) ∙ e.hole.element.task;
+        some = omega arith;
+        whole = omega arith;
+      };
       apart = λ u. t.apart (sym next ∙ u ∙ sum);
     } in
     let rest : Fill sizes b2 (offset + n + behind.more) behind.next t.rest =

@@ -4,21 +4,23 @@ use Rattle.std.proofs.lemmas.Bool.{eq-eqb}
 use Rattle.hd_bytes.specs.Ranges.{ChangesOnly}
 use Rattle.hd_bytes.specs.Numbers.{number_at}
 use Rattle.hd_bytes.proofs.NumberLemmas.{number-below}
-use Rattle.hd_block.specs.Extents.{Extent, free, used, taken, IsElement, IsSegment, Fill, AreWhole, UsedAt, TakenAt}
+use Rattle.hd_block.specs.Extents.{Extent, free, used, taken, IsHole, IsSegment, Fill, AreWhole, UsedAt, TakenAt}
 use Rattle.hd_block.specs.Changes.{after_fill}
 use Rattle.hd_block.proofs.Walk.{fill-within, at-ahead, at-taken}
 use Rattle.hd_block.proofs.Reroute.{fill-same, segment-kept}
 use Rattle.hd_block.proofs.FrameLemmas.{used-ahead}
 
 -- a free element before a change
-element-before : {p n : ℕ} {b b' : List ℕ} (q m : ℕ) → ChangesOnly p n b b' → q + m ≤ p → IsElement b q m → IsElement b' q m
+element-before : {p n : ℕ} {b b' : List ℕ} (q m : ℕ) → ChangesOnly p n b b' → q + m ≤ p → IsHole b q m → IsHole b' q m
 element-before q m c l e =
-    let some = e.some in
+    let some = e.element.some in
     record {
-      len = number-below 2 (q + 2) c (omega arith) ∙ e.len;
-      task = number-below 4 (q + 4) c (omega arith) ∙ e.task;
-      some = some;
-      whole = e.whole;
+      element = record {
+        len = number-below 2 (q + 2) c (omega arith) ∙ e.element.len;
+        task = number-below 4 (q + 4) c (omega arith) ∙ e.element.task;
+        some = some;
+        whole = e.element.whole;
+      };
       apart = λ v. e.apart (sym (number-below 2 q c (omega arith)) ∙ v);
     }
 
@@ -26,7 +28,7 @@ element-before q m c l e =
 pub fill-written : (sizes : ℕ → ℕ) (b b' : List ℕ) (p f : ℕ) (xs : List Extent) (place n : ℕ) → Fill sizes b p f xs → UsedAt p xs place n → ChangesOnly (place + 1) (n - 1) b b' → Fill sizes b' p f xs
 fill-written sizes b b' p f [] place n h u c = absurd u
 fill-written sizes b b' p f (free m ∷ xs) place n h u c =
-    let some = h.1.some in
+    let some = h.1.element.some in
     let ahead = used-ahead (p + m) xs place n u in
     let next : number_at 2 b' p ≡ number_at 2 b p = number-below 2 p c (omega arith) in
     (h.0, element-before p m c (omega arith) h.1, rw next (fill-written sizes b b' (p + m) (number_at 2 b p) xs place n h.2 u c))
@@ -48,7 +50,7 @@ pub fill-filled : (sizes : ℕ → ℕ) (b b' : List ℕ) (p f : ℕ) (xs : List
     → sizes (slice_index b' place) ≡ n → Fill sizes b' p f (after_fill place p xs)
 fill-filled sizes b b' p f [] place n h u c e = absurd u
 fill-filled sizes b b' p f (free m ∷ xs) place n h u c e =
-    let some = h.1.some in
+    let some = h.1.element.some in
     let ahead = taken-ahead (p + m) xs place n u in
     let next : number_at 2 b' p ≡ number_at 2 b p = number-below 2 p c (omega arith) in
     (h.0, element-before p m c (omega arith) h.1, rw next (fill-filled sizes b b' (p + m) (number_at 2 b p) xs place n h.2 u c e))
@@ -89,7 +91,7 @@ one-division sizes b p f (used n ∷ xs) [] k s t h i = let some = h.1.some in l
 one-division sizes b p f (free n ∷ xs) (used m ∷ ys) k s t h i = absurd (i.0 h.0)
 one-division sizes b p f (used n ∷ xs) (free m ∷ ys) k s t h i = absurd (h.0 i.0)
 one-division sizes b p f (free n ∷ xs) (free m ∷ ys) k s t h i =
-    let same : m ≡ n = sym i.1.len ∙ h.1.len in
+    let same : m ≡ n = sym i.1.element.len ∙ h.1.element.len in
     let rest : Fill sizes b (p + n) (number_at 2 b p) ys = rw (← same) i.2 in
     ap (λ (z : ℕ). free z ∷ xs) (sym same) ∙ ap (λ (z : List Extent). free m ∷ z) (one-division sizes b (p + n) (number_at 2 b p) xs ys (omega arith) s t h.2 rest)
 one-division sizes b p f (used n ∷ xs) (used m ∷ ys) k s t h i =

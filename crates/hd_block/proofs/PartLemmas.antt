@@ -114,7 +114,7 @@ parts-filled : (sizes : ℕ → ℕ) (b : List ℕ) (p f : ℕ) (xs : List Exten
 parts-filled sizes b p f [] h w = from-end sizes b p f (omega arith)
 parts-filled sizes b p f (free n ∷ xs) h w =
     let within = fill-within sizes b (p + n) (number_at 2 b p) xs h.2 in
-    from-free sizes b p f n h.0 (sym h.1.len) h.1.some within ∙ ap (λ (z : List Part). Free p n ∷ z) (parts-filled sizes b (p + n) (number_at 2 b p) xs h.2 w)
+    from-free sizes b p f n h.0 (sym h.1.element.len) h.1.element.some within ∙ ap (λ (z : List Part). Free p n ∷ z) (parts-filled sizes b (p + n) (number_at 2 b p) xs h.2 w)
 parts-filled sizes b p f (used n ∷ xs) h w =
     let within = fill-within sizes b (p + n) f xs h.2 in
     from-used sizes b p f n h.0 (sym h.1.size) h.1.some within ∙ ap (λ (z : List Part). Used p n ∷ z) (parts-filled sizes b (p + n) f xs h.2 w)

@@ -2,7 +2,7 @@
 use Rattle.std.proofs.Common.{◌≡◌, ◌≢◌, ℕ, ◌+◌, ◌<◌, ◌≤◌, ◌⊎◌, inl, inr, List, [], ◌∷◌, ◌++◌, length, slice_index, refl, sym, ap, ◌∙◌, subst, arith}
 use Rattle.hd_bytes.specs.Numbers.{number_at}
 use Rattle.hd_bytes.proofs.NumberLemmas.{number-same}
-use Rattle.hd_block.specs.Extents.{Extent, free, used, taken, IsElement, IsSegment, Fill}
+use Rattle.hd_block.specs.Extents.{Extent, free, used, taken, IsHole, IsSegment, Fill}
 use Rattle.hd_block.specs.Found.{Way}
 
 -- below q only the two bytes at m may differ
@@ -38,7 +38,7 @@ way-link sizes b p f l (taken n ∷ xs) q g m w = elim (way-link sizes b (p + n)
 pub way-within : (sizes : ℕ → ℕ) (b : List ℕ) (p f l : ℕ) (xs : List Extent) (q g m : ℕ) → l + 8 ≤ p → Way sizes b p f l xs q g m → (p ≤ q) × (m + 8 ≤ q)
 way-within sizes b p f l [] q g m h w = (omega arith, omega arith)
 way-within sizes b p f l (free n ∷ xs) q g m h w =
-    let e = w.1.some in let r = way-within sizes b (p + n) (number_at 2 b p) p xs q g m (omega arith) w.2 in (omega arith, omega arith)
+    let e = w.1.element.some in let r = way-within sizes b (p + n) (number_at 2 b p) p xs q g m (omega arith) w.2 in (omega arith, omega arith)
 way-within sizes b p f l (used n ∷ xs) q g m h w =
     let r = way-within sizes b (p + n) f l xs q g m (omega arith) w.2 in (omega arith, omega arith)
 way-within sizes b p f l (taken n ∷ xs) q g m h w =
@@ -55,7 +55,7 @@ way-next sizes b p f l (taken n ∷ xs) q g m k w = way-next sizes b (p + n) f l
 pub way-apart : (sizes : ℕ → ℕ) (b : List ℕ) (p f l : ℕ) (xs : List Extent) (q g m : ℕ) → Way sizes b p f l xs q g m → (m ≡ l) ⊎ (m + number_at 2 b (m + 2) ≢ number_at 2 b m)
 way-apart sizes b p f l [] q g m w = inl (sym w.2)
 way-apart sizes b p f l (free n ∷ xs) q g m w =
-    let at = w.1.len in
+    let at = w.1.element.len in
     let apart = w.1.apart in
     elim (way-apart sizes b (p + n) (number_at 2 b p) p xs q g m w.2) [
       | inl e ↦ inr (subst (λ (z : ℕ). z + number_at 2 b (z + 2) ≢ number_at 2 b z) (sym e) (λ u. apart (sym u ∙ ap (λ (z : ℕ). p + z) at)))
@@ -91,24 +91,28 @@ element-apart {b} {b'} {m} {q} {p} {n} e l w s (to z y) =
     λ u. y (omega arith) (len ∙ sym u ∙ t ∙ z)
 
 -- a free element on the way stays one
-element-kept : {b b' : List ℕ} {m q p n : ℕ} → Redirects b b' m q → (m ≡ p) ⊎ (p + n ≤ m) → 8 ≤ p → p + n ≤ q → IsElement b p n
-    → LeadsOn b b' m q → IsElement b' p n
+element-kept : {b b' : List ℕ} {m q p n : ℕ} → Redirects b b' m q → (m ≡ p) ⊎ (p + n ≤ m) → 8 ≤ p → p + n ≤ q → IsHole b p n
+    → LeadsOn b b' m q → IsHole b' p n
 element-kept {b} {b'} {m} {q} {p} {n} r (inl e) l w s z =
-    let some = s.some in
+    let some = s.element.some in
     record {
-      len = number-kept r 2 (p + 2) (omega arith) (inr (omega arith)) ∙ s.len;
-      task = number-kept r 4 (p + 4) (omega arith) (inr (omega arith)) ∙ s.task;
-      some = some;
-      whole = s.whole;
-      apart = element-apart e l w s.len z;
+      element = record {
+        len = number-kept r 2 (p + 2) (omega arith) (inr (omega arith)) ∙ s.element.len;
+        task = number-kept r 4 (p + 4) (omega arith) (inr (omega arith)) ∙ s.element.task;
+        some = some;
+        whole = s.element.whole;
+      };
+      apart = element-apart e l w s.element.len z;
     }
 element-kept {b} {b'} {m} {q} {p} {n} r (inr e) l w s z =
-    let some = s.some in
+    let some = s.element.some in
     record {
-      len = number-kept r 2 (p + 2) (omega arith) (inl (omega arith)) ∙ s.len;
-      task = number-kept r 4 (p + 4) (omega arith) (inl (omega arith)) ∙ s.task;
-      some = some;
-      whole = s.whole;
+      element = record {
+        len = number-kept r 2 (p + 2) (omega arith) (inl (omega arith)) ∙ s.element.len;
+        task = number-kept r 4 (p + 4) (omega arith) (inl (omega arith)) ∙ s.element.task;
+        some = some;
+        whole = s.element.whole;
+      };
       apart = λ u. s.apart (sym (number-kept r 2 p (omega arith) (inl (omega arith))) ∙ u);
     }
 
@@ -117,7 +121,7 @@ pub reroute : (sizes : ℕ → ℕ) (b b' : List ℕ) (p f l : ℕ) (xs zs : Lis
     → LeadsOn b b' m q → Fill sizes b' q (number_at 2 b' m) zs → Fill sizes b' p (number_at 2 b' l) (xs ++ zs)
 reroute sizes b b' p f l [] zs q g m w k h r z t = rw (w.0, w.2) t
 reroute sizes b b' p f l (free n ∷ xs) zs q g m w k h r z t =
-    let some = w.1.some in
+    let some = w.1.element.some in
     let in_way = way-within sizes b (p + n) (number_at 2 b p) p xs q g m (omega arith) w.2 in
     let link = way-link sizes b (p + n) (number_at 2 b p) p xs q g m w.2 in
     let before : l + 2 ≤ m = elim link [ inl e ↦ omega arith | inr e ↦ omega arith ] in (
@@ -150,10 +154,12 @@ fill-same sizes b b' p f (free n ∷ xs) len same h =
     let next : number_at 2 b' p ≡ number_at 2 b p = same_number 2 p (omega arith) in (
       h.0,
       record {
-        len = same_number 2 (p + 2) (omega arith) ∙ h.1.len;
-        task = same_number 4 (p + 4) (omega arith) ∙ h.1.task;
-        some = h.1.some;
-        whole = h.1.whole;
+        element = record {
+          len = same_number 2 (p + 2) (omega arith) ∙ h.1.element.len;
+          task = same_number 4 (p + 4) (omega arith) ∙ h.1.element.task;
+          some = h.1.element.some;
+          whole = h.1.element.whole;
+        };
         apart = λ u. h.1.apart (sym next ∙ u);
       },
       rw next (fill-same sizes b b' (p + n) (number_at 2 b p) xs len (λ k l. same k (omega arith)) h.2),

@@ -4,7 +4,7 @@ use Rattle.std.proofs.lemmas.Bool.{le-leb, eq-eqb}
 use Rattle.hd_bytes.specs.Ranges.{ChangesOnly}
 use Rattle.hd_bytes.specs.Numbers.{number_at}
 use Rattle.hd_bytes.proofs.NumberLemmas.{number-above}
-use Rattle.hd_block.specs.Extents.{Extent, free, taken, IsElement, Fill, IsDivided}
+use Rattle.hd_block.specs.Extents.{Extent, free, taken, IsHole, Fill, IsDivided}
 use Rattle.hd_block.specs.Changes.{split_hole, after_take}
 use Rattle.hd_block.specs.Found.{SeeksHole, Stands}
 use Rattle.hd_block.proofs.Walk.{fill-ahead}
@@ -14,8 +14,8 @@ use Rattle.hd_block.proofs.Reroute.{Redirects, LeadsOn, ends, past, way-within, 
 pub takes-whole : {sizes : ℕ → ℕ} {b : List ℕ} {xs : List Extent} {end g m n : ℕ} (size : ℕ) (b' : List ℕ) → Stands sizes b (SeeksHole size xs) xs end g m n → n ≡ size
     → ChangesOnly m 2 b b' → number_at 2 b' m ≡ number_at 2 b g → IsDivided sizes b' (after_take size xs)
 takes-whole {sizes} {b} {xs} {end} {g} {m} {n} size b' s e c next =
-    let some = s.element.some in
-    let even : size % 8 ≡ 0 = ap (λ (z : ℕ). z % 8) (sym e) ∙ s.element.whole in
+    let some = s.hole.element.some in
+    let even : size % 8 ≡ 0 = ap (λ (z : ℕ). z % 8) (sym e) ∙ s.hole.element.whole in
     let in_way = way-within sizes b 8 (number_at 2 b 0) 0 s.before g g m (omega arith) s.way in
     let r : Redirects b b' m g = record { len = c.len; below = λ k l h. c.below k h; above = λ k l h. c.above k h } in
     let later : LeadsOn b b' m g = elim (fill-ahead sizes b (g + n) (number_at 2 b g) s.behind s.fill) [ inl y ↦ ends (next ∙ y) | inr y ↦ past (omega arith) ] in
@@ -33,14 +33,16 @@ takes-front : {sizes : ℕ → ℕ} {b : List ℕ} {xs : List Extent} {end g m n
     → IsDivided sizes b' (after_take size xs)
 takes-front {sizes} {b} {xs} {end} {g} {m} {n} size b' s l some whole r same link next len task =
     let later : LeadsOn b b' m g = past (omega arith) in
-    let apart = s.element.apart in
-    let even = s.element.whole in
+    let apart = s.hole.apart in
+    let even = s.hole.element.whole in
     let at : (g + size) + (n - size) ≡ g + n = omega arith in
-    let element : IsElement b' (g + size) (n - size) = record {
-      len = len;
-      task = task;
-      some = omega arith;
-      whole = omega arith;
+    let element : IsHole b' (g + size) (n - size) = record {
+      element = record {
+        len = len;
+        task = task;
+        some = omega arith;
+        whole = omega arith;
+      };
       apart = λ u. apart (sym next ∙ u ∙ at);
     } in
     let rest : Fill sizes b' (g + n) (number_at 2 b' (g + size)) s.behind = rw next (fill-same sizes b b' (g + n) (number_at 2 b g) s.behind r.len same s.fill) in

@@ -2,13 +2,13 @@
 use Rattle.std.proofs.Common.{◌≡◌, ◌≢◌, ℕ, ◌+◌, ◌%◌, ◌<◌, ◌≤◌, ◌⊎◌, inl, inr, nat_le, false, List, [], ◌∷◌, ◌++◌, length, Some, None, refl, sym, ap, ◌∙◌, subst, arith, append_assoc, cond}
 use Rattle.std.proofs.lemmas.Bool.{lt-leb}
 use Rattle.hd_bytes.specs.Numbers.{number_at}
-use Rattle.hd_block.specs.Extents.{Extent, free, used, taken, IsElement, IsSegment, Fill, IsDivided, UsedAt, TakenAt}
+use Rattle.hd_block.specs.Extents.{Extent, free, used, taken, IsHole, IsSegment, Fill, IsDivided, UsedAt, TakenAt}
 use Rattle.hd_block.specs.Changes.{hole_at, split_hole, after_take}
 use Rattle.hd_block.specs.Found.{Way, At, Keeps, SeeksHole, SeeksOffset, Progress, Stands, IsLinked}
 use Rattle.hd_block.specs.declared.gives.Link.{Link}
 
 -- a way goes on by a free element
-pub way-free : (sizes : ℕ → ℕ) (b : List ℕ) (p f l : ℕ) (xs : List Extent) (q m n : ℕ) → Way sizes b p f l xs q q m → IsElement b q n
+pub way-free : (sizes : ℕ → ℕ) (b : List ℕ) (p f l : ℕ) (xs : List Extent) (q m n : ℕ) → Way sizes b p f l xs q q m → IsHole b q n
     → Way sizes b p f l (xs ++ free n ∷ []) (q + n) (number_at 2 b q) q
 way-free sizes b p f l [] q m n w e = (w.0 ∙ sym w.1, rw w.0 e, (ap (λ (x : ℕ). x + n) w.0, ap (number_at 2 b) w.0, w.0))
 way-free sizes b p f l (free k ∷ xs) q m n w e = (w.0, w.1, way-free sizes b (p + k) (number_at 2 b p) p xs q m n w.2 e)
@@ -84,11 +84,11 @@ go-on sizes b kept xs end g m before (free n ∷ ys) place w f l e k step some =
       before = before;
       behind = ys;
       way = v;
-      element = rw f.1.len f.1;
-      fill = rw f.1.len f.2;
+      hole = rw f.1.element.len f.1;
+      fill = rw f.1.element.len f.2;
       far = l;
-      whole = rw f.1.len e;
-      keeps = rw f.1.len k;
+      whole = rw f.1.element.len e;
+      keeps = rw f.1.element.len k;
     }) w
 go-on sizes b kept xs end g m before (used n ∷ ys) place w f l e k step some =
     let size = f.1.some in
@@ -113,9 +113,9 @@ passes {sizes} {b} {kept} {xs} {end} {g} {m} {n} s k =
       before = s.before ++ free n ∷ [];
       behind = s.behind;
       place = g + n;
-      way = way-free sizes b 8 (number_at 2 b 0) 0 s.before g m n s.way s.element;
+      way = way-free sizes b 8 (number_at 2 b 0) 0 s.before g m n s.way s.hole;
       fill = s.fill;
-      far = let e = s.element.some in omega arith;
+      far = let e = s.hole.element.some in omega arith;
       whole = s.whole ∙ sym (append_assoc s.before _ _);
       keeps = k;
     }
@@ -188,7 +188,7 @@ arrive : (sizes : ℕ → ℕ) (b : List ℕ) (xs : List Extent) (link : Link) (
 arrive sizes b xs link offset n before [] place z w f e h past = absurd h
 arrive sizes b xs link offset n before (free k ∷ ys) place z w f e h past =
     let ahead = at-ahead (place + k) ys offset n h in
-    let some = f.1.some in
+    let some = f.1.element.some in
     elim past [ inl v ↦ absurd (omega arith) | inr v ↦ absurd (omega arith) ]
 arrive sizes b xs link offset n before (used k ∷ ys) place z w f e (inl d) past = record {
   before = before;

@@ -9,13 +9,16 @@ pub data Extent : Type 0 where
   used : ℕ → Extent
   taken : ℕ → Extent
 
--- A free element of n bytes: its length in bytes 2 and 3, a task identifier of 0 in bytes 4 to 7. The next element, as its
--- first two bytes say, does not begin where it ends.
-pub record IsElement (bytes : List ℕ) (place n : ℕ) : Type 0 where
+-- A free element of n bytes: its length in bytes 2 and 3, a multiple of 8, and a task identifier of 0 in bytes 4 to 7.
+pub record IsFreeElement (bytes : List ℕ) (place n : ℕ) : Type 0 where
   pub len : number_at 2 bytes (place + 2) ≡ n
   pub task : number_at 4 bytes (place + 4) ≡ 0
   pub some : 8 ≤ n
   pub whole : n % 8 ≡ 0
+
+-- A hole of n bytes: a free element, and the next one, as its first two bytes say, does not begin where it ends.
+pub record IsHole (bytes : List ℕ) (place n : ℕ) : Type 0 where
+  pub element : IsFreeElement bytes place n
   pub apart : number_at 2 bytes place ≢ place + n
 
 -- A segment of n bytes, as the code in its first byte says.
@@ -27,7 +30,7 @@ pub record IsSegment (sizes : ℕ → ℕ) (bytes : List ℕ) (place n : ℕ) : 
 -- From a place on, where the next free element begins at `next` (0 for none), the bytes are these extents.
 abbrev pub Fill : (ℕ → ℕ) → List ℕ → ℕ → ℕ → List Extent → Type 0
 Fill sizes bytes place next [] = (place ≡ length bytes) × (next ≡ 0)
-Fill sizes bytes place next (free n ∷ xs) = (place ≡ next) × IsElement bytes place n × Fill sizes bytes (place + n) (number_at 2 bytes place) xs
+Fill sizes bytes place next (free n ∷ xs) = (place ≡ next) × IsHole bytes place n × Fill sizes bytes (place + n) (number_at 2 bytes place) xs
 Fill sizes bytes place next (used n ∷ xs) = (place ≢ next) × IsSegment sizes bytes place n × Fill sizes bytes (place + n) next xs
 Fill sizes bytes place next (taken n ∷ xs) = (place ≢ next) × (8 ≤ n) × (n % 8 ≡ 0) × Fill sizes bytes (place + n) next xs
 

@@ -1,7 +1,7 @@
 -- What a walk along the free elements of a block finds.
 use Rattle.std.specs.Prelude.{◌≡◌, ◌≢◌, ◌⊎◌, ℕ, ◌+◌, ◌%◌, ◌≤◌, List, [], ◌∷◌, ◌++◌}
 use Rattle.hd_bytes.specs.Numbers.{number_at}
-use Rattle.hd_block.specs.Extents.{Extent, free, used, taken, IsElement, IsSegment, Fill}
+use Rattle.hd_block.specs.Extents.{Extent, free, used, taken, IsHole, IsSegment, Fill}
 use Rattle.hd_block.specs.Changes.{hole_at, after_take, hole_before}
 use Rattle.hd_block.specs.declared.holes.Hole.{Hole}
 use Rattle.hd_block.specs.declared.gives.Link.{Link}
@@ -11,7 +11,7 @@ use Rattle.hd_block.specs.declared.gives.Behind.{Behind}
 -- place q, where the next free element is at g, as the two bytes at m say.
 abbrev pub Way : (ℕ → ℕ) → List ℕ → (p f l : ℕ) → List Extent → (q g m : ℕ) → Type 0
 Way sizes b p f l [] q g m = (p ≡ q) × (f ≡ g) × (l ≡ m)
-Way sizes b p f l (free n ∷ xs) q g m = (p ≡ f) × IsElement b p n × Way sizes b (p + n) (number_at 2 b p) p xs q g m
+Way sizes b p f l (free n ∷ xs) q g m = (p ≡ f) × IsHole b p n × Way sizes b (p + n) (number_at 2 b p) p xs q g m
 Way sizes b p f l (used n ∷ xs) q g m = (p ≢ f) × IsSegment sizes b p n × Way sizes b (p + n) f l xs q g m
 Way sizes b p f l (taken n ∷ xs) q g m = (p ≢ f) × (8 ≤ n) × (n % 8 ≡ 0) × Way sizes b (p + n) f l xs q g m
 
@@ -50,7 +50,7 @@ pub record Stands (sizes : ℕ → ℕ) (b : List ℕ) (kept : Keeps) (xs : List
   pub before : List Extent
   pub behind : List Extent
   pub way : Way sizes b 8 (number_at 2 b 0) 0 before g g m
-  pub element : IsElement b g n
+  pub hole : IsHole b g n
   pub fill : Fill sizes b (g + n) (number_at 2 b g) behind
   pub far : end ≤ g
   pub whole : xs ≡ before ++ free n ∷ behind

@@ -16,3 +16,4 @@ pub mod Walks
 pub mod InSequence
 pub mod WorkedSample
 pub mod Loading
+mod Under

@@ -9,8 +9,8 @@ use Rattle.std.proofs.lemmas.Bool.{and_parts, and_from, eqb-true, eq-eqb, ne_eqb
 use Rattle.std.proofs.lemmas.List.{length-append, length-take-le}
 use Rattle.std.proofs.lemmas.Option.{slice_get_past}
 use Rattle.hd_dbd.specs.declared.hierarchy.Key.{Key}
-use Rattle.hd_dbd.specs.declared.answer.Status.{Status}
-use Rattle.hd_dbd.specs.declared.answer.Status.TheVariants.{LB, LC, LD, LE}
+use Rattle.hd_dbd.specs.declared.answer.LoadFault.{LoadFault}
+use Rattle.hd_dbd.specs.declared.answer.LoadFault.TheVariants.{LB, LC, LD, LE}
 use Rattle.hd_dbd.specs.Types.{SegmentType}
 use Rattle.hd_dbd.specs.Segment.{Segment}
 use Rattle.hd_dbd.specs.Hierarchy.{type_of, parent_of, level_of, part_of, key_in}
@@ -123,7 +123,7 @@ module _ (types : List SegmentType) (leveled : Leveled types) (path : List Segme
 -- ---- the order
 
 -- what an order of keys is refused for, if it is
-abbrev key_fault : Option Key → Ordering → Option Status
+abbrev key_fault : Option Key → Ordering → Option LoadFault
 key_fault key o = cond (option_map_or (λ k. k.unique) key false && is_eq o) (Some LB) (cond (is_gt o) (Some LC) None)
 
 -- the order of keys that twins may have

@@ -4,8 +4,8 @@ use Rattle.std.specs.Prelude.{codes, take}
 use Rattle.hd_dbd.specs.Prefixes.{prefix_length, pointers_at, stored_size}
 use Rattle.hd_dbd.specs.DatabaseRules.{well_formed}
 use Rattle.hd_dbd.specs.ProgramRules.{program_fits, type_names}
-use Rattle.hd_dbd.specs.declared.answer.Status.{Status}
-use Rattle.hd_dbd.specs.declared.answer.Status.TheVariants.{LB, LC, LD, LE}
+use Rattle.hd_dbd.specs.declared.answer.LoadFault.{LoadFault}
+use Rattle.hd_dbd.specs.declared.answer.LoadFault.TheVariants.{LB, LC, LD, LE}
 use Rattle.hd_dbd.specs.Segment.{Segment}
 use Rattle.hd_dbd.specs.Rows.{valid}
 use Rattle.hd_dbd.specs.Loads.{last_path, load_fault}
@@ -37,7 +37,7 @@ book_prefix = (refl, refl, refl)
 -- ---- loads
 
 -- why a row may not be loaded behind others
-abbrev loaded : List Segment → Segment → Option Status
+abbrev loaded : List Segment → Segment → Option LoadFault
 loaded rows new = load_fault sample_types (last_path sample_types rows) new
 
 -- a root behind a greater one, a student without a class, a root twice, and a class behind a book

@@ -12,7 +12,7 @@ pub record CallText : Type 0 where
   pub ssas : List (List ℕ)
   pub area : List ℕ
 
--- What a call answers. Key and area are empty but where a row is given.
+-- What a call answers. Level, name and key are of the row that is given, if one is; the area is empty but for gets.
 pub record Reply : Type 0 where
   pub status : Status
   pub level : ℕ

@@ -7,6 +7,7 @@ use Rattle.hd_dbd.specs.declared.hierarchy.FreeSpace.{FreeSpace}
 use Rattle.hd_dbd.specs.Types.{SegmentType}
 use Rattle.hd_dbd.specs.Hierarchy.{level_of}
 use Rattle.hd_dbd.specs.Prefixes.{stored_size}
+use Rattle.hd_dbd.specs.IndexBlocks.{entry_place}
 
 -- B10: a multiple of 8 from 128 to 32,768
 abbrev pub block_size_fits : ℕ → Bool
@@ -51,12 +52,12 @@ field_names_differ (f ∷ fs) = not (list_any (λ g. bytes_eq g.name f.name) fs)
 abbrev pub names_fit : List SegmentType → ℕ → SegmentType → Bool
 names_fit types c t = not (list_any (λ u. bytes_eq u.name t.name) (take (c - 1) types)) && field_names_differ t.fields
 
--- B8: a stored segment fits into a block behind its first 8 bytes; and for the root, three entries of its index behind
--- the first 12
+-- B8: a stored segment fits into a block behind its first 8 bytes; and for the root, three entries of its index into an
+-- index block
 abbrev pub sizes_fit : ℕ → List SegmentType → ℕ → SegmentType → Bool
 sizes_fit block_size types c t =
     nat_le (stored_size types c + 8) block_size
-    && (not (c == 1) || option_map_or (λ k. nat_le (3 * (k.length + 4) + 12) block_size) t.key true)
+    && (not (c == 1) || option_map_or (λ k. nat_le (entry_place k.length 3) block_size) t.key true)
 
 -- B9: a key has at most 255 bytes
 abbrev pub key_length_fits : SegmentType → Bool

@@ -1,5 +1,5 @@
 -- The types of a database. A type's code is its place in the list, from 1; the first is the root.
-use Rattle.std.specs.Prelude.{ℕ, ◌+◌, ◌-◌, List, [], ◌∷◌, ◌++◌, take, drop, max, ◌==◌, cond, Option, None, option_and_then, slice_get, slice_index}
+use Rattle.std.specs.Prelude.{ℕ, zero, suc, ◌+◌, ◌-◌, List, [], ◌∷◌, ◌++◌, take, drop, max, Bool, false, ◌||◌, ◌==◌, cond, Option, None, option_and_then, slice_get, slice_index}
 use Rattle.std.specs.Option.{option_map_or}
 use Rattle.hd_dbd.specs.declared.hierarchy.FreeSpace.{FreeSpace}
 use Rattle.hd_dbd.specs.Types.{SegmentType}
@@ -25,6 +25,7 @@ weights_from weight so_far [] = so_far
 weights_from weight so_far (t ∷ ts) =
     weights_from weight (so_far ++ (weight t + option_map_or (λ p. slice_index so_far (p - 1)) t.parent 0) ∷ []) ts
 
+-- the same from no type on
 abbrev pub weights : (SegmentType → ℕ) → List SegmentType → List ℕ
 weights weight types = weights_from weight [] types
 
@@ -35,6 +36,15 @@ levels_of types = weights (λ _. 1) types
 -- the level of the type of a code, 0 where there is none
 abbrev pub level_of : List SegmentType → ℕ → ℕ
 level_of types c = cond (c == 0) 0 (slice_index (levels_of types) (c - 1))
+
+-- one of the next n types above a type is the other
+abbrev pub is_under_within : List SegmentType → ℕ → ℕ → ℕ → Bool
+is_under_within types zero c above = false
+is_under_within types (suc n) c above = option_map_or (λ p. p == above || is_under_within types n p above) (parent_of types c) false
+
+-- the type stands below the other, at any level: fewer types than its level says stand above it
+abbrev pub is_under : List SegmentType → ℕ → ℕ → Bool
+is_under types c above = is_under_within types (level_of types c) c above
 
 -- the greatest of some numbers
 abbrev pub greatest : List ℕ → ℕ

@@ -1,11 +1,13 @@
--- The load step: a row goes in behind the last row, or a status says why it may not; and the log of a load.
+-- The load step: a row goes in behind the last row, or a fault says why it may not; and the log of a load.
 use Rattle.std.specs.Prelude.{◌≡◌, ℕ, ◌-◌, List, [], ◌∷◌, ◌++◌, map, Bool, true, false, not, ◌&&◌, ◌==◌, nat_lt, cond, Option, Some, None, option_and_then, slice_get}
 use Rattle.std.specs.Option.{option_map_or}
 use Rattle.std.specs.List.{list_any}
 use Rattle.std.specs.Ordering.{nat_cmp, is_eq, is_gt}
 use Rattle.std.specs.Cmp.Lexicographic.{slice_cmp}
 use Rattle.hd_dbd.specs.declared.answer.Status.{Status}
-use Rattle.hd_dbd.specs.declared.answer.Status.TheVariants.{LB, LC, LD, LE}
+use Rattle.hd_dbd.specs.declared.answer.Status.TheVariants as status
+use Rattle.hd_dbd.specs.declared.answer.LoadFault.{LoadFault}
+use Rattle.hd_dbd.specs.declared.answer.LoadFault.TheVariants.{LB, LC, LD, LE}
 use Rattle.hd_dbd.specs.Types.{SegmentType}
 use Rattle.hd_dbd.specs.Segment.{Segment}
 use Rattle.hd_dbd.specs.Hierarchy.{type_of, parent_of}
@@ -32,7 +34,7 @@ lacks_parent types path new = option_map_or (λ p. not (list_any (λ q. q.code =
 
 -- behind the row before it below its parent, or among the roots: LE after a greater code; LB after an equal unique key, LC
 -- after a greater key
-abbrev pub order_fault : List SegmentType → Segment → Segment → Option Status
+abbrev pub order_fault : List SegmentType → Segment → Segment → Option LoadFault
 order_fault types before new =
     cond (nat_lt new.code before.code) (Some LE)
     (cond (nat_lt before.code new.code) None
@@ -40,9 +42,16 @@ order_fault types before new =
     (cond (is_gt (slice_cmp nat_cmp (key_of types before) (key_of types new))) (Some LC) None)))
 
 -- why a row may not be loaded behind the last row of a path, if there is a reason
-abbrev pub load_fault : List SegmentType → List Segment → Segment → Option Status
+abbrev pub load_fault : List SegmentType → List Segment → Segment → Option LoadFault
 load_fault types path new =
     cond (lacks_parent types path new) (Some LD) (option_and_then (λ before. order_fault types before new) (slice_get path (level types new - 1)))
+
+-- the status that says so
+abbrev pub status_of_load : LoadFault → Status
+status_of_load LB = status.LB
+status_of_load LC = status.LC
+status_of_load LD = status.LD
+status_of_load LE = status.LE
 
 -- ---- the log of a load
 

@@ -10,9 +10,11 @@ use Rattle.hd_dbd.specs.Rows.{level, key_of}
 abbrev pub no_row : Segment
 no_row = record { code = 0; bytes = [] }
 
+-- the row of a number
 abbrev pub row_at : List Segment → ℕ → Segment
 row_at rows i = slice_index_or rows i no_row
 
+-- its level
 abbrev pub level_at : List SegmentType → List Segment → ℕ → ℕ
 level_at types rows i = level types (row_at rows i)
 
@@ -39,7 +41,7 @@ path_of types rows i = path_above types rows (level_at types rows i) i ++ i ∷ 
 abbrev pub keys_of : List SegmentType → List Segment → List ℕ → List ℕ
 keys_of types rows path = flat_map (λ k. key_of types (row_at rows k)) path
 
--- The first row from number i on, of at most n, whose level is no higher; else the number behind them.
+-- The first row from number i on, of at most n, whose level is not greater; else the number behind them.
 abbrev pub end_within : List SegmentType → List Segment → ℕ → ℕ → ℕ → ℕ
 end_within types rows l zero i = i
 end_within types rows l (suc n) i = cond (nat_le (level_at types rows i) l) i (end_within types rows l n (i + 1))

@@ -13,6 +13,10 @@ keeps_backward c t = c == 1 || t.backward
 abbrev pub is_backward_kept : List SegmentType → ℕ → Bool
 is_backward_kept types c = option_map_or (λ t. keeps_backward c t) (type_of types c) false
 
+-- the parents of the type's segments keep last child; above a root the header always keeps last root
+abbrev pub is_last_kept : List SegmentType → ℕ → Bool
+is_last_kept types c = c == 1 || option_map_or (λ t. t.last_pointer) (type_of types c) false
+
 -- code, delete byte, twin forward and, where it is kept, twin backward
 abbrev pub twin_part : ℕ → SegmentType → ℕ
 twin_part c t = cond (keeps_backward c t) 10 6

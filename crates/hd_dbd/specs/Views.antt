@@ -1,12 +1,11 @@
 -- What one PCB sees, and what it may do there.
-use Rattle.std.specs.Prelude.{ℕ, List, Bool, false, Option, bytes_eq, find, option_map}
+use Rattle.std.specs.Prelude.{ℕ, List, Bool, Option, bytes_eq, find, option_map}
 use Rattle.std.specs.Option.{option_map_or}
 use Rattle.std.specs.List.{list_any}
 use Rattle.hd_dbd.specs.Types.{SegmentType}
 use Rattle.hd_dbd.specs.Types.{View}
 use Rattle.hd_dbd.specs.Types.{SeenType}
 use Rattle.hd_dbd.specs.Letters.{gives_get}
-use Rattle.hd_dbd.specs.Hierarchy.{type_of}
 
 -- What stays the same in a session for one PCB: the database's types, and the PCB.
 pub record Setting : Type 0 where
@@ -20,10 +19,6 @@ letters_of pcb s = option_map_or (λ own. own) s.procopt pcb.procopt
 -- the letters for the type of this name, where it is seen
 abbrev pub letters_for : View → List ℕ → Option (List ℕ)
 letters_for pcb name = option_map (λ s. letters_of pcb s) (find (λ s. bytes_eq s.name name) pcb.sens)
-
--- the type of this code is seen, and its letters give gets
-abbrev pub may_get : Setting → ℕ → Bool
-may_get s code = option_map_or (λ t. option_map_or gives_get (letters_for s.pcb t.name) false) (type_of s.types code) false
 
 -- some type that the PCB sees may be read
 abbrev pub reads_some : View → Bool

@@ -22,6 +22,19 @@ pub enum Status {
     AM,
 }
 
+/// Why a row may not be loaded behind the rows before it, by the names of the statuses that say so.
+#[derive(Clone, Copy, Debug, PartialEq, Eq)]
+pub enum LoadFault {
+    /// The twin before it has the same key, which is unique.
+    LB,
+    /// The twin before it has a greater key.
+    LC,
+    /// No row of the parent type is on the path of the row before it.
+    LD,
+    /// A row of a later type stands before it below the same parent.
+    LE,
+}
+
 /// Why a call gave no status: no memory, no room in the volume, a failed access, a session that an earlier
 /// failed access has ended, or an I/O area of a wrong length.
 #[derive(Clone, Copy, Debug, PartialEq, Eq)]

@@ -1,6 +1,8 @@
 ghost use Rattle.std.specs.Prelude.{◌≡◌, ◌⊎◌, true, is_none, ◌≤◌, Some, None, IsTrue, IfOk, OnOk, IfErr, option_copied};
-ghost use Rattle.hd_dbd.specs.Hierarchy.{type_of, parent_of, level_of, longest_path};
-ghost use Rattle.hd_dbd.specs.Prefixes.{prefix_length, pointers_at, children_of, stored_size};
+ghost use Rattle.hd_dbd.specs.Hierarchy.{type_of, parent_of, level_of, is_under, longest_path};
+ghost use Rattle.hd_dbd.specs.Prefixes.{is_backward_kept, is_last_kept, prefix_length, pointers_at, children_of, stored_size};
+ghost use Rattle.hd_dbd.specs.Rows.{key_of, keys_in_order};
+ghost use Rattle.hd_dbd.specs.Loads.{has_unique_key};
 ghost use Rattle.hd_dbd.specs.DatabaseRules.{well_formed};
 ghost use Rattle.hd_dbd.specs.DatabaseFaults.{size_fault, database_fault};
 
@@ -8,6 +10,7 @@ use crate::facts::{
     TypeFacts, children_in, children_lists, facts_in, facts_of, levels_of, longest_path, type_of,
 };
 use crate::hierarchy::{FreeSpace, SegType};
+use crate::keys::key_in;
 use crate::naming::Name8;
 use crate::rules::{block_size_fits, free_space_fits, types_fault};
 use std::alloc::{AllocError, Global};
@@ -185,6 +188,25 @@ impl Dbd {
         self.type_of(code)?.parent
     }
 
+    /// The type stands below the other, at any level.
+    pub fn is_under(&self, code: u8, above: u8) -> bool
+        ensures { result ≡ is_under self.now.types code above }
+    {
+        let mut below = code;
+        let mut levels = self.level(code);
+        while levels > 0 {
+            levels -= 1;
+            let Some(parent) = self.parent_of(below) else {
+                return false;
+            };
+            if parent == above {
+                return true;
+            }
+            below = parent;
+        }
+        false
+    }
+
     /// The level of a type, 1 for the root; 0 for no type.
     pub fn level(&self, code: u8) -> u8
         ensures level { result ≡ level_of self.now.types code }
@@ -206,6 +228,63 @@ impl Dbd {
         ensures { result ≡ pointers_at self.now.types code }
     {
         self.facts_of(code).pointers
+    }
+
+    /// Segments of the type keep twin backward: the root's always, others where POINTER says so.
+    pub fn keeps_backward(&self, code: u8) -> bool
+        ensures { result ≡ is_backward_kept self.now.types code }
+    {
+        self.type_of(code)
+            .is_some_and(|segment| code == 1 || segment.backward)
+    }
+
+    /// The parents of the type's segments keep last child, where PARENT says DBLE; above roots the header keeps last root.
+    pub fn keeps_last_child(&self, code: u8) -> bool
+        ensures { result ≡ is_last_kept self.now.types code }
+    {
+        code == 1
+            || self
+                .type_of(code)
+                .is_some_and(|segment| segment.last_pointer)
+    }
+
+    /// The type has a unique key.
+    pub fn has_unique_key(&self, code: u8) -> bool
+        ensures { result ≡ has_unique_key self.now.types code }
+    {
+        let Some(segment) = self.type_of(code) else {
+            return false;
+        };
+        segment.key.is_some_and(|key| key.unique)
+    }
+
+    /// The key in the bytes of a segment of the type, without bytes where there is none.
+    pub fn key_of<'b>(&self, code: u8, bytes: &'b [u8]) -> &'b [u8]
+        ensures value { result.now ≡ key_of self.now.types (record { code = code; bytes = bytes.now }) }
+        ensures fit { IsTrue (well_formed self.now.block_size self.now.frspc self.now.types) }
+    {
+        match self.type_of(code) {
+            Some(segment) => key_in(segment, bytes),
+            None => &[],
+        }
+    }
+
+    /// Of twins of the type, the second key may stand behind the first.
+    pub fn keys_in_order(&self, code: u8, before: &[u8], after: &[u8]) -> bool
+        ensures { result ≡ keys_in_order self.now.types code before.now after.now }
+    {
+        let Some(segment) = self.type_of(code) else {
+            return false;
+        };
+        let Some(key) = &segment.key else {
+            return true;
+        };
+        let order = before.cmp(after);
+        if key.unique {
+            order.is_lt()
+        } else {
+            order.is_le()
+        }
     }
 
     /// The codes of a type's child types, in order; none for no type.

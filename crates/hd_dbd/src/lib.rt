@@ -4,7 +4,6 @@
 #![tactic(auto)]
 
 mod answer;
-mod call;
 mod database;
 mod facts;
 mod fault_law;
@@ -18,8 +17,7 @@ mod program_rules;
 mod row;
 mod rules;
 
-pub use answer::{Refused, Status};
-pub use call::Get;
+pub use answer::{LoadFault, Refused, Status};
 pub use database::{Dbd, DbdFault};
 pub use facts::type_of;
 pub use fault_law::{law_databases_have_no_fault, law_programs_have_no_fault};

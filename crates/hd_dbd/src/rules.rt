@@ -2,6 +2,7 @@ ghost use Rattle.std.specs.Prelude.{◌≡◌, ◌+◌, ◌*◌, ◌≤◌, ◌<
 ghost use Rattle.std.specs.List.{list_any};
 ghost use Rattle.hd_dbd.specs.Hierarchy.{levels_of};
 ghost use Rattle.hd_dbd.specs.DatabaseRules.{block_size_fits, free_space_fits, parent_fits, part_fits, fields_fit, parts_fit, root_key_fits, field_names_differ, names_fit, sizes_fit, key_length_fits, types_fit_from};
+ghost use Rattle.hd_dbd.specs.IndexBlocks.{entry_place};
 ghost use Rattle.hd_dbd.specs.DatabaseFaults.{type_fault, types_fault_from};
 
 use crate::database::DbdFault;
@@ -110,9 +111,9 @@ fn names_fit(types: &[SegType], code: u8, segment: &SegType) -> bool
 
 /// Whether three entries of the index, with a key each, fit into a block.
 fn index_fits(block_size: u32, key_length: u32) -> bool
-    ensures { result ≡ nat_le (3 * (key_length + 4) + 12) block_size }
+    ensures { result ≡ nat_le (entry_place key_length 3) block_size }
 {
-    3 * (u64::from(key_length) + 4) + 12 <= u64::from(block_size)
+    12 + 3 * (u64::from(key_length) + 4) <= u64::from(block_size)
 }
 
 /// Whether a segment of the type, and for the root three entries of its index, fit into a block.

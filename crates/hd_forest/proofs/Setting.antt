@@ -19,7 +19,6 @@ use Rattle.hd_volume.specs.Calls.{IsWritten, HasNewHeader, HasSegment}
 use Rattle.hd_prefix.specs.declared.pointer.Pointer.{Pointer}
 use Rattle.hd_prefix.specs.declared.pointer.Pointer.TheVariants.{TwinForward, TwinBackward, FirstChild, LastChild}
 use Rattle.hd_prefix.specs.Pointers.{is_child, place_of}
-use Rattle.hd_prefix.specs.Pointers as prefix
 use Rattle.hd_prefix.specs.Fields.{code_of}
 use Rattle.hd_prefix.proofs.Sizes.{stored_long}
 use Rattle.hd_prefix.proofs.Listed.{children_listed}
@@ -164,9 +163,6 @@ unkept-idle d v a c pointer fit of s is none = by pointer none
     none-of : {A : Type 0} {o : Option A} {x : A} (n : ℕ) → o ≡ None → o ≡ Some x → ⊥
     none-of n e f = cc
 
-    last-kept : (t : ℕ) → t ≢ 1 → is_last_kept d.types t ≡ true → prefix.is_last_kept d.types t ≡ true
-    last-kept t other kept = sym (ap (λ (x : Bool). x || prefix.is_last_kept d.types t) (ne_eqb t 1 other)) ∙ kept
-
     typed : type_of d.types c ≡ Some h.own
     typed = ap (type_of d.types) (sym is ∙ ap code_of (stored-found d v a h)) ∙ h.typed
 
@@ -179,8 +175,8 @@ unkept-idle d v a c pointer fit of s is none = by pointer none
     by (FirstChild t) e = λ child. no-place (is_child d.types c t) (pointers_at d.types t) e (child-listed d.types c t some (ap (λ k. is_child_type d.types k t) (sym is) ∙ child))
     by (LastChild t) e = λ child kept. (
         let own : is_child d.types c t ≡ true = child-listed d.types c t some (ap (λ k. is_child_type d.types k t) (sym is) ∙ child) in
-        no-place (is_child d.types c t && prefix.is_last_kept d.types t) (pointers_at d.types t + 4) e
-        (ap₂ (λ x y. x && y) own (last-kept t (λ f. root-alone d.block_size d.frspc d.types c fit (ap (is_child d.types c) (sym f) ∙ own)) kept))
+        no-place (is_child d.types c t && is_last_kept d.types t) (pointers_at d.types t + 4) e
+        (ap₂ (λ x y. x && y) own kept)
         )
 
 -- there is room for four bytes at the place of a pointer

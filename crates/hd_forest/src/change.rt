@@ -1,8 +1,9 @@
-ghost use Rattle.std.specs.Prelude.{◌≡◌, ◌⊎◌, ◌+◌, ◌≤◌, ◌<◌, true, length, IsTrue, IfOk, IfErr, OnOk};
+ghost use Rattle.std.specs.Prelude.{◌≡◌, ◌+◌, ◌≤◌, ◌<◌, true, length, IsTrue, IfOk, IfErr, OnOk};
 ghost use Rattle.hd_dbd.specs.Rows.{row_fits};
 ghost use Rattle.hd_dbd.specs.Facts.{stored_sizes};
 ghost use Rattle.hd_dbd.specs.Prefixes.{prefix_length, stored_size};
 ghost use Rattle.hd_dbd.specs.DatabaseRules.{well_formed};
+ghost use Rattle.hd_dbd.specs.Refusals.{OnlyDevice, OnlyRoomOrDevice};
 ghost use Rattle.hd_volume.specs.Rooms.{spare, HasHole, HasFreeBlock};
 ghost use Rattle.hd_volume.specs.Calls.{IsCall, IsRead};
 ghost use Rattle.hd_links.specs.Changes.{twin_behind, CanReplace};
@@ -42,7 +43,7 @@ pub fn link<S: BlockStore>(
     ensures memory { IfErr result (λ e. e ≡ Refused.Memory → volume.old.room ≡ 0) }
     ensures no_free { IfErr result (λ e. e ≡ Refused.Memory → IsTrue volume.old.is_sound → HasFreeBlock volume.old → ⊥) }
     ensures no_hole { IfErr result (λ e. e ≡ Refused.Memory → IsTrue volume.old.is_sound → HasHole volume.old (stored_size dbd.now.types code) → ⊥) }
-    ensures refusal { IfErr result (λ e. (e ≡ Refused.Memory) ⊎ (e ≡ Refused.Full) ⊎ (e ≡ Refused.Device)) }
+    ensures refusal { OnlyRoomOrDevice result }
     ensures room { IsTrue volume.new.is_sound → volume.old.room ≤ volume.new.room + 1 }
 {
     let behind = twin_behind(volume, dbd, parent, after, code)?;
@@ -62,7 +63,7 @@ pub fn replace<S: BlockStore>(
     requires there { IsTrue volume.old.is_sound → CanReplace dbd.now.types (links_of dbd.now.types volume.old) address bytes.now }
     ensures call { IsCall volume.old result volume.new }
     ensures replaced { OnOk result (IsTrue volume.old.is_sound → IsReplaced dbd.now volume.old address bytes.now volume.new) }
-    ensures refusal { IfErr result (λ e. e ≡ Refused.Device) }
+    ensures refusal { OnlyDevice result }
     ensures room { volume.new.room ≡ volume.old.room }
 {
     let code = code_at(volume, dbd, address)?;
@@ -81,7 +82,7 @@ fn twin_behind<S: BlockStore>(
     requires there { IsTrue volume.old.is_sound → IsTwinPlace dbd.now.types (links_of dbd.now.types volume.old) parent code twin }
     ensures read { IsRead volume.old result volume.new }
     ensures value { IfOk result (λ r. IsTrue volume.old.is_sound → r ≡ twin_behind (links_of dbd.now.types volume.old) parent code twin) }
-    ensures refusal { IfErr result (λ e. e ≡ Refused.Device) }
+    ensures refusal { OnlyDevice result }
 {
     if twin == 0 {
         first_child(volume, dbd, parent, code)
@@ -105,7 +106,7 @@ fn name_leaf<S: BlockStore>(
     requires behind { IsTrue volume.old.is_sound → IsTwinPlace dbd.now.types (links_of dbd.now.types volume.old) parent code behind }
     ensures call { IsCall volume.old result volume.new }
     ensures named { OnOk result (IsTrue volume.old.is_sound → IsRecorded dbd.now volume.old (named (links_of dbd.now.types volume.old) parent code after behind address) volume.new) }
-    ensures refusal { IfErr result (λ e. e ≡ Refused.Device) }
+    ensures refusal { OnlyDevice result }
     ensures room { volume.new.room ≡ volume.old.room }
 {
     set_following(volume, dbd, parent, after, code, address)?;

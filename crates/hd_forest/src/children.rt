@@ -1,5 +1,6 @@
-ghost use Rattle.std.specs.Prelude.{◌≡◌, ◌≤◌, length, IsTrue, IfOk, IfErr};
+ghost use Rattle.std.specs.Prelude.{◌≡◌, ◌≤◌, length, IsTrue, IfOk};
 ghost use Rattle.hd_dbd.specs.Prefixes.{stored_size, children_of};
+ghost use Rattle.hd_dbd.specs.Refusals.{OnlyDevice};
 ghost use Rattle.hd_volume.specs.Calls.{IsRead};
 ghost use Rattle.hd_prefix.specs.Fields.{code_of};
 ghost use Rattle.hd_links.specs.Links.{IsSegment, child_types};
@@ -43,7 +44,7 @@ pub fn below<S: BlockStore>(volume: &mut Volume<S>, dbd: &Dbd, address: u32) -> 
     requires there { IsTrue volume.old.is_sound → IsSegment (links_of dbd.now.types volume.old) address }
     ensures read { IsRead volume.old result volume.new }
     ensures value { IfOk result (λ r. IsTrue volume.old.is_sound → r ≡ child_among (links_of dbd.now.types volume.old) address (child_types dbd.now.types ((links_of dbd.now.types volume.old).code address))) }
-    ensures refusal { IfErr result (λ e. e ≡ Refused.Device) }
+    ensures refusal { OnlyDevice result }
 {
     let segment = volume.segment_at(address)?;
     let types = dbd.children_of(code_in(segment));
@@ -61,7 +62,7 @@ pub fn below_later<S: BlockStore>(
     requires there { IsTrue volume.old.is_sound → IsSegment (links_of dbd.now.types volume.old) address }
     ensures read { IsRead volume.old result volume.new }
     ensures value { IfOk result (λ r. IsTrue volume.old.is_sound → r ≡ child_among (links_of dbd.now.types volume.old) address (later_than code (child_types dbd.now.types ((links_of dbd.now.types volume.old).code address)))) }
-    ensures refusal { IfErr result (λ e. e ≡ Refused.Device) }
+    ensures refusal { OnlyDevice result }
 {
     let segment = volume.segment_at(address)?;
     let types = later_than(code, dbd.children_of(code_in(segment)));

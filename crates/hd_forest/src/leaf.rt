@@ -1,8 +1,9 @@
-ghost use Rattle.std.specs.Prelude.{◌≡◌, ◌⊎◌, ◌+◌, ◌≤◌, true, length, IsTrue, IfOk, IfErr};
+ghost use Rattle.std.specs.Prelude.{◌≡◌, ◌+◌, ◌≤◌, true, length, IsTrue, IfOk, IfErr};
 ghost use Rattle.hd_dbd.specs.Rows.{row_fits};
 ghost use Rattle.hd_dbd.specs.Facts.{stored_sizes};
 ghost use Rattle.hd_dbd.specs.Prefixes.{stored_size};
 ghost use Rattle.hd_dbd.specs.DatabaseRules.{well_formed};
+ghost use Rattle.hd_dbd.specs.Refusals.{OnlyRoomOrDevice};
 ghost use Rattle.hd_volume.specs.Rooms.{spare, HasHole, HasFreeBlock};
 ghost use Rattle.hd_volume.specs.Calls.{IsCall};
 ghost use Rattle.hd_image.specs.Records.{IsVolumeOf};
@@ -34,7 +35,7 @@ pub fn put_leaf<S: BlockStore>(
     ensures memory { IfErr result (λ e. e ≡ Refused.Memory → volume.old.room ≡ 0) }
     ensures no_free { IfErr result (λ e. e ≡ Refused.Memory → IsTrue volume.old.is_sound → HasFreeBlock volume.old → ⊥) }
     ensures no_hole { IfErr result (λ e. e ≡ Refused.Memory → IsTrue volume.old.is_sound → HasHole volume.old (stored_size dbd.now.types code) → ⊥) }
-    ensures refusal { IfErr result (λ e. (e ≡ Refused.Memory) ⊎ (e ≡ Refused.Full) ⊎ (e ≡ Refused.Device)) }
+    ensures refusal { OnlyRoomOrDevice result }
     ensures room { IsTrue volume.new.is_sound → volume.old.room ≤ volume.new.room + 1 }
 {
     let mut segment = [0; LARGEST_BLOCK];
@@ -71,7 +72,7 @@ fn put_laid_out<S: BlockStore>(
     ensures memory { IfErr result (λ e. e ≡ Refused.Memory → volume.old.room ≡ 0) }
     ensures no_free { IfErr result (λ e. e ≡ Refused.Memory → IsTrue volume.old.is_sound → HasFreeBlock volume.old → ⊥) }
     ensures no_hole { IfErr result (λ e. e ≡ Refused.Memory → IsTrue volume.old.is_sound → HasHole volume.old (stored_size dbd.now.types code) → ⊥) }
-    ensures refusal { IfErr result (λ e. (e ≡ Refused.Memory) ⊎ (e ≡ Refused.Full) ⊎ (e ≡ Refused.Device)) }
+    ensures refusal { OnlyRoomOrDevice result }
     ensures room { IsTrue volume.new.is_sound → volume.old.room ≤ volume.new.room + 1 }
 {
     lay_out(dbd, segment, after, behind, code, bytes);

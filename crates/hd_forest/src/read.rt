@@ -1,5 +1,6 @@
-ghost use Rattle.std.specs.Prelude.{◌≡◌, ◌<◌, ◌≤◌, true, length, IsTrue, IfOk, IfErr};
-ghost use Rattle.hd_dbd.specs.Prefixes.{stored_size, is_backward_kept};
+ghost use Rattle.std.specs.Prelude.{◌≡◌, ◌<◌, ◌≤◌, true, length, IsTrue, IfOk};
+ghost use Rattle.hd_dbd.specs.Prefixes.{stored_size};
+ghost use Rattle.hd_dbd.specs.Refusals.{OnlyDevice};
 ghost use Rattle.hd_volume.specs.Calls.{IsRead};
 ghost use Rattle.hd_prefix.specs.Fields.{code_of, pointer_of};
 ghost use Rattle.hd_links.specs.Links.{IsSegment};
@@ -43,7 +44,7 @@ fn read_pointer<S: BlockStore>(
     requires there { IsTrue volume.old.is_sound → IsSegment (links_of dbd.now.types volume.old) address }
     ensures read { IsRead volume.old result volume.new }
     ensures value { IfOk result (λ r. IsTrue volume.old.is_sound → r ≡ pointer_at dbd.now.types volume.old pointer address) }
-    ensures refusal { IfErr result (λ e. e ≡ Refused.Device) }
+    ensures refusal { OnlyDevice result }
 {
     let segment = volume.segment_at(address)?;
     Ok(pointer_in(dbd, segment, pointer))
@@ -59,7 +60,7 @@ pub fn code_at<S: BlockStore>(
     requires there { IsTrue volume.old.is_sound → IsSegment (links_of dbd.now.types volume.old) address }
     ensures read { IsRead volume.old result volume.new }
     ensures value { IfOk result (λ r. IsTrue volume.old.is_sound → r ≡ (links_of dbd.now.types volume.old).code address) }
-    ensures refusal { IfErr result (λ e. e ≡ Refused.Device) }
+    ensures refusal { OnlyDevice result }
 {
     let segment = volume.segment_at(address)?;
     Ok(code_in(segment))
@@ -75,7 +76,7 @@ pub fn next_twin<S: BlockStore>(
     requires there { IsTrue volume.old.is_sound → IsSegment (links_of dbd.now.types volume.old) address }
     ensures read { IsRead volume.old result volume.new }
     ensures value { IfOk result (λ r. IsTrue volume.old.is_sound → r ≡ (links_of dbd.now.types volume.old).forward address) }
-    ensures refusal { IfErr result (λ e. e ≡ Refused.Device) }
+    ensures refusal { OnlyDevice result }
 {
     read_pointer(volume, dbd, address, Pointer::TwinForward)
 }
@@ -91,7 +92,7 @@ pub fn first_child<S: BlockStore>(
     requires there { IsTrue volume.old.is_sound → (links_of dbd.now.types volume.old).here parent ≡ true }
     ensures read { IsRead volume.old result volume.new }
     ensures value { IfOk result (λ r. IsTrue volume.old.is_sound → r ≡ (links_of dbd.now.types volume.old).first_child parent code) }
-    ensures refusal { IfErr result (λ e. e ≡ Refused.Device) }
+    ensures refusal { OnlyDevice result }
 {
     if parent == 0 {
         return Ok(volume.first_root());
@@ -111,7 +112,7 @@ pub fn last_child<S: BlockStore>(
     requires there { IsTrue volume.old.is_sound → (links_of dbd.now.types volume.old).here parent ≡ true }
     ensures read { IsRead volume.old result volume.new }
     ensures value { IfOk result (λ r. IsTrue volume.old.is_sound → r ≡ (links_of dbd.now.types volume.old).last_child parent code) }
-    ensures refusal { IfErr result (λ e. e ≡ Refused.Device) }
+    ensures refusal { OnlyDevice result }
 {
     if parent == 0 {
         return Ok(volume.last_root());
@@ -146,16 +147,6 @@ pub fn parent_on(path: &Path) -> u32
     last_of(&addresses[..above])
 }
 
-/// The segments of the type of a code keep twin backward.
-fn keeps_backward(dbd: &Dbd, code: u8) -> bool
-    ensures { result ≡ is_backward_kept dbd.now.types code }
-{
-    match dbd.type_of(code) {
-        Some(segment) => code == 1 || segment.backward,
-        None => false,
-    }
-}
-
 /// The address of the twin before one in the chain of twins from a first child, 0 before the first.
 fn twin_before<S: BlockStore>(
     volume: &mut Volume<S>,
@@ -167,7 +158,7 @@ fn twin_before<S: BlockStore>(
     requires there { IsTrue volume.old.is_sound → IsTwinWithin (links_of dbd.now.types volume.old) (length volume.old.image) first address }
     ensures read { IsRead volume.old result volume.new }
     ensures value { IfOk result (λ r. IsTrue volume.old.is_sound → IsBehind (links_of dbd.now.types volume.old) first r address) }
-    ensures refusal { IfErr result (λ e. e ≡ Refused.Device) }
+    ensures refusal { OnlyDevice result }
 {
     let most = volume.length();
     let mut before = 0;
@@ -194,11 +185,11 @@ pub fn prev_twin<S: BlockStore>(
     requires there { IsTrue volume.old.is_sound → (0 < length path.now) × LeadsDown dbd.now.types (links_of dbd.now.types volume.old) 0 path.now }
     ensures read { IsRead volume.old result volume.new }
     ensures value { IfOk result (λ r. IsTrue volume.old.is_sound → CanUnlink dbd.now.types (links_of dbd.now.types volume.old) (parent_on path.now) r (tip path.now)) }
-    ensures refusal { IfErr result (λ e. e ≡ Refused.Device) }
+    ensures refusal { OnlyDevice result }
 {
     let (parent, address) = (parent_on(path), tip_of(path));
     let code = code_at(volume, dbd, address)?;
-    if keeps_backward(dbd, code) {
+    if dbd.keeps_backward(code) {
         return read_pointer(volume, dbd, address, Pointer::TwinBackward);
     }
     let first = first_child(volume, dbd, parent, code)?;

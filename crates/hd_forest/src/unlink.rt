@@ -1,5 +1,6 @@
-ghost use Rattle.std.specs.Prelude.{◌≡◌, ◌-◌, ◌<◌, ◌&&◌, ◌==◌, not, length, take, IsTrue, IfOk, IfErr, OnOk};
+ghost use Rattle.std.specs.Prelude.{◌≡◌, ◌-◌, ◌<◌, ◌&&◌, ◌==◌, not, length, take, IsTrue, IfOk, OnOk};
 ghost use Rattle.hd_dbd.specs.Forest.{Forest};
+ghost use Rattle.hd_dbd.specs.Refusals.{OnlyDevice};
 ghost use Rattle.hd_volume.specs.Calls.{IsCall, IsRead};
 ghost use Rattle.hd_links.specs.Links.{IsSegment};
 ghost use Rattle.hd_links.specs.Placed.{Placed};
@@ -30,7 +31,7 @@ pub fn unlink_span<S: BlockStore>(
     requires there { IsTrue volume.old.is_sound → (0 < length path.now) × LeadsDown dbd.now.types (links_of dbd.now.types volume.old) 0 path.now }
     ensures call { IsCall volume.old result volume.new }
     ensures unlinked { OnOk result (IsTrue volume.old.is_sound → IsUnlinked dbd.now volume.old path.now volume.new) }
-    ensures refusal { IfErr result (λ e. e ≡ Refused.Device) }
+    ensures refusal { OnlyDevice result }
     ensures room { volume.new.room ≡ volume.old.room }
 {
     let (parent, address) = (parent_on(path), tip_of(path));
@@ -48,7 +49,7 @@ fn free_span<S: BlockStore>(volume: &mut Volume<S>, dbd: &Dbd, address: u32) -> 
     requires there { IsTrue volume.old.is_sound → HasSpan dbd.now.types (links_of dbd.now.types volume.old) address }
     ensures call { IsCall volume.old result volume.new }
     ensures freed { OnOk result (IsTrue volume.old.is_sound → (under : Forest Placed) → IsSpan dbd.now.types (links_of dbd.now.types volume.old) address under → IsRecorded dbd.now volume.old (without_span_of (links_of dbd.now.types volume.old) address under) volume.new) }
-    ensures refusal { IfErr result (λ e. e ≡ Refused.Device) }
+    ensures refusal { OnlyDevice result }
     ensures room { volume.new.room ≡ volume.old.room }
 {
     let mut path = Path::new();
@@ -78,7 +79,7 @@ fn free_next<S: BlockStore>(
     requires deep { IsTrue volume.old.is_sound → IsTrue down → 0 < below_on dbd.now.types (links_of dbd.now.types volume.old) path.old → length path.old < 15 }
     ensures call { IsCall volume.old result volume.new }
     ensures freed { IfOk result (λ r. IsTrue volume.old.is_sound → IsStep dbd.now volume.old (freed_on dbd.now.types (record { path = path.old; down = down; records = links_of dbd.now.types volume.old })) path.new r volume.new) }
-    ensures refusal { IfErr result (λ e. e ≡ Refused.Device) }
+    ensures refusal { OnlyDevice result }
     ensures room { volume.new.room ≡ volume.old.room }
 {
     if go_down(volume, dbd, path, down)? {
@@ -102,7 +103,7 @@ fn go_down<S: BlockStore>(
     ensures value { IfOk result (λ r. IsTrue volume.old.is_sound → r ≡ (down && not (below_on dbd.now.types (links_of dbd.now.types volume.old) path.old == 0))) }
     ensures path { IfOk result (λ r. IsTrue volume.old.is_sound → IsTrue r → path.new ≡ extended path.old (below_on dbd.now.types (links_of dbd.now.types volume.old) path.old)) }
     ensures kept { IfOk result (λ r. IsTrue (not r) → path.new ≡ path.old) }
-    ensures refusal { IfErr result (λ e. e ≡ Refused.Device) }
+    ensures refusal { OnlyDevice result }
 {
     if !down {
         return Ok(false);
@@ -127,7 +128,7 @@ fn free_last<S: BlockStore>(
     requires some { IsTrue volume.old.is_sound → 0 < length path.old }
     ensures call { IsCall volume.old result volume.new }
     ensures freed { IfOk result (λ r. IsTrue volume.old.is_sound → IsStep dbd.now volume.old (freed_last dbd.now.types (record { path = path.old; down = r; records = links_of dbd.now.types volume.old })) path.new r volume.new) }
-    ensures refusal { IfErr result (λ e. e ≡ Refused.Device) }
+    ensures refusal { OnlyDevice result }
     ensures room { volume.new.room ≡ volume.old.room }
 {
     let next = beside_last(volume, dbd, path)?;
@@ -152,7 +153,7 @@ fn beside_last<S: BlockStore>(
     requires some { IsTrue volume.old.is_sound → 0 < length path.now }
     ensures read { IsRead volume.old result volume.new }
     ensures value { IfOk result (λ r. IsTrue volume.old.is_sound → r ≡ beside_on dbd.now.types (links_of dbd.now.types volume.old) path.now) }
-    ensures refusal { IfErr result (λ e. e ≡ Refused.Device) }
+    ensures refusal { OnlyDevice result }
 {
     let parent = parent_on(path);
     if parent == 0 {
@@ -171,7 +172,7 @@ fn free_record<S: BlockStore>(
     requires there { IsTrue volume.old.is_sound → IsSegment (links_of dbd.now.types volume.old) address }
     ensures call { IsCall volume.old result volume.new }
     ensures freed { OnOk result (IsTrue volume.old.is_sound → IsRecorded dbd.now volume.old (without_record (links_of dbd.now.types volume.old) address) volume.new) }
-    ensures refusal { IfErr result (λ e. e ≡ Refused.Device) }
+    ensures refusal { OnlyDevice result }
     ensures room { volume.new.room ≡ volume.old.room }
 {
     volume.free(address)

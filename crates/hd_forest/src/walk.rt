@@ -1,4 +1,5 @@
 ghost use Rattle.std.specs.Prelude.{◌≡◌, ◌<◌, true, length, IsTrue, IfOk, IfErr, OnOk};
+ghost use Rattle.hd_dbd.specs.Refusals.{OnlyDevice};
 ghost use Rattle.hd_volume.specs.Calls.{IsRead};
 ghost use Rattle.hd_links.specs.Links.{IsSegment, child_types};
 ghost use Rattle.hd_links.specs.Steps.{first_some, child_among, later_than, behind_span, next_row};
@@ -23,7 +24,7 @@ pub fn next_row<S: BlockStore>(
     ensures read { IsRead volume.old result volume.new }
     ensures value { OnOk result (IsTrue volume.old.is_sound → path.new ≡ next_on dbd.now.types (links_of dbd.now.types volume.old) path.old) }
     ensures kept { IfErr result (λ _. path.new ≡ path.old) }
-    ensures refusal { IfErr result (λ e. e ≡ Refused.Device) }
+    ensures refusal { OnlyDevice result }
 {
     let address = next_address(volume, dbd, path)?;
     step(volume, dbd, path, address)
@@ -41,7 +42,7 @@ pub fn next_after_span<S: BlockStore>(
     ensures read { IsRead volume.old result volume.new }
     ensures value { OnOk result (IsTrue volume.old.is_sound → path.new ≡ next_after_span_on dbd.now.types (links_of dbd.now.types volume.old) path.old) }
     ensures kept { IfErr result (λ _. path.new ≡ path.old) }
-    ensures refusal { IfErr result (λ e. e ≡ Refused.Device) }
+    ensures refusal { OnlyDevice result }
 {
     let address = behind(volume, dbd, path)?;
     step(volume, dbd, path, address)
@@ -59,7 +60,7 @@ fn step<S: BlockStore>(
     ensures read { IsRead volume.old result volume.new }
     ensures value { OnOk result (IsTrue volume.old.is_sound → path.new ≡ moved dbd.now.types (links_of dbd.now.types volume.old) path.old address) }
     ensures kept { IfErr result (λ _. path.new ≡ path.old) }
-    ensures refusal { IfErr result (λ e. e ≡ Refused.Device) }
+    ensures refusal { OnlyDevice result }
 {
     if address == 0 {
         path.clear();
@@ -81,7 +82,7 @@ fn next_address<S: BlockStore>(
     requires there { IsTrue volume.old.is_sound → AreSegments (links_of dbd.now.types volume.old) path.now }
     ensures read { IsRead volume.old result volume.new }
     ensures value { IfOk result (λ r. IsTrue volume.old.is_sound → r ≡ next_row dbd.now.types (links_of dbd.now.types volume.old) path.now) }
-    ensures refusal { IfErr result (λ e. e ≡ Refused.Device) }
+    ensures refusal { OnlyDevice result }
 {
     let last = tip_of(path);
     if last == 0 {
@@ -101,7 +102,7 @@ fn behind<S: BlockStore>(volume: &mut Volume<S>, dbd: &Dbd, path: &Path) -> Resu
     requires there { IsTrue volume.old.is_sound → AreSegments (links_of dbd.now.types volume.old) path.now }
     ensures read { IsRead volume.old result volume.new }
     ensures value { IfOk result (λ r. IsTrue volume.old.is_sound → r ≡ behind_span dbd.now.types (links_of dbd.now.types volume.old) path.now) }
-    ensures refusal { IfErr result (λ e. e ≡ Refused.Device) }
+    ensures refusal { OnlyDevice result }
 {
     let addresses = path.addresses();
     let mut level = addresses.len();
@@ -129,7 +130,7 @@ pub fn beside<S: BlockStore>(
     requires above { IsTrue volume.old.is_sound → (links_of dbd.now.types volume.old).here parent ≡ true }
     ensures read { IsRead volume.old result volume.new }
     ensures value { IfOk result (λ r. IsTrue volume.old.is_sound → r ≡ first_some ((links_of dbd.now.types volume.old).forward address) (child_among (links_of dbd.now.types volume.old) parent (later_than ((links_of dbd.now.types volume.old).code address) (child_types dbd.now.types ((links_of dbd.now.types volume.old).code parent))))) }
-    ensures refusal { IfErr result (λ e. e ≡ Refused.Device) }
+    ensures refusal { OnlyDevice result }
 {
     let twin = next_twin(volume, dbd, address)?;
     if twin != 0 || parent == 0 {

@@ -1,8 +1,9 @@
-ghost use Rattle.std.specs.Prelude.{◌≡◌, ℕ, ◌+◌, ◌≤◌, ◌<◌, true, length, IsTrue, IfErr, IfSome, OnOk};
+ghost use Rattle.std.specs.Prelude.{◌≡◌, ℕ, ◌+◌, ◌≤◌, ◌<◌, true, length, IsTrue, IfSome, OnOk};
 ghost use Rattle.hd_bytes.specs.Numbers.{number_at};
 ghost use Rattle.hd_dbd.specs.Hierarchy.{Database};
 ghost use Rattle.hd_dbd.specs.Prefixes.{prefix_length};
 ghost use Rattle.hd_dbd.specs.DatabaseRules.{well_formed};
+ghost use Rattle.hd_dbd.specs.Refusals.{OnlyDevice};
 ghost use Rattle.hd_volume.specs.Volumes.{IsFormatted};
 ghost use Rattle.hd_volume.specs.Calls.{IsCall};
 ghost use Rattle.hd_prefix.specs.Pointers.{place_of};
@@ -31,7 +32,7 @@ pub fn set_pointer<S: BlockStore>(
     requires typed { IsTrue volume.old.is_sound → (links_of dbd.now.types volume.old).code holder ≡ code }
     ensures call { IsCall volume.old result volume.new }
     ensures set { OnOk result (IsTrue volume.old.is_sound → IsRecorded dbd.now volume.old (with_pointer (links_of dbd.now.types volume.old) pointer holder address) volume.new) }
-    ensures refusal { IfErr result (λ e. e ≡ Refused.Device) }
+    ensures refusal { OnlyDevice result }
     ensures room { volume.new.room ≡ volume.old.room }
 {
     if holder == 0 {
@@ -54,7 +55,7 @@ pub fn set_following<S: BlockStore>(
     requires there { IsTrue volume.old.is_sound → IsTwinPlace dbd.now.types (links_of dbd.now.types volume.old) parent code twin }
     ensures call { IsCall volume.old result volume.new }
     ensures set { OnOk result (IsTrue volume.old.is_sound → IsRecorded dbd.now volume.old (following (links_of dbd.now.types volume.old) parent code twin address) volume.new) }
-    ensures refusal { IfErr result (λ e. e ≡ Refused.Device) }
+    ensures refusal { OnlyDevice result }
     ensures room { volume.new.room ≡ volume.old.room }
 {
     if twin == 0 {
@@ -84,7 +85,7 @@ pub fn set_preceding<S: BlockStore>(
     requires there { IsTrue volume.old.is_sound → IsTwinPlace dbd.now.types (links_of dbd.now.types volume.old) parent code twin }
     ensures call { IsCall volume.old result volume.new }
     ensures set { OnOk result (IsTrue volume.old.is_sound → IsRecorded dbd.now volume.old (preceding (links_of dbd.now.types volume.old) parent code twin address) volume.new) }
-    ensures refusal { IfErr result (λ e. e ≡ Refused.Device) }
+    ensures refusal { OnlyDevice result }
     ensures room { volume.new.room ≡ volume.old.room }
 {
     if twin == 0 {
@@ -136,7 +137,7 @@ fn set_in_segment<S: BlockStore>(
     requires typed { IsTrue volume.old.is_sound → (links_of dbd.now.types volume.old).code holder ≡ code }
     ensures call { IsCall volume.old result volume.new }
     ensures set { OnOk result (IsTrue volume.old.is_sound → IsRecorded dbd.now volume.old (with_pointer (links_of dbd.now.types volume.old) pointer holder address) volume.new) }
-    ensures refusal { IfErr result (λ e. e ≡ Refused.Device) }
+    ensures refusal { OnlyDevice result }
     ensures room { volume.new.room ≡ volume.old.room }
 {
     match place_in(dbd, code, pointer) {

@@ -2,7 +2,7 @@
 use Rattle.std.proofs.Common.{◌≡◌, ◌≢◌, ◌⊎◌, inl, inr, ℕ, ◌+◌, ◌%◌, ◌<◌, ◌≤◌, List, [], ◌∷◌, length, slice_index, refl, sym, ap, subst, ◌∙◌, arith}
 use Rattle.std.proofs.lemmas.Bool.{cases_eq}
 use Rattle.hd_bytes.specs.Numbers.{number_at}
-use Rattle.hd_block.specs.Extents.{Extent, free, used, taken, IsElement, IsSegment, Fill, IsDivided, AreWhole}
+use Rattle.hd_block.specs.Extents.{Extent, free, used, taken, IsHole, IsSegment, Fill, IsDivided, AreWhole}
 use Rattle.hd_volume.specs.Volumes.{VolumeState, block_at, IsKind, HasExtents}
 use Rattle.hd_volume.specs.Indexes.{IsAmong}
 use Rattle.hd_image.specs.BlockFaults.{AreFreeElements, HasFreeElements, IsWrongChain, IsNoSegment, IsStep, IsReadTo, IsWrongPlace}
@@ -34,10 +34,10 @@ chained : (sizes : ℕ → ℕ) (bytes : List ℕ) (end place next : ℕ) (xs : 
     → (end < place) ⊎ ((end ≡ place) × (next ≢ place)) → AreFreeElements bytes end next (frees place xs)
 chained sizes bytes end place next [] f w eighth apart = f.1
 chained sizes bytes end place next (free n ∷ xs) f w eighth apart =
-    let x : IsElement bytes place n = f.1 in
-    let len = x.len in
-    let some = x.some in
-    let whole = x.whole in
+    let x : IsHole bytes place n = f.1 in
+    let len = x.element.len in
+    let some = x.element.some in
+    let whole = x.element.whole in
     let next-is : next ≡ place = sym f.0 in
     let over = within sizes bytes (place + n) (number_at 2 bytes place) xs f.2 in
     let past : end < place = elim apart [ inl l ↦ l | inr e ↦ absurd (e.1 next-is) ] in
@@ -47,10 +47,8 @@ chained sizes bytes end place next (free n ∷ xs) f w eighth apart =
       past,
       record {
         whole = eighth;
-        length_whole = ap (λ (k : ℕ). k % 8) len ∙ whole;
-        some = rw len some;
         within = rw len over;
-        task = x.task;
+        element = record { len = refl; task = x.element.task; some = rw len some; whole = ap (λ (k : ℕ). k % 8) len ∙ whole };
       },
       subst E (sym len) rest,
     )
@@ -82,10 +80,10 @@ no-end sizes bytes places from next [] (n ∷ way) place f w to back read short 
 no-end sizes bytes places from next (free n ∷ xs) [] place f w to back read short none =
     none.apart (subst (λ (q : ℕ). IsAmong q places) read (back from (inl refl)))
 no-end sizes bytes places from next (free n ∷ xs) (m ∷ way) place f w to back read short none =
-    let x : IsElement bytes from n = f.1 in
-    let step : m ≡ from + n = read.0.free (back from (inl refl)) ∙ ap (λ (k : ℕ). from + k) x.len in
+    let x : IsHole bytes from n = f.1 in
+    let step : m ≡ from + n = read.0.free (back from (inl refl)) ∙ ap (λ (k : ℕ). from + k) x.element.len in
     no-end sizes bytes places (from + n) (number_at 2 bytes from) xs way place f.2 w
-    (λ q l i. elim (to q (let s = x.some in omega arith) i) [ inl e ↦ absurd (let s = x.some in omega arith) | inr j ↦ j ])
+    (λ q l i. elim (to q (let s = x.element.some in omega arith) i) [ inl e ↦ absurd (let s = x.element.some in omega arith) | inr j ↦ j ])
     (λ q i. back q (inr i))
     (subst (λ (s : ℕ). IsReadTo sizes bytes places s way place) step read.1) short none
 no-end sizes bytes places from next (used n ∷ xs) [] place f w to back read short none =

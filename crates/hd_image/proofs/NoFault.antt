@@ -22,7 +22,9 @@ use Rattle.hd_image.specs.Holding.{root_entries, HoldsPlaced}
 use Rattle.hd_image.specs.Laws.{IsDatabase}
 use Rattle.hd_image.specs.BlockFaults.{IsNoVolume, IsOfAnother, IsOfNoKind}
 use Rattle.hd_image.specs.IndexFaults.{names_a_root, HasWrongEntry, HasNoEntry}
-use Rattle.hd_image.specs.Standing.{Line, no_volume, no_version, another_database, wrong_chain, wrong_place, no_kind, deleted, points_nowhere, points_to_another, two_predecessors, no_predecessor, wrong_backward, wrong_last, out_of_order, not_reached, wrong_top, wrong_form, named_twice, unreached_block, entry_out_of_order, wrong_entry, no_entry, Stands}
+use Rattle.hd_image.specs.Standing.{Stands}
+use Rattle.hd_image.specs.declared.line.Line.{Line}
+use Rattle.hd_image.specs.declared.line.Line.TheVariants.{NoVolume, NoVersion, AnotherDatabase, WrongChain, WrongPlace, NoKind, Deleted, NamesNothing, NamesAnother, TwoPredecessors, NoPredecessor, WrongBackward, WrongLast, OutOfOrder, NotReached, WrongTop, WrongForm, NamedTwice, UnreachedBlock, EntryOutOfOrder, WrongEntry, NoEntry}
 use Rattle.hd_image.specs.Exact.{HeldForestsHaveNoFault}
 use Rattle.hd_image.proofs.Found.{records-link}
 use Rattle.hd_image.proofs.Sorted.{IsIn}
@@ -101,28 +103,28 @@ module _ (d : Database) (v : VolumeState) (f : Forest Placed) (fit : IsDatabase 
 
   -- line by line
   none : (line : Line) (a x : ℕ) → Stands d v line a x → ⊥
-  none no_volume a x s = none-header a x s
-  none no_version a x s = s.0 h.index.version
-  none another_database a x s = none-other a x s
-  none wrong_chain a x s = none-wrong-chain v a x h.volume.formatted.divided s
-  none wrong_place a x s = none-wrong-place v a x h.volume.formatted.divided s
-  none no_kind a x s = none-kind a x s
-  none deleted a x s = pointer.none-deleted d.types m graph.header_code linked.typed a x s
-  none points_nowhere a x s = pointer.none-nowhere d.types m graph.header_code linked.typed a x s
-  none points_to_another a x s = pointer.none-another d.types m graph.header_code linked.typed a x s
-  none two_predecessors a x s = pointer.none-twice d.types m linked.single a x s
-  none no_predecessor a x s = pointer.none-without d.types m linked.single a x s
-  none wrong_backward a x s = pointer.none-backward d.types m linked.back a x s
-  none wrong_last a x s = pointer.none-last d.types m linked.back a x s
-  none out_of_order a x s = pointer.none-order d.types m linked.keys a x s
-  none not_reached a x s = pointer.none-unreached d.types m linked.reached a x s
-  none wrong_top a x s = index.none-wrong-top (root_key_length d.types) v h.index a x s
-  none wrong_form a x s = index.none-wrong-form (root_key_length d.types) v h.index a x s
-  none named_twice a x s = index.none-twice (root_key_length d.types) v h.index a x s
-  none unreached_block a x s = index.none-unreached (root_key_length d.types) v h.index a x s
-  none entry_out_of_order a x s = index.none-out-of-order (root_key_length d.types) v h.index a x s
-  none wrong_entry a x s = none-wrong-entry a x s
-  none no_entry a x s = none-without a x s
+  none NoVolume a x s = none-header a x s
+  none NoVersion a x s = s.0 h.index.version
+  none AnotherDatabase a x s = none-other a x s
+  none WrongChain a x s = none-wrong-chain v a x h.volume.formatted.divided s
+  none WrongPlace a x s = none-wrong-place v a x h.volume.formatted.divided s
+  none NoKind a x s = none-kind a x s
+  none Deleted a x s = pointer.none-deleted d.types m graph.header_code linked.typed a x s
+  none NamesNothing a x s = pointer.none-nowhere d.types m graph.header_code linked.typed a x s
+  none NamesAnother a x s = pointer.none-another d.types m graph.header_code linked.typed a x s
+  none TwoPredecessors a x s = pointer.none-twice d.types m linked.single a x s
+  none NoPredecessor a x s = pointer.none-without d.types m linked.single a x s
+  none WrongBackward a x s = pointer.none-backward d.types m linked.back a x s
+  none WrongLast a x s = pointer.none-last d.types m linked.back a x s
+  none OutOfOrder a x s = pointer.none-order d.types m linked.keys a x s
+  none NotReached a x s = pointer.none-unreached d.types m linked.reached a x s
+  none WrongTop a x s = index.none-wrong-top (root_key_length d.types) v h.index a x s
+  none WrongForm a x s = index.none-wrong-form (root_key_length d.types) v h.index a x s
+  none NamedTwice a x s = index.none-twice (root_key_length d.types) v h.index a x s
+  none UnreachedBlock a x s = index.none-unreached (root_key_length d.types) v h.index a x s
+  none EntryOutOfOrder a x s = index.none-out-of-order (root_key_length d.types) v h.index a x s
+  none WrongEntry a x s = none-wrong-entry a x s
+  none NoEntry a x s = none-without a x s
 
 -- of any forest that is held
 pub no-fault : HeldForestsHaveNoFault

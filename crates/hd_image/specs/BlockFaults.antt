@@ -1,6 +1,7 @@
 -- What can be wrong with a volume's header and blocks: one word for each line of the fault table, with where the fault stands
 -- and what else it names, 0 where it names nothing.
 use Rattle.std.specs.Prelude.{◌≡◌, ◌≢◌, ◌⊎◌, ℕ, ◌+◌, ◌*◌, ◌%◌, ◌<◌, ◌≤◌, List, [], ◌∷◌, length, slice_index}
+use Rattle.hd_block.specs.Extents.{IsFreeElement}
 use Rattle.hd_bytes.specs.Blocks.{HasBlock}
 use Rattle.hd_bytes.specs.Numbers.{number_at}
 use Rattle.hd_dbd.specs.Hierarchy.{Database}
@@ -24,19 +25,17 @@ IsOfAnother d v address other = (((header_of v.image).name ≢ d.name) ⊎ ((hea
 
 -- ---- phase 2: the blocks
 
--- A free element stands at a place of a block: both are multiples of 8, it ends within the block, and its task identifier is 0.
-pub record IsFreeElement (block : List ℕ) (place : ℕ) : Type 0 where
+-- A free element of as many bytes as it says stands at a place of a block, which is a multiple of 8, and ends within the block.
+pub record IsElementAt (block : List ℕ) (place : ℕ) : Type 0 where
   pub whole : place % 8 ≡ 0
-  pub length_whole : number_at 2 block (place + 2) % 8 ≡ 0
-  pub some : 8 ≤ number_at 2 block (place + 2)
   pub within : place + number_at 2 block (place + 2) ≤ length block
-  pub task : number_at 4 block (place + 4) ≡ 0
+  pub element : IsFreeElement block place (number_at 2 block (place + 2))
 
 -- From the number that names the first, the free elements of a block are at these places, each past the end of the one before.
 abbrev pub AreFreeElements : List ℕ → ℕ → ℕ → List ℕ → Type 0
 AreFreeElements block end next [] = next ≡ 0
 AreFreeElements block end next (place ∷ places) =
-    (next ≡ place) × (end < place) × IsFreeElement block place
+    (next ≡ place) × (end < place) × IsElementAt block place
     × AreFreeElements block (place + number_at 2 block (place + 2)) (number_at 2 block place) places
 
 -- the free elements of a data block, as its first two bytes name them, from offset 8 on

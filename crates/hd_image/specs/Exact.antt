@@ -7,7 +7,8 @@ use Rattle.hd_links.specs.Placed.{Placed}
 use Rattle.hd_image.specs.Holding.{HoldsPlaced}
 use Rattle.hd_image.specs.Laws.{IsDatabase}
 use Rattle.hd_image.specs.Right.{IsRight}
-use Rattle.hd_image.specs.Standing.{Line, Stands}
+use Rattle.hd_image.specs.Standing.{Stands}
+use Rattle.hd_image.specs.declared.line.Line.{Line}
 
 -- A volume with which nothing is wrong holds a forest.
 abbrev pub RightVolumesHoldAForest : Type 0

@@ -7,106 +7,83 @@ use Rattle.hd_image.specs.Records.{links_of}
 use Rattle.hd_image.specs.BlockFaults.{IsNoVolume, IsOfNoVersion, IsOfAnother, IsWrongChain, IsWrongPlace, IsOfNoKind}
 use Rattle.hd_image.specs.PointerFaults.{IsDeleted, PointsNowhere, PointsToAnother, HasTwoPredecessors, HasNoPredecessor, IsWrongBackward, HasWrongLast, IsOutOfOrder, IsNotReached}
 use Rattle.hd_image.specs.IndexFaults.{IsWrongTop, IsWrongForm, IsNamedTwice, IsUnreachedBlock, HasEntryOutOfOrder, HasWrongEntry, HasNoEntry}
-
--- A line of the fault table.
-pub data Line : Type 0 where
-  no_volume : Line
-  no_version : Line
-  another_database : Line
-  wrong_chain : Line
-  wrong_place : Line
-  no_kind : Line
-  deleted : Line
-  points_nowhere : Line
-  points_to_another : Line
-  two_predecessors : Line
-  no_predecessor : Line
-  wrong_backward : Line
-  wrong_last : Line
-  out_of_order : Line
-  not_reached : Line
-  wrong_top : Line
-  wrong_form : Line
-  named_twice : Line
-  unreached_block : Line
-  entry_out_of_order : Line
-  wrong_entry : Line
-  no_entry : Line
+use Rattle.hd_image.specs.declared.line.Line.{Line}
+use Rattle.hd_image.specs.declared.line.Line.TheVariants.{NoVolume, NoVersion, AnotherDatabase, WrongChain, WrongPlace, NoKind, Deleted, NamesNothing, NamesAnother, TwoPredecessors, NoPredecessor, WrongBackward, WrongLast, OutOfOrder, NotReached, WrongTop, WrongForm, NamedTwice, UnreachedBlock, EntryOutOfOrder, WrongEntry, NoEntry}
 
 -- the phase of a line
 abbrev pub phase_of : Line → ℕ
-phase_of no_volume = 1
-phase_of no_version = 1
-phase_of another_database = 1
-phase_of wrong_chain = 2
-phase_of wrong_place = 2
-phase_of no_kind = 2
-phase_of deleted = 3
-phase_of points_nowhere = 3
-phase_of points_to_another = 3
-phase_of two_predecessors = 4
-phase_of no_predecessor = 4
-phase_of wrong_backward = 5
-phase_of wrong_last = 5
-phase_of out_of_order = 6
-phase_of not_reached = 7
-phase_of wrong_top = 8
-phase_of wrong_form = 8
-phase_of named_twice = 9
-phase_of unreached_block = 10
-phase_of entry_out_of_order = 11
-phase_of wrong_entry = 12
-phase_of no_entry = 13
+phase_of NoVolume = 1
+phase_of NoVersion = 1
+phase_of AnotherDatabase = 1
+phase_of WrongChain = 2
+phase_of WrongPlace = 2
+phase_of NoKind = 2
+phase_of Deleted = 3
+phase_of NamesNothing = 3
+phase_of NamesAnother = 3
+phase_of TwoPredecessors = 4
+phase_of NoPredecessor = 4
+phase_of WrongBackward = 5
+phase_of WrongLast = 5
+phase_of OutOfOrder = 6
+phase_of NotReached = 7
+phase_of WrongTop = 8
+phase_of WrongForm = 8
+phase_of NamedTwice = 9
+phase_of UnreachedBlock = 10
+phase_of EntryOutOfOrder = 11
+phase_of WrongEntry = 12
+phase_of NoEntry = 13
 
 -- the number of a line's fault at an address: of the header's first and last root it is 20
 abbrev pub number_of : Line → ℕ → ℕ
-number_of no_volume address = 1
-number_of no_version address = 2
-number_of another_database address = 3
-number_of wrong_chain address = 4
-number_of wrong_place address = 5
-number_of no_kind address = 19
-number_of deleted address = 6
-number_of points_nowhere address = 7
-number_of points_to_another address = 8
-number_of two_predecessors address = 9
-number_of no_predecessor address = 10
-number_of wrong_backward address = 11
-number_of wrong_last address = cond (address == 0) 20 12
-number_of out_of_order address = 13
-number_of not_reached address = 14
-number_of wrong_top address = 15
-number_of wrong_form address = 15
-number_of named_twice address = 15
-number_of unreached_block address = 19
-number_of entry_out_of_order address = 16
-number_of wrong_entry address = 17
-number_of no_entry address = 18
+number_of NoVolume address = 1
+number_of NoVersion address = 2
+number_of AnotherDatabase address = 3
+number_of WrongChain address = 4
+number_of WrongPlace address = 5
+number_of NoKind address = 19
+number_of Deleted address = 6
+number_of NamesNothing address = 7
+number_of NamesAnother address = 8
+number_of TwoPredecessors address = 9
+number_of NoPredecessor address = 10
+number_of WrongBackward address = 11
+number_of WrongLast address = cond (address == 0) 20 12
+number_of OutOfOrder address = 13
+number_of NotReached address = 14
+number_of WrongTop address = 15
+number_of WrongForm address = 15
+number_of NamedTwice address = 15
+number_of UnreachedBlock address = 19
+number_of EntryOutOfOrder address = 16
+number_of WrongEntry address = 17
+number_of NoEntry address = 18
 
 -- the condition of a line stands in a volume at an address, with what else it names
 abbrev pub Stands : Database → VolumeState → Line → ℕ → ℕ → Type 0
-Stands d v no_volume address other = IsNoVolume d v address other
-Stands d v no_version address other = IsOfNoVersion v address other
-Stands d v another_database address other = IsOfAnother d v address other
-Stands d v wrong_chain address other = IsWrongChain v address other
-Stands d v wrong_place address other = IsWrongPlace v address other
-Stands d v no_kind address other = IsOfNoKind v address other
-Stands d v deleted address other = IsDeleted (links_of d.types v) address other
-Stands d v points_nowhere address other = PointsNowhere d.types (links_of d.types v) address other
-Stands d v points_to_another address other = PointsToAnother d.types (links_of d.types v) address other
-Stands d v two_predecessors address other = HasTwoPredecessors d.types (links_of d.types v) address other
-Stands d v no_predecessor address other = HasNoPredecessor d.types (links_of d.types v) address other
-Stands d v wrong_backward address other = IsWrongBackward d.types (links_of d.types v) address other
-Stands d v wrong_last address other = HasWrongLast d.types (links_of d.types v) address other
-Stands d v out_of_order address other = IsOutOfOrder d.types (links_of d.types v) address other
-Stands d v not_reached address other = IsNotReached d.types (links_of d.types v) address other
-Stands d v wrong_top address other = IsWrongTop v address other
-Stands d v wrong_form address other = IsWrongForm (root_key_length d.types) v address other
-Stands d v named_twice address other = IsNamedTwice v address other
-Stands d v unreached_block address other = IsUnreachedBlock v address other
-Stands d v entry_out_of_order address other = HasEntryOutOfOrder (root_key_length d.types) v address other
-Stands d v wrong_entry address other = HasWrongEntry d v address other
-Stands d v no_entry address other = HasNoEntry d v address other
+Stands d v NoVolume address other = IsNoVolume d v address other
+Stands d v NoVersion address other = IsOfNoVersion v address other
+Stands d v AnotherDatabase address other = IsOfAnother d v address other
+Stands d v WrongChain address other = IsWrongChain v address other
+Stands d v WrongPlace address other = IsWrongPlace v address other
+Stands d v NoKind address other = IsOfNoKind v address other
+Stands d v Deleted address other = IsDeleted (links_of d.types v) address other
+Stands d v NamesNothing address other = PointsNowhere d.types (links_of d.types v) address other
+Stands d v NamesAnother address other = PointsToAnother d.types (links_of d.types v) address other
+Stands d v TwoPredecessors address other = HasTwoPredecessors d.types (links_of d.types v) address other
+Stands d v NoPredecessor address other = HasNoPredecessor d.types (links_of d.types v) address other
+Stands d v WrongBackward address other = IsWrongBackward d.types (links_of d.types v) address other
+Stands d v WrongLast address other = HasWrongLast d.types (links_of d.types v) address other
+Stands d v OutOfOrder address other = IsOutOfOrder d.types (links_of d.types v) address other
+Stands d v NotReached address other = IsNotReached d.types (links_of d.types v) address other
+Stands d v WrongTop address other = IsWrongTop v address other
+Stands d v WrongForm address other = IsWrongForm (root_key_length d.types) v address other
+Stands d v NamedTwice address other = IsNamedTwice v address other
+Stands d v UnreachedBlock address other = IsUnreachedBlock v address other
+Stands d v EntryOutOfOrder address other = HasEntryOutOfOrder (root_key_length d.types) v address other
+Stands d v WrongEntry address other = HasWrongEntry d v address other
+Stands d v NoEntry address other = HasNoEntry d v address other
 
 -- a fault of one line at an address comes before that of another: by phase, then by address, then by number
 abbrev pub ComesBefore : Line → ℕ → Line → ℕ → Type 0

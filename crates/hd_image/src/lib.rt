@@ -1,9 +1,10 @@
 //! The records of a volume as a link graph, when a volume holds a forest, and what can be wrong with it.
 //!
-//! The definitions stand in this crate's `specs/`, the laws in `law`.
+//! The definitions stand in this crate's `specs/`, the laws in `law`, the lines of the fault table in `line`.
 #![tactic(auto)]
 
 mod law;
+mod line;
 
 pub use law::{
     law_a_volume_holds_one_forest, law_freeing_takes_a_record, law_held_forests_have_no_fault,
@@ -11,3 +12,4 @@ pub use law::{
     law_records_stay, law_right_volumes_hold_a_forest, law_setting_a_root_sets_a_pointer,
     law_writing_replaces_bytes, law_writing_sets_a_pointer,
 };
+pub use line::Line;

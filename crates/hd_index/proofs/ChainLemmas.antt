@@ -1,23 +1,23 @@
 -- The chain of an index's blocks, and the walk along it.
 use Rattle.std.proofs.lemmas.Option.{slice_get_past}
 use Rattle.std.proofs.Common.{◌≡◌, ◌≢◌, ◌⊎◌, inl, inr, ℕ, zero, suc, ◌<◌, ◌≤◌, Bool, true, false, cond, List, [], ◌∷◌, ◌++◌, length, Option, Some, None, refl, sym, ap, ◌∙◌, arith, subst, ne_eqb}
-use Rattle.std.specs.Prelude.{◌==◌, nat_lt, slice_index, slice_get, option_map, bytes_eq}
+use Rattle.std.specs.Prelude.{◌==◌, nat_lt, slice_get, option_map, bytes_eq}
 use Rattle.std.proofs.lemmas.Bool.{cases_lt, cases_eq, ltb-true, ltb-false}
 use Rattle.hd_bytes.specs.Numbers.{number_at}
 use Rattle.hd_volume.specs.Headers.{header_of}
-use Rattle.hd_volume.specs.Volumes.{VolumeState, block_at, kind_of}
+use Rattle.hd_volume.specs.Volumes.{VolumeState, block_at}
 use Rattle.hd_volume.specs.Entries.{Entry, entries_in, entries_of, chain_from, entry_blocks, entries}
-use Rattle.hd_volume.specs.Indexes.{keys_ascend, entry_room, IsEntryBlock, IsChain, HasIndex}
-use Rattle.hd_index.specs.declared.entries.Seen.{Seen}
+use Rattle.hd_volume.specs.Indexes.{keys_ascend, IsEntryBlock, IsChain, HasIndex}
+use Rattle.hd_entries.specs.declared.block.Seen.{Seen}
 use Rattle.hd_index.specs.declared.place.Place.{Place}
 use Rattle.hd_index.specs.declared.place.Spot.{Spot}
-use Rattle.hd_index.specs.Counts.{below_count}
+use Rattle.hd_entries.specs.Fields.{below_count}
 use Rattle.hd_index.specs.declared.place.Found.{Found}
 use Rattle.hd_index.specs.Maps.{address_of, address_from}
-use Rattle.hd_index.specs.Places.{seen_in, place_from, place_of, found_at, address_found, HasPlace, no_spot, spot_in, spot_at, spot_of}
+use Rattle.hd_entries.specs.Searches.{seen_in}
+use Rattle.hd_index.specs.Places.{place_from, place_of, found_at, address_found, HasPlace, no_spot, spot_in, spot_at, spot_of}
 use Rattle.hd_index.proofs.MapLemmas.{ascend-parts, below-most, AreBelow, none-below, below-all, below-append, address-behind, from-behind, address-here, address-none, address-from-here}
-use Rattle.hd_index.proofs.BlockLemmas.{length-entries, get-within}
-use Rattle.std.proofs.lemmas.List.{append_assoc}
+use Rattle.hd_entries.proofs.BlockLemmas.{length-entries, get-within, entry-block-same}
 use Rattle.hd_volume.proofs.IndexLemmas.{entries-append}
 
 -- What is left of the chain from a number on, if one is left: its keys ascend.
@@ -64,20 +64,7 @@ place-end k v key (suc more) place = refl
 
 -- ---- one image
 
--- two states with one image have the same blocks of entries
-pub entry-block-same : (k : ℕ) (v w : VolumeState) (n : ℕ) → w.size ≡ v.size → w.image ≡ v.image → IsEntryBlock k v n → IsEntryBlock k w n
-entry-block-same k v w n size image h =
-    let same : block_at w n ≡ block_at v n = rw (size, image) refl in
-    record {
-      is = record { there = (let t = h.is.there in let l : length w.image ≡ length v.image = ap length image in rw size (omega arith)); later = h.is.later; kind_is = ap kind_of same ∙ h.is.kind_is };
-      level = ap (λ (b : List ℕ). slice_index b 3) same ∙ h.level;
-      count =
-          let P : List ℕ → Type 0 = λ b. number_at 2 b 4 ≤ entry_room k w.size in
-          let Q : ℕ → Type 0 = λ z. number_at 2 (block_at v n) 4 ≤ entry_room k z in
-          subst P (sym same) (subst Q (sym size) h.count);
-    }
-
--- and what is seen in them is the same
+-- what is seen in the blocks of two states with one image is the same
 pub seen-same : (k : ℕ) (v w : VolumeState) (n : ℕ) (key : List ℕ) → w.size ≡ v.size → w.image ≡ v.image → seen_in k key (block_at w n) ≡ seen_in k key (block_at v n)
 seen-same k v w n key size image = rw (size, image) refl
 

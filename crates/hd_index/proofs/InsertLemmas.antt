@@ -16,10 +16,10 @@ use Rattle.hd_volume.proofs.FrameLemmas.{AreSame}
 use Rattle.hd_index.specs.declared.place.Place.{Place}
 use Rattle.hd_index.specs.declared.place.Spot.{Spot}
 use Rattle.hd_index.specs.Maps.{address_of, with_entry}
-use Rattle.hd_index.specs.Counts.{below_count}
+use Rattle.hd_entries.specs.Fields.{below_count}
 use Rattle.hd_index.specs.Changes.{IsIndexChange}
 use Rattle.hd_index.specs.Edits.{Bears, HasNewEntries, IsSpliced, IsChanged, IsHalved}
-use Rattle.hd_index.proofs.BlockLemmas.{length-entries}
+use Rattle.hd_entries.proofs.BlockLemmas.{length-entries}
 use Rattle.hd_index.proofs.SpliceLemmas.{same-entry-block, index-blocks, spliced}
 use Rattle.hd_index.proofs.MapLemmas.{with-behind, with-here, address-behind, ascend-with}
 use Rattle.hd_index.proofs.ChainLemmas.{place-entries}

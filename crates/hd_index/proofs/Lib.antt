@@ -1,12 +1,11 @@
 pub mod MapLemmas
-pub mod BlockLemmas
-pub mod RoomLemmas
 pub mod CallLemmas
 pub mod ChainLemmas
 pub mod EditLemmas
-pub mod EntryLemmas
+pub mod EntryEdits
 pub mod SpliceLemmas
 pub mod StepLemmas
 pub mod ChangeLemmas
 pub mod InsertLemmas
 pub mod NewLemmas
+pub mod NeedLemmas

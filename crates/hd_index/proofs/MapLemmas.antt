@@ -10,7 +10,7 @@ use Rattle.hd_volume.specs.Entries.{Entry}
 use Rattle.hd_volume.specs.Indexes.{key_less, is_below_first, keys_ascend}
 use Rattle.hd_volume.proofs.KeyLemmas.{less-trans, less-not}
 use Rattle.hd_index.specs.Maps.{address_of, address_from, with_entry, without_key}
-use Rattle.hd_index.specs.Counts.{below_count}
+use Rattle.hd_entries.specs.Fields.{below_count}
 
 -- ---- the order of keys
 

@@ -1,5 +1,4 @@
 pub mod Maps
 pub mod Changes
-pub mod Counts
 pub mod Places
 pub mod Edits

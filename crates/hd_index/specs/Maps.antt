@@ -1,5 +1,5 @@
 -- The index as an ordered map from root keys to addresses: a list of entries whose keys ascend.
-use Rattle.std.specs.Prelude.{ℕ, List, [], ◌∷◌, cond, Option, Some, None, bytes_eq}
+use Rattle.std.specs.Prelude.{ℕ, List, [], ◌∷◌, ◌++◌, suc, take, drop, cond, Option, Some, None, bytes_eq}
 use Rattle.hd_volume.specs.Entries.{Entry}
 use Rattle.hd_volume.specs.Indexes.{key_less}
 
@@ -22,3 +22,11 @@ with_entry new (e ∷ es) = cond (key_less new.key e.key) (new ∷ e ∷ es) (e 
 abbrev pub without_key : List ℕ → List Entry → List Entry
 without_key key [] = []
 without_key key (e ∷ es) = cond (bytes_eq e.key key) es (e ∷ without_key key es)
+
+-- the entries with one more, before that at an index
+abbrev pub with_entry_at : ℕ → Entry → List Entry → List Entry
+with_entry_at index new es = take index es ++ (new ∷ drop index es)
+
+-- the entries without that at an index
+abbrev pub without_entry_at : ℕ → List Entry → List Entry
+without_entry_at index es = take index es ++ drop (suc index) es

@@ -1,26 +1,14 @@
 -- Where a key stands or belongs in the index: the walk along the chain to its block.
-use Rattle.std.specs.Prelude.{ℕ, zero, suc, ◌+◌, ◌*◌, ◌≤◌, ◌==◌, cond, List, Option, None, Some, option_map, slice_get, bytes_eq, nat_lt}
+use Rattle.std.specs.Prelude.{ℕ, zero, suc, ◌≤◌, ◌==◌, cond, List, Option, None, Some, option_map, slice_get, bytes_eq, nat_lt}
 use Rattle.hd_bytes.specs.Numbers.{number_at}
 use Rattle.hd_volume.specs.Headers.{header_of}
 use Rattle.hd_volume.specs.Volumes.{VolumeState, block_at}
 use Rattle.hd_volume.specs.Entries.{entries_in}
-use Rattle.hd_volume.specs.Indexes.{IsEntryBlock}
-use Rattle.hd_index.specs.declared.entries.Seen.{Seen}
+use Rattle.hd_volume.specs.Indexes.{entry_room, IsEntryBlock}
 use Rattle.hd_index.specs.declared.place.Found.{Found}
 use Rattle.hd_index.specs.declared.place.Place.{Place}
 use Rattle.hd_index.specs.declared.place.Spot.{Spot}
-use Rattle.hd_index.specs.Counts.{below_count}
-
--- where an entry stands in its block
-abbrev pub entry_place : ℕ → ℕ → ℕ
-entry_place key_length index = 12 + index * (key_length + 4)
-
--- how many entries of a block are below a key, and the block behind it, or 0 where not all are
-abbrev pub seen_in : ℕ → List ℕ → List ℕ → Seen
-seen_in key_length key block = record {
-  index = below_count key (entries_in key_length block);
-  next = cond (nat_lt (below_count key (entries_in key_length block)) (number_at 2 block 4)) 0 (number_at 4 block 8);
-}
+use Rattle.hd_entries.specs.Searches.{seen_in}
 
 -- the place of a key in at most so many blocks from block n on, if one of them has an entry that is not below it; else the
 -- end of the last, or the place so far
@@ -71,3 +59,8 @@ spot_at key_length v key place = cond (place.block == 0) no_spot (spot_in key_le
 -- what is read at the place of a key
 abbrev pub spot_of : ℕ → VolumeState → List ℕ → Spot
 spot_of key_length v key = spot_at key_length v key (place_of key_length v key)
+
+-- the blocks that a new key needs: one where the index has no block yet, or its entry finds no room in the block where it belongs
+abbrev pub blocks_needed : ℕ → VolumeState → List ℕ → ℕ
+blocks_needed key_length v key =
+    cond ((spot_of key_length v key).block == 0) 1 (cond (nat_lt (spot_of key_length v key).count (entry_room key_length v.size)) 0 1)

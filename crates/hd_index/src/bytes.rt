@@ -1,7 +1,8 @@
-ghost use Rattle.std.specs.Prelude.{◌≡◌, ◌+◌, ◌≤◌, IsTrue, length, take, IfOk, IfErr, OnOk};
+ghost use Rattle.std.specs.Prelude.{◌≡◌, ◌+◌, ◌≤◌, IsTrue, length, take, IfOk, OnOk};
 ghost use Rattle.hd_bytes.specs.Numbers.{number_at};
 ghost use Rattle.hd_bytes.specs.Blocks.{HasBlock};
 ghost use Rattle.hd_bytes.specs.Ranges.{bytes_at, with_bytes};
+ghost use Rattle.hd_dbd.specs.Refusals.{OnlyDevice};
 ghost use Rattle.hd_volume.specs.Volumes.{IsFormatted, IsKind, block_at};
 ghost use Rattle.hd_volume.specs.Calls.{IsCall, IsRead};
 ghost use Rattle.hd_index.specs.Edits.{HasNewBytes};
@@ -45,7 +46,7 @@ fn read_chunk<S: BlockStore>(
     requires short { len ≤ 1024 }
     ensures read { IsRead volume.old result volume.new }
     ensures value { IfOk result (λ chunk. IsTrue volume.old.is_sound → take len chunk ≡ bytes_at (block_at volume.old n) from len) }
-    ensures refusal { IfErr result (λ e. e ≡ Refused.Device) }
+    ensures refusal { OnlyDevice result }
 {
     let block = volume.block(n)?;
     let mut chunk = [0; CHUNK];
@@ -68,7 +69,7 @@ pub fn write_part<S: BlockStore>(
     requires within { place + length part.now ≤ volume.old.size }
     ensures call { IsCall volume.old result volume.new }
     ensures written { OnOk result (IsTrue volume.old.is_sound → HasNewBytes volume.old n (with_bytes (block_at volume.old n) place part.now) volume.new) }
-    ensures refusal { IfErr result (λ e. e ≡ Refused.Device) }
+    ensures refusal { OnlyDevice result }
     ensures room { volume.new.room ≡ volume.old.room }
 {
     volume.write_block(n, place, part)?;
@@ -93,7 +94,7 @@ fn copy_chunk<S: BlockStore>(
     requires short { len ≤ 1024 }
     ensures call { IsCall volume.old result volume.new }
     ensures copied { OnOk result (IsTrue volume.old.is_sound → HasNewBytes volume.old target (with_bytes (block_at volume.old target) to (bytes_at (block_at volume.old source) from len)) volume.new) }
-    ensures refusal { IfErr result (λ e. e ≡ Refused.Device) }
+    ensures refusal { OnlyDevice result }
     ensures room { volume.new.room ≡ volume.old.room }
 {
     let chunk = read_chunk(volume, source, from, len)?;
@@ -120,7 +121,7 @@ pub fn copy_down<S: BlockStore>(
     requires small { volume.old.size ≤ 32768 }
     ensures call { IsCall volume.old result volume.new }
     ensures copied { OnOk result (IsTrue volume.old.is_sound → HasNewBytes volume.old target (with_bytes (block_at volume.old target) to (bytes_at (block_at volume.old source) from len)) volume.new) }
-    ensures refusal { IfErr result (λ e. e ≡ Refused.Device) }
+    ensures refusal { OnlyDevice result }
     ensures room { volume.new.room ≡ volume.old.room }
 {
     let mut done = 0;
@@ -148,7 +149,7 @@ pub fn move_up<S: BlockStore>(
     requires small { volume.old.size ≤ 32768 }
     ensures call { IsCall volume.old result volume.new }
     ensures moved { OnOk result (IsTrue volume.old.is_sound → HasNewBytes volume.old n (with_bytes (block_at volume.old n) to (bytes_at (block_at volume.old n) from len)) volume.new) }
-    ensures refusal { IfErr result (λ e. e ≡ Refused.Device) }
+    ensures refusal { OnlyDevice result }
     ensures room { volume.new.room ≡ volume.old.room }
 {
     let mut left = len;

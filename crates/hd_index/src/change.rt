@@ -1,18 +1,19 @@
-ghost use Rattle.std.specs.Prelude.{◌≡◌, ◌⊎◌, ◌+◌, ◌≤◌, ◌<◌, length, true, None, IsTrue, IfErr, OnOk};
-ghost use Rattle.hd_volume.specs.Volumes.{IsFormatted};
+ghost use Rattle.std.specs.Prelude.{◌≡◌, ◌+◌, ◌≤◌, ◌<◌, length, None, IsTrue, IfOk, IfErr, OnOk};
+ghost use Rattle.hd_dbd.specs.Refusals.{OnlyDevice, OnlyRoomOrDevice};
 ghost use Rattle.hd_volume.specs.Rooms.{spare, free_blocks};
-ghost use Rattle.hd_volume.specs.Calls.{IsCall};
-ghost use Rattle.hd_volume.specs.Indexes.{root_key_length, index_growth, lacks_room, HasIndex};
+ghost use Rattle.hd_volume.specs.Calls.{IsCall, IsRead};
+ghost use Rattle.hd_volume.specs.Indexes.{root_key_length, index_growth, HasIndex};
 ghost use Rattle.hd_volume.specs.Entries.{entries};
 ghost use Rattle.hd_index.specs.Edits.{IsChanged};
 ghost use Rattle.hd_index.specs.Maps.{address_of, with_entry, without_key};
+ghost use Rattle.hd_index.specs.Places.{blocks_needed};
 ghost use Rattle.hd_index.specs.Changes.{IsIndexOf, entries_for, IsIndexChange};
 
 use crate::edit::remove_entry;
 use crate::enter::insert_key;
-use crate::entries::root_key_length;
 use crate::place::locate;
 use hd_dbd::{Dbd, Refused};
+use hd_entries::{entry_room, root_key_length};
 use hd_volume::{BlockStore, Volume};
 
 /// The blocks that an insert may need.
@@ -24,21 +25,32 @@ pub fn growth<S: BlockStore>(volume: &Volume<S>) -> u32
     1
 }
 
-/// Whether an insert may lack room, beside so many blocks for other uses; where it says no, and there are so many blocks more
-/// to spare after these, an insert is not refused as full.
-#[tactic(auto, unfolding(hd_volume::specs::Indexes::lacks_room))]
-pub fn lacks_room<S: BlockStore>(volume: &Volume<S>, others: u32) -> bool
-    requires formatted { IsTrue volume.now.is_sound → IsFormatted volume.now }
-    ensures { IsTrue volume.now.is_sound → result ≡ lacks_room others volume.now }
+/// The blocks that an insert of a new key takes, at most `growth`: none where the entry finds room in the block of the index
+/// where it belongs.
+pub fn blocks_needed<S: BlockStore>(
+    volume: &mut Volume<S>,
+    dbd: &Dbd,
+    key: &[u8],
+) -> Result<u32, Refused>
+    requires index { IsTrue volume.old.is_sound → IsIndexOf dbd.now volume.old }
+    ensures read { IsRead volume.old result volume.new }
+    ensures value { IfOk result (λ n. IsTrue volume.old.is_sound → n ≡ blocks_needed (root_key_length dbd.now.types) volume.old key.now) }
+    ensures refusal { OnlyDevice result }
 {
-    u64::from(volume.spare()) < u64::from(others) + u64::from(growth(volume))
+    let key_length = root_key_length(dbd);
+    let room = entry_room(key_length, volume.block_size());
+    let spot = locate(volume, key_length, key)?;
+    if spot.block == 0 {
+        return Ok(1);
+    }
+    Ok(if spot.count < room { 0 } else { 1 })
 }
 
 /// Enters the root of a new key.
 ///
-/// `Full` says that there are fewer blocks to spare than it may need; `Memory` comes only where the volume
+/// `Full` says that there are fewer blocks to spare than it needs; `Memory` comes only where the volume
 /// would have to grow and room for fewer is reserved.
-#[tactic(auto, unfolding(hd_volume::specs::Indexes::index_growth, hd_volume::specs::Indexes::lacks_room))]
+#[tactic(auto, unfolding(hd_volume::specs::Indexes::index_growth))]
 pub fn insert<S: BlockStore>(
     volume: &mut Volume<S>,
     dbd: &Dbd,
@@ -55,10 +67,10 @@ pub fn insert<S: BlockStore>(
     ensures changed { OnOk result (IsTrue volume.old.is_sound → IsIndexChange volume.old (index_growth volume.old) volume.new) }
     ensures spares { OnOk result (IsTrue volume.old.is_sound → spare volume.old ≤ spare volume.new + index_growth volume.old) }
     ensures kept { IfErr result (λ _. IsTrue volume.new.is_sound → volume.new.image ≡ volume.old.image) }
-    ensures full { IfErr result (λ e. e ≡ Refused.Full → IsTrue volume.old.is_sound → lacks_room 0 volume.old ≡ true) }
+    ensures full { IfErr result (λ e. e ≡ Refused.Full → IsTrue volume.old.is_sound → spare volume.old < blocks_needed (root_key_length dbd.now.types) volume.old key.now) }
     ensures memory { IfErr result (λ e. e ≡ Refused.Memory → volume.old.room < index_growth volume.old) }
     ensures few { IfErr result (λ e. e ≡ Refused.Memory → IsTrue volume.old.is_sound → free_blocks volume.old < index_growth volume.old) }
-    ensures refusal { IfErr result (λ e. (e ≡ Refused.Memory) ⊎ (e ≡ Refused.Full) ⊎ (e ≡ Refused.Device)) }
+    ensures refusal { OnlyRoomOrDevice result }
     ensures room { IsTrue volume.new.is_sound → volume.old.room ≤ volume.new.room + index_growth volume.old }
 {
     let key_length = root_key_length(dbd);
@@ -73,7 +85,7 @@ pub fn remove<S: BlockStore>(volume: &mut Volume<S>, dbd: &Dbd, key: &[u8]) -> R
     ensures entries { OnOk result (IsTrue volume.old.is_sound → entries_for dbd.now volume.new ≡ without_key key.now (entries_for dbd.now volume.old)) }
     ensures changed { OnOk result (IsTrue volume.old.is_sound → IsIndexChange volume.old 0 volume.new) }
     ensures spares { OnOk result (IsTrue volume.old.is_sound → spare volume.old ≤ spare volume.new) }
-    ensures refusal { IfErr result (λ e. e ≡ Refused.Device) }
+    ensures refusal { OnlyDevice result }
     ensures room { volume.new.room ≡ volume.old.room }
 {
     let key_length = root_key_length(dbd);
@@ -90,7 +102,7 @@ fn remove_key<S: BlockStore>(
     requires short { key_length ≤ 255 }
     ensures call { IsCall volume.old result volume.new }
     ensures changed { OnOk result (IsTrue volume.old.is_sound → IsChanged key_length volume.old (without_key key.now (entries key_length volume.old)) 0 volume.new) }
-    ensures refusal { IfErr result (λ e. e ≡ Refused.Device) }
+    ensures refusal { OnlyDevice result }
     ensures room { volume.new.room ≡ volume.old.room }
 {
     let spot = locate(volume, key_length, key)?;

@@ -1,15 +1,16 @@
 ghost use Rattle.std.specs.Prelude.{◌≡◌, ◌≢◌, ◌+◌, ◌≤◌, IsTrue, take, drop, [], IfOk, IfErr, OnOk};
 ghost use Rattle.hd_bytes.specs.Numbers.{number_at};
+ghost use Rattle.hd_dbd.specs.Refusals.{OnlyDevice};
 ghost use Rattle.hd_volume.specs.Volumes.{IsFormatted, block_at};
 ghost use Rattle.hd_volume.specs.Calls.{IsCall};
 ghost use Rattle.hd_volume.specs.Entries.{entries_in};
 ghost use Rattle.hd_volume.specs.Indexes.{IsEntryBlock};
-ghost use Rattle.hd_index.specs.Places.{entry_place};
+ghost use Rattle.hd_entries.specs.Fields.{entry_place};
 ghost use Rattle.hd_index.specs.Edits.{Bears, HasNewEntries, IsHalved, IsRefused};
 
 use crate::bytes::{copy_down, four_bytes, two_bytes, write_part};
-use crate::entries::{ADDRESS, COUNT, FIRST, NEXT, entry_place};
 use hd_dbd::Refused;
+use hd_entries::{ADDRESS, COUNT, FIRST, NEXT, entry_place};
 use hd_volume::{BlockStore, Volume};
 
 /// Copies the entries of a block from an index on into an empty block, which names a block behind it.
@@ -35,7 +36,7 @@ fn fill_upper<S: BlockStore>(
     requires fits { entry_place key_length count ≤ volume.old.size }
     ensures call { IsCall volume.old result volume.new }
     ensures filled { OnOk result (IsTrue volume.old.is_sound → HasNewEntries key_length volume.old m (drop half (entries_in key_length (block_at volume.old n))) next volume.new) }
-    ensures refusal { IfErr result (λ e. e ≡ Refused.Device) }
+    ensures refusal { OnlyDevice result }
     ensures room { volume.new.room ≡ volume.old.room }
 {
     let len = (count - half) * (key_length + ADDRESS);
@@ -62,7 +63,7 @@ fn keep_lower<S: BlockStore>(
     requires fits { entry_place key_length count ≤ volume.old.size }
     ensures call { IsCall volume.old result volume.new }
     ensures kept { OnOk result (IsTrue volume.old.is_sound → HasNewEntries key_length volume.old n (take half (entries_in key_length (block_at volume.old n))) m volume.new) }
-    ensures refusal { IfErr result (λ e. e ≡ Refused.Device) }
+    ensures refusal { OnlyDevice result }
     ensures room { volume.new.room ≡ volume.old.room }
 {
     write_part(volume, n, NEXT, &four_bytes(m))?;

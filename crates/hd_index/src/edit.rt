@@ -1,16 +1,18 @@
-ghost use Rattle.std.specs.Prelude.{◌≡◌, ◌+◌, ◌≤◌, ◌<◌, ◌∷◌, ◌++◌, IsTrue, length, take, drop, suc, IfErr, OnOk};
+ghost use Rattle.std.specs.Prelude.{◌≡◌, ◌+◌, ◌≤◌, ◌<◌, IsTrue, length, take, OnOk};
 ghost use Rattle.hd_bytes.specs.Numbers.{number_at};
+ghost use Rattle.hd_dbd.specs.Refusals.{OnlyDevice};
 ghost use Rattle.hd_volume.specs.Volumes.{IsFormatted, block_at};
 ghost use Rattle.hd_volume.specs.Calls.{IsCall};
 ghost use Rattle.hd_volume.specs.Entries.{entries_in};
 ghost use Rattle.hd_volume.specs.Indexes.{entry_room, IsEntryBlock};
-ghost use Rattle.hd_index.specs.Places.{entry_place};
+ghost use Rattle.hd_entries.specs.Fields.{entry_place};
 ghost use Rattle.hd_index.specs.Edits.{HasNewEntries};
+ghost use Rattle.hd_index.specs.Maps.{with_entry_at, without_entry_at};
 
 use crate::bytes::{copy_down, move_up, two_bytes, write_part};
-use crate::entries::{ADDRESS, COUNT, entry_place};
 use hd_bytes::write_u32;
 use hd_dbd::Refused;
+use hd_entries::{ADDRESS, COUNT, entry_place};
 use hd_volume::{BlockStore, Volume};
 
 /// The bytes of an entry at the front: its key and its address.
@@ -45,8 +47,8 @@ pub fn add_entry<S: BlockStore>(
     requires room { count < entry_room (length key.now) volume.old.size }
     requires fits { entry_place (length key.now) (count + 1) ≤ volume.old.size }
     ensures call { IsCall volume.old result volume.new }
-    ensures added { OnOk result (IsTrue volume.old.is_sound → HasNewEntries (length key.now) volume.old n (take index (entries_in (length key.now) (block_at volume.old n)) ++ (record { key = key.now; address = address } ∷ drop index (entries_in (length key.now) (block_at volume.old n)))) (number_at 4 (block_at volume.old n) 8) volume.new) }
-    ensures refusal { IfErr result (λ e. e ≡ Refused.Device) }
+    ensures added { OnOk result (IsTrue volume.old.is_sound → HasNewEntries (length key.now) volume.old n (with_entry_at index (record { key = key.now; address = address }) (entries_in (length key.now) (block_at volume.old n))) (number_at 4 (block_at volume.old n) 8) volume.new) }
+    ensures refusal { OnlyDevice result }
     ensures room { volume.new.room ≡ volume.old.room }
 {
     let width = key.len() + ADDRESS;
@@ -74,8 +76,8 @@ pub fn remove_entry<S: BlockStore>(
     requires most { volume.old.size ≤ 32768 }
     requires fits { entry_place key_length count ≤ volume.old.size }
     ensures call { IsCall volume.old result volume.new }
-    ensures taken { OnOk result (IsTrue volume.old.is_sound → HasNewEntries key_length volume.old n (take index (entries_in key_length (block_at volume.old n)) ++ drop (suc index) (entries_in key_length (block_at volume.old n))) (number_at 4 (block_at volume.old n) 8) volume.new) }
-    ensures refusal { IfErr result (λ e. e ≡ Refused.Device) }
+    ensures taken { OnOk result (IsTrue volume.old.is_sound → HasNewEntries key_length volume.old n (without_entry_at index (entries_in key_length (block_at volume.old n))) (number_at 4 (block_at volume.old n) 8) volume.new) }
+    ensures refusal { OnlyDevice result }
     ensures room { volume.new.room ≡ volume.old.room }
 {
     let width = key_length + ADDRESS;

@@ -1,19 +1,20 @@
-ghost use Rattle.std.specs.Prelude.{◌≡◌, ◌+◌, ◌*◌, ◌≤◌, ◌<◌, ◌∷◌, ◌++◌, [], None, IsTrue, length, take, drop, IfErr, OnOk};
+ghost use Rattle.std.specs.Prelude.{◌≡◌, ◌+◌, ◌*◌, ◌≤◌, ◌<◌, ◌∷◌, [], None, IsTrue, length, IfErr, OnOk};
 ghost use Rattle.hd_bytes.specs.Numbers.{number_at};
 ghost use Rattle.hd_volume.specs.Headers.{header_of};
 ghost use Rattle.hd_volume.specs.Volumes.{IsFormatted, block_at};
 ghost use Rattle.hd_volume.specs.Calls.{IsCall};
 ghost use Rattle.hd_volume.specs.Entries.{entries, entries_in};
 ghost use Rattle.hd_volume.specs.Indexes.{entry_room, IsEntryBlock, HasIndex};
-ghost use Rattle.hd_index.specs.Maps.{address_of, with_entry};
-ghost use Rattle.hd_index.specs.Places.{entry_place, spot_of};
+ghost use Rattle.hd_index.specs.Maps.{address_of, with_entry, with_entry_at};
+ghost use Rattle.hd_entries.specs.Fields.{entry_place};
+ghost use Rattle.hd_index.specs.Places.{spot_of, blocks_needed};
 ghost use Rattle.hd_index.specs.Edits.{IsSpliced, IsChanged, IsRefused};
 
 use crate::divide::divide;
 use crate::edit::add_entry;
-use crate::entries::entry_room;
 use crate::place::{Spot, locate};
 use hd_dbd::Refused;
+use hd_entries::entry_room;
 use hd_volume::{BlockStore, Volume};
 
 /// Enters the root of a new key where the index has no block yet.
@@ -25,7 +26,7 @@ fn insert_first<S: BlockStore>(
     requires index { IsTrue volume.old.is_sound → HasIndex (length key.now) volume.old }
     requires none { IsTrue volume.old.is_sound → (header_of volume.old.image).top ≡ 0 }
     requires short { length key.now ≤ 255 }
-    requires three { 3 * (length key.now + 4) + 12 ≤ volume.old.size }
+    requires three { entry_place (length key.now) 3 ≤ volume.old.size }
     requires least { 128 ≤ volume.old.size }
     requires most { volume.old.size ≤ 32768 }
     ensures call { IsCall volume.old result volume.new }
@@ -61,7 +62,7 @@ fn insert_divided<S: BlockStore>(
     requires least { 128 ≤ volume.old.size }
     requires most { volume.old.size ≤ 32768 }
     ensures call { IsCall volume.old result volume.new }
-    ensures spliced { OnOk result (IsTrue volume.old.is_sound → IsSpliced (length key.now) volume.old spot.block (take spot.index (entries_in (length key.now) (block_at volume.old spot.block)) ++ (record { key = key.now; address = address } ∷ drop spot.index (entries_in (length key.now) (block_at volume.old spot.block)))) 1 volume.new) }
+    ensures spliced { OnOk result (IsTrue volume.old.is_sound → IsSpliced (length key.now) volume.old spot.block (with_entry_at spot.index (record { key = key.now; address = address }) (entries_in (length key.now) (block_at volume.old spot.block))) 1 volume.new) }
     ensures refused { IfErr result (λ e. IsRefused volume.old e volume.new) }
     ensures room { IsTrue volume.new.is_sound → volume.old.room ≤ volume.new.room + 1 }
 {
@@ -104,11 +105,12 @@ fn insert_at<S: BlockStore>(
     requires spot { IsTrue volume.old.is_sound → spot ≡ spot_of (length key.now) volume.old key.now }
     requires within { spot.index ≤ spot.count }
     requires short { length key.now ≤ 255 }
-    requires three { 3 * (length key.now + 4) + 12 ≤ volume.old.size }
+    requires three { entry_place (length key.now) 3 ≤ volume.old.size }
     requires fits { entry_place (length key.now) spot.count ≤ volume.old.size }
     ensures call { IsCall volume.old result volume.new }
     ensures changed { OnOk result (IsTrue volume.old.is_sound → IsChanged (length key.now) volume.old (with_entry (record { key = key.now; address = address }) (entries (length key.now) volume.old)) 1 volume.new) }
     ensures refused { IfErr result (λ e. IsRefused volume.old e volume.new) }
+    ensures needed { IfErr result (λ e. e ≡ Refused.Full → IsTrue volume.old.is_sound → blocks_needed (length key.now) volume.old key.now ≡ 1) }
     ensures room { IsTrue volume.new.is_sound → volume.old.room ≤ volume.new.room + 1 }
 {
     let room = entry_room(key.len(), volume.block_size());
@@ -132,10 +134,11 @@ pub fn insert_key<S: BlockStore>(
     requires new { IsTrue volume.old.is_sound → address_of key.now (entries (length key.now) volume.old) ≡ None }
     requires whole { length key.now ≡ key_length }
     requires short { key_length ≤ 255 }
-    requires three { 3 * (key_length + 4) + 12 ≤ volume.old.size }
+    requires three { entry_place key_length 3 ≤ volume.old.size }
     ensures call { IsCall volume.old result volume.new }
     ensures changed { OnOk result (IsTrue volume.old.is_sound → IsChanged (length key.now) volume.old (with_entry (record { key = key.now; address = address }) (entries (length key.now) volume.old)) 1 volume.new) }
     ensures refused { IfErr result (λ e. IsRefused volume.old e volume.new) }
+    ensures needed { IfErr result (λ e. e ≡ Refused.Full → IsTrue volume.old.is_sound → blocks_needed (length key.now) volume.old key.now ≡ 1) }
     ensures room { IsTrue volume.new.is_sound → volume.old.room ≤ volume.new.room + 1 }
 {
     let spot = locate(volume, key_length, key)?;

@@ -6,11 +6,10 @@ mod change;
 mod divide;
 mod edit;
 mod enter;
-mod entries;
 mod place;
 mod search;
 
-pub use change::{growth, insert, lacks_room, remove};
+pub use change::{blocks_needed, growth, insert, remove};
 pub use search::{find, next_from};
 
 #[cfg(test)]

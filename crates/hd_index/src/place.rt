@@ -1,19 +1,18 @@
-ghost use Rattle.std.specs.Prelude.{◌≡◌, ◌⊎◌, ◌≤◌, ◌<◌, true, false, length, min, option_map, slice_get, bytes_eq, IsTrue, IfOk, IfErr, IfSome};
+ghost use Rattle.std.specs.Prelude.{◌≡◌, ◌⊎◌, ◌≤◌, ◌<◌, true, false, length, min, option_map, slice_get, bytes_eq, IsTrue, IfOk, IfSome};
 ghost use Rattle.hd_bytes.specs.Blocks.{HasBlock};
 ghost use Rattle.hd_bytes.specs.Numbers.{number_at};
+ghost use Rattle.hd_dbd.specs.Refusals.{OnlyDevice};
 ghost use Rattle.hd_volume.specs.Volumes.{block_at};
 ghost use Rattle.hd_volume.specs.Calls.{IsRead};
 ghost use Rattle.hd_volume.specs.Entries.{entries_in};
-ghost use Rattle.hd_volume.specs.Indexes.{keys_ascend, entry_room, IsEntryBlock, HasIndex};
-ghost use Rattle.hd_index.specs.Places.{entry_place, seen_in, place_of, HasPlace, no_spot, spot_in, spot_at, spot_of};
+ghost use Rattle.hd_volume.specs.Indexes.{keys_ascend, IsEntryBlock, HasIndex};
+ghost use Rattle.hd_entries.specs.Fields.{entry_place, entry_count, CountFits};
+ghost use Rattle.hd_entries.specs.Searches.{seen_in};
+ghost use Rattle.hd_index.specs.Places.{place_of, HasPlace, no_spot, spot_in, spot_at, spot_of};
 
-use crate::entries::{FIRST, NEXT, Seen, address_at, entry_count, key_at, seen_in};
-use hd_bytes::read_u32;
 use hd_dbd::Refused;
-use hd_volume::{BlockStore, Volume};
-
-/// The most blocks that a volume has.
-const MOST_BLOCKS: u32 = 65536;
+use hd_entries::{FIRST, IndexBlock, Seen};
+use hd_volume::{BlockStore, MOST_BLOCKS, Volume};
 
 /// A place in the index: a block, 0 for none, and how many of its entries stand before.
 #[derive(Clone, Copy, Debug)]
@@ -60,16 +59,17 @@ fn look<S: BlockStore>(
     requires short { key_length ≤ 255 }
     ensures read { IsRead volume.old result volume.new }
     ensures value { IfOk result (λ seen. IsTrue volume.old.is_sound → IsEntryBlock key_length volume.old n → keys_ascend (entries_in key_length (block_at volume.old n)) ≡ true → seen ≡ seen_in key_length key.now (block_at volume.old n)) }
-    ensures refusal { IfErr result (λ e. e ≡ Refused.Device) }
+    ensures refusal { OnlyDevice result }
 {
     if !has_block(volume, n) {
         return Ok(Seen { index: 0, next: 0 });
     }
-    let block = volume.block(n)?;
-    if block.len() < FIRST {
+    let bytes = volume.block(n)?;
+    if bytes.len() < FIRST {
         return Ok(Seen { index: 0, next: 0 });
     }
-    Ok(seen_in(block, key_length, key))
+    let block = IndexBlock { bytes, key_length };
+    Ok(block.look(key))
 }
 
 /// The place of a key: in the first block with an entry that is not below it, or the end of the last block.
@@ -81,7 +81,7 @@ pub fn seek<S: BlockStore>(
     requires short { key_length ≤ 255 }
     ensures read { IsRead volume.old result volume.new }
     ensures value { IfOk result (λ place. IsTrue volume.old.is_sound → HasIndex key_length volume.old → place ≡ place_of key_length volume.old key.now) }
-    ensures refusal { IfErr result (λ e. e ≡ Refused.Device) }
+    ensures refusal { OnlyDevice result }
 {
     let mut n = volume.top();
     let mut place = Place { block: 0, index: 0 };
@@ -101,38 +101,34 @@ pub fn seek<S: BlockStore>(
 }
 
 /// The entry of a block at an index, if there is one.
-fn found_in(block: &[u8], key_length: usize, index: usize, key: &[u8]) -> Option<Found>
-    requires short { key_length ≤ 255 }
-    requires least { 12 ≤ length block.now }
-    ensures value { number_at 2 block.now 4 ≤ entry_room key_length (length block.now) → result ≡ option_map (λ e. record { address = e.address; is_key = bytes_eq e.key key.now }) (slice_get (entries_in key_length block.now) index) }
-    ensures within { IfSome result (λ _. index < min (number_at 2 block.now 4) (entry_room key_length (length block.now))) }
+fn found_in(block: &IndexBlock, index: usize, key: &[u8]) -> Option<Found>
+    ensures value { CountFits block.now.key_length block.now.bytes.now → result ≡ option_map (λ e. record { address = e.address; is_key = bytes_eq e.key key.now }) (slice_get (entries_in block.now.key_length block.now.bytes.now) index) }
+    ensures within { IfSome result (λ _. index < entry_count block.now.key_length block.now.bytes.now) }
 {
-    if index >= entry_count(block, key_length) {
+    if index >= block.count() {
         return None;
     }
     Some(Found {
-        address: address_at(block, key_length, index),
-        is_key: key_at(block, key_length, index) == key,
+        address: block.address(index),
+        is_key: block.key(index) == key,
     })
 }
 
 /// What is read at a place in the bytes of its block.
-fn spot_in(block: &[u8], key_length: usize, place: Place, key: &[u8]) -> Spot
-    requires short { key_length ≤ 255 }
-    requires least { 12 ≤ length block.now }
-    ensures value { number_at 2 block.now 4 ≤ entry_room key_length (length block.now) → place.index ≤ number_at 2 block.now 4 → result ≡ spot_in key_length key.now block.now place }
+fn spot_in(block: &IndexBlock, place: Place, key: &[u8]) -> Spot
+    ensures value { CountFits block.now.key_length block.now.bytes.now → place.index ≤ number_at 2 block.now.bytes.now 4 → result ≡ spot_in block.now.key_length key.now block.now.bytes.now place }
     ensures index { result.index ≤ result.count }
     ensures count { result.count ≤ 65535 }
-    ensures fits { entry_place key_length result.count ≤ length block.now }
+    ensures fits { entry_place block.now.key_length result.count ≤ length block.now.bytes.now }
     ensures within { IfSome result.found (λ _. result.index < result.count) }
 {
-    let count = entry_count(block, key_length);
+    let count = block.count();
     Spot {
         block: place.block,
         index: place.index.min(count),
         count,
-        next: read_u32(block, NEXT),
-        found: found_in(block, key_length, place.index, key),
+        next: block.next(),
+        found: found_in(block, place.index, key),
     }
 }
 
@@ -164,17 +160,18 @@ fn spot_at<S: BlockStore>(
     ensures fits { IfOk result (λ spot. entry_place key_length spot.count ≤ volume.old.size) }
     ensures size { IfOk result (λ _. (128 ≤ volume.old.size) × (volume.old.size ≤ 32768)) }
     ensures within { IfOk result (λ spot. IfSome spot.found (λ _. spot.index < spot.count)) }
-    ensures refusal { IfErr result (λ e. e ≡ Refused.Device) }
+    ensures refusal { OnlyDevice result }
 {
     let size = volume.block_size();
     if place.block == 0 || !has_block(volume, place.block) {
         return Ok(no_spot());
     }
-    let block = volume.block(place.block)?;
-    if block.len() != size {
+    let bytes = volume.block(place.block)?;
+    if bytes.len() != size {
         return Ok(no_spot());
     }
-    Ok(spot_in(block, key_length, place, key))
+    let block = IndexBlock { bytes, key_length };
+    Ok(spot_in(&block, place, key))
 }
 
 /// Reads what is at the place of a key.
@@ -191,7 +188,7 @@ pub fn locate<S: BlockStore>(
     ensures fits { IfOk result (λ spot. entry_place key_length spot.count ≤ volume.old.size) }
     ensures size { IfOk result (λ _. (128 ≤ volume.old.size) × (volume.old.size ≤ 32768)) }
     ensures within { IfOk result (λ spot. IfSome spot.found (λ _. spot.index < spot.count)) }
-    ensures refusal { IfErr result (λ e. e ≡ Refused.Device) }
+    ensures refusal { OnlyDevice result }
 {
     let place = seek(volume, key_length, key)?;
     let spot = spot_at(volume, key_length, place, key)?;

@@ -1,12 +1,13 @@
-ghost use Rattle.std.specs.Prelude.{◌≡◌, IsTrue, IfOk, IfErr, option_map};
+ghost use Rattle.std.specs.Prelude.{◌≡◌, IsTrue, IfOk, option_map};
+ghost use Rattle.hd_dbd.specs.Refusals.{OnlyDevice};
 ghost use Rattle.hd_volume.specs.Calls.{IsRead};
 ghost use Rattle.hd_index.specs.Maps.{address_of, address_from};
 ghost use Rattle.hd_index.specs.Places.{address_found};
 ghost use Rattle.hd_index.specs.Changes.{IsIndexOf, entries_for};
 
-use crate::entries::root_key_length;
 use crate::place::{Found, locate};
 use hd_dbd::{Dbd, Refused};
+use hd_entries::root_key_length;
 use hd_volume::{BlockStore, Volume};
 
 /// The address of the root of a key, if there is one.
@@ -19,7 +20,7 @@ pub fn find<S: BlockStore>(
 ) -> Result<Option<u32>, Refused>
     ensures read { IsRead volume.old result volume.new }
     ensures value { IfOk result (λ r. IsTrue volume.old.is_sound → IsIndexOf dbd.now volume.old → r ≡ address_of key.now (entries_for dbd.now volume.old)) }
-    ensures refusal { IfErr result (λ e. e ≡ Refused.Device) }
+    ensures refusal { OnlyDevice result }
 {
     match look_up(volume, dbd, key)? {
         Some(found) if found.is_key => Ok(Some(found.address)),
@@ -37,7 +38,7 @@ pub fn next_from<S: BlockStore>(
 ) -> Result<Option<u32>, Refused>
     ensures read { IsRead volume.old result volume.new }
     ensures value { IfOk result (λ r. IsTrue volume.old.is_sound → IsIndexOf dbd.now volume.old → r ≡ address_from key.now (entries_for dbd.now volume.old)) }
-    ensures refusal { IfErr result (λ e. e ≡ Refused.Device) }
+    ensures refusal { OnlyDevice result }
 {
     let found = look_up(volume, dbd, key)?;
     Ok(found.map(|found| found.address))
@@ -52,7 +53,7 @@ fn look_up<S: BlockStore>(
     ensures read { IsRead volume.old result volume.new }
     ensures found { IfOk result (λ found. IsTrue volume.old.is_sound → IsIndexOf dbd.now volume.old → address_found found ≡ address_of key.now (entries_for dbd.now volume.old)) }
     ensures from { IfOk result (λ found. IsTrue volume.old.is_sound → IsIndexOf dbd.now volume.old → option_map (λ f. f.address) found ≡ address_from key.now (entries_for dbd.now volume.old)) }
-    ensures refusal { IfErr result (λ e. e ≡ Refused.Device) }
+    ensures refusal { OnlyDevice result }
 {
     let key_length = root_key_length(dbd);
     let spot = locate(volume, key_length, key)?;

@@ -8,7 +8,7 @@ use Rattle.hd_dbd.specs.Types.{SegmentType}
 use Rattle.hd_dbd.specs.Segment.{Segment}
 use Rattle.hd_dbd.specs.Rows.{level}
 use Rattle.hd_dbd.specs.Paths.{path_above, row_at, level_at, parent_row, end_within, end_of, is_twin}
-use Rattle.hd_dbd.specs.Gets.{least_within, first_from}
+use Rattle.hd_dbd.specs.Searches.{least_within, first_from}
 use Rattle.hd_dbd.specs.Forest.{Forest, node, sequence}
 use Rattle.hd_dbd.proofs.LevelLaw.{Leveled, depth_below}
 use Rattle.hd_dbd.proofs.Names.{option_eq-Decides}

@@ -6,7 +6,7 @@ use Rattle.std.proofs.lemmas.List.{append_assoc, append-nil, length-append, leng
 use Rattle.hd_dbd.specs.Types.{SegmentType}
 use Rattle.hd_dbd.specs.Segment.{Segment}
 use Rattle.hd_dbd.specs.Paths.{row_at, no_row, level_at, nearest_above, path_above, end_within}
-use Rattle.hd_dbd.specs.Gets.{least_within}
+use Rattle.hd_dbd.specs.Searches.{least_within}
 use Rattle.hd_dbd.specs.Rows.{level}
 use Rattle.hd_dbd.specs.Forest.{Forest, empty, node, sequence}
 use Rattle.hd_links.specs.Links.{Links, segment_at}

@@ -7,7 +7,7 @@ use Rattle.std.proofs.lemmas.List.{take-map, drop-map, append_assoc, length-appe
 use Rattle.hd_dbd.specs.Types.{SegmentType}
 use Rattle.hd_dbd.specs.Segment.{Segment}
 use Rattle.hd_dbd.specs.Paths.{row_at, no_row, parent_row, end_of}
-use Rattle.hd_dbd.specs.Gets.{least_within, first_from}
+use Rattle.hd_dbd.specs.Searches.{least_within, first_from}
 use Rattle.hd_dbd.specs.Forest.{Forest, empty, node, sequence}
 use Rattle.hd_dbd.proofs.LevelLaw.{Leveled}
 use Rattle.hd_dbd.proofs.Names.{option_eq-Decides}

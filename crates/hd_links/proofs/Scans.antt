@@ -8,7 +8,7 @@ use Rattle.hd_dbd.specs.Types.{SegmentType}
 use Rattle.hd_dbd.specs.Segment.{Segment}
 use Rattle.hd_dbd.specs.Rows.{level, row_fits}
 use Rattle.hd_dbd.specs.Paths.{row_at, level_at, nearest_above, parent_row, end_within}
-use Rattle.hd_dbd.specs.Gets.{least_within}
+use Rattle.hd_dbd.specs.Searches.{least_within}
 use Rattle.hd_dbd.specs.Forest.{Forest, empty, node, sequence}
 use Rattle.hd_dbd.proofs.LevelLaw.{Leveled, depth_below}
 use Rattle.hd_links.specs.Links.{Links, IsLinkGraph, is_child_type}

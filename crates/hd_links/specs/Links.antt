@@ -1,11 +1,10 @@
 -- The link graph: what the records of a database say, by their addresses.
-use Rattle.std.specs.Prelude.{◌≡◌, ℕ, ◌<◌, List, [], ◌∷◌, Bool, true, false, ◌||◌, ◌==◌, cond}
+use Rattle.std.specs.Prelude.{◌≡◌, ℕ, ◌<◌, List, [], ◌∷◌, Bool, true, ◌==◌, cond}
 use Rattle.std.specs.List.{list_any}
-use Rattle.std.specs.Option.{option_map_or}
 use Rattle.hd_dbd.specs.Types.{SegmentType}
 use Rattle.hd_dbd.specs.Segment.{Segment}
-use Rattle.hd_dbd.specs.Hierarchy.{type_of}
 use Rattle.hd_dbd.specs.Prefixes.{children_of}
+pub use Rattle.hd_dbd.specs.Prefixes.{is_last_kept}
 use Rattle.hd_dbd.specs.Rows.{row_fits}
 
 -- For each address: whether a record stands there, its code, its delete byte, the segment's bytes, twin forward, twin
@@ -37,10 +36,6 @@ child_types types c = cond (c == 0) (1 ∷ []) (children_of types c)
 -- t is a child type of c
 abbrev pub is_child_type : List SegmentType → ℕ → ℕ → Bool
 is_child_type types c t = list_any (λ u. u == t) (child_types types c)
-
--- the parents of the type's segments keep last child; the header always keeps last root
-abbrev pub is_last_kept : List SegmentType → ℕ → Bool
-is_last_kept types c = c == 1 || option_map_or (λ t. t.last_pointer) (type_of types c) false
 
 -- The records are those of a database: the header, and behind it, below a bound, segments that have a type and its length.
 pub record IsLinkGraph (types : List SegmentType) (bound : ℕ) (m : Links) : Type 0 where

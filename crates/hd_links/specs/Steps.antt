@@ -4,7 +4,7 @@ use Rattle.std.specs.Option.{option_map_or, option_eq}
 use Rattle.hd_dbd.specs.Types.{SegmentType}
 use Rattle.hd_dbd.specs.Segment.{Segment}
 use Rattle.hd_dbd.specs.Paths.{row_at, level_at, parent_row, path_of, end_of, is_twin}
-use Rattle.hd_dbd.specs.Gets.{first_from}
+use Rattle.hd_dbd.specs.Searches.{first_from}
 use Rattle.hd_dbd.specs.Forest.{Forest, sequence}
 use Rattle.hd_links.specs.Links.{Links, IsSegment, segment_at, child_types, is_child_type}
 use Rattle.hd_links.specs.Placed.{Placed, forest_of}

@@ -38,6 +38,7 @@ pub record IsChild (types : List SegmentType) (c t : ℕ) : Type 0 where
   pub is : type_of types t ≡ Some own
   pub of : type_of types c ≡ Some parent
   pub child : is_child_of c own ≡ true
+  pub later : 1 < t
   pub at : pointers_at types t ≡ twin_part c parent + child_parts c (take (t - 1) types)
 
 -- a child type is a type, and its parent is named
@@ -79,6 +80,7 @@ child_is block_size types c t fit child =
       is = found.1;
       of = above.1;
       child = found.2;
+      later = (let low = early.0 in let high = early.1 in omega arith);
       at =
           ap (λ (o : Option ℕ). option_map_or (λ p. option_map_or (λ s. twin_part p s) (type_of types p) 0 + child_parts p (take (t - 1) types)) o 0) named
           ∙ ap (λ (o : Option SegmentType). option_map_or (λ s. twin_part c s) o 0 + child_parts c (take (t - 1) types)) above.1;

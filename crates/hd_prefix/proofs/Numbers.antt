@@ -5,8 +5,8 @@ use Rattle.std.specs.Option.{option_map_or}
 use Rattle.hd_bytes.specs.Numbers.{number_at}
 use Rattle.hd_dbd.specs.Types.{SegmentType}
 use Rattle.hd_dbd.specs.Prefixes.{pointers_at}
-use Rattle.hd_prefix.specs.Pointers.{is_last_kept, is_child}
-use Rattle.hd_dbd.specs.Prefixes.{is_backward_kept}
+use Rattle.hd_prefix.specs.Pointers.{is_child}
+use Rattle.hd_dbd.specs.Prefixes.{is_backward_kept, is_last_kept}
 use Rattle.hd_prefix.specs.Laws.{HasPointers}
 
 -- a number where a test holds

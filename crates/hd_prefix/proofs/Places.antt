@@ -1,8 +1,8 @@
 -- The places of the pointers of one type.
-use Rattle.std.proofs.Common.{◌≡◌, ℕ, ◌+◌, ◌≤◌, ◌≢◌, List, Bool, true, false, arith, ap, sym, ◌∙◌, refl, cond, ◌&&◌, Option, Some, None, inl, inr}
-use Rattle.std.specs.Prelude.{option_map, IfSome, IsTrue}
+use Rattle.std.proofs.Common.{◌≡◌, ℕ, ◌+◌, ◌<◌, ◌≤◌, ◌≢◌, List, Bool, true, false, arith, ap, sym, ◌∙◌, refl, cond, ◌&&◌, Option, Some, None, inl, inr}
+use Rattle.std.specs.Prelude.{option_map, IfSome, IsTrue, ◌==◌, ◌||◌}
 use Rattle.std.specs.Option.{option_map_or}
-use Rattle.std.proofs.lemmas.Bool.{and_parts, cases_eq, cases_lt, cond-true}
+use Rattle.std.proofs.lemmas.Bool.{and_parts, ne_eqb, cases_eq, cases_lt, cond-true}
 use Rattle.std.proofs.lemmas.Option.{cond_some, same_Some}
 use Rattle.hd_dbd.specs.Types.{SegmentType}
 use Rattle.hd_dbd.specs.Hierarchy.{type_of}
@@ -13,8 +13,8 @@ use Rattle.hd_dbd.proofs.Fitting.{types_fit, size_fits, size_bound}
 use Rattle.hd_prefix.proofs.Sizes.{stored_long}
 use Rattle.hd_prefix.specs.declared.pointer.Pointer.{Pointer}
 use Rattle.hd_prefix.specs.declared.pointer.Pointer.TheVariants.{TwinForward, TwinBackward, FirstChild, LastChild}
-use Rattle.hd_prefix.specs.Pointers.{is_last_kept, is_child, place_of, IsApart}
-use Rattle.hd_dbd.specs.Prefixes.{is_backward_kept}
+use Rattle.hd_prefix.specs.Pointers.{is_child, place_of, IsApart}
+use Rattle.hd_dbd.specs.Prefixes.{is_backward_kept, is_last_kept}
 use Rattle.hd_prefix.proofs.Children.{IsChild, child_is, prefix_is, child_before, child_inside}
 
 -- What is known of a pointer that stands at a place.
@@ -38,8 +38,12 @@ backward_by c None h = absurd (no h)
     no e = cc
 backward_by c (Some p) h = (p, refl, h)
 
-last_by : (o : Option SegmentType) (s : SegmentType) → o ≡ Some s → option_map_or (λ child. child.last_pointer) o false ≡ true → s.last_pointer ≡ true
-last_by o s is h = sym (ap (λ (o : Option SegmentType). option_map_or (λ child. child.last_pointer) o false) is) ∙ h
+-- the parents of a type that is not the root's keep last child where the type says so
+last_by : (t : ℕ) (o : Option SegmentType) (s : SegmentType) → 1 < t → o ≡ Some s → (t == 1 || option_map_or (λ child. child.last_pointer) o false) ≡ true → s.last_pointer ≡ true
+last_by t o s later is h =
+    let other : t ≢ 1 = λ e. omega arith in
+    sym (ap (λ (b : Bool). b || s.last_pointer) (ne_eqb t 1 other))
+    ∙ sym (ap (λ (o : Option SegmentType). t == 1 || option_map_or (λ child. child.last_pointer) o false) is) ∙ h
 
 -- a pointer that is kept stands where its type says
 pub placed : (block_size : ℕ) (types : List SegmentType) (c : ℕ) (pointer : Pointer) (x : ℕ) → types_fit_from block_size types 1 types ≡ true
@@ -56,7 +60,7 @@ placed block_size types c (LastChild t) x fit is =
     let both = cond_some (is_child types c t && is_last_kept types t) (pointers_at types t + 4) x is in
     let parts = and_parts (is_child types c t) (is_last_kept types t) both.0 in
     let k = child_is block_size types c t fit parts.0 in
-    (k, cond-true k.own.last_pointer 8 4 (last_by (type_of types t) k.own k.is parts.1), sym both.1)
+    (k, cond-true k.own.last_pointer 8 4 (last_by t (type_of types t) k.own k.later k.is parts.1), sym both.1)
 
 -- four bytes at least for each child type
 part_some : (s : SegmentType) → 4 ≤ child_part s

@@ -11,8 +11,8 @@ use Rattle.hd_dbd.specs.Rows.{row_fits}
 use Rattle.hd_dbd.specs.DatabaseRules.{well_formed}
 use Rattle.hd_prefix.specs.declared.pointer.Pointer.{Pointer}
 use Rattle.hd_prefix.specs.declared.pointer.Pointer.TheVariants.{TwinForward, TwinBackward, FirstChild, LastChild}
-use Rattle.hd_prefix.specs.Pointers.{is_last_kept, is_child, place_of, IsApart}
-use Rattle.hd_dbd.specs.Prefixes.{is_backward_kept}
+use Rattle.hd_prefix.specs.Pointers.{is_child, place_of, IsApart}
+use Rattle.hd_dbd.specs.Prefixes.{is_backward_kept, is_last_kept}
 use Rattle.hd_prefix.specs.Fields.{pointer_of, new_segment, IsPointerSet, IsBytesSet, IsNewSegment}
 
 -- Each pointer stands inside the prefix, behind code and delete byte.

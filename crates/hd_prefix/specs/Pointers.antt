@@ -3,13 +3,9 @@ use Rattle.std.specs.Prelude.{◌⊎◌, ℕ, ◌+◌, ◌≤◌, List, Bool, fa
 use Rattle.std.specs.Option.{option_map_or}
 use Rattle.hd_dbd.specs.Types.{SegmentType}
 use Rattle.hd_dbd.specs.Hierarchy.{type_of, parent_of}
-use Rattle.hd_dbd.specs.Prefixes.{is_backward_kept, pointers_at}
+use Rattle.hd_dbd.specs.Prefixes.{is_backward_kept, is_last_kept, pointers_at}
 use Rattle.hd_prefix.specs.declared.pointer.Pointer.{Pointer}
 use Rattle.hd_prefix.specs.declared.pointer.Pointer.TheVariants.{TwinForward, TwinBackward, FirstChild, LastChild}
-
--- the parents of segments of the type of code t keep last child for them
-abbrev pub is_last_kept : List SegmentType → ℕ → Bool
-is_last_kept types t = option_map_or (λ child. child.last_pointer) (type_of types t) false
 
 -- the type of code t is a child type of that of code c
 abbrev pub is_child : List SegmentType → ℕ → ℕ → Bool

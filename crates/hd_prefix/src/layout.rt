@@ -4,8 +4,7 @@ ghost use Rattle.hd_dbd.specs.Prefixes.{prefix_length, stored_size};
 ghost use Rattle.hd_dbd.specs.Rows.{row_fits};
 ghost use Rattle.hd_prefix.specs.declared.pointer.Pointer.{Pointer};
 ghost use Rattle.hd_prefix.specs.declared.pointer.Pointer.TheVariants.{TwinForward, TwinBackward, FirstChild, LastChild};
-ghost use Rattle.hd_prefix.specs.Pointers.{is_last_kept, is_child, place_of, IsApart};
-ghost use Rattle.hd_dbd.specs.Prefixes.{is_backward_kept};
+ghost use Rattle.hd_prefix.specs.Pointers.{is_child, place_of, IsApart};
 ghost use Rattle.hd_prefix.specs.Fields.{pointer_of, length_of, bytes_of, new_segment, IsPointerSet};
 
 use crate::pointer::Pointer;
@@ -126,7 +125,11 @@ impl<'a> Layout<'a> {
     fn backward_place(&self) -> Option<u16>
         ensures { result ≡ place_of (types_of self.now) (type_code self.now) TwinBackward }
     {
-        if self.keeps_backward() { Some(6) } else { None }
+        if self.dbd.keeps_backward(self.code) {
+            Some(6)
+        } else {
+            None
+        }
     }
 
     fn first_place(&self, child: u8) -> Option<u16>
@@ -144,28 +147,10 @@ impl<'a> Layout<'a> {
         ensures value { result ≡ place_of (types_of self.now) (type_code self.now) (LastChild child) }
         ensures fit { IsFit self.now }
     {
-        if self.is_child(child) && self.keeps_last(child) {
+        if self.is_child(child) && self.dbd.keeps_last_child(child) {
             Some(self.dbd.pointers_at(child) + 4)
         } else {
             None
-        }
-    }
-
-    fn keeps_backward(&self) -> bool
-        ensures { result ≡ is_backward_kept (types_of self.now) (type_code self.now) }
-    {
-        match self.dbd.type_of(self.code) {
-            Some(segment) => self.code == 1 || segment.backward,
-            None => false,
-        }
-    }
-
-    fn keeps_last(&self, child: u8) -> bool
-        ensures { result ≡ is_last_kept (types_of self.now) child }
-    {
-        match self.dbd.type_of(child) {
-            Some(segment) => segment.last_pointer,
-            None => false,
         }
     }
 

@@ -22,7 +22,7 @@ pub record IsUsed (sizes : ℕ → ℕ) (b : List ℕ) (p q n : ℕ) : Type 0 wh
 pub used-is : (sizes : ℕ → ℕ) (b : List ℕ) (p f : ℕ) (xs : List Extent) (q n : ℕ) → Fill sizes b p f xs → UsedAt p xs q n → IsUsed sizes b p q n
 used-is sizes b p f [] q n h u = absurd u
 used-is sizes b p f (free m ∷ xs) q n h u =
-    let r = used-is sizes b (p + m) _ xs q n h.2 u in let some = h.1.some in
+    let r = used-is sizes b (p + m) _ xs q n h.2 u in let some = h.1.element.some in
     let ahead = r.ahead in record { size = r.size; some = r.some; within = r.within; ahead = omega arith }
 used-is sizes b p f (taken m ∷ xs) q n h u =
     let r = used-is sizes b (p + m) _ xs q n h.3 u in

@@ -1,13 +1,12 @@
 -- On what the index depends.
-use Rattle.std.proofs.Common.{◌≡◌, ℕ, zero, suc, ◌+◌, ◌<◌, ◌≤◌, ◌⊎◌, inl, inr, List, [], ◌∷◌, ◌++◌, true, false, nat_lt, slice_index, refl, sym, ap, subst, ◌∙◌, arith, ne_eqb}
-use Rattle.std.proofs.lemmas.Bool.{cases_eq, eq-eqb, ltb-false, le-ltb}
+use Rattle.std.proofs.Common.{◌≡◌, ℕ, zero, suc, ◌+◌, ◌<◌, ◌≤◌, ◌⊎◌, inl, inr, List, [], ◌∷◌, ◌++◌, true, slice_index, refl, sym, ap, subst, ◌∙◌, arith, ne_eqb}
+use Rattle.std.proofs.lemmas.Bool.{cases_eq, eq-eqb}
 use Rattle.std.proofs.lemmas.List.{append_assoc}
 use Rattle.hd_bytes.specs.Numbers.{number_at}
 use Rattle.hd_volume.specs.Headers.{Header, header_of}
 use Rattle.hd_volume.specs.Volumes.{VolumeState, block_at, kind_of, IsKind, IsFormatted}
-use Rattle.hd_volume.specs.Rooms.{spare}
 use Rattle.hd_volume.specs.Entries.{Entry, entries_in, chain_from, entry_blocks, entries_of, entries}
-use Rattle.hd_volume.specs.Indexes.{IsEntryBlock, IsChain, IsAmong, HasIndex, keys_ascend, index_growth, lacks_room}
+use Rattle.hd_volume.specs.Indexes.{IsEntryBlock, IsChain, IsAmong, HasIndex, keys_ascend, index_growth}
 use Rattle.hd_volume.specs.Calls.{KeepsIndex}
 use Rattle.hd_volume.specs.Laws.{IndexStays}
 use Rattle.hd_volume.proofs.MapLemmas.{kind-there}
@@ -98,14 +97,11 @@ module _ {key_length : ℕ} {v w : VolumeState} (x : HasIndex key_length v) (f :
       }
 
   pub stays : HasIndex key_length w × (entries key_length w ≡ entries key_length v) × (index_growth w ≡ index_growth v)
-      × ((more others : ℕ) → spare v ≤ spare w + more → lacks_room (more + others) v ≡ false → lacks_room others w ≡ false)
-  unfolding index_growth lacks_room
+  unfolding index_growth
   stays = (
     has-index,
     entries-stay,
     refl,
-    λ more others less room.
-        (let enough : more + others + 1 ≤ spare v = ltb-false (spare v) (more + others + 1) room in le-ltb (spare w) (others + 1) (omega arith)),
   )
 
 pub index-stays : IndexStays

@@ -214,7 +214,7 @@ fresh-divides sizes b size high low len least whole is =
     let k = fresh-number b high low in
     let long = length-with b (data_head high low) 0 (omega arith) in
     let next = k.3 in
-    (sym k.0, record { len = k.1 ∙ is; task = k.2; some = omega arith; whole = omega arith; apart = λ e. omega arith }, (omega arith, next))
+    (sym k.0, record { element = record { len = k.1 ∙ is; task = k.2; some = omega arith; whole = omega arith }; apart = λ e. omega arith }, (omega arith, next))
 
 module _ (v w : VolumeState) (n high low : ℕ) (f : IsFormatted v) (free-is : IsKind v 3 n) (least : 128 ≤ v.size) (eighths : v.size % 8 ≡ 0)
     (c : HasChanged v w n) (new : block_of v.size w.image n ≡ with_bytes (block_at v n) 0 (data_head high low)) (size-is : high * 256 + low ≡ v.size - 8) where

@@ -1,23 +1,19 @@
 -- The index of a volume of version 1: no block, or one chain of index blocks of level 0 from the top block on.
-use Rattle.std.specs.Prelude.{◌≡◌, ◌⊎◌, ℕ, ◌+◌, ◌-◌, ◌/◌, ◌<◌, ◌≤◌, Bool, true, ◌&&◌, nat_lt, List, [], ◌∷◌, slice_index}
+use Rattle.std.specs.Prelude.{◌≡◌, ◌⊎◌, ℕ, ◌+◌, ◌<◌, ◌≤◌, Bool, true, ◌&&◌, List, [], ◌∷◌, slice_index}
 use Rattle.std.specs.Ordering.{nat_cmp, is_lt}
 use Rattle.std.specs.Cmp.Lexicographic.{slice_cmp}
 use Rattle.std.specs.Option.{option_map_or}
 use Rattle.hd_bytes.specs.Numbers.{number_at}
 use Rattle.hd_dbd.specs.Types.{SegmentType}
 use Rattle.hd_dbd.specs.Hierarchy.{type_of}
+pub use Rattle.hd_dbd.specs.IndexBlocks.{entry_room}
 use Rattle.hd_volume.specs.Headers.{header_of}
 use Rattle.hd_volume.specs.Volumes.{VolumeState, block_at, IsKind, IsFormatted}
-use Rattle.hd_volume.specs.Rooms.{spare}
 use Rattle.hd_volume.specs.Entries.{Entry, entry_blocks, entries}
 
 -- the bytes of an index's keys, which are the keys of the roots
 abbrev pub root_key_length : List SegmentType → ℕ
 root_key_length types = option_map_or (λ t. option_map_or (λ k. k.length) t.key 0) (type_of types 1) 0
-
--- so many entries find room in an index block behind its first 12 bytes
-abbrev pub entry_room : ℕ → ℕ → ℕ
-entry_room key_length size = (size - 12) / (key_length + 4)
 
 -- Block n is an index block of level 0, with no more entries than find room.
 pub record IsEntryBlock (key_length : ℕ) (v : VolumeState) (n : ℕ) : Type 0 where
@@ -62,7 +58,3 @@ pub record HasIndex (key_length : ℕ) (v : VolumeState) : Type 0 where
 -- so many blocks may be needed for one entry more
 unfoldable pub index_growth : VolumeState → ℕ
 index_growth v = 1
-
--- beside so many blocks for other uses one entry more may lack room
-unfoldable pub lacks_room : ℕ → VolumeState → Bool
-lacks_room others v = nat_lt (spare v) (others + index_growth v)

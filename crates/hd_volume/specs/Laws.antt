@@ -1,11 +1,10 @@
 -- Laws of volumes: on what segments and entries depend.
-use Rattle.std.specs.Prelude.{◌≡◌, ℕ, ◌+◌, ◌<◌, ◌≤◌, false}
+use Rattle.std.specs.Prelude.{◌≡◌, ℕ, ◌<◌}
 use Rattle.hd_volume.specs.Headers.{header_of}
 use Rattle.hd_volume.specs.Volumes.{VolumeState, block_at, kind_of, IsKind, IsFormatted}
 use Rattle.hd_volume.specs.Records.{find}
-use Rattle.hd_volume.specs.Rooms.{spare}
 use Rattle.hd_volume.specs.Entries.{entries}
-use Rattle.hd_volume.specs.Indexes.{HasIndex, index_growth, lacks_room}
+use Rattle.hd_volume.specs.Indexes.{HasIndex, index_growth}
 use Rattle.hd_volume.specs.Calls.{KeepsIndex}
 
 -- Segments depend on the data blocks alone: where these stay, and no other block has become one, all segments stay.
@@ -24,4 +23,3 @@ IndexStays =
     → header_of w.image ≡ record (header_of v.image) { count = (header_of w.image).count; first_root = (header_of w.image).first_root; last_root = (header_of w.image).last_root }
     → KeepsIndex v w → ((n : ℕ) → IsKind w 2 n → IsKind v 2 n)
     → HasIndex key_length w × (entries key_length w ≡ entries key_length v) × (index_growth w ≡ index_growth v)
-    × ((more others : ℕ) → spare v ≤ spare w + more → lacks_room (more + others) v ≡ false → lacks_room others w ≡ false)

@@ -1,4 +1,5 @@
 ghost use Rattle.std.specs.Prelude.{◌≡◌, ◌+◌, ◌≤◌, ◌<◌, ◌%◌, ℕ, List, true, false, vec_len, IsTrue, length, OnOk, OnSome, IfOk, IfErr, IfSome, IfNone, slice_index};
+ghost use Rattle.hd_dbd.specs.Refusals.{OnlyDevice, OnlyMemory};
 ghost use Rattle.hd_bytes.specs.Blocks.{block_of, grown, HasBlock};
 ghost use Rattle.hd_bytes.specs.Ranges.{with_bytes};
 ghost use Rattle.byteorder.specs.Endian.{big_bytes};
@@ -122,7 +123,7 @@ impl<S: BlockStore> Blocks<S> {
         ensures stands { OnOk result (IsTrue self.old.is_sound → self.old.stored ≡ self.old.image → self.new.stored ≡ self.old.image) }
         ensures hand { OnOk result (self.new.hand ≡ n) }
         ensures first { OnOk result (IsTrue self.old.is_sound → KeepsFirst self.old.size self.old.stored self.new.stored) }
-        ensures refusal { IfErr result (λ e. e ≡ Refused.Device) }
+        ensures refusal { OnlyDevice result }
         ensures counts { CountsDevice result self.old.failures self.new.failures }
         ensures sound { StaysSound result self.old.is_sound self.new.is_sound }
         ensures size { self.new.size ≡ self.old.size }
@@ -182,9 +183,10 @@ impl<S: BlockStore> Blocks<S> {
     pub fn reserve(&mut self, blocks: u32) -> Result<(), Refused>
         ensures room { OnOk result (blocks ≤ self.new.room) }
         ensures no_less { self.old.room ≤ self.new.room }
+        ensures enough { IfErr result (λ _. self.old.room < blocks) }
         ensures room_kept { IfErr result (λ _. self.new.room ≡ self.old.room) }
         ensures image { IsTrue self.old.is_sound → (self.new.image ≡ self.old.image) × (self.new.stored ≡ self.old.stored) }
-        ensures refusal { IfErr result (λ e. e ≡ Refused.Memory) }
+        ensures refusal { OnlyMemory result }
         ensures failures { self.new.failures ≡ self.old.failures }
         ensures sound { self.new.is_sound ≡ self.old.is_sound }
         ensures size { self.new.size ≡ self.old.size }
@@ -212,7 +214,7 @@ impl<S: BlockStore> Blocks<S> {
     /// Writes what is changed to the store: the block in hand, and then block 0.
     pub fn flush(&mut self) -> Result<(), Refused>
         ensures image { OnOk result (IsTrue self.old.is_sound → (self.new.image ≡ self.old.image) × (self.new.stored ≡ self.old.image)) }
-        ensures refusal { IfErr result (λ e. e ≡ Refused.Device) }
+        ensures refusal { OnlyDevice result }
         ensures counts { CountsDevice result self.old.failures self.new.failures }
         ensures sound { StaysSound result self.old.is_sound self.new.is_sound }
         ensures size { self.new.size ≡ self.old.size }
@@ -264,7 +266,7 @@ fn write_first<S: BlockStore>(
     ensures ready { OnOk result (IsTrue (S.is_sound store.old) → AreBuffers (S.size store.old) (S.contents store.new) head.new hand.now) }
     ensures len { vec_len head.new.bytes ≡ S.size store.old }
     ensures number { head.new.number ≡ 0 }
-    ensures refusal { IfErr result (λ e. e ≡ Refused.Device) }
+    ensures refusal { OnlyDevice result }
     ensures counts { CountsDevice result (S.failures store.old) (S.failures store.new) }
     ensures sound { StaysSound result (S.is_sound store.old) (S.is_sound store.new) }
     ensures size { S.size store.new ≡ S.size store.old }

@@ -1,4 +1,5 @@
-ghost use Rattle.std.specs.Prelude.{◌≡◌, ◌≢◌, true, false, vec_len, IsTrue, length, OnOk, IfErr};
+ghost use Rattle.std.specs.Prelude.{◌≡◌, ◌≢◌, true, false, vec_len, IsTrue, length, OnOk};
+ghost use Rattle.hd_dbd.specs.Refusals.{OnlyDevice};
 ghost use Rattle.hd_bytes.specs.Blocks.{block_of, HasBlock};
 ghost use Rattle.hd_volume.specs.Stores.{CountsDevice, StaysSound};
 ghost use Rattle.hd_volume.specs.Buffers.{put_in, IsBuffer};
@@ -25,7 +26,7 @@ pub fn write_back<S: BlockStore>(store: &mut S, buffer: &mut Buffer) -> Result<(
     ensures number { buffer.new.number ≡ buffer.old.number }
     ensures holds { buffer.new.holds ≡ buffer.old.holds }
     ensures unchanged { OnOk result (buffer.new.holds ≡ true → buffer.new.changed ≡ false) }
-    ensures refusal { IfErr result (λ e. e ≡ Refused.Device) }
+    ensures refusal { OnlyDevice result }
     ensures counts { CountsDevice result (S.failures store.old) (S.failures store.new) }
     ensures sound { StaysSound result (S.is_sound store.old) (S.is_sound store.new) }
     ensures size { S.size store.new ≡ S.size store.old }
@@ -50,7 +51,7 @@ pub fn bring<S: BlockStore>(store: &mut S, buffer: &mut Buffer, n: u32) -> Resul
     ensures ready { OnOk result (IsTrue (S.is_sound store.old) → IsBuffer (S.size store.old) (S.contents store.new) buffer.new) }
     ensures holds { OnOk result ((buffer.new.holds ≡ true) × (buffer.new.number ≡ n)) }
     ensures len { vec_len buffer.new.bytes ≡ S.size store.old }
-    ensures refusal { IfErr result (λ e. e ≡ Refused.Device) }
+    ensures refusal { OnlyDevice result }
     ensures counts { CountsDevice result (S.failures store.old) (S.failures store.new) }
     ensures sound { StaysSound result (S.is_sound store.old) (S.is_sound store.new) }
     ensures size { S.size store.new ≡ S.size store.old }

@@ -1,4 +1,5 @@
 ghost use Rattle.std.specs.Prelude.{◌≡◌, ◌+◌, ◌*◌, ◌<◌, ◌≤◌, ◌^◌, [], false, length, IfErr, IfOk, OnOk, OnErr};
+ghost use Rattle.hd_dbd.specs.Refusals.{OnlyDevice};
 ghost use Rattle.hd_volume.specs.Files.{Accesses, with_failure};
 ghost use Rattle.hd_volume.specs.Stores.{CountsDevice, RefusesGrowth, StaysSound};
 
@@ -95,7 +96,7 @@ impl<L: Ledger> BlockStore for FileStore<L> {
     fn read(&mut self, n: u32, buf: &mut [u8]) -> Result<(), Refused>
         ensures accesses { Accesses result self.old self.new }
         ensures len { length buf.new ≡ length buf.old }
-        ensures refusal { IfErr result (λ e. e ≡ Refused.Device) }
+        ensures refusal { OnlyDevice result }
         ensures counts { CountsDevice result self.old.failures self.new.failures }
         ensures sound { StaysSound result false false }
     {
@@ -108,7 +109,7 @@ impl<L: Ledger> BlockStore for FileStore<L> {
 
     fn write(&mut self, n: u32, bytes: &[u8]) -> Result<(), Refused>
         ensures accesses { Accesses result self.old self.new }
-        ensures refusal { IfErr result (λ e. e ≡ Refused.Device) }
+        ensures refusal { OnlyDevice result }
         ensures counts { CountsDevice result self.old.failures self.new.failures }
         ensures sound { StaysSound result false false }
     {
@@ -130,7 +131,7 @@ impl<L: Ledger> BlockStore for FileStore<L> {
     fn grow(&mut self, blocks: u32) -> Result<(), Refused>
         ensures grows { OnOk result (self.new ≡ record self.old { length = self.old.length + blocks * self.old.size }) }
         ensures fails { OnErr result (self.new ≡ with_failure self.old) }
-        ensures device { IfErr result (λ e. e ≡ Refused.Device) }
+        ensures device { OnlyDevice result }
         ensures refusal { IfErr result (λ e. RefusesGrowth e (2 ^ 32) blocks) }
         ensures counts { CountsDevice result self.old.failures self.new.failures }
         ensures sound { StaysSound result false false }

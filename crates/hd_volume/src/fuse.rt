@@ -1,4 +1,5 @@
-ghost use Rattle.std.specs.Prelude.{◌≡◌, ◌+◌, ◌-◌, ◌≤◌, ◌&&◌, not, true, false, length, Err, IfErr, OnOk, IsTrue};
+ghost use Rattle.std.specs.Prelude.{◌<◌, ◌≡◌, ◌+◌, ◌-◌, ◌≤◌, ◌&&◌, not, true, false, length, Err, IfErr, OnOk, IsTrue};
+ghost use Rattle.hd_dbd.specs.Refusals.{OnlyDevice, OnlyMemory};
 ghost use Rattle.hd_bytes.specs.Blocks.{block_of, with_block, grown, HasBlock};
 ghost use Rattle.hd_volume.specs.Fuses.{fails_next, failed, after_access, Burns};
 ghost use Rattle.hd_volume.specs.Stores.{CountsDevice, StaysSound, RefusesGrowth};
@@ -117,7 +118,7 @@ impl<S: BlockStore> BlockStore for FuseStore<S> {
         ensures value { OnOk result (IsTrue (S.is_sound self.old.inner) → HasBlock (S.size self.old.inner) (S.contents self.old.inner) n → buf.new ≡ block_of (S.size self.old.inner) (S.contents self.old.inner) n) }
         ensures kept { OnOk result (IsTrue (S.is_sound self.old.inner) → S.contents self.new.inner ≡ S.contents self.old.inner) }
         ensures len { length buf.new ≡ length buf.old }
-        ensures refusal { IfErr result (λ e. e ≡ Refused.Device) }
+        ensures refusal { OnlyDevice result }
         ensures size { S.size self.new.inner ≡ S.size self.old.inner }
         ensures room { S.room self.new.inner ≡ S.room self.old.inner }
     {
@@ -137,7 +138,7 @@ impl<S: BlockStore> BlockStore for FuseStore<S> {
         ensures beyond { OnOk result (IsTrue (S.is_sound self.old.inner) → (HasBlock (S.size self.old.inner) (S.contents self.old.inner) n → ⊥) → self.new.inner ≡ self.old.inner) }
         ensures value { OnOk result (IsTrue (S.is_sound self.old.inner) → HasBlock (S.size self.old.inner) (S.contents self.old.inner) n → S.contents self.new.inner ≡ with_block (S.size self.old.inner) (S.contents self.old.inner) n bytes.now) }
         ensures len { OnOk result (IsTrue (S.is_sound self.old.inner) → length (S.contents self.new.inner) ≡ length (S.contents self.old.inner)) }
-        ensures refusal { IfErr result (λ e. e ≡ Refused.Device) }
+        ensures refusal { OnlyDevice result }
         ensures size { S.size self.new.inner ≡ S.size self.old.inner }
         ensures room { S.room self.new.inner ≡ S.room self.old.inner }
     {
@@ -152,9 +153,10 @@ impl<S: BlockStore> BlockStore for FuseStore<S> {
         ensures fuse { self.new ≡ record self.old { inner = self.new.inner } }
         ensures room { OnOk result (blocks ≤ S.room self.new.inner) }
         ensures no_less { S.room self.old.inner ≤ S.room self.new.inner }
+        ensures enough { IfErr result (λ _. S.room self.old.inner < blocks) }
         ensures room_kept { IfErr result (λ _. S.room self.new.inner ≡ S.room self.old.inner) }
         ensures kept { IsTrue (S.is_sound self.old.inner) → S.contents self.new.inner ≡ S.contents self.old.inner }
-        ensures refusal { IfErr result (λ e. e ≡ Refused.Memory) }
+        ensures refusal { OnlyMemory result }
         ensures failures { S.failures self.new.inner ≡ S.failures self.old.inner }
         ensures sound { S.is_sound self.new.inner ≡ S.is_sound self.old.inner }
         ensures size { S.size self.new.inner ≡ S.size self.old.inner }

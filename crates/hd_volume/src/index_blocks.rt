@@ -1,4 +1,5 @@
-ghost use Rattle.std.specs.Prelude.{◌≡◌, ◌≢◌, ◌⊎◌, ◌+◌, ◌≤◌, ◌<◌, ℕ, IsTrue, length, slice_index, IfOk, IfErr, OnOk};
+ghost use Rattle.std.specs.Prelude.{◌≡◌, ◌≢◌, ◌+◌, ◌≤◌, ◌<◌, ℕ, IsTrue, length, slice_index, IfOk, IfErr, OnOk};
+ghost use Rattle.hd_dbd.specs.Refusals.{OnlyDevice, OnlyRoomOrDevice};
 ghost use Rattle.hd_bytes.specs.Ranges.{with_bytes};
 ghost use Rattle.hd_volume.specs.Volumes.{IsFormatted, IsKind, block_at};
 ghost use Rattle.hd_volume.specs.Rooms.{spare, HasFreeBlock};
@@ -17,7 +18,7 @@ impl<S: BlockStore> Volume<S> {
         requires free { IsTrue self.old.is_sound → IsKind self.old 3 n }
         ensures call { IsCall self.old result self.new }
         ensures made { OnOk result (IsTrue self.old.is_sound → IsMadeIndex self.old n level self.new) }
-        ensures refusal { IfErr result (λ e. e ≡ Refused.Device) }
+        ensures refusal { OnlyDevice result }
         ensures room { self.new.room ≡ self.old.room }
     {
         self.blocks.fetch(n)?;
@@ -47,7 +48,7 @@ impl<S: BlockStore> Volume<S> {
         ensures full { IfErr result (λ e. e ≡ Refused.Full → IsTrue self.old.is_sound → spare self.old ≡ 0) }
         ensures memory { IfErr result (λ e. e ≡ Refused.Memory → self.old.room ≡ 0) }
         ensures no_free { IfErr result (λ e. e ≡ Refused.Memory → IsTrue self.old.is_sound → HasFreeBlock self.old → ⊥) }
-        ensures refusal { IfErr result (λ e. (e ≡ Refused.Memory) ⊎ (e ≡ Refused.Full) ⊎ (e ≡ Refused.Device)) }
+        ensures refusal { OnlyRoomOrDevice result }
         ensures room { IsTrue self.new.is_sound → self.old.room ≤ self.new.room + 1 }
     {
         let n = self.free_block()?;
@@ -61,7 +62,7 @@ impl<S: BlockStore> Volume<S> {
         requires there { IsTrue self.old.is_sound → IsKind self.old 2 n }
         ensures call { IsCall self.old result self.new }
         ensures given { OnOk result (IsTrue self.old.is_sound → IsGivenBlock self.old n self.new) }
-        ensures refusal { IfErr result (λ e. e ≡ Refused.Device) }
+        ensures refusal { OnlyDevice result }
         ensures room { self.new.room ≡ self.old.room }
     {
         self.blocks.fetch(n)?;
@@ -78,7 +79,7 @@ impl<S: BlockStore> Volume<S> {
         requires within { offset + length bytes.now ≤ self.old.size }
         ensures call { IsCall self.old result self.new }
         ensures written { OnOk result (IsTrue self.old.is_sound → IsWrittenBlock self.old n offset bytes.now self.new) }
-        ensures refusal { IfErr result (λ e. e ≡ Refused.Device) }
+        ensures refusal { OnlyDevice result }
         ensures room { self.new.room ≡ self.old.room }
     {
         self.blocks.fetch(n)?;

@@ -22,7 +22,7 @@ pub use file::FileStore;
 pub use fuse::FuseStore;
 pub use header::{BLOCK_SIZE, MARK, NAME, VERSION};
 pub use law::{law_an_index_stays, law_segments_depend_on_data_blocks};
-pub use load::size_table;
+pub use load::{MOST_BLOCKS, size_table};
 pub use memory::MemStore;
 pub use space::{DATA, FREE, INDEX};
 pub use store::BlockStore;

@@ -1,7 +1,8 @@
-ghost use Rattle.std.specs.Prelude.{◌≡◌, ◌⊎◌, ◌+◌, ◌≤◌, ◌<◌, ◌==◌, ◌++◌, ◌∷◌, ◌%◌, [], ℕ, vec_len, slice_index, IsTrue, length, IfOk, IfErr, OnOk, OnErr};
+ghost use Rattle.std.specs.Prelude.{◌≡◌, ◌+◌, ◌≤◌, ◌<◌, ◌==◌, ◌++◌, ◌∷◌, ◌%◌, [], ℕ, vec_len, slice_index, IsTrue, length, IfOk, OnOk, OnErr};
 ghost use Rattle.std.specs.Vec.{vec_capacity};
 ghost use Rattle.hd_bytes.specs.Blocks.{block_of, HasBlock};
 ghost use Rattle.hd_dbd.specs.Facts.{stored_sizes};
+ghost use Rattle.hd_dbd.specs.Refusals.{OnlyDevice, OnlyDeviceOrMemory, OnlyMemory};
 ghost use Rattle.hd_volume.specs.Stores.{CountsDevice, StaysSound};
 ghost use Rattle.hd_volume.specs.Rooms.{one_if};
 ghost use Rattle.hd_volume.specs.Spaces.{IsSpaceOf, IsContent, AreSizes};
@@ -41,7 +42,7 @@ pub fn survey<S: BlockStore>(
     ensures space { IfOk result (λ space. IsTrue blocks.old.is_sound → IsSpaceOf blocks.old.size sizes.now blocks.old.image space) }
     ensures small { IfOk result (λ space. vec_len space.contents ≤ 65536) }
     ensures image { IsTrue blocks.new.is_sound → (blocks.new.image ≡ blocks.old.image) × (blocks.new.stored ≡ blocks.old.stored) }
-    ensures refusal { IfErr result (λ e. (e ≡ Refused.Memory) ⊎ (e ≡ Refused.Device)) }
+    ensures refusal { OnlyDeviceOrMemory result }
     ensures counts { CountsDevice result blocks.old.failures blocks.new.failures }
     ensures sound { StaysSound result blocks.old.is_sound blocks.new.is_sound }
     ensures size { blocks.new.size ≡ blocks.old.size }
@@ -62,7 +63,7 @@ fn empty_space(alloc: Global, types: usize) -> Result<Space, Refused>
     ensures contents { IfOk result (λ space. (space.contents.items ≡ []) × (vec_len space.contents ≡ 0)) }
     ensures lowest { IfOk result (λ space. (c : ℕ) → slice_index space.lowest.items c ≤ 1) }
     ensures free { IfOk result (λ space. (space.free ≡ 0) × (space.lowest_free ≡ 1)) }
-    ensures refusal { IfErr result (λ e. e ≡ Refused.Memory) }
+    ensures refusal { OnlyMemory result }
 {
     let Ok(lowest) = vec![in alloc; 1u32; types] else {
         return Err(Refused::Memory);
@@ -87,7 +88,7 @@ fn survey_block<S: BlockStore>(
     ensures first { IfOk result (λ content. n ≡ 0 → content.kind ≡ 0) }
     ensures image { OnOk result (IsTrue blocks.old.is_sound → blocks.new.image ≡ blocks.old.image) }
     ensures stands { OnOk result (IsTrue blocks.old.is_sound → blocks.old.stored ≡ blocks.old.image → blocks.new.stored ≡ blocks.old.image) }
-    ensures refusal { IfErr result (λ e. e ≡ Refused.Device) }
+    ensures refusal { OnlyDevice result }
     ensures counts { CountsDevice result blocks.old.failures blocks.new.failures }
     ensures sound { StaysSound result blocks.old.is_sound blocks.new.is_sound }
     ensures size { blocks.new.size ≡ blocks.old.size }
@@ -108,7 +109,7 @@ pub fn note(space: &mut Space, content: Content) -> Result<(), Refused>
     ensures free { OnOk result (space.new.free ≡ space.old.free + one_if (content.kind == 3)) }
     ensures lowest { space.new.lowest ≡ space.old.lowest }
     ensures lowest_free { space.new.lowest_free ≡ space.old.lowest_free }
-    ensures refusal { IfErr result (λ e. e ≡ Refused.Memory) }
+    ensures refusal { OnlyMemory result }
     ensures full { OnErr result (vec_capacity space.old.contents ≤ vec_len space.old.contents) }
 {
     if space.contents.push(content).is_err() {

@@ -1,4 +1,5 @@
-ghost use Rattle.std.specs.Prelude.{◌≡◌, ◌≢◌, ◌⊎◌, ◌+◌, ◌-◌, ◌≤◌, ◌<◌, ℕ, IsTrue, length, slice_index, true, false, IfOk, IfErr, IfSome, IfNone, OnOk};
+ghost use Rattle.std.specs.Prelude.{◌≡◌, ◌≢◌, ◌+◌, ◌-◌, ◌≤◌, ◌<◌, ℕ, IsTrue, length, slice_index, true, false, IfOk, IfErr, IfSome, IfNone, OnOk};
+ghost use Rattle.hd_dbd.specs.Refusals.{OnlyDevice, OnlyRoomOrDevice};
 ghost use Rattle.hd_volume.specs.Headers.{header_of};
 ghost use Rattle.hd_volume.specs.Volumes.{IsFormatted, IsKind};
 ghost use Rattle.hd_volume.specs.Rooms.{spare, HasHole, HasFreeBlock};
@@ -21,7 +22,7 @@ impl<S: BlockStore> Volume<S> {
         requires small { n < 65536 }
         ensures call { IsCall self.old result self.new }
         ensures placed { IfOk result (λ address. IsTrue self.old.is_sound → IsPutIn self.old n address bytes.now self.new) }
-        ensures refusal { IfErr result (λ e. e ≡ Refused.Device) }
+        ensures refusal { OnlyDevice result }
         ensures room { self.new.room ≡ self.old.room }
     {
         let size = self.blocks.block_size();
@@ -43,7 +44,7 @@ impl<S: BlockStore> Volume<S> {
         ensures none { IfOk result (λ o. IsTrue self.old.is_sound → IfNone o (HasHole self.old (slice_index self.old.sizes code) → ⊥)) }
         ensures small { IfOk result (λ o. IfSome o (λ n. n < 65536)) }
         ensures fits { (c : ℕ) → slice_index self.old.sizes c + 8 ≤ self.old.size }
-        ensures refusal { IfErr result (λ e. e ≡ Refused.Device) }
+        ensures refusal { OnlyDevice result }
     {
         let found = seek_hole(&mut self.blocks, &mut self.space, &self.sizes, code)?;
         Ok(found)
@@ -56,7 +57,7 @@ impl<S: BlockStore> Volume<S> {
         ensures call { IsCall self.old result self.new }
         ensures made { OnOk result (IsTrue self.old.is_sound → IsMade self.old n 1 self.new) }
         ensures has_room { OnOk result (IsTrue self.old.is_sound → HasRoom self.new n (self.old.size - 8)) }
-        ensures refusal { IfErr result (λ e. e ≡ Refused.Device) }
+        ensures refusal { OnlyDevice result }
         ensures room { self.new.room ≡ self.old.room }
     {
         let hole = self.blocks.block_size() as u16 - 8;
@@ -76,7 +77,7 @@ impl<S: BlockStore> Volume<S> {
         ensures kept { IfErr result (λ _. IsTrue self.new.is_sound → self.new.image ≡ self.old.image) }
         ensures full { IfErr result (λ e. e ≡ Refused.Full → IsTrue self.old.is_sound → (header_of self.old.image).largest ≤ (header_of self.old.image).count) }
         ensures memory { IfErr result (λ e. e ≡ Refused.Memory → self.old.room ≡ 0) }
-        ensures refusal { IfErr result (λ e. (e ≡ Refused.Memory) ⊎ (e ≡ Refused.Full) ⊎ (e ≡ Refused.Device)) }
+        ensures refusal { OnlyRoomOrDevice result }
         ensures room { IsTrue self.new.is_sound → self.old.room ≤ self.new.room + 1 }
     {
         let n = self.space.contents.len() as u32;
@@ -108,7 +109,7 @@ impl<S: BlockStore> Volume<S> {
         ensures read { IsRead self.old result self.new }
         ensures found { IfOk result (λ f. IsTrue self.old.is_sound → f ≡ true → HasHole self.old size) }
         ensures none { IfOk result (λ f. IsTrue self.old.is_sound → f ≡ false → HasHole self.old size → ⊥) }
-        ensures refusal { IfErr result (λ e. e ≡ Refused.Device) }
+        ensures refusal { OnlyDevice result }
     {
         let found = seek_size(&mut self.blocks, &mut self.space, &self.sizes, size)?;
         Ok(found)
@@ -140,7 +141,7 @@ impl<S: BlockStore> Volume<S> {
         ensures full { IfErr result (λ e. e ≡ Refused.Full → IsTrue self.old.is_sound → spare self.old ≡ 0) }
         ensures memory { IfErr result (λ e. e ≡ Refused.Memory → self.old.room ≡ 0) }
         ensures no_free { IfErr result (λ e. e ≡ Refused.Memory → IsTrue self.old.is_sound → HasFreeBlock self.old → ⊥) }
-        ensures refusal { IfErr result (λ e. (e ≡ Refused.Memory) ⊎ (e ≡ Refused.Full) ⊎ (e ≡ Refused.Device)) }
+        ensures refusal { OnlyRoomOrDevice result }
         ensures room { IsTrue self.new.is_sound → self.old.room ≤ self.new.room + 1 }
     {
         match self.lowest_free() {
@@ -159,7 +160,7 @@ impl<S: BlockStore> Volume<S> {
         ensures full { IfErr result (λ e. e ≡ Refused.Full → IsTrue self.old.is_sound → spare self.old ≡ 0) }
         ensures memory { IfErr result (λ e. e ≡ Refused.Memory → self.old.room ≡ 0) }
         ensures no_free { IfErr result (λ e. e ≡ Refused.Memory → IsTrue self.old.is_sound → HasFreeBlock self.old → ⊥) }
-        ensures refusal { IfErr result (λ e. (e ≡ Refused.Memory) ⊎ (e ≡ Refused.Full) ⊎ (e ≡ Refused.Device)) }
+        ensures refusal { OnlyRoomOrDevice result }
         ensures room { IsTrue self.new.is_sound → self.old.room ≤ self.new.room + 1 }
     {
         let n = self.free_block()?;
@@ -178,7 +179,7 @@ impl<S: BlockStore> Volume<S> {
         ensures memory { IfErr result (λ e. e ≡ Refused.Memory → self.old.room ≡ 0) }
         ensures no_free { IfErr result (λ e. e ≡ Refused.Memory → IsTrue self.old.is_sound → HasFreeBlock self.old → ⊥) }
         ensures no_hole { IfErr result (λ e. e ≡ Refused.Memory → IsTrue self.old.is_sound → HasHole self.old (slice_index self.old.sizes code) → ⊥) }
-        ensures refusal { IfErr result (λ e. (e ≡ Refused.Memory) ⊎ (e ≡ Refused.Full) ⊎ (e ≡ Refused.Device)) }
+        ensures refusal { OnlyRoomOrDevice result }
         ensures room { IsTrue self.new.is_sound → self.old.room ≤ self.new.room + 1 }
     {
         match self.find_hole(code)? {
@@ -201,7 +202,7 @@ impl<S: BlockStore> Volume<S> {
         ensures memory { IfErr result (λ e. e ≡ Refused.Memory → self.old.room ≡ 0) }
         ensures no_free { IfErr result (λ e. e ≡ Refused.Memory → IsTrue self.old.is_sound → HasFreeBlock self.old → ⊥) }
         ensures no_hole { IfErr result (λ e. e ≡ Refused.Memory → IsTrue self.old.is_sound → HasHole self.old (length bytes.now) → ⊥) }
-        ensures refusal { IfErr result (λ e. (e ≡ Refused.Memory) ⊎ (e ≡ Refused.Full) ⊎ (e ≡ Refused.Device)) }
+        ensures refusal { OnlyRoomOrDevice result }
         ensures room { IsTrue self.new.is_sound → self.old.room ≤ self.new.room + 1 }
     {
         let n = self.ready_block(bytes[0])?;

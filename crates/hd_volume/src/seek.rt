@@ -1,4 +1,5 @@
-ghost use Rattle.std.specs.Prelude.{◌≡◌, ◌+◌, ◌≤◌, ◌<◌, ℕ, true, false, IsTrue, length, slice_index, slice_set, vec_len, IfOk, IfSome, IfNone, IfErr, OnOk};
+ghost use Rattle.std.specs.Prelude.{◌≡◌, ◌+◌, ◌≤◌, ◌<◌, ℕ, true, false, IsTrue, length, slice_index, slice_set, vec_len, IfOk, IfSome, IfNone, OnOk};
+ghost use Rattle.hd_dbd.specs.Refusals.{OnlyDevice};
 ghost use Rattle.std.specs.Vec.{vec_capacity};
 ghost use Rattle.hd_bytes.specs.Blocks.{block_of, HasBlock};
 ghost use Rattle.hd_block.specs.Walk.{parts_in};
@@ -29,7 +30,7 @@ pub fn seek_hole<S: BlockStore>(
     ensures found { IfOk result (λ o. IsTrue blocks.old.is_sound → IfSome o (λ n. (0 < n) × (n < blocks_in blocks.old.size blocks.old.image) × (kind_of (block_of blocks.old.size blocks.old.image n) ≡ 1) × (slice_index sizes.now code ≤ largest_hole (parts_in (slice_index sizes.now) (block_of blocks.old.size blocks.old.image n))))) }
     ensures none { IfOk result (λ o. IsTrue blocks.old.is_sound → IfNone o ((n : ℕ) → 0 < n → n < blocks_in blocks.old.size blocks.old.image → kind_of (block_of blocks.old.size blocks.old.image n) ≡ 1 → largest_hole (parts_in (slice_index sizes.now) (block_of blocks.old.size blocks.old.image n)) < slice_index sizes.now code)) }
     ensures small { IfOk result (λ o. IfSome o (λ n. n < 65536)) }
-    ensures refusal { IfErr result (λ e. e ≡ Refused.Device) }
+    ensures refusal { OnlyDevice result }
 {
     let size = size_of(sizes, code);
     let start = space.lowest.get(code as usize).copied().unwrap_or(1).max(1);
@@ -62,7 +63,7 @@ fn try_block<S: BlockStore>(
     ensures others { (m : ℕ) → (m ≡ n → ⊥) → content_at space.new m ≡ content_at space.old m }
     ensures found { IfOk result (λ f. IsTrue blocks.old.is_sound → f ≡ true → (kind_of (block_of blocks.old.size blocks.old.image n) ≡ 1) × (size ≤ largest_hole (parts_in (slice_index sizes.now) (block_of blocks.old.size blocks.old.image n)))) }
     ensures passed { IfOk result (λ f. IsTrue blocks.old.is_sound → f ≡ false → (content_at space.new n).kind ≡ 1 → (content_at space.new n).hole < size) }
-    ensures refusal { IfErr result (λ e. e ≡ Refused.Device) }
+    ensures refusal { OnlyDevice result }
 {
     let content = content_of_block(space, n);
     if content.kind != DATA || content.hole < size {
@@ -127,7 +128,7 @@ pub fn seek_size<S: BlockStore>(
     ensures tables { KeepsTables space.old space.new }
     ensures found { IfOk result (λ f. IsTrue blocks.old.is_sound → f ≡ true → IsSeen (slice_index sizes.now) blocks.old.size blocks.old.image size) }
     ensures none { IfOk result (λ f. IsTrue blocks.old.is_sound → f ≡ false → (n : ℕ) → 0 < n → n < blocks_in blocks.old.size blocks.old.image → kind_of (block_of blocks.old.size blocks.old.image n) ≡ 1 → largest_hole (parts_in (slice_index sizes.now) (block_of blocks.old.size blocks.old.image n)) < size) }
-    ensures refusal { IfErr result (λ e. e ≡ Refused.Device) }
+    ensures refusal { OnlyDevice result }
 {
     let count = space.contents.len() as u32;
     for n in 1..count {

@@ -1,4 +1,5 @@
 ghost use Rattle.std.specs.Prelude.{◌≡◌, ◌≤◌, ◌<◌, ◌+◌, ◌-◌, ℕ, ◌++◌, ◌∷◌, [], length, slice_index, slice_set, vec_len, OnOk, IfErr};
+ghost use Rattle.hd_dbd.specs.Refusals.{OnlyMemory};
 ghost use Rattle.std.specs.Vec.{vec_capacity};
 ghost use Rattle.hd_block.specs.Walk.{parts_in};
 ghost use Rattle.hd_volume.specs.Rooms.{largest_hole};
@@ -155,7 +156,7 @@ pub fn make_room(space: &mut Space) -> Result<(), Refused>
     ensures full { IfErr result (λ _. vec_capacity space.old.contents ≤ vec_len space.old.contents) }
     ensures lowest { space.new.lowest ≡ space.old.lowest }
     ensures free { (space.new.free ≡ space.old.free) × (space.new.lowest_free ≡ space.old.lowest_free) }
-    ensures refusal { IfErr result (λ e. e ≡ Refused.Memory) }
+    ensures refusal { OnlyMemory result }
 {
     if space.contents.len() < space.contents.capacity() {
         return Ok(());

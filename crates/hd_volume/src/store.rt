@@ -1,4 +1,5 @@
 ghost use Rattle.std.specs.Prelude.{◌≡◌, ◌-◌, ◌<◌, ◌≤◌, ℕ, Bool, IsTrue, List, length, IfErr, OnOk};
+ghost use Rattle.hd_dbd.specs.Refusals.{OnlyDevice, OnlyMemory};
 ghost use Rattle.hd_bytes.specs.Blocks.{block_of, with_block, grown, HasBlock};
 ghost use Rattle.hd_volume.specs.Stores.{CountsDevice, StaysSound, RefusesGrowth};
 
@@ -40,7 +41,7 @@ pub trait BlockStore {
         ensures value { OnOk result (IsTrue (is_sound self.old) → buf.new ≡ block_of (size self.old) (contents self.old) n) }
         ensures len { length buf.new ≡ length buf.old }
         ensures kept { OnOk result (IsTrue (is_sound self.old) → contents self.new ≡ contents self.old) }
-        ensures refusal { IfErr result (λ e. e ≡ Refused.Device) }
+        ensures refusal { OnlyDevice result }
         ensures counts { CountsDevice result (failures self.old) (failures self.new) }
         ensures sound { StaysSound result (is_sound self.old) (is_sound self.new) }
         ensures size { size self.new ≡ size self.old }
@@ -52,7 +53,7 @@ pub trait BlockStore {
         requires there { IsTrue (is_sound self.old) → HasBlock (size self.old) (contents self.old) n }
         ensures value { OnOk result (IsTrue (is_sound self.old) → contents self.new ≡ with_block (size self.old) (contents self.old) n bytes.now) }
         ensures len { OnOk result (IsTrue (is_sound self.old) → length (contents self.new) ≡ length (contents self.old)) }
-        ensures refusal { IfErr result (λ e. e ≡ Refused.Device) }
+        ensures refusal { OnlyDevice result }
         ensures counts { CountsDevice result (failures self.old) (failures self.new) }
         ensures sound { StaysSound result (is_sound self.old) (is_sound self.new) }
         ensures size { size self.new ≡ size self.old }
@@ -62,9 +63,10 @@ pub trait BlockStore {
     fn reserve(&mut self, blocks: u32) -> Result<(), Refused>
         ensures room { OnOk result (blocks ≤ room self.new) }
         ensures no_less { room self.old ≤ room self.new }
+        ensures enough { IfErr result (λ _. room self.old < blocks) }
         ensures room_kept { IfErr result (λ _. room self.new ≡ room self.old) }
         ensures kept { IsTrue (is_sound self.old) → contents self.new ≡ contents self.old }
-        ensures refusal { IfErr result (λ e. e ≡ Refused.Memory) }
+        ensures refusal { OnlyMemory result }
         ensures failures { failures self.new ≡ failures self.old }
         ensures sound { is_sound self.new ≡ is_sound self.old }
         ensures size { size self.new ≡ size self.old };

@@ -1,6 +1,7 @@
 ghost use Rattle.std.specs.Prelude.{◌≡◌, ◌+◌, ◌%◌, ◌≤◌, ◌<◌, true, false, vec_len, IsTrue, length, min, slice_index, IfOk, IfErr, OnOk, Some};
 ghost use Rattle.hd_bytes.specs.Blocks.{block_of, HasBlock};
 ghost use Rattle.hd_dbd.specs.Facts.{stored_sizes};
+ghost use Rattle.hd_dbd.specs.Refusals.{OnlyDevice, OnlyMemory};
 ghost use Rattle.hd_volume.specs.Stores.{CountsDevice, StaysSound, IsGivenBack};
 ghost use Rattle.hd_bytes.specs.Numbers.{number_at};
 ghost use Rattle.hd_volume.specs.Headers.{header_of};
@@ -88,7 +89,7 @@ impl<S: BlockStore> Volume<S> {
         requires there { IsTrue self.old.is_sound → HasSegment self.old address 0 }
         ensures value { IfOk result (λ r. IsTrue self.old.is_sound → find self.old address ≡ Some r.now) }
         ensures* after { sem 𝓛 (Rests S.row S.BlockStore self.entry (λ new. IsRead self.old result new)) }
-        ensures refusal { IfErr result (λ e. e ≡ Refused.Device) }
+        ensures refusal { OnlyDevice result }
     {
         let size = self.blocks.block_size();
         let at = address as usize % size;
@@ -104,7 +105,7 @@ impl<S: BlockStore> Volume<S> {
         requires there { IsTrue self.old.is_sound → HasSegment self.old address (offset + length bytes.now) }
         ensures call { IsCall self.old result self.new }
         ensures written { OnOk result (IsTrue self.old.is_sound → IsWritten self.old address offset bytes.now self.new) }
-        ensures refusal { IfErr result (λ e. e ≡ Refused.Device) }
+        ensures refusal { OnlyDevice result }
         ensures room { self.new.room ≡ self.old.room }
     {
         let size = self.blocks.block_size();
@@ -123,7 +124,7 @@ impl<S: BlockStore> Volume<S> {
         requires there { IsTrue self.old.is_sound → HasSegment self.old address 0 }
         ensures call { IsCall self.old result self.new }
         ensures freed { OnOk result (IsTrue self.old.is_sound → IsFreed self.old address self.new) }
-        ensures refusal { IfErr result (λ e. e ≡ Refused.Device) }
+        ensures refusal { OnlyDevice result }
         ensures room { self.new.room ≡ self.old.room }
     {
         let size = self.blocks.block_size();
@@ -144,7 +145,7 @@ impl<S: BlockStore> Volume<S> {
         requires there { IsTrue self.old.is_sound → HasBlock self.old.size self.old.image n }
         ensures value { IfOk result (λ r. IsTrue self.old.is_sound → r.now ≡ block_at self.old n) }
         ensures* after { sem 𝓛 (Rests S.row S.BlockStore self.entry (λ new. IsRead self.old result new)) }
-        ensures refusal { IfErr result (λ e. e ≡ Refused.Device) }
+        ensures refusal { OnlyDevice result }
     {
         if n == 0 {
             return Ok(self.blocks.head());
@@ -202,9 +203,10 @@ impl<S: BlockStore> Volume<S> {
     pub fn reserve(&mut self, blocks: u32) -> Result<(), Refused>
         ensures call { IsCall self.old result self.new }
         ensures room { OnOk result (blocks ≤ self.new.room) }
+        ensures enough { IfErr result (λ _. self.old.room < blocks) }
         ensures no_less { self.old.room ≤ self.new.room }
         ensures image { IsTrue self.new.is_sound → (self.new.image ≡ self.old.image) × (self.new.stored ≡ self.old.stored) }
-        ensures refusal { IfErr result (λ e. e ≡ Refused.Memory) }
+        ensures refusal { OnlyMemory result }
     {
         if self.space.contents.reserve(blocks as usize).is_err() {
             return Err(Refused::Memory);
@@ -215,7 +217,7 @@ impl<S: BlockStore> Volume<S> {
     /// Writes what is changed to the store, block 0 after all others.
     pub fn flush(&mut self) -> Result<(), Refused>
         ensures image { OnOk result (IsTrue self.old.is_sound → (self.new.image ≡ self.old.image) × (self.new.stored ≡ self.old.image)) }
-        ensures refusal { IfErr result (λ e. e ≡ Refused.Device) }
+        ensures refusal { OnlyDevice result }
         ensures counts { CountsDevice result self.old.failures self.new.failures }
         ensures sound { StaysSound result self.old.is_sound self.new.is_sound }
         ensures size { self.new.size ≡ self.old.size }

@@ -1,10 +1,10 @@
-ghost use Rattle.std.specs.Prelude.{◌≡◌, ◌<◌, false};
+ghost use Rattle.std.specs.Prelude.{◌≡◌, ◌<◌, true, false, IfOk};
 ghost use Rattle.hd_dbd.specs.Facts.{stored_sizes};
 
 use super::*;
 use hd_dbd::{Dbd, Refused};
 use hd_sample::database;
-use std::alloc::Global;
+use std::alloc::{AllocError, Global};
 use std::fs::{File, OpenOptions};
 use std::marker::Brand;
 use std::sync::ledger::{Blank, Ledger};
@@ -45,7 +45,24 @@ const COURSE: [u8; 40] = [
     79, 71, 73, 67, 0, 0, 0, 0, 0, 0,
 ];
 
-/// Where segments and blocks go in a volume of a data block with two students and two holes, and a free block.
+/// A volume of a data block with two students and two holes, and a free block.
+fn three_blocks(alloc: Global) -> Result<Vec<u8>, AllocError> {
+    let mut image = Vec::new(alloc);
+    image.extend_from_slice(&header(3))?;
+    let mut block = [0; 128];
+    block[..3].copy_from_slice(b"\0\x18\x01");
+    block[8..24].copy_from_slice(&STUDENT);
+    block[24..32].copy_from_slice(b"\0\x30\0\x08\0\0\0\0");
+    block[32..48].copy_from_slice(&STUDENT);
+    block[48..56].copy_from_slice(b"\0\0\0\x50\0\0\0\0");
+    image.extend_from_slice(&block)?;
+    let mut free = [0; 128];
+    free[2] = 3;
+    image.extend_from_slice(&free)?;
+    Ok(image)
+}
+
+/// Where segments and blocks go in the volume of three blocks.
 fn find_places<L: Ledger>(
     alloc: Global,
     file: File,
@@ -81,19 +98,7 @@ fn places(alloc: Global, file: File, dbd: &Dbd) -> io::Result<[Result<u32, Refus
 #[test]
 fn puts_segments_into_the_first_large_enough_hole(rt: HostRuntime) -> Result<(), Fail> {
     let dbd = database(rt.alloc()).expect(&rt, "a database");
-    let mut image = Vec::new(rt.alloc());
-    image.extend_from_slice(&header(3))?;
-    let mut block = [0; 128];
-    block[..3].copy_from_slice(b"\0\x18\x01");
-    block[8..24].copy_from_slice(&STUDENT);
-    block[24..32].copy_from_slice(b"\0\x30\0\x08\0\0\0\0");
-    block[32..48].copy_from_slice(&STUDENT);
-    block[48..56].copy_from_slice(b"\0\0\0\x50\0\0\0\0");
-    image.extend_from_slice(&block)?;
-    let mut free = [0; 128];
-    free[2] = 3;
-    image.extend_from_slice(&free)?;
-    fs::write(&rt, "places", &image)?;
+    fs::write(&rt, "places", &three_blocks(rt.alloc())?)?;
     let mut old = OpenOptions::new();
     old.read(true).write(true);
     let found = places(rt.alloc(), old.open(&rt, "places")?, &dbd)?;
@@ -186,4 +191,76 @@ fn creates_a_volume_of_one_block(rt: HostRuntime) {
         bytes.get(..28),
         Some(b"HDVOLUME\0\x01\0\x80\0\0\0\x01\0\0\0\x10EDU     ".as_slice())
     );
+}
+
+/// A store that has failed once, so that no contract says anything of it; from now on it serves each access but one, the one behind
+/// so many.
+fn store_of(
+    alloc: Global,
+    image: &[u8],
+    passes: u64,
+) -> Result<FuseStore<FuseStore<MemStore>>, AllocError>
+    ensures { IfOk result (λ s. (s.inner.is_blown ≡ true) × (s.inner.inner.size ≡ 128)) }
+{
+    let mut bytes = Vec::new(alloc);
+    bytes.extend_from_slice(image)?;
+    let mut store = FuseStore::new(MemStore::new(128, bytes), 0);
+    let _ = store.grow(1);
+    Ok(FuseStore::new(store, passes))
+}
+
+/// Puts courses until the volume grows, sets its first root, and flushes it.
+fn fill<S: BlockStore>(volume: &mut Volume<S>, dbd: &Dbd) -> Result<(), Refused>
+    requires unsound { volume.old.is_sound ≡ false }
+    requires sizes { volume.old.sizes ≡ stored_sizes dbd.now.types }
+{
+    let root = put_whole(volume, dbd, &COURSE)?;
+    'courses: for _ in 0..6 {
+        put_whole(volume, dbd, &COURSE)?;
+    }
+    put_whole(volume, dbd, &STUDENT)?;
+    volume.set_first_root(root);
+    volume.flush()
+}
+
+/// The bytes of a store behind the access that failed, the one behind so many, or behind all; and whether one failed.
+fn filled(
+    alloc: Global,
+    image: &[u8],
+    dbd: &Dbd,
+    passes: u64,
+) -> Result<(bool, Vec<u8>), AllocError>
+    requires { dbd.now.block_size ≡ 128 }
+{
+    let store = store_of(alloc, image, passes)?;
+    let (failed, store) = match Volume::load(alloc, store, dbd) {
+        Ok(mut volume) => (fill(&mut volume, dbd).is_err(), volume.into_store()),
+        Err((store, _)) => (true, store),
+    };
+    Ok((failed, store.into_inner().into_inner().into_bytes()))
+}
+
+#[test]
+fn writes_block_0_after_all_others(rt: HostRuntime) -> Result<(), Fail> {
+    let dbd = database(rt.alloc()).expect(&rt, "a database");
+    let old = three_blocks(rt.alloc())?;
+    let (failed, new) = filled(rt.alloc(), &old, &dbd, u64::MAX)?;
+    assert!(rt; !failed && new.get(..128) != old.get(..128));
+    let mut last = Vec::new(rt.alloc());
+    for passes in 0..64 {
+        let (failed, bytes) = filled(rt.alloc(), &old, &dbd, passes)?;
+        if !failed {
+            assert!(rt; passes > 8 && bytes == new);
+            assert_eq!(rt; last.get(..128), old.get(..128));
+            assert_eq!(rt; last.get(128..), new.get(128..));
+            return Ok(());
+        }
+        assert!(rt;
+            bytes.get(..128) == old.get(..128) || bytes == new,
+            "access {passes}"
+        );
+        last = bytes;
+    }
+    assert!(rt; false, "no end");
+    Ok(())
 }

@@ -39,7 +39,7 @@ returns-else-place-bytes-clause-found c sizes xs h =
     let some : c.walk.place ≢ 0 = λ z. omega (arith, c.walk.invariant.end) in
     let s = stands (c.walk.invariant.progress sizes xs h) (passes-hole c.args.size xs c.walk.place) some in
     let within = fill-within sizes c.args.bytes.now _ _ s.behind s.fill in
-    let large = s.element.some in
+    let large = s.hole.element.some in
     absurd (omega arith)
 
 pub returns-after-walk-clause-found : goal.returns-after-walk-clause-found

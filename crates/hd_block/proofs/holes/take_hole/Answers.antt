@@ -26,14 +26,14 @@ returns-then-hole-size-clause-head c = head-link c.in_ok-hole.ensures.head.1 c.w
 pub returns-then-rest-bytes-2-clause-found : goal.returns-then-rest-bytes-2-clause-found
 returns-then-rest-bytes-2-clause-found c sizes xs h =
     let f = c.in_ok-hole.ensures.found sizes xs h in
-    let crumb = no-crumb f.stands.element.whole f.large c.if-hole-size.false c.requires.size.1 in
+    let crumb = no-crumb f.stands.hole.element.whole f.large c.if-hole-size.false c.requires.size.1 in
     let within = fill-within sizes c.args.bytes.now _ _ f.stands.behind f.stands.fill in
     absurd (omega arith)
 
 pub returns-clause-after : goal.returns-clause-after
 returns-clause-after c sizes xs h =
     let f = c.in_ok-hole.ensures.found sizes xs h in
-    let crumb = no-crumb f.stands.element.whole f.large c.if-hole-size.false c.requires.size.1 in
+    let crumb = no-crumb f.stands.hole.element.whole f.large c.if-hole-size.false c.requires.size.1 in
     takes-two c.args.size f.stands crumb c.requires.size.0 c.requires.size.1 c.write_element.ensures.changes c.write_u16-2.ensures.changes
     (c.write_element.ensures.next ∙ f.next) c.write_element.ensures.len c.write_element.ensures.task c.write_u16-2.ensures.reads_back
 
@@ -44,5 +44,5 @@ returns-clause-head c =
 pub returns-clause-others : goal.returns-clause-others
 returns-clause-others c sizes xs q n h u =
     let f = c.in_ok-hole.ensures.found sizes xs h in
-    let crumb = no-crumb f.stands.element.whole f.large c.if-hole-size.false c.requires.size.1 in
+    let crumb = no-crumb f.stands.hole.element.whole f.large c.if-hole-size.false c.requires.size.1 in
     takes-front-others c.args.size q n f.stands u crumb c.write_element.ensures.changes c.write_u16-2.ensures.changes

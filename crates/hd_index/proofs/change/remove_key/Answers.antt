@@ -7,7 +7,7 @@ use Rattle.hd_index.specs.declared.place.Spot.{Spot}
 use Rattle.hd_index.specs.Places.{address_found}
 use Rattle.hd_index.specs.Edits.{HasNewEntries}
 use Rattle.hd_index.proofs.CallLemmas.{on-ok-map}
-use Rattle.hd_index.proofs.ChainLemmas.{entry-block-same}
+use Rattle.hd_entries.proofs.BlockLemmas.{entry-block-same}
 use Rattle.hd_index.proofs.ChangeLemmas.{spot-there, remains, removed, not-key, is-key}
 use Rattle.hd_index.proofs.change.remove_key.Goals as goal
 

@@ -3,7 +3,7 @@ use Rattle.hd_bytes.specs.Ranges.{bytes_at, with_bytes}
 use Rattle.hd_volume.specs.Volumes.{block_at}
 use Rattle.hd_index.specs.Edits.{HasNewBytes}
 use Rattle.hd_index.proofs.CallLemmas.{on-ok-map}
-use Rattle.hd_index.proofs.EntryLemmas.{join-bytes, fill-edit, bytes-of-none}
+use Rattle.hd_index.proofs.EntryEdits.{join-bytes, fill-edit, bytes-of-none}
 use Rattle.hd_index.proofs.divide.fill_upper.Goals as goal
 
 pub returns-clause-filled : goal.returns-clause-filled

@@ -3,7 +3,7 @@ use Rattle.hd_bytes.specs.Ranges.{with_bytes}
 use Rattle.hd_volume.specs.Volumes.{block_at}
 use Rattle.hd_index.specs.Edits.{HasNewBytes}
 use Rattle.hd_index.proofs.CallLemmas.{on-ok-map}
-use Rattle.hd_index.proofs.EntryLemmas.{join-bytes, link-edit}
+use Rattle.hd_index.proofs.EntryEdits.{join-bytes, link-edit}
 use Rattle.hd_index.proofs.divide.keep_lower.Goals as goal
 
 pub returns-clause-kept : goal.returns-clause-kept

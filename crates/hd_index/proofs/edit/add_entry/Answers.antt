@@ -4,7 +4,8 @@ use Rattle.std.proofs.lemmas.List.{length-take-le, take-take}
 use Rattle.hd_bytes.specs.Ranges.{bytes_at, with_bytes}
 use Rattle.hd_volume.specs.Volumes.{block_at}
 use Rattle.hd_index.specs.Edits.{HasNewBytes}
-use Rattle.hd_index.proofs.EntryLemmas.{IsEntryBytes, three-parts, number-front, added-bytes, join-bytes, add-edit}
+use Rattle.hd_entries.proofs.EntryLemmas.{IsEntryBytes, three-parts, number-front}
+use Rattle.hd_index.proofs.EntryEdits.{added-bytes, join-bytes, add-edit}
 use Rattle.hd_index.proofs.edit.add_entry.Goals as goal
 
 pub move_up-requires-clause-within : goal.move_up-requires-clause-within

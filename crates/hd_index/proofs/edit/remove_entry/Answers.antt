@@ -3,7 +3,8 @@ use Rattle.hd_index.proofs.CallLemmas.{on-ok-map}
 use Rattle.hd_bytes.specs.Ranges.{bytes_at, with_bytes}
 use Rattle.hd_volume.specs.Volumes.{block_at}
 use Rattle.hd_index.specs.Edits.{HasNewBytes}
-use Rattle.hd_index.proofs.EntryLemmas.{three-parts, taken-bytes, join-bytes, take-edit}
+use Rattle.hd_entries.proofs.EntryLemmas.{three-parts}
+use Rattle.hd_index.proofs.EntryEdits.{taken-bytes, join-bytes, take-edit}
 use Rattle.hd_index.proofs.edit.remove_entry.Goals as goal
 
 pub copy_down-requires-clause-to_within : goal.copy_down-requires-clause-to_within

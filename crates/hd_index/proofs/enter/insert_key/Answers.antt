@@ -1,8 +1,12 @@
-use Rattle.std.proofs.Common.{ℕ, IsTrue, length, ap, ◌∙◌, sym, arith}
+use Rattle.std.proofs.Common.{◌≡◌, ℕ, IsTrue, length, ap, ◌∙◌, sym, arith}
+use Rattle.hd_dbd.specs.declared.answer.Refused.{Refused}
+use Rattle.hd_dbd.specs.declared.answer.Refused.TheVariants.{Full}
 use Rattle.hd_volume.specs.Entries.{Entry, entries}
-use Rattle.hd_volume.proofs.JoinLemmas.{read-one}
+use Rattle.hd_volume.proofs.JoinLemmas.{read-one, if-err-map}
 use Rattle.hd_index.specs.Maps.{address_of, with_entry}
 use Rattle.hd_index.specs.Edits.{IsChanged}
+use Rattle.hd_index.specs.Places.{blocks_needed}
+use Rattle.hd_index.proofs.NeedLemmas.{needed-same}
 use Rattle.hd_index.proofs.CallLemmas.{on-ok-map}
 use Rattle.hd_index.proofs.ChainLemmas.{located, spot-same}
 use Rattle.hd_index.proofs.ChangeLemmas.{index-after}
@@ -47,3 +51,15 @@ returns-clause-changed g c =
     let same = (index-after k u v o h).1 in
     changed-before k u v w (with_entry e (entries k u)) (with_entry e (entries k v)) 1 o (omega arith) h (ap (with_entry e) same) (changed now))
     c.insert_at.ensures.changed
+
+pub returns-clause-needed : goal.returns-clause-needed
+returns-clause-needed g c =
+    let u = c.args.volume.now in
+    let v = c.locate.new.volume in
+    let k : ℕ = length c.args.key.now in
+    if-err-map c.insert_at.result
+    (λ (e : Refused) (needed : e ≡ Full → IsTrue v.is_sound → blocks_needed k v c.args.key.now ≡ 1) full (sound : IsTrue u.is_sound).
+    let now : IsTrue v.is_sound = rw c.in_ok-spot.ensures.read.call.sound sound in
+    let o = read-one c.in_ok-spot.ensures.read now in
+    sym (needed-same k u v c.args.key.now o.same.size o.image) ∙ needed full now)
+    c.insert_at.ensures.needed

@@ -3,10 +3,12 @@ use Rattle.hd_volume.specs.Headers.{header_of}
 use Rattle.hd_volume.specs.Volumes.{block_at}
 use Rattle.hd_volume.specs.Entries.{entries_in}
 use Rattle.hd_volume.specs.Indexes.{HasIndex, keys_ascend}
-use Rattle.hd_index.specs.declared.entries.Seen.{Seen}
-use Rattle.hd_index.specs.Places.{seen_in, place_from}
+use Rattle.hd_entries.specs.declared.block.Seen.{Seen}
+use Rattle.hd_entries.specs.Searches.{seen_in}
+use Rattle.hd_index.specs.Places.{place_from}
 use Rattle.hd_volume.proofs.CallSteps.{reads-join, read-ok, read-none}
-use Rattle.hd_index.proofs.ChainLemmas.{IsLeft, left-block, left-next, place-step, place-end, entry-block-same, seen-same, index-left}
+use Rattle.hd_entries.proofs.BlockLemmas.{entry-block-same}
+use Rattle.hd_index.proofs.ChainLemmas.{IsLeft, left-block, left-next, place-step, place-end, seen-same, index-left}
 use Rattle.hd_index.proofs.place.seek.Goals as goal
 
 pub loop-init : goal.loop-init

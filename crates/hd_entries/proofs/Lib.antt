@@ -1,0 +1,3 @@
+pub mod RoomLemmas
+pub mod BlockLemmas
+pub mod EntryLemmas
