@@ -2,3 +2,4 @@ pub mod Cuts
 pub mod Lasts
 pub mod Ascii
 pub mod WorkedSources
+mod Orders

@@ -38,6 +38,16 @@ end = codes "         DBDGEN\n         FINISH\n         END\n"
 pub sample_source : dbd_of (source_with dataset root field end) ≡ Ok sample_database
 sample_source = refl
 
+-- the second part of SIZE is not looked at, a list or not; a third part is not supported
+pub size_beside_list : dbd_of (source_with (codes "         DATASET SIZE=(128,(4,(5)))\n") root field end) ≡ Ok sample_database
+size_beside_list = refl
+
+pub size_of_three : dbd_of (source_with (codes "         DATASET SIZE=(128,(4),5)\n") root field end) ≡ Err (G3 2)
+size_of_three = refl
+
+pub size_in_brackets : dbd_of (source_with (codes "         DATASET SIZE=((128),4)\n") root field end) ≡ Err (G3 2)
+size_in_brackets = refl
+
 -- a statement that a DBD source does not have
 pub other_statement : dbd_of (source_with dataset root field (codes "         XYZ\n")) ≡ Err (G1 12)
 other_statement = refl
@@ -69,25 +79,38 @@ small_block = refl
 pub root_without_unique_key : dbd_of (source_with dataset root (codes "         FIELD NAME=(NUM,SEQ,M),BYTES=3,START=1\n") end) ≡ Err (Dbd (B6 1))
 root_without_unique_key = refl
 
--- the source of the sample program, with the first line of its PCBs
+-- the source of the sample program, with the first line of its PCBs and what the first and the last see
 abbrev seen : List ℕ
 seen =
     codes "         SENSEG NAME=COURSE,PARENT=0\n" ++ codes "         SENSEG NAME=CLASS,PARENT=COURSE\n"
     ++ codes "         SENSEG NAME=STUD,PARENT=CLASS\n" ++ codes "         SENSEG NAME=BOOK,PARENT=COURSE\n"
 
-abbrev program_with : List ℕ → List ℕ → List ℕ
-program_with first sens =
+abbrev without_students : List ℕ
+without_students =
+    codes "         SENSEG NAME=COURSE,PARENT=0\n" ++ codes "         SENSEG NAME=CLASS,PARENT=COURSE\n" ++ codes "         SENSEG NAME=BOOK,PARENT=COURSE\n"
+
+abbrev program_of : List ℕ → List ℕ → List ℕ → List ℕ → List ℕ
+program_of first sens third last =
     first ++ sens
     ++ codes "         PCB   TYPE=DB,DBDNAME=EDU,PROCOPT=A,KEYLEN=9\n" ++ seen
-    ++ codes "         PCB   TYPE=DB,NAME=EDU,PROCOPT=A,KEYLEN=9\n"
-    ++ codes "         SENSEG NAME=COURSE\n" ++ codes "         SENSEG NAME=CLASS,PARENT=COURSE\n" ++ codes "         SENSEG NAME=BOOK,PARENT=COURSE\n"
+    ++ third ++ last
     ++ codes "         PSBGEN LANG=COBOL,PSBNAME=EDUP\n         END\n"
+
+abbrev program_with : List ℕ → List ℕ → List ℕ
+program_with first sens = program_of first sens (codes "         PCB   TYPE=DB,DBDNAME=EDU,PROCOPT=A,KEYLEN=9\n") without_students
 
 abbrev first_pcb : List ℕ
 first_pcb = codes "         PCB   TYPE=DB,DBDNAME=EDU,PROCOPT=AP,KEYLEN=9\n"
 
 pub sample_program : psb_of (program_with first_pcb seen) sample_database ≡ Ok (record { made_for = type_names sample_types; pcbs = sample_pcbs })
 sample_program = refl
+
+-- NAME is DBDNAME, and a SENSEG without PARENT has none
+pub other_keywords :
+    psb_of (program_of first_pcb seen (codes "         PCB   TYPE=DB,NAME=EDU,PROCOPT=A\n")
+    (codes "         SENSEG NAME=COURSE\n" ++ codes "         SENSEG NAME=CLASS,PARENT=COURSE\n" ++ codes "         SENSEG NAME=BOOK,PARENT=COURSE\n"))
+    sample_database ≡ Ok (record { made_for = type_names sample_types; pcbs = sample_pcbs })
+other_keywords = refl
 
 -- the name of another database
 pub other_database : psb_of (program_with (codes "         PCB   TYPE=DB,DBDNAME=EDV,PROCOPT=AP\n") seen) sample_database ≡ Err (G4 1)

@@ -4,3 +4,4 @@ pub mod Shapes
 pub mod Operands
 pub mod Drafts
 pub mod Sources
+pub mod Laws

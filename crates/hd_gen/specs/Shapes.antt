@@ -1,5 +1,5 @@
 -- The value of an operand, as the code has it.
-use Rattle.hd_gen.specs.Values.{Words, one, two, three, many, Value, word, listed, doubly_listed, other}
+use Rattle.hd_gen.specs.Values.{Words, one, two, three, many, Value, word, listed, doubly_listed, beside_list, other}
 use Rattle.hd_gen.specs.declared.value.Value.{Value as ValueNow}
 use Rattle.hd_gen.specs.declared.value.Value.TheVariants as values
 use Rattle.hd_gen.specs.declared.value.Words.{Words as WordsNow}
@@ -17,4 +17,5 @@ abbrev pub value_of : ValueNow → Value
 value_of (values.Word w) = word w.now
 value_of (values.Listed ws) = listed (words_of ws)
 value_of (values.DoublyListed ws) = doubly_listed (words_of ws)
+value_of (values.BesideList w) = beside_list w.now
 value_of values.Other = other

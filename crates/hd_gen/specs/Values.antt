@@ -1,8 +1,8 @@
 -- What the value of an operand says. A value that the tables do not show is not supported (G3); in a right place a wrong
 -- name or number is ill-formed (G4).
-use Rattle.std.specs.Prelude.{ℕ, ◌-◌, List, [], ◌∷◌, ◌++◌, length, take, drop, replicate, Bool, true, false, ◌&&◌, ◌||◌, nat_lt, nat_le, ◌==◌, cond, Option, Some, None, Result, Ok, Err, slice_index, bytes_eq, codes}
+use Rattle.std.specs.Prelude.{ℕ, ◌+◌, ◌-◌, List, [], ◌∷◌, ◌++◌, length, take, drop, replicate, Bool, true, false, not, ◌&&◌, ◌||◌, nat_lt, nat_le, ◌==◌, cond, Option, Some, None, Result, Ok, Err, slice_index, bytes_eq, codes}
 use Rattle.std.specs.Option.{ok_or, option_map_or}
-use Rattle.std.specs.List.{list_any, list_all, slice_split}
+use Rattle.std.specs.List.{list_any, list_all, slice_split, position_or_len}
 use Rattle.hd_lines.specs.Digits.{is_digit, value_of}
 use Rattle.hd_lines.specs.Reading.{then}
 use Rattle.hd_dbd.specs.declared.hierarchy.FreeSpace.{FreeSpace}
@@ -23,11 +23,13 @@ pub data Words : Type 0 where
   three : List ℕ → List ℕ → List ℕ → Words
   many : Words
 
--- A value: a word; words in brackets, as (A,B); words in two brackets, as ((A,B)); or brackets in another way.
+-- A value: a word; words in brackets, as (A,B); words in two brackets, as ((A,B)); a word and a list behind it, as (A,(B,C)), of which
+-- only the word is kept; or brackets in another way.
 pub data Value : Type 0 where
   word : List ℕ → Value
   listed : Words → Value
   doubly_listed : Words → Value
+  beside_list : List ℕ → Value
   other : Value
 
 -- 40 and 41 are the brackets, 44 is the comma
@@ -53,10 +55,29 @@ words text = as_words (slice_split (λ b. b == 44) text)
 abbrev pub flat : (List ℕ → Value) → List ℕ → Value
 flat shape text = cond (has_bracket text) other (shape text)
 
+-- how many brackets stand open behind a byte
+abbrev pub depth_behind : ℕ → ℕ → ℕ
+depth_behind depth b = cond (b == 40) (depth + 1) (cond (b == 41) (depth - 1) depth)
+
+-- a bracketed list, where so many brackets stand open before: behind each byte but the last one is open, and behind the last none
+abbrev pub is_list : ℕ → List ℕ → Bool
+is_list depth [] = depth == 0
+is_list depth (b ∷ bs) = (nat_lt 0 (depth_behind depth b) || length bs == 0) && is_list (depth_behind depth b) bs
+
+-- what stands between brackets where there are brackets in it: a word and a list behind it, or another way
+abbrev pub nested : List ℕ → Value
+nested text =
+    let end : ℕ = position_or_len (λ b. b == 44) text in
+    cond (not (has_bracket (take end text)) && is_list 0 (drop (end + 1) text)) (beside_list (take end text)) other
+
+-- what stands between brackets
+abbrev pub listed_in : List ℕ → Value
+listed_in text = cond (has_bracket text) (nested text) (listed (words text))
+
 abbrev pub value_in : List ℕ → Value
 value_in text =
     option_map_or (λ inner. option_map_or (λ innermost. flat (λ t. doubly_listed (words t)) innermost) (unbracketed inner)
-    (flat (λ t. listed (words t)) inner)) (unbracketed text) (flat word text)
+    (listed_in inner)) (unbracketed text) (flat word text)
 
 -- ---- names, numbers and words
 
@@ -100,11 +121,12 @@ is_access (listed (one w)) = bytes_eq w (codes "HIDAM")
 is_access (listed (two w m)) = bytes_eq w (codes "HIDAM") && is_one_of access_methods m
 is_access value = false
 
--- SIZE=n, (n) or (n,m), of which n is the block size; m is any word, or none
+-- SIZE=n, (n) or (n,m), of which n is the block size; m is any word or list, or none
 abbrev pub block_size_in : Value → Result ℕ Wrong
 block_size_in (word n) = number_of n
 block_size_in (listed (one n)) = number_of n
 block_size_in (listed (two n m)) = number_of n
+block_size_in (beside_list n) = number_of n
 block_size_in value = Err NotSupported
 
 -- FRSPC=(fbff,fspf)
@@ -124,7 +146,7 @@ abbrev pub parent_in : Value → Result Parent Wrong
 parent_in (word w) = cond (bytes_eq w (codes "0")) (Ok (record { name = None; last_pointer = false })) (parent_of_words (one w))
 parent_in (listed ws) = parent_of_words ws
 parent_in (doubly_listed ws) = parent_of_words ws
-parent_in other = Err NotSupported
+parent_in value = Err NotSupported
 
 -- PARENT of a SENSEG: 0 for none, or a name
 abbrev pub seen_parent_in : Value → Result Parent Wrong

@@ -4,12 +4,14 @@
 mod draft;
 mod fault;
 mod given;
+mod law;
 mod operand;
 mod source;
 mod table;
 mod value;
 
 pub use fault::GenFault;
+pub use law::law_statements_stand_in_order;
 pub use source::{read_dbd, read_psb};
 
 #[cfg(test)]

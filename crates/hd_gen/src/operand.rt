@@ -65,7 +65,8 @@ pub(crate) fn block_size_in(value: Value<'_>) -> Result<u32, Wrong>
     ensures { result ≡ block_size_in (value_of value.entry) }
 {
     match value {
-        Value::Word(n) | Value::Listed(Words::One(n) | Words::Two(n, _)) => number_of(n),
+        Value::Word(n) | Value::Listed(Words::One(n) | Words::Two(n, _)) | Value::BesideList(n) =>
+            number_of(n),
         _ => Err(Wrong::NotSupported),
     }
 }
@@ -128,7 +129,7 @@ pub(crate) fn parent_in(value: Value<'_>) -> Result<Parent, Wrong>
         }),
         Value::Word(name) => named_parent(name, false),
         Value::Listed(words) | Value::DoublyListed(words) => parent_of_words(words),
-        Value::Other => Err(Wrong::NotSupported),
+        _ => Err(Wrong::NotSupported),
     }
 }
 

@@ -1,8 +1,8 @@
-ghost use Rattle.std.specs.Prelude.{◌≡◌, ◌∷◌, [], ◌==◌, ◌≤◌, drop, length, option_copied, min};
+ghost use Rattle.std.specs.Prelude.{◌≡◌, ◌∷◌, [], ◌==◌, ◌+◌, ◌≤◌, ◌<◌, ◌^◌, drop, length, option_copied, min};
 ghost use Rattle.std.specs.Option.{option_map_or};
 ghost use Rattle.std.specs.List.{slice_split, list_all, position_or_len};
 ghost use Rattle.hd_lines.specs.Digits.{is_digit, value_of};
-ghost use Rattle.hd_gen.specs.Values.{word, listed, doubly_listed, words, has_bracket, unbracketed, flat, value_in, padded, name_of, number_of};
+ghost use Rattle.hd_gen.specs.Values.{word, doubly_listed, words, has_bracket, unbracketed, flat, depth_behind, is_list, nested, listed_in, value_in, padded, name_of, number_of};
 ghost use Rattle.hd_gen.specs.Shapes.{words_of, value_of as shape_of};
 
 use hd_dbd::Name8;
@@ -23,12 +23,14 @@ pub(crate) enum Words<'a> {
     Many,
 }
 
-/// The value of an operand: a word, words in brackets or in two brackets, or brackets in another way.
+/// The value of an operand: a word, words in brackets or in two brackets, a word and a list behind it, or brackets in another way.
 #[derive(Clone, Copy)]
 pub(crate) enum Value<'a> {
     Word(&'a [u8]),
     Listed(Words<'a>),
     DoublyListed(Words<'a>),
+    /// The word of a word and a list, as A of (A,(B,C)).
+    BesideList(&'a [u8]),
     Other,
 }
 
@@ -41,7 +43,7 @@ pub(crate) fn value_in(text: &[u8]) -> Value<'_>
     };
     match unbracketed(inner) {
         Some(innermost) => flat_double(innermost),
-        None => flat_list(inner),
+        None => listed_in(inner),
     }
 }
 
@@ -54,13 +56,66 @@ fn flat_word(text: &[u8]) -> Value<'_>
     Value::Word(text)
 }
 
-fn flat_list(text: &[u8]) -> Value<'_>
-    ensures { shape_of result ≡ flat (λ t. listed (words t)) text.now }
+/// What stands between brackets.
+fn listed_in(text: &[u8]) -> Value<'_>
+    ensures { shape_of result ≡ listed_in text.now }
 {
     if has_bracket(text) {
-        return Value::Other;
+        return nested(text);
     }
     Value::Listed(words_in(text))
+}
+
+/// A word and a list behind it, or brackets in another way.
+fn nested(text: &[u8]) -> Value<'_>
+    ensures { shape_of result ≡ nested text.now }
+{
+    let end = comma_or_end(text);
+    let word = &text[..end];
+    let rest = behind_comma(text, end);
+    if has_bracket(word) || !is_list(rest) {
+        return Value::Other;
+    }
+    Value::BesideList(word)
+}
+
+/// What stands behind the comma at a place, if one stands there.
+fn behind_comma(text: &[u8], place: usize) -> &[u8]
+    requires { place ≤ length text.now }
+    ensures { result.now ≡ drop (place + 1) text.now }
+{
+    if place == text.len() {
+        return &text[place..];
+    }
+    &text[place + 1..]
+}
+
+/// Whether a text is one bracketed list: behind each byte but the last a bracket is open, and behind the last none.
+fn is_list(text: &[u8]) -> bool
+    ensures { result ≡ is_list 0 text.now }
+{
+    let mut depth: usize = 0;
+    let mut rest = text;
+    'bytes: while let [byte, behind @ ..] = rest {
+        depth = depth_behind(depth, *byte);
+        if depth == 0 && !behind.is_empty() {
+            return false;
+        }
+        rest = behind;
+    }
+    depth == 0
+}
+
+/// How many brackets stand open behind a byte.
+fn depth_behind(depth: usize, byte: u8) -> usize
+    requires { depth + 1 < 2 ^ 64 }
+    ensures { result ≡ depth_behind depth byte }
+{
+    match byte {
+        b'(' => depth + 1,
+        b')' => depth.saturating_sub(1),
+        _ => depth,
+    }
 }
 
 fn flat_double(text: &[u8]) -> Value<'_>

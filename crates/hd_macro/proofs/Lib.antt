@@ -1,3 +1,9 @@
 pub mod Columns
+pub mod ReadSpellings
+pub mod OneSpelling
+pub mod Spellings
+pub mod ReadLines
+pub mod StatementLines
 pub mod Sources
 pub mod WorkedSources
+pub mod WorkedGrammar

@@ -2,11 +2,13 @@
 #![tactic(auto)]
 
 mod card;
+mod law;
 mod line;
 mod operand;
 mod reading;
 mod source;
 mod statement;
 
+pub use law::{law_one_list_is_spelled, law_operand_text_is_spelled, law_source_is_statements};
 pub use source::{LineFault, statements};
 pub use statement::{Operand, Statement};
