@@ -13,58 +13,56 @@ use Rattle.hd_links.specs.Pointers.{PointersAreTyped, PredecessorsAreOne, TwinsL
 use Rattle.hd_image.specs.Records.{links_of, IsVolumeOf}
 use Rattle.hd_image.specs.IndexFaults.{names_a_root, IsWrongTop, IsWrongForm}
 use Rattle.hd_image.specs.Right.{IndexIsFormed}
-use Rattle.hd_image.specs.Standing.{Line, no_volume, no_version, another_database, wrong_chain, wrong_place, no_kind, deleted, points_nowhere, points_to_another, two_predecessors, no_predecessor, wrong_backward, wrong_last, out_of_order, not_reached, wrong_top, wrong_form, named_twice, unreached_block, entry_out_of_order, wrong_entry, no_entry, Stands, phase_of, number_of, ComesBefore}
+use Rattle.hd_image.specs.Standing.{Stands, phase_of, number_of, ComesBefore}
+use Rattle.hd_image.specs.declared.line.Line.{Line}
+use Rattle.hd_image.specs.declared.line.Line.TheVariants.{NoVolume, NoVersion, AnotherDatabase, WrongChain, WrongPlace, NoKind, Deleted, NamesNothing, NamesAnother, TwoPredecessors, NoPredecessor, WrongBackward, WrongLast, OutOfOrder, NotReached, WrongTop, WrongForm, NamedTwice, UnreachedBlock, EntryOutOfOrder, WrongEntry, NoEntry}
 use Rattle.hd_image.proofs.Roots.{header-code}
 use Rattle.hd_image.proofs.BlockNoFault.{none-wrong-chain, none-wrong-place}
 use Rattle.hd_image.proofs.PointerNoFault as pointer
 use Rattle.hd_image.proofs.IndexNoFault as index
-use Rattle.hd_check.specs.declared.fault.Fault.{Fault}
-use Rattle.hd_check.specs.Phases.{IsHeaderRight, AreBlocksRight, IsLeastOf}
-use Rattle.hd_check.specs.IndexPhases.{IsIndexRight, AreNamedOnce}
+use Rattle.hd_check_blocks.specs.declared.fault.Fault.{Fault}
+use Rattle.hd_check_blocks.specs.Phases.{IsHeaderRight, AreBlocksRight, IsLeastOf}
+use Rattle.hd_check_index.specs.IndexPhases.{IsIndexRight, AreNamedOnce}
 use Rattle.hd_check.specs.Joining.{NoneBefore, IsFirstFault}
-use Rattle.hd_check.proofs.HeaderFaults.{first-lines}
-use Rattle.hd_check.proofs.BlockFaults.{second-lines}
-use Rattle.hd_check.proofs.TypedRecords.{third-lines}
-use Rattle.hd_check.proofs.OneEach.{fourth-lines}
-use Rattle.hd_check.proofs.LateLines.{stands-8, stands-9, stands-10, stands-11, stands-12, stands-13}
+use Rattle.hd_check_blocks.proofs.HeaderFaults.{first-lines}
+use Rattle.hd_check_blocks.proofs.BlockFaults.{second-lines}
+use Rattle.hd_check_pointers.proofs.TypedRecords.{third-lines}
+use Rattle.hd_check_pointers.proofs.OneEach.{fourth-lines}
+use Rattle.hd_check_index.proofs.LateLines.{stands-8, stands-9, stands-10, stands-11, stands-12, stands-13}
 
 -- a line of the fifth phase
-fifth-lines : (P : Line → Type 0) → P wrong_backward → P wrong_last → (k : Line) → phase_of k ≡ 5 → P k
-fifth-lines P a b wrong_backward h = a
-fifth-lines P a b wrong_last h = b
+fifth-lines : (P : Line → Type 0) → P WrongBackward → P WrongLast → (k : Line) → phase_of k ≡ 5 → P k
+fifth-lines P a b WrongBackward h = a
+fifth-lines P a b WrongLast h = b
 fifth-lines P a b k h = absurd (omega arith)
 
 -- that of the sixth
-sixth-line : (P : Line → Type 0) → P out_of_order → (k : Line) → phase_of k ≡ 6 → P k
-sixth-line P a out_of_order h = a
+sixth-line : (P : Line → Type 0) → P OutOfOrder → (k : Line) → phase_of k ≡ 6 → P k
+sixth-line P a OutOfOrder h = a
 sixth-line P a k h = absurd (omega arith)
 
 -- that of the seventh
-seventh-line : (P : Line → Type 0) → P not_reached → (k : Line) → phase_of k ≡ 7 → P k
-seventh-line P a not_reached h = a
+seventh-line : (P : Line → Type 0) → P NotReached → (k : Line) → phase_of k ≡ 7 → P k
+seventh-line P a NotReached h = a
 seventh-line P a k h = absurd (omega arith)
 
 -- no line is of a phase before the first
 pub none-first : (d : Database) (v : VolumeState) → NoneBefore d v 1
-none-first d v no_volume a o l s = absurd (omega arith)
-none-first d v no_version a o l s = absurd (omega arith)
-none-first d v another_database a o l s = absurd (omega arith)
+none-first d v NoVolume a o l s = absurd (omega arith)
+none-first d v NoVersion a o l s = absurd (omega arith)
+none-first d v AnotherDatabase a o l s = absurd (omega arith)
 none-first d v k a o l s = absurd (omega arith)
 
 -- the least fault of a phase is the least of all where none of an earlier phase stands
 pub first-of : (d : Database) (v : VolumeState) (p : ℕ) (f : Fault) → NoneBefore d v p → IsLeastOf d v p f → IsFirstFault d v f
 first-of d v p f none h = record {
-  line = h.line;
-  least = record {
-    stands = h.stands;
-    least = λ k a o s before.
-        (let of = h.of in
-        elim (cases_lt (phase_of k) p) [
-          | inl low ↦ none k a o low s
-          | inr high ↦ h.least k a o (elim before [ inl l ↦ (let x = l in absurd (omega arith)) | inr both ↦ both.0 ∙ of ]) s before
-        ]);
-  };
-  number = h.number;
+  stands = h.stands;
+  least = λ k a o s before.
+      (let of = h.of in
+      elim (cases_lt (phase_of k) p) [
+        | inl low ↦ none k a o low s
+        | inr high ↦ h.least k a o (elim before [ inl l ↦ (let x = l in absurd (omega arith)) | inr both ↦ both.0 ∙ of ]) s before
+      ]);
 }
 
 module _ (d : Database) (v : VolumeState) where

@@ -7,9 +7,9 @@ use Rattle.hd_dbd.specs.Facts.{stored_sizes}
 use Rattle.hd_dbd.specs.declared.answer.Refused.{Refused}
 use Rattle.hd_volume.specs.Headers.{Header, HasHeader, header_of}
 use Rattle.hd_links.specs.Pointers.{AreLinked}
-use Rattle.hd_check.specs.declared.segments.Place.{Place}
-use Rattle.hd_check.specs.Places.{ArePlaces}
-use Rattle.hd_check.proofs.RecordSteps.{places-same}
+use Rattle.hd_check_blocks.specs.declared.places.Place.{Place}
+use Rattle.hd_check_blocks.specs.Places.{ArePlaces}
+use Rattle.hd_check_blocks.proofs.PlaceLemmas.{places-same}
 use Rattle.hd_dbd.specs.Types.{SegmentType}
 use Rattle.hd_volume.specs.Volumes.{VolumeState}
 use Rattle.hd_volume.specs.Calls.{IsRead}
@@ -17,8 +17,8 @@ use Rattle.hd_volume.proofs.PutLemmas.{if-some-map}
 use Rattle.hd_links.specs.Links.{Links}
 use Rattle.hd_image.specs.Records.{links_of}
 use Rattle.hd_image.proofs.OneImage.{links-same}
-use Rattle.hd_check.specs.declared.fault.Fault.{Fault}
-use Rattle.hd_check.specs.Phases.{IsLeastOf, IsHeaderRight, AreBlocksRight}
+use Rattle.hd_check_blocks.specs.declared.fault.Fault.{Fault}
+use Rattle.hd_check_blocks.specs.Phases.{IsLeastOf, IsHeaderRight, AreBlocksRight}
 use Rattle.hd_check.specs.Joining.{NoneBefore, IsFirstFault, HasRightBlocks}
 use Rattle.hd_check.proofs.EarlierFaults.{first-of, none-2, none-3, none-4, none-5, none-6, none-7, none-8}
 use Rattle.hd_check.proofs.OneStore.{IsOne, turned, stands-same, least-same, blocks-same}
@@ -54,12 +54,8 @@ found-there d u v p o e none h = if-some-map o (λ f l. first-of d u p f none (l
 -- the least fault of the one state is that of the other
 pub first-same : (d : Database) (u v : VolumeState) (f : Fault) → IsOne u v → IsFirstFault d v f → IsFirstFault d u f
 first-same d u v f e h = record {
-  line = h.line;
-  least = record {
-    stands = stands-same v u (turned e) d h.line f.address f.other h.least.stands;
-    least = λ k a o s before. h.least.least k a o (stands-same u v e d k a o s) before;
-  };
-  number = h.number;
+  stands = stands-same v u (turned e) d f.line f.address f.other h.stands;
+  least = λ k a o s before. h.least k a o (stands-same u v e d k a o s) before;
 }
 
 pub firsts-same : (d : Database) (u v : VolumeState) (o : Option Fault) → IsOne u v → IfSome o (λ f. IsFirstFault d v f) → IfSome o (λ f. IsFirstFault d u f)

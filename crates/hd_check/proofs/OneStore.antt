@@ -11,14 +11,16 @@ use Rattle.hd_image.specs.Records.{links_of}
 use Rattle.hd_image.proofs.OneImage.{links-same, volume-same}
 use Rattle.hd_image.specs.IndexFaults.{NamesBlock, names_a_root}
 use Rattle.hd_image.specs.Right.{IndexIsFormed, EntriesAreRight}
-use Rattle.hd_image.specs.Standing.{Line, no_volume, no_version, another_database, wrong_chain, wrong_place, no_kind, deleted, points_nowhere, points_to_another, two_predecessors, no_predecessor, wrong_backward, wrong_last, out_of_order, not_reached, wrong_top, wrong_form, named_twice, unreached_block, entry_out_of_order, wrong_entry, no_entry, Stands}
-use Rattle.hd_check.specs.declared.fault.Fault.{Fault}
-use Rattle.hd_check.specs.declared.tables.IndexBlock.{IndexBlock}
-use Rattle.hd_check.specs.Phases.{AreBlocksRight, IsLeastOf}
-use Rattle.hd_check.specs.IndexPhases.{AreIndexBlocks, AreNamed}
-use Rattle.hd_check.specs.declared.segments.Place.{Place}
+use Rattle.hd_image.specs.Standing.{Stands}
+use Rattle.hd_image.specs.declared.line.Line.{Line}
+use Rattle.hd_image.specs.declared.line.Line.TheVariants.{NoVolume, NoVersion, AnotherDatabase, WrongChain, WrongPlace, NoKind, Deleted, NamesNothing, NamesAnother, TwoPredecessors, NoPredecessor, WrongBackward, WrongLast, OutOfOrder, NotReached, WrongTop, WrongForm, NamedTwice, UnreachedBlock, EntryOutOfOrder, WrongEntry, NoEntry}
+use Rattle.hd_check_blocks.specs.declared.fault.Fault.{Fault}
+use Rattle.hd_check_index.specs.declared.noted_blocks.NotedBlock.{NotedBlock}
+use Rattle.hd_check_blocks.specs.Phases.{AreBlocksRight, IsLeastOf}
+use Rattle.hd_check_index.specs.IndexPhases.{AreIndexBlocks, AreNamed}
+use Rattle.hd_check_blocks.specs.declared.places.Place.{Place}
 use Rattle.hd_check.specs.Joining.{HasRightBlocks}
-use Rattle.hd_check.proofs.RecordSteps.{places-same}
+use Rattle.hd_check_blocks.proofs.PlaceLemmas.{places-same}
 
 -- Two states of a volume with one image, one block size and the same stored sizes.
 pub record IsOne (u v : VolumeState) : Type 0 where
@@ -60,22 +62,22 @@ module _ (u v : VolumeState) (e : IsOne u v) where
 
   -- what stands in the one stands in the other
   stands-like : (d : Database) (line : Line) (a o : ℕ) → Stands d u line a o → Stands d like line a o
-  stands-like d no_volume a o s = s
-  stands-like d no_version a o s = s
-  stands-like d another_database a o s = s
-  stands-like d wrong_chain a o (n, kind, none, at, other) = (n, kind-like 1 n kind, none, at, other)
-  stands-like d wrong_place a o (n, place, places, way, kind, chain, read, short, none, at, other) = (n, place, places, way, kind-like 1 n kind, chain, read, short, none, at, other)
-  stands-like d no_kind a o s = s
-  stands-like d deleted a o s = s
-  stands-like d points_nowhere a o s = s
-  stands-like d points_to_another a o s = s
-  stands-like d two_predecessors a o s = s
-  stands-like d no_predecessor a o s = s
-  stands-like d wrong_backward a o s = s
-  stands-like d wrong_last a o s = s
-  stands-like d out_of_order a o s = s
-  stands-like d not_reached a o s = s
-  stands-like d wrong_top a o (at, other, wrong) = (
+  stands-like d NoVolume a o s = s
+  stands-like d NoVersion a o s = s
+  stands-like d AnotherDatabase a o s = s
+  stands-like d WrongChain a o (n, kind, none, at, other) = (n, kind-like 1 n kind, none, at, other)
+  stands-like d WrongPlace a o (n, place, places, way, kind, chain, read, short, none, at, other) = (n, place, places, way, kind-like 1 n kind, chain, read, short, none, at, other)
+  stands-like d NoKind a o s = s
+  stands-like d Deleted a o s = s
+  stands-like d NamesNothing a o s = s
+  stands-like d NamesAnother a o s = s
+  stands-like d TwoPredecessors a o s = s
+  stands-like d NoPredecessor a o s = s
+  stands-like d WrongBackward a o s = s
+  stands-like d WrongLast a o s = s
+  stands-like d OutOfOrder a o s = s
+  stands-like d NotReached a o s = s
+  stands-like d WrongTop a o (at, other, wrong) = (
     at,
     other,
     elim wrong [
@@ -85,7 +87,7 @@ module _ (u v : VolumeState) (e : IsOne u v) where
       | inr (inr (inr c)) ↦ inr (inr (inr (c.0, λ l. c.1 (kind-back 2 (header_of u.image).top l.0, l.1))))
     ],
   )
-  stands-like d wrong_form a o (n, kind, at, other, wrong) = (
+  stands-like d WrongForm a o (n, kind, at, other, wrong) = (
     n,
     kind-like 2 n kind,
     at,
@@ -96,11 +98,11 @@ module _ (u v : VolumeState) (e : IsOne u v) where
       | inr (inr c) ↦ inr (inr (c.0, λ l. c.1 (kind-back 2 (number_at 4 (block_at u n) 8) l.0, l.1)))
     ],
   )
-  stands-like d named_twice a o (n, g, h, kind, first, second, apart, at, other) = (n, g, h, kind-like 2 n kind, names-like g n first, names-like h n second, apart, at, other)
-  stands-like d unreached_block a o (n, kind, none, at, other) = (n, kind-like 2 n kind, none, at, other)
-  stands-like d entry_out_of_order a o s = s
-  stands-like d wrong_entry a o s = s
-  stands-like d no_entry a o s = s
+  stands-like d NamedTwice a o (n, g, h, kind, first, second, apart, at, other) = (n, g, h, kind-like 2 n kind, names-like g n first, names-like h n second, apart, at, other)
+  stands-like d UnreachedBlock a o (n, kind, none, at, other) = (n, kind-like 2 n kind, none, at, other)
+  stands-like d EntryOutOfOrder a o s = s
+  stands-like d WrongEntry a o s = s
+  stands-like d NoEntry a o s = s
 
   pub stands-same : (d : Database) (line : Line) (a o : ℕ) → Stands d u line a o → Stands d v line a o
   stands-same d line a o s = subst (λ (w : VolumeState). Stands d w line a o) like-is (stands-like d line a o s)
@@ -125,7 +127,7 @@ module _ (u v : VolumeState) (e : IsOne u v) where
   })
 
   -- and the table of its blocks
-  pub table-same : (bs : List IndexBlock) → AreIndexBlocks u bs → AreIndexBlocks v bs
+  pub table-same : (bs : List NotedBlock) → AreIndexBlocks u bs → AreIndexBlocks v bs
   table-same bs h = subst (λ (w : VolumeState). AreIndexBlocks w bs) like-is (record {
     ascend = h.ascend;
     there = λ b i. (let t = h.there b i in (kind-like 2 b.number t.0, t.1));
@@ -167,9 +169,7 @@ module _ (u v : VolumeState) (e : IsOne u v) where
 -- the least fault of a phase is one
 pub least-same : (u v : VolumeState) (d : Database) (p : ℕ) (f : Fault) → IsOne u v → IsLeastOf d u p f → IsLeastOf d v p f
 least-same u v d p f e h = record {
-  line = h.line;
   of = h.of;
-  number = h.number;
-  stands = stands-same u v e d h.line f.address f.other h.stands;
+  stands = stands-same u v e d f.line f.address f.other h.stands;
   least = λ k a o is s before. h.least k a o is (stands-same v u (turned e) d k a o s) before;
 }

@@ -33,10 +33,10 @@ use Rattle.hd_image.proofs.Sorted.{IsIn}
 use Rattle.hd_image.proofs.RootEntries.{names-root, each-root}
 use Rattle.hd_image.proofs.RightHolds.{right-holds}
 use Rattle.hd_image.proofs.NoFault.{no-fault}
-use Rattle.hd_check.specs.declared.fault.Fault.{Fault}
-use Rattle.hd_check.specs.declared.segments.Place.{Place}
+use Rattle.hd_check_blocks.specs.declared.fault.Fault.{Fault}
+use Rattle.hd_check_blocks.specs.declared.places.Place.{Place}
 use Rattle.hd_check.specs.declared.checking.Passed.{Passed}
-use Rattle.hd_check.specs.Places.{IsPlaceOf, AreFrom, PlacesAscend, ArePlaces}
+use Rattle.hd_check_blocks.specs.Places.{IsPlaceOf, AreFrom, PlacesAscend, ArePlaces}
 use Rattle.hd_check.specs.Checks.{IsPassed, IsFaulty}
 use Rattle.hd_check.specs.Joining.{IsFirstFault, IsFoundRight, roots_among}
 use Rattle.hd_check.proofs.Tallies.{AreDifferent, no-more, among-at, at-among, different-at}
@@ -278,8 +278,6 @@ module _ (d : Database) (v : VolumeState) (ps : List Place) (found : IsFoundRigh
 -- a volume in which a fault stands holds no forest
 pub fails : (d : Database) (v : VolumeState) (f : Fault) → IsTrue (well_formed d.block_size d.frspc d.types) → IsFirstFault d v f → IsFaulty d v f
 fails d v f fit h = record {
-  line = h.line;
-  least = h.least;
-  number = h.number;
-  none = λ g held. no-fault d v g h.line f.address f.other fit held h.least.stands;
+  least = h;
+  none = λ g held. no-fault d v g f.line f.address f.other fit held h.stands;
 }

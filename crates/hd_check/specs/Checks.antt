@@ -11,8 +11,8 @@ use Rattle.hd_links.specs.Placed.{Placed, forest_of}
 use Rattle.hd_links.specs.Steps.{rows_of}
 use Rattle.hd_links.specs.LastRows.{roots_of}
 use Rattle.hd_image.specs.Holding.{HoldsPlaced, HoldsForest}
-use Rattle.hd_image.specs.Standing.{Line, IsLeastFault, number_of}
-use Rattle.hd_check.specs.declared.fault.Fault.{Fault}
+use Rattle.hd_image.specs.Standing.{IsLeastFault}
+use Rattle.hd_check_blocks.specs.declared.fault.Fault.{Fault}
 use Rattle.hd_check.specs.declared.checking.Passed.{Passed}
 use Rattle.hd_check.specs.declared.checking.CheckFault.{CheckFault}
 use Rattle.hd_check.specs.declared.checking.CheckFault.TheVariants as check
@@ -28,9 +28,7 @@ pub record IsPassed (d : Database) (v : VolumeState) (passed : Passed) : Type 0 
 
 -- The fault is the least that stands in the volume, and the volume holds no forest.
 pub record IsFaulty (d : Database) (v : VolumeState) (fault : Fault) : Type 0 where
-  pub line : Line
-  pub least : IsLeastFault d v line fault.address fault.other
-  pub number : fault.number ≡ number_of line fault.address
+  pub least : IsLeastFault d v fault.line fault.address fault.other
   pub none : (g : Forest Placed) → HoldsPlaced d v g → ⊥
 
 -- What a fault of a check says of the volume; want of memory and a failed access say nothing.

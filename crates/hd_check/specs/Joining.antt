@@ -6,20 +6,19 @@ use Rattle.hd_volume.specs.Indexes.{root_key_length}
 use Rattle.hd_links.specs.Pointers.{AreLinked}
 use Rattle.hd_image.specs.Records.{links_of, IsVolumeOf}
 use Rattle.hd_image.specs.Right.{BlocksAreRight, IndexIsFormed, EntriesAreRight}
-use Rattle.hd_image.specs.Standing.{Line, IsLeastFault, Stands, phase_of, number_of}
-use Rattle.hd_check.specs.declared.fault.Fault.{Fault}
-use Rattle.hd_check.specs.declared.segments.Place.{Place}
-use Rattle.hd_check.specs.Places.{ArePlaces}
+use Rattle.hd_image.specs.Standing.{IsLeastFault, Stands, phase_of}
+use Rattle.hd_image.specs.declared.line.Line.{Line}
+use Rattle.hd_check_blocks.specs.declared.fault.Fault.{Fault}
+use Rattle.hd_check_blocks.specs.declared.places.Place.{Place}
+use Rattle.hd_check_blocks.specs.Places.{ArePlaces}
 
 -- no fault of a phase before this one stands
 abbrev pub NoneBefore : Database → VolumeState → ℕ → Type 0
 NoneBefore d v phase = (line : Line) (a o : ℕ) → phase_of line < phase → Stands d v line a o → ⊥
 
--- The fault is the least that stands in the volume.
-pub record IsFirstFault (d : Database) (v : VolumeState) (fault : Fault) : Type 0 where
-  pub line : Line
-  pub least : IsLeastFault d v line fault.address fault.other
-  pub number : fault.number ≡ number_of line fault.address
+-- the fault is the least that stands in the volume
+abbrev pub IsFirstFault : Database → VolumeState → Fault → Type 0
+IsFirstFault d v fault = IsLeastFault d v fault.line fault.address fault.other
 
 -- The volume is one of the database, its header and its blocks are right, and these are the places of its segments.
 pub record HasRightBlocks (d : Database) (v : VolumeState) (places : List Place) : Type 0 where

@@ -1,14 +1,2 @@
-pub mod Phases
-pub mod Reading
-pub mod Places
-pub mod Judging
-pub mod Lending
-pub mod Tables
-pub mod Namings
-pub mod IndexPhases
-pub mod LeftKeys
-pub mod Matched
-pub mod Keys
-pub mod Twins
 pub mod Joining
 pub mod Checks

@@ -6,9 +6,8 @@ ghost use Rattle.hd_volume.specs.Calls.{IsRead};
 ghost use Rattle.hd_check.specs.Joining.{roots_among};
 ghost use Rattle.hd_check.specs.Checks.{IsPassed, IsFaultOf, as_call};
 
-use crate::fault::Fault;
 use crate::phases::first_fault;
-use crate::segments::Place;
+use hd_check_blocks::{Fault, Place};
 use hd_dbd::{Dbd, Refused};
 use hd_volume::{BlockStore, Volume};
 use std::alloc::Global;

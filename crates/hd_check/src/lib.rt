@@ -1,34 +1,14 @@
 //! The pointer checker: a volume holds a forest of its database, or it has a least fault.
+//!
+//! The phases stand in the crates below; here they are joined.
 #![tactic(auto)]
 
-mod block;
-mod chain;
-mod chains;
 mod checking;
-mod element;
-mod entries;
-mod entry;
-mod fault;
-mod header;
-mod index;
-mod keys;
-mod lookup;
-mod names;
-mod order;
 mod phases;
-mod place;
-mod pointers;
-mod position;
-mod predecessors;
-mod reached;
-mod records;
-mod roots;
-mod segments;
-mod tables;
-mod twins;
 
 pub use checking::{CheckFault, Passed, check};
-pub use fault::Fault;
+pub use hd_check_blocks::Fault;
+pub use hd_image::Line;
 
 #[cfg(test)]
 mod tests;

@@ -1,5 +1,5 @@
-ghost use Rattle.std.specs.Prelude.{◌≡◌, ◌⊎◌, [], IsTrue, IfOk, IfErr, IfNone, IfSome};
-ghost use Rattle.std.specs.List.{list_all};
+ghost use Rattle.std.specs.Prelude.{◌≡◌, [], IsTrue, IfOk, IfNone};
+ghost use Rattle.hd_dbd.specs.Refusals.{OnlyDeviceOrMemory};
 ghost use Rattle.hd_dbd.specs.Facts.{stored_sizes};
 ghost use Rattle.hd_dbd.specs.DatabaseRules.{well_formed};
 ghost use Rattle.hd_volume.specs.Calls.{IsRead};
@@ -8,29 +8,21 @@ ghost use Rattle.hd_volume.specs.Indexes.{root_key_length};
 ghost use Rattle.hd_links.specs.Pointers.{AreLinked};
 ghost use Rattle.hd_image.specs.Records.{links_of};
 ghost use Rattle.hd_image.specs.Right.{IndexIsFormed, EntriesAreRight};
-ghost use Rattle.hd_check.specs.Places.{ArePlaces};
-ghost use Rattle.hd_check.specs.Tables.{AreForwards, ArePredecessors};
-ghost use Rattle.hd_check.specs.Matched.{IsMatched};
-ghost use Rattle.hd_check.specs.IndexPhases.{AreIndexBlocks};
+ghost use Rattle.hd_check_pointers.specs.Tables.{AreForwards, ArePredecessors};
+ghost use Rattle.hd_check_pointers.specs.Matched.{IsMatched};
+ghost use Rattle.hd_check_index.specs.IndexPhases.{AreIndexBlocks};
 ghost use Rattle.hd_check.specs.Joining.{NoneBefore, IsFirstFault, HasRightBlocks, IsFoundRight};
+ghost use Rattle.hd_check_blocks.specs.Finding.{WhereNone, WhereSome};
 
-use crate::block::blocks_fault;
-use crate::chain::chain_fault;
-use crate::chains::owners_of;
-use crate::entries::entries_fault;
-use crate::fault::Fault;
-use crate::header::header_fault;
-use crate::index::index_fault;
-use crate::keys::keys_fault;
-use crate::names::names_fault;
-use crate::order::order_fault;
-use crate::predecessors::predecessors_fault;
-use crate::reached::reached_fault;
-use crate::records::records_fault;
-use crate::roots::unnamed_root_fault;
-use crate::segments::Place;
-use crate::tables::{IndexBlock, Naming};
-use crate::twins::twins_fault;
+use hd_check_blocks::{Fault, Place, blocks_fault, header_fault};
+use hd_check_index::{
+    NotedBlock, block_forms_fault, entry_order_fault, twice_named_fault, unnamed_root_fault,
+    unreached_block_fault, wrong_entry_fault,
+};
+use hd_check_pointers::{
+    Naming, owners_of, predecessors_fault, reached_fault, records_fault, twin_keys_fault,
+    twins_fault,
+};
 use hd_dbd::{Dbd, Refused};
 use hd_volume::{BlockStore, Volume};
 use std::alloc::Global;
@@ -46,8 +38,8 @@ fn image_fault<S: BlockStore>(
     requires size { (volume.old.size ≡ dbd.now.block_size) × (volume.old.sizes ≡ stored_sizes dbd.now.types) }
     ensures read { IsRead volume.old result volume.new }
     ensures none { IfOk result (λ o. IsTrue volume.old.is_sound → IsTrue (well_formed dbd.now.block_size dbd.now.frspc dbd.now.types) → IfNone o (HasRightBlocks dbd.now volume.old places.new.items)) }
-    ensures some { IfOk result (λ o. IsTrue volume.old.is_sound → IfSome o (λ f. IsFirstFault dbd.now volume.old f)) }
-    ensures refusal { IfErr result (λ e. (e ≡ Refused.Device) ⊎ (e ≡ Refused.Memory)) }
+    ensures some { WhereSome volume.old result (λ f. IsFirstFault dbd.now volume.old f) }
+    ensures refusal { OnlyDeviceOrMemory result }
 {
     let found = header_fault(volume, dbd)?;
     if found.is_some() {
@@ -57,7 +49,7 @@ fn image_fault<S: BlockStore>(
 }
 
 /// The least fault of the pointers behind that of predecessors.
-fn chains_fault<S: BlockStore>(
+fn twin_chains_fault<S: BlockStore>(
     alloc: Global,
     places: &[Place],
     namings: &[Naming],
@@ -70,16 +62,16 @@ fn chains_fault<S: BlockStore>(
     requires forwards { IsTrue volume.old.is_sound → AreForwards (links_of dbd.now.types volume.old) places.now forwards.now }
     requires before { IsTrue volume.old.is_sound → NoneBefore dbd.now volume.old 5 }
     ensures read { IsRead volume.old result volume.new }
-    ensures none { IfOk result (λ o. IsTrue volume.old.is_sound → IfNone o (AreLinked dbd.now.types (links_of dbd.now.types volume.old))) }
-    ensures some { IfOk result (λ o. IsTrue volume.old.is_sound → IfSome o (λ f. IsFirstFault dbd.now volume.old f)) }
-    ensures refusal { IfErr result (λ e. (e ≡ Refused.Device) ⊎ (e ≡ Refused.Memory)) }
+    ensures none { WhereNone volume.old result (AreLinked dbd.now.types (links_of dbd.now.types volume.old)) }
+    ensures some { WhereSome volume.old result (λ f. IsFirstFault dbd.now volume.old f) }
+    ensures refusal { OnlyDeviceOrMemory result }
 {
     let owners = owners_of(alloc, places, namings, forwards)?;
     let found = twins_fault(places, namings, &owners, forwards, volume, dbd)?;
     if found.is_some() {
         return Ok(found);
     }
-    let found = keys_fault(places, namings, volume, dbd)?;
+    let found = twin_keys_fault(places, namings, volume, dbd)?;
     if found.is_some() {
         return Ok(found);
     }
@@ -95,9 +87,9 @@ fn pointers_fault<S: BlockStore>(
 ) -> Result<Option<Fault>, Refused>
     requires right { IsTrue volume.old.is_sound → HasRightBlocks dbd.now volume.old places.now }
     ensures read { IsRead volume.old result volume.new }
-    ensures none { IfOk result (λ o. IsTrue volume.old.is_sound → IfNone o (AreLinked dbd.now.types (links_of dbd.now.types volume.old))) }
-    ensures some { IfOk result (λ o. IsTrue volume.old.is_sound → IfSome o (λ f. IsFirstFault dbd.now volume.old f)) }
-    ensures refusal { IfErr result (λ e. (e ≡ Refused.Device) ⊎ (e ≡ Refused.Memory)) }
+    ensures none { WhereNone volume.old result (AreLinked dbd.now.types (links_of dbd.now.types volume.old)) }
+    ensures some { WhereSome volume.old result (λ f. IsFirstFault dbd.now volume.old f) }
+    ensures refusal { OnlyDeviceOrMemory result }
 {
     let mut forwards = Vec::new(alloc);
     let mut namings = Vec::new(alloc);
@@ -109,14 +101,14 @@ fn pointers_fault<S: BlockStore>(
     if found.is_some() {
         return Ok(found);
     }
-    chains_fault(alloc, places, &namings, &forwards, volume, dbd)
+    twin_chains_fault(alloc, places, &namings, &forwards, volume, dbd)
 }
 
 /// The least fault of the entries of an index that is formed.
-fn names_roots_fault<S: BlockStore>(
+fn entries_fault<S: BlockStore>(
     alloc: Global,
     places: &[Place],
-    blocks: &[IndexBlock],
+    blocks: &[NotedBlock],
     chain: &[u32],
     volume: &mut Volume<S>,
     dbd: &Dbd,
@@ -127,16 +119,16 @@ fn names_roots_fault<S: BlockStore>(
     requires chain { IsTrue volume.old.is_sound → chain.now ≡ entry_blocks volume.old }
     requires before { IsTrue volume.old.is_sound → NoneBefore dbd.now volume.old 11 }
     ensures read { IsRead volume.old result volume.new }
-    ensures none { IfOk result (λ o. IsTrue volume.old.is_sound → IfNone o (EntriesAreRight dbd.now volume.old)) }
-    ensures some { IfOk result (λ o. IsTrue volume.old.is_sound → IfSome o (λ f. IsFirstFault dbd.now volume.old f)) }
-    ensures refusal { IfErr result (λ e. (e ≡ Refused.Device) ⊎ (e ≡ Refused.Memory)) }
+    ensures none { WhereNone volume.old result (EntriesAreRight dbd.now volume.old) }
+    ensures some { WhereSome volume.old result (λ f. IsFirstFault dbd.now volume.old f) }
+    ensures refusal { OnlyDeviceOrMemory result }
 {
-    let found = order_fault(chain, volume, dbd)?;
+    let found = entry_order_fault(chain, volume, dbd)?;
     if found.is_some() {
         return Ok(found);
     }
     let mut named = Vec::new(alloc);
-    let found = entries_fault(&mut named, blocks, places, volume, dbd)?;
+    let found = wrong_entry_fault(&mut named, blocks, places, volume, dbd)?;
     if found.is_some() {
         return Ok(found);
     }
@@ -144,7 +136,7 @@ fn names_roots_fault<S: BlockStore>(
 }
 
 /// The least fault of the index.
-fn roots_fault<S: BlockStore>(
+fn index_fault<S: BlockStore>(
     alloc: Global,
     places: &[Place],
     volume: &mut Volume<S>,
@@ -153,27 +145,27 @@ fn roots_fault<S: BlockStore>(
     requires right { IsTrue volume.old.is_sound → HasRightBlocks dbd.now volume.old places.now }
     requires before { IsTrue volume.old.is_sound → NoneBefore dbd.now volume.old 8 }
     ensures read { IsRead volume.old result volume.new }
-    ensures none { IfOk result (λ o. IsTrue volume.old.is_sound → IfNone o (IndexIsFormed (root_key_length dbd.now.types) volume.old × EntriesAreRight dbd.now volume.old)) }
-    ensures some { IfOk result (λ o. IsTrue volume.old.is_sound → IfSome o (λ f. IsFirstFault dbd.now volume.old f)) }
-    ensures refusal { IfErr result (λ e. (e ≡ Refused.Device) ⊎ (e ≡ Refused.Memory)) }
+    ensures none { WhereNone volume.old result (IndexIsFormed (root_key_length dbd.now.types) volume.old × EntriesAreRight dbd.now volume.old) }
+    ensures some { WhereSome volume.old result (λ f. IsFirstFault dbd.now volume.old f) }
+    ensures refusal { OnlyDeviceOrMemory result }
 {
     let mut blocks = Vec::new(alloc);
-    let found = index_fault(alloc, &mut blocks, volume, dbd)?;
+    let found = block_forms_fault(alloc, &mut blocks, volume, dbd)?;
     if found.is_some() {
         return Ok(found);
     }
     let top = volume.top();
     let size = volume.block_size() as u32;
-    let found = names_fault(alloc, &blocks, top, size)?;
+    let found = twice_named_fault(alloc, &blocks, top, size)?;
     if found.is_some() {
         return Ok(found);
     }
     let mut chain = Vec::new(alloc);
-    let found = chain_fault(alloc, &mut chain, &blocks, top, size)?;
+    let found = unreached_block_fault(alloc, &mut chain, &blocks, top, size)?;
     if found.is_some() {
         return Ok(found);
     }
-    names_roots_fault(alloc, places, &blocks, &chain, volume, dbd)
+    entries_fault(alloc, places, &blocks, &chain, volume, dbd)
 }
 
 /// The least fault of a volume; where there is none, its segments are noted.
@@ -186,10 +178,10 @@ pub fn first_fault<S: BlockStore>(
     requires empty { places.old.items ≡ [] }
     requires size { (volume.old.size ≡ dbd.now.block_size) × (volume.old.sizes ≡ stored_sizes dbd.now.types) }
     ensures read { IsRead volume.old result volume.new }
-    ensures none { IfOk result (λ o. IsTrue volume.old.is_sound → IfNone o (IsFoundRight dbd.now volume.old places.new.items)) }
-    ensures some { IfOk result (λ o. IsTrue volume.old.is_sound → IfSome o (λ f. IsFirstFault dbd.now volume.old f)) }
+    ensures none { WhereNone volume.old result (IsFoundRight dbd.now volume.old places.new.items) }
+    ensures some { WhereSome volume.old result (λ f. IsFirstFault dbd.now volume.old f) }
     ensures fit { IsTrue (well_formed dbd.now.block_size dbd.now.frspc dbd.now.types) }
-    ensures refusal { IfErr result (λ e. (e ≡ Refused.Device) ⊎ (e ≡ Refused.Memory)) }
+    ensures refusal { OnlyDeviceOrMemory result }
 {
     let _types = dbd.types();
     let found = image_fault(alloc, places, volume, dbd)?;
@@ -200,5 +192,5 @@ pub fn first_fault<S: BlockStore>(
     if found.is_some() {
         return Ok(found);
     }
-    roots_fault(alloc, places, volume, dbd)
+    index_fault(alloc, places, volume, dbd)
 }

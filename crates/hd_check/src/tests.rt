@@ -40,9 +40,9 @@ fn edited(alloc: Global, dbd: &Dbd, edits: &[(usize, u8)]) -> Option<Result<Pass
 }
 
 /// A fault of a check.
-fn fault(number: u8, address: u32, other: u32) -> Option<Result<Passed, CheckFault>> {
+fn fault(line: Line, address: u32, other: u32) -> Option<Result<Passed, CheckFault>> {
     Some(Err(CheckFault::Fault(Fault {
-        number,
+        line,
         address,
         other,
     })))
@@ -69,32 +69,77 @@ fn passes_the_sample(rt: HostRuntime) -> Result<(), Fail> {
 fn names_each_fault_by_its_edit(rt: HostRuntime) -> Result<(), Fail> {
     let alloc = rt.alloc();
     let dbd = database(alloc).expect(&rt, "a database");
-    assert_eq!(rt; edited(alloc, &dbd, &[(9, 9)]), fault(2, 0, 9));
-    assert_eq!(rt; edited(alloc, &dbd, &[(20, 0x46)]), fault(3, 0, 0));
-    assert_eq!(rt; edited(alloc, &dbd, &[(327, 1)]), fault(4, 256, 0));
-    assert_eq!(rt; edited(alloc, &dbd, &[(264, 5)]), fault(5, 264, 0));
-    assert_eq!(rt; edited(alloc, &dbd, &[(177, 1)]), fault(6, 176, 1));
-    assert_eq!(rt; edited(alloc, &dbd, &[(157, 9)]), fault(7, 136, 265));
-    assert_eq!(rt; edited(alloc, &dbd, &[(157, 0x18)]), fault(8, 136, 280));
+    assert_eq!(rt;
+        edited(alloc, &dbd, &[(9, 9)]),
+        fault(Line::NoVersion, 0, 9)
+    );
+    assert_eq!(rt;
+        edited(alloc, &dbd, &[(20, 0x46)]),
+        fault(Line::AnotherDatabase, 0, 0)
+    );
+    assert_eq!(rt;
+        edited(alloc, &dbd, &[(327, 1)]),
+        fault(Line::WrongChain, 256, 0)
+    );
+    assert_eq!(rt;
+        edited(alloc, &dbd, &[(264, 5)]),
+        fault(Line::WrongPlace, 264, 0)
+    );
+    assert_eq!(rt;
+        edited(alloc, &dbd, &[(177, 1)]),
+        fault(Line::Deleted, 176, 1)
+    );
+    assert_eq!(rt;
+        edited(alloc, &dbd, &[(157, 9)]),
+        fault(Line::NamesNothing, 136, 265)
+    );
+    assert_eq!(rt;
+        edited(alloc, &dbd, &[(157, 0x18)]),
+        fault(Line::NamesAnother, 136, 280)
+    );
     assert_eq!(rt;
         edited(alloc, &dbd, &[(293, 0xe8), (297, 0xe8)]),
-        fault(9, 232, 280)
+        fault(Line::TwoPredecessors, 232, 280)
     );
     assert_eq!(rt;
         edited(alloc, &dbd, &[(156, 0), (157, 0), (160, 0), (161, 0)]),
-        fault(10, 264, 0)
+        fault(Line::NoPredecessor, 264, 0)
     );
-    assert_eq!(rt; edited(alloc, &dbd, &[(241, 0)]), fault(11, 232, 0));
-    assert_eq!(rt; edited(alloc, &dbd, &[(153, 0xb0)]), fault(12, 136, 176));
-    assert_eq!(rt; edited(alloc, &dbd, &[(247, 0x31)]), fault(13, 232, 176));
-    assert_eq!(rt; edited(alloc, &dbd, &[(387, 1)]), fault(15, 0, 3));
-    assert_eq!(rt; edited(alloc, &dbd, &[(403, 0x30)]), fault(16, 384, 280));
-    assert_eq!(rt; edited(alloc, &dbd, &[(398, 0x32)]), fault(17, 384, 136));
-    assert_eq!(rt; edited(alloc, &dbd, &[(389, 1)]), fault(18, 280, 0));
-    assert_eq!(rt; edited(alloc, &dbd, &[(258, 7)]), fault(19, 256, 0));
+    assert_eq!(rt;
+        edited(alloc, &dbd, &[(241, 0)]),
+        fault(Line::WrongBackward, 232, 0)
+    );
+    assert_eq!(rt;
+        edited(alloc, &dbd, &[(153, 0xb0)]),
+        fault(Line::WrongLast, 136, 176)
+    );
+    assert_eq!(rt;
+        edited(alloc, &dbd, &[(247, 0x31)]),
+        fault(Line::OutOfOrder, 232, 176)
+    );
+    assert_eq!(rt;
+        edited(alloc, &dbd, &[(387, 1)]),
+        fault(Line::WrongTop, 0, 3)
+    );
+    assert_eq!(rt;
+        edited(alloc, &dbd, &[(403, 0x30)]),
+        fault(Line::EntryOutOfOrder, 384, 280)
+    );
+    assert_eq!(rt;
+        edited(alloc, &dbd, &[(398, 0x32)]),
+        fault(Line::WrongEntry, 384, 136)
+    );
+    assert_eq!(rt;
+        edited(alloc, &dbd, &[(389, 1)]),
+        fault(Line::NoEntry, 280, 0)
+    );
+    assert_eq!(rt;
+        edited(alloc, &dbd, &[(258, 7)]),
+        fault(Line::NoKind, 256, 0)
+    );
     assert_eq!(rt;
         edited(alloc, &dbd, &[(34, 0), (35, 0x88)]),
-        fault(20, 0, 136)
+        fault(Line::WrongLast, 0, 136)
     );
     Ok(())
 }
@@ -103,19 +148,34 @@ fn names_each_fault_by_its_edit(rt: HostRuntime) -> Result<(), Fail> {
 fn names_the_least_of_several_faults(rt: HostRuntime) -> Result<(), Fail> {
     let alloc = rt.alloc();
     let dbd = database(alloc).expect(&rt, "a database");
-    assert_eq!(rt; edited(alloc, &dbd, &[(19, 3)]), fault(1, 0, 0));
-    assert_eq!(rt; edited(alloc, &dbd, &[(257, 0x80)]), fault(4, 256, 0));
-    assert_eq!(rt; edited(alloc, &dbd, &[(323, 0x48)]), fault(4, 256, 0));
-    assert_eq!(rt; edited(alloc, &dbd, &[(323, 0x38)]), fault(5, 376, 0));
+    assert_eq!(rt;
+        edited(alloc, &dbd, &[(19, 3)]),
+        fault(Line::NoVolume, 0, 0)
+    );
+    assert_eq!(rt;
+        edited(alloc, &dbd, &[(257, 0x80)]),
+        fault(Line::WrongChain, 256, 0)
+    );
+    assert_eq!(rt;
+        edited(alloc, &dbd, &[(323, 0x48)]),
+        fault(Line::WrongChain, 256, 0)
+    );
+    assert_eq!(rt;
+        edited(alloc, &dbd, &[(323, 0x38)]),
+        fault(Line::WrongPlace, 376, 0)
+    );
     assert_eq!(rt;
         edited(alloc, &dbd, &[(177, 1), (258, 7)]),
-        fault(19, 256, 0)
+        fault(Line::NoKind, 256, 0)
     );
     assert_eq!(rt;
         edited(alloc, &dbd, &[(157, 9), (177, 1)]),
-        fault(7, 136, 265)
+        fault(Line::NamesNothing, 136, 265)
     );
-    assert_eq!(rt; edited(alloc, &dbd, &[(389, 0)]), fault(18, 136, 0));
+    assert_eq!(rt;
+        edited(alloc, &dbd, &[(389, 0)]),
+        fault(Line::NoEntry, 136, 0)
+    );
     Ok(())
 }
 
@@ -133,13 +193,22 @@ fn ring() -> [u8; 512] {
 fn finds_rings_and_segments_out_of_place(rt: HostRuntime) -> Result<(), Fail> {
     let alloc = rt.alloc();
     let dbd = database(alloc).expect(&rt, "a database");
-    assert_eq!(rt; judged(alloc, &dbd, &ring()), fault(14, 320, 0));
+    assert_eq!(rt;
+        judged(alloc, &dbd, &ring()),
+        fault(Line::NotReached, 320, 0)
+    );
     let mut alone = image();
     alone[257] = 0x50;
     put(&mut alone, 320, b"\x04\0\0\0\x01\x40\0\0\x01\x40ONE  ");
     put(&mut alone, 336, b"\0\0\0\x30");
-    assert_eq!(rt; judged(alloc, &dbd, &alone), fault(14, 320, 0));
-    assert_eq!(rt; edited(alloc, &dbd, &[(245, 0xd8)]), fault(9, 216, 232));
+    assert_eq!(rt;
+        judged(alloc, &dbd, &alone),
+        fault(Line::NotReached, 320, 0)
+    );
+    assert_eq!(rt;
+        edited(alloc, &dbd, &[(245, 0xd8)]),
+        fault(Line::TwoPredecessors, 216, 232)
+    );
     assert_eq!(rt; edited(alloc, &dbd, &[(245, 0xd8), (205, 0)]), passes());
     Ok(())
 }
@@ -150,11 +219,14 @@ fn cuts_are_no_volume(rt: HostRuntime) -> Result<(), Fail> {
     let dbd = database(alloc).expect(&rt, "a database");
     let whole = image();
     for length in 0..512 {
-        assert_eq!(rt; judged(alloc, &dbd, &whole[..length]), fault(1, 0, 0));
+        assert_eq!(rt;
+            judged(alloc, &dbd, &whole[..length]),
+            fault(Line::NoVolume, 0, 0)
+        );
     }
     let mut longer = [0; 513];
     longer[..512].copy_from_slice(&whole);
-    assert_eq!(rt; judged(alloc, &dbd, &longer), fault(1, 0, 0));
+    assert_eq!(rt; judged(alloc, &dbd, &longer), fault(Line::NoVolume, 0, 0));
     Ok(())
 }
 
@@ -162,20 +234,32 @@ fn cuts_are_no_volume(rt: HostRuntime) -> Result<(), Fail> {
 fn finds_what_names_itself_or_nothing(rt: HostRuntime) -> Result<(), Fail> {
     let alloc = rt.alloc();
     let dbd = database(alloc).expect(&rt, "a database");
-    assert_eq!(rt; edited(alloc, &dbd, &[(321, 0x40)]), fault(4, 256, 0));
-    assert_eq!(rt; edited(alloc, &dbd, &[(395, 3)]), fault(15, 384, 0));
+    assert_eq!(rt;
+        edited(alloc, &dbd, &[(321, 0x40)]),
+        fault(Line::WrongChain, 256, 0)
+    );
+    assert_eq!(rt;
+        edited(alloc, &dbd, &[(395, 3)]),
+        fault(Line::NamedTwice, 384, 0)
+    );
     assert_eq!(rt;
         edited(alloc, &dbd, &[(306, 0x31), (308, 0x31)]),
-        fault(13, 280, 136)
+        fault(Line::OutOfOrder, 280, 136)
     );
     assert_eq!(rt;
         edited(alloc, &dbd, &[(140, 4), (141, 0)]),
-        fault(7, 136, 1024)
+        fault(Line::NamesNothing, 136, 1024)
     );
-    assert_eq!(rt; edited(alloc, &dbd, &[(30, 4), (31, 0)]), fault(7, 0, 1024));
+    assert_eq!(rt;
+        edited(alloc, &dbd, &[(30, 4), (31, 0)]),
+        fault(Line::NamesNothing, 0, 1024)
+    );
     let mut beyond = image();
     put(&mut beyond, 138, &[0xff; 4]);
-    assert_eq!(rt; judged(alloc, &dbd, &beyond), fault(7, 136, u32::MAX));
+    assert_eq!(rt;
+        judged(alloc, &dbd, &beyond),
+        fault(Line::NamesNothing, 136, u32::MAX)
+    );
     Ok(())
 }
 
@@ -204,16 +288,25 @@ fn judges_64_blocks_of_a_kind(rt: HostRuntime) -> Result<(), Fail> {
         roots: 0,
     }));
     assert_eq!(rt; judged(alloc, &dbd, &alike(3)), empty);
-    assert_eq!(rt; judged(alloc, &dbd, &alike(2)), fault(19, 128, 0));
-    assert_eq!(rt; judged(alloc, &dbd, &alike(1)), fault(5, 136, 0));
-    assert_eq!(rt; judged(alloc, &dbd, &alike(7)), fault(19, 128, 0));
+    assert_eq!(rt;
+        judged(alloc, &dbd, &alike(2)),
+        fault(Line::UnreachedBlock, 128, 0)
+    );
+    assert_eq!(rt;
+        judged(alloc, &dbd, &alike(1)),
+        fault(Line::WrongPlace, 136, 0)
+    );
+    assert_eq!(rt; judged(alloc, &dbd, &alike(7)), fault(Line::NoKind, 128, 0));
     let mut bare = alike(3);
     put(&mut bare, 36, &[0; 8]);
     put(&mut bare, 8322, b"\x03");
     assert_eq!(rt; judged(alloc, &dbd, &bare), empty);
     let mut topless = alike(2);
     put(&mut topless, 36, &[0; 8]);
-    assert_eq!(rt; judged(alloc, &dbd, &topless), fault(15, 128, 0));
+    assert_eq!(rt;
+        judged(alloc, &dbd, &topless),
+        fault(Line::WrongForm, 128, 0)
+    );
     Ok(())
 }
 
@@ -235,7 +328,10 @@ fn changes_no_byte(rt: HostRuntime) -> Result<(), Fail> {
     let dbd = database(alloc).expect(&rt, "a database");
     let mut faulty = image();
     put(&mut faulty, 403, b"0");
-    assert_eq!(rt; judged(alloc, &dbd, &faulty), fault(16, 384, 280));
+    assert_eq!(rt;
+        judged(alloc, &dbd, &faulty),
+        fault(Line::EntryOutOfOrder, 384, 280)
+    );
     assert_eq!(rt; is_left(alloc, &dbd, &image()), Some(true));
     assert_eq!(rt; is_left(alloc, &dbd, &ring()), Some(true));
     assert_eq!(rt; is_left(alloc, &dbd, &faulty), Some(true));
@@ -289,7 +385,7 @@ fn each_access_that_fails_is_told(rt: HostRuntime) -> Result<(), Fail> {
     let dbd = database(alloc).expect(&rt, "a database");
     let sound = told_accesses(alloc, &dbd, &image(), passes());
     assert!(rt; sound.is_some_and(|count| count > 2 && count <= 16));
-    let ringed = told_accesses(alloc, &dbd, &ring(), fault(14, 320, 0));
+    let ringed = told_accesses(alloc, &dbd, &ring(), fault(Line::NotReached, 320, 0));
     assert!(rt; ringed.is_some_and(|count| count > 2 && count <= 16));
     Ok(())
 }

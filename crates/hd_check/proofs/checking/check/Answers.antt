@@ -1,8 +1,8 @@
 use Rattle.std.proofs.Common.{◌<◌, List, length, Option, IfNone, IfSome, sym, subst}
 use Rattle.hd_dbd.specs.Hierarchy.{Database}
 use Rattle.hd_volume.specs.Volumes.{VolumeState}
-use Rattle.hd_check.specs.declared.fault.Fault.{Fault}
-use Rattle.hd_check.specs.declared.segments.Place.{Place}
+use Rattle.hd_check_blocks.specs.declared.fault.Fault.{Fault}
+use Rattle.hd_check_blocks.specs.declared.places.Place.{Place}
 use Rattle.hd_check.specs.Joining.{IsFirstFault, IsFoundRight}
 use Rattle.hd_check.proofs.OneStore.{IsOne}
 use Rattle.hd_check.proofs.Joined.{still-sound, read-one, header-says}

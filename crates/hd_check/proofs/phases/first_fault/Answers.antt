@@ -6,9 +6,9 @@ use Rattle.hd_volume.proofs.PutLemmas.{if-none-map}
 use Rattle.hd_links.specs.Pointers.{AreLinked}
 use Rattle.hd_image.specs.Records.{links_of}
 use Rattle.hd_volume.specs.Indexes.{root_key_length}
-use Rattle.hd_check.specs.declared.segments.Place.{Place}
+use Rattle.hd_check_blocks.specs.declared.places.Place.{Place}
 use Rattle.hd_check.specs.Joining.{HasRightBlocks}
-use Rattle.hd_check.proofs.RecordSteps.{from-none}
+use Rattle.hd_check_pointers.proofs.RecordSteps.{from-none}
 use Rattle.hd_check.proofs.OneStore.{IsOne, turned, right-same, formed-same, entries-same}
 use Rattle.hd_check.proofs.Joined.{still-sound, was-sound, read-one, links-one, firsts-same, none-same, before-index}
 use Rattle.hd_check.proofs.phases.first_fault.Goals as goal
@@ -28,8 +28,8 @@ pub returns-then-is_some-2-clause-some : goal.returns-then-is_some-2-clause-some
 returns-then-is_some-2-clause-some g c = λ sound.
     firsts-same c.args.dbd.now c.args.volume.now c.image_fault.new.volume c.in_ok-found-2.found (read-one c.in_ok-found.ensures.read sound) (c.in_ok-found-2.ensures.some (still-sound c.in_ok-found.ensures.read sound))
 
-pub roots_fault-requires-clause-right : goal.roots_fault-requires-clause-right
-roots_fault-requires-clause-right g c = λ now.
+pub index_fault-requires-clause-right : goal.index_fault-requires-clause-right
+index_fault-requires-clause-right g c = λ now.
     let d : Database = c.args.dbd.now in
     let v : VolumeState = c.args.volume.now in
     let w : VolumeState = c.pointers_fault.new.volume in
@@ -38,8 +38,8 @@ roots_fault-requires-clause-right g c = λ now.
     let B : HasRightBlocks d v c.image_fault.new.places.items = from-none c.in_ok-found.found (sym c.is_some.ensures ∙ c.if-is_some.false) (c.in_ok-found.ensures.none sound c.types-types.ensures.fit) in
     right-same v w (read-one read sound) d c.deref-2.result.now (subst (λ (l : List Place). HasRightBlocks d v l) (sym c.deref-2.ensures.value) B)
 
-pub roots_fault-requires-clause-before : goal.roots_fault-requires-clause-before
-roots_fault-requires-clause-before g c = λ now.
+pub index_fault-requires-clause-before : goal.index_fault-requires-clause-before
+index_fault-requires-clause-before g c = λ now.
     let d : Database = c.args.dbd.now in
     let v : VolumeState = c.args.volume.now in
     let u : VolumeState = c.image_fault.new.volume in
@@ -52,7 +52,7 @@ roots_fault-requires-clause-before g c = λ now.
     none-same d 8 v w (read-one read sound) (before-index d v c.image_fault.new.places.items B (links-one d.types (AreLinked d.types) u v (turned e) L))
 
 pub returns-clause-none : goal.returns-clause-none
-returns-clause-none g c = if-ok c.roots_fault.result c.roots_fault.ensures.none
+returns-clause-none g c = if-ok c.index_fault.result c.index_fault.ensures.none
     (λ o none sound.
     let d : Database = c.args.dbd.now in
     let v : VolumeState = c.args.volume.now in
@@ -71,7 +71,7 @@ returns-clause-none g c = if-ok c.roots_fault.result c.roots_fault.ensures.none
     }) (none (still-sound read sound)))
 
 pub returns-clause-some : goal.returns-clause-some
-returns-clause-some g c = if-ok c.roots_fault.result c.roots_fault.ensures.some
+returns-clause-some g c = if-ok c.index_fault.result c.index_fault.ensures.some
     (λ o some sound.
     let read = reads-join (Ok c.in_ok-found-2.found) c.in_ok-found.ensures.read c.in_ok-found-2.ensures.read in
     firsts-same c.args.dbd.now c.args.volume.now c.pointers_fault.new.volume o (read-one read sound) (some (still-sound read sound)))

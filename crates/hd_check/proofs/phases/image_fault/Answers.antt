@@ -2,8 +2,8 @@ use Rattle.std.proofs.Common.{sym, ◌∙◌}
 use Rattle.hd_dbd.specs.Hierarchy.{Database}
 use Rattle.hd_volume.specs.Volumes.{VolumeState}
 use Rattle.hd_volume.proofs.CallSteps.{if-ok}
-use Rattle.hd_check.specs.Phases.{IsHeaderRight}
-use Rattle.hd_check.proofs.RecordSteps.{from-none}
+use Rattle.hd_check_blocks.specs.Phases.{IsHeaderRight}
+use Rattle.hd_check_pointers.proofs.RecordSteps.{from-none}
 use Rattle.hd_check.proofs.OneStore.{IsOne}
 use Rattle.hd_check.proofs.EarlierFaults.{none-first, none-2}
 use Rattle.hd_check.proofs.Joined.{still-sound, read-one, found-here, found-there, if-ok-both, if-none-both, blocks-found}

@@ -1,9 +1,0 @@
-use Rattle.std.proofs.Common.{arith}
-use Rattle.hd_check.proofs.RootKeys.{root-fits}
-use Rattle.hd_check.proofs.entry.root_key_length.Goals as goal
-
-pub returns-clause-short : goal.returns-clause-short
-returns-clause-short c =
-    let d = c.args.dbd.now in
-    let fits = root-fits d.block_size d.frspc d.types c.key_length_of_root.ensures.fit in
-    let value = c.key_length_of_root.ensures.value in omega arith

@@ -1,0 +1,7 @@
+pub mod ChainSteps
+pub mod Readings
+pub mod HeaderFaults
+pub mod BlockFaults
+pub mod PlaceLemmas
+pub mod Lookups
+pub mod Lent

@@ -1,0 +1,5 @@
+pub mod Phases
+pub mod Reading
+pub mod Places
+pub mod Lending
+pub mod Finding

@@ -1,0 +1,79 @@
+//! Phase 1: the header.
+ghost use Rattle.std.specs.Prelude.{◌≡◌, ◌≢◌, ◌≤◌, ◌⊎◌, length, true, false, IfNone, IfSome};
+ghost use Rattle.hd_dbd.specs.Refusals.{OnlyDevice};
+ghost use Rattle.hd_volume.specs.Headers.{header_of};
+ghost use Rattle.hd_volume.specs.Calls.{IsRead};
+ghost use Rattle.hd_check_blocks.specs.Phases.{CountsImage, IsNamed, IsWrongHeader, IsHeaderRight, IsLeastOf};
+ghost use Rattle.hd_check_blocks.specs.Finding.{WhereNone, WhereSome};
+
+use crate::fault::Fault;
+use hd_bytes::{read_u16, read_u32};
+use hd_dbd::{Dbd, Refused};
+use hd_image::Line;
+use hd_volume::{BLOCK_SIZE, BlockStore, COUNT, LARGEST, MARK, MOST_BLOCKS, NAME, VERSION, Volume};
+
+/// Whether a header counts an image of so many bytes, in blocks of a size.
+fn counts_image(head: &[u8], size: u64, image_length: u64) -> bool
+    requires { (44 ≤ length head.now) × (size ≤ 32768) }
+    ensures right { result ≡ true → CountsImage size image_length (header_of head.now) }
+    ensures wrong { result ≡ false → CountsImage size image_length (header_of head.now) → ⊥ }
+{
+    let count = read_u32(head, COUNT);
+    let largest = read_u32(head, LARGEST);
+    &head[..8] == &MARK[..]
+        && u64::from(count) * size == image_length
+        && count <= largest
+        && largest <= MOST_BLOCKS
+}
+
+/// Whether a header is of a database.
+fn is_of(head: &[u8], dbd: &Dbd) -> bool
+    requires { 44 ≤ length head.now }
+    ensures right { result ≡ true → IsNamed dbd.now (header_of head.now) }
+    ensures wrong { result ≡ false → ((header_of head.now).name ≢ dbd.now.name) ⊎ ((header_of head.now).block_size ≢ dbd.now.block_size) }
+{
+    &head[NAME..NAME + 8] == &dbd.name().bytes()[..]
+        && u32::from(read_u16(head, BLOCK_SIZE)) == dbd.block_size()
+}
+
+/// What is wrong with a header of an image of so many bytes.
+fn head_fault(head: &[u8], size: u64, image_length: u64, dbd: &Dbd) -> Option<Fault>
+    requires { size ≤ 32768 }
+    ensures none { 44 ≤ length head.now → IfNone result (CountsImage size image_length (header_of head.now) × ((header_of head.now).version ≡ 1) × IsNamed dbd.now (header_of head.now)) }
+    ensures some { 44 ≤ length head.now → IfSome result (λ f. IsWrongHeader dbd.now size image_length (header_of head.now) f) }
+{
+    if head.len() < 44 {
+        return None;
+    }
+    if !counts_image(head, size, image_length) {
+        return Some(Fault::at(Line::NoVolume, 0, 0));
+    }
+    let version = read_u16(head, VERSION);
+    if version != 1 {
+        return Some(Fault::at(Line::NoVersion, 0, u32::from(version)));
+    }
+    if !is_of(head, dbd) {
+        return Some(Fault::at(Line::AnotherDatabase, 0, 0));
+    }
+    None
+}
+
+/// What is wrong with a volume's header.
+pub fn header_fault<S: BlockStore>(
+    volume: &mut Volume<S>,
+    dbd: &Dbd,
+) -> Result<Option<Fault>, Refused>
+    requires size { volume.old.size ≡ dbd.now.block_size }
+    ensures read { IsRead volume.old result volume.new }
+    ensures none { WhereNone volume.old result (IsHeaderRight dbd.now volume.old) }
+    ensures some { WhereSome volume.old result (λ f. IsLeastOf dbd.now volume.old 1 f) }
+    ensures refusal { OnlyDevice result }
+{
+    let size = volume.block_size() as u64;
+    let image_length = volume.length();
+    if image_length < size {
+        return Ok(Some(Fault::at(Line::NoVolume, 0, 0)));
+    }
+    let head = volume.block(0)?;
+    Ok(head_fault(head, size, image_length, dbd))
+}

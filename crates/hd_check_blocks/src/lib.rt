@@ -1,0 +1,20 @@
+//! The first two phases of a check: the header, and the blocks with the places of their segments.
+//!
+//! What the later phases share stands here as well: the fault, and the table of the segments' places.
+#![tactic(auto)]
+
+mod blocks;
+mod fault;
+mod free_elements;
+mod header;
+mod keys;
+mod lookup;
+mod places;
+mod wrong_place;
+
+pub use blocks::blocks_fault;
+pub use fault::Fault;
+pub use header::header_fault;
+pub use keys::stored_key;
+pub use lookup::{code_at, number_of};
+pub use places::Place;

@@ -1,0 +1,64 @@
+//! Phase 2: a data block read from its front on, place by place.
+ghost use Rattle.std.specs.Prelude.{◌≡◌, ◌≢◌, ◌≤◌, ◌<◌, ◌+◌, ◌%◌, ℕ, List, length, slice_index, Some, IfNone, IfSome, MatchOption};
+ghost use Rattle.hd_bytes.specs.Numbers.{number_at};
+ghost use Rattle.hd_dbd.specs.Facts.{stored_sizes};
+ghost use Rattle.hd_dbd.specs.Prefixes.{stored_size};
+ghost use Rattle.hd_volume.specs.Volumes.{HasExtents};
+ghost use Rattle.hd_image.specs.BlockFaults.{IsNoSegment, IsReadTo, HasFreeElements};
+ghost use Rattle.hd_check_blocks.specs.Reading.{IsRoom};
+
+use hd_bytes::read_u16;
+use hd_dbd::Dbd;
+
+/// Where a block is read: at a place, where the next free element begins at `next`, 0 for none.
+#[derive(Clone, Copy)]
+struct Reading {
+    place: usize,
+    next: usize,
+}
+
+/// Where a data block is read behind a place; `None` where neither a free element nor a segment stands there.
+fn behind(block: &[u8], dbd: &Dbd, at: Reading) -> Option<Reading>
+    requires inside { (at.place + 4 ≤ length block.now) × (length block.now ≤ 32768) }
+    ensures free { at.place ≡ at.next → result ≡ Some (record { place = at.place + number_at 2 block.now (at.place + 2); next = number_at 2 block.now at.place }) }
+    ensures used { let size = stored_size dbd.now.types (slice_index block.now at.place) in at.place ≢ at.next → MatchOption result (IsRoom block.now at.place at.next size → ⊥) (λ r. IsRoom block.now at.place at.next size × (r ≡ record { place = at.place + size; next = at.next })) }
+{
+    if at.place == at.next {
+        return Some(Reading {
+            place: at.place + read_u16(block, at.place + 2) as usize,
+            next: read_u16(block, at.place) as usize,
+        });
+    }
+    let size = dbd.stored_size(block[at.place]) as usize;
+    let end = at.place + size;
+    if size == 0 || end > block.len() || (at.place < at.next && at.next < end) {
+        return None;
+    }
+    Some(Reading {
+        place: end,
+        next: at.next,
+    })
+}
+
+/// The first place of a data block, read from offset 8, where neither a free element nor a segment of the database stands.
+pub fn wrong_place(block: &[u8], dbd: &Dbd) -> Option<usize>
+    requires size { (8 ≤ length block.now) × (length block.now ≤ 32768) × (length block.now % 8 ≡ 0) }
+    requires chain { (places : List ℕ) × HasFreeElements block.now places }
+    ensures none { IfNone result (HasExtents (slice_index (stored_sizes dbd.now.types)) block.now) }
+    ensures some { IfSome result (λ p. (places : List ℕ) → HasFreeElements block.now places → (way : List ℕ) × IsReadTo (stored_sizes dbd.now.types) block.now places 8 way p × (p < length block.now) × IsNoSegment (stored_sizes dbd.now.types) block.now places p) }
+{
+    let mut at = Reading {
+        place: 8,
+        next: read_u16(block, 0) as usize,
+    };
+    for _turn in 0..block.len() {
+        if at.place >= block.len() {
+            return None;
+        }
+        match behind(block, dbd, at) {
+            None => return Some(at.place),
+            Some(next) => at = next,
+        }
+    }
+    None
+}

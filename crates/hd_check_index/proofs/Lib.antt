@@ -1,0 +1,9 @@
+pub mod IndexTables
+pub mod LateLines
+pub mod FormFaults
+pub mod TwiceNamed
+pub mod Walks
+pub mod UnnamedRoots
+pub mod EntrySteps
+pub mod NamedEntries
+pub mod OrderSteps

@@ -1,0 +1,216 @@
+-- What the entries of an index name, block by block.
+use Rattle.std.proofs.Common.{◌≡◌, ◌⊎◌, inl, inr, ℕ, ◌+◌, ◌*◌, ◌<◌, ◌≤◌, List, [], ◌∷◌, ◌++◌, length, map, Bool, true, Option, Some, None, refl, sym, ap, subst, ◌∙◌, arith}
+use Rattle.std.specs.Prelude.{◌==◌, not, find, option_map}
+use Rattle.std.specs.List.{list_all, list_any}
+use Rattle.std.proofs.lemmas.Bool.{cases_lt, cases_eq, eq-eqb, eqb-true, or_cases, or_left, or_right, and_from, false≢true}
+use Rattle.std.proofs.lemmas.Nat.{mul-le}
+use Rattle.std.proofs.lemmas.List.{map-append}
+use Rattle.std.proofs.lemmas.List.Folds.{list_all-append}
+use Rattle.hd_bytes.specs.Numbers.{number_at}
+use Rattle.hd_dbd.specs.Hierarchy.{Database}
+use Rattle.hd_volume.specs.Headers.{header_of}
+use Rattle.hd_volume.specs.Volumes.{VolumeState, block_at}
+use Rattle.hd_volume.specs.Entries.{Entry, entries_in, entries_of, entry_blocks, entries}
+use Rattle.hd_volume.specs.Indexes.{root_key_length, IsEntryBlock, IsChain, IsAmong}
+use Rattle.hd_image.specs.IndexFaults.{names_a_root}
+use Rattle.hd_links.specs.Links.{Links}
+use Rattle.hd_image.specs.Records.{links_of}
+use Rattle.hd_image.proofs.OneImage.{links-same}
+use Rattle.hd_image.specs.Right.{IndexIsFormed}
+use Rattle.hd_image.specs.declared.line.Line.TheVariants.{WrongEntry}
+use Rattle.hd_check_index.specs.declared.noted_blocks.NotedBlock.{NotedBlock}
+use Rattle.hd_check_blocks.specs.Phases.{IsLeastOf}
+use Rattle.hd_check_index.specs.IndexPhases.{AreIndexBlocks, AreNamed, index_block_of, index_block_at}
+use Rattle.hd_check_index.proofs.IndexTables.{among, index-of, in-order}
+use Rattle.hd_check_index.proofs.EntrySteps.{none-failing}
+use Rattle.hd_check_index.proofs.LateLines.{least-late, stands-12}
+
+-- the addresses of some entries
+abbrev pub addresses : List Entry → List ℕ
+addresses es = map (λ (e : Entry). e.address) es
+
+-- ---- numbers of two lists
+
+among-front : (a : ℕ) (xs ys : List ℕ) → IsAmong a xs → IsAmong a (xs ++ ys)
+among-front a [] ys i = absurd i
+among-front a (x ∷ xs) ys (inl e) = inl e
+among-front a (x ∷ xs) ys (inr i) = inr (among-front a xs ys i)
+
+among-back : (a : ℕ) (xs ys : List ℕ) → IsAmong a ys → IsAmong a (xs ++ ys)
+among-back a [] ys i = i
+among-back a (x ∷ xs) ys i = inr (among-back a xs ys i)
+
+among-parts : (a : ℕ) (xs ys : List ℕ) → IsAmong a (xs ++ ys) → IsAmong a xs ⊎ IsAmong a ys
+among-parts a [] ys i = inr i
+among-parts a (x ∷ xs) ys (inl e) = inl (inl e)
+among-parts a (x ∷ xs) ys (inr i) = elim (among-parts a xs ys i) [ inl j ↦ inl (inr j) | inr j ↦ inr j ]
+
+-- an entry names an address just where that is among the addresses
+any-among : (a : ℕ) (es : List Entry) → list_any (λ e. e.address == a) es ≡ true → IsAmong a (addresses es)
+any-among a [] h = absurd (false≢true h)
+any-among a (e ∷ es) h = elim (or_cases (e.address == a) (list_any (λ x. x.address == a) es) h) [
+  | inl here ↦ inl (sym (eqb-true e.address a here))
+  | inr later ↦ inr (any-among a es later)
+]
+
+among-any : (a : ℕ) (es : List Entry) → IsAmong a (addresses es) → list_any (λ e. e.address == a) es ≡ true
+among-any a [] i = absurd i
+among-any a (e ∷ es) (inl same) = or_left (e.address == a) (list_any (λ x. x.address == a) es) (eq-eqb e.address a (sym same))
+among-any a (e ∷ es) (inr i) = or_right (e.address == a) (list_any (λ x. x.address == a) es) (among-any a es i)
+
+-- ---- blocks of a chain
+
+-- what the entries of some blocks name those of one of them name
+of-blocks : (k : ℕ) (v : VolumeState) (ns : List ℕ) (a : ℕ) → IsAmong a (addresses (entries_of k v ns)) → (n : ℕ) × IsAmong n ns × IsAmong a (addresses (entries_in k (block_at v n)))
+of-blocks k v [] a i = absurd i
+of-blocks k v (n ∷ ns) a i =
+    let parts : addresses (entries_in k (block_at v n) ++ entries_of k v ns) ≡ addresses (entries_in k (block_at v n)) ++ addresses (entries_of k v ns) = map-append (λ (e : Entry). e.address) (entries_in k (block_at v n)) (entries_of k v ns) in
+    elim (among-parts a (addresses (entries_in k (block_at v n))) (addresses (entries_of k v ns)) (subst (λ (xs : List ℕ). IsAmong a xs) parts i)) [
+      | inl here ↦ (n, inl refl, here)
+      | inr later ↦ (let r = of-blocks k v ns a later in (r.0, inr r.1, r.2))
+    ]
+
+-- and what those of one name those of all do
+in-blocks : (k : ℕ) (v : VolumeState) (ns : List ℕ) (n a : ℕ) → IsAmong n ns → IsAmong a (addresses (entries_in k (block_at v n))) → IsAmong a (addresses (entries_of k v ns))
+in-blocks k v [] n a i h = absurd i
+in-blocks k v (m ∷ ns) n a i h =
+    let parts : addresses (entries_in k (block_at v m) ++ entries_of k v ns) ≡ addresses (entries_in k (block_at v m)) ++ addresses (entries_of k v ns) = map-append (λ (e : Entry). e.address) (entries_in k (block_at v m)) (entries_of k v ns) in
+    subst (λ (xs : List ℕ). IsAmong a xs) (sym parts) (elim i [
+      | inl same ↦ among-front a (addresses (entries_in k (block_at v m))) (addresses (entries_of k v ns)) (subst (λ (x : ℕ). IsAmong a (addresses (entries_in k (block_at v x)))) same h)
+      | inr j ↦ among-back a (addresses (entries_in k (block_at v m))) (addresses (entries_of k v ns)) (in-blocks k v ns n a j h)
+    ])
+
+-- what holds of the entries of each block holds of all
+all-blocks : (test : Entry → Bool) (k : ℕ) (v : VolumeState) (ns : List ℕ) → ((n : ℕ) → IsAmong n ns → list_all test (entries_in k (block_at v n)) ≡ true) → list_all test (entries_of k v ns) ≡ true
+all-blocks test k v [] h = refl
+all-blocks test k v (n ∷ ns) h =
+    list_all-append test (entries_in k (block_at v n)) (entries_of k v ns)
+    ∙ and_from (list_all test (entries_in k (block_at v n))) (list_all test (entries_of k v ns)) (h n (inl refl)) (all-blocks test k v ns (λ m i. h m (inr i)))
+
+-- the blocks of a chain bear entries
+pub chain-block : (k : ℕ) (v : VolumeState) (s : ℕ) (ns : List ℕ) (n : ℕ) → IsChain k v s ns → IsAmong n ns → IsEntryBlock k v n
+chain-block k v s [] n h i = absurd i
+chain-block k v s (m ∷ ns) n h (inl e) = subst (IsEntryBlock k v) (sym e) h.1
+chain-block k v s (m ∷ ns) n h (inr i) = chain-block k v (number_at 4 (block_at v m) 8) ns n h.2 i
+
+-- ---- the blocks of a table
+
+-- These are what the entries of the first blocks of a table name.
+pub record AreNamedBefore (k : ℕ) (v : VolumeState) (bs : List NotedBlock) (i : ℕ) (named : List ℕ) : Type 0 where
+  pub there : (a : ℕ) → IsAmong a named → (j : ℕ) × (j < i) × IsAmong a (addresses (entries_in k (block_at v (index_block_at bs j).number)))
+  pub all : (j a : ℕ) → j < i → IsAmong a (addresses (entries_in k (block_at v (index_block_at bs j).number))) → IsAmong a named
+
+-- at first nothing is named
+pub none-named : (k : ℕ) (v : VolumeState) (bs : List NotedBlock) (named : List ℕ) → named ≡ [] → AreNamedBefore k v bs 0 named
+none-named k v bs named none = record {
+  there = λ a i. absurd (subst (λ (ns : List ℕ). IsAmong a ns) none i);
+  all = λ j a less i. absurd (omega arith);
+}
+
+-- then what the entries of one block more name
+pub named-more : (k : ℕ) (v : VolumeState) (bs : List NotedBlock) (i : ℕ) (named more : List ℕ) → AreNamedBefore k v bs i named
+    → more ≡ named ++ addresses (entries_in k (block_at v (index_block_at bs i).number)) → AreNamedBefore k v bs (i + 1) more
+named-more k v bs i named more h is = record {
+  there = λ a x. elim (among-parts a named (addresses (entries_in k (block_at v (index_block_at bs i).number))) (subst (λ (ns : List ℕ). IsAmong a ns) is x)) [
+    | inl before ↦ (let r = h.there a before in let l = r.1 in (r.0, omega arith, r.2))
+    | inr own ↦ (i, omega arith, own)
+  ];
+  all = λ j a less x. subst (λ (ns : List ℕ). IsAmong a ns) (sym is) (elim (cases_lt j i) [
+    | inl low ↦ among-front a named (addresses (entries_in k (block_at v (index_block_at bs i).number))) (h.all j a low x)
+    | inr high ↦
+        (let e : j ≡ i = omega arith in
+        among-back a named (addresses (entries_in k (block_at v (index_block_at bs i).number))) (subst (λ (y : ℕ). IsAmong a (addresses (entries_in k (block_at v (index_block_at bs y).number)))) e x))
+  ]);
+}
+
+module _ (d : Database) (v : VolumeState) (bs : List NotedBlock) (h : AreIndexBlocks v bs) (formed : IndexIsFormed (root_key_length d.types) v) where
+  -- a block of the table is one of the chain
+  pub table-chain : (j : ℕ) → j < length bs → IsAmong (index_block_at bs j).number (entry_blocks v)
+  table-chain j l = formed.reached (index_block_at bs j).number (h.there (index_block_at bs j) (among bs j l)).0
+
+  -- and bears entries
+  pub table-entries : (j : ℕ) → j < length bs → IsEntryBlock (root_key_length d.types) v (index_block_at bs j).number
+  table-entries j l = chain-block (root_key_length d.types) v (header_of v.image).top (entry_blocks v) (index_block_at bs j).number formed.chain (table-chain j l)
+
+  -- a block of the chain is one of the table
+  chain-table : (n : ℕ) → IsAmong n (entry_blocks v) → (j : ℕ) × (j < length bs) × ((index_block_at bs j).number ≡ n)
+  chain-table n i =
+      let own = chain-block (root_key_length d.types) v (header_of v.image).top (entry_blocks v) n formed.chain i in
+      let r = index-of (index_block_of v n) bs (h.all n own.is) in
+      (r.0, r.1, ap (λ (b : NotedBlock). b.number) r.2)
+
+  -- what holds of the entries of all blocks of the table holds of all entries
+  pub table-all : (test : Entry → Bool) → ((j : ℕ) → j < length bs → list_all test (entries_in (root_key_length d.types) (block_at v (index_block_at bs j).number)) ≡ true)
+      → list_all test (entries (root_key_length d.types) v) ≡ true
+  table-all test all = all-blocks test (root_key_length d.types) v (entry_blocks v)
+      (λ n i. (let r = chain-table n i in subst (λ (m : ℕ). list_all test (entries_in (root_key_length d.types) (block_at v m)) ≡ true) r.2 (all r.0 r.1)))
+
+  -- what those of all blocks name is what the entries name
+  pub table-named : (named : List ℕ) (i : ℕ) → i ≡ length bs → AreNamedBefore (root_key_length d.types) v bs i named → AreNamed (root_key_length d.types) v named
+  table-named named i last n = record {
+    there = λ a x.
+        (let r = n.there a x in
+        let l = r.1 in
+        among-any a (entries (root_key_length d.types) v) (in-blocks (root_key_length d.types) v (entry_blocks v) (index_block_at bs r.0).number a (table-chain r.0 (omega arith)) r.2));
+    all = λ a some.
+        (let r = of-blocks (root_key_length d.types) v (entry_blocks v) a (any-among a (entries (root_key_length d.types) v) some) in
+        let t = chain-table r.0 r.1 in
+        let l = t.1 in
+        n.all t.0 a (omega arith) (subst (λ (m : ℕ). IsAmong a (addresses (entries_in (root_key_length d.types) (block_at v m)))) (sym t.2) r.2));
+  }
+
+  -- the first block with a wrong entry has the least fault
+  pub entry-least : (i address : ℕ) → i < length bs
+      → ((j : ℕ) → j < i → list_all (λ e. names_a_root d (links_of d.types v) e) (entries_in (root_key_length d.types) (block_at v (index_block_at bs j).number)) ≡ true)
+      → option_map (λ e. e.address) (find (λ e. not (names_a_root d (links_of d.types v) e)) (entries_in (root_key_length d.types) (block_at v (index_block_at bs i).number))) ≡ Some address
+      → IsLeastOf d v 12 (record { line = WrongEntry; address = (index_block_at bs i).number * v.size; other = address })
+  entry-least i address within before wrong =
+      let n : ℕ = (index_block_at bs i).number in
+      least-late d v 12 (record { line = WrongEntry; address = n * v.size; other = address }) (omega arith) refl
+      (n, table-chain i within, wrong, refl)
+      (λ l a o is s.
+      (let t = stands-12 d v l a o is s in
+      let m : ℕ = t.0 in
+      let at = t.3 in
+      elim (cases_lt m n) [
+        | inr high ↦ (let less : n * v.size ≤ m * v.size = mul-le n v.size m v.size high (omega arith) in omega arith)
+        | inl low ↦
+            (let j = chain-table m t.1 in
+            let own = j.2 in
+            let j-within = j.1 in
+            let earlier : j.0 < i = elim (cases_lt j.0 i) [
+              | inl x ↦ x
+              | inr high ↦ elim (cases_eq j.0 i) [
+                | inl e ↦ (let same : (index_block_at bs j.0).number ≡ n = ap (λ (x : ℕ). (index_block_at bs x).number) e in absurd (omega arith))
+                | inr ne ↦ (let r = in-order 0 bs i j.0 h.ascend (omega arith) j-within in absurd (omega arith))
+              ]
+            ] in
+            let right = subst (λ (x : ℕ). list_all (λ (e : Entry). names_a_root d (links_of d.types v) e) (entries_in (root_key_length d.types) (block_at v x)) ≡ true) own (before j.0 earlier) in
+            absurd (nothing-found (λ (e : Entry). names_a_root d (links_of d.types v) e) (entries_in (root_key_length d.types) (block_at v m)) o right t.2))
+      ]))
+    where
+      nothing-found : (test : Entry → Bool) (es : List Entry) (x : ℕ) → list_all test es ≡ true → option_map (λ (e : Entry). e.address) (find (λ e. not (test e)) es) ≡ Some x → ⊥
+      nothing-found test es x right some = (let e : None ≡ Some x = ap (λ (q : Option Entry). option_map (λ (y : Entry). y.address) q) (sym (none-failing test es right)) ∙ some in cc)
+
+-- ---- one image
+
+module _ (d : Database) (v w : VolumeState) (k n : ℕ) (image : w.image ≡ v.image) (size : w.size ≡ v.size) (sizes : w.sizes ≡ v.sizes) where
+  same : block_at w n ≡ block_at v n
+  same = rw (size, image) refl
+
+  -- what all entries of a block name they name in the same image
+  pub all-same : list_all (λ e. names_a_root d (links_of d.types w) e) (entries_in k (block_at w n)) ≡ true → list_all (λ e. names_a_root d (links_of d.types v) e) (entries_in k (block_at v n)) ≡ true
+  all-same h =
+      subst (λ (b : List ℕ). list_all (λ e. names_a_root d (links_of d.types v) e) (entries_in k b) ≡ true) same
+      (subst (λ (m : Links). list_all (λ e. names_a_root d m e) (entries_in k (block_at w n)) ≡ true) (links-same d.types v w image size sizes) h)
+
+  -- and so is the first that names no root
+  pub found-same : (a : ℕ) → option_map (λ e. e.address) (find (λ e. not (names_a_root d (links_of d.types w) e)) (entries_in k (block_at w n))) ≡ Some a
+      → option_map (λ e. e.address) (find (λ e. not (names_a_root d (links_of d.types v) e)) (entries_in k (block_at v n))) ≡ Some a
+  found-same a h =
+      subst (λ (b : List ℕ). option_map (λ (e : Entry). e.address) (find (λ e. not (names_a_root d (links_of d.types v) e)) (entries_in k b)) ≡ Some a) same
+      (subst (λ (m : Links). option_map (λ (e : Entry). e.address) (find (λ e. not (names_a_root d m e)) (entries_in k (block_at w n))) ≡ Some a) (links-same d.types v w image size sizes) h)
+
+  -- and so are the addresses
+  pub addresses-same : (old new : List ℕ) → new ≡ old ++ map (λ e. e.address) (entries_in k (block_at w n)) → new ≡ old ++ addresses (entries_in k (block_at v n))
+  addresses-same old new h = subst (λ (b : List ℕ). new ≡ old ++ addresses (entries_in k b)) same h

@@ -1,0 +1,2 @@
+pub mod IndexPhases
+pub mod LeftKeys

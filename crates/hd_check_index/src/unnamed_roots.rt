@@ -1,0 +1,48 @@
+//! Phase 13: each root has an entry.
+ghost use Rattle.std.specs.Prelude.{◌≡◌, ◌<◌, ◌==◌, true, false, IfNone, IfSome};
+ghost use Rattle.std.specs.List.Sorted.{IsNonDecreasing};
+ghost use Rattle.hd_dbd.specs.Hierarchy.{Database};
+ghost use Rattle.hd_volume.specs.Volumes.{VolumeState};
+ghost use Rattle.hd_volume.specs.Indexes.{root_key_length, IsAmong};
+ghost use Rattle.hd_check_blocks.specs.Phases.{IsLeastOf};
+ghost use Rattle.hd_check_blocks.specs.Places.{ArePlaces, PlacesAscend};
+ghost use Rattle.hd_check_index.specs.IndexPhases.{AreNamed, AreRootsAmong, IsFirstUnnamed, AllRootsNamed};
+
+use hd_check_blocks::{Fault, Place};
+use hd_image::Line;
+
+/// Whether an address is one of these, which are in order.
+fn is_named(named: &[u32], address: u32) -> bool
+    ensures right { IsNonDecreasing named.now → result ≡ true → IsAmong address named.now }
+    ensures wrong { IsNonDecreasing named.now → result ≡ false → IsAmong address named.now → ⊥ }
+{
+    match named.binary_search(&address) {
+        Ok(_) => true,
+        Err(_) => false,
+    }
+}
+
+/// The first root whose address is none of these, which are in order.
+fn unnamed_root(named: &[u32], places: &[Place]) -> Option<u32>
+    ensures none { IsNonDecreasing named.now → IfNone result (AreRootsAmong places.now named.now) }
+    ensures some { IsNonDecreasing named.now → PlacesAscend places.now → IfSome result (λ a. IsFirstUnnamed places.now named.now a) }
+{
+    for place in places {
+        if place.code == 1 && !is_named(named, place.address) {
+            return Some(place.address);
+        }
+    }
+    None
+}
+
+/// The first root that no entry names.
+pub fn unnamed_root_fault(named: &mut Vec<u32>, places: &[Place]) -> Option<Fault>
+    ensures none { (d : Database) (v : VolumeState) → ArePlaces d.types v places.now → AreNamed (root_key_length d.types) v named.old.items → IfNone result (AllRootsNamed d v) }
+    ensures some { (d : Database) (v : VolumeState) → ArePlaces d.types v places.now → AreNamed (root_key_length d.types) v named.old.items → IfSome result (λ f. IsLeastOf d v 13 f) }
+{
+    named.sort_unstable();
+    match unnamed_root(named, places) {
+        None => None,
+        Some(address) => Some(Fault::at(Line::NoEntry, address, 0)),
+    }
+}

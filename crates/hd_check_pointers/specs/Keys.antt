@@ -1,0 +1,22 @@
+-- Keys of twins that are compared.
+use Rattle.std.specs.Prelude.{◌≡◌, ℕ, List, Bool, true, false, is_some}
+use Rattle.std.specs.Option.{option_map_or}
+use Rattle.hd_dbd.specs.Types.{SegmentType}
+use Rattle.hd_dbd.specs.Hierarchy.{type_of}
+use Rattle.hd_dbd.specs.Rows.{twins_in_order}
+use Rattle.hd_links.specs.Links.{Links, segment_at}
+use Rattle.hd_image.specs.declared.line.Line.TheVariants.{OutOfOrder}
+use Rattle.hd_check_blocks.specs.declared.fault.Fault.{Fault}
+use Rattle.hd_links.specs.Pointers.{IsTwinBefore}
+
+-- the segments of the type of a code have a key
+abbrev pub is_keyed : List SegmentType → ℕ → Bool
+is_keyed types code = option_map_or (λ t. is_some t.key) (type_of types code) false
+
+-- the key of a segment is in order behind that of the twin before it
+abbrev pub IsKeyRight : List SegmentType → Links → ℕ → Type 0
+IsKeyRight types m a = (h : ℕ) → IsTwinBefore m h a → twins_in_order types (segment_at m h) (segment_at m a) ≡ true
+
+-- the fault of a twin whose key is out of order behind that of the twin before it
+abbrev pub order_fault : ℕ → ℕ → Fault
+order_fault a before = record { line = OutOfOrder; address = a; other = before }

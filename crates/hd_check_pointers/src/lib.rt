@@ -1,0 +1,20 @@
+//! The phases of a check that judge pointers: what each names (3), predecessors (4), twin backward and last child (5), the
+//! order of twins (6), and which segments are reached (7).
+#![tactic(auto)]
+
+mod namings;
+mod owners;
+mod predecessors;
+mod reached;
+mod record_pointers;
+mod records;
+mod twin_keys;
+mod twins;
+
+pub use namings::Naming;
+pub use owners::owners_of;
+pub use predecessors::predecessors_fault;
+pub use reached::reached_fault;
+pub use records::records_fault;
+pub use twin_keys::twin_keys_fault;
+pub use twins::twins_fault;

@@ -1,0 +1,76 @@
+//! The table of the pointers by which segments are named, which phase 3 notes.
+ghost use Rattle.std.specs.Prelude.{◌≡◌, ◌≢◌, ◌≤◌, ◌++◌, ◌∷◌, [], length, OnOk};
+ghost use Rattle.hd_dbd.specs.Refusals.{OnlyMemory};
+ghost use Rattle.hd_dbd.specs.Prefixes.{stored_size};
+ghost use Rattle.hd_volume.specs.Volumes.{VolumeState};
+ghost use Rattle.hd_prefix.specs.Fields.{code_of};
+ghost use Rattle.hd_image.specs.Records.{links_of, stored_at};
+ghost use Rattle.hd_check_blocks.specs.Lending.{IsLent};
+ghost use Rattle.hd_check_pointers.specs.Namings.{naming_of, first_namings, segment_namings};
+
+use hd_dbd::{Dbd, Refused};
+use hd_prefix::{Layout, Pointer};
+
+/// A pointer that names a segment: what it names, and the record that holds it, 0 for the header.
+#[derive(Clone, Copy, Debug)]
+pub struct Naming {
+    pub target: u32,
+    pub holder: u32,
+}
+
+/// Notes a pointer of a holder, if it names something.
+pub fn note_naming(namings: &mut Vec<Naming>, target: u32, holder: u32) -> Result<(), Refused>
+    ensures namings { OnOk result (namings.new.items ≡ namings.old.items ++ naming_of target holder) }
+    ensures refusal { OnlyMemory result }
+{
+    if target != 0 {
+        namings
+            .push(Naming { target, holder })
+            .map_err(|_| Refused::Memory)?;
+    }
+    Ok(())
+}
+
+/// Notes the pointers of a segment to its first children of some types.
+fn note_first_children(
+    namings: &mut Vec<Naming>,
+    dbd: &Dbd,
+    code: u8,
+    address: u32,
+    segment: &[u8],
+    types: &[u8],
+) -> Result<(), Refused>
+    requires own { code ≡ code_of segment.now }
+    requires whole { stored_size dbd.now.types (code_of segment.now) ≤ length segment.now }
+    ensures namings { OnOk result ((v : VolumeState) → stored_at v address ≡ segment.now → address ≢ 0 → namings.new.items ≡ namings.old.items ++ first_namings (links_of dbd.now.types v) address types.now) }
+    ensures refusal { OnlyMemory result }
+{
+    let layout = Layout::of(dbd, code);
+    for child in types {
+        let first = layout.read(segment, Pointer::FirstChild(*child));
+        note_naming(namings, first, address)?;
+    }
+    Ok(())
+}
+
+/// Notes the twin forward pointer of a segment, and the pointers by which it names others.
+pub fn note_pointers(
+    forwards: &mut Vec<u32>,
+    namings: &mut Vec<Naming>,
+    dbd: &Dbd,
+    address: u32,
+    segment: &[u8],
+) -> Result<(), Refused>
+    ensures forwards { OnOk result ((v : VolumeState) → IsLent dbd.now.types v address segment.now → forwards.new.items ≡ forwards.old.items ++ (links_of dbd.now.types v).forward address ∷ []) }
+    ensures namings { OnOk result ((v : VolumeState) → IsLent dbd.now.types v address segment.now → namings.new.items ≡ namings.old.items ++ segment_namings dbd.now.types (links_of dbd.now.types v) address) }
+    ensures refusal { OnlyMemory result }
+{
+    let code = segment.first().copied().unwrap_or(0);
+    if segment.len() < dbd.stored_size(code) as usize {
+        return Ok(());
+    }
+    let forward = Layout::of(dbd, code).read(segment, Pointer::TwinForward);
+    forwards.push(forward).map_err(|_| Refused::Memory)?;
+    note_naming(namings, forward, address)?;
+    note_first_children(namings, dbd, code, address, segment, dbd.children_of(code))
+}

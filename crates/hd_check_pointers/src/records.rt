@@ -1,0 +1,77 @@
+//! Phase 3: delete bytes, and what the pointers of the records name.
+ghost use Rattle.std.specs.Prelude.{◌≡◌, ◌++◌, ◌∷◌, [], IsTrue, IfOk, IfNone, IfSome};
+ghost use Rattle.hd_dbd.specs.Refusals.{OnlyDeviceOrMemory};
+ghost use Rattle.hd_volume.specs.Calls.{IsRead};
+ghost use Rattle.hd_links.specs.Links.{IsSegment};
+ghost use Rattle.hd_links.specs.Pointers.{PointersAreTyped};
+ghost use Rattle.hd_image.specs.Records.{links_of, IsVolumeOf};
+ghost use Rattle.hd_check_blocks.specs.Phases.{IsLeastOf};
+ghost use Rattle.hd_check_blocks.specs.Places.{ArePlaces};
+ghost use Rattle.hd_check_pointers.specs.Judging.{IsRecordRight, IsWrongRecord};
+ghost use Rattle.hd_check_pointers.specs.Tables.{AreForwards};
+ghost use Rattle.hd_check_pointers.specs.Namings.{segment_namings, AreNamings};
+ghost use Rattle.hd_check_blocks.specs.Finding.{WhereNone, WhereSome};
+
+use crate::namings::{Naming, note_naming, note_pointers};
+use crate::record_pointers::{root_pointers_fault, segment_pointers_fault};
+use hd_check_blocks::{Fault, Place};
+use hd_dbd::{Dbd, Refused};
+use hd_volume::{BlockStore, Volume};
+
+/// What is wrong with the segment at an address. Its twin forward pointer, and the pointers by which it names others, are noted.
+fn record_fault<S: BlockStore>(
+    forwards: &mut Vec<u32>,
+    namings: &mut Vec<Naming>,
+    places: &[Place],
+    volume: &mut Volume<S>,
+    dbd: &Dbd,
+    address: u32,
+) -> Result<Option<Fault>, Refused>
+    requires of { IsTrue volume.old.is_sound → IsVolumeOf dbd.now volume.old }
+    requires there { IsTrue volume.old.is_sound → IsSegment (links_of dbd.now.types volume.old) address }
+    ensures read { IsRead volume.old result volume.new }
+    ensures none { IfOk result (λ o. IsTrue volume.old.is_sound → ArePlaces dbd.now.types volume.old places.now → IfNone o (IsRecordRight dbd.now.types (links_of dbd.now.types volume.old) address)) }
+    ensures some { IfOk result (λ o. IsTrue volume.old.is_sound → ArePlaces dbd.now.types volume.old places.now → IfSome o (λ f. IsWrongRecord dbd.now.types (links_of dbd.now.types volume.old) address f)) }
+    ensures forwards { IfOk result (λ o. IsTrue volume.old.is_sound → forwards.new.items ≡ forwards.old.items ++ (links_of dbd.now.types volume.old).forward address ∷ []) }
+    ensures namings { IfOk result (λ o. IsTrue volume.old.is_sound → namings.new.items ≡ namings.old.items ++ segment_namings dbd.now.types (links_of dbd.now.types volume.old) address) }
+    ensures refusal { OnlyDeviceOrMemory result }
+{
+    let segment = volume.segment_at(address)?;
+    let fault = segment_pointers_fault(places, dbd, address, segment);
+    note_pointers(forwards, namings, dbd, address, segment)?;
+    Ok(fault)
+}
+
+/// What is wrong with the records of a volume whose blocks are right: a delete byte, or what a pointer names. Where nothing is,
+/// the twin forward pointers are noted, and the pointers by which segments are named, in order of their holders.
+pub fn records_fault<S: BlockStore>(
+    forwards: &mut Vec<u32>,
+    namings: &mut Vec<Naming>,
+    places: &[Place],
+    volume: &mut Volume<S>,
+    dbd: &Dbd,
+) -> Result<Option<Fault>, Refused>
+    requires empty { (forwards.old.items ≡ []) × (namings.old.items ≡ []) }
+    requires of { IsTrue volume.old.is_sound → IsVolumeOf dbd.now volume.old }
+    requires places { IsTrue volume.old.is_sound → ArePlaces dbd.now.types volume.old places.now }
+    ensures read { IsRead volume.old result volume.new }
+    ensures none { WhereNone volume.old result (PointersAreTyped dbd.now.types (links_of dbd.now.types volume.old)) }
+    ensures some { WhereSome volume.old result (λ f. IsLeastOf dbd.now volume.old 3 f) }
+    ensures forwards { WhereNone volume.old result (AreForwards (links_of dbd.now.types volume.old) places.now forwards.new.items) }
+    ensures namings { WhereNone volume.old result (AreNamings dbd.now.types (links_of dbd.now.types volume.old) places.now namings.new.items) }
+    ensures refusal { OnlyDeviceOrMemory result }
+{
+    let first = volume.first_root();
+    let roots = root_pointers_fault(places, first, volume.last_root());
+    if roots.is_some() {
+        return Ok(roots);
+    }
+    note_naming(namings, first, 0)?;
+    for place in places {
+        let found = record_fault(forwards, namings, places, volume, dbd, place.address)?;
+        if found.is_some() {
+            return Ok(found);
+        }
+    }
+    Ok(None)
+}
