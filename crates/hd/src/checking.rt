@@ -3,7 +3,7 @@ ghost use Rattle.hd_dbd.specs.Facts.{stored_sizes};
 
 use crate::files::{open_file, read_database};
 use crate::stop::Stop;
-use hd_check::{Passed, check};
+use hd_commands::check_volume;
 use hd_dbd::Dbd;
 use hd_volume::{FileStore, Volume};
 use std::alloc::Global;
@@ -32,48 +32,49 @@ pub fn load_volume<L: Ledger>(
     }
 }
 
-/// What a check of the volume in a file answers.
-fn judge<L: Ledger>(alloc: Global, dbd: &Dbd, file: File, blank: Blank) -> Result<Passed, Stop>
+/// Checks the volume in a file, with a ledger for the accesses that fail.
+fn judge<L: Ledger, O: Write, E: Write>(
+    alloc: Global,
+    dbd: &Dbd,
+    file: File,
+    blank: Blank,
+    out: &mut O,
+    err: &mut E,
+) -> Result<u8, Stop>
     requires name { blank.name ≡ L.name }
     requires parts { blank.parts ≡ L.parts }
     requires share { 0 < blank.parts }
 {
     let mut volume = load_volume::<L>(alloc, dbd, file, blank)?;
-    match check(alloc, &mut volume, dbd) {
-        Ok(passed) => Ok(passed),
-        Err(fault) => Err(Stop::from(fault)),
-    }
+    Ok(check_volume(alloc, &mut volume, dbd, out, err).status)
 }
 
-/// As `judge`, with a ledger of its own for the accesses that fail.
-fn judge_file(alloc: Global, dbd: &Dbd, file: File) -> Result<Passed, Stop> {
-    judge::<Brand>(alloc, dbd, file, Blank::new(1))
+/// As `judge`, with a ledger of its own.
+fn judge_file<O: Write, E: Write>(
+    alloc: Global,
+    dbd: &Dbd,
+    file: File,
+    out: &mut O,
+    err: &mut E,
+) -> Result<u8, Stop> {
+    judge::<Brand, O, E>(alloc, dbd, file, Blank::new(1), out, err)
 }
 
-/// Checks the volume in a file, which is opened for reading alone, and says what it has. The DBD is read and judged first.
-pub fn check_file<R, O>(
+/// Checks the volume in a file, which is opened for reading alone. The DBD is read and judged first. Says the status.
+pub fn check_file<R, O, E>(
     rt: &R,
     alloc: Global,
     dbd: &str,
     volume: &str,
     out: &mut O,
-) -> Result<(), Stop>
+    err: &mut E,
+) -> Result<u8, Stop>
 where
     R: Files<File = File>,
     O: Write,
+    E: Write,
 {
     let (dbd, _) = read_database(rt, alloc, dbd)?;
     let (file, _) = open_file(rt, volume)?;
-    let passed = judge_file(alloc, &dbd, file)?;
-    let Passed {
-        blocks,
-        segments,
-        roots,
-    } = passed;
-    out.write_all(dbd.name().bytes().trim_ascii_end())?;
-    writeln!(
-        out,
-        " passes: {blocks} blocks, {segments} segments, {roots} roots"
-    )?;
-    Ok(())
+    judge_file(alloc, &dbd, file, out, err)
 }

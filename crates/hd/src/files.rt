@@ -4,6 +4,7 @@ use hd_dbd::Dbd;
 use hd_gen::read_dbd;
 use std::alloc::Global;
 use std::fs::{File, Metadata, OpenOptions};
+use std::io::{self, Write};
 use std::os::unix::fs::MetadataExt;
 use std::rt::Files;
 
@@ -55,21 +56,57 @@ pub fn read_database<R: Files<File = File>>(
     Ok((dbd, identity))
 }
 
-/// A new file, or an older one of the name that is cut to nothing; never one of the files that the same command reads.
-pub fn make_file<R: Files<File = File>>(
+/// A file to write, made where there is none, and as it stands; never one of the files that the same command reads.
+pub fn open_output<R: Files<File = File>>(
     rt: &R,
     name: &str,
+    is_read: bool,
     inputs: &[Identity],
 ) -> Result<File, Stop> {
     let mut options = OpenOptions::new();
-    options.read(true).write(true).create(true);
+    options.read(is_read).write(true).create(true);
     let file = options.open(rt, name)?;
-    let metadata = file.metadata()?;
-    if inputs.contains(&Identity::of(&metadata)) {
+    if inputs.contains(&Identity::of(&file.metadata()?)) {
         return Err(Stop::OverInput);
     }
-    if metadata.len() > 0 {
+    Ok(file)
+}
+
+/// Cuts a file to nothing. One without bytes, as a pipe or a device is, is left alone.
+pub fn empty(file: &File) -> io::Result<()> {
+    if file.metadata()?.len() > 0 {
         file.set_len(0)?;
     }
-    Ok(file)
+    Ok(())
+}
+
+/// A file that has what it had until the first write, which cuts it to nothing.
+#[derive(Drop)]
+pub struct Rewritten {
+    file: File,
+    is_cut: bool,
+}
+
+impl Rewritten {
+    /// A file as it was opened.
+    pub fn over(file: File) -> Rewritten {
+        Rewritten {
+            file,
+            is_cut: false,
+        }
+    }
+}
+
+impl Write for Rewritten {
+    fn write(&mut self, buf: &[u8]) -> io::Result<usize> {
+        if !self.is_cut {
+            empty(&self.file)?;
+            self.is_cut = true;
+        }
+        self.file.write(buf)
+    }
+
+    fn flush(&mut self) -> io::Result<()> {
+        self.file.flush()
+    }
 }

@@ -2,6 +2,7 @@ ghost use Rattle.std.specs.Prelude.{◌≡◌, ◌<◌, ◌≤◌, ◌^◌, Some
 ghost use Rattle.std.specs.Io.KnownBytes.{Consumes, IsAtEnd};
 
 use crate::stop::Stop;
+use hd_commands::Refusal;
 use std::alloc::{AllocError, Global};
 use std::io::{ErrorKind, Read};
 
@@ -30,7 +31,7 @@ fn read_piece<I: Read>(input: &mut I, piece: &mut [u8]) -> Result<Option<usize>,
     match input.read(piece) {
         Ok(count) => Ok(Some(count)),
         Err(error) if error.kind() == ErrorKind::Interrupted => Ok(None),
-        Err(_) => Err(Stop::Device),
+        Err(_) => Err(Stop::from(Refusal::Device)),
     }
 }
 
@@ -50,9 +51,9 @@ pub fn read_whole<I: Read>(alloc: Global, input: &mut I) -> Result<Vec<u8>, Stop
             return Ok(text);
         }
         if count > MOST_BYTES - text.len() {
-            return Err(Stop::Device);
+            return Err(Stop::from(Refusal::Device));
         }
         text.extend_from_slice(&piece[..count])?;
     }
-    Err(Stop::Device)
+    Err(Stop::from(Refusal::Device))
 }

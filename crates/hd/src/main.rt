@@ -13,20 +13,24 @@ mod words;
 
 use std::process::ExitCode;
 use std::{env, io};
+use stop::Stop;
 
 fn main(rt: HostRuntime) -> ExitCode {
-    let Ok(args) = env::args(&rt) else {
-        return ExitCode::from(stop::COMMAND_LINE);
+    let status = match words_of(&rt) {
+        Ok(words) => play::play(
+            &rt,
+            words.as_slice(),
+            &mut rt.reader(),
+            &mut io::writer(&rt),
+            &mut rt.stderr(),
+        ),
+        Err(error) => play::stopped(&Stop::words(&error), &mut rt.stderr()),
     };
-    let Ok(words) = args.skip(1).collect::<Vec<String>>(rt.alloc()) else {
-        return ExitCode::from(stop::Stop::Memory.status());
-    };
-    let status = play::play(
-        &rt,
-        words.as_slice(),
-        &mut rt.reader(),
-        &mut io::writer(&rt),
-        &mut rt.stderr(),
-    );
     ExitCode::from(status)
+}
+
+/// The words behind the program's name.
+fn words_of(rt: &HostRuntime) -> io::Result<Vec<String>> {
+    let words = env::args(rt)?.skip(1).collect::<Vec<String>>(rt.alloc())?;
+    Ok(words)
 }

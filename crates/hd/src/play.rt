@@ -7,6 +7,7 @@ use crate::stop::{COMMAND_LINE, Stop};
 use crate::unloading::unload_file;
 use crate::words::{Request, read_words};
 use clap::error::ErrorKind;
+use hd_commands::Refusal;
 use hd_dbd::Row;
 use hd_deck::{read_deck, run_rows};
 use hd_session::{RowSession, valid_rows};
@@ -33,45 +34,52 @@ where
         Ok(request) => request,
         Err(error) => {
             if error.kind() == ErrorKind::OutOfMemory {
-                return stopped(&Stop::Memory, err);
+                return stopped(&Stop::from(Refusal::Memory), err);
             }
             let _ = write!(err, "{error}");
             return COMMAND_LINE;
         }
     };
-    match perform(rt, request, input, out) {
-        Ok(()) => 0,
+    match perform(rt, request, input, out, err) {
+        Ok(status) => status,
         Err(stop) => stopped(&stop, err),
     }
 }
 
-/// Does what is asked for.
-fn perform<R, I, O>(rt: &R, request: Request<'_>, input: &mut I, out: &mut O) -> Result<(), Stop>
+/// Does what is asked for, and says the status.
+fn perform<R, I, O, E>(
+    rt: &R,
+    request: Request<'_>,
+    input: &mut I,
+    out: &mut O,
+    err: &mut E,
+) -> Result<u8, Stop>
 where
     R: Files<File = File> + AllocGlobal,
     I: Read,
     O: Write,
+    E: Write,
 {
     let alloc = rt.alloc();
     match request {
-        Request::Sample => play_sample(alloc, input, out),
-        Request::Check { dbd, volume } => check_file(rt, alloc, dbd, volume, out),
+        Request::Sample => play_sample(alloc, input, out).map(|_| 0),
+        Request::Check { dbd, volume } => check_file(rt, alloc, dbd, volume, out, err),
         Request::Unload {
             dbd,
             volume,
             out: stream,
-        } => unload_file(rt, alloc, dbd, volume, stream, out),
+        } => unload_file(rt, alloc, dbd, volume, stream, out, err),
         Request::Reload {
             dbd,
             input,
             volume,
             blocks,
-        } => reload_file(rt, alloc, dbd, input, volume, blocks, out),
+        } => reload_file(rt, alloc, dbd, input, volume, blocks, out, err),
     }
 }
 
 /// Says why the program stops, and gives its status.
-fn stopped<E: Write>(stop: &Stop, err: &mut E) -> u8 {
+pub fn stopped<E: Write>(stop: &Stop, err: &mut E) -> u8 {
     let _ = writeln!(err, "{stop}");
     stop.status()
 }
@@ -98,12 +106,12 @@ fn play_rows<I: Read, O: Write>(
     let steps = read_deck(alloc, &text, psb.pcbs().len() as u8)?;
     let mut session = RowSession::new(alloc, &dbd, &psb, rows)?;
     let Ok(mut lines) = BufWriter::with_capacity(alloc, PIECE, out) else {
-        return Err(Stop::Memory);
+        return Err(Stop::from(Refusal::Memory));
     };
     run_rows(alloc, &mut session, &steps, &mut lines)?;
     match lines.flush() {
         Ok(()) => Ok(()),
-        Err(_) => Err(Stop::Device),
+        Err(_) => Err(Stop::from(Refusal::Device)),
     }
 }
 

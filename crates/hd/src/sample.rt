@@ -1,5 +1,6 @@
-ghost use Rattle.std.specs.Prelude.{◌≡◌, IfOk};
+ghost use Rattle.std.specs.Prelude.{◌≡◌, IfOk, IfErr};
 ghost use Rattle.hd_dbd.specs.ProgramRules.{type_names};
+ghost use Rattle.hd_dbd.specs.Sample.{of_type, sample_database, sample_pcbs, sample_rows};
 
 use hd_dbd::{Dbd, Psb, Row};
 use hd_gen::{GenFault, read_dbd, read_psb};
@@ -42,24 +43,33 @@ pub const PSB_SOURCE: &[u8] = b"         PCB   TYPE=DB,DBDNAME=EDU,PROCOPT=AP,KE
 ";
 
 /// The sample database.
-pub fn database(alloc: Global) -> Result<Dbd, GenFault> {
+pub fn database(alloc: Global) -> Result<Dbd, GenFault>
+    ensures sample { IfOk result (λ d. d ≡ sample_database) }
+    ensures memory { IfErr result (λ e. e ≡ GenFault.Memory) }
+{
     read_dbd(alloc, DBD_SOURCE)
 }
 
 /// The sample program.
 pub fn program(alloc: Global, dbd: &Dbd) -> Result<Psb, GenFault>
-    ensures { IfOk result (λ p. p.made_for ≡ type_names dbd.now.types) }
+    ensures made_for { IfOk result (λ p. p.made_for ≡ type_names dbd.now.types) }
+    ensures sample { IfOk result (λ p. dbd.now ≡ sample_database → p.pcbs ≡ sample_pcbs) }
 {
     read_psb(alloc, PSB_SOURCE, dbd)
 }
 
-fn row(alloc: Global, code: u8, text: &[u8]) -> Result<Row, AllocError> {
+/// A segment of the type of a code.
+fn row(alloc: Global, code: u8, text: &[u8]) -> Result<Row, AllocError>
+    ensures { IfOk result (λ r. r ≡ of_type code text.now) }
+{
     let bytes = Vec::from_slice(alloc, text)?;
     Ok(Row { code, bytes })
 }
 
 /// The sample's rows, in hierarchic sequence.
-pub fn rows(alloc: Global) -> Result<Vec<Row>, AllocError> {
+pub fn rows(alloc: Global) -> Result<Vec<Row>, AllocError>
+    ensures { IfOk result (λ v. v.items ≡ sample_rows) }
+{
     let mut rows = Vec::with_capacity(alloc, 7)?;
     rows.push(row(alloc, 1, b"101ALGEB")?)?;
     rows.push(row(alloc, 2, b"01AB")?)?;

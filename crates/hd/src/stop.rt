@@ -1,10 +1,9 @@
-use hd_check::{CheckFault, Fault};
+use hd_commands::Refusal;
 use hd_dbd::Refused;
 use hd_deck::{DeckFault, RunFault};
 use hd_gen::GenFault;
-use hd_unload::{ReloadFault, UnloadFault};
 use std::alloc::{AllocError, AllocFailed};
-use std::io;
+use std::io::{self, ErrorKind};
 use thiserror::Error;
 
 /// The status where the command line is not understood, or would write over an input.
@@ -21,23 +20,19 @@ pub enum Stop {
     Program(GenFault),
     #[error("DECK refused: {0}")]
     Deck(DeckFault),
-    #[error("{0}")]
-    Fault(Fault),
-    #[error("reload refused: {0}")]
-    Reload(ReloadFault),
     #[error("output file is also an input, nothing was changed")]
     OverInput,
-    #[error("device failed")]
-    Device,
-    #[error("no memory")]
-    Memory,
+    #[error("a word of the command line is not UTF-8")]
+    Words,
+    #[error("{0}")]
+    Refused(Refusal),
 }
 
 impl Stop {
     /// The DBD's source is refused, or could not be read for want of memory.
     pub fn database(fault: GenFault) -> Stop {
         match fault {
-            GenFault::Memory => Stop::Memory,
+            GenFault::Memory => Stop::Refused(Refusal::Memory),
             _ => Stop::Database(fault),
         }
     }
@@ -45,19 +40,26 @@ impl Stop {
     /// The PSB's source is refused, or could not be read for want of memory.
     pub fn program(fault: GenFault) -> Stop {
         match fault {
-            GenFault::Memory => Stop::Memory,
+            GenFault::Memory => Stop::Refused(Refusal::Memory),
             _ => Stop::Program(fault),
+        }
+    }
+
+    /// The words of the command line could not be read: one is no text, or there is no memory for them.
+    pub fn words(error: &io::Error) -> Stop {
+        match error.kind() {
+            ErrorKind::OutOfMemory => Stop::Refused(Refusal::Memory),
+            _ => Stop::Words,
         }
     }
 
     /// The status with which the program ends.
     pub fn status(&self) -> u8 {
         match self {
-            Stop::Sample | Stop::Fault(_) | Stop::Reload(_) => 1,
+            Stop::Sample => 1,
             Stop::Database(_) | Stop::Program(_) | Stop::Deck(_) => 2,
-            Stop::Device => 3,
-            Stop::Memory => 4,
-            Stop::OverInput => COMMAND_LINE,
+            Stop::OverInput | Stop::Words => COMMAND_LINE,
+            Stop::Refused(refusal) => refusal.status(),
         }
     }
 }
@@ -65,7 +67,7 @@ impl Stop {
 impl From<DeckFault> for Stop {
     fn from(fault: DeckFault) -> Stop {
         match fault {
-            DeckFault::Memory => Stop::Memory,
+            DeckFault::Memory => Stop::Refused(Refusal::Memory),
             _ => Stop::Deck(fault),
         }
     }
@@ -74,64 +76,38 @@ impl From<DeckFault> for Stop {
 impl From<RunFault> for Stop {
     fn from(fault: RunFault) -> Stop {
         match fault {
-            RunFault::Memory => Stop::Memory,
-            RunFault::Write => Stop::Device,
+            RunFault::Memory => Stop::Refused(Refusal::Memory),
+            RunFault::Write => Stop::Refused(Refusal::Device),
         }
     }
 }
 
-impl From<CheckFault> for Stop {
-    fn from(fault: CheckFault) -> Stop {
-        match fault {
-            CheckFault::Fault(fault) => Stop::Fault(fault),
-            CheckFault::Memory => Stop::Memory,
-            CheckFault::Device => Stop::Device,
-        }
-    }
-}
-
-impl From<UnloadFault> for Stop {
-    fn from(fault: UnloadFault) -> Stop {
-        match fault {
-            UnloadFault::Check(fault) => Stop::from(fault),
-            UnloadFault::Write => Stop::Device,
-        }
-    }
-}
-
-impl From<ReloadFault> for Stop {
-    fn from(fault: ReloadFault) -> Stop {
-        match fault {
-            ReloadFault::Memory => Stop::Memory,
-            ReloadFault::Device => Stop::Device,
-            _ => Stop::Reload(fault),
-        }
+impl From<Refusal> for Stop {
+    fn from(refusal: Refusal) -> Stop {
+        Stop::Refused(refusal)
     }
 }
 
 impl From<Refused> for Stop {
     fn from(refused: Refused) -> Stop {
-        match refused {
-            Refused::Memory => Stop::Memory,
-            _ => Stop::Device,
-        }
+        Stop::Refused(Refusal::of_refused(refused))
     }
 }
 
 impl From<io::Error> for Stop {
     fn from(_error: io::Error) -> Stop {
-        Stop::Device
+        Stop::Refused(Refusal::Device)
     }
 }
 
 impl From<AllocError> for Stop {
     fn from(_error: AllocError) -> Stop {
-        Stop::Memory
+        Stop::Refused(Refusal::Memory)
     }
 }
 
 impl<T: Drop> From<AllocFailed<T>> for Stop {
     fn from(_error: AllocFailed<T>) -> Stop {
-        Stop::Memory
+        Stop::Refused(Refusal::Memory)
     }
 }

@@ -1,10 +1,10 @@
 ghost use Rattle.std.specs.Prelude.{◌≡◌, ◌<◌};
 
 use crate::checking::load_volume;
-use crate::files::{PIECE, make_file, open_file, read_database};
+use crate::files::{PIECE, Rewritten, open_file, open_output, read_database};
 use crate::stop::Stop;
+use hd_commands::{Refusal, unload_volume};
 use hd_dbd::Dbd;
-use hd_unload::unload;
 use std::alloc::Global;
 use std::fs::File;
 use std::io::{BufWriter, Write};
@@ -12,53 +12,61 @@ use std::marker::Brand;
 use std::rt::Files;
 use std::sync::ledger::{Blank, Ledger};
 
-/// Writes the unload stream of the volume in a file into another, and says how many segments it has.
-fn copy<L: Ledger>(
+/// Unloads the volume in a file into another, with a ledger for the accesses that fail.
+fn copy<L: Ledger, O: Write, E: Write>(
     alloc: Global,
     dbd: &Dbd,
     file: File,
-    out: File,
+    stream: Rewritten,
     blank: Blank,
-) -> Result<u32, Stop>
+    out: &mut O,
+    err: &mut E,
+) -> Result<u8, Stop>
     requires name { blank.name ≡ L.name }
     requires parts { blank.parts ≡ L.parts }
     requires share { 0 < blank.parts }
 {
     let mut volume = load_volume::<L>(alloc, dbd, file, blank)?;
-    let Ok(mut records) = BufWriter::with_capacity(alloc, PIECE, out) else {
-        return Err(Stop::Memory);
+    let Ok(mut records) = BufWriter::with_capacity(alloc, PIECE, stream) else {
+        return Err(Stop::from(Refusal::Memory));
     };
-    let segments = match unload(alloc, &mut volume, dbd, &mut records) {
-        Ok(segments) => segments,
-        Err(fault) => return Err(Stop::from(fault)),
-    };
-    records.flush()?;
-    Ok(segments)
+    let ended = unload_volume(alloc, &mut volume, dbd, &mut records, out, err);
+    // What a refusal leaves in the buffer is not written.
+    let (_, _) = records.into_parts();
+    Ok(ended.status)
 }
 
-/// As `copy`, with a ledger of its own for the accesses that fail.
-fn copy_file(alloc: Global, dbd: &Dbd, file: File, out: File) -> Result<u32, Stop> {
-    copy::<Brand>(alloc, dbd, file, out, Blank::new(1))
+/// As `copy`, with a ledger of its own.
+fn copy_file<O: Write, E: Write>(
+    alloc: Global,
+    dbd: &Dbd,
+    file: File,
+    stream: Rewritten,
+    out: &mut O,
+    err: &mut E,
+) -> Result<u8, Stop> {
+    copy::<Brand, O, E>(alloc, dbd, file, stream, Blank::new(1), out, err)
 }
 
-/// Checks the volume in a file, which is opened for reading alone, and writes its unload stream into another; says how many segments
-/// it has. The DBD is read and judged first, then both files are opened; only then is the volume judged.
-pub fn unload_file<R, O>(
+/// Checks the volume in a file, which is opened for reading alone, and writes its unload stream into another, which is opened for
+/// writing alone. The DBD is read and judged first, then both files are opened; only then is the volume judged, and only when it has
+/// passed the other file is cut to nothing and written. Says the status.
+pub fn unload_file<R, O, E>(
     rt: &R,
     alloc: Global,
     dbd: &str,
     volume: &str,
     stream: &str,
     out: &mut O,
-) -> Result<(), Stop>
+    err: &mut E,
+) -> Result<u8, Stop>
 where
     R: Files<File = File>,
     O: Write,
+    E: Write,
 {
     let (dbd, source) = read_database(rt, alloc, dbd)?;
     let (file, image) = open_file(rt, volume)?;
-    let made = make_file(rt, stream, &[source, image])?;
-    let segments = copy_file(alloc, &dbd, file, made)?;
-    writeln!(out, "unloaded {segments} segments")?;
-    Ok(())
+    let stream = open_output(rt, stream, false, &[source, image])?;
+    copy_file(alloc, &dbd, file, Rewritten::over(stream), out, err)
 }

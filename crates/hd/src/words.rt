@@ -78,7 +78,7 @@ fn unload_command<'a>(alloc: Global) -> Result<Command<'a>, Error> {
         .arg(file_word(
             alloc,
             "OUT",
-            "The unload stream, made or cut to nothing first, even where the volume does not pass",
+            "The unload stream, made where there is none; it is cut to nothing and written when the volume has passed",
         ))?;
     Ok(command)
 }

@@ -9,3 +9,4 @@ pub mod Writing
 pub mod Streaming
 pub mod HeldStreams
 pub mod Accepting
+pub mod OneVolume

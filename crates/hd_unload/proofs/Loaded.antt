@@ -16,7 +16,7 @@ use Rattle.hd_volume.specs.Headers.{Header, header_of}
 use Rattle.hd_volume.specs.Volumes.{VolumeState}
 use Rattle.hd_volume.specs.Rooms.{spare}
 use Rattle.hd_volume.specs.Entries.{Entry, entries}
-use Rattle.hd_volume.specs.Indexes.{root_key_length, HasIndex, index_growth, lacks_room}
+use Rattle.hd_volume.specs.Indexes.{root_key_length, HasIndex, index_growth}
 use Rattle.hd_volume.proofs.IndexLemmas.{index-stays}
 use Rattle.hd_links.specs.Links.{Links, IsSegment, IsLinkGraph, segment_at, is_child_type}
 use Rattle.hd_links.specs.Placed.{Placed, nowhere, Holds}
@@ -130,7 +130,6 @@ module _ (d : Database) (v w : VolumeState) (f : Forest Placed) (h y a : ℕ) (r
 
   -- the index stays
   pub index-kept : HasIndex (root_key_length d.types) w × (entries (root_key_length d.types) w ≡ entries (root_key_length d.types) v) × (index_growth w ≡ index_growth v)
-      × ((more others : ℕ) → spare v ≤ spare w + more → lacks_room (more + others) v ≡ false → lacks_room others w ≡ false)
   index-kept = index-stays (root_key_length d.types) v w H.index I.volume.formatted (I.volume.size ∙ sym H.volume.size) I.rest.header I.rest.index I.rest.others
 
   -- the entries are those of the roots before

@@ -1,5 +1,5 @@
 -- A root that is linked behind the last row of a volume, and entered into its index.
-use Rattle.std.proofs.Common.{◌≡◌, ℕ, ◌+◌, ◌-◌, ◌<◌, ◌≤◌, List, [], ◌∷◌, ◌++◌, length, take, drop, true, false, ◌==◌, IsTrue, Option, Some, None, refl, sym, ap, subst, ◌∙◌, arith, inl}
+use Rattle.std.proofs.Common.{◌≡◌, ℕ, ◌+◌, ◌-◌, ◌<◌, ◌≤◌, List, [], ◌∷◌, ◌++◌, length, take, drop, true, false, ◌==◌, IsTrue, Option, Some, None, refl, sym, ap, subst, ◌∙◌, arith, inl, inr}
 use Rattle.std.specs.Prelude.{map, nat_lt, nat_le, ◌&&◌, slice_get, option_and_then}
 use Rattle.std.specs.Option.{option_map_or}
 use Rattle.std.proofs.lemmas.Bool.{and_parts, false≢true, ltb-true, leb-true, eqb-true}
@@ -9,6 +9,7 @@ use Rattle.hd_dbd.specs.declared.hierarchy.Key.{Key}
 use Rattle.hd_dbd.specs.Types.{SegmentType}
 use Rattle.hd_dbd.specs.Hierarchy.{Database, type_of, parent_of, part_of, key_in}
 use Rattle.hd_dbd.specs.DatabaseRules.{well_formed, part_fits}
+use Rattle.hd_dbd.specs.Prefixes.{stored_size}
 use Rattle.hd_dbd.specs.Segment.{Segment}
 use Rattle.hd_dbd.specs.Rows.{row_fits, level, key_of}
 use Rattle.hd_dbd.specs.Loads.{load_fault}
@@ -17,9 +18,9 @@ use Rattle.hd_dbd.proofs.Fitting.{IsEarlier, type_of-fits, types_fit}
 use Rattle.hd_dbd.proofs.LevelLaw.{leveled, parents_earlier, depth_below}
 use Rattle.hd_volume.specs.Headers.{Header}
 use Rattle.hd_volume.specs.Volumes.{VolumeState}
-use Rattle.hd_volume.specs.Rooms.{spare}
+use Rattle.hd_volume.specs.Rooms.{spare, HasHole}
 use Rattle.hd_volume.specs.Entries.{Entry}
-use Rattle.hd_volume.specs.Indexes.{root_key_length, HasIndex, key_less, keys_ascend, index_growth, lacks_room}
+use Rattle.hd_volume.specs.Indexes.{root_key_length, HasIndex, key_less, keys_ascend, index_growth}
 use Rattle.hd_volume.proofs.KeyLemmas.{less-trans}
 use Rattle.hd_links.specs.Placed.{Placed, nowhere}
 use Rattle.hd_links.specs.Changes.{Agree, with_leaf}
@@ -35,10 +36,12 @@ use Rattle.hd_image.proofs.SameRecords.{records-stay}
 use Rattle.hd_forest.specs.Updates.{MayLink, IsLinked}
 use Rattle.hd_index.specs.Changes.{IsIndexOf, entries_for, IsIndexChange}
 use Rattle.hd_index.specs.Maps.{address_of, with_entry}
-use Rattle.hd_index.specs.Counts.{below_count}
+use Rattle.hd_entries.specs.Fields.{below_count}
+use Rattle.hd_index.specs.Places.{blocks_needed}
+use Rattle.hd_index.proofs.NeedLemmas.{needed-stays}
 use Rattle.hd_index.proofs.MapLemmas.{AreBelow, below-all, address-behind, with-behind}
 use Rattle.hd_unload.specs.Loads.{IsLoadStep, LacksRoom}
-use Rattle.hd_unload.specs.Steps.{IsLoadedTo, IsRowLoaded}
+use Rattle.hd_unload.specs.Steps.{HasRootRoom, IsLoadedTo, IsRowLoaded}
 use Rattle.hd_unload.proofs.Loaded.{entry_for, entries-map, held-agree, stays-agree, last-at, may-link, grown-held, index-kept, entries-before, rows-grown, name-kept, size-kept, segments-kept}
 
 -- ---- the root's type
@@ -134,10 +137,9 @@ pub may-link-root : (d : Database) (v : VolumeState) (bytes : List ℕ) (y : ℕ
 may-link-root d v bytes y fits L =
     may-link d v (record { code = 1; bytes = bytes }) 0 y fits (L.0, L.1, L.2, L.3, root-place d.block_size d.frspc d.types bytes L.1 L.2.holds.volume.fit, L.4)
 
--- there is no room for it where an insert may lack room beside it
-pub lacks-beside : (d : Database) (v : VolumeState) (bytes : List ℕ) → lacks_room 1 v ≡ true → LacksRoom d v (record { code = 1; bytes = bytes })
-unfolding lacks_room
-lacks-beside d v bytes lacks = record { spares = ltb-true (spare v) (1 + index_growth v) lacks; holes = inl refl }
+-- there is no room for it where fewer blocks are to spare than it and the index may need
+pub lacks-beside : (d : Database) (v : VolumeState) (bytes : List ℕ) → spare v < 1 + index_growth v → LacksRoom d v (record { code = 1; bytes = bytes })
+lacks-beside d v bytes lacks = record { spares = lacks; holes = inl refl }
 
 -- a volume in which it was linked behind the last root, and then one in which it was entered into the index
 module _ (d : Database) (v w : VolumeState) (f : Forest Placed) (y a : ℕ) (bytes : List ℕ) (H : HoldsPlaced d v f)
@@ -221,11 +223,11 @@ pub root-at : (d : Database) (v : VolumeState) (rows : List Segment) (path : Lis
 root-at d v rows path y a bytes L fits may twin free =
     last-at d v rows path (record { code = 1; bytes = bytes }) 0 y a L fits may (root-place d.block_size d.frspc d.types bytes path L.holds.volume.fit) twin free
 
--- The volume has its index, in which the key is new, and which has room for it where there was room beside a block more.
+-- The volume has its index, in which the key is new, and which needs as many blocks for it as before.
 pub record IsReadyFor (d : Database) (v : VolumeState) (key : List ℕ) (w : VolumeState) : Type 0 where
   pub index : HasIndex (root_key_length d.types) w
   pub new : address_of key (entries_for d w) ≡ None
-  pub room : lacks_room 1 v ≡ false → lacks_room 0 w ≡ false
+  pub needed : blocks_needed (root_key_length d.types) w key ≡ blocks_needed (root_key_length d.types) v key
 
 -- so it is once the root is linked
 pub root-linked : (d : Database) (v w : VolumeState) (y a : ℕ) (bytes : List ℕ) → row_fits d.types (record { code = 1; bytes = bytes }) ≡ true
@@ -236,7 +238,26 @@ root-linked d v w y a bytes fits L I =
     let row : Segment = record { code = 1; bytes = bytes } in
     let E = root-at d v L.0 L.1 y a bytes L.2 fits L.3 L.4 I.free in
     let kept = index-kept d v w L.2.placed 0 y a row L.2.holds E I in
-    record { index = kept.0; new = key-new d v w L.2.placed y a bytes L.2.holds E I; room = λ enough. kept.3 1 0 I.spares enough }
+    let needed = needed-stays (root_key_length d.types) v w (key_of d.types row) L.2.holds.index (I.volume.size ∙ sym L.2.holds.volume.size) I.rest.header I.rest.index in
+    record { index = kept.0; new = key-new d v w L.2.placed y a bytes L.2.holds E I; needed = needed }
+
+-- where the volume has room for a root it is not refused as full
+pub room-links : (d : Database) (v : VolumeState) (key : List ℕ) → HasRootRoom d v key → spare v ≡ 0 → (HasHole v (stored_size d.types 1) → ⊥) → ⊥
+room-links d v key r none no-hole = elim r.room [
+  | inl hole ↦ no-hole hole.0
+  | inr more ↦ absurd (omega arith)
+]
+
+-- and once the root is linked there is room in the index
+pub room-enters : (d : Database) (v w : VolumeState) (y a : ℕ) (bytes key : List ℕ) → HasRootRoom d v key → IsLinked d v 0 y (record { code = 1; bytes = bytes }) a w
+    → blocks_needed (root_key_length d.types) w key ≡ blocks_needed (root_key_length d.types) v key → spare w < blocks_needed (root_key_length d.types) w key → ⊥
+room-enters d v w y a bytes key r I same few = elim r.room [
+  | inl hole ↦
+      (let kept : spare w ≡ spare v = I.in_hole hole.0 in
+      let enough : blocks_needed (root_key_length d.types) v key ≤ spare v = hole.1 in
+      absurd (omega (arith, same, few, kept, enough)))
+  | inr more ↦ (let less : spare v ≤ spare w + 1 = I.spares in absurd (omega (arith, same, few, less, more)))
+]
 
 -- it is loaded once it is linked and entered
 pub root-loaded : (d : Database) (v w x : VolumeState) (y a : ℕ) (bytes key : List ℕ) → row_fits d.types (record { code = 1; bytes = bytes }) ≡ true

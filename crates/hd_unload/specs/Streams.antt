@@ -2,8 +2,8 @@
 use Rattle.std.specs.Prelude.{◌≡◌, ◌⊎◌, ℕ, ◌+◌, ◌-◌, ◌<◌, ◌^◌, List, [], ◌∷◌, ◌++◌, length, take, drop, codes, true, ◌&&◌, ◌==◌, nat_lt, bytes_eq, cond, Option, Some, None, option_map}
 use Rattle.std.specs.Option.{option_map_or, option_or}
 use Rattle.std.specs.Int.{w16, w32, to_be_bytes, from_be_bytes}
-use Rattle.hd_dbd.specs.declared.answer.Status.{Status}
-use Rattle.hd_dbd.specs.declared.answer.Status.TheVariants.{Blank, GA, GK, GB, GE, GP, II, DA, DJ, AC, AD, AH, AJ, AK, AM}
+use Rattle.hd_dbd.specs.declared.answer.LoadFault.{LoadFault}
+use Rattle.hd_dbd.specs.declared.answer.LoadFault.TheVariants as load
 use Rattle.hd_dbd.specs.Types.{SegmentType}
 use Rattle.hd_dbd.specs.Hierarchy.{Database, type_of}
 use Rattle.hd_dbd.specs.Segment.{Segment}
@@ -59,27 +59,12 @@ spelling_fault own rest =
 abbrev pub row_of : ℕ → ℕ → List ℕ → Segment
 row_of code own rest = record { code = code; bytes = take own (drop 2 rest) }
 
--- the fault that the status of a load is
-abbrev pub refusal_of : Status → RecordFault
-refusal_of Status.LB = LB
-refusal_of Status.LC = LC
-refusal_of Status.LD = LD
-refusal_of Status.LE = LE
-refusal_of Blank = LE
-refusal_of GA = LE
-refusal_of GK = LE
-refusal_of GB = LE
-refusal_of GE = LE
-refusal_of GP = LE
-refusal_of II = LE
-refusal_of DA = LE
-refusal_of DJ = LE
-refusal_of AC = LE
-refusal_of AD = LE
-refusal_of AH = LE
-refusal_of AJ = LE
-refusal_of AK = LE
-refusal_of AM = LE
+-- the fault of a record whose row may not be loaded
+abbrev pub refusal_of : LoadFault → RecordFault
+refusal_of load.LB = LB
+refusal_of load.LC = LC
+refusal_of load.LD = LD
+refusal_of load.LE = LE
 
 -- with the record that begins some bytes, behind these rows: its spelling comes before its load
 abbrev pub record_fault : List SegmentType → List Segment → List ℕ → Option RecordFault

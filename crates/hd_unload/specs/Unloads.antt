@@ -11,7 +11,8 @@ use Rattle.hd_links.specs.Links.{Links, segment_at}
 use Rattle.hd_image.specs.Holding.{HoldsRows}
 use Rattle.hd_forest.specs.Walks.{tip, next_on, AreSegments}
 use Rattle.hd_check.specs.declared.checking.CheckFault.TheVariants as check
-use Rattle.hd_check.specs.Checks.{IsFaultOf, as_call}
+use Rattle.hd_check.specs.declared.checking.Passed.{Passed}
+use Rattle.hd_check.specs.Checks.{IsPassed, IsFaultOf, as_call}
 use Rattle.hd_unload.specs.declared.fault.StreamFault.{StreamFault}
 use Rattle.hd_unload.specs.declared.fault.StreamFault.TheVariants as stream
 use Rattle.hd_unload.specs.declared.unloading.UnloadFault.{UnloadFault}
@@ -43,11 +44,14 @@ abbrev pub unload_call : {T : Type 0} → Result T UnloadFault → Result T Refu
 unload_call (Ok x) = Ok x
 unload_call (Err (unload.Check fault)) = as_call (Err fault)
 unload_call (Err unload.Write) = Err refused.Full
+unload_call (Err unload.Changed) = Err refused.Full
 
--- What a refusal of an unload says of the volume: a fault is the least that stands in it, as a check's is.
+-- What a refusal of an unload says of the volume: a fault is the least that stands in it, as a check's is; where a write failed it
+-- passes; and where the store returns what was written, it is not changed meanwhile.
 abbrev pub IsUnloadFaultOf : Database → VolumeState → UnloadFault → Type 0
 IsUnloadFaultOf d v (unload.Check fault) = IsFaultOf d v fault
-IsUnloadFaultOf d v unload.Write = Unit {0}
+IsUnloadFaultOf d v unload.Write = (passed : Passed) × IsPassed d v passed
+IsUnloadFaultOf d v unload.Changed = ⊥
 
 -- The refusal comes before the first byte is written.
 abbrev pub ComesFirst : UnloadFault → Type 0
@@ -55,3 +59,4 @@ ComesFirst (unload.Check (check.Fault fault)) = Unit {0}
 ComesFirst (unload.Check check.Memory) = Unit {0}
 ComesFirst (unload.Check check.Device) = ⊥
 ComesFirst unload.Write = ⊥
+ComesFirst unload.Changed = ⊥

@@ -2,7 +2,7 @@ ghost use Rattle.std.specs.Prelude.{◌≡◌, true, false};
 ghost use Rattle.hd_dbd.specs.Facts.{stored_sizes};
 
 use crate::row::root_key;
-use hd_check::{CheckFault, Fault, Passed, check};
+use hd_check::{CheckFault, Fault, Line, Passed, check};
 use hd_dbd::{Dbd, Refused};
 use hd_forest::{Path, link, unlink_span};
 use hd_index::insert;
@@ -140,7 +140,7 @@ fn passes(segments: u32) -> Option<Result<Passed, CheckFault>> {
 /// No entry names the root at an address.
 fn lacks_entry(address: u32) -> Option<Result<Passed, CheckFault>> {
     Some(Err(CheckFault::Fault(Fault {
-        number: 18,
+        line: Line::NoEntry,
         address,
         other: 0,
     })))

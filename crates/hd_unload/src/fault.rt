@@ -1,7 +1,7 @@
 ghost use Rattle.std.specs.Prelude.{◌≡◌};
 ghost use Rattle.hd_unload.specs.Streams.{refusal_of};
 
-use hd_dbd::Status;
+use hd_dbd::LoadFault;
 use thiserror::Error;
 
 /// What is wrong with a record of an unload stream. Of one record a fault of the spelling comes before one of the load.
@@ -62,15 +62,15 @@ pub enum StreamFault {
 }
 
 impl RecordFault {
-    /// The fault that the status of a load is.
-    pub(crate) fn of_status(status: Status) -> RecordFault
-        ensures { result ≡ refusal_of status }
+    /// The fault of a record whose row may not be loaded.
+    pub(crate) fn of_load(fault: LoadFault) -> RecordFault
+        ensures { result ≡ refusal_of fault }
     {
-        match status {
-            Status::LB => RecordFault::LB,
-            Status::LC => RecordFault::LC,
-            Status::LD => RecordFault::LD,
-            _ => RecordFault::LE,
+        match fault {
+            LoadFault::LB => RecordFault::LB,
+            LoadFault::LC => RecordFault::LC,
+            LoadFault::LD => RecordFault::LD,
+            LoadFault::LE => RecordFault::LE,
         }
     }
 }

@@ -11,7 +11,7 @@ ghost use Rattle.hd_links.specs.LastRows.{segments_of};
 ghost use Rattle.hd_volume.specs.Creates.{IsCreated};
 ghost use Rattle.hd_unload.specs.Loads.{IsReloaded};
 ghost use Rattle.hd_unload.specs.Refusals.{as_call, IsFaultOfRow, IsFaultOf, IsGivenFrom, IsGivenUp};
-ghost use Rattle.hd_unload.specs.Steps.{IsLoadedTo, IsRowLoaded, IsReadTo, IsLoadedAll};
+ghost use Rattle.hd_unload.specs.Steps.{row_of, IsLoadedTo, IsLoadedBehind, IsLoadedAll, ForItsStreams};
 ghost use Rattle.hd_unload.specs.Streams.{head_bytes};
 
 use crate::fault::{RecordFault, ReloadFault};
@@ -41,17 +41,17 @@ fn load_record<'a, S: BlockStore>(
     number: u64,
 ) -> Result<(), ReloadFault>
     requires sizes { (volume.old.size ≡ dbd.now.block_size) × (volume.old.sizes ≡ stored_sizes dbd.now.types) }
-    requires fits { row_fits dbd.now.types (record { code = code; bytes = bytes.now }) ≡ true }
+    requires fits { row_fits dbd.now.types (row_of code bytes.now) ≡ true }
     requires loaded { IsTrue volume.old.is_sound → (rows : List Segment) × IsLoadedTo dbd.now rows path.old volume.old }
     ensures call { IsCall volume.old (as_call result) volume.new }
-    ensures may { OnOk result (load_fault dbd.now.types (segments_of path.old) (record { code = code; bytes = bytes.now }) ≡ None) }
-    ensures loaded { OnOk result (IsTrue volume.old.is_sound → (rows : List Segment) → IsLoadedTo dbd.now rows path.old volume.old → IsRowLoaded dbd.now volume.old rows (record { code = code; bytes = bytes.now }) path.new volume.new) }
-    ensures path { OnOk result (segments_of path.new ≡ next_path dbd.now.types (segments_of path.old) (record { code = code; bytes = bytes.now })) }
+    ensures may { OnOk result (load_fault dbd.now.types (segments_of path.old) (row_of code bytes.now) ≡ None) }
+    ensures loaded { OnOk result (IsTrue volume.old.is_sound → IsLoadedBehind dbd.now volume.old path.old (row_of code bytes.now) path.new volume.new) }
+    ensures path { OnOk result (segments_of path.new ≡ next_path dbd.now.types (segments_of path.old) (row_of code bytes.now)) }
     ensures fit { OnOk result (IsTrue (well_formed dbd.now.block_size dbd.now.frspc dbd.now.types)) }
-    ensures fault { IfErr result (λ e. IsFaultOfRow dbd.now (segments_of path.old) (record { code = code; bytes = bytes.now }) number volume.old e) }
+    ensures fault { IfErr result (λ e. IsFaultOfRow dbd.now (segments_of path.old) (row_of code bytes.now) number volume.old e) }
 {
-    if let Some(status) = load_fault(path, dbd, code, bytes) {
-        return Err(ReloadFault::Record(RecordFault::of_status(status), number));
+    if let Some(fault) = load_fault(path, dbd, code, bytes) {
+        return Err(ReloadFault::Record(RecordFault::of_load(fault), number));
     }
     match load_row(volume, dbd, path, code, bytes) {
         Ok(()) => Ok(()),
@@ -70,8 +70,8 @@ fn load_records<S: BlockStore>(
     requires sizes { (volume.old.size ≡ dbd.now.block_size) × (volume.old.sizes ≡ stored_sizes dbd.now.types) }
     requires new { IsTrue volume.old.is_sound → (largest : ℕ) × IsCreated dbd.now.name dbd.now.block_size largest volume.old }
     ensures call { IsCall volume.old (as_call result) volume.new }
-    ensures rows { IfOk result (λ n. (stream : List ℕ) → stream ≡ head_bytes dbd.now ++ records.now → (largest : ℕ) → (IsTrue volume.old.is_sound → IsCreated dbd.now.name dbd.now.block_size largest volume.old) → IsLoadedAll dbd.now stream largest n volume.new) }
-    ensures fault { IfErr result (λ e. (stream : List ℕ) → stream ≡ head_bytes dbd.now ++ records.now → (largest : ℕ) → (IsTrue volume.old.is_sound → IsCreated dbd.now.name dbd.now.block_size largest volume.old) → IsFaultOf dbd.now stream largest volume.old.is_sound e) }
+    ensures rows { IfOk result (λ n. ForItsStreams dbd.now records.now volume.old (λ stream largest. IsLoadedAll dbd.now stream largest n volume.new)) }
+    ensures fault { IfErr result (λ e. ForItsStreams dbd.now records.now volume.old (λ stream largest. IsFaultOf dbd.now stream largest volume.old.is_sound e)) }
 {
     let types = dbd.types();
     let mut path = LoadPath::new();
@@ -129,9 +129,9 @@ fn fill<S: BlockStore>(
 ) -> Result<Reloaded<S>, (S, ReloadFault)>
     requires sizes { (volume.size ≡ dbd.now.block_size) × (volume.sizes ≡ stored_sizes dbd.now.types) }
     requires new { IsTrue volume.is_sound → (largest : ℕ) × IsCreated dbd.now.name dbd.now.block_size largest volume }
-    ensures reloaded { IfOk result (λ r. IsTrue volume.is_sound → (stream : List ℕ) → stream ≡ head_bytes dbd.now ++ records.now → (largest : ℕ) → IsCreated dbd.now.name dbd.now.block_size largest volume → IsReloaded dbd.now stream largest r.segments r.blocks (S.contents r.store)) }
+    ensures reloaded { IfOk result (λ r. IsTrue volume.is_sound → ForItsStreams dbd.now records.now volume (λ stream largest. IsReloaded dbd.now stream largest r.segments r.blocks (S.contents r.store))) }
     ensures store { IfOk result (λ r. (S.is_sound r.store ≡ volume.is_sound) × (S.failures r.store ≡ volume.failures) × (S.size r.store ≡ volume.size)) }
-    ensures fault { IfErr result (λ e. (stream : List ℕ) → stream ≡ head_bytes dbd.now ++ records.now → (largest : ℕ) → (IsTrue volume.is_sound → IsCreated dbd.now.name dbd.now.block_size largest volume) → IsFaultOf dbd.now stream largest volume.is_sound e.1) }
+    ensures fault { IfErr result (λ e. ForItsStreams dbd.now records.now volume (λ stream largest. IsFaultOf dbd.now stream largest volume.is_sound e.1)) }
     ensures given { IfErr result (λ e. IsGivenFrom S.size S.contents S.is_sound S.failures volume e) }
 {
     match load_records(&mut volume, dbd, records) {

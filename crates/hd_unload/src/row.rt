@@ -1,33 +1,54 @@
-ghost use Rattle.std.specs.Prelude.{◌≡◌, ◌≢◌, ◌⊎◌, ◌-◌, [], ◌∷◌, ◌++◌, List, length, take, true, None, IsTrue, IfOk, IfErr, OnOk};
+ghost use Rattle.std.specs.Prelude.{◌≡◌, ◌≢◌, ◌+◌, ◌<◌, List, length, true, false, None, IsTrue, IfOk, IfErr, OnOk};
 ghost use Rattle.hd_dbd.specs.Facts.{stored_sizes};
 ghost use Rattle.hd_dbd.specs.DatabaseRules.{well_formed};
 ghost use Rattle.hd_dbd.specs.Segment.{Segment};
-ghost use Rattle.hd_dbd.specs.Rows.{row_fits, level, key_of, next_path};
+ghost use Rattle.hd_dbd.specs.Rows.{row_fits, key_of, next_path};
 ghost use Rattle.hd_dbd.specs.Loads.{load_fault};
-ghost use Rattle.hd_volume.specs.Calls.{IsCall};
-ghost use Rattle.hd_volume.specs.Indexes.{root_key_length};
-ghost use Rattle.hd_links.specs.Placed.{Placed};
-ghost use Rattle.hd_links.specs.LastRows.{segments_of, parent_on_path, twin_on_path};
-ghost use Rattle.hd_unload.specs.Loads.{LacksRoom};
-ghost use Rattle.hd_unload.specs.Steps.{IsLoadedTo, IsRowLoaded};
+ghost use Rattle.hd_dbd.specs.Refusals.{OnlyDevice, OnlyRoomOrDevice};
+ghost use Rattle.hd_volume.specs.Calls.{IsCall, IsRead};
+ghost use Rattle.hd_volume.specs.Indexes.{root_key_length, index_growth};
+ghost use Rattle.hd_volume.specs.Rooms.{spare};
+ghost use Rattle.hd_links.specs.LastRows.{segments_of};
+ghost use Rattle.hd_index.specs.Changes.{IsIndexOf};
+ghost use Rattle.hd_unload.specs.Steps.{row_of, HasRootRoom, CanLoadRoot, CanLoad, IsRootLoadedAt, IsLoadedAt, IsFullFor, IsLoadedTo, IsLoadedBehind};
 
-use crate::judge::{key_of, parent_on, twin_on};
+use crate::judge::{parent_on, twin_on};
 use crate::path::{LoadPath, Loaded};
 use hd_dbd::{Dbd, Refused};
 use hd_forest::link;
-use hd_index::{insert, lacks_room};
+use hd_index::{blocks_needed, insert};
 use hd_volume::{BlockStore, Volume};
 
 /// The key of a root, which is as long as the keys of the index.
 pub fn root_key<'a>(dbd: &Dbd, bytes: &'a [u8]) -> &'a [u8]
-    requires { row_fits dbd.now.types (record { code = 1; bytes = bytes.now }) ≡ true }
-    ensures key { result.now ≡ key_of dbd.now.types (record { code = 1; bytes = bytes.now }) }
+    requires { row_fits dbd.now.types (row_of 1 bytes.now) ≡ true }
+    ensures key { result.now ≡ key_of dbd.now.types (row_of 1 bytes.now) }
     ensures whole { length result.now ≡ root_key_length dbd.now.types }
 {
-    key_of(dbd, 1, bytes)
+    dbd.key_of(1, bytes)
 }
 
-/// Links a root behind the last one, and enters it into the index.
+/// Whether a volume lacks room for one root more: its segment needs a block where no hole is as large, and its entry in the
+/// index may need others.
+fn lacks_room<S: BlockStore>(volume: &mut Volume<S>, dbd: &Dbd, key: &[u8]) -> Result<bool, Refused>
+    requires index { IsTrue volume.old.is_sound → IsIndexOf dbd.now volume.old }
+    ensures read { IsRead volume.old result volume.new }
+    ensures lacks { IfOk result (λ b. IsTrue volume.old.is_sound → b ≡ true → spare volume.old < 1 + index_growth volume.old) }
+    ensures room { IfOk result (λ b. IsTrue volume.old.is_sound → b ≡ false → HasRootRoom dbd.now volume.old key.now) }
+    ensures refusal { OnlyDevice result }
+{
+    let spare = u64::from(volume.spare());
+    let entry = u64::from(blocks_needed(volume, dbd, key)?);
+    if entry + 1 <= spare {
+        return Ok(false);
+    }
+    if !volume.has_hole(dbd.stored_size(1))? {
+        return Ok(true);
+    }
+    Ok(spare < entry)
+}
+
+/// Links a root behind the last one, and enters it into the index, which have room for it.
 fn load_root<S: BlockStore>(
     volume: &mut Volume<S>,
     dbd: &Dbd,
@@ -35,24 +56,38 @@ fn load_root<S: BlockStore>(
     bytes: &[u8],
 ) -> Result<u32, Refused>
     requires sizes { (volume.old.size ≡ dbd.now.block_size) × (volume.old.sizes ≡ stored_sizes dbd.now.types) }
-    requires fits { row_fits dbd.now.types (record { code = 1; bytes = bytes.now }) ≡ true }
-    requires loaded { IsTrue volume.old.is_sound → (rows : List Segment) × (path : List Placed) × IsLoadedTo dbd.now rows path volume.old
-        × (load_fault dbd.now.types (segments_of path) (record { code = 1; bytes = bytes.now }) ≡ None)
-        × (after ≡ twin_on_path dbd.now.types path (record { code = 1; bytes = bytes.now })) }
+    requires fits { row_fits dbd.now.types (row_of 1 bytes.now) ≡ true }
+    requires can { IsTrue volume.old.is_sound → CanLoadRoot dbd.now volume.old after (row_of 1 bytes.now) }
+    requires room { IsTrue volume.old.is_sound → HasRootRoom dbd.now volume.old (key_of dbd.now.types (row_of 1 bytes.now)) }
     ensures call { IsCall volume.old result volume.new }
-    ensures loaded { IfOk result (λ a. IsTrue volume.old.is_sound → (rows : List Segment) (path : List Placed) → IsLoadedTo dbd.now rows path volume.old
-        → (load_fault dbd.now.types (segments_of path) (record { code = 1; bytes = bytes.now }) ≡ None)
-        → (after ≡ twin_on_path dbd.now.types path (record { code = 1; bytes = bytes.now }))
-        → IsRowLoaded dbd.now volume.old rows (record { code = 1; bytes = bytes.now }) (record { address = a; segment = record { code = 1; bytes = bytes.now } } ∷ []) volume.new) }
-    ensures full { IfErr result (λ e. e ≡ Refused.Full → IsTrue volume.old.is_sound → LacksRoom dbd.now volume.old (record { code = 1; bytes = bytes.now })) }
-    ensures refusal { IfErr result (λ e. (e ≡ Refused.Memory) ⊎ (e ≡ Refused.Full) ⊎ (e ≡ Refused.Device)) }
+    ensures loaded { IfOk result (λ a. IsTrue volume.old.is_sound → IsRootLoadedAt dbd.now volume.old after (row_of 1 bytes.now) a volume.new) }
+    ensures not_full { IfErr result (λ e. e ≡ Refused.Full → IsTrue volume.old.is_sound → ⊥) }
+    ensures refusal { OnlyRoomOrDevice result }
 {
-    if lacks_room(volume, 1) {
-        return Err(Refused::Full);
-    }
     let address = link(volume, dbd, 0, after, 1, bytes)?;
     insert(volume, dbd, root_key(dbd, bytes), address)?;
     Ok(address)
+}
+
+/// Loads a root behind the last one where there is room for it.
+fn load_root_with_room<S: BlockStore>(
+    volume: &mut Volume<S>,
+    dbd: &Dbd,
+    after: u32,
+    bytes: &[u8],
+) -> Result<u32, Refused>
+    requires sizes { (volume.old.size ≡ dbd.now.block_size) × (volume.old.sizes ≡ stored_sizes dbd.now.types) }
+    requires fits { row_fits dbd.now.types (row_of 1 bytes.now) ≡ true }
+    requires can { IsTrue volume.old.is_sound → CanLoadRoot dbd.now volume.old after (row_of 1 bytes.now) }
+    ensures call { IsCall volume.old result volume.new }
+    ensures loaded { IfOk result (λ a. IsTrue volume.old.is_sound → IsRootLoadedAt dbd.now volume.old after (row_of 1 bytes.now) a volume.new) }
+    ensures full { IfErr result (λ e. IsFullFor dbd.now volume.old (row_of 1 bytes.now) e) }
+    ensures refusal { OnlyRoomOrDevice result }
+{
+    if lacks_room(volume, dbd, root_key(dbd, bytes))? {
+        return Err(Refused::Full);
+    }
+    load_root(volume, dbd, after, bytes)
 }
 
 /// Links a row that is no root behind the last row, and says its address.
@@ -66,19 +101,12 @@ fn load_dependent<S: BlockStore>(
 ) -> Result<u32, Refused>
     requires dependent { code ≢ 1 }
     requires sizes { volume.old.sizes ≡ stored_sizes dbd.now.types }
-    requires fits { row_fits dbd.now.types (record { code = code; bytes = bytes.now }) ≡ true }
-    requires loaded { IsTrue volume.old.is_sound → (rows : List Segment) × (path : List Placed) × IsLoadedTo dbd.now rows path volume.old
-        × (load_fault dbd.now.types (segments_of path) (record { code = code; bytes = bytes.now }) ≡ None)
-        × (parent ≡ parent_on_path dbd.now.types path (record { code = code; bytes = bytes.now }))
-        × (after ≡ twin_on_path dbd.now.types path (record { code = code; bytes = bytes.now })) }
+    requires fits { row_fits dbd.now.types (row_of code bytes.now) ≡ true }
+    requires can { IsTrue volume.old.is_sound → CanLoad dbd.now volume.old parent after (row_of code bytes.now) }
     ensures call { IsCall volume.old result volume.new }
-    ensures loaded { IfOk result (λ a. IsTrue volume.old.is_sound → (rows : List Segment) (path : List Placed) → IsLoadedTo dbd.now rows path volume.old
-        → (load_fault dbd.now.types (segments_of path) (record { code = code; bytes = bytes.now }) ≡ None)
-        → (parent ≡ parent_on_path dbd.now.types path (record { code = code; bytes = bytes.now }))
-        → (after ≡ twin_on_path dbd.now.types path (record { code = code; bytes = bytes.now }))
-        → IsRowLoaded dbd.now volume.old rows (record { code = code; bytes = bytes.now }) (take (level dbd.now.types (record { code = code; bytes = bytes.now }) - 1) path ++ record { address = a; segment = record { code = code; bytes = bytes.now } } ∷ []) volume.new) }
-    ensures full { IfErr result (λ e. e ≡ Refused.Full → IsTrue volume.old.is_sound → LacksRoom dbd.now volume.old (record { code = code; bytes = bytes.now })) }
-    ensures refusal { IfErr result (λ e. (e ≡ Refused.Memory) ⊎ (e ≡ Refused.Full) ⊎ (e ≡ Refused.Device)) }
+    ensures loaded { IfOk result (λ a. IsTrue volume.old.is_sound → IsLoadedAt dbd.now volume.old parent after (row_of code bytes.now) a volume.new) }
+    ensures full { IfErr result (λ e. IsFullFor dbd.now volume.old (row_of code bytes.now) e) }
+    ensures refusal { OnlyRoomOrDevice result }
 {
     link(volume, dbd, parent, after, code, bytes)
 }
@@ -93,22 +121,15 @@ fn load_behind<S: BlockStore>(
     bytes: &[u8],
 ) -> Result<u32, Refused>
     requires sizes { (volume.old.size ≡ dbd.now.block_size) × (volume.old.sizes ≡ stored_sizes dbd.now.types) }
-    requires fits { row_fits dbd.now.types (record { code = code; bytes = bytes.now }) ≡ true }
-    requires loaded { IsTrue volume.old.is_sound → (rows : List Segment) × (path : List Placed) × IsLoadedTo dbd.now rows path volume.old
-        × (load_fault dbd.now.types (segments_of path) (record { code = code; bytes = bytes.now }) ≡ None)
-        × (parent ≡ parent_on_path dbd.now.types path (record { code = code; bytes = bytes.now }))
-        × (after ≡ twin_on_path dbd.now.types path (record { code = code; bytes = bytes.now })) }
+    requires fits { row_fits dbd.now.types (row_of code bytes.now) ≡ true }
+    requires can { IsTrue volume.old.is_sound → CanLoad dbd.now volume.old parent after (row_of code bytes.now) }
     ensures call { IsCall volume.old result volume.new }
-    ensures loaded { IfOk result (λ a. IsTrue volume.old.is_sound → (rows : List Segment) (path : List Placed) → IsLoadedTo dbd.now rows path volume.old
-        → (load_fault dbd.now.types (segments_of path) (record { code = code; bytes = bytes.now }) ≡ None)
-        → (parent ≡ parent_on_path dbd.now.types path (record { code = code; bytes = bytes.now }))
-        → (after ≡ twin_on_path dbd.now.types path (record { code = code; bytes = bytes.now }))
-        → IsRowLoaded dbd.now volume.old rows (record { code = code; bytes = bytes.now }) (take (level dbd.now.types (record { code = code; bytes = bytes.now }) - 1) path ++ record { address = a; segment = record { code = code; bytes = bytes.now } } ∷ []) volume.new) }
-    ensures full { IfErr result (λ e. e ≡ Refused.Full → IsTrue volume.old.is_sound → LacksRoom dbd.now volume.old (record { code = code; bytes = bytes.now })) }
-    ensures refusal { IfErr result (λ e. (e ≡ Refused.Memory) ⊎ (e ≡ Refused.Full) ⊎ (e ≡ Refused.Device)) }
+    ensures loaded { IfOk result (λ a. IsTrue volume.old.is_sound → IsLoadedAt dbd.now volume.old parent after (row_of code bytes.now) a volume.new) }
+    ensures full { IfErr result (λ e. IsFullFor dbd.now volume.old (row_of code bytes.now) e) }
+    ensures refusal { OnlyRoomOrDevice result }
 {
     if code == 1 {
-        load_root(volume, dbd, after, bytes)
+        load_root_with_room(volume, dbd, after, bytes)
     } else {
         load_dependent(volume, dbd, parent, after, code, bytes)
     }
@@ -123,15 +144,15 @@ pub fn load_row<'a, S: BlockStore>(
     bytes: &'a [u8],
 ) -> Result<(), Refused>
     requires sizes { (volume.old.size ≡ dbd.now.block_size) × (volume.old.sizes ≡ stored_sizes dbd.now.types) }
-    requires fits { row_fits dbd.now.types (record { code = code; bytes = bytes.now }) ≡ true }
-    requires may { load_fault dbd.now.types (segments_of path.old) (record { code = code; bytes = bytes.now }) ≡ None }
+    requires fits { row_fits dbd.now.types (row_of code bytes.now) ≡ true }
+    requires may { load_fault dbd.now.types (segments_of path.old) (row_of code bytes.now) ≡ None }
     requires loaded { IsTrue volume.old.is_sound → (rows : List Segment) × IsLoadedTo dbd.now rows path.old volume.old }
     ensures call { IsCall volume.old result volume.new }
-    ensures loaded { OnOk result (IsTrue volume.old.is_sound → (rows : List Segment) → IsLoadedTo dbd.now rows path.old volume.old → IsRowLoaded dbd.now volume.old rows (record { code = code; bytes = bytes.now }) path.new volume.new) }
-    ensures path { OnOk result (segments_of path.new ≡ next_path dbd.now.types (segments_of path.old) (record { code = code; bytes = bytes.now })) }
+    ensures loaded { OnOk result (IsTrue volume.old.is_sound → IsLoadedBehind dbd.now volume.old path.old (row_of code bytes.now) path.new volume.new) }
+    ensures path { OnOk result (segments_of path.new ≡ next_path dbd.now.types (segments_of path.old) (row_of code bytes.now)) }
     ensures fit { OnOk result (IsTrue (well_formed dbd.now.block_size dbd.now.frspc dbd.now.types)) }
-    ensures full { IfErr result (λ e. e ≡ Refused.Full → IsTrue volume.old.is_sound → LacksRoom dbd.now volume.old (record { code = code; bytes = bytes.now })) }
-    ensures refusal { IfErr result (λ e. (e ≡ Refused.Memory) ⊎ (e ≡ Refused.Full) ⊎ (e ≡ Refused.Device)) }
+    ensures full { IfErr result (λ e. IsFullFor dbd.now volume.old (row_of code bytes.now) e) }
+    ensures refusal { OnlyRoomOrDevice result }
 {
     let parent = parent_on(path, dbd, code);
     let after = twin_on(path, dbd, code);

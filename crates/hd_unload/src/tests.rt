@@ -1,7 +1,7 @@
-ghost use Rattle.std.specs.Prelude.{◌≡◌, ◌≤◌, ◌<◌, IfOk};
+ghost use Rattle.std.specs.Prelude.{◌≡◌, ◌≤◌, ◌<◌, ◌^◌, [], false, IfOk};
 
 use super::*;
-use hd_check::{CheckFault, Fault};
+use hd_check::{CheckFault, Fault, Line};
 use hd_dbd::{Dbd, Refused};
 use hd_sample::{RECORDS, database, image, stream_of};
 use hd_volume::{BlockStore, FuseStore, MemStore, Volume};
@@ -153,6 +153,41 @@ fn five_thousand_twins_take_717_blocks(rt: HostRuntime) -> Result<(), Fail> {
     Ok(())
 }
 
+/// The records of so many courses, at most 99, and their end.
+fn courses(alloc: Global, count: u8) -> Result<Vec<u8>, AllocError>
+    requires { count ≤ 99 }
+{
+    let mut records = Vec::new(alloc);
+    for number in 0..count {
+        records.extend_from_slice(b"\x01\0\x080")?;
+        records.push(b'0' + number / 10)?;
+        records.push(b'0' + number % 10)?;
+        records.extend_from_slice(b"ALGEB")?;
+    }
+    records.extend_from_slice(&[0, 0, 0, 0, count])?;
+    Ok(records)
+}
+
+#[test]
+fn roots_take_no_block_that_they_do_not_need(rt: HostRuntime) -> Result<(), Fail> {
+    let alloc = rt.alloc();
+    for count in 1..=40 {
+        let records = courses(alloc, count)?;
+        // three courses fill a data block, and sixteen entries an index block
+        let blocks = 1 + u32::from(count).div_ceil(3) + u32::from(count).div_ceil(16);
+        assert_eq!(rt;
+            counts_of(alloc, &records, 65536),
+            Some((u32::from(count), blocks))
+        );
+        assert_eq!(rt;
+            counts_of(alloc, &records, blocks),
+            Some((u32::from(count), blocks))
+        );
+        assert_eq!(rt; counts_of(alloc, &records, blocks - 1), None);
+    }
+    Ok(())
+}
+
 /// The bytes of a reloaded volume of these records, of at most 16 blocks.
 fn image_of(alloc: Global, records: &[u8]) -> Option<Vec<u8>> {
     match reloaded(alloc, records, 16)? {
@@ -227,7 +262,7 @@ fn unloads_nothing_of_an_empty_store(rt: HostRuntime) {
         &mut written,
     );
     let fault = Fault {
-        number: 1,
+        line: Line::NoVolume,
         address: 0,
         other: 0,
     };
@@ -328,4 +363,88 @@ fn an_unload_tells_of_each_write_that_fails(rt: HostRuntime) {
         }
     }
     assert!(rt; false, "no end");
+}
+
+/// Fills a buffer with the bytes of an image from a place on.
+fn fill_from(buf: &mut [u8], image: &[u8], start: usize) {
+    for (place, byte) in buf.iter_mut().enumerate() {
+        *byte = image.get(start.saturating_add(place)).copied().unwrap_or(0);
+    }
+}
+
+/// A store over an image that another turns into a volume of fewer rows behind so many reads. No contract says anything of it.
+#[derive(Drop)]
+struct Turning {
+    now: Vec<u8>,
+    then: Vec<u8>,
+    reads: u64,
+}
+
+impl BlockStore for Turning {
+    ghost size = { λ _. 128 };
+
+    ghost contents = { λ _. [] };
+
+    ghost is_sound = { λ _. false };
+
+    ghost failures = { λ _. 0 };
+
+    ghost room = { λ _. 2 ^ 32 };
+
+    fn block_size(&self) -> usize {
+        128
+    }
+
+    fn length(&self) -> u64 {
+        self.now.len() as u64
+    }
+
+    fn read(&mut self, n: u32, buf: &mut [u8]) -> Result<(), Refused> {
+        let start = n as usize * 128;
+        if self.reads == 0 {
+            fill_from(buf, &self.then, start);
+        } else {
+            fill_from(buf, &self.now, start);
+        }
+        self.reads = self.reads.saturating_sub(1);
+        Ok(())
+    }
+
+    fn write(&mut self, _n: u32, _bytes: &[u8]) -> Result<(), Refused> {
+        Ok(())
+    }
+
+    fn reserve(&mut self, _blocks: u32) -> Result<(), Refused> {
+        Ok(())
+    }
+
+    fn grow(&mut self, _blocks: u32) -> Result<(), Refused> {
+        Ok(())
+    }
+}
+
+/// The records of the sample without its second root.
+const FEWER: &[u8] =
+    b"\x01\0\x08101ALGEB\x02\0\x0401AB\x03\0\x06ADAM01\x03\0\x06EVE 02\x02\0\x0402CD\x04\0\x05EULER\0\0\0\0\x06";
+
+#[test]
+fn tells_of_a_volume_that_is_changed_meanwhile(rt: HostRuntime) -> Result<(), Fail> {
+    let alloc = rt.alloc();
+    let dbd = database(alloc).expect(&rt, "a database");
+    let mut changed = 0u32;
+    for reads in 0..200 {
+        let store = Turning {
+            now: image_of(alloc, RECORDS).expect(&rt, "a volume"),
+            then: image_of(alloc, FEWER).expect(&rt, "a volume"),
+            reads,
+        };
+        let mut written = Vec::new(alloc);
+        match unloaded(alloc, &dbd, store, &mut written) {
+            Ok(segments) => assert!(rt; segments == 6 || segments == 7),
+            Err(UnloadFault::Changed) => changed = changed.saturating_add(1),
+            Err(_) => {}
+        }
+    }
+    assert!(rt; changed > 0);
+    Ok(())
 }

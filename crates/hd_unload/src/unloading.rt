@@ -13,7 +13,7 @@ use std::io::Write;
 use thiserror::Error;
 
 /// Why a volume is not unloaded. After a fault, or where memory was wanting, nothing is written; after a failed access or a failed
-/// write it is not known what went out.
+/// write, or where the volume was changed meanwhile, it is not known what went out.
 #[derive(Clone, Copy, Debug, Drop, PartialEq, Eq, Error)]
 pub enum UnloadFault {
     /// The volume does not pass, or the check came to no end.
@@ -22,6 +22,9 @@ pub enum UnloadFault {
     /// A write failed.
     #[error("write failed")]
     Write,
+    /// So many segments were written as the check did not count: another has changed the volume meanwhile.
+    #[error("volume changed")]
+    Changed,
 }
 
 /// Checks a volume, and writes the unload stream of the one forest that it holds; says how many segments that are. No byte of the
@@ -39,8 +42,9 @@ pub fn unload<S: BlockStore, W: Write>(
     ensures nothing { IfErr result (λ e. ComesFirst e → out.new ≡ out.old) }
 {
     match check(alloc, volume, dbd) {
-        Ok(_) => match write_stream(volume, dbd, out) {
-            Ok(segments) => Ok(segments),
+        Ok(passed) => match write_stream(volume, dbd, out) {
+            Ok(segments) if segments == passed.segments => Ok(segments),
+            Ok(_) => Err(UnloadFault::Changed),
             Err(StreamFault::Device) => Err(UnloadFault::Check(CheckFault::Device)),
             Err(StreamFault::Write) => Err(UnloadFault::Write),
         },

@@ -166,7 +166,7 @@ fn checks_once_memory_is_found(rt: HostRuntime) -> Result<(), Fail> {
     fs::write(&rt, "judged.volume", &sample_with(&[]))?;
     let words = words_of(rt.alloc(), &["check", "judged.dbd", "judged.volume"])?;
     let text = b"EDU passes: 4 blocks, 7 segments, 2 roots\n";
-    assert!(rt; refusals_of_growth(&rt, &words, b"", text) > 0);
+    assert!(rt; refusals_of_growth(&rt, &words, b"", text, None) > 0);
     remove(&rt, &["judged.dbd", "judged.volume"])?;
     Ok(())
 }

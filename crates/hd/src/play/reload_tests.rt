@@ -1,7 +1,8 @@
 use super::testing::{expect, play_words, refusals_of_growth, remove, sample_with, words_of};
 use super::*;
 use hd_sample::{RECORDS, stream_of};
-use std::fs;
+use std::fs::{self, Permissions};
+use std::os::unix::fs::PermissionsExt;
 use std::test::Fail;
 
 #[test]
@@ -145,7 +146,7 @@ fn reloads_once_memory_is_found(rt: HostRuntime) -> Result<(), Fail> {
         &["reload", "grown.dbd", "grown.in", "grown.volume", "16"],
     )?;
     let text = b"reloaded 7 segments into 4 blocks\n";
-    assert!(rt; refusals_of_growth(&rt, &words, b"", text) > 0);
+    assert!(rt; refusals_of_growth(&rt, &words, b"", text, None) > 0);
     remove(&rt, &["grown.dbd", "grown.in", "grown.volume"])?;
     Ok(())
 }
@@ -154,12 +155,14 @@ fn reloads_once_memory_is_found(rt: HostRuntime) -> Result<(), Fail> {
 fn unloads_once_memory_is_found(rt: HostRuntime) -> Result<(), Fail> {
     fs::write(&rt, "copied.dbd", sample::DBD_SOURCE)?;
     fs::write(&rt, "copied.volume", &sample_with(&[]))?;
+    fs::write(&rt, "copied.out", &[b'x'; 200])?;
     let words = words_of(
         rt.alloc(),
         &["unload", "copied.dbd", "copied.volume", "copied.out"],
     )?;
     let text = b"unloaded 7 segments\n";
-    assert!(rt; refusals_of_growth(&rt, &words, b"", text) > 0);
+    let output = File::open(&rt, "copied.out")?;
+    assert!(rt; refusals_of_growth(&rt, &words, b"", text, Some(&output)) > 0);
     remove(&rt, &["copied.dbd", "copied.volume", "copied.out"])?;
     Ok(())
 }
@@ -183,6 +186,41 @@ fn tells_of_files_that_are_none(rt: HostRuntime) -> Result<(), Fail> {
         expect(&rt, words, 3, b"", b"device failed\n")?;
     }
     remove(&rt, &["files.dbd", "files.volume"])?;
+    Ok(())
+}
+
+#[test]
+fn a_refused_unload_leaves_its_output_alone(rt: HostRuntime) -> Result<(), Fail> {
+    fs::write(&rt, "kept.dbd", sample::DBD_SOURCE)?;
+    let older = [b'x'; 200];
+    fs::write(&rt, "kept.out", &older)?;
+    let words = ["unload", "kept.dbd", "kept.volume", "kept.out"];
+    expect(&rt, &words, 3, b"", b"device failed\n")?;
+    fs::write(&rt, "kept.volume", &sample_with(&[(247, b"1")]))?;
+    expect(&rt, &words, 1, b"", b"fault 13 at 232, other 176\n")?;
+    assert_eq!(rt; fs::read(&rt, "kept.out")?.as_slice(), older.as_slice());
+    fs::write(&rt, "kept.volume", &sample_with(&[]))?;
+    expect(&rt, &words, 0, b"unloaded 7 segments\n", b"")?;
+    let stream = stream_of(rt.alloc(), RECORDS)?;
+    assert_eq!(rt; fs::read(&rt, "kept.out")?.as_slice(), stream.as_slice());
+    remove(&rt, &["kept.dbd", "kept.volume", "kept.out"])?;
+    Ok(())
+}
+
+#[test]
+fn writes_a_file_that_may_only_be_written(rt: HostRuntime) -> Result<(), Fail> {
+    fs::write(&rt, "only.dbd", sample::DBD_SOURCE)?;
+    fs::write(&rt, "only.volume", &sample_with(&[]))?;
+    fs::write(&rt, "only.out", b"older")?;
+    fs::set_permissions(&rt, "only.out", Permissions::from_mode(0o200))?;
+    let words = ["unload", "only.dbd", "only.volume", "only.out"];
+    expect(&rt, &words, 0, b"unloaded 7 segments\n", b"")?;
+    let words = ["unload", "only.dbd", "only.volume", "/dev/null"];
+    expect(&rt, &words, 0, b"unloaded 7 segments\n", b"")?;
+    fs::set_permissions(&rt, "only.out", Permissions::from_mode(0o600))?;
+    let stream = stream_of(rt.alloc(), RECORDS)?;
+    assert_eq!(rt; fs::read(&rt, "only.out")?.as_slice(), stream.as_slice());
+    remove(&rt, &["only.dbd", "only.volume", "only.out"])?;
     Ok(())
 }
 
@@ -285,21 +323,30 @@ fn refuses_the_first_bad_record(rt: HostRuntime) -> Result<(), Fail> {
     Ok(())
 }
 
+/// Whether a text has a part.
+fn has_part(text: &[u8], part: &[u8]) -> bool {
+    part.is_empty() || text.windows(part.len()).any(|window| window == part)
+}
+
 #[test]
 fn asks_for_one_block_to_65_536(rt: HostRuntime) -> Result<(), Fail> {
     for blocks in ["0", "65537", "many", "-1", ""] {
         let words = ["reload", "blocks.dbd", "blocks.in", "blocks.volume", blocks];
         let end = play_words(&rt, &words)?;
         assert_eq!(rt; end.status, COMMAND_LINE, "at {blocks}");
-        assert!(rt; end.err.len() > 0);
+        assert!(rt; has_part(&end.err, blocks.as_bytes()), "at {blocks}");
     }
-    for words in [
-        &["reload", "blocks.dbd", "blocks.in", "blocks.volume"] as &[&str],
-        &["check", "blocks.dbd"],
-        &["unload", "blocks.dbd", "blocks.volume"],
-        &["check", "blocks.dbd", "blocks.volume", "more"],
+    for (words, part) in [
+        (&["reload", "dbd", "in", "volume"] as &[&str], "<BLOCKS>"),
+        (&["check", "dbd"], "<VOLUME>"),
+        (&["unload", "dbd", "volume"], "<OUT>"),
+        (&["check", "dbd", "volume", "more"], "'more'"),
+        (&["deck"], "'deck'"),
+        (&["check", "--all"], "'--all'"),
     ] {
-        assert_eq!(rt; play_words(&rt, words)?.status, COMMAND_LINE);
+        let end = play_words(&rt, words)?;
+        assert_eq!(rt; end.status, COMMAND_LINE);
+        assert!(rt; has_part(&end.err, part.as_bytes()), "{part}");
     }
     Ok(())
 }

@@ -127,14 +127,21 @@ fn take_all(alloc: Global, taken: &mut Vec<Vec<u8>>) {
     }
 }
 
+/// The bytes of an open file.
+fn length_of(file: &File) -> Option<u64> {
+    file.metadata().ok().map(|metadata| metadata.len())
+}
+
 /// Plays with almost no memory, again and again with one piece more, until there is enough: each time before, the program says
-/// that it has none, and does nothing. Says how often that was.
+/// that it has none, and does nothing, so that an output has as many bytes as it had. Says how often that was.
 pub fn refusals_of_growth<R: Files<File = File> + AllocGlobal + Abort>(
     rt: &R,
     words: &[String],
     deck: &[u8],
     text: &[u8],
+    output: Option<&File>,
 ) -> u32 {
+    let length = output.map(|file| length_of(file));
     let mut spare = Vec::with_capacity(rt.alloc(), 8192).expect(rt, "memory");
     let mut taken = Vec::with_capacity(rt.alloc(), 65_536).expect(rt, "memory");
     for _ in 0..8192 {
@@ -152,6 +159,7 @@ pub fn refusals_of_growth<R: Files<File = File> + AllocGlobal + Abort>(
         }
         assert_eq!(rt; out.text().len(), 0);
         assert_eq!(rt; err.text(), b"no memory\n".as_slice());
+        assert_eq!(rt; output.map(|file| length_of(file)), length);
         let _ = spare.pop();
     }
     0

@@ -3,6 +3,7 @@ use super::*;
 use hd_dbd::{DbdFault, PsbFault, Refused};
 use hd_deck::{DeckFault, RunFault};
 use hd_gen::GenFault;
+use std::alloc::AllocError;
 use std::io;
 use std::io::ErrorKind;
 
@@ -257,6 +258,17 @@ fn words_refusals_as_a_person_reads_them(rt: HostRuntime) {
         (Stop::from(RunFault::Memory), "no memory", 4),
         (Stop::from(Refused::Memory), "no memory", 4),
         (Stop::from(RunFault::Write), "device failed", 3),
+        (Stop::from(AllocError), "no memory", 4),
+        (
+            Stop::words(&io::Error::from(ErrorKind::OutOfMemory)),
+            "no memory",
+            4,
+        ),
+        (
+            Stop::words(&io::Error::from(ErrorKind::InvalidData)),
+            "a word of the command line is not UTF-8",
+            64,
+        ),
         (Stop::Sample, "sample is not in hierarchic sequence", 1),
     ] {
         assert_eq!(rt;
@@ -270,6 +282,6 @@ fn words_refusals_as_a_person_reads_them(rt: HostRuntime) {
 #[test]
 fn tells_of_each_growth_that_finds_no_memory(rt: HostRuntime) {
     let text = b"1 3 GN   [  ] 01 COURSE   key=101 area=101ALGEB\n";
-    let refused = refusals_of_growth(&rt, &[], b"S 3\nL     GN\n", text);
+    let refused = refusals_of_growth(&rt, &[], b"S 3\nL     GN\n", text, None);
     assert!(rt; refused > 0);
 }

@@ -1,4 +1,4 @@
 use Rattle.hd.proofs.reloading.fill_file.Given as goal
 
 abbrev pub ghosts-fill : goal.ghosts-fill
-ghosts-fill a = record { name = a.blank.name; parts = a.blank.parts }
+ghosts-fill g a = record { name = a.blank.name; parts = a.blank.parts }

@@ -21,7 +21,7 @@ returns-in-Ok-clause-reloaded g c =
     (λ r image segments sound stream is largest new.
     (let now : IsTrue c.load_records.new.volume.is_sound = rw o.call.sound sound in
     let stored = image now in
-    reloaded c.args.dbd.now stream largest r.segments c.in-Ok.segments r.blocks c.load_records.new.volume _ (o.rows stream is largest (λ _. new)) now
+    reloaded c.args.dbd.now stream largest r.segments c.in-Ok.segments r.blocks c.load_records.new.volume _ (o.rows stream is largest new) now
     (o.call.size ∙ c.requires.sizes.0) (o.call.sizes ∙ c.requires.sizes.1) stored.0 stored.1 segments))
 
 pub returns-in-Ok-clause-given : goal.returns-in-Ok-clause-given

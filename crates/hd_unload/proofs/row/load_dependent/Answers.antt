@@ -4,7 +4,7 @@ use Rattle.hd_unload.proofs.row.load_dependent.Goals as goal
 
 pub link-requires-clause-place : goal.link-requires-clause-place
 link-requires-clause-place g c = λ sound.
-    may-link c.args.dbd.now c.args.volume.now (record { code = c.args.code; bytes = c.args.bytes.now }) c.args.parent c.args.after c.requires.fits (c.requires.loaded sound)
+    may-link c.args.dbd.now c.args.volume.now (record { code = c.args.code; bytes = c.args.bytes.now }) c.args.parent c.args.after c.requires.fits (c.requires.can sound)
 
 pub returns-clause-loaded : goal.returns-clause-loaded
 returns-clause-loaded g c =

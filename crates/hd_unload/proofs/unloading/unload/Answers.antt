@@ -1,6 +1,8 @@
-use Rattle.std.proofs.Common.{IsTrue, Ok, Err, refl, sym}
+use Rattle.std.proofs.Common.{◌≡◌, IsTrue, Ok, Err, length, refl, sym, ap, ◌∙◌}
 use Rattle.hd_dbd.specs.declared.answer.Refused.TheVariants.{Full}
 use Rattle.hd_volume.proofs.CallSteps.{reads-join}
+use Rattle.hd_dbd.specs.Forest.{sequence}
+use Rattle.hd_links.specs.Placed.{forest_of}
 use Rattle.hd_links.specs.Steps.{rows_of}
 use Rattle.hd_forest.proofs.Reading.{sound-before}
 use Rattle.hd_image.proofs.OneImage.{held-same}
@@ -28,6 +30,31 @@ returns-in-Ok-write_stream-clause-unloaded g c = λ sound.
       stream = w.stream;
       segments_are = w.segments_are;
     }
+
+-- as many segments were written as the one forest has that the volume held
+pub returns-in-Ok-2-clause-fault : goal.returns-in-Ok-2-clause-fault
+returns-in-Ok-2-clause-fault g c = λ sound.
+    let read = c.in-Ok.ensures.read in
+    let now : IsTrue c.check.new.volume.is_sound = rw read.call.sound sound in
+    let w = c.in-Ok-write_stream.ensures.written now in
+    let p = c.in-Ok.ensures.passed sound in
+    let held = held-same c.args.dbd.now c.check.new.volume c.args.volume.now (sym (read.image now)) (sym read.call.size) (sym read.call.sizes) w.holds.0 w.holds.2 in
+    let one : forest_of w.holds.0 ≡ forest_of p.placed = p.one (forest_of w.holds.0) (w.holds.0, refl, held) in
+    let rows : w.rows ≡ rows_of p.placed = sym w.holds.1 ∙ ap (λ f. sequence f) one in
+    c.if-segments-passed.false (w.segments_are ∙ ap length rows ∙ sym p.segments)
+
+pub returns-in-Ok-2-clause-read : goal.returns-in-Ok-2-clause-read
+returns-in-Ok-2-clause-read g c =
+    let last = c.in-Ok-write_stream.ensures.read in
+    reads-join (Err Full) c.in-Ok.ensures.read (record {
+      call = record { counts = last.call.counts; sound = last.call.sound; size = last.call.size; sizes = last.call.sizes; first = last.call.first };
+      image = last.image;
+      stands = last.stands;
+      room = last.room;
+    })
+
+pub returns-in-Err-Write-clause-fault : goal.returns-in-Err-Write-clause-fault
+returns-in-Err-Write-clause-fault g c = λ sound. (c.in-Ok.passed, c.in-Ok.ensures.passed sound)
 
 pub returns-in-Err-Write-clause-read : goal.returns-in-Err-Write-clause-read
 returns-in-Err-Write-clause-read g c =

@@ -1,0 +1,11 @@
+use Rattle.std.proofs.Common.{rules}
+use Rattle.hd_commands.proofs.Saying.{reload-says}
+use Rattle.hd_commands.proofs.reloading.reload_store.Goals as goal
+
+pub returns-in-Err-clause-refused : goal.returns-in-Err-clause-refused
+returns-in-Err-clause-refused g c = λ other. record {
+  refusal = c.of_reload.result;
+  says = rw c.of_reload.ensures (reload-says c.args.dbd.now c.args.stream.now c.args.largest (g.S.BlockStore.is_sound c.args.store) (g.S.BlockStore.contents c.in-Err.store) _ _ c.in-Err.fault c.in-Err.ensures.fault c.in-Err.ensures.given.counts);
+  status = search rules;
+  line = search rules;
+}

@@ -1,0 +1,38 @@
+-- Which refusal of a command a fault of the calls below is.
+use Rattle.hd_dbd.specs.declared.answer.Refused.{Refused}
+use Rattle.hd_dbd.specs.declared.answer.Refused.TheVariants as refused
+use Rattle.hd_check.specs.declared.checking.CheckFault.{CheckFault}
+use Rattle.hd_check.specs.declared.checking.CheckFault.TheVariants as check
+use Rattle.hd_unload.specs.declared.unloading.UnloadFault.{UnloadFault}
+use Rattle.hd_unload.specs.declared.unloading.UnloadFault.TheVariants as unload
+use Rattle.hd_unload.specs.declared.fault.ReloadFault.{ReloadFault}
+use Rattle.hd_unload.specs.declared.fault.ReloadFault.TheVariants as reload
+use Rattle.hd_commands.specs.declared.refusal.Refusal.{Refusal}
+use Rattle.hd_commands.specs.declared.refusal.Refusal.TheVariants.{Fault, Record, Full, Device, Memory}
+
+-- of a check
+abbrev pub of_check : CheckFault → Refusal
+of_check (check.Fault fault) = Fault fault
+of_check check.Memory = Memory
+of_check check.Device = Device
+
+-- of an unload; a failed write and a volume that was changed meanwhile are device faults
+abbrev pub of_unload : UnloadFault → Refusal
+of_unload (unload.Check fault) = of_check fault
+of_unload unload.Write = Device
+of_unload unload.Changed = Device
+
+-- of a reload
+abbrev pub of_reload : ReloadFault → Refusal
+of_reload (reload.Record fault n) = Record fault n
+of_reload (reload.Full n) = Full n
+of_reload reload.Memory = Memory
+of_reload reload.Device = Device
+
+-- of a volume that could not be opened
+abbrev pub of_refused : Refused → Refusal
+of_refused refused.Memory = Memory
+of_refused refused.Full = Device
+of_refused refused.Device = Device
+of_refused refused.Broken = Device
+of_refused refused.Area = Device

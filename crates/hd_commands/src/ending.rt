@@ -1,0 +1,31 @@
+ghost use Rattle.std.specs.Prelude.{◌≡◌, true};
+ghost use Rattle.std.specs.Io.KnownBytes.{Appends};
+ghost use Rattle.hd_commands.specs.Lines.{status_of, refusal_line};
+
+use crate::refusal::Refusal;
+use std::io::Write;
+
+/// How a command ended: the program's status; and whether standard error took the line that says why it was refused, if it was.
+#[derive(Clone, Copy, Debug, PartialEq, Eq)]
+pub struct Ended {
+    pub status: u8,
+    pub told: bool,
+}
+
+/// The end of a command that did its work.
+pub(crate) const DONE: Ended = Ended {
+    status: 0,
+    told: true,
+};
+
+/// Says why a command is refused.
+pub fn refuse<E: Write>(refusal: Refusal, err: &mut E) -> Ended
+    ensures status { result.status ≡ status_of refusal }
+    ensures line { result.told ≡ true → Appends (E.contents err.old) (E.contents err.new) (refusal_line refusal) }
+{
+    let told = writeln!(err, "{refusal}").is_ok();
+    Ended {
+        status: refusal.status(),
+        told,
+    }
+}

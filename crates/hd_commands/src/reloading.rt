@@ -1,0 +1,41 @@
+ghost use Rattle.std.specs.Prelude.{◌≡◌, ◌≢◌, ◌<◌, ◌≤◌, [], IsTrue};
+ghost use Rattle.hd_unload.specs.Loads.{HasNoHeader};
+ghost use Rattle.hd_commands.specs.Commands.{ReloadsInPrint, IsRefused, StreamSays};
+
+use crate::ending::{DONE, Ended, refuse};
+use crate::lines::print_reloaded;
+use crate::refusal::Refusal;
+use hd_dbd::Dbd;
+use hd_unload::reload;
+use hd_volume::BlockStore;
+use std::alloc::Global;
+use std::io::Write;
+
+/// Makes a volume of a stream in an empty store, and says on `out` what it has, or on `err` why there is none; and the status of the
+/// program. The store is given back.
+pub fn reload_store<S: BlockStore, O: Write, E: Write>(
+    alloc: Global,
+    dbd: &Dbd,
+    stream: &[u8],
+    store: S,
+    largest: u32,
+    out: &mut O,
+    err: &mut E,
+) -> (S, Ended)
+    requires size { S.size store ≡ dbd.now.block_size }
+    requires empty { IsTrue (S.is_sound store) → S.contents store ≡ [] }
+    requires bounds { (0 < largest) × (largest ≤ 65536) }
+    ensures reloaded { result.1.status ≡ 0 → IsTrue (S.is_sound store) → ReloadsInPrint dbd.now stream.now largest (S.contents result.0) (O.contents out.old) (O.contents out.new) }
+    ensures refused { result.1.status ≢ 0 → IsRefused (StreamSays dbd.now stream.now largest (S.is_sound store) (S.failures store < S.failures result.0) (S.contents result.0)) result.1 (E.contents err.old) (E.contents err.new) }
+    ensures quiet { result.1.status ≡ 0 → err.new ≡ err.old }
+    ensures silent { result.1.status ≢ 0 → result.1.status ≢ 3 → out.new ≡ out.old }
+    ensures none { result.1.status ≢ 0 → result.1.status ≢ 3 → IsTrue (S.is_sound store) → HasNoHeader (S.size store) (S.contents result.0) }
+{
+    match reload(alloc, dbd, stream, store, largest) {
+        Ok(loaded) => match print_reloaded(out, loaded.segments, loaded.blocks) {
+            Ok(()) => (loaded.store, DONE),
+            Err(_) => (loaded.store, refuse(Refusal::Device, err)),
+        },
+        Err((store, fault)) => (store, refuse(Refusal::of_reload(fault), err)),
+    }
+}

@@ -1,0 +1,58 @@
+-- Two states of one image: what is loaded in the one is loaded in the other.
+use Rattle.std.proofs.Common.{◌≡◌, ℕ, ◌≤◌, List, inl, inr, refl, sym, ap, subst, ◌∙◌, arith}
+use Rattle.hd_dbd.specs.Hierarchy.{Database}
+use Rattle.hd_dbd.specs.Prefixes.{stored_size}
+use Rattle.hd_dbd.specs.Segment.{Segment}
+use Rattle.hd_volume.specs.Headers.{header_of}
+use Rattle.hd_volume.specs.Volumes.{VolumeState}
+use Rattle.hd_volume.specs.Rooms.{spare}
+use Rattle.hd_volume.specs.Indexes.{root_key_length, index_growth}
+use Rattle.hd_volume.proofs.JoinLemmas.{AreOne, one-spare, one-holes}
+use Rattle.hd_links.specs.Links.{Links, IsSegment, segment_at}
+use Rattle.hd_links.specs.Placed.{Placed}
+use Rattle.hd_image.specs.Records.{links_of}
+use Rattle.hd_image.proofs.OneImage.{links-same, held-same}
+use Rattle.hd_index.specs.Places.{blocks_needed}
+use Rattle.hd_index.proofs.NeedLemmas.{needed-same}
+use Rattle.hd_unload.specs.Loads.{IsLoadStep, blocks_for}
+use Rattle.hd_unload.specs.Steps.{HasRootRoom, IsLoadedTo, IsRowLoaded}
+
+-- the rows that it holds
+pub loaded-same : (d : Database) (v w : VolumeState) (rows : List Segment) (path : List Placed) → AreOne v w → IsLoadedTo d rows path v → IsLoadedTo d rows path w
+loaded-same d v w rows path o L = record {
+  placed = L.placed;
+  holds = held-same d v w o.image o.same.size o.same.sizes L.placed L.holds;
+  rows_are = L.rows_are;
+  last = L.last;
+}
+
+-- the room for a root
+pub room-same : (d : Database) (v w : VolumeState) (key : List ℕ) → AreOne v w → HasRootRoom d v key → HasRootRoom d w key
+room-same d v w key o r =
+    let needed : blocks_needed (root_key_length d.types) w key ≡ blocks_needed (root_key_length d.types) v key
+    = needed-same (root_key_length d.types) v w key o.same.size o.image in
+    let spares : spare w ≡ spare v = one-spare o in
+    record {
+      room = elim r.room [
+        | inl hole ↦ inl (one-holes o (stored_size d.types 1) hole.0, (let enough : blocks_needed (root_key_length d.types) v key ≤ spare v = hole.1 in omega (arith, needed, spares, enough)))
+        | inr more ↦ inr (omega (arith, needed, spares, more))
+      ];
+    }
+
+-- the blocks that a row may need
+growth-same : (v w : VolumeState) (row : Segment) → blocks_for w row ≡ blocks_for v row
+unfolding index_growth
+growth-same v w row = refl
+
+-- a row that is loaded from there
+pub row-same : (d : Database) (v w x : VolumeState) (rows : List Segment) (row : Segment) (path : List Placed) → AreOne v w → IsRowLoaded d w rows row path x → IsRowLoaded d v rows row path x
+row-same d v w x rows row path o R =
+    let links : links_of d.types w ≡ links_of d.types v = links-same d.types v w o.image o.same.size o.same.sizes in
+    record {
+      loaded = R.loaded;
+      step = record {
+        largest = R.step.largest ∙ ap (λ (i : List ℕ). (header_of i).largest) o.image;
+        stays = subst (λ (m : Links). (a : ℕ) → IsSegment m a → IsSegment (links_of d.types x) a × (segment_at (links_of d.types x) a ≡ segment_at m a)) links R.step.stays;
+        room = (let spares : spare w ≡ spare v = one-spare o in let need : blocks_for w row ≡ blocks_for v row = growth-same v w row in let room = R.step.room in omega (arith, spares, need, room));
+      };
+    }

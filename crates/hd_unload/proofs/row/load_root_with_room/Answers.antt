@@ -1,0 +1,32 @@
+-- A look for room leaves the volume as it is.
+use Rattle.std.proofs.Common.{◌≡◌, ℕ, List, IsTrue, subst}
+use Rattle.hd_dbd.specs.Rows.{key_of}
+use Rattle.hd_volume.proofs.CallSteps.{if-ok}
+use Rattle.hd_volume.proofs.JoinLemmas.{read-one}
+use Rattle.hd_unload.specs.Steps.{row_of, HasRootRoom}
+use Rattle.hd_unload.proofs.OneVolume.{loaded-same, room-same, row-same}
+use Rattle.hd_unload.proofs.row.load_root_with_room.Goals as goal
+
+pub load_root-requires-clause-can : goal.load_root-requires-clause-can
+load_root-requires-clause-can g c = λ now.
+    let o = c.in_ok-lacks_room.ensures in
+    let sound : IsTrue c.args.volume.now.is_sound = subst IsTrue o.read.call.sound now in
+    let can = c.requires.can sound in
+    (can.0, can.1, loaded-same c.args.dbd.now c.args.volume.now c.lacks_room.new.volume can.0 can.1 (read-one o.read now) can.2, can.3, can.4)
+
+pub load_root-requires-clause-room : goal.load_root-requires-clause-room
+load_root-requires-clause-room g c = λ now.
+    let o = c.in_ok-lacks_room.ensures in
+    let sound : IsTrue c.args.volume.now.is_sound = subst IsTrue o.read.call.sound now in
+    let there = subst (λ (key : List ℕ). HasRootRoom c.args.dbd.now c.args.volume.now key) c.root_key.ensures.key (o.room sound c.if-branch.false) in
+    room-same c.args.dbd.now c.args.volume.now c.lacks_room.new.volume (key_of c.args.dbd.now.types (row_of 1 c.args.bytes.now)) (read-one o.read now) there
+
+pub returns-clause-loaded : goal.returns-clause-loaded
+returns-clause-loaded g c =
+    let o = c.in_ok-lacks_room.ensures in
+    if-ok c.load_root.result c.load_root.ensures.loaded
+    (λ a loaded sound rows path before may twin.
+    let now : IsTrue c.lacks_room.new.volume.is_sound = rw o.read.call.sound sound in
+    let one = read-one o.read now in
+    row-same c.args.dbd.now c.args.volume.now c.lacks_room.new.volume c.load_root.new.volume rows (row_of 1 c.args.bytes.now) _ one
+    (loaded now rows path (loaded-same c.args.dbd.now c.args.volume.now c.lacks_room.new.volume rows path one before) may twin))
