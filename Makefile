@@ -7,7 +7,9 @@ all: bin/hd
 CRATES = $(shell sed -n 's/^\([a-z_0-9]*\):.*/\1/p' crates.txt)
 SOURCES = $(foreach crate,$(CRATES),$(shell find crates/$(crate) -type f -not -path '*/out/*'))
 
+# every crate is proved, as many side by side as there are processors, before the program is linked
 bin/hd: crates.txt $(SOURCES)
+	rt all check --jobs $$(nproc) >/dev/null
 	cd crates/hd && rt run >/dev/null </dev/null
 	mkdir -p bin
 	cp crates/hd/out/hd bin/hd
