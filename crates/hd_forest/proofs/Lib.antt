@@ -13,6 +13,7 @@ pub mod Leafing
 pub mod Linking
 pub mod Climbs
 pub mod Walking
+pub mod RowSteps
 pub mod Frames
 pub mod FreeSteps
 pub mod FreeSpans

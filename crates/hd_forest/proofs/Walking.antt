@@ -25,14 +25,14 @@ use Rattle.hd_forest.specs.Walks.{tip, moved, next_on, walked}
 use Rattle.hd_forest.specs.Laws.{WalkingGivesTheSequence}
 
 -- of no row nothing is above
-take-none : (n : ℕ) → take {A = ℕ} n [] ≡ []
+pub take-none : (n : ℕ) → take {A = ℕ} n [] ≡ []
 take-none zero = refl
 take-none (suc n) = refl
 
 module _ (types : List SegmentType) (m : Links) (f : Forest Placed) (R : RowsHaveAddresses m f) (steps : (i : ℕ) → i < length (rows_of f) → StepsAreRows types m f i)
     (first : next_row types m [] ≡ address_at f 0) where
   -- the step to a row is the path on to it
-  moved-to : (path : List ℕ) (j : ℕ) → j < length (rows_of f) → moved types m path (address_at f j) ≡ take (level_at types (rows_of f) j - 1) path ++ address_at f j ∷ []
+  pub moved-to : (path : List ℕ) (j : ℕ) → j < length (rows_of f) → moved types m path (address_at f j) ≡ take (level_at types (rows_of f) j - 1) path ++ address_at f j ∷ []
   moved-to path j l =
       let a : ℕ = address_at f j in
       let some : 0 < a = (R.there j l).some in
@@ -45,7 +45,7 @@ module _ (types : List SegmentType) (m : Links) (f : Forest Placed) (R : RowsHav
   past-rows i l = get_or_past (addresses f) i 0 (let e : length (addresses f) ≡ length (rows_of f) = length-map (sequence f) (λ (p : Placed). p.address) ∙ sym (rows_length f) in omega arith)
 
   -- and no path
-  moved-past : (path : List ℕ) (i : ℕ) → length (rows_of f) ≤ i → moved types m path (address_at f i) ≡ []
+  pub moved-past : (path : List ℕ) (i : ℕ) → length (rows_of f) ≤ i → moved types m path (address_at f i) ≡ []
   moved-past path i l = (let a : ℕ = address_at f i in cond-true (a == 0) [] (take (level_of types (m.code a) - 1) path ++ a ∷ []) (eq-eqb a 0 (past-rows i l)))
 
   -- after i steps the walk stands on the path of row i
@@ -76,17 +76,17 @@ module _ (d : Database) (v : VolumeState) (f : Forest Placed) (fit : IsDatabase 
   abbrev m : Links
   m = links_of d.types v
 
-  addressed : RowsHaveAddresses m f
+  pub addressed : RowsHaveAddresses m f
   addressed = rows_addressed d.types m f holds
 
-  steps-found : (i : ℕ) → i < length (rows_of f) → StepsAreRows d.types m f i
+  pub steps-found : (i : ℕ) → i < length (rows_of f) → StepsAreRows d.types m f i
   steps-found i l =
       let O = ordered d.block_size d.frspc d.types fit in
       let G = records-link d v fit of in
       let levels = leveled d.block_size d.frspc d.types fit in
       stepped d.types O levels (length v.image) m G f holds i (row_found d.types O levels (length v.image) m G f holds i l) l
 
-  first-step : next_row d.types m [] ≡ address_at f 0
+  pub first-step : next_row d.types m [] ≡ address_at f 0
   first-step = first_found d.types (ordered d.block_size d.frspc d.types fit) (leveled d.block_size d.frspc d.types fit) (length v.image) m (records-link d v fit of) f holds
 
   -- the walk comes to a segment at each row

@@ -1,4 +1,5 @@
 pub mod Walks
+pub mod Rows
 pub mod Twins
 pub mod Children
 pub mod Updates

@@ -41,6 +41,24 @@ impl Path {
         &self.addresses[..self.count]
     }
 
+    /// The level of the last row, 0 for no row: how many rows are on the path.
+    pub fn level(&self) -> u8
+        ensures value { result ≡ length self.now }
+        ensures few { result ≤ 15 }
+    {
+        self.count as u8
+    }
+
+    /// The same path once more. No memory is taken.
+    pub fn copy(&self) -> Path
+        ensures { result ≡ self.now }
+    {
+        Path {
+            addresses: self.addresses,
+            count: self.count,
+        }
+    }
+
     /// Goes to no row.
     pub fn clear(&mut self)
         ensures { self.new ≡ [] }
@@ -59,7 +77,7 @@ impl Path {
     }
 
     /// Goes down to a row below the last; at most 15 are kept.
-    pub(crate) fn push(&mut self, address: u32)
+    pub fn push(&mut self, address: u32)
         ensures { length self.old < 15 → self.new ≡ self.old ++ address ∷ [] }
     {
         let kept = self.count.min(MOST_LEVELS - 1);
@@ -68,7 +86,7 @@ impl Path {
     }
 
     /// Goes up to the row above the last.
-    pub(crate) fn up(&mut self)
+    pub fn up(&mut self)
         ensures value { self.new ≡ take (length self.old - 1) self.old }
         ensures few { length self.new < 15 }
     {

@@ -13,3 +13,4 @@ pub mod PointerNoFault
 pub mod BlockNoFault
 pub mod IndexNoFault
 pub mod NoFault
+pub mod RowCounts

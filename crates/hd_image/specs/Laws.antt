@@ -17,6 +17,8 @@ use Rattle.hd_prefix.specs.declared.pointer.Pointer.{Pointer}
 use Rattle.hd_prefix.specs.declared.pointer.Pointer.TheVariants.{FirstChild, LastChild}
 use Rattle.hd_prefix.specs.Pointers.{place_of}
 use Rattle.hd_links.specs.Links.{IsSegment, IsLinkGraph}
+use Rattle.hd_links.specs.Placed.{Placed, Holds}
+use Rattle.hd_links.specs.Steps.{rows_of}
 use Rattle.hd_links.specs.Changes.{Agree, replaced}
 use Rattle.hd_image.specs.Records.{links_of, IsVolumeOf}
 use Rattle.hd_image.specs.Pointing.{with_pointer, with_record, without_record}
@@ -76,6 +78,12 @@ WritingReplacesBytes =
 abbrev pub AVolumeHoldsOneForest : Type 0
 AVolumeHoldsOneForest =
     (d : Database) (v : VolumeState) (f g : Forest Segment) → IsDatabase d → HoldsForest d v f → HoldsForest d v g → f ≡ g
+
+-- The rows of a volume are fewer than the bytes of its image, and than 2 to the 32.
+abbrev pub RowsOfAVolumeAreFew : Type 0
+RowsOfAVolumeAreFew =
+    (d : Database) (v : VolumeState) (f : Forest Placed) → IsVolumeOf d v → Holds d.types (links_of d.types v) f
+    → (length (rows_of f) < length v.image) × (length (rows_of f) < 4294967295)
 
 -- A new volume holds the forest without rows.
 abbrev pub NewVolumesAreEmpty : Type 0

@@ -1,4 +1,4 @@
-ghost use Rattle.hd_image.specs.Laws.{RecordsAreALinkGraph, RecordsStay, WritingSetsAPointer, SettingARootSetsAPointer, PuttingAddsARecord, FreeingTakesARecord, NewVolumesAreEmpty, WritingReplacesBytes, AVolumeHoldsOneForest};
+ghost use Rattle.hd_image.specs.Laws.{RecordsAreALinkGraph, RecordsStay, WritingSetsAPointer, SettingARootSetsAPointer, PuttingAddsARecord, FreeingTakesARecord, NewVolumesAreEmpty, WritingReplacesBytes, AVolumeHoldsOneForest, RowsOfAVolumeAreFew};
 ghost use Rattle.hd_image.specs.Exact.{RightVolumesHoldAForest, HeldForestsHaveNoFault};
 
 /// The records of a database's volume are a link graph, whose addresses are places in its image.
@@ -44,6 +44,11 @@ pub fn law_new_volumes_are_empty()
 /// A volume holds one forest of a database at most.
 pub fn law_a_volume_holds_one_forest()
     ensures { AVolumeHoldsOneForest }
+{}
+
+/// The rows of a volume are fewer than the bytes of its image, and than 2 to the 32.
+pub fn law_rows_of_a_volume_are_few()
+    ensures { RowsOfAVolumeAreFew }
 {}
 
 /// A volume with which nothing is wrong holds a forest.

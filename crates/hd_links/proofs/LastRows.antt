@@ -69,7 +69,7 @@ last_lies types m b q (node r k empty) s at =
 last_lies types m b q (node r k (node t u v)) s at = last_lies types m (with_node b r) q (node t u v) s.2 at
 
 -- a node is in the chain of its type
-one_chain : (types : List SegmentType) (m : Links) (b : ℕ → ℕ) (t y : ℕ) (K : Forest Placed) → NodesLie types m b K → IsOne t y K → IsInChain m (first_of K t) y
+pub one_chain : (types : List SegmentType) (m : Links) (b : ℕ → ℕ) (t y : ℕ) (K : Forest Placed) → NodesLie types m b K → IsOne t y K → IsInChain m (first_of K t) y
 one_chain types m b t y empty s one = absurd one
 one_chain types m b t y (node r k n) s (inl e) =
     let own : first_of (node r k n) t ≡ r.address = cond-true _ _ _ (eq-eqb r.segment.code t e.1) in

@@ -1,0 +1,10 @@
+pub mod Splices
+pub mod Rising
+pub mod Leaves
+pub mod Falling
+pub mod Leaving
+pub mod Before
+pub mod Same
+pub mod RootRows
+pub mod OnPaths
+pub mod Adding
