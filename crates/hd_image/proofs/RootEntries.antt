@@ -22,14 +22,14 @@ use Rattle.hd_image.specs.Holding.{root_entries}
 use Rattle.hd_image.proofs.Sorted.{IsIn}
 
 -- a child type of the header is the root's
-root-code : (types : List SegmentType) (c : ℕ) → is_child_type types 0 c ≡ true → c ≡ 1
+pub root-code : (types : List SegmentType) (c : ℕ) → is_child_type types 0 c ≡ true → c ≡ 1
 root-code types c h = elim (cases_eq 1 c) [
   | inl e ↦ sym e
   | inr ne ↦ absurd (false≢true (sym (let e : is_child_type types 0 c ≡ false = rw (ne_eqb 1 c ne) refl in e) ∙ h))
 ]
 
 -- of two roots in order the first has the lesser key
-unique-less : (block_size : ℕ) (frspc : FreeSpace) (types : List SegmentType) (p q : Segment) → IsTrue (well_formed block_size frspc types)
+pub unique-less : (block_size : ℕ) (frspc : FreeSpace) (types : List SegmentType) (p q : Segment) → IsTrue (well_formed block_size frspc types)
     → p.code ≡ 1 → q.code ≡ 1 → row_fits types q ≡ true → twins_in_order types p q ≡ true → key_less (key_of types p) (key_of types q) ≡ true
 unique-less block_size frspc types p q fit one two row order = by-type (type_of types 1) refl
   where

@@ -1,0 +1,8 @@
+use Rattle.hd_keeping.proofs.RootRows.{roots-first, roots-alone}
+use Rattle.hd_keeping.proofs.law.law_roots_are_of_the_first_type.Goals as goal
+
+pub returns-clause-level : goal.returns-clause-level
+returns-clause-level c = roots-first
+
+pub returns-clause-path : goal.returns-clause-path
+returns-clause-path c = roots-alone

@@ -1,0 +1,8 @@
+//! What a volume holds after each change of its forest and of its index, and what the index answers of its rows.
+//!
+//! The definitions stand in this crate's `specs/`, the laws in `law`.
+#![tactic(auto)]
+
+mod law;
+
+pub use law::{law_roots_are_of_the_first_type, law_roots_ascend, law_the_index_answers_roots};
