@@ -1,0 +1,137 @@
+-- A search from row to row.
+use Rattle.std.specs.Prelude.{◌≡◌, IsTrue, ℕ, ◌+◌, ◌<◌, ◌≤◌, List, [], length, Bool, true, false, nat_lt, cond, Option, Some, None, option_map, unwrap_or}
+use Rattle.std.specs.Option.{option_map_or}
+use Rattle.std.specs.List.{list_all}
+use Rattle.hd_dbd.specs.Types.{SegmentType}
+use Rattle.hd_dbd.specs.Hierarchy.{Database}
+use Rattle.hd_dbd.specs.Segment.{Segment}
+use Rattle.hd_dbd.specs.Paths.{row_at, parent_row, path_of, end_of, is_twin}
+use Rattle.hd_dbd.specs.Searches.{first_from}
+use Rattle.hd_dbd.specs.Forest.{Forest}
+use Rattle.hd_links.specs.Links.{Links, is_child_type}
+use Rattle.hd_links.specs.Placed.{Placed, Holds}
+use Rattle.hd_links.specs.Steps.{rows_of, address_at, path_at, is_child_row}
+use Rattle.hd_volume.specs.Volumes.{VolumeState}
+use Rattle.hd_image.specs.Records.{links_of, IsVolumeOf}
+use Rattle.hd_forest.specs.Rows.{IsOnRow, IsOnSomeRow}
+use Rattle.hd_calls.specs.Places.{end_below}
+use Rattle.hd_get.specs.declared.verdict.Verdict.{Verdict}
+use Rattle.hd_get.specs.declared.verdict.Verdict.TheVariants.{Found, Next, Over, Down, Across, Rest}
+
+-- ---- where a search is
+
+-- the path to row i, none from the end of a search on
+abbrev pub path_within : List SegmentType → Forest Placed → ℕ → ℕ → List ℕ
+path_within types f end i = cond (nat_lt i end) (path_at types f i) []
+
+-- A search that is at row i ends behind the last row, or, below the row at an address that is not 0, behind its last dependent.
+pub record EndsAt (types : List SegmentType) (f : Forest Placed) (parent i end : ℕ) : Type 0 where
+  pub whole : parent ≡ 0 → end ≡ length (rows_of f)
+  pub under : 0 < parent → (q : ℕ) × (q < i) × (q < length (rows_of f)) × (address_at f q ≡ parent) × (end ≡ end_of types (rows_of f) q)
+
+-- The records hold the forest, and the path leads to its row i, or to none from the end of the search on.
+pub record LeadsWithin (types : List SegmentType) (m : Links) (f : Forest Placed) (parent end : ℕ) (path : List ℕ) (i : ℕ) : Type 0 where
+  pub holds : Holds types m f
+  pub ends : EndsAt types f parent i end
+  pub is : path ≡ path_within types f end i
+
+-- ---- what is known of the rows passed over
+
+-- no row from one number to before another passes
+abbrev pub NonePass : (ℕ → Bool) → ℕ → ℕ → Type 0
+NonePass test i k = (j : ℕ) → i ≤ j → j < k → test j ≡ false
+
+-- the parent of row i is admitted, and all above it
+abbrev pub is_above_admitted : (ℕ → Bool) → List SegmentType → List Segment → ℕ → Bool
+is_above_admitted admits types rows i = option_map_or (λ q. list_all admits (path_of types rows q)) (parent_row types rows i) true
+
+-- every row is admitted
+abbrev pub AllAdmitted : (ℕ → Bool) → Type 0
+AllAdmitted admits = (k : ℕ) → admits k ≡ true
+
+-- the next twin of a row
+abbrev pub next_twin : List SegmentType → List Segment → ℕ → Option ℕ
+next_twin types rows k = first_from (λ j. is_twin types rows k j) (k + 1) (length rows)
+
+-- the next twin of a row, or the number behind its parent's rows
+abbrev pub twin_or_end : List SegmentType → List Segment → ℕ → ℕ
+twin_or_end types rows k = unwrap_or (next_twin types rows k) (end_below types rows (parent_row types rows k))
+
+-- the path of a row's parent, none for a root
+abbrev pub parent_path : List SegmentType → Forest Placed → ℕ → List ℕ
+parent_path types f i = option_map_or (λ q. path_at types f q) (parent_row types (rows_of f) i) []
+
+-- the first child of a type below a row
+abbrev pub first_child : List SegmentType → List Segment → ℕ → ℕ → Option ℕ
+first_child types rows i code = first_from (λ j. is_child_row types rows i code j) (i + 1) (length rows)
+
+-- the first child of a type below a row, or the number behind its span
+abbrev pub child_or_end : List SegmentType → List Segment → ℕ → ℕ → ℕ
+child_or_end types rows i code = unwrap_or (first_child types rows i code) (end_of types rows i)
+
+-- from the end of each span that row i lies in to the next twin of the span's row, or to the end of its parent's rows, none passes
+abbrev pub NonePassAcross : (ℕ → Bool) → List SegmentType → List Segment → ℕ → Type 0
+NonePassAcross test types rows i =
+    (k : ℕ) → k ≤ i → i < end_of types rows k → NonePass test (end_of types rows k) (twin_or_end types rows k)
+
+-- Why a search goes where it goes from row i.
+pub record IsJudged (test admits : ℕ → Bool) (types : List SegmentType) (rows : List Segment) (i : ℕ) (v : Verdict) : Type 0 where
+  pub found : v ≡ Found → test i ≡ true
+  pub next : v ≡ Next → (test i ≡ false) × AllAdmitted admits
+  pub over : v ≡ Over → NonePass test i (end_of types rows i) × AllAdmitted admits
+  pub down : (code : ℕ) → v ≡ Down code → (admits i ≡ true) × (is_child_type types (row_at rows i).code code ≡ true)
+      × NonePass test i (child_or_end types rows i code) × NonePassAcross test types rows i
+  pub across : v ≡ Across → NonePass test i (end_of types rows i) × NonePassAcross test types rows i
+  pub rest : v ≡ Rest → NonePass test i (end_below types rows (parent_row types rows i)) × NonePassAcross test types rows i
+
+-- The search went on from row i to a later row, or to its end: none on the way passes, and the parents of the row are admitted.
+pub record GoesOn (test admits : ℕ → Bool) (types : List SegmentType) (f : Forest Placed) (end i : ℕ) (path : List ℕ) : Type 0 where
+  pub number : ℕ
+  pub later : i < number
+  pub none : NonePass test i number
+  pub above : number < end → is_above_admitted admits types (rows_of f) number ≡ true
+  pub is : path ≡ path_within types f end number
+
+-- A turn at row i has found it, or the search goes on.
+pub record IsTurned (test admits : ℕ → Bool) (types : List SegmentType) (f : Forest Placed) (end i : ℕ) (r : Bool) (path : List ℕ) : Type 0 where
+  pub found : r ≡ true → (test i ≡ true) × (path ≡ path_at types f i)
+  pub on : r ≡ false → GoesOn test admits types f end i path
+
+-- The search from row i on has found the first row that passes, and its path; or it has found that there is none before its end.
+abbrev pub IsFound : (ℕ → Bool) → List SegmentType → Forest Placed → ℕ → ℕ → Bool → List ℕ → Type 0
+IsFound test types f end i r path = cond r (Some path) None ≡ option_map (λ j. path_at types f j) (first_from test i end)
+
+-- A step from row i across: to its next twin, or, where it is the last, up to its parent, or to no row from a root.
+pub record IsClimbed (types : List SegmentType) (f : Forest Placed) (i : ℕ) (r : Bool) (path : List ℕ) : Type 0 where
+  pub twin : r ≡ true → (j : ℕ) × (next_twin types (rows_of f) i ≡ Some j) × (path ≡ path_at types f j)
+  pub up : r ≡ false → (next_twin types (rows_of f) i ≡ None) × (path ≡ parent_path types f i)
+
+-- The search went across from row i: none that passes is missed, and the parents of the row where it is are admitted.
+abbrev pub GoesAcross : List SegmentType → Forest Placed → ℕ → ℕ → List ℕ → Type 0
+GoesAcross types f parent i path =
+    (test admits : ℕ → Bool) (begin end : ℕ) → EndsAt types f parent begin end → begin ≤ i + 1 → i < end → NonePassAcross test types (rows_of f) i
+    → is_above_admitted admits types (rows_of f) i ≡ true
+    → (number : ℕ) × (end_of types (rows_of f) i ≤ number) × NonePass test (end_of types (rows_of f) i) number
+    × (number < end → is_above_admitted admits types (rows_of f) number ≡ true) × (path ≡ path_within types f end number)
+
+-- ---- the words of the contracts
+
+-- where the store is sound, the volume is one of the database
+abbrev pub IsOf : Database → VolumeState → Type 0
+IsOf d v = IsTrue v.is_sound → IsVolumeOf d v
+
+-- where the store is sound, the path is that of a row
+abbrev pub IsThere : Database → VolumeState → List ℕ → Type 0
+IsThere d v path = IsTrue v.is_sound → IsOnSomeRow d.types (links_of d.types v) path
+
+-- The path is that of row i of a forest that the sound volume holds.
+pub record IsAt (d : Database) (v : VolumeState) (f : Forest Placed) (path : List ℕ) (i : ℕ) : Type 0 where
+  pub sound : IsTrue v.is_sound
+  pub row : IsOnRow d.types (links_of d.types v) f path i
+
+-- a verdict on the row of a path, whose parents are admitted
+abbrev pub IsVerdict : (List Segment → ℕ → Bool) → (List Segment → ℕ → Bool) → Database → VolumeState → List ℕ → Verdict → Type 0
+IsVerdict test admits d v path verdict =
+    (f : Forest Placed) (i : ℕ) → IsAt d v f path i → is_above_admitted (admits (rows_of f)) d.types (rows_of f) i ≡ true
+    → IsJudged (test (rows_of f)) (admits (rows_of f)) d.types (rows_of f) i verdict
+

@@ -1,0 +1,32 @@
+ghost use Rattle.std.specs.Prelude.{ℕ, List, Bool, IfOk};
+ghost use Rattle.hd_dbd.specs.Types.{SegmentType};
+ghost use Rattle.hd_dbd.specs.Segment.{Segment};
+ghost use Rattle.hd_dbd.specs.Refusals.{OnlyDevice};
+ghost use Rattle.hd_volume.specs.Calls.{IsRead};
+ghost use Rattle.hd_get.specs.Searches.{IsOf, IsThere, IsVerdict};
+
+use crate::verdict::Verdict;
+use hd_dbd::{Dbd, Refused};
+use hd_forest::Path;
+use hd_volume::{BlockStore, Volume};
+
+/// What a call asks of the rows: a test that a row passes or not, and whether a row is admitted, so that rows below it may pass.
+pub trait Judge {
+    ghost test: { Self → List SegmentType → List Segment → ℕ → Bool };
+    ghost admits: { Self → List SegmentType → List Segment → ℕ → Bool };
+    ghost suits: { Self → List SegmentType → Type 0 };
+
+    /// Judges the row that a path leads to, whose parents are admitted; it alone is read.
+    fn judge<S: BlockStore>(
+        &self,
+        volume: &mut Volume<S>,
+        dbd: &Dbd,
+        path: &Path,
+    ) -> Result<Verdict, Refused>
+        requires suits { suits self.now dbd.now.types }
+        requires of { IsOf dbd.now volume.old }
+        requires there { IsThere dbd.now volume.old path.now }
+        ensures read { IsRead volume.old result volume.new }
+        ensures value { IfOk result (λ v. IsVerdict (test self.now dbd.now.types) (admits self.now dbd.now.types) dbd.now volume.old path.now v) }
+        ensures refusal { OnlyDevice result };
+}

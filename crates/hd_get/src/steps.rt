@@ -1,0 +1,65 @@
+ghost use Rattle.std.specs.Prelude.{◌≡◌, ◌-◌, ◌<◌, ℕ, [], ◌||◌, ◌==◌, Bool, true, false, cond, length, take, IfOk, OnOk, IsTrue};
+ghost use Rattle.std.specs.List.{list_any};
+ghost use Rattle.hd_dbd.specs.Refusals.{OnlyDevice};
+ghost use Rattle.hd_dbd.specs.Forest.{Forest};
+ghost use Rattle.hd_volume.specs.Calls.{IsRead};
+ghost use Rattle.hd_links.specs.Placed.{Placed};
+ghost use Rattle.hd_get.specs.Searches.{IsOf, IsThere, IsAt, IsClimbed, GoesAcross};
+
+use hd_dbd::{Dbd, Refused};
+use hd_forest::{Path, next_twin, tip_of};
+use hd_volume::{BlockStore, Volume};
+
+/// Leaves a path that leads past the dependents of the row at an address; the address 0 stands above all rows.
+fn stay_below(path: &mut Path, parent: u32)
+    ensures { path.new ≡ cond (parent == 0 || list_any (λ a. a == parent) path.old) path.old [] }
+{
+    if parent != 0 && !path.addresses().contains(&parent) {
+        path.clear();
+    }
+}
+
+/// Goes from the last row of a path to its next twin, or, where it is the last twin, up to its parent; says which.
+fn climb<S: BlockStore>(
+    volume: &mut Volume<S>,
+    dbd: &Dbd,
+    path: &mut Path,
+) -> Result<bool, Refused>
+    requires of { IsOf dbd.now volume.old }
+    requires there { IsThere dbd.now volume.old path.old }
+    ensures read { IsRead volume.old result volume.new }
+    ensures value { IfOk result (λ r. (f : Forest Placed) (i : ℕ) → IsAt dbd.now volume.old f path.old i → IsClimbed dbd.now.types f i r path.new) }
+    ensures up { IfOk result (λ r. r ≡ false → path.new ≡ take (length path.old - 1) path.old) }
+    ensures refusal { OnlyDevice result }
+{
+    let twin = next_twin(volume, dbd, tip_of(path))?;
+    path.up();
+    if twin == 0 {
+        return Ok(false);
+    }
+    path.push(twin);
+    Ok(true)
+}
+
+/// Goes across from the last row of a path: to the next twin of it, or of the lowest row above it that has one, below the row at
+/// an address; to no row where none has.
+fn across<S: BlockStore>(
+    volume: &mut Volume<S>,
+    dbd: &Dbd,
+    parent: u32,
+    path: &mut Path,
+) -> Result<(), Refused>
+    requires of { IsOf dbd.now volume.old }
+    requires there { IsThere dbd.now volume.old path.old }
+    ensures read { IsRead volume.old result volume.new }
+    ensures value { OnOk result ((f : Forest Placed) (i : ℕ) → IsAt dbd.now volume.old f path.old i → GoesAcross dbd.now.types f parent i path.new) }
+    ensures refusal { OnlyDevice result }
+{
+    while !path.addresses().is_empty() && tip_of(path) != parent {
+        if climb(volume, dbd, path)? {
+            return Ok(());
+        }
+    }
+    path.clear();
+    Ok(())
+}
