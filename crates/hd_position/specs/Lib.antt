@@ -1,2 +1,4 @@
 pub mod Kept
+pub mod LastTypes
+pub mod Gets
 pub mod Laws

@@ -2,6 +2,8 @@
 #![tactic(auto)]
 
 mod law;
+mod levels;
+mod position;
 
 pub use law::{
     law_insertions_add_up, law_leaves_go_in_below_leaves, law_linking_moves_positions,
@@ -9,3 +11,5 @@ pub use law::{
     law_rows_are_few, law_spans_are_on_paths, law_the_row_before_is_one,
     law_the_start_is_before_all_rows, law_unlinking_moves_positions,
 };
+pub use levels::Levels;
+pub use position::{LastType, Position, row_on};
