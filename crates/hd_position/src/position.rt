@@ -1,8 +1,10 @@
 ghost use Rattle.std.specs.Prelude.{◌≡◌, option_map};
 ghost use Rattle.hd_position.specs.Kept.{kept_start, row_on, without_hold, is_held, after_rewrite, is_on, without_level, without_row};
 ghost use Rattle.hd_position.specs.LastTypes.{place_of};
+ghost use Rattle.hd_position.specs.Standing.{standing_on};
 
 use crate::levels::Levels;
+use hd_calls::GetKind;
 use hd_forest::Path;
 use std::marker::Model;
 
@@ -116,6 +118,20 @@ impl Position {
         if self.holds(address) {
             self.unhold();
         }
+    }
+
+    /// Stands on the last row of a path, of a type, as a get of a kind leaves it, with the rows of some levels held.
+    pub(crate) fn stand_on(&mut self, path: Path, last: LastType, kind: GetKind, held: Levels)
+        ensures { self.new ≡ standing_on kind self.old path (place_of last) held }
+    {
+        let level = path.level();
+        self.path = path;
+        self.standing = level;
+        self.last = Some(last);
+        if kind != GetKind::NextInParent {
+            self.parent = level;
+        }
+        self.held = held;
     }
 
     /// Whether the row at an address is the last one passed or one of its parents.
