@@ -54,7 +54,7 @@ pub record SpanLeaves (types : List SegmentType) (m : Links) (f f2 : Forest Plac
   pub front : take (level_at types (rows_of f) i - 1) (path_passed types (rows_of f) i) ≡ path_above types (rows_of f) (level_at types (rows_of f) i) i
 
 -- the numbers on the path of the last row passed are numbers passed
-passed_below : (types : List SegmentType) (rows : List Segment) (n : ℕ) → AllBelow n (path_passed types rows n)
+pub passed_below : (types : List SegmentType) (rows : List Segment) (n : ℕ) → AllBelow n (path_passed types rows n)
 passed_below types rows zero = tt
 passed_below types rows (suc j) = below_end (suc j) j (path_above types rows (level_at types rows j) j)
     (below_more j (suc j) (path_above types rows (level_at types rows j) j) (omega arith) (above_below types rows (level_at types rows j) j)) (omega arith)

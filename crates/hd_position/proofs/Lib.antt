@@ -8,3 +8,4 @@ pub mod Same
 pub mod RootRows
 pub mod OnPaths
 pub mod Adding
+pub mod Getting

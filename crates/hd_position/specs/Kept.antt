@@ -1,6 +1,7 @@
 -- What is kept of a PCB, by addresses and levels, and for which position it stands.
 use Rattle.std.specs.Prelude.{◌≡◌, ℕ, zero, suc, ◌-◌, ◌<◌, ◌≤◌, List, [], ◌∷◌, length, map, Bool, ◌==◌, nat_lt, nat_le, cond, slice_get, Option, Some, None}
 use Rattle.std.specs.List.{list_any}
+use Rattle.std.specs.Option.{option_eq}
 use Rattle.hd_dbd.specs.Types.{SegmentType}
 use Rattle.hd_dbd.specs.Segment.{Segment}
 use Rattle.hd_dbd.specs.Paths.{path_of}
@@ -67,6 +68,14 @@ pub record StandsFor (types : List SegmentType) (f : Forest Placed) (k : Kept) (
 -- no row is held
 abbrev pub without_hold : Kept → Kept
 without_hold k = record k { held = [] }
+
+-- one of the held rows stands at the address
+abbrev pub is_held : Kept → ℕ → Bool
+is_held k a = list_any (λ l. option_eq (λ b c. b == c) (row_on k.path l) (Some a)) k.held
+
+-- The row at an address got new bytes: a hold of it ends.
+abbrev pub after_rewrite : ℕ → Kept → Kept
+after_rewrite a k = cond (is_held k a) (without_hold k) k
 
 -- The span of a row of level l was taken out, and the row was on the path: the path is that of the row before it; who stood on
 -- the span stands on its row's parent; a parentage there ends, and so does a hold with any row there.

@@ -1,2 +1,5 @@
 pub mod Kept
+pub mod Standing
+pub mod LastTypes
+pub mod Gets
 pub mod Laws

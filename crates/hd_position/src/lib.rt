@@ -1,11 +1,17 @@
 //! Where a PCB is in a volume, by addresses of rows, and how that moves when rows are put in and taken out.
 #![tactic(auto)]
 
+mod gets;
 mod law;
+mod levels;
+mod position;
 
+pub use gets::{begin, stand};
 pub use law::{
     law_insertions_add_up, law_leaves_go_in_below_leaves, law_linking_moves_positions,
     law_paths_are_levels, law_replacing_keeps_positions, law_roots_are_of_level_one,
     law_rows_are_few, law_spans_are_on_paths, law_the_row_before_is_one,
     law_the_start_is_before_all_rows, law_unlinking_moves_positions,
 };
+pub use levels::Levels;
+pub use position::{LastType, Position, row_on};

@@ -1,0 +1,59 @@
+ghost use Rattle.std.specs.Prelude.{◌≡◌, IsTrue, IfOk, IfErr, OnOk};
+ghost use Rattle.hd_dbd.specs.Refusals.{OnlyDevice};
+ghost use Rattle.hd_volume.specs.Calls.{IsRead};
+ghost use Rattle.hd_image.specs.Records.{links_of, IsVolumeOf};
+ghost use Rattle.hd_forest.specs.Rows.{IsOnSomeRow};
+ghost use Rattle.hd_position.specs.Gets.{IsSomewhere, LeadsOn, KeepsParent, StandsOnto};
+
+use crate::levels::Levels;
+use crate::position::{LastType, Position};
+use hd_calls::GetKind;
+use hd_dbd::{Dbd, Refused};
+use hd_forest::{Path, code_at, next_row, tip_of};
+use hd_volume::{BlockStore, Volume};
+
+/// The path of the row behind those that a PCB has passed, empty behind the last row. No memory is taken.
+pub fn begin<S: BlockStore>(
+    volume: &mut Volume<S>,
+    dbd: &Dbd,
+    position: &Position,
+) -> Result<Path, Refused>
+    requires of { IsTrue volume.old.is_sound → IsVolumeOf dbd.now volume.old }
+    requires there { IsTrue volume.old.is_sound → IsSomewhere dbd.now.types (links_of dbd.now.types volume.old) position.now }
+    ensures read { IsRead volume.old result volume.new }
+    ensures value { IfOk result (λ path. IsTrue volume.old.is_sound → LeadsOn dbd.now.types (links_of dbd.now.types volume.old) position.now path) }
+    ensures refusal { OnlyDevice result }
+{
+    let mut path = position.path().copy();
+    next_row(volume, dbd, &mut path)?;
+    Ok(path)
+}
+
+/// Leaves a PCB on the row that a path leads to, as a get of a kind does, with the rows of some levels of the path held. One access
+/// at most, and no memory is taken.
+///
+/// Where the kind keeps parentage, the parentage row must be on the path: GNP finds nothing elsewhere.
+pub fn stand<S: BlockStore>(
+    volume: &mut Volume<S>,
+    dbd: &Dbd,
+    position: &mut Position,
+    path: Path,
+    kind: GetKind,
+    held: Levels,
+) -> Result<(), Refused>
+    requires of { IsTrue volume.old.is_sound → IsVolumeOf dbd.now volume.old }
+    requires there { IsTrue volume.old.is_sound → IsOnSomeRow dbd.now.types (links_of dbd.now.types volume.old) path }
+    requires parent { IsTrue volume.old.is_sound → KeepsParent kind position.old path }
+    ensures read { IsRead volume.old result volume.new }
+    ensures value { OnOk result (IsTrue volume.old.is_sound → StandsOnto dbd.now.types (links_of dbd.now.types volume.old) kind position.old path held position.new) }
+    ensures kept { IfErr result (λ _. position.new ≡ position.old) }
+    ensures refusal { OnlyDevice result }
+{
+    let code = code_at(volume, dbd, tip_of(&path))?;
+    let last = LastType {
+        level: dbd.level(code),
+        code,
+    };
+    position.stand_on(path, last, kind, held);
+    Ok(())
+}
