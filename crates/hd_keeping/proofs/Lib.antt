@@ -1,2 +1,5 @@
 pub mod EntriesFound
 pub mod RootRows
+pub mod Entries
+pub mod RootEntries
+pub mod Volumes

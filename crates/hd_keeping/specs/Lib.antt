@@ -1,2 +1,4 @@
 pub mod Roots
 pub mod Found
+pub mod Entered
+pub mod Laws

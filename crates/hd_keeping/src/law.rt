@@ -1,4 +1,5 @@
 ghost use Rattle.hd_keeping.specs.Found.{RootsAreOfTheFirstType, RootsStandAlone, RootsAscend, IndexAnswersRoots, FirstRootsFollowLesser};
+ghost use Rattle.hd_keeping.specs.Laws.{ChangesBelowKeepEntries, ReplacingKeepsEntries, LinkingEntersRoots, UnlinkingRemovesRoots, HeldIsEntered, ForestChangesKeepEntries, IndexChangesKeepTheForest, ReplacedIsHeld, LinkedBelowIsHeld, LinkedRootIsNew, LinkedRootIsHeld, EnteredRootIsHeld, UnlinkedBelowIsHeld, UnlinkedRootIsHeld, RemovedRootIsHeld};
 
 /// Roots are the rows of the first level, and the path of each is the root alone.
 pub fn law_roots_are_of_the_first_type()
@@ -16,4 +17,36 @@ pub fn law_roots_ascend()
 pub fn law_the_index_answers_roots()
     ensures answers { IndexAnswersRoots }
     ensures lesser { FirstRootsFollowLesser }
+{}
+
+/// A change below a row, and bytes with the same key, change no root's entry.
+pub fn law_changes_keep_entries()
+    ensures below { ChangesBelowKeepEntries }
+    ensures replacing { ReplacingKeepsEntries }
+{}
+
+/// A new root's key is new, and its entry goes in at the key; a root that is taken out leaves the entries without its key.
+pub fn law_roots_change_entries()
+    ensures linking { LinkingEntersRoots }
+    ensures unlinking { UnlinkingRemovesRoots }
+{}
+
+/// A change of the forest keeps the index's entries, and one of the index keeps the forest, so that the two steps of a change
+/// to a root may come in either order.
+pub fn law_changes_are_apart()
+    ensures held { HeldIsEntered }
+    ensures forest { ForestChangesKeepEntries }
+    ensures index { IndexChangesKeepTheForest }
+{}
+
+/// After each change a volume holds the forest so changed: a root's, once both of its steps are done.
+pub fn law_changed_volumes_hold()
+    ensures replaced { ReplacedIsHeld }
+    ensures linked { LinkedBelowIsHeld }
+    ensures linked_new { LinkedRootIsNew }
+    ensures linked_root { LinkedRootIsHeld }
+    ensures entered_root { EnteredRootIsHeld }
+    ensures unlinked { UnlinkedBelowIsHeld }
+    ensures unlinked_root { UnlinkedRootIsHeld }
+    ensures removed_root { RemovedRootIsHeld }
 {}

@@ -5,4 +5,8 @@
 
 mod law;
 
-pub use law::{law_roots_are_of_the_first_type, law_roots_ascend, law_the_index_answers_roots};
+pub use law::{
+    law_changed_volumes_hold, law_changes_are_apart, law_changes_keep_entries,
+    law_roots_are_of_the_first_type, law_roots_ascend, law_roots_change_entries,
+    law_the_index_answers_roots,
+};
