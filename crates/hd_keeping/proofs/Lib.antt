@@ -3,3 +3,5 @@ pub mod RootRows
 pub mod Entries
 pub mod RootEntries
 pub mod Volumes
+pub mod Rooms
+pub mod VolumeImages

@@ -2,3 +2,5 @@ pub mod Roots
 pub mod Found
 pub mod Entered
 pub mod Laws
+pub mod Rooms
+pub mod VolumeImages

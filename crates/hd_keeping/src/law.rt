@@ -1,5 +1,7 @@
 ghost use Rattle.hd_keeping.specs.Found.{RootsAreOfTheFirstType, RootsStandAlone, RootsAscend, IndexAnswersRoots, FirstRootsFollowLesser};
 ghost use Rattle.hd_keeping.specs.Laws.{ChangesBelowKeepEntries, ReplacingKeepsEntries, LinkingEntersRoots, UnlinkingRemovesRoots, HeldIsEntered, ForestChangesKeepEntries, IndexChangesKeepTheForest, ReplacedIsHeld, LinkedBelowIsHeld, LinkedRootIsNew, LinkedRootIsHeld, EnteredRootIsHeld, UnlinkedBelowIsHeld, UnlinkedRootIsHeld, RemovedRootIsHeld};
+ghost use Rattle.hd_keeping.specs.Rooms.{FirstRowsFindRoom, RoomLasts, FirstRootsFindRoom, RootEntriesFindRoom, RootRoomLasts};
+ghost use Rattle.hd_keeping.specs.VolumeImages.{VolumesHoldTheirRows, VolumesHaveTheirRoom, LackingRoomIsTheRule, VolumesFollow};
 
 /// Roots are the rows of the first level, and the path of each is the root alone.
 pub fn law_roots_are_of_the_first_type()
@@ -49,4 +51,30 @@ pub fn law_changed_volumes_hold()
     ensures unlinked { UnlinkedBelowIsHeld }
     ensures unlinked_root { UnlinkedRootIsHeld }
     ensures removed_root { RemovedRootIsHeld }
+{}
+
+/// Room and memory for rows of which none is a root last from the link of one to that of the next: none is refused for want of
+/// either.
+pub fn law_room_lasts()
+    ensures first { FirstRowsFindRoom }
+    ensures lasts { RoomLasts }
+{}
+
+/// The same of a root, its entry in the index, and the rows below it.
+pub fn law_room_lasts_for_roots()
+    ensures first { FirstRootsFindRoom }
+    ensures entry { RootEntriesFindRoom }
+    ensures lasts { RootRoomLasts }
+{}
+
+/// A volume's bytes hold the rows that it holds, and have its room.
+pub fn law_volumes_are_images()
+    ensures rows { VolumesHoldTheirRows }
+    ensures room { VolumesHaveTheirRoom }
+{}
+
+/// Where an image lacks room for rows, and where it follows from the one before, told of volumes.
+pub fn law_images_follow_volumes()
+    ensures lacks { LackingRoomIsTheRule }
+    ensures follows { VolumesFollow }
 {}
