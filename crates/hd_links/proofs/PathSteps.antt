@@ -22,7 +22,7 @@ use Rattle.hd_links.proofs.Scans.{row_fit, left_over}
 
 module _ (types : List SegmentType) (O : Ordered types) (leveled : Leveled types) (bound : ℕ) (m : Links) (G : IsLinkGraph types bound m) (f : Forest Placed) (H : Holds types m f) where
   -- a path is as long as its row's level
-  path_length : (i : ℕ) → i < length (rows_of f) → length (path_of types (rows_of f) i) ≡ level_at types (rows_of f) i
+  pub path_length : (i : ℕ) → i < length (rows_of f) → length (path_of types (rows_of f) i) ≡ level_at types (rows_of f) i
   path_length i within =
       let F : RowAt types O leveled bound m G f H i = row_found types O leveled bound m G f H i within in
       ap (λ (x : List ℕ). length x) (own_path types O leveled bound m G f H i F.path F.parent F.holder F.table F.row F.below F.after F.rest F.stands)

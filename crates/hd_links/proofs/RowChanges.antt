@@ -123,6 +123,9 @@ module _ (types : List SegmentType) (O : Ordered types) (leveled : Leveled types
       (changed ∙ span_front D.before I.front I.row (sequence I.under) (p ∷ (I.rest ++ D.behind))) (length up_to) refl in (
         length up_to,
         record {
+          within = (let all : length (sequence f) ≡ length up_to + length (I.rest ++ D.behind)
+              = ap (λ (x : List Placed). length x) (whole ∙ span_front D.before I.front I.row (sequence I.under) (I.rest ++ D.behind)) ∙ length-append up_to (I.rest ++ D.behind) in
+              let len : length (rows_of f) ≡ length (sequence f) = rows_length f in omega arith);
           rows = rows_put (with_leaf h y p f) f p (length up_to) nodes;
           places = places_put (with_leaf h y p f) f p (length up_to) nodes;
           behind = λ i within q at.
@@ -172,6 +175,9 @@ module _ (types : List SegmentType) (O : Ordered types) (leveled : Leveled types
       = put_in p (sequence f) (D.before ++ I.front) (I.rest ++ D.behind) (sequence (with_leaf h y p f)) whole changed (length (D.before ++ I.front)) refl in (
         length (D.before ++ I.front),
         record {
+          within = (let all : length (sequence f) ≡ length (D.before ++ I.front) + length (I.rest ++ D.behind)
+              = ap (λ (x : List Placed). length x) whole ∙ length-append (D.before ++ I.front) (I.rest ++ D.behind) in
+              let len : length (rows_of f) ≡ length (sequence f) = rows_length f in omega arith);
           rows = rows_put (with_leaf h y p f) f p (length (D.before ++ I.front)) nodes;
           places = places_put (with_leaf h y p f) f p (length (D.before ++ I.front)) nodes;
           behind = λ i within q at. absurd (omega arith);

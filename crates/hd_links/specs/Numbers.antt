@@ -1,5 +1,5 @@
 -- Where the row of a new leaf goes in, and which rows leave with a span, by their numbers.
-use Rattle.std.specs.Prelude.{◌≡◌, ℕ, ◌+◌, ◌<◌, List, ◌∷◌, ◌++◌, length, take, drop, false, ◌&&◌, ◌||◌, ◌==◌, nat_lt, nat_le, Some}
+use Rattle.std.specs.Prelude.{◌≡◌, ℕ, ◌+◌, ◌<◌, ◌≤◌, List, ◌∷◌, ◌++◌, length, take, drop, false, ◌&&◌, ◌||◌, ◌==◌, nat_lt, nat_le, Some}
 use Rattle.std.specs.Option.{option_map_or, option_eq}
 use Rattle.hd_dbd.specs.Types.{SegmentType}
 use Rattle.hd_dbd.specs.Segment.{Segment}
@@ -18,9 +18,11 @@ place_below types rows i t =
     (first_from (λ j. option_eq (λ a b. a == b) (parent_row types rows j) (Some i) && nat_le t (row_at rows j).code) (i + 1) (end_of types rows i))
     (end_of types rows i)
 
--- The row of a new leaf below h goes in at number n: behind the span of its twin y; as the first of its type, among the
--- roots at the beginning, and below row i at the first of its own that is of the type or a later one, or behind its span.
+-- The row of a new leaf below h goes in at number n, inside the sequence: behind the span of its twin y; as the first of its
+-- type, among the roots at the beginning, and below row i at the first of its own that is of the type or a later one, or behind
+-- its span.
 pub record LeafGoesInAt (types : List SegmentType) (f : Forest Placed) (h y : ℕ) (p : Placed) (n : ℕ) : Type 0 where
+  pub within : n ≤ length (rows_of f)
   pub rows : rows_of (with_leaf h y p f) ≡ take n (rows_of f) ++ p.segment ∷ drop n (rows_of f)
   pub places : addresses (with_leaf h y p f) ≡ take n (addresses f) ++ p.address ∷ drop n (addresses f)
   pub behind : (i : ℕ) → i < length (rows_of f) → 0 < y → address_at f i ≡ y → n ≡ end_of types (rows_of f) i
