@@ -2,7 +2,7 @@
 use Rattle.std.proofs.Common.{◌≡◌, ℕ, ◌+◌, ◌-◌, ◌<◌, List, [], ◌∷◌, ◌++◌, length, Bool, true, false, ◌==◌, Option, Some, None, IsTrue, refl, sym, ap, subst, ◌∙◌, arith, inl, inr}
 use Rattle.std.specs.Prelude.{bytes_eq, option_map, map, not, ◌&&◌}
 use Rattle.std.specs.Option.{option_map_or}
-use Rattle.std.proofs.lemmas.Bool.{and_from, cases_Bool, cases_lt, cond-true, eq-eqb, eqb-true, false≢true}
+use Rattle.std.proofs.lemmas.Bool.{not-true, and_parts, and_from, cases_Bool, cases_lt, cond-true, eq-eqb, eqb-true, false≢true}
 use Rattle.std.proofs.lemmas.List.{append-nil}
 use Rattle.std.proofs.lemmas.Slice.Eq.{bytes_eq-Decides}
 use Rattle.hd_dbd.specs.Types.{SegmentType}
@@ -74,8 +74,15 @@ below-key types rows key i root fails = elim (cases_Bool (key_less (key_at types
 
 pub follow-lesser : FirstRootsFollowLesser
 follow-lesser types rows key = (
-  λ i j is before root. below-key types rows key j root ((least_some (is_root_from types rows key) (length rows - 0) 0 i is).3 j (omega arith) before),
-  λ j is within root. below-key types rows key j root (least_no (is_root_from types rows key) (length rows - 0) 0 is j (omega arith) (omega arith)),
+  λ i is.
+      (let F = least_some (is_root_from types rows key) (length rows - 0) 0 i is in
+      let both = and_parts (is_root rows i) (not (key_less (key_at types rows i) key)) F.2 in (
+        omega (arith, F.1),
+        both.0,
+        not-true (key_less (key_at types rows i) key) both.1,
+        λ j before root. below-key types rows key j root (F.3 j (omega arith) before),
+      )),
+  λ is j within root. below-key types rows key j root (least_no (is_root_from types rows key) (length rows - 0) 0 is j (omega arith) (omega arith)),
 )
 
 -- ---- the roots of a held forest

@@ -1,5 +1,5 @@
 -- What the index answers, told of the rows of the forest that a volume holds.
-use Rattle.std.specs.Prelude.{◌≡◌, ℕ, ◌<◌, List, [], ◌∷◌, length, Some, None, true}
+use Rattle.std.specs.Prelude.{◌≡◌, ℕ, ◌<◌, List, [], ◌∷◌, length, Some, None, true, false}
 use Rattle.hd_dbd.specs.Types.{SegmentType}
 use Rattle.hd_dbd.specs.Hierarchy.{Database}
 use Rattle.hd_dbd.specs.Segment.{Segment}
@@ -40,9 +40,15 @@ IndexAnswersRoots =
     → (address_of key (entries_for d v) ≡ address_of_first f (is_root_with d.types (rows_of f) key))
     × (address_from key (entries_for d v) ≡ address_of_first f (is_root_from d.types (rows_of f) key))
 
--- All roots before the first from a key on have lesser keys; where there is none, all roots have.
+-- Of the first n rows all roots have lesser keys.
+abbrev pub AreRootsBelow : List SegmentType → List Segment → List ℕ → ℕ → Type 0
+AreRootsBelow types rows key n = (j : ℕ) → j < n → is_root rows j ≡ true → key_less (key_at types rows j) key ≡ true
+
+-- The first root from a key on is a root whose key is not below it, and all roots before it have lesser keys; where there is none,
+-- all roots have.
 abbrev pub FirstRootsFollowLesser : Type 0
 FirstRootsFollowLesser =
     (types : List SegmentType) (rows : List Segment) (key : List ℕ)
-    → ((i j : ℕ) → first_row rows (is_root_from types rows key) ≡ Some i → j < i → is_root rows j ≡ true → key_less (key_at types rows j) key ≡ true)
-    × ((j : ℕ) → first_row rows (is_root_from types rows key) ≡ None → j < length rows → is_root rows j ≡ true → key_less (key_at types rows j) key ≡ true)
+    → ((i : ℕ) → first_row rows (is_root_from types rows key) ≡ Some i
+    → (i < length rows) × (is_root rows i ≡ true) × (key_less (key_at types rows i) key ≡ false) × AreRootsBelow types rows key i)
+    × (first_row rows (is_root_from types rows key) ≡ None → AreRootsBelow types rows key (length rows))

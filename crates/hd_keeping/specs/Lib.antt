@@ -1,2 +1,6 @@
 pub mod Roots
 pub mod Found
+pub mod Entered
+pub mod Laws
+pub mod Rooms
+pub mod VolumeImages

@@ -1,4 +1,7 @@
 ghost use Rattle.hd_keeping.specs.Found.{RootsAreOfTheFirstType, RootsStandAlone, RootsAscend, IndexAnswersRoots, FirstRootsFollowLesser};
+ghost use Rattle.hd_keeping.specs.Laws.{ChangesBelowKeepEntries, ReplacingKeepsEntries, LinkingEntersRoots, UnlinkingRemovesRoots, HeldIsEntered, ForestChangesKeepEntries, IndexChangesKeepTheForest, ReplacedIsHeld, LinkedBelowIsHeld, LinkedRootIsNew, LinkedRootIsHeld, EnteredRootIsHeld, UnlinkedBelowIsHeld, UnlinkedRootIsHeld, RemovedRootIsHeld};
+ghost use Rattle.hd_keeping.specs.Rooms.{FirstRowsFindRoom, RoomLasts, FirstRootsFindRoom, RootEntriesFindRoom, RootRoomLasts};
+ghost use Rattle.hd_keeping.specs.VolumeImages.{VolumesHoldTheirRows, VolumesHaveTheirRoom, LackingRoomIsTheRule, VolumesFollow};
 
 /// Roots are the rows of the first level, and the path of each is the root alone.
 pub fn law_roots_are_of_the_first_type()
@@ -16,4 +19,62 @@ pub fn law_roots_ascend()
 pub fn law_the_index_answers_roots()
     ensures answers { IndexAnswersRoots }
     ensures lesser { FirstRootsFollowLesser }
+{}
+
+/// A change below a row, and bytes with the same key, change no root's entry.
+pub fn law_changes_keep_entries()
+    ensures below { ChangesBelowKeepEntries }
+    ensures replacing { ReplacingKeepsEntries }
+{}
+
+/// A new root's key is new, and its entry goes in at the key; a root that is taken out leaves the entries without its key.
+pub fn law_roots_change_entries()
+    ensures linking { LinkingEntersRoots }
+    ensures unlinking { UnlinkingRemovesRoots }
+{}
+
+/// A change of the forest keeps the index's entries, and one of the index keeps the forest, so that the two steps of a change
+/// to a root may come in either order.
+pub fn law_changes_are_apart()
+    ensures held { HeldIsEntered }
+    ensures forest { ForestChangesKeepEntries }
+    ensures index { IndexChangesKeepTheForest }
+{}
+
+/// After each change a volume holds the forest so changed: a root's, once both of its steps are done.
+pub fn law_changed_volumes_hold()
+    ensures replaced { ReplacedIsHeld }
+    ensures linked { LinkedBelowIsHeld }
+    ensures linked_new { LinkedRootIsNew }
+    ensures linked_root { LinkedRootIsHeld }
+    ensures entered_root { EnteredRootIsHeld }
+    ensures unlinked { UnlinkedBelowIsHeld }
+    ensures unlinked_root { UnlinkedRootIsHeld }
+    ensures removed_root { RemovedRootIsHeld }
+{}
+
+/// Room and memory for rows of which none is a root last from the link of one to that of the next: none is refused for want of
+/// either.
+pub fn law_room_lasts()
+    ensures first { FirstRowsFindRoom }
+    ensures lasts { RoomLasts }
+{}
+
+/// The same of a root, its entry in the index, and the rows below it.
+pub fn law_room_lasts_for_roots()
+    ensures first { FirstRootsFindRoom }
+    ensures entry { RootEntriesFindRoom }
+    ensures lasts { RootRoomLasts }
+{}
+
+/// A volume's bytes hold the rows that it holds, and have its room.
+pub fn law_volumes_are_images()
+    ensures rows { VolumesHoldTheirRows }
+    ensures room { VolumesHaveTheirRoom }
+{}
+
+/// Where an image lacks room for rows, and where it follows from the one before, told of volumes.
+pub fn law_images_follow_volumes()
+    ensures lacks { LackingRoomIsTheRule }
+    ensures follows { VolumesFollow }
 {}

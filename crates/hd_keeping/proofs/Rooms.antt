@@ -1,0 +1,121 @@
+-- Room and memory for the rows that one call puts in.
+use Rattle.std.proofs.Common.{◌≡◌, ℕ, ◌+◌, ◌-◌, ◌≤◌, List, ◌∷◌, sym, ◌∙◌, arith, inl, inr}
+use Rattle.std.specs.Prelude.{map}
+use Rattle.std.proofs.lemmas.Bool.{cases_eq}
+use Rattle.std.proofs.lemmas.List.Sums.{sum_by-cons}
+use Rattle.hd_dbd.specs.Types.{SegmentType}
+use Rattle.hd_dbd.specs.Hierarchy.{Database}
+use Rattle.hd_dbd.specs.Segment.{Segment}
+use Rattle.hd_dbd.specs.Prefixes.{stored_size}
+use Rattle.hd_dbd.specs.Forest.{Forest}
+use Rattle.hd_calls.specs.Runs.{stored_sizes}
+use Rattle.hd_volume.specs.Volumes.{VolumeState}
+use Rattle.hd_volume.specs.Rooms.{spare, HasHole}
+use Rattle.hd_volume.specs.Entries.{Entry}
+use Rattle.hd_volume.specs.Indexes.{root_key_length, index_growth}
+use Rattle.hd_volume.proofs.IndexLemmas.{index-stays}
+use Rattle.hd_links.specs.Placed.{Placed}
+use Rattle.hd_image.specs.Holding.{HoldsPlaced}
+use Rattle.hd_forest.specs.Updates.{IsLinked}
+use Rattle.hd_index.proofs.NeedLemmas.{needed-most, needed-stays}
+use Rattle.hd_keeping.specs.Entered.{IsEntered}
+use Rattle.hd_keeping.specs.Rooms.{HasRoomFor, HasMemoryFor, FirstRowsFindRoom, RoomLasts, blocks_for_entry, HasRootRoomFor, HasRootMemoryFor, FirstRootsFindRoom, RootEntriesFindRoom, RootRoomLasts}
+
+-- what rows take is what the first takes, and the rest
+sizes-more : (types : List SegmentType) (row : Segment) (rest : List Segment) → stored_sizes types (row ∷ rest) ≡ stored_size types row.code + stored_sizes types rest
+sizes-more types row rest = sum_by-cons (λ (x : ℕ). x) (stored_size types row.code) (map (λ (r : Segment). stored_size types r.code) rest)
+
+-- where there is a hole, there is one as large as less
+smaller : (v : VolumeState) (n k : ℕ) → HasHole v n → k ≤ n → HasHole v k
+smaller v n k H less = record { block = H.block; is_data = H.is_data; large = (let big : n ≤ _ = H.large in omega arith) }
+
+-- a hole as large as all rows is one for the first
+hole-first : (types : List SegmentType) (v : VolumeState) (row : Segment) (rest : List Segment) → HasHole v (stored_sizes types (row ∷ rest)) → HasHole v (stored_size types row.code)
+hole-first types v row rest hole =
+    (let both : stored_sizes types (row ∷ rest) ≡ stored_size types row.code + stored_sizes types rest = sizes-more types row rest in
+    smaller v (stored_sizes types (row ∷ rest)) (stored_size types row.code) hole (omega arith))
+
+-- and once that is linked, for the others
+hole-left : (d : Database) (v w : VolumeState) (h y a : ℕ) (row : Segment) (rest : List Segment) → IsLinked d v h y row a w
+    → HasHole v (stored_sizes d.types (row ∷ rest)) → HasHole w (stored_sizes d.types rest)
+hole-left d v w h y a row rest I hole =
+    let own : ℕ = stored_size d.types row.code in
+    let more : ℕ = stored_sizes d.types rest in
+    let both : stored_sizes d.types (row ∷ rest) ≡ own + more = sizes-more d.types row rest in
+    elim (cases_eq more 0) [
+      | inl none ↦ record { block = hole.block; is_data = I.rest.data_blocks hole.block hole.is_data; large = omega arith }
+      | inr some ↦
+          (let left : HasHole w (own + more - own) = I.holes (own + more) (omega arith) (smaller v (stored_sizes d.types (row ∷ rest)) (own + more) hole (omega arith)) in
+          smaller w (own + more - own) more left (omega arith))
+    ]
+
+-- ---- rows of which none is a root
+
+pub first-rows : FirstRowsFindRoom
+first-rows types v row rest = (
+  λ room none. elim room [
+    | inl enough ↦ (let no_spare : spare v ≡ 0 = none.0 in omega arith)
+    | inr hole ↦ none.1 (hole-first types v row rest hole)
+  ],
+  λ memory none. elim memory [
+    | inl enough ↦ (let no_room : v.room ≡ 0 = none.0 in omega arith)
+    | inr hole ↦ none.1 (hole-first types v row rest hole)
+  ],
+)
+
+pub room-lasts : RoomLasts
+room-lasts d v w h y a row rest I = (
+  λ room. elim room [
+    | inl enough ↦ inl (let less : spare v ≤ spare w + 1 = I.spares in omega arith)
+    | inr hole ↦ inr (hole-left d v w h y a row rest I hole)
+  ],
+  λ kept memory. elim memory [
+    | inl enough ↦ inl (omega arith)
+    | inr hole ↦ inr (hole-left d v w h y a row rest I hole)
+  ],
+)
+
+-- ---- a root, and rows below it
+
+pub first-roots : FirstRootsFindRoom
+first-roots d v key row rest = (
+  λ room none. elim room [
+    | inl enough ↦ (let no_spare : spare v ≡ 0 = none.0 in omega arith)
+    | inr hole ↦ none.1 (hole-first d.types v row rest hole.0)
+  ],
+  λ memory none. (let no_room : v.room ≡ 0 = none.0 in omega arith),
+)
+
+module _ (d : Database) (v w : VolumeState) (f : Forest Placed) (key : List ℕ) (y a : ℕ) (row : Segment) (rest : List Segment) (H : HoldsPlaced d v f) (I : IsLinked d v 0 y row a w) where
+  -- the index needs what it needed
+  needed-kept : blocks_for_entry d w key ≡ blocks_for_entry d v key
+  needed-kept = needed-stays (root_key_length d.types) v w key H.index (I.volume.size ∙ sym H.volume.size) I.rest.header I.rest.index
+
+  growth-kept : index_growth w ≡ index_growth v
+  growth-kept = (index-stays (root_key_length d.types) v w H.index I.volume.formatted (I.volume.size ∙ sym H.volume.size) I.rest.header I.rest.index I.rest.others).2
+
+  entry-room : HasRootRoomFor d v key (row ∷ rest) → blocks_for_entry d w key ≤ spare w
+  entry-room (inl enough) =
+      (let less : spare v ≤ spare w + 1 = I.spares in
+      omega (arith, less, enough, needed-kept, needed-most (root_key_length d.types) v key))
+  entry-room (inr hole) =
+      (let same : spare w ≡ spare v = I.in_hole (hole-first d.types v row rest hole.0) in
+      let enough : blocks_for_entry d v key ≤ spare v = hole.1 in
+      omega (arith, same, enough, needed-kept))
+
+  entry-memory : v.room ≤ w.room + 1 → HasRootMemoryFor v (row ∷ rest) → index_growth w ≤ w.room
+  entry-memory kept enough = omega (arith, kept, enough, growth-kept)
+
+  module _ (x : VolumeState) (es : List Entry) (E : IsEntered d w es (index_growth w) x) where
+    rest-room : spare w ≤ spare x + index_growth w → HasRootRoomFor d v key (row ∷ rest) → HasRoomFor d.types x rest
+    rest-room spares (inl enough) = inl (let less : spare v ≤ spare w + 1 = I.spares in omega (arith, spares, enough, less, growth-kept))
+    rest-room spares (inr hole) = inr (E.change.holes (stored_sizes d.types rest) (hole-left d v w 0 y a row rest I hole.0))
+
+    rest-memory : v.room ≤ w.room + 1 → w.room ≤ x.room + index_growth w → HasRootMemoryFor v (row ∷ rest) → HasMemoryFor d.types x rest
+    rest-memory kept more enough = inl (omega (arith, kept, more, enough, growth-kept))
+
+pub entries-room : RootEntriesFindRoom
+entries-room d v w f key y a row rest H I = (entry-room d v w f key y a row rest H I, entry-memory d v w f key y a row rest H I)
+
+pub root-room-lasts : RootRoomLasts
+root-room-lasts d v w x f es key y a row rest H I E = (rest-room d v w f key y a row rest H I x es E, rest-memory d v w f key y a row rest H I x es E)
