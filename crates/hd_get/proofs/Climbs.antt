@@ -3,22 +3,28 @@ use Rattle.std.proofs.Common.{◌≡◌, ◌≢◌, ℕ, suc, ◌+◌, ◌-◌, 
 use Rattle.std.specs.Prelude.{map, nat_lt, nat_le, cond, unwrap_or, ◌&&◌, ◌||◌, ◌==◌}
 use Rattle.std.specs.Option.{option_map_or}
 use Rattle.std.specs.List.{list_all, list_any}
-use Rattle.std.proofs.lemmas.Bool.{cases_lt, cases_Bool, cond-true, cond-false, lt-ltb, le-ltb, le-leb, eq-eqb, eqb-true, false≢true}
+use Rattle.std.proofs.lemmas.Bool.{cases_lt, cases_Bool, cond-true, cond-false, lt-ltb, le-ltb, le-leb, and_parts, eq-eqb, eqb-true, false≢true}
 use Rattle.std.proofs.lemmas.List.{length-append}
 use Rattle.hd_dbd.specs.Types.{SegmentType}
-use Rattle.hd_dbd.specs.Paths.{level_at, path_above, parent_row, path_of, end_of, is_twin}
-use Rattle.hd_dbd.specs.Searches.{first_from}
+use Rattle.hd_dbd.specs.Paths.{row_at, level_at, path_above, parent_row, path_of, end_of, is_twin}
+use Rattle.hd_dbd.specs.Searches.{first_from, least_within}
 use Rattle.hd_dbd.specs.Forest.{Forest}
 use Rattle.hd_dbd.proofs.RowPaths.{path_follows}
 use Rattle.hd_calls.proofs.Spans.{end_is}
+use Rattle.hd_calls.proofs.Searches.{cut_end}
 use Rattle.hd_calls.proofs.PathSpans.{spans_below}
 use Rattle.std.proofs.lemmas.List.Folds.{list_any-append}
-use Rattle.hd_links.specs.Links.{Links}
-use Rattle.hd_links.specs.Placed.{Placed}
+use Rattle.hd_links.specs.Links.{Links, is_child_type}
+use Rattle.hd_links.specs.Placed.{Placed, Holds}
+use Rattle.hd_forest.specs.Rows.{IsOnSomeRow}
 use Rattle.hd_links.specs.Steps.{rows_of, address_at, path_at, is_child_row, RowsHaveAddresses, StepsAreRows}
 use Rattle.hd_links.proofs.Numbers.{map_end}
-use Rattle.hd_get.specs.Searches.{NonePass, is_above_admitted, next_twin, first_child, NonePassAcross, path_within, parent_path, EndsAt, GoesAcross}
-use Rattle.hd_get.proofs.Spans.{nested, twin_is, twin_within, child_is, parent_within, parent_span, HasRisen, begins, rises, tops, crosses}
+use Rattle.hd_calls.specs.Gets.{first_child}
+use Rattle.hd_calls.specs.Satisfies.{is_child}
+use Rattle.hd_seek.specs.Admits.{NonePass}
+use Rattle.hd_seek.specs.Twins.{next_twin}
+use Rattle.hd_get.specs.Searches.{is_above_admitted, NonePassAcross, path_within, parent_path, EndsAt, GoesAcross}
+use Rattle.hd_get.proofs.Spans.{one_option, nested, twin_is, twin_within, child_is, parent_within, parent_span, HasRisen, begins, rises, tops, crosses}
 
 -- all but the last of a list
 take_length : (ys : List ℕ) (x : ℕ) → take (length ys) (ys ++ x ∷ []) ≡ ys
@@ -28,7 +34,7 @@ take_length (y ∷ ys) x = ap (λ (zs : List ℕ). y ∷ zs) (take_length ys x)
 take_front : (ys : List ℕ) (x : ℕ) → take (length (ys ++ x ∷ []) - 1) (ys ++ x ∷ []) ≡ ys
 take_front ys x = ap (λ n. take n (ys ++ x ∷ [])) (let e : length (ys ++ x ∷ []) ≡ length ys + 1 = length-append ys (x ∷ []) in let g : length (ys ++ x ∷ []) - 1 ≡ length ys = omega arith in g) ∙ take_length ys x
 
-module _ (types : List SegmentType) (m : Links) (f : Forest Placed) where
+module _ (types : List SegmentType) (f : Forest Placed) where
   -- a row's path is its parent's with the row
   pub path_is : (i : ℕ) → path_at types f i ≡ parent_path types f i ++ address_at f i ∷ []
   path_is i =
@@ -44,6 +50,7 @@ module _ (types : List SegmentType) (m : Links) (f : Forest Placed) where
   pub up_is : (i : ℕ) → take (length (path_at types f i) - 1) (path_at types f i) ≡ parent_path types f i
   up_is i = ap (λ (xs : List ℕ). take (length xs - 1) xs) (path_is i) ∙ take_front (parent_path types f i) (address_at f i)
 
+module _ (types : List SegmentType) (m : Links) (f : Forest Placed) where
   -- the address of what was found, 0 for none, says whether something was
   none_found : (A : RowsHaveAddresses m f) (o : Option ℕ) → ((j : ℕ) → o ≡ Some j → j < length (rows_of f)) → option_map_or (λ j. address_at f j) o 0 ≡ 0 → o ≡ None
   none_found A None l e = refl
@@ -65,27 +72,68 @@ module _ (types : List SegmentType) (m : Links) (f : Forest Placed) where
         F.0,
         F.1,
         ap (λ x. parent_path types f i ++ x ∷ []) (sym F.2)
-        ∙ ap (λ (o : Option ℕ). option_map_or (λ q. path_at types f q) o [] ++ address_at f F.0 ∷ []) (sym T.parent)
-        ∙ sym (path_is F.0),
+            ∙ ap (λ (o : Option ℕ). option_map_or (λ q. path_at types f q) o [] ++ address_at f F.0 ∷ []) (sym T.parent)
+            ∙ sym (path_is types f F.0),
       )
 
-  -- a row has no child of a type where it names none as the first, else its first child
-  pub child_none : RowsHaveAddresses m f → (i code : ℕ) → i < length (rows_of f) → m.first_child (address_at f i) code ≡ option_map_or (λ j. address_at f j) (first_child types (rows_of f) i code) 0
-      → m.first_child (address_at f i) code ≡ 0 → first_child types (rows_of f) i code ≡ None
-  child_none A i code l S e = none_found A (first_child types (rows_of f) i code) (λ j is. (child_is types (rows_of f) i code j l is).2) (sym S ∙ e)
+  -- the first child by pointers is that by rows
+  pub child_same : (i code : ℕ) → i < length (rows_of f) → first_from (λ j. is_child_row types (rows_of f) i code j) (i + 1) (length (rows_of f)) ≡ first_child types (rows_of f) code i
+  child_same i code l =
+      let E = end_is types (rows_of f) i l in
+      let a : i < end_of types (rows_of f) i = E.behind in
+      let b : end_of types (rows_of f) i ≤ length (rows_of f) = E.within in
+      let n : ℕ = end_of types (rows_of f) i - (i + 1) in
+      let d : ℕ = length (rows_of f) - end_of types (rows_of f) i in
+      same (length (rows_of f) - (i + 1)) (i + 1)
+      ∙ ap (λ k. least_within own k (i + 1)) (let e : length (rows_of f) - (i + 1) ≡ n + d = omega arith in e)
+      ∙ cut_end own d n (i + 1) (λ j low high. no_child j (omega arith) (omega arith))
+    where
+      own : ℕ → Bool
+      own j = (row_at (rows_of f) j).code == code && is_child types (rows_of f) (Some i) j
 
-  pub child_some : (i code : ℕ) → i < length (rows_of f) → m.first_child (address_at f i) code ≡ option_map_or (λ j. address_at f j) (first_child types (rows_of f) i code) 0
-      → 0 < m.first_child (address_at f i) code
-      → (j : ℕ) × (first_child types (rows_of f) i code ≡ Some j) × (path_at types f i ++ m.first_child (address_at f i) code ∷ [] ≡ path_at types f j)
-  child_some i code l S some =
-      let F = some_found (first_child types (rows_of f) i code) (m.first_child (address_at f i) code) some (sym S) in
+      swapped : (x y : Bool) → (x && y) ≡ (y && x)
+      swapped true true = refl
+      swapped true false = refl
+      swapped false true = refl
+      swapped false false = refl
+
+      same : (n k : ℕ) → least_within (λ j. is_child_row types (rows_of f) i code j) n k ≡ least_within own n k
+      same zero k = refl
+      same (suc n) k = ap₂ (λ b o. cond b (Some k) o) (swapped (is_child types (rows_of f) (Some i) k) ((row_at (rows_of f) k).code == code)) (same n (k + 1))
+
+      no_child : (j : ℕ) → end_of types (rows_of f) i ≤ j → j < length (rows_of f) → own j ≡ false
+      no_child j past w = elim (cases_Bool (own j)) [
+        | inl is ↦ absurd (
+            let parent : parent_row types (rows_of f) j ≡ Some i = one_option (parent_row types (rows_of f) j) (Some i) (and_parts ((row_at (rows_of f) j).code == code) (is_child types (rows_of f) (Some i) j) is).1 in
+            let P = parent_span types (rows_of f) j i w parent in
+            let J : j < end_of types (rows_of f) j = (end_is types (rows_of f) j w).behind in
+            let Q : end_of types (rows_of f) j ≤ end_of types (rows_of f) i = P.2 in omega arith)
+        | inr none ↦ none
+      ]
+
+  -- a row has no child of a type where it names none as the first, else its first child
+  pub child_none : RowsHaveAddresses m f → (i code : ℕ) → i < length (rows_of f) → StepsAreRows types m f i → is_child_type types (row_at (rows_of f) i).code code ≡ true
+      → m.first_child (address_at f i) code ≡ 0 → first_child types (rows_of f) code i ≡ None
+  child_none A i code l S typed e =
+      none_found A (first_child types (rows_of f) code i) (λ j is. (child_is types (rows_of f) i code j l is).within)
+      (ap (λ (o : Option ℕ). option_map_or (λ j. address_at f j) o 0) (sym (child_same i code l)) ∙ sym (S.first_child code typed) ∙ e)
+
+  pub child_some : (i code : ℕ) → i < length (rows_of f) → StepsAreRows types m f i → is_child_type types (row_at (rows_of f) i).code code ≡ true → 0 < m.first_child (address_at f i) code
+      → (j : ℕ) × (first_child types (rows_of f) code i ≡ Some j) × (path_at types f i ++ m.first_child (address_at f i) code ∷ [] ≡ path_at types f j)
+  child_some i code l S typed some =
+      let F = some_found (first_child types (rows_of f) code i) (m.first_child (address_at f i) code) some
+      (ap (λ (o : Option ℕ). option_map_or (λ j. address_at f j) o 0) (sym (child_same i code l)) ∙ sym (S.first_child code typed)) in
       let C = child_is types (rows_of f) i code F.0 l F.1 in (
         F.0,
         F.1,
         ap (λ x. path_at types f i ++ x ∷ []) (sym F.2)
-        ∙ ap (λ (o : Option ℕ). option_map_or (λ q. path_at types f q) o [] ++ address_at f F.0 ∷ []) (sym C.3)
-        ∙ sym (path_is F.0),
+            ∙ ap (λ (o : Option ℕ). option_map_or (λ q. path_at types f q) o [] ++ address_at f F.0 ∷ []) (sym C.parent)
+            ∙ sym (path_is types f F.0),
       )
+
+-- the path of a row is not empty
+pub some_path : (types : List SegmentType) (f : Forest Placed) (k : ℕ) → 0 < length (path_at types f k)
+some_path types f k = (let e : length (path_at types f k) ≡ length (parent_path types f k) + 1 = ap (λ (xs : List ℕ). length xs) (path_is types f k) ∙ length-append (parent_path types f k) (address_at f k ∷ []) in omega arith)
 
 -- ---- across
 
@@ -99,13 +147,10 @@ pub record HasClimbed (types : List SegmentType) (f : Forest Placed) (parent i :
       × ((test : ℕ → Bool) → NonePassAcross test types (rows_of f) i → NonePass test (end_of types (rows_of f) i) (length (rows_of f)))
 
 module _ (types : List SegmentType) (m : Links) (f : Forest Placed) (A : RowsHaveAddresses m f) (parent i : ℕ) (l : i < length (rows_of f)) where
-  some_path : (k : ℕ) → 0 < length (path_at types f k)
-  some_path k = (let e : length (path_at types f k) ≡ length (parent_path types f k) + 1 = ap (λ (xs : List ℕ). length xs) (path_is types m f k) ∙ length-append (parent_path types f k) (address_at f k ∷ []) in omega arith)
-
   pub climb_begins : (path : List ℕ) → path ≡ path_at types f i → HasClimbed types f parent i path
   climb_begins path e = record {
     row = λ some. (i, (let r : i ≤ i = omega arith in r), e, (λ q is w inside. (let r : q ≤ i = omega arith in r)), λ test admits across up. begins test admits types (rows_of f) i l up);
-    top = λ none. absurd (let s : 0 < length (path_at types f i) = some_path i in let z : length path ≡ length (path_at types f i) = ap (λ (xs : List ℕ). length xs) e in omega arith);
+    top = λ none. absurd (let s : 0 < length (path_at types f i) = some_path types f i in let z : length path ≡ length (path_at types f i) = ap (λ (xs : List ℕ). length xs) e in omega arith);
   }
 
   -- from row k, not the row at the address, which has no later twin, up to its parent
@@ -124,8 +169,8 @@ module _ (types : List SegmentType) (m : Links) (f : Forest Placed) (A : RowsHav
       by None e = record {
         row = λ some. absurd (let z : length path ≡ 0 = ap (λ (xs : List ℕ). length xs) (is ∙ ap (λ (o : Option ℕ). option_map_or (λ q. path_at types f q) o []) e) in omega arith);
         top = λ zero. (
-            λ q at w inside. (let v : q < k = strictly q at w inside in let P = parent_within types (rows_of f) q k v (omega arith) (omega arith) in apart P.0 (sym e ∙ P.1)),
-            λ test across. tops test (λ j. true) types (rows_of f) i k (risen test (λ j. true) across (always (parent_row types (rows_of f) i))) across none e,
+          λ q at w inside. (let v : q < k = strictly q at w inside in let P = parent_within types (rows_of f) q k v (omega arith) (omega arith) in apart P.0 (sym e ∙ P.1)),
+          λ test across. tops test (λ j. true) types (rows_of f) i k (risen test (λ j. true) across (always (parent_row types (rows_of f) i))) across none e,
         );
       }
         where
@@ -145,13 +190,13 @@ module _ (types : List SegmentType) (m : Links) (f : Forest Placed) (A : RowsHav
           let here : path ≡ path_at types f p = is ∙ ap (λ (o : Option ℕ). option_map_or (λ q. path_at types f q) o []) e in
           record {
             row = λ some. (
-                p,
-                (let r : p ≤ i = omega arith in r),
-                here,
-                (λ q at w inside. (let v : q < k = strictly q at w inside in let W = parent_within types (rows_of f) q k v (omega arith) (omega arith) in below q p W.0 W.2 (sym e ∙ W.1))),
-                λ test admits across up. rises test admits types (rows_of f) i k p l (risen test admits across up) across none e,
+              p,
+              (let r : p ≤ i = omega arith in r),
+              here,
+              (λ q at w inside. (let v : q < k = strictly q at w inside in let W = parent_within types (rows_of f) q k v (omega arith) (omega arith) in below q p W.0 W.2 (sym e ∙ W.1))),
+              λ test admits across up. rises test admits types (rows_of f) i k p l (risen test admits across up) across none e,
             );
-            top = λ zero. absurd (let s : 0 < length (path_at types f p) = some_path p in let z : length path ≡ length (path_at types f p) = ap (λ (xs : List ℕ). length xs) here in omega arith);
+            top = λ zero. absurd (let s : 0 < length (path_at types f p) = some_path types f p in let z : length path ≡ length (path_at types f p) = ap (λ (xs : List ℕ). length xs) here in omega arith);
           })
         where
           below : (q p w : ℕ) → q ≤ w → Some p ≡ Some w → q ≤ p
@@ -289,3 +334,28 @@ stays types f m A parent i end n path ends from is = elim (cases_lt 0 parent) [
             ∙ sym (cond-false (nat_lt n end) (path_at types f n) [] (le-ltb n end (omega arith))))
       ])
 ]
+
+-- ---- paths of code
+
+-- a path that is not said to be empty has a row
+pub full_path : (path : List ℕ) (addresses : List ℕ) (b : Bool) → addresses ≡ path → b ≡ (length addresses == 0) → b ≡ false → 0 < length path
+full_path [] addresses b e is some = absurd (false≢true (sym some ∙ is ∙ eq-eqb (length addresses) 0 (ap (λ (xs : List ℕ). length xs) e)))
+full_path (x ∷ xs) addresses b e is some = omega arith
+
+-- a path said to be empty has none
+pub empty_is : (path : List ℕ) (addresses : List ℕ) (b : Bool) → addresses ≡ path → b ≡ (length addresses == 0) → b ≡ true → length path ≡ 0
+empty_is path addresses b e is empty = ap (λ (xs : List ℕ). length xs) (sym e) ∙ eqb-true (length addresses) 0 (sym is ∙ empty)
+
+-- a parent's path that is not empty is that of the parent
+pub parent_at : (types : List SegmentType) (f : Forest Placed) (i : ℕ) (path : List ℕ) → path ≡ parent_path types f i → 0 < length path
+    → (q : ℕ) × (parent_row types (rows_of f) i ≡ Some q) × (path ≡ path_at types f q)
+parent_at types f i path e some = by (parent_row types (rows_of f) i) refl
+  where
+    by : (o : Option ℕ) → parent_row types (rows_of f) i ≡ o → (q : ℕ) × (parent_row types (rows_of f) i ≡ Some q) × (path ≡ path_at types f q)
+    by None is = absurd (let z : length path ≡ 0 = ap (λ (xs : List ℕ). length xs) (e ∙ ap (λ (o : Option ℕ). option_map_or (λ q. path_at types f q) o []) is) in omega arith)
+    by (Some q) is = (q, is, e ∙ ap (λ (o : Option ℕ). option_map_or (λ q. path_at types f q) o []) is)
+
+pub parent_there : (types : List SegmentType) (m : Links) (f : Forest Placed) (i : ℕ) → Holds types m f → i < length (rows_of f) → (path : List ℕ) → path ≡ parent_path types f i → 0 < length path → IsOnSomeRow types m path
+parent_there types m f i holds l path e some =
+    let P = parent_at types f i path e some in
+    let w : P.0 < i = (parent_span types (rows_of f) i P.0 l P.1).0 in (f, P.0, record { holds = holds; within = omega arith; is = P.2 })

@@ -1,18 +1,27 @@
 -- What is known of the rows of a forest that a volume holds.
-use Rattle.std.proofs.Common.{◌≡◌, ℕ, ◌<◌, List, length, sym, ap, subst, ◌∙◌}
+use Rattle.std.proofs.Common.{◌≡◌, ℕ, ◌<◌, ◌≤◌, arith, Some, List, length, sym, ap, subst, ◌∙◌}
 use Rattle.hd_dbd.specs.Types.{SegmentType}
 use Rattle.hd_dbd.specs.Hierarchy.{Database}
 use Rattle.hd_dbd.specs.Segment.{Segment}
-use Rattle.hd_dbd.specs.Paths.{row_at}
+use Rattle.hd_dbd.specs.Paths.{row_at, level_at}
 use Rattle.hd_dbd.specs.Forest.{Forest}
+use Rattle.std.specs.Prelude.{Ok}
 use Rattle.hd_volume.specs.Volumes.{VolumeState}
+use Rattle.hd_volume.specs.Calls.{IsRead}
+use Rattle.hd_forest.proofs.Reading.{after-read}
+use Rattle.hd_get.specs.Searches.{IsAt}
 use Rattle.hd_links.specs.Links.{Links, IsSegment}
 use Rattle.hd_links.specs.Placed.{Placed, Holds}
 use Rattle.hd_links.specs.Steps.{rows_of, address_at, path_at, tip_from, RowsHaveAddresses, StepsAreRows}
 use Rattle.hd_image.specs.Records.{links_of, IsVolumeOf}
 use Rattle.hd_forest.specs.Walks.{tip}
 use Rattle.hd_forest.specs.Rows.{IsOnRow}
+use Rattle.hd_image.proofs.Found.{records-link}
+use Rattle.hd_calls.specs.Gets.{first_child}
 use Rattle.hd_forest.proofs.Walking.{addressed, steps-found}
+use Rattle.hd_position.specs.Laws.{IsHeld}
+use Rattle.hd_position.proofs.Before.{path_levels}
+use Rattle.hd_get.proofs.Spans.{child_is, parent_span}
 
 -- Rows have addresses, and the steps by pointers are the steps by rows.
 pub record Grounds (types : List SegmentType) (m : Links) (f : Forest Placed) : Type 0 where
@@ -32,3 +41,23 @@ module _ (types : List SegmentType) (m : Links) (f : Forest Placed) (G : Grounds
 
   pub tip_code : m.code (tip path) ≡ (row_at (rows_of f) i).code
   tip_code = ap m.code tip_is ∙ ap (λ (r : Segment). r.code) (G.addressed.same i on.within)
+
+-- the path of a row with a child has room for it
+pub short_path : (d : Database) (v : VolumeState) (f : Forest Placed) → IsVolumeOf d v → (path : List ℕ) (i : ℕ) → IsOnRow d.types (links_of d.types v) f path i
+    → (j code : ℕ) → first_child d.types (rows_of f) code i ≡ Some j → length path < 15
+short_path d v f of path i on j code is =
+    let C = child_is d.types (rows_of f) i code j on.within is in
+    let P = parent_span d.types (rows_of f) j i C.within C.parent in
+    let H : IsHeld d.block_size d.frspc d.types (length v.image) (links_of d.types v) f = record { formed = of.fit; graph = records-link d v of.fit of; holds = on.holds } in
+    let I = path_levels d.block_size d.frspc d.types (length v.image) (links_of d.types v) f i H on.within in
+    let J = path_levels d.block_size d.frspc d.types (length v.image) (links_of d.types v) f j H C.within in
+    let a : length path ≡ length (path_at d.types f i) = ap (λ (xs : List ℕ). length xs) on.is in
+    let b : length (path_at d.types f i) ≡ level_at d.types (rows_of f) i = I.0 in
+    let e : level_at d.types (rows_of f) i < level_at d.types (rows_of f) j = P.1 in
+    let h : level_at d.types (rows_of f) j ≤ 15 = J.1 in omega arith
+
+-- what was told of the volume after a call that read was told of it before
+pub told_before : {A : Type 0} {x : A} (d : Database) (u v : VolumeState) → IsRead {T = A} u (Ok x) v → (f : Forest Placed) (path : List ℕ) (i : ℕ) → IsAt d u f path i → IsAt d v f path i
+told_before d u v read f path i at =
+    let same = after-read d u v read at.sound in
+    record { sound = same.sound; row = subst (λ m. IsOnRow d.types m f path i) (sym same.links) at.row }

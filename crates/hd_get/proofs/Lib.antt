@@ -1,3 +1,4 @@
 pub mod Spans
 pub mod Climbs
 pub mod Grounds
+pub mod Turns

@@ -13,14 +13,17 @@ use Rattle.hd_dbd.specs.Paths.{row_at, level_at, parent_row, nearest_above, path
 use Rattle.hd_dbd.specs.Searches.{first_from}
 use Rattle.hd_dbd.proofs.RowPaths.{path_follows}
 use Rattle.hd_links.proofs.Numbers.{nearest_from}
-use Rattle.hd_links.specs.Steps.{is_child_row}
 use Rattle.hd_calls.specs.Places.{end_below}
 use Rattle.hd_calls.proofs.Searches.{least_some}
 use Rattle.hd_calls.proofs.Spans.{IsEnd, end_is, nearest_is}
-use Rattle.hd_get.specs.Searches.{NonePass, is_above_admitted, next_twin, twin_or_end, first_child, NonePassAcross}
+use Rattle.hd_calls.specs.Satisfies.{is_child}
+use Rattle.hd_calls.specs.Gets.{first_child}
+use Rattle.hd_seek.specs.Admits.{NonePass}
+use Rattle.hd_seek.specs.Twins.{next_twin}
+use Rattle.hd_get.specs.Searches.{is_above_admitted, twin_or_end, NonePassAcross}
 
 -- equal optional numbers
-one_option : (a b : Option ℕ) → option_eq (λ p q. p == q) a b ≡ true → a ≡ b
+pub one_option : (a b : Option ℕ) → option_eq (λ p q. p == q) a b ≡ true → a ≡ b
 one_option None None e = refl
 one_option None (Some y) e = cc
 one_option (Some x) None e = cc
@@ -59,30 +62,36 @@ module _ (types : List SegmentType) (rows : List Segment) where
       let Q = end_is types rows q (omega arith) in
       let kb : k < end_of types rows k = K.behind in
       let kw : end_of types rows k ≤ length rows = K.within in
-      let qb : q < end_of types rows q = Q.behind in
-      (w, low, elim (cases_lt (end_of types rows q) (end_of types rows k)) [
-        | inl early ↦
-            (let up : level_at types rows (end_of types rows q) ≤ level_at types rows q = shallow q (end_of types rows q) Q.next (omega arith) in
-            elim (cases_lt k (end_of types rows q)) [
-              | inl inside ↦ absurd (let deep : level_at types rows k < level_at types rows (end_of types rows q) = K.deeper (end_of types rows q) (omega arith) early in omega arith)
-              | inr before ↦ elim (cases_lt (end_of types rows q) k) [
-                | inl v ↦ absurd (let between : level_at types rows k ≤ level_at types rows (end_of types rows q) = N.2 (end_of types rows q) (omega arith) v in omega arith)
-                | inr v ↦ absurd (let same : level_at types rows (end_of types rows q) ≡ level_at types rows k = ap (level_at types rows) (let z : end_of types rows q ≡ k = omega arith in z) in omega arith)
-              ]
-            ])
-        | inr late ↦ late
-      ])
+      let qb : q < end_of types rows q = Q.behind in (
+        w,
+        low,
+        elim (cases_lt (end_of types rows q) (end_of types rows k)) [
+          | inl early ↦
+              (let up : level_at types rows (end_of types rows q) ≤ level_at types rows q = shallow q (end_of types rows q) Q.next (omega arith) in
+              elim (cases_lt k (end_of types rows q)) [
+                | inl inside ↦ absurd (let deep : level_at types rows k < level_at types rows (end_of types rows q) = K.deeper (end_of types rows q) (omega arith) early in omega arith)
+                | inr before ↦ elim (cases_lt (end_of types rows q) k) [
+                  | inl v ↦ absurd (let between : level_at types rows k ≤ level_at types rows (end_of types rows q) = N.2 (end_of types rows q) (omega arith) v in omega arith)
+                  | inr v ↦ absurd (let same : level_at types rows (end_of types rows q) ≡ level_at types rows k = ap (level_at types rows) (let z : end_of types rows q ≡ k = omega arith in z) in omega arith)
+                ]
+              ])
+          | inr late ↦ late
+        ],
+      )
 
   -- a row in the span of another has a parent there
   pub parent_within : (q k : ℕ) → q < k → k < length rows → k < end_of types rows q → (p : ℕ) × (parent_row types rows k ≡ Some p) × (q ≤ p)
   parent_within q k w l inside =
       let Q = end_is types rows q (omega arith) in
       let deep : level_at types rows q < level_at types rows k = Q.deeper k (omega arith) inside in
-      let F = nearest_from types rows (level_at types rows k) q k w deep in
-      (F.0, F.1, elim (cases_lt F.0 q) [
-        | inl above ↦ absurd (let N = nearest_is types rows (level_at types rows k) k F.0 F.1 in let same : level_at types rows k ≤ level_at types rows q = N.2 q above w in omega arith)
-        | inr below ↦ below
-      ])
+      let F = nearest_from types rows (level_at types rows k) q k w deep in (
+        F.0,
+        F.1,
+        elim (cases_lt F.0 q) [
+          | inl above ↦ absurd (let N = nearest_is types rows (level_at types rows k) k F.0 F.1 in let same : level_at types rows k ≤ level_at types rows q = N.2 q above w in omega arith)
+          | inr below ↦ below
+        ],
+      )
 
   -- the next twin of a row stands behind its span, is a row, has its parent and its level
   pub record IsNextTwin (k j : ℕ) : Type 0 where
@@ -132,18 +141,29 @@ module _ (types : List SegmentType) (rows : List Segment) where
             ])
       ]
 
-  -- a child of a row stands in its span
-  pub child_is : (i code j : ℕ) → i < length rows → first_child types rows i code ≡ Some j → (i < j) × (j < end_of types rows i) × (j < length rows) × (parent_row types rows j ≡ Some i)
+  -- the first child of a row is a row of the type in its span, and the row is its parent
+  pub record IsFirstChild (i code j : ℕ) : Type 0 where
+    pub behind : i < j
+    pub inside : j < end_of types rows i
+    pub within : j < length rows
+    pub parent : parent_row types rows j ≡ Some i
+    pub code_is : (row_at rows j).code ≡ code
+
+  pub child_is : (i code j : ℕ) → i < length rows → first_child types rows code i ≡ Some j → IsFirstChild i code j
   child_is i code j l is =
-      let S = least_some (λ j. is_child_row types rows i code j) (length rows - (i + 1)) (i + 1) j is in
+      let E = end_is types rows i l in
+      let S = least_some (λ j. (row_at rows j).code == code && is_child types rows (Some i) j) (end_of types rows i - (i + 1)) (i + 1) j is in
       let a : i + 1 ≤ j = S.0 in
-      let b : j < i + 1 + (length rows - (i + 1)) = S.1 in
-      let T = and_parts (option_eq (λ p q. p == q) (parent_row types rows j) (Some i)) _ S.2 in
-      let parent : parent_row types rows j ≡ Some i = one_option (parent_row types rows j) (Some i) T.0 in
-      let jw : j < length rows = omega arith in
-      let P : end_of types rows j ≤ end_of types rows i = (parent_span j i jw parent).2 in
-      let J : j < end_of types rows j = (end_is types rows j jw).behind in
-      (omega arith, omega arith, jw, parent)
+      let b : j < i + 1 + (end_of types rows i - (i + 1)) = S.1 in
+      let w : end_of types rows i ≤ length rows = E.within in
+      let T = and_parts ((row_at rows j).code == code) (is_child types rows (Some i) j) S.2 in
+      record {
+        behind = omega arith;
+        inside = omega arith;
+        within = omega arith;
+        parent = one_option (parent_row types rows j) (Some i) T.1;
+        code_is = eqb-true (row_at rows j).code code T.0;
+      }
 
 module _ (test admits : ℕ → Bool) (types : List SegmentType) (rows : List Segment) where
   pub joined : (a b c : ℕ) → NonePass test a b → NonePass test b c → NonePass test a c
@@ -229,10 +249,9 @@ module _ (test admits : ℕ → Bool) (types : List SegmentType) (rows : List Se
       → (end_of types rows i ≤ j) × NonePass test (end_of types rows i) j × (is_above_admitted admits types rows j ≡ true)
   crosses i k j l R across is =
       let low : k ≤ i = R.low in
-      let T = twin_is types rows k j (omega arith) is in
-      (
+      let T = twin_is types rows k j (omega arith) is in (
         (let n : end_of types rows i ≤ end_of types rows k = nested types rows k i low l R.high in let b : end_of types rows k ≤ j = T.behind in omega arith),
         joined (end_of types rows i) (end_of types rows k) j R.none
-        (subst (λ n. NonePass test (end_of types rows k) n) (ap (λ (t : Option ℕ). unwrap_or t (end_below types rows (parent_row types rows k))) is) (across k R.low R.high)),
+            (subst (λ n. NonePass test (end_of types rows k) n) (ap (λ (t : Option ℕ). unwrap_or t (end_below types rows (parent_row types rows k))) is) (across k R.low R.high)),
         above_same j k T.parent R.above,
       )

@@ -5,16 +5,19 @@ use Rattle.std.specs.List.{list_all}
 use Rattle.hd_dbd.specs.Types.{SegmentType}
 use Rattle.hd_dbd.specs.Hierarchy.{Database}
 use Rattle.hd_dbd.specs.Segment.{Segment}
-use Rattle.hd_dbd.specs.Paths.{row_at, parent_row, path_of, end_of, is_twin}
+use Rattle.hd_dbd.specs.Paths.{row_at, parent_row, path_of, end_of}
 use Rattle.hd_dbd.specs.Searches.{first_from}
 use Rattle.hd_dbd.specs.Forest.{Forest}
 use Rattle.hd_links.specs.Links.{Links, is_child_type}
 use Rattle.hd_links.specs.Placed.{Placed, Holds}
-use Rattle.hd_links.specs.Steps.{rows_of, address_at, path_at, is_child_row}
+use Rattle.hd_links.specs.Steps.{rows_of, address_at, path_at}
 use Rattle.hd_volume.specs.Volumes.{VolumeState}
 use Rattle.hd_image.specs.Records.{links_of, IsVolumeOf}
 use Rattle.hd_forest.specs.Rows.{IsOnRow, IsOnSomeRow}
+use Rattle.hd_calls.specs.Gets.{first_child}
 use Rattle.hd_calls.specs.Places.{end_below}
+use Rattle.hd_seek.specs.Admits.{NonePass}
+use Rattle.hd_seek.specs.Twins.{next_twin}
 use Rattle.hd_get.specs.declared.verdict.Verdict.{Verdict}
 use Rattle.hd_get.specs.declared.verdict.Verdict.TheVariants.{Found, Next, Over, Down, Across, Rest}
 
@@ -37,10 +40,6 @@ pub record LeadsWithin (types : List SegmentType) (m : Links) (f : Forest Placed
 
 -- ---- what is known of the rows passed over
 
--- no row from one number to before another passes
-abbrev pub NonePass : (ℕ → Bool) → ℕ → ℕ → Type 0
-NonePass test i k = (j : ℕ) → i ≤ j → j < k → test j ≡ false
-
 -- the parent of row i is admitted, and all above it
 abbrev pub is_above_admitted : (ℕ → Bool) → List SegmentType → List Segment → ℕ → Bool
 is_above_admitted admits types rows i = option_map_or (λ q. list_all admits (path_of types rows q)) (parent_row types rows i) true
@@ -48,10 +47,6 @@ is_above_admitted admits types rows i = option_map_or (λ q. list_all admits (pa
 -- every row is admitted
 abbrev pub AllAdmitted : (ℕ → Bool) → Type 0
 AllAdmitted admits = (k : ℕ) → admits k ≡ true
-
--- the next twin of a row
-abbrev pub next_twin : List SegmentType → List Segment → ℕ → Option ℕ
-next_twin types rows k = first_from (λ j. is_twin types rows k j) (k + 1) (length rows)
 
 -- the next twin of a row, or the number behind its parent's rows
 abbrev pub twin_or_end : List SegmentType → List Segment → ℕ → ℕ
@@ -61,26 +56,28 @@ twin_or_end types rows k = unwrap_or (next_twin types rows k) (end_below types r
 abbrev pub parent_path : List SegmentType → Forest Placed → ℕ → List ℕ
 parent_path types f i = option_map_or (λ q. path_at types f q) (parent_row types (rows_of f) i) []
 
--- the first child of a type below a row
-abbrev pub first_child : List SegmentType → List Segment → ℕ → ℕ → Option ℕ
-first_child types rows i code = first_from (λ j. is_child_row types rows i code j) (i + 1) (length rows)
-
 -- the first child of a type below a row, or the number behind its span
 abbrev pub child_or_end : List SegmentType → List Segment → ℕ → ℕ → ℕ
-child_or_end types rows i code = unwrap_or (first_child types rows i code) (end_of types rows i)
+child_or_end types rows i code = unwrap_or (first_child types rows code i) (end_of types rows i)
 
 -- from the end of each span that row i lies in to the next twin of the span's row, or to the end of its parent's rows, none passes
 abbrev pub NonePassAcross : (ℕ → Bool) → List SegmentType → List Segment → ℕ → Type 0
 NonePassAcross test types rows i =
     (k : ℕ) → k ≤ i → i < end_of types rows k → NonePass test (end_of types rows k) (twin_or_end types rows k)
 
+-- Row i is admitted, and none passes before its first child of the type.
+pub record IsWayDown (test admits : ℕ → Bool) (types : List SegmentType) (rows : List Segment) (i code : ℕ) : Type 0 where
+  pub admitted : admits i ≡ true
+  pub child : is_child_type types (row_at rows i).code code ≡ true
+  pub none : NonePass test i (child_or_end types rows i code)
+  pub across : NonePassAcross test types rows i
+
 -- Why a search goes where it goes from row i.
 pub record IsJudged (test admits : ℕ → Bool) (types : List SegmentType) (rows : List Segment) (i : ℕ) (v : Verdict) : Type 0 where
   pub found : v ≡ Found → test i ≡ true
   pub next : v ≡ Next → (test i ≡ false) × AllAdmitted admits
   pub over : v ≡ Over → NonePass test i (end_of types rows i) × AllAdmitted admits
-  pub down : (code : ℕ) → v ≡ Down code → (admits i ≡ true) × (is_child_type types (row_at rows i).code code ≡ true)
-      × NonePass test i (child_or_end types rows i code) × NonePassAcross test types rows i
+  pub down : (code : ℕ) → v ≡ Down code → IsWayDown test admits types rows i code
   pub across : v ≡ Across → NonePass test i (end_of types rows i) × NonePassAcross test types rows i
   pub rest : v ≡ Rest → NonePass test i (end_below types rows (parent_row types rows i)) × NonePassAcross test types rows i
 
@@ -114,6 +111,29 @@ GoesAcross types f parent i path =
     → (number : ℕ) × (end_of types (rows_of f) i ≤ number) × NonePass test (end_of types (rows_of f) i) number
     × (number < end → is_above_admitted admits types (rows_of f) number ≡ true) × (path ≡ path_within types f end number)
 
+-- The search went down from row i to its first child of a type, or, where it has none, across.
+abbrev pub GoesDown : List SegmentType → Forest Placed → ℕ → ℕ → ℕ → List ℕ → Type 0
+GoesDown types f parent i code path =
+    (test admits : ℕ → Bool) (end : ℕ) → EndsAt types f parent i end → i < end → is_above_admitted admits types (rows_of f) i ≡ true
+    → IsWayDown test admits types (rows_of f) i code → GoesOn test admits types f end i path
+
+-- The search went on from row i to the row of a number, unless that is past its end.
+abbrev pub GoesTo : List SegmentType → Forest Placed → ℕ → ℕ → ℕ → List ℕ → Type 0
+GoesTo types f parent i number path = (end : ℕ) → EndsAt types f parent i end → path ≡ path_within types f end number
+
+-- The search went over the rest of the rows of row i's parent.
+abbrev pub GoesPast : List SegmentType → Forest Placed → ℕ → ℕ → List ℕ → Type 0
+GoesPast types f parent i path =
+    (test admits : ℕ → Bool) (end : ℕ) → EndsAt types f parent i end → i < end → is_above_admitted admits types (rows_of f) i ≡ true
+    → NonePass test i (end_below types (rows_of f) (parent_row types (rows_of f) i)) → NonePassAcross test types (rows_of f) i
+    → GoesOn test admits types f end i path
+
+-- The search followed a verdict on row i.
+abbrev pub Follows : List SegmentType → Forest Placed → ℕ → ℕ → Verdict → Bool → List ℕ → Type 0
+Follows types f parent i verdict r path =
+    (test admits : ℕ → Bool) (end : ℕ) → EndsAt types f parent i end → i < end → is_above_admitted admits types (rows_of f) i ≡ true
+    → IsJudged test admits types (rows_of f) i verdict → IsTurned test admits types f end i r path
+
 -- ---- the words of the contracts
 
 -- where the store is sound, the volume is one of the database
@@ -135,3 +155,19 @@ IsVerdict test admits d v path verdict =
     (f : Forest Placed) (i : ℕ) → IsAt d v f path i → is_above_admitted (admits (rows_of f)) d.types (rows_of f) i ≡ true
     → IsJudged (test (rows_of f)) (admits (rows_of f)) d.types (rows_of f) i verdict
 
+-- Where the store is sound, a search stands at a row of a forest that the volume holds, before its end, and the parents of the row
+-- are admitted.
+pub record IsSearching (admits : List Segment → ℕ → Bool) (d : Database) (v : VolumeState) (f : Forest Placed) (parent end : ℕ) (path : List ℕ) (i : ℕ) : Type 0 where
+  pub sound : IsTrue v.is_sound
+  pub leads : LeadsWithin d.types (links_of d.types v) f parent end path i
+  pub above : i < end → is_above_admitted (admits (rows_of f)) d.types (rows_of f) i ≡ true
+
+-- where the store is sound, a search stands somewhere
+abbrev pub MaySearch : (List Segment → ℕ → Bool) → Database → VolumeState → ℕ → List ℕ → Type 0
+MaySearch admits d v parent path =
+    IsTrue v.is_sound → (f : Forest Placed) × (i : ℕ) × (end : ℕ) × IsSearching admits d v f parent end path i
+
+-- What a search for the rows that pass a test has found, wherever it stood.
+abbrev pub Finds : (List Segment → ℕ → Bool) → (List Segment → ℕ → Bool) → Database → VolumeState → ℕ → List ℕ → Bool → List ℕ → Type 0
+Finds test admits d v parent path r found =
+    (f : Forest Placed) (i end : ℕ) → IsSearching admits d v f parent end path i → IsFound (test (rows_of f)) d.types f end i r found

@@ -13,7 +13,9 @@ use hd_volume::{BlockStore, Volume};
 /// What a call asks of the rows: a test that a row passes or not, and whether a row is admitted, so that rows below it may pass.
 pub trait Judge {
     ghost test: { Self → List SegmentType → List Segment → ℕ → Bool };
+
     ghost admits: { Self → List SegmentType → List Segment → ℕ → Bool };
+
     ghost suits: { Self → List SegmentType → Type 0 };
 
     /// Judges the row that a path leads to, whose parents are admitted; it alone is read.

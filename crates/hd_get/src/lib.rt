@@ -2,8 +2,10 @@
 #![tactic(auto)]
 
 mod judge;
+mod searching;
 mod steps;
 mod verdict;
 
 pub use judge::Judge;
+pub use searching::find;
 pub use verdict::Verdict;

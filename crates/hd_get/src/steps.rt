@@ -1,13 +1,16 @@
-ghost use Rattle.std.specs.Prelude.{◌≡◌, ◌-◌, ◌<◌, ℕ, [], ◌||◌, ◌==◌, Bool, true, false, cond, length, take, IfOk, OnOk, IsTrue};
+ghost use Rattle.std.specs.Prelude.{◌≡◌, ◌+◌, ◌-◌, ◌<◌, ℕ, [], ◌||◌, ◌==◌, Bool, true, false, cond, length, take, IfOk, OnOk, IsTrue};
 ghost use Rattle.std.specs.List.{list_any};
+ghost use Rattle.hd_dbd.specs.Paths.{end_of};
 ghost use Rattle.hd_dbd.specs.Refusals.{OnlyDevice};
 ghost use Rattle.hd_dbd.specs.Forest.{Forest};
 ghost use Rattle.hd_volume.specs.Calls.{IsRead};
 ghost use Rattle.hd_links.specs.Placed.{Placed};
-ghost use Rattle.hd_get.specs.Searches.{IsOf, IsThere, IsAt, IsClimbed, GoesAcross};
+ghost use Rattle.hd_links.specs.Steps.{rows_of};
+ghost use Rattle.hd_get.specs.Searches.{IsOf, IsThere, IsAt, IsClimbed, GoesAcross, GoesDown, GoesTo, GoesPast, Follows};
 
+use crate::verdict::Verdict;
 use hd_dbd::{Dbd, Refused};
-use hd_forest::{Path, next_twin, tip_of};
+use hd_forest::{Path, first_child, next_after_span, next_row, next_twin, tip_of};
 use hd_volume::{BlockStore, Volume};
 
 /// Leaves a path that leads past the dependents of the row at an address; the address 0 stands above all rows.
@@ -20,11 +23,7 @@ fn stay_below(path: &mut Path, parent: u32)
 }
 
 /// Goes from the last row of a path to its next twin, or, where it is the last twin, up to its parent; says which.
-fn climb<S: BlockStore>(
-    volume: &mut Volume<S>,
-    dbd: &Dbd,
-    path: &mut Path,
-) -> Result<bool, Refused>
+fn climb<S: BlockStore>(volume: &mut Volume<S>, dbd: &Dbd, path: &mut Path) -> Result<bool, Refused>
     requires of { IsOf dbd.now volume.old }
     requires there { IsThere dbd.now volume.old path.old }
     ensures read { IsRead volume.old result volume.new }
@@ -62,4 +61,107 @@ fn across<S: BlockStore>(
     }
     path.clear();
     Ok(())
+}
+
+/// Goes down from the last row of a path to its first child of a type; where it has none, across.
+fn down<S: BlockStore>(
+    volume: &mut Volume<S>,
+    dbd: &Dbd,
+    parent: u32,
+    code: u8,
+    path: &mut Path,
+) -> Result<(), Refused>
+    requires of { IsOf dbd.now volume.old }
+    requires there { IsThere dbd.now volume.old path.old }
+    ensures read { IsRead volume.old result volume.new }
+    ensures value { OnOk result ((f : Forest Placed) (i : ℕ) → IsAt dbd.now volume.old f path.old i → GoesDown dbd.now.types f parent i code path.new) }
+    ensures refusal { OnlyDevice result }
+{
+    let child = first_child(volume, dbd, tip_of(path), code)?;
+    if child == 0 {
+        return across(volume, dbd, parent, path);
+    }
+    path.push(child);
+    Ok(())
+}
+
+/// Goes over the rest of the rows of the parent of a path's last row.
+fn rest<S: BlockStore>(
+    volume: &mut Volume<S>,
+    dbd: &Dbd,
+    parent: u32,
+    path: &mut Path,
+) -> Result<(), Refused>
+    requires of { IsOf dbd.now volume.old }
+    requires there { IsThere dbd.now volume.old path.old }
+    ensures read { IsRead volume.old result volume.new }
+    ensures value { OnOk result ((f : Forest Placed) (i : ℕ) → IsAt dbd.now volume.old f path.old i → GoesPast dbd.now.types f parent i path.new) }
+    ensures refusal { OnlyDevice result }
+{
+    path.up();
+    if path.addresses().is_empty() {
+        return Ok(());
+    }
+    across(volume, dbd, parent, path)
+}
+
+/// Goes from the last row of a path to the next row, below the row at an address.
+fn next<S: BlockStore>(
+    volume: &mut Volume<S>,
+    dbd: &Dbd,
+    parent: u32,
+    path: &mut Path,
+) -> Result<(), Refused>
+    requires of { IsOf dbd.now volume.old }
+    requires there { IsThere dbd.now volume.old path.old }
+    ensures read { IsRead volume.old result volume.new }
+    ensures value { OnOk result ((f : Forest Placed) (i : ℕ) → IsAt dbd.now volume.old f path.old i → GoesTo dbd.now.types f parent i (i + 1) path.new) }
+    ensures refusal { OnlyDevice result }
+{
+    next_row(volume, dbd, path)?;
+    stay_below(path, parent);
+    Ok(())
+}
+
+/// Goes over the span of the last row of a path, below the row at an address.
+fn over<S: BlockStore>(
+    volume: &mut Volume<S>,
+    dbd: &Dbd,
+    parent: u32,
+    path: &mut Path,
+) -> Result<(), Refused>
+    requires of { IsOf dbd.now volume.old }
+    requires there { IsThere dbd.now volume.old path.old }
+    ensures read { IsRead volume.old result volume.new }
+    ensures value { OnOk result ((f : Forest Placed) (i : ℕ) → IsAt dbd.now volume.old f path.old i → GoesTo dbd.now.types f parent i (end_of dbd.now.types (rows_of f) i) path.new) }
+    ensures refusal { OnlyDevice result }
+{
+    next_after_span(volume, dbd, path)?;
+    stay_below(path, parent);
+    Ok(())
+}
+
+/// Goes where a verdict on the last row of a path says, below the row at an address; says whether the row is found.
+pub fn follow<S: BlockStore>(
+    volume: &mut Volume<S>,
+    dbd: &Dbd,
+    parent: u32,
+    verdict: Verdict,
+    path: &mut Path,
+) -> Result<bool, Refused>
+    requires of { IsOf dbd.now volume.old }
+    requires there { IsThere dbd.now volume.old path.old }
+    ensures read { IsRead volume.old result volume.new }
+    ensures value { IfOk result (λ r. (f : Forest Placed) (i : ℕ) → IsAt dbd.now volume.old f path.old i → Follows dbd.now.types f parent i verdict r path.new) }
+    ensures refusal { OnlyDevice result }
+{
+    match verdict {
+        Verdict::Found => return Ok(true),
+        Verdict::Next => next(volume, dbd, parent, path)?,
+        Verdict::Over => over(volume, dbd, parent, path)?,
+        Verdict::Down(code) => down(volume, dbd, parent, code, path)?,
+        Verdict::Across => across(volume, dbd, parent, path)?,
+        Verdict::Rest => rest(volume, dbd, parent, path)?,
+    }
+    Ok(false)
 }

@@ -18,26 +18,9 @@ use Rattle.hd_forest.proofs.Reading.{after-read, links-kept, volume-kept}
 use Rattle.hd_get.specs.Searches.{IsAt, IsClimbed, parent_path, GoesAcross}
 use Rattle.hd_get.proofs.Grounds.{grounds, tip_is}
 use Rattle.hd_get.proofs.Spans.{parent_span}
-use Rattle.hd_get.proofs.Climbs.{HasClimbed, climb_begins, climb_goes_on, climb_crosses, climb_ends}
+use Rattle.hd_get.proofs.Climbs.{climb_begins, climb_goes_on, climb_crosses, climb_ends, empty_is, full_path, parent_there}
 use Rattle.hd_get.proofs.steps.across.Goals as goal
 use Rattle.hd_get.proofs.steps.across.Goals.{then-loop-path-test+else-tip_of-parent, else-loop-path-test}
-
--- a path that is not said to be empty has a row
-full : (path : List ℕ) (addresses : List ℕ) (b : Bool) → addresses ≡ path → b ≡ (length addresses == 0) → b ≡ false → 0 < length path
-full [] addresses b e is some = absurd (false≢true (sym some ∙ is ∙ eq-eqb (length addresses) 0 (ap (λ (xs : List ℕ). length xs) e)))
-full (x ∷ xs) addresses b e is some = omega arith
-
--- a path said to be empty has none
-none : (path : List ℕ) (addresses : List ℕ) (b : Bool) → addresses ≡ path → b ≡ (length addresses == 0) → b ≡ true → length path ≡ 0
-none path addresses b e is empty = ap (λ (xs : List ℕ). length xs) (sym e) ∙ eqb-true (length addresses) 0 (sym is ∙ empty)
-
--- the parent's path is that of a row, if it is not empty
-parent_there : (types : List SegmentType) (m : Links) (f : Forest Placed) (i : ℕ) → Holds types m f → i < length (rows_of f) → (path : List ℕ) → path ≡ parent_path types f i → 0 < length path → IsOnSomeRow types m path
-parent_there types m f i holds l path e some = by (parent_row types (rows_of f) i) refl
-  where
-    by : (o : Option ℕ) → parent_row types (rows_of f) i ≡ o → IsOnSomeRow types m path
-    by None is = absurd (let z : length path ≡ 0 = ap (λ (xs : List ℕ). length xs) (e ∙ ap (λ (o : Option ℕ). option_map_or (λ q. path_at types f q) o []) is) in omega arith)
-    by (Some q) is = (let w : q < i = (parent_span types (rows_of f) i q l is).0 in (f, q, record { holds = holds; within = omega arith; is = e ∙ ap (λ (o : Option ℕ). option_map_or (λ q. path_at types f q) o []) is }))
 
 pub loop-path-init : goal.loop-path-init
 loop-path-init g c = record {
@@ -53,7 +36,7 @@ climb-requires-clause-of g c = volume-kept c.args.dbd.now c.args.volume.now c.lo
 pub climb-requires-clause-there : goal.climb-requires-clause-there
 climb-requires-clause-there g c =
     links-kept c.args.dbd.now (λ (m : Links). IsOnSomeRow c.args.dbd.now.types m c.loop-path.path) c.args.volume.now c.loop-path.volume c.loop-path.invariant.read
-    (c.loop-path.invariant.there (full c.loop-path.path c.addresses.result.now c.is_empty.result c.addresses.ensures.value c.is_empty.ensures c.loop-path-test.true))
+    (c.loop-path.invariant.there (full_path c.loop-path.path c.addresses.result.now c.is_empty.result c.addresses.ensures.value c.is_empty.ensures c.loop-path-test.true))
 
 pub returns-then-branch-clause-read : goal.returns-then-branch-clause-read
 returns-then-branch-clause-read g c = read-ok tt (reads-join (Ok c.in_ok-climb.field-0) c.loop-path.invariant.read c.in_ok-climb.ensures.read)
@@ -72,7 +55,7 @@ returns-then-branch-clause-value g c f i at =
     let m = links_of d.types u in
     let G = grounds d u f (c.requires.of at.sound) at.row.holds in
     let H = c.loop-path.invariant.climbed f i at in
-    let R = H.row (full c.loop-path.path c.addresses.result.now c.is_empty.result c.addresses.ensures.value c.is_empty.ensures c.loop-path-test.true) in
+    let R = H.row (full_path c.loop-path.path c.addresses.result.now c.is_empty.result c.addresses.ensures.value c.is_empty.ensures c.loop-path-test.true) in
     let low : R.0 ≤ i = R.1 in
     let l : i < length (rows_of f) = at.row.within in
     let on : IsOnRow d.types m f c.loop-path.path R.0 = record { holds = at.row.holds; within = omega arith; is = R.2 } in
@@ -87,7 +70,7 @@ loop-path-preserved g c = record {
   there = λ some sound.
       let d = c.args.dbd.now in
       let u = c.args.volume.now in
-      let T = c.loop-path.invariant.there (full c.loop-path.path c.addresses.result.now c.is_empty.result c.addresses.ensures.value c.is_empty.ensures c.loop-path-test.true) sound in
+      let T = c.loop-path.invariant.there (full_path c.loop-path.path c.addresses.result.now c.is_empty.result c.addresses.ensures.value c.is_empty.ensures c.loop-path-test.true) sound in
       let C = climbed d u c.loop-path.volume T.0 T.1 c.loop-path.path c.climb.new.path c.in_ok-climb.field-0 c.loop-path.invariant.read sound T.2 c.in_ok-climb.ensures.value in
       parent_there d.types (links_of d.types u) T.0 T.1 T.2.holds T.2.within c.climb.new.path (C.up c.if-branch.false).1 some;
   climbed = λ f i at.
@@ -96,7 +79,7 @@ loop-path-preserved g c = record {
       let m = links_of d.types u in
       let G = grounds d u f (c.requires.of at.sound) at.row.holds in
       let H = c.loop-path.invariant.climbed f i at in
-      let R = H.row (full c.loop-path.path c.addresses.result.now c.is_empty.result c.addresses.ensures.value c.is_empty.ensures c.loop-path-test.true) in
+      let R = H.row (full_path c.loop-path.path c.addresses.result.now c.is_empty.result c.addresses.ensures.value c.is_empty.ensures c.loop-path-test.true) in
       let low : R.0 ≤ i = R.1 in
       let l : i < length (rows_of f) = at.row.within in
       let on : IsOnRow d.types m f c.loop-path.path R.0 = record { holds = at.row.holds; within = omega arith; is = R.2 } in
@@ -120,5 +103,5 @@ returns-clause-value g c f i at =
       | then-loop-path-test+else-tip_of-parent w ↦
           (let on : IsOnRow d.types m f c.loop-path.path k = record { holds = at.row.holds; within = omega arith; is = e } in
           sym (tip_is d.types m f G c.loop-path.path k on) ∙ sym w.tip_of.ensures ∙ w.if-tip_of-parent.false)
-      | else-loop-path-test w ↦ absurd (let z : length c.loop-path.path ≡ 0 = none c.loop-path.path c.addresses.result.now c.is_empty.result c.addresses.ensures.value c.is_empty.ensures w.loop-path-test.false in omega arith)
+      | else-loop-path-test w ↦ absurd (let z : length c.loop-path.path ≡ 0 = empty_is c.loop-path.path c.addresses.result.now c.is_empty.result c.addresses.ensures.value c.is_empty.ensures w.loop-path-test.false in omega arith)
     ]))

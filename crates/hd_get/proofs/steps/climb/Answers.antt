@@ -28,8 +28,8 @@ returns-then-twin-eq0-clause-value g c f i at =
     record {
       twin = λ e. absurd (false≢true e);
       up = λ e. (
-          twin_none d.types m f G.addressed i at.row.within (G.steps i at.row.within) forward,
-          c.up.ensures.value ∙ ap (λ (xs : List ℕ). take (length xs - 1) xs) at.row.is ∙ up_is d.types m f i,
+        twin_none d.types m f G.addressed i at.row.within (G.steps i at.row.within) forward,
+        c.up.ensures.value ∙ ap (λ (xs : List ℕ). take (length xs - 1) xs) at.row.is ∙ up_is d.types f i,
       );
     }
 
@@ -48,11 +48,11 @@ returns-clause-value g c f i at =
     let T = twin_some d.types m f i at.row.within (G.steps i at.row.within) (subst (λ x. 0 < x) is some) in
     record {
       twin = λ e. (
-          T.0,
-          T.1,
-          c.push.ensures c.up.ensures.few
-          ∙ ap₂ (λ (xs : List ℕ) x. xs ++ x ∷ []) (c.up.ensures.value ∙ ap (λ (xs : List ℕ). take (length xs - 1) xs) at.row.is ∙ up_is d.types m f i) is
-          ∙ T.2,
+        T.0,
+        T.1,
+        c.push.ensures c.up.ensures.few
+            ∙ ap₂ (λ (xs : List ℕ) x. xs ++ x ∷ []) (c.up.ensures.value ∙ ap (λ (xs : List ℕ). take (length xs - 1) xs) at.row.is ∙ up_is d.types f i) is
+            ∙ T.2,
       );
       up = λ e. absurd (false≢true (sym e));
     }

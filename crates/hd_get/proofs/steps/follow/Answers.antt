@@ -1,0 +1,41 @@
+use Rattle.std.proofs.Common.{◌≡◌, ℕ, ◌+◌, ◌<◌, ◌≤◌, List, Bool, true, false, sym, ap, subst, ◌∙◌, arith}
+use Rattle.std.proofs.lemmas.Bool.{false≢true}
+use Rattle.hd_dbd.specs.Types.{SegmentType}
+use Rattle.hd_dbd.specs.Paths.{end_of}
+use Rattle.hd_dbd.specs.Forest.{Forest}
+use Rattle.hd_links.specs.Placed.{Placed}
+use Rattle.hd_links.specs.Steps.{rows_of}
+use Rattle.hd_calls.proofs.Spans.{end_is}
+use Rattle.hd_get.specs.Searches.{GoesOn, IsTurned}
+use Rattle.hd_get.proofs.Turns.{turned_to, turned_across}
+use Rattle.hd_get.proofs.steps.follow.Goals as goal
+
+-- a search that goes on has turned
+on : {test admits : ℕ → Bool} {types : List SegmentType} {f : Forest Placed} {end i : ℕ} {path : List ℕ} → GoesOn test admits types f end i path → IsTurned test admits types f end i false path
+on G = record { found = λ e. absurd (false≢true e); on = λ e. G }
+
+pub returns-in_ok-next-in-Next-clause-value : goal.returns-in_ok-next-in-Next-clause-value
+returns-in_ok-next-in-Next-clause-value g c f i at test admits end E inside up J =
+    let N = J.next c.in-Next.is in
+    on (turned_to test admits c.args.dbd.now.types f c.args.parent i end E inside up (i + 1) c.next.new.path (omega arith)
+    (λ j low high. ap test (let z : j ≡ i = omega arith in z) ∙ N.0) N.1 (c.in_ok-next-in-Next.ensures.value f i at))
+
+pub returns-in_ok-over-in-Over-clause-value : goal.returns-in_ok-over-in-Over-clause-value
+returns-in_ok-over-in-Over-clause-value g c f i at test admits end E inside up J =
+    let N = J.over c.in-Over.is in
+    on (turned_to test admits c.args.dbd.now.types f c.args.parent i end E inside up (end_of c.args.dbd.now.types (rows_of f) i) c.over.new.path
+    (end_is c.args.dbd.now.types (rows_of f) i at.row.within).behind N.0 N.1 (c.in_ok-over-in-Over.ensures.value f i at))
+
+pub returns-in_ok-down-in-Down-clause-value : goal.returns-in_ok-down-in-Down-clause-value
+returns-in_ok-down-in-Down-clause-value g c f i at test admits end E inside up J =
+    on (c.in_ok-down-in-Down.ensures.value f i at test admits end E inside up (J.down c.in-Down.code c.in-Down.is))
+
+pub returns-in_ok-across-in-Across-clause-value : goal.returns-in_ok-across-in-Across-clause-value
+returns-in_ok-across-in-Across-clause-value g c f i at test admits end E inside up J =
+    let A = J.across c.in-Across.is in
+    on (turned_across test admits c.args.dbd.now.types f c.args.parent i end E inside up c.across.new.path A.0 A.1 (c.in_ok-across-in-Across.ensures.value f i at))
+
+pub returns-in_ok-rest-in-Rest-clause-value : goal.returns-in_ok-rest-in-Rest-clause-value
+returns-in_ok-rest-in-Rest-clause-value g c f i at test admits end E inside up J =
+    let R = J.rest c.in-Rest.is in
+    on (c.in_ok-rest-in-Rest.ensures.value f i at test admits end E inside up R.0 R.1)
