@@ -1,14 +1,19 @@
 -- Steps along a chain of twins.
-use Rattle.std.proofs.Common.{◌≢◌, ℕ, zero, suc, ◌<◌, refl, sym, subst, arith, inl, inr}
+use Rattle.std.proofs.Common.{◌≡◌, ◌≢◌, ℕ, zero, suc, ◌<◌, ◌≤◌, refl, sym, subst, arith, inl, inr}
 use Rattle.hd_links.specs.Links.{Links, IsSegment}
 use Rattle.hd_links.specs.Pointers.{IsTwinAfter, IsInChain}
 use Rattle.hd_links.proofs.Ways.{chain_more}
-use Rattle.hd_forest.specs.Twins.{AreTwins, IsTwinWithin, IsBehind}
+use Rattle.hd_forest.specs.Twins.{AreTwins, twin_after, IsTwinWithin, IsBehind}
 
 -- each twin on the way has an address
 pub twin-some : (m : Links) (n p a : ℕ) → IsTwinAfter m n p a → 0 < p
 twin-some m zero p a w = w.0
 twin-some m (suc n) p a w = w.0
+
+-- a twin comes after as many steps
+pub after-is : (m : Links) (n p a : ℕ) → IsTwinAfter m n p a → twin_after m n p ≡ a
+after-is m zero p a w = w.1
+after-is m (suc n) p a w = after-is m n (m.forward p) a w.1
 
 -- one that is not yet there is a segment, and the next is nearer by one
 pub record IsNearer (m : Links) (bound p a : ℕ) : Type 0 where
@@ -19,13 +24,17 @@ pub record IsNearer (m : Links) (bound p a : ℕ) : Type 0 where
 pub nearer : (m : Links) (bound p a : ℕ) → IsTwinWithin m (suc bound) p a → p ≢ a → IsNearer m bound p a
 nearer m bound p a w ne = by w.after w.few w.is w.twins
   where
-    by : (n : ℕ) → n < suc bound → IsTwinAfter m n p a → AreTwins m n p → IsNearer m bound p a
-    by zero few is twins = absurd (ne is.1)
-    by (suc n) few is twins = record { there = twins.0; next = record { after = n; few = omega arith; is = is.1; twins = twins.1 } }
+    by : (n : ℕ) → n ≤ suc bound → twin_after m n p ≡ a → AreTwins m n p → IsNearer m bound p a
+    by zero few is twins = absurd (ne is)
+    by (suc n) few is twins = record { there = twins.0; next = record { after = n; few = omega arith; is = is; twins = twins.1 } }
 
--- none is left where the bound is 0
-pub none-left : (m : Links) (p a : ℕ) → IsTwinWithin m 0 p a → ⊥
-none-left m p a w = (let few = w.few in omega arith)
+-- no step is left where the bound is 0
+pub none-left : (m : Links) (p a : ℕ) → IsTwinWithin m 0 p a → p ≡ a
+none-left m p a w = by w.after w.few w.is
+  where
+    by : (n : ℕ) → n ≤ 0 → twin_after m n p ≡ a → p ≡ a
+    by zero few is = is
+    by (suc n) few is = absurd (omega arith)
 
 -- the twin that was passed is the one before the next
 pub passed : (m : Links) (first y p : ℕ) → IsBehind m first y p → IsSegment m p → IsBehind m first p (m.forward p)

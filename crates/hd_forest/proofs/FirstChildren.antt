@@ -1,5 +1,5 @@
 -- The first children that a segment of the records names.
-use Rattle.std.proofs.Common.{◌≡◌, ◌≢◌, ℕ, ◌<◌, List, [], ◌∷◌, length, refl, ap, ap₂, ◌∙◌, arith, ne_eqb}
+use Rattle.std.proofs.Common.{◌≡◌, ◌≢◌, ℕ, ◌<◌, List, [], ◌∷◌, length, cond, Option, refl, ap, ap₂, ◌∙◌, arith, ne_eqb}
 use Rattle.std.specs.Prelude.{◌==◌}
 use Rattle.std.proofs.lemmas.Bool.{cond-false}
 use Rattle.hd_dbd.specs.Types.{SegmentType}
@@ -16,7 +16,7 @@ use Rattle.hd_links.proofs.Counts.{segment_code}
 use Rattle.hd_image.specs.Records.{links_of, stored_at, pointer_at, IsVolumeOf}
 use Rattle.hd_image.specs.Laws.{IsDatabase}
 use Rattle.hd_image.proofs.Found.{records-link}
-use Rattle.hd_forest.specs.Children.{child_in}
+use Rattle.hd_forest.specs.Children.{child_in, comes_before, last_named, last_named_in}
 
 -- those of the records are those that the stored segment names
 pub child-stored : (types : List SegmentType) (v : VolumeState) (a : ℕ) (s ts : List ℕ) → a ≢ 0 → stored_at v a ≡ s → child_among (links_of types v) a ts ≡ child_in types s ts
@@ -25,6 +25,15 @@ child-stored types v a s (t ∷ ts) ne is =
     ap₂ first_some
     (cond-false (a == 0) (header_of v.image).first_root (pointer_at types v (FirstChild t) a) (ne_eqb a 0 ne) ∙ ap (λ x. pointer_of types (code_of x) (FirstChild t) x) is)
     (child-stored types v a s ts ne is)
+
+-- and so is the last type of which there is one
+pub named-stored : (types : List SegmentType) (v : VolumeState) (a : ℕ) (s : List ℕ) (end : Option ℕ) (last : ℕ) (ts : List ℕ) → a ≢ 0 → stored_at v a ≡ s → last_named (links_of types v) a end last ts ≡ last_named_in types s end last ts
+named-stored types v a s end last [] ne is = refl
+named-stored types v a s end last (t ∷ ts) ne is =
+    let own : (links_of types v).first_child a t ≡ pointer_of types (code_of s) (FirstChild t) s
+    = cond-false (a == 0) (header_of v.image).first_root (pointer_at types v (FirstChild t) a) (ne_eqb a 0 ne) ∙ ap (λ x. pointer_of types (code_of x) (FirstChild t) x) is in
+    ap (λ (x : ℕ). cond (comes_before end t) (last_named (links_of types v) a end (cond (x == 0) last t) ts) last) own
+    ∙ ap (λ (x : ℕ). cond (comes_before end t) x last) (named-stored types v a s end (cond (pointer_of types (code_of s) (FirstChild t) s == 0) last t) ts ne is)
 
 -- a segment's child types are those of its code
 pub types-stored : (d : Database) (v : VolumeState) (a : ℕ) (s : List ℕ) → IsDatabase d → IsVolumeOf d v → IsSegment (links_of d.types v) a → stored_at v a ≡ s

@@ -3,14 +3,15 @@ use Rattle.std.proofs.Common.{◌≡◌, ℕ, zero, suc, ◌-◌, ◌<◌, ◌�
 use Rattle.std.specs.Prelude.{◌==◌}
 use Rattle.std.proofs.lemmas.Bool.{eq-eqb, ne_eqb, cond-true, cond-false}
 use Rattle.hd_dbd.specs.Types.{SegmentType}
-use Rattle.hd_links.specs.Links.{Links, IsSegment, IsLinkGraph, is_child_type}
+use Rattle.hd_links.specs.Links.{Links, IsSegment, IsLinkGraph, is_child_type, is_last_kept}
 use Rattle.hd_links.specs.Pointers.{IsTwinAfter, IsInChain, PointersAreTyped, AreLinked}
 use Rattle.hd_links.specs.Steps.{tip_from, LeadsDown}
 use Rattle.hd_links.specs.Changes.{CanUnlink}
 use Rattle.hd_links.proofs.Types.{Ordered}
+use Rattle.hd_links.proofs.Build.{zero_or}
 use Rattle.hd_links.proofs.Ends.{chain_ends}
-use Rattle.hd_forest.specs.Twins.{AreTwins, IsTwinWithin, IsBehind}
-use Rattle.hd_forest.proofs.Chains.{twin-some}
+use Rattle.hd_forest.specs.Twins.{AreTwins, twin_after, IsTwinWithin, IsBehind}
+use Rattle.hd_forest.proofs.Chains.{twin-some, after-is}
 
 -- the twins of a typed segment are segments of its type
 pub twins-there : (types : List SegmentType) (m : Links) → PointersAreTyped types m → (t n p a : ℕ) → IsSegment m p → m.code p ≡ t → IsTwinAfter m n p a → IsSegment m a × (m.code a ≡ t)
@@ -26,6 +27,14 @@ are-twins types m typed zero p a s w = tt
 are-twins types m typed (suc n) p a s w =
     let some : 0 < m.forward p = twin-some m n (m.forward p) a w.1 in
     (s, are-twins types m typed n (m.forward p) a (record { some = some; here = (typed.forward p s some).0 }) w.1)
+
+-- the chain from a segment comes to 0 one step behind its last twin
+behind-last : (types : List SegmentType) (m : Links) → PointersAreTyped types m → (n p l : ℕ) → IsSegment m p → IsTwinAfter m n p l → m.forward l ≡ 0 → (twin_after m (suc n) p ≡ 0) × AreTwins m (suc n) p
+behind-last types m typed zero p l s w e = (ap m.forward w.1 ∙ e, (s, tt))
+behind-last types m typed (suc n) p l s w e =
+    let some : 0 < m.forward p = twin-some m n (m.forward p) l w.1 in
+    let rest = behind-last types m typed n (m.forward p) l (record { some = some; here = (typed.forward p s some).0 }) w.1 e in
+    (rest.0, (s, rest.1))
 
 -- none comes behind the end of a chain
 pub before-end : (m : Links) (n k p l a : ℕ) → IsTwinAfter m n p l → m.forward l ≡ 0 → IsTwinAfter m k p a → k ≤ n
@@ -85,7 +94,7 @@ module _ (types : List SegmentType) (O : Ordered types) (bound : ℕ) (m : Links
       record {
         after = B.chain.0;
         few = omega arith;
-        is = B.chain.1;
+        is = after-is m B.chain.0 (m.first_child h (m.code a)) a B.chain.1;
         twins = are-twins types m L.typed B.chain.0 (m.first_child h (m.code a)) a (record { some = some; here = T.0 }) B.chain.1;
       }
 
@@ -105,3 +114,31 @@ module _ (types : List SegmentType) (O : Ordered types) (bound : ℕ) (m : Links
     twin = λ p. b.1;
     here = cond-false (y == 0) (m.first_child h (m.code a)) (m.forward y) (ne_eqb y 0 (λ (e : y ≡ 0). (let p : 0 < y = b.0 in omega arith))) ∙ b.2;
   }
+
+-- ---- the last twin
+
+-- what is in a chain has an address
+in-chain-some : (m : Links) (n p a : ℕ) → IsTwinAfter m n p a → 0 < a
+in-chain-some m zero p a w = subst (λ x. 0 < x) w.1 w.0
+in-chain-some m (suc n) p a w = in-chain-some m n (m.forward p) a w.1
+
+module _ (types : List SegmentType) (O : Ordered types) (bound : ℕ) (m : Links) (G : IsLinkGraph types bound m) (L : AreLinked types m) (h t : ℕ) (here : m.here h ≡ true) (typed : is_child_type types (m.code h) t ≡ true) where
+  -- the end of the chain is within as many steps from the first twin as there are addresses
+  pub end-within : IsTwinWithin m bound (m.first_child h t) 0
+  end-within = elim (zero_or (m.first_child h t)) [
+    | inl none ↦ record { after = 0; few = omega arith; is = none; twins = tt }
+    | inr some ↦
+        (let E = chain_ends types O bound m G L.typed L.single h t here typed some in
+        let B = behind-last types m L.typed E.0 (m.first_child h t) E.1 (record { some = some; here = (L.typed.first h t here typed some).0 }) E.3 E.4 in
+        let low : E.0 < bound = E.2 in
+        record { after = suc E.0; few = omega arith; is = B.0; twins = B.1 })
+  ]
+
+  -- last child, where it is kept, is the last of the chain
+  pub last-kept : is_last_kept types t ≡ true → IsBehind m (m.first_child h t) (m.last_child h t) 0
+  last-kept kept = elim (zero_or (m.first_child h t)) [
+    | inl none ↦ inl (L.back.no_lasts h t here typed kept none, none)
+    | inr some ↦
+        (let E = L.back.lasts h t here typed kept some in
+        inr (in-chain-some m E.0.0 (m.first_child h t) (m.last_child h t) E.0.1, E.0, E.1))
+  ]

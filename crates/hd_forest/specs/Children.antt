@@ -1,11 +1,28 @@
 -- The first children that a stored segment names.
-use Rattle.std.specs.Prelude.{ℕ, List, [], ◌∷◌}
+use Rattle.std.specs.Prelude.{ℕ, List, [], ◌∷◌, Bool, true, ◌==◌, nat_lt, cond, Option}
+use Rattle.std.specs.Option.{option_map_or}
 use Rattle.hd_dbd.specs.Types.{SegmentType}
 use Rattle.hd_prefix.specs.declared.pointer.Pointer.TheVariants.{FirstChild}
 use Rattle.hd_prefix.specs.Fields.{code_of, pointer_of}
+use Rattle.hd_links.specs.Links.{Links}
 use Rattle.hd_links.specs.Steps.{first_some}
 
 -- the first child of a stored segment, of these types in order; 0 for none
 abbrev pub child_in : List SegmentType → List ℕ → List ℕ → ℕ
 child_in types segment [] = 0
 child_in types segment (t ∷ ts) = first_some (pointer_of types (code_of segment) (FirstChild t) segment) (child_in types segment ts)
+
+-- a type comes before another, if one is given
+abbrev pub comes_before : Option ℕ → ℕ → Bool
+comes_before end t = option_map_or (λ c. nat_lt t c) end true
+
+-- Of some types in order, up to before one if one is given, the last of which a record names a first child; else the one given.
+abbrev pub last_named : Links → ℕ → Option ℕ → ℕ → List ℕ → ℕ
+last_named m h end last [] = last
+last_named m h end last (t ∷ ts) = cond (comes_before end t) (last_named m h end (cond (m.first_child h t == 0) last t) ts) last
+
+-- the same of a stored segment
+abbrev pub last_named_in : List SegmentType → List ℕ → Option ℕ → ℕ → List ℕ → ℕ
+last_named_in types segment end last [] = last
+last_named_in types segment end last (t ∷ ts) =
+    cond (comes_before end t) (last_named_in types segment end (cond (pointer_of types (code_of segment) (FirstChild t) segment == 0) last t) ts) last

@@ -6,7 +6,7 @@ ghost use Rattle.hd_prefix.specs.Fields.{code_of};
 ghost use Rattle.hd_links.specs.Links.{IsSegment, child_types};
 ghost use Rattle.hd_links.specs.Steps.{child_among, later_than};
 ghost use Rattle.hd_image.specs.Records.{links_of, IsVolumeOf};
-ghost use Rattle.hd_forest.specs.Children.{child_in};
+ghost use Rattle.hd_forest.specs.Children.{child_in, comes_before, last_named, last_named_in};
 
 use crate::read::{code_in, pointer_in};
 use hd_dbd::{Dbd, Refused};
@@ -38,6 +38,32 @@ fn child_in(dbd: &Dbd, segment: &[u8], types: &[u8]) -> u32
     0
 }
 
+/// Whether a type comes before another, if one is given.
+fn comes_before(end: Option<u8>, code: u8) -> bool
+    ensures { result ≡ comes_before end code }
+{
+    match end {
+        Some(end) => code < end,
+        None => true,
+    }
+}
+
+/// The last type of which a lent segment names a first child, of some types in order up to before one, if one is given; 0 for none.
+fn last_named_in(dbd: &Dbd, segment: &[u8], end: Option<u8>, types: &[u8]) -> u8
+    ensures { stored_size dbd.now.types (code_of segment.now) ≤ length segment.now → result ≡ last_named_in dbd.now.types segment.now end 0 types.now }
+{
+    let mut last = 0;
+    for code in types {
+        if !comes_before(end, *code) {
+            return last;
+        }
+        if pointer_in(dbd, segment, Pointer::FirstChild(*code)) != 0 {
+            last = *code;
+        }
+    }
+    last
+}
+
 /// The first row below a segment, 0 for none.
 pub fn below<S: BlockStore>(volume: &mut Volume<S>, dbd: &Dbd, address: u32) -> Result<u32, Refused>
     requires of { IsTrue volume.old.is_sound → IsVolumeOf dbd.now volume.old }
@@ -67,4 +93,22 @@ pub fn below_later<S: BlockStore>(
     let segment = volume.segment_at(address)?;
     let types = later_than(code, dbd.children_of(code_in(segment)));
     Ok(child_in(dbd, segment, types))
+}
+
+/// The code of the last child type of which a segment has rows, 0 for none; where a type is given, of those before it.
+pub fn last_child_type<S: BlockStore>(
+    volume: &mut Volume<S>,
+    dbd: &Dbd,
+    address: u32,
+    end: Option<u8>,
+) -> Result<u8, Refused>
+    requires of { IsTrue volume.old.is_sound → IsVolumeOf dbd.now volume.old }
+    requires there { IsTrue volume.old.is_sound → IsSegment (links_of dbd.now.types volume.old) address }
+    ensures read { IsRead volume.old result volume.new }
+    ensures value { IfOk result (λ r. IsTrue volume.old.is_sound → r ≡ last_named (links_of dbd.now.types volume.old) address end 0 (child_types dbd.now.types ((links_of dbd.now.types volume.old).code address))) }
+    ensures refusal { OnlyDevice result }
+{
+    let segment = volume.segment_at(address)?;
+    let types = dbd.children_of(code_in(segment));
+    Ok(last_named_in(dbd, segment, end, types))
 }

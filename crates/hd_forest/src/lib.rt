@@ -18,8 +18,11 @@ mod walk_tests;
 mod write;
 
 pub use change::{link, replace};
+pub use children::last_child_type;
 pub use law::{law_steps_go_to_rows, law_walking_gives_the_sequence};
 pub use path::Path;
-pub use read::{code_at, first_child, last_child, next_twin, parent_on, prev_twin, tip_of};
+pub use read::{
+    code_at, first_child, last_child, last_twin, next_twin, parent_on, prev_twin, tip_of,
+};
 pub use unlink::unlink_span;
 pub use walk::{next_after_span, next_row};

@@ -3,7 +3,7 @@ ghost use Rattle.hd_dbd.specs.Prefixes.{stored_size};
 ghost use Rattle.hd_dbd.specs.Refusals.{OnlyDevice};
 ghost use Rattle.hd_volume.specs.Calls.{IsRead};
 ghost use Rattle.hd_prefix.specs.Fields.{code_of, pointer_of};
-ghost use Rattle.hd_links.specs.Links.{IsSegment};
+ghost use Rattle.hd_links.specs.Links.{IsSegment, is_child_type};
 ghost use Rattle.hd_links.specs.Steps.{LeadsDown};
 ghost use Rattle.hd_links.specs.Changes.{CanUnlink};
 ghost use Rattle.hd_image.specs.Records.{links_of, pointer_at, IsVolumeOf};
@@ -147,7 +147,8 @@ pub fn parent_on(path: &Path) -> u32
     last_of(&addresses[..above])
 }
 
-/// The address of the twin before one in the chain of twins from a first child, 0 before the first.
+/// The address of the twin before one in the chain of twins from a first child, 0 before the first; before the address 0 stands the
+/// last of the chain.
 fn twin_before<S: BlockStore>(
     volume: &mut Volume<S>,
     dbd: &Dbd,
@@ -164,13 +165,36 @@ fn twin_before<S: BlockStore>(
     let mut before = 0;
     let mut twin = first;
     for _ in 0..most {
-        if twin == address || twin == 0 {
+        if twin == address {
             return Ok(before);
         }
         before = twin;
         twin = next_twin(volume, dbd, twin)?;
     }
     Ok(before)
+}
+
+/// The address of the last of the twins of a type below a parent, 0 for none; below the address 0, the header, the last root. Where
+/// the type's parents keep no last child the twins are read.
+pub fn last_twin<S: BlockStore>(
+    volume: &mut Volume<S>,
+    dbd: &Dbd,
+    parent: u32,
+    code: u8,
+) -> Result<u32, Refused>
+    requires of { IsTrue volume.old.is_sound → IsVolumeOf dbd.now volume.old }
+    requires holds { IsTrue volume.old.is_sound → HasForest dbd.now volume.old }
+    requires there { IsTrue volume.old.is_sound → (links_of dbd.now.types volume.old).here parent ≡ true }
+    requires typed { IsTrue volume.old.is_sound → is_child_type dbd.now.types ((links_of dbd.now.types volume.old).code parent) code ≡ true }
+    ensures read { IsRead volume.old result volume.new }
+    ensures value { IfOk result (λ r. IsTrue volume.old.is_sound → IsBehind (links_of dbd.now.types volume.old) ((links_of dbd.now.types volume.old).first_child parent code) r 0) }
+    ensures refusal { OnlyDevice result }
+{
+    if dbd.keeps_last_child(code) {
+        return last_child(volume, dbd, parent, code);
+    }
+    let first = first_child(volume, dbd, parent, code)?;
+    twin_before(volume, dbd, first, 0)
 }
 
 /// The address of the twin before the last row of a path, 0 where it is the first. Where its type keeps no twin backward the

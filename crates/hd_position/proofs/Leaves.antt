@@ -10,7 +10,6 @@ use Rattle.hd_dbd.specs.DatabaseRules.{well_formed}
 use Rattle.hd_dbd.specs.Segment.{Segment}
 use Rattle.hd_dbd.specs.Hierarchy.{parent_of, level_of}
 use Rattle.hd_dbd.specs.Paths.{row_at, no_row, level_at, parent_row, nearest_above, end_of}
-use Rattle.hd_dbd.specs.Positions.{Position}
 use Rattle.hd_dbd.specs.Searches.{first_from, least_within}
 use Rattle.hd_dbd.specs.Rows.{level, valid, row_fits}
 use Rattle.hd_dbd.specs.Laws.{IsInSequence}
@@ -29,10 +28,9 @@ use Rattle.hd_links.proofs.Numbers.{rows_addressed, rows_length}
 use Rattle.hd_links.proofs.Standing.{row_found}
 use Rattle.hd_links.proofs.Following.{stepped}
 use Rattle.hd_links.proofs.Linking.{leaf_held}
-use Rattle.hd_calls.specs.Moves.{number_after_insert, position_after_insert}
+use Rattle.hd_calls.specs.Moves.{number_after_insert}
 use Rattle.hd_calls.proofs.Spans.{end_is, one_end}
-use Rattle.hd_position.specs.Kept.{Kept, StandsFor}
-use Rattle.hd_position.specs.Laws.{IsHeld, LinkingMovesPositions, LeavesGoInBelowLeaves}
+use Rattle.hd_position.specs.Laws.{IsHeld, MovesUp, LinkingMovesPositions, LeavesGoInBelowLeaves}
 use Rattle.hd_position.proofs.Splices.{IsSpliced, rises, stays}
 use Rattle.hd_position.proofs.Rising.{path_stays, stands_rises}
 
@@ -217,9 +215,8 @@ module _ (block_size : ℕ) (frspc : FreeSpace) (types : List SegmentType) (boun
   more : length (rows_of f2) ≡ length (rows_of f) + 1
   more = one_more types m m2 f f2 h y p n fit before after P refl (childless_leaf m h y p)
 
-  pub moves_all : ((i : ℕ) → i < length (rows_of f) → path_at types f2 (number_after_insert n 1 i) ≡ path_at types f i)
-      × ((k : Kept) (q : Position) → StandsFor types f k q → StandsFor types f2 k (position_after_insert n 1 q))
-  moves_all = ((λ i within. path_stays types f f2 n 1 spliced moved more i), stands_rises types f f2 n 1 spliced moved more)
+  pub moves_up : MovesUp types f f2 n
+  moves_up = record { paths = λ i within. path_stays types f f2 n 1 spliced moved more i; positions = stands_rises types f f2 n 1 spliced moved more }
 
   -- nothing depends on the leaf
   leaf_end : end_of types (rows_of f2) n ≡ n + 1
@@ -241,7 +238,7 @@ module _ (block_size : ℕ) (frspc : FreeSpace) (types : List SegmentType) (boun
       ∙ ap (λ d. option_map_or (λ j. j) (least_within test d (n + 1)) (n + 1)) (let none : n + 1 - (n + 1) ≡ 0 = omega arith in none)
 
 pub linking_moves : LinkingMovesPositions
-linking_moves block_size frspc types bound m f h y p n D C P = moves_all block_size frspc types bound m f h y p n D C P
+linking_moves block_size frspc types bound m f h y p n D C P = moves_up block_size frspc types bound m f h y p n D C P
 
 pub leaves_below : LeavesGoInBelowLeaves
 leaves_below block_size frspc types bound m f h y p lower n k D C P Q = goes_below block_size frspc types bound m f h y p n D C P lower k Q

@@ -9,3 +9,5 @@ pub mod RootRows
 pub mod OnPaths
 pub mod Adding
 pub mod Getting
+pub mod Rewriting
+pub mod VolumeMoves

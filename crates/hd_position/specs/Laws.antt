@@ -8,14 +8,15 @@ use Rattle.hd_dbd.specs.DatabaseRules.{well_formed}
 use Rattle.hd_dbd.specs.Positions.{Position, at_start}
 use Rattle.hd_dbd.specs.Paths.{level_at, parent_row, end_of}
 use Rattle.hd_dbd.specs.Forest.{Forest}
-use Rattle.hd_calls.specs.Moves.{number_after_insert, position_after_insert, position_after_delete}
+use Rattle.hd_calls.specs.Gets.{unheld}
+use Rattle.hd_calls.specs.Moves.{Rewrite, number_after_insert, position_after_insert, position_after_delete, position_after_rewrite}
 use Rattle.hd_links.specs.Links.{Links, IsLinkGraph}
 use Rattle.hd_links.specs.Placed.{Placed, Holds}
 use Rattle.hd_links.specs.Changes.{with_leaf, without_span, with_bytes, CanLink, CanUnlink}
 use Rattle.hd_links.specs.Steps.{rows_of, address_at, path_at, LeadsDown, next_row}
 use Rattle.hd_links.specs.Numbers.{LeafGoesInAt}
 use Rattle.hd_links.specs.LastRows.{roots_of}
-use Rattle.hd_position.specs.Kept.{Kept, StandsFor, kept_start, path_before, row_on, without_row}
+use Rattle.hd_position.specs.Kept.{Kept, StandsFor, kept_start, path_before, row_on, without_row, without_hold, after_rewrite}
 
 -- The records, a link graph of a well-formed database, hold the placed forest.
 pub record IsHeld (block_size : ℕ) (frspc : FreeSpace) (types : List SegmentType) (bound : ℕ) (m : Links) (f : Forest Placed) : Type 0 where
@@ -25,17 +26,29 @@ pub record IsHeld (block_size : ℕ) (frspc : FreeSpace) (types : List SegmentTy
 
 -- ---- how positions move
 
+-- A row that went in at number n leaves the path of each row and what is kept of a PCB as they were; the position for which that
+-- stands moves.
+pub record MovesUp (types : List SegmentType) (old new : Forest Placed) (n : ℕ) : Type 0 where
+  pub paths : (i : ℕ) → i < length (rows_of old) → path_at types new (number_after_insert n 1 i) ≡ path_at types old i
+  pub positions : (k : Kept) (q : Position) → StandsFor types old k q → StandsFor types new k (position_after_insert n 1 q)
+
+-- Row i left with its span, and its address and level were these: each position moves as for a deletion of the span, and what is
+-- kept of a PCB changes where the address is on its path.
+abbrev pub MovesDown : List SegmentType → Forest Placed → Forest Placed → ℕ → ℕ → ℕ → Type 0
+MovesDown types old new a l i =
+    (k : Kept) (q : Position) → StandsFor types old k q
+    → StandsFor types new (without_row a l (path_before types old i) k) (position_after_delete i (end_of types (rows_of old) i) (parent_row types (rows_of old) i) q)
+
 -- What is kept before all rows stands for the start, whatever the rows.
 abbrev pub TheStartIsBeforeAllRows : Type 0
 TheStartIsBeforeAllRows = (types : List SegmentType) (f : Forest Placed) → StandsFor types f kept_start at_start
 
--- A leaf that is linked leaves the path of each row as it was, and what is kept of a PCB; the position for which that stands moves.
+-- A leaf that is linked moves positions up from the number where it goes in.
 abbrev pub LinkingMovesPositions : Type 0
 LinkingMovesPositions =
     (block_size : ℕ) (frspc : FreeSpace) (types : List SegmentType) (bound : ℕ) (m : Links) (f : Forest Placed) (h y : ℕ) (p : Placed) (n : ℕ)
     → IsHeld block_size frspc types bound m f → CanLink types m h y p → LeafGoesInAt types f h y p n
-    → ((i : ℕ) → i < length (rows_of f) → path_at types (with_leaf h y p f) (number_after_insert n 1 i) ≡ path_at types f i)
-    × ((k : Kept) (q : Position) → StandsFor types f k q → StandsFor types (with_leaf h y p f) k (position_after_insert n 1 q))
+    → MovesUp types f (with_leaf h y p f) n
 
 -- A leaf that is linked below a leaf just linked goes in just behind it.
 abbrev pub LeavesGoInBelowLeaves : Type 0
@@ -48,21 +61,32 @@ LeavesGoInBelowLeaves =
 abbrev pub InsertionsAddUp : Type 0
 InsertionsAddUp = (n k : ℕ) (q : Position) → position_after_insert (n + k) 1 (position_after_insert n k q) ≡ position_after_insert n (k + 1) q
 
--- A span that is unlinked moves each position as a deletion of its rows; what is kept of a PCB changes where the span's row is on its
--- path.
+-- A span that is unlinked moves positions down to its row.
 abbrev pub UnlinkingMovesPositions : Type 0
 UnlinkingMovesPositions =
     (block_size : ℕ) (frspc : FreeSpace) (types : List SegmentType) (bound : ℕ) (m : Links) (f : Forest Placed) (h y i : ℕ)
     → IsHeld block_size frspc types bound m f → i < length (rows_of f) → CanUnlink types m h y (address_at f i)
-    → (k : Kept) (q : Position) → StandsFor types f k q
-    → StandsFor types (without_span h (address_at f i) f) (without_row (address_at f i) (level_at types (rows_of f) i) (path_before types f i) k)
-    (position_after_delete i (end_of types (rows_of f) i) (parent_row types (rows_of f) i) q)
+    → MovesDown types f (without_span h (address_at f i) f) (address_at f i) (level_at types (rows_of f) i) i
 
 -- Bytes that are replaced change nothing that is kept, nor the position for which it stands.
 abbrev pub ReplacingKeepsPositions : Type 0
 ReplacingKeepsPositions =
     (types : List SegmentType) (m : Links) (f : Forest Placed) (i : ℕ) (bytes : List ℕ) (k : Kept) (q : Position) → Holds types m f → i < length (rows_of f)
     → StandsFor types f k q → StandsFor types (with_bytes (address_at f i) bytes f) k q
+
+-- A hold that is ended holds no row, and all else stays.
+abbrev pub EndedHoldsHoldNothing : Type 0
+EndedHoldsHoldNothing = (types : List SegmentType) (f : Forest Placed) (k : Kept) (q : Position) → StandsFor types f k q → StandsFor types f (without_hold k) (unheld q)
+
+-- A row that gets new bytes ends the holds of it; nothing else that is kept changes.
+abbrev pub RewritingEndsHolds : Type 0
+RewritingEndsHolds =
+    (types : List SegmentType) (m : Links) (f : Forest Placed) (w : Rewrite) (k : Kept) (q : Position) → Holds types m f → w.number < length (rows_of f)
+    → StandsFor types f k q → StandsFor types (with_bytes (address_at f w.number) w.bytes f) (after_rewrite (address_at f w.number) k) (position_after_rewrite (w ∷ []) q)
+
+-- Rows that get new bytes one by one end the holds that they do together.
+abbrev pub RewritesAddUp : Type 0
+RewritesAddUp = (w : Rewrite) (ws : List Rewrite) (q : Position) → position_after_rewrite ws (position_after_rewrite (w ∷ []) q) ≡ position_after_rewrite (w ∷ ws) q
 
 -- ---- paths by addresses
 

@@ -3,3 +3,4 @@ pub mod Standing
 pub mod LastTypes
 pub mod Gets
 pub mod Laws
+pub mod Volumes

@@ -1,4 +1,5 @@
-ghost use Rattle.hd_position.specs.Laws.{TheStartIsBeforeAllRows, LinkingMovesPositions, LeavesGoInBelowLeaves, InsertionsAddUp, UnlinkingMovesPositions, ReplacingKeepsPositions, TheRowBeforeIsOne, PathsAreLevels, RowsAreFew, RootsAreOfLevelOne, SpansAreOnPaths};
+ghost use Rattle.hd_position.specs.Laws.{TheStartIsBeforeAllRows, LinkingMovesPositions, LeavesGoInBelowLeaves, InsertionsAddUp, UnlinkingMovesPositions, ReplacingKeepsPositions, EndedHoldsHoldNothing, RewritingEndsHolds, RewritesAddUp, TheRowBeforeIsOne, PathsAreLevels, RowsAreFew, RootsAreOfLevelOne, SpansAreOnPaths};
+ghost use Rattle.hd_position.specs.Volumes.{ForestsOfVolumesAreHeld, LinkedRowsMovePositions, LinkedPathsGoInTogether, UnlinkedRowsMovePositions};
 
 /// What is kept before all rows stands for the start.
 pub fn law_the_start_is_before_all_rows()
@@ -30,6 +31,21 @@ pub fn law_replacing_keeps_positions()
     ensures { ReplacingKeepsPositions }
 {}
 
+/// A hold that is ended holds no row, and all else that is kept stays.
+pub fn law_ended_holds_hold_nothing()
+    ensures { EndedHoldsHoldNothing }
+{}
+
+/// A row that gets new bytes ends the holds of it.
+pub fn law_rewriting_ends_holds()
+    ensures { RewritingEndsHolds }
+{}
+
+/// Rows that get new bytes one by one end the holds that they do together.
+pub fn law_rewrites_add_up()
+    ensures { RewritesAddUp }
+{}
+
 /// A path that leads down, and behind whose last row stands a row, is that of the row before it.
 pub fn law_the_row_before_is_one()
     ensures { TheRowBeforeIsOne }
@@ -53,4 +69,24 @@ pub fn law_roots_are_of_level_one()
 /// A row is in the span of another just where the other's address is on its path, at the other's level.
 pub fn law_spans_are_on_paths()
     ensures { SpansAreOnPaths }
+{}
+
+/// Each law of held forests is one of the forests that volumes hold.
+pub fn law_forests_of_volumes_are_held()
+    ensures { ForestsOfVolumesAreHeld }
+{}
+
+/// A row that was linked moves positions up from the number where it went in.
+pub fn law_linked_rows_move_positions()
+    ensures { LinkedRowsMovePositions }
+{}
+
+/// A row that was linked below a row just linked went in just behind it.
+pub fn law_linked_paths_go_in_together()
+    ensures { LinkedPathsGoInTogether }
+{}
+
+/// A row whose span was unlinked moves positions down to itself.
+pub fn law_unlinked_rows_move_positions()
+    ensures { UnlinkedRowsMovePositions }
 {}

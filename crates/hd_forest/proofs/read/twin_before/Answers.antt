@@ -4,22 +4,21 @@ use Rattle.hd_image.specs.Records.{links_of}
 use Rattle.hd_forest.specs.Twins.{IsTwinWithin, IsBehind}
 use Rattle.hd_volume.proofs.CallSteps.{read-ok, reads-join}
 use Rattle.hd_forest.proofs.Reading.{after-read, sound-before}
-use Rattle.hd_forest.proofs.Chains.{twin-some, nearer, passed}
+use Rattle.hd_forest.proofs.Chains.{nearer, none-left, passed}
 use Rattle.hd_forest.proofs.read.twin_before.Goals as goal
-use Rattle.hd_forest.proofs.read.twin_before.Goals.{then-twin-address-via-then-twin-address, then-twin-address-via-else-twin-address+then-twin-eq0}
 
 pub returns-then-twin-address-clause-value : goal.returns-then-twin-address-clause-value
 returns-then-twin-address-clause-value g c sound =
     let m : Links = links_of c.args.dbd.now.types c.args.volume.now in
+    let e : c.loop.twin ≡ c.args.address = c.if-twin-address.true in subst (IsBehind m c.args.first c.loop.before) e (c.loop.invariant.behind sound)
+
+pub returns-clause-value : goal.returns-clause-value
+returns-clause-value g c sound =
+    let m : Links = links_of c.args.dbd.now.types c.args.volume.now in
     let inv = c.loop.invariant in
-    elim c.then-twin-address.branch [
-      | then-twin-address-via-then-twin-address w ↦
-          (let e : c.loop.twin ≡ c.args.address = w.if-twin-address.true in subst (IsBehind m c.args.first c.loop.before) e (inv.behind sound))
-      | then-twin-address-via-else-twin-address+then-twin-eq0 w ↦
-          (let left = inv.left sound in
-          let some : 0 < c.loop.twin = twin-some m left.after c.loop.twin c.args.address left.is in
-          let none : c.loop.twin ≡ 0 = w.if-twin-eq0.true in absurd (omega arith))
-    ]
+    let over = c.loop-test.false in
+    let none : c.length-most.result - c.loop.counter ≡ 0 = omega arith in
+    subst (IsBehind m c.args.first c.loop.before) (none-left m c.loop.twin c.args.address (subst (λ n. IsTwinWithin m n c.loop.twin c.args.address) none (inv.left sound))) (inv.behind sound)
 
 nearer-now : (m : Links) (most counter p a : ℕ) → counter < most → IsTwinWithin m (most - counter) p a → IsTwinWithin m (suc (most - (counter + 1))) p a
 nearer-now m most counter p a low w = subst (λ n. IsTwinWithin m n p a) (omega arith) w

@@ -1,0 +1,19 @@
+use Rattle.std.proofs.Common.{◌≢◌, ℕ, ◌<◌, sym, ap, ◌∙◌, arith}
+use Rattle.hd_dbd.specs.Prefixes.{children_of}
+use Rattle.hd_forest.specs.Children.{last_named_in}
+use Rattle.hd_forest.proofs.Reading.{lent}
+use Rattle.hd_forest.proofs.FirstChildren.{named-stored, types-stored}
+use Rattle.hd_forest.proofs.children.last_child_type.Goals as goal
+
+pub returns-clause-value : goal.returns-clause-value
+returns-clause-value g c sound =
+    let d = c.args.dbd.now in
+    let v = c.args.volume.now in
+    let a : ℕ = c.args.address in
+    let s = c.in_ok-segment.segment.now in
+    let there = c.requires.there sound in
+    let l = lent d v a s (c.requires.of sound).fit (c.requires.of sound) there (c.in_ok-segment.ensures.value sound) in
+    let ne : a ≢ 0 = λ e. (let some : 0 < a = there.some in omega arith) in
+    c.last_named_in.ensures l.long
+    ∙ ap (last_named_in d.types s c.args.end 0) (c.children_of-types.ensures ∙ ap (children_of d.types) c.code_in.ensures ∙ sym (types-stored d v a s (c.requires.of sound).fit (c.requires.of sound) there l.stored))
+    ∙ sym (named-stored d.types v a s c.args.end 0 _ ne l.stored)
