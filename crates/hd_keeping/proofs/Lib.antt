@@ -5,3 +5,5 @@ pub mod RootEntries
 pub mod Volumes
 pub mod Rooms
 pub mod VolumeImages
+pub mod Leaves
+pub mod NewPaths

@@ -91,7 +91,7 @@ module _ (d : Database) (v w : VolumeState) (f : Forest Placed) (key : List ℕ)
   needed-kept : blocks_for_entry d w key ≡ blocks_for_entry d v key
   needed-kept = needed-stays (root_key_length d.types) v w key H.index (I.volume.size ∙ sym H.volume.size) I.rest.header I.rest.index
 
-  growth-kept : index_growth w ≡ index_growth v
+  pub growth-kept : index_growth w ≡ index_growth v
   growth-kept = (index-stays (root_key_length d.types) v w H.index I.volume.formatted (I.volume.size ∙ sym H.volume.size) I.rest.header I.rest.index I.rest.others).2
 
   entry-room : HasRootRoomFor d v key (row ∷ rest) → blocks_for_entry d w key ≤ spare w
