@@ -1,4 +1,5 @@
 pub mod EntriesFound
+pub mod RootTypes
 pub mod RootRows
 pub mod Entries
 pub mod RootEntries

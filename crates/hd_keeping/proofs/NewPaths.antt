@@ -91,11 +91,6 @@ as-many f = length-map (sequence f) (λ (p : Placed). p.address) ∙ sym (rows_l
 
 -- ---- the first row
 
--- the leaf has no child, also where the records were then kept
-begun : (d : Database) (v w x : VolumeState) (h y : ℕ) (p : Placed) → IsLinked d v h y p.segment p.address w → Agree d.types (links_of d.types w) (links_of d.types x)
-    → Agree d.types (linked (links_of d.types v) h y p) (links_of d.types x)
-begun d v w x h y p I kept = agree-trans d.types (linked (links_of d.types v) h y p) (links_of d.types w) (links_of d.types x) I.records kept
-
 pub begin-below : PathsBeginBelowRows
 begin-below d v w f h y n p H some P I =
     let leaf = leaves-take d.types (links_of d.types v) (links_of d.types w) h y p I.records in
@@ -113,12 +108,13 @@ begin-below d v w f h y n p H some P I =
 
 pub begin-roots : PathsBeginWithRoots
 begin-roots d v w x f y n p H may P I E room =
-    let kept : Agree d.types (links_of d.types w) (links_of d.types x) = agree-index d w x (index_growth w) E.change in
-    let leaf = leaves-take d.types (links_of d.types v) (links_of d.types x) 0 y p (begun d v w x 0 y p I kept) in
+    let records : Agree d.types (linked (links_of d.types v) 0 y p) (links_of d.types x)
+    = agree-trans d.types (linked (links_of d.types v) 0 y p) (links_of d.types w) (links_of d.types x) I.records (agree-index d w x (index_growth w) E.change) in
+    let leaf = leaves-take d.types (links_of d.types v) (links_of d.types x) 0 y p records in
     let typed : is_child_type d.types ((links_of d.types v).code 0) p.segment.code ≡ true = (may p.address I.free).typed in
     let root : has_root (p.segment ∷ []) ≡ true = or_left (p.segment.code == 1) false (eq-eqb p.segment.code 1 (header-child d.types v p.segment.code typed)) in
     let growth : (images_of d).index_growth v.image ≡ index_growth w
-    = (have-room d v H.volume).1 ∙ sym (growth-kept d v w f [] y p.address p.segment [] H I) in
+    = (have-room d v H.volume).1 ∙ sym (growth-kept d v w f 0 y p.address p.segment H I) in
     let needed : blocks_for (images_of d) v.image (p.segment ∷ []) ≡ 1 + index_growth w
     = ap₂ (λ (b : Bool) (g : ℕ). 1 + cond b g 0) root growth in
     record {
