@@ -1,7 +1,10 @@
 pub mod EntriesFound
+pub mod RootTypes
 pub mod RootRows
 pub mod Entries
 pub mod RootEntries
 pub mod Volumes
 pub mod Rooms
 pub mod VolumeImages
+pub mod Leaves
+pub mod NewPaths

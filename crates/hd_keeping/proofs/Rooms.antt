@@ -86,33 +86,36 @@ first-roots d v key row rest = (
   λ memory none. (let no_room : v.room ≡ 0 = none.0 in omega arith),
 )
 
+-- a link leaves what the index may need
+pub growth-kept : (d : Database) (v w : VolumeState) (f : Forest Placed) (h y a : ℕ) (row : Segment) → HoldsPlaced d v f → IsLinked d v h y row a w → index_growth w ≡ index_growth v
+growth-kept d v w f h y a row H I =
+    (index-stays (root_key_length d.types) v w H.index I.volume.formatted (I.volume.size ∙ sym H.volume.size) I.rest.header I.rest.index I.rest.others).2
+
+-- and what it needs for a key
+pub needed-kept : (d : Database) (v w : VolumeState) (f : Forest Placed) (h y a : ℕ) (row : Segment) (key : List ℕ) → HoldsPlaced d v f → IsLinked d v h y row a w
+    → blocks_for_entry d w key ≡ blocks_for_entry d v key
+needed-kept d v w f h y a row key H I = needed-stays (root_key_length d.types) v w key H.index (I.volume.size ∙ sym H.volume.size) I.rest.header I.rest.index
+
 module _ (d : Database) (v w : VolumeState) (f : Forest Placed) (key : List ℕ) (y a : ℕ) (row : Segment) (rest : List Segment) (H : HoldsPlaced d v f) (I : IsLinked d v 0 y row a w) where
-  -- the index needs what it needed
-  needed-kept : blocks_for_entry d w key ≡ blocks_for_entry d v key
-  needed-kept = needed-stays (root_key_length d.types) v w key H.index (I.volume.size ∙ sym H.volume.size) I.rest.header I.rest.index
-
-  growth-kept : index_growth w ≡ index_growth v
-  growth-kept = (index-stays (root_key_length d.types) v w H.index I.volume.formatted (I.volume.size ∙ sym H.volume.size) I.rest.header I.rest.index I.rest.others).2
-
   entry-room : HasRootRoomFor d v key (row ∷ rest) → blocks_for_entry d w key ≤ spare w
   entry-room (inl enough) =
       (let less : spare v ≤ spare w + 1 = I.spares in
-      omega (arith, less, enough, needed-kept, needed-most (root_key_length d.types) v key))
+      omega (arith, less, enough, needed-kept d v w f 0 y a row key H I, needed-most (root_key_length d.types) v key))
   entry-room (inr hole) =
       (let same : spare w ≡ spare v = I.in_hole (hole-first d.types v row rest hole.0) in
       let enough : blocks_for_entry d v key ≤ spare v = hole.1 in
-      omega (arith, same, enough, needed-kept))
+      omega (arith, same, enough, needed-kept d v w f 0 y a row key H I))
 
   entry-memory : v.room ≤ w.room + 1 → HasRootMemoryFor v (row ∷ rest) → index_growth w ≤ w.room
-  entry-memory kept enough = omega (arith, kept, enough, growth-kept)
+  entry-memory kept enough = omega (arith, kept, enough, growth-kept d v w f 0 y a row H I)
 
   module _ (x : VolumeState) (es : List Entry) (E : IsEntered d w es (index_growth w) x) where
     rest-room : spare w ≤ spare x + index_growth w → HasRootRoomFor d v key (row ∷ rest) → HasRoomFor d.types x rest
-    rest-room spares (inl enough) = inl (let less : spare v ≤ spare w + 1 = I.spares in omega (arith, spares, enough, less, growth-kept))
+    rest-room spares (inl enough) = inl (let less : spare v ≤ spare w + 1 = I.spares in omega (arith, spares, enough, less, growth-kept d v w f 0 y a row H I))
     rest-room spares (inr hole) = inr (E.change.holes (stored_sizes d.types rest) (hole-left d v w 0 y a row rest I hole.0))
 
     rest-memory : v.room ≤ w.room + 1 → w.room ≤ x.room + index_growth w → HasRootMemoryFor v (row ∷ rest) → HasMemoryFor d.types x rest
-    rest-memory kept more enough = inl (omega (arith, kept, more, enough, growth-kept))
+    rest-memory kept more enough = inl (omega (arith, kept, more, enough, growth-kept d v w f 0 y a row H I))
 
 pub entries-room : RootEntriesFindRoom
 entries-room d v w f key y a row rest H I = (entry-room d v w f key y a row rest H I, entry-memory d v w f key y a row rest H I)

@@ -1,12 +1,15 @@
 -- What the index answers, told of the rows of the forest that a volume holds.
-use Rattle.std.specs.Prelude.{◌≡◌, ℕ, ◌<◌, List, [], ◌∷◌, length, Some, None, true, false}
+use Rattle.std.specs.Prelude.{◌≡◌, ℕ, ◌<◌, List, [], ◌∷◌, length, Some, None, true, false, IsTrue}
+use Rattle.hd_dbd.specs.declared.hierarchy.FreeSpace.{FreeSpace}
 use Rattle.hd_dbd.specs.Types.{SegmentType}
 use Rattle.hd_dbd.specs.Hierarchy.{Database}
+use Rattle.hd_dbd.specs.DatabaseRules.{well_formed}
 use Rattle.hd_dbd.specs.Segment.{Segment}
+use Rattle.hd_dbd.specs.Rows.{row_fits, key_of}
 use Rattle.hd_dbd.specs.Paths.{level_at}
 use Rattle.hd_dbd.specs.Forest.{Forest}
 use Rattle.hd_volume.specs.Volumes.{VolumeState}
-use Rattle.hd_volume.specs.Indexes.{key_less}
+use Rattle.hd_volume.specs.Indexes.{root_key_length, key_less}
 use Rattle.hd_links.specs.Placed.{Placed}
 use Rattle.hd_links.specs.Steps.{rows_of, address_at, path_at}
 use Rattle.hd_image.specs.Holding.{HoldsPlaced}
@@ -25,6 +28,12 @@ abbrev pub RootsStandAlone : Type 0
 RootsStandAlone =
     (d : Database) (v : VolumeState) (f : Forest Placed) (i : ℕ) → HoldsPlaced d v f → i < length (rows_of f) → is_root (rows_of f) i ≡ true
     → path_at d.types f i ≡ address_at f i ∷ []
+
+-- The key of a root's bytes has the length of the index's keys.
+abbrev pub RootKeysAreWhole : Type 0
+RootKeysAreWhole =
+    (block_size : ℕ) (frspc : FreeSpace) (types : List SegmentType) (bytes : List ℕ) → IsTrue (well_formed block_size frspc types)
+    → row_fits types (record { code = 1; bytes = bytes }) ≡ true → length (key_of types (record { code = 1; bytes = bytes })) ≡ root_key_length types
 
 -- Of two roots the earlier has the lesser key.
 abbrev pub RootsAscend : Type 0

@@ -4,3 +4,4 @@ pub mod Entered
 pub mod Laws
 pub mod Rooms
 pub mod VolumeImages
+pub mod NewPaths

@@ -1,12 +1,14 @@
-ghost use Rattle.hd_keeping.specs.Found.{RootsAreOfTheFirstType, RootsStandAlone, RootsAscend, IndexAnswersRoots, FirstRootsFollowLesser};
+ghost use Rattle.hd_keeping.specs.Found.{RootsAreOfTheFirstType, RootsStandAlone, RootKeysAreWhole, RootsAscend, IndexAnswersRoots, FirstRootsFollowLesser};
 ghost use Rattle.hd_keeping.specs.Laws.{ChangesBelowKeepEntries, ReplacingKeepsEntries, LinkingEntersRoots, UnlinkingRemovesRoots, HeldIsEntered, ForestChangesKeepEntries, IndexChangesKeepTheForest, ReplacedIsHeld, LinkedBelowIsHeld, LinkedRootIsNew, LinkedRootIsHeld, EnteredRootIsHeld, UnlinkedBelowIsHeld, UnlinkedRootIsHeld, RemovedRootIsHeld};
 ghost use Rattle.hd_keeping.specs.Rooms.{FirstRowsFindRoom, RoomLasts, FirstRootsFindRoom, RootEntriesFindRoom, RootRoomLasts};
 ghost use Rattle.hd_keeping.specs.VolumeImages.{VolumesHoldTheirRows, VolumesHaveTheirRoom, LackingRoomIsTheRule, VolumesFollow};
+ghost use Rattle.hd_keeping.specs.NewPaths.{LeavesTakeAChild, FirstChildrenGoInNext, PathsBeginBelowRows, PathsBeginWithRoots, PathsGoOn, PathsAreInsertions};
 
-/// Roots are the rows of the first level, and the path of each is the root alone.
+/// Roots are the rows of the first level, the path of each is the root alone, and its key is as long as those of the index.
 pub fn law_roots_are_of_the_first_type()
     ensures level { RootsAreOfTheFirstType }
     ensures path { RootsStandAlone }
+    ensures whole { RootKeysAreWhole }
 {}
 
 /// The keys of roots ascend row by row.
@@ -77,4 +79,19 @@ pub fn law_volumes_are_images()
 pub fn law_images_follow_volumes()
     ensures lacks { LackingRoomIsTheRule }
     ensures follows { VolumesFollow }
+{}
+
+/// Below a leaf that was linked any row of a child type may be linked, and goes in just behind it.
+pub fn law_leaves_take_a_child()
+    ensures takes { LeavesTakeAChild }
+    ensures next { FirstChildrenGoInNext }
+{}
+
+/// Rows that are linked each below the one before stand together, from the number of the first on, and are an insertion of
+/// these rows.
+pub fn law_paths_go_in_together()
+    ensures below { PathsBeginBelowRows }
+    ensures roots { PathsBeginWithRoots }
+    ensures more { PathsGoOn }
+    ensures insertion { PathsAreInsertions }
 {}

@@ -10,3 +10,4 @@ pub mod Streaming
 pub mod HeldStreams
 pub mod Accepting
 pub mod OneVolume
+pub mod RoomRule

@@ -8,60 +8,31 @@ use Rattle.hd_dbd.specs.Types.{SegmentType}
 use Rattle.hd_dbd.specs.Hierarchy.{Database, parent_of}
 use Rattle.hd_dbd.specs.DatabaseRules.{well_formed}
 use Rattle.hd_dbd.specs.Segment.{Segment}
-use Rattle.hd_dbd.specs.Rows.{row_fits, level, key_of, next_path}
+use Rattle.hd_dbd.specs.Rows.{row_fits, level, next_path}
 use Rattle.hd_dbd.specs.Loads.{load_fault}
-use Rattle.hd_dbd.specs.Forest.{Forest, empty, node, sequence}
+use Rattle.hd_dbd.specs.Forest.{Forest, sequence}
 use Rattle.hd_dbd.proofs.LevelLaw.{leveled, depth_below}
-use Rattle.hd_volume.specs.Headers.{Header, header_of}
+use Rattle.hd_volume.specs.Headers.{Header}
 use Rattle.hd_volume.specs.Volumes.{VolumeState}
 use Rattle.hd_volume.specs.Rooms.{spare}
-use Rattle.hd_volume.specs.Entries.{Entry, entries}
-use Rattle.hd_volume.specs.Indexes.{root_key_length, HasIndex, index_growth}
-use Rattle.hd_volume.proofs.IndexLemmas.{index-stays}
-use Rattle.hd_links.specs.Links.{Links, IsSegment, IsLinkGraph, segment_at, is_child_type}
-use Rattle.hd_links.specs.Placed.{Placed, nowhere, Holds}
+use Rattle.hd_links.specs.Links.{Links, IsSegment, segment_at, is_child_type}
+use Rattle.hd_links.specs.Placed.{Placed}
 use Rattle.hd_links.specs.Changes.{Agree, linked, with_leaf}
 use Rattle.hd_links.specs.Steps.{rows_of}
-use Rattle.hd_links.specs.LastRows.{last_on, roots_of, segments_of, parent_on_path, twin_on_path, IsLoadedLast}
+use Rattle.hd_links.specs.LastRows.{last_on, segments_of, parent_on_path, twin_on_path, IsLoadedLast}
 use Rattle.hd_links.proofs.Types.{ordered}
-use Rattle.hd_links.proofs.Touch.{frame}
 use Rattle.hd_links.proofs.LastPath.{loaded}
 use Rattle.hd_links.proofs.Numbers.{map_end, rows_map}
 use Rattle.hd_image.specs.Records.{links_of}
-use Rattle.hd_image.specs.Holding.{root_entries, HoldsPlaced}
+use Rattle.hd_image.specs.Holding.{HoldsPlaced}
 use Rattle.hd_image.proofs.Found.{records-link}
 use Rattle.hd_image.proofs.Roots.{header-child}
 use Rattle.hd_forest.specs.Updates.{MayLink, IsLinked}
-use Rattle.hd_index.specs.Changes.{entries_for}
+use Rattle.hd_keeping.proofs.Volumes.{linked-below}
 use Rattle.hd_unload.specs.Loads.{IsLoadStep}
 use Rattle.hd_unload.specs.Steps.{IsLoadedTo, IsRowLoaded}
 
--- ---- the entries of roots
-
--- the key and the address of a root
-abbrev pub entry_for : List SegmentType → Placed → Entry
-entry_for types p = record { key = key_of types p.segment; address = p.address }
-
--- the entries are those of the roots, in order
-pub entries-map : (types : List SegmentType) (f : Forest Placed) → root_entries types f ≡ map (λ p. entry_for types p) (roots_of f)
-entries-map types empty = refl
-entries-map types (node p k n) = ap (λ (es : List Entry). entry_for types p ∷ es) (entries-map types n)
-
 -- ---- records that agree
-
--- hold the same forest
-pub held-agree : (types : List SegmentType) (bound : ℕ) (m m2 : Links) (f : Forest Placed) → IsLinkGraph types bound m → Agree types m m2 → Holds types m f → Holds types m2 f
-held-agree types bound m m2 f G A H = record {
-  lies = record {
-    roots = record {
-      first = λ t q. (A 0).first_child t G.header (ap (λ x. is_child_type types x t) G.header_code ∙ q) ∙ H.lies.roots.first t q;
-      last = λ t q kept. (A 0).last_child t G.header (ap (λ x. is_child_type types x t) G.header_code ∙ q) kept ∙ H.lies.roots.last t q kept;
-    };
-    nodes = frame types m m2 nowhere f H.lies.nodes (λ a p. A a);
-  };
-  fits = H.fits;
-  once = λ a s. H.once a (record { some = s.some; here = sym (A a).here ∙ s.here });
-}
 
 -- The segment at an address stays.
 abbrev pub Stays : Links → Links → ℕ → Type 0
@@ -124,45 +95,11 @@ module _ (d : Database) (v w : VolumeState) (f : Forest Placed) (h y a : ℕ) (r
   abbrev grown : Forest Placed
   grown = with_leaf h y leaf f
 
-  -- the records hold the forest with the leaf
-  pub grown-held : Holds d.types (links_of d.types w) grown
-  grown-held = I.forest f H.records
-
-  -- the index stays
-  pub index-kept : HasIndex (root_key_length d.types) w × (entries (root_key_length d.types) w ≡ entries (root_key_length d.types) v) × (index_growth w ≡ index_growth v)
-  index-kept = index-stays (root_key_length d.types) v w H.index I.volume.formatted (I.volume.size ∙ sym H.volume.size) I.rest.header I.rest.index I.rest.others
-
-  -- the entries are those of the roots before
-  pub entries-before : entries_for d w ≡ root_entries d.types f
-  entries-before = index-kept.1 ∙ H.entries
-
   -- the rows have it last
   pub rows-grown : rows_of grown ≡ rows_of f ++ row ∷ []
   rows-grown =
       rows_map grown ∙ ap (λ (ps : List Placed). map (λ p. p.segment) ps) E.rows ∙ map_end (λ (p : Placed). p.segment) (sequence f) leaf
       ∙ ap (λ (rows : List Segment). rows ++ row ∷ []) (sym (rows_map f))
-
-  -- the name in the header stays
-  pub name-kept : (header_of w.image).name ≡ d.name
-  name-kept = ap (λ (x : Header). x.name) I.rest.header ∙ H.name
-
-  -- and so does its block size
-  pub size-kept : (header_of w.image).block_size ≡ d.block_size
-  size-kept = ap (λ (x : Header). x.block_size) I.rest.header ∙ H.block_size
-
-  -- below a row the roots stay, and so the volume holds the forest with the leaf
-  pub grown-below : (h ≡ 0 → ⊥) → HoldsPlaced d w grown
-  grown-below some = record {
-    volume = I.volume;
-    name = name-kept;
-    block_size = size-kept;
-    records = grown-held;
-    index = index-kept.0;
-    entries =
-        (let roots : roots_of grown ≡ roots_of f = E.roots ∙ cond-false (h == 0) (roots_of f ++ leaf ∷ []) (roots_of f) (ne_eqb h 0 some) in
-        entries-before ∙ entries-map d.types f ∙ ap (λ (ps : List Placed). map (λ p. entry_for d.types p) ps) (sym roots) ∙ sym (entries-map d.types grown));
-    kinds = I.rest.kinds H.kinds;
-  }
 
   -- all segments stay
   pub segments-kept : (b : ℕ) → IsSegment (links_of d.types v) b → Stays (links_of d.types v) (links_of d.types w) b
@@ -195,7 +132,7 @@ dependent-loaded d v w h y a row dependent fits I rows path L may parent twin =
     record {
       loaded = record {
         placed = with_leaf h y p L.placed;
-        holds = grown-below d v w L.placed h y a row L.holds E I (parent-some d v h y p L.placed L.holds E dependent);
+        holds = linked-below d v w L.placed h y a row L.holds (parent-some d v h y p L.placed L.holds E dependent) I;
         rows_are = rows-grown d v w L.placed h y a row L.holds E I ∙ ap (λ (rs : List Segment). rs ++ row ∷ []) L.rows_are;
         last = E.last ∙ ap (λ (q : List Placed). take (level d.types row - 1) q ++ p ∷ []) L.last;
       };

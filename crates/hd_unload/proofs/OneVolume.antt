@@ -1,5 +1,5 @@
 -- Two states of one image: what is loaded in the one is loaded in the other.
-use Rattle.std.proofs.Common.{◌≡◌, ℕ, ◌≤◌, List, inl, inr, refl, sym, ap, subst, ◌∙◌, arith}
+use Rattle.std.proofs.Common.{◌≡◌, ℕ, ◌≤◌, List, inl, inr, refl, ap, subst, ◌∙◌, arith}
 use Rattle.hd_dbd.specs.Hierarchy.{Database}
 use Rattle.hd_dbd.specs.Prefixes.{stored_size}
 use Rattle.hd_dbd.specs.Segment.{Segment}
@@ -14,7 +14,7 @@ use Rattle.hd_image.specs.Records.{links_of}
 use Rattle.hd_image.proofs.OneImage.{links-same, held-same}
 use Rattle.hd_index.specs.Places.{blocks_needed}
 use Rattle.hd_index.proofs.NeedLemmas.{needed-same}
-use Rattle.hd_unload.specs.Loads.{IsLoadStep, blocks_for}
+use Rattle.hd_unload.specs.Loads.{blocks_for}
 use Rattle.hd_unload.specs.Steps.{HasRootRoom, IsLoadedTo, IsRowLoaded}
 
 -- the rows that it holds

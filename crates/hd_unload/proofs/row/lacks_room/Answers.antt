@@ -1,7 +1,6 @@
 -- A root needs no more than its own block and the growth of the index.
-use Rattle.std.proofs.Common.{◌≡◌, ◌≤◌, ℕ, IsTrue, arith}
-use Rattle.hd_volume.specs.Indexes.{root_key_length, index_growth}
-use Rattle.hd_index.specs.Places.{blocks_needed}
+use Rattle.std.proofs.Common.{arith}
+use Rattle.hd_volume.specs.Indexes.{root_key_length}
 use Rattle.hd_index.proofs.NeedLemmas.{needed-most}
 use Rattle.hd_unload.proofs.row.lacks_room.Goals as goal
 

@@ -1,5 +1,5 @@
 -- A look for room leaves the volume as it is.
-use Rattle.std.proofs.Common.{◌≡◌, ℕ, List, IsTrue, subst}
+use Rattle.std.proofs.Common.{ℕ, List, IsTrue, subst}
 use Rattle.hd_dbd.specs.Rows.{key_of}
 use Rattle.hd_volume.proofs.CallSteps.{if-ok}
 use Rattle.hd_volume.proofs.JoinLemmas.{read-one}
