@@ -2,3 +2,4 @@ pub mod Spans
 pub mod Climbs
 pub mod Grounds
 pub mod Turns
+pub mod RowsAbove

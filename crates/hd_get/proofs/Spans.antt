@@ -187,11 +187,9 @@ module _ (test admits : ℕ → Bool) (types : List SegmentType) (rows : List Se
           ∙ (and_parts (list_all admits (path_of types rows p)) _ (sym (list_all-append admits (path_of types rows p) (q ∷ []))
           ∙ sym (ap (list_all admits) (path_follows types rows q ∙ ap (λ (o : Option ℕ). option_map_or (λ p. path_of types rows p) o [] ++ q ∷ []) some)) ∙ all)).0
 
-  -- a row that is admitted, with all above it, admits its children
-  pub above_child : (i j : ℕ) → parent_row types rows j ≡ Some i → is_above_admitted admits types rows i ≡ true → admits i ≡ true → is_above_admitted admits types rows j ≡ true
-  above_child i j e h own =
-      ap (λ (o : Option ℕ). option_map_or (λ q. list_all admits (path_of types rows q)) o true) e
-      ∙ ap (list_all admits) (path_follows types rows i) ∙ split (parent_row types rows i) refl
+  -- a row that is admitted, with all above it: so is its path, and so are the rows above its children
+  pub whole_admitted : (i : ℕ) → is_above_admitted admits types rows i ≡ true → admits i ≡ true → list_all admits (path_of types rows i) ≡ true
+  whole_admitted i h own = ap (list_all admits) (path_follows types rows i) ∙ split (parent_row types rows i) refl
     where
       split : (o : Option ℕ) → parent_row types rows i ≡ o → list_all admits (option_map_or (λ p. path_of types rows p) (parent_row types rows i) [] ++ i ∷ []) ≡ true
       split None none = ap (λ (o : Option ℕ). list_all admits (option_map_or (λ p. path_of types rows p) o [] ++ i ∷ [])) none ∙ ap (λ b. b && true) own
@@ -203,6 +201,9 @@ module _ (test admits : ℕ → Bool) (types : List SegmentType) (rows : List Se
           both : (a b : Bool) → a ≡ true → b ≡ true → (a && b) ≡ true
           both true b x y = y
           both false b x y = cc
+
+  pub above_child : (i j : ℕ) → parent_row types rows j ≡ Some i → is_above_admitted admits types rows i ≡ true → admits i ≡ true → is_above_admitted admits types rows j ≡ true
+  above_child i j e h own = ap (λ (o : Option ℕ). option_map_or (λ q. list_all admits (path_of types rows q)) o true) e ∙ whole_admitted i h own
 
   pub above_all : ((k : ℕ) → admits k ≡ true) → (i : ℕ) → is_above_admitted admits types rows i ≡ true
   above_all h i = by (parent_row types rows i)

@@ -15,7 +15,7 @@ use Rattle.hd_calls.specs.Places.{end_below}
 use Rattle.hd_calls.proofs.Searches.{least_none, skipped}
 use Rattle.hd_calls.proofs.Spans.{end_is}
 use Rattle.hd_seek.specs.Admits.{NonePass}
-use Rattle.hd_get.specs.Searches.{EndsAt, path_within, is_above_admitted, child_or_end, NonePassAcross, AllAdmitted, IsWayDown, GoesAcross, GoesOn, GoesTo, GoesPast, IsTurned, IsFound}
+use Rattle.hd_get.specs.Searches.{EndsAt, path_within, is_above_admitted, child_or_end, NonePassAcross, AllAdmitted, IsWayDown, IsWayBeside, GoesAcross, GoesDown, GoesOn, GoesTo, GoesPast, IsTurned, IsFound}
 use Rattle.hd_get.proofs.Spans.{nested, parent_span, parent_within, child_is, joined, above_parent, above_child, above_all}
 use Rattle.hd_get.proofs.Climbs.{some_path}
 
@@ -36,28 +36,33 @@ module _ (types : List SegmentType) (f : Forest Placed) (parent i end : ℕ) (E 
 
 -- ---- one turn
 
-module _ (test admits : ℕ → Bool) (types : List SegmentType) (f : Forest Placed) (parent i end : ℕ) (E : EndsAt types f parent i end) (inside : i < end)
+module _ (test admits : ℕ → Bool) (types : List SegmentType) (f : Forest Placed) (parent i end : ℕ) (E : EndsAt types f parent (i + 1) end) (inside : i < end)
     (up : is_above_admitted admits types (rows_of f) i ≡ true) where
   here : i < length (rows_of f)
-  here = (let w : end ≤ length (rows_of f) = ends_within types f parent i end E in omega arith)
+  here = (let w : end ≤ length (rows_of f) = ends_within types f parent (i + 1) end E in omega arith)
 
   span_behind : i < end_of types (rows_of f) i
   span_behind = (end_is types (rows_of f) i here).behind
 
   -- across, where the span fails
-  pub turned_across : (path : List ℕ) → NonePass test i (end_of types (rows_of f) i) → NonePassAcross test types (rows_of f) i → GoesAcross types f parent i path → GoesOn test admits types f end i path
+  pub turned_across : (path : List ℕ) → NonePass test i (end_of types (rows_of f) i) → NonePassAcross test types (rows_of f) i → GoesAcross types f parent i path
+      → (on : GoesOn test admits types f end i path) × (end_of types (rows_of f) i ≤ on.number)
   turned_across path span across goes =
-      let G = goes test admits i end E (let r : i ≤ i + 1 = omega arith in r) inside across up in
+      let G = goes test admits (i + 1) end E (let r : i + 1 ≤ i + 1 = omega arith in r) inside across up in
       let a : i < end_of types (rows_of f) i = span_behind in
       let b : end_of types (rows_of f) i ≤ G.0 = G.1 in
-      record { number = G.0; later = omega arith; none = joined test admits types (rows_of f) i (end_of types (rows_of f) i) G.0 span G.2; above = G.3; is = G.4 }
+      (record { number = G.0; later = omega arith; none = joined test admits types (rows_of f) i (end_of types (rows_of f) i) G.0 span G.2; above = G.3; is = G.4 }, b)
 
   -- down to a child, or across where there is none
-  pub turned_aside : (code : ℕ) (path : List ℕ) → IsWayDown test admits types (rows_of f) i code → first_child types (rows_of f) code i ≡ None → GoesAcross types f parent i path → GoesOn test admits types f end i path
+  pub turned_aside : (code : ℕ) (path : List ℕ) → IsWayDown test admits types (rows_of f) i code → first_child types (rows_of f) code i ≡ None → GoesAcross types f parent i path
+      → (on : GoesOn test admits types f end i path) × (child_or_end types (rows_of f) i code ≤ on.number)
   turned_aside code path W none goes =
-      turned_across path (subst (NonePass test i) (ap (λ (o : Option ℕ). unwrap_or o (end_of types (rows_of f) i)) none) W.none) W.across goes
+      let is : child_or_end types (rows_of f) i code ≡ end_of types (rows_of f) i = ap (λ (o : Option ℕ). unwrap_or o (end_of types (rows_of f) i)) none in
+      let T = turned_across path (subst (NonePass test i) is W.none) W.across goes in
+      (T.0, (let b : end_of types (rows_of f) i ≤ T.0.number = T.1 in omega arith))
 
-  pub turned_down : (code j : ℕ) (path : List ℕ) → IsWayDown test admits types (rows_of f) i code → first_child types (rows_of f) code i ≡ Some j → path ≡ path_at types f j → GoesOn test admits types f end i path
+  pub turned_down : (code j : ℕ) (path : List ℕ) → IsWayDown test admits types (rows_of f) i code → first_child types (rows_of f) code i ≡ Some j → path ≡ path_at types f j
+      → (on : GoesOn test admits types f end i path) × (child_or_end types (rows_of f) i code ≤ on.number)
   turned_down code j path W some is =
       let C = child_is types (rows_of f) i code j here some in
       let a : i < j = C.behind in
@@ -66,38 +71,62 @@ module _ (test admits : ℕ → Bool) (types : List SegmentType) (f : Forest Pla
       let before : j < end = elim (cases_lt 0 parent) [
         | inl under ↦
             (let Q = E.under under in
-            let q : Q.0 < i = Q.1 in
+            let q : Q.0 < i + 1 = Q.1 in
             let e : end ≡ end_of types (rows_of f) Q.0 = Q.4 in
             let n : end_of types (rows_of f) i ≤ end_of types (rows_of f) Q.0 = nested types (rows_of f) Q.0 i (omega arith) here (omega arith) in omega arith)
         | inr none ↦ (let e : end ≡ length (rows_of f) = E.whole (omega arith) in omega arith)
       ] in
-      record {
-        number = j;
-        later = a;
-        none = subst (NonePass test i) (ap (λ (o : Option ℕ). unwrap_or o (end_of types (rows_of f) i)) some) W.none;
-        above = λ z. above_child test admits types (rows_of f) i j C.parent up W.admitted;
-        is = is ∙ sym (cond-true (nat_lt j end) (path_at types f j) [] (lt-ltb j end before));
-      }
+      let to : child_or_end types (rows_of f) i code ≡ j = ap (λ (o : Option ℕ). unwrap_or o (end_of types (rows_of f) i)) some in
+      (
+        record {
+          number = j;
+          later = a;
+          none = subst (NonePass test i) to W.none;
+          above = λ z. above_child test admits types (rows_of f) i j C.parent up W.admitted;
+          is = is ∙ sym (cond-true (nat_lt j end) (path_at types f j) [] (lt-ltb j end before));
+        },
+        (omega arith),
+      )
+
+module _ (test admits : ℕ → Bool) (types : List SegmentType) (f : Forest Placed) (parent i end : ℕ) (E : EndsAt types f parent i end) (inside : i < end)
+    (up : is_above_admitted admits types (rows_of f) i ≡ true) where
+  within : i < length (rows_of f)
+  within = (let w : end ≤ length (rows_of f) = ends_within types f parent i end E in omega arith)
+
+  -- the parent's end is the search's too
+  parent_ends : (p : ℕ) → parent_row types (rows_of f) i ≡ Some p → EndsAt types f parent (p + 1) end
+  parent_ends p e = record {
+    whole = E.whole;
+    under = λ some. (let Q = E.under some in
+        let q : Q.0 < i = Q.1 in
+        let qe : end ≡ end_of types (rows_of f) Q.0 = Q.4 in
+        let W = parent_within types (rows_of f) Q.0 i q within (omega arith) in
+        let low : Q.0 ≤ W.0 = W.2 in
+        let same : W.0 ≡ p = one (sym W.1 ∙ e) in (Q.0, (let r : Q.0 < p + 1 = omega arith in r), Q.2, Q.3, Q.4));
+  }
+    where
+      one : {a b : ℕ} → Some a ≡ Some b → a ≡ b
+      one z = cc
+
+  -- to a later child of the parent
+  pub turned_beside : (code : ℕ) (path : List ℕ) (W : IsWayBeside test admits types (rows_of f) i code) → GoesDown types f parent W.parent code path → GoesOn test admits types f end i path
+  turned_beside code path W goes =
+      let pi : W.parent < i = (parent_span types (rows_of f) i W.parent within W.is).0 in
+      let D = goes test admits end (parent_ends W.parent W.is) (omega arith) (above_parent test admits types (rows_of f) i W.parent W.is up) W.down in
+      let later : i < child_or_end types (rows_of f) W.parent code = W.later in
+      let behind : child_or_end types (rows_of f) W.parent code ≤ D.0.number = D.1 in
+      record { number = D.0.number; later = omega arith; none = λ j low high. D.0.none j (omega arith) high; above = D.0.above; is = D.0.is }
 
   -- over the rest of the parent's rows
   pub turned_up : (p : ℕ) (path : List ℕ) → parent_row types (rows_of f) i ≡ Some p → NonePass test i (end_below types (rows_of f) (parent_row types (rows_of f) i)) → NonePassAcross test types (rows_of f) i
       → GoesAcross types f parent p path → GoesOn test admits types f end i path
   turned_up p path e rest across goes =
-      let P = parent_span types (rows_of f) i p here e in
+      let P = parent_span types (rows_of f) i p within e in
       let pi : p < i = P.0 in
       let ends : end_of types (rows_of f) i ≤ end_of types (rows_of f) p = P.2 in
-      let own : i < end_of types (rows_of f) i = span_behind in
-      let pl : p < length (rows_of f) = (let l : i < length (rows_of f) = here in omega arith) in
-      let EP : EndsAt types f parent (p + 1) end = record {
-        whole = E.whole;
-        under = λ some. (let Q = E.under some in
-            let q : Q.0 < i = Q.1 in
-            let qe : end ≡ end_of types (rows_of f) Q.0 = Q.4 in
-            let W = parent_within types (rows_of f) Q.0 i q here (omega arith) in
-            let low : Q.0 ≤ W.0 = W.2 in
-            let same : W.0 ≡ p = one (sym W.1 ∙ e) in (Q.0, (let r : Q.0 < p + 1 = omega arith in r), Q.2, Q.3, Q.4));
-      } in
-      let G = goes test admits (p + 1) end EP (let r : p + 1 ≤ p + 1 = omega arith in r) (omega arith)
+      let own : i < end_of types (rows_of f) i = (end_is types (rows_of f) i within).behind in
+      let pl : p < length (rows_of f) = (let l : i < length (rows_of f) = within in omega arith) in
+      let G = goes test admits (p + 1) end (parent_ends p e) (let r : p + 1 ≤ p + 1 = omega arith in r) (omega arith)
           (λ k low high. (let n : end_of types (rows_of f) p ≤ end_of types (rows_of f) k = nested types (rows_of f) k p low pl high in across k (omega arith) (omega arith)))
           (above_parent test admits types (rows_of f) i p e up) in
       let b : end_of types (rows_of f) p ≤ G.0 = G.1 in
@@ -108,9 +137,6 @@ module _ (test admits : ℕ → Bool) (types : List SegmentType) (f : Forest Pla
         above = G.3;
         is = G.4;
       }
-    where
-      one : {a b : ℕ} → Some a ≡ Some b → a ≡ b
-      one z = cc
 
   pub turned_out : (path : List ℕ) → parent_row types (rows_of f) i ≡ None → NonePass test i (end_below types (rows_of f) (parent_row types (rows_of f) i)) → path ≡ [] → GoesOn test admits types f end i path
   turned_out path e rest is =
@@ -119,7 +145,7 @@ module _ (test admits : ℕ → Bool) (types : List SegmentType) (f : Forest Pla
             (let Q = E.under some in
             let q : Q.0 < i = Q.1 in
             let qe : end ≡ end_of types (rows_of f) Q.0 = Q.4 in
-            let W = parent_within types (rows_of f) Q.0 i q here (omega arith) in absurd (apart (sym e ∙ W.1)))
+            let W = parent_within types (rows_of f) Q.0 i q within (omega arith) in absurd (apart (sym e ∙ W.1)))
         | inr none ↦ E.whole (omega arith)
       ] in
       record {

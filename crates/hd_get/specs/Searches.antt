@@ -19,7 +19,7 @@ use Rattle.hd_calls.specs.Places.{end_below}
 use Rattle.hd_seek.specs.Admits.{NonePass}
 use Rattle.hd_seek.specs.Twins.{next_twin}
 use Rattle.hd_get.specs.declared.verdict.Verdict.{Verdict}
-use Rattle.hd_get.specs.declared.verdict.Verdict.TheVariants.{Found, Next, Over, Down, Across, Rest}
+use Rattle.hd_get.specs.declared.verdict.Verdict.TheVariants.{Found, Next, Over, Down, Across, Beside, Rest}
 
 -- ---- where a search is
 
@@ -72,13 +72,33 @@ pub record IsWayDown (test admits : ℕ → Bool) (types : List SegmentType) (ro
   pub none : NonePass test i (child_or_end types rows i code)
   pub across : NonePassAcross test types rows i
 
+-- The parent of row i is admitted, and its first child of the type comes later than row i; none passes before that.
+pub record IsWayBeside (test admits : ℕ → Bool) (types : List SegmentType) (rows : List Segment) (i code : ℕ) : Type 0 where
+  pub parent : ℕ
+  pub is : parent_row types rows i ≡ Some parent
+  pub down : IsWayDown test admits types rows parent code
+  pub later : i < child_or_end types rows parent code
+
+-- the search may go on below the row
+abbrev pub goes_below : Verdict → Bool
+goes_below Found = true
+goes_below Next = true
+goes_below (Down code) = true
+goes_below Over = false
+goes_below Across = false
+goes_below (Beside code) = false
+goes_below Rest = false
+
 -- Why a search goes where it goes from row i.
 pub record IsJudged (test admits : ℕ → Bool) (types : List SegmentType) (rows : List Segment) (i : ℕ) (v : Verdict) : Type 0 where
+  pub admitted : goes_below v ≡ true → admits i ≡ true
+  pub span : goes_below v ≡ false → NonePass test i (end_of types rows i)
   pub found : v ≡ Found → test i ≡ true
   pub next : v ≡ Next → (test i ≡ false) × AllAdmitted admits
-  pub over : v ≡ Over → NonePass test i (end_of types rows i) × AllAdmitted admits
+  pub over : v ≡ Over → AllAdmitted admits
   pub down : (code : ℕ) → v ≡ Down code → IsWayDown test admits types rows i code
-  pub across : v ≡ Across → NonePass test i (end_of types rows i) × NonePassAcross test types rows i
+  pub across : v ≡ Across → NonePassAcross test types rows i
+  pub beside : (code : ℕ) → v ≡ Beside code → IsWayBeside test admits types rows i code
   pub rest : v ≡ Rest → NonePass test i (end_below types rows (parent_row types rows i)) × NonePassAcross test types rows i
 
 -- The search went on from row i to a later row, or to its end: none on the way passes, and the parents of the row are admitted.
@@ -114,8 +134,15 @@ GoesAcross types f parent i path =
 -- The search went down from row i to its first child of a type, or, where it has none, across.
 abbrev pub GoesDown : List SegmentType → Forest Placed → ℕ → ℕ → ℕ → List ℕ → Type 0
 GoesDown types f parent i code path =
+    (test admits : ℕ → Bool) (end : ℕ) → EndsAt types f parent (i + 1) end → i < end → is_above_admitted admits types (rows_of f) i ≡ true
+    → IsWayDown test admits types (rows_of f) i code
+    → (on : GoesOn test admits types f end i path) × (child_or_end types (rows_of f) i code ≤ on.number)
+
+-- The search went from row i to the first child of its parent of a type, or, where that has none, across from the parent.
+abbrev pub GoesBeside : List SegmentType → Forest Placed → ℕ → ℕ → ℕ → List ℕ → Type 0
+GoesBeside types f parent i code path =
     (test admits : ℕ → Bool) (end : ℕ) → EndsAt types f parent i end → i < end → is_above_admitted admits types (rows_of f) i ≡ true
-    → IsWayDown test admits types (rows_of f) i code → GoesOn test admits types f end i path
+    → IsWayBeside test admits types (rows_of f) i code → GoesOn test admits types f end i path
 
 -- The search went on from row i to the row of a number, unless that is past its end.
 abbrev pub GoesTo : List SegmentType → Forest Placed → ℕ → ℕ → ℕ → List ℕ → Type 0
@@ -133,6 +160,15 @@ abbrev pub Follows : List SegmentType → Forest Placed → ℕ → ℕ → Verd
 Follows types f parent i verdict r path =
     (test admits : ℕ → Bool) (end : ℕ) → EndsAt types f parent i end → i < end → is_above_admitted admits types (rows_of f) i ≡ true
     → IsJudged test admits types (rows_of f) i verdict → IsTurned test admits types f end i r path
+
+-- A search that was to begin at row n may as well begin at another, since none that is between passes; the rows above that one are
+-- admitted.
+pub record MayBeginAt (test admits : ℕ → Bool) (types : List SegmentType) (f : Forest Placed) (parent end n : ℕ) (path : List ℕ) : Type 0 where
+  pub number : ℕ
+  pub same : first_from test n end ≡ first_from test number end
+  pub ends : EndsAt types f parent number end
+  pub above : number < end → is_above_admitted admits types (rows_of f) number ≡ true
+  pub is : path ≡ path_within types f end number
 
 -- ---- the words of the contracts
 
@@ -171,3 +207,14 @@ MaySearch admits d v parent path =
 abbrev pub Finds : (List Segment → ℕ → Bool) → (List Segment → ℕ → Bool) → Database → VolumeState → ℕ → List ℕ → Bool → List ℕ → Type 0
 Finds test admits d v parent path r found =
     (f : Forest Placed) (i end : ℕ) → IsSearching admits d v f parent end path i → IsFound (test (rows_of f)) d.types f end i r found
+
+-- where the store is sound, the path leads to a row of a forest that the volume holds, before the end of a search, or to none
+abbrev pub MayLead : Database → VolumeState → ℕ → List ℕ → Type 0
+MayLead d v parent path =
+    IsTrue v.is_sound → (f : Forest Placed) × (i : ℕ) × (end : ℕ) × LeadsWithin d.types (links_of d.types v) f parent end path i
+
+-- Wherever the path led, the search may as well begin where the new path leads.
+abbrev pub Settles : (List Segment → ℕ → Bool) → (List Segment → ℕ → Bool) → Database → VolumeState → ℕ → List ℕ → List ℕ → Type 0
+Settles test admits d v parent path new =
+    (f : Forest Placed) (n end : ℕ) → IsTrue v.is_sound → LeadsWithin d.types (links_of d.types v) f parent end path n
+    → MayBeginAt (test (rows_of f)) (admits (rows_of f)) d.types f parent end n new

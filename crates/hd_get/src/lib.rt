@@ -3,9 +3,11 @@
 
 mod judge;
 mod searching;
+mod settling;
 mod steps;
 mod verdict;
 
 pub use judge::Judge;
 pub use searching::find;
+pub use settling::settle;
 pub use verdict::Verdict;

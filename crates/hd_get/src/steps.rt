@@ -6,7 +6,7 @@ ghost use Rattle.hd_dbd.specs.Forest.{Forest};
 ghost use Rattle.hd_volume.specs.Calls.{IsRead};
 ghost use Rattle.hd_links.specs.Placed.{Placed};
 ghost use Rattle.hd_links.specs.Steps.{rows_of};
-ghost use Rattle.hd_get.specs.Searches.{IsOf, IsThere, IsAt, IsClimbed, GoesAcross, GoesDown, GoesTo, GoesPast, Follows};
+ghost use Rattle.hd_get.specs.Searches.{IsOf, IsThere, IsAt, IsClimbed, GoesAcross, GoesDown, GoesBeside, GoesTo, GoesPast, Follows};
 
 use crate::verdict::Verdict;
 use hd_dbd::{Dbd, Refused};
@@ -85,6 +85,27 @@ fn down<S: BlockStore>(
     Ok(())
 }
 
+/// Goes from the last row of a path to the first child of its parent of a type; where that has none, across from the parent.
+fn beside<S: BlockStore>(
+    volume: &mut Volume<S>,
+    dbd: &Dbd,
+    parent: u32,
+    code: u8,
+    path: &mut Path,
+) -> Result<(), Refused>
+    requires of { IsOf dbd.now volume.old }
+    requires there { IsThere dbd.now volume.old path.old }
+    ensures read { IsRead volume.old result volume.new }
+    ensures value { OnOk result ((f : Forest Placed) (i : ℕ) → IsAt dbd.now volume.old f path.old i → GoesBeside dbd.now.types f parent i code path.new) }
+    ensures refusal { OnlyDevice result }
+{
+    path.up();
+    if path.addresses().is_empty() {
+        return Ok(());
+    }
+    down(volume, dbd, parent, code, path)
+}
+
 /// Goes over the rest of the rows of the parent of a path's last row.
 fn rest<S: BlockStore>(
     volume: &mut Volume<S>,
@@ -161,6 +182,7 @@ pub fn follow<S: BlockStore>(
         Verdict::Over => over(volume, dbd, parent, path)?,
         Verdict::Down(code) => down(volume, dbd, parent, code, path)?,
         Verdict::Across => across(volume, dbd, parent, path)?,
+        Verdict::Beside(code) => beside(volume, dbd, parent, code, path)?,
         Verdict::Rest => rest(volume, dbd, parent, path)?,
     }
     Ok(false)

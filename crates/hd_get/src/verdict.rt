@@ -11,6 +11,23 @@ pub enum Verdict {
     Down(u8),
     /// To the next twin; behind the last, across from the parent.
     Across,
+    /// To the first child of its parent of the type of this code, which comes later; where there is none, across from the parent.
+    Beside(u8),
     /// Over the rest of the parent's rows, and then across from the parent.
     Rest,
+}
+
+impl Verdict {
+    ghost use Rattle.std.specs.Prelude.{◌≡◌};
+    ghost use Rattle.hd_get.specs.Searches.{goes_below};
+
+    /// Whether the row is admitted, so that the search may go on below it.
+    pub fn goes_below(self) -> bool
+        ensures { result ≡ goes_below self }
+    {
+        match self {
+            Verdict::Found | Verdict::Next | Verdict::Down(_) => true,
+            Verdict::Over | Verdict::Across | Verdict::Beside(_) | Verdict::Rest => false,
+        }
+    }
 }

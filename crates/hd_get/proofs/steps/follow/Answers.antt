@@ -6,8 +6,8 @@ use Rattle.hd_dbd.specs.Forest.{Forest}
 use Rattle.hd_links.specs.Placed.{Placed}
 use Rattle.hd_links.specs.Steps.{rows_of}
 use Rattle.hd_calls.proofs.Spans.{end_is}
-use Rattle.hd_get.specs.Searches.{GoesOn, IsTurned}
-use Rattle.hd_get.proofs.Turns.{turned_to, turned_across}
+use Rattle.hd_get.specs.Searches.{goes_below, GoesOn, IsTurned}
+use Rattle.hd_get.proofs.Turns.{ends_later, turned_to, turned_across}
 use Rattle.hd_get.proofs.steps.follow.Goals as goal
 
 -- a search that goes on has turned
@@ -22,18 +22,21 @@ returns-in_ok-next-in-Next-clause-value g c f i at test admits end E inside up J
 
 pub returns-in_ok-over-in-Over-clause-value : goal.returns-in_ok-over-in-Over-clause-value
 returns-in_ok-over-in-Over-clause-value g c f i at test admits end E inside up J =
-    let N = J.over c.in-Over.is in
     on (turned_to test admits c.args.dbd.now.types f c.args.parent i end E inside up (end_of c.args.dbd.now.types (rows_of f) i) c.over.new.path
-    (end_is c.args.dbd.now.types (rows_of f) i at.row.within).behind N.0 N.1 (c.in_ok-over-in-Over.ensures.value f i at))
+    (end_is c.args.dbd.now.types (rows_of f) i at.row.within).behind (J.span (ap goes_below c.in-Over.is)) (J.over c.in-Over.is) (c.in_ok-over-in-Over.ensures.value f i at))
 
 pub returns-in_ok-down-in-Down-clause-value : goal.returns-in_ok-down-in-Down-clause-value
 returns-in_ok-down-in-Down-clause-value g c f i at test admits end E inside up J =
-    on (c.in_ok-down-in-Down.ensures.value f i at test admits end E inside up (J.down c.in-Down.code c.in-Down.is))
+    on (c.in_ok-down-in-Down.ensures.value f i at test admits end (ends_later c.args.dbd.now.types f c.args.parent i end E (i + 1) (omega arith)) inside up (J.down c.in-Down.code c.in-Down.is)).0
 
 pub returns-in_ok-across-in-Across-clause-value : goal.returns-in_ok-across-in-Across-clause-value
 returns-in_ok-across-in-Across-clause-value g c f i at test admits end E inside up J =
-    let A = J.across c.in-Across.is in
-    on (turned_across test admits c.args.dbd.now.types f c.args.parent i end E inside up c.across.new.path A.0 A.1 (c.in_ok-across-in-Across.ensures.value f i at))
+    on (turned_across test admits c.args.dbd.now.types f c.args.parent i end (ends_later c.args.dbd.now.types f c.args.parent i end E (i + 1) (omega arith)) inside up c.across.new.path
+    (J.span (ap goes_below c.in-Across.is)) (J.across c.in-Across.is) (c.in_ok-across-in-Across.ensures.value f i at)).0
+
+pub returns-in_ok-beside-in-Beside-clause-value : goal.returns-in_ok-beside-in-Beside-clause-value
+returns-in_ok-beside-in-Beside-clause-value g c f i at test admits end E inside up J =
+    on (c.in_ok-beside-in-Beside.ensures.value f i at test admits end E inside up (J.beside c.in-Beside.code c.in-Beside.is))
 
 pub returns-in_ok-rest-in-Rest-clause-value : goal.returns-in_ok-rest-in-Rest-clause-value
 returns-in_ok-rest-in-Rest-clause-value g c f i at test admits end E inside up J =
