@@ -1,11 +1,13 @@
 //! Where a PCB is in a volume, by addresses of rows, and how that moves when rows are put in and taken out.
 #![tactic(auto)]
 
+mod back;
 mod gets;
 mod law;
 mod levels;
 mod position;
 
+pub use back::row_before;
 pub use gets::{begin, stand};
 pub use law::{
     law_ended_holds_hold_nothing, law_forests_of_volumes_are_held, law_insertions_add_up,
