@@ -1,16 +1,16 @@
 -- The way back from a row to the one before it.
-use Rattle.std.proofs.Common.{◌≡◌, ◌⊎◌, ℕ, zero, suc, ◌+◌, ◌-◌, ◌<◌, ◌≤◌, List, [], ◌∷◌, ◌++◌, length, take, true, false, cond, Bool, arith, ap, ap₂, sym, ◌∙◌, subst, refl, inl, inr, Option, Some, None}
+use Rattle.std.proofs.Common.{◌≡◌, ◌⊎◌, ℕ, suc, ◌-◌, ◌<◌, List, [], ◌∷◌, ◌++◌, length, take, true, cond, arith, ap, sym, ◌∙◌, subst, refl, inl, inr, Option, Some, None}
 use Rattle.std.specs.Prelude.{◌==◌, nat_lt}
-use Rattle.std.proofs.lemmas.Bool.{cases_Bool, cases_eq, cond-true, cond-false, lt-ltb, le-ltb, eq-eqb, ne_eqb, false≢true}
+use Rattle.std.proofs.lemmas.Bool.{cases_Bool, cond-true, cond-false, lt-ltb, le-ltb, eq-eqb, ne_eqb, false≢true}
 use Rattle.hd_dbd.specs.Types.{SegmentType}
-use Rattle.hd_links.specs.Links.{Links, child_types, is_child_type}
+use Rattle.hd_links.specs.Links.{Links, is_child_type}
 use Rattle.hd_links.specs.Pointers.{IsInChain}
-use Rattle.hd_links.specs.Steps.{LeadsDown, tip_from, next_row, behind_span, first_some, child_among, later_than}
+use Rattle.hd_links.specs.Steps.{LeadsDown, tip_from, first_some, child_among, later_than}
 use Rattle.hd_links.proofs.Types.{is_in, AllAbove, Ascending, in_cases, in_head, in_tail, above_in}
 use Rattle.hd_links.proofs.Build.{zero_or}
 use Rattle.hd_links.proofs.Ways.{some_zero, some_own, later_own}
 use Rattle.hd_forest.specs.Children.{comes_before, last_named}
-use Rattle.hd_position.specs.Backs.{from_on, EndsBelow}
+use Rattle.hd_position.specs.Backs.{from_on}
 
 module _ (m : Links) (h : ℕ) (end : Option ℕ) where
   -- The last type with a child, of those before the end: behind it comes what comes from the end on.

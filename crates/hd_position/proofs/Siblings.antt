@@ -1,7 +1,7 @@
 -- What stands just before a row below its parent, and the row before it.
-use Rattle.std.proofs.Common.{◌≡◌, ◌⊎◌, ℕ, zero, suc, ◌+◌, ◌-◌, ◌<◌, ◌≤◌, List, [], ◌∷◌, ◌++◌, length, take, true, false, arith, ap, ap₂, sym, ◌∙◌, subst, refl, inl, inr, Option, Some, None}
+use Rattle.std.proofs.Common.{◌≡◌, ℕ, zero, suc, ◌+◌, ◌-◌, ◌<◌, ◌≤◌, List, [], ◌∷◌, ◌++◌, length, take, true, arith, ap, sym, ◌∙◌, subst, refl, inl, inr, Option, Some, None}
 use Rattle.std.specs.Prelude.{◌==◌}
-use Rattle.std.proofs.lemmas.Bool.{cond-true, cond-false, eq-eqb, ne_eqb, false≢true}
+use Rattle.std.proofs.lemmas.Bool.{cond-false, ne_eqb, false≢true}
 use Rattle.std.proofs.lemmas.List.{append_assoc, append-nil, length-append}
 use Rattle.hd_dbd.specs.declared.hierarchy.FreeSpace.{FreeSpace}
 use Rattle.hd_dbd.specs.Types.{SegmentType}
@@ -10,7 +10,7 @@ use Rattle.hd_links.specs.Links.{Links, IsSegment, IsLinkGraph, child_types, is_
 use Rattle.hd_links.specs.Placed.{Placed}
 use Rattle.hd_links.specs.Pointers.{IsInChain, AreLinked}
 use Rattle.hd_links.specs.Changes.{CanUnlink}
-use Rattle.hd_links.specs.Steps.{rows_of, address_at, LeadsDown, tip_from, next_row, behind_span, first_some, child_among, later_than}
+use Rattle.hd_links.specs.Steps.{rows_of, address_at, LeadsDown, tip_from, behind_span, first_some, child_among, later_than}
 use Rattle.hd_links.proofs.Types.{Ordered, above_in, in_cases, types_ascend, types_some}
 use Rattle.hd_links.proofs.Ways.{some_zero, some_own}
 use Rattle.hd_links.proofs.Sound.{are_linked}

@@ -1,7 +1,6 @@
-use Rattle.std.proofs.Common.{◌≡◌, ℕ, true, length, Ok, ap, sym, subst, ◌∙◌}
+use Rattle.std.proofs.Common.{◌≡◌, true, length, subst}
 use Rattle.hd_links.specs.Links.{Links, is_child_type}
 use Rattle.hd_image.specs.Records.{links_of}
-use Rattle.hd_forest.specs.Walks.{HasForest}
 use Rattle.hd_forest.specs.Twins.{IsBehind}
 use Rattle.hd_forest.proofs.Reading.{after-read, sound-before, links-kept, volume-kept}
 use Rattle.hd_forest.proofs.Held.{held}

@@ -1,4 +1,4 @@
-use Rattle.std.proofs.Common.{◌≡◌, ◌<◌, ◌⊎◌, ℕ, true, length, Ok, Some, ap, sym, subst, ◌∙◌, refl, inl, inr, arith}
+use Rattle.std.proofs.Common.{◌≡◌, ◌<◌, length, Ok, Some, ap, sym, subst, ◌∙◌, refl, inl, inr}
 use Rattle.hd_links.specs.Links.{Links, IsSegment}
 use Rattle.hd_links.specs.Changes.{CanUnlink}
 use Rattle.hd_links.proofs.Build.{zero_or}
