@@ -80,9 +80,9 @@ fn sibling_before<S: BlockStore>(
     last_child_before(volume, dbd, parent, Some(code))
 }
 
-/// The path of the row before the last row of a path, empty before the first row. No memory is taken. Where the types on the way
-/// keep twin backward and last child, three segments are read on each level at most; else also the twins before the row, or those up
-/// to the last.
+/// The path of the row before the last row of a path, empty before the first row. No memory is taken. The row is read, its parent, and
+/// each row from the one before it down to the one that is found; where a type on the way keeps no twin backward or last child, also
+/// its twins from the first on.
 pub fn row_before<S: BlockStore>(
     volume: &mut Volume<S>,
     dbd: &Dbd,

@@ -19,3 +19,10 @@ pub use law::{
 };
 pub use levels::Levels;
 pub use position::{LastType, Position, row_on};
+
+#[cfg(test)]
+mod random_tests;
+#[cfg(test)]
+mod test_volumes;
+#[cfg(test)]
+mod tests;
