@@ -4,7 +4,7 @@ use Rattle.std.specs.Option.{option_map_or}
 use Rattle.hd_dbd.specs.Types.{SegmentType}
 use Rattle.hd_prefix.specs.declared.pointer.Pointer.TheVariants.{FirstChild}
 use Rattle.hd_prefix.specs.Fields.{code_of, pointer_of}
-use Rattle.hd_links.specs.Links.{Links}
+use Rattle.hd_links.specs.Links.{Links, child_types}
 use Rattle.hd_links.specs.Steps.{first_some}
 
 -- the first child of a stored segment, of these types in order; 0 for none
@@ -26,3 +26,7 @@ abbrev pub last_named_in : List SegmentType → List ℕ → Option ℕ → ℕ 
 last_named_in types segment end last [] = last
 last_named_in types segment end last (t ∷ ts) =
     cond (comes_before end t) (last_named_in types segment end (cond (pointer_of types (code_of segment) (FirstChild t) segment == 0) last t) ts) last
+
+-- the last child type of which the segment h has rows, up to before one if one is given; 0 for none
+abbrev pub last_type_of : List SegmentType → Links → ℕ → Option ℕ → ℕ
+last_type_of types m h end = last_named m h end 0 (child_types types (m.code h))

@@ -73,6 +73,13 @@ types_ascend types c = elim (cases_eq c 0) [
   | inr ne ↦ subst Ascending (sym (cond-false (c == 0) (1 ∷ []) (children_of types c) (ne_eqb c 0 ne))) (children_ascend c 1 types)
 ]
 
+-- and each has a code
+pub types_some : (types : List SegmentType) (c : ℕ) → AllAbove 0 (child_types types c)
+types_some types c = elim (cases_eq c 0) [
+  | inl e ↦ subst (AllAbove 0) (sym (cond-true (c == 0) (1 ∷ []) (children_of types c) (eq-eqb c 0 e))) (omega arith, tt)
+  | inr ne ↦ subst (AllAbove 0) (sym (cond-false (c == 0) (1 ∷ []) (children_of types c) (ne_eqb c 0 ne))) (children_above 0 c 1 types (omega arith))
+]
+
 -- a child in the list: its type
 record Child (p k t : ℕ) (ts : List SegmentType) : Type 0 where
   place : ℕ

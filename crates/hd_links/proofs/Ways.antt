@@ -69,7 +69,7 @@ head_is types m c b (node r k n) (t ∷ ts) l h a w = elim (cases_eq r.segment.c
       ∙ sym (some_zero (first_of (node r k n) t) (among (first_of (node r k n)) ts) z))
 ]
 
-later_own : (c : ℕ) (ts : List ℕ) → AllAbove c ts → later_than c ts ≡ ts
+pub later_own : (c : ℕ) (ts : List ℕ) → AllAbove c ts → later_than c ts ≡ ts
 later_own c [] a = refl
 later_own c (t ∷ ts) a = cond-true _ _ _ (lt-ltb c t a.0)
 

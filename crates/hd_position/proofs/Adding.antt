@@ -1,9 +1,9 @@
 -- Rows that go in one behind the other, as together.
-use Rattle.std.proofs.Common.{◌≡◌, ℕ, ◌+◌, ◌<◌, ◌≤◌, List, [], ◌∷◌, ap, ap₂, sym, ◌∙◌, refl, arith, inl, inr, Option, Some, None}
-use Rattle.std.specs.Prelude.{map, option_map, cond, nat_lt, nat_le}
-use Rattle.std.proofs.lemmas.Bool.{cases_lt, cond-true, cond-false, lt-ltb, le-ltb, le-leb, lt-leb}
+use Rattle.std.proofs.Common.{◌≡◌, ℕ, ◌+◌, List, [], ◌∷◌, ap, ap₂, sym, ◌∙◌, refl, arith, inl, inr, Option, Some, None}
+use Rattle.std.specs.Prelude.{map, option_map, nat_lt}
+use Rattle.std.proofs.lemmas.Bool.{cases_lt, cond-true, cond-false, lt-ltb, le-ltb}
 use Rattle.hd_dbd.specs.Positions.{Position}
-use Rattle.hd_calls.specs.Moves.{number_after_insert, passed_after_insert, position_after_insert}
+use Rattle.hd_calls.specs.Moves.{number_after_insert, passed_after_insert}
 use Rattle.hd_position.specs.Laws.{InsertionsAddUp}
 use Rattle.hd_position.proofs.Splices.{rises, stays}
 

@@ -20,7 +20,7 @@ use Rattle.hd_links.proofs.PathSteps.{path_length}
 use Rattle.hd_links.proofs.RowBounds.{fewer_rows}
 use Rattle.hd_links.proofs.Sound.{are_linked}
 use Rattle.hd_position.specs.Kept.{path_passed}
-use Rattle.hd_position.specs.Laws.{IsHeld, TheRowBeforeIsOne, PathsAreLevels, RowsAreFew}
+use Rattle.hd_position.specs.Laws.{TheRowBeforeIsOne, PathsAreLevels, RowsAreFew}
 use Rattle.hd_position.proofs.Leaves.{Grounds, grounds}
 
 -- a twin in a chain is a segment

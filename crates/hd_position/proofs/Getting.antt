@@ -3,7 +3,6 @@ use Rattle.std.proofs.Common.{◌≡◌, ℕ, zero, suc, ◌+◌, ◌<◌, ◌�
 use Rattle.std.specs.Prelude.{map, slice_get, option_map, cond}
 use Rattle.std.proofs.lemmas.List.{length-map, length-append}
 use Rattle.hd_dbd.specs.Types.{SegmentType}
-use Rattle.hd_dbd.specs.Segment.{Segment}
 use Rattle.hd_dbd.specs.Paths.{row_at, level_at, path_above, path_of}
 use Rattle.hd_dbd.specs.Positions.{Position, Place}
 use Rattle.hd_dbd.specs.Forest.{Forest}
@@ -12,13 +11,12 @@ use Rattle.hd_calls.specs.declared.call.GetKind.TheVariants.{Unique, Next, NextI
 use Rattle.hd_calls.specs.Gets.{onto, parent_after}
 use Rattle.hd_links.specs.Links.{Links}
 use Rattle.hd_links.specs.Placed.{Placed}
-use Rattle.hd_links.specs.Steps.{rows_of, address_at, path_at, RowsHaveAddresses}
-use Rattle.hd_links.proofs.Numbers.{rows_addressed}
+use Rattle.hd_links.specs.Steps.{rows_of, address_at, RowsHaveAddresses}
 use Rattle.hd_forest.specs.Walks.{AreSegments, next_on}
 use Rattle.hd_forest.specs.Rows.{path_to, IsOnRow, StepsGoToRows}
 use Rattle.hd_position.specs.Kept.{Kept, StandsFor, AreRowsOn, path_passed, path_before, row_on}
 use Rattle.hd_position.specs.Standing.{standing_on, parent_kept}
-use Rattle.hd_position.specs.Gets.{IsAt, AreTaken, KeepsParent}
+use Rattle.hd_position.specs.Gets.{AreTaken, KeepsParent}
 use Rattle.hd_position.proofs.Rising.{row_on_map}
 use Rattle.hd_position.proofs.Splices.{AllBelow, below_more}
 use Rattle.hd_position.proofs.Falling.{get_below}

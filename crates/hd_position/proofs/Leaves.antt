@@ -21,7 +21,7 @@ use Rattle.hd_dbd.proofs.InSequence.{in_sequence}
 use Rattle.hd_links.specs.Links.{Links, IsLinkGraph, is_child_type}
 use Rattle.hd_links.specs.Placed.{Placed, Holds, forest_of}
 use Rattle.hd_links.specs.Changes.{linked, with_leaf, AgreeAt, CanLink}
-use Rattle.hd_links.specs.Steps.{rows_of, addresses, address_at, is_child_row, path_at, RowsHaveAddresses, StepsAreRows}
+use Rattle.hd_links.specs.Steps.{rows_of, addresses, address_at, is_child_row, RowsHaveAddresses, StepsAreRows}
 use Rattle.hd_links.specs.Numbers.{LeafGoesInAt}
 use Rattle.hd_links.proofs.Types.{Ordered, ordered, above_some}
 use Rattle.hd_links.proofs.Numbers.{rows_addressed, rows_length}

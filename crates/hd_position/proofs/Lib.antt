@@ -11,3 +11,6 @@ pub mod Adding
 pub mod Getting
 pub mod Rewriting
 pub mod VolumeMoves
+pub mod Ends
+pub mod Backing
+pub mod Siblings

@@ -1,21 +1,18 @@
 -- A row that gets new bytes ends the holds of it.
-use Rattle.std.proofs.Common.{◌≡◌, ℕ, zero, suc, ◌<◌, ◌≤◌, List, [], ◌∷◌, length, Bool, true, false, cond, ◌||◌, arith, ap, ap₂, sym, ◌∙◌, subst, refl, inl, inr, Option, Some, None}
+use Rattle.std.proofs.Common.{◌≡◌, ℕ, zero, suc, ◌<◌, List, [], ◌∷◌, length, Bool, true, false, cond, ◌||◌, ap, ap₂, sym, ◌∙◌, subst, refl, inl, inr, Option, Some, None}
 use Rattle.std.specs.Prelude.{map, option_map, ◌==◌}
 use Rattle.std.specs.Option.{option_eq}
 use Rattle.std.specs.List.{list_any}
 use Rattle.std.proofs.lemmas.Bool.{cases_Bool, cases_eq, cond-true, cond-false, eq-eqb, ne_eqb}
-use Rattle.hd_dbd.specs.Types.{SegmentType}
-use Rattle.hd_dbd.specs.Positions.{Position}
 use Rattle.hd_dbd.specs.Forest.{Forest}
-use Rattle.hd_calls.specs.Gets.{unheld}
-use Rattle.hd_calls.specs.Moves.{Rewrite, is_rewritten, position_after_rewrite}
+use Rattle.hd_calls.specs.Moves.{is_rewritten, position_after_rewrite}
 use Rattle.hd_links.specs.Links.{Links}
 use Rattle.hd_links.specs.Placed.{Placed}
 use Rattle.hd_links.specs.Changes.{with_bytes}
 use Rattle.hd_links.specs.Steps.{rows_of, address_at, RowsHaveAddresses}
 use Rattle.hd_links.proofs.Numbers.{rows_addressed}
 use Rattle.hd_links.proofs.RowChanges.{bytes_in}
-use Rattle.hd_position.specs.Kept.{Kept, StandsFor, AreRowsOn, path_passed, row_on, is_held, without_hold, after_rewrite}
+use Rattle.hd_position.specs.Kept.{StandsFor, AreRowsOn, path_passed, row_on, is_held, without_hold}
 use Rattle.hd_position.specs.Laws.{EndedHoldsHoldNothing, RewritingEndsHolds, RewritesAddUp}
 use Rattle.hd_position.proofs.Splices.{AllBelow, below_more}
 use Rattle.hd_position.proofs.Rising.{row_on_map}

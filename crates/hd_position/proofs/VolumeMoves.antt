@@ -1,7 +1,6 @@
 -- How the calls that change a volume move what is kept of a PCB.
-use Rattle.std.proofs.Common.{◌≡◌, ℕ, ◌<◌, List, length, sym, ap, subst, ◌∙◌}
+use Rattle.std.proofs.Common.{◌≡◌, ℕ, List, length, sym, ap, subst, ◌∙◌}
 use Rattle.hd_dbd.specs.Paths.{level_at}
-use Rattle.hd_dbd.specs.Forest.{Forest}
 use Rattle.hd_links.specs.Links.{Links}
 use Rattle.hd_links.specs.Placed.{Placed}
 use Rattle.hd_links.specs.Changes.{CanUnlink, without_span}

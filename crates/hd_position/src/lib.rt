@@ -1,11 +1,13 @@
 //! Where a PCB is in a volume, by addresses of rows, and how that moves when rows are put in and taken out.
 #![tactic(auto)]
 
+mod back;
 mod gets;
 mod law;
 mod levels;
 mod position;
 
+pub use back::row_before;
 pub use gets::{begin, stand};
 pub use law::{
     law_ended_holds_hold_nothing, law_forests_of_volumes_are_held, law_insertions_add_up,
@@ -17,3 +19,10 @@ pub use law::{
 };
 pub use levels::Levels;
 pub use position::{LastType, Position, row_on};
+
+#[cfg(test)]
+mod random_tests;
+#[cfg(test)]
+mod test_volumes;
+#[cfg(test)]
+mod tests;
