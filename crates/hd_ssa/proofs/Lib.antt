@@ -1,0 +1,5 @@
+pub mod Groups
+pub mod Heads
+pub mod Past
+pub mod Bounds
+pub mod Resolving

@@ -1,0 +1,4 @@
+pub mod Texts
+pub mod LeastKeys
+pub mod Questions
+pub mod Named

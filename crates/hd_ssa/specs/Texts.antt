@@ -1,0 +1,19 @@
+-- A qualification judged by its text.
+use Rattle.std.specs.Prelude.{ℕ, List, [], ◌∷◌, Bool, false, ◌&&◌, ◌||◌}
+use Rattle.std.specs.List.{list_any, list_all}
+use Rattle.std.specs.Result.{result_unwrap_or}
+use Rattle.hd_dbd.specs.Types.{SegmentType}
+use Rattle.hd_calls.specs.Ssas.{Comparison, read_groups, read_qualification}
+
+-- the groups of a text that is a qualification
+abbrev pub groups_in : SegmentType → List ℕ → List (List Comparison)
+groups_in t text = result_unwrap_or (read_qualification t text) []
+
+-- the groups of a text of fewer than n comparisons
+abbrev pub groups_within : SegmentType → ℕ → List ℕ → List (List Comparison)
+groups_within t n text = result_unwrap_or (read_groups t n text) []
+
+-- some group passes a test, where the first has begun with this truth
+abbrev pub passes_behind : (Comparison → Bool) → Bool → List (List Comparison) → Bool
+passes_behind test so_far [] = false
+passes_behind test so_far (group ∷ groups) = so_far && list_all test group || list_any (λ g. list_all test g) groups

@@ -1,0 +1,14 @@
+//! Segment search arguments: how their bytes are read, which types and fields they name, and which rows have what they ask.
+#![tactic(auto)]
+
+mod comparison;
+mod fault;
+mod head;
+mod named;
+mod qualification;
+mod question;
+mod resolution;
+
+pub use fault::SsaFault;
+pub use head::Ssa;
+pub use resolution::{Resolved, ResolvedSsa, resolve};

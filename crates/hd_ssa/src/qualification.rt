@@ -1,0 +1,199 @@
+ghost use Rattle.std.specs.Prelude.{◌≡◌, ◌∷◌, [], Ok, Err, Some, None, IfErr, OnOk, option_map, option_copied};
+ghost use Rattle.std.specs.List.{list_any, list_all};
+ghost use Rattle.hd_calls.specs.Ssas.{read_qualification};
+ghost use Rattle.hd_calls.specs.Satisfies.{is_true_of};
+ghost use Rattle.hd_seek.specs.Keys.{are_groups_past};
+ghost use Rattle.hd_ssa.specs.Texts.{groups_in};
+ghost use Rattle.hd_ssa.specs.Questions.{passes};
+ghost use Rattle.hd_ssa.specs.LeastKeys.{bound_of, greater_of, lesser_of, least_bound};
+
+use crate::comparison::ComparisonRead;
+use crate::question::Question;
+use hd_dbd::{Key, SegType, Status};
+use std::marker::Model;
+
+/// A qualification, by its text in the call and the type of which it speaks. It takes no memory: whoever asks reads the text again.
+#[derive(Debug, Drop)]
+pub struct Qualification<'a> {
+    segment: &'a SegType,
+    text: &'a [u8],
+}
+
+impl<'a> Model for Qualification<'a> {
+    ghost use Rattle.std.specs.Prelude.{List, ◌≡◌, Ok};
+    ghost use Rattle.hd_calls.specs.Ssas.{Comparison, read_qualification};
+    ghost use Rattle.hd_ssa.specs.Texts.{groups_in};
+
+    ghost Value = { List (List Comparison) };
+
+    ghost view = { λ q. groups_in q.segment.now q.text.now };
+
+    ghost invariant = { λ q. read_qualification q.segment.now q.text.now ≡ Ok (groups_in q.segment.now q.text.now) };
+}
+
+impl<'a> Qualification<'a> {
+    /// The qualification with which a text begins, as far as its closing bracket; else the first fault in it.
+    pub fn read(segment: &'a SegType, text: &'a [u8]) -> Result<Qualification<'a>, Status>
+        ensures { result ≡ read_qualification segment.now text.now }
+    {
+        check_comparisons(segment, text)?;
+        Ok(Qualification { segment, text })
+    }
+
+    /// Whether all comparisons of one of the groups are true of a segment's bytes.
+    pub fn holds(&self, bytes: &[u8]) -> bool
+        ensures { result ≡ list_any (λ group. list_all (λ c. is_true_of bytes.now c) group) self.now }
+    {
+        some_group_passes(self.segment, self.text, Question::IsTrue(bytes))
+    }
+
+    /// Whether the key in a segment's bytes is past a comparison of each group.
+    pub fn is_past(&self, key: Key, bytes: &[u8]) -> bool
+        ensures { result ≡ are_groups_past key bytes.now self.now }
+    {
+        !some_group_passes(self.segment, self.text, Question::IsNotPast(key, bytes))
+    }
+
+    /// The least of the groups' greatest bounds of the key.
+    pub fn least_bound(&self, key: Key) -> Option<&'a [u8]>
+        ensures { option_copied result ≡ least_bound key None self.now }
+    {
+        least_bound(self.segment, self.text, key)
+    }
+}
+
+/// The first fault of a text that begins with no qualification.
+fn check_comparisons(segment: &SegType, text: &[u8]) -> Result<(), Status>
+    ensures ok { OnOk result (read_qualification segment.now text.now ≡ Ok (groups_in segment.now text.now)) }
+    ensures fault { IfErr result (λ e. read_qualification segment.now text.now ≡ Err e) }
+{
+    let mut rest = text;
+    for step in 0..text.len() {
+        let _ = step;
+        let read = match ComparisonRead::read(segment, rest) {
+            Ok(read) => read,
+            Err(status) => return Err(status),
+        };
+        if read.closes() {
+            return Ok(());
+        }
+        if !read.connects() {
+            return Err(Status::AJ);
+        }
+        rest = read.rest();
+    }
+    Err(Status::AJ)
+}
+
+/// Whether all comparisons of one of the groups of a qualification pass.
+fn some_group_passes(segment: &SegType, text: &[u8], question: Question<'_>) -> bool
+    requires { read_qualification segment.now text.now ≡ Ok (groups_in segment.now text.now) }
+    ensures { result ≡ list_any (λ group. list_all (λ c. passes question.entry c) group) (groups_in segment.now text.now) }
+{
+    let mut rest = text;
+    let mut so_far = true;
+    for step in 0..text.len() {
+        let _ = step;
+        let read = match ComparisonRead::read(segment, rest) {
+            Ok(read) => read,
+            Err(_) => return false,
+        };
+        so_far = question.is_passed(so_far, &read);
+        if read.closes() {
+            return so_far;
+        }
+        if !read.connects() {
+            return false;
+        }
+        if read.joins() {
+            rest = read.rest();
+            continue;
+        }
+        if so_far {
+            return true;
+        }
+        so_far = true;
+        rest = read.rest();
+    }
+    false
+}
+
+/// The second of two keys, where it is the greater or the only one.
+fn greater_of<'a>(first: Option<&'a [u8]>, second: Option<&'a [u8]>) -> Option<&'a [u8]>
+    ensures { option_copied result ≡ greater_of (option_copied first.entry) (option_copied second.entry) }
+{
+    match (first, second) {
+        (None, second) => second,
+        (first, None) => first,
+        (Some(one), Some(other)) => {
+            if one.cmp(other).is_lt() {
+                Some(other)
+            } else {
+                Some(one)
+            }
+        }
+    }
+}
+
+/// The greatest bound of the comparisons so far in a group and one more, if one of them has a bound.
+fn with_comparison<'a>(
+    bound: Option<&'a [u8]>,
+    read: &ComparisonRead<'a>,
+    key: Key,
+) -> Option<&'a [u8]>
+    ensures { option_copied result ≡ greater_of (option_copied bound.entry) (bound_of key read.now.comparison) }
+{
+    greater_of(bound, read.comparison.bound_of(key))
+}
+
+/// The least bound of the groups so far and one more, if that has a bound.
+fn with_group<'a>(least: Option<&'a [u8]>, bound: Option<&'a [u8]>) -> Option<&'a [u8]>
+    ensures { option_copied result ≡ option_map (λ b. lesser_of (option_copied least.entry) b) (option_copied bound.entry) }
+{
+    let bound = bound?;
+    match least {
+        Some(least) => {
+            if bound.cmp(least).is_lt() {
+                Some(bound)
+            } else {
+                Some(least)
+            }
+        }
+        None => Some(bound),
+    }
+}
+
+/// The least of the groups' greatest bounds of a key.
+fn least_bound<'a>(segment: &SegType, text: &'a [u8], key: Key) -> Option<&'a [u8]>
+    requires { read_qualification segment.now text.now ≡ Ok (groups_in segment.now text.now) }
+    ensures { option_copied result ≡ least_bound key None (groups_in segment.now text.now) }
+{
+    let mut rest = text;
+    let mut bound = None;
+    let mut least = None;
+    for step in 0..text.len() {
+        let _ = step;
+        let read = match ComparisonRead::read(segment, rest) {
+            Ok(read) => read,
+            Err(_) => return None,
+        };
+        bound = with_comparison(bound, &read, key);
+        if read.closes() {
+            return with_group(least, bound);
+        }
+        if !read.connects() {
+            return None;
+        }
+        if read.joins() {
+            rest = read.rest();
+            continue;
+        }
+        least = with_group(least, bound);
+        if least.is_none() {
+            return None;
+        }
+        bound = None;
+        rest = read.rest();
+    }
+    None
+}
