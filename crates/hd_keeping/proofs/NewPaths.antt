@@ -5,13 +5,11 @@ use Rattle.std.specs.List.{list_any}
 use Rattle.std.proofs.lemmas.Bool.{eq-eqb, or_left}
 use Rattle.std.proofs.lemmas.List.{append_assoc, length-append, length-take-le, length-map, take_at, drop_at, get_or_at}
 use Rattle.std.proofs.lemmas.List.Folds.{list_any-append}
-use Rattle.hd_dbd.specs.Hierarchy.{Database}
 use Rattle.hd_dbd.specs.Segment.{Segment}
 use Rattle.hd_dbd.specs.Forest.{Forest, sequence}
 use Rattle.hd_calls.specs.Moves.{inserted, put_in}
 use Rattle.hd_calls.specs.Runs.{has_root, blocks_for}
 use Rattle.hd_volume.specs.Headers.{Header}
-use Rattle.hd_volume.specs.Volumes.{VolumeState}
 use Rattle.hd_volume.specs.Rooms.{spare}
 use Rattle.hd_volume.specs.Indexes.{index_growth}
 use Rattle.hd_links.specs.Links.{is_child_type}
@@ -24,7 +22,6 @@ use Rattle.hd_links.proofs.Numbers.{rows_length, rows_addressed, map_end}
 use Rattle.hd_image.specs.Records.{links_of}
 use Rattle.hd_image.proofs.Found.{records-link}
 use Rattle.hd_image.proofs.Roots.{header-child}
-use Rattle.hd_forest.specs.Updates.{IsLinked}
 use Rattle.hd_forest.proofs.Agreeing.{agree-trans}
 use Rattle.hd_keeping.specs.VolumeImages.{images_of}
 use Rattle.hd_keeping.specs.NewPaths.{HasNoChild, PathsBeginBelowRows, PathsBeginWithRoots, PathsGoOn, PathsAreInsertions}

@@ -85,3 +85,19 @@ RootRoomLasts =
     → HoldsPlaced d v f → IsLinked d v 0 y row a w → IsEntered d w es (index_growth w) x
     → (spare w ≤ spare x + index_growth w → HasRootRoomFor d v key (row ∷ rest) → HasRoomFor d.types x rest)
     × (v.room ≤ w.room + 1 → w.room ≤ x.room + index_growth w → HasRootMemoryFor v (row ∷ rest) → HasMemoryFor d.types x rest)
+
+-- ---- a call that only looks
+
+-- Two volumes have one image, where one came from the other by calls that only look, or that only reserve memory.
+pub record HaveOneImage (v w : VolumeState) : Type 0 where
+  pub image : w.image ≡ v.image
+  pub size : w.size ≡ v.size
+  pub sizes : w.sizes ≡ v.sizes
+
+-- Volumes of one image hold the same forest, and have the same room.
+abbrev pub OneImageIsOneVolume : Type 0
+OneImageIsOneVolume =
+    (d : Database) (v w : VolumeState) → HaveOneImage v w
+    → ((f : Forest Placed) → HoldsPlaced d v f → HoldsPlaced d w f)
+    × ((rows : List Segment) → HasRoomFor d.types v rows → HasRoomFor d.types w rows)
+    × ((key : List ℕ) (rows : List Segment) → HasRootRoomFor d v key rows → HasRootRoomFor d w key rows)
