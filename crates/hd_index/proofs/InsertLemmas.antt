@@ -229,15 +229,11 @@ absent-left key (x ∷ xs) ys none = by-test (bytes_eq x.key key) none (absent-l
     by-test true none rest = none
     by-test false none rest = rest none
 
--- a change of at most one block
-pub changed-more : {u w : VolumeState} {a b : ℕ} → a ≤ b → IsIndexChange u a w → IsIndexChange u b w
-changed-more low h = record { segments = h.segments; data_blocks = h.data_blocks; others = h.others; kinds = h.kinds; count = h.count; grows = (let g = h.grows in omega arith); header = h.header; holes = h.holes }
-
 -- the entry comes to its place
-pub entered : (k : ℕ) (u w : VolumeState) (e : Entry) (spot : Spot) (more : ℕ) → more ≤ 1 → 0 < u.size → HasIndex k u → address_of e.key (entries k u) ≡ None → IsSpot k u e.key spot
+pub entered : (k : ℕ) (u w : VolumeState) (e : Entry) (spot : Spot) (more : ℕ) → 0 < u.size → HasIndex k u → address_of e.key (entries k u) ≡ None → IsSpot k u e.key spot
     → IsSpliced k u spot.block (take spot.index (entries_in k (block_at u spot.block)) ++ (e ∷ drop spot.index (entries_in k (block_at u spot.block)))) more w
-    → IsChanged k u (with_entry e (entries k u)) 1 w
-entered k u w e spot more few some h none s splice =
+    → IsChanged k u (with_entry e (entries k u)) more w
+entered k u w e spot more some h none s splice =
     let n : ℕ = spot.block in
     let i : ℕ = spot.index in
     let place : Place = record { block = n; index = i } in
@@ -254,8 +250,7 @@ entered k u w e spot more few some h none s splice =
     ∙ ap (λ (t : List Entry). front ++ t)
     (with-here e es rest (absent-left e.key es rest here) last ∙ ap (λ (j : ℕ). take j es ++ (e ∷ (drop j es ++ rest))) (sym at) ∙ sym (append_assoc (take i es) (e ∷ drop i es) rest)) in
     let r = spliced k u w e.key place new more some h s.at splice (ap keys_ascend (sym all) ∙ ascend-with e (entries k u) h.ascend none) in
-    let spares = splice.step.spares in
-    record { size = splice.step.size; index = r.0; entries = r.1 ∙ sym all; change = changed-more few splice.step.change; spares = omega arith }
+    record { size = splice.step.size; index = r.0; entries = r.1 ∙ sym all; change = splice.step.change; spares = splice.step.spares }
 
 -- the first entry is the one more
 pub first-entered : (k : ℕ) (u w : VolumeState) (e : Entry) → entry_blocks u ≡ [] → IsChanged k u (e ∷ []) 1 w → IsChanged k u (with_entry e (entries k u)) 1 w

@@ -1,7 +1,7 @@
 -- The blocks that a new key needs, where the index stays.
-use Rattle.std.proofs.Common.{◌≡◌, ◌≢◌, inl, inr, ℕ, zero, suc, ◌≤◌, List, Bool, true, false, cond, refl, sym, ap, ◌∙◌, arith}
+use Rattle.std.proofs.Common.{◌≡◌, ◌≢◌, inl, inr, ℕ, zero, suc, ◌<◌, ◌≤◌, List, Bool, true, false, cond, refl, sym, ap, ◌∙◌, arith}
 use Rattle.std.specs.Prelude.{◌==◌, nat_lt}
-use Rattle.std.proofs.lemmas.Bool.{cases_eq}
+use Rattle.std.proofs.lemmas.Bool.{cases_eq, eq-eqb, ne_eqb, lt-ltb, le-ltb}
 use Rattle.hd_volume.specs.Headers.{Header, header_of}
 use Rattle.hd_volume.specs.Volumes.{VolumeState, block_at}
 use Rattle.hd_volume.specs.Calls.{KeepsIndex}
@@ -15,6 +15,26 @@ use Rattle.hd_index.proofs.ChainLemmas.{IsLeft, left-block, left-next, index-lef
 -- where a state has the image of another they are the same
 pub needed-same : (k : ℕ) (u v : VolumeState) (key : List ℕ) → v.size ≡ u.size → v.image ≡ u.image → blocks_needed k v key ≡ blocks_needed k u key
 needed-same k u v key size image = rw (spot-same k u v key size image, size) refl
+
+-- they are told by the spot of the key
+needed-spot : (k : ℕ) (v : VolumeState) (key : List ℕ) (spot : Spot) → spot ≡ spot_of k v key → blocks_needed k v key ≡ cond (spot.block == 0) 1 (cond (nat_lt spot.count (entry_room k v.size)) 0 1)
+needed-spot k v key spot read = ap (λ (s : Spot). cond (s.block == 0) 1 (cond (nat_lt s.count (entry_room k v.size)) 0 1)) (sym read)
+
+-- one where there is no block yet
+pub needed-first : (k : ℕ) (v : VolumeState) (key : List ℕ) (spot : Spot) → spot ≡ spot_of k v key → spot.block ≡ 0 → blocks_needed k v key ≡ 1
+needed-first k v key spot read none = needed-spot k v key spot read ∙ (let e : cond (spot.block == 0) 1 (cond (nat_lt spot.count (entry_room k v.size)) 0 1) ≡ 1 = rw (eq-eqb spot.block 0 none) refl in e)
+
+-- none where the entry finds room in its block
+pub needed-none : (k : ℕ) (v : VolumeState) (key : List ℕ) (spot : Spot) → spot ≡ spot_of k v key → spot.block ≢ 0 → spot.count < entry_room k v.size → blocks_needed k v key ≡ 0
+needed-none k v key spot read some room =
+    needed-spot k v key spot read
+    ∙ (let e : cond (spot.block == 0) 1 (cond (nat_lt spot.count (entry_room k v.size)) 0 1) ≡ 0 = rw (ne_eqb spot.block 0 some, lt-ltb spot.count (entry_room k v.size) room) refl in e)
+
+-- and one where it does not
+pub needed-full : (k : ℕ) (v : VolumeState) (key : List ℕ) (spot : Spot) → spot ≡ spot_of k v key → spot.block ≢ 0 → entry_room k v.size ≤ spot.count → blocks_needed k v key ≡ 1
+needed-full k v key spot read some full =
+    needed-spot k v key spot read
+    ∙ (let e : cond (spot.block == 0) 1 (cond (nat_lt spot.count (entry_room k v.size)) 0 1) ≡ 1 = rw (ne_eqb spot.block 0 some, le-ltb spot.count (entry_room k v.size) full) refl in e)
 
 -- they are never more than the growth
 pub needed-most : (k : ℕ) (v : VolumeState) (key : List ℕ) → blocks_needed k v key ≤ index_growth v

@@ -64,8 +64,8 @@ pub fn insert<S: BlockStore>(
     ensures call { IsCall volume.old result volume.new }
     ensures index { OnOk result (IsTrue volume.old.is_sound → IsIndexOf dbd.now volume.new) }
     ensures entries { OnOk result (IsTrue volume.old.is_sound → entries_for dbd.now volume.new ≡ with_entry (record { key = key.now; address = address }) (entries_for dbd.now volume.old)) }
-    ensures changed { OnOk result (IsTrue volume.old.is_sound → IsIndexChange volume.old (index_growth volume.old) volume.new) }
-    ensures spares { OnOk result (IsTrue volume.old.is_sound → spare volume.old ≤ spare volume.new + index_growth volume.old) }
+    ensures changed { OnOk result (IsTrue volume.old.is_sound → IsIndexChange volume.old (blocks_needed (root_key_length dbd.now.types) volume.old key.now) volume.new) }
+    ensures spares { OnOk result (IsTrue volume.old.is_sound → spare volume.old ≤ spare volume.new + blocks_needed (root_key_length dbd.now.types) volume.old key.now) }
     ensures kept { IfErr result (λ _. IsTrue volume.new.is_sound → volume.new.image ≡ volume.old.image) }
     ensures full { IfErr result (λ e. e ≡ Refused.Full → IsTrue volume.old.is_sound → spare volume.old < blocks_needed (root_key_length dbd.now.types) volume.old key.now) }
     ensures memory { IfErr result (λ e. e ≡ Refused.Memory → volume.old.room < index_growth volume.old) }

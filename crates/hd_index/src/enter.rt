@@ -108,7 +108,7 @@ fn insert_at<S: BlockStore>(
     requires three { entry_place (length key.now) 3 ≤ volume.old.size }
     requires fits { entry_place (length key.now) spot.count ≤ volume.old.size }
     ensures call { IsCall volume.old result volume.new }
-    ensures changed { OnOk result (IsTrue volume.old.is_sound → IsChanged (length key.now) volume.old (with_entry (record { key = key.now; address = address }) (entries (length key.now) volume.old)) 1 volume.new) }
+    ensures changed { OnOk result (IsTrue volume.old.is_sound → IsChanged (length key.now) volume.old (with_entry (record { key = key.now; address = address }) (entries (length key.now) volume.old)) (blocks_needed (length key.now) volume.old key.now) volume.new) }
     ensures refused { IfErr result (λ e. IsRefused volume.old e volume.new) }
     ensures needed { IfErr result (λ e. e ≡ Refused.Full → IsTrue volume.old.is_sound → blocks_needed (length key.now) volume.old key.now ≡ 1) }
     ensures room { IsTrue volume.new.is_sound → volume.old.room ≤ volume.new.room + 1 }
@@ -136,7 +136,7 @@ pub fn insert_key<S: BlockStore>(
     requires short { key_length ≤ 255 }
     requires three { entry_place key_length 3 ≤ volume.old.size }
     ensures call { IsCall volume.old result volume.new }
-    ensures changed { OnOk result (IsTrue volume.old.is_sound → IsChanged (length key.now) volume.old (with_entry (record { key = key.now; address = address }) (entries (length key.now) volume.old)) 1 volume.new) }
+    ensures changed { OnOk result (IsTrue volume.old.is_sound → IsChanged (length key.now) volume.old (with_entry (record { key = key.now; address = address }) (entries (length key.now) volume.old)) (blocks_needed (length key.now) volume.old key.now) volume.new) }
     ensures refused { IfErr result (λ e. IsRefused volume.old e volume.new) }
     ensures needed { IfErr result (λ e. e ≡ Refused.Full → IsTrue volume.old.is_sound → blocks_needed (length key.now) volume.old key.now ≡ 1) }
     ensures room { IsTrue volume.new.is_sound → volume.old.room ≤ volume.new.room + 1 }

@@ -8,3 +8,4 @@ pub mod Rooms
 pub mod VolumeImages
 pub mod Leaves
 pub mod NewPaths
+pub mod RowChanges

@@ -5,15 +5,14 @@ use Rattle.std.specs.List.{list_any}
 use Rattle.std.proofs.lemmas.Bool.{eq-eqb, or_left}
 use Rattle.std.proofs.lemmas.List.{append_assoc, length-append, length-take-le, length-map, take_at, drop_at, get_or_at}
 use Rattle.std.proofs.lemmas.List.Folds.{list_any-append}
-use Rattle.hd_dbd.specs.Hierarchy.{Database}
 use Rattle.hd_dbd.specs.Segment.{Segment}
+use Rattle.hd_dbd.specs.Rows.{key_of}
 use Rattle.hd_dbd.specs.Forest.{Forest, sequence}
 use Rattle.hd_calls.specs.Moves.{inserted, put_in}
 use Rattle.hd_calls.specs.Runs.{has_root, blocks_for}
 use Rattle.hd_volume.specs.Headers.{Header}
-use Rattle.hd_volume.specs.Volumes.{VolumeState}
 use Rattle.hd_volume.specs.Rooms.{spare}
-use Rattle.hd_volume.specs.Indexes.{index_growth}
+use Rattle.hd_volume.specs.Indexes.{root_key_length, index_growth}
 use Rattle.hd_links.specs.Links.{is_child_type}
 use Rattle.hd_links.specs.Placed.{Placed}
 use Rattle.hd_links.specs.Changes.{Agree, linked, CanLink}
@@ -24,8 +23,8 @@ use Rattle.hd_links.proofs.Numbers.{rows_length, rows_addressed, map_end}
 use Rattle.hd_image.specs.Records.{links_of}
 use Rattle.hd_image.proofs.Found.{records-link}
 use Rattle.hd_image.proofs.Roots.{header-child}
-use Rattle.hd_forest.specs.Updates.{IsLinked}
 use Rattle.hd_forest.proofs.Agreeing.{agree-trans}
+use Rattle.hd_index.proofs.NeedLemmas.{needed-most}
 use Rattle.hd_keeping.specs.VolumeImages.{images_of}
 use Rattle.hd_keeping.specs.NewPaths.{HasNoChild, PathsBeginBelowRows, PathsBeginWithRoots, PathsGoOn, PathsAreInsertions}
 use Rattle.hd_keeping.proofs.Leaves.{leaves-take, children-next}
@@ -107,9 +106,9 @@ begin-below d v w f h y n p H some P I =
     }
 
 pub begin-roots : PathsBeginWithRoots
-begin-roots d v w x f y n p H may P I E room =
+begin-roots d v w x f y n more p H may P I E room =
     let records : Agree d.types (linked (links_of d.types v) 0 y p) (links_of d.types x)
-    = agree-trans d.types (linked (links_of d.types v) 0 y p) (links_of d.types w) (links_of d.types x) I.records (agree-index d w x (index_growth w) E.change) in
+    = agree-trans d.types (linked (links_of d.types v) 0 y p) (links_of d.types w) (links_of d.types x) I.records (agree-index d w x more E.change) in
     let leaf = leaves-take d.types (links_of d.types v) (links_of d.types x) 0 y p records in
     let typed : is_child_type d.types ((links_of d.types v).code 0) p.segment.code ≡ true = (may p.address I.free).typed in
     let root : has_root (p.segment ∷ []) ≡ true = or_left (p.segment.code == 1) false (eq-eqb p.segment.code 1 (header-child d.types v p.segment.code typed)) in
@@ -119,14 +118,14 @@ begin-roots d v w x f y n p H may P I E room =
     = ap₂ (λ (b : Bool) (g : ℕ). 1 + cond b g 0) root growth in
     record {
       held = H;
-      holds = linked-root d v w x f y p.address (index_growth w) p.segment H may I E;
+      holds = linked-root d v w x f y p.address more p.segment H may I E;
       within = P.within;
       rows = P.rows ∙ one-in (rows_of f) p.segment n;
       places = P.places ∙ one-in (addresses f) p.address n;
       childless = leaf.0;
       takes = leaf.1;
       largest = ap (λ (z : Header). z.largest) E.change.header ∙ ap (λ (z : Header). z.largest) I.rest.header;
-      spares = (let less : spare v ≤ spare w + 1 = I.spares in omega (arith, less, room, needed));
+      spares = (let less : spare v ≤ spare w + 1 = I.spares in omega (arith, less, room, needed, needed-most (root_key_length d.types) w (key_of d.types p.segment)));
     }
 
 -- ---- one row more

@@ -1,5 +1,5 @@
 -- Room and memory for the rows that one call puts in.
-use Rattle.std.proofs.Common.{◌≡◌, ℕ, ◌+◌, ◌-◌, ◌≤◌, List, ◌∷◌, sym, ◌∙◌, arith, inl, inr}
+use Rattle.std.proofs.Common.{refl, ◌≡◌, ℕ, ◌+◌, ◌-◌, ◌≤◌, List, ◌∷◌, sym, ◌∙◌, arith, inl, inr}
 use Rattle.std.specs.Prelude.{map}
 use Rattle.std.proofs.lemmas.Bool.{cases_eq}
 use Rattle.std.proofs.lemmas.List.Sums.{sum_by-cons}
@@ -14,12 +14,19 @@ use Rattle.hd_volume.specs.Rooms.{spare, HasHole}
 use Rattle.hd_volume.specs.Entries.{Entry}
 use Rattle.hd_volume.specs.Indexes.{root_key_length, index_growth}
 use Rattle.hd_volume.proofs.IndexLemmas.{index-stays}
+use Rattle.hd_volume.proofs.JoinLemmas.{AreOne, one-spare, one-holes}
 use Rattle.hd_links.specs.Placed.{Placed}
 use Rattle.hd_image.specs.Holding.{HoldsPlaced}
+use Rattle.hd_image.proofs.OneImage.{held-same}
 use Rattle.hd_forest.specs.Updates.{IsLinked}
-use Rattle.hd_index.proofs.NeedLemmas.{needed-most, needed-stays}
+use Rattle.hd_index.proofs.NeedLemmas.{needed-same, needed-stays}
 use Rattle.hd_keeping.specs.Entered.{IsEntered}
-use Rattle.hd_keeping.specs.Rooms.{HasRoomFor, HasMemoryFor, FirstRowsFindRoom, RoomLasts, blocks_for_entry, HasRootRoomFor, HasRootMemoryFor, FirstRootsFindRoom, RootEntriesFindRoom, RootRoomLasts}
+use Rattle.hd_keeping.specs.Rooms.{HasRoomFor, HasMemoryFor, FirstRowsFindRoom, RoomLasts, blocks_for_entry, HasRootRoomFor, HasRootMemoryFor, FirstRootsFindRoom, RootEntriesFindRoom, RootRoomLasts, HaveOneImage, OneImageIsOneVolume}
+
+-- an index may need one block for an entry more, in every volume
+pub growth-same : (v w : VolumeState) → index_growth v ≡ index_growth w
+unfolding index_growth
+growth-same v w = refl
 
 -- what rows take is what the first takes, and the rest
 sizes-more : (types : List SegmentType) (row : Segment) (rest : List Segment) → stored_sizes types (row ∷ rest) ≡ stored_size types row.code + stored_sizes types rest
@@ -100,7 +107,7 @@ module _ (d : Database) (v w : VolumeState) (f : Forest Placed) (key : List ℕ)
   entry-room : HasRootRoomFor d v key (row ∷ rest) → blocks_for_entry d w key ≤ spare w
   entry-room (inl enough) =
       (let less : spare v ≤ spare w + 1 = I.spares in
-      omega (arith, less, enough, needed-kept d v w f 0 y a row key H I, needed-most (root_key_length d.types) v key))
+      omega (arith, less, enough, needed-kept d v w f 0 y a row key H I))
   entry-room (inr hole) =
       (let same : spare w ≡ spare v = I.in_hole (hole-first d.types v row rest hole.0) in
       let enough : blocks_for_entry d v key ≤ spare v = hole.1 in
@@ -109,16 +116,38 @@ module _ (d : Database) (v w : VolumeState) (f : Forest Placed) (key : List ℕ)
   entry-memory : v.room ≤ w.room + 1 → HasRootMemoryFor v (row ∷ rest) → index_growth w ≤ w.room
   entry-memory kept enough = omega (arith, kept, enough, growth-kept d v w f 0 y a row H I)
 
-  module _ (x : VolumeState) (es : List Entry) (E : IsEntered d w es (index_growth w) x) where
-    rest-room : spare w ≤ spare x + index_growth w → HasRootRoomFor d v key (row ∷ rest) → HasRoomFor d.types x rest
-    rest-room spares (inl enough) = inl (let less : spare v ≤ spare w + 1 = I.spares in omega (arith, spares, enough, less, growth-kept d v w f 0 y a row H I))
+  module _ (x : VolumeState) (es : List Entry) (more : ℕ) (E : IsEntered d w es more x) where
+    rest-room : spare w ≤ spare x + blocks_for_entry d w key → HasRootRoomFor d v key (row ∷ rest) → HasRoomFor d.types x rest
+    rest-room spares (inl enough) = inl (let less : spare v ≤ spare w + 1 = I.spares in omega (arith, spares, enough, less, needed-kept d v w f 0 y a row key H I))
     rest-room spares (inr hole) = inr (E.change.holes (stored_sizes d.types rest) (hole-left d v w 0 y a row rest I hole.0))
 
     rest-memory : v.room ≤ w.room + 1 → w.room ≤ x.room + index_growth w → HasRootMemoryFor v (row ∷ rest) → HasMemoryFor d.types x rest
-    rest-memory kept more enough = inl (omega (arith, kept, more, enough, growth-kept d v w f 0 y a row H I))
+    rest-memory kept left enough = inl (omega (arith, kept, left, enough, growth-kept d v w f 0 y a row H I))
 
 pub entries-room : RootEntriesFindRoom
 entries-room d v w f key y a row rest H I = (entry-room d v w f key y a row rest H I, entry-memory d v w f key y a row rest H I)
 
 pub root-room-lasts : RootRoomLasts
-root-room-lasts d v w x f es key y a row rest H I E = (rest-room d v w f key y a row rest H I x es E, rest-memory d v w f key y a row rest H I x es E)
+root-room-lasts d v w x f es more key y a row rest H I E = (rest-room d v w f key y a row rest H I x es more E, rest-memory d v w f key y a row rest H I x es more E)
+
+-- ---- a call that only looks
+
+module _ (d : Database) (v w : VolumeState) (S : HaveOneImage v w) where
+  one : AreOne v w
+  one = record { same = record { size = S.size; sizes = S.sizes }; image = S.image }
+
+  room-same : (rows : List Segment) → HasRoomFor d.types v rows → HasRoomFor d.types w rows
+  room-same rows (inl enough) = inl (omega (arith, enough, one-spare one))
+  room-same rows (inr hole) = inr (one-holes one (stored_sizes d.types rows) hole)
+
+  root-room-same : (key : List ℕ) (rows : List Segment) → HasRootRoomFor d v key rows → HasRootRoomFor d w key rows
+  root-room-same key rows (inl enough) = inl (omega (arith, enough, one-spare one, needed-same (root_key_length d.types) v w key S.size S.image))
+  root-room-same key rows (inr hole) = inr (
+    one-holes one (stored_sizes d.types rows) hole.0,
+    (let enough : blocks_for_entry d v key ≤ spare v = hole.1 in
+        let needed : blocks_for_entry d w key ≡ blocks_for_entry d v key = needed-same (root_key_length d.types) v w key S.size S.image in
+        omega (arith, enough, needed, one-spare one)),
+  )
+
+pub one-volume : OneImageIsOneVolume
+one-volume d v w S = (held-same d v w S.image S.size S.sizes, room-same d v w S, root-room-same d v w S)

@@ -15,6 +15,7 @@ use Rattle.hd_links.proofs.Unique.{unique}
 use Rattle.hd_image.specs.Records.{links_of, IsVolumeOf}
 use Rattle.hd_image.specs.Holding.{HoldsPlaced, volume_of}
 use Rattle.hd_image.proofs.OneImage.{held-same}
+use Rattle.hd_keeping.proofs.Rooms.{growth-same}
 use Rattle.hd_keeping.specs.VolumeImages.{HoldsRowsAt, images_of, VolumesHoldTheirRows, VolumesHaveTheirRoom, LackingRoomIsTheRule, VolumesFollow}
 
 -- the volume of a volume's bytes is the volume, but for what the store counts
@@ -45,10 +46,6 @@ hold-rows d v f H = (
 )
 
 -- ---- room
-
-growth-same : (v w : VolumeState) → index_growth v ≡ index_growth w
-unfolding index_growth
-growth-same v w = refl
 
 pub have-room : VolumesHaveTheirRoom
 have-room d v V =

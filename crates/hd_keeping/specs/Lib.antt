@@ -5,3 +5,4 @@ pub mod Laws
 pub mod Rooms
 pub mod VolumeImages
 pub mod NewPaths
+pub mod RowChanges

@@ -5,14 +5,13 @@ use Rattle.hd_dbd.specs.Types.{SegmentType}
 use Rattle.hd_dbd.specs.Hierarchy.{Database}
 use Rattle.hd_dbd.specs.DatabaseRules.{well_formed}
 use Rattle.hd_dbd.specs.Segment.{Segment}
-use Rattle.hd_dbd.specs.Rows.{row_fits}
+use Rattle.hd_dbd.specs.Rows.{row_fits, key_of}
 use Rattle.hd_dbd.specs.Forest.{Forest}
 use Rattle.hd_calls.specs.Moves.{inserted, put_in}
 use Rattle.hd_calls.specs.Runs.{blocks_for, Follows}
 use Rattle.hd_volume.specs.Headers.{header_of}
 use Rattle.hd_volume.specs.Volumes.{VolumeState}
 use Rattle.hd_volume.specs.Rooms.{spare}
-use Rattle.hd_volume.specs.Indexes.{index_growth}
 use Rattle.hd_links.specs.Links.{Links, IsLinkGraph, is_child_type}
 use Rattle.hd_links.specs.Placed.{Placed, Holds}
 use Rattle.hd_links.specs.Changes.{Agree, linked, with_leaf, CanLink}
@@ -25,6 +24,7 @@ use Rattle.hd_forest.specs.Updates.{MayLink, IsLinked}
 use Rattle.hd_index.specs.Maps.{with_entry}
 use Rattle.hd_index.specs.Changes.{entries_for}
 use Rattle.hd_keeping.specs.Entered.{entry_of, IsEntered}
+use Rattle.hd_keeping.specs.Rooms.{blocks_for_entry}
 use Rattle.hd_keeping.specs.VolumeImages.{images_of}
 
 -- ---- below a leaf
@@ -74,9 +74,9 @@ PathsBeginBelowRows =
 -- So does a root that is linked, and then entered into the index.
 abbrev pub PathsBeginWithRoots : Type 0
 PathsBeginWithRoots =
-    (d : Database) (v w x : VolumeState) (f : Forest Placed) (y n : ℕ) (p : Placed) → HoldsPlaced d v f
+    (d : Database) (v w x : VolumeState) (f : Forest Placed) (y n more : ℕ) (p : Placed) → HoldsPlaced d v f
     → MayLink d.types (links_of d.types v) 0 y p.segment → LeafGoesInAt d.types f 0 y p n → IsLinked d v 0 y p.segment p.address w
-    → IsEntered d w (with_entry (entry_of d.types p) (entries_for d w)) (index_growth w) x → spare w ≤ spare x + index_growth w
+    → IsEntered d w (with_entry (entry_of d.types p) (entries_for d w)) more x → spare w ≤ spare x + blocks_for_entry d w (key_of d.types p.segment)
     → IsPathIn d v f n [] p x (with_leaf 0 y p f)
 
 -- A row that is linked below the last of a path is one row more on it.

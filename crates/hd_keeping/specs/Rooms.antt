@@ -55,10 +55,11 @@ RoomLasts =
 abbrev pub blocks_for_entry : Database → VolumeState → List ℕ → ℕ
 blocks_for_entry d v key = blocks_needed (root_key_length d.types) v key
 
--- There is room for a root of the key, the rows below it, and the root's entry: as many blocks are to spare as all may need; or one
--- hole is as large as all rows together, and the blocks that the entry needs are to spare.
+-- There is room for a root of the key, the rows below it, and the root's entry: the blocks that the entry needs are to spare, and
+-- beside them one for each row, or one hole is as large as all rows together.
 abbrev pub HasRootRoomFor : Database → VolumeState → List ℕ → List Segment → Type 0
-HasRootRoomFor d v key rows = (length rows + index_growth v ≤ spare v) ⊎ (HasHole v (stored_sizes d.types rows) × (blocks_for_entry d v key ≤ spare v))
+HasRootRoomFor d v key rows =
+    (length rows + blocks_for_entry d v key ≤ spare v) ⊎ (HasHole v (stored_sizes d.types rows) × (blocks_for_entry d v key ≤ spare v))
 
 -- Memory is reserved for a root, the rows below it, and the root's entry: for as many blocks as all may need.
 abbrev pub HasRootMemoryFor : VolumeState → List Segment → Type 0
@@ -81,7 +82,23 @@ RootEntriesFindRoom =
 -- Once the root is linked and its entry is in the index, there is room and memory for the rows below.
 abbrev pub RootRoomLasts : Type 0
 RootRoomLasts =
-    (d : Database) (v w x : VolumeState) (f : Forest Placed) (es : List Entry) (key : List ℕ) (y a : ℕ) (row : Segment) (rest : List Segment)
-    → HoldsPlaced d v f → IsLinked d v 0 y row a w → IsEntered d w es (index_growth w) x
-    → (spare w ≤ spare x + index_growth w → HasRootRoomFor d v key (row ∷ rest) → HasRoomFor d.types x rest)
+    (d : Database) (v w x : VolumeState) (f : Forest Placed) (es : List Entry) (more : ℕ) (key : List ℕ) (y a : ℕ) (row : Segment) (rest : List Segment)
+    → HoldsPlaced d v f → IsLinked d v 0 y row a w → IsEntered d w es more x
+    → (spare w ≤ spare x + blocks_for_entry d w key → HasRootRoomFor d v key (row ∷ rest) → HasRoomFor d.types x rest)
     × (v.room ≤ w.room + 1 → w.room ≤ x.room + index_growth w → HasRootMemoryFor v (row ∷ rest) → HasMemoryFor d.types x rest)
+
+-- ---- a call that only looks
+
+-- Two volumes have one image, where one came from the other by calls that only look, or that only reserve memory.
+pub record HaveOneImage (v w : VolumeState) : Type 0 where
+  pub image : w.image ≡ v.image
+  pub size : w.size ≡ v.size
+  pub sizes : w.sizes ≡ v.sizes
+
+-- Volumes of one image hold the same forest, and have the same room.
+abbrev pub OneImageIsOneVolume : Type 0
+OneImageIsOneVolume =
+    (d : Database) (v w : VolumeState) → HaveOneImage v w
+    → ((f : Forest Placed) → HoldsPlaced d v f → HoldsPlaced d w f)
+    × ((rows : List Segment) → HasRoomFor d.types v rows → HasRoomFor d.types w rows)
+    × ((key : List ℕ) (rows : List Segment) → HasRootRoomFor d v key rows → HasRootRoomFor d w key rows)

@@ -1,8 +1,9 @@
 ghost use Rattle.hd_keeping.specs.Found.{RootsAreOfTheFirstType, RootsStandAlone, RootKeysAreWhole, RootsAscend, IndexAnswersRoots, FirstRootsFollowLesser};
 ghost use Rattle.hd_keeping.specs.Laws.{ChangesBelowKeepEntries, ReplacingKeepsEntries, LinkingEntersRoots, UnlinkingRemovesRoots, HeldIsEntered, ForestChangesKeepEntries, IndexChangesKeepTheForest, ReplacedIsHeld, LinkedBelowIsHeld, LinkedRootIsNew, LinkedRootIsHeld, EnteredRootIsHeld, UnlinkedBelowIsHeld, UnlinkedRootIsHeld, RemovedRootIsHeld};
-ghost use Rattle.hd_keeping.specs.Rooms.{FirstRowsFindRoom, RoomLasts, FirstRootsFindRoom, RootEntriesFindRoom, RootRoomLasts};
+ghost use Rattle.hd_keeping.specs.Rooms.{FirstRowsFindRoom, RoomLasts, FirstRootsFindRoom, RootEntriesFindRoom, RootRoomLasts, OneImageIsOneVolume};
 ghost use Rattle.hd_keeping.specs.VolumeImages.{VolumesHoldTheirRows, VolumesHaveTheirRoom, LackingRoomIsTheRule, VolumesFollow};
 ghost use Rattle.hd_keeping.specs.NewPaths.{LeavesTakeAChild, FirstChildrenGoInNext, PathsBeginBelowRows, PathsBeginWithRoots, PathsGoOn, PathsAreInsertions};
+ghost use Rattle.hd_keeping.specs.RowChanges.{RewritingBegins, RewritingGoesOn, RewritingFollows, UnlinkedSpansAreDeleted, UnlinkedRootsAreDeleted};
 
 /// Roots are the rows of the first level, the path of each is the root alone, and its key is as long as those of the index.
 pub fn law_roots_are_of_the_first_type()
@@ -94,4 +95,22 @@ pub fn law_paths_go_in_together()
     ensures roots { PathsBeginWithRoots }
     ensures more { PathsGoOn }
     ensures insertion { PathsAreInsertions }
+{}
+
+/// Rows that are replaced one after the other are a replacement of them all.
+pub fn law_replacements_add_up()
+    ensures begin { RewritingBegins }
+    ensures more { RewritingGoesOn }
+    ensures follows { RewritingFollows }
+{}
+
+/// A span that was unlinked, and for a root its key removed, is a deletion of its rows.
+pub fn law_unlinked_spans_are_deleted()
+    ensures below { UnlinkedSpansAreDeleted }
+    ensures roots { UnlinkedRootsAreDeleted }
+{}
+
+/// A call that only looks, or only reserves memory, leaves the forest that a volume holds, and its room.
+pub fn law_one_image_is_one_volume()
+    ensures { OneImageIsOneVolume }
 {}

@@ -57,7 +57,8 @@ lacks-beside d v bytes lacks = record { spares = lacks; holes = inl refl }
 -- a volume in which it was linked behind the last root, and then one in which it was entered into the index
 module _ (d : Database) (v w x : VolumeState) (f : Forest Placed) (y a : ℕ) (bytes : List ℕ) (H : HoldsPlaced d v f)
     (E : IsLoadedLast d.types (links_of d.types v) f 0 y (record { address = a; segment = record { code = 1; bytes = bytes } }))
-    (I : IsLinked d v 0 y (record { code = 1; bytes = bytes }) a w) (es : List Entry) (X : IsEntered d w es (index_growth w) x) (spares : spare w ≤ spare x + index_growth w) where
+    (I : IsLinked d v 0 y (record { code = 1; bytes = bytes }) a w) (es : List Entry) (more : ℕ)
+    (X : IsEntered d w es more x) (spares : spare w ≤ spare x + more) (few : more ≤ index_growth w) where
   abbrev root : Segment
   root = record { code = 1; bytes = bytes }
 
@@ -67,7 +68,7 @@ module _ (d : Database) (v w x : VolumeState) (f : Forest Placed) (y a : ℕ) (b
     largest = ap (λ (z : Header). z.largest) X.change.header ∙ ap (λ (z : Header). z.largest) I.rest.header;
     stays = λ b s.
         let first = segments-kept d v w f 0 y a root H E I b s in
-        let then = stays-agree d.types (links_of d.types w) (links_of d.types x) (agree-index d w x (index_growth w) X.change) b first.0 in (then.0, then.1 ∙ first.1);
+        let then = stays-agree d.types (links_of d.types w) (links_of d.types x) (agree-index d w x more X.change) b first.0 in (then.0, then.1 ∙ first.1);
     room =
         (let linked : spare v ≤ spare w + 1 = I.spares in
         let growth : index_growth w ≡ index_growth v = growth-kept d v w f 0 y a root H I in
@@ -117,18 +118,18 @@ room-enters d v w y a bytes key r I same few = elim r.room [
 ]
 
 -- it is loaded once it is linked and entered
-pub root-loaded : (d : Database) (v w x : VolumeState) (y a : ℕ) (bytes key : List ℕ) → row_fits d.types (record { code = 1; bytes = bytes }) ≡ true
+pub root-loaded : (d : Database) (v w x : VolumeState) (y a more : ℕ) (bytes key : List ℕ) → row_fits d.types (record { code = 1; bytes = bytes }) ≡ true
     → IsLinked d v 0 y (record { code = 1; bytes = bytes }) a w → x.size ≡ w.size → x.sizes ≡ w.sizes → IsIndexOf d x
     → key ≡ key_of d.types (record { code = 1; bytes = bytes }) → entries_for d x ≡ with_entry (record { key = key; address = a }) (entries_for d w)
-    → IsIndexChange w (index_growth w) x → spare w ≤ spare x + index_growth w
+    → IsIndexChange w more x → spare w ≤ spare x + more → more ≤ index_growth w
     → (rows : List Segment) (path : List Placed) → IsLoadedTo d rows path v → load_fault d.types (segments_of path) (record { code = 1; bytes = bytes }) ≡ None
     → y ≡ twin_on_path d.types path (record { code = 1; bytes = bytes })
     → IsRowLoaded d v rows (record { code = 1; bytes = bytes }) (record { address = a; segment = record { code = 1; bytes = bytes } } ∷ []) x
-root-loaded d v w x y a bytes key fits I size sizes index is entry C spares rows path L may twin =
+root-loaded d v w x y a more bytes key fits I size sizes index is entry C spares few rows path L may twin =
     let row : Segment = record { code = 1; bytes = bytes } in
     let p : Placed = record { address = a; segment = row } in
     let E = root-at d v rows path y a bytes L fits may twin I.free in
-    let X : IsEntered d w (with_entry (entry_of d.types p) (entries_for d w)) (index_growth w) x = record {
+    let X : IsEntered d w (with_entry (entry_of d.types p) (entries_for d w)) more x = record {
       size = size;
       sizes = sizes;
       index = index;
@@ -139,11 +140,11 @@ root-loaded d v w x y a bytes key fits I size sizes index is entry C spares rows
     record {
       loaded = record {
         placed = with_leaf 0 y p L.placed;
-        holds = linked-root d v w x L.placed y a (index_growth w) row L.holds (may-link-root d v bytes y fits (rows, path, L, may, twin)) I X;
+        holds = linked-root d v w x L.placed y a more row L.holds (may-link-root d v bytes y fits (rows, path, L, may, twin)) I X;
         rows_are = rows-grown d v w L.placed 0 y a row L.holds E I ∙ ap (λ (rs : List Segment). rs ++ row ∷ []) L.rows_are;
         last = E.last ∙ ap (λ (n : ℕ). take (n - 1) (last_on L.placed) ++ p ∷ []) lowest;
       };
-      step = root-step d v w x L.placed y a bytes L.holds E I _ X spares;
+      step = root-step d v w x L.placed y a bytes L.holds E I _ more X spares few;
     }
 
 -- its path is its own, whatever the path before

@@ -1,9 +1,12 @@
-use Rattle.std.proofs.Common.{◌++◌, ◌∷◌, [], ℕ, List, take, drop, IsTrue, length, arith}
+use Rattle.std.proofs.Common.{sym, ap, ◌∙◌, subst, ◌<◌, ◌≤◌, ◌++◌, ◌∷◌, [], ℕ, List, take, drop, IsTrue, length, arith}
 use Rattle.hd_bytes.specs.Numbers.{number_at}
 use Rattle.hd_volume.specs.Volumes.{block_at}
-use Rattle.hd_volume.specs.Entries.{Entry, entries_in}
+use Rattle.hd_volume.specs.Entries.{Entry, entries, entries_in}
+use Rattle.hd_volume.specs.Indexes.{entry_room}
 use Rattle.hd_index.specs.declared.place.Spot.{Spot}
 use Rattle.hd_index.specs.Edits.{HasNewEntries, IsSpliced, IsChanged}
+use Rattle.hd_index.specs.Maps.{with_entry}
+use Rattle.hd_index.proofs.NeedLemmas.{needed-first, needed-none, needed-full}
 use Rattle.hd_index.proofs.CallLemmas.{on-ok-map}
 use Rattle.hd_index.proofs.StepLemmas.{edit-spliced}
 use Rattle.hd_index.proofs.ChangeLemmas.{spot-block, spot-none}
@@ -22,7 +25,9 @@ returns-then-spot-eq0-clause-changed g c =
     on-ok-map c.insert_first.result
     (λ (first : IsTrue u.is_sound → IsChanged k u (e ∷ []) 1 c.insert_first.new.volume) (sound : IsTrue u.is_sound).
     let none = spot-none k u c.args.key.now c.args.spot (c.requires.index sound) (c.requires.spot sound) c.if-spot-eq0.true in
-    first-entered k u c.insert_first.new.volume e none.0 (first sound))
+    subst (λ (n : ℕ). IsChanged k u (with_entry e (entries k u)) n c.insert_first.new.volume)
+    (sym (needed-first k u c.args.key.now c.args.spot (c.requires.spot sound) c.if-spot-eq0.true))
+    (first-entered k u c.insert_first.new.volume e none.0 (first sound)))
     c.insert_first.ensures.changed
 
 pub add_entry-requires-clause-block : goal.add_entry-requires-clause-block
@@ -42,7 +47,9 @@ returns-then-spot-room-clause-changed g c =
     let h = c.requires.index sound in
     let s = spot-block k u c.args.key.now spot h (c.requires.spot sound) (λ z. c.if-spot-eq0.false z) in
     let three = c.requires.three in
-    entered k u w e spot 0 (omega arith) (omega arith) h (c.requires.new sound) s (edit-spliced k u w spot.block new (added sound)))
+    subst (λ (n : ℕ). IsChanged k u (with_entry e (entries k u)) n w)
+    (sym (needed-none k u c.args.key.now spot (c.requires.spot sound) (λ z. c.if-spot-eq0.false z) (subst (λ (n : ℕ). spot.count < n) (c.entry_room-room.ensures.value ∙ ap (entry_room k) c.block_size.ensures.value) c.if-spot-room.true)))
+    (entered k u w e spot 0 (omega arith) h (c.requires.new sound) s (edit-spliced k u w spot.block new (added sound))))
     c.add_entry.ensures.added
 
 pub insert_divided-requires-clause-block : goal.insert_divided-requires-clause-block
@@ -62,5 +69,7 @@ returns-clause-changed g c =
     let h = c.requires.index sound in
     let s = spot-block k u c.args.key.now spot h (c.requires.spot sound) (λ z. c.if-spot-eq0.false z) in
     let three = c.requires.three in
-    entered k u w e spot 1 (omega arith) (omega arith) h (c.requires.new sound) s (spliced sound))
+    subst (λ (n : ℕ). IsChanged k u (with_entry e (entries k u)) n w)
+    (sym (needed-full k u c.args.key.now spot (c.requires.spot sound) (λ z. c.if-spot-eq0.false z) (subst (λ (n : ℕ). n ≤ spot.count) (c.entry_room-room.ensures.value ∙ ap (entry_room k) c.block_size.ensures.value) c.if-spot-room.false)))
+    (entered k u w e spot 1 (omega arith) h (c.requires.new sound) s (spliced sound)))
     c.insert_divided.ensures.spliced

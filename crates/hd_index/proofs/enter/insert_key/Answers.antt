@@ -1,4 +1,4 @@
-use Rattle.std.proofs.Common.{◌≡◌, ℕ, IsTrue, length, ap, ◌∙◌, sym, arith}
+use Rattle.std.proofs.Common.{subst, ◌≡◌, ℕ, IsTrue, length, ap, ◌∙◌, sym, arith}
 use Rattle.hd_dbd.specs.declared.answer.Refused.{Refused}
 use Rattle.hd_dbd.specs.declared.answer.Refused.TheVariants.{Full}
 use Rattle.hd_volume.specs.Entries.{Entry, entries}
@@ -43,13 +43,14 @@ returns-clause-changed g c =
     let k : ℕ = length c.args.key.now in
     let e : Entry = record { key = c.args.key.now; address = c.args.address } in
     on-ok-map c.insert_at.result
-    (λ (changed : IsTrue v.is_sound → IsChanged k v (with_entry e (entries k v)) 1 w) (sound : IsTrue u.is_sound).
+    (λ (changed : IsTrue v.is_sound → IsChanged k v (with_entry e (entries k v)) (blocks_needed k v c.args.key.now) w) (sound : IsTrue u.is_sound).
     let now : IsTrue v.is_sound = rw c.in_ok-spot.ensures.read.call.sound sound in
     let h = c.requires.index sound in
     let o = read-one c.in_ok-spot.ensures.read now in
     let three = c.requires.three in
     let same = (index-after k u v o h).1 in
-    changed-before k u v w (with_entry e (entries k u)) (with_entry e (entries k v)) 1 o (omega arith) h (ap (with_entry e) same) (changed now))
+    subst (λ (n : ℕ). IsChanged k u (with_entry e (entries k u)) n w) (needed-same k u v c.args.key.now o.same.size o.image)
+    (changed-before k u v w (with_entry e (entries k u)) (with_entry e (entries k v)) (blocks_needed k v c.args.key.now) o (omega arith) h (ap (with_entry e) same) (changed now)))
     c.insert_at.ensures.changed
 
 pub returns-clause-needed : goal.returns-clause-needed

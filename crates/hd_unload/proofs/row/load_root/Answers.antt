@@ -10,6 +10,7 @@ use Rattle.hd_volume.proofs.JoinLemmas.{calls-join}
 use Rattle.hd_index.specs.Changes.{entries_for}
 use Rattle.hd_index.specs.Places.{blocks_needed}
 use Rattle.hd_index.specs.Maps.{address_of}
+use Rattle.hd_index.proofs.NeedLemmas.{needed-most}
 use Rattle.hd_unload.specs.Steps.{row_of}
 use Rattle.hd_unload.proofs.LoadedRoots.{may-link-root, root-linked, root-loaded, room-links, room-enters}
 use Rattle.hd_unload.proofs.row.load_root.Goals as goal
@@ -62,5 +63,8 @@ returns-clause-loaded g c = λ sound.
     let o = c.in_ok-address.ensures in
     let e = c.in_ok-insert.ensures in
     let after : IsTrue c.link.new.volume.is_sound = subst IsTrue (sym o.call.sound) sound in
-    root-loaded c.args.dbd.now c.args.volume.now c.link.new.volume c.insert.new.volume c.args.after c.in_ok-address.address c.args.bytes.now c.root_key.result.now c.requires.fits (o.linked sound)
-    e.call.size e.call.sizes (e.index after) c.root_key.ensures.key (e.entries after) (e.changed after) (e.spares after)
+    let key_length : ℕ = root_key_length c.args.dbd.now.types in
+    let key : List ℕ = c.root_key.result.now in
+    root-loaded c.args.dbd.now c.args.volume.now c.link.new.volume c.insert.new.volume c.args.after c.in_ok-address.address
+    (blocks_needed key_length c.link.new.volume key) c.args.bytes.now key c.requires.fits (o.linked sound)
+    e.call.size e.call.sizes (e.index after) c.root_key.ensures.key (e.entries after) (e.changed after) (e.spares after) (needed-most key_length c.link.new.volume key)

@@ -1,0 +1,96 @@
+-- Rows that one call replaces or deletes, as a log of calls has them.
+use Rattle.std.proofs.Common.{◌≡◌, ℕ, ◌<◌, List, [], ◌∷◌, ◌++◌, length, refl, sym, ap, subst, ◌∙◌, arith}
+use Rattle.std.specs.Prelude.{slice_set}
+use Rattle.hd_dbd.specs.Hierarchy.{Database}
+use Rattle.hd_dbd.specs.Segment.{Segment}
+use Rattle.hd_dbd.specs.Paths.{row_at, end_of}
+use Rattle.hd_dbd.specs.Forest.{Forest}
+use Rattle.hd_dbd.proofs.LevelLaw.{leveled}
+use Rattle.hd_calls.specs.Moves.{Rewrite, deleted, rewritten, taken_out, rewrite_rows}
+use Rattle.hd_volume.specs.Headers.{Header}
+use Rattle.hd_volume.specs.Volumes.{VolumeState}
+use Rattle.hd_volume.specs.Rooms.{spare}
+use Rattle.hd_links.specs.Placed.{Placed}
+use Rattle.hd_links.specs.Changes.{without_span}
+use Rattle.hd_links.specs.Steps.{rows_of, addresses, address_at}
+use Rattle.hd_links.specs.Numbers.{RowsLeave}
+use Rattle.hd_links.proofs.Types.{ordered}
+use Rattle.hd_links.proofs.RowChanges.{span_out, bytes_in}
+use Rattle.hd_image.specs.Records.{links_of}
+use Rattle.hd_image.specs.Holding.{HoldsPlaced}
+use Rattle.hd_image.proofs.Found.{records-link}
+use Rattle.hd_forest.specs.Walks.{tip, parent_on}
+use Rattle.hd_forest.specs.Updates.{IsUnlinked}
+use Rattle.hd_keeping.specs.RowChanges.{RewritingBegins, RewritingGoesOn, RewritingFollows, UnlinkedSpansAreDeleted, UnlinkedRootsAreDeleted}
+use Rattle.hd_keeping.proofs.Volumes.{replaced-held, unlinked-below, unlinked-root}
+use Rattle.hd_keeping.proofs.VolumeImages.{follow}
+
+-- ---- replacement
+
+-- one more at the end
+rewrite-more : (ws : List Rewrite) (w : Rewrite) (rows : List Segment)
+    → rewrite_rows (ws ++ w ∷ []) rows ≡ slice_set (rewrite_rows ws rows) w.number (record { code = (row_at (rewrite_rows ws rows) w.number).code; bytes = w.bytes })
+rewrite-more [] w rows = refl
+rewrite-more (v ∷ ws) w rows = rewrite-more ws w (slice_set rows v.number (record { code = (row_at rows v.number).code; bytes = v.bytes }))
+
+pub rewriting-begins : RewritingBegins
+rewriting-begins d v f H = record { held = H; holds = H; rows = refl; places = refl; largest = refl; spares = refl }
+
+pub rewriting-goes-on : RewritingGoesOn
+rewriting-goes-on d v w x f g ws i bytes W within C I =
+    let B = bytes_in d.types (links_of d.types w) g i bytes W.holds.records within in
+    record {
+      held = W.held;
+      holds = replaced-held d w x g (address_at g i) bytes W.holds C I;
+      rows =
+          B.0 ∙ ap (λ (rows : List Segment). slice_set rows i (record { code = (row_at rows i).code; bytes = bytes })) W.rows
+          ∙ sym (rewrite-more ws (record { number = i; bytes = bytes }) (rows_of f));
+      places = B.1 ∙ W.places;
+      largest = ap (λ (z : Header). z.largest) I.rest.header ∙ W.largest;
+      spares = I.spares ∙ W.spares;
+    }
+
+pub rewriting-follows : RewritingFollows
+rewriting-follows d v w f g ws W =
+    follow d v w f g (rewritten ws) W.held W.holds W.largest (let same : spare w ≡ spare v = W.spares in omega arith) W.places
+
+-- ---- deletion
+
+-- the rows and the addresses without the span
+leave : (d : Database) (v w : VolumeState) (f : Forest Placed) (path : List ℕ) (i : ℕ) → HoldsPlaced d v f → i < length (rows_of f) → address_at f i ≡ tip path → IsUnlinked d v path w
+    → (rows_of (without_span (parent_on path) (tip path) f) ≡ taken_out i (end_of d.types (rows_of f) i) (rows_of f))
+    × (addresses (without_span (parent_on path) (tip path) f) ≡ taken_out i (end_of d.types (rows_of f) i) (addresses f))
+leave d v w f path i H within at I =
+    let R = I.records f H.records in
+    let L : RowsLeave (links_of d.types v) f (parent_on path) R.0 (tip path) i (end_of d.types (rows_of f) i)
+    = span_out d.types (ordered d.block_size d.frspc d.types H.volume.fit) (leveled d.block_size d.frspc d.types H.volume.fit) (length v.image) (links_of d.types v)
+    (records-link d v H.volume.fit H.volume) f H.records (parent_on path) R.0 (tip path) i R.1 within at in
+    (L.rows, L.places)
+
+pub spans-deleted : UnlinkedSpansAreDeleted
+spans-deleted d v w f path i H some within at I =
+    let g : Forest Placed = without_span (parent_on path) (tip path) f in
+    let L = leave d v w f path i H within at I in
+    let K : HoldsPlaced d w g = unlinked-below d v w f path H some I in
+    record {
+      holds = K;
+      rows = L.0;
+      follows =
+          follow d v w f g (deleted i (end_of d.types (rows_of f) i)) H K (ap (λ (z : Header). z.largest) I.rest.header)
+          (let same : spare w ≡ spare v = I.spares in omega arith) L.1;
+    }
+
+pub roots-deleted : UnlinkedRootsAreDeleted
+roots-deleted d v w x f path i H top within at I E room =
+    let g : Forest Placed = without_span 0 (tip path) f in
+    let e : ℕ = end_of d.types (rows_of f) i in
+    let L = subst (λ (h : ℕ). (rows_of (without_span h (tip path) f) ≡ taken_out i e (rows_of f)) × (addresses (without_span h (tip path) f) ≡ taken_out i e (addresses f))) top
+    (leave d v w f path i H within at I) in
+    let K : HoldsPlaced d x g = unlinked-root d v w x f path 0 H top I E in
+    record {
+      holds = K;
+      rows = L.0;
+      follows =
+          follow d v x f g (deleted i e) H K (ap (λ (z : Header). z.largest) E.change.header ∙ ap (λ (z : Header). z.largest) I.rest.header)
+          (let same : spare w ≡ spare v = I.spares in omega arith) L.1;
+    }
