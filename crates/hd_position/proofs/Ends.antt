@@ -1,10 +1,10 @@
 -- The last row below a row, by pointers.
-use Rattle.std.proofs.Common.{◌≡◌, ℕ, List, [], ◌∷◌, ◌++◌, ap, ◌∙◌, refl}
+use Rattle.std.proofs.Common.{◌≡◌, ℕ, ◌<◌, List, [], ◌∷◌, ◌++◌, ap, ◌∙◌, refl}
 use Rattle.hd_dbd.specs.Types.{SegmentType}
 use Rattle.hd_links.specs.Links.{Links, child_types}
-use Rattle.hd_links.specs.Steps.{LeadsDown, tip_from, behind_span, behind_from, behind_child, first_some, child_among, later_than}
+use Rattle.hd_links.specs.Steps.{LeadsDown, tip_from, next_row, behind_span, behind_from, behind_child, first_some, child_among, later_than}
 use Rattle.hd_links.proofs.Ways.{some_zero, some_own, some_both}
-use Rattle.hd_position.specs.Backs.{EndsBelow, beside, LastRowsStandBefore}
+use Rattle.hd_position.specs.Backs.{EndsBelow, beside}
 
 -- behind the last row below h stands what stands behind h
 behind_ends : (types : List SegmentType) (m : Links) (h rest : ℕ) (q : List ℕ) → EndsBelow types m h q → behind_from types m h rest q ≡ rest
@@ -36,7 +36,10 @@ tip_on : (h : ℕ) (P : List ℕ) (y : ℕ) (q : List ℕ) → tip_from h (P ++ 
 tip_on h [] y q = refl
 tip_on h (x ∷ P) y q = tip_on x P y q
 
-pub last_before : LastRowsStandBefore
+-- Behind the last row below y stands what stands beside y.
+pub last_before : (types : List SegmentType) (m : Links) (P : List ℕ) (y : ℕ) (q : List ℕ) → LeadsDown types m 0 (P ++ y ∷ []) → EndsBelow types m y q
+    → 0 < beside types m (tip_from 0 P) y
+    → LeadsDown types m 0 (P ++ y ∷ q) × (next_row types m (P ++ y ∷ q) ≡ beside types m (tip_from 0 P) y)
 last_before types m P y q L E some =
     let path : List ℕ = P ++ y ∷ q in
     let none : child_among m (tip_from 0 path) (child_types types (m.code (tip_from 0 path))) ≡ 0

@@ -19,13 +19,6 @@ EndsBelow types m h (a ∷ path) =
 abbrev pub beside : List SegmentType → Links → ℕ → ℕ → ℕ
 beside types m h y = first_some (m.forward y) (child_among m h (later_than (m.code y) (child_types types (m.code h))))
 
--- Behind the last row below y stands what stands beside y.
-abbrev pub LastRowsStandBefore : Type 0
-LastRowsStandBefore =
-    (types : List SegmentType) (m : Links) (P : List ℕ) (y : ℕ) (q : List ℕ) → LeadsDown types m 0 (P ++ y ∷ []) → EndsBelow types m y q
-    → 0 < beside types m (tip_from 0 P) y
-    → LeadsDown types m 0 (P ++ y ∷ q) × (next_row types m (P ++ y ∷ q) ≡ beside types m (tip_from 0 P) y)
-
 -- the path leads on down to the last row below the last of another
 abbrev pub IsExtended : List SegmentType → Links → List ℕ → List ℕ → Type 0
 IsExtended types m old new = (q : List ℕ) × (new ≡ old ++ q) × EndsBelow types m (tip old) q

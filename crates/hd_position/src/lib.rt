@@ -21,6 +21,8 @@ pub use levels::Levels;
 pub use position::{LastType, Position, row_on};
 
 #[cfg(test)]
+mod plain_list;
+#[cfg(test)]
 mod random_tests;
 #[cfg(test)]
 mod test_volumes;
