@@ -1,5 +1,5 @@
 -- A root that is linked behind the last row of a volume, and entered into its index.
-use Rattle.std.proofs.Common.{◌≡◌, ℕ, ◌+◌, ◌-◌, ◌<◌, ◌≤◌, List, [], ◌∷◌, ◌++◌, take, true, false, IsTrue, Option, None, refl, sym, ap, subst, ◌∙◌, arith, inl, inr}
+use Rattle.std.proofs.Common.{◌≡◌, ℕ, ◌+◌, ◌-◌, ◌<◌, ◌≤◌, List, [], ◌∷◌, ◌++◌, take, true, false, IsTrue, Option, None, refl, sym, ap, subst, ◌∙◌, arith, inl}
 use Rattle.std.specs.Prelude.{slice_get}
 use Rattle.std.specs.Option.{option_map_or}
 use Rattle.hd_dbd.specs.declared.hierarchy.FreeSpace.{FreeSpace}
@@ -15,7 +15,7 @@ use Rattle.hd_volume.specs.Headers.{Header}
 use Rattle.hd_volume.specs.Volumes.{VolumeState}
 use Rattle.hd_volume.specs.Rooms.{spare, HasHole}
 use Rattle.hd_volume.specs.Entries.{Entry}
-use Rattle.hd_volume.specs.Indexes.{root_key_length, HasIndex, index_growth}
+use Rattle.hd_volume.specs.Indexes.{root_key_length, index_growth}
 use Rattle.hd_links.specs.Placed.{Placed}
 use Rattle.hd_links.specs.Changes.{with_leaf}
 use Rattle.hd_links.specs.LastRows.{last_on, segments_of, parent_on_path, twin_on_path, IsLoadedLast}
@@ -27,10 +27,10 @@ use Rattle.hd_index.specs.Maps.{address_of, with_entry}
 use Rattle.hd_index.specs.Places.{blocks_needed}
 use Rattle.hd_keeping.specs.Entered.{entry_of, IsEntered}
 use Rattle.hd_keeping.proofs.RootTypes.{root-parent, root-level}
-use Rattle.hd_keeping.proofs.Rooms.{growth-kept, needed-kept}
+use Rattle.hd_keeping.proofs.Rooms.{growth-kept, first-roots, entries-room}
 use Rattle.hd_keeping.proofs.Volumes.{agree-index, linked-new, linked-root}
 use Rattle.hd_unload.specs.Loads.{IsLoadStep, LacksRoom}
-use Rattle.hd_unload.specs.Steps.{HasRootRoom, IsLoadedTo, IsRowLoaded}
+use Rattle.hd_unload.specs.Steps.{row_of, CanLoadRoot, HasRootRoom, IsLoadedTo, IsRowLoaded}
 use Rattle.hd_unload.proofs.Loaded.{stays-agree, last-at, may-link, rows-grown, segments-kept}
 
 -- ---- a root
@@ -44,9 +44,7 @@ root-place block_size frspc types bytes path fit =
 
 -- where it may be loaded it may be linked
 pub may-link-root : (d : Database) (v : VolumeState) (bytes : List ℕ) (y : ℕ) → row_fits d.types (record { code = 1; bytes = bytes }) ≡ true
-    → ((rows : List Segment) × (path : List Placed) × IsLoadedTo d rows path v × (load_fault d.types (segments_of path) (record { code = 1; bytes = bytes }) ≡ None)
-    × (y ≡ twin_on_path d.types path (record { code = 1; bytes = bytes })))
-    → MayLink d.types (links_of d.types v) 0 y (record { code = 1; bytes = bytes })
+    → CanLoadRoot d v y (record { code = 1; bytes = bytes }) → MayLink d.types (links_of d.types v) 0 y (record { code = 1; bytes = bytes })
 may-link-root d v bytes y fits L =
     may-link d v (record { code = 1; bytes = bytes }) 0 y fits (L.0, L.1, L.2, L.3, root-place d.block_size d.frspc d.types bytes L.1 L.2.holds.volume.fit, L.4)
 
@@ -83,39 +81,22 @@ pub root-at : (d : Database) (v : VolumeState) (rows : List Segment) (path : Lis
 root-at d v rows path y a bytes L fits may twin free =
     last-at d v rows path (record { code = 1; bytes = bytes }) 0 y a L fits may (root-place d.block_size d.frspc d.types bytes path L.holds.volume.fit) twin free
 
--- The volume has its index, in which the key is new, and which needs as many blocks for it as before.
-pub record IsReadyFor (d : Database) (v : VolumeState) (key : List ℕ) (w : VolumeState) : Type 0 where
-  pub index : HasIndex (root_key_length d.types) w
-  pub new : address_of key (entries_for d w) ≡ None
-  pub needed : blocks_needed (root_key_length d.types) w key ≡ blocks_needed (root_key_length d.types) v key
-
--- so it is once the root is linked
+-- once it is linked the volume has its index, in which the key is new, and room for the entry
 pub root-linked : (d : Database) (v w : VolumeState) (y a : ℕ) (bytes : List ℕ) → row_fits d.types (record { code = 1; bytes = bytes }) ≡ true
-    → ((rows : List Segment) × (path : List Placed) × IsLoadedTo d rows path v × (load_fault d.types (segments_of path) (record { code = 1; bytes = bytes }) ≡ None)
-    × (y ≡ twin_on_path d.types path (record { code = 1; bytes = bytes })))
-    → IsLinked d v 0 y (record { code = 1; bytes = bytes }) a w → IsReadyFor d v (key_of d.types (record { code = 1; bytes = bytes })) w
+    → CanLoadRoot d v y (record { code = 1; bytes = bytes }) → IsLinked d v 0 y (record { code = 1; bytes = bytes }) a w
+    → IsIndexOf d w × (address_of (key_of d.types (record { code = 1; bytes = bytes })) (entries_for d w) ≡ None)
 root-linked d v w y a bytes fits L I =
-    let row : Segment = record { code = 1; bytes = bytes } in
-    let N = linked-new d v w L.2.placed y a row L.2.holds (may-link-root d v bytes y fits L) I in
-    record { index = N.0.index; new = N.1; needed = needed-kept d v w L.2.placed 0 y a row (key_of d.types row) L.2.holds I }
+    linked-new d v w L.2.placed y a (record { code = 1; bytes = bytes }) L.2.holds (may-link-root d v bytes y fits L) I
 
 -- where the volume has room for a root it is not refused as full
 pub room-links : (d : Database) (v : VolumeState) (key : List ℕ) → HasRootRoom d v key → spare v ≡ 0 → (HasHole v (stored_size d.types 1) → ⊥) → ⊥
-room-links d v key r none no-hole = elim r.room [
-  | inl hole ↦ no-hole hole.0
-  | inr more ↦ absurd (omega arith)
-]
+room-links d v key room none no-hole = (first-roots d v key (row_of 1 []) []).0 room (none, no-hole)
 
 -- and once the root is linked there is room in the index
-pub room-enters : (d : Database) (v w : VolumeState) (y a : ℕ) (bytes key : List ℕ) → HasRootRoom d v key → IsLinked d v 0 y (record { code = 1; bytes = bytes }) a w
-    → blocks_needed (root_key_length d.types) w key ≡ blocks_needed (root_key_length d.types) v key → spare w < blocks_needed (root_key_length d.types) w key → ⊥
-room-enters d v w y a bytes key r I same few = elim r.room [
-  | inl hole ↦
-      (let kept : spare w ≡ spare v = I.in_hole hole.0 in
-      let enough : blocks_needed (root_key_length d.types) v key ≤ spare v = hole.1 in
-      absurd (omega (arith, same, few, kept, enough)))
-  | inr more ↦ (let less : spare v ≤ spare w + 1 = I.spares in absurd (omega (arith, same, few, less, more)))
-]
+pub room-enters : (d : Database) (v w : VolumeState) (y a : ℕ) (bytes key : List ℕ) → CanLoadRoot d v y (record { code = 1; bytes = bytes }) → HasRootRoom d v key
+    → IsLinked d v 0 y (record { code = 1; bytes = bytes }) a w → spare w < blocks_needed (root_key_length d.types) w key → ⊥
+room-enters d v w y a bytes key L room I few =
+    (let enough : blocks_needed (root_key_length d.types) w key ≤ spare w = (entries-room d v w L.2.placed key y a (row_of 1 bytes) [] L.2.holds I).0 room in omega arith)
 
 -- it is loaded once it is linked and entered
 pub root-loaded : (d : Database) (v w x : VolumeState) (y a more : ℕ) (bytes key : List ℕ) → row_fits d.types (record { code = 1; bytes = bytes }) ≡ true

@@ -1,21 +1,19 @@
 -- Two states of one image: what is loaded in the one is loaded in the other.
-use Rattle.std.proofs.Common.{◌≡◌, ℕ, ◌≤◌, List, inl, inr, refl, ap, subst, ◌∙◌, arith}
+use Rattle.std.proofs.Common.{◌≡◌, ℕ, List, [], ◌∷◌, refl, ap, subst, ◌∙◌, arith}
 use Rattle.hd_dbd.specs.Hierarchy.{Database}
-use Rattle.hd_dbd.specs.Prefixes.{stored_size}
 use Rattle.hd_dbd.specs.Segment.{Segment}
 use Rattle.hd_volume.specs.Headers.{header_of}
 use Rattle.hd_volume.specs.Volumes.{VolumeState}
 use Rattle.hd_volume.specs.Rooms.{spare}
-use Rattle.hd_volume.specs.Indexes.{root_key_length, index_growth}
-use Rattle.hd_volume.proofs.JoinLemmas.{AreOne, one-spare, one-holes}
+use Rattle.hd_volume.specs.Indexes.{index_growth}
+use Rattle.hd_volume.proofs.JoinLemmas.{AreOne, one-spare}
 use Rattle.hd_links.specs.Links.{Links, IsSegment, segment_at}
 use Rattle.hd_links.specs.Placed.{Placed}
 use Rattle.hd_image.specs.Records.{links_of}
 use Rattle.hd_image.proofs.OneImage.{links-same, held-same}
-use Rattle.hd_index.specs.Places.{blocks_needed}
-use Rattle.hd_index.proofs.NeedLemmas.{needed-same}
+use Rattle.hd_keeping.proofs.Rooms.{one-volume}
 use Rattle.hd_unload.specs.Loads.{blocks_for}
-use Rattle.hd_unload.specs.Steps.{HasRootRoom, IsLoadedTo, IsRowLoaded}
+use Rattle.hd_unload.specs.Steps.{row_of, HasRootRoom, IsLoadedTo, IsRowLoaded}
 
 -- the rows that it holds
 pub loaded-same : (d : Database) (v w : VolumeState) (rows : List Segment) (path : List Placed) → AreOne v w → IsLoadedTo d rows path v → IsLoadedTo d rows path w
@@ -28,16 +26,7 @@ loaded-same d v w rows path o L = record {
 
 -- the room for a root
 pub room-same : (d : Database) (v w : VolumeState) (key : List ℕ) → AreOne v w → HasRootRoom d v key → HasRootRoom d w key
-room-same d v w key o r =
-    let needed : blocks_needed (root_key_length d.types) w key ≡ blocks_needed (root_key_length d.types) v key
-    = needed-same (root_key_length d.types) v w key o.same.size o.image in
-    let spares : spare w ≡ spare v = one-spare o in
-    record {
-      room = elim r.room [
-        | inl hole ↦ inl (one-holes o (stored_size d.types 1) hole.0, (let enough : blocks_needed (root_key_length d.types) v key ≤ spare v = hole.1 in omega (arith, needed, spares, enough)))
-        | inr more ↦ inr (omega (arith, needed, spares, more))
-      ];
-    }
+room-same d v w key o room = (one-volume d v w (record { image = o.image; size = o.same.size; sizes = o.same.sizes })).2 key (row_of 1 [] ∷ []) room
 
 -- the blocks that a row may need
 growth-same : (v w : VolumeState) (row : Segment) → blocks_for w row ≡ blocks_for v row

@@ -1,9 +1,8 @@
 -- The room for one row, as loads and as calls have it.
-use Rattle.std.proofs.Common.{◌≡◌, ◌⊎◌, ◌↔◌, ℕ, ◌+◌, ◌<◌, List, [], ◌∷◌, length, Bool, true, ◌==◌, cond, sym, ap, subst, ◌∙◌, arith, inl, inr}
+use Rattle.std.proofs.Common.{◌≡◌, ◌+◌, ◌<◌, List, [], ◌∷◌, length, Bool, ◌==◌, cond, sym, ap, subst, ◌∙◌, arith, inl, inr}
 use Rattle.std.proofs.lemmas.Bool.{eq-eqb, eqb-true}
 use Rattle.std.proofs.Math.Bool.{or-false}
 use Rattle.hd_dbd.specs.Types.{SegmentType}
-use Rattle.hd_dbd.specs.Hierarchy.{Database}
 use Rattle.hd_dbd.specs.Segment.{Segment}
 use Rattle.hd_dbd.specs.Prefixes.{stored_size}
 use Rattle.hd_calls.specs.Runs.{has_root, stored_sizes}
@@ -11,7 +10,6 @@ use Rattle.hd_volume.specs.Volumes.{VolumeState}
 use Rattle.hd_volume.specs.Rooms.{spare, HasHole}
 use Rattle.hd_volume.specs.Indexes.{index_growth}
 use Rattle.hd_keeping.proofs.VolumeImages.{lacking-room}
-use Rattle.hd_unload.specs.Loads.{LacksRoom}
 use Rattle.hd_unload.specs.Laws.{LoadsAndCallsShareARule}
 
 -- one row is a root where its code is the first

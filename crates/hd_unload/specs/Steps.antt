@@ -1,22 +1,19 @@
 -- What loading one row does.
-use Rattle.std.specs.Prelude.{◌≡◌, ◌⊎◌, ℕ, ◌+◌, ◌-◌, ◌≤◌, List, [], ◌∷◌, ◌++◌, length, take, None, IsTrue}
+use Rattle.std.specs.Prelude.{◌≡◌, ℕ, ◌-◌, List, [], ◌∷◌, ◌++◌, length, take, None, IsTrue}
 use Rattle.hd_dbd.specs.declared.answer.Refused.{Refused}
 use Rattle.hd_dbd.specs.declared.answer.Refused.TheVariants.{Full}
 use Rattle.hd_dbd.specs.Hierarchy.{Database}
 use Rattle.hd_dbd.specs.Segment.{Segment}
-use Rattle.hd_dbd.specs.Prefixes.{stored_size}
 use Rattle.hd_dbd.specs.Rows.{level}
 use Rattle.hd_dbd.specs.Loads.{last_path, load_fault}
 use Rattle.hd_dbd.specs.Forest.{Forest}
 use Rattle.hd_volume.specs.Volumes.{VolumeState}
-use Rattle.hd_volume.specs.Rooms.{spare, HasHole}
-use Rattle.hd_volume.specs.Indexes.{root_key_length}
 use Rattle.hd_volume.specs.Creates.{IsCreated}
 use Rattle.hd_links.specs.Placed.{Placed}
 use Rattle.hd_links.specs.Steps.{rows_of}
 use Rattle.hd_links.specs.LastRows.{segments_of, last_on, parent_on_path, twin_on_path}
 use Rattle.hd_image.specs.Holding.{HoldsPlaced}
-use Rattle.hd_index.specs.Places.{blocks_needed}
+use Rattle.hd_keeping.specs.Rooms.{HasRootRoomFor}
 use Rattle.hd_unload.specs.Loads.{IsLoadStep, IsLoad, LacksRoom}
 use Rattle.hd_unload.specs.Streams.{head_bytes, Spells, IsStreamOf}
 
@@ -48,11 +45,9 @@ CanLoad d v parent after row =
     (rows : List Segment) × (path : List Placed) × IsLoadedTo d rows path v × (load_fault d.types (segments_of path) row ≡ None)
     × (parent ≡ parent_on_path d.types path row) × (after ≡ twin_on_path d.types path row)
 
--- The volume has room for one root more: for its segment in a hole or in a block to spare, and for what the index needs beside it.
-pub record HasRootRoom (d : Database) (v : VolumeState) (key : List ℕ) : Type 0 where
-  pub room :
-      (HasHole v (stored_size d.types 1) × (blocks_needed (root_key_length d.types) v key ≤ spare v))
-      ⊎ (blocks_needed (root_key_length d.types) v key + 1 ≤ spare v)
+-- the volume has room for one root more, whatever its bytes, and for the entry of its key
+abbrev pub HasRootRoom : Database → VolumeState → List ℕ → Type 0
+HasRootRoom d v key = HasRootRoomFor d v key (row_of 1 [] ∷ [])
 
 -- The root was loaded at an address, wherever it could be.
 abbrev pub IsRootLoadedAt : Database → VolumeState → ℕ → Segment → ℕ → VolumeState → Type 0

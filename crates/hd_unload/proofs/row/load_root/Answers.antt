@@ -24,14 +24,14 @@ insert-requires-clause-index g c = λ sound.
     let o = c.in_ok-address.ensures in
     let before : IsTrue c.args.volume.now.is_sound = subst IsTrue o.call.sound sound in
     let ready = root-linked c.args.dbd.now c.args.volume.now c.link.new.volume c.args.after c.in_ok-address.address c.args.bytes.now c.requires.fits (c.requires.can before) (o.linked before) in
-    record { size = o.call.size ∙ c.requires.sizes.0; index = ready.index }
+    record { size = o.call.size ∙ c.requires.sizes.0; index = ready.0.index }
 
 pub insert-requires-clause-new : goal.insert-requires-clause-new
 insert-requires-clause-new g c = λ sound.
     let o = c.in_ok-address.ensures in
     let before : IsTrue c.args.volume.now.is_sound = subst IsTrue o.call.sound sound in
     let ready = root-linked c.args.dbd.now c.args.volume.now c.link.new.volume c.args.after c.in_ok-address.address c.args.bytes.now c.requires.fits (c.requires.can before) (o.linked before) in
-    ap (λ (k : List ℕ). address_of k (entries_for c.args.dbd.now c.link.new.volume)) c.root_key.ensures.key ∙ ready.new
+    ap (λ (k : List ℕ). address_of k (entries_for c.args.dbd.now c.link.new.volume)) c.root_key.ensures.key ∙ ready.1
 
 pub returns-in_err-address-clause-not_full : goal.returns-in_err-address-clause-not_full
 returns-in_err-address-clause-not_full g c =
@@ -51,9 +51,8 @@ returns-in_err-insert-clause-not_full g c =
     subst (λ (r : Result ℕ Refused). IfErr r (λ e. e ≡ Full → IsTrue v.is_sound → ⊥)) (sym (p.1 ∙ ap Err p.2))
     (λ full sound.
     let after : IsTrue w.is_sound = subst IsTrue (sym o.call.sound) sound in
-    let ready = root-linked d v w c.args.after c.in_ok-address.address c.args.bytes.now c.requires.fits (c.requires.can sound) (o.linked sound) in
     let few = subst (λ (key : List ℕ). spare w < blocks_needed (root_key_length d.types) w key) c.root_key.ensures.key (c.in_err-insert.ensures.full full after) in
-    room-enters d v w c.args.after c.in_ok-address.address c.args.bytes.now (key_of d.types (row_of 1 c.args.bytes.now)) (c.requires.room sound) (o.linked sound) ready.needed few)
+    room-enters d v w c.args.after c.in_ok-address.address c.args.bytes.now (key_of d.types (row_of 1 c.args.bytes.now)) (c.requires.can sound) (c.requires.room sound) (o.linked sound) few)
 
 pub returns-clause-call : goal.returns-clause-call
 returns-clause-call g c = call-ok c.in_ok-address.address (calls-join _ c.in_ok-address.ensures.call c.in_ok-insert.ensures.call)
