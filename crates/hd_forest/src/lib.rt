@@ -9,6 +9,7 @@ mod leaf;
 mod link_tests;
 mod path;
 mod read;
+mod row;
 #[cfg(test)]
 mod test_volumes;
 mod unlink;
@@ -24,5 +25,6 @@ pub use path::Path;
 pub use read::{
     code_at, first_child, last_child, last_twin, next_twin, parent_on, prev_twin, tip_of,
 };
+pub use row::bytes_in;
 pub use unlink::unlink_span;
 pub use walk::{next_after_span, next_row};

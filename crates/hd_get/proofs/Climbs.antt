@@ -1,12 +1,12 @@
 -- Steps to twins, parents and children, by their paths.
 use Rattle.std.proofs.Common.{◌≡◌, ◌≢◌, ℕ, suc, ◌+◌, ◌-◌, ◌<◌, ◌≤◌, List, [], ◌∷◌, ◌++◌, length, take, zero, Bool, true, false, Option, Some, None, refl, sym, ap, ap₂, subst, ◌∙◌, arith, inl, inr, ne_eqb}
-use Rattle.std.specs.Prelude.{map, nat_lt, nat_le, cond, unwrap_or, ◌&&◌, ◌||◌, ◌==◌}
+use Rattle.std.specs.Prelude.{map, nat_lt, nat_le, cond, ◌&&◌, ◌||◌, ◌==◌}
 use Rattle.std.specs.Option.{option_map_or}
 use Rattle.std.specs.List.{list_all, list_any}
 use Rattle.std.proofs.lemmas.Bool.{cases_lt, cases_Bool, cond-true, cond-false, lt-ltb, le-ltb, le-leb, and_parts, eq-eqb, eqb-true, false≢true}
 use Rattle.std.proofs.lemmas.List.{length-append}
 use Rattle.hd_dbd.specs.Types.{SegmentType}
-use Rattle.hd_dbd.specs.Paths.{row_at, level_at, path_above, parent_row, path_of, end_of, is_twin}
+use Rattle.hd_dbd.specs.Paths.{row_at, level_at, path_above, parent_row, path_of, end_of}
 use Rattle.hd_dbd.specs.Searches.{first_from, least_within}
 use Rattle.hd_dbd.specs.Forest.{Forest}
 use Rattle.hd_dbd.proofs.RowPaths.{path_follows}

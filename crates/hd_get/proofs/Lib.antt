@@ -3,3 +3,5 @@ pub mod Climbs
 pub mod Grounds
 pub mod Turns
 pub mod RowsAbove
+pub mod Judging
+pub mod LastTwins

@@ -1,14 +1,13 @@
 -- How a search settles where the rows above are admitted.
-use Rattle.std.proofs.Common.{◌≡◌, ℕ, zero, suc, ◌+◌, ◌-◌, ◌<◌, ◌≤◌, List, [], ◌∷◌, ◌++◌, length, take, Bool, true, false, Option, Some, None, refl, sym, ap, ap₂, subst, ◌∙◌, arith, inl, inr}
-use Rattle.std.specs.Prelude.{nat_lt, nat_le, cond, map, ◌&&◌, ◌||◌, ◌==◌}
+use Rattle.std.proofs.Common.{◌≡◌, ℕ, zero, suc, ◌+◌, ◌-◌, ◌<◌, ◌≤◌, List, [], ◌∷◌, ◌++◌, length, take, Bool, true, false, Option, Some, None, refl, sym, ap, ap₂, ◌∙◌, arith, inl, inr}
+use Rattle.std.specs.Prelude.{nat_lt, nat_le, map, ◌&&◌, ◌==◌}
 use Rattle.std.specs.Option.{option_map_or}
 use Rattle.std.specs.List.{list_all, list_any}
-use Rattle.std.proofs.lemmas.Bool.{cases_lt, cases_Bool, cond-true, cond-false, lt-ltb, ltb-true, le-ltb, le-leb, leb-true, eq-eqb, and_parts, false≢true}
+use Rattle.std.proofs.lemmas.Bool.{cases_lt, cond-true, cond-false, lt-ltb, le-ltb, le-leb, leb-true, and_parts, false≢true}
 use Rattle.std.proofs.lemmas.List.{length-append, length-map}
 use Rattle.hd_dbd.specs.Types.{SegmentType}
 use Rattle.hd_dbd.specs.Segment.{Segment}
 use Rattle.hd_dbd.specs.Paths.{parent_row, path_of, end_of}
-use Rattle.hd_dbd.specs.Searches.{first_from}
 use Rattle.hd_dbd.specs.Forest.{Forest}
 use Rattle.hd_dbd.proofs.RowPaths.{path_follows}
 use Rattle.hd_links.specs.Links.{Links}
@@ -17,7 +16,6 @@ use Rattle.hd_forest.specs.Rows.{IsOnRow}
 use Rattle.hd_links.specs.Steps.{rows_of, address_at, path_at, RowsHaveAddresses}
 use Rattle.hd_calls.proofs.Searches.{skipped}
 use Rattle.hd_calls.proofs.Spans.{end_is}
-use Rattle.hd_calls.proofs.PathSpans.{spans_below}
 use Rattle.hd_seek.specs.Admits.{NonePass}
 use Rattle.hd_get.specs.Searches.{EndsAt, LeadsWithin, path_within, is_above_admitted, MayBeginAt}
 use Rattle.hd_get.proofs.Spans.{nested, parent_span, parent_within, whole_admitted}

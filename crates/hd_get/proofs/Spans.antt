@@ -1,5 +1,5 @@
 -- How spans, parents and twins lie to each other.
-use Rattle.std.proofs.Common.{◌≡◌, ◌⊎◌, ℕ, suc, ◌+◌, ◌-◌, ◌<◌, ◌≤◌, List, [], ◌∷◌, ◌++◌, length, Bool, true, false, Option, Some, None, refl, sym, ap, subst, ◌∙◌, arith, inl, inr}
+use Rattle.std.proofs.Common.{◌≡◌, ◌⊎◌, ℕ, ◌+◌, ◌-◌, ◌<◌, ◌≤◌, List, [], ◌∷◌, ◌++◌, length, Bool, true, false, Option, Some, None, refl, sym, ap, subst, ◌∙◌, arith, inl, inr}
 use Rattle.std.specs.Prelude.{◌&&◌, ◌==◌, unwrap_or}
 use Rattle.std.specs.Option.{option_map_or, option_eq}
 use Rattle.std.specs.List.{list_all}
@@ -7,20 +7,18 @@ use Rattle.std.proofs.lemmas.Bool.{cases_lt, and_parts, eqb-true}
 use Rattle.std.proofs.lemmas.List.Folds.{list_all-append}
 use Rattle.hd_dbd.specs.Types.{SegmentType}
 use Rattle.hd_dbd.specs.Segment.{Segment}
-use Rattle.hd_dbd.specs.Rows.{level}
 use Rattle.hd_dbd.specs.Hierarchy.{level_of}
-use Rattle.hd_dbd.specs.Paths.{row_at, level_at, parent_row, nearest_above, path_of, end_of, is_twin}
-use Rattle.hd_dbd.specs.Searches.{first_from}
+use Rattle.hd_dbd.specs.Paths.{row_at, level_at, parent_row, path_of, end_of, is_twin}
 use Rattle.hd_dbd.proofs.RowPaths.{path_follows}
 use Rattle.hd_links.proofs.Numbers.{nearest_from}
 use Rattle.hd_calls.specs.Places.{end_below}
 use Rattle.hd_calls.proofs.Searches.{least_some}
-use Rattle.hd_calls.proofs.Spans.{IsEnd, end_is, nearest_is}
+use Rattle.hd_calls.proofs.Spans.{end_is, nearest_is}
 use Rattle.hd_calls.specs.Satisfies.{is_child}
 use Rattle.hd_calls.specs.Gets.{first_child}
 use Rattle.hd_seek.specs.Admits.{NonePass}
 use Rattle.hd_seek.specs.Twins.{next_twin}
-use Rattle.hd_get.specs.Searches.{is_above_admitted, twin_or_end, NonePassAcross}
+use Rattle.hd_get.specs.Searches.{is_above_admitted, NonePassAcross}
 
 -- equal optional numbers
 pub one_option : (a b : Option ℕ) → option_eq (λ p q. p == q) a b ≡ true → a ≡ b

@@ -1,21 +1,19 @@
 -- The turns of a search.
-use Rattle.std.proofs.Common.{◌≡◌, ◌⊎◌, ℕ, zero, suc, ◌+◌, ◌-◌, ◌<◌, ◌≤◌, List, [], ◌∷◌, ◌++◌, length, Bool, true, false, Option, Some, None, refl, sym, ap, subst, ◌∙◌, arith, inl, inr}
-use Rattle.std.specs.Prelude.{nat_lt, cond, option_map, unwrap_or}
-use Rattle.std.proofs.lemmas.Bool.{cases_lt, cond-true, cond-false, lt-ltb, le-ltb, false≢true}
-use Rattle.std.proofs.lemmas.List.{length-append}
+use Rattle.std.proofs.Common.{◌≡◌, ℕ, suc, ◌+◌, ◌-◌, ◌<◌, ◌≤◌, List, [], length, Bool, true, false, Option, Some, None, sym, ap, subst, ◌∙◌, arith, inl, inr}
+use Rattle.std.specs.Prelude.{nat_lt, option_map, unwrap_or}
+use Rattle.std.proofs.lemmas.Bool.{cases_lt, cond-true, cond-false, lt-ltb, le-ltb}
 use Rattle.hd_dbd.specs.Types.{SegmentType}
 use Rattle.hd_dbd.specs.Paths.{parent_row, end_of}
 use Rattle.hd_dbd.specs.Searches.{first_from, least_within}
 use Rattle.hd_dbd.specs.Forest.{Forest}
-use Rattle.hd_links.specs.Links.{Links}
 use Rattle.hd_links.specs.Placed.{Placed}
-use Rattle.hd_links.specs.Steps.{rows_of, address_at, path_at}
+use Rattle.hd_links.specs.Steps.{rows_of, path_at}
 use Rattle.hd_calls.specs.Gets.{first_child}
 use Rattle.hd_calls.specs.Places.{end_below}
 use Rattle.hd_calls.proofs.Searches.{least_none, skipped}
 use Rattle.hd_calls.proofs.Spans.{end_is}
 use Rattle.hd_seek.specs.Admits.{NonePass}
-use Rattle.hd_get.specs.Searches.{EndsAt, path_within, is_above_admitted, child_or_end, NonePassAcross, AllAdmitted, IsWayDown, IsWayBeside, GoesAcross, GoesDown, GoesOn, GoesTo, GoesPast, IsTurned, IsFound}
+use Rattle.hd_get.specs.Searches.{EndsAt, path_within, is_above_admitted, child_or_end, NonePassAcross, AllAdmitted, IsWayDown, IsWayBeside, GoesAcross, GoesDown, GoesOn, GoesTo, IsFound}
 use Rattle.hd_get.proofs.Spans.{nested, parent_span, parent_within, child_is, joined, above_parent, above_child, above_all}
 use Rattle.hd_get.proofs.Climbs.{some_path}
 
@@ -76,8 +74,7 @@ module _ (test admits : ℕ → Bool) (types : List SegmentType) (f : Forest Pla
             let n : end_of types (rows_of f) i ≤ end_of types (rows_of f) Q.0 = nested types (rows_of f) Q.0 i (omega arith) here (omega arith) in omega arith)
         | inr none ↦ (let e : end ≡ length (rows_of f) = E.whole (omega arith) in omega arith)
       ] in
-      let to : child_or_end types (rows_of f) i code ≡ j = ap (λ (o : Option ℕ). unwrap_or o (end_of types (rows_of f) i)) some in
-      (
+      let to : child_or_end types (rows_of f) i code ≡ j = ap (λ (o : Option ℕ). unwrap_or o (end_of types (rows_of f) i)) some in (
         record {
           number = j;
           later = a;
@@ -127,8 +124,8 @@ module _ (test admits : ℕ → Bool) (types : List SegmentType) (f : Forest Pla
       let own : i < end_of types (rows_of f) i = (end_is types (rows_of f) i within).behind in
       let pl : p < length (rows_of f) = (let l : i < length (rows_of f) = within in omega arith) in
       let G = goes test admits (p + 1) end (parent_ends p e) (let r : p + 1 ≤ p + 1 = omega arith in r) (omega arith)
-          (λ k low high. (let n : end_of types (rows_of f) p ≤ end_of types (rows_of f) k = nested types (rows_of f) k p low pl high in across k (omega arith) (omega arith)))
-          (above_parent test admits types (rows_of f) i p e up) in
+      (λ k low high. (let n : end_of types (rows_of f) p ≤ end_of types (rows_of f) k = nested types (rows_of f) k p low pl high in across k (omega arith) (omega arith)))
+      (above_parent test admits types (rows_of f) i p e up) in
       let b : end_of types (rows_of f) p ≤ G.0 = G.1 in
       record {
         number = G.0;

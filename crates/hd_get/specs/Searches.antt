@@ -1,5 +1,5 @@
 -- A search from row to row.
-use Rattle.std.specs.Prelude.{◌≡◌, IsTrue, ℕ, ◌+◌, ◌<◌, ◌≤◌, List, [], length, Bool, true, false, nat_lt, cond, Option, Some, None, option_map, unwrap_or}
+use Rattle.std.specs.Prelude.{◌≡◌, IsTrue, ℕ, ◌+◌, ◌<◌, ◌≤◌, List, [], length, Bool, true, false, nat_lt, cond, Some, None, option_map, unwrap_or}
 use Rattle.std.specs.Option.{option_map_or}
 use Rattle.std.specs.List.{list_all}
 use Rattle.hd_dbd.specs.Types.{SegmentType}

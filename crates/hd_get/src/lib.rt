@@ -1,13 +1,18 @@
 //! The first row of a volume that satisfies a call.
 #![tactic(auto)]
 
+mod access;
 mod judge;
+mod meeting;
+mod plain;
 mod searching;
 mod settling;
 mod steps;
 mod verdict;
 
 pub use judge::Judge;
+pub use meeting::meets;
+pub use plain::Plain;
 pub use searching::find;
 pub use settling::settle;
 pub use verdict::Verdict;

@@ -1,4 +1,4 @@
-use Rattle.std.proofs.Common.{◌≡◌, ℕ, ◌+◌, ◌<◌, ◌≤◌, List, length, Bool, true, false, IsTrue, Ok, sym, subst, ◌∙◌, arith}
+use Rattle.std.proofs.Common.{◌≡◌, ℕ, ◌+◌, ◌<◌, ◌≤◌, List, length, Bool, true, Ok, arith}
 use Rattle.hd_dbd.specs.Types.{SegmentType}
 use Rattle.hd_dbd.specs.Forest.{Forest}
 use Rattle.hd_volume.proofs.CallSteps.{read-ok, read-none, reads-join}
@@ -87,9 +87,9 @@ returns-then-branch-clause-found g c f i end S =
     let at : IsAt c.args.dbd.now u f c.loop-count.path H.number = record { sound = S.sound; row = record { holds = S.leads.holds; within = omega arith; is = I.1 } } in
     let judged = c.in_ok-verdict.ensures.value f H.number (told_before c.args.dbd.now u c.loop-count.volume c.loop-count.invariant.read f c.loop-count.path H.number at) (H.above w) in
     let turned = c.in_ok-follow.ensures.value f H.number
-        (told_before c.args.dbd.now c.loop-count.volume c.judge.new.volume c.in_ok-verdict.ensures.read f c.loop-count.path H.number
-        (told_before c.args.dbd.now u c.loop-count.volume c.loop-count.invariant.read f c.loop-count.path H.number at))
-        test admits end (ends_later types f c.args.parent i end S.leads.ends H.number (omega arith)) w (H.above w) judged in
+    (told_before c.args.dbd.now c.loop-count.volume c.judge.new.volume c.in_ok-verdict.ensures.read f c.loop-count.path H.number
+    (told_before c.args.dbd.now u c.loop-count.volume c.loop-count.invariant.read f c.loop-count.path H.number at))
+    test admits end (ends_later types f c.args.parent i end S.leads.ends H.number (omega arith)) w (H.above w) judged in
     let F = turned.found c.if-branch.true in
     search_finds test admits types f c.args.parent i end c.loop-count.count c.loop-count.path H c.follow.new.path w F.0 F.1
 
@@ -110,9 +110,9 @@ loop-count-preserved g c = record {
       let at : IsAt c.args.dbd.now u f c.loop-count.path H.number = record { sound = S.sound; row = record { holds = S.leads.holds; within = omega arith; is = I.1 } } in
       let judged = c.in_ok-verdict.ensures.value f H.number (told_before c.args.dbd.now u c.loop-count.volume c.loop-count.invariant.read f c.loop-count.path H.number at) (H.above w) in
       let turned = c.in_ok-follow.ensures.value f H.number
-          (told_before c.args.dbd.now c.loop-count.volume c.judge.new.volume c.in_ok-verdict.ensures.read f c.loop-count.path H.number
-          (told_before c.args.dbd.now u c.loop-count.volume c.loop-count.invariant.read f c.loop-count.path H.number at))
-          test admits end (ends_later types f c.args.parent i end S.leads.ends H.number (omega arith)) w (H.above w) judged in
+      (told_before c.args.dbd.now c.loop-count.volume c.judge.new.volume c.in_ok-verdict.ensures.read f c.loop-count.path H.number
+      (told_before c.args.dbd.now u c.loop-count.volume c.loop-count.invariant.read f c.loop-count.path H.number at))
+      test admits end (ends_later types f c.args.parent i end S.leads.ends H.number (omega arith)) w (H.above w) judged in
       search_goes_on test admits types f c.args.parent i end c.loop-count.count c.loop-count.path H c.follow.new.path (turned.on c.if-branch.false);
 }
 

@@ -1,5 +1,5 @@
 use Rattle.std.proofs.Common.{◌≡◌, ℕ, zero, suc, ◌+◌, ◌-◌, ◌<◌, ◌≤◌, ◌||◌, ◌==◌, List, [], ◌∷◌, ◌++◌, length, take, Bool, true, false, Ok, slice_index_or, refl, sym, ap, ap₂, subst, ◌∙◌, arith, inl, inr}
-use Rattle.std.specs.List.{list_any, list_all}
+use Rattle.std.specs.List.{list_any}
 use Rattle.std.proofs.lemmas.Bool.{cases_lt, false≢true, eq-eqb, ne_eqb}
 use Rattle.std.proofs.lemmas.Grind.{take_at_read}
 use Rattle.std.proofs.lemmas.List.Folds.{list_any-append}
@@ -64,11 +64,14 @@ judge-requires-clause-there g c =
     let G = grounds d c.args.volume.now T.0 (c.requires.of sound) T.3.holds in
     let path : List ℕ = c.args.path.now in
     let S = turned path c.copy-whole.result c.addresses-addresses.result.now c.loop-place.above c.push.new.self c.loop-place.place c.saturating_sub-place-end.result c.copy-whole.ensures
-        c.addresses-addresses.ensures.value c.addresses-addresses.ensures.few c.saturating_sub-place-end.ensures c.loop-place-test.true c.loop-place.invariant.above c.push.ensures in
-    let F = above_found d.types m T.0 G.addressed c.args.parent T.2 T.1 path T.3 c.loop-place.place S.0 in
-    (T.0, F.0, subst (λ (xs : List ℕ). IsOnRow d.types m T.0 xs F.0)
-    (sym S.1)
-    (is_row d.types m T.0 G.addressed c.args.parent T.2 T.1 path T.3 c.loop-place.place F.0 S.0 F.1 T.3.holds)))
+    c.addresses-addresses.ensures.value c.addresses-addresses.ensures.few c.saturating_sub-place-end.ensures c.loop-place-test.true c.loop-place.invariant.above c.push.ensures in
+    let F = above_found d.types m T.0 G.addressed c.args.parent T.2 T.1 path T.3 c.loop-place.place S.0 in (
+      T.0,
+      F.0,
+      subst (λ (xs : List ℕ). IsOnRow d.types m T.0 xs F.0)
+          (sym S.1)
+          (is_row d.types m T.0 G.addressed c.args.parent T.2 T.1 path T.3 c.loop-place.place F.0 S.0 F.1 T.3.holds),
+    ))
 
 pub returns-then-below-clause-read : goal.returns-then-below-clause-read
 returns-then-below-clause-read g c = reads-join (Ok tt) c.loop-place.invariant.read (read-ok tt c.in_ok-verdict.ensures.read)
@@ -90,7 +93,7 @@ returns-then-below-clause-value g c f n end sound leads =
     let path : List ℕ = c.args.path.now in
     let place : ℕ = c.loop-place.place in
     let S = turned path c.copy-whole.result c.addresses-addresses.result.now c.loop-place.above c.push.new.self place c.saturating_sub-place-end.result c.copy-whole.ensures
-        c.addresses-addresses.ensures.value c.addresses-addresses.ensures.few c.saturating_sub-place-end.ensures c.loop-place-test.true c.loop-place.invariant.above c.push.ensures in
+    c.addresses-addresses.ensures.value c.addresses-addresses.ensures.few c.saturating_sub-place-end.ensures c.loop-place-test.true c.loop-place.invariant.above c.push.ensures in
     let F = above_found d.types m f G.addressed c.args.parent end n path leads place S.0 in
     let on = subst (λ (xs : List ℕ). IsOnRow d.types m f xs F.0) (sym S.1) (is_row d.types m f G.addressed c.args.parent end n path leads place F.0 S.0 F.1 leads.holds) in
     let at : IsAt d c.args.volume.now f c.push.new.self F.0 = record { sound = sound; row = on } in
@@ -119,7 +122,7 @@ returns-else-below-clause-value g c f n end sound leads =
     let path : List ℕ = c.args.path.now in
     let place : ℕ = c.loop-place.place in
     let S = turned path c.copy-whole.result c.addresses-addresses.result.now c.loop-place.above c.push.new.self place c.saturating_sub-place-end.result c.copy-whole.ensures
-        c.addresses-addresses.ensures.value c.addresses-addresses.ensures.few c.saturating_sub-place-end.ensures c.loop-place-test.true c.loop-place.invariant.above c.push.ensures in
+    c.addresses-addresses.ensures.value c.addresses-addresses.ensures.few c.saturating_sub-place-end.ensures c.loop-place-test.true c.loop-place.invariant.above c.push.ensures in
     let F = above_found d.types m f G.addressed c.args.parent end n path leads place S.0 in
     let on = subst (λ (xs : List ℕ). IsOnRow d.types m f xs F.0) (sym S.1) (is_row d.types m f G.addressed c.args.parent end n path leads place F.0 S.0 F.1 leads.holds) in
     let at : IsAt d c.args.volume.now f c.push.new.self F.0 = record { sound = sound; row = on } in
@@ -174,7 +177,7 @@ loop-place-preserved g c = record {
       let path : List ℕ = c.args.path.now in
       let place : ℕ = c.loop-place.place in
       let S = turned path c.copy-whole.result c.addresses-addresses.result.now c.loop-place.above c.push.new.self place c.saturating_sub-place-end.result c.copy-whole.ensures
-          c.addresses-addresses.ensures.value c.addresses-addresses.ensures.few c.saturating_sub-place-end.ensures c.loop-place-test.true c.loop-place.invariant.above c.push.ensures in
+      c.addresses-addresses.ensures.value c.addresses-addresses.ensures.few c.saturating_sub-place-end.ensures c.loop-place-test.true c.loop-place.invariant.above c.push.ensures in
       let F = above_found d.types m f G.addressed c.args.parent end n path leads place S.0 in
       let on = subst (λ (xs : List ℕ). IsOnRow d.types m f xs F.0) (sym S.1) (is_row d.types m f G.addressed c.args.parent end n path leads place F.0 S.0 F.1 leads.holds) in
       let at : IsAt d c.args.volume.now f c.push.new.self F.0 = record { sound = sound; row = on } in

@@ -1,4 +1,4 @@
-use Rattle.std.proofs.Common.{◌≡◌, ℕ, ◌<◌, ◌||◌, ◌==◌, List, length, take, true, Ok, IsTrue}
+use Rattle.std.proofs.Common.{◌≡◌, ℕ, ◌<◌, ◌||◌, ◌==◌, take, true, Ok, IsTrue}
 use Rattle.std.specs.List.{list_all, list_any}
 use Rattle.hd_dbd.specs.Paths.{path_of}
 use Rattle.hd_dbd.specs.Forest.{Forest}

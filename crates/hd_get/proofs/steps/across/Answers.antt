@@ -1,23 +1,17 @@
-use Rattle.std.proofs.Common.{◌≡◌, ◌≢◌, ℕ, ◌<◌, ◌≤◌, ◌==◌, List, [], ◌∷◌, length, Bool, true, false, IsTrue, Ok, Option, Some, None, refl, sym, ap, subst, ◌∙◌, arith, inl, inr}
-use Rattle.std.specs.Option.{option_map_or}
-use Rattle.std.proofs.lemmas.Bool.{false≢true, eqb-true, eq-eqb}
-use Rattle.hd_dbd.specs.Types.{SegmentType}
+use Rattle.std.proofs.Common.{◌≡◌, ℕ, ◌<◌, ◌≤◌, List, length, Bool, IsTrue, Ok, sym, subst, ◌∙◌, arith}
 use Rattle.hd_dbd.specs.Hierarchy.{Database}
-use Rattle.hd_dbd.specs.Paths.{parent_row}
 use Rattle.hd_dbd.specs.Forest.{Forest}
 use Rattle.hd_volume.specs.Volumes.{VolumeState}
 use Rattle.hd_volume.specs.Calls.{IsRead}
 use Rattle.hd_volume.proofs.CallSteps.{read-ok, read-none, reads-join}
 use Rattle.hd_links.specs.Links.{Links}
-use Rattle.hd_links.specs.Placed.{Placed, Holds}
-use Rattle.hd_links.specs.Steps.{rows_of, address_at, path_at}
-use Rattle.hd_image.specs.Records.{links_of, IsVolumeOf}
-use Rattle.hd_forest.specs.Walks.{tip}
+use Rattle.hd_links.specs.Placed.{Placed}
+use Rattle.hd_links.specs.Steps.{rows_of}
+use Rattle.hd_image.specs.Records.{links_of}
 use Rattle.hd_forest.specs.Rows.{IsOnRow, IsOnSomeRow}
 use Rattle.hd_forest.proofs.Reading.{after-read, links-kept, volume-kept}
-use Rattle.hd_get.specs.Searches.{IsAt, IsClimbed, parent_path, GoesAcross}
+use Rattle.hd_get.specs.Searches.{IsAt, IsClimbed, GoesAcross}
 use Rattle.hd_get.proofs.Grounds.{grounds, tip_is}
-use Rattle.hd_get.proofs.Spans.{parent_span}
 use Rattle.hd_get.proofs.Climbs.{climb_begins, climb_goes_on, climb_crosses, climb_ends, empty_is, full_path, parent_there}
 use Rattle.hd_get.proofs.steps.across.Goals as goal
 use Rattle.hd_get.proofs.steps.across.Goals.{then-loop-path-test+else-tip_of-parent, else-loop-path-test}

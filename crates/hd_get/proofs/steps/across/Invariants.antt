@@ -1,4 +1,4 @@
-use Rattle.std.proofs.Common.{ℕ, Ok, List, length, ◌<◌, IsTrue}
+use Rattle.std.proofs.Common.{ℕ, Ok, length, ◌<◌}
 use Rattle.hd_dbd.specs.Forest.{Forest}
 use Rattle.hd_volume.specs.Calls.{IsRead}
 use Rattle.hd_links.specs.Placed.{Placed}

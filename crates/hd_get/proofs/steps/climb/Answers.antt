@@ -1,10 +1,8 @@
-use Rattle.std.proofs.Common.{◌≡◌, ℕ, ◌-◌, ◌<◌, ◌++◌, ◌∷◌, List, [], length, take, Some, None, true, false, Bool, sym, ap, ap₂, subst, ◌∙◌, arith, inl, inr}
-use Rattle.std.proofs.lemmas.Bool.{false≢true, eqb-true, eq-eqb, cases_lt}
+use Rattle.std.proofs.Common.{◌≡◌, ℕ, ◌-◌, ◌<◌, ◌++◌, ◌∷◌, List, [], length, take, sym, ap, ap₂, subst, ◌∙◌, arith, inl, inr}
+use Rattle.std.proofs.lemmas.Bool.{false≢true, cases_lt}
 use Rattle.hd_links.specs.Links.{IsSegment}
-use Rattle.hd_links.specs.Steps.{address_at, path_at}
+use Rattle.hd_links.specs.Steps.{address_at}
 use Rattle.hd_image.specs.Records.{links_of}
-use Rattle.hd_forest.specs.Walks.{tip}
-use Rattle.hd_get.specs.Searches.{parent_path}
 use Rattle.hd_get.proofs.Grounds.{grounds, tip_is, tip_there}
 use Rattle.hd_get.proofs.Climbs.{up_is, twin_none, twin_some}
 use Rattle.hd_get.proofs.steps.climb.Goals as goal

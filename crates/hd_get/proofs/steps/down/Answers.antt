@@ -1,11 +1,10 @@
-use Rattle.std.proofs.Common.{◌≡◌, ℕ, ◌<◌, ◌≤◌, ◌++◌, ◌∷◌, List, [], length, true, Bool, Some, sym, ap, ap₂, subst, ◌∙◌, arith, inl, inr}
+use Rattle.std.proofs.Common.{◌≡◌, ℕ, ◌<◌, ◌++◌, ◌∷◌, List, [], sym, ap, ap₂, subst, ◌∙◌, arith, inl, inr}
 use Rattle.std.proofs.lemmas.Bool.{cases_lt}
 use Rattle.hd_links.specs.Links.{IsSegment}
-use Rattle.hd_links.specs.Steps.{address_at, path_at}
+use Rattle.hd_links.specs.Steps.{address_at}
 use Rattle.hd_image.specs.Records.{links_of}
-use Rattle.hd_forest.specs.Rows.{IsOnRow, IsOnSomeRow}
-use Rattle.hd_forest.proofs.Reading.{after-read, links-kept, volume-kept}
-use Rattle.hd_get.specs.Searches.{EndsAt, IsWayDown}
+use Rattle.hd_forest.specs.Rows.{IsOnSomeRow}
+use Rattle.hd_forest.proofs.Reading.{links-kept, volume-kept}
 use Rattle.hd_get.proofs.Grounds.{grounds, tip_is, tip_there, short_path, told_before}
 use Rattle.hd_index.proofs.CallLemmas.{on-ok-map}
 use Rattle.hd_get.proofs.Climbs.{child_none, child_some}

@@ -1,4 +1,4 @@
-use Rattle.std.proofs.Common.{◌≡◌, ℕ, ◌+◌, ◌<◌, ◌≤◌, ◌==◌, List, [], length, Bool, sym, ap, subst, ◌∙◌, arith}
+use Rattle.std.proofs.Common.{◌<◌, sym, ap, subst, ◌∙◌, arith}
 use Rattle.hd_links.specs.Steps.{rows_of}
 use Rattle.hd_image.specs.Records.{links_of}
 use Rattle.hd_forest.specs.Walks.{AreSegments, next_after_span_on}

@@ -1,0 +1,151 @@
+-- Verdicts and what they rest on.
+use Rattle.std.proofs.Common.{◌≡◌, ℕ, List, Bool, true, false, sym, ap, subst}
+use Rattle.std.proofs.lemmas.Bool.{false≢true}
+use Rattle.hd_dbd.specs.Types.{SegmentType}
+use Rattle.hd_dbd.specs.Segment.{Segment}
+use Rattle.hd_dbd.specs.Paths.{end_of}
+use Rattle.hd_seek.specs.Admits.{NonePass}
+use Rattle.hd_get.specs.declared.verdict.Verdict.{Verdict}
+use Rattle.hd_get.specs.declared.verdict.Verdict.TheVariants.{Found, Next, Over, Down, Across, Beside, Rest}
+use Rattle.hd_get.specs.Searches.{AllAdmitted, NonePassAcross, IsWayDown, IsJudged}
+
+-- which verdict it is
+is_found : Verdict → Bool
+is_found Found = true
+is_found Next = false
+is_found Over = false
+is_found (Down code) = false
+is_found Across = false
+is_found (Beside code) = false
+is_found Rest = false
+
+is_next : Verdict → Bool
+is_next Found = false
+is_next Next = true
+is_next Over = false
+is_next (Down code) = false
+is_next Across = false
+is_next (Beside code) = false
+is_next Rest = false
+
+is_over : Verdict → Bool
+is_over Found = false
+is_over Next = false
+is_over Over = true
+is_over (Down code) = false
+is_over Across = false
+is_over (Beside code) = false
+is_over Rest = false
+
+is_down : Verdict → Bool
+is_down Found = false
+is_down Next = false
+is_down Over = false
+is_down (Down code) = true
+is_down Across = false
+is_down (Beside code) = false
+is_down Rest = false
+
+is_across : Verdict → Bool
+is_across Found = false
+is_across Next = false
+is_across Over = false
+is_across (Down code) = false
+is_across Across = true
+is_across (Beside code) = false
+is_across Rest = false
+
+is_beside : Verdict → Bool
+is_beside Found = false
+is_beside Next = false
+is_beside Over = false
+is_beside (Down code) = false
+is_beside Across = false
+is_beside (Beside code) = true
+is_beside Rest = false
+
+is_rest : Verdict → Bool
+is_rest Found = false
+is_rest Next = false
+is_rest Over = false
+is_rest (Down code) = false
+is_rest Across = false
+is_rest (Beside code) = false
+is_rest Rest = true
+
+module _ (test admits : ℕ → Bool) (types : List SegmentType) (rows : List Segment) (i : ℕ) where
+  pub judged_found : test i ≡ true → admits i ≡ true → IsJudged test admits types rows i Found
+  unfolding is_next is_over is_down is_across is_beside is_rest
+  judged_found is own = record {
+    admitted = λ e. own;
+    span = λ e. absurd (false≢true (sym e));
+    found = λ e. is;
+    next = λ e. absurd (false≢true (ap is_next e));
+    over = λ e. absurd (false≢true (ap is_over e));
+    down = λ code e. absurd (false≢true (ap is_down e));
+    across = λ e. absurd (false≢true (ap is_across e));
+    beside = λ code e. absurd (false≢true (ap is_beside e));
+    rest = λ e. absurd (false≢true (ap is_rest e));
+  }
+
+  pub judged_next : test i ≡ false → AllAdmitted admits → IsJudged test admits types rows i Next
+  unfolding is_found is_over is_down is_across is_beside is_rest
+  judged_next is all = record {
+    admitted = λ e. all i;
+    span = λ e. absurd (false≢true (sym e));
+    found = λ e. absurd (false≢true (ap is_found e));
+    next = λ e. (is, all);
+    over = λ e. absurd (false≢true (ap is_over e));
+    down = λ code e. absurd (false≢true (ap is_down e));
+    across = λ e. absurd (false≢true (ap is_across e));
+    beside = λ code e. absurd (false≢true (ap is_beside e));
+    rest = λ e. absurd (false≢true (ap is_rest e));
+  }
+
+  pub judged_over : NonePass test i (end_of types rows i) → AllAdmitted admits → IsJudged test admits types rows i Over
+  unfolding is_found is_next is_down is_across is_beside is_rest
+  judged_over none all = record {
+    admitted = λ e. absurd (false≢true e);
+    span = λ e. none;
+    found = λ e. absurd (false≢true (ap is_found e));
+    next = λ e. absurd (false≢true (ap is_next e));
+    over = λ e. all;
+    down = λ code e. absurd (false≢true (ap is_down e));
+    across = λ e. absurd (false≢true (ap is_across e));
+    beside = λ code e. absurd (false≢true (ap is_beside e));
+    rest = λ e. absurd (false≢true (ap is_rest e));
+  }
+
+  pub judged_down : (code : ℕ) → IsWayDown test admits types rows i code → IsJudged test admits types rows i (Down code)
+  unfolding is_found is_next is_over is_across is_beside is_rest
+  judged_down code way = record {
+    admitted = λ e. way.admitted;
+    span = λ e. absurd (false≢true (sym e));
+    found = λ e. absurd (false≢true (ap is_found e));
+    next = λ e. absurd (false≢true (ap is_next e));
+    over = λ e. absurd (false≢true (ap is_over e));
+    down = λ other e. one way e;
+    across = λ e. absurd (false≢true (ap is_across e));
+    beside = λ other e. absurd (false≢true (ap is_beside e));
+    rest = λ e. absurd (false≢true (ap is_rest e));
+  }
+    where
+      one : {other : ℕ} → IsWayDown test admits types rows i code → Down code ≡ Down other → IsWayDown test admits types rows i other
+      one {other} w e = subst (IsWayDown test admits types rows i) (same other e) w
+        where
+          same : (other : ℕ) → Down code ≡ Down other → code ≡ other
+          same other e = cc
+
+  pub judged_across : NonePass test i (end_of types rows i) → NonePassAcross test types rows i → IsJudged test admits types rows i Across
+  unfolding is_found is_next is_over is_down is_beside is_rest
+  judged_across none across = record {
+    admitted = λ e. absurd (false≢true e);
+    span = λ e. none;
+    found = λ e. absurd (false≢true (ap is_found e));
+    next = λ e. absurd (false≢true (ap is_next e));
+    over = λ e. absurd (false≢true (ap is_over e));
+    down = λ code e. absurd (false≢true (ap is_down e));
+    across = λ e. across;
+    beside = λ code e. absurd (false≢true (ap is_beside e));
+    rest = λ e. absurd (false≢true (ap is_rest e));
+  }
