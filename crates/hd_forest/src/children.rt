@@ -95,7 +95,8 @@ pub fn below_later<S: BlockStore>(
     Ok(child_in(dbd, segment, types))
 }
 
-/// The code of the last child type of which a segment has rows, 0 for none; where a type is given, of those before it.
+/// The code of the last child type of which a segment has rows, 0 for none; where a type is given, of those before it. One segment is
+/// read.
 pub fn last_child_type<S: BlockStore>(
     volume: &mut Volume<S>,
     dbd: &Dbd,

@@ -3,12 +3,13 @@ use Rattle.std.proofs.Common.{◌≡◌, ℕ, zero, suc, ◌+◌, ◌-◌, ◌<�
 use Rattle.std.specs.Prelude.{nat_lt, nat_le, map, slice_get, option_map, option_and_then, ◌==◌}
 use Rattle.std.specs.List.{list_any}
 use Rattle.std.proofs.lemmas.Bool.{cases_lt, cases_Bool, cond-true, cond-false, lt-ltb, le-ltb, le-leb, lt-leb, and_from, eq-eqb, false≢true}
-use Rattle.std.proofs.lemmas.List.{append_assoc, length-append}
+use Rattle.std.proofs.lemmas.List.{append_assoc}
 use Rattle.hd_dbd.specs.Types.{SegmentType}
 use Rattle.hd_dbd.specs.Segment.{Segment}
 use Rattle.hd_dbd.specs.Paths.{level_at, path_of, path_above, nearest_above}
 use Rattle.hd_calls.specs.Moves.{number_after_insert, number_after_delete, is_inside}
 use Rattle.hd_position.specs.Kept.{row_on}
+use Rattle.hd_position.proofs.Lists.{last_on, first, rest}
 use Rattle.hd_position.proofs.Splices.{rises, stays, AllBelow}
 
 -- ---- numbers of rows
@@ -30,34 +31,16 @@ nearest_last types rows l (suc n) = elim (cases_lt (level_at types rows n) l) [
   | inl above ↦
       cond-true _ _ _ (lt-ltb (level_at types rows n) l above)
       ∙ sym (ap (λ (p : List ℕ). row_on p (length p)) (cond-true (nat_lt (level_at types rows n) l) (path_of types rows n) (path_above types rows l n) (lt-ltb (level_at types rows n) l above))
-      ∙ last (path_above types rows (level_at types rows n) n) n)
+      ∙ last_on (path_above types rows (level_at types rows n) n) n)
   | inr under ↦
       cond-false _ _ _ (le-ltb (level_at types rows n) l under) ∙ nearest_last types rows l n
       ∙ sym (ap (λ (p : List ℕ). row_on p (length p)) (cond-false (nat_lt (level_at types rows n) l) (path_of types rows n) (path_above types rows l n) (le-ltb (level_at types rows n) l under)))
 ]
-  where
-    get_last : (xs : List ℕ) (x : ℕ) → slice_get (xs ++ x ∷ []) (length xs) ≡ Some x
-    get_last [] x = refl
-    get_last (y ∷ ys) x = get_last ys x
-
-    last : (xs : List ℕ) (x : ℕ) → row_on (xs ++ x ∷ []) (length (xs ++ x ∷ [])) ≡ Some x
-    last xs x = ap (row_on (xs ++ x ∷ [])) (let e : length (xs ++ x ∷ []) ≡ length xs + 1 = length-append xs (x ∷ []) in let s : length (xs ++ x ∷ []) ≡ suc (length xs) = omega arith in s) ∙ get_last xs x
 
 -- an element of a list of numbers that are below a bound
 pub get_below : (b : ℕ) (xs : List ℕ) (i x : ℕ) → AllBelow b xs → slice_get xs i ≡ Some x → x < b
-get_below b [] i x a e = absurd (none (ap is_it e))
-  where
-    is_it : Option ℕ → Bool
-    is_it None = false
-    is_it (Some y) = true
-
-    none : false ≡ true → ⊥
-    none q = false≢true q
-get_below b (y ∷ ys) zero x a e = subst (λ z. z < b) (ap (un y) e) a.0
-  where
-    un : ℕ → Option ℕ → ℕ
-    un d None = d
-    un d (Some z) = z
+get_below b [] i x a e = cc
+get_below b (y ∷ ys) zero x a e = (let same : y ≡ x = cc in subst (λ z. z < b) same a.0)
 get_below b (y ∷ ys) (suc i) x a e = get_below b ys i x a.1 e
 
 -- all numbers of a list are from one number to before another
@@ -74,16 +57,8 @@ in_more a b c [] l h = tt
 in_more a b c (x ∷ xs) l h = (h.0, (let s : x < b = h.1 in omega arith), in_more a b c xs l h.2)
 
 get_in : (a b : ℕ) (xs : List ℕ) (i x : ℕ) → AllIn a b xs → slice_get xs i ≡ Some x → (a ≤ x) × (x < b)
-get_in a b [] i x h e = absurd (false≢true (ap is_it e))
-  where
-    is_it : Option ℕ → Bool
-    is_it None = false
-    is_it (Some y) = true
-get_in a b (y ∷ ys) zero x h e = subst (λ z. (a ≤ z) × (z < b)) (ap (un y) e) (h.0, h.1)
-  where
-    un : ℕ → Option ℕ → ℕ
-    un d None = d
-    un d (Some z) = z
+get_in a b [] i x h e = cc
+get_in a b (y ∷ ys) zero x h e = (let same : y ≡ x = cc in subst (λ z. (a ≤ z) × (z < b)) same (h.0, h.1))
 get_in a b (y ∷ ys) (suc i) x h e = get_in a b ys i x h.2 e
 
 get_left : (xs ys : List ℕ) (i : ℕ) → i < length xs → slice_get (xs ++ ys) i ≡ slice_get xs i
@@ -154,24 +129,8 @@ module _ (i e : ℕ) (some : i < e) where
 
   -- one held row, outside
   pub held_one : (x : ℕ) (o : Option ℕ) → Some x ≡ option_map (number_after_insert i (e - i)) o → (is_inside i e x ≡ false) × (Some (number_after_delete i e x) ≡ o)
-  held_one x None q = absurd (false≢true (ap is_none q))
-    where
-      is_none : Option ℕ → Bool
-      is_none None = true
-      is_none (Some y) = false
-  held_one x (Some z) q = (ap (is_inside i e) (ap (un x) q) ∙ (fall_rise z).0, ap (λ (y : ℕ). Some y) (ap (number_after_delete i e) (ap (un x) q) ∙ (fall_rise z).1))
-    where
-      un : ℕ → Option ℕ → ℕ
-      un d None = d
-      un d (Some y) = y
-
-  abbrev first : Option ℕ → List (Option ℕ) → Option ℕ
-  first d [] = d
-  first d (o ∷ os) = o
-
-  abbrev rest : List (Option ℕ) → List (Option ℕ)
-  rest [] = []
-  rest (o ∷ os) = os
+  held_one x None q = cc
+  held_one x (Some z) q = (let same : x ≡ number_after_insert i (e - i) z = cc in (ap (is_inside i e) same ∙ (fall_rise z).0, ap (λ (y : ℕ). Some y) (ap (number_after_delete i e) same ∙ (fall_rise z).1)))
 
   -- held rows by levels: where each row is told by its level alone
   held_by : (pp pf : List ℕ) (test : ℕ → Bool)
@@ -180,14 +139,8 @@ module _ (i e : ℕ) (some : i < e) where
       → (list_any (is_inside i e) held ≡ list_any test levels)
       × (list_any test levels ≡ false → map (λ (x : ℕ). Some x) (map (number_after_delete i e) held) ≡ map (λ l. row_on pf l) levels)
   held_by pp pf test one [] [] q = (refl, λ _. refl)
-  held_by pp pf test one [] (l ∷ ls) q = absurd (none (ap (λ (x : List (Option ℕ)). length x) q))
-    where
-      none : 0 ≡ suc (length (map (λ h. row_on pp h) ls)) → ⊥
-      none w = omega arith
-  held_by pp pf test one (x ∷ xs) [] q = absurd (none (ap (λ (x : List (Option ℕ)). length x) q))
-    where
-      none : suc (length (map (λ (y : ℕ). Some y) xs)) ≡ 0 → ⊥
-      none w = omega arith
+  held_by pp pf test one [] (l ∷ ls) q = cc
+  held_by pp pf test one (x ∷ xs) [] q = cc
   held_by pp pf test one (x ∷ xs) (l ∷ ls) q =
       let O = one x l (ap (first None) q) in
       let I = held_by pp pf test one xs ls (ap rest q) in (
@@ -262,11 +215,7 @@ module _ (i e : ℕ) (some : i < e) (L : ℕ) (top : 0 < L) (PA pf more : List �
   on_low (suc d) w = get_left PA (i ∷ more) d (omega arith) ∙ ap (λ (xs : List ℕ). slice_get xs d) (sym front) ∙ get_front (L - 1) pf d (omega arith)
 
   low_below : (l x : ℕ) → l < L → row_on (PA ++ i ∷ more) l ≡ Some x → x < i
-  low_below zero x w q = absurd (false≢true (ap is_it q))
-    where
-      is_it : Option ℕ → Bool
-      is_it None = false
-      is_it (Some y) = true
+  low_below zero x w q = cc
   low_below (suc d) x w q = get_below i PA d x low (sym (get_left PA (i ∷ more) d (omega arith)) ∙ q)
 
   high_in : (l x : ℕ) → L ≤ l → row_on (PA ++ i ∷ more) l ≡ Some x → (i ≤ x) × (x < e)
@@ -279,11 +228,7 @@ module _ (i e : ℕ) (some : i < e) (L : ℕ) (top : 0 < L) (PA pf more : List �
 
   high_one : (above o : Option ℕ) → ((x : ℕ) → o ≡ Some x → (i ≤ x) × (x < e)) → (above ≡ None) ⊎ ((x : ℕ) × (o ≡ Some x)) → row_after_delete i e above o ≡ above
   high_one above None h (inl n) = sym n
-  high_one above None h (inr s) = absurd (false≢true (ap is_it s.1))
-    where
-      is_it : Option ℕ → Bool
-      is_it None = false
-      is_it (Some y) = true
+  high_one above None h (inr s) = (let none : None ≡ Some s.0 = s.1 in cc)
   high_one above (Some x) h c = (let b = h x refl in cond-true _ _ _ (inside_true i e some x b.0 b.1))
 
   pub standing_in : (above : Option ℕ) (s : ℕ) → s ≤ length (PA ++ i ∷ more) → above ≡ row_on pf (L - 1) → row_after_delete i e above (row_on (PA ++ i ∷ more) s) ≡ row_on pf (cond (nat_lt s L) s (L - 1))

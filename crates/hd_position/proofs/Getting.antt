@@ -1,7 +1,7 @@
 -- Where a get begins, and what it leaves.
-use Rattle.std.proofs.Common.{◌≡◌, ℕ, zero, suc, ◌+◌, ◌<◌, ◌≤◌, List, [], ◌∷◌, ◌++◌, length, Bool, arith, ap, sym, ◌∙◌, subst, refl, Option, Some, None}
+use Rattle.std.proofs.Common.{◌≡◌, ℕ, zero, suc, ◌+◌, ◌<◌, ◌≤◌, List, [], ◌∷◌, length, Bool, arith, ap, sym, ◌∙◌, subst, refl, Option, Some, None}
 use Rattle.std.specs.Prelude.{map, slice_get, option_map, cond}
-use Rattle.std.proofs.lemmas.List.{length-map, length-append}
+use Rattle.std.proofs.lemmas.List.{length-map}
 use Rattle.hd_dbd.specs.Types.{SegmentType}
 use Rattle.hd_dbd.specs.Paths.{row_at, level_at, path_above, path_of}
 use Rattle.hd_dbd.specs.Positions.{Position, Place}
@@ -17,6 +17,7 @@ use Rattle.hd_forest.specs.Rows.{path_to, IsOnRow, StepsGoToRows}
 use Rattle.hd_position.specs.Kept.{Kept, StandsFor, AreRowsOn, path_passed, path_before, row_on}
 use Rattle.hd_position.specs.Standing.{standing_on, parent_kept}
 use Rattle.hd_position.specs.Gets.{AreTaken, KeepsParent}
+use Rattle.hd_position.proofs.Lists.{last_on}
 use Rattle.hd_position.proofs.Rising.{row_on_map}
 use Rattle.hd_position.proofs.Splices.{AllBelow, below_more}
 use Rattle.hd_position.proofs.Falling.{get_below}
@@ -41,15 +42,7 @@ module _ (types : List SegmentType) (m : Links) (f : Forest Placed) (S : StepsGo
 
 -- ---- the row found
 
--- the last on a path
-last_on : (xs : List ℕ) (x : ℕ) → row_on (xs ++ x ∷ []) (length (xs ++ x ∷ [])) ≡ Some x
-last_on xs x = ap (row_on (xs ++ x ∷ [])) (let e : length (xs ++ x ∷ []) ≡ length xs + 1 = length-append xs (x ∷ []) in let s : length (xs ++ x ∷ []) ≡ suc (length xs) = omega arith in s) ∙ got xs x
-  where
-    got : (xs : List ℕ) (x : ℕ) → slice_get (xs ++ x ∷ []) (length xs) ≡ Some x
-    got [] x = refl
-    got (y ∷ ys) x = got ys x
-
--- a level at which something stands is on the path, and so is one at which nothing stands above its end: none
+-- a level at which something stands is on the path
 level_on : (xs : List ℕ) (l : ℕ) (x : ℕ) → row_on xs l ≡ Some x → l ≤ length xs
 level_on xs zero x e = omega arith
 level_on xs (suc l) x e = within xs l x e
@@ -59,6 +52,7 @@ level_on xs (suc l) x e = within xs l x e
     within (y ∷ ys) zero x e = omega arith
     within (y ∷ ys) (suc l) x e = (let i : suc l ≤ length ys = within ys l x e in omega arith)
 
+-- a level on the path at which nothing stands is 0
 no_level : (xs : List ℕ) (l : ℕ) → l ≤ length xs → row_on xs l ≡ None → l ≡ 0
 no_level xs zero w e = refl
 no_level xs (suc l) w e = absurd (some xs l (omega arith) e)

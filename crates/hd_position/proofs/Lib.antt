@@ -1,3 +1,4 @@
+pub mod Lists
 pub mod Splices
 pub mod Rising
 pub mod Leaves

@@ -1,5 +1,5 @@
 -- In a span just those rows stand that have its row's address on their path.
-use Rattle.std.proofs.Common.{◌≡◌, ℕ, zero, suc, ◌+◌, ◌<◌, ◌≤◌, List, [], ◌∷◌, ◌++◌, length, Bool, true, false, ap, sym, ◌∙◌, arith, inl, inr, refl, Option, Some, None, ◌&&◌}
+use Rattle.std.proofs.Common.{◌≡◌, ℕ, zero, suc, ◌+◌, ◌<◌, ◌≤◌, List, [], ◌∷◌, length, Bool, true, false, ap, sym, ◌∙◌, arith, inl, inr, refl, Option, Some, None, ◌&&◌}
 use Rattle.std.specs.Prelude.{◌==◌, nat_le, nat_lt, slice_get, option_map, is_some}
 use Rattle.std.specs.List.{list_any}
 use Rattle.std.specs.Option.{option_eq}
@@ -18,6 +18,7 @@ use Rattle.hd_calls.proofs.Spans.{IsEnd, end_is}
 use Rattle.hd_calls.proofs.PathSpans.{spans_below}
 use Rattle.hd_position.specs.Kept.{row_on}
 use Rattle.hd_position.specs.Laws.{IsHeld, SpansAreOnPaths}
+use Rattle.hd_position.proofs.Lists.{got_behind}
 use Rattle.hd_position.proofs.Splices.{AllBelow, above_below, below_end, below_more}
 use Rattle.hd_position.proofs.Rising.{row_on_map}
 use Rattle.hd_position.proofs.Falling.{span_path, get_below}
@@ -35,11 +36,6 @@ got_is_in x (y ∷ ys) (suc l) e = or_right (y == x) (list_any (λ j. j == x) ys
 row_is_in : (x : ℕ) (xs : List ℕ) (l : ℕ) → row_on xs l ≡ Some x → list_any (λ j. j == x) xs ≡ true
 row_is_in x xs zero e = absurd (false≢true (ap is_some e))
 row_is_in x xs (suc l) e = got_is_in x xs l e
-
--- what stands behind so many
-got_behind : (xs ys : List ℕ) (y : ℕ) → slice_get (xs ++ y ∷ ys) (length xs) ≡ Some y
-got_behind [] ys y = refl
-got_behind (x ∷ xs) ys y = got_behind xs ys y
 
 module _ (block_size : ℕ) (frspc : FreeSpace) (types : List SegmentType) (bound : ℕ) (m : Links) (f : Forest Placed) (i q : ℕ)
     (D : IsHeld block_size frspc types bound m f) (within : i < length (rows_of f)) (other : q < length (rows_of f)) where

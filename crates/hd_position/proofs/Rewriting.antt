@@ -14,6 +14,7 @@ use Rattle.hd_links.proofs.Numbers.{rows_addressed}
 use Rattle.hd_links.proofs.RowChanges.{bytes_in}
 use Rattle.hd_position.specs.Kept.{StandsFor, AreRowsOn, path_passed, row_on, is_held, without_hold}
 use Rattle.hd_position.specs.Laws.{EndedHoldsHoldNothing, RewritingEndsHolds, RewritesAddUp}
+use Rattle.hd_position.proofs.Lists.{first, rest}
 use Rattle.hd_position.proofs.Splices.{AllBelow, below_more}
 use Rattle.hd_position.proofs.Rising.{row_on_map}
 use Rattle.hd_position.proofs.Falling.{get_below}
@@ -36,14 +37,6 @@ unheld_stands types f k q F = record {
 }
 
 -- ---- which holds end
-
-abbrev first : Option ℕ → List (Option ℕ) → Option ℕ
-first d [] = d
-first d (o ∷ os) = o
-
-abbrev rest : List (Option ℕ) → List (Option ℕ)
-rest [] = []
-rest (o ∷ os) = os
 
 module _ (m : Links) (f : Forest Placed) (R : RowsHaveAddresses m f) (i : ℕ) (within : i < length (rows_of f)) (path : List ℕ) (below : AllBelow (length (rows_of f)) path) where
   abbrev at_level : ℕ → Bool

@@ -11,6 +11,7 @@ use Rattle.hd_links.specs.Placed.{Placed}
 use Rattle.hd_links.specs.Steps.{rows_of, address_at, path_at}
 use Rattle.hd_calls.specs.Moves.{number_after_insert, passed_after_insert, position_after_insert}
 use Rattle.hd_position.specs.Kept.{Kept, StandsFor, path_passed, row_on}
+use Rattle.hd_position.proofs.Lists.{first, rest}
 use Rattle.hd_position.proofs.Splices.{IsSpliced, path_rises, rises, stays}
 
 -- ---- lists
@@ -28,26 +29,12 @@ row_on_map g path (suc l) = get_map g path l
 pub held_map : (g : ℕ → ℕ) (path held levels : List ℕ) → map (λ (i : ℕ). Some i) held ≡ map (λ l. row_on path l) levels
     → map (λ (i : ℕ). Some i) (map g held) ≡ map (λ l. row_on (map g path) l) levels
 held_map g path [] [] e = refl
-held_map g path [] (l ∷ ls) e = absurd (none (ap (λ (x : List (Option ℕ)). length x) e))
-  where
-    none : 0 ≡ suc (length (map (λ k. row_on path k) ls)) → ⊥
-    none q = omega arith
-held_map g path (x ∷ xs) [] e = absurd (none (ap (λ (x : List (Option ℕ)). length x) e))
-  where
-    none : suc (length (map (λ (i : ℕ). Some i) xs)) ≡ 0 → ⊥
-    none q = omega arith
+held_map g path [] (l ∷ ls) e = cc
+held_map g path (x ∷ xs) [] e = cc
 held_map g path (x ∷ xs) (l ∷ ls) e =
     ap₂ (λ (o : Option ℕ) (os : List (Option ℕ)). o ∷ os)
     (ap (option_map g) (ap (first None) e) ∙ sym (row_on_map g path l))
     (held_map g path xs ls (ap rest e))
-  where
-    first : Option ℕ → List (Option ℕ) → Option ℕ
-    first d [] = d
-    first d (o ∷ os) = o
-
-    rest : List (Option ℕ) → List (Option ℕ)
-    rest [] = []
-    rest (o ∷ os) = os
 
 pub map_both_ways : (g h : ℕ → ℕ) (xs : List ℕ) (k : ℕ → ℕ) → ((x : ℕ) → g (k x) ≡ h x) → map g (map k xs) ≡ map h xs
 map_both_ways g h [] k e = refl

@@ -12,7 +12,8 @@ use hd_dbd::{Dbd, Refused};
 use hd_forest::{Path, code_at, next_row, tip_of};
 use hd_volume::{BlockStore, Volume};
 
-/// The path of the row behind those that a PCB has passed, empty behind the last row. No memory is taken.
+/// The path of the row behind those that a PCB has passed, empty behind the last row. At most the rows on its own path are read and
+/// the one that is found; no memory is taken.
 pub fn begin<S: BlockStore>(
     volume: &mut Volume<S>,
     dbd: &Dbd,
