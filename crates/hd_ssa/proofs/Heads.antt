@@ -116,14 +116,6 @@ ssas_named s (c ∷ cs) [] = refl
 ssas_named s (c ∷ cs) (h ∷ hs) =
     ap (λ (r : Result (List Ssa) Status). result_and_then (read_ssa s c h) (λ a. result_and_then r (λ rest. Ok (a ∷ rest)))) (ssas_named s cs hs)
 
--- ---- one argument more
-
-pub ssas_next : (s : Setting) (cs : List ℕ) (ns : List Named) (i : ℕ) (c : ℕ) (n : Named) → i < length cs → i < length ns → c ≡ get_or cs i c → n ≡ get_or ns i n
-    → read_ssas s (drop i cs) (heads_in (drop i ns))
-    ≡ result_and_then (read_ssa s c n.head) (λ a. result_and_then (read_ssas s (drop (i + 1) cs) (heads_in (drop (i + 1) ns))) (λ rest. Ok (a ∷ rest)))
-ssas_next s cs ns i c n one two code head =
-    ap₂ (λ (xs : List ℕ) (ys : List Named). read_ssas s xs (heads_in ys)) (drop_more cs i c one ∙ ap (λ x. x ∷ drop (i + 1) cs) (sym code)) (drop_more ns i n two ∙ ap (λ x. x ∷ drop (i + 1) ns) (sym head))
-
 -- ---- one head more
 
 longer : (o : Option (List Named)) (so_far : List Named) (n : Named) → option_map (λ ns. (so_far ++ n ∷ []) ++ ns) o ≡ option_map (λ ns. so_far ++ ns) (option_map (λ ns. n ∷ ns) o)

@@ -13,9 +13,6 @@ use Rattle.hd_ssa.specs.Named.{Named, named, all_named, named_heads, heads_in, c
 use Rattle.hd_ssa.proofs.Heads.{named_all, suit_named, codes_named, types_named, ssas_named}
 
 module _ (s : Setting) (f : Function) where
-  ns_of : List Head → List Named
-  ns_of hs = all_named s hs
-
   -- the types and the qualifications of heads
   behind_heads : (hs : List Head)
       → result_and_then (ok_if (nat_le (length (all_named s hs)) 15) AC (all_named s hs)) (λ ns. result_and_then (ok_or (codes_down s.types None ns) AC) (λ cs.

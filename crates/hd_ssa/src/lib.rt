@@ -12,3 +12,10 @@ mod resolution;
 pub use fault::SsaFault;
 pub use head::Ssa;
 pub use resolution::{Resolved, ResolvedSsa, resolve};
+
+#[cfg(test)]
+mod making;
+#[cfg(test)]
+mod plain;
+#[cfg(test)]
+mod tests;
