@@ -16,3 +16,6 @@ pub use plain::Plain;
 pub use searching::find;
 pub use settling::settle;
 pub use verdict::Verdict;
+
+#[cfg(test)]
+mod tests;
