@@ -1,4 +1,4 @@
-//! The first row of a volume that satisfies a call.
+//! The search of a get over a volume: from where it begins to the first row that passes.
 #![tactic(auto)]
 
 mod access;
