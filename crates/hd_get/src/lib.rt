@@ -9,6 +9,7 @@ mod searching;
 mod settling;
 mod steps;
 mod verdict;
+mod ways;
 
 pub use judge::Judge;
 pub use meeting::meets;
