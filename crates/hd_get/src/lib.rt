@@ -2,8 +2,10 @@
 #![tactic(auto)]
 
 mod access;
+mod arguments;
 mod judge;
 mod meeting;
+mod named;
 mod plain;
 mod searching;
 mod settling;
@@ -13,6 +15,7 @@ mod ways;
 
 pub use judge::Judge;
 pub use meeting::meets;
+pub use named::Named;
 pub use plain::Plain;
 pub use searching::find;
 pub use settling::settle;
