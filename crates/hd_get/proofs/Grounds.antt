@@ -1,9 +1,14 @@
 -- What is known of the rows of a forest that a volume holds.
-use Rattle.std.proofs.Common.{◌≡◌, ℕ, ◌<◌, ◌≤◌, arith, Some, List, length, sym, ap, subst, ◌∙◌}
+use Rattle.std.proofs.Common.{◌≡◌, ℕ, ◌<◌, ◌≤◌, arith, Some, None, List, [], length, refl, sym, ap, subst, ◌∙◌}
 use Rattle.hd_dbd.specs.Types.{SegmentType}
 use Rattle.hd_dbd.specs.Hierarchy.{Database}
 use Rattle.hd_dbd.specs.Segment.{Segment}
 use Rattle.hd_dbd.specs.Paths.{row_at, level_at}
+use Rattle.hd_dbd.specs.Rows.{valid}
+use Rattle.hd_dbd.proofs.LevelLaw.{leveled}
+use Rattle.hd_dbd.proofs.Sequences.{walk}
+use Rattle.std.proofs.lemmas.List.{append-nil}
+use Rattle.hd_seek.specs.Admits.{AreRowsOf}
 use Rattle.hd_dbd.specs.Forest.{Forest}
 use Rattle.std.specs.Prelude.{Ok}
 use Rattle.hd_volume.specs.Volumes.{VolumeState}
@@ -11,7 +16,7 @@ use Rattle.hd_volume.specs.Calls.{IsRead}
 use Rattle.hd_forest.proofs.Reading.{after-read}
 use Rattle.hd_get.specs.Searches.{IsAt}
 use Rattle.hd_links.specs.Links.{Links, IsSegment}
-use Rattle.hd_links.specs.Placed.{Placed, Holds}
+use Rattle.hd_links.specs.Placed.{Placed, Holds, forest_of}
 use Rattle.hd_links.specs.Steps.{rows_of, address_at, path_at, tip_from, RowsHaveAddresses, StepsAreRows}
 use Rattle.hd_image.specs.Records.{links_of, IsVolumeOf}
 use Rattle.hd_forest.specs.Walks.{tip}
@@ -22,6 +27,16 @@ use Rattle.hd_forest.proofs.Walking.{addressed, steps-found}
 use Rattle.hd_position.specs.Laws.{IsHeld}
 use Rattle.hd_position.proofs.Before.{path_levels}
 use Rattle.hd_get.proofs.Spans.{child_is, parent_span}
+
+-- the rows of a forest that a volume holds are rows of its database
+pub held_rows : (d : Database) (v : VolumeState) (f : Forest Placed) → IsVolumeOf d v → Holds d.types (links_of d.types v) f → AreRowsOf d.types (rows_of f)
+held_rows d v f of holds = record {
+  block_size = d.block_size;
+  free_space = d.frspc;
+  formed = of.fit;
+  fit = ap (λ (rows : List Segment). valid d.types rows) (sym (append-nil (rows_of f)))
+      ∙ (walk d.types (leveled d.block_size d.frspc d.types of.fit) (forest_of f) [] [] [] None None refl tt refl holds.fits).1;
+}
 
 -- Rows have addresses, and the steps by pointers are the steps by rows.
 pub record Grounds (types : List SegmentType) (m : Links) (f : Forest Placed) : Type 0 where

@@ -3,11 +3,12 @@ use Rattle.std.proofs.Common.{◌≡◌, ℕ, List, Bool, true, false, sym, ap, 
 use Rattle.std.proofs.lemmas.Bool.{false≢true}
 use Rattle.hd_dbd.specs.Types.{SegmentType}
 use Rattle.hd_dbd.specs.Segment.{Segment}
-use Rattle.hd_dbd.specs.Paths.{end_of}
+use Rattle.hd_dbd.specs.Paths.{parent_row, end_of}
+use Rattle.hd_calls.specs.Places.{end_below}
 use Rattle.hd_seek.specs.Admits.{NonePass}
 use Rattle.hd_get.specs.declared.verdict.Verdict.{Verdict}
 use Rattle.hd_get.specs.declared.verdict.Verdict.TheVariants.{Found, Next, Over, Down, Across, Beside, Rest}
-use Rattle.hd_get.specs.Searches.{AllAdmitted, NonePassAcross, IsWayDown, IsJudged}
+use Rattle.hd_get.specs.Searches.{AllAdmitted, NonePassAcross, IsWayDown, IsWayBeside, IsJudged}
 
 -- which verdict it is
 is_found : Verdict → Bool
@@ -148,4 +149,39 @@ module _ (test admits : ℕ → Bool) (types : List SegmentType) (rows : List Se
     across = λ e. across;
     beside = λ code e. absurd (false≢true (ap is_beside e));
     rest = λ e. absurd (false≢true (ap is_rest e));
+  }
+
+  pub judged_beside : (code : ℕ) → NonePass test i (end_of types rows i) → IsWayBeside test admits types rows i code → IsJudged test admits types rows i (Beside code)
+  unfolding is_found is_next is_over is_down is_across is_rest
+  judged_beside code none way = record {
+    admitted = λ e. absurd (false≢true e);
+    span = λ e. none;
+    found = λ e. absurd (false≢true (ap is_found e));
+    next = λ e. absurd (false≢true (ap is_next e));
+    over = λ e. absurd (false≢true (ap is_over e));
+    down = λ other e. absurd (false≢true (ap is_down e));
+    across = λ e. absurd (false≢true (ap is_across e));
+    beside = λ other e. one way e;
+    rest = λ e. absurd (false≢true (ap is_rest e));
+  }
+    where
+      one : {other : ℕ} → IsWayBeside test admits types rows i code → Beside code ≡ Beside other → IsWayBeside test admits types rows i other
+      one {other} w e = subst (IsWayBeside test admits types rows i) (same other e) w
+        where
+          same : (other : ℕ) → Beside code ≡ Beside other → code ≡ other
+          same other e = cc
+
+  pub judged_rest : NonePass test i (end_of types rows i) → NonePass test i (end_below types rows (parent_row types rows i)) → NonePassAcross test types rows i
+      → IsJudged test admits types rows i Rest
+  unfolding is_found is_next is_over is_down is_across is_beside
+  judged_rest span none across = record {
+    admitted = λ e. absurd (false≢true e);
+    span = λ e. span;
+    found = λ e. absurd (false≢true (ap is_found e));
+    next = λ e. absurd (false≢true (ap is_next e));
+    over = λ e. absurd (false≢true (ap is_over e));
+    down = λ code e. absurd (false≢true (ap is_down e));
+    across = λ e. absurd (false≢true (ap is_across e));
+    beside = λ code e. absurd (false≢true (ap is_beside e));
+    rest = λ e. (none, across);
   }

@@ -6,3 +6,4 @@ pub mod Keys
 pub mod Ways
 pub mod Levels
 pub mod Starts
+pub mod Beside

@@ -34,7 +34,7 @@ pub record IsFirstChild (types : List SegmentType) (rows : List Segment) (code q
   pub parent_is : parent_row types rows j ≡ Some q
   pub least : (k : ℕ) → q < k → (row_at rows k).code ≡ code → parent_row types rows k ≡ Some q → j ≤ k
 
-first_child_is : (types : List SegmentType) (rows : List Segment) (code q j : ℕ) → first_child types rows code q ≡ Some j → IsFirstChild types rows code q j
+pub first_child_is : (types : List SegmentType) (rows : List Segment) (code q j : ℕ) → first_child types rows code q ≡ Some j → IsFirstChild types rows code q j
 first_child_is types rows code q j is =
     let L = least_some (λ k. (row_at rows k).code == code && is_child types rows (Some q) k) (end_of types rows q - (q + 1)) (q + 1) j is in
     let P = and_parts ((row_at rows j).code == code) (is_child types rows (Some q) j) L.2 in

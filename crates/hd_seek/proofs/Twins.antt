@@ -71,7 +71,7 @@ module _ (types : List SegmentType) (rows : List Segment) (over : AreRowsOf type
       )
 
   -- a twin is below one's parent
-  twin_within : (t : ℕ) → t < length rows → is_twin types rows i t ≡ true → t < end_below types rows (parent_row types rows i)
+  pub twin_within : (t : ℕ) → t < length rows → is_twin types rows i t ≡ true → t < end_below types rows (parent_row types rows i)
   twin_within t tw twin = by_parent (parent_row types rows i) refl
     where
       same : parent_row types rows t ≡ parent_row types rows i

@@ -72,7 +72,7 @@ module _ (types : List SegmentType) (levels : Leveled types) where
             | inr v ↦ or_right (H.parent == a) _ (more_types types (level_of types H.parent) (level_of types c - 1) H.parent a (omega arith) (at_level l H.parent (omega arith) n v))
           ])
 
-  parent_under : (c p : ℕ) → parent_of types c ≡ Some p → is_under types c p ≡ true
+  pub parent_under : (c p : ℕ) → parent_of types c ≡ Some p → is_under types c p ≡ true
   parent_under c p is =
       let low : level_of types p < level_of types c = parent_level c p is in
       let fuel : level_of types c ≡ suc (level_of types c - 1) = omega arith in
@@ -173,7 +173,7 @@ module _ (types : List SegmentType) (levels : Leveled types) where
   child_level : (c p : ℕ) → parent_of types c ≡ Some p → level_of types c ≡ level_of types p + 1
   child_level c p is = (let T = stands c p is in type_level types levels c T.0 T.1 ∙ ap (λ o. depth_below types o + 1) is)
 
-  down_parts : (target code c : ℕ) → is_way_down types target code c ≡ true → (parent_of types c ≡ Some code) × (is_on_way types target c ≡ true)
+  pub down_parts : (target code c : ℕ) → is_way_down types target code c ≡ true → (parent_of types c ≡ Some code) × (is_on_way types target c ≡ true)
   down_parts target code c is = (let P = and_parts _ _ is in ((option_eq-Decides (parent_of types c) (Some code)).0 P.0, P.1))
 
   -- a way down is one of the types
@@ -191,10 +191,10 @@ module _ (types : List SegmentType) (levels : Leveled types) where
       let D = down_parts target code d two in
       one_way (level_of types target) (level_of types target) target c d C.1 D.1 (child_level c code C.0 ∙ sym (child_level d code D.0))
 
-  down_found : (target code c : ℕ) → way_down types target code ≡ Some c → is_way_down types target code c ≡ true
+  pub down_found : (target code c : ℕ) → way_down types target code ≡ Some c → is_way_down types target code c ≡ true
   down_found target code c is = (least_some (is_way_down types target code) (length types + 1 - 1) 1 c is).2
 
-  down_of : (target code c : ℕ) → is_way_down types target code c ≡ true → way_down types target code ≡ Some c
+  pub down_of : (target code c : ℕ) → is_way_down types target code c ≡ true → way_down types target code ≡ Some c
   down_of target code c is = by_found (way_down types target code) refl
     where
       by_found : (o : Option ℕ) → way_down types target code ≡ o → o ≡ Some c
@@ -206,7 +206,7 @@ module _ (types : List SegmentType) (levels : Leveled types) where
           absurd (false≢true (sym wrong ∙ is)))
       by_found (Some d) found = ap (λ (x : ℕ). Some x) (down_one target code d c (down_found target code d found) is)
 
-  down_some : (target code : ℕ) → is_some (way_down types target code) ≡ is_under types target code
+  pub down_some : (target code : ℕ) → is_some (way_down types target code) ≡ is_under types target code
   down_some target code = by_under (is_under types target code) refl
     where
       by_under : (b : Bool) → is_under types target code ≡ b → is_some (way_down types target code) ≡ b

@@ -1,6 +1,6 @@
 ghost use Rattle.hd_seek.specs.Spans.{ResolvedSsasDescend, SatisfyingRowsAreNamed, NamedRowsAreAdmitted, SpansFail, OtherTypesFail, UnreadSpansFail, SpansAreByPath};
 ghost use Rattle.hd_seek.specs.Twins.{NextTwinsFollow, TwinsFail, PastKeysFail, EarlierRootsFail, LastTwinsHaveL};
-ghost use Rattle.hd_seek.specs.Ways.{WaysDownAreUnique, FirstChildrenFollow};
+ghost use Rattle.hd_seek.specs.Ways.{WaysDownAreUnique, FirstChildrenFollow, NoLaterTypesFail, LaterTypesFollow};
 ghost use Rattle.hd_seek.specs.Levels.{PathsAreByLevel, TypesAreByLevel, PathRowsAreByLevel};
 ghost use Rattle.hd_seek.specs.Starts.{OnlyTheTopmostLowers, FirstChildrenAreByPath, ParentsComeFirst};
 
@@ -72,6 +72,16 @@ pub fn law_ways_down_are_unique()
 /// From a row on no row is named before its first child of the type on the way down.
 pub fn law_first_children_follow()
     ensures { FirstChildrenFollow }
+{}
+
+/// Where a row's type is off the way and none beside it on the way comes later, the rest of the parent's rows fail.
+pub fn law_no_later_types_fail()
+    ensures { NoLaterTypesFail }
+{}
+
+/// A row stands before its parent's first child of a later type.
+pub fn law_later_types_follow()
+    ensures { LaterTypesFollow }
 {}
 
 /// A path has a row on each level down to its last row's.

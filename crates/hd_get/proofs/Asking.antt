@@ -1,0 +1,236 @@
+-- Why a search by segment search arguments goes where it goes from a row.
+use Rattle.std.proofs.Common.{◌≡◌, ℕ, ◌+◌, ◌-◌, ◌<◌, ◌≤◌, List, [], ◌∷◌, length, Bool, true, false, Option, Some, None, refl, sym, ap, subst, ◌∙◌, arith, inl, inr}
+use Rattle.std.specs.Prelude.{◌==◌, ◌&&◌, ◌||◌, cond, nat_lt, unwrap_or, is_some, option_map, option_and_then, IfSome}
+use Rattle.std.specs.Option.{option_map_or}
+use Rattle.std.specs.List.{list_all, list_any}
+use Rattle.std.proofs.lemmas.Bool.{cases_lt, cases_Bool, cond-true, cond-false, lt-ltb, le-ltb, eq-eqb, eqb-true, ne_eqb, and_parts, and_from, or_cases, false≢true}
+use Rattle.hd_dbd.specs.Types.{SegmentType}
+use Rattle.hd_dbd.specs.Hierarchy.{parent_of}
+use Rattle.hd_dbd.specs.Segment.{Segment}
+use Rattle.hd_dbd.specs.Paths.{row_at, parent_row, path_of, end_of}
+use Rattle.hd_dbd.specs.Prefixes.{children_of}
+use Rattle.hd_dbd.specs.Letters.{gives_get}
+use Rattle.hd_dbd.proofs.LevelLaw.{typed}
+use Rattle.hd_dbd.proofs.Levels.{type_within}
+use Rattle.hd_prefix.proofs.Listed.{children_listed}
+use Rattle.hd_links.specs.Links.{is_child_type}
+use Rattle.hd_calls.specs.Access.{may}
+use Rattle.hd_calls.specs.Ssas.{target_code}
+use Rattle.hd_calls.specs.Satisfies.{is_named}
+use Rattle.hd_calls.specs.Places.{end_below}
+use Rattle.hd_calls.proofs.Spans.{end_is}
+use Rattle.hd_calls.proofs.Searches.{least_some}
+use Rattle.hd_seek.specs.Admits.{NonePass, AreRowsOf, IsSearch, admits, is_on_way}
+use Rattle.hd_seek.specs.Keys.{is_past}
+use Rattle.hd_seek.specs.Twins.{next_twin}
+use Rattle.hd_seek.specs.Ways.{way_down, way_beside}
+use Rattle.hd_seek.proofs.OnPaths.{has, levels_are, sequence_is, spans_on, parent_code}
+use Rattle.hd_seek.proofs.Admitting.{named_admitted}
+use Rattle.hd_seek.proofs.Failing.{spans_fail, other_types_fail}
+use Rattle.hd_seek.proofs.Twins.{next_twins, twin_within}
+use Rattle.hd_seek.proofs.Keys.{past_keys_fail}
+use Rattle.hd_seek.proofs.Ways.{first_children, down_some, down_found, down_parts}
+use Rattle.hd_seek.proofs.Beside.{no_later_types, later_types}
+use Rattle.hd_get.specs.declared.verdict.Verdict.TheVariants.{Found, Down, Across, Beside, Rest}
+use Rattle.hd_get.specs.Searches.{is_above_admitted, twin_or_end, child_or_end, NonePassAcross, IsWayDown, IsJudged}
+use Rattle.hd_get.specs.Asking.{Asked, SsasSuit, is_asked, is_admitted, verdict_beside, verdict_down}
+use Rattle.hd_get.proofs.Spans.{parent_span, parent_within, above_parent, whole_admitted}
+use Rattle.hd_get.proofs.Judging.{judged_found, judged_down, judged_across, judged_beside, judged_rest}
+
+-- a type is a child type of its parent
+child_of : (types : List SegmentType) (p c : ℕ) → (p ≡ 0 → ⊥) → parent_of types c ≡ Some p → is_child_type types p c ≡ true
+child_of types p c some is =
+    ap (λ (xs : List ℕ). list_any (λ u. u == c) xs) (cond-false (p == 0) (1 ∷ []) (children_of types p) (ne_eqb p 0 some))
+    ∙ children_listed types p c ∙ ap (λ (o : Option ℕ). option_map_or (λ q. q == p) o false) is ∙ eq-eqb p p refl
+
+-- what passes for all numbers of a list passes for one of it, and what follows from it passes for all
+passes_on : (test : ℕ → Bool) (k : ℕ) (xs : List ℕ) → list_all test xs ≡ true → has k xs ≡ true → test k ≡ true
+passes_on test k [] all on = cc
+passes_on test k (x ∷ xs) all on =
+    let P = and_parts (test x) (list_all test xs) all in
+    elim (or_cases (x == k) (has k xs) on) [
+      | inl here ↦ ap test (sym (eqb-true x k here)) ∙ P.0
+      | inr behind ↦ passes_on test k xs P.1 behind
+    ]
+
+all_pass : (test other : ℕ → Bool) → ((k : ℕ) → test k ≡ true → other k ≡ true) → (xs : List ℕ) → list_all test xs ≡ true → list_all other xs ≡ true
+all_pass test other more [] all = refl
+all_pass test other more (x ∷ xs) all = (let P = and_parts (test x) (list_all test xs) all in and_from _ _ (more x P.0) (all_pass test other more xs P.1))
+
+module _ (types : List SegmentType) (rows : List Segment) (a : Asked) (over : AreRowsOf types rows) (suits : SsasSuit types a.ssas) where
+  -- a row is asked for where it is named and may be read
+  asked_is : (j : ℕ) → is_asked a types rows j ≡ (is_named types rows a.ssas j && may (record { types = types; pcb = a.pcb }) gives_get (row_at rows j).code)
+  asked_is j =
+      ap (λ (b : Bool). (b || is_named types rows a.ssas j) && may (record { types = types; pcb = a.pcb }) gives_get (row_at rows j).code)
+      (ne_eqb (length a.ssas) 0 (λ z. (let some : 0 < length a.ssas = suits.0 in omega arith)))
+
+  none_asked : (from to : ℕ) → NonePass (is_named types rows a.ssas) from to → NonePass (is_asked a types rows) from to
+  none_asked from to none j low high = asked_is j ∙ ap (λ (b : Bool). b && may (record { types = types; pcb = a.pcb }) gives_get (row_at rows j).code) (none j low high)
+
+  search_of : IsSearch types rows a.ssas
+  search_of = record { over = over; descend = suits.1 }
+
+  module _ (i : ℕ) (within : i < length rows) (above : is_above_admitted (is_admitted a types rows) types rows i ≡ true) where
+    -- the rows above are admitted
+    above_is : (k : ℕ) → k < i → i < end_of types rows k → is_admitted a types rows k ≡ true
+    above_is k low inside =
+        let P = parent_within types rows k i low within inside in
+        let S = parent_span types rows i P.0 within P.1 in
+        let before : P.0 < i = S.0 in
+        passes_on (is_admitted a types rows) k (path_of types rows P.0)
+        (sym (ap (λ (o : Option ℕ). option_map_or (λ q. list_all (is_admitted a types rows) (path_of types rows q)) o true) P.1) ∙ above)
+        (spans_on types rows k P.0 (omega arith) (record { from = P.2; to = omega arith }))
+
+    -- none passes from the spans that the row lies in to the next twins
+    across_of : NonePass (is_asked a types rows) (end_of types rows i) (twin_or_end types rows i) → NonePassAcross (is_asked a types rows) types rows i
+    across_of own k low inside = elim (cases_lt k i) [
+      | inl w ↦ none_asked (end_of types rows k) (twin_or_end types rows k)
+          (next_twins types rows a.ssas k over (omega arith) (and_parts (is_on_way types (target_code a.ssas) (row_at rows k).code) _ (above_is k w inside)).0)
+      | inr w ↦ subst (λ x. NonePass (is_asked a types rows) (end_of types rows x) (twin_or_end types rows x)) (let z : i ≡ k = omega arith in z) own
+    ]
+
+    across_way : is_on_way types (target_code a.ssas) (row_at rows i).code ≡ true → NonePassAcross (is_asked a types rows) types rows i
+    across_way way = across_of (none_asked (end_of types rows i) (twin_or_end types rows i) (next_twins types rows a.ssas i over within way))
+
+    -- where the rest of the parent's rows fail, so do those before the next twin
+    rest_across : NonePass (is_asked a types rows) i (end_below types rows (parent_row types rows i)) → NonePassAcross (is_asked a types rows) types rows i
+    rest_across rest = across_of (by_twin (next_twin types rows i) refl)
+      where
+        behind : i < end_of types rows i
+        behind = (end_is types rows i within).behind
+
+        by_twin : (o : Option ℕ) → next_twin types rows i ≡ o → NonePass (is_asked a types rows) (end_of types rows i) (unwrap_or o (end_below types rows (parent_row types rows i)))
+        by_twin None e j low high = rest j (let b : i < end_of types rows i = behind in omega arith) high
+        by_twin (Some t) e j low high =
+            (let L = least_some _ (length rows - (i + 1)) (i + 1) t e in
+            let high_ : t < end_below types rows (parent_row types rows i) = twin_within types rows over i within t (omega (arith, L.0, L.1)) L.2 in
+            let b : i < end_of types rows i = behind in rest j (omega arith) (omega arith))
+
+    -- the parent's span ends with its rows
+    span_within : end_of types rows i ≤ end_below types rows (parent_row types rows i)
+    span_within = by_parent (parent_row types rows i) refl
+      where
+        by_parent : (o : Option ℕ) → parent_row types rows i ≡ o → end_of types rows i ≤ end_below types rows o
+        by_parent None e = (end_is types rows i within).within
+        by_parent (Some q) e = (parent_span types rows i q within e).2
+
+    rested : NonePass (is_named types rows a.ssas) i (end_below types rows (parent_row types rows i)) → IsJudged (is_asked a types rows) (is_admitted a types rows) types rows i Rest
+    rested none =
+        let rest = none_asked i (end_below types rows (parent_row types rows i)) none in
+        judged_rest (is_asked a types rows) (is_admitted a types rows) types rows i (λ j low high. rest j low (let w : end_of types rows i ≤ end_below types rows (parent_row types rows i) = span_within in omega arith))
+        rest (rest_across rest)
+
+    -- where the row is admitted, the search may go down to a child on the way
+    down_way : (c : ℕ) → is_admitted a types rows i ≡ true → way_down types (target_code a.ssas) (row_at rows i).code ≡ Some c
+        → IsWayDown (is_asked a types rows) (is_admitted a types rows) types rows i c
+    down_way c own way = record {
+      admitted = own;
+      child = child_of types (row_at rows i).code c some (down_parts types (levels_are types rows over) (target_code a.ssas) (row_at rows i).code c
+          (down_found types (levels_are types rows over) (target_code a.ssas) (row_at rows i).code c way)).0;
+      none = none_asked i (child_or_end types rows i c) (first_children types rows a.ssas i c over within way);
+      across = across_way (and_parts (is_on_way types (target_code a.ssas) (row_at rows i).code) _ own).0;
+    }
+      where
+        some : (row_at rows i).code ≡ 0 → ⊥
+        some z =
+            (let T = typed types (row_at rows i) ((sequence_is types rows over).fit i within) in
+            let low : 0 < (row_at rows i).code = (type_within types (row_at rows i).code T.0 T.1).0 in omega arith)
+
+    -- a row of the last argument's type is named where it is admitted
+    named_here : (row_at rows i).code ≡ target_code a.ssas → is_admitted a types rows i ≡ true → is_named types rows a.ssas i ≡ true
+    named_here code own =
+        named_admitted types rows a.ssas i search_of within
+        ∙ and_from _ _ (eq-eqb (row_at rows i).code (target_code a.ssas) code)
+        (all_pass (is_admitted a types rows) (admits types rows a.ssas) (λ k h. (and_parts (is_on_way types (target_code a.ssas) (row_at rows k).code) _ h).1) (path_of types rows i)
+        (whole_admitted (is_asked a types rows) (is_admitted a types rows) types rows i above own))
+
+  -- where the last argument's type may not be read, no row is asked for
+  unread : (code from to : ℕ) → code ≡ target_code a.ssas → may (record { types = types; pcb = a.pcb }) gives_get code ≡ false → NonePass (is_asked a types rows) from to
+  unread code from to is other j low high = elim (cases_Bool (is_asked a types rows j)) [
+    | inl t ↦ (let P = and_parts (is_named types rows a.ssas j) _ (sym (asked_is j) ∙ t) in
+        let N = and_parts ((row_at rows j).code == target_code a.ssas) _ P.0 in
+        absurd (false≢true (sym other ∙ ap (may (record { types = types; pcb = a.pcb }) gives_get) (is ∙ sym (eqb-true (row_at rows j).code (target_code a.ssas) N.0)) ∙ P.1)))
+    | inr f ↦ f
+  ]
+
+  module _ (i : ℕ) (within : i < length rows) (above : is_above_admitted (is_admitted a types rows) types rows i ≡ true) where
+    -- the row's type is off the way
+    pub judged_off : is_on_way types (target_code a.ssas) (row_at rows i).code ≡ false
+        → IsJudged (is_asked a types rows) (is_admitted a types rows) types rows i (verdict_beside types (target_code a.ssas) (row_at rows i).code)
+    judged_off off = by_way (way_beside types (target_code a.ssas) (row_at rows i).code) refl
+      where
+        resting : IfSome (way_beside types (target_code a.ssas) (row_at rows i).code) (λ c. c ≤ (row_at rows i).code)
+            → IsJudged (is_asked a types rows) (is_admitted a types rows) types rows i Rest
+        resting none = rested i within above (no_later_types types rows a.ssas i over within off none)
+
+        -- the parent of a row whose type has a type beside it that is on the way
+        by_parent : (c : ℕ) (o : Option ℕ) → parent_row types rows i ≡ o → way_beside types (target_code a.ssas) (row_at rows i).code ≡ Some c
+            → (q : ℕ) × (parent_row types rows i ≡ Some q) × (way_down types (target_code a.ssas) (row_at rows q).code ≡ Some c)
+        by_parent c None e way =
+            (let none : parent_of types (row_at rows i).code ≡ None = sym ((sequence_is types rows over).parents i within) ∙ ap (option_map (λ j. (row_at rows j).code)) e in
+            let z : None ≡ Some c = sym (ap (option_and_then (λ p. way_down types (target_code a.ssas) p)) none) ∙ way in cc)
+        by_parent c (Some q) e way = (q, e, sym (ap (option_and_then (λ p. way_down types (target_code a.ssas) p)) (parent_code types rows over i q within e)) ∙ way)
+
+        besides : (c : ℕ) → way_beside types (target_code a.ssas) (row_at rows i).code ≡ Some c → (row_at rows i).code < c
+            → IsJudged (is_asked a types rows) (is_admitted a types rows) types rows i (Beside c)
+        besides c way later =
+            let Q = by_parent c (parent_row types rows i) refl way in
+            let S = parent_span types rows i Q.0 within Q.1 in
+            let qi : Q.0 < i = S.0 in
+            let qe : end_of types rows i ≤ end_of types rows Q.0 = S.2 in
+            let behind : i < end_of types rows i = (end_is types rows i within).behind in
+            let qw : Q.0 < length rows = omega arith in
+            let up = above_parent (is_asked a types rows) (is_admitted a types rows) types rows i Q.0 Q.1 above in
+            judged_beside (is_asked a types rows) (is_admitted a types rows) types rows i c (none_asked i (end_of types rows i) (other_types_fail types rows a.ssas i over within off)) (record {
+              parent = Q.0;
+              is = Q.1;
+              down = down_way Q.0 qw up c (above_is i within above Q.0 qi (omega arith)) Q.2;
+              later = later_types types rows i Q.0 c over within Q.1 later;
+            })
+
+        by_way : (o : Option ℕ) → way_beside types (target_code a.ssas) (row_at rows i).code ≡ o
+            → IsJudged (is_asked a types rows) (is_admitted a types rows) types rows i (option_map_or (λ c. cond (nat_lt (row_at rows i).code c) (Beside c) Rest) o Rest)
+        by_way None e = resting (subst (λ o. IfSome o (λ c. c ≤ (row_at rows i).code)) (sym e) tt)
+        by_way (Some c) e = elim (cases_lt (row_at rows i).code c) [
+          | inl later ↦ subst (IsJudged (is_asked a types rows) (is_admitted a types rows) types rows i) (sym (cond-true (nat_lt (row_at rows i).code c) (Beside c) Rest (lt-ltb (row_at rows i).code c later)))
+              (besides c e later)
+          | inr past ↦ subst (IsJudged (is_asked a types rows) (is_admitted a types rows) types rows i) (sym (cond-false (nat_lt (row_at rows i).code c) (Beside c) Rest (le-ltb (row_at rows i).code c past)))
+              (resting (subst (λ o. IfSome o (λ c. c ≤ (row_at rows i).code)) (sym e) past))
+        ]
+
+    -- the row's type is on the way
+    module _ (way : is_on_way types (target_code a.ssas) (row_at rows i).code ≡ true) where
+      pub judged_past : is_past types a.ssas (row_at rows i) ≡ true → IsJudged (is_asked a types rows) (is_admitted a types rows) types rows i Rest
+      judged_past past = rested i within above (past_keys_fail types rows a.ssas i over within way past)
+
+      pub judged_unmet : admits types rows a.ssas i ≡ false → IsJudged (is_asked a types rows) (is_admitted a types rows) types rows i Across
+      judged_unmet unmet =
+          judged_across (is_asked a types rows) (is_admitted a types rows) types rows i (none_asked i (end_of types rows i) (spans_fail types rows a.ssas i within unmet)) (across_way i within above way)
+
+      pub judged_met : admits types rows a.ssas i ≡ true
+          → IsJudged (is_asked a types rows) (is_admitted a types rows) types rows i (verdict_down (record { types = types; pcb = a.pcb }) (target_code a.ssas) (row_at rows i).code)
+      judged_met met = by_way (way_down types (target_code a.ssas) (row_at rows i).code) refl
+        where
+          own : is_admitted a types rows i ≡ true
+          own = and_from _ _ way met
+
+          -- the way ends at the last argument's type
+          target_is : way_down types (target_code a.ssas) (row_at rows i).code ≡ None → (row_at rows i).code ≡ target_code a.ssas
+          target_is e = elim (or_cases (target_code a.ssas == (row_at rows i).code) _ way) [
+            | inl here ↦ sym (eqb-true (target_code a.ssas) (row_at rows i).code here)
+            | inr below ↦ absurd (false≢true (ap is_some (sym e) ∙ down_some types (levels_are types rows over) (target_code a.ssas) (row_at rows i).code ∙ below))
+          ]
+
+          by_read : (b : Bool) → (row_at rows i).code ≡ target_code a.ssas → may (record { types = types; pcb = a.pcb }) gives_get (row_at rows i).code ≡ b
+              → IsJudged (is_asked a types rows) (is_admitted a types rows) types rows i (cond b Found Across)
+          by_read true code e =
+              judged_found (is_asked a types rows) (is_admitted a types rows) types rows i (asked_is i ∙ and_from _ _ (named_here i within above code own) e) own
+          by_read false code e =
+              judged_across (is_asked a types rows) (is_admitted a types rows) types rows i (unread (row_at rows i).code i (end_of types rows i) code e)
+              (λ k low inside. unread (row_at rows i).code (end_of types rows k) (twin_or_end types rows k) code e)
+
+          by_way : (o : Option ℕ) → way_down types (target_code a.ssas) (row_at rows i).code ≡ o
+              → IsJudged (is_asked a types rows) (is_admitted a types rows) types rows i
+              (option_map_or (λ c. Down c) o (cond (may (record { types = types; pcb = a.pcb }) gives_get (row_at rows i).code) Found Across))
+          by_way None e = by_read (may (record { types = types; pcb = a.pcb }) gives_get (row_at rows i).code) (target_is e) refl
+          by_way (Some c) e = judged_down (is_asked a types rows) (is_admitted a types rows) types rows i c (down_way i within above c own e)

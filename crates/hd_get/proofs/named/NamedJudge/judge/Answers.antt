@@ -1,0 +1,135 @@
+use Rattle.std.proofs.Common.{◌≡◌, ℕ, List, true, false, Ok, sym, ap, ap₂, subst, ◌∙◌}
+use Rattle.hd_dbd.specs.Hierarchy.{Database}
+use Rattle.hd_dbd.specs.Forest.{Forest}
+use Rattle.hd_dbd.specs.Paths.{row_at}
+use Rattle.hd_volume.specs.Volumes.{VolumeState}
+use Rattle.hd_volume.proofs.CallSteps.{read-ok, reads-join}
+use Rattle.hd_links.specs.Links.{Links, IsSegment, segment_at}
+use Rattle.hd_links.specs.Placed.{Placed}
+use Rattle.hd_links.specs.Steps.{rows_of}
+use Rattle.hd_image.specs.Records.{links_of, IsVolumeOf}
+use Rattle.hd_forest.specs.Walks.{tip}
+use Rattle.hd_forest.specs.Rows.{IsOnSomeRow}
+use Rattle.hd_forest.proofs.Reading.{after-read, links-kept, volume-kept}
+use Rattle.hd_calls.specs.Ssas.{target_code}
+use Rattle.hd_seek.specs.Admits.{admits, is_on_way}
+use Rattle.hd_seek.specs.Keys.{is_past}
+use Rattle.hd_get.specs.declared.verdict.Verdict.TheVariants.{Across, Rest}
+use Rattle.hd_get.specs.Searches.{IsAt, IsJudged}
+use Rattle.hd_get.specs.Asking.{Asked, is_asked, is_admitted, verdict_beside, verdict_down}
+use Rattle.hd_get.proofs.Grounds.{held_rows, grounds, tip_is, tip_there, tip_code, told_before}
+use Rattle.hd_get.proofs.Asking.{judged_off, judged_met, judged_past, judged_unmet}
+use Rattle.hd_get.proofs.named.NamedJudge.judge.Goals as goal
+
+pub code_at-requires-clause-there : goal.code_at-requires-clause-there
+code_at-requires-clause-there g c sound =
+    let d = c.args.dbd.now in
+    let u = c.args.volume.now in
+    let T = c.requires.there sound in
+    subst (IsSegment (links_of d.types u)) (sym c.tip_of.ensures) (tip_there d.types (links_of d.types u) T.0 (grounds d u T.0 (c.requires.of sound) T.2.holds) c.args.path.now T.1 T.2)
+
+-- the code that was read is the row's
+row_code : (d : Database) (v : VolumeState) → IsVolumeOf d v → (path : List ℕ) (f : Forest Placed) (i : ℕ) → IsAt d v f path i → (tip_ code : ℕ) → tip_ ≡ tip path
+    → code ≡ (links_of d.types v).code tip_ → code ≡ (row_at (rows_of f) i).code
+row_code d v of path f i at tip_ code is value =
+    value ∙ ap (links_of d.types v).code is ∙ tip_code d.types (links_of d.types v) f (grounds d v f of at.row.holds) path i at.row
+
+pub returns-then-not-is_on_way-clause-value : goal.returns-then-not-is_on_way-clause-value
+returns-then-not-is_on_way-clause-value g c f i at up =
+    let d = c.args.dbd.now in
+    let u = c.args.volume.now in
+    let a : Asked = c.args.self.now in
+    let of = c.requires.of at.sound in
+    let code : c.in_ok-code.code ≡ (row_at (rows_of f) i).code = row_code d u of c.args.path.now f i at c.tip_of.result c.in_ok-code.code c.tip_of.ensures (c.in_ok-code.ensures.value at.sound) in
+    let target : c.target_code-target.result ≡ target_code a.ssas = c.target_code-target.ensures ∙ ap (λ (x : Asked). target_code x.ssas) c.self.view_is in
+    let off : is_on_way d.types (target_code a.ssas) (row_at (rows_of f) i).code ≡ false
+    = sym (ap₂ (λ t k. is_on_way d.types t k) target code) ∙ sym c.is_on_way.ensures ∙ c.if-not-is_on_way.true in
+    subst (IsJudged (is_asked a d.types (rows_of f)) (is_admitted a d.types (rows_of f)) d.types (rows_of f) i)
+    (sym (c.verdict_beside.ensures ∙ ap₂ (λ t k. verdict_beside d.types t k) target code))
+    (judged_off d.types (rows_of f) a (held_rows d u f of at.row.holds) c.requires.suits i at.row.within up off)
+
+pub admits-requires-clause-of : goal.admits-requires-clause-of
+admits-requires-clause-of g c = volume-kept c.args.dbd.now c.args.volume.now c.code_at.new.volume c.in_ok-code.ensures.read c.requires.of
+
+pub admits-requires-clause-there : goal.admits-requires-clause-there
+admits-requires-clause-there g c =
+    links-kept c.args.dbd.now (λ m. IsOnSomeRow c.args.dbd.now.types m c.args.path.now) c.args.volume.now c.code_at.new.volume c.in_ok-code.ensures.read c.requires.there
+
+pub returns-then-branch-clause-read : goal.returns-then-branch-clause-read
+returns-then-branch-clause-read g c = reads-join (Ok c.verdict_down.result) c.in_ok-code.ensures.read (read-ok c.verdict_down.result c.in_ok-admits.ensures.read)
+
+pub returns-then-branch-clause-value : goal.returns-then-branch-clause-value
+returns-then-branch-clause-value g c f i at up =
+    let d = c.args.dbd.now in
+    let u = c.args.volume.now in
+    let a : Asked = c.args.self.now in
+    let of = c.requires.of at.sound in
+    let code : c.in_ok-code.code ≡ (row_at (rows_of f) i).code = row_code d u of c.args.path.now f i at c.tip_of.result c.in_ok-code.code c.tip_of.ensures (c.in_ok-code.ensures.value at.sound) in
+    let target : c.target_code-target.result ≡ target_code a.ssas = c.target_code-target.ensures ∙ ap (λ (x : Asked). target_code x.ssas) c.self.view_is in
+    let way : is_on_way d.types (target_code a.ssas) (row_at (rows_of f) i).code ≡ true
+    = sym (ap₂ (λ t k. is_on_way d.types t k) target code) ∙ sym c.is_on_way.ensures ∙ c.if-not-is_on_way.false in
+    let met : admits d.types (rows_of f) a.ssas i ≡ true
+    = ap (λ (x : Asked). admits d.types (rows_of f) x.ssas i) (sym c.self.view_is)
+    ∙ sym (c.in_ok-admits.ensures.value f i (told_before d u c.code_at.new.volume c.in_ok-code.ensures.read f c.args.path.now i at) (sym code)) ∙ c.if-branch.true in
+    subst (IsJudged (is_asked a d.types (rows_of f)) (is_admitted a d.types (rows_of f)) d.types (rows_of f) i)
+    (sym (c.verdict_down.ensures ∙ ap₂ (λ t k. verdict_down (record { types = d.types; pcb = c.self.inside.pcb.now }) t k) target code
+    ∙ ap (λ (x : Asked). verdict_down (record { types = d.types; pcb = x.pcb }) (target_code a.ssas) (row_at (rows_of f) i).code) c.self.view_is))
+    (judged_met d.types (rows_of f) a (held_rows d u f of at.row.holds) c.requires.suits i at.row.within up way met)
+
+pub is_past-requires-clause-of : goal.is_past-requires-clause-of
+is_past-requires-clause-of g c =
+    volume-kept c.args.dbd.now c.code_at.new.volume c.admits.new.volume c.in_ok-admits.ensures.read
+    (volume-kept c.args.dbd.now c.args.volume.now c.code_at.new.volume c.in_ok-code.ensures.read c.requires.of)
+
+pub is_past-requires-clause-there : goal.is_past-requires-clause-there
+is_past-requires-clause-there g c =
+    let d = c.args.dbd.now in
+    let u = c.args.volume.now in
+    links-kept d (λ m. IsSegment m c.tip_of-2.result) c.code_at.new.volume c.admits.new.volume c.in_ok-admits.ensures.read
+    (links-kept d (λ m. IsSegment m c.tip_of-2.result) u c.code_at.new.volume c.in_ok-code.ensures.read (λ sound.
+    (let T = c.requires.there sound in
+    subst (IsSegment (links_of d.types u)) (sym c.tip_of-2.ensures) (tip_there d.types (links_of d.types u) T.0 (grounds d u T.0 (c.requires.of sound) T.2.holds) c.args.path.now T.1 T.2))))
+
+pub returns-then-branch-2-clause-read : goal.returns-then-branch-2-clause-read
+returns-then-branch-2-clause-read g c =
+    reads-join (Ok Rest) c.in_ok-code.ensures.read (reads-join (Ok Rest) c.in_ok-admits.ensures.read (read-ok Rest c.in_ok-is_past.ensures.read))
+
+pub returns-then-branch-2-clause-value : goal.returns-then-branch-2-clause-value
+returns-then-branch-2-clause-value g c f i at up =
+    let d = c.args.dbd.now in
+    let u = c.args.volume.now in
+    let a : Asked = c.args.self.now in
+    let of = c.requires.of at.sound in
+    let G = grounds d u f of at.row.holds in
+    let code : c.in_ok-code.code ≡ (row_at (rows_of f) i).code = row_code d u of c.args.path.now f i at c.tip_of.result c.in_ok-code.code c.tip_of.ensures (c.in_ok-code.ensures.value at.sound) in
+    let target : c.target_code-target.result ≡ target_code a.ssas = c.target_code-target.ensures ∙ ap (λ (x : Asked). target_code x.ssas) c.self.view_is in
+    let way : is_on_way d.types (target_code a.ssas) (row_at (rows_of f) i).code ≡ true
+    = sym (ap₂ (λ t k. is_on_way d.types t k) target code) ∙ sym c.is_on_way.ensures ∙ c.if-not-is_on_way.false in
+    let first = after-read d u c.code_at.new.volume c.in_ok-code.ensures.read at.sound in
+    let next = after-read d c.code_at.new.volume c.admits.new.volume c.in_ok-admits.ensures.read first.sound in
+    let segment : segment_at (links_of d.types c.admits.new.volume) c.tip_of-2.result ≡ row_at (rows_of f) i
+    = ap₂ (λ (m : Links) x. segment_at m x) (next.links ∙ first.links) (c.tip_of-2.ensures ∙ tip_is d.types (links_of d.types u) f G c.args.path.now i at.row) ∙ G.addressed.same i at.row.within in
+    let past : is_past d.types a.ssas (row_at (rows_of f) i) ≡ true
+    = ap (λ (x : Asked). is_past d.types x.ssas (row_at (rows_of f) i)) (sym c.self.view_is)
+    ∙ ap (is_past d.types c.self.inside.ssas.now) (sym segment)
+    ∙ sym (c.in_ok-is_past.ensures.value next.sound (ap (λ s. s.code) segment ∙ sym code)) ∙ c.if-branch-2.true in
+    judged_past d.types (rows_of f) a (held_rows d u f of at.row.holds) c.requires.suits i at.row.within up way past
+
+pub returns-clause-read : goal.returns-clause-read
+returns-clause-read g c =
+    reads-join (Ok Across) c.in_ok-code.ensures.read (reads-join (Ok Across) c.in_ok-admits.ensures.read (read-ok Across c.in_ok-is_past.ensures.read))
+
+pub returns-clause-value : goal.returns-clause-value
+returns-clause-value g c f i at up =
+    let d = c.args.dbd.now in
+    let u = c.args.volume.now in
+    let a : Asked = c.args.self.now in
+    let of = c.requires.of at.sound in
+    let code : c.in_ok-code.code ≡ (row_at (rows_of f) i).code = row_code d u of c.args.path.now f i at c.tip_of.result c.in_ok-code.code c.tip_of.ensures (c.in_ok-code.ensures.value at.sound) in
+    let target : c.target_code-target.result ≡ target_code a.ssas = c.target_code-target.ensures ∙ ap (λ (x : Asked). target_code x.ssas) c.self.view_is in
+    let way : is_on_way d.types (target_code a.ssas) (row_at (rows_of f) i).code ≡ true
+    = sym (ap₂ (λ t k. is_on_way d.types t k) target code) ∙ sym c.is_on_way.ensures ∙ c.if-not-is_on_way.false in
+    let unmet : admits d.types (rows_of f) a.ssas i ≡ false
+    = ap (λ (x : Asked). admits d.types (rows_of f) x.ssas i) (sym c.self.view_is)
+    ∙ sym (c.in_ok-admits.ensures.value f i (told_before d u c.code_at.new.volume c.in_ok-code.ensures.read f c.args.path.now i at) (sym code)) ∙ c.if-branch.false in
+    judged_unmet d.types (rows_of f) a (held_rows d u f of at.row.holds) c.requires.suits i at.row.within up way unmet

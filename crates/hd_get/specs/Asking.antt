@@ -1,0 +1,64 @@
+-- What a get with segment search arguments asks of a row, and where its search goes on.
+use Rattle.std.specs.Prelude.{◌≡◌, IsTrue, ℕ, ◌<◌, List, length, Bool, ◌&&◌, None, cond, nat_lt}
+use Rattle.std.specs.Option.{option_map_or}
+use Rattle.hd_dbd.specs.Types.{SegmentType, View}
+use Rattle.hd_dbd.specs.Hierarchy.{Database}
+use Rattle.hd_dbd.specs.Segment.{Segment}
+use Rattle.hd_dbd.specs.Paths.{row_at}
+use Rattle.hd_dbd.specs.Views.{Setting}
+use Rattle.hd_dbd.specs.Letters.{gives_get}
+use Rattle.hd_dbd.specs.Forest.{Forest}
+use Rattle.hd_volume.specs.Volumes.{VolumeState}
+use Rattle.hd_links.specs.Links.{segment_at}
+use Rattle.hd_links.specs.Placed.{Placed}
+use Rattle.hd_links.specs.Steps.{rows_of}
+use Rattle.hd_image.specs.Records.{links_of}
+use Rattle.hd_calls.specs.Access.{may}
+use Rattle.hd_calls.specs.Ssas.{Ssa, target_code}
+use Rattle.hd_calls.specs.Satisfies.{satisfies}
+use Rattle.hd_seek.specs.Admits.{admits, meets_own, is_on_way, Descend}
+use Rattle.hd_seek.specs.Keys.{is_past}
+use Rattle.hd_seek.specs.Ways.{way_down, way_beside}
+use Rattle.hd_get.specs.Searches.{IsAt}
+use Rattle.hd_get.specs.declared.verdict.Verdict.{Verdict}
+use Rattle.hd_get.specs.declared.verdict.Verdict.TheVariants.{Found, Down, Across, Beside, Rest}
+
+-- Whose get it is, and its arguments.
+pub record Asked : Type 0 where
+  pub pcb : View
+  pub ssas : List Ssa
+
+-- there are arguments, and their types descend
+abbrev pub SsasSuit : List SegmentType → List Ssa → Type 0
+SsasSuit types ssas = (0 < length ssas) × Descend types None ssas
+
+-- the row satisfies the get
+abbrev pub is_asked : Asked → List SegmentType → List Segment → ℕ → Bool
+is_asked a types rows i = satisfies (record { types = types; pcb = a.pcb }) rows a.ssas i
+
+-- the row's type is on the way to the last argument's, and the row meets the arguments of its type
+abbrev pub is_admitted : Asked → List SegmentType → List Segment → ℕ → Bool
+is_admitted a types rows i = is_on_way types (target_code a.ssas) (row_at rows i).code && admits types rows a.ssas i
+
+-- off the way: on to the first row of the type beside that is on the way, where that comes later
+abbrev pub verdict_beside : List SegmentType → ℕ → ℕ → Verdict
+verdict_beside types target code = option_map_or (λ c. cond (nat_lt code c) (Beside c) Rest) (way_beside types target code) Rest
+
+-- on a row that is admitted: down the way; where that ends, the row is found if it may be read
+abbrev pub verdict_down : Setting → ℕ → ℕ → Verdict
+verdict_down s target code = option_map_or (λ c. Down c) (way_down s.types target code) (cond (may s gives_get code) Found Across)
+
+-- wherever the path is that of a row of this type, so is it said whether that meets the arguments of its type
+abbrev pub Admits : Database → VolumeState → List Ssa → ℕ → List ℕ → Bool → Type 0
+Admits d v ssas code path r =
+    (f : Forest Placed) (i : ℕ) → IsAt d v f path i → (row_at (rows_of f) i).code ≡ code → r ≡ admits d.types (rows_of f) ssas i
+
+-- the same of one argument
+abbrev pub MeetsOwn : Database → VolumeState → Ssa → ℕ → List ℕ → Bool → Type 0
+MeetsOwn d v ssa code path r =
+    (f : Forest Placed) (i : ℕ) → IsAt d v f path i → (row_at (rows_of f) i).code ≡ code → r ≡ meets_own d.types (rows_of f) i ssa
+
+-- where the store is sound and the segment at the address is of this type, so is it said whether its key is past what the arguments ask
+abbrev pub IsPast : Database → VolumeState → List Ssa → ℕ → ℕ → Bool → Type 0
+IsPast d v ssas code a r =
+    IsTrue v.is_sound → (segment_at (links_of d.types v) a).code ≡ code → r ≡ is_past d.types ssas (segment_at (links_of d.types v) a)

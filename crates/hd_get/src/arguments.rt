@@ -1,0 +1,103 @@
+ghost use Rattle.std.specs.Prelude.{◌≡◌, ◌<◌, length, IfOk};
+ghost use Rattle.hd_dbd.specs.Refusals.{OnlyDevice};
+ghost use Rattle.hd_calls.specs.Ssas.{target_code};
+ghost use Rattle.hd_volume.specs.Calls.{IsRead};
+ghost use Rattle.hd_seek.specs.Keys.{is_ssa_past, is_past};
+ghost use Rattle.hd_get.specs.Asking.{Admits, MeetsOwn, IsPast};
+ghost use Rattle.hd_get.specs.Meeting.{IsStored};
+ghost use Rattle.hd_get.specs.Searches.{IsOf, IsThere};
+
+use crate::meeting::meets;
+use hd_dbd::{Dbd, Refused};
+use hd_forest::{Path, bytes_in};
+use hd_ssa::ResolvedSsa;
+use hd_volume::{BlockStore, Volume};
+
+/// The code of the last argument's type.
+pub fn target_code(ssas: &[ResolvedSsa<'_>]) -> u8
+    requires { 0 < length ssas.now }
+    ensures { result ≡ target_code ssas.now }
+{
+    let last = &ssas[ssas.len() - 1];
+    last.code()
+}
+
+/// Whether the last row of a path, of the type of a code, meets an argument, if that is of its type.
+fn meets_own<S: BlockStore>(
+    volume: &mut Volume<S>,
+    dbd: &Dbd,
+    ssa: &ResolvedSsa<'_>,
+    code: u8,
+    path: &Path,
+) -> Result<bool, Refused>
+    requires of { IsOf dbd.now volume.old }
+    requires there { IsThere dbd.now volume.old path.now }
+    ensures read { IsRead volume.old result volume.new }
+    ensures value { IfOk result (λ r. MeetsOwn dbd.now volume.old ssa.now code path.now r) }
+    ensures refusal { OnlyDevice result }
+{
+    if ssa.code() != code {
+        return Ok(true);
+    }
+    meets(volume, dbd, ssa, path)
+}
+
+/// Whether the last row of a path, of the type of a code, meets the arguments of its type.
+pub fn admits<S: BlockStore>(
+    volume: &mut Volume<S>,
+    dbd: &Dbd,
+    ssas: &[ResolvedSsa<'_>],
+    code: u8,
+    path: &Path,
+) -> Result<bool, Refused>
+    requires of { IsOf dbd.now volume.old }
+    requires there { IsThere dbd.now volume.old path.now }
+    ensures read { IsRead volume.old result volume.new }
+    ensures value { IfOk result (λ r. Admits dbd.now volume.old ssas.now code path.now r) }
+    ensures refusal { OnlyDevice result }
+{
+    for place in 0..ssas.len() {
+        if !meets_own(volume, dbd, &ssas[place], code, path)? {
+            return Ok(false);
+        }
+    }
+    Ok(true)
+}
+
+/// Whether an argument is of the type of a code, and the key of a segment of that type with these bytes is past what it asks.
+fn is_ssa_past(dbd: &Dbd, ssa: &ResolvedSsa<'_>, code: u8, bytes: &[u8]) -> bool
+    ensures { result ≡ is_ssa_past dbd.now.types (record { code = code; bytes = bytes.now }) ssa.now }
+{
+    if ssa.code() != code {
+        return false;
+    }
+    match dbd.type_of(code) {
+        Some(segment) => ssa.is_past(segment, bytes),
+        None => false,
+    }
+}
+
+/// Whether the key of a segment of the type of a code, with these bytes, is past what an argument asks.
+fn is_key_past(dbd: &Dbd, ssas: &[ResolvedSsa<'_>], code: u8, bytes: &[u8]) -> bool
+    ensures { result ≡ is_past dbd.now.types ssas.now (record { code = code; bytes = bytes.now }) }
+{
+    ssas.iter().any(|ssa| is_ssa_past(dbd, ssa, code, bytes))
+}
+
+/// Whether the key of the segment at an address, of the type of a code, is past what an argument asks. One access.
+pub fn is_past<S: BlockStore>(
+    volume: &mut Volume<S>,
+    dbd: &Dbd,
+    ssas: &[ResolvedSsa<'_>],
+    code: u8,
+    address: u32,
+) -> Result<bool, Refused>
+    requires of { IsOf dbd.now volume.old }
+    requires there { IsStored dbd.now volume.old address }
+    ensures read { IsRead volume.old result volume.new }
+    ensures value { IfOk result (λ r. IsPast dbd.now volume.old ssas.now code address r) }
+    ensures refusal { OnlyDevice result }
+{
+    let segment = volume.segment_at(address)?;
+    Ok(is_key_past(dbd, ssas, code, bytes_in(dbd, segment)))
+}

@@ -1,0 +1,90 @@
+ghost use Rattle.std.specs.Prelude.{◌≡◌};
+ghost use Rattle.hd_get.specs.Asking.{verdict_beside, verdict_down};
+
+use crate::access::may_get;
+use crate::arguments::{admits, is_past, target_code};
+use crate::judge::Judge;
+use crate::verdict::Verdict;
+use crate::ways::{is_on_way, way_beside, way_down};
+use hd_dbd::{Dbd, Pcb, Refused};
+use hd_forest::{Path, code_at, tip_of};
+use hd_ssa::ResolvedSsa;
+use hd_volume::{BlockStore, Volume};
+use std::marker::Model;
+
+/// What a get with segment search arguments asks of a row: that they name it, and that the PCB may read it.
+#[derive(Drop)]
+pub struct Named<'a> {
+    pub pcb: &'a Pcb,
+    pub ssas: &'a [ResolvedSsa<'a>],
+}
+
+impl<'a> Model for Named<'a> {
+    ghost use Rattle.hd_get.specs.Asking.{Asked};
+
+    ghost Value = { Asked };
+
+    ghost view = { λ n. record { pcb = n.pcb.now; ssas = n.ssas.now } };
+}
+
+/// Where a search for rows of the target type goes from a row of a type off the way.
+fn verdict_beside(dbd: &Dbd, target: u8, code: u8) -> Verdict
+    ensures { result ≡ verdict_beside dbd.now.types target code }
+{
+    match way_beside(dbd, target, code) {
+        Some(beside) => {
+            if code < beside {
+                Verdict::Beside(beside)
+            } else {
+                Verdict::Rest
+            }
+        }
+        None => Verdict::Rest,
+    }
+}
+
+/// Where a search for rows of the target type goes from a row on the way that meets the arguments.
+fn verdict_down(dbd: &Dbd, pcb: &Pcb, target: u8, code: u8) -> Verdict
+    ensures { result ≡ verdict_down (record { types = dbd.now.types; pcb = pcb.now }) target code }
+{
+    match way_down(dbd, target, code) {
+        Some(child) => Verdict::Down(child),
+        None => {
+            if may_get(dbd, pcb, code) {
+                Verdict::Found
+            } else {
+                Verdict::Across
+            }
+        }
+    }
+}
+
+impl<'a> Judge for Named<'a> {
+    ghost use Rattle.hd_get.specs.Asking.{SsasSuit, is_asked, is_admitted};
+
+    ghost test = { λ s types rows i. is_asked s types rows i };
+
+    ghost admits = { λ s types rows i. is_admitted s types rows i };
+
+    ghost suits = { λ s types. SsasSuit types s.ssas };
+
+    fn judge<S: BlockStore>(
+        &self,
+        volume: &mut Volume<S>,
+        dbd: &Dbd,
+        path: &Path,
+    ) -> Result<Verdict, Refused> {
+        let code = code_at(volume, dbd, tip_of(path))?;
+        let target = target_code(self.ssas);
+        if !is_on_way(dbd, target, code) {
+            return Ok(verdict_beside(dbd, target, code));
+        }
+        if admits(volume, dbd, self.ssas, code, path)? {
+            return Ok(verdict_down(dbd, self.pcb, target, code));
+        }
+        if is_past(volume, dbd, self.ssas, code, tip_of(path))? {
+            return Ok(Verdict::Rest);
+        }
+        Ok(Verdict::Across)
+    }
+}
