@@ -5,3 +5,4 @@ pub mod Turns
 pub mod RowsAbove
 pub mod Judging
 pub mod LastTwins
+pub mod Starts

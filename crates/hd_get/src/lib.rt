@@ -7,6 +7,7 @@ mod meeting;
 mod plain;
 mod searching;
 mod settling;
+mod starting;
 mod steps;
 mod verdict;
 
@@ -15,4 +16,5 @@ pub use meeting::meets;
 pub use plain::Plain;
 pub use searching::find;
 pub use settling::settle;
+pub use starting::{next, next_in_parent, unique};
 pub use verdict::Verdict;
