@@ -6,3 +6,4 @@ pub mod RowsAbove
 pub mod Judging
 pub mod LastTwins
 pub mod Starts
+pub mod ByKey

@@ -21,13 +21,13 @@ use Rattle.hd_position.proofs.Splices.{AllBelow}
 use Rattle.hd_get.specs.Searches.{EndsAt, LeadsWithin}
 use Rattle.hd_get.proofs.Climbs.{stays}
 
+-- a search of a whole database ends behind its last row
+pub ends_whole : (types : List SegmentType) (f : Forest Placed) (i : ℕ) → EndsAt types f 0 i (length (rows_of f))
+ends_whole types f i = record { whole = λ z. refl; under = λ some. absurd (omega arith) }
+
 -- a path that leads to a row of a whole database leads there in a search of the whole
 pub leads_whole : (types : List SegmentType) (m : Links) (f : Forest Placed) (path : List ℕ) (i : ℕ) → LeadsTo types m f path i → LeadsWithin types m f 0 (length (rows_of f)) path i
-leads_whole types m f path i leads = record {
-  holds = leads.holds;
-  ends = record { whole = λ z. refl; under = λ some. absurd (omega arith) };
-  is = leads.is;
-}
+leads_whole types m f path i leads = record { holds = leads.holds; ends = ends_whole types f i; is = leads.is }
 
 -- what stands on a path of rows before a number is before it
 on_below : (b : ℕ) (xs : List ℕ) (l x : ℕ) → AllBelow b xs → row_on xs l ≡ Some x → x < b

@@ -2,6 +2,7 @@
 #![tactic(auto)]
 
 mod access;
+mod by_key;
 mod judge;
 mod meeting;
 mod plain;
@@ -11,6 +12,7 @@ mod starting;
 mod steps;
 mod verdict;
 
+pub use by_key::unique_by_key;
 pub use judge::Judge;
 pub use meeting::meets;
 pub use plain::Plain;
