@@ -15,14 +15,14 @@ use Rattle.hd_get.specs.Searches.{IsAt}
 abbrev pub IsStored : Database → VolumeState → ℕ → Type 0
 IsStored d v a = IsTrue v.is_sound → IsSegment (links_of d.types v) a
 
--- where the store is sound, so is it said whether the segment at the address has the SSA's qualification
+-- where the store is sound, the answer says whether the segment at the address has the SSA's qualification
 abbrev pub Qualifies : Database → VolumeState → Ssa → ℕ → Bool → Type 0
 Qualifies d v ssa a r = IsTrue v.is_sound → r ≡ qualifies ssa (segment_at (links_of d.types v) a)
 
--- wherever the path is that of a row, so is it said whether that is the last of its twins with the SSA's qualification
+-- wherever the path is that of a row, the answer says whether no later twin has the SSA's qualification
 abbrev pub IsLastSo : Database → VolumeState → Ssa → List ℕ → Bool → Type 0
 IsLastSo d v ssa path r = (f : Forest Placed) (i : ℕ) → IsAt d v f path i → r ≡ is_last_so d.types (rows_of f) ssa i
 
--- wherever the path is that of a row, so is it said whether that meets the SSA
+-- wherever the path is that of a row, the answer says whether that meets the SSA
 abbrev pub Meets : Database → VolumeState → Ssa → List ℕ → Bool → Type 0
 Meets d v ssa path r = (f : Forest Placed) (i : ℕ) → IsAt d v f path i → r ≡ meets d.types (rows_of f) ssa i

@@ -65,7 +65,7 @@ abbrev pub NonePassAcross : (ℕ → Bool) → List SegmentType → List Segment
 NonePassAcross test types rows i =
     (k : ℕ) → k ≤ i → i < end_of types rows k → NonePass test (end_of types rows k) (twin_or_end types rows k)
 
--- Row i is admitted, and none passes before its first child of the type.
+-- Row i is admitted, the type is one of its child types, and none passes before its first child of that type, nor across.
 pub record IsWayDown (test admits : ℕ → Bool) (types : List SegmentType) (rows : List Segment) (i code : ℕ) : Type 0 where
   pub admitted : admits i ≡ true
   pub child : is_child_type types (row_at rows i).code code ≡ true
@@ -89,7 +89,7 @@ goes_below Across = false
 goes_below (Beside code) = false
 goes_below Rest = false
 
--- Why a search goes where it goes from row i.
+-- The verdict on row i is right: so much it promises of the rows that the search then passes over.
 pub record IsJudged (test admits : ℕ → Bool) (types : List SegmentType) (rows : List Segment) (i : ℕ) (v : Verdict) : Type 0 where
   pub admitted : goes_below v ≡ true → admits i ≡ true
   pub span : goes_below v ≡ false → NonePass test i (end_of types rows i)
@@ -185,7 +185,7 @@ pub record IsAt (d : Database) (v : VolumeState) (f : Forest Placed) (path : Lis
   pub sound : IsTrue v.is_sound
   pub row : IsOnRow d.types (links_of d.types v) f path i
 
--- a verdict on the row of a path, whose parents are admitted
+-- the verdict on the row of a path is right wherever the row's parents are admitted
 abbrev pub IsVerdict : (List Segment → ℕ → Bool) → (List Segment → ℕ → Bool) → Database → VolumeState → List ℕ → Verdict → Type 0
 IsVerdict test admits d v path verdict =
     (f : Forest Placed) (i : ℕ) → IsAt d v f path i → is_above_admitted (admits (rows_of f)) d.types (rows_of f) i ≡ true

@@ -12,13 +12,16 @@ use hd_volume::{BlockStore, Volume};
 
 /// What a call asks of the rows: a test that a row passes or not, and whether a row is admitted, so that rows below it may pass.
 pub trait Judge {
+    // whether a row passes, by its number in a list of rows of the types
     ghost test: { Self → List SegmentType → List Segment → ℕ → Bool };
 
+    // whether a row is admitted, so that rows below it may pass
     ghost admits: { Self → List SegmentType → List Segment → ℕ → Bool };
 
+    // what the judge asks of the database's types
     ghost suits: { Self → List SegmentType → Type 0 };
 
-    /// Judges the row that a path leads to, whose parents are admitted; it alone is read.
+    /// Judges the row that a path leads to; the verdict is right wherever the row's parents are admitted.
     fn judge<S: BlockStore>(
         &self,
         volume: &mut Volume<S>,

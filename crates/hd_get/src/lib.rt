@@ -1,4 +1,4 @@
-//! The first row of a volume that satisfies a call.
+//! The search of a get over a volume: from where it begins to the first row that passes.
 #![tactic(auto)]
 
 mod access;
@@ -20,3 +20,6 @@ pub use searching::find;
 pub use settling::settle;
 pub use starting::{next, next_in_parent, unique};
 pub use verdict::Verdict;
+
+#[cfg(test)]
+mod tests;

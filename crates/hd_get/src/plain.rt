@@ -7,6 +7,7 @@ use hd_volume::{BlockStore, Volume};
 use std::marker::Model;
 
 /// What a call without segment search arguments asks of a row: that the PCB may read it.
+#[derive(Drop)]
 pub struct Plain<'a> {
     pub pcb: &'a Pcb,
 }

@@ -8,8 +8,9 @@ use hd_dbd::{Dbd, Refused};
 use hd_forest::Path;
 use hd_volume::{BlockStore, Volume};
 
-/// Lets a search that begins in the middle of a database begin where the rows above are admitted: at the topmost row above that is
-/// not, whose span has nothing that passes, or, where there is none, where it was to begin. One access for each row above.
+/// Lets a search that begins in the middle of a database begin where the rows above are admitted: at the topmost row above below which
+/// it may not go on, since nothing of that one's span passes, or, where there is none, where it was to begin. Where that row is the one
+/// at the address or above it, nothing can be found, and the path comes back empty. The rows above are judged once each.
 pub fn settle<S: BlockStore, J: Judge>(
     volume: &mut Volume<S>,
     dbd: &Dbd,

@@ -3,9 +3,9 @@
 pub enum Verdict {
     /// It has found the row.
     Found,
-    /// To the next row.
+    /// To the next row; for a judge that admits every row.
     Next,
-    /// Over the row's span.
+    /// Over the row's span; for a judge that admits every row.
     Over,
     /// To the first child of the type of this code; where there is none, as across.
     Down(u8),
@@ -21,7 +21,7 @@ impl Verdict {
     ghost use Rattle.std.specs.Prelude.{◌≡◌};
     ghost use Rattle.hd_get.specs.Searches.{goes_below};
 
-    /// Whether the row is admitted, so that the search may go on below it.
+    /// Whether the search may go on below the row, which then is admitted; else no row of its span passes.
     pub fn goes_below(self) -> bool
         ensures { result ≡ goes_below self }
     {

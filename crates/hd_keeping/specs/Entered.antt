@@ -16,7 +16,7 @@ use Rattle.hd_index.specs.Changes.{IsIndexOf, entries_for, IsIndexChange}
 abbrev pub entry_of : List SegmentType → Placed → Entry
 entry_of types p = record { key = key_of types p.segment; address = p.address }
 
--- The volume holds the placed forest, and its index has these entries, which between the two steps of a change to a root are not
+-- The volume's records hold the placed forest, and its index has these entries, which between the two steps of a change to a root are not
 -- those of the roots.
 pub record HoldsWith (d : Database) (v : VolumeState) (placed : Forest Placed) (es : List Entry) : Type 0 where
   pub volume : IsVolumeOf d v
@@ -27,7 +27,7 @@ pub record HoldsWith (d : Database) (v : VolumeState) (placed : Forest Placed) (
   pub entries : entries_for d v ≡ es
   pub kinds : HasKinds v
 
--- The index of the volume was changed, and has these entries; so many blocks at most have come.
+-- The index of the volume was changed, and has these entries; the volume has grown by at most so many blocks.
 pub record IsEntered (d : Database) (old : VolumeState) (es : List Entry) (more : ℕ) (new : VolumeState) : Type 0 where
   pub size : new.size ≡ old.size
   pub sizes : new.sizes ≡ old.sizes

@@ -52,7 +52,7 @@ UnlinkingRemovesRoots =
 
 -- ---- one step
 
--- A volume holds a forest where its index has the entries of the roots, and in no other case.
+-- A volume holds a forest just where its records do and its index has the entries of the roots.
 abbrev pub HeldIsEntered : Type 0
 HeldIsEntered =
     (d : Database) (v : VolumeState) (f : Forest Placed)

@@ -31,7 +31,7 @@ images_of d = record {
   HasHole = λ image. HasHole (volume_of d image);
 }
 
--- A volume holds a forest just where its bytes hold the forest's rows at their addresses, and they hold no other rows.
+-- Where a volume holds a forest, its bytes hold the forest's rows at their addresses, and no other rows.
 abbrev pub VolumesHoldTheirRows : Type 0
 VolumesHoldTheirRows =
     (d : Database) (v : VolumeState) (f : Forest Placed) → HoldsPlaced d v f

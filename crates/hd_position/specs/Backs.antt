@@ -36,7 +36,7 @@ pub record IsLastChild (types : List SegmentType) (m : Links) (h : ℕ) (end : O
   pub last : m.forward r ≡ 0
   pub rest : child_among m h (later_than (m.code r) (child_types types (m.code h))) ≡ child_among m h (from_on end (child_types types (m.code h)))
 
--- R is the last of these children, or 0, and there is none.
+-- The address r is that of the last child of h, of a type before one if one is given; or it is 0, and there is none.
 abbrev pub IsLastOrNone : List SegmentType → Links → ℕ → Option ℕ → ℕ → Type 0
 IsLastOrNone types m h end r =
     ((r ≡ 0) × (child_among m h (child_types types (m.code h)) ≡ child_among m h (from_on end (child_types types (m.code h))))) ⊎ IsLastChild types m h end r

@@ -1,4 +1,4 @@
--- The type that a PCB was last on, as the definitions have it.
+-- The type of the row last returned or inserted, as the definitions have it.
 use Rattle.hd_dbd.specs.Positions.{Place}
 use Rattle.hd_position.specs.declared.position.LastType.{LastType}
 

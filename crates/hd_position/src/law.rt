@@ -6,7 +6,8 @@ pub fn law_the_start_is_before_all_rows()
     ensures { TheStartIsBeforeAllRows }
 {}
 
-/// A leaf that is linked leaves the path of each row as it was, and what is kept of each PCB.
+/// A leaf that is linked leaves the path of each row as it was, and what is kept of each PCB; the position for which that stands is
+/// renumbered.
 pub fn law_linking_moves_positions()
     ensures { LinkingMovesPositions }
 {}
@@ -21,7 +22,8 @@ pub fn law_insertions_add_up()
     ensures { InsertionsAddUp }
 {}
 
-/// A span that is unlinked changes what is kept of a PCB only where the span's row is on its path.
+/// A span that is unlinked changes what is kept of a PCB only where the span's row is on its path; the position for which that stands
+/// is renumbered.
 pub fn law_unlinking_moves_positions()
     ensures { UnlinkingMovesPositions }
 {}
@@ -76,7 +78,7 @@ pub fn law_forests_of_volumes_are_held()
     ensures { ForestsOfVolumesAreHeld }
 {}
 
-/// A row that was linked moves positions up from the number where it went in.
+/// A row that was linked renumbers positions from the number where it went in.
 pub fn law_linked_rows_move_positions()
     ensures { LinkedRowsMovePositions }
 {}
@@ -86,7 +88,7 @@ pub fn law_linked_paths_go_in_together()
     ensures { LinkedPathsGoInTogether }
 {}
 
-/// A row whose span was unlinked moves positions down to itself.
+/// A row whose span was unlinked renumbers positions from its number on.
 pub fn law_unlinked_rows_move_positions()
     ensures { UnlinkedRowsMovePositions }
 {}

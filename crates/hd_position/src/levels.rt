@@ -39,7 +39,7 @@ impl Levels {
         &self.levels[..self.count]
     }
 
-    /// Adds a level behind the others; at most 15 are kept.
+    /// Adds a level behind the others. There is room for 15; one more takes the place of the last.
     pub fn push(&mut self, level: u8)
         ensures { length self.old < 15 → self.new ≡ self.old ++ level ∷ [] }
     {

@@ -8,7 +8,7 @@ use hd_calls::GetKind;
 use hd_forest::Path;
 use std::marker::Model;
 
-/// The level and the code of the type that a PCB was last on.
+/// The level and the code of the type of the row that a PCB's call last returned or inserted.
 #[derive(Clone, Copy, Debug, PartialEq, Eq)]
 pub struct LastType {
     pub level: u8,
@@ -16,7 +16,7 @@ pub struct LastType {
 }
 
 /// Where a PCB is in a volume: the path of the last row passed, by addresses; on it, by their levels, the row on which it stands
-/// and its parentage row, 0 for none, and the rows that it holds; and the type that it was last on.
+/// and its parentage row, 0 for none, and the rows that it holds; and the type of the row last returned or inserted.
 #[derive(Debug, Drop)]
 pub struct Position {
     path: Path,

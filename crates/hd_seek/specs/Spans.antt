@@ -12,7 +12,7 @@ use Rattle.hd_calls.specs.Ssas.{Ssa, resolve, target_code}
 use Rattle.hd_calls.specs.Satisfies.{on_path, is_named, satisfies}
 use Rattle.hd_seek.specs.Admits.{admits, all_admitted, NonePass, is_on_way, Descend, AreRowsOf, IsSearch}
 
--- The types of the SSAs of a call descend, and are on the way to the last.
+-- The types of the SSAs of a call descend: each depends on that of the SSA before it.
 abbrev pub ResolvedSsasDescend : Type 0
 ResolvedSsasDescend =
     (s : Setting) (f : Function) (texts : List (List ℕ)) (ssas : List Ssa) → resolve s f texts ≡ Ok ssas → Descend s.types None ssas

@@ -28,8 +28,8 @@ OnlyTheTopmostLowers =
     → lowered_start types rows standing ssas begin
     ≡ option_map_or (λ j. min begin j) (option_and_then (λ a. first_occurrence types rows standing a) (topmost_first ssas)) begin
 
--- The first child of a type below row q is not behind row m, in the span of q, just where the row below q on the path of m is of
--- that type or a later one.
+-- Where row q has a child of a type, and row m is in q's span: the first such child is not behind row m just where the row below q on
+-- the path of m is of that type or a later one.
 abbrev pub FirstChildrenAreByPath : Type 0
 FirstChildrenAreByPath =
     (types : List SegmentType) (rows : List Segment) (q m code j : ℕ) → AreRowsOf types rows → q ≤ m → m < end_of types rows q

@@ -29,7 +29,7 @@ pub fn law_other_types_fail()
     ensures { OtherTypesFail }
 {}
 
-/// A get without SSAs may pass over the span of a row of whose types the PCB reads none.
+/// A get without SSAs may pass over the span of a row where the PCB may read neither its type nor one below it.
 pub fn law_unread_spans_fail()
     ensures { UnreadSpansFail }
 {}

@@ -28,7 +28,7 @@ refuses_below NotEqual = false
 abbrev pub bound_of : Key → Comparison → Option (List ℕ)
 bound_of k c = cond (is_of_key k c && refuses_below c.operator) (Some c.value) None
 
--- the second of two keys, where it is the greater or the only one
+-- the greater of two keys, or the only one
 abbrev pub greater_of : Option (List ℕ) → Option (List ℕ) → Option (List ℕ)
 greater_of None b = b
 greater_of (Some a) None = Some a

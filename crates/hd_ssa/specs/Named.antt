@@ -45,7 +45,7 @@ codes_down types above [] = Some []
 codes_down types above (n ∷ ns) =
     option_and_then (λ c. option_map (λ cs. c ∷ cs) (codes_down types (Some c) ns)) (code_below types above n)
 
--- What heads that a PCB sees mean: AJ where the function may not have them, AC for their types, then AK or AJ for the qualifications.
+-- What heads with their types, as a PCB sees these, mean: AJ where the function may not have them, AC for their types, then AK or AJ for the qualifications.
 abbrev pub resolve_named : Setting → Function → List Named → Result (List Ssa) Status
 resolve_named s f ns =
     result_and_then (ok_if (heads_suit s f (heads_in ns)) AJ ns) (λ ns.

@@ -6,7 +6,7 @@ use Rattle.hd_seek.specs.Keys.{is_comparison_past}
 use Rattle.hd_ssa.specs.declared.question.Question.{Question}
 use Rattle.hd_ssa.specs.declared.question.Question.TheVariants.{IsTrue, IsNotPast}
 
--- the comparison is true of the bytes, or not past them
+-- the comparison is true of the bytes, or their key is not past it
 abbrev pub passes : Question → Comparison → Bool
 passes (IsTrue bytes) c = is_true_of bytes.now c
 passes (IsNotPast key bytes) c = not (is_comparison_past key bytes.now c)

@@ -175,3 +175,65 @@ impl Chance {
         }
     }
 }
+
+/// The name of the type of a code in a chain: T and two digits.
+pub fn chain_name(code: u8) -> [u8; 8] {
+    [
+        b'T',
+        b'0' + code / 10,
+        b'0' + code % 10,
+        b' ',
+        b' ',
+        b' ',
+        b' ',
+        b' ',
+    ]
+}
+
+/// Fifteen types, each below the one before it.
+fn chain_types(alloc: Global) -> Result<Vec<SegType>, AllocError> {
+    let mut types = Vec::new(alloc);
+    for code in 1..16 {
+        types.push(SegType {
+            name: name_of(&chain_name(code)),
+            parent: code.checked_sub(1).filter(|parent| *parent > 0),
+            length: 4,
+            key: Some(Key {
+                start: 1,
+                length: 4,
+                unique: true,
+            }),
+            rule: Rule::Last,
+            backward: false,
+            last_pointer: false,
+            fields: Vec::new(alloc),
+        })?;
+    }
+    Ok(types)
+}
+
+/// A database of such types.
+pub fn chain(alloc: Global) -> Result<Dbd, DbdFault> {
+    let types = chain_types(alloc)?;
+    let frspc = FreeSpace { fbff: 0, fspf: 0 };
+    Dbd::new(alloc, name_of(b"CHAIN   "), 128, frspc, types)
+}
+
+/// A PCB that reads all types of the chain.
+pub fn chain_pcb(alloc: Global) -> Result<Pcb, AllocError> {
+    let mut sens = Vec::new(alloc);
+    for code in 1..16 {
+        sens.push(Sens {
+            name: name_of(&chain_name(code)),
+            parent: code
+                .checked_sub(1)
+                .filter(|parent| *parent > 0)
+                .map(|parent| name_of(&chain_name(parent))),
+            procopt: None,
+        })?;
+    }
+    Ok(Pcb {
+        procopt: String::from_str(alloc, "G")?,
+        sens,
+    })
+}

@@ -118,7 +118,7 @@ fn some_group_passes(segment: &SegType, text: &[u8], question: Question<'_>) -> 
     false
 }
 
-/// The second of two keys, where it is the greater or the only one.
+/// The greater of two keys, or the only one.
 fn greater_of<'a>(first: Option<&'a [u8]>, second: Option<&'a [u8]>) -> Option<&'a [u8]>
     ensures { option_copied result ≡ greater_of (option_copied first.entry) (option_copied second.entry) }
 {

@@ -93,8 +93,9 @@ impl<'a> ResolvedSsa<'a> {
         }
     }
 
-    /// The greatest value of the key, told of the qualification alone, below which no segment has it; `None` where there is no
-    /// qualification, or a group of it has no EQ, GE or GT of the whole key. It is part of the call's text.
+    /// A value of the key below which no segment has the qualification: of its groups, the least of the greatest values that stand in
+    /// EQ, GE and GT of the whole key. `None` where there is no qualification, or a group has none of these. It is part of the call's
+    /// text.
     pub fn least_key(&self, key: Key) -> Option<&'a [u8]>
         ensures value { option_copied result ≡ least_key key self.now }
         ensures below { IfSome result (λ v. NoneQualifiesBelow key self.now v.now) }
@@ -322,8 +323,8 @@ fn resolve_heads<'a>(
     read_ssas(alloc, dbd, codes.as_slice(), heads)
 }
 
-/// What the segment search arguments of a call mean to a PCB, which is of a program made for the database. Where they mean nothing it
-/// answers AJ for the heads, then AC for the types, then AJ or AK for the qualifications. Want of memory may come with five or more.
+/// What the segment search arguments of a call mean to a PCB. Where they mean nothing it answers AJ for the heads, then AC for the
+/// types, then AJ or AK for the qualifications. Want of memory may come with five or more.
 pub fn resolve<'a>(
     alloc: Global,
     function: Function,

@@ -1,4 +1,4 @@
-use crate::making::{Chance, database, pcb};
+use crate::making::{Chance, chain, chain_name, chain_pcb, database, pcb};
 use crate::plain::{self, PlainHead, kind_at};
 use crate::{ResolvedSsa, SsaFault, resolve};
 use hd_calls::{Function, GetKind};
@@ -371,4 +371,23 @@ fn agrees_with_the_rules(rt: HostRuntime) -> Result<(), Fail> {
     }
     assert!(rt; resolved > 400, "{resolved}");
     Ok(())
+}
+
+#[test]
+fn resolves_as_many_as_there_are_levels(rt: HostRuntime) -> Result<(), Fail> {
+    let dbd = chain(rt.alloc())?;
+    let pcb = chain_pcb(rt.alloc())?;
+    let mut ssas = Vec::new(rt.alloc());
+    for code in 1..16 {
+        ssas.push(Vec::from_slice(rt.alloc(), &chain_name(code))?)?;
+        let count = count_of(rt.alloc(), &dbd, &pcb, &ssas);
+        assert_eq!(rt; count, Ok(code as usize));
+    }
+    Ok(())
+}
+
+/// How many arguments a get's mean.
+fn count_of(alloc: Global, dbd: &Dbd, pcb: &Pcb, ssas: &[Vec<u8>]) -> Result<usize, SsaFault> {
+    let resolved = resolve(alloc, GET, ssas, pcb, dbd)?;
+    Ok(resolved.ssas().len())
 }
