@@ -6,3 +6,5 @@ pub mod RowsAbove
 pub mod Judging
 pub mod LastTwins
 pub mod Asking
+pub mod Starts
+pub mod ByKey

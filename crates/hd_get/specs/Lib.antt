@@ -1,3 +1,4 @@
 pub mod Searches
 pub mod Meeting
 pub mod Asking
+pub mod Starts

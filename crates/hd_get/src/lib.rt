@@ -3,22 +3,26 @@
 
 mod access;
 mod arguments;
+mod by_key;
 mod judge;
 mod meeting;
 mod named;
 mod plain;
 mod searching;
 mod settling;
+mod starting;
 mod steps;
 mod verdict;
 mod ways;
 
+pub use by_key::unique_by_key;
 pub use judge::Judge;
 pub use meeting::meets;
 pub use named::Named;
 pub use plain::Plain;
 pub use searching::find;
 pub use settling::settle;
+pub use starting::{next, next_in_parent, unique};
 pub use verdict::Verdict;
 
 #[cfg(test)]

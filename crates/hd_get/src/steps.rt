@@ -14,7 +14,7 @@ use hd_forest::{Path, first_child, next_after_span, next_row, next_twin, tip_of}
 use hd_volume::{BlockStore, Volume};
 
 /// Leaves a path that leads past the dependents of the row at an address; the address 0 stands above all rows.
-fn stay_below(path: &mut Path, parent: u32)
+pub(crate) fn stay_below(path: &mut Path, parent: u32)
     ensures { path.new ≡ cond (parent == 0 || list_any (λ a. a == parent) path.old) path.old [] }
 {
     if parent != 0 && !path.addresses().contains(&parent) {

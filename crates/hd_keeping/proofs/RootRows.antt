@@ -3,19 +3,17 @@ use Rattle.std.proofs.Common.{◌≡◌, ℕ, ◌+◌, ◌-◌, ◌<◌, List, [
 use Rattle.std.specs.Prelude.{bytes_eq, option_map, map, not, ◌&&◌}
 use Rattle.std.specs.Option.{option_map_or}
 use Rattle.std.proofs.lemmas.Bool.{not-true, and_parts, and_from, cases_Bool, cases_lt, cond-true, eq-eqb, eqb-true, false≢true}
-use Rattle.std.proofs.lemmas.List.{append-nil}
 use Rattle.std.proofs.lemmas.Slice.Eq.{bytes_eq-Decides}
 use Rattle.hd_dbd.specs.Types.{SegmentType}
 use Rattle.hd_dbd.specs.Hierarchy.{Database, parent_of}
 use Rattle.hd_dbd.specs.DatabaseRules.{well_formed}
 use Rattle.hd_dbd.specs.Segment.{Segment}
-use Rattle.hd_dbd.specs.Rows.{key_of, valid_from, twins_in_order}
+use Rattle.hd_dbd.specs.Rows.{key_of, twins_in_order}
 use Rattle.hd_dbd.specs.Paths.{row_at, level_at, parent_row, path_of, have_one_parent}
 use Rattle.hd_dbd.specs.Forest.{Forest}
 use Rattle.hd_dbd.specs.Laws.{IsInSequence}
 use Rattle.hd_dbd.proofs.InSequence.{in_sequence}
 use Rattle.hd_dbd.proofs.LevelLaw.{Leveled, leveled, depth_below}
-use Rattle.hd_dbd.proofs.Sequences.{walk}
 use Rattle.hd_dbd.proofs.Names.{option_eq-Decides}
 use Rattle.hd_dbd.proofs.RowPaths.{path_follows}
 use Rattle.hd_calls.proofs.Searches.{least_some, least_no}
@@ -23,7 +21,8 @@ use Rattle.hd_volume.specs.Volumes.{VolumeState}
 use Rattle.hd_volume.specs.Entries.{Entry}
 use Rattle.hd_volume.specs.Indexes.{key_less, keys_ascend}
 use Rattle.hd_links.specs.Links.{Links, IsLinkGraph, segment_at, is_child_type}
-use Rattle.hd_links.specs.Placed.{Placed, nowhere, forest_of, count}
+use Rattle.hd_links.proofs.ValidRows.{held_valid}
+use Rattle.hd_links.specs.Placed.{Placed, nowhere, count}
 use Rattle.hd_links.specs.Steps.{rows_of, address_at, path_at, RowsHaveAddresses}
 use Rattle.hd_links.proofs.Types.{Ordered, ordered}
 use Rattle.hd_links.proofs.Forms.{Formed, formed}
@@ -117,8 +116,7 @@ module _ (d : Database) (v : VolumeState) (f : Forest Placed) (H : HoldsPlaced d
 
   -- the rows are in hierarchic sequence
   S : IsInSequence d.types rows
-  S = in_sequence d.types L rows
-      (ap (λ (rs : List Segment). valid_from d.types [] rs) (sym (append-nil rows)) ∙ (walk d.types L (forest_of f) [] [] [] None None refl tt refl H.records.fits).1)
+  S = in_sequence d.types L rows (held_valid d.types m f L H.records)
 
   -- a root is of the first type
   code-one : (i : ℕ) → is_root rows i ≡ true → (row_at rows i).code ≡ 1

@@ -27,4 +27,5 @@ pub mod RowChanges
 pub mod LastRows
 pub mod LastPath
 pub mod RowBounds
+pub mod ValidRows
 mod WorkedImage

@@ -1,9 +1,9 @@
 -- A leaf that is linked is a splice of one row.
-use Rattle.std.proofs.Common.{◌≡◌, ℕ, zero, suc, ◌+◌, ◌-◌, ◌<◌, ◌≤◌, List, [], ◌∷◌, ◌++◌, length, take, drop, get_or, Bool, true, cond, arith, ap, sym, ◌∙◌, refl, inl, inr, Option, Some, None}
+use Rattle.std.proofs.Common.{◌≡◌, ℕ, zero, suc, ◌+◌, ◌-◌, ◌<◌, ◌≤◌, List, ◌∷◌, ◌++◌, length, take, drop, get_or, Bool, true, cond, arith, ap, sym, ◌∙◌, refl, inl, inr, Option, Some}
 use Rattle.std.specs.Prelude.{option_map, IsTrue, ◌==◌, ◌&&◌, nat_le}
 use Rattle.std.specs.Option.{option_map_or, option_eq}
 use Rattle.std.proofs.lemmas.Bool.{cases_lt, cond-true, lt-ltb, eq-eqb, and_from}
-use Rattle.std.proofs.lemmas.List.{take-append-drop, append-nil, length-append, length-take-le, length-map, get_or-append_right, get_or_append_left, get_or-take, get_or-drop, get_or_past}
+use Rattle.std.proofs.lemmas.List.{take-append-drop, length-append, length-take-le, length-map, get_or-append_right, get_or_append_left, get_or-take, get_or-drop, get_or_past}
 use Rattle.hd_dbd.specs.declared.hierarchy.FreeSpace.{FreeSpace}
 use Rattle.hd_dbd.specs.Types.{SegmentType}
 use Rattle.hd_dbd.specs.DatabaseRules.{well_formed}
@@ -11,15 +11,15 @@ use Rattle.hd_dbd.specs.Segment.{Segment}
 use Rattle.hd_dbd.specs.Hierarchy.{parent_of, level_of}
 use Rattle.hd_dbd.specs.Paths.{row_at, no_row, level_at, parent_row, nearest_above, end_of}
 use Rattle.hd_dbd.specs.Searches.{first_from, least_within}
-use Rattle.hd_dbd.specs.Rows.{level, valid, row_fits}
+use Rattle.hd_dbd.specs.Rows.{level, row_fits}
 use Rattle.hd_dbd.specs.Laws.{IsInSequence}
 use Rattle.hd_dbd.specs.Forest.{Forest, sequence}
 use Rattle.hd_dbd.proofs.LevelLaw.{leveled, Leveled}
 use Rattle.hd_dbd.proofs.Names.{option_eq-Decides}
-use Rattle.hd_dbd.proofs.Sequences.{walk}
 use Rattle.hd_dbd.proofs.InSequence.{in_sequence}
 use Rattle.hd_links.specs.Links.{Links, IsLinkGraph, is_child_type}
-use Rattle.hd_links.specs.Placed.{Placed, Holds, forest_of}
+use Rattle.hd_links.proofs.ValidRows.{held_valid}
+use Rattle.hd_links.specs.Placed.{Placed, Holds}
 use Rattle.hd_links.specs.Changes.{linked, with_leaf, AgreeAt, CanLink}
 use Rattle.hd_links.specs.Steps.{rows_of, addresses, address_at, is_child_row, RowsHaveAddresses, StepsAreRows}
 use Rattle.hd_links.specs.Numbers.{LeafGoesInAt}
@@ -48,8 +48,7 @@ grounds block_size frspc types bound m f formed G H =
     record {
       addressed = rows_addressed types m f H;
       steps = λ i within. stepped types O levels bound m G f H i (row_found types O levels bound m G f H i within) within;
-      ordered = in_sequence types levels (rows_of f) (ap (λ (rows : List Segment). valid types rows) (sym (append-nil (rows_of f)))
-          ∙ (walk types levels (forest_of f) [] [] [] None None refl tt refl H.fits).1);
+      ordered = in_sequence types levels (rows_of f) (held_valid types m f levels H);
     }
 
 -- ---- a list with one more

@@ -1,0 +1,151 @@
+-- A search for the first row that satisfies GU begins at a root.
+use Rattle.std.proofs.Common.{◌≡◌, ne_eqb, ℕ, ◌+◌, ◌<◌, ◌≤◌, List, [], ◌∷◌, ◌++◌, length, Bool, true, false, Option, Some, None, refl, sym, ap, subst, ◌∙◌, arith}
+use Rattle.std.specs.Prelude.{nat_lt, ◌||◌, ◌&&◌, unwrap_or, option_map, IfSome}
+use Rattle.std.specs.Option.{option_map_or}
+use Rattle.std.specs.List.{list_all}
+use Rattle.std.proofs.lemmas.Bool.{cond-true, cond-false, lt-ltb, le-ltb, eq-eqb}
+use Rattle.std.proofs.lemmas.List.{length-append}
+use Rattle.hd_dbd.specs.Letters.{gives_get}
+use Rattle.hd_calls.specs.Access.{may}
+use Rattle.hd_dbd.specs.Types.{View}
+use Rattle.hd_dbd.specs.Hierarchy.{Database}
+use Rattle.hd_dbd.specs.Paths.{row_at, parent_row, path_of}
+use Rattle.hd_dbd.specs.Forest.{Forest}
+use Rattle.hd_dbd.proofs.LevelLaw.{leveled}
+use Rattle.hd_volume.specs.Volumes.{VolumeState}
+use Rattle.hd_links.specs.Placed.{Placed}
+use Rattle.hd_links.specs.Steps.{rows_of, address_at, path_at}
+use Rattle.hd_links.proofs.ValidRows.{held_valid}
+use Rattle.hd_image.specs.Records.{links_of}
+use Rattle.hd_image.specs.Holding.{HoldsPlaced}
+use Rattle.hd_keeping.specs.Roots.{is_root, is_root_from, first_row, address_of_first}
+use Rattle.hd_keeping.specs.Found.{AreRootsBelow}
+use Rattle.hd_keeping.proofs.RootRows.{follow-lesser, roots-alone}
+use Rattle.hd_calls.specs.Ssas.{Ssa}
+use Rattle.hd_calls.specs.Satisfies.{satisfies, is_named}
+use Rattle.hd_calls.proofs.Searches.{skipped}
+use Rattle.hd_seek.specs.Admits.{NonePass, AreRowsOf}
+use Rattle.hd_seek.proofs.Twins.{earlier_roots_fail}
+use Rattle.hd_get.specs.Searches.{LeadsWithin, path_within, parent_path, MayBeginAt}
+use Rattle.hd_get.specs.Starts.{least_root_key, root_from, unique_start, RefusesRootsBelow}
+use Rattle.hd_get.proofs.Spans.{parent_span}
+use Rattle.hd_get.proofs.Climbs.{path_is, some_path}
+use Rattle.hd_get.proofs.Starts.{ends_whole}
+
+module _ (d : Database) (v : VolumeState) (f : Forest Placed) (H : HoldsPlaced d v f) where
+  -- the rows of a volume are rows of its database
+  rows_are : AreRowsOf d.types (rows_of f)
+  rows_are = record {
+    block_size = d.block_size;
+    free_space = d.frspc;
+    formed = H.volume.fit;
+    fit = held_valid d.types (links_of d.types v) f (leveled d.block_size d.frspc d.types H.volume.fit) H.records;
+  }
+
+  -- nothing stands above a root
+  root_alone : (i : ℕ) → i < length (rows_of f) → is_root (rows_of f) i ≡ true → parent_row d.types (rows_of f) i ≡ None
+  root_alone i within root = by (parent_row d.types (rows_of f) i) refl
+    where
+      by : (o : Option ℕ) → parent_row d.types (rows_of f) i ≡ o → parent_row d.types (rows_of f) i ≡ None
+      by None is = is
+      by (Some q) is = absurd (
+          let alone : path_at d.types f i ≡ address_at f i ∷ [] = roots-alone d v f i H within root in
+          let above : parent_path d.types f i ≡ path_at d.types f q = ap (λ (o : Option ℕ). option_map_or (λ q. path_at d.types f q) o []) is in
+          let some : 0 < length (path_at d.types f q) = some_path d.types f q in
+          let e : length (path_at d.types f i) ≡ length (parent_path d.types f i ++ address_at f i ∷ []) = ap (λ (xs : List ℕ). length xs) (path_is d.types f i) in
+          let a : length (parent_path d.types f i ++ address_at f i ∷ []) ≡ length (parent_path d.types f i) + 1 = length-append (parent_path d.types f i) (address_at f i ∷ []) in
+          let b : length (parent_path d.types f i) ≡ length (path_at d.types f q) = ap (λ (xs : List ℕ). length xs) above in
+          let c : length (path_at d.types f i) ≡ 1 = ap (λ (xs : List ℕ). length xs) alone in
+          omega arith)
+
+  -- nor above the first row
+  first_alone : 0 < length (rows_of f) → parent_row d.types (rows_of f) 0 ≡ None
+  first_alone some = by (parent_row d.types (rows_of f) 0) refl
+    where
+      by : (o : Option ℕ) → parent_row d.types (rows_of f) 0 ≡ o → parent_row d.types (rows_of f) 0 ≡ None
+      by None is = is
+      by (Some q) is = absurd (let before : q < 0 = (parent_span d.types (rows_of f) 0 q some is).0 in omega arith)
+
+  -- the first root from a key on: it is within the rows or behind them, none stands above it, and all roots before it have lesser keys
+  record IsFirstRoot (key : List ℕ) (n : ℕ) : Type 0 where
+    within : n ≤ length (rows_of f)
+    lesser : AreRootsBelow d.types (rows_of f) key n
+    alone : n < length (rows_of f) → parent_row d.types (rows_of f) n ≡ None
+
+  first_root : (key : List ℕ) → IsFirstRoot key (root_from d.types (rows_of f) key)
+  first_root key = by (first_row (rows_of f) (is_root_from d.types (rows_of f) key)) refl
+    where
+      by : (o : Option ℕ) → first_row (rows_of f) (is_root_from d.types (rows_of f) key) ≡ o → IsFirstRoot key (unwrap_or o (length (rows_of f)))
+      by None is = record {
+        within = omega arith;
+        lesser = (follow-lesser d.types (rows_of f) key).1 is;
+        alone = λ w. absurd (omega arith);
+      }
+      by (Some i) is =
+          let F = (follow-lesser d.types (rows_of f) key).0 i is in
+          let w : i < length (rows_of f) = F.0 in record {
+            within = omega arith;
+            lesser = F.3;
+            alone = λ w. root_alone i w F.1;
+          }
+
+  -- the path from what the index answers
+  pub root_path : (key : List ℕ) (o : Option ℕ) (path : List ℕ) → o ≡ address_of_first f (is_root_from d.types (rows_of f) key)
+      → path ≡ option_map_or (λ a. a ∷ []) o [] → LeadsWithin d.types (links_of d.types v) f 0 (length (rows_of f)) path (root_from d.types (rows_of f) key)
+  root_path key o path answered is = record {
+    holds = H.records;
+    ends = ends_whole d.types f (root_from d.types (rows_of f) key);
+    is = is ∙ ap (λ (o : Option ℕ). option_map_or (λ a. a ∷ []) o []) answered ∙ by (first_row (rows_of f) (is_root_from d.types (rows_of f) key)) refl;
+  }
+    where
+      by : (o : Option ℕ) → first_row (rows_of f) (is_root_from d.types (rows_of f) key) ≡ o
+          → option_map_or (λ a. a ∷ []) (option_map (λ i. address_at f i) o) [] ≡ path_within d.types f (length (rows_of f)) (unwrap_or o (length (rows_of f)))
+      by None is = sym (cond-false (nat_lt (length (rows_of f)) (length (rows_of f))) (path_at d.types f (length (rows_of f))) [] (le-ltb (length (rows_of f)) (length (rows_of f)) (omega arith)))
+      by (Some i) is =
+          let F = (follow-lesser d.types (rows_of f) key).0 i is in
+          sym (roots-alone d v f i H F.0 F.1) ∙ sym (cond-true (nat_lt i (length (rows_of f))) (path_at d.types f i) [] (lt-ltb i (length (rows_of f)) F.0))
+
+  -- what is named satisfies, and nothing else where there are SSAs
+  unnamed : (pcb : View) (a : Ssa) (ssas : List Ssa) (j : ℕ) → is_named d.types (rows_of f) (a ∷ ssas) j ≡ false
+      → satisfies (record { types = d.types; pcb = pcb }) (rows_of f) (a ∷ ssas) j ≡ false
+  unnamed pcb a ssas j none =
+      ap (λ b. (b || is_named d.types (rows_of f) (a ∷ ssas) j) && may (record { types = d.types; pcb = pcb }) gives_get (row_at (rows_of f) j).code)
+      (ne_eqb (length (a ∷ ssas)) 0 (λ z. omega arith))
+      ∙ ap (λ b. b && may (record { types = d.types; pcb = pcb }) gives_get (row_at (rows_of f) j).code) none
+
+  -- before the row where GU begins none satisfies
+  none_before : (pcb : View) (ssas : List Ssa) → IfSome (least_root_key d.types ssas) (λ key. RefusesRootsBelow d.types ssas key)
+      → (number : ℕ) → number ≡ unique_start d.types (rows_of f) ssas
+      → (number ≤ length (rows_of f)) × NonePass (satisfies (record { types = d.types; pcb = pcb }) (rows_of f) ssas) 0 number
+      × (number < length (rows_of f) → parent_row d.types (rows_of f) number ≡ None)
+  none_before pcb [] refuses number is = from_first number is
+    where
+      from_first : (number : ℕ) → number ≡ 0 → (number ≤ length (rows_of f)) × NonePass (satisfies (record { types = d.types; pcb = pcb }) (rows_of f) []) 0 number
+          × (number < length (rows_of f) → parent_row d.types (rows_of f) number ≡ None)
+      from_first number z = ((omega arith), (λ j a b. absurd (omega arith)), λ w. subst (λ n. parent_row d.types (rows_of f) n ≡ None) (sym z) (first_alone (omega arith)))
+  none_before pcb (a ∷ ssas) refuses number is = by (least_root_key d.types (a ∷ ssas)) refuses is
+    where
+      by : (o : Option (List ℕ)) → IfSome o (λ key. RefusesRootsBelow d.types (a ∷ ssas) key) → number ≡ option_map_or (λ key. root_from d.types (rows_of f) key) o 0
+          → (number ≤ length (rows_of f)) × NonePass (satisfies (record { types = d.types; pcb = pcb }) (rows_of f) (a ∷ ssas)) 0 number
+          × (number < length (rows_of f) → parent_row d.types (rows_of f) number ≡ None)
+      by None refuses z = ((omega arith), (λ j a b. absurd (omega arith)), λ w. subst (λ n. parent_row d.types (rows_of f) n ≡ None) (sym z) (first_alone (omega arith)))
+      by (Some key) refuses e =
+          let R : IsFirstRoot key number = subst (IsFirstRoot key) (sym e) (first_root key) in (
+            R.within,
+            (λ j low high. unnamed pcb a ssas j
+                (earlier_roots_fail d.types (rows_of f) (a ∷ ssas) number rows_are R.within
+                (λ k before code. (let root : is_root (rows_of f) k ≡ true = eq-eqb (row_at (rows_of f) k).code 1 code in refuses (rows_of f) k root (R.lesser k before root))) j low high)),
+            R.alone,
+          )
+
+  pub begins_unique : (pcb : View) (ssas : List Ssa) (own : ℕ → Bool) (path : List ℕ) → IfSome (least_root_key d.types ssas) (λ key. RefusesRootsBelow d.types ssas key)
+      → LeadsWithin d.types (links_of d.types v) f 0 (length (rows_of f)) path (unique_start d.types (rows_of f) ssas)
+      → MayBeginAt (satisfies (record { types = d.types; pcb = pcb }) (rows_of f) ssas) own d.types f 0 (length (rows_of f)) 0 path
+  begins_unique pcb ssas own path refuses leads =
+      let N = none_before pcb ssas refuses (unique_start d.types (rows_of f) ssas) refl in record {
+        number = unique_start d.types (rows_of f) ssas;
+        same = skipped (satisfies (record { types = d.types; pcb = pcb }) (rows_of f) ssas) 0 (unique_start d.types (rows_of f) ssas) (length (rows_of f)) (omega arith) N.1;
+        ends = leads.ends;
+        above = λ w. ap (λ (o : Option ℕ). option_map_or (λ q. list_all own (path_of d.types (rows_of f) q)) o true) (N.2 w);
+        is = leads.is;
+      }
