@@ -14,7 +14,7 @@ use Rattle.std.specs.Prelude.{Ok}
 use Rattle.hd_volume.specs.Volumes.{VolumeState}
 use Rattle.hd_volume.specs.Calls.{IsRead}
 use Rattle.hd_forest.proofs.Reading.{after-read}
-use Rattle.hd_get.specs.Searches.{IsAt}
+use Rattle.hd_get.specs.Searches.{IsPathOf}
 use Rattle.hd_links.specs.Links.{Links, IsSegment}
 use Rattle.hd_links.specs.Placed.{Placed, Holds, forest_of}
 use Rattle.hd_links.specs.Steps.{rows_of, address_at, path_at, tip_from, RowsHaveAddresses, StepsAreRows}
@@ -72,7 +72,7 @@ short_path d v f of path i on j code is =
     let h : level_at d.types (rows_of f) j ≤ 15 = J.1 in omega arith
 
 -- what was told of the volume after a call that read was told of it before
-pub told_before : {A : Type 0} {x : A} (d : Database) (u v : VolumeState) → IsRead {T = A} u (Ok x) v → (f : Forest Placed) (path : List ℕ) (i : ℕ) → IsAt d u f path i → IsAt d v f path i
+pub told_before : {A : Type 0} {x : A} (d : Database) (u v : VolumeState) → IsRead {T = A} u (Ok x) v → (f : Forest Placed) (path : List ℕ) (i : ℕ) → IsPathOf d u f path i → IsPathOf d v f path i
 told_before d u v read f path i at =
     let same = after-read d u v read at.sound in
     record { sound = same.sound; row = subst (λ m. IsOnRow d.types m f path i) (sym same.links) at.row }

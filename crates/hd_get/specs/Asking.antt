@@ -19,7 +19,7 @@ use Rattle.hd_calls.specs.Satisfies.{satisfies}
 use Rattle.hd_seek.specs.Admits.{admits, meets_own, is_on_way, Descend}
 use Rattle.hd_seek.specs.Keys.{is_past}
 use Rattle.hd_seek.specs.Ways.{way_down, way_beside}
-use Rattle.hd_get.specs.Searches.{IsAt}
+use Rattle.hd_get.specs.Searches.{IsPathOf}
 use Rattle.hd_get.specs.declared.verdict.Verdict.{Verdict}
 use Rattle.hd_get.specs.declared.verdict.Verdict.TheVariants.{Found, Down, Across, Beside, Rest}
 
@@ -51,12 +51,12 @@ verdict_down s target code = option_map_or (λ c. Down c) (way_down s.types targ
 -- wherever the path is that of a row of this type, so is it said whether that meets the arguments of its type
 abbrev pub Admits : Database → VolumeState → List Ssa → ℕ → List ℕ → Bool → Type 0
 Admits d v ssas code path r =
-    (f : Forest Placed) (i : ℕ) → IsAt d v f path i → (row_at (rows_of f) i).code ≡ code → r ≡ admits d.types (rows_of f) ssas i
+    (f : Forest Placed) (i : ℕ) → IsPathOf d v f path i → (row_at (rows_of f) i).code ≡ code → r ≡ admits d.types (rows_of f) ssas i
 
 -- the same of one argument
 abbrev pub MeetsOwn : Database → VolumeState → Ssa → ℕ → List ℕ → Bool → Type 0
 MeetsOwn d v ssa code path r =
-    (f : Forest Placed) (i : ℕ) → IsAt d v f path i → (row_at (rows_of f) i).code ≡ code → r ≡ meets_own d.types (rows_of f) i ssa
+    (f : Forest Placed) (i : ℕ) → IsPathOf d v f path i → (row_at (rows_of f) i).code ≡ code → r ≡ meets_own d.types (rows_of f) i ssa
 
 -- where the store is sound and the segment at the address is of this type, so is it said whether its key is past what the arguments ask
 abbrev pub IsPast : Database → VolumeState → List Ssa → ℕ → ℕ → Bool → Type 0

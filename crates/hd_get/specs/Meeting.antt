@@ -9,7 +9,7 @@ use Rattle.hd_links.specs.Steps.{rows_of}
 use Rattle.hd_image.specs.Records.{links_of}
 use Rattle.hd_calls.specs.Ssas.{Ssa}
 use Rattle.hd_calls.specs.Satisfies.{qualifies, is_last_so, meets}
-use Rattle.hd_get.specs.Searches.{IsAt}
+use Rattle.hd_get.specs.Searches.{IsPathOf}
 
 -- where the store is sound, the address is that of a segment
 abbrev pub IsStored : Database → VolumeState → ℕ → Type 0
@@ -21,8 +21,8 @@ Qualifies d v ssa a r = IsTrue v.is_sound → r ≡ qualifies ssa (segment_at (l
 
 -- wherever the path is that of a row, the answer says whether no later twin has the SSA's qualification
 abbrev pub IsLastSo : Database → VolumeState → Ssa → List ℕ → Bool → Type 0
-IsLastSo d v ssa path r = (f : Forest Placed) (i : ℕ) → IsAt d v f path i → r ≡ is_last_so d.types (rows_of f) ssa i
+IsLastSo d v ssa path r = (f : Forest Placed) (i : ℕ) → IsPathOf d v f path i → r ≡ is_last_so d.types (rows_of f) ssa i
 
 -- wherever the path is that of a row, the answer says whether that meets the SSA
 abbrev pub Meets : Database → VolumeState → Ssa → List ℕ → Bool → Type 0
-Meets d v ssa path r = (f : Forest Placed) (i : ℕ) → IsAt d v f path i → r ≡ meets d.types (rows_of f) ssa i
+Meets d v ssa path r = (f : Forest Placed) (i : ℕ) → IsPathOf d v f path i → r ≡ meets d.types (rows_of f) ssa i

@@ -156,8 +156,8 @@ GoesPast types f parent i path =
     → GoesOn test admits types f end i path
 
 -- The search followed a verdict on row i.
-abbrev pub Follows : List SegmentType → Forest Placed → ℕ → ℕ → Verdict → Bool → List ℕ → Type 0
-Follows types f parent i verdict r path =
+abbrev pub FollowsVerdict : List SegmentType → Forest Placed → ℕ → ℕ → Verdict → Bool → List ℕ → Type 0
+FollowsVerdict types f parent i verdict r path =
     (test admits : ℕ → Bool) (end : ℕ) → EndsAt types f parent i end → i < end → is_above_admitted admits types (rows_of f) i ≡ true
     → IsJudged test admits types (rows_of f) i verdict → IsTurned test admits types f end i r path
 
@@ -181,14 +181,14 @@ abbrev pub IsThere : Database → VolumeState → List ℕ → Type 0
 IsThere d v path = IsTrue v.is_sound → IsOnSomeRow d.types (links_of d.types v) path
 
 -- The path is that of row i of a forest that the sound volume holds.
-pub record IsAt (d : Database) (v : VolumeState) (f : Forest Placed) (path : List ℕ) (i : ℕ) : Type 0 where
+pub record IsPathOf (d : Database) (v : VolumeState) (f : Forest Placed) (path : List ℕ) (i : ℕ) : Type 0 where
   pub sound : IsTrue v.is_sound
   pub row : IsOnRow d.types (links_of d.types v) f path i
 
 -- the verdict on the row of a path is right wherever the row's parents are admitted
 abbrev pub IsVerdict : (List Segment → ℕ → Bool) → (List Segment → ℕ → Bool) → Database → VolumeState → List ℕ → Verdict → Type 0
 IsVerdict test admits d v path verdict =
-    (f : Forest Placed) (i : ℕ) → IsAt d v f path i → is_above_admitted (admits (rows_of f)) d.types (rows_of f) i ≡ true
+    (f : Forest Placed) (i : ℕ) → IsPathOf d v f path i → is_above_admitted (admits (rows_of f)) d.types (rows_of f) i ≡ true
     → IsJudged (test (rows_of f)) (admits (rows_of f)) d.types (rows_of f) i verdict
 
 -- Where the store is sound, a search stands at a row of a forest that the volume holds, before its end, and the parents of the row

@@ -6,7 +6,7 @@ ghost use Rattle.hd_dbd.specs.Forest.{Forest};
 ghost use Rattle.hd_volume.specs.Calls.{IsRead};
 ghost use Rattle.hd_links.specs.Placed.{Placed};
 ghost use Rattle.hd_links.specs.Steps.{rows_of};
-ghost use Rattle.hd_get.specs.Searches.{IsOf, IsThere, IsAt, IsClimbed, GoesAcross, GoesDown, GoesBeside, GoesTo, GoesPast, Follows};
+ghost use Rattle.hd_get.specs.Searches.{IsOf, IsThere, IsPathOf, IsClimbed, GoesAcross, GoesDown, GoesBeside, GoesTo, GoesPast, FollowsVerdict};
 
 use crate::verdict::Verdict;
 use hd_dbd::{Dbd, Refused};
@@ -27,7 +27,7 @@ fn climb<S: BlockStore>(volume: &mut Volume<S>, dbd: &Dbd, path: &mut Path) -> R
     requires of { IsOf dbd.now volume.old }
     requires there { IsThere dbd.now volume.old path.old }
     ensures read { IsRead volume.old result volume.new }
-    ensures value { IfOk result (λ r. (f : Forest Placed) (i : ℕ) → IsAt dbd.now volume.old f path.old i → IsClimbed dbd.now.types f i r path.new) }
+    ensures value { IfOk result (λ r. (f : Forest Placed) (i : ℕ) → IsPathOf dbd.now volume.old f path.old i → IsClimbed dbd.now.types f i r path.new) }
     ensures up { IfOk result (λ r. r ≡ false → path.new ≡ take (length path.old - 1) path.old) }
     ensures refusal { OnlyDevice result }
 {
@@ -51,7 +51,7 @@ fn across<S: BlockStore>(
     requires of { IsOf dbd.now volume.old }
     requires there { IsThere dbd.now volume.old path.old }
     ensures read { IsRead volume.old result volume.new }
-    ensures value { OnOk result ((f : Forest Placed) (i : ℕ) → IsAt dbd.now volume.old f path.old i → GoesAcross dbd.now.types f parent i path.new) }
+    ensures value { OnOk result ((f : Forest Placed) (i : ℕ) → IsPathOf dbd.now volume.old f path.old i → GoesAcross dbd.now.types f parent i path.new) }
     ensures refusal { OnlyDevice result }
 {
     while !path.addresses().is_empty() && tip_of(path) != parent {
@@ -74,7 +74,7 @@ fn down<S: BlockStore>(
     requires of { IsOf dbd.now volume.old }
     requires there { IsThere dbd.now volume.old path.old }
     ensures read { IsRead volume.old result volume.new }
-    ensures value { OnOk result ((f : Forest Placed) (i : ℕ) → IsAt dbd.now volume.old f path.old i → GoesDown dbd.now.types f parent i code path.new) }
+    ensures value { OnOk result ((f : Forest Placed) (i : ℕ) → IsPathOf dbd.now volume.old f path.old i → GoesDown dbd.now.types f parent i code path.new) }
     ensures refusal { OnlyDevice result }
 {
     let child = first_child(volume, dbd, tip_of(path), code)?;
@@ -96,7 +96,7 @@ fn beside<S: BlockStore>(
     requires of { IsOf dbd.now volume.old }
     requires there { IsThere dbd.now volume.old path.old }
     ensures read { IsRead volume.old result volume.new }
-    ensures value { OnOk result ((f : Forest Placed) (i : ℕ) → IsAt dbd.now volume.old f path.old i → GoesBeside dbd.now.types f parent i code path.new) }
+    ensures value { OnOk result ((f : Forest Placed) (i : ℕ) → IsPathOf dbd.now volume.old f path.old i → GoesBeside dbd.now.types f parent i code path.new) }
     ensures refusal { OnlyDevice result }
 {
     path.up();
@@ -116,7 +116,7 @@ fn rest<S: BlockStore>(
     requires of { IsOf dbd.now volume.old }
     requires there { IsThere dbd.now volume.old path.old }
     ensures read { IsRead volume.old result volume.new }
-    ensures value { OnOk result ((f : Forest Placed) (i : ℕ) → IsAt dbd.now volume.old f path.old i → GoesPast dbd.now.types f parent i path.new) }
+    ensures value { OnOk result ((f : Forest Placed) (i : ℕ) → IsPathOf dbd.now volume.old f path.old i → GoesPast dbd.now.types f parent i path.new) }
     ensures refusal { OnlyDevice result }
 {
     path.up();
@@ -136,7 +136,7 @@ fn next<S: BlockStore>(
     requires of { IsOf dbd.now volume.old }
     requires there { IsThere dbd.now volume.old path.old }
     ensures read { IsRead volume.old result volume.new }
-    ensures value { OnOk result ((f : Forest Placed) (i : ℕ) → IsAt dbd.now volume.old f path.old i → GoesTo dbd.now.types f parent i (i + 1) path.new) }
+    ensures value { OnOk result ((f : Forest Placed) (i : ℕ) → IsPathOf dbd.now volume.old f path.old i → GoesTo dbd.now.types f parent i (i + 1) path.new) }
     ensures refusal { OnlyDevice result }
 {
     next_row(volume, dbd, path)?;
@@ -154,7 +154,7 @@ fn over<S: BlockStore>(
     requires of { IsOf dbd.now volume.old }
     requires there { IsThere dbd.now volume.old path.old }
     ensures read { IsRead volume.old result volume.new }
-    ensures value { OnOk result ((f : Forest Placed) (i : ℕ) → IsAt dbd.now volume.old f path.old i → GoesTo dbd.now.types f parent i (end_of dbd.now.types (rows_of f) i) path.new) }
+    ensures value { OnOk result ((f : Forest Placed) (i : ℕ) → IsPathOf dbd.now volume.old f path.old i → GoesTo dbd.now.types f parent i (end_of dbd.now.types (rows_of f) i) path.new) }
     ensures refusal { OnlyDevice result }
 {
     next_after_span(volume, dbd, path)?;
@@ -173,7 +173,7 @@ pub fn follow<S: BlockStore>(
     requires of { IsOf dbd.now volume.old }
     requires there { IsThere dbd.now volume.old path.old }
     ensures read { IsRead volume.old result volume.new }
-    ensures value { IfOk result (λ r. (f : Forest Placed) (i : ℕ) → IsAt dbd.now volume.old f path.old i → Follows dbd.now.types f parent i verdict r path.new) }
+    ensures value { IfOk result (λ r. (f : Forest Placed) (i : ℕ) → IsPathOf dbd.now volume.old f path.old i → FollowsVerdict dbd.now.types f parent i verdict r path.new) }
     ensures refusal { OnlyDevice result }
 {
     match verdict {

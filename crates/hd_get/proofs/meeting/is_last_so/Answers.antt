@@ -14,7 +14,7 @@ use Rattle.hd_forest.specs.Rows.{IsOnSomeRow}
 use Rattle.hd_forest.proofs.Reading.{after-read, links-kept, volume-kept}
 use Rattle.hd_calls.specs.Ssas.{Ssa}
 use Rattle.hd_calls.specs.Satisfies.{qualifies}
-use Rattle.hd_get.specs.Searches.{IsAt}
+use Rattle.hd_get.specs.Searches.{IsPathOf}
 use Rattle.hd_get.specs.Meeting.{IsStored}
 use Rattle.hd_get.proofs.Grounds.{grounds, tip_is, tip_there}
 use Rattle.hd_get.proofs.LastTwins.{HasLooked, looks_first, looks_on, same_twins, found_it, passed_it}
@@ -29,7 +29,7 @@ next_twin-requires-clause-there g c sound =
 
 -- the twin that was looked at last, if it is one, is stored
 stored : (d : Database) (v : VolumeState) → (IsTrue v.is_sound → IsVolumeOf d v) → (path : List ℕ) → (IsTrue v.is_sound → IsOnSomeRow d.types (links_of d.types v) path)
-    → (ssa : Ssa) (turns twin : ℕ) → ((f : Forest Placed) (i : ℕ) → IsAt d v f path i → HasLooked d.types f ssa i turns twin) → 0 < twin → IsStored d v twin
+    → (ssa : Ssa) (turns twin : ℕ) → ((f : Forest Placed) (i : ℕ) → IsPathOf d v f path i → HasLooked d.types f ssa i turns twin) → 0 < twin → IsStored d v twin
 stored d v of path there ssa turns twin looked some sound =
     let T = there sound in
     let G = grounds d v T.0 (of sound) T.2.holds in
@@ -46,7 +46,7 @@ loop-count-init g c =
       looked = looked d u;
     }
   where
-    looked : (d : Database) (u : VolumeState) → (f : Forest Placed) (i : ℕ) → IsAt c.args.dbd.now c.args.volume.now f c.args.path.now i → HasLooked c.args.dbd.now.types f c.args.ssa.now i 0 c.in_ok-twin.twin
+    looked : (d : Database) (u : VolumeState) → (f : Forest Placed) (i : ℕ) → IsPathOf c.args.dbd.now c.args.volume.now f c.args.path.now i → HasLooked c.args.dbd.now.types f c.args.ssa.now i 0 c.in_ok-twin.twin
     looked d u f i at =
         (let G = grounds c.args.dbd.now c.args.volume.now f (c.requires.of at.sound) at.row.holds in
         let m = links_of c.args.dbd.now.types c.args.volume.now in
@@ -97,7 +97,7 @@ loop-count-preserved g c = record {
   looked = looked;
 }
   where
-    looked : (f : Forest Placed) (i : ℕ) → IsAt c.args.dbd.now c.args.volume.now f c.args.path.now i → HasLooked c.args.dbd.now.types f c.args.ssa.now i (c.loop-count.count + 1) c.in_ok-twin-2.twin
+    looked : (f : Forest Placed) (i : ℕ) → IsPathOf c.args.dbd.now c.args.volume.now f c.args.path.now i → HasLooked c.args.dbd.now.types f c.args.ssa.now i (c.loop-count.count + 1) c.in_ok-twin-2.twin
     looked f i at =
         (let d = c.args.dbd.now in
         let u = c.args.volume.now in

@@ -15,7 +15,7 @@ use Rattle.hd_forest.specs.Rows.{IsOnSomeRow}
 use Rattle.hd_forest.proofs.Reading.{links-kept, volume-kept}
 use Rattle.hd_calls.specs.Ssas.{Ssa}
 use Rattle.hd_calls.specs.Satisfies.{qualifies, is_last_so}
-use Rattle.hd_get.specs.Searches.{IsAt}
+use Rattle.hd_get.specs.Searches.{IsPathOf}
 use Rattle.hd_get.proofs.Grounds.{grounds, tip_is, tip_there, told_before}
 use Rattle.hd_get.proofs.meeting.meets.Goals as goal
 use Rattle.hd_get.proofs.meeting.meets.Goals.{then-not-commands-via-then-not-commands, then-not-commands-via-else-not-commands+then-code-eq1}
@@ -28,7 +28,7 @@ qualifies-requires-clause-there g c sound =
     subst (IsSegment (links_of d.types u)) (sym c.tip_of.ensures) (tip_there d.types (links_of d.types u) T.0 (grounds d u T.0 (c.requires.of sound) T.2.holds) c.args.path.now T.1 T.2)
 
 -- what was told of the segment at the path's end is told of its row
-of_row : (d : Database) (v : VolumeState) (ssa : Ssa) → IsVolumeOf d v → (path : List ℕ) (f : Forest Placed) (i : ℕ) → IsAt d v f path i → (tip_ : ℕ) → tip_ ≡ tip path → (r : Bool)
+of_row : (d : Database) (v : VolumeState) (ssa : Ssa) → IsVolumeOf d v → (path : List ℕ) (f : Forest Placed) (i : ℕ) → IsPathOf d v f path i → (tip_ : ℕ) → tip_ ≡ tip path → (r : Bool)
     → r ≡ qualifies ssa (segment_at (links_of d.types v) tip_) → qualifies ssa (row_at (rows_of f) i) ≡ r
 of_row d v ssa of path f i at tip_ is r e =
     let G = grounds d v f of at.row.holds in

@@ -9,7 +9,7 @@ use Rattle.hd_image.specs.Records.{links_of}
 use Rattle.hd_image.proofs.RowCounts.{few-rows}
 use Rattle.hd_forest.specs.Rows.{IsOnSomeRow}
 use Rattle.hd_forest.proofs.Reading.{links-kept, volume-kept}
-use Rattle.hd_get.specs.Searches.{EndsAt, IsAt}
+use Rattle.hd_get.specs.Searches.{EndsAt, IsPathOf}
 use Rattle.hd_get.proofs.Grounds.{told_before}
 use Rattle.hd_get.proofs.Climbs.{empty_is, full_path}
 use Rattle.hd_get.proofs.Turns.{HasSearched, ends_within, ends_later, search_begins, search_goes_on, search_finds, search_ends, search_out, search_in}
@@ -84,7 +84,7 @@ returns-then-branch-clause-found g c f i end S =
     let w : H.number < end = I.0 in
     let e : end ≤ length (rows_of f) = ends_within types f c.args.parent i end S.leads.ends in
     let further : i + c.loop-count.count ≤ H.number = H.further in
-    let at : IsAt c.args.dbd.now u f c.loop-count.path H.number = record { sound = S.sound; row = record { holds = S.leads.holds; within = omega arith; is = I.1 } } in
+    let at : IsPathOf c.args.dbd.now u f c.loop-count.path H.number = record { sound = S.sound; row = record { holds = S.leads.holds; within = omega arith; is = I.1 } } in
     let judged = c.in_ok-verdict.ensures.value f H.number (told_before c.args.dbd.now u c.loop-count.volume c.loop-count.invariant.read f c.loop-count.path H.number at) (H.above w) in
     let turned = c.in_ok-follow.ensures.value f H.number
     (told_before c.args.dbd.now c.loop-count.volume c.judge.new.volume c.in_ok-verdict.ensures.read f c.loop-count.path H.number
@@ -107,7 +107,7 @@ loop-count-preserved g c = record {
       let w : H.number < end = I.0 in
       let e : end ≤ length (rows_of f) = ends_within types f c.args.parent i end S.leads.ends in
       let further : i + c.loop-count.count ≤ H.number = H.further in
-      let at : IsAt c.args.dbd.now u f c.loop-count.path H.number = record { sound = S.sound; row = record { holds = S.leads.holds; within = omega arith; is = I.1 } } in
+      let at : IsPathOf c.args.dbd.now u f c.loop-count.path H.number = record { sound = S.sound; row = record { holds = S.leads.holds; within = omega arith; is = I.1 } } in
       let judged = c.in_ok-verdict.ensures.value f H.number (told_before c.args.dbd.now u c.loop-count.volume c.loop-count.invariant.read f c.loop-count.path H.number at) (H.above w) in
       let turned = c.in_ok-follow.ensures.value f H.number
       (told_before c.args.dbd.now c.loop-count.volume c.judge.new.volume c.in_ok-verdict.ensures.read f c.loop-count.path H.number

@@ -9,7 +9,7 @@ use Rattle.hd_links.specs.Steps.{rows_of}
 use Rattle.hd_image.specs.Records.{links_of}
 use Rattle.hd_forest.specs.Rows.{IsOnRow, IsOnSomeRow}
 use Rattle.hd_forest.proofs.Reading.{links-kept, volume-kept}
-use Rattle.hd_get.specs.Searches.{IsAt, MayBeginAt}
+use Rattle.hd_get.specs.Searches.{IsPathOf, MayBeginAt}
 use Rattle.hd_get.proofs.Spans.{nested}
 use Rattle.hd_get.proofs.Grounds.{grounds, told_before}
 use Rattle.hd_get.proofs.RowsAbove.{above_found, above_by, is_row, short_path, all_above, begins_above, begins_nowhere, begins_here, named_above, unnamed_above, all_admitted}
@@ -96,7 +96,7 @@ returns-then-below-clause-value g c f n end sound leads =
     c.addresses-addresses.ensures.value c.addresses-addresses.ensures.few c.saturating_sub-place-end.ensures c.loop-place-test.true c.loop-place.invariant.above c.push.ensures in
     let F = above_found d.types m f G.addressed c.args.parent end n path leads place S.0 in
     let on = subst (λ (xs : List ℕ). IsOnRow d.types m f xs F.0) (sym S.1) (is_row d.types m f G.addressed c.args.parent end n path leads place F.0 S.0 F.1 leads.holds) in
-    let at : IsAt d c.args.volume.now f c.push.new.self F.0 = record { sound = sound; row = on } in
+    let at : IsPathOf d c.args.volume.now f c.push.new.self F.0 = record { sound = sound; row = on } in
     let all = c.loop-place.invariant.admitted f n end sound leads F.1.inside in
     let up = above_by test admits d.types f c.args.parent end n leads.ends place F.0 on.within F.1.row.is (short_path d.types m f G.addressed c.args.parent end n path leads place F.0 S.0 F.1) all in
     let J = c.in_ok-verdict.ensures.value f F.0 (told_before d c.args.volume.now c.loop-place.volume c.loop-place.invariant.read f c.push.new.self F.0 at) up in
@@ -125,7 +125,7 @@ returns-else-below-clause-value g c f n end sound leads =
     c.addresses-addresses.ensures.value c.addresses-addresses.ensures.few c.saturating_sub-place-end.ensures c.loop-place-test.true c.loop-place.invariant.above c.push.ensures in
     let F = above_found d.types m f G.addressed c.args.parent end n path leads place S.0 in
     let on = subst (λ (xs : List ℕ). IsOnRow d.types m f xs F.0) (sym S.1) (is_row d.types m f G.addressed c.args.parent end n path leads place F.0 S.0 F.1 leads.holds) in
-    let at : IsAt d c.args.volume.now f c.push.new.self F.0 = record { sound = sound; row = on } in
+    let at : IsPathOf d c.args.volume.now f c.push.new.self F.0 = record { sound = sound; row = on } in
     let all = c.loop-place.invariant.admitted f n end sound leads F.1.inside in
     let up = above_by test admits d.types f c.args.parent end n leads.ends place F.0 on.within F.1.row.is (short_path d.types m f G.addressed c.args.parent end n path leads place F.0 S.0 F.1) all in
     let J = c.in_ok-verdict.ensures.value f F.0 (told_before d c.args.volume.now c.loop-place.volume c.loop-place.invariant.read f c.push.new.self F.0 at) up in
@@ -180,7 +180,7 @@ loop-place-preserved g c = record {
       c.addresses-addresses.ensures.value c.addresses-addresses.ensures.few c.saturating_sub-place-end.ensures c.loop-place-test.true c.loop-place.invariant.above c.push.ensures in
       let F = above_found d.types m f G.addressed c.args.parent end n path leads place S.0 in
       let on = subst (λ (xs : List ℕ). IsOnRow d.types m f xs F.0) (sym S.1) (is_row d.types m f G.addressed c.args.parent end n path leads place F.0 S.0 F.1 leads.holds) in
-      let at : IsAt d c.args.volume.now f c.push.new.self F.0 = record { sound = sound; row = on } in
+      let at : IsPathOf d c.args.volume.now f c.push.new.self F.0 = record { sound = sound; row = on } in
       let all = c.loop-place.invariant.admitted f n end sound leads F.1.inside in
       let up = above_by test admits d.types f c.args.parent end n leads.ends place F.0 on.within F.1.row.is (short_path d.types m f G.addressed c.args.parent end n path leads place F.0 S.0 F.1) all in
       let J = c.in_ok-verdict.ensures.value f F.0 (told_before d c.args.volume.now c.loop-place.volume c.loop-place.invariant.read f c.push.new.self F.0 at) up in

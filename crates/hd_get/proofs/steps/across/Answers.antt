@@ -10,7 +10,7 @@ use Rattle.hd_links.specs.Steps.{rows_of}
 use Rattle.hd_image.specs.Records.{links_of}
 use Rattle.hd_forest.specs.Rows.{IsOnRow, IsOnSomeRow}
 use Rattle.hd_forest.proofs.Reading.{after-read, links-kept, volume-kept}
-use Rattle.hd_get.specs.Searches.{IsAt, IsClimbed, GoesAcross}
+use Rattle.hd_get.specs.Searches.{IsPathOf, IsClimbed, GoesAcross}
 use Rattle.hd_get.proofs.Grounds.{grounds, tip_is}
 use Rattle.hd_get.proofs.Climbs.{climb_begins, climb_goes_on, climb_crosses, climb_ends, empty_is, full_path, parent_there}
 use Rattle.hd_get.proofs.steps.across.Goals as goal
@@ -37,7 +37,7 @@ returns-then-branch-clause-read g c = read-ok tt (reads-join (Ok c.in_ok-climb.f
 
 -- what a step up, or across, did to the path of row k
 climbed : (d : Database) (u v : VolumeState) (f : Forest Placed) (k : ℕ) (path new : List ℕ) (r : Bool) → IsRead {T = ℕ} u (Ok 0) v → IsTrue u.is_sound → IsOnRow d.types (links_of d.types u) f path k
-    → ((f : Forest Placed) (i : ℕ) → IsAt d v f path i → IsClimbed d.types f i r new) → IsClimbed d.types f k r new
+    → ((f : Forest Placed) (i : ℕ) → IsPathOf d v f path i → IsClimbed d.types f i r new) → IsClimbed d.types f k r new
 climbed d u v f k path new r read sound on value =
     let same = after-read d u v read sound in
     value f k (record { sound = same.sound; row = subst (λ (m : Links). IsOnRow d.types m f path k) (sym same.links) on })

@@ -15,7 +15,7 @@ use Rattle.hd_calls.specs.Ssas.{target_code}
 use Rattle.hd_seek.specs.Admits.{admits, is_on_way}
 use Rattle.hd_seek.specs.Keys.{is_past}
 use Rattle.hd_get.specs.declared.verdict.Verdict.TheVariants.{Across, Rest}
-use Rattle.hd_get.specs.Searches.{IsAt, IsJudged}
+use Rattle.hd_get.specs.Searches.{IsPathOf, IsJudged}
 use Rattle.hd_get.specs.Asking.{Asked, is_asked, is_admitted, verdict_beside, verdict_down}
 use Rattle.hd_get.proofs.Grounds.{held_rows, grounds, tip_is, tip_there, tip_code, told_before}
 use Rattle.hd_get.proofs.Asking.{judged_off, judged_met, judged_past, judged_unmet}
@@ -29,7 +29,7 @@ code_at-requires-clause-there g c sound =
     subst (IsSegment (links_of d.types u)) (sym c.tip_of.ensures) (tip_there d.types (links_of d.types u) T.0 (grounds d u T.0 (c.requires.of sound) T.2.holds) c.args.path.now T.1 T.2)
 
 -- the code that was read is the row's
-row_code : (d : Database) (v : VolumeState) → IsVolumeOf d v → (path : List ℕ) (f : Forest Placed) (i : ℕ) → IsAt d v f path i → (tip_ code : ℕ) → tip_ ≡ tip path
+row_code : (d : Database) (v : VolumeState) → IsVolumeOf d v → (path : List ℕ) (f : Forest Placed) (i : ℕ) → IsPathOf d v f path i → (tip_ code : ℕ) → tip_ ≡ tip path
     → code ≡ (links_of d.types v).code tip_ → code ≡ (row_at (rows_of f) i).code
 row_code d v of path f i at tip_ code is value =
     value ∙ ap (links_of d.types v).code is ∙ tip_code d.types (links_of d.types v) f (grounds d v f of at.row.holds) path i at.row

@@ -7,7 +7,7 @@ use Rattle.hd_volume.specs.Volumes.{VolumeState}
 use Rattle.hd_links.specs.Placed.{Placed}
 use Rattle.hd_forest.specs.Walks.{tip}
 use Rattle.hd_calls.specs.Satisfies.{satisfies}
-use Rattle.hd_get.specs.Searches.{IsAt}
+use Rattle.hd_get.specs.Searches.{IsPathOf}
 use Rattle.hd_links.specs.Links.{IsSegment}
 use Rattle.hd_links.specs.Steps.{rows_of}
 use Rattle.hd_calls.specs.Access.{may}
@@ -24,7 +24,7 @@ code_at-requires-clause-there g c sound =
     subst (IsSegment (links_of d.types u)) (sym c.tip_of.ensures) (tip_there d.types (links_of d.types u) T.0 (grounds d u T.0 (c.requires.of sound) T.2.holds) c.args.path.now T.1 T.2)
 
 -- whether the row may be read is whether its type may
-read_so : (d : Database) (v : VolumeState) (pcb : View) → IsVolumeOf d v → (path : List ℕ) (f : Forest Placed) (i : ℕ) → IsAt d v f path i → (tip_ code : ℕ) → tip_ ≡ tip path
+read_so : (d : Database) (v : VolumeState) (pcb : View) → IsVolumeOf d v → (path : List ℕ) (f : Forest Placed) (i : ℕ) → IsPathOf d v f path i → (tip_ code : ℕ) → tip_ ≡ tip path
     → code ≡ (links_of d.types v).code tip_ → (r : Bool) → r ≡ may (record { types = d.types; pcb = pcb }) gives_get code
     → satisfies (record { types = d.types; pcb = pcb }) (rows_of f) [] i ≡ r
 read_so d v pcb of path f i at tip_ code is value r e =
