@@ -1,10 +1,11 @@
 ghost use Rattle.std.specs.Prelude.{◌≡◌, ◌<◌, false};
 ghost use Rattle.hd_dbd.specs.Facts.{stored_sizes};
 
-use crate::{Plain, find, meets, settle};
+use crate::{Plain, find, meets, next, next_in_parent, settle, unique};
 use hd_calls::{Function, GetKind};
 use hd_dbd::{Dbd, Name8, Pcb, Refused, Sens};
 use hd_forest::{Path, next_row, tip_of};
+use hd_position::{Levels, Position, stand};
 use hd_sample::{database, image};
 use hd_ssa::resolve;
 use hd_volume::{BlockStore, FileStore, FuseStore, Volume};
@@ -83,14 +84,15 @@ fn read_from<S: BlockStore>(
     Ok(found)
 }
 
-/// What the test below saw: what a PCB reads that sees no students, and one that sees no classes below the first course; and which of
-/// two students meet an argument with L, and which one without.
+/// What the test below saw: what a PCB reads that sees no students, and one that sees no classes below the first course; which of
+/// two students meet an argument with L, and which one without; and where gets begin.
 #[derive(Drop)]
 struct Seen {
     all: Vec<u32>,
     below: Vec<u32>,
     last: [bool; 2],
     any: [bool; 2],
+    starts: [u32; 4],
 }
 
 fn watch<S: BlockStore>(alloc: Global, volume: &mut Volume<S>, dbd: &Dbd) -> Result<Seen, Refused>
@@ -108,7 +110,57 @@ fn watch<S: BlockStore>(alloc: Global, volume: &mut Volume<S>, dbd: &Dbd) -> Res
         below,
         last: students_met(alloc, volume, dbd, b"STUD    *L")?,
         any: students_met(alloc, volume, dbd, b"STUD    ")?,
+        starts: starts(volume, dbd)?,
     })
+}
+
+/// The last row of the path where GNP begins below the first class, 0 for none.
+fn start_below<S: BlockStore>(
+    volume: &mut Volume<S>,
+    dbd: &Dbd,
+    position: &Position,
+) -> Result<u32, Refused>
+    requires unsound { volume.old.is_sound ≡ false }
+    requires sizes { volume.old.sizes ≡ stored_sizes dbd.now.types }
+    ensures unsound { volume.new.is_sound ≡ false }
+    ensures sizes { volume.new.sizes ≡ volume.old.sizes }
+{
+    match next_in_parent(volume, dbd, position)? {
+        Some((176, path)) => Ok(tip_of(&path)),
+        _ => Err(Refused::Area),
+    }
+}
+
+/// The last rows of the paths where GNP begins behind the first class, its parentage row, and behind the last student of that, and
+/// where GN and GU begin there, 0 for none.
+fn starts<S: BlockStore>(volume: &mut Volume<S>, dbd: &Dbd) -> Result<[u32; 4], Refused>
+    requires unsound { volume.old.is_sound ≡ false }
+    requires sizes { volume.old.sizes ≡ stored_sizes dbd.now.types }
+{
+    let class = path_of(&[136, 176]);
+    let student = path_of(&[136, 176, 216]);
+    let mut position = Position::start();
+    stand(
+        volume,
+        dbd,
+        &mut position,
+        class,
+        GetKind::Unique,
+        Levels::new(),
+    )?;
+    let below = start_below(volume, dbd, &position)?;
+    stand(
+        volume,
+        dbd,
+        &mut position,
+        student,
+        GetKind::NextInParent,
+        Levels::new(),
+    )?;
+    let behind = start_below(volume, dbd, &position)?;
+    let on = next(volume, dbd, &position)?;
+    let first = unique(volume, dbd)?;
+    Ok([below, behind, tip_of(&on), tip_of(&first)])
 }
 
 /// Whether each of the two students meets an argument.
@@ -184,6 +236,7 @@ fn finds_what_may_be_read_and_meets_arguments(rt: HostRuntime) -> Result<(), Fai
     assert_eq!(rt; seen.below.as_slice(), [200, 216, 264].as_slice());
     assert_eq!(rt; seen.last, [false, true]);
     assert_eq!(rt; seen.any, [true, true]);
+    assert_eq!(rt; seen.starts, [200, 0, 232, 136]);
     fs::remove_file(&rt, "searched")?;
     Ok(())
 }
