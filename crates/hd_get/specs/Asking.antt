@@ -48,7 +48,7 @@ verdict_beside types target code = option_map_or (λ c. cond (nat_lt code c) (Be
 abbrev pub verdict_down : Setting → ℕ → ℕ → Verdict
 verdict_down s target code = option_map_or (λ c. Down c) (way_down s.types target code) (cond (may s gives_get code) Found Across)
 
--- wherever the path is that of a row of this type, so is it said whether that meets the arguments of its type
+-- wherever the path is that of a row of this type, the answer says whether that meets the arguments of its type
 abbrev pub Admits : Database → VolumeState → List Ssa → ℕ → List ℕ → Bool → Type 0
 Admits d v ssas code path r =
     (f : Forest Placed) (i : ℕ) → IsPathOf d v f path i → (row_at (rows_of f) i).code ≡ code → r ≡ admits d.types (rows_of f) ssas i
@@ -58,7 +58,7 @@ abbrev pub MeetsOwn : Database → VolumeState → Ssa → ℕ → List ℕ → 
 MeetsOwn d v ssa code path r =
     (f : Forest Placed) (i : ℕ) → IsPathOf d v f path i → (row_at (rows_of f) i).code ≡ code → r ≡ meets_own d.types (rows_of f) i ssa
 
--- where the store is sound and the segment at the address is of this type, so is it said whether its key is past what the arguments ask
+-- where the store is sound and the segment at the address is of this type, the answer says whether its key is past what the arguments ask
 abbrev pub IsPast : Database → VolumeState → List Ssa → ℕ → ℕ → Bool → Type 0
 IsPast d v ssas code a r =
     IsTrue v.is_sound → (segment_at (links_of d.types v) a).code ≡ code → r ≡ is_past d.types ssas (segment_at (links_of d.types v) a)
