@@ -2,3 +2,4 @@ pub mod Searches
 pub mod Meeting
 pub mod Asking
 pub mod Starts
+pub mod Gets

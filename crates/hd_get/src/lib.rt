@@ -4,9 +4,11 @@
 mod access;
 mod arguments;
 mod by_key;
+mod call;
 mod judge;
 mod meeting;
 mod named;
+mod outcome;
 mod plain;
 mod searching;
 mod settling;
@@ -16,9 +18,11 @@ mod verdict;
 mod ways;
 
 pub use by_key::unique_by_key;
+pub use call::Get;
 pub use judge::Judge;
 pub use meeting::meets;
 pub use named::Named;
+pub use outcome::Outcome;
 pub use plain::Plain;
 pub use searching::find;
 pub use settling::settle;
