@@ -1,6 +1,7 @@
 -- What taking and giving room do to the extents of a block.
-use Rattle.std.specs.Prelude.{ℕ, ◌+◌, ◌-◌, nat_le, ◌==◌, cond, List, [], ◌∷◌, Option, Some, None}
-use Rattle.hd_block.specs.Extents.{Extent, free, used, taken}
+use Rattle.std.specs.Prelude.{◌≢◌, ◌⊎◌, ℕ, ◌+◌, ◌-◌, nat_le, ◌==◌, cond, List, [], ◌∷◌, Option, Some, None}
+use Rattle.hd_bytes.specs.Ranges.{AgreeOn}
+use Rattle.hd_block.specs.Extents.{Extent, free, used, taken, IsDivided, UsedAt, TakenAt}
 
 -- ---- taking
 
@@ -45,3 +46,18 @@ after_give place p [] = []
 after_give place p (free n ∷ xs) = hole_before n (after_give place (p + n) xs)
 after_give place p (used n ∷ xs) = cond (p == place) (hole_before n xs) (used n ∷ after_give place (p + n) xs)
 after_give place p (taken n ∷ xs) = cond (p == place) (hole_before n xs) (taken n ∷ after_give place (p + n) xs)
+
+-- ---- room that is given back
+
+-- there is a segment at this place, or room that was handed out, of n bytes
+abbrev pub IsHeldAt : List Extent → ℕ → ℕ → Type 0
+IsHeldAt xs place n = UsedAt 8 xs place n ⊎ TakenAt 8 xs place n
+
+-- Where a segment or room of a size stood at an offset, the block is divided as after it was given back.
+abbrev pub IsGivenBack : (ℕ → ℕ) → List ℕ → ℕ → ℕ → List ℕ → Type 0
+IsGivenBack sizes old offset size new = (xs : List Extent) → IsDivided sizes old xs → IsHeldAt xs offset size → IsDivided sizes new (after_give offset 8 xs)
+
+-- Every segment but the one at the offset keeps its bytes.
+abbrev pub KeepsOthers : (ℕ → ℕ) → List ℕ → ℕ → ℕ → List ℕ → Type 0
+KeepsOthers sizes old offset size new =
+    (xs : List Extent) (q n : ℕ) → IsDivided sizes old xs → IsHeldAt xs offset size → UsedAt 8 xs q n → q ≢ offset → AgreeOn q n old new

@@ -1,7 +1,8 @@
 -- What a reader of a block finds, whatever its bytes are: parts up to the first place where there is none that fits.
-use Rattle.std.specs.Prelude.{ℕ, zero, suc, ◌+◌, ◌-◌, ◌==◌, ◌&&◌, nat_le, Bool, cond, List, [], ◌∷◌, length, slice_index}
+use Rattle.std.specs.Prelude.{◌≡◌, ◌≤◌, ℕ, zero, suc, ◌+◌, ◌-◌, ◌==◌, ◌&&◌, nat_le, Bool, cond, List, [], ◌∷◌, length, slice_index}
 use Rattle.hd_bytes.specs.Numbers.{number_at}
 use Rattle.hd_block.specs.declared.parts.Part.{Part}
+use Rattle.hd_block.specs.declared.parts.Step.{Step}
 use Rattle.hd_block.specs.declared.parts.Part.TheVariants.{Free, Used}
 
 -- a part of n bytes at a place has room for an element, and ends within the block
@@ -27,3 +28,8 @@ parts_from sizes bytes place next = walk_parts sizes bytes (length bytes - place
 -- the parts of a block
 abbrev pub parts_in : (ℕ → ℕ) → List ℕ → List Part
 parts_in sizes bytes = parts_from sizes bytes 8 (number_at 2 bytes 0)
+
+-- The part at a place is the first of those from there on; the others follow from the place where it ends.
+abbrev pub IsFirstPart : (ℕ → ℕ) → List ℕ → ℕ → ℕ → Step → Type 0
+IsFirstPart sizes bytes place next s =
+    (place + s.size ≤ length bytes) × (parts_from sizes bytes place next ≡ s.part ∷ parts_from sizes bytes (place + s.size) s.next)

@@ -1,7 +1,7 @@
 ghost use Rattle.std.specs.Prelude.{◌≡◌, ◌≢◌, ◌⊎◌, ◌+◌, ◌%◌, ◌≤◌, ◌<◌, ℕ, List, length, slice_index, OnSome, IfSome, IfNone};
 ghost use Rattle.hd_bytes.specs.Ranges.{AgreeOn};
 ghost use Rattle.hd_block.specs.Extents.{Extent, IsDivided, AreWhole, UsedAt, TakenAt};
-ghost use Rattle.hd_block.specs.Changes.{hole_at, after_take, after_give};
+ghost use Rattle.hd_block.specs.Changes.{hole_at, after_take, IsGivenBack, KeepsOthers};
 ghost use Rattle.hd_block.specs.Parts.{parts_of};
 ghost use Rattle.hd_block.specs.Walk.{parts_in};
 
@@ -54,9 +54,9 @@ impl<'a> Block<'a> {
         requires within { offset + size ≤ length (bytes_of self.old) }
         ensures same { IsSameBlock self.old self.new }
         ensures len { length (bytes_of self.new) ≡ length (bytes_of self.old) }
-        ensures after { (xs : List Extent) → IsDivided (sizes_of self.old) (bytes_of self.old) xs → UsedAt 8 xs offset size ⊎ TakenAt 8 xs offset size → IsDivided (sizes_of self.old) (bytes_of self.new) (after_give offset 8 xs) }
+        ensures after { IsGivenBack (sizes_of self.old) (bytes_of self.old) offset size (bytes_of self.new) }
         ensures head { AgreeOn 2 6 (bytes_of self.old) (bytes_of self.new) }
-        ensures others { (xs : List Extent) (q n : ℕ) → IsDivided (sizes_of self.old) (bytes_of self.old) xs → UsedAt 8 xs offset size ⊎ TakenAt 8 xs offset size → UsedAt 8 xs q n → q ≢ offset → AgreeOn q n (bytes_of self.old) (bytes_of self.new) }
+        ensures others { KeepsOthers (sizes_of self.old) (bytes_of self.old) offset size (bytes_of self.new) }
     {
         give_hole(self.bytes, offset, size);
     }

@@ -1,7 +1,7 @@
 ghost use Rattle.std.specs.Prelude.{◌≡◌, ◌≢◌, ◌⊎◌, ◌+◌, ◌%◌, ◌≤◌, ◌<◌, ℕ, List, length};
 ghost use Rattle.hd_bytes.specs.Ranges.{AgreeOn};
 ghost use Rattle.hd_block.specs.Extents.{Extent, Fill, IsDivided, UsedAt, TakenAt};
-ghost use Rattle.hd_block.specs.Changes.{after_give};
+ghost use Rattle.hd_block.specs.Changes.{IsGivenBack, KeepsOthers};
 ghost use Rattle.hd_block.specs.Found.{At, IsLinked, IsBehind};
 
 use crate::element::write_element;
@@ -62,10 +62,10 @@ pub fn give_hole(bytes: &mut [u8], offset: u16, size: u16)
     requires offset { 8 ≤ offset }
     requires size { (8 ≤ size) × (size % 8 ≡ 0) }
     requires within { offset + size ≤ length bytes.old }
-    ensures after { (sizes : ℕ → ℕ) (xs : List Extent) → IsDivided sizes bytes.old xs → UsedAt 8 xs offset size ⊎ TakenAt 8 xs offset size → IsDivided sizes bytes.new (after_give offset 8 xs) }
+    ensures after { (sizes : ℕ → ℕ) → IsGivenBack sizes bytes.old offset size bytes.new }
     ensures len { length bytes.new ≡ length bytes.old }
     ensures head { AgreeOn 2 6 bytes.old bytes.new }
-    ensures others { (sizes : ℕ → ℕ) (xs : List Extent) (q n : ℕ) → IsDivided sizes bytes.old xs → UsedAt 8 xs offset size ⊎ TakenAt 8 xs offset size → UsedAt 8 xs q n → q ≢ offset → AgreeOn q n bytes.old bytes.new }
+    ensures others { (sizes : ℕ → ℕ) → KeepsOthers sizes bytes.old offset size bytes.new }
 {
     let link = find_link(bytes, offset);
     let behind = find_behind(bytes, offset as usize + size as usize, link.next);

@@ -1,7 +1,7 @@
 ghost use Rattle.std.specs.Prelude.{◌≡◌, ◌+◌, ◌≤◌, [], ◌∷◌, length, slice_index, MatchOption};
 ghost use Rattle.std.specs.Iterator.{YieldsFirst, item_count};
 ghost use Rattle.hd_bytes.specs.Numbers.{number_at};
-ghost use Rattle.hd_block.specs.Walk.{parts_in, parts_from};
+ghost use Rattle.hd_block.specs.Walk.{parts_in, parts_from, IsFirstPart};
 
 use hd_bytes::read_u16;
 use std::iter::FusedIterator;
@@ -93,7 +93,7 @@ fn size_of(sizes: &[u16], code: u8) -> u16
 /// The part at a place, where the next free element begins at `next`.
 fn read_part(bytes: &[u8], sizes: &[u16], place: usize, next: u16) -> Option<Step>
     requires { (place ≤ length bytes.now) × (length bytes.now ≤ 32768) }
-    ensures { MatchOption result (parts_from (slice_index sizes.now) bytes.now place next ≡ []) (λ s. (place + s.size ≤ length bytes.now) × (parts_from (slice_index sizes.now) bytes.now place next ≡ s.part ∷ parts_from (slice_index sizes.now) bytes.now (place + s.size) s.next)) }
+    ensures { MatchOption result (parts_from (slice_index sizes.now) bytes.now place next ≡ []) (λ s. IsFirstPart (slice_index sizes.now) bytes.now place next s) }
 {
     let left = bytes.len() - place;
     if left < 8 {

@@ -4,8 +4,8 @@ ghost use Rattle.hd_bytes.specs.Numbers.{number_at};
 ghost use Rattle.hd_dbd.specs.Facts.{stored_sizes};
 ghost use Rattle.hd_dbd.specs.Prefixes.{stored_size};
 ghost use Rattle.hd_volume.specs.Volumes.{HasExtents};
-ghost use Rattle.hd_image.specs.BlockFaults.{IsNoSegment, IsReadTo, HasFreeElements};
-ghost use Rattle.hd_check_blocks.specs.Reading.{IsRoom};
+ghost use Rattle.hd_image.specs.BlockFaults.{HasFreeElements};
+ghost use Rattle.hd_check_blocks.specs.Reading.{IsReadOn, HasWrongPlace};
 
 use hd_bytes::read_u16;
 use hd_dbd::Dbd;
@@ -21,7 +21,7 @@ struct Reading {
 fn behind(block: &[u8], dbd: &Dbd, at: Reading) -> Option<Reading>
     requires inside { (at.place + 4 ≤ length block.now) × (length block.now ≤ 32768) }
     ensures free { at.place ≡ at.next → result ≡ Some (record { place = at.place + number_at 2 block.now (at.place + 2); next = number_at 2 block.now at.place }) }
-    ensures used { let size = stored_size dbd.now.types (slice_index block.now at.place) in at.place ≢ at.next → MatchOption result (IsRoom block.now at.place at.next size → ⊥) (λ r. IsRoom block.now at.place at.next size × (r ≡ record { place = at.place + size; next = at.next })) }
+    ensures used { let size = stored_size dbd.now.types (slice_index block.now at.place) in at.place ≢ at.next → IsReadOn block.now at.place at.next size result }
 {
     if at.place == at.next {
         return Some(Reading {
@@ -45,7 +45,7 @@ pub fn wrong_place(block: &[u8], dbd: &Dbd) -> Option<usize>
     requires size { (8 ≤ length block.now) × (length block.now ≤ 32768) × (length block.now % 8 ≡ 0) }
     requires chain { (places : List ℕ) × HasFreeElements block.now places }
     ensures none { IfNone result (HasExtents (slice_index (stored_sizes dbd.now.types)) block.now) }
-    ensures some { IfSome result (λ p. (places : List ℕ) → HasFreeElements block.now places → (way : List ℕ) × IsReadTo (stored_sizes dbd.now.types) block.now places 8 way p × (p < length block.now) × IsNoSegment (stored_sizes dbd.now.types) block.now places p) }
+    ensures some { IfSome result (λ p. HasWrongPlace dbd.now.types block.now p) }
 {
     let mut at = Reading {
         place: 8,

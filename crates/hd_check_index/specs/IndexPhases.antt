@@ -3,7 +3,7 @@ use Rattle.std.specs.Prelude.{◌==◌, Bool, true, false, ◌≡◌, ◌⊎◌,
 use Rattle.hd_bytes.specs.Numbers.{number_at}
 use Rattle.std.specs.List.{list_any, list_all}
 use Rattle.hd_dbd.specs.Hierarchy.{Database}
-use Rattle.hd_image.specs.Records.{links_of}
+use Rattle.hd_image.specs.Records.{links_of, IsVolumeOf}
 use Rattle.hd_links.specs.Links.{IsSegment}
 use Rattle.hd_volume.specs.Entries.{Entry, entries_in, entries}
 use Rattle.hd_volume.specs.Headers.{header_of}
@@ -181,3 +181,8 @@ IfOwnForm v block form fact = block ≡ index_block_of v block.number → form �
 -- the fact holds if so many entries with a database's root keys find room in a block
 abbrev pub IfRoom : Database → VolumeState → ℕ → Type 0 → Type 0
 IfRoom d v room fact = room ≡ entry_room (root_key_length d.types) v.size → fact
+
+-- the fact holds of each volume of a database that has these index blocks and forms, and this top, height and room
+abbrev pub OfFormed : List NotedBlock → List Form → ℕ → ℕ → ℕ → (Database → VolumeState → Type 0) → Type 0
+OfFormed blocks forms top height room fact =
+    (d : Database) (v : VolumeState) → IsVolumeOf d v → IfTabled v blocks forms (IfHeaded v top height (IfRoom d v room (fact d v)))

@@ -10,7 +10,7 @@ ghost use Rattle.hd_volume.specs.Calls.{IsRead};
 ghost use Rattle.hd_image.specs.Records.{IsVolumeOf};
 ghost use Rattle.hd_image.specs.IndexFaults.{IsOfLevel, IsWrongTop};
 ghost use Rattle.hd_check_blocks.specs.Phases.{IsLeastOf};
-ghost use Rattle.hd_check_index.specs.IndexPhases.{AreIndexBlocks, AreForms, IsNotedBlock, IsTopRight, IsRightIndexBlock, IsFirstWrong, IsIndexRight, IfHeaded, IfSized, IfTabled, IfOwnForm, IfRoom};
+ghost use Rattle.hd_check_index.specs.IndexPhases.{AreIndexBlocks, AreForms, IsNotedBlock, IsTopRight, IsRightIndexBlock, IsFirstWrong, IsIndexRight, IfHeaded, IfSized, IfTabled, IfOwnForm, IfRoom, OfFormed};
 ghost use Rattle.hd_check_blocks.specs.Finding.{WhereNone, WhereSome};
 
 use crate::noted_blocks::{Form, NotedBlock, block_address, position_of};
@@ -152,8 +152,8 @@ fn form_fault(
     size: u32,
 ) -> Option<Fault>
     requires as_many { length forms.now ≡ length blocks.now }
-    ensures none { (d : Database) (v : VolumeState) → IsVolumeOf d v → IfTabled v blocks.now forms.now (IfHeaded v top height (IfRoom d v room (IfNone result (IsIndexRight (root_key_length d.types) v)))) }
-    ensures some { (d : Database) (v : VolumeState) → IsVolumeOf d v → IfTabled v blocks.now forms.now (IfHeaded v top height (IfRoom d v room (size ≡ v.size → IfSome result (λ f. IsLeastOf d v 8 f)))) }
+    ensures none { OfFormed blocks.now forms.now top height room (λ d v. IfNone result (IsIndexRight (root_key_length d.types) v)) }
+    ensures some { OfFormed blocks.now forms.now top height room (λ d v. size ≡ v.size → IfSome result (λ f. IsLeastOf d v 8 f)) }
 {
     if !is_top_right(blocks, forms, top, height) {
         return Some(Fault::at(Line::WrongTop, 0, top));

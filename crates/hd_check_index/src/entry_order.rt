@@ -10,7 +10,7 @@ ghost use Rattle.hd_image.specs.IndexFaults.{last_entry};
 ghost use Rattle.hd_image.specs.Records.{IsVolumeOf};
 ghost use Rattle.hd_image.specs.Right.{IndexIsFormed};
 ghost use Rattle.hd_check_blocks.specs.Phases.{IsLeastOf};
-ghost use Rattle.hd_check_index.specs.LeftKeys.{IsLeft, lesser};
+ghost use Rattle.hd_check_index.specs.LeftKeys.{IsLeft, lesser, IsFirstNotAbove, IsLeftBehind, IsFoundWith};
 ghost use Rattle.hd_check_blocks.specs.Finding.{WhereNone, WhereSome};
 ghost use Rattle.hd_check_index.specs.IndexPhases.{address_not_above};
 ghost use Rattle.hd_entries.specs.Fields.{CountFits};
@@ -56,7 +56,7 @@ fn found_more(
     address: u32,
 ) -> Option<u32>
     requires short { key_length ≤ 255 }
-    ensures { (o : Option Entry) (es : List Entry) → IsLeft key_length left.now (last_entry o es) → address_not_above o es ≡ found → address_not_above o (es ++ (record { key = key.now; address = address } ∷ [])) ≡ result }
+    ensures { IsFoundWith key_length left.now found (record { key = key.now; address = address }) result }
 {
     match found {
         Some(other) => Some(other),
@@ -71,8 +71,8 @@ fn found_more(
 
 /// The address in the first entry of a block whose key is not above the one to its left; the last key is kept.
 fn not_above(left: &mut Left, block: &IndexBlock) -> Option<u32>
-    ensures found { CountFits block.now.key_length block.now.bytes.now → (o : Option Entry) → IsLeft block.now.key_length left.old o → address_not_above o (entries_in block.now.key_length block.now.bytes.now) ≡ result }
-    ensures left { CountFits block.now.key_length block.now.bytes.now → (o : Option Entry) → IsLeft block.now.key_length left.old o → IsLeft block.now.key_length left.new (last_entry o (entries_in block.now.key_length block.now.bytes.now)) }
+    ensures found { CountFits block.now.key_length block.now.bytes.now → IsFirstNotAbove block.now.key_length left.old (entries_in block.now.key_length block.now.bytes.now) result }
+    ensures left { CountFits block.now.key_length block.now.bytes.now → IsLeftBehind block.now.key_length left.old (entries_in block.now.key_length block.now.bytes.now) left.new }
 {
     let mut found = None;
     for index in 0..block.count() {
@@ -95,8 +95,8 @@ fn not_above_in<S: BlockStore>(
     requires short { key_length ≤ 255 }
     requires least { 12 ≤ volume.old.size }
     ensures read { IsRead volume.old result volume.new }
-    ensures found { IfOk result (λ r. IsTrue volume.old.is_sound → (o : Option Entry) → IsLeft key_length left.old o → address_not_above o (entries_in key_length (block_at volume.old n)) ≡ r) }
-    ensures left { IfOk result (λ r. IsTrue volume.old.is_sound → (o : Option Entry) → IsLeft key_length left.old o → IsLeft key_length left.new (last_entry o (entries_in key_length (block_at volume.old n)))) }
+    ensures found { IfOk result (λ r. IsTrue volume.old.is_sound → IsFirstNotAbove key_length left.old (entries_in key_length (block_at volume.old n)) r) }
+    ensures left { IfOk result (λ r. IsTrue volume.old.is_sound → IsLeftBehind key_length left.old (entries_in key_length (block_at volume.old n)) left.new) }
     ensures refusal { OnlyDevice result }
 {
     let bytes = volume.block(n)?;

@@ -79,7 +79,7 @@ fn judge_entry<S: BlockStore>(
     requires within { IsTrue volume.old.is_sound → index < number_at 2 (block_at volume.old n) 4 }
     requires least { 12 ≤ volume.old.size }
     ensures read { IsRead volume.old result volume.new }
-    ensures value { IfOk result (λ j. IsTrue volume.old.is_sound → j.0 ≡ names_a_root dbd.now (links_of dbd.now.types volume.old) (entry_in (root_key_length dbd.now.types) (block_at volume.old n) index)) }
+    ensures value { let entry = entry_in (root_key_length dbd.now.types) (block_at volume.old n) index in IfOk result (λ j. IsTrue volume.old.is_sound → j.0 ≡ names_a_root dbd.now (links_of dbd.now.types volume.old) entry) }
     ensures address { IfOk result (λ j. IsTrue volume.old.is_sound → j.1 ≡ (entry_in (root_key_length dbd.now.types) (block_at volume.old n) index).address) }
     ensures refusal { OnlyDevice result }
 {

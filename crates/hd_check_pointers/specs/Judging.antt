@@ -1,5 +1,5 @@
 -- What is wrong with the pointers of a record, by what each names.
-use Rattle.std.specs.Prelude.{◌≡◌, ◌≢◌, ◌⊎◌, ℕ, List, [], ◌∷◌, Bool, cond}
+use Rattle.std.specs.Prelude.{◌≡◌, ◌≢◌, ◌⊎◌, ℕ, List, [], ◌∷◌, Bool, cond, Option, IfSome}
 use Rattle.hd_dbd.specs.Types.{SegmentType}
 use Rattle.hd_links.specs.Links.{Links}
 use Rattle.hd_volume.specs.Volumes.{VolumeState}
@@ -51,3 +51,15 @@ OfStored types places segment fact = (v : VolumeState) (a : ℕ) → ArePlaces t
 -- the fact holds of the records of each volume with these places that lends these bytes at an address
 abbrev pub OfPlaced : List SegmentType → List Place → ℕ → List ℕ → (Links → Type 0) → Type 0
 OfPlaced types places address segment fact = (v : VolumeState) → ArePlaces types v places → IsLent types v address segment → fact (links_of types v)
+
+-- the fact holds of the records of each volume that stores these bytes at the address, which is not the header's
+abbrev pub OfStoredAt : List SegmentType → ℕ → List ℕ → (Links → Type 0) → Type 0
+OfStoredAt types address segment fact = (v : VolumeState) → stored_at v address ≡ segment → address ≢ 0 → fact (links_of types v)
+
+-- the same of each volume that lends these bytes at the address
+abbrev pub OfLentAt : List SegmentType → ℕ → List ℕ → (Links → Type 0) → Type 0
+OfLentAt types address segment fact = (v : VolumeState) → IsLent types v address segment → fact (links_of types v)
+
+-- a fault, if there is one, is of the record at an address in a volume with these places
+abbrev pub FindsWrongRecord : List SegmentType → VolumeState → List Place → ℕ → Option Fault → Type 0
+FindsWrongRecord types v places address found = ArePlaces types v places → IfSome found (λ f. IsWrongRecord types (links_of types v) address f)

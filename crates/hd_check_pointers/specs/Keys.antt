@@ -20,3 +20,7 @@ IsKeyRight types m a = (h : ℕ) → IsTwinBefore m h a → twins_in_order types
 -- the fault of a twin whose key is out of order behind that of the twin before it
 abbrev pub order_fault : ℕ → ℕ → Fault
 order_fault a before = record { line = OutOfOrder; address = a; other = before }
+
+-- the fault is that of a key out of order behind that of the twin before it, and it is so
+abbrev pub IsOrderFault : List SegmentType → Links → ℕ → ℕ → Fault → Type 0
+IsOrderFault types m a before f = (f ≡ order_fault a before) × (twins_in_order types (segment_at m before) (segment_at m a) ≡ false)

@@ -4,7 +4,7 @@ use Rattle.hd_dbd.specs.Types.{SegmentType}
 use Rattle.hd_dbd.specs.Prefixes.{is_backward_kept}
 use Rattle.hd_links.specs.Links.{Links, IsSegment, is_child_type, is_last_kept}
 use Rattle.hd_links.specs.Pointers.{IsTwinBefore, IsParentOfFirst, IsInChain}
-use Rattle.hd_image.specs.PointerFaults.{IsWrongBackward, HasWrongLast}
+use Rattle.hd_image.specs.PointerFaults.{IsWrongBackward, IsWrongLast, HasWrongLast}
 use Rattle.hd_image.specs.Standing.{number_of}
 use Rattle.hd_image.specs.declared.line.Line.TheVariants.{WrongLast, WrongBackward}
 use Rattle.hd_check_blocks.specs.declared.fault.Fault.{Fault}
@@ -45,3 +45,7 @@ abbrev pub AreTwinsWrong : List SegmentType → Links → ℕ → Fault → Type
 AreTwinsWrong types m h f =
     ((f ≡ record { line = WrongBackward; address = h; other = m.backward h }) × IsWrongBackward types m h (m.backward h))
     ⊎ ((x : ℕ) × (f ≡ record { line = WrongLast; address = h; other = x }) × (IsSegment m h → IsBackwardRight types m h) × HasWrongLast types m h x)
+
+-- the last child of a type that a record names is kept, and wrong
+abbrev pub IsWrongLastNamed : List SegmentType → Links → ℕ → ℕ → ℕ → Type 0
+IsWrongLastNamed types m h t x = (is_last_kept types t ≡ true) × IsWrongLast m h t × (x ≡ m.last_child h t)

@@ -7,6 +7,7 @@ ghost use Rattle.hd_prefix.specs.Fields.{code_of};
 ghost use Rattle.hd_image.specs.Records.{links_of, stored_at};
 ghost use Rattle.hd_check_blocks.specs.Lending.{IsLent};
 ghost use Rattle.hd_check_pointers.specs.Namings.{naming_of, first_namings, segment_namings};
+ghost use Rattle.hd_check_pointers.specs.Judging.{OfStoredAt, OfLentAt};
 
 use hd_dbd::{Dbd, Refused};
 use hd_prefix::{Layout, Pointer};
@@ -42,7 +43,7 @@ fn note_first_children(
 ) -> Result<(), Refused>
     requires own { code ≡ code_of segment.now }
     requires whole { stored_size dbd.now.types (code_of segment.now) ≤ length segment.now }
-    ensures namings { OnOk result ((v : VolumeState) → stored_at v address ≡ segment.now → address ≢ 0 → namings.new.items ≡ namings.old.items ++ first_namings (links_of dbd.now.types v) address types.now) }
+    ensures namings { OnOk result (OfStoredAt dbd.now.types address segment.now (λ m. namings.new.items ≡ namings.old.items ++ first_namings m address types.now)) }
     ensures refusal { OnlyMemory result }
 {
     let layout = Layout::of(dbd, code);
@@ -61,8 +62,8 @@ pub fn note_pointers(
     address: u32,
     segment: &[u8],
 ) -> Result<(), Refused>
-    ensures forwards { OnOk result ((v : VolumeState) → IsLent dbd.now.types v address segment.now → forwards.new.items ≡ forwards.old.items ++ (links_of dbd.now.types v).forward address ∷ []) }
-    ensures namings { OnOk result ((v : VolumeState) → IsLent dbd.now.types v address segment.now → namings.new.items ≡ namings.old.items ++ segment_namings dbd.now.types (links_of dbd.now.types v) address) }
+    ensures forwards { OnOk result (OfLentAt dbd.now.types address segment.now (λ m. forwards.new.items ≡ forwards.old.items ++ m.forward address ∷ [])) }
+    ensures namings { OnOk result (OfLentAt dbd.now.types address segment.now (λ m. namings.new.items ≡ namings.old.items ++ segment_namings dbd.now.types m address)) }
     ensures refusal { OnlyMemory result }
 {
     let code = segment.first().copied().unwrap_or(0);

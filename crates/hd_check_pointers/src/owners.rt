@@ -6,7 +6,7 @@ ghost use Rattle.hd_volume.specs.Volumes.{VolumeState};
 ghost use Rattle.hd_image.specs.Records.{links_of};
 ghost use Rattle.hd_check_blocks.specs.Places.{IsPlaceOf, PlacesAscend};
 ghost use Rattle.hd_check_pointers.specs.Tables.{place_at, nobody, AreForwards, ArePredecessors, IsOwner, AreOwners};
-ghost use Rattle.hd_check_pointers.specs.Matched.{IsMatched, OwnersAreRight, OwnersAreClosed, IfForwards};
+ghost use Rattle.hd_check_pointers.specs.Matched.{OwnersStayRight, OwnersStayClosed, IfPreceded};
 
 use crate::namings::Naming;
 use hd_check_blocks::{Place, number_of};
@@ -41,8 +41,8 @@ fn own_twins(places: &[Place], forwards: &[u32], owners: &mut Vec<u32>, first: u
     ensures as_many { length owners.new.items ≡ length places.now }
     ensures kept { (i : ℕ) → slice_index owners.old.items i ≢ nobody → slice_index owners.new.items i ≢ nobody }
     ensures first { slice_index owners.new.items first ≢ nobody }
-    ensures right { (d : Database) (v : VolumeState) → let m = links_of d.types v in IfForwards d v places.now forwards.now (IsOwner d.types m owner (place_at places.now first).address → OwnersAreRight d.types m places.now owners.old.items → OwnersAreRight d.types m places.now owners.new.items) }
-    ensures closed { (d : Database) (v : VolumeState) → let m = links_of d.types v in IfForwards d v places.now forwards.now (OwnersAreClosed m places.now owners.old.items → OwnersAreClosed m places.now owners.new.items) }
+    ensures right { OwnersStayRight places.now forwards.now first owner owners.old.items owners.new.items }
+    ensures closed { OwnersStayClosed places.now forwards.now owners.old.items owners.new.items }
 {
     let mut number = first;
     while owners[number] == NOBODY {
@@ -73,7 +73,7 @@ pub fn owners_of(
     namings: &[Naming],
     forwards: &[u32],
 ) -> Result<Vec<u32>, Refused>
-    ensures owners { (d : Database) (v : VolumeState) → let m = links_of d.types v in IsMatched d v places.now → ArePredecessors d.types m places.now namings.now → AreForwards m places.now forwards.now → IfOk result (λ owners. AreOwners d.types m places.now owners.items) }
+    ensures owners { (d : Database) (v : VolumeState) → IfPreceded d v places.now namings.now forwards.now (IfOk result (λ owners. AreOwners d.types (links_of d.types v) places.now owners.items)) }
     ensures refusal { OnlyMemory result }
 {
     let mut owners = unowned(alloc, places.len())?;

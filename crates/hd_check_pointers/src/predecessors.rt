@@ -10,7 +10,7 @@ ghost use Rattle.hd_image.specs.Records.{links_of};
 ghost use Rattle.hd_check_blocks.specs.Phases.{IsLeastOf};
 ghost use Rattle.hd_check_pointers.specs.Tables.{ArePredecessors};
 ghost use Rattle.hd_check_pointers.specs.Namings.{match_fault, first_unmatched};
-ghost use Rattle.hd_check_pointers.specs.Matched.{IfNamed};
+ghost use Rattle.hd_check_pointers.specs.Matched.{IfNamed, OfNamed};
 
 use crate::namings::Naming;
 use hd_check_blocks::{Fault, Place};
@@ -63,9 +63,9 @@ pub fn predecessors_fault(
     namings: &mut Vec<Naming>,
     places: &[Place],
 ) -> Result<Option<Fault>, Refused>
-    ensures none { (d : Database) (v : VolumeState) → IfNamed d v places.now namings.old.items (IfOk result (λ o. IfNone o (PredecessorsAreOne d.types (links_of d.types v)))) }
-    ensures table { (d : Database) (v : VolumeState) → IfNamed d v places.now namings.old.items (IfOk result (λ o. IfNone o (ArePredecessors d.types (links_of d.types v) places.now namings.new.items))) }
-    ensures some { (d : Database) (v : VolumeState) → IfNamed d v places.now namings.old.items (IfOk result (λ o. IfSome o (λ f. IsLeastOf d v 4 f))) }
+    ensures none { OfNamed places.now namings.old.items (λ d v. IfOk result (λ o. IfNone o (PredecessorsAreOne d.types (links_of d.types v)))) }
+    ensures table { OfNamed places.now namings.old.items (λ d v. IfOk result (λ o. IfNone o (ArePredecessors d.types (links_of d.types v) places.now namings.new.items))) }
+    ensures some { OfNamed places.now namings.old.items (λ d v. IfOk result (λ o. IfSome o (λ f. IsLeastOf d v 4 f))) }
     ensures refusal { OnlyMemory result }
 {
     sort_namings(namings)?;

@@ -7,7 +7,7 @@ ghost use Rattle.hd_links.specs.Pointers.{PointersAreTyped};
 ghost use Rattle.hd_image.specs.Records.{links_of, IsVolumeOf};
 ghost use Rattle.hd_check_blocks.specs.Phases.{IsLeastOf};
 ghost use Rattle.hd_check_blocks.specs.Places.{ArePlaces};
-ghost use Rattle.hd_check_pointers.specs.Judging.{IsRecordRight, IsWrongRecord};
+ghost use Rattle.hd_check_pointers.specs.Judging.{IsRecordRight, IsWrongRecord, FindsWrongRecord};
 ghost use Rattle.hd_check_pointers.specs.Tables.{AreForwards};
 ghost use Rattle.hd_check_pointers.specs.Namings.{segment_namings, AreNamings};
 ghost use Rattle.hd_check_blocks.specs.Finding.{WhereNone, WhereSome};
@@ -31,7 +31,7 @@ fn record_fault<S: BlockStore>(
     requires there { IsTrue volume.old.is_sound → IsSegment (links_of dbd.now.types volume.old) address }
     ensures read { IsRead volume.old result volume.new }
     ensures none { IfOk result (λ o. IsTrue volume.old.is_sound → ArePlaces dbd.now.types volume.old places.now → IfNone o (IsRecordRight dbd.now.types (links_of dbd.now.types volume.old) address)) }
-    ensures some { IfOk result (λ o. IsTrue volume.old.is_sound → ArePlaces dbd.now.types volume.old places.now → IfSome o (λ f. IsWrongRecord dbd.now.types (links_of dbd.now.types volume.old) address f)) }
+    ensures some { IfOk result (λ o. IsTrue volume.old.is_sound → FindsWrongRecord dbd.now.types volume.old places.now address o) }
     ensures forwards { IfOk result (λ o. IsTrue volume.old.is_sound → forwards.new.items ≡ forwards.old.items ++ (links_of dbd.now.types volume.old).forward address ∷ []) }
     ensures namings { IfOk result (λ o. IsTrue volume.old.is_sound → namings.new.items ≡ namings.old.items ++ segment_namings dbd.now.types (links_of dbd.now.types volume.old) address) }
     ensures refusal { OnlyDeviceOrMemory result }

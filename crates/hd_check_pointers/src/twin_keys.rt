@@ -10,7 +10,7 @@ ghost use Rattle.hd_image.specs.PointerFaults.{IsOutOfOrder};
 ghost use Rattle.hd_check_blocks.specs.Phases.{IsLeastOf};
 ghost use Rattle.hd_check_pointers.specs.Tables.{place_at, ArePredecessors};
 ghost use Rattle.hd_check_pointers.specs.Matched.{IsMatched};
-ghost use Rattle.hd_check_pointers.specs.Keys.{is_keyed, IsKeyRight, order_fault};
+ghost use Rattle.hd_check_pointers.specs.Keys.{is_keyed, IsKeyRight, order_fault, IsOrderFault};
 ghost use Rattle.hd_check_blocks.specs.Finding.{WhereNone, WhereSome};
 
 use crate::namings::Naming;
@@ -89,7 +89,7 @@ fn twin_order_fault<S: BlockStore>(
     requires there { IsTrue volume.old.is_sound → IsSegment (links_of dbd.now.types volume.old) place.address × ((links_of dbd.now.types volume.old).code place.address ≡ place.code) }
     ensures read { IsRead volume.old result volume.new }
     ensures none { let m = links_of dbd.now.types volume.old in WhereNone volume.old result (twins_in_order dbd.now.types (segment_at m holder) (segment_at m place.address) ≡ true) }
-    ensures some { let m = links_of dbd.now.types volume.old in WhereSome volume.old result (λ f. (f ≡ order_fault place.address holder) × (twins_in_order dbd.now.types (segment_at m holder) (segment_at m place.address) ≡ false)) }
+    ensures some { WhereSome volume.old result (λ f. IsOrderFault dbd.now.types (links_of dbd.now.types volume.old) place.address holder f) }
     ensures refusal { OnlyDevice result }
 {
     let mut room = [0; LONGEST_KEY];
@@ -113,7 +113,7 @@ fn key_fault<S: BlockStore>(
     requires precedes { IsTrue volume.old.is_sound → Precedes dbd.now.types (links_of dbd.now.types volume.old) holder (place_at places.now number).address }
     ensures read { IsRead volume.old result volume.new }
     ensures none { WhereNone volume.old result (IsKeyRight dbd.now.types (links_of dbd.now.types volume.old) (place_at places.now number).address) }
-    ensures some { WhereSome volume.old result (λ f. (f ≡ order_fault (place_at places.now number).address holder) × IsOutOfOrder dbd.now.types (links_of dbd.now.types volume.old) (place_at places.now number).address holder) }
+    ensures some { let a = (place_at places.now number).address in WhereSome volume.old result (λ f. (f ≡ order_fault a holder) × IsOutOfOrder dbd.now.types (links_of dbd.now.types volume.old) a holder) }
     ensures refusal { OnlyDevice result }
 {
     let place = places[number];

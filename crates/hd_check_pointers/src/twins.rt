@@ -12,8 +12,8 @@ ghost use Rattle.hd_image.specs.Records.{links_of};
 ghost use Rattle.hd_image.specs.PointerFaults.{IsWrongBackward, IsWrongLast, HasWrongLast};
 ghost use Rattle.hd_check_blocks.specs.Phases.{IsLeastOf};
 ghost use Rattle.hd_check_pointers.specs.Tables.{place_at, AreForwards, ArePredecessors, AreOwners};
-ghost use Rattle.hd_check_pointers.specs.Matched.{IsMatched, IfChained, IfRoots, OfLent, OfLentTwin};
-ghost use Rattle.hd_check_pointers.specs.Twins.{IsTwinOrNone, HasChildren, IsBackwardRight, IsLastRight, AreLastsRight, AreTwinsRight, AreTwinsWrong};
+ghost use Rattle.hd_check_pointers.specs.Matched.{IsMatched, IfChained, IfRoots, OfLent, OfLentTwin, TellsTwinBefore, OfChildren, OfChildTwin};
+ghost use Rattle.hd_check_pointers.specs.Twins.{IsTwinOrNone, HasChildren, IsBackwardRight, IsLastRight, AreLastsRight, AreTwinsRight, AreTwinsWrong, IsWrongLastNamed};
 ghost use Rattle.hd_check_blocks.specs.Finding.{WhereNone, WhereSome};
 
 use crate::namings::Naming;
@@ -35,7 +35,7 @@ fn pointer_in(dbd: &Dbd, code: u8, segment: &[u8], pointer: Pointer) -> u32
 /// The twin before the segment of a number, by its predecessor; 0 where that is a parent.
 fn twin_before(places: &[Place], number: usize, holder: u32) -> u32
     requires within { number < length places.now }
-    ensures { (d : Database) (v : VolumeState) → let m = links_of d.types v in let a = (place_at places.now number).address in IsMatched d v places.now → Precedes d.types m holder a → IsTwinOrNone d.types m holder a result }
+    ensures { TellsTwinBefore places.now number holder result }
 {
     if stands_at(places, holder, places[number].code) {
         return holder;
@@ -76,8 +76,8 @@ fn is_last_right(
     first: u32,
     last: u32,
 ) -> bool
-    ensures right { (d : Database) (v : VolumeState) (t : ℕ) → let m = links_of d.types v in IfChained d v places.now forwards.now owners.now (HasChildren d.types m parent t first last → result ≡ true → IsLastRight m parent t) }
-    ensures wrong { (d : Database) (v : VolumeState) (t : ℕ) → let m = links_of d.types v in IfChained d v places.now forwards.now owners.now (HasChildren d.types m parent t first last → result ≡ false → IsWrongLast m parent t) }
+    ensures right { OfChildren places.now forwards.now owners.now parent first last (λ m t. result ≡ true → IsLastRight m parent t) }
+    ensures wrong { OfChildren places.now forwards.now owners.now parent first last (λ m t. result ≡ false → IsWrongLast m parent t) }
 {
     if first == 0 {
         return last == 0;
@@ -100,8 +100,8 @@ fn wrong_child(
 ) -> Option<u32>
     requires within { number < length places.now }
     requires whole { stored_size dbd.now.types (place_at places.now number).code ≤ length segment.now }
-    ensures none { OfLentTwin dbd.now places.now forwards.now owners.now number segment.now (λ m a. is_child_type dbd.now.types (place_at places.now number).code child ≡ true → IfNone result (is_last_kept dbd.now.types child ≡ true → IsLastRight m a child)) }
-    ensures some { OfLentTwin dbd.now places.now forwards.now owners.now number segment.now (λ m a. is_child_type dbd.now.types (place_at places.now number).code child ≡ true → IfSome result (λ x. (is_last_kept dbd.now.types child ≡ true) × IsWrongLast m a child × (x ≡ m.last_child a child))) }
+    ensures none { OfChildTwin dbd.now places.now forwards.now owners.now number segment.now child (λ m a. IfNone result (is_last_kept dbd.now.types child ≡ true → IsLastRight m a child)) }
+    ensures some { OfChildTwin dbd.now places.now forwards.now owners.now number segment.now child (λ m a. IfSome result (λ x. IsWrongLastNamed dbd.now.types m a child x)) }
 {
     if !dbd.keeps_last_child(child) {
         return None;

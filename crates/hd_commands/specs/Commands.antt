@@ -63,3 +63,7 @@ StreamSays d stream largest is_sound Failed image (Full n) = IsTrue is_sound →
 StreamSays d stream largest is_sound Failed image Device =
     Failed ⊎ (IsTrue is_sound → (segments : ℕ) × (blocks : ℕ) × IsReloaded d stream largest segments blocks image)
 StreamSays d stream largest is_sound Failed image Memory = Unit {0}
+
+-- The same of the store that a reload was given, and which comes back.
+abbrev pub StoreSays : {S : Type 0} → (S → Bool) → (S → ℕ) → (S → List ℕ) → Database → List ℕ → ℕ → S → S → Refusal → Type 0
+StoreSays is_sound failures contents d stream largest old new = StreamSays d stream largest (is_sound old) (failures old < failures new) (contents new)

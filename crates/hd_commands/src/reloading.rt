@@ -1,6 +1,6 @@
 ghost use Rattle.std.specs.Prelude.{◌≡◌, ◌≢◌, ◌<◌, ◌≤◌, [], IsTrue};
 ghost use Rattle.hd_unload.specs.Loads.{HasNoHeader};
-ghost use Rattle.hd_commands.specs.Commands.{ReloadsInPrint, IsRefused, StreamSays};
+ghost use Rattle.hd_commands.specs.Commands.{ReloadsInPrint, IsRefused, StoreSays};
 
 use crate::ending::{DONE, Ended, refuse};
 use crate::lines::print_reloaded;
@@ -26,7 +26,7 @@ pub fn reload_store<S: BlockStore, O: Write, E: Write>(
     requires empty { IsTrue (S.is_sound store) → S.contents store ≡ [] }
     requires bounds { (0 < largest) × (largest ≤ 65536) }
     ensures reloaded { result.1.status ≡ 0 → IsTrue (S.is_sound store) → ReloadsInPrint dbd.now stream.now largest (S.contents result.0) (O.contents out.old) (O.contents out.new) }
-    ensures refused { result.1.status ≢ 0 → IsRefused (StreamSays dbd.now stream.now largest (S.is_sound store) (S.failures store < S.failures result.0) (S.contents result.0)) result.1 (E.contents err.old) (E.contents err.new) }
+    ensures refused { result.1.status ≢ 0 → IsRefused (StoreSays S.is_sound S.failures S.contents dbd.now stream.now largest store result.0) result.1 (E.contents err.old) (E.contents err.new) }
     ensures quiet { result.1.status ≡ 0 → err.new ≡ err.old }
     ensures silent { result.1.status ≢ 0 → result.1.status ≢ 3 → out.new ≡ out.old }
     ensures none { result.1.status ≢ 0 → result.1.status ≢ 3 → IsTrue (S.is_sound store) → HasNoHeader (S.size store) (S.contents result.0) }

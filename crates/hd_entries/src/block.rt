@@ -25,7 +25,7 @@ pub struct Seen {
 }
 
 impl<'b> IndexBlock<'b> {
-    ghost use Rattle.hd_entries.specs.Searches.{seen_in};
+    ghost use Rattle.hd_entries.specs.Searches.{seen_in, IfInOrder};
 
     /// Its level; 0 is that of the roots' entries.
     pub fn level(&self) -> u8
@@ -97,7 +97,7 @@ impl<'b> IndexBlock<'b> {
     /// How many of its first entries are below a key.
     pub fn place_of(&self, key: &[u8]) -> usize
         ensures most { result ≤ entry_count self.now.key_length self.now.bytes.now }
-        ensures value { CountFits self.now.key_length self.now.bytes.now → keys_ascend (entries_in self.now.key_length self.now.bytes.now) ≡ true → result ≡ below_count key.now (entries_in self.now.key_length self.now.bytes.now) }
+        ensures value { IfInOrder self.now.key_length self.now.bytes.now (result ≡ below_count key.now (entries_in self.now.key_length self.now.bytes.now)) }
     {
         let count = self.count();
         let mut low = 0;
@@ -115,7 +115,7 @@ impl<'b> IndexBlock<'b> {
 
     /// Looks for a key.
     pub fn look(&self, key: &[u8]) -> Seen
-        ensures { CountFits self.now.key_length self.now.bytes.now → keys_ascend (entries_in self.now.key_length self.now.bytes.now) ≡ true → result ≡ seen_in self.now.key_length key.now self.now.bytes.now }
+        ensures { IfInOrder self.now.key_length self.now.bytes.now (result ≡ seen_in self.now.key_length key.now self.now.bytes.now) }
     {
         let index = self.place_of(key);
         let next = if index < self.count() { 0 } else { self.next() };

@@ -5,7 +5,7 @@ use Rattle.hd_dbd.specs.Types.{SegmentType}
 use Rattle.hd_prefix.specs.declared.pointer.Pointer.TheVariants.{FirstChild}
 use Rattle.hd_prefix.specs.Fields.{code_of, pointer_of}
 use Rattle.hd_links.specs.Links.{Links, child_types}
-use Rattle.hd_links.specs.Steps.{first_some}
+use Rattle.hd_links.specs.Steps.{first_some, child_among, later_than}
 
 -- the first child of a stored segment, of these types in order; 0 for none
 abbrev pub child_in : List SegmentType → List ℕ → List ℕ → ℕ
@@ -30,3 +30,7 @@ last_named_in types segment end last (t ∷ ts) =
 -- the last child type of which the segment h has rows, up to before one if one is given; 0 for none
 abbrev pub last_type_of : List SegmentType → Links → ℕ → Option ℕ → ℕ
 last_type_of types m h end = last_named m h end 0 (child_types types (m.code h))
+
+-- what stands beside y, a child of h: its next twin, or the first child of h of a later type; 0 for none
+abbrev pub beside : List SegmentType → Links → ℕ → ℕ → ℕ
+beside types m h y = first_some (m.forward y) (child_among m h (later_than (m.code y) (child_types types (m.code h))))

@@ -11,6 +11,7 @@ use Rattle.hd_links.specs.Steps.{first_some, child_among, later_than}
 use Rattle.hd_image.specs.Pointing.{without_record}
 use Rattle.hd_forest.specs.Walks.{tip, parent_on}
 use Rattle.hd_forest.specs.Sets.{IsRecorded}
+use Rattle.hd_image.specs.Records.{links_of}
 
 -- The nodes below a segment lie in the records, they are nodes of the database, and no address stands twice among them and
 -- the segment's own.
@@ -68,3 +69,12 @@ pub record IsStep (d : Database) (old : VolumeState) (s : Freeing) (path : List 
   pub path_is : path ≡ s.path
   pub down_is : down ≡ s.down
   pub records : IsRecorded d old s.records new
+
+-- what is still to be freed along a path of the records
+abbrev pub freeing : Links → List ℕ → Bool → Freeing
+freeing m path down = record { path = path; down = down; records = m }
+
+-- A span was freed: whatever nodes are below the segment, the records are those without it and them.
+abbrev pub IsFreedSpan : Database → VolumeState → ℕ → VolumeState → Type 0
+IsFreedSpan d old a new =
+    (under : Forest Placed) → IsSpan d.types (links_of d.types old) a under → IsRecorded d old (without_span_of (links_of d.types old) a under) new

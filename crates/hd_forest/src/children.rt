@@ -69,7 +69,7 @@ pub fn below<S: BlockStore>(volume: &mut Volume<S>, dbd: &Dbd, address: u32) -> 
     requires of { IsTrue volume.old.is_sound → IsVolumeOf dbd.now volume.old }
     requires there { IsTrue volume.old.is_sound → IsSegment (links_of dbd.now.types volume.old) address }
     ensures read { IsRead volume.old result volume.new }
-    ensures value { IfOk result (λ r. IsTrue volume.old.is_sound → r ≡ child_among (links_of dbd.now.types volume.old) address (child_types dbd.now.types ((links_of dbd.now.types volume.old).code address))) }
+    ensures value { let m = links_of dbd.now.types volume.old in IfOk result (λ r. IsTrue volume.old.is_sound → r ≡ child_among m address (child_types dbd.now.types (m.code address))) }
     ensures refusal { OnlyDevice result }
 {
     let segment = volume.segment_at(address)?;
@@ -87,7 +87,7 @@ pub fn below_later<S: BlockStore>(
     requires of { IsTrue volume.old.is_sound → IsVolumeOf dbd.now volume.old }
     requires there { IsTrue volume.old.is_sound → IsSegment (links_of dbd.now.types volume.old) address }
     ensures read { IsRead volume.old result volume.new }
-    ensures value { IfOk result (λ r. IsTrue volume.old.is_sound → r ≡ child_among (links_of dbd.now.types volume.old) address (later_than code (child_types dbd.now.types ((links_of dbd.now.types volume.old).code address)))) }
+    ensures value { let m = links_of dbd.now.types volume.old in IfOk result (λ r. IsTrue volume.old.is_sound → r ≡ child_among m address (later_than code (child_types dbd.now.types (m.code address)))) }
     ensures refusal { OnlyDevice result }
 {
     let segment = volume.segment_at(address)?;

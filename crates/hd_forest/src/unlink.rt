@@ -9,7 +9,7 @@ ghost use Rattle.hd_image.specs.Records.{links_of, IsVolumeOf};
 ghost use Rattle.hd_image.specs.Pointing.{without_record};
 ghost use Rattle.hd_forest.specs.Walks.{tip, AreSegments, HasForest};
 ghost use Rattle.hd_forest.specs.Sets.{IsRecorded};
-ghost use Rattle.hd_forest.specs.Spans.{HasSpan, IsSpan, without_span_of, below_on, beside_on, extended, freed_last, freed_on, IsStep};
+ghost use Rattle.hd_forest.specs.Spans.{HasSpan, IsSpan, without_span_of, below_on, beside_on, extended, freed_last, freed_on, IsStep, freeing, IsFreedSpan};
 ghost use Rattle.hd_forest.specs.Updates.{IsUnlinked};
 
 use crate::children::below;
@@ -48,7 +48,7 @@ fn free_span<S: BlockStore>(volume: &mut Volume<S>, dbd: &Dbd, address: u32) -> 
     requires of { IsTrue volume.old.is_sound → IsVolumeOf dbd.now volume.old }
     requires there { IsTrue volume.old.is_sound → HasSpan dbd.now.types (links_of dbd.now.types volume.old) address }
     ensures call { IsCall volume.old result volume.new }
-    ensures freed { OnOk result (IsTrue volume.old.is_sound → (under : Forest Placed) → IsSpan dbd.now.types (links_of dbd.now.types volume.old) address under → IsRecorded dbd.now volume.old (without_span_of (links_of dbd.now.types volume.old) address under) volume.new) }
+    ensures freed { OnOk result (IsTrue volume.old.is_sound → IsFreedSpan dbd.now volume.old address volume.new) }
     ensures refusal { OnlyDevice result }
     ensures room { volume.new.room ≡ volume.old.room }
 {
@@ -78,7 +78,7 @@ fn free_next<S: BlockStore>(
     requires some { IsTrue volume.old.is_sound → 0 < length path.old }
     requires deep { IsTrue volume.old.is_sound → IsTrue down → 0 < below_on dbd.now.types (links_of dbd.now.types volume.old) path.old → length path.old < 15 }
     ensures call { IsCall volume.old result volume.new }
-    ensures freed { IfOk result (λ r. IsTrue volume.old.is_sound → IsStep dbd.now volume.old (freed_on dbd.now.types (record { path = path.old; down = down; records = links_of dbd.now.types volume.old })) path.new r volume.new) }
+    ensures freed { IfOk result (λ r. IsTrue volume.old.is_sound → IsStep dbd.now volume.old (freed_on dbd.now.types (freeing (links_of dbd.now.types volume.old) path.old down)) path.new r volume.new) }
     ensures refusal { OnlyDevice result }
     ensures room { volume.new.room ≡ volume.old.room }
 {
@@ -127,7 +127,7 @@ fn free_last<S: BlockStore>(
     requires there { IsTrue volume.old.is_sound → AreSegments (links_of dbd.now.types volume.old) path.old }
     requires some { IsTrue volume.old.is_sound → 0 < length path.old }
     ensures call { IsCall volume.old result volume.new }
-    ensures freed { IfOk result (λ r. IsTrue volume.old.is_sound → IsStep dbd.now volume.old (freed_last dbd.now.types (record { path = path.old; down = r; records = links_of dbd.now.types volume.old })) path.new r volume.new) }
+    ensures freed { IfOk result (λ r. IsTrue volume.old.is_sound → IsStep dbd.now volume.old (freed_last dbd.now.types (freeing (links_of dbd.now.types volume.old) path.old r)) path.new r volume.new) }
     ensures refusal { OnlyDevice result }
     ensures room { volume.new.room ≡ volume.old.room }
 {

@@ -5,6 +5,7 @@ ghost use Rattle.hd_links.specs.Links.{IsSegment, child_types};
 ghost use Rattle.hd_links.specs.Steps.{first_some, child_among, later_than, behind_span, next_row};
 ghost use Rattle.hd_image.specs.Records.{links_of, IsVolumeOf};
 ghost use Rattle.hd_forest.specs.Walks.{AreSegments, HasForest, moved, next_on, next_after_span_on};
+ghost use Rattle.hd_forest.specs.Children.{beside};
 
 use crate::children::{below, below_later};
 use crate::path::Path;
@@ -129,7 +130,7 @@ pub fn beside<S: BlockStore>(
     requires there { IsTrue volume.old.is_sound → IsSegment (links_of dbd.now.types volume.old) address }
     requires above { IsTrue volume.old.is_sound → (links_of dbd.now.types volume.old).here parent ≡ true }
     ensures read { IsRead volume.old result volume.new }
-    ensures value { IfOk result (λ r. IsTrue volume.old.is_sound → r ≡ first_some ((links_of dbd.now.types volume.old).forward address) (child_among (links_of dbd.now.types volume.old) parent (later_than ((links_of dbd.now.types volume.old).code address) (child_types dbd.now.types ((links_of dbd.now.types volume.old).code parent))))) }
+    ensures value { IfOk result (λ r. IsTrue volume.old.is_sound → r ≡ beside dbd.now.types (links_of dbd.now.types volume.old) parent address) }
     ensures refusal { OnlyDevice result }
 {
     let twin = next_twin(volume, dbd, address)?;

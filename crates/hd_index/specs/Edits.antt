@@ -1,5 +1,5 @@
 -- Changes of index blocks.
-use Rattle.std.specs.Prelude.{◌≡◌, ◌≢◌, ◌⊎◌, ℕ, ◌+◌, ◌≤◌, IsTrue, List, [], ◌∷◌, take, drop}
+use Rattle.std.specs.Prelude.{◌≡◌, ◌≢◌, ◌⊎◌, ℕ, ◌+◌, ◌≤◌, IsTrue, List, [], ◌∷◌, take, drop, length}
 use Rattle.hd_dbd.specs.declared.answer.Refused.{Refused}
 use Rattle.hd_dbd.specs.declared.answer.Refused.TheVariants.{Memory, Full, Device}
 use Rattle.hd_bytes.specs.Numbers.{number_at}
@@ -11,6 +11,8 @@ use Rattle.hd_volume.specs.Calls.{KeepsSegments, KeepsHoles}
 use Rattle.hd_volume.specs.Entries.{Entry, entries_in, entries_of, entries}
 use Rattle.hd_volume.specs.Indexes.{IsEntryBlock, IsAmong, HasIndex}
 use Rattle.hd_index.specs.Changes.{IsIndexChange}
+use Rattle.hd_index.specs.Maps.{with_entry, with_entry_at, without_entry_at}
+use Rattle.hd_index.specs.Places.{blocks_needed}
 
 -- Index block n may have changed, and nothing else has.
 pub record IsEdit (old : VolumeState) (n : ℕ) (new : VolumeState) : Type 0 where
@@ -92,3 +94,26 @@ pub record IsRefused (old : VolumeState) (e : Refused) (new : VolumeState) : Typ
   pub memory : e ≡ Memory → old.room ≡ 0
   pub no_free : e ≡ Memory → IsTrue old.is_sound → HasFreeBlock old → ⊥
   pub refusal : (e ≡ Memory) ⊎ (e ≡ Full) ⊎ (e ≡ Device)
+
+-- ---- one entry
+
+-- An entry was put into block n, before the one at an index.
+abbrev pub IsEntryAdded : VolumeState → ℕ → ℕ → List ℕ → ℕ → VolumeState → Type 0
+IsEntryAdded old n index key address new =
+    HasNewEntries (length key) old n (with_entry_at index (record { key = key; address = address }) (entries_in (length key) (block_at old n)))
+    (number_at 4 (block_at old n) 8) new
+
+-- The entry at an index was taken out of block n.
+abbrev pub IsEntryRemoved : ℕ → VolumeState → ℕ → ℕ → VolumeState → Type 0
+IsEntryRemoved key_length old n index new =
+    HasNewEntries key_length old n (without_entry_at index (entries_in key_length (block_at old n))) (number_at 4 (block_at old n) 8) new
+
+-- Block n was divided, and an entry put in before the one at an index.
+abbrev pub IsEntrySpliced : VolumeState → ℕ → ℕ → List ℕ → ℕ → VolumeState → Type 0
+IsEntrySpliced old n index key address new =
+    IsSpliced (length key) old n (with_entry_at index (record { key = key; address = address }) (entries_in (length key) (block_at old n))) 1 new
+
+-- A key was entered with its address, for which no more blocks were taken than it needs.
+abbrev pub IsKeyEntered : VolumeState → List ℕ → ℕ → VolumeState → Type 0
+IsKeyEntered old key address new =
+    IsChanged (length key) old (with_entry (record { key = key; address = address }) (entries (length key) old)) (blocks_needed (length key) old key) new

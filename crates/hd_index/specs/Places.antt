@@ -1,10 +1,11 @@
 -- Where a key stands or belongs in the index: the walk along the chain to its block.
-use Rattle.std.specs.Prelude.{ℕ, zero, suc, ◌≤◌, ◌==◌, cond, List, Option, None, Some, option_map, slice_get, bytes_eq, nat_lt}
+use Rattle.std.specs.Prelude.{◌≡◌, true, ℕ, zero, suc, ◌≤◌, ◌==◌, cond, List, Option, None, Some, option_map, slice_get, bytes_eq, nat_lt}
 use Rattle.hd_bytes.specs.Numbers.{number_at}
 use Rattle.hd_volume.specs.Headers.{header_of}
 use Rattle.hd_volume.specs.Volumes.{VolumeState, block_at}
 use Rattle.hd_volume.specs.Entries.{entries_in}
-use Rattle.hd_volume.specs.Indexes.{entry_room, IsEntryBlock}
+use Rattle.hd_volume.specs.Indexes.{entry_room, keys_ascend, IsEntryBlock}
+use Rattle.hd_entries.specs.declared.block.Seen.{Seen}
 use Rattle.hd_index.specs.declared.place.Found.{Found}
 use Rattle.hd_index.specs.declared.place.Place.{Place}
 use Rattle.hd_index.specs.declared.place.Spot.{Spot}
@@ -22,11 +23,16 @@ place_from key_length v key (suc more) n place =
 abbrev pub place_of : ℕ → VolumeState → List ℕ → Place
 place_of key_length v key = place_from key_length v key (header_of v.image).largest (header_of v.image).top (record { block = 0; index = 0 })
 
--- the entry at a place, if there is one: its address, and whether it has the key
+-- the entry of a block at an index, if there is one: its address, and whether it has the key
+abbrev pub found_in : ℕ → List ℕ → List ℕ → ℕ → Option Found
+found_in key_length key block index =
+    option_map (λ e. record { address = e.address; is_key = bytes_eq e.key key }) (slice_get (entries_in key_length block) index)
+
+-- the same at a place of the index
 abbrev pub found_at : ℕ → VolumeState → List ℕ → Place → Option Found
 found_at key_length v key place =
     cond (place.block == 0) None
-    (option_map (λ e. record { address = e.address; is_key = bytes_eq e.key key }) (slice_get (entries_in key_length (block_at v place.block)) place.index))
+    (found_in key_length key (block_at v place.block) place.index)
 
 -- its address where it has the key
 abbrev pub address_found : Option Found → Option ℕ
@@ -49,7 +55,7 @@ spot_in key_length key block place = record {
   index = place.index;
   count = number_at 2 block 4;
   next = number_at 4 block 8;
-  found = option_map (λ e. record { address = e.address; is_key = bytes_eq e.key key }) (slice_get (entries_in key_length block) place.index);
+  found = found_in key_length key block place.index;
 }
 
 -- what is read at a place
@@ -64,3 +70,8 @@ spot_of key_length v key = spot_at key_length v key (place_of key_length v key)
 abbrev pub blocks_needed : ℕ → VolumeState → List ℕ → ℕ
 blocks_needed key_length v key =
     cond ((spot_of key_length v key).block == 0) 1 (cond (nat_lt (spot_of key_length v key).count (entry_room key_length v.size)) 0 1)
+
+-- what is seen of a key in block n, where that is a block of entries whose keys ascend
+abbrev pub IsSeenIn : ℕ → List ℕ → VolumeState → ℕ → Seen → Type 0
+IsSeenIn key_length key v n seen =
+    IsEntryBlock key_length v n → keys_ascend (entries_in key_length (block_at v n)) ≡ true → seen ≡ seen_in key_length key (block_at v n)

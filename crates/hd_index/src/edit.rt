@@ -6,8 +6,7 @@ ghost use Rattle.hd_volume.specs.Calls.{IsCall};
 ghost use Rattle.hd_volume.specs.Entries.{entries_in};
 ghost use Rattle.hd_volume.specs.Indexes.{entry_room, IsEntryBlock};
 ghost use Rattle.hd_entries.specs.Fields.{entry_place};
-ghost use Rattle.hd_index.specs.Edits.{HasNewEntries};
-ghost use Rattle.hd_index.specs.Maps.{with_entry_at, without_entry_at};
+ghost use Rattle.hd_index.specs.Edits.{IsEntryAdded, IsEntryRemoved};
 
 use crate::bytes::{copy_down, move_up, two_bytes, write_part};
 use hd_bytes::write_u32;
@@ -47,7 +46,7 @@ pub fn add_entry<S: BlockStore>(
     requires room { count < entry_room (length key.now) volume.old.size }
     requires fits { entry_place (length key.now) (count + 1) ≤ volume.old.size }
     ensures call { IsCall volume.old result volume.new }
-    ensures added { OnOk result (IsTrue volume.old.is_sound → HasNewEntries (length key.now) volume.old n (with_entry_at index (record { key = key.now; address = address }) (entries_in (length key.now) (block_at volume.old n))) (number_at 4 (block_at volume.old n) 8) volume.new) }
+    ensures added { OnOk result (IsTrue volume.old.is_sound → IsEntryAdded volume.old n index key.now address volume.new) }
     ensures refusal { OnlyDevice result }
     ensures room { volume.new.room ≡ volume.old.room }
 {
@@ -76,7 +75,7 @@ pub fn remove_entry<S: BlockStore>(
     requires most { volume.old.size ≤ 32768 }
     requires fits { entry_place key_length count ≤ volume.old.size }
     ensures call { IsCall volume.old result volume.new }
-    ensures taken { OnOk result (IsTrue volume.old.is_sound → HasNewEntries key_length volume.old n (without_entry_at index (entries_in key_length (block_at volume.old n))) (number_at 4 (block_at volume.old n) 8) volume.new) }
+    ensures taken { OnOk result (IsTrue volume.old.is_sound → IsEntryRemoved key_length volume.old n index volume.new) }
     ensures refusal { OnlyDevice result }
     ensures room { volume.new.room ≡ volume.old.room }
 {

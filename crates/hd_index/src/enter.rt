@@ -8,7 +8,7 @@ ghost use Rattle.hd_volume.specs.Indexes.{entry_room, IsEntryBlock, HasIndex};
 ghost use Rattle.hd_index.specs.Maps.{address_of, with_entry, with_entry_at};
 ghost use Rattle.hd_entries.specs.Fields.{entry_place};
 ghost use Rattle.hd_index.specs.Places.{spot_of, blocks_needed};
-ghost use Rattle.hd_index.specs.Edits.{IsSpliced, IsChanged, IsRefused};
+ghost use Rattle.hd_index.specs.Edits.{IsSpliced, IsChanged, IsRefused, IsEntrySpliced, IsKeyEntered};
 
 use crate::divide::divide;
 use crate::edit::add_entry;
@@ -62,7 +62,7 @@ fn insert_divided<S: BlockStore>(
     requires least { 128 ≤ volume.old.size }
     requires most { volume.old.size ≤ 32768 }
     ensures call { IsCall volume.old result volume.new }
-    ensures spliced { OnOk result (IsTrue volume.old.is_sound → IsSpliced (length key.now) volume.old spot.block (with_entry_at spot.index (record { key = key.now; address = address }) (entries_in (length key.now) (block_at volume.old spot.block))) 1 volume.new) }
+    ensures spliced { OnOk result (IsTrue volume.old.is_sound → IsEntrySpliced volume.old spot.block spot.index key.now address volume.new) }
     ensures refused { IfErr result (λ e. IsRefused volume.old e volume.new) }
     ensures room { IsTrue volume.new.is_sound → volume.old.room ≤ volume.new.room + 1 }
 {
@@ -108,7 +108,7 @@ fn insert_at<S: BlockStore>(
     requires three { entry_place (length key.now) 3 ≤ volume.old.size }
     requires fits { entry_place (length key.now) spot.count ≤ volume.old.size }
     ensures call { IsCall volume.old result volume.new }
-    ensures changed { OnOk result (IsTrue volume.old.is_sound → IsChanged (length key.now) volume.old (with_entry (record { key = key.now; address = address }) (entries (length key.now) volume.old)) (blocks_needed (length key.now) volume.old key.now) volume.new) }
+    ensures changed { OnOk result (IsTrue volume.old.is_sound → IsKeyEntered volume.old key.now address volume.new) }
     ensures refused { IfErr result (λ e. IsRefused volume.old e volume.new) }
     ensures needed { IfErr result (λ e. e ≡ Refused.Full → IsTrue volume.old.is_sound → blocks_needed (length key.now) volume.old key.now ≡ 1) }
     ensures room { IsTrue volume.new.is_sound → volume.old.room ≤ volume.new.room + 1 }
@@ -136,7 +136,7 @@ pub fn insert_key<S: BlockStore>(
     requires short { key_length ≤ 255 }
     requires three { entry_place key_length 3 ≤ volume.old.size }
     ensures call { IsCall volume.old result volume.new }
-    ensures changed { OnOk result (IsTrue volume.old.is_sound → IsChanged (length key.now) volume.old (with_entry (record { key = key.now; address = address }) (entries (length key.now) volume.old)) (blocks_needed (length key.now) volume.old key.now) volume.new) }
+    ensures changed { OnOk result (IsTrue volume.old.is_sound → IsKeyEntered volume.old key.now address volume.new) }
     ensures refused { IfErr result (λ e. IsRefused volume.old e volume.new) }
     ensures needed { IfErr result (λ e. e ≡ Refused.Full → IsTrue volume.old.is_sound → blocks_needed (length key.now) volume.old key.now ≡ 1) }
     ensures room { IsTrue volume.new.is_sound → volume.old.room ≤ volume.new.room + 1 }

@@ -8,7 +8,7 @@ ghost use Rattle.hd_volume.specs.Entries.{entries_in};
 ghost use Rattle.hd_volume.specs.Indexes.{keys_ascend, IsEntryBlock, HasIndex};
 ghost use Rattle.hd_entries.specs.Fields.{entry_place, entry_count, CountFits};
 ghost use Rattle.hd_entries.specs.Searches.{seen_in};
-ghost use Rattle.hd_index.specs.Places.{place_of, HasPlace, no_spot, spot_in, spot_at, spot_of};
+ghost use Rattle.hd_index.specs.Places.{place_of, HasPlace, no_spot, spot_in, spot_at, spot_of, IsSeenIn, found_in};
 
 use hd_dbd::Refused;
 use hd_entries::{FIRST, IndexBlock, Seen};
@@ -58,7 +58,7 @@ fn look<S: BlockStore>(
 ) -> Result<Seen, Refused>
     requires short { key_length ≤ 255 }
     ensures read { IsRead volume.old result volume.new }
-    ensures value { IfOk result (λ seen. IsTrue volume.old.is_sound → IsEntryBlock key_length volume.old n → keys_ascend (entries_in key_length (block_at volume.old n)) ≡ true → seen ≡ seen_in key_length key.now (block_at volume.old n)) }
+    ensures value { IfOk result (λ seen. IsTrue volume.old.is_sound → IsSeenIn key_length key.now volume.old n seen) }
     ensures refusal { OnlyDevice result }
 {
     if !has_block(volume, n) {
@@ -102,7 +102,7 @@ pub fn seek<S: BlockStore>(
 
 /// The entry of a block at an index, if there is one.
 fn found_in(block: &IndexBlock, index: usize, key: &[u8]) -> Option<Found>
-    ensures value { CountFits block.now.key_length block.now.bytes.now → result ≡ option_map (λ e. record { address = e.address; is_key = bytes_eq e.key key.now }) (slice_get (entries_in block.now.key_length block.now.bytes.now) index) }
+    ensures value { CountFits block.now.key_length block.now.bytes.now → result ≡ found_in block.now.key_length key.now block.now.bytes.now index }
     ensures within { IfSome result (λ _. index < entry_count block.now.key_length block.now.bytes.now) }
 {
     if index >= block.count() {

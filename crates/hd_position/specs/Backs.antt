@@ -6,6 +6,7 @@ use Rattle.hd_links.specs.Pointers.{IsInChain}
 use Rattle.hd_links.specs.Steps.{LeadsDown, next_row, first_some, child_among, later_than}
 use Rattle.hd_forest.specs.Walks.{tip, parent_on}
 use Rattle.hd_forest.specs.Children.{comes_before}
+pub use Rattle.hd_forest.specs.Children.{beside}
 
 -- The path leads from h down to the last row below it: each row on it is the last twin of the last child type that has any, and
 -- the last has no child.
@@ -14,10 +15,6 @@ EndsBelow types m h [] = child_among m h (child_types types (m.code h)) ≡ 0
 EndsBelow types m h (a ∷ path) =
     (is_child_type types (m.code h) (m.code a) ≡ true) × IsInChain m (m.first_child h (m.code a)) a × (m.forward a ≡ 0)
     × (child_among m h (later_than (m.code a) (child_types types (m.code h))) ≡ 0) × EndsBelow types m a path
-
--- what stands beside y, a child of h: its next twin, or the first child of h of a later type
-abbrev pub beside : List SegmentType → Links → ℕ → ℕ → ℕ
-beside types m h y = first_some (m.forward y) (child_among m h (later_than (m.code y) (child_types types (m.code h))))
 
 -- the path leads on down to the last row below the last of another
 abbrev pub IsExtended : List SegmentType → Links → List ℕ → List ℕ → Type 0

@@ -52,3 +52,7 @@ pub record IsGivenFrom {S : Type 0} (size : S → ℕ) (contents : S → List �
   pub sound : SoundFor (refused_by given.1) old.is_sound (is_sound given.0)
   pub none : given.1 ≢ Device → IsTrue old.is_sound → KeepsFirst old.size old.stored (contents given.0)
   pub size_kept : size given.0 ≡ old.size
+
+-- A store that comes back of a volume has the volume's soundness, its count of failures and its block size.
+abbrev pub IsStoreOf : {S : Type 0} → (S → ℕ) → (S → Bool) → (S → ℕ) → VolumeState → S → Type 0
+IsStoreOf size is_sound failures volume store = (is_sound store ≡ volume.is_sound) × (failures store ≡ volume.failures) × (size store ≡ volume.size)

@@ -84,3 +84,18 @@ abbrev pub IsRefusedAt : Database → List ℕ → ℕ → RecordFault → Type 
 IsRefusedAt d stream n fault =
     ((n ≡ 0) × (head_fault d stream ≡ Some fault))
     ⊎ ((rows : List Segment) × (rest : List ℕ) × Spells d stream rows rest × (n ≡ length rows + 1) × (record_fault d.types rows rest ≡ Some fault))
+
+-- ---- a record that is read
+
+-- A record's row is of its type's length, and the text begins with the record's bytes.
+abbrev pub IsRecordRead : List SegmentType → List ℕ → Segment → List ℕ → Type 0
+IsRecordRead types text row rest = (row_fits types row ≡ true) × (text ≡ record_bytes row ++ rest)
+
+-- Behind whatever rows, the fault of the record is that of loading its row.
+abbrev pub HasLoadFault : List SegmentType → List ℕ → Segment → Type 0
+HasLoadFault types text row =
+    (rows : List Segment) → record_fault types rows text ≡ option_map refusal_of (load_fault types (last_path types rows) row)
+
+-- the row of a stored segment
+abbrev pub stored_row : List SegmentType → List ℕ → Segment
+stored_row types segment = record { code = code_of segment; bytes = bytes_of types (code_of segment) segment }

@@ -10,7 +10,7 @@ ghost use Rattle.hd_volume.specs.Calls.{IsCall};
 ghost use Rattle.hd_links.specs.LastRows.{segments_of};
 ghost use Rattle.hd_volume.specs.Creates.{IsCreated};
 ghost use Rattle.hd_unload.specs.Loads.{IsReloaded};
-ghost use Rattle.hd_unload.specs.Refusals.{as_call, IsFaultOfRow, IsFaultOf, IsGivenFrom, IsGivenUp};
+ghost use Rattle.hd_unload.specs.Refusals.{as_call, IsFaultOfRow, IsFaultOf, IsGivenFrom, IsGivenUp, IsStoreOf};
 ghost use Rattle.hd_unload.specs.Steps.{row_of, IsLoadedTo, IsLoadedBehind, IsLoadedAll, ForItsStreams};
 ghost use Rattle.hd_unload.specs.Streams.{head_bytes};
 
@@ -130,7 +130,7 @@ fn fill<S: BlockStore>(
     requires sizes { (volume.size ≡ dbd.now.block_size) × (volume.sizes ≡ stored_sizes dbd.now.types) }
     requires new { IsTrue volume.is_sound → (largest : ℕ) × IsCreated dbd.now.name dbd.now.block_size largest volume }
     ensures reloaded { IfOk result (λ r. IsTrue volume.is_sound → ForItsStreams dbd.now records.now volume (λ stream largest. IsReloaded dbd.now stream largest r.segments r.blocks (S.contents r.store))) }
-    ensures store { IfOk result (λ r. (S.is_sound r.store ≡ volume.is_sound) × (S.failures r.store ≡ volume.failures) × (S.size r.store ≡ volume.size)) }
+    ensures store { IfOk result (λ r. IsStoreOf S.size S.is_sound S.failures volume r.store) }
     ensures fault { IfErr result (λ e. ForItsStreams dbd.now records.now volume (λ stream largest. IsFaultOf dbd.now stream largest volume.is_sound e.1)) }
     ensures given { IfErr result (λ e. IsGivenFrom S.size S.contents S.is_sound S.failures volume e) }
 {
@@ -148,7 +148,7 @@ fn finish<S: BlockStore>(
     requires header { IsTrue volume.is_sound → HasBlock volume.size volume.image 0 }
     ensures image { IfOk result (λ r. IsTrue volume.is_sound → (S.contents r.store ≡ volume.image) × (r.blocks ≡ (header_of volume.image).count)) }
     ensures segments { IfOk result (λ r. r.segments ≡ segments) }
-    ensures store { IfOk result (λ r. (S.is_sound r.store ≡ volume.is_sound) × (S.failures r.store ≡ volume.failures) × (S.size r.store ≡ volume.size)) }
+    ensures store { IfOk result (λ r. IsStoreOf S.size S.is_sound S.failures volume r.store) }
     ensures given { IfErr result (λ e. (e.1 ≡ ReloadFault.Device) × (volume.failures < S.failures e.0) × (S.is_sound e.0 ≡ false) × (S.size e.0 ≡ volume.size)) }
 {
     match volume.flush() {

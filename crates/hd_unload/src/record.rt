@@ -4,7 +4,7 @@ ghost use Rattle.hd_dbd.specs.Hierarchy.{type_of};
 ghost use Rattle.hd_dbd.specs.Segment.{Segment};
 ghost use Rattle.hd_dbd.specs.Rows.{row_fits};
 ghost use Rattle.hd_dbd.specs.Loads.{last_path, load_fault};
-ghost use Rattle.hd_unload.specs.Streams.{head_bytes, head_fault, record_bytes, end_bytes, end_fault, spelling_fault, record_fault, refusal_of};
+ghost use Rattle.hd_unload.specs.Streams.{head_bytes, head_fault, record_bytes, end_bytes, end_fault, spelling_fault, record_fault, refusal_of, IsRecordRead, HasLoadFault};
 
 use crate::fault::RecordFault;
 use hd_dbd::{Dbd, SegType, type_of};
@@ -66,8 +66,8 @@ pub fn next_record<'a>(
 ) -> Result<Option<Record<'a>>, RecordFault>
     ensures err { IfErr result (λ e. (rows : List Segment) → length rows ≡ count → record_fault types.now rows left.now ≡ Some e) }
     ensures end { IfOk result (λ o. IfNone o ((left.now ≡ end_bytes count) × (count < 2 ^ 32))) }
-    ensures some { IfOk result (λ o. IfSome o (λ r. (row_fits types.now (record { code = r.code; bytes = r.bytes.now }) ≡ true) × (left.now ≡ record_bytes (record { code = r.code; bytes = r.bytes.now }) ++ r.rest.now))) }
-    ensures fault { IfOk result (λ o. IfSome o (λ r. (rows : List Segment) → record_fault types.now rows left.now ≡ option_map refusal_of (load_fault types.now (last_path types.now rows) (record { code = r.code; bytes = r.bytes.now })))) }
+    ensures some { IfOk result (λ o. IfSome o (λ r. IsRecordRead types.now left.now (record { code = r.code; bytes = r.bytes.now }) r.rest.now)) }
+    ensures fault { IfOk result (λ o. IfSome o (λ r. HasLoadFault types.now left.now (record { code = r.code; bytes = r.bytes.now }))) }
 {
     let Some((code, rest)) = left.split_first() else {
         return Err(RecordFault::U2);

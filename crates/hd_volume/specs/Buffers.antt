@@ -61,3 +61,17 @@ pub record IsFetch {T : Type 0} (old : Buffered) (result : Result T Refused) (ne
   pub image : IsTrue new.is_sound → new.image ≡ old.image
   pub stands : IsTrue new.is_sound → old.stored ≡ old.image → new.stored ≡ new.image
   pub first : IsTrue new.is_sound → KeepsFirst old.size old.stored new.stored
+
+-- Where the store is sound and a block is in hand, that block changed so.
+abbrev pub ChangesHand : Buffered → (List ℕ → List ℕ → Type 0) → Buffered → Type 0
+ChangesHand old Changes new =
+    IsTrue old.is_sound → 0 < old.hand → Changes (block_of old.size old.image old.hand) (block_of old.size new.image old.hand)
+
+-- Where the store is sound and has a block 0, that block changed so.
+abbrev pub ChangesHead : Buffered → (List ℕ → List ℕ → Type 0) → Buffered → Type 0
+ChangesHead old Changes new =
+    IsTrue old.is_sound → HasBlock old.size old.image 0 → Changes (block_of old.size old.image 0) (block_of old.size new.image 0)
+
+-- The store's own block 0 stays, where the buffer that another block is brought to does not hold it.
+abbrev pub KeepsStoredHead : ℕ → List ℕ → Buffer → List ℕ → Type 0
+KeepsStoredHead size old b new = HasBlock size old 0 → (b.holds ≡ true → b.number ≢ 0) → block_of size new 0 ≡ block_of size old 0

@@ -1,8 +1,9 @@
 -- What a fuse over a store is, and what an access makes of it.
-use Rattle.std.specs.Prelude.{◌≡◌, ℕ, ◌+◌, ◌-◌, ◌^◌, Bool, true, false, not, ◌&&◌, ◌||◌, ◌==◌, cond, min, Result, Err}
+use Rattle.std.specs.Prelude.{◌≡◌, ℕ, ◌+◌, ◌-◌, ◌^◌, Bool, true, false, not, ◌&&◌, ◌||◌, ◌==◌, cond, min, Result, Err, IsTrue, List}
 use Rattle.hd_dbd.specs.declared.answer.Refused.{Refused}
 use Rattle.hd_dbd.specs.declared.answer.Refused.TheVariants.{Device}
 use Rattle.hd_volume.specs.Stores.{CountsDevice, StaysSound}
+use Rattle.hd_bytes.specs.Blocks.{HasBlock, block_of, with_block}
 
 -- the store below, the accesses still to pass, whether one has failed, and the accesses so far
 pub record Fused (S : Type 0) : Type 0 where
@@ -37,3 +38,11 @@ pub record Burns {S : Type 0} (failures : S → ℕ) (is_sound : S → Bool) (ol
   pub spares : fails_next old ≡ true → new.inner ≡ old.inner
   pub counts : fails_next old ≡ false → CountsDevice result (failures old.inner) (failures new.inner)
   pub sound : fails_next old ≡ false → StaysSound result (is_sound old.inner) (is_sound new.inner)
+
+-- a sound store's block n was read
+abbrev pub ReadsBlock : Bool → ℕ → List ℕ → ℕ → List ℕ → Type 0
+ReadsBlock is_sound size contents n bytes = IsTrue is_sound → HasBlock size contents n → bytes ≡ block_of size contents n
+
+-- bytes were written as a sound store's block n
+abbrev pub WritesBlock : Bool → ℕ → List ℕ → ℕ → List ℕ → List ℕ → Type 0
+WritesBlock is_sound size old n bytes new = IsTrue is_sound → HasBlock size old n → new ≡ with_block size old n bytes

@@ -66,3 +66,26 @@ pub record IsSeen (sizes : ℕ → ℕ) (size : ℕ) (image : List ℕ) (need : 
   pub below : block < blocks_in size image
   pub is_data : kind_of (block_of size image block) ≡ 1
   pub large : need ≤ largest_hole (parts_in sizes (block_of size image block))
+
+-- block n is for data, and has a hole of at least so many bytes
+abbrev pub HasHoleIn : (ℕ → ℕ) → ℕ → List ℕ → ℕ → ℕ → Type 0
+HasHoleIn sizes size image need n = (kind_of (block_of size image n) ≡ 1) × (need ≤ largest_hole (parts_in sizes (block_of size image n)))
+
+-- block n is looked at, and is such a block
+abbrev pub IsSeenAt : (ℕ → ℕ) → ℕ → List ℕ → ℕ → ℕ → Type 0
+IsSeenAt sizes size image need n =
+    (0 < n) × (n < blocks_in size image) × (kind_of (block_of size image n) ≡ 1) × (need ≤ largest_hole (parts_in sizes (block_of size image n)))
+
+-- no data block that is looked at has a hole of so many bytes
+abbrev pub NoneIsSeen : (ℕ → ℕ) → ℕ → List ℕ → ℕ → Type 0
+NoneIsSeen sizes size image need =
+    (n : ℕ) → 0 < n → n < blocks_in size image → kind_of (block_of size image n) ≡ 1 → largest_hole (parts_in sizes (block_of size image n)) < need
+
+-- no block from the lowest that may be free to before a number is kept as free
+abbrev pub NoneIsFreeBelow : Space → ℕ → Type 0
+NoneIsFreeBelow space end = (m : ℕ) → 0 < m → space.lowest_free ≤ m → m < end → (content_at space m).kind ≡ 3 → ⊥
+
+-- the block of a number is kept as free, none before it is, and it is now the lowest that may be
+abbrev pub IsLowestFree : Space → ℕ → Space → Type 0
+IsLowestFree old n new =
+    (n < vec_len old.contents) × ((content_at old n).kind ≡ 3) × (new.lowest_free ≡ n) × NoneIsFreeBelow old n

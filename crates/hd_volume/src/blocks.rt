@@ -6,7 +6,7 @@ ghost use Rattle.byteorder.specs.Endian.{big_bytes};
 ghost use Rattle.hd_volume.specs.Edits.{IsTaken, IsGiven};
 ghost use Rattle.hd_volume.specs.Stores.{CountsDevice, StaysSound, RefusesGrowth, IsGivenBack};
 ghost use Rattle.hd_volume.specs.Images.{ChangesBlock, KeepsFirst};
-ghost use Rattle.hd_volume.specs.Buffers.{AreBuffers, image_of};
+ghost use Rattle.hd_volume.specs.Buffers.{AreBuffers, image_of, ChangesHand, ChangesHead};
 
 use crate::buffer::{Buffer, bring, write_back};
 use crate::store::BlockStore;
@@ -99,7 +99,7 @@ impl<S: BlockStore> Blocks<S> {
         requires { place + 4 ≤ self.old.size }
         ensures rest { self.new ≡ record self.old { image = self.new.image } }
         ensures others { IsTrue self.old.is_sound → HasBlock self.old.size self.old.image 0 → ChangesBlock self.old.size 0 self.old.image self.new.image }
-        ensures block { IsTrue self.old.is_sound → HasBlock self.old.size self.old.image 0 → block_of self.old.size self.new.image 0 ≡ with_bytes (block_of self.old.size self.old.image 0) place (big_bytes 4 number) }
+        ensures block { ChangesHead self.old (λ old new. new ≡ with_bytes old place (big_bytes 4 number)) self.new }
     {
         write_u32(&mut self.head.bytes, place, number);
         self.head.changed = true;
@@ -110,7 +110,7 @@ impl<S: BlockStore> Blocks<S> {
         requires { length bytes.now ≤ self.old.size }
         ensures rest { self.new ≡ record self.old { image = self.new.image } }
         ensures others { IsTrue self.old.is_sound → HasBlock self.old.size self.old.image 0 → ChangesBlock self.old.size 0 self.old.image self.new.image }
-        ensures block { IsTrue self.old.is_sound → HasBlock self.old.size self.old.image 0 → block_of self.old.size self.new.image 0 ≡ with_bytes (block_of self.old.size self.old.image 0) 0 bytes.now }
+        ensures block { ChangesHead self.old (λ old new. new ≡ with_bytes old 0 bytes.now) self.new }
     {
         write_bytes(&mut self.head.bytes, 0, bytes);
         self.head.changed = true;
@@ -147,7 +147,7 @@ impl<S: BlockStore> Blocks<S> {
         requires { at + length bytes.now ≤ self.old.size }
         ensures rest { self.new ≡ record self.old { image = self.new.image } }
         ensures others { IsTrue self.old.is_sound → 0 < self.old.hand → ChangesBlock self.old.size self.old.hand self.old.image self.new.image }
-        ensures block { IsTrue self.old.is_sound → 0 < self.old.hand → block_of self.old.size self.new.image self.old.hand ≡ with_bytes (block_of self.old.size self.old.image self.old.hand) at bytes.now }
+        ensures block { ChangesHand self.old (λ old new. new ≡ with_bytes old at bytes.now) self.new }
     {
         write_bytes(&mut self.hand.bytes, at, bytes);
         self.hand.changed = true;
@@ -159,7 +159,7 @@ impl<S: BlockStore> Blocks<S> {
         requires size { (0 < size) × (size % 8 ≡ 0) }
         ensures rest { self.new ≡ record self.old { image = self.new.image } }
         ensures others { IsTrue self.old.is_sound → 0 < self.old.hand → ChangesBlock self.old.size self.old.hand self.old.image self.new.image }
-        ensures block { IsTrue self.old.is_sound → 0 < self.old.hand → IsTaken (slice_index sizes.now) size (block_of self.old.size self.old.image self.old.hand) result (block_of self.old.size self.new.image self.old.hand) }
+        ensures block { ChangesHand self.old (λ old new. IsTaken (slice_index sizes.now) size old result new) self.new }
         ensures fits { IfSome result (λ p. (8 ≤ p) × (p + size ≤ self.old.size)) }
     {
         self.hand.changed = true;
@@ -173,7 +173,7 @@ impl<S: BlockStore> Blocks<S> {
         requires within { offset + size ≤ self.old.size }
         ensures rest { self.new ≡ record self.old { image = self.new.image } }
         ensures others { IsTrue self.old.is_sound → 0 < self.old.hand → ChangesBlock self.old.size self.old.hand self.old.image self.new.image }
-        ensures block { IsTrue self.old.is_sound → 0 < self.old.hand → IsGiven (slice_index sizes.now) offset size (block_of self.old.size self.old.image self.old.hand) (block_of self.old.size self.new.image self.old.hand) }
+        ensures block { ChangesHand self.old (λ old new. IsGiven (slice_index sizes.now) offset size old new) self.new }
     {
         self.hand.changed = true;
         give_to(&mut self.hand.bytes, sizes, offset, size);
@@ -262,7 +262,7 @@ fn write_first<S: BlockStore>(
     requires number { head.old.number ≡ 0 }
     requires others_stand { IsTrue (S.is_sound store.old) → hand.now.holds ≡ true → hand.now.changed ≡ false }
     ensures contents { OnOk result (IsTrue (S.is_sound store.old) → S.contents store.new ≡ image_of (S.size store.old) (S.contents store.old) head.old hand.now) }
-    ensures image { OnOk result (IsTrue (S.is_sound store.old) → image_of (S.size store.old) (S.contents store.new) head.new hand.now ≡ image_of (S.size store.old) (S.contents store.old) head.old hand.now) }
+    ensures image { let n = S.size store.old in OnOk result (IsTrue (S.is_sound store.old) → image_of n (S.contents store.new) head.new hand.now ≡ image_of n (S.contents store.old) head.old hand.now) }
     ensures ready { OnOk result (IsTrue (S.is_sound store.old) → AreBuffers (S.size store.old) (S.contents store.new) head.new hand.now) }
     ensures len { vec_len head.new.bytes ≡ S.size store.old }
     ensures number { head.new.number ≡ 0 }

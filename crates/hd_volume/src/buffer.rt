@@ -2,7 +2,7 @@ ghost use Rattle.std.specs.Prelude.{◌≡◌, ◌≢◌, true, false, vec_len, 
 ghost use Rattle.hd_dbd.specs.Refusals.{OnlyDevice};
 ghost use Rattle.hd_bytes.specs.Blocks.{block_of, HasBlock};
 ghost use Rattle.hd_volume.specs.Stores.{CountsDevice, StaysSound};
-ghost use Rattle.hd_volume.specs.Buffers.{put_in, IsBuffer};
+ghost use Rattle.hd_volume.specs.Buffers.{put_in, IsBuffer, KeepsStoredHead};
 
 use crate::store::BlockStore;
 use hd_dbd::Refused;
@@ -46,7 +46,7 @@ pub fn bring<S: BlockStore>(store: &mut S, buffer: &mut Buffer, n: u32) -> Resul
     requires there { IsTrue (S.is_sound store.old) → HasBlock (S.size store.old) (S.contents store.old) n }
     ensures contents { OnOk result (IsTrue (S.is_sound store.old) → put_in (S.size store.old) (S.contents store.new) buffer.new ≡ put_in (S.size store.old) (S.contents store.old) buffer.old) }
     ensures length { OnOk result (IsTrue (S.is_sound store.old) → length (S.contents store.new) ≡ length (S.contents store.old)) }
-    ensures first { OnOk result (IsTrue (S.is_sound store.old) → HasBlock (S.size store.old) (S.contents store.old) 0 → (buffer.old.holds ≡ true → buffer.old.number ≢ 0) → block_of (S.size store.old) (S.contents store.new) 0 ≡ block_of (S.size store.old) (S.contents store.old) 0) }
+    ensures first { OnOk result (IsTrue (S.is_sound store.old) → KeepsStoredHead (S.size store.old) (S.contents store.old) buffer.old (S.contents store.new)) }
     ensures stands { OnOk result (IsTrue (S.is_sound store.old) → put_in (S.size store.old) (S.contents store.old) buffer.old ≡ S.contents store.old → S.contents store.new ≡ S.contents store.old) }
     ensures ready { OnOk result (IsTrue (S.is_sound store.old) → IsBuffer (S.size store.old) (S.contents store.new) buffer.new) }
     ensures holds { OnOk result ((buffer.new.holds ≡ true) × (buffer.new.number ≡ n)) }

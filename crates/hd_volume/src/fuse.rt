@@ -1,7 +1,7 @@
 ghost use Rattle.std.specs.Prelude.{◌<◌, ◌≡◌, ◌+◌, ◌-◌, ◌≤◌, ◌&&◌, not, true, false, length, Err, IfErr, OnOk, IsTrue};
 ghost use Rattle.hd_dbd.specs.Refusals.{OnlyDevice, OnlyMemory};
 ghost use Rattle.hd_bytes.specs.Blocks.{block_of, with_block, grown, HasBlock};
-ghost use Rattle.hd_volume.specs.Fuses.{fails_next, failed, after_access, Burns};
+ghost use Rattle.hd_volume.specs.Fuses.{fails_next, failed, after_access, Burns, ReadsBlock, WritesBlock};
 ghost use Rattle.hd_volume.specs.Stores.{CountsDevice, StaysSound, RefusesGrowth};
 
 use crate::store::BlockStore;
@@ -115,7 +115,7 @@ impl<S: BlockStore> BlockStore for FuseStore<S> {
         ensures burns { Burns S.failures S.is_sound self.old result self.new }
         ensures counts { CountsDevice result (S.failures self.old.inner + failed self.old) (S.failures self.new.inner + failed self.new) }
         ensures sound { StaysSound result (S.is_sound self.old.inner && not self.old.is_blown) (S.is_sound self.new.inner && not self.new.is_blown) }
-        ensures value { OnOk result (IsTrue (S.is_sound self.old.inner) → HasBlock (S.size self.old.inner) (S.contents self.old.inner) n → buf.new ≡ block_of (S.size self.old.inner) (S.contents self.old.inner) n) }
+        ensures value { OnOk result (ReadsBlock (S.is_sound self.old.inner) (S.size self.old.inner) (S.contents self.old.inner) n buf.new) }
         ensures kept { OnOk result (IsTrue (S.is_sound self.old.inner) → S.contents self.new.inner ≡ S.contents self.old.inner) }
         ensures len { length buf.new ≡ length buf.old }
         ensures refusal { OnlyDevice result }
@@ -136,7 +136,7 @@ impl<S: BlockStore> BlockStore for FuseStore<S> {
         ensures counts { CountsDevice result (S.failures self.old.inner + failed self.old) (S.failures self.new.inner + failed self.new) }
         ensures sound { StaysSound result (S.is_sound self.old.inner && not self.old.is_blown) (S.is_sound self.new.inner && not self.new.is_blown) }
         ensures beyond { OnOk result (IsTrue (S.is_sound self.old.inner) → (HasBlock (S.size self.old.inner) (S.contents self.old.inner) n → ⊥) → self.new.inner ≡ self.old.inner) }
-        ensures value { OnOk result (IsTrue (S.is_sound self.old.inner) → HasBlock (S.size self.old.inner) (S.contents self.old.inner) n → S.contents self.new.inner ≡ with_block (S.size self.old.inner) (S.contents self.old.inner) n bytes.now) }
+        ensures value { OnOk result (WritesBlock (S.is_sound self.old.inner) (S.size self.old.inner) (S.contents self.old.inner) n bytes.now (S.contents self.new.inner)) }
         ensures len { OnOk result (IsTrue (S.is_sound self.old.inner) → length (S.contents self.new.inner) ≡ length (S.contents self.old.inner)) }
         ensures refusal { OnlyDevice result }
         ensures size { S.size self.new.inner ≡ S.size self.old.inner }

@@ -6,7 +6,7 @@ ghost use Rattle.hd_block.specs.Walk.{parts_in};
 ghost use Rattle.hd_volume.specs.Buffers.{IsFetch};
 ghost use Rattle.hd_volume.specs.Volumes.{kind_of};
 ghost use Rattle.hd_volume.specs.Rooms.{largest_hole};
-ghost use Rattle.hd_volume.specs.Spaces.{IsSpaceOf, IsSeen, blocks_in, content_at, KeepsTables};
+ghost use Rattle.hd_volume.specs.Spaces.{IsSpaceOf, IsSeen, blocks_in, content_at, KeepsTables, IsSeenAt, NoneIsSeen, HasHoleIn, IsLowestFree, NoneIsFreeBelow};
 
 use crate::blocks::Blocks;
 use crate::space::{Content, DATA, FREE, Space, largest_hole, set_content, size_of};
@@ -27,8 +27,8 @@ pub fn seek_hole<S: BlockStore>(
     ensures fetch { IsFetch blocks.old result blocks.new }
     ensures space { IsTrue blocks.new.is_sound → IsSpaceOf blocks.old.size sizes.now blocks.old.image space.new }
     ensures tables { KeepsTables space.old space.new }
-    ensures found { IfOk result (λ o. IsTrue blocks.old.is_sound → IfSome o (λ n. (0 < n) × (n < blocks_in blocks.old.size blocks.old.image) × (kind_of (block_of blocks.old.size blocks.old.image n) ≡ 1) × (slice_index sizes.now code ≤ largest_hole (parts_in (slice_index sizes.now) (block_of blocks.old.size blocks.old.image n))))) }
-    ensures none { IfOk result (λ o. IsTrue blocks.old.is_sound → IfNone o ((n : ℕ) → 0 < n → n < blocks_in blocks.old.size blocks.old.image → kind_of (block_of blocks.old.size blocks.old.image n) ≡ 1 → largest_hole (parts_in (slice_index sizes.now) (block_of blocks.old.size blocks.old.image n)) < slice_index sizes.now code)) }
+    ensures found { IfOk result (λ o. IsTrue blocks.old.is_sound → IfSome o (λ n. IsSeenAt (slice_index sizes.now) blocks.old.size blocks.old.image (slice_index sizes.now code) n)) }
+    ensures none { IfOk result (λ o. IsTrue blocks.old.is_sound → IfNone o (NoneIsSeen (slice_index sizes.now) blocks.old.size blocks.old.image (slice_index sizes.now code))) }
     ensures small { IfOk result (λ o. IfSome o (λ n. n < 65536)) }
     ensures refusal { OnlyDevice result }
 {
@@ -61,7 +61,7 @@ fn try_block<S: BlockStore>(
     ensures tables { KeepsTables space.old space.new }
     ensures lowest { space.new.lowest ≡ space.old.lowest }
     ensures others { (m : ℕ) → (m ≡ n → ⊥) → content_at space.new m ≡ content_at space.old m }
-    ensures found { IfOk result (λ f. IsTrue blocks.old.is_sound → f ≡ true → (kind_of (block_of blocks.old.size blocks.old.image n) ≡ 1) × (size ≤ largest_hole (parts_in (slice_index sizes.now) (block_of blocks.old.size blocks.old.image n)))) }
+    ensures found { IfOk result (λ f. IsTrue blocks.old.is_sound → f ≡ true → HasHoleIn (slice_index sizes.now) blocks.old.size blocks.old.image size n) }
     ensures passed { IfOk result (λ f. IsTrue blocks.old.is_sound → f ≡ false → (content_at space.new n).kind ≡ 1 → (content_at space.new n).hole < size) }
     ensures refusal { OnlyDevice result }
 {
@@ -100,8 +100,8 @@ pub fn seek_free(space: &mut Space) -> u32
     ensures contents { space.new.contents ≡ space.old.contents }
     ensures lowest { space.new.lowest ≡ space.old.lowest }
     ensures free { space.new.free ≡ space.old.free }
-    ensures found { 0 < result → (result < vec_len space.old.contents) × ((content_at space.old result).kind ≡ 3) × (space.new.lowest_free ≡ result) × ((m : ℕ) → 0 < m → space.old.lowest_free ≤ m → m < result → (content_at space.old m).kind ≡ 3 → ⊥) }
-    ensures none { result ≡ 0 → (space.new.lowest_free ≡ space.old.lowest_free) × ((m : ℕ) → 0 < m → space.old.lowest_free ≤ m → m < vec_len space.old.contents → (content_at space.old m).kind ≡ 3 → ⊥) }
+    ensures found { 0 < result → IsLowestFree space.old result space.new }
+    ensures none { result ≡ 0 → (space.new.lowest_free ≡ space.old.lowest_free) × NoneIsFreeBelow space.old (vec_len space.old.contents) }
 {
     let count = space.contents.len() as u32;
     for n in space.lowest_free.max(1)..count {
@@ -127,7 +127,7 @@ pub fn seek_size<S: BlockStore>(
     ensures space { IsTrue blocks.new.is_sound → IsSpaceOf blocks.old.size sizes.now blocks.old.image space.new }
     ensures tables { KeepsTables space.old space.new }
     ensures found { IfOk result (λ f. IsTrue blocks.old.is_sound → f ≡ true → IsSeen (slice_index sizes.now) blocks.old.size blocks.old.image size) }
-    ensures none { IfOk result (λ f. IsTrue blocks.old.is_sound → f ≡ false → (n : ℕ) → 0 < n → n < blocks_in blocks.old.size blocks.old.image → kind_of (block_of blocks.old.size blocks.old.image n) ≡ 1 → largest_hole (parts_in (slice_index sizes.now) (block_of blocks.old.size blocks.old.image n)) < size) }
+    ensures none { IfOk result (λ f. IsTrue blocks.old.is_sound → f ≡ false → NoneIsSeen (slice_index sizes.now) blocks.old.size blocks.old.image size) }
     ensures refusal { OnlyDevice result }
 {
     let count = space.contents.len() as u32;
