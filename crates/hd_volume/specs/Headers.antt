@@ -3,6 +3,7 @@ use Rattle.std.specs.Prelude.{◌≡◌, ℕ, ◌*◌, ◌≤◌, List, length, 
 use Rattle.hd_bytes.specs.Numbers.{number_at}
 use Rattle.hd_bytes.specs.Ranges.{bytes_at}
 use Rattle.hd_bytes.specs.Blocks.{HasBlock}
+use Rattle.hd_volume.specs.declared.load.TheConstants.{MOST_BLOCKS}
 
 -- What the header says. Blocks and addresses are numbers of 0 for none.
 pub record Header : Type 0 where
@@ -39,7 +40,7 @@ pub record HasHeader (size : ℕ) (image : List ℕ) : Type 0 where
   pub mark : (header_of image).mark ≡ codes "HDVOLUME"
   pub whole : length image ≡ (header_of image).count * size
   pub within : (header_of image).count ≤ (header_of image).largest
-  pub bound : (header_of image).largest ≤ 65536
+  pub bound : (header_of image).largest ≤ MOST_BLOCKS
 
 -- The header is of this version, and of the database of this name and block size.
 pub record IsOf (version : ℕ) (name : List ℕ) (size : ℕ) (header : Header) : Type 0 where

@@ -8,6 +8,7 @@ use Rattle.hd_bytes.specs.Blocks.{block_of}
 use Rattle.hd_volume.specs.Buffers.{Buffered}
 use Rattle.hd_volume.specs.Volumes.{VolumeState, kind_of}
 use Rattle.hd_volume.specs.Rooms.{free_below, largest_hole}
+use Rattle.hd_volume.specs.declared.load.TheConstants.{MOST_BLOCKS}
 
 -- the volume that blocks and stored sizes are, with room for so many growths
 abbrev pub volume_of : Buffered → List ℕ → ℕ → VolumeState
@@ -19,7 +20,7 @@ room_for store_room len capacity = min store_room (capacity - len)
 
 -- how many blocks of an image are looked at: the whole ones, at most 65,536
 abbrev pub blocks_in : ℕ → List ℕ → ℕ
-blocks_in size image = min (length image / size) 65536
+blocks_in size image = min (length image / size) MOST_BLOCKS
 
 -- what is kept of block n
 abbrev pub content_at : Space → ℕ → Content
@@ -50,7 +51,7 @@ pub record IsKeptVolume (size : ℕ) (sizes image : List ℕ) (is_sound : Bool) 
   pub most : size ≤ 32768
   pub eighths : size % 8 ≡ 0
   pub fits : AreSizes size sizes
-  pub small : vec_len space.contents ≤ 65536
+  pub small : vec_len space.contents ≤ MOST_BLOCKS
   pub true_of : IsTrue is_sound → IsSpaceOf size sizes image space
 
 -- the tables keep their lengths and capacities, and the number of free blocks stays

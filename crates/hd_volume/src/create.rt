@@ -1,6 +1,7 @@
 ghost use Rattle.std.specs.Prelude.{◌≡◌, ◌≤◌, ◌<◌, ◌*◌, [], length, replicate, IsTrue, IfOk, IfErr};
 ghost use Rattle.hd_dbd.specs.Facts.{stored_sizes};
 ghost use Rattle.hd_volume.specs.Creates.{IsCreated, IsGivenNew, head_list};
+ghost use Rattle.hd_volume.specs.declared.load.TheConstants.{MOST_BLOCKS};
 
 use crate::store::BlockStore;
 use crate::volume::Volume;
@@ -18,7 +19,7 @@ impl<S: BlockStore> Volume<S> {
     ) -> Result<Volume<S>, (S, Refused)>
         requires size { S.size store ≡ dbd.now.block_size }
         requires empty { IsTrue (S.is_sound store) → S.contents store ≡ [] }
-        requires bounds { (0 < largest) × (largest ≤ 65536) }
+        requires bounds { (0 < largest) × (largest ≤ MOST_BLOCKS) }
         ensures created { IfOk result (λ v. IsTrue (S.is_sound store) → IsCreated dbd.now.name dbd.now.block_size largest v) }
         ensures store { IfOk result (λ v. (v.is_sound ≡ S.is_sound store) × (v.failures ≡ S.failures store) × (v.size ≡ S.size store) × (v.sizes ≡ stored_sizes dbd.now.types)) }
         ensures refusal { IfErr result (λ e. IsGivenNew S.size S.contents S.is_sound S.failures store e) }
@@ -39,7 +40,7 @@ impl<S: BlockStore> Volume<S> {
     fn format(&mut self, name: &[u8; 8], largest: u32)
         requires one { IsTrue self.old.is_sound → length self.old.image ≡ self.old.size }
         requires stored { IsTrue self.old.is_sound → self.old.stored ≡ replicate (1 * self.old.size) 0 }
-        requires bounds { (0 < largest) × (largest ≤ 65536) }
+        requires bounds { (0 < largest) × (largest ≤ MOST_BLOCKS) }
         requires eight { length name.now ≡ 8 }
         ensures rest { self.new ≡ record self.old { image = self.new.image } }
         ensures created { IsTrue self.old.is_sound → IsCreated name.now self.old.size largest self.new }
@@ -51,7 +52,7 @@ impl<S: BlockStore> Volume<S> {
 
 /// The first bytes of a new volume.
 fn head_bytes(n: &[u8; 8], size: u16, largest: u32) -> [u8; 44]
-    requires { largest ≤ 65536 }
+    requires { largest ≤ MOST_BLOCKS }
     ensures { result ≡ head_list n.now size largest }
 {
     let [a, b, c, d] = [

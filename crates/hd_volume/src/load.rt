@@ -6,6 +6,7 @@ ghost use Rattle.hd_dbd.specs.Refusals.{OnlyDevice, OnlyDeviceOrMemory, OnlyMemo
 ghost use Rattle.hd_volume.specs.Stores.{CountsDevice, StaysSound};
 ghost use Rattle.hd_volume.specs.Rooms.{one_if};
 ghost use Rattle.hd_volume.specs.Spaces.{IsSpaceOf, IsContent, AreSizes};
+ghost use Rattle.hd_volume.specs.declared.load.TheConstants.{MOST_BLOCKS};
 
 use crate::blocks::Blocks;
 use crate::space::{Content, FREE, Space, content_of};
@@ -40,7 +41,7 @@ pub fn survey<S: BlockStore>(
     requires least { 8 ≤ blocks.old.size }
     requires stands { IsTrue blocks.old.is_sound → blocks.old.stored ≡ blocks.old.image }
     ensures space { IfOk result (λ space. IsTrue blocks.old.is_sound → IsSpaceOf blocks.old.size sizes.now blocks.old.image space) }
-    ensures small { IfOk result (λ space. vec_len space.contents ≤ 65536) }
+    ensures small { IfOk result (λ space. vec_len space.contents ≤ MOST_BLOCKS) }
     ensures image { IsTrue blocks.new.is_sound → (blocks.new.image ≡ blocks.old.image) × (blocks.new.stored ≡ blocks.old.stored) }
     ensures refusal { OnlyDeviceOrMemory result }
     ensures counts { CountsDevice result blocks.old.failures blocks.new.failures }

@@ -5,6 +5,7 @@ ghost use Rattle.hd_volume.specs.Volumes.{IsFormatted, IsKind};
 ghost use Rattle.hd_volume.specs.Rooms.{spare, HasHole, HasFreeBlock};
 ghost use Rattle.hd_volume.specs.Calls.{IsCall, IsRead, IsPut};
 ghost use Rattle.hd_volume.specs.Steps.{HasRoom, IsPutIn, HasFree, IsMade, IsReady, data_head};
+ghost use Rattle.hd_volume.specs.declared.load.TheConstants.{MOST_BLOCKS};
 
 use crate::load::MOST_BLOCKS;
 use crate::seek::{seek_free, seek_hole, seek_size};
@@ -19,7 +20,7 @@ impl<S: BlockStore> Volume<S> {
         requires formatted { IsTrue self.old.is_sound → IsFormatted self.old }
         requires whole { (0 < length bytes.now) × (slice_index self.old.sizes (slice_index bytes.now 0) ≡ length bytes.now) }
         requires has_room { IsTrue self.old.is_sound → HasRoom self.old n (length bytes.now) }
-        requires small { n < 65536 }
+        requires small { n < MOST_BLOCKS }
         ensures call { IsCall self.old result self.new }
         ensures placed { IfOk result (λ address. IsTrue self.old.is_sound → IsPutIn self.old n address bytes.now self.new) }
         ensures refusal { OnlyDevice result }
@@ -42,7 +43,7 @@ impl<S: BlockStore> Volume<S> {
         ensures read { IsRead self.old result self.new }
         ensures found { IfOk result (λ o. IsTrue self.old.is_sound → IfSome o (λ n. HasRoom self.old n (slice_index self.old.sizes code))) }
         ensures none { IfOk result (λ o. IsTrue self.old.is_sound → IfNone o (HasHole self.old (slice_index self.old.sizes code) → ⊥)) }
-        ensures small { IfOk result (λ o. IfSome o (λ n. n < 65536)) }
+        ensures small { IfOk result (λ o. IfSome o (λ n. n < MOST_BLOCKS)) }
         ensures fits { (c : ℕ) → slice_index self.old.sizes c + 8 ≤ self.old.size }
         ensures refusal { OnlyDevice result }
     {
@@ -73,7 +74,7 @@ impl<S: BlockStore> Volume<S> {
         requires formatted { IsTrue self.old.is_sound → IsFormatted self.old }
         ensures call { IsCall self.old result self.new }
         ensures free { IfOk result (λ n. IsTrue self.old.is_sound → HasFree self.old n self.new) }
-        ensures small { IfOk result (λ n. n < 65536) }
+        ensures small { IfOk result (λ n. n < MOST_BLOCKS) }
         ensures kept { IfErr result (λ _. IsTrue self.new.is_sound → self.new.image ≡ self.old.image) }
         ensures full { IfErr result (λ e. e ≡ Refused.Full → IsTrue self.old.is_sound → (header_of self.old.image).largest ≤ (header_of self.old.image).count) }
         ensures memory { IfErr result (λ e. e ≡ Refused.Memory → self.old.room ≡ 0) }
@@ -121,7 +122,7 @@ impl<S: BlockStore> Volume<S> {
         ensures same { self.new ≡ self.old }
         ensures found { IfSome result (λ n. IsTrue self.old.is_sound → IsKind self.old 3 n) }
         ensures none { IfNone result (IsTrue self.old.is_sound → (m : ℕ) → IsKind self.old 3 m → ⊥) }
-        ensures small { IfSome result (λ n. n < 65536) }
+        ensures small { IfSome result (λ n. n < MOST_BLOCKS) }
         ensures some { 0 < self.old.size }
     {
         if self.space.free == 0 {
@@ -136,7 +137,7 @@ impl<S: BlockStore> Volume<S> {
         requires formatted { IsTrue self.old.is_sound → IsFormatted self.old }
         ensures call { IsCall self.old result self.new }
         ensures free { IfOk result (λ n. IsTrue self.old.is_sound → HasFree self.old n self.new) }
-        ensures small { IfOk result (λ n. n < 65536) }
+        ensures small { IfOk result (λ n. n < MOST_BLOCKS) }
         ensures kept { IfErr result (λ _. IsTrue self.new.is_sound → self.new.image ≡ self.old.image) }
         ensures full { IfErr result (λ e. e ≡ Refused.Full → IsTrue self.old.is_sound → spare self.old ≡ 0) }
         ensures memory { IfErr result (λ e. e ≡ Refused.Memory → self.old.room ≡ 0) }
@@ -155,7 +156,7 @@ impl<S: BlockStore> Volume<S> {
         requires formatted { IsTrue self.old.is_sound → IsFormatted self.old }
         ensures call { IsCall self.old result self.new }
         ensures ready { IfOk result (λ n. IsTrue self.old.is_sound → (need : ℕ) → need + 8 ≤ self.old.size → (HasHole self.old need → ⊥) → IsReady self.old n need self.new) }
-        ensures small { IfOk result (λ n. n < 65536) }
+        ensures small { IfOk result (λ n. n < MOST_BLOCKS) }
         ensures kept { IfErr result (λ _. IsTrue self.new.is_sound → self.new.image ≡ self.old.image) }
         ensures full { IfErr result (λ e. e ≡ Refused.Full → IsTrue self.old.is_sound → spare self.old ≡ 0) }
         ensures memory { IfErr result (λ e. e ≡ Refused.Memory → self.old.room ≡ 0) }
@@ -173,7 +174,7 @@ impl<S: BlockStore> Volume<S> {
         requires formatted { IsTrue self.old.is_sound → IsFormatted self.old }
         ensures call { IsCall self.old result self.new }
         ensures ready { IfOk result (λ n. IsTrue self.old.is_sound → IsReady self.old n (slice_index self.old.sizes code) self.new) }
-        ensures small { IfOk result (λ n. n < 65536) }
+        ensures small { IfOk result (λ n. n < MOST_BLOCKS) }
         ensures kept { IfErr result (λ _. IsTrue self.new.is_sound → self.new.image ≡ self.old.image) }
         ensures full { IfErr result (λ e. e ≡ Refused.Full → IsTrue self.old.is_sound → (spare self.old ≡ 0) × (HasHole self.old (slice_index self.old.sizes code) → ⊥)) }
         ensures memory { IfErr result (λ e. e ≡ Refused.Memory → self.old.room ≡ 0) }

@@ -7,6 +7,7 @@ ghost use Rattle.hd_volume.specs.Buffers.{IsFetch};
 ghost use Rattle.hd_volume.specs.Volumes.{kind_of};
 ghost use Rattle.hd_volume.specs.Rooms.{largest_hole};
 ghost use Rattle.hd_volume.specs.Spaces.{IsSpaceOf, IsSeen, blocks_in, content_at, KeepsTables, IsSeenAt, NoneIsSeen, HasHoleIn, IsLowestFree, NoneIsFreeBelow};
+ghost use Rattle.hd_volume.specs.declared.load.TheConstants.{MOST_BLOCKS};
 
 use crate::blocks::Blocks;
 use crate::space::{Content, DATA, FREE, Space, largest_hole, set_content, size_of};
@@ -22,14 +23,14 @@ pub fn seek_hole<S: BlockStore>(
     code: u8,
 ) -> Result<Option<u32>, Refused>
     requires least { 8 ≤ blocks.old.size }
-    requires few { vec_len space.old.contents ≤ 65536 }
+    requires few { vec_len space.old.contents ≤ MOST_BLOCKS }
     requires space_is { IsTrue blocks.old.is_sound → IsSpaceOf blocks.old.size sizes.now blocks.old.image space.old }
     ensures fetch { IsFetch blocks.old result blocks.new }
     ensures space { IsTrue blocks.new.is_sound → IsSpaceOf blocks.old.size sizes.now blocks.old.image space.new }
     ensures tables { KeepsTables space.old space.new }
     ensures found { IfOk result (λ o. IsTrue blocks.old.is_sound → IfSome o (λ n. IsSeenAt (slice_index sizes.now) blocks.old.size blocks.old.image (slice_index sizes.now code) n)) }
     ensures none { IfOk result (λ o. IsTrue blocks.old.is_sound → IfNone o (NoneIsSeen (slice_index sizes.now) blocks.old.size blocks.old.image (slice_index sizes.now code))) }
-    ensures small { IfOk result (λ o. IfSome o (λ n. n < 65536)) }
+    ensures small { IfOk result (λ o. IfSome o (λ n. n < MOST_BLOCKS)) }
     ensures refusal { OnlyDevice result }
 {
     let size = size_of(sizes, code);
@@ -96,7 +97,7 @@ fn set_lowest(lowest: &mut Vec<u32>, code: u8, n: u32)
 
 /// The lowest free block; 0 where there is none.
 pub fn seek_free(space: &mut Space) -> u32
-    requires { vec_len space.old.contents ≤ 65536 }
+    requires { vec_len space.old.contents ≤ MOST_BLOCKS }
     ensures contents { space.new.contents ≡ space.old.contents }
     ensures lowest { space.new.lowest ≡ space.old.lowest }
     ensures free { space.new.free ≡ space.old.free }
@@ -121,7 +122,7 @@ pub fn seek_size<S: BlockStore>(
     size: u16,
 ) -> Result<bool, Refused>
     requires least { 8 ≤ blocks.old.size }
-    requires few { vec_len space.old.contents ≤ 65536 }
+    requires few { vec_len space.old.contents ≤ MOST_BLOCKS }
     requires space_is { IsTrue blocks.old.is_sound → IsSpaceOf blocks.old.size sizes.now blocks.old.image space.old }
     ensures fetch { IsFetch blocks.old result blocks.new }
     ensures space { IsTrue blocks.new.is_sound → IsSpaceOf blocks.old.size sizes.now blocks.old.image space.new }
