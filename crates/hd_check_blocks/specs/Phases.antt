@@ -8,13 +8,14 @@ use Rattle.hd_image.specs.Standing.{Stands, phase_of, ComesBefore}
 use Rattle.hd_image.specs.declared.line.Line.{Line}
 use Rattle.hd_check_blocks.specs.declared.fault.Fault.{Fault}
 use Rattle.hd_image.specs.declared.line.Line.TheVariants.{AnotherDatabase, NoKind, NoVersion, NoVolume, WrongChain, WrongPlace}
+use Rattle.hd_volume.specs.declared.load.TheConstants.{MOST_BLOCKS}
 
 -- The header counts an image of so many bytes, in blocks of a size: all that it must say but that it is there.
 pub record CountsImage (size len : ℕ) (h : Header) : Type 0 where
   pub mark : h.mark ≡ codes "HDVOLUME"
   pub whole : len ≡ h.count * size
   pub within : h.count ≤ h.largest
-  pub bound : h.largest ≤ 65536
+  pub bound : h.largest ≤ MOST_BLOCKS
 
 -- the header is of the database
 abbrev pub IsNamed : Database → Header → Type 0

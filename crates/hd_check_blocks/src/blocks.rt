@@ -9,6 +9,7 @@ ghost use Rattle.hd_volume.specs.Calls.{IsRead};
 ghost use Rattle.hd_check_blocks.specs.Phases.{IsRightBlock, IsWrongBlock, AreBlocksRight, IsLeastOf};
 ghost use Rattle.hd_check_blocks.specs.Places.{places_at, ArePlaces};
 ghost use Rattle.hd_check_blocks.specs.Finding.{WhereNone, WhereSome};
+ghost use Rattle.hd_volume.specs.declared.load.TheConstants.{MOST_BLOCKS};
 
 use crate::fault::Fault;
 use crate::free_elements::is_chain_right;
@@ -59,7 +60,7 @@ fn stored_block_fault<S: BlockStore>(
     n: u32,
     size: usize,
 ) -> Result<Option<Fault>, Refused>
-    requires small { (n < 65536) × (size ≡ volume.old.size) × (8 ≤ size) × (size ≤ 32768) × (size % 8 ≡ 0) }
+    requires small { (n < MOST_BLOCKS) × (size ≡ volume.old.size) × (8 ≤ size) × (size ≤ 32768) × (size % 8 ≡ 0) }
     requires there { IsTrue volume.old.is_sound → HasBlock volume.old.size volume.old.image n }
     requires size { (volume.old.size ≡ dbd.now.block_size) × (volume.old.sizes ≡ stored_sizes dbd.now.types) × (sizes.now ≡ stored_sizes dbd.now.types) }
     ensures read { IsRead volume.old result volume.new }

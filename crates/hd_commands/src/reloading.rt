@@ -1,6 +1,7 @@
 ghost use Rattle.std.specs.Prelude.{◌≡◌, ◌≢◌, ◌<◌, ◌≤◌, [], IsTrue};
 ghost use Rattle.hd_unload.specs.Loads.{HasNoHeader};
 ghost use Rattle.hd_commands.specs.Commands.{ReloadsInPrint, IsRefused, StoreSays};
+ghost use Rattle.hd_volume.specs.declared.load.TheConstants.{MOST_BLOCKS};
 
 use crate::ending::{DONE, Ended, refuse};
 use crate::lines::print_reloaded;
@@ -24,7 +25,7 @@ pub fn reload_store<S: BlockStore, O: Write, E: Write>(
 ) -> (S, Ended)
     requires size { S.size store ≡ dbd.now.block_size }
     requires empty { IsTrue (S.is_sound store) → S.contents store ≡ [] }
-    requires bounds { (0 < largest) × (largest ≤ 65536) }
+    requires bounds { (0 < largest) × (largest ≤ MOST_BLOCKS) }
     ensures reloaded { result.1.status ≡ 0 → IsTrue (S.is_sound store) → ReloadsInPrint dbd.now stream.now largest (S.contents result.0) (O.contents out.old) (O.contents out.new) }
     ensures refused { result.1.status ≢ 0 → IsRefused (StoreSays S.is_sound S.failures S.contents dbd.now stream.now largest store result.0) result.1 (E.contents err.old) (E.contents err.new) }
     ensures quiet { result.1.status ≡ 0 → err.new ≡ err.old }

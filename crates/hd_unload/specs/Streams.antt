@@ -7,10 +7,11 @@ use Rattle.hd_dbd.specs.declared.answer.LoadFault.TheVariants as load
 use Rattle.hd_dbd.specs.Types.{SegmentType}
 use Rattle.hd_dbd.specs.Hierarchy.{Database, type_of}
 use Rattle.hd_dbd.specs.Segment.{Segment}
-use Rattle.hd_dbd.specs.Rows.{valid}
+use Rattle.hd_dbd.specs.Rows.{valid, row_fits}
 use Rattle.hd_dbd.specs.Loads.{last_path, load_fault}
 use Rattle.hd_unload.specs.declared.fault.RecordFault.{RecordFault}
 use Rattle.hd_unload.specs.declared.fault.RecordFault.TheVariants.{U1, U2, U3, U4, LB, LC, LD, LE}
+use Rattle.hd_prefix.specs.Fields.{code_of, bytes_of}
 
 -- ---- spelling
 

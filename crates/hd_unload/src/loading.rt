@@ -13,6 +13,7 @@ ghost use Rattle.hd_unload.specs.Loads.{IsReloaded};
 ghost use Rattle.hd_unload.specs.Refusals.{as_call, IsFaultOfRow, IsFaultOf, IsGivenFrom, IsGivenUp, IsStoreOf};
 ghost use Rattle.hd_unload.specs.Steps.{row_of, IsLoadedTo, IsLoadedBehind, IsLoadedAll, ForItsStreams};
 ghost use Rattle.hd_unload.specs.Streams.{head_bytes};
+ghost use Rattle.hd_volume.specs.declared.load.TheConstants.{MOST_BLOCKS};
 
 use crate::fault::{RecordFault, ReloadFault};
 use crate::judge::load_fault;
@@ -104,7 +105,7 @@ pub fn reload<S: BlockStore>(
 ) -> Result<Reloaded<S>, (S, ReloadFault)>
     requires size { S.size store ≡ dbd.now.block_size }
     requires empty { IsTrue (S.is_sound store) → S.contents store ≡ [] }
-    requires bounds { (0 < largest) × (largest ≤ 65536) }
+    requires bounds { (0 < largest) × (largest ≤ MOST_BLOCKS) }
     ensures reloaded { IfOk result (λ r. IsTrue (S.is_sound store) → IsReloaded dbd.now stream.now largest r.segments r.blocks (S.contents r.store)) }
     ensures store { IfOk result (λ r. (S.is_sound r.store ≡ S.is_sound store) × (S.failures r.store ≡ S.failures store) × (S.size r.store ≡ S.size store)) }
     ensures fault { IfErr result (λ e. IsFaultOf dbd.now stream.now largest (S.is_sound store) e.1) }
