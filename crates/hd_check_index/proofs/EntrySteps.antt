@@ -1,17 +1,14 @@
 -- The entries of an index block, one by one, and what names a root.
-use Rattle.std.proofs.Common.{◌≡◌, inl, inr, ℕ, zero, suc, ◌+◌, ◌-◌, ◌*◌, ◌<◌, ◌≤◌, List, [], ◌∷◌, ◌++◌, length, map, Bool, true, false, Option, Some, None, Ok, Err, refl, sym, ap, subst, ◌∙◌, arith, ne_eqb}
-use Rattle.std.specs.Prelude.{◌==◌, ◌&&◌, not, find, nat_eq, bytes_eq, slice_index, option_map}
+use Rattle.std.proofs.Common.{◌≡◌, inl, inr, ℕ, suc, ◌+◌, ◌-◌, ◌*◌, ◌<◌, ◌≤◌, List, [], ◌∷◌, ◌++◌, length, map, Bool, true, false, Option, Some, None, Ok, Err, refl, sym, ap, subst, ◌∙◌, arith, ne_eqb}
+use Rattle.std.specs.Prelude.{◌==◌, ◌&&◌, not, find, nat_eq, bytes_eq, option_map}
 use Rattle.std.specs.List.{list_all}
 use Rattle.std.proofs.lemmas.Bool.{cases_eq, cases_Bool, eq-eqb, eqb-true, and_parts, false≢true}
-use Rattle.hd_bytes.specs.Numbers.{number_at}
-use Rattle.hd_bytes.specs.Ranges.{bytes_at}
 use Rattle.hd_dbd.specs.Types.{SegmentType}
 use Rattle.hd_dbd.specs.Hierarchy.{Database}
 use Rattle.hd_dbd.specs.Prefixes.{stored_size}
 use Rattle.hd_dbd.specs.Rows.{key_of}
 use Rattle.hd_volume.specs.Volumes.{VolumeState, block_at}
 use Rattle.hd_volume.specs.Entries.{Entry, entries_at}
-use Rattle.hd_volume.specs.Indexes.{IsEntryBlock, entry_room}
 use Rattle.hd_prefix.specs.Fields.{code_of, bytes_of}
 use Rattle.hd_links.specs.Links.{Links, IsSegment, segment_at}
 use Rattle.hd_dbd.specs.declared.answer.Refused.TheVariants.{Memory}

@@ -1,10 +1,8 @@
 -- The pointers to children that are read of a segment, by its records.
-use Rattle.std.proofs.Common.{◌≡◌, ◌≢◌, ℕ, List, Bool, true, false, inl, inr, refl, sym, ap, ◌∙◌, ne_eqb}
+use Rattle.std.proofs.Common.{◌≡◌, ◌≢◌, ℕ, List, Bool, true, false, refl, sym, ap, ◌∙◌, ne_eqb}
 use Rattle.std.specs.Prelude.{◌&&◌, ◌==◌}
-use Rattle.std.specs.Option.{option_map_or}
 use Rattle.std.proofs.lemmas.Bool.{cond-false}
 use Rattle.hd_dbd.specs.Types.{SegmentType}
-use Rattle.hd_dbd.specs.Hierarchy.{type_of}
 use Rattle.hd_dbd.specs.Prefixes.{is_backward_kept}
 use Rattle.hd_volume.specs.Volumes.{VolumeState}
 use Rattle.hd_prefix.specs.declared.pointer.Pointer.{Pointer}

@@ -4,10 +4,9 @@ use Rattle.std.specs.Prelude.{is_some}
 use Rattle.std.proofs.lemmas.Bool.{cases_eq, cases_lt}
 use Rattle.hd_dbd.specs.Types.{SegmentType}
 use Rattle.hd_volume.specs.Volumes.{VolumeState}
-use Rattle.hd_links.specs.Links.{Links, IsSegment}
 use Rattle.hd_image.specs.Records.{links_of}
 use Rattle.hd_check_blocks.specs.declared.places.Place.{Place}
-use Rattle.hd_check_blocks.specs.Places.{IsPlaceOf, ArePlaces}
+use Rattle.hd_check_blocks.specs.Places.{ArePlaces}
 use Rattle.hd_check_pointers.specs.Judging.{IsRecordRight}
 use Rattle.hd_check_blocks.proofs.Lookups.{number-of, in-order}
 use Rattle.hd_check_blocks.specs.Places.{place_at}

@@ -5,7 +5,6 @@ use Rattle.hd_dbd.specs.Prefixes.{is_backward_kept}
 use Rattle.hd_links.specs.Links.{Links, IsSegment, is_child_type, is_last_kept}
 use Rattle.hd_links.specs.Pointers.{IsTwinBefore, IsParentOfFirst, IsInChain}
 use Rattle.hd_image.specs.PointerFaults.{IsWrongBackward, IsWrongLast, HasWrongLast}
-use Rattle.hd_image.specs.Standing.{number_of}
 use Rattle.hd_image.specs.declared.line.Line.TheVariants.{WrongLast, WrongBackward}
 use Rattle.hd_check_blocks.specs.declared.fault.Fault.{Fault}
 

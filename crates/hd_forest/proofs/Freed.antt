@@ -1,5 +1,5 @@
 -- A segment that was freed.
-use Rattle.std.proofs.Common.{◌≡◌, ◌≢◌, ℕ, ◌-◌, List, [], ◌∷◌, ◌++◌, length, take, Bool, true, false, not, IsTrue, Ok, refl, sym, ap, subst, ◌∙◌, eq-eqb, ne_eqb, inl, inr}
+use Rattle.std.proofs.Common.{◌≡◌, ◌≢◌, ℕ, ◌-◌, List, [], ◌∷◌, ◌++◌, length, take, Bool, true, false, not, IsTrue, Ok, refl, sym, ap, subst, ◌∙◌, eq-eqb, ne_eqb}
 use Rattle.std.specs.Prelude.{◌==◌, ◌&&◌}
 use Rattle.std.proofs.lemmas.Bool.{cond-true, cond-false}
 use Rattle.std.proofs.lemmas.List.{append-nil}
@@ -16,7 +16,7 @@ use Rattle.hd_image.proofs.Found.{segment-found}
 use Rattle.hd_image.proofs.Puts.{freeing-takes}
 use Rattle.hd_forest.specs.Walks.{tip}
 use Rattle.hd_forest.specs.Spans.{below_on, beside_on, extended, Freeing, freed_last, freed_on, IsStep}
-use Rattle.hd_forest.specs.Sets.{KeepsBlocks, IsRecorded}
+use Rattle.hd_forest.specs.Sets.{IsRecorded}
 use Rattle.hd_forest.proofs.Keeping.{keeps-freed, keeps-same, keeps-trans}
 
 -- the records are without it, in blocks that stay

@@ -5,8 +5,7 @@ use Rattle.hd_dbd.specs.Hierarchy.{Database}
 use Rattle.hd_dbd.specs.Prefixes.{stored_size}
 use Rattle.hd_volume.specs.Volumes.{VolumeState}
 use Rattle.hd_volume.specs.Records.{find}
-use Rattle.hd_volume.specs.Calls.{IsRead, HasSegment}
-use Rattle.hd_volume.proofs.JoinLemmas.{one-formatted}
+use Rattle.hd_volume.specs.Calls.{IsRead}
 use Rattle.hd_prefix.specs.Fields.{code_of}
 use Rattle.hd_links.specs.Links.{Links, IsSegment}
 use Rattle.hd_links.specs.Placed.{Holds}

@@ -3,14 +3,12 @@ use Rattle.std.proofs.Common.{◌≡◌, ℕ, zero, suc, ◌+◌, ◌-◌, ◌<�
 use Rattle.std.specs.Prelude.{nat_lt, map}
 use Rattle.std.proofs.lemmas.Bool.{cases_lt, cond-true, cond-false, lt-ltb, le-ltb}
 use Rattle.hd_dbd.specs.Types.{SegmentType}
-use Rattle.hd_dbd.specs.Hierarchy.{Database}
 use Rattle.hd_dbd.specs.Paths.{level_at, path_above, path_of, end_of}
 use Rattle.hd_dbd.specs.Forest.{Forest}
-use Rattle.hd_volume.specs.Volumes.{VolumeState}
 use Rattle.hd_links.specs.Links.{Links, IsSegment}
-use Rattle.hd_links.specs.Placed.{Placed, Holds}
-use Rattle.hd_links.specs.Steps.{next_row, behind_span, rows_of, address_at, path_at, path_on, RowsHaveAddresses, StepsAreRows}
-use Rattle.hd_image.specs.Records.{links_of, IsVolumeOf}
+use Rattle.hd_links.specs.Placed.{Placed}
+use Rattle.hd_links.specs.Steps.{next_row, rows_of, address_at, path_at, RowsHaveAddresses, StepsAreRows}
+use Rattle.hd_image.specs.Records.{links_of}
 use Rattle.hd_forest.specs.Walks.{moved, AreSegments}
 use Rattle.hd_forest.specs.Rows.{path_to}
 use Rattle.hd_forest.specs.Laws.{VolumesStepFromRowToRow}

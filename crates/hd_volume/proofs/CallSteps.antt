@@ -1,8 +1,7 @@
 -- Calls of a volume one after another.
-use Rattle.std.proofs.Common.{◌≡◌, ℕ, Bool, false, IsTrue, List, Result, Ok, Err, IfOk, refl, ◌∙◌, arith}
+use Rattle.std.proofs.Common.{ℕ, Bool, IsTrue, List, Result, Ok, Err, IfOk, refl, ◌∙◌, arith}
 use Rattle.hd_dbd.specs.declared.answer.Refused.{Refused}
-use Rattle.hd_dbd.specs.declared.answer.Refused.TheVariants.{Memory, Full, Device, Broken, Area}
-use Rattle.hd_volume.specs.Stores.{SoundFor, StaysSound}
+use Rattle.hd_volume.specs.Stores.{StaysSound}
 use Rattle.hd_volume.specs.Images.{KeepsFirst}
 use Rattle.hd_volume.specs.Volumes.{VolumeState}
 use Rattle.hd_volume.specs.Calls.{IsCall, IsRead}

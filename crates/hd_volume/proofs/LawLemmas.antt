@@ -1,8 +1,8 @@
 -- On what segments depend.
-use Rattle.std.proofs.Common.{◌≡◌, ◌≢◌, ℕ, ◌/◌, inl, inr, None, refl, sym, ap, ◌∙◌, arith, ne_eqb}
+use Rattle.std.proofs.Common.{◌≡◌, ◌≢◌, ◌/◌, inl, inr, None, refl, sym, ap, ◌∙◌, arith, ne_eqb}
 use Rattle.std.proofs.lemmas.Bool.{cases_eq, eq-eqb}
 use Rattle.hd_bytes.specs.Blocks.{block_of}
-use Rattle.hd_volume.specs.Volumes.{VolumeState, block_at, kind_of}
+use Rattle.hd_volume.specs.Volumes.{block_at, kind_of}
 use Rattle.hd_volume.specs.Records.{find}
 use Rattle.hd_volume.specs.Laws.{SegmentsFrame}
 use Rattle.hd_volume.proofs.FrameLemmas.{AreSame, block-seen, find-frame}

@@ -1,8 +1,8 @@
-use Rattle.std.proofs.Common.{◌≡◌, ℕ, length, true, Ok, ap, sym, subst, ◌∙◌}
+use Rattle.std.proofs.Common.{length, sym, subst, ◌∙◌}
 use Rattle.hd_links.specs.Links.{Links}
 use Rattle.hd_image.specs.Records.{links_of}
-use Rattle.hd_forest.specs.Twins.{IsBehind, IsTwinWithin}
-use Rattle.hd_volume.proofs.CallSteps.{reads-join, if-ok}
+use Rattle.hd_forest.specs.Twins.{IsBehind}
+use Rattle.hd_volume.proofs.CallSteps.{if-ok}
 use Rattle.hd_forest.proofs.Reading.{after-read, sound-before, volume-kept}
 use Rattle.hd_forest.proofs.Held.{held}
 use Rattle.hd_forest.proofs.Tips.{end-within, last-kept}
