@@ -1,0 +1,4 @@
+pub mod Areas
+pub mod Levels
+pub mod Lists
+pub mod Asked

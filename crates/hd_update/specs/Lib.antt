@@ -1,1 +1,4 @@
 pub mod States
+pub mod Held
+pub mod Positions
+pub mod Replacing
