@@ -2,3 +2,4 @@ pub mod States
 pub mod Held
 pub mod Positions
 pub mod Replacing
+pub mod Calls

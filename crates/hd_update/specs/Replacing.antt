@@ -54,6 +54,11 @@ AreRewritesOf types f area [] (w ∷ ws) = ⊥
 AreRewritesOf types f area (n ∷ ns) [] = ⊥
 AreRewritesOf types f area (n ∷ ns) (w ∷ ws) = IsRewriteOf types f area n w × AreRewritesOf types f area ns ws
 
+-- whatever row of a forest of the sound volume the new bytes are for, the answer says whether they have the key that the row has
+abbrev pub SaysKeyStays : Database → VolumeState → List ℕ → NewBytes → Bool → Type 0
+SaysKeyStays d v area n r =
+    (f : Forest Placed) (w : Rewrite) → IsTrue v.is_sound → HoldsPlaced d v f → IsRewriteOf d.types f area n w → r ≡ keeps_key d.types (rows_of f) w
+
 -- where the store is sound, the new bytes are for rows of a forest that the volume holds
 abbrev pub HaveRows : Database → VolumeState → List ℕ → List NewBytes → Type 0
 HaveRows d v area news = IsTrue v.is_sound → (f : Forest Placed) × (ws : List Rewrite) × HoldsPlaced d v f × AreRewritesOf d.types f area news ws

@@ -3,4 +3,8 @@
 
 mod held;
 mod positions;
+mod repl_call;
+mod replacing;
 mod rewrites;
+
+pub use repl_call::repl;

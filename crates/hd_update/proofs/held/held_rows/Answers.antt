@@ -28,10 +28,12 @@ row_at-requires-clause-there g c =
     let T = c.requires.there sound in
     let levels : c.as_slice-levels.result.now ≡ k.held = c.as_slice-levels.ensures.value ∙ c.held.ensures in
     let within : c.loop-place.place < length k.held = subst (λ (xs : List ℕ). c.loop-place.place < length xs) levels c.loop-place-test.true in
-    let at = at_level d.types m T.0 k T.1 c.loop-place.place T.2.holds.records T.2.stands within in
-    (T.0, slice_index T.1.held c.loop-place.place,
+    let at = at_level d.types m T.0 k T.1 c.loop-place.place T.2.holds.records T.2.stands within in (
+      T.0,
+      slice_index T.1.held c.loop-place.place,
       subst (λ (path : List ℕ). IsAtLevel d.types m T.0 path (slice_index c.as_slice-levels.result.now c.loop-place.place) (slice_index T.1.held c.loop-place.place)) (sym c.path.ensures)
-      (subst (λ (xs : List ℕ). IsAtLevel d.types m T.0 k.path (slice_index xs c.loop-place.place) (slice_index T.1.held c.loop-place.place)) (sym levels) at)))
+          (subst (λ (xs : List ℕ). IsAtLevel d.types m T.0 k.path (slice_index xs c.loop-place.place) (slice_index T.1.held c.loop-place.place)) (sym levels) at),
+    ))
 
 pub loop-place-preserved : goal.loop-place-preserved
 loop-place-preserved g c = record {
