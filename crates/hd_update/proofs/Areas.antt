@@ -1,6 +1,6 @@
 -- Areas that are divided into the parts of rows.
-use Rattle.std.proofs.Common.{◌≡◌, ℕ, ◌+◌, ◌-◌, ◌<◌, ◌≤◌, List, [], ◌∷◌, ◌++◌, length, take, drop, Bool, true, false, cond, refl, ap, sym, ◌∙◌, arith, length-drop, Option, Some, None}
-use Rattle.std.specs.Prelude.{is_some, nat_le, ◌==◌, option_map}
+use Rattle.std.proofs.Common.{◌≡◌, ℕ, ◌+◌, ◌-◌, ◌<◌, ◌≤◌, List, ◌∷◌, length, take, drop, true, false, refl, ap, ◌∙◌, arith, length-drop, Option, Some, None}
+use Rattle.std.specs.Prelude.{is_some, option_map}
 use Rattle.std.proofs.lemmas.Bool.{cond-true, cond-false, le-leb, lt-leb}
 use Rattle.std.proofs.lemmas.List.{drop-drop}
 use Rattle.hd_dbd.specs.Types.{SegmentType}
@@ -8,7 +8,6 @@ use Rattle.hd_calls.specs.Ssas.{Ssa}
 use Rattle.hd_calls.specs.Steps.{divide, length_of, is_excepted}
 use Rattle.hd_update.specs.Replacing.{lengths_of, new_bytes_from, is_divided}
 use Rattle.hd_update.specs.declared.held.HeldRow.{HeldRow}
-use Rattle.hd_update.specs.declared.rewrites.NewBytes.{NewBytes}
 
 -- an area that is too short for the first row
 pub area_short : (types : List SegmentType) (h : HeldRow) (hs : List HeldRow) (area : List ℕ) → length area < length_of types h.code → is_divided types (h ∷ hs) area ≡ false

@@ -1,6 +1,6 @@
 -- The new bytes that REPL's area has for the held rows.
-use Rattle.std.proofs.Common.{◌≡◌, ℕ, ◌+◌, ◌-◌, ◌<◌, ◌≤◌, List, [], ◌∷◌, ◌++◌, length, take, drop, Bool, true, false, cond, not, refl, ap, ap₂, sym, ◌∙◌, subst, arith, length-drop, Option, Some, None, inl, inr}
-use Rattle.std.specs.Prelude.{map, filter, nat_le, option_map}
+use Rattle.std.proofs.Common.{◌≡◌, ℕ, ◌+◌, ◌-◌, ◌≤◌, List, [], ◌∷◌, length, take, drop, Bool, true, false, cond, not, refl, ap, sym, ◌∙◌, subst, arith, length-drop, Option, Some, None, inl, inr}
+use Rattle.std.specs.Prelude.{map, nat_le, option_map}
 use Rattle.std.proofs.lemmas.Bool.{cases_Bool, cond-true, cond-false, leb-true}
 use Rattle.std.proofs.lemmas.List.{drop-drop}
 use Rattle.hd_dbd.specs.Types.{SegmentType}
@@ -13,7 +13,7 @@ use Rattle.hd_links.specs.Placed.{Placed}
 use Rattle.hd_links.specs.Steps.{rows_of}
 use Rattle.hd_position.proofs.Splices.{AllBelow}
 use Rattle.hd_update.specs.Held.{held_row, held_rows}
-use Rattle.hd_update.specs.Replacing.{lengths_of, new_bytes_from, AreRewritesOf, IsRewriteOf}
+use Rattle.hd_update.specs.Replacing.{lengths_of, new_bytes_from, AreRewritesOf}
 
 -- the lengths of the held rows
 pub held_lengths : (types : List SegmentType) (f : Forest Placed) (held : List ℕ) → map (λ i. length_of types (row_at (rows_of f) i).code) held ≡ lengths_of types (held_rows f held)

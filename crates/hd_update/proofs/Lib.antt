@@ -4,3 +4,6 @@ pub mod Lists
 pub mod Asked
 pub mod Reading
 pub mod Rewritten
+pub mod Standing
+pub mod Answering
+pub mod AskedStates

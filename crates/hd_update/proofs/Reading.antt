@@ -1,5 +1,5 @@
 -- What a volume holds after a call that only read.
-use Rattle.std.proofs.Common.{◌≡◌, IsTrue, Ok}
+use Rattle.std.proofs.Common.{IsTrue, Ok}
 use Rattle.hd_dbd.specs.Hierarchy.{Database}
 use Rattle.hd_dbd.specs.Forest.{Forest}
 use Rattle.hd_volume.specs.Volumes.{VolumeState}

@@ -1,15 +1,15 @@
 -- Rows that get new bytes, one after the other.
 use Rattle.std.proofs.Common.{◌≡◌, ℕ, zero, suc, ◌+◌, ◌-◌, ◌<◌, ◌≤◌, List, [], ◌∷◌, ◌++◌, length, take, drop, Bool, true, false, cond, refl, ap, ap₂, sym, ◌∙◌, subst, arith, Option, Some, None, inl, inr}
-use Rattle.std.specs.Prelude.{slice_index_or, slice_set, ◌&&◌, ◌==◌, bytes_eq}
+use Rattle.std.specs.Prelude.{slice_index_or, slice_set, ◌==◌}
 use Rattle.std.specs.List.{list_all, list_any}
 use Rattle.std.specs.Option.{option_map_or}
-use Rattle.std.proofs.lemmas.Bool.{cases_eq, and_parts, eq-eqb, false≢true}
+use Rattle.std.proofs.lemmas.Bool.{cases_eq, and_parts, eq-eqb}
 use Rattle.std.proofs.lemmas.List.{get_or-set_same, get_or-set_other, length-take-le, length-drop, length-map}
 use Rattle.std.proofs.lemmas.Slice.Eq.{bytes_eq-Decides}
 use Rattle.hd_dbd.specs.Types.{SegmentType}
 use Rattle.hd_dbd.specs.Hierarchy.{Database, type_of}
 use Rattle.hd_dbd.specs.Segment.{Segment}
-use Rattle.hd_dbd.specs.Rows.{key_of, row_fits}
+use Rattle.hd_dbd.specs.Rows.{key_of}
 use Rattle.hd_dbd.specs.Paths.{row_at, no_row}
 use Rattle.hd_dbd.specs.Positions.{Position}
 use Rattle.hd_dbd.specs.Forest.{Forest, sequence}
@@ -27,7 +27,6 @@ use Rattle.hd_image.specs.Records.{links_of}
 use Rattle.hd_image.specs.Holding.{HoldsPlaced}
 use Rattle.hd_image.proofs.Found.{records-link}
 use Rattle.hd_forest.specs.Updates.{IsReplaced}
-use Rattle.hd_keeping.specs.RowChanges.{IsRewritten}
 use Rattle.hd_keeping.proofs.RowChanges.{rewriting-begins, rewriting-goes-on}
 use Rattle.hd_position.specs.Kept.{Kept, StandsFor, after_rewrite}
 use Rattle.hd_position.proofs.Rewriting.{rewriting_ends, rewrites_add}

@@ -5,7 +5,6 @@ use Rattle.hd_links.specs.Links.{IsSegment}
 use Rattle.hd_links.specs.Steps.{address_at}
 use Rattle.hd_links.proofs.Numbers.{rows_addressed}
 use Rattle.hd_image.specs.Records.{links_of}
-use Rattle.hd_update.specs.declared.held.HeldRow.{HeldRow}
 use Rattle.hd_update.proofs.held.row_at.Goals as goal
 
 -- what was read, where something stands there

@@ -1,4 +1,4 @@
-use Rattle.std.proofs.Common.{◌≡◌, ℕ, List, ap, ap₂, sym, ◌∙◌}
+use Rattle.std.proofs.Common.{ℕ, List, ap, ap₂, sym, ◌∙◌}
 use Rattle.std.specs.Prelude.{bytes_eq}
 use Rattle.hd_dbd.specs.Rows.{key_of}
 use Rattle.hd_prefix.specs.Fields.{code_of, bytes_of}

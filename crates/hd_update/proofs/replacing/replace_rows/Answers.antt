@@ -1,16 +1,14 @@
-use Rattle.std.proofs.Common.{◌≡◌, ℕ, ◌+◌, ◌∷◌, [], ◌++◌, List, length, take, Ok, Bool, true, IsTrue, ap, sym, subst, ◌∙◌, arith}
+use Rattle.std.proofs.Common.{ℕ, ◌+◌, ◌∷◌, [], ◌++◌, List, take, Ok, IsTrue, sym, subst}
 use Rattle.std.specs.Prelude.{slice_index_or}
 use Rattle.std.proofs.lemmas.List.{take_more}
-use Rattle.hd_dbd.specs.Forest.{Forest}
 use Rattle.hd_calls.specs.Moves.{Rewrite}
 use Rattle.hd_volume.proofs.CallSteps.{call-ok, call-none, sound-back}
 use Rattle.hd_volume.proofs.JoinLemmas.{calls-join}
-use Rattle.hd_links.specs.Placed.{Placed}
 use Rattle.hd_links.specs.Changes.{CanReplace}
 use Rattle.hd_image.specs.Records.{links_of}
 use Rattle.hd_forest.specs.Updates.{IsReplaced}
 use Rattle.hd_update.specs.declared.rewrites.NewBytes.{NewBytes}
-use Rattle.hd_update.specs.Replacing.{part_for, AreReplaced}
+use Rattle.hd_update.specs.Replacing.{AreReplaced}
 use Rattle.hd_update.proofs.Rewritten.{next_of, none_left, replacing_begins, may_replace, one_replaced, kept_by}
 use Rattle.hd_update.proofs.replacing.replace_rows.Goals as goal
 
