@@ -1,0 +1,9 @@
+pub mod Areas
+pub mod Levels
+pub mod Lists
+pub mod Asked
+pub mod Reading
+pub mod Rewritten
+pub mod Standing
+pub mod Answering
+pub mod AskedStates

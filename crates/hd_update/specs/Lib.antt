@@ -1,1 +1,5 @@
 pub mod States
+pub mod Held
+pub mod Positions
+pub mod Replacing
+pub mod Calls

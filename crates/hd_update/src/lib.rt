@@ -1,2 +1,10 @@
 //! The calls that change a database over a volume: rows put in, rows with new bytes, a row taken out with all that depends on it.
 #![tactic(auto)]
+
+mod held;
+mod positions;
+mod repl_call;
+mod replacing;
+mod rewrites;
+
+pub use repl_call::repl;

@@ -1,0 +1,132 @@
+-- What a call comes to, by its effect.
+use Rattle.std.proofs.Common.{◌≡◌, ℕ, ◌<◌, ◌≤◌, List, [], length, Bool, true, false, IsTrue, Ok, refl, ap, sym, ◌∙◌, subst, arith}
+use Rattle.std.specs.List.{list_all}
+use Rattle.std.proofs.lemmas.Bool.{cond-true, cond-false}
+use Rattle.hd_dbd.specs.Types.{View}
+use Rattle.hd_dbd.specs.Hierarchy.{Database}
+use Rattle.hd_dbd.specs.Segment.{Segment}
+use Rattle.hd_dbd.specs.Positions.{Position}
+use Rattle.hd_dbd.specs.Calls.{Reply, bare, row_reply}
+use Rattle.hd_dbd.specs.declared.answer.Status.{Status}
+use Rattle.hd_dbd.specs.declared.answer.Status.TheVariants.{Blank, DA}
+use Rattle.hd_dbd.specs.Forest.{Forest}
+use Rattle.hd_calls.specs.Gets.{unheld}
+use Rattle.hd_calls.specs.Moves.{unchanged, rewritten, Rewrite, rows_after, position_after_rewrite}
+use Rattle.hd_calls.specs.Steps.{Effect, answered, bare_answer, State, state_after, position_at, keeps_key, lowest, replace_rows}
+use Rattle.hd_calls.specs.Runs.{Follows}
+use Rattle.hd_calls.specs.NoLostUpdate.{is_done}
+use Rattle.hd_volume.specs.Volumes.{VolumeState}
+use Rattle.hd_volume.specs.Calls.{IsRead}
+use Rattle.hd_links.specs.Placed.{Placed}
+use Rattle.hd_links.specs.Steps.{rows_of}
+use Rattle.hd_image.specs.Holding.{HoldsPlaced}
+use Rattle.hd_forest.proofs.Reading.{after-read}
+use Rattle.hd_keeping.specs.VolumeImages.{images_of}
+use Rattle.hd_keeping.proofs.VolumeImages.{follow}
+use Rattle.hd_keeping.proofs.RowChanges.{rewriting-follows}
+use Rattle.hd_position.specs.Kept.{Kept}
+use Rattle.hd_get.specs.declared.outcome.Outcome.{Outcome}
+use Rattle.hd_get.specs.declared.outcome.Outcome.TheVariants.{Found, Missing}
+use Rattle.hd_update.specs.Positions.{after_rewrites, all_after_rewrites, unheld_at}
+use Rattle.hd_update.specs.Replacing.{AreReplaced}
+use Rattle.hd_update.specs.States.{Represents, IsAnswered}
+use Rattle.hd_update.specs.declared.rewrites.NewBytes.{NewBytes}
+use Rattle.hd_update.proofs.Reading.{held_read}
+use Rattle.hd_update.proofs.Standing.{all_moved_unheld, stay_unheld}
+
+-- ---- any effect
+
+pub answered_as : (d : Database) (v : VolumeState) (st : State) (number : ℕ) (e e2 : Effect) (o : Outcome) (w : VolumeState) (kept : List Kept) → e2 ≡ e
+    → IsAnswered d v st number e o w kept → IsAnswered d v st number e2 o w kept
+answered_as d v st number e e2 o w kept same A = subst (λ (x : Effect). IsAnswered d v st number x o w kept) (sym same) A
+
+-- an answer after calls that only read is one before them
+pub answered_before : (d : Database) (v mid : VolumeState) (st : State) (number : ℕ) (e : Effect) (o : Outcome) (w : VolumeState) (kept : List Kept) → mid.image ≡ v.image
+    → IsAnswered d mid st number e o w kept → IsAnswered d v st number e o w kept
+answered_before d v mid st number e o w kept image A = record {
+  reply = A.reply;
+  change = A.change;
+  own = A.own;
+  is = A.is;
+  outcome_is = A.outcome_is;
+  represents = A.represents;
+  follows = subst (λ (x : List ℕ). Follows (images_of d) st.rows x A.change (state_after d.types st number e).rows w.image) image A.follows;
+}
+
+-- what stands for a state still does after calls that only read
+abbrev pub represented : {A : Type 0} {x : A} (d : Database) (u v : VolumeState) (kept : List Kept) (st : State) → IsRead {T = A} u (Ok x) v → IsTrue u.is_sound
+    → Represents d u kept st → Represents d v kept st
+represented d u v kept st read sound R = record { placed = R.placed; holds = held_read d u v read sound R.placed R.holds; rows = R.rows; positions = R.positions }
+
+-- nothing follows from nothing
+same_follows : (d : Database) (v : VolumeState) (f : Forest Placed) (rows : List Segment) (image : List ℕ) → HoldsPlaced d v f → rows_of f ≡ rows → image ≡ v.image
+    → Follows (images_of d) rows v.image unchanged rows image
+same_follows d v f rows image holds is same =
+    subst (λ (x : List ℕ). Follows (images_of d) rows v.image unchanged rows x) (sym same)
+    (subst (λ (xs : List Segment). Follows (images_of d) xs v.image unchanged xs v.image) is (follow d v v f f unchanged holds holds refl (omega arith) refl))
+
+-- a status that changes nothing, after calls that only read
+pub bare_answered : {A : Type 0} {x : A} (d : Database) (v w : VolumeState) (old : List Kept) (st : State) (number : ℕ) (status : Status) → IsRead {T = A} v (Ok x) w → IsTrue v.is_sound
+    → Represents d v old st → 0 < number → number ≤ length old → is_done status ≡ false
+    → IsAnswered d v st number (bare_answer (position_at st number) status) (Missing status) w (unheld_at number old)
+bare_answered d v w old st number status read sound R some within none = record {
+  reply = bare status;
+  change = unchanged;
+  own = unheld (position_at st number);
+  is = refl;
+  outcome_is = (refl, none);
+  represents = record {
+    placed = R.placed;
+    holds = held_read d v w read sound R.placed R.holds;
+    rows = R.rows;
+    positions = stay_unheld d.types R.placed old st.positions number R.positions some within;
+  };
+  follows = same_follows d v R.placed st.rows w.image R.holds R.rows (after-read d v w read sound).image;
+}
+
+-- ---- REPL
+
+-- the keys stay in the rows of the state
+keys_in : (d : Database) (f : Forest Placed) (rows : List Segment) (ws : List Rewrite) (b : Bool) → rows_of f ≡ rows → b ≡ list_all (λ w. keeps_key d.types (rows_of f) w) ws
+    → list_all (λ w. keeps_key d.types rows w) ws ≡ b
+keys_in d f rows ws b is e = sym (e ∙ ap (λ (xs : List Segment). list_all (λ w. keeps_key d.types xs w) ws) is)
+
+module _ (d : Database) (pcb : View) (v : VolumeState) (old : List Kept) (st : State) (number : ℕ) (ws : List Rewrite) (R : Represents d v old st) (some : 0 < number) (within : number ≤ length old) where
+  abbrev effect : Effect
+  effect = replace_rows (record { types = d.types; pcb = pcb }) st.rows (position_at st number) ws
+
+  -- a key would change
+  pub key_changes : {A : Type 0} {x : A} (w : VolumeState) → IsRead {T = A} v (Ok x) w → IsTrue v.is_sound → false ≡ list_all (λ w. keeps_key d.types (rows_of R.placed) w) ws
+      → IsAnswered d v st number effect (Missing DA) w (unheld_at number old)
+  key_changes w read sound keys =
+      answered_as d v st number (bare_answer (position_at st number) DA) effect (Missing DA) w (unheld_at number old)
+      (cond-false _ _ _ (keys_in d R.placed st.rows ws false R.rows keys))
+      (bare_answered d v w old st number DA read sound R some within refl)
+
+  -- the rows have their new bytes
+  pub rows_replaced : (mid w : VolumeState) (news : List NewBytes) → mid.image ≡ v.image → true ≡ list_all (λ w. keeps_key d.types (rows_of R.placed) w) ws
+      → AreReplaced d mid R.placed news ws w → IsAnswered d v st number effect (Found Blank) w (unheld_at number (all_after_rewrites news old))
+  rows_replaced mid w news image keys A =
+      let p : Position = position_at st number in
+      let reply : Reply = row_reply (record { types = d.types; pcb = pcb }) st.rows (lowest p.held) Blank [] in
+      let after : rows_of A.placed ≡ rows_after (rewritten ws) st.rows = A.written.rows ∙ ap (rows_after (rewritten ws)) R.rows in
+      answered_as d v st number (answered reply (rewritten ws) (unheld p)) effect (Found Blank) w (unheld_at number (all_after_rewrites news old))
+      (cond-true _ _ _ (keys_in d R.placed st.rows ws true R.rows keys))
+      (record {
+        reply = reply;
+        change = rewritten ws;
+        own = unheld p;
+        is = refl;
+        outcome_is = (refl, refl);
+        represents = record {
+          placed = A.placed;
+          holds = A.written.holds;
+          rows = after;
+          positions = all_moved_unheld d.types R.placed A.placed (after_rewrites news) (position_after_rewrite ws) A.positions old st.positions number R.positions some within;
+        };
+        follows =
+            subst (λ (xs : List Segment). Follows (images_of d) st.rows v.image (rewritten ws) xs w.image) after
+            (subst (λ (xs : List Segment). Follows (images_of d) xs v.image (rewritten ws) (rows_of A.placed) w.image) R.rows
+            (subst (λ (x : List ℕ). Follows (images_of d) (rows_of R.placed) x (rewritten ws) (rows_of A.placed) w.image) image
+            (rewriting-follows d mid w R.placed A.placed ws A.written)));
+      })

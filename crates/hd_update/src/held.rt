@@ -1,0 +1,109 @@
+ghost use Rattle.std.specs.Prelude.{◌≡◌, ◌<◌, ◌≤◌, [], ◌∷◌, ◌++◌, length, IfOk};
+ghost use Rattle.hd_dbd.specs.Refusals.{OnlyDevice};
+ghost use Rattle.hd_volume.specs.Calls.{IsRead};
+ghost use Rattle.hd_get.specs.Gets.{HasPosition};
+ghost use Rattle.hd_get.specs.Searches.{IsOf};
+ghost use Rattle.hd_update.specs.Held.{HasRowAt, IsRowAt, AreHeld};
+
+use hd_dbd::{Dbd, Refused};
+use hd_forest::{Path, code_at};
+use hd_position::{Position, row_on};
+use hd_volume::{BlockStore, Volume};
+use std::marker::Model;
+
+/// A row that a PCB holds: its address, and the code of its type.
+#[derive(Clone, Copy, Debug)]
+pub struct HeldRow {
+    pub address: u32,
+    pub code: u8,
+}
+
+/// The rows that a PCB holds, root first; at most 15.
+#[derive(Debug, Drop)]
+pub struct HeldRows {
+    rows: [HeldRow; 15],
+    count: usize,
+}
+
+impl Model for HeldRows {
+    ghost use Rattle.std.specs.Prelude.{List, take, ◌≤◌};
+    ghost use Rattle.hd_update.specs.declared.held.HeldRow.{HeldRow};
+
+    ghost Value = { List HeldRow };
+
+    ghost view = { λ v. take v.count v.rows };
+
+    ghost invariant = { λ v. v.count ≤ 15 };
+}
+
+impl HeldRows {
+    /// No row.
+    pub fn new() -> HeldRows
+        ensures { result ≡ [] }
+    {
+        let none = HeldRow {
+            address: 0,
+            code: 0,
+        };
+        HeldRows {
+            rows: [none; 15],
+            count: 0,
+        }
+    }
+
+    /// The rows; at most 15.
+    pub fn as_slice(&self) -> &[HeldRow]
+        ensures value { result.now ≡ self.now }
+        ensures few { length self.now ≤ 15 }
+    {
+        &self.rows[..self.count]
+    }
+
+    /// Adds a row behind the others. There is room for 15; one more takes the place of the last.
+    fn push(&mut self, row: HeldRow)
+        ensures { length self.old < 15 → self.new ≡ self.old ++ row ∷ [] }
+    {
+        let kept = self.count.min(14);
+        self.rows[kept] = row;
+        self.count = kept + 1;
+    }
+}
+
+/// The row at a level of a path, from 1 on for the root. One access.
+fn row_at<S: BlockStore>(
+    volume: &mut Volume<S>,
+    dbd: &Dbd,
+    path: &Path,
+    level: u8,
+) -> Result<HeldRow, Refused>
+    requires of { IsOf dbd.now volume.old }
+    requires there { HasRowAt dbd.now volume.old path.now level }
+    ensures read { IsRead volume.old result volume.new }
+    ensures value { IfOk result (λ row. IsRowAt dbd.now volume.old path.now level row) }
+    ensures refusal { OnlyDevice result }
+{
+    let address = row_on(path, level).unwrap_or(0);
+    let code = code_at(volume, dbd, address)?;
+    Ok(HeldRow { address, code })
+}
+
+/// The rows that a PCB holds. One access for each.
+pub fn held_rows<S: BlockStore>(
+    volume: &mut Volume<S>,
+    dbd: &Dbd,
+    position: &Position,
+) -> Result<HeldRows, Refused>
+    requires of { IsOf dbd.now volume.old }
+    requires there { HasPosition dbd.now volume.old position.now }
+    ensures read { IsRead volume.old result volume.new }
+    ensures value { IfOk result (λ rows. AreHeld dbd.now volume.old position.now rows) }
+    ensures refusal { OnlyDevice result }
+{
+    let mut rows = HeldRows::new();
+    let levels = position.held().as_slice();
+    for place in 0..levels.len() {
+        let row = row_at(volume, dbd, position.path(), levels[place])?;
+        rows.push(row);
+    }
+    Ok(rows)
+}

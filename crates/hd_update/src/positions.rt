@@ -1,0 +1,31 @@
+ghost use Rattle.std.specs.Prelude.{◌≡◌, ◌<◌, ◌≤◌, length};
+ghost use Rattle.hd_update.specs.Positions.{after_rewrites, all_after_rewrites, unheld_at};
+
+use crate::rewrites::NewBytes;
+use hd_position::Position;
+
+/// Ends a PCB's hold of rows that got new bytes.
+fn end_hold_of_all(position: &mut Position, news: &[NewBytes])
+    ensures { position.new ≡ after_rewrites news.now position.old }
+{
+    for place in 0..news.len() {
+        position.end_hold_of(news[place].address);
+    }
+}
+
+/// Ends each PCB's hold of rows that got new bytes.
+pub fn end_holds(positions: &mut [Position], news: &[NewBytes])
+    ensures { positions.new ≡ all_after_rewrites news.now positions.old }
+{
+    for place in 0..positions.len() {
+        end_hold_of_all(&mut positions[place], news);
+    }
+}
+
+/// Ends the hold of the PCB of a number.
+pub fn end_hold(positions: &mut [Position], number: usize)
+    requires number { (0 < number) × (number ≤ length positions.old) }
+    ensures { positions.new ≡ unheld_at number positions.old }
+{
+    positions[number - 1].unhold();
+}

@@ -1,0 +1,70 @@
+ghost use Rattle.std.specs.Prelude.{◌≡◌, ◌⊎◌, ◌<◌, ◌≤◌, length, IfOk, IfErr};
+ghost use Rattle.hd_dbd.specs.Refusals.{OnlyDevice};
+ghost use Rattle.hd_volume.specs.Calls.{IsCall};
+ghost use Rattle.hd_update.specs.States.{HasState, IsUndone, kept_of};
+ghost use Rattle.hd_update.specs.Calls.{IsReplaceDone, IsReplaceAreaWrong, HaveState, AreRewritesDone};
+
+use crate::held::held_rows;
+use crate::positions::{end_hold, end_holds};
+use crate::replacing::{keep_keys, replace_rows};
+use crate::rewrites::{NewBytes, rewrites_of};
+use hd_dbd::{Dbd, Refused, Status};
+use hd_get::Outcome;
+use hd_position::Position;
+use hd_ssa::ResolvedSsa;
+use hd_volume::{BlockStore, Volume};
+
+/// REPL by the PCB of a number, counted from 1, once its tests are passed: the I/O area is the rows that it holds, one behind the other.
+/// DA where the key of a row would change. Each row that no argument excepts by N gets its part of the area, the PCB's hold ends, and so
+/// does that of every other PCB that holds such a row. No memory is taken.
+///
+/// `Area` says that the area is not as long as the held rows; nothing is changed then.
+pub fn repl<S: BlockStore>(
+    volume: &mut Volume<S>,
+    dbd: &Dbd,
+    positions: &mut [Position],
+    number: usize,
+    ssas: &[ResolvedSsa<'_>],
+    area: &[u8],
+) -> Result<Outcome, Refused>
+    requires number { (0 < number) × (number ≤ length positions.old) }
+    requires state { HasState dbd.now volume.old positions.old }
+    requires held { 0 < length (kept_of positions.old number).held }
+    ensures call { IsCall volume.old result volume.new }
+    ensures done { IfOk result (λ o. IsReplaceDone dbd.now volume.old positions.old number ssas.now area.now o volume.new positions.new) }
+    ensures undone { IfErr result (λ _. IsUndone volume.old positions.old volume.new positions.new) }
+    ensures area { IfErr result (λ e. IsReplaceAreaWrong dbd.now volume.old positions.old number ssas.now area.now e) }
+    ensures refusal { IfErr result (λ e. (e ≡ Refused.Area) ⊎ (e ≡ Refused.Device)) }
+{
+    let held = held_rows(volume, dbd, &positions[number - 1])?;
+    let Some(news) = rewrites_of(dbd, ssas, held.as_slice(), area) else {
+        return Err(Refused::Area);
+    };
+    replace_held(volume, dbd, positions, number, area, news.as_slice())
+}
+
+/// REPL, where the area has these new bytes for rows that the PCB of a number holds.
+fn replace_held<S: BlockStore>(
+    volume: &mut Volume<S>,
+    dbd: &Dbd,
+    positions: &mut [Position],
+    number: usize,
+    area: &[u8],
+    news: &[NewBytes],
+) -> Result<Outcome, Refused>
+    requires number { (0 < number) × (number ≤ length positions.old) }
+    requires state { HaveState dbd.now volume.old positions.old area.now news.now }
+    ensures call { IsCall volume.old result volume.new }
+    ensures done { IfOk result (λ o. AreRewritesDone dbd.now volume.old positions.old number area.now news.now o volume.new positions.new) }
+    ensures undone { IfErr result (λ _. IsUndone volume.old positions.old volume.new positions.new) }
+    ensures refusal { OnlyDevice result }
+{
+    if !keep_keys(volume, dbd, area, news)? {
+        end_hold(positions, number);
+        return Ok(Outcome::Missing(Status::DA));
+    }
+    replace_rows(volume, dbd, area, news)?;
+    end_holds(positions, news);
+    end_hold(positions, number);
+    Ok(Outcome::Found(Status::Blank))
+}
