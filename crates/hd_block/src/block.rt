@@ -1,6 +1,6 @@
-ghost use Rattle.std.specs.Prelude.{◌≡◌, ◌≢◌, ◌⊎◌, ◌+◌, ◌%◌, ◌≤◌, ◌<◌, ℕ, List, length, slice_index, OnSome, IfSome, IfNone};
+ghost use Rattle.std.specs.Prelude.{◌≡◌, ◌+◌, ◌%◌, ◌≤◌, ◌<◌, ℕ, List, length, slice_index, OnSome, IfSome, IfNone};
 ghost use Rattle.hd_bytes.specs.Ranges.{AgreeOn};
-ghost use Rattle.hd_block.specs.Extents.{Extent, IsDivided, AreWhole, UsedAt, TakenAt};
+ghost use Rattle.hd_block.specs.Extents.{Extent, IsDivided, AreWhole, UsedAt};
 ghost use Rattle.hd_block.specs.Changes.{hole_at, after_take, IsGivenBack, KeepsOthers};
 ghost use Rattle.hd_block.specs.Parts.{parts_of};
 ghost use Rattle.hd_block.specs.Walk.{parts_in};

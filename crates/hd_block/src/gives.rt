@@ -1,6 +1,6 @@
-ghost use Rattle.std.specs.Prelude.{◌≡◌, ◌≢◌, ◌⊎◌, ◌+◌, ◌%◌, ◌≤◌, ◌<◌, ℕ, List, length};
+ghost use Rattle.std.specs.Prelude.{◌≡◌, ◌⊎◌, ◌+◌, ◌%◌, ◌≤◌, ◌<◌, ℕ, List, length};
 ghost use Rattle.hd_bytes.specs.Ranges.{AgreeOn};
-ghost use Rattle.hd_block.specs.Extents.{Extent, Fill, IsDivided, UsedAt, TakenAt};
+ghost use Rattle.hd_block.specs.Extents.{Extent, Fill, IsDivided};
 ghost use Rattle.hd_block.specs.Changes.{IsGivenBack, KeepsOthers};
 ghost use Rattle.hd_block.specs.Found.{At, IsLinked, IsBehind};
 

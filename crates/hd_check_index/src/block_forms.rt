@@ -2,7 +2,6 @@
 ghost use Rattle.std.specs.Prelude.{◌≡◌, ◌≤◌, ◌<◌, ℕ, [], length, true, false, IsTrue, IfNone, IfSome, OnOk};
 ghost use Rattle.hd_bytes.specs.Blocks.{HasBlock};
 ghost use Rattle.hd_dbd.specs.Refusals.{OnlyDeviceOrMemory};
-ghost use Rattle.hd_dbd.specs.Hierarchy.{Database};
 ghost use Rattle.hd_volume.specs.Headers.{HasHeader};
 ghost use Rattle.hd_volume.specs.Volumes.{VolumeState, IsKind};
 ghost use Rattle.hd_volume.specs.Indexes.{root_key_length, entry_room};
@@ -10,7 +9,7 @@ ghost use Rattle.hd_volume.specs.Calls.{IsRead};
 ghost use Rattle.hd_image.specs.Records.{IsVolumeOf};
 ghost use Rattle.hd_image.specs.IndexFaults.{IsOfLevel, IsWrongTop};
 ghost use Rattle.hd_check_blocks.specs.Phases.{IsLeastOf};
-ghost use Rattle.hd_check_index.specs.IndexPhases.{AreIndexBlocks, AreForms, IsNotedBlock, IsTopRight, IsRightIndexBlock, IsFirstWrong, IsIndexRight, IfHeaded, IfSized, IfTabled, IfOwnForm, IfRoom, OfFormed};
+ghost use Rattle.hd_check_index.specs.IndexPhases.{AreIndexBlocks, AreForms, IsNotedBlock, IsTopRight, IsRightIndexBlock, IsFirstWrong, IsIndexRight, IfHeaded, IfSized, IfTabled, IfOwnForm, OfFormed};
 ghost use Rattle.hd_check_blocks.specs.Finding.{WhereNone, WhereSome};
 
 use crate::noted_blocks::{Form, NotedBlock, block_address, position_of};

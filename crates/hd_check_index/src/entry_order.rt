@@ -1,18 +1,16 @@
 //! Phase 11: the keys of the entries ascend.
-ghost use Rattle.std.specs.Prelude.{◌≡◌, ◌≤◌, ◌<◌, ◌*◌, ◌++◌, ◌∷◌, List, [], length, None, take, true, false, IsTrue, IfOk, Option};
+ghost use Rattle.std.specs.Prelude.{◌≡◌, ◌≤◌, ◌<◌, ◌*◌, length, None, take, true, false, IsTrue, IfOk, Option};
 ghost use Rattle.std.specs.Option.{option_map_or};
 ghost use Rattle.hd_dbd.specs.Refusals.{OnlyDevice};
 ghost use Rattle.hd_volume.specs.Volumes.{block_at};
 ghost use Rattle.hd_volume.specs.Entries.{Entry, entries_in, entry_blocks, entries};
 ghost use Rattle.hd_volume.specs.Indexes.{root_key_length, IsEntryBlock, key_less, keys_ascend};
 ghost use Rattle.hd_volume.specs.Calls.{IsRead};
-ghost use Rattle.hd_image.specs.IndexFaults.{last_entry};
 ghost use Rattle.hd_image.specs.Records.{IsVolumeOf};
 ghost use Rattle.hd_image.specs.Right.{IndexIsFormed};
 ghost use Rattle.hd_check_blocks.specs.Phases.{IsLeastOf};
 ghost use Rattle.hd_check_index.specs.LeftKeys.{IsLeft, lesser, IsFirstNotAbove, IsLeftBehind, IsFoundWith};
 ghost use Rattle.hd_check_blocks.specs.Finding.{WhereNone, WhereSome};
-ghost use Rattle.hd_check_index.specs.IndexPhases.{address_not_above};
 ghost use Rattle.hd_entries.specs.Fields.{CountFits};
 
 use crate::noted_blocks::block_address;

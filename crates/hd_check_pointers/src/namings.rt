@@ -1,11 +1,8 @@
 //! The table of the pointers by which segments are named, which phase 3 notes.
-ghost use Rattle.std.specs.Prelude.{◌≡◌, ◌≢◌, ◌≤◌, ◌++◌, ◌∷◌, [], length, OnOk};
+ghost use Rattle.std.specs.Prelude.{◌≡◌, ◌≤◌, ◌++◌, ◌∷◌, [], length, OnOk};
 ghost use Rattle.hd_dbd.specs.Refusals.{OnlyMemory};
 ghost use Rattle.hd_dbd.specs.Prefixes.{stored_size};
-ghost use Rattle.hd_volume.specs.Volumes.{VolumeState};
 ghost use Rattle.hd_prefix.specs.Fields.{code_of};
-ghost use Rattle.hd_image.specs.Records.{links_of, stored_at};
-ghost use Rattle.hd_check_blocks.specs.Lending.{IsLent};
 ghost use Rattle.hd_check_pointers.specs.Namings.{naming_of, first_namings, segment_namings};
 ghost use Rattle.hd_check_pointers.specs.Judging.{OfStoredAt, OfLentAt};
 

@@ -5,7 +5,7 @@ ghost use Rattle.hd_dbd.specs.Hierarchy.{Database};
 ghost use Rattle.hd_volume.specs.Volumes.{VolumeState};
 ghost use Rattle.hd_image.specs.Records.{links_of};
 ghost use Rattle.hd_check_blocks.specs.Places.{IsPlaceOf, PlacesAscend};
-ghost use Rattle.hd_check_pointers.specs.Tables.{place_at, nobody, AreForwards, ArePredecessors, IsOwner, AreOwners};
+ghost use Rattle.hd_check_pointers.specs.Tables.{nobody, AreOwners};
 ghost use Rattle.hd_check_pointers.specs.Matched.{OwnersStayRight, OwnersStayClosed, IfPreceded};
 
 use crate::namings::Naming;

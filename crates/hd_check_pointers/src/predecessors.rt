@@ -3,14 +3,12 @@ ghost use Rattle.std.specs.Prelude.{◌≡◌, drop, IfOk, IfNone, IfSome, OnOk}
 ghost use Rattle.std.specs.Ordering.{nat_cmp};
 ghost use Rattle.std.specs.List.Sorted.{IsNonDecreasingBy, IsStableByKey};
 ghost use Rattle.hd_dbd.specs.Refusals.{OnlyMemory};
-ghost use Rattle.hd_dbd.specs.Hierarchy.{Database};
-ghost use Rattle.hd_volume.specs.Volumes.{VolumeState};
 ghost use Rattle.hd_links.specs.Pointers.{PredecessorsAreOne};
 ghost use Rattle.hd_image.specs.Records.{links_of};
 ghost use Rattle.hd_check_blocks.specs.Phases.{IsLeastOf};
 ghost use Rattle.hd_check_pointers.specs.Tables.{ArePredecessors};
 ghost use Rattle.hd_check_pointers.specs.Namings.{match_fault, first_unmatched};
-ghost use Rattle.hd_check_pointers.specs.Matched.{IfNamed, OfNamed};
+ghost use Rattle.hd_check_pointers.specs.Matched.{OfNamed};
 
 use crate::namings::Naming;
 use hd_check_blocks::{Fault, Place};

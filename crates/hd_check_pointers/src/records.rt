@@ -1,5 +1,5 @@
 //! Phase 3: delete bytes, and what the pointers of the records name.
-ghost use Rattle.std.specs.Prelude.{◌≡◌, ◌++◌, ◌∷◌, [], IsTrue, IfOk, IfNone, IfSome};
+ghost use Rattle.std.specs.Prelude.{◌≡◌, ◌++◌, ◌∷◌, [], IsTrue, IfOk, IfNone};
 ghost use Rattle.hd_dbd.specs.Refusals.{OnlyDeviceOrMemory};
 ghost use Rattle.hd_volume.specs.Calls.{IsRead};
 ghost use Rattle.hd_links.specs.Links.{IsSegment};
@@ -7,7 +7,7 @@ ghost use Rattle.hd_links.specs.Pointers.{PointersAreTyped};
 ghost use Rattle.hd_image.specs.Records.{links_of, IsVolumeOf};
 ghost use Rattle.hd_check_blocks.specs.Phases.{IsLeastOf};
 ghost use Rattle.hd_check_blocks.specs.Places.{ArePlaces};
-ghost use Rattle.hd_check_pointers.specs.Judging.{IsRecordRight, IsWrongRecord, FindsWrongRecord};
+ghost use Rattle.hd_check_pointers.specs.Judging.{IsRecordRight, FindsWrongRecord};
 ghost use Rattle.hd_check_pointers.specs.Tables.{AreForwards};
 ghost use Rattle.hd_check_pointers.specs.Namings.{segment_namings, AreNamings};
 ghost use Rattle.hd_check_blocks.specs.Finding.{WhereNone, WhereSome};

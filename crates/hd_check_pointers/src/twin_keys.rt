@@ -1,5 +1,5 @@
 //! Phase 6: the keys of twins are in order.
-ghost use Rattle.std.specs.Prelude.{◌≡◌, ◌≤◌, ◌<◌, length, take, true, false, IsTrue, IfOk};
+ghost use Rattle.std.specs.Prelude.{◌≡◌, ◌≤◌, ◌<◌, length, take, true, IsTrue, IfOk};
 ghost use Rattle.hd_dbd.specs.Refusals.{OnlyDevice};
 ghost use Rattle.hd_dbd.specs.Rows.{key_of, keys_in_order, twins_in_order};
 ghost use Rattle.hd_volume.specs.Calls.{IsRead};

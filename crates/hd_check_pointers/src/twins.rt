@@ -1,19 +1,19 @@
 //! Phase 5: twin backward, last child and last root.
-ghost use Rattle.std.specs.Prelude.{◌≡◌, ◌≤◌, ◌<◌, ℕ, length, true, false, IsTrue, IfNone, IfSome};
+ghost use Rattle.std.specs.Prelude.{◌≡◌, ◌≤◌, ◌<◌, length, true, false, IsTrue, IfNone, IfSome};
 ghost use Rattle.hd_dbd.specs.Refusals.{OnlyDevice};
 ghost use Rattle.hd_dbd.specs.Hierarchy.{Database};
 ghost use Rattle.hd_dbd.specs.Prefixes.{stored_size};
 ghost use Rattle.hd_volume.specs.Volumes.{VolumeState};
 ghost use Rattle.hd_volume.specs.Calls.{IsRead};
 ghost use Rattle.hd_prefix.specs.Fields.{pointer_of};
-ghost use Rattle.hd_links.specs.Links.{is_child_type, is_last_kept};
+ghost use Rattle.hd_links.specs.Links.{is_last_kept};
 ghost use Rattle.hd_links.specs.Pointers.{Precedes, TwinsLinkBack};
 ghost use Rattle.hd_image.specs.Records.{links_of};
 ghost use Rattle.hd_image.specs.PointerFaults.{IsWrongBackward, IsWrongLast, HasWrongLast};
 ghost use Rattle.hd_check_blocks.specs.Phases.{IsLeastOf};
 ghost use Rattle.hd_check_pointers.specs.Tables.{place_at, AreForwards, ArePredecessors, AreOwners};
 ghost use Rattle.hd_check_pointers.specs.Matched.{IsMatched, IfChained, IfRoots, OfLent, OfLentTwin, TellsTwinBefore, OfChildren, OfChildTwin};
-ghost use Rattle.hd_check_pointers.specs.Twins.{IsTwinOrNone, HasChildren, IsBackwardRight, IsLastRight, AreLastsRight, AreTwinsRight, AreTwinsWrong, IsWrongLastNamed};
+ghost use Rattle.hd_check_pointers.specs.Twins.{IsBackwardRight, IsLastRight, AreLastsRight, AreTwinsRight, AreTwinsWrong, IsWrongLastNamed};
 ghost use Rattle.hd_check_blocks.specs.Finding.{WhereNone, WhereSome};
 
 use crate::namings::Naming;

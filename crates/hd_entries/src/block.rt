@@ -1,9 +1,9 @@
-ghost use Rattle.std.specs.Prelude.{◌≡◌, ◌+◌, ◌≤◌, ◌<◌, true, length, slice_index};
+ghost use Rattle.std.specs.Prelude.{◌≡◌, ◌+◌, ◌≤◌, ◌<◌, length, slice_index};
 ghost use Rattle.hd_bytes.specs.Numbers.{number_at};
 ghost use Rattle.hd_bytes.specs.Ranges.{bytes_at};
 ghost use Rattle.hd_volume.specs.Entries.{entries_in};
-ghost use Rattle.hd_volume.specs.Indexes.{entry_room, key_less, keys_ascend};
-ghost use Rattle.hd_entries.specs.Fields.{entry_place, entry_count, below_count, CountFits};
+ghost use Rattle.hd_volume.specs.Indexes.{entry_room, key_less};
+ghost use Rattle.hd_entries.specs.Fields.{entry_place, entry_count, below_count};
 
 use crate::format::{COUNT, LEVEL, NEXT, entry_place, entry_room};
 use hd_bytes::{read_u16, read_u32};

@@ -1,15 +1,13 @@
-ghost use Rattle.std.specs.Prelude.{◌≡◌, ◌-◌, ◌<◌, ◌&&◌, ◌==◌, not, length, take, IsTrue, IfOk, OnOk};
-ghost use Rattle.hd_dbd.specs.Forest.{Forest};
+ghost use Rattle.std.specs.Prelude.{◌≡◌, ◌-◌, ◌<◌, ◌&&◌, ◌==◌, not, length, IsTrue, IfOk, OnOk};
 ghost use Rattle.hd_dbd.specs.Refusals.{OnlyDevice};
 ghost use Rattle.hd_volume.specs.Calls.{IsCall, IsRead};
 ghost use Rattle.hd_links.specs.Links.{IsSegment};
-ghost use Rattle.hd_links.specs.Placed.{Placed};
 ghost use Rattle.hd_links.specs.Steps.{LeadsDown};
 ghost use Rattle.hd_image.specs.Records.{links_of, IsVolumeOf};
 ghost use Rattle.hd_image.specs.Pointing.{without_record};
-ghost use Rattle.hd_forest.specs.Walks.{tip, AreSegments, HasForest};
+ghost use Rattle.hd_forest.specs.Walks.{AreSegments, HasForest};
 ghost use Rattle.hd_forest.specs.Sets.{IsRecorded};
-ghost use Rattle.hd_forest.specs.Spans.{HasSpan, IsSpan, without_span_of, below_on, beside_on, extended, freed_last, freed_on, IsStep, freeing, IsFreedSpan};
+ghost use Rattle.hd_forest.specs.Spans.{HasSpan, below_on, beside_on, extended, freed_last, freed_on, IsStep, freeing, IsFreedSpan};
 ghost use Rattle.hd_forest.specs.Updates.{IsUnlinked};
 
 use crate::children::below;

@@ -3,7 +3,6 @@ ghost use Rattle.hd_bytes.specs.Numbers.{number_at};
 ghost use Rattle.hd_dbd.specs.Refusals.{OnlyDevice};
 ghost use Rattle.hd_volume.specs.Volumes.{IsFormatted, block_at};
 ghost use Rattle.hd_volume.specs.Calls.{IsCall};
-ghost use Rattle.hd_volume.specs.Entries.{entries_in};
 ghost use Rattle.hd_volume.specs.Indexes.{entry_room, IsEntryBlock};
 ghost use Rattle.hd_entries.specs.Fields.{entry_place};
 ghost use Rattle.hd_index.specs.Edits.{IsEntryAdded, IsEntryRemoved};

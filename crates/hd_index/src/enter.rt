@@ -1,14 +1,14 @@
-ghost use Rattle.std.specs.Prelude.{◌≡◌, ◌+◌, ◌*◌, ◌≤◌, ◌<◌, ◌∷◌, [], None, IsTrue, length, IfErr, OnOk};
+ghost use Rattle.std.specs.Prelude.{◌≡◌, ◌+◌, ◌≤◌, ◌<◌, ◌∷◌, [], None, IsTrue, length, IfErr, OnOk};
 ghost use Rattle.hd_bytes.specs.Numbers.{number_at};
 ghost use Rattle.hd_volume.specs.Headers.{header_of};
 ghost use Rattle.hd_volume.specs.Volumes.{IsFormatted, block_at};
 ghost use Rattle.hd_volume.specs.Calls.{IsCall};
-ghost use Rattle.hd_volume.specs.Entries.{entries, entries_in};
+ghost use Rattle.hd_volume.specs.Entries.{entries};
 ghost use Rattle.hd_volume.specs.Indexes.{entry_room, IsEntryBlock, HasIndex};
-ghost use Rattle.hd_index.specs.Maps.{address_of, with_entry, with_entry_at};
+ghost use Rattle.hd_index.specs.Maps.{address_of};
 ghost use Rattle.hd_entries.specs.Fields.{entry_place};
 ghost use Rattle.hd_index.specs.Places.{spot_of, blocks_needed};
-ghost use Rattle.hd_index.specs.Edits.{IsSpliced, IsChanged, IsRefused, IsEntrySpliced, IsKeyEntered};
+ghost use Rattle.hd_index.specs.Edits.{IsChanged, IsRefused, IsEntrySpliced, IsKeyEntered};
 
 use crate::divide::divide;
 use crate::edit::add_entry;

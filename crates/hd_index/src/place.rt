@@ -1,13 +1,10 @@
-ghost use Rattle.std.specs.Prelude.{◌≡◌, ◌⊎◌, ◌≤◌, ◌<◌, true, false, length, min, option_map, slice_get, bytes_eq, IsTrue, IfOk, IfSome};
+ghost use Rattle.std.specs.Prelude.{◌≡◌, ◌⊎◌, ◌≤◌, ◌<◌, true, false, length, min, IsTrue, IfOk, IfSome};
 ghost use Rattle.hd_bytes.specs.Blocks.{HasBlock};
 ghost use Rattle.hd_bytes.specs.Numbers.{number_at};
 ghost use Rattle.hd_dbd.specs.Refusals.{OnlyDevice};
-ghost use Rattle.hd_volume.specs.Volumes.{block_at};
 ghost use Rattle.hd_volume.specs.Calls.{IsRead};
-ghost use Rattle.hd_volume.specs.Entries.{entries_in};
-ghost use Rattle.hd_volume.specs.Indexes.{keys_ascend, IsEntryBlock, HasIndex};
+ghost use Rattle.hd_volume.specs.Indexes.{HasIndex};
 ghost use Rattle.hd_entries.specs.Fields.{entry_place, entry_count, CountFits};
-ghost use Rattle.hd_entries.specs.Searches.{seen_in};
 ghost use Rattle.hd_index.specs.Places.{place_of, HasPlace, no_spot, spot_in, spot_at, spot_of, IsSeenIn, found_in};
 
 use hd_dbd::Refused;

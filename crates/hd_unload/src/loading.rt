@@ -1,4 +1,4 @@
-ghost use Rattle.std.specs.Prelude.{◌≡◌, ◌≤◌, ◌<◌, ◌++◌, ℕ, List, [], length, ◌+◌, ◌^◌, true, false, None, IsTrue, IfOk, IfErr, IfNone, IfSome, OnOk};
+ghost use Rattle.std.specs.Prelude.{◌≡◌, ◌≤◌, ◌<◌, ℕ, List, [], ◌+◌, true, false, None, IsTrue, IfOk, IfErr, OnOk};
 ghost use Rattle.hd_bytes.specs.Blocks.{HasBlock};
 ghost use Rattle.hd_dbd.specs.Facts.{stored_sizes};
 ghost use Rattle.hd_dbd.specs.DatabaseRules.{well_formed};
@@ -12,7 +12,6 @@ ghost use Rattle.hd_volume.specs.Creates.{IsCreated};
 ghost use Rattle.hd_unload.specs.Loads.{IsReloaded};
 ghost use Rattle.hd_unload.specs.Refusals.{as_call, IsFaultOfRow, IsFaultOf, IsGivenFrom, IsGivenUp, IsStoreOf};
 ghost use Rattle.hd_unload.specs.Steps.{row_of, IsLoadedTo, IsLoadedBehind, IsLoadedAll, ForItsStreams};
-ghost use Rattle.hd_unload.specs.Streams.{head_bytes};
 ghost use Rattle.hd_volume.specs.declared.load.TheConstants.{MOST_BLOCKS};
 
 use crate::fault::{RecordFault, ReloadFault};

@@ -1,10 +1,7 @@
-ghost use Rattle.std.specs.Prelude.{◌≡◌, ◌<◌, ◌^◌, ◌+◌, ◌≤◌, ℕ, List, ◌++◌, length, take, drop, true, Some, None, IfErr, IfOk, IfNone, IfSome, option_map, MatchOption};
-ghost use Rattle.std.specs.Option.{option_map_or};
+ghost use Rattle.std.specs.Prelude.{◌≡◌, ◌<◌, ◌^◌, ◌+◌, ◌≤◌, List, ◌++◌, length, take, drop, Some, None, IfErr, IfOk, IfNone, IfSome};
 ghost use Rattle.hd_dbd.specs.Hierarchy.{type_of};
 ghost use Rattle.hd_dbd.specs.Segment.{Segment};
-ghost use Rattle.hd_dbd.specs.Rows.{row_fits};
-ghost use Rattle.hd_dbd.specs.Loads.{last_path, load_fault};
-ghost use Rattle.hd_unload.specs.Streams.{head_bytes, head_fault, record_bytes, end_bytes, end_fault, spelling_fault, record_fault, refusal_of, IsRecordRead, HasLoadFault};
+ghost use Rattle.hd_unload.specs.Streams.{head_bytes, head_fault, end_bytes, end_fault, spelling_fault, record_fault, IsRecordRead, HasLoadFault};
 
 use crate::fault::RecordFault;
 use hd_dbd::{Dbd, SegType, type_of};

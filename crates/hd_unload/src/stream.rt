@@ -4,14 +4,14 @@ ghost use Rattle.hd_dbd.specs.Forest.{Forest};
 ghost use Rattle.hd_dbd.specs.Prefixes.{stored_size};
 ghost use Rattle.hd_dbd.specs.Segment.{Segment};
 ghost use Rattle.hd_volume.specs.Calls.{IsRead};
-ghost use Rattle.hd_prefix.specs.Fields.{code_of, bytes_of};
+ghost use Rattle.hd_prefix.specs.Fields.{code_of};
 ghost use Rattle.hd_links.specs.Links.{IsSegment, segment_at};
 ghost use Rattle.hd_links.specs.Placed.{Placed};
 ghost use Rattle.hd_links.specs.Steps.{rows_of};
 ghost use Rattle.hd_image.specs.Records.{links_of, IsVolumeOf};
 ghost use Rattle.hd_image.specs.Holding.{HoldsPlaced, HoldsRows};
 ghost use Rattle.hd_forest.specs.Walks.{AreSegments, HasForest};
-ghost use Rattle.hd_unload.specs.Streams.{head_bytes, record_bytes, records_bytes, end_bytes, stored_row};
+ghost use Rattle.hd_unload.specs.Streams.{record_bytes, records_bytes, end_bytes, stored_row};
 ghost use Rattle.hd_unload.specs.Unloads.{IsTurn, IsUnloaded, stream_call};
 
 use crate::fault::StreamFault;

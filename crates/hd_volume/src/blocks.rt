@@ -1,4 +1,4 @@
-ghost use Rattle.std.specs.Prelude.{◌≡◌, ◌+◌, ◌≤◌, ◌<◌, ◌%◌, ℕ, List, true, false, vec_len, IsTrue, length, OnOk, OnSome, IfOk, IfErr, IfSome, IfNone, slice_index};
+ghost use Rattle.std.specs.Prelude.{◌≡◌, ◌+◌, ◌≤◌, ◌<◌, ◌%◌, true, false, vec_len, IsTrue, length, OnOk, IfOk, IfErr, IfSome, slice_index};
 ghost use Rattle.hd_dbd.specs.Refusals.{OnlyDevice, OnlyMemory};
 ghost use Rattle.hd_bytes.specs.Blocks.{block_of, grown, HasBlock};
 ghost use Rattle.hd_bytes.specs.Ranges.{with_bytes};

@@ -1,6 +1,6 @@
-ghost use Rattle.std.specs.Prelude.{◌≡◌, ◌≢◌, true, false, vec_len, IsTrue, length, OnOk};
+ghost use Rattle.std.specs.Prelude.{◌≡◌, true, false, vec_len, IsTrue, length, OnOk};
 ghost use Rattle.hd_dbd.specs.Refusals.{OnlyDevice};
-ghost use Rattle.hd_bytes.specs.Blocks.{block_of, HasBlock};
+ghost use Rattle.hd_bytes.specs.Blocks.{HasBlock};
 ghost use Rattle.hd_volume.specs.Stores.{CountsDevice, StaysSound};
 ghost use Rattle.hd_volume.specs.Buffers.{put_in, IsBuffer, KeepsStoredHead};
 

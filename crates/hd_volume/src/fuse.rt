@@ -1,6 +1,6 @@
 ghost use Rattle.std.specs.Prelude.{◌<◌, ◌≡◌, ◌+◌, ◌-◌, ◌≤◌, ◌&&◌, not, true, false, length, Err, IfErr, OnOk, IsTrue};
 ghost use Rattle.hd_dbd.specs.Refusals.{OnlyDevice, OnlyMemory};
-ghost use Rattle.hd_bytes.specs.Blocks.{block_of, with_block, grown, HasBlock};
+ghost use Rattle.hd_bytes.specs.Blocks.{grown, HasBlock};
 ghost use Rattle.hd_volume.specs.Fuses.{fails_next, failed, after_access, Burns, ReadsBlock, WritesBlock};
 ghost use Rattle.hd_volume.specs.Stores.{CountsDevice, StaysSound, RefusesGrowth};
 

@@ -1,10 +1,6 @@
-ghost use Rattle.std.specs.Prelude.{◌≡◌, ◌+◌, ◌≤◌, ◌<◌, ℕ, true, false, IsTrue, length, slice_index, slice_set, vec_len, IfOk, IfSome, IfNone, OnOk};
+ghost use Rattle.std.specs.Prelude.{◌≡◌, ◌≤◌, ◌<◌, ℕ, true, false, IsTrue, slice_index, slice_set, vec_len, IfOk, IfSome, IfNone};
 ghost use Rattle.hd_dbd.specs.Refusals.{OnlyDevice};
-ghost use Rattle.std.specs.Vec.{vec_capacity};
-ghost use Rattle.hd_bytes.specs.Blocks.{block_of, HasBlock};
-ghost use Rattle.hd_block.specs.Walk.{parts_in};
 ghost use Rattle.hd_volume.specs.Buffers.{IsFetch};
-ghost use Rattle.hd_volume.specs.Volumes.{kind_of};
 ghost use Rattle.hd_volume.specs.Rooms.{largest_hole};
 ghost use Rattle.hd_volume.specs.Spaces.{IsSpaceOf, IsSeen, blocks_in, content_at, KeepsTables, IsSeenAt, NoneIsSeen, HasHoleIn, IsLowestFree, NoneIsFreeBelow};
 ghost use Rattle.hd_volume.specs.declared.load.TheConstants.{MOST_BLOCKS};
