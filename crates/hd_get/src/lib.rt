@@ -17,6 +17,7 @@ mod steps;
 mod verdict;
 mod ways;
 
+pub use arguments::target_code;
 pub use by_key::unique_by_key;
 pub use call::Get;
 pub use judge::Judge;

@@ -70,7 +70,7 @@ impl HeldRows {
 }
 
 /// The row at a level of a path, from 1 on for the root. One access.
-fn row_at<S: BlockStore>(
+pub fn row_at<S: BlockStore>(
     volume: &mut Volume<S>,
     dbd: &Dbd,
     path: &Path,

@@ -7,4 +7,6 @@ mod repl_call;
 mod replacing;
 mod rewrites;
 
+pub use held::{HeldRow, HeldRows, held_rows, row_at};
 pub use repl_call::repl;
+pub use rewrites::is_excepted;

@@ -79,7 +79,7 @@ fn length_of(dbd: &Dbd, code: u8) -> usize
 }
 
 /// Whether an argument of a type has N.
-fn is_excepted(ssas: &[ResolvedSsa<'_>], code: u8) -> bool
+pub fn is_excepted(ssas: &[ResolvedSsa<'_>], code: u8) -> bool
     ensures { result ≡ is_excepted ssas.now code }
 {
     ssas.iter()

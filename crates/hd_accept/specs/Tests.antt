@@ -1,0 +1,54 @@
+-- The tests of a call over a volume.
+use Rattle.std.specs.Prelude.{◌≡◌, ℕ, List, map, Option, Some, None, Result, Ok, Err, option_map}
+use Rattle.hd_dbd.specs.Types.{View}
+use Rattle.hd_dbd.specs.Hierarchy.{Database}
+use Rattle.hd_dbd.specs.declared.answer.Status.{Status}
+use Rattle.hd_dbd.specs.Segment.{Segment}
+use Rattle.hd_dbd.specs.Paths.{row_at}
+use Rattle.hd_dbd.specs.Positions.{Position}
+use Rattle.hd_dbd.specs.Forest.{Forest}
+use Rattle.hd_dbd.specs.Views.{Setting}
+use Rattle.hd_calls.specs.declared.call.Function.{Function}
+use Rattle.hd_calls.specs.Ssas.{Ssa}
+use Rattle.hd_calls.specs.Steps.{AcceptedCall, last_tests, accepted_call}
+use Rattle.hd_volume.specs.Volumes.{VolumeState}
+use Rattle.hd_links.specs.Placed.{Placed}
+use Rattle.hd_links.specs.Steps.{rows_of}
+use Rattle.hd_position.specs.Kept.{Kept}
+use Rattle.hd_get.specs.Gets.{IsPositionIn}
+use Rattle.hd_update.specs.declared.held.HeldRow.{HeldRow}
+
+-- ---- by the codes of rows
+
+-- the codes of some rows
+abbrev pub codes_at : List Segment → List ℕ → List ℕ
+codes_at rows numbers = map (λ i. (row_at rows i).code) numbers
+
+-- the codes of held rows
+abbrev pub held_codes : List HeldRow → List ℕ
+held_codes held = map (λ h. h.code) held
+
+-- wherever what is kept stands for a position, the parentage row, if there is one, is of this type
+abbrev pub IsParentCode : Database → VolumeState → Kept → Option ℕ → Type 0
+IsParentCode d v k code =
+    (f : Forest Placed) (q : Position) → IsPositionIn d v f k q → code ≡ option_map (λ i. (row_at (rows_of f) i).code) q.parent
+
+-- ---- the tests
+
+-- an accepted call, or the status of the first test that failed
+abbrev pub tested : Function → List Ssa → Option Status → Result AcceptedCall Status
+tested function ssas None = Ok (record { function = function; ssas = ssas })
+tested function ssas (Some status) = Err status
+
+-- Wherever what is kept stands for a position, the last tests of the call come to this.
+abbrev pub IsLastTest : Database → VolumeState → View → Kept → Function → List Ssa → Option Status → Type 0
+IsLastTest d v pcb k function ssas failed =
+    (f : Forest Placed) (q : Position) → IsPositionIn d v f k q
+    → last_tests (record { types = d.types; pcb = pcb }) (rows_of f) q function ssas ≡ tested function ssas failed
+
+-- Wherever what is kept stands for a position, the tests of a call with this function and these arguments come to this, whatever its
+-- area is.
+abbrev pub IsTestedText : Database → VolumeState → View → Kept → List ℕ → List (List ℕ) → Result AcceptedCall Status → Type 0
+IsTestedText d v pcb k function ssas result =
+    (f : Forest Placed) (q : Position) (area : List ℕ) → IsPositionIn d v f k q
+    → accepted_call (record { types = d.types; pcb = pcb }) (rows_of f) q (record { function = function; ssas = ssas; area = area }) ≡ result
