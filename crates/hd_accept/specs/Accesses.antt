@@ -7,8 +7,8 @@ use Rattle.hd_accept.specs.declared.access.Access.TheVariants.{Get, Insert, Repl
 
 -- letters give an access
 abbrev pub gives : Access → List ℕ → Bool
-gives Get = gives_get
-gives Insert = gives_insert
-gives Replace = gives_replace
-gives Delete = gives_delete
-gives Path = gives_path
+gives Get letters = gives_get letters
+gives Insert letters = gives_insert letters
+gives Replace letters = gives_replace letters
+gives Delete letters = gives_delete letters
+gives Path letters = gives_path letters

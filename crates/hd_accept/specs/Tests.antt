@@ -1,5 +1,6 @@
 -- The tests of a call over a volume.
-use Rattle.std.specs.Prelude.{◌≡◌, ℕ, List, map, Option, Some, None, Result, Ok, Err, option_map}
+use Rattle.std.specs.Prelude.{◌≡◌, ℕ, List, Bool, ◌||◌, ◌==◌, find, map, Option, Some, None, Result, Ok, Err, option_map}
+use Rattle.std.specs.List.{list_all}
 use Rattle.hd_dbd.specs.Types.{View}
 use Rattle.hd_dbd.specs.Hierarchy.{Database}
 use Rattle.hd_dbd.specs.declared.answer.Status.{Status}
@@ -9,8 +10,9 @@ use Rattle.hd_dbd.specs.Positions.{Position}
 use Rattle.hd_dbd.specs.Forest.{Forest}
 use Rattle.hd_dbd.specs.Views.{Setting}
 use Rattle.hd_calls.specs.declared.call.Function.{Function}
+use Rattle.hd_calls.specs.Access.{may, gives_replace}
 use Rattle.hd_calls.specs.Ssas.{Ssa}
-use Rattle.hd_calls.specs.Steps.{AcceptedCall, last_tests, accepted_call}
+use Rattle.hd_calls.specs.Steps.{AcceptedCall, is_excepted, last_tests, accepted_call}
 use Rattle.hd_volume.specs.Volumes.{VolumeState}
 use Rattle.hd_links.specs.Placed.{Placed}
 use Rattle.hd_links.specs.Steps.{rows_of}
@@ -20,13 +22,21 @@ use Rattle.hd_update.specs.declared.held.HeldRow.{HeldRow}
 
 -- ---- by the codes of rows
 
--- the codes of some rows
-abbrev pub codes_at : List Segment → List ℕ → List ℕ
-codes_at rows numbers = map (λ i. (row_at rows i).code) numbers
+-- rows of these numbers, as they are held at some addresses
+abbrev pub held_at : (ℕ → ℕ) → List Segment → List ℕ → List HeldRow
+held_at places rows numbers = map (λ i. record { address = places i; code = (row_at rows i).code }) numbers
 
--- the codes of held rows
-abbrev pub held_codes : List HeldRow → List ℕ
-held_codes held = map (λ h. h.code) held
+-- these are the rows of the numbers
+abbrev pub AreHeldOf : List Segment → List ℕ → List HeldRow → Type 0
+AreHeldOf rows numbers held = (places : ℕ → ℕ) × (held ≡ held_at places rows numbers)
+
+-- the type of a code, where a row of it is held
+abbrev pub code_among : List HeldRow → ℕ → Option ℕ
+code_among held code = option_map (λ h. h.code) (find (λ h. h.code == code) held)
+
+-- every held row may be replaced, or is excepted by N
+abbrev pub all_replaceable : Setting → List Ssa → List HeldRow → Bool
+all_replaceable s ssas held = list_all (λ h. is_excepted ssas h.code || may s gives_replace h.code) held
 
 -- wherever what is kept stands for a position, the parentage row, if there is one, is of this type
 abbrev pub IsParentCode : Database → VolumeState → Kept → Option ℕ → Type 0

@@ -1,8 +1,8 @@
 ghost use Rattle.std.specs.Prelude.{◌≡◌};
-ghost use Rattle.hd_calls.specs.Access.{may, loads};
+ghost use Rattle.hd_calls.specs.Access.{may, gives_insert, gives_replace, gives_delete, gives_path};
 ghost use Rattle.hd_accept.specs.Accesses.{gives};
 
-use hd_dbd::{Dbd, Pcb, gives_get, gives_load};
+use hd_dbd::{Dbd, Pcb, gives_get};
 
 /// What a PCB may be allowed to do with the segments of a type.
 #[derive(Clone, Copy, Debug, PartialEq, Eq)]
@@ -14,16 +14,44 @@ pub enum Access {
     Path,
 }
 
-/// Whether letters of PROCOPT give an access: A gives all but P.
+/// Whether letters of PROCOPT give inserts: I, or A.
+fn gives_insert(letters: &[u8]) -> bool
+    ensures { result ≡ gives_insert letters.now }
+{
+    letters.iter().any(|b| *b == b'I' || *b == b'A')
+}
+
+/// Whether letters of PROCOPT give replaces: R, or A.
+fn gives_replace(letters: &[u8]) -> bool
+    ensures { result ≡ gives_replace letters.now }
+{
+    letters.iter().any(|b| *b == b'R' || *b == b'A')
+}
+
+/// Whether letters of PROCOPT give deletes: D, or A.
+fn gives_delete(letters: &[u8]) -> bool
+    ensures { result ≡ gives_delete letters.now }
+{
+    letters.iter().any(|b| *b == b'D' || *b == b'A')
+}
+
+/// Whether letters of PROCOPT give path calls: P.
+fn gives_path(letters: &[u8]) -> bool
+    ensures { result ≡ gives_path letters.now }
+{
+    letters.iter().any(|b| *b == b'P')
+}
+
+/// Whether letters of PROCOPT give an access.
 fn gives(access: Access, letters: &[u8]) -> bool
     ensures { result ≡ gives access letters.now }
 {
     match access {
         Access::Get => gives_get(letters),
-        Access::Insert => letters.iter().any(|letter| *letter == b'I' || *letter == b'A'),
-        Access::Replace => letters.iter().any(|letter| *letter == b'R' || *letter == b'A'),
-        Access::Delete => letters.iter().any(|letter| *letter == b'D' || *letter == b'A'),
-        Access::Path => letters.iter().any(|letter| *letter == b'P'),
+        Access::Insert => gives_insert(letters),
+        Access::Replace => gives_replace(letters),
+        Access::Delete => gives_delete(letters),
+        Access::Path => gives_path(letters),
     }
 }
 
@@ -38,11 +66,4 @@ pub fn may(dbd: &Dbd, pcb: &Pcb, access: Access, code: u8) -> bool
         Some(letters) => gives(access, letters),
         None => false,
     }
-}
-
-/// Whether the PCB loads.
-pub fn loads(pcb: &Pcb) -> bool
-    ensures { result ≡ loads pcb.now }
-{
-    gives_load(pcb.procopt.as_bytes())
 }

@@ -1,18 +1,18 @@
-ghost use Rattle.std.specs.Prelude.{◌≡◌, ◌≤◌, ◌<◌, ◌||◌, ℕ, List, Bool, Option, length, map, drop, not, option_map, Some};
+ghost use Rattle.std.specs.Prelude.{◌≡◌, ◌≤◌, ◌<◌, ℕ, List, Bool, Option, length, option_map, slice_get};
 ghost use Rattle.std.specs.List.{list_all};
 ghost use Rattle.hd_dbd.specs.Segment.{Segment};
 ghost use Rattle.hd_dbd.specs.Paths.{row_at};
-ghost use Rattle.hd_calls.specs.Access.{may, gives_replace};
+ghost use Rattle.hd_calls.specs.Access.{may, gives_insert};
 ghost use Rattle.hd_calls.specs.declared.call.GetKind.{GetKind};
 ghost use Rattle.hd_calls.specs.declared.call.Function.TheVariants.{Get, Insert, Replace, Delete};
 ghost use Rattle.hd_calls.specs.Ssas.{first_inserted};
-ghost use Rattle.hd_calls.specs.Steps.{path_allowed, is_allowed, is_excepted, deleted_row, has_parent};
-ghost use Rattle.hd_accept.specs.Tests.{codes_at, held_codes};
+ghost use Rattle.hd_calls.specs.Steps.{path_allowed, is_allowed, deleted_row, has_parent};
+ghost use Rattle.hd_accept.specs.Tests.{AreHeldOf, code_among, all_replaceable};
 
-use crate::access::{Access, loads, may};
+use crate::access::{Access, may};
 use hd_dbd::{Dbd, Pcb};
 use hd_get::target_code;
-use hd_ssa::ResolvedSsa;
+use hd_ssa::{ResolvedSsa, loads};
 use hd_update::{HeldRow, is_excepted};
 
 /// Whether an argument asks for no path row, or its row may be returned on a path.
@@ -20,8 +20,19 @@ fn path_allowed(dbd: &Dbd, pcb: &Pcb, ssa: &ResolvedSsa<'_>) -> bool
     ensures { result ≡ path_allowed (record { types = dbd.now.types; pcb = pcb.now }) ssa.now }
 {
     let code = ssa.code();
-    !ssa.commands().path
-        || (may(dbd, pcb, Access::Get, code) && may(dbd, pcb, Access::Path, code))
+    !ssa.commands().path || (may(dbd, pcb, Access::Get, code) && may(dbd, pcb, Access::Path, code))
+}
+
+/// The same of each of some arguments.
+fn paths_allowed(dbd: &Dbd, pcb: &Pcb, ssas: &[ResolvedSsa<'_>]) -> bool
+    ensures { result ≡ list_all (λ a. path_allowed (record { types = dbd.now.types; pcb = pcb.now }) a) ssas.now }
+{
+    for ssa in ssas {
+        if !path_allowed(dbd, pcb, ssa) {
+            return false;
+        }
+    }
+    true
 }
 
 /// Whether PROCOPT allows a get with these arguments.
@@ -34,9 +45,8 @@ pub fn get_allowed(dbd: &Dbd, pcb: &Pcb, ssas: &[ResolvedSsa<'_>]) -> bool
     if ssas.is_empty() {
         return pcb.reads_some();
     }
-    let above = &ssas[..ssas.len() - 1];
     may(dbd, pcb, Access::Get, target_code(ssas))
-        && above.iter().all(|ssa| path_allowed(dbd, pcb, ssa))
+        && paths_allowed(dbd, pcb, &ssas[..ssas.len() - 1])
 }
 
 /// The place of the first argument whose type is inserted: the first with D, or else the last.
@@ -52,43 +62,79 @@ pub fn first_inserted(ssas: &[ResolvedSsa<'_>]) -> usize
     ssas.len().saturating_sub(1)
 }
 
+/// Whether rows of the types of these arguments may be inserted.
+fn all_insertable(dbd: &Dbd, pcb: &Pcb, ssas: &[ResolvedSsa<'_>]) -> bool
+    ensures { result ≡ list_all (λ a. may (record { types = dbd.now.types; pcb = pcb.now }) gives_insert a.code) ssas.now }
+{
+    for ssa in ssas {
+        if !may(dbd, pcb, Access::Insert, ssa.code()) {
+            return false;
+        }
+    }
+    true
+}
+
 /// Whether PROCOPT allows an ISRT with these arguments.
 pub fn insert_allowed(dbd: &Dbd, pcb: &Pcb, ssas: &[ResolvedSsa<'_>]) -> bool
     ensures { (rows : List Segment) (held : List ℕ) → result ≡ is_allowed (record { types = dbd.now.types; pcb = pcb.now }) rows held Insert ssas.now }
 {
-    let inserted = &ssas[first_inserted(ssas)..];
-    loads(pcb) || inserted.iter().all(|ssa| may(dbd, pcb, Access::Insert, ssa.code()))
+    loads(pcb) || all_insertable(dbd, pcb, &ssas[first_inserted(ssas)..])
 }
 
 /// Whether each of some types is excepted by N, or may be replaced.
 fn all_replaceable(dbd: &Dbd, pcb: &Pcb, ssas: &[ResolvedSsa<'_>], held: &[HeldRow]) -> bool
-    ensures { result ≡ list_all (λ c. is_excepted ssas.now c || may (record { types = dbd.now.types; pcb = pcb.now }) gives_replace c) (held_codes held.now) }
+    ensures { result ≡ all_replaceable (record { types = dbd.now.types; pcb = pcb.now }) ssas.now held.now }
 {
-    held.iter()
-        .all(|row| is_excepted(ssas, row.code) || may(dbd, pcb, Access::Replace, row.code))
+    for row in held {
+        if !is_excepted(ssas, row.code) && !may(dbd, pcb, Access::Replace, row.code) {
+            return false;
+        }
+    }
+    true
 }
 
 /// Whether PROCOPT allows a REPL of these held rows with these arguments.
 pub fn replace_allowed(dbd: &Dbd, pcb: &Pcb, ssas: &[ResolvedSsa<'_>], held: &[HeldRow]) -> bool
-    ensures { (rows : List Segment) (numbers : List ℕ) → codes_at rows numbers ≡ held_codes held.now → result ≡ is_allowed (record { types = dbd.now.types; pcb = pcb.now }) rows numbers Replace ssas.now }
+    ensures { (rows : List Segment) (numbers : List ℕ) → AreHeldOf rows numbers held.now → result ≡ is_allowed (record { types = dbd.now.types; pcb = pcb.now }) rows numbers Replace ssas.now }
 {
     !loads(pcb) && all_replaceable(dbd, pcb, ssas, held)
 }
 
+/// The type of a code, where a row of it is held.
+fn held_code(held: &[HeldRow], code: u8) -> Option<u8>
+    ensures { result ≡ code_among held.now code }
+{
+    for row in held {
+        if row.code == code {
+            return Some(code);
+        }
+    }
+    None
+}
+
+/// The type of the highest held row.
+fn first_code(held: &[HeldRow]) -> Option<u8>
+    ensures { result ≡ option_map (λ h. h.code) (slice_get held.now 0) }
+{
+    match held.first() {
+        Some(row) => Some(row.code),
+        None => None,
+    }
+}
+
 /// The type of the row that a DLET takes out: the one that its argument names, where such a row is held, or else the highest held.
 pub fn deleted_code(ssas: &[ResolvedSsa<'_>], held: &[HeldRow]) -> Option<u8>
-    ensures { (rows : List Segment) (numbers : List ℕ) → codes_at rows numbers ≡ held_codes held.now → result ≡ option_map (λ i. (row_at rows i).code) (deleted_row rows ssas.now numbers) }
+    ensures { (rows : List Segment) (numbers : List ℕ) → AreHeldOf rows numbers held.now → result ≡ option_map (λ i. (row_at rows i).code) (deleted_row rows ssas.now numbers) }
 {
-    let row = match ssas.first() {
-        Some(ssa) => held.iter().find(|row| row.code == ssa.code())?,
-        None => held.first()?,
-    };
-    Some(row.code)
+    match ssas.first() {
+        Some(ssa) => held_code(held, ssa.code()),
+        None => first_code(held),
+    }
 }
 
 /// Whether PROCOPT allows a DLET of one of these held rows with these arguments.
 pub fn delete_allowed(dbd: &Dbd, pcb: &Pcb, ssas: &[ResolvedSsa<'_>], held: &[HeldRow]) -> bool
-    ensures { (rows : List Segment) (numbers : List ℕ) → codes_at rows numbers ≡ held_codes held.now → result ≡ is_allowed (record { types = dbd.now.types; pcb = pcb.now }) rows numbers Delete ssas.now }
+    ensures { (rows : List Segment) (numbers : List ℕ) → AreHeldOf rows numbers held.now → result ≡ is_allowed (record { types = dbd.now.types; pcb = pcb.now }) rows numbers Delete ssas.now }
 {
     if loads(pcb) {
         return false;

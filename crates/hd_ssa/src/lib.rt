@@ -11,7 +11,7 @@ mod resolution;
 
 pub use fault::SsaFault;
 pub use head::Ssa;
-pub use resolution::{Resolved, ResolvedSsa, resolve};
+pub use resolution::{Resolved, ResolvedSsa, loads, resolve};
 
 #[cfg(test)]
 mod making;

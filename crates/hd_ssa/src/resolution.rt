@@ -157,7 +157,7 @@ fn unqualified(heads: &[Named<'_>]) -> bool
 }
 
 /// Whether the PCB loads.
-fn loads(pcb: &Pcb) -> bool
+pub fn loads(pcb: &Pcb) -> bool
     ensures { result ≡ loads pcb.now }
 {
     pcb.procopt.as_bytes().iter().any(|letter| *letter == b'L')

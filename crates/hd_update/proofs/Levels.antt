@@ -30,7 +30,7 @@ row_there path (l ∷ ls) (i ∷ is) zero e within = sym (ap (first None) e)
 row_there path (l ∷ ls) (i ∷ is) (suc n) e within = row_there path ls is n (ap rest e) (omega arith)
 
 -- what stands on the path of the rows passed is a row
-row_below : (bound : ℕ) (path : List ℕ) (level i : ℕ) → AllBelow bound path → row_on path level ≡ Some i → i < bound
+pub row_below : (bound : ℕ) (path : List ℕ) (level i : ℕ) → AllBelow bound path → row_on path level ≡ Some i → i < bound
 row_below bound path zero i below e = cc
 row_below bound path (suc l) i below e = get_below bound path l i below e
 
