@@ -24,4 +24,4 @@ pub returns-in_ok-parent-in-NextInParent-clause-value : goal.returns-in_ok-paren
 returns-in_ok-parent-in-NextInParent-clause-value g c = λ hold f q at.
     let s : Setting = record { types = c.args.dbd.now.types; pcb = c.args.pcb.now } in
     subst (λ (k : GetKind). last_tests s (rows_of f) q (Get k hold) c.args.ssas.now ≡ tested (Get k hold) c.args.ssas.now c.get_in_parent_test.result) (sym c.in-NextInParent.is)
-    (c.get_in_parent_test.ensures (rows_of f) q hold (c.in_ok-parent.ensures.value f q at))
+    (c.get_in_parent_test.ensures (rows_of f) q hold (c.in_ok-parent-in-NextInParent.ensures.value f q at))
