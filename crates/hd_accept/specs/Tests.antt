@@ -38,10 +38,14 @@ code_among held code = option_map (λ h. h.code) (find (λ h. h.code == code) he
 abbrev pub all_replaceable : Setting → List Ssa → List HeldRow → Bool
 all_replaceable s ssas held = list_all (λ h. is_excepted ssas h.code || may s gives_replace h.code) held
 
+-- the parentage row of a position, if it has one, is of this type
+abbrev pub IsParentOf : List Segment → Position → Option ℕ → Type 0
+IsParentOf rows q code = code ≡ option_map (λ i. (row_at rows i).code) q.parent
+
 -- wherever what is kept stands for a position, the parentage row, if there is one, is of this type
 abbrev pub IsParentCode : Database → VolumeState → Kept → Option ℕ → Type 0
 IsParentCode d v k code =
-    (f : Forest Placed) (q : Position) → IsPositionIn d v f k q → code ≡ option_map (λ i. (row_at (rows_of f) i).code) q.parent
+    (f : Forest Placed) (q : Position) → IsPositionIn d v f k q → IsParentOf (rows_of f) q code
 
 -- ---- the tests
 
@@ -50,11 +54,15 @@ abbrev pub tested : Function → List Ssa → Option Status → Result AcceptedC
 tested function ssas None = Ok (record { function = function; ssas = ssas })
 tested function ssas (Some status) = Err status
 
+-- the last tests of a call come to this
+abbrev pub AreLastTests : Setting → List Segment → Position → Function → List Ssa → Option Status → Type 0
+AreLastTests s rows q function ssas failed = last_tests s rows q function ssas ≡ tested function ssas failed
+
 -- Wherever what is kept stands for a position, the last tests of the call come to this.
 abbrev pub IsLastTest : Database → VolumeState → View → Kept → Function → List Ssa → Option Status → Type 0
 IsLastTest d v pcb k function ssas failed =
     (f : Forest Placed) (q : Position) → IsPositionIn d v f k q
-    → last_tests (record { types = d.types; pcb = pcb }) (rows_of f) q function ssas ≡ tested function ssas failed
+    → AreLastTests (record { types = d.types; pcb = pcb }) (rows_of f) q function ssas failed
 
 -- Wherever what is kept stands for a position, the tests of a call with this function and these arguments come to this, whatever its
 -- area is.

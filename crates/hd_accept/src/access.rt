@@ -1,6 +1,6 @@
 ghost use Rattle.std.specs.Prelude.{◌≡◌};
 ghost use Rattle.hd_calls.specs.Access.{may, gives_insert, gives_replace, gives_delete, gives_path};
-ghost use Rattle.hd_accept.specs.Accesses.{gives};
+ghost use Rattle.hd_accept.specs.Accesses.{gives, setting};
 
 use hd_dbd::{Dbd, Pcb, gives_get};
 
@@ -57,7 +57,7 @@ fn gives(access: Access, letters: &[u8]) -> bool
 
 /// Whether the PCB sees the type of a code, and its letters give an access.
 pub fn may(dbd: &Dbd, pcb: &Pcb, access: Access, code: u8) -> bool
-    ensures { result ≡ may (record { types = dbd.now.types; pcb = pcb.now }) (gives access) code }
+    ensures { result ≡ may (setting dbd.now pcb.now) (gives access) code }
 {
     let Some(segment) = dbd.type_of(code) else {
         return false;

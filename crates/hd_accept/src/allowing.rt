@@ -8,6 +8,7 @@ ghost use Rattle.hd_calls.specs.declared.call.Function.TheVariants.{Get, Insert,
 ghost use Rattle.hd_calls.specs.Ssas.{first_inserted};
 ghost use Rattle.hd_calls.specs.Steps.{path_allowed, is_allowed, deleted_row, has_parent};
 ghost use Rattle.hd_accept.specs.Tests.{AreHeldOf, code_among, all_replaceable};
+ghost use Rattle.hd_accept.specs.Accesses.{setting};
 
 use crate::access::{Access, may};
 use hd_dbd::{Dbd, Pcb};
@@ -17,7 +18,7 @@ use hd_update::{HeldRow, is_excepted};
 
 /// Whether an argument asks for no path row, or its row may be returned on a path.
 fn path_allowed(dbd: &Dbd, pcb: &Pcb, ssa: &ResolvedSsa<'_>) -> bool
-    ensures { result ≡ path_allowed (record { types = dbd.now.types; pcb = pcb.now }) ssa.now }
+    ensures { result ≡ path_allowed (setting dbd.now pcb.now) ssa.now }
 {
     let code = ssa.code();
     !ssa.commands().path || (may(dbd, pcb, Access::Get, code) && may(dbd, pcb, Access::Path, code))
@@ -25,7 +26,7 @@ fn path_allowed(dbd: &Dbd, pcb: &Pcb, ssa: &ResolvedSsa<'_>) -> bool
 
 /// The same of each of some arguments.
 fn paths_allowed(dbd: &Dbd, pcb: &Pcb, ssas: &[ResolvedSsa<'_>]) -> bool
-    ensures { result ≡ list_all (λ a. path_allowed (record { types = dbd.now.types; pcb = pcb.now }) a) ssas.now }
+    ensures { result ≡ list_all (λ a. path_allowed (setting dbd.now pcb.now) a) ssas.now }
 {
     for ssa in ssas {
         if !path_allowed(dbd, pcb, ssa) {
@@ -37,7 +38,7 @@ fn paths_allowed(dbd: &Dbd, pcb: &Pcb, ssas: &[ResolvedSsa<'_>]) -> bool
 
 /// Whether PROCOPT allows a get with these arguments.
 pub fn get_allowed(dbd: &Dbd, pcb: &Pcb, ssas: &[ResolvedSsa<'_>]) -> bool
-    ensures { (rows : List Segment) (held : List ℕ) (kind : GetKind) (hold : Bool) → result ≡ is_allowed (record { types = dbd.now.types; pcb = pcb.now }) rows held (Get kind hold) ssas.now }
+    ensures { (rows : List Segment) (held : List ℕ) (kind : GetKind) (hold : Bool) → result ≡ is_allowed (setting dbd.now pcb.now) rows held (Get kind hold) ssas.now }
 {
     if loads(pcb) {
         return false;
@@ -64,7 +65,7 @@ pub fn first_inserted(ssas: &[ResolvedSsa<'_>]) -> usize
 
 /// Whether rows of the types of these arguments may be inserted.
 fn all_insertable(dbd: &Dbd, pcb: &Pcb, ssas: &[ResolvedSsa<'_>]) -> bool
-    ensures { result ≡ list_all (λ a. may (record { types = dbd.now.types; pcb = pcb.now }) gives_insert a.code) ssas.now }
+    ensures { result ≡ list_all (λ a. may (setting dbd.now pcb.now) gives_insert a.code) ssas.now }
 {
     for ssa in ssas {
         if !may(dbd, pcb, Access::Insert, ssa.code()) {
@@ -76,14 +77,14 @@ fn all_insertable(dbd: &Dbd, pcb: &Pcb, ssas: &[ResolvedSsa<'_>]) -> bool
 
 /// Whether PROCOPT allows an ISRT with these arguments.
 pub fn insert_allowed(dbd: &Dbd, pcb: &Pcb, ssas: &[ResolvedSsa<'_>]) -> bool
-    ensures { (rows : List Segment) (held : List ℕ) → result ≡ is_allowed (record { types = dbd.now.types; pcb = pcb.now }) rows held Insert ssas.now }
+    ensures { (rows : List Segment) (held : List ℕ) → result ≡ is_allowed (setting dbd.now pcb.now) rows held Insert ssas.now }
 {
     loads(pcb) || all_insertable(dbd, pcb, &ssas[first_inserted(ssas)..])
 }
 
 /// Whether each of some types is excepted by N, or may be replaced.
 fn all_replaceable(dbd: &Dbd, pcb: &Pcb, ssas: &[ResolvedSsa<'_>], held: &[HeldRow]) -> bool
-    ensures { result ≡ all_replaceable (record { types = dbd.now.types; pcb = pcb.now }) ssas.now held.now }
+    ensures { result ≡ all_replaceable (setting dbd.now pcb.now) ssas.now held.now }
 {
     for row in held {
         if !is_excepted(ssas, row.code) && !may(dbd, pcb, Access::Replace, row.code) {
@@ -95,7 +96,7 @@ fn all_replaceable(dbd: &Dbd, pcb: &Pcb, ssas: &[ResolvedSsa<'_>], held: &[HeldR
 
 /// Whether PROCOPT allows a REPL of these held rows with these arguments.
 pub fn replace_allowed(dbd: &Dbd, pcb: &Pcb, ssas: &[ResolvedSsa<'_>], held: &[HeldRow]) -> bool
-    ensures { (rows : List Segment) (numbers : List ℕ) → AreHeldOf rows numbers held.now → result ≡ is_allowed (record { types = dbd.now.types; pcb = pcb.now }) rows numbers Replace ssas.now }
+    ensures { (rows : List Segment) (numbers : List ℕ) → AreHeldOf rows numbers held.now → result ≡ is_allowed (setting dbd.now pcb.now) rows numbers Replace ssas.now }
 {
     !loads(pcb) && all_replaceable(dbd, pcb, ssas, held)
 }
@@ -134,7 +135,7 @@ pub fn deleted_code(ssas: &[ResolvedSsa<'_>], held: &[HeldRow]) -> Option<u8>
 
 /// Whether PROCOPT allows a DLET of one of these held rows with these arguments.
 pub fn delete_allowed(dbd: &Dbd, pcb: &Pcb, ssas: &[ResolvedSsa<'_>], held: &[HeldRow]) -> bool
-    ensures { (rows : List Segment) (numbers : List ℕ) → AreHeldOf rows numbers held.now → result ≡ is_allowed (record { types = dbd.now.types; pcb = pcb.now }) rows numbers Delete ssas.now }
+    ensures { (rows : List Segment) (numbers : List ℕ) → AreHeldOf rows numbers held.now → result ≡ is_allowed (setting dbd.now pcb.now) rows numbers Delete ssas.now }
 {
     if loads(pcb) {
         return false;

@@ -1,16 +1,15 @@
-ghost use Rattle.std.specs.Prelude.{◌≡◌, ◌≢◌, List, Bool, IfOk, option_map};
+ghost use Rattle.std.specs.Prelude.{◌≢◌, List, Bool, IfOk};
 ghost use Rattle.hd_dbd.specs.Segment.{Segment};
-ghost use Rattle.hd_dbd.specs.Paths.{row_at};
 ghost use Rattle.hd_dbd.specs.Positions.{Position as position};
 ghost use Rattle.hd_dbd.specs.Refusals.{OnlyDevice};
 ghost use Rattle.hd_volume.specs.Calls.{IsRead};
 ghost use Rattle.hd_calls.specs.declared.call.GetKind.{GetKind};
 ghost use Rattle.hd_calls.specs.declared.call.GetKind.TheVariants.{NextInParent};
 ghost use Rattle.hd_calls.specs.declared.call.Function.TheVariants.{Get, Insert, Replace, Delete};
-ghost use Rattle.hd_calls.specs.Steps.{last_tests};
 ghost use Rattle.hd_get.specs.Gets.{HasPosition};
 ghost use Rattle.hd_get.specs.Searches.{IsOf};
-ghost use Rattle.hd_accept.specs.Tests.{AreHeldOf, tested, IsLastTest};
+ghost use Rattle.hd_accept.specs.Tests.{AreHeldOf, IsParentOf, AreLastTests, IsLastTest};
+ghost use Rattle.hd_accept.specs.Accesses.{setting};
 
 use crate::allowing::{
     delete_allowed, deleted_code, get_allowed, has_parent, insert_allowed, replace_allowed,
@@ -25,7 +24,7 @@ use hd_volume::{BlockStore, Volume};
 
 /// The last test of a get that looks at no parent.
 fn get_test(dbd: &Dbd, pcb: &Pcb, ssas: &[ResolvedSsa<'_>]) -> Option<Status>
-    ensures { (rows : List Segment) (q : position) (kind : GetKind) (hold : Bool) → kind ≢ NextInParent → last_tests (record { types = dbd.now.types; pcb = pcb.now }) rows q (Get kind hold) ssas.now ≡ tested (Get kind hold) ssas.now result }
+    ensures { (rows : List Segment) (q : position) (kind : GetKind) (hold : Bool) → kind ≢ NextInParent → AreLastTests (setting dbd.now pcb.now) rows q (Get kind hold) ssas.now result }
 {
     if !get_allowed(dbd, pcb, ssas) {
         return Some(Status::AM);
@@ -40,7 +39,7 @@ fn get_in_parent_test(
     ssas: &[ResolvedSsa<'_>],
     parent: Option<u8>,
 ) -> Option<Status>
-    ensures { (rows : List Segment) (q : position) (hold : Bool) → parent ≡ option_map (λ i. (row_at rows i).code) q.parent → last_tests (record { types = dbd.now.types; pcb = pcb.now }) rows q (Get NextInParent hold) ssas.now ≡ tested (Get NextInParent hold) ssas.now result }
+    ensures { (rows : List Segment) (q : position) (hold : Bool) → IsParentOf rows q parent → AreLastTests (setting dbd.now pcb.now) rows q (Get NextInParent hold) ssas.now result }
 {
     if !get_allowed(dbd, pcb, ssas) {
         return Some(Status::AM);
@@ -53,7 +52,7 @@ fn get_in_parent_test(
 
 /// The last tests of an ISRT.
 fn insert_test(dbd: &Dbd, pcb: &Pcb, ssas: &[ResolvedSsa<'_>]) -> Option<Status>
-    ensures { (rows : List Segment) (q : position) → last_tests (record { types = dbd.now.types; pcb = pcb.now }) rows q Insert ssas.now ≡ tested Insert ssas.now result }
+    ensures { (rows : List Segment) (q : position) → AreLastTests (setting dbd.now pcb.now) rows q Insert ssas.now result }
 {
     if !insert_allowed(dbd, pcb, ssas) {
         return Some(Status::AM);
@@ -66,7 +65,7 @@ fn insert_test(dbd: &Dbd, pcb: &Pcb, ssas: &[ResolvedSsa<'_>]) -> Option<Status>
 
 /// The last tests of a REPL by a PCB that holds these rows.
 fn replace_test(dbd: &Dbd, pcb: &Pcb, ssas: &[ResolvedSsa<'_>], held: &[HeldRow]) -> Option<Status>
-    ensures { (rows : List Segment) (q : position) → AreHeldOf rows q.held held.now → last_tests (record { types = dbd.now.types; pcb = pcb.now }) rows q Replace ssas.now ≡ tested Replace ssas.now result }
+    ensures { (rows : List Segment) (q : position) → AreHeldOf rows q.held held.now → AreLastTests (setting dbd.now pcb.now) rows q Replace ssas.now result }
 {
     if !replace_allowed(dbd, pcb, ssas, held) {
         return Some(Status::AM);
@@ -79,7 +78,7 @@ fn replace_test(dbd: &Dbd, pcb: &Pcb, ssas: &[ResolvedSsa<'_>], held: &[HeldRow]
 
 /// The last tests of a DLET by a PCB that holds these rows.
 fn delete_test(dbd: &Dbd, pcb: &Pcb, ssas: &[ResolvedSsa<'_>], held: &[HeldRow]) -> Option<Status>
-    ensures { (rows : List Segment) (q : position) → AreHeldOf rows q.held held.now → last_tests (record { types = dbd.now.types; pcb = pcb.now }) rows q Delete ssas.now ≡ tested Delete ssas.now result }
+    ensures { (rows : List Segment) (q : position) → AreHeldOf rows q.held held.now → AreLastTests (setting dbd.now pcb.now) rows q Delete ssas.now result }
 {
     if !delete_allowed(dbd, pcb, ssas, held) {
         return Some(Status::AM);

@@ -14,6 +14,7 @@ use Rattle.hd_check_blocks.specs.declared.places.Place.{Place}
 use Rattle.hd_check_blocks.specs.Places.{IsPlaceOf}
 use Rattle.hd_check_index.specs.declared.noted_blocks.NotedBlock.{NotedBlock}
 use Rattle.hd_check_index.specs.declared.noted_blocks.Form.{Form}
+use Rattle.hd_entries.specs.Fields.{entry_in}
 
 -- The index block n has a level below the height and no more entries than find room, and the next block, if there is one, is an
 -- index block of its level.
@@ -186,3 +187,7 @@ IfRoom d v room fact = room ≡ entry_room (root_key_length d.types) v.size → 
 abbrev pub OfFormed : List NotedBlock → List Form → ℕ → ℕ → ℕ → (Database → VolumeState → Type 0) → Type 0
 OfFormed blocks forms top height room fact =
     (d : Database) (v : VolumeState) → IsVolumeOf d v → IfTabled v blocks forms (IfHeaded v top height (IfRoom d v room (fact d v)))
+
+-- the entry of block n at an index
+abbrev pub entry_of : Database → VolumeState → ℕ → ℕ → Entry
+entry_of d v n index = entry_in (root_key_length d.types) (block_at v n) index

@@ -17,7 +17,7 @@ ghost use Rattle.hd_image.specs.Right.{IndexIsFormed};
 ghost use Rattle.hd_check_blocks.specs.Phases.{IsLeastOf};
 ghost use Rattle.hd_check_blocks.specs.Places.{ArePlaces};
 ghost use Rattle.hd_entries.specs.Fields.{entry_in};
-ghost use Rattle.hd_check_index.specs.IndexPhases.{AreIndexBlocks, AreNamed, AllNameRoots, first_wrong_in};
+ghost use Rattle.hd_check_index.specs.IndexPhases.{AreIndexBlocks, AreNamed, AllNameRoots, first_wrong_in, entry_of};
 ghost use Rattle.hd_check_blocks.specs.Finding.{WhereNone, WhereSome};
 
 use crate::noted_blocks::{NotedBlock, block_address};
@@ -79,8 +79,8 @@ fn judge_entry<S: BlockStore>(
     requires within { IsTrue volume.old.is_sound → index < number_at 2 (block_at volume.old n) 4 }
     requires least { 12 ≤ volume.old.size }
     ensures read { IsRead volume.old result volume.new }
-    ensures value { let entry = entry_in (root_key_length dbd.now.types) (block_at volume.old n) index in IfOk result (λ j. IsTrue volume.old.is_sound → j.0 ≡ names_a_root dbd.now (links_of dbd.now.types volume.old) entry) }
-    ensures address { IfOk result (λ j. IsTrue volume.old.is_sound → j.1 ≡ (entry_in (root_key_length dbd.now.types) (block_at volume.old n) index).address) }
+    ensures value { IfOk result (λ j. IsTrue volume.old.is_sound → j.0 ≡ names_a_root dbd.now (links_of dbd.now.types volume.old) (entry_of dbd.now volume.old n index)) }
+    ensures address { IfOk result (λ j. IsTrue volume.old.is_sound → j.1 ≡ (entry_of dbd.now volume.old n index).address) }
     ensures refusal { OnlyDevice result }
 {
     let key_length = root_key_length(dbd);

@@ -8,6 +8,7 @@ use Rattle.hd_links.specs.Links.{Links, segment_at}
 use Rattle.hd_image.specs.declared.line.Line.TheVariants.{OutOfOrder}
 use Rattle.hd_check_blocks.specs.declared.fault.Fault.{Fault}
 use Rattle.hd_links.specs.Pointers.{IsTwinBefore}
+use Rattle.hd_image.specs.PointerFaults.{IsOutOfOrder}
 
 -- the segments of the type of a code have a key
 abbrev pub is_keyed : List SegmentType → ℕ → Bool
@@ -24,3 +25,7 @@ order_fault a before = record { line = OutOfOrder; address = a; other = before }
 -- the fault is that of a key out of order behind that of the twin before it, and it is so
 abbrev pub IsOrderFault : List SegmentType → Links → ℕ → ℕ → Fault → Type 0
 IsOrderFault types m a before f = (f ≡ order_fault a before) × (twins_in_order types (segment_at m before) (segment_at m a) ≡ false)
+
+-- the fault is that of a key out of order, and the key of the segment behind this predecessor is
+abbrev pub IsKeyWrong : List SegmentType → Links → ℕ → ℕ → Fault → Type 0
+IsKeyWrong types m a holder f = (f ≡ order_fault a holder) × IsOutOfOrder types m a holder

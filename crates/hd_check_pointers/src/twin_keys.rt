@@ -10,7 +10,7 @@ ghost use Rattle.hd_image.specs.PointerFaults.{IsOutOfOrder};
 ghost use Rattle.hd_check_blocks.specs.Phases.{IsLeastOf};
 ghost use Rattle.hd_check_pointers.specs.Tables.{place_at, ArePredecessors};
 ghost use Rattle.hd_check_pointers.specs.Matched.{IsMatched};
-ghost use Rattle.hd_check_pointers.specs.Keys.{is_keyed, IsKeyRight, order_fault, IsOrderFault};
+ghost use Rattle.hd_check_pointers.specs.Keys.{is_keyed, IsKeyRight, order_fault, IsOrderFault, IsKeyWrong};
 ghost use Rattle.hd_check_blocks.specs.Finding.{WhereNone, WhereSome};
 
 use crate::namings::Naming;
@@ -113,7 +113,7 @@ fn key_fault<S: BlockStore>(
     requires precedes { IsTrue volume.old.is_sound → Precedes dbd.now.types (links_of dbd.now.types volume.old) holder (place_at places.now number).address }
     ensures read { IsRead volume.old result volume.new }
     ensures none { WhereNone volume.old result (IsKeyRight dbd.now.types (links_of dbd.now.types volume.old) (place_at places.now number).address) }
-    ensures some { let a = (place_at places.now number).address in WhereSome volume.old result (λ f. (f ≡ order_fault a holder) × IsOutOfOrder dbd.now.types (links_of dbd.now.types volume.old) a holder) }
+    ensures some { WhereSome volume.old result (λ f. IsKeyWrong dbd.now.types (links_of dbd.now.types volume.old) (place_at places.now number).address holder f) }
     ensures refusal { OnlyDevice result }
 {
     let place = places[number];

@@ -31,6 +31,10 @@ last_named_in types segment end last (t ∷ ts) =
 abbrev pub last_type_of : List SegmentType → Links → ℕ → Option ℕ → ℕ
 last_type_of types m h end = last_named m h end 0 (child_types types (m.code h))
 
+-- the first child of h of a type behind a type; 0 for none
+abbrev pub child_behind : List SegmentType → Links → ℕ → ℕ → ℕ
+child_behind types m h code = child_among m h (later_than code (child_types types (m.code h)))
+
 -- what stands beside y, a child of h: its next twin, or the first child of h of a later type; 0 for none
 abbrev pub beside : List SegmentType → Links → ℕ → ℕ → ℕ
-beside types m h y = first_some (m.forward y) (child_among m h (later_than (m.code y) (child_types types (m.code h))))
+beside types m h y = first_some (m.forward y) (child_behind types m h (m.code y))

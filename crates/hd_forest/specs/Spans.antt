@@ -70,9 +70,9 @@ pub record IsStep (d : Database) (old : VolumeState) (s : Freeing) (path : List 
   pub down_is : down ≡ s.down
   pub records : IsRecorded d old s.records new
 
--- what is still to be freed along a path of the records
-abbrev pub freeing : Links → List ℕ → Bool → Freeing
-freeing m path down = record { path = path; down = down; records = m }
+-- what is still to be freed along a path of a volume's records
+abbrev pub freeing : Database → VolumeState → List ℕ → Bool → Freeing
+freeing d v path down = record { path = path; down = down; records = links_of d.types v }
 
 -- A span was freed: whatever nodes are below the segment, the records are those without it and them.
 abbrev pub IsFreedSpan : Database → VolumeState → ℕ → VolumeState → Type 0

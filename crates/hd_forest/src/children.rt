@@ -6,7 +6,7 @@ ghost use Rattle.hd_prefix.specs.Fields.{code_of};
 ghost use Rattle.hd_links.specs.Links.{IsSegment, child_types};
 ghost use Rattle.hd_links.specs.Steps.{child_among, later_than};
 ghost use Rattle.hd_image.specs.Records.{links_of, IsVolumeOf};
-ghost use Rattle.hd_forest.specs.Children.{child_in, comes_before, last_named_in, last_type_of};
+ghost use Rattle.hd_forest.specs.Children.{child_in, comes_before, last_named_in, last_type_of, child_behind};
 
 use crate::read::{code_in, pointer_in};
 use hd_dbd::{Dbd, Refused};
@@ -87,7 +87,7 @@ pub fn below_later<S: BlockStore>(
     requires of { IsTrue volume.old.is_sound → IsVolumeOf dbd.now volume.old }
     requires there { IsTrue volume.old.is_sound → IsSegment (links_of dbd.now.types volume.old) address }
     ensures read { IsRead volume.old result volume.new }
-    ensures value { let m = links_of dbd.now.types volume.old in IfOk result (λ r. IsTrue volume.old.is_sound → r ≡ child_among m address (later_than code (child_types dbd.now.types (m.code address)))) }
+    ensures value { IfOk result (λ r. IsTrue volume.old.is_sound → r ≡ child_behind dbd.now.types (links_of dbd.now.types volume.old) address code) }
     ensures refusal { OnlyDevice result }
 {
     let segment = volume.segment_at(address)?;

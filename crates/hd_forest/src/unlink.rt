@@ -76,7 +76,7 @@ fn free_next<S: BlockStore>(
     requires some { IsTrue volume.old.is_sound → 0 < length path.old }
     requires deep { IsTrue volume.old.is_sound → IsTrue down → 0 < below_on dbd.now.types (links_of dbd.now.types volume.old) path.old → length path.old < 15 }
     ensures call { IsCall volume.old result volume.new }
-    ensures freed { IfOk result (λ r. IsTrue volume.old.is_sound → IsStep dbd.now volume.old (freed_on dbd.now.types (freeing (links_of dbd.now.types volume.old) path.old down)) path.new r volume.new) }
+    ensures freed { IfOk result (λ r. IsTrue volume.old.is_sound → IsStep dbd.now volume.old (freed_on dbd.now.types (freeing dbd.now volume.old path.old down)) path.new r volume.new) }
     ensures refusal { OnlyDevice result }
     ensures room { volume.new.room ≡ volume.old.room }
 {
@@ -125,7 +125,7 @@ fn free_last<S: BlockStore>(
     requires there { IsTrue volume.old.is_sound → AreSegments (links_of dbd.now.types volume.old) path.old }
     requires some { IsTrue volume.old.is_sound → 0 < length path.old }
     ensures call { IsCall volume.old result volume.new }
-    ensures freed { IfOk result (λ r. IsTrue volume.old.is_sound → IsStep dbd.now volume.old (freed_last dbd.now.types (freeing (links_of dbd.now.types volume.old) path.old r)) path.new r volume.new) }
+    ensures freed { IfOk result (λ r. IsTrue volume.old.is_sound → IsStep dbd.now volume.old (freed_last dbd.now.types (freeing dbd.now volume.old path.old r)) path.new r volume.new) }
     ensures refusal { OnlyDevice result }
     ensures room { volume.new.room ≡ volume.old.room }
 {

@@ -1,5 +1,5 @@
 -- The unload stream: how rows are spelled, and what is wrong with bytes that spell none.
-use Rattle.std.specs.Prelude.{◌≡◌, ◌⊎◌, ℕ, ◌+◌, ◌-◌, ◌<◌, ◌^◌, List, [], ◌∷◌, ◌++◌, length, take, drop, codes, true, ◌&&◌, ◌==◌, nat_lt, bytes_eq, cond, Option, Some, None, option_map}
+use Rattle.std.specs.Prelude.{◌≡◌, ◌⊎◌, ℕ, ◌+◌, ◌-◌, ◌<◌, ◌^◌, List, [], ◌∷◌, ◌++◌, length, take, drop, codes, true, ◌&&◌, ◌==◌, nat_lt, bytes_eq, cond, Option, Some, None, option_map, ◌≤◌}
 use Rattle.std.specs.Option.{option_map_or, option_or}
 use Rattle.std.specs.Int.{w16, w32, to_be_bytes, from_be_bytes}
 use Rattle.hd_dbd.specs.declared.answer.LoadFault.{LoadFault}
@@ -12,6 +12,7 @@ use Rattle.hd_dbd.specs.Loads.{last_path, load_fault}
 use Rattle.hd_unload.specs.declared.fault.RecordFault.{RecordFault}
 use Rattle.hd_unload.specs.declared.fault.RecordFault.TheVariants.{U1, U2, U3, U4, LB, LC, LD, LE}
 use Rattle.hd_prefix.specs.Fields.{code_of, bytes_of}
+use Rattle.hd_dbd.specs.Prefixes.{stored_size}
 
 -- ---- spelling
 
@@ -100,3 +101,7 @@ HasLoadFault types text row =
 -- the row of a stored segment
 abbrev pub stored_row : List SegmentType → List ℕ → Segment
 stored_row types segment = record { code = code_of segment; bytes = bytes_of types (code_of segment) segment }
+
+-- a stored segment is as long as its type's segments
+abbrev pub IsWhole : List SegmentType → List ℕ → Type 0
+IsWhole types segment = stored_size types (code_of segment) ≤ length segment

@@ -129,7 +129,7 @@ fn fill<S: BlockStore>(
 ) -> Result<Reloaded<S>, (S, ReloadFault)>
     requires sizes { (volume.size ≡ dbd.now.block_size) × (volume.sizes ≡ stored_sizes dbd.now.types) }
     requires new { IsTrue volume.is_sound → (largest : ℕ) × IsCreated dbd.now.name dbd.now.block_size largest volume }
-    ensures reloaded { IfOk result (λ r. IsTrue volume.is_sound → ForItsStreams dbd.now records.now volume (λ stream largest. IsReloaded dbd.now stream largest r.segments r.blocks (S.contents r.store))) }
+    ensures reloaded { IfOk result (λ r. IsTrue volume.is_sound → ForItsStreams dbd.now records.now volume (λ stream most. IsReloaded dbd.now stream most r.segments r.blocks (S.contents r.store))) }
     ensures store { IfOk result (λ r. IsStoreOf S.size S.is_sound S.failures volume r.store) }
     ensures fault { IfErr result (λ e. ForItsStreams dbd.now records.now volume (λ stream largest. IsFaultOf dbd.now stream largest volume.is_sound e.1)) }
     ensures given { IfErr result (λ e. IsGivenFrom S.size S.contents S.is_sound S.failures volume e) }

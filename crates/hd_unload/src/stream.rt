@@ -11,7 +11,7 @@ ghost use Rattle.hd_links.specs.Steps.{rows_of};
 ghost use Rattle.hd_image.specs.Records.{links_of, IsVolumeOf};
 ghost use Rattle.hd_image.specs.Holding.{HoldsPlaced, HoldsRows};
 ghost use Rattle.hd_forest.specs.Walks.{AreSegments, HasForest};
-ghost use Rattle.hd_unload.specs.Streams.{record_bytes, records_bytes, end_bytes, stored_row};
+ghost use Rattle.hd_unload.specs.Streams.{record_bytes, records_bytes, end_bytes, stored_row, IsWhole};
 ghost use Rattle.hd_unload.specs.Unloads.{IsTurn, IsUnloaded, stream_call};
 
 use crate::fault::StreamFault;
@@ -55,7 +55,7 @@ fn put_end<W: Write>(out: &mut W, count: u32) -> Result<(), StreamFault>
 
 /// Writes the record of a stored segment, which is as long as its type's segments.
 fn put_record<W: Write>(dbd: &Dbd, segment: &[u8], out: &mut W) -> Result<(), StreamFault>
-    ensures record { OnOk result (stored_size dbd.now.types (code_of segment.now) ≤ length segment.now → Appends (W.contents out.old) (W.contents out.new) (record_bytes (stored_row dbd.now.types segment.now))) }
+    ensures record { OnOk result (IsWhole dbd.now.types segment.now → Appends (W.contents out.old) (W.contents out.new) (record_bytes (stored_row dbd.now.types segment.now))) }
     ensures refusal { IfErr result (λ e. e ≡ StreamFault.Write) }
 {
     let code = segment.first().copied().unwrap_or(0);

@@ -75,3 +75,7 @@ ChangesHead old Changes new =
 -- The store's own block 0 stays, where the buffer that another block is brought to does not hold it.
 abbrev pub KeepsStoredHead : ℕ → List ℕ → Buffer → List ℕ → Type 0
 KeepsStoredHead size old b new = HasBlock size old 0 → (b.holds ≡ true → b.number ≢ 0) → block_of size new 0 ≡ block_of size old 0
+
+-- the store's bytes with the two blocks put in are the same as before
+abbrev pub KeepsImage : ℕ → List ℕ → Buffer → Buffer → List ℕ → Buffer → Type 0
+KeepsImage size old head hand new new_head = image_of size new new_head hand ≡ image_of size old head hand

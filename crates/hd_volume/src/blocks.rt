@@ -6,7 +6,7 @@ ghost use Rattle.byteorder.specs.Endian.{big_bytes};
 ghost use Rattle.hd_volume.specs.Edits.{IsTaken, IsGiven};
 ghost use Rattle.hd_volume.specs.Stores.{CountsDevice, StaysSound, RefusesGrowth, IsGivenBack};
 ghost use Rattle.hd_volume.specs.Images.{ChangesBlock, KeepsFirst};
-ghost use Rattle.hd_volume.specs.Buffers.{AreBuffers, image_of, ChangesHand, ChangesHead};
+ghost use Rattle.hd_volume.specs.Buffers.{AreBuffers, image_of, ChangesHand, ChangesHead, KeepsImage};
 
 use crate::buffer::{Buffer, bring, write_back};
 use crate::store::BlockStore;
@@ -262,7 +262,7 @@ fn write_first<S: BlockStore>(
     requires number { head.old.number ≡ 0 }
     requires others_stand { IsTrue (S.is_sound store.old) → hand.now.holds ≡ true → hand.now.changed ≡ false }
     ensures contents { OnOk result (IsTrue (S.is_sound store.old) → S.contents store.new ≡ image_of (S.size store.old) (S.contents store.old) head.old hand.now) }
-    ensures image { let n = S.size store.old in OnOk result (IsTrue (S.is_sound store.old) → image_of n (S.contents store.new) head.new hand.now ≡ image_of n (S.contents store.old) head.old hand.now) }
+    ensures image { OnOk result (IsTrue (S.is_sound store.old) → KeepsImage (S.size store.old) (S.contents store.old) head.old hand.now (S.contents store.new) head.new) }
     ensures ready { OnOk result (IsTrue (S.is_sound store.old) → AreBuffers (S.size store.old) (S.contents store.new) head.new hand.now) }
     ensures len { vec_len head.new.bytes ≡ S.size store.old }
     ensures number { head.new.number ≡ 0 }
