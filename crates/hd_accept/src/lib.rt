@@ -9,3 +9,6 @@ mod last_tests;
 mod parent;
 
 pub use accepting::{Accepted, accept};
+
+#[cfg(test)]
+mod tests;
