@@ -2,4 +2,5 @@ pub mod Searches
 pub mod Meeting
 pub mod Asking
 pub mod Starts
+pub mod First
 pub mod Gets

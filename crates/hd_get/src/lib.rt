@@ -5,6 +5,7 @@ mod access;
 mod arguments;
 mod by_key;
 mod call;
+mod first;
 mod judge;
 mod meeting;
 mod named;
