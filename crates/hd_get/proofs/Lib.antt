@@ -12,3 +12,5 @@ pub mod KeptRows
 pub mod KeptPaths
 pub mod Lowering
 pub mod LoweredStarts
+pub mod TakenLevels
+pub mod Seeking

@@ -4,3 +4,4 @@ pub mod Asking
 pub mod Starts
 pub mod First
 pub mod Gets
+pub mod Found
