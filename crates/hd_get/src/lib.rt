@@ -38,4 +38,6 @@ pub use taking::taken;
 pub use verdict::Verdict;
 
 #[cfg(test)]
+mod get_tests;
+#[cfg(test)]
 mod tests;
