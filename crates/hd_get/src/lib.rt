@@ -1,4 +1,4 @@
-//! The search of a get over a volume: from where it begins to the first row that passes.
+//! A get over a volume: where it begins, which row it finds, what it answers, and where it leaves its PCB.
 #![tactic(auto)]
 
 mod access;
