@@ -8,3 +8,9 @@ pub mod LastTwins
 pub mod Asking
 pub mod Starts
 pub mod ByKey
+pub mod KeptRows
+pub mod KeptPaths
+pub mod Lowering
+pub mod LoweredStarts
+pub mod TakenLevels
+pub mod Seeking

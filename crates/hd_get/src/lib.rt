@@ -1,10 +1,13 @@
-//! The search of a get over a volume: from where it begins to the first row that passes.
+//! A get over a volume: where it begins, which row it finds, what it answers, and where it leaves its PCB.
 #![tactic(auto)]
 
 mod access;
 mod arguments;
 mod by_key;
 mod call;
+mod finding;
+mod first;
+mod getting;
 mod judge;
 mod meeting;
 mod named;
@@ -14,21 +17,28 @@ mod searching;
 mod settling;
 mod starting;
 mod steps;
+mod taking;
 mod verdict;
 mod ways;
 
 pub use arguments::target_code;
-pub use by_key::unique_by_key;
 pub use call::Get;
+pub use getting::get;
 pub use judge::Judge;
 pub use meeting::meets;
 pub use named::Named;
 pub use outcome::Outcome;
-pub use plain::Plain;
+#[cfg(test)]
+use plain::Plain;
 pub use searching::find;
-pub use settling::settle;
-pub use starting::{next, next_in_parent, unique};
+#[cfg(test)]
+use settling::settle;
+#[cfg(test)]
+use starting::{next, next_in_parent, unique};
+pub use taking::taken;
 pub use verdict::Verdict;
 
+#[cfg(test)]
+mod get_tests;
 #[cfg(test)]
 mod tests;
