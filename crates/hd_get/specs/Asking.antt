@@ -18,10 +18,11 @@ use Rattle.hd_calls.specs.Ssas.{Ssa, target_code}
 use Rattle.hd_calls.specs.Satisfies.{satisfies}
 use Rattle.hd_seek.specs.Admits.{admits, meets_own, is_on_way, Descend}
 use Rattle.hd_seek.specs.Keys.{is_past}
+use Rattle.hd_seek.specs.Spans.{reads_some_below}
 use Rattle.hd_seek.specs.Ways.{way_down, way_beside}
 use Rattle.hd_get.specs.Searches.{IsPathOf}
 use Rattle.hd_get.specs.declared.verdict.Verdict.{Verdict}
-use Rattle.hd_get.specs.declared.verdict.Verdict.TheVariants.{Found, Down, Across, Beside, Rest}
+use Rattle.hd_get.specs.declared.verdict.Verdict.TheVariants.{Found, Next, Over, Down, Across, Beside, Rest}
 
 -- Whose get it is, and its arguments.
 pub record Asked : Type 0 where
@@ -47,6 +48,11 @@ verdict_beside types target code = option_map_or (λ c. cond (nat_lt code c) (Be
 -- on a row that is admitted: down the way; where that ends, the row is found if it may be read
 abbrev pub verdict_down : Setting → ℕ → ℕ → Verdict
 verdict_down s target code = option_map_or (λ c. Down c) (way_down s.types target code) (cond (may s gives_get code) Found Across)
+
+-- a get without arguments: a row that may be read is found; from another the search goes on to the next row, or over its span, where
+-- nothing that depends on it may be read either
+abbrev pub verdict_plain : Setting → ℕ → Verdict
+verdict_plain s code = cond (may s gives_get code) Found (cond (reads_some_below s code) Next Over)
 
 -- wherever the path is that of a row of this type, the answer says whether that meets the arguments of its type
 abbrev pub Admits : Database → VolumeState → List Ssa → ℕ → List ℕ → Bool → Type 0
