@@ -6,6 +6,7 @@ pub mod RowsAbove
 pub mod Judging
 pub mod LastTwins
 pub mod Unread
+pub mod LastChildren
 pub mod Asking
 pub mod Starts
 pub mod ByKey

@@ -1,4 +1,4 @@
-use Rattle.std.proofs.Common.{◌≡◌, Bool, true, false, List, None, Some, Option, sym, ◌∙◌, refl}
+use Rattle.std.proofs.Common.{◌≡◌, false, List, None, Some, Option, sym, ◌∙◌, refl}
 use Rattle.std.specs.Prelude.{not, is_none}
 use Rattle.hd_volume.proofs.CallSteps.{if-ok}
 use Rattle.hd_links.specs.Steps.{rows_of}

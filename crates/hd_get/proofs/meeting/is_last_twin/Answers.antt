@@ -1,4 +1,4 @@
-use Rattle.std.proofs.Common.{◌≡◌, ap, sym, subst, ◌∙◌}
+use Rattle.std.proofs.Common.{ap, sym, subst, ◌∙◌}
 use Rattle.hd_links.specs.Links.{IsSegment}
 use Rattle.hd_image.specs.Records.{links_of}
 use Rattle.hd_get.proofs.Grounds.{grounds, tip_is, tip_there}
