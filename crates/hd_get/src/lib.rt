@@ -30,4 +30,10 @@ pub use starting::{next, next_in_parent, unique};
 pub use verdict::Verdict;
 
 #[cfg(test)]
+mod named_tests;
+#[cfg(test)]
+mod sample_with_fields;
+#[cfg(test)]
+mod test_volumes;
+#[cfg(test)]
 mod tests;
