@@ -30,6 +30,8 @@ pub use starting::{next, next_in_parent, unique};
 pub use verdict::Verdict;
 
 #[cfg(test)]
+mod access_tests;
+#[cfg(test)]
 mod named_tests;
 #[cfg(test)]
 mod sample_with_fields;
