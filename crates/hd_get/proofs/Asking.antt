@@ -39,7 +39,7 @@ use Rattle.hd_get.proofs.Spans.{parent_span, parent_within, above_parent, whole_
 use Rattle.hd_get.proofs.Judging.{judged_found, judged_down, judged_to_last, judged_across, judged_beside, judged_rest}
 
 -- a type is a child type of its parent
-child_of : (types : List SegmentType) (p c : ℕ) → (p ≡ 0 → ⊥) → parent_of types c ≡ Some p → is_child_type types p c ≡ true
+pub child_of : (types : List SegmentType) (p c : ℕ) → (p ≡ 0 → ⊥) → parent_of types c ≡ Some p → is_child_type types p c ≡ true
 child_of types p c some is =
     ap (λ (xs : List ℕ). list_any (λ u. u == c) xs) (cond-false (p == 0) (1 ∷ []) (children_of types p) (ne_eqb p 0 some))
     ∙ children_listed types p c ∙ ap (λ (o : Option ℕ). option_map_or (λ q. q == p) o false) is ∙ eq-eqb p p refl

@@ -10,3 +10,9 @@ pub mod LastChildren
 pub mod Asking
 pub mod Starts
 pub mod ByKey
+pub mod KeptRows
+pub mod KeptPaths
+pub mod Lowering
+pub mod LoweredStarts
+pub mod TakenLevels
+pub mod Seeking

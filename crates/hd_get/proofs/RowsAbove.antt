@@ -28,7 +28,7 @@ take_in zero xs ys w = refl
 take_in (suc n) [] ys w = absurd (omega arith)
 take_in (suc n) (x ∷ xs) ys w = ap (λ (zs : List ℕ). x ∷ zs) (take_in n xs ys (omega arith))
 
-take_all : (xs : List ℕ) → take (length xs) xs ≡ xs
+pub take_all : (xs : List ℕ) → take (length xs) xs ≡ xs
 take_all [] = refl
 take_all (x ∷ xs) = ap (λ (zs : List ℕ). x ∷ zs) (take_all xs)
 
@@ -40,12 +40,12 @@ take_twice k xs = ap (λ j. take k (take j xs)) (let e : k + 1 ≡ suc k = omega
     go (suc k) [] = refl
     go (suc k) (x ∷ xs) = ap (λ (zs : List ℕ). x ∷ zs) (go k xs)
 
-take_size : (k : ℕ) (xs : List ℕ) → k ≤ length xs → length (take k xs) ≡ k
+pub take_size : (k : ℕ) (xs : List ℕ) → k ≤ length xs → length (take k xs) ≡ k
 take_size zero xs w = refl
 take_size (suc k) [] w = absurd (omega arith)
 take_size (suc k) (x ∷ xs) w = ap suc (take_size k xs (omega arith))
 
-take_map : (g : ℕ → ℕ) (n : ℕ) (xs : List ℕ) → take n (map g xs) ≡ map g (take n xs)
+pub take_map : (g : ℕ → ℕ) (n : ℕ) (xs : List ℕ) → take n (map g xs) ≡ map g (take n xs)
 take_map g zero xs = refl
 take_map g (suc n) [] = refl
 take_map g (suc n) (x ∷ xs) = ap (λ (ys : List ℕ). g x ∷ ys) (take_map g n xs)

@@ -30,7 +30,7 @@ pub leads_whole : (types : List SegmentType) (m : Links) (f : Forest Placed) (pa
 leads_whole types m f path i leads = record { holds = leads.holds; ends = ends_whole types f i; is = leads.is }
 
 -- what stands on a path of rows before a number is before it
-on_below : (b : ℕ) (xs : List ℕ) (l x : ℕ) → AllBelow b xs → row_on xs l ≡ Some x → x < b
+pub on_below : (b : ℕ) (xs : List ℕ) (l x : ℕ) → AllBelow b xs → row_on xs l ≡ Some x → x < b
 on_below b xs zero x all e = cc
 on_below b xs (suc l) x all e = get_below b xs l x all e
 
@@ -42,11 +42,11 @@ module _ (types : List SegmentType) (f : Forest Placed) (k : Kept) (q : Position
       ∙ sym (ap (option_map (λ j. address_at f j)) F.parent)
 
   -- the parentage row is among the rows passed
-  parent_passed : (p : ℕ) → q.parent ≡ Some p → p < q.passed
+  pub parent_passed : (p : ℕ) → q.parent ≡ Some p → p < q.passed
   parent_passed p e = on_below q.passed (path_passed types (rows_of f) q.passed) k.parent p (passed_below types (rows_of f) q.passed) (sym F.parent ∙ e)
 
   -- GNP begins behind the rows passed, and ends with the parentage row's span
-  ends_below : (p : ℕ) → q.parent ≡ Some p
+  pub ends_below : (p : ℕ) → q.parent ≡ Some p
       → (search_start types (rows_of f) q NextInParent [] ≡ q.passed) × (search_end types (rows_of f) q NextInParent ≡ end_of types (rows_of f) p)
   ends_below p e = (
     (let before : p < q.passed = parent_passed p e in

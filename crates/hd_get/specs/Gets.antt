@@ -1,7 +1,6 @@
 -- A get over a volume, and what it comes to.
-use Rattle.std.specs.Prelude.{◌≡◌, IsTrue, ℕ, List, ◌++◌, ◌∷◌, [], Bool, true, false, filter_map, cond, Option, Some, None}
+use Rattle.std.specs.Prelude.{◌≡◌, IsTrue, ℕ, List, ◌++◌, ◌∷◌, [], Bool, true, false, filter_map, cond, Some, None}
 use Rattle.hd_dbd.specs.Types.{SegmentType, View}
-use Rattle.hd_dbd.specs.declared.answer.Status.{Status}
 use Rattle.hd_dbd.specs.Hierarchy.{Database, level_of}
 use Rattle.hd_dbd.specs.Segment.{Segment}
 use Rattle.hd_dbd.specs.Positions.{Position}

@@ -2,4 +2,6 @@ pub mod Searches
 pub mod Meeting
 pub mod Asking
 pub mod Starts
+pub mod First
 pub mod Gets
+pub mod Found

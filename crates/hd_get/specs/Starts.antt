@@ -34,23 +34,23 @@ abbrev pub LeadsToFirst : Database → VolumeState → List ℕ → Type 0
 LeadsToFirst d v path =
     (f : Forest Placed) → IsTrue v.is_sound → Holds d.types (links_of d.types v) f → LeadsWithin d.types (links_of d.types v) f 0 (length (rows_of f)) path 0
 
--- The path leads to the row where a get of a kind without F begins from a position, or to none where that is behind its last.
-abbrev pub LeadsToStart : GetKind → Database → VolumeState → Forest Placed → Position → ℕ → List ℕ → Type 0
-LeadsToStart kind d v f q parent path =
-    LeadsWithin d.types (links_of d.types v) f parent (search_end d.types (rows_of f) q kind) path (search_start d.types (rows_of f) q kind [])
+-- The path leads to the row where a get of a kind begins from a position, or to none where that is behind its last.
+abbrev pub LeadsToStart : GetKind → Database → VolumeState → List Ssa → Forest Placed → Position → ℕ → List ℕ → Type 0
+LeadsToStart kind d v ssas f q parent path =
+    LeadsWithin d.types (links_of d.types v) f parent (search_end d.types (rows_of f) q kind) path (search_start d.types (rows_of f) q kind ssas)
 
 -- wherever what is kept stands for a position, the path leads to where GN begins from it
-abbrev pub LeadsToNext : Database → VolumeState → Kept → List ℕ → Type 0
-LeadsToNext d v k path = (f : Forest Placed) (q : Position) → IsKeptIn d v f k q → LeadsToStart Next d v f q 0 path
+abbrev pub LeadsToNext : Database → VolumeState → List Ssa → Kept → List ℕ → Type 0
+LeadsToNext d v ssas k path = (f : Forest Placed) (q : Position) → IsKeptIn d v f k q → LeadsToStart Next d v ssas f q 0 path
 
 -- What GNP begins with from a position: the address of the parentage row and a path, just where there is such a row.
-pub record IsStartBelow (d : Database) (v : VolumeState) (f : Forest Placed) (q : Position) (start : Option (ℕ × List ℕ)) : Type 0 where
+pub record IsStartBelow (d : Database) (v : VolumeState) (ssas : List Ssa) (f : Forest Placed) (q : Position) (start : Option (ℕ × List ℕ)) : Type 0 where
   pub parent : is_some start ≡ is_some q.parent
-  pub leads : IfSome start (λ s. LeadsToStart NextInParent d v f q s.0 s.1)
+  pub leads : IfSome start (λ s. LeadsToStart NextInParent d v ssas f q s.0 s.1)
 
 -- wherever what is kept stands for a position, GNP begins so from it
-abbrev pub StartsBelow : Database → VolumeState → Kept → Option (ℕ × List ℕ) → Type 0
-StartsBelow d v k start = (f : Forest Placed) (q : Position) → IsKeptIn d v f k q → IsStartBelow d v f q start
+abbrev pub StartsBelow : Database → VolumeState → List Ssa → Kept → Option (ℕ × List ℕ) → Type 0
+StartsBelow d v ssas k start = (f : Forest Placed) (q : Position) → IsKeptIn d v f k q → IsStartBelow d v ssas f q start
 
 -- ---- where a key of the root is asked
 

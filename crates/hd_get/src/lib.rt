@@ -5,6 +5,9 @@ mod access;
 mod arguments;
 mod by_key;
 mod call;
+mod finding;
+mod first;
+mod getting;
 mod judge;
 mod meeting;
 mod named;
@@ -14,19 +17,24 @@ mod searching;
 mod settling;
 mod starting;
 mod steps;
+mod taking;
 mod verdict;
 mod ways;
 
-pub use by_key::unique_by_key;
 pub use call::Get;
+pub use getting::get;
 pub use judge::Judge;
 pub use meeting::meets;
 pub use named::Named;
 pub use outcome::Outcome;
-pub use plain::Plain;
+#[cfg(test)]
+use plain::Plain;
 pub use searching::find;
-pub use settling::settle;
-pub use starting::{next, next_in_parent, unique};
+#[cfg(test)]
+use settling::settle;
+#[cfg(test)]
+use starting::{next, next_in_parent, unique};
+pub use taking::taken;
 pub use verdict::Verdict;
 
 #[cfg(test)]

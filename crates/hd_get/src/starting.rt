@@ -1,4 +1,4 @@
-ghost use Rattle.std.specs.Prelude.{IsTrue, IfOk};
+ghost use Rattle.std.specs.Prelude.{[], IsTrue, IfOk};
 ghost use Rattle.hd_dbd.specs.Refusals.{OnlyDevice};
 ghost use Rattle.hd_volume.specs.Calls.{IsRead};
 ghost use Rattle.hd_image.specs.Records.{links_of};
@@ -36,7 +36,7 @@ pub fn next<S: BlockStore>(
     requires of { IsOf dbd.now volume.old }
     requires there { IsTrue volume.old.is_sound → IsSomewhere dbd.now.types (links_of dbd.now.types volume.old) position.now }
     ensures read { IsRead volume.old result volume.new }
-    ensures value { IfOk result (λ path. LeadsToNext dbd.now volume.old position.now path) }
+    ensures value { IfOk result (λ path. LeadsToNext dbd.now volume.old [] position.now path) }
     ensures refusal { OnlyDevice result }
 {
     begin(volume, dbd, position)
@@ -52,7 +52,7 @@ pub fn next_in_parent<S: BlockStore>(
     requires of { IsOf dbd.now volume.old }
     requires there { IsTrue volume.old.is_sound → IsSomewhere dbd.now.types (links_of dbd.now.types volume.old) position.now }
     ensures read { IsRead volume.old result volume.new }
-    ensures value { IfOk result (λ start. StartsBelow dbd.now volume.old position.now start) }
+    ensures value { IfOk result (λ start. StartsBelow dbd.now volume.old [] position.now start) }
     ensures refusal { OnlyDevice result }
 {
     let Some(parent) = row_on(position.path(), position.parent()) else {

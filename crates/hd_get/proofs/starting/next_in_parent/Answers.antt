@@ -1,4 +1,4 @@
-use Rattle.std.proofs.Common.{◌≡◌, ℕ, List, Some, None, Option, sym, ap₂, subst, ◌∙◌}
+use Rattle.std.proofs.Common.{◌≡◌, ℕ, List, [], Some, None, Option, sym, ap₂, subst, ◌∙◌}
 use Rattle.hd_image.specs.Records.{links_of}
 use Rattle.hd_position.specs.Kept.{Kept, row_on}
 use Rattle.hd_get.specs.Starts.{LeadsToStart}
@@ -27,6 +27,6 @@ returns-clause-value g c f q at =
     let G = grounds d v f (c.requires.of at.sound) at.at.holds in
     let e = read_there k c.path.result.now c.parent.result (Some c.in-Some.parent) c.path.ensures c.parent.ensures (sym c.in-Some.is ∙ c.row_on.ensures) in record {
       parent = parent_there d.types f k q at.at.stands (Some c.in-Some.parent) e;
-      leads = subst (LeadsToStart NextInParent d v f q c.in-Some.parent) (sym c.stay_below.ensures)
+      leads = subst (LeadsToStart NextInParent d v [] f q c.in-Some.parent) (sym c.stay_below.ensures)
           (leads_below d.types f k q at.at.stands (links_of d.types v) G.addressed c.in_ok-path.path c.in-Some.parent e (c.in_ok-path.ensures.value at.sound f q at.at));
     }
