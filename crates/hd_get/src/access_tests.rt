@@ -4,9 +4,11 @@ ghost use Rattle.std.specs.Prelude.{◌≡◌, ◌<◌, false};
 ghost use Rattle.hd_dbd.specs.Facts.{stored_sizes};
 
 use crate::named_tests::sought_by;
+use crate::plain::Plain;
 use crate::sample_with_fields::{database, pcb, wide_database};
+use crate::searching::find;
+use crate::starting::unique;
 use crate::test_volumes::{Loading, load_row, open_file};
-use crate::{Plain, find, unique};
 use hd_dbd::{Dbd, Pcb, Refused};
 use hd_forest::{code_at, next_row};
 use hd_volume::{BlockStore, FileStore, FuseStore, Volume};

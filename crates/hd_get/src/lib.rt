@@ -42,6 +42,12 @@ mod access_tests;
 #[cfg(test)]
 mod named_tests;
 #[cfg(test)]
+mod plain_gets;
+#[cfg(test)]
+mod plain_rows;
+#[cfg(test)]
+mod random_tests;
+#[cfg(test)]
 mod sample_with_fields;
 #[cfg(test)]
 mod test_volumes;

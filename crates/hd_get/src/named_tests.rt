@@ -3,9 +3,11 @@ ghost use Rattle.std.specs.Prelude.{◌≡◌, ◌<◌, false};
 ghost use Rattle.hd_dbd.specs.Facts.{stored_sizes};
 ghost use Rattle.hd_get.specs.Asking.{SsasSuit};
 
+use crate::by_key::unique_by_key;
+use crate::named::Named;
 use crate::sample_with_fields::{database, pcb};
+use crate::searching::find;
 use crate::test_volumes::open_file;
-use crate::{Named, find, unique_by_key};
 use hd_calls::{Function, GetKind};
 use hd_dbd::{Dbd, Pcb, Refused};
 use hd_forest::tip_of;
