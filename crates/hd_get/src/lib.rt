@@ -53,3 +53,5 @@ mod sample_with_fields;
 mod test_volumes;
 #[cfg(test)]
 mod tests;
+#[cfg(test)]
+mod worked_tests;
