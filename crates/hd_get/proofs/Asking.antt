@@ -13,7 +13,7 @@ use Rattle.hd_dbd.specs.Letters.{gives_get}
 use Rattle.hd_dbd.proofs.LevelLaw.{typed}
 use Rattle.hd_dbd.proofs.Levels.{type_within}
 use Rattle.hd_prefix.proofs.Listed.{children_listed}
-use Rattle.hd_links.specs.Links.{is_child_type}
+use Rattle.hd_links.specs.Links.{is_child_type, is_last_kept}
 use Rattle.hd_calls.specs.Access.{may}
 use Rattle.hd_calls.specs.Ssas.{target_code}
 use Rattle.hd_calls.specs.Satisfies.{is_named}
@@ -31,11 +31,12 @@ use Rattle.hd_seek.proofs.Twins.{next_twins, twin_within}
 use Rattle.hd_seek.proofs.Keys.{past_keys_fail}
 use Rattle.hd_seek.proofs.Ways.{first_children, down_some, down_found, down_parts}
 use Rattle.hd_seek.proofs.Beside.{no_later_types, later_types}
-use Rattle.hd_get.specs.declared.verdict.Verdict.TheVariants.{Found, Down, Across, Beside, Rest}
+use Rattle.hd_get.specs.declared.verdict.Verdict.TheVariants.{Found, Down, DownToLast, Across, Beside, Rest}
 use Rattle.hd_get.specs.Searches.{is_above_admitted, twin_or_end, child_or_end, NonePassAcross, IsWayDown, IsJudged}
-use Rattle.hd_get.specs.Asking.{Asked, SsasSuit, is_asked, is_admitted, verdict_beside, verdict_down}
+use Rattle.hd_get.specs.Asking.{Asked, SsasSuit, is_asked, is_admitted, verdict_beside, asks_last, goes_to_last, verdict_to, verdict_down}
+use Rattle.hd_get.proofs.LastChildren.{none_before_children}
 use Rattle.hd_get.proofs.Spans.{parent_span, parent_within, above_parent, whole_admitted}
-use Rattle.hd_get.proofs.Judging.{judged_found, judged_down, judged_across, judged_beside, judged_rest}
+use Rattle.hd_get.proofs.Judging.{judged_found, judged_down, judged_to_last, judged_across, judged_beside, judged_rest}
 
 -- a type is a child type of its parent
 pub child_of : (types : List SegmentType) (p c : ℕ) → (p ≡ 0 → ⊥) → parent_of types c ≡ Some p → is_child_type types p c ≡ true
@@ -208,7 +209,7 @@ module _ (types : List SegmentType) (rows : List Segment) (a : Asked) (over : Ar
           judged_across (is_asked a types rows) (is_admitted a types rows) types rows i (none_asked i (end_of types rows i) (spans_fail types rows a.ssas i within unmet)) (across_way i within above way)
 
       pub judged_met : admits types rows a.ssas i ≡ true
-          → IsJudged (is_asked a types rows) (is_admitted a types rows) types rows i (verdict_down (record { types = types; pcb = a.pcb }) (target_code a.ssas) (row_at rows i).code)
+          → IsJudged (is_asked a types rows) (is_admitted a types rows) types rows i (verdict_down (record { types = types; pcb = a.pcb }) a.ssas (target_code a.ssas) (row_at rows i).code)
       judged_met met = by_way (way_down types (target_code a.ssas) (row_at rows i).code) refl
         where
           own : is_admitted a types rows i ≡ true
@@ -229,8 +230,20 @@ module _ (types : List SegmentType) (rows : List Segment) (a : Asked) (over : Ar
               judged_across (is_asked a types rows) (is_admitted a types rows) types rows i (unread (row_at rows i).code i (end_of types rows i) code e)
               (λ k low inside. unread (row_at rows i).code (end_of types rows k) (twin_or_end types rows k) code e)
 
+          -- to the last child, where that is asked for
+          by_last : (c : ℕ) → way_down types (target_code a.ssas) (row_at rows i).code ≡ Some c → (b : Bool) → goes_to_last types a.ssas c ≡ b
+              → IsJudged (is_asked a types rows) (is_admitted a types rows) types rows i (cond b (DownToLast c) (Down c))
+          by_last c e true last =
+              (let L = and_parts (is_last_kept types c) (list_any (λ b. asks_last c b) a.ssas) last in
+              judged_to_last (is_asked a types rows) (is_admitted a types rows) types rows i c (record {
+                down = down_way i within above c own e;
+                kept = L.0;
+                last = λ j jw child. none_asked i j (none_before_children types rows a.ssas i c over within e L.1 j jw child);
+              }))
+          by_last c e false last = judged_down (is_asked a types rows) (is_admitted a types rows) types rows i c (down_way i within above c own e)
+
           by_way : (o : Option ℕ) → way_down types (target_code a.ssas) (row_at rows i).code ≡ o
               → IsJudged (is_asked a types rows) (is_admitted a types rows) types rows i
-              (option_map_or (λ c. Down c) o (cond (may (record { types = types; pcb = a.pcb }) gives_get (row_at rows i).code) Found Across))
+              (option_map_or (λ c. verdict_to types a.ssas c) o (cond (may (record { types = types; pcb = a.pcb }) gives_get (row_at rows i).code) Found Across))
           by_way None e = by_read (may (record { types = types; pcb = a.pcb }) gives_get (row_at rows i).code) (target_is e) refl
-          by_way (Some c) e = judged_down (is_asked a types rows) (is_admitted a types rows) types rows i c (down_way i within above c own e)
+          by_way (Some c) e = by_last c e (goes_to_last types a.ssas c) refl

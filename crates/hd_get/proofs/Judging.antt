@@ -7,8 +7,8 @@ use Rattle.hd_dbd.specs.Paths.{parent_row, end_of}
 use Rattle.hd_calls.specs.Places.{end_below}
 use Rattle.hd_seek.specs.Admits.{NonePass}
 use Rattle.hd_get.specs.declared.verdict.Verdict.{Verdict}
-use Rattle.hd_get.specs.declared.verdict.Verdict.TheVariants.{Found, Next, Over, Down, Across, Beside, Rest}
-use Rattle.hd_get.specs.Searches.{AllAdmitted, NonePassAcross, IsWayDown, IsWayBeside, IsJudged}
+use Rattle.hd_get.specs.declared.verdict.Verdict.TheVariants.{Found, Next, Over, Down, DownToLast, Across, Beside, Rest}
+use Rattle.hd_get.specs.Searches.{AllAdmitted, NonePassAcross, IsWayDown, IsWayToLast, IsWayBeside, IsJudged}
 
 -- which verdict it is
 is_found : Verdict → Bool
@@ -16,6 +16,7 @@ is_found Found = true
 is_found Next = false
 is_found Over = false
 is_found (Down code) = false
+is_found (DownToLast code) = false
 is_found Across = false
 is_found (Beside code) = false
 is_found Rest = false
@@ -25,6 +26,7 @@ is_next Found = false
 is_next Next = true
 is_next Over = false
 is_next (Down code) = false
+is_next (DownToLast code) = false
 is_next Across = false
 is_next (Beside code) = false
 is_next Rest = false
@@ -34,6 +36,7 @@ is_over Found = false
 is_over Next = false
 is_over Over = true
 is_over (Down code) = false
+is_over (DownToLast code) = false
 is_over Across = false
 is_over (Beside code) = false
 is_over Rest = false
@@ -43,15 +46,27 @@ is_down Found = false
 is_down Next = false
 is_down Over = false
 is_down (Down code) = true
+is_down (DownToLast code) = false
 is_down Across = false
 is_down (Beside code) = false
 is_down Rest = false
+
+is_to_last : Verdict → Bool
+is_to_last Found = false
+is_to_last Next = false
+is_to_last Over = false
+is_to_last (Down code) = false
+is_to_last (DownToLast code) = true
+is_to_last Across = false
+is_to_last (Beside code) = false
+is_to_last Rest = false
 
 is_across : Verdict → Bool
 is_across Found = false
 is_across Next = false
 is_across Over = false
 is_across (Down code) = false
+is_across (DownToLast code) = false
 is_across Across = true
 is_across (Beside code) = false
 is_across Rest = false
@@ -61,6 +76,7 @@ is_beside Found = false
 is_beside Next = false
 is_beside Over = false
 is_beside (Down code) = false
+is_beside (DownToLast code) = false
 is_beside Across = false
 is_beside (Beside code) = true
 is_beside Rest = false
@@ -70,13 +86,14 @@ is_rest Found = false
 is_rest Next = false
 is_rest Over = false
 is_rest (Down code) = false
+is_rest (DownToLast code) = false
 is_rest Across = false
 is_rest (Beside code) = false
 is_rest Rest = true
 
 module _ (test admits : ℕ → Bool) (types : List SegmentType) (rows : List Segment) (i : ℕ) where
   pub judged_found : test i ≡ true → admits i ≡ true → IsJudged test admits types rows i Found
-  unfolding is_next is_over is_down is_across is_beside is_rest
+  unfolding is_next is_over is_down is_across is_beside is_rest is_to_last
   judged_found is own = record {
     admitted = λ e. own;
     span = λ e. absurd (false≢true (sym e));
@@ -84,13 +101,14 @@ module _ (test admits : ℕ → Bool) (types : List SegmentType) (rows : List Se
     next = λ e. absurd (false≢true (ap is_next e));
     over = λ e. absurd (false≢true (ap is_over e));
     down = λ code e. absurd (false≢true (ap is_down e));
+    to_last = λ code e. absurd (false≢true (ap is_to_last e));
     across = λ e. absurd (false≢true (ap is_across e));
     beside = λ code e. absurd (false≢true (ap is_beside e));
     rest = λ e. absurd (false≢true (ap is_rest e));
   }
 
   pub judged_next : test i ≡ false → AllAdmitted admits → IsJudged test admits types rows i Next
-  unfolding is_found is_over is_down is_across is_beside is_rest
+  unfolding is_found is_over is_down is_across is_beside is_rest is_to_last
   judged_next is all = record {
     admitted = λ e. all i;
     span = λ e. absurd (false≢true (sym e));
@@ -98,13 +116,14 @@ module _ (test admits : ℕ → Bool) (types : List SegmentType) (rows : List Se
     next = λ e. (is, all);
     over = λ e. absurd (false≢true (ap is_over e));
     down = λ code e. absurd (false≢true (ap is_down e));
+    to_last = λ code e. absurd (false≢true (ap is_to_last e));
     across = λ e. absurd (false≢true (ap is_across e));
     beside = λ code e. absurd (false≢true (ap is_beside e));
     rest = λ e. absurd (false≢true (ap is_rest e));
   }
 
   pub judged_over : NonePass test i (end_of types rows i) → AllAdmitted admits → IsJudged test admits types rows i Over
-  unfolding is_found is_next is_down is_across is_beside is_rest
+  unfolding is_found is_next is_down is_across is_beside is_rest is_to_last
   judged_over none all = record {
     admitted = λ e. absurd (false≢true e);
     span = λ e. none;
@@ -112,13 +131,14 @@ module _ (test admits : ℕ → Bool) (types : List SegmentType) (rows : List Se
     next = λ e. absurd (false≢true (ap is_next e));
     over = λ e. all;
     down = λ code e. absurd (false≢true (ap is_down e));
+    to_last = λ code e. absurd (false≢true (ap is_to_last e));
     across = λ e. absurd (false≢true (ap is_across e));
     beside = λ code e. absurd (false≢true (ap is_beside e));
     rest = λ e. absurd (false≢true (ap is_rest e));
   }
 
   pub judged_down : (code : ℕ) → IsWayDown test admits types rows i code → IsJudged test admits types rows i (Down code)
-  unfolding is_found is_next is_over is_across is_beside is_rest
+  unfolding is_found is_next is_over is_across is_beside is_rest is_to_last
   judged_down code way = record {
     admitted = λ e. way.admitted;
     span = λ e. absurd (false≢true (sym e));
@@ -126,6 +146,7 @@ module _ (test admits : ℕ → Bool) (types : List SegmentType) (rows : List Se
     next = λ e. absurd (false≢true (ap is_next e));
     over = λ e. absurd (false≢true (ap is_over e));
     down = λ other e. one way e;
+    to_last = λ code e. absurd (false≢true (ap is_to_last e));
     across = λ e. absurd (false≢true (ap is_across e));
     beside = λ other e. absurd (false≢true (ap is_beside e));
     rest = λ e. absurd (false≢true (ap is_rest e));
@@ -137,8 +158,29 @@ module _ (test admits : ℕ → Bool) (types : List SegmentType) (rows : List Se
           same : (other : ℕ) → Down code ≡ Down other → code ≡ other
           same other e = cc
 
+  pub judged_to_last : (code : ℕ) → IsWayToLast test admits types rows i code → IsJudged test admits types rows i (DownToLast code)
+  unfolding is_found is_next is_over is_down is_across is_beside is_rest
+  judged_to_last code way = record {
+    admitted = λ e. way.down.admitted;
+    span = λ e. absurd (false≢true (sym e));
+    found = λ e. absurd (false≢true (ap is_found e));
+    next = λ e. absurd (false≢true (ap is_next e));
+    over = λ e. absurd (false≢true (ap is_over e));
+    down = λ other e. absurd (false≢true (ap is_down e));
+    to_last = λ other e. one way e;
+    across = λ e. absurd (false≢true (ap is_across e));
+    beside = λ other e. absurd (false≢true (ap is_beside e));
+    rest = λ e. absurd (false≢true (ap is_rest e));
+  }
+    where
+      one : {other : ℕ} → IsWayToLast test admits types rows i code → DownToLast code ≡ DownToLast other → IsWayToLast test admits types rows i other
+      one {other} w e = subst (IsWayToLast test admits types rows i) (same other e) w
+        where
+          same : (other : ℕ) → DownToLast code ≡ DownToLast other → code ≡ other
+          same other e = cc
+
   pub judged_across : NonePass test i (end_of types rows i) → NonePassAcross test types rows i → IsJudged test admits types rows i Across
-  unfolding is_found is_next is_over is_down is_beside is_rest
+  unfolding is_found is_next is_over is_down is_beside is_rest is_to_last
   judged_across none across = record {
     admitted = λ e. absurd (false≢true e);
     span = λ e. none;
@@ -146,13 +188,14 @@ module _ (test admits : ℕ → Bool) (types : List SegmentType) (rows : List Se
     next = λ e. absurd (false≢true (ap is_next e));
     over = λ e. absurd (false≢true (ap is_over e));
     down = λ code e. absurd (false≢true (ap is_down e));
+    to_last = λ code e. absurd (false≢true (ap is_to_last e));
     across = λ e. across;
     beside = λ code e. absurd (false≢true (ap is_beside e));
     rest = λ e. absurd (false≢true (ap is_rest e));
   }
 
   pub judged_beside : (code : ℕ) → NonePass test i (end_of types rows i) → IsWayBeside test admits types rows i code → IsJudged test admits types rows i (Beside code)
-  unfolding is_found is_next is_over is_down is_across is_rest
+  unfolding is_found is_next is_over is_down is_across is_rest is_to_last
   judged_beside code none way = record {
     admitted = λ e. absurd (false≢true e);
     span = λ e. none;
@@ -160,6 +203,7 @@ module _ (test admits : ℕ → Bool) (types : List SegmentType) (rows : List Se
     next = λ e. absurd (false≢true (ap is_next e));
     over = λ e. absurd (false≢true (ap is_over e));
     down = λ other e. absurd (false≢true (ap is_down e));
+    to_last = λ code e. absurd (false≢true (ap is_to_last e));
     across = λ e. absurd (false≢true (ap is_across e));
     beside = λ other e. one way e;
     rest = λ e. absurd (false≢true (ap is_rest e));
@@ -173,7 +217,7 @@ module _ (test admits : ℕ → Bool) (types : List SegmentType) (rows : List Se
 
   pub judged_rest : NonePass test i (end_of types rows i) → NonePass test i (end_below types rows (parent_row types rows i)) → NonePassAcross test types rows i
       → IsJudged test admits types rows i Rest
-  unfolding is_found is_next is_over is_down is_across is_beside
+  unfolding is_found is_next is_over is_down is_across is_beside is_to_last
   judged_rest span none across = record {
     admitted = λ e. absurd (false≢true e);
     span = λ e. span;
@@ -181,6 +225,7 @@ module _ (test admits : ℕ → Bool) (types : List SegmentType) (rows : List Se
     next = λ e. absurd (false≢true (ap is_next e));
     over = λ e. absurd (false≢true (ap is_over e));
     down = λ code e. absurd (false≢true (ap is_down e));
+    to_last = λ code e. absurd (false≢true (ap is_to_last e));
     across = λ e. absurd (false≢true (ap is_across e));
     beside = λ code e. absurd (false≢true (ap is_beside e));
     rest = λ e. (none, across);

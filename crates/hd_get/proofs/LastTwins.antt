@@ -1,22 +1,49 @@
 -- The search for the last twin that has a qualification.
-use Rattle.std.proofs.Common.{◌≡◌, ℕ, ◌+◌, ◌-◌, ◌<◌, ◌≤◌, List, length, Bool, true, false, Option, Some, None, refl, sym, ap, ap₂, subst, ◌∙◌, arith}
-use Rattle.std.specs.Prelude.{◌&&◌, ◌==◌, is_none}
+use Rattle.std.proofs.Common.{◌≡◌, ℕ, zero, suc, ◌+◌, ◌-◌, ◌<◌, ◌≤◌, List, length, Bool, true, false, Option, Some, None, refl, sym, ap, ap₂, subst, ◌∙◌, arith, inl, inr}
+use Rattle.std.specs.Prelude.{◌&&◌, ◌==◌, cond, is_none}
+use Rattle.std.specs.List.{list_any, list_all}
 use Rattle.std.specs.Option.{option_eq, option_map_or}
-use Rattle.std.proofs.lemmas.Bool.{and_parts, eqb-true}
+use Rattle.std.proofs.lemmas.Bool.{and_parts, cases_lt, eqb-true, eq-eqb, ne_eqb}
 use Rattle.hd_dbd.specs.Types.{SegmentType}
 use Rattle.hd_dbd.specs.Paths.{row_at, parent_row, is_twin}
-use Rattle.hd_dbd.specs.Searches.{first_from}
+use Rattle.hd_dbd.specs.Segment.{Segment}
+use Rattle.hd_dbd.specs.Searches.{first_from, least_within}
 use Rattle.hd_dbd.specs.Forest.{Forest}
 use Rattle.hd_links.specs.Links.{Links}
 use Rattle.hd_links.specs.Placed.{Placed}
 use Rattle.hd_links.specs.Steps.{rows_of, address_at, StepsAreRows, RowsHaveAddresses}
-use Rattle.hd_calls.specs.Ssas.{Ssa}
-use Rattle.hd_calls.specs.Satisfies.{qualifies, is_last_so}
+use Rattle.hd_calls.specs.Ssas.{Comparison, Ssa}
+use Rattle.hd_calls.specs.Satisfies.{is_true_of, qualifies, is_last_so}
 use Rattle.hd_calls.proofs.Searches.{least_some, least_no, skipped}
 use Rattle.hd_seek.specs.Twins.{next_twin}
 use Rattle.hd_get.proofs.Spans.{one_option}
 use Rattle.hd_get.proofs.Climbs.{twin_none, twin_some}
 use Rattle.hd_get.proofs.Turns.{none_from, here_from}
+
+-- a row is the last twin just where no twin follows it
+pub last_twin_is : (types : List SegmentType) (f : Forest Placed) (i : ℕ) (m : Links) → RowsHaveAddresses m f → i < length (rows_of f) → StepsAreRows types m f i
+    → (twin : ℕ) → twin ≡ m.forward (address_at f i) → (twin == 0) ≡ is_none (next_twin types (rows_of f) i)
+last_twin_is types f i m A l S twin is = elim (cases_lt 0 twin) [
+  | inl some ↦ ne_eqb twin 0 (λ z. absurd (omega arith)) ∙ sym (ap is_none (twin_some types m f i l S (subst (λ x. 0 < x) is some)).1)
+  | inr none ↦ (let z : twin ≡ 0 = omega arith in eq-eqb twin 0 z ∙ sym (ap is_none (twin_none types m f A i l S (sym is ∙ z))))
+]
+
+same_search : (test other : ℕ → Bool) → ((j : ℕ) → test j ≡ other j) → (n i : ℕ) → least_within test n i ≡ least_within other n i
+same_search test other same zero i = refl
+same_search test other same (suc n) i = ap₂ (λ b o. cond b (Some i) o) (same i) (same_search test other same n (i + 1))
+
+-- each twin has what is not asked
+pub last_so_unqualified : (types : List SegmentType) (rows : List Segment) (a : Ssa) (i : ℕ) → a.groups ≡ None → is_last_so types rows a i ≡ is_none (next_twin types rows i)
+last_so_unqualified types rows a i none =
+    ap is_none (same_search (λ j. is_twin types rows i j && qualifies a (row_at rows j)) (λ j. is_twin types rows i j) (λ j. ap (λ b. is_twin types rows i j && b) (all j) ∙ and_true (is_twin types rows i j))
+    (length rows - (i + 1)) (i + 1))
+  where
+    all : (j : ℕ) → qualifies a (row_at rows j) ≡ true
+    all j = ap (λ (o : Option (List (List Comparison))). option_map_or (λ groups. list_any (λ group. list_all (λ c. is_true_of (row_at rows j).bytes c) group) groups) o true) none
+
+    and_true : (b : Bool) → (b && true) ≡ b
+    and_true true = refl
+    and_true false = refl
 
 module _ (types : List SegmentType) (f : Forest Placed) (ssa : Ssa) (i : ℕ) where
   -- a later twin that has the qualification

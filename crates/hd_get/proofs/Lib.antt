@@ -5,6 +5,8 @@ pub mod Turns
 pub mod RowsAbove
 pub mod Judging
 pub mod LastTwins
+pub mod Unread
+pub mod LastChildren
 pub mod Asking
 pub mod Starts
 pub mod ByKey

@@ -1,6 +1,7 @@
 -- What a get with segment search arguments asks of a row, and where its search goes on.
-use Rattle.std.specs.Prelude.{◌≡◌, IsTrue, ℕ, ◌<◌, List, length, Bool, ◌&&◌, None, cond, nat_lt}
+use Rattle.std.specs.Prelude.{◌≡◌, IsTrue, ℕ, ◌<◌, List, length, Bool, ◌&&◌, ◌==◌, None, is_none, cond, nat_lt}
 use Rattle.std.specs.Option.{option_map_or}
+use Rattle.std.specs.List.{list_any}
 use Rattle.hd_dbd.specs.Types.{SegmentType, View}
 use Rattle.hd_dbd.specs.Hierarchy.{Database}
 use Rattle.hd_dbd.specs.Segment.{Segment}
@@ -9,7 +10,7 @@ use Rattle.hd_dbd.specs.Views.{Setting}
 use Rattle.hd_dbd.specs.Letters.{gives_get}
 use Rattle.hd_dbd.specs.Forest.{Forest}
 use Rattle.hd_volume.specs.Volumes.{VolumeState}
-use Rattle.hd_links.specs.Links.{segment_at}
+use Rattle.hd_links.specs.Links.{segment_at, is_last_kept}
 use Rattle.hd_links.specs.Placed.{Placed}
 use Rattle.hd_links.specs.Steps.{rows_of}
 use Rattle.hd_image.specs.Records.{links_of}
@@ -18,10 +19,11 @@ use Rattle.hd_calls.specs.Ssas.{Ssa, target_code}
 use Rattle.hd_calls.specs.Satisfies.{satisfies}
 use Rattle.hd_seek.specs.Admits.{admits, meets_own, is_on_way, Descend}
 use Rattle.hd_seek.specs.Keys.{is_past}
+use Rattle.hd_seek.specs.Spans.{reads_some_below}
 use Rattle.hd_seek.specs.Ways.{way_down, way_beside}
 use Rattle.hd_get.specs.Searches.{IsPathOf}
 use Rattle.hd_get.specs.declared.verdict.Verdict.{Verdict}
-use Rattle.hd_get.specs.declared.verdict.Verdict.TheVariants.{Found, Down, Across, Beside, Rest}
+use Rattle.hd_get.specs.declared.verdict.Verdict.TheVariants.{Found, Next, Over, Down, DownToLast, Across, Beside, Rest}
 
 -- Whose get it is, and its arguments.
 pub record Asked : Type 0 where
@@ -44,9 +46,27 @@ is_admitted a types rows i = is_on_way types (target_code a.ssas) (row_at rows i
 abbrev pub verdict_beside : List SegmentType → ℕ → ℕ → Verdict
 verdict_beside types target code = option_map_or (λ c. cond (nat_lt code c) (Beside c) Rest) (way_beside types target code) Rest
 
+-- the argument is of the type, and asks for the last twin alone
+abbrev pub asks_last : ℕ → Ssa → Bool
+asks_last code a = a.code == code && a.commands.last && is_none a.groups
+
+-- parents keep the last child of the type, and some argument asks for that alone
+abbrev pub goes_to_last : List SegmentType → List Ssa → ℕ → Bool
+goes_to_last types ssas code = is_last_kept types code && list_any (λ a. asks_last code a) ssas
+
+-- down to the children of a type: to the last one, where that is asked for
+abbrev pub verdict_to : List SegmentType → List Ssa → ℕ → Verdict
+verdict_to types ssas code = cond (goes_to_last types ssas code) (DownToLast code) (Down code)
+
 -- on a row that is admitted: down the way; where that ends, the row is found if it may be read
-abbrev pub verdict_down : Setting → ℕ → ℕ → Verdict
-verdict_down s target code = option_map_or (λ c. Down c) (way_down s.types target code) (cond (may s gives_get code) Found Across)
+abbrev pub verdict_down : Setting → List Ssa → ℕ → ℕ → Verdict
+verdict_down s ssas target code =
+    option_map_or (λ c. verdict_to s.types ssas c) (way_down s.types target code) (cond (may s gives_get code) Found Across)
+
+-- a get without arguments: a row that may be read is found; from another the search goes on to the next row, or over its span, where
+-- nothing that depends on it may be read either
+abbrev pub verdict_plain : Setting → ℕ → Verdict
+verdict_plain s code = cond (may s gives_get code) Found (cond (reads_some_below s code) Next Over)
 
 -- wherever the path is that of a row of this type, the answer says whether that meets the arguments of its type
 abbrev pub Admits : Database → VolumeState → List Ssa → ℕ → List ℕ → Bool → Type 0

@@ -8,9 +8,9 @@ use Rattle.hd_dbd.specs.Segment.{Segment}
 use Rattle.hd_dbd.specs.Paths.{row_at, parent_row, path_of, end_of}
 use Rattle.hd_dbd.specs.Searches.{first_from}
 use Rattle.hd_dbd.specs.Forest.{Forest}
-use Rattle.hd_links.specs.Links.{Links, is_child_type}
+use Rattle.hd_links.specs.Links.{Links, is_child_type, is_last_kept}
 use Rattle.hd_links.specs.Placed.{Placed, Holds}
-use Rattle.hd_links.specs.Steps.{rows_of, address_at, path_at}
+use Rattle.hd_links.specs.Steps.{rows_of, address_at, path_at, is_child_row}
 use Rattle.hd_volume.specs.Volumes.{VolumeState}
 use Rattle.hd_image.specs.Records.{links_of, IsVolumeOf}
 use Rattle.hd_forest.specs.Rows.{IsOnRow, IsOnSomeRow}
@@ -19,7 +19,7 @@ use Rattle.hd_calls.specs.Places.{end_below}
 use Rattle.hd_seek.specs.Admits.{NonePass}
 use Rattle.hd_seek.specs.Twins.{next_twin}
 use Rattle.hd_get.specs.declared.verdict.Verdict.{Verdict}
-use Rattle.hd_get.specs.declared.verdict.Verdict.TheVariants.{Found, Next, Over, Down, Across, Beside, Rest}
+use Rattle.hd_get.specs.declared.verdict.Verdict.TheVariants.{Found, Next, Over, Down, DownToLast, Across, Beside, Rest}
 
 -- ---- where a search is
 
@@ -72,6 +72,12 @@ pub record IsWayDown (test admits : ℕ → Bool) (types : List SegmentType) (ro
   pub none : NonePass test i (child_or_end types rows i code)
   pub across : NonePassAcross test types rows i
 
+-- The search may go down from row i to its first child of the type; the last one is kept, and none passes before any of them.
+pub record IsWayToLast (test admits : ℕ → Bool) (types : List SegmentType) (rows : List Segment) (i code : ℕ) : Type 0 where
+  pub down : IsWayDown test admits types rows i code
+  pub kept : is_last_kept types code ≡ true
+  pub last : (j : ℕ) → j < length rows → is_child_row types rows i code j ≡ true → NonePass test i j
+
 -- The parent of row i is admitted, and its first child of the type comes later than row i; none passes before that.
 pub record IsWayBeside (test admits : ℕ → Bool) (types : List SegmentType) (rows : List Segment) (i code : ℕ) : Type 0 where
   pub parent : ℕ
@@ -84,6 +90,7 @@ abbrev pub goes_below : Verdict → Bool
 goes_below Found = true
 goes_below Next = true
 goes_below (Down code) = true
+goes_below (DownToLast code) = true
 goes_below Over = false
 goes_below Across = false
 goes_below (Beside code) = false
@@ -97,6 +104,7 @@ pub record IsJudged (test admits : ℕ → Bool) (types : List SegmentType) (row
   pub next : v ≡ Next → (test i ≡ false) × AllAdmitted admits
   pub over : v ≡ Over → AllAdmitted admits
   pub down : (code : ℕ) → v ≡ Down code → IsWayDown test admits types rows i code
+  pub to_last : (code : ℕ) → v ≡ DownToLast code → IsWayToLast test admits types rows i code
   pub across : v ≡ Across → NonePassAcross test types rows i
   pub beside : (code : ℕ) → v ≡ Beside code → IsWayBeside test admits types rows i code
   pub rest : v ≡ Rest → NonePass test i (end_below types rows (parent_row types rows i)) × NonePassAcross test types rows i
@@ -137,6 +145,12 @@ GoesDown types f parent i code path =
     (test admits : ℕ → Bool) (end : ℕ) → EndsAt types f parent (i + 1) end → i < end → is_above_admitted admits types (rows_of f) i ≡ true
     → IsWayDown test admits types (rows_of f) i code
     → (on : GoesOn test admits types f end i path) × (child_or_end types (rows_of f) i code ≤ on.number)
+
+-- The search went down from row i to its last child of a type, or, where it has none, across.
+abbrev pub GoesToLast : List SegmentType → Forest Placed → ℕ → ℕ → ℕ → List ℕ → Type 0
+GoesToLast types f parent i code path =
+    (test admits : ℕ → Bool) (end : ℕ) → EndsAt types f parent (i + 1) end → i < end → is_above_admitted admits types (rows_of f) i ≡ true
+    → IsWayToLast test admits types (rows_of f) i code → GoesOn test admits types f end i path
 
 -- The search went from row i to the first child of its parent of a type, or, where that has none, across from the parent.
 abbrev pub GoesBeside : List SegmentType → Forest Placed → ℕ → ℕ → ℕ → List ℕ → Type 0

@@ -1,9 +1,10 @@
 ghost use Rattle.std.specs.Prelude.{◌≡◌, ◌<◌, length, IfOk};
+ghost use Rattle.std.specs.List.{list_any};
 ghost use Rattle.hd_dbd.specs.Refusals.{OnlyDevice};
 ghost use Rattle.hd_calls.specs.Ssas.{target_code};
 ghost use Rattle.hd_volume.specs.Calls.{IsRead};
 ghost use Rattle.hd_seek.specs.Keys.{is_ssa_past, is_past};
-ghost use Rattle.hd_get.specs.Asking.{Admits, MeetsOwn, IsPast};
+ghost use Rattle.hd_get.specs.Asking.{asks_last, goes_to_last, Admits, MeetsOwn, IsPast};
 ghost use Rattle.hd_get.specs.Meeting.{IsStored};
 ghost use Rattle.hd_get.specs.Searches.{IsOf, IsThere};
 
@@ -20,6 +21,27 @@ pub fn target_code(ssas: &[ResolvedSsa<'_>]) -> u8
 {
     let last = &ssas[ssas.len() - 1];
     last.code()
+}
+
+/// Whether an argument is of the type of a code, and asks for the last twin alone.
+fn asks_last(ssa: &ResolvedSsa<'_>, code: u8) -> bool
+    ensures { result ≡ asks_last code ssa.now }
+{
+    ssa.code() == code && ssa.commands().last && !ssa.is_qualified()
+}
+
+/// Whether some argument is of the type of a code, and asks for the last twin alone.
+fn some_asks_last(ssas: &[ResolvedSsa<'_>], code: u8) -> bool
+    ensures { result ≡ list_any (λ a. asks_last code a) ssas.now }
+{
+    ssas.iter().any(|ssa| asks_last(ssa, code))
+}
+
+/// Whether parents keep the last child of the type of a code, and some argument asks for that alone.
+pub fn goes_to_last(dbd: &Dbd, ssas: &[ResolvedSsa<'_>], code: u8) -> bool
+    ensures { result ≡ goes_to_last dbd.now.types ssas.now code }
+{
+    dbd.keeps_last_child(code) && some_asks_last(ssas, code)
 }
 
 /// Whether the last row of a path, of the type of a code, meets an argument, if that is of its type.

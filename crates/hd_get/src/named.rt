@@ -1,8 +1,8 @@
 ghost use Rattle.std.specs.Prelude.{◌≡◌};
-ghost use Rattle.hd_get.specs.Asking.{verdict_beside, verdict_down};
+ghost use Rattle.hd_get.specs.Asking.{verdict_beside, verdict_to, verdict_down};
 
 use crate::access::may_get;
-use crate::arguments::{admits, is_past, target_code};
+use crate::arguments::{admits, goes_to_last, is_past, target_code};
 use crate::judge::Judge;
 use crate::verdict::Verdict;
 use crate::ways::{is_on_way, way_beside, way_down};
@@ -43,12 +43,23 @@ fn verdict_beside(dbd: &Dbd, target: u8, code: u8) -> Verdict
     }
 }
 
+/// How a search goes down to the children of the type of a code.
+fn verdict_to(dbd: &Dbd, ssas: &[ResolvedSsa<'_>], code: u8) -> Verdict
+    ensures { result ≡ verdict_to dbd.now.types ssas.now code }
+{
+    if goes_to_last(dbd, ssas, code) {
+        Verdict::DownToLast(code)
+    } else {
+        Verdict::Down(code)
+    }
+}
+
 /// Where a search for rows of the target type goes from a row on the way that meets the arguments.
-fn verdict_down(dbd: &Dbd, pcb: &Pcb, target: u8, code: u8) -> Verdict
-    ensures { result ≡ verdict_down (record { types = dbd.now.types; pcb = pcb.now }) target code }
+fn verdict_down(dbd: &Dbd, pcb: &Pcb, ssas: &[ResolvedSsa<'_>], target: u8, code: u8) -> Verdict
+    ensures { result ≡ verdict_down (record { types = dbd.now.types; pcb = pcb.now }) ssas.now target code }
 {
     match way_down(dbd, target, code) {
-        Some(child) => Verdict::Down(child),
+        Some(child) => verdict_to(dbd, ssas, child),
         None => {
             if may_get(dbd, pcb, code) {
                 Verdict::Found
@@ -80,7 +91,7 @@ impl<'a> Judge for Named<'a> {
             return Ok(verdict_beside(dbd, target, code));
         }
         if admits(volume, dbd, self.ssas, code, path)? {
-            return Ok(verdict_down(dbd, self.pcb, target, code));
+            return Ok(verdict_down(dbd, self.pcb, self.ssas, target, code));
         }
         if is_past(volume, dbd, self.ssas, code, tip_of(path))? {
             return Ok(Verdict::Rest);

@@ -1,4 +1,7 @@
-use crate::access::may_get;
+ghost use Rattle.std.specs.Prelude.{◌≡◌};
+ghost use Rattle.hd_get.specs.Asking.{verdict_plain};
+
+use crate::access::{may_get, reads_some_below};
 use crate::judge::Judge;
 use crate::verdict::Verdict;
 use hd_dbd::{Dbd, Pcb, Refused};
@@ -20,6 +23,19 @@ impl<'a> Model for Plain<'a> {
     ghost view = { λ p. p.pcb.now };
 }
 
+/// Where a search for rows that the PCB may read goes from a row of a type.
+fn verdict_plain(dbd: &Dbd, pcb: &Pcb, code: u8) -> Verdict
+    ensures { result ≡ verdict_plain (record { types = dbd.now.types; pcb = pcb.now }) code }
+{
+    if may_get(dbd, pcb, code) {
+        Verdict::Found
+    } else if reads_some_below(dbd, pcb, code) {
+        Verdict::Next
+    } else {
+        Verdict::Over
+    }
+}
+
 impl<'a> Judge for Plain<'a> {
     ghost use Rattle.std.specs.Prelude.{[], true};
     ghost use Rattle.hd_calls.specs.Satisfies.{satisfies};
@@ -37,10 +53,6 @@ impl<'a> Judge for Plain<'a> {
         path: &Path,
     ) -> Result<Verdict, Refused> {
         let code = code_at(volume, dbd, tip_of(path))?;
-        if may_get(dbd, self.pcb, code) {
-            Ok(Verdict::Found)
-        } else {
-            Ok(Verdict::Next)
-        }
+        Ok(verdict_plain(dbd, self.pcb, code))
     }
 }

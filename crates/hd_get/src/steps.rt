@@ -6,11 +6,11 @@ ghost use Rattle.hd_dbd.specs.Forest.{Forest};
 ghost use Rattle.hd_volume.specs.Calls.{IsRead};
 ghost use Rattle.hd_links.specs.Placed.{Placed};
 ghost use Rattle.hd_links.specs.Steps.{rows_of};
-ghost use Rattle.hd_get.specs.Searches.{IsOf, IsThere, IsPathOf, IsClimbed, GoesAcross, GoesDown, GoesBeside, GoesTo, GoesPast, FollowsVerdict};
+ghost use Rattle.hd_get.specs.Searches.{IsOf, IsThere, IsPathOf, IsClimbed, GoesAcross, GoesDown, GoesToLast, GoesBeside, GoesTo, GoesPast, FollowsVerdict};
 
 use crate::verdict::Verdict;
 use hd_dbd::{Dbd, Refused};
-use hd_forest::{Path, first_child, next_after_span, next_row, next_twin, tip_of};
+use hd_forest::{Path, first_child, last_child, next_after_span, next_row, next_twin, tip_of};
 use hd_volume::{BlockStore, Volume};
 
 /// Leaves a path that leads past the dependents of the row at an address; the address 0 stands above all rows.
@@ -78,6 +78,28 @@ fn down<S: BlockStore>(
     ensures refusal { OnlyDevice result }
 {
     let child = first_child(volume, dbd, tip_of(path), code)?;
+    if child == 0 {
+        return across(volume, dbd, parent, path);
+    }
+    path.push(child);
+    Ok(())
+}
+
+/// Goes down from the last row of a path to its last child of a type, which is kept; where it has none, across.
+fn down_to_last<S: BlockStore>(
+    volume: &mut Volume<S>,
+    dbd: &Dbd,
+    parent: u32,
+    code: u8,
+    path: &mut Path,
+) -> Result<(), Refused>
+    requires of { IsOf dbd.now volume.old }
+    requires there { IsThere dbd.now volume.old path.old }
+    ensures read { IsRead volume.old result volume.new }
+    ensures value { OnOk result ((f : Forest Placed) (i : ℕ) → IsPathOf dbd.now volume.old f path.old i → GoesToLast dbd.now.types f parent i code path.new) }
+    ensures refusal { OnlyDevice result }
+{
+    let child = last_child(volume, dbd, tip_of(path), code)?;
     if child == 0 {
         return across(volume, dbd, parent, path);
     }
@@ -181,6 +203,7 @@ pub fn follow<S: BlockStore>(
         Verdict::Next => next(volume, dbd, parent, path)?,
         Verdict::Over => over(volume, dbd, parent, path)?,
         Verdict::Down(code) => down(volume, dbd, parent, code, path)?,
+        Verdict::DownToLast(code) => down_to_last(volume, dbd, parent, code, path)?,
         Verdict::Across => across(volume, dbd, parent, path)?,
         Verdict::Beside(code) => beside(volume, dbd, parent, code, path)?,
         Verdict::Rest => rest(volume, dbd, parent, path)?,

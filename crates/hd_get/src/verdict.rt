@@ -9,6 +9,8 @@ pub enum Verdict {
     Over,
     /// To the first child of the type of this code; where there is none, as across.
     Down(u8),
+    /// To the last child of the type of this code, which rows of the type's parent keep; where there is none, as across.
+    DownToLast(u8),
     /// To the next twin; behind the last, across from the parent.
     Across,
     /// To the first child of its parent of the type of this code, which comes later; where there is none, across from the parent.
@@ -26,7 +28,7 @@ impl Verdict {
         ensures { result ≡ goes_below self }
     {
         match self {
-            Verdict::Found | Verdict::Next | Verdict::Down(_) => true,
+            Verdict::Found | Verdict::Next | Verdict::Down(_) | Verdict::DownToLast(_) => true,
             Verdict::Over | Verdict::Across | Verdict::Beside(_) | Verdict::Rest => false,
         }
     }

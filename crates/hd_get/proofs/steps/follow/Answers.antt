@@ -42,3 +42,8 @@ pub returns-in_ok-rest-in-Rest-clause-value : goal.returns-in_ok-rest-in-Rest-cl
 returns-in_ok-rest-in-Rest-clause-value g c f i at test admits end E inside up J =
     let R = J.rest c.in-Rest.is in
     on (c.in_ok-rest-in-Rest.ensures.value f i at test admits end E inside up R.0 R.1)
+
+pub returns-in_ok-down_to_last-in-DownToLast-clause-value : goal.returns-in_ok-down_to_last-in-DownToLast-clause-value
+returns-in_ok-down_to_last-in-DownToLast-clause-value g c f i at test admits end E inside up J =
+    on (c.in_ok-down_to_last-in-DownToLast.ensures.value f i at test admits end (ends_later c.args.dbd.now.types f c.args.parent i end E (i + 1) (omega arith)) inside up
+    (J.to_last c.in-DownToLast.code c.in-DownToLast.is))

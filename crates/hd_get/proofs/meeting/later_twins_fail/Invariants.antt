@@ -5,7 +5,7 @@ use Rattle.hd_links.specs.Placed.{Placed}
 use Rattle.hd_get.specs.Searches.{IsPathOf}
 use Rattle.hd_get.specs.Meeting.{IsStored}
 use Rattle.hd_get.proofs.LastTwins.{HasLooked}
-use Rattle.hd_get.proofs.meeting.is_last_so.Given as goal
+use Rattle.hd_get.proofs.meeting.later_twins_fail.Given as goal
 
 -- it has read, and none of the twins looked at has the qualification
 abbrev pub invariant-loop-count : goal.invariant-loop-count

@@ -1,0 +1,32 @@
+-- Why a search without segment search arguments goes where it goes from a row.
+use Rattle.std.proofs.Common.{◌≡◌, ℕ, ◌<◌, List, [], length, Bool, true, false, refl}
+use Rattle.std.specs.Prelude.{cond}
+use Rattle.hd_dbd.specs.Types.{SegmentType, View}
+use Rattle.hd_dbd.specs.Segment.{Segment}
+use Rattle.hd_dbd.specs.Paths.{row_at}
+use Rattle.hd_dbd.specs.Letters.{gives_get}
+use Rattle.hd_calls.specs.Access.{may}
+use Rattle.hd_calls.specs.Satisfies.{satisfies}
+use Rattle.hd_seek.specs.Admits.{AreRowsOf}
+use Rattle.hd_seek.specs.Spans.{reads_some_below}
+use Rattle.hd_seek.proofs.Failing.{unread_spans_fail}
+use Rattle.hd_get.specs.declared.verdict.Verdict.TheVariants.{Found, Next, Over}
+use Rattle.hd_get.specs.Searches.{IsJudged}
+use Rattle.hd_get.specs.Asking.{verdict_plain}
+use Rattle.hd_get.proofs.Judging.{judged_found, judged_next, judged_over}
+
+module _ (types : List SegmentType) (rows : List Segment) (pcb : View) (over : AreRowsOf types rows) (i : ℕ) (within : i < length rows) where
+  pub judged_plain : IsJudged (satisfies (record { types = types; pcb = pcb }) rows []) (λ j. true) types rows i (verdict_plain (record { types = types; pcb = pcb }) (row_at rows i).code)
+  judged_plain = by_read (may (record { types = types; pcb = pcb }) gives_get (row_at rows i).code) refl
+    where
+      by_below : (b : Bool) → may (record { types = types; pcb = pcb }) gives_get (row_at rows i).code ≡ false → reads_some_below (record { types = types; pcb = pcb }) (row_at rows i).code ≡ b
+          → IsJudged (satisfies (record { types = types; pcb = pcb }) rows []) (λ j. true) types rows i (cond b Next Over)
+      by_below true own e = judged_next (satisfies (record { types = types; pcb = pcb }) rows []) (λ j. true) types rows i own (λ k. refl)
+      by_below false own e =
+          judged_over (satisfies (record { types = types; pcb = pcb }) rows []) (λ j. true) types rows i (unread_spans_fail (record { types = types; pcb = pcb }) rows i over within e) (λ k. refl)
+
+      by_read : (b : Bool) → may (record { types = types; pcb = pcb }) gives_get (row_at rows i).code ≡ b
+          → IsJudged (satisfies (record { types = types; pcb = pcb }) rows []) (λ j. true) types rows i
+          (cond b Found (cond (reads_some_below (record { types = types; pcb = pcb }) (row_at rows i).code) Next Over))
+      by_read true e = judged_found (satisfies (record { types = types; pcb = pcb }) rows []) (λ j. true) types rows i e refl
+      by_read false e = by_below (reads_some_below (record { types = types; pcb = pcb }) (row_at rows i).code) e refl

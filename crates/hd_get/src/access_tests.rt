@@ -1,0 +1,448 @@
+//! Tests that count the accesses of searches. A block that is in hand is not read again, so a search costs one access for each time
+//! that it comes to a row, or to the index, in another block than the last.
+ghost use Rattle.std.specs.Prelude.{◌≡◌, ◌<◌, false};
+ghost use Rattle.hd_dbd.specs.Facts.{stored_sizes};
+
+use crate::named_tests::sought_by;
+use crate::plain::Plain;
+use crate::sample_with_fields::{database, pcb, wide_database};
+use crate::searching::find;
+use crate::starting::unique;
+use crate::test_volumes::{Loading, load_row, open_file};
+use hd_dbd::{Dbd, Pcb, Refused};
+use hd_forest::{code_at, next_row};
+use hd_volume::{BlockStore, FileStore, FuseStore, Volume};
+use std::alloc::Global;
+use std::fs::{self, File};
+use std::io;
+use std::marker::Brand;
+use std::sync::ledger::{Blank, Ledger};
+use std::test::Fail;
+
+const COURSES: [&[u8]; 3] = [b"101", b"205", b"309"];
+
+const CLASSES: [&[u8]; 4] = [b"01", b"03", b"05", b"07"];
+
+const STUDENTS: [&[u8]; 3] = [b"ADAM", b"BETH", b"EVE "];
+
+const BOOKS: [&[u8]; 2] = [b"EULER", b"GAUSS"];
+
+/// The rows of a course of the wide volume: itself, its classes with their students, and its books.
+const EACH: usize = 1 + 4 * (1 + 3) + 2;
+
+/// Loads a row that begins with some bytes, and keeps its address.
+fn load_wide<S: BlockStore>(
+    volume: &mut Volume<S>,
+    dbd: &Dbd,
+    loading: &mut Loading,
+    addresses: &mut Vec<u32>,
+    code: u8,
+    front: &[u8],
+) -> Result<(), Refused>
+    requires unsound { volume.old.is_sound ≡ false }
+    requires sizes { volume.old.sizes ≡ stored_sizes dbd.now.types }
+    requires size { volume.old.size ≡ dbd.now.block_size }
+    ensures unsound { volume.new.is_sound ≡ false }
+    ensures sizes { volume.new.sizes ≡ volume.old.sizes }
+    ensures size { volume.new.size ≡ volume.old.size }
+{
+    let mut bytes = [b'.'; 90];
+    for (byte, own) in bytes.iter_mut().zip(front) {
+        *byte = *own;
+    }
+    let address = load_row(volume, dbd, loading, code, &bytes)?;
+    if addresses.push(address).is_err() {
+        return Err(Refused::Memory);
+    }
+    Ok(())
+}
+
+fn load_students<S: BlockStore>(
+    volume: &mut Volume<S>,
+    dbd: &Dbd,
+    loading: &mut Loading,
+    addresses: &mut Vec<u32>,
+) -> Result<(), Refused>
+    requires unsound { volume.old.is_sound ≡ false }
+    requires sizes { volume.old.sizes ≡ stored_sizes dbd.now.types }
+    requires size { volume.old.size ≡ dbd.now.block_size }
+    ensures unsound { volume.new.is_sound ≡ false }
+    ensures sizes { volume.new.sizes ≡ volume.old.sizes }
+    ensures size { volume.new.size ≡ volume.old.size }
+{
+    for front in STUDENTS {
+        load_wide(volume, dbd, loading, addresses, 3, front)?;
+    }
+    Ok(())
+}
+
+fn load_classes<S: BlockStore>(
+    volume: &mut Volume<S>,
+    dbd: &Dbd,
+    loading: &mut Loading,
+    addresses: &mut Vec<u32>,
+) -> Result<(), Refused>
+    requires unsound { volume.old.is_sound ≡ false }
+    requires sizes { volume.old.sizes ≡ stored_sizes dbd.now.types }
+    requires size { volume.old.size ≡ dbd.now.block_size }
+    ensures unsound { volume.new.is_sound ≡ false }
+    ensures sizes { volume.new.sizes ≡ volume.old.sizes }
+    ensures size { volume.new.size ≡ volume.old.size }
+{
+    for front in CLASSES {
+        load_wide(volume, dbd, loading, addresses, 2, front)?;
+        load_students(volume, dbd, loading, addresses)?;
+    }
+    Ok(())
+}
+
+fn load_books<S: BlockStore>(
+    volume: &mut Volume<S>,
+    dbd: &Dbd,
+    loading: &mut Loading,
+    addresses: &mut Vec<u32>,
+) -> Result<(), Refused>
+    requires unsound { volume.old.is_sound ≡ false }
+    requires sizes { volume.old.sizes ≡ stored_sizes dbd.now.types }
+    requires size { volume.old.size ≡ dbd.now.block_size }
+    ensures unsound { volume.new.is_sound ≡ false }
+    ensures sizes { volume.new.sizes ≡ volume.old.sizes }
+    ensures size { volume.new.size ≡ volume.old.size }
+{
+    for front in BOOKS {
+        load_wide(volume, dbd, loading, addresses, 4, front)?;
+    }
+    Ok(())
+}
+
+/// Loads the rows of the wide volume, and keeps their addresses.
+fn load_courses<S: BlockStore>(
+    volume: &mut Volume<S>,
+    dbd: &Dbd,
+    addresses: &mut Vec<u32>,
+) -> Result<(), Refused>
+    requires unsound { volume.old.is_sound ≡ false }
+    requires sizes { volume.old.sizes ≡ stored_sizes dbd.now.types }
+    requires size { volume.old.size ≡ dbd.now.block_size }
+    ensures unsound { volume.new.is_sound ≡ false }
+    ensures sizes { volume.new.sizes ≡ volume.old.sizes }
+    ensures size { volume.new.size ≡ volume.old.size }
+{
+    let mut loading = Loading::start();
+    for front in COURSES {
+        load_wide(volume, dbd, &mut loading, addresses, 1, front)?;
+        load_classes(volume, dbd, &mut loading, addresses)?;
+        load_books(volume, dbd, &mut loading, addresses)?;
+    }
+    Ok(())
+}
+
+/// The rows of each course of the full volume, which fill a block.
+const FULL: [(u8, &[u8]); 4] = [(2, b"01AB"), (2, b"02CD"), (4, b"EULER"), (4, b"GAUSS")];
+
+fn load_below<S: BlockStore>(
+    volume: &mut Volume<S>,
+    dbd: &Dbd,
+    loading: &mut Loading,
+    addresses: &mut Vec<u32>,
+) -> Result<(), Refused>
+    requires unsound { volume.old.is_sound ≡ false }
+    requires sizes { volume.old.sizes ≡ stored_sizes dbd.now.types }
+    requires size { volume.old.size ≡ dbd.now.block_size }
+    ensures unsound { volume.new.is_sound ≡ false }
+    ensures sizes { volume.new.sizes ≡ volume.old.sizes }
+    ensures size { volume.new.size ≡ volume.old.size }
+{
+    for (code, bytes) in FULL {
+        let address = load_row(volume, dbd, loading, code, bytes)?;
+        if addresses.push(address).is_err() {
+            return Err(Refused::Memory);
+        }
+    }
+    Ok(())
+}
+
+/// Loads ten courses with their rows, each of them into a block.
+fn load_full<S: BlockStore>(
+    volume: &mut Volume<S>,
+    dbd: &Dbd,
+    addresses: &mut Vec<u32>,
+) -> Result<(), Refused>
+    requires unsound { volume.old.is_sound ≡ false }
+    requires sizes { volume.old.sizes ≡ stored_sizes dbd.now.types }
+    requires size { volume.old.size ≡ dbd.now.block_size }
+    ensures unsound { volume.new.is_sound ≡ false }
+    ensures sizes { volume.new.sizes ≡ volume.old.sizes }
+    ensures size { volume.new.size ≡ volume.old.size }
+{
+    let mut loading = Loading::start();
+    for digit in b"0123456789" {
+        let bytes = [b'1', b'0', *digit, b'A', b'L', b'G', b'E', b'B'];
+        load_row(volume, dbd, &mut loading, 1, &bytes)?;
+        load_below(volume, dbd, &mut loading, addresses)?;
+    }
+    Ok(())
+}
+
+/// Loads a new volume of a file, the wide one or the full one, and says the addresses of rows that were kept.
+fn make<L: Ledger>(
+    alloc: Global,
+    file: File,
+    blank: Blank,
+    dbd: &Dbd,
+    wide: bool,
+) -> io::Result<Result<Vec<u32>, Refused>>
+    requires name { blank.name ≡ L.name }
+    requires parts { blank.parts ≡ L.parts }
+    requires share { 0 < blank.parts }
+    requires size { dbd.now.block_size ≡ 128 }
+{
+    let store: FileStore<L> = FileStore::over(file, 128, blank)?;
+    let mut volume = match Volume::create(alloc, store, dbd, 1024) {
+        Ok(volume) => volume,
+        Err((_, refused)) => return Ok(Err(refused)),
+    };
+    let mut addresses = Vec::new(alloc);
+    let loaded = if wide {
+        load_courses(&mut volume, dbd, &mut addresses)
+    } else {
+        load_full(&mut volume, dbd, &mut addresses)
+    };
+    let flushed = volume.flush();
+    Ok(loaded.and(flushed).map(|_| addresses))
+}
+
+fn make_on(
+    alloc: Global,
+    file: File,
+    dbd: &Dbd,
+    wide: bool,
+) -> io::Result<Result<Vec<u32>, Refused>>
+    requires { dbd.now.block_size ≡ 128 }
+{
+    make::<Brand>(alloc, file, Blank::new(1), dbd, wide)
+}
+
+/// How many rows a PCB reads in the whole volume, one after the other.
+fn walk<S: BlockStore>(volume: &mut Volume<S>, dbd: &Dbd, pcb: &Pcb) -> Result<u32, Refused>
+    requires unsound { volume.old.is_sound ≡ false }
+    requires sizes { volume.old.sizes ≡ stored_sizes dbd.now.types }
+{
+    let mut path = unique(volume, dbd)?;
+    for count in 0..100 {
+        if !find(volume, dbd, &Plain { pcb }, 0, &mut path)? {
+            return Ok(count);
+        }
+        next_row(volume, dbd, &mut path)?;
+    }
+    Ok(100)
+}
+
+/// What a search is made for.
+#[derive(Clone, Copy)]
+enum Search<'a> {
+    /// Nothing.
+    None,
+    /// The row that a GU with these arguments finds; its answer is the row's address, 0 for none.
+    Unique(&'a [&'a [u8]]),
+    /// All rows that may be read; its answer is how many there are.
+    All,
+}
+
+/// Comes to a row, and then makes a search.
+fn probe<S: BlockStore>(
+    alloc: Global,
+    volume: &mut Volume<S>,
+    dbd: &Dbd,
+    pcb: &Pcb,
+    first: u32,
+    search: Search<'_>,
+) -> Result<u32, Refused>
+    requires unsound { volume.old.is_sound ≡ false }
+    requires sizes { volume.old.sizes ≡ stored_sizes dbd.now.types }
+{
+    code_at(volume, dbd, first)?;
+    match search {
+        Search::None => Ok(0),
+        Search::Unique(ssas) => {
+            let (_, found) = sought_by(alloc, volume, dbd, pcb, ssas)?;
+            Ok(found)
+        }
+        Search::All => walk(volume, dbd, pcb),
+    }
+}
+
+/// The answer of a search in the volume of a file that begins with a row in hand, and the accesses since the file was opened.
+fn run<L: Ledger>(
+    alloc: Global,
+    file: File,
+    blank: Blank,
+    dbd: &Dbd,
+    pcb: &Pcb,
+    first: u32,
+    search: Search<'_>,
+) -> io::Result<(Result<u32, Refused>, u64)>
+    requires name { blank.name ≡ L.name }
+    requires parts { blank.parts ≡ L.parts }
+    requires share { 0 < blank.parts }
+    requires size { dbd.now.block_size ≡ 128 }
+{
+    let store: FileStore<L> = FileStore::over(file, 128, blank)?;
+    let store = FuseStore::new(store, u64::MAX);
+    let mut volume = match Volume::load(alloc, store, dbd) {
+        Ok(volume) => volume,
+        Err((store, refused)) => return Ok((Err(refused), store.accesses())),
+    };
+    let found = probe(alloc, &mut volume, dbd, pcb, first, search);
+    Ok((found, volume.into_store().accesses()))
+}
+
+fn run_on(
+    rt: &HostRuntime,
+    name: &str,
+    dbd: &Dbd,
+    pcb: &Pcb,
+    first: u32,
+    search: Search<'_>,
+) -> io::Result<(Result<u32, Refused>, u64)>
+    requires { dbd.now.block_size ≡ 128 }
+{
+    let file = open_file(rt, name, false)?;
+    run::<Brand>(rt.alloc(), file, Blank::new(1), dbd, pcb, first, search)
+}
+
+/// A GU over the wide volume: its arguments, the number of the row that it finds, and the blocks that it reads of the index and of rows.
+struct Case {
+    ssas: &'static [&'static [u8]],
+    row: Option<usize>,
+    index: u64,
+    rows: u64,
+}
+
+const CASES: [Case; 9] = [
+    // The first row.
+    Case {
+        ssas: &[b"COURSE  "],
+        row: Some(0),
+        index: 0,
+        rows: 1,
+    },
+    // A full key path: the index's one level, the course, the classes up to the third, and the students up to the second.
+    Case {
+        ssas: &[
+            b"COURSE  (NUM     EQ205)",
+            b"CLASS   (ED      EQ05)",
+            b"STUD    (SNAME   EQBETH)",
+        ],
+        row: Some(EACH + 1 + 2 * 4 + 2),
+        index: 1,
+        rows: 1 + 3 + 2,
+    },
+    // A key behind the last: the index alone.
+    Case {
+        ssas: &[b"COURSE  (NUM     EQ400)"],
+        row: None,
+        index: 1,
+        rows: 0,
+    },
+    // No student of the class that fails is read: the first course, two classes, a student of the second.
+    Case {
+        ssas: &[b"CLASS   (ED      EQ03)", b"STUD    "],
+        row: Some(1 + 4 + 1),
+        index: 0,
+        rows: 1 + 2 + 1,
+    },
+    // A key that no class has ends at the first greater one, the third; then the way leads from the course to the next, whose key is
+    // greater too.
+    Case {
+        ssas: &[b"COURSE  (NUM     EQ101)", b"CLASS   (ED      EQ04)"],
+        row: None,
+        index: 1,
+        rows: 1 + 3 + 2,
+    },
+    // Classes and students are off the way to a book: the course and its first book.
+    Case {
+        ssas: &[b"COURSE  (NUM     EQ205)", b"BOOK    "],
+        row: Some(EACH + 17),
+        index: 1,
+        rows: 2,
+    },
+    // The last class is kept: the course and that.
+    Case {
+        ssas: &[b"COURSE  (NUM     EQ205)", b"CLASS   *L"],
+        row: Some(EACH + 1 + 3 * 4),
+        index: 1,
+        rows: 2,
+    },
+    // The last student is not kept: the course, its first class, and all three students.
+    Case {
+        ssas: &[
+            b"COURSE  (NUM     EQ205)",
+            b"CLASS   (ED      EQ01)",
+            b"STUD    *L",
+        ],
+        row: Some(EACH + 1 + 3),
+        index: 1,
+        rows: 1 + 1 + 3,
+    },
+    // Of the course the last class, and of that the first student.
+    Case {
+        ssas: &[b"COURSE  (NUM     EQ309)", b"CLASS   *L", b"STUD    "],
+        row: Some(2 * EACH + 1 + 3 * 4 + 1),
+        index: 1,
+        rows: 3,
+    },
+];
+
+#[test]
+fn counts_the_accesses_of_unique_gets(rt: HostRuntime) -> Result<(), Fail> {
+    let dbd = wide_database(rt.alloc()).expect(&rt, "a database");
+    let all = pcb(rt.alloc(), "G", b"NONE    ")?;
+    let file = open_file(&rt, "wide", true)?;
+    let rows = make_on(rt.alloc(), file, &dbd, true)?.expect(&rt, "a volume");
+    assert_eq!(rt; rows.len(), 3 * EACH);
+    let last = rows.last().copied().unwrap_or(0);
+    let (_, none) = run_on(&rt, "wide", &dbd, &all, last, Search::None)?;
+    for case in &CASES {
+        let search = Search::Unique(case.ssas);
+        let (found, accesses) = run_on(&rt, "wide", &dbd, &all, last, search)?;
+        let row = case.row.and_then(|row| rows.get(row).copied());
+        assert_eq!(rt; found, Ok(row.unwrap_or(0)));
+        assert_eq!(rt; accesses.saturating_sub(none), case.index + case.rows);
+    }
+    fs::remove_file(&rt, "wide")?;
+    Ok(())
+}
+
+#[test]
+fn passes_over_what_is_not_seen(rt: HostRuntime) -> Result<(), Fail> {
+    let dbd = wide_database(rt.alloc()).expect(&rt, "a database");
+    let file = open_file(&rt, "hidden", true)?;
+    let rows = make_on(rt.alloc(), file, &dbd, true)?.expect(&rt, "a volume");
+    let last = rows.last().copied().unwrap_or(0);
+    let mut some = pcb(rt.alloc(), "G", b"CLASS   ")?;
+    some.sens.retain(|seen| seen.name.bytes() != b"STUD    ");
+    let (_, none) = run_on(&rt, "hidden", &dbd, &some, last, Search::None)?;
+    let (found, accesses) = run_on(&rt, "hidden", &dbd, &some, last, Search::All)?;
+    // the courses and their books
+    assert_eq!(rt; found, Ok(3 * 3));
+    // of each course: itself, its classes, itself again, its books, and itself again; its students are not read
+    assert_eq!(rt; accesses.saturating_sub(none), 3 * (1 + 4 + 1 + 2 + 1));
+    fs::remove_file(&rt, "hidden")?;
+    Ok(())
+}
+
+#[test]
+fn a_walk_reads_each_block_once(rt: HostRuntime) -> Result<(), Fail> {
+    let dbd = database(rt.alloc()).expect(&rt, "a database");
+    let all = pcb(rt.alloc(), "G", b"NONE    ")?;
+    let file = open_file(&rt, "full", true)?;
+    let rows = make_on(rt.alloc(), file, &dbd, false)?.expect(&rt, "a volume");
+    let last = rows.last().copied().unwrap_or(0);
+    let (_, none) = run_on(&rt, "full", &dbd, &all, last, Search::None)?;
+    let (found, accesses) = run_on(&rt, "full", &dbd, &all, last, Search::All)?;
+    assert_eq!(rt; found, Ok(10 * 5));
+    assert_eq!(rt; accesses.saturating_sub(none), 10);
+    fs::remove_file(&rt, "full")?;
+    Ok(())
+}
