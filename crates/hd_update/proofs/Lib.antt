@@ -7,3 +7,6 @@ pub mod Rewritten
 pub mod Standing
 pub mod Answering
 pub mod AskedStates
+pub mod Taken
+pub mod Unlinked
+pub mod DeletedStates

@@ -3,3 +3,4 @@ pub mod Held
 pub mod Positions
 pub mod Replacing
 pub mod Calls
+pub mod Deleting
