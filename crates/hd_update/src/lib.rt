@@ -11,3 +11,6 @@ mod rewrites;
 
 pub use dlet_call::dlet;
 pub use repl_call::repl;
+
+#[cfg(test)]
+mod tests;
