@@ -10,3 +10,4 @@ pub mod AskedStates
 pub mod Taken
 pub mod Unlinked
 pub mod DeletedStates
+pub mod PutRows

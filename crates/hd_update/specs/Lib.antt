@@ -4,3 +4,4 @@ pub mod Positions
 pub mod Replacing
 pub mod Calls
 pub mod Deleting
+pub mod Putting

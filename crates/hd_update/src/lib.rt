@@ -5,6 +5,7 @@ mod deleting;
 mod dlet_call;
 mod held;
 mod positions;
+mod putting;
 mod repl_call;
 mod replacing;
 mod rewrites;
