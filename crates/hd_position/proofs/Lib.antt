@@ -15,3 +15,5 @@ pub mod VolumeMoves
 pub mod Ends
 pub mod Backing
 pub mod Siblings
+pub mod Prefixes
+pub mod NewPlaces

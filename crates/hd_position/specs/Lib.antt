@@ -5,3 +5,4 @@ pub mod Gets
 pub mod Backs
 pub mod Laws
 pub mod Volumes
+pub mod Inserts

@@ -3,12 +3,14 @@
 
 mod back;
 mod gets;
+mod inserts;
 mod law;
 mod levels;
 mod position;
 
 pub use back::row_before;
 pub use gets::{begin, stand};
+pub use inserts::stand_on_new;
 pub use law::{
     law_ended_holds_hold_nothing, law_forests_of_volumes_are_held, law_insertions_add_up,
     law_leaves_go_in_below_leaves, law_linked_paths_go_in_together, law_linked_rows_move_positions,

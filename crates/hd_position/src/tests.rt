@@ -2,7 +2,7 @@ ghost use Rattle.std.specs.Prelude.{◌≡◌, ◌<◌, false};
 ghost use Rattle.hd_dbd.specs.Facts.{stored_sizes};
 
 use crate::test_volumes::{link_sample, new_file, path_of};
-use crate::{LastType, Levels, Position, begin, row_before, row_on, stand};
+use crate::{LastType, Levels, Position, begin, row_before, row_on, stand, stand_on_new};
 use hd_calls::GetKind;
 use hd_dbd::{Dbd, Refused};
 use hd_forest::unlink_span;
@@ -58,7 +58,7 @@ fn told(position: &Position) -> (Option<u32>, Option<u32>, Option<u32>, bool, bo
 }
 
 /// What the test below saw of a PCB: behind a GU to EVE with a hold of the class and EVE, where the next row is, behind a GNP below the
-/// class, and behind a deletion of the class.
+/// class, behind a deletion of the class, and as insertions leave it, of a class without parentage and of a book below the course.
 #[derive(Drop)]
 struct Seen {
     back: bool,
@@ -69,6 +69,8 @@ struct Seen {
     within: (Option<u32>, Option<u32>, Option<u32>, bool, bool),
     left: (Option<u32>, Option<u32>, Option<u32>, bool, bool),
     then: Option<u32>,
+    alone: (Option<u32>, Option<u32>, Option<u32>, bool, bool),
+    below: (Option<u32>, Option<u32>, Option<u32>, bool, bool),
 }
 
 fn watch<S: BlockStore>(volume: &mut Volume<S>, dbd: &Dbd) -> Result<Seen, Refused>
@@ -118,6 +120,18 @@ fn watch<S: BlockStore>(volume: &mut Volume<S>, dbd: &Dbd) -> Result<Seen, Refus
     position.leave_span(176, 2, &before);
     let left = told(&position);
     let then = begin(volume, dbd, &position)?.addresses().last().copied();
+    stand_on_new(volume, dbd, &mut position, path_of(&[136, 232]))?;
+    let alone = told(&position);
+    stand(
+        volume,
+        dbd,
+        &mut position,
+        path_of(&[136]),
+        GetKind::Unique,
+        Levels::new(),
+    )?;
+    stand_on_new(volume, dbd, &mut position, path_of(&[136, 264]))?;
+    let below = told(&position);
     Ok(Seen {
         back,
         start,
@@ -127,6 +141,8 @@ fn watch<S: BlockStore>(volume: &mut Volume<S>, dbd: &Dbd) -> Result<Seen, Refus
         within,
         left,
         then,
+        alone,
+        below,
     })
 }
 
@@ -178,6 +194,8 @@ fn stands_and_goes_back_in_the_sample(rt: HostRuntime) -> Result<(), Fail> {
     assert_eq!(rt; seen.within, (Some(200), Some(200), Some(176), true, false));
     assert_eq!(rt; seen.left, (Some(136), Some(136), None, false, false));
     assert_eq!(rt; seen.then, Some(232));
+    assert_eq!(rt; seen.alone, (Some(232), Some(232), Some(232), false, false));
+    assert_eq!(rt; seen.below, (Some(264), Some(264), Some(136), false, false));
     fs::remove_file(&rt, "positions")?;
     Ok(())
 }

@@ -5,30 +5,34 @@ use Rattle.std.proofs.lemmas.Bool.{cond-true, cond-false}
 use Rattle.hd_dbd.specs.Types.{View}
 use Rattle.hd_dbd.specs.Hierarchy.{Database}
 use Rattle.hd_dbd.specs.Segment.{Segment}
+use Rattle.hd_dbd.specs.Paths.{end_of}
 use Rattle.hd_dbd.specs.Positions.{Position}
 use Rattle.hd_dbd.specs.Calls.{Reply, bare, row_reply}
 use Rattle.hd_dbd.specs.declared.answer.Status.{Status}
 use Rattle.hd_dbd.specs.declared.answer.Status.TheVariants.{Blank, DA}
 use Rattle.hd_dbd.specs.Forest.{Forest}
 use Rattle.hd_calls.specs.Gets.{unheld}
-use Rattle.hd_calls.specs.Moves.{unchanged, rewritten, Rewrite, rows_after, position_after_rewrite}
-use Rattle.hd_calls.specs.Steps.{Effect, answered, bare_answer, State, state_after, position_at, keeps_key, lowest, replace_rows}
+use Rattle.hd_calls.specs.Moves.{Change, unchanged, deleted, rewritten, Rewrite, rows_after, position_after, position_after_rewrite}
+use Rattle.hd_calls.specs.Steps.{Effect, answered, bare_answer, State, state_after, position_at, keeps_key, lowest, replace_rows, delete_row}
 use Rattle.hd_calls.specs.Runs.{Follows}
 use Rattle.hd_calls.specs.NoLostUpdate.{is_done}
 use Rattle.hd_volume.specs.Volumes.{VolumeState}
 use Rattle.hd_volume.specs.Calls.{IsRead}
 use Rattle.hd_links.specs.Placed.{Placed}
+use Rattle.hd_links.specs.Changes.{without_span}
 use Rattle.hd_links.specs.Steps.{rows_of}
 use Rattle.hd_image.specs.Holding.{HoldsPlaced}
 use Rattle.hd_forest.proofs.Reading.{after-read}
 use Rattle.hd_keeping.specs.VolumeImages.{images_of}
 use Rattle.hd_keeping.proofs.VolumeImages.{follow}
 use Rattle.hd_keeping.proofs.RowChanges.{rewriting-follows}
-use Rattle.hd_position.specs.Kept.{Kept}
+use Rattle.hd_forest.specs.Walks.{tip, parent_on}
+use Rattle.hd_position.specs.Kept.{Kept, path_before, without_row}
 use Rattle.hd_get.specs.declared.outcome.Outcome.{Outcome}
 use Rattle.hd_get.specs.declared.outcome.Outcome.TheVariants.{Found, Missing}
-use Rattle.hd_update.specs.Positions.{after_rewrites, all_after_rewrites, unheld_at}
+use Rattle.hd_update.specs.Positions.{after_rewrites, all_after_rewrites, all_without_row, unheld_at}
 use Rattle.hd_update.specs.Replacing.{AreReplaced}
+use Rattle.hd_update.specs.Deleting.{IsTakenOut}
 use Rattle.hd_update.specs.States.{Represents, IsAnswered}
 use Rattle.hd_update.specs.declared.rewrites.NewBytes.{NewBytes}
 use Rattle.hd_update.proofs.Reading.{held_read}
@@ -130,3 +134,50 @@ module _ (d : Database) (pcb : View) (v : VolumeState) (old : List Kept) (st : S
             (subst (λ (x : List ℕ). Follows (images_of d) (rows_of R.placed) x (rewritten ws) (rows_of A.placed) w.image) image
             (rewriting-follows d mid w R.placed A.placed ws A.written)));
       })
+
+-- ---- DLET
+
+module _ (d : Database) (pcb : View) (v : VolumeState) (old : List Kept) (st : State) (number i : ℕ) (R : Represents d v old st) (some : 0 < number) (within : number ≤ length old)
+    (path : List ℕ) (mid w : VolumeState) (image : mid.image ≡ v.image) (T : IsTakenOut d mid R.placed path i w) where
+  abbrev f : Forest Placed
+  f = R.placed
+
+  abbrev g : Forest Placed
+  g = without_span (parent_on path) (tip path) R.placed
+
+  abbrev own_at : Position
+  own_at = position_at st number
+
+  abbrev gone : List Segment → Change
+  gone rows = deleted i (end_of d.types rows i)
+
+  abbrev new : List Kept
+  new = unheld_at number (all_without_row (tip path) (length path) (path_before d.types f i) old)
+
+  abbrev IsAnsweredAt : List Segment → Type 0
+  IsAnsweredAt rows =
+      IsAnswered d v (record { rows = rows; positions = st.positions }) number (delete_row (record { types = d.types; pcb = pcb }) rows own_at i) (Found Blank) w new
+
+  at_own_rows : IsAnsweredAt (rows_of f)
+  at_own_rows = record {
+    reply = row_reply (record { types = d.types; pcb = pcb }) (rows_of f) i Blank [];
+    change = gone (rows_of f);
+    own = unheld (position_after d.types (rows_of f) (gone (rows_of f)) own_at);
+    is = refl;
+    outcome_is = (refl, refl);
+    represents = record {
+      placed = g;
+      holds = T.deleted.holds;
+      rows = T.deleted.rows;
+      positions =
+          all_moved_unheld d.types f g (without_row (tip path) (length path) (path_before d.types f i)) (position_after d.types (rows_of f) (gone (rows_of f))) T.moves old st.positions number R.positions
+          some within;
+    };
+    follows =
+        subst (λ (x : List ℕ). Follows (images_of d) (rows_of f) x (gone (rows_of f)) (rows_after (gone (rows_of f)) (rows_of f)) w.image) image
+        (subst (λ (xs : List Segment). Follows (images_of d) (rows_of f) mid.image (gone (rows_of f)) xs w.image) T.deleted.rows T.deleted.follows);
+  }
+
+  -- the row left with its span
+  pub row_deleted : IsAnsweredAt st.rows
+  row_deleted = subst IsAnsweredAt R.rows at_own_rows

@@ -7,3 +7,7 @@ pub mod Rewritten
 pub mod Standing
 pub mod Answering
 pub mod AskedStates
+pub mod Taken
+pub mod Unlinked
+pub mod DeletedStates
+pub mod PutRows

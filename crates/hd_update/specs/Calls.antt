@@ -5,8 +5,10 @@ use Rattle.hd_dbd.specs.Hierarchy.{Database}
 use Rattle.hd_dbd.specs.declared.answer.Refused.{Refused}
 use Rattle.hd_calls.specs.Ssas.{Ssa}
 use Rattle.hd_calls.specs.Moves.{Rewrite}
-use Rattle.hd_calls.specs.Steps.{State, Effect, position_at, replace_step, replace_rows, delete_step}
+use Rattle.hd_calls.specs.Steps.{State, Effect, position_at, replace_step, replace_rows, delete_step, delete_row}
 use Rattle.hd_volume.specs.Volumes.{VolumeState}
+use Rattle.hd_image.specs.Records.{links_of}
+use Rattle.hd_forest.specs.Rows.{IsOnRow}
 use Rattle.hd_position.specs.Kept.{Kept}
 use Rattle.hd_get.specs.declared.outcome.Outcome.{Outcome}
 use Rattle.hd_update.specs.Replacing.{AreRewritesOf}
@@ -44,3 +46,15 @@ AreRewritesDone d v old number area news outcome w new =
 -- DLET was done, whatever the PCB sees
 abbrev pub IsDeleteDone : Database → VolumeState → List Kept → ℕ → List Ssa → Outcome → VolumeState → List Kept → Type 0
 IsDeleteDone d v old number ssas outcome w new = (pcb : View) → IsCallDone d v old number (delete_effect d pcb number ssas) outcome w new
+
+-- ---- once it is known which row is deleted
+
+-- where the store is sound, the path is that of a row of a state for which the volume and what is kept stand
+abbrev pub HasPath : Database → VolumeState → List Kept → List ℕ → Type 0
+HasPath d v kept path = IsTrue v.is_sound → (st : State) × (i : ℕ) × (R : Represents d v kept st) × IsOnRow d.types (links_of d.types v) R.placed path i
+
+-- whatever row of a state the path was of, its deletion was done
+abbrev pub IsRowDeleted : Database → VolumeState → List Kept → ℕ → List ℕ → Outcome → VolumeState → List Kept → Type 0
+IsRowDeleted d v old number path outcome w new =
+    (pcb : View) (st : State) (i : ℕ) → IsTrue v.is_sound → (R : Represents d v old st) → IsOnRow d.types (links_of d.types v) R.placed path i
+    → IsAnswered d v st number (delete_row (record { types = d.types; pcb = pcb }) st.rows (position_at st number) i) outcome w new

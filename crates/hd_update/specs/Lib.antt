@@ -3,3 +3,5 @@ pub mod Held
 pub mod Positions
 pub mod Replacing
 pub mod Calls
+pub mod Deleting
+pub mod Putting

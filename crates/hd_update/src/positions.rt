@@ -1,7 +1,9 @@
 ghost use Rattle.std.specs.Prelude.{◌≡◌, ◌<◌, ◌≤◌, length};
-ghost use Rattle.hd_update.specs.Positions.{after_rewrites, all_after_rewrites, unheld_at};
+ghost use Rattle.hd_forest.specs.Walks.{tip};
+ghost use Rattle.hd_update.specs.Positions.{after_rewrites, all_after_rewrites, all_without_row, unheld_at};
 
 use crate::rewrites::NewBytes;
+use hd_forest::{Path, tip_of};
 use hd_position::Position;
 
 /// Ends a PCB's hold of rows that got new bytes.
@@ -19,6 +21,16 @@ pub fn end_holds(positions: &mut [Position], news: &[NewBytes])
 {
     for place in 0..positions.len() {
         end_hold_of_all(&mut positions[place], news);
+    }
+}
+
+/// Lets each PCB go back from the span of the last row of a path, which was taken out, to the row before it, whose path is given.
+pub fn leave_spans(positions: &mut [Position], path: &Path, before: &Path)
+    ensures { positions.new ≡ all_without_row (tip path.now) (length path.now) before.now positions.old }
+{
+    let (address, level) = (tip_of(path), path.level());
+    for place in 0..positions.len() {
+        positions[place].leave_span(address, level, before);
     }
 }
 

@@ -1,0 +1,36 @@
+-- A row that is put in: all or nothing.
+use Rattle.std.specs.Prelude.{◌≡◌, ℕ, ◌<◌, List, [], ◌∷◌, IsTrue}
+use Rattle.hd_dbd.specs.declared.answer.Refused.{Refused}
+use Rattle.hd_dbd.specs.declared.answer.Refused.TheVariants.{Full}
+use Rattle.hd_dbd.specs.Hierarchy.{Database}
+use Rattle.hd_dbd.specs.Segment.{Segment}
+use Rattle.hd_dbd.specs.Forest.{Forest}
+use Rattle.hd_calls.specs.Runs.{LacksRoom}
+use Rattle.hd_volume.specs.Volumes.{VolumeState}
+use Rattle.hd_links.specs.Placed.{Placed}
+use Rattle.hd_links.specs.Changes.{with_leaf}
+use Rattle.hd_links.specs.Numbers.{LeafGoesInAt}
+use Rattle.hd_image.specs.Holding.{HoldsPlaced}
+use Rattle.hd_keeping.specs.NewPaths.{IsPathIn}
+use Rattle.hd_keeping.specs.VolumeImages.{images_of}
+use Rattle.hd_position.specs.Laws.{MovesUp}
+
+-- where the store is sound, the volume holds a forest
+abbrev pub HoldsSome : Database → VolumeState → Type 0
+HoldsSome d v = IsTrue v.is_sound → (f : Forest Placed) × HoldsPlaced d v f
+
+-- The row went in below h behind its twin y, at a number of the sequence, and stands at the address a: the volume w holds the forest with
+-- it, and positions move up from there.
+pub record IsPutIn (d : Database) (v : VolumeState) (f : Forest Placed) (h y : ℕ) (row : Segment) (a : ℕ) (w : VolumeState) : Type 0 where
+  pub number : ℕ
+  pub goes_in : LeafGoesInAt d.types f h y (record { address = a; segment = row }) number
+  pub is_in : IsPathIn d v f number [] (record { address = a; segment = row }) w (with_leaf h y (record { address = a; segment = row }) f)
+  pub moves : MovesUp d.types f (with_leaf h y (record { address = a; segment = row }) f) number
+
+-- whatever forest the sound volume v held, the row went in
+abbrev pub PutsIn : Database → VolumeState → ℕ → ℕ → Segment → ℕ → VolumeState → Type 0
+PutsIn d v h y row a w = (f : Forest Placed) → IsTrue v.is_sound → HoldsPlaced d v f → IsPutIn d v f h y row a w
+
+-- a row is refused as Full only where the volume's bytes lack room for it
+abbrev pub IsFullFor : Database → VolumeState → Segment → Refused → Type 0
+IsFullFor d v row e = e ≡ Full → IsTrue v.is_sound → HoldsSome d v → LacksRoom (images_of d) d.types v.image (row ∷ [])
