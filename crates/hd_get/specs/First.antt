@@ -31,16 +31,19 @@ lowered_to types rows q ssas = option_and_then (λ a. first_passed types rows q 
 
 -- the level of the row of a type's parent type on the path where a PCB stands
 abbrev pub parent_level : List SegmentType → List Segment → Position → ℕ → Option ℕ
-parent_level types rows q code = option_and_then (λ p. option_map (λ r. level_of types p) (on_path_at types rows p q.standing)) (parent_of types code)
+parent_level types rows q code =
+    option_and_then (λ p. option_map (λ r. level_of types p) (on_path_at types rows p q.standing)) (parent_of types code)
 
 -- the row of a level on the path of the last row passed is of a type or of a later one
 abbrev pub is_level_from : List SegmentType → List Segment → Position → ℕ → ℕ → Bool
-is_level_from types rows q level code = option_map_or (λ x. nat_le code (row_at rows x).code) (row_on (path_passed types rows q.passed) level) false
+is_level_from types rows q level code =
+    option_map_or (λ x. nat_le code (row_at rows x).code) (row_on (path_passed types rows q.passed) level) false
 
 -- What GNP begins with where it begins behind the parentage row: that one's address and a path, just where there is such a row.
 pub record IsStartBehind (d : Database) (v : VolumeState) (f : Forest Placed) (q : Position) (start : Option (ℕ × List ℕ)) : Type 0 where
   pub parent : is_some start ≡ is_some q.parent
-  pub leads : IfSome start (λ s. LeadsWithin d.types (links_of d.types v) f s.0 (search_end d.types (rows_of f) q NextInParent) s.1 (behind_parent q))
+  pub leads : IfSome start
+      (λ s. LeadsWithin d.types (links_of d.types v) f s.0 (search_end d.types (rows_of f) q NextInParent) s.1 (behind_parent q))
 
 -- ---- the words of the contracts
 
@@ -52,19 +55,23 @@ IsParentLevel d v code k o = (f : Forest Placed) (q : Position) → IsKeptIn d v
 abbrev pub IsLevelFrom : Database → VolumeState → ℕ → ℕ → Kept → Bool → Type 0
 IsLevelFrom d v level code k r = (f : Forest Placed) (q : Position) → IsKeptIn d v f k q → r ≡ is_level_from d.types (rows_of f) q level code
 
--- wherever what is kept stands for a position, and a row of the level has children of the type, the path is that of the first of them
+-- wherever what is kept stands for a position, and the type is a child type of the row of the level, the path is that of the row's first
+-- child of the type, if there is one
 abbrev pub IsChildBelow : Database → VolumeState → ℕ → ℕ → Kept → Option (List ℕ) → Type 0
 IsChildBelow d v level code k o =
     (f : Forest Placed) (q : Position) (r : ℕ) → IsKeptIn d v f k q → row_on (path_passed d.types (rows_of f) q.passed) level ≡ Some r
-    → is_child_type d.types (row_at (rows_of f) r).code code ≡ true → o ≡ option_map (λ j. path_at d.types f j) (first_child d.types (rows_of f) code r)
+    → is_child_type d.types (row_at (rows_of f) r).code code ≡ true
+    → o ≡ option_map (λ j. path_at d.types f j) (first_child d.types (rows_of f) code r)
 
 -- wherever what is kept stands for a position, the path is that of the argument's first occurrence, if that is one of the rows passed
 abbrev pub IsFirstPassed : Database → VolumeState → Ssa → Kept → Option (List ℕ) → Type 0
-IsFirstPassed d v a k o = (f : Forest Placed) (q : Position) → IsKeptIn d v f k q → o ≡ option_map (λ j. path_at d.types f j) (first_passed d.types (rows_of f) q a)
+IsFirstPassed d v a k o =
+    (f : Forest Placed) (q : Position) → IsKeptIn d v f k q → o ≡ option_map (λ j. path_at d.types f j) (first_passed d.types (rows_of f) q a)
 
 -- wherever what is kept stands for a position, the path is that of the row to which F lowers the start, if it does
 abbrev pub IsLoweredTo : Database → VolumeState → List Ssa → Kept → Option (List ℕ) → Type 0
-IsLoweredTo d v ssas k o = (f : Forest Placed) (q : Position) → IsKeptIn d v f k q → o ≡ option_map (λ j. path_at d.types f j) (lowered_to d.types (rows_of f) q ssas)
+IsLoweredTo d v ssas k o =
+    (f : Forest Placed) (q : Position) → IsKeptIn d v f k q → o ≡ option_map (λ j. path_at d.types f j) (lowered_to d.types (rows_of f) q ssas)
 
 -- wherever what is kept stands for a position, GNP begins so behind its parentage row
 abbrev pub StartsBehind : Database → VolumeState → Kept → Option (ℕ × List ℕ) → Type 0

@@ -39,13 +39,16 @@ SearchesOn test d v parent path r found =
     → IsFound (test (rows_of f)) d.types f end n r found
 
 -- The search for the row that a get seeks may begin where the path leads.
-pub record LeadsToSought (d : Database) (v : VolumeState) (f : Forest Placed) (c : GetCall) (q : Position) (parent : ℕ) (path : List ℕ) : Type 0 where
+pub record LeadsToSought (d : Database) (v : VolumeState) (f : Forest Placed) (c : GetCall) (q : Position) (parent : ℕ) (path : List ℕ)
+    : Type 0 where
   pub number : ℕ
-  pub same : sought_by c d.types (rows_of f) q ≡ first_from (satisfies_get c d.types (rows_of f)) number (search_end d.types (rows_of f) q c.kind)
+  pub same : sought_by c d.types (rows_of f) q
+      ≡ first_from (satisfies_get c d.types (rows_of f)) number (search_end d.types (rows_of f) q c.kind)
   pub leads : LeadsWithin d.types (links_of d.types v) f parent (search_end d.types (rows_of f) q c.kind) path number
 
 -- Where a get begins, by an address to stay below and a path; where it does not begin there is nothing to find.
-pub record IsBeginning (d : Database) (v : VolumeState) (f : Forest Placed) (c : GetCall) (q : Position) (start : Option (ℕ × List ℕ)) : Type 0 where
+pub record IsBeginning (d : Database) (v : VolumeState) (f : Forest Placed) (c : GetCall) (q : Position) (start : Option (ℕ × List ℕ))
+    : Type 0 where
   pub none : start ≡ None → sought_by c d.types (rows_of f) q ≡ None
   pub some : IfSome start (λ s. LeadsToSought d v f c q s.0 s.1)
 
@@ -55,7 +58,9 @@ Begins d v c k start = (f : Forest Placed) (q : Position) → IsPositionIn d v f
 
 -- wherever what is kept stands for a position, the path is that of the row that the get seeks, if there is one
 abbrev pub IsSought : Database → VolumeState → GetCall → Kept → Option (List ℕ) → Type 0
-IsSought d v c k path = (f : Forest Placed) (q : Position) → IsPositionIn d v f k q → path ≡ option_map (λ i. path_at d.types f i) (sought_by c d.types (rows_of f) q)
+IsSought d v c k path =
+    (f : Forest Placed) (q : Position) → IsPositionIn d v f k q
+    → path ≡ option_map (λ i. path_at d.types f i) (sought_by c d.types (rows_of f) q)
 
 -- the status of a get after which the row last returned is of this type, and before which it was of that
 abbrev pub status_between : GetKind → List Ssa → Option Place → Option Place → Status

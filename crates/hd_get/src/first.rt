@@ -157,7 +157,8 @@ fn lowered_to<S: BlockStore>(
 }
 
 /// The path of the row where GN begins: the row behind those that a PCB has passed, or a first occurrence before it that F asks for;
-/// empty behind the last row. Beside the rows that `next` reads, two rows on the PCB's path are read where an argument has F.
+/// empty behind the last row. Where an argument has F, the row of its parent's type on the PCB's path and the row below that are read;
+/// where that lowers nothing, the rows that `next` reads.
 pub(crate) fn next_by_first<S: BlockStore>(
     volume: &mut Volume<S>,
     dbd: &Dbd,
@@ -200,7 +201,8 @@ fn behind_parent<S: BlockStore>(
 }
 
 /// The address of a PCB's parentage row, and the path of the row where GNP begins, as for GN, but never before the row behind the
-/// parentage row; `None` where there is no parentage.
+/// parentage row; `None` where there is no parentage. The same rows are read as for GN, and at most those from the parentage row to the
+/// next.
 pub(crate) fn next_in_parent_by_first<S: BlockStore>(
     volume: &mut Volume<S>,
     dbd: &Dbd,

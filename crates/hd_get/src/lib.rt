@@ -1,4 +1,4 @@
-//! The search of a get over a volume: from where it begins to the first row that passes.
+//! A get over a volume: where it begins, which row it finds, what it answers, and where it leaves its PCB.
 #![tactic(auto)]
 
 mod access;
@@ -39,6 +39,8 @@ pub use verdict::Verdict;
 
 #[cfg(test)]
 mod access_tests;
+#[cfg(test)]
+mod get_tests;
 #[cfg(test)]
 mod named_tests;
 #[cfg(test)]
