@@ -1,17 +1,18 @@
 -- Why a search by segment search arguments goes where it goes from a row.
-use Rattle.std.proofs.Common.{◌≡◌, ℕ, ◌+◌, ◌-◌, ◌<◌, ◌≤◌, List, [], ◌∷◌, length, Bool, true, false, Option, Some, None, refl, sym, ap, subst, ◌∙◌, arith, inl, inr}
-use Rattle.std.specs.Prelude.{◌==◌, ◌&&◌, ◌||◌, cond, nat_lt, unwrap_or, is_some, option_map, option_and_then, IfSome}
+use Rattle.std.proofs.Common.{◌≡◌, ◌≢◌, ℕ, ◌+◌, ◌-◌, ◌<◌, ◌≤◌, List, [], ◌∷◌, length, Bool, true, false, Option, Some, None, refl, sym, ap, subst, ◌∙◌, arith, inl, inr}
+use Rattle.std.specs.Prelude.{◌==◌, ◌&&◌, ◌||◌, cond, nat_lt, unwrap_or, is_some, is_none, option_map, option_and_then, IfSome}
 use Rattle.std.specs.Option.{option_map_or}
 use Rattle.std.specs.List.{list_all, list_any}
 use Rattle.std.proofs.lemmas.Bool.{cases_lt, cases_Bool, cond-true, cond-false, lt-ltb, le-ltb, eq-eqb, eqb-true, ne_eqb, and_parts, and_from, or_cases, false≢true}
 use Rattle.hd_dbd.specs.Types.{SegmentType}
 use Rattle.hd_dbd.specs.Hierarchy.{parent_of}
 use Rattle.hd_dbd.specs.Segment.{Segment}
-use Rattle.hd_dbd.specs.Paths.{row_at, parent_row, path_of, end_of}
+use Rattle.hd_dbd.specs.Paths.{row_at, parent_row, path_of, end_of, is_twin}
 use Rattle.hd_dbd.specs.Prefixes.{children_of}
 use Rattle.hd_dbd.specs.Letters.{gives_get}
 use Rattle.hd_dbd.proofs.LevelLaw.{typed}
 use Rattle.hd_dbd.proofs.Levels.{type_within}
+use Rattle.hd_dbd.proofs.Names.{option_eq-Decides}
 use Rattle.hd_prefix.proofs.Listed.{children_listed}
 use Rattle.hd_links.specs.Links.{is_child_type, is_last_kept}
 use Rattle.hd_calls.specs.Access.{may}
@@ -19,24 +20,24 @@ use Rattle.hd_calls.specs.Ssas.{target_code}
 use Rattle.hd_calls.specs.Satisfies.{is_named}
 use Rattle.hd_calls.specs.Places.{end_below}
 use Rattle.hd_calls.proofs.Spans.{end_is}
-use Rattle.hd_calls.proofs.Searches.{least_some}
+use Rattle.hd_calls.proofs.Searches.{least_some, least_no}
 use Rattle.hd_seek.specs.Admits.{NonePass, AreRowsOf, IsSearch, admits, is_on_way}
 use Rattle.hd_seek.specs.Keys.{is_past}
 use Rattle.hd_seek.specs.Twins.{next_twin}
 use Rattle.hd_seek.specs.Ways.{way_down, way_beside}
-use Rattle.hd_seek.proofs.OnPaths.{has, levels_are, sequence_is, spans_on, parent_code}
+use Rattle.hd_seek.proofs.OnPaths.{has, levels_are, sequence_is, spans_on, parent_code, root_code}
 use Rattle.hd_seek.proofs.Admitting.{named_admitted}
 use Rattle.hd_seek.proofs.Failing.{spans_fail, other_types_fail}
 use Rattle.hd_seek.proofs.Twins.{next_twins, twin_within}
 use Rattle.hd_seek.proofs.Keys.{past_keys_fail}
-use Rattle.hd_seek.proofs.Ways.{first_children, down_some, down_found, down_parts}
+use Rattle.hd_seek.proofs.Ways.{first_children, down_some, down_found, down_of, down_parts}
 use Rattle.hd_seek.proofs.Beside.{no_later_types, later_types}
-use Rattle.hd_get.specs.declared.verdict.Verdict.TheVariants.{Found, Down, DownToLast, Across, Beside, Rest}
+use Rattle.hd_get.specs.declared.verdict.Verdict.TheVariants.{Found, Down, DownToLast, Across, Beside, BesideToLast, Rest}
 use Rattle.hd_get.specs.Searches.{is_above_admitted, twin_or_end, child_or_end, NonePassAcross, IsWayDown, IsJudged}
-use Rattle.hd_get.specs.Asking.{Asked, SsasSuit, is_asked, is_admitted, verdict_beside, asks_last, goes_to_last, verdict_to, verdict_down}
-use Rattle.hd_get.proofs.LastChildren.{none_before_children}
+use Rattle.hd_get.specs.Asking.{Asked, SsasSuit, is_asked, is_admitted, verdict_beside, verdict_beside_to, asks_last, goes_to_last, verdict_to, verdict_down}
+use Rattle.hd_get.proofs.LastChildren.{child_parts, first_before, none_before_children}
 use Rattle.hd_get.proofs.Spans.{parent_span, parent_within, above_parent, whole_admitted}
-use Rattle.hd_get.proofs.Judging.{judged_found, judged_down, judged_to_last, judged_across, judged_beside, judged_rest}
+use Rattle.hd_get.proofs.Judging.{judged_found, judged_down, judged_to_last, judged_across, judged_beside, judged_beside_to_last, judged_rest}
 
 -- a type is a child type of its parent
 pub child_of : (types : List SegmentType) (p c : ℕ) → (p ≡ 0 → ⊥) → parent_of types c ≡ Some p → is_child_type types p c ≡ true
@@ -157,7 +158,7 @@ module _ (types : List SegmentType) (rows : List Segment) (a : Asked) (over : Ar
   module _ (i : ℕ) (within : i < length rows) (above : is_above_admitted (is_admitted a types rows) types rows i ≡ true) where
     -- the row's type is off the way
     pub judged_off : is_on_way types (target_code a.ssas) (row_at rows i).code ≡ false
-        → IsJudged (is_asked a types rows) (is_admitted a types rows) types rows i (verdict_beside types (target_code a.ssas) (row_at rows i).code)
+        → IsJudged (is_asked a types rows) (is_admitted a types rows) types rows i (verdict_beside types a.ssas (target_code a.ssas) (row_at rows i).code)
     judged_off off = by_way (way_beside types (target_code a.ssas) (row_at rows i).code) refl
       where
         resting : IfSome (way_beside types (target_code a.ssas) (row_at rows i).code) (λ c. c ≤ (row_at rows i).code)
@@ -173,7 +174,7 @@ module _ (types : List SegmentType) (rows : List Segment) (a : Asked) (over : Ar
         by_parent c (Some q) e way = (q, e, sym (ap (option_and_then (λ p. way_down types (target_code a.ssas) p)) (parent_code types rows over i q within e)) ∙ way)
 
         besides : (c : ℕ) → way_beside types (target_code a.ssas) (row_at rows i).code ≡ Some c → (row_at rows i).code < c
-            → IsJudged (is_asked a types rows) (is_admitted a types rows) types rows i (Beside c)
+            → IsJudged (is_asked a types rows) (is_admitted a types rows) types rows i (verdict_beside_to types a.ssas c)
         besides c way later =
             let Q = by_parent c (parent_row types rows i) refl way in
             let S = parent_span types rows i Q.0 within Q.1 in
@@ -182,20 +183,44 @@ module _ (types : List SegmentType) (rows : List Segment) (a : Asked) (over : Ar
             let behind : i < end_of types rows i = (end_is types rows i within).behind in
             let qw : Q.0 < length rows = omega arith in
             let up = above_parent (is_asked a types rows) (is_admitted a types rows) types rows i Q.0 Q.1 above in
-            judged_beside (is_asked a types rows) (is_admitted a types rows) types rows i c (none_asked i (end_of types rows i) (other_types_fail types rows a.ssas i over within off)) (record {
-              parent = Q.0;
-              is = Q.1;
-              down = down_way Q.0 qw up c (above_is i within above Q.0 qi (omega arith)) Q.2;
-              later = later_types types rows i Q.0 c over within Q.1 later;
-            })
+            by_last (goes_to_last types a.ssas c) refl Q.0 Q.1 Q.2 (down_way Q.0 qw up c (above_is i within above Q.0 qi (omega arith)) Q.2) qw (let r : i < end_of types rows Q.0 = omega arith in r)
+          where
+            by_last : (b : Bool) → goes_to_last types a.ssas c ≡ b → (q : ℕ) → parent_row types rows i ≡ Some q → way_down types (target_code a.ssas) (row_at rows q).code ≡ Some c
+                → IsWayDown (is_asked a types rows) (is_admitted a types rows) types rows q c → q < length rows → i < end_of types rows q
+                → IsJudged (is_asked a types rows) (is_admitted a types rows) types rows i (cond b (BesideToLast c) (Beside c))
+            by_last false last q is way_ down qw inside =
+                judged_beside (is_asked a types rows) (is_admitted a types rows) types rows i c (none_asked i (end_of types rows i) (other_types_fail types rows a.ssas i over within off))
+                (record { parent = q; is = is; down = down; later = later_types types rows i q c over within is later })
+            by_last true last q is way_ down qw inside =
+                (let L = and_parts (is_last_kept types c) (list_any (λ b. asks_last c b) a.ssas) last in
+                judged_beside_to_last (is_asked a types rows) (is_admitted a types rows) types rows i c (none_asked i (end_of types rows i) (other_types_fail types rows a.ssas i over within off))
+                (record {
+                  parent = q;
+                  is = is;
+                  to_last = record {
+                    down = down;
+                    kept = L.0;
+                    last = λ j jw child. none_asked q j (none_before_children types rows a.ssas q c over qw way_ L.1 j jw child);
+                  };
+                  later = record {
+                    inside = inside;
+                    before = λ j jw child none.
+                        (let first : i < child_or_end types rows q c = later_types types rows i q c over within is later in
+                        let J = parent_span types rows j q jw (child_parts types rows q c j child).0 in
+                        let qj : q < j = J.0 in
+                        let je : j < end_of types rows j = (end_is types rows j jw).behind in
+                        let ee : end_of types rows j ≤ end_of types rows q = J.2 in
+                        let low : child_or_end types rows q c ≤ j = first_before types rows q c j qj (omega arith) child in omega arith);
+                  };
+                }))
 
         by_way : (o : Option ℕ) → way_beside types (target_code a.ssas) (row_at rows i).code ≡ o
-            → IsJudged (is_asked a types rows) (is_admitted a types rows) types rows i (option_map_or (λ c. cond (nat_lt (row_at rows i).code c) (Beside c) Rest) o Rest)
+            → IsJudged (is_asked a types rows) (is_admitted a types rows) types rows i (option_map_or (λ c. cond (nat_lt (row_at rows i).code c) (verdict_beside_to types a.ssas c) Rest) o Rest)
         by_way None e = resting (subst (λ o. IfSome o (λ c. c ≤ (row_at rows i).code)) (sym e) tt)
         by_way (Some c) e = elim (cases_lt (row_at rows i).code c) [
-          | inl later ↦ subst (IsJudged (is_asked a types rows) (is_admitted a types rows) types rows i) (sym (cond-true (nat_lt (row_at rows i).code c) (Beside c) Rest (lt-ltb (row_at rows i).code c later)))
+          | inl later ↦ subst (IsJudged (is_asked a types rows) (is_admitted a types rows) types rows i) (sym (cond-true (nat_lt (row_at rows i).code c) (verdict_beside_to types a.ssas c) Rest (lt-ltb (row_at rows i).code c later)))
               (besides c e later)
-          | inr past ↦ subst (IsJudged (is_asked a types rows) (is_admitted a types rows) types rows i) (sym (cond-false (nat_lt (row_at rows i).code c) (Beside c) Rest (le-ltb (row_at rows i).code c past)))
+          | inr past ↦ subst (IsJudged (is_asked a types rows) (is_admitted a types rows) types rows i) (sym (cond-false (nat_lt (row_at rows i).code c) (verdict_beside_to types a.ssas c) Rest (le-ltb (row_at rows i).code c past)))
               (resting (subst (λ o. IfSome o (λ c. c ≤ (row_at rows i).code)) (sym e) past))
         ]
 
@@ -203,6 +228,53 @@ module _ (types : List SegmentType) (rows : List Segment) (a : Asked) (over : Ar
     module _ (way : is_on_way types (target_code a.ssas) (row_at rows i).code ≡ true) where
       pub judged_past : is_past types a.ssas (row_at rows i) ≡ true → IsJudged (is_asked a types rows) (is_admitted a types rows) types rows i Rest
       judged_past past = rested i within above (past_keys_fail types rows a.ssas i over within way past)
+
+      -- the row is not the last of its twins, which alone is asked for
+      pub judged_later : admits types rows a.ssas i ≡ false → (row_at rows i).code ≢ 1 → goes_to_last types a.ssas (row_at rows i).code ≡ true → is_none (next_twin types rows i) ≡ false
+          → IsJudged (is_asked a types rows) (is_admitted a types rows) types rows i (BesideToLast (row_at rows i).code)
+      judged_later unmet other last later = by_parent (parent_row types rows i) refl
+        where
+          behind_j : (j : ℕ) → j < length rows → is_twin types rows j i ≡ true → next_twin types rows j ≡ None → i < j
+          behind_j j jw twin none = elim (cases_lt i j) [
+            | inl w ↦ w
+            | inr w ↦ elim (cases_lt j i) [
+              | inl early ↦ absurd (false≢true (sym (least_no (λ k. is_twin types rows j k) (length rows - (j + 1)) (j + 1) none i (omega arith) (omega arith)) ∙ twin))
+              | inr same ↦ absurd (false≢true (sym later ∙ ap is_none (ap (next_twin types rows) (let z : i ≡ j = omega arith in z) ∙ none)))
+            ]
+          ]
+
+          by_parent : (o : Option ℕ) → parent_row types rows i ≡ o → IsJudged (is_asked a types rows) (is_admitted a types rows) types rows i (BesideToLast (row_at rows i).code)
+          by_parent None e = absurd (other (root_code types rows over i within e))
+          by_parent (Some q) e =
+              (let S = parent_span types rows i q within e in
+              let qi : q < i = S.0 in
+              let qe : end_of types rows i ≤ end_of types rows q = S.2 in
+              let behind : i < end_of types rows i = (end_is types rows i within).behind in
+              let qw : q < length rows = omega arith in
+              let inside : i < end_of types rows q = omega arith in
+              let up = above_parent (is_asked a types rows) (is_admitted a types rows) types rows i q e above in
+              let parent : parent_of types (row_at rows i).code ≡ Some (row_at rows q).code = parent_code types rows over i q within e in
+              let way_ : way_down types (target_code a.ssas) (row_at rows q).code ≡ Some (row_at rows i).code
+              = down_of types (levels_are types rows over) (target_code a.ssas) (row_at rows q).code (row_at rows i).code
+              (and_from _ _ ((option_eq-Decides (parent_of types (row_at rows i).code) (Some (row_at rows q).code)).1 parent) way) in
+              let L = and_parts (is_last_kept types (row_at rows i).code) (list_any (λ b. asks_last (row_at rows i).code b) a.ssas) last in
+              judged_beside_to_last (is_asked a types rows) (is_admitted a types rows) types rows i (row_at rows i).code
+              (none_asked i (end_of types rows i) (spans_fail types rows a.ssas i within unmet))
+              (record {
+                parent = q;
+                is = e;
+                to_last = record {
+                  down = down_way q qw up (row_at rows i).code (above_is i within above q qi inside) way_;
+                  kept = L.0;
+                  last = λ j jw child. none_asked q j (none_before_children types rows a.ssas q (row_at rows i).code over qw way_ L.1 j jw child);
+                };
+                later = record {
+                  inside = inside;
+                  before = λ j jw child none.
+                      (let J = child_parts types rows q (row_at rows i).code j child in
+                      behind_j j jw (and_from _ _ (eq-eqb (row_at rows j).code (row_at rows i).code J.1) ((option_eq-Decides (parent_row types rows j) (parent_row types rows i)).1 (J.0 ∙ sym e))) none);
+                };
+              }))
 
       pub judged_unmet : admits types rows a.ssas i ≡ false → IsJudged (is_asked a types rows) (is_admitted a types rows) types rows i Across
       judged_unmet unmet =

@@ -7,8 +7,8 @@ use Rattle.hd_dbd.specs.Paths.{parent_row, end_of}
 use Rattle.hd_calls.specs.Places.{end_below}
 use Rattle.hd_seek.specs.Admits.{NonePass}
 use Rattle.hd_get.specs.declared.verdict.Verdict.{Verdict}
-use Rattle.hd_get.specs.declared.verdict.Verdict.TheVariants.{Found, Next, Over, Down, DownToLast, Across, Beside, Rest}
-use Rattle.hd_get.specs.Searches.{AllAdmitted, NonePassAcross, IsWayDown, IsWayToLast, IsWayBeside, IsJudged}
+use Rattle.hd_get.specs.declared.verdict.Verdict.TheVariants.{Found, Next, Over, Down, DownToLast, Across, Beside, BesideToLast, Rest}
+use Rattle.hd_get.specs.Searches.{AllAdmitted, NonePassAcross, IsWayDown, IsWayToLast, IsWayBeside, IsWayBesideToLast, IsJudged}
 
 -- which verdict it is
 is_found : Verdict → Bool
@@ -19,6 +19,7 @@ is_found (Down code) = false
 is_found (DownToLast code) = false
 is_found Across = false
 is_found (Beside code) = false
+is_found (BesideToLast code) = false
 is_found Rest = false
 
 is_next : Verdict → Bool
@@ -29,6 +30,7 @@ is_next (Down code) = false
 is_next (DownToLast code) = false
 is_next Across = false
 is_next (Beside code) = false
+is_next (BesideToLast code) = false
 is_next Rest = false
 
 is_over : Verdict → Bool
@@ -39,6 +41,7 @@ is_over (Down code) = false
 is_over (DownToLast code) = false
 is_over Across = false
 is_over (Beside code) = false
+is_over (BesideToLast code) = false
 is_over Rest = false
 
 is_down : Verdict → Bool
@@ -49,6 +52,7 @@ is_down (Down code) = true
 is_down (DownToLast code) = false
 is_down Across = false
 is_down (Beside code) = false
+is_down (BesideToLast code) = false
 is_down Rest = false
 
 is_to_last : Verdict → Bool
@@ -59,6 +63,7 @@ is_to_last (Down code) = false
 is_to_last (DownToLast code) = true
 is_to_last Across = false
 is_to_last (Beside code) = false
+is_to_last (BesideToLast code) = false
 is_to_last Rest = false
 
 is_across : Verdict → Bool
@@ -69,6 +74,7 @@ is_across (Down code) = false
 is_across (DownToLast code) = false
 is_across Across = true
 is_across (Beside code) = false
+is_across (BesideToLast code) = false
 is_across Rest = false
 
 is_beside : Verdict → Bool
@@ -79,7 +85,19 @@ is_beside (Down code) = false
 is_beside (DownToLast code) = false
 is_beside Across = false
 is_beside (Beside code) = true
+is_beside (BesideToLast code) = false
 is_beside Rest = false
+
+is_beside_to_last : Verdict → Bool
+is_beside_to_last Found = false
+is_beside_to_last Next = false
+is_beside_to_last Over = false
+is_beside_to_last (Down code) = false
+is_beside_to_last (DownToLast code) = false
+is_beside_to_last Across = false
+is_beside_to_last (Beside code) = false
+is_beside_to_last (BesideToLast code) = true
+is_beside_to_last Rest = false
 
 is_rest : Verdict → Bool
 is_rest Found = false
@@ -89,11 +107,12 @@ is_rest (Down code) = false
 is_rest (DownToLast code) = false
 is_rest Across = false
 is_rest (Beside code) = false
+is_rest (BesideToLast code) = false
 is_rest Rest = true
 
 module _ (test admits : ℕ → Bool) (types : List SegmentType) (rows : List Segment) (i : ℕ) where
   pub judged_found : test i ≡ true → admits i ≡ true → IsJudged test admits types rows i Found
-  unfolding is_next is_over is_down is_across is_beside is_rest is_to_last
+  unfolding is_next is_over is_down is_across is_beside is_rest is_to_last is_beside_to_last
   judged_found is own = record {
     admitted = λ e. own;
     span = λ e. absurd (false≢true (sym e));
@@ -104,11 +123,12 @@ module _ (test admits : ℕ → Bool) (types : List SegmentType) (rows : List Se
     to_last = λ code e. absurd (false≢true (ap is_to_last e));
     across = λ e. absurd (false≢true (ap is_across e));
     beside = λ code e. absurd (false≢true (ap is_beside e));
+    beside_to_last = λ code e. absurd (false≢true (ap is_beside_to_last e));
     rest = λ e. absurd (false≢true (ap is_rest e));
   }
 
   pub judged_next : test i ≡ false → AllAdmitted admits → IsJudged test admits types rows i Next
-  unfolding is_found is_over is_down is_across is_beside is_rest is_to_last
+  unfolding is_found is_over is_down is_across is_beside is_rest is_to_last is_beside_to_last
   judged_next is all = record {
     admitted = λ e. all i;
     span = λ e. absurd (false≢true (sym e));
@@ -119,11 +139,12 @@ module _ (test admits : ℕ → Bool) (types : List SegmentType) (rows : List Se
     to_last = λ code e. absurd (false≢true (ap is_to_last e));
     across = λ e. absurd (false≢true (ap is_across e));
     beside = λ code e. absurd (false≢true (ap is_beside e));
+    beside_to_last = λ code e. absurd (false≢true (ap is_beside_to_last e));
     rest = λ e. absurd (false≢true (ap is_rest e));
   }
 
   pub judged_over : NonePass test i (end_of types rows i) → AllAdmitted admits → IsJudged test admits types rows i Over
-  unfolding is_found is_next is_down is_across is_beside is_rest is_to_last
+  unfolding is_found is_next is_down is_across is_beside is_rest is_to_last is_beside_to_last
   judged_over none all = record {
     admitted = λ e. absurd (false≢true e);
     span = λ e. none;
@@ -134,11 +155,12 @@ module _ (test admits : ℕ → Bool) (types : List SegmentType) (rows : List Se
     to_last = λ code e. absurd (false≢true (ap is_to_last e));
     across = λ e. absurd (false≢true (ap is_across e));
     beside = λ code e. absurd (false≢true (ap is_beside e));
+    beside_to_last = λ code e. absurd (false≢true (ap is_beside_to_last e));
     rest = λ e. absurd (false≢true (ap is_rest e));
   }
 
   pub judged_down : (code : ℕ) → IsWayDown test admits types rows i code → IsJudged test admits types rows i (Down code)
-  unfolding is_found is_next is_over is_across is_beside is_rest is_to_last
+  unfolding is_found is_next is_over is_across is_beside is_rest is_to_last is_beside_to_last
   judged_down code way = record {
     admitted = λ e. way.admitted;
     span = λ e. absurd (false≢true (sym e));
@@ -149,6 +171,7 @@ module _ (test admits : ℕ → Bool) (types : List SegmentType) (rows : List Se
     to_last = λ code e. absurd (false≢true (ap is_to_last e));
     across = λ e. absurd (false≢true (ap is_across e));
     beside = λ other e. absurd (false≢true (ap is_beside e));
+    beside_to_last = λ code e. absurd (false≢true (ap is_beside_to_last e));
     rest = λ e. absurd (false≢true (ap is_rest e));
   }
     where
@@ -159,7 +182,7 @@ module _ (test admits : ℕ → Bool) (types : List SegmentType) (rows : List Se
           same other e = cc
 
   pub judged_to_last : (code : ℕ) → IsWayToLast test admits types rows i code → IsJudged test admits types rows i (DownToLast code)
-  unfolding is_found is_next is_over is_down is_across is_beside is_rest
+  unfolding is_found is_next is_over is_down is_across is_beside is_rest is_beside_to_last
   judged_to_last code way = record {
     admitted = λ e. way.down.admitted;
     span = λ e. absurd (false≢true (sym e));
@@ -170,6 +193,7 @@ module _ (test admits : ℕ → Bool) (types : List SegmentType) (rows : List Se
     to_last = λ other e. one way e;
     across = λ e. absurd (false≢true (ap is_across e));
     beside = λ other e. absurd (false≢true (ap is_beside e));
+    beside_to_last = λ code e. absurd (false≢true (ap is_beside_to_last e));
     rest = λ e. absurd (false≢true (ap is_rest e));
   }
     where
@@ -180,7 +204,7 @@ module _ (test admits : ℕ → Bool) (types : List SegmentType) (rows : List Se
           same other e = cc
 
   pub judged_across : NonePass test i (end_of types rows i) → NonePassAcross test types rows i → IsJudged test admits types rows i Across
-  unfolding is_found is_next is_over is_down is_beside is_rest is_to_last
+  unfolding is_found is_next is_over is_down is_beside is_rest is_to_last is_beside_to_last
   judged_across none across = record {
     admitted = λ e. absurd (false≢true e);
     span = λ e. none;
@@ -191,11 +215,12 @@ module _ (test admits : ℕ → Bool) (types : List SegmentType) (rows : List Se
     to_last = λ code e. absurd (false≢true (ap is_to_last e));
     across = λ e. across;
     beside = λ code e. absurd (false≢true (ap is_beside e));
+    beside_to_last = λ code e. absurd (false≢true (ap is_beside_to_last e));
     rest = λ e. absurd (false≢true (ap is_rest e));
   }
 
   pub judged_beside : (code : ℕ) → NonePass test i (end_of types rows i) → IsWayBeside test admits types rows i code → IsJudged test admits types rows i (Beside code)
-  unfolding is_found is_next is_over is_down is_across is_rest is_to_last
+  unfolding is_found is_next is_over is_down is_across is_rest is_to_last is_beside_to_last
   judged_beside code none way = record {
     admitted = λ e. absurd (false≢true e);
     span = λ e. none;
@@ -206,6 +231,7 @@ module _ (test admits : ℕ → Bool) (types : List SegmentType) (rows : List Se
     to_last = λ code e. absurd (false≢true (ap is_to_last e));
     across = λ e. absurd (false≢true (ap is_across e));
     beside = λ other e. one way e;
+    beside_to_last = λ code e. absurd (false≢true (ap is_beside_to_last e));
     rest = λ e. absurd (false≢true (ap is_rest e));
   }
     where
@@ -215,9 +241,31 @@ module _ (test admits : ℕ → Bool) (types : List SegmentType) (rows : List Se
           same : (other : ℕ) → Beside code ≡ Beside other → code ≡ other
           same other e = cc
 
+  pub judged_beside_to_last : (code : ℕ) → NonePass test i (end_of types rows i) → IsWayBesideToLast test admits types rows i code → IsJudged test admits types rows i (BesideToLast code)
+  unfolding is_found is_next is_over is_down is_to_last is_across is_beside is_rest
+  judged_beside_to_last code none way = record {
+    admitted = λ e. absurd (false≢true e);
+    span = λ e. none;
+    found = λ e. absurd (false≢true (ap is_found e));
+    next = λ e. absurd (false≢true (ap is_next e));
+    over = λ e. absurd (false≢true (ap is_over e));
+    down = λ other e. absurd (false≢true (ap is_down e));
+    to_last = λ other e. absurd (false≢true (ap is_to_last e));
+    across = λ e. absurd (false≢true (ap is_across e));
+    beside = λ other e. absurd (false≢true (ap is_beside e));
+    beside_to_last = λ other e. one way e;
+    rest = λ e. absurd (false≢true (ap is_rest e));
+  }
+    where
+      one : {other : ℕ} → IsWayBesideToLast test admits types rows i code → BesideToLast code ≡ BesideToLast other → IsWayBesideToLast test admits types rows i other
+      one {other} w e = subst (IsWayBesideToLast test admits types rows i) (same other e) w
+        where
+          same : (other : ℕ) → BesideToLast code ≡ BesideToLast other → code ≡ other
+          same other e = cc
+
   pub judged_rest : NonePass test i (end_of types rows i) → NonePass test i (end_below types rows (parent_row types rows i)) → NonePassAcross test types rows i
       → IsJudged test admits types rows i Rest
-  unfolding is_found is_next is_over is_down is_across is_beside is_to_last
+  unfolding is_found is_next is_over is_down is_across is_beside is_to_last is_beside_to_last
   judged_rest span none across = record {
     admitted = λ e. absurd (false≢true e);
     span = λ e. span;
@@ -228,5 +276,6 @@ module _ (test admits : ℕ → Bool) (types : List SegmentType) (rows : List Se
     to_last = λ code e. absurd (false≢true (ap is_to_last e));
     across = λ e. absurd (false≢true (ap is_across e));
     beside = λ code e. absurd (false≢true (ap is_beside e));
+    beside_to_last = λ code e. absurd (false≢true (ap is_beside_to_last e));
     rest = λ e. (none, across);
   }

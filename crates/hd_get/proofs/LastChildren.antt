@@ -1,9 +1,9 @@
 -- The last child of a type: why none before it is asked for, and where its pointer leads.
 use Rattle.std.proofs.Common.{◌≡◌, ◌≢◌, ℕ, zero, suc, ◌+◌, ◌-◌, ◌<◌, ◌≤◌, List, [], ◌∷◌, ◌++◌, length, Bool, true, false, Option, Some, None, refl, sym, ap, subst, ◌∙◌, arith, inl, inr}
-use Rattle.std.specs.Prelude.{◌&&◌, ◌||◌, ◌==◌, not, nat_lt, is_none, is_some, option_and_then}
+use Rattle.std.specs.Prelude.{◌&&◌, ◌||◌, ◌==◌, not, nat_lt, is_none, is_some, option_and_then, unwrap_or}
 use Rattle.std.specs.Option.{option_map_or}
 use Rattle.std.specs.List.{list_any}
-use Rattle.std.proofs.lemmas.Bool.{cases_lt, cond-true, lt-ltb, and_parts, and_from, or_cases, eq-eqb, eqb-true, ne_eqb}
+use Rattle.std.proofs.lemmas.Bool.{cases_lt, cond-true, lt-ltb, and_parts, and_from, or_cases, eq-eqb, eqb-true, ne_eqb, false≢true}
 use Rattle.hd_dbd.specs.Types.{SegmentType}
 use Rattle.hd_dbd.specs.Hierarchy.{parent_of}
 use Rattle.hd_dbd.specs.Segment.{Segment}
@@ -18,9 +18,9 @@ use Rattle.hd_links.specs.Pointers.{IsTwinAfter}
 use Rattle.hd_links.specs.Steps.{rows_of, address_at, path_at, is_child_row, RowsHaveAddresses, StepsAreRows}
 use Rattle.hd_forest.specs.Twins.{IsBehind}
 use Rattle.hd_calls.specs.Ssas.{Ssa, target_code}
-use Rattle.hd_calls.specs.Satisfies.{qualifies, is_last_so, is_named}
+use Rattle.hd_calls.specs.Satisfies.{qualifies, is_last_so, is_named, is_child}
 use Rattle.hd_calls.specs.Gets.{first_child}
-use Rattle.hd_calls.proofs.Searches.{least_some, least_passed}
+use Rattle.hd_calls.proofs.Searches.{least_some, least_no, least_passed}
 use Rattle.hd_calls.proofs.Spans.{end_is}
 use Rattle.hd_seek.specs.Admits.{NonePass, AreRowsOf, admits, meets_own, is_on_way}
 use Rattle.hd_seek.specs.Ways.{way_down}
@@ -28,11 +28,12 @@ use Rattle.hd_seek.proofs.OnPaths.{levels_are, sequence_is, spans_parent, way_sp
 use Rattle.hd_seek.proofs.Failing.{unnamed_by, spans_fail}
 use Rattle.hd_seek.proofs.Ways.{down_found, down_parts}
 use Rattle.hd_get.specs.Asking.{asks_last}
-use Rattle.hd_get.specs.Searches.{EndsAt, GoesOn, is_above_admitted}
+use Rattle.hd_seek.specs.Twins.{next_twin}
+use Rattle.hd_get.specs.Searches.{EndsAt, child_or_end, GoesOn, GoesToLast, IsWayBesideToLast, is_above_admitted}
 use Rattle.hd_get.proofs.LastTwins.{last_so_unqualified}
-use Rattle.hd_get.proofs.Spans.{nested, parent_span, twin_is, child_is, one_option, above_child}
-use Rattle.hd_get.proofs.Climbs.{path_is, child_same, child_none, child_some, twin_some}
-use Rattle.hd_get.proofs.Turns.{ends_within}
+use Rattle.hd_get.proofs.Spans.{nested, parent_span, twin_is, child_is, one_option, above_child, above_parent}
+use Rattle.hd_get.proofs.Climbs.{path_is, child_same, child_none, child_some, twin_none, twin_some}
+use Rattle.hd_get.proofs.Turns.{ends_within, parent_ends}
 
 and_no : (b : Bool) → (b && false) ≡ false
 and_no true = refl
@@ -116,6 +117,23 @@ none_before_children types rows ssas i c over within way asks j jw child r from 
         let low = early.0 in
         let high = early.1 in absurd (omega arith)
 
+-- no child of a type stands before the first one
+pub first_before : (types : List SegmentType) (rows : List Segment) (q c j : ℕ) → q < j → j < end_of types rows q → is_child_row types rows q c j ≡ true → child_or_end types rows q c ≤ j
+first_before types rows q c j low high child = by_first (first_child types rows c q) refl
+  where
+    passes : ((row_at rows j).code == c && is_child types rows (Some q) j) ≡ true
+    passes = (let P = and_parts (is_child types rows (Some q) j) ((row_at rows j).code == c) child in and_from _ _ P.1 P.0)
+
+    by_first : (o : Option ℕ) → first_child types rows c q ≡ o → unwrap_or o (end_of types rows q) ≤ j
+    by_first None e =
+        absurd (false≢true (sym (least_no (λ k. (row_at rows k).code == c && is_child types rows (Some q) k) (end_of types rows q - (q + 1)) (q + 1) e j (omega arith) (omega arith)) ∙ passes))
+    by_first (Some t) e = elim (cases_lt j t) [
+      | inl early ↦
+          (let L = least_some (λ k. (row_at rows k).code == c && is_child types rows (Some q) k) (end_of types rows q - (q + 1)) (q + 1) t e in
+          absurd (false≢true (sym (L.3 j (omega arith) early) ∙ passes)))
+      | inr late ↦ late
+    ]
+
 -- ---- by pointers
 
 module _ (types : List SegmentType) (m : Links) (f : Forest Placed) (A : RowsHaveAddresses m f) (steps : (i : ℕ) → i < length (rows_of f) → StepsAreRows types m f i) where
@@ -143,7 +161,7 @@ module _ (types : List SegmentType) (m : Links) (f : Forest Placed) (A : RowsHav
       | inr some ↦ absurd (let s = some.0 in omega arith)
     ]
 
-    pub last_some : 0 < a → (j : ℕ) × (j < length (rows_of f)) × (is_child_row types (rows_of f) i code j ≡ true) × (path_at types f i ++ a ∷ [] ≡ path_at types f j)
+    pub last_some : 0 < a → (j : ℕ) × (j < length (rows_of f)) × (is_child_row types (rows_of f) i code j ≡ true) × (next_twin types (rows_of f) j ≡ None) × (path_at types f i ++ a ∷ [] ≡ path_at types f j)
     last_some s = elim behind [
       | inl none ↦ absurd (let z = none.0 in omega arith)
       | inr some ↦
@@ -158,6 +176,7 @@ module _ (types : List SegmentType) (m : Links) (f : Forest Placed) (A : RowsHav
             K.0,
             K.1,
             K.2,
+            twin_none types m f A K.0 K.1 (steps K.0 K.1) (ap m.forward K.3 ∙ some.2),
             ap (λ x. path_at types f i ++ x ∷ []) (sym K.3)
                 ∙ ap (λ (o : Option ℕ). option_map_or (λ q. path_at types f q) o [] ++ address_at f K.0 ∷ []) (sym P.0)
                 ∙ sym (path_is types f K.0),
@@ -169,7 +188,7 @@ module _ (types : List SegmentType) (m : Links) (f : Forest Placed) (A : RowsHav
 -- the search has gone down to a child, before which none passes
 pub turned_to_child : (test admits : ℕ → Bool) (types : List SegmentType) (f : Forest Placed) (parent i end : ℕ) → EndsAt types f parent (i + 1) end → i < end
     → is_above_admitted admits types (rows_of f) i ≡ true → admits i ≡ true → (j : ℕ) → j < length (rows_of f) → parent_row types (rows_of f) j ≡ Some i → NonePass test i j
-    → (path : List ℕ) → path ≡ path_at types f j → GoesOn test admits types f end i path
+    → (path : List ℕ) → path ≡ path_at types f j → (on : GoesOn test admits types f end i path) × (on.number ≡ j)
 turned_to_child test admits types f parent i end E inside up own j jw is none path at =
     let here : i < length (rows_of f) = (let w : end ≤ length (rows_of f) = ends_within types f parent (i + 1) end E in omega arith) in
     let P = parent_span types (rows_of f) j i jw is in
@@ -182,11 +201,25 @@ turned_to_child test admits types f parent i end E inside up own j jw is none pa
           let e : end ≡ end_of types (rows_of f) Q.0 = Q.4 in
           let n : end_of types (rows_of f) i ≤ end_of types (rows_of f) Q.0 = nested types (rows_of f) Q.0 i (omega arith) here (omega arith) in omega arith)
       | inr nil ↦ (let e : end ≡ length (rows_of f) = E.whole (omega arith) in omega arith)
-    ] in
-    record {
-      number = j;
-      later = a;
-      none = none;
-      above = λ z. above_child test admits types (rows_of f) i j is up own;
-      is = at ∙ sym (cond-true (nat_lt j end) (path_at types f j) [] (lt-ltb j end before));
-    }
+    ] in (
+      record {
+        number = j;
+        later = a;
+        none = none;
+        above = λ z. above_child test admits types (rows_of f) i j is up own;
+        is = at ∙ sym (cond-true (nat_lt j end) (path_at types f j) [] (lt-ltb j end before));
+      },
+      refl,
+    )
+
+-- the search has gone to a later child of the parent
+pub turned_beside_to_last : (test admits : ℕ → Bool) (types : List SegmentType) (f : Forest Placed) (parent i end : ℕ) (E : EndsAt types f parent i end) (inside : i < end)
+    (up : is_above_admitted admits types (rows_of f) i ≡ true) (code : ℕ) (path : List ℕ) (W : IsWayBesideToLast test admits types (rows_of f) i code)
+    → GoesToLast types f parent W.parent code path → GoesOn test admits types f end i path
+turned_beside_to_last test admits types f parent i end E inside up code path W goes =
+    let within : i < length (rows_of f) = (let w : end ≤ length (rows_of f) = ends_within types f parent i end E in omega arith) in
+    let pi : W.parent < i = (parent_span types (rows_of f) i W.parent within W.is).0 in
+    let D = goes test admits end (parent_ends test admits types f parent i end E inside up W.parent W.is) (omega arith)
+    (above_parent test admits types (rows_of f) i W.parent W.is up) W.to_last in
+    let later : i < D.0.number = D.1 i W.later in
+    record { number = D.0.number; later = later; none = λ j low high. D.0.none j (omega arith) high; above = D.0.above; is = D.0.is }

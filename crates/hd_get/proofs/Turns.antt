@@ -91,7 +91,7 @@ module _ (test admits : ℕ → Bool) (types : List SegmentType) (f : Forest Pla
   within = (let w : end ≤ length (rows_of f) = ends_within types f parent i end E in omega arith)
 
   -- the parent's end is the search's too
-  parent_ends : (p : ℕ) → parent_row types (rows_of f) i ≡ Some p → EndsAt types f parent (p + 1) end
+  pub parent_ends : (p : ℕ) → parent_row types (rows_of f) i ≡ Some p → EndsAt types f parent (p + 1) end
   parent_ends p e = record {
     whole = E.whole;
     under = λ some. (let Q = E.under some in

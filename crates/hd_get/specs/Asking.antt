@@ -1,5 +1,5 @@
 -- What a get with segment search arguments asks of a row, and where its search goes on.
-use Rattle.std.specs.Prelude.{◌≡◌, IsTrue, ℕ, ◌<◌, List, length, Bool, ◌&&◌, ◌==◌, None, is_none, cond, nat_lt}
+use Rattle.std.specs.Prelude.{◌≡◌, IsTrue, ℕ, ◌<◌, List, length, Bool, ◌&&◌, ◌==◌, None, is_none, not, cond, nat_lt}
 use Rattle.std.specs.Option.{option_map_or}
 use Rattle.std.specs.List.{list_any}
 use Rattle.hd_dbd.specs.Types.{SegmentType, View}
@@ -18,12 +18,13 @@ use Rattle.hd_calls.specs.Access.{may}
 use Rattle.hd_calls.specs.Ssas.{Ssa, target_code}
 use Rattle.hd_calls.specs.Satisfies.{satisfies}
 use Rattle.hd_seek.specs.Admits.{admits, meets_own, is_on_way, Descend}
+use Rattle.hd_seek.specs.Twins.{next_twin}
 use Rattle.hd_seek.specs.Keys.{is_past}
 use Rattle.hd_seek.specs.Spans.{reads_some_below}
 use Rattle.hd_seek.specs.Ways.{way_down, way_beside}
 use Rattle.hd_get.specs.Searches.{IsPathOf}
 use Rattle.hd_get.specs.declared.verdict.Verdict.{Verdict}
-use Rattle.hd_get.specs.declared.verdict.Verdict.TheVariants.{Found, Next, Over, Down, DownToLast, Across, Beside, Rest}
+use Rattle.hd_get.specs.declared.verdict.Verdict.TheVariants.{Found, Next, Over, Down, DownToLast, Across, Beside, BesideToLast, Rest}
 
 -- Whose get it is, and its arguments.
 pub record Asked : Type 0 where
@@ -42,10 +43,6 @@ is_asked a types rows i = satisfies (record { types = types; pcb = a.pcb }) rows
 abbrev pub is_admitted : Asked → List SegmentType → List Segment → ℕ → Bool
 is_admitted a types rows i = is_on_way types (target_code a.ssas) (row_at rows i).code && admits types rows a.ssas i
 
--- off the way: on to the first row of the type beside that is on the way, where that comes later
-abbrev pub verdict_beside : List SegmentType → ℕ → ℕ → Verdict
-verdict_beside types target code = option_map_or (λ c. cond (nat_lt code c) (Beside c) Rest) (way_beside types target code) Rest
-
 -- the argument is of the type, and asks for the last twin alone
 abbrev pub asks_last : ℕ → Ssa → Bool
 asks_last code a = a.code == code && a.commands.last && is_none a.groups
@@ -57,6 +54,15 @@ goes_to_last types ssas code = is_last_kept types code && list_any (λ a. asks_l
 -- down to the children of a type: to the last one, where that is asked for
 abbrev pub verdict_to : List SegmentType → List Ssa → ℕ → Verdict
 verdict_to types ssas code = cond (goes_to_last types ssas code) (DownToLast code) (Down code)
+
+-- beside to the children of a type of the same parent: to the last one, where that is asked for
+abbrev pub verdict_beside_to : List SegmentType → List Ssa → ℕ → Verdict
+verdict_beside_to types ssas code = cond (goes_to_last types ssas code) (BesideToLast code) (Beside code)
+
+-- off the way: on to the rows of the type beside that is on the way, where that comes later
+abbrev pub verdict_beside : List SegmentType → List Ssa → ℕ → ℕ → Verdict
+verdict_beside types ssas target code =
+    option_map_or (λ c. cond (nat_lt code c) (verdict_beside_to types ssas c) Rest) (way_beside types target code) Rest
 
 -- on a row that is admitted: down the way; where that ends, the row is found if it may be read
 abbrev pub verdict_down : Setting → List Ssa → ℕ → ℕ → Verdict
@@ -82,3 +88,10 @@ MeetsOwn d v ssa code path r =
 abbrev pub IsPast : Database → VolumeState → List Ssa → ℕ → ℕ → Bool → Type 0
 IsPast d v ssas code a r =
     IsTrue v.is_sound → (segment_at (links_of d.types v) a).code ≡ code → r ≡ is_past d.types ssas (segment_at (links_of d.types v) a)
+
+-- wherever the path is that of a row, the answer says whether of the twins of this type, which is not the root, the last alone is asked
+-- for, which is kept, and the row is not that one
+abbrev pub SeeksLater : Database → VolumeState → List Ssa → ℕ → List ℕ → Bool → Type 0
+SeeksLater d v ssas code path r =
+    (f : Forest Placed) (i : ℕ) → IsPathOf d v f path i
+    → r ≡ ((not (code == 1) && goes_to_last d.types ssas code) && not (is_none (next_twin d.types (rows_of f) i)))

@@ -19,7 +19,7 @@ use Rattle.hd_calls.specs.Places.{end_below}
 use Rattle.hd_seek.specs.Admits.{NonePass}
 use Rattle.hd_seek.specs.Twins.{next_twin}
 use Rattle.hd_get.specs.declared.verdict.Verdict.{Verdict}
-use Rattle.hd_get.specs.declared.verdict.Verdict.TheVariants.{Found, Next, Over, Down, DownToLast, Across, Beside, Rest}
+use Rattle.hd_get.specs.declared.verdict.Verdict.TheVariants.{Found, Next, Over, Down, DownToLast, Across, Beside, BesideToLast, Rest}
 
 -- ---- where a search is
 
@@ -85,6 +85,18 @@ pub record IsWayBeside (test admits : ℕ → Bool) (types : List SegmentType) (
   pub down : IsWayDown test admits types rows parent code
   pub later : i < child_or_end types rows parent code
 
+-- Row k stands in the span of row i, before its last child of a type.
+pub record IsBeforeLast (types : List SegmentType) (rows : List Segment) (i code k : ℕ) : Type 0 where
+  pub inside : k < end_of types rows i
+  pub before : (j : ℕ) → j < length rows → is_child_row types rows i code j ≡ true → next_twin types rows j ≡ None → k < j
+
+-- The search may go down from the parent of row i to its last child of the type, which comes later than row i.
+pub record IsWayBesideToLast (test admits : ℕ → Bool) (types : List SegmentType) (rows : List Segment) (i code : ℕ) : Type 0 where
+  pub parent : ℕ
+  pub is : parent_row types rows i ≡ Some parent
+  pub to_last : IsWayToLast test admits types rows parent code
+  pub later : IsBeforeLast types rows parent code i
+
 -- the search may go on below the row
 abbrev pub goes_below : Verdict → Bool
 goes_below Found = true
@@ -94,6 +106,7 @@ goes_below (DownToLast code) = true
 goes_below Over = false
 goes_below Across = false
 goes_below (Beside code) = false
+goes_below (BesideToLast code) = false
 goes_below Rest = false
 
 -- The verdict on row i is right: so much it promises of the rows that the search then passes over.
@@ -107,6 +120,7 @@ pub record IsJudged (test admits : ℕ → Bool) (types : List SegmentType) (row
   pub to_last : (code : ℕ) → v ≡ DownToLast code → IsWayToLast test admits types rows i code
   pub across : v ≡ Across → NonePassAcross test types rows i
   pub beside : (code : ℕ) → v ≡ Beside code → IsWayBeside test admits types rows i code
+  pub beside_to_last : (code : ℕ) → v ≡ BesideToLast code → IsWayBesideToLast test admits types rows i code
   pub rest : v ≡ Rest → NonePass test i (end_below types rows (parent_row types rows i)) × NonePassAcross test types rows i
 
 -- The search went on from row i to a later row, or to its end: none on the way passes, and the parents of the row are admitted.
@@ -150,13 +164,20 @@ GoesDown types f parent i code path =
 abbrev pub GoesToLast : List SegmentType → Forest Placed → ℕ → ℕ → ℕ → List ℕ → Type 0
 GoesToLast types f parent i code path =
     (test admits : ℕ → Bool) (end : ℕ) → EndsAt types f parent (i + 1) end → i < end → is_above_admitted admits types (rows_of f) i ≡ true
-    → IsWayToLast test admits types (rows_of f) i code → GoesOn test admits types f end i path
+    → IsWayToLast test admits types (rows_of f) i code
+    → (on : GoesOn test admits types f end i path) × ((k : ℕ) → IsBeforeLast types (rows_of f) i code k → k < on.number)
 
 -- The search went from row i to the first child of its parent of a type, or, where that has none, across from the parent.
 abbrev pub GoesBeside : List SegmentType → Forest Placed → ℕ → ℕ → ℕ → List ℕ → Type 0
 GoesBeside types f parent i code path =
     (test admits : ℕ → Bool) (end : ℕ) → EndsAt types f parent i end → i < end → is_above_admitted admits types (rows_of f) i ≡ true
     → IsWayBeside test admits types (rows_of f) i code → GoesOn test admits types f end i path
+
+-- The search went from row i to the last child of its parent of a type, or, where that has none, across from the parent.
+abbrev pub GoesBesideToLast : List SegmentType → Forest Placed → ℕ → ℕ → ℕ → List ℕ → Type 0
+GoesBesideToLast types f parent i code path =
+    (test admits : ℕ → Bool) (end : ℕ) → EndsAt types f parent i end → i < end → is_above_admitted admits types (rows_of f) i ≡ true
+    → IsWayBesideToLast test admits types (rows_of f) i code → GoesOn test admits types f end i path
 
 -- The search went on from row i to the row of a number, unless that is past its end.
 abbrev pub GoesTo : List SegmentType → Forest Placed → ℕ → ℕ → ℕ → List ℕ → Type 0

@@ -3,14 +3,17 @@
 ghost use Rattle.std.specs.Prelude.{◌≡◌, ◌<◌, false};
 ghost use Rattle.hd_dbd.specs.Facts.{stored_sizes};
 
-use crate::named_tests::sought_by;
+use crate::named_tests::{sought_by, texts};
 use crate::plain::Plain;
+use crate::random_tests::get_by;
 use crate::sample_with_fields::{database, pcb, wide_database};
 use crate::searching::find;
 use crate::starting::unique;
 use crate::test_volumes::{Loading, load_row, open_file};
+use hd_calls::GetKind;
 use hd_dbd::{Dbd, Pcb, Refused};
-use hd_forest::{code_at, next_row};
+use hd_forest::{code_at, next_row, tip_of};
+use hd_position::Position;
 use hd_volume::{BlockStore, FileStore, FuseStore, Volume};
 use std::alloc::Global;
 use std::fs::{self, File};
@@ -238,6 +241,49 @@ fn walk<S: BlockStore>(volume: &mut Volume<S>, dbd: &Dbd, pcb: &Pcb) -> Result<u
     Ok(100)
 }
 
+/// The row that a GNP with some arguments finds below the second course, which a GU found.
+fn below<S: BlockStore>(
+    alloc: Global,
+    volume: &mut Volume<S>,
+    dbd: &Dbd,
+    pcb: &Pcb,
+    ssas: &[&[u8]],
+) -> Result<u32, Refused>
+    requires unsound { volume.old.is_sound ≡ false }
+    requires sizes { volume.old.sizes ≡ stored_sizes dbd.now.types }
+    ensures unsound { volume.new.is_sound ≡ false }
+    ensures sizes { volume.new.sizes ≡ volume.old.sizes }
+{
+    let Ok(course) = texts(alloc, &[b"COURSE  (NUM     EQ205)"]) else {
+        return Err(Refused::Memory);
+    };
+    let Ok(given) = texts(alloc, ssas) else {
+        return Err(Refused::Memory);
+    };
+    let mut position = Position::start();
+    get_by(
+        alloc,
+        volume,
+        dbd,
+        pcb,
+        &mut position,
+        GetKind::Unique,
+        false,
+        &course,
+    )?;
+    get_by(
+        alloc,
+        volume,
+        dbd,
+        pcb,
+        &mut position,
+        GetKind::NextInParent,
+        false,
+        &given,
+    )?;
+    Ok(tip_of(position.path()))
+}
+
 /// What a search is made for.
 #[derive(Clone, Copy)]
 enum Search<'a> {
@@ -245,6 +291,8 @@ enum Search<'a> {
     None,
     /// The row that a GU with these arguments finds; its answer is the row's address, 0 for none.
     Unique(&'a [&'a [u8]]),
+    /// The row that a GNP with these arguments finds below the second course, and the GU of that; its answer is the row's address.
+    Below(&'a [&'a [u8]]),
     /// All rows that may be read; its answer is how many there are.
     All,
 }
@@ -268,6 +316,7 @@ fn probe<S: BlockStore>(
             let (_, found) = sought_by(alloc, volume, dbd, pcb, ssas)?;
             Ok(found)
         }
+        Search::Below(ssas) => below(alloc, volume, dbd, pcb, ssas),
         Search::All => walk(volume, dbd, pcb),
     }
 }
@@ -444,5 +493,29 @@ fn a_walk_reads_each_block_once(rt: HostRuntime) -> Result<(), Fail> {
     assert_eq!(rt; found, Ok(10 * 5));
     assert_eq!(rt; accesses.saturating_sub(none), 10);
     fs::remove_file(&rt, "full")?;
+    Ok(())
+}
+
+#[test]
+fn goes_to_the_last_child_from_an_earlier_one(rt: HostRuntime) -> Result<(), Fail> {
+    let dbd = wide_database(rt.alloc()).expect(&rt, "a database");
+    let all = pcb(rt.alloc(), "G", b"NONE    ")?;
+    let file = open_file(&rt, "last", true)?;
+    let rows = make_on(rt.alloc(), file, &dbd, true)?.expect(&rt, "a volume");
+    let last = rows.last().copied().unwrap_or(0);
+    let (_, none) = run_on(&rt, "last", &dbd, &all, last, Search::None)?;
+    // the arguments, and the row that they find
+    let cases: [(&[&[u8]], usize); 2] = [
+        (&[b"CLASS   *L"], EACH + 1 + 3 * 4),
+        (&[b"BOOK    *L"], EACH + 18),
+    ];
+    for (ssas, row) in cases {
+        let (found, accesses) = run_on(&rt, "last", &dbd, &all, last, Search::Below(ssas))?;
+        assert_eq!(rt; found, Ok(rows.get(row).copied().unwrap_or(0)));
+        // The index and the course. Then the first class, where GNP begins; the course, whether it is admitted; the class, which is not
+        // the row that is asked for; the course, for its last child; and that.
+        assert_eq!(rt; accesses.saturating_sub(none), 2 + 5);
+    }
+    fs::remove_file(&rt, "last")?;
     Ok(())
 }

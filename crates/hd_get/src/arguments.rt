@@ -1,14 +1,14 @@
-ghost use Rattle.std.specs.Prelude.{◌≡◌, ◌<◌, length, IfOk};
+ghost use Rattle.std.specs.Prelude.{◌≡◌, ◌&&◌, ◌==◌, not, ◌<◌, length, IfOk};
 ghost use Rattle.std.specs.List.{list_any};
 ghost use Rattle.hd_dbd.specs.Refusals.{OnlyDevice};
 ghost use Rattle.hd_calls.specs.Ssas.{target_code};
 ghost use Rattle.hd_volume.specs.Calls.{IsRead};
 ghost use Rattle.hd_seek.specs.Keys.{is_ssa_past, is_past};
-ghost use Rattle.hd_get.specs.Asking.{asks_last, goes_to_last, Admits, MeetsOwn, IsPast};
+ghost use Rattle.hd_get.specs.Asking.{asks_last, goes_to_last, Admits, MeetsOwn, IsPast, SeeksLater};
 ghost use Rattle.hd_get.specs.Meeting.{IsStored};
 ghost use Rattle.hd_get.specs.Searches.{IsOf, IsThere};
 
-use crate::meeting::meets;
+use crate::meeting::{is_last_twin, meets};
 use hd_dbd::{Dbd, Refused};
 use hd_forest::{Path, bytes_in};
 use hd_ssa::ResolvedSsa;
@@ -122,4 +122,32 @@ pub fn is_past<S: BlockStore>(
 {
     let segment = volume.segment_at(address)?;
     Ok(is_key_past(dbd, ssas, code, bytes_in(dbd, segment)))
+}
+
+/// Whether the type of a code is not the root, and of its rows the last twin alone is asked for, which parents keep.
+fn wants_last(dbd: &Dbd, ssas: &[ResolvedSsa<'_>], code: u8) -> bool
+    ensures { result ≡ (not (code == 1) && goes_to_last dbd.now.types ssas.now code) }
+{
+    code != 1 && goes_to_last(dbd, ssas, code)
+}
+
+/// Whether of the twins of a path's last row, of the type of a code, the last alone is asked for, which is kept, and the row is not that
+/// one. One access at most.
+pub fn seeks_later<S: BlockStore>(
+    volume: &mut Volume<S>,
+    dbd: &Dbd,
+    ssas: &[ResolvedSsa<'_>],
+    code: u8,
+    path: &Path,
+) -> Result<bool, Refused>
+    requires of { IsOf dbd.now volume.old }
+    requires there { IsThere dbd.now volume.old path.now }
+    ensures read { IsRead volume.old result volume.new }
+    ensures value { IfOk result (λ r. SeeksLater dbd.now volume.old ssas.now code path.now r) }
+    ensures refusal { OnlyDevice result }
+{
+    if !wants_last(dbd, ssas, code) {
+        return Ok(false);
+    }
+    Ok(!is_last_twin(volume, dbd, path)?)
 }

@@ -27,7 +27,7 @@ fn qualifies<S: BlockStore>(
 }
 
 /// Whether the last row of a path is the last of its twins. One access.
-fn is_last_twin<S: BlockStore>(
+pub fn is_last_twin<S: BlockStore>(
     volume: &mut Volume<S>,
     dbd: &Dbd,
     path: &Path,

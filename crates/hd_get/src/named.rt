@@ -1,8 +1,8 @@
 ghost use Rattle.std.specs.Prelude.{◌≡◌};
-ghost use Rattle.hd_get.specs.Asking.{verdict_beside, verdict_to, verdict_down};
+ghost use Rattle.hd_get.specs.Asking.{verdict_beside, verdict_beside_to, verdict_to, verdict_down};
 
 use crate::access::may_get;
-use crate::arguments::{admits, goes_to_last, is_past, target_code};
+use crate::arguments::{admits, goes_to_last, is_past, seeks_later, target_code};
 use crate::judge::Judge;
 use crate::verdict::Verdict;
 use crate::ways::{is_on_way, way_beside, way_down};
@@ -27,14 +27,25 @@ impl<'a> Model for Named<'a> {
     ghost view = { λ n. record { pcb = n.pcb.now; ssas = n.ssas.now } };
 }
 
+/// How a search goes beside to the children of the type of a code.
+fn verdict_beside_to(dbd: &Dbd, ssas: &[ResolvedSsa<'_>], code: u8) -> Verdict
+    ensures { result ≡ verdict_beside_to dbd.now.types ssas.now code }
+{
+    if goes_to_last(dbd, ssas, code) {
+        Verdict::BesideToLast(code)
+    } else {
+        Verdict::Beside(code)
+    }
+}
+
 /// Where a search for rows of the target type goes from a row of a type off the way.
-fn verdict_beside(dbd: &Dbd, target: u8, code: u8) -> Verdict
-    ensures { result ≡ verdict_beside dbd.now.types target code }
+fn verdict_beside(dbd: &Dbd, ssas: &[ResolvedSsa<'_>], target: u8, code: u8) -> Verdict
+    ensures { result ≡ verdict_beside dbd.now.types ssas.now target code }
 {
     match way_beside(dbd, target, code) {
         Some(beside) => {
             if code < beside {
-                Verdict::Beside(beside)
+                verdict_beside_to(dbd, ssas, beside)
             } else {
                 Verdict::Rest
             }
@@ -88,13 +99,16 @@ impl<'a> Judge for Named<'a> {
         let code = code_at(volume, dbd, tip_of(path))?;
         let target = target_code(self.ssas);
         if !is_on_way(dbd, target, code) {
-            return Ok(verdict_beside(dbd, target, code));
+            return Ok(verdict_beside(dbd, self.ssas, target, code));
         }
         if admits(volume, dbd, self.ssas, code, path)? {
             return Ok(verdict_down(dbd, self.pcb, self.ssas, target, code));
         }
         if is_past(volume, dbd, self.ssas, code, tip_of(path))? {
             return Ok(Verdict::Rest);
+        }
+        if seeks_later(volume, dbd, self.ssas, code, path)? {
+            return Ok(Verdict::BesideToLast(code));
         }
         Ok(Verdict::Across)
     }

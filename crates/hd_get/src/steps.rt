@@ -6,7 +6,7 @@ ghost use Rattle.hd_dbd.specs.Forest.{Forest};
 ghost use Rattle.hd_volume.specs.Calls.{IsRead};
 ghost use Rattle.hd_links.specs.Placed.{Placed};
 ghost use Rattle.hd_links.specs.Steps.{rows_of};
-ghost use Rattle.hd_get.specs.Searches.{IsOf, IsThere, IsPathOf, IsClimbed, GoesAcross, GoesDown, GoesToLast, GoesBeside, GoesTo, GoesPast, FollowsVerdict};
+ghost use Rattle.hd_get.specs.Searches.{IsOf, IsThere, IsPathOf, IsClimbed, GoesAcross, GoesDown, GoesToLast, GoesBeside, GoesBesideToLast, GoesTo, GoesPast, FollowsVerdict};
 
 use crate::verdict::Verdict;
 use hd_dbd::{Dbd, Refused};
@@ -128,6 +128,28 @@ fn beside<S: BlockStore>(
     down(volume, dbd, parent, code, path)
 }
 
+/// Goes from the last row of a path to the last child of its parent of a type, which is kept; where that has none, across from the
+/// parent.
+fn beside_to_last<S: BlockStore>(
+    volume: &mut Volume<S>,
+    dbd: &Dbd,
+    parent: u32,
+    code: u8,
+    path: &mut Path,
+) -> Result<(), Refused>
+    requires of { IsOf dbd.now volume.old }
+    requires there { IsThere dbd.now volume.old path.old }
+    ensures read { IsRead volume.old result volume.new }
+    ensures value { OnOk result ((f : Forest Placed) (i : ℕ) → IsPathOf dbd.now volume.old f path.old i → GoesBesideToLast dbd.now.types f parent i code path.new) }
+    ensures refusal { OnlyDevice result }
+{
+    path.up();
+    if path.addresses().is_empty() {
+        return Ok(());
+    }
+    down_to_last(volume, dbd, parent, code, path)
+}
+
 /// Goes over the rest of the rows of the parent of a path's last row.
 fn rest<S: BlockStore>(
     volume: &mut Volume<S>,
@@ -206,6 +228,7 @@ pub fn follow<S: BlockStore>(
         Verdict::DownToLast(code) => down_to_last(volume, dbd, parent, code, path)?,
         Verdict::Across => across(volume, dbd, parent, path)?,
         Verdict::Beside(code) => beside(volume, dbd, parent, code, path)?,
+        Verdict::BesideToLast(code) => beside_to_last(volume, dbd, parent, code, path)?,
         Verdict::Rest => rest(volume, dbd, parent, path)?,
     }
     Ok(false)

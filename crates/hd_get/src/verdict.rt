@@ -15,6 +15,9 @@ pub enum Verdict {
     Across,
     /// To the first child of its parent of the type of this code, which comes later; where there is none, across from the parent.
     Beside(u8),
+    /// To the last child of its parent of the type of this code, which is kept and comes later; where there is none, across from the
+    /// parent.
+    BesideToLast(u8),
     /// Over the rest of the parent's rows, and then across from the parent.
     Rest,
 }
@@ -29,7 +32,11 @@ impl Verdict {
     {
         match self {
             Verdict::Found | Verdict::Next | Verdict::Down(_) | Verdict::DownToLast(_) => true,
-            Verdict::Over | Verdict::Across | Verdict::Beside(_) | Verdict::Rest => false,
+            Verdict::Over
+            | Verdict::Across
+            | Verdict::Beside(_)
+            | Verdict::BesideToLast(_)
+            | Verdict::Rest => false,
         }
     }
 }

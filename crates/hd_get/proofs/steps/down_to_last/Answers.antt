@@ -1,5 +1,8 @@
-use Rattle.std.proofs.Common.{◌≡◌, ℕ, ◌<◌, ◌++◌, ◌∷◌, List, [], sym, ap, ap₂, subst, ◌∙◌, arith, inl, inr}
+use Rattle.std.proofs.Common.{◌≡◌, ◌≤◌, Option, None, ℕ, ◌<◌, ◌++◌, ◌∷◌, List, [], sym, ap, ap₂, subst, ◌∙◌, arith, inl, inr}
+use Rattle.std.specs.Prelude.{unwrap_or}
 use Rattle.std.proofs.lemmas.Bool.{cases_lt}
+use Rattle.hd_dbd.specs.Paths.{end_of}
+use Rattle.hd_calls.specs.Gets.{first_child}
 use Rattle.hd_links.specs.Links.{IsSegment}
 use Rattle.hd_links.specs.Steps.{rows_of, address_at}
 use Rattle.hd_image.specs.Records.{links_of}
@@ -9,6 +12,7 @@ use Rattle.hd_get.proofs.Grounds.{grounds, tip_is, tip_there, last_behind, short
 use Rattle.hd_index.proofs.CallLemmas.{on-ok-map}
 use Rattle.hd_get.proofs.LastChildren.{child_parts, last_none, last_some, turned_to_child}
 use Rattle.hd_get.proofs.Turns.{turned_aside}
+use Rattle.hd_get.specs.Searches.{child_or_end}
 use Rattle.hd_get.proofs.steps.down_to_last.Goals as goal
 
 pub last_child-requires-clause-there : goal.last_child-requires-clause-there
@@ -36,10 +40,17 @@ returns-then-child-eq0-clause-value g c =
     let G = grounds d u f of at.row.holds in
     let is : c.in_ok-child.child ≡ m.last_child (address_at f i) c.args.code
     = c.in_ok-child.ensures.value at.sound ∙ ap (λ a. m.last_child a c.args.code) (c.tip_of.ensures ∙ tip_is d.types m f G c.args.path.now i at.row) in
-    (turned_aside test admits d.types f c.args.parent i end E inside up c.args.code c.across.new.path W.down
-    (last_none d.types m f G.addressed G.steps i c.args.code (m.last_child (address_at f i) c.args.code) at.row.within W.down.child
-    (last_behind d u f of at.row.holds i c.args.code at.row.within W.down.child W.kept) (sym is ∙ c.if-child-eq0.true))
-    (goes f i (told_before d u c.last_child.new.volume c.in_ok-child.ensures.read f c.args.path.now i at))).0) c.across.ensures.value
+    let none : first_child d.types (rows_of f) c.args.code i ≡ None
+    = last_none d.types m f G.addressed G.steps i c.args.code (m.last_child (address_at f i) c.args.code) at.row.within W.down.child
+    (last_behind d u f of at.row.holds i c.args.code at.row.within W.down.child W.kept) (sym is ∙ c.if-child-eq0.true) in
+    let T = turned_aside test admits d.types f c.args.parent i end E inside up c.args.code c.across.new.path W.down none
+    (goes f i (told_before d u c.last_child.new.volume c.in_ok-child.ensures.read f c.args.path.now i at)) in (
+      T.0,
+      λ k before.
+          (let e : child_or_end d.types (rows_of f) i c.args.code ≡ end_of d.types (rows_of f) i = ap (λ (o : Option ℕ). unwrap_or o (end_of d.types (rows_of f) i)) none in
+          let b : child_or_end d.types (rows_of f) i c.args.code ≤ T.0.number = T.1 in
+          let inside_ : k < end_of d.types (rows_of f) i = before.inside in omega arith),
+    )) c.across.ensures.value
 
 pub returns-clause-value : goal.returns-clause-value
 returns-clause-value g c f i at test admits end E inside up W =
@@ -57,5 +68,6 @@ returns-clause-value g c f i at test admits end E inside up W =
     let L = last_some d.types m f G.addressed G.steps i c.args.code (m.last_child (address_at f i) c.args.code) at.row.within W.down.child
     (last_behind d u f of at.row.holds i c.args.code at.row.within W.down.child W.kept) (subst (λ x. 0 < x) is some) in
     let P = child_parts d.types (rows_of f) i c.args.code L.0 L.2 in
-    turned_to_child test admits d.types f c.args.parent i end E inside up W.down.admitted L.0 L.1 P.0 (W.last L.0 L.1 L.2) c.push.new.self
-    (c.push.ensures (short_path_by d u f of c.args.path.now i at.row L.0 L.1 P.0) ∙ ap₂ (λ (xs : List ℕ) x. xs ++ x ∷ []) at.row.is is ∙ L.3)
+    let T = turned_to_child test admits d.types f c.args.parent i end E inside up W.down.admitted L.0 L.1 P.0 (W.last L.0 L.1 L.2) c.push.new.self
+    (c.push.ensures (short_path_by d u f of c.args.path.now i at.row L.0 L.1 P.0) ∙ ap₂ (λ (xs : List ℕ) x. xs ++ x ∷ []) at.row.is is ∙ L.4) in
+    (T.0, λ k before. (let b : k < L.0 = before.before L.0 L.1 L.2 L.3 in let e : T.0.number ≡ L.0 = T.1 in omega arith))

@@ -46,4 +46,8 @@ returns-in_ok-rest-in-Rest-clause-value g c f i at test admits end E inside up J
 pub returns-in_ok-down_to_last-in-DownToLast-clause-value : goal.returns-in_ok-down_to_last-in-DownToLast-clause-value
 returns-in_ok-down_to_last-in-DownToLast-clause-value g c f i at test admits end E inside up J =
     on (c.in_ok-down_to_last-in-DownToLast.ensures.value f i at test admits end (ends_later c.args.dbd.now.types f c.args.parent i end E (i + 1) (omega arith)) inside up
-    (J.to_last c.in-DownToLast.code c.in-DownToLast.is))
+    (J.to_last c.in-DownToLast.code c.in-DownToLast.is)).0
+
+pub returns-in_ok-beside_to_last-in-BesideToLast-clause-value : goal.returns-in_ok-beside_to_last-in-BesideToLast-clause-value
+returns-in_ok-beside_to_last-in-BesideToLast-clause-value g c f i at test admits end E inside up J =
+    on (c.in_ok-beside_to_last-in-BesideToLast.ensures.value f i at test admits end E inside up (J.beside_to_last c.in-BesideToLast.code c.in-BesideToLast.is))

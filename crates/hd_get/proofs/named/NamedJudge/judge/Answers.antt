@@ -1,4 +1,7 @@
-use Rattle.std.proofs.Common.{◌≡◌, ℕ, List, true, false, Ok, sym, ap, ap₂, subst, ◌∙◌}
+use Rattle.std.proofs.Common.{◌≡◌, ℕ, List, Bool, true, false, Ok, refl, sym, ap, ap₂, subst, ◌∙◌}
+use Rattle.std.specs.Prelude.{◌==◌, ◌&&◌, not, is_none}
+use Rattle.std.proofs.lemmas.Bool.{eq-eqb, false≢true}
+use Rattle.hd_seek.specs.Twins.{next_twin}
 use Rattle.hd_dbd.specs.Hierarchy.{Database}
 use Rattle.hd_dbd.specs.Forest.{Forest}
 use Rattle.hd_dbd.specs.Paths.{row_at}
@@ -14,11 +17,11 @@ use Rattle.hd_forest.proofs.Reading.{after-read, links-kept, volume-kept}
 use Rattle.hd_calls.specs.Ssas.{target_code}
 use Rattle.hd_seek.specs.Admits.{admits, is_on_way}
 use Rattle.hd_seek.specs.Keys.{is_past}
-use Rattle.hd_get.specs.declared.verdict.Verdict.TheVariants.{Across, Rest}
+use Rattle.hd_get.specs.declared.verdict.Verdict.TheVariants.{Across, BesideToLast, Rest}
 use Rattle.hd_get.specs.Searches.{IsPathOf, IsJudged}
-use Rattle.hd_get.specs.Asking.{Asked, is_asked, is_admitted, verdict_beside, verdict_down}
+use Rattle.hd_get.specs.Asking.{Asked, is_asked, is_admitted, goes_to_last, verdict_beside, verdict_down}
 use Rattle.hd_get.proofs.Grounds.{held_rows, grounds, tip_is, tip_there, tip_code, told_before}
-use Rattle.hd_get.proofs.Asking.{judged_off, judged_met, judged_past, judged_unmet}
+use Rattle.hd_get.proofs.Asking.{judged_off, judged_met, judged_past, judged_later, judged_unmet}
 use Rattle.hd_get.proofs.named.NamedJudge.judge.Goals as goal
 
 pub code_at-requires-clause-there : goal.code_at-requires-clause-there
@@ -45,7 +48,8 @@ returns-then-not-is_on_way-clause-value g c f i at up =
     let off : is_on_way d.types (target_code a.ssas) (row_at (rows_of f) i).code ≡ false
     = sym (ap₂ (λ t k. is_on_way d.types t k) target code) ∙ sym c.is_on_way.ensures ∙ c.if-not-is_on_way.true in
     subst (IsJudged (is_asked a d.types (rows_of f)) (is_admitted a d.types (rows_of f)) d.types (rows_of f) i)
-    (sym (c.verdict_beside.ensures ∙ ap₂ (λ t k. verdict_beside d.types t k) target code))
+    (sym (c.verdict_beside.ensures ∙ ap₂ (λ t k. verdict_beside d.types c.self.inside.ssas.now t k) target code
+    ∙ ap (λ (x : Asked). verdict_beside d.types x.ssas (target_code a.ssas) (row_at (rows_of f) i).code) c.self.view_is))
     (judged_off d.types (rows_of f) a (held_rows d u f of at.row.holds) c.requires.suits i at.row.within up off)
 
 pub admits-requires-clause-of : goal.admits-requires-clause-of
@@ -115,9 +119,58 @@ returns-then-branch-2-clause-value g c f i at up =
     ∙ sym (c.in_ok-is_past.ensures.value next.sound (ap (λ s. s.code) segment ∙ sym code)) ∙ c.if-branch-2.true in
     judged_past d.types (rows_of f) a (held_rows d u f of at.row.holds) c.requires.suits i at.row.within up way past
 
+pub seeks_later-requires-clause-of : goal.seeks_later-requires-clause-of
+seeks_later-requires-clause-of g c =
+    volume-kept c.args.dbd.now c.admits.new.volume c.is_past.new.volume c.in_ok-is_past.ensures.read
+    (volume-kept c.args.dbd.now c.code_at.new.volume c.admits.new.volume c.in_ok-admits.ensures.read
+    (volume-kept c.args.dbd.now c.args.volume.now c.code_at.new.volume c.in_ok-code.ensures.read c.requires.of))
+
+pub seeks_later-requires-clause-there : goal.seeks_later-requires-clause-there
+seeks_later-requires-clause-there g c =
+    let d = c.args.dbd.now in
+    links-kept d (λ m. IsOnSomeRow d.types m c.args.path.now) c.admits.new.volume c.is_past.new.volume c.in_ok-is_past.ensures.read
+    (links-kept d (λ m. IsOnSomeRow d.types m c.args.path.now) c.code_at.new.volume c.admits.new.volume c.in_ok-admits.ensures.read
+    (links-kept d (λ m. IsOnSomeRow d.types m c.args.path.now) c.args.volume.now c.code_at.new.volume c.in_ok-code.ensures.read c.requires.there))
+
+pub returns-then-branch-3-clause-read : goal.returns-then-branch-3-clause-read
+returns-then-branch-3-clause-read g c =
+    reads-join (Ok (BesideToLast c.in_ok-code.code)) c.in_ok-code.ensures.read
+    (reads-join (Ok (BesideToLast c.in_ok-code.code)) c.in_ok-admits.ensures.read (reads-join (Ok (BesideToLast c.in_ok-code.code)) c.in_ok-is_past.ensures.read (read-ok (BesideToLast c.in_ok-code.code) c.in_ok-seeks_later.ensures.read)))
+
+-- the row is not the last twin of those of which the last is asked for
+seeks : (code last none : Bool) → ((not code && last) && not none) ≡ true → (code ≡ false) × (last ≡ true) × (none ≡ false)
+seeks false true false e = (refl, refl, refl)
+seeks true last none e = cc
+seeks false false none e = cc
+seeks false true true e = cc
+
+pub returns-then-branch-3-clause-value : goal.returns-then-branch-3-clause-value
+returns-then-branch-3-clause-value g c f i at up =
+    let d = c.args.dbd.now in
+    let u = c.args.volume.now in
+    let a : Asked = c.args.self.now in
+    let of = c.requires.of at.sound in
+    let code : c.in_ok-code.code ≡ (row_at (rows_of f) i).code = row_code d u of c.args.path.now f i at c.tip_of.result c.in_ok-code.code c.tip_of.ensures (c.in_ok-code.ensures.value at.sound) in
+    let target : c.target_code-target.result ≡ target_code a.ssas = c.target_code-target.ensures ∙ ap (λ (x : Asked). target_code x.ssas) c.self.view_is in
+    let way : is_on_way d.types (target_code a.ssas) (row_at (rows_of f) i).code ≡ true
+    = sym (ap₂ (λ t k. is_on_way d.types t k) target code) ∙ sym c.is_on_way.ensures ∙ c.if-not-is_on_way.false in
+    let first = told_before d u c.code_at.new.volume c.in_ok-code.ensures.read f c.args.path.now i at in
+    let next = told_before d c.code_at.new.volume c.admits.new.volume c.in_ok-admits.ensures.read f c.args.path.now i first in
+    let then_ = told_before d c.admits.new.volume c.is_past.new.volume c.in_ok-is_past.ensures.read f c.args.path.now i next in
+    let unmet : admits d.types (rows_of f) a.ssas i ≡ false
+    = ap (λ (x : Asked). admits d.types (rows_of f) x.ssas i) (sym c.self.view_is) ∙ sym (c.in_ok-admits.ensures.value f i first (sym code)) ∙ c.if-branch.false in
+    let S = seeks (c.in_ok-code.code == 1) (goes_to_last d.types c.self.inside.ssas.now c.in_ok-code.code) (is_none (next_twin d.types (rows_of f) i))
+    (sym (c.in_ok-seeks_later.ensures.value f i then_) ∙ c.if-branch-3.true) in
+    subst (λ k. IsJudged (is_asked a d.types (rows_of f)) (is_admitted a d.types (rows_of f)) d.types (rows_of f) i (BesideToLast k)) (sym code)
+    (judged_later d.types (rows_of f) a (held_rows d u f of at.row.holds) c.requires.suits i at.row.within up way unmet
+    (λ z. false≢true (sym S.0 ∙ eq-eqb c.in_ok-code.code 1 (code ∙ z)))
+    (ap (λ (x : Asked). goes_to_last d.types x.ssas (row_at (rows_of f) i).code) (sym c.self.view_is) ∙ ap (goes_to_last d.types c.self.inside.ssas.now) (sym code) ∙ S.1)
+    S.2)
+
 pub returns-clause-read : goal.returns-clause-read
 returns-clause-read g c =
-    reads-join (Ok Across) c.in_ok-code.ensures.read (reads-join (Ok Across) c.in_ok-admits.ensures.read (read-ok Across c.in_ok-is_past.ensures.read))
+    reads-join (Ok Across) c.in_ok-code.ensures.read
+    (reads-join (Ok Across) c.in_ok-admits.ensures.read (reads-join (Ok Across) c.in_ok-is_past.ensures.read (read-ok Across c.in_ok-seeks_later.ensures.read)))
 
 pub returns-clause-value : goal.returns-clause-value
 returns-clause-value g c f i at up =
