@@ -11,3 +11,4 @@ pub mod Taken
 pub mod Unlinked
 pub mod DeletedStates
 pub mod PutRows
+pub mod PutRoots

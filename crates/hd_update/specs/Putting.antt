@@ -1,5 +1,5 @@
 -- A row that is put in: all or nothing.
-use Rattle.std.specs.Prelude.{◌≡◌, ℕ, ◌<◌, List, [], ◌∷◌, IsTrue}
+use Rattle.std.specs.Prelude.{◌≡◌, ℕ, List, [], ◌∷◌, IsTrue}
 use Rattle.hd_dbd.specs.declared.answer.Refused.{Refused}
 use Rattle.hd_dbd.specs.declared.answer.Refused.TheVariants.{Full}
 use Rattle.hd_dbd.specs.Hierarchy.{Database}
@@ -10,7 +10,10 @@ use Rattle.hd_volume.specs.Volumes.{VolumeState}
 use Rattle.hd_links.specs.Placed.{Placed}
 use Rattle.hd_links.specs.Changes.{with_leaf}
 use Rattle.hd_links.specs.Numbers.{LeafGoesInAt}
+use Rattle.hd_image.specs.Records.{links_of}
 use Rattle.hd_image.specs.Holding.{HoldsPlaced}
+use Rattle.hd_forest.specs.Updates.{MayLink}
+use Rattle.hd_keeping.specs.Rooms.{HasRootRoomFor, HasRootMemoryFor}
 use Rattle.hd_keeping.specs.NewPaths.{IsPathIn}
 use Rattle.hd_keeping.specs.VolumeImages.{images_of}
 use Rattle.hd_position.specs.Laws.{MovesUp}
@@ -34,3 +37,21 @@ PutsIn d v h y row a w = (f : Forest Placed) → IsTrue v.is_sound → HoldsPlac
 -- a row is refused as Full only where the volume's bytes lack room for it
 abbrev pub IsFullFor : Database → VolumeState → Segment → Refused → Type 0
 IsFullFor d v row e = e ≡ Full → IsTrue v.is_sound → HoldsSome d v → LacksRoom (images_of d) d.types v.image (row ∷ [])
+
+-- ---- roots
+
+-- a root, whatever its bytes
+abbrev pub a_root : Segment
+a_root = record { code = 1; bytes = [] }
+
+-- The volume holds a forest in which a root may be linked behind its twin y.
+pub record MayPutRoot (d : Database) (v : VolumeState) (y : ℕ) (row : Segment) : Type 0 where
+  pub placed : Forest Placed
+  pub holds : HoldsPlaced d v placed
+  pub may : MayLink d.types (links_of d.types v) 0 y row
+
+-- The same, and there are room and memory for it and for its entry in the index, of this key.
+pub record CanPutRoot (d : Database) (v : VolumeState) (y : ℕ) (row : Segment) (key : List ℕ) : Type 0 where
+  pub root : MayPutRoot d v y row
+  pub room : HasRootRoomFor d v key (a_root ∷ [])
+  pub memory : HasRootMemoryFor v (a_root ∷ [])
