@@ -22,6 +22,12 @@ use Rattle.hd_position.specs.Laws.{MovesUp}
 abbrev pub HoldsSome : Database → VolumeState → Type 0
 HoldsSome d v = IsTrue v.is_sound → (f : Forest Placed) × HoldsPlaced d v f
 
+-- The volume holds a forest in which a row may be linked below h behind its twin y.
+pub record MayPut (d : Database) (v : VolumeState) (h y : ℕ) (row : Segment) : Type 0 where
+  pub placed : Forest Placed
+  pub holds : HoldsPlaced d v placed
+  pub may : MayLink d.types (links_of d.types v) h y row
+
 -- The row went in below h behind its twin y, at a number of the sequence, and stands at the address a: the volume w holds the forest with
 -- it, and positions move up from there.
 pub record IsPutIn (d : Database) (v : VolumeState) (f : Forest Placed) (h y : ℕ) (row : Segment) (a : ℕ) (w : VolumeState) : Type 0 where
@@ -44,14 +50,8 @@ IsFullFor d v row e = e ≡ Full → IsTrue v.is_sound → HoldsSome d v → Lac
 abbrev pub a_root : Segment
 a_root = record { code = 1; bytes = [] }
 
--- The volume holds a forest in which a root may be linked behind its twin y.
-pub record MayPutRoot (d : Database) (v : VolumeState) (y : ℕ) (row : Segment) : Type 0 where
-  pub placed : Forest Placed
-  pub holds : HoldsPlaced d v placed
-  pub may : MayLink d.types (links_of d.types v) 0 y row
-
--- The same, and there are room and memory for it and for its entry in the index, of this key.
+-- There are room and memory for a root that may be put in behind its twin y, and for its entry in the index, of this key.
 pub record CanPutRoot (d : Database) (v : VolumeState) (y : ℕ) (row : Segment) (key : List ℕ) : Type 0 where
-  pub root : MayPutRoot d v y row
+  pub root : MayPut d v 0 y row
   pub room : HasRootRoomFor d v key (a_root ∷ [])
   pub memory : HasRootMemoryFor v (a_root ∷ [])

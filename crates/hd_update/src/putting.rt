@@ -5,11 +5,9 @@ ghost use Rattle.hd_dbd.specs.Rows.{row_fits, key_of};
 ghost use Rattle.hd_volume.specs.Calls.{IsCall, IsRead};
 ghost use Rattle.hd_volume.specs.Indexes.{root_key_length, index_growth};
 ghost use Rattle.hd_volume.specs.Rooms.{spare};
-ghost use Rattle.hd_image.specs.Records.{links_of};
-ghost use Rattle.hd_forest.specs.Updates.{MayLink};
 ghost use Rattle.hd_index.specs.Changes.{IsIndexOf};
 ghost use Rattle.hd_keeping.specs.Rooms.{HasRootRoomFor, HasRootMemoryFor};
-ghost use Rattle.hd_update.specs.Putting.{HoldsSome, PutsIn, IsFullFor, a_root, MayPutRoot, CanPutRoot};
+ghost use Rattle.hd_update.specs.Putting.{PutsIn, IsFullFor, a_root, MayPut, CanPutRoot};
 
 use hd_dbd::{Dbd, Refused};
 use hd_forest::link;
@@ -17,7 +15,7 @@ use hd_index::{blocks_needed, growth, insert};
 use hd_volume::{BlockStore, Volume};
 
 /// Puts in a row below another, behind its preceding twin, 0 for none, and says its address. A refusal leaves the bytes as they were.
-pub fn put_dependent<S: BlockStore>(
+fn put_dependent<S: BlockStore>(
     volume: &mut Volume<S>,
     dbd: &Dbd,
     parent: u32,
@@ -25,11 +23,10 @@ pub fn put_dependent<S: BlockStore>(
     code: u8,
     bytes: &[u8],
 ) -> Result<u32, Refused>
-    requires below { parent ≢ 0 }
+    requires below { IsTrue volume.old.is_sound → parent ≢ 0 }
     requires sizes { volume.old.sizes ≡ stored_sizes dbd.now.types }
     requires fits { row_fits dbd.now.types (record { code = code; bytes = bytes.now }) ≡ true }
-    requires holds { HoldsSome dbd.now volume.old }
-    requires place { IsTrue volume.old.is_sound → MayLink dbd.now.types (links_of dbd.now.types volume.old) parent after (record { code = code; bytes = bytes.now }) }
+    requires may { IsTrue volume.old.is_sound → MayPut dbd.now volume.old parent after (record { code = code; bytes = bytes.now }) }
     ensures call { IsCall volume.old result volume.new }
     ensures put_in { IfOk result (λ a. PutsIn dbd.now volume.old parent after (record { code = code; bytes = bytes.now }) a volume.new) }
     ensures kept { IfErr result (λ _. IsTrue volume.new.is_sound → volume.new.image ≡ volume.old.image) }
@@ -93,7 +90,7 @@ fn put_reserved_root<S: BlockStore>(
     requires size { volume.old.size ≡ dbd.now.block_size }
     requires sizes { volume.old.sizes ≡ stored_sizes dbd.now.types }
     requires fits { row_fits dbd.now.types (record { code = 1; bytes = bytes.now }) ≡ true }
-    requires may { IsTrue volume.old.is_sound → MayPutRoot dbd.now volume.old after (record { code = 1; bytes = bytes.now }) }
+    requires may { IsTrue volume.old.is_sound → MayPut dbd.now volume.old 0 after (record { code = 1; bytes = bytes.now }) }
     requires memory { IsTrue volume.old.is_sound → HasRootMemoryFor volume.old (a_root ∷ []) }
     ensures call { IsCall volume.old result volume.new }
     ensures put_in { IfOk result (λ a. PutsIn dbd.now volume.old 0 after (record { code = 1; bytes = bytes.now }) a volume.new) }
@@ -109,7 +106,7 @@ fn put_reserved_root<S: BlockStore>(
 }
 
 /// Puts in a root behind its preceding twin, 0 for none, and says its address. A refusal leaves the bytes as they were.
-pub fn put_root<S: BlockStore>(
+fn put_root<S: BlockStore>(
     volume: &mut Volume<S>,
     dbd: &Dbd,
     after: u32,
@@ -118,7 +115,7 @@ pub fn put_root<S: BlockStore>(
     requires size { volume.old.size ≡ dbd.now.block_size }
     requires sizes { volume.old.sizes ≡ stored_sizes dbd.now.types }
     requires fits { row_fits dbd.now.types (record { code = 1; bytes = bytes.now }) ≡ true }
-    requires may { IsTrue volume.old.is_sound → MayPutRoot dbd.now volume.old after (record { code = 1; bytes = bytes.now }) }
+    requires may { IsTrue volume.old.is_sound → MayPut dbd.now volume.old 0 after (record { code = 1; bytes = bytes.now }) }
     ensures call { IsCall volume.old result volume.new }
     ensures put_in { IfOk result (λ a. PutsIn dbd.now volume.old 0 after (record { code = 1; bytes = bytes.now }) a volume.new) }
     ensures kept { IfErr result (λ _. IsTrue volume.new.is_sound → volume.new.image ≡ volume.old.image) }
@@ -128,4 +125,32 @@ pub fn put_root<S: BlockStore>(
     let blocks = growth(volume).saturating_add(1);
     volume.reserve(blocks)?;
     put_reserved_root(volume, dbd, after, bytes)
+}
+
+/// Puts in a row below a parent, 0 for a root, behind its preceding twin, 0 for none, and says its address. A refusal leaves the bytes as
+/// they were.
+pub fn put_row<S: BlockStore>(
+    volume: &mut Volume<S>,
+    dbd: &Dbd,
+    parent: u32,
+    after: u32,
+    code: u8,
+    bytes: &[u8],
+) -> Result<u32, Refused>
+    requires size { volume.old.size ≡ dbd.now.block_size }
+    requires sizes { volume.old.sizes ≡ stored_sizes dbd.now.types }
+    requires fits { row_fits dbd.now.types (record { code = code; bytes = bytes.now }) ≡ true }
+    requires root { IsTrue volume.old.is_sound → code ≡ 1 → parent ≡ 0 }
+    requires below { IsTrue volume.old.is_sound → code ≢ 1 → parent ≢ 0 }
+    requires may { IsTrue volume.old.is_sound → MayPut dbd.now volume.old parent after (record { code = code; bytes = bytes.now }) }
+    ensures call { IsCall volume.old result volume.new }
+    ensures put_in { IfOk result (λ a. PutsIn dbd.now volume.old parent after (record { code = code; bytes = bytes.now }) a volume.new) }
+    ensures kept { IfErr result (λ _. IsTrue volume.new.is_sound → volume.new.image ≡ volume.old.image) }
+    ensures full { IfErr result (λ e. IsFullFor dbd.now volume.old (record { code = code; bytes = bytes.now }) e) }
+    ensures refusal { OnlyRoomOrDevice result }
+{
+    if code == 1 {
+        return put_root(volume, dbd, after, bytes);
+    }
+    put_dependent(volume, dbd, parent, after, code, bytes)
 }
