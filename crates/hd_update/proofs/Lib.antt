@@ -1,4 +1,3 @@
-pub mod Areas
 pub mod Levels
 pub mod Lists
 pub mod Asked
