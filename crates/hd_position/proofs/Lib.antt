@@ -17,3 +17,4 @@ pub mod Backing
 pub mod Siblings
 pub mod Prefixes
 pub mod NewPlaces
+pub mod LastPlaces

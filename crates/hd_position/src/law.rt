@@ -1,5 +1,5 @@
 ghost use Rattle.hd_position.specs.Laws.{TheStartIsBeforeAllRows, LinkingMovesPositions, LeavesGoInBelowLeaves, InsertionsAddUp, UnlinkingMovesPositions, ReplacingKeepsPositions, EndedHoldsHoldNothing, RewritingEndsHolds, RewritesAddUp, TheRowBeforeIsOne, PathsAreLevels, RowsAreFew, RootsAreOfLevelOne, SpansAreOnPaths};
-ghost use Rattle.hd_position.specs.Volumes.{ForestsOfVolumesAreHeld, LinkedRowsMovePositions, LinkedPathsGoInTogether, UnlinkedRowsMovePositions};
+ghost use Rattle.hd_position.specs.Volumes.{ForestsOfVolumesAreHeld, LinkedRowsMovePositions, LinkedPathsGoInTogether, UnlinkedRowsMovePositions, LastPathsAreKept};
 
 /// What is kept before all rows stands for the start.
 pub fn law_the_start_is_before_all_rows()
@@ -91,4 +91,9 @@ pub fn law_linked_paths_go_in_together()
 /// A row whose span was unlinked renumbers positions from its number on.
 pub fn law_unlinked_rows_move_positions()
     ensures { UnlinkedRowsMovePositions }
+{}
+
+/// The path of the last row passed, behind all rows, is that of the last row, as a load keeps it.
+pub fn law_last_paths_are_kept()
+    ensures { LastPathsAreKept }
 {}

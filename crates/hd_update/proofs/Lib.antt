@@ -1,4 +1,3 @@
-pub mod Areas
 pub mod Levels
 pub mod Lists
 pub mod Asked
@@ -11,3 +10,4 @@ pub mod Taken
 pub mod Unlinked
 pub mod DeletedStates
 pub mod PutRows
+pub mod PutRoots

@@ -1,5 +1,5 @@
 -- A row that is put in: all or nothing.
-use Rattle.std.specs.Prelude.{◌≡◌, ℕ, ◌<◌, List, [], ◌∷◌, IsTrue}
+use Rattle.std.specs.Prelude.{◌≡◌, ℕ, List, [], ◌∷◌, IsTrue}
 use Rattle.hd_dbd.specs.declared.answer.Refused.{Refused}
 use Rattle.hd_dbd.specs.declared.answer.Refused.TheVariants.{Full}
 use Rattle.hd_dbd.specs.Hierarchy.{Database}
@@ -10,7 +10,10 @@ use Rattle.hd_volume.specs.Volumes.{VolumeState}
 use Rattle.hd_links.specs.Placed.{Placed}
 use Rattle.hd_links.specs.Changes.{with_leaf}
 use Rattle.hd_links.specs.Numbers.{LeafGoesInAt}
+use Rattle.hd_image.specs.Records.{links_of}
 use Rattle.hd_image.specs.Holding.{HoldsPlaced}
+use Rattle.hd_forest.specs.Updates.{MayLink}
+use Rattle.hd_keeping.specs.Rooms.{HasRootRoomFor, HasRootMemoryFor}
 use Rattle.hd_keeping.specs.NewPaths.{IsPathIn}
 use Rattle.hd_keeping.specs.VolumeImages.{images_of}
 use Rattle.hd_position.specs.Laws.{MovesUp}
@@ -18,6 +21,12 @@ use Rattle.hd_position.specs.Laws.{MovesUp}
 -- where the store is sound, the volume holds a forest
 abbrev pub HoldsSome : Database → VolumeState → Type 0
 HoldsSome d v = IsTrue v.is_sound → (f : Forest Placed) × HoldsPlaced d v f
+
+-- The volume holds a forest in which a row may be linked below h behind its twin y.
+pub record MayPut (d : Database) (v : VolumeState) (h y : ℕ) (row : Segment) : Type 0 where
+  pub placed : Forest Placed
+  pub holds : HoldsPlaced d v placed
+  pub may : MayLink d.types (links_of d.types v) h y row
 
 -- The row went in below h behind its twin y, at a number of the sequence, and stands at the address a: the volume w holds the forest with
 -- it, and positions move up from there.
@@ -34,3 +43,15 @@ PutsIn d v h y row a w = (f : Forest Placed) → IsTrue v.is_sound → HoldsPlac
 -- a row is refused as Full only where the volume's bytes lack room for it
 abbrev pub IsFullFor : Database → VolumeState → Segment → Refused → Type 0
 IsFullFor d v row e = e ≡ Full → IsTrue v.is_sound → HoldsSome d v → LacksRoom (images_of d) d.types v.image (row ∷ [])
+
+-- ---- roots
+
+-- a root, whatever its bytes
+abbrev pub a_root : Segment
+a_root = record { code = 1; bytes = [] }
+
+-- There are room and memory for a root that may be put in behind its twin y, and for its entry in the index, of this key.
+pub record CanPutRoot (d : Database) (v : VolumeState) (y : ℕ) (row : Segment) (key : List ℕ) : Type 0 where
+  pub root : MayPut d v 0 y row
+  pub room : HasRootRoomFor d v key (a_root ∷ [])
+  pub memory : HasRootMemoryFor v (a_root ∷ [])

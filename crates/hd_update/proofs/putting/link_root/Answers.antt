@@ -1,0 +1,58 @@
+use Rattle.std.proofs.Common.{◌≡◌, ℕ, List, IsTrue, Result, Err, sym, ap, subst, ◌∙◌}
+use Rattle.std.specs.Prelude.{IfErr}
+use Rattle.std.proofs.lemmas.Result.{err_from_is_err_and}
+use Rattle.hd_dbd.specs.declared.answer.Refused.{Refused}
+use Rattle.hd_dbd.specs.declared.answer.Refused.TheVariants.{Device}
+use Rattle.hd_volume.specs.Indexes.{root_key_length}
+use Rattle.hd_volume.proofs.CallSteps.{call-ok}
+use Rattle.hd_volume.proofs.JoinLemmas.{calls-join}
+use Rattle.hd_index.specs.Changes.{entries_for}
+use Rattle.hd_index.specs.Places.{blocks_needed}
+use Rattle.hd_index.specs.Maps.{address_of}
+use Rattle.hd_keeping.proofs.Volumes.{linked-new}
+use Rattle.hd_update.proofs.PutRoots.{put_root_in, entry_refused}
+use Rattle.hd_update.proofs.putting.link_root.Goals as goal
+
+pub link-requires-clause-place : goal.link-requires-clause-place
+link-requires-clause-place g c sound = (c.requires.can sound).root.may
+
+pub insert-requires-clause-index : goal.insert-requires-clause-index
+insert-requires-clause-index g c sound =
+    let o = c.in_ok-address.ensures in
+    let before : IsTrue c.args.volume.now.is_sound = subst IsTrue o.call.sound sound in
+    let C = c.requires.can before in
+    (linked-new c.args.dbd.now c.args.volume.now c.link.new.volume C.root.placed c.args.after c.in_ok-address.address (record { code = 1; bytes = c.args.bytes.now }) C.root.holds C.root.may (o.linked before)).0
+
+pub insert-requires-clause-new : goal.insert-requires-clause-new
+insert-requires-clause-new g c sound =
+    let o = c.in_ok-address.ensures in
+    let before : IsTrue c.args.volume.now.is_sound = subst IsTrue o.call.sound sound in
+    let C = c.requires.can before in
+    ap (λ (k : List ℕ). address_of k (entries_for c.args.dbd.now c.link.new.volume)) c.requires.key
+    ∙ (linked-new c.args.dbd.now c.args.volume.now c.link.new.volume C.root.placed c.args.after c.in_ok-address.address (record { code = 1; bytes = c.args.bytes.now }) C.root.holds C.root.may (o.linked before)).1
+
+pub returns-in_err-insert-clause-only : goal.returns-in_err-insert-clause-only
+returns-in_err-insert-clause-only g c =
+    let o = c.in_ok-address.ensures in
+    let d = c.args.dbd.now in
+    let v = c.args.volume.now in
+    let w = c.link.new.volume in
+    let p = err_from_is_err_and c.from_residual-in_err-insert.result c.from_residual-in_err-insert.ensures.1 in
+    subst (λ (r : Result ℕ Refused). IfErr r (λ e. IsTrue v.is_sound → e ≡ Device)) (sym (p.1 ∙ ap Err p.2))
+    (λ sound.
+    let after : IsTrue w.is_sound = subst IsTrue (sym o.call.sound) sound in
+    entry_refused d v c.args.after c.args.bytes.now c.args.key.now (c.requires.can sound) w c.in_ok-address.address (o.linked sound) (o.room after)
+    _ c.in_err-insert.ensures.refusal (λ full. c.in_err-insert.ensures.full full after) (λ few. c.in_err-insert.ensures.memory few))
+
+pub returns-clause-call : goal.returns-clause-call
+returns-clause-call g c = call-ok c.in_ok-address.address (calls-join _ c.in_ok-address.ensures.call c.in_ok-insert.ensures.call)
+
+pub returns-clause-put_in : goal.returns-clause-put_in
+returns-clause-put_in g c f sound holds =
+    let o = c.in_ok-address.ensures in
+    let e = c.in_ok-insert.ensures in
+    let after : IsTrue c.link.new.volume.is_sound = subst IsTrue (sym o.call.sound) sound in
+    let C = c.requires.can sound in
+    put_root_in c.args.dbd.now c.args.volume.now c.link.new.volume c.insert.new.volume f c.args.after c.in_ok-address.address
+    (blocks_needed (root_key_length c.args.dbd.now.types) c.link.new.volume c.args.key.now) c.args.bytes.now c.args.key.now holds C.root.may (o.linked sound) c.requires.key
+    (record { size = e.call.size; sizes = e.call.sizes; index = e.index after; entries = e.entries after; change = e.changed after }) (e.spares after)
