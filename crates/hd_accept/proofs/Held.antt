@@ -1,9 +1,7 @@
 -- Tests of held rows, told of their numbers.
 use Rattle.std.proofs.Common.{◌≡◌, ℕ, List, [], ◌∷◌, Bool, true, false, refl, ap, sym, ◌∙◌}
-use Rattle.std.specs.Prelude.{length, is_some, is_none, map, filter, not, ◌||◌, ◌&&◌, cond, Option, Some, None, option_map, find, slice_get, ◌==◌}
-use Rattle.std.specs.Option.{option_map_or}
+use Rattle.std.specs.Prelude.{length, is_some, is_none, filter, not, ◌||◌, ◌&&◌, cond, Option, Some, None, option_map, find, slice_get, ◌==◌}
 use Rattle.std.specs.List.{list_all}
-use Rattle.std.proofs.lemmas.Option.{none-some}
 use Rattle.std.proofs.lemmas.List.{length-map}
 use Rattle.std.proofs.lemmas.List.Folds.{list_all-map}
 use Rattle.hd_dbd.specs.Segment.{Segment}
@@ -13,7 +11,8 @@ use Rattle.hd_calls.specs.Access.{may, gives_replace}
 use Rattle.hd_calls.specs.Ssas.{Ssa}
 use Rattle.hd_calls.specs.Steps.{is_excepted, replaced_rows, held_of, deleted_row}
 use Rattle.hd_update.specs.declared.held.HeldRow.{HeldRow}
-use Rattle.hd_accept.specs.Tests.{held_at, AreHeldOf, code_among, all_replaceable}
+use Rattle.hd_update.specs.Deleting.{taken_row}
+use Rattle.hd_accept.specs.Tests.{held_at, AreHeldOf, all_replaceable}
 
 -- an element that is out is not asked
 out_or : (out : Bool) (g : ℕ → Bool) (x : ℕ) (xs : List ℕ) → (out || g x) && list_all g xs ≡ list_all g (cond (not out) (x ∷ xs) xs)
@@ -39,29 +38,22 @@ first_of true places rows i xs ys e = refl
 first_of false places rows i xs ys e = e
 
 -- the code of the held row of a type
-pub code_held : (places : ℕ → ℕ) (rows : List Segment) (numbers : List ℕ) (code : ℕ)
-    → code_among (held_at places rows numbers) code ≡ option_map (λ i. (row_at rows i).code) (held_of rows numbers code)
+code_held : (places : ℕ → ℕ) (rows : List Segment) (numbers : List ℕ) (code : ℕ)
+    → option_map (λ h. h.code) (find (λ h. h.code == code) (held_at places rows numbers)) ≡ option_map (λ i. (row_at rows i).code) (held_of rows numbers code)
 code_held places rows [] code = refl
 code_held places rows (i ∷ numbers) code = first_of ((row_at rows i).code == code) places rows i _ _ (code_held places rows numbers code)
-
--- of arguments that have a first, it names the row
-pub named_held : (rows : List Segment) (numbers : List ℕ) (held : List HeldRow) (ssas : List Ssa) (a : Ssa) → AreHeldOf rows numbers held → slice_get ssas 0 ≡ Some a
-    → code_among held a.code ≡ option_map (λ i. (row_at rows i).code) (deleted_row rows ssas numbers)
-named_held rows numbers held [] a of is = absurd (none-some a is)
-named_held rows numbers held (b ∷ ssas) a of is =
-    ap (λ (hs : List HeldRow). code_among hs a.code) of.1 ∙ code_held of.0 rows numbers a.code
-    ∙ ap (λ (o : Option Ssa). option_map (λ i. (row_at rows i).code) (held_of rows numbers (option_map_or (λ x. x.code) o 0))) (sym is)
 
 -- the code of the first held row
 first_held : (places : ℕ → ℕ) (rows : List Segment) (numbers : List ℕ) → option_map (λ h. h.code) (slice_get (held_at places rows numbers) 0) ≡ option_map (λ i. (row_at rows i).code) (slice_get numbers 0)
 first_held places rows [] = refl
 first_held places rows (i ∷ numbers) = refl
 
--- of none, the highest held is taken
-pub highest_held : (rows : List Segment) (numbers : List ℕ) (held : List HeldRow) (ssas : List Ssa) → AreHeldOf rows numbers held → slice_get ssas 0 ≡ None
-    → option_map (λ h. h.code) (slice_get held 0) ≡ option_map (λ i. (row_at rows i).code) (deleted_row rows ssas numbers)
-highest_held rows numbers held (b ∷ ssas) of is = absurd (none-some b (sym is))
-highest_held rows numbers held [] of is = ap (λ (hs : List HeldRow). option_map (λ h. h.code) (slice_get hs 0)) of.1 ∙ first_held of.0 rows numbers
+-- the code of the row that is taken
+pub code_taken : (rows : List Segment) (numbers : List ℕ) (held : List HeldRow) (ssas : List Ssa) → AreHeldOf rows numbers held
+    → option_map (λ h. h.code) (taken_row ssas held) ≡ option_map (λ i. (row_at rows i).code) (deleted_row rows ssas numbers)
+code_taken rows numbers held [] of = ap (λ (hs : List HeldRow). option_map (λ h. h.code) (slice_get hs 0)) of.1 ∙ first_held of.0 rows numbers
+code_taken rows numbers held (a ∷ ssas) of =
+    ap (λ (hs : List HeldRow). option_map (λ h. h.code) (find (λ h. h.code == a.code) hs)) of.1 ∙ code_held of.0 rows numbers a.code
 
 -- the held row of a number
 abbrev the_row : (ℕ → ℕ) → List Segment → ℕ → HeldRow

@@ -1,6 +1,6 @@
 -- The parentage row on a PCB's path.
-use Rattle.std.proofs.Common.{◌≡◌, ℕ, zero, suc, ◌<◌, ◌≤◌, List, [], ◌∷◌, length, Some, refl, ap, sym, subst, ◌∙◌, arith}
-use Rattle.std.specs.Prelude.{map, option_map, slice_get}
+use Rattle.std.proofs.Common.{◌≡◌, ℕ, zero, suc, ◌<◌, ◌≤◌, List, [], ◌∷◌, length, Some, refl, ap, subst, ◌∙◌, arith}
+use Rattle.std.specs.Prelude.{option_map}
 use Rattle.std.proofs.lemmas.List.{length-map}
 use Rattle.hd_dbd.specs.Types.{SegmentType}
 use Rattle.hd_dbd.specs.Positions.{Position}
@@ -8,7 +8,7 @@ use Rattle.hd_dbd.specs.Forest.{Forest}
 use Rattle.hd_links.specs.Links.{Links}
 use Rattle.hd_links.specs.Placed.{Placed, Holds}
 use Rattle.hd_links.specs.Steps.{rows_of, address_at}
-use Rattle.hd_position.specs.Kept.{Kept, StandsFor, path_passed, path_before, row_on}
+use Rattle.hd_position.specs.Kept.{Kept, StandsFor, path_passed, row_on}
 use Rattle.hd_position.proofs.Splices.{AllBelow, below_more}
 use Rattle.hd_position.proofs.Rising.{row_on_map}
 use Rattle.hd_position.proofs.Leaving.{passed_below}

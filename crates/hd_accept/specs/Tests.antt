@@ -1,5 +1,5 @@
 -- The tests of a call over a volume.
-use Rattle.std.specs.Prelude.{◌≡◌, ℕ, List, Bool, ◌||◌, ◌==◌, find, map, Option, Some, None, Result, Ok, Err, option_map}
+use Rattle.std.specs.Prelude.{◌≡◌, ℕ, List, Bool, ◌||◌, map, Option, Some, None, Result, Ok, Err, option_map}
 use Rattle.std.specs.List.{list_all}
 use Rattle.hd_dbd.specs.Types.{View}
 use Rattle.hd_dbd.specs.Hierarchy.{Database}
@@ -29,10 +29,6 @@ held_at places rows numbers = map (λ i. record { address = places i; code = (ro
 -- these are the rows of the numbers
 abbrev pub AreHeldOf : List Segment → List ℕ → List HeldRow → Type 0
 AreHeldOf rows numbers held = (places : ℕ → ℕ) × (held ≡ held_at places rows numbers)
-
--- the type of a code, where a row of it is held
-abbrev pub code_among : List HeldRow → ℕ → Option ℕ
-code_among held code = option_map (λ h. h.code) (find (λ h. h.code == code) held)
 
 -- every held row may be replaced, or is excepted by N
 abbrev pub all_replaceable : Setting → List Ssa → List HeldRow → Bool

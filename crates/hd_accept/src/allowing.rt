@@ -1,4 +1,4 @@
-ghost use Rattle.std.specs.Prelude.{◌≡◌, ◌≤◌, ◌<◌, ℕ, List, Bool, Option, length, option_map, slice_get};
+ghost use Rattle.std.specs.Prelude.{◌≡◌, ◌≤◌, ◌<◌, ℕ, List, Bool, Option, length, option_map};
 ghost use Rattle.std.specs.List.{list_all};
 ghost use Rattle.hd_dbd.specs.Segment.{Segment};
 ghost use Rattle.hd_dbd.specs.Paths.{row_at};
@@ -7,14 +7,14 @@ ghost use Rattle.hd_calls.specs.declared.call.GetKind.{GetKind};
 ghost use Rattle.hd_calls.specs.declared.call.Function.TheVariants.{Get, Insert, Replace, Delete};
 ghost use Rattle.hd_calls.specs.Ssas.{first_inserted};
 ghost use Rattle.hd_calls.specs.Steps.{path_allowed, is_allowed, deleted_row, has_parent};
-ghost use Rattle.hd_accept.specs.Tests.{AreHeldOf, code_among, all_replaceable};
+ghost use Rattle.hd_accept.specs.Tests.{AreHeldOf, all_replaceable};
 ghost use Rattle.hd_accept.specs.Accesses.{setting};
 
 use crate::access::{Access, may};
 use hd_dbd::{Dbd, Pcb};
 use hd_get::target_code;
 use hd_ssa::{ResolvedSsa, loads};
-use hd_update::{HeldRow, is_excepted};
+use hd_update::{HeldRow, is_excepted, taken_row};
 
 /// Whether an argument asks for no path row, or its row may be returned on a path.
 fn path_allowed(dbd: &Dbd, pcb: &Pcb, ssa: &ResolvedSsa<'_>) -> bool
@@ -101,35 +101,13 @@ pub fn replace_allowed(dbd: &Dbd, pcb: &Pcb, ssas: &[ResolvedSsa<'_>], held: &[H
     !loads(pcb) && all_replaceable(dbd, pcb, ssas, held)
 }
 
-/// The type of a code, where a row of it is held.
-fn held_code(held: &[HeldRow], code: u8) -> Option<u8>
-    ensures { result ≡ code_among held.now code }
-{
-    for row in held {
-        if row.code == code {
-            return Some(code);
-        }
-    }
-    None
-}
-
-/// The type of the highest held row.
-fn first_code(held: &[HeldRow]) -> Option<u8>
-    ensures { result ≡ option_map (λ h. h.code) (slice_get held.now 0) }
-{
-    match held.first() {
-        Some(row) => Some(row.code),
-        None => None,
-    }
-}
-
 /// The type of the row that a DLET takes out: the one that its argument names, where such a row is held, or else the highest held.
 pub fn deleted_code(ssas: &[ResolvedSsa<'_>], held: &[HeldRow]) -> Option<u8>
     ensures { (rows : List Segment) (numbers : List ℕ) → AreHeldOf rows numbers held.now → result ≡ option_map (λ i. (row_at rows i).code) (deleted_row rows ssas.now numbers) }
 {
-    match ssas.first() {
-        Some(ssa) => held_code(held, ssa.code()),
-        None => first_code(held),
+    match taken_row(ssas, held) {
+        Some(row) => Some(row.code),
+        None => None,
     }
 }
 

@@ -54,7 +54,7 @@ fn first_of_type(held: &[HeldRow], code: u8) -> Option<HeldRow>
 }
 
 /// Of the held rows the one that DLET takes: the first of the argument's type, or else the highest.
-fn taken_row(ssas: &[ResolvedSsa<'_>], held: &[HeldRow]) -> Option<HeldRow>
+pub fn taken_row(ssas: &[ResolvedSsa<'_>], held: &[HeldRow]) -> Option<HeldRow>
     ensures { result ≡ taken_row ssas.now held.now }
 {
     match ssas.first() {

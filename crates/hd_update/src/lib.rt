@@ -10,7 +10,7 @@ mod repl_call;
 mod replacing;
 mod rewrites;
 
-pub use dlet_call::dlet;
+pub use dlet_call::{dlet, taken_row};
 pub use held::{HeldRow, HeldRows, held_rows, row_at};
 pub use repl_call::repl;
 pub use rewrites::is_excepted;

@@ -1,4 +1,4 @@
-use Rattle.std.proofs.Common.{◌≡◌, ℕ, List, Option, ap, sym, subst, ◌∙◌}
+use Rattle.std.proofs.Common.{◌≡◌, List, Option, ap, sym, subst, ◌∙◌}
 use Rattle.std.specs.Prelude.{map, Err}
 use Rattle.hd_dbd.specs.Views.{Setting}
 use Rattle.hd_dbd.specs.declared.answer.Status.{Status}

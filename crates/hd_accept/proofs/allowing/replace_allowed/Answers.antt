@@ -1,4 +1,4 @@
-use Rattle.std.proofs.Common.{◌≡◌, ℕ, List, Bool, false, ap, sym, ◌∙◌}
+use Rattle.std.proofs.Common.{List, Bool, ap, sym, ◌∙◌}
 use Rattle.std.specs.Prelude.{not, ◌&&◌}
 use Rattle.std.specs.List.{list_all}
 use Rattle.hd_dbd.specs.Paths.{row_at}

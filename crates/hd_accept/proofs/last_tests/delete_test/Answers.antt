@@ -1,8 +1,6 @@
-use Rattle.std.proofs.Common.{◌≡◌, ℕ, List, Bool, true, false, Option, refl, ap, sym, ◌∙◌}
-use Rattle.std.specs.Prelude.{not, is_some, option_map}
-use Rattle.hd_dbd.specs.Paths.{row_at}
+use Rattle.std.proofs.Common.{Bool, true, false, refl, ap, sym, ◌∙◌}
+use Rattle.std.specs.Prelude.{not}
 use Rattle.hd_calls.specs.declared.call.Function.TheVariants.{Delete}
-use Rattle.hd_calls.specs.Steps.{deleted_row}
 use Rattle.hd_dbd.specs.Views.{Setting}
 use Rattle.hd_accept.proofs.Held.{taken}
 use Rattle.hd_accept.proofs.Order.{not_allowed, allowed}

@@ -1,4 +1,4 @@
-use Rattle.std.proofs.Common.{◌≡◌, Bool, true, false, refl, ap, sym, ◌∙◌}
+use Rattle.std.proofs.Common.{true, false, refl, sym, ◌∙◌}
 use Rattle.hd_calls.specs.declared.call.Function.TheVariants.{Get}
 use Rattle.hd_calls.specs.declared.call.GetKind.TheVariants.{NextInParent}
 use Rattle.hd_dbd.specs.Views.{Setting}

@@ -1,4 +1,4 @@
-use Rattle.std.proofs.Common.{◌≡◌, Bool, true, false, refl, ap, sym, ◌∙◌}
+use Rattle.std.proofs.Common.{true, refl, sym, ◌∙◌}
 use Rattle.hd_calls.specs.declared.call.Function.TheVariants.{Get}
 use Rattle.hd_dbd.specs.Views.{Setting}
 use Rattle.hd_accept.proofs.Order.{not_allowed, allowed, looks_anywhere}

@@ -1,4 +1,4 @@
-use Rattle.std.proofs.Common.{◌≡◌, ℕ, List, [], length, Bool, true, false, refl, ap, sym, ◌∙◌}
+use Rattle.std.proofs.Common.{ℕ, true, false, refl, ap, sym, ◌∙◌}
 use Rattle.std.specs.Prelude.{not, ◌==◌}
 use Rattle.hd_calls.specs.declared.call.Function.TheVariants.{Replace}
 use Rattle.hd_dbd.specs.Views.{Setting}

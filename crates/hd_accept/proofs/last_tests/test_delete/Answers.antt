@@ -1,4 +1,4 @@
-use Rattle.std.proofs.Common.{◌≡◌, ℕ, List, ◌∙◌}
+use Rattle.std.proofs.Common.{◌∙◌}
 use Rattle.hd_links.specs.Steps.{rows_of, address_at}
 use Rattle.hd_accept.proofs.last_tests.test_delete.Goals as goal
 

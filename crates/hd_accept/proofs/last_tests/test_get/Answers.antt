@@ -1,9 +1,9 @@
-use Rattle.std.proofs.Common.{◌≡◌, sym, subst, ◌∙◌}
+use Rattle.std.proofs.Common.{◌≡◌, sym, subst}
 use Rattle.hd_dbd.specs.Views.{Setting}
 use Rattle.hd_links.specs.Steps.{rows_of}
 use Rattle.hd_calls.specs.declared.call.Function.TheVariants.{Get}
 use Rattle.hd_calls.specs.declared.call.GetKind.{GetKind}
-use Rattle.hd_calls.specs.declared.call.GetKind.TheVariants.{Unique, Next, NextInParent}
+use Rattle.hd_calls.specs.declared.call.GetKind.TheVariants.{Unique, Next}
 use Rattle.hd_calls.specs.Steps.{last_tests}
 use Rattle.hd_accept.specs.Tests.{tested}
 use Rattle.hd_accept.proofs.last_tests.test_get.Goals as goal

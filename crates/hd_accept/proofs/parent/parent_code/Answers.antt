@@ -1,9 +1,7 @@
-use Rattle.std.proofs.Common.{◌≡◌, ℕ, ◌<◌, List, Some, Option, ap, sym, subst, ◌∙◌, arith}
+use Rattle.std.proofs.Common.{◌≡◌, ℕ, ◌<◌, List, Some, ap, sym, subst, ◌∙◌, arith}
 use Rattle.std.specs.Prelude.{option_map}
-use Rattle.hd_dbd.specs.Forest.{Forest}
 use Rattle.hd_dbd.specs.Paths.{row_at}
 use Rattle.hd_image.specs.Records.{links_of}
-use Rattle.hd_links.specs.Placed.{Placed}
 use Rattle.hd_links.specs.Steps.{rows_of}
 use Rattle.hd_position.specs.Kept.{Kept}
 use Rattle.hd_update.specs.Held.{IsAtLevel}
