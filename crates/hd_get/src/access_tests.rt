@@ -4,11 +4,9 @@ ghost use Rattle.std.specs.Prelude.{◌≡◌, ◌<◌, false};
 ghost use Rattle.hd_dbd.specs.Facts.{stored_sizes};
 
 use crate::named_tests::{sought_by, texts};
-use crate::plain::Plain;
+use crate::outcome::Outcome;
 use crate::random_tests::get_by;
 use crate::sample_with_fields::{database, pcb, wide_database};
-use crate::searching::find;
-use crate::starting::unique;
 use crate::test_volumes::{Stream, open_file, volume_of};
 use hd_calls::GetKind;
 use hd_dbd::{Dbd, Pcb, Refused};
@@ -60,16 +58,34 @@ fn wide_stream(alloc: Global, dbd: &Dbd) -> Result<Vec<u8>, AllocError> {
     stream.end()
 }
 
-/// The rows of each course of the full volume, which fill a block.
+/// The rows below each course of the full volume, which with it fill a block.
 const FULL: [(u8, &[u8]); 4] = [(2, b"01AB"), (2, b"02CD"), (4, b"EULER"), (4, b"GAUSS")];
 
-/// The stream of ten courses with their rows, each of them in a block.
-fn full_stream(alloc: Global, dbd: &Dbd) -> Result<Vec<u8>, AllocError> {
+/// The rows below each course of the spread volume: with the course three classes fill a block, and the others another.
+const SPREAD: [(u8, &[u8]); 9] = [
+    (2, b"01AB"),
+    (2, b"02CD"),
+    (2, b"03EF"),
+    (2, b"04GH"),
+    (2, b"05IJ"),
+    (2, b"06KL"),
+    (4, b"EULER"),
+    (4, b"GAUSS"),
+    (4, b"ABEL "),
+];
+
+/// The stream of a course for each of some digits, all with the same rows below them.
+fn course_stream(
+    alloc: Global,
+    dbd: &Dbd,
+    digits: &[u8],
+    below: &[(u8, &[u8])],
+) -> Result<Vec<u8>, AllocError> {
     let mut stream = Stream::start(alloc, dbd)?;
-    for digit in b"0123456789" {
+    for digit in digits {
         stream.add(1, &[b'1', b'0', *digit, b'A', b'L', b'G', b'E', b'B'])?;
-        for (code, bytes) in FULL {
-            stream.add(code, bytes)?;
+        for (code, bytes) in below {
+            stream.add(*code, bytes)?;
         }
     }
     stream.end()
@@ -127,17 +143,32 @@ fn make_on(
     make::<Brand>(alloc, file, Blank::new(1), dbd, stream)
 }
 
-/// How many rows a PCB reads in the whole volume, one after the other.
-fn walk<S: BlockStore>(volume: &mut Volume<S>, dbd: &Dbd, pcb: &Pcb) -> Result<u32, Refused>
+/// How many rows GN finds in the whole volume, one after the other.
+fn walk<S: BlockStore>(
+    alloc: Global,
+    volume: &mut Volume<S>,
+    dbd: &Dbd,
+    pcb: &Pcb,
+) -> Result<u32, Refused>
     requires unsound { volume.old.is_sound ≡ false }
     requires sizes { volume.old.sizes ≡ stored_sizes dbd.now.types }
 {
-    let mut path = unique(volume, dbd)?;
+    let none = Vec::new(alloc);
+    let mut position = Position::start();
     for count in 0..100 {
-        if !find(volume, dbd, &Plain { pcb }, 0, &mut path)? {
+        let outcome = get_by(
+            alloc,
+            volume,
+            dbd,
+            pcb,
+            &mut position,
+            GetKind::Next,
+            false,
+            &none,
+        )?;
+        if let Outcome::Missing(_) = outcome {
             return Ok(count);
         }
-        next_row(volume, dbd, &mut path)?;
     }
     Ok(100)
 }
@@ -194,7 +225,7 @@ enum Search<'a> {
     Unique(&'a [&'a [u8]]),
     /// The row that a GNP with these arguments finds below the second course, and the GU of that; its answer is the row's address.
     Below(&'a [&'a [u8]]),
-    /// All rows that may be read; its answer is how many there are.
+    /// All rows that may be read, by GN; its answer is how many there are.
     All,
 }
 
@@ -218,7 +249,7 @@ fn probe<S: BlockStore>(
             Ok(found)
         }
         Search::Below(ssas) => below(alloc, volume, dbd, pcb, ssas),
-        Search::All => walk(volume, dbd, pcb),
+        Search::All => walk(alloc, volume, dbd, pcb),
     }
 }
 
@@ -388,7 +419,7 @@ fn passes_over_what_is_not_seen(rt: HostRuntime) -> Result<(), Fail> {
 fn a_walk_reads_each_block_once(rt: HostRuntime) -> Result<(), Fail> {
     let dbd = database(rt.alloc()).expect(&rt, "a database");
     let all = pcb(rt.alloc(), "G", b"NONE    ")?;
-    let stream = full_stream(rt.alloc(), &dbd)?;
+    let stream = course_stream(rt.alloc(), &dbd, b"0123456789", &FULL)?;
     let file = open_file(&rt, "full", true)?;
     let rows = make_on(rt.alloc(), file, &dbd, &stream)?.expect(&rt, "a volume");
     let last = rows.last().copied().unwrap_or(0);
@@ -397,6 +428,40 @@ fn a_walk_reads_each_block_once(rt: HostRuntime) -> Result<(), Fail> {
     assert_eq!(rt; found, Ok(10 * 5));
     assert_eq!(rt; accesses.saturating_sub(none), 10);
     fs::remove_file(&rt, "full")?;
+    Ok(())
+}
+
+#[test]
+fn a_walk_comes_back_behind_the_children_of_a_type(rt: HostRuntime) -> Result<(), Fail> {
+    let dbd = wide_database(rt.alloc()).expect(&rt, "a database");
+    let all = pcb(rt.alloc(), "G", b"NONE    ")?;
+    let stream = wide_stream(rt.alloc(), &dbd)?;
+    let file = open_file(&rt, "apart", true)?;
+    let rows = make_on(rt.alloc(), file, &dbd, &stream)?.expect(&rt, "a volume");
+    let last = rows.last().copied().unwrap_or(0);
+    let (_, none) = run_on(&rt, "apart", &dbd, &all, last, Search::None)?;
+    let (found, accesses) = run_on(&rt, "apart", &dbd, &all, last, Search::All)?;
+    assert_eq!(rt; found, Ok(3 * 19));
+    // of each course: its rows, each class once more behind its students, and itself behind its classes and behind its books
+    assert_eq!(rt; accesses.saturating_sub(none), 3 * (19 + 4 + 2));
+    fs::remove_file(&rt, "apart")?;
+    Ok(())
+}
+
+#[test]
+fn a_walk_goes_on_in_the_block_that_it_left(rt: HostRuntime) -> Result<(), Fail> {
+    let dbd = database(rt.alloc()).expect(&rt, "a database");
+    let all = pcb(rt.alloc(), "G", b"NONE    ")?;
+    let stream = course_stream(rt.alloc(), &dbd, b"01", &SPREAD)?;
+    let file = open_file(&rt, "spread", true)?;
+    let rows = make_on(rt.alloc(), file, &dbd, &stream)?.expect(&rt, "a volume");
+    let last = rows.last().copied().unwrap_or(0);
+    let (_, none) = run_on(&rt, "spread", &dbd, &all, last, Search::None)?;
+    let (found, accesses) = run_on(&rt, "spread", &dbd, &all, last, Search::All)?;
+    assert_eq!(rt; found, Ok(2 * 10));
+    // of each course: its two blocks; behind its classes its own again, and for its books the other; and behind these its own again
+    assert_eq!(rt; accesses.saturating_sub(none), 2 * (2 + 2 + 1));
+    fs::remove_file(&rt, "spread")?;
     Ok(())
 }
 
