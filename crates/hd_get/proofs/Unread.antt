@@ -1,9 +1,11 @@
 -- Why a search without segment search arguments goes where it goes from a row.
-use Rattle.std.proofs.Common.{◌≡◌, ℕ, ◌<◌, List, [], length, Bool, true, false, refl}
+use Rattle.std.proofs.Common.{◌≡◌, ℕ, ◌<◌, List, [], ◌∷◌, length, Bool, true, false, Option, None, Some, refl}
 use Rattle.std.specs.Prelude.{cond}
+use Rattle.std.specs.List.{list_all}
+use Rattle.std.specs.Option.{option_map_or}
 use Rattle.hd_dbd.specs.Types.{SegmentType, View}
 use Rattle.hd_dbd.specs.Segment.{Segment}
-use Rattle.hd_dbd.specs.Paths.{row_at}
+use Rattle.hd_dbd.specs.Paths.{row_at, path_of, parent_row}
 use Rattle.hd_dbd.specs.Letters.{gives_get}
 use Rattle.hd_calls.specs.Access.{may}
 use Rattle.hd_calls.specs.Satisfies.{satisfies}
@@ -11,7 +13,7 @@ use Rattle.hd_seek.specs.Admits.{AreRowsOf}
 use Rattle.hd_seek.specs.Spans.{reads_some_below}
 use Rattle.hd_seek.proofs.Failing.{unread_spans_fail}
 use Rattle.hd_get.specs.declared.verdict.Verdict.TheVariants.{Found, Next, Over}
-use Rattle.hd_get.specs.Searches.{IsJudged}
+use Rattle.hd_get.specs.Searches.{IsJudged, is_above_admitted}
 use Rattle.hd_get.specs.Asking.{verdict_plain}
 use Rattle.hd_get.proofs.Judging.{judged_found, judged_next, judged_over}
 
@@ -30,3 +32,16 @@ module _ (types : List SegmentType) (rows : List Segment) (pcb : View) (over : A
           (cond b Found (cond (reads_some_below (record { types = types; pcb = pcb }) (row_at rows i).code) Next Over))
       by_read true e = judged_found (satisfies (record { types = types; pcb = pcb }) rows []) (λ j. true) types rows i e refl
       by_read false e = by_below (reads_some_below (record { types = types; pcb = pcb }) (row_at rows i).code) e refl
+
+-- a list each member of which passes
+all_pass : (xs : List ℕ) → list_all (λ (j : ℕ). true) xs ≡ true
+all_pass [] = refl
+all_pass (x ∷ xs) = all_pass xs
+
+-- where every row is admitted, the rows above each row are
+pub all_above : (types : List SegmentType) (rows : List Segment) (i : ℕ) → is_above_admitted (λ (j : ℕ). true) types rows i ≡ true
+all_above types rows i = by_parent (parent_row types rows i)
+  where
+    by_parent : (q : Option ℕ) → option_map_or (λ (q : ℕ). list_all (λ (j : ℕ). true) (path_of types rows q)) q true ≡ true
+    by_parent None = refl
+    by_parent (Some q) = all_pass (path_of types rows q)

@@ -4,18 +4,16 @@ ghost use Rattle.std.specs.Prelude.{◌≡◌, ◌<◌, false};
 ghost use Rattle.hd_dbd.specs.Facts.{stored_sizes};
 
 use crate::named_tests::{sought_by, texts};
-use crate::plain::Plain;
+use crate::outcome::Outcome;
 use crate::random_tests::get_by;
 use crate::sample_with_fields::{database, pcb, wide_database};
-use crate::searching::find;
-use crate::starting::unique;
-use crate::test_volumes::{Loading, load_row, open_file};
+use crate::test_volumes::{Stream, open_file, volume_of};
 use hd_calls::GetKind;
 use hd_dbd::{Dbd, Pcb, Refused};
-use hd_forest::{code_at, next_row, tip_of};
+use hd_forest::{Path, code_at, next_row, tip_of};
 use hd_position::Position;
 use hd_volume::{BlockStore, FileStore, FuseStore, Volume};
-use std::alloc::Global;
+use std::alloc::{AllocError, Global};
 use std::fs::{self, File};
 use std::io;
 use std::marker::Brand;
@@ -33,210 +31,144 @@ const BOOKS: [&[u8]; 2] = [b"EULER", b"GAUSS"];
 /// The rows of a course of the wide volume: itself, its classes with their students, and its books.
 const EACH: usize = 1 + 4 * (1 + 3) + 2;
 
-/// Loads a row that begins with some bytes, and keeps its address.
-fn load_wide<S: BlockStore>(
-    volume: &mut Volume<S>,
-    dbd: &Dbd,
-    loading: &mut Loading,
-    addresses: &mut Vec<u32>,
-    code: u8,
-    front: &[u8],
-) -> Result<(), Refused>
-    requires unsound { volume.old.is_sound ≡ false }
-    requires sizes { volume.old.sizes ≡ stored_sizes dbd.now.types }
-    requires size { volume.old.size ≡ dbd.now.block_size }
-    ensures unsound { volume.new.is_sound ≡ false }
-    ensures sizes { volume.new.sizes ≡ volume.old.sizes }
-    ensures size { volume.new.size ≡ volume.old.size }
-{
+/// Adds a row that begins with some bytes to the stream of a volume each row of which has a block of its own.
+fn add_wide(stream: &mut Stream, code: u8, front: &[u8]) -> Result<(), AllocError> {
     let mut bytes = [b'.'; 90];
     for (byte, own) in bytes.iter_mut().zip(front) {
         *byte = *own;
     }
-    let address = load_row(volume, dbd, loading, code, &bytes)?;
-    if addresses.push(address).is_err() {
-        return Err(Refused::Memory);
-    }
-    Ok(())
+    stream.add(code, &bytes)
 }
 
-fn load_students<S: BlockStore>(
-    volume: &mut Volume<S>,
-    dbd: &Dbd,
-    loading: &mut Loading,
-    addresses: &mut Vec<u32>,
-) -> Result<(), Refused>
-    requires unsound { volume.old.is_sound ≡ false }
-    requires sizes { volume.old.sizes ≡ stored_sizes dbd.now.types }
-    requires size { volume.old.size ≡ dbd.now.block_size }
-    ensures unsound { volume.new.is_sound ≡ false }
-    ensures sizes { volume.new.sizes ≡ volume.old.sizes }
-    ensures size { volume.new.size ≡ volume.old.size }
-{
-    for front in STUDENTS {
-        load_wide(volume, dbd, loading, addresses, 3, front)?;
+/// The stream of the wide volume: courses with their classes, students and books.
+fn wide_stream(alloc: Global, dbd: &Dbd) -> Result<Vec<u8>, AllocError> {
+    let mut stream = Stream::start(alloc, dbd)?;
+    for course in COURSES {
+        add_wide(&mut stream, 1, course)?;
+        for class in CLASSES {
+            add_wide(&mut stream, 2, class)?;
+            for student in STUDENTS {
+                add_wide(&mut stream, 3, student)?;
+            }
+        }
+        for book in BOOKS {
+            add_wide(&mut stream, 4, book)?;
+        }
     }
-    Ok(())
+    stream.end()
 }
 
-fn load_classes<S: BlockStore>(
-    volume: &mut Volume<S>,
-    dbd: &Dbd,
-    loading: &mut Loading,
-    addresses: &mut Vec<u32>,
-) -> Result<(), Refused>
-    requires unsound { volume.old.is_sound ≡ false }
-    requires sizes { volume.old.sizes ≡ stored_sizes dbd.now.types }
-    requires size { volume.old.size ≡ dbd.now.block_size }
-    ensures unsound { volume.new.is_sound ≡ false }
-    ensures sizes { volume.new.sizes ≡ volume.old.sizes }
-    ensures size { volume.new.size ≡ volume.old.size }
-{
-    for front in CLASSES {
-        load_wide(volume, dbd, loading, addresses, 2, front)?;
-        load_students(volume, dbd, loading, addresses)?;
-    }
-    Ok(())
-}
-
-fn load_books<S: BlockStore>(
-    volume: &mut Volume<S>,
-    dbd: &Dbd,
-    loading: &mut Loading,
-    addresses: &mut Vec<u32>,
-) -> Result<(), Refused>
-    requires unsound { volume.old.is_sound ≡ false }
-    requires sizes { volume.old.sizes ≡ stored_sizes dbd.now.types }
-    requires size { volume.old.size ≡ dbd.now.block_size }
-    ensures unsound { volume.new.is_sound ≡ false }
-    ensures sizes { volume.new.sizes ≡ volume.old.sizes }
-    ensures size { volume.new.size ≡ volume.old.size }
-{
-    for front in BOOKS {
-        load_wide(volume, dbd, loading, addresses, 4, front)?;
-    }
-    Ok(())
-}
-
-/// Loads the rows of the wide volume, and keeps their addresses.
-fn load_courses<S: BlockStore>(
-    volume: &mut Volume<S>,
-    dbd: &Dbd,
-    addresses: &mut Vec<u32>,
-) -> Result<(), Refused>
-    requires unsound { volume.old.is_sound ≡ false }
-    requires sizes { volume.old.sizes ≡ stored_sizes dbd.now.types }
-    requires size { volume.old.size ≡ dbd.now.block_size }
-    ensures unsound { volume.new.is_sound ≡ false }
-    ensures sizes { volume.new.sizes ≡ volume.old.sizes }
-    ensures size { volume.new.size ≡ volume.old.size }
-{
-    let mut loading = Loading::start();
-    for front in COURSES {
-        load_wide(volume, dbd, &mut loading, addresses, 1, front)?;
-        load_classes(volume, dbd, &mut loading, addresses)?;
-        load_books(volume, dbd, &mut loading, addresses)?;
-    }
-    Ok(())
-}
-
-/// The rows of each course of the full volume, which fill a block.
+/// The rows below each course of the full volume, which with it fill a block.
 const FULL: [(u8, &[u8]); 4] = [(2, b"01AB"), (2, b"02CD"), (4, b"EULER"), (4, b"GAUSS")];
 
-fn load_below<S: BlockStore>(
+/// The rows below each course of the spread volume: with the course three classes fill a block, and the others another.
+const SPREAD: [(u8, &[u8]); 9] = [
+    (2, b"01AB"),
+    (2, b"02CD"),
+    (2, b"03EF"),
+    (2, b"04GH"),
+    (2, b"05IJ"),
+    (2, b"06KL"),
+    (4, b"EULER"),
+    (4, b"GAUSS"),
+    (4, b"ABEL "),
+];
+
+/// The stream of a course for each of some digits, all with the same rows below them.
+fn course_stream(
+    alloc: Global,
+    dbd: &Dbd,
+    digits: &[u8],
+    below: &[(u8, &[u8])],
+) -> Result<Vec<u8>, AllocError> {
+    let mut stream = Stream::start(alloc, dbd)?;
+    for digit in digits {
+        stream.add(1, &[b'1', b'0', *digit, b'A', b'L', b'G', b'E', b'B'])?;
+        for (code, bytes) in below {
+            stream.add(*code, bytes)?;
+        }
+    }
+    stream.end()
+}
+
+/// The addresses of the rows of a volume, one after the other.
+fn addresses_in<S: BlockStore>(
+    alloc: Global,
     volume: &mut Volume<S>,
     dbd: &Dbd,
-    loading: &mut Loading,
-    addresses: &mut Vec<u32>,
-) -> Result<(), Refused>
+) -> Result<Vec<u32>, Refused>
     requires unsound { volume.old.is_sound ≡ false }
     requires sizes { volume.old.sizes ≡ stored_sizes dbd.now.types }
-    requires size { volume.old.size ≡ dbd.now.block_size }
-    ensures unsound { volume.new.is_sound ≡ false }
-    ensures sizes { volume.new.sizes ≡ volume.old.sizes }
-    ensures size { volume.new.size ≡ volume.old.size }
 {
-    for (code, bytes) in FULL {
-        let address = load_row(volume, dbd, loading, code, bytes)?;
-        if addresses.push(address).is_err() {
+    let mut path = Path::new();
+    let mut addresses = Vec::new(alloc);
+    for _ in 0..100 {
+        next_row(volume, dbd, &mut path)?;
+        if path.addresses().is_empty() {
+            break;
+        }
+        if addresses.push(tip_of(&path)).is_err() {
             return Err(Refused::Memory);
         }
     }
-    Ok(())
+    Ok(addresses)
 }
 
-/// Loads ten courses with their rows, each of them into a block.
-fn load_full<S: BlockStore>(
-    volume: &mut Volume<S>,
-    dbd: &Dbd,
-    addresses: &mut Vec<u32>,
-) -> Result<(), Refused>
-    requires unsound { volume.old.is_sound ≡ false }
-    requires sizes { volume.old.sizes ≡ stored_sizes dbd.now.types }
-    requires size { volume.old.size ≡ dbd.now.block_size }
-    ensures unsound { volume.new.is_sound ≡ false }
-    ensures sizes { volume.new.sizes ≡ volume.old.sizes }
-    ensures size { volume.new.size ≡ volume.old.size }
-{
-    let mut loading = Loading::start();
-    for digit in b"0123456789" {
-        let bytes = [b'1', b'0', *digit, b'A', b'L', b'G', b'E', b'B'];
-        load_row(volume, dbd, &mut loading, 1, &bytes)?;
-        load_below(volume, dbd, &mut loading, addresses)?;
-    }
-    Ok(())
-}
-
-/// Loads a new volume of a file, the wide one or the full one, and says the addresses of rows that were kept.
+/// Makes the volume of a stream in a file, and says the addresses of its rows.
 fn make<L: Ledger>(
     alloc: Global,
     file: File,
     blank: Blank,
     dbd: &Dbd,
-    wide: bool,
+    stream: &[u8],
 ) -> io::Result<Result<Vec<u32>, Refused>>
     requires name { blank.name ≡ L.name }
     requires parts { blank.parts ≡ L.parts }
     requires share { 0 < blank.parts }
-    requires size { dbd.now.block_size ≡ 128 }
 {
-    let store: FileStore<L> = FileStore::over(file, 128, blank)?;
-    let mut volume = match Volume::create(alloc, store, dbd, 1024) {
+    let store: FileStore<L> = FileStore::over(file, dbd.block_size() as usize, blank)?;
+    let mut volume = match volume_of(alloc, dbd, stream, store) {
         Ok(volume) => volume,
-        Err((_, refused)) => return Ok(Err(refused)),
+        Err(refused) => return Ok(Err(refused)),
     };
-    let mut addresses = Vec::new(alloc);
-    let loaded = if wide {
-        load_courses(&mut volume, dbd, &mut addresses)
-    } else {
-        load_full(&mut volume, dbd, &mut addresses)
-    };
-    let flushed = volume.flush();
-    Ok(loaded.and(flushed).map(|_| addresses))
+    Ok(addresses_in(alloc, &mut volume, dbd))
 }
 
 fn make_on(
     alloc: Global,
     file: File,
     dbd: &Dbd,
-    wide: bool,
-) -> io::Result<Result<Vec<u32>, Refused>>
-    requires { dbd.now.block_size ≡ 128 }
-{
-    make::<Brand>(alloc, file, Blank::new(1), dbd, wide)
+    stream: &[u8],
+) -> io::Result<Result<Vec<u32>, Refused>> {
+    make::<Brand>(alloc, file, Blank::new(1), dbd, stream)
 }
 
-/// How many rows a PCB reads in the whole volume, one after the other.
-fn walk<S: BlockStore>(volume: &mut Volume<S>, dbd: &Dbd, pcb: &Pcb) -> Result<u32, Refused>
+/// How many rows GN finds in the whole volume, one after the other.
+fn walk<S: BlockStore>(
+    alloc: Global,
+    volume: &mut Volume<S>,
+    dbd: &Dbd,
+    pcb: &Pcb,
+) -> Result<u32, Refused>
     requires unsound { volume.old.is_sound ≡ false }
     requires sizes { volume.old.sizes ≡ stored_sizes dbd.now.types }
 {
-    let mut path = unique(volume, dbd)?;
+    let none = Vec::new(alloc);
+    let mut position = Position::start();
     for count in 0..100 {
-        if !find(volume, dbd, &Plain { pcb }, 0, &mut path)? {
+        let outcome = get_by(
+            alloc,
+            volume,
+            dbd,
+            pcb,
+            &mut position,
+            GetKind::Next,
+            false,
+            &none,
+        )?;
+        if let Outcome::Missing(_) = outcome {
             return Ok(count);
         }
-        next_row(volume, dbd, &mut path)?;
     }
     Ok(100)
 }
@@ -293,7 +225,7 @@ enum Search<'a> {
     Unique(&'a [&'a [u8]]),
     /// The row that a GNP with these arguments finds below the second course, and the GU of that; its answer is the row's address.
     Below(&'a [&'a [u8]]),
-    /// All rows that may be read; its answer is how many there are.
+    /// All rows that may be read, by GN; its answer is how many there are.
     All,
 }
 
@@ -317,7 +249,7 @@ fn probe<S: BlockStore>(
             Ok(found)
         }
         Search::Below(ssas) => below(alloc, volume, dbd, pcb, ssas),
-        Search::All => walk(volume, dbd, pcb),
+        Search::All => walk(alloc, volume, dbd, pcb),
     }
 }
 
@@ -447,8 +379,9 @@ const CASES: [Case; 9] = [
 fn counts_the_accesses_of_unique_gets(rt: HostRuntime) -> Result<(), Fail> {
     let dbd = wide_database(rt.alloc()).expect(&rt, "a database");
     let all = pcb(rt.alloc(), "G", b"NONE    ")?;
+    let stream = wide_stream(rt.alloc(), &dbd)?;
     let file = open_file(&rt, "wide", true)?;
-    let rows = make_on(rt.alloc(), file, &dbd, true)?.expect(&rt, "a volume");
+    let rows = make_on(rt.alloc(), file, &dbd, &stream)?.expect(&rt, "a volume");
     assert_eq!(rt; rows.len(), 3 * EACH);
     let last = rows.last().copied().unwrap_or(0);
     let (_, none) = run_on(&rt, "wide", &dbd, &all, last, Search::None)?;
@@ -466,8 +399,9 @@ fn counts_the_accesses_of_unique_gets(rt: HostRuntime) -> Result<(), Fail> {
 #[test]
 fn passes_over_what_is_not_seen(rt: HostRuntime) -> Result<(), Fail> {
     let dbd = wide_database(rt.alloc()).expect(&rt, "a database");
+    let stream = wide_stream(rt.alloc(), &dbd)?;
     let file = open_file(&rt, "hidden", true)?;
-    let rows = make_on(rt.alloc(), file, &dbd, true)?.expect(&rt, "a volume");
+    let rows = make_on(rt.alloc(), file, &dbd, &stream)?.expect(&rt, "a volume");
     let last = rows.last().copied().unwrap_or(0);
     let mut some = pcb(rt.alloc(), "G", b"CLASS   ")?;
     some.sens.retain(|seen| seen.name.bytes() != b"STUD    ");
@@ -485,8 +419,9 @@ fn passes_over_what_is_not_seen(rt: HostRuntime) -> Result<(), Fail> {
 fn a_walk_reads_each_block_once(rt: HostRuntime) -> Result<(), Fail> {
     let dbd = database(rt.alloc()).expect(&rt, "a database");
     let all = pcb(rt.alloc(), "G", b"NONE    ")?;
+    let stream = course_stream(rt.alloc(), &dbd, b"0123456789", &FULL)?;
     let file = open_file(&rt, "full", true)?;
-    let rows = make_on(rt.alloc(), file, &dbd, false)?.expect(&rt, "a volume");
+    let rows = make_on(rt.alloc(), file, &dbd, &stream)?.expect(&rt, "a volume");
     let last = rows.last().copied().unwrap_or(0);
     let (_, none) = run_on(&rt, "full", &dbd, &all, last, Search::None)?;
     let (found, accesses) = run_on(&rt, "full", &dbd, &all, last, Search::All)?;
@@ -497,11 +432,46 @@ fn a_walk_reads_each_block_once(rt: HostRuntime) -> Result<(), Fail> {
 }
 
 #[test]
+fn a_walk_comes_back_behind_the_children_of_a_type(rt: HostRuntime) -> Result<(), Fail> {
+    let dbd = wide_database(rt.alloc()).expect(&rt, "a database");
+    let all = pcb(rt.alloc(), "G", b"NONE    ")?;
+    let stream = wide_stream(rt.alloc(), &dbd)?;
+    let file = open_file(&rt, "apart", true)?;
+    let rows = make_on(rt.alloc(), file, &dbd, &stream)?.expect(&rt, "a volume");
+    let last = rows.last().copied().unwrap_or(0);
+    let (_, none) = run_on(&rt, "apart", &dbd, &all, last, Search::None)?;
+    let (found, accesses) = run_on(&rt, "apart", &dbd, &all, last, Search::All)?;
+    assert_eq!(rt; found, Ok(3 * 19));
+    // of each course: its rows, each class once more behind its students, and itself behind its classes and behind its books
+    assert_eq!(rt; accesses.saturating_sub(none), 3 * (19 + 4 + 2));
+    fs::remove_file(&rt, "apart")?;
+    Ok(())
+}
+
+#[test]
+fn a_walk_goes_on_in_the_block_that_it_left(rt: HostRuntime) -> Result<(), Fail> {
+    let dbd = database(rt.alloc()).expect(&rt, "a database");
+    let all = pcb(rt.alloc(), "G", b"NONE    ")?;
+    let stream = course_stream(rt.alloc(), &dbd, b"01", &SPREAD)?;
+    let file = open_file(&rt, "spread", true)?;
+    let rows = make_on(rt.alloc(), file, &dbd, &stream)?.expect(&rt, "a volume");
+    let last = rows.last().copied().unwrap_or(0);
+    let (_, none) = run_on(&rt, "spread", &dbd, &all, last, Search::None)?;
+    let (found, accesses) = run_on(&rt, "spread", &dbd, &all, last, Search::All)?;
+    assert_eq!(rt; found, Ok(2 * 10));
+    // of each course: its two blocks; behind its classes its own again, and for its books the other; and behind these its own again
+    assert_eq!(rt; accesses.saturating_sub(none), 2 * (2 + 2 + 1));
+    fs::remove_file(&rt, "spread")?;
+    Ok(())
+}
+
+#[test]
 fn goes_to_the_last_child_from_an_earlier_one(rt: HostRuntime) -> Result<(), Fail> {
     let dbd = wide_database(rt.alloc()).expect(&rt, "a database");
     let all = pcb(rt.alloc(), "G", b"NONE    ")?;
+    let stream = wide_stream(rt.alloc(), &dbd)?;
     let file = open_file(&rt, "last", true)?;
-    let rows = make_on(rt.alloc(), file, &dbd, true)?.expect(&rt, "a volume");
+    let rows = make_on(rt.alloc(), file, &dbd, &stream)?.expect(&rt, "a volume");
     let last = rows.last().copied().unwrap_or(0);
     let (_, none) = run_on(&rt, "last", &dbd, &all, last, Search::None)?;
     // the arguments, and the row that they find

@@ -1,6 +1,7 @@
-ghost use Rattle.std.specs.Prelude.{None, IfOk};
+ghost use Rattle.std.specs.Prelude.{[], None, IfOk};
 ghost use Rattle.hd_dbd.specs.Refusals.{OnlyDevice};
 ghost use Rattle.hd_volume.specs.Calls.{IsRead};
+ghost use Rattle.hd_calls.specs.Satisfies.{satisfies};
 ghost use Rattle.hd_seek.specs.Admits.{Descend};
 ghost use Rattle.hd_get.specs.Searches.{IsOf, MayLead};
 ghost use Rattle.hd_get.specs.Gets.{HasPosition};
@@ -15,7 +16,7 @@ use crate::plain::Plain;
 use crate::searching::find;
 use crate::settling::settle;
 use hd_calls::GetKind;
-use hd_dbd::{Dbd, Refused};
+use hd_dbd::{Dbd, Pcb, Refused};
 use hd_forest::Path;
 use hd_position::Position;
 use hd_volume::{BlockStore, Volume};
@@ -39,6 +40,24 @@ fn search<S: BlockStore, J: Judge>(
     find(volume, dbd, judge, parent, path)
 }
 
+/// Searches from the row that a path leads to, wherever that is, on for the first that a PCB may read; says whether there is one. No
+/// row above is in the way of that, so none is judged.
+fn search_readable<S: BlockStore>(
+    volume: &mut Volume<S>,
+    dbd: &Dbd,
+    pcb: &Pcb,
+    parent: u32,
+    path: &mut Path,
+) -> Result<bool, Refused>
+    requires of { IsOf dbd.now volume.old }
+    requires there { MayLead dbd.now volume.old parent path.old }
+    ensures read { IsRead volume.old result volume.new }
+    ensures value { IfOk result (λ r. SearchesOn (λ rows i. satisfies (record { types = dbd.now.types; pcb = pcb.now }) rows [] i) dbd.now volume.old parent path.old r path.new) }
+    ensures refusal { OnlyDevice result }
+{
+    find(volume, dbd, &Plain { pcb }, parent, path)
+}
+
 /// Searches from the row that a path leads to on for the first that satisfies a get; says whether there is one.
 fn search_for<S: BlockStore>(
     volume: &mut Volume<S>,
@@ -57,7 +76,7 @@ fn search_for<S: BlockStore>(
     let pcb = call.pcb;
     let ssas = call.ssas;
     if ssas.is_empty() {
-        search(volume, dbd, &Plain { pcb }, parent, path)
+        search_readable(volume, dbd, pcb, parent, path)
     } else {
         search(volume, dbd, &Named { pcb, ssas }, parent, path)
     }

@@ -116,6 +116,10 @@ fn missing(call: &Get<'_>, position: &mut Position) -> Outcome
 /// row, whose path the position then has, and `taken` its levels that are returned. Where there is none, GN without a qualified argument
 /// answers GB, and every other get GE.
 ///
+/// One block is in hand, and a walk of GN over the whole database takes one access for each time that it comes to another. It comes to
+/// each row, and to a row again behind the last of its children of each type; so each block is read once where the rows of each root
+/// lie in one block, and the roots in order.
+///
 /// Nothing but `Device` is refused, and the position is then as it was. No memory is taken.
 pub fn get<S: BlockStore>(
     volume: &mut Volume<S>,

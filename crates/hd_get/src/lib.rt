@@ -25,16 +25,9 @@ pub use arguments::target_code;
 pub use call::Get;
 pub use getting::get;
 pub use judge::Judge;
-pub use meeting::meets;
 pub use named::Named;
 pub use outcome::Outcome;
-#[cfg(test)]
-use plain::Plain;
 pub use searching::find;
-#[cfg(test)]
-use settling::settle;
-#[cfg(test)]
-use starting::{next, next_in_parent, unique};
 pub use taking::taken;
 pub use verdict::Verdict;
 

@@ -90,7 +90,7 @@ fn is_last_so<S: BlockStore>(
 
 /// Whether the last row of a path, of an SSA's type, has its qualification, and is the last so where the SSA has L and is not the
 /// root's.
-pub fn meets<S: BlockStore>(
+pub(crate) fn meets<S: BlockStore>(
     volume: &mut Volume<S>,
     dbd: &Dbd,
     ssa: &ResolvedSsa<'_>,

@@ -10,7 +10,7 @@ use crate::plain_gets::{PlainPlace, PlainSsa, plain_get, some_arguments, text_of
 use crate::plain_rows::{
     Chance, PlainRow, PlainType, Sight, database_of, pcb_of, some_rows, some_sights, some_types,
 };
-use crate::test_volumes::{Loading, load_row, open_file};
+use crate::test_volumes::{Stream, next_of_type, open_file, volume_of};
 use hd_calls::{Function, GetKind};
 use hd_dbd::{Dbd, Pcb, Refused};
 use hd_forest::Path;
@@ -220,31 +220,40 @@ fn lists<S: BlockStore>(
     Ok(None)
 }
 
-/// Loads the rows, and keeps their addresses.
-fn load<S: BlockStore>(
+/// The unload stream of some rows.
+fn stream_of(alloc: Global, dbd: &Dbd, rows: &[PlainRow]) -> Result<Vec<u8>, AllocError> {
+    let mut stream = Stream::start(alloc, dbd)?;
+    for row in rows {
+        stream.add(row.code, &row.bytes)?;
+    }
+    stream.end()
+}
+
+/// Keeps the addresses of the rows, which a volume has.
+fn keep_addresses<S: BlockStore>(
     volume: &mut Volume<S>,
     dbd: &Dbd,
     rows: &mut [PlainRow],
 ) -> Result<(), Refused>
     requires unsound { volume.old.is_sound ≡ false }
     requires sizes { volume.old.sizes ≡ stored_sizes dbd.now.types }
-    requires size { volume.old.size ≡ dbd.now.block_size }
     ensures unsound { volume.new.is_sound ≡ false }
     ensures sizes { volume.new.sizes ≡ volume.old.sizes }
 {
-    let mut loading = Loading::start();
+    let mut path = Path::new();
     for row in rows.iter_mut() {
-        row.address = load_row(volume, dbd, &mut loading, row.code, &row.bytes)?;
+        row.address = next_of_type(volume, dbd, &mut path, row.code)?;
     }
     Ok(())
 }
 
-/// Lists of gets over a new volume of a file.
+/// Lists of gets over the volume of a stream of the rows.
 fn run<L: Ledger>(
     alloc: Global,
     file: File,
     blank: Blank,
     dbd: &Dbd,
+    stream: &[u8],
     plain: &mut Plain,
     chance: &mut Chance,
     count: u32,
@@ -254,11 +263,11 @@ fn run<L: Ledger>(
     requires share { 0 < blank.parts }
 {
     let store: FileStore<L> = FileStore::over(file, dbd.block_size() as usize, blank)?;
-    let mut volume = match Volume::create(alloc, store, dbd, 1024) {
+    let mut volume = match volume_of(alloc, dbd, stream, store) {
         Ok(volume) => volume,
-        Err((_, refused)) => return Ok(Err(refused)),
+        Err(refused) => return Ok(Err(refused)),
     };
-    if let Err(refused) = load(&mut volume, dbd, &mut plain.rows) {
+    if let Err(refused) = keep_addresses(&mut volume, dbd, &mut plain.rows) {
         return Ok(Err(refused));
     }
     Ok(lists(alloc, &mut volume, dbd, plain, chance, count))
@@ -268,11 +277,21 @@ fn run_on(
     alloc: Global,
     file: File,
     dbd: &Dbd,
+    stream: &[u8],
     plain: &mut Plain,
     chance: &mut Chance,
     count: u32,
 ) -> io::Result<Result<Option<u32>, Refused>> {
-    run::<Brand>(alloc, file, Blank::new(1), dbd, plain, chance, count)
+    run::<Brand>(
+        alloc,
+        file,
+        Blank::new(1),
+        dbd,
+        stream,
+        plain,
+        chance,
+        count,
+    )
 }
 
 /// A database by chance with rows by chance.
@@ -306,8 +325,9 @@ fn agrees_with_a_walk_from_row_to_row(rt: HostRuntime) -> Result<(), Fail> {
         let mut chance = Chance::new(seed);
         let mut plain = some_plain(alloc, &mut chance)?;
         let dbd = some_database(alloc, &mut chance, &plain.types).expect(&rt, "a database");
+        let stream = stream_of(alloc, &dbd, &plain.rows)?;
         let file = open_file(&rt, "gets", true)?;
-        let wrong = run_on(alloc, file, &dbd, &mut plain, &mut chance, 20)?;
+        let wrong = run_on(alloc, file, &dbd, &stream, &mut plain, &mut chance, 20)?;
         assert!(rt; wrong == Ok(None), "{seed}: {wrong:?}");
     }
     fs::remove_file(&rt, "gets")?;

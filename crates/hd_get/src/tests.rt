@@ -1,7 +1,11 @@
 ghost use Rattle.std.specs.Prelude.{◌≡◌, ◌<◌, false};
 ghost use Rattle.hd_dbd.specs.Facts.{stored_sizes};
 
-use crate::{Plain, find, meets, next, next_in_parent, settle, unique};
+use crate::meeting::meets;
+use crate::plain::Plain;
+use crate::searching::find;
+use crate::settling::settle;
+use crate::starting::{next, next_in_parent, unique};
 use hd_calls::{Function, GetKind};
 use hd_dbd::{Dbd, Name8, Pcb, Refused, Sens};
 use hd_forest::{Path, next_row, tip_of};

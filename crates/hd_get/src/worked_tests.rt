@@ -1,4 +1,4 @@
-//! Lists of gets over the sample with the answers that the rules of DL/I give.
+//! Lists of gets over a reload of the sample with the answers that the rules of DL/I give.
 ghost use Rattle.std.specs.Prelude.{◌≡◌, ◌<◌, false};
 ghost use Rattle.hd_dbd.specs.Facts.{stored_sizes};
 
@@ -6,20 +6,20 @@ use crate::named_tests::texts;
 use crate::outcome::Outcome;
 use crate::random_tests::get_by;
 use crate::sample_with_fields::{database, pcb};
-use crate::test_volumes::open_file;
+use crate::test_volumes::{open_file, volume_of};
 use hd_calls::GetKind::{self, Next, NextInParent, Unique};
 use hd_dbd::{Dbd, Pcb, Refused, Status};
 use hd_position::{Position, row_on};
-use hd_sample::image;
+use hd_sample::{RECORDS, stream_of};
 use hd_volume::{BlockStore, FileStore, Volume};
 use std::alloc::Global;
 use std::fs::{self, File};
-use std::io::{self, Write};
+use std::io;
 use std::marker::Brand;
 use std::sync::ledger::{Blank, Ledger};
 use std::test::Fail;
 
-/// The addresses of the sample's rows.
+/// The addresses at which a reload puts the sample's rows.
 const ALGEBRA: u32 = 136;
 
 const CLASS_01: u32 = 176;
@@ -30,9 +30,9 @@ const EVE: u32 = 216;
 
 const CLASS_02: u32 = 232;
 
-const EULER: u32 = 264;
+const EULER: u32 = 392;
 
-const LOGIC: u32 = 280;
+const LOGIC: u32 = 408;
 
 const COURSE101: &[u8] = b"COURSE  (NUM     EQ101)";
 
@@ -215,23 +215,23 @@ fn steps<S: BlockStore>(
     Ok(None)
 }
 
-/// What is held by a path in the sample volume of a file.
+/// What is held by a path in the volume of a stream.
 fn hold<L: Ledger>(
     alloc: Global,
     file: File,
     blank: Blank,
     dbd: &Dbd,
     pcb: &Pcb,
+    stream: &[u8],
 ) -> io::Result<Result<[bool; 3], Refused>>
     requires name { blank.name ≡ L.name }
     requires parts { blank.parts ≡ L.parts }
     requires share { 0 < blank.parts }
-    requires size { dbd.now.block_size ≡ 128 }
 {
-    let store: FileStore<L> = FileStore::over(file, 128, blank)?;
-    let mut volume = match Volume::load(alloc, store, dbd) {
+    let store: FileStore<L> = FileStore::over(file, dbd.block_size() as usize, blank)?;
+    let mut volume = match volume_of(alloc, dbd, stream, store) {
         Ok(volume) => volume,
-        Err((_, refused)) => return Ok(Err(refused)),
+        Err(refused) => return Ok(Err(refused)),
     };
     Ok(held_by_path(alloc, &mut volume, dbd, pcb))
 }
@@ -241,36 +241,29 @@ fn hold_on(
     file: File,
     dbd: &Dbd,
     pcb: &Pcb,
-) -> io::Result<Result<[bool; 3], Refused>>
-    requires { dbd.now.block_size ≡ 128 }
-{
-    hold::<Brand>(alloc, file, Blank::new(1), dbd, pcb)
+    stream: &[u8],
+) -> io::Result<Result<[bool; 3], Refused>> {
+    hold::<Brand>(alloc, file, Blank::new(1), dbd, pcb, stream)
 }
 
-/// The steps of a list over the sample volume of a file, or over a new one without rows.
+/// The steps of a list over the volume of a stream.
 fn run<L: Ledger>(
     alloc: Global,
     file: File,
     blank: Blank,
     dbd: &Dbd,
     pcb: &Pcb,
+    stream: &[u8],
     list: &[Step],
-    new: bool,
 ) -> io::Result<Result<Option<usize>, Refused>>
     requires name { blank.name ≡ L.name }
     requires parts { blank.parts ≡ L.parts }
     requires share { 0 < blank.parts }
-    requires size { dbd.now.block_size ≡ 128 }
 {
-    let store: FileStore<L> = FileStore::over(file, 128, blank)?;
-    let made = if new {
-        Volume::create(alloc, store, dbd, 16)
-    } else {
-        Volume::load(alloc, store, dbd)
-    };
-    let mut volume = match made {
+    let store: FileStore<L> = FileStore::over(file, dbd.block_size() as usize, blank)?;
+    let mut volume = match volume_of(alloc, dbd, stream, store) {
         Ok(volume) => volume,
-        Err((_, refused)) => return Ok(Err(refused)),
+        Err(refused) => return Ok(Err(refused)),
     };
     Ok(steps(alloc, &mut volume, dbd, pcb, list))
 }
@@ -280,12 +273,10 @@ fn run_on(
     file: File,
     dbd: &Dbd,
     pcb: &Pcb,
+    stream: &[u8],
     list: &[Step],
-    new: bool,
-) -> io::Result<Result<Option<usize>, Refused>>
-    requires { dbd.now.block_size ≡ 128 }
-{
-    run::<Brand>(alloc, file, Blank::new(1), dbd, pcb, list, new)
+) -> io::Result<Result<Option<usize>, Refused>> {
+    run::<Brand>(alloc, file, Blank::new(1), dbd, pcb, stream, list)
 }
 
 #[test]
@@ -301,10 +292,10 @@ fn answers_as_the_rules_say(rt: HostRuntime) -> Result<(), Fail> {
         &NOTHING_FOUND,
         &BELOW_BY_ARGUMENTS,
     ];
+    let stream = stream_of(rt.alloc(), RECORDS)?;
     for (number, list) in lists.into_iter().enumerate() {
-        let mut file = open_file(&rt, "worked", true)?;
-        file.write_all(&image())?;
-        let wrong = run_on(rt.alloc(), file, &dbd, &all, list, false)?;
+        let file = open_file(&rt, "worked", true)?;
+        let wrong = run_on(rt.alloc(), file, &dbd, &all, &stream, list)?;
         assert!(rt; wrong == Ok(None), "{number}: {wrong:?}");
     }
     fs::remove_file(&rt, "worked")?;
@@ -316,12 +307,13 @@ fn answers_without_rows_and_without_students(rt: HostRuntime) -> Result<(), Fail
     let dbd = database(rt.alloc()).expect(&rt, "a database");
     let all = pcb(rt.alloc(), "AP", b"NONE    ")?;
     let file = open_file(&rt, "empty", true)?;
-    let wrong = run_on(rt.alloc(), file, &dbd, &all, &NO_ROWS, true)?;
+    let empty = stream_of(rt.alloc(), b"\0\0\0\0\0")?;
+    let wrong = run_on(rt.alloc(), file, &dbd, &all, &empty, &NO_ROWS)?;
     assert_eq!(rt; wrong, Ok(None));
     let some = pcb(rt.alloc(), "A", b"STUD    ")?;
-    let mut file = open_file(&rt, "empty", true)?;
-    file.write_all(&image())?;
-    let wrong = run_on(rt.alloc(), file, &dbd, &some, &NO_STUDENTS, false)?;
+    let file = open_file(&rt, "empty", true)?;
+    let stream = stream_of(rt.alloc(), RECORDS)?;
+    let wrong = run_on(rt.alloc(), file, &dbd, &some, &stream, &NO_STUDENTS)?;
     assert_eq!(rt; wrong, Ok(None));
     fs::remove_file(&rt, "empty")?;
     Ok(())
@@ -331,9 +323,9 @@ fn answers_without_rows_and_without_students(rt: HostRuntime) -> Result<(), Fail
 fn holds_the_rows_of_arguments_with_d(rt: HostRuntime) -> Result<(), Fail> {
     let dbd = database(rt.alloc()).expect(&rt, "a database");
     let all = pcb(rt.alloc(), "AP", b"NONE    ")?;
-    let mut file = open_file(&rt, "held", true)?;
-    file.write_all(&image())?;
-    let held = hold_on(rt.alloc(), file, &dbd, &all)?;
+    let file = open_file(&rt, "held", true)?;
+    let stream = stream_of(rt.alloc(), RECORDS)?;
+    let held = hold_on(rt.alloc(), file, &dbd, &all, &stream)?;
     assert_eq!(rt; held, Ok([true, false, true]));
     fs::remove_file(&rt, "held")?;
     Ok(())

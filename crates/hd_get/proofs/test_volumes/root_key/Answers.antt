@@ -1,9 +1,0 @@
-use Rattle.std.proofs.Common.{ℕ, List, length, ap, ◌∙◌}
-use Rattle.hd_keeping.proofs.RootTypes.{root-key-long}
-use Rattle.hd_get.proofs.test_volumes.root_key.Goals as goal
-
-pub returns : goal.returns
-returns c = record {
-  whole = ap (λ (key : List ℕ). length key) c.key_of.ensures.value
-      ∙ root-key-long c.args.dbd.now.block_size c.args.dbd.now.frspc c.args.dbd.now.types c.args.bytes.now c.key_of.ensures.fit c.requires;
-}
