@@ -3,3 +3,4 @@ pub mod Walk
 pub mod Place
 pub mod RowCalls
 pub mod Session
+pub mod Giving

@@ -3,6 +3,7 @@
 
 mod buffer;
 mod get;
+mod giving;
 mod place;
 mod request;
 mod rows;
@@ -10,6 +11,7 @@ mod search;
 mod validity;
 
 pub use buffer::IoArea;
+pub use giving::give;
 pub use request::{Answer, Call};
 pub use rows::RowSession;
 pub use validity::valid_rows;
