@@ -4,3 +4,4 @@ pub mod Place
 pub mod RowCalls
 pub mod Session
 pub mod Giving
+pub mod Sessions

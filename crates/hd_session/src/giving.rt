@@ -1,5 +1,6 @@
 ghost use Rattle.std.specs.Prelude.{◌≡◌, ◌≤◌, IsTrue, IfOk, IfErr, OnOk, option_map};
 ghost use Rattle.hd_dbd.specs.Hierarchy.{longest_path, type_of};
+ghost use Rattle.hd_dbd.specs.Calls.{bare};
 ghost use Rattle.hd_dbd.specs.Refusals.{OnlyDevice};
 ghost use Rattle.hd_volume.specs.Calls.{IsRead};
 ghost use Rattle.hd_prefix.specs.Fields.{code_of};
@@ -146,4 +147,17 @@ pub fn give<S: BlockStore>(
         io.clear();
     }
     given
+}
+
+/// The answer of a status that gives no row.
+pub fn give_none(status: Status, io: &mut IoArea) -> Answer
+    ensures reply { reply_of result io.new ≡ bare status }
+    ensures same_room { io.new.room ≡ io.old.room }
+{
+    io.clear();
+    Answer {
+        status,
+        level: 0,
+        segment: None,
+    }
 }

@@ -3,6 +3,7 @@
 
 mod buffer;
 mod get;
+mod getting;
 mod giving;
 mod place;
 mod request;
