@@ -19,7 +19,7 @@ use hd_position::Levels;
 use hd_volume::{BlockStore, Volume};
 
 /// Whether a level is one of these.
-fn is_among(levels: &Levels, level: u8) -> bool
+pub fn is_among(levels: &Levels, level: u8) -> bool
     ensures { result ≡ is_among levels.now level }
 {
     levels.as_slice().iter().any(|own| *own == level)

@@ -9,6 +9,7 @@ mod place;
 mod request;
 mod rows;
 mod search;
+mod updating;
 mod validity;
 
 pub use buffer::IoArea;
