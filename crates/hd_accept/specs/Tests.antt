@@ -11,7 +11,7 @@ use Rattle.hd_dbd.specs.Forest.{Forest}
 use Rattle.hd_dbd.specs.Views.{Setting}
 use Rattle.hd_calls.specs.declared.call.Function.{Function}
 use Rattle.hd_calls.specs.Access.{may, gives_replace}
-use Rattle.hd_calls.specs.Ssas.{Ssa}
+use Rattle.hd_calls.specs.Ssas.{Ssa, resolve}
 use Rattle.hd_calls.specs.Steps.{AcceptedCall, is_excepted, last_tests, accepted_call}
 use Rattle.hd_volume.specs.Volumes.{VolumeState}
 use Rattle.hd_links.specs.Placed.{Placed}
@@ -66,3 +66,8 @@ abbrev pub IsTestedText : Database → VolumeState → View → Kept → List �
 IsTestedText d v pcb k function ssas result =
     (f : Forest Placed) (q : Position) (area : List ℕ) → IsPositionIn d v f k q
     → accepted_call (record { types = d.types; pcb = pcb }) (rows_of f) q (record { function = function; ssas = ssas; area = area }) ≡ result
+
+-- the arguments of an accepted call are what their texts mean to the PCB
+abbrev pub AreResolved : Database → View → List (List ℕ) → Result AcceptedCall Status → Type 0
+AreResolved d pcb texts (Ok a) = resolve (record { types = d.types; pcb = pcb }) a.function texts ≡ Ok a.ssas
+AreResolved d pcb texts (Err status) = Unit {0}

@@ -3,3 +3,5 @@ pub mod Walk
 pub mod Place
 pub mod RowCalls
 pub mod Session
+pub mod Giving
+pub mod Sessions

@@ -6,6 +6,9 @@ use hd_dbd::Dbd;
 use std::alloc::{AllocError, Global};
 use std::marker::Model;
 
+/// The bytes of a key of 255 bytes on each of 15 levels, and of one more.
+const KEY_ROOM: usize = 4080;
+
 /// The bytes of an answer: the concatenated key and the area. Their room is made before the first call.
 #[derive(Debug, Drop)]
 pub struct IoArea {
@@ -31,7 +34,7 @@ impl IoArea {
         ensures { IfOk result (λ b. b ≡ record { key = []; area = []; room = longest_path dbd.now.types }) }
     {
         let room = dbd.longest_path();
-        let key = Vec::with_capacity(alloc, 4080)?;
+        let key = Vec::with_capacity(alloc, KEY_ROOM)?;
         let area = Vec::with_capacity(alloc, room)?;
         Ok(IoArea { key, area, room })
     }
@@ -64,6 +67,28 @@ impl IoArea {
         ensures { self.new ≡ record self.old { key = self.old.key ++ bytes.now } }
     {
         let _ = self.key.extend_from_slice(bytes);
+    }
+
+    /// Adds to the key, where there is room.
+    pub(crate) fn add_key(&mut self, bytes: &[u8])
+        ensures added { length self.old.key + length bytes.now ≤ KEY_ROOM → self.new ≡ record self.old { key = self.old.key ++ bytes.now } }
+        ensures same_room { self.new.room ≡ self.old.room }
+    {
+        let filled = self.key.len();
+        if filled <= KEY_ROOM && bytes.len() <= KEY_ROOM - filled {
+            self.push_key(bytes);
+        }
+    }
+
+    /// Adds to the area, where there is room.
+    pub(crate) fn add_area(&mut self, bytes: &[u8])
+        ensures added { length self.old.area + length bytes.now ≤ self.old.room → self.new ≡ record self.old { area = self.old.area ++ bytes.now } }
+        ensures same_room { self.new.room ≡ self.old.room }
+    {
+        let filled = self.area.len();
+        if filled <= self.room && bytes.len() <= self.room - filled {
+            self.push_area(bytes);
+        }
     }
 
     /// Adds to the area.

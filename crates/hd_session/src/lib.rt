@@ -3,13 +3,17 @@
 
 mod buffer;
 mod get;
+mod getting;
+mod giving;
 mod place;
 mod request;
 mod rows;
 mod search;
+mod updating;
 mod validity;
 
 pub use buffer::IoArea;
+pub use giving::give;
 pub use request::{Answer, Call};
 pub use rows::RowSession;
 pub use validity::valid_rows;
