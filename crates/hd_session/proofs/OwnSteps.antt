@@ -9,7 +9,7 @@ use Rattle.hd_dbd.specs.Positions.{Position}
 use Rattle.hd_dbd.specs.Calls.{Reply}
 use Rattle.hd_dbd.specs.Forest.{Forest}
 use Rattle.hd_calls.specs.Moves.{unchanged}
-use Rattle.hd_calls.specs.Steps.{State, answered, position_at}
+use Rattle.hd_calls.specs.Steps.{Effect, State, answered, position_at}
 use Rattle.hd_calls.specs.Runs.{Follows}
 use Rattle.hd_volume.specs.Volumes.{VolumeState}
 use Rattle.hd_volume.specs.Calls.{IsRead}
@@ -80,3 +80,8 @@ get_stepped d u w old new st number c reply read sound R some within is stands =
       };
       follows = same_follows d u R.placed st.rows w.image R.holds R.rows (after-read d u w read sound).image;
     }
+
+-- an equal effect is as much of a step
+pub step_as : {reply : Reply} (d : Database) (v : VolumeState) (st : State) (number : ℕ) (e e2 : Effect) (w : VolumeState) (new : List Kept) → e ≡ e2 → IsStep d v st number e reply w new
+    → IsStep d v st number e2 reply w new
+step_as {reply} d v st number e e2 w new same step = subst (λ (x : Effect). IsStep d v st number x reply w new) same step

@@ -1,14 +1,14 @@
 -- What a call of a session comes to.
-use Rattle.std.specs.Prelude.{◌≡◌, IsTrue, ℕ, ◌-◌, List, [], ◌∷◌, length, cond, Some, slice_index}
+use Rattle.std.specs.Prelude.{◌≡◌, ◌≢◌, IsTrue, ℕ, ◌-◌, List, [], ◌∷◌, length, cond, Some, slice_index}
 use Rattle.hd_dbd.specs.Types.{SegmentType, View}
 use Rattle.hd_dbd.specs.Hierarchy.{Database, level_of}
 use Rattle.hd_dbd.specs.Positions.{Position}
-use Rattle.hd_dbd.specs.Calls.{Reply, bare, row_reply}
+use Rattle.hd_dbd.specs.Calls.{CallText, Reply, bare, row_reply}
 use Rattle.hd_dbd.specs.declared.answer.Status.TheVariants.{Blank}
 use Rattle.hd_dbd.specs.Forest.{Forest}
 use Rattle.hd_calls.specs.Ssas.{Ssa}
 use Rattle.hd_calls.specs.Moves.{Change}
-use Rattle.hd_calls.specs.Steps.{Effect, answered, State, state_after, position_at, get_effect}
+use Rattle.hd_calls.specs.Steps.{Effect, answered, State, AcceptedCall, own_step, step, state_after, position_at, get_effect}
 use Rattle.hd_calls.specs.Runs.{Follows}
 use Rattle.hd_volume.specs.Volumes.{VolumeState}
 use Rattle.hd_links.specs.Placed.{Placed}
@@ -20,7 +20,9 @@ use Rattle.hd_get.specs.declared.outcome.Outcome.{Outcome}
 use Rattle.hd_get.specs.declared.outcome.Outcome.TheVariants.{Found, Missing}
 use Rattle.hd_update.specs.Calls.{replace_effect, delete_effect}
 use Rattle.hd_session.specs.Giving.{is_among}
-use Rattle.hd_update.specs.States.{Represents}
+use Rattle.hd_update.specs.States.{Represents, IsUndone}
+use Rattle.hd_dbd.specs.declared.answer.Refused.{Refused}
+use Rattle.hd_dbd.specs.declared.answer.Refused.TheVariants.{Device}
 
 -- ---- a call
 
@@ -79,3 +81,17 @@ IsReplaceStep d v old number ssas area reply w new = (pcb : View) → IsStepDone
 -- DLET was answered, whatever the PCB sees
 abbrev pub IsDeleteStep : Database → VolumeState → List Kept → ℕ → List Ssa → Reply → VolumeState → List Kept → Type 0
 IsDeleteStep d v old number ssas reply w new = (pcb : View) → IsStepDone d v old number (delete_effect d pcb number ssas) reply w new
+
+-- ---- a call of a PCB
+
+-- what a call that passed its tests does in a state
+abbrev pub own_in : Database → View → ℕ → List ℕ → AcceptedCall → State → Effect
+own_in d pcb number area a st = own_step (record { types = d.types; pcb = pcb }) st.rows (position_at st number) area a.function a.ssas
+
+-- what a call does in a state
+abbrev pub call_in : Database → View → ℕ → CallText → State → Effect
+call_in d pcb number call st = step d.types pcb st number call
+
+-- Where a refusal is not of a failed access, the volume's bytes and what is kept are as they were.
+abbrev pub IsUndoneUnlessDevice : VolumeState → List Kept → Refused → VolumeState → List Kept → Type 0
+IsUndoneUnlessDevice v old e w new = e ≢ Device → IsUndone v old w new

@@ -2,6 +2,7 @@
 #![tactic(auto)]
 
 mod buffer;
+mod calling;
 mod get;
 mod getting;
 mod giving;

@@ -1,4 +1,4 @@
-ghost use Rattle.std.specs.Prelude.{◌≡◌, ◌⊎◌, ◌<◌, ◌≤◌, length, take, IfOk, IfErr};
+ghost use Rattle.std.specs.Prelude.{◌≡◌, ◌⊎◌, ◌<◌, ◌≤◌, length, take, IsTrue, IfOk, IfErr};
 ghost use Rattle.hd_dbd.specs.Hierarchy.{longest_path};
 ghost use Rattle.hd_dbd.specs.Refusals.{OnlyDevice};
 ghost use Rattle.hd_volume.specs.Calls.{IsCall, IsRead};
@@ -96,6 +96,35 @@ pub fn answer_repl<S: BlockStore>(
 ) -> Result<Answer, Refused>
     requires number { (0 < number) × (number ≤ length positions.old) }
     requires state { HasState dbd.now volume.old positions.old }
+    requires held { IsTrue volume.old.is_sound → 0 < length (kept_of positions.old number).held }
+    requires room { longest_path dbd.now.types ≤ io.old.room }
+    ensures call { IsCall volume.old result volume.new }
+    ensures done { IfOk result (λ a. IsReplaceStep dbd.now volume.old positions.old number ssas.now area.now (reply_of a io.new) volume.new positions.new) }
+    ensures undone { IfErr result (λ _. IsUndone volume.old positions.old volume.new positions.new) }
+    ensures area { IfErr result (λ e. IsReplaceAreaWrong dbd.now volume.old positions.old number ssas.now area.now e) }
+    ensures empty { IfErr result (λ _. IsEmpty io.new) }
+    ensures same_room { io.new.room ≡ io.old.room }
+    ensures many { length positions.new ≡ length positions.old }
+    ensures refusal { IfErr result (λ e. (e ≡ Refused.Area) ⊎ (e ≡ Refused.Device)) }
+{
+    if positions[number - 1].held().as_slice().is_empty() {
+        return Ok(give_none(Status::DJ, io));
+    }
+    replace_held(volume, dbd, positions, number, ssas, area, io)
+}
+
+/// REPL where the PCB holds a row.
+fn replace_held<S: BlockStore>(
+    volume: &mut Volume<S>,
+    dbd: &Dbd,
+    positions: &mut [Position],
+    number: usize,
+    ssas: &[ResolvedSsa<'_>],
+    area: &[u8],
+    io: &mut IoArea,
+) -> Result<Answer, Refused>
+    requires number { (0 < number) × (number ≤ length positions.old) }
+    requires state { HasState dbd.now volume.old positions.old }
     requires held { 0 < length (kept_of positions.old number).held }
     requires room { longest_path dbd.now.types ≤ io.old.room }
     ensures call { IsCall volume.old result volume.new }
@@ -104,6 +133,7 @@ pub fn answer_repl<S: BlockStore>(
     ensures area { IfErr result (λ e. IsReplaceAreaWrong dbd.now volume.old positions.old number ssas.now area.now e) }
     ensures empty { IfErr result (λ _. IsEmpty io.new) }
     ensures same_room { io.new.room ≡ io.old.room }
+    ensures many { length positions.new ≡ length positions.old }
     ensures refusal { IfErr result (λ e. (e ≡ Refused.Area) ⊎ (e ≡ Refused.Device)) }
 {
     let level = lowest_level(positions[number - 1].held());
@@ -134,6 +164,7 @@ pub fn answer_dlet<S: BlockStore>(
     ensures undone { IfErr result (λ _. IsUndone volume.old positions.old volume.new positions.new) }
     ensures empty { IfErr result (λ _. IsEmpty io.new) }
     ensures same_room { io.new.room ≡ io.old.room }
+    ensures many { length positions.new ≡ length positions.old }
     ensures refusal { OnlyDevice result }
 {
     let level = deleted_level(dbd, ssas, positions[number - 1].held());
