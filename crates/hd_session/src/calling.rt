@@ -1,25 +1,27 @@
-ghost use Rattle.std.specs.Prelude.{◌≡◌, ◌≢◌, ◌<◌, ◌≤◌, None, length, IsTrue, IfOk, IfErr};
+ghost use Rattle.std.specs.Prelude.{◌≡◌, ◌≢◌, ◌<◌, ◌≤◌, None, Some, length, IsTrue, IfOk, IfErr};
 ghost use Rattle.hd_dbd.specs.Hierarchy.{longest_path};
 ghost use Rattle.hd_volume.specs.Calls.{IsCall};
+ghost use Rattle.hd_calls.specs.Functions.{function_of};
 ghost use Rattle.hd_seek.specs.Admits.{Descend};
 ghost use Rattle.hd_update.specs.Positions.{unheld_at};
 ghost use Rattle.hd_update.specs.States.{HasState, IsAreaWrong, kept_of};
 ghost use Rattle.hd_dbd.specs.Calls.{bare};
 ghost use Rattle.hd_session.specs.RowCalls.{reply_of};
 ghost use Rattle.hd_session.specs.Giving.{IsEmpty};
-ghost use Rattle.hd_session.specs.Sessions.{IsStepDone, IsUndoneUnlessDevice, own_in};
+ghost use Rattle.hd_session.specs.Sessions.{IsStepDone, IsUndoneUnlessDevice, own_in, call_in};
 
 use crate::buffer::IoArea;
 use crate::getting::answer_get;
 use crate::giving::give_none;
-use crate::request::Answer;
+use crate::request::{Answer, Call};
 use crate::updating::{answer_dlet, answer_repl};
-use hd_accept::Accepted;
+use hd_accept::{Accepted, accept};
 use hd_calls::Function;
 use hd_dbd::{Dbd, Pcb, Refused, Status};
 use hd_get::Get;
 use hd_position::Position;
 use hd_volume::{BlockStore, Volume};
+use std::alloc::Global;
 
 /// The answer of a call that failed a test: its status, and the hold of its PCB ends.
 fn fail(positions: &mut [Position], number: usize, status: Status, io: &mut IoArea) -> Answer
@@ -74,5 +76,46 @@ fn answer_accepted<S: BlockStore>(
         Function::Insert | Function::Delete => {
             answer_dlet(volume, dbd, positions, number, ssas, io)
         }
+    }
+}
+
+/// One call of the PCB of a number, counted from 1, where it is no ISRT: its tests in their order, and then its own work.
+pub fn call_step<S: BlockStore>(
+    alloc: Global,
+    volume: &mut Volume<S>,
+    dbd: &Dbd,
+    pcb: &Pcb,
+    positions: &mut [Position],
+    number: usize,
+    call: &Call,
+    io: &mut IoArea,
+) -> Result<Answer, Refused>
+    requires number { (0 < number) × (number ≤ length positions.old) }
+    requires state { HasState dbd.now volume.old positions.old }
+    requires no_insert { function_of call.now.function ≢ Some Function.Insert }
+    requires room { longest_path dbd.now.types ≤ io.old.room }
+    ensures call { IsCall volume.old result volume.new }
+    ensures done { IfOk result (λ a. IsStepDone dbd.now volume.old positions.old number (call_in dbd.now pcb.now number call.now) (reply_of a io.new) volume.new positions.new) }
+    ensures undone { IfErr result (λ e. IsUndoneUnlessDevice volume.old positions.old e volume.new positions.new) }
+    ensures area { IfErr result (λ e. IsAreaWrong dbd.now volume.old positions.old (call_in dbd.now pcb.now number call.now) e) }
+    ensures empty { IfErr result (λ _. IsEmpty io.new) }
+    ensures same_room { io.new.room ≡ io.old.room }
+    ensures many { length positions.new ≡ length positions.old }
+    ensures memory { length call.now.ssas ≤ 4 → IfErr result (λ e. e ≢ Refused.Memory) }
+{
+    io.clear();
+    match accept(
+        alloc,
+        volume,
+        dbd,
+        pcb,
+        &positions[number - 1],
+        call.func,
+        &call.ssas,
+    )? {
+        Err(status) => Ok(fail(positions, number, status, io)),
+        Ok(accepted) => answer_accepted(
+            volume, dbd, pcb, positions, number, &accepted, &call.area, io,
+        ),
     }
 }
