@@ -1,13 +1,12 @@
 -- What is given of the rows on a path, put together row by row.
-use Rattle.std.proofs.Common.{◌≡◌, ◌≢◌, ◌-◌, ℕ, zero, suc, ◌+◌, ◌*◌, ◌<◌, ◌≤◌, List, [], ◌∷◌, ◌++◌, length, map, mul-suc, Bool, true, false, cond, arith, Option, Some, None, refl, sym, ap, ap₂, ◌∙◌, subst, inl, inr, IsTrue}
-use Rattle.std.specs.Prelude.{◌==◌, ◌||◌, flat_map, slice_get, slice_index}
-use Rattle.std.specs.List.{list_any}
-use Rattle.std.proofs.lemmas.Bool.{cases_Bool, cases_lt, eqb-true, eq-eqb, or_cases}
+use Rattle.std.proofs.Common.{◌≡◌, ◌≢◌, ◌-◌, ℕ, suc, ◌+◌, ◌*◌, ◌<◌, ◌≤◌, List, [], ◌∷◌, ◌++◌, length, map, mul-suc, Bool, true, false, cond, arith, Option, Some, None, refl, sym, ap, ap₂, ◌∙◌, subst, inl, inr}
+use Rattle.std.specs.Prelude.{◌==◌, ◌||◌, flat_map, slice_get}
+use Rattle.std.proofs.lemmas.Bool.{cases_Bool, cases_lt, eqb-true, eq-eqb}
 use Rattle.std.proofs.lemmas.List.{length-append, append-nil, append_assoc}
-use Rattle.hd_position.specs.Kept.{row_on, Ascend, AreRowsOn}
+use Rattle.hd_position.specs.Kept.{Ascend}
 use Rattle.hd_position.proofs.Splices.{AllBelow}
 use Rattle.hd_session.specs.Giving.{is_among, bytes_at}
-use Rattle.hd_session.proofs.PathBytes.{total, total_join}
+use Rattle.hd_session.proofs.PathBytes.{total}
 
 -- ---- one row more
 

@@ -1,12 +1,12 @@
 -- What is given of the rows on a path of a volume.
-use Rattle.std.proofs.Common.{◌≡◌, ℕ, zero, suc, ◌+◌, ◌*◌, ◌<◌, ◌≤◌, List, [], ◌∷◌, ◌++◌, length, map, take, drop, Bool, true, cond, arith, Some, refl, sym, ap, ap₂, ◌∙◌, subst, IsTrue}
+use Rattle.std.proofs.Common.{◌≡◌, ℕ, zero, suc, ◌+◌, ◌*◌, ◌<◌, ◌≤◌, List, [], ◌∷◌, ◌++◌, length, map, take, drop, cond, arith, refl, sym, ap, ap₂, ◌∙◌, subst}
 use Rattle.std.specs.Prelude.{◌-◌, flat_map, slice_get, slice_index}
 use Rattle.std.proofs.lemmas.Grind.{take_at_read}
-use Rattle.std.proofs.lemmas.List.{length-append, append-nil, take-append-drop, length-take-le}
+use Rattle.std.proofs.lemmas.List.{length-take-le}
 use Rattle.hd_dbd.specs.Types.{SegmentType}
 use Rattle.hd_dbd.specs.Hierarchy.{Database, longest_path}
 use Rattle.hd_dbd.specs.Segment.{Segment}
-use Rattle.hd_dbd.specs.Rows.{key_of, valid}
+use Rattle.hd_dbd.specs.Rows.{key_of}
 use Rattle.hd_dbd.specs.Paths.{row_at, level_at, path_of, keys_of}
 use Rattle.hd_dbd.specs.Forest.{Forest}
 use Rattle.hd_dbd.proofs.LevelLaw.{leveled}
@@ -14,7 +14,7 @@ use Rattle.hd_dbd.proofs.KeyLengths.{key_of_short}
 use Rattle.hd_volume.specs.Volumes.{VolumeState}
 use Rattle.hd_links.specs.Links.{Links, IsSegment, segment_at}
 use Rattle.hd_links.specs.Placed.{Placed}
-use Rattle.hd_links.specs.Steps.{rows_of, address_at, path_at, RowsHaveAddresses}
+use Rattle.hd_links.specs.Steps.{rows_of, address_at, RowsHaveAddresses}
 use Rattle.hd_links.proofs.Numbers.{rows_addressed}
 use Rattle.hd_links.proofs.ValidRows.{held_valid}
 use Rattle.hd_image.specs.Records.{links_of, IsVolumeOf}
@@ -26,7 +26,6 @@ use Rattle.hd_position.proofs.Leaving.{passed_below}
 use Rattle.hd_image.proofs.Found.{records-link}
 use Rattle.hd_position.specs.Laws.{IsHeld}
 use Rattle.hd_position.proofs.Before.{path_levels}
-use Rattle.hd_session.specs.Buffer.{Buffer, KEY_ROOM}
 use Rattle.hd_session.specs.Giving.{HasRoom, with_row, is_among, bytes_at, with_path}
 use Rattle.hd_session.proofs.Keys.{flat_map_push}
 use Rattle.hd_session.proofs.PathBytes.{total, total_join, path_short}

@@ -1,33 +1,31 @@
 -- The row that a get found, and its answer.
-use Rattle.std.proofs.Common.{◌≡◌, ℕ, suc, ◌+◌, ◌<◌, ◌≤◌, List, length, map, Bool, true, false, cond, Option, Some, None, IsTrue, refl, sym, ap, ◌∙◌, subst, arith}
+use Rattle.std.proofs.Common.{◌≡◌, ℕ, suc, ◌+◌, List, length, map, Bool, true, false, cond, Option, Some, None, IsTrue, refl, sym, ap, ◌∙◌, subst, arith}
 use Rattle.std.specs.Prelude.{is_none}
 use Rattle.std.specs.List.{list_all}
 use Rattle.hd_dbd.specs.declared.answer.Status.{Status}
 use Rattle.hd_dbd.specs.declared.answer.Status.TheVariants.{GB, GE}
 use Rattle.hd_dbd.specs.Hierarchy.{Database}
-use Rattle.hd_dbd.specs.Segment.{Segment}
-use Rattle.hd_dbd.specs.Paths.{row_at, level_at, path_of}
+use Rattle.hd_dbd.specs.Paths.{row_at, level_at}
 use Rattle.hd_dbd.specs.Positions.{Position, at_start}
 use Rattle.hd_dbd.specs.Calls.{Reply, bare, row_reply}
 use Rattle.hd_dbd.specs.Forest.{Forest}
 use Rattle.hd_calls.specs.declared.call.GetKind.{GetKind}
 use Rattle.hd_calls.specs.declared.call.GetKind.TheVariants.{Unique, Next, NextInParent}
 use Rattle.hd_calls.specs.Ssas.{Ssa}
-use Rattle.hd_calls.specs.Gets.{unheld, get_missing, get_found, get_status, path_rows, bytes_of}
+use Rattle.hd_calls.specs.Gets.{unheld, get_missing, get_status, path_rows, bytes_of}
 use Rattle.hd_calls.specs.NoLostUpdate.{is_done}
 use Rattle.hd_volume.specs.Volumes.{VolumeState}
 use Rattle.hd_links.specs.Links.{Links}
 use Rattle.hd_links.specs.Placed.{Placed}
-use Rattle.hd_links.specs.Steps.{rows_of, address_at, path_at}
+use Rattle.hd_links.specs.Steps.{rows_of, address_at}
 use Rattle.hd_image.specs.Records.{links_of}
 use Rattle.hd_forest.specs.Rows.{IsOnRow}
 use Rattle.hd_position.specs.Kept.{Kept, StandsFor, path_passed}
-use Rattle.hd_position.specs.Gets.{AreTaken}
 use Rattle.hd_seek.specs.Admits.{Descend}
 use Rattle.hd_get.specs.declared.outcome.Outcome.TheVariants.{Found}
 use Rattle.hd_get.specs.Gets.{GetCall, IsOutcomeOf, IsPositionIn, answer_to, levels_taken}
 use Rattle.hd_get.specs.Found.{sought_by}
-use Rattle.hd_get.proofs.Seeking.{IsFoundBy, found_by, answer_found, answer_missing, status_is, status_done, taken_are}
+use Rattle.hd_get.proofs.Seeking.{found_by, answer_found, answer_missing, status_is, status_done, taken_are}
 use Rattle.hd_session.specs.Giving.{IsGiven, IsGivenIn}
 
 -- what a GN that finds no row answers

@@ -1,18 +1,16 @@
 -- The rows at the levels of a PCB's path.
-use Rattle.std.proofs.Common.{◌≡◌, ℕ, zero, suc, ◌+◌, ◌-◌, ◌<◌, ◌≤◌, List, [], ◌∷◌, length, map, take, Bool, true, false, cond, Option, Some, None, refl, sym, ap, ◌∙◌, subst, arith, inl, inr}
+use Rattle.std.proofs.Common.{◌≡◌, ℕ, zero, suc, ◌-◌, ◌<◌, ◌≤◌, List, [], ◌∷◌, length, map, take, Bool, true, false, Some, None, refl, sym, ap, ◌∙◌, subst, arith, inl, inr}
 use Rattle.std.specs.Prelude.{◌==◌, ◌||◌, find, slice_get, slice_index}
 use Rattle.std.proofs.lemmas.Bool.{cases_Bool, eqb-true, eq-eqb, cond-true, cond-false}
-use Rattle.hd_dbd.specs.Types.{SegmentType}
 use Rattle.hd_dbd.specs.Hierarchy.{Database, level_of}
-use Rattle.hd_dbd.specs.Segment.{Segment}
-use Rattle.hd_dbd.specs.Paths.{row_at, level_at, path_of}
+use Rattle.hd_dbd.specs.Paths.{row_at, path_of}
 use Rattle.hd_dbd.specs.Positions.{Position}
 use Rattle.hd_dbd.specs.Forest.{Forest}
 use Rattle.hd_calls.specs.Ssas.{Ssa}
-use Rattle.hd_calls.specs.Steps.{deleted_row, held_of, lowest}
+use Rattle.hd_calls.specs.Steps.{deleted_row, lowest}
 use Rattle.hd_volume.specs.Volumes.{VolumeState}
 use Rattle.hd_links.specs.Placed.{Placed}
-use Rattle.hd_links.specs.Steps.{rows_of, address_at, path_at}
+use Rattle.hd_links.specs.Steps.{rows_of, address_at}
 use Rattle.hd_image.specs.Records.{links_of}
 use Rattle.hd_forest.specs.Rows.{IsOnRow}
 use Rattle.hd_position.specs.Kept.{Kept, AreRowsOn, row_on, path_passed}

@@ -1,9 +1,8 @@
 -- What REPL and DLET answer.
-use Rattle.std.proofs.Common.{◌≡◌, ℕ, ◌-◌, ◌<◌, ◌≤◌, List, [], length, Bool, true, false, cond, Ok, Option, Some, None, IsTrue, refl, sym, ap, ◌∙◌, subst}
+use Rattle.std.proofs.Common.{◌≡◌, ℕ, ◌-◌, ◌<◌, ◌≤◌, List, [], length, Bool, true, false, cond, Ok, Option, Some, None, refl, sym, ap, ◌∙◌, subst}
 use Rattle.std.specs.Prelude.{map, slice_index_or}
 use Rattle.std.specs.Option.{option_map_or}
 use Rattle.std.specs.List.{list_all}
-use Rattle.hd_dbd.specs.Types.{View}
 use Rattle.hd_dbd.specs.Hierarchy.{Database}
 use Rattle.hd_dbd.specs.Segment.{Segment}
 use Rattle.hd_dbd.specs.Paths.{row_at}
@@ -24,7 +23,7 @@ use Rattle.hd_forest.proofs.Reading.{after-read}
 use Rattle.hd_position.specs.Kept.{Kept, row_on, path_passed}
 use Rattle.hd_get.specs.declared.outcome.Outcome.{Outcome}
 use Rattle.hd_get.specs.declared.outcome.Outcome.TheVariants.{Found, Missing}
-use Rattle.hd_update.specs.States.{Represents, IsAnswered, kept_of}
+use Rattle.hd_update.specs.States.{IsAnswered}
 use Rattle.hd_update.specs.Calls.{replace_effect, delete_effect, IsReplaceDone, IsDeleteDone}
 use Rattle.hd_update.proofs.Answering.{answered_before, represented}
 use Rattle.hd_update.proofs.Standing.{own_position}

@@ -4,7 +4,7 @@ use Rattle.hd_volume.proofs.CallSteps.{if-ok}
 use Rattle.hd_calls.specs.declared.call.Function.{Function}
 use Rattle.hd_calls.specs.declared.call.Function.TheVariants.{Get, Replace, Delete}
 use Rattle.hd_calls.specs.Ssas.{Ssa}
-use Rattle.hd_calls.specs.Steps.{AcceptedCall, Effect, own_step, position_at}
+use Rattle.hd_calls.specs.Steps.{AcceptedCall, own_step, position_at}
 use Rattle.hd_session.specs.Sessions.{own_in}
 use Rattle.hd_session.proofs.OwnSteps.{step_as}
 use Rattle.hd_session.proofs.calling.answer_accepted.Goals as goal

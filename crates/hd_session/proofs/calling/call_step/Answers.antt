@@ -1,24 +1,19 @@
-use Rattle.std.proofs.Common.{◌≡◌, ℕ, ◌-◌, ◌<◌, List, length, map, Ok, Err, Some, IsTrue, ap, sym, subst, ◌∙◌, arith}
-use Rattle.std.specs.Prelude.{slice_index_or, Result}
-use Rattle.std.proofs.lemmas.List.{get_or_default}
-use Rattle.hd_dbd.specs.declared.answer.Status.{Status}
+use Rattle.std.proofs.Common.{◌≡◌, ℕ, ◌-◌, ◌<◌, List, length, map, Ok, Err, Some, ap, sym, subst, ◌∙◌, arith}
+use Rattle.std.specs.Prelude.{slice_index_or}
 use Rattle.hd_dbd.specs.Calls.{CallText}
-use Rattle.hd_dbd.specs.Views.{Setting}
 use Rattle.hd_volume.proofs.CallSteps.{if-ok}
 use Rattle.hd_volume.proofs.JoinLemmas.{if-err-map}
 use Rattle.hd_links.specs.Steps.{rows_of}
 use Rattle.hd_calls.specs.declared.call.Function.{Function}
-use Rattle.hd_calls.specs.Functions.{function_of}
-use Rattle.hd_calls.specs.Steps.{AcceptedCall, accepted_call, position_at}
+use Rattle.hd_calls.specs.Steps.{accepted_call, position_at}
 use Rattle.hd_forest.proofs.Reading.{after-read, sound-before}
 use Rattle.hd_accept.specs.Tests.{AreResolved}
-use Rattle.hd_position.specs.Kept.{Kept, kept_start, path_passed}
+use Rattle.hd_position.specs.Kept.{Kept, kept_start}
 use Rattle.hd_seek.proofs.Admitting.{resolved_descend}
 use Rattle.hd_update.proofs.Answering.{represented}
 use Rattle.hd_update.proofs.Levels.{as_many}
 use Rattle.hd_update.proofs.Standing.{own_position, own_stands}
-use Rattle.hd_session.specs.RowCalls.{reply_of}
-use Rattle.hd_session.specs.Sessions.{IsStep, own_in, call_in}
+use Rattle.hd_session.specs.Sessions.{own_in, call_in}
 use Rattle.hd_session.proofs.OwnSteps.{step_as}
 use Rattle.hd_session.proofs.TestedCalls.{accepted_ok, replace_held, step_before, own_effect, failed_step}
 use Rattle.hd_session.proofs.calling.call_step.Goals as goal

@@ -1,5 +1,4 @@
-use Rattle.std.proofs.Common.{◌≡◌, ℕ, List, length, IsTrue, ap, ap₂, sym, subst, ◌∙◌}
-use Rattle.hd_dbd.specs.Calls.{Reply}
+use Rattle.std.proofs.Common.{◌≡◌, ℕ, List, length, ap, ap₂, sym, subst, ◌∙◌}
 use Rattle.hd_volume.proofs.CallSteps.{if-ok, reads-join}
 use Rattle.hd_calls.specs.Ssas.{Ssa}
 use Rattle.hd_calls.specs.Gets.{path_rows}
@@ -11,7 +10,6 @@ use Rattle.hd_forest.proofs.Reading.{after-read, sound-before}
 use Rattle.hd_position.specs.Kept.{Kept}
 use Rattle.hd_get.specs.declared.outcome.Outcome.{Outcome}
 use Rattle.hd_get.specs.Gets.{GetCall, IsOutcomeOf, answer_to, levels_taken}
-use Rattle.hd_get.proofs.Seeking.{position_told}
 use Rattle.hd_session.proofs.GotRows.{found_row, row_on_path, rows_given, get_reply, missed_reply, given_path}
 use Rattle.hd_session.proofs.getting.get_at.Goals as goal
 

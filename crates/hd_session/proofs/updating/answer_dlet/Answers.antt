@@ -1,10 +1,10 @@
-use Rattle.std.proofs.Common.{◌≡◌, ℕ, ◌-◌, ◌<◌, List, length, Ok, ap, sym, subst, ◌∙◌, arith}
+use Rattle.std.proofs.Common.{◌≡◌, ℕ, ◌-◌, ◌<◌, List, length, Ok, ap, ◌∙◌, arith}
 use Rattle.std.specs.Prelude.{slice_index_or}
 use Rattle.std.proofs.lemmas.List.{get_or_default}
 use Rattle.hd_calls.specs.Steps.{position_at}
 use Rattle.hd_volume.proofs.CallSteps.{call-ok}
 use Rattle.hd_volume.proofs.JoinLemmas.{calls-join, read-call}
-use Rattle.hd_forest.proofs.Reading.{after-read, sound-before}
+use Rattle.hd_forest.proofs.Reading.{sound-before}
 use Rattle.hd_position.specs.Kept.{Kept}
 use Rattle.hd_update.proofs.Answering.{represented}
 use Rattle.hd_update.proofs.Standing.{own_position}
