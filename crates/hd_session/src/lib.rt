@@ -1,4 +1,4 @@
-//! Calls of the PCBs of one program over a plain list of rows.
+//! Calls of the PCBs of one program with their answers, over a volume; and a session of them over a plain list of rows.
 #![tactic(auto)]
 
 mod buffer;
@@ -18,3 +18,6 @@ pub use giving::give;
 pub use request::{Answer, Call};
 pub use rows::RowSession;
 pub use validity::valid_rows;
+
+#[cfg(test)]
+mod tests;
