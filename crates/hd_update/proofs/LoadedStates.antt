@@ -257,6 +257,12 @@ module _ (d : Database) (pcb : View) (v : VolumeState) (old : List Kept) (st : S
       ∙ ap (λ (ps : List Segment). load_fault d.types ps row) (sym (last_paths d v f R.holds.volume R.holds.records).1) ∙ may))
       (subst (IsInsertedAt x (slice_set old (number - 1) k)) R.rows (at_own_rows x k own own_is read sound S))
 
+  -- the same, where the place that the PCB had is known by an equation
+  pub row_loaded_from : {A : Type 0} {r : A} (x : VolumeState) (k k0 : Kept) (own : List ℕ) → own ≡ take (level d.types row - 1) path ++ a ∷ [] → IsRead {T = A} w (Ok r) x → IsTrue w.is_sound
+      → StandsOnNew d.types (links_of d.types w) k0 own k → k0 ≡ kept_of old number
+      → IsAnswered d v st number (load_step setting st.rows own_at row) (Found Blank) x (slice_set old (number - 1) k)
+  row_loaded_from x k k0 own own_is read sound S at = row_loaded x k own own_is read sound (subst (λ (z : Kept). StandsOnNew d.types (links_of d.types w) z own k) at S)
+
 -- ---- roots, and rows below others
 
 -- a root has no parent
