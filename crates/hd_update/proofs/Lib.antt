@@ -11,3 +11,5 @@ pub mod Unlinked
 pub mod DeletedStates
 pub mod PutRows
 pub mod PutRoots
+pub mod LastPaths
+pub mod LoadedStates

@@ -1,5 +1,5 @@
 -- A root that is linked and entered into the index, as a row that was put in.
-use Rattle.std.proofs.Common.{◌≡◌, ℕ, ◌+◌, ◌<◌, ◌≤◌, List, [], ◌∷◌, refl, ap, ◌∙◌, subst, arith, inl, inr, ◌⊎◌}
+use Rattle.std.proofs.Common.{◌≡◌, ℕ, ◌+◌, ◌<◌, ◌≤◌, List, [], ◌∷◌, false, refl, ap, ◌∙◌, subst, arith, inl, inr, ◌⊎◌}
 use Rattle.hd_dbd.specs.declared.answer.Refused.{Refused}
 use Rattle.hd_dbd.specs.declared.answer.Refused.TheVariants.{Memory, Full, Device}
 use Rattle.hd_dbd.specs.Hierarchy.{Database}
@@ -13,9 +13,11 @@ use Rattle.hd_volume.specs.Volumes.{VolumeState}
 use Rattle.hd_volume.specs.Rooms.{spare, HasHole}
 use Rattle.hd_volume.specs.Indexes.{root_key_length, index_growth}
 use Rattle.hd_volume.proofs.JoinLemmas.{AreOne, one-spare}
+use Rattle.hd_links.specs.Links.{Links}
 use Rattle.hd_links.specs.Placed.{Placed}
 use Rattle.hd_links.specs.LastRows.{segments_of}
 use Rattle.hd_image.specs.Records.{links_of, IsVolumeOf}
+use Rattle.hd_image.proofs.OneImage.{links-same}
 use Rattle.hd_image.specs.Holding.{HoldsPlaced}
 use Rattle.hd_forest.specs.Updates.{MayLink, IsLinked}
 use Rattle.hd_index.specs.Changes.{entries_for}
@@ -42,6 +44,7 @@ put_root_in d v w x f y a more bytes key holds may I is E room =
     let M = linked_move d v w 0 y row a f holds.volume may I holds.records in
     record {
       number = M.0;
+      free = I.free;
       goes_in = M.1;
       is_in =
           begin-roots d v w x f y M.0 more p holds may M.1 I (subst (λ (k : List ℕ). IsEntered d w (with_entry (record { key = k; address = a }) (entries_for d w)) more x) is E)
@@ -82,6 +85,7 @@ put_before d v mid w f h y row a one holds P =
     let rows : List Segment = segments_of (record { address = a; segment = row } ∷ []) in
     record {
       number = P.number;
+      free = subst (λ (m : Links). m.here a ≡ false) (links-same d.types v mid one.image one.same.size one.same.sizes) P.free;
       goes_in = P.goes_in;
       is_in = record {
         held = holds;

@@ -26,6 +26,7 @@ put_below d v w f h y a row holds below may I =
     let p : Placed = record { address = a; segment = row } in
     record {
       number = M.0;
+      free = I.free;
       goes_in = M.1;
       is_in = begin-below d v w f h y M.0 p holds below M.1 I;
       moves = M.2;

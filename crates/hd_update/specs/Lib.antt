@@ -5,3 +5,4 @@ pub mod Replacing
 pub mod Calls
 pub mod Deleting
 pub mod Putting
+pub mod Loading

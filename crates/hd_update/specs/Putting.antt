@@ -1,5 +1,5 @@
 -- A row that is put in: all or nothing.
-use Rattle.std.specs.Prelude.{◌≡◌, ℕ, List, [], ◌∷◌, IsTrue}
+use Rattle.std.specs.Prelude.{◌≡◌, ℕ, List, [], ◌∷◌, IsTrue, false}
 use Rattle.hd_dbd.specs.declared.answer.Refused.{Refused}
 use Rattle.hd_dbd.specs.declared.answer.Refused.TheVariants.{Full}
 use Rattle.hd_dbd.specs.Hierarchy.{Database}
@@ -32,6 +32,7 @@ pub record MayPut (d : Database) (v : VolumeState) (h y : ℕ) (row : Segment) :
 -- it, and positions move up from there.
 pub record IsPutIn (d : Database) (v : VolumeState) (f : Forest Placed) (h y : ℕ) (row : Segment) (a : ℕ) (w : VolumeState) : Type 0 where
   pub number : ℕ
+  pub free : (links_of d.types v).here a ≡ false
   pub goes_in : LeafGoesInAt d.types f h y (record { address = a; segment = row }) number
   pub is_in : IsPathIn d v f number [] (record { address = a; segment = row }) w (with_leaf h y (record { address = a; segment = row }) f)
   pub moves : MovesUp d.types f (with_leaf h y (record { address = a; segment = row }) f) number

@@ -4,6 +4,8 @@
 mod deleting;
 mod dlet_call;
 mod held;
+mod judging;
+mod load_call;
 mod positions;
 mod putting;
 mod repl_call;

@@ -1,0 +1,129 @@
+-- A row that is loaded behind all others.
+use Rattle.std.specs.Prelude.{◌≡◌, ℕ, ◌-◌, List, [], ◌∷◌, length, map, IsTrue, true, Bool, ◌&&◌, cond, Option, Some, None, option_map, option_and_then, unwrap_or, slice_get}
+use Rattle.std.specs.Option.{option_map_or}
+use Rattle.std.specs.Ordering.{is_eq, is_gt}
+use Rattle.std.specs.declared.cmp.Ordering.{Ordering}
+use Rattle.hd_dbd.specs.Types.{SegmentType, View}
+use Rattle.hd_dbd.specs.declared.answer.LoadFault.{LoadFault}
+use Rattle.hd_dbd.specs.declared.answer.LoadFault.TheVariants.{LB, LC}
+use Rattle.hd_dbd.specs.declared.answer.Refused.{Refused}
+use Rattle.hd_dbd.specs.declared.answer.Refused.TheVariants.{Full}
+use Rattle.hd_dbd.specs.Hierarchy.{Database, parent_of, level_of}
+use Rattle.hd_dbd.specs.Segment.{Segment}
+use Rattle.hd_dbd.specs.Rows.{level}
+use Rattle.hd_dbd.specs.Forest.{Forest}
+use Rattle.hd_dbd.specs.Loads.{last_path, has_unique_key, lacks_parent, order_fault, load_fault}
+use Rattle.hd_calls.specs.Ssas.{Ssa}
+use Rattle.hd_calls.specs.Access.{loads}
+use Rattle.hd_calls.specs.Runs.{LacksRoom}
+use Rattle.hd_calls.specs.Steps.{State, Effect, position_at, inserted_codes, insert_step, load_step}
+use Rattle.hd_volume.specs.Volumes.{VolumeState}
+use Rattle.hd_links.specs.Placed.{Placed}
+use Rattle.hd_links.specs.LastRows.{last_on, segments_of, parent_on_path, twin_on_path}
+use Rattle.hd_image.specs.Holding.{HoldsPlaced}
+use Rattle.hd_keeping.specs.VolumeImages.{images_of}
+use Rattle.hd_position.specs.Kept.{Kept}
+use Rattle.hd_get.specs.declared.outcome.Outcome.{Outcome}
+use Rattle.hd_update.specs.Putting.{IsPutIn}
+use Rattle.hd_update.specs.States.{Represents, IsAnswered, IsCallDone, IsAreaWrong}
+
+-- ---- the call
+
+-- where the store is sound, the volume and what is kept stand for a state in which the PCB of a number has passed all rows
+abbrev pub HasPassedAll : Database → VolumeState → List Kept → ℕ → Type 0
+HasPassedAll d v kept number =
+    IsTrue v.is_sound → (st : State) × Represents d v kept st × ((position_at st number).passed ≡ length st.rows)
+
+-- what ISRT of one argument does in a state under a PCB that loads
+abbrev pub load_effect : Database → View → ℕ → List Ssa → List ℕ → State → Effect
+load_effect d pcb number ssas area st = insert_step (record { types = d.types; pcb = pcb }) st.rows (position_at st number) ssas area
+
+-- the PCB loads, and the arguments insert one row of this type
+abbrev pub InsertsOne : View → List Ssa → ℕ → Type 0
+InsertsOne pcb ssas code = (loads pcb ≡ true) × (inserted_codes ssas ≡ code ∷ [])
+
+-- the row was loaded, under whatever PCB that loads and arguments that insert one row of the type
+abbrev pub IsLoadDone : Database → VolumeState → List Kept → ℕ → ℕ → List ℕ → Outcome → VolumeState → List Kept → Type 0
+IsLoadDone d v old number code area outcome w new =
+    (pcb : View) (ssas : List Ssa) → InsertsOne pcb ssas code → IsCallDone d v old number (load_effect d pcb number ssas area) outcome w new
+
+-- where a load was refused for the area, that has a wrong length
+abbrev pub IsLoadAreaWrong : Database → VolumeState → List Kept → ℕ → ℕ → List ℕ → Refused → Type 0
+IsLoadAreaWrong d v old number code area e =
+    (pcb : View) (ssas : List Ssa) → InsertsOne pcb ssas code → IsAreaWrong d v old (load_effect d pcb number ssas area) e
+
+-- A load is refused as Full only where the row may be loaded, and the volume's bytes lack room for it.
+abbrev pub IsLoadFull : Database → VolumeState → List Kept → Segment → Refused → Type 0
+IsLoadFull d v old row e =
+    (st : State) → e ≡ Full → IsTrue v.is_sound → Represents d v old st
+    → (load_fault d.types (last_path d.types st.rows) row ≡ None) × LacksRoom (images_of d) d.types v.image (row ∷ [])
+
+-- ---- the path of the last row
+
+-- The sound volume holds the forest, and the path is that of its last row.
+pub record IsLastPath (d : Database) (v : VolumeState) (path : List ℕ) (f : Forest Placed) : Type 0 where
+  pub sound : IsTrue v.is_sound
+  pub holds : HoldsPlaced d v f
+  pub is : path ≡ map (λ p. p.address) (last_on f)
+
+-- where the store is sound, the path is that of the last row of a forest that the volume holds
+abbrev pub HasLastPath : Database → VolumeState → List ℕ → Type 0
+HasLastPath d v path = IsTrue v.is_sound → (f : Forest Placed) × IsLastPath d v path f
+
+-- the code of what stands at a place of a path, from 0
+abbrev pub code_on : List Placed → ℕ → Option ℕ
+code_on path place = option_map (λ p. p.segment.code) (slice_get path place)
+
+-- of whatever forest the path is that of the last row, this is the code at a place of it
+abbrev pub IsCodeOn : Database → VolumeState → List ℕ → ℕ → Option ℕ → Type 0
+IsCodeOn d v path place r = (f : Forest Placed) → IsLastPath d v path f → r ≡ code_on (last_on f) place
+
+-- of whatever forest the path is that of the last row, the answer says whether it lacks the parent of a type
+abbrev pub SaysParentLacks : Database → VolumeState → List ℕ → ℕ → Bool → Type 0
+SaysParentLacks d v path code r =
+    (f : Forest Placed) → IsLastPath d v path f → r ≡ lacks_parent d.types (segments_of (last_on f)) (record { code = code; bytes = [] })
+
+-- of whatever forest the path is that of the last row, this is why the row may not be loaded behind that, if there is a reason
+abbrev pub IsLoadFault : Database → VolumeState → List ℕ → Segment → Option LoadFault → Type 0
+IsLoadFault d v path row r = (f : Forest Placed) → IsLastPath d v path f → r ≡ load_fault d.types (segments_of (last_on f)) row
+
+-- of whatever forest the path is that of the last row, this is why the row may not be loaded behind the one before it below its parent
+abbrev pub IsOrderFault : Database → VolumeState → List ℕ → Segment → Option LoadFault → Type 0
+IsOrderFault d v path row r =
+    (f : Forest Placed) → IsLastPath d v path f
+    → r ≡ option_and_then (λ p. order_fault d.types p.segment row) (slice_get (last_on f) (level d.types row - 1))
+
+-- of whatever forest the path is that of the last row, this is the twin behind which a row of a type is loaded
+abbrev pub IsLastTwin : Database → VolumeState → List ℕ → ℕ → ℕ → Type 0
+IsLastTwin d v path code r =
+    (f : Forest Placed) → IsLastPath d v path f → r ≡ twin_on_path d.types (last_on f) (record { code = code; bytes = [] })
+
+-- the parent of a row of a type, by addresses of a path: 0 for a root
+abbrev pub last_parent : List SegmentType → List ℕ → ℕ → ℕ
+last_parent types path code = option_map_or (λ _. unwrap_or (slice_get path (level_of types code - 2)) 0) (parent_of types code) 0
+
+-- why a row of a type may not be loaded behind its twin, by how the twin's key stands to its own
+abbrev pub key_fault : List SegmentType → ℕ → Ordering → Option LoadFault
+key_fault types code order = cond (has_unique_key types code && is_eq order) (Some LB) (cond (is_gt order) (Some LC) None)
+
+-- ---- once nothing forbids it
+
+-- where the store is sound, the path is that of the last row of a forest that the volume holds, and the row may be loaded behind it
+abbrev pub MayLoad : Database → VolumeState → List ℕ → Segment → Type 0
+MayLoad d v path row = IsTrue v.is_sound → (f : Forest Placed) × IsLastPath d v path f × (load_fault d.types (segments_of (last_on f)) row ≡ None)
+
+-- whatever state the volume and what was kept stood for, the row was loaded behind all rows
+abbrev pub IsRowLoaded : Database → VolumeState → List Kept → ℕ → Segment → Outcome → VolumeState → List Kept → Type 0
+IsRowLoaded d v old number row outcome w new =
+    (pcb : View) (st : State) → IsTrue v.is_sound → Represents d v old st
+    → IsAnswered d v st number (load_step (record { types = d.types; pcb = pcb }) st.rows (position_at st number) row) outcome w new
+
+-- the row is refused as Full only where the volume's bytes lack room for it
+abbrev pub IsRowFull : Database → VolumeState → Segment → Refused → Type 0
+IsRowFull d v row e = e ≡ Full → IsTrue v.is_sound → LacksRoom (images_of d) d.types v.image (row ∷ [])
+
+-- Of whatever forest the path was that of the last row, the row went in below its parent on the path, behind its twin there, and stands at
+-- the address a.
+abbrev pub PutsLast : Database → VolumeState → List ℕ → Segment → ℕ → VolumeState → Type 0
+PutsLast d v path row a w =
+    (f : Forest Placed) → IsLastPath d v path f → IsPutIn d v f (parent_on_path d.types (last_on f) row) (twin_on_path d.types (last_on f) row) row a w
