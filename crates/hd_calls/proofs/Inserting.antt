@@ -105,7 +105,7 @@ module _ (types : List SegmentType) (leveled : Leveled types) (rows : List Segme
 
   -- ---- parents
 
-  abbrev parent_new : ℕ → Option ℕ
+  abbrev pub parent_new : ℕ → Option ℕ
   parent_new zero = parent
   parent_new (suc i) = Some (p + i)
 
@@ -142,7 +142,7 @@ module _ (types : List SegmentType) (leveled : Leveled types) (rows : List Segme
       by_parent None is = refl
       by_parent (Some q) is = ap (λ (n : ℕ). Some n) (up_front types rows after p (length new) spliced q (parent_before q is))
 
-  parent_in : (i : ℕ) → i < length new → parent_row types after (p + i) ≡ parent_new i
+  pub parent_in : (i : ℕ) → i < length new → parent_row types after (p + i) ≡ parent_new i
   parent_in zero within =
       let at : p + 0 ≡ p = omega arith in
       ap (λ (r : Segment). nearest_above types after (level types r) (p + 0)) (there_new 0 within)

@@ -45,14 +45,14 @@ use Rattle.hd_calls.proofs.SoundUpdates.{IsFine, fine_in_range, IsSoundEffect, b
 -- ---- the types that go in
 
 -- each type stands, and is a child of the one before it
-abbrev ChainCodes : List SegmentType → Option ℕ → List ℕ → Type 0
+abbrev pub ChainCodes : List SegmentType → Option ℕ → List ℕ → Type 0
 ChainCodes types above [] = Unit {0}
 ChainCodes types above (c ∷ cs) = IfSome above (λ p. parent_of types c ≡ Some p) × ((t : SegmentType) × (type_of types c ≡ Some t)) × ChainCodes types (Some c) cs
 
-abbrev AllTyped : List SegmentType → List Ssa → Type 0
+abbrev pub AllTyped : List SegmentType → List Ssa → Type 0
 AllTyped types as_ = AllByRecursion (λ a. (t : SegmentType) × (type_of types a.code ≡ Some t)) as_
 
-resolved_typed : (types : List SegmentType) (above : Option ℕ) (hs : List Head) (as_ : List Ssa) → Resolved types above hs as_ → AllTyped types as_
+pub resolved_typed : (types : List SegmentType) (above : Option ℕ) (hs : List Head) (as_ : List Ssa) → Resolved types above hs as_ → AllTyped types as_
 resolved_typed types above [] [] is = tt
 resolved_typed types above [] (a ∷ as_) is = absurd is
 resolved_typed types above (h ∷ hs) [] is = tt
@@ -80,11 +80,11 @@ chain_from types above (a ∷ as_) all is =
     by_above (Some p) is = by_parent p (parent_of types a.code) is
 
 -- the type of the last of the arguments above
-abbrev above_code : ℕ → List Ssa → Option ℕ
+abbrev pub above_code : ℕ → List Ssa → Option ℕ
 above_code zero as_ = None
 above_code (suc n) as_ = Some (target_code (take (suc n) as_))
 
-chain_drop : (types : List SegmentType) (n : ℕ) (as_ : List Ssa) → AllTyped types as_ → steps_down types None (drop (n - 1) (map (λ a. a.code) as_)) ≡ true
+pub chain_drop : (types : List SegmentType) (n : ℕ) (as_ : List Ssa) → AllTyped types as_ → steps_down types None (drop (n - 1) (map (λ a. a.code) as_)) ≡ true
     → ChainCodes types (above_code n as_) (map (λ a. a.code) (drop n as_))
 chain_drop types zero as_ all is = chain_from types None as_ all is
 chain_drop types (suc zero) [] all is = tt
@@ -102,11 +102,11 @@ chain_drop types (suc (suc n)) (a ∷ (b ∷ as_)) all is =
 
 -- ---- the rows that go in
 
-abbrev ChainRows : List SegmentType → Option ℕ → List Segment → Type 0
+abbrev pub ChainRows : List SegmentType → Option ℕ → List Segment → Type 0
 ChainRows types above [] = Unit {0}
 ChainRows types above (r ∷ rs) = IfSome above (λ p. parent_of types r.code ≡ Some p) × (row_fits types r ≡ true) × ChainRows types (Some r.code) rs
 
-chain_rows : (types : List SegmentType) (above : Option ℕ) (cs : List ℕ) (area : List ℕ) (parts : List (List ℕ)) → ChainCodes types above cs → divide (map (λ c. length_of types c) cs) area ≡ Some parts
+pub chain_rows : (types : List SegmentType) (above : Option ℕ) (cs : List ℕ) (area : List ℕ) (parts : List (List ℕ)) → ChainCodes types above cs → divide (map (λ c. length_of types c) cs) area ≡ Some parts
     → ChainRows types above (new_rows cs parts)
 chain_rows types above [] area parts chain is = tt
 chain_rows types above (c ∷ cs) area parts chain is =
@@ -130,12 +130,12 @@ chain_rows types above (c ∷ cs) area parts chain is =
         subst (λ (ps : List (List ℕ)). ChainRows types above (new_rows (c ∷ cs) ps)) shape
         (chain.0, fits (take (length_of types c) area) (omega (arith, length-take (length_of types c) area)), more rest o_is)
 
-chain_fit : (types : List SegmentType) (above : Option ℕ) (rs : List Segment) (i : ℕ) → ChainRows types above rs → i < length rs → row_fits types (row_at rs i) ≡ true
+pub chain_fit : (types : List SegmentType) (above : Option ℕ) (rs : List Segment) (i : ℕ) → ChainRows types above rs → i < length rs → row_fits types (row_at rs i) ≡ true
 chain_fit types above [] i chain within = absurd (omega arith)
 chain_fit types above (r ∷ rs) zero chain within = chain.1
 chain_fit types above (r ∷ rs) (suc i) chain within = chain_fit types (Some r.code) rs i chain.2 (omega arith)
 
-chain_next : (types : List SegmentType) (above : Option ℕ) (rs : List Segment) (i : ℕ) → ChainRows types above rs → suc i < length rs → parent_of types (row_at rs (suc i)).code ≡ Some (row_at rs i).code
+pub chain_next : (types : List SegmentType) (above : Option ℕ) (rs : List Segment) (i : ℕ) → ChainRows types above rs → suc i < length rs → parent_of types (row_at rs (suc i)).code ≡ Some (row_at rs i).code
 chain_next types above [] i chain within = absurd (omega arith)
 chain_next types above (r ∷ []) i chain within = absurd (omega arith)
 chain_next types above (r ∷ (q ∷ rs)) zero chain within = chain.2.0
@@ -298,7 +298,7 @@ module _ (s : Setting) (leveled : Leveled s.types) (rows : List Segment) (ordere
           insert_at_sound s rows p (first ∷ rest) n (omega arith) put.room (put, inserted_in_sequence s.types leveled rows ordered parent n (first ∷ rest) may) fits
 
   -- the parent that an ISRT finds is one of the parent's type
-  parent_found : (above : List Ssa) (code q : ℕ) → (0 < length above → target_code above ≡ code) → insert_parent s.types rows p.standing above code ≡ Some q → (q < length rows) × ((row_at rows q).code ≡ code)
+  pub parent_found : (above : List Ssa) (code q : ℕ) → (0 < length above → target_code above ≡ code) → insert_parent s.types rows p.standing above code ≡ Some q → (q < length rows) × ((row_at rows q).code ≡ code)
   parent_found above code q target is = by_plain (list_all is_plain above) is
     where
       on : on_path_at s.types rows code p.standing ≡ Some q → (q < length rows) × ((row_at rows q).code ≡ code)

@@ -5,12 +5,14 @@ use Rattle.std.specs.List.{list_any}
 use Rattle.std.proofs.lemmas.Bool.{eq-eqb, or_left}
 use Rattle.std.proofs.lemmas.List.{append_assoc, length-append, length-take-le, length-map, take_at, drop_at, get_or_at}
 use Rattle.std.proofs.lemmas.List.Folds.{list_any-append}
+use Rattle.hd_dbd.specs.Hierarchy.{Database}
 use Rattle.hd_dbd.specs.Segment.{Segment}
-use Rattle.hd_dbd.specs.Rows.{key_of}
+use Rattle.hd_dbd.specs.Rows.{row_fits, key_of}
 use Rattle.hd_dbd.specs.Forest.{Forest, sequence}
 use Rattle.hd_calls.specs.Moves.{inserted, put_in}
 use Rattle.hd_calls.specs.Runs.{has_root, blocks_for}
 use Rattle.hd_volume.specs.Headers.{Header}
+use Rattle.hd_volume.specs.Volumes.{VolumeState}
 use Rattle.hd_volume.specs.Rooms.{spare}
 use Rattle.hd_volume.specs.Indexes.{root_key_length, index_growth}
 use Rattle.hd_links.specs.Links.{is_child_type}
@@ -26,7 +28,7 @@ use Rattle.hd_image.proofs.Roots.{header-child}
 use Rattle.hd_forest.proofs.Agreeing.{agree-trans}
 use Rattle.hd_index.proofs.NeedLemmas.{needed-most}
 use Rattle.hd_keeping.specs.VolumeImages.{images_of}
-use Rattle.hd_keeping.specs.NewPaths.{HasNoChild, PathsBeginBelowRows, PathsBeginWithRoots, PathsGoOn, PathsAreInsertions}
+use Rattle.hd_keeping.specs.NewPaths.{HasNoChild, IsPathIn, PathsBeginBelowRows, PathsBeginWithRoots, PathsGoOn, PathsAreInsertions}
 use Rattle.hd_keeping.proofs.Leaves.{leaves-take, children-next}
 use Rattle.hd_keeping.proofs.Rooms.{growth-kept}
 use Rattle.hd_keeping.proofs.Volumes.{agree-index, linked-below, linked-root}
@@ -130,28 +132,57 @@ begin-roots d v w x f y n more p H may P I E room =
 
 -- ---- one row more
 
+-- where the last row of a path stands
+module _ (d : Database) (v w : VolumeState) (f g : Forest Placed) (n : ℕ) (front : List Placed) (last : Placed) (W : IsPathIn d v f n front last w g) where
+  abbrev places : List ℕ
+  places = map (λ (q : Placed). q.address) front
+
+  count : length places ≡ length front
+  count = length-map front (λ (q : Placed). q.address)
+
+  pub inside : n ≤ length (addresses f)
+  inside = (let many : length (addresses f) ≡ length (rows_of f) = as-many f in let low : n ≤ length (rows_of f) = W.within in omega arith)
+
+  both : addresses g ≡ put_in n (places ++ last.address ∷ []) (addresses f)
+  both = W.places ∙ ap (λ (as_ : List ℕ). put_in n as_ (addresses f)) (map_end (λ (q : Placed). q.address) front last)
+
+  pub last-place : address_at g (n + length front) ≡ last.address
+  last-place =
+      ap (λ (k : ℕ). address_at g (n + k)) (sym count)
+      ∙ ap (λ (as_ : List ℕ). slice_index as_ (n + length places)) both
+      ∙ last-at (addresses f) places last.address n inside
+
+  pub last-within : n + length front < length (rows_of g)
+  last-within =
+      (let l : n + length places < length (put_in n (places ++ last.address ∷ []) (addresses f)) = last-there (addresses f) places last.address n inside in
+      let m : length (addresses g) ≡ length (put_in n (places ++ last.address ∷ []) (addresses f)) = ap (λ (as_ : List ℕ). length as_) both in
+      let c : length places ≡ length front = count in
+      let k : length (addresses g) ≡ length (rows_of g) = as-many g in omega arith)
+
+  pub last-some : last.address ≢ 0
+  last-some none =
+      (let A : RowsHaveAddresses (links_of d.types w) g = rows_addressed d.types (links_of d.types w) g W.holds.records in
+      let at : address_at g (n + length front) ≡ last.address = last-place in
+      let s : 0 < address_at g (n + length front) = (A.there (n + length front) last-within).some in absurd (omega arith))
+
+  -- a row may be linked below it, and goes in next
+  pub goes-next : (p : Placed) → is_child_type d.types last.segment.code p.segment.code ≡ true → row_fits d.types p.segment ≡ true → (links_of d.types w).here p.address ≡ false
+      → CanLink d.types (links_of d.types w) last.address 0 p × LeafGoesInAt d.types g last.address 0 p (n + length front + 1)
+  goes-next p typed fits free =
+      let can = W.takes p.segment typed fits p.address free in (
+        can,
+        subst (λ (a : ℕ). LeafGoesInAt d.types g a 0 p (n + length front + 1)) last-place
+        (children-next d.block_size d.frspc d.types (length w.image) (links_of d.types w) g (n + length front) p W.holds.volume.fit
+        (records-link d w W.holds.volume.fit W.holds.volume) W.holds.records last-within
+        (subst (HasNoChild d.types (links_of d.types w)) (sym last-place) W.childless)
+        (subst (λ (a : ℕ). CanLink d.types (links_of d.types w) a 0 p) (sym last-place) can)),
+      )
+
 pub go-on : PathsGoOn
 go-on d v w x f g n front last p W typed fits I =
-    let places : List ℕ = map (λ (q : Placed). q.address) front in
-    let count : length places ≡ length front = length-map front (λ (q : Placed). q.address) in
-    let many : length (addresses f) ≡ length (rows_of f) = as-many f in
-    let inside : n ≤ length (addresses f) = (let low : n ≤ length (rows_of f) = W.within in omega arith) in
-    let both : addresses g ≡ put_in n (places ++ last.address ∷ []) (addresses f)
-    = W.places ∙ ap (λ (as_ : List ℕ). put_in n as_ (addresses f)) (map_end (λ (q : Placed). q.address) front last) in
-    let at : address_at g (n + length places) ≡ last.address
-    = ap (λ (as_ : List ℕ). slice_index as_ (n + length places)) both ∙ last-at (addresses f) places last.address n inside in
-    let there : n + length places < length (rows_of g)
-    = (let l : n + length places < length (put_in n (places ++ last.address ∷ []) (addresses f)) = last-there (addresses f) places last.address n inside in
-    let m : length (addresses g) ≡ length (put_in n (places ++ last.address ∷ []) (addresses f)) = ap (λ (as_ : List ℕ). length as_) both in
-    let k : length (addresses g) ≡ length (rows_of g) = as-many g in omega arith) in
-    let A : RowsHaveAddresses (links_of d.types w) g = rows_addressed d.types (links_of d.types w) g W.holds.records in
-    let some : last.address ≢ 0 = (λ (none : last.address ≡ 0). (let s : 0 < address_at g (n + length places) = (A.there (n + length places) there).some in absurd (omega arith))) in
-    let C = subst (λ (a : ℕ). CanLink d.types (links_of d.types w) a 0 p) (sym at) (W.takes p.segment typed fits p.address I.free) in
-    let next : LeafGoesInAt d.types g last.address 0 p (n + length places + 1)
-    = subst (λ (a : ℕ). LeafGoesInAt d.types g a 0 p (n + length places + 1)) at
-    (children-next d.block_size d.frspc d.types (length w.image) (links_of d.types w) g (n + length places) p W.holds.volume.fit
-    (records-link d w W.holds.volume.fit W.holds.volume) W.holds.records there
-    (subst (HasNoChild d.types (links_of d.types w)) (sym at) W.childless) C) in
+    let next : LeafGoesInAt d.types g last.address 0 p (n + length front + 1) = (goes-next d v w f g n front last W p typed fits I.free).1 in
+    let some : last.address ≢ 0 = last-some d v w f g n front last W in
+    let low : n ≤ length (addresses f) = inside d v w f g n front last W in
     let leaf = leaves-take d.types (links_of d.types w) (links_of d.types x) last.address 0 p I.records in
     let new : List Placed = front ++ last ∷ [] in
     let long : length (segments_of new) ≡ length front + 1 = length-map new (λ (q : Placed). q.segment) ∙ length-append front (last ∷ []) in
@@ -162,15 +193,15 @@ go-on d v w x f g n front last p W typed fits I =
       within = W.within;
       rows =
           next.rows
-          ∙ one-in (rows_of g) p.segment (n + length places + 1)
-          ∙ ap₂ (λ (k : ℕ) (rows : List Segment). put_in k (p.segment ∷ []) rows) (let e : n + length places + 1 ≡ n + length (segments_of new) = omega arith in e) W.rows
+          ∙ one-in (rows_of g) p.segment (n + length front + 1)
+          ∙ ap₂ (λ (k : ℕ) (rows : List Segment). put_in k (p.segment ∷ []) rows) (let e : n + length front + 1 ≡ n + length (segments_of new) = omega arith in e) W.rows
           ∙ put-more (rows_of f) (segments_of new) n W.within p.segment
           ∙ ap (λ (rows : List Segment). put_in n rows (rows_of f)) (sym (map_end (λ (q : Placed). q.segment) new p));
       places =
           next.places
-          ∙ one-in (addresses g) p.address (n + length places + 1)
-          ∙ ap₂ (λ (k : ℕ) (as_ : List ℕ). put_in k (p.address ∷ []) as_) (let e : n + length places + 1 ≡ n + length (map (λ (q : Placed). q.address) new) = omega arith in e) W.places
-          ∙ put-more (addresses f) (map (λ (q : Placed). q.address) new) n inside p.address
+          ∙ one-in (addresses g) p.address (n + length front + 1)
+          ∙ ap₂ (λ (k : ℕ) (as_ : List ℕ). put_in k (p.address ∷ []) as_) (let e : n + length front + 1 ≡ n + length (map (λ (q : Placed). q.address) new) = omega arith in e) W.places
+          ∙ put-more (addresses f) (map (λ (q : Placed). q.address) new) n low p.address
           ∙ ap (λ (as_ : List ℕ). put_in n as_ (addresses f)) (sym (map_end (λ (q : Placed). q.address) new p));
       childless = leaf.0;
       takes = leaf.1;

@@ -13,3 +13,7 @@ pub mod PutRows
 pub mod PutRoots
 pub mod LastPaths
 pub mod LoadedStates
+pub mod NewRows
+pub mod FirstRows
+pub mod Holes
+pub mod RowsIn

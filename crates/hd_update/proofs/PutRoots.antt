@@ -58,18 +58,18 @@ module _ (d : Database) (v : VolumeState) (y : ℕ) (bytes key : List ℕ) (C : 
   -- the link is refused by a failed access alone
   pub link_refused : (e : Refused) → (e ≡ Memory) ⊎ (e ≡ Full) ⊎ (e ≡ Device) → (e ≡ Full → (spare v ≡ 0) × (HasHole v (stored_size d.types 1) → ⊥)) → (e ≡ Memory → v.room ≡ 0)
       → (e ≡ Memory → HasHole v (stored_size d.types 1) → ⊥) → e ≡ Device
-  link_refused e (inl memory) full room hole = absurd ((first-roots d v key a_root []).1 C.memory (room memory, hole memory))
-  link_refused e (inr (inl is)) full room hole = absurd ((first-roots d v key a_root []).0 C.room (full is))
+  link_refused e (inl memory) full room hole = absurd ((first-roots d v key a_root C.others).1 C.memory (room memory, hole memory))
+  link_refused e (inr (inl is)) full room hole = absurd ((first-roots d v key a_root C.others).0 C.room (full is))
   link_refused e (inr (inr device)) full room hole = device
 
   -- and so is the entry
   pub entry_refused : (w : VolumeState) (a : ℕ) → IsLinked d v 0 y (record { code = 1; bytes = bytes }) a w → v.room ≤ w.room + 1
       → (e : Refused) → (e ≡ Memory) ⊎ (e ≡ Full) ⊎ (e ≡ Device) → (e ≡ Full → spare w < blocks_needed (root_key_length d.types) w key) → (e ≡ Memory → w.room < index_growth w) → e ≡ Device
   entry_refused w a I room e (inl memory) full few =
-      (let enough : index_growth w ≤ w.room = (entries-room d v w C.root.placed key y a (record { code = 1; bytes = bytes }) [] C.root.holds I).1 room C.memory in
+      (let enough : index_growth w ≤ w.room = (entries-room d v w C.root.placed key y a (record { code = 1; bytes = bytes }) C.others C.root.holds I).1 room C.memory in
       let less : w.room < index_growth w = few memory in absurd (omega arith))
   entry_refused w a I room e (inr (inl is)) full few =
-      (let enough : blocks_for_entry d w key ≤ spare w = (entries-room d v w C.root.placed key y a (record { code = 1; bytes = bytes }) [] C.root.holds I).0 C.room in
+      (let enough : blocks_for_entry d w key ≤ spare w = (entries-room d v w C.root.placed key y a (record { code = 1; bytes = bytes }) C.others C.root.holds I).0 C.room in
       let less : spare w < blocks_needed (root_key_length d.types) w key = full is in absurd (omega arith))
   entry_refused w a I room e (inr (inr device)) full few = device
 

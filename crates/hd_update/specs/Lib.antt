@@ -6,3 +6,6 @@ pub mod Calls
 pub mod Deleting
 pub mod Putting
 pub mod Loading
+pub mod NewRows
+pub mod Room
+pub mod Inserting

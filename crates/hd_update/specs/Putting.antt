@@ -13,7 +13,7 @@ use Rattle.hd_links.specs.Numbers.{LeafGoesInAt}
 use Rattle.hd_image.specs.Records.{links_of}
 use Rattle.hd_image.specs.Holding.{HoldsPlaced}
 use Rattle.hd_forest.specs.Updates.{MayLink}
-use Rattle.hd_keeping.specs.Rooms.{HasRootRoomFor, HasRootMemoryFor}
+use Rattle.hd_keeping.specs.Rooms.{HasRoomFor, HasMemoryFor, HasRootRoomFor, HasRootMemoryFor}
 use Rattle.hd_keeping.specs.NewPaths.{IsPathIn}
 use Rattle.hd_keeping.specs.VolumeImages.{images_of}
 use Rattle.hd_position.specs.Laws.{MovesUp}
@@ -51,8 +51,16 @@ IsFullFor d v row e = e ≡ Full → IsTrue v.is_sound → HoldsSome d v → Lac
 abbrev pub a_root : Segment
 a_root = record { code = 1; bytes = [] }
 
--- There are room and memory for a root that may be put in behind its twin y, and for its entry in the index, of this key.
+-- There are room and memory for a root that may be put in behind its twin y, for its entry in the index, of this key, and for some rows
+-- below it.
 pub record CanPutRoot (d : Database) (v : VolumeState) (y : ℕ) (row : Segment) (key : List ℕ) : Type 0 where
   pub root : MayPut d v 0 y row
-  pub room : HasRootRoomFor d v key (a_root ∷ [])
-  pub memory : HasRootMemoryFor v (a_root ∷ [])
+  pub others : List Segment
+  pub room : HasRootRoomFor d v key (a_root ∷ others)
+  pub memory : HasRootMemoryFor v (a_root ∷ others)
+
+-- Once the root of a key and its entry are in, room and memory that there were for them and rows below it last for these.
+abbrev pub LastsBelowRoot : Database → VolumeState → List ℕ → VolumeState → Type 0
+LastsBelowRoot d v key w =
+    (rows : List Segment) → IsTrue v.is_sound → HasRootRoomFor d v key (a_root ∷ rows) → HasRootMemoryFor v (a_root ∷ rows)
+    → HasRoomFor d.types w rows × HasMemoryFor d.types w rows

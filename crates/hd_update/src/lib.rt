@@ -4,13 +4,17 @@
 mod deleting;
 mod dlet_call;
 mod held;
+mod isrt_call;
 mod judging;
 mod load_call;
+mod new_rows;
 mod positions;
+mod put_path;
 mod putting;
 mod repl_call;
 mod replacing;
 mod rewrites;
+mod room;
 
 pub use dlet_call::{dlet, taken_row};
 pub use held::{HeldRow, HeldRows, held_rows, row_at};

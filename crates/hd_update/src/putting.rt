@@ -7,7 +7,7 @@ ghost use Rattle.hd_volume.specs.Indexes.{root_key_length, index_growth};
 ghost use Rattle.hd_volume.specs.Rooms.{spare};
 ghost use Rattle.hd_index.specs.Changes.{IsIndexOf};
 ghost use Rattle.hd_keeping.specs.Rooms.{HasRootRoomFor, HasRootMemoryFor};
-ghost use Rattle.hd_update.specs.Putting.{PutsIn, IsFullFor, a_root, MayPut, CanPutRoot};
+ghost use Rattle.hd_update.specs.Putting.{PutsIn, IsFullFor, a_root, MayPut, CanPutRoot, LastsBelowRoot};
 
 use hd_dbd::{Dbd, Refused};
 use hd_forest::link;
@@ -57,7 +57,7 @@ fn lacks_room<S: BlockStore>(volume: &mut Volume<S>, dbd: &Dbd, key: &[u8]) -> R
 }
 
 /// Links a root behind its preceding twin, 0 for none, and enters it into the index, where there is room and memory for both.
-fn link_root<S: BlockStore>(
+pub fn link_root<S: BlockStore>(
     volume: &mut Volume<S>,
     dbd: &Dbd,
     after: u32,
@@ -72,6 +72,7 @@ fn link_root<S: BlockStore>(
     requires can { IsTrue volume.old.is_sound → CanPutRoot dbd.now volume.old after (record { code = 1; bytes = bytes.now }) key.now }
     ensures call { IsCall volume.old result volume.new }
     ensures put_in { IfOk result (λ a. PutsIn dbd.now volume.old 0 after (record { code = 1; bytes = bytes.now }) a volume.new) }
+    ensures lasts { IfOk result (λ _. LastsBelowRoot dbd.now volume.old key.now volume.new) }
     ensures only { IfErr result (λ e. IsTrue volume.old.is_sound → e ≡ Refused.Device) }
     ensures refusal { OnlyRoomOrDevice result }
 {

@@ -69,7 +69,7 @@ impl Rewriting {
 }
 
 /// The bytes of a type's segments, 0 for no type.
-fn length_of(dbd: &Dbd, code: u8) -> usize
+pub fn length_of(dbd: &Dbd, code: u8) -> usize
     ensures { result ≡ length_of dbd.now.types code }
 {
     match dbd.type_of(code) {

@@ -35,6 +35,7 @@ link_root-requires-clause-can g c now =
         holds = held_read d v w read sound M.placed M.holds;
         may = subst (λ (m : Links). MayLink d.types m 0 c.args.after (record { code = 1; bytes = c.args.bytes.now })) (sym same.links) M.may;
       };
+      others = [];
       room = (one-volume d v w (record { image = same.image; size = read.call.size; sizes = read.call.sizes })).2 c.key_of-key.result.now (a_root ∷ []) (c.in_ok-lacks_room.ensures.room sound c.if-branch.false);
       memory =
           (let own : length (a_root ∷ []) + index_growth v ≤ v.room = c.requires.memory sound in

@@ -1,0 +1,121 @@
+ghost use Rattle.std.specs.Prelude.{◌≡◌, ◌+◌, ◌*◌, ◌<◌, ◌≤◌, length, take, drop, true, false, IsTrue, IfOk, OnOk, IfErr};
+ghost use Rattle.hd_dbd.specs.Facts.{stored_sizes};
+ghost use Rattle.hd_dbd.specs.Refusals.{OnlyDevice, OnlyRoomOrDevice};
+ghost use Rattle.hd_volume.specs.Calls.{IsCall, IsRead};
+ghost use Rattle.hd_volume.specs.Indexes.{index_growth, root_key_length};
+ghost use Rattle.hd_volume.specs.Rooms.{spare, HasHole};
+ghost use Rattle.hd_volume.specs.Volumes.{IsFormatted};
+ghost use Rattle.hd_index.specs.Changes.{IsIndexOf};
+ghost use Rattle.hd_index.specs.Places.{blocks_needed};
+ghost use Rattle.hd_update.specs.NewRows.{codes_of, sizes_of, IsRoomMade, IsFullForTypes};
+ghost use Rattle.hd_update.specs.Putting.{HoldsSome};
+ghost use Rattle.hd_update.specs.Room.{IsMade, IsRootMade};
+
+use hd_dbd::{Dbd, Refused};
+use hd_index::{blocks_needed, growth};
+use hd_ssa::ResolvedSsa;
+use hd_volume::{BlockStore, Volume};
+
+/// The bytes that rows of the types of at most 15 arguments take together, each with its prefix and rounded up.
+fn sizes_of(dbd: &Dbd, ssas: &[ResolvedSsa<'_>]) -> u32
+    requires few { length ssas.now ≤ 15 }
+    ensures { result ≡ sizes_of dbd.now.types (codes_of ssas.now) }
+{
+    let mut total: u32 = 0;
+    for place in 0..ssas.len() {
+        total += u32::from(dbd.stored_size(ssas[place].code()));
+    }
+    total
+}
+
+/// Whether some data block has a hole of at least so many bytes; none is as large as 65,536.
+fn has_hole<S: BlockStore>(volume: &mut Volume<S>, size: u32) -> Result<bool, Refused>
+    requires formatted { IsTrue volume.old.is_sound → IsFormatted volume.old }
+    requires small { volume.old.size ≤ 32768 }
+    ensures read { IsRead volume.old result volume.new }
+    ensures found { IfOk result (λ f. IsTrue volume.old.is_sound → f ≡ true → HasHole volume.old size) }
+    ensures none { IfOk result (λ f. IsTrue volume.old.is_sound → f ≡ false → HasHole volume.old size → ⊥) }
+    ensures refusal { OnlyDevice result }
+{
+    if size > 65_535 {
+        return Ok(false);
+    }
+    volume.has_hole(size as u16)
+}
+
+/// Makes sure of room and memory for so many rows below another, which take so many bytes together: a hole as large, or a block for each.
+fn make_room_below<S: BlockStore>(
+    volume: &mut Volume<S>,
+    count: u32,
+    total: u32,
+) -> Result<(), Refused>
+    requires formatted { IsTrue volume.old.is_sound → IsFormatted volume.old }
+    requires small { volume.old.size ≤ 32768 }
+    ensures call { IsCall volume.old result volume.new }
+    ensures image { IsTrue volume.new.is_sound → volume.new.image ≡ volume.old.image }
+    ensures made { OnOk result (IsTrue volume.old.is_sound → IsMade count total volume.new) }
+    ensures full { IfErr result (λ e. e ≡ Refused.Full → IsTrue volume.old.is_sound → (spare volume.old < count) × (HasHole volume.old total → ⊥)) }
+    ensures refusal { OnlyRoomOrDevice result }
+{
+    if has_hole(volume, total)? {
+        return Ok(());
+    }
+    if volume.spare() < count {
+        return Err(Refused::Full);
+    }
+    volume.reserve(count)
+}
+
+/// Makes sure of room and memory for so many rows of one path, which take so many bytes together, of which the first is a root of a key: for
+/// the rows, and for the root's entry in the index.
+fn make_root_room<S: BlockStore>(
+    volume: &mut Volume<S>,
+    dbd: &Dbd,
+    key: &[u8],
+    count: u32,
+    total: u32,
+) -> Result<(), Refused>
+    requires index { IsTrue volume.old.is_sound → IsIndexOf dbd.now volume.old }
+    requires small { volume.old.size ≤ 32768 }
+    requires few { count ≤ 15 }
+    ensures call { IsCall volume.old result volume.new }
+    ensures image { IsTrue volume.new.is_sound → volume.new.image ≡ volume.old.image }
+    ensures made { OnOk result (IsTrue volume.old.is_sound → IsRootMade dbd.now key.now count total volume.new) }
+    ensures full { IfErr result (λ e. e ≡ Refused.Full → IsTrue volume.old.is_sound → spare volume.old < count + index_growth volume.old) }
+    ensures refusal { OnlyRoomOrDevice result }
+{
+    let entry = blocks_needed(volume, dbd, key)?;
+    let spare = volume.spare();
+    if spare < entry || spare - entry < count && !has_hole(volume, total)? {
+        return Err(Refused::Full);
+    }
+    let blocks = growth(volume).saturating_add(count);
+    volume.reserve(blocks)
+}
+
+/// Makes sure of room and memory for rows of the types of these arguments, each below the one before, of which the first has these bytes:
+/// so many blocks are reserved as they may need, or none where one hole holds all of them and none is a root.
+pub fn make_room<S: BlockStore>(
+    volume: &mut Volume<S>,
+    dbd: &Dbd,
+    ssas: &[ResolvedSsa<'_>],
+    bytes: &[u8],
+) -> Result<(), Refused>
+    requires some { 0 < length ssas.now }
+    requires few { length ssas.now ≤ 15 }
+    requires size { volume.old.size ≡ dbd.now.block_size }
+    requires holds { HoldsSome dbd.now volume.old }
+    ensures call { IsCall volume.old result volume.new }
+    ensures image { IsTrue volume.new.is_sound → volume.new.image ≡ volume.old.image }
+    ensures made { OnOk result (IsTrue volume.old.is_sound → IsRoomMade dbd.now volume.new (codes_of ssas.now) bytes.now) }
+    ensures full { IfErr result (λ e. IsFullForTypes dbd.now volume.old (codes_of ssas.now) e) }
+    ensures refusal { OnlyRoomOrDevice result }
+{
+    let count = ssas.len() as u32;
+    let total = sizes_of(dbd, ssas);
+    if ssas[0].code() == 1 {
+        make_root_room(volume, dbd, dbd.key_of(1, bytes), count, total)
+    } else {
+        make_room_below(volume, count, total)
+    }
+}
