@@ -9,3 +9,4 @@ pub mod VolumeImages
 pub mod Leaves
 pub mod NewPaths
 pub mod RowChanges
+pub mod Holes

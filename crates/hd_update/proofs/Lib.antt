@@ -14,6 +14,6 @@ pub mod PutRoots
 pub mod LastPaths
 pub mod LoadedStates
 pub mod NewRows
+pub mod RoomOf
 pub mod FirstRows
-pub mod Holes
 pub mod RowsIn

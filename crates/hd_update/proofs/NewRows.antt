@@ -1,6 +1,6 @@
 -- Rows that go in one below the other.
 use Rattle.std.proofs.Common.{◌≡◌, ℕ, ◌+◌, ◌≤◌, List, [], ◌∷◌, ◌++◌, length, Bool, true, Result, Ok, Err, sym, subst, arith, inl, inr, ◌⊎◌}
-use Rattle.std.specs.Prelude.{IfOk, IfErr}
+use Rattle.std.specs.Prelude.{IfOk, IfErr, OnOk}
 use Rattle.std.proofs.lemmas.List.{length-append}
 use Rattle.hd_dbd.specs.declared.answer.Refused.{Refused}
 use Rattle.hd_dbd.specs.declared.answer.Refused.TheVariants.{Memory, Full, Device}
@@ -81,3 +81,8 @@ pub if_err_all : {A : Type 0} {P P2 P3 P4 Q : Refused → Type 0} (r : Result A 
     → ((e : Refused) → P e → P2 e → P3 e → P4 e → Q e) → IfErr r Q
 if_err_all (Ok x) p p2 p3 p4 f = tt
 if_err_all (Err e) p p2 p3 p4 f = f e p p2 p3 p4
+
+-- what is known of an answer that is no refusal
+pub on_ok_sound : {A P P2 Q : Type 0} (r : Result A Refused) (old new : Bool) → StaysSound r old new → OnOk r P → OnOk r P2 → (new ≡ old → P → P2 → Q) → OnOk r Q
+on_ok_sound (Ok x) old new same p p2 f = f same p p2
+on_ok_sound (Err e) old new same p p2 f = tt

@@ -9,9 +9,10 @@ ghost use Rattle.hd_index.specs.Changes.{IsIndexOf};
 ghost use Rattle.hd_keeping.specs.Rooms.{HasRootRoomFor, HasRootMemoryFor};
 ghost use Rattle.hd_update.specs.Putting.{PutsIn, IsFullFor, a_root, MayPut, CanPutRoot, LastsBelowRoot};
 
+use crate::room::lacks_room;
 use hd_dbd::{Dbd, Refused};
 use hd_forest::link;
-use hd_index::{blocks_needed, growth, insert};
+use hd_index::{growth, insert};
 use hd_volume::{BlockStore, Volume};
 
 /// Puts in a row below another, behind its preceding twin, 0 for none, and says its address. A refusal leaves the bytes as they were.
@@ -34,26 +35,6 @@ fn put_dependent<S: BlockStore>(
     ensures refusal { OnlyRoomOrDevice result }
 {
     link(volume, dbd, parent, after, code, bytes)
-}
-
-/// Whether a volume lacks room for one root more: its segment needs a block where no hole is as large, and its entry in the index may
-/// need others.
-fn lacks_room<S: BlockStore>(volume: &mut Volume<S>, dbd: &Dbd, key: &[u8]) -> Result<bool, Refused>
-    requires index { IsTrue volume.old.is_sound → IsIndexOf dbd.now volume.old }
-    ensures read { IsRead volume.old result volume.new }
-    ensures lacks { IfOk result (λ b. IsTrue volume.old.is_sound → b ≡ true → spare volume.old < 1 + index_growth volume.old) }
-    ensures room { IfOk result (λ b. IsTrue volume.old.is_sound → b ≡ false → HasRootRoomFor dbd.now volume.old key.now (a_root ∷ [])) }
-    ensures refusal { OnlyDevice result }
-{
-    let spare = u64::from(volume.spare());
-    let entry = u64::from(blocks_needed(volume, dbd, key)?);
-    if entry + 1 <= spare {
-        return Ok(false);
-    }
-    if !volume.has_hole(dbd.stored_size(1))? {
-        return Ok(true);
-    }
-    Ok(spare < entry)
 }
 
 /// Links a root behind its preceding twin, 0 for none, and enters it into the index, where there is room and memory for both.
@@ -100,7 +81,7 @@ fn put_reserved_root<S: BlockStore>(
     ensures refusal { OnlyRoomOrDevice result }
 {
     let key = dbd.key_of(1, bytes);
-    if lacks_room(volume, dbd, key)? {
+    if lacks_room(volume, dbd, key, 1, u32::from(dbd.stored_size(1)))? {
         return Err(Refused::Full);
     }
     link_root(volume, dbd, after, bytes, key)

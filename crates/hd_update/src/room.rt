@@ -1,15 +1,13 @@
-ghost use Rattle.std.specs.Prelude.{◌≡◌, ◌+◌, ◌*◌, ◌<◌, ◌≤◌, length, take, drop, true, false, IsTrue, IfOk, OnOk, IfErr};
-ghost use Rattle.hd_dbd.specs.Facts.{stored_sizes};
+ghost use Rattle.std.specs.Prelude.{◌≡◌, ◌⊎◌, ◌+◌, ◌<◌, ◌≤◌, length, true, false, IsTrue, IfOk, OnOk, IfErr};
 ghost use Rattle.hd_dbd.specs.Refusals.{OnlyDevice, OnlyRoomOrDevice};
 ghost use Rattle.hd_volume.specs.Calls.{IsCall, IsRead};
-ghost use Rattle.hd_volume.specs.Indexes.{index_growth, root_key_length};
+ghost use Rattle.hd_volume.specs.Indexes.{index_growth};
 ghost use Rattle.hd_volume.specs.Rooms.{spare, HasHole};
 ghost use Rattle.hd_volume.specs.Volumes.{IsFormatted};
 ghost use Rattle.hd_index.specs.Changes.{IsIndexOf};
-ghost use Rattle.hd_index.specs.Places.{blocks_needed};
 ghost use Rattle.hd_update.specs.NewRows.{codes_of, sizes_of, IsRoomMade, IsFullForTypes};
 ghost use Rattle.hd_update.specs.Putting.{HoldsSome};
-ghost use Rattle.hd_update.specs.Room.{IsMade, IsRootMade};
+ghost use Rattle.hd_update.specs.Room.{HasRoom, HasRootRoom};
 
 use hd_dbd::{Dbd, Refused};
 use hd_index::{blocks_needed, growth};
@@ -53,7 +51,8 @@ fn make_room_below<S: BlockStore>(
     requires small { volume.old.size ≤ 32768 }
     ensures call { IsCall volume.old result volume.new }
     ensures image { IsTrue volume.new.is_sound → volume.new.image ≡ volume.old.image }
-    ensures made { OnOk result (IsTrue volume.old.is_sound → IsMade count total volume.new) }
+    ensures room { OnOk result (IsTrue volume.old.is_sound → HasRoom count total volume.old) }
+    ensures memory { OnOk result (IsTrue volume.old.is_sound → (count ≤ volume.new.room) ⊎ HasHole volume.old total) }
     ensures full { IfErr result (λ e. e ≡ Refused.Full → IsTrue volume.old.is_sound → (spare volume.old < count) × (HasHole volume.old total → ⊥)) }
     ensures refusal { OnlyRoomOrDevice result }
 {
@@ -64,6 +63,33 @@ fn make_room_below<S: BlockStore>(
         return Err(Refused::Full);
     }
     volume.reserve(count)
+}
+
+/// Whether a volume lacks room for so many rows of one path, which take so many bytes together, of which the first is a root of a key: the
+/// root's entry in the index may need a block, and the rows need one each where no hole is as large as all together.
+pub fn lacks_room<S: BlockStore>(
+    volume: &mut Volume<S>,
+    dbd: &Dbd,
+    key: &[u8],
+    count: u32,
+    total: u32,
+) -> Result<bool, Refused>
+    requires index { IsTrue volume.old.is_sound → IsIndexOf dbd.now volume.old }
+    requires small { volume.old.size ≤ 32768 }
+    ensures read { IsRead volume.old result volume.new }
+    ensures lacks { IfOk result (λ b. IsTrue volume.old.is_sound → b ≡ true → spare volume.old < count + index_growth volume.old) }
+    ensures room { IfOk result (λ b. IsTrue volume.old.is_sound → b ≡ false → HasRootRoom dbd.now key.now count total volume.old) }
+    ensures refusal { OnlyDevice result }
+{
+    let spare = volume.spare();
+    let entry = blocks_needed(volume, dbd, key)?;
+    if spare < entry {
+        return Ok(true);
+    }
+    if count <= spare - entry {
+        return Ok(false);
+    }
+    Ok(!has_hole(volume, total)?)
 }
 
 /// Makes sure of room and memory for so many rows of one path, which take so many bytes together, of which the first is a root of a key: for
@@ -80,13 +106,12 @@ fn make_root_room<S: BlockStore>(
     requires few { count ≤ 15 }
     ensures call { IsCall volume.old result volume.new }
     ensures image { IsTrue volume.new.is_sound → volume.new.image ≡ volume.old.image }
-    ensures made { OnOk result (IsTrue volume.old.is_sound → IsRootMade dbd.now key.now count total volume.new) }
+    ensures room { OnOk result (IsTrue volume.old.is_sound → HasRootRoom dbd.now key.now count total volume.old) }
+    ensures memory { OnOk result (IsTrue volume.old.is_sound → count + index_growth volume.new ≤ volume.new.room) }
     ensures full { IfErr result (λ e. e ≡ Refused.Full → IsTrue volume.old.is_sound → spare volume.old < count + index_growth volume.old) }
     ensures refusal { OnlyRoomOrDevice result }
 {
-    let entry = blocks_needed(volume, dbd, key)?;
-    let spare = volume.spare();
-    if spare < entry || spare - entry < count && !has_hole(volume, total)? {
+    if lacks_room(volume, dbd, key, count, total)? {
         return Err(Refused::Full);
     }
     let blocks = growth(volume).saturating_add(count);
@@ -111,10 +136,12 @@ pub fn make_room<S: BlockStore>(
     ensures full { IfErr result (λ e. IsFullForTypes dbd.now volume.old (codes_of ssas.now) e) }
     ensures refusal { OnlyRoomOrDevice result }
 {
+    let code = ssas[0].code();
+    let key = dbd.key_of(code, bytes);
     let count = ssas.len() as u32;
     let total = sizes_of(dbd, ssas);
-    if ssas[0].code() == 1 {
-        make_root_room(volume, dbd, dbd.key_of(1, bytes), count, total)
+    if code == 1 {
+        make_root_room(volume, dbd, key, count, total)
     } else {
         make_room_below(volume, count, total)
     }
