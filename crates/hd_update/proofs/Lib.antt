@@ -15,5 +15,6 @@ pub mod LastPaths
 pub mod LoadedStates
 pub mod NewRows
 pub mod RoomOf
+pub mod PathRows
 pub mod FirstRows
 pub mod RowsIn

@@ -17,6 +17,7 @@ use Rattle.hd_image.specs.Records.{IsVolumeOf}
 use Rattle.hd_keeping.specs.VolumeImages.{images_of}
 use Rattle.hd_keeping.proofs.VolumeImages.{lacking-room}
 use Rattle.hd_keeping.specs.Rooms.{HasRoomFor, HasMemoryFor, HasRootRoomFor, blocks_for_entry}
+use Rattle.hd_update.specs.Putting.{a_root}
 use Rattle.hd_update.specs.NewRows.{codes_of, first_code, sizes_of}
 use Rattle.hd_update.specs.Room.{HasRoom, HasRootRoom}
 
@@ -48,6 +49,11 @@ module _ (d : Database) (v : VolumeState) (codes : List ℕ) (rows : List Segmen
   pub root_room_of : (key : List ℕ) → HasRootRoom d key count total v → HasRootRoomFor d v key rows
   root_room_of key (inl blocks) = inl (subst (λ (n : ℕ). n + blocks_for_entry d v key ≤ spare v) many blocks)
   root_room_of key (inr both) = inr (subst (HasHole v) large both.0, both.1)
+
+-- for one root
+pub one_root_room : (d : Database) (v : VolumeState) (key : List ℕ) (total : ℕ) → total ≡ stored_size d.types 1 → HasRootRoom d key 1 total v → HasRootRoomFor d v key (a_root ∷ [])
+one_root_room d v key total total_is room =
+    root_room_of d v (1 ∷ []) (a_root ∷ []) refl 1 total refl (total_is ∙ (let e : stored_size d.types 1 ≡ 0 + stored_size d.types 1 = omega arith in e)) key room
 
 -- ---- of the first type
 

@@ -84,6 +84,11 @@ abbrev pub IsFullForTypes : Database → VolumeState → List ℕ → Refused �
 IsFullForTypes d v codes e =
     (rows : List Segment) → map (λ r. r.code) rows ≡ codes → e ≡ Full → IsTrue v.is_sound → HoldsSome d v → LacksRoom (images_of d) d.types v.image rows
 
+-- a row, with whatever rows of these types below it, is refused as Full only where the volume's bytes lack room for them
+abbrev pub IsFullWith : Database → VolumeState → Segment → List ℕ → Refused → Type 0
+IsFullWith d v row codes e =
+    (rows : List Segment) → map (λ r. r.code) rows ≡ codes → e ≡ Full → IsTrue v.is_sound → HoldsSome d v → LacksRoom (images_of d) d.types v.image (row ∷ rows)
+
 -- once the row went in, room and memory that there were for it and others below it last for these
 abbrev pub LastsForOthers : Database → VolumeState → Segment → VolumeState → Type 0
 LastsForOthers d v row w =

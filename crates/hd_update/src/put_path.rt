@@ -1,11 +1,10 @@
-ghost use Rattle.std.specs.Prelude.{◌≡◌, ◌≢◌, ◌+◌, ◌<◌, ◌≤◌, length, drop, slice_index, true, IsTrue, IfOk, IfErr};
+ghost use Rattle.std.specs.Prelude.{◌≡◌, ◌≢◌, ◌+◌, ◌<◌, ◌≤◌, length, drop, ◌∷◌, true, IsTrue, IfOk, IfErr};
 ghost use Rattle.hd_dbd.specs.Facts.{stored_sizes};
 ghost use Rattle.hd_dbd.specs.Refusals.{OnlyRoomOrDevice};
 ghost use Rattle.hd_dbd.specs.Rows.{row_fits};
 ghost use Rattle.hd_volume.specs.Calls.{IsCall};
-ghost use Rattle.hd_forest.specs.Walks.{tip};
 ghost use Rattle.hd_update.specs.Putting.{PutsIn, MayPut};
-ghost use Rattle.hd_update.specs.NewRows.{codes_of, first_code, has_length_for, rows_in, are_types, IsRoomLeft, IsFullForTypes, AreFullFor, PutThemIn, MayPutThem};
+ghost use Rattle.hd_update.specs.NewRows.{codes_of, has_length_for, rows_in, are_types, IsRoomLeft, IsFullWith, AreFullFor, PutThemIn, MayPutThem};
 
 use crate::new_rows::{put_first, put_others};
 use crate::putting::put_row;
@@ -24,29 +23,30 @@ fn put_top<S: BlockStore>(
     parent: u32,
     after: u32,
     ssas: &[ResolvedSsa<'_>],
+    code: u8,
     bytes: &[u8],
 ) -> Result<u32, Refused>
-    requires some { 0 < length ssas.now }
     requires few { length ssas.now ≤ 15 }
+    requires first { codes_of ssas.now ≡ code ∷ drop 1 (codes_of ssas.now) }
     requires size { volume.old.size ≡ dbd.now.block_size }
     requires sizes { volume.old.sizes ≡ stored_sizes dbd.now.types }
-    requires fits { row_fits dbd.now.types (record { code = first_code ssas.now; bytes = bytes.now }) ≡ true }
-    requires root { IsTrue volume.old.is_sound → first_code ssas.now ≡ 1 → parent ≡ 0 }
-    requires below { IsTrue volume.old.is_sound → first_code ssas.now ≢ 1 → parent ≢ 0 }
-    requires may { IsTrue volume.old.is_sound → MayPut dbd.now volume.old parent after (record { code = first_code ssas.now; bytes = bytes.now }) }
+    requires fits { row_fits dbd.now.types (record { code = code; bytes = bytes.now }) ≡ true }
+    requires root { IsTrue volume.old.is_sound → code ≡ 1 → parent ≡ 0 }
+    requires below { IsTrue volume.old.is_sound → code ≢ 1 → parent ≢ 0 }
+    requires may { IsTrue volume.old.is_sound → MayPut dbd.now volume.old parent after (record { code = code; bytes = bytes.now }) }
     ensures call { IsCall volume.old result volume.new }
-    ensures put_in { IfOk result (λ a. PutsIn dbd.now volume.old parent after (record { code = first_code ssas.now; bytes = bytes.now }) a volume.new) }
+    ensures put_in { IfOk result (λ a. PutsIn dbd.now volume.old parent after (record { code = code; bytes = bytes.now }) a volume.new) }
     ensures lasts { IfOk result (λ _. IsTrue volume.old.is_sound → IsRoomLeft dbd.now volume.new (drop 1 (codes_of ssas.now))) }
     ensures kept { IfErr result (λ _. IsTrue volume.new.is_sound → volume.new.image ≡ volume.old.image) }
-    ensures full { IfErr result (λ e. IsFullForTypes dbd.now volume.old (codes_of ssas.now) e) }
+    ensures full { IfErr result (λ e. IsFullWith dbd.now volume.old (record { code = code; bytes = bytes.now }) (drop 1 (codes_of ssas.now)) e) }
     ensures refusal { OnlyRoomOrDevice result }
 {
-    let code = ssas[0].code();
     if ssas.len() == 1 {
         return put_row(volume, dbd, parent, after, code, bytes);
     }
     make_room(volume, dbd, ssas, bytes)?;
-    put_first(volume, dbd, parent, after, code, bytes)
+    let address = put_first(volume, dbd, parent, after, code, bytes)?;
+    Ok(address)
 }
 
 /// Puts in rows of the types of these arguments, which an area has one behind the other: the first below the last row of the parent's path,
@@ -73,8 +73,10 @@ pub fn put_path<S: BlockStore>(
     ensures full { IfErr result (λ e. AreFullFor dbd.now volume.old (rows_in dbd.now.types (codes_of ssas.now) area.now) e) }
     ensures refusal { OnlyRoomOrDevice result }
 {
-    let length = length_of(dbd, ssas[0].code());
-    let address = put_top(volume, dbd, tip_of(parent), after, ssas, &area[..length])?;
+    let code = ssas[0].code();
+    let length = length_of(dbd, code);
+    let first = &area[..length];
+    let address = put_top(volume, dbd, tip_of(parent), after, ssas, code, first)?;
     let mut path = parent.copy();
     path.push(address);
     put_others(volume, dbd, &mut path, &ssas[1..], &area[length..])?;

@@ -9,6 +9,7 @@ use Rattle.hd_keeping.proofs.Rooms.{growth-same, one-volume}
 use Rattle.hd_update.specs.Putting.{a_root}
 use Rattle.hd_update.proofs.Reading.{held_read}
 use Rattle.hd_update.proofs.PutRoots.{no_root_room, put_before}
+use Rattle.hd_update.proofs.RoomOf.{one_root_room}
 use Rattle.hd_update.proofs.putting.put_reserved_root.Goals as goal
 
 pub returns-then-branch-clause-full : goal.returns-then-branch-clause-full
@@ -36,7 +37,8 @@ link_root-requires-clause-can g c now =
         may = subst (λ (m : Links). MayLink d.types m 0 c.args.after (record { code = 1; bytes = c.args.bytes.now })) (sym same.links) M.may;
       };
       others = [];
-      room = (one-volume d v w (record { image = same.image; size = read.call.size; sizes = read.call.sizes })).2 c.key_of-key.result.now (a_root ∷ []) (c.in_ok-lacks_room.ensures.room sound c.if-branch.false);
+      room = (one-volume d v w (record { image = same.image; size = read.call.size; sizes = read.call.sizes })).2 c.key_of-key.result.now (a_root ∷ [])
+          (one_root_room d v c.key_of-key.result.now c.from.result (c.from.ensures ∙ c.stored_size.ensures) (c.in_ok-lacks_room.ensures.room sound c.if-branch.false));
       memory =
           (let own : length (a_root ∷ []) + index_growth v ≤ v.room = c.requires.memory sound in
           let room : w.room ≡ v.room = read.room in
