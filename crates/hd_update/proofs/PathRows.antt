@@ -1,5 +1,5 @@
 -- The rows of one ISRT: the first, and those below it.
-use Rattle.std.proofs.Common.{◌≡◌, ℕ, ◌-◌, ◌<◌, ◌≤◌, List, [], ◌∷◌, ◌++◌, length, take, drop, true, refl, sym, ap, subst, ◌∙◌, inl, inr, arith}
+use Rattle.std.proofs.Common.{◌≡◌, ℕ, ◌-◌, ◌<◌, ◌≤◌, List, [], ◌∷◌, ◌++◌, length, take, drop, true, refl, sym, ap, ap₂, subst, ◌∙◌, inl, inr, arith}
 use Rattle.std.specs.Prelude.{map, slice_index_or, is_some}
 use Rattle.std.proofs.lemmas.Bool.{and_parts}
 use Rattle.std.proofs.lemmas.List.{append_assoc, take_all, length-drop, length-take-le}
@@ -156,3 +156,8 @@ first_and_others types ssas area a code len some is code_is len_is typed long =
     dropped : (xs : List Ssa) → codes_of (drop 1 xs) ≡ drop 1 (codes_of xs)
     dropped [] = refl
     dropped (x ∷ xs) = refl
+
+-- the others, as they are handed on
+pub others_are : (types : List SegmentType) (ssas : List Ssa) (area : List ℕ) (code len : ℕ) → AreFirstAndOthers types ssas area code len
+    → rows_in types (codes_of (take (length ssas - 1) (drop 1 ssas))) (take (length area - len) (drop len area)) ≡ rows_in types (drop 1 (codes_of ssas)) (drop len area)
+others_are types ssas area code len F = ap₂ (λ (cs : List ℕ) (xs : List ℕ). rows_in types cs xs) F.others_codes F.others_area
