@@ -13,3 +13,4 @@ pub mod PutRows
 pub mod PutRoots
 pub mod LastPaths
 pub mod LoadedStates
+pub mod LoadSteps
