@@ -19,4 +19,6 @@ pub use repl_call::repl;
 pub use rewrites::is_excepted;
 
 #[cfg(test)]
+mod load_tests;
+#[cfg(test)]
 mod tests;
