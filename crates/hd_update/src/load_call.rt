@@ -78,8 +78,8 @@ fn is_whole(dbd: &Dbd, code: u8, area: &[u8]) -> bool
 }
 
 /// ISRT by the PCB of a number, counted from 1, that loads and has passed all rows, once its tests are passed: the I/O area is one row of
-/// the type of a code, which goes behind all others, and the PCB stands on it. LB, LC, LD or LE where it may not, and the PCB's hold ends.
-/// Three accesses at most are of rows on the path of the last row, before the row goes in.
+/// the type of a code, which goes behind all others, and the PCB stands on it. LB, LC, LD or LE where it may not, and the PCB's hold ends;
+/// three accesses at most tell whether it may.
 ///
 /// `Area` says that the area is not as long as the type's rows, `Full` and `Memory` that there is no room for the row; nothing is changed
 /// then.
