@@ -1,5 +1,5 @@
 -- The path of the last row of a forest that a volume holds.
-use Rattle.std.proofs.Common.{◌≡◌, ℕ, zero, suc, ◌+◌, ◌-◌, ◌<◌, List, [], ◌∷◌, ◌++◌, length, IsTrue, Bool, true, false, Ok, Option, Some, None, refl, ap, ap₂, sym, ◌∙◌, subst, arith, inl, inr}
+use Rattle.std.proofs.Common.{◌≡◌, ℕ, zero, suc, ◌+◌, ◌-◌, List, [], ◌∷◌, Bool, true, Ok, Option, Some, None, refl, ap, sym, ◌∙◌, subst, arith, inl, inr}
 use Rattle.std.specs.Prelude.{map, slice_get, option_map, ◌==◌, ◌||◌}
 use Rattle.std.specs.List.{list_any}
 use Rattle.std.specs.Option.{option_eq}
@@ -10,7 +10,7 @@ use Rattle.hd_dbd.specs.Types.{SegmentType}
 use Rattle.hd_dbd.specs.Hierarchy.{Database, level_of}
 use Rattle.hd_dbd.specs.Segment.{Segment}
 use Rattle.hd_dbd.specs.Rows.{level, valid_from}
-use Rattle.hd_dbd.specs.Forest.{Forest, empty, node, sequence}
+use Rattle.hd_dbd.specs.Forest.{Forest, empty, node}
 use Rattle.hd_dbd.proofs.LevelLaw.{Leveled, leveled}
 use Rattle.hd_dbd.proofs.Loading.{OnLevels, levels_after}
 use Rattle.hd_dbd.proofs.Sequences.{walk}

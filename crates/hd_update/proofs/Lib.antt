@@ -18,3 +18,4 @@ pub mod RoomOf
 pub mod PathRows
 pub mod FirstRows
 pub mod RowsIn
+pub mod LoadSteps

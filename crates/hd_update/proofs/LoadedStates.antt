@@ -1,8 +1,8 @@
 -- What a load does in a state.
-use Rattle.std.proofs.Common.{◌≡◌, ◌≢◌, ℕ, zero, suc, ◌+◌, ◌-◌, ◌<◌, ◌≤◌, List, [], ◌∷◌, ◌++◌, length, take, drop, IsTrue, Bool, true, false, Ok, Option, Some, None, refl, ap, ap₂, sym, ◌∙◌, subst, arith, inl, inr}
-use Rattle.std.specs.Prelude.{map, slice_get, slice_index, slice_set, option_map, unwrap_or, nat_le, cond}
+use Rattle.std.proofs.Common.{◌≡◌, ℕ, zero, suc, ◌+◌, ◌-◌, ◌<◌, ◌≤◌, List, [], ◌∷◌, ◌++◌, length, take, drop, IsTrue, true, false, Ok, Option, None, refl, ap, ap₂, sym, ◌∙◌, subst, arith, inl, inr}
+use Rattle.std.specs.Prelude.{map, slice_get, slice_index, slice_set, unwrap_or}
 use Rattle.std.specs.Option.{option_map_or}
-use Rattle.std.proofs.lemmas.Bool.{cond-true, cond-false, cases_Bool}
+use Rattle.std.proofs.lemmas.Bool.{cases_Bool}
 use Rattle.std.proofs.lemmas.List.{length-append, length-map}
 use Rattle.hd_dbd.specs.Types.{SegmentType, View}
 use Rattle.hd_dbd.specs.declared.answer.LoadFault.{LoadFault}
@@ -16,8 +16,8 @@ use Rattle.hd_dbd.specs.Positions.{Position}
 use Rattle.hd_dbd.specs.Views.{Setting}
 use Rattle.hd_dbd.specs.Calls.{row_reply}
 use Rattle.hd_dbd.proofs.LevelLaw.{leveled}
-use Rattle.hd_calls.specs.Moves.{Change, inserted, put_in, rows_after, position_after, position_after_insert}
-use Rattle.hd_calls.specs.Steps.{Effect, State, bare_answer, position_at, onto_new, insert_at, load_step}
+use Rattle.hd_calls.specs.Moves.{inserted, put_in, position_after_insert}
+use Rattle.hd_calls.specs.Steps.{State, bare_answer, position_at, onto_new, insert_at, load_step}
 use Rattle.hd_calls.specs.Runs.{Follows}
 use Rattle.hd_volume.specs.Volumes.{VolumeState}
 use Rattle.hd_volume.specs.Calls.{IsRead}
@@ -43,7 +43,7 @@ use Rattle.hd_position.specs.Kept.{Kept, StandsFor, path_before}
 use Rattle.hd_position.specs.Laws.{MovesUp}
 use Rattle.hd_position.proofs.LastPlaces.{last_paths}
 use Rattle.hd_get.specs.declared.outcome.Outcome.TheVariants.{Found}
-use Rattle.hd_update.specs.Loading.{IsLastPath, last_parent}
+use Rattle.hd_update.specs.Loading.{last_parent}
 use Rattle.hd_update.specs.Putting.{MayPut, IsPutIn}
 use Rattle.hd_update.specs.States.{StandForAll, Represents, IsAnswered, kept_of}
 use Rattle.hd_update.proofs.Answering.{answered_as}

@@ -18,8 +18,11 @@ mod room;
 
 pub use dlet_call::{dlet, taken_row};
 pub use held::{HeldRow, HeldRows, held_rows, row_at};
+pub use load_call::load_row;
 pub use repl_call::repl;
 pub use rewrites::is_excepted;
 
+#[cfg(test)]
+mod load_tests;
 #[cfg(test)]
 mod tests;

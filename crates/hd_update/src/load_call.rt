@@ -1,12 +1,14 @@
-ghost use Rattle.std.specs.Prelude.{◌≡◌, ◌<◌, ◌≤◌, length, true, IsTrue, IfOk, IfErr};
+ghost use Rattle.std.specs.Prelude.{◌≡◌, ◌<◌, ◌≤◌, length, is_some, true, IsTrue, IfOk, IfErr};
 ghost use Rattle.hd_dbd.specs.Facts.{stored_sizes};
+ghost use Rattle.hd_dbd.specs.Hierarchy.{type_of};
 ghost use Rattle.hd_dbd.specs.Rows.{row_fits};
 ghost use Rattle.hd_dbd.specs.Refusals.{OnlyRoomOrDevice};
 ghost use Rattle.hd_volume.specs.Calls.{IsCall};
-ghost use Rattle.hd_update.specs.Loading.{MayLoad, PutsLast, IsRowLoaded, IsRowFull};
+ghost use Rattle.hd_update.specs.Loading.{HasPassedAll, MayLoad, PutsLast, IsRowLoaded, IsRowFull, IsLoadDone, IsLoadAreaWrong, IsLoadFull};
 ghost use Rattle.hd_update.specs.States.{IsUndone};
 
-use crate::judging::{last_parent, last_twin};
+use crate::judging::{last_parent, last_twin, load_fault, status_of};
+use crate::positions::end_hold;
 use crate::putting::put_row;
 use hd_dbd::{Dbd, Refused, Status};
 use hd_forest::Path;
@@ -63,4 +65,50 @@ pub fn load_behind<S: BlockStore>(
     own.step(dbd.level(code), address);
     stand_on_new(volume, dbd, &mut positions[number - 1], own)?;
     Ok(Outcome::Found(Status::Blank))
+}
+
+/// Whether the I/O area is as long as a row of the type of a code.
+fn is_whole(dbd: &Dbd, code: u8, area: &[u8]) -> bool
+    ensures { result ≡ row_fits dbd.now.types (record { code = code; bytes = area.now }) }
+{
+    match dbd.type_of(code) {
+        Some(segment) => area.len() == segment.length as usize,
+        None => false,
+    }
+}
+
+/// ISRT by the PCB of a number, counted from 1, that loads and has passed all rows, once its tests are passed: the I/O area is one row of
+/// the type of a code, which goes behind all others, and the PCB stands on it. LB, LC, LD or LE where it may not, and the PCB's hold ends;
+/// three accesses at most tell whether it may.
+///
+/// `Area` says that the area is not as long as the type's rows, `Full` and `Memory` that there is no room for the row; nothing is changed
+/// then.
+pub fn load_row<S: BlockStore>(
+    volume: &mut Volume<S>,
+    dbd: &Dbd,
+    positions: &mut [Position],
+    number: usize,
+    code: u8,
+    area: &[u8],
+) -> Result<Outcome, Refused>
+    requires size { volume.old.size ≡ dbd.now.block_size }
+    requires sizes { volume.old.sizes ≡ stored_sizes dbd.now.types }
+    requires number { (0 < number) × (number ≤ length positions.old) }
+    requires typed { is_some (type_of dbd.now.types code) ≡ true }
+    requires last { HasPassedAll dbd.now volume.old positions.old number }
+    ensures call { IsCall volume.old result volume.new }
+    ensures done { IfOk result (λ o. IsLoadDone dbd.now volume.old positions.old number code area.now o volume.new positions.new) }
+    ensures undone { IfErr result (λ _. IsUndone volume.old positions.old volume.new positions.new) }
+    ensures area { IfErr result (λ e. IsLoadAreaWrong dbd.now volume.old positions.old number code area.now e) }
+    ensures full { IfErr result (λ e. IsLoadFull dbd.now volume.old positions.old (record { code = code; bytes = area.now }) e) }
+{
+    if !is_whole(dbd, code, area) {
+        return Err(Refused::Area);
+    }
+    let path = positions[number - 1].path().copy();
+    if let Some(fault) = load_fault(volume, dbd, &path, code, area)? {
+        end_hold(positions, number);
+        return Ok(Outcome::Missing(status_of(fault)));
+    }
+    load_behind(volume, dbd, positions, number, &path, code, area)
 }

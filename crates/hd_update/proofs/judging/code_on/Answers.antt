@@ -1,4 +1,4 @@
-use Rattle.std.proofs.Common.{◌≡◌, ℕ, Option, Some, ap, sym, refl, ◌∙◌}
+use Rattle.std.proofs.Common.{ℕ, Option, Some, ap, sym, refl, ◌∙◌}
 use Rattle.std.specs.Prelude.{option_map}
 use Rattle.hd_dbd.specs.Segment.{Segment}
 use Rattle.hd_links.specs.Placed.{Placed}

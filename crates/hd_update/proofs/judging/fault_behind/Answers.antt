@@ -1,4 +1,4 @@
-use Rattle.std.proofs.Common.{◌≡◌, ℕ, ◌-◌, Option, ap, sym, refl, subst, ◌∙◌}
+use Rattle.std.proofs.Common.{◌≡◌, ℕ, ◌-◌, Option, ap, sym, refl, ◌∙◌}
 use Rattle.std.specs.Prelude.{option_and_then}
 use Rattle.hd_dbd.specs.Hierarchy.{level_of}
 use Rattle.hd_dbd.specs.Segment.{Segment}

@@ -1,5 +1,4 @@
-use Rattle.std.proofs.Common.{◌≡◌, ℕ, ◌-◌, ◌++◌, List, [], ◌∷◌, length, take, map, IsTrue, Ok, None, sym, ap, subst, arith, ◌∙◌}
-use Rattle.std.specs.Prelude.{slice_set}
+use Rattle.std.proofs.Common.{◌≡◌, ℕ, ◌-◌, ◌++◌, List, [], ◌∷◌, length, take, IsTrue, Ok, None, ap, subst, arith, ◌∙◌}
 use Rattle.hd_dbd.specs.Segment.{Segment}
 use Rattle.hd_dbd.specs.Rows.{level}
 use Rattle.hd_dbd.specs.Forest.{Forest}
@@ -9,12 +8,9 @@ use Rattle.hd_volume.proofs.JoinLemmas.{calls-join}
 use Rattle.hd_links.specs.Placed.{Placed}
 use Rattle.hd_links.specs.LastRows.{last_on, segments_of}
 use Rattle.hd_links.specs.Steps.{rows_of}
-use Rattle.hd_image.specs.Records.{links_of}
-use Rattle.hd_position.specs.Inserts.{StandsOnNew}
-use Rattle.hd_position.specs.Kept.{Kept, kept_start}
+use Rattle.hd_position.specs.Kept.{kept_start}
 use Rattle.std.proofs.lemmas.List.{get_or_default}
 use Rattle.hd_update.specs.Loading.{IsLastPath}
-use Rattle.hd_update.specs.States.{kept_of}
 use Rattle.hd_update.proofs.LastPaths.{one_forest}
 use Rattle.hd_update.proofs.LoadedStates.{on_new, row_loaded_from}
 use Rattle.hd_update.proofs.load_call.load_behind.Goals as goal

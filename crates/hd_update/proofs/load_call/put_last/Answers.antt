@@ -1,4 +1,4 @@
-use Rattle.std.proofs.Common.{◌≡◌, ℕ, List, [], ◌∷◌, IsTrue, sym, subst, ◌∙◌}
+use Rattle.std.proofs.Common.{◌≡◌, ℕ, List, [], ◌∷◌, sym, subst, ◌∙◌}
 use Rattle.hd_dbd.specs.Segment.{Segment}
 use Rattle.hd_calls.specs.Runs.{LacksRoom}
 use Rattle.hd_volume.proofs.CallSteps.{if-ok}
