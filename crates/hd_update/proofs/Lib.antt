@@ -13,3 +13,13 @@ pub mod PutRows
 pub mod PutRoots
 pub mod LastPaths
 pub mod LoadedStates
+pub mod TwinRows
+pub mod TwinGaps
+pub mod PlaceAmong
+pub mod PlaceSides
+pub mod PlaceHere
+pub mod PlaceBelow
+pub mod PlaceRoots
+pub mod PlaceStanding
+pub mod PlaceChains
+pub mod PlaceEqual

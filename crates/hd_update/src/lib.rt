@@ -6,6 +6,7 @@ mod dlet_call;
 mod held;
 mod judging;
 mod load_call;
+mod places;
 mod positions;
 mod putting;
 mod repl_call;
