@@ -1,6 +1,6 @@
 -- A row that goes in between two twins, of which the later must come after it and the earlier need not, goes in at the insertion point.
 use Rattle.std.proofs.Common.{◌≡◌, ℕ, zero, suc, ◌+◌, ◌-◌, ◌<◌, ◌≤◌, List, length, Bool, true, false, Option, Some, None, refl, sym, ap, subst, ◌∙◌, arith, inl, inr}
-use Rattle.std.specs.Prelude.{IfSome, ◌&&◌, ◌||◌, ◌==◌, nat_lt, nat_le, cond, unwrap_or}
+use Rattle.std.specs.Prelude.{IfSome, ◌&&◌, ◌==◌, nat_lt, nat_le, unwrap_or}
 use Rattle.std.specs.Option.{option_map_or}
 use Rattle.std.proofs.lemmas.Bool.{and_from, cases_eq, cases_lt, cond-false, cond-true, lt-ltb, ltb-true, le-leb, ne_eqb, or_left}
 use Rattle.hd_dbd.specs.declared.hierarchy.Rule.{Rule}
@@ -16,7 +16,7 @@ use Rattle.hd_dbd.proofs.InSequence.{in_sequence}
 use Rattle.hd_dbd.proofs.LevelLaw.{Leveled, leveled}
 use Rattle.hd_dbd.proofs.Names.{option_eq-Decides}
 use Rattle.hd_calls.specs.Satisfies.{is_child}
-use Rattle.hd_calls.specs.Places.{comes_after, is_key_taken, insertion_point}
+use Rattle.hd_calls.specs.Places.{comes_after, is_key_taken}
 use Rattle.hd_calls.specs.Laws.{IsBetweenTwins, first_of_type}
 use Rattle.hd_calls.proofs.InsertionPoint.{between_twins}
 use Rattle.hd_calls.proofs.PlaceOrder.{later_after}

@@ -1,7 +1,6 @@
 -- A chain of twins, and where a row without key goes in.
-use Rattle.std.proofs.Common.{◌≡◌, ℕ, zero, suc, ◌<◌, List, [], Bool, true, false, Option, Some, None, IsTrue, Ok, refl, sym, ap, subst, ◌∙◌, arith, inl, inr}
-use Rattle.std.specs.Prelude.{cond, is_some}
-use Rattle.std.specs.Option.{option_map_or}
+use Rattle.std.proofs.Common.{◌≡◌, ℕ, suc, ◌<◌, List, Bool, true, false, Option, Some, None, Ok, refl, sym, ap, subst, ◌∙◌, arith, inl, inr}
+use Rattle.std.specs.Prelude.{cond}
 use Rattle.std.specs.Ordering.{nat_cmp}
 use Rattle.std.specs.Cmp.Lexicographic.{slice_cmp}
 use Rattle.std.proofs.lemmas.Bool.{false≢true}
@@ -23,8 +22,7 @@ use Rattle.hd_forest.proofs.Chains.{twin-some}
 use Rattle.hd_forest.proofs.Held.{held}
 use Rattle.hd_forest.proofs.Reading.{after-read, sound-before}
 use Rattle.hd_forest.proofs.Tips.{twins-there}
-use Rattle.hd_update.specs.declared.places.Side.{Side}
-use Rattle.hd_update.specs.declared.places.Side.TheVariants.{Before, Behind, Taken}
+use Rattle.hd_update.specs.declared.places.Side.TheVariants.{Before, Behind}
 use Rattle.hd_update.specs.Places.{has_key, side_of, side_at, IsGapFound, IsGapBelow, IsParent, HasParent}
 
 -- what stands behind a twin, or first, is in the chain

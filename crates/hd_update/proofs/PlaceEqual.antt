@@ -1,6 +1,5 @@
 -- The place of a row before its equal on which the PCB stands.
-use Rattle.std.proofs.Common.{◌≡◌, ℕ, ◌-◌, ◌+◌, ◌<◌, ◌≤◌, List, length, true, false, IsTrue, Ok, Option, Some, None, refl, sym, ap, ap₂, subst, ◌∙◌, arith}
-use Rattle.std.specs.Prelude.{IfSome, ◌&&◌}
+use Rattle.std.proofs.Common.{◌≡◌, ℕ, ◌-◌, ◌<◌, List, length, true, Ok, Option, Some, None, sym, ap, subst, ◌∙◌, arith}
 use Rattle.std.proofs.lemmas.Bool.{and_from}
 use Rattle.hd_dbd.specs.declared.hierarchy.Rule.TheVariants.{First, Here}
 use Rattle.hd_dbd.specs.Segment.{Segment}
@@ -24,7 +23,7 @@ use Rattle.hd_forest.proofs.Reading.{after-read, sound-before}
 use Rattle.hd_position.specs.Kept.{Kept}
 use Rattle.hd_get.specs.Gets.{IsPositionIn}
 use Rattle.hd_get.proofs.Grounds.{tip_is}
-use Rattle.hd_update.specs.Places.{IsPathOfParent, IsTypeBelow, IsPlaceFound, IsPlaceBelow, HasPlace, standing_twin, IsStandingTwin, HasRowOf, IsBeforeEqual}
+use Rattle.hd_update.specs.Places.{IsPlaceFound, IsPlaceBelow, HasPlace, standing_twin, IsStandingTwin, HasRowOf, IsBeforeEqual}
 use Rattle.hd_update.proofs.Reading.{held_read}
 use Rattle.hd_update.proofs.TwinGaps.{parent_address, parent_there, tip_of_parent, ground}
 use Rattle.hd_update.proofs.PlaceSides.{equal_twin}

@@ -1,5 +1,5 @@
 -- A row that goes in just before its equal on which the PCB stands.
-use Rattle.std.proofs.Common.{◌≡◌, ℕ, ◌+◌, ◌<◌, ◌≤◌, List, length, Bool, true, false, Option, Some, None, refl, sym, ap, ap₂, subst, ◌∙◌, arith, inl, inr}
+use Rattle.std.proofs.Common.{◌≡◌, ℕ, ◌+◌, ◌<◌, ◌≤◌, length, Bool, true, false, Option, Some, refl, sym, ap, ap₂, subst, ◌∙◌, arith, inl, inr}
 use Rattle.std.specs.Prelude.{IfSome, ◌&&◌, ◌||◌, not, nat_le, is_some}
 use Rattle.std.specs.Option.{option_map_or}
 use Rattle.std.specs.Ordering.{is_eq, is_gt}
@@ -13,7 +13,7 @@ use Rattle.hd_dbd.specs.Rows.{row_fits}
 use Rattle.hd_dbd.specs.Loads.{has_unique_key}
 use Rattle.hd_dbd.specs.Searches.{first_from}
 use Rattle.hd_dbd.specs.Forest.{Forest}
-use Rattle.hd_calls.specs.Places.{is_equal_twin, equal_after, comes_after, is_key_taken}
+use Rattle.hd_calls.specs.Places.{is_equal_twin, equal_after, comes_after}
 use Rattle.hd_volume.specs.Volumes.{VolumeState}
 use Rattle.hd_links.specs.Placed.{Placed}
 use Rattle.hd_links.specs.Steps.{rows_of, address_at}

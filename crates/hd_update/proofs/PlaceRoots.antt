@@ -1,13 +1,12 @@
 -- The place of a new root, by the index.
-use Rattle.std.proofs.Common.{◌≡◌, ℕ, ◌+◌, ◌<◌, ◌≤◌, List, [], ◌∷◌, length, Bool, true, false, IsTrue, Option, Some, None, refl, sym, ap, subst, ◌∙◌, arith, inl, inr}
-use Rattle.std.specs.Prelude.{◌==◌, option_map, IfSome}
+use Rattle.std.proofs.Common.{◌≡◌, ℕ, ◌+◌, ◌<◌, ◌≤◌, List, [], ◌∷◌, length, Bool, true, false, IsTrue, Option, Some, None, refl, sym, ap, subst, ◌∙◌, arith}
+use Rattle.std.specs.Prelude.{option_map, IfSome}
 use Rattle.std.specs.Option.{option_map_or}
 use Rattle.std.specs.Ordering.{nat_cmp, is_lt}
 use Rattle.std.specs.declared.cmp.Ordering.{Ordering}
 use Rattle.std.specs.declared.cmp.Ordering.TheVariants.{Less, Equal, Greater}
 use Rattle.std.specs.Cmp.Lexicographic.{slice_cmp}
 use Rattle.std.proofs.lemmas.Bool.{and_parts, eq-eqb, eqb-true}
-use Rattle.hd_dbd.specs.declared.hierarchy.Key.{Key}
 use Rattle.hd_dbd.specs.declared.hierarchy.FreeSpace.{FreeSpace}
 use Rattle.hd_dbd.specs.Types.{SegmentType}
 use Rattle.hd_dbd.specs.Segment.{Segment}
@@ -20,7 +19,6 @@ use Rattle.hd_dbd.specs.Forest.{Forest}
 use Rattle.hd_dbd.proofs.Fitting.{type_of-fits, types_fit}
 use Rattle.hd_volume.specs.Volumes.{VolumeState}
 use Rattle.hd_volume.specs.Indexes.{key_less}
-use Rattle.hd_links.specs.Links.{segment_at, is_child_type}
 use Rattle.hd_links.specs.Placed.{Placed}
 use Rattle.hd_links.specs.Pointers.{IsInChain}
 use Rattle.hd_links.specs.Steps.{rows_of, address_at, LeadsDown}
@@ -29,14 +27,14 @@ use Rattle.hd_image.specs.Records.{links_of}
 use Rattle.hd_image.specs.Holding.{HoldsPlaced}
 use Rattle.hd_index.specs.Maps.{address_from}
 use Rattle.hd_index.specs.Changes.{entries_for}
-use Rattle.hd_keeping.specs.Roots.{is_root, key_at, is_root_from, first_row, address_of_first}
+use Rattle.hd_keeping.specs.Roots.{is_root, key_at, is_root_from, first_row}
 use Rattle.hd_keeping.specs.Found.{AreRootsBelow}
 use Rattle.hd_keeping.proofs.RootRows.{follow-lesser, roots-alone, index-answers}
 use Rattle.hd_forest.specs.Twins.{IsBehind}
-use Rattle.hd_update.specs.declared.places.Side.TheVariants.{Before, Behind, Taken}
+use Rattle.hd_update.specs.declared.places.Side.TheVariants.{Before, Behind}
 use Rattle.hd_update.specs.Places.{IsTypeBelow, IsGap, side_of, side_at}
-use Rattle.hd_update.proofs.TwinRows.{IsTwinRow, IsFirstFrom}
-use Rattle.hd_update.proofs.TwinGaps.{ground, IsRowGap, gap_rows}
+use Rattle.hd_update.proofs.TwinRows.{IsTwinRow}
+use Rattle.hd_update.proofs.TwinGaps.{ground, gap_rows}
 use Rattle.hd_update.proofs.PlaceAmong.{held_sequence}
 
 -- ---- the root's key

@@ -1,11 +1,10 @@
 -- The row on which a PCB stands as a twin of a new row.
-use Rattle.std.proofs.Common.{◌≡◌, ℕ, ◌-◌, ◌<◌, List, [], ◌∷◌, ◌++◌, length, take, Bool, true, false, Option, Some, None, refl, sym, ap, ap₂, subst, ◌∙◌, arith}
+use Rattle.std.proofs.Common.{◌≡◌, ℕ, ◌<◌, List, [], length, Bool, true, false, Option, Some, None, refl, sym, ap, ap₂, ◌∙◌, arith}
 use Rattle.std.specs.Prelude.{IfSome, ◌&&◌, ◌||◌, ◌==◌, not, nat_le, cond}
 use Rattle.std.specs.Option.{option_map_or}
 use Rattle.std.specs.Ordering.{nat_cmp, is_eq}
 use Rattle.std.specs.Cmp.Lexicographic.{slice_cmp}
-use Rattle.std.proofs.lemmas.Bool.{false_from_ne_true, cond-true}
-use Rattle.hd_dbd.specs.declared.hierarchy.Rule.TheVariants.{Here}
+use Rattle.std.proofs.lemmas.Bool.{false_from_ne_true}
 use Rattle.hd_dbd.specs.Segment.{Segment}
 use Rattle.hd_dbd.specs.Hierarchy.{Database}
 use Rattle.hd_dbd.specs.Rows.{key_of}
@@ -14,7 +13,7 @@ use Rattle.hd_dbd.specs.Positions.{Position}
 use Rattle.hd_dbd.specs.Forest.{Forest}
 use Rattle.hd_dbd.proofs.Names.{option_eq-Decides}
 use Rattle.hd_calls.specs.Satisfies.{is_child}
-use Rattle.hd_calls.specs.Places.{is_equal_twin, equal_after}
+use Rattle.hd_calls.specs.Places.{is_equal_twin}
 use Rattle.hd_volume.specs.Volumes.{VolumeState}
 use Rattle.hd_links.specs.Links.{segment_at}
 use Rattle.hd_links.specs.Placed.{Placed}
@@ -27,7 +26,6 @@ use Rattle.hd_position.specs.Gets.{IsAt}
 use Rattle.hd_position.proofs.Splices.{below_more}
 use Rattle.hd_position.proofs.Leaving.{passed_below}
 use Rattle.hd_get.specs.Gets.{IsPositionIn}
-use Rattle.hd_get.specs.Searches.{parent_path}
 use Rattle.hd_get.proofs.Climbs.{up_is}
 use Rattle.hd_get.proofs.Spans.{parent_span}
 use Rattle.hd_get.proofs.KeptPaths.{up_to, up_none, kept_none}

@@ -1,4 +1,4 @@
-use Rattle.std.proofs.Common.{◌≡◌, ℕ, ◌<◌, List, length, IsTrue, sym, subst, ◌∙◌}
+use Rattle.std.proofs.Common.{◌≡◌, ℕ, ◌<◌, List, length, sym, subst, ◌∙◌}
 use Rattle.hd_links.specs.Links.{Links}
 use Rattle.hd_links.specs.Steps.{LeadsDown}
 use Rattle.hd_image.specs.Records.{links_of}

@@ -1,4 +1,4 @@
-use Rattle.std.proofs.Common.{◌≡◌, ℕ, List, true, false, Option, sym, ap, subst}
+use Rattle.std.proofs.Common.{true, false, sym, ap, subst}
 use Rattle.hd_dbd.specs.declared.hierarchy.Rule.{Rule}
 use Rattle.hd_dbd.specs.Segment.{Segment}
 use Rattle.hd_calls.specs.Places.{equal_after}

@@ -1,4 +1,4 @@
-use Rattle.std.proofs.Common.{◌≡◌, ◌≢◌, ◌-◌, ◌+◌, ◌<◌, ℕ, suc, List, length, IsTrue, Ok, Some, None, refl, ap, sym, subst, ◌∙◌, arith, inl}
+use Rattle.std.proofs.Common.{◌≡◌, ◌-◌, ◌+◌, ◌<◌, ℕ, suc, length, IsTrue, Ok, Some, None, refl, ap, sym, subst, ◌∙◌, arith, inl}
 use Rattle.hd_dbd.specs.Hierarchy.{Database}
 use Rattle.hd_dbd.specs.Segment.{Segment}
 use Rattle.hd_volume.specs.Volumes.{VolumeState}
@@ -10,7 +10,6 @@ use Rattle.hd_forest.proofs.Chains.{nearer, none-left, passed}
 use Rattle.hd_forest.proofs.Held.{held}
 use Rattle.hd_forest.proofs.Reading.{after-read, volume-kept, links-kept}
 use Rattle.hd_forest.proofs.Tips.{end-within}
-use Rattle.hd_update.specs.declared.places.Side.TheVariants.{Before, Behind, Taken}
 use Rattle.hd_update.specs.Places.{side_at, HasParent}
 use Rattle.hd_update.proofs.PlaceChains.{reached, chain_typed, some_of}
 use Rattle.hd_update.proofs.places.place_from_first.Goals as goal

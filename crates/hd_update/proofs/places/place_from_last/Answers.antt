@@ -1,4 +1,4 @@
-use Rattle.std.proofs.Common.{◌≡◌, ◌<◌, ℕ, List, IsTrue, Ok, Some, None, ap, sym, ◌∙◌, arith}
+use Rattle.std.proofs.Common.{◌≡◌, ℕ, Ok, Some, None, ap, sym, ◌∙◌, arith}
 use Rattle.hd_dbd.specs.Hierarchy.{Database}
 use Rattle.hd_dbd.specs.Segment.{Segment}
 use Rattle.hd_volume.specs.Volumes.{VolumeState}
@@ -8,8 +8,7 @@ use Rattle.hd_links.specs.Pointers.{IsInChain}
 use Rattle.hd_image.specs.Records.{links_of}
 use Rattle.hd_forest.specs.Twins.{IsBehind}
 use Rattle.hd_forest.proofs.Reading.{after-read, volume-kept, links-kept}
-use Rattle.hd_update.specs.declared.places.Side.TheVariants.{Behind, Taken}
-use Rattle.hd_update.specs.Places.{side_at, HasParent}
+use Rattle.hd_update.specs.Places.{side_at}
 use Rattle.hd_update.proofs.PlaceChains.{behind_chained, chain_typed, some_of, parent_kept, gap_told}
 use Rattle.hd_update.proofs.places.place_from_last.Goals as goal
 

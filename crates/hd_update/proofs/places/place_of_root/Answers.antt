@@ -1,4 +1,4 @@
-use Rattle.std.proofs.Common.{◌≡◌, ℕ, List, true, false, Ok, Option, Some, None, IsTrue, refl, ap, sym, subst, ◌∙◌}
+use Rattle.std.proofs.Common.{◌≡◌, ℕ, List, true, false, Ok, Option, Some, None, refl, ap, sym, subst, ◌∙◌}
 use Rattle.hd_dbd.specs.Hierarchy.{Database}
 use Rattle.hd_dbd.specs.Segment.{Segment}
 use Rattle.hd_dbd.specs.Rows.{key_of}
@@ -13,7 +13,6 @@ use Rattle.hd_index.specs.Maps.{address_from}
 use Rattle.hd_index.specs.Changes.{IsIndexOf, entries_for}
 use Rattle.hd_forest.specs.Twins.{IsBehind}
 use Rattle.hd_forest.proofs.Reading.{after-read, sound-before, volume-kept, links-kept}
-use Rattle.hd_update.specs.Putting.{HoldsSome}
 use Rattle.hd_update.proofs.Reading.{held_read}
 use Rattle.hd_update.proofs.TwinGaps.{parent_of_type}
 use Rattle.hd_update.proofs.PlaceChains.{gap_told}

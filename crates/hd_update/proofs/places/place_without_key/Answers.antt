@@ -1,4 +1,4 @@
-use Rattle.std.proofs.Common.{◌≡◌, ℕ, ◌<◌, List, IsTrue, refl, ap, ◌∙◌, arith, inl}
+use Rattle.std.proofs.Common.{refl, ap, ◌∙◌, arith, inl}
 use Rattle.std.specs.Prelude.{cond}
 use Rattle.hd_links.specs.Links.{Links}
 use Rattle.hd_image.specs.Records.{links_of}

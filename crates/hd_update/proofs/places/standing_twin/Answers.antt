@@ -1,4 +1,4 @@
-use Rattle.std.proofs.Common.{◌≡◌, ℕ, List, true, false, Option, Some, None, sym, ap, subst, ◌∙◌}
+use Rattle.std.proofs.Common.{ℕ, true, false, Option, sym, ap, subst, ◌∙◌}
 use Rattle.hd_dbd.specs.Segment.{Segment}
 use Rattle.hd_links.specs.Links.{IsSegment}
 use Rattle.hd_image.specs.Records.{links_of}
