@@ -19,4 +19,8 @@ pub use repl_call::repl;
 pub use rewrites::is_excepted;
 
 #[cfg(test)]
+mod place_tests;
+#[cfg(test)]
+mod place_volumes;
+#[cfg(test)]
 mod tests;
