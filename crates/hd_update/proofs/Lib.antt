@@ -19,3 +19,13 @@ pub mod PathRows
 pub mod FirstRows
 pub mod RowsIn
 pub mod LoadSteps
+pub mod TwinRows
+pub mod TwinGaps
+pub mod PlaceAmong
+pub mod PlaceSides
+pub mod PlaceHere
+pub mod PlaceBelow
+pub mod PlaceRoots
+pub mod PlaceStanding
+pub mod PlaceChains
+pub mod PlaceEqual

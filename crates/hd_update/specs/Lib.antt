@@ -9,3 +9,4 @@ pub mod Loading
 pub mod NewRows
 pub mod Room
 pub mod Inserting
+pub mod Places

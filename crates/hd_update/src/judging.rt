@@ -79,7 +79,7 @@ fn lacks_parent<S: BlockStore>(
 }
 
 /// How the key of the segment at an address, of the type of a code, stands to that of a row of the type. One access.
-fn key_order<S: BlockStore>(
+pub fn key_order<S: BlockStore>(
     volume: &mut Volume<S>,
     dbd: &Dbd,
     address: u32,

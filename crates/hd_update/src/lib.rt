@@ -8,6 +8,7 @@ mod isrt_call;
 mod judging;
 mod load_call;
 mod new_rows;
+mod places;
 mod positions;
 mod put_path;
 mod putting;
@@ -24,5 +25,8 @@ pub use rewrites::is_excepted;
 
 #[cfg(test)]
 mod load_tests;
+mod place_tests;
+#[cfg(test)]
+mod place_volumes;
 #[cfg(test)]
 mod tests;

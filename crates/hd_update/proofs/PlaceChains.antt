@@ -1,0 +1,90 @@
+-- A chain of twins, and where a row without key goes in.
+use Rattle.std.proofs.Common.{◌≡◌, ℕ, suc, ◌<◌, List, Bool, true, false, Option, Some, None, Ok, refl, sym, ap, subst, ◌∙◌, arith, inl, inr}
+use Rattle.std.specs.Prelude.{cond}
+use Rattle.std.specs.Ordering.{nat_cmp}
+use Rattle.std.specs.Cmp.Lexicographic.{slice_cmp}
+use Rattle.std.proofs.lemmas.Bool.{false≢true}
+use Rattle.hd_dbd.specs.declared.hierarchy.Key.{Key}
+use Rattle.hd_dbd.specs.Types.{SegmentType}
+use Rattle.hd_dbd.specs.Segment.{Segment}
+use Rattle.hd_dbd.specs.Hierarchy.{Database, type_of}
+use Rattle.hd_dbd.specs.Rows.{key_of}
+use Rattle.hd_dbd.specs.Loads.{has_unique_key}
+use Rattle.hd_volume.specs.Volumes.{VolumeState}
+use Rattle.hd_volume.specs.Calls.{IsRead}
+use Rattle.hd_links.specs.Links.{Links, IsSegment, segment_at, is_child_type}
+use Rattle.hd_links.specs.Pointers.{IsInChain}
+use Rattle.hd_links.proofs.Build.{zero_or}
+use Rattle.hd_links.proofs.Ways.{chain_more}
+use Rattle.hd_image.specs.Records.{links_of}
+use Rattle.hd_forest.specs.Twins.{IsBehind}
+use Rattle.hd_forest.proofs.Chains.{twin-some}
+use Rattle.hd_forest.proofs.Held.{held}
+use Rattle.hd_forest.proofs.Reading.{after-read, sound-before}
+use Rattle.hd_forest.proofs.Tips.{twins-there}
+use Rattle.hd_update.specs.declared.places.Side.TheVariants.{Before, Behind}
+use Rattle.hd_update.specs.Places.{has_key, side_of, side_at, IsGapFound, IsGapBelow, IsParent, HasParent}
+
+-- what stands behind a twin, or first, is in the chain
+pub reached : (m : Links) (p y z : ℕ) → IsBehind m p y z → 0 < z → IsInChain m p z
+reached m p y z (inl e) some = (0, (subst (λ x. 0 < x) (sym e.1) some, e.1))
+reached m p y z (inr b) some = subst (IsInChain m p) b.2 (suc b.1.0, chain_more m b.1.0 p y b.1.1 (subst (λ x. 0 < x) (sym b.2) some))
+
+-- what stands in the chain below a parent is a segment of the type
+pub chain_typed : (d : Database) (v : VolumeState) (h code : ℕ) → IsParent d v h code → (a : ℕ) → IsInChain (links_of d.types v) ((links_of d.types v).first_child h code) a
+    → IsSegment (links_of d.types v) a × ((links_of d.types v).code a ≡ code)
+chain_typed d v h code P a chain =
+    let m : Links = links_of d.types v in
+    let H = held d v P.volume.fit P.volume P.forest in
+    let some : 0 < m.first_child h code = twin-some m chain.0 (m.first_child h code) a chain.1 in
+    let T = H.linked.typed.first h code P.here P.typed some in
+    twins-there d.types m H.linked.typed code chain.0 (m.first_child h code) a (record { some = some; here = T.0 }) T.1 chain.1
+
+-- without key a new row goes behind a twin where it goes last, else before it
+side_without : (types : List SegmentType) (own new : Segment) (last : Bool) → own.code ≡ new.code → has_key types new.code ≡ false
+    → side_of (has_unique_key types new.code) last (slice_cmp nat_cmp (key_of types own) (key_of types new)) ≡ cond last Behind Before
+side_without types own new last same without = by_type (type_of types new.code) refl
+  where
+    by_key : (t : SegmentType) (k : Option Key) → t.key ≡ k → type_of types new.code ≡ Some t
+        → side_of (has_unique_key types new.code) last (slice_cmp nat_cmp (key_of types own) (key_of types new)) ≡ cond last Behind Before
+    by_key t None none is = (let other : type_of types own.code ≡ Some t = ap (type_of types) same ∙ is in rw (is, other, none) refl)
+    by_key t (Some k) some is = absurd (false≢true (sym without ∙ rw (is, some) refl))
+
+    by_type : (o : Option SegmentType) → type_of types new.code ≡ o → side_of (has_unique_key types new.code) last (slice_cmp nat_cmp (key_of types own) (key_of types new)) ≡ cond last Behind Before
+    by_type None none = (let other : type_of types own.code ≡ None = ap (type_of types) same ∙ none in rw (none, other) refl)
+    by_type (Some t) is = by_key t t.key refl is
+
+pub unkeyed_side : (d : Database) (v : VolumeState) (h : ℕ) (row : Segment) (last : Bool) → IsParent d v h row.code → has_key d.types row.code ≡ false
+    → (a : ℕ) → IsInChain (links_of d.types v) ((links_of d.types v).first_child h row.code) a → side_at d.types (links_of d.types v) last row a ≡ cond last Behind Before
+unkeyed_side d v h row last P without a chain = side_without d.types (segment_at (links_of d.types v) a) row last (chain_typed d v h row.code P a chain).1 without
+
+-- the twin before, in the chain
+pub behind_chained : (m : Links) (p y z : ℕ) → IsBehind m p y z → 0 < y → IsInChain m p y
+behind_chained m p y z (inl e) some = absurd (let none = e.0 in omega arith)
+behind_chained m p y z (inr b) some = b.1
+
+-- a chain goes on from a twin that is there
+pub some_of : (n : ℕ) → (n ≡ 0 → ⊥) → 0 < n
+some_of n ne = elim (zero_or n) [ inl z ↦ absurd (ne z) | inr w ↦ w ]
+
+-- ---- after calls that read
+
+-- the same parent
+pub parent_kept : {A : Type 0} {x : A} (d : Database) (u v : VolumeState) → IsRead {T = A} u (Ok x) v → (h code : ℕ) → HasParent d u h code → HasParent d v h code
+parent_kept d u v read h code has now =
+    let sound = sound-before u v read now in
+    let same = after-read d u v read sound in
+    let P = has sound in
+    record {
+      volume = same.volume P.volume;
+      forest = same.forest P.forest;
+      here = subst (λ (k : Links). k.here h ≡ true) (sym same.links) P.here;
+      typed = subst (λ (k : Links). is_child_type d.types (k.code h) code ≡ true) (sym same.links) P.typed;
+    }
+
+-- the same place
+pub gap_told : {A : Type 0} {x : A} (d : Database) (u v : VolumeState) → IsRead {T = A} u (Ok x) v → (h : ℕ) (last : Bool) (row : Segment) (r : Option ℕ) → IsGapBelow d v h last row r
+    → IsGapBelow d u h last row r
+gap_told d u v read h last row r gap sound =
+    let same = after-read d u v read sound in
+    subst (λ (k : Links). IsGapFound d.types k (k.first_child h row.code) last row r) same.links (gap same.sound)

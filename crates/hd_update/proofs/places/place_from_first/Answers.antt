@@ -1,0 +1,158 @@
+use Rattle.std.proofs.Common.{◌≡◌, ◌-◌, ◌+◌, ◌<◌, ℕ, suc, length, IsTrue, Ok, Some, None, refl, ap, sym, subst, ◌∙◌, arith, inl}
+use Rattle.hd_dbd.specs.Hierarchy.{Database}
+use Rattle.hd_dbd.specs.Segment.{Segment}
+use Rattle.hd_volume.specs.Volumes.{VolumeState}
+use Rattle.hd_volume.proofs.CallSteps.{read-ok, reads-join}
+use Rattle.hd_links.specs.Links.{Links, IsSegment}
+use Rattle.hd_image.specs.Records.{links_of}
+use Rattle.hd_forest.specs.Twins.{IsTwinWithin, IsBehind}
+use Rattle.hd_forest.proofs.Chains.{nearer, none-left, passed}
+use Rattle.hd_forest.proofs.Held.{held}
+use Rattle.hd_forest.proofs.Reading.{after-read, volume-kept, links-kept}
+use Rattle.hd_forest.proofs.Tips.{end-within}
+use Rattle.hd_update.specs.Places.{side_at, HasParent}
+use Rattle.hd_update.proofs.PlaceChains.{reached, chain_typed, some_of}
+use Rattle.hd_update.proofs.places.place_from_first.Goals as goal
+
+pub loop-init : goal.loop-init
+loop-init g c =
+    let d = c.args.dbd.now in
+    let u = c.args.volume.now in
+    let m : Links = links_of d.types u in
+    record {
+      read = read-ok 0 c.in_ok-twin.ensures.read;
+      left = λ sound.
+          (let P = c.requires.parent sound in
+          let H = held d u P.volume.fit P.volume P.forest in
+          let most : c.length-most.result ≡ length u.image = c.length-most.ensures sound in
+          subst (λ n. IsTwinWithin m n c.in_ok-twin.twin 0) (let e : length u.image ≡ c.length-most.result - 0 = omega arith in e)
+          (subst (λ x. IsTwinWithin m (length u.image) x 0) (sym (c.in_ok-twin.ensures.value sound))
+          (end-within d.types H.ordered (length u.image) m H.graph H.linked c.args.parent c.args.code P.here P.typed)));
+      chain = λ sound. inl (refl, sym (c.in_ok-twin.ensures.value sound));
+      side = λ sound none. absurd (omega arith);
+    }
+
+pub returns-then-twin-eq0-clause-value : goal.returns-then-twin-eq0-clause-value
+returns-then-twin-eq0-clause-value g c sound =
+    let m : Links = links_of c.args.dbd.now.types c.args.volume.now in
+    let inv = c.loop.invariant in (
+      0,
+      record {
+        chain = subst (IsBehind m (m.first_child c.args.parent c.args.code) c.loop.before) c.if-twin-eq0.true (inv.chain sound);
+        behind = inv.side sound;
+        before = λ none. absurd (omega arith);
+      },
+    )
+
+pub returns-clause-value : goal.returns-clause-value
+returns-clause-value g c sound =
+    let m : Links = links_of c.args.dbd.now.types c.args.volume.now in
+    let inv = c.loop.invariant in
+    let over = c.loop-test.false in
+    let none : c.length-most.result - c.loop.counter ≡ 0 = omega arith in
+    let end : c.loop.twin ≡ 0 = none-left m c.loop.twin 0 (subst (λ n. IsTwinWithin m n c.loop.twin 0) none (inv.left sound)) in (
+      0,
+      record {
+        chain = subst (IsBehind m (m.first_child c.args.parent c.args.code) c.loop.before) end (inv.chain sound);
+        behind = inv.side sound;
+        before = λ nothing. absurd (omega arith);
+      },
+    )
+
+-- the twin that comes next is a segment of the type
+twin_there : (d : Database) (v : VolumeState) (h code before twin : ℕ) → HasParent d v h code → (twin ≡ 0 → ⊥) → (sound : IsTrue v.is_sound)
+    → IsBehind (links_of d.types v) ((links_of d.types v).first_child h code) before twin → IsSegment (links_of d.types v) twin × ((links_of d.types v).code twin ≡ code)
+twin_there d v h code before twin has ne sound chain =
+    let m : Links = links_of d.types v in chain_typed d v h code (has sound) twin (reached m (m.first_child h code) before twin chain (some_of twin ne))
+
+pub side_at-requires-clause-of : goal.side_at-requires-clause-of
+side_at-requires-clause-of g c = volume-kept c.args.dbd.now c.args.volume.now c.loop.volume c.loop.invariant.read (λ sound. (c.requires.parent sound).volume)
+
+pub side_at-requires-clause-there : goal.side_at-requires-clause-there
+side_at-requires-clause-there g c =
+    let d = c.args.dbd.now in
+    let u = c.args.volume.now in
+    links-kept d (λ m. IsSegment m c.loop.twin) u c.loop.volume c.loop.invariant.read
+    (λ sound. (twin_there d u c.args.parent c.args.code c.loop.before c.loop.twin c.requires.parent c.if-twin-eq0.false sound (c.loop.invariant.chain sound)).0)
+
+pub side_at-requires-clause-typed : goal.side_at-requires-clause-typed
+side_at-requires-clause-typed g c =
+    let d = c.args.dbd.now in
+    let u = c.args.volume.now in
+    links-kept d (λ m. m.code c.loop.twin ≡ c.args.code) u c.loop.volume c.loop.invariant.read
+    (λ sound. (twin_there d u c.args.parent c.args.code c.loop.before c.loop.twin c.requires.parent c.if-twin-eq0.false sound (c.loop.invariant.chain sound)).1)
+
+pub returns-in-Before-clause-read : goal.returns-in-Before-clause-read
+returns-in-Before-clause-read g c = reads-join (Ok (Some c.loop.before)) c.loop.invariant.read (read-ok (Some c.loop.before) c.in_ok-side_at.ensures.read)
+
+pub returns-in-Before-clause-value : goal.returns-in-Before-clause-value
+returns-in-Before-clause-value g c sound =
+    let d = c.args.dbd.now in
+    let u = c.args.volume.now in
+    let m : Links = links_of d.types u in
+    let new : Segment = record { code = c.args.code; bytes = c.args.bytes.now } in
+    let inv = c.loop.invariant in
+    let same = after-read d u c.loop.volume inv.read sound in (
+      c.loop.twin,
+      record {
+        chain = inv.chain sound;
+        behind = inv.side sound;
+        before = λ some. sym (c.in_ok-side_at.ensures.value same.sound ∙ ap (λ (k : Links). side_at d.types k c.args.last new c.loop.twin) same.links) ∙ c.in-Before.is;
+      },
+    )
+
+pub returns-in-Taken-clause-read : goal.returns-in-Taken-clause-read
+returns-in-Taken-clause-read g c = reads-join (Ok None) c.loop.invariant.read (read-ok None c.in_ok-side_at.ensures.read)
+
+pub returns-in-Taken-clause-value : goal.returns-in-Taken-clause-value
+returns-in-Taken-clause-value g c sound =
+    let d = c.args.dbd.now in
+    let u = c.args.volume.now in
+    let m : Links = links_of d.types u in
+    let new : Segment = record { code = c.args.code; bytes = c.args.bytes.now } in
+    let inv = c.loop.invariant in
+    let same = after-read d u c.loop.volume inv.read sound in (
+      c.loop.twin,
+      reached m (m.first_child c.args.parent c.args.code) c.loop.before c.loop.twin (inv.chain sound) (some_of c.loop.twin c.if-twin-eq0.false),
+      sym (c.in_ok-side_at.ensures.value same.sound ∙ ap (λ (k : Links). side_at d.types k c.args.last new c.loop.twin) same.links) ∙ c.in-Taken.is,
+    )
+
+pub next_twin-requires-clause-of : goal.next_twin-requires-clause-of
+next_twin-requires-clause-of g c =
+    volume-kept c.args.dbd.now c.loop.volume c.side_at.new.volume c.in_ok-side_at.ensures.read
+    (volume-kept c.args.dbd.now c.args.volume.now c.loop.volume c.loop.invariant.read (λ sound. (c.requires.parent sound).volume))
+
+pub next_twin-requires-clause-there : goal.next_twin-requires-clause-there
+next_twin-requires-clause-there g c =
+    let d = c.args.dbd.now in
+    let u = c.args.volume.now in
+    links-kept d (λ m. IsSegment m c.loop.twin) c.loop.volume c.side_at.new.volume c.in_ok-side_at.ensures.read
+    (links-kept d (λ m. IsSegment m c.loop.twin) u c.loop.volume c.loop.invariant.read
+    (λ sound. (twin_there d u c.args.parent c.args.code c.loop.before c.loop.twin c.requires.parent c.if-twin-eq0.false sound (c.loop.invariant.chain sound)).0))
+
+nearer-now : (m : Links) (most counter p a : ℕ) → counter < most → IsTwinWithin m (most - counter) p a → IsTwinWithin m (suc (most - (counter + 1))) p a
+nearer-now m most counter p a low w = subst (λ n. IsTwinWithin m n p a) (omega arith) w
+
+pub loop-preserved : goal.loop-preserved
+loop-preserved g c =
+    let d = c.args.dbd.now in
+    let u = c.args.volume.now in
+    let m : Links = links_of d.types u in
+    let new : Segment = record { code = c.args.code; bytes = c.args.bytes.now } in
+    let inv = c.loop.invariant in
+    let low : c.loop.counter < c.length-most.result = c.loop-test.true in
+    let next = λ (sound : IsTrue u.is_sound).
+    (let same = after-read d u c.loop.volume inv.read sound in
+    let on = after-read d c.loop.volume c.side_at.new.volume c.in_ok-side_at.ensures.read same.sound in
+    let e : c.in_ok-twin-2.twin ≡ m.forward c.loop.twin = c.in_ok-twin-2.ensures.value on.sound ∙ ap (λ (k : Links). k.forward c.loop.twin) (on.links ∙ same.links) in e) in
+    record {
+      read = reads-join (Ok 0) inv.read (reads-join (Ok 0) c.in_ok-side_at.ensures.read (read-ok 0 c.in_ok-twin-2.ensures.read));
+      left = λ sound. subst (λ x. IsTwinWithin m (c.length-most.result - (c.loop.counter + 1)) x 0) (sym (next sound))
+          (nearer m (c.length-most.result - (c.loop.counter + 1)) c.loop.twin 0 (nearer-now m c.length-most.result c.loop.counter c.loop.twin 0 low (inv.left sound)) c.if-twin-eq0.false).next;
+      chain = λ sound. subst (IsBehind m (m.first_child c.args.parent c.args.code) c.loop.twin) (sym (next sound))
+          (passed m (m.first_child c.args.parent c.args.code) c.loop.before c.loop.twin (inv.chain sound)
+          (twin_there d u c.args.parent c.args.code c.loop.before c.loop.twin c.requires.parent c.if-twin-eq0.false sound (inv.chain sound)).0);
+      side = λ sound some.
+          (let same = after-read d u c.loop.volume inv.read sound in
+          sym (c.in_ok-side_at.ensures.value same.sound ∙ ap (λ (k : Links). side_at d.types k c.args.last new c.loop.twin) same.links) ∙ c.in-Behind.is);
+    }

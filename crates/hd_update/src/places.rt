@@ -1,0 +1,353 @@
+//! Where a row goes in: the twin behind which it is linked.
+ghost use Rattle.std.specs.Prelude.{◌≡◌, List, ℕ, true, false, IfOk, IsTrue};
+ghost use Rattle.hd_dbd.specs.declared.hierarchy.Rule.TheVariants.{Here};
+ghost use Rattle.hd_dbd.specs.Loads.{has_unique_key};
+ghost use Rattle.hd_dbd.specs.Refusals.{OnlyDevice};
+ghost use Rattle.hd_dbd.specs.Rows.{row_fits};
+ghost use Rattle.hd_volume.specs.Calls.{IsRead};
+ghost use Rattle.hd_image.specs.Records.{links_of};
+ghost use Rattle.hd_get.specs.Meeting.{IsStored};
+ghost use Rattle.hd_get.specs.Searches.{IsOf};
+ghost use Rattle.hd_update.specs.Putting.{HoldsSome};
+ghost use Rattle.hd_update.specs.Places.{has_key, side_of, side_at, IsGapBelow, HasParent, is_equal_at, standing_path, IsStandingTwin, HasRowOf, IsBeforeEqual, HasNextRoot, HasPlace, IsPlaceBelow};
+
+use crate::judging::key_order;
+use hd_dbd::{Dbd, Refused, Rule};
+use hd_forest::{Path, code_at, first_child, last_twin, next_twin, parent_on, prev_twin, tip_of};
+use hd_index::next_from;
+use hd_position::{Position, row_on};
+use hd_volume::{BlockStore, Volume};
+use std::cmp::Ordering;
+
+/// Where a new row goes beside a twin.
+#[derive(Clone, Copy, Debug, PartialEq, Eq)]
+pub enum Side {
+    /// Before the twin.
+    Before,
+    /// Behind the twin.
+    Behind,
+    /// Nowhere: the twin has the row's key, which is unique.
+    Taken,
+}
+
+/// Where a new row goes beside a twin with a key that so stands to its own, if it goes last among its equals or first.
+fn side_of(dbd: &Dbd, code: u8, last: bool, order: Ordering) -> Side
+    ensures { result ≡ side_of (has_unique_key dbd.now.types code) last order }
+{
+    match order {
+        Ordering::Less => Side::Behind,
+        Ordering::Greater => Side::Before,
+        Ordering::Equal => {
+            if dbd.has_unique_key(code) {
+                return Side::Taken;
+            }
+            if last { Side::Behind } else { Side::Before }
+        }
+    }
+}
+
+/// Where a new row goes beside the twin at an address. One access.
+fn side_at<S: BlockStore>(
+    volume: &mut Volume<S>,
+    dbd: &Dbd,
+    twin: u32,
+    last: bool,
+    code: u8,
+    bytes: &[u8],
+) -> Result<Side, Refused>
+    requires of { IsOf dbd.now volume.old }
+    requires there { IsStored dbd.now volume.old twin }
+    requires typed { IsTrue volume.old.is_sound → (links_of dbd.now.types volume.old).code twin ≡ code }
+    ensures read { IsRead volume.old result volume.new }
+    ensures value { IfOk result (λ r. IsTrue volume.old.is_sound → r ≡ side_at dbd.now.types (links_of dbd.now.types volume.old) last (record { code = code; bytes = bytes.now }) twin) }
+    ensures refusal { OnlyDevice result }
+{
+    let order = key_order(volume, dbd, twin, code, bytes)?;
+    Ok(side_of(dbd, code, last, order))
+}
+
+/// Whether the segments of a type have a key.
+fn has_key(dbd: &Dbd, code: u8) -> bool
+    ensures { result ≡ has_key dbd.now.types code }
+{
+    match dbd.type_of(code) {
+        Some(own) => own.key.is_some(),
+        None => false,
+    }
+}
+
+/// The place of a row among twins without key: before all, or behind the last. Only where the parents keep no last child are twins read.
+fn place_without_key<S: BlockStore>(
+    volume: &mut Volume<S>,
+    dbd: &Dbd,
+    parent: u32,
+    last: bool,
+    code: u8,
+) -> Result<Option<u32>, Refused>
+    requires parent { HasParent dbd.now volume.old parent code }
+    requires without { has_key dbd.now.types code ≡ false }
+    ensures read { IsRead volume.old result volume.new }
+    ensures value { IfOk result (λ r. (bytes : List ℕ) → IsGapBelow dbd.now volume.old parent last (record { code = code; bytes = bytes }) r) }
+    ensures refusal { OnlyDevice result }
+{
+    if !last {
+        return Ok(Some(0));
+    }
+    let twin = last_twin(volume, dbd, parent, code)?;
+    Ok(Some(twin))
+}
+
+/// The place of a row by key, from the first twin on: behind the last one behind which it goes. No twin behind that is read but the next.
+fn place_from_first<S: BlockStore>(
+    volume: &mut Volume<S>,
+    dbd: &Dbd,
+    parent: u32,
+    last: bool,
+    code: u8,
+    bytes: &[u8],
+) -> Result<Option<u32>, Refused>
+    requires parent { HasParent dbd.now volume.old parent code }
+    ensures read { IsRead volume.old result volume.new }
+    ensures value { IfOk result (λ r. IsGapBelow dbd.now volume.old parent last (record { code = code; bytes = bytes.now }) r) }
+    ensures refusal { OnlyDevice result }
+{
+    let most = volume.length();
+    let mut before = 0;
+    let mut twin = first_child(volume, dbd, parent, code)?;
+    for _ in 0..most {
+        if twin == 0 {
+            return Ok(Some(before));
+        }
+        match side_at(volume, dbd, twin, last, code, bytes)? {
+            Side::Before => return Ok(Some(before)),
+            Side::Taken => return Ok(None),
+            Side::Behind => {}
+        }
+        before = twin;
+        twin = next_twin(volume, dbd, twin)?;
+    }
+    Ok(Some(before))
+}
+
+/// The place of a row by key where its parent keeps last child: rows that come in ascending order go in behind the last twin, and no other
+/// is read.
+fn place_from_last<S: BlockStore>(
+    volume: &mut Volume<S>,
+    dbd: &Dbd,
+    parent: u32,
+    last: bool,
+    code: u8,
+    bytes: &[u8],
+) -> Result<Option<u32>, Refused>
+    requires parent { HasParent dbd.now volume.old parent code }
+    ensures read { IsRead volume.old result volume.new }
+    ensures value { IfOk result (λ r. IsGapBelow dbd.now volume.old parent last (record { code = code; bytes = bytes.now }) r) }
+    ensures refusal { OnlyDevice result }
+{
+    let end = last_twin(volume, dbd, parent, code)?;
+    if end == 0 {
+        return Ok(Some(0));
+    }
+    match side_at(volume, dbd, end, last, code, bytes)? {
+        Side::Behind => Ok(Some(end)),
+        Side::Taken => Ok(None),
+        Side::Before => place_from_first(volume, dbd, parent, last, code, bytes),
+    }
+}
+
+/// The place of a row below a parent, where it goes last among its equals or first.
+fn place_by_key<S: BlockStore>(
+    volume: &mut Volume<S>,
+    dbd: &Dbd,
+    parent: u32,
+    last: bool,
+    code: u8,
+    bytes: &[u8],
+) -> Result<Option<u32>, Refused>
+    requires parent { HasParent dbd.now volume.old parent code }
+    ensures read { IsRead volume.old result volume.new }
+    ensures value { IfOk result (λ r. IsGapBelow dbd.now volume.old parent last (record { code = code; bytes = bytes.now }) r) }
+    ensures refusal { OnlyDevice result }
+{
+    if !has_key(dbd, code) {
+        return place_without_key(volume, dbd, parent, last, code);
+    }
+    if dbd.keeps_last_child(code) {
+        return place_from_last(volume, dbd, parent, last, code, bytes);
+    }
+    place_from_first(volume, dbd, parent, last, code, bytes)
+}
+
+/// The place of a root before the first one whose key is not less, if that is not its own.
+fn place_before_root<S: BlockStore>(
+    volume: &mut Volume<S>,
+    dbd: &Dbd,
+    next: u32,
+    bytes: &[u8],
+) -> Result<Option<u32>, Refused>
+    requires next { HasNextRoot dbd.now volume.old (record { code = 1; bytes = bytes.now }) next }
+    ensures read { IsRead volume.old result volume.new }
+    ensures value { IfOk result (λ r. IsGapBelow dbd.now volume.old 0 false (record { code = 1; bytes = bytes.now }) r) }
+    ensures refusal { OnlyDevice result }
+{
+    match side_at(volume, dbd, next, false, 1, bytes)? {
+        Side::Before => {
+            let mut path = Path::new();
+            path.push(next);
+            let twin = prev_twin(volume, dbd, &path)?;
+            Ok(Some(twin))
+        }
+        Side::Behind => Ok(None),
+        Side::Taken => Ok(None),
+    }
+}
+
+/// The place of a root, by the index: no root is read but the first whose key is not less, where there is one.
+fn place_of_root<S: BlockStore>(
+    volume: &mut Volume<S>,
+    dbd: &Dbd,
+    bytes: &[u8],
+) -> Result<Option<u32>, Refused>
+    requires holds { HoldsSome dbd.now volume.old }
+    ensures read { IsRead volume.old result volume.new }
+    ensures value { IfOk result (λ r. IsGapBelow dbd.now volume.old 0 false (record { code = 1; bytes = bytes.now }) r) }
+    ensures refusal { OnlyDevice result }
+{
+    match next_from(volume, dbd, dbd.key_of(1, bytes))? {
+        Some(next) => place_before_root(volume, dbd, next, bytes),
+        None => {
+            let twin = last_twin(volume, dbd, 0, 1)?;
+            Ok(Some(twin))
+        }
+    }
+}
+
+/// The path down to the row on which a PCB stands, if it stands on one.
+fn standing_path(position: &Position) -> Option<Path>
+    ensures { result ≡ standing_path position.now }
+{
+    let level = position.standing();
+    let address = row_on(position.path(), level)?;
+    let mut path = position.path().copy();
+    path.step(level, address);
+    Some(path)
+}
+
+/// Whether the row at an address is of a new row's type and has its key. One access.
+fn is_equal_at<S: BlockStore>(
+    volume: &mut Volume<S>,
+    dbd: &Dbd,
+    address: u32,
+    code: u8,
+    bytes: &[u8],
+) -> Result<bool, Refused>
+    requires of { IsOf dbd.now volume.old }
+    requires there { IsStored dbd.now volume.old address }
+    ensures read { IsRead volume.old result volume.new }
+    ensures value { IfOk result (λ r. IsTrue volume.old.is_sound → r ≡ is_equal_at dbd.now.types (links_of dbd.now.types volume.old) (record { code = code; bytes = bytes.now }) address) }
+    ensures refusal { OnlyDevice result }
+{
+    if code_at(volume, dbd, address)? != code {
+        return Ok(false);
+    }
+    let order = key_order(volume, dbd, address, code, bytes)?;
+    Ok(order.is_eq())
+}
+
+/// The path of the row on which a PCB stands, where that is a twin of a new row with its key. One access at most.
+fn standing_twin<S: BlockStore>(
+    volume: &mut Volume<S>,
+    dbd: &Dbd,
+    parent: &Path,
+    position: &Position,
+    code: u8,
+    bytes: &[u8],
+) -> Result<Option<Path>, Refused>
+    requires there { HasPlace dbd.now volume.old parent.now position.now code }
+    ensures read { IsRead volume.old result volume.new }
+    ensures value { IfOk result (λ r. IsStandingTwin dbd.now volume.old parent.now position.now (record { code = code; bytes = bytes.now }) r) }
+    ensures refusal { OnlyDevice result }
+{
+    let Some(path) = standing_path(position) else {
+        return Ok(None);
+    };
+    if parent_on(&path) != tip_of(parent) {
+        return Ok(None);
+    }
+    if is_equal_at(volume, dbd, tip_of(&path), code, bytes)? {
+        return Ok(Some(path));
+    }
+    Ok(None)
+}
+
+/// The place of a row just before its equal at the end of a path, if the key is not unique.
+fn place_before_equal<S: BlockStore>(
+    volume: &mut Volume<S>,
+    dbd: &Dbd,
+    path: &Path,
+    code: u8,
+) -> Result<Option<u32>, Refused>
+    requires there { HasRowOf dbd.now volume.old path.now code }
+    ensures read { IsRead volume.old result volume.new }
+    ensures value { IfOk result (λ r. IsBeforeEqual dbd.now volume.old path.now code r) }
+    ensures refusal { OnlyDevice result }
+{
+    if dbd.has_unique_key(code) {
+        return Ok(None);
+    }
+    let twin = prev_twin(volume, dbd, path)?;
+    Ok(Some(twin))
+}
+
+/// The place of a row by HERE: before its equal on which the PCB stands, else before all its equals.
+fn place_here<S: BlockStore>(
+    volume: &mut Volume<S>,
+    dbd: &Dbd,
+    parent: &Path,
+    position: &Position,
+    code: u8,
+    bytes: &[u8],
+) -> Result<Option<u32>, Refused>
+    requires fits { row_fits dbd.now.types (record { code = code; bytes = bytes.now }) ≡ true }
+    requires there { HasPlace dbd.now volume.old parent.now position.now code }
+    ensures read { IsRead volume.old result volume.new }
+    ensures value { IfOk result (λ place. IsPlaceBelow dbd.now volume.old parent.now position.now Here (record { code = code; bytes = bytes.now }) place) }
+    ensures refusal { OnlyDevice result }
+{
+    match standing_twin(volume, dbd, parent, position, code, bytes)? {
+        Some(equal) => place_before_equal(volume, dbd, &equal, code),
+        None => place_by_key(volume, dbd, tip_of(parent), false, code, bytes),
+    }
+}
+
+/// The twin behind which a row that goes in below a parent stands, 0 where it is the first of its type, and `None` where its key is unique
+/// and a twin has it. It goes by key; among twins of equal key, or of none, by the rule: FIRST before all, LAST behind all, HERE before the
+/// twin on which the PCB stands, and before all where it stands on none of them.
+///
+/// A root is found by the index. Of twins without key none is read where the place is known: before all, behind the last where last child
+/// is kept, or before the one on which the PCB stands where twin backward is kept. By key the last twin is read first, where last child is
+/// kept, and if the row does not go behind it the twins from the first on, up to the one before which it goes.
+pub fn place_below<S: BlockStore>(
+    volume: &mut Volume<S>,
+    dbd: &Dbd,
+    parent: &Path,
+    position: &Position,
+    rule: Rule,
+    code: u8,
+    bytes: &[u8],
+) -> Result<Option<u32>, Refused>
+    requires fits { row_fits dbd.now.types (record { code = code; bytes = bytes.now }) ≡ true }
+    requires there { HasPlace dbd.now volume.old parent.now position.now code }
+    ensures read { IsRead volume.old result volume.new }
+    ensures value { IfOk result (λ place. IsPlaceBelow dbd.now volume.old parent.now position.now rule (record { code = code; bytes = bytes.now }) place) }
+    ensures refusal { OnlyDevice result }
+{
+    if code == 1 {
+        return place_of_root(volume, dbd, bytes);
+    }
+    match rule {
+        Rule::First => place_by_key(volume, dbd, tip_of(parent), false, code, bytes),
+        Rule::Last => place_by_key(volume, dbd, tip_of(parent), true, code, bytes),
+        Rule::Here => place_here(volume, dbd, parent, position, code, bytes),
+    }
+}
