@@ -6,3 +6,4 @@ pub mod Calls
 pub mod Deleting
 pub mod Putting
 pub mod Loading
+pub mod Parents

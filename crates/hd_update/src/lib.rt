@@ -6,6 +6,7 @@ mod dlet_call;
 mod held;
 mod judging;
 mod load_call;
+mod parents;
 mod positions;
 mod putting;
 mod repl_call;
@@ -17,5 +18,7 @@ pub use held::{HeldRow, HeldRows, held_rows, row_at};
 pub use repl_call::repl;
 pub use rewrites::is_excepted;
 
+#[cfg(test)]
+mod parents_tests;
 #[cfg(test)]
 mod tests;
