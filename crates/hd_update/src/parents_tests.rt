@@ -19,6 +19,7 @@ use std::test::Fail;
 
 /// An ISRT over the sample: the arguments above, the path where the PCB stands, empty for none, the code of the parent's type, and the
 /// path of the parent, empty for none.
+#[derive(Drop)]
 struct Case {
     above: &'static [&'static [u8]],
     standing: &'static [u32],
