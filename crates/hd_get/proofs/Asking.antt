@@ -1,6 +1,6 @@
 -- Why a search by segment search arguments goes where it goes from a row.
 use Rattle.std.proofs.Common.{◌≡◌, ◌≢◌, ℕ, ◌+◌, ◌-◌, ◌<◌, ◌≤◌, List, [], ◌∷◌, length, Bool, true, false, Option, Some, None, refl, sym, ap, subst, ◌∙◌, arith, inl, inr}
-use Rattle.std.specs.Prelude.{◌==◌, ◌&&◌, ◌||◌, cond, nat_lt, unwrap_or, is_some, is_none, option_map, option_and_then, IfSome}
+use Rattle.std.specs.Prelude.{◌==◌, ◌&&◌, cond, nat_lt, unwrap_or, is_some, is_none, option_map, option_and_then, IfSome}
 use Rattle.std.specs.Option.{option_map_or}
 use Rattle.std.specs.List.{list_all, list_any}
 use Rattle.std.proofs.lemmas.Bool.{cases_lt, cases_Bool, cond-true, cond-false, lt-ltb, le-ltb, eq-eqb, eqb-true, ne_eqb, and_parts, and_from, or_cases, false≢true}
@@ -9,13 +9,11 @@ use Rattle.hd_dbd.specs.Hierarchy.{parent_of}
 use Rattle.hd_dbd.specs.Segment.{Segment}
 use Rattle.hd_dbd.specs.Paths.{row_at, parent_row, path_of, end_of, is_twin}
 use Rattle.hd_dbd.specs.Prefixes.{children_of}
-use Rattle.hd_dbd.specs.Letters.{gives_get}
 use Rattle.hd_dbd.proofs.LevelLaw.{typed}
 use Rattle.hd_dbd.proofs.Levels.{type_within}
 use Rattle.hd_dbd.proofs.Names.{option_eq-Decides}
 use Rattle.hd_prefix.proofs.Listed.{children_listed}
 use Rattle.hd_links.specs.Links.{is_child_type, is_last_kept}
-use Rattle.hd_calls.specs.Access.{may}
 use Rattle.hd_calls.specs.Ssas.{target_code}
 use Rattle.hd_calls.specs.Satisfies.{is_named}
 use Rattle.hd_calls.specs.Places.{end_below}
@@ -34,7 +32,7 @@ use Rattle.hd_seek.proofs.Ways.{first_children, down_some, down_found, down_of, 
 use Rattle.hd_seek.proofs.Beside.{no_later_types, later_types}
 use Rattle.hd_get.specs.declared.verdict.Verdict.TheVariants.{Found, Down, DownToLast, Across, Beside, BesideToLast, Rest}
 use Rattle.hd_get.specs.Searches.{is_above_admitted, twin_or_end, child_or_end, NonePassAcross, IsWayDown, IsJudged}
-use Rattle.hd_get.specs.Asking.{Asked, SsasSuit, is_asked, is_admitted, verdict_beside, verdict_beside_to, asks_last, goes_to_last, verdict_to, verdict_down}
+use Rattle.hd_get.specs.Asking.{Asked, SsasSuit, may_read, is_asked, is_admitted, verdict_beside, verdict_beside_to, asks_last, goes_to_last, verdict_to, verdict_down}
 use Rattle.hd_get.proofs.LastChildren.{child_parts, first_before, none_before_children}
 use Rattle.hd_get.proofs.Spans.{parent_span, parent_within, above_parent, whole_admitted}
 use Rattle.hd_get.proofs.Judging.{judged_found, judged_down, judged_to_last, judged_across, judged_beside, judged_beside_to_last, judged_rest}
@@ -60,14 +58,9 @@ all_pass test other more [] all = refl
 all_pass test other more (x ∷ xs) all = (let P = and_parts (test x) (list_all test xs) all in and_from _ _ (more x P.0) (all_pass test other more xs P.1))
 
 module _ (types : List SegmentType) (rows : List Segment) (a : Asked) (over : AreRowsOf types rows) (suits : SsasSuit types a.ssas) where
-  -- a row is asked for where it is named and may be read
-  asked_is : (j : ℕ) → is_asked a types rows j ≡ (is_named types rows a.ssas j && may (record { types = types; pcb = a.pcb }) gives_get (row_at rows j).code)
-  asked_is j =
-      ap (λ (b : Bool). (b || is_named types rows a.ssas j) && may (record { types = types; pcb = a.pcb }) gives_get (row_at rows j).code)
-      (ne_eqb (length a.ssas) 0 (λ z. (let some : 0 < length a.ssas = suits.0 in omega arith)))
-
+  -- what is not named is not asked for
   none_asked : (from to : ℕ) → NonePass (is_named types rows a.ssas) from to → NonePass (is_asked a types rows) from to
-  none_asked from to none j low high = asked_is j ∙ ap (λ (b : Bool). b && may (record { types = types; pcb = a.pcb }) gives_get (row_at rows j).code) (none j low high)
+  none_asked from to none j low high = ap (λ (b : Bool). b && may_read a.pcb types (row_at rows j).code) (none j low high)
 
   search_of : IsSearch types rows a.ssas
   search_of = record { over = over; descend = suits.1 }
@@ -147,11 +140,11 @@ module _ (types : List SegmentType) (rows : List Segment) (a : Asked) (over : Ar
         (whole_admitted (is_asked a types rows) (is_admitted a types rows) types rows i above own))
 
   -- where the last argument's type may not be read, no row is asked for
-  unread : (code from to : ℕ) → code ≡ target_code a.ssas → may (record { types = types; pcb = a.pcb }) gives_get code ≡ false → NonePass (is_asked a types rows) from to
+  unread : (code from to : ℕ) → code ≡ target_code a.ssas → may_read a.pcb types code ≡ false → NonePass (is_asked a types rows) from to
   unread code from to is other j low high = elim (cases_Bool (is_asked a types rows j)) [
-    | inl t ↦ (let P = and_parts (is_named types rows a.ssas j) _ (sym (asked_is j) ∙ t) in
+    | inl t ↦ (let P = and_parts (is_named types rows a.ssas j) _ t in
         let N = and_parts ((row_at rows j).code == target_code a.ssas) _ P.0 in
-        absurd (false≢true (sym other ∙ ap (may (record { types = types; pcb = a.pcb }) gives_get) (is ∙ sym (eqb-true (row_at rows j).code (target_code a.ssas) N.0)) ∙ P.1)))
+        absurd (false≢true (sym other ∙ ap (may_read a.pcb types) (is ∙ sym (eqb-true (row_at rows j).code (target_code a.ssas) N.0)) ∙ P.1)))
     | inr f ↦ f
   ]
 
@@ -281,7 +274,7 @@ module _ (types : List SegmentType) (rows : List Segment) (a : Asked) (over : Ar
           judged_across (is_asked a types rows) (is_admitted a types rows) types rows i (none_asked i (end_of types rows i) (spans_fail types rows a.ssas i within unmet)) (across_way i within above way)
 
       pub judged_met : admits types rows a.ssas i ≡ true
-          → IsJudged (is_asked a types rows) (is_admitted a types rows) types rows i (verdict_down (record { types = types; pcb = a.pcb }) a.ssas (target_code a.ssas) (row_at rows i).code)
+          → IsJudged (is_asked a types rows) (is_admitted a types rows) types rows i (verdict_down a.pcb types a.ssas (target_code a.ssas) (row_at rows i).code)
       judged_met met = by_way (way_down types (target_code a.ssas) (row_at rows i).code) refl
         where
           own : is_admitted a types rows i ≡ true
@@ -294,10 +287,10 @@ module _ (types : List SegmentType) (rows : List Segment) (a : Asked) (over : Ar
             | inr below ↦ absurd (false≢true (ap is_some (sym e) ∙ down_some types (levels_are types rows over) (target_code a.ssas) (row_at rows i).code ∙ below))
           ]
 
-          by_read : (b : Bool) → (row_at rows i).code ≡ target_code a.ssas → may (record { types = types; pcb = a.pcb }) gives_get (row_at rows i).code ≡ b
+          by_read : (b : Bool) → (row_at rows i).code ≡ target_code a.ssas → may_read a.pcb types (row_at rows i).code ≡ b
               → IsJudged (is_asked a types rows) (is_admitted a types rows) types rows i (cond b Found Across)
           by_read true code e =
-              judged_found (is_asked a types rows) (is_admitted a types rows) types rows i (asked_is i ∙ and_from _ _ (named_here i within above code own) e) own
+              judged_found (is_asked a types rows) (is_admitted a types rows) types rows i (and_from _ _ (named_here i within above code own) e) own
           by_read false code e =
               judged_across (is_asked a types rows) (is_admitted a types rows) types rows i (unread (row_at rows i).code i (end_of types rows i) code e)
               (λ k low inside. unread (row_at rows i).code (end_of types rows k) (twin_or_end types rows k) code e)
@@ -316,6 +309,6 @@ module _ (types : List SegmentType) (rows : List Segment) (a : Asked) (over : Ar
 
           by_way : (o : Option ℕ) → way_down types (target_code a.ssas) (row_at rows i).code ≡ o
               → IsJudged (is_asked a types rows) (is_admitted a types rows) types rows i
-              (option_map_or (λ c. verdict_to types a.ssas c) o (cond (may (record { types = types; pcb = a.pcb }) gives_get (row_at rows i).code) Found Across))
-          by_way None e = by_read (may (record { types = types; pcb = a.pcb }) gives_get (row_at rows i).code) (target_is e) refl
+              (option_map_or (λ c. verdict_to types a.ssas c) o (cond (may_read a.pcb types (row_at rows i).code) Found Across))
+          by_way None e = by_read (may_read a.pcb types (row_at rows i).code) (target_is e) refl
           by_way (Some c) e = by_last c e (goes_to_last types a.ssas c) refl

@@ -1,13 +1,10 @@
--- A search for the first row that satisfies GU begins at a root.
-use Rattle.std.proofs.Common.{◌≡◌, ne_eqb, ℕ, ◌+◌, ◌<◌, ◌≤◌, List, [], ◌∷◌, ◌++◌, length, Bool, true, false, Option, Some, None, refl, sym, ap, subst, ◌∙◌, arith}
-use Rattle.std.specs.Prelude.{nat_lt, ◌||◌, ◌&&◌, unwrap_or, option_map, IfSome}
+-- A search of GU for the first row that passes begins at a root.
+use Rattle.std.proofs.Common.{◌≡◌, ℕ, ◌+◌, ◌<◌, ◌≤◌, List, [], ◌∷◌, ◌++◌, length, Bool, true, false, Option, Some, None, refl, sym, ap, subst, ◌∙◌, arith, inl, inr}
+use Rattle.std.specs.Prelude.{nat_lt, unwrap_or, option_map, IfSome}
 use Rattle.std.specs.Option.{option_map_or}
 use Rattle.std.specs.List.{list_all}
-use Rattle.std.proofs.lemmas.Bool.{cond-true, cond-false, lt-ltb, le-ltb, eq-eqb}
+use Rattle.std.proofs.lemmas.Bool.{cases_Bool, cond-true, cond-false, lt-ltb, le-ltb, eq-eqb, false≢true}
 use Rattle.std.proofs.lemmas.List.{length-append}
-use Rattle.hd_dbd.specs.Letters.{gives_get}
-use Rattle.hd_calls.specs.Access.{may}
-use Rattle.hd_dbd.specs.Types.{View}
 use Rattle.hd_dbd.specs.Hierarchy.{Database}
 use Rattle.hd_dbd.specs.Paths.{row_at, parent_row, path_of}
 use Rattle.hd_dbd.specs.Forest.{Forest}
@@ -22,12 +19,12 @@ use Rattle.hd_keeping.specs.Roots.{is_root, is_root_from, first_row, address_of_
 use Rattle.hd_keeping.specs.Found.{AreRootsBelow}
 use Rattle.hd_keeping.proofs.RootRows.{follow-lesser, roots-alone}
 use Rattle.hd_calls.specs.Ssas.{Ssa}
-use Rattle.hd_calls.specs.Satisfies.{satisfies, is_named}
+use Rattle.hd_calls.specs.Satisfies.{is_named}
 use Rattle.hd_calls.proofs.Searches.{skipped}
 use Rattle.hd_seek.specs.Admits.{NonePass, AreRowsOf}
 use Rattle.hd_seek.proofs.Twins.{earlier_roots_fail}
 use Rattle.hd_get.specs.Searches.{LeadsWithin, path_within, parent_path, MayBeginAt}
-use Rattle.hd_get.specs.Starts.{least_root_key, root_from, unique_start, RefusesRootsBelow}
+use Rattle.hd_get.specs.Starts.{AreNamed, least_root_key, root_from, unique_start, RefusesRootsBelow}
 use Rattle.hd_get.proofs.Spans.{parent_span}
 use Rattle.hd_get.proofs.Climbs.{path_is, some_path}
 use Rattle.hd_get.proofs.Starts.{ends_whole}
@@ -105,46 +102,42 @@ module _ (d : Database) (v : VolumeState) (f : Forest Placed) (H : HoldsPlaced d
           let F = (follow-lesser d.types (rows_of f) key).0 i is in
           sym (roots-alone d v f i H F.0 F.1) ∙ sym (cond-true (nat_lt i (length (rows_of f))) (path_at d.types f i) [] (lt-ltb i (length (rows_of f)) F.0))
 
-  -- what is named satisfies, and nothing else where there are SSAs
-  unnamed : (pcb : View) (a : Ssa) (ssas : List Ssa) (j : ℕ) → is_named d.types (rows_of f) (a ∷ ssas) j ≡ false
-      → satisfies (record { types = d.types; pcb = pcb }) (rows_of f) (a ∷ ssas) j ≡ false
-  unnamed pcb a ssas j none =
-      ap (λ b. (b || is_named d.types (rows_of f) (a ∷ ssas) j) && may (record { types = d.types; pcb = pcb }) gives_get (row_at (rows_of f) j).code)
-      (ne_eqb (length (a ∷ ssas)) 0 (λ z. omega arith))
-      ∙ ap (λ b. b && may (record { types = d.types; pcb = pcb }) gives_get (row_at (rows_of f) j).code) none
+  -- where there are SSAs, what they do not name does not pass
+  unnamed : (test : ℕ → Bool) (ssas : List Ssa) → AreNamed test d.types (rows_of f) ssas → 0 < length ssas → (j : ℕ) → is_named d.types (rows_of f) ssas j ≡ false → test j ≡ false
+  unnamed test ssas named some j none = elim (cases_Bool (test j)) [
+    | inl passes ↦ absurd (false≢true (sym none ∙ named j some passes))
+    | inr fails ↦ fails
+  ]
 
-  -- before the row where GU begins none satisfies
-  none_before : (pcb : View) (ssas : List Ssa) → IfSome (least_root_key d.types ssas) (λ key. RefusesRootsBelow d.types ssas key)
+  -- before the row where GU begins none passes
+  none_before : (test : ℕ → Bool) (ssas : List Ssa) → AreNamed test d.types (rows_of f) ssas → IfSome (least_root_key d.types ssas) (λ key. RefusesRootsBelow d.types ssas key)
       → (number : ℕ) → number ≡ unique_start d.types (rows_of f) ssas
-      → (number ≤ length (rows_of f)) × NonePass (satisfies (record { types = d.types; pcb = pcb }) (rows_of f) ssas) 0 number
-      × (number < length (rows_of f) → parent_row d.types (rows_of f) number ≡ None)
-  none_before pcb [] refuses number is = from_first number is
+      → (number ≤ length (rows_of f)) × NonePass test 0 number × (number < length (rows_of f) → parent_row d.types (rows_of f) number ≡ None)
+  none_before test [] named refuses number is = from_first number is
     where
-      from_first : (number : ℕ) → number ≡ 0 → (number ≤ length (rows_of f)) × NonePass (satisfies (record { types = d.types; pcb = pcb }) (rows_of f) []) 0 number
-          × (number < length (rows_of f) → parent_row d.types (rows_of f) number ≡ None)
+      from_first : (number : ℕ) → number ≡ 0 → (number ≤ length (rows_of f)) × NonePass test 0 number × (number < length (rows_of f) → parent_row d.types (rows_of f) number ≡ None)
       from_first number z = ((omega arith), (λ j a b. absurd (omega arith)), λ w. subst (λ n. parent_row d.types (rows_of f) n ≡ None) (sym z) (first_alone (omega arith)))
-  none_before pcb (a ∷ ssas) refuses number is = by (least_root_key d.types (a ∷ ssas)) refuses is
+  none_before test (a ∷ ssas) named refuses number is = by (least_root_key d.types (a ∷ ssas)) refuses is
     where
       by : (o : Option (List ℕ)) → IfSome o (λ key. RefusesRootsBelow d.types (a ∷ ssas) key) → number ≡ option_map_or (λ key. root_from d.types (rows_of f) key) o 0
-          → (number ≤ length (rows_of f)) × NonePass (satisfies (record { types = d.types; pcb = pcb }) (rows_of f) (a ∷ ssas)) 0 number
-          × (number < length (rows_of f) → parent_row d.types (rows_of f) number ≡ None)
+          → (number ≤ length (rows_of f)) × NonePass test 0 number × (number < length (rows_of f) → parent_row d.types (rows_of f) number ≡ None)
       by None refuses z = ((omega arith), (λ j a b. absurd (omega arith)), λ w. subst (λ n. parent_row d.types (rows_of f) n ≡ None) (sym z) (first_alone (omega arith)))
       by (Some key) refuses e =
           let R : IsFirstRoot key number = subst (IsFirstRoot key) (sym e) (first_root key) in (
             R.within,
-            (λ j low high. unnamed pcb a ssas j
+            (λ j low high. unnamed test (a ∷ ssas) named (omega arith) j
                 (earlier_roots_fail d.types (rows_of f) (a ∷ ssas) number rows_are R.within
                 (λ k before code. (let root : is_root (rows_of f) k ≡ true = eq-eqb (row_at (rows_of f) k).code 1 code in refuses (rows_of f) k root (R.lesser k before root))) j low high)),
             R.alone,
           )
 
-  pub begins_unique : (pcb : View) (ssas : List Ssa) (own : ℕ → Bool) (path : List ℕ) → IfSome (least_root_key d.types ssas) (λ key. RefusesRootsBelow d.types ssas key)
+  pub begins_unique : (test : ℕ → Bool) (ssas : List Ssa) → AreNamed test d.types (rows_of f) ssas → (own : ℕ → Bool) (path : List ℕ) → IfSome (least_root_key d.types ssas) (λ key. RefusesRootsBelow d.types ssas key)
       → LeadsWithin d.types (links_of d.types v) f 0 (length (rows_of f)) path (unique_start d.types (rows_of f) ssas)
-      → MayBeginAt (satisfies (record { types = d.types; pcb = pcb }) (rows_of f) ssas) own d.types f 0 (length (rows_of f)) 0 path
-  begins_unique pcb ssas own path refuses leads =
-      let N = none_before pcb ssas refuses (unique_start d.types (rows_of f) ssas) refl in record {
+      → MayBeginAt test own d.types f 0 (length (rows_of f)) 0 path
+  begins_unique test ssas named own path refuses leads =
+      let N = none_before test ssas named refuses (unique_start d.types (rows_of f) ssas) refl in record {
         number = unique_start d.types (rows_of f) ssas;
-        same = skipped (satisfies (record { types = d.types; pcb = pcb }) (rows_of f) ssas) 0 (unique_start d.types (rows_of f) ssas) (length (rows_of f)) (omega arith) N.1;
+        same = skipped test 0 (unique_start d.types (rows_of f) ssas) (length (rows_of f)) (omega arith) N.1;
         ends = leads.ends;
         above = λ w. ap (λ (o : Option ℕ). option_map_or (λ q. list_all own (path_of d.types (rows_of f) q)) o true) (N.2 w);
         is = leads.is;

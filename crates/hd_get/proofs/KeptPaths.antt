@@ -62,7 +62,7 @@ module _ (d : Database) (v : VolumeState) (f : Forest Placed) (k : Kept) (q : Po
     pub is : address_at f x ≡ a
     pub within : x < length (rows_of f)
 
-  same_level : (l : ℕ) → row_on k.path l ≡ option_map (λ j. address_at f j) (row_on (path_passed d.types (rows_of f) q.passed) l)
+  pub same_level : (l : ℕ) → row_on k.path l ≡ option_map (λ j. address_at f j) (row_on (path_passed d.types (rows_of f) q.passed) l)
   same_level l = ap (λ (xs : List ℕ). row_on xs l) at.stands.path ∙ row_on_map (λ j. address_at f j) (path_passed d.types (rows_of f) q.passed) l
 
   pub kept_row : (l a : ℕ) → row_on k.path l ≡ Some a → (x : ℕ) × IsKept l a x

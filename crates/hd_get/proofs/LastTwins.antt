@@ -28,7 +28,7 @@ last_twin_is types f i m A l S twin is = elim (cases_lt 0 twin) [
   | inr none ↦ (let z : twin ≡ 0 = omega arith in eq-eqb twin 0 z ∙ sym (ap is_none (twin_none types m f A i l S (sym is ∙ z))))
 ]
 
-same_search : (test other : ℕ → Bool) → ((j : ℕ) → test j ≡ other j) → (n i : ℕ) → least_within test n i ≡ least_within other n i
+pub same_search : (test other : ℕ → Bool) → ((j : ℕ) → test j ≡ other j) → (n i : ℕ) → least_within test n i ≡ least_within other n i
 same_search test other same zero i = refl
 same_search test other same (suc n) i = ap₂ (λ b o. cond b (Some i) o) (same i) (same_search test other same n (i + 1))
 

@@ -16,3 +16,5 @@ pub mod Lowering
 pub mod LoweredStarts
 pub mod TakenLevels
 pub mod Seeking
+pub mod NamedRows
+pub mod StandingPaths

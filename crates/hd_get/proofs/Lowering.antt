@@ -71,15 +71,6 @@ module _ (types : List SegmentType) (rows : List Segment) (q : Position) where
   pub passed_none : (a : Ssa) → has_first a ≡ true → parent_level types rows q a.code ≡ None → first_passed types rows q a ≡ None
   passed_none a first e = ap (option_and_then (λ j. cond (nat_lt j q.passed) (Some j) None)) (occurrence_none a first e)
 
-  -- the level of the parent's row, by what is found of the parent's type
-  pub level_none : (code p : ℕ) → parent_of types code ≡ Some p → on_path_at types rows p q.standing ≡ None → parent_level types rows q code ≡ None
-  level_none code p is none =
-      ap (option_and_then (λ p. option_map (λ r. level_of types p) (on_path_at types rows p q.standing))) is ∙ ap (option_map (λ r. level_of types p)) none
-
-  pub level_some : (code p r : ℕ) → parent_of types code ≡ Some p → on_path_at types rows p q.standing ≡ Some r → parent_level types rows q code ≡ Some (level_of types p)
-  level_some code p r is on =
-      ap (option_and_then (λ p. option_map (λ r. level_of types p) (on_path_at types rows p q.standing))) is ∙ ap (option_map (λ r. level_of types p)) on
-
   -- An argument with F has a first occurrence: a child of a row on the path where the PCB stands.
   pub record Occurs (a : Ssa) (j : ℕ) : Type 0 where
     pub first : has_first a ≡ true

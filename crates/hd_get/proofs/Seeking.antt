@@ -1,6 +1,6 @@
 -- What a get finds, and what it comes to.
 use Rattle.std.proofs.Common.{◌≡◌, ℕ, suc, ◌+◌, ◌-◌, ◌<◌, ◌≤◌, List, [], length, map, Bool, true, false, cond, Ok, Option, Some, None, IsTrue, refl, sym, ap, subst, ◌∙◌, arith}
-use Rattle.std.specs.Prelude.{◌==◌, ◌&&◌, not, nat_lt, is_some, option_map, IfSome}
+use Rattle.std.specs.Prelude.{◌==◌, ◌&&◌, ◌||◌, not, nat_lt, is_some, option_map, IfSome}
 use Rattle.std.specs.Option.{option_map_or}
 use Rattle.hd_dbd.specs.Types.{SegmentType, View}
 use Rattle.hd_dbd.specs.declared.answer.Status.TheVariants.{Blank, GA, GK, GB, GE}
@@ -11,6 +11,7 @@ use Rattle.hd_dbd.specs.Positions.{Position, Place, at_start}
 use Rattle.hd_dbd.specs.Calls.{bare}
 use Rattle.hd_dbd.specs.Searches.{least_within}
 use Rattle.hd_dbd.specs.Views.{Setting}
+use Rattle.hd_dbd.specs.Letters.{gives_get}
 use Rattle.hd_dbd.specs.Forest.{Forest}
 use Rattle.hd_volume.specs.Volumes.{VolumeState}
 use Rattle.hd_volume.specs.Calls.{IsRead}
@@ -23,7 +24,8 @@ use Rattle.hd_forest.proofs.Reading.{after-read, sound-before}
 use Rattle.hd_calls.specs.declared.call.GetKind.{GetKind}
 use Rattle.hd_calls.specs.declared.call.GetKind.TheVariants.{Unique, Next, NextInParent}
 use Rattle.hd_calls.specs.Ssas.{Ssa, target_code}
-use Rattle.hd_calls.specs.Satisfies.{satisfies}
+use Rattle.hd_calls.specs.Access.{may}
+use Rattle.hd_calls.specs.Satisfies.{satisfies, is_named}
 use Rattle.hd_calls.specs.Gets.{search_start, search_end, behind_parent, crossing, get_status, get_missing, get_found, unheld, path_rows}
 use Rattle.hd_calls.specs.NoLostUpdate.{is_done}
 use Rattle.hd_calls.proofs.Searches.{least_some}
@@ -32,6 +34,7 @@ use Rattle.hd_position.specs.Kept.{Kept, AreRowsOn, Ascend, path_passed, row_on}
 use Rattle.hd_position.specs.Gets.{AreTaken}
 use Rattle.hd_position.proofs.Rising.{row_on_map}
 use Rattle.hd_seek.specs.Admits.{Descend, AreRowsOf}
+use Rattle.std.proofs.lemmas.Bool.{ne_eqb, and_parts}
 use Rattle.std.proofs.lemmas.List.{length-map}
 use Rattle.hd_seek.proofs.Levels.{path_length}
 use Rattle.hd_seek.proofs.OnPaths.{Spans, on_path_of}
@@ -74,6 +77,12 @@ leads_told d u v read sound f parent end path n L =
 
 -- ---- where a get begins
 
+-- where there are SSAs, a row satisfies a call where they name it and it may be read
+pub satisfies_named : (s : Setting) (rows : List Segment) (ssas : List Ssa) (i : ℕ) → 0 < length ssas
+    → satisfies s rows ssas i ≡ (is_named s.types rows ssas i && may s gives_get (row_at rows i).code)
+satisfies_named s rows ssas i some =
+    ap (λ (b : Bool). (b || is_named s.types rows ssas i) && may s gives_get (row_at rows i).code) (ne_eqb (length ssas) 0 (λ z. omega arith))
+
 module _ (d : Database) (v : VolumeState) (f : Forest Placed) (k : Kept) (q : Position) (at : IsPositionIn d v f k q) (pcb : View) (hold : Bool) (ssas : List Ssa) where
   abbrev call_of : GetKind → GetCall
   call_of kind = record { pcb = pcb; kind = kind; hold = hold; ssas = ssas }
@@ -83,7 +92,8 @@ module _ (d : Database) (v : VolumeState) (f : Forest Placed) (k : Kept) (q : Po
 
   pub unique_begins : (path : List ℕ) → BeginsUnique d v ssas path → IsBeginning d v f (record { pcb = pcb; kind = Unique; hold = hold; ssas = ssas }) q (Some (0, path))
   unique_begins path begins =
-      let M = begins f pcb (λ j. true) at.sound at.holds in
+      let M = begins f (satisfies_get (call_of Unique) d.types (rows_of f)) (λ j. true) at.sound at.holds
+      (λ j some passes. (and_parts (is_named d.types (rows_of f) ssas j) _ (sym (satisfies_named (record { types = d.types; pcb = pcb }) (rows_of f) ssas j some) ∙ passes)).0) in
       record {
         none = something (0, path) (sought_by (call_of Unique) d.types (rows_of f) q);
         some = record { number = M.number; same = M.same; leads = record { holds = at.holds.records; ends = M.ends; is = M.is } };

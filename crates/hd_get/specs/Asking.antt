@@ -1,5 +1,5 @@
 -- What a get with segment search arguments asks of a row, and where its search goes on.
-use Rattle.std.specs.Prelude.{◌≡◌, IsTrue, ℕ, ◌<◌, List, length, Bool, ◌&&◌, ◌==◌, None, is_none, not, cond, nat_lt}
+use Rattle.std.specs.Prelude.{◌≡◌, IsTrue, ℕ, ◌<◌, List, length, Bool, true, ◌&&◌, ◌==◌, Option, None, is_none, not, cond, nat_lt}
 use Rattle.std.specs.Option.{option_map_or}
 use Rattle.std.specs.List.{list_any}
 use Rattle.hd_dbd.specs.Types.{SegmentType, View}
@@ -16,7 +16,7 @@ use Rattle.hd_links.specs.Steps.{rows_of}
 use Rattle.hd_image.specs.Records.{links_of}
 use Rattle.hd_calls.specs.Access.{may}
 use Rattle.hd_calls.specs.Ssas.{Ssa, target_code}
-use Rattle.hd_calls.specs.Satisfies.{satisfies}
+use Rattle.hd_calls.specs.Satisfies.{is_named}
 use Rattle.hd_seek.specs.Admits.{admits, meets_own, is_on_way, Descend}
 use Rattle.hd_seek.specs.Twins.{next_twin}
 use Rattle.hd_seek.specs.Keys.{is_past}
@@ -26,18 +26,22 @@ use Rattle.hd_get.specs.Searches.{IsPathOf}
 use Rattle.hd_get.specs.declared.verdict.Verdict.{Verdict}
 use Rattle.hd_get.specs.declared.verdict.Verdict.TheVariants.{Found, Next, Over, Down, DownToLast, Across, Beside, BesideToLast, Rest}
 
--- Whose get it is, and its arguments.
+-- The arguments by which rows are asked for, and the PCB that must be able to read them, if there is one.
 pub record Asked : Type 0 where
-  pub pcb : View
+  pub pcb : Option View
   pub ssas : List Ssa
 
 -- there are arguments, and their types descend
 abbrev pub SsasSuit : List SegmentType → List Ssa → Type 0
 SsasSuit types ssas = (0 < length ssas) × Descend types None ssas
 
--- the row satisfies the get
+-- the PCB sees the type and may read it; where there is no PCB, every type may be read
+abbrev pub may_read : Option View → List SegmentType → ℕ → Bool
+may_read pcb types code = option_map_or (λ p. may (record { types = types; pcb = p }) gives_get code) pcb true
+
+-- the arguments name the row, and it may be read
 abbrev pub is_asked : Asked → List SegmentType → List Segment → ℕ → Bool
-is_asked a types rows i = satisfies (record { types = types; pcb = a.pcb }) rows a.ssas i
+is_asked a types rows i = is_named types rows a.ssas i && may_read a.pcb types (row_at rows i).code
 
 -- the row's type is on the way to the last argument's, and the row meets the arguments of its type
 abbrev pub is_admitted : Asked → List SegmentType → List Segment → ℕ → Bool
@@ -65,9 +69,9 @@ verdict_beside types ssas target code =
     option_map_or (λ c. cond (nat_lt code c) (verdict_beside_to types ssas c) Rest) (way_beside types target code) Rest
 
 -- on a row that is admitted: down the way; where that ends, the row is found if it may be read
-abbrev pub verdict_down : Setting → List Ssa → ℕ → ℕ → Verdict
-verdict_down s ssas target code =
-    option_map_or (λ c. verdict_to s.types ssas c) (way_down s.types target code) (cond (may s gives_get code) Found Across)
+abbrev pub verdict_down : Option View → List SegmentType → List Ssa → ℕ → ℕ → Verdict
+verdict_down pcb types ssas target code =
+    option_map_or (λ c. verdict_to types ssas c) (way_down types target code) (cond (may_read pcb types code) Found Across)
 
 -- a get without arguments: a row that may be read is found; from another the search goes on to the next row, or over its span, where
 -- nothing that depends on it may be read either

@@ -29,10 +29,13 @@ first_passed types rows q a = option_and_then (λ j. cond (nat_lt j q.passed) (S
 abbrev pub lowered_to : List SegmentType → List Segment → Position → List Ssa → Option ℕ
 lowered_to types rows q ssas = option_and_then (λ a. first_passed types rows q a) (topmost_first ssas)
 
+-- the level of the row of a type on the path where a PCB stands
+abbrev pub type_level : List SegmentType → List Segment → Position → ℕ → Option ℕ
+type_level types rows q code = option_map (λ r. level_of types code) (on_path_at types rows code q.standing)
+
 -- the level of the row of a type's parent type on the path where a PCB stands
 abbrev pub parent_level : List SegmentType → List Segment → Position → ℕ → Option ℕ
-parent_level types rows q code =
-    option_and_then (λ p. option_map (λ r. level_of types p) (on_path_at types rows p q.standing)) (parent_of types code)
+parent_level types rows q code = option_and_then (λ p. type_level types rows q p) (parent_of types code)
 
 -- the row of a level on the path of the last row passed is of a type or of a later one
 abbrev pub is_level_from : List SegmentType → List Segment → Position → ℕ → ℕ → Bool
@@ -46,6 +49,16 @@ pub record IsStartBehind (d : Database) (v : VolumeState) (f : Forest Placed) (q
       (λ s. LeadsWithin d.types (links_of d.types v) f s.0 (search_end d.types (rows_of f) q NextInParent) s.1 (behind_parent q))
 
 -- ---- the words of the contracts
+
+-- wherever what is kept stands for a position, the answer is the level of the row of the type on the path where the PCB stands
+abbrev pub IsTypeLevel : Database → VolumeState → ℕ → Kept → Option ℕ → Type 0
+IsTypeLevel d v code k o = (f : Forest Placed) (q : Position) → IsKeptIn d v f k q → o ≡ type_level d.types (rows_of f) q code
+
+-- wherever what is kept stands for a position, the path is that of the row of the type on the path where the PCB stands, if there is one
+abbrev pub IsTypePath : Database → VolumeState → ℕ → Kept → Option (List ℕ) → Type 0
+IsTypePath d v code k o =
+    (f : Forest Placed) (q : Position) → IsKeptIn d v f k q
+    → o ≡ option_map (λ j. path_at d.types f j) (on_path_at d.types (rows_of f) code q.standing)
 
 -- wherever what is kept stands for a position, the answer is the level of the row of the type's parent type where the PCB stands
 abbrev pub IsParentLevel : Database → VolumeState → ℕ → Kept → Option ℕ → Type 0

@@ -14,11 +14,13 @@ use Rattle.hd_volume.specs.Volumes.{VolumeState}
 use Rattle.hd_links.specs.Placed.{Placed}
 use Rattle.hd_links.specs.Steps.{rows_of, path_at}
 use Rattle.hd_image.specs.Records.{links_of}
+use Rattle.hd_image.specs.Holding.{HoldsPlaced}
 use Rattle.hd_calls.specs.declared.call.GetKind.{GetKind}
 use Rattle.hd_calls.specs.declared.call.GetKind.TheVariants.{Unique, Next, NextInParent}
 use Rattle.hd_calls.specs.Ssas.{Ssa}
 use Rattle.hd_calls.specs.Satisfies.{satisfies}
 use Rattle.hd_calls.specs.Gets.{sought, search_end, crossing, get_missing}
+use Rattle.hd_calls.specs.Places.{first_named}
 use Rattle.hd_position.specs.Kept.{Kept, StandsFor}
 use Rattle.hd_get.specs.declared.outcome.Outcome.{Outcome}
 use Rattle.hd_get.specs.Searches.{LeadsWithin, IsFound}
@@ -61,6 +63,13 @@ abbrev pub IsSought : Database → VolumeState → GetCall → Kept → Option (
 IsSought d v c k path =
     (f : Forest Placed) (q : Position) → IsPositionIn d v f k q
     → path ≡ option_map (λ i. path_at d.types f i) (sought_by c d.types (rows_of f) q)
+
+-- In each forest that the sound volume holds, the path is that of the first row that the SSAs name, whether it may be read or not, if
+-- there is one.
+abbrev pub IsFirstNamed : Database → VolumeState → List Ssa → Option (List ℕ) → Type 0
+IsFirstNamed d v ssas path =
+    (f : Forest Placed) → IsTrue v.is_sound → HoldsPlaced d v f
+    → path ≡ option_map (λ i. path_at d.types f i) (first_named d.types (rows_of f) ssas)
 
 -- the status of a get after which the row last returned is of this type, and before which it was of that
 abbrev pub status_between : GetKind → List Ssa → Option Place → Option Place → Status

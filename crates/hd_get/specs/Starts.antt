@@ -1,7 +1,7 @@
 -- Where a get begins to look.
-use Rattle.std.specs.Prelude.{◌≡◌, IsTrue, ℕ, List, [], ◌∷◌, length, Bool, true, false, ◌==◌, cond, Option, None, is_some, IfSome, unwrap_or, option_and_then}
+use Rattle.std.specs.Prelude.{◌≡◌, IsTrue, ℕ, ◌<◌, List, [], ◌∷◌, length, Bool, true, false, ◌==◌, cond, Option, None, is_some, IfSome, unwrap_or, option_and_then}
 use Rattle.std.specs.Option.{option_map_or}
-use Rattle.hd_dbd.specs.Types.{SegmentType, View}
+use Rattle.hd_dbd.specs.Types.{SegmentType}
 use Rattle.hd_dbd.specs.Hierarchy.{Database, type_of}
 use Rattle.hd_dbd.specs.Segment.{Segment}
 use Rattle.hd_dbd.specs.Positions.{Position}
@@ -18,7 +18,7 @@ use Rattle.hd_position.specs.Gets.{IsAt}
 use Rattle.hd_calls.specs.declared.call.GetKind.{GetKind}
 use Rattle.hd_calls.specs.declared.call.GetKind.TheVariants.{Next, NextInParent}
 use Rattle.hd_calls.specs.Ssas.{Ssa}
-use Rattle.hd_calls.specs.Satisfies.{satisfies}
+use Rattle.hd_calls.specs.Satisfies.{is_named}
 use Rattle.hd_calls.specs.Gets.{search_start, search_end}
 use Rattle.hd_seek.specs.Admits.{admits}
 use Rattle.hd_ssa.specs.LeastKeys.{least_key}
@@ -84,11 +84,16 @@ LeadsToUnique d v ssas path =
     (f : Forest Placed) → IsTrue v.is_sound → HoldsPlaced d v f
     → LeadsWithin d.types (links_of d.types v) f 0 (length (rows_of f)) path (unique_start d.types (rows_of f) ssas)
 
--- In each forest that the sound volume holds, the search for the first row that satisfies GU may as well begin where the path leads.
+-- where there are SSAs, only rows that they name pass the test
+abbrev pub AreNamed : (ℕ → Bool) → List SegmentType → List Segment → List Ssa → Type 0
+AreNamed test types rows ssas = (j : ℕ) → 0 < length ssas → test j ≡ true → is_named types rows ssas j ≡ true
+
+-- In each forest that the sound volume holds, the search of GU for the first row that passes a test, of rows that the SSAs name, may as
+-- well begin where the path leads.
 abbrev pub BeginsUnique : Database → VolumeState → List Ssa → List ℕ → Type 0
 BeginsUnique d v ssas path =
-    (f : Forest Placed) (pcb : View) (admits : ℕ → Bool) → IsTrue v.is_sound → HoldsPlaced d v f
-    → MayBeginAt (satisfies (record { types = d.types; pcb = pcb }) (rows_of f) ssas) admits d.types f 0 (length (rows_of f)) 0 path
+    (f : Forest Placed) (test admits : ℕ → Bool) → IsTrue v.is_sound → HoldsPlaced d v f → AreNamed test d.types (rows_of f) ssas
+    → MayBeginAt test admits d.types f 0 (length (rows_of f)) 0 path
 
 -- no root whose key is below a key has what the SSAs ask of it
 abbrev pub RefusesRootsBelow : List SegmentType → List Ssa → List ℕ → Type 0

@@ -3,7 +3,7 @@
 ghost use Rattle.std.specs.Prelude.{◌≡◌, ◌<◌, false};
 ghost use Rattle.hd_dbd.specs.Facts.{stored_sizes};
 
-use crate::named_tests::{sought_by, texts};
+use crate::named_tests::{named_by, sought_by, texts};
 use crate::outcome::Outcome;
 use crate::random_tests::get_by;
 use crate::sample_with_fields::{database, pcb, wide_database};
@@ -223,6 +223,8 @@ enum Search<'a> {
     None,
     /// The row that a GU with these arguments finds; its answer is the row's address, 0 for none.
     Unique(&'a [&'a [u8]]),
+    /// The first row that these arguments name; its answer is the row's address, 0 for none.
+    Named(&'a [&'a [u8]]),
     /// The row that a GNP with these arguments finds below the second course, and the GU of that; its answer is the row's address.
     Below(&'a [&'a [u8]]),
     /// All rows that may be read, by GN; its answer is how many there are.
@@ -248,6 +250,7 @@ fn probe<S: BlockStore>(
             let (_, found) = sought_by(alloc, volume, dbd, pcb, ssas)?;
             Ok(found)
         }
+        Search::Named(ssas) => named_by(alloc, volume, dbd, pcb, ssas),
         Search::Below(ssas) => below(alloc, volume, dbd, pcb, ssas),
         Search::All => walk(alloc, volume, dbd, pcb),
     }
@@ -386,11 +389,12 @@ fn counts_the_accesses_of_unique_gets(rt: HostRuntime) -> Result<(), Fail> {
     let last = rows.last().copied().unwrap_or(0);
     let (_, none) = run_on(&rt, "wide", &dbd, &all, last, Search::None)?;
     for case in &CASES {
-        let search = Search::Unique(case.ssas);
-        let (found, accesses) = run_on(&rt, "wide", &dbd, &all, last, search)?;
-        let row = case.row.and_then(|row| rows.get(row).copied());
-        assert_eq!(rt; found, Ok(row.unwrap_or(0)));
-        assert_eq!(rt; accesses.saturating_sub(none), case.index + case.rows);
+        for search in [Search::Unique(case.ssas), Search::Named(case.ssas)] {
+            let (found, accesses) = run_on(&rt, "wide", &dbd, &all, last, search)?;
+            let row = case.row.and_then(|row| rows.get(row).copied());
+            assert_eq!(rt; found, Ok(row.unwrap_or(0)));
+            assert_eq!(rt; accesses.saturating_sub(none), case.index + case.rows);
+        }
     }
     fs::remove_file(&rt, "wide")?;
     Ok(())

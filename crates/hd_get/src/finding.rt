@@ -22,7 +22,7 @@ use hd_position::Position;
 use hd_volume::{BlockStore, Volume};
 
 /// Searches from the row that a path leads to, wherever that is, on for the first that passes a judge's test; says whether there is one.
-fn search<S: BlockStore, J: Judge>(
+pub(crate) fn search<S: BlockStore, J: Judge>(
     volume: &mut Volume<S>,
     dbd: &Dbd,
     judge: &J,
@@ -78,6 +78,7 @@ fn search_for<S: BlockStore>(
     if ssas.is_empty() {
         search_readable(volume, dbd, pcb, parent, path)
     } else {
+        let pcb = Some(pcb);
         search(volume, dbd, &Named { pcb, ssas }, parent, path)
     }
 }

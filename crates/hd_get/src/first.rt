@@ -10,6 +10,7 @@ ghost use Rattle.hd_get.specs.Searches.{IsOf};
 ghost use Rattle.hd_get.specs.Starts.{LeadsToNext, StartsBelow};
 ghost use Rattle.hd_get.specs.First.{IsParentLevel, IsLevelFrom, IsChildBelow, IsFirstPassed, IsLoweredTo, StartsBehind};
 
+use crate::standing::type_level;
 use crate::starting::{next, next_in_parent};
 use crate::steps::stay_below;
 use hd_dbd::{Dbd, Refused};
@@ -27,7 +28,7 @@ fn topmost_first<'s, 'a>(ssas: &'s [ResolvedSsa<'a>]) -> Option<&'s ResolvedSsa<
 }
 
 /// The path of the row of a level on the path of the last row passed.
-fn path_up_to(position: &Position, level: u8) -> Option<Path>
+pub(crate) fn path_up_to(position: &Position, level: u8) -> Option<Path>
     ensures { result ≡ option_map (λ a. take (level - 1) position.now.path ++ a ∷ []) (row_on position.now.path level) }
 {
     let address = row_on(position.path(), level)?;
@@ -50,20 +51,10 @@ fn parent_level<S: BlockStore>(
     ensures bound { IfOk result (λ level. IfSome level (λ l. l ≤ 15)) }
     ensures refusal { OnlyDevice result }
 {
-    let Some(parent) = dbd.parent_of(code) else {
-        return Ok(None);
-    };
-    let level = dbd.level(parent);
-    if level > position.standing() {
-        return Ok(None);
+    match dbd.parent_of(code) {
+        Some(parent) => type_level(volume, dbd, parent, position),
+        None => Ok(None),
     }
-    let Some(address) = row_on(position.path(), level) else {
-        return Ok(None);
-    };
-    if code_at(volume, dbd, address)? != parent {
-        return Ok(None);
-    }
-    Ok(Some(level))
 }
 
 /// Whether the row of a level on the path of the last row passed is of the type of a code or of a later one. One access at most.

@@ -1,5 +1,5 @@
-ghost use Rattle.std.specs.Prelude.{◌≡◌};
-ghost use Rattle.hd_get.specs.Asking.{verdict_beside, verdict_beside_to, verdict_to, verdict_down};
+ghost use Rattle.std.specs.Prelude.{◌≡◌, option_copied};
+ghost use Rattle.hd_get.specs.Asking.{may_read, verdict_beside, verdict_beside_to, verdict_to, verdict_down};
 
 use crate::access::may_get;
 use crate::arguments::{admits, goes_to_last, is_past, seeks_later, target_code};
@@ -12,19 +12,30 @@ use hd_ssa::ResolvedSsa;
 use hd_volume::{BlockStore, Volume};
 use std::marker::Model;
 
-/// What a get with segment search arguments asks of a row: that they name it, and that the PCB may read it.
+/// What a call with segment search arguments asks of a row: that they name it, and that the PCB, if there is one, may read it.
 #[derive(Drop)]
 pub struct Named<'a> {
-    pub pcb: &'a Pcb,
+    pub pcb: Option<&'a Pcb>,
     pub ssas: &'a [ResolvedSsa<'a>],
 }
 
 impl<'a> Model for Named<'a> {
+    ghost use Rattle.std.specs.Prelude.{option_copied};
     ghost use Rattle.hd_get.specs.Asking.{Asked};
 
     ghost Value = { Asked };
 
-    ghost view = { λ n. record { pcb = n.pcb.now; ssas = n.ssas.now } };
+    ghost view = { λ n. record { pcb = option_copied n.pcb; ssas = n.ssas.now } };
+}
+
+/// Whether a PCB, if there is one, sees the type of a code and may read it.
+fn may_read(dbd: &Dbd, pcb: Option<&Pcb>, code: u8) -> bool
+    ensures { result ≡ may_read (option_copied pcb.entry) dbd.now.types code }
+{
+    match pcb {
+        Some(pcb) => may_get(dbd, pcb, code),
+        None => true,
+    }
 }
 
 /// How a search goes beside to the children of the type of a code.
@@ -66,13 +77,19 @@ fn verdict_to(dbd: &Dbd, ssas: &[ResolvedSsa<'_>], code: u8) -> Verdict
 }
 
 /// Where a search for rows of the target type goes from a row on the way that meets the arguments.
-fn verdict_down(dbd: &Dbd, pcb: &Pcb, ssas: &[ResolvedSsa<'_>], target: u8, code: u8) -> Verdict
-    ensures { result ≡ verdict_down (record { types = dbd.now.types; pcb = pcb.now }) ssas.now target code }
+fn verdict_down(
+    dbd: &Dbd,
+    pcb: Option<&Pcb>,
+    ssas: &[ResolvedSsa<'_>],
+    target: u8,
+    code: u8,
+) -> Verdict
+    ensures { result ≡ verdict_down (option_copied pcb.entry) dbd.now.types ssas.now target code }
 {
     match way_down(dbd, target, code) {
         Some(child) => verdict_to(dbd, ssas, child),
         None => {
-            if may_get(dbd, pcb, code) {
+            if may_read(dbd, pcb, code) {
                 Verdict::Found
             } else {
                 Verdict::Across

@@ -5,6 +5,7 @@ ghost use Rattle.hd_get.specs.Asking.{SsasSuit};
 
 use crate::by_key::unique_by_key;
 use crate::named::Named;
+use crate::naming::first_named;
 use crate::sample_with_fields::{database, pcb};
 use crate::searching::find;
 use crate::test_volumes::open_file;
@@ -71,7 +72,11 @@ fn sought<S: BlockStore>(
 {
     let mut path = unique_by_key(volume, dbd, ssas)?;
     let begin = tip_of(&path);
-    find(volume, dbd, &Named { pcb, ssas }, 0, &mut path)?;
+    let judge = Named {
+        pcb: Some(pcb),
+        ssas,
+    };
+    find(volume, dbd, &judge, 0, &mut path)?;
     Ok((begin, tip_of(&path)))
 }
 
@@ -102,34 +107,65 @@ pub fn sought_by<S: BlockStore>(
     sought(volume, dbd, pcb, ssas)
 }
 
-/// What is sought and found in each case.
+/// The address of the row that arguments name first, 0 for none, by their texts; `Area` where they mean nothing.
+pub fn named_by<S: BlockStore>(
+    alloc: Global,
+    volume: &mut Volume<S>,
+    dbd: &Dbd,
+    pcb: &Pcb,
+    ssas: &[&[u8]],
+) -> Result<u32, Refused>
+    requires unsound { volume.old.is_sound ≡ false }
+    requires sizes { volume.old.sizes ≡ stored_sizes dbd.now.types }
+    ensures unsound { volume.new.is_sound ≡ false }
+    ensures sizes { volume.new.sizes ≡ volume.old.sizes }
+{
+    let Ok(given) = texts(alloc, ssas) else {
+        return Err(Refused::Memory);
+    };
+    let get = Function::Get(GetKind::Unique, false);
+    let Ok(resolved) = resolve(alloc, get, &given, pcb, dbd) else {
+        return Err(Refused::Area);
+    };
+    match first_named(volume, dbd, resolved.ssas())? {
+        Some(path) => Ok(tip_of(&path)),
+        None => Ok(0),
+    }
+}
+
+/// What is sought, found and named first in each case, and last the same without arguments.
 fn all_sought<S: BlockStore>(
     alloc: Global,
     volume: &mut Volume<S>,
     dbd: &Dbd,
     pcb: &Pcb,
-) -> Result<Vec<(u32, u32)>, Refused>
+) -> Result<Vec<(u32, u32, u32)>, Refused>
     requires unsound { volume.old.is_sound ≡ false }
     requires sizes { volume.old.sizes ≡ stored_sizes dbd.now.types }
 {
     let mut found = Vec::new(alloc);
     for (ssas, _, _) in CASES {
-        let answer = sought_by(alloc, volume, dbd, pcb, ssas)?;
-        if found.push(answer).is_err() {
+        let (begin, row) = sought_by(alloc, volume, dbd, pcb, ssas)?;
+        let named = named_by(alloc, volume, dbd, pcb, ssas)?;
+        if found.push((begin, row, named)).is_err() {
             return Err(Refused::Memory);
         }
+    }
+    let named = named_by(alloc, volume, dbd, pcb, &[])?;
+    if found.push((0, 0, named)).is_err() {
+        return Err(Refused::Memory);
     }
     Ok(found)
 }
 
-/// What is sought and found in each case in the sample volume of a file.
+/// The same in the sample volume of a file.
 fn run<L: Ledger>(
     alloc: Global,
     file: File,
     blank: Blank,
     dbd: &Dbd,
     pcb: &Pcb,
-) -> io::Result<Result<Vec<(u32, u32)>, Refused>>
+) -> io::Result<Result<Vec<(u32, u32, u32)>, Refused>>
     requires name { blank.name ≡ L.name }
     requires parts { blank.parts ≡ L.parts }
     requires share { 0 < blank.parts }
@@ -148,7 +184,7 @@ fn run_on(
     file: File,
     dbd: &Dbd,
     pcb: &Pcb,
-) -> io::Result<Result<Vec<(u32, u32)>, Refused>>
+) -> io::Result<Result<Vec<(u32, u32, u32)>, Refused>>
     requires { dbd.now.block_size ≡ 128 }
 {
     run::<Brand>(alloc, file, Blank::new(1), dbd, pcb)
@@ -161,23 +197,24 @@ fn finds_what_arguments_name(rt: HostRuntime) -> Result<(), Fail> {
     let mut file = open_file(&rt, "named", true)?;
     file.write_all(&image())?;
     let found = run_on(rt.alloc(), file, &dbd, &all)?.expect(&rt, "answers");
-    assert_eq!(rt; found.len(), CASES.len());
+    assert_eq!(rt; found.len(), CASES.len() + 1);
     for ((ssas, begin, row), answer) in CASES.iter().zip(found.iter()) {
-        assert!(rt; *answer == (*begin, *row), "{ssas:?} {answer:?}");
+        assert!(rt; *answer == (*begin, *row, *row), "{ssas:?} {answer:?}");
     }
+    assert_eq!(rt; found.last(), Some(&(0, 0, 0)));
     fs::remove_file(&rt, "named")?;
     Ok(())
 }
 
 #[test]
-fn finds_nothing_that_may_not_be_read(rt: HostRuntime) -> Result<(), Fail> {
+fn names_rows_that_may_not_be_read_and_finds_none(rt: HostRuntime) -> Result<(), Fail> {
     let dbd = database(rt.alloc()).expect(&rt, "a database");
     let none = pcb(rt.alloc(), "I", b"NONE    ")?;
     let mut file = open_file(&rt, "unread", true)?;
     file.write_all(&image())?;
     let found = run_on(rt.alloc(), file, &dbd, &none)?.expect(&rt, "answers");
-    for answer in &found {
-        assert_eq!(rt; answer.1, 0);
+    for ((_, begin, row), answer) in CASES.iter().zip(found.iter()) {
+        assert_eq!(rt; *answer, (*begin, 0, *row));
     }
     fs::remove_file(&rt, "unread")?;
     Ok(())

@@ -10,3 +10,4 @@ pub mod NewRows
 pub mod Room
 pub mod Inserting
 pub mod Places
+pub mod Parents

@@ -9,6 +9,7 @@ mod judging;
 mod load_call;
 mod new_rows;
 mod places;
+mod parents;
 mod positions;
 mod put_path;
 mod putting;
@@ -28,5 +29,6 @@ mod load_tests;
 mod place_tests;
 #[cfg(test)]
 mod place_volumes;
+mod parents_tests;
 #[cfg(test)]
 mod tests;

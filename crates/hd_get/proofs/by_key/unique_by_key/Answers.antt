@@ -34,8 +34,8 @@ pub returns-in-Some-clause-begins : goal.returns-in-Some-clause-begins
 returns-in-Some-clause-begins g c =
     let d = c.args.dbd.now in
     let v = c.args.volume.now in
-    if-ok-map c.root_from.result (λ path leads f pcb admits sound holds.
-    begins_unique d v f holds pcb c.args.ssas.now admits path
+    if-ok-map c.root_from.result (λ path leads f test admits sound holds named.
+    begins_unique d v f holds test c.args.ssas.now named admits path
     (refuses_is d.types c.args.ssas.now (Some c.in-Some.key.now) c.in-Some.ensures.value c.in-Some.ensures.below)
     (subst (LeadsWithin d.types (links_of d.types v) f 0 (length (rows_of f)) path)
     (start_is d.types (rows_of f) c.args.ssas.now (Some c.in-Some.key.now) c.in-Some.ensures.value) (leads f sound holds))) c.root_from.ensures.value
@@ -52,8 +52,8 @@ pub returns-in-None-clause-begins : goal.returns-in-None-clause-begins
 returns-in-None-clause-begins g c =
     let d = c.args.dbd.now in
     let v = c.args.volume.now in
-    if-ok-map c.unique.result (λ path leads f pcb admits sound holds.
-    begins_unique d v f holds pcb c.args.ssas.now admits path
+    if-ok-map c.unique.result (λ path leads f test admits sound holds named.
+    begins_unique d v f holds test c.args.ssas.now named admits path
     (refuses_is d.types c.args.ssas.now None c.in-None.ensures.value tt)
     (subst (LeadsWithin d.types (links_of d.types v) f 0 (length (rows_of f)) path)
     (start_is d.types (rows_of f) c.args.ssas.now None c.in-None.ensures.value) (leads f sound holds.records))) c.unique.ensures.value

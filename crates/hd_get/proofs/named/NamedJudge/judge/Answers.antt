@@ -1,5 +1,5 @@
 use Rattle.std.proofs.Common.{◌≡◌, ℕ, List, Bool, true, false, Ok, refl, sym, ap, ap₂, subst, ◌∙◌}
-use Rattle.std.specs.Prelude.{◌==◌, ◌&&◌, not, is_none}
+use Rattle.std.specs.Prelude.{◌==◌, ◌&&◌, not, is_none, option_copied}
 use Rattle.std.proofs.lemmas.Bool.{eq-eqb, false≢true}
 use Rattle.hd_seek.specs.Twins.{next_twin}
 use Rattle.hd_dbd.specs.Hierarchy.{Database}
@@ -76,8 +76,8 @@ returns-then-branch-clause-value g c f i at up =
     = ap (λ (x : Asked). admits d.types (rows_of f) x.ssas i) (sym c.self.view_is)
     ∙ sym (c.in_ok-admits.ensures.value f i (told_before d u c.code_at.new.volume c.in_ok-code.ensures.read f c.args.path.now i at) (sym code)) ∙ c.if-branch.true in
     subst (IsJudged (is_asked a d.types (rows_of f)) (is_admitted a d.types (rows_of f)) d.types (rows_of f) i)
-    (sym (c.verdict_down.ensures ∙ ap₂ (λ t k. verdict_down (record { types = d.types; pcb = c.self.inside.pcb.now }) c.self.inside.ssas.now t k) target code
-    ∙ ap (λ (x : Asked). verdict_down (record { types = d.types; pcb = x.pcb }) x.ssas (target_code a.ssas) (row_at (rows_of f) i).code) c.self.view_is))
+    (sym (c.verdict_down.ensures ∙ ap₂ (λ t k. verdict_down (option_copied c.self.inside.pcb) d.types c.self.inside.ssas.now t k) target code
+    ∙ ap (λ (x : Asked). verdict_down x.pcb d.types x.ssas (target_code a.ssas) (row_at (rows_of f) i).code) c.self.view_is))
     (judged_met d.types (rows_of f) a (held_rows d u f of at.row.holds) c.requires.suits i at.row.within up way met)
 
 pub is_past-requires-clause-of : goal.is_past-requires-clause-of
