@@ -50,19 +50,6 @@ pub fn get_allowed(dbd: &Dbd, pcb: &Pcb, ssas: &[ResolvedSsa<'_>]) -> bool
         && paths_allowed(dbd, pcb, &ssas[..ssas.len() - 1])
 }
 
-/// The place of the first argument whose type is inserted: the first with D, or else the last.
-pub fn first_inserted(ssas: &[ResolvedSsa<'_>]) -> usize
-    ensures value { result ≡ first_inserted ssas.now }
-    ensures within { result ≤ length ssas.now }
-{
-    for place in 0..ssas.len() {
-        if ssas[place].commands().path {
-            return place;
-        }
-    }
-    ssas.len().saturating_sub(1)
-}
-
 /// Whether rows of the types of these arguments may be inserted.
 fn all_insertable(dbd: &Dbd, pcb: &Pcb, ssas: &[ResolvedSsa<'_>]) -> bool
     ensures { result ≡ list_all (λ a. may (setting dbd.now pcb.now) gives_insert a.code) ssas.now }

@@ -8,6 +8,6 @@ pub mod Putting
 pub mod Loading
 pub mod NewRows
 pub mod Room
-pub mod Inserting
 pub mod Places
 pub mod Parents
+pub mod Inserting

@@ -8,8 +8,8 @@ mod isrt_call;
 mod judging;
 mod load_call;
 mod new_rows;
-mod places;
 mod parents;
+mod places;
 mod positions;
 mod put_path;
 mod putting;
@@ -20,15 +20,18 @@ mod room;
 
 pub use dlet_call::{dlet, taken_row};
 pub use held::{HeldRow, HeldRows, held_rows, row_at};
+pub use isrt_call::{first_inserted, isrt};
 pub use load_call::load_row;
 pub use repl_call::repl;
 pub use rewrites::is_excepted;
 
 #[cfg(test)]
 mod load_tests;
+#[cfg(test)]
+mod parents_tests;
+#[cfg(test)]
 mod place_tests;
 #[cfg(test)]
 mod place_volumes;
-mod parents_tests;
 #[cfg(test)]
 mod tests;

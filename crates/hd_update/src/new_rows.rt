@@ -89,7 +89,7 @@ pub fn put_others<S: BlockStore>(
     area: &[u8],
 ) -> Result<(), Refused>
     requires sizes { volume.old.sizes ≡ stored_sizes dbd.now.types }
-    requires few { length path.old + length ssas.now ≤ 15 }
+    requires few { IsTrue volume.old.is_sound → length path.old + length ssas.now ≤ 15 }
     requires long { has_length_for dbd.now.types (codes_of ssas.now) area.now ≡ true }
     requires typed { are_types dbd.now.types (codes_of ssas.now) ≡ true }
     requires more { IsTrue volume.old.is_sound → TakeMore dbd.now volume.old (tip path.old) (rows_in dbd.now.types (codes_of ssas.now) area.now) }

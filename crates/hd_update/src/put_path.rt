@@ -61,7 +61,8 @@ pub fn put_path<S: BlockStore>(
     area: &[u8],
 ) -> Result<Path, Refused>
     requires some { 0 < length ssas.now }
-    requires few { length parent.now + length ssas.now ≤ 15 }
+    requires few { length ssas.now ≤ 15 }
+    requires levels { IsTrue volume.old.is_sound → length parent.now + length ssas.now ≤ 15 }
     requires size { volume.old.size ≡ dbd.now.block_size }
     requires sizes { volume.old.sizes ≡ stored_sizes dbd.now.types }
     requires typed { are_types dbd.now.types (codes_of ssas.now) ≡ true }

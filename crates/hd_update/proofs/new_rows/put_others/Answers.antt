@@ -34,28 +34,32 @@ loop-place-preserved g c =
     let T = turn d.types c.args.ssas.now c.args.area.now c.loop-place.place c.loop-place.start c.code-code.result c.length_of.result c.index-ssas-place.result c.loop-place-test.true
     c.loop-place.invariant.within c.index-ssas-place.is c.code-code.ensures c.length_of.ensures c.loop-place.invariant.long c.loop-place.invariant.typed in
     let a : ℕ = c.in_ok-address.address in
-    let few : length path + length (drop c.loop-place.place c.args.ssas.now) ≤ 15 = c.loop-place.invariant.few in
     let left : length (drop c.loop-place.place c.args.ssas.now) ≡ length c.args.ssas.now - c.loop-place.place = length-drop c.loop-place.place c.args.ssas.now in
     let fewer : length (drop (c.loop-place.place + 1) c.args.ssas.now) ≡ length c.args.ssas.now - (c.loop-place.place + 1) = length-drop (c.loop-place.place + 1) c.args.ssas.now in
     let there = c.loop-place-test.true in
-    let pushed : c.push.new.self ≡ path ++ a ∷ [] = c.push.ensures (omega arith) in
+    let pushed : IsTrue v.is_sound → c.push.new.self ≡ path ++ a ∷ [] =
+    (λ sound. (let few : length path + length (drop c.loop-place.place c.args.ssas.now) ≤ 15 = c.loop-place.invariant.few sound in c.push.ensures (omega arith))) in
     let goes : GoesInBelow d v (tip path) row a x = subst (λ (t : ℕ). GoesInBelow d v t row a x) c.tip_of.ensures c.in_ok-address.ensures.put_in in
     let same = c.in_ok-address.ensures.call.sound in
     record {
       within = T.within;
-      few = (let long : length c.push.new.self ≡ length path + 1 = ap (λ (xs : List ℕ). length xs) pushed ∙ length-append path (a ∷ []) in omega arith);
+      few = λ now.
+          (let sound : IsTrue v.is_sound = subst IsTrue same now in
+          let few : length path + length (drop c.loop-place.place c.args.ssas.now) ≤ 15 = c.loop-place.invariant.few sound in
+          let long : length c.push.new.self ≡ length path + 1 = ap (λ (xs : List ℕ). length xs) (pushed sound) ∙ length-append path (a ∷ []) in omega arith);
       long = T.rest;
       typed = T.typed;
       call = call-ok 0 (calls-join (Ok a) c.loop-place.invariant.call c.in_ok-address.ensures.call);
       more = λ now.
           (let sound : IsTrue v.is_sound = subst IsTrue same now in
-          subst (λ (p : List ℕ). TakeMore d x (tip p) rows) (sym pushed)
+          subst (λ (p : List ℕ). TakeMore d x (tip p) rows) (sym (pushed sound))
           (take_others d v x path row rows a sound goes c.in_ok-address.ensures.lasts (subst (TakeMore d v (tip path)) T.rows (c.loop-place.invariant.more sound))));
       all = λ w down below.
           c.loop-place.invariant.all w down
           (subst (λ (rs : List Segment). GoInBelow d v path rs w down) (sym T.rows)
-          (go_in d v x w path row rows a down (λ sound. subst IsTrue (sym same) sound) goes
-          (subst (λ (p : List ℕ). GoInBelow d x p rows w down) pushed below)));
+          (λ u f n front last sound.
+          go_in d v x w path row rows a down (λ sound. subst IsTrue (sym same) sound) goes
+          (subst (λ (p : List ℕ). GoInBelow d x p rows w down) (pushed sound) below) u f n front last sound));
     }
 
 pub returns-clause-put_in : goal.returns-clause-put_in

@@ -9,7 +9,7 @@ use Rattle.hd_update.proofs.new_rows.put_others.Given as goal
 abbrev pub invariant-loop-place : goal.invariant-loop-place
 invariant-loop-place g l = record {
   within : l.start ≤ length l.area;
-  few : length l.path + length (drop l.place l.ssas) ≤ 15;
+  few : IsTrue l.volume.is_sound → length l.path + length (drop l.place l.ssas) ≤ 15;
   long : has_length_for l.dbd.types (codes_of (drop l.place l.ssas)) (drop l.start l.area) ≡ true;
   typed : are_types l.dbd.types (codes_of (drop l.place l.ssas)) ≡ true;
   call : IsCall {T = ℕ} l.fn.volume (Ok 0) l.volume;

@@ -63,7 +63,7 @@ put_others-requires-clause-more g c now =
     let o = c.in_ok-address.ensures in
     let sound : IsTrue v.is_sound = sound-back (Ok c.in_ok-address.address) v.is_sound w.is_sound o.call.sound now in
     let M = may_put d v c.args.parent.now c.args.after _ _ _ F.rows (c.requires.may sound) in
-    let pushed : c.push.new.self ≡ c.args.parent.now ++ c.in_ok-address.address ∷ [] = c.push.ensures (let l : length c.copy-path.result ≡ length c.args.parent.now = ap (λ (xs : List ℕ). length xs) c.copy-path.ensures in let few = c.requires.few in let some = c.requires.some in omega arith) ∙ ap (λ (xs : List ℕ). xs ++ c.in_ok-address.address ∷ []) c.copy-path.ensures in
+    let pushed : c.push.new.self ≡ c.args.parent.now ++ c.in_ok-address.address ∷ [] = c.push.ensures (let l : length c.copy-path.result ≡ length c.args.parent.now = ap (λ (xs : List ℕ). length xs) c.copy-path.ensures in let few = c.requires.levels sound in let some = c.requires.some in omega arith) ∙ ap (λ (xs : List ℕ). xs ++ c.in_ok-address.address ∷ []) c.copy-path.ensures in
     subst (λ (p : List ℕ). TakeMore d w (tip p) (rows_in d.types (codes_of (take (length c.args.ssas.now - 1) (drop 1 c.args.ssas.now))) (take (length c.args.area.now - c.length_of-length.result) (drop c.length_of-length.result c.args.area.now)))) (sym pushed)
     (subst (λ (rows : List Segment). TakeMore d w (tip (c.args.parent.now ++ c.in_ok-address.address ∷ [])) rows) (sym (others_are d.types c.args.ssas.now c.args.area.now c.code-code.result c.length_of-length.result F))
     (more_below d v M.2.placed c.tip_of.result c.args.after _ c.in_ok-address.address w c.args.parent.now _ (o.put_in M.2.placed sound M.2.holds) M.3 (o.lasts sound _ F.rest_codes)))
@@ -84,7 +84,7 @@ returns-clause-put_in g c f sound holds =
     let now : IsTrue mid.is_sound = subst IsTrue (sym o.call.sound) sound in
     let M = may_put d v above c.args.after _ rest row F.rows (c.requires.may sound) in
     let pushed : c.push.new.self ≡ above ++ a ∷ []
-    = c.push.ensures (let l : length c.copy-path.result ≡ length above = ap (λ (xs : List ℕ). length xs) c.copy-path.ensures in let few = c.requires.few in let some = c.requires.some in omega arith) ∙ ap (λ (xs : List ℕ). xs ++ a ∷ []) c.copy-path.ensures in
+    = c.push.ensures (let l : length c.copy-path.result ≡ length above = ap (λ (xs : List ℕ). length xs) c.copy-path.ensures in let few = c.requires.levels sound in let some = c.requires.some in omega arith) ∙ ap (λ (xs : List ℕ). xs ++ a ∷ []) c.copy-path.ensures in
     let P : IsPutIn d v f (tip above) c.args.after row a mid = subst (λ (h : ℕ). IsPutIn d v f h c.args.after row a mid) c.tip_of.ensures (o.put_in f sound holds) in
     let goes : GoInBelow d mid (above ++ a ∷ []) rest w c.put_others.new.path
     = subst (λ (p : List ℕ). GoInBelow d mid p rest w c.put_others.new.path) pushed

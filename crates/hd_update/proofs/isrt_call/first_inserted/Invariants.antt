@@ -1,6 +1,6 @@
 use Rattle.std.proofs.Common.{◌≡◌, drop, map}
 use Rattle.hd_calls.specs.Ssas.{first_inserted, first_inserted_from}
-use Rattle.hd_accept.proofs.allowing.first_inserted.Given as goal
+use Rattle.hd_update.proofs.isrt_call.first_inserted.Given as goal
 
 -- the arguments that are left give the place among all
 abbrev pub invariant-loop-place : goal.invariant-loop-place
