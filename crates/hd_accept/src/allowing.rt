@@ -5,7 +5,6 @@ ghost use Rattle.hd_dbd.specs.Paths.{row_at};
 ghost use Rattle.hd_calls.specs.Access.{may, gives_insert};
 ghost use Rattle.hd_calls.specs.declared.call.GetKind.{GetKind};
 ghost use Rattle.hd_calls.specs.declared.call.Function.TheVariants.{Get, Insert, Replace, Delete};
-ghost use Rattle.hd_calls.specs.Ssas.{first_inserted};
 ghost use Rattle.hd_calls.specs.Steps.{path_allowed, is_allowed, deleted_row, has_parent};
 ghost use Rattle.hd_accept.specs.Tests.{AreHeldOf, all_replaceable};
 ghost use Rattle.hd_accept.specs.Accesses.{setting};
@@ -14,7 +13,7 @@ use crate::access::{Access, may};
 use hd_dbd::{Dbd, Pcb};
 use hd_get::target_code;
 use hd_ssa::{ResolvedSsa, loads};
-use hd_update::{HeldRow, is_excepted, taken_row};
+use hd_update::{HeldRow, first_inserted, is_excepted, taken_row};
 
 /// Whether an argument asks for no path row, or its row may be returned on a path.
 fn path_allowed(dbd: &Dbd, pcb: &Pcb, ssa: &ResolvedSsa<'_>) -> bool
