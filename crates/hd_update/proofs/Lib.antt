@@ -16,6 +16,8 @@ pub mod LoadedStates
 pub mod NewRows
 pub mod RoomOf
 pub mod PathRows
+pub mod InsertedPaths
+pub mod InsertedStates
 pub mod FirstRows
 pub mod RowsIn
 pub mod LoadSteps
