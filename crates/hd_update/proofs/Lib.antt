@@ -18,6 +18,8 @@ pub mod RoomOf
 pub mod PathRows
 pub mod InsertedPaths
 pub mod InsertedStates
+pub mod PlacedUnder
+pub mod UnderCalls
 pub mod FirstRows
 pub mod RowsIn
 pub mod LoadSteps
