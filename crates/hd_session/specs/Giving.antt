@@ -49,6 +49,11 @@ pub record HasRoom (types : List SegmentType) (row : Segment) (b : Buffer) : Typ
 abbrev pub with_row : List SegmentType → Bool → Segment → Buffer → Buffer
 with_row types given row b = record { key = b.key ++ key_of types row; area = b.area ++ cond given row.bytes []; room = b.room }
 
+-- where there is room for the segment at an address, the buffer has that as one more row
+abbrev pub IsSegmentAdded : Database → VolumeState → ℕ → Bool → Buffer → Buffer → Type 0
+IsSegmentAdded d v a given old new =
+    HasRoom d.types (segment_at (links_of d.types v) a) old → new ≡ with_row d.types given (segment_at (links_of d.types v) a) old
+
 -- a level is one of these
 abbrev pub is_among : List ℕ → ℕ → Bool
 is_among levels level = list_any (λ l. l == level) levels

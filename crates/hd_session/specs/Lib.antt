@@ -6,3 +6,4 @@ pub mod Session
 pub mod Giving
 pub mod Sessions
 pub mod Loads
+pub mod Inserts

@@ -4,12 +4,11 @@ ghost use Rattle.hd_dbd.specs.Calls.{bare};
 ghost use Rattle.hd_dbd.specs.Refusals.{OnlyDevice};
 ghost use Rattle.hd_volume.specs.Calls.{IsRead};
 ghost use Rattle.hd_prefix.specs.Fields.{code_of};
-ghost use Rattle.hd_links.specs.Links.{segment_at};
 ghost use Rattle.hd_image.specs.Records.{links_of};
 ghost use Rattle.hd_get.specs.Meeting.{IsStored};
 ghost use Rattle.hd_get.specs.Searches.{IsOf, IsThere};
 ghost use Rattle.hd_session.specs.RowCalls.{reply_of};
-ghost use Rattle.hd_session.specs.Giving.{IsGiven, IsEmpty, HasRoom, with_row, is_among, with_path};
+ghost use Rattle.hd_session.specs.Giving.{IsGiven, IsEmpty, IsSegmentAdded, HasRoom, with_row, is_among, with_path};
 
 use crate::buffer::IoArea;
 use crate::request::Answer;
@@ -54,7 +53,7 @@ fn add_segment<S: BlockStore>(
     requires of { IsOf dbd.now volume.old }
     requires there { IsStored dbd.now volume.old address }
     ensures read { IsRead volume.old result volume.new }
-    ensures added { OnOk result (IsTrue volume.old.is_sound → HasRoom dbd.now.types (segment_at (links_of dbd.now.types volume.old) address) io.old → io.new ≡ with_row dbd.now.types is_given (segment_at (links_of dbd.now.types volume.old) address) io.old) }
+    ensures added { OnOk result (IsTrue volume.old.is_sound → IsSegmentAdded dbd.now volume.old address is_given io.old io.new) }
     ensures same_room { io.new.room ≡ io.old.room }
     ensures refusal { OnlyDevice result }
 {

@@ -6,6 +6,7 @@ mod calling;
 mod get;
 mod getting;
 mod giving;
+mod inserting;
 mod loading;
 mod place;
 mod request;

@@ -1,7 +1,8 @@
 -- A row that is loaded behind all others.
 use Rattle.std.specs.Prelude.{◌≡◌, ℕ, ◌-◌, List, [], ◌∷◌, length, map, IsTrue, true, Bool, ◌&&◌, cond, Option, Some, None, option_map, option_and_then, unwrap_or, slice_get}
 use Rattle.std.specs.Option.{option_map_or}
-use Rattle.std.specs.Ordering.{is_eq, is_gt}
+use Rattle.std.specs.Ordering.{nat_cmp, is_eq, is_gt}
+use Rattle.std.specs.Cmp.Lexicographic.{slice_cmp}
 use Rattle.std.specs.declared.cmp.Ordering.{Ordering}
 use Rattle.hd_dbd.specs.Types.{SegmentType, View}
 use Rattle.hd_dbd.specs.declared.answer.LoadFault.{LoadFault}
@@ -10,7 +11,7 @@ use Rattle.hd_dbd.specs.declared.answer.Refused.{Refused}
 use Rattle.hd_dbd.specs.declared.answer.Refused.TheVariants.{Full}
 use Rattle.hd_dbd.specs.Hierarchy.{Database, parent_of, level_of}
 use Rattle.hd_dbd.specs.Segment.{Segment}
-use Rattle.hd_dbd.specs.Rows.{level}
+use Rattle.hd_dbd.specs.Rows.{level, key_of}
 use Rattle.hd_dbd.specs.Forest.{Forest}
 use Rattle.hd_dbd.specs.Loads.{last_path, has_unique_key, lacks_parent, order_fault, load_fault}
 use Rattle.hd_calls.specs.Ssas.{Ssa}
@@ -20,6 +21,8 @@ use Rattle.hd_calls.specs.Steps.{State, Effect, position_at, inserted_codes, ins
 use Rattle.hd_volume.specs.Volumes.{VolumeState}
 use Rattle.hd_links.specs.Placed.{Placed}
 use Rattle.hd_links.specs.LastRows.{last_on, segments_of, parent_on_path, twin_on_path}
+use Rattle.hd_links.specs.Links.{segment_at}
+use Rattle.hd_image.specs.Records.{links_of}
 use Rattle.hd_image.specs.Holding.{HoldsPlaced}
 use Rattle.hd_keeping.specs.VolumeImages.{images_of}
 use Rattle.hd_position.specs.Kept.{Kept}
@@ -101,6 +104,10 @@ IsLastTwin d v path code r =
 -- the parent of a row of a type, by addresses of a path: 0 for a root
 abbrev pub last_parent : List SegmentType → List ℕ → ℕ → ℕ
 last_parent types path code = option_map_or (λ _. unwrap_or (slice_get path (level_of types code - 2)) 0) (parent_of types code) 0
+
+-- how the key of the segment at an address stands to a row's
+abbrev pub IsKeyOrder : Database → VolumeState → ℕ → Segment → Ordering → Type 0
+IsKeyOrder d v a row order = order ≡ slice_cmp nat_cmp (key_of d.types (segment_at (links_of d.types v) a)) (key_of d.types row)
 
 -- why a row of a type may not be loaded behind its twin, by how the twin's key stands to its own
 abbrev pub key_fault : List SegmentType → ℕ → Ordering → Option LoadFault

@@ -1,7 +1,4 @@
 ghost use Rattle.std.specs.Prelude.{◌≡◌, slice_get, IsTrue, IfOk};
-ghost use Rattle.std.specs.Ordering.{nat_cmp};
-ghost use Rattle.std.specs.Cmp.Lexicographic.{slice_cmp};
-ghost use Rattle.hd_dbd.specs.Rows.{key_of};
 ghost use Rattle.hd_dbd.specs.Loads.{order_fault, status_of_load};
 ghost use Rattle.hd_dbd.specs.Refusals.{OnlyDevice};
 ghost use Rattle.hd_volume.specs.Calls.{IsRead};
@@ -9,7 +6,7 @@ ghost use Rattle.hd_links.specs.Links.{segment_at};
 ghost use Rattle.hd_image.specs.Records.{links_of};
 ghost use Rattle.hd_get.specs.Meeting.{IsStored};
 ghost use Rattle.hd_get.specs.Searches.{IsOf};
-ghost use Rattle.hd_update.specs.Loading.{HasLastPath, IsCodeOn, SaysParentLacks, IsLoadFault, IsOrderFault, IsLastTwin, key_fault, last_parent};
+ghost use Rattle.hd_update.specs.Loading.{HasLastPath, IsCodeOn, IsKeyOrder, SaysParentLacks, IsLoadFault, IsOrderFault, IsLastTwin, key_fault, last_parent};
 
 use hd_dbd::{Dbd, LoadFault, Refused, Status};
 use hd_forest::{Path, bytes_in, code_at};
@@ -90,7 +87,7 @@ pub fn key_order<S: BlockStore>(
     requires there { IsStored dbd.now volume.old address }
     requires typed { IsTrue volume.old.is_sound → (links_of dbd.now.types volume.old).code address ≡ code }
     ensures read { IsRead volume.old result volume.new }
-    ensures value { IfOk result (λ r. IsTrue volume.old.is_sound → r ≡ slice_cmp nat_cmp (key_of dbd.now.types (segment_at (links_of dbd.now.types volume.old) address)) (key_of dbd.now.types (record { code = code; bytes = bytes.now }))) }
+    ensures value { IfOk result (λ r. IsTrue volume.old.is_sound → IsKeyOrder dbd.now volume.old address (record { code = code; bytes = bytes.now }) r) }
     ensures refusal { OnlyDevice result }
 {
     let segment = volume.segment_at(address)?;

@@ -26,6 +26,8 @@ pub use repl_call::repl;
 pub use rewrites::is_excepted;
 
 #[cfg(test)]
+mod isrt_tests;
+#[cfg(test)]
 mod load_tests;
 #[cfg(test)]
 mod parents_tests;
