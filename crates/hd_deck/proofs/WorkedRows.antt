@@ -9,7 +9,7 @@ use Rattle.hd_dbd.specs.Segment.{Segment}
 use Rattle.hd_dbd.specs.Positions.{at_start}
 use Rattle.hd_dbd.specs.Sample.{sample_types, sample_pcbs, sample_rows}
 use Rattle.hd_deck.specs.declared.deck.DeckFault.{DeckFault}
-use Rattle.hd_deck.specs.declared.deck.DeckFault.TheVariants.{K1, K2, K3, K5}
+use Rattle.hd_deck.specs.declared.deck.DeckFault.TheVariants.{K1, K2, K3, K4, K5, K7}
 use Rattle.hd_deck.specs.StepText.{StepText}
 use Rattle.hd_deck.specs.Deck.{deck}
 use Rattle.hd_deck.specs.Printing.{print}
@@ -92,3 +92,22 @@ no_such_pcb = refl
 
 pub no_calls : deck 3 (codes "L     GN\nL  0  GN") ≡ Err (K5 2)
 no_calls = refl
+
+-- a call with all its parts, a comment between them, and one that has none
+pub parts_of_a_call : deck 3 (codes "L   2 REPL COURSE\r\nC          CLASS\nD10\n* one\n\nH3141\nC\nL     GU")
+    ≡ Ok (record { pcb = 1; repeat = 2; call = record { function = codes "REPL"; ssas = codes "COURSE" ∷ codes "CLASS" ∷ [] ∷ []; area = codes "101A" } }
+    ∷ asked 1 1 (codes "GU  ") ∷ [])
+parts_of_a_call = refl
+
+pub no_call_yet : deck 3 (codes "C          COURSE") ≡ Err (K4 1)
+no_call_yet = refl
+
+-- no call is open after an S, which is found before a wrong digit
+pub no_open_call : deck 3 (codes "L     GN\nS 1\nH3") ≡ Err (K4 3)
+no_open_call = refl
+
+pub odd_digit : deck 3 (codes "L     GN\nH3") ≡ Err (K7 2)
+odd_digit = refl
+
+pub upper_case : deck 3 (codes "L     GN\nH4A") ≡ Err (K7 2)
+upper_case = refl

@@ -1,16 +1,16 @@
 -- A deck, line by line. Columns count from 1, and a line is blank past its end.
-use Rattle.std.specs.Prelude.{ℕ, ◌+◌, ◌-◌, List, [], ◌∷◌, ◌++◌, length, take, drop, replicate, Bool, ◌&&◌, ◌||◌, nat_lt, nat_le, ◌==◌, cond, Option, None, Some, option_and_then, Result, Ok, Err, slice_index_or}
+use Rattle.std.specs.Prelude.{ℕ, ◌+◌, ◌-◌, List, [], ◌∷◌, ◌++◌, length, take, drop, replicate, Bool, true, false, ◌&&◌, ◌||◌, nat_lt, nat_le, ◌==◌, cond, ◌*◌, Option, None, Some, option_map, option_and_then, Result, Ok, Err, slice_index_or}
 use Rattle.std.specs.Option.{option_map_or}
 use Rattle.std.specs.List.{prefix_len}
 use Rattle.std.specs.Str.Lines.{lines}
 use Rattle.hd_lines.specs.Blanks.{is_blank, unpadded}
 use Rattle.hd_lines.specs.Digits.{is_digit, value_of}
-use Rattle.hd_lines.specs.Reading.{then, before}
+use Rattle.hd_lines.specs.Reading.{then}
 use Rattle.hd_dbd.specs.Naming.{is_letter}
 use Rattle.hd_dbd.specs.Calls.{CallText}
 use Rattle.hd_deck.specs.StepText.{StepText}
 use Rattle.hd_deck.specs.declared.deck.DeckFault.{DeckFault}
-use Rattle.hd_deck.specs.declared.deck.DeckFault.TheVariants.{K1, K2, K3, K5, K6}
+use Rattle.hd_deck.specs.declared.deck.DeckFault.TheVariants.{K1, K2, K3, K4, K5, K6, K7}
 
 -- ---- columns
 
@@ -34,13 +34,31 @@ number_before_blanks bytes =
 abbrev pub number_in : List ℕ → Option ℕ
 number_in bytes = number_before_blanks (unpadded bytes)
 
+-- the value of a hexadecimal digit, 0 to 9 or a to f in lower case
+abbrev pub hex_value : ℕ → Option ℕ
+hex_value digit =
+    cond (nat_le 48 digit && nat_le digit 57) (Some (digit - 48)) (cond (nat_le 97 digit && nat_le digit 102) (Some (digit - 87)) None)
+
+-- the byte that two hexadecimal digits spell
+abbrev pub hex_byte : ℕ → ℕ → Option ℕ
+hex_byte high low = option_and_then (λ h. option_map (λ l. 16 * h + l) (hex_value low)) (hex_value high)
+
+-- the bytes that hexadecimal digits spell, two each; none where one digit is left, or another byte stands there
+abbrev pub hex_bytes : List ℕ → Option (List ℕ)
+hex_bytes [] = Some []
+hex_bytes (digit ∷ []) = None
+hex_bytes (high ∷ low ∷ digits) = option_and_then (λ byte. option_map (λ others. byte ∷ others) (hex_bytes digits)) (hex_byte high low)
+
 -- ---- a line
 
--- What a line says: nothing, of which PCB the calls that follow are, or a call and how often it is made.
+-- What a line says: nothing, of which PCB the calls that follow are, a call and how often it is made, or of the call
+-- before it one segment search argument more or more bytes of its area.
 pub data Statement : Type 0 where
   comment : Statement
   select : ℕ → Statement
   call : ℕ → CallText → Statement
+  argument : List ℕ → Statement
+  area_bytes : List ℕ → Statement
 
 -- S: the PCB's number, one of so many; else K3
 abbrev pub read_select : ℕ → ℕ → List ℕ → Result Statement DeckFault
@@ -72,35 +90,77 @@ abbrev pub read_call : ℕ → List ℕ → Result Statement DeckFault
 read_call n line =
     option_map_or (λ k. cond (has_function line) (Ok (call k (call_in line))) (Err (K2 n))) (repeat_in line) (Err (K5 n))
 
--- What line n says, by its first column: S, L, or nothing where it is blank or has a star there. K6 comes first, for a
--- line of over 255 bytes; any other first column is K1.
-abbrev pub read_line : ℕ → ℕ → List ℕ → Result Statement DeckFault
-read_line pcbs n line =
+-- C, D or H: the line belongs to the call before it
+abbrev pub belongs_to_call : List ℕ → Bool
+belongs_to_call line = column line 1 == 67 || column line 1 == 68 || column line 1 == 72
+
+-- H: hexadecimal digits from column 2 on, else K7
+abbrev pub read_hex : ℕ → List ℕ → Result Statement DeckFault
+read_hex n line = option_map_or (λ bytes. Ok (area_bytes bytes)) (hex_bytes (drop 1 line)) (Err (K7 n))
+
+-- what belongs to a call: C, an argument from column 12 on; D, bytes of the area from column 2 on; else H
+abbrev pub read_part : ℕ → List ℕ → Result Statement DeckFault
+read_part n line =
+    cond (column line 1 == 67) (Ok (argument (drop 11 line))) (cond (column line 1 == 68) (Ok (area_bytes (drop 1 line))) (read_hex n line))
+
+-- What line n says, by its first column: S, L, a part of the call before it, or nothing where it is blank or has a star
+-- there. K6 comes first, for a line of over 255 bytes; K4 where no call is open; any other first column is K1.
+abbrev pub read_line : ℕ → ℕ → Bool → List ℕ → Result Statement DeckFault
+read_line pcbs n is_open line =
     cond (nat_lt 255 (length line)) (Err (K6 n))
     (cond (is_blank line || column line 1 == 42) (Ok comment)
     (cond (column line 1 == 83) (read_select pcbs n line)
-    (cond (column line 1 == 76) (read_call n line) (Err (K1 n)))))
+    (cond (column line 1 == 76) (read_call n line)
+    (cond (belongs_to_call line) (cond is_open (read_part n line) (Err (K4 n))) (Err (K1 n))))))
 
 -- ---- the lines of a deck
 
--- the PCB of the calls that follow a line
-abbrev pub pcb_after : Statement → ℕ → ℕ
-pcb_after comment pcb = pcb
-pcb_after (select k) pcb = k
-pcb_after (call k text) pcb = pcb
+-- What some first lines have said: the PCB of the calls that follow, whether a call is open, so that lines may belong to
+-- it, and the steps, of which the last has the call that is open.
+pub record Reading : Type 0 where
+  pub pcb : ℕ
+  pub is_open : Bool
+  pub steps : List StepText
 
--- the steps that a line adds
-abbrev pub steps_said : Statement → ℕ → List StepText
-steps_said comment pcb = []
-steps_said (select k) pcb = []
-steps_said (call k text) pcb = record { pcb = pcb; repeat = k; call = text } ∷ []
+-- a step whose call has one segment search argument more
+abbrev pub with_argument : List ℕ → StepText → StepText
+with_argument ssa s = record {
+  pcb = s.pcb;
+  repeat = s.repeat;
+  call = record { function = s.call.function; ssas = s.call.ssas ++ ssa ∷ []; area = s.call.area };
+}
 
--- the steps of the lines from number n on, with the PCB of their calls; or the first fault
-abbrev pub steps_from : ℕ → ℕ → ℕ → List (List ℕ) → Result (List StepText) DeckFault
-steps_from pcbs n pcb [] = Ok []
-steps_from pcbs n pcb (line ∷ more) =
-    then (read_line pcbs n line) (λ s. before (steps_said s pcb) (steps_from pcbs (n + 1) (pcb_after s pcb) more))
+-- a step whose call has these bytes behind its area
+abbrev pub with_bytes : List ℕ → StepText → StepText
+with_bytes bytes s = record {
+  pcb = s.pcb;
+  repeat = s.repeat;
+  call = record { function = s.call.function; ssas = s.call.ssas; area = s.call.area ++ bytes };
+}
 
--- the steps of a deck over so many PCBs, where calls are of PCB 1 until a line says otherwise; or the first fault
+-- the steps, the last of them changed so
+abbrev pub with_last : (StepText → StepText) → List StepText → List StepText
+with_last change [] = []
+with_last change (s ∷ []) = change s ∷ []
+with_last change (s ∷ t ∷ more) = s ∷ with_last change (t ∷ more)
+
+-- S selects the PCB and leaves no call open; L opens a call, a step more; a part goes to the last step's call
+abbrev pub after : Statement → Reading → Reading
+after comment r = r
+after (select k) r = record { pcb = k; is_open = false; steps = r.steps }
+after (call k text) r = record { pcb = r.pcb; is_open = true; steps = r.steps ++ record { pcb = r.pcb; repeat = k; call = text } ∷ [] }
+after (argument ssa) r = record { pcb = r.pcb; is_open = r.is_open; steps = with_last (with_argument ssa) r.steps }
+after (area_bytes bytes) r = record { pcb = r.pcb; is_open = r.is_open; steps = with_last (with_bytes bytes) r.steps }
+
+-- before the first line: calls are of PCB 1, none is open, and there are no steps
+abbrev pub at_first_line : Reading
+at_first_line = record { pcb = 1; is_open = false; steps = [] }
+
+-- the steps when the lines from number n on are read too, or the first fault
+abbrev pub read_from : ℕ → ℕ → Reading → List (List ℕ) → Result (List StepText) DeckFault
+read_from pcbs n r [] = Ok r.steps
+read_from pcbs n r (line ∷ more) = then (read_line pcbs n r.is_open line) (λ s. read_from pcbs (n + 1) (after s r) more)
+
+-- the steps of a deck over so many PCBs, or the first fault
 abbrev pub deck : ℕ → List ℕ → Result (List StepText) DeckFault
-deck pcbs bytes = steps_from pcbs 1 1 (lines bytes)
+deck pcbs bytes = read_from pcbs 1 at_first_line (lines bytes)

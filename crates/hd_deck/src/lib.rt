@@ -2,8 +2,10 @@
 #![tactic(auto)]
 
 mod deck;
+mod hex;
 mod line;
 mod printing;
+mod reader;
 mod run;
 mod step;
 

@@ -1,11 +1,12 @@
-ghost use Rattle.std.specs.Prelude.{◌≡◌, ◌≢◌, ◌==◌, ◌<◌, ◌≤◌, min, length, map, option_map, Ok, Err, IfOk, IfErr, IfSome};
+ghost use Rattle.std.specs.Prelude.{◌≡◌, ◌≢◌, ◌==◌, ◌<◌, ◌≤◌, ◌-◌, min, length, drop, map, option_map, Ok, Err, IfOk, IfErr, IfSome};
 ghost use Rattle.std.specs.List.{prefix_len};
 ghost use Rattle.hd_dbd.specs.Naming.{is_letter};
-ghost use Rattle.hd_deck.specs.Deck.{call, call_in, column, columns, has_function, is_function, number_in, read_call, read_line, read_select, repeat_in, ssas_in, select};
+ghost use Rattle.hd_deck.specs.Deck.{argument, area_bytes, belongs_to_call, call, call_in, column, columns, has_function, is_function, number_in, read_call, read_hex, read_line, read_part, read_select, repeat_in, ssas_in, select};
 ghost use Rattle.hd_lines.specs.Digits.{is_digit, value_of};
 ghost use Rattle.hd_deck.specs.Lines.{said, StatementFits};
 
 use crate::deck::DeckFault;
+use crate::hex::hex_bytes;
 use hd_lines::{is_blank, unpadded};
 use hd_session::Call;
 use std::alloc::{AllocError, Global};
@@ -18,17 +19,22 @@ pub(crate) enum Statement {
     Select(u8),
     /// A call, and how often it is made.
     Call(u16, Call),
+    /// A segment search argument more for the call before.
+    Argument(Vec<u8>),
+    /// Bytes behind the area of the call before.
+    Bytes(Vec<u8>),
 }
 
-/// What a line says, or its first fault.
+/// What a line says, where a call is open before it or not, or its first fault.
 pub(crate) fn read_line(
     alloc: Global,
     line: &[u8],
     number: usize,
     pcbs: u8,
+    is_open: bool,
 ) -> Result<Statement, DeckFault>
-    ensures says { IfOk result (λ s. read_line pcbs number line.now ≡ Ok (said s)) }
-    ensures fault { IfErr result (λ e. e ≢ DeckFault.Memory → read_line pcbs number line.now ≡ Err e) }
+    ensures says { IfOk result (λ s. read_line pcbs number is_open line.now ≡ Ok (said s)) }
+    ensures fault { IfErr result (λ e. e ≢ DeckFault.Memory → read_line pcbs number is_open line.now ≡ Err e) }
     ensures fit { IfOk result (λ s. StatementFits pcbs (said s)) }
 {
     if line.len() > 255 {
@@ -44,8 +50,60 @@ pub(crate) fn read_line(
             let (repeat, call) = read_call(alloc, line, number)?;
             Ok(Statement::Call(repeat, call))
         }
-        _ => Err(DeckFault::K1(number)),
+        _ if !belongs_to_call(line) => Err(DeckFault::K1(number)),
+        _ if !is_open => Err(DeckFault::K4(number)),
+        _ => read_part(alloc, line, number),
     }
+}
+
+/// Whether a line has a C, a D or an H in front.
+fn belongs_to_call(line: &[u8]) -> bool
+    ensures { result ≡ belongs_to_call line.now }
+{
+    column(line, 1) == b'C' || column(line, 1) == b'D' || column(line, 1) == b'H'
+}
+
+/// What a line with a C, a D or an H in front adds to the call before.
+fn read_part(alloc: Global, line: &[u8], number: usize) -> Result<Statement, DeckFault>
+    ensures says { IfOk result (λ s. read_part number line.now ≡ Ok (said s)) }
+    ensures fault { IfErr result (λ e. e ≢ DeckFault.Memory → read_part number line.now ≡ Err e) }
+    ensures fit { IfOk result (λ s. StatementFits 0 (said s)) }
+{
+    match column(line, 1) {
+        b'C' => Ok(Statement::Argument(bytes_from(alloc, line, 12)?)),
+        b'D' => Ok(Statement::Bytes(bytes_from(alloc, line, 2)?)),
+        _ => read_hex(alloc, line, number),
+    }
+}
+
+/// What a line with an H in front adds to the call before.
+fn read_hex(alloc: Global, line: &[u8], number: usize) -> Result<Statement, DeckFault>
+    ensures says { IfOk result (λ s. read_hex number line.now ≡ Ok (said s)) }
+    ensures fault { IfErr result (λ e. e ≢ DeckFault.Memory → read_hex number line.now ≡ Err e) }
+    ensures fit { IfOk result (λ s. StatementFits 0 (said s)) }
+{
+    match hex_bytes(alloc, from_column(line, 2)) {
+        Ok(Some(bytes)) => Ok(Statement::Bytes(bytes)),
+        Ok(None) => Err(DeckFault::K7(number)),
+        Err(AllocError) => Err(DeckFault::Memory),
+    }
+}
+
+/// The bytes from a column on, counted from 1: none where the line is shorter.
+fn from_column(line: &[u8], number: usize) -> &[u8]
+    requires { 0 < number }
+    ensures { result.now ≡ drop (number - 1) line.now }
+{
+    line.get(number - 1..).unwrap_or(&[])
+}
+
+/// A copy of the bytes from a column on. The fault is `Memory`.
+fn bytes_from(alloc: Global, line: &[u8], number: usize) -> Result<Vec<u8>, DeckFault>
+    requires { 0 < number }
+    ensures bytes { IfOk result (λ v. v.items ≡ drop (number - 1) line.now) }
+    ensures memory { IfErr result (λ e. e ≡ DeckFault.Memory) }
+{
+    Vec::from_slice(alloc, from_column(line, number)).map_err(|_| DeckFault::Memory)
 }
 
 /// The PCB that a line with an S in front selects, one of so many.
