@@ -5,3 +5,4 @@ pub mod RowCalls
 pub mod Session
 pub mod Giving
 pub mod Sessions
+pub mod Opening

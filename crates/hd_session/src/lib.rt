@@ -6,6 +6,8 @@ mod calling;
 mod get;
 mod getting;
 mod giving;
+mod opening;
+mod over_volume;
 mod place;
 mod request;
 mod rows;
@@ -15,6 +17,8 @@ mod validity;
 
 pub use buffer::IoArea;
 pub use giving::give;
+pub use opening::OpenFault;
+pub use over_volume::Session;
 pub use request::{Answer, Call};
 pub use rows::RowSession;
 pub use validity::valid_rows;
