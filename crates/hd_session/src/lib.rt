@@ -24,4 +24,6 @@ pub use rows::RowSession;
 pub use validity::valid_rows;
 
 #[cfg(test)]
+mod opening_tests;
+#[cfg(test)]
 mod tests;

@@ -81,6 +81,7 @@ impl<'a, S: BlockStore> Session<'a, S> {
         ensures refusal { OnlyDeviceOrBroken result }
         ensures counts { CountsDevice result self.old.volume.failures self.new.volume.failures }
         ensures sound { StaysSound result self.old.volume.is_sound self.new.volume.is_sound }
+        ensures sizes { (self.new.volume.size ≡ self.old.volume.size) × (self.new.volume.sizes ≡ self.old.volume.sizes) }
     {
         if self.broken {
             return Err(Refused::Broken);
