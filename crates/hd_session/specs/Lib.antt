@@ -7,3 +7,4 @@ pub mod Giving
 pub mod Sessions
 pub mod Loads
 pub mod Inserts
+pub mod Opening

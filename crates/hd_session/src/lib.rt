@@ -8,6 +8,8 @@ mod getting;
 mod giving;
 mod inserting;
 mod loading;
+mod opening;
+mod over_volume;
 mod place;
 mod request;
 mod rows;
@@ -17,9 +19,13 @@ mod validity;
 
 pub use buffer::IoArea;
 pub use giving::give;
+pub use opening::OpenFault;
+pub use over_volume::Session;
 pub use request::{Answer, Call};
 pub use rows::RowSession;
 pub use validity::valid_rows;
 
+#[cfg(test)]
+mod opening_tests;
 #[cfg(test)]
 mod tests;

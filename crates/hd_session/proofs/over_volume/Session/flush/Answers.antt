@@ -1,0 +1,19 @@
+use Rattle.std.proofs.Common.{IsTrue, ◌∙◌}
+use Rattle.hd_session.proofs.Ready.{same_state}
+use Rattle.hd_session.proofs.over_volume.Session.flush.Goals as goal
+
+-- a flush leaves the image
+pub invariant_of-self : goal.invariant_of-self
+invariant_of-self g c =
+    let kept = c.self.invariant in
+    let flushed = c.in-Ok.ensures in
+    record {
+      made_for = kept.made_for;
+      size = flushed.size ∙ kept.size;
+      sizes = flushed.sizes ∙ kept.sizes;
+      one_each = kept.one_each;
+      stands = λ whole now.
+          let sound : IsTrue c.self.inside.volume.is_sound = rw (← flushed.sound) now in
+          same_state c.self.inside.dbd.now c.self.inside.psb.now.pcbs c.self.inside.volume c.flush.new.self (flushed.image sound).0 flushed.size flushed.sizes
+          c.self.inside.positions.items (kept.stands whole sound);
+    }
