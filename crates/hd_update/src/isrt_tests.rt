@@ -35,16 +35,16 @@ const CASES: [Case; 8] = [
         area: b"GAUSS",
         outcome: Some(Outcome::Found(Status::Blank)),
     },
-    // The key is unique, and a twin has it.
+    // PCB 2 stands nowhere: the parent is the first course. The key is unique, and a twin has it.
     Case {
         pcb: 2,
-        ssas: &[b"COURSE  (NUM     EQ101)", b"CLASS   "],
+        ssas: &[b"COURSE  ", b"CLASS   "],
         area: b"01ZZ",
         outcome: Some(Outcome::Missing(Status::II)),
     },
     Case {
         pcb: 2,
-        ssas: &[b"COURSE  (NUM     EQ101)", b"CLASS   "],
+        ssas: &[b"COURSE  ", b"CLASS   "],
         area: b"00ZZ",
         outcome: Some(Outcome::Found(Status::Blank)),
     },
@@ -62,10 +62,10 @@ const CASES: [Case; 8] = [
         area: b"ABEL09",
         outcome: Some(Outcome::Found(Status::Blank)),
     },
-    // No class is named.
+    // PCB 1 stands on a book, and no class is named.
     Case {
         pcb: 1,
-        ssas: &[b"CLASS   (ED      EQ09)", b"STUD    "],
+        ssas: &[b"STUD    "],
         area: b"DORA04",
         outcome: Some(Outcome::Missing(Status::GE)),
     },
@@ -78,7 +78,7 @@ const CASES: [Case; 8] = [
     // L puts it last, whatever the rule.
     Case {
         pcb: 1,
-        ssas: &[b"COURSE  (NUM     EQ101)", b"BOOK    *L"],
+        ssas: &[b"COURSE  ", b"BOOK    *L"],
         area: b"HILBE",
         outcome: Some(Outcome::Found(Status::Blank)),
     },
