@@ -29,3 +29,4 @@ pub mod PlaceRoots
 pub mod PlaceStanding
 pub mod PlaceChains
 pub mod PlaceEqual
+pub mod ParentsAsked
