@@ -30,3 +30,6 @@ pub mod PlaceStanding
 pub mod PlaceChains
 pub mod PlaceEqual
 pub mod ParentsAsked
+pub mod InsertArguments
+pub mod InsertCalls
+pub mod InsertedStates

@@ -1,5 +1,5 @@
 -- The parent that ISRT asks for a row that it puts in.
-use Rattle.std.proofs.Common.{◌≡◌, ℕ, ◌<◌, List, [], length, Bool, true, Option, Some, None, IsTrue, refl, sym, ap, subst, ◌∙◌, arith, inl, inr}
+use Rattle.std.proofs.Common.{◌≡◌, ℕ, ◌<◌, List, [], length, true, Option, Some, None, IsTrue, refl, sym, ap, subst, ◌∙◌, arith, inl, inr}
 use Rattle.std.specs.Prelude.{is_some, option_map, IfSome, replicate}
 use Rattle.std.specs.Option.{option_map_or}
 use Rattle.std.proofs.lemmas.Bool.{false≢true}
@@ -95,8 +95,7 @@ module _ (d : Database) (v : VolumeState) (f : Forest Placed) (k : Kept) (q : Po
       → insert_parent d.types (rows_of f) q.standing arguments parent ≡ Some i → (i < length (rows_of f)) × (is_child_type d.types (row_at (rows_of f) i).code code ≡ true)
   parent_row_found arguments code parent i typed own target is =
       let F = parent_found setting rows_leveled (rows_of f) in_order place in_range arguments parent i (λ some. same_Some (target_code arguments) parent (sym (target some) ∙ own)) is in
-      let some : 0 < parent = subst (λ (c : ℕ). 0 < c) F.1 (code_some d.types (row_at (rows_of f) i) (in_order.fit i F.0)) in
-      (
+      let some : 0 < parent = subst (λ (c : ℕ). 0 < c) F.1 (code_some d.types (row_at (rows_of f) i) (in_order.fit i F.0)) in (
         F.0,
         subst (λ (c : ℕ). is_child_type d.types c code ≡ true) (sym F.1)
             (child_of d.block_size d.frspc d.types at.holds.volume.fit parent code typed (own ∙ sym (above_some parent some))),

@@ -198,12 +198,14 @@ pub fn isrt<S: BlockStore>(
     if !has_length_for(dbd, inserted, area) {
         return Err(Refused::Area);
     }
-    let code = inserted[0].code();
+    let code = ssas[first].code();
     let parent = parent_for(volume, dbd, &ssas[..first], &positions[number - 1], code)?;
     let Some(parent) = parent else {
         end_hold(positions, number);
         return Ok(Outcome::Missing(Status::GE));
     };
-    let rule = rule_asked(dbd, &inserted[0]);
-    insert_under(volume, dbd, positions, number, &parent, rule, inserted, area)
+    let rule = rule_asked(dbd, &ssas[first]);
+    insert_under(
+        volume, dbd, positions, number, &parent, rule, inserted, area,
+    )
 }
