@@ -18,6 +18,7 @@ pub mod RoomOf
 pub mod PathRows
 pub mod InsertedPaths
 pub mod InsertedStates
+pub mod InsertStates
 pub mod PlacedUnder
 pub mod UnderCalls
 pub mod FirstRows
@@ -33,3 +34,6 @@ pub mod PlaceRoots
 pub mod PlaceStanding
 pub mod PlaceChains
 pub mod PlaceEqual
+pub mod ParentsAsked
+pub mod InsertArguments
+pub mod InsertCalls

@@ -1,5 +1,7 @@
-ghost use Rattle.std.specs.Prelude.{◌≡◌, ◌+◌, ◌<◌, ◌≤◌, ◌∷◌, length, drop, None, true, IsTrue, IfOk, IfErr};
+ghost use Rattle.std.specs.Prelude.{◌≡◌, ◌+◌, ◌<◌, ◌≤◌, ◌∷◌, length, drop, is_some, None, true, IsTrue, IfOk, IfErr};
 ghost use Rattle.hd_dbd.specs.Facts.{stored_sizes};
+ghost use Rattle.hd_dbd.specs.Hierarchy.{type_of};
+ghost use Rattle.hd_dbd.specs.DatabaseRules.{well_formed};
 ghost use Rattle.hd_dbd.specs.Refusals.{OnlyDevice, OnlyRoomOrDevice};
 ghost use Rattle.hd_volume.specs.Calls.{IsCall, IsRead};
 ghost use Rattle.hd_calls.specs.Places.{rule_under, rule_of};
@@ -52,7 +54,8 @@ fn rule_under(commands: Commands, rule: Rule) -> Rule
 
 /// The rule by which a row of an argument's type goes in.
 fn rule_asked(dbd: &Dbd, ssa: &ResolvedSsa<'_>) -> Rule
-    ensures { result ≡ rule_under ssa.now.commands (rule_of dbd.now.types ssa.now.code) }
+    ensures value { result ≡ rule_under ssa.now.commands (rule_of dbd.now.types ssa.now.code) }
+    ensures fit { IsTrue (well_formed dbd.now.block_size dbd.now.frspc dbd.now.types) }
 {
     let rule = match dbd.type_of(ssa.code()) {
         Some(segment) => segment.rule,
@@ -69,6 +72,7 @@ fn parent_for<S: BlockStore>(
     position: &Position,
     code: u8,
 ) -> Result<Option<Path>, Refused>
+    requires typed { is_some (type_of dbd.now.types code) ≡ true }
     requires descend { Descend dbd.now.types None above.now }
     requires target { IsTargetAbove dbd.now.types above.now code }
     requires there { HasPosition dbd.now volume.old position.now }
@@ -194,12 +198,14 @@ pub fn isrt<S: BlockStore>(
     if !has_length_for(dbd, inserted, area) {
         return Err(Refused::Area);
     }
-    let code = inserted[0].code();
+    let code = ssas[first].code();
     let parent = parent_for(volume, dbd, &ssas[..first], &positions[number - 1], code)?;
     let Some(parent) = parent else {
         end_hold(positions, number);
         return Ok(Outcome::Missing(Status::GE));
     };
-    let rule = rule_asked(dbd, &inserted[0]);
-    insert_under(volume, dbd, positions, number, &parent, rule, inserted, area)
+    let rule = rule_asked(dbd, &ssas[first]);
+    insert_under(
+        volume, dbd, positions, number, &parent, rule, inserted, area,
+    )
 }

@@ -28,7 +28,7 @@ struct Case {
 }
 
 const CASES: [Case; 8] = [
-    // PCB 1 stands on the book: the new one goes before it.
+    // By the type's rule the new book goes last.
     Case {
         pcb: 1,
         ssas: &[b"BOOK    "],
@@ -75,7 +75,7 @@ const CASES: [Case; 8] = [
         area: b"GAUS",
         outcome: None,
     },
-    // L puts it last, whatever the rule.
+    // Below the course on whose path the PCB stands.
     Case {
         pcb: 1,
         ssas: &[b"COURSE  ", b"BOOK    *L"],
@@ -92,8 +92,8 @@ const ROWS: [&[u8]; 14] = [
     b"ADAM01",
     b"EVE 02",
     b"02CD",
-    b"GAUSS",
     b"EULER",
+    b"GAUSS",
     b"HILBE",
     b"150GRAPH",
     b"07GT",
