@@ -63,7 +63,7 @@ fn belongs_to_call(line: &[u8]) -> bool
     column(line, 1) == b'C' || column(line, 1) == b'D' || column(line, 1) == b'H'
 }
 
-/// What a line with a C, a D or an H in front adds to the call before.
+/// What a line with a C, a D or an H in front adds to the call before. It fits a program without PCBs, and so any other.
 fn read_part(alloc: Global, line: &[u8], number: usize) -> Result<Statement, DeckFault>
     ensures says { IfOk result (λ s. read_part number line.now ≡ Ok (said s)) }
     ensures fault { IfErr result (λ e. e ≢ DeckFault.Memory → read_part number line.now ≡ Err e) }
@@ -76,7 +76,7 @@ fn read_part(alloc: Global, line: &[u8], number: usize) -> Result<Statement, Dec
     }
 }
 
-/// What a line with an H in front adds to the call before.
+/// What a line with an H in front adds to the call before, likewise.
 fn read_hex(alloc: Global, line: &[u8], number: usize) -> Result<Statement, DeckFault>
     ensures says { IfOk result (λ s. read_hex number line.now ≡ Ok (said s)) }
     ensures fault { IfErr result (λ e. e ≢ DeckFault.Memory → read_hex number line.now ≡ Err e) }
