@@ -68,7 +68,8 @@ fn names_the_first_fault_of_a_deck(rt: HostRuntime) {
         (b"L     GN\nS 9", b"DECK refused: line 2, K3\n"),
         (b"L  0  GN", b"DECK refused: line 1, K5\n"),
         (&[b' '; 256], b"DECK refused: line 1, K6\n"),
-        (b"D101ALGEB", b"DECK refused: line 1, K1\n"),
+        (b"D101ALGEB", b"DECK refused: line 1, K4\n"),
+        (b"L     ISRT\nH3", b"DECK refused: line 2, K7\n"),
     ] {
         let end = play_deck(&rt, deck);
         assert_eq!(rt; end.status, 2);

@@ -48,11 +48,15 @@ place_below-requires-clause-there g c sound =
     let T = c.requires.parent sound in
     let row : Segment = record { code = c.code-code.result; bytes = take c.length_of.result c.args.area.now } in
     let rest : List Segment = rows_in d.types (drop 1 (codes_of c.args.ssas.now)) (drop c.length_of.result c.args.area.now) in
-    let U = under d c.args.volume.now c.args.positions.now T.0 c.args.parent.now c.args.ssas.now c.code-code.result T.1 F.codes T.2 in
-    (U.represents.placed, position_at T.0 c.args.number, T.1,
-    own_at d c.args.volume.now c.args.positions.now T.0 c.args.number c.requires.number.0 c.requires.number.1 c.args.parent.now c.args.rule row rest (row ∷ rest) refl F.fits (go_down d.types c.code-code.result (drop 1 (codes_of c.args.ssas.now)) (drop c.length_of.result c.args.area.now)
-    (subst (λ (k : ℕ). StepDown d.types k (drop 1 (codes_of c.args.ssas.now))) (first_is c.args.ssas.now c.code-code.result F.codes) c.requires.down) F.typed.1 F.long) T.1 U c.index-positions-number.result,
-    U.path, U.typed)
+    let U = under d c.args.volume.now c.args.positions.now T.0 c.args.parent.now c.args.ssas.now c.code-code.result T.1 F.codes T.2 in (
+      U.represents.placed,
+      position_at T.0 c.args.number,
+      T.1,
+      own_at d c.args.volume.now c.args.positions.now T.0 c.args.number c.requires.number.0 c.requires.number.1 c.args.parent.now c.args.rule row rest (row ∷ rest) refl F.fits (go_down d.types c.code-code.result (drop 1 (codes_of c.args.ssas.now)) (drop c.length_of.result c.args.area.now)
+          (subst (λ (k : ℕ). StepDown d.types k (drop 1 (codes_of c.args.ssas.now))) (first_is c.args.ssas.now c.code-code.result F.codes) c.requires.down) F.typed.1 F.long) T.1 U c.index-positions-number.result,
+      U.path,
+      U.typed,
+    )
 
 pub returns-in_default-clause-done : goal.returns-in_default-clause-done
 returns-in_default-clause-done g c pcb st parent U0 =
@@ -123,7 +127,7 @@ insert_rows-requires-clause-place g c now =
       insertion_point d.types (rows_of U.represents.placed) T.1 (position_at T.0 c.args.number).standing c.args.rule row,
       represented d v w old T.0 read sound U.represents,
       placed d v old T.0 c.args.number c.requires.number.0 c.requires.number.1 c.args.parent.now c.args.rule row rest rows F.rows F.fits (go_down d.types c.code-code.result (drop 1 (codes_of c.args.ssas.now)) (drop c.length_of.result c.args.area.now)
-    (subst (λ (k : ℕ). StepDown d.types k (drop 1 (codes_of c.args.ssas.now))) (first_is c.args.ssas.now c.code-code.result F.codes) c.requires.down) F.typed.1 F.long) T.1 U w c.in-Some.after read P,
+          (subst (λ (k : ℕ). StepDown d.types k (drop 1 (codes_of c.args.ssas.now))) (first_is c.args.ssas.now c.code-code.result F.codes) c.requires.down) F.typed.1 F.long) T.1 U w c.in-Some.after read P,
     )
 
 pub returns-clause-call : goal.returns-clause-call

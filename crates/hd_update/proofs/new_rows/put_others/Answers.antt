@@ -20,7 +20,7 @@ put_next-requires-clause-more g c sound =
     c.loop-place.invariant.within c.index-ssas-place.is c.code-code.ensures c.length_of.ensures c.loop-place.invariant.long c.loop-place.invariant.typed in (
       _,
       subst (λ (a : ℕ). TakeMore c.args.dbd.now c.loop-place.volume a (record { code = c.code-code.result; bytes = take (c.loop-place.start + c.length_of.result - c.loop-place.start) (drop c.loop-place.start c.args.area.now) } ∷ rows_in c.args.dbd.now.types (codes_of (drop (c.loop-place.place + 1) c.args.ssas.now)) (drop (c.loop-place.start + c.length_of.result) c.args.area.now))) (sym c.tip_of.ensures)
-      (subst (TakeMore c.args.dbd.now c.loop-place.volume (tip c.loop-place.path)) T.rows (c.loop-place.invariant.more sound)),
+          (subst (TakeMore c.args.dbd.now c.loop-place.volume (tip c.loop-place.path)) T.rows (c.loop-place.invariant.more sound)),
     )
 
 pub loop-place-preserved : goal.loop-place-preserved

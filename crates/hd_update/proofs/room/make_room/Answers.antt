@@ -44,11 +44,11 @@ returns-then-code-eq1-clause-made g c =
     let all : count ≡ length (row ∷ rows) = many d v (codes_of ssas) (row ∷ rows) are count total count_is c.sizes_of-total.ensures in
     record {
       root = λ one. (
-          (one-volume d v w (record { image = made.image now; size = made.call.size; sizes = made.call.sizes })).2 (key_of d.types row) (row ∷ rows)
-          (subst (λ (k : List ℕ). HasRootRoomFor d v k (row ∷ rows)) key
-          (root_room_of d v (codes_of ssas) (row ∷ rows) are count total count_is c.sizes_of-total.ensures c.key_of-key.result.now (room sound))),
-          subst (λ (n : ℕ). n + index_growth w ≤ w.room) all (memory sound),
-        );
+        (one-volume d v w (record { image = made.image now; size = made.call.size; sizes = made.call.sizes })).2 (key_of d.types row) (row ∷ rows)
+            (subst (λ (k : List ℕ). HasRootRoomFor d v k (row ∷ rows)) key
+            (root_room_of d v (codes_of ssas) (row ∷ rows) are count total count_is c.sizes_of-total.ensures c.key_of-key.result.now (room sound))),
+        subst (λ (n : ℕ). n + index_growth w ≤ w.room) all (memory sound),
+      );
       below = λ other. absurd (other (code ∙ c.if-code-eq1.true));
     }))
 
@@ -74,10 +74,10 @@ returns-else-code-eq1-clause-made g c =
     record {
       root = λ one. absurd (c.if-code-eq1.false (sym code ∙ one));
       below = λ other. (
-          (one-volume d v w (record { image = made.image now; size = made.call.size; sizes = made.call.sizes })).1 (row ∷ rows)
-          (room_of d v (codes_of ssas) (row ∷ rows) are count total count_is c.sizes_of-total.ensures (room sound)),
-          memory_of d w (codes_of ssas) (row ∷ rows) are count total count_is c.sizes_of-total.ensures kept,
-        );
+        (one-volume d v w (record { image = made.image now; size = made.call.size; sizes = made.call.sizes })).1 (row ∷ rows)
+            (room_of d v (codes_of ssas) (row ∷ rows) are count total count_is c.sizes_of-total.ensures (room sound)),
+        memory_of d w (codes_of ssas) (row ∷ rows) are count total count_is c.sizes_of-total.ensures kept,
+      );
     }))
 
 pub returns-else-code-eq1-clause-full : goal.returns-else-code-eq1-clause-full
