@@ -172,10 +172,10 @@ module _ (d : Database) (v w : VolumeState) (f g : Forest Placed) (n : ℕ) (fro
       let can = W.takes p.segment typed fits p.address free in (
         can,
         subst (λ (a : ℕ). LeafGoesInAt d.types g a 0 p (n + length front + 1)) last-place
-        (children-next d.block_size d.frspc d.types (length w.image) (links_of d.types w) g (n + length front) p W.holds.volume.fit
-        (records-link d w W.holds.volume.fit W.holds.volume) W.holds.records last-within
-        (subst (HasNoChild d.types (links_of d.types w)) (sym last-place) W.childless)
-        (subst (λ (a : ℕ). CanLink d.types (links_of d.types w) a 0 p) (sym last-place) can)),
+            (children-next d.block_size d.frspc d.types (length w.image) (links_of d.types w) g (n + length front) p W.holds.volume.fit
+            (records-link d w W.holds.volume.fit W.holds.volume) W.holds.records last-within
+            (subst (HasNoChild d.types (links_of d.types w)) (sym last-place) W.childless)
+            (subst (λ (a : ℕ). CanLink d.types (links_of d.types w) a 0 p) (sym last-place) can)),
       )
 
 pub go-on : PathsGoOn

@@ -94,4 +94,3 @@ module _ (d : Database) (pcb : View) (v : VolumeState) (st : State) (number : �
             subst (λ (image : List ℕ). Follows (images_of d) st.rows v.image A.change (state_after d.types st number (effect)).rows image)
             (sym (after-read d w x read sound).image) A.follows;
       }
-
