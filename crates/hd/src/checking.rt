@@ -1,7 +1,7 @@
 ghost use Rattle.std.specs.Prelude.{◌≡◌, ◌<◌, IfOk};
 ghost use Rattle.hd_dbd.specs.Facts.{stored_sizes};
 
-use crate::files::{open_file, read_database};
+use crate::files::{open_read_volume, read_database};
 use crate::stop::Stop;
 use hd_commands::check_volume;
 use hd_dbd::Dbd;
@@ -75,6 +75,6 @@ where
     E: Write,
 {
     let (dbd, _) = read_database(rt, alloc, dbd)?;
-    let (file, _) = open_file(rt, volume)?;
+    let (file, _) = open_read_volume(rt, volume)?;
     judge_file(alloc, &dbd, file, out, err)
 }

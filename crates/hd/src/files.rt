@@ -1,9 +1,12 @@
+ghost use Rattle.std.specs.Prelude.{◌≤◌, ◌^◌, IfOk, vec_len};
+
 use crate::input::read_whole;
 use crate::stop::Stop;
+use hd_commands::Refusal;
 use hd_dbd::Dbd;
 use hd_gen::read_dbd;
 use std::alloc::Global;
-use std::fs::{File, Metadata, OpenOptions};
+use std::fs::{File, Metadata, OpenOptions, TryLockError};
 use std::io::{self, Write};
 use std::os::unix::fs::MetadataExt;
 use std::rt::Files;
@@ -39,7 +42,9 @@ pub fn read_file<R: Files<File = File>>(
     rt: &R,
     alloc: Global,
     name: &str,
-) -> Result<(Vec<u8>, Identity), Stop> {
+) -> Result<(Vec<u8>, Identity), Stop>
+    ensures { IfOk result (λ r. vec_len r.0 ≤ 2 ^ 30) }
+{
     let (mut file, identity) = open_file(rt, name)?;
     let bytes = read_whole(alloc, &mut file)?;
     Ok((bytes, identity))
@@ -69,6 +74,44 @@ pub fn open_output<R: Files<File = File>>(
     if inputs.contains(&Identity::of(&file.metadata()?)) {
         return Err(Stop::OverInput);
     }
+    Ok(file)
+}
+
+/// A lock that was had at once, or none: another program has one that forbids it.
+fn locked(tried: Result<(), TryLockError>) -> Result<(), Stop> {
+    match tried {
+        Ok(()) => Ok(()),
+        Err(TryLockError::WouldBlock) => Err(Stop::InUse),
+        Err(TryLockError::Error(_)) => Err(Stop::from(Refusal::Device)),
+    }
+}
+
+/// Keeps a volume for this program alone, until its file is closed.
+pub fn keep_alone(file: &File) -> Result<(), Stop> {
+    locked(file.try_lock())
+}
+
+/// A volume that is read and not changed, and that other programs may read meanwhile.
+pub fn open_read_volume<R: Files<File = File>>(
+    rt: &R,
+    name: &str,
+) -> Result<(File, Identity), Stop> {
+    let (file, identity) = open_file(rt, name)?;
+    locked(file.try_lock_shared())?;
+    Ok((file, identity))
+}
+
+/// A volume to read and to change, which stands and which no other program uses; never one of the files that the same command reads.
+pub fn open_volume<R: Files<File = File>>(
+    rt: &R,
+    name: &str,
+    inputs: &[Identity],
+) -> Result<File, Stop> {
+    let file = OpenOptions::new().read(true).write(true).open(rt, name)?;
+    if inputs.contains(&Identity::of(&file.metadata()?)) {
+        return Err(Stop::OverInput);
+    }
+    keep_alone(&file)?;
     Ok(file)
 }
 

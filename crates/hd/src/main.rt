@@ -1,10 +1,11 @@
-//! The program `hd`: plays a deck of DL/I calls over the sample database, and checks, unloads and reloads volumes.
+//! The program `hd`: plays decks of DL/I calls, and checks, unloads and reloads volumes.
 #![tactic(auto)]
 
 mod checking;
 mod files;
 mod input;
 mod play;
+mod playing;
 mod reloading;
 mod sample;
 mod stop;

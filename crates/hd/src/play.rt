@@ -1,27 +1,23 @@
 use crate::checking::check_file;
-use crate::files::PIECE;
-use crate::input::read_whole;
+use crate::playing::{play_file, play_sample};
 use crate::reloading::reload_file;
-use crate::sample;
 use crate::stop::{COMMAND_LINE, Stop};
 use crate::unloading::unload_file;
 use crate::words::{Request, read_words};
 use clap::error::ErrorKind;
 use hd_commands::Refusal;
-use hd_dbd::Row;
-use hd_deck::{read_deck, run_rows};
-use hd_session::{RowSession, valid_rows};
 use std::alloc::Global;
 use std::fs::File;
-use std::io::{BufWriter, Read, Write};
+use std::io::{Read, Write};
 use std::rt::Files;
 
 /// Does what the words behind the program's name ask for, and gives the status of the program: 0 done; 1 a fault in a volume or a
-/// stream, or no room for it; 2 a text refused; 3 a failed read or write; 4 no memory; 64 a command line that is not understood, help
-/// among them, whose text is `clap`'s, or one that would write over what it reads.
+/// stream, no room for it, or a volume that is not empty for a load; 2 a text refused; 3 a failed read or write; 4 no memory, in a deck also
+/// for one call; 64 a command line that is not understood, help among them, whose text is `clap`'s, or one that would write over what it
+/// reads.
 ///
-/// Without words it reads a deck from `input` and plays it over the sample database. `check` judges a volume, `unload` writes its
-/// unload stream, and `reload` makes a volume of one. What the calls answer, and what was done, goes to `out`; why the program ended
+/// Without words it reads a deck from `input` and plays it over the sample database, in memory. `deck` plays one over a volume, `check` judges
+/// a volume, `unload` writes its unload stream, and `reload` makes a volume of one. What the calls answer, and what was done, goes to `out`; why the program ended
 /// early goes to `err`.
 pub fn play<R, I, O, E>(rt: &R, words: &[String], input: &mut I, out: &mut O, err: &mut E) -> u8
 where
@@ -62,7 +58,13 @@ where
 {
     let alloc = rt.alloc();
     match request {
-        Request::Sample => play_sample(alloc, input, out).map(|_| 0),
+        Request::Sample => play_sample(alloc, input, out, err),
+        Request::Deck {
+            dbd,
+            psb,
+            volume,
+            deck,
+        } => play_file(rt, alloc, dbd, psb, volume, deck, out, err),
         Request::Check { dbd, volume } => check_file(rt, alloc, dbd, volume, out, err),
         Request::Unload {
             dbd,
@@ -84,39 +86,10 @@ pub fn stopped<E: Write>(stop: &Stop, err: &mut E) -> u8 {
     stop.status()
 }
 
-/// Plays the deck that a reader holds over the sample.
-fn play_sample<I: Read, O: Write>(alloc: Global, input: &mut I, out: &mut O) -> Result<(), Stop> {
-    let rows = sample::rows(alloc)?;
-    play_rows(alloc, rows, input, out)
-}
-
-/// Plays the deck that a reader holds over rows of the sample database.
-fn play_rows<I: Read, O: Write>(
-    alloc: Global,
-    rows: Vec<Row>,
-    input: &mut I,
-    out: &mut O,
-) -> Result<(), Stop> {
-    let dbd = sample::database(alloc).map_err(|fault| Stop::database(fault))?;
-    let psb = sample::program(alloc, &dbd).map_err(|fault| Stop::program(fault))?;
-    if !valid_rows(&dbd, &rows) {
-        return Err(Stop::Sample);
-    }
-    let text = read_whole(alloc, input)?;
-    let steps = read_deck(alloc, &text, psb.pcbs().len() as u8)?;
-    let mut session = RowSession::new(alloc, &dbd, &psb, rows)?;
-    let Ok(mut lines) = BufWriter::with_capacity(alloc, PIECE, out) else {
-        return Err(Stop::from(Refusal::Memory));
-    };
-    run_rows(alloc, &mut session, &steps, &mut lines)?;
-    match lines.flush() {
-        Ok(()) => Ok(()),
-        Err(_) => Err(Stop::from(Refusal::Device)),
-    }
-}
-
 #[cfg(test)]
 mod check_tests;
+#[cfg(test)]
+mod deck_tests;
 #[cfg(test)]
 mod reload_tests;
 #[cfg(test)]

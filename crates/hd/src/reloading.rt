@@ -1,6 +1,6 @@
 ghost use Rattle.std.specs.Prelude.{◌≡◌, ◌<◌};
 
-use crate::files::{empty, open_output, read_database, read_file};
+use crate::files::{empty, keep_alone, open_output, read_database, read_file};
 use crate::stop::Stop;
 use hd_commands::reload_store;
 use hd_dbd::Dbd;
@@ -66,6 +66,7 @@ where
     let (dbd, source) = read_database(rt, alloc, dbd)?;
     let (stream, records) = read_file(rt, alloc, input)?;
     let file = open_output(rt, volume, true, &[source, records])?;
+    keep_alone(&file)?;
     empty(&file)?;
     fill_file(alloc, &dbd, &stream, file, blocks, out, err)
 }

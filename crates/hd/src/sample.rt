@@ -1,10 +1,14 @@
 ghost use Rattle.std.specs.Prelude.{◌≡◌, IfOk, IfErr};
 ghost use Rattle.hd_dbd.specs.ProgramRules.{type_names};
-ghost use Rattle.hd_dbd.specs.Sample.{of_type, sample_database, sample_pcbs, sample_rows};
+ghost use Rattle.hd_dbd.specs.Sample.{sample_database, sample_pcbs};
 
-use hd_dbd::{Dbd, Psb, Row};
+use crate::stop::Stop;
+use hd_commands::Refusal;
+use hd_dbd::{Dbd, Psb};
 use hd_gen::{GenFault, read_dbd, read_psb};
-use std::alloc::{AllocError, Global};
+use hd_unload::reload;
+use hd_volume::MemStore;
+use std::alloc::Global;
 
 /// The source of the sample database EDU: courses with their classes and books, and the students of each class.
 pub const DBD_SOURCE: &[u8] = b"         DBD   NAME=EDU,ACCESS=(HIDAM,VSAM)
@@ -58,27 +62,22 @@ pub fn program(alloc: Global, dbd: &Dbd) -> Result<Psb, GenFault>
     read_psb(alloc, PSB_SOURCE, dbd)
 }
 
-/// A segment of the type of a code.
-fn row(alloc: Global, code: u8, text: &[u8]) -> Result<Row, AllocError>
-    ensures { IfOk result (λ r. r ≡ of_type code text.now) }
-{
-    let bytes = Vec::from_slice(alloc, text)?;
-    Ok(Row { code, bytes })
-}
+/// The unload stream of the sample's segments.
+const STREAM: &[u8] =
+    b"HDUNLOAD\0\x01EDU     \x01\0\x08101ALGEB\x02\0\x0401AB\x03\0\x06ADAM01\x03\0\x06EVE 02\x02\0\x0402CD\x04\0\x05EULER\x01\0\x08205LOGIC\0\0\0\0\x07";
 
-/// The sample's rows, in hierarchic sequence.
-pub fn rows(alloc: Global) -> Result<Vec<Row>, AllocError>
-    ensures { IfOk result (λ v. v.items ≡ sample_rows) }
+/// The most blocks that the sample's volume may have.
+const BLOCKS: u32 = 65_536;
+
+/// A volume of the sample's segments, in memory.
+pub fn volume(alloc: Global, dbd: &Dbd) -> Result<MemStore, Stop>
+    ensures { IfOk result (λ s. s.size ≡ dbd.now.block_size) }
 {
-    let mut rows = Vec::with_capacity(alloc, 7)?;
-    rows.push(row(alloc, 1, b"101ALGEB")?)?;
-    rows.push(row(alloc, 2, b"01AB")?)?;
-    rows.push(row(alloc, 3, b"ADAM01")?)?;
-    rows.push(row(alloc, 3, b"EVE 02")?)?;
-    rows.push(row(alloc, 2, b"02CD")?)?;
-    rows.push(row(alloc, 4, b"EULER")?)?;
-    rows.push(row(alloc, 1, b"205LOGIC")?)?;
-    Ok(rows)
+    let store = MemStore::new(dbd.block_size() as usize, Vec::new(alloc));
+    match reload(alloc, dbd, STREAM, store, BLOCKS) {
+        Ok(loaded) => Ok(loaded.store),
+        Err((_, fault)) => Err(Stop::from(Refusal::of_reload(fault))),
+    }
 }
 
 #[cfg(test)]

@@ -1,6 +1,6 @@
 use hd_commands::Refusal;
 use hd_dbd::Refused;
-use hd_deck::{DeckFault, RunFault};
+use hd_deck::DeckFault;
 use hd_gen::GenFault;
 use std::alloc::{AllocError, AllocFailed};
 use std::io::{self, ErrorKind};
@@ -12,8 +12,6 @@ pub const COMMAND_LINE: u8 = 64;
 /// Why the program ended without having done its work. Its text is the line on standard error.
 #[derive(Debug, Drop, Error)]
 pub enum Stop {
-    #[error("sample is not in hierarchic sequence")]
-    Sample,
     #[error("DBD refused: {0}")]
     Database(GenFault),
     #[error("PSB refused: {0}")]
@@ -22,6 +20,8 @@ pub enum Stop {
     Deck(DeckFault),
     #[error("output file is also an input, nothing was changed")]
     OverInput,
+    #[error("volume is in use")]
+    InUse,
     #[error("a word of the command line is not UTF-8")]
     Words,
     #[error("{0}")]
@@ -56,8 +56,8 @@ impl Stop {
     /// The status with which the program ends.
     pub fn status(&self) -> u8 {
         match self {
-            Stop::Sample => 1,
             Stop::Database(_) | Stop::Program(_) | Stop::Deck(_) => 2,
+            Stop::InUse => 3,
             Stop::OverInput | Stop::Words => COMMAND_LINE,
             Stop::Refused(refusal) => refusal.status(),
         }
@@ -69,15 +69,6 @@ impl From<DeckFault> for Stop {
         match fault {
             DeckFault::Memory => Stop::Refused(Refusal::Memory),
             _ => Stop::Deck(fault),
-        }
-    }
-}
-
-impl From<RunFault> for Stop {
-    fn from(fault: RunFault) -> Stop {
-        match fault {
-            RunFault::Memory => Stop::Refused(Refusal::Memory),
-            RunFault::Write => Stop::Refused(Refusal::Device),
         }
     }
 }

@@ -1,7 +1,7 @@
 ghost use Rattle.std.specs.Prelude.{◌≡◌, ◌<◌};
 
 use crate::checking::load_volume;
-use crate::files::{PIECE, Rewritten, open_file, open_output, read_database};
+use crate::files::{PIECE, Rewritten, open_output, open_read_volume, read_database};
 use crate::stop::Stop;
 use hd_commands::{Refusal, unload_volume};
 use hd_dbd::Dbd;
@@ -66,7 +66,7 @@ where
     E: Write,
 {
     let (dbd, source) = read_database(rt, alloc, dbd)?;
-    let (file, image) = open_file(rt, volume)?;
+    let (file, image) = open_read_volume(rt, volume)?;
     let stream = open_output(rt, stream, false, &[source, image])?;
     copy_file(alloc, &dbd, file, Rewritten::over(stream), out, err)
 }

@@ -6,6 +6,13 @@ use std::alloc::Global;
 pub enum Request<'a> {
     /// A deck over the sample.
     Sample,
+    /// A deck over a volume, by a program.
+    Deck {
+        dbd: &'a str,
+        psb: &'a str,
+        volume: &'a str,
+        deck: &'a str,
+    },
     Check {
         dbd: &'a str,
         volume: &'a str,
@@ -33,6 +40,7 @@ pub fn read_words(alloc: Global, words: &[String]) -> Result<Request<'_>, Error>
             "A hierarchical database. Without a command it plays a deck of DL/I calls, read from standard input, over a built-in sample database",
         )
         .no_binary_name(true)
+        .subcommand(deck_command(alloc)?)?
         .subcommand(check_command(alloc)?)?
         .subcommand(unload_command(alloc)?)?
         .subcommand(reload_command(alloc)?)?;
@@ -42,6 +50,14 @@ pub fn read_words(alloc: Global, words: &[String]) -> Result<Request<'_>, Error>
     };
     let dbd = given.get_str("DBD").unwrap_or("");
     let volume = given.get_str("VOLUME").unwrap_or("");
+    if name == "deck" {
+        return Ok(Request::Deck {
+            dbd,
+            psb: given.get_str("PSB").unwrap_or(""),
+            volume,
+            deck: given.get_str("DECK").unwrap_or(""),
+        });
+    }
     if name == "check" {
         return Ok(Request::Check { dbd, volume });
     }
@@ -58,6 +74,17 @@ pub fn read_words(alloc: Global, words: &[String]) -> Result<Request<'_>, Error>
         volume,
         blocks: given.get_one::<u32>("BLOCKS").unwrap_or(1),
     })
+}
+
+/// The words of `hd deck`.
+fn deck_command<'a>(alloc: Global) -> Result<Command<'a>, Error> {
+    let command = Command::new(alloc, "deck")
+        .about("Plays a deck of DL/I calls over a volume, which it checks first")
+        .arg(file_word(alloc, "DBD", "The file with the DBD source"))?
+        .arg(file_word(alloc, "PSB", "The file with the PSB source"))?
+        .arg(file_word(alloc, "VOLUME", "The volume, which is changed in place"))?
+        .arg(file_word(alloc, "DECK", "The file with the calls"))?;
+    Ok(command)
 }
 
 /// The words of `hd check`.

@@ -11,6 +11,7 @@ use Rattle.hd_dbd.specs.Forest.{Forest}
 use Rattle.hd_dbd.specs.Views.{Setting}
 use Rattle.hd_calls.specs.declared.call.Function.{Function}
 use Rattle.hd_calls.specs.Access.{may, gives_replace}
+use Rattle.hd_calls.specs.Functions.{function_of}
 use Rattle.hd_calls.specs.Ssas.{Ssa, resolve}
 use Rattle.hd_calls.specs.Steps.{AcceptedCall, is_excepted, last_tests, accepted_call}
 use Rattle.hd_volume.specs.Volumes.{VolumeState}
@@ -71,3 +72,8 @@ IsTestedText d v pcb k function ssas result =
 abbrev pub AreResolved : Database → View → List (List ℕ) → Result AcceptedCall Status → Type 0
 AreResolved d pcb texts (Ok a) = resolve (record { types = d.types; pcb = pcb }) a.function texts ≡ Ok a.ssas
 AreResolved d pcb texts (Err status) = Unit {0}
+
+-- the function of an accepted call is the one that its four bytes name
+abbrev pub IsNamed : List ℕ → Result AcceptedCall Status → Type 0
+IsNamed function (Ok a) = function_of function ≡ Some a.function
+IsNamed function (Err status) = Unit {0}

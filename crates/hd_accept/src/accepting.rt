@@ -4,7 +4,7 @@ ghost use Rattle.hd_dbd.specs.Refusals.{OnlyDevice, OnlyDeviceOrMemory};
 ghost use Rattle.hd_volume.specs.Calls.{IsRead};
 ghost use Rattle.hd_get.specs.Gets.{HasPosition};
 ghost use Rattle.hd_get.specs.Searches.{IsOf};
-ghost use Rattle.hd_accept.specs.Tests.{IsTestedText, AreResolved};
+ghost use Rattle.hd_accept.specs.Tests.{IsTestedText, IsNamed, AreResolved};
 
 use crate::functions::function_of;
 use crate::last_tests::last_test;
@@ -48,6 +48,7 @@ pub fn accept<'a, S: BlockStore>(
     requires there { HasPosition dbd.now volume.old position.now }
     ensures read { IsRead volume.old result volume.new }
     ensures value { IfOk result (λ r. IsTestedText dbd.now volume.old pcb.now position.now func (map (λ s. s.items) ssas.now) r) }
+    ensures named { IfOk result (λ r. IsNamed func r) }
     ensures resolved { IfOk result (λ r. AreResolved dbd.now pcb.now (map (λ s. s.items) ssas.now) r) }
     ensures refusal { OnlyDeviceOrMemory result }
     ensures memory { length ssas.now ≤ 4 → OnlyDevice result }

@@ -58,7 +58,7 @@ resolved_typed types above [] (a ∷ as_) is = absurd is
 resolved_typed types above (h ∷ hs) [] is = tt
 resolved_typed types above (h ∷ hs) (a ∷ as_) is = (is.1, resolved_typed types (Some a.code) hs as_ is.3)
 
-same_commands : (types : List SegmentType) (above : Option ℕ) (hs : List Head) (as_ : List Ssa) → Resolved types above hs as_ → map (λ h. h.commands) hs ≡ map (λ a. a.commands) as_
+pub same_commands : (types : List SegmentType) (above : Option ℕ) (hs : List Head) (as_ : List Ssa) → Resolved types above hs as_ → map (λ h. h.commands) hs ≡ map (λ a. a.commands) as_
 same_commands types above [] [] is = refl
 same_commands types above [] (a ∷ as_) is = absurd is
 same_commands types above (h ∷ hs) [] is = absurd is

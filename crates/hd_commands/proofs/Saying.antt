@@ -1,5 +1,6 @@
 -- What the refusals of the calls below say, in the words of the commands.
 use Rattle.std.proofs.Common.{◌<◌, ℕ, List, Bool, IsTrue, Err, inl, inr, refl}
+use Rattle.hd_dbd.specs.Types.{View}
 use Rattle.hd_dbd.specs.Hierarchy.{Database}
 use Rattle.hd_volume.specs.Volumes.{VolumeState}
 use Rattle.hd_volume.specs.Stores.{CountsFor}
@@ -15,8 +16,14 @@ use Rattle.hd_unload.specs.declared.unloading.UnloadFault.TheVariants as unload
 use Rattle.hd_unload.specs.Refusals.{refused_by}
 use Rattle.hd_unload.specs.Refusals as reloads
 use Rattle.hd_unload.specs.Unloads.{IsUnloadFaultOf, unload_call}
-use Rattle.hd_commands.specs.Refusals.{of_check, of_unload, of_reload}
+use Rattle.hd_session.specs.declared.opening.OpenFault.TheVariants as opening
+use Rattle.hd_deck.specs.declared.running.RunFault.{RunFault}
+use Rattle.hd_deck.specs.declared.running.RunFault.TheVariants as run
+use Rattle.hd_deck.specs.StepText.{StepText}
+use Rattle.hd_deck.specs.Runs.{turns_of, IsRunFaultOf, fault_refusal}
+use Rattle.hd_commands.specs.Refusals.{of_check, of_unload, of_reload, of_run}
 use Rattle.hd_commands.specs.Commands.{VolumeSays, StreamSays}
+use Rattle.hd_commands.specs.Plays.{PlaySays}
 
 -- a reload's fault says what the command says
 pub reload-says : (d : Database) (stream : List ℕ) (largest : ℕ) (is_sound : Bool) (image : List ℕ) (m n : ℕ) (fault : ReloadFault)
@@ -39,3 +46,15 @@ pub unload-says : {T : Type 0} (d : Database) (u v : VolumeState) (fault : Unloa
 unload-says {T = T} d u v (unload.Check fault) says read = check-says {T = T} d u v fault says read
 unload-says d u v unload.Write says read = inr (λ sound. let p = (says sound).1 in (rows_of p.placed, (p.placed, refl, p.holds)))
 unload-says d u v unload.Changed says read = inr (λ sound. absurd (says sound))
+
+-- a run's fault does
+pub play-says : {S : Type 0} (is_sound : S → Bool) (failures : S → ℕ) (contents : S → List ℕ) (d : Database) (pcbs : List View) (steps : List StepText) (old new : S) (fault : RunFault)
+    → (IsTrue (is_sound old) → IsRunFaultOf d pcbs (contents old) (turns_of steps) (contents new) fault) → CountsFor (fault_refusal fault) (failures old) (failures new)
+    → PlaySays is_sound failures contents d pcbs steps old new (of_run fault)
+play-says is_sound failures contents d pcbs steps old new (run.Open (opening.Check fault)) says counts = λ sound. let told = says sound in (told.0, told.1 (λ e. cc))
+play-says is_sound failures contents d pcbs steps old new (run.Open opening.NotEmptyForLoad) says counts = λ sound. let told = says sound in (told.0, told.1 (λ e. cc))
+play-says is_sound failures contents d pcbs steps old new (run.Open opening.Memory) says counts = λ sound. let told = says sound in told.1 (λ e. cc)
+play-says is_sound failures contents d pcbs steps old new (run.Open opening.Device) says counts = inl counts
+play-says is_sound failures contents d pcbs steps old new run.Memory says counts = says
+play-says is_sound failures contents d pcbs steps old new run.Device says counts = inl counts
+play-says is_sound failures contents d pcbs steps old new run.Write says counts = inr says

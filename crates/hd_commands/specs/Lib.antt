@@ -1,3 +1,5 @@
 pub mod Lines
 pub mod Refusals
 pub mod Commands
+pub mod Plays
+pub mod Headline

@@ -7,8 +7,11 @@ use Rattle.hd_unload.specs.declared.unloading.UnloadFault.{UnloadFault}
 use Rattle.hd_unload.specs.declared.unloading.UnloadFault.TheVariants as unload
 use Rattle.hd_unload.specs.declared.fault.ReloadFault.{ReloadFault}
 use Rattle.hd_unload.specs.declared.fault.ReloadFault.TheVariants as reload
+use Rattle.hd_session.specs.declared.opening.OpenFault.TheVariants as opening
+use Rattle.hd_deck.specs.declared.running.RunFault.{RunFault}
+use Rattle.hd_deck.specs.declared.running.RunFault.TheVariants as run
 use Rattle.hd_commands.specs.declared.refusal.Refusal.{Refusal}
-use Rattle.hd_commands.specs.declared.refusal.Refusal.TheVariants.{Fault, Record, Full, Device, Memory}
+use Rattle.hd_commands.specs.declared.refusal.Refusal.TheVariants.{Fault, NotEmpty, Record, Full, Device, Memory}
 
 -- of a check
 abbrev pub of_check : CheckFault → Refusal
@@ -28,6 +31,16 @@ of_reload (reload.Record fault n) = Record fault n
 of_reload (reload.Full n) = Full n
 of_reload reload.Memory = Memory
 of_reload reload.Device = Device
+
+-- of a run; a failed write is a device fault
+abbrev pub of_run : RunFault → Refusal
+of_run (run.Open (opening.Check fault)) = Fault fault
+of_run (run.Open opening.NotEmptyForLoad) = NotEmpty
+of_run (run.Open opening.Memory) = Memory
+of_run (run.Open opening.Device) = Device
+of_run run.Memory = Memory
+of_run run.Device = Device
+of_run run.Write = Device
 
 -- of a volume that could not be opened
 abbrev pub of_refused : Refused → Refusal

@@ -1,9 +1,11 @@
 ghost use Rattle.std.specs.Prelude.{◌≡◌};
 ghost use Rattle.hd_commands.specs.Lines.{status_of, name_of};
-ghost use Rattle.hd_commands.specs.Refusals.{of_check, of_unload, of_reload, of_refused};
+ghost use Rattle.hd_commands.specs.Refusals.{of_check, of_unload, of_reload, of_run, of_refused};
 
 use hd_check::{CheckFault, Fault};
 use hd_dbd::Refused;
+use hd_deck::RunFault;
+use hd_session::OpenFault;
 use hd_unload::{RecordFault, ReloadFault, UnloadFault};
 use std::fmt;
 
@@ -12,6 +14,8 @@ use std::fmt;
 pub enum Refusal {
     /// The volume does not pass, and this is its first fault.
     Fault(Fault),
+    /// A PCB loads, and the volume holds a segment.
+    NotEmpty,
     /// The stream's record of this number is refused, the first with a fault.
     Record(RecordFault, u64),
     /// The volume has no room for the stream's record of this number.
@@ -34,6 +38,7 @@ impl fmt::Display for Refusal {
                 let (number, address, other) = (fault.number(), fault.address, fault.other);
                 write!(f, "fault {number} at {address}, other {other}")
             }
+            Refusal::NotEmpty => f.write_str("volume is not empty"),
             Refusal::Record(fault, record) => {
                 let name = name_of(*fault);
                 write!(f, "reload refused: {name} at record {record}")
@@ -67,7 +72,7 @@ impl Refusal {
         ensures { result ≡ status_of self.now }
     {
         match self {
-            Refusal::Fault(_) | Refusal::Record(_, _) | Refusal::Full(_) => 1,
+            Refusal::Fault(_) | Refusal::NotEmpty | Refusal::Record(_, _) | Refusal::Full(_) => 1,
             Refusal::Device => 3,
             Refusal::Memory => 4,
         }
@@ -103,6 +108,19 @@ impl Refusal {
             ReloadFault::Full(record) => Refusal::Full(record),
             ReloadFault::Memory => Refusal::Memory,
             ReloadFault::Device => Refusal::Device,
+        }
+    }
+
+    /// The refusal that a run's is.
+    pub fn of_run(fault: RunFault) -> Refusal
+        ensures { result ≡ of_run fault }
+    {
+        match fault {
+            RunFault::Open(OpenFault::Check(fault)) => Refusal::Fault(fault),
+            RunFault::Open(OpenFault::NotEmptyForLoad) => Refusal::NotEmpty,
+            RunFault::Open(OpenFault::Memory) | RunFault::Memory => Refusal::Memory,
+            RunFault::Open(OpenFault::Device) | RunFault::Device | RunFault::Write =>
+                Refusal::Device,
         }
     }
 

@@ -20,7 +20,7 @@ struct Done {
 }
 
 /// A store of the sample image, with another byte at a place.
-fn sample_store(alloc: Global, place: usize, byte: u8) -> Result<MemStore, AllocError>
+pub(crate) fn sample_store(alloc: Global, place: usize, byte: u8) -> Result<MemStore, AllocError>
     ensures { IfOk result (λ s. s.size ≡ 128) }
 {
     let mut bytes = Vec::new(alloc);
@@ -179,7 +179,7 @@ fn tells_of_each_access_that_fails(rt: HostRuntime) -> Result<(), Fail> {
 
 /// A writer without room.
 #[derive(Drop)]
-struct FullWriter;
+pub(crate) struct FullWriter;
 
 impl Write for FullWriter {
     fn write(&mut self, _buf: &[u8]) -> io::Result<usize> {

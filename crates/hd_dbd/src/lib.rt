@@ -14,7 +14,6 @@ mod naming;
 mod procopt;
 mod program;
 mod program_rules;
-mod row;
 mod rules;
 
 pub use answer::{LoadFault, Refused, Status};
@@ -31,4 +30,3 @@ pub use law::{
 pub use naming::Name8;
 pub use procopt::gives_get;
 pub use program::{Pcb, Psb, PsbFault, Sens};
-pub use row::Row;

@@ -1,117 +1,23 @@
 -- A run of some calls, and then of others.
-use Rattle.std.proofs.Common.{◌≡◌, ℕ, zero, suc, ◌+◌, ◌-◌, ◌<◌, ◌≤◌, take, drop, get_or, List, [], ◌∷◌, ◌++◌, length, replicate, arith, ap, sym, ◌∙◌, Option, Some, None, refl}
-use Rattle.std.specs.Prelude.{option_map, option_to_list, slice_get}
-use Rattle.std.specs.Option.{option_map_or}
+use Rattle.std.proofs.Common.{◌≡◌, ℕ, zero, suc, ◌+◌, ◌-◌, ◌<◌, ◌≤◌, take, drop, get_or, List, [], ◌∷◌, ◌++◌, length, replicate, arith, ap, sym, ◌∙◌, subst, Bool, true, false, Option, Some, None, refl}
 use Rattle.std.specs.Io.KnownBytes.{Appends}
-use Rattle.std.proofs.lemmas.List.{append_assoc, append-nil, replicate_more, length-replicate, take_more, length-append, take-append-le, take-append-drop}
+use Rattle.std.proofs.lemmas.List.{append_assoc, append-nil, replicate_more, length-map, take_more, length-append, take-append-le, take-append-drop}
 use Rattle.std.proofs.Math.Seq.{take-append-add}
-use Rattle.hd_dbd.specs.Types.{View}
-use Rattle.hd_dbd.specs.Segment.{Segment}
-use Rattle.hd_dbd.specs.Calls.{Reply}
+use Rattle.hd_dbd.specs.Types.{SegmentType, View}
+use Rattle.hd_dbd.specs.Hierarchy.{Database}
 use Rattle.hd_dbd.specs.Logs.{Entry}
-use Rattle.hd_session.specs.RowCalls.{row_step}
-use Rattle.hd_session.specs.Session.{Session, stepped, position_at, call_step}
+use Rattle.hd_calls.specs.Steps.{State}
+use Rattle.hd_calls.specs.Runs.{Images, IsRun, next_state, last_state, image_at, ImagesFollow}
+use Rattle.hd_keeping.specs.VolumeImages.{images_of}
+use Rattle.hd_update.specs.States.{Represents}
+use Rattle.hd_session.specs.Opening.{SessionState}
 use Rattle.hd_deck.specs.StepText.{StepText}
 use Rattle.hd_deck.specs.Printing.{line_of, lines_from}
-use Rattle.hd_deck.specs.Runs.{Turn, step_turns, turns_of, entry_of, after_turn, session_after, entries_of, HasMadeSome}
+use Rattle.hd_deck.specs.Runs.{Turn, step_turns, turns_of, turns_in, is_memory, memory_in, AreMade, ArePlayed, AreMadeUntil, PlaysAll, PlaysUntil, StaysWhole, StopsAt}
+use Rattle.hd_deck.specs.declared.playing.Stop.{Stop}
+use Rattle.hd_deck.specs.declared.playing.Stop.TheVariants as stop
 
--- the session after some calls and then others
-pub session_after_append : (s : Session) (xs ys : List Turn) → session_after s (xs ++ ys) ≡ session_after (session_after s xs) ys
-session_after_append s [] ys = refl
-session_after_append s (x ∷ xs) ys = session_after_append (after_turn s x) xs ys
-
--- the entries of some calls and then others
-pub entries_of_append : (s : Session) (xs ys : List Turn) → entries_of s (xs ++ ys) ≡ entries_of s xs ++ entries_of (session_after s xs) ys
-entries_of_append s [] ys = refl
-entries_of_append s (x ∷ xs) ys =
-    let own : List (Entry (List Segment)) = option_to_list (option_map (entry_of s x) (call_step s x.pcb x.call)) in
-    ap (λ (es : List (Entry (List Segment))). own ++ es) (entries_of_append (after_turn s x) xs ys)
-    ∙ sym (append_assoc own (entries_of (after_turn s x) xs) (entries_of (session_after (after_turn s x) xs) ys))
-
--- the lines of some entries and then others
-pub lines_from_append : (n : ℕ) (xs ys : List (Entry (List Segment))) → lines_from n (xs ++ ys) ≡ lines_from n xs ++ lines_from (n + length xs) ys
-lines_from_append n [] ys = let e : n ≡ n + 0 = omega arith in ap (λ (m : ℕ). lines_from m ys) e
-lines_from_append n (x ∷ xs) ys =
-    let e : n + 1 + length xs ≡ n + length (x ∷ xs) = omega arith in
-    ap (λ (t : List ℕ). line_of n x ++ t) (lines_from_append (n + 1) xs ys ∙ ap (λ (m : ℕ). lines_from (n + 1) xs ++ lines_from m ys) e)
-    ∙ sym (append_assoc (line_of n x) (lines_from (n + 1) xs) (lines_from (n + length (x ∷ xs)) ys))
-
--- the lines of some calls and then others, where there is an entry for each of the first
-pub text_append : (s m : Session) (n k : ℕ) (xs ys : List Turn) → m ≡ session_after s xs → k ≡ length (entries_of s xs) → lines_from n (entries_of s xs) ++ lines_from (n + k) (entries_of m ys) ≡ lines_from n (entries_of s (xs ++ ys))
-text_append s m n k xs ys is count =
-    ap (λ (q : Session). lines_from n (entries_of s xs) ++ lines_from (n + k) (entries_of q ys)) is
-    ∙ ap (λ (j : ℕ). lines_from n (entries_of s xs) ++ lines_from (n + j) (entries_of (session_after s xs) ys)) count
-    ∙ sym (lines_from_append n (entries_of s xs) (entries_of (session_after s xs) ys))
-    ∙ ap (λ (es : List (Entry (List Segment))). lines_from n es) (sym (entries_of_append s xs ys))
-
--- known bytes grow by one text and then by another
-pub appends_both : (a b c : Option (List ℕ)) (xs ys : List ℕ) → Appends a b xs → Appends b c ys → Appends a c (xs ++ ys)
-appends_both None b c xs ys h k = tt
-appends_both (Some u) None c xs ys h k = absurd h
-appends_both (Some u) (Some v) None xs ys h k = absurd k
-appends_both (Some u) (Some v) (Some w) xs ys h k = k ∙ ap (λ (t : List ℕ). t ++ ys) h ∙ append_assoc u xs ys
-
-some_pcb : (pcbs : List View) (i : ℕ) → i < length pcbs → (pcb : View) × (slice_get pcbs i ≡ Some pcb)
-some_pcb [] i below = absurd (omega arith)
-some_pcb (p ∷ ps) zero below = (p, refl)
-some_pcb (p ∷ ps) (suc i) below = some_pcb ps i (omega arith)
-
-one_entry_by : (s : Session) (t : Turn) (o : Option (Reply × Session)) (pcb : View) → call_step s t.pcb t.call ≡ o → slice_get s.pcbs (t.pcb - 1) ≡ Some pcb → length (option_to_list (option_map (entry_of s t) o)) ≡ 1
-one_entry_by s t None pcb is there = cc
-one_entry_by s t (Some r) pcb is there = refl
-
--- a call of a PCB that is there gives one entry
-pub one_entry : (s : Session) (t : Turn) → 0 < t.pcb → t.pcb ≤ length s.pcbs → length (option_to_list (option_map (entry_of s t) (call_step s t.pcb t.call))) ≡ 1
-one_entry s t low high =
-    let there : (pcb : View) × (slice_get s.pcbs (t.pcb - 1) ≡ Some pcb) = some_pcb s.pcbs (t.pcb - 1) (omega arith) in
-    one_entry_by s t (call_step s t.pcb t.call) there.0 refl there.1
-
-pcbs_kept : (s : Session) (t : Turn) (o : Option View)
-    → (option_map_or (λ r. r.1) (option_map (λ pcb. stepped s t.pcb (row_step (record { types = s.types; pcb = pcb }) s.rows (position_at s t.pcb) t.call)) o) s).pcbs ≡ s.pcbs
-pcbs_kept s t None = refl
-pcbs_kept s t (Some pcb) = refl
-
--- no call changes the PCBs
-pub after_turn_pcbs : (s : Session) (t : Turn) → (after_turn s t).pcbs ≡ s.pcbs
-after_turn_pcbs s t = pcbs_kept s t (slice_get s.pcbs (t.pcb - 1))
-
--- one entry a call
-pub entries_count : (s : Session) (k : ℕ) (t : Turn) → 0 < t.pcb → t.pcb ≤ length s.pcbs → length (entries_of s (replicate k t)) ≡ k
-entries_count s zero t low high = refl
-entries_count s (suc k) t low high =
-    omega (
-      arith,
-      length-append (option_to_list (option_map (entry_of s t) (call_step s t.pcb t.call))) (entries_of (after_turn s t) (replicate k t)),
-      one_entry s t low high,
-      entries_count (after_turn s t) k t low (omega (arith, ap (λ (ps : List View). length ps) (after_turn_pcbs s t))),
-    )
-
--- one more call
-pub replicate_after : (s m : Session) (k : ℕ) (t : Turn) → m ≡ session_after s (replicate k t) → after_turn m t ≡ session_after s (replicate (k + 1) t)
-replicate_after s m k t is =
-    ap (λ (q : Session). after_turn q t) is
-    ∙ sym (session_after_append s (replicate k t) (t ∷ []))
-    ∙ ap (λ (ts : List Turn). session_after s ts) (replicate_more k t)
-
--- one more line
-pub replicate_text : (s m : Session) (n k : ℕ) (t : Turn) → 0 < t.pcb → t.pcb ≤ length s.pcbs → m ≡ session_after s (replicate k t)
-    → lines_from n (entries_of s (replicate k t)) ++ lines_from (n + k) (entries_of m (t ∷ [])) ≡ lines_from n (entries_of s (replicate (k + 1) t))
-replicate_text s m n k t low high is =
-    text_append s m n k (replicate k t) (t ∷ []) is (sym (entries_count s k t low high))
-    ∙ ap (λ (ts : List Turn). lines_from n (entries_of s ts)) (replicate_more k t)
-
-take_replicate : (k n : ℕ) (t : Turn) → k ≤ n → take k (replicate n t) ≡ replicate k t
-take_replicate zero n t low = refl
-take_replicate (suc k) zero t low = absurd (omega arith)
-take_replicate (suc k) (suc n) t low = ap (λ (ts : List Turn). t ∷ ts) (take_replicate k n t (omega arith))
-
--- some of the calls of a step are made
-pub some_replicated : (s m new : Session) (k n : ℕ) (t : Turn) → k < n → m ≡ session_after s (replicate k t) → new ≡ after_turn m t → HasMadeSome s (replicate n t) new
-some_replicated s m new k n t below is next = (
-  k + 1,
-  omega (arith, length-replicate n t),
-  next ∙ replicate_after s m k t is ∙ ap (λ (ts : List Turn). session_after s ts) (sym (take_replicate (k + 1) n t (omega arith))),
-)
+-- ---- lists of calls
 
 turns_push : (ss : List StepText) (s : StepText) → turns_of (ss ++ s ∷ []) ≡ turns_of ss ++ step_turns s
 turns_push [] s = append-nil (step_turns s)
@@ -128,24 +34,164 @@ turns_append : (xs ys : List StepText) → turns_of (xs ++ ys) ≡ turns_of xs +
 turns_append [] ys = refl
 turns_append (x ∷ xs) ys = ap (λ (ts : List Turn). step_turns x ++ ts) (turns_append xs ys) ∙ sym (append_assoc (step_turns x) (turns_of xs) (turns_of ys))
 
--- some of the calls of a deck are made, where those of some steps and some of the next one's are
-pub some_of_steps : (steps : List StepText) (i : ℕ) (s : StepText) (old m new : Session) → i < length steps → s ≡ get_or steps i s → m ≡ session_after old (turns_of (take i steps))
-    → HasMadeSome m (step_turns s) new → HasMadeSome old (turns_of steps) new
-some_of_steps steps i s old m new below is at some =
-    let made : List Turn = turns_of (take i steps) in
-    let front : List Turn = turns_of (take (i + 1) steps) in
-    let whole : turns_of steps ≡ front ++ turns_of (drop (i + 1) steps) =
-    ap turns_of (sym (take-append-drop (i + 1) steps)) ∙ turns_append (take (i + 1) steps) (drop (i + 1) steps) in
-    let parts : front ≡ made ++ step_turns s = turns_of_more steps i s below is in
-    let few : length made + some.0 ≤ length front = omega (arith, some.1, ap length parts, length-append made (step_turns s)) in
-    let kept : take (length made + some.0) (turns_of steps) ≡ made ++ take some.0 (step_turns s) =
-    ap (λ (ts : List Turn). take (length made + some.0) ts) whole
-    ∙ take-append-le (length made + some.0) front (turns_of (drop (i + 1) steps)) few
-    ∙ ap (λ (ts : List Turn). take (length made + some.0) ts) parts
-    ∙ take-append-add made (step_turns s) some.0 in (
-      length made + some.0,
-      omega (arith, few, ap length whole, length-append front (turns_of (drop (i + 1) steps))),
-      some.2 ∙ ap (λ (q : Session). session_after q (take some.0 (step_turns s))) at
-          ∙ sym (session_after_append old made (take some.0 (step_turns s)))
-          ∙ ap (λ (ts : List Turn). session_after old ts) (sym kept),
-    )
+-- the calls of a deck begin with those of its first steps, the next one's among them
+pub turns_of_parts : (steps : List StepText) (i : ℕ) (s : StepText) → i < length steps → s ≡ get_or steps i s
+    → turns_of steps ≡ (turns_of (take i steps) ++ step_turns s) ++ turns_of (drop (i + 1) steps)
+turns_of_parts steps i s below is =
+    ap turns_of (sym (take-append-drop (i + 1) steps)) ∙ turns_append (take (i + 1) steps) (drop (i + 1) steps)
+    ∙ ap (λ (ts : List Turn). ts ++ turns_of (drop (i + 1) steps)) (turns_of_more steps i s below is)
+
+replicate_append : (j k : ℕ) (t : Turn) → replicate (j + k) t ≡ replicate j t ++ replicate k t
+replicate_append zero k t = let e : 0 + k ≡ k = omega arith in ap (λ (n : ℕ). replicate n t) e
+replicate_append (suc j) k t =
+    let e : suc j + k ≡ suc (j + k) = omega arith in
+    ap (λ (n : ℕ). replicate n t) e ∙ ap (λ (ts : List Turn). t ∷ ts) (replicate_append j k t)
+
+-- calls of one kind begin with some of them, the next one among them
+pub replicate_parts : (j k : ℕ) (t : Turn) → j < k → replicate k t ≡ (replicate j t ++ t ∷ []) ++ replicate (k - (j + 1)) t
+replicate_parts j k t below =
+    let e : k ≡ (j + 1) + (k - (j + 1)) = omega arith in
+    ap (λ (n : ℕ). replicate n t) e ∙ replicate_append (j + 1) (k - (j + 1)) t
+    ∙ ap (λ (ts : List Turn). ts ++ replicate (k - (j + 1)) t) (sym (replicate_more j t))
+
+-- ---- entries
+
+module _ {I : Type 0} where
+  -- the lines of some entries and then others
+  pub lines_from_append : (n : ℕ) (xs ys : List (Entry I)) → lines_from n (xs ++ ys) ≡ lines_from n xs ++ lines_from (n + length xs) ys
+  lines_from_append n [] ys = let e : n ≡ n + 0 = omega arith in ap (λ (m : ℕ). lines_from m ys) e
+  lines_from_append n (x ∷ xs) ys =
+      let e : n + 1 + length xs ≡ n + length (x ∷ xs) = omega arith in
+      ap (λ (t : List ℕ). line_of n x ++ t) (lines_from_append (n + 1) xs ys ∙ ap (λ (m : ℕ). lines_from (n + 1) xs ++ lines_from m ys) e)
+      ∙ sym (append_assoc (line_of n x) (lines_from (n + 1) xs) (lines_from (n + length (x ∷ xs)) ys))
+
+  turns_in_append : (xs ys : List (Entry I)) → turns_in (xs ++ ys) ≡ turns_in xs ++ turns_in ys
+  turns_in_append [] ys = refl
+  turns_in_append (x ∷ xs) ys = ap (λ (ts : List Turn). record { pcb = x.pcb; call = x.call } ∷ ts) (turns_in_append xs ys)
+
+  memory_of_one : (x : Entry I) (xs ys : List (Entry I)) (b : Bool) → is_memory x.outcome ≡ b → memory_in (xs ++ ys) ≡ memory_in xs + memory_in ys
+      → memory_in (x ∷ (xs ++ ys)) ≡ memory_in (x ∷ xs) + memory_in ys
+  memory_of_one x xs ys true is more = rw is (let e : suc (memory_in (xs ++ ys)) ≡ suc (memory_in xs) + memory_in ys = omega (arith, more) in e)
+  memory_of_one x xs ys false is more = rw is more
+
+  -- how many of some calls and of others found no memory
+  memory_in_append : (xs ys : List (Entry I)) → memory_in (xs ++ ys) ≡ memory_in xs + memory_in ys
+  memory_in_append [] ys = let e : memory_in ys ≡ 0 + memory_in ys = omega arith in e
+  memory_in_append (x ∷ xs) ys = memory_of_one x xs ys (is_memory x.outcome) refl (memory_in_append xs ys)
+
+  last_state_append : (types : List SegmentType) (pcbs : List View) (st : State) (xs ys : List (Entry I))
+      → last_state types pcbs st (xs ++ ys) ≡ last_state types pcbs (last_state types pcbs st xs) ys
+  last_state_append types pcbs st [] ys = refl
+  last_state_append types pcbs st (x ∷ xs) ys = last_state_append types pcbs (next_state types pcbs st x) xs ys
+
+  run_append : (types : List SegmentType) (pcbs : List View) (st : State) (xs ys : List (Entry I)) → IsRun types pcbs st xs → IsRun types pcbs (last_state types pcbs st xs) ys
+      → IsRun types pcbs st (xs ++ ys)
+  run_append types pcbs st [] ys f g = g
+  run_append types pcbs st (x ∷ xs) ys f g = (f.0, f.1, f.2, run_append types pcbs (next_state types pcbs st x) xs ys f.3 g)
+
+  image_at_append : (xs ys : List (Entry I)) (middle last : I) → image_at ys last ≡ middle → image_at (xs ++ ys) last ≡ image_at xs middle
+  image_at_append [] ys middle last e = e
+  image_at_append (x ∷ xs) ys middle last e = refl
+
+  images_append : (images : Images I) (types : List SegmentType) (pcbs : List View) (st : State) (xs ys : List (Entry I)) (middle last : I)
+      → ImagesFollow images types pcbs st xs middle → image_at ys last ≡ middle → ImagesFollow images types pcbs (last_state types pcbs st xs) ys last
+      → ImagesFollow images types pcbs st (xs ++ ys) last
+  images_append images types pcbs st [] ys middle last f e g = g
+  images_append images types pcbs st (x ∷ xs) ys middle last f e g =
+      (f.0, rw (image_at_append xs ys middle last e) f.1, images_append images types pcbs (next_state types pcbs st x) xs ys middle last f.2 e g)
+
+-- ---- calls in a session
+
+-- known bytes grow by one text and then by another
+pub appends_both : (a b c : Option (List ℕ)) (xs ys : List ℕ) → Appends a b xs → Appends b c ys → Appends a c (xs ++ ys)
+appends_both None b c xs ys h k = tt
+appends_both (Some u) None c xs ys h k = absurd h
+appends_both (Some u) (Some v) None xs ys h k = absurd k
+appends_both (Some u) (Some v) (Some w) xs ys h k = k ∙ ap (λ (t : List ℕ). t ++ ys) h ∙ append_assoc u xs ys
+
+-- some calls were made and then others
+pub made_both : (s m t : SessionState) (st : State) (xs ys : List Turn) (es fs : List (Entry (List ℕ)))
+    → m.database ≡ s.database → m.pcbs ≡ s.pcbs → AreMade s st xs es m → AreMade m (last_state s.database.types s.pcbs st es) ys fs t
+    → AreMade s st (xs ++ ys) (es ++ fs) t
+made_both s m t st xs ys es fs database pcbs f g =
+    let middle : State = last_state s.database.types s.pcbs st es in
+    let runs : IsRun s.database.types s.pcbs middle fs =
+    subst (λ (d : Database). IsRun d.types s.pcbs middle fs) database (subst (λ (ps : List View). IsRun m.database.types ps middle fs) pcbs g.runs) in
+    let follows : ImagesFollow (images_of s.database) s.database.types s.pcbs middle fs t.volume.image =
+    subst (λ (d : Database). ImagesFollow (images_of d) d.types s.pcbs middle fs t.volume.image) database
+    (subst (λ (ps : List View). ImagesFollow (images_of m.database) m.database.types ps middle fs t.volume.image) pcbs g.follows) in
+    let represents : Represents s.database t.volume t.kept (last_state s.database.types s.pcbs middle fs) =
+    subst (λ (d : Database). Represents d t.volume t.kept (last_state d.types s.pcbs middle fs)) database
+    (subst (λ (ps : List View). Represents m.database t.volume t.kept (last_state m.database.types ps middle fs)) pcbs g.represents) in
+    record {
+      asked = turns_in_append es fs ∙ ap (λ (ts : List Turn). ts ++ turns_in fs) f.asked ∙ ap (λ (ts : List Turn). xs ++ ts) g.asked;
+      begins = image_at_append es fs m.volume.image t.volume.image g.begins ∙ f.begins;
+      runs = run_append s.database.types s.pcbs st es fs f.runs runs;
+      follows = images_append (images_of s.database) s.database.types s.pcbs st es fs m.volume.image t.volume.image f.follows g.begins follows;
+      represents = rw (last_state_append s.database.types s.pcbs st es fs) represents;
+    }
+
+-- there are as many entries as calls
+pub entries_count : (s t : SessionState) (st : State) (xs : List Turn) (es : List (Entry (List ℕ))) → AreMade s st xs es t → length es ≡ length xs
+entries_count s t st xs es made = sym (length-map es (λ e. record { pcb = e.pcb; call = e.call })) ∙ ap (λ (ts : List Turn). length ts) made.asked
+
+module _ (s m : SessionState) (whole : StaysWhole s m) where
+  -- some calls were played and then others
+  pub played_both : (t : SessionState) (xs ys : List Turn) (number next : ℕ) (a b c : Option (List ℕ)) (j k : ℕ) → next ≡ number + length xs
+      → PlaysAll s xs number a b j m → PlaysAll m ys next b c k t → PlaysAll s (xs ++ ys) number a c (j + k) t
+  played_both t xs ys number next a b c j k is f g = λ st sound stands.
+      let p : ArePlayed s st xs number a b j m = f st sound stands in
+      let middle : State = last_state s.database.types s.pcbs st p.entries in
+      let there : Represents m.database m.volume m.kept middle = subst (λ (d : Database). Represents d m.volume m.kept middle) (sym whole.database) p.made.represents in
+      let q : ArePlayed m middle ys next b c k t = g middle (rw whole.sound sound) there in
+      let at : next ≡ number + length p.entries = is ∙ ap (λ (n : ℕ). number + n) (sym (entries_count s m st xs p.entries p.made)) in
+      record {
+        entries = p.entries ++ q.entries;
+        made = made_both s m t st xs ys p.entries q.entries whole.database whole.pcbs p.made q.made;
+        printed = subst (λ (ts : List ℕ). Appends a c ts)
+            (ap (λ (n : ℕ). lines_from number p.entries ++ lines_from n q.entries) at ∙ sym (lines_from_append number p.entries q.entries))
+            (appends_both a b c (lines_from number p.entries) (lines_from next q.entries) p.printed q.printed);
+        memory = ap (λ (n : ℕ). n + k) p.memory ∙ ap (λ (n : ℕ). memory_in p.entries + n) q.memory ∙ sym (memory_in_append p.entries q.entries);
+      }
+
+  until : (t : SessionState) (st middle : State) (xs ys rest : List Turn) (es : List (Entry (List ℕ))) (e : Stop)
+      → middle ≡ last_state s.database.types s.pcbs st es → AreMade s st xs es m → AreMadeUntil m middle ys e t → AreMadeUntil s st ((xs ++ ys) ++ rest) e t
+  until t st middle xs ys rest es stop.Device is p q = tt
+  until t st middle xs ys rest es stop.Write is p q =
+      let few : length xs + q.count ≤ length (xs ++ ys) = omega (arith, q.some, length-append xs ys) in
+      let first : take (length xs + q.count) ((xs ++ ys) ++ rest) ≡ xs ++ take q.count ys =
+      take-append-le (length xs + q.count) (xs ++ ys) rest few ∙ take-append-add xs ys q.count in
+      record {
+        count = length xs + q.count;
+        some = omega (arith, few, length-append (xs ++ ys) rest);
+        entries = es ++ q.entries;
+        made = subst (λ (ts : List Turn). AreMade s st ts (es ++ q.entries) t) (sym first)
+            (made_both s m t st xs (take q.count ys) es q.entries whole.database whole.pcbs p
+            (subst (λ (r : State). AreMade m r (take q.count ys) q.entries t) is q.made));
+      }
+
+  -- some calls were played, and then others until a stop
+  pub played_until : (t : SessionState) (xs ys rest : List Turn) (number : ℕ) (a b : Option (List ℕ)) (j : ℕ) (e : Stop)
+      → PlaysAll s xs number a b j m → PlaysUntil m ys e t → PlaysUntil s ((xs ++ ys) ++ rest) e t
+  played_until t xs ys rest number a b j e f g = λ st sound stands.
+      let p : ArePlayed s st xs number a b j m = f st sound stands in
+      let middle : State = last_state s.database.types s.pcbs st p.entries in
+      let there : Represents m.database m.volume m.kept middle = subst (λ (d : Database). Represents d m.volume m.kept middle) (sym whole.database) p.made.represents in
+      until t st middle xs ys rest p.entries e refl p.made (g middle (rw whole.sound sound) there)
+
+  -- a session that stayed whole twice
+  pub whole_both : (t : SessionState) → StaysWhole m t → StaysWhole s t
+  whole_both t w = record {
+    database = w.database ∙ whole.database;
+    pcbs = w.pcbs ∙ whole.pcbs;
+    whole = w.whole;
+    failures = w.failures ∙ whole.failures;
+    sound = w.sound ∙ whole.sound;
+    size = w.size ∙ whole.size;
+  }
+
+  -- a session that stayed whole, and then stopped
+  pub whole_stop : (t : SessionState) (e : Stop) → StopsAt m e t → StopsAt s e t
+  whole_stop t stop.Device w =
+      record { broken = w.broken; failures = omega (arith, w.failures, whole.failures); sound = w.sound; size = w.size ∙ whole.size }
+  whole_stop t stop.Write w = whole_both t w

@@ -6,21 +6,36 @@ use Rattle.std.specs.List.{concat}
 use Rattle.std.specs.Result.{result_map_both}
 use Rattle.std.specs.Fmt.{digits}
 use Rattle.hd_dbd.specs.Segment.{Segment}
-use Rattle.hd_dbd.specs.Positions.{at_start}
+use Rattle.hd_dbd.specs.Logs.{Outcome, replied, area, full, memory, Entry}
 use Rattle.hd_dbd.specs.Sample.{sample_types, sample_pcbs, sample_rows}
+use Rattle.hd_calls.specs.Steps.{Effect, answered, wrong_area, State, state_after}
+use Rattle.hd_calls.specs.Runs.{effect_by}
+use Rattle.hd_calls.specs.NoLostUpdate.{opened}
 use Rattle.hd_deck.specs.declared.deck.DeckFault.{DeckFault}
 use Rattle.hd_deck.specs.declared.deck.DeckFault.TheVariants.{K1, K2, K3, K4, K5, K7}
 use Rattle.hd_deck.specs.StepText.{StepText}
 use Rattle.hd_deck.specs.Deck.{deck}
-use Rattle.hd_deck.specs.Printing.{print}
-use Rattle.hd_deck.specs.Runs.{turns_of, row_log}
+use Rattle.hd_deck.specs.Printing.{lines_from}
+use Rattle.hd_deck.specs.Runs.{Turn, turns_of}
+
+-- what a call comes to where it finds memory and room
+abbrev come_to : Effect → Outcome
+come_to (answered reply change own) = replied reply
+come_to wrong_area = area
+
+abbrev entry : Turn → Outcome → Entry (List ℕ)
+entry t outcome = record { before = []; pcb = t.pcb; call = t.call; outcome = outcome }
+
+-- the entries of such calls from a state, without the images
+abbrev entries_from : State → List Turn → List (Entry (List ℕ))
+entries_from st [] = []
+entries_from st (t ∷ ts) =
+    let effect : Effect = effect_by sample_types sample_pcbs st t.pcb t.call in
+    entry t (come_to effect) ∷ entries_from (state_after sample_types st t.pcb effect) ts
 
 -- what a deck prints over some rows of the sample, by its program's PCBs
 abbrev printed : List Segment → List ℕ → Result (List ℕ) DeckFault
-printed rows text =
-    result_map_both (λ steps.
-    print (row_log (record { types = sample_types; pcbs = sample_pcbs; rows = rows; positions = at_start ∷ at_start ∷ at_start ∷ [] }) (turns_of steps)))
-    (λ fault. fault) (deck 3 text)
+printed rows text = result_map_both (λ steps. lines_from 1 (entries_from (opened sample_pcbs rows) (turns_of steps))) (λ fault. fault) (deck 3 text)
 
 -- GN to the end of the database, and from its beginning again
 pub nine_gets_next : printed sample_rows (codes "L   9 GN\n")
@@ -53,10 +68,24 @@ pub two_positions : printed sample_rows (codes "S 2\nL     GN\nS 1\nL   2 GN\n")
 unfolding digits
 two_positions = refl
 
--- a function that is not known yet
-pub other_function : printed sample_rows (codes "L     GNP") ≡ Ok (codes "1 1 GNP  [AD] 00          key= area=\n")
+-- a function that there is not
+pub other_function : printed sample_rows (codes "L     GXX") ≡ Ok (codes "1 1 GXX  [AD] 00          key= area=\n")
 unfolding digits
 other_function = refl
+
+-- an area of another length than the segment that is held
+pub wrong_length : printed sample_rows (codes "L     GHU  CLASS   (ED      EQ01)\nL     REPL\nD01A\nL     REPL\nD01XY\n")
+    ≡ Ok (codes "1 1 GHU  [  ] 02 CLASS    key=10101 area=01AB\n"
+    ++ codes "2 1 REPL [!!] Area\n"
+    ++ codes "3 1 REPL [  ] 02 CLASS    key=10101 area=\n")
+unfolding digits
+wrong_length = refl
+
+-- refusals that change nothing
+pub refusals : lines_from 1 (map (λ o. entry (record { pcb = 2; call = record { function = codes "ISRT"; ssas = []; area = [] } }) o) (area ∷ full ∷ memory ∷ []))
+    ≡ codes "1 2 ISRT [!!] Area\n" ++ codes "2 2 ISRT [!!] Full\n" ++ codes "3 2 ISRT [!!] Memory\n"
+unfolding digits
+refusals = refl
 
 -- no rows
 pub empty_database : printed [] (codes "L     GU\nL     GN")

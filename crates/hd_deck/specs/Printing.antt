@@ -1,8 +1,13 @@
 -- The lines that a run prints, one for each entry of its log.
-use Rattle.std.specs.Prelude.{ℕ, ◌+◌, ◌/◌, ◌%◌, List, [], ◌∷◌, ◌++◌, cond, nat_le, nat_lt, ◌&&◌, ◌==◌, Option, codes, decimal, replicate, flat_map, unwrap_or}
+use Rattle.std.specs.Prelude.{ℕ, ◌+◌, ◌/◌, ◌%◌, List, [], ◌∷◌, ◌++◌, cond, nat_le, nat_lt, ◌&&◌, ◌==◌, Option, codes, decimal, replicate, flat_map, unwrap_or, Result, Ok, Err}
 use Rattle.hd_dbd.specs.declared.answer.Status.{Status}
 use Rattle.hd_dbd.specs.declared.answer.Status.TheVariants.{Blank, GA, GK, GB, GE, GP, II, DA, DJ, LB, LC, LD, LE, AC, AD, AH, AJ, AK, AM}
+use Rattle.hd_dbd.specs.declared.answer.Refused.{Refused}
+use Rattle.hd_dbd.specs.declared.answer.Refused.TheVariants as refused
 use Rattle.hd_dbd.specs.Logs.{Outcome, replied, area, full, memory, Entry, Log}
+use Rattle.hd_session.specs.declared.request.Answer.{Answer}
+use Rattle.hd_session.specs.Buffer.{Buffer}
+use Rattle.hd_session.specs.Replies.{reply_of}
 
 abbrev pub status_text : Status → List ℕ
 status_text Blank = codes "  "
@@ -61,6 +66,22 @@ outcome_text (replied r) = bracket_text r.status ++ place_text r.level r.segment
 outcome_text area = codes " [!!] Area\n"
 outcome_text full = codes " [!!] Full\n"
 outcome_text memory = codes " [!!] Memory\n"
+
+abbrev pub refused_text : Refused → List ℕ
+refused_text refused.Memory = codes "Memory"
+refused_text refused.Full = codes "Full"
+refused_text refused.Device = codes "Device"
+refused_text refused.Broken = codes "Broken"
+refused_text refused.Area = codes "Area"
+
+-- a refusal's name
+abbrev pub refusal_text : Refused → List ℕ
+refusal_text e = codes " [!!] " ++ refused_text e ++ codes "\n"
+
+-- what a call answered
+abbrev pub answered_text : Result Answer Refused → Buffer → List ℕ
+answered_text (Ok a) b = outcome_text (replied (reply_of a b))
+answered_text (Err e) b = refusal_text e
 
 -- the line of one entry
 abbrev pub line_of : {Image : Type 0} → ℕ → Entry Image → List ℕ

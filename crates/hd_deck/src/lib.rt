@@ -4,12 +4,16 @@
 mod deck;
 mod hex;
 mod line;
+mod playing;
 mod printing;
 mod reader;
-mod run;
+mod running;
 mod step;
 
 pub use deck::{DeckFault, read_deck};
-pub use printing::{WriteFault, print_answer};
-pub use run::{RunFault, run_rows};
+pub use printing::{WriteFault, print_answer, print_refusal};
+pub use running::{RunEnd, RunFault, run};
 pub use step::Step;
+
+#[cfg(test)]
+mod run_tests;

@@ -1,10 +1,10 @@
 ghost use Rattle.std.specs.Prelude.{◌≡◌, ◌<◌, ◌++◌, unwrap_or, replicate, OnOk};
 ghost use Rattle.std.specs.Io.KnownBytes.{Appends};
 ghost use Rattle.hd_dbd.specs.Logs.{replied};
-ghost use Rattle.hd_session.specs.RowCalls.{reply_of};
-ghost use Rattle.hd_deck.specs.Printing.{status_text, hex_digit, shown, shown_byte, two_digits, head_text, bracket_text, place_text, bytes_text, outcome_text};
+ghost use Rattle.hd_session.specs.Replies.{reply_of};
+ghost use Rattle.hd_deck.specs.Printing.{status_text, hex_digit, shown, shown_byte, two_digits, head_text, bracket_text, place_text, bytes_text, outcome_text, refused_text, refusal_text, answered_text};
 
-use hd_dbd::{Name8, Status};
+use hd_dbd::{Name8, Refused, Status};
 use hd_session::{Answer, IoArea};
 use itoa::Buffer;
 use std::io::Write;
@@ -163,4 +163,56 @@ pub fn print_answer<W: Write>(
 {
     put_head(out, number, pcb, function)?;
     put_answer(out, answer, io)
+}
+
+fn refused_text(refused: Refused) -> &'static [u8]
+    ensures { result.now ≡ refused_text refused }
+{
+    match refused {
+        Refused::Memory => b"Memory",
+        Refused::Full => b"Full",
+        Refused::Device => b"Device",
+        Refused::Broken => b"Broken",
+        Refused::Area => b"Area",
+    }
+}
+
+/// Writes a refusal, from its brackets on.
+fn put_refusal<W: Write>(out: &mut W, refused: Refused) -> Result<(), WriteFault>
+    ensures { OnOk result (Appends (W.contents out.old) (W.contents out.new) (refusal_text refused)) }
+{
+    put(out, b" [!!] ")?;
+    put(out, refused_text(refused))?;
+    put(out, b"\n")
+}
+
+/// Writes the line of one call that was refused: the call's number, from 1, its PCB's number and its function, then the refusal's name.
+pub fn print_refusal<W: Write>(
+    out: &mut W,
+    number: u64,
+    pcb: u8,
+    function: &[u8; 4],
+    refused: Refused,
+) -> Result<(), WriteFault>
+    ensures { OnOk result (Appends (W.contents out.old) (W.contents out.new) (head_text number pcb function.now ++ refusal_text refused)) }
+{
+    put_head(out, number, pcb, function)?;
+    put_refusal(out, refused)
+}
+
+/// Writes the line of one call.
+pub(crate) fn print_outcome<W: Write>(
+    out: &mut W,
+    number: u64,
+    pcb: u8,
+    function: &[u8; 4],
+    answered: &Result<Answer, Refused>,
+    io: &IoArea,
+) -> Result<(), WriteFault>
+    ensures { OnOk result (Appends (W.contents out.old) (W.contents out.new) (head_text number pcb function.now ++ answered_text answered.now io.now)) }
+{
+    match answered {
+        Ok(answer) => print_answer(out, number, pcb, function, answer, io),
+        Err(refused) => print_refusal(out, number, pcb, function, *refused),
+    }
 }

@@ -1,5 +1,5 @@
 -- ISRT and its answer.
-use Rattle.std.proofs.Common.{◌≡◌, ℕ, ◌+◌, ◌-◌, ◌<◌, ◌≤◌, List, [], ◌∷◌, length, IsTrue, true, false, Ok, refl, sym, ap, ◌∙◌, subst, arith}
+use Rattle.std.proofs.Common.{◌≡◌, ℕ, ◌-◌, ◌<◌, ◌≤◌, List, [], ◌∷◌, length, IsTrue, false, Ok, refl, sym, ap, ◌∙◌}
 use Rattle.std.specs.Prelude.{slice_index_or}
 use Rattle.hd_dbd.specs.Types.{View}
 use Rattle.hd_dbd.specs.declared.answer.Status.{Status}

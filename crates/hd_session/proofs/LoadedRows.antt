@@ -1,33 +1,23 @@
 -- The row that a load put in, and its answer.
-use Rattle.std.proofs.Common.{◌≡◌, ℕ, zero, suc, ◌+◌, ◌-◌, ◌<◌, ◌≤◌, List, [], ◌∷◌, length, map, None, IsTrue, true, false, Ok, refl, sym, ap, ◌∙◌, subst, arith}
-use Rattle.std.specs.Prelude.{slice_index_or, slice_set, is_some}
-use Rattle.hd_dbd.specs.Types.{SegmentType, View}
+use Rattle.std.proofs.Common.{◌≡◌, ℕ, ◌+◌, ◌-◌, ◌<◌, ◌≤◌, List, [], ◌∷◌, length, None, IsTrue, true, false, Ok, refl, sym, ap, ◌∙◌, arith}
+use Rattle.std.specs.Prelude.{slice_index_or, is_some}
+use Rattle.hd_dbd.specs.Types.{View}
 use Rattle.hd_dbd.specs.declared.answer.Status.{Status}
 use Rattle.hd_dbd.specs.declared.answer.Status.TheVariants.{Blank}
 use Rattle.hd_dbd.specs.Hierarchy.{Database, type_of}
 use Rattle.hd_dbd.specs.Segment.{Segment}
-use Rattle.hd_dbd.specs.Positions.{Position}
-use Rattle.hd_dbd.specs.Views.{Setting}
-use Rattle.hd_dbd.specs.Calls.{Reply, bare, row_reply}
-use Rattle.hd_dbd.specs.Forest.{Forest}
+use Rattle.hd_dbd.specs.Calls.{Reply, bare}
 use Rattle.hd_calls.specs.Ssas.{Ssa}
-use Rattle.hd_calls.specs.Moves.{inserted, rows_after, position_after}
 use Rattle.hd_calls.specs.Steps.{State, answered, position_at, insert_at}
 use Rattle.hd_calls.specs.NoLostUpdate.{is_done}
-use Rattle.hd_calls.specs.Runs.{Follows}
 use Rattle.hd_volume.specs.Volumes.{VolumeState}
 use Rattle.hd_volume.specs.Calls.{IsRead}
-use Rattle.hd_links.specs.Placed.{Placed}
-use Rattle.hd_links.specs.Steps.{rows_of, address_at}
 use Rattle.hd_image.specs.Records.{links_of, IsVolumeOf}
 use Rattle.hd_forest.specs.Rows.{IsOnRow, IsOnSomeRow}
-use Rattle.hd_forest.proofs.Reading.{after-read}
-use Rattle.hd_keeping.specs.VolumeImages.{images_of}
-use Rattle.hd_position.specs.Kept.{Kept, StandsFor, path_passed}
+use Rattle.hd_position.specs.Kept.{Kept}
 use Rattle.hd_get.specs.declared.outcome.Outcome.TheVariants.{Found, Missing}
 use Rattle.hd_update.specs.Loading.{HasPassedAll, InsertsOne, IsLoadDone, load_effect}
-use Rattle.hd_update.specs.States.{StandForAll, IsAnswered}
-use Rattle.hd_update.proofs.Answering.{represented}
+use Rattle.hd_update.specs.States.{IsAnswered}
 use Rattle.hd_update.proofs.LoadSteps.{load_answers}
 use Rattle.hd_session.specs.Giving.{IsGiven}
 use Rattle.hd_session.specs.Sessions.{IsStep}

@@ -17,14 +17,15 @@ use Rattle.hd_calls.specs.Functions.{function_of, result_and_then}
 use Rattle.hd_calls.specs.Ssas.{Ssa, resolve}
 use Rattle.hd_calls.specs.Gets.{unheld}
 use Rattle.hd_calls.specs.Moves.{unchanged}
-use Rattle.hd_calls.specs.Runs.{Follows}
-use Rattle.hd_calls.specs.Steps.{State, Effect, AcceptedCall, accepted_call, last_tests, holds_enough, is_allowed, names_enough, looks_below_parent, after_tests, bare_answer, position_at, state_after}
+use Rattle.hd_calls.specs.Runs.{Follows, LacksRoom, rows_put_in}
+use Rattle.hd_calls.specs.Steps.{State, Effect, AcceptedCall, accepted_call, last_tests, holds_enough, is_allowed, names_enough, looks_below_parent, own_step, after_tests, bare_answer, position_at, state_after}
 use Rattle.hd_volume.specs.Volumes.{VolumeState}
 use Rattle.hd_volume.specs.Calls.{IsRead}
 use Rattle.hd_links.specs.Steps.{rows_of}
 use Rattle.hd_forest.proofs.Reading.{after-read}
 use Rattle.hd_keeping.specs.VolumeImages.{images_of}
 use Rattle.hd_position.specs.Kept.{Kept}
+use Rattle.hd_update.specs.Inserting.{LacksRoomFor}
 use Rattle.hd_update.specs.Positions.{unheld_at}
 use Rattle.hd_update.specs.States.{Represents}
 use Rattle.hd_update.proofs.Reading.{held_read}
@@ -34,34 +35,35 @@ use Rattle.hd_session.proofs.OwnSteps.{same_follows, step_as}
 
 -- ---- an accepted call
 
--- The function of an accepted call is the one that it names, and enough is held for it.
-pub record IsAccepted (rows : List Segment) (p : Position) (call : CallText) (a : AcceptedCall) : Type 0 where
+-- The function of an accepted call is the one that it names, PROCOPT allows it, and enough is held for it.
+pub record IsAccepted (s : Setting) (rows : List Segment) (p : Position) (call : CallText) (a : AcceptedCall) : Type 0 where
   pub named : function_of call.function ≡ Some a.function
+  pub allowed : is_allowed s rows p.held a.function a.ssas ≡ true
   pub held : holds_enough rows p.held a.function a.ssas ≡ true
 
 last_ok : (s : Setting) (rows : List Segment) (p : Position) (f : Function) (ssas : List Ssa) (a : AcceptedCall) → last_tests s rows p f ssas ≡ Ok a
-    → (record { function = f; ssas = ssas } ≡ a) × (holds_enough rows p.held f ssas ≡ true)
-last_ok s rows p f ssas a is = go (not (is_allowed s rows p.held f ssas)) (not (names_enough f ssas)) (holds_enough rows p.held f ssas) (not (looks_below_parent s.types rows p.parent f ssas)) is
+    → (record { function = f; ssas = ssas } ≡ a) × (is_allowed s rows p.held f ssas ≡ true) × (holds_enough rows p.held f ssas ≡ true)
+last_ok s rows p f ssas a is = go (is_allowed s rows p.held f ssas) (not (names_enough f ssas)) (holds_enough rows p.held f ssas) (not (looks_below_parent s.types rows p.parent f ssas)) is
   where
-    go : (m n h l : Bool) → cond m (Err AM) (cond n (Err AH) (cond (not h) (Err DJ) (cond l (Err GP) (Ok (record { function = f; ssas = ssas }))))) ≡ Ok a
-        → (record { function = f; ssas = ssas } ≡ a) × (h ≡ true)
-    go true n h l e = cc
-    go false true h l e = cc
-    go false false false l e = cc
-    go false false true true e = cc
-    go false false true false e = ((let same : record { function = f; ssas = ssas } ≡ a = cc in same), refl)
+    go : (m n h l : Bool) → cond (not m) (Err AM) (cond n (Err AH) (cond (not h) (Err DJ) (cond l (Err GP) (Ok (record { function = f; ssas = ssas }))))) ≡ Ok a
+        → (record { function = f; ssas = ssas } ≡ a) × (m ≡ true) × (h ≡ true)
+    go false n h l e = cc
+    go true true h l e = cc
+    go true false false l e = cc
+    go true false true true e = cc
+    go true false true false e = ((let same : record { function = f; ssas = ssas } ≡ a = cc in same), refl, refl)
 
-pub accepted_ok : (s : Setting) (rows : List Segment) (p : Position) (call : CallText) (a : AcceptedCall) → accepted_call s rows p call ≡ Ok a → IsAccepted rows p call a
+pub accepted_ok : (s : Setting) (rows : List Segment) (p : Position) (call : CallText) (a : AcceptedCall) → accepted_call s rows p call ≡ Ok a → IsAccepted s rows p call a
 accepted_ok s rows p call a is = by_function (function_of call.function) refl is
   where
-    by_ssas : (f : Function) → function_of call.function ≡ Some f → (r : Result (List Ssa) Status) → result_and_then r (λ ssas. last_tests s rows p f ssas) ≡ Ok a → IsAccepted rows p call a
+    by_ssas : (f : Function) → function_of call.function ≡ Some f → (r : Result (List Ssa) Status) → result_and_then r (λ ssas. last_tests s rows p f ssas) ≡ Ok a → IsAccepted s rows p call a
     by_ssas f named (Err status) e = cc
     by_ssas f named (Ok ssas) e =
         (let L = last_ok s rows p f ssas a e in
-        subst (λ (x : AcceptedCall). IsAccepted rows p call x) L.0 (record { named = named; held = L.1 }))
+        subst (λ (x : AcceptedCall). IsAccepted s rows p call x) L.0 (record { named = named; allowed = L.1; held = L.2 }))
 
     by_function : (o : Option Function) → function_of call.function ≡ o → result_and_then (ok_or o AD) (λ f. result_and_then (resolve s f call.ssas) (λ ssas. last_tests s rows p f ssas)) ≡ Ok a
-        → IsAccepted rows p call a
+        → IsAccepted s rows p call a
     by_function None named e = cc
     by_function (Some f) named e = by_ssas f named (resolve s f call.ssas) e
 
@@ -79,6 +81,17 @@ replace_held rows p a is held = elim (cases_lt 0 (length p.held)) [
 
 -- ---- steps
 
+-- a call's own work, by its parts
+pub own_is : (d : Database) (pcb : View) (number : ℕ) (st : State) (area area2 : List ℕ) (f g : Function) (ss xs : List Ssa) (a : AcceptedCall) → area ≡ area2 → ss ≡ xs → g ≡ f
+    → record { function = g; ssas = xs } ≡ a
+    → own_step (record { types = d.types; pcb = pcb }) st.rows (position_at st number) area f ss ≡ own_in d pcb number area2 a st
+own_is d pcb number st area area2 f g ss xs a areas args functions is =
+    let s : Setting = record { types = d.types; pcb = pcb } in
+    ap (λ (x : List ℕ). own_step s st.rows (position_at st number) x f ss) areas
+    ∙ ap (λ (x : List Ssa). own_step s st.rows (position_at st number) area2 f x) args
+    ∙ ap (λ (x : Function). own_step s st.rows (position_at st number) area2 x xs) (sym functions)
+    ∙ ap (λ (x : AcceptedCall). own_in d pcb number area2 x st) is
+
 -- a step after calls that only read is one before them
 pub step_before : {reply : Reply} (d : Database) (v mid : VolumeState) (st : State) (number : ℕ) (e : Effect) (w : VolumeState) (kept : List Kept) → mid.image ≡ v.image
     → IsStep d mid st number e reply w kept → IsStep d v st number e reply w kept
@@ -88,6 +101,17 @@ step_before d v mid st number e w kept image S = record {
   is = S.is;
   represents = S.represents;
   follows = subst (λ (x : List ℕ). Follows (images_of d) st.rows x S.change (state_after d.types st number e).rows w.image) image S.follows;
+}
+
+-- and room that lacks after them lacked before
+pub lacks_before : (d : Database) (v mid : VolumeState) (e : Effect) → mid.image ≡ v.image → LacksRoomFor d mid e → LacksRoomFor d v e
+lacks_before d v mid e image L = record {
+  reply = L.reply;
+  change = L.change;
+  own = L.own;
+  is = L.is;
+  blank = L.blank;
+  lacks = subst (λ (x : List ℕ). LacksRoom (images_of d) d.types x (rows_put_in L.change)) image L.lacks;
 }
 
 -- a status that changes nothing

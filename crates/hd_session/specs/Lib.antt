@@ -1,10 +1,9 @@
 pub mod Buffer
-pub mod Walk
-pub mod Place
-pub mod RowCalls
-pub mod Session
+pub mod Replies
 pub mod Giving
 pub mod Sessions
 pub mod Loads
 pub mod Inserts
 pub mod Opening
+pub mod Logged
+pub mod Laws

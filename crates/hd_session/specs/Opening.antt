@@ -10,7 +10,7 @@ use Rattle.hd_dbd.specs.Segment.{Segment}
 use Rattle.hd_dbd.specs.Rows.{valid}
 use Rattle.hd_dbd.specs.Forest.{Forest}
 use Rattle.hd_dbd.specs.declared.program.TypeName.{TypeName}
-use Rattle.hd_dbd.specs.ProgramRules.{type_names}
+use Rattle.hd_dbd.specs.ProgramRules.{type_names, program_fits}
 use Rattle.hd_calls.specs.Access.{loads}
 use Rattle.hd_calls.specs.Runs.{view_of}
 use Rattle.hd_calls.specs.Steps.{State, position_at}
@@ -48,10 +48,11 @@ pub record StandsForState (d : Database) (v : VolumeState) (pcbs : List View) (k
   pub represents : Represents d v kept state
   pub loaders : LoadersArePastAll pcbs state
 
--- What a session keeps to: its program is made for its database, the sizes are that database's, something is kept of each PCB; and while
--- it is not broken and its store is sound, it stands for a state.
+-- What a session keeps to: its program is made for its database and keeps to the rules, the sizes are that database's, something is kept of
+-- each PCB; and while it is not broken and its store is sound, it stands for a state.
 pub record IsSession (names : List TypeName) (s : SessionState) : Type 0 where
   pub made_for : names ≡ type_names s.database.types
+  pub program : IsTrue (program_fits names s.pcbs)
   pub size : s.volume.size ≡ s.database.block_size
   pub sizes : s.volume.sizes ≡ stored_sizes s.database.types
   pub one_each : length s.kept ≡ length s.pcbs

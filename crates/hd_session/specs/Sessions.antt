@@ -19,10 +19,11 @@ use Rattle.hd_get.specs.Gets.{GetCall, IsPositionIn, answer_to}
 use Rattle.hd_get.specs.declared.outcome.Outcome.{Outcome}
 use Rattle.hd_get.specs.declared.outcome.Outcome.TheVariants.{Found, Missing}
 use Rattle.hd_update.specs.Calls.{replace_effect, delete_effect}
+use Rattle.hd_update.specs.Inserting.{LacksRoomFor}
 use Rattle.hd_session.specs.Giving.{is_among}
 use Rattle.hd_update.specs.States.{Represents, IsUndone}
 use Rattle.hd_dbd.specs.declared.answer.Refused.{Refused}
-use Rattle.hd_dbd.specs.declared.answer.Refused.TheVariants.{Device}
+use Rattle.hd_dbd.specs.declared.answer.Refused.TheVariants.{Device, Full}
 
 -- ---- a call
 
@@ -95,3 +96,8 @@ call_in d pcb number call st = step d.types pcb st number call
 -- Where a refusal is not of a failed access, the volume's bytes and what is kept are as they were.
 abbrev pub IsUndoneUnlessDevice : VolumeState → List Kept → Refused → VolumeState → List Kept → Type 0
 IsUndoneUnlessDevice v old e w new = e ≢ Device → IsUndone v old w new
+
+-- Where the refusal is Full, the call would be answered with blanks, and room lacks for its rows, whatever state the sound volume and what
+-- was kept stood for.
+abbrev pub IsRoomLacking : Database → VolumeState → List Kept → (State → Effect) → Refused → Type 0
+IsRoomLacking d v old effect e = (st : State) → e ≡ Full → IsTrue v.is_sound → Represents d v old st → LacksRoomFor d v (effect st)

@@ -1,18 +1,26 @@
-ghost use Rattle.std.specs.Prelude.{◌≡◌, ◌≢◌, ◌<◌, ◌≤◌, None, Some, length, IsTrue, IfOk, IfErr};
+ghost use Rattle.std.specs.Prelude.{◌≡◌, ◌≢◌, ◌<◌, ◌≤◌, None, Ok, Some, bytes_eq, codes, length, true, IsTrue, IfOk, IfErr};
+ghost use Rattle.hd_dbd.specs.Facts.{stored_sizes};
 ghost use Rattle.hd_dbd.specs.Hierarchy.{longest_path};
+ghost use Rattle.hd_dbd.specs.Rows.{row_fits};
 ghost use Rattle.hd_volume.specs.Calls.{IsCall};
+ghost use Rattle.hd_calls.specs.Access.{loads};
 ghost use Rattle.hd_calls.specs.Functions.{function_of};
-ghost use Rattle.hd_seek.specs.Admits.{Descend};
+ghost use Rattle.hd_calls.specs.Ssas.{resolve};
+ghost use Rattle.hd_update.specs.Inserting.{insert_effect};
+ghost use Rattle.hd_update.specs.Loading.{HasPassedAll};
 ghost use Rattle.hd_update.specs.Positions.{unheld_at};
 ghost use Rattle.hd_update.specs.States.{HasState, IsAreaWrong, kept_of};
 ghost use Rattle.hd_dbd.specs.Calls.{bare};
-ghost use Rattle.hd_session.specs.RowCalls.{reply_of};
+ghost use Rattle.hd_session.specs.Replies.{reply_of};
 ghost use Rattle.hd_session.specs.Giving.{IsEmpty};
-ghost use Rattle.hd_session.specs.Sessions.{IsStepDone, IsUndoneUnlessDevice, own_in, call_in};
+ghost use Rattle.hd_session.specs.Inserts.{AreArgumentsOf};
+ghost use Rattle.hd_session.specs.Sessions.{IsStepDone, IsUndoneUnlessDevice, IsRoomLacking, own_in, call_in};
 
 use crate::buffer::IoArea;
 use crate::getting::answer_get;
 use crate::giving::give_none;
+use crate::inserting::answer_isrt;
+use crate::loading::answer_load;
 use crate::request::{Answer, Call};
 use crate::updating::{answer_dlet, answer_repl};
 use hd_accept::{Accepted, accept};
@@ -20,6 +28,7 @@ use hd_calls::Function;
 use hd_dbd::{Dbd, Pcb, Refused, Status};
 use hd_get::Get;
 use hd_position::Position;
+use hd_ssa::{ResolvedSsa, loads};
 use hd_volume::{BlockStore, Volume};
 use std::alloc::Global;
 
@@ -34,32 +43,74 @@ fn fail(positions: &mut [Position], number: usize, status: Status, io: &mut IoAr
     give_none(status, io)
 }
 
-/// What a call that passed its tests answers, where it is no ISRT.
+/// What an ISRT that passed its tests answers: where the PCB loads, that of a load. No area suits a call without an argument.
+fn answer_insert<S: BlockStore>(
+    volume: &mut Volume<S>,
+    dbd: &Dbd,
+    pcb: &Pcb,
+    positions: &mut [Position],
+    number: usize,
+    ssas: &[ResolvedSsa<'_>],
+    area: &[u8],
+    io: &mut IoArea,
+) -> Result<Answer, Refused>
+    requires number { (0 < number) × (number ≤ length positions.old) }
+    requires arguments { AreArgumentsOf dbd.now pcb.now ssas.now }
+    requires size { volume.old.size ≡ dbd.now.block_size }
+    requires sizes { volume.old.sizes ≡ stored_sizes dbd.now.types }
+    requires state { HasState dbd.now volume.old positions.old }
+    requires loader { loads pcb.now ≡ true → HasPassedAll dbd.now volume.old positions.old number }
+    requires room { longest_path dbd.now.types ≤ io.old.room }
+    requires empty { IsEmpty io.old }
+    ensures call { IsCall volume.old result volume.new }
+    ensures done { IfOk result (λ a. IsStepDone dbd.now volume.old positions.old number (insert_effect dbd.now pcb.now number ssas.now area.now) (reply_of a io.new) volume.new positions.new) }
+    ensures undone { IfErr result (λ e. IsUndoneUnlessDevice volume.old positions.old e volume.new positions.new) }
+    ensures area { IfErr result (λ e. IsAreaWrong dbd.now volume.old positions.old (insert_effect dbd.now pcb.now number ssas.now area.now) e) }
+    ensures full { IfErr result (λ e. IsRoomLacking dbd.now volume.old positions.old (insert_effect dbd.now pcb.now number ssas.now area.now) e) }
+    ensures refusal { IfErr result (λ e. e ≢ Refused.Broken) }
+    ensures empty { IfErr result (λ _. IsEmpty io.new) }
+    ensures same_room { io.new.room ≡ io.old.room }
+    ensures many { length positions.new ≡ length positions.old }
+{
+    if ssas.is_empty() {
+        return Err(Refused::Area);
+    }
+    if !loads(pcb) {
+        return answer_isrt(volume, dbd, positions, number, ssas, area, io);
+    }
+    answer_load(volume, dbd, positions, number, ssas[0].code(), area, io)
+}
+
+/// What a call that passed its tests answers.
 fn answer_accepted<S: BlockStore>(
     volume: &mut Volume<S>,
     dbd: &Dbd,
     pcb: &Pcb,
     positions: &mut [Position],
     number: usize,
+    call: &Call,
     accepted: &Accepted<'_>,
-    area: &[u8],
     io: &mut IoArea,
 ) -> Result<Answer, Refused>
     requires number { (0 < number) × (number ≤ length positions.old) }
+    requires size { volume.old.size ≡ dbd.now.block_size }
+    requires sizes { volume.old.sizes ≡ stored_sizes dbd.now.types }
     requires state { HasState dbd.now volume.old positions.old }
-    requires descend { Descend dbd.now.types None accepted.now.ssas }
+    requires loader { loads pcb.now ≡ true → HasPassedAll dbd.now volume.old positions.old number }
+    requires resolved { resolve (record { types = dbd.now.types; pcb = pcb.now }) accepted.now.function call.now.ssas ≡ Ok accepted.now.ssas }
     requires held { accepted.now.function ≡ Function.Replace → IsTrue volume.old.is_sound → 0 < length (kept_of positions.old number).held }
-    requires no_insert { IsTrue volume.old.is_sound → accepted.now.function ≢ Function.Insert }
     requires room { longest_path dbd.now.types ≤ io.old.room }
     requires empty { IsEmpty io.old }
     ensures call { IsCall volume.old result volume.new }
-    ensures done { IfOk result (λ a. IsStepDone dbd.now volume.old positions.old number (own_in dbd.now pcb.now number area.now accepted.now) (reply_of a io.new) volume.new positions.new) }
+    ensures done { IfOk result (λ a. IsStepDone dbd.now volume.old positions.old number (own_in dbd.now pcb.now number call.now.area accepted.now) (reply_of a io.new) volume.new positions.new) }
     ensures undone { IfErr result (λ e. IsUndoneUnlessDevice volume.old positions.old e volume.new positions.new) }
-    ensures area { IfErr result (λ e. IsAreaWrong dbd.now volume.old positions.old (own_in dbd.now pcb.now number area.now accepted.now) e) }
+    ensures area { IfErr result (λ e. IsAreaWrong dbd.now volume.old positions.old (own_in dbd.now pcb.now number call.now.area accepted.now) e) }
+    ensures full { IfErr result (λ e. IsRoomLacking dbd.now volume.old positions.old (own_in dbd.now pcb.now number call.now.area accepted.now) e) }
+    ensures refusal { IfErr result (λ e. e ≢ Refused.Broken) }
+    ensures memory { accepted.now.function ≢ Function.Insert → IfErr result (λ e. e ≢ Refused.Memory) }
     ensures empty { IfErr result (λ _. IsEmpty io.new) }
     ensures same_room { io.new.room ≡ io.old.room }
     ensures many { length positions.new ≡ length positions.old }
-    ensures memory { IfErr result (λ e. e ≢ Refused.Memory) }
 {
     let ssas = accepted.ssas.ssas();
     match accepted.function {
@@ -72,14 +123,15 @@ fn answer_accepted<S: BlockStore>(
             };
             answer_get(volume, dbd, positions, number, &call, io)
         }
-        Function::Replace => answer_repl(volume, dbd, positions, number, ssas, area, io),
-        Function::Insert | Function::Delete => {
-            answer_dlet(volume, dbd, positions, number, ssas, io)
+        Function::Insert => {
+            answer_insert(volume, dbd, pcb, positions, number, ssas, &call.area, io)
         }
+        Function::Replace => answer_repl(volume, dbd, positions, number, ssas, &call.area, io),
+        Function::Delete => answer_dlet(volume, dbd, positions, number, ssas, io),
     }
 }
 
-/// One call of the PCB of a number, counted from 1, where it is no ISRT: its tests in their order, and then its own work.
+/// One call of the PCB of a number, counted from 1: its tests in their order, and then its own work.
 pub fn call_step<S: BlockStore>(
     alloc: Global,
     volume: &mut Volume<S>,
@@ -91,17 +143,21 @@ pub fn call_step<S: BlockStore>(
     io: &mut IoArea,
 ) -> Result<Answer, Refused>
     requires number { (0 < number) × (number ≤ length positions.old) }
+    requires size { volume.old.size ≡ dbd.now.block_size }
+    requires sizes { volume.old.sizes ≡ stored_sizes dbd.now.types }
     requires state { HasState dbd.now volume.old positions.old }
-    requires no_insert { function_of call.now.function ≢ Some Function.Insert }
+    requires loader { loads pcb.now ≡ true → HasPassedAll dbd.now volume.old positions.old number }
     requires room { longest_path dbd.now.types ≤ io.old.room }
     ensures call { IsCall volume.old result volume.new }
     ensures done { IfOk result (λ a. IsStepDone dbd.now volume.old positions.old number (call_in dbd.now pcb.now number call.now) (reply_of a io.new) volume.new positions.new) }
     ensures undone { IfErr result (λ e. IsUndoneUnlessDevice volume.old positions.old e volume.new positions.new) }
     ensures area { IfErr result (λ e. IsAreaWrong dbd.now volume.old positions.old (call_in dbd.now pcb.now number call.now) e) }
+    ensures full { IfErr result (λ e. IsRoomLacking dbd.now volume.old positions.old (call_in dbd.now pcb.now number call.now) e) }
+    ensures refusal { IfErr result (λ e. e ≢ Refused.Broken) }
+    ensures memory { function_of call.now.function ≢ Some Function.Insert → length call.now.ssas ≤ 4 → IfErr result (λ e. e ≢ Refused.Memory) }
     ensures empty { IfErr result (λ _. IsEmpty io.new) }
     ensures same_room { io.new.room ≡ io.old.room }
     ensures many { length positions.new ≡ length positions.old }
-    ensures memory { length call.now.ssas ≤ 4 → IfErr result (λ e. e ≢ Refused.Memory) }
 {
     io.clear();
     match accept(
@@ -114,8 +170,6 @@ pub fn call_step<S: BlockStore>(
         &call.ssas,
     )? {
         Err(status) => Ok(fail(positions, number, status, io)),
-        Ok(accepted) => answer_accepted(
-            volume, dbd, pcb, positions, number, &accepted, &call.area, io,
-        ),
+        Ok(accepted) => answer_accepted(volume, dbd, pcb, positions, number, call, &accepted, io),
     }
 }

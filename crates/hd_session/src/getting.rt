@@ -5,7 +5,7 @@ ghost use Rattle.hd_volume.specs.Calls.{IsRead};
 ghost use Rattle.hd_seek.specs.Admits.{Descend};
 ghost use Rattle.hd_get.specs.Gets.{HasPosition};
 ghost use Rattle.hd_update.specs.States.{HasState};
-ghost use Rattle.hd_session.specs.RowCalls.{reply_of};
+ghost use Rattle.hd_session.specs.Replies.{reply_of};
 ghost use Rattle.hd_session.specs.Giving.{IsEmpty};
 ghost use Rattle.hd_session.specs.Sessions.{IsGetAnswered, IsStepDone, get_in};
 

@@ -1,10 +1,10 @@
-ghost use Rattle.std.specs.Prelude.{◌≡◌, ◌<◌, ◌≤◌, length, IfOk, IfErr};
+ghost use Rattle.std.specs.Prelude.{◌≡◌, ◌≢◌, ◌<◌, ◌≤◌, length, IfOk, IfErr};
 ghost use Rattle.hd_dbd.specs.Facts.{stored_sizes};
 ghost use Rattle.hd_dbd.specs.Hierarchy.{longest_path};
 ghost use Rattle.hd_volume.specs.Calls.{IsCall};
 ghost use Rattle.hd_update.specs.Inserting.{AreInsertArguments, IsInsertAreaWrong, IsInsertFull};
 ghost use Rattle.hd_update.specs.States.{HasState};
-ghost use Rattle.hd_session.specs.RowCalls.{reply_of};
+ghost use Rattle.hd_session.specs.Replies.{reply_of};
 ghost use Rattle.hd_session.specs.Giving.{IsEmpty};
 ghost use Rattle.hd_session.specs.Sessions.{IsUndoneUnlessDevice};
 ghost use Rattle.hd_session.specs.Inserts.{IsInsertStep};
@@ -44,6 +44,7 @@ pub fn answer_isrt<S: BlockStore>(
     ensures undone { IfErr result (λ e. IsUndoneUnlessDevice volume.old positions.old e volume.new positions.new) }
     ensures area { IfErr result (λ e. IsInsertAreaWrong dbd.now volume.old positions.old number ssas.now area.now e) }
     ensures full { IfErr result (λ e. IsInsertFull dbd.now volume.old positions.old number ssas.now area.now e) }
+    ensures refusal { IfErr result (λ e. e ≢ Refused.Broken) }
     ensures empty { IfErr result (λ _. IsEmpty io.new) }
     ensures same_room { io.new.room ≡ io.old.room }
     ensures many { length positions.new ≡ length positions.old }

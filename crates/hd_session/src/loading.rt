@@ -1,9 +1,9 @@
-ghost use Rattle.std.specs.Prelude.{◌≡◌, ◌<◌, ◌≤◌, length, is_some, true, IfOk, IfErr};
+ghost use Rattle.std.specs.Prelude.{◌≡◌, ◌≢◌, ◌<◌, ◌≤◌, length, is_some, true, IfOk, IfErr};
 ghost use Rattle.hd_dbd.specs.Facts.{stored_sizes};
 ghost use Rattle.hd_dbd.specs.Hierarchy.{longest_path, type_of};
 ghost use Rattle.hd_volume.specs.Calls.{IsCall};
 ghost use Rattle.hd_update.specs.Loading.{HasPassedAll, IsLoadAreaWrong, IsLoadFull};
-ghost use Rattle.hd_session.specs.RowCalls.{reply_of};
+ghost use Rattle.hd_session.specs.Replies.{reply_of};
 ghost use Rattle.hd_session.specs.Giving.{IsEmpty};
 ghost use Rattle.hd_session.specs.Sessions.{IsUndoneUnlessDevice};
 ghost use Rattle.hd_session.specs.Loads.{IsLoadStep};
@@ -40,7 +40,8 @@ pub fn answer_load<S: BlockStore>(
     ensures done { IfOk result (λ a. IsLoadStep dbd.now volume.old positions.old number code area.now (reply_of a io.new) volume.new positions.new) }
     ensures undone { IfErr result (λ e. IsUndoneUnlessDevice volume.old positions.old e volume.new positions.new) }
     ensures area { IfErr result (λ e. IsLoadAreaWrong dbd.now volume.old positions.old number code area.now e) }
-    ensures full { IfErr result (λ e. IsLoadFull dbd.now volume.old positions.old (record { code = code; bytes = area.now }) e) }
+    ensures full { IfErr result (λ e. IsLoadFull dbd.now volume.old positions.old number code area.now e) }
+    ensures refusal { IfErr result (λ e. e ≢ Refused.Broken) }
     ensures empty { IfErr result (λ _. IsEmpty io.new) }
     ensures same_room { io.new.room ≡ io.old.room }
     ensures many { length positions.new ≡ length positions.old }

@@ -1,10 +1,20 @@
-ghost use Rattle.std.specs.Prelude.{◌≡◌, IsTrue, IfOk, IfErr, OnOk, true};
+ghost use Rattle.std.specs.Prelude.{◌≡◌, ◌≢◌, ◌<◌, ◌≤◌, IsTrue, IfOk, IfErr, OnOk, Some, length, true};
 ghost use Rattle.hd_dbd.specs.Facts.{stored_sizes};
+ghost use Rattle.hd_dbd.specs.Hierarchy.{longest_path};
 ghost use Rattle.hd_dbd.specs.ProgramRules.{type_names};
+ghost use Rattle.hd_volume.specs.Calls.{IsCall};
 ghost use Rattle.hd_volume.specs.Stores.{CountsDevice, StaysSound};
+ghost use Rattle.hd_calls.specs.Functions.{function_of};
 ghost use Rattle.hd_session.specs.Opening.{session_at_start, IsOpenedOver, IsOpenFaultOf, IsOpenRead, was_broken, is_broken_by, OnlyDeviceOrBroken};
+ghost use Rattle.hd_session.specs.Giving.{IsEmpty};
+ghost use Rattle.hd_session.specs.Sessions.{IsUndoneUnlessDevice};
+ghost use Rattle.hd_session.specs.Logged.{IsCallLogged};
 
+use crate::buffer::IoArea;
+use crate::calling::call_step;
 use crate::opening::{OpenFault, start_positions, test_volume};
+use crate::request::{Answer, Call};
+use hd_calls::Function;
 use hd_dbd::{Dbd, Psb, Refused};
 use hd_position::Position;
 use hd_volume::{BlockStore, Volume};
@@ -21,6 +31,7 @@ pub struct Session<'a, S: BlockStore> {
     psb: &'a Psb,
     positions: Vec<Position>,
     broken: bool,
+    alloc: Global,
 }
 
 impl<'a, S: BlockStore> Model for Session<'a, S> {
@@ -60,6 +71,7 @@ impl<'a, S: BlockStore> Session<'a, S> {
                 psb,
                 positions,
                 broken: false,
+                alloc,
             }),
             Err(_) => Err((volume, OpenFault::Memory)),
         }
@@ -70,6 +82,47 @@ impl<'a, S: BlockStore> Session<'a, S> {
         ensures { result.now ≡ self.now.database }
     {
         self.dbd
+    }
+
+    /// One call of the PCB of a number, counted from 1, with key and area in `io`, which is one of the session's database; after a refusal
+    /// it is empty.
+    ///
+    /// `Area`, `Full` and `Memory` change nothing: the I/O area's bytes have not the length that the call asks, the volume has no room for
+    /// the rows, or no memory was found. `Device` says that an access failed in this call; from then on every call is `Broken`, whatever it
+    /// asks. GU, GN, GNP, their hold forms, REPL and DLET take no memory with four segment search arguments at most.
+    pub fn call(&mut self, pcb: u8, call: &Call, io: &mut IoArea) -> Result<Answer, Refused>
+        requires pcb { (0 < pcb) × (pcb ≤ length self.old.pcbs) }
+        requires room { longest_path self.old.database.types ≤ io.old.room }
+        ensures logged { IsCallLogged self.old pcb call.now result io.new self.new }
+        ensures undone { IfErr result (λ e. IsUndoneUnlessDevice self.old.volume self.old.kept e self.new.volume self.new.kept) }
+        ensures same { self.new ≡ record self.old { volume = self.new.volume; kept = self.new.kept; broken = is_broken_by result } }
+        ensures broken { self.old.broken ≡ was_broken result }
+        ensures untouched { self.old.broken ≡ true → self.new ≡ self.old }
+        ensures call { IsCall self.old.volume result self.new.volume }
+        ensures memory { function_of call.now.function ≢ Some Function.Insert → length call.now.ssas ≤ 4 → IfErr result (λ e. e ≢ Refused.Memory) }
+        ensures empty { IfErr result (λ _. IsEmpty io.new) }
+        ensures same_room { io.new.room ≡ io.old.room }
+    {
+        io.clear();
+        if self.broken {
+            return Err(Refused::Broken);
+        }
+        let number = pcb as usize;
+        let pcbs = self.psb.pcbs();
+        let answered = call_step(
+            self.alloc,
+            &mut self.volume,
+            self.dbd,
+            &pcbs[number - 1],
+            &mut self.positions,
+            number,
+            call,
+            io,
+        );
+        if let Err(refused) = &answered {
+            self.broken = *refused == Refused::Device;
+        }
+        answered
     }
 
     /// Writes to the store what stands only in memory.

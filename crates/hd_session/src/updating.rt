@@ -5,7 +5,7 @@ ghost use Rattle.hd_volume.specs.Calls.{IsCall, IsRead};
 ghost use Rattle.hd_get.specs.Gets.{HasPosition};
 ghost use Rattle.hd_update.specs.States.{HasState, IsUndone, kept_of};
 ghost use Rattle.hd_update.specs.Calls.{IsReplaceAreaWrong};
-ghost use Rattle.hd_session.specs.RowCalls.{reply_of};
+ghost use Rattle.hd_session.specs.Replies.{reply_of};
 ghost use Rattle.hd_session.specs.Giving.{IsEmpty};
 ghost use Rattle.hd_session.specs.Sessions.{IsLevelGiven, IsTold, IsReplaceStep, IsDeleteStep, lowest_level, deleted_level};
 

@@ -19,8 +19,8 @@ use Rattle.hd_calls.specs.Functions.{result_and_then}
 use Rattle.hd_calls.specs.Ssas.{Head, Ssa, heads_of, codes_of, codes_below, types_suit, read_ssa, read_ssas, first_inserted, first_inserted_from, first_inserted_of, first_inserted_head, steps_down}
 use Rattle.hd_calls.specs.Steps.{inserted_codes}
 use Rattle.hd_calls.proofs.FairCalls.{and_then_ok, or_ok}
-use Rattle.hd_calls.proofs.Resolving.{Resolved, IsResolvedCall, resolved_call}
-use Rattle.hd_calls.proofs.SoundInserts.{ChainCodes, above_code, chain_drop, resolved_typed}
+use Rattle.hd_calls.proofs.Resolving.{IsResolvedCall, resolved_call}
+use Rattle.hd_calls.proofs.SoundInserts.{ChainCodes, above_code, chain_drop, resolved_typed, same_commands}
 use Rattle.hd_links.proofs.Types.{above_some}
 use Rattle.hd_seek.specs.Admits.{Descend}
 use Rattle.hd_seek.proofs.Admitting.{resolved_descend}
@@ -104,13 +104,6 @@ descend_front types above (suc n) (a ∷ ssas) is = (is.0, descend_front types (
 
 pub front_descends : (types : List SegmentType) (ssas : List Ssa) (n : ℕ) → AreInsertArguments types ssas → Descend types None (take n ssas)
 front_descends types ssas n A = descend_front types None n ssas (resolved_descend (record { types = types; pcb = A.0 }) Insert A.1 ssas A.2)
-
-same_commands : (types : List SegmentType) (above : Option ℕ) (hs : List Head) (ssas : List Ssa) → Resolved types above hs ssas → map (λ h. h.commands) hs ≡ map (λ a. a.commands) ssas
-same_commands types above [] [] is = refl
-same_commands types above [] (a ∷ ssas) is = absurd is
-same_commands types above (h ∷ hs) [] is = absurd is
-same_commands types above (h ∷ hs) (a ∷ ssas) is =
-    ap (λ (c : Commands). c ∷ map (λ h. h.commands) hs) (sym is.0) ∙ ap (λ (cs : List Commands). a.commands ∷ cs) (same_commands types (Some a.code) hs ssas is.3)
 
 -- each inserted type stands, and is a child of the one before it
 pub inserted_chain : (types : List SegmentType) (ssas : List Ssa) → AreInsertArguments types ssas → ChainCodes types (above_code (first_inserted ssas) ssas) (inserted_codes ssas)

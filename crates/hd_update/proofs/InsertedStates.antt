@@ -1,14 +1,14 @@
 -- What an insertion does in a state.
-use Rattle.std.proofs.Common.{◌≡◌, ℕ, zero, suc, ◌+◌, ◌-◌, ◌<◌, ◌≤◌, List, [], ◌∷◌, ◌++◌, length, take, IsTrue, Ok, Option, Some, None, refl, ap, sym, ◌∙◌, subst, arith}
+use Rattle.std.proofs.Common.{◌≡◌, ℕ, ◌+◌, ◌-◌, ◌<◌, ◌≤◌, List, [], ◌∷◌, ◌++◌, length, IsTrue, Ok, Option, Some, None, refl, ap, sym, ◌∙◌, subst, arith}
 use Rattle.std.specs.Prelude.{map, slice_index_or, slice_set}
 use Rattle.std.specs.Option.{option_map_or}
 use Rattle.std.proofs.lemmas.List.{length-map, take_all}
-use Rattle.hd_dbd.specs.Types.{SegmentType, View}
+use Rattle.hd_dbd.specs.Types.{View}
 use Rattle.hd_dbd.specs.declared.answer.Status.TheVariants.{Blank}
 use Rattle.hd_dbd.specs.Hierarchy.{Database}
 use Rattle.hd_dbd.specs.Segment.{Segment}
 use Rattle.hd_dbd.specs.Rows.{level}
-use Rattle.hd_dbd.specs.Paths.{row_at, no_row, level_at, nearest_above, parent_row, path_of}
+use Rattle.hd_dbd.specs.Paths.{no_row, level_at, nearest_above, parent_row, path_of}
 use Rattle.hd_dbd.specs.Positions.{Position}
 use Rattle.hd_dbd.specs.Views.{Setting}
 use Rattle.hd_dbd.specs.Calls.{row_reply}
@@ -21,7 +21,6 @@ use Rattle.hd_volume.specs.Volumes.{VolumeState}
 use Rattle.hd_volume.specs.Calls.{IsRead}
 use Rattle.hd_links.specs.Placed.{Placed}
 use Rattle.hd_links.specs.LastRows.{segments_of}
-use Rattle.hd_links.specs.Numbers.{LeafGoesInAt}
 use Rattle.hd_links.specs.Steps.{rows_of, addresses, address_at, path_at}
 use Rattle.hd_links.proofs.Numbers.{rows_length}
 use Rattle.hd_image.specs.Records.{links_of}

@@ -18,7 +18,7 @@ pub mod RoomOf
 pub mod PathRows
 pub mod InsertedPaths
 pub mod InsertedStates
-pub mod InsertStates
+pub mod AskedInserts
 pub mod PlacedUnder
 pub mod UnderCalls
 pub mod FirstRows

@@ -20,6 +20,9 @@ use Rattle.hd_calls.specs.Gets.{unheld}
 use Rattle.hd_calls.specs.Moves.{Change, unchanged}
 use Rattle.hd_calls.specs.NoLostUpdate.{is_done}
 use Rattle.hd_calls.specs.Steps.{State, Effect, answered, wrong_area, bare_answer, position_at, divide, length_of, new_rows, insert_at, insert_or_load, load_step}
+use Rattle.hd_calls.specs.Runs.{LacksRoom}
+use Rattle.hd_keeping.specs.VolumeImages.{images_of}
+use Rattle.hd_update.specs.Inserting.{LacksRoomFor}
 use Rattle.hd_volume.specs.Volumes.{VolumeState}
 use Rattle.hd_volume.specs.Calls.{IsRead}
 use Rattle.hd_links.specs.Placed.{Placed}
@@ -186,3 +189,24 @@ module _ (d : Database) (code : ℕ) (area : List ℕ) (pcb : View) (ssas : List
         subst (λ (e : Effect). LoadAnswers e behind reply) (sym same) (answers_by (load_fault d.types (last_path d.types st.rows) new_row) (sym same ∙ is)))
     | inr unfit ↦ absurd (no_area reply change own (sym (loads_none d code area pcb ssas I st number typed unfit) ∙ is))
   ]
+
+-- ---- no room
+
+-- a row that may be loaded, and lacks room, is what the load would put in
+pub load_lacks : (d : Database) (pcb : View) (number code : ℕ) (ssas : List Ssa) (area : List ℕ) (v : VolumeState) (st : State) → InsertsOne pcb ssas code
+    → row_fits d.types (record { code = code; bytes = area }) ≡ true → load_fault d.types (last_path d.types st.rows) (record { code = code; bytes = area }) ≡ None
+    → LacksRoom (images_of d) d.types v.image (record { code = code; bytes = area } ∷ []) → LacksRoomFor d v (load_effect d pcb number ssas area st)
+load_lacks d pcb number code ssas area v st I fits none lacks =
+    let s : Setting = record { types = d.types; pcb = pcb } in
+    let p : Position = position_at st number in
+    let row : Segment = record { code = code; bytes = area } in
+    record {
+      reply = _;
+      change = _;
+      own = _;
+      is =
+          loads_row d code area pcb ssas I st number fits
+          ∙ ap (λ (o : Option LoadFault). option_map_or (λ fault. bare_answer p (status_of_load fault)) o (insert_at s st.rows p (row ∷ []) (length st.rows))) none;
+      blank = refl;
+      lacks = lacks;
+    }

@@ -4,12 +4,10 @@ use Rattle.std.specs.Prelude.{IfOk, IfErr, OnOk}
 use Rattle.std.proofs.lemmas.List.{length-append}
 use Rattle.hd_dbd.specs.declared.answer.Refused.{Refused}
 use Rattle.hd_dbd.specs.declared.answer.Refused.TheVariants.{Memory, Full, Device}
-use Rattle.hd_dbd.specs.Types.{SegmentType}
 use Rattle.hd_dbd.specs.Hierarchy.{Database}
 use Rattle.hd_dbd.specs.Prefixes.{stored_size}
 use Rattle.hd_dbd.specs.Rows.{row_fits}
 use Rattle.hd_dbd.specs.Segment.{Segment}
-use Rattle.hd_dbd.specs.Positions.{Position}
 use Rattle.hd_dbd.specs.Forest.{Forest}
 use Rattle.hd_calls.specs.Moves.{position_after_insert}
 use Rattle.hd_volume.specs.Stores.{StaysSound}
@@ -23,7 +21,7 @@ use Rattle.hd_forest.specs.Updates.{IsLinked}
 use Rattle.hd_keeping.specs.Rooms.{HasRoomFor, HasMemoryFor}
 use Rattle.hd_keeping.proofs.NewPaths.{go-on, goes-next}
 use Rattle.hd_keeping.proofs.Rooms.{first-rows, room-lasts}
-use Rattle.hd_position.specs.Kept.{Kept, StandsFor}
+use Rattle.hd_position.specs.Kept.{StandsFor}
 use Rattle.hd_position.specs.Laws.{MovesUp}
 use Rattle.hd_position.proofs.Adding.{insertions_add}
 use Rattle.hd_position.proofs.Leaves.{linking_moves}

@@ -1,5 +1,5 @@
 -- The rows of one ISRT: the first, and those below it.
-use Rattle.std.proofs.Common.{◌≡◌, ℕ, ◌-◌, ◌<◌, ◌≤◌, List, [], ◌∷◌, ◌++◌, length, take, drop, true, refl, sym, ap, ap₂, subst, ◌∙◌, inl, inr, arith}
+use Rattle.std.proofs.Common.{◌≡◌, ℕ, ◌-◌, ◌<◌, ◌≤◌, List, [], ◌∷◌, ◌++◌, length, take, drop, true, refl, sym, ap, ap₂, subst, ◌∙◌, arith}
 use Rattle.std.specs.Prelude.{map, slice_index_or, is_some}
 use Rattle.std.proofs.lemmas.Bool.{and_parts}
 use Rattle.std.proofs.lemmas.List.{append_assoc, take_all, length-drop, length-take-le}
@@ -15,20 +15,16 @@ use Rattle.hd_links.specs.Links.{Links}
 use Rattle.hd_links.specs.Placed.{Placed}
 use Rattle.hd_links.specs.Changes.{with_leaf}
 use Rattle.hd_links.specs.LastRows.{segments_of}
-use Rattle.hd_image.specs.Records.{links_of}
-use Rattle.hd_image.specs.Holding.{HoldsPlaced}
 use Rattle.hd_image.proofs.OneImage.{links-same, held-same}
 use Rattle.hd_forest.specs.Updates.{MayLink}
 use Rattle.hd_forest.specs.Walks.{tip}
 use Rattle.hd_keeping.specs.Rooms.{HasRoomFor, HasMemoryFor}
 use Rattle.hd_update.specs.Putting.{MayPut, IsPutIn}
 use Rattle.hd_update.specs.NewRows.{codes_of, has_length_for, rows_in, are_types, places_of, AreIn, AreMore, ArePutIn, GoDown, TakeMore}
+use Rattle.hd_update.proofs.RoomOf.{code_of_all}
 use Rattle.hd_update.proofs.RowsIn.{Begins, rows_begin, no_rows, part_fits, tip_pushed}
 
 -- ---- codes
-
-abbrev pub code_of_all : List Segment → List ℕ
-code_of_all rows = map (λ r. r.code) rows
 
 -- the rows of an area have the codes that were asked
 pub rows_codes : (types : List SegmentType) (codes : List ℕ) (area : List ℕ) → has_length_for types codes area ≡ true → code_of_all (rows_in types codes area) ≡ codes

@@ -1,5 +1,5 @@
 -- Rows that go in below a parent: where they stand, and that they are on one path.
-use Rattle.std.proofs.Common.{◌≡◌, ◌≢◌, ℕ, zero, suc, ◌+◌, ◌-◌, ◌<◌, ◌≤◌, List, [], ◌∷◌, length, take, drop, true, false, IsTrue, Option, Some, None, refl, ap, sym, ◌∙◌, subst, arith}
+use Rattle.std.proofs.Common.{◌≡◌, ◌≢◌, ℕ, zero, suc, ◌+◌, ◌<◌, ◌≤◌, List, [], ◌∷◌, length, take, drop, true, Option, Some, None, ap, sym, ◌∙◌, subst, arith}
 use Rattle.std.specs.Prelude.{option_map, IfSome, is_some}
 use Rattle.std.proofs.lemmas.Bool.{and_parts}
 use Rattle.hd_dbd.specs.declared.hierarchy.Rule.{Rule}
@@ -11,12 +11,12 @@ use Rattle.hd_dbd.specs.Paths.{row_at}
 use Rattle.hd_dbd.specs.Forest.{Forest}
 use Rattle.hd_dbd.proofs.Fitting.{level_of-at_most, types_fit}
 use Rattle.hd_dbd.proofs.LevelLaw.{Leveled, depth_below, leveled}
-use Rattle.hd_calls.specs.Places.{is_key_taken, insertion_point}
+use Rattle.hd_calls.specs.Places.{insertion_point}
 use Rattle.hd_calls.specs.Steps.{length_of}
 use Rattle.hd_calls.proofs.Inserting.{MayGoIn, parent_in}
 use Rattle.hd_calls.proofs.SoundInserts.{ChainRows, IsPlace, place_between, before_new, behind_new, chain_fit, chain_next}
 use Rattle.hd_volume.specs.Volumes.{VolumeState}
-use Rattle.hd_links.specs.Links.{Links, is_child_type}
+use Rattle.hd_links.specs.Links.{Links}
 use Rattle.hd_links.specs.Placed.{Placed}
 use Rattle.hd_links.specs.Steps.{rows_of, address_at}
 use Rattle.hd_links.proofs.Types.{Ordered, ordered, above_some, code_some}

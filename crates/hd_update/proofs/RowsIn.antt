@@ -8,7 +8,6 @@ use Rattle.hd_dbd.specs.Types.{SegmentType}
 use Rattle.hd_dbd.specs.Hierarchy.{Database, type_of}
 use Rattle.hd_dbd.specs.Rows.{row_fits}
 use Rattle.hd_dbd.specs.Segment.{Segment}
-use Rattle.hd_dbd.specs.Forest.{Forest}
 use Rattle.hd_calls.specs.Ssas.{Ssa}
 use Rattle.hd_calls.specs.Steps.{divide, length_of, new_rows}
 use Rattle.hd_volume.specs.Volumes.{VolumeState}

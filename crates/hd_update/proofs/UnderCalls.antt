@@ -1,5 +1,5 @@
 -- What rows that go in below a parent come to in a state.
-use Rattle.std.proofs.Common.{◌≡◌, ℕ, ◌+◌, ◌-◌, ◌<◌, ◌≤◌, List, ◌∷◌, [], length, true, false, IsTrue, Ok, Option, Some, None, refl, ap, ap₂, sym, ◌∙◌, subst, arith}
+use Rattle.std.proofs.Common.{◌≡◌, ℕ, ◌+◌, ◌-◌, ◌<◌, ◌≤◌, List, ◌∷◌, [], length, true, false, IsTrue, Ok, Option, refl, ap, ap₂, sym, ◌∙◌, subst, arith}
 use Rattle.std.proofs.lemmas.Bool.{cond-true, cond-false}
 use Rattle.std.specs.Prelude.{slice_index_or}
 use Rattle.hd_dbd.specs.declared.hierarchy.Rule.{Rule}
@@ -21,7 +21,6 @@ use Rattle.hd_volume.specs.Volumes.{VolumeState}
 use Rattle.hd_links.specs.Links.{Links}
 use Rattle.hd_links.specs.Placed.{Placed}
 use Rattle.hd_links.specs.Steps.{rows_of}
-use Rattle.hd_image.specs.Records.{links_of}
 use Rattle.hd_forest.specs.Updates.{MayLink}
 use Rattle.hd_forest.specs.Walks.{tip}
 use Rattle.hd_forest.proofs.Reading.{after-read}
@@ -31,7 +30,6 @@ use Rattle.hd_get.specs.Gets.{IsPositionIn}
 use Rattle.hd_update.specs.Inserting.{IsUnder, insert_under, IsPlaceFor, LacksRoomFor}
 use Rattle.hd_update.specs.NewRows.{GoDown}
 use Rattle.hd_update.specs.Places.{IsPlaceOf, IsPlaceFound, IsPlaceBelow}
-use Rattle.hd_update.specs.States.{Represents}
 use Rattle.hd_update.proofs.Answering.{represented}
 use Rattle.hd_update.proofs.PlacedUnder.{few_rows, placed_for}
 use Rattle.hd_update.proofs.Standing.{own_position}

@@ -13,7 +13,7 @@ use Rattle.hd_dbd.specs.Hierarchy.{Database, parent_of, level_of}
 use Rattle.hd_dbd.specs.Segment.{Segment}
 use Rattle.hd_dbd.specs.Rows.{level, key_of}
 use Rattle.hd_dbd.specs.Forest.{Forest}
-use Rattle.hd_dbd.specs.Loads.{last_path, has_unique_key, lacks_parent, order_fault, load_fault}
+use Rattle.hd_dbd.specs.Loads.{has_unique_key, lacks_parent, order_fault, load_fault}
 use Rattle.hd_calls.specs.Ssas.{Ssa}
 use Rattle.hd_calls.specs.Access.{loads}
 use Rattle.hd_calls.specs.Runs.{LacksRoom}
@@ -28,6 +28,7 @@ use Rattle.hd_keeping.specs.VolumeImages.{images_of}
 use Rattle.hd_position.specs.Kept.{Kept}
 use Rattle.hd_get.specs.declared.outcome.Outcome.{Outcome}
 use Rattle.hd_update.specs.Putting.{IsPutIn}
+use Rattle.hd_update.specs.Inserting.{LacksRoomFor}
 use Rattle.hd_update.specs.States.{Represents, IsAnswered, IsCallDone, IsAreaWrong}
 
 -- ---- the call
@@ -55,11 +56,11 @@ abbrev pub IsLoadAreaWrong : Database → VolumeState → List Kept → ℕ → 
 IsLoadAreaWrong d v old number code area e =
     (pcb : View) (ssas : List Ssa) → InsertsOne pcb ssas code → IsAreaWrong d v old (load_effect d pcb number ssas area) e
 
--- A load is refused as Full only where the row may be loaded, and the volume's bytes lack room for it.
-abbrev pub IsLoadFull : Database → VolumeState → List Kept → Segment → Refused → Type 0
-IsLoadFull d v old row e =
-    (st : State) → e ≡ Full → IsTrue v.is_sound → Represents d v old st
-    → (load_fault d.types (last_path d.types st.rows) row ≡ None) × LacksRoom (images_of d) d.types v.image (row ∷ [])
+-- a load is refused as Full only where it would be answered with blanks, and room lacks for its row
+abbrev pub IsLoadFull : Database → VolumeState → List Kept → ℕ → ℕ → List ℕ → Refused → Type 0
+IsLoadFull d v old number code area e =
+    (pcb : View) (ssas : List Ssa) (st : State) → InsertsOne pcb ssas code → e ≡ Full → IsTrue v.is_sound → Represents d v old st
+    → LacksRoomFor d v (load_effect d pcb number ssas area st)
 
 -- ---- the path of the last row
 

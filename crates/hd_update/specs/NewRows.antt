@@ -4,7 +4,6 @@ use Rattle.std.specs.List.{list_all}
 use Rattle.std.specs.Option.{option_map_or}
 use Rattle.hd_dbd.specs.Types.{SegmentType}
 use Rattle.hd_dbd.specs.declared.answer.Refused.{Refused}
-use Rattle.hd_dbd.specs.declared.answer.Refused.TheVariants.{Full}
 use Rattle.hd_dbd.specs.Hierarchy.{Database, type_of}
 use Rattle.hd_dbd.specs.Prefixes.{stored_size}
 use Rattle.hd_dbd.specs.Segment.{Segment}
@@ -13,7 +12,6 @@ use Rattle.hd_dbd.specs.Positions.{Position}
 use Rattle.hd_dbd.specs.Forest.{Forest}
 use Rattle.hd_calls.specs.Ssas.{Ssa}
 use Rattle.hd_calls.specs.Moves.{position_after_insert}
-use Rattle.hd_calls.specs.Runs.{LacksRoom}
 use Rattle.hd_calls.specs.Steps.{divide, length_of, new_rows}
 use Rattle.hd_volume.specs.Volumes.{VolumeState}
 use Rattle.hd_links.specs.Links.{is_child_type}
@@ -24,9 +22,8 @@ use Rattle.hd_image.specs.Holding.{HoldsPlaced}
 use Rattle.hd_forest.specs.Walks.{tip}
 use Rattle.hd_keeping.specs.NewPaths.{IsPathIn}
 use Rattle.hd_keeping.specs.Rooms.{HasRoomFor, HasMemoryFor, HasRootRoomFor, HasRootMemoryFor}
-use Rattle.hd_keeping.specs.VolumeImages.{images_of}
 use Rattle.hd_position.specs.Kept.{Kept, StandsFor}
-use Rattle.hd_update.specs.Putting.{HoldsSome, MayPut}
+use Rattle.hd_update.specs.Putting.{AreFullFor, MayPut}
 
 -- ---- the area
 
@@ -82,12 +79,12 @@ IsRoomLeft d v codes = (rows : List Segment) → map (λ r. r.code) rows ≡ cod
 -- rows of these types are refused as Full only where the volume's bytes lack room for them
 abbrev pub IsFullForTypes : Database → VolumeState → List ℕ → Refused → Type 0
 IsFullForTypes d v codes e =
-    (rows : List Segment) → map (λ r. r.code) rows ≡ codes → e ≡ Full → IsTrue v.is_sound → HoldsSome d v → LacksRoom (images_of d) d.types v.image rows
+    (rows : List Segment) → map (λ r. r.code) rows ≡ codes → AreFullFor d v rows e
 
 -- a row, with whatever rows of these types below it, is refused as Full only where the volume's bytes lack room for them
 abbrev pub IsFullWith : Database → VolumeState → Segment → List ℕ → Refused → Type 0
 IsFullWith d v row codes e =
-    (rows : List Segment) → map (λ r. r.code) rows ≡ codes → e ≡ Full → IsTrue v.is_sound → HoldsSome d v → LacksRoom (images_of d) d.types v.image (row ∷ rows)
+    (rows : List Segment) → map (λ r. r.code) rows ≡ codes → AreFullFor d v (row ∷ rows) e
 
 -- once the row went in, room and memory that there were for it and others below it last for these
 abbrev pub LastsForOthers : Database → VolumeState → Segment → VolumeState → Type 0
@@ -99,10 +96,6 @@ abbrev pub LastsBelow : Database → VolumeState → Segment → VolumeState →
 LastsBelow d v row w =
     (rows : List Segment) → IsTrue v.is_sound → HasRoomFor d.types v (row ∷ rows) → HasMemoryFor d.types v (row ∷ rows)
     → HasRoomFor d.types w rows × HasMemoryFor d.types w rows
-
--- rows are refused as Full only where the volume's bytes lack room for them
-abbrev pub AreFullFor : Database → VolumeState → List Segment → Refused → Type 0
-AreFullFor d v rows e = e ≡ Full → IsTrue v.is_sound → HoldsSome d v → LacksRoom (images_of d) d.types v.image rows
 
 -- ---- rows that are in
 

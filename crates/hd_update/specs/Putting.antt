@@ -17,10 +17,7 @@ use Rattle.hd_keeping.specs.Rooms.{HasRoomFor, HasMemoryFor, HasRootRoomFor, Has
 use Rattle.hd_keeping.specs.NewPaths.{IsPathIn}
 use Rattle.hd_keeping.specs.VolumeImages.{images_of}
 use Rattle.hd_position.specs.Laws.{MovesUp}
-
--- where the store is sound, the volume holds a forest
-abbrev pub HoldsSome : Database → VolumeState → Type 0
-HoldsSome d v = IsTrue v.is_sound → (f : Forest Placed) × HoldsPlaced d v f
+use Rattle.hd_get.specs.Starts.{HasRoots}
 
 -- The volume holds a forest in which a row may be linked below h behind its twin y.
 pub record MayPut (d : Database) (v : VolumeState) (h y : ℕ) (row : Segment) : Type 0 where
@@ -41,9 +38,13 @@ pub record IsPutIn (d : Database) (v : VolumeState) (f : Forest Placed) (h y : �
 abbrev pub PutsIn : Database → VolumeState → ℕ → ℕ → Segment → ℕ → VolumeState → Type 0
 PutsIn d v h y row a w = (f : Forest Placed) → IsTrue v.is_sound → HoldsPlaced d v f → IsPutIn d v f h y row a w
 
--- a row is refused as Full only where the volume's bytes lack room for it
+-- rows are refused as Full only where the volume's bytes lack room for them
+abbrev pub AreFullFor : Database → VolumeState → List Segment → Refused → Type 0
+AreFullFor d v rows e = e ≡ Full → IsTrue v.is_sound → HasRoots d v → LacksRoom (images_of d) d.types v.image rows
+
+-- so is one row
 abbrev pub IsFullFor : Database → VolumeState → Segment → Refused → Type 0
-IsFullFor d v row e = e ≡ Full → IsTrue v.is_sound → HoldsSome d v → LacksRoom (images_of d) d.types v.image (row ∷ [])
+IsFullFor d v row e = AreFullFor d v (row ∷ []) e
 
 -- ---- roots
 

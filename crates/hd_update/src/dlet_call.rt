@@ -18,6 +18,9 @@ use hd_volume::{BlockStore, Volume};
 /// DLET by the PCB of a number, counted from 1: the row that it holds of the argument's type, or the highest that it holds, leaves with
 /// all that depends on it, seen or not. DJ where it holds no such row. Every PCB that was on one of these rows goes back, parentage and
 /// hold there end, and so does the PCB's own hold. No memory is taken.
+///
+/// Each block of the rows that leave is read and written a few times, whatever their number. The twins before them are walked only where neither
+/// twin backward nor last child leads to the one before, and the index only for a root.
 pub fn dlet<S: BlockStore>(
     volume: &mut Volume<S>,
     dbd: &Dbd,

@@ -1,4 +1,4 @@
-ghost use Rattle.std.specs.Prelude.{◌≡◌, ◌+◌, ◌<◌, ◌≤◌, ◌∷◌, length, drop, is_some, None, true, IsTrue, IfOk, IfErr};
+ghost use Rattle.std.specs.Prelude.{◌≡◌, ◌≢◌, ◌+◌, ◌<◌, ◌≤◌, ◌∷◌, length, drop, is_some, None, true, IsTrue, IfOk, IfErr};
 ghost use Rattle.hd_dbd.specs.Facts.{stored_sizes};
 ghost use Rattle.hd_dbd.specs.Hierarchy.{type_of};
 ghost use Rattle.hd_dbd.specs.DatabaseRules.{well_formed};
@@ -8,7 +8,8 @@ ghost use Rattle.hd_calls.specs.Places.{rule_under, rule_of};
 ghost use Rattle.hd_calls.specs.Ssas.{first_inserted};
 ghost use Rattle.hd_seek.specs.Admits.{Descend};
 ghost use Rattle.hd_get.specs.Gets.{HasPosition};
-ghost use Rattle.hd_update.specs.NewRows.{codes_of, first_code, has_length_for, rows_in, are_types, AreFullFor};
+ghost use Rattle.hd_update.specs.NewRows.{codes_of, first_code, has_length_for, rows_in, are_types};
+ghost use Rattle.hd_update.specs.Putting.{AreFullFor};
 ghost use Rattle.hd_update.specs.Inserting.{AreInsertArguments, IsInsertDone, IsInsertAreaWrong, IsInsertFull, StepDown, IsTargetAbove, IsParentAsked, HasParentFor, AreInsertedUnder, IsFullUnder, HasPlaceFor, AreInserted};
 ghost use Rattle.hd_update.specs.States.{HasState, IsUndone};
 
@@ -192,6 +193,7 @@ pub fn isrt<S: BlockStore>(
     ensures undone { IfErr result (λ _. IsUndone volume.old positions.old volume.new positions.new) }
     ensures area { IfErr result (λ e. IsInsertAreaWrong dbd.now volume.old positions.old number ssas.now area.now e) }
     ensures full { IfErr result (λ e. IsInsertFull dbd.now volume.old positions.old number ssas.now area.now e) }
+    ensures refusal { IfErr result (λ e. e ≢ Refused.Broken) }
 {
     let first = first_inserted(ssas);
     let inserted = &ssas[first..];

@@ -193,12 +193,13 @@ fn has_rows<S: BlockStore>(volume: &mut Volume<S>, dbd: &Dbd, pcb: &Pcb) -> Resu
     Ok(get(volume, dbd, &call, &mut position)? == Outcome::Missing(Status::GB))
 }
 
-/// Whether each call came to what it should, and whether the rows are then the right ones.
+/// Whether each call came to what it should, and, where they are all cases, whether the rows are then the right ones.
 fn watch<S: BlockStore>(
     alloc: Global,
     volume: &mut Volume<S>,
     dbd: &Dbd,
     pcb: &Pcb,
+    cases: &[Case],
 ) -> Result<(bool, bool), Refused>
     requires unsound { volume.old.is_sound ≡ false }
     requires size { volume.old.size ≡ dbd.now.block_size }
@@ -217,11 +218,11 @@ fn watch<S: BlockStore>(
         Levels::new(),
     )?;
     let mut right = true;
-    for case in &CASES {
+    for case in cases {
         let outcome = insert(alloc, volume, dbd, pcb, &mut positions, case)?;
         right = right && outcome == case.outcome;
     }
-    let all = has_rows(volume, dbd, pcb)?;
+    let all = cases.len() == CASES.len() && has_rows(volume, dbd, pcb)?;
     Ok((right, all))
 }
 
@@ -232,6 +233,7 @@ fn run<L: Ledger>(
     blank: Blank,
     dbd: &Dbd,
     pcb: &Pcb,
+    cases: &[Case],
     passes: u64,
 ) -> io::Result<(Result<(bool, bool), Refused>, u64)>
     requires name { blank.name ≡ L.name }
@@ -245,7 +247,7 @@ fn run<L: Ledger>(
         Ok(volume) => volume,
         Err((store, refused)) => return Ok((Err(refused), store.accesses())),
     };
-    let seen = watch(alloc, &mut volume, dbd, pcb);
+    let seen = watch(alloc, &mut volume, dbd, pcb, cases);
     Ok((seen, volume.into_store().accesses()))
 }
 
@@ -255,6 +257,7 @@ fn run_on(
     name: &str,
     dbd: &Dbd,
     pcb: &Pcb,
+    cases: &[Case],
     passes: u64,
 ) -> io::Result<(Result<(bool, bool), Refused>, u64)>
     requires { dbd.now.block_size ≡ 128 }
@@ -263,16 +266,34 @@ fn run_on(
     new.read(true).write(true).create(true).truncate(true);
     let mut file = new.open(rt, name)?;
     file.write_all(&image())?;
-    run::<Brand>(rt.alloc(), file, Blank::new(1), dbd, pcb, passes)
+    run::<Brand>(rt.alloc(), file, Blank::new(1), dbd, pcb, cases, passes)
 }
 
 #[test]
 fn puts_rows_in(rt: HostRuntime) -> Result<(), Fail> {
     let dbd = database(rt.alloc()).expect(&rt, "a database");
     let pcb = writer(rt.alloc())?;
-    let (seen, _) = run_on(&rt, "inserted", &dbd, &pcb, u64::MAX)?;
+    let (seen, _) = run_on(&rt, "inserted", &dbd, &pcb, &CASES, u64::MAX)?;
     assert_eq!(rt; seen.expect(&rt, "answers"), (true, true));
     fs::remove_file(&rt, "inserted")?;
+    Ok(())
+}
+
+/// The places of the cases whose preceding twin is known: the parent is on the path of the PCB's row, and says its last child of the type.
+const BEHIND_A_KNOWN_TWIN: [usize; 2] = [0, 7];
+
+#[test]
+fn inserts_behind_a_known_twin_with_ten_accesses(rt: HostRuntime) -> Result<(), Fail> {
+    let dbd = database(rt.alloc()).expect(&rt, "a database");
+    let pcb = writer(rt.alloc())?;
+    for place in BEHIND_A_KNOWN_TWIN {
+        let alone = &CASES[place..place + 1];
+        let (_, before) = run_on(&rt, "counted_insert", &dbd, &pcb, &[], u64::MAX)?;
+        let (_, behind) = run_on(&rt, "counted_insert", &dbd, &pcb, alone, u64::MAX)?;
+        let accesses = behind.saturating_sub(before);
+        assert!(rt; accesses <= 10, "{accesses} at {place}");
+    }
+    fs::remove_file(&rt, "counted_insert")?;
     Ok(())
 }
 
@@ -280,9 +301,9 @@ fn puts_rows_in(rt: HostRuntime) -> Result<(), Fail> {
 fn answers_device_at_each_access_of_an_insertion(rt: HostRuntime) -> Result<(), Fail> {
     let dbd = database(rt.alloc()).expect(&rt, "a database");
     let pcb = writer(rt.alloc())?;
-    let (_, all) = run_on(&rt, "inserted_in_part", &dbd, &pcb, u64::MAX)?;
+    let (_, all) = run_on(&rt, "inserted_in_part", &dbd, &pcb, &CASES, u64::MAX)?;
     for passes in 0..all {
-        let (seen, _) = run_on(&rt, "inserted_in_part", &dbd, &pcb, passes)?;
+        let (seen, _) = run_on(&rt, "inserted_in_part", &dbd, &pcb, &CASES, passes)?;
         assert_eq!(rt; seen.map(|_| ()), Err(Refused::Device));
     }
     fs::remove_file(&rt, "inserted_in_part")?;

@@ -1,4 +1,4 @@
-ghost use Rattle.std.specs.Prelude.{◌≡◌, ◌<◌, ◌≤◌, length, is_some, true, IsTrue, IfOk, IfErr};
+ghost use Rattle.std.specs.Prelude.{◌≡◌, ◌≢◌, ◌<◌, ◌≤◌, length, is_some, true, IsTrue, IfOk, IfErr};
 ghost use Rattle.hd_dbd.specs.Facts.{stored_sizes};
 ghost use Rattle.hd_dbd.specs.Hierarchy.{type_of};
 ghost use Rattle.hd_dbd.specs.Rows.{row_fits};
@@ -100,7 +100,8 @@ pub fn load_row<S: BlockStore>(
     ensures done { IfOk result (λ o. IsLoadDone dbd.now volume.old positions.old number code area.now o volume.new positions.new) }
     ensures undone { IfErr result (λ _. IsUndone volume.old positions.old volume.new positions.new) }
     ensures area { IfErr result (λ e. IsLoadAreaWrong dbd.now volume.old positions.old number code area.now e) }
-    ensures full { IfErr result (λ e. IsLoadFull dbd.now volume.old positions.old (record { code = code; bytes = area.now }) e) }
+    ensures full { IfErr result (λ e. IsLoadFull dbd.now volume.old positions.old number code area.now e) }
+    ensures refusal { IfErr result (λ e. e ≢ Refused.Broken) }
 {
     if !is_whole(dbd, code, area) {
         return Err(Refused::Area);

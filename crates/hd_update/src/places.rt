@@ -8,7 +8,7 @@ ghost use Rattle.hd_volume.specs.Calls.{IsRead};
 ghost use Rattle.hd_image.specs.Records.{links_of};
 ghost use Rattle.hd_get.specs.Meeting.{IsStored};
 ghost use Rattle.hd_get.specs.Searches.{IsOf};
-ghost use Rattle.hd_update.specs.Putting.{HoldsSome};
+ghost use Rattle.hd_get.specs.Starts.{HasRoots};
 ghost use Rattle.hd_update.specs.Places.{has_key, side_of, side_at, IsGapBelow, HasParent, is_equal_at, standing_path, IsStandingTwin, HasRowOf, IsBeforeEqual, HasNextRoot, HasPlace, IsPlaceBelow};
 
 use crate::judging::key_order;
@@ -208,7 +208,7 @@ fn place_of_root<S: BlockStore>(
     dbd: &Dbd,
     bytes: &[u8],
 ) -> Result<Option<u32>, Refused>
-    requires holds { HoldsSome dbd.now volume.old }
+    requires holds { HasRoots dbd.now volume.old }
     ensures read { IsRead volume.old result volume.new }
     ensures value { IfOk result (λ r. IsGapBelow dbd.now volume.old 0 false (record { code = 1; bytes = bytes.now }) r) }
     ensures refusal { OnlyDevice result }

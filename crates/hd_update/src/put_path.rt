@@ -3,8 +3,8 @@ ghost use Rattle.hd_dbd.specs.Facts.{stored_sizes};
 ghost use Rattle.hd_dbd.specs.Refusals.{OnlyRoomOrDevice};
 ghost use Rattle.hd_dbd.specs.Rows.{row_fits};
 ghost use Rattle.hd_volume.specs.Calls.{IsCall};
-ghost use Rattle.hd_update.specs.Putting.{PutsIn, MayPut};
-ghost use Rattle.hd_update.specs.NewRows.{codes_of, has_length_for, rows_in, are_types, IsRoomLeft, IsFullWith, AreFullFor, PutThemIn, MayPutThem};
+ghost use Rattle.hd_update.specs.Putting.{PutsIn, MayPut, AreFullFor};
+ghost use Rattle.hd_update.specs.NewRows.{codes_of, has_length_for, rows_in, are_types, IsRoomLeft, IsFullWith, PutThemIn, MayPutThem};
 
 use crate::new_rows::{put_first, put_others};
 use crate::putting::put_row;

@@ -19,6 +19,8 @@ use hd_volume::{BlockStore, Volume};
 /// does that of every other PCB that holds such a row. No memory is taken.
 ///
 /// `Area` says that the area is not as long as the held rows; nothing is changed then.
+///
+/// The blocks of the held rows are read and written, and no other.
 pub fn repl<S: BlockStore>(
     volume: &mut Volume<S>,
     dbd: &Dbd,

@@ -6,7 +6,7 @@ ghost use Rattle.hd_volume.specs.Rooms.{spare, HasHole};
 ghost use Rattle.hd_volume.specs.Volumes.{IsFormatted};
 ghost use Rattle.hd_index.specs.Changes.{IsIndexOf};
 ghost use Rattle.hd_update.specs.NewRows.{codes_of, sizes_of, IsRoomMade, IsFullForTypes};
-ghost use Rattle.hd_update.specs.Putting.{HoldsSome};
+ghost use Rattle.hd_get.specs.Starts.{HasRoots};
 ghost use Rattle.hd_update.specs.Room.{HasRoom, HasRootRoom};
 
 use hd_dbd::{Dbd, Refused};
@@ -129,7 +129,7 @@ pub fn make_room<S: BlockStore>(
     requires some { 0 < length ssas.now }
     requires few { length ssas.now ≤ 15 }
     requires size { volume.old.size ≡ dbd.now.block_size }
-    requires holds { HoldsSome dbd.now volume.old }
+    requires holds { HasRoots dbd.now volume.old }
     ensures call { IsCall volume.old result volume.new }
     ensures image { IsTrue volume.new.is_sound → volume.new.image ≡ volume.old.image }
     ensures made { OnOk result (IsTrue volume.old.is_sound → IsRoomMade dbd.now volume.new (codes_of ssas.now) bytes.now) }

@@ -2,6 +2,7 @@ use super::testing::{
     NOTHING, Parts, expect, play_words, refusals_of_growth, remove, sample_with, words_of,
 };
 use super::*;
+use crate::sample;
 use hd_sample::put;
 use std::fs;
 use std::test::Fail;

@@ -1,5 +1,6 @@
 use super::testing::{expect, play_words, refusals_of_growth, remove, sample_with, words_of};
 use super::*;
+use crate::sample;
 use hd_sample::{RECORDS, stream_of};
 use std::fs::{self, Permissions};
 use std::os::unix::fs::PermissionsExt;
@@ -341,7 +342,8 @@ fn asks_for_one_block_to_65_536(rt: HostRuntime) -> Result<(), Fail> {
         (&["check", "dbd"], "<VOLUME>"),
         (&["unload", "dbd", "volume"], "<OUT>"),
         (&["check", "dbd", "volume", "more"], "'more'"),
-        (&["deck"], "'deck'"),
+        (&["deck", "dbd", "psb", "volume"], "<DECK>"),
+        (&["change"], "'change'"),
         (&["check", "--all"], "'--all'"),
     ] {
         let end = play_words(&rt, words)?;

@@ -1,7 +1,8 @@
 use super::testing::{Played, refusals_of_growth};
 use super::*;
+use crate::sample;
 use hd_dbd::{DbdFault, PsbFault, Refused};
-use hd_deck::{DeckFault, RunFault};
+use hd_deck::DeckFault;
 use hd_gen::GenFault;
 use std::alloc::AllocError;
 use std::io;
@@ -32,32 +33,9 @@ fn keeps_a_position_for_each_pcb(rt: HostRuntime) {
         b"S 2\r\nL     GN\r\n* back to PCB 1\r\nS 1\r\nL   2 GN\r\nL     GNP",
     );
     let want =
-        b"1 2 GN   [  ] 01 COURSE   key=101 area=101ALGEB\n2 1 GN   [  ] 01 COURSE   key=101 area=101ALGEB\n3 1 GN   [  ] 02 CLASS    key=10101 area=01AB\n4 1 GNP  [AD] 00          key= area=\n";
+        b"1 2 GN   [  ] 01 COURSE   key=101 area=101ALGEB\n2 1 GN   [  ] 01 COURSE   key=101 area=101ALGEB\n3 1 GN   [  ] 02 CLASS    key=10101 area=01AB\n4 1 GNP  [  ] 03 STUD     key=10101ADAM area=ADAM01\n";
     assert_eq!(rt; end.out.as_slice(), want.as_slice());
     assert_eq!(rt; end.status, 0);
-}
-
-#[test]
-fn finds_nothing_in_an_empty_database(rt: HostRuntime) {
-    let mut input: &[u8] = b"L     GU\nL     GN\nL     GU   COURSE";
-    let mut out = Vec::new(rt.alloc());
-    let rows = Vec::new(rt.alloc());
-    let end = play_rows(rt.alloc(), rows, &mut input, &mut out);
-    let want =
-        b"1 1 GU   [GE] 00          key= area=\n2 1 GN   [GB] 00          key= area=\n3 1 GU   [AJ] 00          key= area=\n";
-    assert!(rt; end.is_ok());
-    assert_eq!(rt; out.as_slice(), want.as_slice());
-}
-
-#[test]
-fn refuses_rows_out_of_sequence(rt: HostRuntime) {
-    let mut input: &[u8] = b"L     GN";
-    let mut out = Vec::new(rt.alloc());
-    let mut rows = sample::rows(rt.alloc()).expect(&rt, "memory");
-    rows.reverse();
-    let end = play_rows(rt.alloc(), rows, &mut input, &mut out);
-    assert_eq!(rt; end.err().map(|stop| stop.status()), Some(1));
-    assert_eq!(rt; out.len(), 0);
 }
 
 #[test]
@@ -256,9 +234,7 @@ fn words_refusals_as_a_person_reads_them(rt: HostRuntime) {
         (Stop::database(GenFault::Memory), "no memory", 4),
         (Stop::program(GenFault::Memory), "no memory", 4),
         (Stop::from(DeckFault::Memory), "no memory", 4),
-        (Stop::from(RunFault::Memory), "no memory", 4),
         (Stop::from(Refused::Memory), "no memory", 4),
-        (Stop::from(RunFault::Write), "device failed", 3),
         (Stop::from(AllocError), "no memory", 4),
         (
             Stop::words(&io::Error::from(ErrorKind::OutOfMemory)),
@@ -270,7 +246,6 @@ fn words_refusals_as_a_person_reads_them(rt: HostRuntime) {
             "a word of the command line is not UTF-8",
             64,
         ),
-        (Stop::Sample, "sample is not in hierarchic sequence", 1),
     ] {
         assert_eq!(rt;
             stop.to_string(rt.alloc()).expect(&rt, "memory").as_str(),

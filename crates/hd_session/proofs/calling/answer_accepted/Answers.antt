@@ -1,53 +1,76 @@
-use Rattle.std.proofs.Common.{◌≡◌, ℕ, List, ap, sym, ◌∙◌, inl, inr}
-use Rattle.hd_dbd.specs.Views.{Setting}
+use Rattle.std.proofs.Common.{ℕ, refl, sym, ap, ◌∙◌, subst}
+use Rattle.hd_dbd.specs.Calls.{CallText}
 use Rattle.hd_volume.proofs.CallSteps.{if-ok}
-use Rattle.hd_calls.specs.declared.call.Function.{Function}
-use Rattle.hd_calls.specs.declared.call.Function.TheVariants.{Get, Replace, Delete}
-use Rattle.hd_calls.specs.Ssas.{Ssa}
-use Rattle.hd_calls.specs.Steps.{AcceptedCall, own_step, position_at}
+use Rattle.hd_volume.proofs.JoinLemmas.{if-err-map}
+use Rattle.hd_calls.specs.declared.call.Function.TheVariants.{Get, Insert, Replace, Delete}
+use Rattle.hd_calls.specs.Steps.{AcceptedCall, Effect}
+use Rattle.hd_seek.proofs.Admitting.{resolved_descend}
+use Rattle.hd_update.specs.Inserting.{LacksRoomFor}
 use Rattle.hd_session.specs.Sessions.{own_in}
 use Rattle.hd_session.proofs.OwnSteps.{step_as}
+use Rattle.hd_session.proofs.TestedCalls.{own_is}
 use Rattle.hd_session.proofs.calling.answer_accepted.Goals as goal
+
+pub answer_get-requires-clause-descend : goal.answer_get-requires-clause-descend
+answer_get-requires-clause-descend g c =
+    let d = c.args.dbd.now in
+    rw (c.ssas-ssas.ensures, ap (λ (x : AcceptedCall). x.ssas) c.accepted.view_is)
+    (resolved_descend (record { types = d.types; pcb = c.args.pcb.now }) c.args.accepted.now.function c.args.call.now.ssas c.args.accepted.now.ssas c.requires.resolved)
 
 pub returns-in-Get-clause-done : goal.returns-in-Get-clause-done
 returns-in-Get-clause-done g c = if-ok c.answer_get.result c.answer_get.ensures.done (λ a done st sound R.
     let d = c.args.dbd.now in
     let n : ℕ = c.args.number in
-    let s : Setting = record { types = d.types; pcb = c.args.pcb.now } in
-    let area : List ℕ = c.args.area.now in
-    let get : Function = Get c.in-Get.kind c.in-Get.hold in
-    let same : own_step s st.rows (position_at st n) area get c.ssas-ssas.result.now ≡ own_in d c.args.pcb.now n area c.args.accepted.now st
-    = ap (λ (ss : List Ssa). own_step s st.rows (position_at st n) area get ss) c.ssas-ssas.ensures
-    ∙ ap (λ (f : Function). own_step s st.rows (position_at st n) area f c.accepted.inside.ssas) (sym c.in-Get.is)
-    ∙ ap (λ (x : AcceptedCall). own_in d c.args.pcb.now n area x st) c.accepted.view_is in
-    step_as d c.args.volume.now st n (own_step s st.rows (position_at st n) area get c.ssas-ssas.result.now) (own_in d c.args.pcb.now n area c.args.accepted.now st)
-    c.answer_get.new.volume c.answer_get.new.positions same (done st sound R))
+    step_as d c.args.volume.now st n _ (own_in d c.args.pcb.now n c.args.call.now.area c.args.accepted.now st) c.answer_get.new.volume c.answer_get.new.positions
+    (own_is d c.args.pcb.now n st c.args.call.now.area c.args.call.now.area (Get c.in-Get.kind c.in-Get.hold) c.accepted.inside.function c.ssas-ssas.result.now c.accepted.inside.ssas c.args.accepted.now
+    refl c.ssas-ssas.ensures c.in-Get.is c.accepted.view_is) (done st sound R))
+
+-- ---- ISRT
+
+pub returns-in-Insert-clause-done : goal.returns-in-Insert-clause-done
+returns-in-Insert-clause-done g c = if-ok c.answer_insert.result c.answer_insert.ensures.done (λ a done st sound R.
+    let d = c.args.dbd.now in
+    let n : ℕ = c.args.number in
+    step_as d c.args.volume.now st n _ (own_in d c.args.pcb.now n c.args.call.now.area c.args.accepted.now st) c.answer_insert.new.volume c.answer_insert.new.positions
+    (own_is d c.args.pcb.now n st c.deref.result.now c.args.call.now.area Insert c.accepted.inside.function c.ssas-ssas.result.now c.accepted.inside.ssas c.args.accepted.now
+    (c.deref.ensures.value ∙ ap (λ (x : CallText). x.area) c.call.view_is) c.ssas-ssas.ensures c.in-Insert.is c.accepted.view_is) (done st sound R))
+
+pub returns-in-Insert-clause-area : goal.returns-in-Insert-clause-area
+returns-in-Insert-clause-area g c = if-err-map c.answer_insert.result (λ e area st is sound R.
+    let d = c.args.dbd.now in
+    let n : ℕ = c.args.number in
+    sym (own_is d c.args.pcb.now n st c.deref.result.now c.args.call.now.area Insert c.accepted.inside.function c.ssas-ssas.result.now c.accepted.inside.ssas c.args.accepted.now
+    (c.deref.ensures.value ∙ ap (λ (x : CallText). x.area) c.call.view_is) c.ssas-ssas.ensures c.in-Insert.is c.accepted.view_is) ∙ area st is sound R) c.answer_insert.ensures.area
+
+pub returns-in-Insert-clause-full : goal.returns-in-Insert-clause-full
+returns-in-Insert-clause-full g c = if-err-map c.answer_insert.result (λ e full st is sound R.
+    let d = c.args.dbd.now in
+    let n : ℕ = c.args.number in
+    subst (λ (x : Effect). LacksRoomFor d c.args.volume.now x)
+    (own_is d c.args.pcb.now n st c.deref.result.now c.args.call.now.area Insert c.accepted.inside.function c.ssas-ssas.result.now c.accepted.inside.ssas c.args.accepted.now
+    (c.deref.ensures.value ∙ ap (λ (x : CallText). x.area) c.call.view_is) c.ssas-ssas.ensures c.in-Insert.is c.accepted.view_is) (full st is sound R)) c.answer_insert.ensures.full
+
+-- ---- REPL and DLET
 
 pub returns-in-Replace-clause-done : goal.returns-in-Replace-clause-done
 returns-in-Replace-clause-done g c = if-ok c.answer_repl.result c.answer_repl.ensures.done (λ a done st sound R.
     let d = c.args.dbd.now in
     let n : ℕ = c.args.number in
-    let s : Setting = record { types = d.types; pcb = c.args.pcb.now } in
-    let area : List ℕ = c.args.area.now in
-    let same : own_step s st.rows (position_at st n) area Replace c.ssas-ssas.result.now ≡ own_in d c.args.pcb.now n area c.args.accepted.now st
-    = ap (λ (ss : List Ssa). own_step s st.rows (position_at st n) area Replace ss) c.ssas-ssas.ensures
-    ∙ ap (λ (f : Function). own_step s st.rows (position_at st n) area f c.accepted.inside.ssas) (sym c.in-Replace.is)
-    ∙ ap (λ (x : AcceptedCall). own_in d c.args.pcb.now n area x st) c.accepted.view_is in
-    step_as d c.args.volume.now st n (own_step s st.rows (position_at st n) area Replace c.ssas-ssas.result.now) (own_in d c.args.pcb.now n area c.args.accepted.now st)
-    c.answer_repl.new.volume c.answer_repl.new.positions same (done c.args.pcb.now st sound R))
+    step_as d c.args.volume.now st n _ (own_in d c.args.pcb.now n c.args.call.now.area c.args.accepted.now st) c.answer_repl.new.volume c.answer_repl.new.positions
+    (own_is d c.args.pcb.now n st c.deref-in-Replace.result.now c.args.call.now.area Replace c.accepted.inside.function c.ssas-ssas.result.now c.accepted.inside.ssas c.args.accepted.now
+    (c.deref-in-Replace.ensures.value ∙ ap (λ (x : CallText). x.area) c.call.view_is) c.ssas-ssas.ensures c.in-Replace.is c.accepted.view_is) (done c.args.pcb.now st sound R))
 
-pub returns-in-Insert-clause-done : goal.returns-in-Insert-clause-done
-returns-in-Insert-clause-done g c = if-ok c.answer_dlet.result c.answer_dlet.ensures.done (λ a done st sound R. elim c.in-Insert.is [
-  | inl insert ↦ absurd (c.requires.no_insert sound (ap (λ (x : AcceptedCall). x.function) (sym c.accepted.view_is) ∙ insert))
-  | inr delete ↦
-      (let d = c.args.dbd.now in
-      let n : ℕ = c.args.number in
-      let s : Setting = record { types = d.types; pcb = c.args.pcb.now } in
-      let area : List ℕ = c.args.area.now in
-      let same : own_step s st.rows (position_at st n) area Delete c.ssas-ssas.result.now ≡ own_in d c.args.pcb.now n area c.args.accepted.now st
-      = ap (λ (ss : List Ssa). own_step s st.rows (position_at st n) area Delete ss) c.ssas-ssas.ensures
-      ∙ ap (λ (f : Function). own_step s st.rows (position_at st n) area f c.accepted.inside.ssas) (sym delete)
-      ∙ ap (λ (x : AcceptedCall). own_in d c.args.pcb.now n area x st) c.accepted.view_is in
-      step_as d c.args.volume.now st n (own_step s st.rows (position_at st n) area Delete c.ssas-ssas.result.now) (own_in d c.args.pcb.now n area c.args.accepted.now st)
-      c.answer_dlet.new.volume c.answer_dlet.new.positions same (done c.args.pcb.now st sound R))
-])
+pub returns-in-Replace-clause-area : goal.returns-in-Replace-clause-area
+returns-in-Replace-clause-area g c = if-err-map c.answer_repl.result (λ e area st is sound R.
+    let d = c.args.dbd.now in
+    let n : ℕ = c.args.number in
+    sym (own_is d c.args.pcb.now n st c.deref-in-Replace.result.now c.args.call.now.area Replace c.accepted.inside.function c.ssas-ssas.result.now c.accepted.inside.ssas c.args.accepted.now
+    (c.deref-in-Replace.ensures.value ∙ ap (λ (x : CallText). x.area) c.call.view_is) c.ssas-ssas.ensures c.in-Replace.is c.accepted.view_is) ∙ area c.args.pcb.now st is sound R) c.answer_repl.ensures.area
+
+pub returns-in-Delete-clause-done : goal.returns-in-Delete-clause-done
+returns-in-Delete-clause-done g c = if-ok c.answer_dlet.result c.answer_dlet.ensures.done (λ a done st sound R.
+    let d = c.args.dbd.now in
+    let n : ℕ = c.args.number in
+    step_as d c.args.volume.now st n _ (own_in d c.args.pcb.now n c.args.call.now.area c.args.accepted.now st) c.answer_dlet.new.volume c.answer_dlet.new.positions
+    (own_is d c.args.pcb.now n st c.args.call.now.area c.args.call.now.area Delete c.accepted.inside.function c.ssas-ssas.result.now c.accepted.inside.ssas c.args.accepted.now
+    refl c.ssas-ssas.ensures c.in-Delete.is c.accepted.view_is) (done c.args.pcb.now st sound R))

@@ -1,21 +1,20 @@
-use Rattle.std.proofs.Common.{◌≡◌, ℕ, ◌-◌, ◌<◌, List, length, map, Ok, Err, Some, ap, sym, subst, ◌∙◌, arith}
+use Rattle.std.proofs.Common.{◌≡◌, ℕ, ◌-◌, ◌<◌, List, length, map, Ok, Err, ap, sym, subst, ◌∙◌, arith}
 use Rattle.std.specs.Prelude.{slice_index_or}
 use Rattle.hd_dbd.specs.Calls.{CallText}
 use Rattle.hd_volume.proofs.CallSteps.{if-ok}
 use Rattle.hd_volume.proofs.JoinLemmas.{if-err-map}
 use Rattle.hd_links.specs.Steps.{rows_of}
-use Rattle.hd_calls.specs.declared.call.Function.{Function}
-use Rattle.hd_calls.specs.Steps.{accepted_call, position_at}
+use Rattle.hd_calls.specs.Steps.{Effect, accepted_call, position_at}
 use Rattle.hd_forest.proofs.Reading.{after-read, sound-before}
 use Rattle.hd_accept.specs.Tests.{AreResolved}
 use Rattle.hd_position.specs.Kept.{Kept, kept_start}
-use Rattle.hd_seek.proofs.Admitting.{resolved_descend}
+use Rattle.hd_update.specs.Inserting.{LacksRoomFor}
 use Rattle.hd_update.proofs.Answering.{represented}
 use Rattle.hd_update.proofs.Levels.{as_many}
 use Rattle.hd_update.proofs.Standing.{own_position, own_stands}
 use Rattle.hd_session.specs.Sessions.{own_in, call_in}
 use Rattle.hd_session.proofs.OwnSteps.{step_as}
-use Rattle.hd_session.proofs.TestedCalls.{accepted_ok, replace_held, step_before, own_effect, failed_step}
+use Rattle.hd_session.proofs.TestedCalls.{accepted_ok, replace_held, step_before, lacks_before, own_effect, failed_step}
 use Rattle.hd_session.proofs.calling.call_step.Goals as goal
 
 pub accept-requires-clause-there : goal.accept-requires-clause-there
@@ -32,9 +31,23 @@ answer_accepted-requires-clause-state g c now =
     let T = c.requires.state sound in
     (T.0, represented c.args.dbd.now c.args.volume.now c.accept.new.volume c.args.positions.now T.0 c.in_ok-status.ensures.read sound T.1)
 
-pub answer_accepted-requires-clause-descend : goal.answer_accepted-requires-clause-descend
-answer_accepted-requires-clause-descend g c =
-    resolved_descend (record { types = c.args.dbd.now.types; pcb = c.args.pcb.now }) c.in-Ok.accepted.function (map (λ w. w.items) c.deref.result.now) c.in-Ok.accepted.ssas (subst (AreResolved c.args.dbd.now c.args.pcb.now (map (λ w. w.items) c.deref.result.now)) c.in-Ok.is c.in_ok-status.ensures.resolved)
+pub answer_accepted-requires-clause-size : goal.answer_accepted-requires-clause-size
+answer_accepted-requires-clause-size g c = c.in_ok-status.ensures.read.call.size ∙ c.requires.size
+
+pub answer_accepted-requires-clause-sizes : goal.answer_accepted-requires-clause-sizes
+answer_accepted-requires-clause-sizes g c = c.in_ok-status.ensures.read.call.sizes ∙ c.requires.sizes
+
+pub answer_accepted-requires-clause-loader : goal.answer_accepted-requires-clause-loader
+answer_accepted-requires-clause-loader g c loader now =
+    let sound = sound-before c.args.volume.now c.accept.new.volume c.in_ok-status.ensures.read now in
+    let T = c.requires.loader loader sound in
+    (T.0, represented c.args.dbd.now c.args.volume.now c.accept.new.volume c.args.positions.now T.0 c.in_ok-status.ensures.read sound T.1, T.2)
+
+pub answer_accepted-requires-clause-resolved : goal.answer_accepted-requires-clause-resolved
+answer_accepted-requires-clause-resolved g c =
+    subst (λ (texts : List (List ℕ)). AreResolved c.args.dbd.now c.args.pcb.now texts (Ok c.in-Ok.accepted))
+    (ap (map (λ w. w.items)) c.deref.ensures.value ∙ ap (λ (x : CallText). x.ssas) c.call.view_is)
+    (subst (AreResolved c.args.dbd.now c.args.pcb.now (map (λ w. w.items) c.deref.result.now)) c.in-Ok.is c.in_ok-status.ensures.resolved)
 
 pub answer_accepted-requires-clause-held : goal.answer_accepted-requires-clause-held
 answer_accepted-requires-clause-held g c is now =
@@ -51,19 +64,6 @@ answer_accepted-requires-clause-held g c is now =
     let some : 0 < length (position_at T.0 n).held = replace_held (rows_of T.1.placed) (position_at T.0 n) c.in-Ok.accepted is A.held in
     let many = as_many _ (slice_index_or old (n - 1) kept_start).held (position_at T.0 n).held S.held in
     omega (arith, some, many)
-
-pub answer_accepted-requires-clause-no_insert : goal.answer_accepted-requires-clause-no_insert
-answer_accepted-requires-clause-no_insert g c now is =
-    let d = c.args.dbd.now in
-    let u = c.args.volume.now in
-    let old : List Kept = c.args.positions.now in
-    let n : ℕ = c.args.number in
-    let sound = sound-before u c.accept.new.volume c.in_ok-status.ensures.read now in
-    let T = c.requires.state sound in
-    let at = own_position d u old T.0 n T.1 c.requires.number.0 c.requires.number.1 sound c.index-positions-number.result in
-    let tested : accepted_call (record { types = d.types; pcb = c.args.pcb.now }) (rows_of T.1.placed) (position_at T.0 n) c.args.call.now ≡ Ok c.in-Ok.accepted = rw (← c.call.view_is, ← c.deref.ensures.value) (c.in_ok-status.ensures.value T.1.placed (position_at T.0 n) c.call.inside.area.items at ∙ c.in-Ok.is) in
-    let A = accepted_ok (record { types = d.types; pcb = c.args.pcb.now }) (rows_of T.1.placed) (position_at T.0 n) c.args.call.now c.in-Ok.accepted tested in
-    c.requires.no_insert (A.named ∙ ap (λ (f : Function). Some f) is)
 
 pub returns-in-Err-clause-done : goal.returns-in-Err-clause-done
 returns-in-Err-clause-done g c st sound R =
@@ -85,10 +85,10 @@ returns-in-Ok-clause-done g c = if-ok c.answer_accepted.result c.answer_accepted
     let same = after-read d u c.accept.new.volume c.in_ok-status.ensures.read sound in
     let at = own_position d u old st n R c.requires.number.0 c.requires.number.1 sound c.index-positions-number.result in
     let tested : accepted_call (record { types = d.types; pcb = c.args.pcb.now }) (rows_of R.placed) (position_at st n) c.args.call.now ≡ Ok c.in-Ok.accepted = rw (← c.call.view_is, ← c.deref.ensures.value) (c.in_ok-status.ensures.value R.placed (position_at st n) c.call.inside.area.items at ∙ c.in-Ok.is) in
-    let effect : own_in d c.args.pcb.now n c.deref-in-Ok.result.now c.in-Ok.accepted st ≡ call_in d c.args.pcb.now n c.args.call.now st
-    = ap (λ (ar : List ℕ). own_in d c.args.pcb.now n ar c.in-Ok.accepted st) (c.deref-in-Ok.ensures.value ∙ ap (λ (x : CallText). x.area) c.call.view_is) ∙ own_effect d c.args.pcb.now n c.args.call.now u old st R c.in-Ok.accepted tested in
+    let effect : own_in d c.args.pcb.now n c.args.call.now.area c.in-Ok.accepted st ≡ call_in d c.args.pcb.now n c.args.call.now st
+    = own_effect d c.args.pcb.now n c.args.call.now u old st R c.in-Ok.accepted tested in
     step_before d u c.accept.new.volume st n (call_in d c.args.pcb.now n c.args.call.now st) c.answer_accepted.new.volume c.answer_accepted.new.positions same.image
-    (step_as d c.accept.new.volume st n (own_in d c.args.pcb.now n c.deref-in-Ok.result.now c.in-Ok.accepted st) (call_in d c.args.pcb.now n c.args.call.now st) c.answer_accepted.new.volume c.answer_accepted.new.positions effect
+    (step_as d c.accept.new.volume st n (own_in d c.args.pcb.now n c.args.call.now.area c.in-Ok.accepted st) (call_in d c.args.pcb.now n c.args.call.now st) c.answer_accepted.new.volume c.answer_accepted.new.positions effect
     (done st same.sound (represented d u c.accept.new.volume old st c.in_ok-status.ensures.read sound R))))
 
 pub returns-in-Ok-clause-area : goal.returns-in-Ok-clause-area
@@ -100,6 +100,20 @@ returns-in-Ok-clause-area g c = if-err-map c.answer_accepted.result (λ e area s
     let same = after-read d u c.accept.new.volume c.in_ok-status.ensures.read sound in
     let at = own_position d u old st n R c.requires.number.0 c.requires.number.1 sound c.index-positions-number.result in
     let tested : accepted_call (record { types = d.types; pcb = c.args.pcb.now }) (rows_of R.placed) (position_at st n) c.args.call.now ≡ Ok c.in-Ok.accepted = rw (← c.call.view_is, ← c.deref.ensures.value) (c.in_ok-status.ensures.value R.placed (position_at st n) c.call.inside.area.items at ∙ c.in-Ok.is) in
-    let effect : own_in d c.args.pcb.now n c.deref-in-Ok.result.now c.in-Ok.accepted st ≡ call_in d c.args.pcb.now n c.args.call.now st
-    = ap (λ (ar : List ℕ). own_in d c.args.pcb.now n ar c.in-Ok.accepted st) (c.deref-in-Ok.ensures.value ∙ ap (λ (x : CallText). x.area) c.call.view_is) ∙ own_effect d c.args.pcb.now n c.args.call.now u old st R c.in-Ok.accepted tested in
+    let effect : own_in d c.args.pcb.now n c.args.call.now.area c.in-Ok.accepted st ≡ call_in d c.args.pcb.now n c.args.call.now st
+    = own_effect d c.args.pcb.now n c.args.call.now u old st R c.in-Ok.accepted tested in
     sym effect ∙ area st is same.sound (represented d u c.accept.new.volume old st c.in_ok-status.ensures.read sound R)) c.answer_accepted.ensures.area
+
+pub returns-in-Ok-clause-full : goal.returns-in-Ok-clause-full
+returns-in-Ok-clause-full g c = if-err-map c.answer_accepted.result (λ e full st is sound R.
+    let d = c.args.dbd.now in
+    let u = c.args.volume.now in
+    let old : List Kept = c.args.positions.now in
+    let n : ℕ = c.args.number in
+    let same = after-read d u c.accept.new.volume c.in_ok-status.ensures.read sound in
+    let at = own_position d u old st n R c.requires.number.0 c.requires.number.1 sound c.index-positions-number.result in
+    let tested : accepted_call (record { types = d.types; pcb = c.args.pcb.now }) (rows_of R.placed) (position_at st n) c.args.call.now ≡ Ok c.in-Ok.accepted = rw (← c.call.view_is, ← c.deref.ensures.value) (c.in_ok-status.ensures.value R.placed (position_at st n) c.call.inside.area.items at ∙ c.in-Ok.is) in
+    let effect : own_in d c.args.pcb.now n c.args.call.now.area c.in-Ok.accepted st ≡ call_in d c.args.pcb.now n c.args.call.now st
+    = own_effect d c.args.pcb.now n c.args.call.now u old st R c.in-Ok.accepted tested in
+    subst (λ (x : Effect). LacksRoomFor d u x) effect (lacks_before d u c.accept.new.volume (own_in d c.args.pcb.now n c.args.call.now.area c.in-Ok.accepted st) same.image
+    (full st is same.sound (represented d u c.accept.new.volume old st c.in_ok-status.ensures.read sound R)))) c.answer_accepted.ensures.full

@@ -6,7 +6,7 @@ use Rattle.hd_get.specs.declared.outcome.Outcome.{Outcome}
 use Rattle.hd_get.specs.declared.outcome.Outcome.TheVariants.{Found, Missing}
 use Rattle.hd_position.specs.Kept.{Kept}
 use Rattle.hd_update.specs.Inserting.{IsInsertDone}
-use Rattle.hd_session.specs.RowCalls.{reply_of}
+use Rattle.hd_session.specs.Replies.{reply_of}
 use Rattle.hd_session.proofs.OwnSteps.{if_ok_read}
 use Rattle.hd_session.proofs.InsertReplies.{inserted_in, went_step, none_step}
 use Rattle.hd_session.proofs.inserting.answer_isrt.Goals as goal

@@ -6,7 +6,7 @@ use Rattle.hd_get.specs.declared.outcome.Outcome.{Outcome}
 use Rattle.hd_get.specs.declared.outcome.Outcome.TheVariants.{Found, Missing}
 use Rattle.hd_position.specs.Kept.{Kept}
 use Rattle.hd_update.specs.Loading.{IsLoadDone}
-use Rattle.hd_session.specs.RowCalls.{reply_of}
+use Rattle.hd_session.specs.Replies.{reply_of}
 use Rattle.hd_session.proofs.OwnSteps.{if_ok_read}
 use Rattle.hd_session.proofs.LoadedRows.{loaded_in, loaded_step, missed_step}
 use Rattle.hd_session.proofs.loading.answer_load.Goals as goal

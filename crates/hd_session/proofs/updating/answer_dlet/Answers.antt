@@ -8,7 +8,7 @@ use Rattle.hd_forest.proofs.Reading.{sound-before}
 use Rattle.hd_position.specs.Kept.{Kept}
 use Rattle.hd_update.proofs.Answering.{represented}
 use Rattle.hd_update.proofs.Standing.{own_position}
-use Rattle.hd_session.specs.RowCalls.{reply_of}
+use Rattle.hd_session.specs.Replies.{reply_of}
 use Rattle.hd_session.specs.Sessions.{deleted_level}
 use Rattle.hd_session.proofs.UpdateReplies.{deleted_step}
 use Rattle.hd_session.proofs.updating.answer_dlet.Goals as goal

@@ -6,7 +6,7 @@ use Rattle.hd_forest.proofs.Reading.{after-read, sound-before}
 use Rattle.hd_position.specs.Kept.{Kept, kept_start}
 use Rattle.hd_update.proofs.Answering.{represented}
 use Rattle.hd_update.proofs.Standing.{own_position}
-use Rattle.hd_session.specs.RowCalls.{reply_of}
+use Rattle.hd_session.specs.Replies.{reply_of}
 use Rattle.hd_session.specs.Sessions.{lowest_level}
 use Rattle.hd_session.proofs.UpdateReplies.{replaced_step}
 use Rattle.hd_session.proofs.updating.replace_held.Goals as goal

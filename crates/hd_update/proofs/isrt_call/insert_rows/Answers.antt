@@ -1,11 +1,10 @@
-use Rattle.std.proofs.Common.{◌≡◌, ℕ, ◌-◌, ◌+◌, List, length, IsTrue, Ok, sym, subst, arith}
+use Rattle.std.proofs.Common.{◌-◌, ◌+◌, length, IsTrue, Ok, subst, arith}
 use Rattle.hd_volume.proofs.CallSteps.{sound-back, call-ok}
 use Rattle.hd_volume.proofs.JoinLemmas.{calls-join}
 use Rattle.hd_image.specs.Records.{links_of}
 use Rattle.hd_position.specs.Inserts.{StandsOnNew}
 use Rattle.hd_position.specs.Kept.{Kept, kept_start}
 use Rattle.std.proofs.lemmas.List.{get_or_default}
-use Rattle.hd_update.specs.States.{kept_of}
 use Rattle.hd_update.specs.NewRows.{codes_of, rows_in}
 use Rattle.hd_update.proofs.InsertedStates.{on_last, rows_inserted}
 use Rattle.hd_update.proofs.isrt_call.insert_rows.Goals as goal

@@ -1,9 +1,8 @@
-use Rattle.std.proofs.Common.{◌≡◌, ℕ, ◌+◌, ◌-◌, ◌≤◌, ◌∷◌, List, [], length, take, drop, true, false, IsTrue, Option, Some, None, Ok, refl, sym, ap, subst, ◌∙◌, arith}
+use Rattle.std.proofs.Common.{◌≡◌, ℕ, ◌+◌, ◌≤◌, ◌∷◌, List, length, take, drop, true, Option, refl, sym, ap, subst, ◌∙◌, arith}
 use Rattle.std.specs.Prelude.{slice_index}
 use Rattle.std.proofs.lemmas.List.{length-map}
 use Rattle.hd_dbd.specs.declared.answer.Status.TheVariants.{II}
 use Rattle.hd_dbd.specs.Hierarchy.{Database}
-use Rattle.hd_dbd.specs.Types.{View}
 use Rattle.hd_dbd.specs.Segment.{Segment}
 use Rattle.hd_calls.specs.Ssas.{Ssa}
 use Rattle.hd_calls.specs.Runs.{LacksRoom}
@@ -19,12 +18,12 @@ use Rattle.hd_keeping.specs.VolumeImages.{images_of}
 use Rattle.hd_position.specs.Kept.{Kept}
 use Rattle.hd_get.specs.declared.outcome.Outcome.TheVariants.{Missing}
 use Rattle.hd_update.specs.Inserting.{IsUnder, StepDown, insert_under}
-use Rattle.hd_update.specs.NewRows.{codes_of, first_code, rows_in, GoDown}
+use Rattle.hd_update.specs.NewRows.{codes_of, first_code, rows_in}
 use Rattle.hd_update.specs.Places.{IsPlaceFound, IsPlaceOf}
 use Rattle.hd_update.specs.Positions.{unheld_at}
 use Rattle.hd_update.specs.States.{IsAnswered}
 use Rattle.hd_update.proofs.Answering.{answered_as, answered_before, bare_answered, represented}
-use Rattle.hd_update.proofs.PathRows.{AreFirstAndOthers, first_and_others}
+use Rattle.hd_update.proofs.PathRows.{first_and_others}
 use Rattle.hd_update.proofs.PlacedUnder.{go_down}
 use Rattle.hd_update.proofs.UnderCalls.{found, own_at, under_taken, under_free, few, placed, lacks}
 use Rattle.hd_update.proofs.isrt_call.insert_under.Goals as goal

@@ -12,7 +12,7 @@ use Rattle.hd_update.specs.Inserting.{IsParentAsked, IsInsertDone}
 use Rattle.hd_update.specs.NewRows.{codes_of, first_code, has_length_for, rows_in}
 use Rattle.hd_update.proofs.InsertArguments.{within, front_descends, code_typed, target, some_left, few_left, typed_left, steps_left, codes_left, first_is, there, one_code}
 use Rattle.hd_update.proofs.InsertCalls.{area_wrong}
-use Rattle.hd_update.proofs.InsertStates.{IsCut, cut_at, answered_none, has_parent, done_below, full_below}
+use Rattle.hd_update.proofs.AskedInserts.{IsCut, cut_at, answered_none, has_parent, done_below, full_below}
 use Rattle.hd_update.proofs.Standing.{own_position}
 use Rattle.hd_update.proofs.isrt_call.isrt.Goals as goal
 

@@ -15,7 +15,7 @@ use Rattle.hd_update.specs.Positions.{unheld_at}
 use Rattle.hd_update.specs.States.{IsAnswered}
 use Rattle.hd_update.proofs.Answering.{answered_as, answered_before, represented}
 use Rattle.hd_update.proofs.LastPaths.{last_read}
-use Rattle.hd_update.proofs.LoadSteps.{loads_row, loads_none, path_kept, fault_in, fault_answered}
+use Rattle.hd_update.proofs.LoadSteps.{load_lacks, loads_row, loads_none, path_kept, fault_in, fault_answered}
 use Rattle.hd_update.proofs.load_call.load_row.Goals as goal
 
 pub returns-then-not-is_whole-clause-area : goal.returns-then-not-is_whole-clause-area
@@ -74,7 +74,7 @@ returns-clause-done g c = if-ok c.load_behind.result c.load_behind.ensures.done 
     (done pcb st same.sound (represented d v mid old st c.in_ok-fault.ensures.read sound R))))
 
 pub returns-clause-full : goal.returns-clause-full
-returns-clause-full g c = if-err-map c.load_behind.result (λ e full st is sound R.
+returns-clause-full g c = if-err-map c.load_behind.result (λ e full pcb ssas st I is sound R.
     (let d = c.args.dbd.now in
     let v = c.args.volume.now in
     let mid = c.load_fault.new.volume in
@@ -82,7 +82,7 @@ returns-clause-full g c = if-err-map c.load_behind.result (λ e full st is sound
     let row : Segment = record { code = c.args.code; bytes = c.args.area.now } in
     let same = after-read d v mid c.in_ok-fault.ensures.read sound in
     let last : HasLastPath d v c.copy-path.result
-    = path_kept d v old c.args.number c.index-positions-number.result c.copy-path.result c.requires.number.0 c.requires.number.1 c.requires.last (c.copy-path.ensures ∙ c.path.ensures) in (
-      fault_in d v old st c.copy-path.result row c.in_ok-fault.field-0 last c.in_ok-fault.ensures.value sound R ∙ c.in_default.is,
-      subst (λ (x : List ℕ). LacksRoom (images_of d) d.types x (row ∷ [])) same.image (full is same.sound),
-    ))) c.load_behind.ensures.full
+    = path_kept d v old c.args.number c.index-positions-number.result c.copy-path.result c.requires.number.0 c.requires.number.1 c.requires.last (c.copy-path.ensures ∙ c.path.ensures) in
+    load_lacks d pcb c.args.number c.args.code ssas c.args.area.now v st I (sym c.is_whole.ensures ∙ c.if-not-is_whole.false)
+    (fault_in d v old st c.copy-path.result row c.in_ok-fault.field-0 last c.in_ok-fault.ensures.value sound R ∙ c.in_default.is)
+    (subst (λ (x : List ℕ). LacksRoom (images_of d) d.types x (row ∷ [])) same.image (full is same.sound)))) c.load_behind.ensures.full

@@ -2,11 +2,11 @@ use Rattle.std.proofs.Common.{◌≡◌, ℕ, ◌+◌, ◌-◌, ◌≤◌, List,
 use Rattle.std.proofs.lemmas.List.{length-append, length-drop, at_drop_all}
 use Rattle.hd_dbd.specs.Segment.{Segment}
 use Rattle.hd_calls.specs.Ssas.{Ssa}
-use Rattle.hd_volume.proofs.CallSteps.{call-ok, sound-back}
+use Rattle.hd_volume.proofs.CallSteps.{call-ok}
 use Rattle.hd_volume.proofs.JoinLemmas.{calls-join}
 use Rattle.hd_forest.specs.Walks.{tip}
 use Rattle.hd_update.specs.NewRows.{codes_of, rows_in, TakeMore, GoesInBelow, GoInBelow}
-use Rattle.hd_update.proofs.RowsIn.{IsTurn, turn, no_rows, go_in, go_in_none, take_others}
+use Rattle.hd_update.proofs.RowsIn.{turn, no_rows, go_in, go_in_none, take_others}
 use Rattle.hd_update.proofs.new_rows.put_others.Goals as goal
 
 pub put_next-requires-clause-fits : goal.put_next-requires-clause-fits

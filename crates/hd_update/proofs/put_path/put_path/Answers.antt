@@ -1,4 +1,4 @@
-use Rattle.std.proofs.Common.{◌≡◌, ℕ, ◌-◌, ◌++◌, List, ◌∷◌, [], length, take, drop, IsTrue, Ok, Result, Err, refl, sym, ap, ap₂, subst, ◌∙◌, arith}
+use Rattle.std.proofs.Common.{◌≡◌, ℕ, ◌-◌, ◌++◌, List, ◌∷◌, [], length, take, drop, IsTrue, Ok, Result, Err, sym, ap, subst, ◌∙◌, arith}
 use Rattle.std.specs.Prelude.{IfErr}
 use Rattle.std.proofs.lemmas.Result.{err_from_is_err_and}
 use Rattle.hd_dbd.specs.declared.answer.Refused.{Refused}
@@ -7,8 +7,8 @@ use Rattle.hd_dbd.specs.Segment.{Segment}
 use Rattle.hd_volume.specs.Volumes.{VolumeState}
 use Rattle.hd_volume.proofs.CallSteps.{sound-back}
 use Rattle.hd_forest.specs.Walks.{tip}
-use Rattle.hd_update.specs.Putting.{MayPut, IsPutIn}
-use Rattle.hd_update.specs.NewRows.{codes_of, rows_in, MayPutThem, TakeMore, AreFullFor, GoInBelow, ArePutIn}
+use Rattle.hd_update.specs.Putting.{MayPut, IsPutIn, AreFullFor}
+use Rattle.hd_update.specs.NewRows.{codes_of, rows_in, MayPutThem, TakeMore, GoInBelow, ArePutIn}
 use Rattle.hd_update.proofs.PathRows.{first_and_others, others_are, more_below, first_in, all_in}
 use Rattle.hd_update.proofs.RowsIn.{tip_pushed}
 use Rattle.hd_update.proofs.put_path.put_path.Goals as goal

@@ -1,4 +1,4 @@
-use Rattle.std.proofs.Common.{◌≡◌, ℕ, List, ◌∷◌, [], length, drop, IsTrue, Ok, refl, sym, ap, subst, ◌∙◌, arith}
+use Rattle.std.proofs.Common.{◌≡◌, ℕ, List, ◌∷◌, [], drop, IsTrue, Ok, refl, sym, ap, subst, ◌∙◌}
 use Rattle.std.proofs.lemmas.Result.{err_from_is_err_and}
 use Rattle.std.proofs.Common.{Result, Err}
 use Rattle.std.specs.Prelude.{IfErr}
@@ -10,7 +10,7 @@ use Rattle.hd_volume.proofs.JoinLemmas.{if-err-map, calls-join}
 use Rattle.hd_image.proofs.OneImage.{held-same}
 use Rattle.hd_keeping.specs.VolumeImages.{images_of}
 use Rattle.hd_update.specs.NewRows.{codes_of, IsFullWith, HasRoomAndMemory}
-use Rattle.hd_update.proofs.PathRows.{code_of_all, blank_rows, blank_codes, one_code, may_same}
+use Rattle.hd_update.proofs.PathRows.{blank_rows, blank_codes, one_code, may_same}
 use Rattle.hd_update.proofs.PutRoots.{put_before}
 use Rattle.hd_update.proofs.put_path.put_top.Goals as goal
 

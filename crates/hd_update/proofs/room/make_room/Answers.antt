@@ -1,6 +1,5 @@
-use Rattle.std.proofs.Common.{◌≡◌, ◌≢◌, ◌⊎◌, ℕ, ◌+◌, ◌<◌, ◌≤◌, List, ◌∷◌, [], length, true, IsTrue, refl, sym, ap, ap₂, subst, ◌∙◌, arith, inl, inr}
+use Rattle.std.proofs.Common.{◌≡◌, ◌⊎◌, ℕ, ◌+◌, ◌≤◌, List, ◌∷◌, length, IsTrue, sym, ap₂, subst, ◌∙◌, arith, inl, inr}
 use Rattle.std.proofs.lemmas.List.{length-map}
-use Rattle.hd_dbd.specs.Segment.{Segment}
 use Rattle.hd_dbd.specs.Rows.{key_of}
 use Rattle.hd_dbd.proofs.StoredSizes.{block_size-bounds}
 use Rattle.hd_calls.specs.Ssas.{Ssa}

@@ -1,4 +1,4 @@
-use Rattle.std.proofs.Common.{◌≡◌, ◌<◌, ◌≤◌, IsTrue, Ok, subst, sym, arith}
+use Rattle.std.proofs.Common.{◌≡◌, ◌<◌, ◌≤◌, IsTrue, subst, sym, arith}
 use Rattle.hd_volume.specs.Indexes.{index_growth}
 use Rattle.hd_keeping.proofs.Rooms.{growth-same}
 use Rattle.hd_update.proofs.NewRows.{on_ok_sound}

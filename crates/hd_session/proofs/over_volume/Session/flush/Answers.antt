@@ -9,6 +9,7 @@ invariant_of-self g c =
     let flushed = c.in-Ok.ensures in
     record {
       made_for = kept.made_for;
+      program = kept.program;
       size = flushed.size ∙ kept.size;
       sizes = flushed.sizes ∙ kept.sizes;
       one_each = kept.one_each;

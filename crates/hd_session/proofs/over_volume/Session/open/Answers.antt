@@ -13,6 +13,7 @@ invariant_of-result g c =
     let start = c.in-Ok.ensures.start ∙ ap all_at_start c.pcbs-pcbs.ensures.pcbs in
     record {
       made_for = c.requires.matches;
+      program = c.pcbs-pcbs.ensures.fit;
       size = read.call.size ∙ c.requires.size.0;
       sizes = read.call.sizes ∙ c.requires.size.1;
       one_each = one_each pcbs c.in-Ok.positions.items start;

@@ -1,0 +1,152 @@
+#!/usr/bin/env python3
+"""Measures hd, and SQLite beside it where sqlite3, its library and gcc are there.
+
+Each command is run three times, alternating with SQLite's, and the least time of the three is shown with the greatest behind it. Times are
+processor time in seconds, memory is the peak in MB, and accesses are the system's reads and writes of the volume, counted by strace in a run of its own.
+
+    bench/bench.py [SEGMENTS ..] [--shape NAME] [--calls N]
+"""
+import argparse
+import os
+import shutil
+import subprocess
+import sys
+import tempfile
+
+import shapes
+
+HD = os.path.join(os.path.dirname(os.path.abspath(__file__)), "..", "bin", "hd")
+RUNS = 3
+SCHEMA = """pragma page_size=2048; pragma journal_mode=off; pragma synchronous=off;
+create table course(num text primary key, name text) without rowid;
+create table class(num text, ed text, data text, primary key(num, ed)) without rowid;
+create table stud(num text, ed text, sname text, grade text, primary key(num, ed, sname)) without rowid;
+create table book(num text, place integer, title text, primary key(num, place)) without rowid;
+"""
+
+
+def measured(words, **files):
+    """Processor time and peak memory of a command."""
+    opened = {name: open(path, "rb" if name == "stdin" else "wb") for name, path in files.items()}
+    pid = subprocess.Popen(words, **{"stdout": subprocess.DEVNULL, **opened}).pid
+    _, status, usage = os.wait4(pid, 0)
+    if status != 0:
+        sys.exit(f"{words}: status {status}")
+    return usage.ru_utime + usage.ru_stime, usage.ru_maxrss / 1024
+
+
+def accesses(words, volume):
+    """How often a command reads or writes the volume."""
+    log = "strace.log"
+    subprocess.run(["strace", "-f", "-y", "-o", log, "-e", "trace=pread64,pwrite64,read,write", *words], stdout=subprocess.DEVNULL, check=True)
+    count = sum(1 for line in open(log, errors="replace") if volume in line)
+    os.remove(log)
+    return count
+
+
+class Row:
+    """What was measured of one piece of work."""
+
+    def __init__(self, name, per):
+        self.name, self.per, self.hd, self.sqlite, self.memory, self.accesses = name, per, [], [], 0, 0
+
+    def show(self):
+        least = min(self.hd)
+        text = f"{self.name:12} {least:7.2f} to {max(self.hd):5.2f} s {self.memory:6.1f} MB {self.accesses:9} accesses"
+        if self.per:
+            text += f" {1e6 * least / self.per:7.2f} us a call"
+        if self.sqlite:
+            text += f"   SQLite {min(self.sqlite):6.2f} s, ratio {least / max(min(self.sqlite), 0.001):5.2f}"
+        print(text, flush=True)
+
+
+def import_sql(rows):
+    """The files of the tables, and the words that SQLite imports them with."""
+    text = SCHEMA + "begin;\n"
+    for name, lines in shapes.tables(rows).items():
+        with open(f"{name}.txt", "w") as file:
+            file.write(lines)
+        text += f".import {name}.txt {name.lower()}\n"
+    with open("import.sql", "w") as file:
+        file.write(text + "commit;\n")
+
+
+def play(row, hd, sqlite, volume, before=lambda: None):
+    """Runs both in turn."""
+    for _ in range(RUNS):
+        before()
+        time, memory = measured(hd)
+        row.hd.append(time)
+        row.memory = max(row.memory, memory)
+        if sqlite:
+            row.sqlite.append(measured(*sqlite[0], **sqlite[1])[0])
+    before()
+    if shutil.which("strace"):
+        row.accesses = accesses(hd, volume)
+    row.show()
+
+
+def remove(*names):
+    for name in names:
+        if os.path.exists(name):
+            os.remove(name)
+
+
+def measure(shape, segments, calls, has_sqlite):
+    rows = list(shapes.SHAPES[shape](segments))
+    print(f"{shape}, {len(rows)} segments", flush=True)
+    for name, text in (("b.dbd", shapes.DBD), ("b.psb", shapes.PSB)):
+        with open(name, "w") as file:
+            file.write(text)
+    with open("b.stream", "wb") as file:
+        file.write(shapes.stream(rows))
+    import_sql(rows)
+
+    def sqlite(*words, **files):
+        return ((["sqlite3", *words],), files) if has_sqlite else None
+
+    def fresh():
+        remove("b.volume", "b.sqlite")
+
+    play(Row("reload", 0), [HD, "reload", "b.dbd", "b.stream", "b.volume", "65536"], sqlite("b.sqlite", stdin="import.sql"), "b.volume", fresh)
+    if has_sqlite and not os.path.exists("b.sqlite"):
+        measured(["sqlite3", "b.sqlite"], stdin="import.sql")
+    play(Row("check", 0), [HD, "check", "b.dbd", "b.volume"], sqlite("b.sqlite", "pragma integrity_check"), "b.volume")
+    dump = "select * from course; select * from class; select * from stud; select * from book;"
+    play(Row("unload", 0), [HD, "unload", "b.dbd", "b.volume", "b.out"], sqlite("b.sqlite", dump), "b.volume")
+    if shape == "deep":
+        for name in shapes.DECKS:
+            text, made = shapes.deck(name, segments, calls)
+            with open("b.deck", "w") as file:
+                file.write(text)
+
+            def again():
+                shutil.copy("b.volume", "c.volume")
+                if has_sqlite:
+                    shutil.copy("b.sqlite", "c.sqlite")
+
+            prepared = (([["./calls", "c.sqlite", "b.deck"]]), {}) if has_sqlite else None
+            play(Row(name, made), [HD, "deck", "b.dbd", "b.psb", "c.volume", "b.deck"], prepared, "c.volume", again)
+
+
+def main():
+    parser = argparse.ArgumentParser(description=__doc__.split("\n")[0])
+    parser.add_argument("segments", nargs="*", type=int, default=[10_000, 200_000, 1_000_000])
+    parser.add_argument("--shape", choices=shapes.SHAPES, action="append")
+    parser.add_argument("--calls", type=int, default=100_000)
+    words = parser.parse_args()
+    folder = tempfile.mkdtemp(prefix="hd-bench-")
+    source = os.path.dirname(os.path.abspath(__file__))
+    os.chdir(folder)
+    has_sqlite = bool(shutil.which("sqlite3") and shutil.which("gcc"))
+    if has_sqlite:
+        built = subprocess.run(["gcc", "-O2", "-o", "calls", os.path.join(source, "calls.c"), "-lsqlite3"], capture_output=True)
+        has_sqlite = built.returncode == 0
+    for segments in words.segments:
+        for shape in words.shape or shapes.SHAPES:
+            measure(shape, segments, words.calls, has_sqlite)
+    shutil.rmtree(folder)
+
+
+if __name__ == "__main__":
+    main()

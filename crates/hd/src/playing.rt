@@ -1,0 +1,154 @@
+ghost use Rattle.std.specs.Prelude.{◌≡◌, ◌<◌, ◌≤◌, ◌^◌, length, All, IfOk};
+ghost use Rattle.hd_dbd.specs.ProgramRules.{type_names};
+ghost use Rattle.hd_deck.specs.StepText.{StepFits};
+
+use crate::files::{Identity, PIECE, open_volume, read_database, read_file};
+use crate::input::read_whole;
+use crate::sample;
+use crate::stop::Stop;
+use hd_commands::{Refusal, play_deck, status_of_calls};
+use hd_dbd::{Dbd, Psb};
+use hd_deck::{Step, read_deck};
+use hd_gen::read_psb;
+use hd_volume::{BlockStore, FileStore};
+use std::alloc::Global;
+use std::fs::File;
+use std::io::{BufWriter, Read, Write};
+use std::marker::Brand;
+use std::rt::Files;
+use std::sync::ledger::{Blank, Ledger};
+
+/// Plays a deck over the volume in a store; its lines go out in large pieces. Says the status.
+fn play_store<S: BlockStore + Drop, O: Write, E: Write>(
+    alloc: Global,
+    dbd: &Dbd,
+    psb: &Psb,
+    steps: &[Step],
+    store: S,
+    out: &mut O,
+    err: &mut E,
+) -> Result<u8, Stop>
+    requires size { S.size store ≡ dbd.now.block_size }
+    requires matches { psb.now.made_for ≡ type_names dbd.now.types }
+    requires steps { All (StepFits (length psb.now.pcbs)) steps.now }
+    requires count { length steps.now ≤ 2 ^ 30 }
+{
+    let Ok(mut lines) = BufWriter::with_capacity(alloc, PIECE, out) else {
+        return Err(Stop::from(Refusal::Memory));
+    };
+    let (_, played) = play_deck(alloc, dbd, psb, steps, store, &mut lines, err);
+    // What a failed write leaves in the buffer is not written again.
+    let (_, _) = lines.into_parts();
+    match played {
+        Ok(memory) => Ok(status_of_calls(memory)),
+        Err(ended) => Ok(ended.status),
+    }
+}
+
+/// Plays the deck that a reader holds over the sample, in memory. Says the status.
+pub fn play_sample<I: Read, O: Write, E: Write>(
+    alloc: Global,
+    input: &mut I,
+    out: &mut O,
+    err: &mut E,
+) -> Result<u8, Stop> {
+    let dbd = sample::database(alloc).map_err(|fault| Stop::database(fault))?;
+    let psb = sample::program(alloc, &dbd).map_err(|fault| Stop::program(fault))?;
+    let text = read_whole(alloc, input)?;
+    let steps = read_deck(alloc, &text, psb.pcbs().len() as u8)?;
+    let store = sample::volume(alloc, &dbd)?;
+    play_store(alloc, &dbd, &psb, &steps, store, out, err)
+}
+
+/// The program over a database that a file of its source describes.
+fn read_program<R: Files<File = File>>(
+    rt: &R,
+    alloc: Global,
+    dbd: &Dbd,
+    name: &str,
+) -> Result<(Psb, Identity), Stop>
+    ensures { IfOk result (λ p. p.0.made_for ≡ type_names dbd.now.types) }
+{
+    let (source, identity) = read_file(rt, alloc, name)?;
+    let psb = read_psb(alloc, &source, dbd).map_err(|fault| Stop::program(fault))?;
+    Ok((psb, identity))
+}
+
+/// The steps that a file of a deck has, for a program of so many PCBs.
+fn read_steps<R: Files<File = File>>(
+    rt: &R,
+    alloc: Global,
+    pcbs: u8,
+    name: &str,
+) -> Result<(Vec<Step>, Identity), Stop>
+    requires { 0 < pcbs }
+    ensures fit { IfOk result (λ s. All (StepFits pcbs) s.0.items) }
+    ensures few { IfOk result (λ s. length s.0.items ≤ 2 ^ 30) }
+{
+    let (text, identity) = read_file(rt, alloc, name)?;
+    let steps = read_deck(alloc, &text, pcbs)?;
+    Ok((steps, identity))
+}
+
+/// Plays a deck over the volume in a file, with a ledger for the accesses that fail.
+fn play_over<L: Ledger, O: Write, E: Write>(
+    alloc: Global,
+    dbd: &Dbd,
+    psb: &Psb,
+    steps: &[Step],
+    file: File,
+    blank: Blank,
+    out: &mut O,
+    err: &mut E,
+) -> Result<u8, Stop>
+    requires name { blank.name ≡ L.name }
+    requires parts { blank.parts ≡ L.parts }
+    requires share { 0 < blank.parts }
+    requires matches { psb.now.made_for ≡ type_names dbd.now.types }
+    requires steps { All (StepFits (length psb.now.pcbs)) steps.now }
+    requires count { length steps.now ≤ 2 ^ 30 }
+{
+    let store: FileStore<L> = FileStore::over(file, dbd.block_size() as usize, blank)?;
+    play_store(alloc, dbd, psb, steps, store, out, err)
+}
+
+/// As `play_over`, with a ledger of its own.
+fn play_over_file<O: Write, E: Write>(
+    alloc: Global,
+    dbd: &Dbd,
+    psb: &Psb,
+    steps: &[Step],
+    file: File,
+    out: &mut O,
+    err: &mut E,
+) -> Result<u8, Stop>
+    requires matches { psb.now.made_for ≡ type_names dbd.now.types }
+    requires steps { All (StepFits (length psb.now.pcbs)) steps.now }
+    requires count { length steps.now ≤ 2 ^ 30 }
+{
+    play_over::<Brand, O, E>(alloc, dbd, psb, steps, file, Blank::new(1), out, err)
+}
+
+/// Plays the deck in a file over the volume in another, which is changed in place. The DBD, the PSB and the deck are read and judged first,
+/// in this order, then the volume is opened; only then is it judged. Says the status.
+pub fn play_file<R, O, E>(
+    rt: &R,
+    alloc: Global,
+    dbd: &str,
+    psb: &str,
+    volume: &str,
+    deck: &str,
+    out: &mut O,
+    err: &mut E,
+) -> Result<u8, Stop>
+where
+    R: Files<File = File>,
+    O: Write,
+    E: Write,
+{
+    let (dbd, source) = read_database(rt, alloc, dbd)?;
+    let (psb, program) = read_program(rt, alloc, &dbd, psb)?;
+    let (steps, text) = read_steps(rt, alloc, psb.pcbs().len() as u8, deck)?;
+    let file = open_volume(rt, volume, &[source, program, text])?;
+    play_over_file(alloc, &dbd, &psb, &steps, file, out, err)
+}
