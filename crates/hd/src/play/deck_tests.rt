@@ -250,7 +250,7 @@ fn leaves_a_volume_that_is_in_use_alone(rt: HostRuntime) -> Result<(), Fail> {
     Ok(())
 }
 
-/// The files of the school, its two programs, and a deck each that loads and that adds.
+/// The files of the school, its two programs, and a deck each that loads, that adds and that changes.
 fn write_school(rt: &HostRuntime) -> Result<(), Fail> {
     fs::write(rt, "school.dbd", SCHOOL)?;
     fs::write(rt, "load.psb", LOADER)?;
@@ -264,6 +264,11 @@ fn write_school(rt: &HostRuntime) -> Result<(), Fail> {
         rt,
         "add.deck",
         b"L     ISRT COURSE  *D\nC          CLASS   *-\nD101ALGEB01CD\nL   4 GN\n".as_slice(),
+    )?;
+    fs::write(
+        rt,
+        "change.deck",
+        b"L     GHU  CLASS   (ED      EQ01)\nL     REPL\nD01EF\nL     ISRT COURSE  (NUM     EQ205)\nC          CLASS   *-\nD02GH\n".as_slice(),
     )?;
     fs::write(
         rt,
@@ -322,6 +327,27 @@ fn loads_an_empty_volume_and_adds_to_it(rt: HostRuntime) -> Result<(), Fail> {
         b"EDU passes: 3 blocks, 4 segments, 2 roots\n",
         b"",
     )?;
+    let change = [
+        "deck",
+        "school.dbd",
+        "school.psb",
+        "school.volume",
+        "change.deck",
+    ];
+    expect(
+        &rt,
+        &change,
+        0,
+        b"1 1 GHU  [  ] 02 CLASS    key=10101 area=01CD\n2 1 REPL [  ] 02 CLASS    key=10101 area=\n3 1 ISRT [  ] 02 CLASS    key=20502 area=\n",
+        b"",
+    )?;
+    expect(
+        &rt,
+        &check,
+        0,
+        b"EDU passes: 3 blocks, 5 segments, 2 roots\n",
+        b"",
+    )?;
     remove(
         &rt,
         &[
@@ -330,6 +356,7 @@ fn loads_an_empty_volume_and_adds_to_it(rt: HostRuntime) -> Result<(), Fail> {
             "school.psb",
             "load.deck",
             "add.deck",
+            "change.deck",
             "none.stream",
             "school.volume",
         ],
