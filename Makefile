@@ -1,6 +1,6 @@
 # `make` proves hd and leaves it at bin/hd; `make run` plays the sample deck; `make try` plays it unproved, in under a
-# minute; `make test` is the gate.
-.PHONY: all run try test clean
+# minute; `make test` is the gate; `make bench` measures hd, and SQLite beside it.
+.PHONY: all run try test bench clean
 
 all: bin/hd
 
@@ -23,6 +23,9 @@ try:
 
 test:
 	rt ci
+
+bench: bin/hd
+	python3 bench/bench.py
 
 clean:
 	rm -rf bin crates/*/out
