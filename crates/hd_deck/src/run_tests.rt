@@ -48,6 +48,7 @@ fn program(alloc: Global, dbd: &Dbd) -> Option<Psb>
 }
 
 /// How a run ended: its calls or its fault, whether the access of the store that fails was met, and the bytes that are left.
+#[derive(Drop)]
 struct Ended {
     calls: Result<u64, RunFault>,
     met: bool,
@@ -56,7 +57,7 @@ struct Ended {
 
 /// The run of a deck over the sample, with another byte at a place, in a fuse that passes so many accesses; `None` where there is no
 /// memory for it, or where the deck is refused.
-fn ended<W: Write>(
+fn run_over_sample<W: Write>(
     alloc: Global,
     deck: &[u8],
     edit: (usize, u8),
@@ -94,7 +95,9 @@ const NO_EDIT: (usize, u8) = (512, 0);
 fn plays_a_deck_without_calls(rt: HostRuntime) -> Result<(), Fail> {
     let alloc = rt.alloc();
     let mut out = Vec::new(alloc);
-    let ended = ended(alloc, b"* nothing\nS 2\n", NO_EDIT, 1000, &mut out).expect(&rt, "memory");
+    let ended = run_over_sample(alloc, b"* nothing\nS 2\n", NO_EDIT, 1000, &mut out).expect(
+        &rt, "memory",
+    );
     assert_eq!(rt; ended.calls, Ok(0));
     assert_eq!(rt; out.len(), 0);
     assert_eq!(rt; ended.bytes.as_slice(), image().as_slice());
@@ -106,7 +109,7 @@ fn counts_each_call(rt: HostRuntime) -> Result<(), Fail> {
     let alloc = rt.alloc();
     let mut out = Vec::new(alloc);
     let deck = b"L   3 GN\nS 2\nL     GU   BOOK\n";
-    let ended = ended(alloc, deck, NO_EDIT, 1000, &mut out).expect(&rt, "memory");
+    let ended = run_over_sample(alloc, deck, NO_EDIT, 1000, &mut out).expect(&rt, "memory");
     assert_eq!(rt; ended.calls, Ok(4));
     assert!(rt; out.starts_with(b"1 1 GN   ["));
     assert_eq!(rt; ended.bytes.as_slice(), image().as_slice());
@@ -117,7 +120,9 @@ fn counts_each_call(rt: HostRuntime) -> Result<(), Fail> {
 fn tells_why_it_was_not_opened(rt: HostRuntime) -> Result<(), Fail> {
     let alloc = rt.alloc();
     let mut out = Vec::new(alloc);
-    let ended = ended(alloc, b"L     GN\n", (177, 1), 1000, &mut out).expect(&rt, "memory");
+    let ended = run_over_sample(alloc, b"L     GN\n", (177, 1), 1000, &mut out).expect(
+        &rt, "memory",
+    );
     let deleted = Fault {
         line: Line::Deleted,
         address: 176,
@@ -133,7 +138,9 @@ fn tells_each_access_that_fails(rt: HostRuntime) -> Result<(), Fail> {
     let alloc = rt.alloc();
     for passes in 0..100 {
         let mut out = Vec::new(alloc);
-        let ended = ended(alloc, b"L   9 GN\n", NO_EDIT, passes, &mut out).expect(&rt, "memory");
+        let ended = run_over_sample(alloc, b"L   9 GN\n", NO_EDIT, passes, &mut out).expect(
+            &rt, "memory",
+        );
         let told = matches!(
             &ended.calls,
             Err(RunFault::Device | RunFault::Open(OpenFault::Device))
@@ -173,7 +180,9 @@ impl Write for SmallWriter {
 fn tells_of_a_line_that_is_not_taken(rt: HostRuntime) -> Result<(), Fail> {
     for room in [0usize, 1, 9, 10, 20] {
         let mut out = SmallWriter { room };
-        let ended = ended(rt.alloc(), b"L   9 GN\n", NO_EDIT, 1000, &mut out).expect(&rt, "memory");
+        let ended = run_over_sample(rt.alloc(), b"L   9 GN\n", NO_EDIT, 1000, &mut out).expect(
+            &rt, "memory",
+        );
         assert_eq!(rt; ended.calls, Err(RunFault::Write));
         assert_eq!(rt; ended.bytes.as_slice(), image().as_slice());
     }
