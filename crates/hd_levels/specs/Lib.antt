@@ -1,0 +1,4 @@
+pub mod Maps
+pub mod Levels
+pub mod Ways
+pub mod Changes
