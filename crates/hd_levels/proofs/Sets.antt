@@ -114,7 +114,7 @@ blocks-once c l left n right s = ((λ among. to-left left s among), once-right c
 
 -- ---- the last key of a block is at least all below it
 
-last-upto : (xs : List Entry) (e : Entry) → keys_ascend (xs ++ (e ∷ [])) ≡ true → AreUpTo e.key (xs ++ (e ∷ []))
+pub last-upto : (xs : List Entry) (e : Entry) → keys_ascend (xs ++ (e ∷ [])) ≡ true → AreUpTo e.key (xs ++ (e ∷ []))
 last-upto xs e a = upto-append e.key xs (e ∷ []) (below-upto e.key xs (ascend-below xs e [] a)) (self e.key, tt)
   where
     self : (k : List ℕ) → key_less k k ≡ false

@@ -29,8 +29,8 @@ StayBelow c d l (n ∷ ns) = (entries_below d l (n ∷ []) ≡ entries_below c l
 abbrev pub KeepsIndexSet : IndexBlocks → IndexBlocks → ℕ → List ℕ → Type 0
 KeepsIndexSet c d l ns = IsIndexSet d l ns × StayBelow c d l ns
 
--- Block n of a level is divided: its last entries are now those of block m, which is new. Of its parent's entry for it two are made;
--- the upper key of the first is the last key that block n has left.
+-- Block n of level l is divided under block p: its last entries are those of block m now. Two entries of p name the two; the upper
+-- key of the first is the last key that block n has left.
 pub record IsDivided (c d : IndexBlocks) (l n m p : ℕ) : Type 0 where
   pub before : List Entry
   pub last : Entry
@@ -39,14 +39,13 @@ pub record IsDivided (c d : IndexBlocks) (l n m p : ℕ) : Type 0 where
   pub low : d.entries n ≡ before ++ (last ∷ [])
   pub high : d.entries m ≡ behind
   pub some : behind ≢ []
+  pub levels : (d.level n ≡ Some l) × (d.level m ≡ Some l) × (d.level p ≡ Some (suc l))
   pub front : List Entry
   pub entry : Entry
   pub back : List Entry
   pub named_was : c.entries p ≡ front ++ (entry ∷ back)
-  pub names : entry.address ≡ n
+  pub child : entry.address ≡ n
   pub named_is : d.entries p ≡ front ++ (record { key = last.key; address = n } ∷ record { key = entry.key; address = m } ∷ back)
-  pub fresh : c.level m ≡ None
-  pub level : (d.level n ≡ Some l) × (d.level m ≡ Some l) × (d.level p ≡ Some (suc l))
   pub lower : LowerStay c d l
   pub beside : OthersStay c d l n
   pub above : OthersStay c d (suc l) p
