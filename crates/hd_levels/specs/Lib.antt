@@ -2,3 +2,4 @@ pub mod Maps
 pub mod Levels
 pub mod Ways
 pub mod Changes
+pub mod Chains
