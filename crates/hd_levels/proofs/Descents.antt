@@ -2,7 +2,7 @@
 use Rattle.std.proofs.Common.{◌≡◌, ◌≢◌, ◌⊎◌, inl, inr, ℕ, zero, suc, Bool, true, false, List, [], ◌∷◌, ◌++◌, refl, sym, ap, ◌∙◌, subst}
 use Rattle.std.proofs.lemmas.List.{append_assoc}
 use Rattle.hd_volume.specs.Entries.{Entry}
-use Rattle.hd_volume.specs.Indexes.{key_less, is_below_first, keys_ascend}
+use Rattle.hd_volume.specs.Indexes.{key_less, is_below_first}
 use Rattle.hd_levels.specs.Maps.{address_of, address_from}
 use Rattle.hd_levels.specs.Levels.{IndexBlocks, across, named, entries_below, AreBelow, AreBounds, IsIndexSet}
 use Rattle.hd_levels.specs.Ways.{child_of, leaf_of, IsAround, IsNamed, IsWayDown}

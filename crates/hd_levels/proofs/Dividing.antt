@@ -1,10 +1,10 @@
 -- A block is divided under a parent that has room: the index set still is one, with the same entries of the sequence set. A new top.
-use Rattle.std.proofs.Common.{◌≡◌, ◌≢◌, ℕ, zero, suc, ◌<◌, true, List, [], ◌∷◌, ◌++◌, refl, sym, ap, ◌∙◌, subst, arith, Some}
+use Rattle.std.proofs.Common.{◌≡◌, ◌≢◌, ℕ, zero, suc, true, List, [], ◌∷◌, ◌++◌, refl, sym, ap, ◌∙◌, subst, arith, Some}
 use Rattle.std.proofs.lemmas.List.{append_assoc}
 use Rattle.hd_volume.specs.Entries.{Entry}
 use Rattle.hd_volume.specs.Indexes.{is_below_first, keys_ascend}
-use Rattle.hd_levels.specs.Levels.{IndexBlocks, across, named, entries_below, AreUpTo, AreBelow, AreBounds, AreOnLevel, IsIndexSet}
-use Rattle.hd_levels.specs.Changes.{Stays, OthersStay, LowerStay, StayBelow, KeepsIndexSet, IsDivided}
+use Rattle.hd_levels.specs.Levels.{IndexBlocks, across, named, entries_below, AreUpTo, AreBounds, AreOnLevel, IsIndexSet}
+use Rattle.hd_levels.specs.Changes.{LowerStay, StayBelow, KeepsIndexSet, IsDivided}
 use Rattle.hd_levels.proofs.Keys.{below-upto, upto-append, upto-parts, ascend-parts, ascend-below, ascend-above}
 use Rattle.hd_levels.proofs.Levels.{nil, AllStay, across-append, across-about, named-append, entries-append, entries-none, on-parts, on-both, set-level, bounds-behind, same-below, same-both, same-parts, stay-across, stay-same, stay-level, same-up, bounds-same, set-stays}
 use Rattle.hd_levels.proofs.Sets.{set-behind, level-ascends, blocks-once, last-upto}

@@ -1,14 +1,14 @@
 -- A new entry in the sequence set: all above it still is an index set.
-use Rattle.std.proofs.Common.{◌≡◌, ◌≢◌, ◌⊎◌, inl, inr, ℕ, zero, suc, ◌<◌, true, false, List, [], ◌∷◌, ◌++◌, refl, sym, ap, ◌∙◌, subst, arith, Some, None}
+use Rattle.std.proofs.Common.{◌≡◌, inl, inr, ℕ, zero, suc, true, false, List, [], ◌∷◌, ◌++◌, refl, sym, ap, ◌∙◌, subst, arith, Some, None}
 use Rattle.std.proofs.lemmas.List.{append_assoc}
 use Rattle.hd_volume.specs.Entries.{Entry}
 use Rattle.hd_volume.specs.Indexes.{key_less, is_below_first, keys_ascend, IsAmong}
 use Rattle.hd_levels.specs.Maps.{address_of, with_entry}
 use Rattle.hd_levels.specs.Levels.{IndexBlocks, across, named, entries_below, AreUpTo, AreBelow, AreBounds, AreOnLevel, IsIndexSet}
 use Rattle.hd_levels.specs.Ways.{IsNamed, IsAround, IsWayDown}
-use Rattle.hd_levels.specs.Changes.{Stays, OthersStay, UpperStay, StayBelow}
+use Rattle.hd_levels.specs.Changes.{OthersStay, UpperStay, StayBelow}
 use Rattle.hd_levels.proofs.Keys.{below-append, ascend-new, with-between, parted}
-use Rattle.hd_levels.proofs.Levels.{nil, AllStay, across-append, across-about, named-append, entries-append, entries-none, on-parts, on-both, set-level, same-below, same-parts, stay-across, stay-parts, stay-same, stay-level, same-up, bounds-same, upper-stay}
+use Rattle.hd_levels.proofs.Levels.{nil, AllStay, across-about, named-append, entries-append, entries-none, on-parts, on-both, same-below, same-parts, stay-across, stay-parts, stay-same, stay-level, same-up, bounds-same, upper-stay}
 use Rattle.hd_levels.proofs.Sets.{blocks-once}
 use Rattle.hd_levels.proofs.Descents.{names-of, way-around}
 

@@ -1,16 +1,15 @@
 -- An entry of the sequence set goes, and with it each block that has no other entry: all above it still is an index set.
-use Rattle.std.proofs.Common.{◌≡◌, ◌≢◌, ◌⊎◌, inl, inr, ℕ, zero, suc, ◌<◌, true, List, [], ◌∷◌, ◌++◌, refl, sym, ap, ◌∙◌, subst, arith, Some}
+use Rattle.std.proofs.Common.{◌≡◌, ◌⊎◌, inl, inr, ℕ, zero, suc, true, List, [], ◌∷◌, ◌++◌, refl, sym, ap, ◌∙◌, subst}
 use Rattle.std.proofs.lemmas.List.{append_assoc}
 use Rattle.hd_volume.specs.Entries.{Entry}
-use Rattle.hd_volume.specs.Indexes.{key_less, is_below_first, keys_ascend}
+use Rattle.hd_volume.specs.Indexes.{is_below_first, keys_ascend}
 use Rattle.hd_levels.specs.Maps.{without_key}
 use Rattle.hd_levels.specs.Levels.{IndexBlocks, across, named, entries_below, AreUpTo, AreBounds, AreOnLevel, IsIndexSet}
 use Rattle.hd_levels.specs.Ways.{IsNamed}
-use Rattle.hd_levels.specs.Changes.{Stays, OthersStay, StayBelow, IsLeft, entry_left, IsWayUp}
+use Rattle.hd_levels.specs.Changes.{OthersStay, StayBelow, IsLeft, entry_left, IsWayUp}
 use Rattle.hd_levels.proofs.Keys.{first-less, first-part, ascend-below, ascend-above, ascend-gone, without-between}
-use Rattle.hd_levels.proofs.Levels.{nil, AllStay, across-append, across-about, named-append, entries-append, entries-none, on-parts, on-both, same-below, same-parts, stay-across, stay-same, stay-level, same-up, bounds-same}
+use Rattle.hd_levels.proofs.Levels.{nil, AllStay, across-append, across-about, named-append, entries-append, on-parts, on-both, same-below, same-parts, stay-across, stay-same, stay-level, same-up, bounds-same}
 use Rattle.hd_levels.proofs.Sets.{set-ascends, blocks-once}
-use Rattle.hd_levels.proofs.Descents.{names-of}
 use Rattle.hd_levels.proofs.Entering.{beside}
 
 -- Of the entries below block n of a level one is gone; of the block this is left.

@@ -1,10 +1,10 @@
 -- Levels of blocks: lists of them put together, and what stays.
-use Rattle.std.proofs.Common.{◌≡◌, ◌≢◌, ℕ, zero, suc, ◌<◌, List, [], ◌∷◌, ◌++◌, refl, sym, ap, ◌∙◌, arith, subst, Option, Some, true}
+use Rattle.std.proofs.Common.{◌≡◌, ℕ, zero, suc, ◌<◌, List, [], ◌∷◌, ◌++◌, refl, sym, ap, ◌∙◌, arith, subst, true}
 use Rattle.std.proofs.lemmas.List.{append_assoc}
 use Rattle.hd_volume.specs.Entries.{Entry}
 use Rattle.hd_volume.specs.Indexes.{is_below_first, keys_ascend}
 use Rattle.hd_levels.specs.Levels.{IndexBlocks, across, named, sequence_set, entries_below, AreUpTo, AreBounds, AreOnLevel, IsIndexSet}
-use Rattle.hd_levels.specs.Changes.{Stays, OthersStay, LowerStay, UpperStay, StayBelow, KeepsIndexSet}
+use Rattle.hd_levels.specs.Changes.{Stays, LowerStay, UpperStay, StayBelow, KeepsIndexSet}
 
 pub nil : (x : List Entry) → x ++ [] ≡ x
 nil [] = refl

@@ -1,10 +1,10 @@
 -- Another key for an upper entry, still between the keys of the sequence set below it and those behind: the index set still is one.
-use Rattle.std.proofs.Common.{◌≡◌, ◌≢◌, ℕ, zero, suc, ◌<◌, true, List, [], ◌∷◌, ◌++◌, refl, sym, ap, ◌∙◌, subst, arith, Some}
+use Rattle.std.proofs.Common.{◌≡◌, ℕ, suc, true, List, [], ◌∷◌, ◌++◌, sym, ap, ◌∙◌, subst, arith, Some}
 use Rattle.hd_volume.specs.Entries.{Entry}
 use Rattle.hd_volume.specs.Indexes.{is_below_first}
 use Rattle.hd_levels.specs.Levels.{IndexBlocks, across, named, entries_below, AreUpTo, AreBounds, IsIndexSet}
-use Rattle.hd_levels.specs.Changes.{Stays, OthersStay, LowerStay, StayBelow, KeepsIndexSet}
-use Rattle.hd_levels.proofs.Levels.{nil, across-about, named-append, entries-append, on-parts, on-both, same-below, same-both, same-parts, stay-across, stay-level, same-up, bounds-same, set-stays}
+use Rattle.hd_levels.specs.Changes.{OthersStay, LowerStay, StayBelow, KeepsIndexSet}
+use Rattle.hd_levels.proofs.Levels.{nil, across-about, named-append, on-parts, on-both, same-below, same-both, same-parts, stay-across, stay-level, same-up, bounds-same, set-stays}
 use Rattle.hd_levels.proofs.Sets.{blocks-once}
 use Rattle.hd_levels.proofs.Entering.{beside}
 

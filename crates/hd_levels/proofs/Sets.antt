@@ -1,13 +1,11 @@
 -- What follows from an index set: its keys ascend, on every level, and each of its blocks stands in it once.
-use Rattle.std.proofs.Common.{◌≡◌, ◌≢◌, ◌⊎◌, inl, inr, ℕ, zero, suc, Bool, true, false, List, [], ◌∷◌, ◌++◌, refl, sym, ap, ◌∙◌, subst}
-use Rattle.std.specs.Prelude.{◌&&◌}
+use Rattle.std.proofs.Common.{◌≡◌, ◌≢◌, inl, inr, ℕ, zero, suc, Bool, true, false, List, [], ◌∷◌, ◌++◌, refl, sym, ap, ◌∙◌, subst}
 use Rattle.std.proofs.lemmas.List.{append_assoc}
 use Rattle.hd_volume.specs.Entries.{Entry}
 use Rattle.hd_volume.specs.Indexes.{key_less, is_below_first, keys_ascend, IsAmong}
-use Rattle.hd_volume.proofs.KeyLemmas.{less-not}
-use Rattle.hd_levels.specs.Levels.{IndexBlocks, across, named, entries_below, AreUpTo, AreBelow, AreBounds, AreOnLevel, IsIndexSet}
-use Rattle.hd_levels.proofs.Keys.{less-self, less-upto, upto-less, below-upto, upto-append, ascend-parts, ascend-below, first-behind}
-use Rattle.hd_levels.proofs.Levels.{nil, across-append, named-append, entries-append, on-parts, set-level, bounds-behind}
+use Rattle.hd_levels.specs.Levels.{IndexBlocks, across, named, entries_below, AreUpTo, AreBounds, IsIndexSet}
+use Rattle.hd_levels.proofs.Keys.{less-self, less-upto, below-upto, upto-append, ascend-parts, ascend-below}
+use Rattle.hd_levels.proofs.Levels.{nil, across-append, named-append, entries-append, on-parts, bounds-behind}
 
 -- the keys of the sequence set below ascend
 pub set-ascends : (c : IndexBlocks) (l : ℕ) (ns : List ℕ) → IsIndexSet c l ns → keys_ascend (entries_below c l ns) ≡ true

@@ -1,5 +1,5 @@
 -- A change of a level and of what is below it that leaves the entries of the sequence set: all above it stands as it stood.
-use Rattle.std.proofs.Common.{◌≡◌, ℕ, zero, suc, ◌<◌, List, [], ◌∷◌, ◌++◌, refl, sym, ap, ◌∙◌, subst, arith}
+use Rattle.std.proofs.Common.{◌≡◌, ℕ, zero, suc, List, [], ◌∷◌, ◌++◌, refl, sym, ap, ◌∙◌, subst, arith}
 use Rattle.hd_volume.specs.Entries.{Entry}
 use Rattle.hd_levels.specs.Levels.{IndexBlocks, across, named, AreBelow, AreBounds, IsIndexSet}
 use Rattle.hd_levels.specs.Ways.{IsNamed, IsWayDown}

@@ -1,7 +1,7 @@
 -- Changes of an index, from the blocks `c` to the blocks `d`.
-use Rattle.std.specs.Prelude.{◌≡◌, ◌≢◌, ℕ, zero, suc, ◌<◌, List, [], ◌∷◌, ◌++◌, Option, Some, None}
+use Rattle.std.specs.Prelude.{◌≡◌, ◌≢◌, ℕ, zero, suc, ◌<◌, List, [], ◌∷◌, ◌++◌, Some}
 use Rattle.hd_volume.specs.Entries.{Entry}
-use Rattle.hd_levels.specs.Levels.{IndexBlocks, across, named, entries_below, IsIndexSet}
+use Rattle.hd_levels.specs.Levels.{IndexBlocks, entries_below, IsIndexSet}
 use Rattle.hd_levels.specs.Ways.{IsNamed}
 
 -- a block keeps its level and its entries

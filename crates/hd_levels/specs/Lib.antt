@@ -3,3 +3,4 @@ pub mod Levels
 pub mod Ways
 pub mod Changes
 pub mod Chains
+pub mod Laws
