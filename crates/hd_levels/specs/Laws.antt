@@ -2,8 +2,8 @@
 -- change, `d` those after it.
 use Rattle.std.specs.Prelude.{◌≡◌, ℕ, suc, ◌<◌, true, List, [], ◌∷◌, ◌++◌, Some, None}
 use Rattle.hd_volume.specs.Entries.{Entry}
-use Rattle.hd_volume.specs.Indexes.{is_below_first, keys_ascend, IsAmong}
-use Rattle.hd_levels.specs.Maps.{address_of, address_from, with_entry, without_key}
+use Rattle.hd_volume.specs.Indexes.{key_less, is_below_first, keys_ascend, IsAmong}
+use Rattle.hd_levels.specs.Maps.{address_of, address_from, greatest_below, last_key, with_entry, without_key}
 use Rattle.hd_levels.specs.Levels.{IndexBlocks, across, named, entries_below, AreUpTo, AreBelow, IsIndexSet}
 use Rattle.hd_levels.specs.Ways.{child_of, leaf_of, IsAround, IsNamed, IsWayDown}
 use Rattle.hd_levels.specs.Changes.{OthersStay, LowerStay, UpperStay, KeepsIndexSet, IsDivided, IsLeft, IsWayUp}
@@ -52,6 +52,22 @@ LeavesAnswer =
     (c : IndexBlocks) (key : List ℕ) (left : List ℕ) (n : ℕ) (right : List ℕ) → IsAround c key 0 left n right
     → (address_of key (across c (left ++ (n ∷ right))) ≡ address_of key (c.entries n))
     × (address_from key (across c (left ++ (n ∷ right))) ≡ address_from key (c.entries n ++ across c right))
+
+-- There, too, stands the greatest key below the key, or else it is the last one to the left.
+abbrev pub GreatestKeysAreNear : Type 0
+GreatestKeysAreNear =
+    (c : IndexBlocks) (key : List ℕ) (left : List ℕ) (n : ℕ) (right : List ℕ) → IsAround c key 0 left n right
+    → greatest_below key key (across c (left ++ (n ∷ right))) ≡ greatest_below (last_key key (across c left)) key (c.entries n)
+
+-- Down by the greatest key below a new one, or by the new one where there is none, the new key may come in at each step: all upper
+-- keys to the left are below it, the entry's own key may be raised to it where it is below, and it is below all behind.
+abbrev pub NewKeysComeIn : Type 0
+NewKeysComeIn =
+    (c : IndexBlocks) (key by : List ℕ) (l : ℕ) (left : List ℕ) (p : ℕ) (right : List ℕ) → IsAround c by (suc l) left p right
+    → address_of key (entries_below c (suc l) (left ++ (p ∷ right))) ≡ None → by ≡ greatest_below key key (entries_below c (suc l) (left ++ (p ∷ right)))
+    → (before behind : List ℕ) × (s : IsNamed c before (child_of by (c.entries p)) behind left p right)
+    × AreBelow key (across c left ++ s.front) × (key_less s.entry.key key ≡ true → AreUpTo key (entries_below c l (child_of by (c.entries p) ∷ [])))
+    × (is_below_first key (entries_below c l behind) ≡ true) × IsAround c by l before (child_of by (c.entries p)) behind
 
 -- ---- what stays
 

@@ -22,3 +22,13 @@ with_entry new (e ∷ es) = cond (key_less new.key e.key) (new ∷ e ∷ es) (e 
 abbrev pub without_key : List ℕ → List Entry → List Entry
 without_key key [] = []
 without_key key (e ∷ es) = cond (bytes_eq e.key key) es (e ∷ without_key key es)
+
+-- the greatest key below a key, or else another
+abbrev pub greatest_below : List ℕ → List ℕ → List Entry → List ℕ
+greatest_below other key [] = other
+greatest_below other key (e ∷ es) = cond (key_less e.key key) (greatest_below e.key key es) other
+
+-- the last key, or else another
+abbrev pub last_key : List ℕ → List Entry → List ℕ
+last_key other [] = other
+last_key other (e ∷ es) = last_key e.key es

@@ -1,5 +1,5 @@
 ghost use Rattle.hd_levels.specs.Chains.{ChainsHaveBlocksOnce, ChainsTakeBlocks, ChainsLoseBlocks};
-ghost use Rattle.hd_levels.specs.Laws.{KeysOfALevelAscend, BlocksStandOnce, LastKeysBound, TopsAreAround, StepsStayAround, KeysLeadToLeaves, LeavesAnswer, LowerLevelsStay, WaysDownStay, UpperKeysMayChange, BlocksMayBeDivided, TopsMayBeAdded, EntriesEnter, EntriesLeave};
+ghost use Rattle.hd_levels.specs.Laws.{KeysOfALevelAscend, BlocksStandOnce, LastKeysBound, TopsAreAround, StepsStayAround, KeysLeadToLeaves, LeavesAnswer, GreatestKeysAreNear, NewKeysComeIn, LowerLevelsStay, WaysDownStay, UpperKeysMayChange, BlocksMayBeDivided, TopsMayBeAdded, EntriesEnter, EntriesLeave};
 
 /// The keys of each level of an index set ascend, and those of its sequence set.
 pub fn law_keys_of_a_level_ascend()
@@ -34,6 +34,16 @@ pub fn law_keys_lead_to_leaves()
 /// What is found of a key in the whole sequence set is found in the block about it, or first to its right.
 pub fn law_leaves_answer()
     ensures { LeavesAnswer }
+{}
+
+/// The greatest key below a key stands in the block about the key, or last to its left.
+pub fn law_greatest_keys_are_near()
+    ensures { GreatestKeysAreNear }
+{}
+
+/// On the way down by the greatest key below it a new key may come in, once each upper key of the way is raised that is below it.
+pub fn law_new_keys_come_in()
+    ensures { NewKeysComeIn }
 {}
 
 /// An index set below the levels that change stays as it is.
