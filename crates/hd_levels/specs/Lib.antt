@@ -4,3 +4,4 @@ pub mod Ways
 pub mod Changes
 pub mod Chains
 pub mod Laws
+pub mod Worked

@@ -1,5 +1,6 @@
 ghost use Rattle.hd_levels.specs.Chains.{ChainsHaveBlocksOnce, ChainsTakeBlocks, ChainsLoseBlocks};
 ghost use Rattle.hd_levels.specs.Laws.{KeysOfALevelAscend, BlocksStandOnce, LastKeysBound, TopsAreAround, StepsStayAround, KeysLeadToLeaves, LeavesAnswer, GreatestKeysAreNear, NewKeysComeIn, LowerLevelsStay, WaysDownStay, UpperKeysMayChange, BlocksMayBeDivided, TopsMayBeAdded, EntriesEnter, EntriesLeave};
+ghost use Rattle.hd_levels.specs.Worked.{UpperKeysNeedNotAgree};
 
 /// The keys of each level of an index set ascend, and those of its sequence set.
 pub fn law_keys_of_a_level_ascend()
@@ -94,4 +95,9 @@ pub fn law_chains_take_blocks()
 /// A block goes from a chain behind another.
 pub fn law_chains_lose_blocks()
     ensures { ChainsLoseBlocks }
+{}
+
+/// Upper keys of different levels need not agree: in such an index a new key leads elsewhere than the greatest key below it.
+pub fn law_upper_keys_need_not_agree()
+    ensures { UpperKeysNeedNotAgree }
 {}

@@ -11,5 +11,5 @@ pub use law::{
     law_greatest_keys_are_near, law_keys_lead_to_leaves, law_keys_of_a_level_ascend,
     law_last_keys_bound, law_leaves_answer, law_lower_levels_stay, law_new_keys_come_in,
     law_steps_stay_around, law_tops_are_around, law_tops_may_be_added, law_upper_keys_may_change,
-    law_ways_down_stay,
+    law_upper_keys_need_not_agree, law_ways_down_stay,
 };
