@@ -1,0 +1,7 @@
+pub mod Maps
+pub mod Levels
+pub mod Ways
+pub mod Changes
+pub mod Chains
+pub mod Laws
+pub mod Worked
