@@ -66,10 +66,10 @@ fn run_over_sample<W: Write>(
 ) -> Option<Ended> {
     let dbd = database(alloc).ok()?;
     let psb = program(alloc, &dbd)?;
-    if deck.len() > 1000 {
+    if deck.len() > 1000 || psb.pcbs().len() != 2 {
         return None;
     }
-    let steps = read_deck(alloc, deck, psb.pcbs().len() as u8).ok()?;
+    let steps = read_deck(alloc, deck, 2).ok()?;
     let mut sample = image();
     if edit.0 < 512 {
         sample[edit.0] = edit.1;
