@@ -14,7 +14,9 @@ use Rattle.hd_links.proofs.Types.{ordered}
 use Rattle.hd_links.proofs.Unique.{unique}
 use Rattle.hd_image.specs.Records.{links_of}
 use Rattle.hd_image.specs.Holding.{HoldsPlaced, volume_of}
+use Rattle.hd_image.proofs.OneImage.{held-same}
 use Rattle.hd_keeping.specs.VolumeImages.{images_of}
+use Rattle.hd_session.proofs.Turns.{sessions_answer}
 use Rattle.hd_commands.specs.Headline.{PassesFor, IsHeadline, ChecksTellOneForest, RunsAnswerTheirLogs, ReloadsPass}
 
 -- an image that holds a placed forest passes for its rows
@@ -36,7 +38,10 @@ last_holds d pcbs st [] last follow = follow
 last_holds d pcbs st (e ∷ es) last follow = last_holds d pcbs (next_state d.types pcbs st e) es last follow.2
 
 checks : (d : Database) → ChecksTellOneForest d
-checks d image passed is = (rows_of is.placed, passes d image is.placed (rows_of is.placed) is.holds refl)
+checks d v passed is = (
+  rows_of is.placed,
+  passes d v.image is.placed (rows_of is.placed) (held-same d v (volume_of d v.image) refl (sym is.holds.volume.size) (sym is.holds.volume.sizes) is.placed is.holds) refl,
+)
 
 runs : (d : Database) → RunsAnswerTheirLogs d
 runs d pcbs image turns log left played =
@@ -45,7 +50,9 @@ runs d pcbs image turns log left played =
     record {
       rows = sequence played.forest;
       passed = passes d image held.0 (sequence played.forest) held.2 (ap sequence held.1);
+      asked = played.asked;
       legal = played.legal;
+      lacking = played.lacking;
       passes = subst (λ (bytes : List ℕ). PassesFor d bytes (last_state d.types pcbs (opened pcbs (sequence played.forest)) log.entries).rows) played.ends
           (passes d log.last end.1.placed (last_state d.types pcbs (opened pcbs (sequence played.forest)) log.entries).rows end.1.holds end.1.rows_are);
     }
@@ -54,4 +61,4 @@ reloads : (d : Database) → ReloadsPass d
 reloads d stream largest segments blocks image is = (is.rows, is.stream_of, passes d image is.holds.0 is.rows is.holds.2 is.holds.1)
 
 pub headline : (d : Database) → IsHeadline d
-headline d = record { checks = checks d; runs = runs d; reloads = reloads d }
+headline d = record { checks = checks d; sessions = sessions_answer d; runs = runs d; reloads = reloads d }

@@ -5,7 +5,8 @@ use Rattle.std.specs.Result.{is_err}
 use Rattle.hd_session.specs.Opening.{SessionState}
 use Rattle.hd_deck.specs.declared.playing.Stop.{Stop}
 use Rattle.hd_deck.specs.declared.playing.Stop.TheVariants as stop
-use Rattle.hd_deck.specs.Runs.{Turn, PlaysAll, PlaysUntil, StaysWhole, StopsAt, PlaysOut, LeavesAt}
+use Rattle.hd_session.specs.Turns.{Turn, StaysWhole}
+use Rattle.hd_deck.specs.Runs.{PlaysAll, PlaysUntil, StopsAt, PlaysOut, LeavesAt}
 
 module _ (s t : SessionState) (turns : List Turn) (left : List ℕ) (closed : IsTrue t.volume.is_sound → left ≡ t.volume.image) where
   -- all calls were played

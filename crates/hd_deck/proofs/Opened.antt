@@ -17,7 +17,8 @@ use Rattle.hd_session.specs.declared.opening.OpenFault.TheVariants as opening
 use Rattle.hd_session.specs.Opening.{SessionState, session_at_start, IsReadyFor, IsOpenedOver, IsOpenFaultOf, opening_call}
 use Rattle.hd_deck.specs.declared.playing.Stop.{Stop}
 use Rattle.hd_deck.specs.declared.playing.Stop.TheVariants as stop
-use Rattle.hd_deck.specs.Runs.{Turn, AreMade, ArePlayedOut, AreLeftInPart, PlaysOut, LeavesAt, IsPlayed, IsWholeRun, IsPlayedInPart, IsRunFaultOf, fault_of}
+use Rattle.hd_session.specs.Turns.{Turn, AreMade}
+use Rattle.hd_deck.specs.Runs.{ArePlayedOut, AreLeftInPart, PlaysOut, LeavesAt, IsPlayed, IsWholeRun, IsPlayedInPart, IsRunFaultOf, fault_of}
 
 module _ (d : Database) (pcbs : List View) (bytes : List ℕ) (v : VolumeState) (image : v.image ≡ bytes) (size : v.size ≡ d.block_size) (sizes : v.sizes ≡ stored_sizes d.types) where
   -- the volume and that of its bytes are one
@@ -46,6 +47,7 @@ module _ (d : Database) (pcbs : List View) (bytes : List ℕ) (v : VolumeState) 
     one = λ g h. ready.one g (h.0, h.1, held-same d (volume_of d bytes) v image size sizes h.0 h.2);
     legal = record { begins = made.begins ∙ now; runs = made.runs; follows = made.follows };
     asked = made.asked;
+    lacking = made.lacking;
     ends = ends;
   }
 

@@ -1,19 +1,17 @@
 -- A run of some calls, and then of others.
 use Rattle.std.proofs.Common.{◌≡◌, ℕ, zero, suc, ◌+◌, ◌-◌, ◌<◌, ◌≤◌, take, drop, get_or, List, [], ◌∷◌, ◌++◌, length, replicate, arith, ap, sym, ◌∙◌, subst, Bool, true, false, Option, Some, None, refl}
 use Rattle.std.specs.Io.KnownBytes.{Appends}
-use Rattle.std.proofs.lemmas.List.{append_assoc, append-nil, replicate_more, length-map, take_more, length-append, take-append-le, take-append-drop}
+use Rattle.std.proofs.lemmas.List.{append_assoc, append-nil, replicate_more, take_more, length-append, take-append-le, take-append-drop}
 use Rattle.std.proofs.Math.Seq.{take-append-add}
-use Rattle.hd_dbd.specs.Types.{SegmentType, View}
-use Rattle.hd_dbd.specs.Hierarchy.{Database}
 use Rattle.hd_dbd.specs.Logs.{Entry}
 use Rattle.hd_calls.specs.Steps.{State}
-use Rattle.hd_calls.specs.Runs.{Images, IsRun, next_state, last_state, image_at, ImagesFollow}
-use Rattle.hd_keeping.specs.VolumeImages.{images_of}
-use Rattle.hd_update.specs.States.{Represents}
+use Rattle.hd_calls.specs.Runs.{last_state}
 use Rattle.hd_session.specs.Opening.{SessionState}
+use Rattle.hd_session.specs.Turns.{Turn, AreMade}
+use Rattle.hd_session.proofs.Turns.{entries_count, stands_after, made_both}
 use Rattle.hd_deck.specs.StepText.{StepText}
 use Rattle.hd_deck.specs.Printing.{line_of, lines_from}
-use Rattle.hd_deck.specs.Runs.{Turn, step_turns, turns_of, turns_in, is_memory, memory_in, AreMade, ArePlayed, AreMadeUntil, PlaysAll, PlaysUntil, StaysWhole, StopsAt}
+use Rattle.hd_deck.specs.Runs.{step_turns, turns_of, is_memory, memory_in, ArePlayed, AreMadeUntil, PlaysAll, PlaysUntil}
 use Rattle.hd_deck.specs.declared.playing.Stop.{Stop}
 use Rattle.hd_deck.specs.declared.playing.Stop.TheVariants as stop
 
@@ -65,10 +63,6 @@ module _ {I : Type 0} where
       ap (λ (t : List ℕ). line_of n x ++ t) (lines_from_append (n + 1) xs ys ∙ ap (λ (m : ℕ). lines_from (n + 1) xs ++ lines_from m ys) e)
       ∙ sym (append_assoc (line_of n x) (lines_from (n + 1) xs) (lines_from (n + length (x ∷ xs)) ys))
 
-  turns_in_append : (xs ys : List (Entry I)) → turns_in (xs ++ ys) ≡ turns_in xs ++ turns_in ys
-  turns_in_append [] ys = refl
-  turns_in_append (x ∷ xs) ys = ap (λ (ts : List Turn). record { pcb = x.pcb; call = x.call } ∷ ts) (turns_in_append xs ys)
-
   memory_of_one : (x : Entry I) (xs ys : List (Entry I)) (b : Bool) → is_memory x.outcome ≡ b → memory_in (xs ++ ys) ≡ memory_in xs + memory_in ys
       → memory_in (x ∷ (xs ++ ys)) ≡ memory_in (x ∷ xs) + memory_in ys
   memory_of_one x xs ys true is more = rw is (let e : suc (memory_in (xs ++ ys)) ≡ suc (memory_in xs) + memory_in ys = omega (arith, more) in e)
@@ -79,27 +73,6 @@ module _ {I : Type 0} where
   memory_in_append [] ys = let e : memory_in ys ≡ 0 + memory_in ys = omega arith in e
   memory_in_append (x ∷ xs) ys = memory_of_one x xs ys (is_memory x.outcome) refl (memory_in_append xs ys)
 
-  last_state_append : (types : List SegmentType) (pcbs : List View) (st : State) (xs ys : List (Entry I))
-      → last_state types pcbs st (xs ++ ys) ≡ last_state types pcbs (last_state types pcbs st xs) ys
-  last_state_append types pcbs st [] ys = refl
-  last_state_append types pcbs st (x ∷ xs) ys = last_state_append types pcbs (next_state types pcbs st x) xs ys
-
-  run_append : (types : List SegmentType) (pcbs : List View) (st : State) (xs ys : List (Entry I)) → IsRun types pcbs st xs → IsRun types pcbs (last_state types pcbs st xs) ys
-      → IsRun types pcbs st (xs ++ ys)
-  run_append types pcbs st [] ys f g = g
-  run_append types pcbs st (x ∷ xs) ys f g = (f.0, f.1, f.2, run_append types pcbs (next_state types pcbs st x) xs ys f.3 g)
-
-  image_at_append : (xs ys : List (Entry I)) (middle last : I) → image_at ys last ≡ middle → image_at (xs ++ ys) last ≡ image_at xs middle
-  image_at_append [] ys middle last e = e
-  image_at_append (x ∷ xs) ys middle last e = refl
-
-  images_append : (images : Images I) (types : List SegmentType) (pcbs : List View) (st : State) (xs ys : List (Entry I)) (middle last : I)
-      → ImagesFollow images types pcbs st xs middle → image_at ys last ≡ middle → ImagesFollow images types pcbs (last_state types pcbs st xs) ys last
-      → ImagesFollow images types pcbs st (xs ++ ys) last
-  images_append images types pcbs st [] ys middle last f e g = g
-  images_append images types pcbs st (x ∷ xs) ys middle last f e g =
-      (f.0, rw (image_at_append xs ys middle last e) f.1, images_append images types pcbs (next_state types pcbs st x) xs ys middle last f.2 e g)
-
 -- ---- calls in a session
 
 -- known bytes grow by one text and then by another
@@ -109,89 +82,42 @@ appends_both (Some u) None c xs ys h k = absurd h
 appends_both (Some u) (Some v) None xs ys h k = absurd k
 appends_both (Some u) (Some v) (Some w) xs ys h k = k ∙ ap (λ (t : List ℕ). t ++ ys) h ∙ append_assoc u xs ys
 
--- some calls were made and then others
-pub made_both : (s m t : SessionState) (st : State) (xs ys : List Turn) (es fs : List (Entry (List ℕ)))
-    → m.database ≡ s.database → m.pcbs ≡ s.pcbs → AreMade s st xs es m → AreMade m (last_state s.database.types s.pcbs st es) ys fs t
-    → AreMade s st (xs ++ ys) (es ++ fs) t
-made_both s m t st xs ys es fs database pcbs f g =
-    let middle : State = last_state s.database.types s.pcbs st es in
-    let runs : IsRun s.database.types s.pcbs middle fs =
-    subst (λ (d : Database). IsRun d.types s.pcbs middle fs) database (subst (λ (ps : List View). IsRun m.database.types ps middle fs) pcbs g.runs) in
-    let follows : ImagesFollow (images_of s.database) s.database.types s.pcbs middle fs t.volume.image =
-    subst (λ (d : Database). ImagesFollow (images_of d) d.types s.pcbs middle fs t.volume.image) database
-    (subst (λ (ps : List View). ImagesFollow (images_of m.database) m.database.types ps middle fs t.volume.image) pcbs g.follows) in
-    let represents : Represents s.database t.volume t.kept (last_state s.database.types s.pcbs middle fs) =
-    subst (λ (d : Database). Represents d t.volume t.kept (last_state d.types s.pcbs middle fs)) database
-    (subst (λ (ps : List View). Represents m.database t.volume t.kept (last_state m.database.types ps middle fs)) pcbs g.represents) in
+-- some calls were played and then others
+pub played_both : (s m t : SessionState) (xs ys : List Turn) (number next : ℕ) (a b c : Option (List ℕ)) (j k : ℕ) → next ≡ number + length xs
+    → PlaysAll s xs number a b j m → PlaysAll m ys next b c k t → PlaysAll s (xs ++ ys) number a c (j + k) t
+played_both s m t xs ys number next a b c j k is f g = λ st sound stands.
+    let p : ArePlayed s st xs number a b j m = f st sound stands in
+    let middle : State = last_state s.database.types s.pcbs st p.entries in
+    let q : ArePlayed m middle ys next b c k t = g middle (rw p.made.whole.sound sound) (stands_after s m st xs p.entries p.made) in
+    let at : next ≡ number + length p.entries = is ∙ ap (λ (n : ℕ). number + n) (sym (entries_count s m st xs p.entries p.made)) in
     record {
-      asked = turns_in_append es fs ∙ ap (λ (ts : List Turn). ts ++ turns_in fs) f.asked ∙ ap (λ (ts : List Turn). xs ++ ts) g.asked;
-      begins = image_at_append es fs m.volume.image t.volume.image g.begins ∙ f.begins;
-      runs = run_append s.database.types s.pcbs st es fs f.runs runs;
-      follows = images_append (images_of s.database) s.database.types s.pcbs st es fs m.volume.image t.volume.image f.follows g.begins follows;
-      represents = rw (last_state_append s.database.types s.pcbs st es fs) represents;
+      entries = p.entries ++ q.entries;
+      made = made_both s m t st xs ys p.entries q.entries p.made q.made;
+      printed = subst (λ (ts : List ℕ). Appends a c ts)
+          (ap (λ (n : ℕ). lines_from number p.entries ++ lines_from n q.entries) at ∙ sym (lines_from_append number p.entries q.entries))
+          (appends_both a b c (lines_from number p.entries) (lines_from next q.entries) p.printed q.printed);
+      memory = ap (λ (n : ℕ). n + k) p.memory ∙ ap (λ (n : ℕ). memory_in p.entries + n) q.memory ∙ sym (memory_in_append p.entries q.entries);
     }
 
--- there are as many entries as calls
-pub entries_count : (s t : SessionState) (st : State) (xs : List Turn) (es : List (Entry (List ℕ))) → AreMade s st xs es t → length es ≡ length xs
-entries_count s t st xs es made = sym (length-map es (λ e. record { pcb = e.pcb; call = e.call })) ∙ ap (λ (ts : List Turn). length ts) made.asked
+until : (s m t : SessionState) (st middle : State) (xs ys rest : List Turn) (es : List (Entry (List ℕ))) (e : Stop)
+    → middle ≡ last_state s.database.types s.pcbs st es → AreMade s st xs es m → AreMadeUntil m middle ys e t → AreMadeUntil s st ((xs ++ ys) ++ rest) e t
+until s m t st middle xs ys rest es stop.Device is p q = tt
+until s m t st middle xs ys rest es stop.Write is p q =
+    let few : length xs + q.count ≤ length (xs ++ ys) = omega (arith, q.some, length-append xs ys) in
+    let first : take (length xs + q.count) ((xs ++ ys) ++ rest) ≡ xs ++ take q.count ys =
+    take-append-le (length xs + q.count) (xs ++ ys) rest few ∙ take-append-add xs ys q.count in
+    record {
+      count = length xs + q.count;
+      some = omega (arith, few, length-append (xs ++ ys) rest);
+      entries = es ++ q.entries;
+      made = subst (λ (ts : List Turn). AreMade s st ts (es ++ q.entries) t) (sym first)
+          (made_both s m t st xs (take q.count ys) es q.entries p (subst (λ (r : State). AreMade m r (take q.count ys) q.entries t) is q.made));
+    }
 
-module _ (s m : SessionState) (whole : StaysWhole s m) where
-  -- some calls were played and then others
-  pub played_both : (t : SessionState) (xs ys : List Turn) (number next : ℕ) (a b c : Option (List ℕ)) (j k : ℕ) → next ≡ number + length xs
-      → PlaysAll s xs number a b j m → PlaysAll m ys next b c k t → PlaysAll s (xs ++ ys) number a c (j + k) t
-  played_both t xs ys number next a b c j k is f g = λ st sound stands.
-      let p : ArePlayed s st xs number a b j m = f st sound stands in
-      let middle : State = last_state s.database.types s.pcbs st p.entries in
-      let there : Represents m.database m.volume m.kept middle = subst (λ (d : Database). Represents d m.volume m.kept middle) (sym whole.database) p.made.represents in
-      let q : ArePlayed m middle ys next b c k t = g middle (rw whole.sound sound) there in
-      let at : next ≡ number + length p.entries = is ∙ ap (λ (n : ℕ). number + n) (sym (entries_count s m st xs p.entries p.made)) in
-      record {
-        entries = p.entries ++ q.entries;
-        made = made_both s m t st xs ys p.entries q.entries whole.database whole.pcbs p.made q.made;
-        printed = subst (λ (ts : List ℕ). Appends a c ts)
-            (ap (λ (n : ℕ). lines_from number p.entries ++ lines_from n q.entries) at ∙ sym (lines_from_append number p.entries q.entries))
-            (appends_both a b c (lines_from number p.entries) (lines_from next q.entries) p.printed q.printed);
-        memory = ap (λ (n : ℕ). n + k) p.memory ∙ ap (λ (n : ℕ). memory_in p.entries + n) q.memory ∙ sym (memory_in_append p.entries q.entries);
-      }
-
-  until : (t : SessionState) (st middle : State) (xs ys rest : List Turn) (es : List (Entry (List ℕ))) (e : Stop)
-      → middle ≡ last_state s.database.types s.pcbs st es → AreMade s st xs es m → AreMadeUntil m middle ys e t → AreMadeUntil s st ((xs ++ ys) ++ rest) e t
-  until t st middle xs ys rest es stop.Device is p q = tt
-  until t st middle xs ys rest es stop.Write is p q =
-      let few : length xs + q.count ≤ length (xs ++ ys) = omega (arith, q.some, length-append xs ys) in
-      let first : take (length xs + q.count) ((xs ++ ys) ++ rest) ≡ xs ++ take q.count ys =
-      take-append-le (length xs + q.count) (xs ++ ys) rest few ∙ take-append-add xs ys q.count in
-      record {
-        count = length xs + q.count;
-        some = omega (arith, few, length-append (xs ++ ys) rest);
-        entries = es ++ q.entries;
-        made = subst (λ (ts : List Turn). AreMade s st ts (es ++ q.entries) t) (sym first)
-            (made_both s m t st xs (take q.count ys) es q.entries whole.database whole.pcbs p
-            (subst (λ (r : State). AreMade m r (take q.count ys) q.entries t) is q.made));
-      }
-
-  -- some calls were played, and then others until a stop
-  pub played_until : (t : SessionState) (xs ys rest : List Turn) (number : ℕ) (a b : Option (List ℕ)) (j : ℕ) (e : Stop)
-      → PlaysAll s xs number a b j m → PlaysUntil m ys e t → PlaysUntil s ((xs ++ ys) ++ rest) e t
-  played_until t xs ys rest number a b j e f g = λ st sound stands.
-      let p : ArePlayed s st xs number a b j m = f st sound stands in
-      let middle : State = last_state s.database.types s.pcbs st p.entries in
-      let there : Represents m.database m.volume m.kept middle = subst (λ (d : Database). Represents d m.volume m.kept middle) (sym whole.database) p.made.represents in
-      until t st middle xs ys rest p.entries e refl p.made (g middle (rw whole.sound sound) there)
-
-  -- a session that stayed whole twice
-  pub whole_both : (t : SessionState) → StaysWhole m t → StaysWhole s t
-  whole_both t w = record {
-    database = w.database ∙ whole.database;
-    pcbs = w.pcbs ∙ whole.pcbs;
-    whole = w.whole;
-    failures = w.failures ∙ whole.failures;
-    sound = w.sound ∙ whole.sound;
-    size = w.size ∙ whole.size;
-  }
-
-  -- a session that stayed whole, and then stopped
-  pub whole_stop : (t : SessionState) (e : Stop) → StopsAt m e t → StopsAt s e t
-  whole_stop t stop.Device w =
-      record { broken = w.broken; failures = omega (arith, w.failures, whole.failures); sound = w.sound; size = w.size ∙ whole.size }
-  whole_stop t stop.Write w = whole_both t w
+-- some calls were played, and then others until a stop
+pub played_until : (s m t : SessionState) (xs ys rest : List Turn) (number : ℕ) (a b : Option (List ℕ)) (j : ℕ) (e : Stop)
+    → PlaysAll s xs number a b j m → PlaysUntil m ys e t → PlaysUntil s ((xs ++ ys) ++ rest) e t
+played_until s m t xs ys rest number a b j e f g = λ st sound stands.
+    let p : ArePlayed s st xs number a b j m = f st sound stands in
+    until s m t st (last_state s.database.types s.pcbs st p.entries) xs ys rest p.entries e refl p.made
+    (g (last_state s.database.types s.pcbs st p.entries) (rw p.made.whole.sound sound) (stands_after s m st xs p.entries p.made))

@@ -11,12 +11,13 @@ use Rattle.hd_dbd.specs.Sample.{sample_types, sample_pcbs, sample_rows}
 use Rattle.hd_calls.specs.Steps.{Effect, answered, wrong_area, State, state_after}
 use Rattle.hd_calls.specs.Runs.{effect_by}
 use Rattle.hd_calls.specs.NoLostUpdate.{opened}
+use Rattle.hd_session.specs.Turns.{Turn}
 use Rattle.hd_deck.specs.declared.deck.DeckFault.{DeckFault}
 use Rattle.hd_deck.specs.declared.deck.DeckFault.TheVariants.{K1, K2, K3, K4, K5, K7}
 use Rattle.hd_deck.specs.StepText.{StepText}
 use Rattle.hd_deck.specs.Deck.{deck}
 use Rattle.hd_deck.specs.Printing.{lines_from}
-use Rattle.hd_deck.specs.Runs.{Turn, turns_of}
+use Rattle.hd_deck.specs.Runs.{turns_of}
 
 -- what a call comes to where it finds memory and room
 abbrev come_to : Effect → Outcome

@@ -1,16 +1,15 @@
 -- What the run of a deck comes to: the log of its calls, and what it leaves.
-use Rattle.std.specs.Prelude.{◌≡◌, ◌≢◌, IsTrue, ℕ, ◌<◌, ◌≤◌, List, length, take, map, filter, flat_map, replicate, Bool, true, false, Option, Some, None, Result, Ok, Err}
+use Rattle.std.specs.Prelude.{◌≡◌, ◌≢◌, IsTrue, ℕ, ◌<◌, ◌≤◌, List, length, take, filter, flat_map, replicate, All, Bool, true, false, Option, Some, None, Result, Ok, Err}
 use Rattle.std.specs.Io.KnownBytes.{Appends}
 use Rattle.hd_dbd.specs.declared.answer.Refused.{Refused}
 use Rattle.hd_dbd.specs.declared.answer.Refused.TheVariants as refused
 use Rattle.hd_dbd.specs.Types.{View}
 use Rattle.hd_dbd.specs.Hierarchy.{Database}
 use Rattle.hd_dbd.specs.Segment.{Segment}
-use Rattle.hd_dbd.specs.Calls.{CallText}
 use Rattle.hd_dbd.specs.Forest.{Forest, sequence}
 use Rattle.hd_dbd.specs.Logs.{Outcome, replied, area, full, memory, Entry, Log}
 use Rattle.hd_calls.specs.Steps.{State}
-use Rattle.hd_calls.specs.Runs.{IsRun, last_state, image_at, ImagesFollow, IsLegalLog}
+use Rattle.hd_calls.specs.Runs.{IsLegalLog}
 use Rattle.hd_calls.specs.NoLostUpdate.{opened}
 use Rattle.hd_image.specs.Holding.{HoldsForest, volume_of}
 use Rattle.hd_keeping.specs.VolumeImages.{images_of}
@@ -18,6 +17,7 @@ use Rattle.hd_update.specs.States.{Represents}
 use Rattle.hd_session.specs.declared.request.Answer.{Answer}
 use Rattle.hd_session.specs.declared.opening.OpenFault.TheVariants as opening
 use Rattle.hd_session.specs.Opening.{SessionState, IsOpenFaultOf}
+use Rattle.hd_session.specs.Turns.{Turn, turns_in, LacksMemoryFairly, StaysWhole, AreMade}
 use Rattle.hd_deck.specs.declared.running.RunFault.{RunFault}
 use Rattle.hd_deck.specs.declared.running.RunFault.TheVariants as run
 use Rattle.hd_deck.specs.declared.playing.Stop.{Stop}
@@ -26,11 +26,6 @@ use Rattle.hd_deck.specs.StepText.{StepText}
 use Rattle.hd_deck.specs.Printing.{lines_from, print}
 
 -- ---- the calls of a deck
-
--- One call of a PCB.
-pub record Turn : Type 0 where
-  pub pcb : ℕ
-  pub call : CallText
 
 -- the calls of one step
 abbrev pub step_turns : StepText → List Turn
@@ -41,10 +36,6 @@ abbrev pub turns_of : List StepText → List Turn
 turns_of steps = flat_map step_turns steps
 
 -- ---- entries of a log
-
--- the calls that entries are of
-abbrev pub turns_in : {Image : Type 0} → List (Entry Image) → List Turn
-turns_in entries = map (λ e. record { pcb = e.pcb; call = e.call }) entries
 
 -- a call found no memory
 abbrev pub is_memory : Outcome → Bool
@@ -67,14 +58,6 @@ memory_of (Err refused.Broken) = None
 memory_of (Err refused.Area) = Some 0
 
 -- ---- in a session
-
--- Calls by a session that stood for a state came to these entries, as a legal log has them, and the session stands for the state behind them.
-pub record AreMade (s : SessionState) (st : State) (turns : List Turn) (entries : List (Entry (List ℕ))) (t : SessionState) : Type 0 where
-  pub asked : turns_in entries ≡ turns
-  pub begins : image_at entries t.volume.image ≡ s.volume.image
-  pub runs : IsRun s.database.types s.pcbs st entries
-  pub follows : ImagesFollow (images_of s.database) s.database.types s.pcbs st entries t.volume.image
-  pub represents : Represents s.database t.volume t.kept (last_state s.database.types s.pcbs st entries)
 
 -- The calls were made, and their lines were written, the first of which has the number; and so many of them found no memory.
 pub record ArePlayed (s : SessionState) (st : State) (turns : List Turn) (number : ℕ) (old new : Option (List ℕ)) (lacking : ℕ) (t : SessionState) : Type 0 where
@@ -103,15 +86,6 @@ PlaysAll s turns number old new lacking t =
 -- whatever state the session stood for, calls were made from it until the stop
 abbrev pub PlaysUntil : SessionState → List Turn → Stop → SessionState → Type 0
 PlaysUntil s turns e t = (st : State) → IsTrue s.volume.is_sound → Represents s.database s.volume s.kept st → AreMadeUntil s st turns e t
-
--- No access has failed in a session, which is still of its database and its PCBs.
-pub record StaysWhole (s t : SessionState) : Type 0 where
-  pub database : t.database ≡ s.database
-  pub pcbs : t.pcbs ≡ s.pcbs
-  pub whole : t.broken ≡ false
-  pub failures : t.volume.failures ≡ s.volume.failures
-  pub sound : t.volume.is_sound ≡ s.volume.is_sound
-  pub size : t.volume.size ≡ s.volume.size
 
 -- An access has failed in a session.
 pub record Breaks (s t : SessionState) : Type 0 where
@@ -156,13 +130,15 @@ LeavesAt s turns e left = (st : State) → IsTrue s.volume.is_sound → Represen
 -- ---- a run
 
 -- A store's bytes held one forest and no other; the calls came to this log, which is legal from the hierarchic sequence of that forest and
--- all PCBs at the start; and the bytes that are left are those behind its last entry.
+-- all PCBs at the start, and which says that memory was wanting only at calls that take some; and the bytes that are left are those behind its
+-- last entry.
 pub record IsPlayed (d : Database) (pcbs : List View) (bytes : List ℕ) (turns : List Turn) (log : Log (List ℕ)) (left : List ℕ) : Type 0 where
   pub forest : Forest Segment
   pub holds : HoldsForest d (volume_of d bytes) forest
   pub one : (g : Forest Segment) → HoldsForest d (volume_of d bytes) g → g ≡ forest
   pub legal : IsLegalLog (images_of d) d.types pcbs bytes (opened pcbs (sequence forest)) log
   pub asked : turns_in log.entries ≡ turns
+  pub lacking : All LacksMemoryFairly log.entries
   pub ends : log.last ≡ left
 
 -- A run that made all calls: their log, its lines, which were written, and how many of the calls found no memory.

@@ -16,4 +16,6 @@ pub use running::{RunEnd, RunFault, run};
 pub use step::Step;
 
 #[cfg(test)]
+mod refusal_tests;
+#[cfg(test)]
 mod run_tests;

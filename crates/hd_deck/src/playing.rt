@@ -2,7 +2,8 @@ ghost use Rattle.std.specs.Prelude.{◌≡◌, ◌+◌, ◌^◌, ◌<◌, ◌≤
 ghost use Rattle.hd_dbd.specs.Hierarchy.{longest_path};
 ghost use Rattle.hd_volume.specs.Stores.{CountsFor, SoundFor};
 ghost use Rattle.hd_deck.specs.StepText.{StepFits};
-ghost use Rattle.hd_deck.specs.Runs.{step_turns, turns_of, memory_of, PlaysAll, PlaysUntil, StaysWhole, StopsAt};
+ghost use Rattle.hd_session.specs.Turns.{StaysWhole};
+ghost use Rattle.hd_deck.specs.Runs.{step_turns, turns_of, memory_of, PlaysAll, PlaysUntil, StopsAt};
 
 use crate::printing::print_outcome;
 use crate::step::Step;
@@ -29,7 +30,8 @@ fn memory_of(answered: &Result<Answer, Refused>) -> Option<u64>
     }
 }
 
-/// One call, and its line; how many calls, 0 or 1, found no memory.
+/// One call, and its line, that of a failed access too; how many calls, 0 or 1, found no memory. Where an access failed it is `Device`, whether
+/// or not the line was written.
 fn play_call<S: BlockStore, W: Write>(
     session: &mut Session<'_, S>,
     pcb: u8,
@@ -49,10 +51,11 @@ fn play_call<S: BlockStore, W: Write>(
     ensures same_room { io.new.room ≡ io.old.room }
 {
     let answered = session.call(pcb, call, io);
+    let printed = print_outcome(out, number, pcb, &call.func, &answered, io);
     let Some(lacking) = memory_of(&answered) else {
         return Err(Stop::Device);
     };
-    match print_outcome(out, number, pcb, &call.func, &answered, io) {
+    match printed {
         Ok(()) => Ok(lacking),
         Err(_) => Err(Stop::Write),
     }

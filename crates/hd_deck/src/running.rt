@@ -83,8 +83,9 @@ fn play_and_close<S: BlockStore, W: Write>(
 /// the session.
 ///
 /// A call that is refused for its area, for room or for memory is printed as `[!!] Area`, `[!!] Full` or `[!!] Memory`, and the run goes on.
-/// `Open` and `Memory` come before the first call, and nothing is written then. `Device` ends the run at the failed access. `Write` ends it at
-/// the failed write, after the session is closed; how much went out is not known.
+/// `Open` and `Memory` come before the first call, and nothing is written then. `Device` ends the run at the failed access; where that was one of
+/// a call, the call is printed as `[!!] Device`, if the writer takes the line. `Write` ends it at the failed write, after the session is closed;
+/// how much went out is not known.
 pub fn run<S: BlockStore, W: Write>(
     alloc: Global,
     store: S,

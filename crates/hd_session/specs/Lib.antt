@@ -6,4 +6,5 @@ pub mod Loads
 pub mod Inserts
 pub mod Opening
 pub mod Logged
+pub mod Turns
 pub mod Laws

@@ -15,7 +15,7 @@ mod updating;
 
 pub use buffer::IoArea;
 pub use giving::give;
-pub use law::law_no_lost_update;
+pub use law::{law_no_lost_update, law_sessions_answer_their_logs};
 pub use opening::OpenFault;
 pub use over_volume::Session;
 pub use request::{Answer, Call};

@@ -1,8 +1,9 @@
 use Rattle.std.proofs.Common.{List, length, sym, subst, inr, arith}
 use Rattle.std.proofs.KnownBytes.{Appends-kept}
 use Rattle.std.proofs.lemmas.List.{take_all}
+use Rattle.hd_session.specs.Turns.{Turn}
 use Rattle.hd_deck.specs.Printing.{print}
-use Rattle.hd_deck.specs.Runs.{Turn, turns_of, IsPlayed}
+use Rattle.hd_deck.specs.Runs.{turns_of, IsPlayed}
 use Rattle.hd_commands.proofs.Saying.{play-says}
 use Rattle.hd_commands.proofs.playing.play_and_print.Goals as goal
 

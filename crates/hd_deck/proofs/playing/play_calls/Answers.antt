@@ -3,15 +3,17 @@ use Rattle.std.specs.Prelude.{IfErr}
 use Rattle.std.proofs.lemmas.List.{replicate_more, length-replicate}
 use Rattle.std.proofs.lemmas.Result.{err_from_is_err_and}
 use Rattle.hd_session.specs.Opening.{SessionState}
+use Rattle.hd_session.specs.Turns.{Turn}
+use Rattle.hd_session.proofs.Turns.{whole_none, whole_both}
 use Rattle.hd_deck.specs.declared.playing.Stop.{Stop}
-use Rattle.hd_deck.specs.Runs.{Turn, PlaysAll, PlaysUntil}
-use Rattle.hd_deck.proofs.Turns.{played_both, played_until, whole_both, replicate_parts}
-use Rattle.hd_deck.proofs.Calls.{played_none, whole_none}
+use Rattle.hd_deck.specs.Runs.{PlaysAll, PlaysUntil}
+use Rattle.hd_deck.proofs.Turns.{played_both, played_until, replicate_parts}
+use Rattle.hd_deck.proofs.Calls.{played_none}
 use Rattle.hd_deck.proofs.playing.play_calls.Goals as goal
 
 pub loop-made-init : goal.loop-made-init
 loop-made-init g c = record {
-  plays = played_none c.args.session.now c.args.number (g.W.Write.contents c.args.out.now);
+  plays = played_none c.args.session.now c.args.number (g.W.Write.contents c.args.out.now) c.requires.whole;
   few = omega arith;
   whole = whole_none c.args.session.now c.requires.whole;
   room = refl;
@@ -28,10 +30,10 @@ loop-made-preserved g c =
     record {
       plays = subst (λ (ts : List Turn). PlaysAll s ts c.args.number (g.W.Write.contents c.args.out.now) (g.W.Write.contents c.play_call.new.out) (c.loop-made.lacking + c.in_ok-more.more) new)
           (replicate_more c.loop-made.made t)
-          (played_both s m c.loop-made.invariant.whole new before (t ∷ []) c.args.number (c.args.number + c.from.result) (g.W.Write.contents c.args.out.now) (g.W.Write.contents c.loop-made.out)
+          (played_both s m new before (t ∷ []) c.args.number (c.args.number + c.from.result) (g.W.Write.contents c.args.out.now) (g.W.Write.contents c.loop-made.out)
           (g.W.Write.contents c.play_call.new.out) c.loop-made.lacking c.in_ok-more.more number c.loop-made.invariant.plays c.in_ok-more.ensures.plays);
       few = omega (arith, c.loop-made.invariant.few, c.in_ok-more.ensures.few);
-      whole = whole_both s m c.loop-made.invariant.whole new c.in_ok-more.ensures.whole;
+      whole = whole_both s m new c.loop-made.invariant.whole c.in_ok-more.ensures.whole;
       room = c.in_ok-more.ensures.same_room ∙ c.loop-made.invariant.room;
     }
 
@@ -47,7 +49,7 @@ returns-in_err-more-clause-until g c =
     let p = err_from_is_err_and c.from_residual.result c.from_residual.ensures.1 in
     subst (λ (r : Result ℕ Stop). IfErr r (λ e. PlaysUntil s (replicate c.args.repeat t) e new)) (sym (p.1 ∙ ap Err p.2))
     (subst (λ (ts : List Turn). PlaysUntil s ts e new) (sym (replicate_parts c.loop-made.made c.args.repeat t c.loop-made-test.true))
-    (played_until s m c.loop-made.invariant.whole new before (t ∷ []) rest c.args.number (g.W.Write.contents c.args.out.now) (g.W.Write.contents c.loop-made.out) c.loop-made.lacking
+    (played_until s m new before (t ∷ []) rest c.args.number (g.W.Write.contents c.args.out.now) (g.W.Write.contents c.loop-made.out) c.loop-made.lacking
     e c.loop-made.invariant.plays c.in_err-more.ensures.until))
 
 pub returns-clause-plays : goal.returns-clause-plays

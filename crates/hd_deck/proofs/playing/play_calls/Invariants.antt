@@ -1,5 +1,6 @@
 use Rattle.std.proofs.Common.{◌≡◌, ◌≤◌, replicate}
-use Rattle.hd_deck.specs.Runs.{Turn, PlaysAll, StaysWhole}
+use Rattle.hd_session.specs.Turns.{Turn, StaysWhole}
+use Rattle.hd_deck.specs.Runs.{PlaysAll}
 use Rattle.hd_deck.proofs.playing.play_calls.Given as goal
 
 -- the calls so far are played, and the session is whole

@@ -3,17 +3,19 @@ use Rattle.std.specs.Prelude.{IfErr}
 use Rattle.std.proofs.lemmas.Result.{err_from_is_err_and}
 use Rattle.std.proofs.lemmas.List.{length-append, length-replicate, take_all}
 use Rattle.hd_session.specs.Opening.{SessionState}
+use Rattle.hd_session.specs.Turns.{Turn}
+use Rattle.hd_session.proofs.Turns.{whole_none, whole_both}
 use Rattle.hd_deck.specs.declared.playing.Stop.{Stop}
 use Rattle.hd_deck.specs.declared.playing.Count.{Count}
 use Rattle.hd_deck.specs.StepText.{StepText, StepFits}
-use Rattle.hd_deck.specs.Runs.{Turn, step_turns, turns_of, PlaysAll, PlaysUntil}
-use Rattle.hd_deck.proofs.Turns.{played_both, played_until, whole_both, turns_of_more, turns_of_parts}
-use Rattle.hd_deck.proofs.Calls.{played_none, whole_none}
+use Rattle.hd_deck.specs.Runs.{step_turns, turns_of, PlaysAll, PlaysUntil}
+use Rattle.hd_deck.proofs.Turns.{played_both, played_until, turns_of_more, turns_of_parts}
+use Rattle.hd_deck.proofs.Calls.{played_none}
 use Rattle.hd_deck.proofs.playing.play_steps.Goals as goal
 
 pub loop-step-init : goal.loop-step-init
 loop-step-init g c = record {
-  plays = played_none c.args.session.now 1 (g.W.Write.contents c.args.out.now);
+  plays = played_none c.args.session.now 1 (g.W.Write.contents c.args.out.now) c.requires.whole;
   calls = refl;
   few = omega arith;
   less = omega arith;
@@ -38,7 +40,7 @@ loop-step-preserved g c =
     record {
       plays = subst (λ (ts : List Turn). PlaysAll s ts 1 (g.W.Write.contents c.args.out.now) (g.W.Write.contents c.play_step.new.out) (c.loop-step.memory + c.in_ok-lacking.lacking) new)
           (sym more)
-          (played_both s m c.loop-step.invariant.whole new before (step_turns step) 1 (c.loop-step.calls + 1) (g.W.Write.contents c.args.out.now) (g.W.Write.contents c.loop-step.out)
+          (played_both s m new before (step_turns step) 1 (c.loop-step.calls + 1) (g.W.Write.contents c.args.out.now) (g.W.Write.contents c.loop-step.out)
           (g.W.Write.contents c.play_step.new.out) c.loop-step.memory c.in_ok-lacking.lacking number c.loop-step.invariant.plays c.in_ok-lacking.ensures.plays);
       calls = omega (
         arith,
@@ -50,7 +52,7 @@ loop-step-preserved g c =
       );
       few = omega (arith, fits.few_calls, c.loop-step.invariant.few, repeats);
       less = omega (arith, c.loop-step.invariant.less, c.in_ok-lacking.ensures.few, repeats);
-      whole = whole_both s m c.loop-step.invariant.whole new c.in_ok-lacking.ensures.whole;
+      whole = whole_both s m new c.loop-step.invariant.whole c.in_ok-lacking.ensures.whole;
       room = c.in_ok-lacking.ensures.same_room ∙ c.loop-step.invariant.room;
     }
 
@@ -66,7 +68,7 @@ returns-in_err-lacking-clause-until g c =
     let p = err_from_is_err_and c.from_residual.result c.from_residual.ensures.1 in
     subst (λ (r : Result Count Stop). IfErr r (λ e. PlaysUntil s (turns_of steps) e new)) (sym (p.1 ∙ ap Err p.2))
     (subst (λ (ts : List Turn). PlaysUntil s ts e new) (sym (turns_of_parts steps i step c.loop-step-test.true c.step-item.is))
-    (played_until s m c.loop-step.invariant.whole new (turns_of (take i steps)) (step_turns step) (turns_of (drop (i + 1) steps)) 1 (g.W.Write.contents c.args.out.now)
+    (played_until s m new (turns_of (take i steps)) (step_turns step) (turns_of (drop (i + 1) steps)) 1 (g.W.Write.contents c.args.out.now)
     (g.W.Write.contents c.loop-step.out) c.loop-step.memory e c.loop-step.invariant.plays c.in_err-lacking.ensures.until))
 
 pub returns-clause-plays : goal.returns-clause-plays

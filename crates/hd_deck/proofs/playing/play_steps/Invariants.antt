@@ -1,5 +1,6 @@
 use Rattle.std.proofs.Common.{◌≡◌, ◌≤◌, ◌*◌, length, take}
-use Rattle.hd_deck.specs.Runs.{turns_of, PlaysAll, StaysWhole}
+use Rattle.hd_session.specs.Turns.{StaysWhole}
+use Rattle.hd_deck.specs.Runs.{turns_of, PlaysAll}
 use Rattle.hd_deck.proofs.playing.play_steps.Given as goal
 
 -- the steps so far are played, and the session is whole

@@ -1,0 +1,224 @@
+-- Calls of a session one after another, and the log that they come to.
+use Rattle.std.proofs.Common.{◌≡◌, ◌≢◌, ◌⊎◌, ℕ, ◌<◌, ◌≤◌, List, [], ◌∷◌, ◌++◌, length, false, Option, Some, None, Result, Ok, Err, IsTrue, All, ap, sym, ◌∙◌, subst, refl, inl, inr}
+use Rattle.std.specs.Prelude.{IfErr, IfSome}
+use Rattle.std.proofs.lemmas.Bool.{cases_lt}
+use Rattle.std.proofs.lemmas.List.{length-map}
+use Rattle.std.proofs.lemmas.List.Elements.{All-nil, All-cons, All-append}
+use Rattle.hd_dbd.specs.declared.answer.Refused.{Refused}
+use Rattle.hd_dbd.specs.declared.answer.Refused.TheVariants as refused
+use Rattle.hd_dbd.specs.Types.{SegmentType, View}
+use Rattle.hd_dbd.specs.Hierarchy.{Database}
+use Rattle.hd_dbd.specs.Calls.{CallText}
+use Rattle.hd_dbd.specs.Logs.{Outcome, replied, area, full, memory, Entry}
+use Rattle.hd_calls.specs.declared.call.Function.{Function}
+use Rattle.hd_calls.specs.declared.call.Function.TheVariants.{Get, Insert, Replace, Delete}
+use Rattle.hd_calls.specs.Functions.{function_of}
+use Rattle.hd_calls.specs.Steps.{State}
+use Rattle.hd_calls.specs.Runs.{Images, Holds, IsRun, effect_by, state_after_outcome, next_state, last_state, image_at, ImagesFollow}
+use Rattle.hd_calls.specs.NoLostUpdate.{opened}
+use Rattle.hd_volume.specs.Volumes.{VolumeState}
+use Rattle.hd_links.specs.Steps.{rows_of, addresses}
+use Rattle.hd_keeping.specs.VolumeImages.{images_of}
+use Rattle.hd_keeping.proofs.VolumeImages.{bytes-hold}
+use Rattle.hd_position.specs.Kept.{Kept}
+use Rattle.hd_update.specs.States.{Represents}
+use Rattle.hd_session.specs.declared.request.Answer.{Answer}
+use Rattle.hd_session.specs.Buffer.{Buffer}
+use Rattle.hd_session.specs.Replies.{reply_of}
+use Rattle.hd_session.specs.Opening.{SessionState, session_at_start}
+use Rattle.hd_session.specs.Logged.{outcome_of, IsLogged}
+use Rattle.hd_session.specs.Turns.{Turn, turns_in, TakesMemory, LacksMemoryFairly, StaysWhole, IsTurnAnswered, AreMade, entry_of}
+use Rattle.hd_session.specs.Laws.{IsOpened, IsLegalLogOf, SessionsAnswer}
+
+-- ---- one call
+
+-- a session that has done nothing is whole
+pub whole_none : (s : SessionState) → s.broken ≡ false → StaysWhole s s
+whole_none s whole = record { database = refl; pcbs = refl; whole = whole; failures = refl; sound = refl; size = refl }
+
+-- a volume that stands for a state holds its rows
+pub holds_state : (d : Database) (v : VolumeState) (kept : List Kept) (st : State) → Represents d v kept st → Holds (images_of d) v.image st.rows
+holds_state d v kept st r =
+    (addresses r.placed, record { placed = r.placed; holds = bytes-hold d v r.placed r.holds; rows_are = r.rows; places_are = refl })
+
+-- no call was made
+pub made_none : (s : SessionState) (st : State) → s.broken ≡ false → Represents s.database s.volume s.kept st → AreMade s st [] [] s
+made_none s st whole stands = record {
+  asked = refl;
+  begins = refl;
+  runs = tt;
+  follows = holds_state s.database s.volume s.kept st stands;
+  lacking = All-nil LacksMemoryFairly;
+  represents = stands;
+  whole = whole_none s whole;
+}
+
+-- memory was wanting in vain but at an ISRT, or with more than four arguments
+takes : (f : Option Function) (n : ℕ) → (f ≢ Some Insert → n ≤ 4 → ⊥) → (f ≡ Some Insert) ⊎ (4 < n)
+takes (Some Insert) n none = inl refl
+takes None n none = elim (cases_lt 4 n) [ inl more ↦ inr more | inr few ↦ absurd (none (λ e. cc) few) ]
+takes (Some (Get kind hold)) n none = elim (cases_lt 4 n) [ inl more ↦ inr more | inr few ↦ absurd (none (λ e. cc) few) ]
+takes (Some Replace) n none = elim (cases_lt 4 n) [ inl more ↦ inr more | inr few ↦ absurd (none (λ e. cc) few) ]
+takes (Some Delete) n none = elim (cases_lt 4 n) [ inl more ↦ inr more | inr few ↦ absurd (none (λ e. cc) few) ]
+
+takes_where : (call : CallText) (io : Buffer) (result : Result Answer Refused) → (function_of call.function ≢ Some Insert → length call.ssas ≤ 4 → IfErr result (λ e. e ≢ refused.Memory))
+    → outcome_of result io ≡ Some memory → TakesMemory call
+takes_where call io (Ok a) never is = cc
+takes_where call io (Err refused.Memory) never is = takes (function_of call.function) (length call.ssas) (λ other few. never other few refl)
+takes_where call io (Err refused.Full) never is = cc
+takes_where call io (Err refused.Device) never is = cc
+takes_where call io (Err refused.Broken) never is = cc
+takes_where call io (Err refused.Area) never is = cc
+
+module _ (s t : SessionState) (turn : Turn) (io : Buffer) where
+  -- a call that came to an outcome leaves the session whole
+  pub turn_whole : (result : Result Answer Refused) (o : Outcome) → IsTurnAnswered s turn result io t → outcome_of result io ≡ Some o → StaysWhole s t
+  turn_whole (Ok a) o made is = record {
+    database = ap (λ (x : SessionState). x.database) made.same;
+    pcbs = ap (λ (x : SessionState). x.pcbs) made.same;
+    whole = ap (λ (x : SessionState). x.broken) made.same;
+    failures = made.call.counts;
+    sound = made.call.sound;
+    size = made.call.size;
+  }
+  turn_whole (Err refused.Memory) o made is = record {
+    database = ap (λ (x : SessionState). x.database) made.same;
+    pcbs = ap (λ (x : SessionState). x.pcbs) made.same;
+    whole = ap (λ (x : SessionState). x.broken) made.same;
+    failures = made.call.counts;
+    sound = made.call.sound;
+    size = made.call.size;
+  }
+  turn_whole (Err refused.Full) o made is = record {
+    database = ap (λ (x : SessionState). x.database) made.same;
+    pcbs = ap (λ (x : SessionState). x.pcbs) made.same;
+    whole = ap (λ (x : SessionState). x.broken) made.same;
+    failures = made.call.counts;
+    sound = made.call.sound;
+    size = made.call.size;
+  }
+  turn_whole (Err refused.Device) o made is = cc
+  turn_whole (Err refused.Broken) o made is = cc
+  turn_whole (Err refused.Area) o made is = record {
+    database = ap (λ (x : SessionState). x.database) made.same;
+    pcbs = ap (λ (x : SessionState). x.pcbs) made.same;
+    whole = ap (λ (x : SessionState). x.broken) made.same;
+    failures = made.call.counts;
+    sound = made.call.sound;
+    size = made.call.size;
+  }
+
+  -- and it is made, as one entry
+  pub made_one : (st : State) (result : Result Answer Refused) (o : Outcome) → IsTrue s.volume.is_sound → Represents s.database s.volume s.kept st → IsTurnAnswered s turn result io t
+      → outcome_of result io ≡ Some o → AreMade s st (turn ∷ []) (entry_of s turn o ∷ []) t
+  made_one st result o sound stands made is =
+      let logged : IsLogged s.database s.pcbs s.volume st turn.pcb turn.call o t.volume t.kept =
+      subst (λ (x : Option Outcome). IfSome x (λ p. IsLogged s.database s.pcbs s.volume st turn.pcb turn.call p t.volume t.kept)) is (made.logged st sound stands) in
+      let after : State = state_after_outcome s.database.types st turn.pcb (effect_by s.database.types s.pcbs st turn.pcb turn.call) o in
+      record {
+        asked = refl;
+        begins = refl;
+        runs = (made.pcb.0, made.pcb.1, logged.may, tt);
+        follows = (holds_state s.database s.volume s.kept st stands, logged.follows, holds_state s.database t.volume t.kept after logged.represents);
+        lacking = All-cons LacksMemoryFairly (entry_of s turn o) [] (λ lacks. takes_where turn.call io result made.memory (is ∙ ap Some lacks)) (All-nil LacksMemoryFairly);
+        represents = logged.represents;
+        whole = turn_whole result o made is;
+      }
+
+-- ---- some calls, and then others
+
+module _ {I : Type 0} where
+  turns_in_append : (xs ys : List (Entry I)) → turns_in (xs ++ ys) ≡ turns_in xs ++ turns_in ys
+  turns_in_append [] ys = refl
+  turns_in_append (x ∷ xs) ys = ap (λ (ts : List Turn). record { pcb = x.pcb; call = x.call } ∷ ts) (turns_in_append xs ys)
+
+  last_state_append : (types : List SegmentType) (pcbs : List View) (st : State) (xs ys : List (Entry I))
+      → last_state types pcbs st (xs ++ ys) ≡ last_state types pcbs (last_state types pcbs st xs) ys
+  last_state_append types pcbs st [] ys = refl
+  last_state_append types pcbs st (x ∷ xs) ys = last_state_append types pcbs (next_state types pcbs st x) xs ys
+
+  run_append : (types : List SegmentType) (pcbs : List View) (st : State) (xs ys : List (Entry I)) → IsRun types pcbs st xs → IsRun types pcbs (last_state types pcbs st xs) ys
+      → IsRun types pcbs st (xs ++ ys)
+  run_append types pcbs st [] ys f g = g
+  run_append types pcbs st (x ∷ xs) ys f g = (f.0, f.1, f.2, run_append types pcbs (next_state types pcbs st x) xs ys f.3 g)
+
+  image_at_append : (xs ys : List (Entry I)) (middle last : I) → image_at ys last ≡ middle → image_at (xs ++ ys) last ≡ image_at xs middle
+  image_at_append [] ys middle last e = e
+  image_at_append (x ∷ xs) ys middle last e = refl
+
+  images_append : (images : Images I) (types : List SegmentType) (pcbs : List View) (st : State) (xs ys : List (Entry I)) (middle last : I)
+      → ImagesFollow images types pcbs st xs middle → image_at ys last ≡ middle → ImagesFollow images types pcbs (last_state types pcbs st xs) ys last
+      → ImagesFollow images types pcbs st (xs ++ ys) last
+  images_append images types pcbs st [] ys middle last f e g = g
+  images_append images types pcbs st (x ∷ xs) ys middle last f e g =
+      (f.0, rw (image_at_append xs ys middle last e) f.1, images_append images types pcbs (next_state types pcbs st x) xs ys middle last f.2 e g)
+
+-- a session that stayed whole twice
+pub whole_both : (s m t : SessionState) → StaysWhole s m → StaysWhole m t → StaysWhole s t
+whole_both s m t first then = record {
+  database = then.database ∙ first.database;
+  pcbs = then.pcbs ∙ first.pcbs;
+  whole = then.whole;
+  failures = then.failures ∙ first.failures;
+  sound = then.sound ∙ first.sound;
+  size = then.size ∙ first.size;
+}
+
+-- a session stands for the state behind the calls that were made in it
+pub stands_after : (s m : SessionState) (st : State) (xs : List Turn) (es : List (Entry (List ℕ))) → AreMade s st xs es m
+    → Represents m.database m.volume m.kept (last_state s.database.types s.pcbs st es)
+stands_after s m st xs es made =
+    subst (λ (d : Database). Represents d m.volume m.kept (last_state s.database.types s.pcbs st es)) (sym made.whole.database) made.represents
+
+-- some calls were made and then others
+pub made_both : (s m t : SessionState) (st : State) (xs ys : List Turn) (es fs : List (Entry (List ℕ))) → AreMade s st xs es m
+    → AreMade m (last_state s.database.types s.pcbs st es) ys fs t → AreMade s st (xs ++ ys) (es ++ fs) t
+made_both s m t st xs ys es fs f g =
+    let database : m.database ≡ s.database = f.whole.database in
+    let pcbs : m.pcbs ≡ s.pcbs = f.whole.pcbs in
+    let middle : State = last_state s.database.types s.pcbs st es in
+    let runs : IsRun s.database.types s.pcbs middle fs =
+    subst (λ (d : Database). IsRun d.types s.pcbs middle fs) database (subst (λ (ps : List View). IsRun m.database.types ps middle fs) pcbs g.runs) in
+    let follows : ImagesFollow (images_of s.database) s.database.types s.pcbs middle fs t.volume.image =
+    subst (λ (d : Database). ImagesFollow (images_of d) d.types s.pcbs middle fs t.volume.image) database
+    (subst (λ (ps : List View). ImagesFollow (images_of m.database) m.database.types ps middle fs t.volume.image) pcbs g.follows) in
+    let represents : Represents s.database t.volume t.kept (last_state s.database.types s.pcbs middle fs) =
+    subst (λ (d : Database). Represents d t.volume t.kept (last_state d.types s.pcbs middle fs)) database
+    (subst (λ (ps : List View). Represents m.database t.volume t.kept (last_state m.database.types ps middle fs)) pcbs g.represents) in
+    record {
+      asked = turns_in_append es fs ∙ ap (λ (ts : List Turn). ts ++ turns_in fs) f.asked ∙ ap (λ (ts : List Turn). xs ++ ts) g.asked;
+      begins = image_at_append es fs m.volume.image t.volume.image g.begins ∙ f.begins;
+      runs = run_append s.database.types s.pcbs st es fs f.runs runs;
+      follows = images_append (images_of s.database) s.database.types s.pcbs st es fs m.volume.image t.volume.image f.follows g.begins follows;
+      lacking = All-append LacksMemoryFairly es fs f.lacking g.lacking;
+      represents = rw (last_state_append s.database.types s.pcbs st es fs) represents;
+      whole = whole_both s m t f.whole g.whole;
+    }
+
+-- there are as many entries as calls
+pub entries_count : (s t : SessionState) (st : State) (xs : List Turn) (es : List (Entry (List ℕ))) → AreMade s st xs es t → length es ≡ length xs
+entries_count s t st xs es made = sym (length-map es (λ e. record { pcb = e.pcb; call = e.call })) ∙ ap (λ (ts : List Turn). length ts) made.asked
+
+-- ---- from an opening on
+
+legal_log : (d : Database) (pcbs : List View) (v : VolumeState) (s t : SessionState) (first : IsOpened d pcbs v s) (turns : List Turn) (entries : List (Entry (List ℕ)))
+    → AreMade s (opened pcbs (rows_of first.over.ready.placed)) turns entries t
+    → IsLegalLogOf d pcbs v.image (rows_of first.over.ready.placed) turns (record { entries = entries; last = t.volume.image })
+legal_log d pcbs v s t first turns entries made =
+    let now : IsTrue s.volume.is_sound = rw first.read.call.sound first.sound in
+    let there : AreMade (session_at_start d pcbs s.volume) (opened pcbs (rows_of first.over.ready.placed)) turns entries t =
+    subst (λ (r : SessionState). AreMade r (opened pcbs (rows_of first.over.ready.placed)) turns entries t) first.start made in
+    record {
+      legal = record { begins = there.begins ∙ first.read.image now; runs = there.runs; follows = there.follows };
+      asked = there.asked;
+      lacking = there.lacking;
+    }
+
+pub sessions_answer : (d : Database) → SessionsAnswer d
+sessions_answer d = record {
+  none = λ s st is whole stands. made_none s st whole (subst (λ (e : Database). Represents e s.volume s.kept st) (sym is) stands);
+  more = λ s m t st turns entries turn result io o is sound made answered comes.
+      made_both s m t st turns (turn ∷ []) entries (entry_of m turn o ∷ []) made
+      (made_one m t turn io (last_state s.database.types s.pcbs st entries) result o (rw made.whole.sound sound) (stands_after s m st turns entries made) answered comes);
+  legal = legal_log d;
+}
