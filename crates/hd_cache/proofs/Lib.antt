@@ -1,0 +1,4 @@
+pub mod FindLemmas
+pub mod ShownLemmas
+pub mod StillLemmas
+pub mod TurnLemmas
