@@ -1,9 +1,9 @@
 -- What `lru`'s calls do to the look-up of each key.
-use Rattle.std.proofs.Common.{◌≡◌, ◌≢◌, ℕ, ◌-◌, ◌<◌, length, take, Result, Ok, Err, OnOk, OnErr, Bool, true, false, nat_eq, List, [], ◌∷◌, Option, Some, None, IsSome, cond, refl, sym, ap, subst, ◌∙◌, arith, rules}
+use Rattle.std.proofs.Common.{◌≡◌, ◌≢◌, ℕ, ◌+◌, ◌-◌, ◌<◌, length, take, Result, Ok, Err, OnOk, OnErr, Bool, true, false, nat_eq, List, [], ◌∷◌, Option, Some, None, IsSome, cond, refl, sym, ap, subst, ◌∙◌, arith, rules}
 use Rattle.std.proofs.lemmas.Bool.{eqb-true, eq-eqb, ne_eqb, eqb-false}
 use Rattle.std.specs.Result.{is_ok}
 use Rattle.std.proofs.lemmas.List.{take_all}
-use Rattle.std.proofs.lemmas.Map.{lookup-remove_entry, lookup-set_value}
+use Rattle.std.proofs.lemmas.Map.{lookup-remove_entry, lookup-set_value, length-set_value}
 use Rattle.std.specs.Cmp.{nat_eq_equiv}
 use Rattle.std.specs.List.{IsDistinct}
 use Rattle.std.specs.Map.{keys_of, lookup, lookup_entry, remove_entry, set_value}
@@ -58,6 +58,23 @@ module _ {X : Type 0} where
 
   pub removed-other : (n q : ℕ) (es : List (ℕ × X)) → IsDistinct nat_eq (keys_of es) → q ≢ n → lookup (nat_eq q) (remove_entry (nat_eq n) es) ≡ lookup (nat_eq q) es
   removed-other n q es d other = find-removed n q es d ∙ ap (λ b. cond b None (lookup (nat_eq q) es)) (ne_eqb n q (λ u. other (sym u)))
+
+  -- how many keys there are
+  pub removed-length : (test : ℕ → Bool) (es : List (ℕ × X)) (v : X) → lookup test es ≡ Some v → length (remove_entry test es) + 1 ≡ length es
+  removed-length test [] v h = cc
+  removed-length test (f ∷ es) v h = (elim (test f.0) as (λ y. test f.0 ≡ y → length (remove_entry test (f ∷ es)) + 1 ≡ length (f ∷ es)) [
+    | true ↦ λ t. rw t (omega arith)
+    | false ↦ λ t. let rest = removed-length test es v (rw t at h) in rw t (omega arith)
+  ]) refl
+
+  pub promoted-length : (test : ℕ → Bool) (es : List (ℕ × X)) → length (promoted test es) ≡ length es
+  promoted-length test es = (elim (lookup_entry test es) as (λ o. lookup_entry test es ≡ o → length (promoted test es) ≡ length es) [
+    | None ↦ λ h. rw h refl
+    | Some e ↦ λ h. let rest = removed-length test es e.1 (lookup-entry test es e h) in rw h (omega arith)
+  ]) refl
+
+  pub written-length : (test : ℕ → Bool) (es : List (ℕ × X)) (w : X) → length (set_value test (promoted test es) w) ≡ length es
+  written-length test es w = length-set_value test (promoted test es) w ∙ promoted-length test es
 
   none-entry : (test : ℕ → Bool) (es : List (ℕ × X)) → lookup test es ≡ None → lookup_entry test es ≡ None
   none-entry test [] h = refl

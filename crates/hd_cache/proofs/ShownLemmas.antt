@@ -21,6 +21,13 @@ pub byte-of-shown : (size : ℕ) (stored : List ℕ) (find : ℕ → Option Entr
 unfolding shown
 byte-of-shown size stored find k h = get_or-map-range_with_len (byte_shown size stored find) 0 (length stored) k k 0 h (omega arith)
 
+-- two caches show the same where each byte is the same
+pub same-shown : (size : ℕ) (a b : List ℕ) (f g : ℕ → Option Entry) → length a ≡ length b → ((k : ℕ) → k < length b → byte_shown size a f k ≡ byte_shown size b g k) → shown size a f ≡ shown size b g
+same-shown size a b f g len same =
+    same_number_lists _ _ (length-shown size a f ∙ len ∙ sym (length-shown size b g)) (λ k h.
+    let la = length-shown size a f in
+    byte-of-shown size a f k (omega arith) ∙ same k (omega arith) ∙ sym (byte-of-shown size b g k (omega arith)))
+
 -- a byte of a block that was put in
 at-own : (p j : ℕ) (c b : List ℕ) → p + length b ≤ length c → j < length b → get_or (with_bytes c p b) (p + j) 0 ≡ get_or b j 0
 at-own p j c b h k = grind (arith, common_steps)

@@ -1,12 +1,14 @@
 -- Entries that need not be written before block 0.
-use Rattle.std.proofs.Common.{◌≡◌, ◌≢◌, ◌⊎◌, inl, inr, ℕ, zero, suc, ◌+◌, ◌-◌, ◌<◌, ◌≤◌, Bool, true, false, not, ◌&&◌, ◌||◌, nat_eq, List, [], ◌∷◌, length, take, slice_get, Option, Some, None, cond, refl, sym, ap, subst, ◌∙◌, arith}
+use Rattle.std.proofs.Common.{◌≡◌, ◌≢◌, ◌⊎◌, inl, inr, ℕ, zero, suc, ◌+◌, ◌-◌, ◌<◌, ◌≤◌, Bool, true, false, not, ◌&&◌, ◌||◌, nat_eq, List, [], ◌∷◌, length, take, slice_get, Option, Some, None, option_map, cond, refl, sym, ap, subst, ◌∙◌, arith}
 use Rattle.std.proofs.lemmas.Bool.{eqb-true, eq-eqb, ne_eqb, eqb-false}
 use Rattle.std.proofs.lemmas.List.{take-take, length-take-le}
 use Rattle.std.specs.List.{IsDistinct, list_all, AllByRecursion}
 use Rattle.std.specs.Map.{keys_of, lookup, lookup_entry, remove_entry, set_value}
-use Rattle.lru.specs.LruCache.{promoted, last_entry}
+use Rattle.lru.specs.LruCache.{LruCache, promoted, last_entry}
 use Rattle.hd_cache.specs.declared.entries.Entry.{Entry}
 use Rattle.hd_cache.specs.Contents.{is_still}
+use Rattle.hd_cache.specs.Turns.{unchanged, settled, IsTurned}
+use Rattle.hd_cache.proofs.FindLemmas.{lookup-entry}
 
 not-true : (b : Bool) → not b ≡ true → b ≡ false
 not-true true h = sym h
@@ -82,3 +84,58 @@ still-turned es new x i turned s l h =
     let rest : length (take (length es - 1) es) ≡ length es - 1 = length-take-le (length es - 1) es (omega arith) in
     let one : i + 1 ≡ suc i = omega arith in
     (rw (turned, one) (rw s (rw front h)), ap length turned ∙ omega arith)
+
+last-found : (es : List (ℕ × Entry)) (x : ℕ × Entry) → IsDistinct nat_eq (keys_of es) → last_entry es ≡ Some x → lookup (nat_eq x.0) es ≡ Some x.1
+last-found es x d h = lookup-entry (nat_eq x.0) es x (lookup-last es x d h)
+
+or-true : (b : Bool) → (b || true) ≡ true
+or-true true = refl
+or-true false = refl
+
+-- the pair that a number is the key of
+pub pair-of : (o : Option (ℕ × Entry)) (r : Option ℕ) (n : ℕ) → r ≡ option_map (λ e. e.0) o → r ≡ Some n → (x : ℕ × Entry) × (o ≡ Some x) × (x.0 ≡ n)
+pair-of None r n h s = cc
+pair-of (Some x) r n h s = (x, refl, cc)
+
+-- block 0 at the end goes to the front as it is
+turned-at-first : (es : List (ℕ × Entry)) (x : ℕ × Entry) → IsDistinct nat_eq (keys_of es) → last_entry es ≡ Some x → x.0 ≡ 0 → IsTurned es (promoted (nat_eq 0) es)
+turned-at-first es x d h z = record { first = x; turned = rw (← z) (promoted-last es x d h); still = rw z refl }
+
+pub turned-first : (es : List (ℕ × Entry)) (r : Option ℕ) → IsDistinct nat_eq (keys_of es) → r ≡ option_map (λ e. e.0) (last_entry es) → r ≡ Some 0 → IsTurned es (promoted (nat_eq 0) es)
+turned-first es r d h s = let x = pair-of (last_entry es) r 0 h s in turned-at-first es x.0 d x.1 x.2
+
+-- and another block goes there unchanged
+turned-at-settled : (cache : LruCache ℕ Entry) (x : ℕ × Entry) → IsDistinct nat_eq (keys_of cache.entries) → last_entry cache.entries ≡ Some x → IsTurned cache.entries (settled x.0 cache).entries
+turned-at-settled cache x d h = rw (last-found cache.entries x d h) (record {
+  first = (x.0, unchanged x.1);
+  turned = written-last cache.entries x (unchanged x.1) d h;
+  still = or-true (nat_eq x.0 0);
+})
+
+pub turned-settled : (cache : LruCache ℕ Entry) (r : Option ℕ) (n : ℕ) → IsDistinct nat_eq (keys_of cache.entries) → r ≡ option_map (λ e. e.0) (last_entry cache.entries) → r ≡ Some n → IsTurned cache.entries (settled n cache).entries
+turned-settled cache r n d h s =
+    let x = pair-of (last_entry cache.entries) r n h s in
+    let P : ℕ → Type 0 = λ m. IsTurned cache.entries (settled m cache).entries in
+    subst P x.2 (turned-at-settled cache x.0 d x.1)
+
+-- a list with no last entry is empty
+pub last-none : (es : List (ℕ × Entry)) → last_entry es ≡ None → 0 < length es → ⊥
+last-none [] h l = omega arith
+last-none (x ∷ []) h l = cc
+last-none (x ∷ (y ∷ es)) h l =
+    let a : suc (suc (length es)) - 1 ≡ suc (length es) = omega arith in
+    let b : suc (length es) - 1 ≡ length es = omega arith in
+    last-none (y ∷ es) (ap (slice_get (y ∷ es)) b ∙ sym (ap (slice_get (x ∷ (y ∷ es))) a) ∙ h) (omega arith)
+
+pub oldest-none : (es : List (ℕ × Entry)) (r : Option ℕ) → r ≡ option_map (λ e. e.0) (last_entry es) → r ≡ None → 0 < length es → ⊥
+oldest-none es r h s l = (elim (last_entry es) as (λ o. last_entry es ≡ o → r ≡ option_map (λ e. e.0) o → ⊥) [
+  | None ↦ λ n t. last-none es n l
+  | Some x ↦ λ n t. cc
+]) refl h
+
+-- the oldest block is in the cache
+pub oldest-found : (es : List (ℕ × Entry)) (r : Option ℕ) (n : ℕ) → IsDistinct nat_eq (keys_of es) → r ≡ option_map (λ e. e.0) (last_entry es) → r ≡ Some n → (e : Entry) × (lookup (nat_eq n) es ≡ Some e)
+oldest-found es r n d h s =
+    let x = pair-of (last_entry es) r n h s in
+    let P : ℕ → Type 0 = λ m. lookup (nat_eq m) es ≡ Some x.0.1 in
+    (x.0.1, subst P x.2 (last-found es x.0 d x.1))

@@ -1,16 +1,16 @@
 -- A block that is written to the store and comes to the front of the cache.
-use Rattle.std.proofs.Common.{◌≡◌, ◌≢◌, ◌⊎◌, inl, inr, ℕ, ◌<◌, Bool, true, false, nat_eq, List, length, Option, Some, None, option_map, refl, sym, ap, subst, ◌∙◌}
+use Rattle.std.proofs.Common.{◌≡◌, ◌≢◌, ◌⊎◌, inl, inr, ℕ, ◌<◌, ◌/◌, ◌%◌, slice_index, Bool, true, false, nat_eq, List, length, Option, Some, None, IfSome, option_map, refl, sym, ap, subst, ◌∙◌}
 use Rattle.std.proofs.lemmas.Bool.{cases_eq}
 use Rattle.std.specs.List.{IsDistinct}
 use Rattle.std.specs.Map.{keys_of, lookup, set_value}
 use Rattle.hd_bytes.specs.Blocks.{block_of, with_block, HasBlock}
-use Rattle.hd_bytes.proofs.BlockLemmas.{own-with}
+use Rattle.hd_bytes.proofs.BlockLemmas.{own-with, length-block}
 use Rattle.lru.specs.LruCache.{LruCache, lru_cache, promoted}
 use Rattle.hd_cache.specs.declared.entries.Entry.{Entry}
-use Rattle.hd_cache.specs.Contents.{shown, entry_of, AreWhole, AreCoherent}
+use Rattle.hd_cache.specs.Contents.{shown, byte_or, entry_of, AreWhole, AreCoherent}
 use Rattle.hd_cache.specs.Turns.{bytes_of, AreKept}
 use Rattle.hd_cache.proofs.FindLemmas.{written-own, written-other}
-use Rattle.hd_cache.proofs.ShownLemmas.{Puts, block-of-hit, shown-same, coherent-puts}
+use Rattle.hd_cache.proofs.ShownLemmas.{Puts, block-of-hit, shown-same, coherent-puts, same-shown}
 
 -- entries with the same bytes are as whole
 pub kept-whole : (size : ℕ) (g f : ℕ → Option Entry) → AreKept g f → AreWhole size g → AreWhole size f
@@ -39,6 +39,12 @@ module _ (cache : LruCache ℕ Entry) (n : ℕ) (e w : Entry) (d : IsDistinct na
     | inl s ↦ rw s (ap bytes_of (written-own n cache.entries w e d was) ∙ ap (λ v. Some v.items) bytes ∙ sym (ap bytes_of was))
     | inr o ↦ ap bytes_of (written-other n m cache.entries w e d was o)
   ]
+
+  pub fronted-others : (m : ℕ) → m ≢ n → entry_of fronted m ≡ entry_of cache m
+  fronted-others m o = written-other n m cache.entries w e d was o
+
+  pub fronted-own : entry_of fronted n ≡ Some w
+  fronted-own = written-own n cache.entries w e d was
 
   pub fronted-same : w ≡ e → (m : ℕ) → entry_of fronted m ≡ entry_of cache m
   fronted-same s m = elim (cases_eq m n) [
@@ -74,3 +80,39 @@ module _ (cache : LruCache ℕ Entry) (n : ℕ) (e w : Entry) (d : IsDistinct na
         | inr a ↦ sym (ap (λ (t : List ℕ). block_of size t n) a ∙ own-with size n old e.bytes.items (coherent.there n e was) (whole n e was))
       ] in
       ap (λ (v : Entry). v.bytes.items) (sym same) ∙ ap (λ v. v.items) bytes ∙ own)
+
+-- ---- the same entries, found in another order
+
+pub same-shown-find : (size : ℕ) (c : List ℕ) (g f : ℕ → Option Entry) → ((m : ℕ) → f m ≡ g m) → shown size c f ≡ shown size c g
+same-shown-find size c g f same = same-shown size c c f g refl (λ k h. ap (λ o. byte_or o (k % size) (slice_index c k)) (same (k / size)))
+
+pub same-coherent : (size : ℕ) (c : List ℕ) (g f : ℕ → Option Entry) → ((m : ℕ) → f m ≡ g m) → AreCoherent size c g → AreCoherent size c f
+same-coherent size c g f same h = record { there = λ m e i. h.there m e (sym (same m) ∙ i); same = λ m e i u. h.same m e (sym (same m) ∙ i) u }
+
+-- ---- a block that leaves the cache
+
+-- an entry of the same bytes is there
+pub kept-some : (g f : ℕ → Option Entry) (m : ℕ) (e : Entry) → AreKept g f → g m ≡ Some e → (x : Entry) × (f m ≡ Some x)
+kept-some g f m e kept h = (elim (f m) as (λ o. bytes_of o ≡ bytes_of (g m) → (x : Entry) × (o ≡ Some x)) [
+  | None ↦ λ same. let none = rw h at same in cc
+  | Some x ↦ λ same. (x, refl)
+]) (kept m)
+
+pub stands-of : (o : Option Entry) (e : Entry) → o ≡ Some e → IfSome o (λ x. x.is_changed ≡ false) → e.is_changed ≡ false
+stands-of None e h s = cc
+stands-of (Some x) e h s = let same : x ≡ e = cc in ap (λ (v : Entry). v.is_changed) (sym same) ∙ s
+
+-- the store has it as it is, so all shows as before
+pub dropped-shown : (size n : ℕ) (c : List ℕ) (g f : ℕ → Option Entry) (e : Entry) → 0 < size → AreWhole size g → AreCoherent size c g → g n ≡ Some e → e.is_changed ≡ false
+    → f n ≡ None → ((m : ℕ) → m ≢ n → f m ≡ g m) → shown size c f ≡ shown size c g
+dropped-shown size n c g f e some whole coherent was clean gone others =
+    let there = coherent.there n e was in
+    let p : Puts size n (block_of size c n) c c g f = record {
+      some = some;
+      there = there;
+      whole = length-block size n c there;
+      others = others;
+      now = inl refl;
+      own = rw gone refl;
+    } in
+    shown-same p (block-of-hit size c g n e there was (whole n e was) ∙ coherent.same n e was clean)

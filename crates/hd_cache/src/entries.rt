@@ -1,6 +1,7 @@
 ghost use Rattle.std.specs.Prelude.{◌≡◌, ◌≢◌, ◌+◌, ◌<◌, ◌≤◌, ℕ, true, false, None, vec_len, nat_eq, IsTrue, IfErr, IfSome, OnOk, OnSome, is_some, length, Some, MatchOption, option_map};
 ghost use Rattle.std.specs.Option.{IsSomeAnd};
-ghost use Rattle.lru.specs.LruCache.{last_entry};
+ghost use Rattle.std.specs.Map.{remove_entry};
+ghost use Rattle.lru.specs.LruCache.{lru_cache, last_entry};
 ghost use Rattle.hd_cache.specs.Contents.{entry_of, AreWhole};
 
 use lru::LruCache;
@@ -52,6 +53,7 @@ pub fn copy_in(cache: &mut LruCache<u32, Entry>, n: u32, bytes: &[u8]) -> bool
 /// Takes a block out of the cache.
 pub fn take_out(cache: &mut LruCache<u32, Entry>, n: u32) -> Option<Entry>
     ensures value { result ≡ entry_of cache.old n }
+    ensures entries { cache.new ≡ lru_cache (remove_entry (nat_eq n) cache.old.entries) cache.old.cap }
     ensures gone { entry_of cache.new n ≡ None }
     ensures others { (m : ℕ) → m ≢ n → entry_of cache.new m ≡ entry_of cache.old m }
 {

@@ -2,6 +2,7 @@
 #![tactic(auto)]
 
 mod entries;
+mod pass;
 mod settle;
 
 pub use entries::Entry;

@@ -23,6 +23,9 @@ pub fn settle<S: BlockStore>(
     requires coherent { IsTrue (S.is_sound store.old) → AreCoherent (S.size store.old) (S.contents store.old) (entry_of cache.old) }
     requires first_is_last { n ≡ 0 → OnlyFirstWaits (entry_of cache.old) }
     ensures settled { OnOk result (cache.new ≡ settled n cache.old) }
+    ensures stands { OnOk result (IfSome (entry_of cache.new n) (λ e. e.is_changed ≡ false)) }
+    ensures others { (m : ℕ) → m ≢ n → entry_of cache.new m ≡ entry_of cache.old m }
+    ensures len { length cache.new.entries ≡ length cache.old.entries }
     ensures cap { cache.new.cap ≡ cache.old.cap }
     ensures kept { AreKept (entry_of cache.old) (entry_of cache.new) }
     ensures err { OnErr result ((m : ℕ) → entry_of cache.new m ≡ entry_of cache.old m) }
@@ -95,7 +98,7 @@ pub fn settle_others<S: BlockStore>(
     ensures size { S.size store.new ≡ S.size store.old }
     ensures room { S.room store.new ≡ S.room store.old }
 {
-    'turns: for _ in 0..cache.len() {
+    'turns: for _i in 0..cache.len() {
         turn(store, cache)?;
     }
     Ok(())

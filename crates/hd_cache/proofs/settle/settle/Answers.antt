@@ -4,7 +4,8 @@ use Rattle.hd_bytes.specs.Blocks.{with_block}
 use Rattle.hd_cache.specs.declared.entries.Entry.{Entry}
 use Rattle.hd_cache.specs.Contents.{entry_of}
 use Rattle.hd_cache.specs.Turns.{unchanged}
-use Rattle.hd_cache.proofs.TurnLemmas.{kept-whole, fronted, fronted-kept, fronted-same, fronted-shown, fronted-coherent, IsWrittenOut, written-now}
+use Rattle.hd_cache.proofs.FindLemmas.{written-length}
+use Rattle.hd_cache.proofs.TurnLemmas.{kept-whole, fronted, fronted-kept, fronted-same, fronted-own, fronted-others, fronted-shown, fronted-coherent, IsWrittenOut, written-now}
 use Rattle.hd_cache.proofs.settle.settle.Goals as goal
 use Rattle.hd_cache.proofs.settle.settle.Goals.{then-entry+in_ok-write, else-entry}
 
@@ -60,3 +61,18 @@ returns-clause-coherent g c h =
     } in
     fronted-coherent c.args.cache.now c.args.n c.in-Some.entry.now (unchanged c.in-Some.entry.now) c.len-len.ensures.valid.0 (sym c.in-Some.ensures.value) refl
     c.requires.some c.requires.whole (c.requires.coherent h0) out
+
+pub returns-in_err-write-clause-others : goal.returns-in_err-write-clause-others
+returns-in_err-write-clause-others g c = fronted-others c.args.cache.now c.args.n c.in-Some.entry.now c.in-Some.entry.now c.len-len.ensures.valid.0 (sym c.in-Some.ensures.value) refl
+
+pub returns-in_err-write-clause-len : goal.returns-in_err-write-clause-len
+returns-in_err-write-clause-len g c = written-length (nat_eq c.args.n) c.args.cache.now.entries c.in-Some.entry.now
+
+pub returns-clause-stands : goal.returns-clause-stands
+returns-clause-stands g c = rw (fronted-own c.args.cache.now c.args.n c.in-Some.entry.now (unchanged c.in-Some.entry.now) c.len-len.ensures.valid.0 (sym c.in-Some.ensures.value) refl) refl
+
+pub returns-clause-others : goal.returns-clause-others
+returns-clause-others g c = fronted-others c.args.cache.now c.args.n c.in-Some.entry.now (unchanged c.in-Some.entry.now) c.len-len.ensures.valid.0 (sym c.in-Some.ensures.value) refl
+
+pub returns-clause-len : goal.returns-clause-len
+returns-clause-len g c = written-length (nat_eq c.args.n) c.args.cache.now.entries (unchanged c.in-Some.entry.now)
