@@ -2,3 +2,4 @@ pub mod FindLemmas
 pub mod ShownLemmas
 pub mod StillLemmas
 pub mod TurnLemmas
+pub mod PassLemmas

@@ -37,7 +37,8 @@ pub fn copy_in(cache: &mut LruCache<u32, Entry>, n: u32, bytes: &[u8]) -> bool
     ensures others { (m : ℕ) → m ≢ n → entry_of cache.new m ≡ entry_of cache.old m }
     ensures found { result ≡ true → IsSomeAnd (entry_of cache.new n) (λ e. (e.bytes.items ≡ bytes.now) × (e.is_changed ≡ true)) }
     ensures was { result ≡ true → is_some (entry_of cache.old n) ≡ true }
-    ensures absent { result ≡ false → (entry_of cache.old n ≡ None) × (entry_of cache.new n ≡ None) }
+    ensures absent { result ≡ false → entry_of cache.old n ≡ None }
+    ensures same { result ≡ false → (m : ℕ) → entry_of cache.new m ≡ entry_of cache.old m }
 {
     let _len = cache.len();
     match cache.get_mut(&n) {
@@ -74,7 +75,7 @@ pub fn put_in(
     requires absent { entry_of cache.old n ≡ None }
     ensures others { (m : ℕ) → m ≢ n → entry_of cache.new m ≡ entry_of cache.old m }
     ensures found { result ≡ true → IsSomeAnd (entry_of cache.new n) (λ e. (e.bytes.items ≡ bytes.now) × (e.is_changed ≡ is_changed)) }
-    ensures absent { result ≡ false → entry_of cache.new n ≡ None }
+    ensures same { result ≡ false → (m : ℕ) → entry_of cache.new m ≡ entry_of cache.old m }
 {
     let Some(mut block) = room else {
         return false;
