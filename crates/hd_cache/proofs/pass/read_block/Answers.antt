@@ -19,7 +19,7 @@ read-requires-clause-there g c sound =
     let size : ℕ = g.S.BlockStore.size c.args.store.now in
     let before : IsTrue (g.S.BlockStore.is_sound c.args.store.now) = rw (← c.in_ok-room.ensures.sound) sound in
     let len : length (g.S.BlockStore.contents c.make_room.new.store) ≡ length (g.S.BlockStore.contents c.args.store.now) =
-        same-length size (g.S.BlockStore.contents c.args.store.now) (g.S.BlockStore.contents c.make_room.new.store) (entry_of c.copy_out.new.cache) (entry_of c.make_room.new.cache) (c.make_room.ensures.shown sound) in
+    same-length size (g.S.BlockStore.contents c.args.store.now) (g.S.BlockStore.contents c.make_room.new.store) (entry_of c.copy_out.new.cache) (entry_of c.make_room.new.cache) (c.make_room.ensures.shown sound) in
     let there : HasBlock size (g.S.BlockStore.contents c.make_room.new.store) c.args.n = let h = c.requires.there before in omega arith in
     rw c.make_room.ensures.size there
 
@@ -29,7 +29,7 @@ returns-clause-value g c before =
     let sound : IsTrue (g.S.BlockStore.is_sound c.make_room.new.store) = rw c.in_ok-room.ensures.sound before in
     let during = c.make_room.ensures.shown sound in
     let len : length (g.S.BlockStore.contents c.make_room.new.store) ≡ length (g.S.BlockStore.contents c.args.store.now) =
-        same-length size (g.S.BlockStore.contents c.args.store.now) (g.S.BlockStore.contents c.make_room.new.store) (entry_of c.copy_out.new.cache) (entry_of c.make_room.new.cache) during in
+    same-length size (g.S.BlockStore.contents c.args.store.now) (g.S.BlockStore.contents c.make_room.new.store) (entry_of c.copy_out.new.cache) (entry_of c.make_room.new.cache) during in
     let there : HasBlock size (g.S.BlockStore.contents c.make_room.new.store) c.args.n = let h = c.requires.there before in omega arith in
     let absent : entry_of c.make_room.new.cache c.args.n ≡ None = c.make_room.ensures.absent c.args.n (c.copy_out.ensures.same c.args.n ∙ c.copy_out.ensures.absent c.if-copy_out.false) in
     let read : c.read.new.buf ≡ block_of size (g.S.BlockStore.contents c.make_room.new.store) c.args.n = rw c.make_room.ensures.size at (c.in_ok-read.ensures.value sound) in
@@ -44,7 +44,7 @@ returns-clause-shown g c after =
     let before : IsTrue (g.S.BlockStore.is_sound c.args.store.now) = rw (← c.in_ok-room.ensures.sound) sound in
     let during = c.make_room.ensures.shown sound in
     let len : length (g.S.BlockStore.contents c.make_room.new.store) ≡ length (g.S.BlockStore.contents c.args.store.now) =
-        same-length size (g.S.BlockStore.contents c.args.store.now) (g.S.BlockStore.contents c.make_room.new.store) (entry_of c.copy_out.new.cache) (entry_of c.make_room.new.cache) during in
+    same-length size (g.S.BlockStore.contents c.args.store.now) (g.S.BlockStore.contents c.make_room.new.store) (entry_of c.copy_out.new.cache) (entry_of c.make_room.new.cache) during in
     let p : IsReadIn size c.args.n c.read.new.buf (g.S.BlockStore.contents c.make_room.new.store) (g.S.BlockStore.contents c.read.new.self) (entry_of c.make_room.new.cache) (entry_of c.put_in.new.cache) c.put_in.result = record {
       some = c.requires.some;
       there = let h = c.requires.there before in omega arith;
@@ -64,7 +64,7 @@ returns-clause-coherent g c after =
     let sound : IsTrue (g.S.BlockStore.is_sound c.make_room.new.store) = rw (← c.in_ok-read.ensures.sound) after in
     let before : IsTrue (g.S.BlockStore.is_sound c.args.store.now) = rw (← c.in_ok-room.ensures.sound) sound in
     let len : length (g.S.BlockStore.contents c.make_room.new.store) ≡ length (g.S.BlockStore.contents c.args.store.now) =
-        same-length size (g.S.BlockStore.contents c.args.store.now) (g.S.BlockStore.contents c.make_room.new.store) (entry_of c.copy_out.new.cache) (entry_of c.make_room.new.cache) (c.make_room.ensures.shown sound) in
+    same-length size (g.S.BlockStore.contents c.args.store.now) (g.S.BlockStore.contents c.make_room.new.store) (entry_of c.copy_out.new.cache) (entry_of c.make_room.new.cache) (c.make_room.ensures.shown sound) in
     let p : IsReadIn size c.args.n c.read.new.buf (g.S.BlockStore.contents c.make_room.new.store) (g.S.BlockStore.contents c.read.new.self) (entry_of c.make_room.new.cache) (entry_of c.put_in.new.cache) c.put_in.result = record {
       some = c.requires.some;
       there = let h = c.requires.there before in omega arith;
