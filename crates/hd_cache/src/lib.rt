@@ -8,3 +8,10 @@ mod settle;
 
 pub use cached::Cached;
 pub use entries::Entry;
+
+#[cfg(test)]
+mod refusal_tests;
+#[cfg(test)]
+mod steps;
+#[cfg(test)]
+mod tests;
