@@ -12,10 +12,7 @@ use std::test::Fail;
 const BLOCKS: u32 = 6;
 
 /// Writes every block in an order by chance, with reads between, and block 0 behind them. Whether no access failed.
-fn write_version<S: BlockStore>(store: &mut S, chance: &mut Chance, version: u8) -> bool
-    requires { S.size store.old ≡ 4 }
-    ensures { S.size store.new ≡ 4 }
-{
+fn write_version<S: BlockStore>(store: &mut S, chance: &mut Chance, version: u8) -> bool {
     let first = chance.below(BLOCKS);
     for place in 0..BLOCKS {
         let n = first.saturating_add(place) % BLOCKS;
@@ -30,9 +27,7 @@ fn write_version<S: BlockStore>(store: &mut S, chance: &mut Chance, version: u8)
 }
 
 /// Writes three versions, flushes now and then, and gives the store back. Whether no access failed.
-fn write_versions<S: BlockStore>(mut cache: Cached<S>, seed: u64) -> (S, bool)
-    requires { cache.size ≡ 4 }
-{
+fn write_versions<S: BlockStore>(mut cache: Cached<S>, seed: u64) -> (S, bool) {
     let mut chance = Chance::new(seed);
     for version in 1..4 {
         let done = write_version(&mut cache, &mut chance, version)
@@ -73,9 +68,8 @@ fn left_behind(
 fn never_leaves_a_new_block_0_over_old_blocks(rt: HostRuntime) -> Result<(), Fail> {
     for seed in 0..20 {
         for blocks in [1usize, 2, 3, 5, 64] {
-            let mut passes = 0u64;
-            let mut ended = false;
-            while !ended && passes < 1000 {
+            let mut end = 0u64;
+            for passes in 0..1000 {
                 let (versions, done) = left_behind(rt.alloc(), seed, blocks, passes)?;
                 let head = versions[0];
                 assert!(rt;
@@ -83,20 +77,19 @@ fn never_leaves_a_new_block_0_over_old_blocks(rt: HostRuntime) -> Result<(), Fai
                     "{seed}, {blocks}, {passes}: {versions:?}"
                 );
                 assert!(rt; !done || versions == [3; 6]);
-                ended = done;
-                passes += 1;
+                if done {
+                    end = passes;
+                    break;
+                }
             }
-            assert!(rt; ended && passes > 5, "{seed}, {blocks}, {passes}");
+            assert!(rt; end > 5, "{seed}, {blocks}, {end}");
         }
     }
     Ok(())
 }
 
 /// Does a step, once more where it answers `Device`. Whether it did so.
-fn take_again<S: BlockStore>(store: &mut S, step: Step) -> (Result<[u8; 4], Refused>, bool)
-    requires { S.size store.old ≡ 4 }
-    ensures { S.size store.new ≡ 4 }
-{
+fn take_again<S: BlockStore>(store: &mut S, step: Step) -> (Result<[u8; 4], Refused>, bool) {
     match take_step(store, step) {
         Err(Refused::Device) => (take_step(store, step), true),
         answer => (answer, false),
@@ -106,14 +99,13 @@ fn take_again<S: BlockStore>(store: &mut S, step: Step) -> (Result<[u8; 4], Refu
 #[test]
 fn loses_nothing_by_a_failed_access(rt: HostRuntime) -> Result<(), Fail> {
     for blocks in [1usize, 2, 3, 64] {
-        let mut failures = 1u32;
-        let mut passes = 0u64;
-        while failures > 0 && passes < 1000 {
+        let mut end = 0u64;
+        for passes in 0..1000 {
             let mut chance = Chance::new(passes);
             let mut plain = zeros(rt.alloc(), 8)?;
             let store = fused(rt.alloc(), 8, passes)?;
             let mut cache = cached(rt.alloc(), store, blocks).expect(&rt, "a cache");
-            failures = 0;
+            let mut failures = 0u32;
             for turn in 0..100 {
                 let step = Step::by(&mut chance, 12);
                 let want = take_step(&mut plain, step);
@@ -136,9 +128,12 @@ fn loses_nothing_by_a_failed_access(rt: HostRuntime) -> Result<(), Fail> {
                     "{blocks}, {passes}"
                 );
             }
-            passes += 1;
+            if failures == 0 && written.is_ok() {
+                end = passes;
+                break;
+            }
         }
-        assert!(rt; passes > 8 && failures == 0, "{blocks}: {passes}");
+        assert!(rt; end > 8, "{blocks}: {end}");
     }
     Ok(())
 }

@@ -1,5 +1,6 @@
 //! Steps of a store of blocks of four bytes, for the tests.
-ghost use Rattle.std.specs.Prelude.{◌≡◌, ◌<◌, ◌≤◌, ◌+◌, IfOk, IfSome};
+ghost use Rattle.std.specs.Prelude.{◌≡◌, ◌<◌, ◌≤◌, IsTrue, true};
+ghost use Rattle.hd_bytes.specs.Blocks.{HasBlock};
 
 use crate::Cached;
 use hd_dbd::Refused;
@@ -46,17 +47,22 @@ impl Step {
             0 => Step::Grow(chance.below(3)),
             1 => Step::Reserve(chance.below(3)),
             2..=20 => Step::Read(n),
-            _ => Step::Write(n, chance.below(256) as u8),
+            _ => Step::Write(n, (chance.below(256) % 256) as u8),
         }
     }
 }
 
-/// Reads a block of four bytes. `Full` says that the store has no such block.
-pub fn read_block<S: BlockStore>(store: &mut S, n: u32) -> Result<[u8; 4], Refused>
-    requires { S.size store.old ≡ 4 }
-    ensures { S.size store.new ≡ 4 }
+/// The store has blocks of four bytes and such a block.
+fn has_block<S: BlockStore>(store: &S, n: u32) -> bool
+    ensures size { result ≡ true → S.size store.now ≡ 4 }
+    ensures there { result ≡ true → IsTrue (S.is_sound store.now) → HasBlock (S.size store.now) (S.contents store.now) n }
 {
-    if u64::from(n) * 4 + 4 > store.length() {
+    store.block_size() == 4 && u64::from(n) * 4 + 4 <= store.length()
+}
+
+/// Reads a block of four bytes. `Full` says that the store has no such block.
+pub fn read_block<S: BlockStore>(store: &mut S, n: u32) -> Result<[u8; 4], Refused> {
+    if !has_block(store, n) {
         return Err(Refused::Full);
     }
     let mut block = [0; 4];
@@ -65,11 +71,8 @@ pub fn read_block<S: BlockStore>(store: &mut S, n: u32) -> Result<[u8; 4], Refus
 }
 
 /// Writes four equal bytes to a block. `Full` says that the store has no such block.
-pub fn write_block<S: BlockStore>(store: &mut S, n: u32, byte: u8) -> Result<[u8; 4], Refused>
-    requires { S.size store.old ≡ 4 }
-    ensures { S.size store.new ≡ 4 }
-{
-    if u64::from(n) * 4 + 4 > store.length() {
+pub fn write_block<S: BlockStore>(store: &mut S, n: u32, byte: u8) -> Result<[u8; 4], Refused> {
+    if !has_block(store, n) {
         return Err(Refused::Full);
     }
     store.write(n, &[byte; 4])?;
@@ -77,10 +80,7 @@ pub fn write_block<S: BlockStore>(store: &mut S, n: u32, byte: u8) -> Result<[u8
 }
 
 /// Does a step, and answers the bytes of the block that it was at, zeros where it was at none.
-pub fn take_step<S: BlockStore>(store: &mut S, step: Step) -> Result<[u8; 4], Refused>
-    requires { S.size store.old ≡ 4 }
-    ensures { S.size store.new ≡ 4 }
-{
+pub fn take_step<S: BlockStore>(store: &mut S, step: Step) -> Result<[u8; 4], Refused> {
     match step {
         Step::Read(n) => read_block(store, n),
         Step::Write(n, byte) => write_block(store, n, byte),
@@ -98,7 +98,6 @@ pub fn take_step<S: BlockStore>(store: &mut S, step: Step) -> Result<[u8; 4], Re
 /// A store of so many blocks of zeros, and a piece of one.
 pub fn zeros(alloc: Global, blocks: usize) -> Result<MemStore, AllocError>
     requires { blocks ≤ 1000 }
-    ensures { IfOk result (λ store. store.size ≡ 4) }
 {
     let mut bytes = Vec::new(alloc);
     bytes.resize(blocks * 4 + 3, 0)?;
@@ -108,17 +107,14 @@ pub fn zeros(alloc: Global, blocks: usize) -> Result<MemStore, AllocError>
 /// A fuse over such a store.
 pub fn fused(alloc: Global, blocks: usize, passes: u64) -> Result<FuseStore<MemStore>, AllocError>
     requires { blocks ≤ 1000 }
-    ensures { IfOk result (λ store. store.inner.size ≡ 4) }
 {
     Ok(FuseStore::new(zeros(alloc, blocks)?, passes))
 }
 
 /// A cache of so many blocks before a store.
 pub fn cached<S: BlockStore + Drop>(alloc: Global, store: S, blocks: usize) -> Option<Cached<S>>
-    requires size { S.size store ≡ 4 }
     requires some { 0 < blocks }
     requires few { blocks ≤ 65536 }
-    ensures { IfSome result (λ c. c.size ≡ 4) }
 {
     Cached::new(alloc, store, blocks).ok()
 }
