@@ -1,5 +1,5 @@
 -- What `lru`'s calls do to the look-up of each key.
-use Rattle.std.proofs.Common.{◌≡◌, ◌≢◌, ℕ, ◌+◌, ◌-◌, ◌<◌, length, take, Result, Ok, Err, OnOk, OnErr, Bool, true, false, nat_eq, List, [], ◌∷◌, Option, Some, None, IsSome, cond, refl, sym, ap, subst, ◌∙◌, arith, rules}
+use Rattle.std.proofs.Common.{◌≡◌, ◌≢◌, ℕ, ◌+◌, ◌-◌, ◌<◌, length, take, Result, Ok, Err, OnOk, OnErr, Bool, true, false, nat_eq, List, [], ◌∷◌, Some, None, IsSome, cond, refl, sym, ap, ◌∙◌, arith, rules}
 use Rattle.std.proofs.lemmas.Bool.{eqb-true, eq-eqb, ne_eqb, eqb-false}
 use Rattle.std.specs.Result.{is_ok}
 use Rattle.std.proofs.lemmas.List.{take_all}

@@ -1,5 +1,5 @@
 -- The bytes that a cache shows, where one block of the store or one entry changes.
-use Rattle.std.proofs.Common.{◌≡◌, ◌≢◌, ◌⊎◌, inl, inr, ℕ, ◌+◌, ◌*◌, ◌<◌, ◌≤◌, ◌/◌, ◌%◌, Bool, true, false, nat_eq, List, ◌++◌, length, take, drop, get_or, slice_index, replicate, Option, Some, None, cond, refl, sym, ap, ◌∙◌, arith}
+use Rattle.std.proofs.Common.{◌≡◌, ◌≢◌, ◌⊎◌, inl, inr, ℕ, ◌+◌, ◌*◌, ◌<◌, ◌≤◌, ◌/◌, ◌%◌, false, List, ◌++◌, length, get_or, slice_index, replicate, Option, Some, None, refl, sym, ap, ◌∙◌, arith}
 use Rattle.std.proofs.lemmas.Grind.{common_steps, same_number_lists}
 use Rattle.std.proofs.lemmas.List.{get_or-replicate}
 use Rattle.std.proofs.lemmas.List.FromFn.{length-map-range_with_len, get_or-map-range_with_len}
@@ -7,9 +7,9 @@ use Rattle.std.proofs.lemmas.Nat.{div-mul-add, mod-mul-add}
 use Rattle.std.proofs.lemmas.Bool.{cases_eq, cases_lt}
 use Rattle.hd_bytes.specs.Ranges.{with_bytes}
 use Rattle.hd_bytes.specs.Blocks.{block_of, with_block, grown, HasBlock}
-use Rattle.hd_bytes.proofs.BlockLemmas.{length-block, byte-in-block, with-own, length-with_block, own-with, other-with, length-grown, block-grown, place-of, elsewhere}
+use Rattle.hd_bytes.proofs.BlockLemmas.{length-block, byte-in-block, with-own, length-with_block, other-with, length-grown, block-grown, place-of, elsewhere}
 use Rattle.hd_cache.specs.declared.entries.Entry.{Entry}
-use Rattle.hd_cache.specs.Contents.{shown, byte_shown, byte_or, AreWhole, AreCoherent}
+use Rattle.hd_cache.specs.Contents.{shown, byte_shown, byte_or, AreCoherent}
 
 -- ---- byte by byte
 

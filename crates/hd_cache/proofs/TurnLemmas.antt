@@ -1,9 +1,9 @@
 -- A block that is written to the store and comes to the front of the cache.
-use Rattle.std.proofs.Common.{◌≡◌, ◌≢◌, ◌⊎◌, inl, inr, ℕ, ◌<◌, ◌/◌, ◌%◌, slice_index, Bool, true, false, nat_eq, List, length, Option, Some, None, IfSome, option_map, refl, sym, ap, subst, ◌∙◌}
+use Rattle.std.proofs.Common.{◌≡◌, ◌≢◌, ◌⊎◌, inl, inr, ℕ, ◌<◌, ◌/◌, ◌%◌, slice_index, false, nat_eq, List, length, Option, Some, None, IfSome, refl, sym, ap, ◌∙◌}
 use Rattle.std.proofs.lemmas.Bool.{cases_eq}
 use Rattle.std.specs.List.{IsDistinct}
-use Rattle.std.specs.Map.{keys_of, lookup, set_value}
-use Rattle.hd_bytes.specs.Blocks.{block_of, with_block, HasBlock}
+use Rattle.std.specs.Map.{keys_of, set_value}
+use Rattle.hd_bytes.specs.Blocks.{block_of, with_block}
 use Rattle.hd_bytes.proofs.BlockLemmas.{own-with, length-block}
 use Rattle.lru.specs.LruCache.{LruCache, lru_cache, promoted}
 use Rattle.hd_cache.specs.declared.entries.Entry.{Entry}

@@ -1,5 +1,5 @@
 -- What callers see of a cache before a store.
-use Rattle.std.specs.Prelude.{◌≡◌, ℕ, ◌<◌, ◌≤◌, Bool, List, Option, IsTrue}
+use Rattle.std.specs.Prelude.{ℕ, ◌<◌, Bool, List, Option, IsTrue}
 use Rattle.hd_cache.specs.declared.entries.Entry.{Entry}
 use Rattle.hd_cache.specs.Contents.{AreWhole, AreCoherent}
 

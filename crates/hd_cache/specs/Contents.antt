@@ -1,6 +1,6 @@
 -- The bytes that a cache and its store hold together.
-use Rattle.std.specs.Prelude.{◌≡◌, ◌≢◌, ℕ, ◌<◌, ◌≤◌, ◌/◌, ◌%◌, ◌||◌, not, Bool, true, false, IsTrue, nat_eq, List, map, length, slice_index, Option, Some, None}
-use Rattle.std.specs.List.{range_with_len, list_all}
+use Rattle.std.specs.Prelude.{◌≡◌, ◌≢◌, ℕ, ◌/◌, ◌%◌, ◌||◌, not, Bool, false, nat_eq, List, map, length, slice_index, Option, Some, None}
+use Rattle.std.specs.List.{range_with_len}
 use Rattle.std.specs.Map.{lookup}
 use Rattle.hd_bytes.specs.Blocks.{block_of, HasBlock}
 use Rattle.lru.specs.LruCache.{LruCache}

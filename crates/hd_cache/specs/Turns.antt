@@ -1,7 +1,7 @@
 -- How the entries of a cache are written to its store, one after the other.
-use Rattle.std.specs.Prelude.{◌≡◌, ℕ, ◌-◌, ◌<◌, false, true, nat_eq, List, ◌∷◌, length, take, Option, option_map}
+use Rattle.std.specs.Prelude.{◌≡◌, ℕ, ◌-◌, false, true, nat_eq, List, ◌∷◌, length, take, Option, option_map}
 use Rattle.std.specs.Option.{option_map_or}
-use Rattle.std.specs.Map.{lookup, set_value}
+use Rattle.std.specs.Map.{set_value}
 use Rattle.lru.specs.LruCache.{LruCache, lru_cache, promoted}
 use Rattle.hd_cache.specs.declared.entries.Entry.{Entry}
 use Rattle.hd_cache.specs.Contents.{entry_of, is_still}

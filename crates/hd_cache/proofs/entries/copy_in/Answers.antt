@@ -1,5 +1,4 @@
-use Rattle.std.proofs.Common.{◌≡◌, nat_eq, true, List, length, take, drop, Some, sym, ◌∙◌, refl, rules}
-use Rattle.std.specs.Map.{lookup}
+use Rattle.std.proofs.Common.{true, sym, refl}
 use Rattle.hd_cache.proofs.FindLemmas.{written-own, written-other}
 use Rattle.hd_cache.proofs.entries.copy_in.Goals as goal
 

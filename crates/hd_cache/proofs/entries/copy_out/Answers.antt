@@ -1,4 +1,3 @@
-use Rattle.std.proofs.Common.{◌≡◌, ◌∙◌}
 use Rattle.hd_cache.proofs.FindLemmas.{find-promoted}
 use Rattle.hd_cache.proofs.entries.copy_out.Goals as goal
 

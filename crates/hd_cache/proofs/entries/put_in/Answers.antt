@@ -1,4 +1,4 @@
-use Rattle.std.proofs.Common.{◌≡◌, refl, ap}
+use Rattle.std.proofs.Common.{refl, ap}
 use Rattle.hd_cache.specs.Contents.{entry_of}
 use Rattle.hd_cache.proofs.FindLemmas.{put-own, put-other, on-both, of-ok, of-err}
 use Rattle.hd_cache.proofs.entries.put_in.Goals as goal

@@ -1,6 +1,6 @@
-use Rattle.std.proofs.Common.{◌≡◌, IsTrue, ℕ, List, ◌+◌, ◌*◌, ◌≤◌, length, None, false, ap, sym, ◌∙◌, refl, arith}
+use Rattle.std.proofs.Common.{◌≡◌, IsTrue, ℕ, List, length, None, ap, sym, ◌∙◌, refl, arith}
 use Rattle.hd_bytes.specs.Blocks.{block_of, HasBlock}
-use Rattle.hd_cache.specs.Contents.{shown, entry_of, AreCoherent}
+use Rattle.hd_cache.specs.Contents.{entry_of}
 use Rattle.hd_cache.proofs.ShownLemmas.{block-of-miss}
 use Rattle.hd_cache.proofs.TurnLemmas.{same-coherent, same-shown-find}
 use Rattle.hd_cache.proofs.PassLemmas.{hit-shows, same-length, IsReadIn, keeps-shown, keeps-coherent}

@@ -1,6 +1,6 @@
-use Rattle.std.proofs.Common.{◌≡◌, ◌≢◌, IsTrue, ℕ, List, ◌+◌, ◌*◌, ◌≤◌, length, None, false, ap, sym, ◌∙◌, refl, arith}
+use Rattle.std.proofs.Common.{◌≡◌, IsTrue, ℕ, List, length, ap, ◌∙◌, arith}
 use Rattle.hd_bytes.specs.Blocks.{with_block, HasBlock}
-use Rattle.hd_cache.specs.Contents.{shown, entry_of, AreCoherent}
+use Rattle.hd_cache.specs.Contents.{entry_of, AreCoherent}
 use Rattle.hd_cache.proofs.TurnLemmas.{same-coherent, same-shown-find}
 use Rattle.hd_cache.proofs.PassLemmas.{same-length, IsChangedAt, changes-shown, changes-coherent}
 use Rattle.hd_cache.proofs.pass.write_block.Goals as goal

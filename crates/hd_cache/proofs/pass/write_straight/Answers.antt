@@ -1,4 +1,4 @@
-use Rattle.std.proofs.Common.{◌≡◌, IsTrue, ℕ}
+use Rattle.std.proofs.Common.{ℕ}
 use Rattle.hd_cache.specs.Contents.{entry_of}
 use Rattle.hd_cache.proofs.PassLemmas.{IsPassed, passes-shown, passes-coherent, sound-ok}
 use Rattle.hd_cache.proofs.pass.write_straight.Goals as goal

@@ -1,6 +1,4 @@
-use Rattle.std.proofs.Common.{◌≡◌, ◌⊎◌, inl, inr, ℕ, ◌+◌, ◌<◌, ◌≤◌, IsTrue, List, length, false, nat_eq, Some, sym, ap, refl, ◌∙◌, arith}
-use Rattle.std.specs.Map.{lookup}
-use Rattle.hd_cache.specs.declared.entries.Entry.{Entry}
+use Rattle.std.proofs.Common.{◌≡◌, ℕ, IsTrue, length, nat_eq, ap, refl, ◌∙◌, arith}
 use Rattle.hd_cache.specs.Contents.{shown, entry_of, AreWhole, AreCoherent}
 use Rattle.hd_cache.specs.Turns.{AreKept}
 use Rattle.hd_cache.proofs.FindLemmas.{removed-length}

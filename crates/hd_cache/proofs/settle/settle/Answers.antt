@@ -1,11 +1,9 @@
-use Rattle.std.proofs.Common.{◌≡◌, ◌⊎◌, inl, inr, ℕ, Bool, true, false, nat_eq, IsTrue, List, length, Some, None, Option, sym, ap, ◌∙◌, refl, OnErr, Result, Ok, Err}
-use Rattle.std.specs.Map.{lookup}
+use Rattle.std.proofs.Common.{inl, inr, nat_eq, IsTrue, sym, ap, ◌∙◌, refl, OnErr, Result, Ok, Err}
 use Rattle.hd_bytes.specs.Blocks.{with_block}
-use Rattle.hd_cache.specs.declared.entries.Entry.{Entry}
 use Rattle.hd_cache.specs.Contents.{entry_of}
 use Rattle.hd_cache.specs.Turns.{unchanged}
 use Rattle.hd_cache.proofs.FindLemmas.{written-length}
-use Rattle.hd_cache.proofs.TurnLemmas.{kept-whole, fronted, fronted-kept, fronted-same, fronted-own, fronted-others, fronted-shown, fronted-coherent, IsWrittenOut, written-now}
+use Rattle.hd_cache.proofs.TurnLemmas.{kept-whole, fronted-kept, fronted-same, fronted-own, fronted-others, fronted-shown, fronted-coherent, IsWrittenOut, written-now}
 use Rattle.hd_cache.proofs.settle.settle.Goals as goal
 use Rattle.hd_cache.proofs.settle.settle.Goals.{then-entry+in_ok-write, else-entry}
 

@@ -1,4 +1,4 @@
-use Rattle.std.proofs.Common.{◌≡◌, ◌<◌, ◌≤◌, ℕ, true, IsTrue, length, take}
+use Rattle.std.proofs.Common.{◌≡◌, true, IsTrue, length, take}
 use Rattle.std.specs.List.{list_all}
 use Rattle.hd_cache.specs.Contents.{shown, entry_of, AreWhole, AreCoherent, is_still}
 use Rattle.hd_cache.specs.Turns.{AreKept}

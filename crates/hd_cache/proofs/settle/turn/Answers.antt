@@ -1,7 +1,5 @@
-use Rattle.std.proofs.Common.{◌≡◌, ◌<◌, ℕ, length, nat_eq, Some, None, ap, sym, ◌∙◌, refl, Result, Ok, Err, OnOk}
-use Rattle.std.specs.Map.{lookup}
+use Rattle.std.proofs.Common.{◌≡◌, ℕ, Some, ap, ◌∙◌, Result, Ok, Err, OnOk}
 use Rattle.hd_cache.specs.Contents.{entry_of}
-use Rattle.hd_cache.specs.Turns.{IsTurned}
 use Rattle.hd_cache.proofs.FindLemmas.{find-promoted}
 use Rattle.hd_cache.proofs.StillLemmas.{turned-first, turned-settled, oldest-none}
 use Rattle.hd_cache.proofs.TurnLemmas.{same-kept, kept-whole, same-shown-find, same-coherent}

@@ -1,4 +1,4 @@
-use Rattle.std.proofs.Common.{◌≡◌, ℕ, ◌<◌, List, None, refl, ap, ◌∙◌}
+use Rattle.std.proofs.Common.{◌≡◌, ℕ, ◌<◌, List, None, refl}
 use Rattle.hd_cache.specs.Contents.{entry_of, AreCoherent}
 use Rattle.hd_cache.proofs.ShownLemmas.{shown-stored}
 use Rattle.hd_cache.proofs.cached.Cached.new.Goals as goal

@@ -1,4 +1,4 @@
-use Rattle.std.proofs.Common.{◌≡◌, IsTrue, length, ap, sym, ◌∙◌}
+use Rattle.std.proofs.Common.{IsTrue, length, ap, sym, ◌∙◌}
 use Rattle.hd_cache.specs.Contents.{entry_of}
 use Rattle.hd_cache.proofs.ShownLemmas.{length-shown}
 use Rattle.hd_cache.proofs.cached.CachedBlockStore.length.Goals as goal

@@ -1,4 +1,4 @@
-use Rattle.std.proofs.Common.{◌≡◌, ℕ, ◌+◌, ◌*◌, ◌≤◌, IsTrue, List, length, subst, sym, arith}
+use Rattle.std.proofs.Common.{ℕ, IsTrue, List, subst, sym, arith}
 use Rattle.hd_bytes.specs.Blocks.{HasBlock}
 use Rattle.hd_cache.specs.Caches.{CacheState}
 use Rattle.hd_cache.specs.Contents.{shown, entry_of}
