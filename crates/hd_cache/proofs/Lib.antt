@@ -1,0 +1,5 @@
+pub mod FindLemmas
+pub mod ShownLemmas
+pub mod StillLemmas
+pub mod TurnLemmas
+pub mod PassLemmas

@@ -1,0 +1,17 @@
+//! A bounded cache of blocks before any store of blocks, itself a store of blocks.
+#![tactic(auto)]
+
+mod cached;
+mod entries;
+mod pass;
+mod settle;
+
+pub use cached::Cached;
+pub use entries::Entry;
+
+#[cfg(test)]
+mod refusal_tests;
+#[cfg(test)]
+mod steps;
+#[cfg(test)]
+mod tests;
