@@ -1,8 +1,9 @@
 ghost use Rattle.std.specs.Prelude.{◌≡◌, ◌<◌, IfOk};
 ghost use Rattle.hd_dbd.specs.Facts.{stored_sizes};
 
-use crate::files::{open_read_volume, read_database};
+use crate::files::{cached_blocks, open_read_volume, read_database};
 use crate::stop::Stop;
+use hd_cache::Cached;
 use hd_commands::check_volume;
 use hd_dbd::Dbd;
 use hd_volume::{FileStore, Volume};
@@ -13,19 +14,20 @@ use std::marker::Brand;
 use std::rt::Files;
 use std::sync::ledger::{Blank, Ledger};
 
-/// The volume in a file.
+/// The volume in a file, of which so many blocks are kept in memory.
 pub fn load_volume<L: Ledger>(
     alloc: Global,
     dbd: &Dbd,
     file: File,
+    cache: u32,
     blank: Blank,
-) -> Result<Volume<FileStore<L>>, Stop>
+) -> Result<Volume<Cached<FileStore<L>>>, Stop>
     requires name { blank.name ≡ L.name }
     requires parts { blank.parts ≡ L.parts }
     requires share { 0 < blank.parts }
     ensures size { IfOk result (λ v. (v.size ≡ dbd.now.block_size) × (v.sizes ≡ stored_sizes dbd.now.types)) }
 {
-    let store: FileStore<L> = FileStore::over(file, dbd.block_size() as usize, blank)?;
+    let store = cached_blocks::<L>(alloc, dbd, file, cache, blank)?;
     match Volume::load(alloc, store, dbd) {
         Ok(volume) => Ok(volume),
         Err((_, refused)) => Err(Stop::from(refused)),
@@ -37,6 +39,7 @@ fn judge<L: Ledger, O: Write, E: Write>(
     alloc: Global,
     dbd: &Dbd,
     file: File,
+    cache: u32,
     blank: Blank,
     out: &mut O,
     err: &mut E,
@@ -45,7 +48,7 @@ fn judge<L: Ledger, O: Write, E: Write>(
     requires parts { blank.parts ≡ L.parts }
     requires share { 0 < blank.parts }
 {
-    let mut volume = load_volume::<L>(alloc, dbd, file, blank)?;
+    let mut volume = load_volume::<L>(alloc, dbd, file, cache, blank)?;
     Ok(check_volume(alloc, &mut volume, dbd, out, err).status)
 }
 
@@ -54,10 +57,11 @@ fn judge_file<O: Write, E: Write>(
     alloc: Global,
     dbd: &Dbd,
     file: File,
+    cache: u32,
     out: &mut O,
     err: &mut E,
 ) -> Result<u8, Stop> {
-    judge::<Brand, O, E>(alloc, dbd, file, Blank::new(1), out, err)
+    judge::<Brand, O, E>(alloc, dbd, file, cache, Blank::new(1), out, err)
 }
 
 /// Checks the volume in a file, which is opened for reading alone. The DBD is read and judged first. Says the status.
@@ -66,6 +70,7 @@ pub fn check_file<R, O, E>(
     alloc: Global,
     dbd: &str,
     volume: &str,
+    cache: u32,
     out: &mut O,
     err: &mut E,
 ) -> Result<u8, Stop>
@@ -76,5 +81,5 @@ where
 {
     let (dbd, _) = read_database(rt, alloc, dbd)?;
     let (file, _) = open_read_volume(rt, volume)?;
-    judge_file(alloc, &dbd, file, out, err)
+    judge_file(alloc, &dbd, file, cache, out, err)
 }

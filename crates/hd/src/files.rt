@@ -1,18 +1,24 @@
-ghost use Rattle.std.specs.Prelude.{◌≤◌, ◌^◌, IfOk, vec_len};
+ghost use Rattle.std.specs.Prelude.{◌≡◌, ◌<◌, ◌≤◌, ◌^◌, IfOk, vec_len};
 
 use crate::input::read_whole;
 use crate::stop::Stop;
+use hd_cache::Cached;
 use hd_commands::Refusal;
 use hd_dbd::Dbd;
 use hd_gen::read_dbd;
+use hd_volume::FileStore;
 use std::alloc::Global;
 use std::fs::{File, Metadata, OpenOptions, TryLockError};
 use std::io::{self, Write};
 use std::os::unix::fs::MetadataExt;
 use std::rt::Files;
+use std::sync::ledger::{Blank, Ledger};
 
 /// The bytes of output that go out in one piece.
 pub const PIECE: usize = 65_536;
+
+/// How many blocks of a volume are kept in memory, where the command line does not say.
+pub const CACHE: u32 = 64;
 
 /// Which file of this machine a file is, under whatever name it was opened.
 #[derive(Clone, Copy, PartialEq, Eq)]
@@ -113,6 +119,26 @@ pub fn open_volume<R: Files<File = File>>(
     }
     keep_alone(&file)?;
     Ok(file)
+}
+
+/// The blocks of a volume in a file, with a cache of so many before them, from 1 to 65,536.
+pub fn cached_blocks<L: Ledger>(
+    alloc: Global,
+    dbd: &Dbd,
+    file: File,
+    cache: u32,
+    blank: Blank,
+) -> Result<Cached<FileStore<L>>, Stop>
+    requires name { blank.name ≡ L.name }
+    requires parts { blank.parts ≡ L.parts }
+    requires share { 0 < blank.parts }
+    ensures size { IfOk result (λ s. s.size ≡ dbd.now.block_size) }
+{
+    let store: FileStore<L> = FileStore::over(file, dbd.block_size() as usize, blank)?;
+    match Cached::new(alloc, store, cache.clamp(1, 65_536) as usize) {
+        Ok(cached) => Ok(cached),
+        Err((_, refused)) => Err(Stop::from(refused)),
+    }
 }
 
 /// Cuts a file to nothing. One without bytes, as a pipe or a device is, is left alone.

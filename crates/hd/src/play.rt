@@ -64,19 +64,24 @@ where
             psb,
             volume,
             deck,
-        } => play_file(rt, alloc, dbd, psb, volume, deck, out, err),
-        Request::Check { dbd, volume } => check_file(rt, alloc, dbd, volume, out, err),
+            cache,
+        } => play_file(rt, alloc, dbd, psb, volume, deck, cache, out, err),
+        Request::Check { dbd, volume, cache } => check_file(
+            rt, alloc, dbd, volume, cache, out, err,
+        ),
         Request::Unload {
             dbd,
             volume,
             out: stream,
-        } => unload_file(rt, alloc, dbd, volume, stream, out, err),
+            cache,
+        } => unload_file(rt, alloc, dbd, volume, stream, cache, out, err),
         Request::Reload {
             dbd,
             input,
             volume,
             blocks,
-        } => reload_file(rt, alloc, dbd, input, volume, blocks, out, err),
+            cache,
+        } => reload_file(rt, alloc, dbd, input, volume, blocks, cache, out, err),
     }
 }
 

@@ -2,7 +2,7 @@ ghost use Rattle.std.specs.Prelude.{◌≡◌, ◌<◌, ◌≤◌, ◌^◌, leng
 ghost use Rattle.hd_dbd.specs.ProgramRules.{type_names};
 ghost use Rattle.hd_deck.specs.StepText.{StepFits};
 
-use crate::files::{Identity, PIECE, open_volume, read_database, read_file};
+use crate::files::{Identity, PIECE, cached_blocks, open_volume, read_database, read_file};
 use crate::input::read_whole;
 use crate::sample;
 use crate::stop::Stop;
@@ -10,7 +10,7 @@ use hd_commands::{Refusal, play_deck, status_of_calls};
 use hd_dbd::{Dbd, Psb};
 use hd_deck::{Step, read_deck};
 use hd_gen::read_psb;
-use hd_volume::{BlockStore, FileStore};
+use hd_volume::BlockStore;
 use std::alloc::Global;
 use std::fs::File;
 use std::io::{BufWriter, Read, Write};
@@ -18,8 +18,8 @@ use std::marker::Brand;
 use std::rt::Files;
 use std::sync::ledger::{Blank, Ledger};
 
-/// Plays a deck over the volume in a store; its lines go out in large pieces. Says the status.
-fn play_store<S: BlockStore + Drop, O: Write, E: Write>(
+/// Plays a deck over the volume in a store; its lines go out in large pieces. Says the status, and gives the store back.
+fn play_store<S: BlockStore, O: Write, E: Write>(
     alloc: Global,
     dbd: &Dbd,
     psb: &Psb,
@@ -27,21 +27,21 @@ fn play_store<S: BlockStore + Drop, O: Write, E: Write>(
     store: S,
     out: &mut O,
     err: &mut E,
-) -> Result<u8, Stop>
+) -> (S, Result<u8, Stop>)
     requires size { S.size store ≡ dbd.now.block_size }
     requires matches { psb.now.made_for ≡ type_names dbd.now.types }
     requires steps { All (StepFits (length psb.now.pcbs)) steps.now }
     requires count { length steps.now ≤ 2 ^ 30 }
 {
     let Ok(mut lines) = BufWriter::with_capacity(alloc, PIECE, out) else {
-        return Err(Stop::from(Refusal::Memory));
+        return (store, Err(Stop::from(Refusal::Memory)));
     };
-    let (_, played) = play_deck(alloc, dbd, psb, steps, store, &mut lines, err);
+    let (store, played) = play_deck(alloc, dbd, psb, steps, store, &mut lines, err);
     // What a failed write leaves in the buffer is not written again.
     let (_, _) = lines.into_parts();
     match played {
-        Ok(memory) => Ok(status_of_calls(memory)),
-        Err(ended) => Ok(ended.status),
+        Ok(memory) => (store, Ok(status_of_calls(memory))),
+        Err(ended) => (store, Ok(ended.status)),
     }
 }
 
@@ -57,7 +57,8 @@ pub fn play_sample<I: Read, O: Write, E: Write>(
     let text = read_whole(alloc, input)?;
     let steps = read_deck(alloc, &text, psb.pcbs().len() as u8)?;
     let store = sample::volume(alloc, &dbd)?;
-    play_store(alloc, &dbd, &psb, &steps, store, out, err)
+    let (_, status) = play_store(alloc, &dbd, &psb, &steps, store, out, err);
+    status
 }
 
 /// The program over a database that a file of its source describes.
@@ -90,13 +91,17 @@ fn read_steps<R: Files<File = File>>(
     Ok((steps, identity))
 }
 
-/// Plays a deck over the volume in a file, with a ledger for the accesses that fail.
+/// The status of a deck that a failed access ended, and which said so.
+const DEVICE_FAILED: u8 = 3;
+
+/// Plays a deck over the volume in a file, with a ledger for the accesses that fail. Every block that the deck changed is then in the file.
 fn play_over<L: Ledger, O: Write, E: Write>(
     alloc: Global,
     dbd: &Dbd,
     psb: &Psb,
     steps: &[Step],
     file: File,
+    cache: u32,
     blank: Blank,
     out: &mut O,
     err: &mut E,
@@ -108,8 +113,14 @@ fn play_over<L: Ledger, O: Write, E: Write>(
     requires steps { All (StepFits (length psb.now.pcbs)) steps.now }
     requires count { length steps.now ≤ 2 ^ 30 }
 {
-    let store: FileStore<L> = FileStore::over(file, dbd.block_size() as usize, blank)?;
-    play_store(alloc, dbd, psb, steps, store, out, err)
+    let store = cached_blocks::<L>(alloc, dbd, file, cache, blank)?;
+    let (store, played) = play_store(alloc, dbd, psb, steps, store, out, err);
+    let (_, written) = store.into_store();
+    let status = played?;
+    if status != DEVICE_FAILED {
+        written?;
+    }
+    Ok(status)
 }
 
 /// As `play_over`, with a ledger of its own.
@@ -119,6 +130,7 @@ fn play_over_file<O: Write, E: Write>(
     psb: &Psb,
     steps: &[Step],
     file: File,
+    cache: u32,
     out: &mut O,
     err: &mut E,
 ) -> Result<u8, Stop>
@@ -126,7 +138,7 @@ fn play_over_file<O: Write, E: Write>(
     requires steps { All (StepFits (length psb.now.pcbs)) steps.now }
     requires count { length steps.now ≤ 2 ^ 30 }
 {
-    play_over::<Brand, O, E>(alloc, dbd, psb, steps, file, Blank::new(1), out, err)
+    play_over::<Brand, O, E>(alloc, dbd, psb, steps, file, cache, Blank::new(1), out, err)
 }
 
 /// Plays the deck in a file over the volume in another, which is changed in place. The DBD, the PSB and the deck are read and judged first,
@@ -138,6 +150,7 @@ pub fn play_file<R, O, E>(
     psb: &str,
     volume: &str,
     deck: &str,
+    cache: u32,
     out: &mut O,
     err: &mut E,
 ) -> Result<u8, Stop>
@@ -150,5 +163,5 @@ where
     let (psb, program) = read_program(rt, alloc, &dbd, psb)?;
     let (steps, text) = read_steps(rt, alloc, psb.pcbs().len() as u8, deck)?;
     let file = open_volume(rt, volume, &[source, program, text])?;
-    play_over_file(alloc, &dbd, &psb, &steps, file, out, err)
+    play_over_file(alloc, &dbd, &psb, &steps, file, cache, out, err)
 }

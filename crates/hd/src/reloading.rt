@@ -1,10 +1,9 @@
 ghost use Rattle.std.specs.Prelude.{◌≡◌, ◌<◌};
 
-use crate::files::{empty, keep_alone, open_output, read_database, read_file};
+use crate::files::{cached_blocks, empty, keep_alone, open_output, read_database, read_file};
 use crate::stop::Stop;
 use hd_commands::reload_store;
 use hd_dbd::Dbd;
-use hd_volume::FileStore;
 use std::alloc::Global;
 use std::fs::File;
 use std::io::Write;
@@ -12,7 +11,10 @@ use std::marker::Brand;
 use std::rt::Files;
 use std::sync::ledger::{Blank, Ledger};
 
-/// Loads a stream into an empty file, with a ledger for the accesses that fail.
+/// Room for the line that says what a volume has.
+const LINE: usize = 256;
+
+/// Loads a stream into an empty file, with a ledger for the accesses that fail. What was done is said once the file has every block.
 fn fill<L: Ledger, O: Write, E: Write>(
     alloc: Global,
     dbd: &Dbd,
@@ -20,6 +22,7 @@ fn fill<L: Ledger, O: Write, E: Write>(
     file: File,
     blank: Blank,
     blocks: u32,
+    cache: u32,
     out: &mut O,
     err: &mut E,
 ) -> Result<u8, Stop>
@@ -27,9 +30,15 @@ fn fill<L: Ledger, O: Write, E: Write>(
     requires parts { blank.parts ≡ L.parts }
     requires share { 0 < blank.parts }
 {
-    let store: FileStore<L> = FileStore::over(file, dbd.block_size() as usize, blank)?;
+    let store = cached_blocks::<L>(alloc, dbd, file, cache, blank)?;
     let most = blocks.clamp(1, 65_536);
-    let (_, ended) = reload_store(alloc, dbd, stream, store, most, out, err);
+    let mut line = Vec::with_capacity(alloc, LINE)?;
+    let (store, ended) = reload_store(alloc, dbd, stream, store, most, &mut line, err);
+    let (_, written) = store.into_store();
+    if ended.status == 0 {
+        written?;
+        out.write_all(&line)?;
+    }
     Ok(ended.status)
 }
 
@@ -40,10 +49,21 @@ fn fill_file<O: Write, E: Write>(
     stream: &[u8],
     file: File,
     blocks: u32,
+    cache: u32,
     out: &mut O,
     err: &mut E,
 ) -> Result<u8, Stop> {
-    fill::<Brand, O, E>(alloc, dbd, stream, file, Blank::new(1), blocks, out, err)
+    fill::<Brand, O, E>(
+        alloc,
+        dbd,
+        stream,
+        file,
+        Blank::new(1),
+        blocks,
+        cache,
+        out,
+        err,
+    )
 }
 
 /// Makes a volume file, of at most so many blocks, from 1 to 65,536, of the stream in a file. The DBD is read and judged first, then
@@ -55,6 +75,7 @@ pub fn reload_file<R, O, E>(
     input: &str,
     volume: &str,
     blocks: u32,
+    cache: u32,
     out: &mut O,
     err: &mut E,
 ) -> Result<u8, Stop>
@@ -68,5 +89,5 @@ where
     let file = open_output(rt, volume, true, &[source, records])?;
     keep_alone(&file)?;
     empty(&file)?;
-    fill_file(alloc, &dbd, &stream, file, blocks, out, err)
+    fill_file(alloc, &dbd, &stream, file, blocks, cache, out, err)
 }

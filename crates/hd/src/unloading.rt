@@ -18,6 +18,7 @@ fn copy<L: Ledger, O: Write, E: Write>(
     dbd: &Dbd,
     file: File,
     stream: Rewritten,
+    cache: u32,
     blank: Blank,
     out: &mut O,
     err: &mut E,
@@ -26,7 +27,7 @@ fn copy<L: Ledger, O: Write, E: Write>(
     requires parts { blank.parts ≡ L.parts }
     requires share { 0 < blank.parts }
 {
-    let mut volume = load_volume::<L>(alloc, dbd, file, blank)?;
+    let mut volume = load_volume::<L>(alloc, dbd, file, cache, blank)?;
     let Ok(mut records) = BufWriter::with_capacity(alloc, PIECE, stream) else {
         return Err(Stop::from(Refusal::Memory));
     };
@@ -42,10 +43,11 @@ fn copy_file<O: Write, E: Write>(
     dbd: &Dbd,
     file: File,
     stream: Rewritten,
+    cache: u32,
     out: &mut O,
     err: &mut E,
 ) -> Result<u8, Stop> {
-    copy::<Brand, O, E>(alloc, dbd, file, stream, Blank::new(1), out, err)
+    copy::<Brand, O, E>(alloc, dbd, file, stream, cache, Blank::new(1), out, err)
 }
 
 /// Checks the volume in a file, which is opened for reading alone, and writes its unload stream into another, which is opened for
@@ -57,6 +59,7 @@ pub fn unload_file<R, O, E>(
     dbd: &str,
     volume: &str,
     stream: &str,
+    cache: u32,
     out: &mut O,
     err: &mut E,
 ) -> Result<u8, Stop>
@@ -68,5 +71,5 @@ where
     let (dbd, source) = read_database(rt, alloc, dbd)?;
     let (file, image) = open_read_volume(rt, volume)?;
     let stream = open_output(rt, stream, false, &[source, image])?;
-    copy_file(alloc, &dbd, file, Rewritten::over(stream), out, err)
+    copy_file(alloc, &dbd, file, Rewritten::over(stream), cache, out, err)
 }

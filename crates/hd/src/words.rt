@@ -1,7 +1,9 @@
+use crate::files::CACHE;
 use clap::{Arg, Command, Error, value_parser};
 use std::alloc::Global;
 
-/// What the words of the command line ask for. All of them but `blocks` are names of files.
+/// What the words of the command line ask for. All of them but `blocks` and `cache` are names of files; `cache` says how many blocks of the
+/// volume are kept in memory.
 #[derive(Clone, Copy)]
 pub enum Request<'a> {
     /// A deck over the sample.
@@ -12,15 +14,18 @@ pub enum Request<'a> {
         psb: &'a str,
         volume: &'a str,
         deck: &'a str,
+        cache: u32,
     },
     Check {
         dbd: &'a str,
         volume: &'a str,
+        cache: u32,
     },
     Unload {
         dbd: &'a str,
         volume: &'a str,
         out: &'a str,
+        cache: u32,
     },
     /// A volume of an unload stream, of at most so many blocks.
     Reload {
@@ -28,6 +33,7 @@ pub enum Request<'a> {
         input: &'a str,
         volume: &'a str,
         blocks: u32,
+        cache: u32,
     },
 }
 
@@ -50,22 +56,25 @@ pub fn read_words(alloc: Global, words: &[String]) -> Result<Request<'_>, Error>
     };
     let dbd = given.get_str("DBD").unwrap_or("");
     let volume = given.get_str("VOLUME").unwrap_or("");
+    let cache = given.get_one::<u32>("CACHE").unwrap_or(CACHE);
     if name == "deck" {
         return Ok(Request::Deck {
             dbd,
             psb: given.get_str("PSB").unwrap_or(""),
             volume,
             deck: given.get_str("DECK").unwrap_or(""),
+            cache,
         });
     }
     if name == "check" {
-        return Ok(Request::Check { dbd, volume });
+        return Ok(Request::Check { dbd, volume, cache });
     }
     if name == "unload" {
         return Ok(Request::Unload {
             dbd,
             volume,
             out: given.get_str("OUT").unwrap_or(""),
+            cache,
         });
     }
     Ok(Request::Reload {
@@ -73,6 +82,7 @@ pub fn read_words(alloc: Global, words: &[String]) -> Result<Request<'_>, Error>
         input: given.get_str("IN").unwrap_or(""),
         volume,
         blocks: given.get_one::<u32>("BLOCKS").unwrap_or(1),
+        cache,
     })
 }
 
@@ -83,7 +93,8 @@ fn deck_command<'a>(alloc: Global) -> Result<Command<'a>, Error> {
         .arg(file_word(alloc, "DBD", "The file with the DBD source"))?
         .arg(file_word(alloc, "PSB", "The file with the PSB source"))?
         .arg(file_word(alloc, "VOLUME", "The volume, which is changed in place"))?
-        .arg(file_word(alloc, "DECK", "The file with the calls"))?;
+        .arg(file_word(alloc, "DECK", "The file with the calls"))?
+        .arg(cache_word(alloc))?;
     Ok(command)
 }
 
@@ -92,7 +103,8 @@ fn check_command<'a>(alloc: Global) -> Result<Command<'a>, Error> {
     let command = Command::new(alloc, "check")
         .about("Says whether a volume is sound, or names its first fault")
         .arg(file_word(alloc, "DBD", "The file with the DBD source"))?
-        .arg(file_word(alloc, "VOLUME", "The volume, which is not changed"))?;
+        .arg(file_word(alloc, "VOLUME", "The volume, which is not changed"))?
+        .arg(cache_word(alloc))?;
     Ok(command)
 }
 
@@ -106,7 +118,8 @@ fn unload_command<'a>(alloc: Global) -> Result<Command<'a>, Error> {
             alloc,
             "OUT",
             "The unload stream, made where there is none; it is cut to nothing and written when the volume has passed",
-        ))?;
+        ))?
+        .arg(cache_word(alloc))?;
     Ok(command)
 }
 
@@ -125,11 +138,21 @@ fn reload_command<'a>(alloc: Global) -> Result<Command<'a>, Error> {
             "VOLUME",
             "The volume, made or cut to nothing first, even where the stream is refused",
         ))?
-        .arg(blocks)?;
+        .arg(blocks)?
+        .arg(cache_word(alloc))?;
     Ok(command)
 }
 
 /// A word that is the name of a file.
 fn file_word<'a>(alloc: Global, name: &'a str, help: &'a str) -> Arg<'a> {
     Arg::new(alloc, name).required(true).help(help)
+}
+
+/// The option that says how many blocks of a volume are kept in memory.
+fn cache_word<'a>(alloc: Global) -> Arg<'a> {
+    Arg::new(alloc, "CACHE")
+        .long("cache")
+        .value_name("BLOCKS")
+        .help("The blocks of the volume that are kept in memory, 1 to 65536; 64 if it is not given")
+        .value_parser(value_parser!(u32).range(1..=65_536))
 }

@@ -23,6 +23,10 @@ byte_shown size stored find k = byte_or (find (k / size)) (k % size) (slice_inde
 unfoldable pub shown : ℕ → List ℕ → (ℕ → Option Entry) → List ℕ
 shown size stored find = map (byte_shown size stored find) (range_with_len 0 (length stored))
 
+-- what a cache shows before a store with these bytes
+abbrev pub seen : ℕ → List ℕ → LruCache ℕ Entry → List ℕ
+seen size stored cache = shown size stored (entry_of cache)
+
 -- each entry is as long as a block
 abbrev pub AreWhole : ℕ → (ℕ → Option Entry) → Type 0
 AreWhole size find = (n : ℕ) (e : Entry) → find n ≡ Some e → length e.bytes.items ≡ size

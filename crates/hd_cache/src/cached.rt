@@ -1,4 +1,4 @@
-ghost use Rattle.std.specs.Prelude.{◌≡◌, ◌<◌, ◌≤◌, length, IsTrue, IfErr, IfOk, OnOk};
+ghost use Rattle.std.specs.Prelude.{◌≡◌, ◌<◌, ◌≤◌, IsTrue, IfErr, IfOk, OnOk};
 ghost use Rattle.hd_dbd.specs.Refusals.{OnlyDevice};
 ghost use Rattle.hd_volume.specs.Stores.{CountsDevice, StaysSound};
 
@@ -25,12 +25,12 @@ pub struct Cached<S: BlockStore> {
 
 impl<S: BlockStore> Model for Cached<S> {
     ghost use Rattle.hd_cache.specs.Caches.{CacheState, IsKept};
-    ghost use Rattle.hd_cache.specs.Contents.{shown, entry_of};
+    ghost use Rattle.hd_cache.specs.Contents.{seen, entry_of};
 
     ghost Value = { CacheState };
 
     ghost view = { λ c. record {
-      contents = shown (S.size c.store) (S.contents c.store) (entry_of c.cache);
+      contents = seen (S.size c.store) (S.contents c.store) c.cache;
       stored = S.contents c.store;
       is_sound = S.is_sound c.store;
       failures = S.failures c.store;
@@ -47,7 +47,8 @@ impl<S: BlockStore> Cached<S> {
         requires some { 0 < blocks }
         requires few { blocks ≤ 65536 }
         ensures contents { IfOk result (λ c. IsTrue (S.is_sound store) → c.contents ≡ S.contents store) }
-        ensures store { IfOk result (λ c. (c.stored ≡ S.contents store) × (c.is_sound ≡ S.is_sound store) × (c.failures ≡ S.failures store) × (c.room ≡ S.room store) × (c.size ≡ S.size store)) }
+        ensures stored { IfOk result (λ c. (c.stored ≡ S.contents store) × (c.size ≡ S.size store)) }
+        ensures store { IfOk result (λ c. (c.is_sound ≡ S.is_sound store) × (c.failures ≡ S.failures store) × (c.room ≡ S.room store)) }
         ensures err { IfErr result (λ e. e ≡ (store, Refused.Memory)) }
     {
         let _size = store.block_size();

@@ -1,4 +1,4 @@
-ghost use Rattle.std.specs.Prelude.{◌≡◌, ◌≢◌, ◌+◌, ◌<◌, ◌≤◌, ℕ, true, false, None, vec_len, nat_eq, IsTrue, IfErr, IfSome, OnOk, OnSome, is_some, length, Some, MatchOption, option_map};
+ghost use Rattle.std.specs.Prelude.{◌≡◌, ◌≢◌, ◌<◌, ℕ, true, false, None, vec_len, nat_eq, IfSome, is_some, length, option_map};
 ghost use Rattle.std.specs.Option.{IsSomeAnd};
 ghost use Rattle.std.specs.Map.{remove_entry};
 ghost use Rattle.lru.specs.LruCache.{lru_cache, last_entry};

@@ -1,8 +1,8 @@
-ghost use Rattle.std.specs.Prelude.{◌≡◌, ◌≢◌, ◌+◌, ◌<◌, ◌≤◌, ℕ, true, false, None, vec_len, nat_eq, IsTrue, IfErr, IfOk, IfSome, OnOk, OnErr, length};
+ghost use Rattle.std.specs.Prelude.{◌≡◌, ◌≢◌, ◌<◌, None, IsTrue, OnOk, length};
 ghost use Rattle.hd_dbd.specs.Refusals.{OnlyDevice};
 ghost use Rattle.hd_bytes.specs.Blocks.{block_of, with_block, HasBlock};
 ghost use Rattle.hd_volume.specs.Stores.{CountsDevice, StaysSound};
-ghost use Rattle.hd_cache.specs.Contents.{shown, entry_of, AreWhole, AreCoherent, OnlyFirstWaits};
+ghost use Rattle.hd_cache.specs.Contents.{seen, entry_of, AreWhole, AreCoherent, OnlyFirstWaits};
 ghost use Rattle.hd_cache.specs.Turns.{AreKept};
 
 use crate::entries::{Entry, copy_in, copy_out, put_in};
@@ -25,10 +25,10 @@ pub fn read_block<S: BlockStore>(
     requires whole { AreWhole (S.size store.old) (entry_of cache.old) }
     requires coherent { IsTrue (S.is_sound store.old) → AreCoherent (S.size store.old) (S.contents store.old) (entry_of cache.old) }
     requires there { IsTrue (S.is_sound store.old) → HasBlock (S.size store.old) (S.contents store.old) n }
-    ensures value { OnOk result (IsTrue (S.is_sound store.old) → buf.new ≡ block_of (S.size store.old) (shown (S.size store.old) (S.contents store.old) (entry_of cache.old)) n) }
+    ensures value { OnOk result (IsTrue (S.is_sound store.old) → buf.new ≡ block_of (S.size store.old) (seen (S.size store.old) (S.contents store.old) cache.old) n) }
     ensures hit { (entry_of cache.old n ≢ None) → (store.new ≡ store.old) × AreKept (entry_of cache.old) (entry_of cache.new) }
     ensures len { length buf.new ≡ length buf.old }
-    ensures shown { IsTrue (S.is_sound store.new) → shown (S.size store.old) (S.contents store.new) (entry_of cache.new) ≡ shown (S.size store.old) (S.contents store.old) (entry_of cache.old) }
+    ensures shown { IsTrue (S.is_sound store.new) → seen (S.size store.old) (S.contents store.new) cache.new ≡ seen (S.size store.old) (S.contents store.old) cache.old }
     ensures whole { AreWhole (S.size store.old) (entry_of cache.new) }
     ensures coherent { IsTrue (S.is_sound store.new) → AreCoherent (S.size store.old) (S.contents store.new) (entry_of cache.new) }
     ensures refusal { OnlyDevice result }
@@ -59,7 +59,7 @@ pub fn write_block<S: BlockStore>(
     requires whole { AreWhole (S.size store.old) (entry_of cache.old) }
     requires coherent { IsTrue (S.is_sound store.old) → AreCoherent (S.size store.old) (S.contents store.old) (entry_of cache.old) }
     requires there { IsTrue (S.is_sound store.old) → HasBlock (S.size store.old) (S.contents store.old) n }
-    ensures value { IsTrue (S.is_sound store.new) → shown (S.size store.old) (S.contents store.new) (entry_of cache.new) ≡ with_block (S.size store.old) (shown (S.size store.old) (S.contents store.old) (entry_of cache.old)) n bytes.now }
+    ensures value { let size = S.size store.old in IsTrue (S.is_sound store.new) → seen size (S.contents store.new) cache.new ≡ with_block size (seen size (S.contents store.old) cache.old) n bytes.now }
     ensures hit { (entry_of cache.old n ≢ None) → store.new ≡ store.old }
     ensures whole { AreWhole (S.size store.old) (entry_of cache.new) }
     ensures coherent { IsTrue (S.is_sound store.new) → AreCoherent (S.size store.old) (S.contents store.new) (entry_of cache.new) }
@@ -95,7 +95,7 @@ fn write_straight<S: BlockStore>(
     requires there { IsTrue (S.is_sound store.old) → HasBlock (S.size store.old) (S.contents store.old) n }
     requires absent { entry_of cache.now n ≡ None }
     requires first_is_last { n ≡ 0 → OnlyFirstWaits (entry_of cache.now) }
-    ensures value { IsTrue (S.is_sound store.new) → shown (S.size store.old) (S.contents store.new) (entry_of cache.now) ≡ with_block (S.size store.old) (shown (S.size store.old) (S.contents store.old) (entry_of cache.now)) n bytes.now }
+    ensures value { let size = S.size store.old in IsTrue (S.is_sound store.new) → seen size (S.contents store.new) cache.now ≡ with_block size (seen size (S.contents store.old) cache.now) n bytes.now }
     ensures coherent { IsTrue (S.is_sound store.new) → AreCoherent (S.size store.old) (S.contents store.new) (entry_of cache.now) }
     ensures refusal { OnlyDevice result }
     ensures counts { CountsDevice result (S.failures store.old) (S.failures store.new) }

@@ -1,5 +1,5 @@
 //! Tests in which accesses of the store below fail, and growths find no memory.
-ghost use Rattle.std.specs.Prelude.{◌≡◌, ◌<◌, ◌≤◌, true};
+ghost use Rattle.std.specs.Prelude.{◌<◌, ◌≤◌, true};
 
 use crate::Cached;
 use crate::steps::{Chance, Step, cached, fused, read_block, take_step, write_block, zeros};

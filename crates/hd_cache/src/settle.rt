@@ -1,8 +1,7 @@
-ghost use Rattle.std.specs.Prelude.{◌≡◌, ◌≢◌, ◌+◌, ◌<◌, ◌≤◌, ℕ, true, false, None, vec_len, nat_eq, IsTrue, IfErr, IfOk, IfSome, OnOk, OnErr, OnSome, is_some, length, Some, MatchOption};
+ghost use Rattle.std.specs.Prelude.{◌≡◌, ◌≢◌, ◌<◌, ℕ, false, None, vec_len, IsTrue, IfOk, IfSome, OnOk, OnErr, length};
 ghost use Rattle.hd_dbd.specs.Refusals.{OnlyDevice};
-ghost use Rattle.hd_bytes.specs.Blocks.{HasBlock};
 ghost use Rattle.hd_volume.specs.Stores.{CountsDevice, StaysSound};
-ghost use Rattle.hd_cache.specs.Contents.{shown, entry_of, AreWhole, AreCoherent, OnlyFirstWaits};
+ghost use Rattle.hd_cache.specs.Contents.{seen, entry_of, AreWhole, AreCoherent, OnlyFirstWaits};
 ghost use Rattle.hd_cache.specs.Turns.{settled, AreKept, IsTurned};
 
 use crate::entries::{Entry, oldest, take_out};
@@ -29,7 +28,7 @@ pub fn settle<S: BlockStore>(
     ensures cap { cache.new.cap ≡ cache.old.cap }
     ensures kept { AreKept (entry_of cache.old) (entry_of cache.new) }
     ensures err { OnErr result ((m : ℕ) → entry_of cache.new m ≡ entry_of cache.old m) }
-    ensures shown { IsTrue (S.is_sound store.new) → shown (S.size store.old) (S.contents store.new) (entry_of cache.new) ≡ shown (S.size store.old) (S.contents store.old) (entry_of cache.old) }
+    ensures shown { IsTrue (S.is_sound store.new) → seen (S.size store.old) (S.contents store.new) cache.new ≡ seen (S.size store.old) (S.contents store.old) cache.old }
     ensures whole { AreWhole (S.size store.old) (entry_of cache.new) }
     ensures coherent { IsTrue (S.is_sound store.new) → AreCoherent (S.size store.old) (S.contents store.new) (entry_of cache.new) }
     ensures refusal { OnlyDevice result }
@@ -57,7 +56,7 @@ fn turn<S: BlockStore>(store: &mut S, cache: &mut LruCache<u32, Entry>) -> Resul
     ensures turned { OnOk result (0 < length cache.old.entries → IsTurned cache.old.entries cache.new.entries) }
     ensures cap { cache.new.cap ≡ cache.old.cap }
     ensures kept { AreKept (entry_of cache.old) (entry_of cache.new) }
-    ensures shown { IsTrue (S.is_sound store.new) → shown (S.size store.old) (S.contents store.new) (entry_of cache.new) ≡ shown (S.size store.old) (S.contents store.old) (entry_of cache.old) }
+    ensures shown { IsTrue (S.is_sound store.new) → seen (S.size store.old) (S.contents store.new) cache.new ≡ seen (S.size store.old) (S.contents store.old) cache.old }
     ensures whole { AreWhole (S.size store.old) (entry_of cache.new) }
     ensures coherent { IsTrue (S.is_sound store.new) → AreCoherent (S.size store.old) (S.contents store.new) (entry_of cache.new) }
     ensures refusal { OnlyDevice result }
@@ -89,7 +88,7 @@ pub fn settle_others<S: BlockStore>(
     ensures len { OnOk result (length cache.new.entries ≡ length cache.old.entries) }
     ensures cap { cache.new.cap ≡ cache.old.cap }
     ensures kept { AreKept (entry_of cache.old) (entry_of cache.new) }
-    ensures shown { IsTrue (S.is_sound store.new) → shown (S.size store.old) (S.contents store.new) (entry_of cache.new) ≡ shown (S.size store.old) (S.contents store.old) (entry_of cache.old) }
+    ensures shown { IsTrue (S.is_sound store.new) → seen (S.size store.old) (S.contents store.new) cache.new ≡ seen (S.size store.old) (S.contents store.old) cache.old }
     ensures whole { AreWhole (S.size store.old) (entry_of cache.new) }
     ensures coherent { IsTrue (S.is_sound store.new) → AreCoherent (S.size store.old) (S.contents store.new) (entry_of cache.new) }
     ensures refusal { OnlyDevice result }
@@ -112,9 +111,9 @@ pub fn settle_all<S: BlockStore>(
     requires some { 0 < S.size store.old }
     requires whole { AreWhole (S.size store.old) (entry_of cache.old) }
     requires coherent { IsTrue (S.is_sound store.old) → AreCoherent (S.size store.old) (S.contents store.old) (entry_of cache.old) }
-    ensures stored { OnOk result (IsTrue (S.is_sound store.old) → S.contents store.new ≡ shown (S.size store.old) (S.contents store.old) (entry_of cache.old)) }
+    ensures stored { OnOk result (IsTrue (S.is_sound store.old) → S.contents store.new ≡ seen (S.size store.old) (S.contents store.old) cache.old) }
     ensures kept { AreKept (entry_of cache.old) (entry_of cache.new) }
-    ensures shown { IsTrue (S.is_sound store.new) → shown (S.size store.old) (S.contents store.new) (entry_of cache.new) ≡ shown (S.size store.old) (S.contents store.old) (entry_of cache.old) }
+    ensures shown { IsTrue (S.is_sound store.new) → seen (S.size store.old) (S.contents store.new) cache.new ≡ seen (S.size store.old) (S.contents store.old) cache.old }
     ensures whole { AreWhole (S.size store.old) (entry_of cache.new) }
     ensures coherent { IsTrue (S.is_sound store.new) → AreCoherent (S.size store.old) (S.contents store.new) (entry_of cache.new) }
     ensures refusal { OnlyDevice result }
@@ -141,7 +140,7 @@ pub fn make_room<S: BlockStore>(
     ensures free { OnOk result (length cache.new.entries < cache.new.cap) }
     ensures absent { (m : ℕ) → entry_of cache.old m ≡ None → entry_of cache.new m ≡ None }
     ensures err { OnErr result (AreKept (entry_of cache.old) (entry_of cache.new)) }
-    ensures shown { IsTrue (S.is_sound store.new) → shown (S.size store.old) (S.contents store.new) (entry_of cache.new) ≡ shown (S.size store.old) (S.contents store.old) (entry_of cache.old) }
+    ensures shown { IsTrue (S.is_sound store.new) → seen (S.size store.old) (S.contents store.new) cache.new ≡ seen (S.size store.old) (S.contents store.old) cache.old }
     ensures whole { AreWhole (S.size store.old) (entry_of cache.new) }
     ensures coherent { IsTrue (S.is_sound store.new) → AreCoherent (S.size store.old) (S.contents store.new) (entry_of cache.new) }
     ensures refusal { OnlyDevice result }

@@ -1,5 +1,4 @@
 //! Tests that compare a cache's answers and bytes with a plain store's, and that count the accesses of the store below.
-ghost use Rattle.std.specs.Prelude.{◌≡◌, ◌<◌, ◌≤◌};
 
 use crate::Cached;
 use crate::steps::{Chance, Step, cached, fused, read_block, take_step, write_block, zeros};
