@@ -1,7 +1,8 @@
-ghost use Rattle.std.specs.Prelude.{◌≡◌, IfSome};
+ghost use Rattle.std.specs.Prelude.{◌≡◌, ◌≤◌, length, All, IfSome};
 ghost use Rattle.hd_dbd.specs.ProgramRules.{type_names};
+ghost use Rattle.hd_deck.specs.StepText.{StepFits};
 
-use crate::{RunFault, read_deck, run};
+use crate::{RunFault, Step, read_deck, run};
 use hd_check::{Fault, Line};
 use hd_dbd::{Dbd, Name8, Pcb, Psb, Sens};
 use hd_sample::{database, image};
@@ -48,15 +49,44 @@ fn program(alloc: Global, dbd: &Dbd) -> Option<Psb>
 }
 
 /// How a run ended: its calls or its fault, whether the access of the store that fails was met, and the bytes that are left.
+#[derive(Drop)]
 struct Ended {
     calls: Result<u64, RunFault>,
     met: bool,
     bytes: Vec<u8>,
 }
 
+/// The steps of a deck for a program; `None` where it is refused, or where there is no memory for them.
+pub(crate) fn steps_of(alloc: Global, deck: &[u8], psb: &Psb) -> Option<Vec<Step>>
+    ensures fit { IfSome result (λ steps. All (StepFits (length psb.now.pcbs)) steps.items) }
+    ensures few { IfSome result (λ steps. length steps.items ≤ 1000) }
+{
+    let pcbs = psb.pcbs();
+    if deck.len() > 1000 {
+        return None;
+    }
+    match read_deck(alloc, deck, pcbs.len() as u8) {
+        Ok(steps) => Some(steps),
+        Err(_) => None,
+    }
+}
+
+/// A store of the sample's bytes, with another byte at a place; `None` where there is no memory for it.
+pub(crate) fn edited(alloc: Global, edit: (usize, u8)) -> Option<MemStore>
+    ensures { IfSome result (λ store. store.size ≡ 128) }
+{
+    let mut sample = image();
+    if edit.0 < 512 {
+        sample[edit.0] = edit.1;
+    }
+    let mut bytes = Vec::new(alloc);
+    bytes.extend_from_slice(&sample).ok()?;
+    Some(MemStore::new(128, bytes))
+}
+
 /// The run of a deck over the sample, with another byte at a place, in a fuse that passes so many accesses; `None` where there is no
 /// memory for it, or where the deck is refused.
-fn ended<W: Write>(
+fn run_over_sample<W: Write>(
     alloc: Global,
     deck: &[u8],
     edit: (usize, u8),
@@ -65,17 +95,8 @@ fn ended<W: Write>(
 ) -> Option<Ended> {
     let dbd = database(alloc).ok()?;
     let psb = program(alloc, &dbd)?;
-    if deck.len() > 1000 {
-        return None;
-    }
-    let steps = read_deck(alloc, deck, psb.pcbs().len() as u8).ok()?;
-    let mut sample = image();
-    if edit.0 < 512 {
-        sample[edit.0] = edit.1;
-    }
-    let mut bytes = Vec::new(alloc);
-    bytes.extend_from_slice(&sample).ok()?;
-    let store = FuseStore::new(MemStore::new(128, bytes), passes);
+    let steps = steps_of(alloc, deck, &psb)?;
+    let store = FuseStore::new(edited(alloc, edit)?, passes);
     let (calls, store) = match run(alloc, store, &dbd, &psb, &steps, out) {
         Ok(end) => (Ok(end.calls), end.store),
         Err((store, fault)) => (Err(fault), store),
@@ -94,7 +115,9 @@ const NO_EDIT: (usize, u8) = (512, 0);
 fn plays_a_deck_without_calls(rt: HostRuntime) -> Result<(), Fail> {
     let alloc = rt.alloc();
     let mut out = Vec::new(alloc);
-    let ended = ended(alloc, b"* nothing\nS 2\n", NO_EDIT, 1000, &mut out).expect(&rt, "memory");
+    let ended = run_over_sample(alloc, b"* nothing\nS 2\n", NO_EDIT, 1000, &mut out).expect(
+        &rt, "memory",
+    );
     assert_eq!(rt; ended.calls, Ok(0));
     assert_eq!(rt; out.len(), 0);
     assert_eq!(rt; ended.bytes.as_slice(), image().as_slice());
@@ -106,7 +129,7 @@ fn counts_each_call(rt: HostRuntime) -> Result<(), Fail> {
     let alloc = rt.alloc();
     let mut out = Vec::new(alloc);
     let deck = b"L   3 GN\nS 2\nL     GU   BOOK\n";
-    let ended = ended(alloc, deck, NO_EDIT, 1000, &mut out).expect(&rt, "memory");
+    let ended = run_over_sample(alloc, deck, NO_EDIT, 1000, &mut out).expect(&rt, "memory");
     assert_eq!(rt; ended.calls, Ok(4));
     assert!(rt; out.starts_with(b"1 1 GN   ["));
     assert_eq!(rt; ended.bytes.as_slice(), image().as_slice());
@@ -117,7 +140,9 @@ fn counts_each_call(rt: HostRuntime) -> Result<(), Fail> {
 fn tells_why_it_was_not_opened(rt: HostRuntime) -> Result<(), Fail> {
     let alloc = rt.alloc();
     let mut out = Vec::new(alloc);
-    let ended = ended(alloc, b"L     GN\n", (177, 1), 1000, &mut out).expect(&rt, "memory");
+    let ended = run_over_sample(alloc, b"L     GN\n", (177, 1), 1000, &mut out).expect(
+        &rt, "memory",
+    );
     let deleted = Fault {
         line: Line::Deleted,
         address: 176,
@@ -133,7 +158,9 @@ fn tells_each_access_that_fails(rt: HostRuntime) -> Result<(), Fail> {
     let alloc = rt.alloc();
     for passes in 0..100 {
         let mut out = Vec::new(alloc);
-        let ended = ended(alloc, b"L   9 GN\n", NO_EDIT, passes, &mut out).expect(&rt, "memory");
+        let ended = run_over_sample(alloc, b"L   9 GN\n", NO_EDIT, passes, &mut out).expect(
+            &rt, "memory",
+        );
         let told = matches!(
             &ended.calls,
             Err(RunFault::Device | RunFault::Open(OpenFault::Device))
@@ -173,7 +200,9 @@ impl Write for SmallWriter {
 fn tells_of_a_line_that_is_not_taken(rt: HostRuntime) -> Result<(), Fail> {
     for room in [0usize, 1, 9, 10, 20] {
         let mut out = SmallWriter { room };
-        let ended = ended(rt.alloc(), b"L   9 GN\n", NO_EDIT, 1000, &mut out).expect(&rt, "memory");
+        let ended = run_over_sample(rt.alloc(), b"L   9 GN\n", NO_EDIT, 1000, &mut out).expect(
+            &rt, "memory",
+        );
         assert_eq!(rt; ended.calls, Err(RunFault::Write));
         assert_eq!(rt; ended.bytes.as_slice(), image().as_slice());
     }
