@@ -1,10 +1,11 @@
-ghost use Rattle.std.specs.Prelude.{◌≡◌, ◌<◌, IfSome, []};
+ghost use Rattle.std.specs.Prelude.{◌≡◌, IfSome, [], false};
 ghost use Rattle.hd_dbd.specs.ProgramRules.{type_names};
 
-use crate::{RunFault, read_deck, run};
+use crate::run_tests::{edited, steps_of};
+use crate::{RunFault, run};
 use hd_dbd::{Dbd, Name8, Pcb, Psb, Refused, Sens};
 use hd_sample::{database, image};
-use hd_volume::{BlockStore, FuseStore, MemStore};
+use hd_volume::{BlockStore, FuseStore};
 use std::alloc::Global;
 use std::io::Write;
 use std::test::Fail;
@@ -29,17 +30,6 @@ fn program(alloc: Global, dbd: &Dbd) -> Option<Psb>
     Psb::new(alloc, dbd, pcbs).ok()
 }
 
-/// The sample's bytes, of a volume of so many blocks at most; `None` where there is no memory for them.
-fn sample(alloc: Global, largest: u8) -> Option<MemStore>
-    ensures { IfSome result (λ store. store.size ≡ 128) }
-{
-    let mut sample = image();
-    sample[19] = largest;
-    let mut bytes = Vec::new(alloc);
-    bytes.extend_from_slice(&sample).ok()?;
-    Some(MemStore::new(128, bytes))
-}
-
 /// The run of a deck over a store of the sample: how many calls were made, and how many of them found no memory, or else the fault; `None`
 /// where there is no memory for it, or where the deck is refused.
 fn played<S: BlockStore + Drop, W: Write>(
@@ -52,10 +42,7 @@ fn played<S: BlockStore + Drop, W: Write>(
 {
     let dbd = database(alloc).ok()?;
     let psb = program(alloc, &dbd)?;
-    if deck.len() > 1000 {
-        return None;
-    }
-    let steps = read_deck(alloc, deck, psb.pcbs().len() as u8).ok()?;
+    let steps = steps_of(alloc, deck, &psb)?;
     match run(alloc, store, &dbd, &psb, &steps, out) {
         Ok(end) => Some(Ok((end.calls, end.memory))),
         Err((_store, fault)) => Some(Err(fault)),
@@ -75,7 +62,7 @@ fn prints_the_call_in_which_an_access_fails(rt: HostRuntime) -> Result<(), Fail>
     let mut second = false;
     for passes in 0..100 {
         let mut out = Vec::new(alloc);
-        let store = FuseStore::new(sample(alloc, 16).expect(&rt, "memory"), passes);
+        let store = FuseStore::new(edited(alloc, (19, 16)).expect(&rt, "memory"), passes);
         let ended = played(alloc, b"L   2 GN\n", store, &mut out).expect(&rt, "memory");
         if ended == Ok((2, 0)) {
             assert!(rt; first && second);
@@ -92,18 +79,20 @@ fn prints_the_call_in_which_an_access_fails(rt: HostRuntime) -> Result<(), Fail>
     Ok(())
 }
 
+/// What is printed of an ISRT with an area that is a byte too short, one that takes the last hole, one more, and a GU.
+const REFUSED: &[u8] =
+    b"1 1 ISRT [!!] Area\n2 1 ISRT [  ] 01 COURSE   key=301 area=\n3 1 ISRT [!!] Full\n4 1 GU   [  ] 01 COURSE   key=101 area=101ALGEB\n";
+
 #[test]
 fn goes_on_after_a_wrong_area_and_a_full_volume(rt: HostRuntime) -> Result<(), Fail> {
     let alloc = rt.alloc();
     let mut out = Vec::new(alloc);
-    let store = sample(alloc, 4).expect(&rt, "memory");
-    let deck = b"L     ISRT COURSE\nD301HIST\nL     ISRT COURSE\nD301HISTO\nL     GN\n";
+    let store = edited(alloc, (19, 4)).expect(&rt, "memory");
+    let deck =
+        b"L     ISRT COURSE  \nD301HIST\nL     ISRT COURSE  \nD301HISTO\nL     ISRT COURSE  \nD401MUSIC\nL     GU\n";
     let ended = played(alloc, deck, store, &mut out).expect(&rt, "memory");
-    assert_eq!(rt; ended, Ok((3, 0)));
-    assert_eq!(rt;
-        out.as_slice(),
-        b"1 1 ISRT [!!] Area\n2 1 ISRT [!!] Full\n3 1 GN   [  ] 01 COURSE   key=101 area=101ALGEB\n".as_slice()
-    );
+    assert_eq!(rt; ended, Ok((4, 0)));
+    assert_eq!(rt; out.as_slice(), REFUSED);
     Ok(())
 }
 
@@ -162,7 +151,7 @@ impl BlockStore for Unyielding {
 fn goes_on_and_counts_a_call_that_finds_no_memory(rt: HostRuntime) -> Result<(), Fail> {
     let alloc = rt.alloc();
     let mut out = Vec::new(alloc);
-    let deck = b"L     ISRT COURSE\nD301HISTO\nL     GN\n";
+    let deck = b"L     ISRT COURSE  \nD301HISTO\nL     GN\n";
     let ended = played(alloc, deck, Unyielding, &mut out).expect(&rt, "memory");
     assert_eq!(rt; ended, Ok((2, 1)));
     assert_eq!(rt;

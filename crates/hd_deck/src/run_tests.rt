@@ -1,7 +1,8 @@
-ghost use Rattle.std.specs.Prelude.{◌≡◌, IfSome};
+ghost use Rattle.std.specs.Prelude.{◌≡◌, ◌≤◌, length, All, IfSome};
 ghost use Rattle.hd_dbd.specs.ProgramRules.{type_names};
+ghost use Rattle.hd_deck.specs.StepText.{StepFits};
 
-use crate::{RunFault, read_deck, run};
+use crate::{RunFault, Step, read_deck, run};
 use hd_check::{Fault, Line};
 use hd_dbd::{Dbd, Name8, Pcb, Psb, Sens};
 use hd_sample::{database, image};
@@ -55,6 +56,34 @@ struct Ended {
     bytes: Vec<u8>,
 }
 
+/// The steps of a deck for a program; `None` where it is refused, or where there is no memory for them.
+pub(crate) fn steps_of(alloc: Global, deck: &[u8], psb: &Psb) -> Option<Vec<Step>>
+    ensures fit { IfSome result (λ steps. All (StepFits (length psb.now.pcbs)) steps.items) }
+    ensures few { IfSome result (λ steps. length steps.items ≤ 1000) }
+{
+    let pcbs = psb.pcbs();
+    if deck.len() > 1000 {
+        return None;
+    }
+    match read_deck(alloc, deck, pcbs.len() as u8) {
+        Ok(steps) => Some(steps),
+        Err(_) => None,
+    }
+}
+
+/// A store of the sample's bytes, with another byte at a place; `None` where there is no memory for it.
+pub(crate) fn edited(alloc: Global, edit: (usize, u8)) -> Option<MemStore>
+    ensures { IfSome result (λ store. store.size ≡ 128) }
+{
+    let mut sample = image();
+    if edit.0 < 512 {
+        sample[edit.0] = edit.1;
+    }
+    let mut bytes = Vec::new(alloc);
+    bytes.extend_from_slice(&sample).ok()?;
+    Some(MemStore::new(128, bytes))
+}
+
 /// The run of a deck over the sample, with another byte at a place, in a fuse that passes so many accesses; `None` where there is no
 /// memory for it, or where the deck is refused.
 fn run_over_sample<W: Write>(
@@ -66,17 +95,8 @@ fn run_over_sample<W: Write>(
 ) -> Option<Ended> {
     let dbd = database(alloc).ok()?;
     let psb = program(alloc, &dbd)?;
-    if deck.len() > 1000 || psb.pcbs().len() != 2 {
-        return None;
-    }
-    let steps = read_deck(alloc, deck, 2).ok()?;
-    let mut sample = image();
-    if edit.0 < 512 {
-        sample[edit.0] = edit.1;
-    }
-    let mut bytes = Vec::new(alloc);
-    bytes.extend_from_slice(&sample).ok()?;
-    let store = FuseStore::new(MemStore::new(128, bytes), passes);
+    let steps = steps_of(alloc, deck, &psb)?;
+    let store = FuseStore::new(edited(alloc, edit)?, passes);
     let (calls, store) = match run(alloc, store, &dbd, &psb, &steps, out) {
         Ok(end) => (Ok(end.calls), end.store),
         Err((store, fault)) => (Err(fault), store),
