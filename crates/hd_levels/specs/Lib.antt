@@ -3,5 +3,6 @@ pub mod Levels
 pub mod Ways
 pub mod Changes
 pub mod Chains
+pub mod IndexSets
 pub mod Laws
 pub mod Worked
