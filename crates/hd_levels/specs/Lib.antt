@@ -4,5 +4,8 @@ pub mod Ways
 pub mod Changes
 pub mod Chains
 pub mod IndexSets
+pub mod Neighbours
+pub mod Needs
 pub mod Laws
+pub mod VolumeLaws
 pub mod Worked
