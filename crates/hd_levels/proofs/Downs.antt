@@ -14,7 +14,7 @@ use Rattle.hd_levels.proofs.Sets.{set-behind, level-ascends, blocks-once}
 pub among-parts : (n : ℕ) (xs ys : List ℕ) → IsAmong n (xs ++ ys) → IsAmong n xs ⊎ IsAmong n ys
 among-parts n [] ys a = inr a
 among-parts n (x ∷ xs) ys (inl e) = inl (inl e)
-among-parts n (x ∷ xs) ys (inr a) = elim (among-parts n xs ys a) [ | inl b ↦ inl (inr b) | inr b ↦ inr b ]
+among-parts n (x ∷ xs) ys (inr a) = elim (among-parts n xs ys a) [ inl b ↦ inl (inr b) | inr b ↦ inr b ]
 
 pub among-left : (n : ℕ) (xs ys : List ℕ) → IsAmong n xs → IsAmong n (xs ++ ys)
 among-left n [] ys a = absurd a
@@ -114,7 +114,7 @@ named-down c (suc l) j m n ns s among is a =
 once-both : (xs ys : List ℕ) → StandOnce xs → StandOnce ys → ((n : ℕ) → IsAmong n xs → IsAmong n ys → ⊥) → StandOnce (xs ++ ys)
 once-both [] ys h g apart = g
 once-both (x ∷ xs) ys h g apart =
-    ((λ a. elim (among-parts x xs ys a) [ | inl b ↦ h.0 b | inr b ↦ apart x (inl refl) b ]), once-both xs ys h.1 g (λ n a b. apart n (inr a) b))
+    ((λ a. elim (among-parts x xs ys a) [ inl b ↦ h.0 b | inr b ↦ apart x (inl refl) b ]), once-both xs ys h.1 g (λ n a b. apart n (inr a) b))
 
 level-once : (c : IndexBlocks) (l : ℕ) (ns : List ℕ) → IsIndexSet c l ns → StandOnce ns
 level-once c l [] s = tt
@@ -125,8 +125,8 @@ down-once c zero ns s = level-once c zero ns s
 down-once c (suc l) ns s =
     once-both ns (blocks_down c l (named (across c ns))) (level-once c (suc l) ns s) (down-once c l (named (across c ns)) s.2)
     (λ n here below.
-        let own = of-level c (suc l) n ns s here in
-        let r = down-level c l n (named (across c ns)) s.2 below in
-        let e = level-is c (suc l) r.own n own.level r.on.level in
-        let low = r.low in
-        absurd (omega arith))
+    let own = of-level c (suc l) n ns s here in
+    let r = down-level c l n (named (across c ns)) s.2 below in
+    let e = level-is c (suc l) r.own n own.level r.on.level in
+    let low = r.low in
+    absurd (omega arith))
