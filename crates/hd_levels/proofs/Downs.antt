@@ -72,7 +72,7 @@ child-named key (e ∷ f ∷ es) some = by-test (key_less e.key key) refl (child
     by-test true h rest = to (child_of key (f ∷ es)) (rw h refl) (inr rest)
     by-test false h rest = to e.address (rw h refl) (inl refl)
 
-named-across : (c : IndexBlocks) (m n : ℕ) (ns : List ℕ) → IsAmong n ns → IsAmong m (named (c.entries n)) → IsAmong m (named (across c ns))
+pub named-across : (c : IndexBlocks) (m n : ℕ) (ns : List ℕ) → IsAmong n ns → IsAmong m (named (c.entries n)) → IsAmong m (named (across c ns))
 named-across c m n [] among a = absurd among
 named-across c m n (x ∷ ns) (inl e) a =
     let A : List ℕ → Type 0 = λ t. IsAmong m t in
