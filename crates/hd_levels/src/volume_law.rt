@@ -1,0 +1,57 @@
+ghost use Rattle.hd_levels.specs.Neighbours.{LeftNeighboursAreNamed};
+ghost use Rattle.hd_levels.specs.VolumeLaws.{LevelsAreOfIndexBlocks, IndexBlocksAreRight, TopsAreRight, ChildrenAreRight, BlocksAreNamedOnce, EntriesAreBelow, EntriesAscend, LeavesAnswerForAll, FewBlocksAreNeeded, IndexSetsStay};
+
+/// The left neighbour of a block stands before it in the upper block, or last in what the upper block's left neighbour names.
+pub fn law_left_neighbours_are_named()
+    ensures { LeftNeighboursAreNamed }
+{}
+
+/// The blocks of a volume that have a level are its index blocks.
+pub fn law_levels_are_of_index_blocks()
+    ensures { LevelsAreOfIndexBlocks }
+{}
+
+/// Each index block of a volume that has an index set is right by itself.
+pub fn law_index_blocks_are_right()
+    ensures { IndexBlocksAreRight }
+{}
+
+/// The top of a volume's index set is a right block of the highest level.
+pub fn law_index_tops_are_right()
+    ensures { TopsAreRight }
+{}
+
+/// An upper block of a volume's index set leads to a right block of the level below.
+pub fn law_children_are_right()
+    ensures { ChildrenAreRight }
+{}
+
+/// The top and the upper entries of a volume's index set name each block once.
+pub fn law_blocks_are_named_once()
+    ensures { BlocksAreNamedOnce }
+{}
+
+/// The entries of an index are those of the chain in version 1, and those of the sequence set below the top later.
+pub fn law_index_entries_are_below()
+    ensures { EntriesAreBelow }
+{}
+
+/// The keys of an index ascend, whatever its version.
+pub fn law_index_entries_ascend()
+    ensures { EntriesAscend }
+{}
+
+/// What is found of a key in the whole index of a volume is found in the block that it leads to, or first in the next.
+pub fn law_leaves_answer_for_all()
+    ensures { LeavesAnswerForAll }
+{}
+
+/// A new key needs no more blocks than an entry may need.
+pub fn law_few_blocks_are_needed()
+    ensures { FewBlocksAreNeeded }
+{}
+
+/// The index set of a volume depends on its index blocks, and on the header's top and height, alone.
+pub fn law_index_sets_stay()
+    ensures { IndexSetsStay }
+{}
