@@ -9,3 +9,4 @@ pub mod Needs
 pub mod Laws
 pub mod VolumeLaws
 pub mod Worked
+pub mod WorkedVolume

@@ -1,5 +1,6 @@
 ghost use Rattle.hd_levels.specs.Neighbours.{LeftNeighboursAreNamed};
 ghost use Rattle.hd_levels.specs.VolumeLaws.{LevelsAreOfIndexBlocks, IndexBlocksAreRight, TopsAreRight, ChildrenAreRight, BlocksAreNamedOnce, EntriesAreBelow, EntriesAscend, LeavesAnswerForAll, FewBlocksAreNeeded, IndexSetsStay};
+ghost use Rattle.hd_levels.specs.WorkedVolume.{SampleHasIndexSet};
 
 /// The left neighbour of a block stands before it in the upper block, or last in what the upper block's left neighbour names.
 pub fn law_left_neighbours_are_named()
@@ -54,4 +55,9 @@ pub fn law_few_blocks_are_needed()
 /// The index set of a volume depends on its index blocks, and on the header's top and height, alone.
 pub fn law_index_sets_stay()
     ensures { IndexSetsStay }
+{}
+
+/// The sample of the documents, in a volume of version 2 with an index of two levels, has an index set.
+pub fn law_sample_has_index_set()
+    ensures { SampleHasIndexSet }
 {}

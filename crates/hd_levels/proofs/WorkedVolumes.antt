@@ -1,0 +1,100 @@
+-- The sample's volume in version 2.
+use Rattle.std.proofs.Common.{◌≡◌, ◌≢◌, inl, inr, ℕ, zero, suc, ◌+◌, ◌*◌, ◌<◌, ◌≤◌, List, [], ◌∷◌, length, slice_index, refl, arith}
+use Rattle.std.proofs.lemmas.Bool.{eqb-false}
+use Rattle.hd_block.specs.Extents.{Extent, free, used, IsFreeElement, IsHole, IsSegment}
+use Rattle.hd_volume.specs.Headers.{HasHeader}
+use Rattle.hd_volume.specs.Entries.{Entry}
+use Rattle.hd_bytes.specs.Numbers.{number_at}
+use Rattle.hd_volume.specs.Indexes.{IsAmong, entry_room}
+use Rattle.hd_volume.specs.Volumes.{block_at, IsKind, HasExtents, IsFormatted}
+use Rattle.hd_levels.specs.Levels.{IsIndexSet, blocks_down}
+use Rattle.hd_levels.specs.IndexSets.{index_blocks, top_blocks, top_level, HasIndexSet}
+use Rattle.hd_levels.specs.WorkedVolume.{sample_image, sample_volume, SampleHasIndexSet}
+
+header : HasHeader 128 sample_image
+unfolding number_at
+header = record { first = omega arith; mark = refl; whole = refl; within = omega arith; bound = omega arith }
+
+whole : length sample_image ≡ 768
+whole = refl
+
+-- there is no block behind the last
+outside : (n : ℕ) → suc (suc (suc (suc (suc (suc n))))) * 128 + 128 ≤ length sample_image → ⊥
+outside n there = (let e = whole in absurd (omega arith))
+
+classes : HasExtents (slice_index sample_volume.sizes) (block_at sample_volume 1)
+unfolding number_at
+classes = record {
+  extents = used 40 ∷ used 24 ∷ used 16 ∷ used 16 ∷ used 24 ∷ [];
+  divides = ((eqb-false _ _ refl), record { size = refl; some = omega arith; whole = refl }, ((eqb-false _ _ refl), record { size = refl; some = omega arith; whole = refl }, ((eqb-false _ _ refl), record { size = refl; some = omega arith; whole = refl }, ((eqb-false _ _ refl), record { size = refl; some = omega arith; whole = refl }, ((eqb-false _ _ refl), record { size = refl; some = omega arith; whole = refl }, (refl, refl))))));
+  whole = tt;
+}
+
+books : HasExtents (slice_index sample_volume.sizes) (block_at sample_volume 2)
+unfolding number_at
+books = record {
+  extents = used 16 ∷ used 40 ∷ free 64 ∷ [];
+  divides =
+      ((eqb-false _ _ refl), record { size = refl; some = omega arith; whole = refl }, ((eqb-false _ _ refl), record { size = refl; some = omega arith; whole = refl }, (refl, record { element = record { len = refl; task = refl; some = omega arith; whole = refl }; apart = eqb-false _ _ refl }, (refl, refl))));
+  whole = tt;
+}
+
+divided : (n : ℕ) → IsKind sample_volume 1 n → HasExtents (slice_index sample_volume.sizes) (block_at sample_volume n)
+unfolding number_at
+divided zero k = absurd (let h = k.later in omega arith)
+divided (suc zero) k = classes
+divided (suc (suc zero)) k = books
+divided (suc (suc (suc zero))) k = absurd (eqb-false _ _ refl k.kind_is)
+divided (suc (suc (suc (suc zero)))) k = absurd (eqb-false _ _ refl k.kind_is)
+divided (suc (suc (suc (suc (suc zero))))) k = absurd (eqb-false _ _ refl k.kind_is)
+divided (suc (suc (suc (suc (suc (suc n)))))) k = absurd (outside n k.there)
+
+formatted : IsFormatted sample_volume
+formatted = record { header = header; divided = divided }
+
+some : (e : Entry) (es : List Entry) → e ∷ es ≡ [] → ⊥
+some e es h = cc
+
+sequence : IsIndexSet (index_blocks 3 sample_volume) 0 (4 ∷ 5 ∷ [])
+unfolding number_at
+sequence = ((refl, some _ _, (refl, some _ _, tt)), refl)
+
+set : IsIndexSet (index_blocks 3 sample_volume) (top_level sample_volume) (top_blocks sample_volume)
+unfolding number_at
+set = ((refl, some _ _, tt), ((refl, tt), refl, ((refl, tt), refl, tt)), sequence)
+
+reached : (n : ℕ) → IsKind sample_volume 2 n → IsAmong n (blocks_down (index_blocks 3 sample_volume) (top_level sample_volume) (top_blocks sample_volume))
+unfolding number_at
+reached zero k = absurd (let h = k.later in omega arith)
+reached (suc zero) k = absurd (eqb-false _ _ refl k.kind_is)
+reached (suc (suc zero)) k = absurd (eqb-false _ _ refl k.kind_is)
+reached (suc (suc (suc zero))) k = inl refl
+reached (suc (suc (suc (suc zero)))) k = inr (inl refl)
+reached (suc (suc (suc (suc (suc zero))))) k = inr (inr (inl refl))
+reached (suc (suc (suc (suc (suc (suc n)))))) k = absurd (outside n k.there)
+
+count : (n : ℕ) → IsKind sample_volume 2 n → number_at 2 (block_at sample_volume n) 4 ≤ entry_room 3 128
+unfolding number_at
+count zero k = absurd (let h = k.later in omega arith)
+count (suc zero) k = absurd (eqb-false _ _ refl k.kind_is)
+count (suc (suc zero)) k = absurd (eqb-false _ _ refl k.kind_is)
+count (suc (suc (suc zero))) k = omega arith
+count (suc (suc (suc (suc zero)))) k = omega arith
+count (suc (suc (suc (suc (suc zero))))) k = omega arith
+count (suc (suc (suc (suc (suc (suc n)))))) k = absurd (outside n k.there)
+
+has-set : HasIndexSet 3 sample_volume
+unfolding number_at
+has-set = record {
+  formatted = formatted;
+  version = refl;
+  height = inr (omega arith, omega arith, omega arith);
+  set = set;
+  reached = reached;
+  count = count;
+  next = ((refl, (eqb-false _ _ refl), refl), (refl, (eqb-false _ _ refl), (refl, (eqb-false _ _ refl), refl)));
+}
+
+pub sample-has : SampleHasIndexSet
+unfolding number_at
+sample-has = (has-set, refl, refl, refl, refl)
