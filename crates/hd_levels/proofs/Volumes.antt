@@ -45,7 +45,7 @@ count-some : (k : ℕ) (block : List ℕ) (place count : ℕ) → entries_at k b
 count-some k block place zero some = absurd (some refl)
 count-some k block place (suc n) some = omega arith
 
-some-count : (k : ℕ) (block : List ℕ) (place count : ℕ) → 0 < count → entries_at k block place count ≢ []
+pub some-count : (k : ℕ) (block : List ℕ) (place count : ℕ) → 0 < count → entries_at k block place count ≢ []
 some-count k block place zero less = absurd (omega arith)
 some-count k block place (suc n) less = λ h. cc
 

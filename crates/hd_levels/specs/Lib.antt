@@ -8,5 +8,6 @@ pub mod Neighbours
 pub mod Needs
 pub mod Laws
 pub mod VolumeLaws
+pub mod Faultless
 pub mod Worked
 pub mod WorkedVolume

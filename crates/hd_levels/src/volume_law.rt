@@ -1,3 +1,4 @@
+ghost use Rattle.hd_levels.specs.Faultless.{IndexSetsAreFaultless};
 ghost use Rattle.hd_levels.specs.Neighbours.{LeftNeighboursAreNamed};
 ghost use Rattle.hd_levels.specs.VolumeLaws.{LevelsAreOfIndexBlocks, IndexBlocksAreRight, TopsAreRight, ChildrenAreRight, BlocksAreNamedOnce, EntriesAreBelow, EntriesAscend, LeavesAnswerForAll, FewBlocksAreNeeded, IndexSetsStay};
 ghost use Rattle.hd_levels.specs.WorkedVolume.{SampleHasIndexSet};
@@ -55,6 +56,11 @@ pub fn law_few_blocks_are_needed()
 /// The index set of a volume depends on its index blocks, and on the header's top and height, alone.
 pub fn law_index_sets_stay()
     ensures { IndexSetsStay }
+{}
+
+/// The volumes that have an index set are those in which a check finds nothing wrong with the index.
+pub fn law_index_sets_are_faultless()
+    ensures { IndexSetsAreFaultless }
 {}
 
 /// The sample of the documents, in a volume of version 2 with an index of two levels, has an index set.
