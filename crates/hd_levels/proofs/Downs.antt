@@ -86,7 +86,7 @@ top-down : (c : IndexBlocks) (l n : ℕ) (ns : List ℕ) → IsAmong n ns → Is
 top-down c zero n ns a = a
 top-down c (suc l) n ns a = among-left n ns (blocks_down c l (named (across c ns))) a
 
-level-is : (c : IndexBlocks) (l m n : ℕ) → c.level n ≡ Some l → c.level n ≡ Some m → l ≡ m
+pub level-is : (c : IndexBlocks) (l m n : ℕ) → c.level n ≡ Some l → c.level n ≡ Some m → l ≡ m
 level-is c l m n h g = (let e : Some l ≡ Some m = sym h ∙ g in cc)
 
 -- what a block of a level names are blocks of the level below
@@ -116,7 +116,7 @@ once-both [] ys h g apart = g
 once-both (x ∷ xs) ys h g apart =
     ((λ a. elim (among-parts x xs ys a) [ inl b ↦ h.0 b | inr b ↦ apart x (inl refl) b ]), once-both xs ys h.1 g (λ n a b. apart n (inr a) b))
 
-level-once : (c : IndexBlocks) (l : ℕ) (ns : List ℕ) → IsIndexSet c l ns → StandOnce ns
+pub level-once : (c : IndexBlocks) (l : ℕ) (ns : List ℕ) → IsIndexSet c l ns → StandOnce ns
 level-once c l [] s = tt
 level-once c l (n ∷ ns) s = ((blocks-once c l [] n ns s).1, level-once c l ns (set-behind c l (n ∷ []) ns s))
 

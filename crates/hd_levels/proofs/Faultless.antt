@@ -14,6 +14,7 @@ use Rattle.hd_levels.proofs.Keys.{first-less}
 use Rattle.hd_levels.proofs.Levels.{named-append, entries-append, entries-none}
 use Rattle.hd_levels.proofs.Sets.{set-behind, set-ascends, level-ascends, first-below}
 use Rattle.hd_levels.proofs.Downs.{among-parts, named-across, of-level, named-down}
+use Rattle.hd_levels.proofs.Places.{places-once}
 use Rattle.hd_levels.proofs.Volumes.{level-of, level-kind, some-count, top-is, index-blocks-right, tops-right}
 
 -- ---- the bounds of neighbours
@@ -121,6 +122,7 @@ faultless k v x = record {
     top = λ some. (let t = tops-right k v x some in level-of v (header_of v.image).top t.is ∙ ap (λ (i : ℕ). Some i) t.level);
     blocks = forms;
   };
+  once = places-once k v x;
   reached = x.reached;
   next = x.next;
   keys = keys-right (index_blocks k v) (top_level v) (top_blocks v) x.set;

@@ -1,5 +1,5 @@
--- An index set as a check of the volume finds it: block by block, then what is reached, then the order and the keys of each level.
-use Rattle.std.specs.Prelude.{◌≡◌, ◌⊎◌, ◌↔◌, ℕ, zero, suc, ◌<◌, ◌≤◌, true, List, [], ◌∷◌, Some}
+-- An index set as a check of the volume finds it: block by block, then what is named and reached, then the order and the keys of each level.
+use Rattle.std.specs.Prelude.{◌≡◌, ◌⊎◌, ◌↔◌, ℕ, zero, suc, ◌<◌, ◌≤◌, true, List, [], ◌∷◌, Some, slice_get}
 use Rattle.hd_bytes.specs.Numbers.{number_at}
 use Rattle.hd_volume.specs.Headers.{header_of}
 use Rattle.hd_volume.specs.Volumes.{VolumeState, block_at, IsKind, IsFormatted}
@@ -25,6 +25,18 @@ pub record AreFormsRight (key_length : ℕ) (v : VolumeState) : Type 0 where
   pub height : IsHeightRight v
   pub top : 0 < (header_of v.image).top → level_in v (header_of v.image).top ≡ Some (top_level v)
   pub blocks : (n l : ℕ) → level_in v n ≡ Some l → IsFormRight key_length v l n
+
+-- ---- which blocks are named
+
+-- block n is named: by the header, 0, as the top block, or by an upper block at the index of an entry
+abbrev pub IsNamedAt : ℕ → VolumeState → ℕ → ℕ → ℕ → Type 0
+IsNamedAt key_length v h i n =
+    ((h ≡ 0) × (i ≡ 0) × ((header_of v.image).top ≡ n))
+    ⊎ ((l : ℕ) × (level_in v h ≡ Some (suc l)) × (slice_get (named (entries_in key_length (block_at v h))) i ≡ Some n))
+
+-- no index block is named twice
+abbrev pub AreNamedOnce : ℕ → VolumeState → Type 0
+AreNamedOnce key_length v = (n g i h j : ℕ) → IsKind v 2 n → IsNamedAt key_length v g i n → IsNamedAt key_length v h j n → (g ≡ h) × (i ≡ j)
 
 -- ---- what is reached
 
@@ -57,6 +69,7 @@ pub record IsFaultless (key_length : ℕ) (v : VolumeState) : Type 0 where
   pub formatted : IsFormatted v
   pub version : (header_of v.image).version ≡ 2
   pub forms : AreFormsRight key_length v
+  pub once : AreNamedOnce key_length v
   pub reached : AreAllReached key_length v
   pub next : AreLevelsLinked (index_blocks key_length v) (next_in v) (top_level v) (top_blocks v)
   pub keys : AreKeysRight (index_blocks key_length v) (top_level v) (top_blocks v)
