@@ -16,7 +16,8 @@ last-some a b [] some = absurd (some refl)
 last-some a b (e ∷ es) some = refl
 
 -- the last block that some blocks of a level name is that of the last of them
-across-last : (c : IndexBlocks) (l other : ℕ) (ns : List ℕ) → AreOnLevel c (suc l) ns → c.level 0 ≡ None → (m : ℕ) → m ≡ last_child c other → last_of m (named (across c ns)) ≡ last_child c (last_of other ns)
+across-last : (c : IndexBlocks) (l other : ℕ) (ns : List ℕ) → AreOnLevel c (suc l) ns → c.level 0 ≡ None → (m : ℕ) → m ≡ last_child c other
+    → last_of m (named (across c ns)) ≡ last_child c (last_of other ns)
 across-last c l other [] on none m is = is
 across-last c l other (n ∷ ns) on none m is =
     ap (last_of m) (named-append (c.entries n) (across c ns))

@@ -102,6 +102,12 @@ module _ {k : ℕ} {v w : VolumeState} (x : HasIndexSet k v) (f : IsFormatted w)
   kept : KeepsIndexSet (index_blocks k v) (index_blocks k w) (top_level v) (top_blocks v)
   kept = set-stays (index_blocks k v) (index_blocks k w) (suc (top_level v)) (λ n l h less. all-stay n l h) (top_level v) (omega arith) (top_blocks v) x.set
 
+  down-same : blocks_down (index_blocks k w) (top_level w) (top_blocks w) ≡ blocks_down (index_blocks k v) (top_level v) (top_blocks v)
+  down-same =
+      ap (λ (l : ℕ). blocks_down (index_blocks k w) l (top_blocks w)) level-same
+      ∙ ap (blocks_down (index_blocks k w) (top_level v)) tops-same
+      ∙ down-stays (index_blocks k v) (index_blocks k w) (top_level v) (top_blocks v) all-stay x.set
+
   has-set : HasIndexSet k w
   has-set =
       let S : ℕ → List ℕ → Type 0 = λ l ns. IsIndexSet (index_blocks k w) l ns in
@@ -111,11 +117,7 @@ module _ {k : ℕ} {v w : VolumeState} (x : HasIndexSet k v) (f : IsFormatted w)
         version = version-same ∙ x.version;
         height = rw (top-same, height-same) x.height;
         set = subst (λ (l : ℕ). S l (top_blocks w)) (sym level-same) (subst (S (top_level v)) (sym tops-same) kept.0);
-        reached = λ n i.
-            (let A : List ℕ → Type 0 = λ ns. IsAmong n ns in
-            subst A
-            (sym (ap (λ (l : ℕ). blocks_down (index_blocks k w) l (top_blocks w)) level-same ∙ ap (blocks_down (index_blocks k w) (top_level v)) tops-same ∙ down-stays (index_blocks k v) (index_blocks k w) (top_level v) (top_blocks v) all-stay x.set))
-            (x.reached n (back n i)));
+        reached = λ n i. (let A : List ℕ → Type 0 = λ ns. IsAmong n ns in subst A (sym down-same) (x.reached n (back n i)));
         count = λ n i. (let own = back n i in rw (keeps n own, size) (x.count n own));
         next = subst (λ (l : ℕ). L l (top_blocks w)) (sym level-same)
             (subst (L (top_level v)) (sym tops-same) (links-stay (index_blocks k v) (index_blocks k w) (next_in v) (next_in w) (top_level v) (top_blocks v) all-stay next-same x.set x.next));

@@ -1,6 +1,6 @@
 -- The sample's volume in version 2.
-use Rattle.std.proofs.Common.{◌≡◌, ◌≢◌, inl, inr, ℕ, zero, suc, ◌+◌, ◌*◌, ◌<◌, ◌≤◌, List, [], ◌∷◌, length, slice_index, refl, arith}
-use Rattle.std.proofs.lemmas.Bool.{eqb-false}
+use Rattle.std.proofs.Common.{◌≡◌, ◌≢◌, inl, inr, ℕ, zero, suc, ◌+◌, ◌*◌, ◌%◌, ◌<◌, ◌≤◌, List, [], ◌∷◌, length, slice_index, leb, eqb, true, false, refl, arith}
+use Rattle.std.proofs.lemmas.Bool.{eqb-false, leb-true}
 use Rattle.hd_block.specs.Extents.{Extent, free, used, IsFreeElement, IsHole, IsSegment}
 use Rattle.hd_volume.specs.Headers.{HasHeader}
 use Rattle.hd_volume.specs.Entries.{Entry}
@@ -22,20 +22,28 @@ whole = refl
 outside : (n : ℕ) → suc (suc (suc (suc (suc (suc n))))) * 128 + 128 ≤ length sample_image → ⊥
 outside n there = (let e = whole in absurd (omega arith))
 
+-- a segment, and what follows it
+part : {bytes : List ℕ} {place next n : ℕ} {A : Type 0} → eqb place next ≡ false → slice_index sample_volume.sizes (slice_index bytes place) ≡ n → leb 8 n ≡ true → n % 8 ≡ 0
+    → A → (place ≢ next) × IsSegment (slice_index sample_volume.sizes) bytes place n × A
+part {bytes} {place} {next} {n} {A} apart size some whole rest = (eqb-false place next apart, record { size = size; some = leb-true 8 n some; whole = whole }, rest)
+
 classes : HasExtents (slice_index sample_volume.sizes) (block_at sample_volume 1)
 unfolding number_at
 classes = record {
   extents = used 40 ∷ used 24 ∷ used 16 ∷ used 16 ∷ used 24 ∷ [];
-  divides = ((eqb-false _ _ refl), record { size = refl; some = omega arith; whole = refl }, ((eqb-false _ _ refl), record { size = refl; some = omega arith; whole = refl }, ((eqb-false _ _ refl), record { size = refl; some = omega arith; whole = refl }, ((eqb-false _ _ refl), record { size = refl; some = omega arith; whole = refl }, ((eqb-false _ _ refl), record { size = refl; some = omega arith; whole = refl }, (refl, refl))))));
+  divides = part refl refl refl refl (part refl refl refl refl (part refl refl refl refl (part refl refl refl refl (part refl refl refl refl (refl, refl)))));
   whole = tt;
 }
+
+hole : IsHole (block_at sample_volume 2) 64 64
+unfolding number_at
+hole = record { element = record { len = refl; task = refl; some = omega arith; whole = refl }; apart = eqb-false _ _ refl }
 
 books : HasExtents (slice_index sample_volume.sizes) (block_at sample_volume 2)
 unfolding number_at
 books = record {
   extents = used 16 ∷ used 40 ∷ free 64 ∷ [];
-  divides =
-      ((eqb-false _ _ refl), record { size = refl; some = omega arith; whole = refl }, ((eqb-false _ _ refl), record { size = refl; some = omega arith; whole = refl }, (refl, record { element = record { len = refl; task = refl; some = omega arith; whole = refl }; apart = eqb-false _ _ refl }, (refl, refl))));
+  divides = part refl refl refl refl (part refl refl refl refl (refl, hole, (refl, refl)));
   whole = tt;
 }
 

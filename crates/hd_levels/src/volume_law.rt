@@ -1,6 +1,7 @@
 ghost use Rattle.hd_levels.specs.Faultless.{IndexSetsAreFaultless};
 ghost use Rattle.hd_levels.specs.Neighbours.{LeftNeighboursAreNamed};
-ghost use Rattle.hd_levels.specs.VolumeLaws.{LevelsAreOfIndexBlocks, IndexBlocksAreRight, TopsAreRight, ChildrenAreRight, BlocksAreNamedOnce, EntriesAreBelow, EntriesAscend, LeavesAnswerForAll, FewBlocksAreNeeded, IndexSetsStay};
+ghost use Rattle.hd_levels.specs.VolumeLaws.{LevelsAreOfIndexBlocks, IndexBlocksAreRight, TopsAreRight, ChildrenAreRight, BlocksAreNamedOnce};
+ghost use Rattle.hd_levels.specs.VolumeLaws.{EntriesAreBelow, EntriesAscend, LeavesAnswerForAll, FewBlocksAreNeeded, IndexSetsStay};
 ghost use Rattle.hd_levels.specs.WorkedVolume.{SampleHasIndexSet};
 
 /// The left neighbour of a block stands before it in the upper block, or last in what the upper block's left neighbour names.
