@@ -10,6 +10,7 @@ use Rattle.hd_volume.specs.Entries.{Entry, entries_in}
 use Rattle.hd_volume.specs.Indexes.{entry_room, IsAmong}
 use Rattle.hd_volume.specs.Calls.{KeepsIndex}
 use Rattle.hd_volume.proofs.MapLemmas.{kind-there}
+use Rattle.hd_volume.proofs.IndexLemmas.{index-stays}
 use Rattle.hd_levels.specs.Maps.{greatest_below}
 use Rattle.hd_levels.specs.Levels.{IndexBlocks, across, named, sequence_set, entries_below, blocks_down, IsIndexSet}
 use Rattle.hd_levels.specs.Ways.{child_of}
@@ -17,7 +18,7 @@ use Rattle.hd_levels.specs.Changes.{Stays, KeepsIndexSet}
 use Rattle.hd_levels.specs.Chains.{IsLinked, first_of, AreLevelsLinked}
 use Rattle.hd_levels.specs.IndexSets.{level_in, next_in, index_blocks, top_blocks, top_level, index_entries, HasIndexSet}
 use Rattle.hd_levels.specs.Needs.{is_full, full_blocks, set_blocks_needed, entry_growth}
-use Rattle.hd_levels.specs.VolumeLaws.{IndexSetsStay}
+use Rattle.hd_levels.specs.VolumeLaws.{IndexSetsStay, IndexesStay}
 use Rattle.hd_levels.proofs.Chains.{linked-same}
 use Rattle.hd_levels.proofs.Levels.{same-below, set-stays}
 use Rattle.hd_levels.proofs.Downs.{of-level, child-named, named-across}
@@ -168,3 +169,14 @@ module _ {k : ℕ} {v w : VolumeState} (x : HasIndexSet k v) (f : IsFormatted w)
 
 pub index-sets-stay : IndexSetsStay
 index-sets-stay k v w x f size header keeps back = stays x f size header keeps back
+
+growth-one : (v : VolumeState) → (header_of v.image).version ≡ 1 → entry_growth v ≡ 1
+unfolding entry_growth
+growth-one v one = rw (eq-eqb (header_of v.image).version 1 one) refl
+
+pub indexes-stay : IndexesStay
+indexes-stay k v w (inl x) f size header keeps back =
+    let s = index-stays k v w x f size header keeps back in
+    (inl s.0, (entries-below k w).0 s.0.version ∙ s.1 ∙ sym ((entries-below k v).0 x.version), growth-one w s.0.version ∙ sym (growth-one v x.version))
+indexes-stay k v w (inr x) f size header keeps back =
+    let s = index-sets-stay k v w x f size header keeps back in (inr s.0, s.1, s.2)

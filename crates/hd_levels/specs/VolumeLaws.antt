@@ -90,3 +90,11 @@ IndexSetsStay =
     → KeepsIndex v w → ((n : ℕ) → IsKind w 2 n → IsKind v 2 n)
     → HasIndexSet key_length w × (index_entries key_length w ≡ index_entries key_length v) × (entry_growth w ≡ entry_growth v)
     × ((key : List ℕ) → set_blocks_needed key_length w key ≡ set_blocks_needed key_length v key)
+
+-- So does the index of a volume of any version.
+abbrev pub IndexesStay : Type 0
+IndexesStay =
+    (key_length : ℕ) (v w : VolumeState) → HasIndexOf key_length v → IsFormatted w → w.size ≡ v.size
+    → header_of w.image ≡ record (header_of v.image) { count = (header_of w.image).count; first_root = (header_of w.image).first_root; last_root = (header_of w.image).last_root }
+    → KeepsIndex v w → ((n : ℕ) → IsKind w 2 n → IsKind v 2 n)
+    → HasIndexOf key_length w × (index_entries key_length w ≡ index_entries key_length v) × (entry_growth w ≡ entry_growth v)

@@ -1,7 +1,7 @@
 ghost use Rattle.hd_levels.specs.Faultless.{IndexSetsAreFaultless};
 ghost use Rattle.hd_levels.specs.Neighbours.{LeftNeighboursAreNamed};
 ghost use Rattle.hd_levels.specs.VolumeLaws.{LevelsAreOfIndexBlocks, IndexBlocksAreRight, TopsAreRight, ChildrenAreRight, BlocksAreNamedOnce};
-ghost use Rattle.hd_levels.specs.VolumeLaws.{EntriesAreBelow, EntriesAscend, LeavesAnswerForAll, FewBlocksAreNeeded, IndexSetsStay};
+ghost use Rattle.hd_levels.specs.VolumeLaws.{EntriesAreBelow, EntriesAscend, LeavesAnswerForAll, FewBlocksAreNeeded, IndexSetsStay, IndexesStay};
 ghost use Rattle.hd_levels.specs.WorkedVolume.{SampleHasIndexSet};
 
 /// The left neighbour of a block stands before it in the upper block, or last in what the upper block's left neighbour names.
@@ -57,6 +57,11 @@ pub fn law_few_blocks_are_needed()
 /// The index set of a volume depends on its index blocks, and on the header's top and height, alone.
 pub fn law_index_sets_stay()
     ensures { IndexSetsStay }
+{}
+
+/// The index of a volume of any version depends on its index blocks, and on the header's top and height, alone.
+pub fn law_indexes_stay()
+    ensures { IndexesStay }
 {}
 
 /// The volumes that have an index set are those in which a check finds nothing wrong with the index.
