@@ -1,5 +1,5 @@
 -- The sample's volume in version 2.
-use Rattle.std.proofs.Common.{◌≡◌, ◌≢◌, inl, inr, ℕ, zero, suc, ◌+◌, ◌*◌, ◌%◌, ◌<◌, ◌≤◌, List, [], ◌∷◌, length, slice_index, leb, eqb, true, false, refl, arith}
+use Rattle.std.proofs.Common.{◌≡◌, ◌≢◌, inl, inr, ℕ, zero, suc, ◌+◌, ◌*◌, ◌%◌, ◌<◌, ◌≤◌, List, [], ◌∷◌, length, slice_index, leb, eqb, true, false, refl, sym, subst, arith}
 use Rattle.std.proofs.lemmas.Bool.{eqb-false, leb-true}
 use Rattle.hd_block.specs.Extents.{Extent, free, used, IsFreeElement, IsHole, IsSegment}
 use Rattle.hd_volume.specs.Headers.{HasHeader}
@@ -9,7 +9,7 @@ use Rattle.hd_volume.specs.Indexes.{IsAmong, entry_room}
 use Rattle.hd_volume.specs.Volumes.{block_at, IsKind, HasExtents, IsFormatted}
 use Rattle.hd_levels.specs.Levels.{IsIndexSet, blocks_down}
 use Rattle.hd_levels.specs.IndexSets.{index_blocks, top_blocks, top_level, HasIndexSet}
-use Rattle.hd_levels.specs.WorkedVolume.{sample_image, sample_volume, SampleHasIndexSet}
+use Rattle.hd_levels.specs.WorkedVolume.{sample_image, sample_volume, one_level_volume, SampleHasIndexSet, OneLevelHasIndexSet}
 
 header : HasHeader 128 sample_image
 unfolding number_at
@@ -106,3 +106,52 @@ has-set = record {
 pub sample-has : SampleHasIndexSet
 unfolding number_at
 sample-has = (has-set, refl, refl, refl, refl)
+
+-- ---- the documents' own image
+
+one-outside : (n : ℕ) → suc (suc (suc (suc n))) * 128 + 128 ≤ length (one_level_volume 2 0).image → ⊥
+one-outside n there = (let e : length (one_level_volume 2 0).image ≡ 512 = refl in absurd (omega arith))
+
+one-divided : (n : ℕ) → IsKind (one_level_volume 2 0) 1 n → HasExtents (slice_index (one_level_volume 2 0).sizes) (block_at (one_level_volume 2 0) n)
+unfolding number_at
+one-divided zero k = absurd (let h = k.later in omega arith)
+one-divided (suc zero) k = classes
+one-divided (suc (suc zero)) k = books
+one-divided (suc (suc (suc zero))) k = absurd (eqb-false _ _ refl k.kind_is)
+one-divided (suc (suc (suc (suc n)))) k = absurd (one-outside n k.there)
+
+one-header : HasHeader 128 (one_level_volume 2 0).image
+unfolding number_at
+one-header = record { first = omega arith; mark = refl; whole = refl; within = omega arith; bound = omega arith }
+
+one-reached : (n : ℕ) → IsKind (one_level_volume 2 0) 2 n → n ≡ 3
+unfolding number_at
+one-reached zero k = absurd (let h = k.later in omega arith)
+one-reached (suc zero) k = absurd (eqb-false _ _ refl k.kind_is)
+one-reached (suc (suc zero)) k = absurd (eqb-false _ _ refl k.kind_is)
+one-reached (suc (suc (suc zero))) k = refl
+one-reached (suc (suc (suc (suc n)))) k = absurd (one-outside n k.there)
+
+one-set : HasIndexSet 3 (one_level_volume 2 0)
+unfolding number_at
+one-set = record {
+  formatted = record { header = one-header; divided = one-divided };
+  version = refl;
+  height = inr (omega arith, omega arith, omega arith);
+  set = ((refl, some _ _, tt), refl);
+  reached = λ n k. inl (one-reached n k);
+  count = λ n k. (let C : ℕ → Type 0 = λ i. number_at 2 (block_at (one_level_volume 2 0) i) 4 ≤ entry_room 3 128 in subst C (sym (one-reached n k)) (omega arith));
+  next = (refl, eqb-false _ _ refl, refl);
+}
+
+no-entry : HasIndexSet 3 (one_level_volume 0 0) → ⊥
+unfolding number_at
+no-entry x = x.set.0.1 refl
+
+ring : HasIndexSet 3 (one_level_volume 2 3) → ⊥
+unfolding number_at
+ring x = eqb-false _ _ refl x.next.2
+
+pub one-has : OneLevelHasIndexSet
+unfolding number_at
+one-has = (one-set, refl, no-entry, ring)

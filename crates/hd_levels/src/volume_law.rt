@@ -2,7 +2,7 @@ ghost use Rattle.hd_levels.specs.Faultless.{IndexSetsAreFaultless};
 ghost use Rattle.hd_levels.specs.Neighbours.{LeftNeighboursAreNamed};
 ghost use Rattle.hd_levels.specs.VolumeLaws.{LevelsAreOfIndexBlocks, IndexBlocksAreRight, TopsAreRight, ChildrenAreRight, BlocksAreNamedOnce};
 ghost use Rattle.hd_levels.specs.VolumeLaws.{EntriesAreBelow, EntriesAscend, LeavesAnswerForAll, FewBlocksAreNeeded, IndexSetsStay, IndexesStay};
-ghost use Rattle.hd_levels.specs.WorkedVolume.{SampleHasIndexSet};
+ghost use Rattle.hd_levels.specs.WorkedVolume.{SampleHasIndexSet, OneLevelHasIndexSet};
 
 /// The left neighbour of a block stands before it in the upper block, or last in what the upper block's left neighbour names.
 pub fn law_left_neighbours_are_named()
@@ -72,4 +72,9 @@ pub fn law_index_sets_are_faultless()
 /// The sample of the documents, in a volume of version 2 with an index of two levels, has an index set.
 pub fn law_sample_has_index_set()
     ensures { SampleHasIndexSet }
+{}
+
+/// The documents' own image, in version 2, has an index set; with no entry in its index block, or with a ring, it has none.
+pub fn law_one_level_has_index_set()
+    ensures { OneLevelHasIndexSet }
 {}
