@@ -40,7 +40,7 @@ linked-once next s (x ∷ left) n right h =
     by-case (inr more) away = away more
 
 -- blocks that name what they named
-linked-same : (old new : ℕ → ℕ) (s : ℕ) (ns : List ℕ) → ((x : ℕ) → IsAmong x ns → new x ≡ old x) → IsLinked old s ns → IsLinked new s ns
+pub linked-same : (old new : ℕ → ℕ) (s : ℕ) (ns : List ℕ) → ((x : ℕ) → IsAmong x ns → new x ≡ old x) → IsLinked old s ns → IsLinked new s ns
 linked-same old new s [] same h = h
 linked-same old new s (n ∷ ns) same h =
     let L : ℕ → Type 0 = λ i. IsLinked new i ns in

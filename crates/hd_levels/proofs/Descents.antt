@@ -4,7 +4,7 @@ use Rattle.std.proofs.lemmas.List.{append_assoc}
 use Rattle.hd_volume.specs.Entries.{Entry}
 use Rattle.hd_volume.specs.Indexes.{key_less, is_below_first}
 use Rattle.hd_levels.specs.Maps.{address_of, address_from}
-use Rattle.hd_levels.specs.Levels.{IndexBlocks, across, named, entries_below, AreBelow, AreBounds, IsIndexSet}
+use Rattle.hd_levels.specs.Levels.{IndexBlocks, across, named, sequence_set, entries_below, AreBelow, AreBounds, IsIndexSet}
 use Rattle.hd_levels.specs.Ways.{child_of, leaf_of, IsAround, IsNamed, IsWayDown}
 use Rattle.hd_levels.proofs.Keys.{upto-below, below-append, below-parts, first-upto, address-behind, address-before, from-behind}
 use Rattle.hd_levels.proofs.Levels.{across-append, across-about, named-append, entries-append, entries-none, on-parts, set-level, bounds-behind}
@@ -108,20 +108,20 @@ names-of c left n right left_up p right_up s =
     ∙ ap (λ (i : ℕ). left ++ (i ∷ right)) s.child
 
 -- A place of the sequence set about a key.
-pub record HasLeaf (c : IndexBlocks) (key : List ℕ) (all : List Entry) (n : ℕ) : Type 0 where
+pub record HasLeaf (c : IndexBlocks) (key : List ℕ) (all : List ℕ) (n : ℕ) : Type 0 where
   pub left : List ℕ
   pub right : List ℕ
   pub around : IsAround c key 0 left n right
-  pub whole : across c (left ++ (n ∷ right)) ≡ all
+  pub whole : left ++ (n ∷ right) ≡ all
 
 -- the walk down from a block
 pub leaf-from : (c : IndexBlocks) (key : List ℕ) (l : ℕ) (left : List ℕ) (n : ℕ) (right : List ℕ) → IsAround c key l left n right
-    → HasLeaf c key (entries_below c l (left ++ (n ∷ right))) (leaf_of c key l n)
+    → HasLeaf c key (sequence_set c l (left ++ (n ∷ right))) (leaf_of c key l n)
 leaf-from c key zero left n right a = record { left = left; right = right; around = a; whole = refl }
 leaf-from c key (suc l) left n right a =
     let s = stepped c key l left n right a in
     let rest = leaf-from c key l s.before (child_of key (c.entries n)) s.behind s.around in
-    record { left = rest.left; right = rest.right; around = rest.around; whole = rest.whole ∙ ap (entries_below c l) (sym (names-of c s.before (child_of key (c.entries n)) s.behind left n right s.named_by)) }
+    record { left = rest.left; right = rest.right; around = rest.around; whole = rest.whole ∙ ap (sequence_set c l) (sym (names-of c s.before (child_of key (c.entries n)) s.behind left n right s.named_by)) }
 
 -- the top, which stands alone, is about each key
 pub top-around : (c : IndexBlocks) (key : List ℕ) (h top : ℕ) → IsIndexSet c h (top ∷ []) → IsAround c key h [] top []
@@ -129,7 +129,7 @@ top-around c key h top set =
     let A : List Entry → Type 0 = λ es. AreBelow key es in
     record { set = set; below = subst A (sym (entries-none c h)) tt; above = ap (is_below_first key) (entries-none c h) }
 
-pub leaf-is : (c : IndexBlocks) (key : List ℕ) (h top : ℕ) → IsIndexSet c h (top ∷ []) → HasLeaf c key (entries_below c h (top ∷ [])) (leaf_of c key h top)
+pub leaf-is : (c : IndexBlocks) (key : List ℕ) (h top : ℕ) → IsIndexSet c h (top ∷ []) → HasLeaf c key (sequence_set c h (top ∷ [])) (leaf_of c key h top)
 leaf-is c key h top set = leaf-from c key h [] top [] (top-around c key h top set)
 
 -- both look-ups are those of the block and what stands to its right

@@ -1,11 +1,22 @@
 -- The chain of a level: each block names the next one on its level, and the last names none.
-use Rattle.std.specs.Prelude.{◌≡◌, ◌≢◌, ℕ, List, [], ◌∷◌, ◌++◌}
+use Rattle.std.specs.Prelude.{◌≡◌, ◌≢◌, ℕ, zero, suc, List, [], ◌∷◌, ◌++◌}
 use Rattle.hd_volume.specs.Indexes.{IsAmong}
+use Rattle.hd_levels.specs.Levels.{IndexBlocks, across, named}
 
 -- These blocks are the chain from a number on, where `next` says what each names.
 abbrev pub IsLinked : (ℕ → ℕ) → ℕ → List ℕ → Type 0
 IsLinked next start [] = start ≡ 0
 IsLinked next start (n ∷ ns) = (start ≡ n) × (n ≢ 0) × IsLinked next (next n) ns
+
+-- the first of some numbers, 0 where there is none
+abbrev pub first_of : List ℕ → ℕ
+first_of [] = 0
+first_of (n ∷ ns) = n
+
+-- Some blocks of a level are a chain from left to right, and so are those of each level below.
+abbrev pub AreLevelsLinked : IndexBlocks → (ℕ → ℕ) → ℕ → List ℕ → Type 0
+AreLevelsLinked c next zero ns = IsLinked next (first_of ns) ns
+AreLevelsLinked c next (suc l) ns = IsLinked next (first_of ns) ns × AreLevelsLinked c next l (named (across c ns))
 
 -- Of some blocks each but one names what it named.
 abbrev pub OthersName : (ℕ → ℕ) → (ℕ → ℕ) → ℕ → List ℕ → Type 0

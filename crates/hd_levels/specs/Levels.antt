@@ -28,6 +28,11 @@ sequence_set c (suc l) ns = sequence_set c l (named (across c ns))
 abbrev pub entries_below : IndexBlocks → ℕ → List ℕ → List Entry
 entries_below c l ns = across c (sequence_set c l ns)
 
+-- some blocks of a level, and all below them, level by level
+abbrev pub blocks_down : IndexBlocks → ℕ → List ℕ → List ℕ
+blocks_down c zero ns = ns
+blocks_down c (suc l) ns = ns ++ blocks_down c l (named (across c ns))
+
 -- no key is above this one
 abbrev pub AreUpTo : List ℕ → List Entry → Type 0
 AreUpTo key [] = Unit {0}

@@ -3,5 +3,11 @@ pub mod Levels
 pub mod Ways
 pub mod Changes
 pub mod Chains
+pub mod IndexSets
+pub mod Neighbours
+pub mod Needs
 pub mod Laws
+pub mod VolumeLaws
+pub mod Faultless
 pub mod Worked
+pub mod WorkedVolume

@@ -1,9 +1,10 @@
 //! Levels of index blocks: an index set above its sequence set. Definitions and laws alone.
 //!
-//! The definitions stand in this crate's `specs/`, the laws in `law`.
+//! The definitions stand in this crate's `specs/`, the laws in `law`, and those of a volume in `volume_law`.
 #![tactic(auto)]
 
 mod law;
+mod volume_law;
 
 pub use law::{
     law_blocks_may_be_divided, law_blocks_stand_once, law_chains_have_blocks_once,
@@ -12,4 +13,11 @@ pub use law::{
     law_last_keys_bound, law_leaves_answer, law_lower_levels_stay, law_new_keys_come_in,
     law_steps_stay_around, law_tops_are_around, law_tops_may_be_added, law_upper_keys_may_change,
     law_upper_keys_need_not_agree, law_ways_down_stay,
+};
+pub use volume_law::{
+    law_blocks_are_named_once, law_children_are_right, law_few_blocks_are_needed,
+    law_index_blocks_are_right, law_index_entries_are_below, law_index_entries_ascend,
+    law_index_sets_are_faultless, law_index_sets_stay, law_index_tops_are_right, law_indexes_stay,
+    law_leaves_answer_for_all, law_left_neighbours_are_named, law_levels_are_of_index_blocks,
+    law_one_level_has_index_set, law_sample_has_index_set,
 };
