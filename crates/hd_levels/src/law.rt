@@ -1,4 +1,4 @@
-ghost use Rattle.hd_levels.specs.Chains.{ChainsHaveBlocksOnce, ChainsTakeBlocks, ChainsLoseBlocks};
+ghost use Rattle.hd_levels.specs.Chains.{ChainsHaveBlocksOnce, ChainsTakeBlocks, ChainsLoseBlocks, DivisionsStayLinked, WaysStayLinked};
 ghost use Rattle.hd_levels.specs.Laws.{KeysOfALevelAscend, BlocksStandOnce, LastKeysBound, TopsAreAround, StepsStayAround, KeysLeadToLeaves, LeavesAnswer, GreatestKeysAreNear, NewKeysComeIn, LowerLevelsStay, WaysDownStay, UpperKeysMayChange, BlocksMayBeDivided, TopsMayBeAdded, EntriesEnter, EntriesLeave};
 ghost use Rattle.hd_levels.specs.Worked.{UpperKeysNeedNotAgree};
 
@@ -100,4 +100,14 @@ pub fn law_chains_lose_blocks()
 /// Upper keys of different levels need not agree: in such an index a new key leads elsewhere than the greatest key below it.
 pub fn law_upper_keys_need_not_agree()
     ensures { UpperKeysNeedNotAgree }
+{}
+
+/// Where a block is divided, the blocks of each level stay a chain.
+pub fn law_divisions_stay_linked()
+    ensures { DivisionsStayLinked }
+{}
+
+/// Above levels that are chains the levels of a way down stay chains.
+pub fn law_ways_stay_linked()
+    ensures { WaysStayLinked }
 {}
