@@ -5,7 +5,8 @@ use Rattle.hd_volume.specs.Indexes.{IsAmong}
 use Rattle.hd_levels.specs.Levels.{IndexBlocks, across, named, IsIndexSet}
 use Rattle.hd_levels.specs.Ways.{IsWayDown}
 use Rattle.hd_levels.specs.Changes.{LowerStay, UpperStay, IsDivided}
-use Rattle.hd_levels.specs.Chains.{IsLinked, first_of, AreLevelsLinked, DivisionsStayLinked, WaysStayLinked}
+use Rattle.hd_levels.specs.Chains.{IsLinked, first_of, AreLevelsLinked}
+use Rattle.hd_levels.specs.Linking.{DivisionsStayLinked, WaysStayLinked}
 use Rattle.hd_levels.proofs.Chains.{linked-same, linked-new}
 use Rattle.hd_levels.proofs.Levels.{AllStay, across-about, named-append, on-parts, set-level, stay-across, lower-stay, upper-stay}
 use Rattle.hd_levels.proofs.Sets.{blocks-once}

@@ -1,9 +1,7 @@
 -- The chain of a level: each block names the next one on its level, and the last names none.
-use Rattle.std.specs.Prelude.{◌≡◌, ◌≢◌, ℕ, zero, suc, ◌<◌, List, [], ◌∷◌, ◌++◌, Some}
+use Rattle.std.specs.Prelude.{◌≡◌, ◌≢◌, ℕ, zero, suc, List, [], ◌∷◌, ◌++◌}
 use Rattle.hd_volume.specs.Indexes.{IsAmong}
-use Rattle.hd_levels.specs.Levels.{IndexBlocks, across, named, IsIndexSet}
-use Rattle.hd_levels.specs.Ways.{IsWayDown}
-use Rattle.hd_levels.specs.Changes.{UpperStay, IsDivided}
+use Rattle.hd_levels.specs.Levels.{IndexBlocks, across, named}
 
 -- These blocks are the chain from a number on, where `next` says what each names.
 abbrev pub IsLinked : (ℕ → ℕ) → ℕ → List ℕ → Type 0
@@ -41,20 +39,3 @@ abbrev pub ChainsLoseBlocks : Type 0
 ChainsLoseBlocks =
     (old new : ℕ → ℕ) (start : ℕ) (left : List ℕ) (m n : ℕ) (right : List ℕ) → IsLinked old start (left ++ (m ∷ n ∷ right))
     → new m ≡ old n → OthersName old new m (left ++ (m ∷ right)) → IsLinked new start (left ++ (m ∷ right))
-
--- ---- all levels
-
--- A block is divided: on each level from its parent's down the blocks stay a chain, where the first half names the second, which names what
--- the block named, and each other block names what it named.
-abbrev pub DivisionsStayLinked : Type 0
-DivisionsStayLinked =
-    (c d : IndexBlocks) (old new : ℕ → ℕ) (l n m p : ℕ) (left right : List ℕ) → IsDivided c d l n m p → IsIndexSet c (suc l) (left ++ (p ∷ right))
-    → AreLevelsLinked c old (suc l) (left ++ (p ∷ right)) → m ≢ 0 → new n ≡ m → new m ≡ old n → ((x j : ℕ) → c.level x ≡ Some j → x ≢ n → new x ≡ old x)
-    → AreLevelsLinked d new (suc l) (left ++ (p ∷ right))
-
--- Where the levels from one down are chains still, and the blocks above stay and name what they named, all levels are.
-abbrev pub WaysStayLinked : Type 0
-WaysStayLinked =
-    (c d : IndexBlocks) (old new : ℕ → ℕ) (h top : ℕ) (key : List ℕ) (steps l : ℕ) (left : List ℕ) (n : ℕ) (right : List ℕ)
-    → IsWayDown c h top key steps l left n right → AreLevelsLinked c old h (top ∷ []) → UpperStay c d l
-    → ((x j : ℕ) → c.level x ≡ Some j → l < j → new x ≡ old x) → AreLevelsLinked d new l (left ++ (n ∷ right)) → AreLevelsLinked d new h (top ∷ [])

@@ -1,5 +1,6 @@
-ghost use Rattle.hd_levels.specs.Chains.{ChainsHaveBlocksOnce, ChainsTakeBlocks, ChainsLoseBlocks, DivisionsStayLinked, WaysStayLinked};
+ghost use Rattle.hd_levels.specs.Chains.{ChainsHaveBlocksOnce, ChainsTakeBlocks, ChainsLoseBlocks};
 ghost use Rattle.hd_levels.specs.Laws.{KeysOfALevelAscend, BlocksStandOnce, LastKeysBound, TopsAreAround, StepsStayAround, KeysLeadToLeaves, LeavesAnswer, GreatestKeysAreNear, NewKeysComeIn, LowerLevelsStay, WaysDownStay, UpperKeysMayChange, BlocksMayBeDivided, TopsMayBeAdded, EntriesEnter, EntriesLeave};
+ghost use Rattle.hd_levels.specs.Linking.{DivisionsStayLinked, WaysStayLinked, ChainsStayLinked, LevelsStayLinked};
 ghost use Rattle.hd_levels.specs.Worked.{UpperKeysNeedNotAgree};
 
 /// The keys of each level of an index set ascend, and those of its sequence set.
@@ -110,4 +111,14 @@ pub fn law_divisions_stay_linked()
 /// Above levels that are chains the levels of a way down stay chains.
 pub fn law_ways_stay_linked()
     ensures { WaysStayLinked }
+{}
+
+/// Where a block goes from its level, the others stay a chain.
+pub fn law_chains_stay_linked()
+    ensures { ChainsStayLinked }
+{}
+
+/// Where blocks go, each level stays a chain with those below it.
+pub fn law_levels_stay_linked()
+    ensures { LevelsStayLinked }
 {}
