@@ -81,7 +81,7 @@ module _ (c d : IndexBlocks) (l n m : ℕ) (k s : List ℕ) (ys : List Entry) (s
 
 module _ (c d : IndexBlocks) (l n m p : ℕ) (h : IsDivided c d l n m p) where
   -- the entries of the level are the same
-  across-divided : (i : ℕ) (xs ys : List ℕ) → AllStay c d i xs → AllStay c d i ys → across d (xs ++ (n ∷ m ∷ ys)) ≡ across c (xs ++ (n ∷ ys))
+  pub across-divided : (i : ℕ) (xs ys : List ℕ) → AllStay c d i xs → AllStay c d i ys → across d (xs ++ (n ∷ m ∷ ys)) ≡ across c (xs ++ (n ∷ ys))
   across-divided i [] ys kx ky =
       ap (λ (t : List Entry). t ++ (d.entries m ++ across d ys)) h.low
       ∙ ap (λ (t : List Entry). (h.before ++ (h.last ∷ [])) ++ (t ++ across d ys)) h.high

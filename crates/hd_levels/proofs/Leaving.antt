@@ -96,19 +96,19 @@ module _ (c d : IndexBlocks) (gone : Entry) (l : ℕ) (e : Entry) (ys : List Ent
         bounds-thin xs pre.1 b.2,
       )
 
-module _ (c d : IndexBlocks) (gone : Entry) (l : ℕ) (left : List ℕ) (n : ℕ) (right kept left_up : List ℕ) (p : ℕ) (right_up kept_up : List ℕ)
+module _ (c d : IndexBlocks) (l : ℕ) (left : List ℕ) (n : ℕ) (right kept left_up : List ℕ) (p : ℕ) (right_up kept_up : List ℕ)
     (s : IsNamed c left n right left_up p right_up) (own : IsKept n kept) (up : IsLeft d (suc l) p (s.front ++ (entry_left kept s.entry ++ s.back)) kept_up) (others : OthersStay c d (suc l) p)
-    (old : IsIndexSet c (suc l) (left_up ++ (p ∷ right_up))) (h : IsThinned c d gone l left n right kept) where
-  stays : AllStay c d (suc l) left_up × AllStay c d (suc l) right_up
+    (old : IsIndexSet c (suc l) (left_up ++ (p ∷ right_up))) where
+  pub stays : AllStay c d (suc l) left_up × AllStay c d (suc l) right_up
   stays =
       let on = on-parts c (suc l) left_up (p ∷ right_up) old.0 in
       let once = blocks-once c (suc l) left_up p right_up old in
       (beside c d (suc l) p left_up others on.0 once.0, beside c d (suc l) p right_up others on.1.2 once.1)
 
-  own-entry : IsKept s.entry.address kept
+  pub own-entry : IsKept s.entry.address kept
   own-entry = let K : ℕ → Type 0 = λ i. IsKept i kept in subst K (sym s.child) own
 
-  row-left : across d (left_up ++ (kept_up ++ right_up)) ≡ (across c left_up ++ s.front) ++ (entry_left kept s.entry ++ (s.back ++ across c right_up))
+  pub row-left : across d (left_up ++ (kept_up ++ right_up)) ≡ (across c left_up ++ s.front) ++ (entry_left kept s.entry ++ (s.back ++ across c right_up))
   row-left =
       let es : List Entry = s.front ++ (entry_left kept s.entry ++ s.back) in
       across-append d left_up (kept_up ++ right_up) ∙ ap (λ (t : List Entry). t ++ across d (kept_up ++ right_up)) (stay-across c d (suc l) left_up stays.0)
@@ -116,6 +116,24 @@ module _ (c d : IndexBlocks) (gone : Entry) (l : ℕ) (left : List ℕ) (n : ℕ
       (across-append d kept_up right_up ∙ ap (λ (t : List Entry). t ++ across d right_up) (kept-across d (suc l) p es kept_up up) ∙ ap (λ (t : List Entry). es ++ t) (stay-across c d (suc l) right_up stays.1)
       ∙ append_assoc s.front (entry_left kept s.entry ++ s.back) (across c right_up) ∙ ap (λ (t : List Entry). s.front ++ t) (append_assoc (entry_left kept s.entry) s.back (across c right_up)))
       ∙ sym (append_assoc (across c left_up) s.front (entry_left kept s.entry ++ (s.back ++ across c right_up)))
+
+  -- what the blocks of the level above name now
+  pub names-left : named (across d (left_up ++ (kept_up ++ right_up))) ≡ left ++ (kept ++ right)
+  names-left =
+      let X : List Entry = across c left_up ++ s.front in
+      let Y : List Entry = s.back ++ across c right_up in
+      ap named row-left ∙ named-append X (entry_left kept s.entry ++ Y)
+      ∙ ap (λ (t : List ℕ). named X ++ t) (named-append (entry_left kept s.entry) Y ∙ ap (λ (t : List ℕ). t ++ named Y) (kept-names s.entry kept own-entry))
+      ∙ ap (λ (t : List ℕ). t ++ (kept ++ named Y)) (sym s.left_is) ∙ ap (λ (t : List ℕ). left ++ (kept ++ t)) (sym s.right_is)
+
+module _ (c d : IndexBlocks) (gone : Entry) (l : ℕ) (left : List ℕ) (n : ℕ) (right kept left_up : List ℕ) (p : ℕ) (right_up kept_up : List ℕ)
+    (s : IsNamed c left n right left_up p right_up) (own : IsKept n kept) (up : IsLeft d (suc l) p (s.front ++ (entry_left kept s.entry ++ s.back)) kept_up) (others : OthersStay c d (suc l) p)
+    (old : IsIndexSet c (suc l) (left_up ++ (p ∷ right_up))) (h : IsThinned c d gone l left n right kept) where
+  beside-stays : AllStay c d (suc l) left_up × AllStay c d (suc l) right_up
+  beside-stays = stays c d l left n right kept left_up p right_up kept_up s own up others old
+
+  kept-entry : IsKept s.entry.address kept
+  kept-entry = own-entry c d l left n right kept left_up p right_up kept_up s own up others old
 
   thin-set : IsIndexSet d l (left ++ (kept ++ right)) → IsIndexSet d (suc l) (left_up ++ (kept_up ++ right_up))
   thin-set set =
@@ -129,16 +147,12 @@ module _ (c d : IndexBlocks) (gone : Entry) (l : ℕ) (left : List ℕ) (n : ℕ
       let D : List Entry → Type 0 = λ t. AreBounds d l t in
       let N : List ℕ → Type 0 = λ t. IsIndexSet d l t in
       let bounds =
-      bounds-thin c d gone l s.entry Y kept h.front h.back own-entry (subst W (sym s.child) h.was) h.is (subst S s.right_is h.right_same) (subst P s.right_is h.above) X (subst S s.left_is h.left_same) (subst B row old.1) in
-      let names : named (across d (left_up ++ (kept_up ++ right_up))) ≡ left ++ (kept ++ right) =
-      ap named row-left ∙ named-append X (entry_left kept s.entry ++ Y)
-      ∙ ap (λ (t : List ℕ). named X ++ t) (named-append (entry_left kept s.entry) Y ∙ ap (λ (t : List ℕ). t ++ named Y) (kept-names s.entry kept own-entry))
-      ∙ ap (λ (t : List ℕ). t ++ (kept ++ named Y)) (sym s.left_is) ∙ ap (λ (t : List ℕ). left ++ (kept ++ t)) (sym s.right_is) in
+      bounds-thin c d gone l s.entry Y kept h.front h.back kept-entry (subst W (sym s.child) h.was) h.is (subst S s.right_is h.right_same) (subst P s.right_is h.above) X (subst S s.left_is h.left_same) (subst B row old.1) in
       let on = on-parts c (suc l) left_up (p ∷ right_up) old.0 in (
-        on-both d (suc l) left_up (kept_up ++ right_up) (stay-level c d (suc l) left_up stays.0 on.0)
-            (on-both d (suc l) kept_up right_up (kept-level d (suc l) p (s.front ++ (entry_left kept s.entry ++ s.back)) kept_up up) (stay-level c d (suc l) right_up stays.1 on.1.2)),
-        subst D (sym row-left) bounds,
-        subst N (sym names) set,
+        on-both d (suc l) left_up (kept_up ++ right_up) (stay-level c d (suc l) left_up beside-stays.0 on.0)
+            (on-both d (suc l) kept_up right_up (kept-level d (suc l) p (s.front ++ (entry_left kept s.entry ++ s.back)) kept_up up) (stay-level c d (suc l) right_up beside-stays.1 on.1.2)),
+        subst D (sym (row-left c d l left n right kept left_up p right_up kept_up s own up others old)) bounds,
+        subst N (sym (names-left c d l left n right kept left_up p right_up kept_up s own up others old)) set,
       )
 
   thin-up : IsThinned c d gone (suc l) left_up p right_up kept_up
@@ -155,10 +169,10 @@ module _ (c d : IndexBlocks) (gone : Entry) (l : ℕ) (left : List ℕ) (n : ℕ
       subst (λ (t : List Entry). is_below_first gone.key (h.back ++ t) ≡ true) (entries-append c l (named s.back) (named (across c right_up))) (subst P (s.right_is ∙ named-append s.back (across c right_up)) h.above) in
       let whole : is_below_first gone.key ((h.back ++ K) ++ Z) ≡ true = subst (λ (t : List Entry). is_below_first gone.key t ≡ true) (sym (append_assoc h.back K Z)) high in
       let first : is_below_first gone.key (h.back ++ K) ≡ true = first-part gone.key (h.back ++ K) Z whole in
-      let both = thin-below c d gone l s.entry s.back kept h.front h.back own-entry (subst W (sym s.child) h.was) h.is posts.0 first s.front pres.1 in
+      let both = thin-below c d gone l s.entry s.back kept h.front h.back kept-entry (subst W (sym s.child) h.was) h.is posts.0 first s.front pres.1 in
       record {
-        left_same = same-up c d l (suc l) left_up stays.0 pres.0;
-        right_same = same-up c d l (suc l) right_up stays.1 posts.1;
+        left_same = same-up c d l (suc l) left_up beside-stays.0 pres.0;
+        right_same = same-up c d l (suc l) right_up beside-stays.1 posts.1;
         front = F ++ h.front;
         back = h.back ++ K;
         was = ap (λ (t : List Entry). entries_below c l (named t)) (nil (c.entries p) ∙ s.is) ∙ both.0;

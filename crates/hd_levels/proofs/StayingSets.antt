@@ -15,13 +15,13 @@ use Rattle.hd_levels.specs.Maps.{greatest_below}
 use Rattle.hd_levels.specs.Levels.{IndexBlocks, across, named, sequence_set, entries_below, blocks_down, IsIndexSet}
 use Rattle.hd_levels.specs.Ways.{child_of}
 use Rattle.hd_levels.specs.Changes.{Stays, KeepsIndexSet}
-use Rattle.hd_levels.specs.Chains.{IsLinked, first_of, AreLevelsLinked}
+use Rattle.hd_levels.specs.Chains.{AreLevelsLinked}
 use Rattle.hd_levels.specs.IndexSets.{level_in, next_in, index_blocks, top_blocks, top_level, index_entries, HasIndexSet}
 use Rattle.hd_levels.specs.Needs.{is_full, full_blocks, set_blocks_needed, entry_growth}
 use Rattle.hd_levels.specs.VolumeLaws.{IndexSetsStay, IndexesStay}
-use Rattle.hd_levels.proofs.Chains.{linked-same}
 use Rattle.hd_levels.proofs.Levels.{same-below, set-stays}
 use Rattle.hd_levels.proofs.Downs.{of-level, child-named, named-across}
+use Rattle.hd_levels.proofs.Linking.{links-lower}
 use Rattle.hd_levels.proofs.Volumes.{level-of, level-kind, entries-below}
 
 -- ---- where each block of an index set stays
@@ -43,15 +43,6 @@ down-stays : (c d : IndexBlocks) (l : ℕ) (ns : List ℕ) → AllStayed c d →
 down-stays c d zero ns stay s = refl
 down-stays c d (suc l) ns stay s =
     ap (λ (t : List Entry). ns ++ blocks_down d l (named t)) (set-across c d (suc l) ns stay s) ∙ ap (λ (t : List ℕ). ns ++ t) (down-stays c d l (named (across c ns)) stay s.2)
-
-links-stay : (c d : IndexBlocks) (old new : ℕ → ℕ) (l : ℕ) (ns : List ℕ) → AllStayed c d → ((n j : ℕ) → c.level n ≡ Some j → new n ≡ old n) → IsIndexSet c l ns
-    → AreLevelsLinked c old l ns → AreLevelsLinked d new l ns
-links-stay c d old new zero ns stay same s h = linked-same old new (first_of ns) ns (λ n a. (let o = of-level c 0 n ns s a in same n 0 o.level)) h
-links-stay c d old new (suc l) ns stay same s h =
-    let A : List Entry → Type 0 = λ t. AreLevelsLinked d new l (named t) in (
-      linked-same old new (first_of ns) ns (λ n a. (let o = of-level c (suc l) n ns s a in same n (suc l) o.level)) h.0,
-      subst A (sym (set-across c d (suc l) ns stay s)) (links-stay c d old new l (named (across c ns)) stay same s.2 h.1),
-    )
 
 -- as many blocks are full
 full-stays : (c d : IndexBlocks) (room : ℕ) (key : List ℕ) (l n : ℕ) (ns : List ℕ) → AllStayed c d → IsIndexSet c l ns → IsAmong n ns
@@ -103,6 +94,11 @@ module _ {k : ℕ} {v w : VolumeState} (x : HasIndexSet k v) (f : IsFormatted w)
   kept : KeepsIndexSet (index_blocks k v) (index_blocks k w) (top_level v) (top_blocks v)
   kept = set-stays (index_blocks k v) (index_blocks k w) (suc (top_level v)) (λ n l h less. all-stay n l h) (top_level v) (omega arith) (top_blocks v) x.set
 
+  next-stays : AreLevelsLinked (index_blocks k w) (next_in w) (top_level v) (top_blocks v)
+  next-stays =
+      links-lower (index_blocks k v) (index_blocks k w) (suc (top_level v)) (next_in v) (next_in w) (λ n l h less. all-stay n l h) (λ n l h less. next-same n l h) (top_level v) (omega arith)
+      (top_blocks v) x.set x.next
+
   down-same : blocks_down (index_blocks k w) (top_level w) (top_blocks w) ≡ blocks_down (index_blocks k v) (top_level v) (top_blocks v)
   down-same =
       ap (λ (l : ℕ). blocks_down (index_blocks k w) l (top_blocks w)) level-same
@@ -121,7 +117,7 @@ module _ {k : ℕ} {v w : VolumeState} (x : HasIndexSet k v) (f : IsFormatted w)
         reached = λ n i. (let A : List ℕ → Type 0 = λ ns. IsAmong n ns in subst A (sym down-same) (x.reached n (back n i)));
         count = λ n i. (let own = back n i in rw (keeps n own, size) (x.count n own));
         next = subst (λ (l : ℕ). L l (top_blocks w)) (sym level-same)
-            (subst (L (top_level v)) (sym tops-same) (links-stay (index_blocks k v) (index_blocks k w) (next_in v) (next_in w) (top_level v) (top_blocks v) all-stay next-same x.set x.next));
+            (subst (L (top_level v)) (sym tops-same) next-stays);
       }
 
   entries-stay : index_entries k w ≡ index_entries k v

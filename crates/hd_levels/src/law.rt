@@ -1,5 +1,8 @@
 ghost use Rattle.hd_levels.specs.Chains.{ChainsHaveBlocksOnce, ChainsTakeBlocks, ChainsLoseBlocks};
-ghost use Rattle.hd_levels.specs.Laws.{KeysOfALevelAscend, BlocksStandOnce, LastKeysBound, TopsAreAround, StepsStayAround, KeysLeadToLeaves, LeavesAnswer, GreatestKeysAreNear, NewKeysComeIn, LowerLevelsStay, WaysDownStay, UpperKeysMayChange, BlocksMayBeDivided, TopsMayBeAdded, EntriesEnter, EntriesLeave};
+ghost use Rattle.hd_levels.specs.Laws.{KeysOfALevelAscend, BlocksStandOnce, LastKeysBound, TopsAreAround, StepsStayAround, KeysLeadToLeaves};
+ghost use Rattle.hd_levels.specs.Laws.{LeavesAnswer, GreatestKeysAreNear, NewKeysComeIn, LowerLevelsStay, WaysDownStay};
+ghost use Rattle.hd_levels.specs.Laws.{UpperKeysMayChange, BlocksMayBeDivided, TopsMayBeAdded, EntriesEnter, EntriesLeave};
+ghost use Rattle.hd_levels.specs.Linking.{DivisionsStayLinked, WaysStayLinked, ChainsStayLinked, LevelsStayLinked};
 ghost use Rattle.hd_levels.specs.Worked.{UpperKeysNeedNotAgree};
 
 /// The keys of each level of an index set ascend, and those of its sequence set.
@@ -100,4 +103,24 @@ pub fn law_chains_lose_blocks()
 /// Upper keys of different levels need not agree: in such an index a new key leads elsewhere than the greatest key below it.
 pub fn law_upper_keys_need_not_agree()
     ensures { UpperKeysNeedNotAgree }
+{}
+
+/// Where a block is divided, the blocks of each level stay a chain.
+pub fn law_divisions_stay_linked()
+    ensures { DivisionsStayLinked }
+{}
+
+/// Above levels that are chains the levels of a way down stay chains.
+pub fn law_ways_stay_linked()
+    ensures { WaysStayLinked }
+{}
+
+/// Where a block goes from its level, the others stay a chain.
+pub fn law_chains_stay_linked()
+    ensures { ChainsStayLinked }
+{}
+
+/// Where blocks go, each level stays a chain with those below it.
+pub fn law_levels_stay_linked()
+    ensures { LevelsStayLinked }
 {}

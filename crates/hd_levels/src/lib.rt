@@ -8,11 +8,12 @@ mod volume_law;
 
 pub use law::{
     law_blocks_may_be_divided, law_blocks_stand_once, law_chains_have_blocks_once,
-    law_chains_lose_blocks, law_chains_take_blocks, law_entries_enter, law_entries_leave,
-    law_greatest_keys_are_near, law_keys_lead_to_leaves, law_keys_of_a_level_ascend,
-    law_last_keys_bound, law_leaves_answer, law_lower_levels_stay, law_new_keys_come_in,
-    law_steps_stay_around, law_tops_are_around, law_tops_may_be_added, law_upper_keys_may_change,
-    law_upper_keys_need_not_agree, law_ways_down_stay,
+    law_chains_lose_blocks, law_chains_stay_linked, law_chains_take_blocks,
+    law_divisions_stay_linked, law_entries_enter, law_entries_leave, law_greatest_keys_are_near,
+    law_keys_lead_to_leaves, law_keys_of_a_level_ascend, law_last_keys_bound, law_leaves_answer,
+    law_levels_stay_linked, law_lower_levels_stay, law_new_keys_come_in, law_steps_stay_around,
+    law_tops_are_around, law_tops_may_be_added, law_upper_keys_may_change,
+    law_upper_keys_need_not_agree, law_ways_down_stay, law_ways_stay_linked,
 };
 pub use volume_law::{
     law_blocks_are_named_once, law_children_are_right, law_few_blocks_are_needed,
