@@ -41,7 +41,7 @@ struct Played<S> {
 }
 
 /// Plays a deck over a store by a program of one PCB; `None` where there is no memory for it.
-fn played<S: BlockStore + Drop, O: Write>(
+fn play_over<S: BlockStore + Drop, O: Write>(
     alloc: Global,
     dbd: &Dbd,
     procopt: &str,
@@ -71,7 +71,7 @@ fn prints_what_calls_answer(rt: HostRuntime) -> Result<(), Fail> {
     let dbd = database(alloc).expect(&rt, "a database");
     let mut out = Vec::new(alloc);
     let store = sample_store(alloc, 511, 0)?;
-    let done = played(alloc, &dbd, "A", b"L   2 GN\n", store, &mut out).expect(&rt, "memory");
+    let done = play_over(alloc, &dbd, "A", b"L   2 GN\n", store, &mut out).expect(&rt, "memory");
     assert_eq!(rt; (done.status, done.err.len()), (0, 0));
     assert!(rt; out.starts_with(b"1 1 GN   [  ] 01 COURSE   key="));
     assert_eq!(rt; done.store.into_bytes().as_slice(), image().as_slice());
@@ -90,7 +90,7 @@ fn says_why_no_call_is_made(rt: HostRuntime) -> Result<(), Fail> {
         let mut out = Vec::new(alloc);
         let byte = if place == 247 { b'1' } else { 0 };
         let store = sample_store(alloc, place, byte)?;
-        let done = played(alloc, &dbd, procopt, b"L     GN\n", store, &mut out).expect(
+        let done = play_over(alloc, &dbd, procopt, b"L     GN\n", store, &mut out).expect(
             &rt, "memory",
         );
         assert_eq!(rt; done.err.as_slice(), line.as_bytes());
@@ -106,7 +106,9 @@ fn a_play_tells_of_each_access_that_fails(rt: HostRuntime) -> Result<(), Fail> {
     for passes in 0..100 {
         let mut out = Vec::new(alloc);
         let store = FuseStore::new(sample_store(alloc, 511, 0)?, passes);
-        let done = played(alloc, &dbd, "A", b"L   4 GN\n", store, &mut out).expect(&rt, "memory");
+        let done = play_over(alloc, &dbd, "A", b"L   4 GN\n", store, &mut out).expect(
+            &rt, "memory",
+        );
         if done.status == 0 {
             assert!(rt; passes > 5);
             return Ok(());
@@ -124,7 +126,7 @@ fn a_play_tells_of_a_line_that_is_not_taken(rt: HostRuntime) -> Result<(), Fail>
     let dbd = database(alloc).expect(&rt, "a database");
     let store = sample_store(alloc, 511, 0)?;
     let mut out = FullWriter;
-    let done = played(alloc, &dbd, "A", b"L     GN\n", store, &mut out).expect(&rt, "memory");
+    let done = play_over(alloc, &dbd, "A", b"L     GN\n", store, &mut out).expect(&rt, "memory");
     assert_eq!(rt; done.status, 3);
     assert_eq!(rt; done.err.as_slice(), b"device failed\n".as_slice());
     Ok(())
