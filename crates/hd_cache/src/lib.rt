@@ -7,7 +7,6 @@ mod pass;
 mod settle;
 
 pub use cached::Cached;
-pub use entries::Entry;
 
 #[cfg(test)]
 mod refusal_tests;
