@@ -1,8 +1,11 @@
 //! What calls cost, in accesses of the store.
 
+ghost use Rattle.std.specs.Prelude.{◌<◌, ◌≤◌};
+
 use crate::played::store_of;
 use crate::rows::Row;
 use crate::sample::{database, program_of};
+use hd_cache::Cached;
 use hd_dbd::{Dbd, Psb, Rule};
 use hd_deck::{read_deck, run};
 use hd_volume::{BlockStore, FuseStore, MemStore};
@@ -60,6 +63,38 @@ fn accesses(alloc: Global, dbd: &Dbd, psb: &Psb, image: &[u8], deck: &[u8]) -> O
     } else {
         None
     }
+}
+
+/// The accesses that a run of a deck makes below a cache of so many blocks, its opening and its closing among them; `None` where it has a fault.
+fn cached_accesses(
+    alloc: Global,
+    dbd: &Dbd,
+    psb: &Psb,
+    image: &[u8],
+    deck: &[u8],
+    blocks: usize,
+) -> Option<u64>
+    requires some { 0 < blocks }
+    requires few { blocks ≤ 65536 }
+{
+    if !psb.matches(dbd) || deck.len() > 10_000 {
+        return None;
+    }
+    let steps = read_deck(alloc, deck, psb.pcbs().len() as u8).ok()?;
+    let mut out = Vec::new(alloc);
+    let store = counted(alloc, dbd, image).ok()?;
+    let Ok(cached) = Cached::new(alloc, store, blocks) else {
+        return None;
+    };
+    if cached.block_size() != dbd.block_size() as usize {
+        return None;
+    }
+    let Ok(end) = run(alloc, cached, dbd, psb, &steps, &mut out) else {
+        return None;
+    };
+    let (store, written) = end.store.into_store();
+    written.ok()?;
+    Some(store.accesses())
 }
 
 /// Whether a line's status says that the call was done.
@@ -139,5 +174,23 @@ fn a_walk_reads_its_paths_and_an_update_little(rt: HostRuntime) -> Result<(), Fa
         b"L     GHU  COURSE  (NUM     EQ101)\nC          CLASS   (ED      EQ01)\nC          STUD    *-\nL     REPL\nDADAM99\nL     GHU  COURSE  (NUM     EQ101)\nC          CLASS   (ED      EQ01)\nC          STUD    *-\nL     DLET\n";
     let cost = more(alloc, &dbd, &psb, &image, b"", updates).expect(&rt, "a run");
     assert!(rt; cost <= 100, "{cost}");
+    Ok(())
+}
+
+#[test]
+fn a_cache_of_all_blocks_reads_each_once(rt: HostRuntime) -> Result<(), Fail> {
+    let alloc = rt.alloc();
+    let dbd = database(alloc, Rule::Here).expect(&rt, "a database");
+    let psb = program_of(alloc, &dbd, "A").expect(&rt, "a program");
+    let mut rows = one_large_class(alloc, 5000)?;
+    let _last = rows.pop();
+    let (store, blocks) = store_of(alloc, &dbd, &rows, 65536)?.expect(&rt, "a volume");
+    assert_eq!(rt; blocks, 717);
+    let image = store.into_bytes();
+    // Three walks from the first segment to the last, each ended by GB.
+    let cost = cached_accesses(alloc, &dbd, &psb, &image, b"L15009 GN\n", 1024).expect(
+        &rt, "a run",
+    );
+    assert!(rt; cost <= 1600, "{cost}");
     Ok(())
 }

@@ -1,12 +1,13 @@
 //! Calls written as a deck, and runs of it.
 
-ghost use Rattle.std.specs.Prelude.{◌≡◌};
+ghost use Rattle.std.specs.Prelude.{◌≡◌, ◌<◌, ◌≤◌};
 
 use crate::printing::add_bytes;
+use hd_cache::Cached;
 use hd_dbd::{Dbd, Psb};
 use hd_deck::{read_deck, run};
 use hd_session::Call;
-use hd_volume::MemStore;
+use hd_volume::{BlockStore, MemStore};
 use std::alloc::{AllocError, Global};
 
 /// The bytes of an area that one line has.
@@ -99,32 +100,58 @@ fn difference(alloc: Global, told: &[u8], wanted: &[u8]) -> Result<String, Alloc
     Ok(text)
 }
 
-/// A run of a deck over the volume in a store: what is wrong with its lines, no text where nothing is, and the bytes that it leaves.
-pub fn run_deck(
+/// A run of a deck over the volume in a store: what is wrong with its lines, no text where nothing is, and the store.
+pub fn run_deck<S: BlockStore>(
     alloc: Global,
     dbd: &Dbd,
     psb: &Psb,
-    store: MemStore,
+    store: S,
     deck: &Deck,
-) -> Result<(String, Vec<u8>), AllocError>
-    requires size { store.size ≡ dbd.now.block_size }
+) -> Result<(String, S), AllocError>
+    requires size { S.size store ≡ dbd.now.block_size }
 {
     if !psb.matches(dbd) || deck.text.len() > MOST_BYTES {
         return Err(AllocError);
     }
     let Ok(steps) = read_deck(alloc, &deck.text, psb.pcbs().len() as u8) else {
         let wrong = String::from_str(alloc, "the deck is refused")?;
-        return Ok((wrong, Vec::new(alloc)));
+        return Ok((wrong, store));
     };
     let mut out = Vec::new(alloc);
     match run(alloc, store, dbd, psb, &steps, &mut out) {
         Ok(end) => {
             let wrong = difference(alloc, &out, &deck.lines)?;
-            Ok((wrong, end.store.into_bytes()))
+            Ok((wrong, end.store))
         }
         Err((store, _)) => {
             let wrong = String::from_str(alloc, "the run has a fault")?;
-            Ok((wrong, store.into_bytes()))
+            Ok((wrong, store))
         }
     }
+}
+
+/// A run of a deck over the bytes of a volume, with a cache of so many blocks before them: what is wrong with its lines, no text where nothing
+/// is, and the bytes that it leaves.
+pub fn run_cached(
+    alloc: Global,
+    dbd: &Dbd,
+    psb: &Psb,
+    volume: &[u8],
+    deck: &Deck,
+    blocks: usize,
+) -> Result<(String, Vec<u8>), AllocError>
+    requires some { 0 < blocks }
+    requires few { blocks ≤ 65536 }
+{
+    let store = MemStore::new(dbd.block_size() as usize, volume.to_vec(alloc)?);
+    let Ok(cached) = Cached::new(alloc, store, blocks) else {
+        return Err(AllocError);
+    };
+    let (wrong, cached) = run_deck(alloc, dbd, psb, cached, deck)?;
+    let (store, written) = cached.into_store();
+    if written.is_err() {
+        let wrong = String::from_str(alloc, "the cache is not written")?;
+        return Ok((wrong, Vec::new(alloc)));
+    }
+    Ok((wrong, store.into_bytes()))
 }

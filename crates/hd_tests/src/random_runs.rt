@@ -1,11 +1,11 @@
-//! Random lists of calls, played through the model and a session, and then as a deck.
+//! Random lists of calls, played through the model and a session, and then as a deck with a small cache before its volume.
 
 ghost use Rattle.std.specs.Prelude.{◌≡◌, ◌<◌, ◌≤◌, length, IfOk};
 
 use crate::calls::random_call;
 use crate::contents::random_rows;
 use crate::databases::random_database;
-use crate::decks::{Deck, run_deck};
+use crate::decks::{Deck, run_cached};
 use crate::heads::head_of;
 use crate::model::Model;
 use crate::outcome::Outcome;
@@ -287,8 +287,8 @@ fn run_over(
         return text.clone();
     }
     let image = store.into_bytes();
-    let again = MemStore::new(dbd.block_size() as usize, begun);
-    let (wrong, left) = run_deck(alloc, dbd, psb, again, &deck)?;
+    let blocks = random.below(8).clamp(1, 7);
+    let (wrong, left) = run_cached(alloc, dbd, psb, &begun, &deck, blocks)?;
     if !wrong.is_empty() {
         return Ok(wrong);
     }

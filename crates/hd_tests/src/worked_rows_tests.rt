@@ -1,6 +1,6 @@
-//! The worked lists on the rows, and as decks over a volume of them.
+//! The worked lists on the rows, and as decks over a volume of them, with a cache before it and without one.
 
-use crate::decks::{Deck, run_deck};
+use crate::decks::{Deck, run_cached, run_deck};
 use crate::model::Model;
 use crate::played::{fault_of, store_of};
 use crate::sample::{SAMPLE, database, program, program_of, rows_of};
@@ -20,15 +20,27 @@ fn played_by(
     list: &[u8],
 ) -> Option<String> {
     let (store, _) = store_of(alloc, dbd, &rows_of(alloc, rows).ok()?, 16).ok()??;
+    let volume = store.into_bytes();
     let mut deck = Deck::new(alloc);
     let mut model = Model::new(alloc, rows_of(alloc, rows).ok()?, psb.pcbs().len()).ok()?;
     let wrong = play_model(alloc, dbd, psb, &mut model, list, &mut deck).ok()?;
     if !wrong.is_empty() {
         return Some(wrong);
     }
-    let (wrong, image) = run_deck(alloc, dbd, psb, store, &deck).ok()?;
+    let store = MemStore::new(dbd.block_size() as usize, volume.to_vec(alloc).ok()?);
+    let (wrong, store) = run_deck(alloc, dbd, psb, store, &deck).ok()?;
     if !wrong.is_empty() {
         return Some(wrong);
+    }
+    let image = store.into_bytes();
+    for blocks in [1usize, 2, 64] {
+        let (wrong, left) = run_cached(alloc, dbd, psb, &volume, &deck, blocks).ok()?;
+        if !wrong.is_empty() {
+            return Some(wrong);
+        }
+        if left != image {
+            return String::from_str(alloc, "with a cache the deck leaves other bytes").ok();
+        }
     }
     let store = MemStore::new(dbd.block_size() as usize, image);
     let fault = fault_of(alloc, dbd, &model.rows, store).ok()?;
