@@ -141,7 +141,7 @@ def replace(segments, calls, random_number):
     text = []
     for _ in range(calls):
         arguments = path(random_number, segments)
-        text.append(call("GHU", *arguments) + call("REPL", area=arguments[2][20:24] + "66"))
+        text.append(call("GHU", *arguments) + call("REPL", area=arguments[2][19:23] + "66"))
     return "".join(text)
 
 
@@ -162,7 +162,7 @@ def mixed(segments, calls, random_number):
     for _ in range(calls // 10):
         arguments = path(random_number, segments)
         text.append("".join(call("GU", *path(random_number, segments)) for _ in range(6)))
-        text.append("L   2 GN\n" + call("GHU", *arguments) + call("REPL", area=arguments[2][20:24] + "66"))
+        text.append("L   2 GN\n" + call("GHU", *arguments) + call("REPL", area=arguments[2][19:23] + "66"))
     return "".join(text)
 
 
