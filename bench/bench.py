@@ -3,6 +3,8 @@
 
 Each command is run three times, alternating with SQLite's, and the least time of the three is shown with the greatest behind it. Times are
 processor time in seconds, memory is the peak in MB, and accesses are the system's reads and writes of the volume, counted by strace in a run of its own.
+The time of a call, and the ratio beside it, leave out what "open" takes: a deck of one call, which checks the volume first. The time to read the
+deck is in them.
 
     bench/bench.py [SEGMENTS ..] [--shape NAME] [--calls N]
 """
@@ -28,11 +30,22 @@ create table book(num text, place integer, title text, primary key(num, place)) 
 def measured(words, **files):
     """Processor time and peak memory of a command."""
     opened = {name: open(path, "rb" if name == "stdin" else "wb") for name, path in files.items()}
-    pid = subprocess.Popen(words, **{"stdout": subprocess.DEVNULL, **opened}).pid
-    _, status, usage = os.wait4(pid, 0)
+    process = subprocess.Popen(words, **{"stdout": subprocess.DEVNULL, **opened})
+    _, status, usage = os.wait4(process.pid, 0)
+    process.returncode = os.waitstatus_to_exitcode(status)
     if status != 0:
-        sys.exit(f"{words}: status {status}")
+        sys.exit(f"{words}: status {process.returncode}")
     return usage.ru_utime + usage.ru_stime, usage.ru_maxrss / 1024
+
+
+def apart(work):
+    """Does a piece of work in a process of its own, since the peak of a command is at least the memory of the process that starts it."""
+    pid = os.fork()
+    if pid == 0:
+        work()
+        os._exit(0)
+    if os.waitpid(pid, 0)[1] != 0:
+        sys.exit("the benchmark's files are not made")
 
 
 def accesses(words, volume):
@@ -47,16 +60,18 @@ def accesses(words, volume):
 class Row:
     """What was measured of one piece of work."""
 
-    def __init__(self, name, per):
-        self.name, self.per, self.hd, self.sqlite, self.memory, self.accesses = name, per, [], [], 0, 0
+    def __init__(self, name, calls=0, opening=None):
+        """So many calls, behind an opening of the volume that was measured before."""
+        self.name, self.calls, self.opening, self.hd, self.sqlite, self.memory, self.accesses = name, calls, opening, [], [], 0, 0
 
     def show(self):
-        least = min(self.hd)
-        text = f"{self.name:12} {least:7.2f} to {max(self.hd):5.2f} s {self.memory:6.1f} MB {self.accesses:9} accesses"
-        if self.per:
-            text += f" {1e6 * least / self.per:7.2f} us a call"
+        text = f"{self.name:12} {min(self.hd):7.2f} to {max(self.hd):5.2f} s {self.memory:6.1f} MB {self.accesses:9} accesses"
+        least, other = min(self.hd), min(self.sqlite, default=0)
+        if self.opening:
+            least, other = least - min(self.opening.hd), other - min(self.opening.sqlite, default=0)
+            text += f" {1e6 * least / self.calls:7.2f} us a call"
         if self.sqlite:
-            text += f"   SQLite {min(self.sqlite):6.2f} s, ratio {least / max(min(self.sqlite), 0.001):5.2f}"
+            text += f"   SQLite {min(self.sqlite):6.2f} s, ratio {least / max(other, 0.001):5.2f}"
         print(text, flush=True)
 
 
@@ -92,7 +107,7 @@ def remove(*names):
             os.remove(name)
 
 
-def measure(shape, segments, calls, has_sqlite):
+def write_rows(shape, segments):
     rows = list(shapes.SHAPES[shape](segments))
     print(f"{shape}, {len(rows)} segments", flush=True)
     for name, text in (("b.dbd", shapes.DBD), ("b.psb", shapes.PSB)):
@@ -102,23 +117,36 @@ def measure(shape, segments, calls, has_sqlite):
         file.write(shapes.stream(rows))
     import_sql(rows)
 
+
+def write_deck(name, segments, calls):
+    text, made = shapes.deck(name, segments, calls)
+    with open("b.deck", "w") as file:
+        file.write(text)
+    with open("b.count", "w") as file:
+        file.write(str(made))
+
+
+def measure(shape, segments, calls, has_sqlite):
+    apart(lambda: write_rows(shape, segments))
+
     def sqlite(*words, **files):
         return ((["sqlite3", *words],), files) if has_sqlite else None
 
     def fresh():
         remove("b.volume", "b.sqlite")
 
-    play(Row("reload", 0), [HD, "reload", "b.dbd", "b.stream", "b.volume", "65536"], sqlite("b.sqlite", stdin="import.sql"), "b.volume", fresh)
+    play(Row("reload"), [HD, "reload", "b.dbd", "b.stream", "b.volume", "65536"], sqlite("b.sqlite", stdin="import.sql"), "b.volume", fresh)
     if has_sqlite and not os.path.exists("b.sqlite"):
         measured(["sqlite3", "b.sqlite"], stdin="import.sql")
-    play(Row("check", 0), [HD, "check", "b.dbd", "b.volume"], sqlite("b.sqlite", "pragma integrity_check"), "b.volume")
+    play(Row("check"), [HD, "check", "b.dbd", "b.volume"], sqlite("b.sqlite", "pragma integrity_check"), "b.volume")
     dump = "select * from course; select * from class; select * from stud; select * from book;"
-    play(Row("unload", 0), [HD, "unload", "b.dbd", "b.volume", "b.out"], sqlite("b.sqlite", dump), "b.volume")
+    play(Row("unload"), [HD, "unload", "b.dbd", "b.volume", "b.out"], sqlite("b.sqlite", dump), "b.volume")
     if shape == "deep":
+        opening = None
         for name in shapes.DECKS:
-            text, made = shapes.deck(name, segments, calls)
-            with open("b.deck", "w") as file:
-                file.write(text)
+            apart(lambda: write_deck(name, segments, calls))
+            with open("b.count") as file:
+                made = int(file.read())
 
             def again():
                 shutil.copy("b.volume", "c.volume")
@@ -126,7 +154,9 @@ def measure(shape, segments, calls, has_sqlite):
                     shutil.copy("b.sqlite", "c.sqlite")
 
             prepared = (([["./calls", "c.sqlite", "b.deck"]]), {}) if has_sqlite else None
-            play(Row(name, made), [HD, "deck", "b.dbd", "b.psb", "c.volume", "b.deck"], prepared, "c.volume", again)
+            row = Row(name, made, opening)
+            play(row, [HD, "deck", "b.dbd", "b.psb", "c.volume", "b.deck"], prepared, "c.volume", again)
+            opening = opening or row
 
 
 def main():
