@@ -109,7 +109,7 @@ int main(int count, char *words[]) {
             if (found == 3) { bind(get, 3, values); run(get); }
         } else if (!strncmp(function, "GNP", 3)) {
             values[0] = kept[0];
-            must(sqlite3_bind_text(under, 1, "0000000", -1, SQLITE_STATIC));
+            bind(under, 1, values);
             run(under);
         } else if (!strncmp(function, "GN", 2)) {
             if (repeat > 1000) { scan(); break; }

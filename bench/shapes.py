@@ -122,8 +122,9 @@ def get_unique(segments, calls, random_number):
 
 
 def get_in_parent(segments, calls, random_number):
-    """GNP over the dependents of one course."""
-    return call("GU", "COURSE  ") + "".join(f"L{min(9999, calls - done):4} GNP\n" for done in range(0, calls, 9999))
+    """GNP over all dependents of random courses."""
+    dependents = CLASSES * (1 + STUDENTS)
+    return "".join(call("GU", path(random_number, segments)[0]) + f"L{dependents:4} GNP\n" for _ in range(calls // dependents))
 
 
 def insert(segments, calls, random_number):
