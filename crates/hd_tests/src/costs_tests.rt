@@ -188,9 +188,8 @@ fn a_cache_of_all_blocks_reads_each_once(rt: HostRuntime) -> Result<(), Fail> {
     assert_eq!(rt; blocks, 717);
     let image = store.into_bytes();
     // Three walks from the first segment to the last, each ended by GB.
-    let cost = cached_accesses(alloc, &dbd, &psb, &image, b"L15009 GN\n", 1024).expect(
-        &rt, "a run",
-    );
+    let walks = b"L5003 GN\nL5003 GN\nL5003 GN\n";
+    let cost = cached_accesses(alloc, &dbd, &psb, &image, walks, 1024).expect(&rt, "a run");
     assert!(rt; cost <= 1600, "{cost}");
     Ok(())
 }

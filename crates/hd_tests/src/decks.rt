@@ -101,7 +101,7 @@ fn difference(alloc: Global, told: &[u8], wanted: &[u8]) -> Result<String, Alloc
 }
 
 /// A run of a deck over the volume in a store: what is wrong with its lines, no text where nothing is, and the store.
-pub fn run_deck<S: BlockStore>(
+pub fn run_deck<S: BlockStore + Drop>(
     alloc: Global,
     dbd: &Dbd,
     psb: &Psb,
