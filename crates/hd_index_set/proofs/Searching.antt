@@ -1,5 +1,5 @@
 -- A search down an index set.
-use Rattle.std.proofs.Common.{◌≡◌, ◌≢◌, inl, inr, ℕ, ◌≤◌, Bool, true, false, cond, List, [], ◌∷◌, ◌++◌, length, Some, None, slice_index, subst, ap, refl, sym, ◌∙◌, arith, ne_eqb}
+use Rattle.std.proofs.Common.{◌<◌, ◌≡◌, ◌≢◌, inl, inr, ℕ, ◌≤◌, Bool, true, false, cond, List, [], ◌∷◌, ◌++◌, length, Some, None, slice_index, subst, ap, refl, sym, ◌∙◌, arith, ne_eqb}
 use Rattle.std.specs.Prelude.{◌==◌}
 use Rattle.std.proofs.lemmas.Bool.{cases_eq, eq-eqb}
 use Rattle.hd_bytes.specs.Numbers.{number_at}
@@ -138,7 +138,7 @@ root-header a b e =
     e ∙ (let x : a ≡ record a { count = b.count; first_root = b.first_root; last_root = b.last_root } = rw (c, f, l) refl in x)
 
 -- one image the other way round
-one-turned : {v w : VolumeState} → AreOne v w → AreOne w v
+pub one-turned : {v w : VolumeState} → AreOne v w → AreOne w v
 one-turned one = record { same = record { size = sym one.same.size; sizes = sym one.same.sizes }; image = sym one.image }
 
 -- two states with one image have the same index set, which needs as much room
@@ -160,4 +160,16 @@ sight-same k v w key sight one x s =
         order-same k v w sight.next one.same.size one.image (s.on none later).0,
         ap (address_from key) es ∙ (s.on none later).1 ∙ (let e : address_from key (entries_in k (block_at v sight.next)) ≡ address_from key (entries_in k (block_at w sight.next)) = rw (one.same.size, one.image) refl in e),
       );
+    }
+
+pub right-same : (k : ℕ) (v w : VolumeState) (l n : ℕ) → AreOne v w → IsRightBlock k v l n → IsRightBlock k w l n
+right-same k v w l n one h =
+    let order = order-same k v w n one.same.size one.image (right-order k v l n h) in
+    let same : block_at w n ≡ block_at v n = rw (one.same.size, one.image) refl in
+    record {
+      is = order.is;
+      level = ap (λ (b : List ℕ). slice_index b 3) same ∙ h.level;
+      some = (let P : List ℕ → Type 0 = λ b. 0 < number_at 2 b 4 in subst P (sym same) h.some);
+      count = order.count;
+      ascend = order.ascend;
     }

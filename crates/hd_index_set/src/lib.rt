@@ -3,7 +3,11 @@
 #![tactic(auto)]
 
 mod descend;
+mod greatest;
 mod look;
+mod need;
 mod search;
+mod stand;
 
+pub use need::{blocks_needed, growth};
 pub use search::{find, next_from};
