@@ -2,3 +2,4 @@ pub mod Blocks
 pub mod Changes
 pub mod Searches
 pub mod Stands
+pub mod Greatest

@@ -1,5 +1,4 @@
-ghost use Rattle.std.specs.Prelude.{◌≡◌, ◌≤◌, ◌<◌, ℕ, List, take, IsTrue, IfOk};
-ghost use Rattle.std.specs.Option.{option_map_or};
+ghost use Rattle.std.specs.Prelude.{◌≡◌, ◌≤◌, ◌<◌, take, IsTrue, IfOk};
 ghost use Rattle.hd_bytes.specs.Ranges.{bytes_at};
 ghost use Rattle.hd_dbd.specs.Refusals.{OnlyDevice};
 ghost use Rattle.hd_volume.specs.Volumes.{block_at};
@@ -7,9 +6,9 @@ ghost use Rattle.hd_volume.specs.Calls.{IsRead};
 ghost use Rattle.hd_volume.specs.Entries.{entries_in};
 ghost use Rattle.hd_entries.specs.Fields.{entry_count, entry_place, CountFits};
 ghost use Rattle.hd_entries.specs.Searches.{IfInOrder};
-ghost use Rattle.hd_levels.specs.Maps.{greatest_below, last_key};
-ghost use Rattle.hd_levels.specs.IndexSets.{index_entries, HasIndexSet};
+ghost use Rattle.hd_levels.specs.IndexSets.{HasIndexSet};
 ghost use Rattle.hd_index_set.specs.Blocks.{IsInOrder};
+ghost use Rattle.hd_index_set.specs.Greatest.{IsLastOf, IsGreatestOf, IsGreatestBelow};
 ghost use Rattle.hd_index_set.specs.Stands.{IsStand};
 
 use crate::descend::MOST_LEVELS;
@@ -32,7 +31,7 @@ fn key_copy(block: &IndexBlock, index: usize) -> [u8; 255]
 /// The key of the entry before an index, if there is one, at the front.
 fn key_before(block: &IndexBlock, index: usize) -> Option<[u8; 255]>
     requires { index ≤ entry_count block.now.key_length block.now.bytes.now }
-    ensures { CountFits block.now.key_length block.now.bytes.now → (other : List ℕ) → option_map_or (take block.now.key_length) result other ≡ last_key other (take index (entries_in block.now.key_length block.now.bytes.now)) }
+    ensures { CountFits block.now.key_length block.now.bytes.now → IsLastOf block.now.key_length result (take index (entries_in block.now.key_length block.now.bytes.now)) }
 {
     if index == 0 {
         None
@@ -43,14 +42,14 @@ fn key_before(block: &IndexBlock, index: usize) -> Option<[u8; 255]>
 
 /// The greatest key below a key among those of the entries, if there is one.
 fn greatest_key(block: &IndexBlock, key: &[u8]) -> Option<[u8; 255]>
-    ensures { IfInOrder block.now.key_length block.now.bytes.now ((other : List ℕ) → option_map_or (take block.now.key_length) result other ≡ greatest_below other key.now (entries_in block.now.key_length block.now.bytes.now)) }
+    ensures { IfInOrder block.now.key_length block.now.bytes.now (IsGreatestOf block.now.key_length result key.now (entries_in block.now.key_length block.now.bytes.now)) }
 {
     key_before(block, block.place_of(key))
 }
 
 /// The last key, if there is an entry.
 fn last_key_of(block: &IndexBlock) -> Option<[u8; 255]>
-    ensures { CountFits block.now.key_length block.now.bytes.now → (other : List ℕ) → option_map_or (take block.now.key_length) result other ≡ last_key other (entries_in block.now.key_length block.now.bytes.now) }
+    ensures { CountFits block.now.key_length block.now.bytes.now → IsLastOf block.now.key_length result (entries_in block.now.key_length block.now.bytes.now) }
 {
     key_before(block, block.count())
 }
@@ -64,7 +63,7 @@ fn greatest_in<S: BlockStore>(
 ) -> Result<Option<[u8; 255]>, Refused>
     requires short { key_length ≤ 255 }
     ensures read { IsRead volume.old result volume.new }
-    ensures value { IfOk result (λ r. IsTrue volume.old.is_sound → IsInOrder key_length volume.old n → (other : List ℕ) → option_map_or (take key_length) r other ≡ greatest_below other key.now (entries_in key_length (block_at volume.old n))) }
+    ensures value { IfOk result (λ r. IsTrue volume.old.is_sound → IsInOrder key_length volume.old n → IsGreatestOf key_length r key.now (entries_in key_length (block_at volume.old n))) }
     ensures refusal { OnlyDevice result }
 {
     if !has_block(volume, n) {
@@ -85,7 +84,7 @@ fn last_in<S: BlockStore>(
 ) -> Result<Option<[u8; 255]>, Refused>
     requires short { key_length ≤ 255 }
     ensures read { IsRead volume.old result volume.new }
-    ensures value { IfOk result (λ r. IsTrue volume.old.is_sound → IsInOrder key_length volume.old n → (other : List ℕ) → option_map_or (take key_length) r other ≡ last_key other (entries_in key_length (block_at volume.old n))) }
+    ensures value { IfOk result (λ r. IsTrue volume.old.is_sound → IsInOrder key_length volume.old n → IsLastOf key_length r (entries_in key_length (block_at volume.old n))) }
     ensures refusal { OnlyDevice result }
 {
     if !has_block(volume, n) {
@@ -106,7 +105,7 @@ pub fn greatest<S: BlockStore>(
 ) -> Result<Option<[u8; 255]>, Refused>
     requires short { key_length ≤ 255 }
     ensures read { IsRead volume.old result volume.new }
-    ensures value { IfOk result (λ r. IsTrue volume.old.is_sound → HasIndexSet key_length volume.old → option_map_or (take key_length) r key.now ≡ greatest_below key.now key.now (index_entries key_length volume.old)) }
+    ensures value { IfOk result (λ r. IsTrue volume.old.is_sound → HasIndexSet key_length volume.old → IsGreatestBelow key_length volume.old key.now r) }
     ensures refusal { OnlyDevice result }
 {
     let top = volume.top();
@@ -132,7 +131,7 @@ fn greatest_about<S: BlockStore>(
 ) -> Result<Option<[u8; 255]>, Refused>
     requires short { key_length ≤ 255 }
     ensures read { IsRead volume.old result volume.new }
-    ensures value { IfOk result (λ r. IsTrue volume.old.is_sound → HasIndexSet key_length volume.old → IsStand key_length volume.old key.now 0 stand → option_map_or (take key_length) r key.now ≡ greatest_below key.now key.now (index_entries key_length volume.old)) }
+    ensures value { IfOk result (λ r. IsTrue volume.old.is_sound → HasIndexSet key_length volume.old → IsStand key_length volume.old key.now 0 stand → IsGreatestBelow key_length volume.old key.now r) }
     ensures refusal { OnlyDevice result }
 {
     let own = greatest_in(volume, key_length, stand.block, key)?;

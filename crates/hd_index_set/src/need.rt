@@ -6,9 +6,9 @@ ghost use Rattle.hd_volume.specs.Entries.{entries_in};
 ghost use Rattle.hd_volume.specs.Indexes.{entry_room, root_key_length};
 ghost use Rattle.hd_entries.specs.Fields.{CountFits};
 ghost use Rattle.hd_levels.specs.IndexSets.{index_blocks, HasIndexSet};
-ghost use Rattle.hd_levels.specs.Needs.{entry_growth, is_full, full_blocks, set_blocks_needed};
+ghost use Rattle.hd_levels.specs.Needs.{entry_growth, is_full, set_blocks_needed};
 ghost use Rattle.hd_levels.specs.VolumeLaws.{IsRightBlock};
-ghost use Rattle.hd_index_set.specs.Blocks.{IsInOrder};
+ghost use Rattle.hd_index_set.specs.Blocks.{IsInOrder, full_down};
 ghost use Rattle.hd_index_set.specs.Changes.{IsIndexOf};
 
 use crate::descend::MOST_LEVELS;
@@ -88,7 +88,7 @@ fn full_blocks<S: BlockStore>(
     requires short { key_length ≤ 255 }
     requires few { levels < 64 }
     ensures read { IsRead volume.old result volume.new }
-    ensures value { IfOk result (λ full. IsTrue volume.old.is_sound → HasIndexSet key_length volume.old → IsRightBlock key_length volume.old levels n → full ≡ full_blocks (index_blocks key_length volume.old) (entry_room key_length volume.old.size) key.now levels n) }
+    ensures value { IfOk result (λ full. IsTrue volume.old.is_sound → HasIndexSet key_length volume.old → IsRightBlock key_length volume.old levels n → full ≡ full_down key_length volume.old key.now levels n) }
     ensures most { IfOk result (λ full. full ≤ 64) }
     ensures refusal { OnlyDevice result }
 {
