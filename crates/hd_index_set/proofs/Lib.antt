@@ -1,0 +1,5 @@
+pub mod Places
+pub mod Searching
+pub mod Fronts
+pub mod Standing
+pub mod Filling

@@ -1,0 +1,52 @@
+use Rattle.std.proofs.Common.{◌≡◌, ◌≢◌, inl, inr, ℕ, true, false, List, take, cond, Option, Some, None, IsTrue, refl, sym, ap, ◌∙◌, ne_eqb}
+use Rattle.std.specs.Prelude.{◌==◌}
+use Rattle.std.specs.Option.{option_map_or, is_some}
+use Rattle.std.proofs.lemmas.Bool.{eq-eqb}
+use Rattle.hd_volume.specs.Volumes.{block_at}
+use Rattle.hd_volume.specs.Entries.{entries_in}
+use Rattle.hd_levels.specs.Maps.{greatest_below, last_key}
+use Rattle.hd_index_set.proofs.Searching.{order-same}
+use Rattle.hd_index_set.proofs.Standing.{block-order, left-order, stand-greatest}
+use Rattle.hd_index_set.proofs.greatest.greatest_about.Goals as goal
+
+some-any : (k : ℕ) (o : Option (List ℕ)) (a b : List ℕ) → is_some o ≡ true → option_map_or (take k) o a ≡ option_map_or (take k) o b
+some-any k None a b h = absurd (cc)
+some-any k (Some x) a b h = refl
+
+none-any : (k : ℕ) (o : Option (List ℕ)) (a : List ℕ) → is_some o ≡ false → option_map_or (take k) o a ≡ a
+none-any k None a h = refl
+none-any k (Some x) a h = absurd (cc)
+
+pub returns-then-is_some-clause-value : goal.returns-then-is_some-clause-value
+returns-then-is_some-clause-value g c sound x s =
+    let v = c.args.volume.now in
+    let k : ℕ = c.args.key_length in
+    let key = c.args.key.now in
+    let left : ℕ = c.args.stand.left in
+    let t : List ℕ = cond (left == 0) key (last_key key (entries_in k (block_at v left))) in
+    let own = c.in_ok-own.ensures.value sound (block-order x s) in
+    elim c.then-is_some.either [
+      | inl some ↦ some-any k c.in_ok-own.own key t (sym c.is_some.ensures ∙ some) ∙ own t ∙ sym (stand-greatest k v key c.args.stand s)
+      | inr none ↦
+          (let e : t ≡ key = rw (eq-eqb left 0 none.1) refl in
+          own key ∙ ap (λ (z : List ℕ). greatest_below z key (entries_in k (block_at v c.args.stand.block))) (sym e) ∙ sym (stand-greatest k v key c.args.stand s))
+    ]
+
+pub returns-clause-value : goal.returns-clause-value
+returns-clause-value g c sound x s =
+    let v = c.args.volume.now in
+    let w = c.greatest_in.new.volume in
+    let k : ℕ = c.args.key_length in
+    let key = c.args.key.now in
+    let left : ℕ = c.args.stand.left in
+    let t : List ℕ = cond (left == 0) key (last_key key (entries_in k (block_at v left))) in
+    let own = c.in_ok-own.ensures.value sound (block-order x s) in
+    let read = c.in_ok-own.ensures.read in
+    let now : IsTrue w.is_sound = rw read.call.sound sound in
+    let size = read.call.size in
+    let image = read.image now in
+    let same : block_at w left ≡ block_at v left = rw (size, image) refl in
+    let some : left ≢ 0 = λ z. (let f = c.if-stand-eq0.false in f z) in
+    let e : last_key key (entries_in k (block_at v left)) ≡ t = sym (ap (λ b. cond b key (last_key key (entries_in k (block_at v left)))) (ne_eqb left 0 some)) in
+    c.in_ok-last.ensures.value now (order-same k v w left size image (left-order x s some)) key ∙ ap (λ (b : List ℕ). last_key key (entries_in k b)) same ∙ e
+    ∙ sym (none-any k c.in_ok-own.own t (sym c.is_some.ensures ∙ c.if-is_some.false)) ∙ own t ∙ sym (stand-greatest k v key c.args.stand s)

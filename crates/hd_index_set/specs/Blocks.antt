@@ -1,0 +1,24 @@
+-- Blocks that a search reads, and where it comes to.
+use Rattle.std.specs.Prelude.{◌≡◌, true, ℕ, ◌≤◌, ◌==◌, cond, List}
+use Rattle.hd_bytes.specs.Numbers.{number_at}
+use Rattle.hd_volume.specs.Headers.{header_of}
+use Rattle.hd_volume.specs.Volumes.{VolumeState, block_at, IsKind}
+use Rattle.hd_volume.specs.Entries.{entries_in}
+use Rattle.hd_volume.specs.Indexes.{entry_room, keys_ascend}
+use Rattle.hd_levels.specs.Ways.{leaf_of}
+use Rattle.hd_levels.specs.IndexSets.{index_blocks, top_level}
+use Rattle.hd_levels.specs.Needs.{full_blocks}
+
+-- Block n is an index block with no more entries than find room, and their keys ascend.
+pub record IsInOrder (key_length : ℕ) (v : VolumeState) (n : ℕ) : Type 0 where
+  pub is : IsKind v 2 n
+  pub count : number_at 2 (block_at v n) 4 ≤ entry_room key_length v.size
+  pub ascend : keys_ascend (entries_in key_length (block_at v n)) ≡ true
+
+-- the block of the sequence set that a key leads to from the top, 0 where there is none
+abbrev pub leaf_at : ℕ → VolumeState → List ℕ → ℕ
+leaf_at key_length v key = cond ((header_of v.image).top == 0) 0 (leaf_of (index_blocks key_length v) key (top_level v) (header_of v.image).top)
+
+-- how many blocks are full without a gap, from the sequence set up to block n of a level, where a key leads down from it
+abbrev pub full_down : ℕ → VolumeState → List ℕ → ℕ → ℕ → ℕ
+full_down key_length v key l n = full_blocks (index_blocks key_length v) (entry_room key_length v.size) key l n

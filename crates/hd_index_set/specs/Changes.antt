@@ -1,0 +1,16 @@
+-- The index of a database's volume, and what a change of it leaves.
+use Rattle.std.specs.Prelude.{◌≡◌, List}
+use Rattle.hd_dbd.specs.Hierarchy.{Database}
+use Rattle.hd_volume.specs.Volumes.{VolumeState}
+use Rattle.hd_volume.specs.Entries.{Entry}
+use Rattle.hd_volume.specs.Indexes.{root_key_length}
+use Rattle.hd_levels.specs.IndexSets.{index_entries, HasIndexSet}
+
+-- The volume is of the database's block size, and has an index set for its root keys.
+pub record IsIndexOf (d : Database) (v : VolumeState) : Type 0 where
+  pub size : v.size ≡ d.block_size
+  pub index : HasIndexSet (root_key_length d.types) v
+
+-- the entries of the index of a database's volume, from left to right
+abbrev pub entries_for : Database → VolumeState → List Entry
+entries_for d v = index_entries (root_key_length d.types) v

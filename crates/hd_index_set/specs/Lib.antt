@@ -1,0 +1,5 @@
+pub mod Blocks
+pub mod Changes
+pub mod Searches
+pub mod Stands
+pub mod Greatest

@@ -1,0 +1,143 @@
+ghost use Rattle.std.specs.Prelude.{◌≡◌, ◌≤◌, ◌<◌, take, IsTrue, IfOk};
+ghost use Rattle.hd_bytes.specs.Ranges.{bytes_at};
+ghost use Rattle.hd_dbd.specs.Refusals.{OnlyDevice};
+ghost use Rattle.hd_volume.specs.Volumes.{block_at};
+ghost use Rattle.hd_volume.specs.Calls.{IsRead};
+ghost use Rattle.hd_volume.specs.Entries.{entries_in};
+ghost use Rattle.hd_entries.specs.Fields.{entry_count, entry_place, CountFits};
+ghost use Rattle.hd_entries.specs.Searches.{IfInOrder};
+ghost use Rattle.hd_levels.specs.IndexSets.{HasIndexSet};
+ghost use Rattle.hd_index_set.specs.Blocks.{IsInOrder};
+ghost use Rattle.hd_index_set.specs.Greatest.{IsLastOf, IsGreatestOf, IsGreatestBelow};
+ghost use Rattle.hd_index_set.specs.Stands.{IsStand};
+
+use crate::descend::MOST_LEVELS;
+use crate::look::has_block;
+use crate::stand::{Stand, walk_down};
+use hd_dbd::Refused;
+use hd_entries::{FIRST, IndexBlock};
+use hd_volume::{BlockStore, Volume};
+
+/// The key of an entry, copied to the front.
+fn key_copy(block: &IndexBlock, index: usize) -> [u8; 255]
+    requires { index < entry_count block.now.key_length block.now.bytes.now }
+    ensures { take block.now.key_length result ≡ bytes_at block.now.bytes.now (entry_place block.now.key_length index) block.now.key_length }
+{
+    let mut key = [0; 255];
+    key[..block.key_length].copy_from_slice(block.key(index));
+    key
+}
+
+/// The key of the entry before an index, if there is one, at the front.
+fn key_before(block: &IndexBlock, index: usize) -> Option<[u8; 255]>
+    requires { index ≤ entry_count block.now.key_length block.now.bytes.now }
+    ensures { CountFits block.now.key_length block.now.bytes.now → IsLastOf block.now.key_length result (take index (entries_in block.now.key_length block.now.bytes.now)) }
+{
+    if index == 0 {
+        None
+    } else {
+        Some(key_copy(block, index - 1))
+    }
+}
+
+/// The greatest key below a key among those of the entries, if there is one.
+fn greatest_key(block: &IndexBlock, key: &[u8]) -> Option<[u8; 255]>
+    ensures { IfInOrder block.now.key_length block.now.bytes.now (IsGreatestOf block.now.key_length result key.now (entries_in block.now.key_length block.now.bytes.now)) }
+{
+    key_before(block, block.place_of(key))
+}
+
+/// The last key, if there is an entry.
+fn last_key_of(block: &IndexBlock) -> Option<[u8; 255]>
+    ensures { CountFits block.now.key_length block.now.bytes.now → IsLastOf block.now.key_length result (entries_in block.now.key_length block.now.bytes.now) }
+{
+    key_before(block, block.count())
+}
+
+/// The greatest key below a key among those of a block, if there is one.
+fn greatest_in<S: BlockStore>(
+    volume: &mut Volume<S>,
+    key_length: usize,
+    n: u32,
+    key: &[u8],
+) -> Result<Option<[u8; 255]>, Refused>
+    requires short { key_length ≤ 255 }
+    ensures read { IsRead volume.old result volume.new }
+    ensures value { IfOk result (λ r. IsTrue volume.old.is_sound → IsInOrder key_length volume.old n → IsGreatestOf key_length r key.now (entries_in key_length (block_at volume.old n))) }
+    ensures refusal { OnlyDevice result }
+{
+    if !has_block(volume, n) {
+        return Ok(None);
+    }
+    let bytes = volume.block(n)?;
+    if bytes.len() < FIRST {
+        return Ok(None);
+    }
+    Ok(greatest_key(&IndexBlock { bytes, key_length }, key))
+}
+
+/// The last key of a block, if it has an entry.
+fn last_in<S: BlockStore>(
+    volume: &mut Volume<S>,
+    key_length: usize,
+    n: u32,
+) -> Result<Option<[u8; 255]>, Refused>
+    requires short { key_length ≤ 255 }
+    ensures read { IsRead volume.old result volume.new }
+    ensures value { IfOk result (λ r. IsTrue volume.old.is_sound → IsInOrder key_length volume.old n → IsLastOf key_length r (entries_in key_length (block_at volume.old n))) }
+    ensures refusal { OnlyDevice result }
+{
+    if !has_block(volume, n) {
+        return Ok(None);
+    }
+    let bytes = volume.block(n)?;
+    if bytes.len() < FIRST {
+        return Ok(None);
+    }
+    Ok(last_key_of(&IndexBlock { bytes, key_length }))
+}
+
+/// The greatest key of the index below a key, if there is one, at the front.
+pub fn greatest<S: BlockStore>(
+    volume: &mut Volume<S>,
+    key_length: usize,
+    key: &[u8],
+) -> Result<Option<[u8; 255]>, Refused>
+    requires short { key_length ≤ 255 }
+    ensures read { IsRead volume.old result volume.new }
+    ensures value { IfOk result (λ r. IsTrue volume.old.is_sound → HasIndexSet key_length volume.old → IsGreatestBelow key_length volume.old key.now r) }
+    ensures refusal { OnlyDevice result }
+{
+    let top = volume.top();
+    let height = volume.height();
+    if top == 0 || height == 0 || height > MOST_LEVELS {
+        return Ok(None);
+    }
+    let start = Stand {
+        left: 0,
+        block: top,
+    };
+    let stand = walk_down(volume, key_length, height - 1, start, key)?;
+    let found = greatest_about(volume, key_length, stand, key)?;
+    Ok(found)
+}
+
+/// The greatest key below a key in the block where a walk down by it ended, or else the last one of its left neighbour.
+fn greatest_about<S: BlockStore>(
+    volume: &mut Volume<S>,
+    key_length: usize,
+    stand: Stand,
+    key: &[u8],
+) -> Result<Option<[u8; 255]>, Refused>
+    requires short { key_length ≤ 255 }
+    ensures read { IsRead volume.old result volume.new }
+    ensures value { IfOk result (λ r. IsTrue volume.old.is_sound → HasIndexSet key_length volume.old → IsStand key_length volume.old key.now 0 stand → IsGreatestBelow key_length volume.old key.now r) }
+    ensures refusal { OnlyDevice result }
+{
+    let own = greatest_in(volume, key_length, stand.block, key)?;
+    if own.is_some() || stand.left == 0 {
+        return Ok(own);
+    }
+    let last = last_in(volume, key_length, stand.left)?;
+    Ok(last)
+}

@@ -1,0 +1,86 @@
+ghost use Rattle.std.specs.Prelude.{◌≡◌, ◌≤◌, IsTrue, IfOk};
+ghost use Rattle.hd_dbd.specs.Refusals.{OnlyDevice};
+ghost use Rattle.hd_volume.specs.Calls.{IsRead};
+ghost use Rattle.hd_levels.specs.Maps.{address_of, address_from};
+ghost use Rattle.hd_levels.specs.IndexSets.{index_entries, HasIndexSet};
+ghost use Rattle.hd_index_set.specs.Changes.{IsIndexOf, entries_for};
+ghost use Rattle.hd_index_set.specs.Searches.{IsSightOf};
+
+use crate::descend::leaf;
+use crate::look::{Sight, look, no_sight};
+use hd_dbd::{Dbd, Refused};
+use hd_entries::root_key_length;
+use hd_volume::{BlockStore, Volume};
+
+/// The address of the root of a key, if there is one.
+///
+/// Over a volume without an index it answers something, or `Device`.
+pub fn find<S: BlockStore>(
+    volume: &mut Volume<S>,
+    dbd: &Dbd,
+    key: &[u8],
+) -> Result<Option<u32>, Refused>
+    ensures read { IsRead volume.old result volume.new }
+    ensures value { IfOk result (λ r. IsTrue volume.old.is_sound → IsIndexOf dbd.now volume.old → r ≡ address_of key.now (entries_for dbd.now volume.old)) }
+    ensures refusal { OnlyDevice result }
+{
+    let key_length = root_key_length(dbd);
+    let sight = look_up(volume, key_length, key)?;
+    Ok(sight.equal)
+}
+
+/// The address of the root of the least key that is not below a key, if there is one.
+///
+/// Over a volume without an index it answers something, or `Device`.
+pub fn next_from<S: BlockStore>(
+    volume: &mut Volume<S>,
+    dbd: &Dbd,
+    key: &[u8],
+) -> Result<Option<u32>, Refused>
+    ensures read { IsRead volume.old result volume.new }
+    ensures value { IfOk result (λ r. IsTrue volume.old.is_sound → IsIndexOf dbd.now volume.old → r ≡ address_from key.now (entries_for dbd.now volume.old)) }
+    ensures refusal { OnlyDevice result }
+{
+    let key_length = root_key_length(dbd);
+    let sight = look_up(volume, key_length, key)?;
+    let found = look_on(volume, key_length, sight, key)?;
+    Ok(found)
+}
+
+/// What the block of the sequence set that a key leads to says of it.
+fn look_up<S: BlockStore>(
+    volume: &mut Volume<S>,
+    key_length: usize,
+    key: &[u8],
+) -> Result<Sight, Refused>
+    requires short { key_length ≤ 255 }
+    ensures read { IsRead volume.old result volume.new }
+    ensures value { IfOk result (λ sight. IsTrue volume.old.is_sound → HasIndexSet key_length volume.old → IsSightOf key_length volume.old key.now sight) }
+    ensures refusal { OnlyDevice result }
+{
+    let n = leaf(volume, key_length, key)?;
+    if n == 0 {
+        return Ok(no_sight());
+    }
+    let sight = look(volume, key_length, n, key)?;
+    Ok(sight)
+}
+
+/// The address at the least key that is not below a key, in the block that was looked at or else in the next.
+fn look_on<S: BlockStore>(
+    volume: &mut Volume<S>,
+    key_length: usize,
+    seen: Sight,
+    key: &[u8],
+) -> Result<Option<u32>, Refused>
+    requires short { key_length ≤ 255 }
+    ensures read { IsRead volume.old result volume.new }
+    ensures value { IfOk result (λ r. IsTrue volume.old.is_sound → HasIndexSet key_length volume.old → IsSightOf key_length volume.old key.now seen → r ≡ address_from key.now (index_entries key_length volume.old)) }
+    ensures refusal { OnlyDevice result }
+{
+    if seen.from.is_some() || seen.next == 0 {
+        return Ok(seen.from);
+    }
+    let next = look(volume, key_length, seen.next, key)?;
+    Ok(next.from)
+}
