@@ -1,0 +1,28 @@
+-- The entries of the table as plain texts, and how they are written.
+use Rattle.std.specs.Prelude.{ℕ, List, ◌++◌, drop, length, codes}
+use Rattle.hd_explain.specs.declared.entry.Entry.{Entry}
+use Rattle.hd_explain.specs.declared.entry.Kind.{Kind}
+use Rattle.hd_explain.specs.declared.entry.Kind.TheVariants.{VolumeFault, SourceFault, DeckFault, StreamFault, Status, Refusal, ExitStatus}
+
+-- an entry with its texts as they are read
+abbrev pub plain : {T : Type 0} → Entry T → (T → List ℕ) → Entry (List ℕ)
+plain entry read = record { word = read entry.word; kind = entry.kind; summary = read entry.summary; text = read entry.text }
+
+-- what a word is
+abbrev pub name_of : Kind → List ℕ
+name_of VolumeFault = codes "a fault of a volume"
+name_of SourceFault = codes "a fault of a DBD or PSB source"
+name_of DeckFault = codes "a fault of a deck"
+name_of StreamFault = codes "a fault of an unload stream"
+name_of Status = codes "a status code"
+name_of Refusal = codes "a refusal"
+name_of ExitStatus = codes "an exit status"
+
+-- `GE, a status code: no such segment`, and behind it the text
+abbrev pub entry_text : Entry (List ℕ) → List ℕ
+entry_text entry =
+    (entry.word ++ codes ", " ++ name_of entry.kind) ++ (codes ": " ++ entry.summary ++ codes "\n") ++ (entry.text ++ codes "\n")
+
+-- a word in eight places, and its summary
+abbrev pub list_line : Entry (List ℕ) → List ℕ
+list_line entry = (entry.word ++ drop (length entry.word) (codes "        ")) ++ (entry.summary ++ codes "\n")

@@ -1,0 +1,20 @@
+//! The words that `hd` prints, faults, statuses and refusals, each with its meaning in plain sentences.
+#![tactic(auto)]
+
+mod calls;
+mod decks;
+mod entry;
+mod exits;
+mod sources;
+mod table;
+mod volumes;
+mod writing;
+
+pub use calls::{REFUSALS, STATUS_CODES};
+pub use decks::{DECK_FAULTS, STREAM_FAULTS};
+pub use entry::{Entry, Explanation, Kind};
+pub use exits::EXIT_STATUSES;
+pub use sources::SOURCE_FAULTS;
+pub use table::place_of;
+pub use volumes::VOLUME_FAULTS;
+pub use writing::{write_entry, write_lines};
