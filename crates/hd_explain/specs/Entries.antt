@@ -1,5 +1,6 @@
 -- The entries of the table as plain texts, and how they are written.
-use Rattle.std.specs.Prelude.{ℕ, List, ◌++◌, drop, length, codes}
+use Rattle.std.specs.Prelude.{ℕ, List, ◌++◌, Option, find, map, drop, length, codes}
+use Rattle.std.specs.Str.{str_eq_ignore_ascii_case}
 use Rattle.hd_explain.specs.declared.entry.Entry.{Entry}
 use Rattle.hd_explain.specs.declared.entry.Kind.{Kind}
 use Rattle.hd_explain.specs.declared.entry.Kind.TheVariants.{VolumeFault, SourceFault, DeckFault, StreamFault, Status, Refusal, ExitStatus}
@@ -7,6 +8,14 @@ use Rattle.hd_explain.specs.declared.entry.Kind.TheVariants.{VolumeFault, Source
 -- an entry with its texts as they are read
 abbrev pub plain : {T : Type 0} → Entry T → (T → List ℕ) → Entry (List ℕ)
 plain entry read = record { word = read entry.word; kind = entry.kind; summary = read entry.summary; text = read entry.text }
+
+-- entries with their texts as they are read
+unfoldable pub plains : {T : Type 0} → List (Entry T) → (T → List ℕ) → List (Entry (List ℕ))
+plains entries read = map (λ entry. plain entry read) entries
+
+-- the first entry whose word is this one, but for case
+unfoldable pub entry_of : List ℕ → List (Entry (List ℕ)) → Option (Entry (List ℕ))
+entry_of word entries = find (λ entry. str_eq_ignore_ascii_case entry.word word) entries
 
 -- what a word is
 abbrev pub name_of : Kind → List ℕ
