@@ -1,0 +1,5 @@
+pub mod CallLemmas
+pub mod EditLemmas
+pub mod BlockBytes
+pub mod EntryEdits
+pub mod StepLemmas
