@@ -10,5 +10,6 @@ pub mod Needs
 pub mod Laws
 pub mod VolumeLaws
 pub mod Faultless
+pub mod LevelFaults
 pub mod Worked
 pub mod WorkedVolume

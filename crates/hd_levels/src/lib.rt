@@ -20,5 +20,6 @@ pub use volume_law::{
     law_index_blocks_are_right, law_index_entries_are_below, law_index_entries_ascend,
     law_index_sets_are_faultless, law_index_sets_stay, law_index_tops_are_right, law_indexes_stay,
     law_leaves_answer_for_all, law_left_neighbours_are_named, law_levels_are_of_index_blocks,
-    law_one_level_has_index_set, law_sample_has_index_set,
+    law_names_are_judged, law_one_level_has_index_set, law_reach_is_judged,
+    law_sample_has_index_set,
 };

@@ -1,4 +1,5 @@
 ghost use Rattle.hd_levels.specs.Faultless.{IndexSetsAreFaultless};
+ghost use Rattle.hd_levels.specs.LevelFaults.{NamesAreJudged, ReachIsJudged};
 ghost use Rattle.hd_levels.specs.Neighbours.{LeftNeighboursAreNamed};
 ghost use Rattle.hd_levels.specs.VolumeLaws.{LevelsAreOfIndexBlocks, IndexBlocksAreRight, TopsAreRight, ChildrenAreRight, BlocksAreNamedOnce};
 ghost use Rattle.hd_levels.specs.VolumeLaws.{EntriesAreBelow, EntriesAscend, LeavesAnswerForAll, FewBlocksAreNeeded, IndexSetsStay, IndexesStay};
@@ -67,6 +68,16 @@ pub fn law_indexes_stay()
 /// The volumes that have an index set are those in which a check finds nothing wrong with the index.
 pub fn law_index_sets_are_faultless()
     ensures { IndexSetsAreFaultless }
+{}
+
+/// Just where no index block is named twice, no such fault stands.
+pub fn law_names_are_judged()
+    ensures { NamesAreJudged }
+{}
+
+/// Just where each index block is reached from the top, no fault of an unreached one stands.
+pub fn law_reach_is_judged()
+    ensures { ReachIsJudged }
 {}
 
 /// The sample of the documents, in a volume of version 2 with an index of two levels, has an index set.
