@@ -17,9 +17,9 @@ pub use law::{
 };
 pub use volume_law::{
     law_blocks_are_named_once, law_children_are_right, law_few_blocks_are_needed,
-    law_index_blocks_are_right, law_index_entries_are_below, law_index_entries_ascend,
-    law_index_sets_are_faultless, law_index_sets_stay, law_index_tops_are_right, law_indexes_stay,
-    law_leaves_answer_for_all, law_left_neighbours_are_named, law_levels_are_of_index_blocks,
-    law_names_are_judged, law_one_level_has_index_set, law_reach_is_judged,
-    law_sample_has_index_set,
+    law_forms_are_judged, law_index_blocks_are_right, law_index_entries_are_below,
+    law_index_entries_ascend, law_index_sets_are_faultless, law_index_sets_stay,
+    law_index_tops_are_right, law_indexes_stay, law_leaves_answer_for_all,
+    law_left_neighbours_are_named, law_levels_are_of_index_blocks, law_names_are_judged,
+    law_one_level_has_index_set, law_reach_is_judged, law_sample_has_index_set,
 };

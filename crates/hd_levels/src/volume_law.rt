@@ -1,5 +1,5 @@
 ghost use Rattle.hd_levels.specs.Faultless.{IndexSetsAreFaultless};
-ghost use Rattle.hd_levels.specs.LevelFaults.{NamesAreJudged, ReachIsJudged};
+ghost use Rattle.hd_levels.specs.LevelFaults.{FormsAreJudged, NamesAreJudged, ReachIsJudged};
 ghost use Rattle.hd_levels.specs.Neighbours.{LeftNeighboursAreNamed};
 ghost use Rattle.hd_levels.specs.VolumeLaws.{LevelsAreOfIndexBlocks, IndexBlocksAreRight, TopsAreRight, ChildrenAreRight, BlocksAreNamedOnce};
 ghost use Rattle.hd_levels.specs.VolumeLaws.{EntriesAreBelow, EntriesAscend, LeavesAnswerForAll, FewBlocksAreNeeded, IndexSetsStay, IndexesStay};
@@ -68,6 +68,11 @@ pub fn law_indexes_stay()
 /// The volumes that have an index set are those in which a check finds nothing wrong with the index.
 pub fn law_index_sets_are_faultless()
     ensures { IndexSetsAreFaultless }
+{}
+
+/// Just where top, height and each index block are right, no fault of the form stands.
+pub fn law_forms_are_judged()
+    ensures { FormsAreJudged }
 {}
 
 /// Just where no index block is named twice, no such fault stands.
