@@ -7,6 +7,9 @@ use Rattle.hd_levels.specs.Levels.{IndexBlocks}
 use Rattle.hd_levels.specs.Ways.{child_of}
 use Rattle.hd_levels.specs.Needs.{is_full, full_blocks}
 use Rattle.hd_levels.proofs.Needs.{full-most}
+use Rattle.hd_levels.specs.Needs.{needed_by}
+use Rattle.hd_volume.specs.Volumes.{VolumeState}
+use Rattle.hd_volume.proofs.JoinLemmas.{AreOne}
 
 -- how many are full, where so many are up to a level, and so many without a gap above that
 abbrev pub with_run : ℕ → ℕ → ℕ → ℕ
@@ -52,3 +55,7 @@ full-top full l = by-test (full == suc l)
     by-test : (b : Bool) → full + cond b 0 0 ≡ full
     by-test true = omega arith
     by-test false = omega arith
+
+-- one image needs the same
+pub needed-same : (k : ℕ) (v w : VolumeState) (by : List ℕ) → AreOne v w → needed_by k w by ≡ needed_by k v by
+needed-same k v w by one = λ i. needed_by k (record v { size = one.same.size i; image = one.image i }) by

@@ -1,4 +1,5 @@
 pub mod Places
+pub mod Steps
 pub mod Searching
 pub mod Fronts
 pub mod Standing

@@ -1,5 +1,6 @@
 pub mod Blocks
 pub mod Changes
+pub mod Rooms
 pub mod Searches
 pub mod Stands
 pub mod Greatest

@@ -3,11 +3,18 @@
 #![tactic(auto)]
 
 mod descend;
+mod enter;
+mod first;
 mod greatest;
+mod insertion;
+mod leave;
 mod look;
 mod need;
+mod room;
 mod search;
 mod stand;
 
+pub use insertion::insert;
+pub use leave::remove;
 pub use need::{blocks_needed, growth};
 pub use search::{find, next_from};

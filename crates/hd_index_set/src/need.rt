@@ -6,7 +6,7 @@ ghost use Rattle.hd_volume.specs.Entries.{entries_in};
 ghost use Rattle.hd_volume.specs.Indexes.{entry_room, root_key_length};
 ghost use Rattle.hd_entries.specs.Fields.{CountFits};
 ghost use Rattle.hd_levels.specs.IndexSets.{index_blocks, HasIndexSet};
-ghost use Rattle.hd_levels.specs.Needs.{entry_growth, is_full, set_blocks_needed};
+ghost use Rattle.hd_levels.specs.Needs.{entry_growth, is_full, needed_by, set_blocks_needed};
 ghost use Rattle.hd_levels.specs.VolumeLaws.{IsRightBlock};
 ghost use Rattle.hd_index_set.specs.Blocks.{IsInOrder, full_down};
 ghost use Rattle.hd_index_set.specs.Changes.{IsIndexOf};
@@ -54,19 +54,34 @@ fn blocks_for<S: BlockStore>(
     ensures value { IfOk result (λ n. IsTrue volume.old.is_sound → HasIndexSet key_length volume.old → n ≡ set_blocks_needed key_length volume.old key.now) }
     ensures refusal { OnlyDevice result }
 {
+    let below = greatest(volume, key_length, key)?;
+    let by = key_or(&below, key_length, key);
+    let needed = needed_for(volume, key_length, by)?;
+    Ok(needed)
+}
+
+/// The blocks that an entry needs where a key leads.
+pub fn needed_for<S: BlockStore>(
+    volume: &mut Volume<S>,
+    key_length: usize,
+    by: &[u8],
+) -> Result<u32, Refused>
+    requires short { key_length ≤ 255 }
+    ensures read { IsRead volume.old result volume.new }
+    ensures value { IfOk result (λ n. IsTrue volume.old.is_sound → HasIndexSet key_length volume.old → n ≡ needed_by key_length volume.old by.now) }
+    ensures refusal { OnlyDevice result }
+{
     let top = volume.top();
     let height = volume.height();
     if top == 0 || height == 0 || height > MOST_LEVELS {
         return Ok(1);
     }
-    let below = greatest(volume, key_length, key)?;
-    let by = key_or(&below, key_length, key);
     let full = full_blocks(volume, key_length, height - 1, top, by)?;
     Ok(if full == height { full + 1 } else { full })
 }
 
 /// The key that was found, or else another.
-fn key_or<'k>(found: &'k Option<[u8; 255]>, key_length: usize, key: &'k [u8]) -> &'k [u8]
+pub fn key_or<'k>(found: &'k Option<[u8; 255]>, key_length: usize, key: &'k [u8]) -> &'k [u8]
     requires short { key_length ≤ 255 }
     ensures { result.now ≡ option_map_or (take key_length) found.now key.now }
 {

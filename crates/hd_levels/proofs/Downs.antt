@@ -82,7 +82,7 @@ named-across c m n (x ∷ ns) (inr among) a =
     let A : List ℕ → Type 0 = λ t. IsAmong m t in
     subst A (sym (named-append (c.entries x) (across c ns))) (among-right m (named (c.entries x)) (named (across c ns)) (named-across c m n ns among a))
 
-top-down : (c : IndexBlocks) (l n : ℕ) (ns : List ℕ) → IsAmong n ns → IsAmong n (blocks_down c l ns)
+pub top-down : (c : IndexBlocks) (l n : ℕ) (ns : List ℕ) → IsAmong n ns → IsAmong n (blocks_down c l ns)
 top-down c zero n ns a = a
 top-down c (suc l) n ns a = among-left n ns (blocks_down c l (named (across c ns))) a
 

@@ -5,6 +5,7 @@ pub mod Changes
 pub mod Chains
 pub mod IndexSets
 pub mod Neighbours
+pub mod Parents
 pub mod Linking
 pub mod Needs
 pub mod Laws

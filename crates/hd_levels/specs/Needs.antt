@@ -27,11 +27,14 @@ full_blocks c room key zero n = one_if (is_full c room n)
 full_blocks c room key (suc l) n =
     full_blocks c room key l (child_of key (c.entries n)) + one_if (full_blocks c room key l (child_of key (c.entries n)) == suc l && is_full c room n)
 
--- The blocks that a new key needs in an index set: one where there is no block yet; else one for each full block that is divided, where the
--- greatest key below it leads, and a new top where all are full.
-abbrev pub set_blocks_needed : ℕ → VolumeState → List ℕ → ℕ
-set_blocks_needed key_length v key =
+-- The blocks that an entry needs in an index set where this key leads: one where there is no block yet; else one for each full block that is
+-- divided, and a new top where all are full.
+abbrev pub needed_by : ℕ → VolumeState → List ℕ → ℕ
+needed_by key_length v by =
     cond ((header_of v.image).top == 0) 1
-    (full_blocks (index_blocks key_length v) (entry_room key_length v.size) (greatest_below key key (index_entries key_length v)) (top_level v) (header_of v.image).top
-    + one_if (full_blocks (index_blocks key_length v) (entry_room key_length v.size) (greatest_below key key (index_entries key_length v)) (top_level v) (header_of v.image).top
-    == (header_of v.image).height))
+    (full_blocks (index_blocks key_length v) (entry_room key_length v.size) by (top_level v) (header_of v.image).top
+    + one_if (full_blocks (index_blocks key_length v) (entry_room key_length v.size) by (top_level v) (header_of v.image).top == (header_of v.image).height))
+
+-- A new key goes where the greatest key below it leads, or itself where it is the least of all.
+abbrev pub set_blocks_needed : ℕ → VolumeState → List ℕ → ℕ
+set_blocks_needed key_length v key = needed_by key_length v (greatest_below key key (index_entries key_length v))

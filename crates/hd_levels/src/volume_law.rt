@@ -1,6 +1,7 @@
 ghost use Rattle.hd_levels.specs.Faultless.{IndexSetsAreFaultless};
 ghost use Rattle.hd_levels.specs.LevelFaults.{FormsAreJudged, NamesAreJudged, ReachIsJudged};
 ghost use Rattle.hd_levels.specs.Neighbours.{LeftNeighboursAreNamed};
+ghost use Rattle.hd_levels.specs.Parents.{IndexBlocksArePlaced, PlacedBlocksAreReached};
 ghost use Rattle.hd_levels.specs.VolumeLaws.{LevelsAreOfIndexBlocks, IndexBlocksAreRight, TopsAreRight, ChildrenAreRight, BlocksAreNamedOnce};
 ghost use Rattle.hd_levels.specs.VolumeLaws.{EntriesAreBelow, EntriesAscend, LeavesAnswerForAll, FewBlocksAreNeeded, IndexSetsStay, IndexesStay};
 ghost use Rattle.hd_levels.specs.WorkedVolume.{SampleHasIndexSet, OneLevelHasIndexSet};
@@ -8,6 +9,16 @@ ghost use Rattle.hd_levels.specs.WorkedVolume.{SampleHasIndexSet, OneLevelHasInd
 /// The left neighbour of a block stands before it in the upper block, or last in what the upper block's left neighbour names.
 pub fn law_left_neighbours_are_named()
     ensures { LeftNeighboursAreNamed }
+{}
+
+/// Each index block but the top is named by a block of the level above.
+pub fn law_index_blocks_are_placed()
+    ensures { IndexBlocksArePlaced }
+{}
+
+/// Where each block of an index set is the top or has a parent, the top leads to each.
+pub fn law_placed_blocks_are_reached()
+    ensures { PlacedBlocksAreReached }
 {}
 
 /// The blocks of a volume that have a level are its index blocks.
