@@ -4,3 +4,4 @@ pub mod Searching
 pub mod Fronts
 pub mod Standing
 pub mod Filling
+pub mod Inserting
