@@ -1,19 +1,25 @@
 -- How the changes of an insert follow one another.
-use Rattle.std.proofs.Common.{◌≡◌, ◌⊎◌, inl, inr, ℕ, suc, ◌+◌, ◌-◌, ◌<◌, ◌≤◌, List, IsTrue, refl, sym, ap, ◌∙◌, subst, arith}
+use Rattle.std.proofs.Common.{◌≡◌, ◌⊎◌, inl, inr, ℕ, suc, ◌+◌, ◌-◌, ◌<◌, ◌≤◌, List, IsTrue, Result, Ok, Err, refl, sym, ap, ◌∙◌, subst, arith, ne_eqb}
+use Rattle.std.specs.Prelude.{OnOk, IfErr}
+use Rattle.std.proofs.lemmas.Bool.{eq-eqb}
 use Rattle.hd_dbd.specs.declared.answer.Refused.{Refused}
-use Rattle.hd_dbd.specs.declared.answer.Refused.TheVariants.{Device}
+use Rattle.hd_dbd.specs.declared.answer.Refused.TheVariants.{Memory, Full, Device}
 use Rattle.hd_volume.specs.Headers.{Header, header_of}
 use Rattle.hd_volume.specs.Volumes.{VolumeState, block_at, IsKind, IsFormatted}
-use Rattle.hd_volume.specs.Rooms.{free_blocks, HasFreeBlock}
+use Rattle.hd_volume.specs.Rooms.{spare, free_blocks, HasFreeBlock}
 use Rattle.hd_volume.specs.Entries.{Entry}
 use Rattle.hd_volume.proofs.JoinLemmas.{AreOne, one-kind, one-formatted, one-segments, one-spare, one-holes}
 use Rattle.hd_volume.proofs.KindLemmas.{none-free}
+use Rattle.hd_levels.specs.Maps.{greatest_below, with_entry}
 use Rattle.hd_levels.specs.IndexSets.{index_entries, HasIndexSet}
+use Rattle.hd_levels.specs.Needs.{entry_growth, needed_by, set_blocks_needed}
+use Rattle.hd_levels.proofs.Needs.{few-needed}
 use Rattle.hd_index_edits.specs.Edits.{IsRefused}
 use Rattle.hd_index_edits.proofs.EditLemmas.{one-block-at, one-there}
 use Rattle.hd_index_edits.proofs.StepLemmas.{there-below, count-header, three-header, change-join}
 use Rattle.hd_index_set.specs.Changes.{IsIndexChange, IsChanged}
-use Rattle.hd_index_set.specs.Rooms.{IsReady}
+use Rattle.hd_index_set.specs.Rooms.{IsReady, IsRefusedFor}
+use Rattle.hd_index_set.proofs.Filling.{needed-same}
 use Rattle.hd_index_set.proofs.Searching.{set-same, one-turned}
 
 -- ---- one change behind another
@@ -86,10 +92,99 @@ ready-device needed v w e f ready sound r =
           elim ready.taken [
             | inl room ↦ (let none = r.memory memory in absurd (omega arith))
             | inr free ↦
-                (let no : (HasFreeBlock v → ⊥) = r.no_free memory sound in
-                let none = none-free v.size v.image (header_of v.image).count (λ m some low is. no (m, record { there = there-below v m f.header low; later = omega arith; kind_is = is })) in
+                (let none = none-free v.size v.image (header_of v.image).count
+                (λ m some low is. r.no_free memory sound (m, record { there = there-below v m f.header low; later = omega arith; kind_is = is })) in
                 absurd (omega arith))
           ]
       | inr (inl full) ↦ (let none = r.full full sound in absurd (omega arith))
       | inr (inr device) ↦ device
     ]
+
+-- ---- the parts of an insert
+
+-- a volume with the image of one that has the image of a third
+pub one-after : {u v w : VolumeState} → AreOne u v → AreOne v w → AreOne u w
+one-after a b = record { same = record { size = b.same.size ∙ a.same.size; sizes = b.same.sizes ∙ a.same.sizes }; image = b.image ∙ a.image }
+
+-- an entry that comes in once all blocks that it needs were taken
+pub entered : (k : ℕ) (v p w z : VolumeState) (es : List Entry) (needed : ℕ) → HasIndexSet k v → 0 < v.size → AreOne v p → IsChanged k p (index_entries k p) needed w → IsChanged k w es 0 z
+    → IsChanged k v es needed z
+entered k v p w z es needed x some o taken last =
+    let first = unchanged k v p x o in
+    let both = changed-join k v p w (index_entries k v) (index_entries k p) 0 needed needed x some (omega arith) first taken in
+    changed-join k v w z (index_entries k p) es needed 0 needed x some (omega arith) both last
+
+-- what holds where a call is done, by what held of it
+pub on-ok : {A E P Q : Type 0} (r : Result A E) → OnOk r P → (P → Q) → OnOk r Q
+on-ok (Ok x) p f = f p
+on-ok (Err e) p f = tt
+
+-- and where it is refused
+pub if-err : {A E : Type 0} {P Q : E → Type 0} (r : Result A E) → IfErr r P → ((e : E) → P e → Q e) → IfErr r Q
+if-err (Ok x) p f = tt
+if-err (Err e) p f = f e p
+
+-- the same change, behind a read, where the greatest key below the new one was found
+pub found-change : (k : ℕ) (v u z : VolumeState) (key by : List ℕ) (e : Entry) → HasIndexSet k v → 0 < v.size → AreOne v u → by ≡ greatest_below key key (index_entries k v)
+    → IsChanged k u (with_entry e (index_entries k u)) (needed_by k u by) z → IsChanged k v (with_entry e (index_entries k v)) (set_blocks_needed k v key) z
+found-change k v u z key by e x some o is c =
+    let same = set-same k v u o x in
+    let needed : needed_by k u by ≡ set_blocks_needed k v key = needed-same k v u by o ∙ ap (needed_by k v) is in
+    let C : List Entry → Type 0 = λ es. IsChanged k v (with_entry e es) (set_blocks_needed k v key) z in
+    subst C same.1 (changed-join k v u z (index_entries k v) (with_entry e (index_entries k u)) 0 (needed_by k u by) (set_blocks_needed k v key) x some (omega arith) (unchanged k v u x o) c)
+
+-- ---- what was refused
+
+-- where no block is free, no number of blocks is
+pub no-free : (v : VolumeState) → IsFormatted v → (HasFreeBlock v → ⊥) → free_blocks v ≡ 0
+no-free v f none = none-free v.size v.image (header_of v.image).count (λ m some low is. none (m, record { there = there-below v m f.header low; later = omega arith; kind_is = is }))
+
+-- of an index that has no block one is needed
+pub needed-first : (k : ℕ) (v : VolumeState) (by : List ℕ) → (header_of v.image).top ≡ 0 → needed_by k v by ≡ 1
+needed-first k v by none = rw (eq-eqb (header_of v.image).top 0 none) refl
+
+pub first-refused : (k : ℕ) (v w : VolumeState) (key : List ℕ) (e : Refused) → IsFormatted v → IsTrue v.is_sound → (header_of v.image).top ≡ 0 → IsRefused v e w → IsRefusedFor (set_blocks_needed k v key) v e
+first-refused k v w key e f sound none r =
+    let one : set_blocks_needed k v key ≡ 1 = needed-first k v (greatest_below key key (index_entries k v)) none in
+    record {
+      full = λ is. inl (let z = r.full is sound in omega arith);
+      memory = λ is. (let z = r.memory is in let free = no-free v f (r.no_free is sound) in (omega arith, omega arith));
+    }
+
+pub found-refused : (k : ℕ) (v u : VolumeState) (key by : List ℕ) (e : Refused) → AreOne v u → u.room ≡ v.room → by ≡ greatest_below key key (index_entries k v)
+    → IsRefusedFor (needed_by k u by) u e → IsRefusedFor (set_blocks_needed k v key) v e
+found-refused k v u key by e o room is r =
+    let needed : needed_by k u by ≡ set_blocks_needed k v key = needed-same k v u by o ∙ ap (needed_by k v) is in
+    let spares : spare u ≡ spare v = one-spare o in
+    let free : free_blocks u ≡ free_blocks v = rw (o.same.size, o.image) refl in
+    record {
+      full = λ full. elim (r.full full) [ inl few ↦ inl (omega arith) | inr many ↦ inr (omega arith) ];
+      memory = λ memory. (let m = r.memory memory in let a = m.0 in let b = m.1 in (omega arith, omega arith));
+    }
+
+-- an entry needs no more blocks than there are levels, and a new top
+pub growth-is : (k : ℕ) (v : VolumeState) → HasIndexSet k v → entry_growth v ≡ (header_of v.image).height + 1
+unfolding entry_growth
+growth-is k v x =
+    let two = x.version in
+    rw (ne_eqb (header_of v.image).version 1 (λ e. omega arith)) refl
+
+-- only where the height is 64 more than 64 blocks are needed
+pub highest : (k : ℕ) (v : VolumeState) (key : List ℕ) → HasIndexSet k v → 64 < set_blocks_needed k v key → (header_of v.image).height ≡ 64
+highest k v key x many =
+    let most = few-needed k v key x in
+    let is = growth-is k v x in
+    elim x.height [ inl none ↦ (let z = none.1 in absurd (omega arith)) | inr some ↦ (let high = some.2 in omega arith) ]
+
+pub insert-full : (k : ℕ) (v : VolumeState) (key : List ℕ) (e : Refused) → HasIndexSet k v → IsRefusedFor (set_blocks_needed k v key) v e → e ≡ Full
+    → (spare v < set_blocks_needed k v key) ⊎ ((header_of v.image).height ≡ 64)
+insert-full k v key e x r is = elim (r.full is) [ inl few ↦ inl few | inr many ↦ inr (highest k v key x many) ]
+
+pub insert-memory : (k : ℕ) (v : VolumeState) (key : List ℕ) (e : Refused) → HasIndexSet k v → IsRefusedFor (set_blocks_needed k v key) v e → e ≡ Memory
+    → (v.room < entry_growth v) × (free_blocks v < entry_growth v)
+insert-memory k v key e x r is =
+    let most = few-needed k v key x in
+    let m = r.memory is in
+    let a = m.0 in
+    let b = m.1 in
+    (omega arith, omega arith)
