@@ -4,3 +4,7 @@ pub mod Searching
 pub mod Fronts
 pub mod Standing
 pub mod Filling
+pub mod Parts
+pub mod Heads
+pub mod ReadSteps
+pub mod Halving

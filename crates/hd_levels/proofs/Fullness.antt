@@ -41,9 +41,17 @@ same-more : (below l : ℕ) (full : Bool) → below ≢ suc l → below + one_if
 same-more below l full some = ap (λ (t : Bool). below + one_if (t && full)) (ne_eqb below (suc l) some) ∙ (let e : below + 0 ≡ below = omega arith in e)
 
 -- nor where the block is not full
-same-room : (below l : ℕ) (full : Bool) → full ≡ false → below + one_if (below == suc l && full) ≡ below
+pub same-room : (below l : ℕ) (full : Bool) → full ≡ false → below + one_if (below == suc l && full) ≡ below
 same-room below l full no-more =
     ap (λ (t : Bool). below + one_if (below == suc l && t)) no-more ∙ ap (λ (t : ℕ). below + t) (none-more (below == suc l)) ∙ (let e : below + 0 ≡ below = omega arith in e)
+
+-- a block with fewer entries than find room is not full
+pub not-full : (c : IndexBlocks) (room n : ℕ) → length (c.entries n) < room → is_full c room n ≡ false
+not-full c room n less = by-test (nat_le room (length (c.entries n))) refl
+  where
+    by-test : (b : Bool) → nat_le room (length (c.entries n)) ≡ b → b ≡ false
+    by-test true is = (let e = leb-true room (length (c.entries n)) is in absurd (omega arith))
+    by-test false is = refl
 
 -- ---- the block above the full ones
 
@@ -174,21 +182,14 @@ divided-fewer c d room key l n m p h ns s among child less here low high full =
     ap (full_blocks c room key l) child
     ∙ elim (more-full (full_blocks c room key l (child_of key (c.entries p))) l (suc l) (is_full c room p) full) [ inl r ↦ r.0 | inr r ↦ (let e = r.1 in absurd (omega arith)) ] in
     let free : is_full d room x.half ≡ false = elim x.is [
-      | inl e ↦ ap (is_full d room) e ∙ not-full room (length (d.entries n)) low
-      | inr e ↦ ap (is_full d room) e ∙ not-full room (length (d.entries m)) high
+      | inl e ↦ ap (is_full d room) e ∙ not-full d room n low
+      | inr e ↦ ap (is_full d room) e ∙ not-full d room m high
     ]
     in
     let below = at-half l s all x.half free x.on h.lower in
     ap (λ (i : ℕ). full_blocks d room key l i + one_if (full_blocks d room key l i == suc l && is_full d room p)) x.leads
     ∙ same-more (full_blocks d room key l x.half) l (is_full d room p) (λ e. omega arith) ∙ below
   where
-    not-full : (room length : ℕ) → length < room → nat_le room length ≡ false
-    not-full room length less = by-test (nat_le room length) refl
-      where
-        by-test : (b : Bool) → nat_le room length ≡ b → b ≡ false
-        by-test true is = (let e = leb-true room length is in absurd (omega arith))
-        by-test false is = refl
-
     at-half : (i : ℕ) → IsIndexSet c i ns → full_blocks c room key i n ≡ suc i → (x : ℕ) → is_full d room x ≡ false → child_of key (d.entries x) ≡ child_of key (c.entries n) → LowerStay c d i
         → full_blocks d room key i x ≡ i
     at-half zero s all x free on lower = ap one_if free
