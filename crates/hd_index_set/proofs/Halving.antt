@@ -273,6 +273,7 @@ module _ (k : ℕ) {u w : VolumeState} (by : List ℕ) (l p : ℕ) (lead : Lead)
 
   -- under the parent one fewer is full
   full-below : full_blocks (index_blocks k w) (entry_room k u.size) by (suc l) p ≡ l
+  unfolding is-divided
   full-below =
       let c : IndexBlocks = index_blocks k u in
       let ups : List Entry = entries_in k (block_at u p) in

@@ -8,3 +8,5 @@ pub mod Parts
 pub mod Heads
 pub mod ReadSteps
 pub mod Halving
+pub mod Under
+pub mod Tops

@@ -1,11 +1,14 @@
 -- The entries of a block about one of them.
-use Rattle.std.proofs.Common.{◌≡◌, ◌⊎◌, inl, inr, ℕ, zero, suc, ◌+◌, ◌-◌, ◌<◌, ◌≤◌, Bool, true, false, cond, List, [], ◌∷◌, ◌++◌, length, take, drop, Some, refl, sym, ap, ◌∙◌, subst, arith}
+use Rattle.std.proofs.Common.{◌≡◌, ◌≢◌, ◌⊎◌, inl, inr, ℕ, zero, suc, ◌+◌, ◌-◌, ◌*◌, ◌<◌, ◌≤◌, Bool, true, false, cond, List, [], ◌∷◌, ◌++◌, length, take, drop, Some, refl, sym, ap, ◌∙◌, subst, arith}
 use Rattle.std.specs.Prelude.{slice_get, min}
 use Rattle.std.proofs.lemmas.Bool.{cases_lt}
-use Rattle.hd_volume.specs.Entries.{Entry}
+use Rattle.hd_bytes.specs.Ranges.{bytes_at}
+use Rattle.hd_bytes.proofs.BlockLemmas.{length-bytes_at}
+use Rattle.hd_volume.specs.Entries.{Entry, entries_at}
 use Rattle.hd_volume.specs.Indexes.{key_less}
 use Rattle.hd_entries.specs.Fields.{below_count}
 use Rattle.hd_levels.specs.Levels.{AreBelow}
+use Rattle.hd_levels.specs.Maps.{last_key}
 use Rattle.hd_index_edits.specs.Blocks.{with_entry_at, with_key_at}
 
 -- before it, itself, and behind it
@@ -78,3 +81,32 @@ put-behind [] zero e new back len = refl
 put-behind [] (suc i) e new back len = absurd (omega arith)
 put-behind (x ∷ front) zero e new back len = absurd (omega arith)
 put-behind (x ∷ front) (suc i) e new back len = ap (λ (t : List Entry). x ∷ t) (put-behind front i e new back (omega arith))
+
+-- as many as there were
+pub length-with-key : (es : List Entry) (i : ℕ) (key : List ℕ) → length (with_key_at i key es) ≡ length es
+length-with-key [] i key = refl
+length-with-key (x ∷ xs) zero key = refl
+length-with-key (x ∷ xs) (suc i) key = ap suc (length-with-key xs i key)
+
+-- ---- the last entry
+
+-- The entries end with one.
+pub record HasLast (es : List Entry) : Type 0 where
+  pub before : List Entry
+  pub last : Entry
+  pub is : es ≡ before ++ (last ∷ [])
+  pub key : (other : List ℕ) → last_key other es ≡ last.key
+
+pub last-of-some : (es : List Entry) → es ≢ [] → HasLast es
+last-of-some [] some = absurd (some refl)
+last-of-some (e ∷ []) some = record { before = []; last = e; is = refl; key = λ other. refl }
+last-of-some (e ∷ f ∷ es) some =
+    let rest = last-of-some (f ∷ es) (λ no-more. cc) in
+    record { before = e ∷ rest.before; last = rest.last; is = ap (λ (t : List Entry). e ∷ t) rest.is; key = λ other. rest.key e.key }
+
+-- a key in a block is of the keys' length, and so is the last one
+pub last-length : (k : ℕ) (b : List ℕ) (p n : ℕ) (other : List ℕ) → p + n * (k + 4) ≤ length b → length other ≡ k → length (last_key other (entries_at k b p n)) ≡ k
+last-length k b p zero other fits whole = whole
+last-length k b p (suc n) other fits whole =
+    let more : suc n * (k + 4) ≡ k + 4 + n * (k + 4) = omega arith in
+    last-length k b (p + k + 4) n (bytes_at b p k) (omega arith) (length-bytes_at b p k (omega arith))

@@ -1,4 +1,4 @@
-ghost use Rattle.std.specs.Prelude.{◌≡◌, ◌+◌, ◌≤◌, ◌<◌, suc, IsTrue, IfOk, IfErr, OnOk};
+ghost use Rattle.std.specs.Prelude.{◌≡◌, ◌+◌, ◌≤◌, ◌<◌, suc, take, length, IsTrue, IfOk, IfErr, OnOk};
 ghost use Rattle.hd_bytes.specs.Numbers.{number_at};
 ghost use Rattle.hd_dbd.specs.Refusals.{OnlyDevice};
 ghost use Rattle.hd_volume.specs.Volumes.{IsFormatted, block_at};
@@ -143,6 +143,15 @@ pub fn cut_of<S: BlockStore>(
     Ok(cut_in(&IndexBlock { bytes, key_length }, by))
 }
 
+/// A key, without the bytes behind it.
+fn front_of(key: &[u8; 255], key_length: usize) -> &[u8]
+    requires short { key_length ≤ 255 }
+    ensures value { result.now ≡ take key_length key.now }
+    ensures len { length result.now ≡ key_length }
+{
+    &key[..key_length]
+}
+
 /// Divides the block of a level that an entry names under that entry's block, which has room.
 pub fn divide_under<S: BlockStore>(
     volume: &mut Volume<S>,
@@ -173,13 +182,13 @@ pub fn divide_under<S: BlockStore>(
     let m = divide(
         volume, key_length, level, lead.child, cut.half, cut.count, cut.next,
     )?;
-    set_entry_key(volume, p, lead.index, lead.count, &cut.key[..key_length])?;
+    set_entry_key(volume, p, lead.index, lead.count, front_of(&cut.key, key_length))?;
     add_entry(
         volume,
         p,
         lead.index + 1,
         lead.count,
-        &lead.key[..key_length],
+        front_of(&lead.key, key_length),
         m,
     )
 }
