@@ -1,8 +1,8 @@
 -- A block divided under its parent, which has room: the index stays, and one block fewer is needed where the key leads.
-use Rattle.std.proofs.Common.{◌≡◌, ◌≢◌, ◌⊎◌, inl, inr, ℕ, zero, suc, ◌+◌, ◌-◌, ◌<◌, ◌≤◌, ◌==◌, cond, Bool, List, [], ◌∷◌, ◌++◌, length, take, drop, Some, slice_index, refl, sym, ap, ◌∙◌, subst, arith, ne_eqb}
+use Rattle.std.proofs.Common.{◌≡◌, ◌≢◌, ◌⊎◌, inl, inr, ℕ, zero, suc, ◌+◌, ◌-◌, ◌<◌, ◌≤◌, ◌==◌, cond, Bool, true, List, [], ◌∷◌, ◌++◌, length, take, drop, Some, slice_index, refl, sym, ap, ◌∙◌, subst, arith, ne_eqb}
 use Rattle.std.specs.Prelude.{slice_get, min}
 use Rattle.std.specs.Option.{option_map}
-use Rattle.std.proofs.lemmas.Bool.{cases_eq, eq-eqb}
+use Rattle.std.proofs.lemmas.Bool.{cases_eq, cases_lt, eq-eqb, leb-true, le-leb}
 use Rattle.std.proofs.lemmas.List.{length-take-le, length-drop}
 use Rattle.hd_bytes.specs.Numbers.{number_at}
 use Rattle.hd_volume.specs.Headers.{Header, header_of}
@@ -10,7 +10,9 @@ use Rattle.hd_volume.specs.Rooms.{one_if}
 use Rattle.hd_volume.specs.Volumes.{VolumeState, block_at, IsKind}
 use Rattle.hd_volume.specs.Entries.{Entry, entries_in}
 use Rattle.hd_volume.specs.Indexes.{entry_room, key_less, IsAmong}
-use Rattle.hd_entries.specs.Fields.{below_count}
+use Rattle.hd_volume.proofs.JoinLemmas.{AreOne}
+use Rattle.hd_entries.specs.Fields.{entry_place, below_count}
+use Rattle.hd_entries.proofs.RoomLemmas.{room-most}
 use Rattle.hd_entries.proofs.BlockLemmas.{length-entries, get-within}
 use Rattle.hd_levels.specs.Levels.{IndexBlocks, across, named, entries_below, AreBelow, IsIndexSet}
 use Rattle.hd_levels.specs.Ways.{child_of, leaf_of, IsAround}
@@ -28,11 +30,14 @@ use Rattle.hd_levels.proofs.Dividing as dividing
 use Rattle.hd_levels.proofs.Linking.{divisions-linked}
 use Rattle.hd_levels.proofs.Parents.{index-blocks-placed}
 use Rattle.hd_levels.proofs.Paths.{change-lifted, around-below, leaf-upper}
-use Rattle.hd_levels.proofs.Fullness.{full-above, divided-fewer}
+use Rattle.hd_levels.proofs.Fullness.{full-block, child-full, full-above, divided-fewer}
 use Rattle.hd_levels.proofs.Placing.{divided-placed}
 use Rattle.hd_index_set.specs.declared.dividing.Lead.{Lead}
 use Rattle.hd_index_set.specs.declared.dividing.Cut.{Cut}
 use Rattle.hd_index_set.specs.Divisions.{IsLowestRoom, IsLeadOf, IsCutOf, IsDividedUnder, IsRoomMade}
+use Rattle.hd_index_edits.proofs.EditLemmas.{one-block-at}
+use Rattle.hd_index_set.specs.Blocks.{IsInOrder}
+use Rattle.hd_index_set.proofs.Searching.{right-order, right-same}
 use Rattle.hd_index_set.proofs.Places.{child-here}
 use Rattle.hd_index_set.proofs.Parts.{parts, take-more, drop-some, lead-parts}
 use Rattle.hd_index_set.proofs.Steps.{same-block, borne, assembled}
@@ -71,21 +76,70 @@ full-known k v by x some =
       | inr other ↦ (let n = needed-some k v by all (λ e. omega arith) refl other in inr (sym n, omega arith))
     ]
 
+-- ---- what is read for it
+
+-- the entry leads where the key does
+lead-child : (k : ℕ) (u : VolumeState) (by : List ℕ) (p : ℕ) (lead : Lead) → IsLeadOf k by (block_at u p) lead → lead.child ≡ child_of by (entries_in k (block_at u p))
+lead-child k u by p lead leads =
+    let ups : List Entry = entries_in k (block_at u p) in
+    let len = length-entries k (block_at u p) 12 (number_at 2 (block_at u p) 4) in
+    let index = leads.index in
+    let at : lead.index ≡ min (below_count by ups) (length ups - 1) = omega arith in
+    child-here by ups lead.index (record { key = take k lead.key; address = lead.child }) at leads.at.entry
+
+lead-right : (k : ℕ) (u : VolumeState) (by : List ℕ) (l p : ℕ) (lead : Lead) → HasIndexSet k u → IsRightBlock k u (suc l) p → IsLeadOf k by (block_at u p) lead → IsRightBlock k u l lead.child
+lead-right k u by l p lead x right leads =
+    let R : ℕ → Type 0 = λ i. IsRightBlock k u l i in
+    subst R (sym (lead-child k u by p lead leads)) (children-right k u by l p x right)
+
+-- All that the division asks.
+pub record IsReadyFor (k : ℕ) (u : VolumeState) (by : List ℕ) (l p : ℕ) (lead : Lead) (cut : Cut) : Type 0 where
+  pub leads : IsLeadOf k by (block_at u p) lead
+  pub cuts : IsCutOf k (block_at u lead.child) cut
+  pub right : IsRightBlock k u l lead.child
+  pub index : lead.index < lead.count
+  pub free : lead.count < entry_room k u.size
+  pub within : cut.count ≤ entry_room k u.size
+
+-- Under the lowest block that has room, the full block where the key leads may be divided.
+pub ready-for : (k : ℕ) (u v : VolumeState) (by : List ℕ) (l p : ℕ) (lead : Lead) (cut : Cut) → AreOne u v → HasIndexSet k u → IsLowestRoom k u by l p → entry_place k 3 ≤ u.size
+    → (IsInOrder k u p → 0 < number_at 2 (block_at u p) 4 → IsLeadOf k by (block_at u p) lead)
+    → (IsInOrder k v lead.child → 2 ≤ number_at 2 (block_at v lead.child) 4 → IsCutOf k (block_at v lead.child) cut) → IsReadyFor k u by l p lead cut
+ready-for k u v by l p lead cut o x r three lead-read cut-read =
+    let room : ℕ = entry_room k u.size in
+    let leads = lead-read (right-order k u (suc l) p r.right) r.right.some in
+    let right = lead-right k u by l p lead x r.right leads in
+    let fits : 3 ≤ room = room-most k u.size 3 three in
+    let len-p : length (entries_in k (block_at u p)) ≡ number_at 2 (block_at u p) 4 = length-entries k (block_at u p) 12 (number_at 2 (block_at u p) 4) in
+    let len-n : length (entries_in k (block_at u lead.child)) ≡ number_at 2 (block_at u lead.child) 4 = length-entries k (block_at u lead.child) 12 (number_at 2 (block_at u lead.child) 4) in
+    let all = ap (full_blocks (index_blocks k u) room by l) (lead-child k u by p lead leads) ∙ child-full (index_blocks k u) room by l p r.full in
+    let full : room ≤ length (entries_in k (block_at u lead.child)) = leb-true room (length (entries_in k (block_at u lead.child))) (full-block (index_blocks k u) room by l lead.child all) in
+    let some = r.right.some in
+    let count = leads.at.count in
+    let index = leads.index in
+    let same = one-block-at o lead.child in
+    let C : List ℕ → Type 0 = λ b. IsCutOf k b cut in
+    let N : List ℕ → Type 0 = λ b. 2 ≤ number_at 2 b 4 in
+    let two : N (block_at v lead.child) = subst N (sym same) (let e : 2 ≤ number_at 2 (block_at u lead.child) 4 = omega arith in e) in
+    let cuts = subst C same (cut-read (right-order k v l lead.child (right-same k u v l lead.child o right)) two) in
+    let cut-count = cuts.count in
+    let most = right.count in
+    let free : length (entries_in k (block_at u p)) < room = elim (cases_lt (length (entries_in k (block_at u p))) room) [
+      | inl less ↦ less
+      | inr past ↦ (let e : is_full (index_blocks k u) room p ≡ true = le-leb room (length (entries_in k (block_at u p))) (omega arith) in let f = sym e ∙ r.free in absurd (cc))
+    ]
+    in
+    record { leads = leads; cuts = cuts; right = right; index = omega arith; free = omega arith; within = omega arith }
+
 -- ---- the division
 
 module _ (k : ℕ) {u w : VolumeState} (by : List ℕ) (l p : ℕ) (lead : Lead) (cut : Cut) (x : HasIndexSet k u) (some : 0 < (header_of u.image).top) (r : IsLowestRoom k u by l p)
     (leads : IsLeadOf k by (block_at u p) lead) (cuts : IsCutOf k (block_at u lead.child) cut) (h : IsDividedUnder k u l p lead cut w) where
-  -- the entry leads where the key does
   child-is : lead.child ≡ child_of by (entries_in k (block_at u p))
-  child-is =
-      let ups : List Entry = entries_in k (block_at u p) in
-      let len = length-entries k (block_at u p) 12 (number_at 2 (block_at u p) 4) in
-      let index = leads.index in
-      let at : lead.index ≡ min (below_count by ups) (length ups - 1) = omega arith in
-      child-here by ups lead.index (record { key = take k lead.key; address = lead.child }) at leads.at.entry
+  child-is = lead-child k u by p lead leads
 
   right-child : IsRightBlock k u l lead.child
-  right-child = (let R : ℕ → Type 0 = λ i. IsRightBlock k u l i in subst R (sym child-is) (children-right k u by l p x r.right))
+  right-child = lead-right k u by l p lead x r.right leads
 
   level-upper : level_in u p ≡ Some (suc l)
   level-upper = level-of u p r.right.is ∙ ap (λ (i : ℕ). Some i) r.right.level

@@ -82,6 +82,27 @@ room-found c room key f (suc steps) (suc i) n e is =
       | inr r ↦ (let x = r.1 in absurd (omega arith))
     ]
 
+-- where all are up to a block, it is
+pub full-block : (c : IndexBlocks) (room : ℕ) (key : List ℕ) (l n : ℕ) → full_blocks c room key l n ≡ suc l → is_full c room n ≡ true
+full-block c room key zero n all = by-full (is_full c room n) all
+  where
+    by-full : (b : Bool) → one_if b ≡ 1 → b ≡ true
+    by-full true e = refl
+    by-full false e = absurd (omega arith)
+full-block c room key (suc l) n all = by-full (is_full c room n) refl
+  where
+    by-full : (b : Bool) → is_full c room n ≡ b → b ≡ true
+    by-full true is = refl
+    by-full false is =
+        let most = full-most c room key l (child_of key (c.entries n)) in
+        let same = same-room (full_blocks c room key l (child_of key (c.entries n))) l (is_full c room n) is in
+        absurd (omega arith)
+
+-- and where all are but a block, all below it are
+pub child-full : (c : IndexBlocks) (room : ℕ) (key : List ℕ) (l p : ℕ) → full_blocks c room key (suc l) p ≡ suc l → full_blocks c room key l (child_of key (c.entries p)) ≡ suc l
+child-full c room key l p full =
+    elim (more-full (full_blocks c room key l (child_of key (c.entries p))) l (suc l) (is_full c room p) full) [ inl r ↦ r.0 | inr r ↦ (let e = r.1 in absurd (omega arith)) ]
+
 -- where a block of a level is not full, so many are full above it too
 pub full-above : (c : IndexBlocks) (room : ℕ) (key : List ℕ) (f j : ℕ) → f ≤ j → (steps i n : ℕ) → i ≡ steps + j → full_blocks c room key j (leaf_of c key steps n) ≡ f → full_blocks c room key i n ≡ f
 full-above c room key f j low zero i n e is = (let F : ℕ → Type 0 = λ t. full_blocks c room key t n ≡ f in subst F (sym (let e' : i ≡ j = omega arith in e')) is)
@@ -179,8 +200,7 @@ divided-fewer c d room key l n m p h ns s among child less here low high full =
     let o = of-level c l n ns s among in
     let x = half-led c d key l n m p h less here o.ascend in
     let all : full_blocks c room key l n ≡ suc l =
-    ap (full_blocks c room key l) child
-    ∙ elim (more-full (full_blocks c room key l (child_of key (c.entries p))) l (suc l) (is_full c room p) full) [ inl r ↦ r.0 | inr r ↦ (let e = r.1 in absurd (omega arith)) ] in
+    ap (full_blocks c room key l) child ∙ child-full c room key l p full in
     let free : is_full d room x.half ≡ false = elim x.is [
       | inl e ↦ ap (is_full d room) e ∙ not-full d room n low
       | inr e ↦ ap (is_full d room) e ∙ not-full d room m high
