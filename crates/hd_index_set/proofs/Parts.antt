@@ -61,13 +61,16 @@ at-count key (x ∷ xs) e h = by-test (key_less x.key key) refl h (at-count key 
 -- about the entry that a key leads to
 pub lead-parts : (key : List ℕ) (es : List Entry) (i : ℕ) (e : Entry) → i ≡ min (below_count key es) (length es - 1) → slice_get es i ≡ Some e
     → AreBelow key (take i es) × ((key_less e.key key ≡ false) ⊎ (drop (suc i) es ≡ []))
-lead-parts key es i e index there = (front-below key es i (omega arith), elim (cases_lt (below_count key es) (length es)) [
-  | inl less ↦
-      (let same : i ≡ below_count key es = omega arith in
-      let G : ℕ → Type 0 = λ t. slice_get es t ≡ Some e in
-      inl (at-count key es e (subst G same there)))
-  | inr past ↦ inr (drop-past es (suc i) (omega arith))
-])
+lead-parts key es i e index there = (
+  front-below key es i (omega arith),
+  elim (cases_lt (below_count key es) (length es)) [
+    | inl less ↦
+        (let same : i ≡ below_count key es = omega arith in
+        let G : ℕ → Type 0 = λ t. slice_get es t ≡ Some e in
+        inl (at-count key es e (subst G same there)))
+    | inr past ↦ inr (drop-past es (suc i) (omega arith))
+  ],
+)
 
 -- ---- an entry changed, and one put behind it
 

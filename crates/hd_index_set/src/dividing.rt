@@ -79,7 +79,11 @@ fn half_of(index: usize, count: usize) -> usize
     ensures some { 0 < result }
     ensures less { result < count }
 {
-    if index >= count - 1 { count - 1 } else { count / 2 }
+    if index >= count - 1 {
+        count - 1
+    } else {
+        count / 2
+    }
 }
 
 /// How a block is divided where a key leads to it.
@@ -182,7 +186,13 @@ pub fn divide_under<S: BlockStore>(
     let m = divide(
         volume, key_length, level, lead.child, cut.half, cut.count, cut.next,
     )?;
-    set_entry_key(volume, p, lead.index, lead.count, front_of(&cut.key, key_length))?;
+    set_entry_key(
+        volume,
+        p,
+        lead.index,
+        lead.count,
+        front_of(&cut.key, key_length),
+    )?;
     add_entry(
         volume,
         p,

@@ -59,8 +59,7 @@ returns-clause-value g c sound x above h =
     let k = c.args.key_length in
     let done : c.args.levels - c.loop.counter ≡ 0 = (let t = c.loop-test.false in omega arith) in
     let R : ℕ → Type 0 = λ l. IsRightBlock k v l c.loop.below in
-    let end : c.args.levels - c.loop.counter + above ≡ above = omega arith in
-    (
+    let end : c.args.levels - c.loop.counter + above ≡ above = omega arith in (
       ap (λ (l : ℕ). leaf_of (index_blocks k v) c.args.key.now l c.loop.below) (sym done) ∙ c.loop.invariant.same sound x above h,
       subst R end (c.loop.invariant.right sound x above h),
     )
