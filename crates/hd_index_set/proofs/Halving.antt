@@ -1,6 +1,6 @@
 -- A block divided under its parent, which has room: the index stays, and one block fewer is needed where the key leads.
-use Rattle.std.proofs.Common.{◌≡◌, ◌≢◌, ◌⊎◌, inl, inr, ℕ, zero, suc, ◌+◌, ◌-◌, ◌<◌, ◌≤◌, ◌==◌, cond, Bool, true, List, [], ◌∷◌, ◌++◌, length, take, drop, Some, slice_index, refl, sym, ap, ◌∙◌, subst, arith, ne_eqb}
-use Rattle.std.specs.Prelude.{slice_get, min}
+use Rattle.std.proofs.Common.{◌≡◌, ◌≢◌, ◌⊎◌, inl, inr, ℕ, suc, ◌+◌, ◌-◌, ◌<◌, ◌≤◌, ◌==◌, cond, Bool, true, List, [], ◌∷◌, ◌++◌, length, take, drop, Some, slice_index, refl, sym, ap, ◌∙◌, subst, arith, ne_eqb}
+use Rattle.std.specs.Prelude.{min}
 use Rattle.std.specs.Option.{option_map}
 use Rattle.std.proofs.lemmas.Bool.{cases_eq, cases_lt, eq-eqb, leb-true, le-leb}
 use Rattle.std.proofs.lemmas.List.{length-take-le, length-drop}
@@ -9,14 +9,14 @@ use Rattle.hd_volume.specs.Headers.{Header, header_of}
 use Rattle.hd_volume.specs.Rooms.{one_if}
 use Rattle.hd_volume.specs.Volumes.{VolumeState, block_at, IsKind}
 use Rattle.hd_volume.specs.Entries.{Entry, entries_in}
-use Rattle.hd_volume.specs.Indexes.{entry_room, key_less, IsAmong}
+use Rattle.hd_volume.specs.Indexes.{entry_room, IsAmong}
 use Rattle.hd_volume.proofs.JoinLemmas.{AreOne}
 use Rattle.hd_entries.specs.Fields.{entry_place, below_count}
 use Rattle.hd_entries.proofs.RoomLemmas.{room-most}
 use Rattle.hd_entries.proofs.BlockLemmas.{length-entries, get-within}
-use Rattle.hd_levels.specs.Levels.{IndexBlocks, across, named, entries_below, AreBelow, IsIndexSet}
-use Rattle.hd_levels.specs.Ways.{child_of, leaf_of, IsAround}
-use Rattle.hd_levels.specs.Changes.{Stays, LowerStay, OthersStay, UpperStay, KeepsIndexSet, IsDivided}
+use Rattle.hd_levels.specs.Levels.{IndexBlocks, across, named, entries_below, IsIndexSet}
+use Rattle.hd_levels.specs.Ways.{child_of, IsAround}
+use Rattle.hd_levels.specs.Changes.{Stays, KeepsIndexSet, IsDivided}
 use Rattle.hd_levels.specs.Chains.{AreLevelsLinked}
 use Rattle.hd_levels.specs.Parents.{ArePlaced}
 use Rattle.hd_levels.specs.IndexSets.{level_in, next_in, index_blocks, top_blocks, top_level, index_entries, HasIndexSet}

@@ -1,6 +1,6 @@
 -- A new top: of an index that had no block, or over the old one.
-use Rattle.std.proofs.Common.{◌≡◌, ◌≢◌, ◌⊎◌, inl, inr, ℕ, suc, ◌+◌, ◌-◌, ◌<◌, ◌≤◌, List, [], ◌∷◌, length, Some, slice_index, refl, sym, ap, ◌∙◌, subst, arith}
-use Rattle.std.proofs.lemmas.Bool.{cases_eq, eq-eqb}
+use Rattle.std.proofs.Common.{◌≡◌, inl, inr, ℕ, suc, ◌-◌, ◌<◌, ◌≤◌, List, [], ◌∷◌, length, Some, slice_index, refl, sym, ap, ◌∙◌, subst, arith}
+use Rattle.std.proofs.lemmas.Bool.{eq-eqb}
 use Rattle.hd_bytes.specs.Numbers.{number_at}
 use Rattle.hd_volume.specs.Headers.{Header, header_of}
 use Rattle.hd_volume.specs.Volumes.{VolumeState, block_at, IsKind}
@@ -15,7 +15,7 @@ use Rattle.hd_levels.specs.Changes.{Stays, LowerStay}
 use Rattle.hd_levels.specs.Chains.{AreLevelsLinked}
 use Rattle.hd_levels.specs.Parents.{ArePlaced}
 use Rattle.hd_levels.specs.IndexSets.{level_in, next_in, index_blocks, top_blocks, top_level, index_entries, HasIndexSet}
-use Rattle.hd_levels.specs.Needs.{is_full, full_blocks, needed_by}
+use Rattle.hd_levels.specs.Needs.{is_full, full_blocks}
 use Rattle.hd_levels.proofs.Levels.{nil}
 use Rattle.hd_levels.proofs.Volumes.{level-of, level-kind, some-count, entries-below, none-down, top-is, tops-right}
 use Rattle.hd_levels.proofs.Dividing.{topped}
@@ -26,7 +26,7 @@ use Rattle.hd_levels.proofs.Placing.{topped-placed}
 use Rattle.hd_index_edits.specs.Blocks.{Bears}
 use Rattle.hd_index_set.specs.Changes.{IsChanged}
 use Rattle.hd_index_set.specs.Divisions.{IsTopBegun, IsRoomMade}
-use Rattle.hd_index_set.proofs.Parts.{HasLast, last-of-some}
+use Rattle.hd_index_set.proofs.Parts.{last-of-some}
 use Rattle.hd_index_set.proofs.Steps.{same-block, assembled}
 use Rattle.hd_index_set.proofs.Halving.{needed-some, needed-all}
 

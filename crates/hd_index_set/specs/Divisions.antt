@@ -5,7 +5,7 @@ use Rattle.hd_bytes.specs.Numbers.{number_at}
 use Rattle.hd_volume.specs.Headers.{header_of}
 use Rattle.hd_volume.specs.Rooms.{spare}
 use Rattle.hd_volume.specs.Volumes.{VolumeState, block_at, IsKind, IsFormatted}
-use Rattle.hd_volume.specs.Entries.{Entry, entries_in}
+use Rattle.hd_volume.specs.Entries.{entries_in}
 use Rattle.hd_entries.specs.Fields.{below_count}
 use Rattle.hd_volume.specs.Indexes.{entry_room}
 use Rattle.hd_levels.specs.Ways.{leaf_of}

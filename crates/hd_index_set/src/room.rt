@@ -1,4 +1,4 @@
-ghost use Rattle.std.specs.Prelude.{◌≡◌, ◌+◌, ◌≤◌, ◌<◌, true, ℕ, IsTrue, length, IfErr, OnOk};
+ghost use Rattle.std.specs.Prelude.{◌≡◌, ◌+◌, ◌≤◌, ◌<◌, true, IsTrue, length, IfErr, OnOk};
 ghost use Rattle.hd_volume.specs.Headers.{header_of};
 ghost use Rattle.hd_volume.specs.Calls.{IsCall};
 ghost use Rattle.hd_entries.specs.Fields.{entry_place};

@@ -1,9 +1,9 @@
-use Rattle.std.proofs.Common.{◌≡◌, ◌+◌, ◌*◌, ◌-◌, ◌<◌, ℕ, take, length, Some, refl, ◌∙◌, arith}
-use Rattle.std.specs.Prelude.{slice_get, min}
+use Rattle.std.proofs.Common.{◌≡◌, ◌+◌, ◌*◌, ◌<◌, ℕ, take, Some, refl, ◌∙◌, arith}
+use Rattle.std.specs.Prelude.{slice_get}
 use Rattle.hd_bytes.specs.Numbers.{number_at}
-use Rattle.hd_volume.specs.Entries.{Entry, entries_in}
+use Rattle.hd_volume.specs.Entries.{entries_in}
 use Rattle.hd_entries.specs.Fields.{below_count}
-use Rattle.hd_entries.proofs.BlockLemmas.{entry_of, length-entries, entry-get}
+use Rattle.hd_entries.proofs.BlockLemmas.{entry_of, entry-get}
 use Rattle.hd_index_set.proofs.dividing.lead_in.Goals as goal
 
 pub returns-then-count-eq0 : goal.returns-then-count-eq0

@@ -1,4 +1,4 @@
-use Rattle.std.proofs.Common.{◌≡◌, ◌+◌, suc, IsTrue, ap, arith}
+use Rattle.std.proofs.Common.{◌≡◌, ◌+◌, IsTrue, ap, arith}
 use Rattle.hd_volume.specs.Volumes.{VolumeState}
 use Rattle.hd_volume.proofs.FrameLemmas.{AreSame}
 use Rattle.hd_index_set.proofs.Heads.{top-begun}

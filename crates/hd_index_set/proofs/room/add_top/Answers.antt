@@ -1,4 +1,4 @@
-use Rattle.std.proofs.Common.{◌≡◌, ◌∙◌, ℕ, ◌+◌, ◌*◌, ◌≤◌, IsTrue, length, ap, sym, subst, arith}
+use Rattle.std.proofs.Common.{◌≡◌, ◌∙◌, ℕ, IsTrue, length, ap, sym, subst, arith}
 use Rattle.hd_bytes.specs.Numbers.{number_at}
 use Rattle.hd_bytes.proofs.BlockLemmas.{length-block}
 use Rattle.hd_entries.proofs.RoomLemmas.{room-within}

@@ -1,15 +1,14 @@
-use Rattle.std.proofs.Common.{◌≡◌, ◌<◌, ◌≤◌, ◌∙◌, ℕ, suc, true, IsTrue, Ok, ap, sym, subst, arith}
+use Rattle.std.proofs.Common.{◌≡◌, ◌∙◌, ℕ, IsTrue, Ok, ap, sym, arith}
 use Rattle.hd_bytes.specs.Numbers.{number_at}
-use Rattle.hd_volume.specs.Volumes.{block_at}
 use Rattle.hd_volume.specs.Indexes.{entry_room}
 use Rattle.hd_volume.proofs.CallSteps.{reads-join}
-use Rattle.hd_volume.proofs.JoinLemmas.{AreOne, one-formatted, read-one}
+use Rattle.hd_volume.proofs.JoinLemmas.{one-formatted, read-one}
 use Rattle.hd_index_edits.proofs.CallLemmas.{on-ok-map}
 use Rattle.hd_index_edits.proofs.EditLemmas.{one-block-at}
 use Rattle.hd_index_set.specs.Divisions.{IsDividedUnder}
 use Rattle.hd_index_set.proofs.Searching.{right-same}
 use Rattle.hd_index_set.proofs.ReadSteps.{divided-before, refused-before}
-use Rattle.hd_index_set.proofs.Halving.{IsReadyFor, ready-for, divided-room}
+use Rattle.hd_index_set.proofs.Halving.{ready-for, divided-room}
 use Rattle.hd_index_set.proofs.room.divide_at.Goals as goal
 
 pub returns-then-not-may_divide-clause-made : goal.returns-then-not-may_divide-clause-made

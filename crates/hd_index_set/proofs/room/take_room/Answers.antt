@@ -1,4 +1,4 @@
-use Rattle.std.proofs.Common.{◌≡◌, ◌<◌, inl, inr, ℕ, IsTrue, sym, ◌∙◌, arith}
+use Rattle.std.proofs.Common.{◌≡◌, inl, inr, sym, ◌∙◌, arith}
 use Rattle.hd_volume.specs.Headers.{header_of}
 use Rattle.hd_index_set.proofs.Halving.{full-known}
 use Rattle.hd_index_set.proofs.room.take_room.Goals as goal
