@@ -10,3 +10,4 @@ pub mod ReadSteps
 pub mod Halving
 pub mod Under
 pub mod Tops
+pub mod Inserting
