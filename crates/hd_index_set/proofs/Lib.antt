@@ -4,4 +4,10 @@ pub mod Searching
 pub mod Fronts
 pub mod Standing
 pub mod Filling
+pub mod Parts
+pub mod Heads
+pub mod ReadSteps
+pub mod Halving
+pub mod Under
+pub mod Tops
 pub mod Inserting
