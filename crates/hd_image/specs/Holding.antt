@@ -8,9 +8,8 @@ use Rattle.hd_dbd.specs.Rows.{key_of}
 use Rattle.hd_dbd.specs.Forest.{Forest, empty, node}
 use Rattle.hd_volume.specs.Headers.{header_of}
 use Rattle.hd_volume.specs.Volumes.{VolumeState, HasKinds}
-use Rattle.hd_volume.specs.Entries.{Entry}
-use Rattle.hd_volume.specs.Indexes.{root_key_length}
-use Rattle.hd_levels.specs.IndexSets.{index_entries, HasIndexOf}
+use Rattle.hd_volume.specs.Entries.{Entry, entries}
+use Rattle.hd_volume.specs.Indexes.{root_key_length, HasIndex}
 use Rattle.hd_links.specs.Placed.{Placed, forest_of, Holds}
 use Rattle.hd_links.specs.Steps.{rows_of}
 use Rattle.hd_image.specs.Records.{links_of, IsVolumeOf}
@@ -28,8 +27,8 @@ pub record HoldsPlaced (d : Database) (v : VolumeState) (placed : Forest Placed)
   pub name : (header_of v.image).name ≡ d.name
   pub block_size : (header_of v.image).block_size ≡ d.block_size
   pub records : Holds d.types (links_of d.types v) placed
-  pub index : HasIndexOf (root_key_length d.types) v
-  pub entries : index_entries (root_key_length d.types) v ≡ root_entries d.types placed
+  pub index : HasIndex (root_key_length d.types) v
+  pub entries : entries (root_key_length d.types) v ≡ root_entries d.types placed
   pub kinds : HasKinds v
 
 -- The volume holds the forest, placed somehow.

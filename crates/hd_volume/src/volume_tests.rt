@@ -185,7 +185,7 @@ fn new_volume(alloc: Global, dbd: &Dbd) -> Option<(u16, u32, u32, Vec<u8>)>
 fn creates_a_volume_of_one_block(rt: HostRuntime) {
     let dbd = database(rt.alloc()).expect(&rt, "a database");
     let (version, count, largest, bytes) = new_volume(rt.alloc(), &dbd).expect(&rt, "a new volume");
-    assert_eq!(rt; (version, count, largest), (2, 1, 16));
+    assert_eq!(rt; (version, count, largest), (1, 1, 16));
     assert_eq!(rt; bytes.len(), 128);
     assert_eq!(rt;
         bytes.get(..28),
