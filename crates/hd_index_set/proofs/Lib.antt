@@ -4,3 +4,7 @@ pub mod Searching
 pub mod Fronts
 pub mod Standing
 pub mod Filling
+pub mod Naming
+pub mod Coming
+pub mod Edited
+pub mod Comings
