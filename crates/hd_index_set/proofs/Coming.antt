@@ -31,7 +31,7 @@ not-self k = by-test (key_less k k) refl
 
 -- as many steps as there are levels above
 pub way-steps : (c : IndexBlocks) (h top : ℕ) (key : List ℕ) (steps l : ℕ) (left : List ℕ) (n : ℕ) (right : List ℕ) → IsWayDown c h top key steps l left n right → steps + l ≡ h
-way-steps c h top key zero l left n right way = way.0
+way-steps c h top key zero l left n right way = (let e = way.0 in omega arith)
 way-steps c h top key (suc steps) l left n right way =
     let up = way-steps c h top key steps (suc l) way.0 way.1 way.2 way.7 in
     omega arith
