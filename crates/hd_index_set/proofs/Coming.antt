@@ -1,16 +1,15 @@
 -- Where a new key comes in: the leaf at the end of the way, and its place there.
-use Rattle.std.proofs.Common.{◌≡◌, ◌⊎◌, inl, inr, ℕ, zero, suc, ◌+◌, ◌<◌, ◌==◌, ◌&&◌, Bool, true, false, cond, List, [], ◌∷◌, ◌++◌, length, take, drop, Some, None, refl, sym, ap, ◌∙◌, subst, arith}
+use Rattle.std.proofs.Common.{◌≡◌, ℕ, zero, suc, ◌+◌, ◌<◌, ◌==◌, ◌&&◌, Bool, true, false, cond, List, [], ◌∷◌, ◌++◌, length, Some, None, refl, sym, ap, ◌∙◌, subst, arith}
 use Rattle.std.specs.Prelude.{bytes_eq, nat_le}
-use Rattle.std.proofs.lemmas.Bool.{cases_eq}
 use Rattle.hd_volume.specs.Rooms.{one_if}
 use Rattle.hd_volume.specs.Entries.{Entry}
 use Rattle.hd_volume.specs.Indexes.{key_less, is_below_first, IsAmong}
 use Rattle.hd_volume.proofs.KeyLemmas.{less-not}
 use Rattle.hd_entries.specs.Fields.{below_count}
 use Rattle.hd_levels.specs.Maps.{address_of, with_entry}
-use Rattle.hd_levels.specs.Levels.{IndexBlocks, across, named, entries_below, AreBelow, IsIndexSet}
+use Rattle.hd_levels.specs.Levels.{IndexBlocks, across, named, AreBelow, IsIndexSet}
 use Rattle.hd_levels.specs.Ways.{child_of, leaf_of, IsAround, IsNamed, IsWayDown}
-use Rattle.hd_levels.specs.Changes.{LowerStay, OthersStay, StayBelow}
+use Rattle.hd_levels.specs.Changes.{LowerStay, OthersStay}
 use Rattle.hd_levels.specs.Needs.{is_full, full_blocks}
 use Rattle.hd_levels.proofs.Keys.{less-self, not-less}
 use Rattle.hd_levels.proofs.Levels.{same-below, same-parts, on-parts, stay-across, set-stays}

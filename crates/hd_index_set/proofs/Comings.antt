@@ -1,5 +1,5 @@
 -- A new key on its way down an index set, step by step.
-use Rattle.std.proofs.Common.{◌≡◌, ◌≢◌, ◌⊎◌, inl, inr, ℕ, zero, suc, ◌+◌, ◌-◌, ◌<◌, ◌==◌, Bool, true, false, cond, List, [], ◌∷◌, ◌++◌, length, Some, None, refl, sym, ap, ◌∙◌, subst, arith}
+use Rattle.std.proofs.Common.{◌≡◌, inl, inr, ℕ, zero, suc, ◌+◌, ◌-◌, ◌<◌, ◌==◌, true, false, List, [], ◌∷◌, ◌++◌, length, Some, None, refl, sym, ap, ◌∙◌, subst, arith}
 use Rattle.std.specs.Prelude.{slice_get, nat_le}
 use Rattle.std.proofs.lemmas.Bool.{cases_eq, cases_lt, eq-eqb, le-leb}
 use Rattle.hd_bytes.specs.Numbers.{number_at}
@@ -8,7 +8,7 @@ use Rattle.hd_volume.specs.Headers.{Header, header_of}
 use Rattle.hd_volume.specs.Rooms.{one_if}
 use Rattle.hd_volume.specs.Volumes.{VolumeState, block_at, IsKind, IsFormatted}
 use Rattle.hd_volume.specs.Entries.{Entry, entries_in}
-use Rattle.hd_volume.specs.Indexes.{entry_room, key_less, is_below_first, IsAmong}
+use Rattle.hd_volume.specs.Indexes.{entry_room, key_less, is_below_first}
 use Rattle.hd_volume.proofs.JoinLemmas.{AreOne}
 use Rattle.hd_entries.specs.Fields.{below_count}
 use Rattle.hd_entries.proofs.BlockLemmas.{length-entries}
@@ -25,7 +25,7 @@ use Rattle.hd_levels.proofs.Staying.{way-stays}
 use Rattle.hd_levels.proofs.Entering.{entered}
 use Rattle.hd_levels.proofs.Descents.{names-of, top-around, way-around, around-answers}
 use Rattle.hd_levels.proofs.Downs.{IsOnLevel, of-level, among-right}
-use Rattle.hd_levels.proofs.Incoming.{IsGreatest, comes-in, come-in}
+use Rattle.hd_levels.proofs.Incoming.{comes-in, come-in}
 use Rattle.hd_levels.proofs.Volumes.{level-kind, entries-below, top-is, index-blocks-right}
 use Rattle.hd_index_edits.specs.Blocks.{level_of, with_entry_at, with_key_at, IsIndexBlock}
 use Rattle.hd_index_edits.specs.Edits.{HasNewEntries, IsKeyChanged}
@@ -38,7 +38,7 @@ use Rattle.hd_index_set.specs.Blocks.{IsInOrder}
 use Rattle.hd_index_set.proofs.Searching.{set-same, right-order}
 use Rattle.hd_index_set.proofs.Naming.{names-once, entry-once}
 use Rattle.hd_index_set.proofs.Coming.{not-self, way-steps, around-kept, named-kept, leaf-kept, leaf-open, with-at}
-use Rattle.hd_index_set.proofs.Edited.{edited-block, edited-others, edited-lower, edited-upper, edited-set, edited-tops, edited-level, edited-entries, edited-changed, changed-none, changed-join, entries-before}
+use Rattle.hd_index_set.proofs.Edited.{edited-block, edited-others, edited-lower, edited-upper, edited-set, edited-entries, edited-changed, changed-none, changed-join, entries-before}
 
 -- ---- the block of a way
 

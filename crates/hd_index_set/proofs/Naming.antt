@@ -4,8 +4,8 @@ use Rattle.std.specs.Prelude.{slice_get}
 use Rattle.hd_volume.specs.Entries.{Entry}
 use Rattle.hd_volume.specs.Indexes.{IsAmong}
 use Rattle.hd_levels.specs.Levels.{IndexBlocks, across, named, IsIndexSet}
-use Rattle.hd_levels.specs.Chains.{IsLinked, first_of, AreLevelsLinked}
-use Rattle.hd_levels.specs.Parents.{HasParent, ArePlaced}
+use Rattle.hd_levels.specs.Chains.{first_of, AreLevelsLinked}
+use Rattle.hd_levels.specs.Parents.{ArePlaced}
 use Rattle.hd_levels.specs.VolumeLaws.{StandOnce}
 use Rattle.hd_levels.proofs.Levels.{named-append, across-append}
 use Rattle.hd_levels.proofs.Chains.{linked-same}

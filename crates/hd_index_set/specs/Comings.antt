@@ -1,8 +1,8 @@
 -- A new key that comes into an index set: down by the greatest key below it, or by itself where there is none.
 use Rattle.std.specs.Prelude.{◌≡◌, ◌⊎◌, true, false, ℕ, List, ◌∷◌, ◌++◌, length, None, Some, slice_get}
 use Rattle.hd_volume.specs.Headers.{header_of}
-use Rattle.hd_volume.specs.Volumes.{VolumeState, block_at}
-use Rattle.hd_volume.specs.Entries.{Entry, entries_in}
+use Rattle.hd_volume.specs.Volumes.{VolumeState}
+use Rattle.hd_volume.specs.Entries.{Entry}
 use Rattle.hd_volume.specs.Indexes.{entry_room, key_less}
 use Rattle.hd_levels.specs.Maps.{address_of, greatest_below}
 use Rattle.hd_levels.specs.Levels.{entries_below}

@@ -1,4 +1,4 @@
-use Rattle.std.proofs.Common.{◌≡◌, ◌-◌, ◌<◌, ℕ, List, IsTrue, length, sym, ap, ◌∙◌, subst, arith}
+use Rattle.std.proofs.Common.{◌≡◌, ◌-◌, ℕ, List, IsTrue, length, sym, subst, arith}
 use Rattle.hd_volume.specs.Headers.{header_of}
 use Rattle.hd_volume.specs.Entries.{Entry}
 use Rattle.hd_levels.specs.Maps.{with_entry}
@@ -7,7 +7,7 @@ use Rattle.hd_index_edits.proofs.CallLemmas.{on-ok-map}
 use Rattle.hd_index_set.specs.Changes.{IsChanged}
 use Rattle.hd_index_set.specs.Comings.{MayCome}
 use Rattle.hd_index_set.proofs.Edited.{changed-join}
-use Rattle.hd_index_set.proofs.Comings.{coming-kind, needed-top, come-top}
+use Rattle.hd_index_set.proofs.Comings.{coming-kind, come-top}
 use Rattle.hd_index_set.proofs.enter.enter_key.Goals as goal
 
 pub come_down-requires-clause-may : goal.come_down-requires-clause-may

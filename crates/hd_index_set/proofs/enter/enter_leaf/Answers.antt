@@ -1,6 +1,5 @@
-use Rattle.std.proofs.Common.{◌≡◌, ℕ, List, IsTrue, length, sym, ap, ◌∙◌, subst}
+use Rattle.std.proofs.Common.{ℕ, List, IsTrue, length, sym, ap, ◌∙◌, subst}
 use Rattle.hd_bytes.specs.Numbers.{number_at}
-use Rattle.hd_volume.specs.Volumes.{block_at}
 use Rattle.hd_volume.specs.Entries.{Entry, entries_in}
 use Rattle.hd_volume.proofs.JoinLemmas.{read-one, one-kind}
 use Rattle.hd_entries.specs.Fields.{below_count}
