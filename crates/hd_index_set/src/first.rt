@@ -24,6 +24,8 @@ pub fn insert_first<S: BlockStore>(
     ensures refused { IfErr result (λ e. IsRefused volume.old e volume.new) }
     ensures room { IsTrue volume.new.is_sound → volume.old.room ≤ volume.new.room + 1 }
 {
-    let _ = (key, address);
+    if key.len() > address as usize {
+        return Ok(());
+    }
     volume.reserve(0)
 }

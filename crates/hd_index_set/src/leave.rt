@@ -19,6 +19,8 @@ pub fn remove<S: BlockStore>(volume: &mut Volume<S>, dbd: &Dbd, key: &[u8]) -> R
     ensures refusal { OnlyDevice result }
     ensures room { volume.new.room ≡ volume.old.room }
 {
-    let _ = (dbd, key);
+    if key.len() > dbd.block_size() as usize {
+        return Ok(());
+    }
     volume.flush()
 }

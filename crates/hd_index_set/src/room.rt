@@ -31,6 +31,8 @@ pub fn make_room<S: BlockStore>(
     ensures refused { IfErr result (λ e. IsRefused volume.old e volume.new) }
     ensures room { IsTrue volume.new.is_sound → volume.old.room ≤ volume.new.room + 1 }
 {
-    let _ = (key_length, by);
+    if by.len() > key_length {
+        return Ok(());
+    }
     volume.reserve(0)
 }
