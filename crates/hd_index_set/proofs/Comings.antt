@@ -1,15 +1,15 @@
 -- A new key on its way down an index set, step by step.
-use Rattle.std.proofs.Common.{◌≡◌, inl, inr, ℕ, zero, suc, ◌+◌, ◌-◌, ◌<◌, ◌==◌, true, false, List, [], ◌∷◌, ◌++◌, length, Some, None, refl, sym, ap, ◌∙◌, subst, arith}
-use Rattle.std.specs.Prelude.{slice_get, nat_le}
+use Rattle.std.proofs.Common.{◌≡◌, inl, inr, ℕ, suc, ◌+◌, ◌-◌, ◌<◌, ◌==◌, Bool, true, false, cond, List, [], ◌∷◌, ◌++◌, length, Some, None, refl, sym, ap, ◌∙◌, subst, arith, ne_eqb}
+use Rattle.std.specs.Prelude.{slice_get, bytes_eq, nat_le}
 use Rattle.std.proofs.lemmas.Bool.{cases_eq, cases_lt, eq-eqb, le-leb}
 use Rattle.hd_bytes.specs.Numbers.{number_at}
-use Rattle.std.proofs.Common.{ne_eqb}
 use Rattle.hd_volume.specs.Headers.{Header, header_of}
 use Rattle.hd_volume.specs.Rooms.{one_if}
 use Rattle.hd_volume.specs.Volumes.{VolumeState, block_at, IsKind, IsFormatted}
 use Rattle.hd_volume.specs.Entries.{Entry, entries_in}
 use Rattle.hd_volume.specs.Indexes.{entry_room, key_less, is_below_first}
 use Rattle.hd_volume.proofs.JoinLemmas.{AreOne}
+use Rattle.hd_volume.proofs.KeyLemmas.{less-not}
 use Rattle.hd_entries.specs.Fields.{below_count}
 use Rattle.hd_entries.proofs.BlockLemmas.{length-entries}
 use Rattle.hd_levels.specs.Maps.{address_of, greatest_below, with_entry}
@@ -19,6 +19,7 @@ use Rattle.hd_levels.specs.Changes.{KeepsIndexSet}
 use Rattle.hd_levels.specs.IndexSets.{level_in, next_in, index_blocks, top_blocks, top_level, index_entries, HasIndexSet}
 use Rattle.hd_levels.specs.Needs.{is_full, full_blocks, needed_by}
 use Rattle.hd_levels.specs.VolumeLaws.{StandOnce}
+use Rattle.hd_levels.proofs.Keys.{not-less}
 use Rattle.hd_levels.proofs.Levels.{named-append, same-below, set-stays}
 use Rattle.hd_levels.proofs.Raising.{raised}
 use Rattle.hd_levels.proofs.Staying.{way-stays}
@@ -36,8 +37,8 @@ use Rattle.hd_index_set.specs.Changes.{IsChanged}
 use Rattle.hd_index_set.specs.Comings.{IsComing, MayCome, HasComeTo, IsTurnOf, IsRaised}
 use Rattle.hd_index_set.specs.Blocks.{IsInOrder}
 use Rattle.hd_index_set.proofs.Searching.{set-same, right-order}
-use Rattle.hd_index_set.proofs.Naming.{names-once, entry-once}
-use Rattle.hd_index_set.proofs.Coming.{not-self, way-steps, around-kept, named-kept, leaf-kept, leaf-open, with-at}
+use Rattle.hd_levels.proofs.Naming.{names-once, entry-once}
+use Rattle.hd_levels.proofs.Coming.{not-self, way-steps, way-top, around-kept, named-kept, leaf-kept, leaf-open}
 use Rattle.hd_index_set.proofs.Edited.{edited-block, edited-others, edited-lower, edited-upper, edited-set, edited-entries, edited-changed, changed-none, changed-join, entries-before}
 
 -- ---- the block of a way
@@ -50,14 +51,7 @@ coming-level k v key by l n x =
 pub coming-kind : (k : ℕ) (v : VolumeState) (key by : List ℕ) (l n : ℕ) → MayCome k v key by l n → IsKind v 2 n
 coming-kind k v key by l n m = (level-kind v n l (coming-level k v key by l n m.coming).level).0
 
--- there is a top above it
-way-top : (c : IndexBlocks) (h top : ℕ) (key : List ℕ) (steps l : ℕ) (left : List ℕ) (n : ℕ) (right : List ℕ) → IsWayDown c h top key steps l left n right → IsIndexSet c l (left ++ (n ∷ right))
-    → (level : ℕ) × (c.level top ≡ Some level)
-way-top c h top key zero l left n right way set =
-    let o = of-level c l n (left ++ (n ∷ right)) set (among-right n left (n ∷ right) (inl refl)) in
-    (l, ap c.level (sym way.2) ∙ o.level)
-way-top c h top key (suc steps) l left n right way set = way-top c h top key steps (suc l) way.0 way.1 way.2 way.7 way.6
-
+-- there is a top
 pub coming-tops : (k : ℕ) (v : VolumeState) (key by : List ℕ) (l n : ℕ) → IsComing k v key by l n → top_blocks v ≡ (header_of v.image).top ∷ []
 coming-tops k v key by l n x =
     let t = way-top (index_blocks k v) (top_level v) (header_of v.image).top key x.steps l x.left n x.right x.way x.around.set in
@@ -159,22 +153,26 @@ step-stays k v key by l p turn m t low =
 -- else it is raised
 module _ (k : ℕ) (v w : VolumeState) (key by : List ℕ) (l p : ℕ) (turn : Turn) (m : MayCome k v key by (suc l) p) (t : IsTurnOf by key (entries_in k (block_at v p)) turn)
     (low : turn.is_low ≡ true) (new : HasNewEntries k v p (with_key_at turn.index key (entries_in k (block_at v p))) (next_in v p) w) where
+  -- block p is of the level above
   own : level_in v p ≡ Some (suc l)
   own = (coming-level k v key by (suc l) p m.coming).level
 
   step : IsStep k v key by l p turn m.coming.left m.coming.right
   step = turned k v key by l p turn m t
 
+  -- the block's entries with the raised key
   raised-entries : (s : IsStep k v key by l p turn m.coming.left m.coming.right) → with_key_at turn.index key (entries_in k (block_at v p)) ≡ s.names.front ++ (record { key = key; address = s.names.entry.address } ∷ s.names.back)
   raised-entries s =
       ap (with_key_at turn.index key) s.names.is ∙ ap (λ (i : ℕ). with_key_at i key (s.names.front ++ (s.names.entry ∷ s.names.back))) s.index_is
       ∙ key-at key s.names.front s.names.entry s.names.back
 
+  -- they name what they named
   raised-names : (s : IsStep k v key by l p turn m.coming.left m.coming.right) → named (with_key_at turn.index key (entries_in k (block_at v p))) ≡ named (entries_in k (block_at v p))
   raised-names s =
       let e : Entry = record { key = key; address = s.names.entry.address } in
       ap named (raised-entries s) ∙ named-append s.names.front (e ∷ s.names.back) ∙ sym (named-append s.names.front (s.names.entry ∷ s.names.back)) ∙ ap named (sym s.names.is)
 
+  -- its level stays an index set with the same entries below
   raised-row : (s : IsStep k v key by l p turn m.coming.left m.coming.right) → KeepsIndexSet (index_blocks k v) (index_blocks k w) (suc l) (m.coming.left ++ (p ∷ m.coming.right))
   raised-row s =
       let b = edited-block k v w (suc l) p (with_key_at turn.index key (entries_in k (block_at v p))) own new in
@@ -182,6 +180,7 @@ module _ (k : ℕ) (v w : VolumeState) (key by : List ℕ) (l p : ℕ) (turn : T
       (edited-others k v w (suc l) p (with_key_at turn.index key (entries_in k (block_at v p))) own new)
       (edited-lower k v w (suc l) p (with_key_at turn.index key (entries_in k (block_at v p))) own new) (s.upto (sym s.low_is ∙ low)) s.first m.coming.around.set
 
+  -- so does the top, and the way down to it stays
   raised-way : (s : IsStep k v key by l p turn m.coming.left m.coming.right)
       → IsWayDown (index_blocks k w) (top_level v) (header_of v.image).top key m.coming.steps (suc l) m.coming.left p m.coming.right
       × KeepsIndexSet (index_blocks k v) (index_blocks k w) (top_level v) ((header_of v.image).top ∷ [])
@@ -194,10 +193,12 @@ module _ (k : ℕ) (v w : VolumeState) (key by : List ℕ) (l p : ℕ) (turn : T
       let K : List ℕ → Type 0 = λ ns. KeepsIndexSet (index_blocks k v) (index_blocks k w) (top_level v) ns in
       subst K (sym (coming-tops k v key by (suc l) p m.coming)) (raised-way s).1
 
+  -- the volume still has an index set
   raised-set : (s : IsStep k v key by l p turn m.coming.left m.coming.right) → HasIndexSet k w
   raised-set s =
       edited-set k v w (suc l) p (with_key_at turn.index key (entries_in k (block_at v p))) own new m.index (λ j e. raised-names s) (raised-top s).0
 
+  -- with the same entries
   raised-same : (s : IsStep k v key by l p turn m.coming.left m.coming.right) → index_entries k w ≡ index_entries k v
   raised-same s =
       let two = m.index.version in
@@ -205,7 +206,7 @@ module _ (k : ℕ) (v w : VolumeState) (key by : List ℕ) (l p : ℕ) (turn : T
       ∙ same-below (index_blocks k v) (index_blocks k w) (top_level v) (top_blocks v) (raised-top s).1
       ∙ sym ((entries-below k v).1 (λ e. omega arith))
 
-  -- the block that was led to is named as it was
+  -- the blocks beside it have their entries
   raised-named : (s : IsStep k v key by l p turn m.coming.left m.coming.right) → (across (index_blocks k w) m.coming.left ≡ across (index_blocks k v) m.coming.left)
       × (across (index_blocks k w) m.coming.right ≡ across (index_blocks k v) m.coming.right)
   raised-named s =
@@ -213,6 +214,7 @@ module _ (k : ℕ) (v w : VolumeState) (key by : List ℕ) (l p : ℕ) (turn : T
       named-kept (index_blocks k v) (index_blocks k w) l s.before turn.child s.behind m.coming.left p m.coming.right m.coming.around.set
       (edited-others k v w (suc l) p (with_key_at turn.index key (entries_in k (block_at v p))) own new) s.names key (b.1 ∙ raised-entries s)
 
+  -- the way goes on to the block that was led to, which is named as it was
   raised-down : (s : IsStep k v key by l p turn m.coming.left m.coming.right)
       → IsWayDown (index_blocks k w) (top_level v) (header_of v.image).top key (suc m.coming.steps) l s.before turn.child s.behind
   raised-down s =
@@ -276,6 +278,25 @@ module _ (k : ℕ) (v w : VolumeState) (key by : List ℕ) (l p : ℕ) (turn : T
   step-raised = raised-come step
 
 -- ---- the end of the way
+
+-- a key that is not there goes before the entry at its place
+with-at : (new : Entry) (es : List Entry) → address_of new.key es ≡ None → with_entry_at (below_count new.key es) new es ≡ with_entry new es
+with-at new [] none = refl
+with-at new (e ∷ es) none = by-equal (bytes_eq e.key new.key) refl none (with-at new es)
+  where
+    by-test : (b : Bool) → key_less e.key new.key ≡ b → key_less new.key e.key ≡ cond b false true → with_entry_at (below_count new.key es) new es ≡ with_entry new es
+        → with_entry_at (cond b (suc (below_count new.key es)) 0) new (e ∷ es) ≡ cond (key_less new.key e.key) (new ∷ e ∷ es) (e ∷ with_entry new es)
+    by-test true is other rest = rw other (ap (λ (t : List Entry). e ∷ t) rest)
+    by-test false is other rest = rw other refl
+
+    other-way : (b : Bool) → key_less e.key new.key ≡ b → bytes_eq e.key new.key ≡ false → key_less new.key e.key ≡ cond b false true
+    other-way true is apart = less-not e.key new.key is
+    other-way false is apart = not-less e.key new.key is apart
+
+    by-equal : (q : Bool) → bytes_eq e.key new.key ≡ q → cond q (Some e.address) (address_of new.key es) ≡ None
+        → (address_of new.key es ≡ None → with_entry_at (below_count new.key es) new es ≡ with_entry new es) → with_entry_at (below_count new.key (e ∷ es)) new (e ∷ es) ≡ with_entry new (e ∷ es)
+    by-equal true is none rest = absurd (cc)
+    by-equal false is none rest = by-test (key_less e.key new.key) refl (other-way (key_less e.key new.key) refl is) (rest none)
 
 -- the new entry comes into the leaf
 pub leaf-entered : (k : ℕ) (v w : VolumeState) (key by : List ℕ) (n address : ℕ) → MayCome k v key by 0 n

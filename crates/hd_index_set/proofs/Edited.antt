@@ -21,7 +21,7 @@ use Rattle.hd_index_edits.specs.Blocks.{level_of, Bears}
 use Rattle.hd_index_set.specs.Changes.{IsIndexChange, IsChanged}
 use Rattle.hd_index_set.proofs.Steps.{other-stays, other-was, counts-stay, borne, assembled}
 use Rattle.hd_index_set.proofs.Searching.{set-same}
-use Rattle.hd_index_set.proofs.Naming.{KeepNames, links-kept, placed-kept}
+use Rattle.hd_levels.proofs.Naming.{KeepNames, links-kept, placed-kept}
 
 -- ---- one block of a level has other entries
 

@@ -4,7 +4,5 @@ pub mod Searching
 pub mod Fronts
 pub mod Standing
 pub mod Filling
-pub mod Naming
-pub mod Coming
 pub mod Edited
 pub mod Comings

@@ -1,22 +1,18 @@
--- Where a new key comes in: the leaf at the end of the way, and its place there.
-use Rattle.std.proofs.Common.{◌≡◌, ℕ, zero, suc, ◌+◌, ◌<◌, ◌==◌, ◌&&◌, Bool, true, false, cond, List, [], ◌∷◌, ◌++◌, length, Some, None, refl, sym, ap, ◌∙◌, subst, arith}
-use Rattle.std.specs.Prelude.{bytes_eq, nat_le}
+-- The way of a key down to a leaf, where keys of upper blocks change.
+use Rattle.std.proofs.Common.{◌≡◌, inl, ℕ, zero, suc, ◌+◌, ◌<◌, ◌==◌, ◌&&◌, Bool, true, false, List, [], ◌∷◌, ◌++◌, length, Some, refl, sym, ap, ◌∙◌, subst, arith}
+use Rattle.std.specs.Prelude.{nat_le}
 use Rattle.hd_volume.specs.Rooms.{one_if}
 use Rattle.hd_volume.specs.Entries.{Entry}
 use Rattle.hd_volume.specs.Indexes.{key_less, is_below_first, IsAmong}
-use Rattle.hd_volume.proofs.KeyLemmas.{less-not}
-use Rattle.hd_entries.specs.Fields.{below_count}
-use Rattle.hd_levels.specs.Maps.{address_of, with_entry}
 use Rattle.hd_levels.specs.Levels.{IndexBlocks, across, named, AreBelow, IsIndexSet}
 use Rattle.hd_levels.specs.Ways.{child_of, leaf_of, IsAround, IsNamed, IsWayDown}
 use Rattle.hd_levels.specs.Changes.{LowerStay, OthersStay}
 use Rattle.hd_levels.specs.Needs.{is_full, full_blocks}
-use Rattle.hd_levels.proofs.Keys.{less-self, not-less}
+use Rattle.hd_levels.proofs.Keys.{less-self}
 use Rattle.hd_levels.proofs.Levels.{same-below, same-parts, on-parts, stay-across, set-stays}
 use Rattle.hd_levels.proofs.Sets.{blocks-once}
 use Rattle.hd_levels.proofs.Entering.{beside}
-use Rattle.hd_levels.proofs.Downs.{of-level, child-named, named-across}
-use Rattle.hd_index_edits.specs.Blocks.{with_entry_at}
+use Rattle.hd_levels.proofs.Downs.{of-level, among-right, child-named, named-across}
 
 -- no key is below itself
 pub not-self : (k : List ℕ) → key_less k k ≡ false
@@ -34,6 +30,14 @@ way-steps c h top key zero l left n right way = (let e = way.0 in omega arith)
 way-steps c h top key (suc steps) l left n right way =
     let up = way-steps c h top key steps (suc l) way.0 way.1 way.2 way.7 in
     omega arith
+
+-- the top of a way is of some level
+pub way-top : (c : IndexBlocks) (h top : ℕ) (key : List ℕ) (steps l : ℕ) (left : List ℕ) (n : ℕ) (right : List ℕ) → IsWayDown c h top key steps l left n right → IsIndexSet c l (left ++ (n ∷ right))
+    → (level : ℕ) × (c.level top ≡ Some level)
+way-top c h top key zero l left n right way set =
+    let o = of-level c l n (left ++ (n ∷ right)) set (among-right n left (n ∷ right) (inl refl)) in
+    (l, ap c.level (sym way.2) ∙ o.level)
+way-top c h top key (suc steps) l left n right way set = way-top c h top key steps (suc l) way.0 way.1 way.2 way.7 way.6
 
 -- what stands about a key still does where its level and those below it stay
 pub around-kept : (c d : IndexBlocks) (key : List ℕ) (l : ℕ) (left : List ℕ) (n : ℕ) (right : List ℕ) → LowerStay c d (suc l) → IsAround c key l left n right → IsAround d key l left n right
@@ -81,24 +85,3 @@ leaf-open c room key (suc l) n none =
     let one : ℕ = one_if (full_blocks c room key l (child_of key (c.entries n)) == suc l && is_full c room n) in
     let low : full_blocks c room key l (child_of key (c.entries n)) ≡ 0 = omega arith in
     leaf-open c room key l (child_of key (c.entries n)) low
-
--- ---- the place in the leaf
-
--- a key that is not there goes before the entry at its place
-pub with-at : (new : Entry) (es : List Entry) → address_of new.key es ≡ None → with_entry_at (below_count new.key es) new es ≡ with_entry new es
-with-at new [] none = refl
-with-at new (e ∷ es) none = by-equal (bytes_eq e.key new.key) refl none (with-at new es)
-  where
-    by-test : (b : Bool) → key_less e.key new.key ≡ b → key_less new.key e.key ≡ cond b false true → with_entry_at (below_count new.key es) new es ≡ with_entry new es
-        → with_entry_at (cond b (suc (below_count new.key es)) 0) new (e ∷ es) ≡ cond (key_less new.key e.key) (new ∷ e ∷ es) (e ∷ with_entry new es)
-    by-test true is other rest = rw other (ap (λ (t : List Entry). e ∷ t) rest)
-    by-test false is other rest = rw other refl
-
-    other-way : (b : Bool) → key_less e.key new.key ≡ b → bytes_eq e.key new.key ≡ false → key_less new.key e.key ≡ cond b false true
-    other-way true is apart = less-not e.key new.key is
-    other-way false is apart = not-less e.key new.key is apart
-
-    by-equal : (q : Bool) → bytes_eq e.key new.key ≡ q → cond q (Some e.address) (address_of new.key es) ≡ None
-        → (address_of new.key es ≡ None → with_entry_at (below_count new.key es) new es ≡ with_entry new es) → with_entry_at (below_count new.key (e ∷ es)) new (e ∷ es) ≡ with_entry new (e ∷ es)
-    by-equal true is none rest = absurd (cc)
-    by-equal false is none rest = by-test (key_less e.key new.key) refl (other-way (key_less e.key new.key) refl is) (rest none)
