@@ -1,5 +1,6 @@
-use Rattle.std.proofs.Common.{ℕ, List, IsTrue, length, sym, ap, ◌∙◌, subst}
+use Rattle.std.proofs.Common.{◌≡◌, ℕ, List, IsTrue, length, sym, ap, ◌∙◌, subst}
 use Rattle.hd_bytes.specs.Numbers.{number_at}
+use Rattle.hd_volume.specs.Volumes.{block_at}
 use Rattle.hd_volume.specs.Entries.{Entry, entries_in}
 use Rattle.hd_volume.proofs.JoinLemmas.{read-one, one-kind}
 use Rattle.hd_entries.specs.Fields.{below_count}
@@ -32,13 +33,16 @@ enter_at-requires-clause-block g c sound =
 pub enter_at-requires-clause-place : goal.enter_at-requires-clause-place
 enter_at-requires-clause-place g c sound =
     let u = c.args.volume.now in
+    let v = c.gap_at.new.volume in
     let key = c.args.key.now in
     let k : ℕ = length key in
     let n : ℕ = c.args.n in
     let read = c.in_ok-gap.ensures.read in
     let was : IsTrue u.is_sound = rw (← read.call.sound) sound in
     let order = known-order k u n (c.requires.index was) (c.requires.block was) in
-    c.in_ok-gap.ensures.index was order.0 ∙ ap (λ (b : List ℕ). below_count key (entries_in k b)) (sym (one-block-at (read-one read sound) n))
+    let told : c.in_ok-gap.gap.index ≡ below_count key (entries_in k (block_at u n)) = c.in_ok-gap.ensures.index was order.0 in
+    let same : block_at u n ≡ block_at v n = sym (one-block-at (read-one read sound) n) in
+    told ∙ ap (λ (b : List ℕ). below_count key (entries_in k b)) same
 
 pub enter_at-requires-clause-count : goal.enter_at-requires-clause-count
 enter_at-requires-clause-count g c sound =
