@@ -6,3 +6,10 @@ pub mod Standing
 pub mod Filling
 pub mod Edited
 pub mod Comings
+pub mod Parts
+pub mod Heads
+pub mod ReadSteps
+pub mod Halving
+pub mod Under
+pub mod Tops
+pub mod Inserting
