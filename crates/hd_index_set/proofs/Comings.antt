@@ -39,7 +39,8 @@ use Rattle.hd_index_set.specs.Blocks.{IsInOrder}
 use Rattle.hd_index_set.proofs.Searching.{set-same, right-order}
 use Rattle.hd_levels.proofs.Naming.{names-once, entry-once}
 use Rattle.hd_levels.proofs.Coming.{not-self, way-steps, way-top, around-kept, named-kept, leaf-kept, leaf-open}
-use Rattle.hd_index_set.proofs.Edited.{edited-block, edited-others, edited-lower, edited-upper, edited-set, edited-entries, edited-changed, changed-none, changed-join, entries-before}
+use Rattle.hd_index_set.proofs.Edited.{edited-block, edited-others, edited-lower, edited-upper, edited-set, edited-entries, edited-changed, entries-before}
+use Rattle.hd_index_set.proofs.Inserting.{unchanged, changed-join}
 
 -- ---- the block of a way
 
@@ -395,22 +396,22 @@ may-same k v w key by l n o m =
     }
 
 -- a step behind others
-pub come-join : (k : ℕ) (u v w : VolumeState) (key by : List ℕ) (l n : ℕ) → IsFormatted u → 0 < u.size → IsChanged k u (index_entries k u) 0 v → HasComeTo k v key by l n w → HasComeTo k u key by l n w
-come-join k u v w key by l n f some a b =
+pub come-join : (k : ℕ) (u v w : VolumeState) (key by : List ℕ) (l n : ℕ) → HasIndexSet k u → 0 < u.size → IsChanged k u (index_entries k u) 0 v → HasComeTo k v key by l n w → HasComeTo k u key by l n w
+come-join k u v w key by l n x some a b =
     let C : List Entry → Type 0 = λ es. IsChanged k v es 0 w in
-    record { changed = changed-join k u v w (index_entries k u) (index_entries k u) f some a (subst C a.entries b.changed); may = b.may }
+    record { changed = changed-join k u v w (index_entries k u) (index_entries k u) 0 0 0 x some refl a (subst C a.entries b.changed); may = b.may }
 
 -- no step
 pub come-none : (k : ℕ) (v : VolumeState) (key by : List ℕ) (l n : ℕ) → MayCome k v key by l n → HasComeTo k v key by l n v
 come-none k v key by l n m =
     let o : AreOne v v = record { same = record { size = refl; sizes = refl }; image = refl } in
-    record { changed = changed-none k v v o m.index; may = m }
+    record { changed = unchanged k v v m.index o; may = m }
 
 -- a step that only read
 pub come-read : (k : ℕ) (v w : VolumeState) (key by : List ℕ) (l p : ℕ) (turn : Turn) → AreOne v w → MayCome k v key by (suc l) p → IsTurnOf by key (entries_in k (block_at v p)) turn → turn.is_low ≡ false
     → HasComeTo k v key by l turn.child w
 come-read k v w key by l p turn o m t low =
-    record { changed = changed-none k v w o m.index; may = may-same k v w key by l turn.child o (step-stays k v key by l p turn m t low) }
+    record { changed = unchanged k v w m.index o; may = may-same k v w key by l turn.child o (step-stays k v key by l p turn m t low) }
 
 -- ---- what the code reads and writes
 

@@ -116,44 +116,7 @@ module _ (k : ℕ) (v w : VolumeState) (l p : ℕ) (es : List Entry) (own : leve
       let s = edit-step new.edit in
       record { size = s.size; index = y; entries = is; change = s.change; spares = s.spares }
 
--- ---- a read, and changes one after another
-
--- a read changes nothing of the index
-change-none : (u v : VolumeState) → AreOne u v → IsIndexChange u 0 v
-change-none u v o =
-    let head : header_of v.image ≡ header_of u.image = ap header_of o.image in
-    let count : (header_of v.image).count ≡ (header_of u.image).count = ap (λ (h : Header). h.count) head in
-    record {
-      segments = one-segments o;
-      data_blocks = λ n kind. one-block-at o n;
-      others = λ n kind. one-kind (one-turned o) 1 n kind;
-      kinds = λ h n there later.
-          let old = one-there (one-turned o) n there in
-          elim (h n old later) [ inl a ↦ inl (one-kind o 1 n a) | inr (inl a) ↦ inr (inl (one-kind o 2 n a)) | inr (inr a) ↦ inr (inr (one-kind o 3 n a)) ];
-      count = omega arith;
-      grows = omega arith;
-      header = three-header (header_of u.image) (header_of v.image) (count-header (header_of u.image) (header_of v.image) head);
-      holes = one-holes o;
-    }
-
-pub changed-none : (k : ℕ) (u v : VolumeState) → AreOne u v → HasIndexSet k u → IsChanged k u (index_entries k u) 0 v
-changed-none k u v o x =
-    let s = set-same k u v o x in
-    let same = one-spare o in
-    record { size = o.same.size; index = s.0; entries = s.1; change = change-none u v o; spares = omega arith }
-
--- one change behind another
-pub changed-join : (k : ℕ) (u v w : VolumeState) (es fs : List Entry) → IsFormatted u → 0 < u.size → IsChanged k u es 0 v → IsChanged k v fs 0 w → IsChanged k u fs 0 w
-changed-join k u v w es fs f some a b =
-    let one = a.spares in
-    let two = b.spares in
-    record {
-      size = b.size ∙ a.size;
-      index = b.index;
-      entries = b.entries;
-      change = change-join 0 0 f a.index.formatted some a.size a.change b.change;
-      spares = omega arith;
-    }
+-- ---- behind a read
 
 -- the same new entries, of the state before a read
 pub entries-before : (k : ℕ) (u v w : VolumeState) (n : ℕ) (es : List Entry) (next : ℕ) → AreOne u v → HasNewEntries k v n es next w → HasNewEntries k u n es next w

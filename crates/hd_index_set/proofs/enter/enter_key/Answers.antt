@@ -1,12 +1,12 @@
-use Rattle.std.proofs.Common.{◌≡◌, ◌-◌, ℕ, List, IsTrue, length, sym, subst, arith}
+use Rattle.std.proofs.Common.{◌≡◌, ◌-◌, ℕ, List, IsTrue, length, refl, sym, subst, arith}
 use Rattle.hd_volume.specs.Headers.{header_of}
 use Rattle.hd_volume.specs.Entries.{Entry}
 use Rattle.hd_levels.specs.Maps.{with_entry}
-use Rattle.hd_levels.specs.IndexSets.{top_level, index_entries}
+use Rattle.hd_levels.specs.IndexSets.{top_level, index_entries, HasIndexSet}
 use Rattle.hd_index_edits.proofs.CallLemmas.{on-ok-map}
 use Rattle.hd_index_set.specs.Changes.{IsChanged}
 use Rattle.hd_index_set.specs.Comings.{MayCome}
-use Rattle.hd_index_set.proofs.Edited.{changed-join}
+use Rattle.hd_index_set.proofs.Inserting.{changed-join}
 use Rattle.hd_index_set.proofs.Comings.{coming-kind, come-top}
 use Rattle.hd_index_set.proofs.enter.enter_key.Goals as goal
 
@@ -54,8 +54,9 @@ returns-clause-changed g c =
     let three = c.requires.three in
     let C : List Entry → Type 0 = λ es. IsChanged k v (with_entry e es) 0 w in
     let K : ℕ → Type 0 = λ i. IsChanged i u (with_entry e (index_entries i u)) 0 w in
+    let H : ℕ → Type 0 = λ i. HasIndexSet i u in
     let all : K k =
-    changed-join k u v w (index_entries k u) (with_entry e (index_entries k u)) x.formatted (omega arith) come.changed
+    changed-join k u v w (index_entries k u) (with_entry e (index_entries k u)) 0 0 0 (subst H (sym c.requires.whole) x) (omega arith) refl come.changed
     (subst C come.changed.entries (changed now c.args.by.now come.may)) in
     subst K c.requires.whole all)
     c.enter_leaf.ensures.changed

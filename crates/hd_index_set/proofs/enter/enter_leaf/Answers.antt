@@ -1,4 +1,4 @@
-use Rattle.std.proofs.Common.{◌≡◌, ℕ, List, IsTrue, length, sym, ap, ◌∙◌, subst}
+use Rattle.std.proofs.Common.{◌≡◌, ℕ, List, IsTrue, length, refl, sym, ap, ◌∙◌, subst}
 use Rattle.hd_bytes.specs.Numbers.{number_at}
 use Rattle.hd_volume.specs.Volumes.{block_at}
 use Rattle.hd_volume.specs.Entries.{Entry, entries_in}
@@ -11,7 +11,7 @@ use Rattle.hd_index_edits.proofs.EditLemmas.{one-block-at}
 use Rattle.hd_index_set.specs.Changes.{IsChanged}
 use Rattle.hd_index_set.specs.Comings.{MayCome}
 use Rattle.hd_index_set.proofs.Searching.{set-same}
-use Rattle.hd_index_set.proofs.Edited.{changed-none, changed-join}
+use Rattle.hd_index_set.proofs.Inserting.{unchanged, changed-join}
 use Rattle.hd_index_set.proofs.Comings.{known-order, may-same}
 use Rattle.hd_index_set.proofs.enter.enter_leaf.Goals as goal
 
@@ -71,6 +71,6 @@ returns-clause-changed g c =
     let x = c.requires.index sound in
     let same = (set-same k u v one x).1 in
     let C : List Entry → Type 0 = λ es. IsChanged k v (with_entry e es) 0 w in
-    changed-join k u v w (index_entries k u) (with_entry e (index_entries k u)) x.formatted c.requires.some (changed-none k u v one x)
+    changed-join k u v w (index_entries k u) (with_entry e (index_entries k u)) 0 0 0 x c.requires.some refl (unchanged k u v x one)
     (subst C same (changed now by (may-same k u v key by 0 n one m))))
     c.enter_at.ensures.changed
