@@ -1,11 +1,11 @@
 -- An index set of which one block has other entries.
-use Rattle.std.proofs.Common.{◌≡◌, ◌≢◌, inl, inr, ℕ, suc, ◌-◌, ◌<◌, cond, List, [], ◌∷◌, Some, sym, ap, ◌∙◌, subst, arith}
+use Rattle.std.proofs.Common.{◌≡◌, ◌≢◌, inl, inr, ℕ, suc, ◌-◌, cond, List, [], ◌∷◌, Some, sym, ap, ◌∙◌, subst, arith}
 use Rattle.std.specs.Prelude.{◌==◌}
 use Rattle.std.proofs.lemmas.Bool.{cases_eq}
 use Rattle.hd_volume.specs.Headers.{Header, header_of}
-use Rattle.hd_volume.specs.Volumes.{VolumeState, block_at, IsFormatted}
+use Rattle.hd_volume.specs.Volumes.{VolumeState, block_at}
 use Rattle.hd_volume.specs.Entries.{Entry, entries_in}
-use Rattle.hd_volume.proofs.JoinLemmas.{AreOne, one-kind, one-segments, one-spare, one-holes}
+use Rattle.hd_volume.proofs.JoinLemmas.{AreOne}
 use Rattle.hd_levels.specs.Levels.{IndexBlocks, named, entries_below, IsIndexSet}
 use Rattle.hd_levels.specs.Changes.{OthersStay, LowerStay, UpperStay}
 use Rattle.hd_levels.specs.Chains.{AreLevelsLinked}
@@ -15,12 +15,11 @@ use Rattle.hd_levels.proofs.Volumes.{level-kind, entries-below}
 use Rattle.hd_levels.proofs.Downs.{level-is}
 use Rattle.hd_levels.proofs.Parents.{index-blocks-placed}
 use Rattle.hd_index_edits.specs.Edits.{HasNewEntries}
-use Rattle.hd_index_edits.proofs.EditLemmas.{one-turned, one-there, one-block-at, edit-before}
-use Rattle.hd_index_edits.proofs.StepLemmas.{count-header, three-header, change-join, edit-step}
+use Rattle.hd_index_edits.proofs.EditLemmas.{one-block-at, edit-before}
+use Rattle.hd_index_edits.proofs.StepLemmas.{edit-step}
 use Rattle.hd_index_edits.specs.Blocks.{level_of, Bears}
-use Rattle.hd_index_set.specs.Changes.{IsIndexChange, IsChanged}
+use Rattle.hd_index_set.specs.Changes.{IsChanged}
 use Rattle.hd_index_set.proofs.Steps.{other-stays, other-was, counts-stay, borne, assembled}
-use Rattle.hd_index_set.proofs.Searching.{set-same}
 use Rattle.hd_levels.proofs.Naming.{KeepNames, links-kept, placed-kept}
 
 -- ---- one block of a level has other entries
