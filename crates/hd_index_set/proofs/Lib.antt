@@ -4,6 +4,8 @@ pub mod Searching
 pub mod Fronts
 pub mod Standing
 pub mod Filling
+pub mod Edited
+pub mod Comings
 pub mod Parts
 pub mod Heads
 pub mod ReadSteps

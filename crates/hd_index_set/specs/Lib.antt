@@ -5,3 +5,4 @@ pub mod Divisions
 pub mod Searches
 pub mod Stands
 pub mod Greatest
+pub mod Comings
