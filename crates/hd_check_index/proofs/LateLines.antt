@@ -5,6 +5,7 @@ use Rattle.hd_dbd.specs.Hierarchy.{Database}
 use Rattle.hd_volume.specs.Headers.{header_of}
 use Rattle.hd_volume.specs.Volumes.{VolumeState}
 use Rattle.hd_volume.specs.Indexes.{root_key_length}
+use Rattle.hd_levels.specs.LevelFaults as level
 use Rattle.hd_image.specs.IndexFaults.{ByVersion, IsWrongTop, IsWrongForm, IsNamedTwice, IsUnreachedBlock, HasEntryOutOfOrder, HasWrongEntry, HasNoEntry}
 use Rattle.hd_image.specs.Standing.{Stands, phase_of, number_of}
 use Rattle.hd_image.specs.declared.line.Line.{Line}
@@ -38,7 +39,8 @@ late-lines P a b c d n e f g EntryOutOfOrder h = e
 late-lines P a b c d n e f g WrongEntry h = f
 late-lines P a b c d n e f g NoEntry h = g
 
--- what stands of a chain
+-- ---- of a chain
+
 of-chain : (v : VolumeState) (A B : Type 0) → (header_of v.image).version ≡ 1 → ByVersion v A B → A
 of-chain v A B one (inl t) = t.1
 of-chain v A B one (inr t) = absurd (t.0 one)
@@ -116,3 +118,33 @@ pub stands-13 : (d : Database) (v : VolumeState) (k : Line) (a o : ℕ) → phas
 stands-13 d v k a o is s =
     late-lines (λ x. phase_of x ≡ 13 → Stands d v x a o → HasNoEntry d v a o)
     (λ e. absurd (omega arith)) (λ e. absurd (omega arith)) (λ e. absurd (omega arith)) (λ e. absurd (omega arith)) (λ e. absurd (omega arith)) (λ e. absurd (omega arith)) (λ e. absurd (omega arith)) (λ e t. t) k (omega arith) is s
+
+-- ---- of an index set
+
+of-set : (v : VolumeState) (A B : Type 0) → (header_of v.image).version ≢ 1 → ByVersion v A B → B
+of-set v A B later (inl t) = absurd (later t.0)
+of-set v A B later (inr t) = t.1
+
+-- what stands of an index set in the eighth phase
+pub set-8 : (d : Database) (v : VolumeState) (k : Line) (a o : ℕ) → (header_of v.image).version ≢ 1 → phase_of k ≡ 8 → Stands d v k a o → level.IsWrongTop v a o ⊎ level.IsWrongForm (root_key_length d.types) v a o
+set-8 d v k a o later is s =
+    late-lines (λ x. phase_of x ≡ 8 → Stands d v x a o → level.IsWrongTop v a o ⊎ level.IsWrongForm (root_key_length d.types) v a o)
+    (λ e t. inl (of-set v _ _ later t)) (λ e t. inr (of-set v _ _ later t)) (λ e. absurd (omega arith)) (λ e. absurd (omega arith)) (λ e. absurd (omega arith)) (λ e. absurd (omega arith)) (λ e. absurd (omega arith)) (λ e. absurd (omega arith)) k (omega arith) is s
+
+-- in the ninth
+pub set-9 : (d : Database) (v : VolumeState) (k : Line) (a o : ℕ) → (header_of v.image).version ≢ 1 → phase_of k ≡ 9 → Stands d v k a o → level.IsNamedTwice (root_key_length d.types) v a o
+set-9 d v k a o later is s =
+    late-lines (λ x. phase_of x ≡ 9 → Stands d v x a o → level.IsNamedTwice (root_key_length d.types) v a o)
+    (λ e. absurd (omega arith)) (λ e. absurd (omega arith)) (λ e t. of-set v _ _ later t) (λ e. absurd (omega arith)) (λ e. absurd (omega arith)) (λ e. absurd (omega arith)) (λ e. absurd (omega arith)) (λ e. absurd (omega arith)) k (omega arith) is s
+
+-- in the tenth
+pub set-10 : (d : Database) (v : VolumeState) (k : Line) (a o : ℕ) → (header_of v.image).version ≢ 1 → phase_of k ≡ 10 → Stands d v k a o → level.IsUnreachedBlock (root_key_length d.types) v a o
+set-10 d v k a o later is s =
+    late-lines (λ x. phase_of x ≡ 10 → Stands d v x a o → level.IsUnreachedBlock (root_key_length d.types) v a o)
+    (λ e. absurd (omega arith)) (λ e. absurd (omega arith)) (λ e. absurd (omega arith)) (λ e t. of-set v _ _ later t) (λ e. absurd (omega arith)) (λ e. absurd (omega arith)) (λ e. absurd (omega arith)) (λ e. absurd (omega arith)) k (omega arith) is s
+
+-- in the eleventh, each line with its number
+pub set-11 : (d : Database) (v : VolumeState) (k : Line) (a o : ℕ) → (header_of v.image).version ≢ 1 → phase_of k ≡ 11 → Stands d v k a o → (level.IsWrongNext (root_key_length d.types) v a o × (number_of k a ≡ 15)) ⊎ (level.HasEntryOutOfOrder (root_key_length d.types) v a o × (number_of k a ≡ 16))
+set-11 d v k a o later is s =
+    late-lines (λ x. phase_of x ≡ 11 → Stands d v x a o → (level.IsWrongNext (root_key_length d.types) v a o × (number_of x a ≡ 15)) ⊎ (level.HasEntryOutOfOrder (root_key_length d.types) v a o × (number_of x a ≡ 16)))
+    (λ e. absurd (omega arith)) (λ e. absurd (omega arith)) (λ e. absurd (omega arith)) (λ e. absurd (omega arith)) (λ e t. inl (of-set v _ _ later t, refl)) (λ e t. inr (of-set v _ _ later t, refl)) (λ e. absurd (omega arith)) (λ e. absurd (omega arith)) k (omega arith) is s
