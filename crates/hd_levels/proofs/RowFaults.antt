@@ -230,7 +230,7 @@ module _ (k : ℕ) (v : VolumeState) (f : AreFormsRight k v) where
   abbrev c : IndexBlocks
   c = index_blocks k v
 
-  row-level : (steps l : ℕ) → steps + l ≡ top_level v → (n : ℕ) → IsAmong n (row_below c steps (top_blocks v)) → level_in v n ≡ Some l
+  pub row-level : (steps l : ℕ) → steps + l ≡ top_level v → (n : ℕ) → IsAmong n (row_below c steps (top_blocks v)) → level_in v n ≡ Some l
   row-level = rows-each c (λ l ms. (n : ℕ) → IsAmong n ms → level_in v n ≡ Some l) (top_level v) (top_blocks v)
       (rows-level c (top_level v) (top_blocks v) (λ n l m is a. (f.blocks n (suc l) is).names l m refl a)
       (λ n a. (let t = top-among v n a in ap (level_in v) t.1 ∙ f.top t.0)))
