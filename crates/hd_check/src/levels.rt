@@ -1,0 +1,149 @@
+//! The phases that judge an index set: each answers the least fault of the volume, where it is one of its lines.
+ghost use Rattle.std.specs.Prelude.{◌≡◌, ◌≢◌, ◌*◌, ◌<◌, [], Some, None, IsTrue, IfNone, IfSome};
+ghost use Rattle.hd_dbd.specs.Refusals.{OnlyDeviceOrMemory};
+ghost use Rattle.hd_volume.specs.Headers.{header_of};
+ghost use Rattle.hd_volume.specs.Calls.{IsRead};
+ghost use Rattle.hd_volume.specs.Indexes.{root_key_length};
+ghost use Rattle.hd_levels.specs.Faultless.{AreFormsRight, AreNamedOnce, AreAllReached};
+ghost use Rattle.hd_image.specs.Records.{IsVolumeOf};
+ghost use Rattle.hd_image.specs.Right.{LevelsAreInOrder, IndexIsFormed, IndexIsInOrder};
+ghost use Rattle.hd_check_blocks.specs.Finding.{WhereNone, WhereSome};
+ghost use Rattle.hd_check_index.specs.IndexPhases.{IsSequence};
+ghost use Rattle.hd_check_levels.specs.Tables.{AreIndexBlocks};
+ghost use Rattle.hd_check_levels.specs.Rows.{AreRows};
+ghost use Rattle.hd_check.specs.Joining.{NoneBefore, IsFirstFault};
+
+use hd_check_blocks::Fault;
+use hd_check_index::block_address;
+use hd_check_levels::{
+    NotedBlock, Standing, entry_out_of_order, is_top_right, note_blocks, rows_down, twice_named,
+    unreached, wrong_form, wrong_next,
+};
+use hd_dbd::{Dbd, Refused};
+use hd_entries::root_key_length;
+use hd_image::Line;
+use hd_volume::{BlockStore, Volume};
+use std::alloc::Global;
+
+/// The fault of a line at the block that was found, if one was.
+fn fault_at(line: Line, found: Option<u32>, size: u32) -> Option<Fault>
+    ensures none { IfNone found (result ≡ None) }
+    ensures some { IfSome found (λ n. n * size < 4294967296 → result ≡ Some (record { line = line; address = n * size; other = 0 })) }
+{
+    match found {
+        None => None,
+        Some(n) => Some(Fault::at(line, block_address(n, size), 0)),
+    }
+}
+
+/// The least fault of top and height and of the form of the blocks; where there is none, the blocks are noted.
+fn level_forms_fault<S: BlockStore>(
+    blocks: &mut Vec<NotedBlock>,
+    volume: &mut Volume<S>,
+    dbd: &Dbd,
+) -> Result<Option<Fault>, Refused>
+    requires empty { blocks.old.items ≡ [] }
+    requires of { IsTrue volume.old.is_sound → IsVolumeOf dbd.now volume.old }
+    requires later { IsTrue volume.old.is_sound → (header_of volume.old.image).version ≢ 1 }
+    requires before { IsTrue volume.old.is_sound → NoneBefore dbd.now volume.old 8 }
+    ensures read { IsRead volume.old result volume.new }
+    ensures none { WhereNone volume.old result (AreFormsRight (root_key_length dbd.now.types) volume.old) }
+    ensures blocks { WhereNone volume.old result (AreIndexBlocks volume.old blocks.new.items) }
+    ensures some { WhereSome volume.old result (λ f. IsFirstFault dbd.now volume.old f) }
+    ensures refusal { OnlyDeviceOrMemory result }
+{
+    note_blocks(blocks, volume)?;
+    forms_fault(blocks, volume, dbd)
+}
+
+/// The least fault of top and height and of the form of the blocks, which are noted.
+fn forms_fault<S: BlockStore>(
+    blocks: &[NotedBlock],
+    volume: &mut Volume<S>,
+    dbd: &Dbd,
+) -> Result<Option<Fault>, Refused>
+    requires of { IsTrue volume.old.is_sound → IsVolumeOf dbd.now volume.old }
+    requires later { IsTrue volume.old.is_sound → (header_of volume.old.image).version ≢ 1 }
+    requires blocks { IsTrue volume.old.is_sound → AreIndexBlocks volume.old blocks.now }
+    requires before { IsTrue volume.old.is_sound → NoneBefore dbd.now volume.old 8 }
+    ensures read { IsRead volume.old result volume.new }
+    ensures none { WhereNone volume.old result (AreFormsRight (root_key_length dbd.now.types) volume.old) }
+    ensures some { WhereSome volume.old result (λ f. IsFirstFault dbd.now volume.old f) }
+    ensures refusal { OnlyDeviceOrMemory result }
+{
+    let top = volume.top();
+    let height = volume.height();
+    if !is_top_right(blocks, top, height) {
+        return Ok(Some(Fault::at(Line::WrongTop, 0, top)));
+    }
+    let size = volume.block_size() as u32;
+    let found = wrong_form(volume, blocks, root_key_length(dbd), height)?;
+    Ok(fault_at(Line::WrongForm, found, size))
+}
+
+/// The least fault of a block that is named twice.
+fn level_names_fault<S: BlockStore>(
+    alloc: Global,
+    blocks: &[NotedBlock],
+    volume: &mut Volume<S>,
+    dbd: &Dbd,
+) -> Result<Option<Fault>, Refused>
+    requires of { IsTrue volume.old.is_sound → IsVolumeOf dbd.now volume.old }
+    requires later { IsTrue volume.old.is_sound → (header_of volume.old.image).version ≢ 1 }
+    requires blocks { IsTrue volume.old.is_sound → AreIndexBlocks volume.old blocks.now }
+    requires forms { IsTrue volume.old.is_sound → AreFormsRight (root_key_length dbd.now.types) volume.old }
+    requires before { IsTrue volume.old.is_sound → NoneBefore dbd.now volume.old 9 }
+    ensures read { IsRead volume.old result volume.new }
+    ensures none { WhereNone volume.old result (AreNamedOnce (root_key_length dbd.now.types) volume.old) }
+    ensures some { WhereSome volume.old result (λ f. IsFirstFault dbd.now volume.old f) }
+    ensures refusal { OnlyDeviceOrMemory result }
+{
+    let top = volume.top();
+    let size = volume.block_size() as u32;
+    let found = twice_named(alloc, volume, blocks, root_key_length(dbd), top)?;
+    Ok(fault_at(Line::NamedTwice, found, size))
+}
+
+/// The least fault of a block that is not reached; where there is none, the rows are noted from the top down.
+fn level_reach_fault<S: BlockStore>(
+    alloc: Global,
+    rows: &mut Vec<Standing>,
+    blocks: &[NotedBlock],
+    volume: &mut Volume<S>,
+    dbd: &Dbd,
+) -> Result<Option<Fault>, Refused>
+    requires empty { rows.old.items ≡ [] }
+    requires of { IsTrue volume.old.is_sound → IsVolumeOf dbd.now volume.old }
+    requires later { IsTrue volume.old.is_sound → (header_of volume.old.image).version ≢ 1 }
+    requires blocks { IsTrue volume.old.is_sound → AreIndexBlocks volume.old blocks.now }
+    requires forms { IsTrue volume.old.is_sound → AreFormsRight (root_key_length dbd.now.types) volume.old }
+    requires before { IsTrue volume.old.is_sound → NoneBefore dbd.now volume.old 10 }
+    ensures read { IsRead volume.old result volume.new }
+    ensures none { WhereNone volume.old result (AreAllReached (root_key_length dbd.now.types) volume.old) }
+    ensures rows { WhereNone volume.old result (AreRows (root_key_length dbd.now.types) volume.old rows.new.items) }
+    ensures some { WhereSome volume.old result (λ f. IsFirstFault dbd.now volume.old f) }
+    ensures refusal { OnlyDeviceOrMemory result }
+{
+    let top = volume.top();
+    let height = volume.height();
+    let size = volume.block_size() as u32;
+    rows_down(rows, volume, root_key_length(dbd), top, height)?;
+    let found = unreached(alloc, blocks, rows)?;
+    Ok(fault_at(Line::UnreachedBlock, found, size))
+}
+
+/// Of a wrong next block and an entry out of order, each the first of its line, the fault that comes before.
+fn first_of(next: Option<u32>, order: Option<(u32, u32)>, size: u32) -> Option<Fault> {
+    match order {
+        None => fault_at(Line::WrongNext, next, size),
+        Some((n, other)) => match next {
+            Some(m) => {
+                if m <= n {
+                    return Some(Fault::at(Line::WrongNext, block_address(m, size), 0));
+                }
+                Some(Fault::at(Line::EntryOutOfOrder, block_address(n, size), other))
+            }
+            None => Some(Fault::at(Line::EntryOutOfOrder, block_address(n, size), other)),
+        },
+    }
+}
