@@ -4,3 +4,5 @@ pub mod Searching
 pub mod Fronts
 pub mod Standing
 pub mod Filling
+pub mod WaysUp
+pub mod Cuts

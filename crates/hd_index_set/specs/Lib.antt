@@ -4,3 +4,4 @@ pub mod Rooms
 pub mod Searches
 pub mod Stands
 pub mod Greatest
+pub mod Removals
