@@ -7,7 +7,7 @@ use Rattle.hd_bytes.specs.Blocks.{block_of, HasBlock}
 use Rattle.hd_volume.specs.Headers.{Header, header_of}
 use Rattle.hd_volume.specs.Volumes.{VolumeState, block_at, kind_of, IsKind}
 use Rattle.hd_volume.specs.Entries.{Entry, entries_in}
-use Rattle.hd_volume.specs.Indexes.{entry_room, IsAmong}
+use Rattle.hd_volume.specs.Indexes.{entry_room, keys_ascend, IsAmong}
 use Rattle.hd_levels.specs.Maps.{without_key}
 use Rattle.hd_levels.specs.Levels.{IndexBlocks, across, named, entries_below, blocks_down, IsIndexSet}
 use Rattle.hd_levels.specs.Ways.{child_of, IsNamed}
@@ -29,6 +29,7 @@ use Rattle.hd_levels.proofs.Unlinking.{chains-linked}
 use Rattle.hd_index_edits.specs.Blocks.{level_of}
 use Rattle.hd_index_edits.proofs.StepLemmas.{there-on, change-join}
 use Rattle.hd_index_set.specs.declared.stand.Stand.{Stand}
+use Rattle.hd_index_set.specs.Blocks.{IsInOrder}
 use Rattle.hd_index_set.specs.Changes.{IsChanged}
 use Rattle.hd_index_set.specs.Removals.{IsLinkedWay, IsStepUp, IsDropped, KeepsRest, IsCut}
 use Rattle.hd_index_set.proofs.Standing.{last-one, some-child, no-child}
@@ -197,6 +198,22 @@ module _ {k : ℕ} {u : VolumeState} {gone : Entry} {kept_top : List ℕ} {v : V
   still-there x j h =
       let s = level-kind u x j h in
       there-on u v x c.was.formatted.header c.rest.formatted.header (size-some u x s.0) c.rest.change.count s.0.there
+
+  -- both are in order still
+  row-order : (x : ℕ) → IsAmong x (c.before ++ (stand.block ∷ c.behind)) → IsInOrder k v x
+  row-order x a =
+      let on = of-level (index_blocks k u) l x (c.before ++ (stand.block ∷ c.behind)) c.set a in
+      let low = c.lower x l on.level (omega arith) in
+      let is = (level-kind v x l low.0).0 in
+      record { is = is; count = c.rest.count x is; ascend = ap (λ (t : List ℕ). keys_ascend (entries_in k t)) low.1 ∙ on.ascend }
+
+  pub block-in-order : IsInOrder k v stand.block
+  block-in-order = row-order stand.block (among-right stand.block c.before (stand.block ∷ c.behind) (inl refl))
+
+  pub left-in-order : stand.left ≢ 0 → IsInOrder k v stand.left
+  left-in-order some =
+      let A : ℕ → Type 0 = λ i. IsAmong i c.before in
+      row-order stand.left (among-left stand.left c.before (stand.block ∷ c.behind) (subst A (sym c.left_is) (last-one c.before (λ z. some (c.left_is ∙ z)))))
 
   -- the first and the last state of a block of the level
   pub lower-block : level_in v stand.block ≡ Some l

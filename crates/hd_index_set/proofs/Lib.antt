@@ -6,3 +6,5 @@ pub mod Standing
 pub mod Filling
 pub mod WaysUp
 pub mod Cuts
+pub mod Drops
+pub mod Forks

@@ -123,13 +123,14 @@ way-stays c d e old new last h top (suc steps) l left n right kept kept_top abov
 -- ---- a walk down
 
 -- at the top
-pub on-top : (c : IndexBlocks) (next : ℕ → ℕ) (h top : ℕ) (key : List ℕ) (l : ℕ) (stand : Stand) → IsIndexSet c h (top ∷ []) → AreLevelsLinked c next h (top ∷ []) → stand.left ≡ 0
+pub on-top : (c : IndexBlocks) (next : ℕ → ℕ) (h top : ℕ) (key : List ℕ) (l : ℕ) (stand : Stand) → 0 < top → IsIndexSet c h (top ∷ []) → AreLevelsLinked c next h (top ∷ []) → stand.left ≡ 0
     → stand.block ≡ top → l ≡ h → IsOnWay c next h top key l stand
-on-top c next h top key l stand set linked left block level =
+on-top c next h top key l stand some set linked left block level =
     let O : ℕ → Type 0 = λ i. IsOnWay c next h top key i stand in
     let A : ℕ → Type 0 = λ n. IsAround c key h [] n [] in
     let L : ℕ → Type 0 = λ n. AreLevelsLinked c next h (n ∷ []) in
     let own : O h = record {
+      some = some;
       before = [];
       behind = [];
       around = subst A (sym block) (top-around c key h top set);
@@ -169,6 +170,7 @@ on-down c next h top key l stand below none s block left =
       relinked = relinked-same next next s.before n s.behind (λ x a. refl);
     } in
     let own : O f.entry.address = record {
+      some = s.some;
       before = before;
       behind = behind;
       around = down;

@@ -60,6 +60,7 @@ IsLinkedWay c d old new h top (suc steps) l left n right kept kept_top =
 
 -- A walk down by a key from the top, which is of level h, stands at a block of a level.
 pub record IsOnWay (c : IndexBlocks) (next : ℕ → ℕ) (h top : ℕ) (key : List ℕ) (l : ℕ) (stand : Stand) : Type 0 where
+  pub some : 0 < top
   pub before : List ℕ
   pub behind : List ℕ
   pub around : IsAround c key l before stand.block behind
