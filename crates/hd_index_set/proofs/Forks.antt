@@ -1,6 +1,7 @@
 -- The lowest fork of a way down.
 use Rattle.std.proofs.Common.{◌≡◌, ◌≢◌, ◌⊎◌, inl, inr, ℕ, suc, ◌-◌, ◌<◌, Bool, true, false, cond, List, [], ◌∷◌, ◌++◌, length, refl, sym, ap, ◌∙◌, subst, arith}
 use Rattle.std.specs.Prelude.{nat_lt}
+use Rattle.std.proofs.lemmas.Bool.{ltb-true, ltb-false}
 use Rattle.hd_volume.specs.Headers.{header_of}
 use Rattle.hd_volume.specs.Volumes.{VolumeState, block_at}
 use Rattle.hd_volume.specs.Entries.{Entry, entries_in}
@@ -13,9 +14,10 @@ use Rattle.hd_levels.proofs.Volumes.{entries-below, top-is}
 use Rattle.hd_volume.proofs.JoinLemmas.{AreOne}
 use Rattle.hd_index_set.specs.declared.stand.Stand.{Stand}
 use Rattle.hd_index_set.specs.declared.way.Fork.{Fork}
+use Rattle.hd_index_set.specs.declared.way.Way.{Way}
 use Rattle.hd_index_set.specs.Blocks.{IsInOrder}
 use Rattle.hd_index_set.specs.Stands.{front_of, IsStand}
-use Rattle.hd_index_set.specs.Removals.{IsBelow, IsThin, IsThinBelow, IsOnWay, IsOnWayIn, IsFork}
+use Rattle.hd_index_set.specs.Removals.{IsBelow, IsThin, IsThinBelow, IsOnWay, IsOnWayIn, IsFork, IsWay}
 use Rattle.hd_index_set.proofs.Standing.{block-order}
 
 -- ---- where a walk stands
@@ -66,13 +68,11 @@ IsForkOver k v key l n rest fork =
 one-entry : (es : List Entry) → es ≢ [] → nat_lt 1 (length es) ≡ false → (e : Entry) × (es ≡ e ∷ [])
 one-entry [] some few = absurd (some refl)
 one-entry (e ∷ []) some few = (e, refl)
-one-entry (e ∷ f ∷ es) some few = absurd (cc)
+one-entry (e ∷ f ∷ es) some few = (let l = ltb-false 1 (length (e ∷ f ∷ es)) few in absurd (omega arith))
 
 -- one with more
 more-entries : (es : List Entry) → nat_lt 1 (length es) ≡ true → 1 < length es
-more-entries [] more = absurd (cc)
-more-entries (e ∷ []) more = absurd (cc)
-more-entries (e ∷ f ∷ es) more = omega arith
+more-entries es more = ltb-true 1 (length es) more
 
 -- what is left to hold may be replaced by what it follows from
 fork-by : (k : ℕ) (v : VolumeState) (key : List ℕ) (l n : ℕ) (fork : Fork) {P Q : Type 0} → (Q → P) → IsForkOver k v key l n P fork → IsForkOver k v key l n Q fork
@@ -118,3 +118,38 @@ fork-end k v key l n stand fork new on over is = by-test (nat_lt 1 (length (entr
     by-test false few is =
         let F : Fork → Type 0 = λ f. IsFork k v key l n f in
         subst F (sym is) (closed fork over (one-entry (entries_in k (block_at v stand.block)) (on-entries k v key 0 stand on) few))
+
+-- ---- the way down, by two states with one image
+
+thin-one : (k : ℕ) (v w : VolumeState) (l n : ℕ) → AreOne v w → IsThin (index_blocks k v) l n → IsThin (index_blocks k w) l n
+thin-one k v w l n one t =
+    let C : IndexBlocks → Type 0 = λ c. IsThin c l n in
+    let blocks : index_blocks k v ≡ index_blocks k w = rw (one.same.size, one.image) refl in
+    subst C blocks t
+
+thin-below-one : (k : ℕ) (v w : VolumeState) (key : List ℕ) (l n : ℕ) → AreOne v w → IsThinBelow (index_blocks k v) key l n → IsThinBelow (index_blocks k w) key l n
+thin-below-one k v w key l n one t =
+    let C : IndexBlocks → Type 0 = λ c. IsThinBelow c key l n in
+    let blocks : index_blocks k v ≡ index_blocks k w = rw (one.same.size, one.image) refl in
+    subst C blocks t
+
+pub way-one : (k : ℕ) (v w : VolumeState) (key : List ℕ) (l n : ℕ) (way : Way) → AreOne v w → IsWay k v key l n way → IsWay k w key l n way
+way-one k v w key l n way one h = record { leaf = on-one k v w key 0 way.leaf one h.leaf; fork = by-fork h.fork }
+  where
+    by-fork : IsFork k v key l n way.fork → IsFork k w key l n way.fork
+    by-fork (inl h) = inl (h.0, thin-one k v w l n one h.1)
+    by-fork (inr h) =
+        let more : length (entries_in k (block_at w way.fork.stand.block)) ≡ length (entries_in k (block_at v way.fork.stand.block)) = rw (one.same.size, one.image) refl in
+        let few = h.1 in
+        inr (on-one k v w key way.fork.level way.fork.stand one h.0, omega arith, thin-below-one k v w key way.fork.level way.fork.stand.block one h.2)
+
+-- where there is no fork
+pub no-fork : (k : ℕ) (v : VolumeState) (key : List ℕ) (l n : ℕ) (fork : Fork) → HasIndexSet k v → IsFork k v key l n fork → fork.stand.block ≡ 0 → IsThin (index_blocks k v) l n
+no-fork k v key l n fork x (inl h) none = h.1
+no-fork k v key l n fork x (inr h) none = let later = (on-order k v key fork.level fork.stand x h.0).is.later in absurd (omega arith)
+
+-- and where there is one
+pub some-fork : (k : ℕ) (v : VolumeState) (key : List ℕ) (l n : ℕ) (fork : Fork) → IsFork k v key l n fork → fork.stand.block ≢ 0
+    → IsOnWayIn k v key fork.level fork.stand × (1 < length (entries_in k (block_at v fork.stand.block))) × IsThinBelow (index_blocks k v) key fork.level fork.stand.block
+some-fork k v key l n fork (inl h) some = absurd (some h.0)
+some-fork k v key l n fork (inr h) some = h

@@ -8,3 +8,4 @@ pub mod WaysUp
 pub mod Cuts
 pub mod Drops
 pub mod Forks
+pub mod Trims
