@@ -1,6 +1,7 @@
 -- An entry that goes: from a fork of its way, or with the whole index.
-use Rattle.std.proofs.Common.{◌≡◌, ◌≢◌, ◌⊎◌, inl, inr, ℕ, suc, ◌+◌, ◌*◌, ◌<◌, ◌≤◌, Bool, true, false, cond, List, [], ◌∷◌, ◌++◌, length, take, drop, Some, None, slice_index, refl, sym, ap, ◌∙◌, subst, arith}
+use Rattle.std.proofs.Common.{◌≡◌, ◌≢◌, ◌⊎◌, inl, inr, ℕ, suc, ◌+◌, ◌*◌, ◌<◌, ◌≤◌, Bool, true, false, cond, List, [], ◌∷◌, ◌++◌, length, take, drop, Option, Some, None, slice_index, refl, sym, ap, ◌∙◌, subst, arith}
 use Rattle.std.specs.Prelude.{◌==◌, bytes_eq}
+use Rattle.std.specs.Option.{is_some}
 use Rattle.std.proofs.lemmas.Bool.{cases_eq, eq-eqb}
 use Rattle.std.proofs.lemmas.List.{length-append}
 use Rattle.std.proofs.lemmas.Slice.Eq.{bytes_eq-Decides}
@@ -31,6 +32,7 @@ use Rattle.hd_levels.proofs.Parents.{index-blocks-placed}
 use Rattle.hd_index_edits.specs.Changes.{IsIndexChange}
 use Rattle.hd_index_edits.specs.Blocks.{level_of, without_entry_at}
 use Rattle.hd_index_edits.specs.Edits.{HasNewEntries, IsEntryRemoved, IsIndexStep}
+use Rattle.hd_index_edits.proofs.EditLemmas.{one-block-at}
 use Rattle.hd_index_edits.proofs.StepLemmas.{change-join, edit-step}
 use Rattle.hd_index_set.specs.declared.stand.Stand.{Stand}
 use Rattle.hd_index_set.specs.Changes.{IsChanged}
@@ -432,3 +434,20 @@ leaf-address k v key stand x s =
 -- without a top there is nothing to take
 pub none-there : (k : ℕ) (v : VolumeState) (key : List ℕ) → HasIndexSet k v → (header_of v.image).top ≡ 0 → address_of key (index_entries k v) ≡ None
 none-there k v key x none = ap (address_of key) (no-entries k v x none)
+
+pub one-joined : (u v w : VolumeState) → AreOne u v → AreOne v w → AreOne u w
+one-joined u v w a b = record { same = record { size = b.same.size ∙ a.same.size; sizes = b.same.sizes ∙ a.same.sizes }; image = b.image ∙ a.image }
+
+-- what was read of a key at the end of its way
+pub read-address : (k : ℕ) (u v : VolumeState) (key : List ℕ) (stand : Stand) (found : Option ℕ) → AreOne u v → HasIndexSet k u → IsOnWayIn k u key 0 stand
+    → found ≡ address_of key (entries_in k (block_at v stand.block)) → address_of key (index_entries k u) ≡ found
+read-address k u v key stand found one x s read =
+    leaf-address k u key stand x s ∙ ap (λ (b : List ℕ). address_of key (entries_in k b)) (sym (one-block-at one stand.block)) ∙ sym read
+
+pub none-of : (found : Option ℕ) → is_some found ≡ false → found ≡ None
+none-of None h = refl
+none-of (Some n) h = absurd (cc)
+
+pub some-of : (found : Option ℕ) → is_some found ≡ true → found ≢ None
+some-of None h = absurd (cc)
+some-of (Some n) h = λ none. cc
