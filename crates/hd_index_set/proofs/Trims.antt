@@ -151,8 +151,8 @@ cleared k u v w gone l stand x some level left block thin below same-v top same-
     let top-w : (header_of w.image).top ≡ 0 = ap (λ (h : Header). h.top) height.is ∙ ap (λ (h : Header). h.top) top.is in
     let height-w : (header_of w.image).height ≡ 0 = ap (λ (h : Header). h.height) height.is in
     let on = λ (b j : ℕ) (h : level_in u b ≡ Some j). (
-      let r = head-level same-v top b j h in let q = head-level same-w height b j r.0 in
-      let both : (level_in w b ≡ Some j) × (block_at w b ≡ block_at u b) = (q.0, q.1 ∙ r.1) in both
+    let r = head-level same-v top b j h in let q = head-level same-w height b j r.0 in
+    let both : (level_in w b ≡ Some j) × (block_at w b ≡ block_at u b) = (q.0, q.1 ∙ r.1) in both
     ) in
     record {
       was = x;
@@ -170,14 +170,16 @@ cleared k u v w gone l stand x some level left block thin below same-v top same-
       placed = λ b j h other.
           let old = head-was same-v top b j (head-was same-w height b j h) in
           let p = index-blocks-placed k u x b j old in
-          let A : List ℕ → Type 0 = λ ns. IsAmong b ns in
-          (p.0, elim p.1 [
-            | inl up ↦ elim (subst A one up) [ inl e ↦ absurd (other (e ∙ sym block)) | inr none ↦ absurd none ]
-            | inr q ↦
-                (let r = on q.parent (suc j) q.level in
-                let N : List ℕ → Type 0 = λ bytes. IsAmong b (named (entries_in k bytes)) in
-                inr (record { parent = q.parent; level = r.0; names = subst N (sym r.1) q.names }))
-          ]);
+          let A : List ℕ → Type 0 = λ ns. IsAmong b ns in (
+            p.0,
+            elim p.1 [
+              | inl up ↦ elim (subst A one up) [ inl e ↦ absurd (other (e ∙ sym block)) | inr none ↦ absurd none ]
+              | inr q ↦
+                  (let r = on q.parent (suc j) q.level in
+                  let N : List ℕ → Type 0 = λ bytes. IsAmong b (named (entries_in k bytes)) in
+                  inr (record { parent = q.parent; level = r.0; names = subst N (sym r.1) q.names }))
+            ],
+          );
       rest = record {
         size = same-w.size ∙ same-v.size;
         formatted = formatted-w;
@@ -287,15 +289,17 @@ leaf-trimmed k u w key stand x s more there h =
     (λ b j at.
     let old = new-was k n 0 0 (next_in u n) (front ++ f.back) new is b j at in
     let p = index-blocks-placed k u x b j old in
-    let A : List ℕ → Type 0 = λ ns. IsAmong b ns in
-    (p.0, elim p.1 [
-      | inl up ↦ inl (subst A (top-is u s.some) up)
-      | inr q ↦
-          (let apart : q.parent ≢ n = λ e. (let z : suc j ≡ 0 = level-is c (suc j) 0 q.parent q.level (ap (level_in u) e ∙ is) in omega arith) in
-          let r = others q.parent (suc j) q.level apart in
-          let N : List Entry → Type 0 = λ t. IsAmong b (named t) in
-          inr (record { parent = q.parent; level = r.0.0; names = subst N (sym r.0.1) q.names }))
-    ])) (rest-new k u w n (front ++ f.back) (next_in u n) x s.some new))
+    let A : List ℕ → Type 0 = λ ns. IsAmong b ns in (
+      p.0,
+      elim p.1 [
+        | inl up ↦ inl (subst A (top-is u s.some) up)
+        | inr q ↦
+            (let apart : q.parent ≢ n = λ e. (let z : suc j ≡ 0 = level-is c (suc j) 0 q.parent q.level (ap (level_in u) e ∙ is) in omega arith) in
+            let r = others q.parent (suc j) q.level apart in
+            let N : List Entry → Type 0 = λ t. IsAmong b (named t) in
+            inr (record { parent = q.parent; level = r.0.0; names = subst N (sym r.0.1) q.names }))
+      ],
+    )) (rest-new k u w n (front ++ f.back) (next_in u n) x s.some new))
 
 -- the upper entry of a fork is gone, and a way of single entries below it is cut off
 pub fork-trimmed : (k : ℕ) (u w : VolumeState) (key : List ℕ) (l : ℕ) (stand below : Stand) → HasIndexSet k u → IsOnWayIn k u key (suc l) stand → 1 < length (entries_in k (block_at u stand.block))
@@ -363,9 +367,15 @@ fork-trimmed k u w key l stand below x s more thin down there h =
       thin = thin-b;
       below = only.1;
       steps = suc s.steps;
-      way = (s.before, n, s.behind, n ∷ [], up,
-          way-stays c c (index_blocks k w) (next_in u) (next_in u) (next_in w) (top_level u) top s.steps (suc l) s.before n s.behind (n ∷ []) (top ∷ [])
-          (λ y j level less. let r = others y j level (away y j level (λ e. omega arith)) in ((λ old. r.0.0), r.0.1, r.1)) s.way);
+      way = (
+        s.before,
+        n,
+        s.behind,
+        n ∷ [],
+        up,
+        way-stays c c (index_blocks k w) (next_in u) (next_in u) (next_in w) (top_level u) top s.steps (suc l) s.before n s.behind (n ∷ []) (top ∷ [])
+            (λ y j level less. let r = others y j level (away y j level (λ e. omega arith)) in ((λ old. r.0.0), r.0.1, r.1)) s.way,
+      );
       lower = λ y j level less.
           let p = away y j level (λ e. omega arith) in
           let r = others y j level p in
@@ -373,46 +383,49 @@ fork-trimmed k u w key l stand below x s more thin down there h =
       placed = λ y j level other.
           let old = new-was k n (suc l) 0 (next_in u n) (front ++ f.back) new is y j level in
           let p = index-blocks-placed k u x y j old in
-          let A : List ℕ → Type 0 = λ ns. IsAmong y ns in
-          (p.0, elim p.1 [
-            | inl first ↦ inl (subst A (top-is u s.some) first)
-            | inr q ↦ inr (elim (cases_eq q.parent n) [
-              | inl e ↦
-                  (let same : suc j ≡ suc l = level-is c (suc j) (suc l) q.parent q.level (ap (level_in u) e ∙ is) in
-                  let N : List Entry → Type 0 = λ t. IsAmong y (named t) in
-                  let Q : ℕ → Type 0 = λ i. IsAmong y (named (entries_in k (block_at u i))) in
-                  let parts = among-parts y (named front) (b ∷ named f.back) (subst A (named-append front (f.entry ∷ f.back)) (subst N f.is (subst Q e q.names))) in
-                  let stays : IsAmong y (named (front ++ f.back)) = subst A (sym (named-append front f.back)) (elim parts [
-                    | inl a ↦ among-left y (named front) (named f.back) a
-                    | inr (inl z) ↦ absurd (other z)
-                    | inr (inr a) ↦ among-right y (named front) (named f.back) a
-                  ]) in
-                  record { parent = n; level = own.0 ∙ ap (λ (i : ℕ). Some i) (sym same); names = subst N (sym own.1) stays })
-              | inr p2 ↦
-                  (let r = others q.parent (suc j) q.level p2 in
-                  let N : List Entry → Type 0 = λ t. IsAmong y (named t) in
-                  record { parent = q.parent; level = r.0.0; names = subst N (sym r.0.1) q.names })
-            ])
-          ]);
+          let A : List ℕ → Type 0 = λ ns. IsAmong y ns in (
+            p.0,
+            elim p.1 [
+              | inl first ↦ inl (subst A (top-is u s.some) first)
+              | inr q ↦ inr (elim (cases_eq q.parent n) [
+                | inl e ↦
+                    (let same : suc j ≡ suc l = level-is c (suc j) (suc l) q.parent q.level (ap (level_in u) e ∙ is) in
+                    let N : List Entry → Type 0 = λ t. IsAmong y (named t) in
+                    let Q : ℕ → Type 0 = λ i. IsAmong y (named (entries_in k (block_at u i))) in
+                    let parts = among-parts y (named front) (b ∷ named f.back) (subst A (named-append front (f.entry ∷ f.back)) (subst N f.is (subst Q e q.names))) in
+                    let stays : IsAmong y (named (front ++ f.back)) = subst A (sym (named-append front f.back)) (elim parts [
+                      | inl a ↦ among-left y (named front) (named f.back) a
+                      | inr (inl z) ↦ absurd (other z)
+                      | inr (inr a) ↦ among-right y (named front) (named f.back) a
+                    ]) in
+                    record { parent = n; level = own.0 ∙ ap (λ (i : ℕ). Some i) (sym same); names = subst N (sym own.1) stays })
+                | inr p2 ↦
+                    (let r = others q.parent (suc j) q.level p2 in
+                    let N : List Entry → Type 0 = λ t. IsAmong y (named t) in
+                    record { parent = q.parent; level = r.0.0; names = subst N (sym r.0.1) q.names })
+              ])
+            ],
+          );
       rest = rest-new k u w n (front ++ f.back) (next_in u n) x s.some new;
     } in
     (gone, name, subst O (sym at) cut)
 
 -- an index whose way down is of single entries has one entry, that of a key that is there
-pub all-cleared : (k : ℕ) (u v w : VolumeState) (key : List ℕ) (l : ℕ) (stand : Stand) → HasIndexSet k u → 0 < (header_of u.image).top → l ≡ top_level u → stand.left ≡ 0 → stand.block ≡ (header_of u.image).top
-    → IsThin (index_blocks k u) l stand.block → address_of key (index_entries k u) ≢ None
-    → AreSame u v → HasNewHeader u (record (header_of u.image) { top = 0 }) v → AreSame v w → HasNewHeader v (record (header_of v.image) { height = 0 }) w
-    → (gone : Entry) × (gone.key ≡ key) × IsCut k u gone [] w l stand
-all-cleared k u v w key l stand x some level left block thin there same-v top same-w height =
+pub all-cleared : (k : ℕ) (u v w : VolumeState) (l : ℕ) (stand : Stand) → HasIndexSet k u → 0 < (header_of u.image).top → l ≡ top_level u → stand.left ≡ 0 → stand.block ≡ (header_of u.image).top
+    → IsThin (index_blocks k u) l stand.block → AreSame u v → HasNewHeader u (record (header_of u.image) { top = 0 }) v → AreSame v w → HasNewHeader v (record (header_of v.image) { height = 0 }) w
+    → (gone : Entry) × ((key : List ℕ) → address_of key (index_entries k u) ≢ None → gone.key ≡ key) × IsCut k u gone [] w l stand
+all-cleared k u v w l stand x some level left block thin same-v top same-w height =
     let c : IndexBlocks = index_blocks k u in
     let two = x.version in
     let only = thin-entry c l stand.block thin in
     let gone : Entry = only.0 in
     let all : index_entries k u ≡ gone ∷ [] =
     (entries-below k u).1 (λ e. omega arith) ∙ ap (entries_below c (top_level u)) (top-is u some) ∙ ap (λ (i : ℕ). entries_below c i ((header_of u.image).top ∷ [])) (sym level)
-    ∙ ap (λ (n : ℕ). entries_below c l (n ∷ [])) (sym block) ∙ only.1 in
-    (gone, same-key gone.key key (found-between key [] gone [] tt refl refl (λ none. there (ap (address_of key) all ∙ none))),
-    cleared k u v w gone l stand x some level left block thin only.1 same-v top same-w height)
+    ∙ ap (λ (n : ℕ). entries_below c l (n ∷ [])) (sym block) ∙ only.1 in (
+      gone,
+      (λ key there. same-key gone.key key (found-between key [] gone [] tt refl refl (λ none. there (ap (address_of key) all ∙ none)))),
+      cleared k u v w gone l stand x some level left block thin only.1 same-v top same-w height,
+    )
 
 -- where a walk starts
 pub on-start : (k : ℕ) (v : VolumeState) (key : List ℕ) (l : ℕ) (stand : Stand) → HasIndexSet k v → 0 < (header_of v.image).top → stand.left ≡ 0 → stand.block ≡ (header_of v.image).top → l ≡ top_level v

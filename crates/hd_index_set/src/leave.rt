@@ -1,4 +1,4 @@
-ghost use Rattle.std.specs.Prelude.{◌≡◌, ◌≢◌, ◌≤◌, ◌<◌, [], None, length, IsTrue, IfOk, OnOk};
+ghost use Rattle.std.specs.Prelude.{◌≡◌, ◌≢◌, ◌≤◌, ◌<◌, ℕ, List, [], None, length, IsTrue, IfOk, OnOk};
 ghost use Rattle.hd_bytes.specs.Numbers.{number_at};
 ghost use Rattle.hd_dbd.specs.Refusals.{OnlyDevice};
 ghost use Rattle.hd_volume.specs.Headers.{header_of};
@@ -93,7 +93,7 @@ fn remove_on<S: BlockStore>(
     ensures room { volume.new.room ≡ volume.old.room }
 {
     if way.fork.stand.block == 0 {
-        return clear(volume, key_length, levels, top, key);
+        return clear(volume, key_length, levels, top);
     }
     if way.fork.level == 0 {
         take_out(volume, key_length, way.fork.stand.block, key)?;
@@ -108,21 +108,18 @@ fn clear<S: BlockStore>(
     key_length: usize,
     levels: u32,
     top: u32,
-    key: &[u8],
 ) -> Result<(), Refused>
     requires index { IsTrue volume.old.is_sound → HasIndexSet key_length volume.old }
     requires top { IsTrue volume.old.is_sound → top ≡ (header_of volume.old.image).top }
     requires some { 0 < top }
     requires levels { IsTrue volume.old.is_sound → levels ≡ top_level volume.old }
     requires thin { IsTrue volume.old.is_sound → IsThin (index_blocks key_length volume.old) levels top }
-    requires there { IsTrue volume.old.is_sound → address_of key.now (index_entries key_length volume.old) ≢ None }
     requires short { key_length ≤ 255 }
     ensures call { IsCall volume.old result volume.new }
-    ensures changed { OnOk result (IsTrue volume.old.is_sound → IsChanged key_length volume.old (without_key key.now (index_entries key_length volume.old)) 0 volume.new) }
+    ensures changed { OnOk result (IsTrue volume.old.is_sound → (key : List ℕ) → address_of key (index_entries key_length volume.old) ≢ None → IsChanged key_length volume.old (without_key key (index_entries key_length volume.old)) 0 volume.new) }
     ensures refusal { OnlyDevice result }
     ensures room { volume.new.room ≡ volume.old.room }
 {
-    let _ = key;
     volume.set_top(0);
     volume.set_height(0);
     let start = Stand {

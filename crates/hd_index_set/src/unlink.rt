@@ -38,20 +38,15 @@ fn next_of<S: BlockStore>(volume: &mut Volume<S>, n: u32) -> Result<u32, Refused
 }
 
 /// Lets the left neighbour of a block, if it has one, name the block behind it.
-fn pass_over<S: BlockStore>(
-    volume: &mut Volume<S>,
-    key_length: usize,
-    stand: Stand,
-) -> Result<(), Refused>
+fn pass_over<S: BlockStore>(volume: &mut Volume<S>, stand: Stand) -> Result<(), Refused>
     requires formatted { IsTrue volume.old.is_sound → IsFormatted volume.old }
     requires block { IsTrue volume.old.is_sound → IsKind volume.old 2 stand.block }
-    requires left { IsTrue volume.old.is_sound → stand.left ≢ 0 → IsIndexBlock key_length volume.old stand.left }
+    requires left { IsTrue volume.old.is_sound → stand.left ≢ 0 → (key_length : ℕ) × IsIndexBlock key_length volume.old stand.left }
     ensures call { IsCall volume.old result volume.new }
-    ensures passed { OnOk result (IsTrue volume.old.is_sound → IsPassed key_length volume.old stand volume.new) }
+    ensures passed { OnOk result (IsTrue volume.old.is_sound → (key_length : ℕ) → (stand.left ≢ 0 → IsIndexBlock key_length volume.old stand.left) → IsPassed key_length volume.old stand volume.new) }
     ensures refusal { OnlyDevice result }
     ensures room { volume.new.room ≡ volume.old.room }
 {
-    let _ = key_length;
     if stand.left == 0 {
         return Ok(());
     }
@@ -61,21 +56,17 @@ fn pass_over<S: BlockStore>(
 }
 
 /// Makes a block free, and takes it out of the chain of its level.
-fn drop_block<S: BlockStore>(
-    volume: &mut Volume<S>,
-    key_length: usize,
-    stand: Stand,
-) -> Result<(), Refused>
+fn drop_block<S: BlockStore>(volume: &mut Volume<S>, stand: Stand) -> Result<(), Refused>
     requires formatted { IsTrue volume.old.is_sound → IsFormatted volume.old }
     requires block { IsTrue volume.old.is_sound → IsKind volume.old 2 stand.block }
-    requires left { IsTrue volume.old.is_sound → stand.left ≢ 0 → IsIndexBlock key_length volume.old stand.left }
+    requires left { IsTrue volume.old.is_sound → stand.left ≢ 0 → (key_length : ℕ) × IsIndexBlock key_length volume.old stand.left }
     requires apart { IsTrue volume.old.is_sound → stand.left ≢ stand.block }
     ensures call { IsCall volume.old result volume.new }
-    ensures dropped { OnOk result (IsTrue volume.old.is_sound → IsDropped key_length volume.old stand volume.new) }
+    ensures dropped { OnOk result (IsTrue volume.old.is_sound → (key_length : ℕ) → (stand.left ≢ 0 → IsIndexBlock key_length volume.old stand.left) → IsDropped key_length volume.old stand volume.new) }
     ensures refusal { OnlyDevice result }
     ensures room { volume.new.room ≡ volume.old.room }
 {
-    pass_over(volume, key_length, stand)?;
+    pass_over(volume, stand)?;
     volume.give_block(stand.block)?;
     Ok(())
 }
@@ -117,9 +108,9 @@ pub fn drop_way<S: BlockStore>(
     let mut stand = start;
     for _ in 0..levels {
         let below = only_below(volume, key_length, stand)?;
-        drop_block(volume, key_length, stand)?;
+        drop_block(volume, stand)?;
         stand = below;
     }
-    drop_block(volume, key_length, stand)?;
+    drop_block(volume, stand)?;
     Ok(())
 }

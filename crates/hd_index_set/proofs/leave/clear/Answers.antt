@@ -24,12 +24,12 @@ drop_way-requires-clause-cut g c now =
     let same-w : AreSame y w = record { size = ap (λ (t : VolumeState). t.size) rest-w; sizes = ap (λ (t : VolumeState). t.sizes) rest-w } in
     let top = c.requires.top sound in
     let some = c.requires.some in
-    let r = all-cleared k u y w c.args.key.now c.args.levels (record { left = 0; block = c.args.top }) (c.requires.index sound) (omega arith) (c.requires.levels sound) refl top (c.requires.thin sound) (c.requires.there sound)
+    let r = all-cleared k u y w c.args.levels (record { left = 0; block = c.args.top }) (c.requires.index sound) (omega arith) (c.requires.levels sound) refl top (c.requires.thin sound)
     same-y (c.set_top.ensures.set sound) same-w (c.set_height.ensures.set s2) in
     (u, r.0, _, r.2)
 
 pub returns-clause-changed : goal.returns-clause-changed
-returns-clause-changed g c sound =
+returns-clause-changed g c sound key there =
     let u = c.args.volume.now in
     let y = c.set_top.new.self in
     let w = c.set_height.new.self in
@@ -44,7 +44,7 @@ returns-clause-changed g c sound =
     let same-w : AreSame y w = record { size = ap (λ (t : VolumeState). t.size) rest-w; sizes = ap (λ (t : VolumeState). t.sizes) rest-w } in
     let top = c.requires.top sound in
     let some = c.requires.some in
-    let r = all-cleared k u y w c.args.key.now c.args.levels (record { left = 0; block = c.args.top }) (c.requires.index sound) (omega arith) (c.requires.levels sound) refl top (c.requires.thin sound) (c.requires.there sound)
+    let r = all-cleared k u y w c.args.levels (record { left = 0; block = c.args.top }) (c.requires.index sound) (omega arith) (c.requires.levels sound) refl top (c.requires.thin sound)
     same-y (c.set_top.ensures.set sound) same-w (c.set_height.ensures.set s2) in
     let K : List ℕ → Type 0 = λ t. IsChanged k u (without_key t (index_entries k u)) 0 c.drop_way.new.volume in
-    subst K r.1 (c.in_ok-drop_way.ensures.changed now u r.0 _ r.2)
+    subst K (r.1 key there) (c.in_ok-drop_way.ensures.changed now u r.0 _ r.2)

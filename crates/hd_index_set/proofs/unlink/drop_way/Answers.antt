@@ -45,8 +45,8 @@ drop_block-requires-clause-left g c now some =
     let sound : IsTrue c.args.volume.now.is_sound = rw (← inv.call.sound) here in
     let off = c.requires.cut sound in
     let cut = inv.cut sound off.0 off.1 off.2 off.3 in
-    index-block-one c.args.key_length c.loop.volume c.only_below.new.volume c.loop.stand.left (read-one read now)
-    (order-index c.args.key_length c.loop.volume c.loop.stand.left (left-in-order cut some))
+    (c.args.key_length, index-block-one c.args.key_length c.loop.volume c.only_below.new.volume c.loop.stand.left (read-one read now)
+    (order-index c.args.key_length c.loop.volume c.loop.stand.left (left-in-order cut some)))
 
 pub drop_block-requires-clause-apart : goal.drop_block-requires-clause-apart
 drop_block-requires-clause-apart g c now =
@@ -77,7 +77,7 @@ loop-preserved g c =
           let cut = subst C more (inv.cut sound old gone kept_top h) in
           let one = read-one read now in
           let order = block-in-order cut in
-          let drop = dropped-before k v x w c.loop.stand one cut.rest.formatted (size-some v c.loop.stand.block order.is) (c.in_ok-drop_block.ensures.dropped now) in
+          let drop = dropped-before k v x w c.loop.stand one cut.rest.formatted (size-some v c.loop.stand.block order.is) (c.in_ok-drop_block.ensures.dropped now k (λ some. index-block-one k v x c.loop.stand.left one (order-index k v c.loop.stand.left (left-in-order cut some)))) in
           cut-on k old gone kept_top v less c.loop.stand w c.in_ok-below.below cut drop (c.in_ok-below.ensures.block here order) (c.in_ok-below.ensures.left here (left-in-order cut));
     }
 
@@ -100,7 +100,7 @@ drop_block-requires-2-clause-left g c here some =
     let inv = c.loop.invariant in
     let sound : IsTrue c.args.volume.now.is_sound = rw (← inv.call.sound) here in
     let off = c.requires.cut sound in
-    order-index c.args.key_length c.loop.volume c.loop.stand.left (left-in-order (inv.cut sound off.0 off.1 off.2 off.3) some)
+    (c.args.key_length, order-index c.args.key_length c.loop.volume c.loop.stand.left (left-in-order (inv.cut sound off.0 off.1 off.2 off.3) some))
 
 pub drop_block-requires-2-clause-apart : goal.drop_block-requires-2-clause-apart
 drop_block-requires-2-clause-apart g c here =
@@ -120,4 +120,5 @@ returns-clause-changed g c sound old gone kept_top h =
     let here : IsTrue v.is_sound = rw inv.call.sound sound in
     let done : c.args.levels - c.loop.counter ≡ 0 = (let t = c.loop-test.false in omega arith) in
     let C : ℕ → Type 0 = λ l. IsCut k old gone kept_top v l c.loop.stand in
-    cut-end k old gone kept_top v c.loop.stand c.drop_block-2.new.volume (subst C done (inv.cut sound old gone kept_top h)) (c.in_ok-drop_block-2.ensures.dropped here)
+    let cut = subst C done (inv.cut sound old gone kept_top h) in
+    cut-end k old gone kept_top v c.loop.stand c.drop_block-2.new.volume cut (c.in_ok-drop_block-2.ensures.dropped here k (λ some. order-index k v c.loop.stand.left (left-in-order cut some)))
