@@ -9,3 +9,10 @@ pub mod Cuts
 pub mod Drops
 pub mod Forks
 pub mod Trims
+pub mod Parts
+pub mod Heads
+pub mod ReadSteps
+pub mod Halving
+pub mod Under
+pub mod Tops
+pub mod Inserting

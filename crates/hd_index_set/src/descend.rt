@@ -1,4 +1,4 @@
-ghost use Rattle.std.specs.Prelude.{◌≡◌, ◌≤◌, IsTrue, IfOk};
+ghost use Rattle.std.specs.Prelude.{◌≡◌, ◌+◌, ◌≤◌, ℕ, IsTrue, IfOk};
 ghost use Rattle.hd_dbd.specs.Refusals.{OnlyDevice};
 ghost use Rattle.hd_volume.specs.Calls.{IsRead};
 ghost use Rattle.hd_levels.specs.Ways.{leaf_of};
@@ -14,7 +14,7 @@ use hd_volume::{BlockStore, Volume};
 pub const MOST_LEVELS: u32 = 64;
 
 /// The block that a key leads to so many levels below a block.
-fn descend<S: BlockStore>(
+pub fn descend<S: BlockStore>(
     volume: &mut Volume<S>,
     key_length: usize,
     levels: u32,
@@ -23,7 +23,7 @@ fn descend<S: BlockStore>(
 ) -> Result<u32, Refused>
     requires short { key_length ≤ 255 }
     ensures read { IsRead volume.old result volume.new }
-    ensures value { IfOk result (λ m. IsTrue volume.old.is_sound → HasIndexSet key_length volume.old → IsRightBlock key_length volume.old levels n → m ≡ leaf_of (index_blocks key_length volume.old) key.now levels n) }
+    ensures value { IfOk result (λ m. IsTrue volume.old.is_sound → HasIndexSet key_length volume.old → (l : ℕ) → IsRightBlock key_length volume.old (levels + l) n → (m ≡ leaf_of (index_blocks key_length volume.old) key.now levels n) × IsRightBlock key_length volume.old l m) }
     ensures refusal { OnlyDevice result }
 {
     let mut below = n;

@@ -31,6 +31,8 @@ pub fn enter_key<S: BlockStore>(
     ensures refusal { OnlyDevice result }
     ensures room { volume.new.room ≡ volume.old.room }
 {
-    let _ = (key_length, by, key, address);
+    if by.len() + key.len() > key_length && address > 0 {
+        return Ok(());
+    }
     volume.flush()
 }

@@ -19,7 +19,7 @@ use hd_entries::{FIRST, IndexBlock};
 use hd_volume::{BlockStore, Volume};
 
 /// The key of an entry, copied to the front.
-fn key_copy(block: &IndexBlock, index: usize) -> [u8; 255]
+pub fn key_copy(block: &IndexBlock, index: usize) -> [u8; 255]
     requires { index < entry_count block.now.key_length block.now.bytes.now }
     ensures { take block.now.key_length result ≡ bytes_at block.now.bytes.now (entry_place block.now.key_length index) block.now.key_length }
 {
@@ -77,7 +77,7 @@ fn greatest_in<S: BlockStore>(
 }
 
 /// The last key of a block, if it has an entry.
-fn last_in<S: BlockStore>(
+pub fn last_in<S: BlockStore>(
     volume: &mut Volume<S>,
     key_length: usize,
     n: u32,

@@ -3,6 +3,7 @@
 #![tactic(auto)]
 
 mod descend;
+mod dividing;
 mod enter;
 mod first;
 mod greatest;

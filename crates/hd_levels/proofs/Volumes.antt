@@ -75,7 +75,8 @@ right-block k v l n x on =
     let s = level-kind v n l on.level in
     record { is = s.0; level = s.1; some = count-some k (block_at v n) 12 (number_at 2 (block_at v n) 4) on.some; count = x.count n s.0; ascend = on.ascend }
 
-none-down : (c : IndexBlocks) (l n : ℕ) → IsAmong n (blocks_down c l []) → ⊥
+-- below no blocks there is none
+pub none-down : (c : IndexBlocks) (l n : ℕ) → IsAmong n (blocks_down c l []) → ⊥
 none-down c zero n among = among
 none-down c (suc l) n among = none-down c l n among
 

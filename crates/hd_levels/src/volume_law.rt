@@ -1,5 +1,5 @@
 ghost use Rattle.hd_levels.specs.Faultless.{IndexSetsAreFaultless};
-ghost use Rattle.hd_levels.specs.LevelFaults.{FormsAreJudged, NamesAreJudged, ReachIsJudged};
+ghost use Rattle.hd_levels.specs.LevelFaults.{FormsAreJudged, NamesAreJudged, ReachIsJudged, LevelsAreJudged, FaultsAreAll};
 ghost use Rattle.hd_levels.specs.Neighbours.{LeftNeighboursAreNamed};
 ghost use Rattle.hd_levels.specs.Parents.{IndexBlocksArePlaced, PlacedBlocksAreReached};
 ghost use Rattle.hd_levels.specs.VolumeLaws.{LevelsAreOfIndexBlocks, IndexBlocksAreRight, TopsAreRight, ChildrenAreRight, BlocksAreNamedOnce};
@@ -94,6 +94,16 @@ pub fn law_names_are_judged()
 /// Just where each index block is reached from the top, no fault of an unreached one stands.
 pub fn law_reach_is_judged()
     ensures { ReachIsJudged }
+{}
+
+/// Phase 11 finds nothing just where each level is a chain from left to right, and the keys are right.
+pub fn law_levels_are_judged()
+    ensures { LevelsAreJudged }
+{}
+
+/// A formatted volume of version 2 has an index set just where no line of the fault table stands.
+pub fn law_faults_are_all()
+    ensures { FaultsAreAll }
 {}
 
 /// The sample of the documents, in a volume of version 2 with an index of two levels, has an index set.
