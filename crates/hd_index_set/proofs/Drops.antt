@@ -18,6 +18,7 @@ use Rattle.hd_index_edits.proofs.StepLemmas.{count-header, three-header, change-
 use Rattle.hd_index_set.specs.declared.stand.Stand.{Stand}
 use Rattle.hd_index_set.specs.Blocks.{IsInOrder}
 use Rattle.hd_index_set.specs.Removals.{IsPassed, IsDropped}
+use Rattle.hd_index_set.proofs.ReadSteps.{change-before}
 use Rattle.hd_index_set.proofs.Cuts.{size-some}
 
 -- ---- behind a read
@@ -167,8 +168,8 @@ dropped k u v w stand f apart p same g =
     }
 
 -- the same, behind a read
-pub dropped-before : (k : ℕ) (u v w : VolumeState) (stand : Stand) → AreOne u v → IsFormatted u → 0 < u.size → IsDropped k v stand w → IsDropped k u stand w
-dropped-before k u v w stand one f some d =
+pub dropped-before : (k : ℕ) (u v w : VolumeState) (stand : Stand) → AreOne u v → IsDropped k v stand w → IsDropped k u stand w
+dropped-before k u v w stand one d =
     let left = one-block-at one stand.left in
     let block = one-block-at one stand.block in
     let L : List ℕ → Type 0 = λ t. Bears k w (level_of t) stand.left (entries_in k t) (number_at 4 (block_at v stand.block) 8) in
@@ -181,8 +182,8 @@ dropped-before k u v w stand one f some d =
       formatted = d.formatted;
       gone = d.gone;
       others = λ x there a b. d.others x (one-there one x there) a b ∙ one-block-at one x;
-      left = λ some2. subst N block (subst L left (d.left some2));
+      left = λ some. subst N block (subst L left (d.left some));
       header = d.header ∙ ap header_of one.image;
-      change = change-join 0 0 f (one-formatted one f) some one.same.size (change-one u v one) d.change;
+      change = change-before u v w 0 one d.change;
       spares = omega arith;
     }

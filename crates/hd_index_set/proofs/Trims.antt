@@ -39,6 +39,8 @@ use Rattle.hd_index_set.specs.Changes.{IsChanged}
 use Rattle.hd_index_set.specs.Stands.{front_of}
 use Rattle.hd_index_set.specs.Removals.{IsBelow, IsThin, IsThinBelow, IsStepUp, IsOnWayIn, KeepsRest, IsCut}
 use Rattle.hd_index_set.proofs.Fronts.{fronted, IsFront}
+use Rattle.hd_index_set.proofs.Heads.{head-other, head-on, head-back, head-change}
+use Rattle.hd_index_set.proofs.ReadSteps.{changed-before}
 use Rattle.hd_index_set.proofs.Searching.{set-same, no-entries}
 use Rattle.hd_index_set.proofs.Steps.{borne, other-stays, other-was, counts-stay}
 use Rattle.hd_index_set.proofs.WaysUp.{on-top, left-some, relinked-same, way-stays, thin-entry, found-between, found-front}
@@ -60,72 +62,27 @@ unchanged k u v key one x none =
         by-test true none rest = absurd (cc)
         by-test false none rest = ap (λ (t : List Entry). e ∷ t) (rest none)
 
--- the same change, behind a read
-pub changed-before : (k : ℕ) (u v w : VolumeState) (key : List ℕ) → AreOne u v → HasIndexSet k u → 0 < u.size → IsChanged k v (without_key key (index_entries k v)) 0 w
-    → IsChanged k u (without_key key (index_entries k u)) 0 w
-changed-before k u v w key one x some c =
-    let r = set-same k u v one x in
-    let spare = one-spare one in
-    let spares = c.spares in
-    record {
-      size = c.size ∙ one.same.size;
-      index = c.index;
-      entries = c.entries ∙ ap (without_key key) r.1;
-      change = change-join 0 0 x.formatted r.0.formatted some one.same.size (change-one u v one) c.change;
-      spares = omega arith;
-    }
+-- a key that goes behind a read
+pub removed-read : (k : ℕ) (u v w : VolumeState) (key : List ℕ) → AreOne u v → HasIndexSet k u → IsChanged k v (without_key key (index_entries k v)) 0 w → IsChanged k u (without_key key (index_entries k u)) 0 w
+removed-read k u v w key one x c =
+    let K : List Entry → Type 0 = λ es. IsChanged k v (without_key key es) 0 w in
+    changed-before k u v w (without_key key (index_entries k u)) 0 one (subst K (set-same k u v one x).1 c)
 
 -- ---- top and height are 0
 
--- the header alone has changed
+-- where the header alone has changed each index block stays
 module _ {v w : VolumeState} {h : Header} (same : AreSame v w) (n : HasNewHeader v h w) where
-  head-other : (b : ℕ) → HasBlock v.size v.image b → 0 < b → block_at w b ≡ block_at v b
-  head-other b there later = ap (λ (z : ℕ). block_of z w.image b) same.size ∙ n.block.others b there (λ e. omega arith)
-
-  head-there : (b : ℕ) → HasBlock w.size w.image b → HasBlock v.size v.image b
-  head-there b there = (let l = n.block.len in let t : b * v.size + v.size ≤ length w.image = rw same.size at there in omega arith)
-
-  head-on : (j b : ℕ) → IsKind v j b → IsKind w j b
-  head-on j b k =
-      let l = n.block.len in
-      let t : b * v.size + v.size ≤ length v.image = k.there in
-      record { there = rw same.size (omega arith); later = k.later; kind_is = ap kind_of (head-other b k.there k.later) ∙ k.kind_is }
-
-  head-back : (j b : ℕ) → IsKind w j b → IsKind v j b
-  head-back j b k = (let there = head-there b k.there in record { there = there; later = k.later; kind_is = ap kind_of (sym (head-other b there k.later)) ∙ k.kind_is })
-
-  head-kinds : HasKinds v → HasKinds w
-  head-kinds k b there later = elim (k b (head-there b there) later) [
-    | inl one ↦ inl (head-on 1 b one)
-    | inr (inl two) ↦ inr (inl (head-on 2 b two))
-    | inr (inr three) ↦ inr (inr (head-on 3 b three))
-  ]
-
-  head-change : h.count ≡ (header_of v.image).count → h ≡ record (header_of v.image) { count = h.count; top = h.top; height = h.height } → IsIndexChange v 0 w
-  head-change count all =
-      let c : (header_of w.image).count ≡ (header_of v.image).count = ap (λ (x : Header). x.count) n.is ∙ count in
-      record {
-        segments = n.segments;
-        data_blocks = λ b k. head-other b k.there k.later;
-        others = λ b k. head-back 1 b k;
-        kinds = head-kinds;
-        count = omega arith;
-        grows = omega arith;
-        header = n.is ∙ all ∙ ap (λ (x : Header). record (header_of v.image) { count = x.count; top = x.top; height = x.height }) (sym n.is);
-        holes = n.holes;
-      }
-
   head-level : (b j : ℕ) → level_in v b ≡ Some j → (level_in w b ≡ Some j) × (block_at w b ≡ block_at v b)
   head-level b j h =
       let s = level-kind v b j h in
-      let bytes = head-other b s.0.there s.0.later in
-      (level-of w b (head-on 2 b s.0) ∙ ap (λ (t : List ℕ). Some (slice_index t 3)) bytes ∙ ap (λ (i : ℕ). Some i) s.1, bytes)
+      let bytes = head-other same n b s.0.there s.0.later in
+      (level-of w b (head-on same n 2 b s.0) ∙ ap (λ (t : List ℕ). Some (slice_index t 3)) bytes ∙ ap (λ (i : ℕ). Some i) s.1, bytes)
 
   head-was : (b j : ℕ) → level_in w b ≡ Some j → level_in v b ≡ Some j
   head-was b j h =
       let s = level-kind w b j h in
-      let old = head-back 2 b s.0 in
-      let bytes = head-other b old.there old.later in
+      let old = head-back same n 2 b s.0 in
+      let bytes = head-other same n b old.there old.later in
       level-of v b old ∙ ap (λ (t : List ℕ). Some (slice_index t 3)) (sym bytes) ∙ ap (λ (i : ℕ). Some i) s.1
 
 -- the whole index is cut off

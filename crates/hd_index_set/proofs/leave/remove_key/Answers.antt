@@ -10,7 +10,7 @@ use Rattle.hd_index_set.specs.Changes.{IsChanged}
 use Rattle.hd_index_set.proofs.Searching.{set-same, order-same}
 use Rattle.hd_index_set.proofs.Forks.{on-order, way-one}
 use Rattle.hd_index_set.proofs.Cuts.{size-some}
-use Rattle.hd_index_set.proofs.Trims.{unchanged, changed-before, on-start, one-joined, read-address, none-of, some-of}
+use Rattle.hd_index_set.proofs.Trims.{unchanged, removed-read, on-start, one-joined, read-address, none-of, some-of}
 use Rattle.hd_index_set.proofs.leave.remove_key.Goals as goal
 
 pub returns-then-is_none-clause-changed : goal.returns-then-is_none-clause-changed
@@ -112,17 +112,5 @@ returns-clause-changed g c =
     (λ (changed : IsTrue w.is_sound → IsChanged k w (without_key key (index_entries k w)) 0 z) (sound : IsTrue u.is_sound).
     let now : IsTrue v.is_sound = rw read.call.sound sound in
     let last : IsTrue w.is_sound = rw c.in_ok-sight.ensures.read.call.sound now in
-    let x = c.requires.index sound in
-    let t : ℕ = (header_of u.image).top in
-    let top : c.top-top.result ≡ t = c.top-top.ensures sound x.formatted.header.first in
-    let height : c.height-height.result ≡ (header_of u.image).height = c.height-height.ensures sound x.formatted.header.first in
-    let levels : c.height-height.result - 1 ≡ top_level u = omega arith in
-    let some : 0 < t = (let f = c.if-top-eq0.false in omega arith) in
-    let start : Stand = record { left = 0; block = c.top-top.result } in
-    let way = c.in_ok-way.ensures.way sound x (on-start k u key (c.height-height.result - 1) start x some refl top levels) in
-    let one = read-one read now in
-    let next = read-one c.in_ok-sight.ensures.read last in
-    let leaf : Stand = c.in_ok-way.way.leaf in
-    let size = size-some u leaf.block (on-order k u key 0 leaf x way.leaf).is in
-    changed-before k u w z key (one-joined u v w one next) x size (changed last))
+    removed-read k u w z key (one-joined u v w (read-one read now) (read-one c.in_ok-sight.ensures.read last)) (c.requires.index sound) (changed last))
     c.remove_on.ensures.changed

@@ -77,7 +77,7 @@ loop-preserved g c =
           let cut = subst C more (inv.cut sound old gone kept_top h) in
           let one = read-one read now in
           let order = block-in-order cut in
-          let drop = dropped-before k v x w c.loop.stand one cut.rest.formatted (size-some v c.loop.stand.block order.is) (c.in_ok-drop_block.ensures.dropped now k (λ some. index-block-one k v x c.loop.stand.left one (order-index k v c.loop.stand.left (left-in-order cut some)))) in
+          let drop = dropped-before k v x w c.loop.stand one (c.in_ok-drop_block.ensures.dropped now k (λ some. index-block-one k v x c.loop.stand.left one (order-index k v c.loop.stand.left (left-in-order cut some)))) in
           cut-on k old gone kept_top v less c.loop.stand w c.in_ok-below.below cut drop (c.in_ok-below.ensures.block here order) (c.in_ok-below.ensures.left here (left-in-order cut));
     }
 
