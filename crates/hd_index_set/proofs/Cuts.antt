@@ -1,5 +1,5 @@
 -- Blocks that go from the index set of a volume.
-use Rattle.std.proofs.Common.{◌≡◌, ◌≢◌, ◌⊎◌, inl, inr, ℕ, zero, suc, ◌+◌, ◌*◌, ◌<◌, ◌≤◌, cond, List, [], ◌∷◌, ◌++◌, length, take, drop, Some, slice_index, refl, sym, ap, ◌∙◌, subst, arith}
+use Rattle.std.proofs.Common.{◌≡◌, ◌≢◌, ◌⊎◌, inl, inr, ℕ, zero, suc, ◌+◌, ◌*◌, ◌<◌, ◌≤◌, cond, List, [], ◌∷◌, ◌++◌, length, Some, slice_index, refl, sym, ap, ◌∙◌, subst, arith}
 use Rattle.std.specs.Prelude.{◌==◌}
 use Rattle.std.proofs.lemmas.Bool.{cases_eq}
 use Rattle.hd_bytes.specs.Numbers.{number_at}
@@ -10,7 +10,7 @@ use Rattle.hd_volume.specs.Entries.{Entry, entries_in}
 use Rattle.hd_volume.specs.Indexes.{entry_room, keys_ascend, IsAmong}
 use Rattle.hd_levels.specs.Maps.{without_key}
 use Rattle.hd_levels.specs.Levels.{IndexBlocks, across, named, entries_below, blocks_down, IsIndexSet}
-use Rattle.hd_levels.specs.Ways.{child_of, IsNamed}
+use Rattle.hd_levels.specs.Ways.{IsNamed}
 use Rattle.hd_levels.specs.Changes.{Stays, OthersStay, IsLeft, IsWayUp}
 use Rattle.hd_levels.specs.Chains.{IsLinked, first_of, AreLevelsLinked}
 use Rattle.hd_levels.specs.Linking.{IsRelinked}

@@ -1,20 +1,20 @@
 -- One block that goes from its level.
-use Rattle.std.proofs.Common.{◌≡◌, ◌≢◌, ◌⊎◌, inl, inr, ℕ, ◌+◌, ◌*◌, ◌<◌, ◌≤◌, List, [], ◌∷◌, ◌++◌, length, refl, sym, ap, ◌∙◌, subst, arith}
+use Rattle.std.proofs.Common.{◌≡◌, ◌≢◌, inl, inr, ℕ, ◌+◌, ◌*◌, ◌≤◌, List, length, refl, sym, ap, ◌∙◌, subst, arith}
 use Rattle.std.proofs.lemmas.Bool.{cases_eq}
 use Rattle.hd_bytes.specs.Numbers.{number_at}
 use Rattle.hd_bytes.specs.Blocks.{block_of, HasBlock}
 use Rattle.hd_volume.specs.Headers.{Header, header_of}
 use Rattle.hd_volume.specs.Volumes.{VolumeState, block_at, kind_of, IsKind, IsFormatted, HasKinds}
 use Rattle.hd_volume.specs.Calls.{IsGivenBlock}
-use Rattle.hd_volume.specs.Entries.{Entry, entries_in}
+use Rattle.hd_volume.specs.Entries.{entries_in}
 use Rattle.hd_volume.proofs.FrameLemmas.{AreSame}
-use Rattle.hd_volume.proofs.JoinLemmas.{AreOne, one-kind, one-formatted, one-segments, one-spare, one-holes}
+use Rattle.hd_volume.proofs.JoinLemmas.{AreOne, one-kind, one-segments, one-spare, one-holes}
 use Rattle.hd_levels.specs.IndexSets.{next_in}
 use Rattle.hd_index_edits.specs.Changes.{IsIndexChange}
 use Rattle.hd_index_edits.specs.Blocks.{level_of, IsIndexBlock, Bears, without_entry_at}
-use Rattle.hd_index_edits.specs.Edits.{IsEdit, HasNewEntries, IsEntryRemoved, IsNextChanged}
+use Rattle.hd_index_edits.specs.Edits.{IsEntryRemoved, IsNextChanged}
 use Rattle.hd_index_edits.proofs.EditLemmas.{edit-none, edit-before, edit-other, one-block-at, one-there, one-turned}
-use Rattle.hd_index_edits.proofs.StepLemmas.{count-header, three-header, change-join, edit-change, edit-step, same-level-block, own-level, own-bears}
+use Rattle.hd_index_edits.proofs.StepLemmas.{count-header, three-header, change-join, edit-change, edit-step, same-level-block, own-level}
 use Rattle.hd_index_set.specs.declared.stand.Stand.{Stand}
 use Rattle.hd_index_set.specs.Blocks.{IsInOrder}
 use Rattle.hd_index_set.specs.Removals.{IsPassed, IsDropped}

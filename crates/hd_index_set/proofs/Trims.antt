@@ -1,14 +1,12 @@
 -- An entry that goes: from a fork of its way, or with the whole index.
-use Rattle.std.proofs.Common.{◌≡◌, ◌≢◌, ◌⊎◌, inl, inr, ℕ, suc, ◌+◌, ◌*◌, ◌<◌, ◌≤◌, Bool, true, false, cond, List, [], ◌∷◌, ◌++◌, length, take, drop, Option, Some, None, slice_index, refl, sym, ap, ◌∙◌, subst, arith}
+use Rattle.std.proofs.Common.{◌≡◌, ◌≢◌, ◌⊎◌, inl, inr, ℕ, suc, ◌<◌, ◌≤◌, Bool, true, false, cond, List, [], ◌∷◌, ◌++◌, length, Option, Some, None, slice_index, refl, sym, ap, ◌∙◌, subst, arith}
 use Rattle.std.specs.Prelude.{◌==◌, bytes_eq}
 use Rattle.std.specs.Option.{is_some}
 use Rattle.std.proofs.lemmas.Bool.{cases_eq, eq-eqb}
-use Rattle.std.proofs.lemmas.List.{length-append}
 use Rattle.std.proofs.lemmas.Slice.Eq.{bytes_eq-Decides}
 use Rattle.hd_bytes.specs.Numbers.{number_at}
-use Rattle.hd_bytes.specs.Blocks.{block_of, HasBlock}
 use Rattle.hd_volume.specs.Headers.{Header, header_of}
-use Rattle.hd_volume.specs.Volumes.{VolumeState, block_at, kind_of, IsKind, HasKinds}
+use Rattle.hd_volume.specs.Volumes.{VolumeState, block_at}
 use Rattle.hd_volume.specs.Calls.{HasNewHeader}
 use Rattle.hd_volume.specs.Entries.{Entry, entries_in}
 use Rattle.hd_volume.specs.Indexes.{entry_room, keys_ascend, IsAmong}
@@ -16,10 +14,9 @@ use Rattle.hd_volume.proofs.FrameLemmas.{AreSame}
 use Rattle.hd_volume.proofs.JoinLemmas.{AreOne, one-spare}
 use Rattle.hd_levels.specs.Maps.{address_of, without_key}
 use Rattle.hd_levels.specs.Levels.{IndexBlocks, across, named, entries_below, IsIndexSet}
-use Rattle.hd_levels.specs.Ways.{child_of, IsNamed}
+use Rattle.hd_levels.specs.Ways.{IsNamed}
 use Rattle.hd_levels.specs.Chains.{AreLevelsLinked}
 use Rattle.hd_levels.specs.Neighbours.{last_of, last_child}
-use Rattle.hd_levels.specs.Parents.{HasParent}
 use Rattle.hd_levels.specs.IndexSets.{level_in, next_in, index_blocks, top_blocks, top_level, index_entries, HasIndexSet}
 use Rattle.hd_levels.proofs.Keys.{ascend-parts}
 use Rattle.hd_levels.proofs.Levels.{named-append, on-parts, set-level, entries-append}
@@ -29,19 +26,18 @@ use Rattle.hd_levels.proofs.Downs.{among-parts, among-left, among-right, of-leve
 use Rattle.hd_levels.proofs.Neighbours.{left-named}
 use Rattle.hd_levels.proofs.Volumes.{entries-below, level-of, level-kind, top-is}
 use Rattle.hd_levels.proofs.Parents.{index-blocks-placed}
-use Rattle.hd_index_edits.specs.Changes.{IsIndexChange}
 use Rattle.hd_index_edits.specs.Blocks.{level_of, without_entry_at}
-use Rattle.hd_index_edits.specs.Edits.{HasNewEntries, IsEntryRemoved, IsIndexStep}
+use Rattle.hd_index_edits.specs.Edits.{HasNewEntries, IsEntryRemoved}
 use Rattle.hd_index_edits.proofs.EditLemmas.{one-block-at}
 use Rattle.hd_index_edits.proofs.StepLemmas.{change-join, edit-step}
 use Rattle.hd_index_set.specs.declared.stand.Stand.{Stand}
 use Rattle.hd_index_set.specs.Changes.{IsChanged}
 use Rattle.hd_index_set.specs.Stands.{front_of}
 use Rattle.hd_index_set.specs.Removals.{IsBelow, IsThin, IsThinBelow, IsStepUp, IsOnWayIn, KeepsRest, IsCut}
-use Rattle.hd_index_set.proofs.Fronts.{fronted, IsFront}
+use Rattle.hd_index_set.proofs.Fronts.{fronted}
 use Rattle.hd_index_set.proofs.Heads.{head-other, head-on, head-back, head-change}
 use Rattle.hd_index_set.proofs.ReadSteps.{changed-before}
-use Rattle.hd_index_set.proofs.Searching.{set-same, no-entries}
+use Rattle.hd_index_set.proofs.Searching.{set-same}
 use Rattle.hd_index_set.proofs.Steps.{borne, other-stays, other-was, counts-stay}
 use Rattle.hd_index_set.proofs.WaysUp.{on-top, left-some, relinked-same, way-stays, thin-entry, found-between, found-front}
 use Rattle.hd_index_set.proofs.Cuts.{size-some, finish}
@@ -401,10 +397,7 @@ leaf-address k v key stand x s =
     (entries-below k v).1 (λ e. omega arith) ∙ ap (entries_below c (top_level v)) (top-is v s.some) ∙ sym s.whole in
     ap (address_of key) all ∙ (around-answers c key s.before stand.block s.behind s.around).0
 
--- without a top there is nothing to take
-pub none-there : (k : ℕ) (v : VolumeState) (key : List ℕ) → HasIndexSet k v → (header_of v.image).top ≡ 0 → address_of key (index_entries k v) ≡ None
-none-there k v key x none = ap (address_of key) (no-entries k v x none)
-
+-- two reads are one
 pub one-joined : (u v w : VolumeState) → AreOne u v → AreOne v w → AreOne u w
 one-joined u v w a b = record { same = record { size = b.same.size ∙ a.same.size; sizes = b.same.sizes ∙ a.same.sizes }; image = b.image ∙ a.image }
 
@@ -414,6 +407,7 @@ pub read-address : (k : ℕ) (u v : VolumeState) (key : List ℕ) (stand : Stand
 read-address k u v key stand found one x s read =
     leaf-address k u key stand x s ∙ ap (λ (b : List ℕ). address_of key (entries_in k b)) (sym (one-block-at one stand.block)) ∙ sym read
 
+-- whether something was found
 pub none-of : (found : Option ℕ) → is_some found ≡ false → found ≡ None
 none-of None h = refl
 none-of (Some n) h = absurd (cc)

@@ -1,17 +1,17 @@
 -- The way up from a block of an index set, where blocks of the way go.
-use Rattle.std.proofs.Common.{◌≡◌, ◌≢◌, ◌⊎◌, inl, inr, ℕ, zero, suc, ◌+◌, ◌<◌, Bool, true, false, cond, List, [], ◌∷◌, ◌++◌, Some, None, refl, sym, ap, ◌∙◌, subst, arith}
+use Rattle.std.proofs.Common.{◌≡◌, ◌≢◌, ◌⊎◌, inl, inr, ℕ, zero, suc, ◌+◌, ◌<◌, Bool, true, false, List, [], ◌∷◌, ◌++◌, Some, None, refl, sym, ap, ◌∙◌, subst, arith}
 use Rattle.std.specs.Prelude.{bytes_eq}
 use Rattle.hd_volume.specs.Entries.{Entry}
-use Rattle.hd_volume.specs.Indexes.{key_less, is_below_first, keys_ascend, IsAmong}
+use Rattle.hd_volume.specs.Indexes.{is_below_first, keys_ascend, IsAmong}
 use Rattle.hd_levels.specs.Maps.{address_of}
 use Rattle.hd_levels.specs.Levels.{IndexBlocks, across, named, entries_below, AreBelow, IsIndexSet}
 use Rattle.hd_levels.specs.Ways.{child_of, IsAround, IsNamed}
-use Rattle.hd_levels.specs.Changes.{OthersStay, IsLeft, entry_left, IsWayUp}
-use Rattle.hd_levels.specs.Chains.{IsLinked, first_of, AreLevelsLinked}
+use Rattle.hd_levels.specs.Changes.{IsLeft, entry_left, IsWayUp}
+use Rattle.hd_levels.specs.Chains.{first_of, AreLevelsLinked}
 use Rattle.hd_levels.specs.Linking.{IsRelinked}
 use Rattle.hd_levels.specs.Neighbours.{last_of, last_child}
 use Rattle.hd_levels.proofs.Keys.{not-less, first-less, ascend-parts, ascend-above, address-behind, address-above}
-use Rattle.hd_levels.proofs.Levels.{on-parts, set-level, entries-append}
+use Rattle.hd_levels.proofs.Levels.{on-parts, set-level}
 use Rattle.hd_levels.proofs.Descents.{around-down, names-about, top-around}
 use Rattle.hd_levels.proofs.Downs.{among-parts, among-left, among-right, of-level}
 use Rattle.hd_levels.proofs.Neighbours.{left-named}

@@ -20,7 +20,7 @@ use Rattle.hd_index_edits.specs.Changes.{IsIndexChange}
 use Rattle.hd_index_set.specs.declared.stand.Stand.{Stand}
 use Rattle.hd_index_set.specs.declared.way.Fork.{Fork}
 use Rattle.hd_index_set.specs.declared.way.Way.{Way}
-use Rattle.hd_index_set.specs.Stands.{front_of, IsStand}
+use Rattle.hd_index_set.specs.Stands.{front_of}
 
 -- ---- a step down
 

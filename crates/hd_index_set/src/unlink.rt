@@ -1,6 +1,5 @@
 ghost use Rattle.std.specs.Prelude.{◌≡◌, ◌≢◌, ◌≤◌, ℕ, List, IsTrue, IfOk, OnOk};
 ghost use Rattle.hd_dbd.specs.Refusals.{OnlyDevice};
-ghost use Rattle.hd_volume.specs.Headers.{header_of};
 ghost use Rattle.hd_volume.specs.Volumes.{VolumeState, IsFormatted, IsKind};
 ghost use Rattle.hd_volume.specs.Entries.{Entry};
 ghost use Rattle.hd_volume.specs.Calls.{IsCall, IsRead};

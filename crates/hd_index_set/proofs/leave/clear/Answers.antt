@@ -1,6 +1,5 @@
-use Rattle.std.proofs.Common.{◌≡◌, ◌<◌, ℕ, List, IsTrue, refl, sym, ap, subst, ◌∙◌, arith}
+use Rattle.std.proofs.Common.{◌≡◌, ℕ, List, IsTrue, refl, ap, subst, arith}
 use Rattle.hd_volume.specs.Volumes.{VolumeState}
-use Rattle.hd_volume.specs.Headers.{header_of}
 use Rattle.hd_volume.proofs.FrameLemmas.{AreSame}
 use Rattle.hd_levels.specs.Maps.{without_key}
 use Rattle.hd_levels.specs.IndexSets.{index_entries}

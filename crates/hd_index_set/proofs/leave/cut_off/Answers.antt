@@ -1,6 +1,5 @@
-use Rattle.std.proofs.Common.{◌≡◌, ◌-◌, ◌<◌, ℕ, suc, List, [], ◌∷◌, length, IsTrue, refl, sym, ap, subst, ◌∙◌, arith}
-use Rattle.hd_volume.specs.Volumes.{VolumeState, block_at}
-use Rattle.hd_volume.specs.Headers.{header_of}
+use Rattle.std.proofs.Common.{◌≡◌, ◌-◌, ℕ, suc, List, length, IsTrue, ap, subst, arith}
+use Rattle.hd_volume.specs.Volumes.{block_at}
 use Rattle.hd_volume.specs.Entries.{entries_in}
 use Rattle.hd_volume.proofs.JoinLemmas.{read-one}
 use Rattle.hd_levels.specs.Maps.{without_key}

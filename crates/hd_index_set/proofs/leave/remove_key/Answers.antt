@@ -1,5 +1,4 @@
-use Rattle.std.proofs.Common.{◌≡◌, ◌-◌, ◌<◌, ℕ, None, IsTrue, true, false, refl, sym, ap, ◌∙◌, arith}
-use Rattle.std.specs.Option.{is_some}
+use Rattle.std.proofs.Common.{◌≡◌, ◌-◌, ◌<◌, ℕ, IsTrue, refl, sym, ap, ◌∙◌, arith}
 use Rattle.hd_volume.specs.Headers.{header_of}
 use Rattle.hd_volume.proofs.JoinLemmas.{read-one}
 use Rattle.hd_levels.specs.Maps.{address_of, without_key}
@@ -9,7 +8,6 @@ use Rattle.hd_index_set.specs.declared.stand.Stand.{Stand}
 use Rattle.hd_index_set.specs.Changes.{IsChanged}
 use Rattle.hd_index_set.proofs.Searching.{set-same, order-same}
 use Rattle.hd_index_set.proofs.Forks.{on-order, way-one}
-use Rattle.hd_index_set.proofs.Cuts.{size-some}
 use Rattle.hd_index_set.proofs.Trims.{unchanged, removed-read, on-start, one-joined, read-address, none-of, some-of}
 use Rattle.hd_index_set.proofs.leave.remove_key.Goals as goal
 

@@ -1,4 +1,4 @@
-use Rattle.std.proofs.Common.{◌≡◌, ℕ, IsTrue, subst, arith}
+use Rattle.std.proofs.Common.{ℕ, subst}
 use Rattle.hd_index_set.specs.Removals.{IsOnWayIn}
 use Rattle.hd_index_set.proofs.Forks.{on-order, no-fork, some-fork}
 use Rattle.hd_index_set.proofs.Trims.{leaf-trimmed}

@@ -1,4 +1,4 @@
-use Rattle.std.proofs.Common.{ℕ, IsTrue, inl, inr}
+use Rattle.std.proofs.Common.{IsTrue, inl, inr}
 use Rattle.std.proofs.lemmas.Bool.{cases_eq}
 use Rattle.hd_volume.proofs.FrameLemmas.{AreSame}
 use Rattle.hd_index_set.proofs.Drops.{dropped}

@@ -2,8 +2,7 @@ use Rattle.std.proofs.Common.{◌≡◌, ◌+◌, ◌-◌, ℕ, suc, IsTrue, Ok,
 use Rattle.hd_volume.proofs.CallSteps.{call-ok, call-none}
 use Rattle.hd_volume.proofs.JoinLemmas.{calls-join, read-call, read-one, one-formatted, one-kind}
 use Rattle.hd_index_set.specs.Removals.{IsCut}
-use Rattle.hd_index_set.proofs.Searching.{order-same}
-use Rattle.hd_index_set.proofs.Cuts.{size-some, stand-apart, block-in-order, left-in-order, cut-on, cut-end}
+use Rattle.hd_index_set.proofs.Cuts.{stand-apart, block-in-order, left-in-order, cut-on, cut-end}
 use Rattle.hd_index_set.proofs.Drops.{order-index, index-block-one, dropped-before}
 use Rattle.hd_index_set.proofs.unlink.drop_way.Goals as goal
 
@@ -44,9 +43,11 @@ drop_block-requires-clause-left g c now some =
     let here : IsTrue c.loop.volume.is_sound = rw (← read.call.sound) now in
     let sound : IsTrue c.args.volume.now.is_sound = rw (← inv.call.sound) here in
     let off = c.requires.cut sound in
-    let cut = inv.cut sound off.0 off.1 off.2 off.3 in
-    (c.args.key_length, index-block-one c.args.key_length c.loop.volume c.only_below.new.volume c.loop.stand.left (read-one read now)
-    (order-index c.args.key_length c.loop.volume c.loop.stand.left (left-in-order cut some)))
+    let cut = inv.cut sound off.0 off.1 off.2 off.3 in (
+      c.args.key_length,
+      index-block-one c.args.key_length c.loop.volume c.only_below.new.volume c.loop.stand.left (read-one read now)
+          (order-index c.args.key_length c.loop.volume c.loop.stand.left (left-in-order cut some)),
+    )
 
 pub drop_block-requires-clause-apart : goal.drop_block-requires-clause-apart
 drop_block-requires-clause-apart g c now =

@@ -1,6 +1,6 @@
-use Rattle.std.proofs.Common.{◌≡◌, ℕ, IsTrue, arith}
+use Rattle.std.proofs.Common.{◌≡◌, IsTrue}
 use Rattle.hd_volume.proofs.JoinLemmas.{read-one, one-kind}
-use Rattle.hd_index_set.proofs.Drops.{index-block-one, passed, passed-none}
+use Rattle.hd_index_set.proofs.Drops.{index-block-one, passed}
 use Rattle.hd_index_set.proofs.unlink.pass_over.Goals as goal
 
 pub returns-clause-passed : goal.returns-clause-passed

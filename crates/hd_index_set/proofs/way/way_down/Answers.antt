@@ -1,6 +1,6 @@
 use Rattle.std.proofs.Common.{◌≡◌, ◌+◌, ◌-◌, ℕ, suc, cond, length, IsTrue, Ok, inl, refl, sym, ap, subst, ◌∙◌, arith}
 use Rattle.std.specs.Prelude.{nat_lt}
-use Rattle.hd_volume.specs.Volumes.{VolumeState, block_at}
+use Rattle.hd_volume.specs.Volumes.{block_at}
 use Rattle.hd_volume.specs.Entries.{entries_in}
 use Rattle.hd_volume.proofs.CallSteps.{reads-join, read-ok, read-none}
 use Rattle.hd_volume.proofs.JoinLemmas.{read-one}
