@@ -9,6 +9,8 @@ pub mod Cuts
 pub mod Drops
 pub mod Forks
 pub mod Trims
+pub mod Edited
+pub mod Comings
 pub mod Parts
 pub mod Heads
 pub mod ReadSteps

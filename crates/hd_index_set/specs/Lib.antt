@@ -6,3 +6,4 @@ pub mod Searches
 pub mod Stands
 pub mod Greatest
 pub mod Removals
+pub mod Comings
