@@ -1,5 +1,5 @@
 -- The entries of a block in front of a place.
-use Rattle.std.proofs.Common.{◌≡◌, ◌≢◌, ◌⊎◌, inl, inr, ℕ, zero, suc, ◌-◌, Bool, true, false, cond, List, [], ◌∷◌, ◌++◌, length, take, Some, refl, sym, ap, ◌∙◌, arith}
+use Rattle.std.proofs.Common.{◌≡◌, ◌≢◌, ◌⊎◌, inl, inr, ℕ, zero, suc, ◌+◌, ◌-◌, ◌<◌, Bool, true, false, cond, List, [], ◌∷◌, ◌++◌, length, take, Some, refl, sym, ap, ◌∙◌, arith}
 use Rattle.std.specs.Prelude.{slice_get, min}
 use Rattle.hd_volume.specs.Entries.{Entry}
 use Rattle.hd_volume.specs.Indexes.{key_less}
@@ -78,3 +78,14 @@ fronted key (e ∷ f ∷ es) some = by-test (key_less e.key key) refl (fronted k
       child = rest.child ∙ rw is refl;
     }
     by-test false is rest = record { entry = e; back = f ∷ es; is = rw is refl; less = rw is tt; here = inl is; child = rw is refl }
+
+-- not all entries stand before the place that a key leads to
+pub front-fewer : (key : List ℕ) (es : List Entry) → es ≢ [] → length (front_of key es) < length es
+front-fewer key es some =
+    let f = fronted key es some in
+    let all : length es ≡ length (front_of key es) + suc (length f.back) = ap (λ (t : List Entry). length t) f.is ∙ length-append (front_of key es) (f.entry ∷ f.back) in
+    omega arith
+  where
+    length-append : (xs ys : List Entry) → length (xs ++ ys) ≡ length xs + length ys
+    length-append [] ys = omega arith
+    length-append (x ∷ xs) ys = (let e = length-append xs ys in omega arith)

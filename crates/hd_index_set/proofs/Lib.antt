@@ -4,6 +4,11 @@ pub mod Searching
 pub mod Fronts
 pub mod Standing
 pub mod Filling
+pub mod WaysUp
+pub mod Cuts
+pub mod Drops
+pub mod Forks
+pub mod Trims
 pub mod Edited
 pub mod Comings
 pub mod Parts

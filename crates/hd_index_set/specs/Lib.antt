@@ -5,4 +5,5 @@ pub mod Divisions
 pub mod Searches
 pub mod Stands
 pub mod Greatest
+pub mod Removals
 pub mod Comings

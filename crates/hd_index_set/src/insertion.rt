@@ -113,9 +113,7 @@ fn free_blocks<S: BlockStore>(volume: &Volume<S>) -> u32
     requires formatted { IsTrue volume.now.is_sound → IsFormatted volume.now }
     ensures { IsTrue volume.now.is_sound → result ≡ free_blocks volume.now }
 {
-    let growth = volume
-        .largest_count()
-        .saturating_sub(volume.block_count());
+    let growth = volume.largest_count().saturating_sub(volume.block_count());
     volume.spare().saturating_sub(growth)
 }
 

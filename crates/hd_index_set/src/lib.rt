@@ -14,6 +14,8 @@ mod need;
 mod room;
 mod search;
 mod stand;
+mod unlink;
+mod way;
 
 pub use insertion::insert;
 pub use leave::remove;

@@ -11,6 +11,7 @@ ghost use Rattle.hd_levels.specs.Neighbours.{last_of};
 ghost use Rattle.hd_levels.specs.IndexSets.{HasIndexSet};
 ghost use Rattle.hd_index_set.specs.Blocks.{IsInOrder};
 ghost use Rattle.hd_index_set.specs.Stands.{front_of, IsStand};
+ghost use Rattle.hd_index_set.specs.Removals.{IsBelow};
 
 use crate::look::has_block;
 use hd_dbd::Refused;
@@ -83,7 +84,7 @@ fn children<S: BlockStore>(
 }
 
 /// The block that the last entry of an upper block of the volume names.
-fn last_child<S: BlockStore>(
+pub fn last_child<S: BlockStore>(
     volume: &mut Volume<S>,
     key_length: usize,
     n: u32,
@@ -104,7 +105,7 @@ fn last_child<S: BlockStore>(
 }
 
 /// One step down by a key.
-fn step_down<S: BlockStore>(
+pub fn step_down<S: BlockStore>(
     volume: &mut Volume<S>,
     key_length: usize,
     stand: Stand,
@@ -113,6 +114,7 @@ fn step_down<S: BlockStore>(
     requires short { key_length ≤ 255 }
     ensures read { IsRead volume.old result volume.new }
     ensures stand { IfOk result (λ s. IsTrue volume.old.is_sound → HasIndexSet key_length volume.old → (l : ℕ) → IsStand key_length volume.old key.now (suc l) stand → IsStand key_length volume.old key.now l s) }
+    ensures below { IfOk result (λ s. IsTrue volume.old.is_sound → HasIndexSet key_length volume.old → (l : ℕ) → IsStand key_length volume.old key.now (suc l) stand → IsBelow key_length volume.old key.now stand s) }
     ensures refusal { OnlyDevice result }
 {
     let below = children(volume, key_length, stand.block, key)?;
