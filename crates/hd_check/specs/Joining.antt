@@ -1,8 +1,11 @@
 -- What the phases of a check find together: the least fault of all, and what is right where there is none.
-use Rattle.std.specs.Prelude.{◌≡◌, ◌==◌, true, ℕ, ◌+◌, ◌<◌, List, [], ◌∷◌, cond}
+use Rattle.std.specs.Prelude.{◌≡◌, ◌≢◌, ◌==◌, true, Option, IfNone, IfSome, ℕ, ◌+◌, ◌<◌, List, [], ◌∷◌, cond}
 use Rattle.std.specs.List.{list_all}
 use Rattle.hd_dbd.specs.Hierarchy.{Database}
+use Rattle.hd_volume.specs.Headers.{header_of}
 use Rattle.hd_volume.specs.Volumes.{VolumeState}
+use Rattle.hd_levels.specs.Faultless.{AreFormsRight}
+use Rattle.hd_levels.specs.LevelFaults.{IsWrongNext, HasEntryOutOfOrder, StandsNowhere}
 use Rattle.hd_volume.specs.Indexes.{root_key_length}
 use Rattle.hd_levels.specs.IndexSets.{index_entries}
 use Rattle.hd_links.specs.Pointers.{AreLinked}
@@ -15,6 +18,7 @@ use Rattle.hd_check_blocks.specs.declared.fault.Fault.{Fault}
 use Rattle.hd_check_blocks.specs.declared.places.Place.{Place}
 use Rattle.hd_check_blocks.specs.Places.{ArePlaces}
 use Rattle.hd_check_index.specs.IndexPhases.{AllRootsNamed}
+use Rattle.hd_check_levels.specs.Judging.{IsFirst, IsFoundAt}
 
 -- no fault of a phase before this one stands
 abbrev pub NoneBefore : Database → VolumeState → ℕ → Type 0
@@ -41,6 +45,14 @@ pub record IsFoundRight (d : Database) (v : VolumeState) (places : List Place) :
   pub pointers : AreLinked d.types (links_of d.types v)
   pub index : IndexIsFormed (root_key_length d.types) v
   pub entries : EntriesAreRight d v
+
+-- the fact holds of a volume of an index set whose blocks are right, where these were found of a size of blocks: the first block with a wrong next
+-- one, and the first with an entry out of order and what that names
+abbrev pub OfOrdered : Database → VolumeState → ℕ → Option ℕ → Option (ℕ × ℕ) → Type 0 → Type 0
+OfOrdered d v size next order fact =
+    IsVolumeOf d v → (header_of v.image).version ≢ 1 → AreFormsRight (root_key_length d.types) v → size ≡ v.size
+    → IsFoundAt v (IsWrongNext (root_key_length d.types) v) next → IfNone order (StandsNowhere (HasEntryOutOfOrder (root_key_length d.types) v))
+    → IfSome order (λ at. IsFirst v (HasEntryOutOfOrder (root_key_length d.types) v) at.0 at.1) → fact
 
 -- how many of these places are those of roots
 abbrev pub roots_among : List Place → ℕ

@@ -1,17 +1,20 @@
 //! The phases that judge an index set: each answers the least fault of the volume, where it is one of its lines.
-ghost use Rattle.std.specs.Prelude.{◌≡◌, ◌≢◌, ◌*◌, ◌<◌, [], Some, None, IsTrue, IfNone, IfSome};
-ghost use Rattle.hd_dbd.specs.Refusals.{OnlyDeviceOrMemory};
+ghost use Rattle.std.specs.Prelude.{◌≡◌, ◌≢◌, ℕ, ◌*◌, ◌<◌, ◌≤◌, [], true, false, Some, None, IsTrue, IfNone, IfSome, OnOk};
+ghost use Rattle.hd_dbd.specs.Hierarchy.{Database};
+ghost use Rattle.hd_dbd.specs.Refusals.{OnlyMemory, OnlyDeviceOrMemory};
 ghost use Rattle.hd_volume.specs.Headers.{header_of};
+ghost use Rattle.hd_volume.specs.Volumes.{VolumeState};
 ghost use Rattle.hd_volume.specs.Calls.{IsRead};
 ghost use Rattle.hd_volume.specs.Indexes.{root_key_length};
 ghost use Rattle.hd_levels.specs.Faultless.{AreFormsRight, AreNamedOnce, AreAllReached};
 ghost use Rattle.hd_image.specs.Records.{IsVolumeOf};
-ghost use Rattle.hd_image.specs.Right.{LevelsAreInOrder, IndexIsFormed, IndexIsInOrder};
+ghost use Rattle.hd_image.specs.Right.{SetIsFormed, LevelsAreInOrder, IndexIsFormed, IndexIsInOrder};
+ghost use Rattle.hd_check_blocks.specs.Phases.{IsLeastOf};
 ghost use Rattle.hd_check_blocks.specs.Finding.{WhereNone, WhereSome};
 ghost use Rattle.hd_check_index.specs.IndexPhases.{IsSequence};
 ghost use Rattle.hd_check_levels.specs.Tables.{AreIndexBlocks};
 ghost use Rattle.hd_check_levels.specs.Rows.{AreRows};
-ghost use Rattle.hd_check.specs.Joining.{NoneBefore, IsFirstFault};
+ghost use Rattle.hd_check.specs.Joining.{NoneBefore, IsFirstFault, OfOrdered};
 
 use hd_check_blocks::Fault;
 use hd_check_index::block_address;
@@ -132,18 +135,140 @@ fn level_reach_fault<S: BlockStore>(
     Ok(fault_at(Line::UnreachedBlock, found, size))
 }
 
-/// Of a wrong next block and an entry out of order, each the first of its line, the fault that comes before.
-fn first_of(next: Option<u32>, order: Option<(u32, u32)>, size: u32) -> Option<Fault> {
-    match order {
-        None => fault_at(Line::WrongNext, next, size),
-        Some((n, other)) => match next {
-            Some(m) => {
-                if m <= n {
-                    return Some(Fault::at(Line::WrongNext, block_address(m, size), 0));
-                }
-                Some(Fault::at(Line::EntryOutOfOrder, block_address(n, size), other))
-            }
-            None => Some(Fault::at(Line::EntryOutOfOrder, block_address(n, size), other)),
-        },
+/// A block stands before another, or no other was found, or it is the same.
+fn is_first(n: u32, other: Option<(u32, u32)>) -> bool
+    ensures none { IfNone other (result ≡ true) }
+    ensures some { IfSome other (λ at. (result ≡ true → n ≤ at.0) × (result ≡ false → at.0 < n)) }
+{
+    match other {
+        None => true,
+        Some((m, _)) => n <= m,
     }
+}
+
+/// The fault of an entry out of order that was found, if one was.
+fn order_fault(found: Option<(u32, u32)>, size: u32) -> Option<Fault>
+    ensures none { IfNone found (result ≡ None) }
+    ensures some { IfSome found (λ at. at.0 * size < 4294967296 → result ≡ Some (record { line = Line.EntryOutOfOrder; address = at.0 * size; other = at.1 })) }
+{
+    match found {
+        None => None,
+        Some((n, other)) => Some(Fault::at(Line::EntryOutOfOrder, block_address(n, size), other)),
+    }
+}
+
+/// Of a wrong next block and an entry out of order, each the first of its line, the fault that comes before; at one block it is the next
+/// block.
+fn first_of(next: Option<u32>, order: Option<(u32, u32)>, size: u32) -> Option<Fault>
+    ensures none { (d : Database) (v : VolumeState) → OfOrdered d v size next order (IfNone result (LevelsAreInOrder (root_key_length d.types) v)) }
+    ensures some { (d : Database) (v : VolumeState) → OfOrdered d v size next order (IfSome result (λ f. IsLeastOf d v 11 f)) }
+{
+    match next {
+        None => order_fault(order, size),
+        Some(n) => {
+            if is_first(n, order) {
+                return Some(Fault::at(Line::WrongNext, block_address(n, size), 0));
+            }
+            order_fault(order, size)
+        }
+    }
+}
+
+/// The least fault of the order of the blocks and of the keys on the levels.
+fn level_order_fault<S: BlockStore>(
+    alloc: Global,
+    blocks: &[NotedBlock],
+    rows: &[Standing],
+    volume: &mut Volume<S>,
+    dbd: &Dbd,
+) -> Result<Option<Fault>, Refused>
+    requires of { IsTrue volume.old.is_sound → IsVolumeOf dbd.now volume.old }
+    requires later { IsTrue volume.old.is_sound → (header_of volume.old.image).version ≢ 1 }
+    requires blocks { IsTrue volume.old.is_sound → AreIndexBlocks volume.old blocks.now }
+    requires forms { IsTrue volume.old.is_sound → AreFormsRight (root_key_length dbd.now.types) volume.old }
+    requires rows { IsTrue volume.old.is_sound → AreRows (root_key_length dbd.now.types) volume.old rows.now }
+    requires before { IsTrue volume.old.is_sound → NoneBefore dbd.now volume.old 11 }
+    ensures read { IsRead volume.old result volume.new }
+    ensures none { WhereNone volume.old result (LevelsAreInOrder (root_key_length dbd.now.types) volume.old) }
+    ensures some { WhereSome volume.old result (λ f. IsFirstFault dbd.now volume.old f) }
+    ensures refusal { OnlyDeviceOrMemory result }
+{
+    let size = volume.block_size() as u32;
+    let next = wrong_next(blocks, rows);
+    let order = entry_out_of_order(alloc, volume, rows, root_key_length(dbd))?;
+    Ok(first_of(next, order, size))
+}
+
+/// The least fault of which blocks are named and reached, and of their order; where there is none, the rows are right.
+fn level_rows_fault<S: BlockStore>(
+    alloc: Global,
+    blocks: &[NotedBlock],
+    volume: &mut Volume<S>,
+    dbd: &Dbd,
+) -> Result<Option<Fault>, Refused>
+    requires of { IsTrue volume.old.is_sound → IsVolumeOf dbd.now volume.old }
+    requires later { IsTrue volume.old.is_sound → (header_of volume.old.image).version ≢ 1 }
+    requires blocks { IsTrue volume.old.is_sound → AreIndexBlocks volume.old blocks.now }
+    requires forms { IsTrue volume.old.is_sound → AreFormsRight (root_key_length dbd.now.types) volume.old }
+    requires before { IsTrue volume.old.is_sound → NoneBefore dbd.now volume.old 9 }
+    ensures read { IsRead volume.old result volume.new }
+    ensures none { WhereNone volume.old result (SetIsFormed (root_key_length dbd.now.types) volume.old × LevelsAreInOrder (root_key_length dbd.now.types) volume.old) }
+    ensures some { WhereSome volume.old result (λ f. IsFirstFault dbd.now volume.old f) }
+    ensures refusal { OnlyDeviceOrMemory result }
+{
+    let found = level_names_fault(alloc, blocks, volume, dbd)?;
+    if found.is_some() {
+        return Ok(found);
+    }
+    let mut rows = Vec::new(alloc);
+    let found = level_reach_fault(alloc, &mut rows, blocks, volume, dbd)?;
+    if found.is_some() {
+        return Ok(found);
+    }
+    level_order_fault(alloc, blocks, &rows, volume, dbd)
+}
+
+/// Notes the blocks of the sequence set, in order of their numbers.
+fn note_sequence(sequence: &mut Vec<u32>, blocks: &[NotedBlock]) -> Result<(), Refused>
+    requires empty { sequence.old.items ≡ [] }
+    ensures value { OnOk result ((k : ℕ) (v : VolumeState) → AreIndexBlocks v blocks.now → (header_of v.image).version ≢ 1 → SetIsFormed k v → IsSequence k v sequence.new.items) }
+    ensures refusal { OnlyMemory result }
+{
+    for block in blocks {
+        if block.level == 0 {
+            sequence.push(block.number).map_err(|_| Refused::Memory)?;
+        }
+    }
+    Ok(())
+}
+
+/// The least fault of an index set, but for what its entries name; where there is none, the blocks of its sequence set are noted in order of
+/// their numbers.
+pub fn levels_fault<S: BlockStore>(
+    alloc: Global,
+    sequence: &mut Vec<u32>,
+    volume: &mut Volume<S>,
+    dbd: &Dbd,
+) -> Result<Option<Fault>, Refused>
+    requires empty { sequence.old.items ≡ [] }
+    requires of { IsTrue volume.old.is_sound → IsVolumeOf dbd.now volume.old }
+    requires later { IsTrue volume.old.is_sound → (header_of volume.old.image).version ≢ 1 }
+    requires before { IsTrue volume.old.is_sound → NoneBefore dbd.now volume.old 8 }
+    ensures read { IsRead volume.old result volume.new }
+    ensures none { WhereNone volume.old result (IndexIsFormed (root_key_length dbd.now.types) volume.old × IndexIsInOrder (root_key_length dbd.now.types) volume.old) }
+    ensures sequence { WhereNone volume.old result (IsSequence (root_key_length dbd.now.types) volume.old sequence.new.items) }
+    ensures some { WhereSome volume.old result (λ f. IsFirstFault dbd.now volume.old f) }
+    ensures refusal { OnlyDeviceOrMemory result }
+{
+    let mut blocks = Vec::new(alloc);
+    let found = level_forms_fault(&mut blocks, volume, dbd)?;
+    if found.is_some() {
+        return Ok(found);
+    }
+    let found = level_rows_fault(alloc, &blocks, volume, dbd)?;
+    if found.is_some() {
+        return Ok(found);
+    }
+    note_sequence(sequence, &blocks)?;
+    Ok(None)
 }

@@ -4,6 +4,7 @@
 #![tactic(auto)]
 
 mod checking;
+mod levels;
 mod phases;
 
 pub use checking::{CheckFault, Passed, check};

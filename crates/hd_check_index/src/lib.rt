@@ -15,7 +15,7 @@ pub use block_chain::unreached_block_fault;
 pub use block_forms::block_forms_fault;
 pub use block_names::twice_named_fault;
 pub use entry_order::entry_order_fault;
-pub use noted_blocks::NotedBlock;
+pub use noted_blocks::{NotedBlock, block_address};
 pub use sequence::sort_chain;
 pub use unnamed_roots::unnamed_root_fault;
 pub use wrong_entries::wrong_entry_fault;
