@@ -1,4 +1,5 @@
 pub mod Tables
 pub mod Rows
 pub mod Extents
+pub mod BlockExtents
 pub mod Judging
