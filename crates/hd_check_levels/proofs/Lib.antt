@@ -1,1 +1,2 @@
 pub mod BlockExtents
+pub mod EntryOrders

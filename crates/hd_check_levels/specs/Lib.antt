@@ -2,4 +2,5 @@ pub mod Tables
 pub mod Rows
 pub mod Extents
 pub mod BlockExtents
+pub mod EntryOrders
 pub mod Judging
