@@ -1,2 +1,3 @@
 pub mod BlockExtents
 pub mod EntryOrders
+pub mod RightBlocks

@@ -263,10 +263,10 @@ fn judge_row<S: BlockStore>(
         key: [0; 255],
         is_some: false,
     };
-    let mut at = 0;
+    let mut place = 0;
     let mut least = None;
     for block in row {
-        let rest = &below[at..];
+        let rest = &below[place..];
         let judged = judge_next(
             own,
             &mut left,
@@ -276,7 +276,7 @@ fn judge_row<S: BlockStore>(
             rest,
             key_length,
         )?;
-        at = below.len().min(at + judged.count);
+        place = below.len().min(place + judged.count);
         least = lesser(least, found_at(judged.found, block.number));
     }
     Ok(least)
