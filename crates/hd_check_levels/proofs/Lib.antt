@@ -1,3 +1,4 @@
 pub mod BlockExtents
 pub mod EntryOrders
 pub mod RightBlocks
+pub mod RowOrders
