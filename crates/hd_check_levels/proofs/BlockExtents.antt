@@ -125,7 +125,7 @@ extents-more k c l [] (y ∷ xs) n x h e = absurd h
 extents-more k c l (m ∷ ns) [] n x h e = absurd h
 extents-more k c l (m ∷ ns) (y ∷ xs) n x h e = (h.0, extents-more k c l ns xs n x h.1 e)
 
-named-length : (es : List Entry) → length (named es) ≡ length es
+pub named-length : (es : List Entry) → length (named es) ≡ length es
 named-length [] = refl
 named-length (e ∷ es) = ap suc (named-length es)
 

@@ -10,6 +10,7 @@ use Rattle.hd_entries.proofs.BlockLemmas.{length-entries}
 use Rattle.hd_entries.proofs.EntryLemmas.{entries-drop}
 use Rattle.hd_levels.specs.Levels.{IndexBlocks, named}
 use Rattle.hd_levels.specs.LevelFaults.{last_entry, first_entry, first_wrong, is_right_entry, keeps_bounds, is_up_to}
+use Rattle.hd_levels.proofs.RowFaults.{first-append}
 use Rattle.hd_check_levels.specs.declared.extents.Extent.{Extent}
 use Rattle.hd_check_levels.specs.BlockExtents.{AreExtents, AreBelow}
 use Rattle.hd_check_levels.specs.EntryOrders.{is_below_least, found_with, address_wrong}
@@ -67,14 +68,6 @@ bounds-lowest c zero e right z = refl
 bounds-lowest c (suc l) e right z = absurd (omega arith)
 
 -- ---- an entry more
-
-first-append : (xs ys : List Entry) (right : Option Entry) → first_entry (xs ++ ys) right ≡ first_entry xs (first_entry ys right)
-first-append [] ys right = refl
-first-append (x ∷ xs) ys right = refl
-
-pub last-append : (left : Option Entry) (xs ys : List Entry) → last_entry left (xs ++ ys) ≡ last_entry (last_entry left xs) ys
-last-append left [] ys = refl
-last-append left (x ∷ xs) ys = last-append (Some x) xs ys
 
 abbrev pub address : Option Entry → Option ℕ
 address o = option_map (λ (e : Entry). e.address) o

@@ -2,3 +2,4 @@ pub mod BlockExtents
 pub mod EntryOrders
 pub mod RightBlocks
 pub mod RowOrders
+pub mod RowsUp

@@ -10,6 +10,7 @@ use Rattle.hd_levels.specs.IndexSets.{level_in, index_blocks}
 use Rattle.hd_levels.specs.Faultless.{AreFormsRight}
 use Rattle.hd_levels.specs.LevelFaults.{last_entry}
 use Rattle.hd_levels.proofs.Levels.{nil, across-append}
+use Rattle.hd_levels.proofs.RowFaults.{last-append}
 use Rattle.hd_check_levels.specs.declared.extents.Extent.{Extent}
 use Rattle.hd_check_levels.specs.declared.order.Left.{Left}
 use Rattle.hd_check_levels.specs.declared.rows.Standing.{Standing}
@@ -17,7 +18,6 @@ use Rattle.hd_check_levels.specs.Rows.{row_of}
 use Rattle.hd_check_levels.specs.BlockExtents.{AreExtents, AreBelow, IsExtentBelow}
 use Rattle.hd_check_levels.specs.EntryOrders.{IsLeft, IsFoundIn, IsLeftBehind, wrong_at, IsWrongUpTo, IsLeastOf, lesser}
 use Rattle.hd_check_levels.proofs.BlockExtents.{below-parts, extents-more}
-use Rattle.hd_check_levels.proofs.EntryOrders.{last-append}
 
 -- ---- the least of what stands
 
@@ -125,6 +125,10 @@ seen-all k c l ns i below own left place least is h =
 -- its blocks are of their levels
 pub level-same : (v w : VolumeState) (n : ℕ) → w.size ≡ v.size → w.image ≡ v.image → level_in w n ≡ level_in v n
 level-same v w n size image = rw (size, image) refl
+
+-- it has the same index blocks
+pub blocks-same : (k : ℕ) (v w : VolumeState) → w.size ≡ v.size → w.image ≡ v.image → index_blocks k w ≡ index_blocks k v
+blocks-same k v w size image = ap (index_blocks k) (let is : w ≡ record w { image = v.image; size = v.size } = λ j. record w { image = image j; size = size j } in is)
 
 -- and their forms are right
 pub forms-same : (k : ℕ) (v w : VolumeState) → w.size ≡ v.size → w.image ≡ v.image → AreFormsRight k v → AreFormsRight k w

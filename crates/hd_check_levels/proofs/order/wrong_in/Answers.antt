@@ -7,7 +7,8 @@ use Rattle.hd_entries.proofs.BlockLemmas.{length-entries}
 use Rattle.hd_entries.proofs.EntryLemmas.{entries-more}
 use Rattle.hd_levels.specs.LevelFaults.{last_entry, first_entry, is_right_entry}
 use Rattle.hd_check_levels.specs.EntryOrders.{IsLeft, found_with, address_wrong}
-use Rattle.hd_check_levels.proofs.EntryOrders.{last-append, wrong-more, entries-from, drop-front}
+use Rattle.hd_levels.proofs.RowFaults.{last-append}
+use Rattle.hd_check_levels.proofs.EntryOrders.{wrong-more, entries-from, drop-front}
 use Rattle.hd_check_levels.proofs.order.wrong_in.Goals as goal
 
 pub loop-index-preserved : goal.loop-index-preserved
