@@ -1,15 +1,13 @@
 -- What is found of the entries of a block, one by one.
-use Rattle.std.proofs.Common.{◌≡◌, ◌≢◌, inl, inr, ℕ, zero, suc, ◌+◌, ◌*◌, ◌-◌, ◌<◌, ◌≤◌, ◌&&◌, not, cond, Bool, true, false, List, [], ◌∷◌, ◌++◌, length, take, drop, slice_index_or, Option, None, Some, refl, sym, ap, ◌∙◌, subst, arith}
+use Rattle.std.proofs.Common.{◌≡◌, ℕ, zero, suc, ◌+◌, ◌*◌, ◌-◌, ◌<◌, ◌≤◌, ◌&&◌, not, cond, Bool, true, false, List, [], ◌∷◌, ◌++◌, length, take, drop, slice_index_or, Option, None, Some, refl, sym, ap, ◌∙◌, subst, arith}
 use Rattle.std.specs.Prelude.{option_map}
 use Rattle.std.proofs.lemmas.List.{drop_more, drop_all}
-use Rattle.hd_bytes.specs.Numbers.{number_at}
-use Rattle.hd_volume.specs.Entries.{Entry, entries_at, entries_in}
+use Rattle.hd_volume.specs.Entries.{Entry, entries_at}
 use Rattle.hd_volume.specs.Indexes.{key_less}
 use Rattle.hd_entries.specs.Fields.{entry_in}
-use Rattle.hd_entries.proofs.BlockLemmas.{length-entries}
 use Rattle.hd_entries.proofs.EntryLemmas.{entries-drop}
 use Rattle.hd_levels.specs.Levels.{IndexBlocks, named}
-use Rattle.hd_levels.specs.LevelFaults.{last_entry, first_entry, first_wrong, is_right_entry, keeps_bounds, is_up_to}
+use Rattle.hd_levels.specs.LevelFaults.{last_entry, first_entry, first_wrong, is_right_entry, keeps_bounds}
 use Rattle.hd_levels.proofs.RowFaults.{first-append}
 use Rattle.hd_check_levels.specs.declared.extents.Extent.{Extent}
 use Rattle.hd_check_levels.specs.BlockExtents.{AreExtents, AreBelow}

@@ -12,7 +12,7 @@ use Rattle.hd_entries.proofs.BlockLemmas.{length-entries}
 use Rattle.hd_levels.specs.Levels.{IndexBlocks, across, named}
 use Rattle.hd_levels.specs.IndexSets.{level_in, index_blocks, top_blocks, top_level}
 use Rattle.hd_levels.specs.Faultless.{AreFormsRight}
-use Rattle.hd_levels.specs.LevelFaults.{row_below, StandsBetween, HasEntryOutOfOrder, StandsNowhere, first_wrong_in}
+use Rattle.hd_levels.specs.LevelFaults.{row_below, HasEntryOutOfOrder, StandsNowhere, first_wrong_in}
 use Rattle.hd_levels.proofs.RowFaults.{row-level}
 use Rattle.hd_check_levels.specs.declared.extents.Extent.{Extent}
 use Rattle.hd_check_levels.specs.declared.rows.Standing.{Standing}

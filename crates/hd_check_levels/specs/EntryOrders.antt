@@ -2,12 +2,12 @@
 use Rattle.std.specs.Prelude.{◌≡◌, ◌<◌, ◌≤◌, ℕ, ◌+◌, true, false, Bool, cond, nat_lt, List, [], ◌∷◌, ◌++◌, take, drop, slice_index, slice_index_or, Option, Some, None, option_map}
 use Rattle.hd_volume.specs.Entries.{Entry}
 use Rattle.hd_volume.specs.Indexes.{key_less}
-use Rattle.hd_levels.specs.Levels.{IndexBlocks, across}
+use Rattle.hd_levels.specs.Levels.{IndexBlocks}
 use Rattle.hd_levels.specs.LevelFaults.{last_entry, first_entry, first_wrong, first_wrong_in}
 use Rattle.hd_check_levels.specs.declared.extents.Extent.{Extent}
 use Rattle.hd_check_levels.specs.declared.order.Left.{Left}
 use Rattle.hd_check_levels.specs.declared.rows.Standing.{Standing}
-use Rattle.hd_check_levels.specs.BlockExtents.{AreExtents, AreBelow}
+use Rattle.hd_check_levels.specs.BlockExtents.{AreBelow}
 
 -- ---- an entry
 

@@ -1,5 +1,5 @@
 //! Phase 11: on each level the keys ascend, and upper keys keep their bounds.
-ghost use Rattle.std.specs.Prelude.{◌≡◌, ◌≢◌, ◌⊎◌, ℕ, ◌-◌, ◌≤◌, ◌<◌, ◌&&◌, length, take, drop, not, List, [], ◌∷◌, ◌++◌, option_map, Option, None, Some, true, false, IsTrue, IfOk, IfNone, IfSome};
+ghost use Rattle.std.specs.Prelude.{◌≡◌, ◌≢◌, ◌⊎◌, ℕ, ◌-◌, ◌≤◌, ◌<◌, length, take, drop, List, [], ◌∷◌, ◌++◌, option_map, Option, None, Some, true, IsTrue, IfOk, IfNone, IfSome};
 ghost use Rattle.std.specs.Option.{option_map_or};
 ghost use Rattle.hd_bytes.specs.Numbers.{number_at};
 ghost use Rattle.hd_dbd.specs.Refusals.{OnlyDevice, OnlyDeviceOrMemory};

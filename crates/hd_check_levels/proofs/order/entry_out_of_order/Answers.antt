@@ -1,7 +1,6 @@
-use Rattle.std.proofs.Common.{◌≡◌, ◌<◌, ◌-◌, ℕ, List, [], Ok, IsTrue, None, length, take, drop, ap, sym, subst, refl, ◌∙◌, arith}
+use Rattle.std.proofs.Common.{ℕ, List, Ok, IsTrue, None, length, sym, subst, refl, ◌∙◌, arith}
 use Rattle.hd_volume.specs.Volumes.{VolumeState}
 use Rattle.hd_volume.proofs.CallSteps.{read-none, read-ok, reads-join}
-use Rattle.hd_levels.specs.Faultless.{AreFormsRight}
 use Rattle.hd_check_levels.specs.declared.extents.Extent.{Extent}
 use Rattle.hd_check_levels.proofs.RowOrders.{forms-same, level-same}
 use Rattle.hd_check_levels.proofs.RowsUp.{AreJudged, judged-none, next-row, next-levels, judged-read, judged-all, found-none, found-some}

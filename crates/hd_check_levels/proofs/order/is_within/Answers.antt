@@ -1,4 +1,4 @@
-use Rattle.std.proofs.Common.{◌≡◌, ◌&&◌, not, inl, inr, ◌+◌, Bool, None, drop, is_lt, sym, ap, ◌∙◌, arith}
+use Rattle.std.proofs.Common.{◌&&◌, not, inl, inr, ◌+◌, Bool, None, drop, is_lt, sym, ap, ◌∙◌, arith}
 use Rattle.hd_levels.specs.LevelFaults.{first_entry}
 use Rattle.hd_check_levels.specs.EntryOrders.{is_below_least}
 use Rattle.hd_check_levels.proofs.EntryOrders.{bounds-judged, bounds-short, bounds-lowest}

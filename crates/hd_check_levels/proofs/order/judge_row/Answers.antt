@@ -1,4 +1,4 @@
-use Rattle.std.proofs.Common.{◌≡◌, ◌<◌, ℕ, List, Ok, IsTrue, length, ap, sym, arith}
+use Rattle.std.proofs.Common.{◌≡◌, List, Ok, IsTrue, length, ap, arith}
 use Rattle.hd_volume.specs.Volumes.{VolumeState}
 use Rattle.hd_volume.proofs.CallSteps.{read-ok, reads-join}
 use Rattle.hd_levels.specs.IndexSets.{index_blocks}
