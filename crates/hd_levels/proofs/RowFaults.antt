@@ -65,11 +65,11 @@ cond-none : (b : Bool) (x : Option Entry) (e : Entry) → cond b x (Some e) ≡ 
 cond-none true x e h = (refl, h)
 cond-none false x e h = cc
 
-first-append : (xs ys : List Entry) (right : Option Entry) → first_entry (xs ++ ys) right ≡ first_entry xs (first_entry ys right)
+pub first-append : (xs ys : List Entry) (right : Option Entry) → first_entry (xs ++ ys) right ≡ first_entry xs (first_entry ys right)
 first-append [] ys right = refl
 first-append (x ∷ xs) ys right = refl
 
-last-append : (left : Option Entry) (xs ys : List Entry) → last_entry left (xs ++ ys) ≡ last_entry (last_entry left xs) ys
+pub last-append : (left : Option Entry) (xs ys : List Entry) → last_entry left (xs ++ ys) ≡ last_entry (last_entry left xs) ys
 last-append left [] ys = refl
 last-append left (x ∷ xs) ys = last-append (Some x) xs ys
 
@@ -230,7 +230,7 @@ module _ (k : ℕ) (v : VolumeState) (f : AreFormsRight k v) where
   abbrev c : IndexBlocks
   c = index_blocks k v
 
-  row-level : (steps l : ℕ) → steps + l ≡ top_level v → (n : ℕ) → IsAmong n (row_below c steps (top_blocks v)) → level_in v n ≡ Some l
+  pub row-level : (steps l : ℕ) → steps + l ≡ top_level v → (n : ℕ) → IsAmong n (row_below c steps (top_blocks v)) → level_in v n ≡ Some l
   row-level = rows-each c (λ l ms. (n : ℕ) → IsAmong n ms → level_in v n ≡ Some l) (top_level v) (top_blocks v)
       (rows-level c (top_level v) (top_blocks v) (λ n l m is a. (f.blocks n (suc l) is).names l m refl a)
       (λ n a. (let t = top-among v n a in ap (level_in v) t.1 ∙ f.top t.0)))
