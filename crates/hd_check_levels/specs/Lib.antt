@@ -1,4 +1,6 @@
 pub mod Tables
 pub mod Rows
 pub mod Extents
+pub mod BlockExtents
+pub mod EntryOrders
 pub mod Judging

@@ -1,16 +1,306 @@
 //! Phase 11: on each level the keys ascend, and upper keys keep their bounds.
-ghost use Rattle.std.specs.Prelude.{◌≤◌, IsTrue, IfNone, IfSome};
-ghost use Rattle.hd_dbd.specs.Refusals.{OnlyDeviceOrMemory};
+ghost use Rattle.std.specs.Prelude.{◌≡◌, ◌≢◌, ◌⊎◌, ℕ, ◌-◌, ◌≤◌, ◌<◌, length, take, drop, List, [], ◌∷◌, ◌++◌, option_map, Option, None, Some, true, IsTrue, IfOk, IfNone, IfSome};
+ghost use Rattle.std.specs.Option.{option_map_or};
+ghost use Rattle.hd_bytes.specs.Numbers.{number_at};
+ghost use Rattle.hd_dbd.specs.Refusals.{OnlyDevice, OnlyDeviceOrMemory};
+ghost use Rattle.hd_volume.specs.Volumes.{block_at};
+ghost use Rattle.hd_volume.specs.Entries.{Entry, entries_in};
+ghost use Rattle.hd_volume.specs.Indexes.{key_less};
 ghost use Rattle.hd_volume.specs.Calls.{IsRead};
+ghost use Rattle.hd_entries.specs.Fields.{CountFits};
+ghost use Rattle.hd_levels.specs.Levels.{IndexBlocks, across};
+ghost use Rattle.hd_levels.specs.IndexSets.{level_in, index_blocks};
 ghost use Rattle.hd_levels.specs.Faultless.{AreFormsRight};
-ghost use Rattle.hd_levels.specs.LevelFaults.{HasEntryOutOfOrder, StandsNowhere};
-ghost use Rattle.hd_check_levels.specs.Rows.{AreRows};
+ghost use Rattle.hd_levels.specs.LevelFaults.{first_entry, keeps_bounds, is_right_entry, HasEntryOutOfOrder, StandsNowhere};
+ghost use Rattle.hd_check_levels.specs.Rows.{row_of, AreRows};
+ghost use Rattle.hd_check_levels.specs.BlockExtents.{AreExtents, AreBelow, IsExtentBelow};
+ghost use Rattle.hd_check_levels.specs.EntryOrders.{IsLeft, is_below_least, found_with, IsFoundIn, IsLeftBehind, IsWrongUpTo, IsLeastOf, lesser, standing_at};
 ghost use Rattle.hd_check_levels.specs.Judging.{IsFirst, WhereFound};
 
+use crate::extents::{Extent, extent_below};
 use crate::rows::Standing;
 use hd_dbd::Refused;
+use hd_entries::{FIRST, IndexBlock};
 use hd_volume::{BlockStore, Volume};
 use std::alloc::Global;
+
+/// The key of the entry to the left, at the front, if there is one.
+#[derive(Clone, Copy)]
+struct Left {
+    key: [u8; 255],
+    is_some: bool,
+}
+
+/// Whether a key is above that of the entry to its left, if there is one.
+fn is_above(left: &Left, key: &[u8], key_length: usize) -> bool
+    requires short { key_length ≤ 255 }
+    ensures { (o : Option Entry) → IsLeft key_length left.now o → result ≡ option_map_or (λ l. key_less l.key key.now) o true }
+{
+    !left.is_some || left.key[..key_length].cmp(key).is_lt()
+}
+
+/// Keeps a key as that of the entry to the left.
+fn keep_key(left: &mut Left, key: &[u8])
+    requires short { length key.now ≤ 255 }
+    ensures some { left.new.is_some ≡ true }
+    ensures key { take (length key.now) left.new.key ≡ key.now }
+{
+    left.key[..key.len()].copy_from_slice(key);
+    left.is_some = true;
+}
+
+/// Whether a key is below the least of the extent at an index, if there is one.
+fn is_below_least(below: &[Extent], index: usize, key: &[u8], key_length: usize) -> bool
+    requires short { key_length ≤ 255 }
+    ensures { result ≡ is_below_least key_length key.now (drop index below.now) }
+{
+    if index >= below.len() {
+        return true;
+    }
+    let extent = &below[index];
+    key.cmp(&extent.least[..key_length]).is_lt()
+}
+
+/// Whether the key of the entry at an index keeps its bounds.
+fn is_within(level: u8, below: &[Extent], index: usize, key: &[u8], key_length: usize) -> bool
+    requires short { key_length ≤ 255 }
+    ensures { (c : IndexBlocks) (fs : List Entry) (e : Entry) (rest : List Entry) → AreBelow key_length c level fs below.now → drop index fs ≡ e ∷ rest → key.now ≡ e.key → result ≡ keeps_bounds c level e (first_entry rest None) }
+{
+    if level == 0 || index >= below.len() {
+        return true;
+    }
+    let own = &below[index];
+    if key.cmp(&own.greatest[..key_length]).is_lt() {
+        return false;
+    }
+    is_below_least(below, index + 1, key, key_length)
+}
+
+/// Whether the entry at an index has a key above the one to its left and keeps its bounds.
+fn is_right(
+    left: &Left,
+    level: u8,
+    below: &[Extent],
+    index: usize,
+    key: &[u8],
+    key_length: usize,
+) -> bool
+    requires short { key_length ≤ 255 }
+    ensures { (c : IndexBlocks) (fs : List Entry) (o : Option Entry) (e : Entry) (rest : List Entry) → AreBelow key_length c level fs below.now → IsLeft key_length left.now o → drop index fs ≡ e ∷ rest → key.now ≡ e.key → result ≡ is_right_entry c level o e (first_entry rest None) }
+{
+    is_above(left, key, key_length) && is_within(level, below, index, key, key_length)
+}
+
+/// What was found among entries, or else the address of one more that is not right.
+fn found_more(found: Option<u32>, is_right: bool, address: u32) -> Option<u32>
+    ensures { result ≡ found_with found is_right address }
+{
+    match found {
+        Some(other) => Some(other),
+        None => {
+            if is_right {
+                return None;
+            }
+            Some(address)
+        }
+    }
+}
+
+/// The address in the first entry of a block that is not right; the last key is kept.
+fn wrong_in(left: &mut Left, block: &IndexBlock, level: u8, below: &[Extent]) -> Option<u32>
+    ensures found { CountFits block.now.key_length block.now.bytes.now → IsFoundIn block.now.key_length level left.old (entries_in block.now.key_length block.now.bytes.now) below.now result }
+    ensures left { CountFits block.now.key_length block.now.bytes.now → IsLeftBehind block.now.key_length left.old (entries_in block.now.key_length block.now.bytes.now) left.new }
+{
+    let mut found = None;
+    for index in 0..block.count() {
+        let key = block.key(index);
+        let address = block.address(index);
+        let is_right = is_right(left, level, below, index, key, block.key_length);
+        found = found_more(found, is_right, address);
+        keep_key(left, key);
+    }
+    found
+}
+
+/// What is found in a block, its extent, and how many entries it has.
+#[derive(Clone, Copy)]
+struct Judged {
+    found: Option<u32>,
+    extent: Extent,
+    count: usize,
+}
+
+/// Judges a block of a level, by the extents below it and below the blocks to its right; the last key is kept.
+fn judge_entries(left: &mut Left, block: &IndexBlock, level: u8, below: &[Extent]) -> Judged
+    ensures found { CountFits block.now.key_length block.now.bytes.now → IsFoundIn block.now.key_length level left.old (entries_in block.now.key_length block.now.bytes.now) below.now result.found }
+    ensures left { CountFits block.now.key_length block.now.bytes.now → IsLeftBehind block.now.key_length left.old (entries_in block.now.key_length block.now.bytes.now) left.new }
+    ensures extent { CountFits block.now.key_length block.now.bytes.now → 0 < number_at 2 block.now.bytes.now 4 → IsExtentBelow block.now.key_length level (entries_in block.now.key_length block.now.bytes.now) below.now result.extent }
+    ensures count { CountFits block.now.key_length block.now.bytes.now → result.count ≡ length (entries_in block.now.key_length block.now.bytes.now) }
+    ensures small { result.count ≤ 65535 }
+{
+    let found = wrong_in(left, block, level, below);
+    let extent = extent_below(block, level, below);
+    let count = block.count();
+    Judged {
+        found,
+        extent,
+        count,
+    }
+}
+
+/// What stands for a block that is no index block.
+fn no_block() -> Judged
+    ensures { result.count ≡ 0 }
+{
+    Judged {
+        found: None,
+        extent: Extent {
+            least: [0; 255],
+            greatest: [0; 255],
+        },
+        count: 0,
+    }
+}
+
+/// Reads and judges a block of a level.
+fn judge_block<S: BlockStore>(
+    left: &mut Left,
+    volume: &mut Volume<S>,
+    n: u32,
+    level: u8,
+    below: &[Extent],
+    key_length: usize,
+) -> Result<Judged, Refused>
+    requires short { key_length ≤ 255 }
+    requires forms { IsTrue volume.old.is_sound → AreFormsRight key_length volume.old }
+    requires level { IsTrue volume.old.is_sound → level_in volume.old n ≡ Some level }
+    ensures read { IsRead volume.old result volume.new }
+    ensures found { IfOk result (λ r. IsTrue volume.old.is_sound → IsFoundIn key_length level left.old (entries_in key_length (block_at volume.old n)) below.now r.found) }
+    ensures left { IfOk result (λ r. IsTrue volume.old.is_sound → IsLeftBehind key_length left.old (entries_in key_length (block_at volume.old n)) left.new) }
+    ensures extent { IfOk result (λ r. IsTrue volume.old.is_sound → IsExtentBelow key_length level (entries_in key_length (block_at volume.old n)) below.now r.extent) }
+    ensures count { IfOk result (λ r. IsTrue volume.old.is_sound → r.count ≡ length (entries_in key_length (block_at volume.old n))) }
+    ensures small { IfOk result (λ r. r.count ≤ 65535) }
+    ensures refusal { OnlyDevice result }
+{
+    let bytes = volume.block(n)?;
+    if bytes.len() < FIRST {
+        return Ok(no_block());
+    }
+    let block = IndexBlock { bytes, key_length };
+    Ok(judge_entries(left, &block, level, below))
+}
+
+/// Reads and judges a block of a level, and notes its extent.
+fn judge_next<S: BlockStore>(
+    own: &mut Vec<Extent>,
+    left: &mut Left,
+    volume: &mut Volume<S>,
+    n: u32,
+    level: u8,
+    below: &[Extent],
+    key_length: usize,
+) -> Result<Judged, Refused>
+    requires short { key_length ≤ 255 }
+    requires forms { IsTrue volume.old.is_sound → AreFormsRight key_length volume.old }
+    requires level { IsTrue volume.old.is_sound → level_in volume.old n ≡ Some level }
+    ensures read { IsRead volume.old result volume.new }
+    ensures found { IfOk result (λ r. IsTrue volume.old.is_sound → IsFoundIn key_length level left.old (entries_in key_length (block_at volume.old n)) below.now r.found) }
+    ensures left { IfOk result (λ r. IsTrue volume.old.is_sound → IsLeftBehind key_length left.old (entries_in key_length (block_at volume.old n)) left.new) }
+    ensures extent { IfOk result (λ r. IsTrue volume.old.is_sound → IsExtentBelow key_length level (entries_in key_length (block_at volume.old n)) below.now r.extent) }
+    ensures count { IfOk result (λ r. IsTrue volume.old.is_sound → r.count ≡ length (entries_in key_length (block_at volume.old n))) }
+    ensures small { IfOk result (λ r. r.count ≤ 65535) }
+    ensures own { IfOk result (λ r. own.new.items ≡ own.old.items ++ (r.extent ∷ [])) }
+    ensures refusal { OnlyDeviceOrMemory result }
+{
+    let judged = judge_block(left, volume, n, level, below, key_length)?;
+    own.push(judged.extent).map_err(|_| Refused::Memory)?;
+    Ok(judged)
+}
+
+/// What is found in a block, with its number.
+fn found_at(found: Option<u32>, n: u32) -> Option<(u32, u32)>
+    ensures { result ≡ option_map (λ other. (n, other)) found }
+{
+    match found {
+        None => None,
+        Some(other) => Some((n, other)),
+    }
+}
+
+/// The lesser of two by number, if there are two.
+fn lesser(least: Option<(u32, u32)>, more: Option<(u32, u32)>) -> Option<(u32, u32)>
+    ensures { result ≡ lesser least more }
+{
+    let Some(own) = least else {
+        return more;
+    };
+    let Some(other) = more else {
+        return least;
+    };
+    if other.0 < own.0 { more } else { least }
+}
+
+/// The block of the least number in a row that has an entry that is not right, and what the first such entry of it names; the extents of the
+/// blocks are noted.
+fn judge_row<S: BlockStore>(
+    own: &mut Vec<Extent>,
+    volume: &mut Volume<S>,
+    row: &[Standing],
+    level: u8,
+    below: &[Extent],
+    key_length: usize,
+) -> Result<Option<(u32, u32)>, Refused>
+    requires empty { own.old.items ≡ [] }
+    requires short { key_length ≤ 255 }
+    requires forms { IsTrue volume.old.is_sound → AreFormsRight key_length volume.old }
+    requires level { IsTrue volume.old.is_sound → (i : ℕ) → i < length row.now → level_in volume.old (standing_at row.now i).number ≡ Some level }
+    ensures read { IsRead volume.old result volume.new }
+    ensures own { IfOk result (λ found. IsTrue volume.old.is_sound → (ns : List ℕ) → row.now ≡ row_of level ns → AreBelow key_length (index_blocks key_length volume.old) level (across (index_blocks key_length volume.old) ns) below.now → AreExtents key_length (index_blocks key_length volume.old) level ns own.new.items) }
+    ensures found { IfOk result (λ found. IsTrue volume.old.is_sound → (ns : List ℕ) → row.now ≡ row_of level ns → AreBelow key_length (index_blocks key_length volume.old) level (across (index_blocks key_length volume.old) ns) below.now → IsLeastOf (IsWrongUpTo (index_blocks key_length volume.old) level ns (length ns)) found) }
+    ensures refusal { OnlyDeviceOrMemory result }
+{
+    let mut left = Left {
+        key: [0; 255],
+        is_some: false,
+    };
+    let mut place = 0;
+    let mut least = None;
+    for block in row {
+        let rest = &below[place..];
+        let judged = judge_next(
+            own,
+            &mut left,
+            volume,
+            block.number,
+            level,
+            rest,
+            key_length,
+        )?;
+        place = below.len().min(place + judged.count);
+        least = lesser(least, found_at(judged.found, block.number));
+    }
+    Ok(least)
+}
+
+/// Where the row begins that ends at an index.
+fn row_start(rows: &[Standing], end: usize) -> usize
+    requires some { 0 < end }
+    requires within { end ≤ length rows.now }
+    ensures before { result < end }
+    ensures same { (i : ℕ) → result ≤ i → i < end → (standing_at rows.now i).level ≡ (standing_at rows.now (end - 1)).level }
+    ensures other { (result ≡ 0) ⊎ ((standing_at rows.now (result - 1)).level ≢ (standing_at rows.now (end - 1)).level) }
+{
+    let last = rows[end - 1];
+    let mut start = end - 1;
+    while start > 0 {
+        let block = rows[start - 1];
+        if block.level != last.level {
+            return start;
+        }
+        start -= 1;
+    }
+    start
+}
 
 /// The first index block with an entry whose key is not above the one to its left or breaks its bounds, and what the first such entry
 /// of the block names.
@@ -28,10 +318,24 @@ pub fn entry_out_of_order<S: BlockStore>(
     ensures some { WhereFound volume.old result (λ found. IfSome found (λ at. IsFirst volume.old (HasEntryOutOfOrder key_length volume.old) at.0 at.1)) }
     ensures refusal { OnlyDeviceOrMemory result }
 {
-    let mut marks = Vec::new(alloc);
-    marks
-        .push(rows.len() == key_length)
-        .map_err(|_| Refused::Memory)?;
-    let _bytes = volume.block(0)?;
-    Ok(None)
+    let mut below = Vec::new(alloc);
+    let mut least = None;
+    let mut end = rows.len();
+    while end > 0 {
+        let start = row_start(rows, end);
+        let first = rows[start];
+        let mut own = Vec::new(alloc);
+        let found = judge_row(
+            &mut own,
+            volume,
+            &rows[start..end],
+            first.level,
+            &below,
+            key_length,
+        )?;
+        least = lesser(least, found);
+        below = own;
+        end = start;
+    }
+    Ok(least)
 }

@@ -65,11 +65,11 @@ cond-none : (b : Bool) (x : Option Entry) (e : Entry) → cond b x (Some e) ≡ 
 cond-none true x e h = (refl, h)
 cond-none false x e h = cc
 
-first-append : (xs ys : List Entry) (right : Option Entry) → first_entry (xs ++ ys) right ≡ first_entry xs (first_entry ys right)
+pub first-append : (xs ys : List Entry) (right : Option Entry) → first_entry (xs ++ ys) right ≡ first_entry xs (first_entry ys right)
 first-append [] ys right = refl
 first-append (x ∷ xs) ys right = refl
 
-last-append : (left : Option Entry) (xs ys : List Entry) → last_entry left (xs ++ ys) ≡ last_entry (last_entry left xs) ys
+pub last-append : (left : Option Entry) (xs ys : List Entry) → last_entry left (xs ++ ys) ≡ last_entry (last_entry left xs) ys
 last-append left [] ys = refl
 last-append left (x ∷ xs) ys = last-append (Some x) xs ys
 

@@ -1,0 +1,5 @@
+pub mod BlockExtents
+pub mod EntryOrders
+pub mod RightBlocks
+pub mod RowOrders
+pub mod RowsUp
