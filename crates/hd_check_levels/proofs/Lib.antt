@@ -1,1 +1,2 @@
 pub mod NotedTables
+pub mod BlockForms
