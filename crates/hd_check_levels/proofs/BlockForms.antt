@@ -1,12 +1,12 @@
 -- What is right and what is wrong with the form of an index's blocks, by their table.
-use Rattle.std.proofs.Common.{◌≡◌, ◌≢◌, ◌⊎◌, inl, inr, ℕ, zero, suc, ◌+◌, ◌-◌, ◌*◌, ◌<◌, ◌≤◌, List, [], ◌∷◌, ◌++◌, length, true, false, Option, Some, None, slice_index, refl, sym, ap, subst, ◌∙◌, arith}
+use Rattle.std.proofs.Common.{◌≡◌, ◌≢◌, ◌⊎◌, inl, inr, ℕ, zero, suc, ◌+◌, ◌*◌, ◌<◌, ◌≤◌, List, [], ◌∷◌, ◌++◌, length, true, false, Option, Some, None, refl, sym, ap, subst, ◌∙◌, arith}
 use Rattle.std.specs.Prelude.{nat_eq}
 use Rattle.std.proofs.lemmas.Nat.{mul-le}
 use Rattle.std.proofs.lemmas.Bool.{cases_lt, cases_eq, eqb-true, eq-eqb, false≢true}
 use Rattle.hd_bytes.specs.Numbers.{number_at}
 use Rattle.hd_bytes.proofs.BlockLemmas.{length-block}
 use Rattle.hd_volume.specs.Headers.{header_of}
-use Rattle.hd_volume.specs.Volumes.{VolumeState, block_at, kind_of, IsKind}
+use Rattle.hd_volume.specs.Volumes.{VolumeState, block_at}
 use Rattle.hd_volume.specs.Entries.{Entry, entries_at, entries_in}
 use Rattle.hd_volume.specs.Indexes.{entry_room, IsAmong}
 use Rattle.hd_entries.specs.Fields.{entry_in, CountFits}
@@ -14,7 +14,7 @@ use Rattle.hd_entries.proofs.EntryLemmas.{entries-more}
 use Rattle.hd_levels.specs.Levels.{named}
 use Rattle.hd_levels.specs.IndexSets.{level_in, next_in, top_level, IsHeightRight}
 use Rattle.hd_levels.specs.Faultless.{IsFormRight}
-use Rattle.hd_levels.specs.LevelFaults.{IsWrongTop, NamesWrongBlock, IsWrongForm, StandsNowhere}
+use Rattle.hd_levels.specs.LevelFaults.{IsWrongTop, IsWrongForm, StandsNowhere}
 use Rattle.hd_levels.proofs.Volumes.{level-of, level-kind}
 use Rattle.hd_check_levels.specs.declared.table.NotedBlock.{NotedBlock}
 use Rattle.hd_check_levels.specs.Tables.{noted, IsBlockOf, AreIndexBlocks}
@@ -240,13 +240,19 @@ module _ (k : ℕ) (v w : VolumeState) (image : w.image ≡ v.image) (size : w.s
       let next : next_in w m ≡ next_in v m = ap (λ (b : List ℕ). number_at 4 b 8) (block-is m) in
       let room : entry_room k w.size ≡ entry_room k v.size = ap (λ (z : ℕ). entry_room k z) size in
       let height : (header_of w.image).height ≡ (header_of v.image).height = ap (λ (i : List ℕ). (header_of i).height) image in
-      let at : n * v.size ≡ m * v.size = subst (λ (z : ℕ). n * z ≡ m * z) size t.3 in
-      (m, l, sym (level-is m) ∙ t.2, at, refl, elim t.5 [
-        | inl high ↦ inl (λ low. high (omega arith))
-        | inr (inl none) ↦ inr (inl (sym count ∙ none))
-        | inr (inr (inl many)) ↦ inr (inr (inl (omega arith)))
-        | inr (inr (inr (inl other))) ↦
-            inr (inr (inr (inl ((λ z. other.0 (next ∙ z)), (λ of. other.1 (ap (λ (x : ℕ). level_in w x) next ∙ level-is (next_in v m) ∙ of))))))
-        | inr (inr (inr (inr names))) ↦
-            inr (inr (inr (inr (names.0, names.1, names.2, subst (λ (b : List ℕ). IsAmong names.1 (named (entries_in k b))) (block-is m) names.3, (λ of. names.4 (level-is names.1 ∙ of))))))
-      ])
+      let at : n * v.size ≡ m * v.size = subst (λ (z : ℕ). n * z ≡ m * z) size t.3 in (
+        m,
+        l,
+        sym (level-is m) ∙ t.2,
+        at,
+        refl,
+        elim t.5 [
+          | inl high ↦ inl (λ low. high (omega arith))
+          | inr (inl none) ↦ inr (inl (sym count ∙ none))
+          | inr (inr (inl many)) ↦ inr (inr (inl (omega arith)))
+          | inr (inr (inr (inl other))) ↦
+              inr (inr (inr (inl ((λ z. other.0 (next ∙ z)), (λ of. other.1 (ap (λ (x : ℕ). level_in w x) next ∙ level-is (next_in v m) ∙ of))))))
+          | inr (inr (inr (inr names))) ↦
+              inr (inr (inr (inr (names.0, names.1, names.2, subst (λ (b : List ℕ). IsAmong names.1 (named (entries_in k b))) (block-is m) names.3, (λ of. names.4 (level-is names.1 ∙ of))))))
+        ],
+      )

@@ -83,8 +83,8 @@ fn is_block_right<S: BlockStore>(
     block: NotedBlock,
 ) -> Result<bool, Refused>
     requires short { key_length ≤ 255 }
-    requires blocks { IsTrue volume.old.is_sound → AreIndexBlocks volume.old blocks.now }
-    requires block { IsTrue volume.old.is_sound → IsBlockOf block blocks.now }
+    requires table { IsTrue volume.old.is_sound → AreIndexBlocks volume.old blocks.now }
+    requires noted { IsTrue volume.old.is_sound → IsBlockOf block blocks.now }
     requires height { IsTrue volume.old.is_sound → height ≡ (header_of volume.old.image).height }
     ensures read { IsRead volume.old result volume.new }
     ensures right { IfOk result (λ r. IsTrue volume.old.is_sound → r ≡ true → IsFormRight key_length volume.old block.level block.number) }
