@@ -1,2 +1,3 @@
 pub mod NotedTables
 pub mod BlockForms
+pub mod TwiceNamed

@@ -3,3 +3,4 @@ pub mod Rows
 pub mod Extents
 pub mod Judging
 pub mod NotedBlocks
+pub mod NamedBlocks
