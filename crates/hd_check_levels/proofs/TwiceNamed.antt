@@ -383,7 +383,7 @@ module _ (k : ℕ) (v : VolumeState) (bs : List NotedBlock) (top : ℕ) (h : Are
 -- ---- the list of all names
 
 -- the names of the first blocks, and those of one more
-pub upper-more : (k : ℕ) (v : VolumeState) (bs : List NotedBlock) (i : ℕ) → i < length bs → upper_names k v (take (i + 1) bs) ≡ upper_names k v (take i bs) ++ names_in k v (noted_at bs i)
+upper-more : (k : ℕ) (v : VolumeState) (bs : List NotedBlock) (i : ℕ) → i < length bs → upper_names k v (take (i + 1) bs) ≡ upper_names k v (take i bs) ++ names_in k v (noted_at bs i)
 upper-more k v [] i l = absurd (omega arith)
 upper-more k v (b ∷ bs) zero l = append-none (names_in k v b)
   where
@@ -399,5 +399,12 @@ pub named-more : (k : ℕ) (b : List ℕ) (i : ℕ) → named (entries_at k b 12
 named-more k b i = ap named (entries-more k b 12 i) ∙ named-append (entries_at k b 12 i) (entry_in k b i ∷ [])
 
 -- in one image a block names the same blocks
-pub names-same : (k : ℕ) (v w : VolumeState) (b : NotedBlock) → w.image ≡ v.image → w.size ≡ v.size → names_in k w b ≡ names_in k v b
+names-same : (k : ℕ) (v w : VolumeState) (b : NotedBlock) → w.image ≡ v.image → w.size ≡ v.size → names_in k w b ≡ names_in k v b
 names-same k v w b image size = rw (size, image) refl
+
+-- the names of the first blocks and of one more are those of all of them
+pub names-more : (k : ℕ) (v w : VolumeState) (bs : List NotedBlock) (top i : ℕ) (names more : List ℕ) → w.image ≡ v.image → w.size ≡ v.size → i < length bs
+    → names ≡ names_of k v top (take i bs) → more ≡ names ++ names_in k w (noted_at bs i) → more ≡ names_of k v top (take (i + 1) bs)
+names-more k v w bs top i names more image size within before added =
+    added ∙ ap (λ (ns : List ℕ). names ++ ns) (names-same k v w (noted_at bs i) image size) ∙ ap (λ (ns : List ℕ). ns ++ names_in k v (noted_at bs i)) before
+    ∙ ap (λ (ns : List ℕ). top ∷ ns) (sym (upper-more k v bs i within))

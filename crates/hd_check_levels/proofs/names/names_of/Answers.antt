@@ -1,12 +1,11 @@
-use Rattle.std.proofs.Common.{◌∷◌, ◌++◌, ℕ, List, Ok, IsTrue, sym, ap, ◌∙◌}
+use Rattle.std.proofs.Common.{ℕ, List, Ok, IsTrue, sym}
 use Rattle.hd_volume.specs.Volumes.{VolumeState}
 use Rattle.hd_volume.proofs.CallSteps.{read-ok, reads-join}
 use Rattle.hd_check_levels.specs.declared.table.NotedBlock.{NotedBlock}
 use Rattle.hd_check_levels.specs.NotedBlocks.{noted_at}
-use Rattle.hd_check_levels.specs.NamedBlocks.{names_in}
 use Rattle.hd_check_levels.proofs.NotedTables.{among, kind-same}
 use Rattle.hd_check_levels.proofs.BlockForms.{form-same, level-own}
-use Rattle.hd_check_levels.proofs.TwiceNamed.{upper-more, names-same}
+use Rattle.hd_check_levels.proofs.TwiceNamed.{names-more}
 use Rattle.hd_check_levels.proofs.names.names_of.Goals as goal
 
 pub add_names-requires-clause-there : goal.add_names-requires-clause-there
@@ -41,8 +40,6 @@ loop-block-preserved g c =
       read = read-ok 0 (reads-join (Ok c.in_ok-add_names.field-0) i.read c.in_ok-add_names.ensures.read);
       names = λ sound.
           (let now : IsTrue w.is_sound = rw i.read.call.sound sound in
-          let added = c.in_ok-add_names.ensures.names now in
-          added ∙ ap (λ (ns : List ℕ). c.loop-block.names.items ++ ns) (names-same k v w (noted_at bs x) (i.read.image now) i.read.call.size)
-          ∙ ap (λ (ns : List ℕ). ns ++ names_in k v (noted_at bs x)) (i.names sound)
-          ∙ ap (λ (ns : List ℕ). c.args.top ∷ ns) (sym (upper-more k v bs x c.loop-block-test.true)));
+          names-more k v w bs c.args.top x c.loop-block.names.items c.add_names.new.names.items (i.read.image now) i.read.call.size c.loop-block-test.true (i.names sound)
+          (c.in_ok-add_names.ensures.names now));
     }
