@@ -4,3 +4,5 @@ pub mod Extents
 pub mod BlockExtents
 pub mod EntryOrders
 pub mod Judging
+pub mod NotedBlocks
+pub mod NamedBlocks
