@@ -4,3 +4,5 @@ pub mod Joined
 pub mod Tallies
 pub mod Passing
 pub mod LevelPhases
+pub mod NotedSequence
+pub mod LevelsFound

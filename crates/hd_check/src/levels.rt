@@ -1,5 +1,5 @@
 //! The phases that judge an index set: each answers the least fault of the volume, where it is one of its lines.
-ghost use Rattle.std.specs.Prelude.{◌≡◌, ◌≢◌, ℕ, ◌*◌, ◌<◌, ◌≤◌, [], true, false, Some, None, IsTrue, IfNone, IfSome, OnOk};
+ghost use Rattle.std.specs.Prelude.{◌≡◌, ◌≢◌, ℕ, ◌*◌, ◌<◌, ◌≤◌, [], ◌∷◌, ◌++◌, true, false, Some, None, IsTrue, IfNone, IfSome, OnOk};
 ghost use Rattle.hd_dbd.specs.Hierarchy.{Database};
 ghost use Rattle.hd_dbd.specs.Refusals.{OnlyMemory, OnlyDeviceOrMemory};
 ghost use Rattle.hd_volume.specs.Headers.{header_of};
@@ -228,6 +228,18 @@ fn level_rows_fault<S: BlockStore>(
     level_order_fault(alloc, blocks, &rows, volume, dbd)
 }
 
+/// Notes a block behind others, if it is of level 0.
+fn note_low(sequence: &mut Vec<u32>, block: NotedBlock) -> Result<(), Refused>
+    ensures low { OnOk result (block.level ≡ 0 → sequence.new.items ≡ sequence.old.items ++ (block.number ∷ [])) }
+    ensures high { OnOk result (block.level ≢ 0 → sequence.new.items ≡ sequence.old.items) }
+    ensures refusal { OnlyMemory result }
+{
+    if block.level == 0 {
+        sequence.push(block.number).map_err(|_| Refused::Memory)?;
+    }
+    Ok(())
+}
+
 /// Notes the blocks of the sequence set, in order of their numbers.
 fn note_sequence(sequence: &mut Vec<u32>, blocks: &[NotedBlock]) -> Result<(), Refused>
     requires empty { sequence.old.items ≡ [] }
@@ -235,9 +247,7 @@ fn note_sequence(sequence: &mut Vec<u32>, blocks: &[NotedBlock]) -> Result<(), R
     ensures refusal { OnlyMemory result }
 {
     for block in blocks {
-        if block.level == 0 {
-            sequence.push(block.number).map_err(|_| Refused::Memory)?;
-        }
+        note_low(sequence, *block)?;
     }
     Ok(())
 }

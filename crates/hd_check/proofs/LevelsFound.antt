@@ -1,0 +1,115 @@
+-- What the phases that judge an index set join to: what is right where nothing is found, and else the least fault of the volume.
+use Rattle.std.proofs.Common.{◌≡◌, ◌≢◌, ◌⊎◌, inl, inr, ℕ, ◌*◌, ◌<◌, ◌≤◌, Option, None, Some, IfNone, IfSome, true, false, refl, sym, ap, subst, ◌∙◌, arith}
+use Rattle.std.proofs.lemmas.Nat.{mul-le}
+use Rattle.hd_dbd.specs.Hierarchy.{Database}
+use Rattle.hd_volume.specs.Headers.{header_of}
+use Rattle.hd_volume.specs.Volumes.{VolumeState}
+use Rattle.hd_volume.specs.Indexes.{root_key_length}
+use Rattle.hd_levels.specs.Faultless.{AreFormsRight, AreNamedOnce, AreAllReached}
+use Rattle.hd_levels.specs.LevelFaults as level
+use Rattle.hd_levels.specs.LevelFaults.{StandsNowhere}
+use Rattle.hd_levels.proofs.FormFaults.{forms-judged}
+use Rattle.hd_levels.proofs.LevelFaults.{names-judged, reach-judged}
+use Rattle.hd_levels.proofs.RowFaults.{levels-judged}
+use Rattle.hd_image.specs.Records.{IsVolumeOf}
+use Rattle.hd_image.specs.Right.{LevelsAreInOrder}
+use Rattle.hd_image.specs.declared.line.Line.{Line}
+use Rattle.hd_image.specs.declared.line.Line.TheVariants.{WrongTop, WrongForm, NamedTwice, UnreachedBlock, WrongNext, EntryOutOfOrder}
+use Rattle.hd_check_blocks.specs.declared.fault.Fault.{Fault}
+use Rattle.hd_check_blocks.specs.Phases.{IsLeastOf}
+use Rattle.hd_check_levels.specs.Judging.{IsFirst, IsFoundAt}
+use Rattle.hd_check.specs.Joining.{NoneBefore, IsFirstFault}
+use Rattle.hd_check.proofs.EarlierFaults.{first-of}
+use Rattle.hd_check.proofs.LevelPhases.{top-least, form-least, twice-least, unreached-least, next-least, order-least, form-fits, twice-fits, unreached-fits, next-fits, order-fits}
+
+-- ---- an answer
+
+-- where there is no fault, what is right
+where-none : {A : Type 0} (P : Type 0) (o : Option A) → o ≡ None → P → IfNone o P
+where-none {A} P o is p = subst (λ (r : Option A). IfNone r P) (sym is) p
+
+-- of no fault nothing is asked
+some-of-none : {A : Type 0} (Q : A → Type 0) (o : Option A) → o ≡ None → IfSome o Q
+some-of-none {A} Q o is = subst (λ (r : Option A). IfSome r Q) (sym is) tt
+
+-- where there is one, it
+where-some : {A : Type 0} (Q : A → Type 0) (o : Option A) (x : A) → o ≡ Some x → Q x → IfSome o Q
+where-some {A} Q o x is q = subst (λ (r : Option A). IfSome r Q) (sym is) q
+
+none-of-some : {A : Type 0} (P : Type 0) (o : Option A) (x : A) → o ≡ Some x → IfNone o P
+none-of-some {A} P o x is = subst (λ (r : Option A). IfNone r P) (sym is) tt
+
+-- the fault of a line at a block that was found
+pub record IsFaultAt (line : Line) (found : Option ℕ) (size : ℕ) (result : Option Fault) : Type 0 where
+  pub none : IfNone found (result ≡ None)
+  pub some : IfSome found (λ n. n * size < 4294967296 → result ≡ Some (record { line = line; address = n * size; other = 0 }))
+
+fault-is : (line : Line) (n size own : ℕ) (result : Option Fault) → size ≡ own → n * own < 4294967296 → (n * size < 4294967296 → result ≡ Some (record { line = line; address = n * size; other = 0 }))
+    → result ≡ Some (record { line = line; address = n * own; other = 0 })
+fault-is line n size own result same fits is =
+    (let F : ℕ → Type 0 = λ s. n * s < 4294967296 → result ≡ Some (record { line = line; address = n * s; other = 0 }) in subst F same is fits)
+
+module _ (d : Database) (v : VolumeState) where
+  -- what a phase of one line answers: what is right, and the least fault
+  phase-found : (line : Line) (phase size : ℕ) (stands : ℕ → ℕ → Type 0) (P : Type 0) (found : Option ℕ) (result : Option Fault) → NoneBefore d v phase → (StandsNowhere stands → P)
+      → ((n : ℕ) → stands (n * v.size) 0 → n * v.size < 4294967296)
+      → ((n : ℕ) → stands (n * v.size) 0 → ((a o : ℕ) → stands a o → n * v.size ≤ a) → IsLeastOf d v phase (record { line = line; address = n * v.size; other = 0 }))
+      → size ≡ v.size → IsFoundAt v stands found → IsFaultAt line found size result → IfNone result P × IfSome result (λ f. IsFirstFault d v f)
+  phase-found line phase size stands P None result before right fits least same at is = (where-none P result is.none (right at.0), some-of-none (λ f. IsFirstFault d v f) result is.none)
+  phase-found line phase size stands P (Some n) result before right fits least same at is =
+      let one = at.1 in
+      let fault : Fault = record { line = line; address = n * v.size; other = 0 } in
+      let e : result ≡ Some fault = fault-is line n size v.size result same (fits n one.here) is.some in
+      (none-of-some P result fault e, where-some (λ f. IsFirstFault d v f) result fault e (first-of d v phase fault before (least n one.here one.least)))
+
+module _ (d : Database) (v : VolumeState) (of : IsVolumeOf d v) (later : (header_of v.image).version ≢ 1) where
+  abbrev k : ℕ
+  k = root_key_length d.types
+
+  pub top-first : (top : ℕ) → NoneBefore d v 8 → level.IsWrongTop v 0 top → IsFirstFault d v (record { line = WrongTop; address = 0; other = top })
+  top-first top before wrong = first-of d v 8 (record { line = WrongTop; address = 0; other = top }) before (top-least d v later top wrong)
+
+  pub forms-found : (size : ℕ) (found : Option ℕ) (result : Option Fault) → NoneBefore d v 8 → StandsNowhere (level.IsWrongTop v) → size ≡ v.size → IsFoundAt v (level.IsWrongForm k v) found
+      → IsFaultAt WrongForm found size result → IfNone result (AreFormsRight k v) × IfSome result (λ f. IsFirstFault d v f)
+  forms-found size found result before top same at is =
+      phase-found d v WrongForm 8 size (level.IsWrongForm k v) (AreFormsRight k v) found result before (λ none. (forms-judged k v).1 (top, none)) (form-fits d v of) (λ n w least. form-least d v later n top w least) same at is
+
+  pub names-found : (size : ℕ) (found : Option ℕ) (result : Option Fault) → NoneBefore d v 9 → size ≡ v.size → IsFoundAt v (level.IsNamedTwice k v) found
+      → IsFaultAt NamedTwice found size result → IfNone result (AreNamedOnce k v) × IfSome result (λ f. IsFirstFault d v f)
+  names-found size found result before same at is =
+      phase-found d v NamedTwice 9 size (level.IsNamedTwice k v) (AreNamedOnce k v) found result before (λ none. (names-judged k v).1 none) (twice-fits d v of) (twice-least d v later) same at is
+
+  pub reach-found : (size : ℕ) (found : Option ℕ) (result : Option Fault) → NoneBefore d v 10 → size ≡ v.size → IsFoundAt v (level.IsUnreachedBlock k v) found
+      → IsFaultAt UnreachedBlock found size result → IfNone result (AreAllReached k v) × IfSome result (λ f. IsFirstFault d v f)
+  reach-found size found result before same at is =
+      phase-found d v UnreachedBlock 10 size (level.IsUnreachedBlock k v) (AreAllReached k v) found result before (λ none. (reach-judged k v).1 none) (unreached-fits d v of) (unreached-least d v later) same at is
+
+-- ---- the order of the levels
+
+-- the fault of an entry out of order that was found
+pub record IsOrderFaultAt (found : Option (ℕ × ℕ)) (size : ℕ) (result : Option Fault) : Type 0 where
+  pub none : IfNone found (result ≡ None)
+  pub some : IfSome found (λ at. at.0 * size < 4294967296 → result ≡ Some (record { line = EntryOutOfOrder; address = at.0 * size; other = at.1 }))
+
+module _ (d : Database) (v : VolumeState) (of : IsVolumeOf d v) (later : (header_of v.image).version ≢ 1) (forms : AreFormsRight (root_key_length d.types) v) where
+  -- the first entry out of order, before which no next block is wrong
+  pub order-found : (size : ℕ) (found : Option (ℕ × ℕ)) (result : Option Fault) → size ≡ v.size → (IfNone found (StandsNowhere (level.IsWrongNext (root_key_length d.types) v)))
+      → IfSome found (λ at. (a o : ℕ) → level.IsWrongNext (root_key_length d.types) v a o → at.0 * v.size < a)
+      → IfNone found (StandsNowhere (level.HasEntryOutOfOrder (root_key_length d.types) v)) → IfSome found (λ at. IsFirst v (level.HasEntryOutOfOrder (root_key_length d.types) v) at.0 at.1)
+      → IsOrderFaultAt found size result → IfNone result (LevelsAreInOrder (root_key_length d.types) v) × IfSome result (λ f. IsLeastOf d v 11 f)
+  order-found size None result same next behind none first is =
+      let judged = levels-judged (root_key_length d.types) v forms in
+      (where-none (LevelsAreInOrder (root_key_length d.types) v) result is.none (record { next = judged.0.1 next; keys = judged.1.1 none }), some-of-none (λ f. IsLeastOf d v 11 f) result is.none)
+  order-found size (Some at) result same next behind none first is =
+      let fault : Fault = record { line = EntryOutOfOrder; address = at.0 * v.size; other = at.1 } in
+      let F : ℕ → Type 0 = λ s. at.0 * s < 4294967296 → result ≡ Some (record { line = EntryOutOfOrder; address = at.0 * s; other = at.1 }) in
+      let e : result ≡ Some fault = subst F same is.some (order-fits d v of forms at.0 at.1 first.here) in
+      (none-of-some (LevelsAreInOrder (root_key_length d.types) v) result fault e, where-some (λ f. IsLeastOf d v 11 f) result fault e (order-least d v later at.0 at.1 first.here first.least behind))
+
+  -- the first wrong next block, before which no entry is out of order
+  pub next-found : (size n : ℕ) (order : Option (ℕ × ℕ)) → size ≡ v.size → IsFirst v (level.IsWrongNext (root_key_length d.types) v) n 0 → IfSome order (λ at. n ≤ at.0)
+      → IfNone order (StandsNowhere (level.HasEntryOutOfOrder (root_key_length d.types) v)) → IfSome order (λ at. IsFirst v (level.HasEntryOutOfOrder (root_key_length d.types) v) at.0 at.1)
+      → IsLeastOf d v 11 (record { line = WrongNext; address = n * v.size; other = 0 })
+  next-found size n None same first low none some = next-least d v later n first.here first.least (λ a o s. absurd (none a o s))
+  next-found size n (Some at) same first low none some =
+      next-least d v later n first.here first.least (λ a o s. (let far = some.least a o s in let l = mul-le n v.size at.0 v.size low (omega arith) in omega arith))

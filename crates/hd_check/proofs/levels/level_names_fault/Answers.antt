@@ -1,0 +1,23 @@
+use Rattle.std.proofs.Common.{ℕ, subst}
+use Rattle.hd_dbd.specs.Hierarchy.{Database}
+use Rattle.hd_volume.specs.Volumes.{VolumeState}
+use Rattle.hd_levels.specs.LevelFaults as level
+use Rattle.hd_check_levels.specs.Judging.{IsFoundAt}
+use Rattle.hd_check.proofs.LevelsFound.{names-found}
+use Rattle.hd_check.proofs.levels.level_names_fault.Goals as goal
+
+pub returns-clause-none : goal.returns-clause-none
+returns-clause-none g c = λ sound.
+    let d : Database = c.args.dbd.now in
+    let v : VolumeState = c.args.volume.now in
+    let F : ℕ → Type 0 = λ k. IsFoundAt v (level.IsNamedTwice k v) c.in_ok-found.found in
+    (names-found d v (c.requires.of sound) (c.requires.later sound) c.block_size-size.result c.in_ok-found.found c.fault_at.result (c.requires.before sound) c.block_size-size.ensures.value
+    (subst F c.root_key_length.ensures.value (c.in_ok-found.ensures.found sound)) (record { none = c.fault_at.ensures.none; some = c.fault_at.ensures.some })).0
+
+pub returns-clause-some : goal.returns-clause-some
+returns-clause-some g c = λ sound.
+    let d : Database = c.args.dbd.now in
+    let v : VolumeState = c.args.volume.now in
+    let F : ℕ → Type 0 = λ k. IsFoundAt v (level.IsNamedTwice k v) c.in_ok-found.found in
+    (names-found d v (c.requires.of sound) (c.requires.later sound) c.block_size-size.result c.in_ok-found.found c.fault_at.result (c.requires.before sound) c.block_size-size.ensures.value
+    (subst F c.root_key_length.ensures.value (c.in_ok-found.ensures.found sound)) (record { none = c.fault_at.ensures.none; some = c.fault_at.ensures.some })).1
