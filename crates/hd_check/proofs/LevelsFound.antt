@@ -1,10 +1,14 @@
 -- What the phases that judge an index set join to: what is right where nothing is found, and else the least fault of the volume.
-use Rattle.std.proofs.Common.{◌≡◌, ◌≢◌, ◌⊎◌, inl, inr, ℕ, ◌*◌, ◌<◌, ◌≤◌, Option, None, Some, IfNone, IfSome, true, false, refl, sym, ap, subst, ◌∙◌, arith}
+use Rattle.std.proofs.Common.{◌≡◌, ◌≢◌, ◌⊎◌, inl, inr, ℕ, ◌*◌, ◌<◌, ◌≤◌, Option, None, Some, IfNone, IfSome, true, false, Bool, refl, sym, ap, subst, ◌∙◌, arith}
+use Rattle.std.proofs.Math.Nat.{mul-lt-mul_of_pos_right}
+use Rattle.std.proofs.lemmas.Bool.{false≢true}
 use Rattle.std.proofs.lemmas.Nat.{mul-le}
+use Rattle.hd_dbd.proofs.StoredSizes.{block_size-bounds}
 use Rattle.hd_dbd.specs.Hierarchy.{Database}
 use Rattle.hd_volume.specs.Headers.{header_of}
 use Rattle.hd_volume.specs.Volumes.{VolumeState}
 use Rattle.hd_volume.specs.Indexes.{root_key_length}
+use Rattle.hd_volume.proofs.PutLemmas.{if-none-map, if-some-map}
 use Rattle.hd_levels.specs.Faultless.{AreFormsRight, AreNamedOnce, AreAllReached}
 use Rattle.hd_levels.specs.LevelFaults as level
 use Rattle.hd_levels.specs.LevelFaults.{StandsNowhere}
@@ -113,3 +117,33 @@ module _ (d : Database) (v : VolumeState) (of : IsVolumeOf d v) (later : (header
   next-found size n None same first low none some = next-least d v later n first.here first.least (λ a o s. absurd (none a o s))
   next-found size n (Some at) same first low none some =
       next-least d v later n first.here first.least (λ a o s. (let far = some.least a o s in let l = mul-le n v.size at.0 v.size low (omega arith) in omega arith))
+
+  -- the fault of that block
+  pub next-fault : (size n address : ℕ) (order : Option (ℕ × ℕ)) (fault : Fault) → size ≡ v.size → IsFirst v (level.IsWrongNext (root_key_length d.types) v) n 0 → IfSome order (λ at. n ≤ at.0)
+      → IfNone order (StandsNowhere (level.HasEntryOutOfOrder (root_key_length d.types) v)) → IfSome order (λ at. IsFirst v (level.HasEntryOutOfOrder (root_key_length d.types) v) at.0 at.1)
+      → (n * size < 4294967296 → address ≡ n * size) → fault ≡ record { line = WrongNext; address = address; other = 0 } → IsLeastOf d v 11 fault
+  next-fault size n address order fault same first low none some at is =
+      let F : ℕ → Type 0 = λ s. n * s < 4294967296 → address ≡ n * s in
+      let e : address ≡ n * v.size = subst F same at (next-fits d v of forms n first.here) in
+      subst (λ (f : Fault). IsLeastOf d v 11 f) (sym (is ∙ ap (λ (a : ℕ). record { line = WrongNext; address = a; other = 0 }) e)) (next-found size n order same first low none some)
+
+  -- the first entry out of order where no next block is wrong
+  pub order-alone : (size : ℕ) (order : Option (ℕ × ℕ)) (result : Option Fault) → size ≡ v.size → StandsNowhere (level.IsWrongNext (root_key_length d.types) v)
+      → IfNone order (StandsNowhere (level.HasEntryOutOfOrder (root_key_length d.types) v)) → IfSome order (λ at. IsFirst v (level.HasEntryOutOfOrder (root_key_length d.types) v) at.0 at.1)
+      → IsOrderFaultAt order size result → IfNone result (LevelsAreInOrder (root_key_length d.types) v) × IfSome result (λ f. IsLeastOf d v 11 f)
+  order-alone size order result same nowhere none some is =
+      order-found size order result same (if-none-map order (λ n. nowhere) none) (if-some-map order (λ at f a o w. absurd (nowhere a o w)) some) none some is
+
+  -- and where the first wrong next block is behind it
+  pub order-before : (size n : ℕ) (order : Option (ℕ × ℕ)) (result : Option Fault) (is_first : Bool) → is_first ≡ false → size ≡ v.size → IsFirst v (level.IsWrongNext (root_key_length d.types) v) n 0
+      → IfNone order (is_first ≡ true) → IfSome order (λ at. (is_first ≡ true → n ≤ at.0) × (is_first ≡ false → at.0 < n))
+      → IfNone order (StandsNowhere (level.HasEntryOutOfOrder (root_key_length d.types) v)) → IfSome order (λ at. IsFirst v (level.HasEntryOutOfOrder (root_key_length d.types) v) at.0 at.1)
+      → IsOrderFaultAt order size result → IfNone result (LevelsAreInOrder (root_key_length d.types) v) × IfSome result (λ f. IsLeastOf d v 11 f)
+  order-before size n order result is_first behind same first alone by none some is =
+      let bounds = block_size-bounds d.block_size d.frspc d.types of.fit in
+      let own = of.size in
+      let positive : 0 < v.size = omega arith in
+      order-found size order result same (if-none-map order (λ e. absurd (false≢true (sym behind ∙ e))) alone)
+      (if-some-map order
+      (λ at h a o w. (let far = first.least a o w in let low : at.0 * v.size < n * v.size = mul-lt-mul_of_pos_right {m = at.0} {n = n} {k = v.size} (h.1 behind) positive in omega arith)) by)
+      none some is

@@ -7,12 +7,13 @@ use Rattle.hd_volume.specs.Headers.{HasHeader, IsOf, header_of}
 use Rattle.hd_volume.specs.Volumes.{VolumeState, block_at, IsKind}
 use Rattle.hd_volume.specs.Entries.{entry_blocks}
 use Rattle.hd_levels.specs.LevelFaults as level
+use Rattle.hd_levels.specs.Faultless.{AreFormsRight, AreNamedOnce, AreAllReached}
 use Rattle.hd_levels.specs.IndexSets.{index_entries}
 use Rattle.hd_volume.specs.Indexes.{IsEntryBlock, IsChain, root_key_length}
 use Rattle.hd_image.specs.Records.{links_of}
 use Rattle.hd_image.proofs.OneImage.{links-same, volume-same}
 use Rattle.hd_image.specs.IndexFaults.{NamesBlock, names_a_root, IsWrongTop, IsWrongForm, IsNamedTwice, IsUnreachedBlock}
-use Rattle.hd_image.specs.Right.{ChainIsFormed, SetIsFormed, IndexIsFormed, IndexIsInOrder, EntriesAreRight}
+use Rattle.hd_image.specs.Right.{LevelsAreInOrder, ChainIsFormed, SetIsFormed, IndexIsFormed, IndexIsInOrder, EntriesAreRight}
 use Rattle.hd_image.specs.Standing.{Stands}
 use Rattle.hd_image.specs.declared.line.Line.{Line}
 use Rattle.hd_image.specs.declared.line.Line.TheVariants.{NoVolume, NoVersion, AnotherDatabase, WrongChain, WrongPlace, NoKind, Deleted, NamesNothing, NamesAnother, TwoPredecessors, NoPredecessor, WrongBackward, WrongLast, OutOfOrder, NotReached, WrongTop, WrongForm, NamedTwice, UnreachedBlock, WrongNext, EntryOutOfOrder, WrongEntry, NoEntry}
@@ -21,6 +22,12 @@ use Rattle.hd_check_index.specs.declared.noted_blocks.NotedBlock.{NotedBlock}
 use Rattle.hd_check_blocks.specs.Phases.{AreBlocksRight, IsLeastOf}
 use Rattle.hd_check_index.specs.IndexPhases.{AreIndexBlocks, AreNamed, IsSequence}
 use Rattle.hd_check_blocks.specs.declared.places.Place.{Place}
+use Rattle.hd_check_levels.specs.declared.table.NotedBlock as noted
+use Rattle.hd_check_levels.specs.declared.rows.Standing.{Standing}
+use Rattle.hd_check_levels.specs.Tables as tables
+use Rattle.hd_check_levels.specs.Rows.{AreRows}
+use Rattle.hd_check_levels.proofs.NotedTables as of-table
+use Rattle.hd_check_levels.proofs.RowOrders.{forms-same}
 use Rattle.hd_check.specs.Joining.{HasRightBlocks, NamesAreRight}
 use Rattle.hd_check_blocks.proofs.PlaceLemmas.{places-same}
 
@@ -167,6 +174,28 @@ module _ (u v : VolumeState) (e : IsOne u v) where
 
   pub chain-formed-same : (k : ℕ) → ChainIsFormed k u → ChainIsFormed k v
   chain-formed-same k h = subst (ChainIsFormed k) like-is (chain-formed k h)
+
+  pub set-formed-same : (k : ℕ) → SetIsFormed k u → SetIsFormed k v
+  set-formed-same k h = subst (SetIsFormed k) like-is (set-formed k h)
+
+  -- so are the parts of an index set
+  pub level-forms-same : (k : ℕ) → AreFormsRight k u → AreFormsRight k v
+  level-forms-same k h = forms-same k u v e.size e.image h
+
+  pub once-same : (k : ℕ) → AreNamedOnce k u → AreNamedOnce k v
+  once-same k h = subst (AreNamedOnce k) like-is (λ n g i m j kind one two. h n g i m j (kind-back 2 n kind) one two)
+
+  pub reached-same : (k : ℕ) → AreAllReached k u → AreAllReached k v
+  reached-same k h = subst (AreAllReached k) like-is (λ n kind. h n (kind-back 2 n kind))
+
+  pub rows-same : (k : ℕ) (rows : List Standing) → AreRows k u rows → AreRows k v rows
+  rows-same k rows h = subst (λ (w : VolumeState). AreRows k w rows) like-is h
+
+  pub levels-same : (k : ℕ) → LevelsAreInOrder k u → LevelsAreInOrder k v
+  levels-same k h = subst (LevelsAreInOrder k) like-is (record { next = h.next; keys = h.keys })
+
+  pub level-table-same : (bs : List noted.NotedBlock) → tables.AreIndexBlocks u bs → tables.AreIndexBlocks v bs
+  level-table-same bs h = of-table.table-same u v bs e.image e.size h
 
   order-like-all : (k : ℕ) → IndexIsInOrder k u → IndexIsInOrder k like
   order-like-all k h = elim h [ inl t ↦ inl t | inr t ↦ inr (t.0, record { next = t.1.next; keys = t.1.keys }) ]
