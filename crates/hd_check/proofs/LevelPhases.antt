@@ -14,7 +14,7 @@ use Rattle.hd_levels.proofs.FormFaults.{forms-judged}
 use Rattle.hd_levels.proofs.LevelFaults.{names-judged, reach-judged}
 use Rattle.hd_levels.proofs.RowFaults.{levels-judged, row-level}
 use Rattle.hd_image.specs.Records.{IsVolumeOf}
-use Rattle.hd_image.specs.Right.{LevelsAreInOrder}
+use Rattle.hd_image.specs.Right.{LevelsAreInOrder, IndexIsFormed, IndexIsInOrder}
 use Rattle.hd_image.specs.Standing.{Stands, phase_of, number_of}
 use Rattle.hd_image.specs.declared.line.Line.{Line}
 use Rattle.hd_image.specs.declared.line.Line.TheVariants.{WrongTop, WrongForm, NamedTwice, UnreachedBlock, WrongNext, EntryOutOfOrder}
@@ -22,7 +22,7 @@ use Rattle.hd_check_blocks.specs.Phases.{IsLeastOf}
 use Rattle.hd_check_index.proofs.FormFaults.{place-fits}
 use Rattle.hd_check_index.proofs.LateLines.{least-by, least-late, set-8, set-9, set-10, set-11}
 use Rattle.hd_check.specs.Joining.{NoneBefore}
-use Rattle.hd_check.proofs.EarlierFaults.{next}
+use Rattle.hd_check.proofs.EarlierFaults.{next, none-12}
 
 -- ---- where nothing is found
 
@@ -86,6 +86,14 @@ module _ (d : Database) (v : VolumeState) (later : (header_of v.image).version �
         | inl t ↦ (let far = wrong a o t.0 in (omega arith, λ e. omega arith))
         | inr t ↦ (let number = t.1 in (least a o t.0, λ e. omega arith))
       ])
+
+-- no fault of the blocks of an index and of their order stands in a volume whose index is formed and in order
+pub index-12 : (d : Database) (v : VolumeState) → NoneBefore d v 8 → IsVolumeOf d v → IndexIsFormed (root_key_length d.types) v → IndexIsInOrder (root_key_length d.types) v → NoneBefore d v 12
+index-12 d v none of (inl f) order = none-12 d v none of f.0 (inl f) order
+index-12 d v none of (inr f) (inl o) = absurd (f.0 o.0)
+index-12 d v none of (inr f) (inr o) =
+    let ten = level-10 d v f.0 (level-9 d v f.0 none f.1.forms) f.1.once in
+    level-12 d v f.0 (level-11 d v f.0 ten f.1.reached) f.1.forms o.1
 
 -- ---- where a fault stands in an image of four-byte addresses
 

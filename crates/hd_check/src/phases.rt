@@ -15,6 +15,7 @@ ghost use Rattle.hd_check_index.specs.IndexPhases.{IsSequence};
 ghost use Rattle.hd_check.specs.Joining.{NoneBefore, IsFirstFault, HasRightBlocks, NamesAreRight, IsFoundRight};
 ghost use Rattle.hd_check_blocks.specs.Finding.{WhereNone, WhereSome};
 
+use crate::levels::levels_fault;
 use hd_check_blocks::{Fault, Place, blocks_fault, header_fault};
 use hd_check_index::{
     block_forms_fault, entry_order_fault, sort_chain, twice_named_fault, unnamed_root_fault,
@@ -163,6 +164,29 @@ fn chain_fault<S: BlockStore>(
     chain_order_fault(chain, volume, dbd)
 }
 
+/// The least fault of an index as its version forms it, but for what its entries name; where there is none, the blocks that bear its entries
+/// are noted in order of their numbers.
+fn index_blocks_fault<S: BlockStore>(
+    alloc: Global,
+    sequence: &mut Vec<u32>,
+    volume: &mut Volume<S>,
+    dbd: &Dbd,
+) -> Result<Option<Fault>, Refused>
+    requires empty { sequence.old.items ≡ [] }
+    requires of { IsTrue volume.old.is_sound → IsVolumeOf dbd.now volume.old }
+    requires before { IsTrue volume.old.is_sound → NoneBefore dbd.now volume.old 8 }
+    ensures read { IsRead volume.old result volume.new }
+    ensures none { WhereNone volume.old result (IndexIsFormed (root_key_length dbd.now.types) volume.old × IndexIsInOrder (root_key_length dbd.now.types) volume.old) }
+    ensures sequence { WhereNone volume.old result (IsSequence (root_key_length dbd.now.types) volume.old sequence.new.items) }
+    ensures some { WhereSome volume.old result (λ f. IsFirstFault dbd.now volume.old f) }
+    ensures refusal { OnlyDeviceOrMemory result }
+{
+    if volume.version() == 1 {
+        return chain_fault(alloc, sequence, volume, dbd);
+    }
+    levels_fault(alloc, sequence, volume, dbd)
+}
+
 /// The least fault of what the entries name, which stand in these blocks.
 fn entries_fault<S: BlockStore>(
     alloc: Global,
@@ -202,7 +226,7 @@ fn index_fault<S: BlockStore>(
     ensures refusal { OnlyDeviceOrMemory result }
 {
     let mut sequence = Vec::new(alloc);
-    let found = chain_fault(alloc, &mut sequence, volume, dbd)?;
+    let found = index_blocks_fault(alloc, &mut sequence, volume, dbd)?;
     if found.is_some() {
         return Ok(found);
     }

@@ -92,11 +92,14 @@ returns-clause-none g c = if-ok c.level_order_fault.result c.level_order_fault.e
     let once : AreNamedOnce k v = from-none c.in_ok-found.found (sym c.is_some.ensures ∙ c.if-is_some.false) (c.in_ok-found.ensures.none sound) in
     let reached : AreAllReached k w = from-none c.in_ok-found-2.found (sym c.is_some-2.ensures ∙ c.if-is_some-2.false) (c.in_ok-found-2.ensures.none (still-sound c.in_ok-found.ensures.read sound)) in
     if-none-map o
-    (λ order. (record {
-      forms = c.requires.forms sound;
-      once = once;
-      reached = reached-same w v (turned (read-one c.in_ok-found.ensures.read sound)) k reached;
-    }, levels-same x v (turned (read-one read sound)) k order)) (none (still-sound read sound)))
+    (λ order. (
+      record {
+        forms = c.requires.forms sound;
+        once = once;
+        reached = reached-same w v (turned (read-one c.in_ok-found.ensures.read sound)) k reached;
+      },
+      levels-same x v (turned (read-one read sound)) k order,
+    )) (none (still-sound read sound)))
 
 pub returns-clause-some : goal.returns-clause-some
 returns-clause-some g c = if-ok c.level_order_fault.result c.level_order_fault.ensures.some
