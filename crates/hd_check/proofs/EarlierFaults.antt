@@ -6,16 +6,17 @@ use Rattle.std.proofs.lemmas.Bool.{cases_lt, false≢true}
 use Rattle.hd_dbd.specs.Hierarchy.{Database}
 use Rattle.hd_volume.specs.Headers.{header_of}
 use Rattle.hd_volume.specs.Volumes.{VolumeState}
-use Rattle.hd_volume.specs.Entries.{entry_blocks, entries}
+use Rattle.hd_volume.specs.Entries.{entries}
+use Rattle.hd_levels.specs.IndexSets.{sequence_blocks, index_entries}
 use Rattle.hd_volume.specs.Indexes.{root_key_length, keys_ascend, HasIndex}
 use Rattle.hd_links.specs.Links.{IsSegment}
 use Rattle.hd_links.specs.Pointers.{PointersAreTyped, PredecessorsAreOne, TwinsLinkBack, KeysAscend, IsReached}
 use Rattle.hd_image.specs.Records.{links_of, IsVolumeOf}
 use Rattle.hd_image.specs.IndexFaults.{names_a_root, IsWrongTop, IsWrongForm}
-use Rattle.hd_image.specs.Right.{IndexIsFormed}
+use Rattle.hd_image.specs.Right.{ChainIsFormed, IndexIsFormed, IndexIsInOrder}
 use Rattle.hd_image.specs.Standing.{Stands, phase_of, number_of, ComesBefore}
 use Rattle.hd_image.specs.declared.line.Line.{Line}
-use Rattle.hd_image.specs.declared.line.Line.TheVariants.{NoVolume, NoVersion, AnotherDatabase, WrongChain, WrongPlace, NoKind, Deleted, NamesNothing, NamesAnother, TwoPredecessors, NoPredecessor, WrongBackward, WrongLast, OutOfOrder, NotReached, WrongTop, WrongForm, NamedTwice, UnreachedBlock, EntryOutOfOrder, WrongEntry, NoEntry}
+use Rattle.hd_image.specs.declared.line.Line.TheVariants.{NoVolume, NoVersion, AnotherDatabase, WrongChain, WrongPlace, NoKind, Deleted, NamesNothing, NamesAnother, TwoPredecessors, NoPredecessor, WrongBackward, WrongLast, OutOfOrder, NotReached, WrongTop, WrongForm, NamedTwice, UnreachedBlock, WrongNext, EntryOutOfOrder, WrongEntry, NoEntry}
 use Rattle.hd_image.proofs.Roots.{header-code}
 use Rattle.hd_image.proofs.BlockNoFault.{none-wrong-chain, none-wrong-place}
 use Rattle.hd_image.proofs.PointerNoFault as pointer
@@ -67,7 +68,7 @@ first-of d v p f none h = record {
 
 module _ (d : Database) (v : VolumeState) where
   -- where none of the next phase stands either
-  next : (p : ℕ) → NoneBefore d v p → ((k : Line) (a o : ℕ) → phase_of k ≡ p → Stands d v k a o → ⊥) → NoneBefore d v (p + 1)
+  pub next : (p : ℕ) → NoneBefore d v p → ((k : Line) (a o : ℕ) → phase_of k ≡ p → Stands d v k a o → ⊥) → NoneBefore d v (p + 1)
   next p none here k a o l s = elim (cases_lt (phase_of k) p) [
     | inl low ↦ none k a o low s
     | inr high ↦ here k a o (omega arith) s
@@ -144,23 +145,35 @@ module _ (d : Database) (v : VolumeState) where
 
   -- the index is right, block by block
   pub none-9 : NoneBefore d v 8 → IsIndexRight (root_key_length d.types) v → NoneBefore d v 9
-  none-9 none h = next 8 none (λ k a o is s. elim (stands-8 d v k a o is s) [ inl top ↦ right-top a o h top | inr form ↦ right-form a o h form ])
+  none-9 none h = next 8 none (λ k a o is s. elim (stands-8 d v k a o h.version is s) [ inl top ↦ right-top a o h top | inr form ↦ right-form a o h form ])
 
   -- no block is named twice
-  pub none-10 : NoneBefore d v 9 → AreNamedOnce v → NoneBefore d v 10
-  none-10 none h = next 9 none (λ k a o is s. (let f = stands-9 d v k a o is s in f.6 (h f.0 f.1 f.2 f.3 f.4 f.5)))
+  pub none-10 : NoneBefore d v 9 → (header_of v.image).version ≡ 1 → AreNamedOnce v → NoneBefore d v 10
+  none-10 none one h = next 9 none (λ k a o is s. (let f = stands-9 d v k a o one is s in f.6 (h f.0 f.1 f.2 f.3 f.4 f.5)))
 
   -- each block is reached
-  pub none-11 : NoneBefore d v 10 → IndexIsFormed (root_key_length d.types) v → NoneBefore d v 11
-  none-11 none h = next 10 none (λ k a o is s. (let f = stands-10 d v k a o is s in f.2 (h.reached f.0 f.1)))
+  pub none-11 : NoneBefore d v 10 → (header_of v.image).version ≡ 1 → ChainIsFormed (root_key_length d.types) v → NoneBefore d v 11
+  none-11 none one h = next 10 none (λ k a o is s. (let f = stands-10 d v k a o one is s in f.2 (h.reached f.0 f.1)))
 
   -- the keys of the entries ascend
-  pub none-12 : NoneBefore d v 11 → IsVolumeOf d v → (header_of v.image).version ≡ 1 → IndexIsFormed (root_key_length d.types) v → keys_ascend (entries (root_key_length d.types) v) ≡ true → NoneBefore d v 12
-  none-12 none of known formed h =
+  chain-12 : NoneBefore d v 11 → IsVolumeOf d v → (header_of v.image).version ≡ 1 → ChainIsFormed (root_key_length d.types) v → keys_ascend (entries (root_key_length d.types) v) ≡ true → NoneBefore d v 12
+  chain-12 none of known formed h =
       let has : HasIndex (root_key_length d.types) v = record { formatted = of.formatted; version = known; height = formed.height; chain = formed.chain; reached = formed.reached; ascend = h } in
-      next 11 none (λ k a o is s. index.none-out-of-order (root_key_length d.types) v has a o (stands-11 d v k a o is s))
+      next 11 none (λ k a o is s. index.none-out-of-order (root_key_length d.types) v has a o (stands-11 d v k a o known is s).0)
+
+  -- no fault of the blocks of an index and of their order stands in a volume whose index is formed and in order
+  pub none-12 : NoneBefore d v 8 → IsVolumeOf d v → (header_of v.image).version ≡ 1 → IndexIsFormed (root_key_length d.types) v → IndexIsInOrder (root_key_length d.types) v → NoneBefore d v 12
+  none-12 none of one (inl f) (inl o) =
+      let has : HasIndex (root_key_length d.types) v = record { formatted = of.formatted; version = one; height = f.1.height; chain = f.1.chain; reached = f.1.reached; ascend = o.1 } in
+      let nine : NoneBefore d v 9 =
+      next 8 none
+      (λ k a x is s. elim (stands-8 d v k a x one is s) [ inl t ↦ index.none-wrong-top (root_key_length d.types) v has a x t | inr t ↦ index.none-wrong-form (root_key_length d.types) v has a x t ]) in
+      let ten : NoneBefore d v 10 = next 9 nine (λ k a x is s. index.none-twice (root_key_length d.types) v has a x (stands-9 d v k a x one is s)) in
+      chain-12 (none-11 ten one f.1) of one f.1 o.1
+  none-12 none of one (inl f) (inr o) = absurd (o.0 one)
+  none-12 none of one (inr f) o = absurd (f.0 one)
 
   -- each entry names a root
-  pub none-13 : NoneBefore d v 12 → list_all (λ e. names_a_root d (links_of d.types v) e) (entries (root_key_length d.types) v) ≡ true → NoneBefore d v 13
+  pub none-13 : NoneBefore d v 12 → list_all (λ e. names_a_root d (links_of d.types v) e) (index_entries (root_key_length d.types) v) ≡ true → NoneBefore d v 13
   none-13 none h = next 12 none
-      (λ k a o is s. (let w = stands-12 d v k a o is s in index.none-found (λ e. names_a_root d (links_of d.types v) e) (root_key_length d.types) v (entry_blocks v) w.0 o h w.1 w.2))
+      (λ k a o is s. (let w = stands-12 d v k a o is s in index.none-found (λ e. names_a_root d (links_of d.types v) e) (root_key_length d.types) v (sequence_blocks (root_key_length d.types) v) w.0 o h w.1 w.2))

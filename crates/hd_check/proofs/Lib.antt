@@ -3,3 +3,4 @@ pub mod OneStore
 pub mod Joined
 pub mod Tallies
 pub mod Passing
+pub mod LevelPhases

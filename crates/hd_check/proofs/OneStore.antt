@@ -5,21 +5,23 @@ use Rattle.hd_bytes.specs.Numbers.{number_at}
 use Rattle.hd_dbd.specs.Hierarchy.{Database}
 use Rattle.hd_volume.specs.Headers.{HasHeader, IsOf, header_of}
 use Rattle.hd_volume.specs.Volumes.{VolumeState, block_at, IsKind}
-use Rattle.hd_volume.specs.Entries.{entry_blocks, entries}
+use Rattle.hd_volume.specs.Entries.{entry_blocks}
+use Rattle.hd_levels.specs.LevelFaults as level
+use Rattle.hd_levels.specs.IndexSets.{index_entries}
 use Rattle.hd_volume.specs.Indexes.{IsEntryBlock, IsChain, root_key_length}
 use Rattle.hd_image.specs.Records.{links_of}
 use Rattle.hd_image.proofs.OneImage.{links-same, volume-same}
-use Rattle.hd_image.specs.IndexFaults.{NamesBlock, names_a_root}
-use Rattle.hd_image.specs.Right.{IndexIsFormed, EntriesAreRight}
+use Rattle.hd_image.specs.IndexFaults.{NamesBlock, names_a_root, IsWrongTop, IsWrongForm, IsNamedTwice, IsUnreachedBlock}
+use Rattle.hd_image.specs.Right.{ChainIsFormed, SetIsFormed, IndexIsFormed, IndexIsInOrder, EntriesAreRight}
 use Rattle.hd_image.specs.Standing.{Stands}
 use Rattle.hd_image.specs.declared.line.Line.{Line}
-use Rattle.hd_image.specs.declared.line.Line.TheVariants.{NoVolume, NoVersion, AnotherDatabase, WrongChain, WrongPlace, NoKind, Deleted, NamesNothing, NamesAnother, TwoPredecessors, NoPredecessor, WrongBackward, WrongLast, OutOfOrder, NotReached, WrongTop, WrongForm, NamedTwice, UnreachedBlock, EntryOutOfOrder, WrongEntry, NoEntry}
+use Rattle.hd_image.specs.declared.line.Line.TheVariants.{NoVolume, NoVersion, AnotherDatabase, WrongChain, WrongPlace, NoKind, Deleted, NamesNothing, NamesAnother, TwoPredecessors, NoPredecessor, WrongBackward, WrongLast, OutOfOrder, NotReached, WrongTop, WrongForm, NamedTwice, UnreachedBlock, WrongNext, EntryOutOfOrder, WrongEntry, NoEntry}
 use Rattle.hd_check_blocks.specs.declared.fault.Fault.{Fault}
 use Rattle.hd_check_index.specs.declared.noted_blocks.NotedBlock.{NotedBlock}
 use Rattle.hd_check_blocks.specs.Phases.{AreBlocksRight, IsLeastOf}
-use Rattle.hd_check_index.specs.IndexPhases.{AreIndexBlocks, AreNamed}
+use Rattle.hd_check_index.specs.IndexPhases.{AreIndexBlocks, AreNamed, IsSequence}
 use Rattle.hd_check_blocks.specs.declared.places.Place.{Place}
-use Rattle.hd_check.specs.Joining.{HasRightBlocks}
+use Rattle.hd_check.specs.Joining.{HasRightBlocks, NamesAreRight}
 use Rattle.hd_check_blocks.proofs.PlaceLemmas.{places-same}
 
 -- Two states of a volume with one image, one block size and the same stored sizes.
@@ -60,6 +62,51 @@ module _ (u v : VolumeState) (e : IsOne u v) where
   chain-like k s (b ∷ bs) (at, block, rest) =
       (at, record { is = kind-like 2 b block.is; level = block.level; count = block.count }, chain-like k (number_at 4 (block_at u b) 8) bs rest)
 
+  -- the lines of a chain
+  top-like : (a o : ℕ) → IsWrongTop u a o → IsWrongTop like a o
+  top-like a o (at, other, wrong) = (
+    at,
+    other,
+    elim wrong [
+      | inl c ↦ inl c
+      | inr (inl c) ↦ inr (inl c)
+      | inr (inr (inl c)) ↦ inr (inr (inl c))
+      | inr (inr (inr c)) ↦ inr (inr (inr (c.0, λ l. c.1 (kind-back 2 (header_of u.image).top l.0, l.1))))
+    ],
+  )
+
+  form-like : (k a o : ℕ) → IsWrongForm k u a o → IsWrongForm k like a o
+  form-like k a o (n, kind, at, other, wrong) = (
+    n,
+    kind-like 2 n kind,
+    at,
+    other,
+    elim wrong [
+      | inl c ↦ inl c
+      | inr (inl c) ↦ inr (inl c)
+      | inr (inr c) ↦ inr (inr (c.0, λ l. c.1 (kind-back 2 (number_at 4 (block_at u n) 8) l.0, l.1)))
+    ],
+  )
+
+  twice-like : (a o : ℕ) → IsNamedTwice u a o → IsNamedTwice like a o
+  twice-like a o (n, g, h, kind, first, second, apart, at, other) = (n, g, h, kind-like 2 n kind, names-like g n first, names-like h n second, apart, at, other)
+
+  unreached-like : (a o : ℕ) → IsUnreachedBlock u a o → IsUnreachedBlock like a o
+  unreached-like a o (n, kind, none, at, other) = (n, kind-like 2 n kind, none, at, other)
+
+  -- and those of an index set
+  level-twice-like : (k a o : ℕ) → level.IsNamedTwice k u a o → level.IsNamedTwice k like a o
+  level-twice-like k a o (n, g, i, h, j, kind, first, second, apart, at, other) = (n, g, i, h, j, kind-like 2 n kind, first, second, apart, at, other)
+
+  level-unreached-like : (k a o : ℕ) → level.IsUnreachedBlock k u a o → level.IsUnreachedBlock k like a o
+  level-unreached-like k a o (n, kind, none, at, other) = (n, kind-like 2 n kind, none, at, other)
+
+  next-like : (k a o : ℕ) → level.IsWrongNext k u a o → level.IsWrongNext k like a o
+  next-like k a o (l, n, left, right, s, wrong, at, other) = (l, n, left, right, record { low = s.low; row = s.row }, wrong, at, other)
+
+  order-like : (k a o : ℕ) → level.HasEntryOutOfOrder k u a o → level.HasEntryOutOfOrder k like a o
+  order-like k a o (l, n, left, right, s, wrong, at) = (l, n, left, right, record { low = s.low; row = s.row }, wrong, at)
+
   -- what stands in the one stands in the other
   stands-like : (d : Database) (line : Line) (a o : ℕ) → Stands d u line a o → Stands d like line a o
   stands-like d NoVolume a o s = s
@@ -77,30 +124,12 @@ module _ (u v : VolumeState) (e : IsOne u v) where
   stands-like d WrongLast a o s = s
   stands-like d OutOfOrder a o s = s
   stands-like d NotReached a o s = s
-  stands-like d WrongTop a o (at, other, wrong) = (
-    at,
-    other,
-    elim wrong [
-      | inl c ↦ inl c
-      | inr (inl c) ↦ inr (inl c)
-      | inr (inr (inl c)) ↦ inr (inr (inl c))
-      | inr (inr (inr c)) ↦ inr (inr (inr (c.0, λ l. c.1 (kind-back 2 (header_of u.image).top l.0, l.1))))
-    ],
-  )
-  stands-like d WrongForm a o (n, kind, at, other, wrong) = (
-    n,
-    kind-like 2 n kind,
-    at,
-    other,
-    elim wrong [
-      | inl c ↦ inl c
-      | inr (inl c) ↦ inr (inl c)
-      | inr (inr c) ↦ inr (inr (c.0, λ l. c.1 (kind-back 2 (number_at 4 (block_at u n) 8) l.0, l.1)))
-    ],
-  )
-  stands-like d NamedTwice a o (n, g, h, kind, first, second, apart, at, other) = (n, g, h, kind-like 2 n kind, names-like g n first, names-like h n second, apart, at, other)
-  stands-like d UnreachedBlock a o (n, kind, none, at, other) = (n, kind-like 2 n kind, none, at, other)
-  stands-like d EntryOutOfOrder a o s = s
+  stands-like d WrongTop a o s = elim s [ inl t ↦ inl (t.0, top-like a o t.1) | inr t ↦ inr t ]
+  stands-like d WrongForm a o s = elim s [ inl t ↦ inl (t.0, form-like (root_key_length d.types) a o t.1) | inr t ↦ inr t ]
+  stands-like d NamedTwice a o s = elim s [ inl t ↦ inl (t.0, twice-like a o t.1) | inr t ↦ inr (t.0, level-twice-like (root_key_length d.types) a o t.1) ]
+  stands-like d UnreachedBlock a o s = elim s [ inl t ↦ inl (t.0, unreached-like a o t.1) | inr t ↦ inr (t.0, level-unreached-like (root_key_length d.types) a o t.1) ]
+  stands-like d WrongNext a o s = elim s [ inl t ↦ inl t | inr t ↦ inr (t.0, next-like (root_key_length d.types) a o t.1) ]
+  stands-like d EntryOutOfOrder a o s = elim s [ inl t ↦ inl t | inr t ↦ inr (t.0, order-like (root_key_length d.types) a o t.1) ]
   stands-like d WrongEntry a o s = s
   stands-like d NoEntry a o s = s
 
@@ -119,11 +148,39 @@ module _ (u v : VolumeState) (e : IsOne u v) where
   })
 
   -- so is the index
-  pub formed-same : (k : ℕ) → IndexIsFormed k u → IndexIsFormed k v
-  formed-same k h = subst (IndexIsFormed k) like-is (record {
-    height = h.height;
-    chain = chain-like k _ _ h.chain;
+  chain-formed : (k : ℕ) → ChainIsFormed k u → ChainIsFormed k like
+  chain-formed k h = record { height = h.height; chain = chain-like k _ _ h.chain; reached = λ n kind. h.reached n (kind-back 2 n kind) }
+
+  set-formed : (k : ℕ) → SetIsFormed k u → SetIsFormed k like
+  set-formed k h = record {
+    forms = record {
+      height = h.forms.height;
+      top = h.forms.top;
+      blocks = λ n l is. (let b = h.forms.blocks n l is in record { low = b.low; some = b.some; count = b.count; next = b.next; names = b.names });
+    };
+    once = λ n g i m j kind one two. h.once n g i m j (kind-back 2 n kind) one two;
     reached = λ n kind. h.reached n (kind-back 2 n kind);
+  }
+
+  pub formed-same : (k : ℕ) → IndexIsFormed k u → IndexIsFormed k v
+  formed-same k h = subst (IndexIsFormed k) like-is (elim h [ inl t ↦ inl (t.0, chain-formed k t.1) | inr t ↦ inr (t.0, set-formed k t.1) ])
+
+  pub chain-formed-same : (k : ℕ) → ChainIsFormed k u → ChainIsFormed k v
+  chain-formed-same k h = subst (ChainIsFormed k) like-is (chain-formed k h)
+
+  order-like-all : (k : ℕ) → IndexIsInOrder k u → IndexIsInOrder k like
+  order-like-all k h = elim h [ inl t ↦ inl t | inr t ↦ inr (t.0, record { next = t.1.next; keys = t.1.keys }) ]
+
+  pub in-order-same : (k : ℕ) → IndexIsInOrder k u → IndexIsInOrder k v
+  in-order-same k h = subst (IndexIsInOrder k) like-is (order-like-all k h)
+
+  -- and the blocks that bear its entries
+  pub sequence-same : (k : ℕ) (ns : List ℕ) → IsSequence k u ns → IsSequence k v ns
+  sequence-same k ns h = subst (λ (w : VolumeState). IsSequence k w ns) like-is (record {
+    ascend = h.ascend;
+    there = h.there;
+    all = h.all;
+    bear = λ n a. (let b = h.bear n a in record { is = kind-like 2 n b.is; level = b.level; count = b.count });
   })
 
   -- and the table of its blocks
@@ -139,17 +196,21 @@ module _ (u v : VolumeState) (e : IsOne u v) where
   named-same k named h = subst (λ (w : VolumeState). AreNamed k w named) like-is (record { there = h.there; all = h.all })
 
   -- the entries that name roots
-  pub names-same : (d : Database) → list_all (λ x. names_a_root d (links_of d.types u) x) (entries (root_key_length d.types) u) ≡ true
-      → list_all (λ x. names_a_root d (links_of d.types v) x) (entries (root_key_length d.types) v) ≡ true
-  names-same d h = subst (λ (w : VolumeState). list_all (λ x. names_a_root d (links_of d.types w) x) (entries (root_key_length d.types) w) ≡ true) like-is h
+  pub names-same : (d : Database) → list_all (λ x. names_a_root d (links_of d.types u) x) (index_entries (root_key_length d.types) u) ≡ true
+      → list_all (λ x. names_a_root d (links_of d.types v) x) (index_entries (root_key_length d.types) v) ≡ true
+  names-same d h = subst (λ (w : VolumeState). list_all (λ x. names_a_root d (links_of d.types w) x) (index_entries (root_key_length d.types) w) ≡ true) like-is h
 
   -- and the blocks that bear entries
   pub bearers-same : entry_blocks v ≡ entry_blocks u
   bearers-same = (let image = e.image in let size = e.size in λ i. entry_blocks (record v { image = image i; size = size i; sizes = e.sizes i }))
 
+  -- what its entries name is right
+  pub names-right-same : (d : Database) → NamesAreRight d u → NamesAreRight d v
+  names-right-same d h = subst (NamesAreRight d) like-is (record { name = h.name; each = h.each })
+
   -- what is right with the entries
   pub entries-same : (d : Database) → EntriesAreRight d u → EntriesAreRight d v
-  entries-same d h = subst (EntriesAreRight d) like-is (record { ascend = h.ascend; name = h.name; each = h.each })
+  entries-same d h = subst (EntriesAreRight d) like-is (record { order = order-like-all (root_key_length d.types) h.order; name = h.name; each = h.each })
 
   -- what is right with the blocks of the one is right with those of the other
   pub right-same : (d : Database) (ps : List Place) → HasRightBlocks d u ps → HasRightBlocks d v ps

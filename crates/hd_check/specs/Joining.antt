@@ -1,16 +1,20 @@
 -- What the phases of a check find together: the least fault of all, and what is right where there is none.
-use Rattle.std.specs.Prelude.{◌≡◌, ◌==◌, ℕ, ◌+◌, ◌<◌, List, [], ◌∷◌, cond}
+use Rattle.std.specs.Prelude.{◌≡◌, ◌==◌, true, ℕ, ◌+◌, ◌<◌, List, [], ◌∷◌, cond}
+use Rattle.std.specs.List.{list_all}
 use Rattle.hd_dbd.specs.Hierarchy.{Database}
 use Rattle.hd_volume.specs.Volumes.{VolumeState}
 use Rattle.hd_volume.specs.Indexes.{root_key_length}
+use Rattle.hd_levels.specs.IndexSets.{index_entries}
 use Rattle.hd_links.specs.Pointers.{AreLinked}
 use Rattle.hd_image.specs.Records.{links_of, IsVolumeOf}
+use Rattle.hd_image.specs.IndexFaults.{names_a_root}
 use Rattle.hd_image.specs.Right.{BlocksAreRight, IndexIsFormed, EntriesAreRight}
 use Rattle.hd_image.specs.Standing.{IsLeastFault, Stands, phase_of}
 use Rattle.hd_image.specs.declared.line.Line.{Line}
 use Rattle.hd_check_blocks.specs.declared.fault.Fault.{Fault}
 use Rattle.hd_check_blocks.specs.declared.places.Place.{Place}
 use Rattle.hd_check_blocks.specs.Places.{ArePlaces}
+use Rattle.hd_check_index.specs.IndexPhases.{AllRootsNamed}
 
 -- no fault of a phase before this one stands
 abbrev pub NoneBefore : Database → VolumeState → ℕ → Type 0
@@ -25,6 +29,11 @@ pub record HasRightBlocks (d : Database) (v : VolumeState) (places : List Place)
   pub volume : IsVolumeOf d v
   pub blocks : BlocksAreRight d v
   pub stand : ArePlaces d.types v places
+
+-- Each entry names a root of its key, and each root has one.
+pub record NamesAreRight (d : Database) (v : VolumeState) : Type 0 where
+  pub name : list_all (λ e. names_a_root d (links_of d.types v) e) (index_entries (root_key_length d.types) v) ≡ true
+  pub each : AllRootsNamed d v
 
 -- The blocks, the pointers, the index and its entries are right, and these are the places of the volume's segments.
 pub record IsFoundRight (d : Database) (v : VolumeState) (places : List Place) : Type 0 where

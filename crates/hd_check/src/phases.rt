@@ -1,22 +1,23 @@
-ghost use Rattle.std.specs.Prelude.{◌≡◌, [], IsTrue, IfOk, IfNone};
+ghost use Rattle.std.specs.Prelude.{◌≡◌, [], true, IsTrue, IfOk, IfNone};
 ghost use Rattle.hd_dbd.specs.Refusals.{OnlyDeviceOrMemory};
 ghost use Rattle.hd_dbd.specs.Facts.{stored_sizes};
 ghost use Rattle.hd_dbd.specs.DatabaseRules.{well_formed};
 ghost use Rattle.hd_volume.specs.Calls.{IsRead};
-ghost use Rattle.hd_volume.specs.Entries.{entry_blocks};
-ghost use Rattle.hd_volume.specs.Indexes.{root_key_length};
+ghost use Rattle.hd_volume.specs.Headers.{header_of};
+ghost use Rattle.hd_volume.specs.Entries.{entry_blocks, entries};
+ghost use Rattle.hd_volume.specs.Indexes.{root_key_length, keys_ascend};
 ghost use Rattle.hd_links.specs.Pointers.{AreLinked};
-ghost use Rattle.hd_image.specs.Records.{links_of};
-ghost use Rattle.hd_image.specs.Right.{IndexIsFormed, EntriesAreRight};
+ghost use Rattle.hd_image.specs.Records.{links_of, IsVolumeOf};
+ghost use Rattle.hd_image.specs.Right.{ChainIsFormed, IndexIsFormed, IndexIsInOrder, EntriesAreRight};
 ghost use Rattle.hd_check_pointers.specs.Tables.{AreForwards, ArePredecessors};
 ghost use Rattle.hd_check_pointers.specs.Matched.{IsMatched};
-ghost use Rattle.hd_check_index.specs.IndexPhases.{AreIndexBlocks};
-ghost use Rattle.hd_check.specs.Joining.{NoneBefore, IsFirstFault, HasRightBlocks, IsFoundRight};
+ghost use Rattle.hd_check_index.specs.IndexPhases.{IsSequence};
+ghost use Rattle.hd_check.specs.Joining.{NoneBefore, IsFirstFault, HasRightBlocks, NamesAreRight, IsFoundRight};
 ghost use Rattle.hd_check_blocks.specs.Finding.{WhereNone, WhereSome};
 
 use hd_check_blocks::{Fault, Place, blocks_fault, header_fault};
 use hd_check_index::{
-    NotedBlock, block_forms_fault, entry_order_fault, twice_named_fault, unnamed_root_fault,
+    block_forms_fault, entry_order_fault, sort_chain, twice_named_fault, unnamed_root_fault,
     unreached_block_fault, wrong_entry_fault,
 };
 use hd_check_pointers::{
@@ -104,31 +105,82 @@ fn pointers_fault<S: BlockStore>(
     twin_chains_fault(alloc, places, &namings, &forwards, volume, dbd)
 }
 
-/// The least fault of the entries of an index that is formed.
-fn entries_fault<S: BlockStore>(
-    alloc: Global,
-    places: &[Place],
-    blocks: &[NotedBlock],
-    chain: &[u32],
+/// The least fault of the order of a chain's keys; where there is none, its blocks are put in order of their numbers.
+fn chain_order_fault<S: BlockStore>(
+    chain: &mut Vec<u32>,
     volume: &mut Volume<S>,
     dbd: &Dbd,
 ) -> Result<Option<Fault>, Refused>
-    requires right { IsTrue volume.old.is_sound → HasRightBlocks dbd.now volume.old places.now }
-    requires formed { IsTrue volume.old.is_sound → IndexIsFormed (root_key_length dbd.now.types) volume.old }
-    requires blocks { IsTrue volume.old.is_sound → AreIndexBlocks volume.old blocks.now }
-    requires chain { IsTrue volume.old.is_sound → chain.now ≡ entry_blocks volume.old }
+    requires of { IsTrue volume.old.is_sound → IsVolumeOf dbd.now volume.old }
+    requires version { IsTrue volume.old.is_sound → (header_of volume.old.image).version ≡ 1 }
+    requires formed { IsTrue volume.old.is_sound → ChainIsFormed (root_key_length dbd.now.types) volume.old }
+    requires chain { IsTrue volume.old.is_sound → chain.old.items ≡ entry_blocks volume.old }
     requires before { IsTrue volume.old.is_sound → NoneBefore dbd.now volume.old 11 }
     ensures read { IsRead volume.old result volume.new }
-    ensures none { WhereNone volume.old result (EntriesAreRight dbd.now volume.old) }
+    ensures none { WhereNone volume.old result (keys_ascend (entries (root_key_length dbd.now.types) volume.old) ≡ true) }
+    ensures sequence { WhereNone volume.old result (IsSequence (root_key_length dbd.now.types) volume.old chain.new.items) }
     ensures some { WhereSome volume.old result (λ f. IsFirstFault dbd.now volume.old f) }
     ensures refusal { OnlyDeviceOrMemory result }
 {
     let found = entry_order_fault(chain, volume, dbd)?;
+    sort_chain(chain);
+    Ok(found)
+}
+
+/// The least fault of an index that is one chain, but for what its entries name; where there is none, its blocks are noted in order of their
+/// numbers.
+fn chain_fault<S: BlockStore>(
+    alloc: Global,
+    chain: &mut Vec<u32>,
+    volume: &mut Volume<S>,
+    dbd: &Dbd,
+) -> Result<Option<Fault>, Refused>
+    requires empty { chain.old.items ≡ [] }
+    requires of { IsTrue volume.old.is_sound → IsVolumeOf dbd.now volume.old }
+    requires version { IsTrue volume.old.is_sound → (header_of volume.old.image).version ≡ 1 }
+    requires before { IsTrue volume.old.is_sound → NoneBefore dbd.now volume.old 8 }
+    ensures read { IsRead volume.old result volume.new }
+    ensures none { WhereNone volume.old result (IndexIsFormed (root_key_length dbd.now.types) volume.old × IndexIsInOrder (root_key_length dbd.now.types) volume.old) }
+    ensures sequence { WhereNone volume.old result (IsSequence (root_key_length dbd.now.types) volume.old chain.new.items) }
+    ensures some { WhereSome volume.old result (λ f. IsFirstFault dbd.now volume.old f) }
+    ensures refusal { OnlyDeviceOrMemory result }
+{
+    let mut blocks = Vec::new(alloc);
+    let found = block_forms_fault(alloc, &mut blocks, volume, dbd)?;
     if found.is_some() {
         return Ok(found);
     }
+    let top = volume.top();
+    let size = volume.block_size() as u32;
+    let found = twice_named_fault(alloc, &blocks, top, size)?;
+    if found.is_some() {
+        return Ok(found);
+    }
+    let found = unreached_block_fault(alloc, chain, &blocks, top, size)?;
+    if found.is_some() {
+        return Ok(found);
+    }
+    chain_order_fault(chain, volume, dbd)
+}
+
+/// The least fault of what the entries name, which stand in these blocks.
+fn entries_fault<S: BlockStore>(
+    alloc: Global,
+    places: &[Place],
+    sequence: &[u32],
+    volume: &mut Volume<S>,
+    dbd: &Dbd,
+) -> Result<Option<Fault>, Refused>
+    requires right { IsTrue volume.old.is_sound → HasRightBlocks dbd.now volume.old places.now }
+    requires sequence { IsTrue volume.old.is_sound → IsSequence (root_key_length dbd.now.types) volume.old sequence.now }
+    requires before { IsTrue volume.old.is_sound → NoneBefore dbd.now volume.old 12 }
+    ensures read { IsRead volume.old result volume.new }
+    ensures none { WhereNone volume.old result (NamesAreRight dbd.now volume.old) }
+    ensures some { WhereSome volume.old result (λ f. IsFirstFault dbd.now volume.old f) }
+    ensures refusal { OnlyDeviceOrMemory result }
+{
     let mut named = Vec::new(alloc);
-    let found = wrong_entry_fault(&mut named, blocks, places, volume, dbd)?;
+    let found = wrong_entry_fault(&mut named, sequence, places, volume, dbd)?;
     if found.is_some() {
         return Ok(found);
     }
@@ -149,23 +201,12 @@ fn index_fault<S: BlockStore>(
     ensures some { WhereSome volume.old result (λ f. IsFirstFault dbd.now volume.old f) }
     ensures refusal { OnlyDeviceOrMemory result }
 {
-    let mut blocks = Vec::new(alloc);
-    let found = block_forms_fault(alloc, &mut blocks, volume, dbd)?;
+    let mut sequence = Vec::new(alloc);
+    let found = chain_fault(alloc, &mut sequence, volume, dbd)?;
     if found.is_some() {
         return Ok(found);
     }
-    let top = volume.top();
-    let size = volume.block_size() as u32;
-    let found = twice_named_fault(alloc, &blocks, top, size)?;
-    if found.is_some() {
-        return Ok(found);
-    }
-    let mut chain = Vec::new(alloc);
-    let found = unreached_block_fault(alloc, &mut chain, &blocks, top, size)?;
-    if found.is_some() {
-        return Ok(found);
-    }
-    entries_fault(alloc, places, &blocks, &chain, volume, dbd)
+    entries_fault(alloc, places, &sequence, volume, dbd)
 }
 
 /// The least fault of a volume; where there is none, its segments are noted.

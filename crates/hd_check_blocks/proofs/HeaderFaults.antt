@@ -9,7 +9,7 @@ use Rattle.hd_volume.proofs.FrameLemmas.{header-same}
 use Rattle.hd_volume.proofs.CreateLemmas.{own-block}
 use Rattle.hd_image.specs.Standing.{Stands, phase_of, number_of, ComesBefore}
 use Rattle.hd_image.specs.declared.line.Line.{Line}
-use Rattle.hd_image.specs.declared.line.Line.TheVariants.{NoVolume, NoVersion, AnotherDatabase, WrongChain, WrongPlace, NoKind, Deleted, NamesNothing, NamesAnother, TwoPredecessors, NoPredecessor, WrongBackward, WrongLast, OutOfOrder, NotReached, WrongTop, WrongForm, NamedTwice, UnreachedBlock, EntryOutOfOrder, WrongEntry, NoEntry}
+use Rattle.hd_image.specs.declared.line.Line.TheVariants.{NoVolume, NoVersion, AnotherDatabase, WrongChain, WrongPlace, NoKind, Deleted, NamesNothing, NamesAnother, TwoPredecessors, NoPredecessor, WrongBackward, WrongLast, OutOfOrder, NotReached, WrongTop, WrongForm, NamedTwice, UnreachedBlock, WrongNext, EntryOutOfOrder, WrongEntry, NoEntry}
 use Rattle.hd_check_blocks.specs.declared.fault.Fault.{Fault}
 use Rattle.hd_check_blocks.specs.Phases.{CountsImage, IsNamed, IsWrongHeader, IsHeaderRight, IsLeastOf}
 
@@ -34,6 +34,7 @@ first-lines P a b c WrongTop h = absurd (omega arith)
 first-lines P a b c WrongForm h = absurd (omega arith)
 first-lines P a b c NamedTwice h = absurd (omega arith)
 first-lines P a b c UnreachedBlock h = absurd (omega arith)
+first-lines P a b c WrongNext h = absurd (omega arith)
 first-lines P a b c EntryOutOfOrder h = absurd (omega arith)
 first-lines P a b c WrongEntry h = absurd (omega arith)
 first-lines P a b c NoEntry h = absurd (omega arith)

@@ -137,18 +137,18 @@ top-not-wrong v a o w r = elim r.height [
 ]
 
 -- where top and height are right and each block is, the index is
-pub index-right : (k : ℕ) (v : VolumeState) → IsTopRight v → ((n : ℕ) → IsKind v 2 n → IsRightIndexBlock k v n) → IsIndexRight k v
-index-right k v top blocks = record { height = top.height; top = top.top; blocks = blocks }
+pub index-right : (k : ℕ) (v : VolumeState) → (header_of v.image).version ≡ 1 → IsTopRight v → ((n : ℕ) → IsKind v 2 n → IsRightIndexBlock k v n) → IsIndexRight k v
+index-right k v one top blocks = record { version = one; height = top.height; top = top.top; blocks = blocks }
 
 -- the header's fault is the least of its phase
-pub top-least : (d : Database) (v : VolumeState) (top : ℕ) → IsWrongTop v 0 top → IsLeastOf d v 8 (record { line = WrongTop; address = 0; other = top })
-top-least d v top w = least-late d v 8 (record { line = WrongTop; address = 0; other = top }) (omega arith) refl w (λ k a o is s. omega arith)
+pub top-least : (d : Database) (v : VolumeState) (top : ℕ) → (header_of v.image).version ≡ 1 → IsWrongTop v 0 top → IsLeastOf d v 8 (record { line = WrongTop; address = 0; other = top })
+top-least d v top one w = least-late d v 8 (record { line = WrongTop; address = 0; other = top }) (omega arith) (λ e. omega arith) refl (inl (one, w)) (λ k a o is s. omega arith)
 
 -- and so is that of the first block whose form is wrong
-pub form-least : (d : Database) (v : VolumeState) (n : ℕ) → IsTopRight v → IsFirstWrong (root_key_length d.types) v n → IsLeastOf d v 8 (record { line = WrongForm; address = n * v.size; other = 0 })
-form-least d v n top w =
-    least-late d v 8 (record { line = WrongForm; address = n * v.size; other = 0 }) (omega arith) refl (wrong-form-of (root_key_length d.types) v n w.0 w.1)
-    (λ k a o is s. elim (stands-8 d v k a o is s) [
+pub form-least : (d : Database) (v : VolumeState) (n : ℕ) → (header_of v.image).version ≡ 1 → IsTopRight v → IsFirstWrong (root_key_length d.types) v n → IsLeastOf d v 8 (record { line = WrongForm; address = n * v.size; other = 0 })
+form-least d v n one top w =
+    least-late d v 8 (record { line = WrongForm; address = n * v.size; other = 0 }) (omega arith) (λ e. omega arith) refl (inl (one, wrong-form-of (root_key_length d.types) v n w.0 w.1))
+    (λ k a o is s. elim (stands-8 d v k a o one is s) [
       | inl t ↦ absurd (top-not-wrong v a o t top)
       | inr f ↦ elim (cases_lt f.0 n) [
         | inl less ↦ absurd (form-not-wrong (root_key_length d.types) v a o f (w.2 f.0 less f.1))

@@ -6,4 +6,5 @@ pub mod Walks
 pub mod UnnamedRoots
 pub mod EntrySteps
 pub mod NamedEntries
+pub mod Sequences
 pub mod OrderSteps

@@ -1,5 +1,5 @@
 -- What the entries of an index name, block by block.
-use Rattle.std.proofs.Common.{◌≡◌, ◌⊎◌, inl, inr, ℕ, ◌+◌, ◌*◌, ◌<◌, ◌≤◌, List, [], ◌∷◌, ◌++◌, length, map, Bool, true, Option, Some, None, refl, sym, ap, subst, ◌∙◌, arith}
+use Rattle.std.proofs.Common.{◌≡◌, ◌⊎◌, inl, inr, ℕ, zero, suc, ◌+◌, ◌*◌, ◌<◌, ◌≤◌, List, [], ◌∷◌, ◌++◌, length, map, slice_index, Bool, true, Option, Some, None, refl, sym, ap, subst, ◌∙◌, arith}
 use Rattle.std.specs.Prelude.{◌==◌, not, find, option_map}
 use Rattle.std.specs.List.{list_all, list_any}
 use Rattle.std.proofs.lemmas.Bool.{cases_lt, cases_eq, eq-eqb, eqb-true, or_cases, or_left, or_right, and_from, false≢true}
@@ -8,20 +8,18 @@ use Rattle.std.proofs.lemmas.List.{map-append}
 use Rattle.std.proofs.lemmas.List.Folds.{list_all-append}
 use Rattle.hd_bytes.specs.Numbers.{number_at}
 use Rattle.hd_dbd.specs.Hierarchy.{Database}
-use Rattle.hd_volume.specs.Headers.{header_of}
 use Rattle.hd_volume.specs.Volumes.{VolumeState, block_at}
-use Rattle.hd_volume.specs.Entries.{Entry, entries_in, entries_of, entry_blocks, entries}
+use Rattle.hd_volume.specs.Entries.{Entry, entries_in, entries_of}
+use Rattle.hd_levels.specs.IndexSets.{sequence_blocks, index_entries}
 use Rattle.hd_volume.specs.Indexes.{root_key_length, IsEntryBlock, IsChain, IsAmong}
 use Rattle.hd_image.specs.IndexFaults.{names_a_root}
 use Rattle.hd_links.specs.Links.{Links}
 use Rattle.hd_image.specs.Records.{links_of}
 use Rattle.hd_image.proofs.OneImage.{links-same}
-use Rattle.hd_image.specs.Right.{IndexIsFormed}
 use Rattle.hd_image.specs.declared.line.Line.TheVariants.{WrongEntry}
-use Rattle.hd_check_index.specs.declared.noted_blocks.NotedBlock.{NotedBlock}
 use Rattle.hd_check_blocks.specs.Phases.{IsLeastOf}
-use Rattle.hd_check_index.specs.IndexPhases.{AreIndexBlocks, AreNamed, index_block_of, index_block_at}
-use Rattle.hd_check_index.proofs.IndexTables.{among, index-of, in-order}
+use Rattle.hd_check_index.specs.IndexPhases.{NumbersAscend, IsSequence, AreNamed}
+use Rattle.hd_check_index.proofs.UnnamedRoots.{at-among, among-at}
 use Rattle.hd_check_index.proofs.EntrySteps.{none-failing}
 use Rattle.hd_check_index.proofs.LateLines.{least-late, stands-12}
 
@@ -93,56 +91,65 @@ chain-block k v s [] n h i = absurd i
 chain-block k v s (m ∷ ns) n h (inl e) = subst (IsEntryBlock k v) (sym e) h.1
 chain-block k v s (m ∷ ns) n h (inr i) = chain-block k v (number_at 4 (block_at v m) 8) ns n h.2 i
 
--- ---- the blocks of a table
+-- ---- the blocks that bear the entries
 
--- These are what the entries of the first blocks of a table name.
-pub record AreNamedBefore (k : ℕ) (v : VolumeState) (bs : List NotedBlock) (i : ℕ) (named : List ℕ) : Type 0 where
-  pub there : (a : ℕ) → IsAmong a named → (j : ℕ) × (j < i) × IsAmong a (addresses (entries_in k (block_at v (index_block_at bs j).number)))
-  pub all : (j a : ℕ) → j < i → IsAmong a (addresses (entries_in k (block_at v (index_block_at bs j).number))) → IsAmong a named
+-- These are what the entries of the first of some blocks name.
+pub record AreNamedBefore (k : ℕ) (v : VolumeState) (bs : List ℕ) (i : ℕ) (named : List ℕ) : Type 0 where
+  pub there : (a : ℕ) → IsAmong a named → (j : ℕ) × (j < i) × IsAmong a (addresses (entries_in k (block_at v (slice_index bs j))))
+  pub all : (j a : ℕ) → j < i → IsAmong a (addresses (entries_in k (block_at v (slice_index bs j)))) → IsAmong a named
 
 -- at first nothing is named
-pub none-named : (k : ℕ) (v : VolumeState) (bs : List NotedBlock) (named : List ℕ) → named ≡ [] → AreNamedBefore k v bs 0 named
+pub none-named : (k : ℕ) (v : VolumeState) (bs : List ℕ) (named : List ℕ) → named ≡ [] → AreNamedBefore k v bs 0 named
 none-named k v bs named none = record {
   there = λ a i. absurd (subst (λ (ns : List ℕ). IsAmong a ns) none i);
   all = λ j a less i. absurd (omega arith);
 }
 
 -- then what the entries of one block more name
-pub named-more : (k : ℕ) (v : VolumeState) (bs : List NotedBlock) (i : ℕ) (named more : List ℕ) → AreNamedBefore k v bs i named
-    → more ≡ named ++ addresses (entries_in k (block_at v (index_block_at bs i).number)) → AreNamedBefore k v bs (i + 1) more
+pub named-more : (k : ℕ) (v : VolumeState) (bs : List ℕ) (i : ℕ) (named more : List ℕ) → AreNamedBefore k v bs i named
+    → more ≡ named ++ addresses (entries_in k (block_at v (slice_index bs i))) → AreNamedBefore k v bs (i + 1) more
 named-more k v bs i named more h is = record {
-  there = λ a x. elim (among-parts a named (addresses (entries_in k (block_at v (index_block_at bs i).number))) (subst (λ (ns : List ℕ). IsAmong a ns) is x)) [
+  there = λ a x. elim (among-parts a named (addresses (entries_in k (block_at v (slice_index bs i)))) (subst (λ (ns : List ℕ). IsAmong a ns) is x)) [
     | inl before ↦ (let r = h.there a before in let l = r.1 in (r.0, omega arith, r.2))
     | inr own ↦ (i, omega arith, own)
   ];
   all = λ j a less x. subst (λ (ns : List ℕ). IsAmong a ns) (sym is) (elim (cases_lt j i) [
-    | inl low ↦ among-front a named (addresses (entries_in k (block_at v (index_block_at bs i).number))) (h.all j a low x)
+    | inl low ↦ among-front a named (addresses (entries_in k (block_at v (slice_index bs i)))) (h.all j a low x)
     | inr high ↦
         (let e : j ≡ i = omega arith in
-        among-back a named (addresses (entries_in k (block_at v (index_block_at bs i).number))) (subst (λ (y : ℕ). IsAmong a (addresses (entries_in k (block_at v (index_block_at bs y).number)))) e x))
+        among-back a named (addresses (entries_in k (block_at v (slice_index bs i)))) (subst (λ (y : ℕ). IsAmong a (addresses (entries_in k (block_at v (slice_index bs y))))) e x))
   ]);
 }
 
-module _ (d : Database) (v : VolumeState) (bs : List NotedBlock) (h : AreIndexBlocks v bs) (formed : IndexIsFormed (root_key_length d.types) v) where
-  -- a block of the table is one of the chain
-  pub table-chain : (j : ℕ) → j < length bs → IsAmong (index_block_at bs j).number (entry_blocks v)
-  table-chain j l = formed.reached (index_block_at bs j).number (h.there (index_block_at bs j) (among bs j l)).0
+-- an earlier number is less than a later one
+above-at : (a : ℕ) (ns : List ℕ) (j : ℕ) → NumbersAscend a ns → j < length ns → a < slice_index ns j
+above-at a [] j h l = absurd (omega arith)
+above-at a (n ∷ ns) zero h l = h.0
+above-at a (n ∷ ns) (suc j) h l = (let r = above-at n ns j h.1 (omega arith) in let f = h.0 in omega arith)
 
-  -- and bears entries
-  pub table-entries : (j : ℕ) → j < length bs → IsEntryBlock (root_key_length d.types) v (index_block_at bs j).number
-  table-entries j l = chain-block (root_key_length d.types) v (header_of v.image).top (entry_blocks v) (index_block_at bs j).number formed.chain (table-chain j l)
+in-order : (a : ℕ) (ns : List ℕ) (i j : ℕ) → NumbersAscend a ns → i < j → j < length ns → slice_index ns i < slice_index ns j
+in-order a [] i j h less l = absurd (omega arith)
+in-order a (n ∷ ns) zero zero h less l = absurd (omega arith)
+in-order a (n ∷ ns) zero (suc j) h less l = above-at n ns j h.1 (omega arith)
+in-order a (n ∷ ns) (suc i) zero h less l = absurd (omega arith)
+in-order a (n ∷ ns) (suc i) (suc j) h less l = in-order n ns i j h.1 (omega arith) (omega arith)
 
-  -- a block of the chain is one of the table
-  chain-table : (n : ℕ) → IsAmong n (entry_blocks v) → (j : ℕ) × (j < length bs) × ((index_block_at bs j).number ≡ n)
-  chain-table n i =
-      let own = chain-block (root_key_length d.types) v (header_of v.image).top (entry_blocks v) n formed.chain i in
-      let r = index-of (index_block_of v n) bs (h.all n own.is) in
-      (r.0, r.1, ap (λ (b : NotedBlock). b.number) r.2)
+module _ (d : Database) (v : VolumeState) (bs : List ℕ) (h : IsSequence (root_key_length d.types) v bs) where
+  -- a block of the table is one that bears entries of the index
+  pub table-chain : (j : ℕ) → j < length bs → IsAmong (slice_index bs j) (sequence_blocks (root_key_length d.types) v)
+  table-chain j l = h.there (slice_index bs j) (at-among bs (slice_index bs j) j l refl)
+
+  pub table-entries : (j : ℕ) → j < length bs → IsEntryBlock (root_key_length d.types) v (slice_index bs j)
+  table-entries j l = h.bear (slice_index bs j) (at-among bs (slice_index bs j) j l refl)
+
+  -- and each such block is one of the table
+  chain-table : (n : ℕ) → IsAmong n (sequence_blocks (root_key_length d.types) v) → (j : ℕ) × (j < length bs) × (slice_index bs j ≡ n)
+  chain-table n i = among-at bs n (h.all n i)
 
   -- what holds of the entries of all blocks of the table holds of all entries
-  pub table-all : (test : Entry → Bool) → ((j : ℕ) → j < length bs → list_all test (entries_in (root_key_length d.types) (block_at v (index_block_at bs j).number)) ≡ true)
-      → list_all test (entries (root_key_length d.types) v) ≡ true
-  table-all test all = all-blocks test (root_key_length d.types) v (entry_blocks v)
+  pub table-all : (test : Entry → Bool) → ((j : ℕ) → j < length bs → list_all test (entries_in (root_key_length d.types) (block_at v (slice_index bs j))) ≡ true)
+      → list_all test (index_entries (root_key_length d.types) v) ≡ true
+  table-all test all = all-blocks test (root_key_length d.types) v (sequence_blocks (root_key_length d.types) v)
       (λ n i. (let r = chain-table n i in subst (λ (m : ℕ). list_all test (entries_in (root_key_length d.types) (block_at v m)) ≡ true) r.2 (all r.0 r.1)))
 
   -- what those of all blocks name is what the entries name
@@ -151,9 +158,9 @@ module _ (d : Database) (v : VolumeState) (bs : List NotedBlock) (h : AreIndexBl
     there = λ a x.
         (let r = n.there a x in
         let l = r.1 in
-        among-any a (entries (root_key_length d.types) v) (in-blocks (root_key_length d.types) v (entry_blocks v) (index_block_at bs r.0).number a (table-chain r.0 (omega arith)) r.2));
+        among-any a (index_entries (root_key_length d.types) v) (in-blocks (root_key_length d.types) v (sequence_blocks (root_key_length d.types) v) (slice_index bs r.0) a (table-chain r.0 (omega arith)) r.2));
     all = λ a some.
-        (let r = of-blocks (root_key_length d.types) v (entry_blocks v) a (any-among a (entries (root_key_length d.types) v) some) in
+        (let r = of-blocks (root_key_length d.types) v (sequence_blocks (root_key_length d.types) v) a (any-among a (index_entries (root_key_length d.types) v) some) in
         let t = chain-table r.0 r.1 in
         let l = t.1 in
         n.all t.0 a (omega arith) (subst (λ (m : ℕ). IsAmong a (addresses (entries_in (root_key_length d.types) (block_at v m)))) (sym t.2) r.2));
@@ -161,12 +168,12 @@ module _ (d : Database) (v : VolumeState) (bs : List NotedBlock) (h : AreIndexBl
 
   -- the first block with a wrong entry has the least fault
   pub entry-least : (i address : ℕ) → i < length bs
-      → ((j : ℕ) → j < i → list_all (λ e. names_a_root d (links_of d.types v) e) (entries_in (root_key_length d.types) (block_at v (index_block_at bs j).number)) ≡ true)
-      → option_map (λ e. e.address) (find (λ e. not (names_a_root d (links_of d.types v) e)) (entries_in (root_key_length d.types) (block_at v (index_block_at bs i).number))) ≡ Some address
-      → IsLeastOf d v 12 (record { line = WrongEntry; address = (index_block_at bs i).number * v.size; other = address })
+      → ((j : ℕ) → j < i → list_all (λ e. names_a_root d (links_of d.types v) e) (entries_in (root_key_length d.types) (block_at v (slice_index bs j))) ≡ true)
+      → option_map (λ e. e.address) (find (λ e. not (names_a_root d (links_of d.types v) e)) (entries_in (root_key_length d.types) (block_at v (slice_index bs i)))) ≡ Some address
+      → IsLeastOf d v 12 (record { line = WrongEntry; address = slice_index bs i * v.size; other = address })
   entry-least i address within before wrong =
-      let n : ℕ = (index_block_at bs i).number in
-      least-late d v 12 (record { line = WrongEntry; address = n * v.size; other = address }) (omega arith) refl
+      let n : ℕ = slice_index bs i in
+      least-late d v 12 (record { line = WrongEntry; address = n * v.size; other = address }) (omega arith) (λ e. omega arith) refl
       (n, table-chain i within, wrong, refl)
       (λ l a o is s.
       (let t = stands-12 d v l a o is s in
@@ -181,7 +188,7 @@ module _ (d : Database) (v : VolumeState) (bs : List NotedBlock) (h : AreIndexBl
             let earlier : j.0 < i = elim (cases_lt j.0 i) [
               | inl x ↦ x
               | inr high ↦ elim (cases_eq j.0 i) [
-                | inl e ↦ (let same : (index_block_at bs j.0).number ≡ n = ap (λ (x : ℕ). (index_block_at bs x).number) e in absurd (omega arith))
+                | inl e ↦ (let same : slice_index bs j.0 ≡ n = ap (λ (x : ℕ). slice_index bs x) e in absurd (omega arith))
                 | inr ne ↦ (let r = in-order 0 bs i j.0 h.ascend (omega arith) j-within in absurd (omega arith))
               ]
             ] in

@@ -5,6 +5,7 @@ use Rattle.std.specs.Option.{option_map_or}
 use Rattle.std.proofs.lemmas.Bool.{cases_lt, cases_Bool, ltb-true, ltb-false, and_from, false≢true}
 use Rattle.std.proofs.lemmas.List.{append-nil, take_more, take-append-drop, drop_more}
 use Rattle.hd_dbd.specs.Hierarchy.{Database}
+use Rattle.hd_volume.specs.Headers.{header_of}
 use Rattle.hd_volume.specs.Volumes.{VolumeState, block_at}
 use Rattle.hd_volume.specs.Entries.{Entry, entries_in, entries_of, entry_blocks, entries}
 use Rattle.hd_volume.specs.Indexes.{root_key_length, key_less, keys_ascend}
@@ -14,7 +15,7 @@ use Rattle.hd_image.specs.declared.line.Line.TheVariants.{EntryOutOfOrder}
 use Rattle.hd_check_blocks.specs.declared.fault.Fault.{Fault}
 use Rattle.hd_check_blocks.specs.Phases.{IsLeastOf}
 use Rattle.hd_check_index.specs.LeftKeys.{lesser}
-use Rattle.hd_check_index.proofs.LateLines.{least-late, stands-11}
+use Rattle.hd_check_index.proofs.LateLines.{least-by, stands-11}
 
 -- ---- the last entry, and the first out of order
 
@@ -235,8 +236,8 @@ module _ (d : Database) (v : VolumeState) (ns : List ℕ) (is : ns ≡ entry_blo
           none-of (Some o) z = absurd (z o refl)
 
   -- the least that was found is the least fault
-  pub some-out-of-order : IfSome least (λ f. IsLeastOf d v 11 f)
-  some-out-of-order = by least h
+  pub some-out-of-order : (header_of v.image).version ≡ 1 → IfSome least (λ f. IsLeastOf d v 11 f)
+  some-out-of-order one = by least h
     where
       k : ℕ
       k = root_key_length d.types
@@ -250,10 +251,12 @@ module _ (d : Database) (v : VolumeState) (ns : List ℕ) (is : ns ≡ entry_blo
           let split : entry_blocks v ≡ take j ns ++ (n ∷ drop (j + 1) ns) = sym is ∙ sym (take-append-drop j ns) ∙ ap (λ (ms : List ℕ). take j ns ++ ms) (drop_more ns j 0 q.0.2) in
           let address : f.address ≡ n * v.size = ap (λ (x : Fault). x.address) q.0.4 in
           subst (IsLeastOf d v 11) (sym q.0.4)
-          (least-late d v 11 (record { line = EntryOutOfOrder; address = n * v.size; other = o }) (omega arith) refl
-          (n, take j ns, drop (j + 1) ns, split, q.0.3, refl)
+          (least-by d v 11 (record { line = EntryOutOfOrder; address = n * v.size; other = o }) refl
+          (inl (one, (n, take j ns, drop (j + 1) ns, split, q.0.3, refl)))
           (λ l a x p s.
-          (let t = stands-11 d v l a x p s in
+          (let both = stands-11 d v l a x one p s in
+          let t = both.0 in
+          let number = both.1 in
           let m : ℕ = t.0 in
           let before : List ℕ = t.1 in
           let whole : ns ≡ before ++ m ∷ t.2 = is ∙ t.3 in
@@ -267,4 +270,4 @@ module _ (d : Database) (v : VolumeState) (ns : List ℕ) (is : ns ≡ entry_blo
           let low : f.address ≤ slice_index ns i * v.size = q.1 i x short wrong in
           let same : slice_index ns i * v.size ≡ m * v.size = ap (λ (y : ℕ). y * v.size) own in
           let at = t.5 in
-          omega arith)))
+          (omega arith, λ e. omega arith))))

@@ -203,10 +203,10 @@ module _ (v : VolumeState) (bs : List NotedBlock) (top : ℕ) (h : AreIndexBlock
   twice-least d n right some two least =
       let less = two.2 in
       let within = two.3 in
-      least-late d v 9 (record { line = NamedTwice; address = n * v.size; other = 0 }) (omega arith) refl
-      (n, holder-at bs two.0, holder-at bs two.1, named-kind (root_key_length d.types) right n two.0 some (omega arith) two.4, holds n two.0 (omega arith) two.4, holds n two.1 within two.5, apart two.0 two.1 less within, refl, refl)
+      least-late d v 9 (record { line = NamedTwice; address = n * v.size; other = 0 }) (omega arith) (λ e. omega arith) refl
+      (inl (right.version, (n, holder-at bs two.0, holder-at bs two.1, named-kind (root_key_length d.types) right n two.0 some (omega arith) two.4, holds n two.0 (omega arith) two.4, holds n two.1 within two.5, apart two.0 two.1 less within, refl, refl)))
       (λ k a o of s.
-      (let t = stands-9 d v k a o of s in
+      (let t = stands-9 d v k a o right.version of s in
       let m : ℕ = t.0 in
       let at = t.7 in
       elim (cases_lt m n) [

@@ -7,7 +7,7 @@ use Rattle.std.proofs.lemmas.Bool.{cases_lt, cases_eq, cases_Bool, false≢true}
 use Rattle.std.proofs.lemmas.List.Sorted.{Contains-permutation, IsPermutation-sym}
 use Rattle.hd_dbd.specs.Hierarchy.{Database}
 use Rattle.hd_volume.specs.Volumes.{VolumeState}
-use Rattle.hd_volume.specs.Entries.{entries}
+use Rattle.hd_levels.specs.IndexSets.{index_entries}
 use Rattle.hd_volume.specs.Indexes.{root_key_length, IsAmong}
 use Rattle.hd_links.specs.Links.{IsSegment}
 use Rattle.hd_image.specs.Records.{links_of}
@@ -88,18 +88,18 @@ first-unnamed ps named i up within one none before = record {
 
 module _ (d : Database) (v : VolumeState) (ps : List Place) (named sorted : List ℕ) (h : ArePlaces d.types v ps) (n : AreNamed (root_key_length d.types) v named) (p : IsPermutation named sorted) where
   -- each root has an entry
-  pub each-named : AreRootsAmong ps sorted → (a : ℕ) → IsSegment (links_of d.types v) a → (links_of d.types v).code a ≡ 1 → list_any (λ e. e.address == a) (entries (root_key_length d.types) v) ≡ true
+  pub each-named : AreRootsAmong ps sorted → (a : ℕ) → IsSegment (links_of d.types v) a → (links_of d.types v).code a ≡ 1 → list_any (λ e. e.address == a) (index_entries (root_key_length d.types) v) ≡ true
   each-named all a s one = n.there a (among-moved sorted named a (IsPermutation-sym named sorted p) (all (record { address = a; code = (links_of d.types v).code a }) (h.all a s) one))
 
   -- the first root without one is the least fault
   pub unnamed-least : (a : ℕ) → IsFirstUnnamed ps sorted a → IsLeastOf d v 13 (record { line = NoEntry; address = a; other = 0 })
   unnamed-least a f =
       let t = h.there (record { address = a; code = 1 }) f.place in
-      let none : list_any (λ e. e.address == a) (entries (root_key_length d.types) v) ≡ false = elim (cases_Bool (list_any (λ e. e.address == a) (entries (root_key_length d.types) v))) [
+      let none : list_any (λ e. e.address == a) (index_entries (root_key_length d.types) v) ≡ false = elim (cases_Bool (list_any (λ e. e.address == a) (index_entries (root_key_length d.types) v))) [
         | inl some ↦ absurd (f.unnamed (among-moved named sorted a p (n.all a some)))
         | inr no-entry ↦ no-entry
       ] in
-      least-late d v 13 (record { line = NoEntry; address = a; other = 0 }) (omega arith) refl (t.0, t.1, none, refl)
+      least-late d v 13 (record { line = NoEntry; address = a; other = 0 }) (omega arith) (λ e. omega arith) refl (t.0, t.1, none, refl)
       (λ k b o is s.
       (let w = stands-13 d v k b o is s in
       elim (cases_lt b a) [

@@ -14,7 +14,7 @@ use Rattle.hd_volume.specs.Entries.{chain_from, entry_blocks}
 use Rattle.hd_volume.specs.Indexes.{root_key_length, IsChain, IsAmong}
 use Rattle.hd_volume.proofs.KindLemmas.{below-count}
 use Rattle.hd_image.specs.Records.{IsVolumeOf}
-use Rattle.hd_image.specs.Right.{IndexIsFormed}
+use Rattle.hd_image.specs.Right.{ChainIsFormed}
 use Rattle.hd_image.specs.declared.line.Line.TheVariants.{UnreachedBlock}
 use Rattle.hd_check_index.specs.declared.noted_blocks.NotedBlock.{NotedBlock}
 use Rattle.hd_check_blocks.specs.Phases.{IsLeastOf}
@@ -276,7 +276,7 @@ module _ (d : Database) (v : VolumeState) (bs : List NotedBlock) (top : ℕ) (h 
       sym (ap (chain_from v (header_of v.image).largest) (sym h.top_is) ∙ path-from v (header_of v.image).largest top chain w.path (omega arith))
 
   -- where all blocks are marked the index is formed
-  pub walked-formed : AreMarkedBefore (length bs) marks → IndexIsFormed (root_key_length d.types) v
+  pub walked-formed : AreMarkedBefore (length bs) marks → ChainIsFormed (root_key_length d.types) v
   walked-formed all = record {
     height = h.right.height;
     chain = subst (λ (ns : List ℕ). IsChain (root_key_length d.types) v (header_of v.image).top ns) walked-chain
@@ -291,10 +291,10 @@ module _ (d : Database) (v : VolumeState) (bs : List NotedBlock) (top : ℕ) (h 
   unmarked-least i within none before =
       let n : ℕ = (index_block_at bs i).number in
       let kind = (h.table.there (index_block_at bs i) (among bs i within)).0 in
-      least-late d v 10 (record { line = UnreachedBlock; address = n * v.size; other = 0 }) (omega arith) refl
-      (n, kind, λ a. false≢true (sym none ∙ w.are_marks.marked i within (subst (λ (ns : List ℕ). IsAmong n ns) (sym walked-chain) a)), refl, refl)
+      least-late d v 10 (record { line = UnreachedBlock; address = n * v.size; other = 0 }) (omega arith) (λ e. omega arith) refl
+      (inl (h.right.version, (n, kind, (λ a. false≢true (sym none ∙ w.are_marks.marked i within (subst (λ (ns : List ℕ). IsAmong n ns) (sym walked-chain) a))), refl, refl)))
       (λ l a o is s.
-      (let t = stands-10 d v l a o is s in
+      (let t = stands-10 d v l a o h.right.version is s in
       let m : ℕ = t.0 in
       let at = t.3 in
       elim (cases_lt m n) [

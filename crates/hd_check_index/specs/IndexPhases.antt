@@ -5,10 +5,11 @@ use Rattle.std.specs.List.{list_any, list_all}
 use Rattle.hd_dbd.specs.Hierarchy.{Database}
 use Rattle.hd_image.specs.Records.{links_of, IsVolumeOf}
 use Rattle.hd_links.specs.Links.{IsSegment}
-use Rattle.hd_volume.specs.Entries.{Entry, entries_in, entries}
+use Rattle.hd_volume.specs.Entries.{Entry, entries_in}
 use Rattle.hd_volume.specs.Headers.{header_of}
 use Rattle.hd_volume.specs.Volumes.{VolumeState, block_at, IsKind}
-use Rattle.hd_volume.specs.Indexes.{root_key_length, entry_room, IsAmong}
+use Rattle.hd_volume.specs.Indexes.{root_key_length, entry_room, IsAmong, IsEntryBlock}
+use Rattle.hd_levels.specs.IndexSets.{sequence_blocks, index_entries}
 use Rattle.hd_image.specs.IndexFaults.{IsOfLevel, NamesBlock, first_not_above, names_a_root}
 use Rattle.hd_check_blocks.specs.declared.places.Place.{Place}
 use Rattle.hd_check_blocks.specs.Places.{IsPlaceOf}
@@ -23,8 +24,9 @@ pub record IsRightIndexBlock (key_length : ℕ) (v : VolumeState) (n : ℕ) : Ty
   pub count : number_at 2 (block_at v n) 4 ≤ entry_room key_length v.size
   pub next : (number_at 4 (block_at v n) 8 ≡ 0) ⊎ IsOfLevel v (slice_index (block_at v n) 3) (number_at 4 (block_at v n) 8)
 
--- Top and height are both 0, or top is an index block of level 0 and the height is 1; and each index block is right by itself.
+-- In version 1, top and height are both 0, or top is an index block of level 0 and the height is 1; and each index block is right by itself.
 pub record IsIndexRight (key_length : ℕ) (v : VolumeState) : Type 0 where
+  pub version : (header_of v.image).version ≡ 1
   pub height : (((header_of v.image).top ≡ 0) × ((header_of v.image).height ≡ 0)) ⊎ ((0 < (header_of v.image).top) × ((header_of v.image).height ≡ 1))
   pub top : 0 < (header_of v.image).top → IsOfLevel v 0 (header_of v.image).top
   pub blocks : (n : ℕ) → IsKind v 2 n → IsRightIndexBlock key_length v n
@@ -127,10 +129,22 @@ pub record IsWalked (v : VolumeState) (top : ℕ) (blocks : List NotedBlock) (ch
   pub short : length chain ≤ length blocks
   pub are_marks : AreMarks blocks chain marks
 
+-- the numbers ascend, and all are above one
+abbrev pub NumbersAscend : ℕ → List ℕ → Type 0
+NumbersAscend n [] = Unit {0}
+NumbersAscend n (m ∷ ms) = (n < m) × NumbersAscend m ms
+
+-- These are the blocks that bear the entries of an index, in order of their numbers.
+pub record IsSequence (key_length : ℕ) (v : VolumeState) (numbers : List ℕ) : Type 0 where
+  pub ascend : NumbersAscend 0 numbers
+  pub there : (n : ℕ) → IsAmong n numbers → IsAmong n (sequence_blocks key_length v)
+  pub all : (n : ℕ) → IsAmong n (sequence_blocks key_length v) → IsAmong n numbers
+  pub bear : (n : ℕ) → IsAmong n numbers → IsEntryBlock key_length v n
+
 -- These are the addresses of the entries of an index.
 pub record AreNamed (key_length : ℕ) (v : VolumeState) (named : List ℕ) : Type 0 where
-  pub there : (a : ℕ) → IsAmong a named → list_any (λ e. e.address == a) (entries key_length v) ≡ true
-  pub all : (a : ℕ) → list_any (λ e. e.address == a) (entries key_length v) ≡ true → IsAmong a named
+  pub there : (a : ℕ) → IsAmong a named → list_any (λ e. e.address == a) (index_entries key_length v) ≡ true
+  pub all : (a : ℕ) → list_any (λ e. e.address == a) (index_entries key_length v) ≡ true → IsAmong a named
 
 -- the roots at these places are among these addresses
 abbrev pub AreRootsAmong : List Place → List ℕ → Type 0
@@ -173,7 +187,7 @@ first_wrong_in d v n = option_map (λ e. e.address) (find (λ e. not (names_a_ro
 -- an entry names each root
 abbrev pub AllRootsNamed : Database → VolumeState → Type 0
 AllRootsNamed d v =
-    (a : ℕ) → IsSegment (links_of d.types v) a → (links_of d.types v).code a ≡ 1 → list_any (λ e. e.address == a) (entries (root_key_length d.types) v) ≡ true
+    (a : ℕ) → IsSegment (links_of d.types v) a → (links_of d.types v).code a ≡ 1 → list_any (λ e. e.address == a) (index_entries (root_key_length d.types) v) ≡ true
 
 -- the fact holds if this is the block of its number, and this its form
 abbrev pub IfOwnForm : VolumeState → NotedBlock → Form → Type 0 → Type 0
@@ -183,10 +197,10 @@ IfOwnForm v block form fact = block ≡ index_block_of v block.number → form �
 abbrev pub IfRoom : Database → VolumeState → ℕ → Type 0 → Type 0
 IfRoom d v room fact = room ≡ entry_room (root_key_length d.types) v.size → fact
 
--- the fact holds of each volume of a database that has these index blocks and forms, and this top, height and room
+-- the fact holds of each volume of version 1 of a database that has these index blocks and forms, and this top, height and room
 abbrev pub OfFormed : List NotedBlock → List Form → ℕ → ℕ → ℕ → (Database → VolumeState → Type 0) → Type 0
 OfFormed blocks forms top height room fact =
-    (d : Database) (v : VolumeState) → IsVolumeOf d v → IfTabled v blocks forms (IfHeaded v top height (IfRoom d v room (fact d v)))
+    (d : Database) (v : VolumeState) → IsVolumeOf d v → (header_of v.image).version ≡ 1 → IfTabled v blocks forms (IfHeaded v top height (IfRoom d v room (fact d v)))
 
 -- the entry of block n at an index
 abbrev pub entry_of : Database → VolumeState → ℕ → ℕ → Entry

@@ -6,7 +6,7 @@ ghost use Rattle.hd_volume.specs.Volumes.{VolumeState};
 ghost use Rattle.hd_volume.specs.Entries.{entry_blocks};
 ghost use Rattle.hd_volume.specs.Indexes.{root_key_length};
 ghost use Rattle.hd_image.specs.Records.{IsVolumeOf};
-ghost use Rattle.hd_image.specs.Right.{IndexIsFormed};
+ghost use Rattle.hd_image.specs.Right.{ChainIsFormed};
 ghost use Rattle.hd_check_blocks.specs.Phases.{IsLeastOf};
 ghost use Rattle.hd_check_index.specs.IndexPhases.{AreNamedOnce, IsChainable, IsWalked, AreMarkedBefore, mark_at, index_block_at, IfRightByBlock};
 
@@ -76,7 +76,7 @@ pub fn unreached_block_fault(
     size: u32,
 ) -> Result<Option<Fault>, Refused>
     requires empty { chain.old.items ≡ [] }
-    ensures none { (d : Database) (v : VolumeState) → IfRightByBlock d v blocks.now top (AreNamedOnce v → IsVolumeOf d v → IfOk result (λ o. IfNone o (IndexIsFormed (root_key_length d.types) v))) }
+    ensures none { (d : Database) (v : VolumeState) → IfRightByBlock d v blocks.now top (AreNamedOnce v → IsVolumeOf d v → IfOk result (λ o. IfNone o (ChainIsFormed (root_key_length d.types) v))) }
     ensures chain { (d : Database) (v : VolumeState) → IfRightByBlock d v blocks.now top (AreNamedOnce v → IsVolumeOf d v → IfOk result (λ o. IfNone o (chain.new.items ≡ entry_blocks v))) }
     ensures some { (d : Database) (v : VolumeState) → IfRightByBlock d v blocks.now top (AreNamedOnce v → IsVolumeOf d v → size ≡ v.size → IfOk result (λ o. IfSome o (λ f. IsLeastOf d v 10 f))) }
     ensures refusal { OnlyMemory result }

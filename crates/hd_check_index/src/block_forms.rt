@@ -2,7 +2,7 @@
 ghost use Rattle.std.specs.Prelude.{◌≡◌, ◌≤◌, ◌<◌, ℕ, [], length, true, false, IsTrue, IfNone, IfSome, OnOk};
 ghost use Rattle.hd_bytes.specs.Blocks.{HasBlock};
 ghost use Rattle.hd_dbd.specs.Refusals.{OnlyDeviceOrMemory};
-ghost use Rattle.hd_volume.specs.Headers.{HasHeader};
+ghost use Rattle.hd_volume.specs.Headers.{HasHeader, header_of};
 ghost use Rattle.hd_volume.specs.Volumes.{VolumeState, IsKind};
 ghost use Rattle.hd_volume.specs.Indexes.{root_key_length, entry_room};
 ghost use Rattle.hd_volume.specs.Calls.{IsRead};
@@ -173,6 +173,7 @@ pub fn block_forms_fault<S: BlockStore>(
 ) -> Result<Option<Fault>, Refused>
     requires empty { blocks.old.items ≡ [] }
     requires of { IsTrue volume.old.is_sound → IsVolumeOf dbd.now volume.old }
+    requires version { IsTrue volume.old.is_sound → (header_of volume.old.image).version ≡ 1 }
     ensures read { IsRead volume.old result volume.new }
     ensures none { WhereNone volume.old result (IsIndexRight (root_key_length dbd.now.types) volume.old) }
     ensures blocks { WhereNone volume.old result (AreIndexBlocks volume.old blocks.new.items) }

@@ -2,12 +2,13 @@
 ghost use Rattle.std.specs.Prelude.{◌≡◌, ◌≤◌, ◌<◌, ◌*◌, length, None, take, true, false, IsTrue, IfOk, Option};
 ghost use Rattle.std.specs.Option.{option_map_or};
 ghost use Rattle.hd_dbd.specs.Refusals.{OnlyDevice};
+ghost use Rattle.hd_volume.specs.Headers.{header_of};
 ghost use Rattle.hd_volume.specs.Volumes.{block_at};
 ghost use Rattle.hd_volume.specs.Entries.{Entry, entries_in, entry_blocks, entries};
 ghost use Rattle.hd_volume.specs.Indexes.{root_key_length, IsEntryBlock, key_less, keys_ascend};
 ghost use Rattle.hd_volume.specs.Calls.{IsRead};
 ghost use Rattle.hd_image.specs.Records.{IsVolumeOf};
-ghost use Rattle.hd_image.specs.Right.{IndexIsFormed};
+ghost use Rattle.hd_image.specs.Right.{ChainIsFormed};
 ghost use Rattle.hd_check_blocks.specs.Phases.{IsLeastOf};
 ghost use Rattle.hd_check_index.specs.LeftKeys.{IsLeft, lesser, IsFirstNotAbove, IsLeftBehind, IsFoundWith};
 ghost use Rattle.hd_check_blocks.specs.Finding.{WhereNone, WhereSome};
@@ -141,7 +142,8 @@ pub fn entry_order_fault<S: BlockStore>(
     dbd: &Dbd,
 ) -> Result<Option<Fault>, Refused>
     requires of { IsTrue volume.old.is_sound → IsVolumeOf dbd.now volume.old }
-    requires formed { IsTrue volume.old.is_sound → IndexIsFormed (root_key_length dbd.now.types) volume.old }
+    requires version { IsTrue volume.old.is_sound → (header_of volume.old.image).version ≡ 1 }
+    requires formed { IsTrue volume.old.is_sound → ChainIsFormed (root_key_length dbd.now.types) volume.old }
     requires chain { IsTrue volume.old.is_sound → chain.now ≡ entry_blocks volume.old }
     ensures read { IsRead volume.old result volume.new }
     ensures none { WhereNone volume.old result (keys_ascend (entries (root_key_length dbd.now.types) volume.old) ≡ true) }

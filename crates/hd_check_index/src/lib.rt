@@ -7,6 +7,7 @@ mod block_forms;
 mod block_names;
 mod entry_order;
 mod noted_blocks;
+mod sequence;
 mod unnamed_roots;
 mod wrong_entries;
 
@@ -15,5 +16,6 @@ pub use block_forms::block_forms_fault;
 pub use block_names::twice_named_fault;
 pub use entry_order::entry_order_fault;
 pub use noted_blocks::NotedBlock;
+pub use sequence::sort_chain;
 pub use unnamed_roots::unnamed_root_fault;
 pub use wrong_entries::wrong_entry_fault;

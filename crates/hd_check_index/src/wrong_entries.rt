@@ -7,20 +7,20 @@ ghost use Rattle.hd_dbd.specs.Hierarchy.{Database};
 ghost use Rattle.hd_dbd.specs.Prefixes.{stored_size};
 ghost use Rattle.hd_dbd.specs.Rows.{key_of};
 ghost use Rattle.hd_volume.specs.Volumes.{VolumeState, block_at};
-ghost use Rattle.hd_volume.specs.Entries.{entries_in, entries};
+ghost use Rattle.hd_volume.specs.Entries.{entries_in};
+ghost use Rattle.hd_levels.specs.IndexSets.{index_entries};
 ghost use Rattle.hd_volume.specs.Indexes.{root_key_length, IsEntryBlock};
 ghost use Rattle.hd_volume.specs.Calls.{IsRead};
 ghost use Rattle.hd_prefix.specs.Fields.{bytes_of};
 ghost use Rattle.hd_image.specs.IndexFaults.{names_a_root};
 ghost use Rattle.hd_image.specs.Records.{links_of, IsVolumeOf};
-ghost use Rattle.hd_image.specs.Right.{IndexIsFormed};
 ghost use Rattle.hd_check_blocks.specs.Phases.{IsLeastOf};
 ghost use Rattle.hd_check_blocks.specs.Places.{ArePlaces};
 ghost use Rattle.hd_entries.specs.Fields.{entry_in};
-ghost use Rattle.hd_check_index.specs.IndexPhases.{AreIndexBlocks, AreNamed, AllNameRoots, first_wrong_in, entry_of};
+ghost use Rattle.hd_check_index.specs.IndexPhases.{IsSequence, AreNamed, AllNameRoots, first_wrong_in, entry_of};
 ghost use Rattle.hd_check_blocks.specs.Finding.{WhereNone, WhereSome};
 
-use crate::noted_blocks::{NotedBlock, block_address};
+use crate::noted_blocks::block_address;
 use hd_check_blocks::{Fault, Place, code_at, stored_key};
 use hd_dbd::{Dbd, Refused};
 use hd_entries::{copy_entry, entry_count, root_key_length};
@@ -122,33 +122,33 @@ fn wrong_entry<S: BlockStore>(
     Ok(None)
 }
 
-/// The first block with an entry that names no root of its key; where there is none, what the entries name is noted.
+/// The first of the blocks that bear the index's entries with an entry that names no root of its key; where there is none, what the entries
+/// name is noted.
 pub fn wrong_entry_fault<S: BlockStore>(
     named: &mut Vec<u32>,
-    blocks: &[NotedBlock],
+    blocks: &[u32],
     places: &[Place],
     volume: &mut Volume<S>,
     dbd: &Dbd,
 ) -> Result<Option<Fault>, Refused>
     requires empty { named.old.items ≡ [] }
     requires of { IsTrue volume.old.is_sound → IsVolumeOf dbd.now volume.old }
-    requires formed { IsTrue volume.old.is_sound → IndexIsFormed (root_key_length dbd.now.types) volume.old }
     requires places { IsTrue volume.old.is_sound → ArePlaces dbd.now.types volume.old places.now }
-    requires blocks { IsTrue volume.old.is_sound → AreIndexBlocks volume.old blocks.now }
+    requires blocks { IsTrue volume.old.is_sound → IsSequence (root_key_length dbd.now.types) volume.old blocks.now }
     ensures read { IsRead volume.old result volume.new }
-    ensures none { WhereNone volume.old result (list_all (λ e. names_a_root dbd.now (links_of dbd.now.types volume.old) e) (entries (root_key_length dbd.now.types) volume.old) ≡ true) }
+    ensures none { WhereNone volume.old result (list_all (λ e. names_a_root dbd.now (links_of dbd.now.types volume.old) e) (index_entries (root_key_length dbd.now.types) volume.old) ≡ true) }
     ensures named { WhereNone volume.old result (AreNamed (root_key_length dbd.now.types) volume.old named.new.items) }
     ensures some { WhereSome volume.old result (λ f. IsLeastOf dbd.now volume.old 12 f) }
     ensures refusal { OnlyDeviceOrMemory result }
 {
     let size = volume.block_size() as u32;
     for block in blocks {
-        match wrong_entry(named, places, volume, dbd, block.number)? {
+        match wrong_entry(named, places, volume, dbd, *block)? {
             None => {}
             Some(address) => {
                 return Ok(Some(Fault::at(
                     Line::WrongEntry,
-                    block_address(block.number, size),
+                    block_address(*block, size),
                     address,
                 )));
             }

@@ -11,7 +11,7 @@ use Rattle.hd_links.proofs.Types.{AllAbove, ordered}
 use Rattle.hd_image.specs.Records.{links_of, IsVolumeOf}
 use Rattle.hd_image.specs.Standing.{Stands, phase_of, number_of, ComesBefore}
 use Rattle.hd_image.specs.declared.line.Line.{Line}
-use Rattle.hd_image.specs.declared.line.Line.TheVariants.{NoVolume, NoVersion, AnotherDatabase, WrongChain, WrongPlace, NoKind, Deleted, NamesNothing, NamesAnother, TwoPredecessors, NoPredecessor, WrongBackward, WrongLast, OutOfOrder, NotReached, WrongTop, WrongForm, NamedTwice, UnreachedBlock, EntryOutOfOrder, WrongEntry, NoEntry}
+use Rattle.hd_image.specs.declared.line.Line.TheVariants.{NoVolume, NoVersion, AnotherDatabase, WrongChain, WrongPlace, NoKind, Deleted, NamesNothing, NamesAnother, TwoPredecessors, NoPredecessor, WrongBackward, WrongLast, OutOfOrder, NotReached, WrongTop, WrongForm, NamedTwice, UnreachedBlock, WrongNext, EntryOutOfOrder, WrongEntry, NoEntry}
 use Rattle.hd_image.proofs.Roots.{header-code}
 use Rattle.hd_check_blocks.specs.declared.fault.Fault.{Fault}
 use Rattle.hd_check_blocks.specs.declared.places.Place.{Place}
@@ -119,6 +119,7 @@ fourth-lines P a b WrongTop h = absurd (omega arith)
 fourth-lines P a b WrongForm h = absurd (omega arith)
 fourth-lines P a b NamedTwice h = absurd (omega arith)
 fourth-lines P a b UnreachedBlock h = absurd (omega arith)
+fourth-lines P a b WrongNext h = absurd (omega arith)
 fourth-lines P a b EntryOutOfOrder h = absurd (omega arith)
 fourth-lines P a b WrongEntry h = absurd (omega arith)
 fourth-lines P a b NoEntry h = absurd (omega arith)

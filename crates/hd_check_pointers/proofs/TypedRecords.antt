@@ -14,7 +14,7 @@ use Rattle.hd_image.specs.Records.{links_of}
 use Rattle.hd_image.specs.PointerFaults.{Named, child_pointers, twin_pointers, pointers_of, names_none, names_another}
 use Rattle.hd_image.specs.Standing.{Stands, phase_of, number_of, ComesBefore}
 use Rattle.hd_image.specs.declared.line.Line.{Line}
-use Rattle.hd_image.specs.declared.line.Line.TheVariants.{NoVolume, NoVersion, AnotherDatabase, WrongChain, WrongPlace, NoKind, Deleted, NamesNothing, NamesAnother, TwoPredecessors, NoPredecessor, WrongBackward, WrongLast, OutOfOrder, NotReached, WrongTop, WrongForm, NamedTwice, UnreachedBlock, EntryOutOfOrder, WrongEntry, NoEntry}
+use Rattle.hd_image.specs.declared.line.Line.TheVariants.{NoVolume, NoVersion, AnotherDatabase, WrongChain, WrongPlace, NoKind, Deleted, NamesNothing, NamesAnother, TwoPredecessors, NoPredecessor, WrongBackward, WrongLast, OutOfOrder, NotReached, WrongTop, WrongForm, NamedTwice, UnreachedBlock, WrongNext, EntryOutOfOrder, WrongEntry, NoEntry}
 use Rattle.hd_check_blocks.specs.declared.fault.Fault.{Fault}
 use Rattle.hd_check_blocks.specs.Phases.{IsLeastOf}
 use Rattle.hd_check_pointers.specs.Judging.{first_wrong, wrong_among, IsRecordRight, IsWrongRecord}
@@ -181,6 +181,7 @@ third-lines P a b c WrongTop h = absurd (omega arith)
 third-lines P a b c WrongForm h = absurd (omega arith)
 third-lines P a b c NamedTwice h = absurd (omega arith)
 third-lines P a b c UnreachedBlock h = absurd (omega arith)
+third-lines P a b c WrongNext h = absurd (omega arith)
 third-lines P a b c EntryOutOfOrder h = absurd (omega arith)
 third-lines P a b c WrongEntry h = absurd (omega arith)
 third-lines P a b c NoEntry h = absurd (omega arith)

@@ -9,8 +9,10 @@ use Rattle.hd_dbd.specs.Rows.{key_of}
 use Rattle.hd_dbd.specs.Forest.{Forest}
 use Rattle.hd_volume.specs.Headers.{HasHeader}
 use Rattle.hd_volume.specs.Volumes.{VolumeState}
-use Rattle.hd_volume.specs.Entries.{Entry, entry_blocks, entries}
+use Rattle.hd_volume.specs.Entries.{Entry}
 use Rattle.hd_volume.specs.Indexes.{root_key_length}
+use Rattle.hd_levels.specs.IndexSets.{sequence_blocks, index_entries}
+use Rattle.hd_levels.proofs.Volumes.{entries-below}
 use Rattle.hd_links.specs.Links.{Links, IsLinkGraph, segment_at}
 use Rattle.hd_links.specs.Placed.{Placed, nowhere}
 use Rattle.hd_links.specs.Pointers.{AreLinked}
@@ -24,7 +26,7 @@ use Rattle.hd_image.specs.BlockFaults.{IsNoVolume, IsOfAnother, IsOfNoKind}
 use Rattle.hd_image.specs.IndexFaults.{names_a_root, HasWrongEntry, HasNoEntry}
 use Rattle.hd_image.specs.Standing.{Stands}
 use Rattle.hd_image.specs.declared.line.Line.{Line}
-use Rattle.hd_image.specs.declared.line.Line.TheVariants.{NoVolume, NoVersion, AnotherDatabase, WrongChain, WrongPlace, NoKind, Deleted, NamesNothing, NamesAnother, TwoPredecessors, NoPredecessor, WrongBackward, WrongLast, OutOfOrder, NotReached, WrongTop, WrongForm, NamedTwice, UnreachedBlock, EntryOutOfOrder, WrongEntry, NoEntry}
+use Rattle.hd_image.specs.declared.line.Line.TheVariants.{NoVolume, NoVersion, AnotherDatabase, WrongChain, WrongPlace, NoKind, Deleted, NamesNothing, NamesAnother, TwoPredecessors, NoPredecessor, WrongBackward, WrongLast, OutOfOrder, NotReached, WrongTop, WrongForm, NamedTwice, UnreachedBlock, WrongNext, EntryOutOfOrder, WrongEntry, NoEntry}
 use Rattle.hd_image.specs.Exact.{HeldForestsHaveNoFault}
 use Rattle.hd_image.proofs.Found.{records-link}
 use Rattle.hd_image.proofs.Sorted.{IsIn}
@@ -80,9 +82,13 @@ module _ (d : Database) (v : VolumeState) (f : Forest Placed) (fit : IsDatabase 
     | inr (inr k) ↦ n.5 k.kind_is
   ]
 
+  -- the entries are those of the roots
+  own-entries : index_entries (root_key_length d.types) v ≡ root_entries d.types f
+  own-entries = (entries-below (root_key_length d.types) v).0 h.index.version ∙ h.entries
+
   -- each entry names a root of its key
-  names-all : list_all (λ e. names_a_root d m e) (entries (root_key_length d.types) v) ≡ true
-  names-all = ap (list_all (λ e. names_a_root d m e)) h.entries ∙ all-of-each (λ e. names_a_root d m e) (root_entries d.types f)
+  names-all : list_all (λ e. names_a_root d m e) (index_entries (root_key_length d.types) v) ≡ true
+  names-all = ap (list_all (λ e. names_a_root d m e)) own-entries ∙ all-of-each (λ e. names_a_root d m e) (root_entries d.types f)
       (λ e i.
       let n = names-root d.block_size d.frspc d.types order (length v.image) m graph fit nowhere f e h.records.lies.nodes shape i in
       let some : not (e.address == 0) ≡ true = (let s = n.0.some in ap not (ne_eqb e.address 0 (λ z. omega arith))) in
@@ -90,15 +96,15 @@ module _ (d : Database) (v : VolumeState) (f : Forest Placed) (fit : IsDatabase 
 
   -- no entry names another thing
   none-wrong-entry : (a x : ℕ) → HasWrongEntry d v a x → ⊥
-  none-wrong-entry a x w = index.none-found (λ e. names_a_root d m e) (root_key_length d.types) v (entry_blocks v) w.0 x names-all w.1 w.2
+  none-wrong-entry a x w = index.none-found (λ e. names_a_root d m e) (root_key_length d.types) v (sequence_blocks (root_key_length d.types) v) w.0 x names-all w.1 w.2
 
   -- no root is without an entry
   none-without : (a x : ℕ) → HasNoEntry d v a x → ⊥
   none-without a x n =
       let once = h.records.once a n.0 in
       let entry = each-root d.block_size d.frspc d.types order (length v.image) m graph fit a nowhere f h.records.lies.nodes shape (omega arith) n.1 in
-      let found : list_any (λ e. e.address == a) (entries (root_key_length d.types) v) ≡ true =
-      ap (list_any (λ (e : Entry). e.address == a)) h.entries ∙ any-of a (record { key = key_of d.types (segment_at m a); address = a }) (root_entries d.types f) refl entry in
+      let found : list_any (λ e. e.address == a) (index_entries (root_key_length d.types) v) ≡ true =
+      ap (list_any (λ (e : Entry). e.address == a)) own-entries ∙ any-of a (record { key = key_of d.types (segment_at m a); address = a }) (root_entries d.types f) refl entry in
       false≢true (sym n.2 ∙ found)
 
   -- line by line
@@ -118,11 +124,12 @@ module _ (d : Database) (v : VolumeState) (f : Forest Placed) (fit : IsDatabase 
   none WrongLast a x s = pointer.none-last d.types m linked.back a x s
   none OutOfOrder a x s = pointer.none-order d.types m linked.keys a x s
   none NotReached a x s = pointer.none-unreached d.types m linked.reached a x s
-  none WrongTop a x s = index.none-wrong-top (root_key_length d.types) v h.index a x s
-  none WrongForm a x s = index.none-wrong-form (root_key_length d.types) v h.index a x s
-  none NamedTwice a x s = index.none-twice (root_key_length d.types) v h.index a x s
-  none UnreachedBlock a x s = index.none-unreached (root_key_length d.types) v h.index a x s
-  none EntryOutOfOrder a x s = index.none-out-of-order (root_key_length d.types) v h.index a x s
+  none WrongTop a x s = elim s [ inl t ↦ index.none-wrong-top (root_key_length d.types) v h.index a x t.1 | inr t ↦ t.0 h.index.version ]
+  none WrongForm a x s = elim s [ inl t ↦ index.none-wrong-form (root_key_length d.types) v h.index a x t.1 | inr t ↦ t.0 h.index.version ]
+  none NamedTwice a x s = elim s [ inl t ↦ index.none-twice (root_key_length d.types) v h.index a x t.1 | inr t ↦ t.0 h.index.version ]
+  none UnreachedBlock a x s = elim s [ inl t ↦ index.none-unreached (root_key_length d.types) v h.index a x t.1 | inr t ↦ t.0 h.index.version ]
+  none WrongNext a x s = elim s [ inl t ↦ t.1 | inr t ↦ t.0 h.index.version ]
+  none EntryOutOfOrder a x s = elim s [ inl t ↦ index.none-out-of-order (root_key_length d.types) v h.index a x t.1 | inr t ↦ t.0 h.index.version ]
   none WrongEntry a x s = none-wrong-entry a x s
   none NoEntry a x s = none-without a x s
 

@@ -1,6 +1,7 @@
 -- What can be wrong with the index of a volume whose segments are right: one word for each line of the fault table, with
 -- where the fault stands and what else it names, 0 where it names nothing. Each phase supposes that no earlier fault stands.
--- The index is of version 1: at most one level.
+-- In version 1 the index is one chain of blocks, and its lines of phases 8 to 11 stand here; those of an index set, from version 2 on, stand with
+-- its levels. What the entries name is told of each version alike.
 use Rattle.std.specs.Prelude.{◌≡◌, ◌≢◌, ◌⊎◌, ℕ, ◌*◌, ◌<◌, List, [], ◌∷◌, ◌++◌, Bool, false, not, cond, ◌&&◌, ◌==◌, Option, Some, None, option_map, find, bytes_eq, slice_index}
 use Rattle.std.specs.Option.{option_map_or}
 use Rattle.std.specs.List.{list_any}
@@ -9,10 +10,15 @@ use Rattle.hd_dbd.specs.Hierarchy.{Database}
 use Rattle.hd_dbd.specs.Rows.{key_of}
 use Rattle.hd_volume.specs.Headers.{header_of}
 use Rattle.hd_volume.specs.Volumes.{VolumeState, block_at, IsKind}
-use Rattle.hd_volume.specs.Entries.{Entry, entry_blocks, entries_in, entries_of, entries}
+use Rattle.hd_volume.specs.Entries.{Entry, entry_blocks, entries_in, entries_of}
 use Rattle.hd_volume.specs.Indexes.{root_key_length, entry_room, IsAmong, key_less}
+use Rattle.hd_levels.specs.IndexSets.{sequence_blocks, index_entries}
 use Rattle.hd_links.specs.Links.{Links, IsSegment, segment_at}
 use Rattle.hd_image.specs.Records.{links_of}
+
+-- one thing of a volume of version 1, whose index is a chain, and another of a later one, whose index is an index set
+abbrev pub ByVersion : VolumeState → Type 0 → Type 0 → Type 0
+ByVersion v chain set = (((header_of v.image).version ≡ 1) × chain) ⊎ (((header_of v.image).version ≢ 1) × set)
 
 -- ---- phase 8: the form of the blocks
 
@@ -53,7 +59,7 @@ IsNamedTwice v address other =
 abbrev pub IsUnreachedBlock : VolumeState → ℕ → ℕ → Type 0
 IsUnreachedBlock v address other = (n : ℕ) × IsKind v 2 n × (IsAmong n (entry_blocks v) → ⊥) × (address ≡ n * v.size) × (other ≡ 0)
 
--- ---- phases 11 and 12: the entries
+-- ---- phases 11 to 13: the entries
 
 -- the last of some entries, or else the one given
 abbrev pub last_entry : Option Entry → List Entry → Option Entry
@@ -79,14 +85,12 @@ names_a_root d m e = not (e.address == 0) && m.here e.address && m.code e.addres
 -- 17: of a block an entry names no root of its key, the leftmost such entry
 abbrev pub HasWrongEntry : Database → VolumeState → ℕ → ℕ → Type 0
 HasWrongEntry d v address other =
-    (n : ℕ) × IsAmong n (entry_blocks v)
+    (n : ℕ) × IsAmong n (sequence_blocks (root_key_length d.types) v)
     × (option_map (λ e. e.address) (find (λ e. not (names_a_root d (links_of d.types v) e)) (entries_in (root_key_length d.types) (block_at v n))) ≡ Some other)
     × (address ≡ n * v.size)
-
--- ---- phase 13: the roots
 
 -- 18: no entry names a root
 abbrev pub HasNoEntry : Database → VolumeState → ℕ → ℕ → Type 0
 HasNoEntry d v a other =
     IsSegment (links_of d.types v) a × ((links_of d.types v).code a ≡ 1)
-    × (list_any (λ e. e.address == a) (entries (root_key_length d.types) v) ≡ false) × (other ≡ 0)
+    × (list_any (λ e. e.address == a) (index_entries (root_key_length d.types) v) ≡ false) × (other ≡ 0)

@@ -7,10 +7,13 @@ use Rattle.hd_volume.specs.Headers.{IsOf, HasHeader, header_of}
 use Rattle.hd_volume.specs.Volumes.{VolumeState, block_at, IsKind, HasExtents, HasKinds}
 use Rattle.hd_volume.specs.Entries.{entry_blocks, entries}
 use Rattle.hd_volume.specs.Indexes.{root_key_length, IsChain, IsAmong, keys_ascend}
+use Rattle.hd_levels.specs.Chains.{AreLevelsLinked}
+use Rattle.hd_levels.specs.IndexSets.{next_in, index_blocks, top_blocks, top_level, index_entries}
+use Rattle.hd_levels.specs.Faultless.{AreFormsRight, AreNamedOnce, AreAllReached, AreKeysRight}
 use Rattle.hd_links.specs.Links.{IsSegment}
 use Rattle.hd_links.specs.Pointers.{AreLinked}
 use Rattle.hd_image.specs.Records.{links_of}
-use Rattle.hd_image.specs.IndexFaults.{names_a_root}
+use Rattle.hd_image.specs.IndexFaults.{ByVersion, names_a_root}
 
 -- the volume was loaded for the database: its blocks and segments have the database's sizes
 pub record IsSizedFor (d : Database) (v : VolumeState) : Type 0 where
@@ -25,17 +28,36 @@ pub record BlocksAreRight (d : Database) (v : VolumeState) : Type 0 where
   pub kinds : HasKinds v
 
 -- Top and height are both 0, or name a chain of index blocks that ends, and no other block is an index block.
-pub record IndexIsFormed (key_length : ℕ) (v : VolumeState) : Type 0 where
+pub record ChainIsFormed (key_length : ℕ) (v : VolumeState) : Type 0 where
   pub height : (((header_of v.image).top ≡ 0) × ((header_of v.image).height ≡ 0)) ⊎ ((0 < (header_of v.image).top) × ((header_of v.image).height ≡ 1))
   pub chain : IsChain key_length v (header_of v.image).top (entry_blocks v)
   pub reached : (n : ℕ) → IsKind v 2 n → IsAmong n (entry_blocks v)
 
--- The keys of the entries ascend, each entry names a root of its key, and each root has one.
+-- Each index block is right by itself, is named once, and is reached from the top.
+pub record SetIsFormed (key_length : ℕ) (v : VolumeState) : Type 0 where
+  pub forms : AreFormsRight key_length v
+  pub once : AreNamedOnce key_length v
+  pub reached : AreAllReached key_length v
+
+-- The blocks of the index are right.
+abbrev pub IndexIsFormed : ℕ → VolumeState → Type 0
+IndexIsFormed key_length v = ByVersion v (ChainIsFormed key_length v) (SetIsFormed key_length v)
+
+-- Each level is a chain from left to right, its keys ascend, and upper keys keep their bounds.
+pub record LevelsAreInOrder (key_length : ℕ) (v : VolumeState) : Type 0 where
+  pub next : AreLevelsLinked (index_blocks key_length v) (next_in v) (top_level v) (top_blocks v)
+  pub keys : AreKeysRight (index_blocks key_length v) (top_level v) (top_blocks v)
+
+-- The keys of the index are in order.
+abbrev pub IndexIsInOrder : ℕ → VolumeState → Type 0
+IndexIsInOrder key_length v = ByVersion v (keys_ascend (entries key_length v) ≡ true) (LevelsAreInOrder key_length v)
+
+-- The keys of the index are in order, each entry names a root of its key, and each root has one.
 pub record EntriesAreRight (d : Database) (v : VolumeState) : Type 0 where
-  pub ascend : keys_ascend (entries (root_key_length d.types) v) ≡ true
-  pub name : list_all (λ e. names_a_root d (links_of d.types v) e) (entries (root_key_length d.types) v) ≡ true
+  pub order : IndexIsInOrder (root_key_length d.types) v
+  pub name : list_all (λ e. names_a_root d (links_of d.types v) e) (index_entries (root_key_length d.types) v) ≡ true
   pub each : (a : ℕ) → IsSegment (links_of d.types v) a → (links_of d.types v).code a ≡ 1
-      → list_any (λ e. e.address == a) (entries (root_key_length d.types) v) ≡ true
+      → list_any (λ e. e.address == a) (index_entries (root_key_length d.types) v) ≡ true
 
 -- Nothing is wrong with the volume: not with its blocks, its pointers, its index or its entries.
 pub record IsRight (d : Database) (v : VolumeState) : Type 0 where

@@ -6,9 +6,10 @@ use Rattle.hd_volume.specs.Indexes.{root_key_length}
 use Rattle.hd_image.specs.Records.{links_of}
 use Rattle.hd_image.specs.BlockFaults.{IsNoVolume, IsOfNoVersion, IsOfAnother, IsWrongChain, IsWrongPlace, IsOfNoKind}
 use Rattle.hd_image.specs.PointerFaults.{IsDeleted, PointsNowhere, PointsToAnother, HasTwoPredecessors, HasNoPredecessor, IsWrongBackward, HasWrongLast, IsOutOfOrder, IsNotReached}
-use Rattle.hd_image.specs.IndexFaults.{IsWrongTop, IsWrongForm, IsNamedTwice, IsUnreachedBlock, HasEntryOutOfOrder, HasWrongEntry, HasNoEntry}
+use Rattle.hd_levels.specs.LevelFaults as level
+use Rattle.hd_image.specs.IndexFaults.{ByVersion, IsWrongTop, IsWrongForm, IsNamedTwice, IsUnreachedBlock, HasEntryOutOfOrder, HasWrongEntry, HasNoEntry}
 use Rattle.hd_image.specs.declared.line.Line.{Line}
-use Rattle.hd_image.specs.declared.line.Line.TheVariants.{NoVolume, NoVersion, AnotherDatabase, WrongChain, WrongPlace, NoKind, Deleted, NamesNothing, NamesAnother, TwoPredecessors, NoPredecessor, WrongBackward, WrongLast, OutOfOrder, NotReached, WrongTop, WrongForm, NamedTwice, UnreachedBlock, EntryOutOfOrder, WrongEntry, NoEntry}
+use Rattle.hd_image.specs.declared.line.Line.TheVariants.{NoVolume, NoVersion, AnotherDatabase, WrongChain, WrongPlace, NoKind, Deleted, NamesNothing, NamesAnother, TwoPredecessors, NoPredecessor, WrongBackward, WrongLast, OutOfOrder, NotReached, WrongTop, WrongForm, NamedTwice, UnreachedBlock, WrongNext, EntryOutOfOrder, WrongEntry, NoEntry}
 
 -- the phase of a line
 abbrev pub phase_of : Line → ℕ
@@ -31,6 +32,7 @@ phase_of WrongTop = 8
 phase_of WrongForm = 8
 phase_of NamedTwice = 9
 phase_of UnreachedBlock = 10
+phase_of WrongNext = 11
 phase_of EntryOutOfOrder = 11
 phase_of WrongEntry = 12
 phase_of NoEntry = 13
@@ -56,6 +58,7 @@ number_of WrongTop address = 15
 number_of WrongForm address = 15
 number_of NamedTwice address = 15
 number_of UnreachedBlock address = 19
+number_of WrongNext address = 15
 number_of EntryOutOfOrder address = 16
 number_of WrongEntry address = 17
 number_of NoEntry address = 18
@@ -77,11 +80,12 @@ Stands d v WrongBackward address other = IsWrongBackward d.types (links_of d.typ
 Stands d v WrongLast address other = HasWrongLast d.types (links_of d.types v) address other
 Stands d v OutOfOrder address other = IsOutOfOrder d.types (links_of d.types v) address other
 Stands d v NotReached address other = IsNotReached d.types (links_of d.types v) address other
-Stands d v WrongTop address other = IsWrongTop v address other
-Stands d v WrongForm address other = IsWrongForm (root_key_length d.types) v address other
-Stands d v NamedTwice address other = IsNamedTwice v address other
-Stands d v UnreachedBlock address other = IsUnreachedBlock v address other
-Stands d v EntryOutOfOrder address other = HasEntryOutOfOrder (root_key_length d.types) v address other
+Stands d v WrongTop address other = ByVersion v (IsWrongTop v address other) (level.IsWrongTop v address other)
+Stands d v WrongForm address other = ByVersion v (IsWrongForm (root_key_length d.types) v address other) (level.IsWrongForm (root_key_length d.types) v address other)
+Stands d v NamedTwice address other = ByVersion v (IsNamedTwice v address other) (level.IsNamedTwice (root_key_length d.types) v address other)
+Stands d v UnreachedBlock address other = ByVersion v (IsUnreachedBlock v address other) (level.IsUnreachedBlock (root_key_length d.types) v address other)
+Stands d v WrongNext address other = ByVersion v ⊥ (level.IsWrongNext (root_key_length d.types) v address other)
+Stands d v EntryOutOfOrder address other = ByVersion v (HasEntryOutOfOrder (root_key_length d.types) v address other) (level.HasEntryOutOfOrder (root_key_length d.types) v address other)
 Stands d v WrongEntry address other = HasWrongEntry d v address other
 Stands d v NoEntry address other = HasNoEntry d v address other
 

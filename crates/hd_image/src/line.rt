@@ -42,7 +42,9 @@ pub enum Line {
     NamedTwice,
     /// An index block that is not reached from the top block.
     UnreachedBlock,
-    /// An entry's key is not above the one to its left.
+    /// An index block whose next one is not the one that follows on its level.
+    WrongNext,
+    /// An entry's key is not above the one to its left, or an upper key breaks its bounds.
     EntryOutOfOrder,
     /// An entry that names no root of its key.
     WrongEntry,
@@ -76,6 +78,7 @@ impl Line {
             Line::WrongForm => 15,
             Line::NamedTwice => 15,
             Line::UnreachedBlock => 19,
+            Line::WrongNext => 15,
             Line::EntryOutOfOrder => 16,
             Line::WrongEntry => 17,
             Line::NoEntry => 18,

@@ -1,156 +1,59 @@
 use Rattle.std.proofs.Common.{◌≡◌, IsTrue, Ok, ℕ, List, sym, subst, ◌∙◌}
-use Rattle.hd_bytes.specs.Blocks.{HasBlock}
 use Rattle.hd_dbd.specs.Hierarchy.{Database}
-use Rattle.hd_volume.specs.Headers.{header_of}
 use Rattle.hd_volume.specs.Volumes.{VolumeState}
-use Rattle.hd_volume.specs.Entries.{entry_blocks}
 use Rattle.hd_volume.specs.Indexes.{root_key_length}
 use Rattle.hd_volume.proofs.CallSteps.{if-ok}
 use Rattle.hd_volume.proofs.PutLemmas.{if-none-map}
-use Rattle.hd_image.specs.Right.{IndexIsFormed, EntriesAreRight}
-use Rattle.hd_check_index.specs.declared.noted_blocks.NotedBlock.{NotedBlock}
-use Rattle.hd_check_index.specs.IndexPhases.{AreIndexBlocks, IsIndexRight, AreNamedOnce}
+use Rattle.hd_image.specs.Right.{IndexIsFormed, IndexIsInOrder}
+use Rattle.hd_check_index.specs.IndexPhases.{IsSequence}
 use Rattle.hd_check.specs.Joining.{NoneBefore, HasRightBlocks}
 use Rattle.hd_check_pointers.proofs.RecordSteps.{from-none}
-use Rattle.hd_check.proofs.OneStore.{IsOne, turned, right-same, formed-same, table-same, bearers-same, entries-same}
-use Rattle.hd_check.proofs.EarlierFaults.{none-9, none-10, none-11}
-use Rattle.hd_check.proofs.Joined.{still-sound, was-sound, read-one, carried, found-here, firsts-same, none-same, header-says}
+use Rattle.hd_check.proofs.OneStore.{IsOne, turned, right-same, sequence-same, names-right-same}
+use Rattle.hd_check.proofs.EarlierFaults.{none-12}
+use Rattle.hd_check.proofs.Joined.{still-sound, was-sound, read-one, firsts-same, none-same}
 use Rattle.hd_check.proofs.phases.index_fault.Goals as goal
 
-pub returns-then-is_some-clause-some : goal.returns-then-is_some-clause-some
-returns-then-is_some-clause-some g c = λ sound. found-here c.args.dbd.now c.args.volume.now 8 c.in_ok-found.found (c.requires.before sound) (c.in_ok-found.ensures.some sound)
+pub chain_fault-requires-clause-of : goal.chain_fault-requires-clause-of
+chain_fault-requires-clause-of g c = λ sound. (c.requires.right sound).volume
 
-pub returns-then-is_some-2-clause-some : goal.returns-then-is_some-2-clause-some
-returns-then-is_some-2-clause-some g c = λ sound.
-    let d : Database = c.args.dbd.now in
-    let v : VolumeState = c.args.volume.now in
-    let w : VolumeState = c.block_forms_fault.new.volume in
-    let k : ℕ = root_key_length d.types in
-    let e : IsOne v w = read-one c.in_ok-found.ensures.read sound in
-    let R : HasRightBlocks d v c.args.places.now = c.requires.right sound in
-    let top = header-says (λ h. h.top) v w c.top-top.result e R.volume.formatted.header.first (still-sound c.in_ok-found.ensures.read sound) c.top-top.ensures in
-    let is-none = sym c.is_some.ensures ∙ c.if-is_some.false in
-    let right : IsIndexRight k v = from-none c.in_ok-found.found is-none (c.in_ok-found.ensures.none sound) in
-    let all : AreIndexBlocks v c.block_forms_fault.new.blocks.items = from-none c.in_ok-found.found is-none (c.in_ok-found.ensures.blocks sound) in
-    let table : AreIndexBlocks v c.deref.result.now = subst (λ (l : List NotedBlock). AreIndexBlocks v l) (sym c.deref.ensures.value) all in
-    let size = c.block_size-size.ensures.value ∙ e.size in
-    found-here d v 9 c.in_ok-found-2.found (none-9 d v (c.requires.before sound) right) (c.in_ok-found-2.ensures.some d v table top right R.volume size)
-
-pub returns-then-is_some-3-clause-some : goal.returns-then-is_some-3-clause-some
-returns-then-is_some-3-clause-some g c = λ sound.
-    let d : Database = c.args.dbd.now in
-    let v : VolumeState = c.args.volume.now in
-    let w : VolumeState = c.block_forms_fault.new.volume in
-    let k : ℕ = root_key_length d.types in
-    let e : IsOne v w = read-one c.in_ok-found.ensures.read sound in
-    let R : HasRightBlocks d v c.args.places.now = c.requires.right sound in
-    let top = header-says (λ h. h.top) v w c.top-top.result e R.volume.formatted.header.first (still-sound c.in_ok-found.ensures.read sound) c.top-top.ensures in
-    let is-none = sym c.is_some.ensures ∙ c.if-is_some.false in
-    let right : IsIndexRight k v = from-none c.in_ok-found.found is-none (c.in_ok-found.ensures.none sound) in
-    let all : AreIndexBlocks v c.block_forms_fault.new.blocks.items = from-none c.in_ok-found.found is-none (c.in_ok-found.ensures.blocks sound) in
-    let table : AreIndexBlocks v c.deref.result.now = subst (λ (l : List NotedBlock). AreIndexBlocks v l) (sym c.deref.ensures.value) all in
-    let size = c.block_size-size.ensures.value ∙ e.size in
-    let once : AreNamedOnce v = from-none c.in_ok-found-2.found (sym c.is_some-2.ensures ∙ c.if-is_some-2.false) (c.in_ok-found-2.ensures.none d v table top right R.volume) in
-    let table-2 : AreIndexBlocks v c.deref-2.result.now = subst (λ (l : List NotedBlock). AreIndexBlocks v l) (sym c.deref-2.ensures.value) all in
-    found-here d v 10 c.in_ok-found-3.found (none-10 d v (none-9 d v (c.requires.before sound) right) once) (c.in_ok-found-3.ensures.some d v table-2 top right once R.volume size)
+pub chain_fault-requires-clause-version : goal.chain_fault-requires-clause-version
+chain_fault-requires-clause-version g c = λ sound. (c.requires.right sound).blocks.known.version_is
 
 pub entries_fault-requires-clause-right : goal.entries_fault-requires-clause-right
 entries_fault-requires-clause-right g c = λ now.
-    let d : Database = c.args.dbd.now in
-    let v : VolumeState = c.args.volume.now in
-    let w : VolumeState = c.block_forms_fault.new.volume in
-    let k : ℕ = root_key_length d.types in
     let sound = was-sound c.in_ok-found.ensures.read now in
-    right-same v w (read-one c.in_ok-found.ensures.read sound) d c.args.places.now (c.requires.right sound)
+    right-same c.args.volume.now c.chain_fault.new.volume (read-one c.in_ok-found.ensures.read sound) c.args.dbd.now c.args.places.now (c.requires.right sound)
 
-pub entries_fault-requires-clause-formed : goal.entries_fault-requires-clause-formed
-entries_fault-requires-clause-formed g c = λ now.
-    let d : Database = c.args.dbd.now in
+pub entries_fault-requires-clause-sequence : goal.entries_fault-requires-clause-sequence
+entries_fault-requires-clause-sequence g c = λ now.
     let v : VolumeState = c.args.volume.now in
-    let w : VolumeState = c.block_forms_fault.new.volume in
-    let k : ℕ = root_key_length d.types in
+    let w : VolumeState = c.chain_fault.new.volume in
+    let k : ℕ = root_key_length c.args.dbd.now.types in
     let sound = was-sound c.in_ok-found.ensures.read now in
-    let e : IsOne v w = read-one c.in_ok-found.ensures.read sound in
-    let R : HasRightBlocks d v c.args.places.now = c.requires.right sound in
-    let top = header-says (λ h. h.top) v w c.top-top.result e R.volume.formatted.header.first (still-sound c.in_ok-found.ensures.read sound) c.top-top.ensures in
-    let is-none = sym c.is_some.ensures ∙ c.if-is_some.false in
-    let right : IsIndexRight k v = from-none c.in_ok-found.found is-none (c.in_ok-found.ensures.none sound) in
-    let all : AreIndexBlocks v c.block_forms_fault.new.blocks.items = from-none c.in_ok-found.found is-none (c.in_ok-found.ensures.blocks sound) in
-    let table : AreIndexBlocks v c.deref.result.now = subst (λ (l : List NotedBlock). AreIndexBlocks v l) (sym c.deref.ensures.value) all in
-    let once : AreNamedOnce v = from-none c.in_ok-found-2.found (sym c.is_some-2.ensures ∙ c.if-is_some-2.false) (c.in_ok-found-2.ensures.none d v table top right R.volume) in
-    let table-2 : AreIndexBlocks v c.deref-2.result.now = subst (λ (l : List NotedBlock). AreIndexBlocks v l) (sym c.deref-2.ensures.value) all in
-    let formed : IndexIsFormed k v = from-none c.in_ok-found-3.found (sym c.is_some-3.ensures ∙ c.if-is_some-3.false) (c.in_ok-found-3.ensures.none d v table-2 top right once R.volume) in
-    formed-same v w e k formed
-
-pub entries_fault-requires-clause-blocks : goal.entries_fault-requires-clause-blocks
-entries_fault-requires-clause-blocks g c = λ now.
-    let d : Database = c.args.dbd.now in
-    let v : VolumeState = c.args.volume.now in
-    let w : VolumeState = c.block_forms_fault.new.volume in
-    let k : ℕ = root_key_length d.types in
-    let sound = was-sound c.in_ok-found.ensures.read now in
-    let e : IsOne v w = read-one c.in_ok-found.ensures.read sound in
-    let all : AreIndexBlocks v c.block_forms_fault.new.blocks.items = from-none c.in_ok-found.found (sym c.is_some.ensures ∙ c.if-is_some.false) (c.in_ok-found.ensures.blocks sound) in
-    table-same v w e c.deref-3.result.now (subst (λ (l : List NotedBlock). AreIndexBlocks v l) (sym c.deref-3.ensures.value) all)
-
-pub entries_fault-requires-clause-chain : goal.entries_fault-requires-clause-chain
-entries_fault-requires-clause-chain g c = λ now.
-    let d : Database = c.args.dbd.now in
-    let v : VolumeState = c.args.volume.now in
-    let w : VolumeState = c.block_forms_fault.new.volume in
-    let k : ℕ = root_key_length d.types in
-    let sound = was-sound c.in_ok-found.ensures.read now in
-    let e : IsOne v w = read-one c.in_ok-found.ensures.read sound in
-    let R : HasRightBlocks d v c.args.places.now = c.requires.right sound in
-    let top = header-says (λ h. h.top) v w c.top-top.result e R.volume.formatted.header.first (still-sound c.in_ok-found.ensures.read sound) c.top-top.ensures in
-    let is-none = sym c.is_some.ensures ∙ c.if-is_some.false in
-    let right : IsIndexRight k v = from-none c.in_ok-found.found is-none (c.in_ok-found.ensures.none sound) in
-    let all : AreIndexBlocks v c.block_forms_fault.new.blocks.items = from-none c.in_ok-found.found is-none (c.in_ok-found.ensures.blocks sound) in
-    let table : AreIndexBlocks v c.deref.result.now = subst (λ (l : List NotedBlock). AreIndexBlocks v l) (sym c.deref.ensures.value) all in
-    let once : AreNamedOnce v = from-none c.in_ok-found-2.found (sym c.is_some-2.ensures ∙ c.if-is_some-2.false) (c.in_ok-found-2.ensures.none d v table top right R.volume) in
-    let table-2 : AreIndexBlocks v c.deref-2.result.now = subst (λ (l : List NotedBlock). AreIndexBlocks v l) (sym c.deref-2.ensures.value) all in
-    let chain : c.unreached_block_fault.new.chain.items ≡ entry_blocks v = from-none c.in_ok-found-3.found (sym c.is_some-3.ensures ∙ c.if-is_some-3.false) (c.in_ok-found-3.ensures.chain d v table-2 top right once R.volume) in
-    c.deref-4.ensures.value ∙ chain ∙ sym (bearers-same v w e)
+    let all : IsSequence k v c.chain_fault.new.chain.items = from-none c.in_ok-found.found (sym c.is_some.ensures ∙ c.if-is_some.false) (c.in_ok-found.ensures.sequence sound) in
+    sequence-same v w (read-one c.in_ok-found.ensures.read sound) k c.deref.result.now (subst (λ (l : List ℕ). IsSequence k v l) (sym c.deref.ensures.value) all)
 
 pub entries_fault-requires-clause-before : goal.entries_fault-requires-clause-before
 entries_fault-requires-clause-before g c = λ now.
     let d : Database = c.args.dbd.now in
     let v : VolumeState = c.args.volume.now in
-    let w : VolumeState = c.block_forms_fault.new.volume in
-    let k : ℕ = root_key_length d.types in
+    let w : VolumeState = c.chain_fault.new.volume in
     let sound = was-sound c.in_ok-found.ensures.read now in
-    let e : IsOne v w = read-one c.in_ok-found.ensures.read sound in
     let R : HasRightBlocks d v c.args.places.now = c.requires.right sound in
-    let top = header-says (λ h. h.top) v w c.top-top.result e R.volume.formatted.header.first (still-sound c.in_ok-found.ensures.read sound) c.top-top.ensures in
-    let is-none = sym c.is_some.ensures ∙ c.if-is_some.false in
-    let right : IsIndexRight k v = from-none c.in_ok-found.found is-none (c.in_ok-found.ensures.none sound) in
-    let all : AreIndexBlocks v c.block_forms_fault.new.blocks.items = from-none c.in_ok-found.found is-none (c.in_ok-found.ensures.blocks sound) in
-    let table : AreIndexBlocks v c.deref.result.now = subst (λ (l : List NotedBlock). AreIndexBlocks v l) (sym c.deref.ensures.value) all in
-    let once : AreNamedOnce v = from-none c.in_ok-found-2.found (sym c.is_some-2.ensures ∙ c.if-is_some-2.false) (c.in_ok-found-2.ensures.none d v table top right R.volume) in
-    let table-2 : AreIndexBlocks v c.deref-2.result.now = subst (λ (l : List NotedBlock). AreIndexBlocks v l) (sym c.deref-2.ensures.value) all in
-    let formed : IndexIsFormed k v = from-none c.in_ok-found-3.found (sym c.is_some-3.ensures ∙ c.if-is_some-3.false) (c.in_ok-found-3.ensures.none d v table-2 top right once R.volume) in
-    none-same d 11 v w e (none-11 d v (none-10 d v (none-9 d v (c.requires.before sound) right) once) formed)
+    let index = from-none c.in_ok-found.found (sym c.is_some.ensures ∙ c.if-is_some.false) (c.in_ok-found.ensures.none sound) in
+    none-same d 12 v w (read-one c.in_ok-found.ensures.read sound) (none-12 d v (c.requires.before sound) R.volume R.blocks.known.version_is index.0 index.1)
 
 pub returns-clause-none : goal.returns-clause-none
 returns-clause-none g c = if-ok c.entries_fault.result c.entries_fault.ensures.none
     (λ o none sound.
     let d : Database = c.args.dbd.now in
     let v : VolumeState = c.args.volume.now in
-    let w : VolumeState = c.block_forms_fault.new.volume in
-    let k : ℕ = root_key_length d.types in
+    let w : VolumeState = c.chain_fault.new.volume in
     let e : IsOne v w = read-one c.in_ok-found.ensures.read sound in
-    let R : HasRightBlocks d v c.args.places.now = c.requires.right sound in
-    let top = header-says (λ h. h.top) v w c.top-top.result e R.volume.formatted.header.first (still-sound c.in_ok-found.ensures.read sound) c.top-top.ensures in
-    let is-none = sym c.is_some.ensures ∙ c.if-is_some.false in
-    let right : IsIndexRight k v = from-none c.in_ok-found.found is-none (c.in_ok-found.ensures.none sound) in
-    let all : AreIndexBlocks v c.block_forms_fault.new.blocks.items = from-none c.in_ok-found.found is-none (c.in_ok-found.ensures.blocks sound) in
-    let table : AreIndexBlocks v c.deref.result.now = subst (λ (l : List NotedBlock). AreIndexBlocks v l) (sym c.deref.ensures.value) all in
-    let once : AreNamedOnce v = from-none c.in_ok-found-2.found (sym c.is_some-2.ensures ∙ c.if-is_some-2.false) (c.in_ok-found-2.ensures.none d v table top right R.volume) in
-    let table-2 : AreIndexBlocks v c.deref-2.result.now = subst (λ (l : List NotedBlock). AreIndexBlocks v l) (sym c.deref-2.ensures.value) all in
-    let formed : IndexIsFormed k v = from-none c.in_ok-found-3.found (sym c.is_some-3.ensures ∙ c.if-is_some-3.false) (c.in_ok-found-3.ensures.none d v table-2 top right once R.volume) in
-    if-none-map o (λ entries. (formed, entries-same w v (turned e) d entries)) (none (still-sound c.in_ok-found.ensures.read sound)))
+    let index = from-none c.in_ok-found.found (sym c.is_some.ensures ∙ c.if-is_some.false) (c.in_ok-found.ensures.none sound) in
+    if-none-map o (λ names. (let own = names-right-same w v (turned e) d names in (index.0, record { order = index.1; name = own.name; each = own.each }))) (none (still-sound c.in_ok-found.ensures.read sound)))
 
 pub returns-clause-some : goal.returns-clause-some
 returns-clause-some g c = if-ok c.entries_fault.result c.entries_fault.ensures.some
     (λ o some sound.
-    firsts-same c.args.dbd.now c.args.volume.now c.block_forms_fault.new.volume o (read-one c.in_ok-found.ensures.read sound) (some (still-sound c.in_ok-found.ensures.read sound)))
+    firsts-same c.args.dbd.now c.args.volume.now c.chain_fault.new.volume o (read-one c.in_ok-found.ensures.read sound) (some (still-sound c.in_ok-found.ensures.read sound)))

@@ -85,4 +85,4 @@ returns-clause-some g c = λ sound.
     let high = c.loop-n-test.false in
     let low = c.loop-n.auto.n-index-end in
     let last : c.loop-n.n-index ≡ length c.args.chain.now = omega arith in
-    some-out-of-order d v c.args.chain.now (c.requires.chain sound) c.loop-n.least (subst (λ (x : ℕ). IsLeastBefore (root_key_length d.types) v c.args.chain.now x c.loop-n.least) last (c.loop-n.invariant.least sound))
+    some-out-of-order d v c.args.chain.now (c.requires.chain sound) c.loop-n.least (subst (λ (x : ℕ). IsLeastBefore (root_key_length d.types) v c.args.chain.now x c.loop-n.least) last (c.loop-n.invariant.least sound)) (c.requires.version sound)

@@ -1,4 +1,4 @@
-use Rattle.std.proofs.Common.{◌≡◌, ◌*◌, ◌<◌, ◌++◌, ℕ, List, map, Option, Some, true, Ok, IsTrue, IfNone, IfSome, inl, inr, length, sym, ap, subst, ◌∙◌, arith}
+use Rattle.std.proofs.Common.{◌≡◌, ◌*◌, ◌<◌, ◌++◌, ℕ, List, map, Option, Some, true, Ok, IsTrue, IfNone, IfSome, inl, inr, length, slice_index, sym, ap, subst, ◌∙◌, arith}
 use Rattle.std.specs.Prelude.{not, find, option_map}
 use Rattle.std.specs.List.{list_all}
 use Rattle.std.proofs.lemmas.Bool.{cases_lt}
@@ -10,9 +10,7 @@ use Rattle.hd_volume.proofs.CallSteps.{read-ok, reads-join}
 use Rattle.hd_image.specs.IndexFaults.{names_a_root}
 use Rattle.hd_image.specs.Records.{links_of}
 use Rattle.hd_image.proofs.OneImage.{links-same, volume-same}
-use Rattle.hd_check_index.specs.declared.noted_blocks.NotedBlock.{NotedBlock}
 use Rattle.hd_check_blocks.specs.Phases.{IsLeastOf}
-use Rattle.hd_check_index.specs.IndexPhases.{index_block_at}
 use Rattle.hd_check_blocks.proofs.PlaceLemmas.{places-same}
 use Rattle.hd_check_index.proofs.FormFaults.{place-fits}
 use Rattle.hd_entries.proofs.BlockLemmas.{entry-block-same}
@@ -41,9 +39,9 @@ wrong_entry-requires-clause-block g c = λ now.
     let w : VolumeState = c.loop-block.volume in
     let i = c.loop-block.invariant in
     let sound : IsTrue v.is_sound = rw (← i.read.call.sound) now in
-    let bs : List NotedBlock = c.args.blocks.now in
-    entry-block-same (root_key_length d.types) v w (index_block_at bs c.loop-block.block-index).number i.read.call.size (i.read.image now)
-    (table-entries d v bs (c.requires.blocks sound) (c.requires.formed sound) c.loop-block.block-index c.loop-block-test.true)
+    let bs : List ℕ = c.args.blocks.now in
+    entry-block-same (root_key_length d.types) v w (slice_index bs c.loop-block.block-index) i.read.call.size (i.read.image now)
+    (table-entries d v bs (c.requires.blocks sound) c.loop-block.block-index c.loop-block-test.true)
 
 pub returns-in-Some-clause-read : goal.returns-in-Some-clause-read
 returns-in-Some-clause-read g c = read-ok _ (reads-join (Ok c.in_ok-wrong_entry.field-0) c.loop-block.invariant.read c.in_ok-wrong_entry.ensures.read)
@@ -56,20 +54,19 @@ returns-in-Some-clause-some g c = λ sound.
     let i = c.loop-block.invariant in
     let now : IsTrue w.is_sound = rw i.read.call.sound sound in
     let k : ℕ = root_key_length d.types in
-    let bs : List NotedBlock = c.args.blocks.now in
+    let bs : List ℕ = c.args.blocks.now in
     let x : ℕ = c.loop-block.block-index in
-    let n : ℕ = (index_block_at bs x).number in
+    let n : ℕ = (slice_index bs x) in
     let within : x < length bs = c.loop-block-test.true in
     let table = c.requires.blocks sound in
-    let formed = c.requires.formed sound in
     let P : Option ℕ → Type 0 = λ o. IfSome o (λ a. option_map (λ (e : Entry). e.address) (find (λ e. not (names_a_root d (links_of d.types w) e)) (entries_in k (block_at w n))) ≡ Some a) in
     let wrong = found-same d v w k n (i.read.image now) i.read.call.size i.read.call.sizes c.in-Some.address (subst P c.in-Some.is (c.in_ok-wrong_entry.ensures.some now)) in
-    let there = (table-entries d v bs table formed x within).is.there in
+    let there = (table-entries d v bs table x within).is.there in
     let size : c.block_size-size.result ≡ v.size = c.block_size-size.ensures.value in
     let same : n * c.block_size-size.result ≡ n * v.size = ap (λ (z : ℕ). n * z) size in
     let place : c.block_address.result ≡ n * v.size = c.block_address.ensures (subst (λ (y : ℕ). y < 4294967296) (sym same) (place-fits d v n (c.requires.of sound) there)) ∙ same in
     subst (IsLeastOf d v 12) (sym (c.at.ensures ∙ ap (λ (a : ℕ). record { line = WrongEntry; address = a; other = c.in-Some.address }) place))
-    (entry-least d v bs table formed x c.in-Some.address within (i.right sound) wrong)
+    (entry-least d v bs table x c.in-Some.address within (i.right sound) wrong)
 
 pub loop-block-preserved : goal.loop-block-preserved
 loop-block-preserved g c =
@@ -78,9 +75,9 @@ loop-block-preserved g c =
     let w : VolumeState = c.loop-block.volume in
     let i = c.loop-block.invariant in
     let k : ℕ = root_key_length d.types in
-    let bs : List NotedBlock = c.args.blocks.now in
+    let bs : List ℕ = c.args.blocks.now in
     let x : ℕ = c.loop-block.block-index in
-    let n : ℕ = (index_block_at bs x).number in
+    let n : ℕ = (slice_index bs x) in
     record {
       read = read-ok 0 (reads-join (Ok c.in_ok-wrong_entry.field-0) i.read c.in_ok-wrong_entry.ensures.read);
       right = λ sound j low. elim (cases_lt j x) [
@@ -90,7 +87,7 @@ loop-block-preserved g c =
             let P : Option ℕ → Type 0 = λ o. IfNone o (list_all (λ (e : Entry). names_a_root d (links_of d.types w) e) (entries_in k (block_at w n)) ≡ true) in
             let own = all-same d v w k n (i.read.image now) i.read.call.size i.read.call.sizes (subst P c.in-None.is (c.in_ok-wrong_entry.ensures.none now)) in
             let at : j ≡ x = omega arith in
-            subst (λ (y : ℕ). list_all (λ (e : Entry). names_a_root d (links_of d.types v) e) (entries_in k (block_at v (index_block_at bs y).number)) ≡ true) (sym at) own)
+            subst (λ (y : ℕ). list_all (λ (e : Entry). names_a_root d (links_of d.types v) e) (entries_in k (block_at v (slice_index bs y))) ≡ true) (sym at) own)
       ];
       named = λ sound.
           (let now : IsTrue w.is_sound = rw i.read.call.sound sound in
@@ -104,7 +101,7 @@ returns-clause-none g c = λ sound.
     let d : Database = c.args.dbd.now in
     let v : VolumeState = c.args.volume.now in
     let end = c.loop-block-test.false in
-    table-all d v c.args.blocks.now (c.requires.blocks sound) (c.requires.formed sound) (λ (e : Entry). names_a_root d (links_of d.types v) e) (λ j low. c.loop-block.invariant.right sound j (omega arith))
+    table-all d v c.args.blocks.now (c.requires.blocks sound) (λ (e : Entry). names_a_root d (links_of d.types v) e) (λ j low. c.loop-block.invariant.right sound j (omega arith))
 
 pub returns-clause-named : goal.returns-clause-named
 returns-clause-named g c = λ sound.
@@ -112,4 +109,4 @@ returns-clause-named g c = λ sound.
     let v : VolumeState = c.args.volume.now in
     let end = c.loop-block-test.false in
     let most = c.loop-block.auto.block-index-end in
-    table-named d v c.args.blocks.now (c.requires.blocks sound) (c.requires.formed sound) c.loop-block.named.items c.loop-block.block-index (omega arith) (c.loop-block.invariant.named sound)
+    table-named d v c.args.blocks.now (c.requires.blocks sound) c.loop-block.named.items c.loop-block.block-index (omega arith) (c.loop-block.invariant.named sound)
