@@ -1,1 +1,3 @@
 pub mod RowSteps
+pub mod TableLookups
+pub mod Reached

@@ -4,6 +4,7 @@
 
 mod extents;
 mod forms;
+mod lookup;
 mod names;
 mod next_blocks;
 mod order;
