@@ -1,3 +1,4 @@
 pub mod RowSteps
 pub mod TableLookups
 pub mod Reached
+pub mod Followers

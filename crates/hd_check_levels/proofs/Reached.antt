@@ -142,20 +142,22 @@ module _ (k : ℕ) (v : VolumeState) (bs : List NotedBlock) (table : AreIndexBlo
       let own : n ≡ (noted_at bs i).number = some.2 in
       let kind = (table.there (noted_at bs i) (among bs i within)).0 in
       let D : List ℕ → Type 0 = λ ns. IsAmong (noted_at bs i).number ns in
-      let F : ℕ → Type 0 = λ m. IsFirst v (IsUnreachedBlock k v) m 0 in
-      (tt, subst F (sym own) (record {
-        here = ((noted_at bs i).number, kind, (λ a. false≢true (sym some.3 ∙ h.marked i within (subst D (sym numbers) a))), refl, refl);
-        least = λ a o t.
-            (let j = index-unreached a o t in
-            let at : a ≡ (noted_at bs j.0).number * v.size = j.3 in
-            elim (cases_lt j.0 i) [
-              | inl less ↦ absurd (j.2 (some.4 j.0 less))
-              | inr past ↦ elim (cases_eq j.0 i) [
-                | inl same ↦ (let e : a ≡ (noted_at bs i).number * v.size = at ∙ ap (λ (x : ℕ). (noted_at bs x).number * v.size) same in omega arith)
-                | inr other ↦
-                    (let up = in-order 0 bs i j.0 table.ascend (omega arith) j.1 in
-                    let less : (noted_at bs i).number * v.size ≤ (noted_at bs j.0).number * v.size = mul-le (noted_at bs i).number v.size (noted_at bs j.0).number v.size (omega arith) (omega arith) in
-                    omega arith)
-              ]
-            ]);
-      }))
+      let F : ℕ → Type 0 = λ m. IsFirst v (IsUnreachedBlock k v) m 0 in (
+        tt,
+        subst F (sym own) (record {
+          here = ((noted_at bs i).number, kind, (λ a. false≢true (sym some.3 ∙ h.marked i within (subst D (sym numbers) a))), refl, refl);
+          least = λ a o t.
+              (let j = index-unreached a o t in
+              let at : a ≡ (noted_at bs j.0).number * v.size = j.3 in
+              elim (cases_lt j.0 i) [
+                | inl less ↦ absurd (j.2 (some.4 j.0 less))
+                | inr past ↦ elim (cases_eq j.0 i) [
+                  | inl same ↦ (let e : a ≡ (noted_at bs i).number * v.size = at ∙ ap (λ (x : ℕ). (noted_at bs x).number * v.size) same in omega arith)
+                  | inr other ↦
+                      (let up = in-order 0 bs i j.0 table.ascend (omega arith) j.1 in
+                      let less : (noted_at bs i).number * v.size ≤ (noted_at bs j.0).number * v.size = mul-le (noted_at bs i).number v.size (noted_at bs j.0).number v.size (omega arith) (omega arith) in
+                      omega arith)
+                ]
+              ]);
+        }),
+      )

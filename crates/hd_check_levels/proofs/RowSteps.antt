@@ -109,23 +109,25 @@ noting-here c whole l i old rows h within = by-right h.right refl
         let more_left : (h.left ++ (n ∷ [])) ++ right ≡ h.left ++ (n ∷ right) = append_assoc h.left (n ∷ []) right in
         let one : across c (h.left ++ (n ∷ [])) ≡ across c h.left ++ c.entries n = across-append c h.left (n ∷ []) ∙ ap (λ (t : List Entry). across c h.left ++ t) (none-behind (c.entries n)) in
         let named_more : row_of l (named (across c (h.left ++ (n ∷ [])))) ≡ row_of l (named (across c h.left)) ++ row_of l (named (c.entries n)) =
-        ap (λ (t : List Entry). row_of l (named t)) one ∙ ap (row_of l) (named-append (across c h.left) (c.entries n)) ∙ row-append l (named (across c h.left)) (named (c.entries n)) in
-        (n, record {
-          at = ap (λ (t : List Standing). standing_at t i) h.is ∙ at-within old (row_of l (named (across c h.left))) i within ∙ ap (λ (t : List Standing). standing_at t i) parts
-              ∙ at-front (h.front ++ row_of (suc l) h.left) own (row_of (suc l) right) i (omega arith);
-          on_level = on n (among-behind n h.left right);
-          read = λ more is. record {
-            front = h.front;
-            left = h.left ++ (n ∷ []);
-            right = right;
-            turn = (let k : length (h.left ++ (n ∷ [])) ≡ length h.left + 1 = length-append h.left (n ∷ []) in omega arith);
-            was = was ∙ ap (λ (t : List ℕ). h.front ++ row_of (suc l) t) (sym more_left);
-            is = is ∙ ap (λ (t : List Standing). t ++ row_of l (named (c.entries n))) h.is ∙ append_assoc old (row_of l (named (across c h.left))) (row_of l (named (c.entries n)))
-                ∙ ap (λ (t : List Standing). old ++ t) (sym named_more);
-            on_level = subst O (sym more_left) on;
-            goes_on = h.goes_on ∙ ap (λ (t : List ℕ). h.front ++ rows_of c (suc l) (h.left ++ t)) e ∙ ap (λ (t : List ℕ). h.front ++ rows_of c (suc l) t) (sym more_left);
-          };
-        })
+        ap (λ (t : List Entry). row_of l (named t)) one ∙ ap (row_of l) (named-append (across c h.left) (c.entries n)) ∙ row-append l (named (across c h.left)) (named (c.entries n)) in (
+          n,
+          record {
+            at = ap (λ (t : List Standing). standing_at t i) h.is ∙ at-within old (row_of l (named (across c h.left))) i within ∙ ap (λ (t : List Standing). standing_at t i) parts
+                ∙ at-front (h.front ++ row_of (suc l) h.left) own (row_of (suc l) right) i (omega arith);
+            on_level = on n (among-behind n h.left right);
+            read = λ more is. record {
+              front = h.front;
+              left = h.left ++ (n ∷ []);
+              right = right;
+              turn = (let k : length (h.left ++ (n ∷ [])) ≡ length h.left + 1 = length-append h.left (n ∷ []) in omega arith);
+              was = was ∙ ap (λ (t : List ℕ). h.front ++ row_of (suc l) t) (sym more_left);
+              is = is ∙ ap (λ (t : List Standing). t ++ row_of l (named (c.entries n))) h.is ∙ append_assoc old (row_of l (named (across c h.left))) (row_of l (named (c.entries n)))
+                  ∙ ap (λ (t : List Standing). old ++ t) (sym named_more);
+              on_level = subst O (sym more_left) on;
+              goes_on = h.goes_on ∙ ap (λ (t : List ℕ). h.front ++ rows_of c (suc l) (h.left ++ t)) e ∙ ap (λ (t : List ℕ). h.front ++ rows_of c (suc l) t) (sym more_left);
+            };
+          },
+        )
 
 -- after all were read the next row is noted
 pub noting-ends : (c : IndexBlocks) (whole : List Standing) (l i : ℕ) (old rows : List Standing) → IsNoting c whole l i old rows → length old ≤ i
