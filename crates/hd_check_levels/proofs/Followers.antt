@@ -1,5 +1,5 @@
 -- Which block follows another one on its level.
-use Rattle.std.proofs.Common.{◌≡◌, ◌≢◌, ◌⊎◌, inl, inr, ℕ, zero, suc, ◌+◌, ◌-◌, ◌*◌, ◌<◌, ◌≤◌, ◌==◌, not, true, false, cond, List, [], ◌∷◌, ◌++◌, length, drop, length-append, append_assoc, Option, Some, None, refl, sym, ap, subst, ◌∙◌, arith, ne_eqb}
+use Rattle.std.proofs.Common.{◌≡◌, ◌≢◌, ◌⊎◌, inl, inr, ℕ, zero, suc, ◌+◌, ◌-◌, ◌*◌, ◌<◌, ◌≤◌, ◌==◌, not, true, false, List, [], ◌∷◌, ◌++◌, length, drop, length-append, append_assoc, Option, Some, None, refl, sym, ap, subst, ◌∙◌, arith, ne_eqb}
 use Rattle.std.specs.Prelude.{IfNone, IfSome, min}
 use Rattle.std.specs.Option.{option_map_or}
 use Rattle.std.proofs.lemmas.Bool.{cases_lt, cases_eq, eq-eqb, false≢true}
@@ -11,7 +11,7 @@ use Rattle.hd_levels.specs.Levels.{IndexBlocks, across, named}
 use Rattle.hd_levels.specs.Chains.{first_of}
 use Rattle.hd_levels.specs.IndexSets.{level_in, next_in, index_blocks, top_blocks, top_level}
 use Rattle.hd_levels.specs.Faultless.{AreFormsRight}
-use Rattle.hd_levels.specs.LevelFaults.{row_below, StandsBetween, IsWrongNext, StandsNowhere}
+use Rattle.hd_levels.specs.LevelFaults.{row_below, IsWrongNext}
 use Rattle.hd_levels.proofs.Parents.{named-by}
 use Rattle.hd_levels.proofs.Volumes.{level-kind}
 use Rattle.hd_check_levels.specs.declared.rows.Standing.{Standing}
@@ -21,7 +21,7 @@ use Rattle.hd_check_levels.specs.Rows.{row_of, rows_of}
 use Rattle.hd_check_levels.specs.Judging.{IsFirst, IsFoundAt}
 use Rattle.hd_check_levels.specs.Standings.{noted_at, standing_at, all_rows, first_on, follower}
 use Rattle.hd_check_levels.proofs.TableLookups.{among}
-use Rattle.hd_check_levels.proofs.RowSteps.{row-append, none-behind, at-front}
+use Rattle.hd_check_levels.proofs.RowSteps.{row-append, none-behind, at-front, among-behind}
 
 -- ---- parts of some rows
 
@@ -100,10 +100,6 @@ pub record StandsIn (c : IndexBlocks) (h : ℕ) (ns : List ℕ) (s : Standing) (
   pub row : row_below c steps ns ≡ left ++ (s.number ∷ right)
   pub follows : first_on s.level after ≡ first_of right
   pub on_level : c.level s.number ≡ Some s.level
-
-among-behind : (n : ℕ) (left right : List ℕ) → IsAmong n (left ++ (n ∷ right))
-among-behind n [] right = inl refl
-among-behind n (x ∷ left) right = inr (among-behind n left right)
 
 module _ (c : IndexBlocks) (names : (n l m : ℕ) → c.level n ≡ Some (suc l) → IsAmong m (named (c.entries n)) → c.level m ≡ Some l) where
   here : (l : ℕ) (ns : List ℕ) (s : Standing) (more after rest : List Standing) → ((n : ℕ) → IsAmong n ns → c.level n ≡ Some l) → IsInRow l ns s more → after ≡ more ++ rest → first_on l rest ≡ 0

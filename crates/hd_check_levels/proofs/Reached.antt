@@ -42,12 +42,6 @@ numbers-suc (s ∷ rows) (suc i) l = ap (λ (t : List ℕ). s.number ∷ t) (num
 numbers-take : (rows : List Standing) (i : ℕ) → i < length rows → numbers_of (take (i + 1) rows) ≡ numbers_of (take i rows) ++ ((standing_at rows i).number ∷ [])
 numbers-take rows i l = ap (λ (j : ℕ). numbers_of (take j rows)) (let e : i + 1 ≡ suc i = omega arith in e) ∙ numbers-suc rows i l
 
-pub take-past : (rows : List Standing) (i : ℕ) → length rows ≤ i → take i rows ≡ rows
-take-past [] zero l = refl
-take-past [] (suc i) l = refl
-take-past (s ∷ rows) zero l = absurd (omega arith)
-take-past (s ∷ rows) (suc i) l = ap (λ (t : List Standing). s ∷ t) (take-past rows i (omega arith))
-
 -- the last of some numbers is among them, and so are the others
 among-more : (m : ℕ) (ns : List ℕ) (n : ℕ) → IsAmong m (ns ++ (n ∷ [])) → IsAmong m ns ⊎ (m ≡ n)
 among-more m [] n (inl e) = inr e

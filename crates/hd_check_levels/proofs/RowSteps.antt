@@ -76,7 +76,8 @@ pub record IsNext (c : IndexBlocks) (whole : List Standing) (l i : ℕ) (old row
   pub on_level : c.level n ≡ Some (suc l)
   pub read : (more : List Standing) → more ≡ rows ++ row_of l (named (c.entries n)) → IsNoting c whole l (i + 1) old more
 
-among-behind : (n : ℕ) (left right : List ℕ) → IsAmong n (left ++ (n ∷ right))
+-- a number between others is among them
+pub among-behind : (n : ℕ) (left right : List ℕ) → IsAmong n (left ++ (n ∷ right))
 among-behind n [] right = inl refl
 among-behind n (x ∷ left) right = inr (among-behind n left right)
 

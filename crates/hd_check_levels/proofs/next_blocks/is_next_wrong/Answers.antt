@@ -1,4 +1,4 @@
-use Rattle.std.proofs.Common.{◌≡◌, ℕ, refl, sym, ◌∙◌}
+use Rattle.std.proofs.Common.{ℕ, refl, sym, ◌∙◌}
 use Rattle.hd_check_levels.specs.Tables.{noted}
 use Rattle.hd_check_levels.specs.Standings.{standing_at, noted_at}
 use Rattle.hd_check_levels.proofs.Followers.{test-other, test-same, next-at}

@@ -1,5 +1,4 @@
-use Rattle.std.proofs.Common.{rules, ◌≡◌, ◌+◌, ◌≤◌, ℕ, length, Option, Some, refl, sym, ap, ◌∙◌, subst, arith}
-use Rattle.hd_check_levels.specs.Standings.{standing_at}
+use Rattle.std.proofs.Common.{◌≡◌, ◌+◌, ℕ, length, Option, sym, subst, arith}
 use Rattle.hd_check_levels.proofs.Followers.{IsLeastTo, least-past, least-more, standing-kind, next-found}
 use Rattle.hd_check_levels.proofs.next_blocks.wrong_next.Goals as goal
 use Rattle.hd_check_levels.proofs.next_blocks.wrong_next.Goals.{then-is_next_wrong, else-is_next_wrong}
