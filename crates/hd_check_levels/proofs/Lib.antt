@@ -6,3 +6,6 @@ pub mod RowsUp
 pub mod NotedTables
 pub mod BlockForms
 pub mod TwiceNamed
+pub mod RowSteps
+pub mod Reached
+pub mod Followers

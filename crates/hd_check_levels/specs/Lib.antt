@@ -6,3 +6,4 @@ pub mod EntryOrders
 pub mod Judging
 pub mod NotedBlocks
 pub mod NamedBlocks
+pub mod Standings
