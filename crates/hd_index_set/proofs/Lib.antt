@@ -20,3 +20,4 @@ pub mod Tops
 pub mod Inserting
 pub mod Hanging
 pub mod Ends
+pub mod Leading
