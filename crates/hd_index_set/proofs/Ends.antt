@@ -1,33 +1,47 @@
 -- A new block with the new entry behind the last block of the sequence set: the index has the new entry.
-use Rattle.std.proofs.Common.{◌≡◌, ◌≢◌, ◌⊎◌, inl, inr, ℕ, suc, ◌+◌, ◌-◌, ◌<◌, ◌≤◌, ◌==◌, cond, Bool, true, false, List, [], ◌∷◌, ◌++◌, take, drop, Some, None, slice_index, refl, sym, ap, ◌∙◌, subst, arith, ne_eqb}
-use Rattle.std.proofs.lemmas.Bool.{cases_eq, eq-eqb}
+use Rattle.std.proofs.Common.{◌≡◌, ◌≢◌, ◌⊎◌, inl, inr, ℕ, suc, ◌+◌, ◌-◌, ◌<◌, ◌≤◌, ◌==◌, cond, Bool, true, false, List, [], ◌∷◌, ◌++◌, take, drop, Some, None, length, slice_index, refl, sym, ap, ◌∙◌, subst, arith, ne_eqb}
+use Rattle.std.proofs.lemmas.Bool.{cases_eq, cases_lt, eq-eqb, le-leb}
 use Rattle.std.proofs.lemmas.List.{append_assoc}
 use Rattle.hd_bytes.specs.Numbers.{number_at}
 use Rattle.hd_volume.specs.Headers.{Header, header_of}
 use Rattle.hd_volume.specs.Volumes.{VolumeState, block_at, IsKind}
 use Rattle.hd_volume.specs.Entries.{Entry, entries_in}
-use Rattle.hd_volume.specs.Indexes.{entry_room, key_less}
+use Rattle.hd_volume.specs.Indexes.{entry_room, is_below_first}
 use Rattle.hd_volume.proofs.KeyLemmas.{less-not}
-use Rattle.hd_levels.specs.Maps.{address_of, with_entry}
-use Rattle.hd_levels.specs.Levels.{IndexBlocks, across, named, entries_below, AreBelow, IsIndexSet}
-use Rattle.hd_levels.specs.Ways.{leaf_of, IsAround, IsWayDown}
+use Rattle.hd_volume.proofs.JoinLemmas.{AreOne}
+use Rattle.hd_entries.proofs.BlockLemmas.{length-entries}
+use Rattle.hd_levels.specs.Needs.{is_full}
+use Rattle.hd_index_edits.proofs.EditLemmas.{one-block-at}
+use Rattle.hd_index_set.specs.Blocks.{IsInOrder}
+use Rattle.hd_index_set.proofs.Searching.{right-order}
+use Rattle.hd_levels.specs.Maps.{address_of, greatest_below, with_entry}
+use Rattle.hd_levels.specs.Levels.{IndexBlocks, across, named, entries_below, AreBelow, AreOnLevel, IsIndexSet}
+use Rattle.hd_levels.specs.Ways.{child_of, leaf_of, IsAround, IsWayDown}
 use Rattle.hd_levels.specs.Changes.{Stays, OthersStay, UpperStay, KeepsIndexSet, IsDivided}
-use Rattle.hd_levels.specs.Chains.{AreLevelsLinked}
+use Rattle.hd_levels.specs.Chains.{IsLinked, first_of, AreLevelsLinked}
 use Rattle.hd_levels.specs.Parents.{ArePlaced}
 use Rattle.hd_levels.specs.IndexSets.{level_in, next_in, index_blocks, top_blocks, top_level, index_entries, HasIndexSet}
 use Rattle.hd_levels.proofs.Volumes.{level-of, level-kind, entries-below, top-is}
 use Rattle.hd_levels.proofs.Downs.{level-is}
 use Rattle.hd_levels.proofs.Entering.{entered}
 use Rattle.hd_levels.proofs.Dividing as dividing
-use Rattle.hd_levels.proofs.Linking.{divisions-linked}
+use Rattle.hd_levels.proofs.Linking.{divisions-linked, levels-on}
+use Rattle.hd_levels.proofs.Keys.{below-parts}
+use Rattle.hd_levels.proofs.Levels.{nil, on-parts, across-append}
+use Rattle.hd_levels.proofs.Coming.{way-steps}
+use Rattle.hd_levels.proofs.Descents.{way-around, around-answers}
 use Rattle.hd_levels.proofs.Parents.{index-blocks-placed}
 use Rattle.hd_levels.proofs.Paths.{change-lifted, leaf-upper}
 use Rattle.hd_levels.proofs.Placing.{divided-placed}
 use Rattle.hd_levels.proofs.Naming.{KeepNames, links-kept, placed-kept}
 use Rattle.hd_index_set.specs.declared.dividing.Lead.{Lead}
-use Rattle.hd_index_set.specs.Divisions.{IsEntryAt}
+use Rattle.hd_index_set.specs.Divisions.{IsEntryAt, IsLeadOf, IsLowestRoom}
+use Rattle.hd_index_set.specs.Comings.{MayCome}
 use Rattle.hd_index_set.specs.Changes.{IsChanged}
 use Rattle.hd_index_set.specs.Behind.{IsHungBehind}
+use Rattle.hd_index_set.proofs.Halving.{lead-child}
+use Rattle.hd_index_set.proofs.Comings.{coming-level}
+use Rattle.hd_index_set.proofs.Leading.{leaf-more}
 use Rattle.hd_index_set.proofs.Parts.{parts}
 use Rattle.hd_index_set.proofs.Steps.{same-block, borne, assembled}
 
@@ -52,8 +66,8 @@ pub its-level : (c : IndexBlocks) (n : ℕ) (es : List Entry) (b : ℕ) → (wit
 unfolding with_entries
 its-level c n es b = refl
 
--- What is to be known where a new block is hung behind the last one: the new key leads to the block by its parent, and is above all its keys.
-pub record IsEnd (k : ℕ) (u : VolumeState) (key : List ℕ) (p : ℕ) (lead : Lead) (last : List ℕ) : Type 0 where
+-- What is to be known where a new block is hung behind the last one: the block's last key leads to it by its parent, and the new key is above all its keys.
+pub record IsEnd (k : ℕ) (u : VolumeState) (key by : List ℕ) (p : ℕ) (lead : Lead) : Type 0 where
   pub index : HasIndexSet k u
   pub some : 0 < (header_of u.image).top
   pub level_p : level_in u p ≡ Some 1
@@ -61,7 +75,7 @@ pub record IsEnd (k : ℕ) (u : VolumeState) (key : List ℕ) (p : ℕ) (lead : 
   pub at : IsEntryAt k (block_at u p) lead
   pub steps : ℕ
   pub deep : top_level u ≡ steps + 1
-  pub leads : p ≡ leaf_of (index_blocks k u) key steps (header_of u.image).top
+  pub leads : p ≡ leaf_of (index_blocks k u) by steps (header_of u.image).top
   pub left : List ℕ
   pub right : List ℕ
   pub set : IsIndexSet (index_blocks k u) 0 (left ++ (lead.child ∷ right))
@@ -72,10 +86,132 @@ pub record IsEnd (k : ℕ) (u : VolumeState) (key : List ℕ) (p : ℕ) (lead : 
   pub before : List Entry
   pub last_entry : Entry
   pub ends : entries_in k (block_at u lead.child) ≡ before ++ (last_entry ∷ [])
-  pub last_is : last_entry.key ≡ last
+  pub last_is : last_entry.key ≡ by
 
-module _ (k : ℕ) {u w : VolumeState} (key : List ℕ) (address p : ℕ) (lead : Lead) (last : List ℕ) (z : IsEnd k u key p lead last)
-    (h : IsHungBehind k u p lead last (record { key = key; address = address }) w) where
+-- the entry of a block that has room, where a key leads
+pub lead-may : (k : ℕ) (u : VolumeState) (by : List ℕ) (p : ℕ) (lead : Lead) → IsLowestRoom k u by 0 p → IsLeadOf k by (block_at u p) lead
+    → (lead.index < lead.count) × (lead.count < entry_room k u.size)
+lead-may k u by p lead r leads =
+    let room : ℕ = entry_room k u.size in
+    let len : length (entries_in k (block_at u p)) ≡ number_at 2 (block_at u p) 4 = length-entries k (block_at u p) 12 (number_at 2 (block_at u p) 4) in
+    let count = leads.at.count in
+    let index = leads.index in
+    let some = r.right.some in
+    let free : length (entries_in k (block_at u p)) < room = elim (cases_lt (length (entries_in k (block_at u p))) room) [
+      | inl less ↦ less
+      | inr past ↦ (let e : is_full (index_blocks k u) room p ≡ true = le-leb room (length (entries_in k (block_at u p))) (omega arith) in let f = sym e ∙ r.free in absurd (cc))
+    ]
+    in
+    (omega arith, omega arith)
+
+-- what leads is read of a right block
+pub lead-known : (k : ℕ) (u v : VolumeState) (by : List ℕ) (p : ℕ) (lead : Lead) → AreOne u v → IsLowestRoom k u by 0 p
+    → (IsInOrder k u p → 0 < number_at 2 (block_at u p) 4 → IsLeadOf k by (block_at u p) lead) → IsLeadOf k by (block_at v p) lead
+lead-known k u v by p lead o r read =
+    let L : List ℕ → Type 0 = λ b. IsLeadOf k by b lead in
+    subst L (sym (one-block-at o p)) (read (right-order k u 1 p r.right) r.right.some)
+
+-- a last entry
+pub record IsLastEntry (es : List Entry) : Type 0 where
+  pub before : List Entry
+  pub entry : Entry
+  pub ends : es ≡ before ++ (entry ∷ [])
+
+pub last-entry : (es : List Entry) → es ≢ [] → IsLastEntry es
+last-entry [] some = absurd (some refl)
+last-entry (e ∷ []) some = record { before = []; entry = e; ends = refl }
+last-entry (e ∷ f ∷ es) some =
+    let r = last-entry (f ∷ es) (λ x. cc) in
+    record { before = e ∷ r.before; entry = r.entry; ends = ap (λ (t : List Entry). e ∷ t) r.ends }
+
+-- where all keys are below one, the greatest below it is the last
+greatest-last : (key other : List ℕ) (before : List Entry) (last : Entry) → AreBelow key (before ++ (last ∷ [])) → greatest_below other key (before ++ (last ∷ [])) ≡ last.key
+greatest-last key other [] last h = ap (λ (b : Bool). cond b last.key other) h.0
+greatest-last key other (e ∷ es) last h =
+    ap (λ (b : Bool). cond b (greatest_below e.key key (es ++ (last ∷ []))) other) h.0 ∙ greatest-last key e.key es last h.1
+
+-- no entry stands both behind a key and below it
+none-behind : (key : List ℕ) (es : List Entry) → AreBelow key es → is_below_first key es ≡ true → es ≡ []
+none-behind key [] low high = refl
+none-behind key (e ∷ es) low high = (let a = less-not e.key key low.0 in absurd (cc))
+
+-- blocks of a level that have no entry are none
+no-blocks : (c : IndexBlocks) (l : ℕ) (ns : List ℕ) → AreOnLevel c l ns → across c ns ≡ [] → ns ≡ []
+no-blocks c l [] on none = refl
+no-blocks c l (n ∷ ns) on none = absurd (on.1 (front (c.entries n) (across c ns) none))
+  where
+    front : (xs ys : List Entry) → xs ++ ys ≡ [] → xs ≡ []
+    front [] ys e = refl
+    front (x ∷ xs) ys e = absurd (cc)
+
+-- the last block of a chain names none
+linked-end : (next : ℕ → ℕ) (start : ℕ) (left : List ℕ) (n : ℕ) → IsLinked next start (left ++ (n ∷ [])) → next n ≡ 0
+linked-end next start [] n h = h.2
+linked-end next start (x ∷ xs) n h = linked-end next (next x) xs n h.2
+
+-- Where a new key above all others has come down to the last block, it is the end under its parent.
+pub end-found : (k : ℕ) (u : VolumeState) (key by : List ℕ) (p n : ℕ) (lead : Lead) → 0 < (header_of u.image).top → IsLowestRoom k u by 0 p → MayCome k u key by 0 n → AreBelow key (index_entries k u)
+    → IsLeadOf k by (block_at u p) lead → IsEnd k u key by p lead
+end-found k u key by p n lead some r m below leads =
+    let c : IndexBlocks = index_blocks k u in
+    let h : ℕ = top_level u in
+    let top : ℕ = (header_of u.image).top in
+    let x = m.coming in
+    let deep : h ≡ r.steps + 1 = r.level in
+    let steps : x.steps ≡ h = (let z = way-steps c h top key x.steps 0 x.left n x.right x.way in omega arith) in
+    let more : x.steps ≡ suc r.steps = omega arith in
+    let is : lead.child ≡ n =
+    lead-child k u by p lead leads ∙ ap (λ (i : ℕ). child_of by (c.entries i)) r.at ∙ sym (leaf-more c by r.steps top) ∙ ap (λ (i : ℕ). leaf_of c by i top) (sym more) ∙ x.leads in
+    let W : ℕ → Type 0 = λ i. IsWayDown c h top key i 0 x.left n x.right in
+    let way = subst W steps x.way in
+    let a = way-around c h top key x.steps 0 x.left n x.right x.way x.around.set in
+    let none : address_of key (c.entries n) ≡ None = sym (around-answers c key x.left n x.right a).0 ∙ ap (address_of key) x.whole ∙ m.new in
+    let on = on-parts c 0 x.left (n ∷ x.right) x.around.set.0 in
+    let row : index_entries k u ≡ across c x.left ++ (c.entries n ++ across c x.right) = sym x.whole ∙ across-append c x.left (n ∷ x.right) in
+    let B : List Entry → Type 0 = λ t. AreBelow key t in
+    let parts = below-parts key (across c x.left) (c.entries n ++ across c x.right) (subst B row below) in
+    let own = below-parts key (c.entries n) (across c x.right) parts.1 in
+    let empty : across c x.right ≡ [] = none-behind key (across c x.right) own.1 a.above in
+    let right : x.right ≡ [] = no-blocks c 0 x.right on.1.2 empty in
+    let last = last-entry (c.entries n) on.1.1 in
+    let tops = top-is u some in
+    let L : List ℕ → Type 0 = λ ns. AreLevelsLinked c (next_in u) h ns in
+    let chain = levels-on c (next_in u) h top key x.steps 0 x.left n x.right x.way (subst L tops m.index.next) in
+    let C : List ℕ → Type 0 = λ ns. IsLinked (next_in u) (first_of (x.left ++ (n ∷ ns))) (x.left ++ (n ∷ ns)) in
+    let next = linked-end (next_in u) (first_of (x.left ++ (n ∷ []))) x.left n (subst C right chain) in
+    let whole : index_entries k u ≡ (across c x.left ++ last.before) ++ (last.entry ∷ []) =
+    row ∙ ap (λ (t : List Entry). across c x.left ++ (c.entries n ++ t)) empty ∙ ap (λ (t : List Entry). across c x.left ++ t) (nil (c.entries n) ∙ last.ends)
+    ∙ sym (append_assoc (across c x.left) last.before (last.entry ∷ [])) in
+    let by_is : last.entry.key ≡ by =
+    sym (greatest-last key key (across c x.left ++ last.before) last.entry (subst B whole below)) ∙ ap (greatest_below key key) (sym whole) ∙ sym m.by_is in
+    let back = sym is in
+    let S : ℕ → Type 0 = λ i. IsIndexSet c 0 (x.left ++ (i ∷ x.right)) in
+    let D : ℕ → Type 0 = λ i. IsWayDown c h top key h 0 x.left i x.right in
+    let own_level = coming-level k u key by 0 n x in
+    record {
+      index = m.index;
+      some = some;
+      level_p = level-of u p r.right.is ∙ ap (λ (i : ℕ). Some i) r.right.level;
+      level_n = ap (level_in u) is ∙ own_level.level;
+      at = leads.at;
+      steps = r.steps;
+      deep = deep;
+      leads = r.at;
+      left = x.left;
+      right = x.right;
+      set = subst S back x.around.set;
+      way = subst D back way;
+      new = ap (λ (i : ℕ). address_of key (c.entries i)) is ∙ none;
+      below = (let E : ℕ → Type 0 = λ i. AreBelow key (c.entries i) in subst E back own.0);
+      next = ap (next_in u) is ∙ next;
+      before = last.before;
+      last_entry = last.entry;
+      ends = ap c.entries is ∙ last.ends;
+      last_is = by_is;
+    }
+
+module _ (k : ℕ) {u w : VolumeState} (key by : List ℕ) (address p : ℕ) (lead : Lead) (z : IsEnd k u key by p lead)
+    (h : IsHungBehind k u p lead by (record { key = key; address = address }) w) where
   fresh_entry : Entry
   fresh_entry = record { key = key; address = address }
 
@@ -140,10 +276,10 @@ module _ (k : ℕ) {u w : VolumeState} (key : List ℕ) (address p : ℕ) (lead 
   full-placed : ArePlaced full (top_level u) ((header_of u.image).top ∷ [])
   full-placed = placed-kept (index_blocks k u) full (next_in u) (next_in u) full-names (top_level u) ((header_of u.image).top ∷ []) placed-were
 
-  full-leads : p ≡ leaf_of full key z.steps (header_of u.image).top
+  full-leads : p ≡ leaf_of full by z.steps (header_of u.image).top
   full-leads =
       z.leads
-      ∙ sym (leaf-upper (index_blocks k u) full key 1 (λ b j at high. full-upper b j at (omega arith)) z.steps (top_level u) (header_of u.image).top ((header_of u.image).top ∷ []) z.deep set-was (inl refl))
+      ∙ sym (leaf-upper (index_blocks k u) full by 1 (λ b j at high. full-upper b j at (omega arith)) z.steps (top_level u) (header_of u.image).top ((header_of u.image).top ∷ []) z.deep set-was (inl refl))
 
   -- ---- the division
 
@@ -224,7 +360,7 @@ module _ (k : ℕ) {u w : VolumeState} (key : List ℕ) (address p : ℕ) (lead 
   tops-are : top_blocks w ≡ (header_of u.image).top ∷ []
   tops-are = (let same = top-same in let some = z.some in top-is w (omega arith)) ∙ ap (λ (i : ℕ). i ∷ []) top-same
 
-  here : (before behind : List ℕ) → IsAround full key 1 before p behind → AreLevelsLinked full (next_in u) 1 (before ++ (p ∷ behind))
+  here : (before behind : List ℕ) → IsAround full by 1 before p behind → AreLevelsLinked full (next_in u) 1 (before ++ (p ∷ behind))
       → KeepsIndexSet full (index_blocks k w) 1 (before ++ (p ∷ behind)) × AreLevelsLinked (index_blocks k w) (next_in w) 1 (before ++ (p ∷ behind))
   here before behind a g =
       let later = h.high.is.is.later in (
@@ -240,10 +376,10 @@ module _ (k : ℕ) {u w : VolumeState} (key : List ℕ) (address p : ℕ) (lead 
   kept : KeepsIndexSet full (index_blocks k w) (top_level u) ((header_of u.image).top ∷ []) × AreLevelsLinked (index_blocks k w) (next_in w) (top_level u) ((header_of u.image).top ∷ [])
   kept =
       let d : IndexBlocks = index_blocks k w in
-      change-lifted full d (next_in u) (next_in w) key 1 (λ b j at high. (upper-stays b j at high).0) (λ b j at high. (upper-stays b j at high).1) z.steps (top_level u) (header_of u.image).top z.deep full-set.0
+      change-lifted full d (next_in u) (next_in w) by 1 (λ b j at high. (upper-stays b j at high).0) (λ b j at high. (upper-stays b j at high).1) z.steps (top_level u) (header_of u.image).top z.deep full-set.0
       full-links
       (λ before behind.
-      let P : ℕ → Type 0 = λ q. IsAround full key 1 before q behind → AreLevelsLinked full (next_in u) 1 (before ++ (q ∷ behind))
+      let P : ℕ → Type 0 = λ q. IsAround full by 1 before q behind → AreLevelsLinked full (next_in u) 1 (before ++ (q ∷ behind))
       → KeepsIndexSet full d 1 (before ++ (q ∷ behind)) × AreLevelsLinked d (next_in w) 1 (before ++ (q ∷ behind)) in
       subst P full-leads (here before behind))
 
