@@ -57,11 +57,14 @@ pub coming-kind : (k : ℕ) (v : VolumeState) (key by : List ℕ) (l n : ℕ) �
 coming-kind k v key by l n m = (level-kind v n l (coming-level k v key by l n m.coming).level).0
 
 -- there is a top
-pub coming-tops : (k : ℕ) (v : VolumeState) (key by : List ℕ) (l n : ℕ) → IsComing k v key by l n → top_blocks v ≡ (header_of v.image).top ∷ []
-coming-tops k v key by l n x =
+pub coming-some : (k : ℕ) (v : VolumeState) (key by : List ℕ) (l n : ℕ) → IsComing k v key by l n → 0 < (header_of v.image).top
+coming-some k v key by l n x =
     let t = way-top (index_blocks k v) (top_level v) (header_of v.image).top key x.steps l x.left n x.right x.way x.around.set in
     let is = level-kind v (header_of v.image).top t.0 t.1 in
-    top-is v is.0.later
+    is.0.later
+
+pub coming-tops : (k : ℕ) (v : VolumeState) (key by : List ℕ) (l n : ℕ) → IsComing k v key by l n → top_blocks v ≡ (header_of v.image).top ∷ []
+coming-tops k v key by l n x = top-is v (coming-some k v key by l n x)
 
 -- ---- one step
 

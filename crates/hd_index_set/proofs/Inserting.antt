@@ -83,6 +83,18 @@ ready-step k u w es needed ready c room =
       taken = elim ready.taken [ inl r ↦ inl (omega arith) | inr f ↦ inr (omega arith) ];
     }
 
+-- as many may be taken where none was
+pub ready-on : (k : ℕ) (u w : VolumeState) (es : List Entry) (needed : ℕ) → IsReady needed u → IsChanged k u es 0 w → w.room ≡ u.room → IsReady needed w
+ready-on k u w es needed ready c room =
+    let p = c.spares in
+    let count = c.change.count in
+    let largest : (header_of w.image).largest ≡ (header_of u.image).largest = ap (λ (h : Header). h.largest) c.change.header in
+    let s = ready.spares in
+    record {
+      spares = omega arith;
+      taken = elim ready.taken [ inl r ↦ inl (omega arith) | inr f ↦ inr (omega arith) ];
+    }
+
 -- and nothing is refused but an access
 pub ready-device : (needed : ℕ) (v w : VolumeState) (e : Refused) → IsFormatted v → IsReady (suc needed) v → IsTrue v.is_sound → IsRefused v e w → e ≡ Device
 ready-device needed v w e f ready sound r =

@@ -1,4 +1,5 @@
 ghost use Rattle.std.specs.Prelude.{◌≡◌, ◌+◌, ◌≤◌, ◌<◌, ℕ, None, IsTrue, length, IfErr, OnOk};
+ghost use Rattle.hd_dbd.specs.Refusals.{OnlyRoomOrDevice};
 ghost use Rattle.hd_volume.specs.Headers.{header_of};
 ghost use Rattle.hd_volume.specs.Volumes.{IsFormatted, block_at};
 ghost use Rattle.hd_volume.specs.Calls.{IsCall};
@@ -13,10 +14,12 @@ ghost use Rattle.hd_index_edits.specs.Edits.{IsRefused};
 ghost use Rattle.hd_index_set.specs.Changes.{IsChanged};
 ghost use Rattle.hd_index_set.specs.Comings.{MayCome};
 ghost use Rattle.hd_index_set.specs.Divisions.{IsEntryAt, IsLowestRoom};
+ghost use Rattle.hd_index_set.specs.Rooms.{IsReady};
 ghost use Rattle.hd_index_set.specs.Behind.{IsHungBehind};
 
 use crate::descend::{MOST_LEVELS, descend};
 use crate::dividing::{Lead, front_of, lead_of};
+use crate::enter::come_down;
 use hd_dbd::Refused;
 use hd_entries::entry_room;
 use hd_index_edits::{add_entry, begin_block, set_entry_key, set_next};
@@ -117,4 +120,39 @@ fn hang_last<S: BlockStore>(
     }
     let p = descend(volume, key.len(), height - 2, top, by)?;
     hang_at(volume, p, by, key, address)
+}
+
+/// Enters a new key above all others where one block is needed: it gets a block of its own behind the last one of the sequence set,
+/// and each upper key of the way that is below it is raised to it.
+pub fn enter_behind<S: BlockStore>(
+    volume: &mut Volume<S>,
+    key_length: usize,
+    by: &[u8],
+    key: &[u8],
+    address: u32,
+) -> Result<(), Refused>
+    requires index { IsTrue volume.old.is_sound → HasIndexSet key_length volume.old }
+    requires some { IsTrue volume.old.is_sound → 0 < (header_of volume.old.image).top }
+    requires new { IsTrue volume.old.is_sound → address_of key.now (index_entries key_length volume.old) ≡ None }
+    requires by { IsTrue volume.old.is_sound → by.now ≡ greatest_below key.now key.now (index_entries key_length volume.old) }
+    requires behind { IsTrue volume.old.is_sound → AreBelow key.now (index_entries key_length volume.old) }
+    requires needed { IsTrue volume.old.is_sound → needed_by key_length volume.old by.now ≡ 1 }
+    requires ready { IsTrue volume.old.is_sound → IsReady 1 volume.old }
+    requires by_whole { length by.now ≡ key_length }
+    requires whole { length key.now ≡ key_length }
+    requires short { key_length ≤ 255 }
+    requires three { entry_place key_length 3 ≤ volume.old.size }
+    ensures call { IsCall volume.old result volume.new }
+    ensures changed { OnOk result (IsTrue volume.old.is_sound → IsChanged key_length volume.old (with_entry (record { key = key.now; address = address }) (index_entries key_length volume.old)) 1 volume.new) }
+    ensures device { IfErr result (λ e. IsTrue volume.old.is_sound → e ≡ Refused.Device) }
+    ensures refusal { OnlyRoomOrDevice result }
+    ensures room { IsTrue volume.new.is_sound → volume.old.room ≤ volume.new.room + 1 }
+{
+    let top = volume.top();
+    let height = volume.height();
+    if top == 0 || height == 0 || height > MOST_LEVELS {
+        return Ok(());
+    }
+    come_down(volume, height - 1, top, by, key)?;
+    hang_last(volume, by, key, address)
 }
