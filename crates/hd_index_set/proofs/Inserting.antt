@@ -118,14 +118,6 @@ ready-device needed v w e f ready sound r =
 pub one-after : {u v w : VolumeState} → AreOne u v → AreOne v w → AreOne u w
 one-after a b = record { same = record { size = b.same.size ∙ a.same.size; sizes = b.same.sizes ∙ a.same.sizes }; image = b.image ∙ a.image }
 
--- an entry that comes in once all blocks that it needs were taken
-pub entered : (k : ℕ) (v p w z : VolumeState) (es : List Entry) (needed : ℕ) → HasIndexSet k v → 0 < v.size → AreOne v p → IsChanged k p (index_entries k p) needed w → IsChanged k w es 0 z
-    → IsChanged k v es needed z
-entered k v p w z es needed x some o taken last =
-    let first = unchanged k v p x o in
-    let both = changed-join k v p w (index_entries k v) (index_entries k p) 0 needed needed x some (omega arith) first taken in
-    changed-join k v w z (index_entries k p) es needed 0 needed x some (omega arith) both last
-
 -- what holds where a call is done, by what held of it
 pub on-ok : {A E P Q : Type 0} (r : Result A E) → OnOk r P → (P → Q) → OnOk r Q
 on-ok (Ok x) p f = f p
