@@ -1,5 +1,5 @@
 -- A new block with the new entry behind the last block of the sequence set: the index has the new entry.
-use Rattle.std.proofs.Common.{◌≡◌, ◌≢◌, ◌⊎◌, inl, inr, ℕ, suc, ◌+◌, ◌-◌, ◌<◌, ◌≤◌, ◌==◌, cond, Bool, true, false, List, [], ◌∷◌, ◌++◌, take, drop, Some, None, length, slice_index, refl, sym, ap, ◌∙◌, subst, arith, ne_eqb}
+use Rattle.std.proofs.Common.{◌≡◌, ◌≢◌, inl, inr, ℕ, suc, ◌+◌, ◌-◌, ◌<◌, ◌≤◌, ◌==◌, cond, Bool, true, List, [], ◌∷◌, ◌++◌, take, drop, Some, None, length, slice_index, refl, sym, ap, ◌∙◌, subst, arith, ne_eqb}
 use Rattle.std.proofs.lemmas.Bool.{cases_eq, cases_lt, eq-eqb, le-leb}
 use Rattle.std.proofs.lemmas.List.{append_assoc}
 use Rattle.hd_bytes.specs.Numbers.{number_at}
@@ -17,7 +17,7 @@ use Rattle.hd_index_set.proofs.Searching.{right-order}
 use Rattle.hd_levels.specs.Maps.{address_of, greatest_below, with_entry}
 use Rattle.hd_levels.specs.Levels.{IndexBlocks, across, named, entries_below, AreBelow, AreOnLevel, IsIndexSet}
 use Rattle.hd_levels.specs.Ways.{child_of, leaf_of, IsAround, IsWayDown}
-use Rattle.hd_levels.specs.Changes.{Stays, OthersStay, UpperStay, KeepsIndexSet, IsDivided}
+use Rattle.hd_levels.specs.Changes.{Stays, UpperStay, KeepsIndexSet, IsDivided}
 use Rattle.hd_levels.specs.Chains.{IsLinked, first_of, AreLevelsLinked}
 use Rattle.hd_levels.specs.Parents.{ArePlaced}
 use Rattle.hd_levels.specs.IndexSets.{level_in, next_in, index_blocks, top_blocks, top_level, index_entries, HasIndexSet}

@@ -1,5 +1,5 @@
 -- The steps by which a new block is hung behind the last one of the sequence set.
-use Rattle.std.proofs.Common.{◌≡◌, ◌≢◌, inl, inr, ℕ, suc, ◌+◌, ◌<◌, List, [], ◌∷◌, ◌++◌, length, take, drop, refl, sym, ap, ◌∙◌, arith, subst}
+use Rattle.std.proofs.Common.{◌≡◌, ◌≢◌, inl, inr, ℕ, suc, ◌<◌, List, [], ◌∷◌, ◌++◌, length, take, drop, refl, sym, ap, ◌∙◌, arith, subst}
 use Rattle.std.proofs.lemmas.List.{length-take-le}
 use Rattle.hd_bytes.specs.Numbers.{number_at}
 use Rattle.hd_volume.specs.Headers.{Header, header_of}

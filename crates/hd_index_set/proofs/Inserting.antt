@@ -1,14 +1,14 @@
 -- How the changes of an insert follow one another.
-use Rattle.std.proofs.Common.{◌≡◌, ◌⊎◌, inl, inr, ℕ, suc, ◌+◌, ◌-◌, ◌<◌, ◌≤◌, List, IsTrue, Result, Ok, Err, refl, sym, ap, ◌∙◌, subst, arith, ne_eqb}
+use Rattle.std.proofs.Common.{◌≡◌, ◌⊎◌, inl, inr, ℕ, suc, ◌+◌, ◌<◌, ◌≤◌, List, IsTrue, Result, Ok, Err, refl, ap, ◌∙◌, subst, arith, ne_eqb}
 use Rattle.std.specs.Prelude.{OnOk, IfErr}
 use Rattle.std.proofs.lemmas.Bool.{eq-eqb}
 use Rattle.hd_dbd.specs.declared.answer.Refused.{Refused}
 use Rattle.hd_dbd.specs.declared.answer.Refused.TheVariants.{Memory, Full, Device}
 use Rattle.hd_volume.specs.Headers.{Header, header_of}
-use Rattle.hd_volume.specs.Volumes.{VolumeState, block_at, IsKind, IsFormatted}
+use Rattle.hd_volume.specs.Volumes.{VolumeState, IsFormatted}
 use Rattle.hd_volume.specs.Rooms.{spare, free_blocks, HasFreeBlock}
 use Rattle.hd_volume.specs.Entries.{Entry}
-use Rattle.hd_volume.proofs.JoinLemmas.{AreOne, one-kind, one-formatted, one-segments, one-spare, one-holes}
+use Rattle.hd_volume.proofs.JoinLemmas.{AreOne, one-kind, one-segments, one-spare, one-holes}
 use Rattle.hd_volume.proofs.KindLemmas.{none-free}
 use Rattle.hd_levels.specs.Maps.{greatest_below, with_entry}
 use Rattle.hd_levels.specs.IndexSets.{index_entries, HasIndexSet}

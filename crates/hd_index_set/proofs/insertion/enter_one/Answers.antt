@@ -1,4 +1,4 @@
-use Rattle.std.proofs.Common.{◌≡◌, ℕ, List, IsTrue, subst}
+use Rattle.std.proofs.Common.{ℕ, List, IsTrue, subst}
 use Rattle.hd_volume.specs.Entries.{Entry}
 use Rattle.hd_volume.proofs.JoinLemmas.{read-one}
 use Rattle.hd_levels.specs.Maps.{with_entry}

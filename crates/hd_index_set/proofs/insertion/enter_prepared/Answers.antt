@@ -1,4 +1,4 @@
-use Rattle.std.proofs.Common.{◌≡◌, ◌+◌, ◌-◌, ◌<◌, ℕ, List, IsTrue, subst, arith}
+use Rattle.std.proofs.Common.{◌-◌, ℕ, List, IsTrue, subst, arith}
 use Rattle.hd_volume.specs.Entries.{Entry}
 use Rattle.hd_levels.specs.Maps.{with_entry}
 use Rattle.hd_levels.specs.IndexSets.{index_entries}

@@ -1,18 +1,16 @@
-use Rattle.std.proofs.Common.{◌≡◌, ◌+◌, ◌-◌, ◌≤◌, ◌<◌, ℕ, suc, List, IsTrue, Result, Ok, Err, refl, sym, ap, ◌∙◌, subst, arith}
+use Rattle.std.proofs.Common.{◌≡◌, ◌+◌, ◌-◌, ◌<◌, ℕ, suc, IsTrue, Result, Ok, Err, refl, sym, ap, ◌∙◌, subst, arith}
 use Rattle.std.specs.Prelude.{IfErr}
 use Rattle.std.proofs.lemmas.Result.{err_from_is_err_and}
 use Rattle.hd_dbd.specs.declared.answer.Refused.{Refused}
 use Rattle.hd_dbd.specs.declared.answer.Refused.TheVariants.{Device}
-use Rattle.hd_volume.specs.Volumes.{VolumeState}
 use Rattle.hd_volume.specs.Calls.{IsCall}
-use Rattle.hd_volume.specs.Entries.{Entry}
-use Rattle.hd_volume.proofs.JoinLemmas.{AreOne, calls-join, if-err-map}
+use Rattle.hd_volume.proofs.JoinLemmas.{calls-join}
 use Rattle.hd_volume.proofs.CallSteps.{call-ok, call-none, sound-back}
 use Rattle.hd_levels.specs.IndexSets.{index_entries}
 use Rattle.hd_levels.specs.Needs.{needed_by}
 use Rattle.hd_index_set.specs.Changes.{IsChanged}
 use Rattle.hd_index_set.specs.Rooms.{IsReady}
-use Rattle.hd_index_set.proofs.Inserting.{unchanged, changed-join, changed-on, ready-step, ready-device}
+use Rattle.hd_index_set.proofs.Inserting.{unchanged, changed-on, ready-step, ready-device}
 use Rattle.hd_index_set.proofs.insertion.make_rooms.Goals as goal
 
 pub loop-init : goal.loop-init

@@ -1,9 +1,7 @@
-use Rattle.std.proofs.Common.{◌≡◌, true, false, Option, None, Some, ℕ, List, IsTrue, sym, ap, ◌∙◌, subst, not}
+use Rattle.std.proofs.Common.{◌≡◌, false, Option, None, Some, ℕ, IsTrue, sym, ap, ◌∙◌, not}
 use Rattle.std.specs.Option.{is_some}
-use Rattle.hd_volume.specs.Entries.{Entry}
 use Rattle.hd_volume.proofs.JoinLemmas.{read-one}
 use Rattle.hd_levels.specs.Maps.{address_from}
-use Rattle.hd_levels.specs.Levels.{AreBelow}
 use Rattle.hd_levels.specs.IndexSets.{index_entries}
 use Rattle.hd_index_set.proofs.Leading.{none-from}
 use Rattle.hd_index_set.proofs.Searching.{set-same, sight-same}
