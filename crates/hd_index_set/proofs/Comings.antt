@@ -38,8 +38,12 @@ use Rattle.hd_index_set.specs.Comings.{IsComing, MayCome, HasComeTo, IsTurnOf, I
 use Rattle.hd_index_set.specs.Blocks.{IsInOrder}
 use Rattle.hd_index_set.proofs.Searching.{set-same, right-order}
 use Rattle.hd_levels.proofs.Naming.{names-once, entry-once}
-use Rattle.hd_levels.proofs.Coming.{not-self, way-steps, way-top, around-kept, named-kept, leaf-kept, leaf-open}
-use Rattle.hd_index_set.proofs.Edited.{edited-block, edited-others, edited-lower, edited-upper, edited-set, edited-entries, edited-changed, entries-before}
+use Rattle.hd_levels.proofs.Coming.{not-self, way-steps, way-top, around-kept, named-kept, leaf-open}
+use Rattle.hd_levels.proofs.Paths.{leaf-upper}
+use Rattle.hd_index_set.proofs.Leading.{leaf-more, child-raised, full-kept, needed-kept, greatest-low}
+use Rattle.hd_index_set.proofs.Parts.{length-with-key}
+use Rattle.hd_index_set.proofs.Filling.{needed-same}
+use Rattle.hd_index_set.proofs.Edited.{edited-block, edited-other, edited-others, edited-lower, edited-upper, edited-set, edited-entries, edited-changed, entries-before}
 use Rattle.hd_index_set.proofs.Inserting.{unchanged, changed-join}
 
 -- ---- the block of a way
@@ -53,11 +57,14 @@ pub coming-kind : (k : ℕ) (v : VolumeState) (key by : List ℕ) (l n : ℕ) �
 coming-kind k v key by l n m = (level-kind v n l (coming-level k v key by l n m.coming).level).0
 
 -- there is a top
-pub coming-tops : (k : ℕ) (v : VolumeState) (key by : List ℕ) (l n : ℕ) → IsComing k v key by l n → top_blocks v ≡ (header_of v.image).top ∷ []
-coming-tops k v key by l n x =
+pub coming-some : (k : ℕ) (v : VolumeState) (key by : List ℕ) (l n : ℕ) → IsComing k v key by l n → 0 < (header_of v.image).top
+coming-some k v key by l n x =
     let t = way-top (index_blocks k v) (top_level v) (header_of v.image).top key x.steps l x.left n x.right x.way x.around.set in
     let is = level-kind v (header_of v.image).top t.0 t.1 in
-    top-is v is.0.later
+    is.0.later
+
+pub coming-tops : (k : ℕ) (v : VolumeState) (key by : List ℕ) (l n : ℕ) → IsComing k v key by l n → top_blocks v ≡ (header_of v.image).top ∷ []
+coming-tops k v key by l n x = top-is v (coming-some k v key by l n x)
 
 -- ---- one step
 
@@ -124,11 +131,11 @@ step-whole : (k : ℕ) (v : VolumeState) (key by : List ℕ) (l p : ℕ) (turn :
 step-whole k v key by l p turn m s =
     ap (entries_below (index_blocks k v) l) (sym (names-of (index_blocks k v) s.before turn.child s.behind m.coming.left p m.coming.right s.names)) ∙ m.coming.whole
 
--- the leaf below is the leaf
-step-room : (k : ℕ) (v : VolumeState) (key by : List ℕ) (l p : ℕ) (turn : Turn) (m : MayCome k v key by (suc l) p) → IsTurnOf by key (entries_in k (block_at v p)) turn
-    → is_full (index_blocks k v) (entry_room k v.size) (leaf_of (index_blocks k v) by l turn.child) ≡ false
-step-room k v key by l p turn m t =
-    ap (λ (i : ℕ). is_full (index_blocks k v) (entry_room k v.size) (leaf_of (index_blocks k v) by l i)) t.child_is ∙ m.room
+-- the key leads on to the block at the turn
+step-leads : (k : ℕ) (v : VolumeState) (key by : List ℕ) (l p : ℕ) (turn : Turn) (m : MayCome k v key by (suc l) p) → IsTurnOf by key (entries_in k (block_at v p)) turn
+    → leaf_of (index_blocks k v) by (suc m.coming.steps) (header_of v.image).top ≡ turn.child
+step-leads k v key by l p turn m t =
+    leaf-more (index_blocks k v) by m.coming.steps (header_of v.image).top ∙ ap (λ (i : ℕ). child_of by (entries_in k (block_at v i))) m.coming.leads ∙ sym t.child_is
 
 -- where the upper key is not below the new one nothing changes
 pub step-stays : (k : ℕ) (v : VolumeState) (key by : List ℕ) (l p : ℕ) (turn : Turn) → MayCome k v key by (suc l) p → IsTurnOf by key (entries_in k (block_at v p)) turn
@@ -147,8 +154,8 @@ step-stays k v key by l p turn m t low =
         way = (x.left, p, x.right, s.names, s.less, sym s.low_is ∙ low, x.around.set, x.way);
         around = s.around;
         whole = step-whole k v key by l p turn m s;
+        leads = step-leads k v key by l p turn m t;
       };
-      room = step-room k v key by l p turn m t;
     }
 
 -- else it is raised
@@ -240,12 +247,51 @@ module _ (k : ℕ) (v w : VolumeState) (key by : List ℕ) (l p : ℕ) (turn : T
         (raised-way s).0,
       )
 
+  -- the key that leads is not above the new one, and leads to the same block
+  raised-child : (s : IsStep k v key by l p turn m.coming.left m.coming.right) → child_of by (entries_in k (block_at w p)) ≡ turn.child
+  raised-child s =
+      let b = edited-block k v w (suc l) p (with_key_at turn.index key (entries_in k (block_at v p))) own new in
+      let under : key_less key by ≡ false = ap (key_less key) m.by_is ∙ greatest-low key key (index_entries k v) (not-self key) in
+      ap (child_of by) (b.1 ∙ raised-entries s)
+      ∙ child-raised by key s.names.front s.names.entry s.names.back under (ap (child_of by) (sym s.names.is) ∙ sym t.child_is ∙ sym s.names.child)
+      ∙ s.names.child
+
+  set-was : IsIndexSet (index_blocks k v) (top_level v) ((header_of v.image).top ∷ [])
+  set-was = (let S : List ℕ → Type 0 = λ ns. IsIndexSet (index_blocks k v) (top_level v) ns in subst S (coming-tops k v key by (suc l) p m.coming) m.index.set)
+
+  raised-leads : (s : IsStep k v key by l p turn m.coming.left m.coming.right) → leaf_of (index_blocks k w) by (suc m.coming.steps) (header_of v.image).top ≡ turn.child
+  raised-leads s =
+      let deep = way-steps (index_blocks k v) (top_level v) (header_of v.image).top key m.coming.steps (suc l) m.coming.left p m.coming.right m.coming.way in
+      leaf-more (index_blocks k w) by m.coming.steps (header_of v.image).top
+      ∙ ap (λ (i : ℕ). child_of by (entries_in k (block_at w i)))
+      (leaf-upper (index_blocks k v) (index_blocks k w) by (suc l) (edited-upper k v w (suc l) p (with_key_at turn.index key (entries_in k (block_at v p))) own new) m.coming.steps (top_level v)
+      (header_of v.image).top ((header_of v.image).top ∷ []) (sym deep) set-was (inl refl)
+      ∙ m.coming.leads)
+      ∙ raised-child s
+
+  -- as many blocks are needed
+  raised-needed : (s : IsStep k v key by l p turn m.coming.left m.coming.right) → needed_by k w by ≡ needed_by k v by
+  raised-needed s =
+      let es : List Entry = entries_in k (block_at v p) in
+      let b = edited-block k v w (suc l) p (with_key_at turn.index key es) own new in
+      needed-kept k v w by new.edit.size new.edit.header
+      (full-kept (index_blocks k v) (index_blocks k w) (entry_room k v.size) by
+      (λ i j at. elim (cases_eq i p) [
+        | inl e ↦ (
+          ap (λ (x : ℕ). child_of by (entries_in k (block_at w x))) e ∙ raised-child s ∙ t.child_is ∙ ap (λ (x : ℕ). child_of by (entries_in k (block_at v x))) (sym e),
+          ap (λ (x : ℕ). length (entries_in k (block_at w x))) e ∙ ap length b.1 ∙ length-with-key es turn.index key ∙ ap (λ (x : ℕ). length (entries_in k (block_at v x))) (sym e),
+        )
+        | inr other ↦ (let r = edited-other k v w (suc l) p (with_key_at turn.index key es) own new i j at other in (ap (child_of by) r.1, ap length r.1))
+      ])
+      (top_level v) (header_of v.image).top ((header_of v.image).top ∷ []) set-was (inl refl))
+
   raised-coming : (s : IsStep k v key by l p turn m.coming.left m.coming.right) → IsComing k w key by l turn.child
   raised-coming s =
       let lower = edited-lower k v w (suc l) p (with_key_at turn.index key (entries_in k (block_at v p))) own new in
       let head = new.edit.header in
       let ns : List ℕ = s.before ++ (turn.child ∷ s.behind) in
       let W : Header → Type 0 = λ h. IsWayDown (index_blocks k w) (h.height - 1) h.top key (suc m.coming.steps) l s.before turn.child s.behind in
+      let T : Header → Type 0 = λ h. leaf_of (index_blocks k w) by (suc m.coming.steps) h.top ≡ turn.child in
       let low_set = set-stays (index_blocks k v) (index_blocks k w) (suc l) lower l (omega arith) ns s.around.set in
       record {
         steps = suc m.coming.steps;
@@ -254,24 +300,20 @@ module _ (k : ℕ) (v w : VolumeState) (key by : List ℕ) (l p : ℕ) (turn : T
         way = subst W (sym head) (raised-down s);
         around = around-kept (index_blocks k v) (index_blocks k w) by l s.before turn.child s.behind lower s.around;
         whole = same-below (index_blocks k v) (index_blocks k w) l ns low_set.1 ∙ step-whole k v key by l p turn m s ∙ sym (raised-same s);
+        leads = subst T (sym head) (raised-leads s);
       }
 
   raised-come : (s : IsStep k v key by l p turn m.coming.left m.coming.right) → HasComeTo k v key by l turn.child w
   raised-come s =
       let same = raised-same s in
-      let lower = edited-lower k v w (suc l) p (with_key_at turn.index key (entries_in k (block_at v p))) own new in
-      let R : ℕ → Type 0 = λ z. is_full (index_blocks k w) (entry_room k z) (leaf_of (index_blocks k w) by l turn.child) ≡ false in
       record {
         changed = edited-changed k v w (suc l) p (with_key_at turn.index key (entries_in k (block_at v p))) own new (index_entries k v) (raised-set s) same;
+        needed = raised-needed s;
         may = record {
           index = raised-set s;
           new = ap (address_of key) same ∙ m.new;
           by_is = m.by_is ∙ ap (greatest_below key key) (sym same);
           coming = raised-coming s;
-          room = subst R (sym new.edit.size)
-              (leaf-kept (index_blocks k v) (index_blocks k w) (entry_room k v.size) by (suc l) l turn.child (s.before ++ (turn.child ∷ s.behind)) lower (omega arith) s.around.set
-              (among-right turn.child s.before (turn.child ∷ s.behind) (inl refl))
-              ∙ step-room k v key by l p turn m t);
         };
       }
 
@@ -346,11 +388,10 @@ needed-full k v by some none =
 
 -- the way begins at the top
 pub come-top : (k : ℕ) (v : VolumeState) (key by : List ℕ) (levels n : ℕ) → HasIndexSet k v → address_of key (index_entries k v) ≡ None → by ≡ greatest_below key key (index_entries k v)
-    → needed_by k v by ≡ 0 → levels ≡ top_level v → n ≡ (header_of v.image).top → MayCome k v key by levels n
-come-top k v key by levels n x new is none level top =
+    → 0 < (header_of v.image).top → levels ≡ top_level v → n ≡ (header_of v.image).top → MayCome k v key by levels n
+come-top k v key by levels n x new is some level top =
     let c : IndexBlocks = index_blocks k v in
     let two = x.version in
-    let some = needed-top k v by none in
     let S : List ℕ → Type 0 = λ ns. IsIndexSet c (top_level v) ns in
     let M : ℕ → ℕ → Type 0 = λ l i. MayCome k v key by l i in
     let begin : MayCome k v key by (top_level v) (header_of v.image).top = record {
@@ -364,8 +405,8 @@ come-top k v key by levels n x new is none level top =
         way = (refl, refl, refl, refl);
         around = top-around c by (top_level v) (header_of v.image).top (subst S (top-is v some) x.set);
         whole = ap (entries_below c (top_level v)) (sym (top-is v some)) ∙ sym ((entries-below k v).1 (λ e. omega arith));
+        leads = refl;
       };
-      room = leaf-open c (entry_room k v.size) by (top_level v) (header_of v.image).top (needed-full k v by some none);
     } in
     subst (λ (l : ℕ). M l n) (sym level) (subst (M (top_level v)) (sym top) begin)
 
@@ -379,7 +420,7 @@ may-same k v w key by l n o m =
     let head : header_of w.image ≡ header_of v.image = ap header_of o.image in
     let W : IndexBlocks → Header → Type 0 = λ b h. IsWayDown b (h.height - 1) h.top key x.steps l x.left n x.right in
     let A : IndexBlocks → Type 0 = λ b. IsAround b by l x.left n x.right in
-    let R : IndexBlocks → ℕ → Type 0 = λ b z. is_full b (entry_room k z) (leaf_of b by l n) ≡ false in
+    let T : IndexBlocks → Header → Type 0 = λ b h. leaf_of b by x.steps h.top ≡ n in
     record {
       index = s.0;
       new = ap (address_of key) s.1 ∙ m.new;
@@ -391,27 +432,27 @@ may-same k v w key by l n o m =
         way = subst (W (index_blocks k w)) (sym head) (subst (λ (b : IndexBlocks). W b (header_of v.image)) (sym c) x.way);
         around = subst A (sym c) x.around;
         whole = ap (λ (b : IndexBlocks). entries_below b l (x.left ++ (n ∷ x.right))) c ∙ x.whole ∙ sym s.1;
+        leads = subst (T (index_blocks k w)) (sym head) (subst (λ (b : IndexBlocks). T b (header_of v.image)) (sym c) x.leads);
       };
-      room = subst (R (index_blocks k w)) (sym o.same.size) (subst (λ (b : IndexBlocks). R b v.size) (sym c) m.room);
     }
 
 -- a step behind others
-pub come-join : (k : ℕ) (u v w : VolumeState) (key by : List ℕ) (l n : ℕ) → HasIndexSet k u → 0 < u.size → IsChanged k u (index_entries k u) 0 v → HasComeTo k v key by l n w → HasComeTo k u key by l n w
-come-join k u v w key by l n x some a b =
+pub come-join : (k : ℕ) (u v w : VolumeState) (key by : List ℕ) (i q l n : ℕ) → HasIndexSet k u → 0 < u.size → HasComeTo k u key by i q v → HasComeTo k v key by l n w → HasComeTo k u key by l n w
+come-join k u v w key by i q l n x some a b =
     let C : List Entry → Type 0 = λ es. IsChanged k v es 0 w in
-    record { changed = changed-join k u v w (index_entries k u) (index_entries k u) 0 0 0 x some refl a (subst C a.entries b.changed); may = b.may }
+    record { changed = changed-join k u v w (index_entries k u) (index_entries k u) 0 0 0 x some refl a.changed (subst C a.changed.entries b.changed); needed = b.needed ∙ a.needed; may = b.may }
 
 -- no step
 pub come-none : (k : ℕ) (v : VolumeState) (key by : List ℕ) (l n : ℕ) → MayCome k v key by l n → HasComeTo k v key by l n v
 come-none k v key by l n m =
     let o : AreOne v v = record { same = record { size = refl; sizes = refl }; image = refl } in
-    record { changed = unchanged k v v m.index o; may = m }
+    record { changed = unchanged k v v m.index o; needed = refl; may = m }
 
 -- a step that only read
 pub come-read : (k : ℕ) (v w : VolumeState) (key by : List ℕ) (l p : ℕ) (turn : Turn) → AreOne v w → MayCome k v key by (suc l) p → IsTurnOf by key (entries_in k (block_at v p)) turn → turn.is_low ≡ false
     → HasComeTo k v key by l turn.child w
 come-read k v w key by l p turn o m t low =
-    record { changed = unchanged k v w m.index o; may = may-same k v w key by l turn.child o (step-stays k v key by l p turn m t low) }
+    record { changed = unchanged k v w m.index o; needed = needed-same k v w by o; may = may-same k v w key by l turn.child o (step-stays k v key by l p turn m t low) }
 
 -- ---- what the code reads and writes
 
@@ -443,10 +484,15 @@ step-come u v w key by l n turn o m t r =
     ]
 
 -- a block that has room for an entry more
-pub leaf-room : (k : ℕ) (v : VolumeState) (key by : List ℕ) (n count room : ℕ) → MayCome k v key by 0 n → number_at 2 (block_at v n) 4 ≡ count → room ≡ entry_room k v.size → count < room
-leaf-room k v key by n count room m is room_is =
+pub leaf-room : (k : ℕ) (v : VolumeState) (key by : List ℕ) (n count room : ℕ) → MayCome k v key by 0 n → needed_by k v by ≡ 0 → number_at 2 (block_at v n) 4 ≡ count → room ≡ entry_room k v.size → count < room
+leaf-room k v key by n count room m none is room_is =
     let len : length (entries_in k (block_at v n)) ≡ number_at 2 (block_at v n) 4 = length-entries k (block_at v n) 12 (number_at 2 (block_at v n) 4) in
-    let open_leaf : nat_le (entry_room k v.size) (length (entries_in k (block_at v n))) ≡ false = m.room in
+    let c : IndexBlocks = index_blocks k v in
+    let x = m.coming in
+    let steps : x.steps ≡ top_level v = (let e = way-steps c (top_level v) (header_of v.image).top key x.steps 0 x.left n x.right x.way in omega arith) in
+    let open_leaf : nat_le (entry_room k v.size) (length (entries_in k (block_at v n))) ≡ false =
+    ap (is_full c (entry_room k v.size)) (sym m.coming.leads ∙ ap (λ (i : ℕ). leaf_of c by i (header_of v.image).top) steps)
+    ∙ leaf-open c (entry_room k v.size) by (top_level v) (header_of v.image).top (needed-full k v by (needed-top k v by none) none) in
     elim (cases_lt count room) [
       | inl less ↦ less
       | inr most ↦

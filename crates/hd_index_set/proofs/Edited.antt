@@ -33,7 +33,7 @@ module _ (k : ℕ) (v w : VolumeState) (l p : ℕ) (es : List Entry) (own : leve
       (b.0 ∙ ap (λ (i : ℕ). Some i) s.1, b.1, b.2)
 
   -- another stays
-  edited-other : (x j : ℕ) → level_in v x ≡ Some j → x ≢ p → (level_in w x ≡ Some j) × (entries_in k (block_at w x) ≡ entries_in k (block_at v x)) × (next_in w x ≡ next_in v x)
+  pub edited-other : (x j : ℕ) → level_in v x ≡ Some j → x ≢ p → (level_in w x ≡ Some j) × (entries_in k (block_at w x) ≡ entries_in k (block_at v x)) × (next_in w x ≡ next_in v x)
   edited-other x j is other =
       let r = other-stays k p p 0 (edit-step new.edit) x j is other other in
       (r.0.0, r.0.1, r.1)

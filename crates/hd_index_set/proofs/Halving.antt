@@ -79,7 +79,7 @@ full-known k v by x some =
 -- ---- what is read for it
 
 -- the entry leads where the key does
-lead-child : (k : ℕ) (u : VolumeState) (by : List ℕ) (p : ℕ) (lead : Lead) → IsLeadOf k by (block_at u p) lead → lead.child ≡ child_of by (entries_in k (block_at u p))
+pub lead-child : (k : ℕ) (u : VolumeState) (by : List ℕ) (p : ℕ) (lead : Lead) → IsLeadOf k by (block_at u p) lead → lead.child ≡ child_of by (entries_in k (block_at u p))
 lead-child k u by p lead leads =
     let ups : List Entry = entries_in k (block_at u p) in
     let len = length-entries k (block_at u p) 12 (number_at 2 (block_at u p) 4) in
@@ -87,7 +87,7 @@ lead-child k u by p lead leads =
     let at : lead.index ≡ min (below_count by ups) (length ups - 1) = omega arith in
     child-here by ups lead.index (record { key = take k lead.key; address = lead.child }) at leads.at.entry
 
-lead-right : (k : ℕ) (u : VolumeState) (by : List ℕ) (l p : ℕ) (lead : Lead) → HasIndexSet k u → IsRightBlock k u (suc l) p → IsLeadOf k by (block_at u p) lead → IsRightBlock k u l lead.child
+pub lead-right : (k : ℕ) (u : VolumeState) (by : List ℕ) (l p : ℕ) (lead : Lead) → HasIndexSet k u → IsRightBlock k u (suc l) p → IsLeadOf k by (block_at u p) lead → IsRightBlock k u l lead.child
 lead-right k u by l p lead x right leads =
     let R : ℕ → Type 0 = λ i. IsRightBlock k u l i in
     subst R (sym (lead-child k u by p lead leads)) (children-right k u by l p x right)

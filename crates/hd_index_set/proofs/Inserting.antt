@@ -1,14 +1,14 @@
 -- How the changes of an insert follow one another.
-use Rattle.std.proofs.Common.{◌≡◌, ◌⊎◌, inl, inr, ℕ, suc, ◌+◌, ◌-◌, ◌<◌, ◌≤◌, List, IsTrue, Result, Ok, Err, refl, sym, ap, ◌∙◌, subst, arith, ne_eqb}
+use Rattle.std.proofs.Common.{◌≡◌, ◌⊎◌, inl, inr, ℕ, suc, ◌+◌, ◌<◌, ◌≤◌, List, IsTrue, Result, Ok, Err, refl, ap, ◌∙◌, subst, arith, ne_eqb}
 use Rattle.std.specs.Prelude.{OnOk, IfErr}
 use Rattle.std.proofs.lemmas.Bool.{eq-eqb}
 use Rattle.hd_dbd.specs.declared.answer.Refused.{Refused}
 use Rattle.hd_dbd.specs.declared.answer.Refused.TheVariants.{Memory, Full, Device}
 use Rattle.hd_volume.specs.Headers.{Header, header_of}
-use Rattle.hd_volume.specs.Volumes.{VolumeState, block_at, IsKind, IsFormatted}
+use Rattle.hd_volume.specs.Volumes.{VolumeState, IsFormatted}
 use Rattle.hd_volume.specs.Rooms.{spare, free_blocks, HasFreeBlock}
 use Rattle.hd_volume.specs.Entries.{Entry}
-use Rattle.hd_volume.proofs.JoinLemmas.{AreOne, one-kind, one-formatted, one-segments, one-spare, one-holes}
+use Rattle.hd_volume.proofs.JoinLemmas.{AreOne, one-kind, one-segments, one-spare, one-holes}
 use Rattle.hd_volume.proofs.KindLemmas.{none-free}
 use Rattle.hd_levels.specs.Maps.{greatest_below, with_entry}
 use Rattle.hd_levels.specs.IndexSets.{index_entries, HasIndexSet}
@@ -83,6 +83,18 @@ ready-step k u w es needed ready c room =
       taken = elim ready.taken [ inl r ↦ inl (omega arith) | inr f ↦ inr (omega arith) ];
     }
 
+-- as many may be taken where none was
+pub ready-on : (k : ℕ) (u w : VolumeState) (es : List Entry) (needed : ℕ) → IsReady needed u → IsChanged k u es 0 w → w.room ≡ u.room → IsReady needed w
+ready-on k u w es needed ready c room =
+    let p = c.spares in
+    let count = c.change.count in
+    let largest : (header_of w.image).largest ≡ (header_of u.image).largest = ap (λ (h : Header). h.largest) c.change.header in
+    let s = ready.spares in
+    record {
+      spares = omega arith;
+      taken = elim ready.taken [ inl r ↦ inl (omega arith) | inr f ↦ inr (omega arith) ];
+    }
+
 -- and nothing is refused but an access
 pub ready-device : (needed : ℕ) (v w : VolumeState) (e : Refused) → IsFormatted v → IsReady (suc needed) v → IsTrue v.is_sound → IsRefused v e w → e ≡ Device
 ready-device needed v w e f ready sound r =
@@ -105,14 +117,6 @@ ready-device needed v w e f ready sound r =
 -- a volume with the image of one that has the image of a third
 pub one-after : {u v w : VolumeState} → AreOne u v → AreOne v w → AreOne u w
 one-after a b = record { same = record { size = b.same.size ∙ a.same.size; sizes = b.same.sizes ∙ a.same.sizes }; image = b.image ∙ a.image }
-
--- an entry that comes in once all blocks that it needs were taken
-pub entered : (k : ℕ) (v p w z : VolumeState) (es : List Entry) (needed : ℕ) → HasIndexSet k v → 0 < v.size → AreOne v p → IsChanged k p (index_entries k p) needed w → IsChanged k w es 0 z
-    → IsChanged k v es needed z
-entered k v p w z es needed x some o taken last =
-    let first = unchanged k v p x o in
-    let both = changed-join k v p w (index_entries k v) (index_entries k p) 0 needed needed x some (omega arith) first taken in
-    changed-join k v w z (index_entries k p) es needed 0 needed x some (omega arith) both last
 
 -- what holds where a call is done, by what held of it
 pub on-ok : {A E P Q : Type 0} (r : Result A E) → OnOk r P → (P → Q) → OnOk r Q

@@ -18,3 +18,6 @@ pub mod Halving
 pub mod Under
 pub mod Tops
 pub mod Inserting
+pub mod Hanging
+pub mod Ends
+pub mod Leading

@@ -1,5 +1,5 @@
 -- A change behind a read is one of what was read.
-use Rattle.std.proofs.Common.{◌≡◌, inl, inr, ℕ, suc, ◌+◌, ◌-◌, IsTrue, List, ◌∷◌, ◌++◌, take, drop, Result, Ok, Err, IfErr, sym, ap, ◌∙◌, subst, arith}
+use Rattle.std.proofs.Common.{◌≡◌, inl, inr, ℕ, suc, ◌-◌, IsTrue, List, ◌∷◌, ◌++◌, take, drop, Result, Ok, Err, IfErr, sym, ap, ◌∙◌, subst, arith}
 use Rattle.hd_dbd.specs.declared.answer.Refused.{Refused}
 use Rattle.hd_dbd.specs.declared.answer.Refused.TheVariants.{Device}
 use Rattle.hd_volume.specs.Headers.{header_of}

@@ -1,11 +1,11 @@
 -- What one change of index blocks leaves of the index set that they are part of.
-use Rattle.std.proofs.Common.{◌≡◌, ◌≢◌, ◌⊎◌, inl, inr, ℕ, suc, ◌+◌, ◌<◌, ◌≤◌, List, [], ◌∷◌, Some, slice_index, refl, sym, ap, ◌∙◌, subst, arith}
+use Rattle.std.proofs.Common.{◌≡◌, ◌≢◌, inl, inr, ℕ, ◌≤◌, List, Some, slice_index, sym, ap, ◌∙◌, subst}
 use Rattle.std.proofs.lemmas.Bool.{cases_eq}
 use Rattle.hd_bytes.specs.Numbers.{number_at}
 use Rattle.hd_volume.specs.Headers.{header_of}
 use Rattle.hd_volume.specs.Volumes.{VolumeState, block_at, IsKind, IsFormatted}
 use Rattle.hd_volume.specs.Entries.{Entry, entries_in}
-use Rattle.hd_volume.specs.Indexes.{entry_room, IsAmong}
+use Rattle.hd_volume.specs.Indexes.{entry_room}
 use Rattle.hd_levels.specs.Levels.{IsIndexSet}
 use Rattle.hd_levels.specs.Changes.{Stays}
 use Rattle.hd_levels.specs.Chains.{AreLevelsLinked}

@@ -3,12 +3,12 @@ use Rattle.std.specs.Prelude.{◌≡◌, ◌⊎◌, true, false, ℕ, List, ◌�
 use Rattle.hd_volume.specs.Headers.{header_of}
 use Rattle.hd_volume.specs.Volumes.{VolumeState}
 use Rattle.hd_volume.specs.Entries.{Entry}
-use Rattle.hd_volume.specs.Indexes.{entry_room, key_less}
+use Rattle.hd_volume.specs.Indexes.{key_less}
 use Rattle.hd_levels.specs.Maps.{address_of, greatest_below}
 use Rattle.hd_levels.specs.Levels.{entries_below}
 use Rattle.hd_levels.specs.Ways.{child_of, leaf_of, IsAround, IsWayDown}
 use Rattle.hd_levels.specs.IndexSets.{index_blocks, top_level, index_entries, HasIndexSet}
-use Rattle.hd_levels.specs.Needs.{is_full}
+use Rattle.hd_levels.specs.Needs.{needed_by}
 use Rattle.hd_index_edits.specs.Edits.{IsKeyChanged}
 use Rattle.hd_index_set.specs.declared.enter.Turn.{Turn}
 use Rattle.hd_index_set.specs.Changes.{IsChanged}
@@ -21,18 +21,19 @@ pub record IsComing (key_length : ℕ) (v : VolumeState) (key by : List ℕ) (l 
   pub way : IsWayDown (index_blocks key_length v) (top_level v) (header_of v.image).top key steps l left n right
   pub around : IsAround (index_blocks key_length v) by l left n right
   pub whole : entries_below (index_blocks key_length v) l (left ++ (n ∷ right)) ≡ index_entries key_length v
+  pub leads : leaf_of (index_blocks key_length v) by steps (header_of v.image).top ≡ n
 
--- The key is new, it is to come in below block n of a level, and the block of the sequence set at the end has room for it.
+-- The key is new, and it is to come in below block n of a level.
 pub record MayCome (key_length : ℕ) (v : VolumeState) (key by : List ℕ) (l n : ℕ) : Type 0 where
   pub index : HasIndexSet key_length v
   pub new : address_of key (index_entries key_length v) ≡ None
   pub by_is : by ≡ greatest_below key key (index_entries key_length v)
   pub coming : IsComing key_length v key by l n
-  pub room : is_full (index_blocks key_length v) (entry_room key_length v.size) (leaf_of (index_blocks key_length v) by l n) ≡ false
 
--- The index has the entries that it had, and the key may come in below block n of a level.
+-- The index has the entries that it had and needs as many blocks, and the key may come in below block n of a level.
 pub record HasComeTo (key_length : ℕ) (old : VolumeState) (key by : List ℕ) (l n : ℕ) (new : VolumeState) : Type 0 where
   pub changed : IsChanged key_length old (index_entries key_length old) 0 new
+  pub needed : needed_by key_length new by ≡ needed_by key_length old by
   pub may : MayCome key_length new key by l n
 
 -- This is where a key leads among the entries of an upper block: an entry at an index, the block that it names, and whether its key is

@@ -7,3 +7,4 @@ pub mod Stands
 pub mod Greatest
 pub mod Removals
 pub mod Comings
+pub mod Behind

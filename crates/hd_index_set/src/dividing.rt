@@ -148,7 +148,7 @@ pub fn cut_of<S: BlockStore>(
 }
 
 /// A key, without the bytes behind it.
-fn front_of(key: &[u8; 255], key_length: usize) -> &[u8]
+pub fn front_of(key: &[u8; 255], key_length: usize) -> &[u8]
     requires short { key_length ≤ 255 }
     ensures value { result.now ≡ take key_length key.now }
     ensures len { length result.now ≡ key_length }

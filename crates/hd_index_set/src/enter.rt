@@ -144,7 +144,7 @@ fn step_by<S: BlockStore>(
 }
 
 /// So many steps down by a key, where each upper key is raised that is below a new one.
-fn come_down<S: BlockStore>(
+pub fn come_down<S: BlockStore>(
     volume: &mut Volume<S>,
     levels: u32,
     n: u32,
@@ -214,7 +214,7 @@ fn enter_at<S: BlockStore>(
     requires within { gap.index ≤ gap.count }
     requires short { length key.now ≤ 255 }
     ensures call { IsCall volume.old result volume.new }
-    ensures changed { OnOk result (IsTrue volume.old.is_sound → (by : List ℕ) → MayCome (length key.now) volume.old key.now by 0 n → IsChanged (length key.now) volume.old (with_entry (record { key = key.now; address = address }) (index_entries (length key.now) volume.old)) 0 volume.new) }
+    ensures changed { OnOk result (IsTrue volume.old.is_sound → (by : List ℕ) → MayCome (length key.now) volume.old key.now by 0 n → needed_by (length key.now) volume.old by ≡ 0 → IsChanged (length key.now) volume.old (with_entry (record { key = key.now; address = address }) (index_entries (length key.now) volume.old)) 0 volume.new) }
     ensures refusal { OnlyDevice result }
     ensures room { volume.new.room ≡ volume.old.room }
 {
@@ -237,7 +237,7 @@ fn enter_leaf<S: BlockStore>(
     requires some { 0 < volume.old.size }
     requires short { length key.now ≤ 255 }
     ensures call { IsCall volume.old result volume.new }
-    ensures changed { OnOk result (IsTrue volume.old.is_sound → (by : List ℕ) → MayCome (length key.now) volume.old key.now by 0 n → IsChanged (length key.now) volume.old (with_entry (record { key = key.now; address = address }) (index_entries (length key.now) volume.old)) 0 volume.new) }
+    ensures changed { OnOk result (IsTrue volume.old.is_sound → (by : List ℕ) → MayCome (length key.now) volume.old key.now by 0 n → needed_by (length key.now) volume.old by ≡ 0 → IsChanged (length key.now) volume.old (with_entry (record { key = key.now; address = address }) (index_entries (length key.now) volume.old)) 0 volume.new) }
     ensures refusal { OnlyDevice result }
     ensures room { volume.new.room ≡ volume.old.room }
 {

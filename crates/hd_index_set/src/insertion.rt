@@ -12,12 +12,14 @@ ghost use Rattle.hd_levels.specs.Needs.{entry_growth, needed_by, set_blocks_need
 ghost use Rattle.hd_index_set.specs.Changes.{IsIndexOf, entries_for, IsIndexChange, IsChanged};
 ghost use Rattle.hd_index_set.specs.Rooms.{IsReady, IsRefusedFor};
 
+use crate::behind::enter_behind;
 use crate::descend::MOST_LEVELS;
 use crate::enter::enter_key;
 use crate::first::insert_first;
 use crate::greatest::greatest;
 use crate::need::{key_or, needed_for};
 use crate::room::make_room;
+use crate::search::is_above_all;
 use hd_dbd::{Dbd, Refused};
 use hd_entries::root_key_length;
 use hd_volume::{BlockStore, Volume};
@@ -104,7 +106,98 @@ fn insert_by<S: BlockStore>(
 {
     let needed = needed_for(volume, key_length, by)?;
     prepare(volume, needed)?;
-    make_rooms(volume, key_length, by, needed)?;
+    enter_prepared(volume, key_length, by, needed, key, address)
+}
+
+/// Enters a new key where so many blocks are needed for it and may be taken; nothing is refused but an access.
+fn enter_prepared<S: BlockStore>(
+    volume: &mut Volume<S>,
+    key_length: usize,
+    by: &[u8],
+    needed: u32,
+    key: &[u8],
+    address: u32,
+) -> Result<(), Refused>
+    requires index { IsTrue volume.old.is_sound → HasIndexSet key_length volume.old }
+    requires some { IsTrue volume.old.is_sound → 0 < (header_of volume.old.image).top }
+    requires new { IsTrue volume.old.is_sound → address_of key.now (index_entries key_length volume.old) ≡ None }
+    requires by { IsTrue volume.old.is_sound → by.now ≡ greatest_below key.now key.now (index_entries key_length volume.old) }
+    requires needed { IsTrue volume.old.is_sound → needed ≡ needed_by key_length volume.old by.now }
+    requires ready { IsTrue volume.old.is_sound → IsReady needed volume.old }
+    requires few { needed ≤ 64 }
+    requires by_whole { length by.now ≡ key_length }
+    requires whole { length key.now ≡ key_length }
+    requires short { key_length ≤ 255 }
+    requires three { entry_place key_length 3 ≤ volume.old.size }
+    ensures call { IsCall volume.old result volume.new }
+    ensures changed { OnOk result (IsTrue volume.old.is_sound → IsChanged key_length volume.old (with_entry (record { key = key.now; address = address }) (index_entries key_length volume.old)) needed volume.new) }
+    ensures device { IfErr result (λ e. IsTrue volume.old.is_sound → e ≡ Refused.Device) }
+    ensures refusal { OnlyRoomOrDevice result }
+    ensures room { IsTrue volume.new.is_sound → volume.old.room ≤ volume.new.room + needed }
+{
+    if needed == 0 {
+        return enter_key(volume, key_length, by, key, address);
+    }
+    make_rooms(volume, key_length, by, needed - 1)?;
+    enter_one(volume, key_length, by, key, address)
+}
+
+/// Enters a new key where one block is needed: where it is above all keys it gets the block, else a block is divided.
+fn enter_one<S: BlockStore>(
+    volume: &mut Volume<S>,
+    key_length: usize,
+    by: &[u8],
+    key: &[u8],
+    address: u32,
+) -> Result<(), Refused>
+    requires index { IsTrue volume.old.is_sound → HasIndexSet key_length volume.old }
+    requires some { IsTrue volume.old.is_sound → 0 < (header_of volume.old.image).top }
+    requires new { IsTrue volume.old.is_sound → address_of key.now (index_entries key_length volume.old) ≡ None }
+    requires by { IsTrue volume.old.is_sound → by.now ≡ greatest_below key.now key.now (index_entries key_length volume.old) }
+    requires needed { IsTrue volume.old.is_sound → needed_by key_length volume.old by.now ≡ 1 }
+    requires ready { IsTrue volume.old.is_sound → IsReady 1 volume.old }
+    requires by_whole { length by.now ≡ key_length }
+    requires whole { length key.now ≡ key_length }
+    requires short { key_length ≤ 255 }
+    requires three { entry_place key_length 3 ≤ volume.old.size }
+    ensures call { IsCall volume.old result volume.new }
+    ensures changed { OnOk result (IsTrue volume.old.is_sound → IsChanged key_length volume.old (with_entry (record { key = key.now; address = address }) (index_entries key_length volume.old)) 1 volume.new) }
+    ensures device { IfErr result (λ e. IsTrue volume.old.is_sound → e ≡ Refused.Device) }
+    ensures refusal { OnlyRoomOrDevice result }
+    ensures room { IsTrue volume.new.is_sound → volume.old.room ≤ volume.new.room + 1 }
+{
+    let above = is_above_all(volume, key_length, key)?;
+    if above {
+        return enter_behind(volume, key_length, by, key, address);
+    }
+    divide_and_enter(volume, key_length, by, key, address)
+}
+
+/// Divides a block for a new key, and enters it.
+fn divide_and_enter<S: BlockStore>(
+    volume: &mut Volume<S>,
+    key_length: usize,
+    by: &[u8],
+    key: &[u8],
+    address: u32,
+) -> Result<(), Refused>
+    requires index { IsTrue volume.old.is_sound → HasIndexSet key_length volume.old }
+    requires some { IsTrue volume.old.is_sound → 0 < (header_of volume.old.image).top }
+    requires new { IsTrue volume.old.is_sound → address_of key.now (index_entries key_length volume.old) ≡ None }
+    requires by { IsTrue volume.old.is_sound → by.now ≡ greatest_below key.now key.now (index_entries key_length volume.old) }
+    requires needed { IsTrue volume.old.is_sound → needed_by key_length volume.old by.now ≡ 1 }
+    requires ready { IsTrue volume.old.is_sound → IsReady 1 volume.old }
+    requires by_whole { length by.now ≡ key_length }
+    requires whole { length key.now ≡ key_length }
+    requires short { key_length ≤ 255 }
+    requires three { entry_place key_length 3 ≤ volume.old.size }
+    ensures call { IsCall volume.old result volume.new }
+    ensures changed { OnOk result (IsTrue volume.old.is_sound → IsChanged key_length volume.old (with_entry (record { key = key.now; address = address }) (index_entries key_length volume.old)) 1 volume.new) }
+    ensures device { IfErr result (λ e. IsTrue volume.old.is_sound → e ≡ Refused.Device) }
+    ensures refusal { OnlyRoomOrDevice result }
+    ensures room { IsTrue volume.new.is_sound → volume.old.room ≤ volume.new.room + 1 }
+{
+    make_room(volume, key_length, by)?;
     enter_key(volume, key_length, by, key, address)
 }
 
@@ -137,29 +230,31 @@ fn prepare<S: BlockStore>(volume: &mut Volume<S>, needed: u32) -> Result<(), Ref
     Ok(())
 }
 
-/// Takes all the blocks that an entry needs where a key leads; nothing is refused but an access.
+/// Takes so many of the blocks that an entry needs where a key leads; nothing is refused but an access.
 fn make_rooms<S: BlockStore>(
     volume: &mut Volume<S>,
     key_length: usize,
     by: &[u8],
-    needed: u32,
+    taken: u32,
 ) -> Result<(), Refused>
     requires index { IsTrue volume.old.is_sound → HasIndexSet key_length volume.old }
     requires some { IsTrue volume.old.is_sound → 0 < (header_of volume.old.image).top }
-    requires needed { IsTrue volume.old.is_sound → needed ≡ needed_by key_length volume.old by.now }
-    requires ready { IsTrue volume.old.is_sound → IsReady needed volume.old }
-    requires few { needed ≤ 64 }
+    requires taken { IsTrue volume.old.is_sound → taken ≤ needed_by key_length volume.old by.now }
+    requires ready { IsTrue volume.old.is_sound → IsReady (needed_by key_length volume.old by.now) volume.old }
+    requires few { IsTrue volume.old.is_sound → needed_by key_length volume.old by.now ≤ 64 }
     requires whole { length by.now ≡ key_length }
     requires short { key_length ≤ 255 }
     requires three { entry_place key_length 3 ≤ volume.old.size }
     ensures call { IsCall volume.old result volume.new }
-    ensures changed { OnOk result (IsTrue volume.old.is_sound → IsChanged key_length volume.old (index_entries key_length volume.old) needed volume.new) }
-    ensures done { OnOk result (IsTrue volume.old.is_sound → needed_by key_length volume.new by.now ≡ 0) }
+    ensures changed { OnOk result (IsTrue volume.old.is_sound → IsChanged key_length volume.old (index_entries key_length volume.old) taken volume.new) }
+    ensures some { OnOk result (IsTrue volume.old.is_sound → 0 < (header_of volume.new.image).top) }
+    ensures left { OnOk result (IsTrue volume.old.is_sound → needed_by key_length volume.new by.now + taken ≡ needed_by key_length volume.old by.now) }
+    ensures still { OnOk result (IsTrue volume.old.is_sound → IsReady (needed_by key_length volume.new by.now) volume.new) }
     ensures device { IfErr result (λ e. IsTrue volume.old.is_sound → e ≡ Refused.Device) }
     ensures refusal { OnlyRoomOrDevice result }
-    ensures room { IsTrue volume.new.is_sound → volume.old.room ≤ volume.new.room + needed }
+    ensures room { IsTrue volume.new.is_sound → volume.old.room ≤ volume.new.room + taken }
 {
-    for _ in 0..needed {
+    for _ in 0..taken {
         make_room(volume, key_length, by)?;
     }
     Ok(())

@@ -2,6 +2,7 @@
 //! sequence set.
 #![tactic(auto)]
 
+mod behind;
 mod descend;
 mod dividing;
 mod enter;

@@ -1,7 +1,8 @@
-ghost use Rattle.std.specs.Prelude.{◌≡◌, ◌≤◌, IsTrue, IfOk};
+ghost use Rattle.std.specs.Prelude.{◌≡◌, ◌≤◌, true, IsTrue, IfOk};
 ghost use Rattle.hd_dbd.specs.Refusals.{OnlyDevice};
 ghost use Rattle.hd_volume.specs.Calls.{IsRead};
 ghost use Rattle.hd_levels.specs.Maps.{address_of, address_from};
+ghost use Rattle.hd_levels.specs.Levels.{AreBelow};
 ghost use Rattle.hd_levels.specs.IndexSets.{index_entries, HasIndexSet};
 ghost use Rattle.hd_index_set.specs.Changes.{IsIndexOf, entries_for};
 ghost use Rattle.hd_index_set.specs.Searches.{IsSightOf};
@@ -83,4 +84,20 @@ fn look_on<S: BlockStore>(
     }
     let next = look(volume, key_length, seen.next, key)?;
     Ok(next.from)
+}
+
+/// A key is above all keys of the index.
+pub fn is_above_all<S: BlockStore>(
+    volume: &mut Volume<S>,
+    key_length: usize,
+    key: &[u8],
+) -> Result<bool, Refused>
+    requires short { key_length ≤ 255 }
+    ensures read { IsRead volume.old result volume.new }
+    ensures value { IfOk result (λ above. IsTrue volume.old.is_sound → HasIndexSet key_length volume.old → above ≡ true → AreBelow key.now (index_entries key_length volume.old)) }
+    ensures refusal { OnlyDevice result }
+{
+    let sight = look_up(volume, key_length, key)?;
+    let found = look_on(volume, key_length, sight, key)?;
+    Ok(found.is_none())
 }

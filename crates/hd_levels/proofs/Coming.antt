@@ -1,10 +1,9 @@
 -- The way of a key down to a leaf, where keys of upper blocks change.
-use Rattle.std.proofs.Common.{◌≡◌, inl, ℕ, zero, suc, ◌+◌, ◌<◌, ◌==◌, ◌&&◌, Bool, true, false, List, ◌∷◌, ◌++◌, length, Some, refl, sym, ap, ◌∙◌, subst, arith}
-use Rattle.std.specs.Prelude.{nat_le}
+use Rattle.std.proofs.Common.{◌≡◌, inl, ℕ, zero, suc, ◌+◌, ◌==◌, ◌&&◌, Bool, true, false, List, ◌∷◌, ◌++◌, Some, refl, sym, ap, ◌∙◌, subst, arith}
 use Rattle.hd_volume.specs.Rooms.{one_if}
 use Rattle.hd_volume.specs.Entries.{Entry}
-use Rattle.hd_volume.specs.Indexes.{key_less, is_below_first, IsAmong}
-use Rattle.hd_levels.specs.Levels.{IndexBlocks, across, named, AreBelow, IsIndexSet}
+use Rattle.hd_volume.specs.Indexes.{key_less, is_below_first}
+use Rattle.hd_levels.specs.Levels.{IndexBlocks, across, AreBelow, IsIndexSet}
 use Rattle.hd_levels.specs.Ways.{child_of, leaf_of, IsAround, IsNamed, IsWayDown}
 use Rattle.hd_levels.specs.Changes.{LowerStay, OthersStay}
 use Rattle.hd_levels.specs.Needs.{is_full, full_blocks}
@@ -12,7 +11,7 @@ use Rattle.hd_levels.proofs.Keys.{less-self}
 use Rattle.hd_levels.proofs.Levels.{same-below, same-parts, on-parts, stay-across, set-stays}
 use Rattle.hd_levels.proofs.Sets.{blocks-once}
 use Rattle.hd_levels.proofs.Entering.{beside}
-use Rattle.hd_levels.proofs.Downs.{of-level, among-right, child-named, named-across}
+use Rattle.hd_levels.proofs.Downs.{of-level, among-right}
 
 -- no key is below itself
 pub not-self : (k : List ℕ) → key_less k k ≡ false
@@ -62,19 +61,7 @@ named-kept c d l before n behind left p right set others s key is =
 
 -- ---- the leaf
 
--- the leaf is as full where the levels down to it stay
-pub leaf-kept : (c d : IndexBlocks) (room : ℕ) (key : List ℕ) (h l n : ℕ) (ns : List ℕ) → LowerStay c d h → l < h → IsIndexSet c l ns → IsAmong n ns
-    → is_full d room (leaf_of d key l n) ≡ is_full c room (leaf_of c key l n)
-leaf-kept c d room key h zero n ns lower less s among =
-    let o = of-level c 0 n ns s among in
-    ap (λ (es : List Entry). nat_le room (length es)) (lower n 0 o.level less).1
-leaf-kept c d room key h (suc l) n ns lower less s among =
-    let o = of-level c (suc l) n ns s among in
-    ap (λ (es : List Entry). is_full d room (leaf_of d key l (child_of key es))) (lower n (suc l) o.level less).1
-    ∙ leaf-kept c d room key h l (child_of key (c.entries n)) (named (across c ns)) lower (omega arith) s.2
-    (named-across c (child_of key (c.entries n)) n ns among (child-named key (c.entries n) o.some))
-
--- it is not full where no block is counted
+-- the leaf is not full where no block is counted
 pub leaf-open : (c : IndexBlocks) (room : ℕ) (key : List ℕ) (l n : ℕ) → full_blocks c room key l n ≡ 0 → is_full c room (leaf_of c key l n) ≡ false
 leaf-open c room key zero n none = by-test (is_full c room n) none
   where

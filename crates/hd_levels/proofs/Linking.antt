@@ -96,7 +96,7 @@ divisions-linked c d old new l n m p left right h s g some low high same = divis
 -- ---- above a change
 
 -- the levels from one on the way down are chains
-levels-on : (c : IndexBlocks) (next : ℕ → ℕ) (h top : ℕ) (key : List ℕ) (steps l : ℕ) (left : List ℕ) (n : ℕ) (right : List ℕ) → IsWayDown c h top key steps l left n right
+pub levels-on : (c : IndexBlocks) (next : ℕ → ℕ) (h top : ℕ) (key : List ℕ) (steps l : ℕ) (left : List ℕ) (n : ℕ) (right : List ℕ) → IsWayDown c h top key steps l left n right
     → AreLevelsLinked c next h (top ∷ []) → AreLevelsLinked c next l (left ++ (n ∷ right))
 levels-on c next h top key zero l left n right way g =
     let L : ℕ → List ℕ → Type 0 = λ i ns. AreLevelsLinked c next i ns in

@@ -49,7 +49,7 @@ loop-preserved g c =
           let now : IsTrue w.is_sound = rw inv.call.sound sound in
           let was = inv.come sound in
           let M : ℕ → Type 0 = λ l. MayCome (length key) w key by l c.loop.below in
-          come-join (length key) v w u key by less c.in_ok-below.below (c.requires.may sound).index c.requires.some was.changed
+          come-join (length key) v w u key by (c.args.levels - c.loop.counter) c.loop.below less c.in_ok-below.below (c.requires.may sound).index c.requires.some was
           (c.in_ok-below.ensures.come now less (subst M more was.may));
     }
 

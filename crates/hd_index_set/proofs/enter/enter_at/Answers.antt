@@ -3,6 +3,7 @@ use Rattle.hd_volume.specs.Volumes.{block_at}
 use Rattle.hd_volume.specs.Entries.{Entry, entries_in}
 use Rattle.hd_volume.specs.Indexes.{entry_room}
 use Rattle.hd_levels.specs.IndexSets.{next_in}
+use Rattle.hd_levels.specs.Needs.{needed_by}
 use Rattle.hd_index_edits.specs.Blocks.{with_entry_at}
 use Rattle.hd_index_edits.specs.Edits.{HasNewEntries, IsEntryAdded}
 use Rattle.hd_index_edits.proofs.CallLemmas.{on-ok-map}
@@ -27,16 +28,16 @@ returns-then-gap-room-clause-changed g c =
     let e : Entry = record { key = key; address = c.args.address } in
     let E : ℕ → Type 0 = λ i. HasNewEntries k u n (with_entry_at i e (entries_in k (block_at u n))) (next_in u n) w in
     on-ok-map c.add_entry.result
-    (λ (added : IsTrue u.is_sound → IsEntryAdded u n c.args.gap.index key c.args.address w) (sound : IsTrue u.is_sound) (by : List ℕ) (m : MayCome k u key by 0 n).
+    (λ (added : IsTrue u.is_sound → IsEntryAdded u n c.args.gap.index key c.args.address w) (sound : IsTrue u.is_sound) (by : List ℕ) (m : MayCome k u key by 0 n) (none : needed_by k u by ≡ 0).
     leaf-entered k u w key by n c.args.address m (subst E (c.requires.place sound) (added sound)))
     c.add_entry.ensures.added
 
 pub returns-clause-changed : goal.returns-clause-changed
-returns-clause-changed g c sound by m =
+returns-clause-changed g c sound by m none =
     let u = c.args.volume.now in
     let key = c.args.key.now in
     let k : ℕ = length key in
     let room : c.entry_room-room.result ≡ entry_room k u.size = c.entry_room-room.ensures.value ∙ ap (entry_room k) c.block_size.ensures.value in
-    let less : c.args.gap.count < c.entry_room-room.result = leaf-room k u key by c.args.n c.args.gap.count c.entry_room-room.result m (c.requires.count sound) room in
+    let less : c.args.gap.count < c.entry_room-room.result = leaf-room k u key by c.args.n c.args.gap.count c.entry_room-room.result m none (c.requires.count sound) room in
     let more = c.if-gap-room.false in
     absurd (omega arith)

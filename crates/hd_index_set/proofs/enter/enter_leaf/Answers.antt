@@ -6,11 +6,13 @@ use Rattle.hd_volume.proofs.JoinLemmas.{read-one, one-kind}
 use Rattle.hd_entries.specs.Fields.{below_count}
 use Rattle.hd_levels.specs.Maps.{with_entry}
 use Rattle.hd_levels.specs.IndexSets.{index_entries}
+use Rattle.hd_levels.specs.Needs.{needed_by}
 use Rattle.hd_index_edits.proofs.CallLemmas.{on-ok-map}
 use Rattle.hd_index_edits.proofs.EditLemmas.{one-block-at}
 use Rattle.hd_index_set.specs.Changes.{IsChanged}
 use Rattle.hd_index_set.specs.Comings.{MayCome}
 use Rattle.hd_index_set.proofs.Searching.{set-same}
+use Rattle.hd_index_set.proofs.Filling.{needed-same}
 use Rattle.hd_index_set.proofs.Inserting.{unchanged, changed-join}
 use Rattle.hd_index_set.proofs.Comings.{known-order, may-same}
 use Rattle.hd_index_set.proofs.enter.enter_leaf.Goals as goal
@@ -65,12 +67,12 @@ returns-clause-changed g c =
     let e : Entry = record { key = key; address = c.args.address } in
     let read = c.in_ok-gap.ensures.read in
     on-ok-map c.enter_at.result
-    (λ (changed : IsTrue v.is_sound → (by : List ℕ) → MayCome k v key by 0 n → IsChanged k v (with_entry e (index_entries k v)) 0 w) (sound : IsTrue u.is_sound) (by : List ℕ) (m : MayCome k u key by 0 n).
+    (λ (changed : IsTrue v.is_sound → (by : List ℕ) → MayCome k v key by 0 n → needed_by k v by ≡ 0 → IsChanged k v (with_entry e (index_entries k v)) 0 w) (sound : IsTrue u.is_sound) (by : List ℕ) (m : MayCome k u key by 0 n) (none : needed_by k u by ≡ 0).
     let now : IsTrue v.is_sound = rw read.call.sound sound in
     let one = read-one read now in
     let x = c.requires.index sound in
     let same = (set-same k u v one x).1 in
     let C : List Entry → Type 0 = λ es. IsChanged k v (with_entry e es) 0 w in
     changed-join k u v w (index_entries k u) (with_entry e (index_entries k u)) 0 0 0 x c.requires.some refl (unchanged k u v x one)
-    (subst C same (changed now by (may-same k u v key by 0 n one m))))
+    (subst C same (changed now by (may-same k u v key by 0 n one m) (needed-same k u v by one ∙ none))))
     c.enter_at.ensures.changed

@@ -1,8 +1,6 @@
-use Rattle.std.proofs.Common.{◌≡◌, ◌<◌, ℕ, List, IsTrue, sym, ap, ◌∙◌, arith}
+use Rattle.std.proofs.Common.{◌≡◌, ◌<◌, IsTrue, ◌∙◌, arith}
 use Rattle.hd_volume.specs.Headers.{header_of}
-use Rattle.hd_volume.specs.Entries.{Entry}
-use Rattle.hd_volume.proofs.JoinLemmas.{AreOne, read-one}
-use Rattle.hd_levels.specs.Maps.{greatest_below, with_entry}
+use Rattle.hd_volume.proofs.JoinLemmas.{read-one}
 use Rattle.hd_index_set.proofs.Searching.{set-same}
 use Rattle.hd_index_set.proofs.Inserting.{on-ok, if-err, found-change, first-refused, found-refused}
 use Rattle.hd_index_set.proofs.insertion.insert_key.Goals as goal

@@ -1,31 +1,28 @@
-use Rattle.std.proofs.Common.{◌≡◌, ◌+◌, ◌-◌, ◌≤◌, ◌<◌, ℕ, suc, List, IsTrue, Result, Ok, Err, refl, sym, ap, ◌∙◌, subst, arith}
+use Rattle.std.proofs.Common.{◌≡◌, ◌+◌, ◌-◌, ◌<◌, ℕ, suc, IsTrue, Result, Ok, Err, refl, sym, ap, ◌∙◌, subst, arith}
 use Rattle.std.specs.Prelude.{IfErr}
 use Rattle.std.proofs.lemmas.Result.{err_from_is_err_and}
 use Rattle.hd_dbd.specs.declared.answer.Refused.{Refused}
 use Rattle.hd_dbd.specs.declared.answer.Refused.TheVariants.{Device}
-use Rattle.hd_volume.specs.Volumes.{VolumeState}
 use Rattle.hd_volume.specs.Calls.{IsCall}
-use Rattle.hd_volume.specs.Entries.{Entry}
-use Rattle.hd_volume.proofs.JoinLemmas.{AreOne, calls-join, if-err-map}
+use Rattle.hd_volume.proofs.JoinLemmas.{calls-join}
 use Rattle.hd_volume.proofs.CallSteps.{call-ok, call-none, sound-back}
 use Rattle.hd_levels.specs.IndexSets.{index_entries}
 use Rattle.hd_levels.specs.Needs.{needed_by}
 use Rattle.hd_index_set.specs.Changes.{IsChanged}
 use Rattle.hd_index_set.specs.Rooms.{IsReady}
-use Rattle.hd_index_set.proofs.Inserting.{unchanged, changed-join, changed-on, ready-step, ready-device}
+use Rattle.hd_index_set.proofs.Inserting.{unchanged, changed-on, ready-step, ready-device}
 use Rattle.hd_index_set.proofs.insertion.make_rooms.Goals as goal
 
 pub loop-init : goal.loop-init
 loop-init g c =
     let v = c.args.volume.now in
-    let R : ℕ → Type 0 = λ i. IsReady i v in
     record {
       call = call-none v 0;
       room = λ s. omega arith;
       changed = λ s. unchanged c.args.key_length v v (c.requires.index s) (record { same = record { size = refl; sizes = refl }; image = refl });
       some = c.requires.some;
-      needed = λ s. (let n = c.requires.needed s in omega arith);
-      ready = λ s. subst R (let e : c.args.needed ≡ c.args.needed - 0 = omega arith in e) (c.requires.ready s);
+      needed = λ s. (let e : needed_by c.args.key_length v c.args.by.now + 0 ≡ needed_by c.args.key_length v c.args.by.now = omega arith in e);
+      ready = c.requires.ready;
     }
 
 pub make_room-requires-clause-index : goal.make_room-requires-clause-index
@@ -45,6 +42,7 @@ make_room-requires-clause-needed g c now =
     let inv = c.loop.invariant in
     let s : IsTrue c.args.volume.now.is_sound = rw (← inv.call.sound) now in
     let n = inv.needed s in
+    let most = c.requires.taken s in
     let t = c.loop-test.true in
     omega arith
 
@@ -53,7 +51,7 @@ make_room-requires-clause-high g c now =
     let inv = c.loop.invariant in
     let s : IsTrue c.args.volume.now.is_sound = rw (← inv.call.sound) now in
     let n = inv.needed s in
-    let f = c.requires.few in
+    let f = c.requires.few s in
     omega arith
 
 pub make_room-requires-clause-three : goal.make_room-requires-clause-three
@@ -78,8 +76,11 @@ returns-in_err-make_room-clause-device g c =
     (λ s.
     let now : IsTrue c.loop.volume.is_sound = rw inv.call.sound s in
     let R : ℕ → Type 0 = λ i. IsReady i c.loop.volume in
-    let e : c.args.needed - c.loop.counter ≡ suc (c.args.needed - (c.loop.counter + 1)) = omega arith in
-    ready-device (c.args.needed - (c.loop.counter + 1)) c.loop.volume c.make_room.new.volume c.in_err-make_room.field-0.0 (inv.changed s).index.formatted (subst R e (inv.ready s)) now c.in_err-make_room.ensures.refused)
+    let all = inv.needed s in
+    let most = c.requires.taken s in
+    let some : ℕ = needed_by c.args.key_length c.loop.volume c.args.by.now in
+    let e : some ≡ suc (some - 1) = omega arith in
+    ready-device (some - 1) c.loop.volume c.make_room.new.volume c.in_err-make_room.field-0.0 (inv.changed s).index.formatted (subst R e (inv.ready s)) now c.in_err-make_room.ensures.refused)
 
 pub returns-in_err-make_room-clause-room : goal.returns-in_err-make_room-clause-room
 returns-in_err-make_room-clause-room g c now =
@@ -99,8 +100,7 @@ loop-preserved g c =
     let inv = c.loop.invariant in
     let t = c.loop-test.true in
     let o = c.in_ok-make_room.ensures in
-    let left : ℕ = c.args.needed - (c.loop.counter + 1) in
-    let e : c.args.needed - c.loop.counter ≡ suc left = omega arith in
+    let left : ℕ = needed_by k w c.args.by.now in
     let R : ℕ → Type 0 = λ i. IsReady i u in
     let some : 0 < v.size = (let three = c.requires.three in omega arith) in
     record {
@@ -112,6 +112,8 @@ loop-preserved g c =
       needed = λ s. (let now : IsTrue u.is_sound = rw inv.call.sound s in let n = inv.needed s in let m = o.less now in omega arith);
       ready = λ s. (let now : IsTrue u.is_sound = rw inv.call.sound s in
           let last : IsTrue w.is_sound = rw o.call.sound now in
+          let m = o.less now in
+          let e : needed_by k u c.args.by.now ≡ suc left = omega arith in
           ready-step k u w (index_entries k u) left (subst R e (inv.ready s)) (o.changed now) (o.room last));
     }
 
@@ -123,14 +125,15 @@ returns-clause-changed g c s =
     let k : ℕ = c.args.key_length in
     let t = c.loop-test.false in
     let inv = c.loop.invariant in
-    let n = inv.needed s in
+    let end = c.loop.auto.counter-end in
     let C : ℕ → Type 0 = λ i. IsChanged k c.args.volume.now (index_entries k c.args.volume.now) i c.loop.volume in
-    let e : c.loop.counter ≡ c.args.needed = omega arith in
+    let e : c.loop.counter ≡ c.args.taken = omega arith in
     subst C e (inv.changed s)
 
-pub returns-clause-done : goal.returns-clause-done
-returns-clause-done g c s =
+pub returns-clause-left : goal.returns-clause-left
+returns-clause-left g c s =
     let t = c.loop-test.false in
+    let end = c.loop.auto.counter-end in
     let n = c.loop.invariant.needed s in
     omega arith
 

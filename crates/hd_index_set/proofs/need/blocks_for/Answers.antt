@@ -1,5 +1,5 @@
-use Rattle.std.proofs.Common.{◌≡◌, ℕ, IsTrue, sym, ap, ◌∙◌}
-use Rattle.hd_levels.specs.Needs.{needed_by, set_blocks_needed}
+use Rattle.std.proofs.Common.{ℕ, IsTrue, ap, ◌∙◌}
+use Rattle.hd_levels.specs.Needs.{needed_by}
 use Rattle.hd_volume.proofs.JoinLemmas.{read-one}
 use Rattle.hd_index_set.proofs.Searching.{set-same}
 use Rattle.hd_index_set.proofs.Filling.{needed-same}
