@@ -1,13 +1,13 @@
 -- What the phases that judge an index set find: no fault, or the least of the phase.
-use Rattle.std.proofs.Common.{◌≡◌, ◌≢◌, ◌⊎◌, inl, inr, ℕ, suc, ◌+◌, ◌-◌, ◌*◌, ◌<◌, ◌≤◌, List, [], ◌∷◌, ◌++◌, Option, Some, refl, sym, ap, ◌∙◌, subst, arith}
+use Rattle.std.proofs.Common.{◌≡◌, ◌≢◌, inl, inr, ℕ, ◌-◌, ◌*◌, ◌<◌, ◌≤◌, List, ◌∷◌, Some, refl, sym, subst, arith}
 use Rattle.hd_dbd.specs.Hierarchy.{Database}
 use Rattle.hd_volume.specs.Headers.{header_of}
-use Rattle.hd_volume.specs.Volumes.{VolumeState, block_at, IsKind}
+use Rattle.hd_volume.specs.Volumes.{VolumeState}
 use Rattle.hd_volume.specs.Indexes.{root_key_length, IsAmong}
 use Rattle.hd_levels.specs.LevelFaults as level
 use Rattle.hd_levels.specs.LevelFaults.{row_below, StandsBetween}
 use Rattle.hd_levels.specs.Faultless.{AreFormsRight, AreNamedOnce, AreAllReached}
-use Rattle.hd_levels.specs.IndexSets.{level_in, index_blocks, top_blocks, top_level}
+use Rattle.hd_levels.specs.IndexSets.{level_in, top_level}
 use Rattle.hd_levels.proofs.Volumes.{level-kind}
 use Rattle.hd_levels.proofs.Downs.{among-right}
 use Rattle.hd_levels.proofs.FormFaults.{forms-judged}
@@ -15,8 +15,6 @@ use Rattle.hd_levels.proofs.LevelFaults.{names-judged, reach-judged}
 use Rattle.hd_levels.proofs.RowFaults.{levels-judged, row-level}
 use Rattle.hd_image.specs.Records.{IsVolumeOf}
 use Rattle.hd_image.specs.Right.{LevelsAreInOrder, IndexIsFormed, IndexIsInOrder}
-use Rattle.hd_image.specs.Standing.{Stands, phase_of, number_of}
-use Rattle.hd_image.specs.declared.line.Line.{Line}
 use Rattle.hd_image.specs.declared.line.Line.TheVariants.{WrongTop, WrongForm, NamedTwice, UnreachedBlock, WrongNext, EntryOutOfOrder}
 use Rattle.hd_check_blocks.specs.Phases.{IsLeastOf}
 use Rattle.hd_check_index.proofs.FormFaults.{place-fits}

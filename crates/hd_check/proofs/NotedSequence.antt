@@ -1,11 +1,11 @@
 -- The index blocks of level 0, in order of their numbers, are the sequence set of an index set.
-use Rattle.std.proofs.Common.{◌≡◌, ◌≢◌, inl, inr, ℕ, zero, suc, ◌+◌, ◌<◌, ◌≤◌, ◌==◌, cond, List, [], ◌∷◌, ◌++◌, length, take, slice_index, Some, refl, sym, ap, subst, ◌∙◌, arith}
+use Rattle.std.proofs.Common.{◌≡◌, ◌≢◌, inl, inr, ℕ, zero, suc, ◌+◌, ◌<◌, ◌==◌, cond, List, [], ◌∷◌, ◌++◌, length, take, slice_index, Some, refl, sym, ap, subst, ◌∙◌, arith}
 use Rattle.std.proofs.lemmas.Bool.{cases_eq, eq-eqb, ne_eqb, cond-true, cond-false}
-use Rattle.std.proofs.lemmas.List.{take_more, take_all, append_assoc}
+use Rattle.std.proofs.lemmas.List.{take_more, append_assoc}
 use Rattle.hd_volume.specs.Headers.{header_of}
 use Rattle.hd_volume.specs.Entries.{entry_blocks}
 use Rattle.hd_volume.specs.Volumes.{VolumeState, block_at, IsKind}
-use Rattle.hd_volume.specs.Indexes.{IsAmong, IsEntryBlock}
+use Rattle.hd_volume.specs.Indexes.{IsAmong}
 use Rattle.hd_levels.specs.Levels.{IndexBlocks, across, named, sequence_set, blocks_down}
 use Rattle.hd_levels.specs.LevelFaults.{row_below}
 use Rattle.hd_levels.specs.Faultless.{AreFormsRight}

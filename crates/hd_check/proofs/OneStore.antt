@@ -9,7 +9,7 @@ use Rattle.hd_volume.specs.Entries.{entry_blocks}
 use Rattle.hd_levels.specs.LevelFaults as level
 use Rattle.hd_levels.specs.Faultless.{AreFormsRight, AreNamedOnce, AreAllReached}
 use Rattle.hd_levels.specs.IndexSets.{index_entries}
-use Rattle.hd_volume.specs.Indexes.{IsEntryBlock, IsChain, root_key_length}
+use Rattle.hd_volume.specs.Indexes.{IsChain, root_key_length}
 use Rattle.hd_image.specs.Records.{links_of}
 use Rattle.hd_image.proofs.OneImage.{links-same, volume-same}
 use Rattle.hd_image.specs.IndexFaults.{NamesBlock, names_a_root, IsWrongTop, IsWrongForm, IsNamedTwice, IsUnreachedBlock}

@@ -1,12 +1,11 @@
-use Rattle.std.proofs.Common.{◌≡◌, IsTrue, Ok, ℕ, List, sym, subst, ◌∙◌}
+use Rattle.std.proofs.Common.{ℕ, List, sym, subst, ◌∙◌}
 use Rattle.hd_dbd.specs.Hierarchy.{Database}
 use Rattle.hd_volume.specs.Volumes.{VolumeState}
 use Rattle.hd_volume.specs.Indexes.{root_key_length}
 use Rattle.hd_volume.proofs.CallSteps.{if-ok}
 use Rattle.hd_volume.proofs.PutLemmas.{if-none-map}
-use Rattle.hd_image.specs.Right.{IndexIsFormed, IndexIsInOrder}
 use Rattle.hd_check_index.specs.IndexPhases.{IsSequence}
-use Rattle.hd_check.specs.Joining.{NoneBefore, HasRightBlocks}
+use Rattle.hd_check.specs.Joining.{HasRightBlocks}
 use Rattle.hd_check_pointers.proofs.RecordSteps.{from-none}
 use Rattle.hd_check.proofs.OneStore.{IsOne, turned, right-same, sequence-same, names-right-same}
 use Rattle.hd_check.proofs.LevelPhases.{index-12}
