@@ -146,11 +146,7 @@ pub fn wrong_entry_fault<S: BlockStore>(
         match wrong_entry(named, places, volume, dbd, *block)? {
             None => {}
             Some(address) => {
-                return Ok(Some(Fault::at(
-                    Line::WrongEntry,
-                    block_address(*block, size),
-                    address,
-                )));
+                return Ok(Some(Fault::at(Line::WrongEntry, block_address(*block, size), address)));
             }
         }
     }

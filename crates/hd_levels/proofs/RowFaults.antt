@@ -189,9 +189,11 @@ keep-between c l (e ∷ f ∷ es) k =
 between-keep : (c : IndexBlocks) (l : ℕ) (es : List Entry) → AreBetween c l es → KeepAll c (suc l) es
 between-keep c l [] b = tt
 between-keep c l (e ∷ []) b = (and_from (is_up_to e.key (entries_below c l (e.address ∷ []))) true (to-up e.key (entries_below c l (e.address ∷ [])) b) refl, tt)
-between-keep c l (e ∷ f ∷ es) b =
-    (and_from (is_up_to e.key (entries_below c l (e.address ∷ []))) (is_below_all e.key (entries_below c l (f.address ∷ [])))
-    (to-up e.key (entries_below c l (e.address ∷ [])) b.0) (all-below e.key (entries_below c l (f.address ∷ [])) b.1), between-keep c l (f ∷ es) b.2)
+between-keep c l (e ∷ f ∷ es) b = (
+  and_from (is_up_to e.key (entries_below c l (e.address ∷ []))) (is_below_all e.key (entries_below c l (f.address ∷ [])))
+      (to-up e.key (entries_below c l (e.address ∷ [])) b.0) (all-below e.key (entries_below c l (f.address ∷ [])) b.1),
+  between-keep c l (f ∷ es) b.2,
+)
 
 -- ---- the keys of all levels
 
