@@ -1,7 +1,8 @@
-//! The program `hd`: plays decks of DL/I calls, and checks, unloads and reloads volumes.
+//! The program `hd`: plays decks of DL/I calls, checks, unloads and reloads volumes, and says what its words mean.
 #![tactic(auto)]
 
 mod checking;
+mod explaining;
 mod files;
 mod input;
 mod play;

@@ -1,4 +1,5 @@
 use crate::checking::check_file;
+use crate::explaining::explain_word;
 use crate::playing::{play_file, play_sample};
 use crate::reloading::reload_file;
 use crate::stop::{COMMAND_LINE, Stop};
@@ -17,8 +18,8 @@ use std::rt::Files;
 /// reads.
 ///
 /// Without words it reads a deck from `input` and plays it over the sample database, in memory. `deck` plays one over a volume, `check` judges
-/// a volume, `unload` writes its unload stream, and `reload` makes a volume of one. What the calls answer, and what was done, goes to `out`; why the program ended
-/// early goes to `err`.
+/// a volume, `unload` writes its unload stream, and `reload` makes a volume of one; `explain` says what a fault, status or refusal means. What the
+/// calls answer, and what was done, goes to `out`; why the program ended early goes to `err`.
 pub fn play<R, I, O, E>(rt: &R, words: &[String], input: &mut I, out: &mut O, err: &mut E) -> u8
 where
     R: Files<File = File> + AllocGlobal,
@@ -82,6 +83,7 @@ where
             blocks,
             cache,
         } => reload_file(rt, alloc, dbd, input, volume, blocks, cache, out, err),
+        Request::Explain { word } => explain_word(word, out, err),
     }
 }
 

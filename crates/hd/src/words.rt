@@ -2,8 +2,8 @@ use crate::files::CACHE;
 use clap::{Arg, Command, Error, value_parser};
 use std::alloc::Global;
 
-/// What the words of the command line ask for. All of them but `blocks` and `cache` are names of files; `cache` says how many blocks of the
-/// volume are kept in memory.
+/// What the words of the command line ask for. All of them but `blocks`, `cache` and `word` are names of files; `cache` says how many blocks of
+/// the volume are kept in memory.
 #[derive(Clone, Copy)]
 pub enum Request<'a> {
     /// A deck over the sample.
@@ -35,6 +35,10 @@ pub enum Request<'a> {
         blocks: u32,
         cache: u32,
     },
+    /// What a fault, status or refusal means, or a list of all.
+    Explain {
+        word: Option<&'a str>,
+    },
 }
 
 /// What the words behind the program's name ask for; an error is `clap`'s, help among them.
@@ -49,11 +53,17 @@ pub fn read_words(alloc: Global, words: &[String]) -> Result<Request<'_>, Error>
         .subcommand(deck_command(alloc)?)?
         .subcommand(check_command(alloc)?)?
         .subcommand(unload_command(alloc)?)?
-        .subcommand(reload_command(alloc)?)?;
+        .subcommand(reload_command(alloc)?)?
+        .subcommand(explain_command(alloc)?)?;
     let matches = command.try_get_matches_from(words)?;
     let Some((name, given)) = matches.subcommand() else {
         return Ok(Request::Sample);
     };
+    if name == "explain" {
+        return Ok(Request::Explain {
+            word: given.get_str("WORD"),
+        });
+    }
     let dbd = given.get_str("DBD").unwrap_or("");
     let volume = given.get_str("VOLUME").unwrap_or("");
     let cache = given.get_one::<u32>("CACHE").unwrap_or(CACHE);
@@ -140,6 +150,17 @@ fn reload_command<'a>(alloc: Global) -> Result<Command<'a>, Error> {
         ))?
         .arg(blocks)?
         .arg(cache_word(alloc))?;
+    Ok(command)
+}
+
+/// The words of `hd explain`.
+fn explain_command<'a>(alloc: Global) -> Result<Command<'a>, Error> {
+    let word = Arg::new(alloc, "WORD").help(
+        "The number of a fault of a volume, or a code, status or refusal, such as 14, M4, GE or Full",
+    );
+    let command = Command::new(alloc, "explain")
+        .about("Says what a fault, status or refusal means; without a word it lists them all")
+        .arg(word)?;
     Ok(command)
 }
 

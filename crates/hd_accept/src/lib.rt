@@ -9,6 +9,3 @@ mod last_tests;
 mod parent;
 
 pub use accepting::{Accepted, accept};
-
-#[cfg(test)]
-mod tests;

@@ -7,10 +7,3 @@ mod pass;
 mod settle;
 
 pub use cached::Cached;
-
-#[cfg(test)]
-mod refusal_tests;
-#[cfg(test)]
-mod steps;
-#[cfg(test)]
-mod tests;

@@ -28,6 +28,7 @@ small = record {
   largest = λ image. 16;
   spare = λ image. 1;
   index_growth = λ image. 1;
+  IsHighest = λ image. ⊥;
   HasHole = λ image n. ⊥;
 }
 
@@ -115,7 +116,7 @@ worked_log_is_legal = record {
           record { largest = refl; room = lit≤ tt; addresses = λ before after old new. sym new.1 ∙ old.1 },
           (
             (addresses_of third_image, (refl, refl)),
-            (record { spares = lit< tt; holes = inl refl }, refl),
+            (record { blocks = inl (lit< tt); holes = inl refl }, refl),
             (
               (addresses_of third_image, (refl, refl)),
               refl,

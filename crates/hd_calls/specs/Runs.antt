@@ -71,12 +71,14 @@ stored_sizes types new = sum (map (λ r. stored_size types r.code) new)
 
 -- What a log asks of images. `HoldsAt`: an image holds the forest of these rows, in hierarchic sequence, at these addresses.
 -- `largest`: its largest count of blocks. `spare`: the blocks by which it may still grow, and the free ones. `index_growth`: the
--- blocks that its index may need for one root more. `HasHole`: it has a hole of at least so many bytes.
+-- blocks that its index may need for one root more. `IsHighest`: its index may have no level more. `HasHole`: it has a hole of at least so
+-- many bytes.
 pub record Images (Image : Type 0) : Type 1 where
   pub HoldsAt : Image → List Segment → List ℕ → Type 0
   pub largest : Image → ℕ
   pub spare : Image → ℕ
   pub index_growth : Image → ℕ
+  pub IsHighest : Image → Type 0
   pub HasHole : Image → ℕ → Type 0
 
 -- Of the addresses before a change those of the rows that stay are kept: where rows were put in some come between, where rows were
@@ -96,10 +98,14 @@ module _ {Image : Type 0} (images : Images Image) where
   abbrev pub blocks_for : Image → List Segment → ℕ
   blocks_for image new = length new + cond (has_root new) (images.index_growth image) 0
 
-  -- An image lacks room for some rows: fewer blocks are to spare than they may need, and either a root is among them or no hole is
-  -- as large as all of them together.
+  -- Fewer blocks are to spare than some rows may need, or a root is among them and the index may have no level more.
+  abbrev pub LacksBlocks : Image → List Segment → Type 0
+  LacksBlocks image new = (images.spare image < blocks_for image new) ⊎ ((has_root new ≡ true) × images.IsHighest image)
+
+  -- An image lacks room for some rows: blocks or levels are lacking, and either a root is among them or no hole is as large as all of them
+  -- together.
   pub record LacksRoom (types : List SegmentType) (image : Image) (new : List Segment) : Type 0 where
-    pub spares : images.spare image < blocks_for image new
+    pub blocks : LacksBlocks image new
     pub holes : (has_root new ≡ true) ⊎ (images.HasHole image (stored_sizes types new) → ⊥)
 
   -- An image follows from another by a change of the rows: the largest count stays, no more blocks were taken than the rows put in

@@ -3,7 +3,7 @@ use Rattle.std.proofs.Common.{◌≡◌, inl, inr, ℕ, List, [], ◌∷◌, tru
 use Rattle.std.specs.List.{list_all}
 use Rattle.hd_bytes.specs.Numbers.{number_at}
 use Rattle.hd_dbd.specs.Hierarchy.{Database}
-use Rattle.hd_volume.specs.Headers.{HasHeader, IsOf, header_of}
+use Rattle.hd_volume.specs.Headers.{HasHeader, header_of}
 use Rattle.hd_volume.specs.Volumes.{VolumeState, block_at, IsKind}
 use Rattle.hd_volume.specs.Entries.{entry_blocks}
 use Rattle.hd_levels.specs.LevelFaults as level
@@ -13,7 +13,7 @@ use Rattle.hd_volume.specs.Indexes.{IsChain, root_key_length}
 use Rattle.hd_image.specs.Records.{links_of}
 use Rattle.hd_image.proofs.OneImage.{links-same, volume-same}
 use Rattle.hd_image.specs.IndexFaults.{NamesBlock, names_a_root, IsWrongTop, IsWrongForm, IsNamedTwice, IsUnreachedBlock}
-use Rattle.hd_image.specs.Right.{LevelsAreInOrder, ChainIsFormed, SetIsFormed, IndexIsFormed, IndexIsInOrder, EntriesAreRight}
+use Rattle.hd_image.specs.Right.{IsKnown, LevelsAreInOrder, ChainIsFormed, SetIsFormed, IndexIsFormed, IndexIsInOrder, EntriesAreRight}
 use Rattle.hd_image.specs.Standing.{Stands}
 use Rattle.hd_image.specs.declared.line.Line.{Line}
 use Rattle.hd_image.specs.declared.line.Line.TheVariants.{NoVolume, NoVersion, AnotherDatabase, WrongChain, WrongPlace, NoKind, Deleted, NamesNothing, NamesAnother, TwoPredecessors, NoPredecessor, WrongBackward, WrongLast, OutOfOrder, NotReached, WrongTop, WrongForm, NamedTwice, UnreachedBlock, WrongNext, EntryOutOfOrder, WrongEntry, NoEntry}
@@ -249,7 +249,7 @@ module _ (u v : VolumeState) (e : IsOne u v) where
         volume = volume-same d u v e.image e.size e.sizes h.volume;
         blocks = record {
           header = subst (λ (i : List ℕ). HasHeader d.block_size i) (sym e.image) h.blocks.header;
-          known = subst (λ (i : List ℕ). IsOf 1 d.name d.block_size (header_of i)) (sym e.image) h.blocks.known;
+          known = subst (λ (i : List ℕ). IsKnown d (header_of i)) (sym e.image) h.blocks.known;
           divided = b.divided;
           kinds = b.kinds;
         };

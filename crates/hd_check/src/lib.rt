@@ -10,6 +10,3 @@ mod phases;
 pub use checking::{CheckFault, Passed, check};
 pub use hd_check_blocks::Fault;
 pub use hd_image::Line;
-
-#[cfg(test)]
-mod tests;

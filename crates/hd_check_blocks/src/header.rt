@@ -3,6 +3,7 @@ ghost use Rattle.std.specs.Prelude.{◌≡◌, ◌≢◌, ◌≤◌, ◌⊎◌, 
 ghost use Rattle.hd_dbd.specs.Refusals.{OnlyDevice};
 ghost use Rattle.hd_volume.specs.Headers.{header_of};
 ghost use Rattle.hd_volume.specs.Calls.{IsRead};
+ghost use Rattle.hd_image.specs.Right.{IsKnownVersion};
 ghost use Rattle.hd_check_blocks.specs.Phases.{CountsImage, IsNamed, IsWrongHeader, IsHeaderRight, IsLeastOf};
 ghost use Rattle.hd_check_blocks.specs.Finding.{WhereNone, WhereSome};
 
@@ -39,7 +40,7 @@ fn is_of(head: &[u8], dbd: &Dbd) -> bool
 /// What is wrong with a header of an image of so many bytes.
 fn head_fault(head: &[u8], size: u64, image_length: u64, dbd: &Dbd) -> Option<Fault>
     requires { size ≤ 32768 }
-    ensures none { 44 ≤ length head.now → IfNone result (CountsImage size image_length (header_of head.now) × ((header_of head.now).version ≡ 1) × IsNamed dbd.now (header_of head.now)) }
+    ensures none { 44 ≤ length head.now → IfNone result (CountsImage size image_length (header_of head.now) × IsKnownVersion (header_of head.now).version × IsNamed dbd.now (header_of head.now)) }
     ensures some { 44 ≤ length head.now → IfSome result (λ f. IsWrongHeader dbd.now size image_length (header_of head.now) f) }
 {
     if head.len() < 44 {
@@ -49,7 +50,7 @@ fn head_fault(head: &[u8], size: u64, image_length: u64, dbd: &Dbd) -> Option<Fa
         return Some(Fault::at(Line::NoVolume, 0, 0));
     }
     let version = read_u16(head, VERSION);
-    if version != 1 {
+    if version != 1 && version != 2 {
         return Some(Fault::at(Line::NoVersion, 0, u32::from(version)));
     }
     if !is_of(head, dbd) {

@@ -2,12 +2,13 @@
 use Rattle.std.specs.Prelude.{◌≡◌, ◌<◌, ◌≤◌, ℕ, ◌+◌, true, false, Bool, cond, nat_lt, List, [], ◌∷◌, ◌++◌, take, drop, slice_index, slice_index_or, Option, Some, None, option_map}
 use Rattle.hd_volume.specs.Entries.{Entry}
 use Rattle.hd_volume.specs.Indexes.{key_less}
-use Rattle.hd_levels.specs.Levels.{IndexBlocks}
+use Rattle.hd_levels.specs.Levels.{IndexBlocks, across}
 use Rattle.hd_levels.specs.LevelFaults.{last_entry, first_entry, first_wrong, first_wrong_in}
 use Rattle.hd_check_levels.specs.declared.extents.Extent.{Extent}
 use Rattle.hd_check_levels.specs.declared.order.Left.{Left}
 use Rattle.hd_check_levels.specs.declared.rows.Standing.{Standing}
 use Rattle.hd_check_levels.specs.BlockExtents.{AreBelow}
+use Rattle.hd_check_levels.specs.Rows.{row_of}
 
 -- ---- an entry
 
@@ -30,6 +31,13 @@ found_with (Some other) is_right address = Some other
 abbrev pub address_wrong : IndexBlocks → ℕ → Option Entry → List Entry → Option Entry → Option ℕ
 address_wrong c l left es right = option_map (λ e. e.address) (first_wrong c l left es right)
 
+-- The fact holds of the entry at an index of some entries of a level, and of those behind it, where the key is its own and these are the extents below
+-- them all.
+abbrev pub OfEntryAt : ℕ → ℕ → List Extent → ℕ → List ℕ → (IndexBlocks → Entry → List Entry → Type 0) → Type 0
+OfEntryAt key_length level below index key fact =
+    (c : IndexBlocks) (fs : List Entry) (e : Entry) (rest : List Entry) → AreBelow key_length c level fs below → drop index fs ≡ e ∷ rest → key ≡ e.key
+    → fact c e rest
+
 -- ---- the entries of a block
 
 -- Behind whatever entry has the key that is kept, and whatever stands to their right, the address is that in the first of some entries that is
@@ -44,6 +52,10 @@ abbrev pub IsLeftBehind : ℕ → Left → List Entry → Left → Type 0
 IsLeftBehind key_length old es new = (o : Option Entry) → IsLeft key_length old o → IsLeft key_length new (last_entry o es)
 
 -- ---- the blocks of a row
+
+-- the fact holds of the blocks of a row of a level, where these are the extents of the blocks below theirs
+abbrev pub OfRow : IndexBlocks → ℕ → ℕ → List Standing → List Extent → (IndexBlocks → List ℕ → Type 0) → Type 0
+OfRow c key_length level row below fact = (ns : List ℕ) → row ≡ row_of level ns → AreBelow key_length c level (across c ns) below → fact c ns
 
 -- the address in the first entry that is not right of the block at an index of a row
 abbrev pub wrong_at : IndexBlocks → ℕ → List ℕ → ℕ → Option ℕ

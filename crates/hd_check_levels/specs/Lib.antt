@@ -7,3 +7,4 @@ pub mod Judging
 pub mod NotedBlocks
 pub mod NamedBlocks
 pub mod Standings
+pub mod Counted

@@ -1,12 +1,11 @@
 //! The least and the greatest key below a block.
 ghost use Rattle.std.specs.Prelude.{◌≡◌, ℕ, ◌≤◌, ◌<◌, length, take, cond, List, [], ◌++◌};
-ghost use Rattle.hd_bytes.specs.Numbers.{number_at};
-ghost use Rattle.hd_volume.specs.Entries.{Entry, entries_in};
+ghost use Rattle.hd_volume.specs.Entries.{Entry};
 ghost use Rattle.hd_volume.specs.Indexes.{key_less};
-ghost use Rattle.hd_entries.specs.Fields.{CountFits};
 ghost use Rattle.hd_levels.specs.Levels.{IndexBlocks, entries_below};
 ghost use Rattle.hd_check_levels.specs.Extents.{IsExtent};
 ghost use Rattle.hd_check_levels.specs.BlockExtents.{AreExtents, IsExtentBelow};
+ghost use Rattle.hd_check_levels.specs.Counted.{OfSomeEntries};
 
 use hd_entries::IndexBlock;
 
@@ -71,7 +70,7 @@ fn extent_with(count: usize, extent: &Extent, more: &Extent, key_length: usize) 
 
 /// The extent of a block's own entries.
 fn extent_of_entries(block: &IndexBlock) -> Extent
-    ensures { CountFits block.now.key_length block.now.bytes.now → 0 < number_at 2 block.now.bytes.now 4 → IsExtent block.now.key_length result (entries_in block.now.key_length block.now.bytes.now) }
+    ensures { OfSomeEntries block.now (λ es. IsExtent block.now.key_length result es) }
 {
     let mut extent = no_extent();
     for index in 0..block.count() {
@@ -96,7 +95,7 @@ fn extent_of_blocks(blocks: &[Extent], key_length: usize) -> Extent
 
 /// The extent of a block of a level, above level 0 by those of the blocks below, of which the first are its own.
 pub fn extent_below(block: &IndexBlock, level: u8, below: &[Extent]) -> Extent
-    ensures { CountFits block.now.key_length block.now.bytes.now → 0 < number_at 2 block.now.bytes.now 4 → IsExtentBelow block.now.key_length level (entries_in block.now.key_length block.now.bytes.now) below.now result }
+    ensures { OfSomeEntries block.now (λ es. IsExtentBelow block.now.key_length level es below.now result) }
 {
     if level == 0 {
         return extent_of_entries(block);

@@ -3,16 +3,15 @@ ghost use Rattle.std.specs.Prelude.{◌≡◌, ◌≢◌, ◌*◌, ◌≤◌, �
 ghost use Rattle.hd_dbd.specs.Refusals.{OnlyDevice};
 ghost use Rattle.hd_volume.specs.Headers.{header_of};
 ghost use Rattle.hd_volume.specs.Volumes.{VolumeState};
-ghost use Rattle.hd_volume.specs.Entries.{entries_in};
 ghost use Rattle.hd_volume.specs.Calls.{IsRead};
 ghost use Rattle.hd_levels.specs.Levels.{named};
 ghost use Rattle.hd_levels.specs.IndexSets.{level_in};
 ghost use Rattle.hd_levels.specs.Faultless.{IsFormRight};
 ghost use Rattle.hd_levels.specs.LevelFaults.{IsWrongTop, IsWrongForm, StandsNowhere};
-ghost use Rattle.hd_entries.specs.Fields.{CountFits};
 ghost use Rattle.hd_check_levels.specs.Tables.{AreIndexBlocks, IsBlockOf};
 ghost use Rattle.hd_check_levels.specs.NotedBlocks.{IsNotedRight, AreOfLevel, HasStray, IfSized};
 ghost use Rattle.hd_check_levels.specs.Judging.{IsFoundAt, WhereFound};
+ghost use Rattle.hd_check_levels.specs.Counted.{OfEntries};
 
 use crate::table::{NotedBlock, position_of};
 use hd_dbd::Refused;
@@ -63,8 +62,8 @@ fn is_noted_right(blocks: &[NotedBlock], height: u32, room: usize, block: NotedB
 
 /// Whether each entry of an upper block names an index block of the level below.
 fn are_of_level(blocks: &[NotedBlock], upper: &IndexBlock, level: u8) -> bool
-    ensures right { result ≡ true → (v : VolumeState) → AreIndexBlocks v blocks.now → CountFits upper.now.key_length upper.now.bytes.now → AreOfLevel v level (named (entries_in upper.now.key_length upper.now.bytes.now)) }
-    ensures wrong { result ≡ false → (v : VolumeState) → AreIndexBlocks v blocks.now → CountFits upper.now.key_length upper.now.bytes.now → HasStray v level (named (entries_in upper.now.key_length upper.now.bytes.now)) }
+    ensures right { result ≡ true → (v : VolumeState) → AreIndexBlocks v blocks.now → OfEntries upper.now (λ es. AreOfLevel v level (named es)) }
+    ensures wrong { result ≡ false → (v : VolumeState) → AreIndexBlocks v blocks.now → OfEntries upper.now (λ es. HasStray v level (named es)) }
 {
     for index in 0..upper.count() {
         if !is_of_level(blocks, upper.address(index), level) {

@@ -1,20 +1,18 @@
 //! Phase 11: on each level the keys ascend, and upper keys keep their bounds.
-ghost use Rattle.std.specs.Prelude.{◌≡◌, ◌≢◌, ◌⊎◌, ℕ, ◌-◌, ◌≤◌, ◌<◌, length, take, drop, List, [], ◌∷◌, ◌++◌, option_map, Option, None, Some, true, IsTrue, IfOk, IfNone, IfSome};
+ghost use Rattle.std.specs.Prelude.{◌≡◌, ◌≢◌, ◌⊎◌, ℕ, ◌-◌, ◌≤◌, ◌<◌, length, take, drop, [], ◌∷◌, ◌++◌, option_map, Option, None, Some, true, IsTrue, IfOk, IfNone, IfSome};
 ghost use Rattle.std.specs.Option.{option_map_or};
-ghost use Rattle.hd_bytes.specs.Numbers.{number_at};
 ghost use Rattle.hd_dbd.specs.Refusals.{OnlyDevice, OnlyDeviceOrMemory};
 ghost use Rattle.hd_volume.specs.Volumes.{block_at};
 ghost use Rattle.hd_volume.specs.Entries.{Entry, entries_in};
 ghost use Rattle.hd_volume.specs.Indexes.{key_less};
 ghost use Rattle.hd_volume.specs.Calls.{IsRead};
-ghost use Rattle.hd_entries.specs.Fields.{CountFits};
-ghost use Rattle.hd_levels.specs.Levels.{IndexBlocks, across};
 ghost use Rattle.hd_levels.specs.IndexSets.{level_in, index_blocks};
 ghost use Rattle.hd_levels.specs.Faultless.{AreFormsRight};
 ghost use Rattle.hd_levels.specs.LevelFaults.{first_entry, keeps_bounds, is_right_entry, HasEntryOutOfOrder, StandsNowhere};
-ghost use Rattle.hd_check_levels.specs.Rows.{row_of, AreRows};
-ghost use Rattle.hd_check_levels.specs.BlockExtents.{AreExtents, AreBelow, IsExtentBelow};
-ghost use Rattle.hd_check_levels.specs.EntryOrders.{IsLeft, is_below_least, found_with, IsFoundIn, IsLeftBehind, IsWrongUpTo, IsLeastOf, lesser, standing_at};
+ghost use Rattle.hd_check_levels.specs.Rows.{AreRows};
+ghost use Rattle.hd_check_levels.specs.BlockExtents.{AreExtents, IsExtentBelow};
+ghost use Rattle.hd_check_levels.specs.Counted.{OfEntries, OfSomeEntries};
+ghost use Rattle.hd_check_levels.specs.EntryOrders.{IsLeft, is_below_least, found_with, IsFoundIn, IsLeftBehind, OfEntryAt, OfRow, IsWrongUpTo, IsLeastOf, lesser, standing_at};
 ghost use Rattle.hd_check_levels.specs.Judging.{IsFirst, WhereFound};
 
 use crate::extents::{Extent, extent_below};
@@ -64,7 +62,7 @@ fn is_below_least(below: &[Extent], index: usize, key: &[u8], key_length: usize)
 /// Whether the key of the entry at an index keeps its bounds.
 fn is_within(level: u8, below: &[Extent], index: usize, key: &[u8], key_length: usize) -> bool
     requires short { key_length ≤ 255 }
-    ensures { (c : IndexBlocks) (fs : List Entry) (e : Entry) (rest : List Entry) → AreBelow key_length c level fs below.now → drop index fs ≡ e ∷ rest → key.now ≡ e.key → result ≡ keeps_bounds c level e (first_entry rest None) }
+    ensures { OfEntryAt key_length level below.now index key.now (λ c e rest. result ≡ keeps_bounds c level e (first_entry rest None)) }
 {
     if level == 0 || index >= below.len() {
         return true;
@@ -86,7 +84,7 @@ fn is_right(
     key_length: usize,
 ) -> bool
     requires short { key_length ≤ 255 }
-    ensures { (c : IndexBlocks) (fs : List Entry) (o : Option Entry) (e : Entry) (rest : List Entry) → AreBelow key_length c level fs below.now → IsLeft key_length left.now o → drop index fs ≡ e ∷ rest → key.now ≡ e.key → result ≡ is_right_entry c level o e (first_entry rest None) }
+    ensures { (o : Option Entry) → IsLeft key_length left.now o → OfEntryAt key_length level below.now index key.now (λ c e rest. result ≡ is_right_entry c level o e (first_entry rest None)) }
 {
     is_above(left, key, key_length) && is_within(level, below, index, key, key_length)
 }
@@ -108,8 +106,8 @@ fn found_more(found: Option<u32>, is_right: bool, address: u32) -> Option<u32>
 
 /// The address in the first entry of a block that is not right; the last key is kept.
 fn wrong_in(left: &mut Left, block: &IndexBlock, level: u8, below: &[Extent]) -> Option<u32>
-    ensures found { CountFits block.now.key_length block.now.bytes.now → IsFoundIn block.now.key_length level left.old (entries_in block.now.key_length block.now.bytes.now) below.now result }
-    ensures left { CountFits block.now.key_length block.now.bytes.now → IsLeftBehind block.now.key_length left.old (entries_in block.now.key_length block.now.bytes.now) left.new }
+    ensures found { OfEntries block.now (λ es. IsFoundIn block.now.key_length level left.old es below.now result) }
+    ensures left { OfEntries block.now (λ es. IsLeftBehind block.now.key_length left.old es left.new) }
 {
     let mut found = None;
     for index in 0..block.count() {
@@ -132,10 +130,10 @@ struct Judged {
 
 /// Judges a block of a level, by the extents below it and below the blocks to its right; the last key is kept.
 fn judge_entries(left: &mut Left, block: &IndexBlock, level: u8, below: &[Extent]) -> Judged
-    ensures found { CountFits block.now.key_length block.now.bytes.now → IsFoundIn block.now.key_length level left.old (entries_in block.now.key_length block.now.bytes.now) below.now result.found }
-    ensures left { CountFits block.now.key_length block.now.bytes.now → IsLeftBehind block.now.key_length left.old (entries_in block.now.key_length block.now.bytes.now) left.new }
-    ensures extent { CountFits block.now.key_length block.now.bytes.now → 0 < number_at 2 block.now.bytes.now 4 → IsExtentBelow block.now.key_length level (entries_in block.now.key_length block.now.bytes.now) below.now result.extent }
-    ensures count { CountFits block.now.key_length block.now.bytes.now → result.count ≡ length (entries_in block.now.key_length block.now.bytes.now) }
+    ensures found { OfEntries block.now (λ es. IsFoundIn block.now.key_length level left.old es below.now result.found) }
+    ensures left { OfEntries block.now (λ es. IsLeftBehind block.now.key_length left.old es left.new) }
+    ensures extent { OfSomeEntries block.now (λ es. IsExtentBelow block.now.key_length level es below.now result.extent) }
+    ensures count { OfEntries block.now (λ es. result.count ≡ length es) }
     ensures small { result.count ≤ 65535 }
 {
     let found = wrong_in(left, block, level, below);
@@ -255,8 +253,8 @@ fn judge_row<S: BlockStore>(
     requires forms { IsTrue volume.old.is_sound → AreFormsRight key_length volume.old }
     requires level { IsTrue volume.old.is_sound → (i : ℕ) → i < length row.now → level_in volume.old (standing_at row.now i).number ≡ Some level }
     ensures read { IsRead volume.old result volume.new }
-    ensures own { IfOk result (λ found. IsTrue volume.old.is_sound → (ns : List ℕ) → row.now ≡ row_of level ns → AreBelow key_length (index_blocks key_length volume.old) level (across (index_blocks key_length volume.old) ns) below.now → AreExtents key_length (index_blocks key_length volume.old) level ns own.new.items) }
-    ensures found { IfOk result (λ found. IsTrue volume.old.is_sound → (ns : List ℕ) → row.now ≡ row_of level ns → AreBelow key_length (index_blocks key_length volume.old) level (across (index_blocks key_length volume.old) ns) below.now → IsLeastOf (IsWrongUpTo (index_blocks key_length volume.old) level ns (length ns)) found) }
+    ensures own { WhereFound volume.old result (λ found. OfRow (index_blocks key_length volume.old) key_length level row.now below.now (λ c ns. AreExtents key_length c level ns own.new.items)) }
+    ensures found { WhereFound volume.old result (λ found. OfRow (index_blocks key_length volume.old) key_length level row.now below.now (λ c ns. IsLeastOf (IsWrongUpTo c level ns (length ns)) found)) }
     ensures refusal { OnlyDeviceOrMemory result }
 {
     let mut left = Left {

@@ -1,18 +1,15 @@
 //! The rows of an index set, from the top down.
 ghost use Rattle.std.specs.Prelude.{◌≡◌, ◌≤◌, ◌++◌, [], suc, length, IsTrue, OnOk};
-ghost use Rattle.hd_bytes.specs.Numbers.{number_at};
 ghost use Rattle.hd_dbd.specs.Refusals.{OnlyDeviceOrMemory, OnlyMemory};
 ghost use Rattle.hd_volume.specs.Headers.{header_of};
-ghost use Rattle.hd_volume.specs.Volumes.{block_at, IsKind};
+ghost use Rattle.hd_volume.specs.Volumes.{IsKind};
 ghost use Rattle.hd_volume.specs.Calls.{IsRead};
-ghost use Rattle.hd_volume.specs.Entries.{entries_in};
-ghost use Rattle.hd_volume.specs.Indexes.{entry_room};
-ghost use Rattle.hd_entries.specs.Fields.{CountFits};
 ghost use Rattle.hd_levels.specs.Levels.{named};
 ghost use Rattle.hd_levels.specs.IndexSets.{index_blocks};
 ghost use Rattle.hd_levels.specs.Faultless.{AreFormsRight};
 ghost use Rattle.hd_check_levels.specs.Rows.{row_of, AreRows};
 ghost use Rattle.hd_check_levels.specs.Standings.{all_rows, AreNotedTo};
+ghost use Rattle.hd_check_levels.specs.Counted.{OfEntries, OfFitting};
 
 use hd_dbd::Refused;
 use hd_entries::{FIRST, IndexBlock};
@@ -31,7 +28,7 @@ pub struct Standing {
 /// Notes the blocks of a level that the entries of a block name.
 fn note_named(rows: &mut Vec<Standing>, block: &IndexBlock, level: u8) -> Result<(), Refused>
     ensures longer { OnOk result (length rows.old.items ≤ length rows.new.items) }
-    ensures named { OnOk result (CountFits block.now.key_length block.now.bytes.now → rows.new.items ≡ rows.old.items ++ row_of level (named (entries_in block.now.key_length block.now.bytes.now))) }
+    ensures named { OnOk result (OfEntries block.now (λ es. rows.new.items ≡ rows.old.items ++ row_of level (named es))) }
     ensures refusal { OnlyMemory result }
 {
     for index in 0..block.count() {
@@ -55,7 +52,7 @@ fn note_below<S: BlockStore>(
     requires least { 12 ≤ volume.old.size }
     ensures read { IsRead volume.old result volume.new }
     ensures longer { OnOk result (length rows.old.items ≤ length rows.new.items) }
-    ensures named { OnOk result (IsTrue volume.old.is_sound → number_at 2 (block_at volume.old n) 4 ≤ entry_room key_length volume.old.size → rows.new.items ≡ rows.old.items ++ row_of level (named (entries_in key_length (block_at volume.old n)))) }
+    ensures named { OnOk result (IsTrue volume.old.is_sound → OfFitting key_length volume.old n (λ es. rows.new.items ≡ rows.old.items ++ row_of level (named es))) }
     ensures refusal { OnlyDeviceOrMemory result }
 {
     let bytes = volume.block(n)?;

@@ -52,6 +52,7 @@ pub play-says : {S : Type 0} (is_sound : S → Bool) (failures : S → ℕ) (con
     → (IsTrue (is_sound old) → IsRunFaultOf d pcbs (contents old) (turns_of steps) (contents new) fault) → CountsFor (fault_refusal fault) (failures old) (failures new)
     → PlaySays is_sound failures contents d pcbs steps old new (of_run fault)
 play-says is_sound failures contents d pcbs steps old new (run.Open (opening.Check fault)) says counts = λ sound. let told = says sound in (told.0, told.1 (λ e. cc))
+play-says is_sound failures contents d pcbs steps old new (run.Open (opening.Old version)) says counts = λ sound. let told = says sound in (told.0, told.1 (λ e. cc))
 play-says is_sound failures contents d pcbs steps old new (run.Open opening.NotEmptyForLoad) says counts = λ sound. let told = says sound in (told.0, told.1 (λ e. cc))
 play-says is_sound failures contents d pcbs steps old new (run.Open opening.Memory) says counts = λ sound. let told = says sound in told.1 (λ e. cc)
 play-says is_sound failures contents d pcbs steps old new (run.Open opening.Device) says counts = inl counts

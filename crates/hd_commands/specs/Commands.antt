@@ -12,7 +12,7 @@ use Rattle.hd_unload.specs.Streams.{IsRefusedAt}
 use Rattle.hd_unload.specs.Loads.{IsReloaded, IsFullAt}
 use Rattle.hd_commands.specs.declared.ending.Ended.{Ended}
 use Rattle.hd_commands.specs.declared.refusal.Refusal.{Refusal}
-use Rattle.hd_commands.specs.declared.refusal.Refusal.TheVariants.{Fault, NotEmpty, Record, Full, Device, Memory}
+use Rattle.hd_commands.specs.declared.refusal.Refusal.TheVariants.{Fault, Old, NotEmpty, Record, Full, Device, Memory}
 use Rattle.hd_commands.specs.Lines.{passed_line, unloaded_line, reloaded_line, refusal_line, status_of}
 
 -- ---- work that is done
@@ -49,6 +49,7 @@ pub record IsRefused (Says : Refusal → Type 0) (ended : Ended) (before after :
 -- it was a write that failed.
 abbrev pub VolumeSays : Database → VolumeState → VolumeState → Refusal → Type 0
 VolumeSays d old new (Fault fault) = IsTrue old.is_sound → IsFaulty d old fault
+VolumeSays d old new (Old version) = ⊥
 VolumeSays d old new NotEmpty = ⊥
 VolumeSays d old new (Record fault n) = ⊥
 VolumeSays d old new (Full n) = ⊥
@@ -59,6 +60,7 @@ VolumeSays d old new Memory = Unit {0}
 -- else the volume was made, and it was a write that failed.
 abbrev pub StreamSays : Database → List ℕ → ℕ → Bool → Type 0 → List ℕ → Refusal → Type 0
 StreamSays d stream largest is_sound Failed image (Fault fault) = ⊥
+StreamSays d stream largest is_sound Failed image (Old version) = ⊥
 StreamSays d stream largest is_sound Failed image NotEmpty = ⊥
 StreamSays d stream largest is_sound Failed image (Record fault n) = IsRefusedAt d stream n fault
 StreamSays d stream largest is_sound Failed image (Full n) = IsTrue is_sound → IsFullAt d stream largest n

@@ -6,7 +6,7 @@ use Rattle.hd_check.specs.declared.checking.Passed.{Passed}
 use Rattle.hd_unload.specs.declared.fault.RecordFault.{RecordFault}
 use Rattle.hd_unload.specs.declared.fault.RecordFault.TheVariants.{U1, U2, U3, U4, LB, LC, LD, LE}
 use Rattle.hd_commands.specs.declared.refusal.Refusal.{Refusal}
-use Rattle.hd_commands.specs.declared.refusal.Refusal.TheVariants.{NotEmpty, Record, Full, Device, Memory}
+use Rattle.hd_commands.specs.declared.refusal.Refusal.TheVariants.{Old, NotEmpty, Record, Full, Device, Memory}
 use Rattle.hd_commands.specs.declared.refusal.Refusal.TheVariants as refusals
 
 -- ---- standard output
@@ -46,9 +46,10 @@ name_of LC = codes "LC"
 name_of LD = codes "LD"
 name_of LE = codes "LE"
 
--- `fault 14 at 320, other 0`, `volume is not empty`, `reload refused: LC at record 2`, `reload refused: Full at record 6`, `device failed` or `no memory`
+-- `fault 14 at 320, other 0`, `volume of version 1: unload and reload`, `volume is not empty`, `reload refused: LC at record 2`, `reload refused: Full at record 6`, `device failed` or `no memory`
 abbrev pub text_of : Refusal → List ℕ
 text_of (refusals.Fault f) = codes "fault " ++ decimal (number_of f.line f.address) ++ codes " at " ++ decimal f.address ++ codes ", other " ++ decimal f.other
+text_of (Old version) = codes "volume of version " ++ decimal version ++ codes ": unload and reload"
 text_of NotEmpty = codes "volume is not empty"
 text_of (Record fault n) = codes "reload refused: " ++ name_of fault ++ codes " at record " ++ decimal n
 text_of (Full n) = codes "reload refused: Full at record " ++ decimal n
@@ -60,9 +61,10 @@ refusal_line r = text_of r ++ 10 ∷ []
 
 -- ---- statuses
 
--- 1 for a fault in a volume or a stream, a volume that is not empty and a lack of room, 3 for a failed access, 4 for want of memory
+-- 1 for a fault in a volume or a stream, a volume that is old or not empty, and a lack of room, 3 for a failed access, 4 for want of memory
 abbrev pub status_of : Refusal → ℕ
 status_of (refusals.Fault f) = 1
+status_of (Old version) = 1
 status_of NotEmpty = 1
 status_of (Record fault n) = 1
 status_of (Full n) = 1

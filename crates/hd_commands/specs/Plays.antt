@@ -9,7 +9,7 @@ use Rattle.hd_session.specs.Opening.{IsOpenFaultOf}
 use Rattle.hd_deck.specs.StepText.{StepText}
 use Rattle.hd_deck.specs.Runs.{turns_of, IsWholeRun, IsPlayedInPart}
 use Rattle.hd_commands.specs.declared.refusal.Refusal.{Refusal}
-use Rattle.hd_commands.specs.declared.refusal.Refusal.TheVariants.{Fault, NotEmpty, Record, Full, Device, Memory}
+use Rattle.hd_commands.specs.declared.refusal.Refusal.TheVariants.{Fault, Old, NotEmpty, Record, Full, Device, Memory}
 
 -- 4 where so many calls found no memory, if any did
 abbrev pub status_of_calls : ℕ → ℕ
@@ -21,10 +21,12 @@ PlaysInPrint is_sound contents d pcbs steps old new before after memory =
     IsTrue (is_sound old) → IsWholeRun d pcbs (contents old) (turns_of steps) before after memory (contents new)
 
 -- What a refusal of a play says of a store that was sound, whose bytes are as they were but where an access or a write failed: the least fault
--- that stands in them; that they hold rows and a PCB loads; or that some of the calls were made, and it was a write that failed. Of any store it
+-- that stands in them; that their version is not the newest; that they hold rows and a PCB loads; or that some of the calls were made, and it was a write that failed. Of any store it
 -- says whether an access failed.
 abbrev pub PlaySays : {S : Type 0} → (S → Bool) → (S → ℕ) → (S → List ℕ) → Database → List View → List StepText → S → S → Refusal → Type 0
 PlaySays is_sound failures contents d pcbs steps old new (Fault fault) = IsTrue (is_sound old) → IsFaulty d (volume_of d (contents old)) fault × (contents new ≡ contents old)
+PlaySays is_sound failures contents d pcbs steps old new (Old version) =
+    IsTrue (is_sound old) → IsOpenFaultOf d pcbs (volume_of d (contents old)) (opening.Old version) × (contents new ≡ contents old)
 PlaySays is_sound failures contents d pcbs steps old new NotEmpty =
     IsTrue (is_sound old) → IsOpenFaultOf d pcbs (volume_of d (contents old)) opening.NotEmptyForLoad × (contents new ≡ contents old)
 PlaySays is_sound failures contents d pcbs steps old new (Record fault n) = ⊥

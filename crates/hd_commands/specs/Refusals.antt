@@ -11,7 +11,7 @@ use Rattle.hd_session.specs.declared.opening.OpenFault.TheVariants as opening
 use Rattle.hd_deck.specs.declared.running.RunFault.{RunFault}
 use Rattle.hd_deck.specs.declared.running.RunFault.TheVariants as run
 use Rattle.hd_commands.specs.declared.refusal.Refusal.{Refusal}
-use Rattle.hd_commands.specs.declared.refusal.Refusal.TheVariants.{Fault, NotEmpty, Record, Full, Device, Memory}
+use Rattle.hd_commands.specs.declared.refusal.Refusal.TheVariants.{Fault, Old, NotEmpty, Record, Full, Device, Memory}
 
 -- of a check
 abbrev pub of_check : CheckFault → Refusal
@@ -35,6 +35,7 @@ of_reload reload.Device = Device
 -- of a run; a failed write is a device fault
 abbrev pub of_run : RunFault → Refusal
 of_run (run.Open (opening.Check fault)) = Fault fault
+of_run (run.Open (opening.Old version)) = Old version
 of_run (run.Open opening.NotEmptyForLoad) = NotEmpty
 of_run (run.Open opening.Memory) = Memory
 of_run (run.Open opening.Device) = Device

@@ -6,12 +6,8 @@ mod ending;
 mod law;
 mod lines;
 mod playing;
-#[cfg(test)]
-mod playing_tests;
 mod refusal;
 mod reloading;
-#[cfg(test)]
-mod tests;
 mod unloading;
 
 pub use checking::check_volume;

@@ -14,6 +14,8 @@ use std::fmt;
 pub enum Refusal {
     /// The volume does not pass, and this is its first fault.
     Fault(Fault),
+    /// The volume is of this version, which is not the newest.
+    Old(u16),
     /// A PCB loads, and the volume holds a segment.
     NotEmpty,
     /// The stream's record of this number is refused, the first with a fault.
@@ -38,6 +40,7 @@ impl fmt::Display for Refusal {
                 let (number, address, other) = (fault.number(), fault.address, fault.other);
                 write!(f, "fault {number} at {address}, other {other}")
             }
+            Refusal::Old(version) => write!(f, "volume of version {version}: unload and reload"),
             Refusal::NotEmpty => f.write_str("volume is not empty"),
             Refusal::Record(fault, record) => {
                 let name = name_of(*fault);
@@ -72,7 +75,11 @@ impl Refusal {
         ensures { result ≡ status_of self.now }
     {
         match self {
-            Refusal::Fault(_) | Refusal::NotEmpty | Refusal::Record(_, _) | Refusal::Full(_) => 1,
+            Refusal::Fault(_)
+            | Refusal::Old(_)
+            | Refusal::NotEmpty
+            | Refusal::Record(_, _)
+            | Refusal::Full(_) => 1,
             Refusal::Device => 3,
             Refusal::Memory => 4,
         }
@@ -117,6 +124,7 @@ impl Refusal {
     {
         match fault {
             RunFault::Open(OpenFault::Check(fault)) => Refusal::Fault(fault),
+            RunFault::Open(OpenFault::Old(version)) => Refusal::Old(version),
             RunFault::Open(OpenFault::NotEmptyForLoad) => Refusal::NotEmpty,
             RunFault::Open(OpenFault::Memory) | RunFault::Memory => Refusal::Memory,
             RunFault::Open(OpenFault::Device) | RunFault::Device | RunFault::Write =>

@@ -1,10 +1,11 @@
 -- A run over the volume of a store's bytes.
-use Rattle.std.proofs.Common.{◌≡◌, ◌≢◌, IsTrue, ℕ, List, take, Option, Err, sym, ◌∙◌, subst, refl}
+use Rattle.std.proofs.Common.{◌≡◌, ◌≢◌, IsTrue, ℕ, List, take, Option, Err, sym, ap, ◌∙◌, subst, refl}
 use Rattle.hd_dbd.specs.Types.{View}
 use Rattle.hd_dbd.specs.Hierarchy.{Database}
 use Rattle.hd_dbd.specs.Facts.{stored_sizes}
 use Rattle.hd_dbd.specs.Logs.{Entry}
 use Rattle.hd_calls.specs.NoLostUpdate.{opened}
+use Rattle.hd_volume.specs.Headers.{header_of}
 use Rattle.hd_volume.specs.Volumes.{VolumeState}
 use Rattle.hd_volume.specs.Calls.{IsRead}
 use Rattle.hd_links.specs.Placed.{forest_of}
@@ -34,7 +35,10 @@ module _ (d : Database) (pcbs : List View) (bytes : List ℕ) (v : VolumeState) 
     };
     none = λ g holds. h.none g (held-same d (volume_of d bytes) v image size sizes g holds);
   }
-  fault_of_bytes opening.NotEmptyForLoad h = (h.0, h.1, (h.2.0, h.2.1, held-same d v (volume_of d bytes) (sym image) (sym size) (sym sizes) h.2.0 h.2.2), h.3)
+  fault_of_bytes (opening.Old version) h =
+      (h.0 ∙ ap (λ (i : List ℕ). (header_of i).version) image, h.1, h.2, (h.3.0, h.3.1, held-same d v (volume_of d bytes) (sym image) (sym size) (sym sizes) h.3.0 h.3.2))
+  fault_of_bytes opening.NotEmptyForLoad h =
+      (sym (ap (λ (i : List ℕ). (header_of i).version) image) ∙ h.0, h.1, h.2, (h.3.0, h.3.1, held-same d v (volume_of d bytes) (sym image) (sym size) (sym sizes) h.3.0 h.3.2), h.4)
   fault_of_bytes opening.Memory h = tt
   fault_of_bytes opening.Device h = tt
 
@@ -91,6 +95,7 @@ module _ (v w : VolumeState) where
   -- what an opening that met no failed access leaves in the store
   pub left_by_opening : (fault : OpenFault) → IsRead v (opening_call {T = SessionState} (Err fault)) w → IsTrue v.is_sound → v.stored ≡ v.image → fault ≢ opening.Device → w.stored ≡ v.image
   left_by_opening (opening.Check fault) read sound all other = untouched (rw read.call.sound sound) read.image read.stands all
+  left_by_opening (opening.Old version) read sound all other = untouched (rw read.call.sound sound) read.image read.stands all
   left_by_opening opening.NotEmptyForLoad read sound all other = untouched (rw read.call.sound sound) read.image read.stands all
   left_by_opening opening.Memory read sound all other = untouched (rw read.call.sound sound) read.image read.stands all
   left_by_opening opening.Device read sound all other = absurd (other refl)

@@ -178,6 +178,7 @@ IsBeforeCalls run.Write = ⊥
 -- only a fault of Device says that an access failed, as far as the store goes
 abbrev pub fault_refusal : RunFault → Refused
 fault_refusal (run.Open (opening.Check fault)) = refused.Memory
+fault_refusal (run.Open (opening.Old version)) = refused.Memory
 fault_refusal (run.Open opening.NotEmptyForLoad) = refused.Memory
 fault_refusal (run.Open opening.Memory) = refused.Memory
 fault_refusal (run.Open opening.Device) = refused.Device

@@ -63,5 +63,3 @@ pub fn read_deck(alloc: Global, bytes: &[u8], pcbs: u8) -> Result<Vec<Step>, Dec
     Ok(reader.into_steps())
 }
 
-#[cfg(test)]
-mod tests;

@@ -14,8 +14,3 @@ pub use deck::{DeckFault, read_deck};
 pub use printing::{WriteFault, print_answer, print_refusal};
 pub use running::{RunEnd, RunFault, run};
 pub use step::Step;
-
-#[cfg(test)]
-mod refusal_tests;
-#[cfg(test)]
-mod run_tests;

@@ -20,6 +20,3 @@ pub use sources::SOURCE_FAULTS;
 pub use table::{entry_in, place_of};
 pub use volumes::VOLUME_FAULTS;
 pub use writing::{write_entry, write_lines};
-
-#[cfg(test)]
-mod tests;

@@ -127,19 +127,21 @@ pub const VOLUME_FAULTS: &[Explanation] = &[
         word: "15",
         kind: Kind::VolumeFault,
         summary: "the blocks of the index are not as they should be",
-        text: "At 0 one of the header's top and height is 0 alone, the height is above 1, or top is no index block\n\
-               of level 0; other is the number of top. At another address an index block has a wrong level, too\n\
-               many entries or a wrong next, or is named twice. The first block, or the block at the address, is\n\
-               damaged. The segments and their pointers are sound: only the index is not. Keep the file, and take\n\
-               the last copy that passes, or reload the last unload stream.",
+        text: "At 0 one of the header's top and height is 0 alone, the height is above 64, in version 1 above 1, or\n\
+               top is no index block of the highest level; other is the number of top. At another address an index\n\
+               block has a wrong level, too many entries or none, or a wrong next, names a wrong block, or is named\n\
+               twice. The first block, or the block at the address, is damaged. The segments and their pointers are\n\
+               sound: only the index is not. Keep the file, and take the last copy that passes, or reload the last\n\
+               unload stream.",
     },
     Entry {
         word: "16",
         kind: Kind::VolumeFault,
         summary: "the keys of the index do not ascend",
-        text: "In the index block at this address a key is not above the one before it; other is the address in the\n\
-               key's entry. Entries of the block are damaged. The segments and their pointers are sound: only the\n\
-               index is not. Keep the file, and take the last copy that passes, or reload the last unload stream.",
+        text: "In the index block at this address a key is not above the one before it, or an upper key does not\n\
+               bound the keys below it; other is what the key's entry names. Entries of the block are damaged. The\n\
+               segments and their pointers are sound: only the index is not. Keep the file, and take the last copy\n\
+               that passes, or reload the last unload stream.",
     },
     Entry {
         word: "17",
@@ -163,8 +165,8 @@ pub const VOLUME_FAULTS: &[Explanation] = &[
         kind: Kind::VolumeFault,
         summary: "a block is neither data, index nor free, or the index does not reach it",
         text: "Byte 2 of the block at this address is none of 1, 2 and 3; or it is 2, and no way leads from the top\n\
-               of the index to the block. The start of the block is damaged, or the block before it in the index\n\
-               lost its next. Keep the file, and take the last copy that passes, or reload the last unload stream.",
+               of the index to the block. The start of the block is damaged, or the index block that named it lost\n\
+               its number. Keep the file, and take the last copy that passes, or reload the last unload stream.",
     },
     Entry {
         word: "20",

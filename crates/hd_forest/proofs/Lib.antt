@@ -23,3 +23,4 @@ pub mod SpanEnds
 pub mod Taken
 pub mod Unlinks
 pub mod UnlinkSpan
+pub mod TwinsBelow

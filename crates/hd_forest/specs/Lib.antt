@@ -1,6 +1,7 @@
 pub mod Walks
 pub mod Rows
 pub mod Twins
+pub mod TwinPlaces
 pub mod Children
 pub mod Updates
 pub mod Sets

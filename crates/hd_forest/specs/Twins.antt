@@ -1,6 +1,12 @@
 -- Twins in the chain from a first child.
-use Rattle.std.specs.Prelude.{◌≡◌, ◌⊎◌, ℕ, zero, suc, ◌<◌, ◌≤◌}
-use Rattle.hd_links.specs.Links.{Links, IsSegment}
+use Rattle.std.specs.Prelude.{◌≡◌, ◌⊎◌, ℕ, zero, suc, ◌<◌, ◌≤◌, List, Bool, true, false}
+use Rattle.std.specs.Option.{option_map_or}
+use Rattle.std.specs.Ordering.{nat_cmp, is_lt}
+use Rattle.std.specs.Cmp.Lexicographic.{slice_cmp}
+use Rattle.hd_dbd.specs.Types.{SegmentType}
+use Rattle.hd_dbd.specs.Segment.{Segment}
+use Rattle.hd_dbd.specs.Hierarchy.{type_of, part_of}
+use Rattle.hd_links.specs.Links.{Links, IsSegment, segment_at}
 use Rattle.hd_links.specs.Pointers.{IsInChain}
 
 -- so many twins from p on are segments
@@ -23,3 +29,22 @@ pub record IsTwinWithin (m : Links) (bound p a : ℕ) : Type 0 where
 -- A is the first of the chain from p, and y is 0, or y is the twin before it. Before 0 stands the last of the chain, if there is one.
 abbrev pub IsBehind : Links → ℕ → ℕ → ℕ → Type 0
 IsBehind m p y a = ((y ≡ 0) × (p ≡ a)) ⊎ ((0 < y) × IsInChain m p y × (m.forward y ≡ a))
+
+-- the row's type has a key, and the row's is below another
+abbrev pub is_key_below : List SegmentType → List ℕ → Segment → Bool
+is_key_below types key r =
+    option_map_or (λ t. option_map_or (λ k. is_lt (slice_cmp nat_cmp (part_of r.bytes k.start k.length) key)) t.key false) (type_of types r.code) false
+
+-- so many twins from p on are segments whose keys are below a key
+abbrev pub AreTwinsBelow : List SegmentType → Links → List ℕ → ℕ → ℕ → Type 0
+AreTwinsBelow types m key zero p = Unit {0}
+AreTwinsBelow types m key (suc n) p =
+    IsSegment m p × (is_key_below types key (segment_at m p) ≡ true) × AreTwinsBelow types m key n (m.forward p)
+
+-- Of the twins from p on, r is the first whose key is not below a key, or 0 where all are below.
+pub record IsTwinFrom (types : List SegmentType) (m : Links) (key : List ℕ) (p r : ℕ) : Type 0 where
+  pub after : ℕ
+  pub is : twin_after m after p ≡ r
+  pub below : AreTwinsBelow types m key after p
+  pub there : 0 < r → IsSegment m r
+  pub ends : 0 < r → is_key_below types key (segment_at m r) ≡ false

@@ -5,17 +5,12 @@ mod change;
 mod children;
 mod law;
 mod leaf;
-#[cfg(test)]
-mod link_tests;
 mod path;
 mod read;
 mod row;
-#[cfg(test)]
-mod test_volumes;
+mod twins;
 mod unlink;
 mod walk;
-#[cfg(test)]
-mod walk_tests;
 mod write;
 
 pub use change::{link, replace};
@@ -26,5 +21,6 @@ pub use read::{
     code_at, first_child, last_child, last_twin, next_twin, parent_on, prev_twin, tip_of,
 };
 pub use row::bytes_in;
+pub use twins::twin_from;
 pub use unlink::unlink_span;
 pub use walk::{next_after_span, next_row};

@@ -13,6 +13,3 @@ mod value;
 pub use fault::GenFault;
 pub use law::law_statements_stand_in_order;
 pub use source::{read_dbd, read_psb};
-
-#[cfg(test)]
-mod tests;

@@ -45,6 +45,14 @@ last_so_unqualified types rows a i none =
     and_true true = refl
     and_true false = refl
 
+-- twins have the same twins
+pub same_twins : (types : List SegmentType) (rows : List Segment) (i k j : ℕ) → is_twin types rows i k ≡ true → is_twin types rows k j ≡ is_twin types rows i j
+same_twins types rows i k j e =
+    let T = and_parts ((row_at rows i).code == (row_at rows k).code) _ e in
+    let code : (row_at rows i).code ≡ (row_at rows k).code = eqb-true _ _ T.0 in
+    let parent : parent_row types rows i ≡ parent_row types rows k = one_option (parent_row types rows i) (parent_row types rows k) T.1 in
+    ap₂ (λ c p. c == (row_at rows j).code && option_eq (λ x y. x == y) p (parent_row types rows j)) (sym code) (sym parent)
+
 module _ (types : List SegmentType) (f : Forest Placed) (ssa : Ssa) (i : ℕ) where
   -- a later twin that has the qualification
   abbrev pub has_it : ℕ → Bool
@@ -55,14 +63,6 @@ module _ (types : List SegmentType) (f : Forest Placed) (ssa : Ssa) (i : ℕ) wh
     pub last : twin ≡ 0 → is_last_so types (rows_of f) ssa i ≡ true
     pub next : 0 < twin → (k : ℕ) × (i + turns < k) × (k < length (rows_of f)) × (address_at f k ≡ twin) × (is_twin types (rows_of f) i k ≡ true)
         × (is_last_so types (rows_of f) ssa i ≡ is_none (first_from has_it k (length (rows_of f))))
-
-  -- twins have the same twins
-  pub same_twins : (k j : ℕ) → is_twin types (rows_of f) i k ≡ true → is_twin types (rows_of f) k j ≡ is_twin types (rows_of f) i j
-  same_twins k j e =
-      let T = and_parts ((row_at (rows_of f) i).code == (row_at (rows_of f) k).code) _ e in
-      let code : (row_at (rows_of f) i).code ≡ (row_at (rows_of f) k).code = eqb-true _ _ T.0 in
-      let parent : parent_row types (rows_of f) i ≡ parent_row types (rows_of f) k = one_option (parent_row types (rows_of f) i) (parent_row types (rows_of f) k) T.1 in
-      ap₂ (λ c p. c == (row_at (rows_of f) j).code && option_eq (λ x y. x == y) p (parent_row types (rows_of f) j)) (sym code) (sym parent)
 
   none_has : (j : ℕ) → is_twin types (rows_of f) i j ≡ false → has_it j ≡ false
   none_has j e = ap (λ b. b && qualifies ssa (row_at (rows_of f) j)) e

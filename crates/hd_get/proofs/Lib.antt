@@ -8,6 +8,9 @@ pub mod LastTwins
 pub mod Unread
 pub mod LastChildren
 pub mod Asking
+pub mod TwinsFrom
+pub mod AcrossTo
+pub mod Looks
 pub mod Starts
 pub mod ByKey
 pub mod KeptRows

@@ -1,9 +1,10 @@
 -- The turns of a search.
-use Rattle.std.proofs.Common.{◌≡◌, ℕ, suc, ◌+◌, ◌-◌, ◌<◌, ◌≤◌, List, [], length, Bool, true, false, Option, Some, None, sym, ap, subst, ◌∙◌, arith, inl, inr}
-use Rattle.std.specs.Prelude.{nat_lt, option_map, unwrap_or}
-use Rattle.std.proofs.lemmas.Bool.{cases_lt, cond-true, cond-false, lt-ltb, le-ltb}
+use Rattle.std.proofs.Common.{◌≡◌, ℕ, suc, ◌+◌, ◌-◌, ◌<◌, ◌≤◌, List, [], ◌∷◌, ◌++◌, length, take, Bool, true, false, Option, Some, None, sym, ap, subst, ◌∙◌, arith, inl, inr}
+use Rattle.std.specs.Prelude.{◌==◌, nat_lt, option_map, unwrap_or}
+use Rattle.std.specs.Option.{option_map_or}
+use Rattle.std.proofs.lemmas.Bool.{and_parts, cases_lt, cond-true, cond-false, lt-ltb, le-ltb}
 use Rattle.hd_dbd.specs.Types.{SegmentType}
-use Rattle.hd_dbd.specs.Paths.{parent_row, end_of}
+use Rattle.hd_dbd.specs.Paths.{row_at, parent_row, end_of, have_one_parent}
 use Rattle.hd_dbd.specs.Searches.{first_from, least_within}
 use Rattle.hd_dbd.specs.Forest.{Forest}
 use Rattle.hd_links.specs.Placed.{Placed}
@@ -13,9 +14,9 @@ use Rattle.hd_calls.specs.Places.{end_below}
 use Rattle.hd_calls.proofs.Searches.{least_none, skipped}
 use Rattle.hd_calls.proofs.Spans.{end_is}
 use Rattle.hd_seek.specs.Admits.{NonePass}
-use Rattle.hd_get.specs.Searches.{EndsAt, path_within, is_above_admitted, child_or_end, NonePassAcross, AllAdmitted, IsWayDown, IsWayBeside, GoesAcross, GoesDown, GoesOn, GoesTo, IsFound}
-use Rattle.hd_get.proofs.Spans.{nested, parent_span, parent_within, child_is, joined, above_parent, above_child, above_all}
-use Rattle.hd_get.proofs.Climbs.{some_path}
+use Rattle.hd_get.specs.Searches.{EndsAt, path_within, is_above_admitted, child_or_end, NonePassAcross, AllAdmitted, IsWayDown, IsWayAcross, IsWayBeside, GoesAcross, GoesDown, GoesOn, GoesTo, IsFound}
+use Rattle.hd_get.proofs.Spans.{one_option, nested, parent_span, parent_within, child_is, joined, above_same, above_parent, above_child, above_all}
+use Rattle.hd_get.proofs.Climbs.{some_path, path_is, up_is}
 
 -- ---- where a search ends
 
@@ -104,6 +105,43 @@ module _ (test admits : ℕ → Bool) (types : List SegmentType) (f : Forest Pla
     where
       one : {a b : ℕ} → Some a ≡ Some b → a ≡ b
       one z = cc
+
+  -- to a later twin
+  pub turned_to_twin : (a : ℕ) (path : List ℕ) → IsWayAcross test types f i a → path ≡ take (length (path_at types f i) - 1) (path_at types f i) ++ a ∷ [] → GoesOn test admits types f end i path
+  turned_to_twin a path W is =
+      let same : parent_row types (rows_of f) W.twin ≡ parent_row types (rows_of f) i
+      = sym (one_option (parent_row types (rows_of f) i) (parent_row types (rows_of f) W.twin) (and_parts ((row_at (rows_of f) i).code == (row_at (rows_of f) W.twin).code) (have_one_parent types (rows_of f) i W.twin) W.is).1) in
+      let tw : W.twin < length (rows_of f) = W.within in
+      let own : W.twin < end_of types (rows_of f) W.twin = (end_is types (rows_of f) W.twin W.within).behind in
+      let before : W.twin < end = elim (cases_lt 0 parent) [
+        | inl some ↦
+            (let Q = E.under some in
+            let q : Q.0 < i = Q.1 in
+            let e : end ≡ end_of types (rows_of f) Q.0 = Q.4 in
+            let P = parent_within types (rows_of f) Q.0 i q within (omega arith) in
+            let up_ : parent_row types (rows_of f) W.twin ≡ Some P.0 = same ∙ P.1 in
+            let S = parent_span types (rows_of f) W.twin P.0 W.within up_ in
+            let T = parent_span types (rows_of f) i P.0 within P.1 in
+            let low : Q.0 ≤ P.0 = P.2 in
+            let pi : P.0 < i = T.0 in
+            let il : i < length (rows_of f) = within in
+            let ii : i < end_of types (rows_of f) i = (end_is types (rows_of f) i within).behind in
+            let b : end_of types (rows_of f) W.twin ≤ end_of types (rows_of f) P.0 = S.2 in
+            let n : end_of types (rows_of f) P.0 ≤ end_of types (rows_of f) Q.0 = nested types (rows_of f) Q.0 P.0 low (omega arith) (omega arith) in omega arith)
+        | inr none ↦ (let e : end ≡ length (rows_of f) = E.whole (omega arith) in omega arith)
+      ] in
+      record {
+        number = W.twin;
+        later = W.later;
+        none = W.none;
+        above = λ z. above_same test admits types (rows_of f) W.twin i same up;
+        is = is
+            ∙ ap (λ (xs : List ℕ). xs ++ a ∷ []) (up_is types f i)
+            ∙ ap (λ (o : Option ℕ). option_map_or (λ q. path_at types f q) o [] ++ a ∷ []) (sym same)
+            ∙ ap (λ x. option_map_or (λ q. path_at types f q) (parent_row types (rows_of f) W.twin) [] ++ x ∷ []) (sym W.address)
+            ∙ sym (path_is types f W.twin)
+            ∙ sym (cond-true (nat_lt W.twin end) (path_at types f W.twin) [] (lt-ltb W.twin end before));
+      }
 
   -- to a later child of the parent
   pub turned_beside : (code : ℕ) (path : List ℕ) (W : IsWayBeside test admits types (rows_of f) i code) → GoesDown types f parent W.parent code path → GoesOn test admits types f end i path

@@ -7,6 +7,9 @@ use Rattle.hd_dbd.specs.Types.{SegmentType, View}
 use Rattle.hd_dbd.specs.Segment.{Segment}
 use Rattle.hd_dbd.specs.Paths.{row_at, path_of, parent_row}
 use Rattle.hd_dbd.specs.Letters.{gives_get}
+use Rattle.hd_dbd.specs.Forest.{Forest}
+use Rattle.hd_links.specs.Placed.{Placed}
+use Rattle.hd_links.specs.Steps.{rows_of}
 use Rattle.hd_calls.specs.Access.{may}
 use Rattle.hd_calls.specs.Satisfies.{satisfies}
 use Rattle.hd_seek.specs.Admits.{AreRowsOf}
@@ -17,21 +20,21 @@ use Rattle.hd_get.specs.Searches.{IsJudged, is_above_admitted}
 use Rattle.hd_get.specs.Asking.{verdict_plain}
 use Rattle.hd_get.proofs.Judging.{judged_found, judged_next, judged_over}
 
-module _ (types : List SegmentType) (rows : List Segment) (pcb : View) (over : AreRowsOf types rows) (i : ℕ) (within : i < length rows) where
-  pub judged_plain : IsJudged (satisfies (record { types = types; pcb = pcb }) rows []) (λ j. true) types rows i (verdict_plain (record { types = types; pcb = pcb }) (row_at rows i).code)
-  judged_plain = by_read (may (record { types = types; pcb = pcb }) gives_get (row_at rows i).code) refl
+module _ (types : List SegmentType) (f : Forest Placed) (pcb : View) (over : AreRowsOf types (rows_of f)) (i : ℕ) (within : i < length (rows_of f)) where
+  pub judged_plain : IsJudged (satisfies (record { types = types; pcb = pcb }) (rows_of f) []) (λ j. true) types f i (verdict_plain (record { types = types; pcb = pcb }) (row_at (rows_of f) i).code)
+  judged_plain = by_read (may (record { types = types; pcb = pcb }) gives_get (row_at (rows_of f) i).code) refl
     where
-      by_below : (b : Bool) → may (record { types = types; pcb = pcb }) gives_get (row_at rows i).code ≡ false → reads_some_below (record { types = types; pcb = pcb }) (row_at rows i).code ≡ b
-          → IsJudged (satisfies (record { types = types; pcb = pcb }) rows []) (λ j. true) types rows i (cond b Next Over)
-      by_below true own e = judged_next (satisfies (record { types = types; pcb = pcb }) rows []) (λ j. true) types rows i own (λ k. refl)
+      by_below : (b : Bool) → may (record { types = types; pcb = pcb }) gives_get (row_at (rows_of f) i).code ≡ false → reads_some_below (record { types = types; pcb = pcb }) (row_at (rows_of f) i).code ≡ b
+          → IsJudged (satisfies (record { types = types; pcb = pcb }) (rows_of f) []) (λ j. true) types f i (cond b Next Over)
+      by_below true own e = judged_next (satisfies (record { types = types; pcb = pcb }) (rows_of f) []) (λ j. true) types f i own (λ k. refl)
       by_below false own e =
-          judged_over (satisfies (record { types = types; pcb = pcb }) rows []) (λ j. true) types rows i (unread_spans_fail (record { types = types; pcb = pcb }) rows i over within e) (λ k. refl)
+          judged_over (satisfies (record { types = types; pcb = pcb }) (rows_of f) []) (λ j. true) types f i (unread_spans_fail (record { types = types; pcb = pcb }) (rows_of f) i over within e) (λ k. refl)
 
-      by_read : (b : Bool) → may (record { types = types; pcb = pcb }) gives_get (row_at rows i).code ≡ b
-          → IsJudged (satisfies (record { types = types; pcb = pcb }) rows []) (λ j. true) types rows i
-          (cond b Found (cond (reads_some_below (record { types = types; pcb = pcb }) (row_at rows i).code) Next Over))
-      by_read true e = judged_found (satisfies (record { types = types; pcb = pcb }) rows []) (λ j. true) types rows i e refl
-      by_read false e = by_below (reads_some_below (record { types = types; pcb = pcb }) (row_at rows i).code) e refl
+      by_read : (b : Bool) → may (record { types = types; pcb = pcb }) gives_get (row_at (rows_of f) i).code ≡ b
+          → IsJudged (satisfies (record { types = types; pcb = pcb }) (rows_of f) []) (λ j. true) types f i
+          (cond b Found (cond (reads_some_below (record { types = types; pcb = pcb }) (row_at (rows_of f) i).code) Next Over))
+      by_read true e = judged_found (satisfies (record { types = types; pcb = pcb }) (rows_of f) []) (λ j. true) types f i e refl
+      by_read false e = by_below (reads_some_below (record { types = types; pcb = pcb }) (row_at (rows_of f) i).code) e refl
 
 -- a list each member of which passes
 all_pass : (xs : List ℕ) → list_all (λ (j : ℕ). true) xs ≡ true

@@ -5,7 +5,7 @@ use Rattle.std.specs.List.{list_all}
 use Rattle.hd_dbd.specs.Types.{SegmentType}
 use Rattle.hd_dbd.specs.Hierarchy.{Database}
 use Rattle.hd_dbd.specs.Segment.{Segment}
-use Rattle.hd_dbd.specs.Paths.{row_at, parent_row, path_of, end_of}
+use Rattle.hd_dbd.specs.Paths.{row_at, parent_row, path_of, end_of, is_twin}
 use Rattle.hd_dbd.specs.Searches.{first_from}
 use Rattle.hd_dbd.specs.Forest.{Forest}
 use Rattle.hd_links.specs.Links.{Links, is_child_type, is_last_kept}
@@ -19,7 +19,7 @@ use Rattle.hd_calls.specs.Places.{end_below}
 use Rattle.hd_seek.specs.Admits.{NonePass}
 use Rattle.hd_seek.specs.Twins.{next_twin}
 use Rattle.hd_get.specs.declared.verdict.Verdict.{Verdict}
-use Rattle.hd_get.specs.declared.verdict.Verdict.TheVariants.{Found, Next, Over, Down, DownToLast, Across, Beside, BesideToLast, Rest}
+use Rattle.hd_get.specs.declared.verdict.Verdict.TheVariants.{Found, Next, Over, Down, DownToLast, Across, AcrossTo, Beside, BesideToLast, Rest}
 
 -- ---- where a search is
 
@@ -97,6 +97,15 @@ pub record IsWayBesideToLast (test admits : ℕ → Bool) (types : List SegmentT
   pub to_last : IsWayToLast test admits types rows parent code
   pub later : IsBeforeLast types rows parent code i
 
+-- The address is that of a later twin of row i, and none passes before that.
+pub record IsWayAcross (test : ℕ → Bool) (types : List SegmentType) (f : Forest Placed) (i a : ℕ) : Type 0 where
+  pub twin : ℕ
+  pub later : i < twin
+  pub within : twin < length (rows_of f)
+  pub is : is_twin types (rows_of f) i twin ≡ true
+  pub address : address_at f twin ≡ a
+  pub none : NonePass test i twin
+
 -- the search may go on below the row
 abbrev pub goes_below : Verdict → Bool
 goes_below Found = true
@@ -105,23 +114,25 @@ goes_below (Down code) = true
 goes_below (DownToLast code) = true
 goes_below Over = false
 goes_below Across = false
+goes_below (AcrossTo a) = false
 goes_below (Beside code) = false
 goes_below (BesideToLast code) = false
 goes_below Rest = false
 
 -- The verdict on row i is right: so much it promises of the rows that the search then passes over.
-pub record IsJudged (test admits : ℕ → Bool) (types : List SegmentType) (rows : List Segment) (i : ℕ) (v : Verdict) : Type 0 where
+pub record IsJudged (test admits : ℕ → Bool) (types : List SegmentType) (f : Forest Placed) (i : ℕ) (v : Verdict) : Type 0 where
   pub admitted : goes_below v ≡ true → admits i ≡ true
-  pub span : goes_below v ≡ false → NonePass test i (end_of types rows i)
+  pub span : goes_below v ≡ false → NonePass test i (end_of types (rows_of f) i)
   pub found : v ≡ Found → test i ≡ true
   pub next : v ≡ Next → (test i ≡ false) × AllAdmitted admits
   pub over : v ≡ Over → AllAdmitted admits
-  pub down : (code : ℕ) → v ≡ Down code → IsWayDown test admits types rows i code
-  pub to_last : (code : ℕ) → v ≡ DownToLast code → IsWayToLast test admits types rows i code
-  pub across : v ≡ Across → NonePassAcross test types rows i
-  pub beside : (code : ℕ) → v ≡ Beside code → IsWayBeside test admits types rows i code
-  pub beside_to_last : (code : ℕ) → v ≡ BesideToLast code → IsWayBesideToLast test admits types rows i code
-  pub rest : v ≡ Rest → NonePass test i (end_below types rows (parent_row types rows i)) × NonePassAcross test types rows i
+  pub down : (code : ℕ) → v ≡ Down code → IsWayDown test admits types (rows_of f) i code
+  pub to_last : (code : ℕ) → v ≡ DownToLast code → IsWayToLast test admits types (rows_of f) i code
+  pub across : v ≡ Across → NonePassAcross test types (rows_of f) i
+  pub across_to : (a : ℕ) → v ≡ AcrossTo a → IsWayAcross test types f i a
+  pub beside : (code : ℕ) → v ≡ Beside code → IsWayBeside test admits types (rows_of f) i code
+  pub beside_to_last : (code : ℕ) → v ≡ BesideToLast code → IsWayBesideToLast test admits types (rows_of f) i code
+  pub rest : v ≡ Rest → NonePass test i (end_below types (rows_of f) (parent_row types (rows_of f) i)) × NonePassAcross test types (rows_of f) i
 
 -- The search went on from row i to a later row, or to its end: none on the way passes, and the parents of the row are admitted.
 pub record GoesOn (test admits : ℕ → Bool) (types : List SegmentType) (f : Forest Placed) (end i : ℕ) (path : List ℕ) : Type 0 where
@@ -194,7 +205,7 @@ GoesPast types f parent i path =
 abbrev pub FollowsVerdict : List SegmentType → Forest Placed → ℕ → ℕ → Verdict → Bool → List ℕ → Type 0
 FollowsVerdict types f parent i verdict r path =
     (test admits : ℕ → Bool) (end : ℕ) → EndsAt types f parent i end → i < end → is_above_admitted admits types (rows_of f) i ≡ true
-    → IsJudged test admits types (rows_of f) i verdict → IsTurned test admits types f end i r path
+    → IsJudged test admits types f i verdict → IsTurned test admits types f end i r path
 
 -- A search that was to begin at row n may as well begin at another, since none that is between passes; the rows above that one are
 -- admitted.
@@ -224,7 +235,7 @@ pub record IsPathOf (d : Database) (v : VolumeState) (f : Forest Placed) (path :
 abbrev pub IsVerdict : (List Segment → ℕ → Bool) → (List Segment → ℕ → Bool) → Database → VolumeState → List ℕ → Verdict → Type 0
 IsVerdict test admits d v path verdict =
     (f : Forest Placed) (i : ℕ) → IsPathOf d v f path i → is_above_admitted (admits (rows_of f)) d.types (rows_of f) i ≡ true
-    → IsJudged (test (rows_of f)) (admits (rows_of f)) d.types (rows_of f) i verdict
+    → IsJudged (test (rows_of f)) (admits (rows_of f)) d.types f i verdict
 
 -- Where the store is sound, a search stands at a row of a forest that the volume holds, before its end, and the parents of the row
 -- are admitted.

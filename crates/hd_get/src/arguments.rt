@@ -1,16 +1,14 @@
-ghost use Rattle.std.specs.Prelude.{◌≡◌, ◌&&◌, ◌==◌, not, ◌<◌, length, IfOk};
+ghost use Rattle.std.specs.Prelude.{◌≡◌, ◌&&◌, ◌==◌, not, ◌<◌, length, find, option_copied, IfOk};
 ghost use Rattle.std.specs.List.{list_any};
 ghost use Rattle.hd_dbd.specs.Refusals.{OnlyDevice};
 ghost use Rattle.hd_calls.specs.Ssas.{target_code};
 ghost use Rattle.hd_volume.specs.Calls.{IsRead};
-ghost use Rattle.hd_seek.specs.Keys.{is_ssa_past, is_past};
-ghost use Rattle.hd_get.specs.Asking.{asks_last, goes_to_last, Admits, MeetsOwn, IsPast, SeeksLater};
-ghost use Rattle.hd_get.specs.Meeting.{IsStored};
+ghost use Rattle.hd_get.specs.Asking.{asks_last, goes_to_last, least_key_of, Admits, MeetsOwn, SeeksLater};
 ghost use Rattle.hd_get.specs.Searches.{IsOf, IsThere};
 
 use crate::meeting::{is_last_twin, meets};
 use hd_dbd::{Dbd, Refused};
-use hd_forest::{Path, bytes_in};
+use hd_forest::Path;
 use hd_ssa::ResolvedSsa;
 use hd_volume::{BlockStore, Volume};
 
@@ -86,42 +84,22 @@ pub fn admits<S: BlockStore>(
     Ok(true)
 }
 
-/// Whether an argument is of the type of a code, and the key of a segment of that type with these bytes is past what it asks.
-fn is_ssa_past(dbd: &Dbd, ssa: &ResolvedSsa<'_>, code: u8, bytes: &[u8]) -> bool
-    ensures { result ≡ is_ssa_past dbd.now.types (record { code = code; bytes = bytes.now }) ssa.now }
+/// The first argument of the type of a code, if there is one.
+fn ssa_of<'s, 'a>(ssas: &'s [ResolvedSsa<'a>], code: u8) -> Option<&'s ResolvedSsa<'a>>
+    ensures { option_copied result ≡ find (λ a. a.code == code) ssas.now }
 {
-    if ssa.code() != code {
-        return false;
-    }
-    match dbd.type_of(code) {
-        Some(segment) => ssa.is_past(segment, bytes),
-        None => false,
-    }
+    ssas.iter().find(|ssa| ssa.code() == code)
 }
 
-/// Whether the key of a segment of the type of a code, with these bytes, is past what an argument asks.
-fn is_key_past(dbd: &Dbd, ssas: &[ResolvedSsa<'_>], code: u8, bytes: &[u8]) -> bool
-    ensures { result ≡ is_past dbd.now.types ssas.now (record { code = code; bytes = bytes.now }) }
+/// Of the type of a code, the key below which no row has what the argument of the type asks, if the type has a key and the argument
+/// tells of one.
+pub fn least_key_of<'a>(dbd: &Dbd, ssas: &[ResolvedSsa<'a>], code: u8) -> Option<&'a [u8]>
+    ensures { option_copied result ≡ least_key_of dbd.now.types ssas.now code }
 {
-    ssas.iter().any(|ssa| is_ssa_past(dbd, ssa, code, bytes))
-}
-
-/// Whether the key of the segment at an address, of the type of a code, is past what an argument asks. One access.
-pub fn is_past<S: BlockStore>(
-    volume: &mut Volume<S>,
-    dbd: &Dbd,
-    ssas: &[ResolvedSsa<'_>],
-    code: u8,
-    address: u32,
-) -> Result<bool, Refused>
-    requires of { IsOf dbd.now volume.old }
-    requires there { IsStored dbd.now volume.old address }
-    ensures read { IsRead volume.old result volume.new }
-    ensures value { IfOk result (λ r. IsPast dbd.now volume.old ssas.now code address r) }
-    ensures refusal { OnlyDevice result }
-{
-    let segment = volume.segment_at(address)?;
-    Ok(is_key_past(dbd, ssas, code, bytes_in(dbd, segment)))
+    let own = dbd.type_of(code)?;
+    let key = own.key?;
+    let ssa = ssa_of(ssas, code)?;
+    ssa.least_key(key)
 }
 
 /// Whether the type of a code is not the root, and of its rows the last twin alone is asked for, which parents keep.

@@ -9,6 +9,7 @@ mod finding;
 mod first;
 mod getting;
 mod judge;
+mod looking;
 mod meeting;
 mod named;
 mod naming;
@@ -24,6 +25,7 @@ mod verdict;
 mod ways;
 
 pub use arguments::target_code;
+pub use by_key::unique_by_key;
 pub use call::Get;
 pub use getting::get;
 pub use judge::Judge;
@@ -34,24 +36,3 @@ pub use searching::find;
 pub use standing::type_path;
 pub use taking::taken;
 pub use verdict::Verdict;
-
-#[cfg(test)]
-mod access_tests;
-#[cfg(test)]
-mod get_tests;
-#[cfg(test)]
-mod named_tests;
-#[cfg(test)]
-mod plain_gets;
-#[cfg(test)]
-mod plain_rows;
-#[cfg(test)]
-mod random_tests;
-#[cfg(test)]
-mod sample_with_fields;
-#[cfg(test)]
-mod test_volumes;
-#[cfg(test)]
-mod tests;
-#[cfg(test)]
-mod worked_tests;

@@ -1,13 +1,17 @@
-ghost use Rattle.std.specs.Prelude.{◌≡◌, option_copied};
-ghost use Rattle.hd_get.specs.Asking.{may_read, verdict_beside, verdict_beside_to, verdict_to, verdict_down};
+ghost use Rattle.std.specs.Prelude.{◌≡◌, option_copied, IfOk};
+ghost use Rattle.hd_dbd.specs.Refusals.{OnlyDevice};
+ghost use Rattle.hd_volume.specs.Calls.{IsRead};
+ghost use Rattle.hd_get.specs.Searches.{IsOf, IsThere};
+ghost use Rattle.hd_get.specs.Asking.{may_read, verdict_beside, verdict_beside_to, verdict_to, verdict_down, verdict_from, GoesAcrossFrom};
 
 use crate::access::may_get;
-use crate::arguments::{admits, goes_to_last, is_past, seeks_later, target_code};
+use crate::arguments::{goes_to_last, least_key_of, seeks_later, target_code};
 use crate::judge::Judge;
+use crate::looking::{admits_seen, look_at};
 use crate::verdict::Verdict;
 use crate::ways::{is_on_way, way_beside, way_down};
 use hd_dbd::{Dbd, Pcb, Refused};
-use hd_forest::{Path, code_at, tip_of};
+use hd_forest::{Path, tip_of, twin_from};
 use hd_ssa::ResolvedSsa;
 use hd_volume::{BlockStore, Volume};
 use std::marker::Model;
@@ -98,6 +102,42 @@ fn verdict_down(
     }
 }
 
+/// Where a search goes from a row at an address to the first of it and its later twins that may have what is asked, 0 for none.
+fn verdict_from(address: u32, twin: u32) -> Verdict
+    ensures { result ≡ verdict_from address twin }
+{
+    if twin == 0 {
+        Verdict::Rest
+    } else if twin == address {
+        Verdict::Across
+    } else {
+        Verdict::AcrossTo(twin)
+    }
+}
+
+/// Where a search goes from the last row of a path, of the type of a code on the way, that does not meet the arguments. Twins whose
+/// keys are below the least that is asked for are read, but not judged.
+fn verdict_across<S: BlockStore>(
+    volume: &mut Volume<S>,
+    dbd: &Dbd,
+    ssas: &[ResolvedSsa<'_>],
+    code: u8,
+    path: &Path,
+) -> Result<Verdict, Refused>
+    requires of { IsOf dbd.now volume.old }
+    requires there { IsThere dbd.now volume.old path.now }
+    ensures read { IsRead volume.old result volume.new }
+    ensures value { IfOk result (λ v. GoesAcrossFrom dbd.now volume.old ssas.now code path.now v) }
+    ensures refusal { OnlyDevice result }
+{
+    let Some(key) = least_key_of(dbd, ssas, code) else {
+        return Ok(Verdict::Across);
+    };
+    let address = tip_of(path);
+    let twin = twin_from(volume, dbd, address, key)?;
+    Ok(verdict_from(address, twin))
+}
+
 impl<'a> Judge for Named<'a> {
     ghost use Rattle.hd_get.specs.Asking.{SsasSuit, is_asked, is_admitted};
 
@@ -113,20 +153,21 @@ impl<'a> Judge for Named<'a> {
         dbd: &Dbd,
         path: &Path,
     ) -> Result<Verdict, Refused> {
-        let code = code_at(volume, dbd, tip_of(path))?;
+        let look = look_at(volume, dbd, self.ssas, tip_of(path))?;
+        let code = look.code;
         let target = target_code(self.ssas);
         if !is_on_way(dbd, target, code) {
             return Ok(verdict_beside(dbd, self.ssas, target, code));
         }
-        if admits(volume, dbd, self.ssas, code, path)? {
+        if admits_seen(volume, dbd, self.ssas, look, path)? {
             return Ok(verdict_down(dbd, self.pcb, self.ssas, target, code));
         }
-        if is_past(volume, dbd, self.ssas, code, tip_of(path))? {
+        if look.is_past {
             return Ok(Verdict::Rest);
         }
         if seeks_later(volume, dbd, self.ssas, code, path)? {
             return Ok(Verdict::BesideToLast(code));
         }
-        Ok(Verdict::Across)
+        verdict_across(volume, dbd, self.ssas, code, path)
     }
 }

@@ -1,4 +1,4 @@
-ghost use Rattle.std.specs.Prelude.{◌≡◌, ◌+◌, ◌-◌, ◌<◌, ℕ, [], ◌||◌, ◌==◌, Bool, true, false, cond, length, take, IfOk, OnOk, IsTrue};
+ghost use Rattle.std.specs.Prelude.{◌≡◌, ◌+◌, ◌-◌, ◌<◌, ◌++◌, ◌∷◌, ℕ, [], ◌||◌, ◌==◌, Bool, true, false, cond, length, take, IfOk, OnOk, IsTrue};
 ghost use Rattle.std.specs.List.{list_any};
 ghost use Rattle.hd_dbd.specs.Paths.{end_of};
 ghost use Rattle.hd_dbd.specs.Refusals.{OnlyDevice};
@@ -61,6 +61,14 @@ fn across<S: BlockStore>(
     }
     path.clear();
     Ok(())
+}
+
+/// Goes from the last row of a path to a later twin, which is at an address.
+fn across_to(path: &mut Path, address: u32)
+    ensures { path.new ≡ take (length path.old - 1) path.old ++ address ∷ [] }
+{
+    path.up();
+    path.push(address);
 }
 
 /// Goes down from the last row of a path to its first child of a type; where it has none, across.
@@ -227,6 +235,7 @@ pub fn follow<S: BlockStore>(
         Verdict::Down(code) => down(volume, dbd, parent, code, path)?,
         Verdict::DownToLast(code) => down_to_last(volume, dbd, parent, code, path)?,
         Verdict::Across => across(volume, dbd, parent, path)?,
+        Verdict::AcrossTo(address) => across_to(path, address),
         Verdict::Beside(code) => beside(volume, dbd, parent, code, path)?,
         Verdict::BesideToLast(code) => beside_to_last(volume, dbd, parent, code, path)?,
         Verdict::Rest => rest(volume, dbd, parent, path)?,

@@ -13,6 +13,8 @@ pub enum Verdict {
     DownToLast(u8),
     /// To the next twin; behind the last, across from the parent.
     Across,
+    /// To the later twin at this address.
+    AcrossTo(u32),
     /// To the first child of its parent of the type of this code, which comes later; where there is none, across from the parent.
     Beside(u8),
     /// To the last child of its parent of the type of this code, which is kept and comes later; where there is none, across from the
@@ -34,6 +36,7 @@ impl Verdict {
             Verdict::Found | Verdict::Next | Verdict::Down(_) | Verdict::DownToLast(_) => true,
             Verdict::Over
             | Verdict::Across
+            | Verdict::AcrossTo(_)
             | Verdict::Beside(_)
             | Verdict::BesideToLast(_)
             | Verdict::Rest => false,

@@ -1,5 +1,5 @@
 -- A new volume holds the forest without rows.
-use Rattle.std.proofs.Common.{◌≡◌, ℕ, zero, suc, ◌*◌, ◌<◌, ◌≤◌, List, [], length, Bool, false, ◌||◌, ◌==◌, refl, sym, ap, ap₂, subst, ◌∙◌, Option, arith, ne_eqb, inl}
+use Rattle.std.proofs.Common.{◌≡◌, ℕ, zero, suc, ◌*◌, ◌<◌, ◌≤◌, List, [], length, Bool, false, ◌||◌, ◌==◌, refl, sym, ap, ap₂, subst, ◌∙◌, Option, arith, ne_eqb, inr}
 use Rattle.std.specs.Prelude.{is_some}
 use Rattle.std.proofs.Math.Nat.{mul-le-mul_right}
 use Rattle.std.proofs.lemmas.Bool.{eq-eqb, cond-true, false≢true}
@@ -10,17 +10,13 @@ use Rattle.hd_dbd.proofs.StoredSizes.{block_size-bounds}
 use Rattle.hd_volume.specs.Headers.{Header, header_of}
 use Rattle.hd_volume.specs.Volumes.{VolumeState}
 use Rattle.hd_volume.specs.Creates.{IsCreated}
-use Rattle.hd_volume.specs.Entries.{chain_from, entry_blocks, entries_of, entries}
-use Rattle.hd_volume.specs.Indexes.{root_key_length, IsChain, keys_ascend, HasIndex}
+use Rattle.hd_volume.specs.Indexes.{root_key_length}
+use Rattle.hd_levels.specs.IndexSets.{index_entries, HasIndexOf}
+use Rattle.hd_levels.proofs.NoBlocks.{set-empty, empty-entries}
 use Rattle.hd_links.specs.Links.{IsSegment}
 use Rattle.hd_links.specs.Placed.{Holds}
 use Rattle.hd_image.specs.Records.{links_of}
 use Rattle.hd_image.specs.Laws.{IsDatabase, NewVolumesAreEmpty}
-
--- a chain from 0 on has no block
-chain-none : (v : VolumeState) (more n : ℕ) → n ≡ 0 → chain_from v more n ≡ []
-chain-none v zero n e = refl
-chain-none v (suc more) n e = cond-true (n == 0) [] _ (eq-eqb n 0 e)
 
 -- an image of one block has no other
 one-block : (size n : ℕ) (image : List ℕ) → 0 < size → length image ≡ size → HasBlock size image n → 0 < n → ⊥
@@ -39,11 +35,8 @@ module _ (d : Database) (v : VolumeState) (largest : ℕ) (fit : IsDatabase d) (
       ap₂ (λ (x : Bool) (o : Option (List ℕ)). x || is_some o) (ne_eqb a 0 (λ e. let some = s.some in omega arith)) (created.empty a) in
       absurd (false≢true (sym none ∙ s.here))
 
-  no-blocks : entry_blocks v ≡ []
-  no-blocks = chain-none v (header_of v.image).largest (header_of v.image).top (ap (λ (h : Header). h.top) created.header)
-
-  no-entries : (key_length : ℕ) → entries key_length v ≡ []
-  no-entries key_length = ap (entries_of key_length v) no-blocks
+  no-entries : (key_length : ℕ) → index_entries key_length v ≡ []
+  no-entries key_length = empty-entries key_length v (ap (λ (h : Header). h.version) created.header) (ap (λ (h : Header). h.top) created.header)
 
   holds-none : Holds d.types (links_of d.types v) empty
   holds-none = record {
@@ -55,15 +48,9 @@ module _ (d : Database) (v : VolumeState) (largest : ℕ) (fit : IsDatabase d) (
     once = λ a s. no-segment a s;
   }
 
-  has-none : (key_length : ℕ) → HasIndex key_length v
-  has-none key_length = record {
-    formatted = created.formatted;
-    version = ap (λ (h : Header). h.version) created.header;
-    height = inl (ap (λ (h : Header). h.top) created.header, ap (λ (h : Header). h.height) created.header);
-    chain = subst (λ (blocks : List ℕ). IsChain key_length v (header_of v.image).top blocks) (sym no-blocks) (ap (λ (h : Header). h.top) created.header);
-    reached = λ n is. absurd (none-later n is.there is.later);
-    ascend = ap keys_ascend (no-entries key_length);
-  }
+  has-none : (key_length : ℕ) → HasIndexOf key_length v
+  has-none key_length = inr (set-empty key_length v created.formatted (ap (λ (h : Header). h.version) created.header) (ap (λ (h : Header). h.top) created.header)
+      (ap (λ (h : Header). h.height) created.header) (λ n is. none-later n is.there is.later))
 
 pub new-empty : NewVolumesAreEmpty
 new-empty d v largest fit size sizes created = record {

@@ -1,5 +1,5 @@
 -- In a volume that holds a forest no fault stands.
-use Rattle.std.proofs.Common.{◌≡◌, inl, inr, ℕ, List, [], ◌∷◌, length, Bool, true, None, refl, sym, ap, subst, ◌∙◌, arith, ne_eqb}
+use Rattle.std.proofs.Common.{◌≡◌, ◌≢◌, inl, inr, ℕ, List, [], ◌∷◌, length, Bool, true, None, refl, sym, ap, subst, ◌∙◌, arith, ne_eqb}
 use Rattle.std.specs.Prelude.{◌==◌, not}
 use Rattle.std.specs.List.{list_all, list_any}
 use Rattle.std.proofs.lemmas.Bool.{and_from, eq-eqb, or_left, or_right, false≢true}
@@ -7,12 +7,15 @@ use Rattle.std.proofs.lemmas.Slice.Eq.{bytes_eq-Decides}
 use Rattle.hd_dbd.specs.Hierarchy.{Database}
 use Rattle.hd_dbd.specs.Rows.{key_of}
 use Rattle.hd_dbd.specs.Forest.{Forest}
-use Rattle.hd_volume.specs.Headers.{HasHeader}
+use Rattle.hd_volume.specs.Headers.{header_of, HasHeader}
 use Rattle.hd_volume.specs.Volumes.{VolumeState}
 use Rattle.hd_volume.specs.Entries.{Entry}
-use Rattle.hd_volume.specs.Indexes.{root_key_length}
+use Rattle.hd_volume.specs.Indexes.{root_key_length, HasIndex}
 use Rattle.hd_levels.specs.IndexSets.{sequence_blocks, index_entries}
-use Rattle.hd_levels.proofs.Volumes.{entries-below}
+use Rattle.hd_levels.specs.IndexSets.{HasIndexOf}
+use Rattle.hd_levels.specs.LevelFaults.{HasNoFault}
+use Rattle.hd_levels.proofs.RowFaults.{faults-all}
+use Rattle.hd_levels.proofs.Versions.{chain-of, set-of}
 use Rattle.hd_links.specs.Links.{Links, IsLinkGraph, segment_at}
 use Rattle.hd_links.specs.Placed.{Placed, nowhere}
 use Rattle.hd_links.specs.Pointers.{AreLinked}
@@ -22,7 +25,7 @@ use Rattle.hd_links.proofs.Sound.{are_linked}
 use Rattle.hd_image.specs.Records.{links_of}
 use Rattle.hd_image.specs.Holding.{root_entries, HoldsPlaced}
 use Rattle.hd_image.specs.Laws.{IsDatabase}
-use Rattle.hd_image.specs.BlockFaults.{IsNoVolume, IsOfAnother, IsOfNoKind}
+use Rattle.hd_image.specs.BlockFaults.{IsNoVolume, IsOfNoVersion, IsOfAnother, IsOfNoKind}
 use Rattle.hd_image.specs.IndexFaults.{names_a_root, HasWrongEntry, HasNoEntry}
 use Rattle.hd_image.specs.Standing.{Stands}
 use Rattle.hd_image.specs.declared.line.Line.{Line}
@@ -84,7 +87,7 @@ module _ (d : Database) (v : VolumeState) (f : Forest Placed) (fit : IsDatabase 
 
   -- the entries are those of the roots
   own-entries : index_entries (root_key_length d.types) v ≡ root_entries d.types f
-  own-entries = (entries-below (root_key_length d.types) v).0 h.index.version ∙ h.entries
+  own-entries = h.entries
 
   -- each entry names a root of its key
   names-all : list_all (λ e. names_a_root d m e) (index_entries (root_key_length d.types) v) ≡ true
@@ -107,10 +110,25 @@ module _ (d : Database) (v : VolumeState) (f : Forest Placed) (fit : IsDatabase 
       ap (list_any (λ (e : Entry). e.address == a)) own-entries ∙ any-of a (record { key = key_of d.types (segment_at m a); address = a }) (root_entries d.types f) refl entry in
       false≢true (sym n.2 ∙ found)
 
+  -- its version is known
+  none-version : HasIndexOf (root_key_length d.types) v → {a x : ℕ} → IsOfNoVersion v a x → ⊥
+  none-version (inl i) n = n.0 i.version
+  none-version (inr i) n = n.1 i.version
+
+  -- of version 1 the index is a chain
+  chain : (header_of v.image).version ≡ 1 → HasIndex (root_key_length d.types) v
+  chain one = chain-of (root_key_length d.types) v h.index one
+
+  -- and later an index set, in which no line stands
+  faultless : (header_of v.image).version ≢ 1 → HasNoFault (root_key_length d.types) v
+  faultless later =
+      let i = set-of (root_key_length d.types) v h.index later in
+      (faults-all (root_key_length d.types) v i.formatted i.version).0 i
+
   -- line by line
   none : (line : Line) (a x : ℕ) → Stands d v line a x → ⊥
   none NoVolume a x s = none-header a x s
-  none NoVersion a x s = s.0 h.index.version
+  none NoVersion a x s = none-version h.index s
   none AnotherDatabase a x s = none-other a x s
   none WrongChain a x s = none-wrong-chain v a x h.volume.formatted.divided s
   none WrongPlace a x s = none-wrong-place v a x h.volume.formatted.divided s
@@ -124,12 +142,12 @@ module _ (d : Database) (v : VolumeState) (f : Forest Placed) (fit : IsDatabase 
   none WrongLast a x s = pointer.none-last d.types m linked.back a x s
   none OutOfOrder a x s = pointer.none-order d.types m linked.keys a x s
   none NotReached a x s = pointer.none-unreached d.types m linked.reached a x s
-  none WrongTop a x s = elim s [ inl t ↦ index.none-wrong-top (root_key_length d.types) v h.index a x t.1 | inr t ↦ t.0 h.index.version ]
-  none WrongForm a x s = elim s [ inl t ↦ index.none-wrong-form (root_key_length d.types) v h.index a x t.1 | inr t ↦ t.0 h.index.version ]
-  none NamedTwice a x s = elim s [ inl t ↦ index.none-twice (root_key_length d.types) v h.index a x t.1 | inr t ↦ t.0 h.index.version ]
-  none UnreachedBlock a x s = elim s [ inl t ↦ index.none-unreached (root_key_length d.types) v h.index a x t.1 | inr t ↦ t.0 h.index.version ]
-  none WrongNext a x s = elim s [ inl t ↦ t.1 | inr t ↦ t.0 h.index.version ]
-  none EntryOutOfOrder a x s = elim s [ inl t ↦ index.none-out-of-order (root_key_length d.types) v h.index a x t.1 | inr t ↦ t.0 h.index.version ]
+  none WrongTop a x s = elim s [ inl t ↦ index.none-wrong-top (root_key_length d.types) v (chain t.0) a x t.1 | inr t ↦ (faultless t.0).top a x t.1 ]
+  none WrongForm a x s = elim s [ inl t ↦ index.none-wrong-form (root_key_length d.types) v (chain t.0) a x t.1 | inr t ↦ (faultless t.0).form a x t.1 ]
+  none NamedTwice a x s = elim s [ inl t ↦ index.none-twice (root_key_length d.types) v (chain t.0) a x t.1 | inr t ↦ (faultless t.0).once a x t.1 ]
+  none UnreachedBlock a x s = elim s [ inl t ↦ index.none-unreached (root_key_length d.types) v (chain t.0) a x t.1 | inr t ↦ (faultless t.0).reached a x t.1 ]
+  none WrongNext a x s = elim s [ inl t ↦ t.1 | inr t ↦ (faultless t.0).next a x t.1 ]
+  none EntryOutOfOrder a x s = elim s [ inl t ↦ index.none-out-of-order (root_key_length d.types) v (chain t.0) a x t.1 | inr t ↦ (faultless t.0).order a x t.1 ]
   none WrongEntry a x s = none-wrong-entry a x s
   none NoEntry a x s = none-without a x s
 

@@ -6,7 +6,7 @@ use Rattle.hd_dbd.specs.Forest.{Forest}
 use Rattle.hd_volume.specs.Volumes.{VolumeState}
 use Rattle.hd_volume.specs.Indexes.{root_key_length}
 use Rattle.hd_volume.proofs.JoinLemmas.{one-formatted}
-use Rattle.hd_volume.proofs.IndexLemmas.{index-stays}
+use Rattle.hd_levels.proofs.StayingSets.{indexes-stay}
 use Rattle.hd_links.specs.Placed.{Placed}
 use Rattle.hd_image.specs.Records.{links_of, IsVolumeOf}
 use Rattle.hd_image.specs.Holding.{HoldsPlaced}
@@ -29,7 +29,7 @@ pub held-same : (d : Database) (u v : VolumeState) → v.image ≡ u.image → v
 held-same d u v image size sizes f h =
     let like : VolumeState = record v { image = u.image; size = u.size; sizes = u.sizes } in
     let of : IsVolumeOf d like = volume-same d u like refl refl refl h.volume in
-    let stays = index-stays (root_key_length d.types) u like h.index of.formatted refl refl (λ n k. refl) (λ n k. record { there = k.there; later = k.later; kind_is = k.kind_is }) in
+    let stays = indexes-stay (root_key_length d.types) u like h.index of.formatted refl refl (λ n k. refl) (λ n k. record { there = k.there; later = k.later; kind_is = k.kind_is }) in
     subst (λ (w : VolumeState). HoldsPlaced d w f) (λ i. record v { image = sym image i; size = sym size i; sizes = sym sizes i }) (record {
       volume = of;
       name = h.name;

@@ -1,5 +1,5 @@
 -- A volume with which nothing is wrong holds a forest.
-use Rattle.std.proofs.Common.{◌≡◌, inl, inr, ℕ, ◌<◌, List, [], ◌∷◌, length, Bool, true, None, refl, sym, ap, subst, ◌∙◌, arith}
+use Rattle.std.proofs.Common.{◌≡◌, ◌≢◌, inl, inr, ℕ, ◌<◌, List, [], ◌∷◌, length, Bool, true, None, refl, sym, ap, subst, ◌∙◌, arith}
 use Rattle.std.specs.Prelude.{◌==◌, not}
 use Rattle.std.specs.List.{list_all, list_any}
 use Rattle.std.proofs.lemmas.Bool.{and_parts, or_cases, cases_eq, eqb-true, eq-eqb, false≢true}
@@ -7,12 +7,13 @@ use Rattle.std.proofs.lemmas.Slice.Eq.{bytes_eq-Decides}
 use Rattle.hd_dbd.specs.Hierarchy.{Database}
 use Rattle.hd_dbd.specs.Rows.{key_of}
 use Rattle.hd_dbd.specs.Forest.{Forest}
-use Rattle.hd_volume.specs.Headers.{HasHeader}
+use Rattle.hd_volume.specs.Headers.{header_of, HasHeader}
 use Rattle.hd_volume.specs.Volumes.{VolumeState, IsFormatted}
-use Rattle.hd_volume.specs.Entries.{Entry, entries}
-use Rattle.hd_volume.specs.Indexes.{root_key_length, keys_ascend, HasIndex}
-use Rattle.hd_levels.specs.IndexSets.{index_entries}
-use Rattle.hd_levels.proofs.Volumes.{entries-below}
+use Rattle.hd_volume.specs.Entries.{Entry}
+use Rattle.hd_volume.specs.Indexes.{root_key_length, keys_ascend}
+use Rattle.hd_levels.specs.IndexSets.{index_entries, HasIndexOf}
+use Rattle.hd_levels.proofs.Volumes.{entries-ascend}
+use Rattle.hd_levels.proofs.Faultless.{sets-faultless}
 use Rattle.hd_links.specs.Links.{Links, IsSegment, IsLinkGraph, segment_at}
 use Rattle.hd_links.specs.Placed.{Placed, nowhere, Holds}
 use Rattle.hd_links.proofs.Types.{Ordered, ordered}
@@ -22,7 +23,7 @@ use Rattle.hd_image.specs.Records.{links_of, IsVolumeOf}
 use Rattle.hd_image.specs.Holding.{root_entries}
 use Rattle.hd_image.specs.Laws.{IsDatabase}
 use Rattle.hd_image.specs.IndexFaults.{names_a_root}
-use Rattle.hd_image.specs.Right.{BlocksAreRight, IndexIsFormed, IndexIsInOrder}
+use Rattle.hd_image.specs.Right.{IsKnownVersion, BlocksAreRight, IndexIsFormed, IndexIsInOrder}
 use Rattle.hd_image.specs.Exact.{RightVolumesHoldAForest}
 use Rattle.hd_image.proofs.Found.{records-link}
 use Rattle.hd_image.proofs.Sorted.{IsIn, same-entries}
@@ -91,11 +92,25 @@ module _ (d : Database) (m : Links) where
       let key : found.0.key ≡ r.key = sym n.key ∙ ap (λ (a : ℕ). key_of d.types (segment_at m a)) found.2 ∙ root.2 in
       subst (λ (x : Entry). IsIn x es) (entry-is found.0.key found.0.address r key found.2) found.1)
 
+-- a known version that is not the first
+second : (version : ℕ) → IsKnownVersion version → version ≢ 1 → version ≡ 2
+second version (inl one) later = absurd (later one)
+second version (inr two) later = two
+
 -- an index that is formed and in order is one of its version
-index-is : (d : Database) (v : VolumeState) (k : ℕ) → IsFormatted v → BlocksAreRight d v → IndexIsFormed k v → IndexIsInOrder k v → HasIndex k v
-index-is d v k formatted blocks (inl f) (inl o) = record { formatted = formatted; version = f.0; height = f.1.height; chain = f.1.chain; reached = f.1.reached; ascend = o.1 }
+index-is : (d : Database) (v : VolumeState) (k : ℕ) → IsFormatted v → BlocksAreRight d v → IndexIsFormed k v → IndexIsInOrder k v → HasIndexOf k v
+index-is d v k formatted blocks (inl f) (inl o) = inl (record { formatted = formatted; version = f.0; height = f.1.height; chain = f.1.chain; reached = f.1.reached; ascend = o.1 })
 index-is d v k formatted blocks (inl f) (inr o) = absurd (o.0 f.0)
-index-is d v k formatted blocks (inr f) o = absurd (f.0 blocks.known.version_is)
+index-is d v k formatted blocks (inr f) (inl o) = absurd (f.0 o.0)
+index-is d v k formatted blocks (inr f) (inr o) = inr ((sets-faultless k v).1 (record {
+  formatted = formatted;
+  version = second (header_of v.image).version blocks.known.version_is f.0;
+  forms = f.1.forms;
+  once = f.1.once;
+  reached = f.1.reached;
+  next = o.1.next;
+  keys = o.1.keys;
+}))
 
 -- the forest is built from the pointers, and the entries are those of its roots
 pub right-holds : RightVolumesHoldAForest
@@ -106,10 +121,6 @@ right-holds d v fit r =
     let m : Links = links_of d.types v in
     let G : IsLinkGraph d.types (length v.image) m = records-link d v fit volume in
     let index = index-is d v (root_key_length d.types) formatted r.blocks r.index r.entries.order in
-    let one = (entries-below (root_key_length d.types) v).0 index.version in
-    let name : list_all (λ e. names_a_root d m e) (entries (root_key_length d.types) v) ≡ true = ap (list_all (λ e. names_a_root d m e)) (sym one) ∙ r.entries.name in
-    let each : (a : ℕ) → IsSegment m a → m.code a ≡ 1 → list_any (λ e. e.address == a) (entries (root_key_length d.types) v) ≡ true =
-    λ a there root. ap (list_any (λ (e : Entry). e.address == a)) (sym one) ∙ r.entries.each a there root in
     let E = exists d.types (ordered d.block_size d.frspc d.types fit) (length v.image) m G r.pointers in (
       E.0,
       record {
@@ -118,7 +129,7 @@ right-holds d v fit r =
         block_size = r.blocks.known.size_is;
         records = E.1;
         index = index;
-        entries = entries-of-roots d m (length v.image) E.0 (entries (root_key_length d.types) v) fit G E.1 index.ascend name each;
+        entries = entries-of-roots d m (length v.image) E.0 (index_entries (root_key_length d.types) v) fit G E.1 (entries-ascend (root_key_length d.types) v index) r.entries.name r.entries.each;
         kinds = r.blocks.kinds;
       },
     )

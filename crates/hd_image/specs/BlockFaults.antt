@@ -17,7 +17,7 @@ IsNoVolume d v address other = (HasHeader d.block_size v.image → ⊥) × (addr
 
 -- 2: its version is not known
 abbrev pub IsOfNoVersion : VolumeState → ℕ → ℕ → Type 0
-IsOfNoVersion v address other = ((header_of v.image).version ≢ 1) × (address ≡ 0) × (other ≡ (header_of v.image).version)
+IsOfNoVersion v address other = ((header_of v.image).version ≢ 1) × ((header_of v.image).version ≢ 2) × (address ≡ 0) × (other ≡ (header_of v.image).version)
 
 -- 3: it is of another database
 abbrev pub IsOfAnother : Database → VolumeState → ℕ → ℕ → Type 0

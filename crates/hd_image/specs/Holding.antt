@@ -8,8 +8,9 @@ use Rattle.hd_dbd.specs.Rows.{key_of}
 use Rattle.hd_dbd.specs.Forest.{Forest, empty, node}
 use Rattle.hd_volume.specs.Headers.{header_of}
 use Rattle.hd_volume.specs.Volumes.{VolumeState, HasKinds}
-use Rattle.hd_volume.specs.Entries.{Entry, entries}
-use Rattle.hd_volume.specs.Indexes.{root_key_length, HasIndex}
+use Rattle.hd_volume.specs.Entries.{Entry}
+use Rattle.hd_volume.specs.Indexes.{root_key_length}
+use Rattle.hd_levels.specs.IndexSets.{index_entries, HasIndexOf}
 use Rattle.hd_links.specs.Placed.{Placed, forest_of, Holds}
 use Rattle.hd_links.specs.Steps.{rows_of}
 use Rattle.hd_image.specs.Records.{links_of, IsVolumeOf}
@@ -20,15 +21,15 @@ root_entries types empty = []
 root_entries types (node p below behind) = record { key = key_of types p.segment; address = p.address } ∷ root_entries types behind
 
 -- The volume holds the placed forest: its header is of the database; the forest lies in the records, and
--- each record is one of its nodes, once; the header names its first and its last root; the index has the roots' keys and
--- addresses in order; and each other block is a data block with extents, an index block reached from the top, or free.
+-- each record is one of its nodes, once; the header names its first and its last root; the index, which is of the volume's version, has the
+-- roots' keys and addresses in order; and each other block is a data block with extents, an index block reached from the top, or free.
 pub record HoldsPlaced (d : Database) (v : VolumeState) (placed : Forest Placed) : Type 0 where
   pub volume : IsVolumeOf d v
   pub name : (header_of v.image).name ≡ d.name
   pub block_size : (header_of v.image).block_size ≡ d.block_size
   pub records : Holds d.types (links_of d.types v) placed
-  pub index : HasIndex (root_key_length d.types) v
-  pub entries : entries (root_key_length d.types) v ≡ root_entries d.types placed
+  pub index : HasIndexOf (root_key_length d.types) v
+  pub entries : index_entries (root_key_length d.types) v ≡ root_entries d.types placed
   pub kinds : HasKinds v
 
 -- The volume holds the forest, placed somehow.

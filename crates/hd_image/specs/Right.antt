@@ -3,7 +3,7 @@ use Rattle.std.specs.Prelude.{◌≡◌, ◌⊎◌, ℕ, ◌<◌, true, ◌==◌
 use Rattle.std.specs.List.{list_all, list_any}
 use Rattle.hd_dbd.specs.Hierarchy.{Database}
 use Rattle.hd_dbd.specs.Facts.{stored_sizes}
-use Rattle.hd_volume.specs.Headers.{IsOf, HasHeader, header_of}
+use Rattle.hd_volume.specs.Headers.{Header, HasHeader, header_of}
 use Rattle.hd_volume.specs.Volumes.{VolumeState, block_at, IsKind, HasExtents, HasKinds}
 use Rattle.hd_volume.specs.Entries.{entry_blocks, entries}
 use Rattle.hd_volume.specs.Indexes.{root_key_length, IsChain, IsAmong, keys_ascend}
@@ -20,10 +20,20 @@ pub record IsSizedFor (d : Database) (v : VolumeState) : Type 0 where
   pub size : v.size ≡ d.block_size
   pub sizes : v.sizes ≡ stored_sizes d.types
 
+-- a version that is known: 1, where the index is a chain, and 2, where it is an index set
+abbrev pub IsKnownVersion : ℕ → Type 0
+IsKnownVersion version = (version ≡ 1) ⊎ (version ≡ 2)
+
+-- The header is of a known version, and of the database's name and block size.
+pub record IsKnown (d : Database) (header : Header) : Type 0 where
+  pub version_is : IsKnownVersion header.version
+  pub name_is : header.name ≡ d.name
+  pub size_is : header.block_size ≡ d.block_size
+
 -- The header is one of the database, and of a version that is known; each data block has extents, and each block a kind.
 pub record BlocksAreRight (d : Database) (v : VolumeState) : Type 0 where
   pub header : HasHeader d.block_size v.image
-  pub known : IsOf 1 d.name d.block_size (header_of v.image)
+  pub known : IsKnown d (header_of v.image)
   pub divided : (n : ℕ) → IsKind v 1 n → HasExtents (slice_index v.sizes) (block_at v n)
   pub kinds : HasKinds v
 

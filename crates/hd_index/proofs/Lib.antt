@@ -1,11 +1,5 @@
-pub mod MapLemmas
 pub mod CallLemmas
-pub mod ChainLemmas
-pub mod EditLemmas
-pub mod EntryEdits
-pub mod SpliceLemmas
-pub mod StepLemmas
-pub mod ChangeLemmas
-pub mod InsertLemmas
-pub mod NewLemmas
+pub mod MapLemmas
 pub mod NeedLemmas
+pub mod ChangeLemmas
+pub mod NewLemmas

@@ -1,29 +1,17 @@
--- What a change of the index does to the rest of a volume.
-use Rattle.std.specs.Prelude.{◌≡◌, ℕ, ◌+◌, ◌≤◌, List}
+-- The index of a database's volume, as its version forms it.
+use Rattle.std.specs.Prelude.{◌≡◌, List}
 use Rattle.hd_dbd.specs.Hierarchy.{Database}
-use Rattle.hd_volume.specs.Headers.{header_of}
-use Rattle.hd_volume.specs.Volumes.{VolumeState, block_at, IsKind, HasKinds}
-use Rattle.hd_volume.specs.Calls.{KeepsSegments, KeepsHoles}
-use Rattle.hd_volume.specs.Entries.{Entry, entries}
-use Rattle.hd_volume.specs.Indexes.{root_key_length, HasIndex}
+use Rattle.hd_volume.specs.Volumes.{VolumeState}
+use Rattle.hd_volume.specs.Entries.{Entry}
+use Rattle.hd_volume.specs.Indexes.{root_key_length}
+use Rattle.hd_levels.specs.IndexSets.{index_entries, HasIndexOf}
+pub use Rattle.hd_index_edits.specs.Changes.{IsIndexChange}
 
 -- The volume is of the database's block size, and has an index for its root keys.
 pub record IsIndexOf (d : Database) (v : VolumeState) : Type 0 where
   pub size : v.size ≡ d.block_size
-  pub index : HasIndex (root_key_length d.types) v
+  pub index : HasIndexOf (root_key_length d.types) v
 
 -- the entries of the index of a database's volume, from left to right
 abbrev pub entries_for : Database → VolumeState → List Entry
-entries_for d v = entries (root_key_length d.types) v
-
--- The index has changed: all segments and data blocks stay, no other block has become one for data, the volume has grown by at
--- most so many blocks, and of the header all but the count, the top and the height stay.
-pub record IsIndexChange (old : VolumeState) (more : ℕ) (new : VolumeState) : Type 0 where
-  pub segments : KeepsSegments old new
-  pub data_blocks : (n : ℕ) → IsKind old 1 n → block_at new n ≡ block_at old n
-  pub others : (n : ℕ) → IsKind new 1 n → IsKind old 1 n
-  pub kinds : HasKinds old → HasKinds new
-  pub count : (header_of old.image).count ≤ (header_of new.image).count
-  pub grows : (header_of new.image).count ≤ (header_of old.image).count + more
-  pub header : header_of new.image ≡ record (header_of old.image) { count = (header_of new.image).count; top = (header_of new.image).top; height = (header_of new.image).height }
-  pub holes : KeepsHoles old new
+entries_for d v = index_entries (root_key_length d.types) v

@@ -1,32 +1,47 @@
-ghost use Rattle.std.specs.Prelude.{◌≡◌, ◌+◌, ◌≤◌, ◌<◌, length, None, IsTrue, IfOk, IfErr, OnOk};
+ghost use Rattle.std.specs.Prelude.{◌≡◌, ◌≢◌, ◌⊎◌, ◌+◌, ◌≤◌, ◌<◌, true, false, length, None, IsTrue, IfOk, IfErr, OnOk};
+ghost use Rattle.hd_bytes.specs.Blocks.{HasBlock};
+ghost use Rattle.hd_dbd.specs.Hierarchy.{Database};
 ghost use Rattle.hd_dbd.specs.Refusals.{OnlyDevice, OnlyRoomOrDevice};
+ghost use Rattle.hd_volume.specs.Headers.{header_of};
 ghost use Rattle.hd_volume.specs.Rooms.{spare, free_blocks};
 ghost use Rattle.hd_volume.specs.Calls.{IsCall, IsRead};
-ghost use Rattle.hd_volume.specs.Indexes.{root_key_length, index_growth, HasIndex};
-ghost use Rattle.hd_volume.specs.Entries.{entries};
-ghost use Rattle.hd_index.specs.Edits.{IsChanged};
+ghost use Rattle.hd_volume.specs.Indexes.{root_key_length};
+ghost use Rattle.hd_levels.specs.Needs.{entry_growth, IsHighest};
 ghost use Rattle.hd_index.specs.Maps.{address_of, with_entry, without_key};
 ghost use Rattle.hd_index.specs.Places.{blocks_needed};
 ghost use Rattle.hd_index.specs.Changes.{IsIndexOf, entries_for, IsIndexChange};
 
-use crate::edit::remove_entry;
-use crate::enter::insert_key;
-use crate::place::locate;
 use hd_dbd::{Dbd, Refused};
-use hd_entries::{entry_room, root_key_length};
 use hd_volume::{BlockStore, Volume};
 
-/// The blocks that an insert may need.
-#[tactic(auto, unfolding(hd_volume::specs::Indexes::index_growth))]
-pub fn growth<S: BlockStore>(volume: &Volume<S>) -> u32
-    ensures { IsTrue volume.now.is_sound → result ≡ index_growth volume.now }
+/// Whether the index of a volume is one chain of blocks.
+pub fn is_chain<S: BlockStore>(volume: &Volume<S>) -> bool
+    ensures chain { IsTrue volume.now.is_sound → HasBlock volume.now.size volume.now.image 0 → result ≡ true → (header_of volume.now.image).version ≡ 1 }
+    ensures set { IsTrue volume.now.is_sound → HasBlock volume.now.size volume.now.image 0 → result ≡ false → (header_of volume.now.image).version ≢ 1 }
 {
-    let _ = volume;
-    1
+    volume.version() == 1
 }
 
-/// The blocks that an insert of a new key takes, at most `growth`: none where the entry finds room in the block of the index
-/// where it belongs.
+/// Whether the index of a volume has as many levels as it may have: then an insert may be refused as `Full`, whatever is to spare.
+pub fn is_highest<S: BlockStore>(volume: &Volume<S>) -> bool
+    ensures high { IsTrue volume.now.is_sound → HasBlock volume.now.size volume.now.image 0 → result ≡ true → IsHighest volume.now }
+    ensures low { IsTrue volume.now.is_sound → HasBlock volume.now.size volume.now.image 0 → result ≡ false → IsHighest volume.now → ⊥ }
+{
+    !is_chain(volume) && volume.height() == 64
+}
+
+/// The blocks that an insert may need: one in a chain, and in an index set one for each level and a new top.
+pub fn growth<S: BlockStore>(volume: &Volume<S>) -> u32
+    ensures { (d : Database) → IsTrue volume.now.is_sound → IsIndexOf d volume.now → result ≡ entry_growth volume.now }
+{
+    if is_chain(volume) {
+        hd_index_chain::growth(volume)
+    } else {
+        hd_index_set::growth(volume)
+    }
+}
+
+/// The blocks that an insert of a new key takes, at most `growth`: one for each block that is divided, and one for a new top.
 pub fn blocks_needed<S: BlockStore>(
     volume: &mut Volume<S>,
     dbd: &Dbd,
@@ -37,20 +52,17 @@ pub fn blocks_needed<S: BlockStore>(
     ensures value { IfOk result (λ n. IsTrue volume.old.is_sound → n ≡ blocks_needed (root_key_length dbd.now.types) volume.old key.now) }
     ensures refusal { OnlyDevice result }
 {
-    let key_length = root_key_length(dbd);
-    let room = entry_room(key_length, volume.block_size());
-    let spot = locate(volume, key_length, key)?;
-    if spot.block == 0 {
-        return Ok(1);
+    if is_chain(volume) {
+        hd_index_chain::blocks_needed(volume, dbd, key)
+    } else {
+        hd_index_set::blocks_needed(volume, dbd, key)
     }
-    Ok(if spot.count < room { 0 } else { 1 })
 }
 
 /// Enters the root of a new key.
 ///
-/// `Full` says that there are fewer blocks to spare than it needs; `Memory` comes only where the volume
-/// would have to grow and room for fewer is reserved.
-#[tactic(auto, unfolding(hd_volume::specs::Indexes::index_growth))]
+/// `Full` says that there are fewer blocks to spare than it needs, or that the index has as many levels as it may have; `Memory` comes only
+/// where the volume would have to grow and room for fewer is reserved.
 pub fn insert<S: BlockStore>(
     volume: &mut Volume<S>,
     dbd: &Dbd,
@@ -67,14 +79,17 @@ pub fn insert<S: BlockStore>(
     ensures changed { OnOk result (IsTrue volume.old.is_sound → IsIndexChange volume.old (blocks_needed (root_key_length dbd.now.types) volume.old key.now) volume.new) }
     ensures spares { OnOk result (IsTrue volume.old.is_sound → spare volume.old ≤ spare volume.new + blocks_needed (root_key_length dbd.now.types) volume.old key.now) }
     ensures kept { IfErr result (λ _. IsTrue volume.new.is_sound → volume.new.image ≡ volume.old.image) }
-    ensures full { IfErr result (λ e. e ≡ Refused.Full → IsTrue volume.old.is_sound → spare volume.old < blocks_needed (root_key_length dbd.now.types) volume.old key.now) }
-    ensures memory { IfErr result (λ e. e ≡ Refused.Memory → volume.old.room < index_growth volume.old) }
-    ensures few { IfErr result (λ e. e ≡ Refused.Memory → IsTrue volume.old.is_sound → free_blocks volume.old < index_growth volume.old) }
+    ensures full { IfErr result (λ e. e ≡ Refused.Full → IsTrue volume.old.is_sound → (spare volume.old < blocks_needed (root_key_length dbd.now.types) volume.old key.now) ⊎ IsHighest volume.old) }
+    ensures memory { IfErr result (λ e. e ≡ Refused.Memory → IsTrue volume.old.is_sound → volume.old.room < entry_growth volume.old) }
+    ensures few { IfErr result (λ e. e ≡ Refused.Memory → IsTrue volume.old.is_sound → free_blocks volume.old < entry_growth volume.old) }
     ensures refusal { OnlyRoomOrDevice result }
-    ensures room { IsTrue volume.new.is_sound → volume.old.room ≤ volume.new.room + index_growth volume.old }
+    ensures room { IsTrue volume.old.is_sound → IsTrue volume.new.is_sound → volume.old.room ≤ volume.new.room + entry_growth volume.old }
 {
-    let key_length = root_key_length(dbd);
-    insert_key(volume, key_length, key, address)
+    if is_chain(volume) {
+        hd_index_chain::insert(volume, dbd, key, address)
+    } else {
+        hd_index_set::insert(volume, dbd, key, address)
+    }
 }
 
 /// Takes the root of a key out of the index; a key that it does not have leaves it as it is.
@@ -88,29 +103,9 @@ pub fn remove<S: BlockStore>(volume: &mut Volume<S>, dbd: &Dbd, key: &[u8]) -> R
     ensures refusal { OnlyDevice result }
     ensures room { volume.new.room ≡ volume.old.room }
 {
-    let key_length = root_key_length(dbd);
-    remove_key(volume, key_length, key)
-}
-
-/// Takes the root of a key of a length out of the index.
-fn remove_key<S: BlockStore>(
-    volume: &mut Volume<S>,
-    key_length: usize,
-    key: &[u8],
-) -> Result<(), Refused>
-    requires index { IsTrue volume.old.is_sound → HasIndex key_length volume.old }
-    requires short { key_length ≤ 255 }
-    ensures call { IsCall volume.old result volume.new }
-    ensures changed { OnOk result (IsTrue volume.old.is_sound → IsChanged key_length volume.old (without_key key.now (entries key_length volume.old)) 0 volume.new) }
-    ensures refusal { OnlyDevice result }
-    ensures room { volume.new.room ≡ volume.old.room }
-{
-    let spot = locate(volume, key_length, key)?;
-    let Some(found) = spot.found else {
-        return Ok(());
-    };
-    if !found.is_key {
-        return Ok(());
+    if is_chain(volume) {
+        hd_index_chain::remove(volume, dbd, key)
+    } else {
+        hd_index_set::remove(volume, dbd, key)
     }
-    remove_entry(volume, key_length, spot.block, spot.index, spot.count)
 }

@@ -1,16 +1,16 @@
-//! The root index of a volume: an ordered map from the roots' keys to their addresses.
+//! The root index of a volume: an ordered map from the roots' keys to their addresses. In version 1 it is one chain of blocks, and
+//! from version 2 on an index set stands above the sequence set.
 #![tactic(auto)]
 
-mod bytes;
 mod change;
-mod divide;
-mod edit;
-mod enter;
-mod place;
+#[cfg(test)]
+mod counts_tests;
 mod search;
 
-pub use change::{blocks_needed, growth, insert, remove};
+pub use change::{blocks_needed, growth, insert, is_highest, remove};
 pub use search::{find, next_from};
 
+#[cfg(test)]
+mod test_volumes;
 #[cfg(test)]
 mod tests;

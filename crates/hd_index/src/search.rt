@@ -1,13 +1,11 @@
-ghost use Rattle.std.specs.Prelude.{◌≡◌, IsTrue, IfOk, option_map};
+ghost use Rattle.std.specs.Prelude.{◌≡◌, IsTrue, IfOk};
 ghost use Rattle.hd_dbd.specs.Refusals.{OnlyDevice};
 ghost use Rattle.hd_volume.specs.Calls.{IsRead};
 ghost use Rattle.hd_index.specs.Maps.{address_of, address_from};
-ghost use Rattle.hd_index.specs.Places.{address_found};
 ghost use Rattle.hd_index.specs.Changes.{IsIndexOf, entries_for};
 
-use crate::place::{Found, locate};
+use crate::change::is_chain;
 use hd_dbd::{Dbd, Refused};
-use hd_entries::root_key_length;
 use hd_volume::{BlockStore, Volume};
 
 /// The address of the root of a key, if there is one.
@@ -22,9 +20,10 @@ pub fn find<S: BlockStore>(
     ensures value { IfOk result (λ r. IsTrue volume.old.is_sound → IsIndexOf dbd.now volume.old → r ≡ address_of key.now (entries_for dbd.now volume.old)) }
     ensures refusal { OnlyDevice result }
 {
-    match look_up(volume, dbd, key)? {
-        Some(found) if found.is_key => Ok(Some(found.address)),
-        _ => Ok(None),
+    if is_chain(volume) {
+        hd_index_chain::find(volume, dbd, key)
+    } else {
+        hd_index_set::find(volume, dbd, key)
     }
 }
 
@@ -40,22 +39,9 @@ pub fn next_from<S: BlockStore>(
     ensures value { IfOk result (λ r. IsTrue volume.old.is_sound → IsIndexOf dbd.now volume.old → r ≡ address_from key.now (entries_for dbd.now volume.old)) }
     ensures refusal { OnlyDevice result }
 {
-    let found = look_up(volume, dbd, key)?;
-    Ok(found.map(|found| found.address))
-}
-
-/// The entry at the place of a key, if there is one.
-fn look_up<S: BlockStore>(
-    volume: &mut Volume<S>,
-    dbd: &Dbd,
-    key: &[u8],
-) -> Result<Option<Found>, Refused>
-    ensures read { IsRead volume.old result volume.new }
-    ensures found { IfOk result (λ found. IsTrue volume.old.is_sound → IsIndexOf dbd.now volume.old → address_found found ≡ address_of key.now (entries_for dbd.now volume.old)) }
-    ensures from { IfOk result (λ found. IsTrue volume.old.is_sound → IsIndexOf dbd.now volume.old → option_map (λ f. f.address) found ≡ address_from key.now (entries_for dbd.now volume.old)) }
-    ensures refusal { OnlyDevice result }
-{
-    let key_length = root_key_length(dbd);
-    let spot = locate(volume, key_length, key)?;
-    Ok(spot.found)
+    if is_chain(volume) {
+        hd_index_chain::next_from(volume, dbd, key)
+    } else {
+        hd_index_set::next_from(volume, dbd, key)
+    }
 }

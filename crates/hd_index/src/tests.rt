@@ -3,110 +3,12 @@ ghost use Rattle.hd_volume.specs.Indexes.{root_key_length};
 ghost use Rattle.hd_index.specs.Changes.{IsIndexOf};
 
 use super::*;
-use hd_dbd::{Dbd, DbdFault, FreeSpace, Key, Name8, Refused, Rule, SegType};
+use crate::test_volumes::{database, enter, key_of, leave, new_volume, old_volume};
+use hd_dbd::{Dbd, Refused};
 use hd_volume::{BlockStore, FuseStore, MemStore, Volume};
-use std::alloc::{AllocError, Global};
+use std::alloc::Global;
 use std::collections::BTreeMap;
 use std::test::Fail;
-
-/// A root type whose segments are their key.
-fn root_type(alloc: Global, key_length: u32) -> Result<Vec<SegType>, AllocError>
-    ensures { IfOk result (λ types. root_key_length types.items ≡ key_length) }
-{
-    let root = SegType {
-        name: Name8::from_padded(*b"ROOT    ").unwrap(),
-        parent: None,
-        length: key_length,
-        key: Some(Key {
-            start: 1,
-            length: key_length,
-            unique: true,
-        }),
-        rule: Rule::Last,
-        backward: true,
-        last_pointer: false,
-        fields: Vec::new(alloc),
-    };
-    Ok(vec![in alloc; root]?)
-}
-
-/// A database of a root type whose segments are their key.
-fn database(alloc: Global, size: u32, key_length: u32) -> Result<Dbd, DbdFault>
-    ensures size { IfOk result (λ dbd. dbd.block_size ≡ size) }
-    ensures key { IfOk result (λ dbd. root_key_length dbd.types ≡ key_length) }
-{
-    let name = Name8::from_padded(*b"INDEXED ").unwrap();
-    let frspc = FreeSpace { fbff: 0, fspf: 0 };
-    let types = root_type(alloc, key_length)?;
-    Dbd::new(alloc, name, size, frspc, types)
-}
-
-/// A new volume.
-fn new_volume<S: BlockStore + Drop>(
-    alloc: Global,
-    store: S,
-    dbd: &Dbd,
-    largest: u32,
-) -> Option<Volume<S>>
-    requires size { S.size store ≡ dbd.now.block_size }
-    requires empty { IsTrue (S.is_sound store) → S.contents store ≡ [] }
-    requires bounds { (0 < largest) × (largest ≤ 65536) }
-    ensures size { IfSome result (λ v. v.size ≡ dbd.now.block_size) }
-    ensures index { IfSome result (λ v. IsTrue v.is_sound → IsIndexOf dbd.now v) }
-{
-    match Volume::create(alloc, store, dbd, largest) {
-        Ok(volume) => Some(volume),
-        Err(_) => None,
-    }
-}
-
-/// Enters a key, unless it is there, once there is room.
-fn enter<S: BlockStore>(
-    volume: &mut Volume<S>,
-    dbd: &Dbd,
-    key: &[u8],
-    address: u32,
-) -> Result<bool, Refused>
-    requires index { IsTrue volume.old.is_sound → IsIndexOf dbd.now volume.old }
-    requires size { volume.old.size ≡ dbd.now.block_size }
-    requires whole { length key.now ≡ root_key_length dbd.now.types }
-    ensures index { OnOk result (IsTrue volume.new.is_sound → IsIndexOf dbd.now volume.new) }
-    ensures size { volume.new.size ≡ volume.old.size }
-{
-    volume.reserve(1)?;
-    if find(volume, dbd, key)?.is_some() {
-        return Ok(false);
-    }
-    insert(volume, dbd, key, address)?;
-    Ok(true)
-}
-
-/// The key of a number.
-fn key_of(n: u32) -> [u8; 3] {
-    [
-        (n / 65536 % 256) as u8,
-        (n / 256 % 256) as u8,
-        (n % 256) as u8,
-    ]
-}
-
-/// Takes out the key of a number, if it is to go.
-fn leave<S: BlockStore>(
-    volume: &mut Volume<S>,
-    dbd: &Dbd,
-    n: u32,
-    goes: bool,
-) -> Result<(), Refused>
-    requires index { IsTrue volume.old.is_sound → IsIndexOf dbd.now volume.old }
-    ensures index { OnOk result (IsTrue volume.new.is_sound → IsIndexOf dbd.now volume.new) }
-    ensures size { volume.new.size ≡ volume.old.size }
-{
-    if !goes {
-        return Ok(());
-    }
-    remove(volume, dbd, &key_of(n))?;
-    Ok(())
-}
 
 /// The address of the least key.
 fn least<S: BlockStore>(volume: &mut Volume<S>, dbd: &Dbd) -> Result<Option<u32>, Refused>
@@ -123,12 +25,14 @@ fn agrees<S: BlockStore>(
     alloc: Global,
     volume: &mut Volume<S>,
     dbd: &Dbd,
+    key_length: usize,
     count: u32,
     step: u32,
 ) -> Option<bool>
     requires size { volume.old.size ≡ dbd.now.block_size }
     requires index { IsTrue volume.old.is_sound → IsIndexOf dbd.now volume.old }
-    requires three { root_key_length dbd.now.types ≡ 3 }
+    requires long { root_key_length dbd.now.types ≡ key_length }
+    requires bounds { (0 < key_length) × (key_length ≤ 255) }
     requires some { 0 < count }
     requires small { count < 65536 }
     requires steps { step < 65536 }
@@ -136,20 +40,27 @@ fn agrees<S: BlockStore>(
     let mut map = BTreeMap::new(alloc);
     for i in 0..count {
         let n = i * step % count;
-        enter(volume, dbd, &key_of(n), n + 1).ok()?;
+        enter(volume, dbd, &key_of(n, key_length)[..key_length], n + 1).ok()?;
         map.insert(n, n + 1).ok()?;
         let gone = i / 2 * step % count;
         if i % 3 == 2 {
             map.remove(&gone);
         }
-        leave(volume, dbd, gone, i % 3 == 2).ok()?;
+        leave(
+            volume,
+            dbd,
+            &key_of(gone, key_length)[..key_length],
+            i % 3 == 2,
+        )
+        .ok()?;
     }
     for n in 0..count {
         let next = map.range(n..).next().map(|(_, address)| *address);
-        if find(volume, dbd, &key_of(n)).ok()? != map.get(&n).copied() {
+        let key = key_of(n, key_length);
+        if find(volume, dbd, &key[..key_length]).ok()? != map.get(&n).copied() {
             return Some(false);
         }
-        if next_from(volume, dbd, &key_of(n)).ok()? != next {
+        if next_from(volume, dbd, &key[..key_length]).ok()? != next {
             return Some(false);
         }
     }
@@ -163,7 +74,7 @@ fn agrees_with_a_map(rt: HostRuntime) -> Result<(), Fail> {
         let store = MemStore::new(2048, Vec::new(rt.alloc()));
         let mut volume = new_volume(rt.alloc(), store, &dbd, 65536).expect(&rt, "a volume");
         assert_eq!(rt;
-            agrees(rt.alloc(), &mut volume, &dbd, 10_000, step),
+            agrees(rt.alloc(), &mut volume, &dbd, 3, 10_000, step),
             Some(true),
             "by {step}"
         );
@@ -176,12 +87,66 @@ fn walks_hundreds_of_blocks(rt: HostRuntime) -> Result<(), Fail> {
     let dbd = database(rt.alloc(), 128, 3).expect(&rt, "a database");
     let store = MemStore::new(128, Vec::new(rt.alloc()));
     let mut volume = new_volume(rt.alloc(), store, &dbd, 65536).expect(&rt, "a volume");
-    assert_eq!(rt; agrees(rt.alloc(), &mut volume, &dbd, 4_000, 1), Some(true));
+    assert_eq!(rt;
+        agrees(rt.alloc(), &mut volume, &dbd, 3, 4_000, 1),
+        Some(true)
+    );
     assert!(rt;
         volume.block_count() > 200,
         "{} blocks",
         volume.block_count()
     );
+    Ok(())
+}
+
+/// The least block size of a database whose keys are so long: three entries fit behind the first 12 bytes, and it is a multiple of 8 from
+/// 128 on.
+fn least_size(key_length: u32) -> u32
+    requires { key_length ≤ 255 }
+    ensures { (128 ≤ result) × (result ≤ 792) }
+{
+    (12 + 3 * (key_length + 4)).next_multiple_of(8).max(128)
+}
+
+/// Keys of a length that need three levels in blocks of a size: more than fill a top block of full blocks. Of one byte there are but 256.
+fn three_levels_of(key_length: u32, size: u32) -> u32
+    requires { (128 ≤ size) × (size ≤ 792) }
+    ensures { (0 < result) × (result < 65536) }
+{
+    if key_length == 1 {
+        return 256;
+    }
+    let room = (size - 12) / (key_length.min(255) + 4);
+    room * room + room + 40
+}
+
+#[test]
+fn keeps_keys_of_each_length(rt: HostRuntime) -> Result<(), Fail> {
+    for key_length in 1..=255u32 {
+        let size = least_size(key_length);
+        assert!(rt;
+            database(rt.alloc(), size - 8, key_length).is_err(),
+            "{key_length}"
+        );
+        let dbd = database(rt.alloc(), size, key_length).expect(&rt, "a database");
+        let count = three_levels_of(key_length, size);
+        for step in [1, 7919] {
+            let length = key_length as usize;
+            let store = MemStore::new(size as usize, Vec::new(rt.alloc()));
+            let mut volume = new_volume(rt.alloc(), store, &dbd, 65536).expect(&rt, "a volume");
+            let agreed = agrees(rt.alloc(), &mut volume, &dbd, length, count, step);
+            assert_eq!(rt; agreed, Some(true), "{key_length} by {step}");
+            assert!(rt;
+                volume.height() > 2 || key_length == 1,
+                "{key_length} by {step}"
+            );
+            let mut old = old_volume(rt.alloc(), &dbd, size as usize).expect(&rt, "a volume");
+            let agreed = agrees(rt.alloc(), &mut old, &dbd, length, count, step);
+            assert_eq!(rt; agreed, Some(true), "{key_length} by {step}");
+            assert!(rt; old.block_count() > 4, "{key_length} by {step}");
+            assert_eq!(rt; old.version(), 1);
+        }
+    }
     Ok(())
 }
 
@@ -195,7 +160,7 @@ fn ascending<S: BlockStore>(volume: &mut Volume<S>, dbd: &Dbd, count: u32) -> Op
     ensures index { OnSome result (IsTrue volume.new.is_sound → IsIndexOf dbd.now volume.new) }
 {
     for n in 0..count {
-        enter(volume, dbd, &key_of(n), n + 1).ok()?;
+        enter(volume, dbd, &key_of(n, 3)[..3], n + 1).ok()?;
     }
     Some(volume.block_count())
 }
@@ -203,7 +168,7 @@ fn ascending<S: BlockStore>(volume: &mut Volume<S>, dbd: &Dbd, count: u32) -> Op
 #[test]
 fn fills_its_blocks_with_ascending_keys(rt: HostRuntime) -> Result<(), Fail> {
     let dbd = database(rt.alloc(), 128, 3).expect(&rt, "a database");
-    for (count, want) in [(0, 1), (1, 2), (16, 2), (17, 3), (33, 4)] {
+    for (count, want) in [(0, 1), (1, 2), (16, 2), (17, 4), (33, 5)] {
         let store = MemStore::new(128, Vec::new(rt.alloc()));
         let mut volume = new_volume(rt.alloc(), store, &dbd, 65536).expect(&rt, "a volume");
         assert_eq!(rt;
@@ -223,10 +188,10 @@ fn emptied<S: BlockStore>(volume: &mut Volume<S>, dbd: &Dbd) -> Option<[Option<u
 {
     ascending(volume, dbd, 17)?;
     for n in 0..16 {
-        leave(volume, dbd, n, true).ok()?;
+        leave(volume, dbd, &key_of(n, 3)[..3], true).ok()?;
     }
     let first = least(volume, dbd).ok()?;
-    leave(volume, dbd, 16, true).ok()?;
+    leave(volume, dbd, &key_of(16, 3)[..3], true).ok()?;
     let second = least(volume, dbd).ok()?;
     ascending(volume, dbd, 1)?;
     let third = least(volume, dbd).ok()?;
@@ -234,12 +199,12 @@ fn emptied<S: BlockStore>(volume: &mut Volume<S>, dbd: &Dbd) -> Option<[Option<u
 }
 
 #[test]
-fn keeps_an_emptied_block(rt: HostRuntime) -> Result<(), Fail> {
+fn frees_an_emptied_block(rt: HostRuntime) -> Result<(), Fail> {
     let dbd = database(rt.alloc(), 128, 3).expect(&rt, "a database");
     let store = MemStore::new(128, Vec::new(rt.alloc()));
     let mut volume = new_volume(rt.alloc(), store, &dbd, 65536).expect(&rt, "a volume");
     assert_eq!(rt; emptied(&mut volume, &dbd), Some([Some(17), None, Some(1)]));
-    assert_eq!(rt; volume.block_count(), 3);
+    assert_eq!(rt; volume.block_count(), 4);
     Ok(())
 }
 
@@ -273,14 +238,14 @@ fn keeps_three_long_keys_in_a_block(rt: HostRuntime) -> Result<(), Fail> {
     Ok(())
 }
 
-/// What a volume of a top index block with these bytes at its front finds, first the key 0, then the least key.
-fn damaged(alloc: Global, dbd: &Dbd, front: &[u8; 12]) -> Option<[Option<u32>; 2]>
+/// What a volume of a version and of a top index block with these bytes at its front finds, first the key 0, then the least key.
+fn damaged(alloc: Global, dbd: &Dbd, version: u8, front: &[u8; 12]) -> Option<[Option<u32>; 2]>
     requires { dbd.now.block_size ≡ 128 }
 {
     let mut bytes = Vec::new(alloc);
     bytes.resize(256, 0).ok()?;
     bytes[..8].copy_from_slice(b"HDVOLUME");
-    bytes[9] = 1;
+    bytes[9] = version;
     bytes[11] = 128;
     bytes[15] = 2;
     bytes[19] = 16;
@@ -291,8 +256,8 @@ fn damaged(alloc: Global, dbd: &Dbd, front: &[u8; 12]) -> Option<[Option<u32>; 2
         Ok(volume) => volume,
         Err(_) => return None,
     };
-    let found = find(&mut volume, dbd, &key_of(1)).ok()?;
-    let next = next_from(&mut volume, dbd, &key_of(0)).ok()?;
+    let found = find(&mut volume, dbd, &key_of(1, 3)[..3]).ok()?;
+    let next = next_from(&mut volume, dbd, &key_of(0, 3)[..3]).ok()?;
     Some([found, next])
 }
 
@@ -306,10 +271,11 @@ fn answers_over_a_damaged_index(rt: HostRuntime) -> Result<(), Fail> {
         (b"\0\0\x07\0\0\0\0\0\0\0\0\0", None),
     ] {
         assert_eq!(rt;
-            damaged(rt.alloc(), &dbd, front),
+            damaged(rt.alloc(), &dbd, 1, front),
             Some([None, want]),
             "{front:?}"
         );
+        assert!(rt; damaged(rt.alloc(), &dbd, 2, front).is_some(), "{front:?}");
     }
     Ok(())
 }
@@ -324,9 +290,9 @@ fn refused_access(alloc: Global, dbd: &Dbd, passes: u64) -> Result<(), Refused>
         return Err(Refused::Device);
     };
     for n in 0..40 {
-        enter(&mut volume, dbd, &key_of(40 - n), n)?;
+        enter(&mut volume, dbd, &key_of(40 - n, 3)[..3], n)?;
     }
-    leave(&mut volume, dbd, 7, true)?;
+    leave(&mut volume, dbd, &key_of(7, 3)[..3], true)?;
     volume.flush()
 }
 

@@ -1,19 +1,28 @@
 -- Blocks that a search reads, and where it comes to.
-use Rattle.std.specs.Prelude.{◌≡◌, true, ℕ, ◌≤◌, ◌==◌, cond, List}
+use Rattle.std.specs.Prelude.{◌≡◌, true, ℕ, ◌≤◌, ◌<◌, ◌==◌, cond, List}
 use Rattle.hd_bytes.specs.Numbers.{number_at}
 use Rattle.hd_volume.specs.Headers.{header_of}
 use Rattle.hd_volume.specs.Volumes.{VolumeState, block_at, IsKind}
-use Rattle.hd_volume.specs.Entries.{entries_in}
+use Rattle.hd_volume.specs.Entries.{Entry, entries_in}
 use Rattle.hd_volume.specs.Indexes.{entry_room, keys_ascend}
 use Rattle.hd_levels.specs.Ways.{leaf_of}
 use Rattle.hd_levels.specs.IndexSets.{index_blocks, top_level}
 use Rattle.hd_levels.specs.Needs.{full_blocks}
+use Rattle.hd_levels.specs.VolumeLaws.{IsRightBlock}
 
 -- Block n is an index block with no more entries than find room, and their keys ascend.
 pub record IsInOrder (key_length : ℕ) (v : VolumeState) (n : ℕ) : Type 0 where
   pub is : IsKind v 2 n
   pub count : number_at 2 (block_at v n) 4 ≤ entry_room key_length v.size
   pub ascend : keys_ascend (entries_in key_length (block_at v n)) ≡ true
+
+-- the fact holds of the entries of index block n, where they are in order and there is one at least
+abbrev pub OfSomeInOrder : ℕ → VolumeState → ℕ → (List Entry → Type 0) → Type 0
+OfSomeInOrder key_length v n fact = IsInOrder key_length v n → 0 < number_at 2 (block_at v n) 4 → fact (entries_in key_length (block_at v n))
+
+-- Block m of a level is the one to which a key leads from block n, so many levels above it.
+abbrev pub IsLeadDown : ℕ → VolumeState → List ℕ → ℕ → ℕ → ℕ → ℕ → Type 0
+IsLeadDown key_length v key levels l n m = (m ≡ leaf_of (index_blocks key_length v) key levels n) × IsRightBlock key_length v l m
 
 -- the block of the sequence set that a key leads to from the top, 0 where there is none
 abbrev pub leaf_at : ℕ → VolumeState → List ℕ → ℕ

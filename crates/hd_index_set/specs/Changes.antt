@@ -1,11 +1,13 @@
 -- The index of a database's volume, and what a change of it leaves.
-use Rattle.std.specs.Prelude.{◌≡◌, ℕ, ◌+◌, ◌≤◌, List}
+use Rattle.std.specs.Prelude.{◌≡◌, ℕ, ◌+◌, ◌≤◌, List, IsTrue, Result, IfOk}
 use Rattle.hd_dbd.specs.Hierarchy.{Database}
+use Rattle.hd_dbd.specs.declared.answer.Refused.{Refused}
 use Rattle.hd_volume.specs.Rooms.{spare}
 use Rattle.hd_volume.specs.Volumes.{VolumeState}
 use Rattle.hd_volume.specs.Entries.{Entry}
 use Rattle.hd_volume.specs.Indexes.{root_key_length}
 use Rattle.hd_levels.specs.IndexSets.{index_entries, HasIndexSet}
+use Rattle.hd_levels.specs.Maps.{with_entry, without_key}
 pub use Rattle.hd_index_edits.specs.Changes.{IsIndexChange}
 
 -- The volume is of the database's block size, and has an index set for its root keys.
@@ -24,3 +26,15 @@ pub record IsChanged (key_length : ℕ) (old : VolumeState) (es : List Entry) (m
   pub entries : index_entries key_length new ≡ es
   pub change : IsIndexChange old more new
   pub spares : spare old ≤ spare new + more
+
+-- A new key was entered with its address, for which at most so many blocks were taken.
+abbrev pub IsKeyEntered : ℕ → VolumeState → List ℕ → ℕ → ℕ → VolumeState → Type 0
+IsKeyEntered key_length old key address more new = IsChanged key_length old (with_entry (record { key = key; address = address }) (index_entries key_length old)) more new
+
+-- A key was taken out, and no block was taken.
+abbrev pub IsKeyRemoved : ℕ → VolumeState → List ℕ → VolumeState → Type 0
+IsKeyRemoved key_length old key new = IsChanged key_length old (without_key key (index_entries key_length old)) 0 new
+
+-- the fact holds of what a call answers that is not refused, where the volume's store was sound
+abbrev pub WhereSound : {A : Type 0} → VolumeState → Result A Refused → (A → Type 0) → Type 0
+WhereSound v result fact = IfOk result (λ r. IsTrue v.is_sound → fact r)

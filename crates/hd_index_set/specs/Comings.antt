@@ -30,6 +30,10 @@ pub record MayCome (key_length : ℕ) (v : VolumeState) (key by : List ℕ) (l n
   pub by_is : by ≡ greatest_below key key (index_entries key_length v)
   pub coming : IsComing key_length v key by l n
 
+-- the fact holds where the key may come into block n of the sequence set, for which no block is needed
+abbrev pub WhereNoneIsNeeded : ℕ → VolumeState → List ℕ → ℕ → Type 0 → Type 0
+WhereNoneIsNeeded key_length v key n fact = (by : List ℕ) → MayCome key_length v key by 0 n → needed_by key_length v by ≡ 0 → fact
+
 -- The index has the entries that it had and needs as many blocks, and the key may come in below block n of a level.
 pub record HasComeTo (key_length : ℕ) (old : VolumeState) (key by : List ℕ) (l n : ℕ) (new : VolumeState) : Type 0 where
   pub changed : IsChanged key_length old (index_entries key_length old) 0 new

@@ -5,13 +5,13 @@ ghost use Rattle.hd_volume.specs.Volumes.{IsFormatted, block_at};
 ghost use Rattle.hd_volume.specs.Calls.{IsCall};
 ghost use Rattle.hd_volume.specs.Indexes.{entry_room};
 ghost use Rattle.hd_entries.specs.Fields.{entry_place};
-ghost use Rattle.hd_levels.specs.Maps.{address_of, greatest_below, with_entry};
+ghost use Rattle.hd_levels.specs.Maps.{address_of, greatest_below};
 ghost use Rattle.hd_levels.specs.Levels.{AreBelow};
 ghost use Rattle.hd_levels.specs.IndexSets.{index_entries, HasIndexSet};
 ghost use Rattle.hd_levels.specs.Needs.{needed_by};
 ghost use Rattle.hd_index_edits.specs.Blocks.{IsLevelBlock};
 ghost use Rattle.hd_index_edits.specs.Edits.{IsRefused};
-ghost use Rattle.hd_index_set.specs.Changes.{IsChanged};
+ghost use Rattle.hd_index_set.specs.Changes.{IsKeyEntered};
 ghost use Rattle.hd_index_set.specs.Comings.{MayCome};
 ghost use Rattle.hd_index_set.specs.Divisions.{IsEntryAt, IsLowestRoom};
 ghost use Rattle.hd_index_set.specs.Rooms.{IsReady};
@@ -81,7 +81,7 @@ fn hang_at<S: BlockStore>(
     requires short { length key.now ≤ 255 }
     requires three { entry_place (length key.now) 3 ≤ volume.old.size }
     ensures call { IsCall volume.old result volume.new }
-    ensures changed { OnOk result (IsTrue volume.old.is_sound → IsChanged (length key.now) volume.old (with_entry (record { key = key.now; address = address }) (index_entries (length key.now) volume.old)) 1 volume.new) }
+    ensures changed { OnOk result (IsTrue volume.old.is_sound → IsKeyEntered (length key.now) volume.old key.now address 1 volume.new) }
     ensures refused { IfErr result (λ e. IsRefused volume.old e volume.new) }
     ensures room { IsTrue volume.new.is_sound → volume.old.room ≤ volume.new.room + 1 }
 {
@@ -109,7 +109,7 @@ fn hang_last<S: BlockStore>(
     requires short { length key.now ≤ 255 }
     requires three { entry_place (length key.now) 3 ≤ volume.old.size }
     ensures call { IsCall volume.old result volume.new }
-    ensures changed { OnOk result (IsTrue volume.old.is_sound → IsChanged (length key.now) volume.old (with_entry (record { key = key.now; address = address }) (index_entries (length key.now) volume.old)) 1 volume.new) }
+    ensures changed { OnOk result (IsTrue volume.old.is_sound → IsKeyEntered (length key.now) volume.old key.now address 1 volume.new) }
     ensures refused { IfErr result (λ e. IsRefused volume.old e volume.new) }
     ensures room { IsTrue volume.new.is_sound → volume.old.room ≤ volume.new.room + 1 }
 {
@@ -143,7 +143,7 @@ pub fn enter_behind<S: BlockStore>(
     requires short { key_length ≤ 255 }
     requires three { entry_place key_length 3 ≤ volume.old.size }
     ensures call { IsCall volume.old result volume.new }
-    ensures changed { OnOk result (IsTrue volume.old.is_sound → IsChanged key_length volume.old (with_entry (record { key = key.now; address = address }) (index_entries key_length volume.old)) 1 volume.new) }
+    ensures changed { OnOk result (IsTrue volume.old.is_sound → IsKeyEntered key_length volume.old key.now address 1 volume.new) }
     ensures device { IfErr result (λ e. IsTrue volume.old.is_sound → e ≡ Refused.Device) }
     ensures refusal { OnlyRoomOrDevice result }
     ensures room { IsTrue volume.new.is_sound → volume.old.room ≤ volume.new.room + 1 }

@@ -1,10 +1,10 @@
 ghost use Rattle.std.specs.Prelude.{◌≡◌, ◌+◌, ◌≤◌, ℕ, IsTrue, IfOk};
 ghost use Rattle.hd_dbd.specs.Refusals.{OnlyDevice};
 ghost use Rattle.hd_volume.specs.Calls.{IsRead};
-ghost use Rattle.hd_levels.specs.Ways.{leaf_of};
-ghost use Rattle.hd_levels.specs.IndexSets.{index_blocks, HasIndexSet};
+ghost use Rattle.hd_levels.specs.IndexSets.{HasIndexSet};
 ghost use Rattle.hd_levels.specs.VolumeLaws.{IsRightBlock};
-ghost use Rattle.hd_index_set.specs.Blocks.{leaf_at};
+ghost use Rattle.hd_index_set.specs.Blocks.{leaf_at, IsLeadDown};
+ghost use Rattle.hd_index_set.specs.Changes.{WhereSound};
 
 use crate::look::child;
 use hd_dbd::Refused;
@@ -23,7 +23,7 @@ pub fn descend<S: BlockStore>(
 ) -> Result<u32, Refused>
     requires short { key_length ≤ 255 }
     ensures read { IsRead volume.old result volume.new }
-    ensures value { IfOk result (λ m. IsTrue volume.old.is_sound → HasIndexSet key_length volume.old → (l : ℕ) → IsRightBlock key_length volume.old (levels + l) n → (m ≡ leaf_of (index_blocks key_length volume.old) key.now levels n) × IsRightBlock key_length volume.old l m) }
+    ensures value { WhereSound volume.old result (λ m. HasIndexSet key_length volume.old → (l : ℕ) → IsRightBlock key_length volume.old (levels + l) n → IsLeadDown key_length volume.old key.now levels l n m) }
     ensures refusal { OnlyDevice result }
 {
     let mut below = n;

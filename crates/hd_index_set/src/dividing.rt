@@ -1,4 +1,4 @@
-ghost use Rattle.std.specs.Prelude.{◌≡◌, ◌+◌, ◌≤◌, ◌<◌, suc, take, length, IsTrue, IfOk, IfErr, OnOk};
+ghost use Rattle.std.specs.Prelude.{◌≡◌, ◌+◌, ◌≤◌, ◌<◌, suc, take, length, IsTrue, IfErr, OnOk};
 ghost use Rattle.hd_bytes.specs.Numbers.{number_at};
 ghost use Rattle.hd_dbd.specs.Refusals.{OnlyDevice};
 ghost use Rattle.hd_volume.specs.Volumes.{IsFormatted, block_at};
@@ -10,6 +10,7 @@ ghost use Rattle.hd_index_edits.specs.Blocks.{IsLevelBlock};
 ghost use Rattle.hd_index_edits.specs.Edits.{IsRefused};
 ghost use Rattle.hd_index_set.specs.Blocks.{IsInOrder};
 ghost use Rattle.hd_index_set.specs.Divisions.{IsEntryAt, IsLeadOf, IsCutOf, IsDividedUnder};
+ghost use Rattle.hd_index_set.specs.Changes.{WhereSound};
 
 use crate::greatest::key_copy;
 use crate::look::has_block;
@@ -112,7 +113,7 @@ pub fn lead_of<S: BlockStore>(
 ) -> Result<Lead, Refused>
     requires short { key_length ≤ 255 }
     ensures read { IsRead volume.old result volume.new }
-    ensures value { IfOk result (λ lead. IsTrue volume.old.is_sound → IsInOrder key_length volume.old p → 0 < number_at 2 (block_at volume.old p) 4 → IsLeadOf key_length by.now (block_at volume.old p) lead) }
+    ensures value { WhereSound volume.old result (λ lead. IsInOrder key_length volume.old p → 0 < number_at 2 (block_at volume.old p) 4 → IsLeadOf key_length by.now (block_at volume.old p) lead) }
     ensures refusal { OnlyDevice result }
 {
     if !has_block(volume, p) {
@@ -134,7 +135,7 @@ pub fn cut_of<S: BlockStore>(
 ) -> Result<Cut, Refused>
     requires short { key_length ≤ 255 }
     ensures read { IsRead volume.old result volume.new }
-    ensures value { IfOk result (λ cut. IsTrue volume.old.is_sound → IsInOrder key_length volume.old n → 2 ≤ number_at 2 (block_at volume.old n) 4 → IsCutOf key_length (block_at volume.old n) cut) }
+    ensures value { WhereSound volume.old result (λ cut. IsInOrder key_length volume.old n → 2 ≤ number_at 2 (block_at volume.old n) 4 → IsCutOf key_length (block_at volume.old n) cut) }
     ensures refusal { OnlyDevice result }
 {
     if !has_block(volume, n) {

@@ -1,4 +1,4 @@
-ghost use Rattle.std.specs.Prelude.{◌≡◌, ◌≤◌, ◌<◌, ℕ, List, suc, None, IsTrue, length, IfOk, OnOk};
+ghost use Rattle.std.specs.Prelude.{◌≡◌, ◌≤◌, ◌<◌, ℕ, suc, None, IsTrue, length, IfOk, OnOk};
 ghost use Rattle.hd_bytes.specs.Numbers.{number_at};
 ghost use Rattle.hd_dbd.specs.Refusals.{OnlyDevice};
 ghost use Rattle.hd_volume.specs.Volumes.{block_at, IsKind, IsFormatted};
@@ -6,13 +6,13 @@ ghost use Rattle.hd_volume.specs.Calls.{IsCall, IsRead};
 ghost use Rattle.hd_volume.specs.Entries.{entries_in};
 ghost use Rattle.hd_entries.specs.Fields.{entry_place, below_count, CountFits};
 ghost use Rattle.hd_entries.specs.Searches.{IfInOrder};
-ghost use Rattle.hd_levels.specs.Maps.{address_of, greatest_below, with_entry};
+ghost use Rattle.hd_levels.specs.Maps.{address_of, greatest_below};
 ghost use Rattle.hd_levels.specs.IndexSets.{index_entries, HasIndexSet};
 ghost use Rattle.hd_levels.specs.Needs.{needed_by};
 ghost use Rattle.hd_index_edits.specs.Blocks.{IsIndexBlock};
-ghost use Rattle.hd_index_set.specs.Blocks.{IsInOrder};
-ghost use Rattle.hd_index_set.specs.Changes.{IsChanged};
-ghost use Rattle.hd_index_set.specs.Comings.{MayCome, HasComeTo, IsTurnOf, IsRaised};
+ghost use Rattle.hd_index_set.specs.Blocks.{IsInOrder, OfSomeInOrder};
+ghost use Rattle.hd_index_set.specs.Changes.{IsKeyEntered, WhereSound};
+ghost use Rattle.hd_index_set.specs.Comings.{MayCome, WhereNoneIsNeeded, HasComeTo, IsTurnOf, IsRaised};
 
 use crate::descend::MOST_LEVELS;
 use crate::look::has_block;
@@ -80,7 +80,7 @@ fn turn_at<S: BlockStore>(
 ) -> Result<Turn, Refused>
     requires short { length key.now ≤ 255 }
     ensures read { IsRead volume.old result volume.new }
-    ensures turn { IfOk result (λ t. IsTrue volume.old.is_sound → IsInOrder (length key.now) volume.old n → 0 < number_at 2 (block_at volume.old n) 4 → IsTurnOf by.now key.now (entries_in (length key.now) (block_at volume.old n)) t) }
+    ensures turn { WhereSound volume.old result (λ t. OfSomeInOrder (length key.now) volume.old n (λ es. IsTurnOf by.now key.now es t)) }
     ensures low { IfOk result (λ t. IsTrue t.is_low → t.index < t.count) }
     ensures small { IfOk result (λ t. t.count ≤ 65535) }
     ensures fits { IfOk result (λ t. entry_place (length key.now) t.count ≤ volume.old.size) }
@@ -134,7 +134,7 @@ fn step_by<S: BlockStore>(
     requires block { IsTrue volume.old.is_sound → IsKind volume.old 2 n }
     requires short { length key.now ≤ 255 }
     ensures call { IsCall volume.old result volume.new }
-    ensures come { IfOk result (λ m. IsTrue volume.old.is_sound → (l : ℕ) → MayCome (length key.now) volume.old key.now by.now (suc l) n → HasComeTo (length key.now) volume.old key.now by.now l m volume.new) }
+    ensures come { WhereSound volume.old result (λ m. (l : ℕ) → MayCome (length key.now) volume.old key.now by.now (suc l) n → HasComeTo (length key.now) volume.old key.now by.now l m volume.new) }
     ensures refusal { OnlyDevice result }
     ensures room { volume.new.room ≡ volume.old.room }
 {
@@ -214,7 +214,7 @@ fn enter_at<S: BlockStore>(
     requires within { gap.index ≤ gap.count }
     requires short { length key.now ≤ 255 }
     ensures call { IsCall volume.old result volume.new }
-    ensures changed { OnOk result (IsTrue volume.old.is_sound → (by : List ℕ) → MayCome (length key.now) volume.old key.now by 0 n → needed_by (length key.now) volume.old by ≡ 0 → IsChanged (length key.now) volume.old (with_entry (record { key = key.now; address = address }) (index_entries (length key.now) volume.old)) 0 volume.new) }
+    ensures changed { OnOk result (IsTrue volume.old.is_sound → WhereNoneIsNeeded (length key.now) volume.old key.now n (IsKeyEntered (length key.now) volume.old key.now address 0 volume.new)) }
     ensures refusal { OnlyDevice result }
     ensures room { volume.new.room ≡ volume.old.room }
 {
@@ -237,7 +237,7 @@ fn enter_leaf<S: BlockStore>(
     requires some { 0 < volume.old.size }
     requires short { length key.now ≤ 255 }
     ensures call { IsCall volume.old result volume.new }
-    ensures changed { OnOk result (IsTrue volume.old.is_sound → (by : List ℕ) → MayCome (length key.now) volume.old key.now by 0 n → needed_by (length key.now) volume.old by ≡ 0 → IsChanged (length key.now) volume.old (with_entry (record { key = key.now; address = address }) (index_entries (length key.now) volume.old)) 0 volume.new) }
+    ensures changed { OnOk result (IsTrue volume.old.is_sound → WhereNoneIsNeeded (length key.now) volume.old key.now n (IsKeyEntered (length key.now) volume.old key.now address 0 volume.new)) }
     ensures refusal { OnlyDevice result }
     ensures room { volume.new.room ≡ volume.old.room }
 {
@@ -262,7 +262,7 @@ pub fn enter_key<S: BlockStore>(
     requires short { key_length ≤ 255 }
     requires three { entry_place key_length 3 ≤ volume.old.size }
     ensures call { IsCall volume.old result volume.new }
-    ensures changed { OnOk result (IsTrue volume.old.is_sound → IsChanged key_length volume.old (with_entry (record { key = key.now; address = address }) (index_entries key_length volume.old)) 0 volume.new) }
+    ensures changed { OnOk result (IsTrue volume.old.is_sound → IsKeyEntered key_length volume.old key.now address 0 volume.new) }
     ensures refusal { OnlyDevice result }
     ensures room { volume.new.room ≡ volume.old.room }
 {

@@ -10,6 +10,7 @@ ghost use Rattle.hd_levels.specs.IndexSets.{HasIndexSet};
 ghost use Rattle.hd_index_set.specs.Blocks.{IsInOrder};
 ghost use Rattle.hd_index_set.specs.Greatest.{IsLastOf, IsGreatestOf, IsGreatestBelow};
 ghost use Rattle.hd_index_set.specs.Stands.{IsStand};
+ghost use Rattle.hd_index_set.specs.Changes.{WhereSound};
 
 use crate::descend::MOST_LEVELS;
 use crate::look::has_block;
@@ -131,7 +132,7 @@ fn greatest_about<S: BlockStore>(
 ) -> Result<Option<[u8; 255]>, Refused>
     requires short { key_length ≤ 255 }
     ensures read { IsRead volume.old result volume.new }
-    ensures value { IfOk result (λ r. IsTrue volume.old.is_sound → HasIndexSet key_length volume.old → IsStand key_length volume.old key.now 0 stand → IsGreatestBelow key_length volume.old key.now r) }
+    ensures value { WhereSound volume.old result (λ r. HasIndexSet key_length volume.old → IsStand key_length volume.old key.now 0 stand → IsGreatestBelow key_length volume.old key.now r) }
     ensures refusal { OnlyDevice result }
 {
     let own = greatest_in(volume, key_length, stand.block, key)?;

@@ -9,7 +9,7 @@ ghost use Rattle.hd_entries.specs.Fields.{entry_place};
 ghost use Rattle.hd_levels.specs.Maps.{address_of, greatest_below, with_entry};
 ghost use Rattle.hd_levels.specs.IndexSets.{index_entries, HasIndexSet};
 ghost use Rattle.hd_levels.specs.Needs.{entry_growth, needed_by, set_blocks_needed};
-ghost use Rattle.hd_index_set.specs.Changes.{IsIndexOf, entries_for, IsIndexChange, IsChanged};
+ghost use Rattle.hd_index_set.specs.Changes.{IsIndexOf, entries_for, IsIndexChange, IsChanged, IsKeyEntered};
 ghost use Rattle.hd_index_set.specs.Rooms.{IsReady, IsRefusedFor};
 
 use crate::behind::enter_behind;
@@ -67,7 +67,7 @@ fn insert_key<S: BlockStore>(
     requires short { key_length ≤ 255 }
     requires three { entry_place key_length 3 ≤ volume.old.size }
     ensures call { IsCall volume.old result volume.new }
-    ensures changed { OnOk result (IsTrue volume.old.is_sound → IsChanged key_length volume.old (with_entry (record { key = key.now; address = address }) (index_entries key_length volume.old)) (set_blocks_needed key_length volume.old key.now) volume.new) }
+    ensures changed { OnOk result (IsTrue volume.old.is_sound → IsKeyEntered key_length volume.old key.now address (set_blocks_needed key_length volume.old key.now) volume.new) }
     ensures kept { IfErr result (λ _. IsTrue volume.new.is_sound → volume.new.image ≡ volume.old.image) }
     ensures refused { IfErr result (λ e. IsTrue volume.old.is_sound → IsRefusedFor (set_blocks_needed key_length volume.old key.now) volume.old e) }
     ensures refusal { OnlyRoomOrDevice result }
@@ -98,7 +98,7 @@ fn insert_by<S: BlockStore>(
     requires short { key_length ≤ 255 }
     requires three { entry_place key_length 3 ≤ volume.old.size }
     ensures call { IsCall volume.old result volume.new }
-    ensures changed { OnOk result (IsTrue volume.old.is_sound → IsChanged key_length volume.old (with_entry (record { key = key.now; address = address }) (index_entries key_length volume.old)) (needed_by key_length volume.old by.now) volume.new) }
+    ensures changed { OnOk result (IsTrue volume.old.is_sound → IsKeyEntered key_length volume.old key.now address (needed_by key_length volume.old by.now) volume.new) }
     ensures kept { IfErr result (λ _. IsTrue volume.new.is_sound → volume.new.image ≡ volume.old.image) }
     ensures refused { IfErr result (λ e. IsTrue volume.old.is_sound → IsRefusedFor (needed_by key_length volume.old by.now) volume.old e) }
     ensures refusal { OnlyRoomOrDevice result }
@@ -130,7 +130,7 @@ fn enter_prepared<S: BlockStore>(
     requires short { key_length ≤ 255 }
     requires three { entry_place key_length 3 ≤ volume.old.size }
     ensures call { IsCall volume.old result volume.new }
-    ensures changed { OnOk result (IsTrue volume.old.is_sound → IsChanged key_length volume.old (with_entry (record { key = key.now; address = address }) (index_entries key_length volume.old)) needed volume.new) }
+    ensures changed { OnOk result (IsTrue volume.old.is_sound → IsKeyEntered key_length volume.old key.now address needed volume.new) }
     ensures device { IfErr result (λ e. IsTrue volume.old.is_sound → e ≡ Refused.Device) }
     ensures refusal { OnlyRoomOrDevice result }
     ensures room { IsTrue volume.new.is_sound → volume.old.room ≤ volume.new.room + needed }
@@ -161,7 +161,7 @@ fn enter_one<S: BlockStore>(
     requires short { key_length ≤ 255 }
     requires three { entry_place key_length 3 ≤ volume.old.size }
     ensures call { IsCall volume.old result volume.new }
-    ensures changed { OnOk result (IsTrue volume.old.is_sound → IsChanged key_length volume.old (with_entry (record { key = key.now; address = address }) (index_entries key_length volume.old)) 1 volume.new) }
+    ensures changed { OnOk result (IsTrue volume.old.is_sound → IsKeyEntered key_length volume.old key.now address 1 volume.new) }
     ensures device { IfErr result (λ e. IsTrue volume.old.is_sound → e ≡ Refused.Device) }
     ensures refusal { OnlyRoomOrDevice result }
     ensures room { IsTrue volume.new.is_sound → volume.old.room ≤ volume.new.room + 1 }
@@ -192,7 +192,7 @@ fn divide_and_enter<S: BlockStore>(
     requires short { key_length ≤ 255 }
     requires three { entry_place key_length 3 ≤ volume.old.size }
     ensures call { IsCall volume.old result volume.new }
-    ensures changed { OnOk result (IsTrue volume.old.is_sound → IsChanged key_length volume.old (with_entry (record { key = key.now; address = address }) (index_entries key_length volume.old)) 1 volume.new) }
+    ensures changed { OnOk result (IsTrue volume.old.is_sound → IsKeyEntered key_length volume.old key.now address 1 volume.new) }
     ensures device { IfErr result (λ e. IsTrue volume.old.is_sound → e ≡ Refused.Device) }
     ensures refusal { OnlyRoomOrDevice result }
     ensures room { IsTrue volume.new.is_sound → volume.old.room ≤ volume.new.room + 1 }

@@ -12,7 +12,7 @@ ghost use Rattle.hd_levels.specs.Maps.{address_of, without_key};
 ghost use Rattle.hd_levels.specs.IndexSets.{index_blocks, index_entries, top_level, HasIndexSet};
 ghost use Rattle.hd_index_edits.specs.Edits.{IsEntryRemoved};
 ghost use Rattle.hd_index_set.specs.Blocks.{IsInOrder};
-ghost use Rattle.hd_index_set.specs.Changes.{IsIndexOf, entries_for, IsIndexChange, IsChanged};
+ghost use Rattle.hd_index_set.specs.Changes.{IsIndexOf, entries_for, IsIndexChange, IsKeyRemoved};
 ghost use Rattle.hd_index_set.specs.Stands.{front_of};
 ghost use Rattle.hd_index_set.specs.Removals.{IsThin, IsThinBelow, IsOnWayIn, IsWay};
 
@@ -50,7 +50,7 @@ fn remove_key<S: BlockStore>(
     requires index { IsTrue volume.old.is_sound → HasIndexSet key_length volume.old }
     requires short { key_length ≤ 255 }
     ensures call { IsCall volume.old result volume.new }
-    ensures changed { OnOk result (IsTrue volume.old.is_sound → IsChanged key_length volume.old (without_key key.now (index_entries key_length volume.old)) 0 volume.new) }
+    ensures changed { OnOk result (IsTrue volume.old.is_sound → IsKeyRemoved key_length volume.old key.now volume.new) }
     ensures refusal { OnlyDevice result }
     ensures room { volume.new.room ≡ volume.old.room }
 {
@@ -88,7 +88,7 @@ fn remove_on<S: BlockStore>(
     requires there { IsTrue volume.old.is_sound → address_of key.now (index_entries key_length volume.old) ≢ None }
     requires short { key_length ≤ 255 }
     ensures call { IsCall volume.old result volume.new }
-    ensures changed { OnOk result (IsTrue volume.old.is_sound → IsChanged key_length volume.old (without_key key.now (index_entries key_length volume.old)) 0 volume.new) }
+    ensures changed { OnOk result (IsTrue volume.old.is_sound → IsKeyRemoved key_length volume.old key.now volume.new) }
     ensures refusal { OnlyDevice result }
     ensures room { volume.new.room ≡ volume.old.room }
 {
@@ -116,7 +116,7 @@ fn clear<S: BlockStore>(
     requires thin { IsTrue volume.old.is_sound → IsThin (index_blocks key_length volume.old) levels top }
     requires short { key_length ≤ 255 }
     ensures call { IsCall volume.old result volume.new }
-    ensures changed { OnOk result (IsTrue volume.old.is_sound → (key : List ℕ) → address_of key (index_entries key_length volume.old) ≢ None → IsChanged key_length volume.old (without_key key (index_entries key_length volume.old)) 0 volume.new) }
+    ensures changed { OnOk result (IsTrue volume.old.is_sound → (key : List ℕ) → address_of key (index_entries key_length volume.old) ≢ None → IsKeyRemoved key_length volume.old key volume.new) }
     ensures refusal { OnlyDevice result }
     ensures room { volume.new.room ≡ volume.old.room }
 {
@@ -146,7 +146,7 @@ fn cut_off<S: BlockStore>(
     requires there { IsTrue volume.old.is_sound → address_of key.now (index_entries key_length volume.old) ≢ None }
     requires short { key_length ≤ 255 }
     ensures call { IsCall volume.old result volume.new }
-    ensures changed { OnOk result (IsTrue volume.old.is_sound → IsChanged key_length volume.old (without_key key.now (index_entries key_length volume.old)) 0 volume.new) }
+    ensures changed { OnOk result (IsTrue volume.old.is_sound → IsKeyRemoved key_length volume.old key.now volume.new) }
     ensures refusal { OnlyDevice result }
     ensures room { volume.new.room ≡ volume.old.room }
 {

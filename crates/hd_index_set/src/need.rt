@@ -9,7 +9,7 @@ ghost use Rattle.hd_levels.specs.IndexSets.{index_blocks, HasIndexSet};
 ghost use Rattle.hd_levels.specs.Needs.{entry_growth, is_full, needed_by, set_blocks_needed};
 ghost use Rattle.hd_levels.specs.VolumeLaws.{IsRightBlock};
 ghost use Rattle.hd_index_set.specs.Blocks.{IsInOrder, full_down};
-ghost use Rattle.hd_index_set.specs.Changes.{IsIndexOf};
+ghost use Rattle.hd_index_set.specs.Changes.{IsIndexOf, WhereSound};
 
 use crate::descend::MOST_LEVELS;
 use crate::greatest::greatest;
@@ -103,7 +103,7 @@ fn full_blocks<S: BlockStore>(
     requires short { key_length ≤ 255 }
     requires few { levels < 64 }
     ensures read { IsRead volume.old result volume.new }
-    ensures value { IfOk result (λ full. IsTrue volume.old.is_sound → HasIndexSet key_length volume.old → IsRightBlock key_length volume.old levels n → full ≡ full_down key_length volume.old key.now levels n) }
+    ensures value { WhereSound volume.old result (λ full. HasIndexSet key_length volume.old → IsRightBlock key_length volume.old levels n → full ≡ full_down key_length volume.old key.now levels n) }
     ensures most { IfOk result (λ full. full ≤ 64) }
     ensures refusal { OnlyDevice result }
 {
@@ -134,7 +134,7 @@ fn full_run<S: BlockStore>(
     requires short { key_length ≤ 255 }
     requires few { run < 64 }
     ensures read { IsRead volume.old result volume.new }
-    ensures value { IfOk result (λ full. IsTrue volume.old.is_sound → IsInOrder key_length volume.old n → full ≡ cond (is_full (index_blocks key_length volume.old) (entry_room key_length volume.old.size) n) (run + 1) 0) }
+    ensures value { WhereSound volume.old result (λ full. IsInOrder key_length volume.old n → full ≡ cond (is_full (index_blocks key_length volume.old) (entry_room key_length volume.old.size) n) (run + 1) 0) }
     ensures most { IfOk result (λ full. full ≤ run + 1) }
     ensures refusal { OnlyDevice result }
 {

@@ -4,7 +4,7 @@ ghost use Rattle.hd_volume.specs.Calls.{IsRead};
 ghost use Rattle.hd_levels.specs.Maps.{address_of, address_from};
 ghost use Rattle.hd_levels.specs.Levels.{AreBelow};
 ghost use Rattle.hd_levels.specs.IndexSets.{index_entries, HasIndexSet};
-ghost use Rattle.hd_index_set.specs.Changes.{IsIndexOf, entries_for};
+ghost use Rattle.hd_index_set.specs.Changes.{IsIndexOf, entries_for, WhereSound};
 ghost use Rattle.hd_index_set.specs.Searches.{IsSightOf};
 
 use crate::descend::leaf;
@@ -76,7 +76,7 @@ fn look_on<S: BlockStore>(
 ) -> Result<Option<u32>, Refused>
     requires short { key_length ≤ 255 }
     ensures read { IsRead volume.old result volume.new }
-    ensures value { IfOk result (λ r. IsTrue volume.old.is_sound → HasIndexSet key_length volume.old → IsSightOf key_length volume.old key.now seen → r ≡ address_from key.now (index_entries key_length volume.old)) }
+    ensures value { WhereSound volume.old result (λ r. HasIndexSet key_length volume.old → IsSightOf key_length volume.old key.now seen → r ≡ address_from key.now (index_entries key_length volume.old)) }
     ensures refusal { OnlyDevice result }
 {
     if seen.from.is_some() || seen.next == 0 {

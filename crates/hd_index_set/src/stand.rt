@@ -12,6 +12,7 @@ ghost use Rattle.hd_levels.specs.IndexSets.{HasIndexSet};
 ghost use Rattle.hd_index_set.specs.Blocks.{IsInOrder};
 ghost use Rattle.hd_index_set.specs.Stands.{front_of, IsStand};
 ghost use Rattle.hd_index_set.specs.Removals.{IsBelow};
+ghost use Rattle.hd_index_set.specs.Changes.{WhereSound};
 
 use crate::look::has_block;
 use hd_dbd::Refused;
@@ -70,7 +71,7 @@ fn children<S: BlockStore>(
     requires short { key_length ≤ 255 }
     ensures read { IsRead volume.old result volume.new }
     ensures block { IfOk result (λ s. IsTrue volume.old.is_sound → IsInOrder key_length volume.old n → s.block ≡ child_of key.now (entries_in key_length (block_at volume.old n))) }
-    ensures left { IfOk result (λ s. IsTrue volume.old.is_sound → IsInOrder key_length volume.old n → s.left ≡ last_of 0 (named (front_of key.now (entries_in key_length (block_at volume.old n))))) }
+    ensures left { WhereSound volume.old result (λ s. IsInOrder key_length volume.old n → s.left ≡ last_of 0 (named (front_of key.now (entries_in key_length (block_at volume.old n))))) }
     ensures refusal { OnlyDevice result }
 {
     if !has_block(volume, n) {
@@ -113,8 +114,8 @@ pub fn step_down<S: BlockStore>(
 ) -> Result<Stand, Refused>
     requires short { key_length ≤ 255 }
     ensures read { IsRead volume.old result volume.new }
-    ensures stand { IfOk result (λ s. IsTrue volume.old.is_sound → HasIndexSet key_length volume.old → (l : ℕ) → IsStand key_length volume.old key.now (suc l) stand → IsStand key_length volume.old key.now l s) }
-    ensures below { IfOk result (λ s. IsTrue volume.old.is_sound → HasIndexSet key_length volume.old → (l : ℕ) → IsStand key_length volume.old key.now (suc l) stand → IsBelow key_length volume.old key.now stand s) }
+    ensures stand { WhereSound volume.old result (λ s. HasIndexSet key_length volume.old → (l : ℕ) → IsStand key_length volume.old key.now (suc l) stand → IsStand key_length volume.old key.now l s) }
+    ensures below { WhereSound volume.old result (λ s. HasIndexSet key_length volume.old → (l : ℕ) → IsStand key_length volume.old key.now (suc l) stand → IsBelow key_length volume.old key.now stand s) }
     ensures refusal { OnlyDevice result }
 {
     let below = children(volume, key_length, stand.block, key)?;
@@ -138,7 +139,7 @@ pub fn walk_down<S: BlockStore>(
 ) -> Result<Stand, Refused>
     requires short { key_length ≤ 255 }
     ensures read { IsRead volume.old result volume.new }
-    ensures stand { IfOk result (λ s. IsTrue volume.old.is_sound → HasIndexSet key_length volume.old → IsStand key_length volume.old key.now levels start → IsStand key_length volume.old key.now 0 s) }
+    ensures stand { WhereSound volume.old result (λ s. HasIndexSet key_length volume.old → IsStand key_length volume.old key.now levels start → IsStand key_length volume.old key.now 0 s) }
     ensures refusal { OnlyDevice result }
 {
     let mut stand = start;

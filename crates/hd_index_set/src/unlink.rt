@@ -3,12 +3,11 @@ ghost use Rattle.hd_dbd.specs.Refusals.{OnlyDevice};
 ghost use Rattle.hd_volume.specs.Volumes.{VolumeState, IsFormatted, IsKind};
 ghost use Rattle.hd_volume.specs.Entries.{Entry};
 ghost use Rattle.hd_volume.specs.Calls.{IsCall, IsRead};
-ghost use Rattle.hd_levels.specs.Maps.{without_key};
 ghost use Rattle.hd_levels.specs.Neighbours.{last_child};
-ghost use Rattle.hd_levels.specs.IndexSets.{next_in, index_blocks, index_entries};
+ghost use Rattle.hd_levels.specs.IndexSets.{next_in, index_blocks};
 ghost use Rattle.hd_index_edits.specs.Blocks.{IsIndexBlock};
 ghost use Rattle.hd_index_set.specs.Blocks.{IsInOrder};
-ghost use Rattle.hd_index_set.specs.Changes.{IsChanged};
+ghost use Rattle.hd_index_set.specs.Changes.{IsKeyRemoved, WhereSound};
 ghost use Rattle.hd_index_set.specs.Removals.{IsPassed, IsDropped, IsCut, IsCutOff};
 
 use crate::look::has_block;
@@ -79,7 +78,7 @@ fn only_below<S: BlockStore>(
     requires short { key_length ≤ 255 }
     ensures read { IsRead volume.old result volume.new }
     ensures block { IfOk result (λ below. IsTrue volume.old.is_sound → IsInOrder key_length volume.old stand.block → below.block ≡ last_child (index_blocks key_length volume.old) stand.block) }
-    ensures left { IfOk result (λ below. IsTrue volume.old.is_sound → (stand.left ≢ 0 → IsInOrder key_length volume.old stand.left) → below.left ≡ last_child (index_blocks key_length volume.old) stand.left) }
+    ensures left { WhereSound volume.old result (λ below. (stand.left ≢ 0 → IsInOrder key_length volume.old stand.left) → below.left ≡ last_child (index_blocks key_length volume.old) stand.left) }
     ensures refusal { OnlyDevice result }
 {
     let block = last_child(volume, key_length, stand.block)?;
@@ -100,7 +99,7 @@ pub fn drop_way<S: BlockStore>(
     requires cut { IsTrue volume.old.is_sound → IsCutOff key_length volume.old levels start }
     requires short { key_length ≤ 255 }
     ensures call { IsCall volume.old result volume.new }
-    ensures changed { OnOk result (IsTrue volume.old.is_sound → (old : VolumeState) (gone : Entry) (kept_top : List ℕ) → IsCut key_length old gone kept_top volume.old levels start → IsChanged key_length old (without_key gone.key (index_entries key_length old)) 0 volume.new) }
+    ensures changed { OnOk result (IsTrue volume.old.is_sound → (old : VolumeState) (gone : Entry) (kept_top : List ℕ) → IsCut key_length old gone kept_top volume.old levels start → IsKeyRemoved key_length old gone.key volume.new) }
     ensures refusal { OnlyDevice result }
     ensures room { volume.new.room ≡ volume.old.room }
 {

@@ -7,6 +7,7 @@ ghost use Rattle.hd_entries.specs.Fields.{CountFits};
 ghost use Rattle.hd_levels.specs.IndexSets.{HasIndexSet};
 ghost use Rattle.hd_index_set.specs.Blocks.{IsInOrder};
 ghost use Rattle.hd_index_set.specs.Removals.{IsOnWayIn, IsWay};
+ghost use Rattle.hd_index_set.specs.Changes.{WhereSound};
 
 use crate::look::has_block;
 use crate::stand::{Stand, step_down};
@@ -66,7 +67,7 @@ fn lower_fork<S: BlockStore>(
 ) -> Result<Fork, Refused>
     requires short { key_length ≤ 255 }
     ensures read { IsRead volume.old result volume.new }
-    ensures value { IfOk result (λ fork. IsTrue volume.old.is_sound → IsInOrder key_length volume.old stand.block → fork ≡ cond (nat_lt 1 (length (entries_in key_length (block_at volume.old stand.block)))) (record { level = level; stand = stand }) above) }
+    ensures value { WhereSound volume.old result (λ fork. IsInOrder key_length volume.old stand.block → fork ≡ cond (nat_lt 1 (length (entries_in key_length (block_at volume.old stand.block)))) (record { level = level; stand = stand }) above) }
     ensures refusal { OnlyDevice result }
 {
     let more = has_more(volume, key_length, stand.block)?;
@@ -83,7 +84,7 @@ pub fn way_down<S: BlockStore>(
 ) -> Result<Way, Refused>
     requires short { key_length ≤ 255 }
     ensures read { IsRead volume.old result volume.new }
-    ensures way { IfOk result (λ way. IsTrue volume.old.is_sound → HasIndexSet key_length volume.old → IsOnWayIn key_length volume.old key.now levels start → IsWay key_length volume.old key.now levels start.block way) }
+    ensures way { WhereSound volume.old result (λ way. HasIndexSet key_length volume.old → IsOnWayIn key_length volume.old key.now levels start → IsWay key_length volume.old key.now levels start.block way) }
     ensures refusal { OnlyDevice result }
 {
     let mut stand = start;

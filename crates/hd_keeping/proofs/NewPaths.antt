@@ -14,7 +14,8 @@ use Rattle.hd_calls.specs.Runs.{has_root, blocks_for}
 use Rattle.hd_volume.specs.Headers.{Header}
 use Rattle.hd_volume.specs.Volumes.{VolumeState}
 use Rattle.hd_volume.specs.Rooms.{spare}
-use Rattle.hd_volume.specs.Indexes.{root_key_length, index_growth}
+use Rattle.hd_volume.specs.Indexes.{root_key_length}
+use Rattle.hd_levels.specs.Needs.{entry_growth}
 use Rattle.hd_links.specs.Links.{is_child_type}
 use Rattle.hd_links.specs.Placed.{Placed}
 use Rattle.hd_links.specs.Changes.{Agree, linked, CanLink}
@@ -31,7 +32,7 @@ use Rattle.hd_keeping.specs.VolumeImages.{images_of}
 use Rattle.hd_keeping.specs.NewPaths.{HasNoChild, IsPathIn, PathsBeginBelowRows, PathsBeginWithRoots, PathsGoOn, PathsAreInsertions}
 use Rattle.hd_keeping.proofs.Leaves.{leaves-take, children-next}
 use Rattle.hd_keeping.proofs.Rooms.{growth-kept}
-use Rattle.hd_keeping.proofs.Volumes.{agree-index, linked-below, linked-root}
+use Rattle.hd_keeping.proofs.Volumes.{agree-index, linked-below, linked-new, linked-root}
 use Rattle.hd_keeping.proofs.VolumeImages.{have-room, follow}
 
 -- ---- a list with some put in
@@ -114,9 +115,9 @@ begin-roots d v w x f y n more p H may P I E room =
     let leaf = leaves-take d.types (links_of d.types v) (links_of d.types x) 0 y p records in
     let typed : is_child_type d.types ((links_of d.types v).code 0) p.segment.code ≡ true = (may p.address I.free).typed in
     let root : has_root (p.segment ∷ []) ≡ true = or_left (p.segment.code == 1) false (eq-eqb p.segment.code 1 (header-child d.types v p.segment.code typed)) in
-    let growth : (images_of d).index_growth v.image ≡ index_growth w
+    let growth : (images_of d).index_growth v.image ≡ entry_growth w
     = (have-room d v H.volume).1 ∙ sym (growth-kept d v w f 0 y p.address p.segment H I) in
-    let needed : blocks_for (images_of d) v.image (p.segment ∷ []) ≡ 1 + index_growth w
+    let needed : blocks_for (images_of d) v.image (p.segment ∷ []) ≡ 1 + entry_growth w
     = ap₂ (λ (b : Bool) (g : ℕ). 1 + cond b g 0) root growth in
     record {
       held = H;
@@ -127,7 +128,7 @@ begin-roots d v w x f y n more p H may P I E room =
       childless = leaf.0;
       takes = leaf.1;
       largest = ap (λ (z : Header). z.largest) E.change.header ∙ ap (λ (z : Header). z.largest) I.rest.header;
-      spares = (let less : spare v ≤ spare w + 1 = I.spares in omega (arith, less, room, needed, needed-most (root_key_length d.types) w (key_of d.types p.segment)));
+      spares = (let less : spare v ≤ spare w + 1 = I.spares in omega (arith, less, room, needed, needed-most (root_key_length d.types) w (key_of d.types p.segment) (linked-new d v w f y p.address p.segment H may I).0.index));
     }
 
 -- ---- one row more

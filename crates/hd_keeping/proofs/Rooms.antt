@@ -1,5 +1,5 @@
 -- Room and memory for the rows that one call puts in.
-use Rattle.std.proofs.Common.{refl, ◌≡◌, ℕ, ◌+◌, ◌-◌, ◌≤◌, List, ◌∷◌, sym, ◌∙◌, arith, inl, inr}
+use Rattle.std.proofs.Common.{◌≡◌, ◌≢◌, ℕ, ◌+◌, ◌-◌, ◌≤◌, List, ◌∷◌, sym, ap, subst, ◌∙◌, arith, inl, inr}
 use Rattle.std.specs.Prelude.{map}
 use Rattle.std.proofs.lemmas.Bool.{cases_eq}
 use Rattle.std.proofs.lemmas.List.Sums.{sum_by-cons}
@@ -9,11 +9,13 @@ use Rattle.hd_dbd.specs.Segment.{Segment}
 use Rattle.hd_dbd.specs.Prefixes.{stored_size}
 use Rattle.hd_dbd.specs.Forest.{Forest}
 use Rattle.hd_calls.specs.Runs.{stored_sizes}
+use Rattle.hd_volume.specs.Headers.{Header, header_of}
 use Rattle.hd_volume.specs.Volumes.{VolumeState}
 use Rattle.hd_volume.specs.Rooms.{spare, HasHole}
 use Rattle.hd_volume.specs.Entries.{Entry}
-use Rattle.hd_volume.specs.Indexes.{root_key_length, index_growth}
-use Rattle.hd_volume.proofs.IndexLemmas.{index-stays}
+use Rattle.hd_volume.specs.Indexes.{root_key_length}
+use Rattle.hd_levels.specs.Needs.{entry_growth, IsHighest}
+use Rattle.hd_levels.proofs.StayingSets.{indexes-stay}
 use Rattle.hd_volume.proofs.JoinLemmas.{AreOne, one-spare, one-holes}
 use Rattle.hd_links.specs.Placed.{Placed}
 use Rattle.hd_image.specs.Holding.{HoldsPlaced}
@@ -22,11 +24,6 @@ use Rattle.hd_forest.specs.Updates.{IsLinked}
 use Rattle.hd_index.proofs.NeedLemmas.{needed-same, needed-stays}
 use Rattle.hd_keeping.specs.Entered.{IsEntered}
 use Rattle.hd_keeping.specs.Rooms.{HasRoomFor, HasMemoryFor, FirstRowsFindRoom, RoomLasts, blocks_for_entry, HasRootRoomFor, HasRootMemoryFor, FirstRootsFindRoom, RootEntriesFindRoom, RootRoomLasts, HaveOneImage, OneImageIsOneVolume}
-
--- an index may need one block for an entry more, in every volume
-pub growth-same : (v w : VolumeState) → index_growth v ≡ index_growth w
-unfolding index_growth
-growth-same v w = refl
 
 -- what rows take is what the first takes, and the rest
 sizes-more : (types : List SegmentType) (row : Segment) (rest : List Segment) → stored_sizes types (row ∷ rest) ≡ stored_size types row.code + stored_sizes types rest
@@ -86,7 +83,7 @@ room-lasts d v w h y a row rest I = (
 
 pub first-roots : FirstRootsFindRoom
 first-roots d v key row rest = (
-  λ room none. elim room [
+  λ room none. elim room.1 [
     | inl enough ↦ (let no_spare : spare v ≡ 0 = none.0 in omega arith)
     | inr hole ↦ none.1 (hole-first d.types v row rest hole.0)
   ],
@@ -94,34 +91,44 @@ first-roots d v key row rest = (
 )
 
 -- a link leaves what the index may need
-pub growth-kept : (d : Database) (v w : VolumeState) (f : Forest Placed) (h y a : ℕ) (row : Segment) → HoldsPlaced d v f → IsLinked d v h y row a w → index_growth w ≡ index_growth v
+pub growth-kept : (d : Database) (v w : VolumeState) (f : Forest Placed) (h y a : ℕ) (row : Segment) → HoldsPlaced d v f → IsLinked d v h y row a w → entry_growth w ≡ entry_growth v
 growth-kept d v w f h y a row H I =
-    (index-stays (root_key_length d.types) v w H.index I.volume.formatted (I.volume.size ∙ sym H.volume.size) I.rest.header I.rest.index I.rest.others).2
+    (indexes-stay (root_key_length d.types) v w H.index I.volume.formatted (I.volume.size ∙ sym H.volume.size) I.rest.header I.rest.index I.rest.others).2
 
 -- and what it needs for a key
 pub needed-kept : (d : Database) (v w : VolumeState) (f : Forest Placed) (h y a : ℕ) (row : Segment) (key : List ℕ) → HoldsPlaced d v f → IsLinked d v h y row a w
     → blocks_for_entry d w key ≡ blocks_for_entry d v key
-needed-kept d v w f h y a row key H I = needed-stays (root_key_length d.types) v w key H.index (I.volume.size ∙ sym H.volume.size) I.rest.header I.rest.index
+needed-kept d v w f h y a row key H I = needed-stays (root_key_length d.types) v w key H.index I.volume.formatted (I.volume.size ∙ sym H.volume.size) I.rest.header I.rest.index I.rest.others
 
 module _ (d : Database) (v w : VolumeState) (f : Forest Placed) (key : List ℕ) (y a : ℕ) (row : Segment) (rest : List Segment) (H : HoldsPlaced d v f) (I : IsLinked d v 0 y row a w) where
-  entry-room : HasRootRoomFor d v key (row ∷ rest) → blocks_for_entry d w key ≤ spare w
-  entry-room (inl enough) =
+  -- a link leaves the height
+  highest-kept : IsHighest w → IsHighest v
+  highest-kept high =
+      let version : (header_of w.image).version ≡ (header_of v.image).version = ap (λ (z : Header). z.version) I.rest.header in
+      let height : (header_of w.image).height ≡ (header_of v.image).height = ap (λ (z : Header). z.height) I.rest.header in
+      (λ one. high.0 (version ∙ one), sym height ∙ high.1)
+
+  entry-blocks : HasRootRoomFor d v key (row ∷ rest) → blocks_for_entry d w key ≤ spare w
+  entry-blocks (low, inl enough) =
       (let less : spare v ≤ spare w + 1 = I.spares in
       omega (arith, less, enough, needed-kept d v w f 0 y a row key H I))
-  entry-room (inr hole) =
+  entry-blocks (low, inr hole) =
       (let same : spare w ≡ spare v = I.in_hole (hole-first d.types v row rest hole.0) in
       let enough : blocks_for_entry d v key ≤ spare v = hole.1 in
       omega (arith, same, enough, needed-kept d v w f 0 y a row key H I))
 
-  entry-memory : v.room ≤ w.room + 1 → HasRootMemoryFor v (row ∷ rest) → index_growth w ≤ w.room
+  entry-room : HasRootRoomFor d v key (row ∷ rest) → (IsHighest w → ⊥) × (blocks_for_entry d w key ≤ spare w)
+  entry-room room = (λ high. room.0 (highest-kept high), entry-blocks room)
+
+  entry-memory : v.room ≤ w.room + 1 → HasRootMemoryFor v (row ∷ rest) → entry_growth w ≤ w.room
   entry-memory kept enough = omega (arith, kept, enough, growth-kept d v w f 0 y a row H I)
 
   module _ (x : VolumeState) (es : List Entry) (more : ℕ) (E : IsEntered d w es more x) where
     rest-room : spare w ≤ spare x + blocks_for_entry d w key → HasRootRoomFor d v key (row ∷ rest) → HasRoomFor d.types x rest
-    rest-room spares (inl enough) = inl (let less : spare v ≤ spare w + 1 = I.spares in omega (arith, spares, enough, less, needed-kept d v w f 0 y a row key H I))
-    rest-room spares (inr hole) = inr (E.change.holes (stored_sizes d.types rest) (hole-left d v w 0 y a row rest I hole.0))
+    rest-room spares (low, inl enough) = inl (let less : spare v ≤ spare w + 1 = I.spares in omega (arith, spares, enough, less, needed-kept d v w f 0 y a row key H I))
+    rest-room spares (low, inr hole) = inr (E.change.holes (stored_sizes d.types rest) (hole-left d v w 0 y a row rest I hole.0))
 
-    rest-memory : v.room ≤ w.room + 1 → w.room ≤ x.room + index_growth w → HasRootMemoryFor v (row ∷ rest) → HasMemoryFor d.types x rest
+    rest-memory : v.room ≤ w.room + 1 → w.room ≤ x.room + entry_growth w → HasRootMemoryFor v (row ∷ rest) → HasMemoryFor d.types x rest
     rest-memory kept left enough = inl (omega (arith, kept, left, enough, growth-kept d v w f 0 y a row H I))
 
 pub entries-room : RootEntriesFindRoom
@@ -140,13 +147,22 @@ module _ (d : Database) (v w : VolumeState) (S : HaveOneImage v w) where
   room-same rows (inl enough) = inl (omega (arith, enough, one-spare one))
   room-same rows (inr hole) = inr (one-holes one (stored_sizes d.types rows) hole)
 
+  highest-same : IsHighest w → IsHighest v
+  highest-same high = subst (λ (image : List ℕ). ((header_of image).version ≢ 1) × ((header_of image).height ≡ 64)) S.image high
+
   root-room-same : (key : List ℕ) (rows : List Segment) → HasRootRoomFor d v key rows → HasRootRoomFor d w key rows
-  root-room-same key rows (inl enough) = inl (omega (arith, enough, one-spare one, needed-same (root_key_length d.types) v w key S.size S.image))
-  root-room-same key rows (inr hole) = inr (
-    one-holes one (stored_sizes d.types rows) hole.0,
-    (let enough : blocks_for_entry d v key ≤ spare v = hole.1 in
-        let needed : blocks_for_entry d w key ≡ blocks_for_entry d v key = needed-same (root_key_length d.types) v w key S.size S.image in
-        omega (arith, enough, needed, one-spare one)),
+  root-room-same key rows (low, inl enough) = (
+    λ high. low (highest-same high),
+    inl (omega (arith, enough, one-spare one, needed-same (root_key_length d.types) v w key S.size S.image)),
+  )
+  root-room-same key rows (low, inr hole) = (
+    λ high. low (highest-same high),
+    inr (
+      one-holes one (stored_sizes d.types rows) hole.0,
+      (let enough : blocks_for_entry d v key ≤ spare v = hole.1 in
+          let needed : blocks_for_entry d w key ≡ blocks_for_entry d v key = needed-same (root_key_length d.types) v w key S.size S.image in
+          omega (arith, enough, needed, one-spare one)),
+    ),
   )
 
 pub one-volume : OneImageIsOneVolume

@@ -6,7 +6,7 @@ use Rattle.hd_dbd.specs.Forest.{Forest}
 use Rattle.hd_calls.specs.Runs.{has_root, stored_sizes, blocks_for, AddressesFollow}
 use Rattle.hd_volume.specs.Volumes.{VolumeState}
 use Rattle.hd_volume.specs.Rooms.{spare}
-use Rattle.hd_volume.specs.Indexes.{index_growth}
+use Rattle.hd_levels.specs.Needs.{entry_growth, IsHighest}
 use Rattle.hd_volume.proofs.JoinLemmas.{AreOne, one-spare, one-holes, hole-after}
 use Rattle.hd_links.specs.Placed.{Placed}
 use Rattle.hd_links.specs.Steps.{rows_of, addresses}
@@ -15,7 +15,7 @@ use Rattle.hd_links.proofs.Unique.{unique}
 use Rattle.hd_image.specs.Records.{links_of, IsVolumeOf}
 use Rattle.hd_image.specs.Holding.{HoldsPlaced, volume_of}
 use Rattle.hd_image.proofs.OneImage.{held-same}
-use Rattle.hd_keeping.proofs.Rooms.{growth-same}
+use Rattle.hd_index.proofs.NeedLemmas.{growth-same}
 use Rattle.hd_keeping.specs.VolumeImages.{HoldsRowsAt, images_of, VolumesHoldTheirRows, VolumesHaveTheirRoom, LackingRoomIsTheRule, VolumesFollow}
 
 -- the volume of a volume's bytes is the volume, but for what the store counts
@@ -50,23 +50,29 @@ hold-rows d v f H = (
 pub have-room : VolumesHaveTheirRoom
 have-room d v V =
     let o : AreOne v (volume_of d v.image) = of-bytes d v V in
-    (one-spare o, growth-same (volume_of d v.image) v, λ n. (hole-after o n, one-holes o n))
+    (one-spare o, growth-same v (volume_of d v.image) refl, (λ h. h, λ h. h), λ n. (hole-after o n, one-holes o n))
 
 -- the blocks that rows may need are those that they may need in the volume
-blocks-same : (d : Database) (v : VolumeState) (rows : List Segment) → blocks_for (images_of d) v.image rows ≡ length rows + cond (has_root rows) (index_growth v) 0
-blocks-same d v rows = ap (λ (n : ℕ). length rows + cond (has_root rows) n 0) (growth-same (volume_of d v.image) v)
+blocks-same : (d : Database) (v : VolumeState) (rows : List Segment) → blocks_for (images_of d) v.image rows ≡ length rows + cond (has_root rows) (entry_growth v) 0
+blocks-same d v rows = ap (λ (n : ℕ). length rows + cond (has_root rows) n 0) (growth-same v (volume_of d v.image) refl)
 
 pub lacking-room : LackingRoomIsTheRule
 lacking-room d v rows V =
     let o : AreOne v (volume_of d v.image) = of-bytes d v V in
     let spares : spare (volume_of d v.image) ≡ spare v = one-spare o in
-    let blocks : blocks_for (images_of d) v.image rows ≡ length rows + cond (has_root rows) (index_growth v) 0 = blocks-same d v rows in (
+    let blocks : blocks_for (images_of d) v.image rows ≡ length rows + cond (has_root rows) (entry_growth v) 0 = blocks-same d v rows in (
       λ L. (
-        (let few : spare (volume_of d v.image) < blocks_for (images_of d) v.image rows = L.spares in omega (arith, few, spares, blocks)),
+        elim L.blocks [
+          | inl lacks ↦ inl (let few : spare (volume_of d v.image) < blocks_for (images_of d) v.image rows = lacks in omega (arith, few, spares, blocks))
+          | inr high ↦ inr high
+        ],
         elim L.holes [ inl root ↦ inl root | inr none ↦ inr (λ hole. none (one-holes o (stored_sizes d.types rows) hole)) ],
       ),
       λ L. record {
-        spares = (let few : spare v < length rows + cond (has_root rows) (index_growth v) 0 = L.0 in omega (arith, few, spares, blocks));
+        blocks = elim L.0 [
+          | inl lacks ↦ inl (let few : spare v < length rows + cond (has_root rows) (entry_growth v) 0 = lacks in omega (arith, few, spares, blocks))
+          | inr high ↦ inr high
+        ];
         holes = elim L.1 [ inl root ↦ inl root | inr none ↦ inr (λ hole. none (hole-after o (stored_sizes d.types rows) hole)) ];
       },
     )

@@ -9,7 +9,8 @@ use Rattle.hd_volume.specs.Headers.{Header}
 use Rattle.hd_volume.specs.Volumes.{VolumeState}
 use Rattle.hd_volume.specs.Entries.{Entry}
 use Rattle.hd_volume.specs.Indexes.{root_key_length}
-use Rattle.hd_volume.proofs.IndexLemmas.{index-stays}
+use Rattle.hd_levels.proofs.StayingSets.{indexes-stay}
+use Rattle.hd_levels.proofs.Versions.{formatted-of}
 use Rattle.hd_links.specs.Links.{Links, IsLinkGraph, IsSegment, is_child_type, segment_at}
 use Rattle.hd_links.specs.Placed.{Placed, nowhere, Holds}
 use Rattle.hd_links.specs.Changes.{Agree, put_first, put_behind, take_out, with_leaf, without_span, with_bytes, CanUnlink}
@@ -51,7 +52,7 @@ held-entered d v f = (entered d v f, λ H. held d v f (root_entries d.types f) H
 rest-stays : (d : Database) (v w : VolumeState) (f g : Forest Placed) (es : List Entry) → HoldsWith d v f es → IsVolumeOf d w → KeepsTheRest v w → Holds d.types (links_of d.types w) g
     → HoldsWith d w g es
 rest-stays d v w f g es H V R records =
-    let kept = index-stays (root_key_length d.types) v w H.index V.formatted (V.size ∙ sym H.volume.size) R.header R.index R.others in
+    let kept = indexes-stay (root_key_length d.types) v w H.index V.formatted (V.size ∙ sym H.volume.size) R.header R.index R.others in
     record {
       volume = V;
       name = ap (λ (x : Header). x.name) R.header ∙ H.name;
@@ -89,7 +90,7 @@ agree-index d v w more C = records-stay d.types v w C.segments (ap (λ (z : Head
 
 pub index-changes : IndexChangesKeepTheForest
 index-changes d v w f before after more H E = record {
-  volume = record { fit = H.volume.fit; formatted = E.index.index.formatted; size = E.index.size; sizes = E.sizes ∙ H.volume.sizes };
+  volume = record { fit = H.volume.fit; formatted = formatted-of (root_key_length d.types) w E.index.index; size = E.index.size; sizes = E.sizes ∙ H.volume.sizes };
   name = ap (λ (z : Header). z.name) E.change.header ∙ H.name;
   block_size = ap (λ (z : Header). z.block_size) E.change.header ∙ H.block_size;
   records = held-agree d.types _ (links_of d.types v) (links_of d.types w) f (records-link d v H.volume.fit H.volume) (agree-index d v w more E.change) H.records;

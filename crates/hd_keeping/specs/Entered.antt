@@ -7,7 +7,8 @@ use Rattle.hd_dbd.specs.Forest.{Forest}
 use Rattle.hd_volume.specs.Headers.{header_of}
 use Rattle.hd_volume.specs.Volumes.{VolumeState, HasKinds}
 use Rattle.hd_volume.specs.Entries.{Entry}
-use Rattle.hd_volume.specs.Indexes.{root_key_length, HasIndex}
+use Rattle.hd_volume.specs.Indexes.{root_key_length}
+use Rattle.hd_levels.specs.IndexSets.{HasIndexOf}
 use Rattle.hd_links.specs.Placed.{Placed, Holds}
 use Rattle.hd_image.specs.Records.{links_of, IsVolumeOf}
 use Rattle.hd_index.specs.Changes.{IsIndexOf, entries_for, IsIndexChange}
@@ -23,7 +24,7 @@ pub record HoldsWith (d : Database) (v : VolumeState) (placed : Forest Placed) (
   pub name : (header_of v.image).name ≡ d.name
   pub block_size : (header_of v.image).block_size ≡ d.block_size
   pub records : Holds d.types (links_of d.types v) placed
-  pub index : HasIndex (root_key_length d.types) v
+  pub index : HasIndexOf (root_key_length d.types) v
   pub entries : entries_for d v ≡ es
   pub kinds : HasKinds v
 

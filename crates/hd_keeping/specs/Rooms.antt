@@ -9,7 +9,8 @@ use Rattle.hd_calls.specs.Runs.{stored_sizes}
 use Rattle.hd_volume.specs.Volumes.{VolumeState}
 use Rattle.hd_volume.specs.Rooms.{spare, HasHole}
 use Rattle.hd_volume.specs.Entries.{Entry}
-use Rattle.hd_volume.specs.Indexes.{root_key_length, index_growth}
+use Rattle.hd_volume.specs.Indexes.{root_key_length}
+use Rattle.hd_levels.specs.Needs.{entry_growth, IsHighest}
 use Rattle.hd_links.specs.Placed.{Placed}
 use Rattle.hd_image.specs.Holding.{HoldsPlaced}
 use Rattle.hd_forest.specs.Updates.{IsLinked}
@@ -55,15 +56,16 @@ RoomLasts =
 abbrev pub blocks_for_entry : Database → VolumeState → List ℕ → ℕ
 blocks_for_entry d v key = blocks_needed (root_key_length d.types) v key
 
--- There is room for a root of the key, the rows below it, and the root's entry: the blocks that the entry needs are to spare, and
--- beside them one for each row, or one hole is as large as all rows together.
+-- There is room for a root of the key, the rows below it, and the root's entry: the index may have a level more, the blocks that the entry
+-- needs are to spare, and beside them one for each row, or one hole is as large as all rows together.
 abbrev pub HasRootRoomFor : Database → VolumeState → List ℕ → List Segment → Type 0
 HasRootRoomFor d v key rows =
-    (length rows + blocks_for_entry d v key ≤ spare v) ⊎ (HasHole v (stored_sizes d.types rows) × (blocks_for_entry d v key ≤ spare v))
+    (IsHighest v → ⊥)
+    × ((length rows + blocks_for_entry d v key ≤ spare v) ⊎ (HasHole v (stored_sizes d.types rows) × (blocks_for_entry d v key ≤ spare v)))
 
 -- Memory is reserved for a root, the rows below it, and the root's entry: for as many blocks as all may need.
 abbrev pub HasRootMemoryFor : VolumeState → List Segment → Type 0
-HasRootMemoryFor v rows = length rows + index_growth v ≤ v.room
+HasRootMemoryFor v rows = length rows + entry_growth v ≤ v.room
 
 -- Where there is room and memory for a root and rows below it, the root finds both.
 abbrev pub FirstRootsFindRoom : Type 0
@@ -76,8 +78,8 @@ abbrev pub RootEntriesFindRoom : Type 0
 RootEntriesFindRoom =
     (d : Database) (v w : VolumeState) (f : Forest Placed) (key : List ℕ) (y a : ℕ) (row : Segment) (rest : List Segment)
     → HoldsPlaced d v f → IsLinked d v 0 y row a w
-    → (HasRootRoomFor d v key (row ∷ rest) → blocks_for_entry d w key ≤ spare w)
-    × (v.room ≤ w.room + 1 → HasRootMemoryFor v (row ∷ rest) → index_growth w ≤ w.room)
+    → (HasRootRoomFor d v key (row ∷ rest) → (IsHighest w → ⊥) × (blocks_for_entry d w key ≤ spare w))
+    × (v.room ≤ w.room + 1 → HasRootMemoryFor v (row ∷ rest) → entry_growth w ≤ w.room)
 
 -- Once the root is linked and its entry is in the index, there is room and memory for the rows below.
 abbrev pub RootRoomLasts : Type 0
@@ -85,7 +87,7 @@ RootRoomLasts =
     (d : Database) (v w x : VolumeState) (f : Forest Placed) (es : List Entry) (more : ℕ) (key : List ℕ) (y a : ℕ) (row : Segment) (rest : List Segment)
     → HoldsPlaced d v f → IsLinked d v 0 y row a w → IsEntered d w es more x
     → (spare w ≤ spare x + blocks_for_entry d w key → HasRootRoomFor d v key (row ∷ rest) → HasRoomFor d.types x rest)
-    × (v.room ≤ w.room + 1 → w.room ≤ x.room + index_growth w → HasRootMemoryFor v (row ∷ rest) → HasMemoryFor d.types x rest)
+    × (v.room ≤ w.room + 1 → w.room ≤ x.room + entry_growth w → HasRootMemoryFor v (row ∷ rest) → HasMemoryFor d.types x rest)
 
 -- ---- a call that only looks
 

@@ -8,7 +8,7 @@ use Rattle.hd_calls.specs.Runs.{Images, has_root, stored_sizes, rows_put_in, blo
 use Rattle.hd_volume.specs.Headers.{header_of}
 use Rattle.hd_volume.specs.Volumes.{VolumeState}
 use Rattle.hd_volume.specs.Rooms.{spare, HasHole}
-use Rattle.hd_volume.specs.Indexes.{index_growth}
+use Rattle.hd_levels.specs.Needs.{entry_growth, IsHighest}
 use Rattle.hd_links.specs.Placed.{Placed}
 use Rattle.hd_links.specs.Steps.{rows_of, addresses}
 use Rattle.hd_image.specs.Records.{IsVolumeOf}
@@ -27,7 +27,8 @@ images_of d = record {
   HoldsAt = HoldsRowsAt d;
   largest = λ image. (header_of image).largest;
   spare = λ image. spare (volume_of d image);
-  index_growth = λ image. index_growth (volume_of d image);
+  index_growth = λ image. entry_growth (volume_of d image);
+  IsHighest = λ image. IsHighest (volume_of d image);
   HasHole = λ image. HasHole (volume_of d image);
 }
 
@@ -42,15 +43,15 @@ VolumesHoldTheirRows =
 abbrev pub VolumesHaveTheirRoom : Type 0
 VolumesHaveTheirRoom =
     (d : Database) (v : VolumeState) → IsVolumeOf d v
-    → ((images_of d).spare v.image ≡ spare v) × ((images_of d).index_growth v.image ≡ index_growth v) × ((n : ℕ) → (images_of d).HasHole v.image n ↔ HasHole v n)
+    → ((images_of d).spare v.image ≡ spare v) × ((images_of d).index_growth v.image ≡ entry_growth v) × ((images_of d).IsHighest v.image ↔ IsHighest v) × ((n : ℕ) → (images_of d).HasHole v.image n ↔ HasHole v n)
 
--- An image lacks room for rows just where its volume has fewer blocks to spare than they may need, and either a root is among them
--- or no hole is as large as all of them together.
+-- An image lacks room for rows just where its volume has fewer blocks to spare than they may need, or a root is among them and its index may
+-- have no level more, and either a root is among them or no hole is as large as all of them together.
 abbrev pub LackingRoomIsTheRule : Type 0
 LackingRoomIsTheRule =
     (d : Database) (v : VolumeState) (rows : List Segment) → IsVolumeOf d v
     → LacksRoom (images_of d) d.types v.image rows
-    ↔ ((spare v < length rows + cond (has_root rows) (index_growth v) 0) × ((has_root rows ≡ true) ⊎ (HasHole v (stored_sizes d.types rows) → ⊥)))
+    ↔ (((spare v < length rows + cond (has_root rows) (entry_growth v) 0) ⊎ ((has_root rows ≡ true) × IsHighest v)) × ((has_root rows ≡ true) ⊎ (HasHole v (stored_sizes d.types rows) → ⊥)))
 
 -- A volume's bytes follow from those before by a change of the rows where the largest count stays, no more blocks were taken than the
 -- change may need, and the addresses of the two forests follow.

@@ -22,12 +22,3 @@ pub use law::{
 };
 pub use levels::Levels;
 pub use position::{LastType, Position, row_on};
-
-#[cfg(test)]
-mod plain_list;
-#[cfg(test)]
-mod random_tests;
-#[cfg(test)]
-mod test_volumes;
-#[cfg(test)]
-mod tests;

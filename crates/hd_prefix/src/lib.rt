@@ -5,8 +5,6 @@ mod fields;
 mod law;
 mod layout;
 mod pointer;
-#[cfg(test)]
-mod tests;
 
 pub use fields::{code_of, delete_byte_of};
 pub use law::{

@@ -11,7 +11,7 @@ use Rattle.hd_calls.specs.Places.{end_below}
 use Rattle.hd_calls.proofs.Searches.{least_some, least_no}
 use Rattle.hd_calls.proofs.Spans.{end_is, nearest_past}
 use Rattle.hd_seek.specs.Admits.{admits, is_on_way, AreRowsOf}
-use Rattle.hd_seek.specs.Twins.{next_twin, NextTwinsFollow, TwinsFail, EarlierRootsFail}
+use Rattle.hd_seek.specs.Twins.{next_twin, NextTwinsFollow, TwinsFail, EarlierTwinsFail, EarlierRootsFail}
 use Rattle.hd_seek.proofs.OnPaths.{Spans, spans_parent, way_spans, level_below, level_top, some_level, root_spans}
 use Rattle.hd_seek.proofs.Failing.{unnamed, unnamed_by, spans_fail}
 
@@ -90,6 +90,19 @@ twins_fail types rows ssas i over within way none later j from to =
     let fails : admits types rows ssas K.1.0 ≡ false = elim K.1.2 [
       | inl here ↦ subst (λ x. admits types rows ssas x ≡ false) (sym here) none
       | inr twin ↦ later K.1.0 twin.0 (omega (arith, s.from)) twin.1
+    ] in
+    spans_fail types rows ssas K.1.0 (omega (arith, s.from)) fails j s.from s.to)
+
+pub earlier_twins_fail : EarlierTwinsFail
+earlier_twins_fail types rows ssas i t over within last way twin none later j from to =
+    unnamed_by types rows ssas j (λ e.
+    let high : t < end_below types rows (parent_row types rows i) = twin_within types rows over i within t last twin in
+    let K = twin_spans types rows over i within j from (omega arith) (subst (λ c. is_on_way types c (row_at rows i).code ≡ true) (sym e) way) in
+    let jw : j < length rows = K.0 in
+    let s = K.1.1 in
+    let fails : admits types rows ssas K.1.0 ≡ false = elim K.1.2 [
+      | inl here ↦ subst (λ x. admits types rows ssas x ≡ false) (sym here) none
+      | inr between ↦ later K.1.0 between.0 (omega (arith, s.from)) between.1
     ] in
     spans_fail types rows ssas K.1.0 (omega (arith, s.from)) fails j s.from s.to)
 

@@ -30,6 +30,14 @@ TwinsFail =
     → ((k : ℕ) → i < k → k < length rows → is_twin types rows i k ≡ true → admits types rows ssas k ≡ false)
     → NonePass (is_named types rows ssas) i (end_below types rows (parent_row types rows i))
 
+-- Where neither a row of a type on the way nor a twin between it and a later twin is admitted, no row from it on before that is named.
+abbrev pub EarlierTwinsFail : Type 0
+EarlierTwinsFail =
+    (types : List SegmentType) (rows : List Segment) (ssas : List Ssa) (i t : ℕ) → AreRowsOf types rows → i < length rows → t < length rows
+    → is_on_way types (target_code ssas) (row_at rows i).code ≡ true → is_twin types rows i t ≡ true → admits types rows ssas i ≡ false
+    → ((k : ℕ) → i < k → k < t → is_twin types rows i k ≡ true → admits types rows ssas k ≡ false)
+    → NonePass (is_named types rows ssas) i t
+
 -- Once the key of a row of a type on the way is past what an SSA asks, no row from it on below its parent is named.
 abbrev pub PastKeysFail : Type 0
 PastKeysFail =

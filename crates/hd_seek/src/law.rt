@@ -1,5 +1,5 @@
 ghost use Rattle.hd_seek.specs.Spans.{ResolvedSsasDescend, SatisfyingRowsAreNamed, NamedRowsAreAdmitted, SpansFail, OtherTypesFail, UnreadSpansFail, SpansAreByPath};
-ghost use Rattle.hd_seek.specs.Twins.{NextTwinsFollow, TwinsFail, PastKeysFail, EarlierRootsFail, LastTwinsHaveL};
+ghost use Rattle.hd_seek.specs.Twins.{NextTwinsFollow, TwinsFail, EarlierTwinsFail, PastKeysFail, EarlierRootsFail, LastTwinsHaveL};
 ghost use Rattle.hd_seek.specs.Ways.{WaysDownAreUnique, FirstChildrenFollow, NoLaterTypesFail, LaterTypesFollow};
 ghost use Rattle.hd_seek.specs.Levels.{PathsAreByLevel, TypesAreByLevel, PathRowsAreByLevel};
 ghost use Rattle.hd_seek.specs.Starts.{OnlyTheTopmostLowers, FirstChildrenAreByPath, ParentsComeFirst};
@@ -47,6 +47,11 @@ pub fn law_next_twins_follow()
 /// Where no later twin is admitted either, the rest of the parent's rows fail.
 pub fn law_twins_fail()
     ensures { TwinsFail }
+{}
+
+/// Where neither a row nor a twin before a later one is admitted, the rows before that fail.
+pub fn law_earlier_twins_fail()
+    ensures { EarlierTwinsFail }
 {}
 
 /// Once a row's key is past what is asked of it, the rest of the parent's rows fail.

@@ -6,11 +6,11 @@
 mod law;
 
 pub use law::{
-    law_earlier_roots_fail, law_first_children_are_by_path, law_first_children_follow,
-    law_last_twins_have_l, law_later_types_follow, law_named_rows_are_admitted,
-    law_next_twins_follow, law_only_the_topmost_lowers, law_other_types_fail,
-    law_parents_come_first, law_past_keys_fail, law_path_rows_are_by_level, law_paths_are_by_level,
-    law_resolved_ssas_descend, law_satisfying_rows_are_named, law_spans_are_by_path,
-    law_spans_fail, law_twins_fail, law_types_are_by_level, law_unread_spans_fail,
-    law_ways_down_are_unique,
+    law_earlier_roots_fail, law_earlier_twins_fail, law_first_children_are_by_path,
+    law_first_children_follow, law_last_twins_have_l, law_later_types_follow,
+    law_named_rows_are_admitted, law_next_twins_follow, law_only_the_topmost_lowers,
+    law_other_types_fail, law_parents_come_first, law_past_keys_fail, law_path_rows_are_by_level,
+    law_paths_are_by_level, law_resolved_ssas_descend, law_satisfying_rows_are_named,
+    law_spans_are_by_path, law_spans_fail, law_twins_fail, law_types_are_by_level,
+    law_unread_spans_fail, law_ways_down_are_unique,
 };

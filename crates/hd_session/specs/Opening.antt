@@ -1,5 +1,5 @@
 -- A session over a volume: what it keeps to, and how it is opened, flushed and closed.
-use Rattle.std.specs.Prelude.{◌≡◌, ℕ, ◌<◌, List, [], length, map, IsTrue, Bool, true, false, Some, Result, Ok, Err}
+use Rattle.std.specs.Prelude.{◌≡◌, ◌≢◌, ℕ, ◌<◌, List, [], length, map, IsTrue, Bool, true, false, Some, Result, Ok, Err}
 use Rattle.std.specs.List.{list_any}
 use Rattle.hd_dbd.specs.declared.answer.Refused.{Refused}
 use Rattle.hd_dbd.specs.declared.answer.Refused.TheVariants as refused
@@ -15,6 +15,7 @@ use Rattle.hd_calls.specs.Access.{loads}
 use Rattle.hd_calls.specs.Runs.{view_of}
 use Rattle.hd_calls.specs.Steps.{State, position_at}
 use Rattle.hd_calls.specs.NoLostUpdate.{opened}
+use Rattle.hd_volume.specs.Headers.{header_of}
 use Rattle.hd_volume.specs.Volumes.{VolumeState}
 use Rattle.hd_volume.specs.Calls.{IsRead}
 use Rattle.hd_links.specs.Placed.{Placed, forest_of}
@@ -24,6 +25,7 @@ use Rattle.hd_check.specs.declared.checking.CheckFault.TheVariants as check
 use Rattle.hd_check.specs.Checks.{IsFaultOf}
 use Rattle.hd_position.specs.Kept.{Kept, kept_start}
 use Rattle.hd_update.specs.States.{Represents}
+use Rattle.hd_session.specs.declared.opening.TheConstants.{NEWEST_VERSION}
 use Rattle.hd_session.specs.declared.opening.OpenFault.{OpenFault}
 use Rattle.hd_session.specs.declared.opening.OpenFault.TheVariants as opening
 
@@ -72,8 +74,9 @@ all_at_start pcbs = map (λ _. kept_start) pcbs
 abbrev pub session_at_start : Database → List View → VolumeState → SessionState
 session_at_start d pcbs v = record { database = d; pcbs = pcbs; volume = v; kept = all_at_start pcbs; broken = false }
 
--- The volume holds a forest and no other, whose rows are valid; and where one of the PCBs loads it has none.
+-- The volume is of the newest version, and holds a forest and no other, whose rows are valid; and where one of the PCBs loads it has none.
 pub record IsReadyFor (d : Database) (pcbs : List View) (v : VolumeState) : Type 0 where
+  pub newest : (header_of v.image).version ≡ NEWEST_VERSION
   pub placed : Forest Placed
   pub holds : HoldsPlaced d v placed
   pub one : (g : Forest Segment) → HoldsForest d v g → g ≡ forest_of placed
@@ -85,11 +88,14 @@ pub record IsOpenedOver (d : Database) (pcbs : List View) (v : VolumeState) (s :
   pub ready : IsReadyFor d pcbs v
   pub represents : Represents d s.volume s.kept (opened pcbs (rows_of ready.placed))
 
--- What a fault of an opening says of the volume: a fault of the check is the least that stands in it; and where it is not empty for a load, a
--- PCB loads and it holds a row. Want of memory and a failed access say nothing.
+-- What a fault of an opening says of the volume: a fault of the check is the least that stands in it; where it is old, it holds rows, and this
+-- is its version, which is not the newest; and where it is not empty for a load, it is of the newest version, a PCB loads and it holds a row.
+-- Want of memory and a failed access say nothing.
 abbrev pub IsOpenFaultOf : Database → List View → VolumeState → OpenFault → Type 0
 IsOpenFaultOf d pcbs v (opening.Check fault) = IsFaultOf d v (check.Fault fault)
-IsOpenFaultOf d pcbs v opening.NotEmptyForLoad = (has_loader pcbs ≡ true) × (rows : List Segment) × HoldsRows d v rows × (0 < length rows)
+IsOpenFaultOf d pcbs v (opening.Old version) = (version ≡ (header_of v.image).version) × (version ≢ NEWEST_VERSION) × (rows : List Segment) × HoldsRows d v rows
+IsOpenFaultOf d pcbs v opening.NotEmptyForLoad =
+    ((header_of v.image).version ≡ NEWEST_VERSION) × (has_loader pcbs ≡ true) × (rows : List Segment) × HoldsRows d v rows × (0 < length rows)
 IsOpenFaultOf d pcbs v opening.Memory = Unit {0}
 IsOpenFaultOf d pcbs v opening.Device = Unit {0}
 
@@ -97,6 +103,7 @@ IsOpenFaultOf d pcbs v opening.Device = Unit {0}
 abbrev pub opening_call : {T : Type 0} → Result T OpenFault → Result T Refused
 opening_call (Ok x) = Ok x
 opening_call (Err (opening.Check fault)) = Err refused.Memory
+opening_call (Err (opening.Old version)) = Err refused.Memory
 opening_call (Err opening.NotEmptyForLoad) = Err refused.Memory
 opening_call (Err opening.Memory) = Err refused.Memory
 opening_call (Err opening.Device) = Err refused.Device

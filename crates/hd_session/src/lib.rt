@@ -19,10 +19,3 @@ pub use law::{law_no_lost_update, law_sessions_answer_their_logs};
 pub use opening::OpenFault;
 pub use over_volume::Session;
 pub use request::{Answer, Call};
-
-#[cfg(test)]
-mod calling_tests;
-#[cfg(test)]
-mod opening_tests;
-#[cfg(test)]
-mod tests;

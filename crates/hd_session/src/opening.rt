@@ -15,6 +15,8 @@ use std::alloc::{AllocError, Global};
 pub enum OpenFault {
     /// The volume does not pass: it has this fault, and no other comes before it.
     Check(Fault),
+    /// The volume passes, and is of this version, which is not the newest: it is to be unloaded and reloaded.
+    Old(u16),
     /// A PCB loads, and the volume holds a segment.
     NotEmptyForLoad,
     /// No memory.
@@ -22,6 +24,9 @@ pub enum OpenFault {
     /// An access of the store failed.
     Device,
 }
+
+/// The version of new volumes, which a session wants.
+pub const NEWEST_VERSION: u16 = 2;
 
 /// Whether one of the PCBs loads.
 fn has_loader(pcbs: &[Pcb]) -> bool
@@ -41,7 +46,7 @@ pub fn start_positions(alloc: Global, pcbs: &[Pcb]) -> Result<Vec<Position>, All
     Ok(positions)
 }
 
-/// Whether a volume passes a check, and is empty where a PCB loads. It is only read.
+/// Whether a volume passes a check, is of the newest version, and is empty where a PCB loads. It is only read.
 pub fn test_volume<S: BlockStore>(
     alloc: Global,
     volume: &mut Volume<S>,
@@ -55,6 +60,10 @@ pub fn test_volume<S: BlockStore>(
 {
     match check(alloc, volume, dbd) {
         Ok(passed) => {
+            let version = volume.version();
+            if version != NEWEST_VERSION {
+                return Err(OpenFault::Old(version));
+            }
             if passed.segments > 0 && has_loader(pcbs) {
                 return Err(OpenFault::NotEmptyForLoad);
             }

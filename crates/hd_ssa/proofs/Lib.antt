@@ -3,3 +3,4 @@ pub mod Heads
 pub mod Past
 pub mod Bounds
 pub mod Resolving
+pub mod Singles

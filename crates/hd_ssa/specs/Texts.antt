@@ -1,5 +1,5 @@
 -- A qualification judged by its text.
-use Rattle.std.specs.Prelude.{ℕ, List, [], ◌∷◌, Bool, false, ◌&&◌, ◌||◌}
+use Rattle.std.specs.Prelude.{ℕ, List, [], ◌∷◌, Bool, false, ◌&&◌, ◌||◌, Option, Some, None, option_and_then}
 use Rattle.std.specs.List.{list_any, list_all}
 use Rattle.std.specs.Result.{result_unwrap_or}
 use Rattle.hd_dbd.specs.Types.{SegmentType}
@@ -17,3 +17,13 @@ groups_within t n text = result_unwrap_or (read_groups t n text) []
 abbrev pub passes_behind : (Comparison → Bool) → Bool → List (List Comparison) → Bool
 passes_behind test so_far [] = false
 passes_behind test so_far (group ∷ groups) = so_far && list_all test group || list_any (λ g. list_all test g) groups
+
+-- the only element of a list
+abbrev pub only_of : {X : Type 0} → List X → Option X
+only_of [] = None
+only_of (x ∷ []) = Some x
+only_of (x ∷ y ∷ xs) = None
+
+-- the comparison of groups that are one group of one comparison
+abbrev pub single_of : List (List Comparison) → Option Comparison
+single_of groups = option_and_then (λ group. only_of group) (only_of groups)

@@ -12,10 +12,3 @@ mod resolution;
 pub use fault::SsaFault;
 pub use head::Ssa;
 pub use resolution::{Resolved, ResolvedSsa, loads, resolve};
-
-#[cfg(test)]
-mod making;
-#[cfg(test)]
-mod plain;
-#[cfg(test)]
-mod tests;

@@ -3,32 +3,36 @@ ghost use Rattle.std.specs.List.{list_any, list_all};
 ghost use Rattle.hd_calls.specs.Ssas.{read_qualification};
 ghost use Rattle.hd_calls.specs.Satisfies.{is_true_of};
 ghost use Rattle.hd_seek.specs.Keys.{are_groups_past};
-ghost use Rattle.hd_ssa.specs.Texts.{groups_in};
+ghost use Rattle.hd_ssa.specs.Texts.{groups_in, single_of};
 ghost use Rattle.hd_ssa.specs.Questions.{passes};
 ghost use Rattle.hd_ssa.specs.LeastKeys.{bound_of, greater_of, lesser_of, least_bound};
 
-use crate::comparison::ComparisonRead;
+use crate::comparison::{Comparison, ComparisonRead};
 use crate::question::Question;
 use hd_dbd::{Key, SegType, Status};
 use std::marker::Model;
 
-/// A qualification, by its text in the call and the type of which it speaks. It takes no memory: whoever asks reads the text again.
+/// A qualification, by its text in the call and the type of which it speaks, and its comparison, where it has but one. It takes no
+/// memory: of several comparisons, whoever asks reads the text again.
 #[derive(Debug, Drop)]
 pub struct Qualification<'a> {
     segment: &'a SegType,
     text: &'a [u8],
+    single: Option<Comparison<'a>>,
 }
 
 impl<'a> Model for Qualification<'a> {
     ghost use Rattle.std.specs.Prelude.{List, ◌≡◌, Ok};
     ghost use Rattle.hd_calls.specs.Ssas.{Comparison, read_qualification};
-    ghost use Rattle.hd_ssa.specs.Texts.{groups_in};
+    ghost use Rattle.hd_ssa.specs.Texts.{groups_in, single_of};
 
     ghost Value = { List (List Comparison) };
 
     ghost view = { λ q. groups_in q.segment.now q.text.now };
 
-    ghost invariant = { λ q. read_qualification q.segment.now q.text.now ≡ Ok (groups_in q.segment.now q.text.now) };
+    ghost invariant = { λ q.
+        (read_qualification q.segment.now q.text.now ≡ Ok (groups_in q.segment.now q.text.now))
+        × (q.single ≡ single_of (groups_in q.segment.now q.text.now)) };
 }
 
 impl<'a> Qualification<'a> {
@@ -37,28 +41,57 @@ impl<'a> Qualification<'a> {
         ensures { result ≡ read_qualification segment.now text.now }
     {
         check_comparisons(segment, text)?;
-        Ok(Qualification { segment, text })
+        let single = single_in(segment, text);
+        Ok(Qualification {
+            segment,
+            text,
+            single,
+        })
     }
 
     /// Whether all comparisons of one of the groups are true of a segment's bytes.
     pub fn holds(&self, bytes: &[u8]) -> bool
         ensures { result ≡ list_any (λ group. list_all (λ c. is_true_of bytes.now c) group) self.now }
     {
-        some_group_passes(self.segment, self.text, Question::IsTrue(bytes))
+        match &self.single {
+            Some(comparison) => comparison.is_true_of(bytes),
+            None => some_group_passes(self.segment, self.text, Question::IsTrue(bytes)),
+        }
     }
 
     /// Whether the key in a segment's bytes is past a comparison of each group.
     pub fn is_past(&self, key: Key, bytes: &[u8]) -> bool
         ensures { result ≡ are_groups_past key bytes.now self.now }
     {
-        !some_group_passes(self.segment, self.text, Question::IsNotPast(key, bytes))
+        match &self.single {
+            Some(comparison) => comparison.is_past(key, bytes),
+            None => !some_group_passes(self.segment, self.text, Question::IsNotPast(key, bytes)),
+        }
     }
 
     /// The least of the groups' greatest bounds of the key.
     pub fn least_bound(&self, key: Key) -> Option<&'a [u8]>
         ensures { option_copied result ≡ least_bound key None self.now }
     {
-        least_bound(self.segment, self.text, key)
+        match &self.single {
+            Some(comparison) => comparison.bound_of(key),
+            None => least_bound(self.segment, self.text, key),
+        }
+    }
+}
+
+/// The comparison of a qualification, where it has but one.
+fn single_in<'a>(segment: &SegType, text: &'a [u8]) -> Option<Comparison<'a>>
+    requires { read_qualification segment.now text.now ≡ Ok (groups_in segment.now text.now) }
+    ensures { result ≡ single_of (groups_in segment.now text.now) }
+{
+    let Ok(read) = ComparisonRead::read(segment, text) else {
+        return None;
+    };
+    if read.closes() {
+        Some(read.comparison)
+    } else {
+        None
     }
 }
 

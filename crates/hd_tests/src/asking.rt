@@ -6,7 +6,7 @@ use hd_dbd::{Dbd, Field};
 use std::alloc::{AllocError, Global};
 
 /// All spellings of the operators.
-const OPERATORS: [&[u8; 2]; 16] = [
+const OPERATORS: &[&[u8; 2]] = &[
     b"EQ", b"= ", b" =", b"GE", b">=", b"=>", b"LE", b"<=", b"=<", b"GT", b"> ", b" >", b"LT",
     b"< ", b" <", b"NE",
 ];
@@ -30,7 +30,7 @@ fn add_comparison(
     let operator = if random.percent(65) {
         b"EQ"
     } else {
-        random.pick(&OPERATORS).unwrap_or(b"EQ")
+        random.pick(OPERATORS).unwrap_or(b"EQ")
     };
     ssa.extend_from_slice(operator)?;
     let value = field_in(bytes, field);

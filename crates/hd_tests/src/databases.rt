@@ -4,7 +4,7 @@ use crate::random::Random;
 use hd_dbd::{Dbd, DbdFault, Field, FreeSpace, Key, Name8, Rule, SegType};
 use std::alloc::{AllocError, Global};
 
-const TYPE_NAMES: [[u8; 8]; 8] = [
+const TYPE_NAMES: &[[u8; 8]] = &[
     *b"R       ",
     *b"CHILD   ",
     *b"B2      ",
@@ -15,7 +15,7 @@ const TYPE_NAMES: [[u8; 8]; 8] = [
     *b"LEAF999 ",
 ];
 
-const FIELD_NAMES: [[u8; 8]; 3] = [*b"KEY     ", *b"F       ", *b"FIELD#2 "];
+const FIELD_NAMES: &[[u8; 8]] = &[*b"KEY     ", *b"F       ", *b"FIELD#2 "];
 
 /// The levels that types may have.
 const LEVELS: u8 = 5;

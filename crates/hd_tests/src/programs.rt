@@ -6,7 +6,7 @@ use hd_dbd::{Dbd, Pcb, Psb, Sens};
 use std::alloc::{AllocError, Global};
 
 /// Letters of PROCOPT, those that give most oftener than others.
-const LETTERS: [&str; 14] = [
+const LETTERS: &[&str] = &[
     "A", "AP", "AP", "A", "GIP", "GRP", "GD", "GIRD", "G", "GP", "I", "RP", "DP", "IRDP",
 ];
 
@@ -14,7 +14,7 @@ fn random_letters(alloc: Global, random: &mut Random) -> Result<String, AllocErr
     let letters = if random.percent(60) {
         "AP"
     } else {
-        random.pick(&LETTERS).unwrap_or("A")
+        random.pick(LETTERS).unwrap_or("A")
     };
     String::from_str(alloc, letters)
 }

@@ -41,6 +41,15 @@ legal-largest d rows (l ∷ ls) last legal = legal-largest d (rows ++ l.row ∷ 
 pub load-largest : (d : Database) (largest : ℕ) (rows : List Segment) (v : VolumeState) → IsLoad d largest rows v → (header_of v.image).largest ≡ largest
 load-largest d largest rows v load = legal-largest d [] load.loadings v load.legal ∙ ap (λ (h : Header). h.largest) load.new.header
 
+-- and its version
+legal-version : (d : Database) (rows : List Segment) (loadings : List (Loading VolumeState)) (last : VolumeState) → IsLegalLoad (HoldsRows d) (IsLoadStep d) d.types rows loadings last
+    → (header_of last.image).version ≡ (header_of (image_before loadings last).image).version
+legal-version d rows [] last legal = refl
+legal-version d rows (l ∷ ls) last legal = legal-version d (rows ++ l.row ∷ []) ls last legal.4 ∙ legal.3.version
+
+load-version : (d : Database) (largest : ℕ) (rows : List Segment) (v : VolumeState) → IsLoad d largest rows v → (header_of v.image).version ≡ 2
+load-version d largest rows v load = legal-version d [] load.loadings v load.legal ∙ ap (λ (h : Header). h.version) load.new.header
+
 -- ---- the store
 
 -- the bytes of a volume that was loaded whole
@@ -54,7 +63,7 @@ reloaded d stream largest segments count blocks v contents all sound size sizes 
       rows = all.rows;
       stream_of = all.stream_of;
       holds = (held.0, held.1, held-same d v (volume_of d contents) is (sym size) (sym sizes) held.0 held.2);
-      version = ap (λ (im : List ℕ). (header_of im).version) is ∙ held.2.index.version;
+      version = ap (λ (im : List ℕ). (header_of im).version) is ∙ load-version d largest all.rows v load;
       largest_is = ap (λ (im : List ℕ). (header_of im).largest) is ∙ load-largest d largest all.rows v load;
       segments_are = segments-are ∙ all.counted;
       blocks_are = counted ∙ sym (ap (λ (im : List ℕ). (header_of im).count) is);

@@ -108,6 +108,7 @@ module _ (d : Database) (v w : VolumeState) (f : Forest Placed) (h y a : ℕ) (r
   -- and no more blocks were taken than the row may need
   pub linked-step : IsLoadStep d v row w
   linked-step = record {
+    version = ap (λ (x : Header). x.version) I.rest.header;
     largest = ap (λ (x : Header). x.largest) I.rest.header;
     stays = segments-kept;
     room = (let less : spare v ≤ spare w + 1 = I.spares in omega arith);

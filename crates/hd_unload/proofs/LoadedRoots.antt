@@ -1,5 +1,5 @@
 -- A root that is linked behind the last row of a volume, and entered into its index.
-use Rattle.std.proofs.Common.{◌≡◌, ℕ, ◌+◌, ◌-◌, ◌<◌, ◌≤◌, List, [], ◌∷◌, ◌++◌, take, true, false, IsTrue, Option, None, refl, sym, ap, subst, ◌∙◌, arith, inl}
+use Rattle.std.proofs.Common.{◌≡◌, ◌⊎◌, inr, ℕ, ◌+◌, ◌-◌, ◌<◌, ◌≤◌, List, [], ◌∷◌, ◌++◌, take, true, false, IsTrue, Option, None, refl, sym, ap, subst, ◌∙◌, arith, inl}
 use Rattle.std.specs.Prelude.{slice_get}
 use Rattle.std.specs.Option.{option_map_or}
 use Rattle.hd_dbd.specs.declared.hierarchy.FreeSpace.{FreeSpace}
@@ -15,7 +15,8 @@ use Rattle.hd_volume.specs.Headers.{Header}
 use Rattle.hd_volume.specs.Volumes.{VolumeState}
 use Rattle.hd_volume.specs.Rooms.{spare, HasHole}
 use Rattle.hd_volume.specs.Entries.{Entry}
-use Rattle.hd_volume.specs.Indexes.{root_key_length, index_growth}
+use Rattle.hd_volume.specs.Indexes.{root_key_length}
+use Rattle.hd_levels.specs.Needs.{entry_growth, IsHighest}
 use Rattle.hd_links.specs.Placed.{Placed}
 use Rattle.hd_links.specs.Changes.{with_leaf}
 use Rattle.hd_links.specs.LastRows.{last_on, segments_of, parent_on_path, twin_on_path, IsLoadedLast}
@@ -48,28 +49,30 @@ pub may-link-root : (d : Database) (v : VolumeState) (bytes : List ℕ) (y : ℕ
 may-link-root d v bytes y fits L =
     may-link d v (record { code = 1; bytes = bytes }) 0 y fits (L.0, L.1, L.2, L.3, root-place d.block_size d.frspc d.types bytes L.1 L.2.holds.volume.fit, L.4)
 
--- there is no room for it where fewer blocks are to spare than it and the index may need
-pub lacks-beside : (d : Database) (v : VolumeState) (bytes : List ℕ) → spare v < 1 + index_growth v → LacksRoom d v (record { code = 1; bytes = bytes })
-lacks-beside d v bytes lacks = record { spares = lacks; holes = inl refl }
+-- there is no room for it where fewer blocks are to spare than it and the index may need, or the index may have no level more
+pub lacks-beside : (d : Database) (v : VolumeState) (bytes : List ℕ) → (spare v < 1 + entry_growth v) ⊎ IsHighest v → LacksRoom d v (record { code = 1; bytes = bytes })
+lacks-beside d v bytes (inl lacks) = record { blocks = inl lacks; holes = inl refl }
+lacks-beside d v bytes (inr high) = record { blocks = inr (refl, high); holes = inl refl }
 
 -- a volume in which it was linked behind the last root, and then one in which it was entered into the index
 module _ (d : Database) (v w x : VolumeState) (f : Forest Placed) (y a : ℕ) (bytes : List ℕ) (H : HoldsPlaced d v f)
     (E : IsLoadedLast d.types (links_of d.types v) f 0 y (record { address = a; segment = record { code = 1; bytes = bytes } }))
     (I : IsLinked d v 0 y (record { code = 1; bytes = bytes }) a w) (es : List Entry) (more : ℕ)
-    (X : IsEntered d w es more x) (spares : spare w ≤ spare x + more) (few : more ≤ index_growth w) where
+    (X : IsEntered d w es more x) (spares : spare w ≤ spare x + more) (few : more ≤ entry_growth w) where
   abbrev root : Segment
   root = record { code = 1; bytes = bytes }
 
   -- all segments stay, and no more blocks were taken than it may need
   pub root-step : IsLoadStep d v root x
   root-step = record {
+    version = ap (λ (z : Header). z.version) X.change.header ∙ ap (λ (z : Header). z.version) I.rest.header;
     largest = ap (λ (z : Header). z.largest) X.change.header ∙ ap (λ (z : Header). z.largest) I.rest.header;
     stays = λ b s.
         let first = segments-kept d v w f 0 y a root H E I b s in
         let then = stays-agree d.types (links_of d.types w) (links_of d.types x) (agree-index d w x more X.change) b first.0 in (then.0, then.1 ∙ first.1);
     room =
         (let linked : spare v ≤ spare w + 1 = I.spares in
-        let growth : index_growth w ≡ index_growth v = growth-kept d v w f 0 y a root H I in
+        let growth : entry_growth w ≡ entry_growth v = growth-kept d v w f 0 y a root H I in
         omega arith);
   }
 
@@ -94,15 +97,16 @@ room-links d v key room none no-hole = (first-roots d v key (row_of 1 []) []).0 
 
 -- and once the root is linked there is room in the index
 pub room-enters : (d : Database) (v w : VolumeState) (y a : ℕ) (bytes key : List ℕ) → CanLoadRoot d v y (record { code = 1; bytes = bytes }) → HasRootRoom d v key
-    → IsLinked d v 0 y (record { code = 1; bytes = bytes }) a w → spare w < blocks_needed (root_key_length d.types) w key → ⊥
-room-enters d v w y a bytes key L room I few =
-    (let enough : blocks_needed (root_key_length d.types) w key ≤ spare w = (entries-room d v w L.2.placed key y a (row_of 1 bytes) [] L.2.holds I).0 room in omega arith)
+    → IsLinked d v 0 y (record { code = 1; bytes = bytes }) a w → (spare w < blocks_needed (root_key_length d.types) w key) ⊎ IsHighest w → ⊥
+room-enters d v w y a bytes key L room I (inl few) =
+    (let enough : blocks_needed (root_key_length d.types) w key ≤ spare w = ((entries-room d v w L.2.placed key y a (row_of 1 bytes) [] L.2.holds I).0 room).1 in omega arith)
+room-enters d v w y a bytes key L room I (inr high) = ((entries-room d v w L.2.placed key y a (row_of 1 bytes) [] L.2.holds I).0 room).0 high
 
 -- it is loaded once it is linked and entered
 pub root-loaded : (d : Database) (v w x : VolumeState) (y a more : ℕ) (bytes key : List ℕ) → row_fits d.types (record { code = 1; bytes = bytes }) ≡ true
     → IsLinked d v 0 y (record { code = 1; bytes = bytes }) a w → x.size ≡ w.size → x.sizes ≡ w.sizes → IsIndexOf d x
     → key ≡ key_of d.types (record { code = 1; bytes = bytes }) → entries_for d x ≡ with_entry (record { key = key; address = a }) (entries_for d w)
-    → IsIndexChange w more x → spare w ≤ spare x + more → more ≤ index_growth w
+    → IsIndexChange w more x → spare w ≤ spare x + more → more ≤ entry_growth w
     → (rows : List Segment) (path : List Placed) → IsLoadedTo d rows path v → load_fault d.types (segments_of path) (record { code = 1; bytes = bytes }) ≡ None
     → y ≡ twin_on_path d.types path (record { code = 1; bytes = bytes })
     → IsRowLoaded d v rows (record { code = 1; bytes = bytes }) (record { address = a; segment = record { code = 1; bytes = bytes } } ∷ []) x

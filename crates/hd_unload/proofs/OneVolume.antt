@@ -1,16 +1,16 @@
 -- Two states of one image: what is loaded in the one is loaded in the other.
-use Rattle.std.proofs.Common.{◌≡◌, ℕ, List, [], ◌∷◌, refl, ap, subst, ◌∙◌, arith}
+use Rattle.std.proofs.Common.{◌≡◌, ℕ, ◌+◌, cond, ◌==◌, List, [], ◌∷◌, refl, ap, subst, ◌∙◌, arith}
 use Rattle.hd_dbd.specs.Hierarchy.{Database}
 use Rattle.hd_dbd.specs.Segment.{Segment}
 use Rattle.hd_volume.specs.Headers.{header_of}
 use Rattle.hd_volume.specs.Volumes.{VolumeState}
 use Rattle.hd_volume.specs.Rooms.{spare}
-use Rattle.hd_volume.specs.Indexes.{index_growth}
 use Rattle.hd_volume.proofs.JoinLemmas.{AreOne, one-spare}
 use Rattle.hd_links.specs.Links.{Links, IsSegment, segment_at}
 use Rattle.hd_links.specs.Placed.{Placed}
 use Rattle.hd_image.specs.Records.{links_of}
 use Rattle.hd_image.proofs.OneImage.{links-same, held-same}
+use Rattle.hd_index.proofs.NeedLemmas as need
 use Rattle.hd_keeping.proofs.Rooms.{one-volume}
 use Rattle.hd_unload.specs.Loads.{blocks_for}
 use Rattle.hd_unload.specs.Steps.{row_of, HasRootRoom, IsLoadedTo, IsRowLoaded}
@@ -29,9 +29,8 @@ pub room-same : (d : Database) (v w : VolumeState) (key : List ℕ) → AreOne v
 room-same d v w key o room = (one-volume d v w (record { image = o.image; size = o.same.size; sizes = o.same.sizes })).2 key (row_of 1 [] ∷ []) room
 
 -- the blocks that a row may need
-growth-same : (v w : VolumeState) (row : Segment) → blocks_for w row ≡ blocks_for v row
-unfolding index_growth
-growth-same v w row = refl
+growth-same : (v w : VolumeState) (row : Segment) → w.image ≡ v.image → blocks_for w row ≡ blocks_for v row
+growth-same v w row image = ap (λ (n : ℕ). 1 + cond (row.code == 1) n 0) (need.growth-same v w image)
 
 -- a row that is loaded from there
 pub row-same : (d : Database) (v w x : VolumeState) (rows : List Segment) (row : Segment) (path : List Placed) → AreOne v w → IsRowLoaded d w rows row path x → IsRowLoaded d v rows row path x
@@ -40,8 +39,9 @@ row-same d v w x rows row path o R =
     record {
       loaded = R.loaded;
       step = record {
+        version = R.step.version ∙ ap (λ (i : List ℕ). (header_of i).version) o.image;
         largest = R.step.largest ∙ ap (λ (i : List ℕ). (header_of i).largest) o.image;
         stays = subst (λ (m : Links). (a : ℕ) → IsSegment m a → IsSegment (links_of d.types x) a × (segment_at (links_of d.types x) a ≡ segment_at m a)) links R.step.stays;
-        room = (let spares : spare w ≡ spare v = one-spare o in let need : blocks_for w row ≡ blocks_for v row = growth-same v w row in let room = R.step.room in omega (arith, spares, need, room));
+        room = (let spares : spare w ≡ spare v = one-spare o in let need : blocks_for w row ≡ blocks_for v row = growth-same v w row o.image in let room = R.step.room in omega (arith, spares, need, room));
       };
     }

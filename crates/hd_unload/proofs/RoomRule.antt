@@ -8,7 +8,7 @@ use Rattle.hd_dbd.specs.Prefixes.{stored_size}
 use Rattle.hd_calls.specs.Runs.{has_root, stored_sizes}
 use Rattle.hd_volume.specs.Volumes.{VolumeState}
 use Rattle.hd_volume.specs.Rooms.{spare, HasHole}
-use Rattle.hd_volume.specs.Indexes.{index_growth}
+use Rattle.hd_levels.specs.Needs.{entry_growth}
 use Rattle.hd_keeping.proofs.VolumeImages.{lacking-room}
 use Rattle.hd_unload.specs.Laws.{LoadsAndCallsShareARule}
 
@@ -21,15 +21,18 @@ size-alone : (types : List SegmentType) (row : Segment) → stored_sizes types (
 size-alone types row = omega arith
 
 -- and may need its block, and those of the index for a root
-need-alone : (v : VolumeState) (row : Segment) → length (row ∷ []) + cond (has_root (row ∷ [])) (index_growth v) 0 ≡ 1 + cond (row.code == 1) (index_growth v) 0
-need-alone v row = ap (λ (b : Bool). 1 + cond b (index_growth v) 0) (root-alone row)
+need-alone : (v : VolumeState) (row : Segment) → length (row ∷ []) + cond (has_root (row ∷ [])) (entry_growth v) 0 ≡ 1 + cond (row.code == 1) (entry_growth v) 0
+need-alone v row = ap (λ (b : Bool). 1 + cond b (entry_growth v) 0) (root-alone row)
 
 pub share-a-rule : LoadsAndCallsShareARule
 share-a-rule d v row V =
     let rule = lacking-room d v (row ∷ []) V in
     let need = need-alone v row in (
       λ L. rule.1 (
-        (let few : spare v < 1 + cond (row.code == 1) (index_growth v) 0 = L.spares in omega (arith, few, need)),
+        elim L.blocks [
+          | inl lacks ↦ inl (let few : spare v < 1 + cond (row.code == 1) (entry_growth v) 0 = lacks in omega (arith, few, need))
+          | inr high ↦ inr (root-alone row ∙ eq-eqb row.code 1 high.0, high.1)
+        ],
         elim L.holes [
           | inl root ↦ inl (root-alone row ∙ eq-eqb row.code 1 root)
           | inr none ↦ inr (λ hole. none (subst (HasHole v) (size-alone d.types row) hole))
@@ -37,7 +40,10 @@ share-a-rule d v row V =
       ),
       λ M.
           (let L = rule.0 M in record {
-            spares = (let few : spare v < length (row ∷ []) + cond (has_root (row ∷ [])) (index_growth v) 0 = L.0 in omega (arith, few, need));
+            blocks = elim L.0 [
+              | inl lacks ↦ inl (let few : spare v < length (row ∷ []) + cond (has_root (row ∷ [])) (entry_growth v) 0 = lacks in omega (arith, few, need))
+              | inr high ↦ inr (eqb-true row.code 1 (sym (root-alone row) ∙ high.0), high.1)
+            ];
             holes = elim L.1 [
               | inl root ↦ inl (eqb-true row.code 1 (sym (root-alone row) ∙ root))
               | inr none ↦ inr (λ hole. none (subst (HasHole v) (sym (size-alone d.types row)) hole))

@@ -10,7 +10,7 @@ use Rattle.hd_volume.specs.Headers.{header_of}
 use Rattle.hd_volume.specs.Volumes.{VolumeState}
 use Rattle.hd_volume.specs.Rooms.{spare, HasHole}
 use Rattle.hd_volume.specs.Creates.{IsCreated}
-use Rattle.hd_volume.specs.Indexes.{index_growth}
+use Rattle.hd_levels.specs.Needs.{entry_growth, IsHighest}
 use Rattle.hd_links.specs.Links.{IsSegment, segment_at}
 use Rattle.hd_image.specs.Records.{links_of}
 use Rattle.hd_image.specs.Holding.{HoldsRows, volume_of}
@@ -18,10 +18,11 @@ use Rattle.hd_unload.specs.Streams.{record_bytes, Spells, IsStreamOf}
 
 -- the blocks that a row may need: one, and for a root those of one entry more
 abbrev pub blocks_for : VolumeState → Segment → ℕ
-blocks_for v row = 1 + cond (row.code == 1) (index_growth v) 0
+blocks_for v row = 1 + cond (row.code == 1) (entry_growth v) 0
 
--- A row was loaded: the largest count stays, each address keeps its segment, and no more blocks were taken than it may need.
+-- A row was loaded: version and largest count stay, each address keeps its segment, and no more blocks were taken than it may need.
 pub record IsLoadStep (d : Database) (old : VolumeState) (row : Segment) (new : VolumeState) : Type 0 where
+  pub version : (header_of new.image).version ≡ (header_of old.image).version
   pub largest : (header_of new.image).largest ≡ (header_of old.image).largest
   pub stays : (a : ℕ) → IsSegment (links_of d.types old) a → IsSegment (links_of d.types new) a × (segment_at (links_of d.types new) a ≡ segment_at (links_of d.types old) a)
   pub room : spare old ≤ spare new + blocks_for old row
@@ -33,9 +34,10 @@ pub record IsLoad (d : Database) (largest : ℕ) (rows : List Segment) (last : V
   pub new : IsCreated d.name d.block_size largest (image_before loadings last)
   pub legal : IsLegalLoad (HoldsRows d) (IsLoadStep d) d.types [] loadings last
 
--- A volume lacks room for a row: fewer blocks are to spare than it may need, and it is a root, or no hole is as large.
+-- A volume lacks room for a row: fewer blocks are to spare than it may need, or it is a root and the index may have no level more; and it is a
+-- root, or no hole is as large.
 pub record LacksRoom (d : Database) (v : VolumeState) (row : Segment) : Type 0 where
-  pub spares : spare v < blocks_for v row
+  pub blocks : (spare v < blocks_for v row) ⊎ ((row.code ≡ 1) × IsHighest v)
   pub holes : (row.code ≡ 1) ⊎ (HasHole v (stored_size d.types row.code) → ⊥)
 
 -- The stream has a record with which nothing is wrong, and for which a legal load of just the records before left no room.
@@ -51,13 +53,13 @@ pub record IsFullAt (d : Database) (stream : List ℕ) (largest n : ℕ) : Type 
   pub load : IsLoad d largest rows last
   pub room : LacksRoom d last row
 
--- The bytes are a volume of version 1 that holds the rows of the stream, with this largest count, so many segments and so many
+-- The bytes are a volume of version 2 that holds the rows of the stream, with this largest count, so many segments and so many
 -- blocks.
 pub record IsReloaded (d : Database) (stream : List ℕ) (largest segments blocks : ℕ) (image : List ℕ) : Type 0 where
   pub rows : List Segment
   pub stream_of : IsStreamOf d stream rows
   pub holds : HoldsRows d (volume_of d image) rows
-  pub version : (header_of image).version ≡ 1
+  pub version : (header_of image).version ≡ 2
   pub largest_is : (header_of image).largest ≡ largest
   pub segments_are : segments ≡ length rows
   pub blocks_are : blocks ≡ (header_of image).count

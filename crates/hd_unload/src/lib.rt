@@ -1,8 +1,6 @@
 //! The unload stream of a forest, and the reload that makes a volume of it.
 #![tactic(auto)]
 
-#[cfg(test)]
-mod check_tests;
 mod fault;
 mod judge;
 mod law;
@@ -11,8 +9,6 @@ mod path;
 mod record;
 mod row;
 mod stream;
-#[cfg(test)]
-mod tests;
 mod unloading;
 
 pub use fault::{RecordFault, ReloadFault, StreamFault};
@@ -21,5 +17,6 @@ pub use law::{
     law_streams_spell_one_list,
 };
 pub use loading::{Reloaded, reload};
+pub use row::root_key;
 pub use stream::write_stream;
 pub use unloading::{UnloadFault, unload};

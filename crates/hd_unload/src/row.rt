@@ -1,4 +1,4 @@
-ghost use Rattle.std.specs.Prelude.{◌≡◌, ◌≢◌, ◌+◌, ◌<◌, List, length, true, false, None, IsTrue, IfOk, IfErr, OnOk};
+ghost use Rattle.std.specs.Prelude.{◌≡◌, ◌≢◌, ◌⊎◌, ◌+◌, ◌<◌, List, length, true, false, None, IsTrue, IfOk, IfErr, OnOk};
 ghost use Rattle.hd_dbd.specs.Facts.{stored_sizes};
 ghost use Rattle.hd_dbd.specs.DatabaseRules.{well_formed};
 ghost use Rattle.hd_dbd.specs.Segment.{Segment};
@@ -6,7 +6,8 @@ ghost use Rattle.hd_dbd.specs.Rows.{row_fits, key_of, next_path};
 ghost use Rattle.hd_dbd.specs.Loads.{load_fault};
 ghost use Rattle.hd_dbd.specs.Refusals.{OnlyDevice, OnlyRoomOrDevice};
 ghost use Rattle.hd_volume.specs.Calls.{IsCall, IsRead};
-ghost use Rattle.hd_volume.specs.Indexes.{root_key_length, index_growth};
+ghost use Rattle.hd_volume.specs.Indexes.{root_key_length};
+ghost use Rattle.hd_levels.specs.Needs.{entry_growth, IsHighest};
 ghost use Rattle.hd_volume.specs.Rooms.{spare};
 ghost use Rattle.hd_links.specs.LastRows.{segments_of};
 ghost use Rattle.hd_index.specs.Changes.{IsIndexOf};
@@ -16,7 +17,7 @@ use crate::judge::{parent_on, twin_on};
 use crate::path::{LoadPath, Loaded};
 use hd_dbd::{Dbd, Refused};
 use hd_forest::link;
-use hd_index::{blocks_needed, insert};
+use hd_index::{blocks_needed, insert, is_highest};
 use hd_volume::{BlockStore, Volume};
 
 /// The key of a root, which is as long as the keys of the index.
@@ -28,24 +29,30 @@ pub fn root_key<'a>(dbd: &Dbd, bytes: &'a [u8]) -> &'a [u8]
     dbd.key_of(1, bytes)
 }
 
-/// Whether a volume lacks room for one root more: its segment needs a block where no hole is as large, and its entry in the
-/// index may need others.
+/// Whether a volume lacks room for one root more: its index may have no level more, or its segment needs a block where no hole is as
+/// large, and its entry in the index may need others.
 fn lacks_room<S: BlockStore>(volume: &mut Volume<S>, dbd: &Dbd, key: &[u8]) -> Result<bool, Refused>
     requires index { IsTrue volume.old.is_sound → IsIndexOf dbd.now volume.old }
     ensures read { IsRead volume.old result volume.new }
-    ensures lacks { IfOk result (λ b. IsTrue volume.old.is_sound → b ≡ true → spare volume.old < 1 + index_growth volume.old) }
+    ensures lacks { IfOk result (λ b. IsTrue volume.old.is_sound → b ≡ true → (spare volume.old < 1 + entry_growth volume.old) ⊎ IsHighest volume.old) }
     ensures room { IfOk result (λ b. IsTrue volume.old.is_sound → b ≡ false → HasRootRoom dbd.now volume.old key.now) }
     ensures refusal { OnlyDevice result }
 {
+    if is_highest(volume) {
+        return Ok(true);
+    }
     let spare = u64::from(volume.spare());
     let entry = u64::from(blocks_needed(volume, dbd, key)?);
+    if spare < entry {
+        return Ok(true);
+    }
     if entry + 1 <= spare {
         return Ok(false);
     }
     if !volume.has_hole(dbd.stored_size(1))? {
         return Ok(true);
     }
-    Ok(spare < entry)
+    Ok(false)
 }
 
 /// Links a root behind the last one, and enters it into the index, which have room for it.

@@ -11,7 +11,8 @@ use Rattle.hd_calls.specs.Runs.{LacksRoom, blocks_for}
 use Rattle.hd_volume.specs.Headers.{header_of}
 use Rattle.hd_volume.specs.Volumes.{VolumeState}
 use Rattle.hd_volume.specs.Rooms.{spare, HasHole}
-use Rattle.hd_volume.specs.Indexes.{root_key_length, index_growth}
+use Rattle.hd_volume.specs.Indexes.{root_key_length}
+use Rattle.hd_levels.specs.Needs.{entry_growth, IsHighest}
 use Rattle.hd_volume.proofs.JoinLemmas.{AreOne, one-spare}
 use Rattle.hd_links.specs.Links.{Links}
 use Rattle.hd_links.specs.Placed.{Placed}
@@ -64,18 +65,21 @@ module _ (d : Database) (v : VolumeState) (y : ℕ) (bytes key : List ℕ) (C : 
 
   -- and so is the entry
   pub entry_refused : (w : VolumeState) (a : ℕ) → IsLinked d v 0 y (record { code = 1; bytes = bytes }) a w → v.room ≤ w.room + 1
-      → (e : Refused) → (e ≡ Memory) ⊎ (e ≡ Full) ⊎ (e ≡ Device) → (e ≡ Full → spare w < blocks_needed (root_key_length d.types) w key) → (e ≡ Memory → w.room < index_growth w) → e ≡ Device
+      → (e : Refused) → (e ≡ Memory) ⊎ (e ≡ Full) ⊎ (e ≡ Device) → (e ≡ Full → (spare w < blocks_needed (root_key_length d.types) w key) ⊎ IsHighest w) → (e ≡ Memory → w.room < entry_growth w) → e ≡ Device
   entry_refused w a I room e (inl memory) full few =
-      (let enough : index_growth w ≤ w.room = (entries-room d v w C.root.placed key y a (record { code = 1; bytes = bytes }) C.others C.root.holds I).1 room C.memory in
-      let less : w.room < index_growth w = few memory in absurd (omega arith))
+      (let enough : entry_growth w ≤ w.room = (entries-room d v w C.root.placed key y a (record { code = 1; bytes = bytes }) C.others C.root.holds I).1 room C.memory in
+      let less : w.room < entry_growth w = few memory in absurd (omega arith))
   entry_refused w a I room e (inr (inl is)) full few =
-      (let enough : blocks_for_entry d w key ≤ spare w = (entries-room d v w C.root.placed key y a (record { code = 1; bytes = bytes }) C.others C.root.holds I).0 C.room in
-      let less : spare w < blocks_needed (root_key_length d.types) w key = full is in absurd (omega arith))
+      (let room : (IsHighest w → ⊥) × (blocks_for_entry d w key ≤ spare w) = (entries-room d v w C.root.placed key y a (record { code = 1; bytes = bytes }) C.others C.root.holds I).0 C.room in
+      let enough : blocks_for_entry d w key ≤ spare w = room.1 in
+      absurd (elim (full is) [ inl less ↦ omega arith | inr high ↦ room.0 high ]))
   entry_refused w a I room e (inr (inr device)) full few = device
 
--- a root lacks room where fewer blocks are to spare than it and its entry may need
-pub no_root_room : (d : Database) (v : VolumeState) (bytes : List ℕ) → IsVolumeOf d v → spare v < 1 + index_growth v → LacksRoom (images_of d) d.types v.image (record { code = 1; bytes = bytes } ∷ [])
-no_root_room d v bytes V few = (lacking-room d v (record { code = 1; bytes = bytes } ∷ []) V).1 (few, inl refl)
+-- a root lacks room where fewer blocks are to spare than it and its entry may need, or the index may have no level more
+pub no_root_room : (d : Database) (v : VolumeState) (bytes : List ℕ) → IsVolumeOf d v → (spare v < 1 + entry_growth v) ⊎ IsHighest v
+    → LacksRoom (images_of d) d.types v.image (record { code = 1; bytes = bytes } ∷ [])
+no_root_room d v bytes V (inl few) = (lacking-room d v (record { code = 1; bytes = bytes } ∷ []) V).1 (inl few, inl refl)
+no_root_room d v bytes V (inr high) = (lacking-room d v (record { code = 1; bytes = bytes } ∷ []) V).1 (inr (refl, high), inl refl)
 
 -- ---- before calls that only read
 
@@ -104,8 +108,3 @@ put_before d v mid w f h y row a one holds P =
       };
       moves = P.moves;
     }
-
--- an index grows by few blocks
-pub few_grown : (v : VolumeState) → index_growth v < 1000
-unfolding index_growth
-few_grown v = omega arith

@@ -1,5 +1,5 @@
 -- A row that is linked, as one that was put in.
-use Rattle.std.proofs.Common.{◌≡◌, ◌≢◌, ℕ, ◌+◌, [], ◌∷◌, length, cond, subst, arith, inr}
+use Rattle.std.proofs.Common.{◌≡◌, ◌≢◌, ℕ, ◌+◌, [], ◌∷◌, length, cond, subst, arith, inl, inr}
 use Rattle.hd_dbd.specs.Hierarchy.{Database}
 use Rattle.hd_dbd.specs.Segment.{Segment}
 use Rattle.hd_dbd.specs.Prefixes.{stored_size}
@@ -7,7 +7,7 @@ use Rattle.hd_dbd.specs.Forest.{Forest}
 use Rattle.hd_calls.specs.Runs.{LacksRoom, has_root, stored_sizes}
 use Rattle.hd_volume.specs.Volumes.{VolumeState}
 use Rattle.hd_volume.specs.Rooms.{spare, HasHole}
-use Rattle.hd_volume.specs.Indexes.{index_growth}
+use Rattle.hd_levels.specs.Needs.{entry_growth}
 use Rattle.hd_links.specs.Placed.{Placed}
 use Rattle.hd_image.specs.Records.{links_of, IsVolumeOf}
 use Rattle.hd_image.specs.Holding.{HoldsPlaced}
@@ -36,6 +36,6 @@ put_below d v w f h y a row holds below may I =
 pub no_room : (d : Database) (v : VolumeState) (row : Segment) → IsVolumeOf d v → spare v ≡ 0 → (HasHole v (stored_size d.types row.code) → ⊥) → LacksRoom (images_of d) d.types v.image (row ∷ [])
 no_room d v row V none no_hole =
     (lacking-room d v (row ∷ []) V).1 (
-      (let size : length (row ∷ []) + cond (has_root (row ∷ [])) (index_growth v) 0 ≡ 1 + cond (has_root (row ∷ [])) (index_growth v) 0 = omega arith in omega arith),
+      inl (let size : length (row ∷ []) + cond (has_root (row ∷ [])) (entry_growth v) 0 ≡ 1 + cond (has_root (row ∷ [])) (entry_growth v) 0 = omega arith in omega arith),
       inr (λ hole. no_hole (subst (HasHole v) (let e : stored_sizes d.types (row ∷ []) ≡ stored_size d.types row.code = omega arith in e) hole)),
     )

@@ -10,7 +10,7 @@ use Rattle.hd_dbd.specs.Segment.{Segment}
 use Rattle.hd_calls.specs.Runs.{LacksRoom, has_root, stored_sizes}
 use Rattle.hd_calls.specs.Ssas.{Ssa}
 use Rattle.hd_volume.specs.Volumes.{VolumeState}
-use Rattle.hd_volume.specs.Indexes.{index_growth}
+use Rattle.hd_levels.specs.Needs.{entry_growth, IsHighest}
 use Rattle.hd_volume.specs.Rooms.{spare, HasHole}
 use Rattle.hd_volume.proofs.JoinLemmas.{AreOne, hole-after}
 use Rattle.hd_image.specs.Records.{IsVolumeOf}
@@ -47,8 +47,8 @@ module _ (d : Database) (v : VolumeState) (codes : List ℕ) (rows : List Segmen
   memory_of (inr hole) = inr (subst (HasHole v) large hole)
 
   pub root_room_of : (key : List ℕ) → HasRootRoom d key count total v → HasRootRoomFor d v key rows
-  root_room_of key (inl blocks) = inl (subst (λ (n : ℕ). n + blocks_for_entry d v key ≤ spare v) many blocks)
-  root_room_of key (inr both) = inr (subst (HasHole v) large both.0, both.1)
+  root_room_of key (low, inl blocks) = (low, inl (subst (λ (n : ℕ). n + blocks_for_entry d v key ≤ spare v) many blocks))
+  root_room_of key (low, inr both) = (low, inr (subst (HasHole v) large both.0, both.1))
 
 -- for one root
 pub one_root_room : (d : Database) (v : VolumeState) (key : List ℕ) (total : ℕ) → total ≡ stored_size d.types 1 → HasRootRoom d key 1 total v → HasRootRoomFor d v key (a_root ∷ [])
@@ -75,15 +75,15 @@ first_row_code ssas a code row rows are is code_is =
 -- rows of which none is a root
 pub no_rows_room : (d : Database) (v : VolumeState) (rows : List Segment) → IsVolumeOf d v → spare v < length rows → (HasHole v (stored_sizes d.types rows) → ⊥) → LacksRoom (images_of d) d.types v.image rows
 no_rows_room d v rows V few none =
-    (lacking-room d v rows V).1 ((let low : length rows ≤ length rows + cond (has_root rows) (index_growth v) 0 = omega arith in omega arith), inr none)
+    (lacking-room d v rows V).1 (inl (let low : length rows ≤ length rows + cond (has_root rows) (entry_growth v) 0 = omega arith in omega arith), inr none)
 
 -- rows of which the first is a root
-pub no_root_rows_room : (d : Database) (v : VolumeState) (row : Segment) (rows : List Segment) → IsVolumeOf d v → row.code ≡ 1 → spare v < length (row ∷ rows) + index_growth v
+pub no_root_rows_room : (d : Database) (v : VolumeState) (row : Segment) (rows : List Segment) → IsVolumeOf d v → row.code ≡ 1 → (spare v < length (row ∷ rows) + entry_growth v) ⊎ IsHighest v
     → LacksRoom (images_of d) d.types v.image (row ∷ rows)
 no_root_rows_room d v row rows V root few =
     let is : has_root (row ∷ rows) ≡ true = or_left (row.code == 1) (has_root rows) (eq-eqb row.code 1 root) in
-    let grows : cond (has_root (row ∷ rows)) (index_growth v) 0 ≡ index_growth v = cond-true (has_root (row ∷ rows)) (index_growth v) 0 is in
-    (lacking-room d v (row ∷ rows) V).1 ((let g : cond (has_root (row ∷ rows)) (index_growth v) 0 ≡ index_growth v = grows in omega arith), inl is)
+    let grows : cond (has_root (row ∷ rows)) (entry_growth v) 0 ≡ entry_growth v = cond-true (has_root (row ∷ rows)) (entry_growth v) 0 is in
+    (lacking-room d v (row ∷ rows) V).1 (elim few [ inl lacks ↦ inl (let g : cond (has_root (row ∷ rows)) (entry_growth v) 0 ≡ entry_growth v = grows in omega arith) | inr high ↦ inr (is, high) ], inl is)
 
 -- ---- volumes of one image
 
@@ -93,12 +93,13 @@ hole_kept v w n image size sizes hole = (let one : AreOne w v = record { same = 
 -- ---- rows of the types of some arguments
 
 pub root_rows_full : (d : Database) (v : VolumeState) (ssas : List Ssa) (rows : List Segment) (a : Ssa) (code : ℕ) → 0 < length ssas → code_of_all rows ≡ codes_of ssas → a ≡ slice_index_or ssas 0 a → code ≡ a.code
-    → code ≡ 1 → IsVolumeOf d v → spare v < length ssas + index_growth v → LacksRoom (images_of d) d.types v.image rows
+    → code ≡ 1 → IsVolumeOf d v → (spare v < length ssas + entry_growth v) ⊎ IsHighest v → LacksRoom (images_of d) d.types v.image rows
 root_rows_full d v [] rows a code some are is code_is root V few = absurd (omega arith)
 root_rows_full d v (x ∷ xs) [] a code some are is code_is root V few = cc
 root_rows_full d v (x ∷ xs) (r ∷ rows) a code some are is code_is root V few =
     no_root_rows_room d v r rows V (first_row_code (x ∷ xs) a code r rows are is code_is ∙ root)
-    (let all : length (x ∷ xs) ≡ length (r ∷ rows) = many d v (codes_of (x ∷ xs)) (r ∷ rows) are (length (x ∷ xs)) (sizes_of d.types (codes_of (x ∷ xs))) (sym (length-map (x ∷ xs) (λ (b : Ssa). b.code))) refl in omega arith)
+    (let all : length (x ∷ xs) ≡ length (r ∷ rows) = many d v (codes_of (x ∷ xs)) (r ∷ rows) are (length (x ∷ xs)) (sizes_of d.types (codes_of (x ∷ xs))) (sym (length-map (x ∷ xs) (λ (b : Ssa). b.code))) refl in
+    subst (λ (n : ℕ). (spare v < n + entry_growth v) ⊎ IsHighest v) all few)
 
 pub below_rows_full : (d : Database) (v : VolumeState) (ssas : List Ssa) (rows : List Segment) (total : ℕ) → code_of_all rows ≡ codes_of ssas → total ≡ sizes_of d.types (codes_of ssas) → IsVolumeOf d v
     → spare v < length ssas → (HasHole v total → ⊥) → LacksRoom (images_of d) d.types v.image rows

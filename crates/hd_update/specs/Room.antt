@@ -3,6 +3,7 @@ use Rattle.std.specs.Prelude.{◌⊎◌, ℕ, ◌+◌, ◌≤◌, List}
 use Rattle.hd_dbd.specs.Hierarchy.{Database}
 use Rattle.hd_volume.specs.Volumes.{VolumeState}
 use Rattle.hd_volume.specs.Rooms.{spare, HasHole}
+use Rattle.hd_levels.specs.Needs.{IsHighest}
 use Rattle.hd_keeping.specs.Rooms.{blocks_for_entry}
 
 -- for so many rows below another: there is a block for each, or one hole is as large as all of them together
@@ -12,4 +13,4 @@ HasRoom count total v = (count ≤ spare v) ⊎ HasHole v total
 -- for a root of a key, its entry in the index, and rows below it
 abbrev pub HasRootRoom : Database → List ℕ → ℕ → ℕ → VolumeState → Type 0
 HasRootRoom d key count total v =
-    (count + blocks_for_entry d v key ≤ spare v) ⊎ (HasHole v total × (blocks_for_entry d v key ≤ spare v))
+    (IsHighest v → ⊥) × ((count + blocks_for_entry d v key ≤ spare v) ⊎ (HasHole v total × (blocks_for_entry d v key ≤ spare v)))

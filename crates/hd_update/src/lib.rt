@@ -22,18 +22,8 @@ pub use dlet_call::{dlet, taken_row};
 pub use held::{HeldRow, HeldRows, held_rows, row_at};
 pub use isrt_call::{first_inserted, isrt};
 pub use load_call::load_row;
+pub use parents::insert_parent;
+pub use places::place_below;
+pub use putting::put_row;
 pub use repl_call::repl;
 pub use rewrites::is_excepted;
-
-#[cfg(test)]
-mod isrt_tests;
-#[cfg(test)]
-mod load_tests;
-#[cfg(test)]
-mod parents_tests;
-#[cfg(test)]
-mod place_tests;
-#[cfg(test)]
-mod place_volumes;
-#[cfg(test)]
-mod tests;

@@ -3,7 +3,7 @@ ghost use Rattle.hd_dbd.specs.Facts.{stored_sizes};
 ghost use Rattle.hd_dbd.specs.Refusals.{OnlyDevice, OnlyRoomOrDevice};
 ghost use Rattle.hd_dbd.specs.Rows.{row_fits, key_of};
 ghost use Rattle.hd_volume.specs.Calls.{IsCall, IsRead};
-ghost use Rattle.hd_volume.specs.Indexes.{root_key_length, index_growth};
+ghost use Rattle.hd_volume.specs.Indexes.{root_key_length};
 ghost use Rattle.hd_volume.specs.Rooms.{spare};
 ghost use Rattle.hd_index.specs.Changes.{IsIndexOf};
 ghost use Rattle.hd_keeping.specs.Rooms.{HasRootRoomFor, HasRootMemoryFor};

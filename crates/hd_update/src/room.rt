@@ -1,7 +1,7 @@
 ghost use Rattle.std.specs.Prelude.{◌≡◌, ◌⊎◌, ◌+◌, ◌<◌, ◌≤◌, length, true, false, IsTrue, IfOk, OnOk, IfErr};
 ghost use Rattle.hd_dbd.specs.Refusals.{OnlyDevice, OnlyRoomOrDevice};
 ghost use Rattle.hd_volume.specs.Calls.{IsCall, IsRead};
-ghost use Rattle.hd_volume.specs.Indexes.{index_growth};
+ghost use Rattle.hd_levels.specs.Needs.{entry_growth, IsHighest};
 ghost use Rattle.hd_volume.specs.Rooms.{spare, HasHole};
 ghost use Rattle.hd_volume.specs.Volumes.{IsFormatted};
 ghost use Rattle.hd_index.specs.Changes.{IsIndexOf};
@@ -10,7 +10,7 @@ ghost use Rattle.hd_get.specs.Starts.{HasRoots};
 ghost use Rattle.hd_update.specs.Room.{HasRoom, HasRootRoom};
 
 use hd_dbd::{Dbd, Refused};
-use hd_index::{blocks_needed, growth};
+use hd_index::{blocks_needed, growth, is_highest};
 use hd_ssa::ResolvedSsa;
 use hd_volume::{BlockStore, Volume};
 
@@ -66,7 +66,7 @@ fn make_room_below<S: BlockStore>(
 }
 
 /// Whether a volume lacks room for so many rows of one path, which take so many bytes together, of which the first is a root of a key: the
-/// root's entry in the index may need a block, and the rows need one each where no hole is as large as all together.
+/// index may have no level more, or its entry may need blocks, and the rows need one each where no hole is as large as all together.
 pub fn lacks_room<S: BlockStore>(
     volume: &mut Volume<S>,
     dbd: &Dbd,
@@ -77,10 +77,13 @@ pub fn lacks_room<S: BlockStore>(
     requires index { IsTrue volume.old.is_sound → IsIndexOf dbd.now volume.old }
     requires small { volume.old.size ≤ 32768 }
     ensures read { IsRead volume.old result volume.new }
-    ensures lacks { IfOk result (λ b. IsTrue volume.old.is_sound → b ≡ true → spare volume.old < count + index_growth volume.old) }
+    ensures lacks { IfOk result (λ b. IsTrue volume.old.is_sound → b ≡ true → (spare volume.old < count + entry_growth volume.old) ⊎ IsHighest volume.old) }
     ensures room { IfOk result (λ b. IsTrue volume.old.is_sound → b ≡ false → HasRootRoom dbd.now key.now count total volume.old) }
     ensures refusal { OnlyDevice result }
 {
+    if is_highest(volume) {
+        return Ok(true);
+    }
     let spare = volume.spare();
     let entry = blocks_needed(volume, dbd, key)?;
     if spare < entry {
@@ -107,14 +110,14 @@ fn make_root_room<S: BlockStore>(
     ensures call { IsCall volume.old result volume.new }
     ensures image { IsTrue volume.new.is_sound → volume.new.image ≡ volume.old.image }
     ensures room { OnOk result (IsTrue volume.old.is_sound → HasRootRoom dbd.now key.now count total volume.old) }
-    ensures memory { OnOk result (IsTrue volume.old.is_sound → count + index_growth volume.new ≤ volume.new.room) }
-    ensures full { IfErr result (λ e. e ≡ Refused.Full → IsTrue volume.old.is_sound → spare volume.old < count + index_growth volume.old) }
+    ensures memory { OnOk result (IsTrue volume.old.is_sound → count + entry_growth volume.new ≤ volume.new.room) }
+    ensures full { IfErr result (λ e. e ≡ Refused.Full → IsTrue volume.old.is_sound → (spare volume.old < count + entry_growth volume.old) ⊎ IsHighest volume.old) }
     ensures refusal { OnlyRoomOrDevice result }
 {
+    let blocks = growth(volume).saturating_add(count);
     if lacks_room(volume, dbd, key, count, total)? {
         return Err(Refused::Full);
     }
-    let blocks = growth(volume).saturating_add(count);
     volume.reserve(blocks)
 }
 

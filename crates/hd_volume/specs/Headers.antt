@@ -41,9 +41,3 @@ pub record HasHeader (size : ℕ) (image : List ℕ) : Type 0 where
   pub whole : length image ≡ (header_of image).count * size
   pub within : (header_of image).count ≤ (header_of image).largest
   pub bound : (header_of image).largest ≤ MOST_BLOCKS
-
--- The header is of this version, and of the database of this name and block size.
-pub record IsOf (version : ℕ) (name : List ℕ) (size : ℕ) (header : Header) : Type 0 where
-  pub version_is : header.version ≡ version
-  pub name_is : header.name ≡ name
-  pub size_is : header.block_size ≡ size

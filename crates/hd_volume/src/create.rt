@@ -9,7 +9,7 @@ use hd_dbd::{Dbd, Refused};
 use std::alloc::Global;
 
 impl<S: BlockStore> Volume<S> {
-    /// A new volume of one block, of version 1 and this largest count, 1 to 65,536, in an empty store. A refusal gives the
+    /// A new volume of one block, of version 2 and this largest count, 1 to 65,536, in an empty store. A refusal gives the
     /// store back.
     pub fn create(
         alloc: Global,
@@ -63,7 +63,7 @@ fn head_bytes(n: &[u8; 8], size: u16, largest: u32) -> [u8; 44]
     ];
     let [high, low] = [(size / 256) as u8, (size % 256) as u8];
     [
-        b'H', b'D', b'V', b'O', b'L', b'U', b'M', b'E', 0, 1, high, low, 0, 0, 0, 1, a, b, c, d,
+        b'H', b'D', b'V', b'O', b'L', b'U', b'M', b'E', 0, 2, high, low, 0, 0, 0, 1, a, b, c, d,
         n[0], n[1], n[2], n[3], n[4], n[5], n[6], n[7], 0, 0, 0, 0, 0, 0, 0, 0, 0, 0, 0, 0, 0, 0,
         0, 0,
     ]

@@ -27,8 +27,3 @@ pub use memory::MemStore;
 pub use space::{DATA, FREE, INDEX};
 pub use store::BlockStore;
 pub use volume::{COUNT, LARGEST, Volume};
-
-#[cfg(test)]
-mod tests;
-#[cfg(test)]
-mod volume_tests;

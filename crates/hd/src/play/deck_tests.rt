@@ -95,7 +95,7 @@ fn goes_on_after_a_wrong_area(rt: HostRuntime) {
 fn plays_a_deck_over_a_volume(rt: HostRuntime) -> Result<(), Fail> {
     fs::write(&rt, "played.dbd", DBD_SOURCE)?;
     fs::write(&rt, "played.psb", PSB_SOURCE)?;
-    fs::write(&rt, "played.volume", &sample_with(&[]))?;
+    fs::write(&rt, "played.volume", &sample_with(&[(9, b"\x02")]))?;
     fs::write(
         &rt,
         "played.deck",
@@ -169,7 +169,7 @@ fn goes_on_after_a_full_volume(rt: HostRuntime) -> Result<(), Fail> {
 fn unloads_what_a_deck_leaves(rt: HostRuntime) -> Result<(), Fail> {
     fs::write(&rt, "left.dbd", DBD_SOURCE)?;
     fs::write(&rt, "left.psb", PSB_SOURCE)?;
-    fs::write(&rt, "left.volume", &sample_with(&[]))?;
+    fs::write(&rt, "left.volume", &sample_with(&[(9, b"\x02")]))?;
     fs::write(
         &rt,
         "left.deck",
@@ -207,7 +207,7 @@ fn unloads_what_a_deck_leaves(rt: HostRuntime) -> Result<(), Fail> {
 fn leaves_a_volume_that_is_in_use_alone(rt: HostRuntime) -> Result<(), Fail> {
     fs::write(&rt, "used.dbd", DBD_SOURCE)?;
     fs::write(&rt, "used.psb", PSB_SOURCE)?;
-    fs::write(&rt, "used.volume", &sample_with(&[]))?;
+    fs::write(&rt, "used.volume", &sample_with(&[(9, b"\x02")]))?;
     fs::write(&rt, "used.deck", b"L     GN\n".as_slice())?;
     fs::write(&rt, "used.in", &stream_of(rt.alloc(), RECORDS)?)?;
     let check = ["check", "used.dbd", "used.volume"];
@@ -230,7 +230,7 @@ fn leaves_a_volume_that_is_in_use_alone(rt: HostRuntime) -> Result<(), Fail> {
     }
     assert_eq!(rt;
         fs::read(&rt, "used.volume")?.as_slice(),
-        sample_with(&[]).as_slice()
+        sample_with(&[(9, b"\x02")]).as_slice()
     );
     file.unlock()?;
     for words in [&deck as &[&str], &reload] {
@@ -405,7 +405,11 @@ fn finds_nothing_in_an_empty_volume(rt: HostRuntime) -> Result<(), Fail> {
 fn tells_why_a_deck_is_not_played(rt: HostRuntime) -> Result<(), Fail> {
     fs::write(&rt, "told.dbd", DBD_SOURCE)?;
     fs::write(&rt, "told.psb", PSB_SOURCE)?;
-    fs::write(&rt, "told.volume", &sample_with(&[(177, b"\x01")]))?;
+    fs::write(
+        &rt,
+        "told.volume",
+        &sample_with(&[(9, b"\x02"), (177, b"\x01")]),
+    )?;
     fs::write(&rt, "told.deck", b"L     GN\n".as_slice())?;
     fs::write(
         &rt,
@@ -415,6 +419,9 @@ fn tells_why_a_deck_is_not_played(rt: HostRuntime) -> Result<(), Fail> {
     fs::write(&rt, "bad.deck", b"S 9\n".as_slice())?;
     let damaged = ["deck", "told.dbd", "told.psb", "told.volume", "told.deck"];
     expect(&rt, &damaged, 1, b"", b"fault 6 at 176, other 1\n")?;
+    fs::write(&rt, "told.volume", &sample_with(&[]))?;
+    let old = b"volume of version 1: unload and reload\n";
+    expect(&rt, &damaged, 1, b"", old)?;
     let program = ["deck", "told.dbd", "bad.psb", "told.volume", "bad.deck"];
     expect(&rt, &program, 2, b"", b"PSB refused: line 2, G2\n")?;
     let deck = ["deck", "told.dbd", "told.psb", "no.volume", "bad.deck"];

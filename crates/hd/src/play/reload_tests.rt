@@ -73,7 +73,7 @@ fn follows_the_pointers_as_they_stand(rt: HostRuntime) -> Result<(), Fail> {
 }
 
 #[test]
-fn fills_the_blocks_of_the_index(rt: HostRuntime) -> Result<(), Fail> {
+fn fills_and_empties_the_blocks_of_the_index(rt: HostRuntime) -> Result<(), Fail> {
     fs::write(&rt, "roots.dbd", sample::DBD_SOURCE)?;
     let mut records = Vec::new(rt.alloc());
     for number in 1..=17u8 {
@@ -85,19 +85,44 @@ fn fills_the_blocks_of_the_index(rt: HostRuntime) -> Result<(), Fail> {
     fs::write(&rt, "roots.in", &stream_of(rt.alloc(), &records)?)?;
     expect(
         &rt,
-        &["reload", "roots.dbd", "roots.in", "roots.volume", "16"],
+        &["reload", "roots.dbd", "roots.in", "roots.volume", "11"],
         0,
-        b"reloaded 17 segments into 9 blocks\n",
+        b"reloaded 17 segments into 10 blocks\n",
         b"",
     )?;
     expect(
         &rt,
         &["check", "roots.dbd", "roots.volume"],
         0,
-        b"EDU passes: 9 blocks, 17 segments, 17 roots\n",
+        b"EDU passes: 10 blocks, 17 segments, 17 roots\n",
         b"",
     )?;
-    remove(&rt, &["roots.dbd", "roots.in", "roots.volume"])?;
+    fs::write(&rt, "roots.psb", sample::PSB_SOURCE)?;
+    let mut deck = Vec::new(rt.alloc());
+    for _ in 0..17u8 {
+        deck.extend_from_slice(b"L     GHN  COURSE  \nL     DLET\n")?;
+    }
+    fs::write(&rt, "roots.deck", &deck)?;
+    let words = [
+        "deck",
+        "roots.dbd",
+        "roots.psb",
+        "roots.volume",
+        "roots.deck",
+    ];
+    let end = play_words(&rt, &words)?;
+    assert_eq!(rt; (end.status, end.err.len()), (0, 0));
+    let line = b"EDU passes: 10 blocks, 0 segments, 0 roots\n";
+    let check = ["check", "roots.dbd", "roots.volume"];
+    expect(&rt, &check, 0, line, b"")?;
+    let names = [
+        "roots.dbd",
+        "roots.psb",
+        "roots.in",
+        "roots.deck",
+        "roots.volume",
+    ];
+    remove(&rt, &names)?;
     Ok(())
 }
 

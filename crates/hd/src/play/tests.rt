@@ -1,4 +1,4 @@
-use super::testing::{Played, refusals_of_growth};
+use super::testing::{Played, expect, play_words, refusals_of_growth};
 use super::*;
 use crate::sample;
 use hd_dbd::{DbdFault, PsbFault, Refused};
@@ -7,6 +7,7 @@ use hd_gen::GenFault;
 use std::alloc::AllocError;
 use std::io;
 use std::io::ErrorKind;
+use std::test::Fail;
 
 fn play_deck(rt: &HostRuntime, deck: &[u8]) -> Played {
     let mut input = deck;
@@ -68,6 +69,47 @@ fn answers_words_with_the_text_of_clap(rt: HostRuntime) {
         assert_eq!(rt; out.len(), 0);
         assert!(rt; err.len() > 0);
     }
+}
+
+#[test]
+fn explains_a_word(rt: HostRuntime) -> Result<(), Fail> {
+    for (word, front) in [
+        ("14", "14, a fault of a volume: "),
+        ("m4", "M4, a fault of a DBD or PSB source: "),
+        ("GE", "GE, a status code: no such segment\n"),
+        ("full", "Full, a refusal: "),
+        ("exit3", "exit3, an exit status: "),
+    ] {
+        let end = play_words(&rt, &["explain", word])?;
+        assert!(rt; end.out.starts_with(front.as_bytes()), "at {word}");
+        assert!(rt;
+            end.out.ends_with(b".\n") && end.err.is_empty(),
+            "at {word}"
+        );
+        assert_eq!(rt; end.status, 0);
+    }
+    Ok(())
+}
+
+#[test]
+fn explains_no_other_word(rt: HostRuntime) -> Result<(), Fail> {
+    expect(
+        &rt,
+        &["explain", "Z9"],
+        COMMAND_LINE,
+        b"",
+        b"nothing is known of Z9; hd explain lists what is\n",
+    )
+}
+
+#[test]
+fn lists_the_words_that_it_explains(rt: HostRuntime) -> Result<(), Fail> {
+    let end = play_words(&rt, &["explain"])?;
+    assert!(rt; end.out.starts_with(b"Faults of a volume:\n1       "));
+    let lines = end.out.iter().filter(|byte| **byte == b'\n').count();
+    assert!(rt; lines > 90 && end.err.is_empty(), "{lines} lines");
+    assert_eq!(rt; end.status, 0);
+    Ok(())
 }
 
 /// A reader of one byte at a time, interrupted before each, that may fail at its end; and a writer that has no room.

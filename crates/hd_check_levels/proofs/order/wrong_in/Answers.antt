@@ -33,7 +33,7 @@ loop-index-preserved c =
           let here : drop n (all ++ rs) ≡ e ∷ (drop (n + 1) all ++ rs) = drop-front n all rs (omega arith) ∙ ap (λ (t : List Entry). t ++ rs) from in
           let next : first_entry (drop n all ++ rs) None ≡ Some e = ap (λ (t : List Entry). first_entry (t ++ rs) None) from in
           let before : address_wrong a l o es (Some e) ≡ c.loop-index.found = ap (address_wrong a l o es) (sym next) ∙ i.found a rs o below h in
-          let is : c.is_right-is_right.result ≡ is_right_entry a l (last_entry o es) e right = c.is_right-is_right.ensures a (all ++ rs) (last_entry o es) e (drop (n + 1) all ++ rs) below (i.left o h) here key in
+          let is : c.is_right-is_right.result ≡ is_right_entry a l (last_entry o es) e right = c.is_right-is_right.ensures (last_entry o es) (i.left o h) a (all ++ rs) e (drop (n + 1) all ++ rs) below here key in
           ap (λ (t : List Entry). address_wrong a l o t right) more ∙ wrong-more a l o es e right
           ∙ ap (λ (f : Option ℕ). found_with f (is_right_entry a l (last_entry o es) e right) e.address) before
           ∙ ap (λ (r : Bool). found_with c.loop-index.found r e.address) (sym is)

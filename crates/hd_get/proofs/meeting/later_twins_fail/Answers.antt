@@ -109,7 +109,7 @@ loop-count-preserved g c = record {
         let has : qualifies c.args.ssa.now (row_at (rows_of f) N.0) ≡ false
         = ap (qualifies c.args.ssa.now) (sym (G.addressed.same N.0 N.2) ∙ ap₂ (λ (m : Links) a. segment_at m a) (sym same.links) N.3) ∙ sym (c.in_ok-qualifies.ensures.value same.sound) ∙ c.if-branch.false in
         let far : i + c.loop-count.count < N.0 = N.1 in
-        looks_on d.types f c.args.ssa.now i m G.addressed N.0 (c.loop-count.count + 1) N.2 (G.steps N.0 N.2) (omega arith) (λ j. same_twins d.types f c.args.ssa.now i N.0 j N.4)
+        looks_on d.types f c.args.ssa.now i m G.addressed N.0 (c.loop-count.count + 1) N.2 (G.steps N.0 N.2) (omega arith) (λ j. same_twins d.types (rows_of f) i N.0 j N.4)
         (passed_it d.types f c.args.ssa.now i N.0 has N.5) c.in_ok-twin-2.twin
         (c.in_ok-twin-2.ensures.value next.sound ∙ ap (λ (k : Links). k.forward c.loop-count.twin) (next.links ∙ same.links) ∙ ap m.forward (sym N.3)))
 

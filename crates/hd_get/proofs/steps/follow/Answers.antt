@@ -1,4 +1,4 @@
-use Rattle.std.proofs.Common.{◌≡◌, ℕ, ◌+◌, List, Bool, false, ap, ◌∙◌, arith}
+use Rattle.std.proofs.Common.{◌≡◌, ℕ, ◌+◌, ◌-◌, List, [], ◌∷◌, ◌++◌, length, take, Bool, false, ap, ◌∙◌, arith}
 use Rattle.std.proofs.lemmas.Bool.{false≢true}
 use Rattle.hd_dbd.specs.Types.{SegmentType}
 use Rattle.hd_dbd.specs.Paths.{end_of}
@@ -7,7 +7,7 @@ use Rattle.hd_links.specs.Placed.{Placed}
 use Rattle.hd_links.specs.Steps.{rows_of}
 use Rattle.hd_calls.proofs.Spans.{end_is}
 use Rattle.hd_get.specs.Searches.{goes_below, GoesOn, IsTurned}
-use Rattle.hd_get.proofs.Turns.{ends_later, turned_to, turned_across}
+use Rattle.hd_get.proofs.Turns.{ends_later, turned_to, turned_to_twin, turned_across}
 use Rattle.hd_get.proofs.steps.follow.Goals as goal
 
 -- a search that goes on has turned
@@ -33,6 +33,11 @@ pub returns-in_ok-across-in-Across-clause-value : goal.returns-in_ok-across-in-A
 returns-in_ok-across-in-Across-clause-value g c f i at test admits end E inside up J =
     on (turned_across test admits c.args.dbd.now.types f c.args.parent i end (ends_later c.args.dbd.now.types f c.args.parent i end E (i + 1) (omega arith)) inside up c.across.new.path
     (J.span (ap goes_below c.in-Across.is)) (J.across c.in-Across.is) (c.in_ok-across-in-Across.ensures.value f i at)).0
+
+pub returns-in-AcrossTo-clause-value : goal.returns-in-AcrossTo-clause-value
+returns-in-AcrossTo-clause-value g c f i at test admits end E inside up J =
+    on (turned_to_twin test admits c.args.dbd.now.types f c.args.parent i end E inside up c.in-AcrossTo.address c.across_to.new.path (J.across_to c.in-AcrossTo.address c.in-AcrossTo.is)
+    (c.across_to.ensures ∙ ap (λ (xs : List ℕ). take (length xs - 1) xs ++ c.in-AcrossTo.address ∷ []) at.row.is))
 
 pub returns-in_ok-beside-in-Beside-clause-value : goal.returns-in_ok-beside-in-Beside-clause-value
 returns-in_ok-beside-in-Beside-clause-value g c f i at test admits end E inside up J =

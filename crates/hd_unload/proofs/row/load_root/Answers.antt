@@ -1,10 +1,11 @@
-use Rattle.std.proofs.Common.{◌≡◌, ◌<◌, ℕ, List, IsTrue, IfErr, Result, Err, sym, ap, subst, ◌∙◌}
+use Rattle.std.proofs.Common.{◌≡◌, ◌⊎◌, ◌<◌, ℕ, List, IsTrue, IfErr, Result, Err, sym, ap, subst, ◌∙◌}
 use Rattle.std.proofs.lemmas.Result.{err_from_is_err_and}
 use Rattle.hd_dbd.specs.declared.answer.Refused.{Refused}
 use Rattle.hd_dbd.specs.declared.answer.Refused.TheVariants.{Full}
 use Rattle.hd_dbd.specs.Rows.{key_of}
 use Rattle.hd_volume.specs.Rooms.{spare}
 use Rattle.hd_volume.specs.Indexes.{root_key_length}
+use Rattle.hd_levels.specs.Needs.{IsHighest}
 use Rattle.hd_volume.proofs.CallSteps.{call-ok}
 use Rattle.hd_volume.proofs.JoinLemmas.{calls-join}
 use Rattle.hd_index.specs.Changes.{entries_for}
@@ -51,7 +52,7 @@ returns-in_err-insert-clause-not_full g c =
     subst (λ (r : Result ℕ Refused). IfErr r (λ e. e ≡ Full → IsTrue v.is_sound → ⊥)) (sym (p.1 ∙ ap Err p.2))
     (λ full sound.
     let after : IsTrue w.is_sound = subst IsTrue (sym o.call.sound) sound in
-    let few = subst (λ (key : List ℕ). spare w < blocks_needed (root_key_length d.types) w key) c.root_key.ensures.key (c.in_err-insert.ensures.full full after) in
+    let few = subst (λ (key : List ℕ). (spare w < blocks_needed (root_key_length d.types) w key) ⊎ IsHighest w) c.root_key.ensures.key (c.in_err-insert.ensures.full full after) in
     room-enters d v w c.args.after c.in_ok-address.address c.args.bytes.now (key_of d.types (row_of 1 c.args.bytes.now)) (c.requires.can sound) (c.requires.room sound) (o.linked sound) few)
 
 pub returns-clause-call : goal.returns-clause-call
@@ -62,8 +63,9 @@ returns-clause-loaded g c = λ sound.
     let o = c.in_ok-address.ensures in
     let e = c.in_ok-insert.ensures in
     let after : IsTrue c.link.new.volume.is_sound = subst IsTrue (sym o.call.sound) sound in
+    let ready = root-linked c.args.dbd.now c.args.volume.now c.link.new.volume c.args.after c.in_ok-address.address c.args.bytes.now c.requires.fits (c.requires.can sound) (o.linked sound) in
     let key_length : ℕ = root_key_length c.args.dbd.now.types in
     let key : List ℕ = c.root_key.result.now in
     root-loaded c.args.dbd.now c.args.volume.now c.link.new.volume c.insert.new.volume c.args.after c.in_ok-address.address
     (blocks_needed key_length c.link.new.volume key) c.args.bytes.now key c.requires.fits (o.linked sound)
-    e.call.size e.call.sizes (e.index after) c.root_key.ensures.key (e.entries after) (e.changed after) (e.spares after) (needed-most key_length c.link.new.volume key)
+    e.call.size e.call.sizes (e.index after) c.root_key.ensures.key (e.entries after) (e.changed after) (e.spares after) (needed-most key_length c.link.new.volume key ready.0.index)

@@ -4,8 +4,13 @@ use Rattle.hd_dbd.specs.Rows.{key_of}
 use Rattle.hd_volume.proofs.CallSteps.{if-ok}
 use Rattle.hd_volume.proofs.JoinLemmas.{read-one}
 use Rattle.hd_unload.specs.Steps.{row_of, HasRootRoom}
+use Rattle.hd_unload.proofs.LoadedRoots.{lacks-beside}
 use Rattle.hd_unload.proofs.OneVolume.{loaded-same, room-same, row-same}
 use Rattle.hd_unload.proofs.row.load_root_with_room.Goals as goal
+
+pub returns-then-branch-clause-full : goal.returns-then-branch-clause-full
+returns-then-branch-clause-full g c = λ is sound.
+    lacks-beside c.args.dbd.now c.args.volume.now c.args.bytes.now (c.in_ok-lacks_room.ensures.lacks sound c.if-branch.true)
 
 pub load_root-requires-clause-can : goal.load_root-requires-clause-can
 load_root-requires-clause-can g c = λ now.

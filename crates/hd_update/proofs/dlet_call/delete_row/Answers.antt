@@ -1,6 +1,8 @@
 use Rattle.std.proofs.Common.{◌≡◌, ℕ, List, length, sym, subst}
 use Rattle.hd_dbd.specs.declared.answer.Status.TheVariants.{Blank}
 use Rattle.hd_calls.specs.Steps.{position_at, delete_row}
+use Rattle.hd_volume.proofs.CallSteps.{call-ok}
+use Rattle.hd_volume.proofs.JoinLemmas.{calls-join}
 use Rattle.hd_forest.specs.Walks.{tip}
 use Rattle.hd_forest.proofs.Reading.{after-read, sound-before}
 use Rattle.hd_position.specs.Kept.{Kept, path_before}
@@ -36,3 +38,6 @@ returns-clause-done g c pcb st i sound R on =
     subst (λ (kept : List Kept). IsAnswered d v st c.args.number (delete_row (record { types = d.types; pcb = pcb }) st.rows (position_at st c.args.number) i) (Found Blank) w kept)
     (sym (subst (λ (kept : List Kept). c.end_hold.new.positions ≡ unheld_at c.args.number kept) left c.end_hold.ensures))
     (row_deleted d pcb v old st c.args.number i R c.requires.number.0 c.requires.number.1 path mid w same.image (c.in_ok-delete_span.ensures.taken_out R.placed i now))
+
+pub returns-clause-call : goal.returns-clause-call
+returns-clause-call g c = call-ok (Found Blank) (calls-join _ c.in_ok-before.ensures.read.call c.in_ok-delete_span.ensures.call)

@@ -44,7 +44,7 @@ returns-in_err-insert-clause-only g c =
     (λ sound.
     let after : IsTrue w.is_sound = subst IsTrue (sym o.call.sound) sound in
     entry_refused d v c.args.after c.args.bytes.now c.args.key.now (c.requires.can sound) w c.in_ok-address.address (o.linked sound) (o.room after)
-    _ c.in_err-insert.ensures.refusal (λ full. c.in_err-insert.ensures.full full after) (λ few. c.in_err-insert.ensures.memory few))
+    _ c.in_err-insert.ensures.refusal (λ full. c.in_err-insert.ensures.full full after) (λ few. c.in_err-insert.ensures.memory few after))
 
 pub returns-in_err-address-clause-only : goal.returns-in_err-address-clause-only
 returns-in_err-address-clause-only g c =
@@ -70,7 +70,7 @@ returns-clause-lasts g c rows sound room memory =
     let lasts = root-room-lasts d v w x C.root.placed (with_entry (record { key = c.args.key.now; address = c.in_ok-address.address }) (entries_for d w))
     (blocks_needed (root_key_length d.types) w c.args.key.now) c.args.key.now c.args.after c.in_ok-address.address row rows C.root.holds (o.linked sound)
     (record { size = e.call.size; sizes = e.call.sizes; index = e.index after; entries = e.entries after; change = e.changed after }) in
-    (lasts.0 (e.spares after) room, lasts.1 (o.room after) (e.room last) memory)
+    (lasts.0 (e.spares after) room, lasts.1 (o.room after) (e.room after last) memory)
 
 pub returns-clause-call : goal.returns-clause-call
 returns-clause-call g c = call-ok c.in_ok-address.address (calls-join _ c.in_ok-address.ensures.call c.in_ok-insert.ensures.call)

@@ -1,11 +1,12 @@
 use Rattle.std.proofs.Common.{◌≡◌, ℕ, ◌+◌, ◌≤◌, [], ◌∷◌, List, length, IsTrue, sym, ap, subst, ◌∙◌, arith}
-use Rattle.hd_volume.specs.Indexes.{index_growth}
+use Rattle.hd_levels.specs.Needs.{entry_growth}
+use Rattle.hd_index.proofs.NeedLemmas.{growth-same}
 use Rattle.hd_volume.proofs.CallSteps.{if-ok}
 use Rattle.hd_links.specs.Links.{Links}
 use Rattle.hd_forest.specs.Updates.{MayLink}
 use Rattle.hd_forest.proofs.Reading.{after-read, sound-before}
 use Rattle.hd_keeping.proofs.RootTypes.{root-key-long}
-use Rattle.hd_keeping.proofs.Rooms.{growth-same, one-volume}
+use Rattle.hd_keeping.proofs.Rooms.{one-volume}
 use Rattle.hd_update.specs.Putting.{a_root}
 use Rattle.hd_update.proofs.Reading.{held_read}
 use Rattle.hd_update.proofs.PutRoots.{no_root_room, put_before}
@@ -40,9 +41,9 @@ link_root-requires-clause-can g c now =
       room = (one-volume d v w (record { image = same.image; size = read.call.size; sizes = read.call.sizes })).2 c.key_of-key.result.now (a_root ∷ [])
           (one_root_room d v c.key_of-key.result.now c.from.result (c.from.ensures ∙ c.stored_size.ensures) (c.in_ok-lacks_room.ensures.room sound c.if-branch.false));
       memory =
-          (let own : length (a_root ∷ []) + index_growth v ≤ v.room = c.requires.memory sound in
+          (let own : length (a_root ∷ []) + entry_growth v ≤ v.room = c.requires.memory sound in
           let room : w.room ≡ v.room = read.room in
-          let growth : index_growth v ≡ index_growth w = growth-same v w in omega arith);
+          let growth : entry_growth w ≡ entry_growth v = growth-same v w same.image in omega arith);
     }
 
 pub returns-clause-put_in : goal.returns-clause-put_in

@@ -1,5 +1,6 @@
 use Rattle.std.proofs.Common.{◌≡◌, ℕ, ◌<◌, ◌≤◌, [], ◌∷◌, List, IsTrue, Ok, sym, subst, arith}
-use Rattle.hd_volume.specs.Indexes.{index_growth}
+use Rattle.hd_volume.specs.Indexes.{root_key_length}
+use Rattle.hd_levels.specs.Needs.{entry_growth}
 use Rattle.hd_volume.proofs.CallSteps.{if-ok, sound-back}
 use Rattle.hd_volume.proofs.JoinLemmas.{if-err-map}
 use Rattle.hd_links.specs.Links.{Links}
@@ -7,8 +8,8 @@ use Rattle.hd_calls.specs.Runs.{LacksRoom}
 use Rattle.hd_image.proofs.OneImage.{links-same, held-same}
 use Rattle.hd_forest.specs.Updates.{MayLink}
 use Rattle.hd_keeping.specs.VolumeImages.{images_of}
-use Rattle.hd_keeping.proofs.Rooms.{growth-same}
-use Rattle.hd_update.proofs.PutRoots.{put_before, few_grown}
+use Rattle.hd_index.proofs.NeedLemmas.{growth-same, few-grown}
+use Rattle.hd_update.proofs.PutRoots.{put_before}
 use Rattle.hd_update.proofs.putting.put_root.Goals as goal
 
 pub put_reserved_root-requires-clause-may : goal.put_reserved_root-requires-clause-may
@@ -31,9 +32,10 @@ put_reserved_root-requires-clause-memory g c now =
     let w = c.reserve.new.self in
     let o = c.in_ok-reserve.ensures in
     let sound : IsTrue v.is_sound = sound-back (Ok c.in_ok-reserve.field-0) v.is_sound w.is_sound o.call.sound now in
-    let own : c.growth.result ≡ index_growth v = c.growth.ensures sound in
-    let growth : index_growth v ≡ index_growth w = growth-same v w in
-    let few : index_growth v < 1000 = few_grown v in
+    let M = c.requires.may sound in
+    let own : c.growth.result ≡ entry_growth v = c.growth.ensures c.args.dbd.now sound (record { size = c.requires.size; index = M.holds.index }) in
+    let growth : entry_growth w ≡ entry_growth v = growth-same v w (o.image now).0 in
+    let few : entry_growth v < 1000 = few-grown (root_key_length c.args.dbd.now.types) v M.holds.index in
     let more = c.saturating_add-blocks.ensures in
     let room : c.saturating_add-blocks.result ≤ w.room = o.room in
     omega arith

@@ -3,7 +3,7 @@ use Rattle.std.proofs.lemmas.List.{length-map}
 use Rattle.hd_dbd.specs.Rows.{key_of}
 use Rattle.hd_dbd.proofs.StoredSizes.{block_size-bounds}
 use Rattle.hd_calls.specs.Ssas.{Ssa}
-use Rattle.hd_volume.specs.Indexes.{index_growth}
+use Rattle.hd_levels.specs.Needs.{entry_growth}
 use Rattle.hd_volume.specs.Rooms.{HasHole}
 use Rattle.hd_volume.proofs.JoinLemmas.{if-err-map}
 use Rattle.hd_keeping.specs.Rooms.{HasRootRoomFor}
@@ -46,7 +46,7 @@ returns-then-code-eq1-clause-made g c =
         (one-volume d v w (record { image = made.image now; size = made.call.size; sizes = made.call.sizes })).2 (key_of d.types row) (row ∷ rows)
             (subst (λ (k : List ℕ). HasRootRoomFor d v k (row ∷ rows)) key
             (root_room_of d v (codes_of ssas) (row ∷ rows) are count total count_is c.sizes_of-total.ensures c.key_of-key.result.now (room sound))),
-        subst (λ (n : ℕ). n + index_growth w ≤ w.room) all (memory sound),
+        subst (λ (n : ℕ). n + entry_growth w ≤ w.room) all (memory sound),
       );
       below = λ other. absurd (other (code ∙ c.if-code-eq1.true));
     }))

@@ -25,6 +25,6 @@ returns-clause-value g c f i at up =
     let of = c.requires.of at.sound in
     let code : c.in_ok-code.code ≡ (row_at (rows_of f) i).code
     = c.in_ok-code.ensures.value at.sound ∙ ap (links_of d.types u).code c.tip_of.ensures ∙ tip_code d.types (links_of d.types u) f (grounds d u f of at.row.holds) c.args.path.now i at.row in
-    subst (IsJudged (satisfies (record { types = d.types; pcb = c.args.self.now }) (rows_of f) []) (λ j. true) d.types (rows_of f) i)
+    subst (IsJudged (satisfies (record { types = d.types; pcb = c.args.self.now }) (rows_of f) []) (λ j. true) d.types f i)
     (sym (c.verdict_plain.ensures ∙ ap₂ (λ (p : View) k. verdict_plain (record { types = d.types; pcb = p }) k) c.self.view_is code))
-    (judged_plain d.types (rows_of f) c.args.self.now (held_rows d u f of at.row.holds) i at.row.within)
+    (judged_plain d.types f c.args.self.now (held_rows d u f of at.row.holds) i at.row.within)

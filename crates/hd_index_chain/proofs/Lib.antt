@@ -1,0 +1,10 @@
+pub mod MapLemmas
+pub mod CallLemmas
+pub mod ChainLemmas
+pub mod EditLemmas
+pub mod EntryEdits
+pub mod SpliceLemmas
+pub mod StepLemmas
+pub mod ChangeLemmas
+pub mod InsertLemmas
+pub mod NeedLemmas

@@ -1,0 +1,4 @@
+pub mod Maps
+pub mod Changes
+pub mod Places
+pub mod Edits

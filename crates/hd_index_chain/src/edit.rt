@@ -1,0 +1,92 @@
+ghost use Rattle.std.specs.Prelude.{◌≡◌, ◌+◌, ◌≤◌, ◌<◌, IsTrue, length, take, OnOk};
+ghost use Rattle.hd_bytes.specs.Numbers.{number_at};
+ghost use Rattle.hd_dbd.specs.Refusals.{OnlyDevice};
+ghost use Rattle.hd_volume.specs.Volumes.{IsFormatted, block_at};
+ghost use Rattle.hd_volume.specs.Calls.{IsCall};
+ghost use Rattle.hd_volume.specs.Indexes.{entry_room, IsEntryBlock};
+ghost use Rattle.hd_entries.specs.Fields.{entry_place};
+ghost use Rattle.hd_index_chain.specs.Edits.{IsEntryAdded, IsEntryRemoved};
+
+use crate::bytes::{copy_down, move_up, two_bytes, write_part};
+use hd_bytes::write_u32;
+use hd_dbd::Refused;
+use hd_entries::{ADDRESS, COUNT, entry_place};
+use hd_volume::{BlockStore, Volume};
+
+/// The bytes of an entry at the front: its key and its address.
+fn entry_bytes(key: &[u8], address: u32) -> [u8; 259]
+    requires short { length key.now ≤ 255 }
+    ensures len { length result ≡ 259 }
+    ensures key { take (length key.now) result ≡ key.now }
+    ensures address { number_at 4 result (length key.now) ≡ address }
+{
+    let mut entry = [0; 259];
+    entry[..key.len()].copy_from_slice(key);
+    write_u32(&mut entry, key.len(), address);
+    entry
+}
+
+/// Puts an entry into a block, before the entry at an index.
+pub fn add_entry<S: BlockStore>(
+    volume: &mut Volume<S>,
+    n: u32,
+    index: usize,
+    count: usize,
+    key: &[u8],
+    address: u32,
+) -> Result<(), Refused>
+    requires formatted { IsTrue volume.old.is_sound → IsFormatted volume.old }
+    requires block { IsTrue volume.old.is_sound → IsEntryBlock (length key.now) volume.old n }
+    requires count { IsTrue volume.old.is_sound → number_at 2 (block_at volume.old n) 4 ≡ count }
+    requires index { index ≤ count }
+    requires short { length key.now ≤ 255 }
+    requires small { count ≤ 65534 }
+    requires most { volume.old.size ≤ 32768 }
+    requires room { count < entry_room (length key.now) volume.old.size }
+    requires fits { entry_place (length key.now) (count + 1) ≤ volume.old.size }
+    ensures call { IsCall volume.old result volume.new }
+    ensures added { OnOk result (IsTrue volume.old.is_sound → IsEntryAdded volume.old n index key.now address volume.new) }
+    ensures refusal { OnlyDevice result }
+    ensures room { volume.new.room ≡ volume.old.room }
+{
+    let width = key.len() + ADDRESS;
+    let place = entry_place(key.len(), index);
+    let entry = entry_bytes(key, address);
+    move_up(volume, n, place, place + width, (count - index) * width)?;
+    write_part(volume, n, place, &entry[..width])?;
+    write_part(volume, n, COUNT, &two_bytes((count + 1) as u16))
+}
+
+/// Takes the entry at an index out of a block.
+pub fn remove_entry<S: BlockStore>(
+    volume: &mut Volume<S>,
+    key_length: usize,
+    n: u32,
+    index: usize,
+    count: usize,
+) -> Result<(), Refused>
+    requires formatted { IsTrue volume.old.is_sound → IsFormatted volume.old }
+    requires block { IsTrue volume.old.is_sound → IsEntryBlock key_length volume.old n }
+    requires count { IsTrue volume.old.is_sound → number_at 2 (block_at volume.old n) 4 ≡ count }
+    requires index { index < count }
+    requires short { key_length ≤ 255 }
+    requires small { count ≤ 65535 }
+    requires most { volume.old.size ≤ 32768 }
+    requires fits { entry_place key_length count ≤ volume.old.size }
+    ensures call { IsCall volume.old result volume.new }
+    ensures taken { OnOk result (IsTrue volume.old.is_sound → IsEntryRemoved key_length volume.old n index volume.new) }
+    ensures refusal { OnlyDevice result }
+    ensures room { volume.new.room ≡ volume.old.room }
+{
+    let width = key_length + ADDRESS;
+    let place = entry_place(key_length, index);
+    copy_down(
+        volume,
+        n,
+        place + width,
+        n,
+        place,
+        (count - (index + 1)) * width,
+    )?;
+    write_part(volume, n, COUNT, &two_bytes((count - 1) as u16))
+}

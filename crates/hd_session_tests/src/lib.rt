@@ -1,0 +1,19 @@
+//! Tests of sessions, decks, and what the commands do over a store.
+#![tactic(auto)]
+
+#[cfg(test)]
+mod calling_tests;
+#[cfg(test)]
+mod command_tests;
+#[cfg(test)]
+mod deck_tests;
+#[cfg(test)]
+mod giving_tests;
+#[cfg(test)]
+mod opening_tests;
+#[cfg(test)]
+mod playing_tests;
+#[cfg(test)]
+mod refusal_tests;
+#[cfg(test)]
+mod run_tests;

@@ -1,0 +1,167 @@
+//! Volumes whose index has several levels, or several blocks in version 1: each with a byte changed, and a long one reloaded.
+
+use crate::bytes::{byte_at, set_byte};
+use crate::judged::{Judged, comes_again, judge, reloaded};
+use crate::old_images::make_old;
+use crate::roots::{root_database, root_stream};
+use hd_cache::Cached;
+use hd_dbd::Dbd;
+use hd_unload::reload;
+use hd_volume::{FuseStore, MemStore};
+use std::alloc::{AllocError, Global};
+use std::test::Fail;
+
+/// The bits of a byte.
+const BITS: &[u8] = &[1, 2, 4, 8, 16, 32, 64, 128];
+
+/// The ways to change a byte: a bit is another, it is 0 or 255, or one more or less.
+const WAYS: u8 = 12;
+
+/// A byte changed in a way.
+fn changed(byte: u8, way: u8) -> u8 {
+    match (BITS.get(usize::from(way)), way) {
+        (Some(bit), _) => byte ^ *bit,
+        (None, 8) => 0,
+        (None, 9) => 255,
+        (None, 10) => byte.wrapping_add(1),
+        (None, _) => byte.wrapping_sub(1),
+    }
+}
+
+/// How many changes of a volume pass and how many do not; and the first that is judged as it should not be, by its place and way.
+#[derive(Clone, Copy, Debug)]
+struct Changes {
+    passed: u32,
+    faulty: u32,
+    wrong: Option<(usize, u8)>,
+}
+
+/// Whether a volume passes and comes again, or has a fault; nothing where it is neither.
+fn verdict(alloc: Global, dbd: &Dbd, image: &[u8]) -> Result<Option<bool>, AllocError> {
+    Ok(match judge(alloc, dbd, image)? {
+        Judged::Passed(stream) => {
+            if comes_again(alloc, dbd, &stream)? {
+                Some(true)
+            } else {
+                None
+            }
+        }
+        Judged::Faulty => Some(false),
+        Judged::Disputed => None,
+    })
+}
+
+/// What comes of one more change.
+fn counted(changes: Changes, verdict: Option<bool>, place: usize, way: u8) -> Changes {
+    match verdict {
+        Some(true) => Changes {
+            passed: changes.passed.wrapping_add(1),
+            ..changes
+        },
+        Some(false) => Changes {
+            faulty: changes.faulty.wrapping_add(1),
+            ..changes
+        },
+        None => Changes {
+            wrong: changes.wrong.or(Some((place, way))),
+            ..changes
+        },
+    }
+}
+
+/// Changes each byte of a volume in turn.
+fn change_each(alloc: Global, dbd: &Dbd, image: &mut [u8]) -> Result<Changes, AllocError> {
+    let mut changes = Changes {
+        passed: 0,
+        faulty: 0,
+        wrong: None,
+    };
+    for place in 0..image.len() {
+        let own = byte_at(image, place);
+        for way in 0..WAYS {
+            let byte = changed(own, way);
+            if byte != own {
+                set_byte(image, place, byte);
+                let verdict = verdict(alloc, dbd, image)?;
+                changes = counted(changes, verdict, place, way);
+            }
+        }
+        set_byte(image, place, own);
+    }
+    Ok(changes)
+}
+
+/// In blocks of 128 bytes an index block has room for three keys of 26 bytes, and a data block for three roots. Ten roots fill four data
+/// blocks and four of the sequence set; above that two name them, for a block that is divided keeps three, and one is the top.
+const ROOTS: u32 = 10;
+
+const KEY_LENGTH: u8 = 26;
+
+const BLOCKS: u8 = 1 + 4 + 4 + 2 + 1;
+
+#[test]
+fn each_changed_byte_of_three_levels(rt: HostRuntime) -> Result<(), Fail> {
+    let alloc = rt.alloc();
+    let dbd = root_database(alloc, 128, KEY_LENGTH).expect(&rt, "a database");
+    let stream = root_stream(alloc, &dbd, KEY_LENGTH, ROOTS, 0x0101)?;
+    let mut image = reloaded(alloc, &dbd, &stream).expect(&rt, "a volume");
+    assert_eq!(rt; image.len(), usize::from(BLOCKS) * 128);
+    assert_eq!(rt; byte_at(&image, 9), 2);
+    assert_eq!(rt; byte_at(&image, 43), 3);
+    assert_eq!(rt; verdict(alloc, &dbd, &image)?, Some(true));
+    let changes = change_each(alloc, &dbd, &mut image)?;
+    assert!(rt; changes.wrong.is_none(), "{changes:?}");
+    assert!(rt; changes.passed > 0 && changes.faulty > 0, "{changes:?}");
+    Ok(())
+}
+
+#[test]
+fn each_changed_byte_of_an_old_chain(rt: HostRuntime) -> Result<(), Fail> {
+    let alloc = rt.alloc();
+    let dbd = root_database(alloc, 128, KEY_LENGTH).expect(&rt, "a database");
+    let stream = root_stream(alloc, &dbd, KEY_LENGTH, ROOTS, 0x0101)?;
+    let mut image = reloaded(alloc, &dbd, &stream).expect(&rt, "a volume");
+    make_old(&mut image, BLOCKS);
+    assert_eq!(rt; byte_at(&image, 9), 1);
+    match judge(alloc, &dbd, &image)? {
+        Judged::Passed(own) => assert!(rt; own == stream),
+        _ => assert!(rt; false, "no volume of version 1"),
+    }
+    let changes = change_each(alloc, &dbd, &mut image)?;
+    assert!(rt; changes.wrong.is_none(), "{changes:?}");
+    assert!(rt; changes.passed > 0 && changes.faulty > 0, "{changes:?}");
+    Ok(())
+}
+
+/// The blocks of the cache before a reload.
+const CACHED: u64 = 64;
+
+/// The accesses below the cache of a reload, with all written, and the blocks of the volume.
+fn reload_costs(alloc: Global, dbd: &Dbd, stream: &[u8]) -> Option<(u64, u32)> {
+    let store = MemStore::new(dbd.block_size() as usize, Vec::new(alloc));
+    let Ok(cached) = Cached::new(alloc, FuseStore::new(store, u64::MAX), CACHED as usize) else {
+        return None;
+    };
+    let Ok(made) = reload(alloc, dbd, stream, cached, 65536) else {
+        return None;
+    };
+    let (store, written) = made.store.into_store();
+    written.ok()?;
+    Some((store.accesses(), made.blocks))
+}
+
+/// Roots in the order of their keys are put behind one another, and their keys behind one another into the index: a block that is full is not
+/// come to again. So each block is added, read and written, three accesses. Once block 0, which is not asked for again until the end, is
+/// dropped from the full cache, and before it all others are written: those in use are so once more, and there are not more than the
+/// cache has.
+#[test]
+fn a_reload_comes_to_each_block_three_times(rt: HostRuntime) -> Result<(), Fail> {
+    let alloc = rt.alloc();
+    let dbd = root_database(alloc, 2048, 3).expect(&rt, "a database");
+    let stream = root_stream(alloc, &dbd, 3, 100_000, 1)?;
+    let (accesses, blocks) = reload_costs(alloc, &dbd, &stream).expect(&rt, "a volume");
+    // 127 roots of 16 bytes fill a data block, and 290 keys one of the sequence set; above these 345 stand two, and the top
+    assert_eq!(rt; blocks, 1 + 788 + 345 + 2 + 1);
+    assert!(rt; accesses <= 3 * u64::from(blocks) + CACHED, "{accesses}");
+    Ok(())
+}

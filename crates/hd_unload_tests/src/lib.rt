@@ -1,0 +1,19 @@
+//! Tests of the checker, of unload and of reload.
+#![tactic(auto)]
+
+#[cfg(test)]
+mod bytes;
+#[cfg(test)]
+mod check_tests;
+#[cfg(test)]
+mod heights_tests;
+#[cfg(test)]
+mod judged;
+#[cfg(test)]
+mod linked_tests;
+#[cfg(test)]
+mod old_images;
+#[cfg(test)]
+mod roots;
+#[cfg(test)]
+mod unload_tests;
