@@ -4,7 +4,7 @@ ghost use Rattle.hd_dbd.specs.Facts.{stored_sizes};
 use crate::files::{cached_blocks, open_read_volume, read_database};
 use crate::stop::Stop;
 use hd_cache::Cached;
-use hd_commands::check_volume;
+use hd_commands::{Ended, check_volume};
 use hd_dbd::Dbd;
 use hd_volume::{FileStore, Volume};
 use std::alloc::Global;
@@ -43,13 +43,13 @@ fn judge<L: Ledger, O: Write, E: Write>(
     blank: Blank,
     out: &mut O,
     err: &mut E,
-) -> Result<u8, Stop>
+) -> Result<Ended, Stop>
     requires name { blank.name ≡ L.name }
     requires parts { blank.parts ≡ L.parts }
     requires share { 0 < blank.parts }
 {
     let mut volume = load_volume::<L>(alloc, dbd, file, cache, blank)?;
-    Ok(check_volume(alloc, &mut volume, dbd, out, err).status)
+    Ok(check_volume(alloc, &mut volume, dbd, out, err))
 }
 
 /// As `judge`, with a ledger of its own.
@@ -60,11 +60,11 @@ fn judge_file<O: Write, E: Write>(
     cache: u32,
     out: &mut O,
     err: &mut E,
-) -> Result<u8, Stop> {
+) -> Result<Ended, Stop> {
     judge::<Brand, O, E>(alloc, dbd, file, cache, Blank::new(1), out, err)
 }
 
-/// Checks the volume in a file, which is opened for reading alone. The DBD is read and judged first. Says the status.
+/// Checks the volume in a file, which is opened for reading alone. The DBD is read and judged first. Says how it ended.
 pub fn check_file<R, O, E>(
     rt: &R,
     alloc: Global,
@@ -73,7 +73,7 @@ pub fn check_file<R, O, E>(
     cache: u32,
     out: &mut O,
     err: &mut E,
-) -> Result<u8, Stop>
+) -> Result<Ended, Stop>
 where
     R: Files<File = File>,
     O: Write,

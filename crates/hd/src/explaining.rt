@@ -1,4 +1,5 @@
 use crate::stop::{COMMAND_LINE, Stop};
+use hd_commands::Ended;
 use hd_explain::{
     DECK_FAULTS, EXIT_STATUSES, Explanation, REFUSALS, SOURCE_FAULTS, STATUS_CODES, STREAM_FAULTS,
     VOLUME_FAULTS, explain, write_entry, write_lines,
@@ -11,17 +12,17 @@ pub fn explain_word<O: Write, E: Write>(
     word: Option<&str>,
     out: &mut O,
     err: &mut E,
-) -> Result<u8, Stop> {
+) -> Result<Ended, Stop> {
     let Some(word) = word else {
         write_list(out)?;
-        return Ok(0);
+        return Ok(Ended::with_status(0));
     };
     let Some(entry) = explain(word) else {
         let _ = writeln!(err, "nothing is known of {word}; hd explain lists what is");
-        return Ok(COMMAND_LINE);
+        return Ok(Ended::with_status(COMMAND_LINE));
     };
     write_entry(entry, out)?;
-    Ok(0)
+    Ok(Ended::with_status(0))
 }
 
 /// Writes a line for each word that is known, under what it is.

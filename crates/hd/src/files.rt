@@ -1,9 +1,8 @@
 ghost use Rattle.std.specs.Prelude.{◌≡◌, ◌<◌, ◌≤◌, ◌^◌, IfOk, vec_len};
 
 use crate::input::read_whole;
-use crate::stop::Stop;
+use crate::stop::{Named, Stop, of_file};
 use hd_cache::Cached;
-use hd_commands::Refusal;
 use hd_dbd::Dbd;
 use hd_gen::read_dbd;
 use hd_volume::FileStore;
@@ -37,10 +36,14 @@ impl Identity {
 }
 
 /// A file that is read and not changed.
-pub fn open_file<R: Files<File = File>>(rt: &R, name: &str) -> Result<(File, Identity), Stop> {
-    let file = OpenOptions::new().read(true).open(rt, name)?;
-    let identity = Identity::of(&file.metadata()?);
-    Ok((file, identity))
+fn open_file<R: Files<File = File>>(
+    rt: &R,
+    name: &str,
+    word: Named,
+) -> Result<(File, Identity), Stop> {
+    let file = of_file(word, OpenOptions::new().read(true).open(rt, name))?;
+    let metadata = of_file(word, file.metadata())?;
+    Ok((file, Identity::of(&metadata)))
 }
 
 /// All bytes of a file.
@@ -48,12 +51,15 @@ pub fn read_file<R: Files<File = File>>(
     rt: &R,
     alloc: Global,
     name: &str,
+    word: Named,
 ) -> Result<(Vec<u8>, Identity), Stop>
     ensures { IfOk result (λ r. vec_len r.0 ≤ 2 ^ 30) }
 {
-    let (mut file, identity) = open_file(rt, name)?;
-    let bytes = read_whole(alloc, &mut file)?;
-    Ok((bytes, identity))
+    let (mut file, identity) = open_file(rt, name, word)?;
+    match read_whole(alloc, &mut file) {
+        Ok(bytes) => Ok((bytes, identity)),
+        Err(error) => Err(Stop::file(word, error)),
+    }
 }
 
 /// The database that a file of its source describes.
@@ -62,22 +68,26 @@ pub fn read_database<R: Files<File = File>>(
     alloc: Global,
     name: &str,
 ) -> Result<(Dbd, Identity), Stop> {
-    let (source, identity) = read_file(rt, alloc, name)?;
-    let dbd = read_dbd(alloc, &source).map_err(|fault| Stop::database(fault))?;
-    Ok((dbd, identity))
+    let (source, identity) = read_file(rt, alloc, name, Named::Dbd)?;
+    match read_dbd(alloc, &source) {
+        Ok(dbd) => Ok((dbd, identity)),
+        Err(fault) => Err(Stop::database(fault, source)),
+    }
 }
 
 /// A file to write, made where there is none, and as it stands; never one of the files that the same command reads.
 pub fn open_output<R: Files<File = File>>(
     rt: &R,
     name: &str,
+    word: Named,
     is_read: bool,
     inputs: &[Identity],
 ) -> Result<File, Stop> {
     let mut options = OpenOptions::new();
     options.read(is_read).write(true).create(true);
-    let file = options.open(rt, name)?;
-    if inputs.contains(&Identity::of(&file.metadata()?)) {
+    let file = of_file(word, options.open(rt, name))?;
+    let metadata = of_file(word, file.metadata())?;
+    if inputs.contains(&Identity::of(&metadata)) {
         return Err(Stop::OverInput);
     }
     Ok(file)
@@ -88,7 +98,7 @@ fn locked(tried: Result<(), TryLockError>) -> Result<(), Stop> {
     match tried {
         Ok(()) => Ok(()),
         Err(TryLockError::WouldBlock) => Err(Stop::InUse),
-        Err(TryLockError::Error(_)) => Err(Stop::from(Refusal::Device)),
+        Err(TryLockError::Error(error)) => Err(Stop::file(Named::Volume, error)),
     }
 }
 
@@ -102,7 +112,7 @@ pub fn open_read_volume<R: Files<File = File>>(
     rt: &R,
     name: &str,
 ) -> Result<(File, Identity), Stop> {
-    let (file, identity) = open_file(rt, name)?;
+    let (file, identity) = open_file(rt, name, Named::Volume)?;
     locked(file.try_lock_shared())?;
     Ok((file, identity))
 }
@@ -113,8 +123,10 @@ pub fn open_volume<R: Files<File = File>>(
     name: &str,
     inputs: &[Identity],
 ) -> Result<File, Stop> {
-    let file = OpenOptions::new().read(true).write(true).open(rt, name)?;
-    if inputs.contains(&Identity::of(&file.metadata()?)) {
+    let opened = OpenOptions::new().read(true).write(true).open(rt, name);
+    let file = of_file(Named::Volume, opened)?;
+    let metadata = of_file(Named::Volume, file.metadata())?;
+    if inputs.contains(&Identity::of(&metadata)) {
         return Err(Stop::OverInput);
     }
     keep_alone(&file)?;
@@ -134,7 +146,8 @@ pub fn cached_blocks<L: Ledger>(
     requires share { 0 < blank.parts }
     ensures size { IfOk result (λ s. s.size ≡ dbd.now.block_size) }
 {
-    let store: FileStore<L> = FileStore::over(file, dbd.block_size() as usize, blank)?;
+    let opened = FileStore::over(file, dbd.block_size() as usize, blank);
+    let store: FileStore<L> = of_file(Named::Volume, opened)?;
     match Cached::new(alloc, store, cache.clamp(1, 65_536) as usize) {
         Ok(cached) => Ok(cached),
         Err((_, refused)) => Err(Stop::from(refused)),

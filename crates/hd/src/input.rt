@@ -1,10 +1,8 @@
 ghost use Rattle.std.specs.Prelude.{◌≡◌, ◌<◌, ◌≤◌, ◌^◌, Some, IfOk, IfSome, length, take, unwrap_or, vec_len};
 ghost use Rattle.std.specs.Io.KnownBytes.{Consumes, IsAtEnd};
 
-use crate::stop::Stop;
-use hd_commands::Refusal;
 use std::alloc::{AllocError, Global};
-use std::io::{ErrorKind, Read};
+use std::io::{self, ErrorKind, Read};
 
 /// The most bytes that a text may have.
 const MOST_BYTES: usize = 1_073_741_824;
@@ -23,7 +21,7 @@ fn room(alloc: Global, size: usize) -> Result<Vec<u8>, AllocError>
 }
 
 /// One read, of as many bytes as there are; `None` where it was interrupted, and nothing was read.
-fn read_piece<I: Read>(input: &mut I, piece: &mut [u8]) -> Result<Option<usize>, Stop>
+fn read_piece<I: Read>(input: &mut I, piece: &mut [u8]) -> io::Result<Option<usize>>
     ensures bound { IfOk result (λ o. IfSome o (λ n. n ≤ length piece.new)) }
     ensures bytes { IfOk result (λ o. Consumes (I.remaining input.old) (I.remaining input.new) (take (unwrap_or o 0) piece.new)) }
     ensures end { IfOk result (λ o. o ≡ Some 0 → 0 < length piece.old → IsAtEnd (I.remaining input.new)) }
@@ -31,13 +29,12 @@ fn read_piece<I: Read>(input: &mut I, piece: &mut [u8]) -> Result<Option<usize>,
     match input.read(piece) {
         Ok(count) => Ok(Some(count)),
         Err(error) if error.kind() == ErrorKind::Interrupted => Ok(None),
-        Err(_) => Err(Stop::from(Refusal::Device)),
+        Err(error) => Err(error),
     }
 }
 
-/// All bytes that a reader has left. More bytes, or more reads, than a text may take are a device fault, as a failed
-/// read is.
-pub fn read_whole<I: Read>(alloc: Global, input: &mut I) -> Result<Vec<u8>, Stop>
+/// All bytes that a reader has left. More bytes, or more reads, than a text may take are an error, as a failed read is.
+pub fn read_whole<I: Read>(alloc: Global, input: &mut I) -> io::Result<Vec<u8>>
     ensures whole { IfOk result (λ text. IfSome (I.remaining input.old) (λ bytes. text.items ≡ bytes)) }
     ensures bound { IfOk result (λ text. vec_len text ≤ 2 ^ 30) }
 {
@@ -51,9 +48,9 @@ pub fn read_whole<I: Read>(alloc: Global, input: &mut I) -> Result<Vec<u8>, Stop
             return Ok(text);
         }
         if count > MOST_BYTES - text.len() {
-            return Err(Stop::from(Refusal::Device));
+            return Err(io::Error::from(ErrorKind::FileTooLarge));
         }
         text.extend_from_slice(&piece[..count])?;
     }
-    Err(Stop::from(Refusal::Device))
+    Err(io::Error::from(ErrorKind::FileTooLarge))
 }

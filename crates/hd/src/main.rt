@@ -1,6 +1,7 @@
 //! The program `hd`: plays decks of DL/I calls, checks, unloads and reloads volumes, and says what its words mean.
 #![tactic(auto)]
 
+mod advice;
 mod checking;
 mod explaining;
 mod files;
@@ -13,6 +14,7 @@ mod stop;
 mod unloading;
 mod words;
 
+use std::io::IsTerminal;
 use std::process::ExitCode;
 use std::{env, io};
 use stop::Stop;
@@ -22,6 +24,7 @@ fn main(rt: HostRuntime) -> ExitCode {
         Ok(words) => play::play(
             &rt,
             words.as_slice(),
+            rt.stderr().is_terminal(),
             &mut rt.reader(),
             &mut io::writer(&rt),
             &mut rt.stderr(),

@@ -1,12 +1,13 @@
+use crate::advice::{advise_refusal, advise_stop};
 use crate::checking::check_file;
 use crate::explaining::explain_word;
 use crate::playing::{play_file, play_sample};
 use crate::reloading::reload_file;
 use crate::stop::{COMMAND_LINE, Stop};
 use crate::unloading::unload_file;
-use crate::words::{Request, read_words};
+use crate::words::{Explains, Request, read_words};
 use clap::error::ErrorKind;
-use hd_commands::Refusal;
+use hd_commands::{Ended, Refusal};
 use std::alloc::Global;
 use std::fs::File;
 use std::io::{Read, Write};
@@ -19,16 +20,24 @@ use std::rt::Files;
 ///
 /// Without words it reads a deck from `input` and plays it over the sample database, in memory. `deck` plays one over a volume, `check` judges
 /// a volume, `unload` writes its unload stream, and `reload` makes a volume of one; `explain` says what a fault, status or refusal means. What the
-/// calls answer, and what was done, goes to `out`; why the program ended early goes to `err`.
-pub fn play<R, I, O, E>(rt: &R, words: &[String], input: &mut I, out: &mut O, err: &mut E) -> u8
+/// calls answer, and what was done, goes to `out`; why the program ended early goes to `err`, a line, and where that is a terminal or the words
+/// say so, further lines that say more.
+pub fn play<R, I, O, E>(
+    rt: &R,
+    words: &[String],
+    is_terminal: bool,
+    input: &mut I,
+    out: &mut O,
+    err: &mut E,
+) -> u8
 where
     R: Files<File = File> + AllocGlobal,
     I: Read,
     O: Write,
     E: Write,
 {
-    let request = match read_words(rt.alloc(), words) {
-        Ok(request) => request,
+    let (request, explains) = match read_words(rt.alloc(), words) {
+        Ok(asked) => asked,
         Err(error) => {
             if error.kind() == ErrorKind::OutOfMemory {
                 return stopped(&Stop::from(Refusal::Memory), err);
@@ -37,20 +46,36 @@ where
             return COMMAND_LINE;
         }
     };
+    let says_more = match explains {
+        Explains::Always => true,
+        Explains::Never => false,
+        Explains::Auto => is_terminal,
+    };
     match perform(rt, request, input, out, err) {
-        Ok(status) => status,
-        Err(stop) => stopped(&stop, err),
+        Ok(ended) => {
+            if let (true, Some(refusal)) = (says_more, ended.refusal) {
+                let _ = advise_refusal(rt.alloc(), refusal, err);
+            }
+            ended.status
+        }
+        Err(stop) => {
+            let status = stopped(&stop, err);
+            if says_more {
+                let _ = advise_stop(rt.alloc(), &stop, &request, err);
+            }
+            status
+        }
     }
 }
 
-/// Does what is asked for, and says the status.
+/// Does what is asked for, and says how it ended.
 fn perform<R, I, O, E>(
     rt: &R,
     request: Request<'_>,
     input: &mut I,
     out: &mut O,
     err: &mut E,
-) -> Result<u8, Stop>
+) -> Result<Ended, Stop>
 where
     R: Files<File = File> + AllocGlobal,
     I: Read,
@@ -93,6 +118,8 @@ pub fn stopped<E: Write>(stop: &Stop, err: &mut E) -> u8 {
     stop.status()
 }
 
+#[cfg(test)]
+mod advice_tests;
 #[cfg(test)]
 mod check_tests;
 #[cfg(test)]

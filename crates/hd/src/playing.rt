@@ -5,8 +5,8 @@ ghost use Rattle.hd_deck.specs.StepText.{StepFits};
 use crate::files::{Identity, PIECE, cached_blocks, open_volume, read_database, read_file};
 use crate::input::read_whole;
 use crate::sample;
-use crate::stop::Stop;
-use hd_commands::{Refusal, play_deck, status_of_calls};
+use crate::stop::{Named, Stop, of_file};
+use hd_commands::{Ended, Refusal, play_deck, status_of_calls};
 use hd_dbd::{Dbd, Psb};
 use hd_deck::{Step, read_deck};
 use hd_gen::read_psb;
@@ -18,7 +18,7 @@ use std::marker::Brand;
 use std::rt::Files;
 use std::sync::ledger::{Blank, Ledger};
 
-/// Plays a deck over the volume in a store; its lines go out in large pieces. Says the status, and gives the store back.
+/// Plays a deck over the volume in a store; its lines go out in large pieces. Says how it ended, and gives the store back.
 fn play_store<S: BlockStore, O: Write, E: Write>(
     alloc: Global,
     dbd: &Dbd,
@@ -27,7 +27,7 @@ fn play_store<S: BlockStore, O: Write, E: Write>(
     store: S,
     out: &mut O,
     err: &mut E,
-) -> (S, Result<u8, Stop>)
+) -> (S, Result<Ended, Stop>)
     requires size { S.size store ≡ dbd.now.block_size }
     requires matches { psb.now.made_for ≡ type_names dbd.now.types }
     requires steps { All (StepFits (length psb.now.pcbs)) steps.now }
@@ -40,22 +40,25 @@ fn play_store<S: BlockStore, O: Write, E: Write>(
     // What a failed write leaves in the buffer is not written again.
     let (_, _) = lines.into_parts();
     match played {
-        Ok(memory) => (store, Ok(status_of_calls(memory))),
-        Err(ended) => (store, Ok(ended.status)),
+        Ok(memory) => (store, Ok(Ended::with_status(status_of_calls(memory)))),
+        Err(ended) => (store, Ok(ended)),
     }
 }
 
-/// Plays the deck that a reader holds over the sample, in memory. Says the status.
+/// Plays the deck that a reader holds over the sample, in memory. Says how it ended.
 pub fn play_sample<I: Read, O: Write, E: Write>(
     alloc: Global,
     input: &mut I,
     out: &mut O,
     err: &mut E,
-) -> Result<u8, Stop> {
-    let dbd = sample::database(alloc).map_err(|fault| Stop::database(fault))?;
-    let psb = sample::program(alloc, &dbd).map_err(|fault| Stop::program(fault))?;
-    let text = read_whole(alloc, input)?;
-    let steps = read_deck(alloc, &text, psb.pcbs().len() as u8)?;
+) -> Result<Ended, Stop> {
+    let dbd = sample::database(alloc).map_err(|fault| Stop::database(fault, Vec::new(alloc)))?;
+    let psb = sample::program(alloc, &dbd).map_err(|fault| Stop::program(fault, Vec::new(alloc)))?;
+    let text = of_file(Named::Input, read_whole(alloc, input))?;
+    let steps = match read_deck(alloc, &text, psb.pcbs().len() as u8) {
+        Ok(steps) => steps,
+        Err(fault) => return Err(Stop::deck(fault, text, Named::Input)),
+    };
     let store = sample::volume(alloc, &dbd)?;
     let (_, status) = play_store(alloc, &dbd, &psb, &steps, store, out, err);
     status
@@ -70,9 +73,11 @@ fn read_program<R: Files<File = File>>(
 ) -> Result<(Psb, Identity), Stop>
     ensures { IfOk result (λ p. p.0.made_for ≡ type_names dbd.now.types) }
 {
-    let (source, identity) = read_file(rt, alloc, name)?;
-    let psb = read_psb(alloc, &source, dbd).map_err(|fault| Stop::program(fault))?;
-    Ok((psb, identity))
+    let (source, identity) = read_file(rt, alloc, name, Named::Psb)?;
+    match read_psb(alloc, &source, dbd) {
+        Ok(psb) => Ok((psb, identity)),
+        Err(fault) => Err(Stop::program(fault, source)),
+    }
 }
 
 /// The steps that a file of a deck has, for a program of so many PCBs.
@@ -86,9 +91,11 @@ fn read_steps<R: Files<File = File>>(
     ensures fit { IfOk result (λ s. All (StepFits pcbs) s.0.items) }
     ensures few { IfOk result (λ s. length s.0.items ≤ 2 ^ 30) }
 {
-    let (text, identity) = read_file(rt, alloc, name)?;
-    let steps = read_deck(alloc, &text, pcbs)?;
-    Ok((steps, identity))
+    let (text, identity) = read_file(rt, alloc, name, Named::Deck)?;
+    match read_deck(alloc, &text, pcbs) {
+        Ok(steps) => Ok((steps, identity)),
+        Err(fault) => Err(Stop::deck(fault, text, Named::Deck)),
+    }
 }
 
 /// The status of a deck that a failed access ended, and which said so.
@@ -105,7 +112,7 @@ fn play_over<L: Ledger, O: Write, E: Write>(
     blank: Blank,
     out: &mut O,
     err: &mut E,
-) -> Result<u8, Stop>
+) -> Result<Ended, Stop>
     requires name { blank.name ≡ L.name }
     requires parts { blank.parts ≡ L.parts }
     requires share { 0 < blank.parts }
@@ -116,11 +123,11 @@ fn play_over<L: Ledger, O: Write, E: Write>(
     let store = cached_blocks::<L>(alloc, dbd, file, cache, blank)?;
     let (store, played) = play_store(alloc, dbd, psb, steps, store, out, err);
     let (_, written) = store.into_store();
-    let status = played?;
-    if status != DEVICE_FAILED {
+    let ended = played?;
+    if ended.status != DEVICE_FAILED {
         written?;
     }
-    Ok(status)
+    Ok(ended)
 }
 
 /// As `play_over`, with a ledger of its own.
@@ -133,7 +140,7 @@ fn play_over_file<O: Write, E: Write>(
     cache: u32,
     out: &mut O,
     err: &mut E,
-) -> Result<u8, Stop>
+) -> Result<Ended, Stop>
     requires matches { psb.now.made_for ≡ type_names dbd.now.types }
     requires steps { All (StepFits (length psb.now.pcbs)) steps.now }
     requires count { length steps.now ≤ 2 ^ 30 }
@@ -142,7 +149,7 @@ fn play_over_file<O: Write, E: Write>(
 }
 
 /// Plays the deck in a file over the volume in another, which is changed in place. The DBD, the PSB and the deck are read and judged first,
-/// in this order, then the volume is opened; only then is it judged. Says the status.
+/// in this order, then the volume is opened; only then is it judged. Says how it ended.
 pub fn play_file<R, O, E>(
     rt: &R,
     alloc: Global,
@@ -153,7 +160,7 @@ pub fn play_file<R, O, E>(
     cache: u32,
     out: &mut O,
     err: &mut E,
-) -> Result<u8, Stop>
+) -> Result<Ended, Stop>
 where
     R: Files<File = File>,
     O: Write,

@@ -1,8 +1,8 @@
 ghost use Rattle.std.specs.Prelude.{◌≡◌, ◌<◌};
 
 use crate::files::{cached_blocks, empty, keep_alone, open_output, read_database, read_file};
-use crate::stop::Stop;
-use hd_commands::reload_store;
+use crate::stop::{Named, Stop, of_file};
+use hd_commands::{Ended, reload_store};
 use hd_dbd::Dbd;
 use std::alloc::Global;
 use std::fs::File;
@@ -25,7 +25,7 @@ fn fill<L: Ledger, O: Write, E: Write>(
     cache: u32,
     out: &mut O,
     err: &mut E,
-) -> Result<u8, Stop>
+) -> Result<Ended, Stop>
     requires name { blank.name ≡ L.name }
     requires parts { blank.parts ≡ L.parts }
     requires share { 0 < blank.parts }
@@ -39,7 +39,7 @@ fn fill<L: Ledger, O: Write, E: Write>(
         written?;
         out.write_all(&line)?;
     }
-    Ok(ended.status)
+    Ok(ended)
 }
 
 /// As `fill`, with a ledger of its own.
@@ -52,7 +52,7 @@ fn fill_file<O: Write, E: Write>(
     cache: u32,
     out: &mut O,
     err: &mut E,
-) -> Result<u8, Stop> {
+) -> Result<Ended, Stop> {
     fill::<Brand, O, E>(
         alloc,
         dbd,
@@ -67,7 +67,7 @@ fn fill_file<O: Write, E: Write>(
 }
 
 /// Makes a volume file, of at most so many blocks, from 1 to 65,536, of the stream in a file. The DBD is read and judged first, then
-/// the stream is read, then the volume's file is made or cut to nothing; only then is the stream judged. Says the status.
+/// the stream is read, then the volume's file is made or cut to nothing; only then is the stream judged. Says how it ended.
 pub fn reload_file<R, O, E>(
     rt: &R,
     alloc: Global,
@@ -78,16 +78,16 @@ pub fn reload_file<R, O, E>(
     cache: u32,
     out: &mut O,
     err: &mut E,
-) -> Result<u8, Stop>
+) -> Result<Ended, Stop>
 where
     R: Files<File = File>,
     O: Write,
     E: Write,
 {
     let (dbd, source) = read_database(rt, alloc, dbd)?;
-    let (stream, records) = read_file(rt, alloc, input)?;
-    let file = open_output(rt, volume, true, &[source, records])?;
+    let (stream, records) = read_file(rt, alloc, input, Named::Stream)?;
+    let file = open_output(rt, volume, Named::Volume, true, &[source, records])?;
     keep_alone(&file)?;
-    empty(&file)?;
+    of_file(Named::Volume, empty(&file))?;
     fill_file(alloc, &dbd, &stream, file, blocks, cache, out, err)
 }

@@ -6,18 +6,39 @@ use std::alloc::{AllocError, AllocFailed};
 use std::io::{self, ErrorKind};
 use thiserror::Error;
 
+/// A file that a command reads or writes, by the word of the command line that names it.
+#[derive(Clone, Copy, Debug, PartialEq, Eq)]
+pub enum Named {
+    Dbd,
+    Psb,
+    Volume,
+    Deck,
+    /// The unload stream that is read.
+    Stream,
+    /// The unload stream that is written.
+    Out,
+    /// Standard input.
+    Input,
+}
+
 /// The status where the command line is not understood, or would write over an input.
 pub const COMMAND_LINE: u8 = 64;
 
 /// Why the program ended without having done its work. Its text is the line on standard error.
 #[derive(Debug, Drop, Error)]
 pub enum Stop {
+    /// The DBD's source has a fault; with the source.
     #[error("DBD refused: {0}")]
-    Database(GenFault),
+    Database(GenFault, Vec<u8>),
+    /// The PSB's source has a fault; with the source.
     #[error("PSB refused: {0}")]
-    Program(GenFault),
+    Program(GenFault, Vec<u8>),
+    /// The deck has a fault; with the deck, and the file that it stands in.
     #[error("DECK refused: {0}")]
-    Deck(DeckFault),
+    Deck(DeckFault, Vec<u8>, Named),
+    /// The system refused to open, to read or to write a file.
+    #[error("device failed")]
+    File(Named, io::Error),
     #[error("output file is also an input, nothing was changed")]
     OverInput,
     #[error("volume is in use")]
@@ -30,18 +51,34 @@ pub enum Stop {
 
 impl Stop {
     /// The DBD's source is refused, or could not be read for want of memory.
-    pub fn database(fault: GenFault) -> Stop {
+    pub fn database(fault: GenFault, source: Vec<u8>) -> Stop {
         match fault {
             GenFault::Memory => Stop::Refused(Refusal::Memory),
-            _ => Stop::Database(fault),
+            _ => Stop::Database(fault, source),
         }
     }
 
     /// The PSB's source is refused, or could not be read for want of memory.
-    pub fn program(fault: GenFault) -> Stop {
+    pub fn program(fault: GenFault, source: Vec<u8>) -> Stop {
         match fault {
             GenFault::Memory => Stop::Refused(Refusal::Memory),
-            _ => Stop::Program(fault),
+            _ => Stop::Program(fault, source),
+        }
+    }
+
+    /// The deck in a file is refused, or could not be read for want of memory.
+    pub fn deck(fault: DeckFault, text: Vec<u8>, file: Named) -> Stop {
+        match fault {
+            DeckFault::Memory => Stop::Refused(Refusal::Memory),
+            _ => Stop::Deck(fault, text, file),
+        }
+    }
+
+    /// A file could not be opened, read or written, or there is no memory for its bytes.
+    pub fn file(file: Named, error: io::Error) -> Stop {
+        match error.kind() {
+            ErrorKind::OutOfMemory => Stop::Refused(Refusal::Memory),
+            _ => Stop::File(file, error),
         }
     }
 
@@ -56,20 +93,19 @@ impl Stop {
     /// The status with which the program ends.
     pub fn status(&self) -> u8 {
         match self {
-            Stop::Database(_) | Stop::Program(_) | Stop::Deck(_) => 2,
-            Stop::InUse => 3,
+            Stop::Database(_, _) | Stop::Program(_, _) | Stop::Deck(_, _, _) => 2,
+            Stop::File(_, _) | Stop::InUse => 3,
             Stop::OverInput | Stop::Words => COMMAND_LINE,
             Stop::Refused(refusal) => refusal.status(),
         }
     }
 }
 
-impl From<DeckFault> for Stop {
-    fn from(fault: DeckFault) -> Stop {
-        match fault {
-            DeckFault::Memory => Stop::Refused(Refusal::Memory),
-            _ => Stop::Deck(fault),
-        }
+/// What was done with a file, or why the program stops.
+pub fn of_file<T>(file: Named, done: io::Result<T>) -> Result<T, Stop> {
+    match done {
+        Ok(value) => Ok(value),
+        Err(error) => Err(Stop::file(file, error)),
     }
 }
 

@@ -2,8 +2,8 @@ ghost use Rattle.std.specs.Prelude.{◌≡◌, ◌<◌};
 
 use crate::checking::load_volume;
 use crate::files::{PIECE, Rewritten, open_output, open_read_volume, read_database};
-use crate::stop::Stop;
-use hd_commands::{Refusal, unload_volume};
+use crate::stop::{Named, Stop};
+use hd_commands::{Ended, Refusal, unload_volume};
 use hd_dbd::Dbd;
 use std::alloc::Global;
 use std::fs::File;
@@ -22,7 +22,7 @@ fn copy<L: Ledger, O: Write, E: Write>(
     blank: Blank,
     out: &mut O,
     err: &mut E,
-) -> Result<u8, Stop>
+) -> Result<Ended, Stop>
     requires name { blank.name ≡ L.name }
     requires parts { blank.parts ≡ L.parts }
     requires share { 0 < blank.parts }
@@ -34,7 +34,7 @@ fn copy<L: Ledger, O: Write, E: Write>(
     let ended = unload_volume(alloc, &mut volume, dbd, &mut records, out, err);
     // What a refusal leaves in the buffer is not written.
     let (_, _) = records.into_parts();
-    Ok(ended.status)
+    Ok(ended)
 }
 
 /// As `copy`, with a ledger of its own.
@@ -46,13 +46,13 @@ fn copy_file<O: Write, E: Write>(
     cache: u32,
     out: &mut O,
     err: &mut E,
-) -> Result<u8, Stop> {
+) -> Result<Ended, Stop> {
     copy::<Brand, O, E>(alloc, dbd, file, stream, cache, Blank::new(1), out, err)
 }
 
 /// Checks the volume in a file, which is opened for reading alone, and writes its unload stream into another, which is opened for
 /// writing alone. The DBD is read and judged first, then both files are opened; only then is the volume judged, and only when it has
-/// passed the other file is cut to nothing and written. Says the status.
+/// passed the other file is cut to nothing and written. Says how it ended.
 pub fn unload_file<R, O, E>(
     rt: &R,
     alloc: Global,
@@ -62,7 +62,7 @@ pub fn unload_file<R, O, E>(
     cache: u32,
     out: &mut O,
     err: &mut E,
-) -> Result<u8, Stop>
+) -> Result<Ended, Stop>
 where
     R: Files<File = File>,
     O: Write,
@@ -70,6 +70,6 @@ where
 {
     let (dbd, source) = read_database(rt, alloc, dbd)?;
     let (file, image) = open_read_volume(rt, volume)?;
-    let stream = open_output(rt, stream, false, &[source, image])?;
+    let stream = open_output(rt, stream, Named::Out, false, &[source, image])?;
     copy_file(alloc, &dbd, file, Rewritten::over(stream), cache, out, err)
 }

@@ -1,5 +1,6 @@
 use crate::files::CACHE;
-use clap::{Arg, Command, Error, value_parser};
+use crate::stop::Named;
+use clap::{Arg, ArgMatches, Command, Error, value_parser};
 use std::alloc::Global;
 
 /// What the words of the command line ask for. All of them but `blocks`, `cache` and `word` are names of files; `cache` says how many blocks of
@@ -41,8 +42,38 @@ pub enum Request<'a> {
     },
 }
 
-/// What the words behind the program's name ask for; an error is `clap`'s, help among them.
-pub fn read_words(alloc: Global, words: &[String]) -> Result<Request<'_>, Error> {
+impl<'a> Request<'a> {
+    /// The name of one of the command's files, as the command line has it.
+    pub fn name_of(&self, file: Named) -> &'a str {
+        match (*self, file) {
+            (Request::Deck { dbd, .. }, Named::Dbd) => dbd,
+            (Request::Deck { psb, .. }, Named::Psb) => psb,
+            (Request::Deck { volume, .. }, Named::Volume) => volume,
+            (Request::Deck { deck, .. }, Named::Deck) => deck,
+            (Request::Check { dbd, .. }, Named::Dbd) => dbd,
+            (Request::Check { volume, .. }, Named::Volume) => volume,
+            (Request::Unload { dbd, .. }, Named::Dbd) => dbd,
+            (Request::Unload { volume, .. }, Named::Volume) => volume,
+            (Request::Unload { out, .. }, Named::Out) => out,
+            (Request::Reload { dbd, .. }, Named::Dbd) => dbd,
+            (Request::Reload { volume, .. }, Named::Volume) => volume,
+            (Request::Reload { input, .. }, Named::Stream) => input,
+            _ => "standard input",
+        }
+    }
+}
+
+/// When the line that says why the program stopped is followed by others that say more.
+#[derive(Clone, Copy, PartialEq, Eq)]
+pub enum Explains {
+    Always,
+    Never,
+    /// Where standard error is a terminal.
+    Auto,
+}
+
+/// What the words behind the program's name ask for, and when more is said of a stop; an error is `clap`'s, help among them.
+pub fn read_words(alloc: Global, words: &[String]) -> Result<(Request<'_>, Explains), Error> {
     let command = Command::new(alloc, "hd")
         .bin_name("hd")?
         .version("0.1.0")
@@ -50,50 +81,61 @@ pub fn read_words(alloc: Global, words: &[String]) -> Result<Request<'_>, Error>
             "A hierarchical database. Without a command it plays a deck of DL/I calls, read from standard input, over a built-in sample database",
         )
         .no_binary_name(true)
+        .arg(explains_word(alloc))?
         .subcommand(deck_command(alloc)?)?
         .subcommand(check_command(alloc)?)?
         .subcommand(unload_command(alloc)?)?
         .subcommand(reload_command(alloc)?)?
         .subcommand(explain_command(alloc)?)?;
     let matches = command.try_get_matches_from(words)?;
+    let explains = match matches.get_str("EXPLAIN") {
+        Some("always") => Explains::Always,
+        Some("never") => Explains::Never,
+        _ => Explains::Auto,
+    };
+    Ok((request_of(&matches), explains))
+}
+
+/// What the words that were read ask for.
+fn request_of<'a>(matches: &ArgMatches<'a>) -> Request<'a> {
     let Some((name, given)) = matches.subcommand() else {
-        return Ok(Request::Sample);
+        return Request::Sample;
     };
     if name == "explain" {
-        return Ok(Request::Explain {
+        return Request::Explain {
             word: given.get_str("WORD"),
-        });
+        };
     }
     let dbd = given.get_str("DBD").unwrap_or("");
     let volume = given.get_str("VOLUME").unwrap_or("");
     let cache = given.get_one::<u32>("CACHE").unwrap_or(CACHE);
     if name == "deck" {
-        return Ok(Request::Deck {
+        return Request::Deck {
             dbd,
             psb: given.get_str("PSB").unwrap_or(""),
             volume,
             deck: given.get_str("DECK").unwrap_or(""),
             cache,
-        });
+        };
     }
     if name == "check" {
-        return Ok(Request::Check { dbd, volume, cache });
+        return Request::Check { dbd, volume, cache };
     }
     if name == "unload" {
-        return Ok(Request::Unload {
+        return Request::Unload {
             dbd,
             volume,
             out: given.get_str("OUT").unwrap_or(""),
             cache,
-        });
+        };
     }
-    Ok(Request::Reload {
+    Request::Reload {
         dbd,
         input: given.get_str("IN").unwrap_or(""),
         volume,
         blocks: given.get_one::<u32>("BLOCKS").unwrap_or(1),
         cache,
-    })
+    }
 }
 
 /// The words of `hd deck`.
@@ -176,4 +218,16 @@ fn cache_word<'a>(alloc: Global) -> Arg<'a> {
         .value_name("BLOCKS")
         .help("The blocks of the volume that are kept in memory, 1 to 65536; 64 if it is not given")
         .value_parser(value_parser!(u32).range(1..=65_536))
+}
+
+/// The option that says when more is said of a stop.
+fn explains_word<'a>(alloc: Global) -> Arg<'a> {
+    Arg::new(alloc, "EXPLAIN")
+        .long("explain")
+        .value_name("WHEN")
+        .global(true)
+        .help(
+            "When further lines say more of why the program stopped; auto: where standard error is a terminal",
+        )
+        .value_parser(["always", "never", "auto"].as_slice())
 }

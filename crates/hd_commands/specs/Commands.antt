@@ -1,5 +1,5 @@
 -- What the commands say of what they were given, and what they print.
-use Rattle.std.specs.Prelude.{◌≡◌, ◌⊎◌, ◌<◌, ℕ, List, Bool, true, IsTrue, Option}
+use Rattle.std.specs.Prelude.{◌≡◌, ◌⊎◌, ◌<◌, ℕ, List, Bool, true, IsTrue, Option, Some}
 use Rattle.std.specs.Io.KnownBytes.{Appends}
 use Rattle.hd_dbd.specs.Hierarchy.{Database}
 use Rattle.hd_dbd.specs.Segment.{Segment}
@@ -38,9 +38,10 @@ pub record ReloadsInPrint (d : Database) (stream : List ℕ) (largest : ℕ) (im
 
 -- ---- work that is refused
 
--- A command ended with a refusal of which this is so: with its status, and with its line where standard error took it.
+-- A command ended with a refusal of which this is so: it is named, with its status, and with its line where standard error took it.
 pub record IsRefused (Says : Refusal → Type 0) (ended : Ended) (before after : Option (List ℕ)) : Type 0 where
   pub refusal : Refusal
+  pub named : ended.refusal ≡ Some refusal
   pub says : Says refusal
   pub status : ended.status ≡ status_of refusal
   pub line : ended.told ≡ true → Appends before after (refusal_line refusal)

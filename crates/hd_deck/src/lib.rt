@@ -11,6 +11,6 @@ mod running;
 mod step;
 
 pub use deck::{DeckFault, read_deck};
-pub use printing::{WriteFault, print_answer, print_refusal};
+pub use printing::{WriteFault, print_answer, print_refusal, put_shown};
 pub use running::{RunEnd, RunFault, run};
 pub use step::Step;

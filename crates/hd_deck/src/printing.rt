@@ -58,8 +58,8 @@ fn hex_digit(n: u8) -> u8
     if n < 10 { b'0' + n } else { b'a' - 10 + n }
 }
 
-/// Writes bytes so that each is seen.
-fn put_shown<W: Write>(out: &mut W, bytes: &[u8]) -> Result<(), WriteFault>
+/// Writes bytes so that each is seen: 32 to 126 as they are, but a backslash doubled, and any other as `\x` and two hexadecimal digits.
+pub fn put_shown<W: Write>(out: &mut W, bytes: &[u8]) -> Result<(), WriteFault>
     ensures { OnOk result (Appends (W.contents out.old) (W.contents out.new) (shown bytes.now)) }
 {
     for byte in bytes {

@@ -40,7 +40,7 @@ fn expect_lines<R: Files<File = File> + AllocGlobal + Abort>(rt: &R, deck: &[u8]
     let mut input = deck;
     let mut out = Vec::new(rt.alloc());
     let mut err = Vec::new(rt.alloc());
-    let status = play(rt, &[], &mut input, &mut out, &mut err);
+    let status = play(rt, &[], false, &mut input, &mut out, &mut err);
     assert_eq!(rt; out.as_slice(), lines);
     assert_eq!(rt; err.len(), 0);
     assert_eq!(rt; status, 0);

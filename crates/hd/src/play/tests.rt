@@ -1,19 +1,21 @@
 use super::testing::{Played, expect, play_words, refusals_of_growth};
 use super::*;
 use crate::sample;
+use crate::stop::Named;
 use hd_dbd::{DbdFault, PsbFault, Refused};
 use hd_deck::DeckFault;
 use hd_gen::GenFault;
 use std::alloc::AllocError;
 use std::io;
 use std::io::ErrorKind;
+use std::process::Abort;
 use std::test::Fail;
 
 fn play_deck(rt: &HostRuntime, deck: &[u8]) -> Played {
     let mut input = deck;
     let mut out = Vec::new(rt.alloc());
     let mut err = Vec::new(rt.alloc());
-    let status = play(rt, &[], &mut input, &mut out, &mut err);
+    let status = play(rt, &[], false, &mut input, &mut out, &mut err);
     Played { status, out, err }
 }
 
@@ -64,7 +66,7 @@ fn answers_words_with_the_text_of_clap(rt: HostRuntime) {
         let mut input: &[u8] = b"L     GN";
         let mut out = Vec::new(rt.alloc());
         let mut err = Vec::new(rt.alloc());
-        let status = play(&rt, &words, &mut input, &mut out, &mut err);
+        let status = play(&rt, &words, false, &mut input, &mut out, &mut err);
         assert_eq!(rt; status, COMMAND_LINE, "at {word}");
         assert_eq!(rt; out.len(), 0);
         assert!(rt; err.len() > 0);
@@ -165,7 +167,7 @@ fn reads_on_after_an_interruption(rt: HostRuntime) {
     let mut input = faulty(b"L     GN\n", false);
     let mut out = Vec::new(rt.alloc());
     let mut err = Vec::new(rt.alloc());
-    let status = play(&rt, &[], &mut input, &mut out, &mut err);
+    let status = play(&rt, &[], false, &mut input, &mut out, &mut err);
     assert_eq!(rt; status, 0);
     assert_eq!(rt;
         out.as_slice(),
@@ -178,7 +180,7 @@ fn tells_of_a_failed_read(rt: HostRuntime) {
     let mut input = faulty(b"L     GN\n", true);
     let mut out = Vec::new(rt.alloc());
     let mut err = Vec::new(rt.alloc());
-    let status = play(&rt, &[], &mut input, &mut out, &mut err);
+    let status = play(&rt, &[], false, &mut input, &mut out, &mut err);
     assert_eq!(rt; status, 3);
     assert_eq!(rt; err.as_slice(), b"device failed\n".as_slice());
     assert_eq!(rt; out.len(), 0);
@@ -190,111 +192,76 @@ fn tells_of_a_failed_write(rt: HostRuntime) {
         let mut input = deck;
         let mut out = faulty(b"", true);
         let mut err = Vec::new(rt.alloc());
-        let status = play(&rt, &[], &mut input, &mut out, &mut err);
+        let status = play(&rt, &[], false, &mut input, &mut out, &mut err);
         assert_eq!(rt; status, 3);
         assert_eq!(rt; err.as_slice(), b"device failed\n".as_slice());
     }
 }
 
+/// Faults of a database or of its source, and the lines that say them.
+const DBD_REFUSALS: &[(GenFault, &str)] = &[
+    (GenFault::Dbd(DbdFault::B10), "DBD refused: type 0, B10"),
+    (GenFault::Dbd(DbdFault::B1), "DBD refused: type 0, B1"),
+    (GenFault::Dbd(DbdFault::B2), "DBD refused: type 0, B2"),
+    (GenFault::Dbd(DbdFault::B3(16)), "DBD refused: type 16, B3"),
+    (GenFault::Dbd(DbdFault::B4(2)), "DBD refused: type 2, B4"),
+    (GenFault::Dbd(DbdFault::B5(1)), "DBD refused: type 1, B5"),
+    (GenFault::Dbd(DbdFault::B6(1)), "DBD refused: type 1, B6"),
+    (GenFault::Dbd(DbdFault::B7(3)), "DBD refused: type 3, B7"),
+    (GenFault::Dbd(DbdFault::B8(4)), "DBD refused: type 4, B8"),
+    (GenFault::Dbd(DbdFault::B9(1)), "DBD refused: type 1, B9"),
+    (GenFault::G1(12), "DBD refused: line 12, G1"),
+];
+
+/// The same of a program.
+const PSB_REFUSALS: &[(GenFault, &str)] = &[
+    (GenFault::Psb(PsbFault::P1(1)), "PSB refused: pcb 1, P1"),
+    (GenFault::Psb(PsbFault::P2(2)), "PSB refused: pcb 2, P2"),
+    (GenFault::Psb(PsbFault::P3(1)), "PSB refused: pcb 1, P3"),
+    (GenFault::Psb(PsbFault::P4(1)), "PSB refused: pcb 1, P4"),
+    (GenFault::Psb(PsbFault::P5(3)), "PSB refused: pcb 3, P5"),
+    (GenFault::Psb(PsbFault::P6(0)), "PSB refused: pcb 0, P6"),
+    (GenFault::G2(1), "PSB refused: line 1, G2"),
+];
+
+/// A stop has this text and this status.
+fn says<R: AllocGlobal + Abort>(rt: &R, stop: &Stop, line: &str, status: u8) {
+    let text = stop.to_string(rt.alloc()).expect(rt, "memory");
+    assert_eq!(rt; text.as_str(), line);
+    assert_eq!(rt; stop.status(), status);
+}
+
 #[test]
 fn words_refusals_as_a_person_reads_them(rt: HostRuntime) {
-    for (stop, line) in [
-        (
-            Stop::database(GenFault::Dbd(DbdFault::B10)),
-            "DBD refused: type 0, B10",
-        ),
-        (
-            Stop::database(GenFault::Dbd(DbdFault::B1)),
-            "DBD refused: type 0, B1",
-        ),
-        (
-            Stop::database(GenFault::Dbd(DbdFault::B2)),
-            "DBD refused: type 0, B2",
-        ),
-        (
-            Stop::database(GenFault::Dbd(DbdFault::B3(16))),
-            "DBD refused: type 16, B3",
-        ),
-        (
-            Stop::database(GenFault::Dbd(DbdFault::B4(2))),
-            "DBD refused: type 2, B4",
-        ),
-        (
-            Stop::database(GenFault::Dbd(DbdFault::B5(1))),
-            "DBD refused: type 1, B5",
-        ),
-        (
-            Stop::database(GenFault::Dbd(DbdFault::B6(1))),
-            "DBD refused: type 1, B6",
-        ),
-        (
-            Stop::database(GenFault::Dbd(DbdFault::B7(3))),
-            "DBD refused: type 3, B7",
-        ),
-        (
-            Stop::database(GenFault::Dbd(DbdFault::B8(4))),
-            "DBD refused: type 4, B8",
-        ),
-        (
-            Stop::database(GenFault::Dbd(DbdFault::B9(1))),
-            "DBD refused: type 1, B9",
-        ),
-        (
-            Stop::program(GenFault::Psb(PsbFault::P1(1))),
-            "PSB refused: pcb 1, P1",
-        ),
-        (
-            Stop::program(GenFault::Psb(PsbFault::P2(2))),
-            "PSB refused: pcb 2, P2",
-        ),
-        (
-            Stop::program(GenFault::Psb(PsbFault::P3(1))),
-            "PSB refused: pcb 1, P3",
-        ),
-        (
-            Stop::program(GenFault::Psb(PsbFault::P4(1))),
-            "PSB refused: pcb 1, P4",
-        ),
-        (
-            Stop::program(GenFault::Psb(PsbFault::P5(3))),
-            "PSB refused: pcb 3, P5",
-        ),
-        (
-            Stop::program(GenFault::Psb(PsbFault::P6(0))),
-            "PSB refused: pcb 0, P6",
-        ),
-        (Stop::database(GenFault::G1(12)), "DBD refused: line 12, G1"),
-        (Stop::program(GenFault::G2(1)), "PSB refused: line 1, G2"),
-    ] {
-        assert_eq!(rt;
-            stop.to_string(rt.alloc()).expect(&rt, "memory").as_str(),
-            line
-        );
-        assert_eq!(rt; stop.status(), 2);
+    let alloc = rt.alloc();
+    for (fault, line) in DBD_REFUSALS {
+        says(&rt, &Stop::database(*fault, Vec::new(alloc)), line, 2);
     }
-    for (stop, line, status) in [
-        (Stop::database(GenFault::Memory), "no memory", 4),
-        (Stop::program(GenFault::Memory), "no memory", 4),
-        (Stop::from(DeckFault::Memory), "no memory", 4),
-        (Stop::from(Refused::Memory), "no memory", 4),
-        (Stop::from(AllocError), "no memory", 4),
-        (
-            Stop::words(&io::Error::from(ErrorKind::OutOfMemory)),
-            "no memory",
-            4,
-        ),
-        (
-            Stop::words(&io::Error::from(ErrorKind::InvalidData)),
-            "a word of the command line is not UTF-8",
-            64,
-        ),
-    ] {
-        assert_eq!(rt;
-            stop.to_string(rt.alloc()).expect(&rt, "memory").as_str(),
-            line
-        );
-        assert_eq!(rt; stop.status(), status);
+    for (fault, line) in PSB_REFUSALS {
+        says(&rt, &Stop::program(*fault, Vec::new(alloc)), line, 2);
     }
+}
+
+#[test]
+fn says_where_memory_is_wanting(rt: HostRuntime) {
+    let alloc = rt.alloc();
+    let line = "no memory";
+    let fault = GenFault::Memory;
+    says(&rt, &Stop::database(fault, Vec::new(alloc)), line, 4);
+    says(&rt, &Stop::program(fault, Vec::new(alloc)), line, 4);
+    let stop = Stop::deck(DeckFault::Memory, Vec::new(alloc), Named::Deck);
+    says(&rt, &stop, line, 4);
+    says(&rt, &Stop::from(Refused::Memory), line, 4);
+    says(&rt, &Stop::from(AllocError), line, 4);
+    let error = io::Error::from(ErrorKind::OutOfMemory);
+    says(&rt, &Stop::words(&error), line, 4);
+    says(&rt, &Stop::file(Named::Dbd, error), line, 4);
+}
+
+#[test]
+fn says_that_a_word_is_no_text(rt: HostRuntime) {
+    let stop = Stop::words(&io::Error::from(ErrorKind::InvalidData));
+    says(&rt, &stop, "a word of the command line is not UTF-8", 64);
 }
 
 #[test]

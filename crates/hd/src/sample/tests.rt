@@ -16,7 +16,7 @@ fn with_line<R: AllocGlobal + Abort>(rt: &R, text: &[u8], number: usize, line: &
 /// The line that tells why a DBD source is refused.
 fn dbd_refusal<R: AllocGlobal + Abort>(rt: &R, text: &[u8]) -> String {
     let fault = read_dbd(rt.alloc(), text).err().expect(rt, "a fault");
-    Stop::database(fault)
+    Stop::database(fault, Vec::new(rt.alloc()))
         .to_string(rt.alloc())
         .expect(rt, "memory")
 }
@@ -96,7 +96,7 @@ fn names_the_first_fault_of_a_psb_source(rt: HostRuntime) {
         let fault = read_psb(rt.alloc(), &text, &dbd)
             .err()
             .expect(&rt, "a fault");
-        let told = Stop::program(fault)
+        let told = Stop::program(fault, Vec::new(rt.alloc()))
             .to_string(rt.alloc())
             .expect(&rt, "memory");
         assert_eq!(rt; told.as_str(), refusal);
