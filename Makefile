@@ -1,6 +1,7 @@
 # `make` proves hd and leaves it at bin/hd; `make run` plays the sample deck; `make try` plays it unproved, in under a
-# minute; `make test` is the gate; `make bench` measures hd, and SQLite beside it.
-.PHONY: all run try test bench clean
+# minute; `make test` is the gate; `make bench` measures hd, and SQLite beside it; `make install` puts the program and its
+# manual pages below PREFIX, and `make uninstall` takes them away.
+.PHONY: all run try test bench install uninstall clean
 
 all: bin/hd
 
@@ -26,6 +27,22 @@ test:
 
 bench: bin/hd
 	python3 bench/bench.py
+
+PREFIX ?= /usr/local
+BIN = $(DESTDIR)$(PREFIX)/bin
+MAN = $(DESTDIR)$(PREFIX)/share/man
+
+bin/hd-formats.5: docs/manual.py docs/FORMATS.md
+	mkdir -p bin
+	python3 docs/manual.py docs/FORMATS.md >$@
+
+install: bin/hd bin/hd-formats.5
+	install -D -m 755 bin/hd $(BIN)/hd
+	install -D -m 644 docs/hd.1 $(MAN)/man1/hd.1
+	install -D -m 644 bin/hd-formats.5 $(MAN)/man5/hd-formats.5
+
+uninstall:
+	rm -f $(BIN)/hd $(MAN)/man1/hd.1 $(MAN)/man5/hd-formats.5
 
 clean:
 	rm -rf bin crates/*/out
