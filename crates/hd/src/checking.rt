@@ -1,7 +1,7 @@
 ghost use Rattle.std.specs.Prelude.{◌≡◌, ◌<◌, IfOk};
 ghost use Rattle.hd_dbd.specs.Facts.{stored_sizes};
 
-use crate::files::{cached_blocks, open_read_volume, read_database};
+use crate::files::{CACHE, cached_blocks, open_read_volume, read_database};
 use crate::stop::Stop;
 use hd_cache::Cached;
 use hd_commands::{Ended, check_volume};
@@ -70,7 +70,7 @@ pub fn check_file<R, O, E>(
     alloc: Global,
     dbd: &str,
     volume: &str,
-    cache: u32,
+    cache: Option<u32>,
     out: &mut O,
     err: &mut E,
 ) -> Result<Ended, Stop>
@@ -81,5 +81,5 @@ where
 {
     let (dbd, _) = read_database(rt, alloc, dbd)?;
     let (file, _) = open_read_volume(rt, volume)?;
-    judge_file(alloc, &dbd, file, cache, out, err)
+    judge_file(alloc, &dbd, file, cache.unwrap_or(CACHE), out, err)
 }

@@ -16,8 +16,16 @@ use std::sync::ledger::{Blank, Ledger};
 /// The bytes of output that go out in one piece.
 pub const PIECE: usize = 65_536;
 
-/// How many blocks of a volume are kept in memory, where the command line does not say.
+/// How many blocks of a volume are kept in memory for a command that goes through it in order, where the command line does not say.
 pub const CACHE: u32 = 64;
+
+/// How many bytes of a volume are kept in memory for the calls of a deck, where the command line does not say.
+const CALLS_CACHE: u32 = 4_194_304;
+
+/// How many blocks of a volume are kept in memory for the calls of a deck, where the command line does not say.
+pub fn blocks_for_calls(dbd: &Dbd) -> u32 {
+    CALLS_CACHE / dbd.block_size().max(1)
+}
 
 /// Which file of this machine a file is, under whatever name it was opened.
 #[derive(Clone, Copy, PartialEq, Eq)]

@@ -2,7 +2,9 @@ ghost use Rattle.std.specs.Prelude.{◌≡◌, ◌<◌, ◌≤◌, ◌^◌, leng
 ghost use Rattle.hd_dbd.specs.ProgramRules.{type_names};
 ghost use Rattle.hd_deck.specs.StepText.{StepFits};
 
-use crate::files::{Identity, PIECE, cached_blocks, open_volume, read_database, read_file};
+use crate::files::{
+    Identity, PIECE, blocks_for_calls, cached_blocks, open_volume, read_database, read_file,
+};
 use crate::input::read_whole;
 use crate::sample;
 use crate::stop::{Named, Stop, of_file};
@@ -157,7 +159,7 @@ pub fn play_file<R, O, E>(
     psb: &str,
     volume: &str,
     deck: &str,
-    cache: u32,
+    cache: Option<u32>,
     out: &mut O,
     err: &mut E,
 ) -> Result<Ended, Stop>
@@ -170,5 +172,6 @@ where
     let (psb, program) = read_program(rt, alloc, &dbd, psb)?;
     let (steps, text) = read_steps(rt, alloc, psb.pcbs().len() as u8, deck)?;
     let file = open_volume(rt, volume, &[source, program, text])?;
-    play_over_file(alloc, &dbd, &psb, &steps, file, cache, out, err)
+    let kept = cache.unwrap_or(blocks_for_calls(&dbd));
+    play_over_file(alloc, &dbd, &psb, &steps, file, kept, out, err)
 }

@@ -1,6 +1,8 @@
 ghost use Rattle.std.specs.Prelude.{◌≡◌, ◌<◌};
 
-use crate::files::{cached_blocks, empty, keep_alone, open_output, read_database, read_file};
+use crate::files::{
+    CACHE, cached_blocks, empty, keep_alone, open_output, read_database, read_file,
+};
 use crate::stop::{Named, Stop, of_file};
 use hd_commands::{Ended, reload_store};
 use hd_dbd::Dbd;
@@ -75,7 +77,7 @@ pub fn reload_file<R, O, E>(
     input: &str,
     volume: &str,
     blocks: u32,
-    cache: u32,
+    cache: Option<u32>,
     out: &mut O,
     err: &mut E,
 ) -> Result<Ended, Stop>
@@ -89,5 +91,14 @@ where
     let file = open_output(rt, volume, Named::Volume, true, &[source, records])?;
     keep_alone(&file)?;
     of_file(Named::Volume, empty(&file))?;
-    fill_file(alloc, &dbd, &stream, file, blocks, cache, out, err)
+    fill_file(
+        alloc,
+        &dbd,
+        &stream,
+        file,
+        blocks,
+        cache.unwrap_or(CACHE),
+        out,
+        err,
+    )
 }

@@ -1,7 +1,7 @@
 ghost use Rattle.std.specs.Prelude.{◌≡◌, ◌<◌};
 
 use crate::checking::load_volume;
-use crate::files::{PIECE, Rewritten, open_output, open_read_volume, read_database};
+use crate::files::{CACHE, PIECE, Rewritten, open_output, open_read_volume, read_database};
 use crate::stop::{Named, Stop};
 use hd_commands::{Ended, Refusal, unload_volume};
 use hd_dbd::Dbd;
@@ -59,7 +59,7 @@ pub fn unload_file<R, O, E>(
     dbd: &str,
     volume: &str,
     stream: &str,
-    cache: u32,
+    cache: Option<u32>,
     out: &mut O,
     err: &mut E,
 ) -> Result<Ended, Stop>
@@ -71,5 +71,13 @@ where
     let (dbd, source) = read_database(rt, alloc, dbd)?;
     let (file, image) = open_read_volume(rt, volume)?;
     let stream = open_output(rt, stream, Named::Out, false, &[source, image])?;
-    copy_file(alloc, &dbd, file, Rewritten::over(stream), cache, out, err)
+    copy_file(
+        alloc,
+        &dbd,
+        file,
+        Rewritten::over(stream),
+        cache.unwrap_or(CACHE),
+        out,
+        err,
+    )
 }

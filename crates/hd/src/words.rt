@@ -1,10 +1,9 @@
-use crate::files::CACHE;
 use crate::stop::Named;
 use clap::{Arg, ArgMatches, Command, Error, value_parser};
 use std::alloc::Global;
 
 /// What the words of the command line ask for. All of them but `blocks`, `cache` and `word` are names of files; `cache` says how many blocks of
-/// the volume are kept in memory.
+/// the volume are kept in memory, if the words say it.
 #[derive(Clone, Copy)]
 pub enum Request<'a> {
     /// A deck over the sample.
@@ -15,18 +14,18 @@ pub enum Request<'a> {
         psb: &'a str,
         volume: &'a str,
         deck: &'a str,
-        cache: u32,
+        cache: Option<u32>,
     },
     Check {
         dbd: &'a str,
         volume: &'a str,
-        cache: u32,
+        cache: Option<u32>,
     },
     Unload {
         dbd: &'a str,
         volume: &'a str,
         out: &'a str,
-        cache: u32,
+        cache: Option<u32>,
     },
     /// A volume of an unload stream, of at most so many blocks.
     Reload {
@@ -34,7 +33,7 @@ pub enum Request<'a> {
         input: &'a str,
         volume: &'a str,
         blocks: u32,
-        cache: u32,
+        cache: Option<u32>,
     },
     /// What a fault, status or refusal means, or a list of all.
     Explain {
@@ -108,7 +107,7 @@ fn request_of<'a>(matches: &ArgMatches<'a>) -> Request<'a> {
     }
     let dbd = given.get_str("DBD").unwrap_or("");
     let volume = given.get_str("VOLUME").unwrap_or("");
-    let cache = given.get_one::<u32>("CACHE").unwrap_or(CACHE);
+    let cache = given.get_one::<u32>("CACHE");
     if name == "deck" {
         return Request::Deck {
             dbd,
@@ -216,7 +215,9 @@ fn cache_word<'a>(alloc: Global) -> Arg<'a> {
     Arg::new(alloc, "CACHE")
         .long("cache")
         .value_name("BLOCKS")
-        .help("The blocks of the volume that are kept in memory, 1 to 65536; 64 if it is not given")
+        .help(
+            "The blocks of the volume that are kept in memory, 1 to 65536; if it is not given 64, and 4 megabytes of them for a deck",
+        )
         .value_parser(value_parser!(u32).range(1..=65_536))
 }
 
