@@ -1,5 +1,5 @@
 -- The lines that a run prints, one for each entry of its log.
-use Rattle.std.specs.Prelude.{ℕ, ◌+◌, ◌/◌, ◌%◌, List, [], ◌∷◌, ◌++◌, cond, nat_le, nat_lt, ◌&&◌, ◌==◌, Option, codes, decimal, replicate, flat_map, unwrap_or, Result, Ok, Err}
+use Rattle.std.specs.Prelude.{ℕ, ◌+◌, ◌/◌, ◌%◌, List, [], ◌∷◌, ◌++◌, Bool, cond, not, nat_le, nat_lt, ◌&&◌, ◌==◌, Option, codes, decimal, replicate, flat_map, unwrap_or, Result, Ok, Err}
 use Rattle.hd_dbd.specs.declared.answer.Status.{Status}
 use Rattle.hd_dbd.specs.declared.answer.Status.TheVariants.{Blank, GA, GK, GB, GE, GP, II, DA, DJ, LB, LC, LD, LE, AC, AD, AH, AJ, AK, AM}
 use Rattle.hd_dbd.specs.declared.answer.Refused.{Refused}
@@ -39,6 +39,10 @@ abbrev pub shown_byte : ℕ → List ℕ
 shown_byte b =
     cond (b == 92) (92 ∷ 92 ∷ [])
     (cond (nat_le 32 b && nat_le b 126) (b ∷ []) (92 ∷ 120 ∷ hex_digit (b / 16) ∷ hex_digit (b % 16) ∷ []))
+
+-- whether that is the byte as it is
+abbrev pub is_plain : ℕ → Bool
+is_plain b = not (b == 92) && (nat_le 32 b && nat_le b 126)
 
 abbrev pub shown : List ℕ → List ℕ
 shown bytes = flat_map shown_byte bytes

@@ -1,8 +1,9 @@
 ghost use Rattle.std.specs.Prelude.{◌≡◌, ◌<◌, ◌++◌, unwrap_or, replicate, OnOk};
+ghost use Rattle.std.specs.List.{list_all};
 ghost use Rattle.std.specs.Io.KnownBytes.{Appends};
 ghost use Rattle.hd_dbd.specs.Logs.{replied};
 ghost use Rattle.hd_session.specs.Replies.{reply_of};
-ghost use Rattle.hd_deck.specs.Printing.{status_text, hex_digit, shown, shown_byte, two_digits, head_text, bracket_text, place_text, bytes_text, outcome_text, refused_text, refusal_text, answered_text};
+ghost use Rattle.hd_deck.specs.Printing.{status_text, hex_digit, is_plain, shown, shown_byte, two_digits, head_text, bracket_text, place_text, bytes_text, outcome_text, refused_text, refusal_text, answered_text};
 
 use hd_dbd::{Name8, Refused, Status};
 use hd_session::{Answer, IoArea};
@@ -58,8 +59,32 @@ fn hex_digit(n: u8) -> u8
     if n < 10 { b'0' + n } else { b'a' - 10 + n }
 }
 
+/// Whether a byte is printed as it is.
+fn is_plain(byte: u8) -> bool
+    ensures { result ≡ is_plain byte }
+{
+    byte != b'\\' && 32 <= byte && byte <= 126
+}
+
+/// Whether all bytes are printed as they are.
+fn are_plain(bytes: &[u8]) -> bool
+    ensures { result ≡ list_all is_plain bytes.now }
+{
+    bytes.iter().all(|byte| is_plain(*byte))
+}
+
 /// Writes bytes so that each is seen: 32 to 126 as they are, but a backslash doubled, and any other as `\x` and two hexadecimal digits.
 pub fn put_shown<W: Write>(out: &mut W, bytes: &[u8]) -> Result<(), WriteFault>
+    ensures { OnOk result (Appends (W.contents out.old) (W.contents out.new) (shown bytes.now)) }
+{
+    if are_plain(bytes) {
+        return put(out, bytes);
+    }
+    put_each(out, bytes)
+}
+
+/// Writes bytes one by one, so that each is seen.
+fn put_each<W: Write>(out: &mut W, bytes: &[u8]) -> Result<(), WriteFault>
     ensures { OnOk result (Appends (W.contents out.old) (W.contents out.new) (shown bytes.now)) }
 {
     for byte in bytes {

@@ -1,5 +1,5 @@
 -- The first of a chain of twins whose key is not below a key.
-use Rattle.std.proofs.Common.{◌≡◌, ℕ, zero, suc, ◌+◌, ◌-◌, ◌<◌, ◌≤◌, List, length, take, drop, Bool, true, false, cond, Option, Some, None, IsTrue, ap, sym, ◌∙◌, refl, subst, arith}
+use Rattle.std.proofs.Common.{◌≡◌, ℕ, zero, suc, ◌+◌, ◌-◌, ◌<◌, ◌≤◌, List, [], length, take, drop, Bool, true, false, cond, Option, Some, None, IsTrue, ap, sym, ◌∙◌, refl, subst, arith}
 use Rattle.std.specs.Prelude.{◌&&◌, nat_lt, nat_le, option_map, option_and_then}
 use Rattle.std.specs.Option.{option_map_or}
 use Rattle.std.specs.Ordering.{nat_cmp, is_lt}
@@ -13,6 +13,7 @@ use Rattle.hd_dbd.specs.declared.hierarchy.Key.{Key}
 use Rattle.hd_dbd.specs.Types.{SegmentType}
 use Rattle.hd_dbd.specs.Segment.{Segment}
 use Rattle.hd_dbd.specs.Hierarchy.{type_of, part_of}
+use Rattle.hd_dbd.specs.Rows.{key_of}
 use Rattle.hd_dbd.specs.DatabaseRules.{well_formed, part_fits, parts_fit}
 use Rattle.hd_dbd.specs.Paths.{is_twin}
 use Rattle.hd_dbd.specs.Prefixes.{twin_part, child_parts, prefix_length, stored_size}
@@ -58,6 +59,7 @@ key_fits size frspc types c t k fit is has =
 -- What stands at the places of a type's twin forward and key.
 pub record IsRead (types : List SegmentType) (c : ℕ) (places : TwinPlaces) (key s : List ℕ) : Type 0 where
   pub key_is : is_lt (slice_cmp nat_cmp (bytes_at s places.key places.length) key) ≡ is_key_below types key (record { code = c; bytes = bytes_of types c s })
+  pub has_key : bytes_at s places.key places.length ≡ key_of types (record { code = c; bytes = bytes_of types c s })
   pub forward : number_at 4 s places.forward ≡ pointer_of types c TwinForward s
   pub long : places.forward + 4 ≤ length s
 
@@ -73,6 +75,9 @@ module _ (size : ℕ) (frspc : FreeSpace) (types : List SegmentType) (fit : IsTr
         key_is = sym (ap (λ (o : Option SegmentType). option_map_or (λ t. option_map_or (λ k. is_lt (slice_cmp nat_cmp (part_of (bytes_of types c s) k.start k.length) key)) t.key false) o false) is
             ∙ ap (λ (o : Option Key). option_map_or (λ k. is_lt (slice_cmp nat_cmp (part_of (bytes_of types c s) k.start k.length) key)) o false) has
             ∙ ap (λ (xs : List ℕ). is_lt (slice_cmp nat_cmp xs key)) (part_in s (prefix_length types c) (length_of types c) k.start k.length (omega arith)));
+        has_key = sym (ap (λ (o : Option SegmentType). option_map_or (λ t. option_map_or (λ k. part_of (bytes_of types c s) k.start k.length) t.key []) o []) is
+            ∙ ap (λ (o : Option Key). option_map_or (λ k. part_of (bytes_of types c s) k.start k.length) o []) has
+            ∙ part_in s (prefix_length types c) (length_of types c) k.start k.length (omega arith));
         forward = sym (ap (λ (o : Option SegmentType). option_map_or (λ place. number_at 4 s place) (option_map (λ _. 2) o) 0) is);
         long = omega arith;
       }

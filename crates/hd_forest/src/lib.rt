@@ -21,6 +21,6 @@ pub use read::{
     code_at, first_child, last_child, last_twin, next_twin, parent_on, prev_twin, tip_of,
 };
 pub use row::bytes_in;
-pub use twins::twin_from;
+pub use twins::{TwinPlaces, forward_in, key_at, twin_from, twin_places};
 pub use unlink::unlink_span;
 pub use walk::{next_after_span, next_row};

@@ -19,14 +19,14 @@ use hd_volume::{BlockStore, Volume};
 
 /// Where the stored segments of a type that has a key have twin forward and the key, and the key's length.
 #[derive(Clone, Copy, Debug)]
-struct TwinPlaces {
+pub struct TwinPlaces {
     forward: u16,
     key: usize,
     length: usize,
 }
 
 /// Where the segments of the type of a code have twin forward and the key; `None` where it has no key.
-fn twin_places(dbd: &Dbd, code: u8) -> Option<TwinPlaces>
+pub fn twin_places(dbd: &Dbd, code: u8) -> Option<TwinPlaces>
     ensures { result ≡ twin_places dbd.now.types code }
 {
     let own = dbd.type_of(code)?;
@@ -40,17 +40,24 @@ fn twin_places(dbd: &Dbd, code: u8) -> Option<TwinPlaces>
     })
 }
 
+/// The key of a lent segment.
+pub fn key_at(places: TwinPlaces, segment: &[u8]) -> &[u8]
+    ensures { result.now ≡ bytes_at segment.now places.key places.length }
+{
+    let start = places.key.min(segment.len());
+    let count = places.length.min(segment.len() - start);
+    &segment[start..start + count]
+}
+
 /// Whether the key of a lent segment is below another.
 fn is_below(places: TwinPlaces, segment: &[u8], key: &[u8]) -> bool
     ensures { result ≡ is_lt (slice_cmp nat_cmp (bytes_at segment.now places.key places.length) key.now) }
 {
-    let start = places.key.min(segment.len());
-    let count = places.length.min(segment.len() - start);
-    segment[start..start + count].cmp(key).is_lt()
+    key_at(places, segment).cmp(key).is_lt()
 }
 
 /// The twin forward of a lent segment.
-fn forward_in(places: TwinPlaces, segment: &[u8]) -> u32
+pub fn forward_in(places: TwinPlaces, segment: &[u8]) -> u32
     ensures { places.forward + 4 ≤ length segment.now → result ≡ number_at 4 segment.now places.forward }
 {
     let place = places.forward as usize;

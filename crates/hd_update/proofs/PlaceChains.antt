@@ -1,6 +1,7 @@
 -- A chain of twins, and where a row without key goes in.
 use Rattle.std.proofs.Common.{◌≡◌, ℕ, suc, ◌<◌, List, Bool, true, false, Option, Some, None, Ok, refl, sym, ap, subst, ◌∙◌, arith, inl, inr}
-use Rattle.std.specs.Prelude.{cond}
+use Rattle.std.specs.Prelude.{cond, is_some, option_map, option_and_then}
+use Rattle.std.specs.Option.{option_map_or}
 use Rattle.std.specs.Ordering.{nat_cmp}
 use Rattle.std.specs.Cmp.Lexicographic.{slice_cmp}
 use Rattle.std.proofs.lemmas.Bool.{false≢true}
@@ -18,6 +19,7 @@ use Rattle.hd_links.proofs.Build.{zero_or}
 use Rattle.hd_links.proofs.Ways.{chain_more}
 use Rattle.hd_image.specs.Records.{links_of}
 use Rattle.hd_forest.specs.Twins.{IsBehind}
+use Rattle.hd_forest.specs.TwinPlaces.{places_of, twin_places}
 use Rattle.hd_forest.proofs.Chains.{twin-some}
 use Rattle.hd_forest.proofs.Held.{held}
 use Rattle.hd_forest.proofs.Reading.{after-read, sound-before}
@@ -29,6 +31,23 @@ use Rattle.hd_update.specs.Places.{has_key, side_of, side_at, IsGapFound, IsGapB
 pub reached : (m : Links) (p y z : ℕ) → IsBehind m p y z → 0 < z → IsInChain m p z
 reached m p y z (inl e) some = (0, (subst (λ x. 0 < x) (sym e.1) some, e.1))
 reached m p y z (inr b) some = subst (IsInChain m p) b.2 (suc b.1.0, chain_more m b.1.0 p y b.1.1 (subst (λ x. 0 < x) (sym b.2) some))
+
+-- where twin forward and key have no place the type has no key
+pub keyless : (types : List SegmentType) (c : ℕ) → twin_places types c ≡ None → has_key types c ≡ false
+keyless types c are = by_type (type_of types c) refl are
+  where
+    by_key : (t : SegmentType) (o : Option Key) → type_of types c ≡ Some t
+        → option_and_then (λ k. option_map (λ place. places_of types c k place) (option_map (λ _. 2) (type_of types c))) o ≡ None → is_some o ≡ false
+    by_key t None is e = refl
+    by_key t (Some k) is e =
+        (let wrong : Some (places_of types c k 2) ≡ None
+        = sym (ap (λ (o : Option SegmentType). option_map (λ place. places_of types c k place) (option_map (λ _. 2) o)) is) ∙ e in cc)
+
+    by_type : (o : Option SegmentType) → type_of types c ≡ o
+        → option_and_then (λ t. option_and_then (λ k. option_map (λ place. places_of types c k place) (option_map (λ _. 2) (type_of types c))) t.key) o ≡ None
+        → option_map_or (λ t. is_some t.key) o false ≡ false
+    by_type None is e = refl
+    by_type (Some t) is e = by_key t t.key is e
 
 -- what stands in the chain below a parent is a segment of the type
 pub chain_typed : (d : Database) (v : VolumeState) (h code : ℕ) → IsParent d v h code → (a : ℕ) → IsInChain (links_of d.types v) ((links_of d.types v).first_child h code) a

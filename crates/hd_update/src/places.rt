@@ -1,11 +1,12 @@
 //! Where a row goes in: the twin behind which it is linked.
-ghost use Rattle.std.specs.Prelude.{◌≡◌, List, ℕ, true, false, IfOk, IsTrue};
+ghost use Rattle.std.specs.Prelude.{◌≡◌, List, ℕ, true, false, Some, IfOk, IsTrue};
 ghost use Rattle.hd_dbd.specs.declared.hierarchy.Rule.TheVariants.{Here};
 ghost use Rattle.hd_dbd.specs.Loads.{has_unique_key};
 ghost use Rattle.hd_dbd.specs.Refusals.{OnlyDevice};
 ghost use Rattle.hd_dbd.specs.Rows.{row_fits};
 ghost use Rattle.hd_volume.specs.Calls.{IsRead};
 ghost use Rattle.hd_image.specs.Records.{links_of};
+ghost use Rattle.hd_forest.specs.TwinPlaces.{twin_places};
 ghost use Rattle.hd_get.specs.Meeting.{IsStored};
 ghost use Rattle.hd_get.specs.Searches.{IsOf};
 ghost use Rattle.hd_get.specs.Starts.{HasRoots};
@@ -13,7 +14,10 @@ ghost use Rattle.hd_update.specs.Places.{has_key, side_of, side_at, IsGapBelow, 
 
 use crate::judging::key_order;
 use hd_dbd::{Dbd, Refused, Rule};
-use hd_forest::{Path, code_at, first_child, last_twin, next_twin, parent_on, prev_twin, tip_of};
+use hd_forest::{
+    Path, TwinPlaces, code_at, first_child, forward_in, key_at, last_twin, parent_on, prev_twin, tip_of,
+    twin_places,
+};
 use hd_index::next_from;
 use hd_position::{Position, row_on};
 use hd_volume::{BlockStore, Volume};
@@ -66,6 +70,40 @@ fn side_at<S: BlockStore>(
     Ok(side_of(dbd, code, last, order))
 }
 
+/// A twin that was met: where a new row goes beside it, and the address of the twin behind it, 0 for none.
+#[derive(Clone, Copy)]
+struct Met {
+    side: Side,
+    next: u32,
+}
+
+/// Meets the twin at an address, of a type whose segments have twin forward and the key at these places. One access.
+fn meet_twin<S: BlockStore>(
+    volume: &mut Volume<S>,
+    dbd: &Dbd,
+    places: TwinPlaces,
+    twin: u32,
+    last: bool,
+    code: u8,
+    bytes: &[u8],
+) -> Result<Met, Refused>
+    requires of { IsOf dbd.now volume.old }
+    requires there { IsStored dbd.now volume.old twin }
+    requires typed { IsTrue volume.old.is_sound → (links_of dbd.now.types volume.old).code twin ≡ code }
+    requires places { twin_places dbd.now.types code ≡ Some places }
+    ensures read { IsRead volume.old result volume.new }
+    ensures side { IfOk result (λ r. IsTrue volume.old.is_sound → r.side ≡ side_at dbd.now.types (links_of dbd.now.types volume.old) last (record { code = code; bytes = bytes.now }) twin) }
+    ensures next { IfOk result (λ r. IsTrue volume.old.is_sound → r.next ≡ (links_of dbd.now.types volume.old).forward twin) }
+    ensures refusal { OnlyDevice result }
+{
+    let segment = volume.segment_at(twin)?;
+    let order = key_at(places, segment).cmp(dbd.key_of(code, bytes));
+    Ok(Met {
+        side: side_of(dbd, code, last, order),
+        next: forward_in(places, segment),
+    })
+}
+
 /// Whether the segments of a type have a key.
 fn has_key(dbd: &Dbd, code: u8) -> bool
     ensures { result ≡ has_key dbd.now.types code }
@@ -97,7 +135,8 @@ fn place_without_key<S: BlockStore>(
     Ok(Some(twin))
 }
 
-/// The place of a row by key, from the first twin on: behind the last one behind which it goes. No twin behind that is read but the next.
+/// The place of a row by key, from the first twin on: behind the last one behind which it goes. Each twin is read once, and none behind that
+/// but the next.
 fn place_from_first<S: BlockStore>(
     volume: &mut Volume<S>,
     dbd: &Dbd,
@@ -111,6 +150,9 @@ fn place_from_first<S: BlockStore>(
     ensures value { IfOk result (λ r. IsGapBelow dbd.now volume.old parent last (record { code = code; bytes = bytes.now }) r) }
     ensures refusal { OnlyDevice result }
 {
+    let Some(places) = twin_places(dbd, code) else {
+        return place_without_key(volume, dbd, parent, last, code);
+    };
     let most = volume.length();
     let mut before = 0;
     let mut twin = first_child(volume, dbd, parent, code)?;
@@ -118,13 +160,14 @@ fn place_from_first<S: BlockStore>(
         if twin == 0 {
             return Ok(Some(before));
         }
-        match side_at(volume, dbd, twin, last, code, bytes)? {
+        let met = meet_twin(volume, dbd, places, twin, last, code, bytes)?;
+        match met.side {
             Side::Before => return Ok(Some(before)),
             Side::Taken => return Ok(None),
             Side::Behind => {}
         }
         before = twin;
-        twin = next_twin(volume, dbd, twin)?;
+        twin = met.next;
     }
     Ok(Some(before))
 }

@@ -11,8 +11,11 @@ use Rattle.hd_forest.proofs.Held.{held}
 use Rattle.hd_forest.proofs.Reading.{after-read, volume-kept, links-kept}
 use Rattle.hd_forest.proofs.Tips.{end-within}
 use Rattle.hd_update.specs.Places.{side_at, HasParent}
-use Rattle.hd_update.proofs.PlaceChains.{reached, chain_typed, some_of}
+use Rattle.hd_update.proofs.PlaceChains.{reached, chain_typed, keyless, some_of}
 use Rattle.hd_update.proofs.places.place_from_first.Goals as goal
+
+pub place_without_key-requires-clause-without : goal.place_without_key-requires-clause-without
+place_without_key-requires-clause-without g c = keyless c.args.dbd.now.types c.args.code (sym c.twin_places.ensures ∙ c.in_default.is)
 
 pub loop-init : goal.loop-init
 loop-init g c =
@@ -65,25 +68,25 @@ twin_there : (d : Database) (v : VolumeState) (h code before twin : ℕ) → Has
 twin_there d v h code before twin has ne sound chain =
     let m : Links = links_of d.types v in chain_typed d v h code (has sound) twin (reached m (m.first_child h code) before twin chain (some_of twin ne))
 
-pub side_at-requires-clause-of : goal.side_at-requires-clause-of
-side_at-requires-clause-of g c = volume-kept c.args.dbd.now c.args.volume.now c.loop.volume c.loop.invariant.read (λ sound. (c.requires.parent sound).volume)
+pub meet_twin-requires-clause-of : goal.meet_twin-requires-clause-of
+meet_twin-requires-clause-of g c = volume-kept c.args.dbd.now c.args.volume.now c.loop.volume c.loop.invariant.read (λ sound. (c.requires.parent sound).volume)
 
-pub side_at-requires-clause-there : goal.side_at-requires-clause-there
-side_at-requires-clause-there g c =
+pub meet_twin-requires-clause-there : goal.meet_twin-requires-clause-there
+meet_twin-requires-clause-there g c =
     let d = c.args.dbd.now in
     let u = c.args.volume.now in
     links-kept d (λ m. IsSegment m c.loop.twin) u c.loop.volume c.loop.invariant.read
     (λ sound. (twin_there d u c.args.parent c.args.code c.loop.before c.loop.twin c.requires.parent c.if-twin-eq0.false sound (c.loop.invariant.chain sound)).0)
 
-pub side_at-requires-clause-typed : goal.side_at-requires-clause-typed
-side_at-requires-clause-typed g c =
+pub meet_twin-requires-clause-typed : goal.meet_twin-requires-clause-typed
+meet_twin-requires-clause-typed g c =
     let d = c.args.dbd.now in
     let u = c.args.volume.now in
     links-kept d (λ m. m.code c.loop.twin ≡ c.args.code) u c.loop.volume c.loop.invariant.read
     (λ sound. (twin_there d u c.args.parent c.args.code c.loop.before c.loop.twin c.requires.parent c.if-twin-eq0.false sound (c.loop.invariant.chain sound)).1)
 
 pub returns-in-Before-clause-read : goal.returns-in-Before-clause-read
-returns-in-Before-clause-read g c = reads-join (Ok (Some c.loop.before)) c.loop.invariant.read (read-ok (Some c.loop.before) c.in_ok-side_at.ensures.read)
+returns-in-Before-clause-read g c = reads-join (Ok (Some c.loop.before)) c.loop.invariant.read (read-ok (Some c.loop.before) c.in_ok-met.ensures.read)
 
 pub returns-in-Before-clause-value : goal.returns-in-Before-clause-value
 returns-in-Before-clause-value g c sound =
@@ -97,12 +100,12 @@ returns-in-Before-clause-value g c sound =
       record {
         chain = inv.chain sound;
         behind = inv.side sound;
-        before = λ some. sym (c.in_ok-side_at.ensures.value same.sound ∙ ap (λ (k : Links). side_at d.types k c.args.last new c.loop.twin) same.links) ∙ c.in-Before.is;
+        before = λ some. sym (c.in_ok-met.ensures.side same.sound ∙ ap (λ (k : Links). side_at d.types k c.args.last new c.loop.twin) same.links) ∙ c.in-Before.is;
       },
     )
 
 pub returns-in-Taken-clause-read : goal.returns-in-Taken-clause-read
-returns-in-Taken-clause-read g c = reads-join (Ok None) c.loop.invariant.read (read-ok None c.in_ok-side_at.ensures.read)
+returns-in-Taken-clause-read g c = reads-join (Ok None) c.loop.invariant.read (read-ok None c.in_ok-met.ensures.read)
 
 pub returns-in-Taken-clause-value : goal.returns-in-Taken-clause-value
 returns-in-Taken-clause-value g c sound =
@@ -114,21 +117,11 @@ returns-in-Taken-clause-value g c sound =
     let same = after-read d u c.loop.volume inv.read sound in (
       c.loop.twin,
       reached m (m.first_child c.args.parent c.args.code) c.loop.before c.loop.twin (inv.chain sound) (some_of c.loop.twin c.if-twin-eq0.false),
-      sym (c.in_ok-side_at.ensures.value same.sound ∙ ap (λ (k : Links). side_at d.types k c.args.last new c.loop.twin) same.links) ∙ c.in-Taken.is,
+      sym (c.in_ok-met.ensures.side same.sound ∙ ap (λ (k : Links). side_at d.types k c.args.last new c.loop.twin) same.links) ∙ c.in-Taken.is,
     )
 
-pub next_twin-requires-clause-of : goal.next_twin-requires-clause-of
-next_twin-requires-clause-of g c =
-    volume-kept c.args.dbd.now c.loop.volume c.side_at.new.volume c.in_ok-side_at.ensures.read
-    (volume-kept c.args.dbd.now c.args.volume.now c.loop.volume c.loop.invariant.read (λ sound. (c.requires.parent sound).volume))
-
-pub next_twin-requires-clause-there : goal.next_twin-requires-clause-there
-next_twin-requires-clause-there g c =
-    let d = c.args.dbd.now in
-    let u = c.args.volume.now in
-    links-kept d (λ m. IsSegment m c.loop.twin) c.loop.volume c.side_at.new.volume c.in_ok-side_at.ensures.read
-    (links-kept d (λ m. IsSegment m c.loop.twin) u c.loop.volume c.loop.invariant.read
-    (λ sound. (twin_there d u c.args.parent c.args.code c.loop.before c.loop.twin c.requires.parent c.if-twin-eq0.false sound (c.loop.invariant.chain sound)).0))
+pub meet_twin-requires-clause-places : goal.meet_twin-requires-clause-places
+meet_twin-requires-clause-places g c = sym c.twin_places.ensures ∙ c.in-Some.is
 
 nearer-now : (m : Links) (most counter p a : ℕ) → counter < most → IsTwinWithin m (most - counter) p a → IsTwinWithin m (suc (most - (counter + 1))) p a
 nearer-now m most counter p a low w = subst (λ n. IsTwinWithin m n p a) (omega arith) w
@@ -143,10 +136,9 @@ loop-preserved g c =
     let low : c.loop.counter < c.length-most.result = c.loop-test.true in
     let next = λ (sound : IsTrue u.is_sound).
     (let same = after-read d u c.loop.volume inv.read sound in
-    let on = after-read d c.loop.volume c.side_at.new.volume c.in_ok-side_at.ensures.read same.sound in
-    let e : c.in_ok-twin-2.twin ≡ m.forward c.loop.twin = c.in_ok-twin-2.ensures.value on.sound ∙ ap (λ (k : Links). k.forward c.loop.twin) (on.links ∙ same.links) in e) in
+    let e : c.in_ok-met.met.next ≡ m.forward c.loop.twin = c.in_ok-met.ensures.next same.sound ∙ ap (λ (k : Links). k.forward c.loop.twin) same.links in e) in
     record {
-      read = reads-join (Ok 0) inv.read (reads-join (Ok 0) c.in_ok-side_at.ensures.read (read-ok 0 c.in_ok-twin-2.ensures.read));
+      read = reads-join (Ok 0) inv.read (read-ok 0 c.in_ok-met.ensures.read);
       left = λ sound. subst (λ x. IsTwinWithin m (c.length-most.result - (c.loop.counter + 1)) x 0) (sym (next sound))
           (nearer m (c.length-most.result - (c.loop.counter + 1)) c.loop.twin 0 (nearer-now m c.length-most.result c.loop.counter c.loop.twin 0 low (inv.left sound)) c.if-twin-eq0.false).next;
       chain = λ sound. subst (IsBehind m (m.first_child c.args.parent c.args.code) c.loop.twin) (sym (next sound))
@@ -154,5 +146,5 @@ loop-preserved g c =
           (twin_there d u c.args.parent c.args.code c.loop.before c.loop.twin c.requires.parent c.if-twin-eq0.false sound (inv.chain sound)).0);
       side = λ sound some.
           (let same = after-read d u c.loop.volume inv.read sound in
-          sym (c.in_ok-side_at.ensures.value same.sound ∙ ap (λ (k : Links). side_at d.types k c.args.last new c.loop.twin) same.links) ∙ c.in-Behind.is);
+          sym (c.in_ok-met.ensures.side same.sound ∙ ap (λ (k : Links). side_at d.types k c.args.last new c.loop.twin) same.links) ∙ c.in-Behind.is);
     }
