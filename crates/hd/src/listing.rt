@@ -1,0 +1,87 @@
+ghost use Rattle.std.specs.Prelude.{◌≡◌, ◌<◌};
+
+use crate::checking::load_volume;
+use crate::files::{CACHE, PIECE, open_read_volume, read_database};
+use crate::stop::Stop;
+use hd_commands::{Ended, Refusal, refuse};
+use hd_dbd::Dbd;
+use hd_rows::{Form, RowWriter, code_named};
+use hd_unload::unload;
+use std::alloc::Global;
+use std::fs::File;
+use std::io::{BufWriter, Write};
+use std::marker::Brand;
+use std::rt::Files;
+use std::sync::ledger::{Blank, Ledger};
+
+/// Checks the volume in a file, and writes its rows as text, with a ledger for the accesses that fail.
+fn list<L: Ledger, O: Write, E: Write>(
+    alloc: Global,
+    dbd: &Dbd,
+    file: File,
+    form: Form,
+    cache: u32,
+    blank: Blank,
+    out: &mut O,
+    err: &mut E,
+) -> Result<Ended, Stop>
+    requires name { blank.name ≡ L.name }
+    requires parts { blank.parts ≡ L.parts }
+    requires share { 0 < blank.parts }
+{
+    let mut volume = load_volume::<L>(alloc, dbd, file, cache, blank)?;
+    let Ok(mut lines) = BufWriter::with_capacity(alloc, PIECE, out) else {
+        return Err(Stop::from(Refusal::Memory));
+    };
+    let mut rows = RowWriter::new(alloc, dbd, form, &mut lines)?;
+    let unloaded = unload(alloc, &mut volume, dbd, &mut rows);
+    drop(rows);
+    // What a failed write leaves in the buffer is not written again.
+    let (_, _) = lines.into_parts();
+    match unloaded {
+        Ok(_) => Ok(Ended::with_status(0)),
+        Err(fault) => Ok(refuse(Refusal::of_unload(fault), err)),
+    }
+}
+
+/// As `list`, with a ledger of its own.
+fn list_file<O: Write, E: Write>(
+    alloc: Global,
+    dbd: &Dbd,
+    file: File,
+    form: Form,
+    cache: u32,
+    out: &mut O,
+    err: &mut E,
+) -> Result<Ended, Stop> {
+    list::<Brand, O, E>(alloc, dbd, file, form, cache, Blank::new(1), out, err)
+}
+
+/// Checks the volume in a file, which is opened for reading alone, and writes its rows in hierarchic sequence, a line each; or those of one
+/// type as CSV. The DBD is read and judged first. Nothing is written before the volume has passed.
+pub fn list_rows<R, O, E>(
+    rt: &R,
+    alloc: Global,
+    dbd: &str,
+    volume: &str,
+    table: Option<&str>,
+    cache: Option<u32>,
+    out: &mut O,
+    err: &mut E,
+) -> Result<Ended, Stop>
+where
+    R: Files<File = File>,
+    O: Write,
+    E: Write,
+{
+    let (dbd, _) = read_database(rt, alloc, dbd)?;
+    let form = match table {
+        Some(name) => match code_named(&dbd, name.as_bytes()) {
+            Some(code) => Form::Table(code),
+            None => return Err(Stop::NoType),
+        },
+        None => Form::Rows,
+    };
+    let (file, _) = open_read_volume(rt, volume)?;
+    list_file(alloc, &dbd, file, form, cache.unwrap_or(CACHE), out, err)
+}
