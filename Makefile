@@ -14,6 +14,7 @@ bin/hd: crates.txt $(SOURCES)
 	cd crates/hd && rt run >/dev/null </dev/null
 	mkdir -p bin
 	cp crates/hd/out/hd bin/hd
+	@bin/hd --version 2>&1 | grep -qF "$$(rt version)" || echo 'hd --version names another toolchain than rt version' >&2
 
 run: bin/hd
 	bin/hd <crates/hd/stdin

@@ -27,6 +27,10 @@ pub fn advise_stop<E: Write>(
             let fault = format!(in alloc; "{fault}")?;
             advise_text(request.name_of(*file), &fault, text, err)
         }
+        Stop::Rows(_, line, text) => {
+            let number = usize::try_from(*line).unwrap_or(usize::MAX);
+            advise_line(request.name_of(Named::Rows), number, text, err)
+        }
         Stop::File(file, error) => {
             let said = format!(in alloc; "{error}")?;
             let name = request.name_of(*file);
@@ -39,7 +43,7 @@ pub fn advise_stop<E: Write>(
                 "  {name}: another program uses it; try again when that one has ended"
             )
         }
-        Stop::OverInput | Stop::Words => Ok(()),
+        Stop::OverInput | Stop::Words | Stop::NoType => Ok(()),
         Stop::Refused(refusal) => advise_refusal(alloc, *refusal, err),
     }
 }
@@ -66,13 +70,8 @@ pub fn advise_refusal<E: Write>(alloc: Global, refusal: Refusal, err: &mut E) ->
 fn advise_text<E: Write>(name: &str, fault: &str, text: &[u8], err: &mut E) -> io::Result<()> {
     let word = word_of(fault);
     if let Some(number) = line_of(fault) {
-        let line = line_at(text, number);
-        write!(err, "  {name}:{number}: ")?;
-        let Ok(()) = put_shown(err, line) else {
-            return Ok(());
-        };
-        writeln!(err)?;
-        if word == "G1" && begins_in_column_1(line) {
+        advise_line(name, number, text, err)?;
+        if word == "G1" && begins_in_column_1(line_at(text, number)) {
             writeln!(
                 err,
                 "  what begins in column 1 is a label: put a blank in front of the operation"
@@ -80,6 +79,15 @@ fn advise_text<E: Write>(name: &str, fault: &str, text: &[u8], err: &mut E) -> i
         }
     }
     advise_word(word, err)
+}
+
+/// Writes a line of a text, behind the name of the text's file and the line's number.
+fn advise_line<E: Write>(name: &str, number: usize, text: &[u8], err: &mut E) -> io::Result<()> {
+    write!(err, "  {name}:{number}: ")?;
+    let Ok(()) = put_shown(err, line_at(text, number)) else {
+        return Ok(());
+    };
+    writeln!(err)
 }
 
 /// Writes what a word means, where that is known.

@@ -1,8 +1,11 @@
 use crate::advice::{advise_refusal, advise_stop};
 use crate::checking::check_file;
 use crate::explaining::explain_word;
+use crate::listing::list_rows;
+use crate::making::make_stream;
 use crate::playing::{play_file, play_sample};
 use crate::reloading::reload_file;
+use crate::showing::{show_database, show_volume};
 use crate::stop::{COMMAND_LINE, Stop};
 use crate::unloading::unload_file;
 use crate::words::{Explains, Request, read_words};
@@ -19,8 +22,8 @@ use std::rt::Files;
 /// reads.
 ///
 /// Without words it reads a deck from `input` and plays it over the sample database, in memory. `deck` plays one over a volume, `check` judges
-/// a volume, `unload` writes its unload stream, and `reload` makes a volume of one; `explain` says what a fault, status or refusal means. What the
-/// calls answer, and what was done, goes to `out`; why the program ended early goes to `err`, a line, and where that is a terminal or the words
+/// a volume, `unload` writes its unload stream, and `reload` makes a volume of one; `show` draws a database or a volume, `rows` writes a volume's
+/// rows, and `stream` makes an unload stream of rows; `explain` says what a fault, status or refusal means. What the calls answer, and what was done, goes to `out`; why the program ended early goes to `err`, a line, and where that is a terminal or the words
 /// say so, further lines that say more.
 pub fn play<R, I, O, E>(
     rt: &R,
@@ -108,6 +111,28 @@ where
             blocks,
             cache,
         } => reload_file(rt, alloc, dbd, input, volume, blocks, cache, out, err),
+        Request::Show {
+            dbd,
+            volume: None,
+            ..
+        } => show_database(rt, alloc, dbd, out),
+        Request::Show {
+            dbd,
+            volume: Some(volume),
+            picture,
+            cache,
+        } => show_volume(rt, alloc, dbd, volume, picture, cache, out, err),
+        Request::Rows {
+            dbd,
+            volume,
+            table,
+            cache,
+        } => list_rows(rt, alloc, dbd, volume, table, cache, out, err),
+        Request::Stream {
+            dbd,
+            rows,
+            out: stream,
+        } => make_stream(rt, alloc, dbd, rows, stream, out),
         Request::Explain { word } => explain_word(word, out, err),
     }
 }

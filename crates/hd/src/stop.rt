@@ -2,6 +2,7 @@ use hd_commands::Refusal;
 use hd_dbd::Refused;
 use hd_deck::DeckFault;
 use hd_gen::GenFault;
+use hd_rows::RowFault;
 use std::alloc::{AllocError, AllocFailed};
 use std::io::{self, ErrorKind};
 use thiserror::Error;
@@ -17,6 +18,10 @@ pub enum Named {
     Stream,
     /// The unload stream that is written.
     Out,
+    /// A text of rows.
+    Rows,
+    /// A picture that is written.
+    Picture,
     /// Standard input.
     Input,
 }
@@ -36,6 +41,9 @@ pub enum Stop {
     /// The deck has a fault; with the deck, and the file that it stands in.
     #[error("DECK refused: {0}")]
     Deck(DeckFault, Vec<u8>, Named),
+    /// A text of rows has a fault on a line; with the text.
+    #[error("IN refused: line {1}, {0}")]
+    Rows(RowFault, u64, Vec<u8>),
     /// The system refused to open, to read or to write a file.
     #[error("device failed")]
     File(Named, io::Error),
@@ -45,6 +53,8 @@ pub enum Stop {
     InUse,
     #[error("a word of the command line is not UTF-8")]
     Words,
+    #[error("the database has no type of this name")]
+    NoType,
     #[error("{0}")]
     Refused(Refusal),
 }
@@ -93,9 +103,10 @@ impl Stop {
     /// The status with which the program ends.
     pub fn status(&self) -> u8 {
         match self {
-            Stop::Database(_, _) | Stop::Program(_, _) | Stop::Deck(_, _, _) => 2,
+            Stop::Database(_, _) | Stop::Program(_, _) => 2,
+            Stop::Deck(_, _, _) | Stop::Rows(_, _, _) => 2,
             Stop::File(_, _) | Stop::InUse => 3,
-            Stop::OverInput | Stop::Words => COMMAND_LINE,
+            Stop::OverInput | Stop::Words | Stop::NoType => COMMAND_LINE,
             Stop::Refused(refusal) => refusal.status(),
         }
     }

@@ -2,7 +2,7 @@ use crate::stop::Named;
 use clap::{Arg, ArgMatches, Command, Error, value_parser};
 use std::alloc::Global;
 
-/// What the words of the command line ask for. All of them but `blocks`, `cache` and `word` are names of files; `cache` says how many blocks of
+/// What the words of the command line ask for. All of them but `blocks`, `cache`, `table` and `word` are names of files; `cache` says how many blocks of
 /// the volume are kept in memory, if the words say it.
 #[derive(Clone, Copy)]
 pub enum Request<'a> {
@@ -35,6 +35,26 @@ pub enum Request<'a> {
         blocks: u32,
         cache: Option<u32>,
     },
+    /// A picture of a database, or of a volume, which goes into a file if one is named.
+    Show {
+        dbd: &'a str,
+        volume: Option<&'a str>,
+        picture: Option<&'a str>,
+        cache: Option<u32>,
+    },
+    /// The rows of a volume, or those of one type as a table.
+    Rows {
+        dbd: &'a str,
+        volume: &'a str,
+        table: Option<&'a str>,
+        cache: Option<u32>,
+    },
+    /// An unload stream of a text of rows.
+    Stream {
+        dbd: &'a str,
+        rows: &'a str,
+        out: &'a str,
+    },
     /// What a fault, status or refusal means, or a list of all.
     Explain {
         word: Option<&'a str>,
@@ -57,6 +77,14 @@ impl<'a> Request<'a> {
             (Request::Reload { dbd, .. }, Named::Dbd) => dbd,
             (Request::Reload { volume, .. }, Named::Volume) => volume,
             (Request::Reload { input, .. }, Named::Stream) => input,
+            (Request::Show { dbd, .. }, Named::Dbd) => dbd,
+            (Request::Show { volume, .. }, Named::Volume) => volume.unwrap_or(""),
+            (Request::Show { picture, .. }, Named::Picture) => picture.unwrap_or(""),
+            (Request::Rows { dbd, .. }, Named::Dbd) => dbd,
+            (Request::Rows { volume, .. }, Named::Volume) => volume,
+            (Request::Stream { dbd, .. }, Named::Dbd) => dbd,
+            (Request::Stream { rows, .. }, Named::Rows) => rows,
+            (Request::Stream { out, .. }, Named::Out) => out,
             _ => "standard input",
         }
     }
@@ -75,7 +103,7 @@ pub enum Explains {
 pub fn read_words(alloc: Global, words: &[String]) -> Result<(Request<'_>, Explains), Error> {
     let command = Command::new(alloc, "hd")
         .bin_name("hd")?
-        .version("0.1.0")
+        .version("0.1.0, proved with rattle-kit-13f logic dac8208d650f15bf")
         .about(
             "A hierarchical database. Without a command it plays a deck of DL/I calls, read from standard input, over a built-in sample database",
         )
@@ -85,6 +113,9 @@ pub fn read_words(alloc: Global, words: &[String]) -> Result<(Request<'_>, Expla
         .subcommand(check_command(alloc)?)?
         .subcommand(unload_command(alloc)?)?
         .subcommand(reload_command(alloc)?)?
+        .subcommand(show_command(alloc)?)?
+        .subcommand(rows_command(alloc)?)?
+        .subcommand(stream_command(alloc)?)?
         .subcommand(explain_command(alloc)?)?;
     let matches = command.try_get_matches_from(words)?;
     let explains = match matches.get_str("EXPLAIN") {
@@ -106,8 +137,31 @@ fn request_of<'a>(matches: &ArgMatches<'a>) -> Request<'a> {
         };
     }
     let dbd = given.get_str("DBD").unwrap_or("");
-    let volume = given.get_str("VOLUME").unwrap_or("");
+    if name == "stream" {
+        return Request::Stream {
+            dbd,
+            rows: given.get_str("IN").unwrap_or(""),
+            out: given.get_str("OUT").unwrap_or(""),
+        };
+    }
     let cache = given.get_one::<u32>("CACHE");
+    if name == "show" {
+        return Request::Show {
+            dbd,
+            volume: given.get_str("VOLUME"),
+            picture: given.get_str("FILE"),
+            cache,
+        };
+    }
+    let volume = given.get_str("VOLUME").unwrap_or("");
+    if name == "rows" {
+        return Request::Rows {
+            dbd,
+            volume,
+            table: given.get_str("TYPE"),
+            cache,
+        };
+    }
     if name == "deck" {
         return Request::Deck {
             dbd,
@@ -191,6 +245,52 @@ fn reload_command<'a>(alloc: Global) -> Result<Command<'a>, Error> {
         ))?
         .arg(blocks)?
         .arg(cache_word(alloc))?;
+    Ok(command)
+}
+
+/// The words of `hd show`.
+fn show_command<'a>(alloc: Global) -> Result<Command<'a>, Error> {
+    let volume = Arg::new(alloc, "VOLUME").help("The volume, which is not changed");
+    let picture = Arg::new(alloc, "FILE")
+        .long("svg")
+        .value_name("FILE")
+        .help("Draw the volume as a picture in SVG, into this file")
+        .requires_arg("VOLUME")?;
+    let command = Command::new(alloc, "show")
+        .about("Draws the hierarchy that a DBD describes; or a volume, which it checks")
+        .arg(file_word(alloc, "DBD", "The file with the DBD source"))?
+        .arg(volume)?
+        .arg(picture)?
+        .arg(cache_word(alloc))?;
+    Ok(command)
+}
+
+/// The words of `hd rows`.
+fn rows_command<'a>(alloc: Global) -> Result<Command<'a>, Error> {
+    let table = Arg::new(alloc, "TYPE")
+        .long("csv")
+        .value_name("TYPE")
+        .help("Write the segments of this type alone, as CSV, with the keys of their parents");
+    let command = Command::new(alloc, "rows")
+        .about("Checks a volume, and writes its segments in hierarchic sequence, a line each")
+        .arg(file_word(alloc, "DBD", "The file with the DBD source"))?
+        .arg(file_word(alloc, "VOLUME", "The volume, which is not changed"))?
+        .arg(table)?
+        .arg(cache_word(alloc))?;
+    Ok(command)
+}
+
+/// The words of `hd stream`.
+fn stream_command<'a>(alloc: Global) -> Result<Command<'a>, Error> {
+    let command = Command::new(alloc, "stream")
+        .about("Makes an unload stream, which hd reload takes, of a text of rows as hd rows writes it")
+        .arg(file_word(alloc, "DBD", "The file with the DBD source"))?
+        .arg(file_word(alloc, "IN", "The text of rows; twins may stand in any order"))?
+        .arg(file_word(
+            alloc,
+            "OUT",
+            "The unload stream, made where there is none; it is cut to nothing and written when the text is read",
+        ))?;
     Ok(command)
 }
 
