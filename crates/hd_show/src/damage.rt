@@ -55,7 +55,7 @@ fn put_blocks<W: Write>(survey: &Survey, out: &mut W) -> io::Result<()> {
     if all == 0 {
         return Ok(());
     }
-    put(out, "damaged: block")?;
+    put(out, "damaged blocks:")?;
     let mut named = 0usize;
     for (n, block) in survey.blocks.iter().enumerate() {
         if block.kind == Kind::Damaged && named < NAMED {
@@ -79,7 +79,7 @@ fn put_type<W: Write>(survey: &Survey, dbd: &Dbd, code: u8, out: &mut W) -> io::
     if !own.is_damaged() {
         return Ok(());
     }
-    put(out, "damaged: twins of ")?;
+    put(out, "damaged twins of ")?;
     out.write_all(name_text(&segment.name))?;
     put_chains(&own, out)
 }

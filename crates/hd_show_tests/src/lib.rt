@@ -4,4 +4,6 @@
 #[cfg(test)]
 mod database_tests;
 #[cfg(test)]
+mod svg_tests;
+#[cfg(test)]
 mod volume_tests;

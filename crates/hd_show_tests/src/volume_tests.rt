@@ -55,10 +55,10 @@ STUD               2           32    26.7%           12           12          1 
 BOOK               0            0     0.0%            0            0          0      0.0        0
 total              5          120   100.0%           66           28          3
 damaged: the header counts 7 blocks
-damaged: block 2
-damaged: twins of COURSE: chains 1, parents 1, chains that loop 0, pointers to no twin 1
-damaged: twins of STUD: chains 1, parents 1, chains that loop 1, pointers to no twin 0
-damaged: twins of BOOK: chains 0, parents 1, chains that loop 0, pointers to no twin 0
+damaged blocks: 2
+damaged twins of COURSE: chains 1, parents 1, chains that loop 0, pointers to no twin 1
+damaged twins of STUD: chains 1, parents 1, chains that loop 1, pointers to no twin 0
+damaged twins of BOOK: chains 0, parents 1, chains that loop 0, pointers to no twin 0
 ";
 
 /// The picture of the sample image with other bytes at places.
