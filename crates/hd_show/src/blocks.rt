@@ -1,5 +1,6 @@
 //! A survey of one block.
 ghost use Rattle.std.specs.Prelude.{◌≤◌, length};
+ghost use Rattle.hd_dbd.specs.Refusals.{OnlyMemory};
 
 use crate::survey::{BlockUse, Kind, TypeUse};
 use crate::twins::{Twin, note_parent, note_segment, note_twin};
@@ -27,6 +28,7 @@ pub fn note_block(
     first: u32,
 ) -> Result<(), Refused>
     requires { (128 ≤ length block.now) × (length block.now ≤ 32768) }
+    ensures { OnlyMemory result }
 {
     let own = if n == 0 {
         header_use(block)
@@ -86,6 +88,7 @@ fn note_data(
     first: u32,
 ) -> Result<BlockUse, Refused>
     requires { (128 ≤ length block.now) × (length block.now ≤ 32768) }
+    ensures { OnlyMemory result }
 {
     let mut used = 0u16;
     let mut end = 8usize;
@@ -114,7 +117,9 @@ fn note_stored(
     dbd: &Dbd,
     first: u32,
     place: u16,
-) -> Result<(), Refused> {
+) -> Result<(), Refused>
+    ensures { OnlyMemory result }
+{
     let Some(segment) = block.get(place as usize..) else {
         return Ok(());
     };

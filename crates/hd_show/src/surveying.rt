@@ -80,7 +80,8 @@ fn read_block<S: BlockStore>(
     if block.len() != size {
         return Ok(());
     }
-    note_block(found, block, dbd, sizes, n, first)
+    note_block(found, block, dbd, sizes, n, first)?;
+    Ok(())
 }
 
 /// The bytes that entries can take in an index block.

@@ -1,5 +1,7 @@
 //! The twin chains of a volume: each segment, with the twin behind it.
 
+ghost use Rattle.hd_dbd.specs.Refusals.{OnlyMemory};
+
 use crate::survey::TypeUse;
 use hd_dbd::Refused;
 
@@ -23,12 +25,9 @@ struct Chain {
 }
 
 /// Notes a segment.
-pub fn note_twin(
-    twins: &mut Vec<Twin>,
-    address: u32,
-    forward: u32,
-    code: u8,
-) -> Result<(), Refused> {
+pub fn note_twin(twins: &mut Vec<Twin>, address: u32, forward: u32, code: u8) -> Result<(), Refused>
+    ensures { OnlyMemory result }
+{
     let twin = Twin {
         address,
         forward,
