@@ -2,8 +2,8 @@
 
 use crate::markup::{along, put_escaped, put_number_attribute, put_rect, put_text_start};
 use crate::survey::{Survey, TypeBytes, TypeUse};
-use crate::text::{name_text, put, put_number, put_tenths, share, tenths};
-use crate::tree::next_type;
+use crate::text::{name_text, put, put_between, put_named, put_tenths, share, tenths};
+use crate::tree::Order;
 use hd_dbd::Dbd;
 use std::io::{self, Write};
 
@@ -22,8 +22,7 @@ pub fn rows_height(dbd: &Dbd) -> u64 {
 /// Where the bars begin, so that the names of all levels stand before them.
 fn bars_left(dbd: &Dbd) -> u64 {
     let mut deepest = 1;
-    for place in 0..dbd.types().len() {
-        let code = u8::try_from(place.saturating_add(1)).unwrap_or(0);
+    for code in Order::of(dbd) {
         deepest = dbd.level(code).max(deepest);
     }
     along(108, INDENT, u64::from(deepest).saturating_sub(1))
@@ -35,14 +34,9 @@ pub fn put_bars<W: Write>(survey: &Survey, dbd: &Dbd, top: u64, out: &mut W) -> 
     let all = survey.all_bytes(dbd);
     let left = bars_left(dbd);
     let mut y = top.saturating_add(20);
-    let mut code = 1;
-    for _type in dbd.types() {
+    for code in Order::of(dbd) {
         put_type(survey, dbd, code, &all, left, y, out)?;
         y = y.saturating_add(ROW);
-        match next_type(dbd, code) {
-            Some(next) => code = next,
-            None => return Ok(()),
-        }
     }
     Ok(())
 }
@@ -98,13 +92,6 @@ fn put_bar<W: Write>(
     put(out, "/>\n")
 }
 
-/// Writes a number with words before and behind it.
-fn put_line<W: Write>(out: &mut W, before: &str, number: u64, behind: &str) -> io::Result<()> {
-    put(out, before)?;
-    put_number(out, number)?;
-    put(out, behind)
-}
-
 /// Opens a text of small letters at a place.
 fn put_small_start<W: Write>(x: u64, y: u64, out: &mut W) -> io::Result<()> {
     put(out, "<text font-size=\"12\"")?;
@@ -122,9 +109,9 @@ fn put_bytes<W: Write>(
     out: &mut W,
 ) -> io::Result<()> {
     put_small_start(x, y, out)?;
-    put_line(out, "", own.stored, " bytes (")?;
+    put_between(out, "", own.stored, " bytes (")?;
     put_tenths(out, share(own.stored, all.stored), 0)?;
-    put_line(out, "%), ", own.segments, " segments (")?;
+    put_between(out, "%), ", own.segments, " segments (")?;
     put_tenths(out, share(own.segments, all.segments), 0)?;
     put(out, "%)</text>\n")
 }
@@ -132,8 +119,8 @@ fn put_bytes<W: Write>(
 /// Writes how many twin chains a type has, and how many segments are in the longest.
 fn put_chains<W: Write>(own: &TypeUse, x: u64, y: u64, out: &mut W) -> io::Result<()> {
     put_small_start(x, y, out)?;
-    put_line(out, "twin chains: ", u64::from(own.chains), "")?;
-    put_line(out, ", longest: ", u64::from(own.longest), "")?;
+    put_named(out, "twin chains: ", u64::from(own.chains))?;
+    put_named(out, ", longest: ", u64::from(own.longest))?;
     if own.is_damaged() {
         put(out, "; <tspan fill=\"#d62728\">damaged</tspan>")?;
     }

@@ -8,7 +8,7 @@ const CELLS: usize = 1024;
 pub const LINE: usize = 64;
 
 /// What a cell shows: what most of its blocks are, or damage where one is damaged. Data has its fill in tenths, 0 to 9.
-#[derive(Clone, Copy, Debug, PartialEq, Eq)]
+#[derive(Clone, Copy)]
 pub enum Cell {
     Header,
     Data(u8),

@@ -1,8 +1,8 @@
 //! What of a volume is damaged, in words.
 
 use crate::survey::{Kind, Survey, TypeUse};
-use crate::text::{name_text, put, put_number};
-use crate::tree::next_type;
+use crate::text::{name_text, put, put_between, put_named};
+use crate::tree::Order;
 use hd_dbd::Dbd;
 use std::io::{self, Write};
 
@@ -13,33 +13,21 @@ const NAMED: usize = 8;
 pub fn put_damage<W: Write>(survey: &Survey, dbd: &Dbd, out: &mut W) -> io::Result<()> {
     put_count_fault(survey, out)?;
     put_blocks(survey, out)?;
-    let mut code = 1;
-    for _type in dbd.types() {
+    for code in Order::of(dbd) {
         put_type(survey, dbd, code, out)?;
-        match next_type(dbd, code) {
-            Some(next) => code = next,
-            None => return Ok(()),
-        }
     }
     Ok(())
-}
-
-/// Writes a line with a number in it.
-fn put_line<W: Write>(out: &mut W, before: &str, number: u64, behind: &str) -> io::Result<()> {
-    put(out, before)?;
-    put_number(out, number)?;
-    put(out, behind)
 }
 
 /// Says where the header counts other blocks than there are.
 fn put_count_fault<W: Write>(survey: &Survey, out: &mut W) -> io::Result<()> {
     if survey.counted as usize != survey.blocks.len() {
         let counted = u64::from(survey.counted);
-        put_line(out, "damaged: the header counts ", counted, " blocks\n")?;
+        put_between(out, "damaged: the header counts ", counted, " blocks\n")?;
     }
     if survey.behind != 0 {
         let behind = survey.behind;
-        put_line(
+        put_between(
             out,
             "damaged: ",
             behind,
@@ -59,13 +47,13 @@ fn put_blocks<W: Write>(survey: &Survey, out: &mut W) -> io::Result<()> {
     let mut named = 0usize;
     for (n, block) in survey.blocks.iter().enumerate() {
         if block.kind == Kind::Damaged && named < NAMED {
-            put_line(out, if named == 0 { " " } else { ", " }, n as u64, "")?;
+            put_named(out, if named == 0 { " " } else { ", " }, n as u64)?;
             named = named.saturating_add(1);
         }
     }
     let more = all.saturating_sub(NAMED as u64);
     if more != 0 {
-        put_line(out, " and ", more, " more")?;
+        put_between(out, " and ", more, " more")?;
     }
     put(out, "\n")
 }
@@ -85,8 +73,8 @@ fn put_type<W: Write>(survey: &Survey, dbd: &Dbd, code: u8, out: &mut W) -> io::
 }
 
 fn put_chains<W: Write>(own: &TypeUse, out: &mut W) -> io::Result<()> {
-    put_line(out, ": chains ", u64::from(own.chains), "")?;
-    put_line(out, ", parents ", u64::from(own.parents), "")?;
-    put_line(out, ", chains that loop ", u64::from(own.looping), "")?;
-    put_line(out, ", pointers to no twin ", u64::from(own.nowhere), "\n")
+    put_named(out, ": chains ", u64::from(own.chains))?;
+    put_named(out, ", parents ", u64::from(own.parents))?;
+    put_named(out, ", chains that loop ", u64::from(own.looping))?;
+    put_between(out, ", pointers to no twin ", u64::from(own.nowhere), "\n")
 }

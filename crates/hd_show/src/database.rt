@@ -1,7 +1,7 @@
 //! The picture of a database: its types as a tree, one line each.
 
 use crate::text::{digits, name_text, put, put_blanks, put_count, put_left, put_number};
-use crate::tree::{branch_width, next_type, put_branches, put_passing_all};
+use crate::tree::{Order, branch_width, put_branches, put_passing_all};
 use hd_dbd::{Dbd, Field, Name8, Rule, SegType};
 use std::io::{self, Write};
 
@@ -47,13 +47,8 @@ pub fn draw_database<W: Write>(dbd: &Dbd, out: &mut W) -> io::Result<()> {
     put_title(dbd, out)?;
     let widths = widths_of(dbd);
     put_headings(&widths, out)?;
-    let mut code = 1;
-    for _type in dbd.types() {
+    for code in Order::of(dbd) {
         put_type(dbd, code, &widths, out)?;
-        match next_type(dbd, code) {
-            Some(next) => code = next,
-            None => return Ok(()),
-        }
     }
     Ok(())
 }
@@ -133,9 +128,10 @@ fn widths_of(dbd: &Dbd) -> Widths {
         range: 3,
         has_fields: false,
     };
-    for (place, segment) in dbd.types().iter().enumerate() {
-        let code = u8::try_from(place.saturating_add(1)).unwrap_or(0);
-        widths = widened(widths, dbd.level(code), segment);
+    for code in Order::of(dbd) {
+        if let Some(segment) = dbd.type_of(code) {
+            widths = widened(widths, dbd.level(code), segment);
+        }
     }
     widths
 }

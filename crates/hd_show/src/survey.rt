@@ -1,5 +1,6 @@
 //! What a survey of a volume finds.
 
+use crate::tree::Order;
 use hd_dbd::Dbd;
 
 /// What a block is: the header, a data block, an index block of a level, a free block, or a block that reads as none of
@@ -14,7 +15,7 @@ pub enum Kind {
 }
 
 /// A block: what it is, and the bytes in it that segments or entries of the index take.
-#[derive(Clone, Copy, Debug, PartialEq, Eq)]
+#[derive(Clone, Copy, Debug)]
 pub struct BlockUse {
     pub kind: Kind,
     pub used: u16,
@@ -23,7 +24,7 @@ pub struct BlockUse {
 /// The segments of a type: how many they are, how many parents have such children, in how many twin chains they stand,
 /// and how many are in the longest. Of damage, the twin forward pointers that name no segment of the type, and the
 /// chains that come upon a segment that is passed already.
-#[derive(Clone, Copy, Debug, PartialEq, Eq)]
+#[derive(Clone, Copy, Debug)]
 pub struct TypeUse {
     pub segments: u32,
     pub parents: u32,
@@ -55,7 +56,7 @@ pub struct Survey {
 }
 
 /// Blocks of one kind: how many they are, and the bytes in them that segments or entries take.
-#[derive(Clone, Copy, Debug, PartialEq, Eq)]
+#[derive(Clone, Copy, Debug)]
 pub struct Tally {
     pub blocks: u64,
     pub used: u64,
@@ -63,7 +64,7 @@ pub struct Tally {
 
 /// The segments of a type or of all types: how many they are, the bytes that they take in data blocks, and of these the
 /// bytes of prefixes and of data, the rest being padding; and how many twin chains there are.
-#[derive(Clone, Copy, Debug, PartialEq, Eq)]
+#[derive(Clone, Copy, Debug)]
 pub struct TypeBytes {
     pub segments: u64,
     pub stored: u64,
@@ -142,6 +143,17 @@ impl Survey {
         tally
     }
 
+    /// The highest level of which there is an index block, 0 where there is none.
+    pub fn highest_level(&self) -> u8 {
+        let mut highest = 0;
+        for block in &self.blocks {
+            if let Kind::Index(level) = block.kind {
+                highest = level.max(highest);
+            }
+        }
+        highest
+    }
+
     /// The bytes that segments or entries can take in a block of a kind.
     pub fn room(&self, kind: Kind) -> u64 {
         match kind {
@@ -160,9 +172,8 @@ impl Survey {
     /// The segments of all types.
     pub fn all_bytes(&self, dbd: &Dbd) -> TypeBytes {
         let mut all = TypeBytes::none();
-        for (place, own) in self.types.iter().enumerate() {
-            let code = u8::try_from(place.saturating_add(1)).unwrap_or(0);
-            all = all.plus(&own.bytes(dbd, code));
+        for code in Order::of(dbd) {
+            all = all.plus(&self.type_use(code).bytes(dbd, code));
         }
         all
     }

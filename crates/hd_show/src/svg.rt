@@ -4,7 +4,7 @@ use crate::bars::{put_bars, rows_height};
 use crate::cells::{Cell, blocks_of_cell, cell_of};
 use crate::markup::{along, put_escaped, put_number_attribute, put_rect, put_text_start};
 use crate::survey::{BlockUse, Kind, Survey};
-use crate::text::{name_text, put, put_number};
+use crate::text::{name_text, put, put_named, put_number};
 use hd_dbd::Dbd;
 use std::io::{self, Write};
 
@@ -86,12 +86,6 @@ fn put_head<W: Write>(height: u64, out: &mut W) -> io::Result<()> {
         out,
         "<rect width=\"100%\" height=\"100%\" fill=\"#ffffff\"/>\n",
     )
-}
-
-/// Writes a text and a number behind it.
-fn put_named<W: Write>(out: &mut W, before: &str, number: u64) -> io::Result<()> {
-    put(out, before)?;
-    put_number(out, number)
 }
 
 fn put_title<W: Write>(survey: &Survey, dbd: &Dbd, out: &mut W) -> io::Result<()> {

@@ -22,12 +22,6 @@ pub fn put_left<W: Write>(out: &mut W, text: &[u8], width: usize) -> io::Result<
     put_blanks(out, width.saturating_sub(text.len()))
 }
 
-/// Writes a text, with blanks before it up to a width.
-pub fn put_right<W: Write>(out: &mut W, text: &[u8], width: usize) -> io::Result<()> {
-    put_blanks(out, width.saturating_sub(text.len()))?;
-    out.write_all(text)
-}
-
 /// How many digits a number has.
 pub fn digits(number: u64) -> usize {
     let mut rest = number;
@@ -43,6 +37,23 @@ pub fn digits(number: u64) -> usize {
 /// Writes a number.
 pub fn put_number<W: Write>(out: &mut W, number: u64) -> io::Result<()> {
     write!(out, "{number}")
+}
+
+/// Writes a text, and a number behind it.
+pub fn put_named<W: Write>(out: &mut W, before: &str, number: u64) -> io::Result<()> {
+    put(out, before)?;
+    put_number(out, number)
+}
+
+/// Writes a number between two texts.
+pub fn put_between<W: Write>(
+    out: &mut W,
+    before: &str,
+    number: u64,
+    behind: &str,
+) -> io::Result<()> {
+    put_named(out, before, number)?;
+    put(out, behind)
 }
 
 /// Writes a number, with blanks before it up to a width.

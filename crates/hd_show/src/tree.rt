@@ -1,6 +1,8 @@
 //! The hierarchy of a database's types: the way through it, and its branches.
 
-use crate::text::put;
+ghost use Rattle.std.specs.Iterator.{at_most};
+
+use crate::text::{put, put_blanks};
 use hd_dbd::Dbd;
 use std::io::{self, Write};
 
@@ -16,8 +18,43 @@ fn later_sibling(dbd: &Dbd, code: u8) -> Option<u8> {
         .find(|child| *child > code)
 }
 
-/// The type behind a type in hierarchic order: each type stands behind its parent, with all that is below it.
-pub fn next_type(dbd: &Dbd, code: u8) -> Option<u8> {
+/// The codes of a database's types in hierarchic order: each type stands behind its parent, with all that is below it.
+#[derive(Drop)]
+pub struct Order<'a> {
+    dbd: &'a Dbd,
+    next: Option<u8>,
+    left: usize,
+}
+
+impl<'a> Order<'a> {
+    /// All types of a database.
+    pub fn of(dbd: &'a Dbd) -> Order<'a> {
+        Order {
+            dbd,
+            next: Some(1),
+            left: dbd.types().len(),
+        }
+    }
+}
+
+impl<'a> Iterator for Order<'a> {
+    type Item = u8;
+
+    ghost remaining = { λ s. at_most s.left };
+
+    fn next(&mut self) -> Option<u8> {
+        if self.left == 0 {
+            return None;
+        }
+        let code = self.next?;
+        self.left -= 1;
+        self.next = next_type(self.dbd, code);
+        Some(code)
+    }
+}
+
+/// The type behind a type in hierarchic order.
+fn next_type(dbd: &Dbd, code: u8) -> Option<u8> {
     if let Some(child) = dbd.children_of(code).first() {
         return Some(*child);
     }
@@ -76,7 +113,7 @@ pub fn put_passing_all<W: Write>(dbd: &Dbd, code: u8, width: usize, out: &mut W)
         b"|"
     };
     out.write_all(below)?;
-    crate::text::put_blanks(
+    put_blanks(
         out,
         width.saturating_sub(branch_width(own)).saturating_sub(1),
     )

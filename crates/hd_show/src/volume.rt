@@ -4,9 +4,9 @@ use crate::cells::{Cell, LINE, blocks_of_cell, cell_of};
 use crate::damage::put_damage;
 use crate::survey::{BlockUse, Kind, Survey, Tally, TypeBytes, TypeUse};
 use crate::text::{
-    name_text, put, put_blanks, put_count, put_left, put_number, put_tenths, share, tenths,
+    digits, name_text, put, put_blanks, put_count, put_left, put_named, put_tenths, share, tenths,
 };
-use crate::tree::next_type;
+use crate::tree::Order;
 use hd_dbd::Dbd;
 use std::io::{self, Write};
 
@@ -21,12 +21,6 @@ pub fn draw_volume<W: Write>(survey: &Survey, dbd: &Dbd, out: &mut W) -> io::Res
     put_picture(survey, out)?;
     put_types(survey, dbd, out)?;
     put_damage(survey, dbd, out)
-}
-
-/// Writes a number with a text before it.
-fn put_named<W: Write>(out: &mut W, before: &str, number: u64) -> io::Result<()> {
-    put(out, before)?;
-    put_number(out, number)
 }
 
 fn put_title<W: Write>(survey: &Survey, dbd: &Dbd, out: &mut W) -> io::Result<()> {
@@ -87,18 +81,21 @@ fn put_tally<W: Write>(survey: &Survey, kind: Kind, tally: Tally, out: &mut W) -
 
 /// Writes a line for each level of the index that has a block.
 fn put_levels<W: Write>(survey: &Survey, out: &mut W) -> io::Result<()> {
-    for level in 0..=u8::MAX {
-        let kind = Kind::Index(level);
-        let tally = survey.tally(kind);
+    for level in 0..=survey.highest_level() {
+        let tally = survey.tally(Kind::Index(level));
         if tally.blocks != 0 {
-            put(out, "index level ")?;
-            let text = u64::from(level);
-            put_number(out, text)?;
-            put_blanks(out, 3usize.saturating_sub(crate::text::digits(text)))?;
-            put_tally(survey, kind, tally, out)?;
+            put_level(level, out)?;
+            put_tally(survey, Kind::Index(level), tally, out)?;
         }
     }
     Ok(())
+}
+
+/// Writes the name of a level of the index, in as many columns as that of a kind.
+fn put_level<W: Write>(level: u8, out: &mut W) -> io::Result<()> {
+    let number = u64::from(level);
+    put_named(out, "index level ", number)?;
+    put_blanks(out, 3usize.saturating_sub(digits(number)))
 }
 
 /// Writes the blocks in order, in lines of characters of one or more blocks each.
@@ -154,13 +151,8 @@ fn put_types<W: Write>(survey: &Survey, dbd: &Dbd, out: &mut W) -> io::Result<()
         "Segment     Segments        Bytes  Percent     Prefixes         Data     Chains  Average  Longest\n",
     )?;
     let all = survey.all_bytes(dbd);
-    let mut code = 1;
-    for _type in dbd.types() {
+    for code in Order::of(dbd) {
         put_type(survey, dbd, code, &all, out)?;
-        match next_type(dbd, code) {
-            Some(next) => code = next,
-            None => break,
-        }
     }
     put_left(out, b"total", 8)?;
     put_bytes(&all, &all, out)?;
