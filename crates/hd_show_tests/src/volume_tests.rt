@@ -1,4 +1,4 @@
-ghost use Rattle.std.specs.Prelude.{◌≡◌, IfOk};
+ghost use Rattle.std.specs.Prelude.{◌≡◌, ◌≤◌};
 
 use hd_dbd::Dbd;
 use hd_sample::{database, image, put};
@@ -84,6 +84,25 @@ fn drawn_of(alloc: Global, dbd: &Dbd, store: MemStore) -> Option<Vec<u8>>
     Some(text)
 }
 
+/// The picture of a volume of so many blocks, all of them free but block 0.
+fn drawn_free(alloc: Global, blocks: usize) -> Option<Vec<u8>>
+    requires { blocks ≤ 65536 }
+{
+    let dbd = database(alloc).ok()?;
+    let mut stored = Vec::new(alloc);
+    stored.resize(blocks * 128, 0).ok()?;
+    for n in 1..blocks {
+        put(&mut stored, n * 128 + 2, b"\x03");
+    }
+    put(&mut stored, 0, b"HDVOLUME");
+    drawn_of(alloc, &dbd, MemStore::new(128, stored))
+}
+
+/// Whether a part stands in a text.
+fn has(text: &[u8], part: &[u8]) -> bool {
+    text.windows(part.len().max(1)).any(|own| own == part)
+}
+
 #[test]
 fn draws_the_sample_volume(rt: HostRuntime) -> Result<(), Fail> {
     let text = drawn(rt.alloc(), &[]).ok_or("a picture")?;
@@ -96,5 +115,16 @@ fn draws_a_damaged_volume(rt: HostRuntime) -> Result<(), Fail> {
     let changes: [(usize, &[u8]); 3] = [(15, b"\x07"), (218, b"\0\0\0\xc8"), (258, b"\x09")];
     let text = drawn(rt.alloc(), &changes).ok_or("a picture")?;
     assert_eq!(rt; str::from_utf8(&text).unwrap_or(""), DAMAGED_TEXT);
+    Ok(())
+}
+
+#[test]
+fn draws_ranges_of_blocks(rt: HostRuntime) -> Result<(), Fail> {
+    let text = drawn_free(rt.alloc(), 1025).ok_or("a picture")?;
+    assert!(rt; has(&text, b"\n\nBlocks in order, 2 a character:\n     0  ____"));
+    assert!(rt; has(&text, b"____\n  1024  _\nH header"));
+    assert!(rt; has(&text, b"\nfree               1024    99.9%\n"));
+    let text = drawn_free(rt.alloc(), 0).ok_or("a picture")?;
+    assert!(rt; has(&text, b"\ntotal                 0     0.0%\n"));
     Ok(())
 }
