@@ -2,7 +2,7 @@ use Rattle.std.proofs.Common.{◌≡◌, ◌-◌, ◌+◌, ◌<◌, ℕ, suc, le
 use Rattle.hd_dbd.specs.Hierarchy.{Database}
 use Rattle.hd_dbd.specs.Segment.{Segment}
 use Rattle.hd_volume.specs.Volumes.{VolumeState}
-use Rattle.hd_volume.proofs.CallSteps.{read-ok, reads-join}
+use Rattle.hd_volume.proofs.CallSteps.{if-ok, read-ok, reads-join}
 use Rattle.hd_links.specs.Links.{Links, IsSegment}
 use Rattle.hd_image.specs.Records.{links_of}
 use Rattle.hd_forest.specs.Twins.{IsTwinWithin, IsBehind}
@@ -16,6 +16,9 @@ use Rattle.hd_update.proofs.places.place_from_first.Goals as goal
 
 pub place_without_key-requires-clause-without : goal.place_without_key-requires-clause-without
 place_without_key-requires-clause-without g c = keyless c.args.dbd.now.types c.args.code (sym c.twin_places.ensures ∙ c.in_default.is)
+
+pub returns-in_default-clause-value : goal.returns-in_default-clause-value
+returns-in_default-clause-value g c = if-ok c.place_without_key.result c.place_without_key.ensures.value (λ r value. value c.args.bytes.now)
 
 pub loop-init : goal.loop-init
 loop-init g c =
