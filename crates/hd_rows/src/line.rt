@@ -1,0 +1,73 @@
+use crate::draft::Draft;
+use crate::fault::{RowFault, Wrong};
+use crate::naming::code_named;
+use crate::part::{Part, part_named};
+use crate::value::read_value;
+use hd_dbd::{Dbd, SegType};
+use hd_lines::unpadded;
+use memchr::memchr;
+use std::alloc::Global;
+
+/// The part that is named at the front of a text, and what follows its equals sign.
+fn named_part<'a>(segment: &SegType, text: &'a [u8]) -> Result<(Part, &'a [u8]), RowFault> {
+    let Some(end) = memchr(b'=', text) else {
+        return Err(RowFault::Part);
+    };
+    match part_named(segment, &text[..end]) {
+        Some(part) => Ok((part, &text[end + 1..])),
+        None => Err(RowFault::Part),
+    }
+}
+
+/// A reader of the lines of rows, with what it needs again for each line.
+#[derive(Drop)]
+pub struct LineReader<'a> {
+    dbd: &'a Dbd,
+    draft: Draft,
+    value: Vec<u8>,
+}
+
+impl<'a> LineReader<'a> {
+    /// A reader of a database's rows.
+    pub fn new(alloc: Global, dbd: &'a Dbd) -> LineReader<'a> {
+        LineReader {
+            dbd,
+            draft: Draft::new(alloc),
+            value: Vec::new(alloc),
+        }
+    }
+
+    /// The bytes of the segment that was read last.
+    pub fn bytes(&self) -> &[u8] {
+        self.draft.bytes()
+    }
+
+    /// Reads the values of a segment of a type.
+    fn read_values(&mut self, segment: &SegType, text: &[u8]) -> Result<(), Wrong> {
+        self.draft.begin(segment.length as usize)?;
+        let mut left = unpadded(text);
+        for _ in 0..text.len() {
+            if left.is_empty() {
+                return Ok(());
+            }
+            let (part, behind) = named_part(segment, left)?;
+            let behind = read_value(behind, &mut self.value)?;
+            self.draft.put(part, &self.value)?;
+            left = unpadded(behind);
+        }
+        Ok(())
+    }
+
+    /// Reads a line without its indentation; says the code of the row's type.
+    pub fn read(&mut self, line: &[u8]) -> Result<u8, Wrong> {
+        let end = memchr(b' ', line).unwrap_or(line.len());
+        let Some(code) = code_named(self.dbd, &line[..end]) else {
+            return Err(Wrong::Row(RowFault::Type));
+        };
+        let Some(segment) = self.dbd.type_of(code) else {
+            return Err(Wrong::Row(RowFault::Type));
+        };
+        self.read_values(segment, &line[end..])?;
+        Ok(code)
+    }
+}

@@ -1,0 +1,89 @@
+use hd_dbd::{Dbd, DbdFault, Field, FreeSpace, Name8, SegType};
+use hd_rows::{Form, RowWriter, TextFault, stream_of_rows};
+use hd_sample::segment_type;
+use std::alloc::{AllocError, Global};
+use std::io::Write;
+
+/// A name without padding; `A` where the bytes are no name.
+fn name(bytes: &[u8]) -> Name8 {
+    let mut padded = [b' '; 8];
+    for (target, byte) in padded.iter_mut().zip(bytes) {
+        *target = *byte;
+    }
+    Name8::from_padded(padded).unwrap_or(Name8::from_padded(*b"A       ").unwrap())
+}
+
+/// A type with fields, each with its name, first byte and length.
+fn type_with(
+    alloc: Global,
+    called: &[u8],
+    parent: Option<u8>,
+    length: u32,
+    key: u32,
+    fields: &[(&[u8], u32, u32)],
+) -> Result<SegType, AllocError> {
+    let mut segment = segment_type(alloc, name(called), parent, length, key);
+    for field in fields {
+        segment.fields.push(Field {
+            name: name(field.0),
+            start: field.1,
+            length: field.2,
+        })?;
+    }
+    Ok(segment)
+}
+
+/// The types of the sample database.
+fn edu_types(alloc: Global) -> Result<Vec<SegType>, AllocError> {
+    Ok(vec![in alloc;
+        type_with(alloc, b"COURSE", None, 8, 3, &[(b"NUM", 1, 3)])?,
+        type_with(alloc, b"CLASS", Some(1), 4, 2, &[(b"ED", 1, 2)])?,
+        type_with(alloc, b"STUD", Some(2), 6, 4, &[(b"SNAME", 1, 4)])?,
+        type_with(alloc, b"BOOK", Some(1), 5, 0, &[])?,
+    ]?)
+}
+
+/// A type with fields out of order, of which two overlap, and with ranges that none covers.
+fn odd_types(alloc: Global) -> Result<Vec<SegType>, AllocError> {
+    let fields: &[(&[u8], u32, u32)] = &[(b"B", 6, 4), (b"A", 4, 4), (b"K", 1, 2)];
+    Ok(vec![in alloc; type_with(alloc, b"ODD", None, 12, 2, fields)?]?)
+}
+
+/// The sample database with its fields.
+pub fn edu(alloc: Global) -> Result<Dbd, DbdFault> {
+    let frspc = FreeSpace { fbff: 0, fspf: 0 };
+    Dbd::new(alloc, name(b"EDU"), 128, frspc, edu_types(alloc)?)
+}
+
+/// A database of one type with overlapping fields.
+pub fn odd(alloc: Global) -> Result<Dbd, DbdFault> {
+    let frspc = FreeSpace { fbff: 0, fspf: 0 };
+    Dbd::new(alloc, name(b"ODDS"), 128, frspc, odd_types(alloc)?)
+}
+
+/// The text of a stream, given to the writer in pieces of so many bytes; `None` where it is refused.
+pub fn text_of(
+    alloc: Global,
+    dbd: &Dbd,
+    form: Form,
+    stream: &[u8],
+    piece: usize,
+) -> Option<Vec<u8>> {
+    let mut out = Vec::new(alloc);
+    let mut rows = RowWriter::new(alloc, dbd, form, &mut out).ok()?;
+    let mut left = stream;
+    for _ in 0..stream.len() {
+        let (front, behind) = left.split_at(piece.min(left.len()));
+        rows.write_all(front).ok()?;
+        left = behind;
+    }
+    drop(rows);
+    Some(out)
+}
+
+/// The stream of a text of rows, or its fault.
+pub fn stream_of(alloc: Global, dbd: &Dbd, text: &[u8]) -> Result<Vec<u8>, TextFault> {
+    let mut out = Vec::new(alloc);
+    stream_of_rows(alloc, dbd, text, &mut out)?;
+    Ok(out)
+}

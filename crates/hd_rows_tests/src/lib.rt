@@ -1,0 +1,9 @@
+//! Tests of rows as text, and of the streams of such text.
+#![tactic(auto)]
+
+#[cfg(test)]
+mod given;
+#[cfg(test)]
+mod text_tests;
+#[cfg(test)]
+mod writer_tests;
