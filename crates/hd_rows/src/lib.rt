@@ -5,6 +5,7 @@ mod draft;
 mod entry;
 mod fault;
 mod line;
+mod lines;
 mod naming;
 mod part;
 mod row_text;

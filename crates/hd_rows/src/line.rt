@@ -1,23 +1,12 @@
 use crate::draft::Draft;
 use crate::fault::{RowFault, Wrong};
+use crate::lines::unpadded;
 use crate::naming::code_named;
-use crate::part::{Part, part_named};
+use crate::part::part_named;
 use crate::value::read_value;
 use hd_dbd::{Dbd, SegType};
-use hd_lines::unpadded;
 use memchr::memchr;
 use std::alloc::Global;
-
-/// The part that is named at the front of a text, and what follows its equals sign.
-fn named_part<'a>(segment: &SegType, text: &'a [u8]) -> Result<(Part, &'a [u8]), RowFault> {
-    let Some(end) = memchr(b'=', text) else {
-        return Err(RowFault::Part);
-    };
-    match part_named(segment, &text[..end]) {
-        Some(part) => Ok((part, &text[end + 1..])),
-        None => Err(RowFault::Part),
-    }
-}
 
 /// A reader of the lines of rows, with what it needs again for each line.
 #[derive(Drop)]
@@ -42,6 +31,19 @@ impl<'a> LineReader<'a> {
         self.draft.bytes()
     }
 
+    /// Reads a part and its value at the front of a text; gives what follows.
+    fn read_part<'t>(&mut self, segment: &SegType, text: &'t [u8]) -> Result<&'t [u8], Wrong> {
+        let Some(end) = memchr(b'=', text) else {
+            return Err(Wrong::Row(RowFault::Part));
+        };
+        let Some(part) = part_named(segment, &text[..end]) else {
+            return Err(Wrong::Row(RowFault::Part));
+        };
+        let behind = read_value(&text[end + 1..], &mut self.value)?;
+        self.draft.put(part, &self.value)?;
+        Ok(behind)
+    }
+
     /// Reads the values of a segment of a type.
     fn read_values(&mut self, segment: &SegType, text: &[u8]) -> Result<(), Wrong> {
         self.draft.begin(segment.length as usize)?;
@@ -50,10 +52,7 @@ impl<'a> LineReader<'a> {
             if left.is_empty() {
                 return Ok(());
             }
-            let (part, behind) = named_part(segment, left)?;
-            let behind = read_value(behind, &mut self.value)?;
-            self.draft.put(part, &self.value)?;
-            left = unpadded(behind);
+            left = unpadded(self.read_part(segment, left)?);
         }
         Ok(())
     }

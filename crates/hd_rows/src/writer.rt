@@ -1,6 +1,7 @@
+use crate::part::bytes_at;
 use crate::row_text::RowLines;
 use crate::table_text::Table;
-use hd_dbd::Dbd;
+use hd_dbd::{Dbd, Name8};
 use std::alloc::{AllocError, Global};
 use std::io::{self, ErrorKind, Write};
 
@@ -33,7 +34,8 @@ enum Printer<'a, W: Write> {
 /// It keeps one record of the stream in memory.
 #[derive(Drop)]
 pub struct RowWriter<'a, W: Write> {
-    dbd: &'a Dbd,
+    name: Name8,
+    lengths: Vec<u32>,
     printer: Printer<'a, W>,
     stage: Stage,
     record: Vec<u8>,
@@ -59,6 +61,15 @@ fn record_length(record: &[u8]) -> usize {
     3 + u16::from_be_bytes([record[1], record[2]]) as usize
 }
 
+/// The lengths of the segments of each type.
+fn lengths_of(alloc: Global, dbd: &Dbd) -> Result<Vec<u32>, AllocError> {
+    let mut lengths = Vec::new(alloc);
+    for segment in dbd.types() {
+        lengths.push(segment.length)?;
+    }
+    Ok(lengths)
+}
+
 impl<'a, W: Write> RowWriter<'a, W> {
     /// A writer of the rows of a database, in a form, to a writer below.
     ///
@@ -66,16 +77,18 @@ impl<'a, W: Write> RowWriter<'a, W> {
     /// below is flushed. A table's parents without a key have no column.
     pub fn new(
         alloc: Global,
-        dbd: &'a Dbd,
+        dbd: &Dbd,
         form: Form,
         out: &'a mut W,
     ) -> Result<RowWriter<'a, W>, AllocError> {
+        let lengths = lengths_of(alloc, dbd)?;
         let printer = match form {
             Form::Rows => Printer::Rows(RowLines::new(alloc, dbd, out)?),
             Form::Table(code) => Printer::Table(Table::new(alloc, dbd, code, out)?),
         };
         Ok(RowWriter {
-            dbd,
+            name: *dbd.name(),
+            lengths,
             printer,
             stage: Stage::Head,
             record: Vec::new(alloc),
@@ -94,7 +107,7 @@ impl<'a, W: Write> RowWriter<'a, W> {
 
     /// Judges the header of a stream.
     fn take_head(&mut self) -> io::Result<()> {
-        if bytes_differ(&self.record, b"HDUNLOAD\0\x01", self.dbd.name().bytes()) {
+        if bytes_differ(&self.record, b"HDUNLOAD\0\x01", self.name.bytes()) {
             return Err(no_stream());
         }
         self.stage = Stage::Records;
@@ -115,19 +128,11 @@ impl<'a, W: Write> RowWriter<'a, W> {
 
     /// Writes the row of a record.
     fn take_row(&mut self) -> io::Result<()> {
-        let code = self.record.first().copied().unwrap_or(0);
-        let bytes = self.record.get(3..).unwrap_or(&[]);
-        let Some(segment) = self.dbd.type_of(code) else {
-            return Err(no_stream());
-        };
-        if bytes.len() != segment.length as usize {
+        if !is_record(&self.record, &self.lengths) {
             return Err(no_stream());
         }
         self.count = self.count.saturating_add(1);
-        match &mut self.printer {
-            Printer::Rows(lines) => lines.put(code, bytes),
-            Printer::Table(table) => table.put(code, bytes),
-        }
+        put_record(&mut self.printer, &self.record)
     }
 
     /// Takes a header or a record that is whole.
@@ -145,6 +150,26 @@ impl<'a, W: Write> RowWriter<'a, W> {
         }
         self.record.clear();
         Ok(())
+    }
+}
+
+/// Whether a record is of a type of these lengths, and has the bytes of one of its segments.
+fn is_record(record: &[u8], lengths: &[u32]) -> bool {
+    let code = record.first().copied().unwrap_or(0);
+    let place = (code as usize).saturating_sub(1);
+    match lengths.get(place) {
+        Some(length) => (*length as usize).saturating_add(3) == record.len(),
+        None => false,
+    }
+}
+
+/// Writes the row of a record.
+fn put_record<W: Write>(printer: &mut Printer<'_, W>, record: &[u8]) -> io::Result<()> {
+    let code = record.first().copied().unwrap_or(0);
+    let bytes = bytes_at(record, 3, record.len());
+    match printer {
+        Printer::Rows(lines) => lines.put(code, bytes),
+        Printer::Table(table) => table.put(code, bytes),
     }
 }
 
