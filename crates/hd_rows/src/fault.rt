@@ -28,6 +28,21 @@ pub enum RowFault {
     /// More rows than a stream counts.
     #[error("too many rows")]
     Count,
+    /// A record of a table has more or fewer cells than the table has columns.
+    #[error("another number of cells than columns")]
+    Cells,
+    /// Another table of the type stands before it.
+    #[error("a second table of the type")]
+    Twice,
+    /// A type above the table's has no unique key, so the parents of its rows cannot be named.
+    #[error("a type above it has no unique key")]
+    Nameless,
+    /// A table has no column for the key of a type above it.
+    #[error("no column for the key of a type above")]
+    Missing,
+    /// No row has the keys that a record names as those of its parents.
+    #[error("no parent of these keys")]
+    Orphan,
 }
 
 /// Why a text is not made a stream. Lines count from 1.
@@ -36,6 +51,10 @@ pub enum TextFault {
     /// A line of a text of rows is refused, the first with a fault.
     #[error("line {1}: {0}")]
     Row(RowFault, u64),
+    /// A record of a table is refused, the first with a fault, of the first table with a fault: the code of the table's type, and the
+    /// line on which the record begins.
+    #[error("table of type {1}, line {2}: {0}")]
+    Table(RowFault, u8, u64),
     /// No memory.
     #[error("no memory")]
     Memory,

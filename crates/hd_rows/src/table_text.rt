@@ -1,40 +1,29 @@
+use crate::above::{Above, keys_above};
 use crate::naming::without_padding;
 use crate::part::{Part, columns_of};
 use crate::value::shown;
 use csv::{Error, ErrorKind, Writer};
-use hd_dbd::{Dbd, Name8};
+use hd_dbd::Dbd;
 use std::alloc::{AllocError, Global};
 use std::io::{self, Write};
 
-/// The key of a type above the table's, as the last row of that type has it.
+/// A type above the table's, and the key of its last row.
 #[derive(Drop)]
-struct Above {
-    code: u8,
-    name: Name8,
-    part: Part,
+struct Kept {
+    above: Above,
     key: Vec<u8>,
 }
 
-/// The types above a type that have a key, the root first.
-fn keys_above(alloc: Global, dbd: &Dbd, code: u8) -> Result<Vec<Above>, AllocError> {
-    let mut keys = Vec::new(alloc);
-    for above in 1..code {
-        if !dbd.is_under(code, above) {
-            continue;
-        }
-        let Some(segment) = dbd.type_of(above) else {
-            continue;
-        };
-        if let Some(key) = &segment.key {
-            keys.push(Above {
-                code: above,
-                name: segment.name,
-                part: Part::of_key(segment, key),
-                key: Vec::new(alloc),
-            })?;
-        }
+/// The types above a type that have a key, without a row.
+fn kept_above(alloc: Global, dbd: &Dbd, code: u8) -> Result<Vec<Kept>, AllocError> {
+    let mut kept = Vec::new(alloc);
+    for above in keys_above(alloc, dbd, code)? {
+        kept.push(Kept {
+            above,
+            key: Vec::new(alloc),
+        })?;
     }
-    Ok(keys)
+    Ok(kept)
 }
 
 /// The error of the writer below, or of no memory.
@@ -51,7 +40,7 @@ pub struct Table<'a, W: Write> {
     out: Writer<&'a mut W>,
     alloc: Global,
     code: u8,
-    above: Vec<Above>,
+    kept: Vec<Kept>,
     columns: Vec<Part>,
 }
 
@@ -63,7 +52,7 @@ impl<'a, W: Write> Table<'a, W> {
         code: u8,
         out: &'a mut W,
     ) -> Result<Table<'a, W>, AllocError> {
-        let above = keys_above(alloc, dbd, code)?;
+        let kept = kept_above(alloc, dbd, code)?;
         let columns = match dbd.type_of(code) {
             Some(segment) => columns_of(alloc, segment)?,
             None => Vec::new(alloc),
@@ -72,20 +61,14 @@ impl<'a, W: Write> Table<'a, W> {
             out: Writer::from_writer(out),
             alloc,
             code,
-            above,
+            kept,
             columns,
         })
     }
 
-    /// Writes a cell.
-    fn put_cell(&mut self, cell: &[u8]) -> io::Result<()> {
-        self.out.write_field(cell).map_err(io_error)
-    }
-
     /// Ends a record.
     fn end_record(&mut self) -> io::Result<()> {
-        let none: &[&[u8]] = &[];
-        self.out.write_record(none).map_err(io_error)
+        self.out.end_record().map_err(io_error)
     }
 
     /// Writes the line of the columns' names.
@@ -93,11 +76,11 @@ impl<'a, W: Write> Table<'a, W> {
         if self.columns.is_empty() {
             return Ok(());
         }
-        for above in &self.above {
+        for kept in &self.kept {
             let mut name = Vec::new(self.alloc);
-            name.extend_from_slice(without_padding(above.name.bytes()))?;
+            name.extend_from_slice(without_padding(kept.above.name.bytes()))?;
             name.extend_from_slice(b".")?;
-            above.part.push_label(&mut name)?;
+            kept.above.key.push_label(&mut name)?;
             self.out.write_field(&name).map_err(io_error)?;
         }
         for part in &self.columns {
@@ -110,10 +93,10 @@ impl<'a, W: Write> Table<'a, W> {
 
     /// Keeps the key of a row of a type above the table's.
     fn keep_key(&mut self, code: u8, bytes: &[u8]) -> io::Result<()> {
-        for above in &mut self.above {
-            if above.code == code {
-                above.key.clear();
-                above.key.extend_from_slice(above.part.bytes_in(bytes))?;
+        for kept in &mut self.kept {
+            if kept.above.code == code {
+                kept.key.clear();
+                kept.key.extend_from_slice(kept.above.key.bytes_in(bytes))?;
             }
         }
         Ok(())
@@ -124,8 +107,8 @@ impl<'a, W: Write> Table<'a, W> {
         if code != self.code {
             return self.keep_key(code, bytes);
         }
-        for above in &self.above {
-            self.out.write_field(shown(&above.key)).map_err(io_error)?;
+        for kept in &self.kept {
+            self.out.write_field(shown(&kept.key)).map_err(io_error)?;
         }
         for part in &self.columns {
             self.out

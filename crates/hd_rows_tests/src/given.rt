@@ -1,5 +1,5 @@
 use hd_dbd::{Dbd, DbdFault, Field, FreeSpace, Name8, SegType};
-use hd_rows::{Form, RowWriter, TextFault, stream_of_rows};
+use hd_rows::{Form, RowWriter, TextFault, stream_of_rows, stream_of_tables};
 use hd_sample::segment_type;
 use std::alloc::{AllocError, Global};
 use std::io::Write;
@@ -85,5 +85,16 @@ pub fn text_of(
 pub fn stream_of(alloc: Global, dbd: &Dbd, text: &[u8]) -> Result<Vec<u8>, TextFault> {
     let mut out = Vec::new(alloc);
     stream_of_rows(alloc, dbd, text, &mut out)?;
+    Ok(out)
+}
+
+/// The stream of tables, or their fault.
+pub fn stream_of_csv(
+    alloc: Global,
+    dbd: &Dbd,
+    tables: &[(u8, &[u8])],
+) -> Result<Vec<u8>, TextFault> {
+    let mut out = Vec::new(alloc);
+    stream_of_tables(alloc, dbd, tables, &mut out)?;
     Ok(out)
 }

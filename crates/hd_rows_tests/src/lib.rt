@@ -4,6 +4,8 @@
 #[cfg(test)]
 mod given;
 #[cfg(test)]
+mod tables_tests;
+#[cfg(test)]
 mod text_tests;
 #[cfg(test)]
 mod writer_tests;
