@@ -14,7 +14,7 @@ struct Labelled {
 
 /// What the lines of a type's rows have in common: their beginning, and their parts in order.
 #[derive(Drop)]
-struct LineForm {
+pub struct LineForm {
     head: Vec<u8>,
     parts: Vec<Labelled>,
 }
@@ -42,41 +42,32 @@ fn form_of(alloc: Global, segment: &SegType, level: u8) -> Result<LineForm, Allo
     Ok(LineForm { head, parts })
 }
 
-/// A writer of rows, a line each.
-#[derive(Drop)]
-pub struct RowLines<'a, W: Write> {
-    out: &'a mut W,
-    forms: Vec<LineForm>,
+/// The forms of the lines of each type of a database.
+pub fn forms_of(alloc: Global, dbd: &Dbd) -> Result<Vec<LineForm>, AllocError> {
+    let mut forms = Vec::new(alloc);
+    let mut code = 0u8;
+    for segment in dbd.types() {
+        code = code.saturating_add(1);
+        forms.push(form_of(alloc, segment, dbd.level(code))?)?;
+    }
+    Ok(forms)
 }
 
-impl<'a, W: Write> RowLines<'a, W> {
-    /// A writer of the rows of a database.
-    pub fn new(alloc: Global, dbd: &Dbd, out: &'a mut W) -> Result<RowLines<'a, W>, AllocError> {
-        let mut forms = Vec::new(alloc);
-        let mut code = 0u8;
-        for segment in dbd.types() {
-            code = code.saturating_add(1);
-            forms.push(form_of(alloc, segment, dbd.level(code))?)?;
-        }
-        Ok(RowLines { out, forms })
+/// Writes the line of a row.
+pub fn put_line<W: Write>(
+    forms: &[LineForm],
+    code: u8,
+    bytes: &[u8],
+    out: &mut W,
+) -> io::Result<()> {
+    let place = (code as usize).saturating_sub(1);
+    let Some(form) = forms.get(place) else {
+        return Ok(());
+    };
+    out.write_all(&form.head)?;
+    for labelled in &form.parts {
+        out.write_all(&labelled.label)?;
+        put_value(out, labelled.part.bytes_in(bytes))?;
     }
-
-    /// Writes the line of a row.
-    pub fn put(&mut self, code: u8, bytes: &[u8]) -> io::Result<()> {
-        let place = (code as usize).saturating_sub(1);
-        let Some(form) = self.forms.get(place) else {
-            return Ok(());
-        };
-        self.out.write_all(&form.head)?;
-        for labelled in &form.parts {
-            self.out.write_all(&labelled.label)?;
-            put_value(self.out, labelled.part.bytes_in(bytes))?;
-        }
-        self.out.write_all(b"\n")
-    }
-
-    /// Flushes the writer below.
-    pub fn flush(&mut self) -> io::Result<()> {
-        self.out.flush()
-    }
+    out.write_all(b"\n")
 }

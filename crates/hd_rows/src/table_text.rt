@@ -2,10 +2,10 @@ use crate::above::{Above, keys_above};
 use crate::naming::without_padding;
 use crate::part::{Part, columns_of};
 use crate::value::shown;
-use csv::{Error, ErrorKind, Writer};
+use csv::{Error, Writer};
 use hd_dbd::Dbd;
 use std::alloc::{AllocError, Global};
-use std::io::{self, Write};
+use std::io::{self, ErrorKind, Write};
 
 /// A type above the table's, and the key of its last row.
 #[derive(Drop)]
@@ -26,69 +26,75 @@ fn kept_above(alloc: Global, dbd: &Dbd, code: u8) -> Result<Vec<Kept>, AllocErro
     Ok(kept)
 }
 
-/// The error of the writer below, or of no memory.
-fn io_error(error: Error) -> io::Error {
-    match error.into_kind() {
-        ErrorKind::Io(error) => error,
-        _ => io::Error::from(io::ErrorKind::OutOfMemory),
+/// A row of a table as a line of CSV.
+fn csv_line(
+    line: &mut Vec<u8>,
+    kept: &[Kept],
+    columns: &[Part],
+    bytes: &[u8],
+) -> Result<(), Error> {
+    line.clear();
+    let mut cells = Writer::from_writer(line);
+    for kept in kept {
+        cells.write_field(shown(&kept.key))?;
     }
+    for part in columns {
+        cells.write_field(shown(part.bytes_in(bytes)))?;
+    }
+    cells.end_record()?;
+    cells.flush()
 }
 
-/// A writer of the rows of one type as CSV.
+/// The names of the columns as a line of CSV. None of them has to be quoted.
+fn names_line(line: &mut Vec<u8>, kept: &[Kept], columns: &[Part]) -> Result<(), AllocError> {
+    line.clear();
+    for kept in kept {
+        line.extend_from_slice(without_padding(kept.above.name.bytes()))?;
+        line.extend_from_slice(b".")?;
+        kept.above.key.push_label(line)?;
+        line.extend_from_slice(b",")?;
+    }
+    for (place, part) in columns.iter().enumerate() {
+        if place > 0 {
+            line.extend_from_slice(b",")?;
+        }
+        part.push_label(line)?;
+    }
+    line.extend_from_slice(b"\n")
+}
+
+/// What the rows of one type as CSV have in common, and what is kept from one to the next.
 #[derive(Drop)]
-pub struct Table<'a, W: Write> {
-    out: Writer<&'a mut W>,
-    alloc: Global,
+pub struct Table {
     code: u8,
     kept: Vec<Kept>,
     columns: Vec<Part>,
+    line: Vec<u8>,
 }
 
-impl<'a, W: Write> Table<'a, W> {
-    /// A writer of the rows of a type, without columns where the database has no such type.
-    pub fn new(
-        alloc: Global,
-        dbd: &Dbd,
-        code: u8,
-        out: &'a mut W,
-    ) -> Result<Table<'a, W>, AllocError> {
+impl Table {
+    /// The table of a type, without columns where the database has no such type.
+    pub fn new(alloc: Global, dbd: &Dbd, code: u8) -> Result<Table, AllocError> {
         let kept = kept_above(alloc, dbd, code)?;
         let columns = match dbd.type_of(code) {
             Some(segment) => columns_of(alloc, segment)?,
             None => Vec::new(alloc),
         };
         Ok(Table {
-            out: Writer::from_writer(out),
-            alloc,
             code,
             kept,
             columns,
+            line: Vec::new(alloc),
         })
     }
 
-    /// Ends a record.
-    fn end_record(&mut self) -> io::Result<()> {
-        self.out.end_record().map_err(io_error)
-    }
-
     /// Writes the line of the columns' names.
-    pub fn put_head(&mut self) -> io::Result<()> {
+    pub fn put_names<W: Write>(&mut self, out: &mut W) -> io::Result<()> {
         if self.columns.is_empty() {
             return Ok(());
         }
-        for kept in &self.kept {
-            let mut name = Vec::new(self.alloc);
-            name.extend_from_slice(without_padding(kept.above.name.bytes()))?;
-            name.extend_from_slice(b".")?;
-            kept.above.key.push_label(&mut name)?;
-            self.out.write_field(&name).map_err(io_error)?;
-        }
-        for part in &self.columns {
-            let mut name = Vec::new(self.alloc);
-            part.push_label(&mut name)?;
-            self.out.write_field(&name).map_err(io_error)?;
-        }
-        self.end_record()
+        names_line(&mut self.line, &self.kept, &self.columns)?;
+        out.write_all(&self.line)
     }
 
     /// Keeps the key of a row of a type above the table's.
@@ -102,24 +108,14 @@ impl<'a, W: Write> Table<'a, W> {
         Ok(())
     }
 
-    /// Writes the record of a row of the table's type, and notes the key of one above it.
-    pub fn put(&mut self, code: u8, bytes: &[u8]) -> io::Result<()> {
+    /// Writes the line of a row of the table's type, and notes the key of one above it.
+    pub fn put<W: Write>(&mut self, code: u8, bytes: &[u8], out: &mut W) -> io::Result<()> {
         if code != self.code {
             return self.keep_key(code, bytes);
         }
-        for kept in &self.kept {
-            self.out.write_field(shown(&kept.key)).map_err(io_error)?;
+        if csv_line(&mut self.line, &self.kept, &self.columns, bytes).is_err() {
+            return Err(io::Error::from(ErrorKind::OutOfMemory));
         }
-        for part in &self.columns {
-            self.out
-                .write_field(shown(part.bytes_in(bytes)))
-                .map_err(io_error)?;
-        }
-        self.end_record()
-    }
-
-    /// Hands on what was written, and flushes the writer below.
-    pub fn flush(&mut self) -> io::Result<()> {
-        self.out.flush().map_err(io_error)
+        out.write_all(&self.line)
     }
 }

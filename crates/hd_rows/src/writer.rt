@@ -1,5 +1,5 @@
 use crate::part::bytes_at;
-use crate::row_text::RowLines;
+use crate::row_text::{LineForm, forms_of, put_line};
 use crate::table_text::Table;
 use hd_dbd::{Dbd, Name8};
 use std::alloc::{AllocError, Global};
@@ -22,11 +22,39 @@ enum Stage {
     Ended,
 }
 
-/// The writer of one form.
+/// What is written of a row.
 #[derive(Drop)]
-enum Printer<'a, W: Write> {
-    Rows(RowLines<'a, W>),
-    Table(Table<'a, W>),
+enum Printer {
+    Rows(Vec<LineForm>),
+    Table(Table),
+}
+
+impl Printer {
+    /// The printer of a form.
+    fn of_form(alloc: Global, dbd: &Dbd, form: Form) -> Result<Printer, AllocError> {
+        match form {
+            Form::Rows => Ok(Printer::Rows(forms_of(alloc, dbd)?)),
+            Form::Table(code) => Ok(Printer::Table(Table::new(alloc, dbd, code)?)),
+        }
+    }
+
+    /// Writes what stands before all rows.
+    fn put_head<W: Write>(&mut self, out: &mut W) -> io::Result<()> {
+        match self {
+            Printer::Rows(_) => Ok(()),
+            Printer::Table(table) => table.put_names(out),
+        }
+    }
+
+    /// Writes the row of a record.
+    fn put<W: Write>(&mut self, record: &[u8], out: &mut W) -> io::Result<()> {
+        let code = record.first().copied().unwrap_or(0);
+        let bytes = bytes_at(record, 3, record.len());
+        match self {
+            Printer::Rows(forms) => put_line(forms, code, bytes, out),
+            Printer::Table(table) => table.put(code, bytes, out),
+        }
+    }
 }
 
 /// A writer that takes an unload stream, in pieces of any size, and writes its rows as text.
@@ -36,7 +64,8 @@ enum Printer<'a, W: Write> {
 pub struct RowWriter<'a, W: Write> {
     name: Name8,
     lengths: Vec<u32>,
-    printer: Printer<'a, W>,
+    printer: Printer,
+    out: &'a mut W,
     stage: Stage,
     record: Vec<u8>,
     count: u32,
@@ -73,8 +102,8 @@ fn lengths_of(alloc: Global, dbd: &Dbd) -> Result<Vec<u32>, AllocError> {
 impl<'a, W: Write> RowWriter<'a, W> {
     /// A writer of the rows of a database, in a form, to a writer below.
     ///
-    /// What goes below is in small pieces: a writer with a buffer serves best. With the stream's end all is handed on, and the writer
-    /// below is flushed. A table's parents without a key have no column.
+    /// What goes below is in small pieces: a writer with a buffer serves best. With the stream's end the
+    /// writer below is flushed. A table's parents without a key have no column.
     pub fn new(
         alloc: Global,
         dbd: &Dbd,
@@ -82,14 +111,12 @@ impl<'a, W: Write> RowWriter<'a, W> {
         out: &'a mut W,
     ) -> Result<RowWriter<'a, W>, AllocError> {
         let lengths = lengths_of(alloc, dbd)?;
-        let printer = match form {
-            Form::Rows => Printer::Rows(RowLines::new(alloc, dbd, out)?),
-            Form::Table(code) => Printer::Table(Table::new(alloc, dbd, code, out)?),
-        };
+        let printer = Printer::of_form(alloc, dbd, form)?;
         Ok(RowWriter {
             name: *dbd.name(),
             lengths,
             printer,
+            out,
             stage: Stage::Head,
             record: Vec::new(alloc),
             count: 0,
@@ -111,13 +138,10 @@ impl<'a, W: Write> RowWriter<'a, W> {
             return Err(no_stream());
         }
         self.stage = Stage::Records;
-        match &mut self.printer {
-            Printer::Rows(_) => Ok(()),
-            Printer::Table(table) => table.put_head(),
-        }
+        self.printer.put_head(self.out)
     }
 
-    /// Judges the end of a stream, and hands on what was written.
+    /// Judges the end of a stream, and flushes the writer below.
     fn take_end(&mut self) -> io::Result<()> {
         if self.record.get(1..) != Some(&self.count.to_be_bytes()[..]) {
             return Err(no_stream());
@@ -132,7 +156,7 @@ impl<'a, W: Write> RowWriter<'a, W> {
             return Err(no_stream());
         }
         self.count = self.count.saturating_add(1);
-        put_record(&mut self.printer, &self.record)
+        self.printer.put(&self.record, self.out)
     }
 
     /// Takes a header or a record that is whole.
@@ -163,16 +187,6 @@ fn is_record(record: &[u8], lengths: &[u32]) -> bool {
     }
 }
 
-/// Writes the row of a record.
-fn put_record<W: Write>(printer: &mut Printer<'_, W>, record: &[u8]) -> io::Result<()> {
-    let code = record.first().copied().unwrap_or(0);
-    let bytes = bytes_at(record, 3, record.len());
-    match printer {
-        Printer::Rows(lines) => lines.put(code, bytes),
-        Printer::Table(table) => table.put(code, bytes),
-    }
-}
-
 /// Whether bytes are not two parts in a row.
 fn bytes_differ(bytes: &[u8], front: &[u8], back: &[u8]) -> bool {
     bytes.get(..front.len()) != Some(front) || bytes.get(front.len()..) != Some(back)
@@ -190,9 +204,6 @@ impl<W: Write> Write for RowWriter<'_, W> {
     }
 
     fn flush(&mut self) -> io::Result<()> {
-        match &mut self.printer {
-            Printer::Rows(lines) => lines.flush(),
-            Printer::Table(table) => table.flush(),
-        }
+        self.out.flush()
     }
 }
