@@ -1,8 +1,8 @@
 use crate::above::{Above, keys_above};
+use crate::cell::read_cell;
 use crate::fault::{RowFault, Wrong};
 use crate::naming::code_named;
 use crate::part::{Part, part_named};
-use csv::ByteRecord;
 use hd_dbd::Dbd;
 use memchr::memchr;
 use std::alloc::Global;
@@ -83,24 +83,30 @@ fn lacks_some_key(columns: &[Column], above: &[Above]) -> bool {
     false
 }
 
-/// The columns that the first record of a table of a type names.
-pub fn columns_named(
+/// The columns that the first record of a table of a type names; and what follows it.
+pub fn columns_named<'t>(
     alloc: Global,
     dbd: &Dbd,
     code: u8,
     above: &[Above],
-    names: &ByteRecord,
-) -> Result<Vec<Column>, Wrong> {
+    text: &'t [u8],
+) -> Result<(Vec<Column>, &'t [u8]), Wrong> {
     let mut columns = Vec::new(alloc);
-    for place in 0..names.len() {
-        let name = names.get(place).unwrap_or(&[]);
-        match column_named(dbd, code, above, name) {
+    let mut name = Vec::new(alloc);
+    let mut left = text;
+    for _ in 0..=text.len() {
+        let behind = read_cell(left, &mut name)?;
+        match column_named(dbd, code, above, &name) {
             Some(column) => columns.push(column)?,
             None => return Err(Wrong::Row(RowFault::Part)),
+        }
+        left = behind.rest;
+        if behind.is_last {
+            break;
         }
     }
     if lacks_some_key(&columns, above) {
         return Err(Wrong::Row(RowFault::Missing));
     }
-    Ok(columns)
+    Ok((columns, left))
 }

@@ -2,6 +2,7 @@
 #![tactic(auto)]
 
 mod above;
+mod cell;
 mod columns;
 mod draft;
 mod entry;

@@ -1,10 +1,10 @@
+use crate::cell::{Behind, read_cell, without_ends};
 use crate::columns::{Column, columns_named, keys_length, parents_above};
 use crate::draft::Draft;
 use crate::fault::{RowFault, TextFault, Wrong};
 use crate::part::bytes_at;
 use crate::rows::Rows;
 use crate::text::line_at;
-use csv::{ByteRecord, Reader, ReaderBuilder};
 use hd_dbd::Dbd;
 use std::alloc::Global;
 
@@ -16,37 +16,18 @@ pub struct TableReader<'a> {
     text: &'a [u8],
     length: u32,
     columns: Vec<Column>,
+    cell: Vec<u8>,
     keys: Draft,
     segment: Draft,
 }
 
-/// A reader of the records of a text, of which the first is one as the others.
-fn records_in(alloc: Global, text: &[u8]) -> Reader<&[u8]> {
-    ReaderBuilder::new()
-        .has_headers(false)
-        .flexible(true)
-        .from_reader(alloc, text)
-}
-
-/// Reads the next record; says whether there is one.
-fn next_record(reader: &mut Reader<&[u8]>, cells: &mut ByteRecord) -> Result<bool, Wrong> {
-    match reader.read_byte_record(cells) {
-        Ok(found) => Ok(found),
-        Err(_) => Err(Wrong::Memory),
+/// The text without the mark of UTF-8 at its front.
+fn without_mark(text: &[u8]) -> &[u8] {
+    if text.starts_with(b"\xef\xbb\xbf") {
+        bytes_at(text, 3, text.len())
+    } else {
+        text
     }
-}
-
-/// The place in a text at which a record begins, behind the empty lines before it.
-fn start_of(text: &[u8], record: &ByteRecord) -> usize {
-    let before = match record.position() {
-        Some(position) => usize::try_from(position.byte).unwrap_or(0),
-        None => 0,
-    };
-    let ends = bytes_at(text, before, text.len())
-        .iter()
-        .take_while(|b| **b == b'\n' || **b == b'\r')
-        .count();
-    before.saturating_add(ends)
 }
 
 impl<'a> TableReader<'a> {
@@ -58,6 +39,7 @@ impl<'a> TableReader<'a> {
             text,
             length,
             columns: Vec::new(alloc),
+            cell: Vec::new(alloc),
             keys: Draft::new(alloc),
             segment: Draft::new(alloc),
         }
@@ -73,86 +55,96 @@ impl<'a> TableReader<'a> {
         TextFault::Table(fault, self.code, line_at(self.text, place))
     }
 
-    /// Takes the names of the columns.
-    fn take_names(&mut self, alloc: Global, dbd: &Dbd, names: &ByteRecord) -> Result<(), Wrong> {
+    /// The place where what is left of the text begins.
+    fn place_of(&self, left: &[u8]) -> usize {
+        self.text.len().saturating_sub(left.len())
+    }
+
+    /// Takes the names of the columns at the front of a text; gives what follows.
+    fn take_names<'t>(
+        &mut self,
+        alloc: Global,
+        dbd: &Dbd,
+        text: &'t [u8],
+    ) -> Result<&'t [u8], Wrong> {
         let above = parents_above(alloc, dbd, self.code)?;
+        let (columns, rest) = columns_named(alloc, dbd, self.code, &above, text)?;
         self.keys_length = keys_length(&above);
-        self.columns = columns_named(alloc, dbd, self.code, &above, names)?;
-        Ok(())
+        self.columns = columns;
+        Ok(rest)
     }
 
-    /// Gives the bytes of a column.
-    fn put(&mut self, column: Column, cell: &[u8]) -> Result<(), RowFault> {
+    /// Takes the cell of a column at the front of a text.
+    fn take_cell<'t>(&mut self, column: Column, text: &'t [u8]) -> Result<Behind<'t>, Wrong> {
+        let behind = read_cell(text, &mut self.cell)?;
         if column.is_key {
-            self.keys.put(column.part, cell)
+            self.keys.put(column.part, &self.cell)?;
         } else {
-            self.segment.put(column.part, cell)
+            self.segment.put(column.part, &self.cell)?;
         }
+        Ok(behind)
     }
 
-    /// Takes the cells of a record.
-    fn take(&mut self, cells: &ByteRecord) -> Result<(), Wrong> {
-        if cells.len() != self.columns.len() {
-            return Err(Wrong::Row(RowFault::Cells));
-        }
+    /// Takes the record at the front of a text; gives what follows.
+    fn take<'t>(&mut self, text: &'t [u8]) -> Result<&'t [u8], Wrong> {
         self.segment.begin(self.length as usize)?;
         self.keys.begin(self.keys_length as usize)?;
+        let mut left = text;
+        let mut is_last = false;
         for place in 0..self.columns.len() {
-            if let Some(column) = self.columns.get(place).copied() {
-                self.put(column, cells.get(place).unwrap_or(&[]))?;
+            let Some(column) = self.columns.get(place).copied() else {
+                return Err(Wrong::Row(RowFault::Cells));
+            };
+            if is_last {
+                return Err(Wrong::Row(RowFault::Cells));
             }
+            let behind = self.take_cell(column, left)?;
+            left = behind.rest;
+            is_last = behind.is_last;
         }
-        Ok(())
+        if is_last {
+            Ok(left)
+        } else {
+            Err(Wrong::Row(RowFault::Cells))
+        }
     }
 
     /// Reads the record that begins at a place.
-    pub fn read_at(
-        &mut self,
-        alloc: Global,
-        place: usize,
-        cells: &mut ByteRecord,
-    ) -> Result<(), Wrong> {
-        let mut reader = records_in(alloc, bytes_at(self.text, place, self.text.len()));
-        next_record(&mut reader, cells)?;
-        self.take(cells)
+    pub fn read_at(&mut self, place: usize) -> Result<(), Wrong> {
+        self.take(bytes_at(self.text, place, self.text.len()))?;
+        Ok(())
     }
 
-    /// Takes a record, and adds its row, whose parent is not known yet.
-    fn add(
-        &mut self,
-        dbd: &Dbd,
-        rows: &mut Rows,
-        cells: &ByteRecord,
-        start: usize,
-    ) -> Result<(), Wrong> {
-        self.take(cells)?;
+    /// Takes the record at the front of a text, and adds its row, whose parent is not known yet; gives what follows.
+    fn add<'t>(&mut self, dbd: &Dbd, rows: &mut Rows, text: &'t [u8]) -> Result<&'t [u8], Wrong> {
+        let rest = self.take(text)?;
         rows.next_number()?;
         rows.keys.extend_from_slice(self.keys.bytes())?;
-        rows.add(dbd, start, 0, self.code, self.segment.bytes())
+        rows.add(dbd, self.place_of(text), 0, self.code, self.segment.bytes())?;
+        Ok(rest)
+    }
+
+    /// Notes why what is left of the text is not read.
+    fn note(&self, rows: &mut Rows, left: &[u8], wrong: Wrong) -> Result<(), TextFault> {
+        match wrong {
+            Wrong::Memory => Err(TextFault::Memory),
+            Wrong::Row(fault) => {
+                rows.fault = Some(self.fault_at(self.place_of(left), fault));
+                Ok(())
+            }
+        }
     }
 
     /// Adds the rows of the records, up to the first with a fault.
-    fn add_all(
-        &mut self,
-        dbd: &Dbd,
-        rows: &mut Rows,
-        reader: &mut Reader<&[u8]>,
-        cells: &mut ByteRecord,
-    ) -> Result<(), TextFault> {
-        for _ in 0..self.text.len() {
-            match next_record(reader, cells) {
-                Ok(true) => {}
-                Ok(false) => return Ok(()),
-                Err(_) => return Err(TextFault::Memory),
+    fn add_all(&mut self, dbd: &Dbd, rows: &mut Rows, records: &[u8]) -> Result<(), TextFault> {
+        let mut left = without_ends(records);
+        for _ in 0..records.len() {
+            if left.is_empty() {
+                return Ok(());
             }
-            let start = start_of(self.text, cells);
-            match self.add(dbd, rows, cells, start) {
-                Ok(()) => {}
-                Err(Wrong::Memory) => return Err(TextFault::Memory),
-                Err(Wrong::Row(fault)) => {
-                    rows.fault = Some(self.fault_at(start, fault));
-                    return Ok(());
-                }
+            match self.add(dbd, rows, left) {
+                Ok(rest) => left = without_ends(rest),
+                Err(wrong) => return self.note(rows, left, wrong),
             }
         }
         Ok(())
@@ -172,19 +164,13 @@ pub fn read_table<'a>(
         None => 0,
     };
     let mut table = TableReader::new(alloc, code, text, length);
-    let mut reader = records_in(alloc, text);
-    let mut cells = ByteRecord::new(alloc);
-    match next_record(&mut reader, &mut cells) {
-        Ok(true) => {}
-        Ok(false) => return Ok(table),
-        Err(_) => return Err(TextFault::Memory),
+    let left = without_ends(without_mark(text));
+    if left.is_empty() {
+        return Ok(table);
     }
-    match table.take_names(alloc, dbd, &cells) {
-        Ok(()) => table.add_all(dbd, rows, &mut reader, &mut cells)?,
-        Err(Wrong::Memory) => return Err(TextFault::Memory),
-        Err(Wrong::Row(fault)) => {
-            rows.fault = Some(table.fault_at(start_of(text, &cells), fault));
-        }
+    match table.take_names(alloc, dbd, left) {
+        Ok(records) => table.add_all(dbd, rows, records)?,
+        Err(wrong) => table.note(rows, left, wrong)?,
     }
     Ok(table)
 }

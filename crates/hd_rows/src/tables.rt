@@ -3,7 +3,6 @@ use crate::parents::find_parents;
 use crate::rows::{Row, Rows, key_length};
 use crate::source::{Source, write_rows};
 use crate::table::{TableReader, read_table};
-use csv::ByteRecord;
 use hd_dbd::Dbd;
 use std::alloc::Global;
 use std::io::Write;
@@ -11,9 +10,7 @@ use std::io::Write;
 /// Tables, one a type.
 #[derive(Drop)]
 struct TableTexts<'a> {
-    alloc: Global,
     tables: Vec<TableReader<'a>>,
-    cells: ByteRecord,
 }
 
 impl Source for TableTexts<'_> {
@@ -24,7 +21,7 @@ impl Source for TableTexts<'_> {
         let Some(table) = self.tables.get_mut(place) else {
             return Ok(());
         };
-        match table.read_at(self.alloc, row.start, &mut self.cells) {
+        match table.read_at(row.start) {
             Ok(()) => {}
             Err(Wrong::Memory) => return Err(TextFault::Memory),
             Err(Wrong::Row(fault)) => return Err(table.fault_at(row.start, fault)),
@@ -131,10 +128,6 @@ pub fn stream_of_tables<W: Write>(
             read_type(alloc, dbd, code, tables, &mut rows, &mut readers)?;
         }
     }
-    let mut source = TableTexts {
-        alloc,
-        tables: readers,
-        cells: ByteRecord::new(alloc),
-    };
+    let mut source = TableTexts { tables: readers };
     write_rows(alloc, dbd, &rows, &mut source, out)
 }

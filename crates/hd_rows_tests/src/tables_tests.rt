@@ -33,7 +33,8 @@ fn makes_the_sample_of_tables(rt: HostRuntime) -> Result<(), Fail> {
 fn reads_every_value(rt: HostRuntime) -> Result<(), Fail> {
     let alloc = rt.alloc();
     let dbd = odd(alloc)?;
-    let table = b"K,A,B,3-3,10-12\n1,\" a\"\"\\\",\"\"\"\\,\",x, \xff \n2\0,,,,\"\n\r\"\n";
+    let table =
+        b"\xef\xbb\xbfK,A,B,3-3,10-12\n1,\" a\"\"\\\",\"\"\"\\,\",x, \xff \n2\0,,,,\"\n\r\"\n";
     let stream =
         b"HDUNLOAD\0\x01ODDS    \x01\0\x0c1 x a\"\\,  \xff \x01\0\x0c2\0       \n\r \0\0\0\0\x02";
     let made = stream_of_csv(alloc, &dbd, &[(1, table.as_slice())])?;
@@ -52,7 +53,10 @@ const FAULTS: &[(u8, &[u8], RowFault, u64)] = &[
     (2, b"ED,COURSE.1-2\n", RowFault::Part, 1),
     (2, b"ED\n01\n", RowFault::Missing, 1),
     (2, b"ED,COURSE.NUM\n01,101\n02\n", RowFault::Cells, 3),
+    (2, b"ED,COURSE.NUM\n01,101,\n", RowFault::Cells, 2),
     (2, b"ED,COURSE.NUM\n011,101\n", RowFault::Length, 2),
+    (2, b"ED,COURSE.NUM\n\"01\"x,101\n", RowFault::Value, 2),
+    (2, b"ED,COURSE.NUM\n01,\"101\n", RowFault::Value, 2),
     (2, b"ED,1-1,COURSE.NUM\n01,1,101\n", RowFault::Differs, 2),
     (
         2,
