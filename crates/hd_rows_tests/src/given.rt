@@ -49,6 +49,21 @@ fn odd_types(alloc: Global) -> Result<Vec<SegType>, AllocError> {
     Ok(vec![in alloc; type_with(alloc, b"ODD", None, 12, 2, fields)?]?)
 }
 
+/// Types of which the second has a key that is not unique, and the third stands below it.
+fn nameless_types(alloc: Global) -> Result<Vec<SegType>, AllocError> {
+    Ok(vec![in alloc;
+        type_with(alloc, b"A", None, 2, 1, &[])?,
+        type_with(alloc, b"B", Some(1), 4, 4, &[])?,
+        type_with(alloc, b"C", Some(2), 1, 0, &[])?,
+    ]?)
+}
+
+/// A database of a type whose parents a table cannot name.
+pub fn nameless(alloc: Global) -> Result<Dbd, DbdFault> {
+    let frspc = FreeSpace { fbff: 0, fspf: 0 };
+    Dbd::new(alloc, name(b"NONE"), 128, frspc, nameless_types(alloc)?)
+}
+
 /// The sample database with its fields.
 pub fn edu(alloc: Global) -> Result<Dbd, DbdFault> {
     let frspc = FreeSpace { fbff: 0, fspf: 0 };

@@ -1,4 +1,4 @@
-use crate::given::{edu, odd, stream_of_csv};
+use crate::given::{edu, nameless, odd, stream_of_csv};
 use hd_rows::*;
 use hd_sample::RECORDS;
 use std::test::Fail;
@@ -81,5 +81,14 @@ fn names_the_first_fault(rt: HostRuntime) -> Result<(), Fail> {
         let fault = stream_of_csv(alloc, &dbd, &tables).err();
         assert_eq!(rt; fault, Some(TextFault::Table(given.2, given.0, given.3)));
     }
+    Ok(())
+}
+
+#[test]
+fn needs_unique_keys_above(rt: HostRuntime) -> Result<(), Fail> {
+    let alloc = rt.alloc();
+    let dbd = nameless(alloc)?;
+    let fault = stream_of_csv(alloc, &dbd, &[(3, b"A.1-1,B.1-4,1-1\n".as_slice())]).err();
+    assert_eq!(rt; fault, Some(TextFault::Table(RowFault::Nameless, 3, 1)));
     Ok(())
 }
