@@ -17,7 +17,7 @@ pub fn entries_of<'k>(
     dbd: &Dbd,
     rows: &'k Rows,
 ) -> Result<Vec<Entry<'k>>, AllocError> {
-    let mut entries = Vec::new(alloc);
+    let mut entries = Vec::with_capacity(alloc, rows.rows.len())?;
     let mut number = 0u32;
     for row in &rows.rows {
         number = number.saturating_add(1);

@@ -1,8 +1,11 @@
-use hd_dbd::{Dbd, DbdFault, Field, FreeSpace, Name8, SegType};
+use hd_dbd::{Dbd, DbdFault, Field, FreeSpace, Key, Name8, Rule, SegType};
 use hd_rows::{Form, RowWriter, TextFault, stream_of_rows, stream_of_tables};
-use hd_sample::segment_type;
 use std::alloc::{AllocError, Global};
 use std::io::Write;
+
+/// The unload stream of the sample's segments.
+pub const STREAM: &[u8] =
+    b"HDUNLOAD\0\x01EDU     \x01\0\x08101ALGEB\x02\0\x0401AB\x03\0\x06ADAM01\x03\0\x06EVE 02\x02\0\x0402CD\x04\0\x05EULER\x01\0\x08205LOGIC\0\0\0\0\x07";
 
 /// A name without padding; `A` where the bytes are no name.
 fn name(bytes: &[u8]) -> Name8 {
@@ -13,24 +16,45 @@ fn name(bytes: &[u8]) -> Name8 {
     Name8::from_padded(padded).unwrap_or(Name8::from_padded(*b"A       ").unwrap())
 }
 
-/// A type with fields, each with its name, first byte and length.
+/// The key of a type, which stands first: of no bytes none, unique where it has three or fewer.
+fn key_of(length: u32) -> Option<Key> {
+    if length == 0 {
+        return None;
+    }
+    Some(Key {
+        start: 1,
+        length,
+        unique: length <= 3,
+    })
+}
+
+/// A type with a key of so many bytes, and with fields, each with its name, first byte and length.
 fn type_with(
     alloc: Global,
     called: &[u8],
     parent: Option<u8>,
     length: u32,
     key: u32,
-    fields: &[(&[u8], u32, u32)],
+    given: &[(&[u8], u32, u32)],
 ) -> Result<SegType, AllocError> {
-    let mut segment = segment_type(alloc, name(called), parent, length, key);
-    for field in fields {
-        segment.fields.push(Field {
+    let mut fields = Vec::new(alloc);
+    for field in given {
+        fields.push(Field {
             name: name(field.0),
             start: field.1,
             length: field.2,
         })?;
     }
-    Ok(segment)
+    Ok(SegType {
+        name: name(called),
+        parent,
+        length,
+        key: key_of(key),
+        rule: Rule::Last,
+        backward: true,
+        last_pointer: true,
+        fields,
+    })
 }
 
 /// The types of the sample database.

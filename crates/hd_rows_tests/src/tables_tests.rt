@@ -1,6 +1,5 @@
-use crate::given::{edu, nameless, odd, stream_of_csv};
+use crate::given::{STREAM, edu, nameless, odd, stream_of_csv};
 use hd_rows::*;
-use hd_sample::RECORDS;
 use std::test::Fail;
 
 /// The tables of the sample, out of order.
@@ -18,9 +17,8 @@ const TABLES: &[(u8, &[u8])] = &[
 fn makes_the_sample_of_tables(rt: HostRuntime) -> Result<(), Fail> {
     let alloc = rt.alloc();
     let dbd = edu(alloc)?;
-    let sample = hd_sample::stream_of(alloc, RECORDS)?;
     let made = stream_of_csv(alloc, &dbd, TABLES)?;
-    assert_eq!(rt; made.as_slice(), sample.as_slice());
+    assert_eq!(rt; made.as_slice(), STREAM);
     let made = stream_of_csv(alloc, &dbd, &[])?;
     assert_eq!(rt;
         made.as_slice(),

@@ -1,13 +1,11 @@
-use crate::given::{edu, odd, stream_of};
+use crate::given::{STREAM, edu, odd, stream_of};
 use hd_rows::*;
-use hd_sample::RECORDS;
 use std::test::Fail;
 
 #[test]
 fn sorts_rows_and_pads_values(rt: HostRuntime) -> Result<(), Fail> {
     let alloc = rt.alloc();
     let dbd = edu(alloc)?;
-    let sample = hd_sample::stream_of(alloc, RECORDS)?;
     let text = b"# two courses\r
 COURSE 4-8=LOGIC   NUM=205\r
 
@@ -19,7 +17,7 @@ COURSE NUM=\"101\" 4-6=ALG 7-8=\\x45B
        STUD SNAME=EVE 5-6=02
        STUD 1-6=ADAM01";
     let made = stream_of(alloc, &dbd, text)?;
-    assert_eq!(rt; made.as_slice(), sample.as_slice());
+    assert_eq!(rt; made.as_slice(), STREAM);
     let made = stream_of(alloc, &dbd, b"")?;
     assert_eq!(rt;
         made.as_slice(),

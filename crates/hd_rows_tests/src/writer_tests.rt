@@ -1,6 +1,5 @@
-use crate::given::{edu, odd, stream_of, text_of};
+use crate::given::{STREAM, edu, odd, stream_of, text_of};
 use hd_rows::*;
-use hd_sample::RECORDS;
 use std::test::Fail;
 
 /// The rows of the sample.
@@ -17,13 +16,12 @@ COURSE NUM=205 4-8=LOGIC
 fn writes_the_sample_in_pieces_of_any_size(rt: HostRuntime) -> Result<(), Fail> {
     let alloc = rt.alloc();
     let dbd = edu(alloc)?;
-    let stream = hd_sample::stream_of(alloc, RECORDS)?;
-    for piece in 1..=stream.len() {
-        let text = text_of(alloc, &dbd, Form::Rows, &stream, piece);
+    for piece in 1..=STREAM.len() {
+        let text = text_of(alloc, &dbd, Form::Rows, STREAM, piece);
         assert_eq!(rt; text.as_deref(), Some(ROWS), "pieces of {piece}");
     }
     let made = stream_of(alloc, &dbd, ROWS)?;
-    assert_eq!(rt; made.as_slice(), stream.as_slice());
+    assert_eq!(rt; made.as_slice(), STREAM);
     Ok(())
 }
 
@@ -31,7 +29,6 @@ fn writes_the_sample_in_pieces_of_any_size(rt: HostRuntime) -> Result<(), Fail> 
 fn writes_tables(rt: HostRuntime) -> Result<(), Fail> {
     let alloc = rt.alloc();
     let dbd = edu(alloc)?;
-    let stream = hd_sample::stream_of(alloc, RECORDS)?;
     let tables: &[(u8, &[u8])] = &[
         (1, b"NUM,4-8\n101,ALGEB\n205,LOGIC\n"),
         (2, b"COURSE.NUM,ED,3-4\n101,01,AB\n101,02,CD\n"),
@@ -42,7 +39,7 @@ fn writes_tables(rt: HostRuntime) -> Result<(), Fail> {
         (4, b"COURSE.NUM,1-5\n101,EULER\n"),
     ];
     for table in tables {
-        let text = text_of(alloc, &dbd, Form::Table(table.0), &stream, 7);
+        let text = text_of(alloc, &dbd, Form::Table(table.0), STREAM, 7);
         assert_eq!(rt; text.as_deref(), Some(table.1));
     }
     Ok(())
