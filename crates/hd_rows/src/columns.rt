@@ -1,0 +1,112 @@
+use crate::above::{Above, keys_above};
+use crate::cell::read_cell;
+use crate::fault::{RowFault, Wrong};
+use crate::naming::code_named;
+use crate::part::{Part, part_named};
+use hd_dbd::Dbd;
+use memchr::memchr;
+use std::alloc::Global;
+
+/// What a column of a table gives: bytes of the segment, or of the keys of its parents, which stand one behind another, the root's
+/// first.
+#[derive(Clone, Copy)]
+pub struct Column {
+    pub part: Part,
+    pub is_key: bool,
+}
+
+/// The bytes of the keys of all types.
+pub fn keys_length(above: &[Above]) -> u32 {
+    let mut length = 0u32;
+    for key in above {
+        length = length.saturating_add(key.key.length);
+    }
+    length
+}
+
+/// The types above a type, the root first, each of which must have a unique key.
+pub fn parents_above(alloc: Global, dbd: &Dbd, code: u8) -> Result<Vec<Above>, Wrong> {
+    let above = keys_above(alloc, dbd, code)?;
+    let levels = (dbd.level(code) as usize).saturating_sub(1);
+    if above.len() != levels || above.iter().any(|key| !dbd.has_unique_key(key.code)) {
+        return Err(Wrong::Row(RowFault::Nameless));
+    }
+    Ok(above)
+}
+
+/// The key of a type above, by the name of the type and that of its key.
+fn key_column(dbd: &Dbd, above: &[Above], name: &[u8], label: &[u8]) -> Option<Column> {
+    let code = code_named(dbd, name)?;
+    let part = part_named(dbd.type_of(code)?, label)?;
+    let place = above.iter().position(|key| key.code == code)?;
+    let key = above.get(place)?.key;
+    if part.start != key.start || part.length != key.length {
+        return None;
+    }
+    Some(Column {
+        part: Part {
+            name: None,
+            start: keys_length(above.get(..place)?),
+            length: key.length,
+        },
+        is_key: true,
+    })
+}
+
+/// The column of a name: a field or a range of the type, or the key of a type above.
+fn column_named(dbd: &Dbd, code: u8, above: &[Above], name: &[u8]) -> Option<Column> {
+    if let Some(dot) = memchr(b'.', name) {
+        return key_column(dbd, above, &name[..dot], &name[dot + 1..]);
+    }
+    Some(Column {
+        part: part_named(dbd.type_of(code)?, name)?,
+        is_key: false,
+    })
+}
+
+/// Whether none of the columns gives the bytes of keys from a place on.
+fn lacks_key(columns: &[Column], start: u32) -> bool {
+    columns
+        .iter()
+        .all(|column| !column.is_key || column.part.start != start)
+}
+
+/// Whether the key of a type above has no column.
+fn lacks_some_key(columns: &[Column], above: &[Above]) -> bool {
+    let mut start = 0u32;
+    for key in above {
+        if lacks_key(columns, start) {
+            return true;
+        }
+        start = start.saturating_add(key.key.length);
+    }
+    false
+}
+
+/// The columns that the first record of a table of a type names; and what follows it.
+pub fn columns_named<'t>(
+    alloc: Global,
+    dbd: &Dbd,
+    code: u8,
+    above: &[Above],
+    text: &'t [u8],
+) -> Result<(Vec<Column>, &'t [u8]), Wrong> {
+    let mut columns = Vec::new(alloc);
+    let mut name = Vec::new(alloc);
+    let mut left = text;
+    for _ in 0..=text.len() {
+        let behind = read_cell(left, &mut name)?;
+        match column_named(dbd, code, above, &name) {
+            Some(column) => columns.push(column)?,
+            None => return Err(Wrong::Row(RowFault::Part)),
+        }
+        left = behind.rest;
+        if behind.is_last {
+            break;
+        }
+    }
+    if lacks_some_key(&columns, above) {
+        return Err(Wrong::Row(RowFault::Missing));
+    }
+    Ok((columns, left))
+}

@@ -1,0 +1,72 @@
+use crate::draft::Draft;
+use crate::fault::{RowFault, Wrong};
+use crate::lines::unpadded;
+use crate::naming::code_named;
+use crate::part::part_named;
+use crate::value::read_value;
+use hd_dbd::{Dbd, SegType};
+use memchr::memchr;
+use std::alloc::Global;
+
+/// A reader of the lines of rows, with what it needs again for each line.
+#[derive(Drop)]
+pub struct LineReader<'a> {
+    dbd: &'a Dbd,
+    draft: Draft,
+    value: Vec<u8>,
+}
+
+impl<'a> LineReader<'a> {
+    /// A reader of a database's rows.
+    pub fn new(alloc: Global, dbd: &'a Dbd) -> LineReader<'a> {
+        LineReader {
+            dbd,
+            draft: Draft::new(alloc),
+            value: Vec::new(alloc),
+        }
+    }
+
+    /// The bytes of the segment that was read last.
+    pub fn bytes(&self) -> &[u8] {
+        self.draft.bytes()
+    }
+
+    /// Reads a part and its value at the front of a text; gives what follows.
+    fn read_part<'t>(&mut self, segment: &SegType, text: &'t [u8]) -> Result<&'t [u8], Wrong> {
+        let Some(end) = memchr(b'=', text) else {
+            return Err(Wrong::Row(RowFault::Part));
+        };
+        let Some(part) = part_named(segment, &text[..end]) else {
+            return Err(Wrong::Row(RowFault::Part));
+        };
+        let behind = read_value(&text[end + 1..], &mut self.value)?;
+        self.draft.put(part, &self.value)?;
+        Ok(behind)
+    }
+
+    /// Reads the values of a segment of a type.
+    fn read_values(&mut self, segment: &SegType, text: &[u8]) -> Result<(), Wrong> {
+        self.draft.begin(segment.length as usize)?;
+        let mut left = unpadded(text);
+        for _ in 0..text.len() {
+            if left.is_empty() {
+                return Ok(());
+            }
+            left = unpadded(self.read_part(segment, left)?);
+        }
+        Ok(())
+    }
+
+    /// Reads a line without its indentation; says the code of the row's type.
+    pub fn read(&mut self, line: &[u8]) -> Result<u8, Wrong> {
+        let end = memchr(b' ', line).unwrap_or(line.len());
+        let Some(code) = code_named(self.dbd, &line[..end]) else {
+            return Err(Wrong::Row(RowFault::Type));
+        };
+        let Some(segment) = self.dbd.type_of(code) else {
+            return Err(Wrong::Row(RowFault::Type));
+        };
+        self.read_values(segment, &line[end..])?;
+        Ok(code)
+    }
+}

@@ -1,0 +1,176 @@
+use crate::cell::{Behind, read_cell, without_ends};
+use crate::columns::{Column, columns_named, keys_length, parents_above};
+use crate::draft::Draft;
+use crate::fault::{RowFault, TextFault, Wrong};
+use crate::part::bytes_at;
+use crate::rows::Rows;
+use crate::text::line_at;
+use hd_dbd::Dbd;
+use std::alloc::Global;
+
+/// A table of a type's rows: its text, its columns, and what is needed again for each record.
+#[derive(Drop)]
+pub struct TableReader<'a> {
+    pub code: u8,
+    pub keys_length: u32,
+    text: &'a [u8],
+    length: u32,
+    columns: Vec<Column>,
+    cell: Vec<u8>,
+    keys: Draft,
+    segment: Draft,
+}
+
+/// The text without the mark of UTF-8 at its front.
+fn without_mark(text: &[u8]) -> &[u8] {
+    if text.starts_with(b"\xef\xbb\xbf") {
+        bytes_at(text, 3, text.len())
+    } else {
+        text
+    }
+}
+
+impl<'a> TableReader<'a> {
+    /// A table of a type, without columns.
+    fn new(alloc: Global, code: u8, text: &'a [u8], length: u32) -> TableReader<'a> {
+        TableReader {
+            code,
+            keys_length: 0,
+            text,
+            length,
+            columns: Vec::new(alloc),
+            cell: Vec::new(alloc),
+            keys: Draft::new(alloc),
+            segment: Draft::new(alloc),
+        }
+    }
+
+    /// The bytes of the segment that was read last.
+    pub fn bytes(&self) -> &[u8] {
+        self.segment.bytes()
+    }
+
+    /// A fault at the record that begins at a place.
+    pub fn fault_at(&self, place: usize, fault: RowFault) -> TextFault {
+        TextFault::Table(fault, self.code, line_at(self.text, place))
+    }
+
+    /// The place where what is left of the text begins.
+    fn place_of(&self, left: &[u8]) -> usize {
+        self.text.len().saturating_sub(left.len())
+    }
+
+    /// Takes the names of the columns at the front of a text; gives what follows.
+    fn take_names<'t>(
+        &mut self,
+        alloc: Global,
+        dbd: &Dbd,
+        text: &'t [u8],
+    ) -> Result<&'t [u8], Wrong> {
+        let above = parents_above(alloc, dbd, self.code)?;
+        let (columns, rest) = columns_named(alloc, dbd, self.code, &above, text)?;
+        self.keys_length = keys_length(&above);
+        self.columns = columns;
+        Ok(rest)
+    }
+
+    /// Takes the cell of a column at the front of a text.
+    fn take_cell<'t>(&mut self, column: Column, text: &'t [u8]) -> Result<Behind<'t>, Wrong> {
+        let behind = read_cell(text, &mut self.cell)?;
+        if column.is_key {
+            self.keys.put(column.part, &self.cell)?;
+        } else {
+            self.segment.put(column.part, &self.cell)?;
+        }
+        Ok(behind)
+    }
+
+    /// Takes the record at the front of a text; gives what follows.
+    fn take<'t>(&mut self, text: &'t [u8]) -> Result<&'t [u8], Wrong> {
+        self.segment.begin(self.length as usize)?;
+        self.keys.begin(self.keys_length as usize)?;
+        let mut left = text;
+        let mut is_last = false;
+        for place in 0..self.columns.len() {
+            let Some(column) = self.columns.get(place).copied() else {
+                return Err(Wrong::Row(RowFault::Cells));
+            };
+            if is_last {
+                return Err(Wrong::Row(RowFault::Cells));
+            }
+            let behind = self.take_cell(column, left)?;
+            left = behind.rest;
+            is_last = behind.is_last;
+        }
+        if is_last {
+            Ok(left)
+        } else {
+            Err(Wrong::Row(RowFault::Cells))
+        }
+    }
+
+    /// Reads the record that begins at a place.
+    pub fn read_at(&mut self, place: usize) -> Result<(), Wrong> {
+        self.take(bytes_at(self.text, place, self.text.len()))?;
+        Ok(())
+    }
+
+    /// Takes the record at the front of a text, and adds its row, whose parent is not known yet; gives what follows.
+    fn add<'t>(&mut self, dbd: &Dbd, rows: &mut Rows, text: &'t [u8]) -> Result<&'t [u8], Wrong> {
+        let rest = self.take(text)?;
+        rows.next_number()?;
+        rows.keys.extend_from_slice(self.keys.bytes())?;
+        rows.add(dbd, self.place_of(text), 0, self.code, self.segment.bytes())?;
+        Ok(rest)
+    }
+
+    /// Notes why what is left of the text is not read.
+    fn note(&self, rows: &mut Rows, left: &[u8], wrong: Wrong) -> Result<(), TextFault> {
+        match wrong {
+            Wrong::Memory => Err(TextFault::Memory),
+            Wrong::Row(fault) => {
+                rows.fault = Some(self.fault_at(self.place_of(left), fault));
+                Ok(())
+            }
+        }
+    }
+
+    /// Adds the rows of the records, up to the first with a fault.
+    fn add_all(&mut self, dbd: &Dbd, rows: &mut Rows, records: &[u8]) -> Result<(), TextFault> {
+        let mut left = without_ends(records);
+        for _ in 0..records.len() {
+            if left.is_empty() {
+                return Ok(());
+            }
+            match self.add(dbd, rows, left) {
+                Ok(rest) => left = without_ends(rest),
+                Err(wrong) => return self.note(rows, left, wrong),
+            }
+        }
+        Ok(())
+    }
+}
+
+/// Reads a table of a type, and adds its rows, up to the first record with a fault. Their parents are not known yet.
+pub fn read_table<'a>(
+    alloc: Global,
+    dbd: &Dbd,
+    code: u8,
+    text: &'a [u8],
+    rows: &mut Rows,
+) -> Result<TableReader<'a>, TextFault> {
+    let length = match dbd.type_of(code) {
+        Some(segment) => segment.length,
+        None => 0,
+    };
+    let mut table = TableReader::new(alloc, code, text, length);
+    let left = without_ends(without_mark(text));
+    if left.is_empty() {
+        return Ok(table);
+    }
+    match table.take_names(alloc, dbd, left) {
+        Ok(records) => table.add_all(dbd, rows, records)?,
+        Err(wrong) => table.note(rows, left, wrong)?,
+    }
+    Ok(table)
+}

@@ -1,0 +1,121 @@
+use crate::above::{Above, keys_above};
+use crate::naming::without_padding;
+use crate::part::{Part, columns_of};
+use crate::value::shown;
+use csv::{Error, Writer};
+use hd_dbd::Dbd;
+use std::alloc::{AllocError, Global};
+use std::io::{self, ErrorKind, Write};
+
+/// A type above the table's, and the key of its last row.
+#[derive(Drop)]
+struct Kept {
+    above: Above,
+    key: Vec<u8>,
+}
+
+/// The types above a type that have a key, without a row.
+fn kept_above(alloc: Global, dbd: &Dbd, code: u8) -> Result<Vec<Kept>, AllocError> {
+    let mut kept = Vec::new(alloc);
+    for above in keys_above(alloc, dbd, code)? {
+        kept.push(Kept {
+            above,
+            key: Vec::new(alloc),
+        })?;
+    }
+    Ok(kept)
+}
+
+/// A row of a table as a line of CSV.
+fn csv_line(
+    line: &mut Vec<u8>,
+    kept: &[Kept],
+    columns: &[Part],
+    bytes: &[u8],
+) -> Result<(), Error> {
+    line.clear();
+    let mut cells = Writer::from_writer(line);
+    for kept in kept {
+        cells.write_field(shown(&kept.key))?;
+    }
+    for part in columns {
+        cells.write_field(shown(part.bytes_in(bytes)))?;
+    }
+    cells.end_record()?;
+    cells.flush()
+}
+
+/// The names of the columns as a line of CSV. None of them has to be quoted.
+fn names_line(line: &mut Vec<u8>, kept: &[Kept], columns: &[Part]) -> Result<(), AllocError> {
+    line.clear();
+    for kept in kept {
+        line.extend_from_slice(without_padding(kept.above.name.bytes()))?;
+        line.extend_from_slice(b".")?;
+        kept.above.key.push_label(line)?;
+        line.extend_from_slice(b",")?;
+    }
+    for (place, part) in columns.iter().enumerate() {
+        if place > 0 {
+            line.extend_from_slice(b",")?;
+        }
+        part.push_label(line)?;
+    }
+    line.extend_from_slice(b"\n")
+}
+
+/// What the rows of one type as CSV have in common, and what is kept from one to the next.
+#[derive(Drop)]
+pub struct Table {
+    code: u8,
+    kept: Vec<Kept>,
+    columns: Vec<Part>,
+    line: Vec<u8>,
+}
+
+impl Table {
+    /// The table of a type, without columns where the database has no such type.
+    pub fn new(alloc: Global, dbd: &Dbd, code: u8) -> Result<Table, AllocError> {
+        let kept = kept_above(alloc, dbd, code)?;
+        let columns = match dbd.type_of(code) {
+            Some(segment) => columns_of(alloc, segment)?,
+            None => Vec::new(alloc),
+        };
+        Ok(Table {
+            code,
+            kept,
+            columns,
+            line: Vec::new(alloc),
+        })
+    }
+
+    /// Writes the line of the columns' names.
+    pub fn put_names<W: Write>(&mut self, out: &mut W) -> io::Result<()> {
+        if self.columns.is_empty() {
+            return Ok(());
+        }
+        names_line(&mut self.line, &self.kept, &self.columns)?;
+        out.write_all(&self.line)
+    }
+
+    /// Keeps the key of a row of a type above the table's.
+    fn keep_key(&mut self, code: u8, bytes: &[u8]) -> io::Result<()> {
+        for kept in &mut self.kept {
+            if kept.above.code == code {
+                kept.key.clear();
+                kept.key.extend_from_slice(kept.above.key.bytes_in(bytes))?;
+            }
+        }
+        Ok(())
+    }
+
+    /// Writes the line of a row of the table's type, and notes the key of one above it.
+    pub fn put<W: Write>(&mut self, code: u8, bytes: &[u8], out: &mut W) -> io::Result<()> {
+        if code != self.code {
+            return self.keep_key(code, bytes);
+        }
+        if csv_line(&mut self.line, &self.kept, &self.columns, bytes).is_err() {
+            return Err(io::Error::from(ErrorKind::OutOfMemory));
+        }
+        out.write_all(&self.line)
+    }
+}

@@ -1,0 +1,133 @@
+use crate::fault::{RowFault, TextFault, Wrong};
+use crate::parents::find_parents;
+use crate::rows::{Row, Rows, key_length};
+use crate::source::{Source, write_rows};
+use crate::table::{TableReader, read_table};
+use hd_dbd::Dbd;
+use std::alloc::Global;
+use std::io::Write;
+
+/// Tables, one a type.
+#[derive(Drop)]
+struct TableTexts<'a> {
+    tables: Vec<TableReader<'a>>,
+}
+
+impl Source for TableTexts<'_> {
+    fn read(&mut self, row: &Row, bytes: &mut Vec<u8>) -> Result<(), TextFault> {
+        let Some(place) = self.tables.iter().position(|table| table.code == row.code) else {
+            return Ok(());
+        };
+        let Some(table) = self.tables.get_mut(place) else {
+            return Ok(());
+        };
+        match table.read_at(row.start) {
+            Ok(()) => {}
+            Err(Wrong::Memory) => return Err(TextFault::Memory),
+            Err(Wrong::Row(fault)) => return Err(table.fault_at(row.start, fault)),
+        }
+        bytes.clear();
+        bytes.extend_from_slice(table.bytes())?;
+        Ok(())
+    }
+
+    fn fault_at(&self, row: &Row, fault: RowFault) -> TextFault {
+        for table in &self.tables {
+            if table.code == row.code {
+                return table.fault_at(row.start, fault);
+            }
+        }
+        TextFault::Table(fault, row.code, 1)
+    }
+}
+
+/// Finds the parents of the rows of a table, which stand from a place on. The first without one is a fault, and ends the rows.
+fn place_rows(
+    alloc: Global,
+    dbd: &Dbd,
+    rows: &mut Rows,
+    first: usize,
+    table: &TableReader<'_>,
+) -> Result<(), TextFault> {
+    let Some(parent) = dbd.parent_of(table.code) else {
+        return Ok(());
+    };
+    let own = key_length(dbd, parent);
+    let length = table.keys_length as usize;
+    let orphan = find_parents(
+        alloc,
+        &rows.keys,
+        &mut rows.rows,
+        first,
+        parent,
+        own,
+        length,
+    )?;
+    let Some(place) = orphan else {
+        return Ok(());
+    };
+    if let Some(row) = rows.rows.get(place) {
+        rows.fault = Some(table.fault_at(row.start, RowFault::Orphan));
+    }
+    rows.rows.truncate(place);
+    Ok(())
+}
+
+/// Reads the table of a type, if there is one, and adds its rows.
+fn read_type<'a>(
+    alloc: Global,
+    dbd: &Dbd,
+    code: u8,
+    tables: &[(u8, &'a [u8])],
+    rows: &mut Rows,
+    readers: &mut Vec<TableReader<'a>>,
+) -> Result<(), TextFault> {
+    for table in tables {
+        if table.0 == code {
+            let first = rows.rows.len();
+            let reader = read_table(alloc, dbd, code, table.1, rows)?;
+            place_rows(alloc, dbd, rows, first, &reader)?;
+            readers.push(reader)?;
+        }
+    }
+    Ok(())
+}
+
+/// The first table of no type, or of the type of one before it.
+fn tables_fault(dbd: &Dbd, tables: &[(u8, &[u8])]) -> Option<TextFault> {
+    for (place, table) in tables.iter().enumerate() {
+        let code = table.0;
+        if dbd.type_of(code).is_none() {
+            return Some(TextFault::Table(RowFault::Type, code, 1));
+        }
+        if tables[..place].iter().any(|before| before.0 == code) {
+            return Some(TextFault::Table(RowFault::Twice, code, 1));
+        }
+    }
+    None
+}
+
+/// Writes the unload stream of the rows that tables spell, and says how many they are.
+///
+/// Each table is CSV, given with the code of its type, and has a line of the columns' names as `Form::Table` writes it, in any order. A
+/// row's parents are those of the keys in the columns `TYPE.KEY`. Rows are sorted as those of `stream_of_rows`, and the tables may stand
+/// in any order; they are read in that of their types, and then a second time. Where one has a fault nothing is written.
+pub fn stream_of_tables<W: Write>(
+    alloc: Global,
+    dbd: &Dbd,
+    tables: &[(u8, &[u8])],
+    out: &mut W,
+) -> Result<u32, TextFault> {
+    if let Some(fault) = tables_fault(dbd, tables) {
+        return Err(fault);
+    }
+    let mut rows = Rows::new(alloc);
+    let mut readers = Vec::new(alloc);
+    for code in 1..=u8::MAX {
+        if rows.fault.is_none() {
+            read_type(alloc, dbd, code, tables, &mut rows, &mut readers)?;
+        }
+    }
+    let mut source = TableTexts { tables: readers };
+    write_rows(alloc, dbd, &rows, &mut source, out)
+}
