@@ -43,7 +43,7 @@ pub fn advise_stop<E: Write>(
                 "  {name}: another program uses it; try again when that one has ended"
             )
         }
-        Stop::OverInput | Stop::Words | Stop::NoType => Ok(()),
+        Stop::OverInput | Stop::Words | Stop::NoType | Stop::Table(_, _, _) => Ok(()),
         Stop::Refused(refusal) => advise_refusal(alloc, *refusal, err),
     }
 }

@@ -1,15 +1,35 @@
-use crate::files::{PIECE, Rewritten, open_output, read_database, read_file};
+use crate::files::{Identity, PIECE, Rewritten, open_output, read_database, read_file};
 use crate::stop::{Named, Stop, of_file};
 use hd_commands::{Ended, Refusal};
-use hd_rows::{TextFault, stream_of_rows};
-use std::alloc::Global;
+use hd_dbd::{Dbd, Name8, SegType};
+use hd_rows::{TextFault, stream_of_rows, stream_of_tables};
+use std::alloc::{AllocError, Global};
 use std::fs::File;
-use std::io::{BufWriter, Write};
+use std::io::{self, BufWriter, ErrorKind, Write};
 use std::rt::Files;
+
+/// The stream's file, which has what it had until the first record is written.
+fn records_into(alloc: Global, file: File) -> Result<BufWriter<Rewritten>, Stop> {
+    match BufWriter::with_capacity(alloc, PIECE, Rewritten::over(file)) {
+        Ok(records) => Ok(records),
+        Err(_) => Err(Stop::from(Refusal::Memory)),
+    }
+}
+
+/// Says how many segments a stream has that was made, when its file has all of it.
+fn end_stream<O: Write>(
+    segments: u32,
+    records: &mut BufWriter<Rewritten>,
+    out: &mut O,
+) -> Result<Ended, Stop> {
+    of_file(Named::Out, records.flush())?;
+    writeln!(out, "made a stream of {segments} segments")?;
+    Ok(Ended::with_status(0))
+}
 
 /// Makes an unload stream, in a file, of a text of rows in another. The DBD is read and judged first, then the text is read, then the
 /// stream's file is opened; that is cut to nothing and written only when the whole text is judged. Says how many segments the stream has.
-pub fn make_stream<R, O>(
+pub fn make_of_rows<R, O>(
     rt: &R,
     alloc: Global,
     dbd: &str,
@@ -24,23 +44,160 @@ where
     let (dbd, source) = read_database(rt, alloc, dbd)?;
     let (text, given) = read_file(rt, alloc, rows, Named::Rows)?;
     let file = open_output(rt, stream, Named::Out, false, &[source, given])?;
-    let Ok(mut records) = BufWriter::with_capacity(alloc, PIECE, Rewritten::over(file)) else {
-        return Err(Stop::from(Refusal::Memory));
-    };
+    let mut records = records_into(alloc, file)?;
     match stream_of_rows(alloc, &dbd, &text, &mut records) {
-        Ok(segments) => {
-            of_file(Named::Out, records.flush())?;
-            writeln!(out, "made a stream of {segments} segments")?;
-            Ok(Ended::with_status(0))
-        }
+        Ok(segments) => end_stream(segments, &mut records, out),
         Err(fault) => {
             // What a refusal leaves in the buffer is not written.
             let (_, _) = records.into_parts();
-            match fault {
-                TextFault::Memory => Err(Stop::from(Refusal::Memory)),
-                TextFault::Write => Err(Stop::from(Refusal::Device)),
-                TextFault::Row(fault, line) => Err(Stop::Rows(fault, line, text)),
+            Err(rows_refused(fault, text))
+        }
+    }
+}
+
+/// Why a text of rows makes no stream.
+fn rows_refused(fault: TextFault, text: Vec<u8>) -> Stop {
+    match fault {
+        TextFault::Row(fault, line) | TextFault::Table(fault, _, line) => {
+            Stop::Rows(fault, line, text)
+        }
+        TextFault::Memory => Stop::from(Refusal::Memory),
+        TextFault::Write => Stop::from(Refusal::Device),
+    }
+}
+
+/// The tables in a folder: for each the code of its type and the bytes of its file; and all files that the command reads.
+#[derive(Drop)]
+struct Tables {
+    codes: Vec<u8>,
+    texts: Vec<Vec<u8>>,
+    files: Vec<Identity>,
+}
+
+/// The name of a type without its padding.
+fn text_of(name: &Name8) -> &str {
+    match str::from_utf8(name.bytes()) {
+        Ok(text) => text.trim_end(),
+        Err(_) => "",
+    }
+}
+
+/// The bytes of a file, if it is there.
+fn read_if_there<R: Files<File = File>>(
+    rt: &R,
+    alloc: Global,
+    name: &str,
+) -> Result<Option<(Vec<u8>, Identity)>, Stop> {
+    match read_file(rt, alloc, name, Named::Rows) {
+        Ok(read) => Ok(Some(read)),
+        Err(Stop::File(file, error)) => {
+            if error.kind() == ErrorKind::NotFound {
+                return Ok(None);
+            }
+            Err(Stop::File(file, error))
+        }
+        Err(stop) => Err(stop),
+    }
+}
+
+/// Adds the table of a type in a folder, if there is one.
+fn add_table<R: Files<File = File>>(
+    rt: &R,
+    alloc: Global,
+    tables: &mut Tables,
+    segment: &SegType,
+    code: u8,
+    folder: &str,
+) -> Result<(), Stop> {
+    let name = text_of(&segment.name);
+    let file = format!(in alloc; "{folder}/{name}.csv")?;
+    if let Some((text, identity)) = read_if_there(rt, alloc, &file)? {
+        tables.codes.push(code)?;
+        tables.texts.push(text)?;
+        tables.files.push(identity)?;
+    }
+    Ok(())
+}
+
+/// The tables in a folder, those of the types of a database.
+fn read_tables<R: Files<File = File>>(
+    rt: &R,
+    alloc: Global,
+    dbd: &Dbd,
+    source: Identity,
+    folder: &str,
+) -> Result<Tables, Stop> {
+    let mut tables = Tables {
+        codes: Vec::new(alloc),
+        texts: Vec::new(alloc),
+        files: Vec::new(alloc),
+    };
+    tables.files.push(source)?;
+    let mut code = 0u8;
+    for segment in dbd.types() {
+        code = code.saturating_add(1);
+        add_table(rt, alloc, &mut tables, segment, code, folder)?;
+    }
+    if tables.codes.is_empty() {
+        let error = io::Error::from(ErrorKind::NotFound);
+        return Err(Stop::File(Named::Rows, error));
+    }
+    Ok(tables)
+}
+
+/// The codes of tables, each with the bytes of its table.
+fn pairs_of<'a>(alloc: Global, tables: &'a Tables) -> Result<Vec<(u8, &'a [u8])>, AllocError> {
+    let mut pairs = Vec::new(alloc);
+    for (code, text) in tables.codes.iter().zip(&tables.texts) {
+        pairs.push((*code, text.as_slice()))?;
+    }
+    Ok(pairs)
+}
+
+/// Makes an unload stream, in a file, of the tables in a folder, each in a file that has the name of its type and the ending `.csv`. All
+/// else is as with a text of rows.
+pub fn make_of_tables<R, O>(
+    rt: &R,
+    alloc: Global,
+    dbd: &str,
+    folder: &str,
+    stream: &str,
+    out: &mut O,
+) -> Result<Ended, Stop>
+where
+    R: Files<File = File>,
+    O: Write,
+{
+    let (dbd, source) = read_database(rt, alloc, dbd)?;
+    let tables = read_tables(rt, alloc, &dbd, source, folder)?;
+    let file = open_output(rt, stream, Named::Out, false, &tables.files)?;
+    let mut records = records_into(alloc, file)?;
+    let pairs = pairs_of(alloc, &tables)?;
+    match stream_of_tables(alloc, &dbd, &pairs, &mut records) {
+        Ok(segments) => end_stream(segments, &mut records, out),
+        Err(fault) => {
+            // What a refusal leaves in the buffer is not written.
+            let (_, _) = records.into_parts();
+            Err(tables_refused(alloc, &dbd, fault))
+        }
+    }
+}
+
+/// Why tables make no stream.
+fn tables_refused(alloc: Global, dbd: &Dbd, fault: TextFault) -> Stop {
+    match fault {
+        TextFault::Row(fault, line) => Stop::Rows(fault, line, Vec::new(alloc)),
+        TextFault::Table(fault, code, line) => {
+            let name = match dbd.type_of(code) {
+                Some(segment) => segment.name,
+                None => return Stop::Rows(fault, line, Vec::new(alloc)),
+            };
+            match String::from_str(alloc, text_of(&name)) {
+                Ok(name) => Stop::Table(fault, name, line),
+                Err(_) => Stop::from(Refusal::Memory),
             }
         }
+        TextFault::Memory => Stop::from(Refusal::Memory),
+        TextFault::Write => Stop::from(Refusal::Device),
     }
 }

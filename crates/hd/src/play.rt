@@ -2,7 +2,7 @@ use crate::advice::{advise_refusal, advise_stop};
 use crate::checking::check_file;
 use crate::explaining::explain_word;
 use crate::listing::list_rows;
-use crate::making::make_stream;
+use crate::making::{make_of_rows, make_of_tables};
 use crate::playing::{play_file, play_sample};
 use crate::reloading::reload_file;
 use crate::showing::{show_database, show_volume};
@@ -132,7 +132,14 @@ where
             dbd,
             rows,
             out: stream,
-        } => make_stream(rt, alloc, dbd, rows, stream, out),
+            is_tables: false,
+        } => make_of_rows(rt, alloc, dbd, rows, stream, out),
+        Request::Stream {
+            dbd,
+            rows,
+            out: stream,
+            is_tables: true,
+        } => make_of_tables(rt, alloc, dbd, rows, stream, out),
         Request::Explain { word } => explain_word(word, out, err),
     }
 }

@@ -14,12 +14,7 @@ use std::rt::Files;
 use std::sync::ledger::{Blank, Ledger};
 
 /// Draws a volume that was surveyed, as text.
-fn draw_text<O: Write>(
-    alloc: Global,
-    dbd: &Dbd,
-    survey: &Survey,
-    out: &mut O,
-) -> Result<(), Stop> {
+fn draw_text<O: Write>(alloc: Global, dbd: &Dbd, survey: &Survey, out: &mut O) -> Result<(), Stop> {
     let Ok(mut lines) = BufWriter::with_capacity(alloc, PIECE, out) else {
         return Err(Stop::from(Refusal::Memory));
     };
@@ -29,12 +24,7 @@ fn draw_text<O: Write>(
 }
 
 /// Draws a volume that was surveyed, as a picture in a file.
-fn draw_picture(
-    alloc: Global,
-    dbd: &Dbd,
-    survey: &Survey,
-    picture: Rewritten,
-) -> Result<(), Stop> {
+fn draw_picture(alloc: Global, dbd: &Dbd, survey: &Survey, picture: Rewritten) -> Result<(), Stop> {
     let Ok(mut lines) = BufWriter::with_capacity(alloc, PIECE, picture) else {
         return Err(Stop::from(Refusal::Memory));
     };
@@ -80,12 +70,7 @@ fn show_file<O: Write, E: Write>(
 }
 
 /// Draws the hierarchy that a DBD describes.
-pub fn show_database<R, O>(
-    rt: &R,
-    alloc: Global,
-    dbd: &str,
-    out: &mut O,
-) -> Result<Ended, Stop>
+pub fn show_database<R, O>(rt: &R, alloc: Global, dbd: &str, out: &mut O) -> Result<Ended, Stop>
 where
     R: Files<File = File>,
     O: Write,

@@ -44,6 +44,9 @@ pub enum Stop {
     /// A text of rows has a fault on a line; with the text.
     #[error("IN refused: line {1}, {0}")]
     Rows(RowFault, u64, Vec<u8>),
+    /// A table has a fault on a line; with the name of its type.
+    #[error("IN refused: {1}.csv, line {2}, {0}")]
+    Table(RowFault, String, u64),
     /// The system refused to open, to read or to write a file.
     #[error("device failed")]
     File(Named, io::Error),
@@ -104,7 +107,7 @@ impl Stop {
     pub fn status(&self) -> u8 {
         match self {
             Stop::Database(_, _) | Stop::Program(_, _) => 2,
-            Stop::Deck(_, _, _) | Stop::Rows(_, _, _) => 2,
+            Stop::Deck(_, _, _) | Stop::Rows(_, _, _) | Stop::Table(_, _, _) => 2,
             Stop::File(_, _) | Stop::InUse => 3,
             Stop::OverInput | Stop::Words | Stop::NoType => COMMAND_LINE,
             Stop::Refused(refusal) => refusal.status(),

@@ -1,8 +1,8 @@
 use crate::stop::Named;
-use clap::{Arg, ArgMatches, Command, Error, value_parser};
+use clap::{Arg, ArgAction, ArgMatches, Command, Error, value_parser};
 use std::alloc::Global;
 
-/// What the words of the command line ask for. All of them but `blocks`, `cache`, `table` and `word` are names of files; `cache` says how many blocks of
+/// What the words of the command line ask for. All of them but `blocks`, `cache`, `table`, `is_tables` and `word` are names of files; `cache` says how many blocks of
 /// the volume are kept in memory, if the words say it.
 #[derive(Clone, Copy)]
 pub enum Request<'a> {
@@ -49,11 +49,12 @@ pub enum Request<'a> {
         table: Option<&'a str>,
         cache: Option<u32>,
     },
-    /// An unload stream of a text of rows.
+    /// An unload stream of a text of rows, or of the tables in a folder.
     Stream {
         dbd: &'a str,
         rows: &'a str,
         out: &'a str,
+        is_tables: bool,
     },
     /// What a fault, status or refusal means, or a list of all.
     Explain {
@@ -142,6 +143,7 @@ fn request_of<'a>(matches: &ArgMatches<'a>) -> Request<'a> {
             dbd,
             rows: given.get_str("IN").unwrap_or(""),
             out: given.get_str("OUT").unwrap_or(""),
+            is_tables: given.get_flag("TABLES"),
         };
     }
     let cache = given.get_one::<u32>("CACHE");
@@ -267,10 +269,9 @@ fn show_command<'a>(alloc: Global) -> Result<Command<'a>, Error> {
 
 /// The words of `hd rows`.
 fn rows_command<'a>(alloc: Global) -> Result<Command<'a>, Error> {
-    let table = Arg::new(alloc, "TYPE")
-        .long("csv")
-        .value_name("TYPE")
-        .help("Write the segments of this type alone, as CSV, with the keys of their parents");
+    let table = Arg::new(alloc, "TYPE").long("csv").value_name("TYPE").help(
+        "Write the segments of this type alone, as CSV, with the keys of their parents",
+    );
     let command = Command::new(alloc, "rows")
         .about("Checks a volume, and writes its segments in hierarchic sequence, a line each")
         .arg(file_word(alloc, "DBD", "The file with the DBD source"))?
@@ -282,15 +283,26 @@ fn rows_command<'a>(alloc: Global) -> Result<Command<'a>, Error> {
 
 /// The words of `hd stream`.
 fn stream_command<'a>(alloc: Global) -> Result<Command<'a>, Error> {
+    let tables = Arg::new(alloc, "TABLES")
+        .long("csv")
+        .action(ArgAction::SetTrue)
+        .help("IN is a folder with a table for each type, as hd rows --csv writes it, in TYPE.csv");
     let command = Command::new(alloc, "stream")
-        .about("Makes an unload stream, which hd reload takes, of a text of rows as hd rows writes it")
+        .about(
+            "Makes an unload stream, which hd reload takes, of a text of rows as hd rows writes it",
+        )
         .arg(file_word(alloc, "DBD", "The file with the DBD source"))?
-        .arg(file_word(alloc, "IN", "The text of rows; twins may stand in any order"))?
+        .arg(file_word(
+            alloc,
+            "IN",
+            "The text of rows; twins may stand in any order",
+        ))?
         .arg(file_word(
             alloc,
             "OUT",
             "The unload stream, made where there is none; it is cut to nothing and written when the text is read",
-        ))?;
+        ))?
+        .arg(tables)?;
     Ok(command)
 }
 
