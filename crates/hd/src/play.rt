@@ -159,6 +159,8 @@ mod deck_tests;
 #[cfg(test)]
 mod reload_tests;
 #[cfg(test)]
+mod rows_tests;
+#[cfg(test)]
 mod testing;
 #[cfg(test)]
 mod tests;
