@@ -47,12 +47,12 @@ fn writes_tables(rt: HostRuntime) -> Result<(), Fail> {
 
 /// A stream with bytes of every kind, its rows and its table.
 const ODD_STREAM: &[u8] =
-    b"HDUNLOAD\0\x01ODDS    \x01\0\x0c1 x a\"\\,  \xff \x01\0\x0c2\0          \0\0\0\0\x02";
+    b"HDUNLOAD\0\x01ODDS    \x01\0\x0c1 x a\"\\,  \xff \x01\0\x0c2\0\r         \0\0\0\0\x02";
 
 const ODD_ROWS: &[u8] =
-    b"ODD K=1 3-3=x A=\" a\\\"\\\\\" B=\"\\\"\\\\,\" 10-12=\" \\xff \"\nODD K=2\\x00 3-3=\"\" A=\"\" B=\"\" 10-12=\"\"\n";
+    b"ODD K=1 3-3=x A=\" a\\\"\\\\\" B=\"\\\"\\\\,\" 10-12=\" \\xff \"\nODD K=2\\x00 3-3=\\x0d A=\"\" B=\"\" 10-12=\"\"\n";
 
-const ODD_TABLE: &[u8] = b"K,A,B,3-3,10-12\n1,\" a\"\"\\\",\"\"\"\\,\",x, \xff \n2\0,,,,\n";
+const ODD_TABLE: &[u8] = b"K,A,B,3-3,10-12\n1,\" a\"\"\\\",\"\"\"\\,\",x, \xff \n2\0,,,\"\r\",\n";
 
 #[test]
 fn shows_every_value(rt: HostRuntime) -> Result<(), Fail> {
