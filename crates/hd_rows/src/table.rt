@@ -2,7 +2,7 @@ use crate::cell::{Behind, read_cell, without_ends};
 use crate::columns::{Column, columns_named, keys_length, parents_above};
 use crate::draft::Draft;
 use crate::fault::{RowFault, TextFault, Wrong};
-use crate::lines::without_mark;
+use crate::mark::without_mark;
 use crate::part::bytes_at;
 use crate::rows::Rows;
 use crate::text::line_at;

@@ -1,10 +1,11 @@
 use crate::fault::{RowFault, TextFault, Wrong};
 use crate::line::LineReader;
-use crate::lines::{next_line, unpadded, without_mark};
+use crate::mark::without_mark;
 use crate::part::bytes_at;
 use crate::rows::{Row, Rows};
 use crate::source::{Source, write_rows};
 use hd_dbd::Dbd;
+use hd_lines::{next_line, unpadded};
 use std::alloc::Global;
 use std::io::Write;
 
