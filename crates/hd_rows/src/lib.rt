@@ -8,7 +8,7 @@ mod draft;
 mod entry;
 mod fault;
 mod line;
-mod lines;
+mod mark;
 mod naming;
 mod parents;
 mod part;

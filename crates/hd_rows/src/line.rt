@@ -1,10 +1,10 @@
 use crate::draft::Draft;
 use crate::fault::{RowFault, Wrong};
-use crate::lines::unpadded;
 use crate::naming::code_named;
 use crate::part::part_named;
 use crate::value::read_value;
 use hd_dbd::{Dbd, SegType};
+use hd_lines::unpadded;
 use memchr::memchr;
 use std::alloc::Global;
 

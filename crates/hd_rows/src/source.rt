@@ -70,7 +70,7 @@ fn put_rows<S: Source, W: Write>(
     let mut bytes = Vec::new(alloc);
     let mut place = 0;
     let mut count = 0u32;
-    for entry_count in 0..entries.len() {
+    for _ in 0..entries.len() {
         let Some(entry) = entries.get(place) else {
             return Ok(count);
         };

@@ -2,6 +2,7 @@ use crate::cell::{Behind, read_cell, without_ends};
 use crate::columns::{Column, columns_named, keys_length, parents_above};
 use crate::draft::Draft;
 use crate::fault::{RowFault, TextFault, Wrong};
+use crate::mark::without_mark;
 use crate::part::bytes_at;
 use crate::rows::Rows;
 use crate::text::line_at;
@@ -19,15 +20,6 @@ pub struct TableReader<'a> {
     cell: Vec<u8>,
     keys: Draft,
     segment: Draft,
-}
-
-/// The text without the mark of UTF-8 at its front.
-fn without_mark(text: &[u8]) -> &[u8] {
-    if text.starts_with(b"\xef\xbb\xbf") {
-        bytes_at(text, 3, text.len())
-    } else {
-        text
-    }
 }
 
 impl<'a> TableReader<'a> {

@@ -1,10 +1,11 @@
 use crate::fault::{RowFault, TextFault, Wrong};
 use crate::line::LineReader;
-use crate::lines::{next_line, unpadded};
+use crate::mark::without_mark;
 use crate::part::bytes_at;
 use crate::rows::{Row, Rows};
 use crate::source::{Source, write_rows};
 use hd_dbd::Dbd;
+use hd_lines::{next_line, unpadded};
 use std::alloc::Global;
 use std::io::Write;
 
@@ -101,7 +102,7 @@ fn read_text(alloc: Global, dbd: &Dbd, text: &[u8]) -> Result<Rows, TextFault> {
     let mut rows = Rows::new(alloc);
     let mut path = Vec::new(alloc);
     let mut reader = LineReader::new(alloc, dbd);
-    let mut left = text;
+    let mut left = without_mark(text);
     for count in 0..text.len() {
         if left.is_empty() {
             return Ok(rows);

@@ -6,7 +6,7 @@ use std::test::Fail;
 fn sorts_rows_and_pads_values(rt: HostRuntime) -> Result<(), Fail> {
     let alloc = rt.alloc();
     let dbd = edu(alloc)?;
-    let text = b"# two courses\r
+    let text = b"\xef\xbb\xbf# two courses\r
 COURSE 4-8=LOGIC   NUM=205\r
 
 COURSE NUM=\"101\" 4-6=ALG 7-8=\\x45B

@@ -1,4 +1,4 @@
-use crate::given::{STREAM, edu, odd, stream_of, text_of};
+use crate::given::{STREAM, edu, odd, stream_of, stream_of_csv, text_of};
 use hd_rows::*;
 use std::test::Fail;
 
@@ -45,21 +45,27 @@ fn writes_tables(rt: HostRuntime) -> Result<(), Fail> {
     Ok(())
 }
 
+/// A stream with bytes of every kind, its rows and its table.
+const ODD_STREAM: &[u8] =
+    b"HDUNLOAD\0\x01ODDS    \x01\0\x0c1 x a\"\\,  \xff \x01\0\x0c2\0\r         \0\0\0\0\x02";
+
+const ODD_ROWS: &[u8] =
+    b"ODD K=1 3-3=x A=\" a\\\"\\\\\" B=\"\\\"\\\\,\" 10-12=\" \\xff \"\nODD K=2\\x00 3-3=\\x0d A=\"\" B=\"\" 10-12=\"\"\n";
+
+const ODD_TABLE: &[u8] = b"K,A,B,3-3,10-12\n1,\" a\"\"\\\",\"\"\"\\,\",x, \xff \n2\0,,,\"\r\",\n";
+
 #[test]
 fn shows_every_value(rt: HostRuntime) -> Result<(), Fail> {
     let alloc = rt.alloc();
     let dbd = odd(alloc)?;
-    let stream =
-        b"HDUNLOAD\0\x01ODDS    \x01\0\x0c1 x a\"\\,  \xff \x01\0\x0c2\0          \0\0\0\0\x02";
-    let rows =
-        b"ODD K=1 3-3=x A=\" a\\\"\\\\\" B=\"\\\"\\\\,\" 10-12=\" \\xff \"\nODD K=2\\x00 3-3=\"\" A=\"\" B=\"\" 10-12=\"\"\n";
-    let table = b"K,A,B,3-3,10-12\n1,\" a\"\"\\\",\"\"\"\\,\",x, \xff \n2\0,,,,\n";
-    let text = text_of(alloc, &dbd, Form::Rows, stream, 5);
-    assert_eq!(rt; text.as_deref(), Some(rows.as_slice()));
-    let made = stream_of(alloc, &dbd, rows)?;
-    assert_eq!(rt; made.as_slice(), stream.as_slice());
-    let text = text_of(alloc, &dbd, Form::Table(1), stream, 5);
-    assert_eq!(rt; text.as_deref(), Some(table.as_slice()));
+    let rows = text_of(alloc, &dbd, Form::Rows, ODD_STREAM, 5);
+    assert_eq!(rt; rows.as_deref(), Some(ODD_ROWS));
+    let made = stream_of(alloc, &dbd, ODD_ROWS)?;
+    assert_eq!(rt; made.as_slice(), ODD_STREAM);
+    let table = text_of(alloc, &dbd, Form::Table(1), ODD_STREAM, 5);
+    assert_eq!(rt; table.as_deref(), Some(ODD_TABLE));
+    let made = stream_of_csv(alloc, &dbd, &[(1, ODD_TABLE)])?;
+    assert_eq!(rt; made.as_slice(), ODD_STREAM);
     Ok(())
 }
 
