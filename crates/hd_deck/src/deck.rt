@@ -62,4 +62,3 @@ pub fn read_deck(alloc: Global, bytes: &[u8], pcbs: u8) -> Result<Vec<Step>, Dec
     }
     Ok(reader.into_steps())
 }
-

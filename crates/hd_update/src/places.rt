@@ -15,8 +15,8 @@ ghost use Rattle.hd_update.specs.Places.{has_key, side_of, side_at, IsGapBelow, 
 use crate::judging::key_order;
 use hd_dbd::{Dbd, Refused, Rule};
 use hd_forest::{
-    Path, TwinPlaces, code_at, first_child, forward_in, key_at, last_twin, parent_on, prev_twin, tip_of,
-    twin_places,
+    Path, TwinPlaces, code_at, first_child, forward_in, key_at, last_twin, parent_on, prev_twin,
+    tip_of, twin_places,
 };
 use hd_index::next_from;
 use hd_position::{Position, row_on};
