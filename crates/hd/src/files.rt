@@ -154,8 +154,11 @@ pub fn cached_blocks<L: Ledger>(
     requires share { 0 < blank.parts }
     ensures size { IfOk result (λ s. s.size ≡ dbd.now.block_size) }
 {
-    let opened = FileStore::over(file, dbd.block_size() as usize, blank);
-    let store: FileStore<L> = of_file(Named::Volume, opened)?;
+    let opened: io::Result<FileStore<L>> = FileStore::over(file, dbd.block_size() as usize, blank);
+    let store = match opened {
+        Ok(store) => store,
+        Err(error) => return Err(Stop::file(Named::Volume, error)),
+    };
     match Cached::new(alloc, store, cache.clamp(1, 65_536) as usize) {
         Ok(cached) => Ok(cached),
         Err((_, refused)) => Err(Stop::from(refused)),

@@ -23,8 +23,9 @@ use std::rt::Files;
 ///
 /// Without words it reads a deck from `input` and plays it over the sample database, in memory. `deck` plays one over a volume, `check` judges
 /// a volume, `unload` writes its unload stream, and `reload` makes a volume of one; `show` draws a database or a volume, `rows` writes a volume's
-/// rows, and `stream` makes an unload stream of rows; `explain` says what a fault, status or refusal means. What the calls answer, and what was done, goes to `out`; why the program ended early goes to `err`, a line, and where that is a terminal or the words
-/// say so, further lines that say more.
+/// rows, and `stream` makes an unload stream of rows; `explain` says what a fault, status or refusal means. What the calls answer, and what was
+/// done, goes to `out`; why the program ended early goes to `err`, a line, and where that is a terminal or the words say so, further lines that
+/// say more.
 pub fn play<R, I, O, E>(
     rt: &R,
     words: &[String],

@@ -7,7 +7,7 @@ use crate::files::{
 };
 use crate::input::read_whole;
 use crate::sample;
-use crate::stop::{Named, Stop, of_file};
+use crate::stop::{Named, Stop};
 use hd_commands::{Ended, Refusal, play_deck, status_of_calls};
 use hd_dbd::{Dbd, Psb};
 use hd_deck::{Step, read_deck};
@@ -56,7 +56,10 @@ pub fn play_sample<I: Read, O: Write, E: Write>(
 ) -> Result<Ended, Stop> {
     let dbd = sample::database(alloc).map_err(|fault| Stop::database(fault, Vec::new(alloc)))?;
     let psb = sample::program(alloc, &dbd).map_err(|fault| Stop::program(fault, Vec::new(alloc)))?;
-    let text = of_file(Named::Input, read_whole(alloc, input))?;
+    let text = match read_whole(alloc, input) {
+        Ok(text) => text,
+        Err(error) => return Err(Stop::file(Named::Input, error)),
+    };
     let steps = match read_deck(alloc, &text, psb.pcbs().len() as u8) {
         Ok(steps) => steps,
         Err(fault) => return Err(Stop::deck(fault, text, Named::Input)),
