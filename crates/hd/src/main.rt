@@ -1,30 +1,14 @@
-//! The program `hd`: plays decks of DL/I calls, checks, unloads and reloads volumes, and says what its words mean.
+//! The program `hd`: plays decks of DL/I calls, checks, unloads and reloads volumes, draws them, writes their rows, and says what its words mean.
 #![tactic(auto)]
 
-mod advice;
-mod checking;
-mod explaining;
-mod files;
-mod input;
-mod listing;
-mod making;
-mod play;
-mod playing;
-mod reloading;
-mod sample;
-mod showing;
-mod stop;
-mod unloading;
-mod words;
-
+use hd_play::{Stop, play, stopped};
 use std::io::IsTerminal;
 use std::process::ExitCode;
 use std::{env, io};
-use stop::Stop;
 
 fn main(rt: HostRuntime) -> ExitCode {
     let status = match words_of(&rt) {
-        Ok(words) => play::play(
+        Ok(words) => play(
             &rt,
             words.as_slice(),
             rt.stderr().is_terminal(),
@@ -32,7 +16,7 @@ fn main(rt: HostRuntime) -> ExitCode {
             &mut io::writer(&rt),
             &mut rt.stderr(),
         ),
-        Err(error) => play::stopped(&Stop::words(&error), &mut rt.stderr()),
+        Err(error) => stopped(&Stop::words(&error), &mut rt.stderr()),
     };
     ExitCode::from(status)
 }

@@ -1,0 +1,152 @@
+use crate::advice::{advise_refusal, advise_stop};
+use crate::checking::check_file;
+use crate::explaining::explain_word;
+use crate::listing::list_rows;
+use crate::making::{make_of_rows, make_of_tables};
+use crate::playing::{play_file, play_sample};
+use crate::reloading::reload_file;
+use crate::showing::{show_database, show_volume};
+use crate::stop::{COMMAND_LINE, Stop};
+use crate::unloading::unload_file;
+use crate::words::{Explains, Request, read_words};
+use clap::error::ErrorKind;
+use hd_commands::{Ended, Refusal};
+use std::alloc::Global;
+use std::fs::File;
+use std::io::{Read, Write};
+use std::rt::Files;
+
+/// Does what the words behind the program's name ask for, and gives the status of the program: 0 done; 1 a fault in a volume or a
+/// stream, no room for it, or a volume that is not empty for a load; 2 a text refused; 3 a failed read or write; 4 no memory, in a deck also
+/// for one call; 64 a command line that is not understood, help among them, whose text is `clap`'s, or one that would write over what it
+/// reads.
+///
+/// Without words it reads a deck from `input` and plays it over the sample database, in memory. `deck` plays one over a volume, `check` judges
+/// a volume, `unload` writes its unload stream, and `reload` makes a volume of one; `show` draws a database or a volume, `rows` writes a volume's
+/// rows, and `stream` makes an unload stream of rows; `explain` says what a fault, status or refusal means. What the calls answer, and what was
+/// done, goes to `out`; why the program ended early goes to `err`, a line, and where that is a terminal or the words say so, further lines that
+/// say more.
+pub fn play<R, I, O, E>(
+    rt: &R,
+    words: &[String],
+    is_terminal: bool,
+    input: &mut I,
+    out: &mut O,
+    err: &mut E,
+) -> u8
+where
+    R: Files<File = File> + AllocGlobal,
+    I: Read,
+    O: Write,
+    E: Write,
+{
+    let (request, explains) = match read_words(rt.alloc(), words) {
+        Ok(asked) => asked,
+        Err(error) => {
+            if error.kind() == ErrorKind::OutOfMemory {
+                return stopped(&Stop::from(Refusal::Memory), err);
+            }
+            let _ = write!(err, "{error}");
+            return COMMAND_LINE;
+        }
+    };
+    let says_more = match explains {
+        Explains::Always => true,
+        Explains::Never => false,
+        Explains::Auto => is_terminal,
+    };
+    match perform(rt, request, input, out, err) {
+        Ok(ended) => {
+            if let (true, Some(refusal)) = (says_more, ended.refusal) {
+                let _ = advise_refusal(rt.alloc(), refusal, err);
+            }
+            ended.status
+        }
+        Err(stop) => {
+            let status = stopped(&stop, err);
+            if says_more {
+                let _ = advise_stop(rt.alloc(), &stop, &request, err);
+            }
+            status
+        }
+    }
+}
+
+/// Does what is asked for, and says how it ended.
+fn perform<R, I, O, E>(
+    rt: &R,
+    request: Request<'_>,
+    input: &mut I,
+    out: &mut O,
+    err: &mut E,
+) -> Result<Ended, Stop>
+where
+    R: Files<File = File> + AllocGlobal,
+    I: Read,
+    O: Write,
+    E: Write,
+{
+    let alloc = rt.alloc();
+    match request {
+        Request::Sample => play_sample(alloc, input, out, err),
+        Request::Deck {
+            dbd,
+            psb,
+            volume,
+            deck,
+            cache,
+        } => play_file(rt, alloc, dbd, psb, volume, deck, cache, out, err),
+        Request::Check { dbd, volume, cache } => check_file(
+            rt, alloc, dbd, volume, cache, out, err,
+        ),
+        Request::Unload {
+            dbd,
+            volume,
+            out: stream,
+            cache,
+        } => unload_file(rt, alloc, dbd, volume, stream, cache, out, err),
+        Request::Reload {
+            dbd,
+            input,
+            volume,
+            blocks,
+            cache,
+        } => reload_file(rt, alloc, dbd, input, volume, blocks, cache, out, err),
+        Request::Show {
+            dbd,
+            volume: None,
+            ..
+        } => show_database(rt, alloc, dbd, out),
+        Request::Show {
+            dbd,
+            volume: Some(volume),
+            picture,
+            cache,
+        } => show_volume(rt, alloc, dbd, volume, picture, cache, out, err),
+        Request::Rows {
+            dbd,
+            volume,
+            table,
+            cache,
+        } => list_rows(rt, alloc, dbd, volume, table, cache, out, err),
+        Request::Stream {
+            dbd,
+            rows,
+            out: stream,
+            is_tables: false,
+        } => make_of_rows(rt, alloc, dbd, rows, stream, out),
+        Request::Stream {
+            dbd,
+            rows,
+            out: stream,
+            is_tables: true,
+        } => make_of_tables(rt, alloc, dbd, rows, stream, out),
+        Request::Explain { word } => explain_word(word, out, err),
+    }
+}
+
+/// Says why the program stops, and gives its status.
+pub fn stopped<E: Write>(stop: &Stop, err: &mut E) -> u8 {
+    let _ = writeln!(err, "{stop}");
+    stop.status()
+}

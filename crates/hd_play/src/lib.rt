@@ -1,0 +1,22 @@
+//! What `hd` does with the words of its command line: the files that they name are opened, and the commands play over them.
+#![tactic(auto)]
+
+mod advice;
+mod checking;
+mod doing;
+mod explaining;
+mod files;
+mod input;
+mod listing;
+mod making;
+mod playing;
+mod reloading;
+mod sample;
+mod showing;
+mod stop;
+mod unloading;
+mod words;
+
+pub use doing::{play, stopped};
+pub use sample::{DBD_SOURCE, PSB_SOURCE, database, program};
+pub use stop::{COMMAND_LINE, Named, Stop};
