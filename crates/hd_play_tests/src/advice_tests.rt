@@ -1,4 +1,5 @@
 use crate::testing::{expect, play_words, remove, sample_with, words_of};
+use hd_play::{DBD_SOURCE, play};
 use std::fs;
 use std::test::Fail;
 

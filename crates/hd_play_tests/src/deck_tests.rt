@@ -1,8 +1,9 @@
 use crate::testing::{expect, play_words, remove, sample_with};
-use hd_play::{DBD_SOURCE, PSB_SOURCE};
+use hd_play::{COMMAND_LINE, DBD_SOURCE, PSB_SOURCE, play};
 use hd_sample::{RECORDS, stream_of};
-use std::fs::{self, OpenOptions};
+use std::fs::{self, File, OpenOptions};
 use std::process::Abort;
+use std::rt::Files;
 use std::test::Fail;
 
 /// A database of courses and their classes.

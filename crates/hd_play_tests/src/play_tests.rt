@@ -2,9 +2,9 @@ use crate::testing::{Played, expect, play_words, refusals_of_growth};
 use hd_dbd::{DbdFault, PsbFault, Refused};
 use hd_deck::DeckFault;
 use hd_gen::GenFault;
+use hd_play::{COMMAND_LINE, DBD_SOURCE, Named, PSB_SOURCE, Stop, play};
 use std::alloc::AllocError;
-use std::io;
-use std::io::ErrorKind;
+use std::io::{self, ErrorKind, Read, Write};
 use std::process::Abort;
 use std::test::Fail;
 

@@ -1,6 +1,7 @@
 use crate::testing::{expect, play_words, refusals_of_growth, remove, sample_with, words_of};
+use hd_play::{COMMAND_LINE, DBD_SOURCE, PSB_SOURCE, play};
 use hd_sample::{RECORDS, stream_of};
-use std::fs::{self, Permissions};
+use std::fs::{self, File, Permissions};
 use std::os::unix::fs::PermissionsExt;
 use std::test::Fail;
 

@@ -1,6 +1,8 @@
 use crate::testing::{NOTHING, expect, play_words, remove, sample_with};
-use std::fs;
+use hd_play::DBD_SOURCE;
+use std::fs::{self, File};
 use std::process::Abort;
+use std::rt::Files;
 use std::test::Fail;
 
 /// The rows of the sample, as text.

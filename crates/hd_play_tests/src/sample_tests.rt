@@ -1,3 +1,5 @@
+use hd_gen::{GenFault, read_dbd, read_psb};
+use hd_play::{DBD_SOURCE, PSB_SOURCE, Stop, database, program};
 use std::process::Abort;
 
 /// A text with other bytes in place of a line, numbered from 0.
