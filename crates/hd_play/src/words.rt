@@ -2,8 +2,8 @@ use crate::stop::Named;
 use clap::{Arg, ArgAction, ArgMatches, Command, Error, value_parser};
 use std::alloc::Global;
 
-/// What the words of the command line ask for. All of them but `blocks`, `cache`, `table`, `is_tables` and `word` are names of files; `cache` says how many blocks of
-/// the volume are kept in memory, if the words say it.
+/// What the words of the command line ask for. All of them but `blocks`, `cache`, `table`, `is_tables` and `word` are names of files; `cache`
+/// says how many blocks of the volume are kept in memory, if the words say it.
 #[derive(Clone, Copy)]
 pub enum Request<'a> {
     /// A deck over the sample.
