@@ -7,8 +7,6 @@
 /* A program hands over addresses without lengths. So an SSA is read as far as DL/I reads it: to the blank, to ')', or to the byte at which
    it is refused; no byte behind that is touched. */
 struct argument {
-    const char *text;
-    size_t length;
     const struct type *type; /* NULL where the database has none of that name */
     int has_d;               /* whether its segment is part of the I/O area */
 };
@@ -29,23 +27,23 @@ static size_t qualification_end(const char *text, size_t place, const struct typ
     }
 }
 
-static struct argument argument_at(const char *text)
+/* Reads an SSA, and gives the bytes that belong to it. */
+static size_t read_argument(const char *text, struct argument *argument)
 {
-    struct argument argument = {text, 0, NULL, 0};
+    *argument = (struct argument){NULL, 0};
     size_t place = strnlen(text, 8);
 
     if (place == 8) {
-        argument.type = type_named(text);
+        argument->type = type_named(text);
         if (text[place] == '*')
             for (place++; text[place] && strchr("DFLN-", text[place]); place++)
-                argument.has_d |= text[place] == 'D';
-        if (text[place] == '(' && argument.type)
-            place = qualification_end(text, place + 1, argument.type);
+                argument->has_d |= text[place] == 'D';
+        if (text[place] == '(' && argument->type)
+            place = qualification_end(text, place + 1, argument->type);
         else if (text[place] && text[place] != ' ')
             place++;
     }
-    argument.length = place;
-    return argument;
+    return place;
 }
 
 /* The bytes that a segment takes at the front of an area. */
@@ -99,23 +97,23 @@ static size_t put(size_t place, const void *bytes, size_t length)
     return place + length;
 }
 
-static void send_call(const struct pcb *pcb, const char *function, const struct argument *arguments, int count, const unsigned char *area)
+static void send_call(const struct pcb *pcb, const char *function, const struct text *ssas, int count, const unsigned char *area, size_t area_length)
 {
     unsigned char head[2] = {1, (unsigned char)pcb_number(pcb)};
-    unsigned char ssas = (unsigned char)count;
+    unsigned char ssa_count = (unsigned char)count;
     size_t length = put(0, head, 2);
 
     length = put(length, function, 4);
-    length = put(length, &ssas, 1);
+    length = put(length, &ssa_count, 1);
     for (int place = 0; place < count; place++) {
-        size_t bytes = arguments[place].length;
+        size_t bytes = ssas[place].length;
         unsigned char size[2] = {(unsigned char)(bytes >> 8), (unsigned char)bytes};
         if (bytes > 65535)
             abend("an SSA of more than 65535 bytes");
         length = put(length, size, 2);
-        length = put(length, arguments[place].text, bytes);
+        length = put(length, ssas[place].bytes, bytes);
     }
-    length = put(length, area, area_length(function, pcb, arguments, count, area));
+    length = put(length, area, area_length);
     server_send(frame, length);
 }
 
@@ -152,6 +150,7 @@ static unsigned take_answer(struct pcb *pcb, unsigned char *area)
     const unsigned char *answer = server_receive(&length);
     struct mask *mask = pcb->mask;
 
+    trace_answer(answer, length);
     if (length < 1 || answer[0])
         refused(length < 1 ? 255 : answer[0]);
     size_t key = length < 14 ? length : number_in(answer + 12, 2);
@@ -191,6 +190,7 @@ static void io_call(const char *function)
 void dli_call(int count, void **at)
 {
     struct argument arguments[MOST_SSAS];
+    struct text ssas[MOST_SSAS];
 
     if (count < 2)
         abend("a DL/I call with fewer than two parameters");
@@ -201,13 +201,16 @@ void dli_call(int count, void **at)
     struct pcb *pcb = pcb_of(at[1]);
     if (!pcb)
         abend("a DL/I call whose second parameter is no PCB of the PSB (IMS: U0476)");
-    int ssas = count > 3 ? count - 3 : 0;
-    if (ssas > MOST_SSAS)
-        abend("a DL/I call with %d SSAs, where %d is the most", ssas, MOST_SSAS);
-    for (int place = 0; place < ssas; place++)
-        arguments[place] = argument_at(at[3 + place]);
+    const char *function = at[0];
     unsigned char *area = count > 2 ? at[2] : NULL;
-    send_call(pcb, at[0], arguments, ssas, area);
+    int ssa_count = count > 3 ? count - 3 : 0;
+    if (ssa_count > MOST_SSAS)
+        abend("a DL/I call with %d SSAs, where %d is the most", ssa_count, MOST_SSAS);
+    for (int place = 0; place < ssa_count; place++)
+        ssas[place] = (struct text){at[3 + place], read_argument(at[3 + place], arguments + place)};
+    size_t length = area_length(function, pcb, arguments, ssa_count, area);
+    trace_call(pcb_number(pcb), function, ssa_count, ssas, area, length);
+    send_call(pcb, function, ssas, ssa_count, area, length);
     unsigned level = take_answer(pcb, area);
-    hold(pcb, at[0], arguments, ssas, level);
+    hold(pcb, function, arguments, ssa_count, level);
 }

@@ -78,6 +78,16 @@ const struct field *field_named(const struct type *type, const char *name);
 /* The I/O PCB of a batch program, whose calls are answered here. */
 void *io_pcb(void);
 
+/* trace.c: calls as a deck, and answers as the lines of `hd deck`, into files; NULL for none. */
+struct text {
+    const char *bytes;
+    size_t length;
+};
+
+void trace_into(const char *deck_path, const char *answers_path);
+void trace_call(int pcb, const char *function, int count, const struct text *ssas, const unsigned char *area, size_t length);
+void trace_answer(const unsigned char *answer, size_t length);
+
 /* call.c: a call of a program. at[0] is the function, at[1] the PCB, at[2] the I/O area, and then come SSAs. */
 void dli_call(int count, void **at);
 

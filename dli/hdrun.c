@@ -23,6 +23,8 @@ static const char USAGE[] =
     "  --dbd FILE     the DBD's source\n"
     "  --psb FILE     the PSB's source\n"
     "  --volume FILE  the volume\n"
+    "  --deck FILE    writes the calls as a deck, which hd deck plays\n"
+    "  --answers FILE writes what is answered, in the lines that hd deck prints\n"
     "  --native       numbers in PCB masks are in the machine's order, as with cobc -fbinary-byteorder=native\n"
     "\n"
     "HD names the program hd where it is not found by that name. The status is the program's; 16 is that of a run that was ended.\n";
@@ -74,7 +76,7 @@ static char *member(const char *variable, const char *name, const char *extensio
 
 struct run {
     const char *program, *psb_name;
-    char *dbd, *psb, *volume;
+    char *dbd, *psb, *volume, *deck, *answers;
     int is_native, has_io_pcb;
 };
 
@@ -97,12 +99,26 @@ static void read_region(char *region, struct run *run)
     run->psb_name = psb && *psb ? psb : program;
 }
 
+/* Where the file behind an option is kept, or NULL where the word is no such option. */
+static char **file_option(const char *word, struct run *run)
+{
+    const struct {
+        const char *word;
+        char **file;
+    } options[] = {{"--dbd", &run->dbd}, {"--psb", &run->psb}, {"--volume", &run->volume}, {"--deck", &run->deck}, {"--answers", &run->answers}};
+
+    for (size_t place = 0; place < sizeof options / sizeof *options; place++)
+        if (!strcmp(options[place].word, word))
+            return options[place].file;
+    return NULL;
+}
+
 static void read_words(int count, char **words, struct run *run)
 {
     char *region = NULL;
 
     for (int place = 1; place < count; place++) {
-        char **into = !strcmp(words[place], "--dbd") ? &run->dbd : !strcmp(words[place], "--psb") ? &run->psb : !strcmp(words[place], "--volume") ? &run->volume : NULL;
+        char **into = file_option(words[place], run);
         if (!strcmp(words[place], "--help")) {
             fputs(USAGE, stdout);
             exit(0);
@@ -223,6 +239,7 @@ int main(int count, char **words)
 
     read_words(count, words, &run);
     find_files(&run);
+    trace_into(run.deck, run.answers);
     start_server(&run);
     atexit(at_end);
     return run_program(&run);
