@@ -15,6 +15,7 @@ mod sample;
 mod showing;
 mod stop;
 mod unloading;
+mod verbs;
 mod words;
 
 pub use doing::{play, stopped};
