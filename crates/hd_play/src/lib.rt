@@ -12,6 +12,7 @@ mod making;
 mod playing;
 mod reloading;
 mod sample;
+mod seeing;
 mod showing;
 mod stop;
 mod unloading;
@@ -19,5 +20,6 @@ mod verbs;
 mod words;
 
 pub use doing::{play, stopped};
+pub use hd_progress::{Progress, Silent, Terminal};
 pub use sample::{DBD_SOURCE, PSB_SOURCE, database, program};
 pub use stop::{COMMAND_LINE, Named, Stop};
