@@ -1,7 +1,7 @@
 # `make` proves hd and leaves it at bin/hd; `make run` plays the sample deck; `make try` plays it unproved, in under a
-# minute; `make test` is the gate; `make examples` plays what the documents and examples show, and compares; `make bench`
-# measures hd, and SQLite beside it; `make install` puts the program and its manual pages below PREFIX, and `make
-# uninstall` takes them away.
+# minute; `make test` is the gate; `make examples` plays what the documents and examples show, and compares, and so the
+# words of FORMATS; `make bench` measures hd, and SQLite beside it; `make install` puts the program and its manual pages
+# below PREFIX, and `make uninstall` takes them away.
 .PHONY: all run try test examples bench install uninstall clean
 
 all: bin/hd
@@ -28,6 +28,7 @@ test:
 	rt ci
 
 examples: bin/hd
+	python3 examples/words.py
 	python3 examples/check.py docs/USING.md examples/edu examples/*/README.md examples/hospital/DAMAGED.md
 
 bench: bin/hd

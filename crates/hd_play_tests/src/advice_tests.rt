@@ -1,5 +1,5 @@
-use crate::testing::{expect, play_words, remove, sample_with, words_of};
-use hd_play::{DBD_SOURCE, play};
+use crate::testing::{Parts, expect, play_words, remove, sample_with, words_of};
+use hd_play::{DBD_SOURCE, PSB_SOURCE, Silent, play};
 use std::fs;
 use std::test::Fail;
 
@@ -54,6 +54,120 @@ fn says_what_a_fault_of_a_volume_means(rt: HostRuntime) -> Result<(), Fail> {
     Ok(())
 }
 
+/// Edits of the sample image, the fault of each, and the segment that its second line tells of.
+const SIGHTS: &[(Parts<'static>, &str, &str)] = &[
+    (
+        &[(245, b"\xd8")],
+        "fault 9 at 216, other 232\n  9: ",
+        "; the segment at 216 is of type STUD with the key \"EVE \"; hd explain 9 says more\n",
+    ),
+    (
+        &[(177, b"\x01")],
+        "fault 6 at 176, other 1\n  6: ",
+        "; the segment at 176 is of type CLASS with the key \"01\"; hd explain 6 says more\n",
+    ),
+    (
+        &[(157, b"\x09")],
+        "fault 7 at 136, other 265\n  7: ",
+        "; the segment at 136 is of type COURSE with the key \"101\"; hd explain 7 says more\n",
+    ),
+    (
+        &[(247, b"\x07")],
+        "fault 13 at 232, other 176\n  13: ",
+        "; the segment at 232 is of type CLASS with the key \"0\\x07\"; hd explain 13 says more\n",
+    ),
+    (
+        &[(156, b"\0\0\0\0\0\0")],
+        "fault 10 at 264, other 0\n  10: ",
+        "; the segment at 264 is of type BOOK; hd explain 10 says more\n",
+    ),
+    (
+        &[(398, b"2")],
+        "fault 17 at 384, other 136\n  17: ",
+        "; the segment at 136 is of type COURSE with the key \"101\"; hd explain 17 says more\n",
+    ),
+    (
+        &[(389, b"\x01")],
+        "fault 18 at 280, other 0\n  18: ",
+        "; the segment at 280 is of type COURSE with the key \"205\"; hd explain 18 says more\n",
+    ),
+];
+
+#[test]
+fn tells_the_segment_at_the_place_of_a_fault(rt: HostRuntime) -> Result<(), Fail> {
+    fs::write(&rt, "sight.dbd", DBD_SOURCE)?;
+    fs::write(&rt, "sight.psb", PSB_SOURCE)?;
+    fs::write(&rt, "sight.deck", b"L     GN\n")?;
+    for (parts, front, back) in SIGHTS {
+        fs::write(&rt, "sight.volume", &sample_with(parts))?;
+        for words in [
+            ["check", "sight.dbd", "sight.volume", "--explain=always"].as_slice(),
+            &[
+                "unload",
+                "sight.dbd",
+                "sight.volume",
+                "sight.out",
+                "--explain=always",
+            ],
+            &[
+                "deck",
+                "sight.dbd",
+                "sight.psb",
+                "sight.volume",
+                "sight.deck",
+                "--explain=always",
+            ],
+        ] {
+            let end = play_words(&rt, words)?;
+            assert_eq!(rt; end.status, 1, "at {front}");
+            assert_eq!(rt; end.out.len(), 0, "at {front}");
+            assert!(rt; end.err.starts_with(front.as_bytes()), "at {front}");
+            assert!(rt; end.err.ends_with(back.as_bytes()), "at {front}");
+        }
+    }
+    remove(
+        &rt,
+        &[
+            "sight.dbd",
+            "sight.psb",
+            "sight.deck",
+            "sight.volume",
+            "sight.out",
+        ],
+    )?;
+    Ok(())
+}
+
+#[test]
+fn tells_no_segment_where_a_fault_names_none(rt: HostRuntime) -> Result<(), Fail> {
+    fs::write(&rt, "blind.dbd", DBD_SOURCE)?;
+    for (parts, front) in [
+        (
+            &[(19usize, b"\x03" as &[u8])] as Parts<'_>,
+            "fault 1 at 0, other 0\n  1: ",
+        ),
+        (&[(264, b"\x05")], "fault 5 at 264, other 0\n  5: "),
+        (&[(31, b"\x89")], "fault 7 at 0, other 137\n  7: "),
+        (&[(258, b"\x07")], "fault 19 at 256, other 0\n  19: "),
+        (&[(403, b"0")], "fault 16 at 384, other 280\n  16: "),
+    ] {
+        fs::write(&rt, "blind.volume", &sample_with(parts))?;
+        let words = ["--explain", "always", "check", "blind.dbd", "blind.volume"];
+        let end = play_words(&rt, &words)?;
+        assert!(rt; end.err.starts_with(front.as_bytes()), "at {front}");
+        assert!(rt; end.err.ends_with(b" says more\n"), "at {front}");
+        assert!(rt;
+            !end.err
+                .as_slice()
+                .windows(11)
+                .any(|part| part == b"the segment".as_slice()),
+            "at {front}"
+        );
+    }
+    remove(&rt, &["blind.dbd", "blind.volume"])?;
+    Ok(())
+}
+
 #[test]
 fn says_more_on_a_terminal_unless_it_may_not(rt: HostRuntime) -> Result<(), Fail> {
     for (word, is_terminal, lines) in [
@@ -66,7 +180,15 @@ fn says_more_on_a_terminal_unless_it_may_not(rt: HostRuntime) -> Result<(), Fail
         let mut input: &[u8] = b"X";
         let mut out = Vec::new(rt.alloc());
         let mut err = Vec::new(rt.alloc());
-        let status = play(&rt, &words, is_terminal, &mut input, &mut out, &mut err);
+        let status = play(
+            &rt,
+            &words,
+            is_terminal,
+            &Silent,
+            &mut input,
+            &mut out,
+            &mut err,
+        );
         assert_eq!(rt; status, 2);
         let told = err.iter().filter(|byte| **byte == b'\n').count();
         assert_eq!(rt; told > 1, lines > 1, "at {word}");
