@@ -1,0 +1,4 @@
+mod Answers
+mod Ssas
+mod Calls
+mod Frames

@@ -1,0 +1,4 @@
+pub mod CallFrame
+pub mod Frames
+pub mod Answers
+pub mod Hello
