@@ -110,6 +110,16 @@ with-right limits pcb function (Some r) c is =
     ok-same : (x y : CallFrame) → ◌≡◌ {A = Result CallFrame FrameFault} (Ok x) (Ok y) → x ≡ y
     ok-same x y e = cc
 
+-- what is read from a body behind its kind, its PCB and its number of arguments
+abbrev behind-count : Limits → ℕ → List ℕ → ℕ → List ℕ → Result CallFrame FrameFault
+behind-count limits p function n rest = cond (nat_lt 15 n) (Err (Ssas n)) (with_ssas limits p function (ssas_in n rest))
+
+abbrev behind-pcb : Limits → ℕ → List ℕ → ℕ → List ℕ → Result CallFrame FrameFault
+behind-pcb limits p function n rest = cond (p == 0 || nat_lt limits.pcbs p) (Err (Pcb p)) (behind-count limits p function n rest)
+
+abbrev behind-kind : Limits → ℕ → ℕ → List ℕ → ℕ → List ℕ → Result CallFrame FrameFault
+behind-kind limits k p function n rest = cond (k == 1) (behind-pcb limits p function n rest) (Err (Kind k))
+
 -- the call that is read from the body of a frame is a right one, and spelled so
 pub call-right : (limits : Limits) (body : List ℕ) (x : CallFrame) → AreBytes body → call_in limits body ≡ Ok x → (body ≡ call_bytes x) × CallFits limits x
 call-right limits [] x all is = cc
@@ -121,13 +131,13 @@ call-right limits (k ∷ p ∷ a ∷ b ∷ c ∷ []) x all is = cc
 call-right limits (k ∷ p ∷ a ∷ b ∷ c ∷ d ∷ []) x all is = cc
 call-right limits (k ∷ p ∷ a ∷ b ∷ c ∷ d ∷ n ∷ rest) x all is =
     let function : List ℕ = a ∷ b ∷ c ∷ d ∷ [] in
-    let long = unless _ Short _ x is in
-    let kind = where-so (k == 1) (Kind k) _ x long.1 in
-    let known = unless (p == 0 || nat_lt limits.pcbs p) (Pcb p) _ x kind.1 in
+    let long = unless (nat_lt (length (k ∷ p ∷ a ∷ b ∷ c ∷ d ∷ n ∷ rest)) 7) Short (behind-kind limits k p function n rest) x is in
+    let kind = where-so (k == 1) (Kind k) (behind-pcb limits p function n rest) x long.1 in
+    let known = unless (p == 0 || nat_lt limits.pcbs p) (Pcb p) (behind-count limits p function n rest) x kind.1 in
     let few = unless (nat_lt 15 n) (Ssas n) (with_ssas limits p function (ssas_in n rest)) x known.1 in
     let parts = or_parts (p == 0) (nat_lt limits.pcbs p) known.0 in
     let found = with-right limits p function (ssas_in n rest) x few.1 in
-    let spelled = ssas-right n rest found.0 (λ i. all (7 + i)) found.1 in
+    let spelled = ssas-right n rest found.0 (behind 7 (k ∷ p ∷ a ∷ b ∷ c ∷ d ∷ n ∷ rest) all) found.1 in
     let one : k ≡ 1 = eqb-true k 1 kind.0 in
     let most : n ≤ 15 = ltb-false 15 n few.0 in
     let some : 0 < p = not-zero p parts.0 in
@@ -167,6 +177,10 @@ ssas-read (ssa ∷ ssas) rest short =
     ∙ ap₂ (λ (s xs : List ℕ). option_map (λ r. (s ∷ r.0, r.1)) (ssas_in (length ssas) xs)) (take_at ssa more (length ssa) refl) (drop_at (ssa_bytes ssa) more (2 + length ssa) (omega arith))
     ∙ ap (λ (o : Option Found). option_map (λ r. (ssa ∷ r.0, r.1)) o) (ssas-read ssas rest short.1)
 
+-- the bytes of a call with another function
+abbrev spelled : CallFrame → List ℕ → List ℕ
+spelled c function = 1 ∷ c.pcb ∷ (function ++ length c.call.ssas ∷ (flat_map ssa_bytes c.call.ssas ++ c.call.area))
+
 -- a right call is read again from its bytes
 pub call-read : (limits : Limits) (c : CallFrame) → CallFits limits c → call_in limits (call_bytes c) ≡ Ok c
 call-read limits c fits = read c.call.function fits.function
@@ -174,16 +188,13 @@ call-read limits c fits = read c.call.function fits.function
     some : (p : ℕ) → 0 < p → (p == 0) ≡ false
     some p h = ne_eqb p 0 (λ e. omega arith)
 
-    abbrev spelled : List ℕ → List ℕ
-    spelled function = 1 ∷ c.pcb ∷ (function ++ length c.call.ssas ∷ (flat_map ssa_bytes c.call.ssas ++ c.call.area))
-
-    read : (function : List ℕ) → length function ≡ 4 → call_in limits (spelled function) ≡ Ok (record { pcb = c.pcb; call = record { function = function; ssas = c.call.ssas; area = c.call.area } })
+    read : (function : List ℕ) → length function ≡ 4 → call_in limits (spelled c function) ≡ Ok (record { pcb = c.pcb; call = record { function = function; ssas = c.call.ssas; area = c.call.area } })
     read [] four = cc
     read (x ∷ []) four = cc
     read (x ∷ y ∷ []) four = cc
     read (x ∷ y ∷ z ∷ []) four = cc
     read (x ∷ y ∷ z ∷ w ∷ []) four =
-        cond-false (nat_lt (length (spelled (x ∷ y ∷ z ∷ w ∷ []))) 7) _ _ (le-ltb (length (spelled (x ∷ y ∷ z ∷ w ∷ []))) 7 (omega arith))
+        cond-false (nat_lt (length (spelled c (x ∷ y ∷ z ∷ w ∷ []))) 7) _ _ (le-ltb (length (spelled c (x ∷ y ∷ z ∷ w ∷ []))) 7 (omega arith))
         ∙ cond-false (c.pcb == 0 || nat_lt limits.pcbs c.pcb) _ _ (or_from _ _ (some c.pcb fits.some_pcb) (le-ltb limits.pcbs c.pcb fits.known_pcb))
         ∙ cond-false (nat_lt 15 (length c.call.ssas)) _ _ (le-ltb 15 (length c.call.ssas) fits.few)
         ∙ ap (λ (o : Option Found). with_ssas limits c.pcb (x ∷ y ∷ z ∷ w ∷ []) o) (ssas-read c.call.ssas c.call.area (recursion_from_All (λ ssa. length ssa < 2 ^ 16) c.call.ssas fits.short))

@@ -1,16 +1,18 @@
 -- A frame in front of an input, of which some was read.
-use Rattle.std.proofs.Common.{◌≡◌, ◌≢◌, ℕ, zero, suc, ◌+◌, ◌-◌, ◌<◌, ◌≤◌, List, [], ◌∷◌, ◌++◌, length, take, drop, Bool, true, false, cond, Option, Some, None, Result, Ok, Err, refl, sym, ap, ap₂, ◌∙◌, subst, arith, append_assoc, length-append}
+use Rattle.std.proofs.Common.{◌≡◌, ◌≢◌, ℕ, zero, suc, ◌+◌, ◌-◌, ◌<◌, ◌≤◌, List, [], ◌∷◌, ◌++◌, length, take, drop, get_or, Bool, true, false, cond, Option, Some, None, Result, Ok, Err, refl, sym, ap, ap₂, ◌∙◌, subst, arith, append_assoc, length-append}
 use Rattle.std.specs.Prelude.{nat_lt, ◌==◌, IfSome}
 use Rattle.std.specs.Int.{w32, to_be_bytes, from_be_bytes}
 use Rattle.std.specs.Io.KnownBytes.{Consumes, Keeps, prepend_known}
 use Rattle.std.proofs.lemmas.Bool.{cond-false, le-ltb, ne_eqb}
 use Rattle.std.proofs.lemmas.List.{take-append-drop, length-take-le, take-append-le, length-drop, drop-drop}
 use lib.Seq.{drop-append-le}
+use Rattle.std.proofs.lemmas.Nat.{be_bytes_4}
 use Rattle.hd_frames.specs.declared.call.Limits.{Limits}
 use Rattle.hd_frames.specs.declared.fault.FrameFault.{FrameFault}
 use Rattle.hd_frames.specs.declared.fault.FrameFault.TheVariants.{Memory, Cut, Long}
 use Rattle.hd_frames.specs.CallFrame.{CallFrame}
 use Rattle.hd_frames.specs.Frames.{frame_bytes, call_bytes, CallFits, is_long, call_in, fault_of, frame_fault, IsCallRead, IsWrong}
+use Rattle.hd_frames.proofs.Calls.{AreBytes}
 
 -- the number in front of bytes is that of their first four
 pub size-in-front : (xs ys : List ℕ) → 4 ≤ length xs → from_be_bytes w32 (xs ++ ys) ≡ from_be_bytes w32 xs
@@ -19,6 +21,21 @@ size-in-front (a ∷ []) ys long = absurd (omega arith)
 size-in-front (a ∷ b ∷ []) ys long = absurd (omega arith)
 size-in-front (a ∷ b ∷ c ∷ []) ys long = absurd (omega arith)
 size-in-front (a ∷ b ∷ c ∷ d ∷ xs) ys long = refl
+
+-- and it is spelled there
+pub four-spelled : (xs : List ℕ) (n : ℕ) → AreBytes xs → 4 ≤ length xs → n ≡ from_be_bytes w32 xs → take 4 xs ≡ to_be_bytes w32 n
+four-spelled [] n all long is = absurd (omega arith)
+four-spelled (a ∷ []) n all long is = absurd (omega arith)
+four-spelled (a ∷ b ∷ []) n all long is = absurd (omega arith)
+four-spelled (a ∷ b ∷ c ∷ []) n all long is = absurd (omega arith)
+four-spelled (a ∷ b ∷ c ∷ d ∷ xs) n all long is = sym (be_bytes_4 (a ∷ b ∷ c ∷ d ∷ []) n refl four is)
+  where
+    four : (i : ℕ) → get_or (a ∷ b ∷ c ∷ d ∷ []) i 0 < 256
+    four zero = all 0
+    four (suc zero) = all 1
+    four (suc (suc zero)) = all 2
+    four (suc (suc (suc zero))) = all 3
+    four (suc (suc (suc (suc i)))) = omega arith
 
 -- what is wrong with a frame that is whole is what is wrong with its body
 pub whole-fault : (limits : Limits) (bytes : List ℕ) → 4 + from_be_bytes w32 bytes ≤ length bytes → is_long limits (from_be_bytes w32 bytes) ≡ false

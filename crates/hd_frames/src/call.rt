@@ -73,6 +73,15 @@ pub fn read_call(alloc: Global, body: &[u8], limits: Limits) -> Result<FramedCal
     ensures right { IfOk result (λ c. (body.now ≡ call_bytes c) × CallFits limits c) }
     ensures err { IfErr result (λ e. e ≢ FrameFault.Memory → call_in limits body.now ≡ Err e) }
 {
+    let call = read_parts(alloc, body, limits)?;
+    Ok(call)
+}
+
+/// The parts of the body of a frame, or the first fault in it.
+fn read_parts(alloc: Global, body: &[u8], limits: Limits) -> Result<FramedCall, FrameFault>
+    ensures ok { IfOk result (λ c. call_in limits body.now ≡ Ok c) }
+    ensures err { IfErr result (λ e. e ≢ FrameFault.Memory → call_in limits body.now ≡ Err e) }
+{
     if body.len() < 7 {
         return Err(FrameFault::Short);
     }
