@@ -56,5 +56,8 @@ type_fits t = nat_lt t.length 65536 && nat_lt (length t.fields) 256 && list_all 
 abbrev pub pcb_fits : Database → View → Bool
 pcb_fits d pcb = nat_lt (length pcb.sens) 65536 && nat_lt (longest_key d.types pcb) 65536
 
+abbrev pub body_fits : Database → List View → Bool
+body_fits d pcbs = nat_lt (length pcbs) 256 && (nat_lt (length d.types) 256 && (list_all type_fits d.types && list_all (pcb_fits d) pcbs))
+
 abbrev pub hello_fits : Database → List View → Bool
-hello_fits d pcbs = list_all type_fits d.types && list_all (pcb_fits d) pcbs
+hello_fits d pcbs = body_fits d pcbs && nat_lt (length (hello_bytes d pcbs)) 4294967296

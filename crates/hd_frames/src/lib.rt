@@ -4,11 +4,13 @@
 mod answer;
 mod call;
 mod fault;
+mod hello;
 mod input;
 mod output;
 
 pub use answer::{put_answer, put_refusal};
 pub use call::{FramedCall, Limits, read_call};
-pub use fault::{FrameFault, WriteFault};
+pub use fault::{FrameFault, HelloFault, WriteFault};
+pub use hello::{hello_frame, limits_of};
 pub use input::FrameBuffer;
 pub use output::put_frame;
