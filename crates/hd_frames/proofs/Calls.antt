@@ -1,9 +1,9 @@
 -- The bytes of a call's frame and the call that is read from them.
-use Rattle.std.proofs.Common.{◌≡◌, ℕ, zero, suc, ◌+◌, ◌-◌, ◌<◌, ◌≤◌, ◌^◌, List, [], ◌∷◌, ◌++◌, length, take, drop, get_or, Bool, true, false, cond, Option, Some, None, Result, Ok, Err, All, refl, sym, ap, ap₂, ◌∙◌, subst, arith, append_assoc, length-append}
-use Rattle.std.specs.Prelude.{nat_lt, ◌==◌, ◌||◌, option_map, flat_map, slice_index}
+use Rattle.std.proofs.Common.{◌≡◌, ℕ, zero, suc, ◌+◌, ◌<◌, ◌≤◌, ◌^◌, List, [], ◌∷◌, ◌++◌, length, take, drop, get_or, Bool, true, false, cond, Option, Some, None, Result, Ok, Err, refl, sym, ap, ap₂, ◌∙◌, subst, arith, append_assoc, length-append}
+use Rattle.std.specs.Prelude.{nat_lt, ◌==◌, ◌||◌, option_map, flat_map}
 use Rattle.std.specs.List.{AllByRecursion}
-use Rattle.std.specs.Int.{w16, w32, to_be_bytes, from_be_bytes}
-use Rattle.std.proofs.lemmas.Bool.{cond-true, cond-false, le-ltb, ltb-false, eqb-true, eq-eqb, ne_eqb, or_parts, or_from}
+use Rattle.std.specs.Int.{w16, to_be_bytes, from_be_bytes}
+use Rattle.std.proofs.lemmas.Bool.{cond-false, le-ltb, ltb-false, eqb-true, ne_eqb, or_parts, or_from}
 use Rattle.std.proofs.lemmas.List.{take-append-drop, length-take-le, take_at, drop_at}
 use Rattle.std.proofs.lemmas.List.Elements.{All-from_recursion, recursion_from_All}
 use Rattle.std.proofs.lemmas.Nat.{be_bytes_2, from_be_bytes-to_be_bytes_2}
@@ -22,7 +22,8 @@ AreBytes xs = (i : ℕ) → get_or xs i 0 < 256
 behind-first : (x : ℕ) (xs : List ℕ) → AreBytes (x ∷ xs) → AreBytes xs
 behind-first x xs all i = all (suc i)
 
-behind : (n : ℕ) (xs : List ℕ) → AreBytes xs → AreBytes (drop n xs)
+-- what is behind some bytes are bytes
+pub behind : (n : ℕ) (xs : List ℕ) → AreBytes xs → AreBytes (drop n xs)
 behind zero xs all = all
 behind (suc n) [] all = λ i. omega arith
 behind (suc n) (x ∷ xs) all = behind n xs (behind-first x xs all)

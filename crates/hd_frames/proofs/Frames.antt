@@ -1,5 +1,5 @@
 -- A frame in front of an input, of which some was read.
-use Rattle.std.proofs.Common.{◌≡◌, ◌≢◌, ℕ, zero, suc, ◌+◌, ◌-◌, ◌<◌, ◌≤◌, List, [], ◌∷◌, ◌++◌, length, take, drop, get_or, Bool, true, false, cond, Option, Some, None, Result, Ok, Err, refl, sym, ap, ap₂, ◌∙◌, subst, arith, append_assoc, length-append}
+use Rattle.std.proofs.Common.{◌≡◌, ◌≢◌, ℕ, zero, suc, ◌+◌, ◌-◌, ◌<◌, ◌≤◌, List, [], ◌∷◌, ◌++◌, length, take, drop, get_or, false, Option, Some, None, Err, refl, sym, ap, ap₂, ◌∙◌, subst, arith, append_assoc, length-append}
 use Rattle.std.specs.Prelude.{nat_lt, ◌==◌, IfSome}
 use Rattle.std.specs.Int.{w32, to_be_bytes, from_be_bytes}
 use Rattle.std.specs.Io.KnownBytes.{Consumes, Keeps, prepend_known}
@@ -9,7 +9,7 @@ use lib.Seq.{drop-append-le}
 use Rattle.std.proofs.lemmas.Nat.{be_bytes_4}
 use Rattle.hd_frames.specs.declared.call.Limits.{Limits}
 use Rattle.hd_frames.specs.declared.fault.FrameFault.{FrameFault}
-use Rattle.hd_frames.specs.declared.fault.FrameFault.TheVariants.{Memory, Cut, Long}
+use Rattle.hd_frames.specs.declared.fault.FrameFault.TheVariants.{Memory}
 use Rattle.hd_frames.specs.CallFrame.{CallFrame}
 use Rattle.hd_frames.specs.Frames.{frame_bytes, call_bytes, CallFits, is_long, call_in, fault_of, frame_fault, IsCallRead, IsWrong}
 use Rattle.hd_frames.proofs.Calls.{AreBytes}
@@ -57,7 +57,6 @@ in-front (Some u) (Some x) (Some y) first now kept again = (x, y, sym kept, sym 
 module _ (limits : Limits) (m b : Option (List ℕ)) (first now body : List ℕ) (size end : ℕ)
     (four : 4 ≤ length first) (number : size ≡ from_be_bytes w32 first) (spelled : take 4 first ≡ to_be_bytes w32 size)
     (ends : end ≡ 4 + size) (whole : end ≤ length now) (body-is : body ≡ take (end - 4) (drop 4 now)) where
-
   body-in : body ≡ take size (drop 4 now)
   body-in = body-is ∙ ap (λ (n : ℕ). take n (drop 4 now)) (let e : end - 4 ≡ size = omega arith in e)
 

@@ -2,3 +2,6 @@ mod Answers
 mod Ssas
 mod Calls
 mod Frames
+mod LongestKeys
+mod Apart
+mod AnswersApart

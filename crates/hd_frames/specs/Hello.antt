@@ -4,7 +4,7 @@ use Rattle.std.specs.Option.{option_map_or}
 use Rattle.std.specs.List.{list_all}
 use Rattle.std.specs.Int.{w16, to_be_bytes}
 use Rattle.hd_dbd.specs.declared.hierarchy.Field.{Field}
-use Rattle.hd_dbd.specs.Types.{SegmentType, SeenType, View}
+use Rattle.hd_dbd.specs.Types.{SegmentType, View}
 use Rattle.hd_dbd.specs.Hierarchy.{Database, weights, level_of, greatest}
 
 -- a field: its name and its length

@@ -2,3 +2,4 @@ pub mod CallFrame
 pub mod Frames
 pub mod Answers
 pub mod Hello
+pub mod Laws

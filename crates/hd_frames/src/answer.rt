@@ -127,8 +127,24 @@ fn refusal_frame(refused: Refused) -> [u8; 18]
     ensures { result ≡ frame_bytes (refusal_bytes refused) }
 {
     [
-        0, 0, 0, 14, refused_number(refused), b' ', b' ', 0, b' ', b' ', b' ', b' ', b' ', b' ',
-        b' ', b' ', 0, 0,
+        0,
+        0,
+        0,
+        14,
+        refused_number(refused),
+        b' ',
+        b' ',
+        0,
+        b' ',
+        b' ',
+        b' ',
+        b' ',
+        b' ',
+        b' ',
+        b' ',
+        b' ',
+        0,
+        0,
     ]
 }
 

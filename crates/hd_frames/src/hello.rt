@@ -1,4 +1,4 @@
-ghost use Rattle.std.specs.Prelude.{◌≡◌, ◌⊎◌, ◌-◌, ◌<◌, ◌≤◌, ◌++◌, ◌∷◌, [], length, flat_map, get_or, slice_index, true, false, IfOk, IfErr, OnOk};
+ghost use Rattle.std.specs.Prelude.{◌≡◌, ◌⊎◌, ◌-◌, ◌<◌, ◌≤◌, ◌++◌, ◌∷◌, [], length, max, flat_map, get_or, slice_index, position, bytes_eq, true, false, IfOk, IfErr, OnOk};
 ghost use Rattle.std.specs.List.{list_all};
 ghost use Rattle.std.specs.Option.{option_map_or};
 ghost use Rattle.std.specs.Int.{w16, to_be_bytes};
@@ -8,7 +8,7 @@ ghost use Rattle.hd_frames.specs.Hello.{field_bytes, type_bytes, types_bytes, ke
 
 use crate::call::Limits;
 use crate::fault::HelloFault;
-use hd_dbd::{Dbd, Field, Name8, Pcb, Psb, SegType};
+use hd_dbd::{Dbd, Field, Name8, Pcb, Psb, SegType, Sens};
 use std::alloc::{AllocError, Global};
 
 /// What a right frame keeps to where calls are made by the PCBs of a program over a database.
@@ -70,12 +70,7 @@ fn push_fields(bytes: &mut Vec<u8>, fields: &[Field]) -> Result<(), HelloFault>
 }
 
 /// Adds the type of a code.
-fn push_type(
-    bytes: &mut Vec<u8>,
-    dbd: &Dbd,
-    code: u8,
-    segment: &SegType,
-) -> Result<(), HelloFault>
+fn push_type(bytes: &mut Vec<u8>, dbd: &Dbd, code: u8, segment: &SegType) -> Result<(), HelloFault>
     ensures bytes { OnOk result (bytes.new.items ≡ bytes.old.items ++ type_bytes dbd.now.types code segment.now) }
     ensures fits { OnOk result (type_fits segment.now ≡ true) }
     ensures large { IfErr result (λ e. e ≡ HelloFault.Large → type_fits segment.now ≡ false) }
@@ -138,14 +133,34 @@ fn key_lengths(alloc: Global, types: &[SegType]) -> Result<Vec<usize>, AllocErro
     Ok(lengths)
 }
 
+/// Where the type of a name stands among all.
+fn place_named(types: &[SegType], name: &Name8) -> Option<usize>
+    ensures { result ≡ position (λ t. bytes_eq t.name name.now) types.now }
+{
+    types.iter().position(|segment| segment.name == *name)
+}
+
 /// What a table of the types has for the type of a name; 0 for no type.
 fn length_for(types: &[SegType], lengths: &[usize], name: &Name8) -> usize
     ensures { result ≡ length_for types.now lengths.now name.now }
 {
-    match types.iter().position(|segment| segment.name == *name) {
+    match place_named(types, name) {
         Some(place) => lengths.get(place).copied().unwrap_or(0),
         None => 0,
     }
+}
+
+/// What a table of the types has for a type that a PCB sees.
+fn length_seen(types: &[SegType], lengths: &[usize], sens: &Sens) -> usize
+    ensures { result ≡ length_for types.now lengths.now sens.now.name }
+{
+    length_for(types, lengths, &sens.name)
+}
+
+fn greater(a: usize, b: usize) -> usize
+    ensures { result ≡ max a b }
+{
+    a.max(b)
 }
 
 /// The bytes of the longest concatenated key of a type that the PCB sees.
@@ -155,7 +170,7 @@ fn longest_key(types: &[SegType], lengths: &[usize], pcb: &Pcb) -> usize
 {
     let mut most = 0;
     for sens in &pcb.sens {
-        most = most.max(length_for(types, lengths, &sens.name));
+        most = greater(most, length_seen(types, lengths, sens));
     }
     most
 }
@@ -180,12 +195,7 @@ fn letter_at(letters: &[u8], place: usize) -> u8
 }
 
 /// Adds a PCB.
-fn push_pcb(
-    bytes: &mut Vec<u8>,
-    dbd: &Dbd,
-    lengths: &[usize],
-    pcb: &Pcb,
-) -> Result<(), HelloFault>
+fn push_pcb(bytes: &mut Vec<u8>, dbd: &Dbd, lengths: &[usize], pcb: &Pcb) -> Result<(), HelloFault>
     requires { lengths.now ≡ key_lengths dbd.now.types }
     ensures bytes { OnOk result (bytes.new.items ≡ bytes.old.items ++ pcb_bytes dbd.now pcb.now) }
     ensures fits { OnOk result (pcb_fits dbd.now pcb.now ≡ true) }

@@ -6,6 +6,7 @@ mod call;
 mod fault;
 mod hello;
 mod input;
+mod law;
 mod output;
 
 pub use answer::{put_answer, put_refusal};
@@ -13,4 +14,8 @@ pub use call::{FramedCall, Limits, read_call};
 pub use fault::{FrameFault, HelloFault, WriteFault};
 pub use hello::{hello_frame, limits_of};
 pub use input::FrameBuffer;
+pub use law::{
+    law_answers_are_told_apart, law_calls_are_read_back, law_frames_are_told_apart,
+    law_frames_spell_one_call,
+};
 pub use output::put_frame;

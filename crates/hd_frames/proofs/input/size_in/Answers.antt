@@ -1,4 +1,4 @@
-use Rattle.std.proofs.Common.{arith, ◌≤◌, length}
+use Rattle.std.proofs.Common.{arith}
 use Rattle.hd_frames.proofs.Frames.{four-spelled}
 use Rattle.hd_frames.proofs.input.size_in.Goals as goal
 

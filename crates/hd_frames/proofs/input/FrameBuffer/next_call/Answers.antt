@@ -1,10 +1,10 @@
-use Rattle.std.proofs.Common.{ℕ, List, ◌≡◌, ◌+◌, ◌-◌, ◌≤◌, ◌∙◌, sym, ap, subst, length, take, drop, false, Option, Result, Err, arith, refl}
+use Rattle.std.proofs.Common.{ℕ, List, ◌≡◌, ◌+◌, ◌-◌, ◌≤◌, ◌∙◌, sym, ap, subst, length, take, drop, Option, Result, Err, arith, refl}
 use Rattle.std.specs.Prelude.{IfErr}
 use Rattle.std.specs.Int.{w32, from_be_bytes, to_be_bytes}
 use Rattle.std.specs.Io.KnownBytes.{Keeps, prepend_known}
 use Rattle.std.proofs.lemmas.Result.{err_from_is_err_and}
 use Rattle.hd_frames.specs.declared.fault.FrameFault.{FrameFault}
-use Rattle.hd_frames.specs.Frames.{IsWrong, IsCallRead, is_long}
+use Rattle.hd_frames.specs.Frames.{IsWrong, IsCallRead}
 use Rattle.hd_frames.proofs.Frames.{call-taken, call-wrong}
 use Rattle.hd_frames.proofs.input.FrameBuffer.next_call.Goals as goal
 
