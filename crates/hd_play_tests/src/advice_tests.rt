@@ -54,117 +54,101 @@ fn says_what_a_fault_of_a_volume_means(rt: HostRuntime) -> Result<(), Fail> {
     Ok(())
 }
 
-/// Edits of the sample image, the fault of each, and the segment that its second line tells of.
-const SIGHTS: &[(Parts<'static>, &str, &str)] = &[
+/// Edits of the sample image, and the lines that tell of the fault that each makes.
+const SIGHTS: &[(Parts<'static>, &str)] = &[
     (
         &[(245, b"\xd8")],
-        "fault 9 at 216, other 232\n  9: ",
-        "; the segment at 216 is of type STUD with the key \"EVE \"; hd explain 9 says more\n",
+        "fault 9 at 216, other 232\n  9: a segment has two predecessors; the segment at 216 is of type STUD with the key \"EVE \"; hd explain 9 says more\n",
     ),
     (
         &[(177, b"\x01")],
-        "fault 6 at 176, other 1\n  6: ",
-        "; the segment at 176 is of type CLASS with the key \"01\"; hd explain 6 says more\n",
+        "fault 6 at 176, other 1\n  6: the delete byte of a segment is not 0; the segment at 176 is of type CLASS with the key \"01\"; hd explain 6 says more\n",
     ),
     (
         &[(157, b"\x09")],
-        "fault 7 at 136, other 265\n  7: ",
-        "; the segment at 136 is of type COURSE with the key \"101\"; hd explain 7 says more\n",
+        "fault 7 at 136, other 265\n  7: a pointer leads to a place where no segment begins; the segment at 136 is of type COURSE with the key \"101\"; hd explain 7 says more\n",
     ),
     (
         &[(247, b"\x07")],
-        "fault 13 at 232, other 176\n  13: ",
-        "; the segment at 232 is of type CLASS with the key \"0\\x07\"; hd explain 13 says more\n",
+        "fault 13 at 232, other 176\n  13: twins are not in the order of their keys; the segment at 232 is of type CLASS with the key \"0\\x07\"; hd explain 13 says more\n",
     ),
     (
         &[(156, b"\0\0\0\0\0\0")],
-        "fault 10 at 264, other 0\n  10: ",
-        "; the segment at 264 is of type BOOK; hd explain 10 says more\n",
+        "fault 10 at 264, other 0\n  10: a segment has no predecessor; the segment at 264 is of type BOOK; hd explain 10 says more\n",
     ),
     (
         &[(398, b"2")],
-        "fault 17 at 384, other 136\n  17: ",
-        "; the segment at 136 is of type COURSE with the key \"101\"; hd explain 17 says more\n",
+        "fault 17 at 384, other 136\n  17: an entry of the index names no root of its key; the segment at 136 is of type COURSE with the key \"101\"; hd explain 17 says more\n",
     ),
     (
         &[(389, b"\x01")],
-        "fault 18 at 280, other 0\n  18: ",
-        "; the segment at 280 is of type COURSE with the key \"205\"; hd explain 18 says more\n",
+        "fault 18 at 280, other 0\n  18: a root has no entry in the index; the segment at 280 is of type COURSE with the key \"205\"; hd explain 18 says more\n",
+    ),
+    (
+        &[(19, b"\x03")],
+        "fault 1 at 0, other 0\n  1: the file is no whole volume of the DBD's block size; hd explain 1 says more\n",
+    ),
+    (
+        &[(264, b"\x05")],
+        "fault 5 at 264, other 0\n  5: a place in a data block holds no segment of the database; hd explain 5 says more\n",
+    ),
+    (
+        &[(31, b"\x89")],
+        "fault 7 at 0, other 137\n  7: a pointer leads to a place where no segment begins; hd explain 7 says more\n",
+    ),
+    (
+        &[(403, b"0")],
+        "fault 16 at 384, other 280\n  16: the keys of the index do not ascend; hd explain 16 says more\n",
     ),
 ];
 
 #[test]
 fn tells_the_segment_at_the_place_of_a_fault(rt: HostRuntime) -> Result<(), Fail> {
     fs::write(&rt, "sight.dbd", DBD_SOURCE)?;
-    fs::write(&rt, "sight.psb", PSB_SOURCE)?;
-    fs::write(&rt, "sight.deck", b"L     GN\n")?;
-    for (parts, front, back) in SIGHTS {
+    let words = ["--explain", "always", "check", "sight.dbd", "sight.volume"];
+    for (parts, lines) in SIGHTS {
         fs::write(&rt, "sight.volume", &sample_with(parts))?;
-        for words in [
-            ["check", "sight.dbd", "sight.volume", "--explain=always"].as_slice(),
-            &[
-                "unload",
-                "sight.dbd",
-                "sight.volume",
-                "sight.out",
-                "--explain=always",
-            ],
-            &[
-                "deck",
-                "sight.dbd",
-                "sight.psb",
-                "sight.volume",
-                "sight.deck",
-                "--explain=always",
-            ],
-        ] {
-            let end = play_words(&rt, words)?;
-            assert_eq!(rt; end.status, 1, "at {front}");
-            assert_eq!(rt; end.out.len(), 0, "at {front}");
-            assert!(rt; end.err.starts_with(front.as_bytes()), "at {front}");
-            assert!(rt; end.err.ends_with(back.as_bytes()), "at {front}");
-        }
+        expect(&rt, &words, 1, b"", lines.as_bytes())?;
     }
-    remove(
-        &rt,
-        &[
-            "sight.dbd",
-            "sight.psb",
-            "sight.deck",
-            "sight.volume",
-            "sight.out",
-        ],
-    )?;
+    remove(&rt, &["sight.dbd", "sight.volume"])?;
     Ok(())
 }
 
 #[test]
-fn tells_no_segment_where_a_fault_names_none(rt: HostRuntime) -> Result<(), Fail> {
-    fs::write(&rt, "blind.dbd", DBD_SOURCE)?;
-    for (parts, front) in [
-        (
-            &[(19usize, b"\x03" as &[u8])] as Parts<'_>,
-            "fault 1 at 0, other 0\n  1: ",
-        ),
-        (&[(264, b"\x05")], "fault 5 at 264, other 0\n  5: "),
-        (&[(31, b"\x89")], "fault 7 at 0, other 137\n  7: "),
-        (&[(258, b"\x07")], "fault 19 at 256, other 0\n  19: "),
-        (&[(403, b"0")], "fault 16 at 384, other 280\n  16: "),
-    ] {
-        fs::write(&rt, "blind.volume", &sample_with(parts))?;
-        let words = ["--explain", "always", "check", "blind.dbd", "blind.volume"];
-        let end = play_words(&rt, &words)?;
-        assert!(rt; end.err.starts_with(front.as_bytes()), "at {front}");
-        assert!(rt; end.err.ends_with(b" says more\n"), "at {front}");
-        assert!(rt;
-            !end.err
-                .as_slice()
-                .windows(11)
-                .any(|part| part == b"the segment".as_slice()),
-            "at {front}"
-        );
-    }
-    remove(&rt, &["blind.dbd", "blind.volume"])?;
+fn tells_the_segment_that_stops_an_unload_or_a_deck(rt: HostRuntime) -> Result<(), Fail> {
+    fs::write(&rt, "seen.dbd", DBD_SOURCE)?;
+    fs::write(&rt, "seen.psb", PSB_SOURCE)?;
+    fs::write(&rt, "seen.deck", b"L     GN\n")?;
+    fs::write(&rt, "seen.volume", &sample_with(&[(245, b"\xd8")]))?;
+    let lines =
+        b"fault 9 at 216, other 232\n  9: a segment has two predecessors; the segment at 216 is of type STUD with the key \"EVE \"; hd explain 9 says more\n";
+    let unload = [
+        "unload",
+        "seen.dbd",
+        "seen.volume",
+        "seen.out",
+        "--explain=always",
+    ];
+    expect(&rt, &unload, 1, b"", lines)?;
+    let deck = [
+        "deck",
+        "seen.dbd",
+        "seen.psb",
+        "seen.volume",
+        "seen.deck",
+        "--explain=always",
+    ];
+    expect(&rt, &deck, 1, b"", lines)?;
+    remove(
+        &rt,
+        &[
+            "seen.dbd",
+            "seen.psb",
+            "seen.deck",
+            "seen.volume",
+            "seen.out",
+        ],
+    )?;
     Ok(())
 }
 

@@ -202,7 +202,7 @@ fn expect_told<R: Files<File = File> + AllocGlobal + Abort>(
     let ended = play(rt, &given, false, &told, &mut input, &mut out, &mut err);
     assert_eq!(rt; ended, status);
     assert!(rt; told.tells.get() > 0);
-    assert_eq!(rt; told.accesses.get(), told.tells.get() * 256);
+    assert_eq!(rt; told.accesses.get(), told.tells.get().saturating_mul(256));
     assert!(rt; told.blocks.get() <= blocks);
     assert!(rt; !told.is_shown.get());
     assert!(rt; !out.is_mixed);
