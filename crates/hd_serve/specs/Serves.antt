@@ -151,6 +151,55 @@ ServesUntil limits s input head old new stop.Device t = Unit {0}
 ServesUntil limits s input head old new stop.Write t = IsMadeInPart limits s input t
 ServesUntil limits s input head old new (stop.Frame e) t = IsServedInPart limits s input head old new e t
 
+-- ---- a session that is closed
+
+-- The calls were served, and the bytes that are left are those behind the last.
+pub record AreServedOut (s : SessionState) (st : State) (turns : List Turn) (head : List ℕ) (old new : Option (List ℕ)) (lacking : ℕ) (left : List ℕ) : Type 0 where
+  pub last : SessionState
+  pub served : AreServed s st turns head old new lacking last
+  pub ends : last.volume.image ≡ left
+
+-- The calls were made, and the bytes that are left are those behind the last.
+pub record AreMadeOut (s : SessionState) (st : State) (turns : List Turn) (left : List ℕ) : Type 0 where
+  pub last : SessionState
+  pub entries : List (Entry (List ℕ))
+  pub made : AreMade s st turns entries last
+  pub ends : last.volume.image ≡ left
+
+-- whatever state the session stood for, the calls were served from it, and these bytes are left
+abbrev pub ServesOut : SessionState → List Turn → List ℕ → Option (List ℕ) → Option (List ℕ) → ℕ → List ℕ → Type 0
+ServesOut s turns head old new lacking left = (st : State) → IsTrue s.volume.is_sound → Represents s.database s.volume s.kept st → AreServedOut s st turns head old new lacking left
+
+-- whatever state the session stood for, the calls were made from it, and these bytes are left
+abbrev pub MakesOut : SessionState → List Turn → List ℕ → Type 0
+MakesOut s turns left = (st : State) → IsTrue s.volume.is_sound → Represents s.database s.volume s.kept st → AreMadeOut s st turns left
+
+-- The input was the frames of calls, all of them were served, and these bytes are left.
+pub record IsServedOut (limits : Limits) (s : SessionState) (input : Option (List ℕ)) (head : List ℕ) (old new : Option (List ℕ)) (calls lacking : ℕ) (left : List ℕ) : Type 0 where
+  pub turns : List Turn
+  pub asked : AreAsked limits input turns Ends
+  pub count : calls ≡ length turns
+  pub serves : ServesOut s turns head old new lacking left
+
+-- The input began with the frames of calls, all of them were made, and these bytes are left.
+pub record IsMadeOut (limits : Limits) (s : SessionState) (input : Option (List ℕ)) (left : List ℕ) : Type 0 where
+  pub turns : List Turn
+  pub asked : AreAsked limits input turns GoesOn
+  pub makes : MakesOut s turns left
+
+-- The input began with the frames of calls, all of them were served, then came a wrong one, and these bytes are left.
+pub record IsServedOutUntil (limits : Limits) (s : SessionState) (input : Option (List ℕ)) (head : List ℕ) (old new : Option (List ℕ)) (e : FrameFault) (left : List ℕ) : Type 0 where
+  pub turns : List Turn
+  pub asked : AreAsked limits input turns (GoesWrong limits e)
+  pub lacking : ℕ
+  pub serves : ServesOut s turns head old new lacking left
+
+-- what a stop says of the calls and of the bytes that are left
+abbrev pub LeavesAt : Limits → SessionState → Option (List ℕ) → List ℕ → Option (List ℕ) → Option (List ℕ) → Stop → List ℕ → Type 0
+LeavesAt limits s input head old new stop.Device left = Unit {0}
+LeavesAt limits s input head old new stop.Write left = IsMadeOut limits s input left
+LeavesAt limits s input head old new (stop.Frame e) left = IsServedOutUntil limits s input head old new e left
+
 -- ---- over a store
 
 -- A store's bytes held one forest; the calls came to a legal log from it, and the bytes that are left are those behind its last entry (IsPlayed);

@@ -64,3 +64,57 @@ fn serve_next<S: BlockStore, I: Read, W: Write>(
         Err(Halt::Write) => Err(Stop::Write),
     }
 }
+
+/// How many calls were made, and how many of them found no memory.
+#[derive(Clone, Copy, Debug)]
+pub(crate) struct Count {
+    pub(crate) calls: u64,
+    pub(crate) memory: u64,
+}
+
+/// The calls of the input one after another, each answered before the next is read, until the input ends.
+fn serve_calls<S: BlockStore, I: Read, W: Write>(
+    session: &mut Session<'_, S>,
+    desk: &mut Desk,
+    input: &mut I,
+    out: &mut W,
+) -> Result<Count, Stop>
+    requires pcbs { desk.old.limits.pcbs ≤ length session.old.pcbs }
+    requires room { longest_path session.old.database.types ≤ desk.old.io.room }
+    requires whole { session.old.broken ≡ false }
+    ensures serves { IfOk result (λ n. IsServedToTheEnd desk.old.limits session.old (prepend_known desk.old.buffer (I.remaining input.old)) [] (W.contents out.old) (W.contents out.new) n.calls n.memory session.new) }
+    ensures until { IfErr result (λ e. ServesUntil desk.old.limits session.old (prepend_known desk.old.buffer (I.remaining input.old)) [] (W.contents out.old) (W.contents out.new) e session.new) }
+    ensures whole { OnOk result (StaysWhole session.old session.new) }
+    ensures stops { IfErr result (λ e. StopsAt session.old e session.new) }
+{
+    let mut memory = 0u64;
+    for calls in 0..u64::MAX {
+        let Some(lacking) = serve_next(session, desk, input, out)? else {
+            return Ok(Count { calls, memory });
+        };
+        memory += lacking;
+    }
+    Err(Stop::Frame(FrameFault::Read))
+}
+
+/// Writes the first frame, and then serves the calls of the input.
+pub(crate) fn serve_all<S: BlockStore, I: Read, W: Write>(
+    session: &mut Session<'_, S>,
+    desk: &mut Desk,
+    hello: &[u8],
+    input: &mut I,
+    out: &mut W,
+) -> Result<Count, Stop>
+    requires pcbs { desk.old.limits.pcbs ≤ length session.old.pcbs }
+    requires room { longest_path session.old.database.types ≤ desk.old.io.room }
+    requires whole { session.old.broken ≡ false }
+    ensures serves { IfOk result (λ n. IsServedToTheEnd desk.old.limits session.old (prepend_known desk.old.buffer (I.remaining input.old)) hello.now (W.contents out.old) (W.contents out.new) n.calls n.memory session.new) }
+    ensures until { IfErr result (λ e. ServesUntil desk.old.limits session.old (prepend_known desk.old.buffer (I.remaining input.old)) hello.now (W.contents out.old) (W.contents out.new) e session.new) }
+    ensures whole { OnOk result (StaysWhole session.old session.new) }
+    ensures stops { IfErr result (λ e. StopsAt session.old e session.new) }
+{
+    match put_frame(out, hello) {
+        Ok(()) => serve_calls(session, desk, input, out),
+        Err(_) => Err(Stop::Write),
+    }
+}
