@@ -46,6 +46,7 @@ pub fn advise_stop<E: Write>(
             )
         }
         Stop::OverInput | Stop::Words | Stop::NoType | Stop::Table(_, _, _) => Ok(()),
+        Stop::Frame(_) | Stop::Fields => Ok(()),
         Stop::Refused(refusal) => advise_refusal(alloc, *refusal, None, err),
     }
 }

@@ -6,6 +6,7 @@ use crate::making::{make_of_rows, make_of_tables};
 use crate::playing::{play_file, play_sample};
 use crate::reloading::reload_file;
 use crate::seeing::see_refused;
+use crate::serving::serve_file;
 use crate::showing::{show_database, show_volume};
 use crate::stop::{COMMAND_LINE, Stop};
 use crate::unloading::unload_file;
@@ -23,7 +24,8 @@ use std::rt::Files;
 /// for one call; 64 a command line that is not understood, help among them, whose text is `clap`'s, or one that would write over what it
 /// reads.
 ///
-/// Without words it reads a deck from `input` and plays it over the sample database, in memory. `deck` plays one over a volume, `check` judges
+/// Without words it reads a deck from `input` and plays it over the sample database, in memory. `deck` plays one over a volume, `serve` answers
+/// the calls that come as frames from `input`, `check` judges
 /// a volume, `unload` writes its unload stream, and `reload` makes a volume of one; `show` draws a database or a volume, `rows` writes a volume's
 /// rows, and `stream` makes an unload stream of rows; `explain` says what a fault, status or refusal means. What the calls answer, and what was
 /// done, goes to `out`; why the program ended early goes to `err`, a line, and where that is a terminal or the words say so, further lines that
@@ -107,6 +109,12 @@ where
             deck,
             cache,
         } => play_file(rt, alloc, dbd, psb, volume, deck, cache, progress, out, err),
+        Request::Serve {
+            dbd,
+            psb,
+            volume,
+            cache,
+        } => serve_file(rt, alloc, dbd, psb, volume, cache, input, out, err),
         Request::Check { dbd, volume, cache } => check_file(
             rt, alloc, dbd, volume, cache, progress, out, err,
         ),

@@ -13,6 +13,7 @@ mod playing;
 mod reloading;
 mod sample;
 mod seeing;
+mod serving;
 mod showing;
 mod stop;
 mod unloading;

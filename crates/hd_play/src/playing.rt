@@ -71,7 +71,7 @@ pub fn play_sample<I: Read, O: Write, E: Write>(
 }
 
 /// The program over a database that a file of its source describes.
-fn read_program<R: Files<File = File>>(
+pub fn read_program<R: Files<File = File>>(
     rt: &R,
     alloc: Global,
     dbd: &Dbd,

@@ -47,6 +47,20 @@ const DBD: Word = Word {
     kind: Kind::Needed,
 };
 
+/// The file with the source of a program's PCBs.
+const PSB: Word = Word {
+    name: "PSB",
+    help: "The file with the PSB source",
+    kind: Kind::Needed,
+};
+
+/// A volume over which calls are made.
+const CHANGED_VOLUME: Word = Word {
+    name: "VOLUME",
+    help: "The volume, which is changed in place",
+    kind: Kind::Needed,
+};
+
 /// A volume that a command reads.
 const VOLUME: Word = Word {
     name: "VOLUME",
@@ -57,7 +71,7 @@ const VOLUME: Word = Word {
 /// How many blocks of a volume are kept in memory.
 const CACHE: Word = Word {
     name: "CACHE",
-    help: "The blocks of the volume that are kept in memory, 1 to 65536; if it is not given 64, and 4 megabytes of them for a deck",
+    help: "The blocks of the volume that are kept in memory, 1 to 65536; if it is not given 64, and 4 megabytes of them for deck and serve",
     kind: Kind::BlocksBehind("cache", "BLOCKS"),
 };
 
@@ -68,16 +82,8 @@ pub const VERBS: &[Verb] = &[
         about: "Plays a deck of DL/I calls over a volume, which it checks first",
         words: &[
             DBD,
-            Word {
-                name: "PSB",
-                help: "The file with the PSB source",
-                kind: Kind::Needed,
-            },
-            Word {
-                name: "VOLUME",
-                help: "The volume, which is changed in place",
-                kind: Kind::Needed,
-            },
+            PSB,
+            CHANGED_VOLUME,
             Word {
                 name: "DECK",
                 help: "The file with the calls",
@@ -85,6 +91,11 @@ pub const VERBS: &[Verb] = &[
             },
             CACHE,
         ],
+    },
+    Verb {
+        name: "serve",
+        about: "Serves a program's DL/I calls over a volume, which it checks first: they come as frames on standard input",
+        words: &[DBD, PSB, CHANGED_VOLUME, CACHE],
     },
     Verb {
         name: "check",

@@ -17,6 +17,13 @@ pub enum Request<'a> {
         deck: &'a str,
         cache: Option<u32>,
     },
+    /// Calls over a volume, by a program that sends them.
+    Serve {
+        dbd: &'a str,
+        psb: &'a str,
+        volume: &'a str,
+        cache: Option<u32>,
+    },
     Check {
         dbd: &'a str,
         volume: &'a str,
@@ -71,6 +78,9 @@ impl<'a> Request<'a> {
             (Request::Deck { psb, .. }, Named::Psb) => psb,
             (Request::Deck { volume, .. }, Named::Volume) => volume,
             (Request::Deck { deck, .. }, Named::Deck) => deck,
+            (Request::Serve { dbd, .. }, Named::Dbd) => dbd,
+            (Request::Serve { psb, .. }, Named::Psb) => psb,
+            (Request::Serve { volume, .. }, Named::Volume) => volume,
             (Request::Check { dbd, .. }, Named::Dbd) => dbd,
             (Request::Check { volume, .. }, Named::Volume) => volume,
             (Request::Unload { dbd, .. }, Named::Dbd) => dbd,
@@ -172,6 +182,14 @@ fn request_of<'a>(matches: &ArgMatches<'a>) -> Request<'a> {
             psb: given.get_str("PSB").unwrap_or(""),
             volume,
             deck: given.get_str("DECK").unwrap_or(""),
+            cache,
+        };
+    }
+    if name == "serve" {
+        return Request::Serve {
+            dbd,
+            psb: given.get_str("PSB").unwrap_or(""),
+            volume,
             cache,
         };
     }
