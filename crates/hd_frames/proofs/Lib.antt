@@ -1,0 +1,7 @@
+mod Answers
+mod Ssas
+mod Calls
+mod Frames
+mod LongestKeys
+mod Apart
+mod AnswersApart

@@ -1,0 +1,5 @@
+pub mod CallFrame
+pub mod Frames
+pub mod Answers
+pub mod Hello
+pub mod Laws

@@ -1,0 +1,5 @@
+mod Calls
+mod Turns
+mod SoFar
+mod Closing
+mod Opened
