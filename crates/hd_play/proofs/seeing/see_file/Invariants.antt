@@ -1,4 +1,4 @@
 use Rattle.hd_play.proofs.seeing.see_file.Given as goal
 
 abbrev pub ghosts-see : goal.ghosts-see
-ghosts-see g a = record { name = a.blank.name; parts = a.blank.parts }
+ghosts-see a = record { name = a.blank.name; parts = a.blank.parts }
