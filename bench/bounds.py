@@ -104,7 +104,7 @@ def types():
         for root in range(50):
             for code in range(1, 256):
                 yield row(code, root)
-    count = made("types", segments, records(), key=255 * 15)
+    count = made("types", segments, records(), size=4096, key=255 * 15)
     write("b.deck", f"L{count:>4} GN\n" if count <= 9999 else f"L9999 GN\nL{count - 9999:>4} GN\n")
     run("types: reload", ["reload", "b.dbd", "b.stream", "b.volume", str(MOST_BLOCKS)], reloaded("b.volume", count))
     run("types: check", ["check", "b.dbd", "b.volume"], passes("b.volume", count, 50))
