@@ -37,7 +37,6 @@ pub struct Session<'a, S: BlockStore> {
 }
 
 impl<'a, S: BlockStore> Model for Session<'a, S> {
-    ghost use Rattle.std.specs.Prelude.{◌×◌};
     ghost use Rattle.hd_session.specs.Above.{AreKeysOf};
     ghost use Rattle.hd_session.specs.Opening.{SessionState, IsSession};
 
