@@ -78,7 +78,7 @@ def made(what, segments, records, size=2048, pcbs=1, key=0):
 
 def reload_and_check(what, count, blocks, roots):
     run(f"{what}: reload", ["reload", "b.dbd", "b.stream", "b.volume", str(MOST_BLOCKS)], f"reloaded {count} segments into {blocks} blocks")
-    run(f"{what}: check", ["check", "b.dbd", "b.volume"], f"BOUNDS passes: {blocks} blocks, {count} segments, {roots} root{'s' if roots != 1 else ''}")
+    run(f"{what}: check", ["check", "b.dbd", "b.volume"], f"BOUNDS passes: {blocks} blocks, {count} segments, {roots} roots")
 
 
 def blocks():
@@ -134,7 +134,7 @@ class passes(reloaded):
         self.roots = roots
 
     def __eq__(self, said):
-        return said == f"BOUNDS passes: {block_count(self.volume)} blocks, {self.count} segments, {self.roots} root{'s' if self.roots != 1 else ''}"
+        return said == f"BOUNDS passes: {block_count(self.volume)} blocks, {self.count} segments, {self.roots} roots"
 
 
 def pcbs():
