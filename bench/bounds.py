@@ -82,15 +82,18 @@ def reload_and_check(what, count, blocks, roots):
 
 
 def blocks():
-    """A volume of the greatest size: a segment in each block but those of the index, whose entries of 8 bytes take 4,094 in a block."""
-    segments = [("ROOT", "", 32_000, 4)]
-    rows = 65_518
-    count = made("blocks", segments, ((1, number.to_bytes(4, "big") + bytes(31_996)) for number in range(rows)), size=32_768, key=4)
-    # a block of the index has room for 4,094 entries: 17 of the sequence set, and the top
-    reload_and_check("blocks", count, 1 + rows + 17 - 1 + 1, rows)
-    write("b.deck", "L     GU   ROOT    (KEY     EQ\0\0\0\1)\n")
-    os.remove("b.stream")
+    """A volume of the greatest size: a segment of a little more than half a block in each block but those of the index. A stream may have 1,073,741,824 bytes."""
+    length = 16_371
+    segments = [("ROOT", "", length, 4)]
+    # block 0; a block of the index has room for 4,094 entries of 8 bytes: 17 of the sequence set, and the top
+    rows = MOST_BLOCKS - 1 - 17 - 1
+    count = made("blocks", segments, ((1, number.to_bytes(4, "big") + bytes(length - 4)) for number in range(rows)), size=32_768, key=4)
+    reload_and_check("blocks", count, MOST_BLOCKS, rows)
+    os.rename("b.stream", "b.before")
     run("blocks: unload", ["unload", "b.dbd", "b.volume", "b.stream"], f"unloaded {count} segments")
+    if subprocess.run(["cmp", "-s", "b.before", "b.stream"], check=False).returncode:
+        print("blocks: the unload gives another stream")
+        sys.exit(1)
 
 
 def types():
