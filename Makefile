@@ -1,8 +1,8 @@
 # `make` proves hd and leaves it at bin/hd; `make run` plays the sample deck; `make try` plays it unproved, in under a
-# minute; `make test` is the gate; `make examples` plays what the documents and examples show, and compares; `make bench`
-# measures hd, and SQLite beside it; `make install` puts the program and its manual pages below PREFIX, and `make
-# uninstall` takes them away.
-.PHONY: all run try test examples bench install uninstall clean
+# minute; `make test` is the gate; `make examples` plays what the documents and examples show, and compares, and so the
+# words of FORMATS; `make bench` measures hd, and SQLite beside it; `make install` puts the program and its manual pages
+# below PREFIX, and `make uninstall` takes them away.
+.PHONY: all run try test examples bench dli dli-test install uninstall clean
 
 all: bin/hd
 
@@ -28,10 +28,23 @@ test:
 	rt ci
 
 examples: bin/hd
+	python3 examples/words.py
 	python3 examples/check.py docs/USING.md examples/edu examples/*/README.md examples/hospital/DAMAGED.md
 
 bench: bin/hd
 	python3 bench/bench.py
+
+DLI = $(addprefix dli/,server.c database.c call.c entries.c trace.c hdrun.c)
+
+# programs in COBOL and C call what hdrun exports
+bin/hdrun: $(DLI) dli/dli.h dli/include/ims.h
+	mkdir -p bin
+	$(CC) -std=gnu11 -Wall -Wextra -O2 -rdynamic -o $@ $(DLI) -ldl
+
+dli: bin/hdrun
+
+dli-test: bin/hd bin/hdrun
+	python3 dli/test.py bin
 
 PREFIX ?= /usr/local
 BIN = $(DESTDIR)$(PREFIX)/bin

@@ -16,5 +16,5 @@ pub use blocks::blocks_fault;
 pub use fault::Fault;
 pub use header::header_fault;
 pub use keys::stored_key;
-pub use lookup::{code_at, number_of};
+pub use lookup::{code_at, code_near, number_near, number_of};
 pub use places::Place;

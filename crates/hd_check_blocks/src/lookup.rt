@@ -26,12 +26,34 @@ pub fn number_of(places: &[Place], address: u32) -> Option<usize>
     None
 }
 
+/// The number of the place at an address, if a segment stands there, which is looked for at a number first.
+pub fn number_near(places: &[Place], address: u32, near: usize) -> Option<usize>
+    ensures some { IfSome result (λ n. (n < length places.now) × ((place_at places.now n).address ≡ address)) }
+    ensures none { PlacesAscend places.now → IfNone result ((code : ℕ) → IsPlaceOf (record { address = address; code = code }) places.now → ⊥) }
+{
+    if near < places.len() && places[near].address == address {
+        return Some(near);
+    }
+    number_of(places, address)
+}
+
 /// The code of the segment at an address, if one stands there.
 pub fn code_at(places: &[Place], address: u32) -> Option<u8>
     ensures some { IfSome result (λ code. IsPlaceOf (record { address = address; code = code }) places.now) }
     ensures none { PlacesAscend places.now → IfNone result ((code : ℕ) → IsPlaceOf (record { address = address; code = code }) places.now → ⊥) }
 {
     match number_of(places, address) {
+        None => None,
+        Some(number) => Some(places[number].code),
+    }
+}
+
+/// The code of the segment at an address, if one stands there, which is looked for at a number first.
+pub fn code_near(places: &[Place], address: u32, near: usize) -> Option<u8>
+    ensures some { IfSome result (λ code. IsPlaceOf (record { address = address; code = code }) places.now) }
+    ensures none { PlacesAscend places.now → IfNone result ((code : ℕ) → IsPlaceOf (record { address = address; code = code }) places.now → ⊥) }
+{
+    match number_near(places, address, near) {
         None => None,
         Some(number) => Some(places[number].code),
     }

@@ -40,6 +40,18 @@ module _ (d : Database) (v : VolumeState) (ps : List Place) (M : IsMatched d v p
           none ((links_of d.types v).code w) (M.stand.all w (record { some = omega arith; here = here })))
     ]
 
+    -- a segment with the owner of one that is reached is reached
+    pub reached-beside : (i j : ℕ) → i < length ps → j < length ps → slice_index xs i ≡ slice_index xs j → IsFound (place_at ps j).address → IsFound (place_at ps i).address
+    reached-beside i j l jl e found = elim (cases_eq (slice_index xs j) nobody) [
+      | inl nobody-is ↦
+          (let o = reached-owned d.types (links_of d.types v) M.typed found.0 (place_at ps j).address (stands d v ps M j jl) found.1 in
+          absurd (O.no_owner j jl nobody-is o.0 o.1))
+      | inr known ↦
+          (let up = owner-reached d.types (links_of d.types v) M.typed M.single (slice_index xs j) (place_at ps j).address found.0 (O.owner j jl known) found.1 in
+          let own = subst (λ (x : ℕ). IsOwner d.types (links_of d.types v) x (place_at ps i).address) e (O.owner i l (λ z. known (sym e ∙ z))) in
+          owned-reached d.types (links_of d.types v) M.typed (slice_index xs j) (place_at ps i).address up.0 own up.1)
+    ]
+
     module _ (i j w : ℕ) (l : i < length ps) (e : slice_index xs i ≡ w) (jl : j < length ps) (at : (place_at ps j).address ≡ w) where
       -- the segment at the owner's address is the owner
       own : IsOwner d.types (links_of d.types v) (place_at ps j).address (place_at ps i).address

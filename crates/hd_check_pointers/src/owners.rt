@@ -9,21 +9,21 @@ ghost use Rattle.hd_check_pointers.specs.Tables.{nobody, AreOwners};
 ghost use Rattle.hd_check_pointers.specs.Matched.{OwnersStayRight, OwnersStayClosed, IfPreceded};
 
 use crate::namings::Naming;
-use hd_check_blocks::{Place, number_of};
+use hd_check_blocks::{Place, number_near};
 use hd_dbd::Refused;
 use std::alloc::Global;
 
 /// The owner of a chain that begins at no parent: no record stands there.
 pub(crate) const NOBODY: u32 = u32::MAX;
 
-/// Whether a segment of a code stands at an address.
-pub fn stands_at(places: &[Place], address: u32, code: u8) -> bool
+/// Whether a segment of a code stands at an address: most likely that before the one of a number.
+pub fn stands_at(places: &[Place], number: usize, address: u32, code: u8) -> bool
     ensures right { result ≡ true → IsPlaceOf (record { address = address; code = code }) places.now }
     ensures wrong { PlacesAscend places.now → result ≡ false → IsPlaceOf (record { address = address; code = code }) places.now → ⊥ }
 {
-    match number_of(places, address) {
+    match number_near(places, address, number.saturating_sub(1)) {
         None => false,
-        Some(number) => places[number].code == code,
+        Some(found) => places[found].code == code,
     }
 }
 
@@ -47,7 +47,7 @@ fn own_twins(places: &[Place], forwards: &[u32], owners: &mut Vec<u32>, first: u
     let mut number = first;
     while owners[number] == NOBODY {
         owners[number] = owner;
-        match number_of(places, number_in(forwards, number)) {
+        match number_near(places, number_in(forwards, number), number + 1) {
             None => return,
             Some(twin) => number = twin,
         }
@@ -80,7 +80,7 @@ pub fn owners_of(
     for first in 0..places.len().min(namings.len()) {
         let place = places[first];
         let holder = namings[first].holder;
-        if holder != NOBODY && !stands_at(places, holder, place.code) {
+        if holder != NOBODY && !stands_at(places, first, holder, place.code) {
             own_twins(places, forwards, &mut owners, first, holder);
         }
     }

@@ -1,5 +1,5 @@
 //! Phase 7: each segment is reached from the header.
-ghost use Rattle.std.specs.Prelude.{◌≡◌, ◌<◌, ℕ, length, slice_index, true, false, IfNone, IfSome};
+ghost use Rattle.std.specs.Prelude.{◌≡◌, ◌<◌, ◌-◌, ℕ, length, slice_index, true, false, IfNone, IfSome};
 ghost use Rattle.hd_dbd.specs.Hierarchy.{Database};
 ghost use Rattle.hd_volume.specs.Volumes.{VolumeState};
 ghost use Rattle.hd_links.specs.Links.{IsSegment};
@@ -10,7 +10,7 @@ ghost use Rattle.hd_check_pointers.specs.Tables.{place_at};
 ghost use Rattle.hd_check_pointers.specs.Matched.{IfOwned};
 
 use crate::owners::NOBODY;
-use hd_check_blocks::{Fault, Place, number_of};
+use hd_check_blocks::{Fault, Place, number_near};
 use hd_image::Line;
 
 /// The owner of the chain in which the segment of a number is.
@@ -18,6 +18,13 @@ fn owner_of(owners: &[u32], number: usize) -> u32
     ensures { number < length owners.now → result ≡ slice_index owners.now number }
 {
     owners.get(number).copied().unwrap_or(NOBODY)
+}
+
+/// Whether the segment of a number has the owner of the one before it.
+fn is_owned_as_before(owners: &[u32], number: usize) -> bool
+    ensures { result ≡ true → number < length owners.now → (0 < number) × (slice_index owners.now number ≡ slice_index owners.now (number - 1)) }
+{
+    number > 0 && owner_of(owners, number) == owner_of(owners, number - 1)
 }
 
 /// Whether the segment of a number is reached from the header, from owner to owner.
@@ -32,7 +39,7 @@ fn is_reached(places: &[Place], owners: &[u32], first: usize) -> bool
         if owner == 0 {
             return true;
         }
-        match number_of(places, owner) {
+        match number_near(places, owner, number.saturating_sub(1)) {
             None => return false,
             Some(above) => number = above,
         }
@@ -46,6 +53,9 @@ pub fn reached_fault(places: &[Place], owners: &[u32]) -> Option<Fault>
     ensures some { (d : Database) (v : VolumeState) → IfOwned d v places.now owners.now (IfSome result (λ f. IsLeastOf d v 7 f)) }
 {
     for number in 0..places.len() {
+        if is_owned_as_before(owners, number) {
+            continue;
+        }
         if !is_reached(places, owners, number) {
             return Some(Fault::at(Line::NotReached, places[number].address, 0));
         }

@@ -10,7 +10,7 @@ ghost use Rattle.hd_check_blocks.specs.Places.{ArePlaces};
 ghost use Rattle.hd_check_pointers.specs.Judging.{wrong_among, wrong_or, IsRecordRight, IsWrongRecord, IsPointerFault, OfStored, OfPlaced};
 ghost use Rattle.hd_check_pointers.specs.Matched.{IfRoots};
 
-use hd_check_blocks::{Fault, Place, code_at};
+use hd_check_blocks::{Fault, Place, code_near};
 use hd_dbd::Dbd;
 use hd_image::Line;
 use hd_prefix::{Layout, Pointer, delete_byte_of};
@@ -23,8 +23,8 @@ struct Wrong {
     another: u32,
 }
 
-/// What is wrong with one pointer, which may name a segment of a type.
-fn wrong_of(places: &[Place], address: u32, code: u8) -> Wrong
+/// What is wrong with one pointer, which may name a segment of a type, and most likely that of a number.
+fn wrong_of(places: &[Place], near: usize, address: u32, code: u8) -> Wrong
     ensures { (d : Database) (v : VolumeState) → ArePlaces d.types v places.now → result ≡ wrong_among (links_of d.types v) (record { address = address; type_code = code } ∷ []) }
 {
     if address == 0 {
@@ -33,7 +33,7 @@ fn wrong_of(places: &[Place], address: u32, code: u8) -> Wrong
             another: 0,
         };
     }
-    match code_at(places, address) {
+    match code_near(places, address, near) {
         None => Wrong {
             nowhere: address,
             another: 0,
@@ -63,9 +63,10 @@ fn wrong_or(wrong: Wrong, more: Wrong) -> Wrong
     }
 }
 
-/// What is wrong with the pointers of a segment to its children of some types.
+/// What is wrong with the pointers of a segment to its children of some types, where the next segment has a number.
 fn judge_children(
     places: &[Place],
+    next: usize,
     dbd: &Dbd,
     code: u8,
     segment: &[u8],
@@ -80,30 +81,51 @@ fn judge_children(
     let mut found = wrong;
     for child in types {
         let first = layout.read(segment, Pointer::FirstChild(*child));
-        found = wrong_or(found, wrong_of(places, first, *child));
+        found = wrong_or(found, wrong_of(places, next, first, *child));
         let last = layout.read(segment, Pointer::LastChild(*child));
-        found = wrong_or(found, wrong_of(places, last, *child));
+        found = wrong_or(found, wrong_of(places, next, last, *child));
     }
     found
 }
 
-/// What is wrong with the pointers of a segment.
-fn judge_segment(places: &[Place], dbd: &Dbd, code: u8, segment: &[u8]) -> Wrong
+/// What is wrong with the pointers of the segment of a number.
+fn judge_segment(places: &[Place], number: usize, dbd: &Dbd, code: u8, segment: &[u8]) -> Wrong
     requires own { code ≡ code_of segment.now }
     requires some { code ≢ 0 }
     requires whole { stored_size dbd.now.types (code_of segment.now) ≤ length segment.now }
     ensures { OfStored dbd.now.types places.now segment.now (λ m a. result ≡ wrong_among m (pointers_of dbd.now.types m a)) }
 {
     let layout = Layout::of(dbd, code);
-    let forward = wrong_of(places, layout.read(segment, Pointer::TwinForward), code);
-    let backward = wrong_of(places, layout.read(segment, Pointer::TwinBackward), code);
+    let behind = number.saturating_add(1);
+    let before = number.saturating_sub(1);
+    let forward = wrong_of(
+        places,
+        behind,
+        layout.read(segment, Pointer::TwinForward),
+        code,
+    );
+    let backward = wrong_of(
+        places,
+        before,
+        layout.read(segment, Pointer::TwinBackward),
+        code,
+    );
     let twins = wrong_or(forward, backward);
-    judge_children(places, dbd, code, segment, dbd.children_of(code), twins)
+    judge_children(
+        places,
+        behind,
+        dbd,
+        code,
+        segment,
+        dbd.children_of(code),
+        twins,
+    )
 }
 
-/// What is wrong with a segment at an address.
+/// What is wrong with the segment of a number, which stands at an address.
 pub fn segment_pointers_fault(
     places: &[Place],
+    number: usize,
     dbd: &Dbd,
     address: u32,
     segment: &[u8],
@@ -119,7 +141,7 @@ pub fn segment_pointers_fault(
     if delete_byte != 0 {
         return Some(Fault::at(Line::Deleted, address, u32::from(delete_byte)));
     }
-    pointer_fault(address, judge_segment(places, dbd, code, segment))
+    pointer_fault(address, judge_segment(places, number, dbd, code, segment))
 }
 
 /// The fault of a record with which so much is wrong.
@@ -143,6 +165,6 @@ pub fn root_pointers_fault(places: &[Place], first: u32, last: u32) -> Option<Fa
 {
     pointer_fault(
         0,
-        wrong_or(wrong_of(places, first, 1), wrong_of(places, last, 1)),
+        wrong_or(wrong_of(places, 0, first, 1), wrong_of(places, 0, last, 1)),
     )
 }

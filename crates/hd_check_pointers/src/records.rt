@@ -18,11 +18,12 @@ use hd_check_blocks::{Fault, Place};
 use hd_dbd::{Dbd, Refused};
 use hd_volume::{BlockStore, Volume};
 
-/// What is wrong with the segment at an address. Its twin forward pointer, and the pointers by which it names others, are noted.
+/// What is wrong with the segment of a number, at an address. Its twin forward pointer, and the pointers by which it names others, are noted.
 fn record_fault<S: BlockStore>(
     forwards: &mut Vec<u32>,
     namings: &mut Vec<Naming>,
     places: &[Place],
+    number: usize,
     volume: &mut Volume<S>,
     dbd: &Dbd,
     address: u32,
@@ -37,7 +38,7 @@ fn record_fault<S: BlockStore>(
     ensures refusal { OnlyDeviceOrMemory result }
 {
     let segment = volume.segment_at(address)?;
-    let fault = segment_pointers_fault(places, dbd, address, segment);
+    let fault = segment_pointers_fault(places, number, dbd, address, segment);
     note_pointers(forwards, namings, dbd, address, segment)?;
     Ok(fault)
 }
@@ -67,11 +68,21 @@ pub fn records_fault<S: BlockStore>(
         return Ok(roots);
     }
     note_naming(namings, first, 0)?;
+    let mut number = 0usize;
     for place in places {
-        let found = record_fault(forwards, namings, places, volume, dbd, place.address)?;
+        let found = record_fault(
+            forwards,
+            namings,
+            places,
+            number,
+            volume,
+            dbd,
+            place.address,
+        )?;
         if found.is_some() {
             return Ok(found);
         }
+        number = number.saturating_add(1);
     }
     Ok(None)
 }

@@ -120,7 +120,7 @@ fn key_fault<S: BlockStore>(
     if !is_keyed(dbd, place.code) {
         return Ok(None);
     }
-    if !stands_at(places, holder, place.code) {
+    if !stands_at(places, number, holder, place.code) {
         return Ok(None);
     }
     twin_order_fault(volume, dbd, holder, place)

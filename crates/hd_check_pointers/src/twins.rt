@@ -37,7 +37,7 @@ fn twin_before(places: &[Place], number: usize, holder: u32) -> u32
     requires within { number < length places.now }
     ensures { TellsTwinBefore places.now number holder result }
 {
-    if stands_at(places, holder, places[number].code) {
+    if stands_at(places, number, holder, places[number].code) {
         return holder;
     }
     0

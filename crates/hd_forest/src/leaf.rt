@@ -16,8 +16,49 @@ use hd_volume::{BlockStore, Volume};
 /// The most bytes of a block, and so of a segment.
 const LARGEST_BLOCK: usize = 32768;
 
+/// The most bytes of a segment that is laid out in little room, so that a load of small ones does not clear a largest block for each.
+const SMALL_SEGMENT: usize = 512;
+
 /// Puts a new leaf, which names its twins and has no child, and says its address.
 pub fn put_leaf<S: BlockStore>(
+    volume: &mut Volume<S>,
+    dbd: &Dbd,
+    after: u32,
+    behind: u32,
+    code: u8,
+    bytes: &[u8],
+) -> Result<u32, Refused>
+    requires fits { row_fits dbd.now.types (record { code = code; bytes = bytes.now }) ≡ true }
+    requires sizes { volume.old.sizes ≡ stored_sizes dbd.now.types }
+    requires of { IsTrue volume.old.is_sound → IsVolumeOf dbd.now volume.old }
+    ensures call { IsCall volume.old result volume.new }
+    ensures put { IfOk result (λ a. IsTrue volume.old.is_sound → IsLeafPut dbd.now volume.old (record { code = code; bytes = bytes.now }) after behind a volume.new) }
+    ensures kept { IfErr result (λ _. IsTrue volume.new.is_sound → volume.new.image ≡ volume.old.image) }
+    ensures full { IfErr result (λ e. e ≡ Refused.Full → IsTrue volume.old.is_sound → (spare volume.old ≡ 0) × (HasHole volume.old (stored_size dbd.now.types code) → ⊥)) }
+    ensures memory { IfErr result (λ e. e ≡ Refused.Memory → volume.old.room ≡ 0) }
+    ensures no_free { IfErr result (λ e. e ≡ Refused.Memory → IsTrue volume.old.is_sound → HasFreeBlock volume.old → ⊥) }
+    ensures no_hole { IfErr result (λ e. e ≡ Refused.Memory → IsTrue volume.old.is_sound → HasHole volume.old (stored_size dbd.now.types code) → ⊥) }
+    ensures refusal { OnlyRoomOrDevice result }
+    ensures room { IsTrue volume.new.is_sound → volume.old.room ≤ volume.new.room + 1 }
+{
+    let size = size_of(dbd, code);
+    if size > SMALL_SEGMENT {
+        return put_large_leaf(volume, dbd, after, behind, code, bytes);
+    }
+    let mut segment = [0; SMALL_SEGMENT];
+    put_laid_out(
+        volume,
+        dbd,
+        &mut segment[..size],
+        after,
+        behind,
+        code,
+        bytes,
+    )
+}
+
+/// Puts a new leaf of any size.
+fn put_large_leaf<S: BlockStore>(
     volume: &mut Volume<S>,
     dbd: &Dbd,
     after: u32,

@@ -1,3 +1,5 @@
+use crate::making::text_of;
+use crate::seeing::Sighted;
 use crate::stop::{Named, Stop};
 use crate::words::Request;
 use hd_commands::Refusal;
@@ -44,16 +46,22 @@ pub fn advise_stop<E: Write>(
             )
         }
         Stop::OverInput | Stop::Words | Stop::NoType | Stop::Table(_, _, _) => Ok(()),
-        Stop::Refused(refusal) => advise_refusal(alloc, *refusal, err),
+        Stop::Frame(_) | Stop::Fields => Ok(()),
+        Stop::Refused(refusal) => advise_refusal(alloc, *refusal, None, err),
     }
 }
 
-/// Writes the line that says what the word of a refusal means.
-pub fn advise_refusal<E: Write>(alloc: Global, refusal: Refusal, err: &mut E) -> io::Result<()> {
+/// Writes the line that says what the word of a refusal means, and which segment stands at the place of a fault.
+pub fn advise_refusal<E: Write>(
+    alloc: Global,
+    refusal: Refusal,
+    seen: Option<&Sighted>,
+    err: &mut E,
+) -> io::Result<()> {
     match refusal {
         Refusal::Fault(fault) => {
             let number = format!(in alloc; "{}", fault.number())?;
-            advise_word(&number, err)
+            advise_fault(&number, seen, err)
         }
         Refusal::Record(fault, _) => {
             let name = format!(in alloc; "{fault}")?;
@@ -100,6 +108,31 @@ fn advise_word<E: Write>(word: &str, err: &mut E) -> io::Result<()> {
         ),
         None => Ok(()),
     }
+}
+
+/// Writes what a fault of a volume means, and which segment stands at its place, if one is seen there.
+fn advise_fault<E: Write>(word: &str, seen: Option<&Sighted>, err: &mut E) -> io::Result<()> {
+    let (Some(entry), Some(seen)) = (explain(word), seen) else {
+        return advise_word(word, err);
+    };
+    write!(err, "  {}: {}; ", entry.word, entry.summary)?;
+    advise_segment(seen, err)?;
+    writeln!(err, "; hd explain {} says more", entry.word)
+}
+
+/// Writes where a segment stands, and its type and key.
+fn advise_segment<E: Write>(seen: &Sighted, err: &mut E) -> io::Result<()> {
+    let address = seen.address;
+    let name = text_of(&seen.name);
+    write!(err, "the segment at {address} is of type {name}")?;
+    if seen.key.is_empty() {
+        return Ok(());
+    }
+    write!(err, " with the key \"")?;
+    let Ok(()) = put_shown(err, &seen.key) else {
+        return Ok(());
+    };
+    write!(err, "\"")
 }
 
 /// The word of a text's fault, which stands last, as in `line 10, M4` and `type 1, B6`.

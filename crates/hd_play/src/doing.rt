@@ -5,12 +5,15 @@ use crate::listing::list_rows;
 use crate::making::{make_of_rows, make_of_tables};
 use crate::playing::{play_file, play_sample};
 use crate::reloading::reload_file;
+use crate::seeing::see_refused;
+use crate::serving::serve_file;
 use crate::showing::{show_database, show_volume};
 use crate::stop::{COMMAND_LINE, Stop};
 use crate::unloading::unload_file;
 use crate::words::{Explains, Request, read_words};
 use clap::error::ErrorKind;
 use hd_commands::{Ended, Refusal};
+use hd_progress::{Progress, Unmixed};
 use std::alloc::Global;
 use std::fs::File;
 use std::io::{Read, Write};
@@ -21,21 +24,24 @@ use std::rt::Files;
 /// for one call; 64 a command line that is not understood, help among them, whose text is `clap`'s, or one that would write over what it
 /// reads.
 ///
-/// Without words it reads a deck from `input` and plays it over the sample database, in memory. `deck` plays one over a volume, `check` judges
+/// Without words it reads a deck from `input` and plays it over the sample database, in memory. `deck` plays one over a volume, `serve` answers
+/// the calls that come as frames from `input`, `check` judges
 /// a volume, `unload` writes its unload stream, and `reload` makes a volume of one; `show` draws a database or a volume, `rows` writes a volume's
 /// rows, and `stream` makes an unload stream of rows; `explain` says what a fault, status or refusal means. What the calls answer, and what was
 /// done, goes to `out`; why the program ended early goes to `err`, a line, and where that is a terminal or the words say so, further lines that
-/// say more.
-pub fn play<R, I, O, E>(
+/// say more. How far a long command is goes to `progress`, and is taken away before a line and at the end.
+pub fn play<R, P, I, O, E>(
     rt: &R,
     words: &[String],
     is_terminal: bool,
+    progress: &P,
     input: &mut I,
     out: &mut O,
     err: &mut E,
 ) -> u8
 where
     R: Files<File = File> + AllocGlobal,
+    P: Progress,
     I: Read,
     O: Write,
     E: Write,
@@ -55,17 +61,22 @@ where
         Explains::Never => false,
         Explains::Auto => is_terminal,
     };
-    match perform(rt, request, input, out, err) {
+    let mut out = Unmixed::output(out, progress);
+    let mut err = Unmixed::errors(err, progress);
+    let performed = perform(rt, request, progress, input, &mut out, &mut err);
+    progress.end();
+    match performed {
         Ok(ended) => {
             if let (true, Some(refusal)) = (says_more, ended.refusal) {
-                let _ = advise_refusal(rt.alloc(), refusal, err);
+                let seen = see_refused(rt, rt.alloc(), &request, refusal);
+                let _ = advise_refusal(rt.alloc(), refusal, seen.as_ref(), &mut err);
             }
             ended.status
         }
         Err(stop) => {
-            let status = stopped(&stop, err);
+            let status = stopped(&stop, &mut err);
             if says_more {
-                let _ = advise_stop(rt.alloc(), &stop, &request, err);
+                let _ = advise_stop(rt.alloc(), &stop, &request, &mut err);
             }
             status
         }
@@ -73,15 +84,17 @@ where
 }
 
 /// Does what is asked for, and says how it ended.
-fn perform<R, I, O, E>(
+fn perform<R, P, I, O, E>(
     rt: &R,
     request: Request<'_>,
+    progress: &P,
     input: &mut I,
     out: &mut O,
     err: &mut E,
 ) -> Result<Ended, Stop>
 where
     R: Files<File = File> + AllocGlobal,
+    P: Progress,
     I: Read,
     O: Write,
     E: Write,
@@ -95,23 +108,31 @@ where
             volume,
             deck,
             cache,
-        } => play_file(rt, alloc, dbd, psb, volume, deck, cache, out, err),
+        } => play_file(rt, alloc, dbd, psb, volume, deck, cache, progress, out, err),
+        Request::Serve {
+            dbd,
+            psb,
+            volume,
+            cache,
+        } => serve_file(rt, alloc, dbd, psb, volume, cache, input, out, err),
         Request::Check { dbd, volume, cache } => check_file(
-            rt, alloc, dbd, volume, cache, out, err,
+            rt, alloc, dbd, volume, cache, progress, out, err,
         ),
         Request::Unload {
             dbd,
             volume,
             out: stream,
             cache,
-        } => unload_file(rt, alloc, dbd, volume, stream, cache, out, err),
+        } => unload_file(rt, alloc, dbd, volume, stream, cache, progress, out, err),
         Request::Reload {
             dbd,
             input,
             volume,
             blocks,
             cache,
-        } => reload_file(rt, alloc, dbd, input, volume, blocks, cache, out, err),
+        } => reload_file(
+            rt, alloc, dbd, input, volume, blocks, cache, progress, out, err,
+        ),
         Request::Show {
             dbd,
             volume: None,

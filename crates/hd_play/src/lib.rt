@@ -12,11 +12,15 @@ mod making;
 mod playing;
 mod reloading;
 mod sample;
+mod seeing;
+mod serving;
 mod showing;
 mod stop;
 mod unloading;
+mod verbs;
 mod words;
 
 pub use doing::{play, stopped};
+pub use hd_progress::{Progress, Silent, Terminal};
 pub use sample::{DBD_SOURCE, PSB_SOURCE, database, program};
 pub use stop::{COMMAND_LINE, Named, Stop};

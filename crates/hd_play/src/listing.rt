@@ -1,7 +1,7 @@
 ghost use Rattle.std.specs.Prelude.{◌≡◌, ◌<◌};
 
 use crate::checking::load_volume;
-use crate::files::{CACHE, PIECE, open_read_volume, read_database};
+use crate::files::{CACHE, PIECE, cached_blocks, open_read_volume, read_database};
 use crate::stop::Stop;
 use hd_commands::{Ended, Refusal, refuse};
 use hd_dbd::Dbd;
@@ -29,7 +29,8 @@ fn list<L: Ledger, O: Write, E: Write>(
     requires parts { blank.parts ≡ L.parts }
     requires share { 0 < blank.parts }
 {
-    let mut volume = load_volume::<L>(alloc, dbd, file, cache, blank)?;
+    let store = cached_blocks::<L>(alloc, dbd, file, cache, blank)?;
+    let mut volume = load_volume(alloc, dbd, store)?;
     let Ok(mut lines) = BufWriter::with_capacity(alloc, PIECE, out) else {
         return Err(Stop::from(Refusal::Memory));
     };

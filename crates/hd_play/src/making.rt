@@ -75,7 +75,7 @@ struct Tables {
 }
 
 /// The name of a type without its padding.
-fn text_of(name: &Name8) -> &str {
+pub fn text_of(name: &Name8) -> &str {
     match str::from_utf8(name.bytes()) {
         Ok(text) => text.trim_end(),
         Err(_) => "",

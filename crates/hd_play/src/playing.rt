@@ -12,6 +12,7 @@ use hd_commands::{Ended, Refusal, play_deck, status_of_calls};
 use hd_dbd::{Dbd, Psb};
 use hd_deck::{Step, read_deck};
 use hd_gen::read_psb;
+use hd_progress::{Counted, Progress};
 use hd_volume::BlockStore;
 use std::alloc::Global;
 use std::fs::File;
@@ -70,7 +71,7 @@ pub fn play_sample<I: Read, O: Write, E: Write>(
 }
 
 /// The program over a database that a file of its source describes.
-fn read_program<R: Files<File = File>>(
+pub fn read_program<R: Files<File = File>>(
     rt: &R,
     alloc: Global,
     dbd: &Dbd,
@@ -107,7 +108,7 @@ fn read_steps<R: Files<File = File>>(
 const DEVICE_FAILED: u8 = 3;
 
 /// Plays a deck over the volume in a file, with a ledger for the accesses that fail. Every block that the deck changed is then in the file.
-fn play_over<L: Ledger, O: Write, E: Write>(
+fn play_over<L: Ledger, P: Progress, O: Write, E: Write>(
     alloc: Global,
     dbd: &Dbd,
     psb: &Psb,
@@ -115,6 +116,7 @@ fn play_over<L: Ledger, O: Write, E: Write>(
     file: File,
     cache: u32,
     blank: Blank,
+    progress: &P,
     out: &mut O,
     err: &mut E,
 ) -> Result<Ended, Stop>
@@ -126,8 +128,9 @@ fn play_over<L: Ledger, O: Write, E: Write>(
     requires count { length steps.now ≤ 2 ^ 30 }
 {
     let store = cached_blocks::<L>(alloc, dbd, file, cache, blank)?;
+    let store = Counted::new(store, "playing", progress);
     let (store, played) = play_store(alloc, dbd, psb, steps, store, out, err);
-    let (_, written) = store.into_store();
+    let (_, written) = store.into_inner().into_store();
     let ended = played?;
     if ended.status != DEVICE_FAILED {
         written?;
@@ -136,13 +139,14 @@ fn play_over<L: Ledger, O: Write, E: Write>(
 }
 
 /// As `play_over`, with a ledger of its own.
-fn play_over_file<O: Write, E: Write>(
+fn play_over_file<P: Progress, O: Write, E: Write>(
     alloc: Global,
     dbd: &Dbd,
     psb: &Psb,
     steps: &[Step],
     file: File,
     cache: u32,
+    progress: &P,
     out: &mut O,
     err: &mut E,
 ) -> Result<Ended, Stop>
@@ -150,12 +154,23 @@ fn play_over_file<O: Write, E: Write>(
     requires steps { All (StepFits (length psb.now.pcbs)) steps.now }
     requires count { length steps.now ≤ 2 ^ 30 }
 {
-    play_over::<Brand, O, E>(alloc, dbd, psb, steps, file, cache, Blank::new(1), out, err)
+    play_over::<Brand, P, O, E>(
+        alloc,
+        dbd,
+        psb,
+        steps,
+        file,
+        cache,
+        Blank::new(1),
+        progress,
+        out,
+        err,
+    )
 }
 
 /// Plays the deck in a file over the volume in another, which is changed in place. The DBD, the PSB and the deck are read and judged first,
 /// in this order, then the volume is opened; only then is it judged. Says how it ended.
-pub fn play_file<R, O, E>(
+pub fn play_file<R, P, O, E>(
     rt: &R,
     alloc: Global,
     dbd: &str,
@@ -163,11 +178,13 @@ pub fn play_file<R, O, E>(
     volume: &str,
     deck: &str,
     cache: Option<u32>,
+    progress: &P,
     out: &mut O,
     err: &mut E,
 ) -> Result<Ended, Stop>
 where
     R: Files<File = File>,
+    P: Progress,
     O: Write,
     E: Write,
 {
@@ -176,5 +193,5 @@ where
     let (steps, text) = read_steps(rt, alloc, psb.pcbs().len() as u8, deck)?;
     let file = open_volume(rt, volume, &[source, program, text])?;
     let kept = cache.unwrap_or(blocks_for_calls(&dbd));
-    play_over_file(alloc, &dbd, &psb, &steps, file, kept, out, err)
+    play_over_file(alloc, &dbd, &psb, &steps, file, kept, progress, out, err)
 }

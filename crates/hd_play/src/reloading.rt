@@ -6,6 +6,7 @@ use crate::files::{
 use crate::stop::{Named, Stop, of_file};
 use hd_commands::{Ended, reload_store};
 use hd_dbd::Dbd;
+use hd_progress::{Counted, Progress};
 use std::alloc::Global;
 use std::fs::File;
 use std::io::Write;
@@ -17,7 +18,7 @@ use std::sync::ledger::{Blank, Ledger};
 const LINE: usize = 256;
 
 /// Loads a stream into an empty file, with a ledger for the accesses that fail. What was done is said once the file has every block.
-fn fill<L: Ledger, O: Write, E: Write>(
+fn fill<L: Ledger, P: Progress, O: Write, E: Write>(
     alloc: Global,
     dbd: &Dbd,
     stream: &[u8],
@@ -25,6 +26,7 @@ fn fill<L: Ledger, O: Write, E: Write>(
     blank: Blank,
     blocks: u32,
     cache: u32,
+    progress: &P,
     out: &mut O,
     err: &mut E,
 ) -> Result<Ended, Stop>
@@ -33,10 +35,11 @@ fn fill<L: Ledger, O: Write, E: Write>(
     requires share { 0 < blank.parts }
 {
     let store = cached_blocks::<L>(alloc, dbd, file, cache, blank)?;
+    let store = Counted::new(store, "reloading", progress);
     let most = blocks.clamp(1, 65_536);
     let mut line = Vec::with_capacity(alloc, LINE)?;
     let (store, ended) = reload_store(alloc, dbd, stream, store, most, &mut line, err);
-    let (_, written) = store.into_store();
+    let (_, written) = store.into_inner().into_store();
     if ended.status == 0 {
         written?;
         out.write_all(&line)?;
@@ -45,17 +48,18 @@ fn fill<L: Ledger, O: Write, E: Write>(
 }
 
 /// As `fill`, with a ledger of its own.
-fn fill_file<O: Write, E: Write>(
+fn fill_file<P: Progress, O: Write, E: Write>(
     alloc: Global,
     dbd: &Dbd,
     stream: &[u8],
     file: File,
     blocks: u32,
     cache: u32,
+    progress: &P,
     out: &mut O,
     err: &mut E,
 ) -> Result<Ended, Stop> {
-    fill::<Brand, O, E>(
+    fill::<Brand, P, O, E>(
         alloc,
         dbd,
         stream,
@@ -63,6 +67,7 @@ fn fill_file<O: Write, E: Write>(
         Blank::new(1),
         blocks,
         cache,
+        progress,
         out,
         err,
     )
@@ -70,7 +75,7 @@ fn fill_file<O: Write, E: Write>(
 
 /// Makes a volume file, of at most so many blocks, from 1 to 65,536, of the stream in a file. The DBD is read and judged first, then
 /// the stream is read, then the volume's file is made or cut to nothing; only then is the stream judged. Says how it ended.
-pub fn reload_file<R, O, E>(
+pub fn reload_file<R, P, O, E>(
     rt: &R,
     alloc: Global,
     dbd: &str,
@@ -78,11 +83,13 @@ pub fn reload_file<R, O, E>(
     volume: &str,
     blocks: u32,
     cache: Option<u32>,
+    progress: &P,
     out: &mut O,
     err: &mut E,
 ) -> Result<Ended, Stop>
 where
     R: Files<File = File>,
+    P: Progress,
     O: Write,
     E: Write,
 {
@@ -98,6 +105,7 @@ where
         file,
         blocks,
         cache.unwrap_or(CACHE),
+        progress,
         out,
         err,
     )

@@ -1,7 +1,9 @@
 ghost use Rattle.std.specs.Prelude.{◌≡◌, ◌<◌};
 
 use crate::checking::load_volume;
-use crate::files::{CACHE, PIECE, Rewritten, open_output, open_read_volume, read_database};
+use crate::files::{
+    CACHE, PIECE, Rewritten, cached_blocks, open_output, open_read_volume, read_database,
+};
 use crate::stop::{Named, Stop, of_file};
 use hd_commands::{Ended, Refusal, check_volume};
 use hd_dbd::Dbd;
@@ -47,7 +49,8 @@ fn show<L: Ledger, O: Write, E: Write>(
     requires parts { blank.parts ≡ L.parts }
     requires share { 0 < blank.parts }
 {
-    let mut volume = load_volume::<L>(alloc, dbd, file, cache, blank)?;
+    let store = cached_blocks::<L>(alloc, dbd, file, cache, blank)?;
+    let mut volume = load_volume(alloc, dbd, store)?;
     let survey = survey_volume(alloc, &mut volume, dbd)?;
     match picture {
         Some(picture) => draw_picture(alloc, dbd, &survey, picture)?,

@@ -1,6 +1,7 @@
 use hd_commands::Refusal;
 use hd_dbd::Refused;
 use hd_deck::DeckFault;
+use hd_frames::FrameFault;
 use hd_gen::GenFault;
 use hd_rows::RowFault;
 use std::alloc::{AllocError, AllocFailed};
@@ -58,6 +59,12 @@ pub enum Stop {
     Words,
     #[error("the database has no type of this name")]
     NoType,
+    /// A frame of the program whose calls are served is no right one.
+    #[error("frame refused: {0}")]
+    Frame(FrameFault),
+    /// A type's fields can't be told to a program whose calls are to be served.
+    #[error("DBD refused: a type has more than 255 fields")]
+    Fields,
     #[error("{0}")]
     Refused(Refusal),
 }
@@ -108,7 +115,8 @@ impl Stop {
         match self {
             Stop::Database(_, _) | Stop::Program(_, _) => 2,
             Stop::Deck(_, _, _) | Stop::Rows(_, _, _) | Stop::Table(_, _, _) => 2,
-            Stop::File(_, _) | Stop::InUse => 3,
+            Stop::Fields => 2,
+            Stop::File(_, _) | Stop::InUse | Stop::Frame(_) => 3,
             Stop::OverInput | Stop::Words | Stop::NoType => COMMAND_LINE,
             Stop::Refused(refusal) => refusal.status(),
         }

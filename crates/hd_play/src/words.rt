@@ -1,4 +1,5 @@
 use crate::stop::Named;
+use crate::verbs::{Kind, LEAST_BLOCKS, MOST_BLOCKS, VERBS, Verb, Word};
 use clap::{Arg, ArgAction, ArgMatches, Command, Error, value_parser};
 use std::alloc::Global;
 
@@ -14,6 +15,13 @@ pub enum Request<'a> {
         psb: &'a str,
         volume: &'a str,
         deck: &'a str,
+        cache: Option<u32>,
+    },
+    /// Calls over a volume, by a program that sends them.
+    Serve {
+        dbd: &'a str,
+        psb: &'a str,
+        volume: &'a str,
         cache: Option<u32>,
     },
     Check {
@@ -70,6 +78,9 @@ impl<'a> Request<'a> {
             (Request::Deck { psb, .. }, Named::Psb) => psb,
             (Request::Deck { volume, .. }, Named::Volume) => volume,
             (Request::Deck { deck, .. }, Named::Deck) => deck,
+            (Request::Serve { dbd, .. }, Named::Dbd) => dbd,
+            (Request::Serve { psb, .. }, Named::Psb) => psb,
+            (Request::Serve { volume, .. }, Named::Volume) => volume,
             (Request::Check { dbd, .. }, Named::Dbd) => dbd,
             (Request::Check { volume, .. }, Named::Volume) => volume,
             (Request::Unload { dbd, .. }, Named::Dbd) => dbd,
@@ -102,22 +113,10 @@ pub enum Explains {
 
 /// What the words behind the program's name ask for, and when more is said of a stop; an error is `clap`'s, help among them.
 pub fn read_words(alloc: Global, words: &[String]) -> Result<(Request<'_>, Explains), Error> {
-    let command = Command::new(alloc, "hd")
-        .bin_name("hd")?
-        .version("0.1.0, proved with rattle-kit-13f logic dac8208d650f15bf")
-        .about(
-            "A hierarchical database. Without a command it plays a deck of DL/I calls, read from standard input, over a built-in sample database",
-        )
-        .no_binary_name(true)
-        .arg(explains_word(alloc))?
-        .subcommand(deck_command(alloc)?)?
-        .subcommand(check_command(alloc)?)?
-        .subcommand(unload_command(alloc)?)?
-        .subcommand(reload_command(alloc)?)?
-        .subcommand(show_command(alloc)?)?
-        .subcommand(rows_command(alloc)?)?
-        .subcommand(stream_command(alloc)?)?
-        .subcommand(explain_command(alloc)?)?;
+    let mut command = program(alloc)?;
+    for verb in VERBS {
+        command = command.subcommand(command_of(alloc, verb)?)?;
+    }
     let matches = command.try_get_matches_from(words)?;
     let explains = match matches.get_str("EXPLAIN") {
         Some("always") => Explains::Always,
@@ -125,6 +124,19 @@ pub fn read_words(alloc: Global, words: &[String]) -> Result<(Request<'_>, Expla
         _ => Explains::Auto,
     };
     Ok((request_of(&matches), explains))
+}
+
+/// The program without its commands.
+fn program<'a>(alloc: Global) -> Result<Command<'a>, Error> {
+    let command = Command::new(alloc, "hd")
+        .bin_name("hd")?
+        .version("0.1.0, proved with rattle-kit-13f logic dac8208d650f15bf")
+        .about(
+            "A hierarchical database. Without a command it plays a deck of DL/I calls, read from standard input, over a built-in sample database",
+        )
+        .no_binary_name(true)
+        .arg(explains_word(alloc))?;
+    Ok(command)
 }
 
 /// What the words that were read ask for.
@@ -173,6 +185,14 @@ fn request_of<'a>(matches: &ArgMatches<'a>) -> Request<'a> {
             cache,
         };
     }
+    if name == "serve" {
+        return Request::Serve {
+            dbd,
+            psb: given.get_str("PSB").unwrap_or(""),
+            volume,
+            cache,
+        };
+    }
     if name == "check" {
         return Request::Check { dbd, volume, cache };
     }
@@ -193,144 +213,34 @@ fn request_of<'a>(matches: &ArgMatches<'a>) -> Request<'a> {
     }
 }
 
-/// The words of `hd deck`.
-fn deck_command<'a>(alloc: Global) -> Result<Command<'a>, Error> {
-    let command = Command::new(alloc, "deck")
-        .about("Plays a deck of DL/I calls over a volume, which it checks first")
-        .arg(file_word(alloc, "DBD", "The file with the DBD source"))?
-        .arg(file_word(alloc, "PSB", "The file with the PSB source"))?
-        .arg(file_word(alloc, "VOLUME", "The volume, which is changed in place"))?
-        .arg(file_word(alloc, "DECK", "The file with the calls"))?
-        .arg(cache_word(alloc))?;
+/// A command with its words.
+fn command_of<'a>(alloc: Global, verb: &Verb) -> Result<Command<'a>, Error> {
+    let mut command = Command::new(alloc, verb.name).about(verb.about);
+    for word in verb.words {
+        command = command.arg(arg_of(alloc, word)?)?;
+    }
     Ok(command)
 }
 
-/// The words of `hd check`.
-fn check_command<'a>(alloc: Global) -> Result<Command<'a>, Error> {
-    let command = Command::new(alloc, "check")
-        .about("Says whether a volume is sound, or names its first fault")
-        .arg(file_word(alloc, "DBD", "The file with the DBD source"))?
-        .arg(file_word(alloc, "VOLUME", "The volume, which is not changed"))?
-        .arg(cache_word(alloc))?;
-    Ok(command)
+/// A word of a command.
+fn arg_of<'a>(alloc: Global, word: &Word) -> Result<Arg<'a>, Error> {
+    let arg = Arg::new(alloc, word.name).help(word.help);
+    match word.kind {
+        Kind::Needed => Ok(arg.required(true)),
+        Kind::Optional => Ok(arg),
+        Kind::Blocks => Ok(blocks(arg.required(true))),
+        Kind::Behind(long, shown, None) => Ok(arg.long(long).value_name(shown)),
+        Kind::Behind(long, shown, Some(other)) => {
+            Ok(arg.long(long).value_name(shown).requires_arg(other)?)
+        }
+        Kind::BlocksBehind(long, shown) => Ok(blocks(arg.long(long).value_name(shown))),
+        Kind::Flag(long) => Ok(arg.long(long).action(ArgAction::SetTrue)),
+    }
 }
 
-/// The words of `hd unload`.
-fn unload_command<'a>(alloc: Global) -> Result<Command<'a>, Error> {
-    let command = Command::new(alloc, "unload")
-        .about("Checks a volume, and writes its unload stream")
-        .arg(file_word(alloc, "DBD", "The file with the DBD source"))?
-        .arg(file_word(alloc, "VOLUME", "The volume, which is not changed"))?
-        .arg(file_word(
-            alloc,
-            "OUT",
-            "The unload stream, made where there is none; it is cut to nothing and written when the volume has passed",
-        ))?
-        .arg(cache_word(alloc))?;
-    Ok(command)
-}
-
-/// The words of `hd reload`.
-fn reload_command<'a>(alloc: Global) -> Result<Command<'a>, Error> {
-    let blocks = Arg::new(alloc, "BLOCKS")
-        .required(true)
-        .help("The most blocks that the volume may have, 1 to 65536")
-        .value_parser(value_parser!(u32).range(1..=65_536));
-    let command = Command::new(alloc, "reload")
-        .about("Makes a volume of an unload stream")
-        .arg(file_word(alloc, "DBD", "The file with the DBD source"))?
-        .arg(file_word(alloc, "IN", "The unload stream"))?
-        .arg(file_word(
-            alloc,
-            "VOLUME",
-            "The volume, made or cut to nothing first, even where the stream is refused",
-        ))?
-        .arg(blocks)?
-        .arg(cache_word(alloc))?;
-    Ok(command)
-}
-
-/// The words of `hd show`.
-fn show_command<'a>(alloc: Global) -> Result<Command<'a>, Error> {
-    let volume = Arg::new(alloc, "VOLUME").help("The volume, which is not changed");
-    let picture = Arg::new(alloc, "FILE")
-        .long("svg")
-        .value_name("FILE")
-        .help("Draw the volume as a picture in SVG, into this file")
-        .requires_arg("VOLUME")?;
-    let command = Command::new(alloc, "show")
-        .about("Draws the hierarchy that a DBD describes; or a volume, which it checks")
-        .arg(file_word(alloc, "DBD", "The file with the DBD source"))?
-        .arg(volume)?
-        .arg(picture)?
-        .arg(cache_word(alloc))?;
-    Ok(command)
-}
-
-/// The words of `hd rows`.
-fn rows_command<'a>(alloc: Global) -> Result<Command<'a>, Error> {
-    let table = Arg::new(alloc, "TYPE").long("csv").value_name("TYPE").help(
-        "Write the segments of this type alone, as CSV, with the keys of their parents",
-    );
-    let command = Command::new(alloc, "rows")
-        .about("Checks a volume, and writes its segments in hierarchic sequence, a line each")
-        .arg(file_word(alloc, "DBD", "The file with the DBD source"))?
-        .arg(file_word(alloc, "VOLUME", "The volume, which is not changed"))?
-        .arg(table)?
-        .arg(cache_word(alloc))?;
-    Ok(command)
-}
-
-/// The words of `hd stream`.
-fn stream_command<'a>(alloc: Global) -> Result<Command<'a>, Error> {
-    let tables = Arg::new(alloc, "TABLES")
-        .long("csv")
-        .action(ArgAction::SetTrue)
-        .help("IN is a folder with a table for each type, as hd rows --csv writes it, in TYPE.csv");
-    let command = Command::new(alloc, "stream")
-        .about(
-            "Makes an unload stream, which hd reload takes, of a text of rows as hd rows writes it",
-        )
-        .arg(file_word(alloc, "DBD", "The file with the DBD source"))?
-        .arg(file_word(
-            alloc,
-            "IN",
-            "The text of rows; twins may stand in any order",
-        ))?
-        .arg(file_word(
-            alloc,
-            "OUT",
-            "The unload stream, made where there is none; it is cut to nothing and written when the text is read",
-        ))?
-        .arg(tables)?;
-    Ok(command)
-}
-
-/// The words of `hd explain`.
-fn explain_command<'a>(alloc: Global) -> Result<Command<'a>, Error> {
-    let word = Arg::new(alloc, "WORD").help(
-        "The number of a fault of a volume, or a code, status or refusal, such as 14, M4, GE or Full",
-    );
-    let command = Command::new(alloc, "explain")
-        .about("Says what a fault, status or refusal means; without a word it lists them all")
-        .arg(word)?;
-    Ok(command)
-}
-
-/// A word that is the name of a file.
-fn file_word<'a>(alloc: Global, name: &'a str, help: &'a str) -> Arg<'a> {
-    Arg::new(alloc, name).required(true).help(help)
-}
-
-/// The option that says how many blocks of a volume are kept in memory.
-fn cache_word<'a>(alloc: Global) -> Arg<'a> {
-    Arg::new(alloc, "CACHE")
-        .long("cache")
-        .value_name("BLOCKS")
-        .help(
-            "The blocks of the volume that are kept in memory, 1 to 65536; if it is not given 64, and 4 megabytes of them for a deck",
-        )
-        .value_parser(value_parser!(u32).range(1..=65_536))
+/// A word that is a number of blocks.
+fn blocks(arg: Arg<'_>) -> Arg<'_> {
+    arg.value_parser(value_parser!(u32).range(LEAST_BLOCKS..=MOST_BLOCKS))
 }
 
 /// The option that says when more is said of a stop.

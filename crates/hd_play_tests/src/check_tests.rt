@@ -1,7 +1,7 @@
 use crate::testing::{
     NOTHING, Parts, expect, play_words, refusals_of_growth, remove, sample_with, words_of,
 };
-use hd_play::{DBD_SOURCE, play};
+use hd_play::DBD_SOURCE;
 use hd_sample::put;
 use std::fs;
 use std::test::Fail;

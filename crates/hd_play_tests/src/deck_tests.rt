@@ -1,5 +1,5 @@
 use crate::testing::{expect, play_words, remove, sample_with};
-use hd_play::{COMMAND_LINE, DBD_SOURCE, PSB_SOURCE, play};
+use hd_play::{COMMAND_LINE, DBD_SOURCE, PSB_SOURCE, Silent, play};
 use hd_sample::{RECORDS, stream_of};
 use std::fs::{self, File, OpenOptions};
 use std::process::Abort;
@@ -40,7 +40,7 @@ fn expect_lines<R: Files<File = File> + AllocGlobal + Abort>(rt: &R, deck: &[u8]
     let mut input = deck;
     let mut out = Vec::new(rt.alloc());
     let mut err = Vec::new(rt.alloc());
-    let status = play(rt, &[], false, &mut input, &mut out, &mut err);
+    let status = play(rt, &[], false, &Silent, &mut input, &mut out, &mut err);
     assert_eq!(rt; out.as_slice(), lines);
     assert_eq!(rt; err.len(), 0);
     assert_eq!(rt; status, 0);

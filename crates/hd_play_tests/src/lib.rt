@@ -10,6 +10,8 @@ mod deck_tests;
 #[cfg(test)]
 mod play_tests;
 #[cfg(test)]
+mod progress_tests;
+#[cfg(test)]
 mod reload_tests;
 #[cfg(test)]
 mod rows_tests;

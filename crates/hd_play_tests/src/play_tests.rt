@@ -2,7 +2,7 @@ use crate::testing::{Played, expect, play_words, refusals_of_growth};
 use hd_dbd::{DbdFault, PsbFault, Refused};
 use hd_deck::DeckFault;
 use hd_gen::GenFault;
-use hd_play::{COMMAND_LINE, DBD_SOURCE, Named, PSB_SOURCE, Stop, play};
+use hd_play::{COMMAND_LINE, DBD_SOURCE, Named, PSB_SOURCE, Silent, Stop, play};
 use std::alloc::AllocError;
 use std::io::{self, ErrorKind, Read, Write};
 use std::process::Abort;
@@ -12,7 +12,7 @@ fn play_deck(rt: &HostRuntime, deck: &[u8]) -> Played {
     let mut input = deck;
     let mut out = Vec::new(rt.alloc());
     let mut err = Vec::new(rt.alloc());
-    let status = play(rt, &[], false, &mut input, &mut out, &mut err);
+    let status = play(rt, &[], false, &Silent, &mut input, &mut out, &mut err);
     Played { status, out, err }
 }
 
@@ -63,7 +63,7 @@ fn answers_words_with_the_text_of_clap(rt: HostRuntime) {
         let mut input: &[u8] = b"L     GN";
         let mut out = Vec::new(rt.alloc());
         let mut err = Vec::new(rt.alloc());
-        let status = play(&rt, &words, false, &mut input, &mut out, &mut err);
+        let status = play(&rt, &words, false, &Silent, &mut input, &mut out, &mut err);
         assert_eq!(rt; status, COMMAND_LINE, "at {word}");
         assert_eq!(rt; out.len(), 0);
         assert!(rt; err.len() > 0);
@@ -164,7 +164,7 @@ fn reads_on_after_an_interruption(rt: HostRuntime) {
     let mut input = faulty(b"L     GN\n", false);
     let mut out = Vec::new(rt.alloc());
     let mut err = Vec::new(rt.alloc());
-    let status = play(&rt, &[], false, &mut input, &mut out, &mut err);
+    let status = play(&rt, &[], false, &Silent, &mut input, &mut out, &mut err);
     assert_eq!(rt; status, 0);
     assert_eq!(rt;
         out.as_slice(),
@@ -177,7 +177,7 @@ fn tells_of_a_failed_read(rt: HostRuntime) {
     let mut input = faulty(b"L     GN\n", true);
     let mut out = Vec::new(rt.alloc());
     let mut err = Vec::new(rt.alloc());
-    let status = play(&rt, &[], false, &mut input, &mut out, &mut err);
+    let status = play(&rt, &[], false, &Silent, &mut input, &mut out, &mut err);
     assert_eq!(rt; status, 3);
     assert_eq!(rt; err.as_slice(), b"device failed\n".as_slice());
     assert_eq!(rt; out.len(), 0);
@@ -189,7 +189,7 @@ fn tells_of_a_failed_write(rt: HostRuntime) {
         let mut input = deck;
         let mut out = faulty(b"", true);
         let mut err = Vec::new(rt.alloc());
-        let status = play(&rt, &[], false, &mut input, &mut out, &mut err);
+        let status = play(&rt, &[], false, &Silent, &mut input, &mut out, &mut err);
         assert_eq!(rt; status, 3);
         assert_eq!(rt; err.as_slice(), b"device failed\n".as_slice());
     }

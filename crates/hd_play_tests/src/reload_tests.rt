@@ -1,5 +1,5 @@
 use crate::testing::{expect, play_words, refusals_of_growth, remove, sample_with, words_of};
-use hd_play::{COMMAND_LINE, DBD_SOURCE, PSB_SOURCE, play};
+use hd_play::{COMMAND_LINE, DBD_SOURCE, PSB_SOURCE};
 use hd_sample::{RECORDS, stream_of};
 use std::fs::{self, File, Permissions};
 use std::os::unix::fs::PermissionsExt;

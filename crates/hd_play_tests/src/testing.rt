@@ -1,4 +1,4 @@
-use hd_play::play;
+use hd_play::{Silent, play};
 use hd_sample::{image, put};
 use std::alloc::{AllocError, Global};
 use std::fs::File;
@@ -34,7 +34,7 @@ pub fn play_words<R: Files<File = File> + AllocGlobal>(
     let mut input: &[u8] = b"";
     let mut out = Vec::new(rt.alloc());
     let mut err = Vec::new(rt.alloc());
-    let status = play(rt, &given, false, &mut input, &mut out, &mut err);
+    let status = play(rt, &given, false, &Silent, &mut input, &mut out, &mut err);
     Ok(Played { status, out, err })
 }
 
@@ -153,7 +153,7 @@ pub fn refusals_of_growth<R: Files<File = File> + AllocGlobal + Abort>(
         let mut input = deck;
         let mut out = Page::blank();
         let mut err = Page::blank();
-        if play(rt, words, false, &mut input, &mut out, &mut err) == 0 {
+        if play(rt, words, false, &Silent, &mut input, &mut out, &mut err) == 0 {
             assert_eq!(rt; out.text(), text);
             return refused;
         }

@@ -1,5 +1,5 @@
 -- What is given of the rows on a path.
-use Rattle.std.specs.Prelude.{◌≡◌, IsTrue, ℕ, ◌+◌, ◌≤◌, List, [], ◌∷◌, ◌++◌, length, Bool, ◌==◌, cond, flat_map}
+use Rattle.std.specs.Prelude.{◌≡◌, IsTrue, ℕ, ◌+◌, ◌≤◌, List, [], ◌∷◌, ◌++◌, length, take, Bool, ◌==◌, cond, flat_map}
 use Rattle.std.specs.List.{list_any}
 use Rattle.hd_dbd.specs.Types.{SegmentType, View}
 use Rattle.hd_dbd.specs.declared.answer.Status.{Status}
@@ -17,7 +17,9 @@ use Rattle.hd_image.specs.Records.{links_of}
 use Rattle.hd_calls.specs.Gets.{bytes_of}
 use Rattle.hd_forest.specs.Rows.{IsOnRow}
 use Rattle.hd_position.specs.Kept.{AreRowsOn, Ascend}
+use Rattle.hd_session.specs.declared.request.Answer.{Answer}
 use Rattle.hd_session.specs.Buffer.{Buffer, KEY_ROOM}
+use Rattle.hd_session.specs.Replies.{reply_of}
 
 -- ---- the answer
 
@@ -70,3 +72,12 @@ with_path types m levels room path = record {
   area = bytes_at m.bytes levels 1 path;
   room = room;
 }
+
+-- beside the keys of the rows on a path, and the bytes of those at whatever levels, the answer gives the last row
+abbrev pub IsAnswerOf : Database → VolumeState → List ℕ → Status → Answer → Type 0
+IsAnswerOf d v path status answer =
+    (levels : List ℕ) (b : Buffer) → (IsTrue v.is_sound → b ≡ with_path d.types (links_of d.types v) levels b.room path) → IsGiven d v path levels status (reply_of answer b)
+
+-- where the store is sound, the buffer has the keys of so many rows on a path, and the bytes of those at the levels
+abbrev pub HasAdded : Database → VolumeState → List ℕ → List ℕ → ℕ → Buffer → Type 0
+HasAdded d v path levels n b = IsTrue v.is_sound → b ≡ with_path d.types (links_of d.types v) levels b.room (take n path)

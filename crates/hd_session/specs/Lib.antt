@@ -1,6 +1,7 @@
 pub mod Buffer
 pub mod Replies
 pub mod Giving
+pub mod Above
 pub mod Sessions
 pub mod Loads
 pub mod Inserts

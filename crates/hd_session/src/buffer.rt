@@ -7,7 +7,7 @@ use std::alloc::{AllocError, Global};
 use std::marker::Model;
 
 /// The bytes of a key of 255 bytes on each of 15 levels, and of one more.
-const KEY_ROOM: usize = 4080;
+pub(crate) const KEY_ROOM: usize = 4080;
 
 /// The bytes of an answer: the concatenated key and the area. Their room is made before the first call.
 #[derive(Debug, Drop)]

@@ -13,9 +13,11 @@ ghost use Rattle.hd_update.specs.States.{HasState, IsAreaWrong, kept_of};
 ghost use Rattle.hd_dbd.specs.Calls.{bare};
 ghost use Rattle.hd_session.specs.Replies.{reply_of};
 ghost use Rattle.hd_session.specs.Giving.{IsEmpty};
+ghost use Rattle.hd_session.specs.Above.{AreKeysOf};
 ghost use Rattle.hd_session.specs.Inserts.{AreArgumentsOf};
 ghost use Rattle.hd_session.specs.Sessions.{IsStepDone, IsUndoneUnlessDevice, IsRoomLacking, own_in, call_in};
 
+use crate::above::KeysAbove;
 use crate::buffer::IoArea;
 use crate::getting::answer_get;
 use crate::giving::give_none;
@@ -81,7 +83,7 @@ fn answer_insert<S: BlockStore>(
     answer_load(volume, dbd, positions, number, ssas[0].code(), area, io)
 }
 
-/// What a call that passed its tests answers.
+/// What a call that passed its tests answers. An update forgets the rows above that are known.
 fn answer_accepted<S: BlockStore>(
     volume: &mut Volume<S>,
     dbd: &Dbd,
@@ -90,6 +92,7 @@ fn answer_accepted<S: BlockStore>(
     number: usize,
     call: &Call,
     accepted: &Accepted<'_>,
+    above: &mut KeysAbove,
     io: &mut IoArea,
 ) -> Result<Answer, Refused>
     requires number { (0 < number) × (number ≤ length positions.old) }
@@ -98,10 +101,12 @@ fn answer_accepted<S: BlockStore>(
     requires state { HasState dbd.now volume.old positions.old }
     requires loader { loads pcb.now ≡ true → HasPassedAll dbd.now volume.old positions.old number }
     requires resolved { resolve (record { types = dbd.now.types; pcb = pcb.now }) accepted.now.function call.now.ssas ≡ Ok accepted.now.ssas }
+    requires known { AreKeysOf dbd.now volume.old above.old }
     requires held { accepted.now.function ≡ Function.Replace → IsTrue volume.old.is_sound → 0 < length (kept_of positions.old number).held }
     requires room { longest_path dbd.now.types ≤ io.old.room }
     requires empty { IsEmpty io.old }
     ensures call { IsCall volume.old result volume.new }
+    ensures known { IfOk result (λ _. AreKeysOf dbd.now volume.new above.new) }
     ensures done { IfOk result (λ a. IsStepDone dbd.now volume.old positions.old number (own_in dbd.now pcb.now number call.now.area accepted.now) (reply_of a io.new) volume.new positions.new) }
     ensures undone { IfErr result (λ e. IsUndoneUnlessDevice volume.old positions.old e volume.new positions.new) }
     ensures area { IfErr result (λ e. IsAreaWrong dbd.now volume.old positions.old (own_in dbd.now pcb.now number call.now.area accepted.now) e) }
@@ -121,13 +126,20 @@ fn answer_accepted<S: BlockStore>(
                 hold,
                 ssas,
             };
-            answer_get(volume, dbd, positions, number, &call, io)
+            answer_get(volume, dbd, positions, number, &call, above, io)
         }
         Function::Insert => {
+            above.forget();
             answer_insert(volume, dbd, pcb, positions, number, ssas, &call.area, io)
         }
-        Function::Replace => answer_repl(volume, dbd, positions, number, ssas, &call.area, io),
-        Function::Delete => answer_dlet(volume, dbd, positions, number, ssas, io),
+        Function::Replace => {
+            above.forget();
+            answer_repl(volume, dbd, positions, number, ssas, &call.area, io)
+        }
+        Function::Delete => {
+            above.forget();
+            answer_dlet(volume, dbd, positions, number, ssas, io)
+        }
     }
 }
 
@@ -140,6 +152,7 @@ pub fn call_step<S: BlockStore>(
     positions: &mut [Position],
     number: usize,
     call: &Call,
+    above: &mut KeysAbove,
     io: &mut IoArea,
 ) -> Result<Answer, Refused>
     requires number { (0 < number) × (number ≤ length positions.old) }
@@ -147,8 +160,10 @@ pub fn call_step<S: BlockStore>(
     requires sizes { volume.old.sizes ≡ stored_sizes dbd.now.types }
     requires state { HasState dbd.now volume.old positions.old }
     requires loader { loads pcb.now ≡ true → HasPassedAll dbd.now volume.old positions.old number }
+    requires known { AreKeysOf dbd.now volume.old above.old }
     requires room { longest_path dbd.now.types ≤ io.old.room }
     ensures call { IsCall volume.old result volume.new }
+    ensures known { IfOk result (λ _. AreKeysOf dbd.now volume.new above.new) }
     ensures done { IfOk result (λ a. IsStepDone dbd.now volume.old positions.old number (call_in dbd.now pcb.now number call.now) (reply_of a io.new) volume.new positions.new) }
     ensures undone { IfErr result (λ e. IsUndoneUnlessDevice volume.old positions.old e volume.new positions.new) }
     ensures area { IfErr result (λ e. IsAreaWrong dbd.now volume.old positions.old (call_in dbd.now pcb.now number call.now) e) }
@@ -170,6 +185,8 @@ pub fn call_step<S: BlockStore>(
         &call.ssas,
     )? {
         Err(status) => Ok(fail(positions, number, status, io)),
-        Ok(accepted) => answer_accepted(volume, dbd, pcb, positions, number, call, &accepted, io),
+        Ok(accepted) => answer_accepted(
+            volume, dbd, pcb, positions, number, call, &accepted, above, io,
+        ),
     }
 }

@@ -7,29 +7,34 @@ ghost use Rattle.hd_get.specs.Gets.{HasPosition};
 ghost use Rattle.hd_update.specs.States.{HasState};
 ghost use Rattle.hd_session.specs.Replies.{reply_of};
 ghost use Rattle.hd_session.specs.Giving.{IsEmpty};
+ghost use Rattle.hd_session.specs.Above.{AreKeysOf};
 ghost use Rattle.hd_session.specs.Sessions.{IsGetAnswered, IsStepDone, get_in};
 
+use crate::above::KeysAbove;
 use crate::buffer::IoArea;
-use crate::giving::{give, give_none};
+use crate::giving::{give_known, give_none};
 use crate::request::Answer;
 use hd_dbd::{Dbd, Refused};
 use hd_get::{Get, Outcome, get, taken};
 use hd_position::Position;
 use hd_volume::{BlockStore, Volume};
 
-/// A get of a PCB with its answer, into an empty I/O area.
+/// A get of a PCB with its answer, into an empty I/O area, where rows above may be known.
 fn get_at<S: BlockStore>(
     volume: &mut Volume<S>,
     dbd: &Dbd,
     call: &Get<'_>,
     position: &mut Position,
+    above: &mut KeysAbove,
     io: &mut IoArea,
 ) -> Result<Answer, Refused>
     requires descend { Descend dbd.now.types None call.now.ssas }
     requires there { HasPosition dbd.now volume.old position.old }
+    requires known { AreKeysOf dbd.now volume.old above.old }
     requires room { longest_path dbd.now.types ≤ io.old.room }
     requires empty { IsEmpty io.old }
     ensures read { IsRead volume.old result volume.new }
+    ensures known { IfOk result (λ _. AreKeysOf dbd.now volume.new above.new) }
     ensures value { IfOk result (λ a. IsGetAnswered dbd.now volume.old call.now position.old (reply_of a io.new) position.new) }
     ensures empty { IfErr result (λ _. IsEmpty io.new) }
     ensures same_room { io.new.room ≡ io.old.room }
@@ -38,7 +43,7 @@ fn get_at<S: BlockStore>(
     match get(volume, dbd, call, position)? {
         Outcome::Found(status) => {
             let levels = taken(dbd, call.ssas, position.path());
-            give(volume, dbd, position.path(), &levels, status, io)
+            give_known(volume, dbd, position.path(), &levels, status, above, io)
         }
         Outcome::Missing(status) => Ok(give_none(status, io)),
     }
@@ -51,19 +56,22 @@ pub fn answer_get<S: BlockStore>(
     positions: &mut [Position],
     number: usize,
     call: &Get<'_>,
+    above: &mut KeysAbove,
     io: &mut IoArea,
 ) -> Result<Answer, Refused>
     requires number { (0 < number) × (number ≤ length positions.old) }
     requires state { HasState dbd.now volume.old positions.old }
     requires descend { Descend dbd.now.types None call.now.ssas }
+    requires known { AreKeysOf dbd.now volume.old above.old }
     requires room { longest_path dbd.now.types ≤ io.old.room }
     requires empty { IsEmpty io.old }
     ensures read { IsRead volume.old result volume.new }
+    ensures known { IfOk result (λ _. AreKeysOf dbd.now volume.new above.new) }
     ensures done { IfOk result (λ a. IsStepDone dbd.now volume.old positions.old number (get_in dbd.now number call.now) (reply_of a io.new) volume.new positions.new) }
     ensures empty { IfErr result (λ _. IsEmpty io.new) }
     ensures same_room { io.new.room ≡ io.old.room }
     ensures many { length positions.new ≡ length positions.old }
     ensures refusal { OnlyDevice result }
 {
-    get_at(volume, dbd, call, &mut positions[number - 1], io)
+    get_at(volume, dbd, call, &mut positions[number - 1], above, io)
 }

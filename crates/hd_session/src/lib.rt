@@ -1,6 +1,7 @@
 //! Sessions: the calls of the PCBs of one program over a volume, with their answers.
 #![tactic(auto)]
 
+mod above;
 mod buffer;
 mod calling;
 mod getting;

@@ -10,6 +10,7 @@ ghost use Rattle.hd_session.specs.Giving.{IsEmpty};
 ghost use Rattle.hd_session.specs.Sessions.{IsUndoneUnlessDevice};
 ghost use Rattle.hd_session.specs.Logged.{IsCallLogged};
 
+use crate::above::KeysAbove;
 use crate::buffer::IoArea;
 use crate::calling::call_step;
 use crate::opening::{OpenFault, start_positions, test_volume};
@@ -30,18 +31,20 @@ pub struct Session<'a, S: BlockStore> {
     dbd: &'a Dbd,
     psb: &'a Psb,
     positions: Vec<Position>,
+    above: KeysAbove,
     broken: bool,
     alloc: Global,
 }
 
 impl<'a, S: BlockStore> Model for Session<'a, S> {
+    ghost use Rattle.hd_session.specs.Above.{AreKeysOf};
     ghost use Rattle.hd_session.specs.Opening.{SessionState, IsSession};
 
     ghost Value = { SessionState };
 
     ghost view = { λ s. record { database = s.dbd.now; pcbs = s.psb.now.pcbs; volume = s.volume; kept = s.positions.items; broken = s.broken } };
 
-    ghost invariant = { λ s. IsSession s.psb.now.made_for (record { database = s.dbd.now; pcbs = s.psb.now.pcbs; volume = s.volume; kept = s.positions.items; broken = s.broken }) };
+    ghost invariant = { λ s. IsSession s.psb.now.made_for (record { database = s.dbd.now; pcbs = s.psb.now.pcbs; volume = s.volume; kept = s.positions.items; broken = s.broken }) × AreKeysOf s.dbd.now s.volume s.above };
 }
 
 impl<'a, S: BlockStore> Session<'a, S> {
@@ -70,6 +73,7 @@ impl<'a, S: BlockStore> Session<'a, S> {
                 dbd,
                 psb,
                 positions,
+                above: KeysAbove::new(alloc),
                 broken: false,
                 alloc,
             }),
@@ -117,9 +121,11 @@ impl<'a, S: BlockStore> Session<'a, S> {
             &mut self.positions,
             number,
             call,
+            &mut self.above,
             io,
         );
         if let Err(refused) = &answered {
+            self.above.forget();
             self.broken = *refused == Refused::Device;
         }
         answered
@@ -142,6 +148,7 @@ impl<'a, S: BlockStore> Session<'a, S> {
         match self.volume.flush() {
             Ok(()) => Ok(()),
             Err(refused) => {
+                self.above.forget();
                 self.broken = true;
                 Err(refused)
             }

@@ -10,6 +10,10 @@ mod deck_tests;
 #[cfg(test)]
 mod giving_tests;
 #[cfg(test)]
+mod growth_tests;
+#[cfg(test)]
+mod listed_calls;
+#[cfg(test)]
 mod opening_tests;
 #[cfg(test)]
 mod playing_tests;

@@ -7,6 +7,7 @@ mod cells;
 mod damage;
 mod database;
 mod markup;
+mod seen;
 mod survey;
 mod surveying;
 mod svg;
@@ -16,6 +17,7 @@ mod twins;
 mod volume;
 
 pub use database::draw_database;
+pub use seen::{Seen, see_segment};
 pub use survey::{BlockUse, Kind, Survey, Tally, TypeBytes, TypeUse};
 pub use surveying::survey_volume;
 pub use svg::draw_svg;

@@ -157,7 +157,7 @@ fn a_deletion_goes_through_its_span_a_few_times(rt: HostRuntime) -> Result<(), F
 }
 
 #[test]
-fn a_walk_reads_its_paths_and_an_update_little(rt: HostRuntime) -> Result<(), Fail> {
+fn a_walk_reads_each_block_once_and_an_update_little(rt: HostRuntime) -> Result<(), Fail> {
     let alloc = rt.alloc();
     let dbd = database(alloc, Rule::Here).expect(&rt, "a database");
     let psb = program_of(alloc, &dbd, "A").expect(&rt, "a program");
@@ -168,8 +168,8 @@ fn a_walk_reads_its_paths_and_an_update_little(rt: HostRuntime) -> Result<(), Fa
     let image = store.into_bytes();
     let walk = more(alloc, &dbd, &psb, &image, b"", b"L5002 GN\n").expect(&rt, "a run");
     assert!(rt; walk >= 700, "{walk}");
-    // Each call reads the segments on its path.
-    assert!(rt; walk <= 3 * 5002, "{walk}");
+    // The keys of the rows above are known from call to call, so that each block is read about once.
+    assert!(rt; walk <= 750, "{walk}");
     let updates =
         b"L     GHU  COURSE  (NUM     EQ101)\nC          CLASS   (ED      EQ01)\nC          STUD    *-\nL     REPL\nDADAM99\nL     GHU  COURSE  (NUM     EQ101)\nC          CLASS   (ED      EQ01)\nC          STUD    *-\nL     DLET\n";
     let cost = more(alloc, &dbd, &psb, &image, b"", updates).expect(&rt, "a run");

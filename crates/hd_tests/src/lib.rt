@@ -10,6 +10,10 @@ mod asking;
 #[cfg(test)]
 mod calls;
 #[cfg(test)]
+mod changed;
+#[cfg(test)]
+mod changed_tests;
+#[cfg(test)]
 mod changing;
 #[cfg(test)]
 mod contents;

@@ -133,7 +133,7 @@ enum Stopped {
     Differs(String),
 }
 
-/// Plays random calls. Where the session is full, the list mostly goes on without that call.
+/// Plays so many random calls. Where the session is full, the list mostly goes on without that call.
 fn play(
     alloc: Global,
     random: &mut Random,
@@ -143,10 +143,11 @@ fn play(
     model: &mut Model,
     deck: &mut Deck,
     to_load: &[Row],
+    calls: usize,
 ) -> Result<Stopped, AllocError>
     requires pcbs { session.old.pcbs ≡ psb.now.pcbs }
 {
-    for number in 0..CALLS {
+    for number in 0..calls {
         let (pcb, call) = random_call(alloc, random, dbd, psb, model, to_load, number)?;
         if pcb == 0 || usize::from(pcb) > psb.pcbs().len() {
             return Err(AllocError);
@@ -256,9 +257,23 @@ fn run_over(
     let Some((store, _)) = store_of(alloc, dbd, &rows, largest)? else {
         return String::from_str(alloc, "the rows are not reloaded");
     };
+    let begun = store.into_bytes();
+    run_from(alloc, random, dbd, psb, begun, rows, to_load, CALLS)
+}
+
+/// A list of so many random calls over a volume that holds these rows.
+pub fn run_from(
+    alloc: Global,
+    random: &mut Random,
+    dbd: &Dbd,
+    psb: &Psb,
+    begun: Vec<u8>,
+    rows: Vec<Row>,
+    to_load: &[Row],
+    calls: usize,
+) -> Result<String, AllocError> {
     let mut model = Model::new(alloc, rows, psb.pcbs().len())?;
     let mut deck = Deck::new(alloc);
-    let begun = store.into_bytes();
     let store = MemStore::new(dbd.block_size() as usize, begun.to_vec(alloc)?);
     let Ok(volume) = Volume::load(alloc, store, dbd) else {
         return Err(AllocError);
@@ -278,6 +293,7 @@ fn run_over(
         &mut model,
         &mut deck,
         to_load,
+        calls,
     )?;
     let (store, closed) = session.close();
     if closed.is_err() {

@@ -2,7 +2,7 @@ ghost use Rattle.std.specs.Prelude.{◌≡◌, IfSome};
 
 use hd_check::*;
 use hd_dbd::Dbd;
-use hd_sample::{database, image, put};
+use hd_sample::{WAYS, changed, database, image, put};
 use hd_volume::{FuseStore, MemStore, Volume};
 use std::alloc::Global;
 use std::test::Fail;
@@ -414,32 +414,14 @@ fn each_access_that_fails_is_told(rt: HostRuntime) -> Result<(), Fail> {
     Ok(())
 }
 
-/// Other values of a byte: the least, the greatest, its neighbours, and each bit the other way.
-fn others(byte: u8) -> [u8; 12] {
-    [
-        0,
-        0xff,
-        byte.wrapping_add(1),
-        byte.wrapping_sub(1),
-        byte ^ 0x01,
-        byte ^ 0x02,
-        byte ^ 0x04,
-        byte ^ 0x08,
-        byte ^ 0x10,
-        byte ^ 0x20,
-        byte ^ 0x40,
-        byte ^ 0x80,
-    ]
-}
-
 #[test]
 fn returns_for_each_change_of_a_byte(rt: HostRuntime) -> Result<(), Fail> {
     let alloc = rt.alloc();
     let dbd = database(alloc).expect(&rt, "a database");
     let whole = image();
     for place in 0..512 {
-        for byte in others(whole[place]) {
-            match edited(alloc, &dbd, &[(place, byte)]) {
+        for way in 0..WAYS {
+            match edited(alloc, &dbd, &[(place, changed(whole[place], way))]) {
                 Some(Ok(passed)) => assert_eq!(rt; passed.blocks, 4),
                 Some(Err(CheckFault::Fault(_))) => {}
                 _ => assert!(rt; false, "another answer at {place}"),

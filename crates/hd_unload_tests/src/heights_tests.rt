@@ -1,32 +1,14 @@
 //! Volumes whose index has several levels, or several blocks in version 1: each with a byte changed, and a long one reloaded.
 
-use crate::bytes::{byte_at, set_byte};
 use crate::judged::{Judged, comes_again, judge, reloaded};
 use crate::old_images::make_old;
-use crate::roots::{root_database, root_stream};
 use hd_cache::Cached;
 use hd_dbd::Dbd;
+use hd_sample::{WAYS, byte_at, changed, root_database, root_stream, set_byte};
 use hd_unload::reload;
 use hd_volume::{FuseStore, MemStore};
 use std::alloc::{AllocError, Global};
 use std::test::Fail;
-
-/// The bits of a byte.
-const BITS: &[u8] = &[1, 2, 4, 8, 16, 32, 64, 128];
-
-/// The ways to change a byte: a bit is another, it is 0 or 255, or one more or less.
-const WAYS: u8 = 12;
-
-/// A byte changed in a way.
-fn changed(byte: u8, way: u8) -> u8 {
-    match (BITS.get(usize::from(way)), way) {
-        (Some(bit), _) => byte ^ *bit,
-        (None, 8) => 0,
-        (None, 9) => 255,
-        (None, 10) => byte.wrapping_add(1),
-        (None, _) => byte.wrapping_sub(1),
-    }
-}
 
 /// How many changes of a volume pass and how many do not; and the first that is judged as it should not be, by its place and way.
 #[derive(Clone, Copy, Debug)]

@@ -2,8 +2,6 @@
 #![tactic(auto)]
 
 #[cfg(test)]
-mod bytes;
-#[cfg(test)]
 mod check_tests;
 #[cfg(test)]
 mod heights_tests;
@@ -13,7 +11,5 @@ mod judged;
 mod linked_tests;
 #[cfg(test)]
 mod old_images;
-#[cfg(test)]
-mod roots;
 #[cfg(test)]
 mod unload_tests;

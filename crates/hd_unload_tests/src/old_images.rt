@@ -1,6 +1,6 @@
 //! Volumes of version 1, made of those of version 2.
 
-use crate::bytes::{byte_at, set_byte};
+use hd_sample::{byte_at, set_byte};
 
 /// The kind of an index block, and of a free one, which stands in byte 2; byte 3 of an index block is its level.
 const INDEX: u8 = 2;

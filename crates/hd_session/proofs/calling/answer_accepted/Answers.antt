@@ -7,6 +7,7 @@ use Rattle.hd_calls.specs.Steps.{AcceptedCall, Effect}
 use Rattle.hd_seek.proofs.Admitting.{resolved_descend}
 use Rattle.hd_update.specs.Inserting.{LacksRoomFor}
 use Rattle.hd_session.specs.Sessions.{own_in}
+use Rattle.hd_session.proofs.KeysKnown.{nothing_known, if_ok_any}
 use Rattle.hd_session.proofs.OwnSteps.{step_as}
 use Rattle.hd_session.proofs.TestedCalls.{own_is}
 use Rattle.hd_session.proofs.calling.answer_accepted.Goals as goal
@@ -74,3 +75,14 @@ returns-in-Delete-clause-done g c = if-ok c.answer_dlet.result c.answer_dlet.ens
     step_as d c.args.volume.now st n _ (own_in d c.args.pcb.now n c.args.call.now.area c.args.accepted.now st) c.answer_dlet.new.volume c.answer_dlet.new.positions
     (own_is d c.args.pcb.now n st c.args.call.now.area c.args.call.now.area Delete c.accepted.inside.function c.ssas-ssas.result.now c.accepted.inside.ssas c.args.accepted.now
     refl c.ssas-ssas.ensures c.in-Delete.is c.accepted.view_is) (done c.args.pcb.now st sound R))
+
+-- ---- what is known behind an update
+
+pub returns-in-Insert-clause-known : goal.returns-in-Insert-clause-known
+returns-in-Insert-clause-known g c = if_ok_any c.answer_insert.result (λ a. nothing_known c.args.dbd.now c.answer_insert.new.volume c.forget.new.self c.forget.ensures)
+
+pub returns-in-Replace-clause-known : goal.returns-in-Replace-clause-known
+returns-in-Replace-clause-known g c = if_ok_any c.answer_repl.result (λ a. nothing_known c.args.dbd.now c.answer_repl.new.volume c.forget-in-Replace.new.self c.forget-in-Replace.ensures)
+
+pub returns-in-Delete-clause-known : goal.returns-in-Delete-clause-known
+returns-in-Delete-clause-known g c = if_ok_any c.answer_dlet.result (λ a. nothing_known c.args.dbd.now c.answer_dlet.new.volume c.forget-in-Delete.new.self c.forget-in-Delete.ensures)

@@ -13,6 +13,7 @@ use Rattle.hd_update.proofs.Answering.{represented}
 use Rattle.hd_update.proofs.Levels.{as_many}
 use Rattle.hd_update.proofs.Standing.{own_position, own_stands}
 use Rattle.hd_session.specs.Sessions.{own_in, call_in}
+use Rattle.hd_session.proofs.KeysKnown.{keys_kept}
 use Rattle.hd_session.proofs.OwnSteps.{step_as}
 use Rattle.hd_session.proofs.TestedCalls.{accepted_ok, replace_held, step_before, lacks_before, own_effect, failed_step}
 use Rattle.hd_session.proofs.calling.call_step.Goals as goal
@@ -117,3 +118,11 @@ returns-in-Ok-clause-full g c = if-err-map c.answer_accepted.result (λ e full s
     = own_effect d c.args.pcb.now n c.args.call.now u old st R c.in-Ok.accepted tested in
     subst (λ (x : Effect). LacksRoomFor d u x) effect (lacks_before d u c.accept.new.volume (own_in d c.args.pcb.now n c.args.call.now.area c.in-Ok.accepted st) same.image
     (full st is same.sound (represented d u c.accept.new.volume old st c.in_ok-status.ensures.read sound R)))) c.answer_accepted.ensures.full
+
+-- ---- what is known
+
+pub answer_accepted-requires-clause-known : goal.answer_accepted-requires-clause-known
+answer_accepted-requires-clause-known g c = keys_kept c.args.dbd.now c.args.volume.now c.accept.new.volume c.in_ok-status.ensures.read c.args.above.now c.requires.known
+
+pub returns-in-Err-clause-known : goal.returns-in-Err-clause-known
+returns-in-Err-clause-known g c = keys_kept c.args.dbd.now c.args.volume.now c.accept.new.volume c.in_ok-status.ensures.read c.args.above.now c.requires.known

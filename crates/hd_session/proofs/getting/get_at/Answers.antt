@@ -10,11 +10,12 @@ use Rattle.hd_forest.proofs.Reading.{after-read, sound-before}
 use Rattle.hd_position.specs.Kept.{Kept}
 use Rattle.hd_get.specs.declared.outcome.Outcome.{Outcome}
 use Rattle.hd_get.specs.Gets.{GetCall, IsOutcomeOf, answer_to, levels_taken}
+use Rattle.hd_session.proofs.KeysKnown.{keys_kept}
 use Rattle.hd_session.proofs.GotRows.{found_row, row_on_path, rows_given, get_reply, missed_reply, given_path}
 use Rattle.hd_session.proofs.getting.get_at.Goals as goal
 
-pub give-requires-clause-of : goal.give-requires-clause-of
-give-requires-clause-of g c now =
+pub give_known-requires-clause-of : goal.give_known-requires-clause-of
+give_known-requires-clause-of g c now =
     let d = c.args.dbd.now in
     let u = c.args.volume.now in
     let mid = c.get.new.volume in
@@ -22,8 +23,8 @@ give-requires-clause-of g c now =
     let T = c.requires.there sound in
     (after-read d u mid c.in_ok-status.ensures.read sound).volume T.2.holds.volume
 
-pub give-requires-clause-there : goal.give-requires-clause-there
-give-requires-clause-there g c now =
+pub give_known-requires-clause-there : goal.give_known-requires-clause-there
+give_known-requires-clause-there g c now =
     let d = c.args.dbd.now in
     let u = c.args.volume.now in
     let mid = c.get.new.volume in
@@ -42,11 +43,17 @@ give-requires-clause-there g c now =
           (subst (λ (m : Links). IsOnRow d.types m T.0 new.path F.0) (sym same.links) (row_on_path d u call old new T.0 T.1 T.2 c.in-Found.status outcome got.1 F.0 F.1)),
     )
 
+pub give_known-requires-clause-known : goal.give_known-requires-clause-known
+give_known-requires-clause-known g c = keys_kept c.args.dbd.now c.args.volume.now c.get.new.volume c.in_ok-status.ensures.read c.args.above.now c.requires.known
+
+pub returns-in-Missing-clause-known : goal.returns-in-Missing-clause-known
+returns-in-Missing-clause-known g c = keys_kept c.args.dbd.now c.args.volume.now c.get.new.volume c.in_ok-status.ensures.read c.args.above.now c.requires.known
+
 pub returns-in-Found-clause-read : goal.returns-in-Found-clause-read
-returns-in-Found-clause-read g c = reads-join c.give.result c.in_ok-status.ensures.read c.give.ensures.read
+returns-in-Found-clause-read g c = reads-join c.give_known.result c.in_ok-status.ensures.read c.give_known.ensures.read
 
 pub returns-in-Found-clause-value : goal.returns-in-Found-clause-value
-returns-in-Found-clause-value g c = if-ok c.give.result c.give.ensures.given (λ a given f q at.
+returns-in-Found-clause-value g c = if-ok c.give_known.result c.give_known.ensures.given (λ a given f q at.
     let d = c.args.dbd.now in
     let u = c.args.volume.now in
     let mid = c.get.new.volume in

@@ -1,47 +1,31 @@
-use Rattle.std.proofs.Common.{◌≡◌, ℕ, List, Ok, Option, ap, sym, subst, ◌∙◌}
-use Rattle.std.specs.Prelude.{option_map}
-use Rattle.hd_dbd.specs.Hierarchy.{type_of}
-use Rattle.hd_dbd.specs.Paths.{row_at, level_at, path_of, keys_of}
-use Rattle.hd_calls.specs.Gets.{bytes_of}
-use Rattle.hd_volume.proofs.CallSteps.{read-ok, reads-join}
-use Rattle.hd_links.specs.Links.{Links, IsSegment}
-use Rattle.hd_links.specs.Steps.{rows_of}
+use Rattle.std.proofs.Common.{◌≡◌, ℕ, List, length, ap, sym, subst, ◌∙◌}
+use Rattle.hd_volume.proofs.CallSteps.{if-ok, reads-join}
 use Rattle.hd_image.specs.Records.{links_of}
-use Rattle.hd_forest.proofs.Reading.{after-read, links-kept, volume-kept}
-use Rattle.hd_get.proofs.Grounds.{grounds, tip_there, tip_code}
-use Rattle.hd_session.specs.Buffer.{Buffer}
-use Rattle.hd_session.proofs.GivenPaths.{given_on, level_on}
+use Rattle.hd_forest.proofs.Reading.{links-kept, volume-kept}
+use Rattle.hd_forest.specs.Rows.{IsOnSomeRow}
+use Rattle.hd_session.specs.Giving.{HasAdded}
+use Rattle.hd_session.proofs.KeysKnown.{none_added, added_all, answer_before}
 use Rattle.hd_session.proofs.giving.give_path.Goals as goal
 
-pub code_at-requires-clause-of : goal.code_at-requires-clause-of
-code_at-requires-clause-of g c = volume-kept c.args.dbd.now c.args.volume.now c.add_path.new.volume c.in_ok-add_path.ensures.read c.requires.of
+pub add_path-requires-clause-before : goal.add_path-requires-clause-before
+add_path-requires-clause-before g c sound = none_added c.args.dbd.now.types (links_of c.args.dbd.now.types c.args.volume.now) c.args.levels.now c.args.path.now c.args.io.now c.requires.empty
 
-pub code_at-requires-clause-there : goal.code_at-requires-clause-there
-code_at-requires-clause-there g c =
-    links-kept c.args.dbd.now (λ m. IsSegment m c.tip_of.result) c.args.volume.now c.add_path.new.volume c.in_ok-add_path.ensures.read (λ sound.
-    let d = c.args.dbd.now in
-    let u = c.args.volume.now in
-    let T = c.requires.there sound in
-    subst (IsSegment (links_of d.types u)) (sym c.tip_of.ensures) (tip_there d.types (links_of d.types u) T.0 (grounds d u T.0 (c.requires.of sound) T.2.holds) c.args.path.now T.1 T.2))
+pub answer_of-requires-clause-of : goal.answer_of-requires-clause-of
+answer_of-requires-clause-of g c = volume-kept c.args.dbd.now c.args.volume.now c.add_path.new.volume c.in_ok-add_path.ensures.read c.requires.of
+
+pub answer_of-requires-clause-there : goal.answer_of-requires-clause-there
+answer_of-requires-clause-there g c = links-kept c.args.dbd.now (λ m. IsOnSomeRow c.args.dbd.now.types m c.args.path.now) c.args.volume.now c.add_path.new.volume c.in_ok-add_path.ensures.read c.requires.there
 
 pub returns-clause-read : goal.returns-clause-read
-returns-clause-read g c = read-ok _ (reads-join (Ok c.in_ok-code.code) c.in_ok-add_path.ensures.read c.in_ok-code.ensures.read)
+returns-clause-read g c = reads-join c.answer_of.result c.in_ok-add_path.ensures.read c.answer_of.ensures.read
 
 pub returns-clause-given : goal.returns-clause-given
-returns-clause-given g c f i taken pcb at =
+returns-clause-given g c = if-ok c.answer_of.result c.answer_of.ensures.given (λ a given.
     let d = c.args.dbd.now in
     let u = c.args.volume.now in
-    let mid = c.add_path.new.volume in
     let path : List ℕ = c.args.path.now in
-    let m : Links = links_of d.types u in
-    let of = c.requires.of at.sound in
-    let same = after-read d u mid c.in_ok-add_path.ensures.read at.sound in
-    let bytes : c.add_path.new.io ≡ record { key = keys_of d.types (rows_of f) (path_of d.types (rows_of f) i); area = bytes_of (rows_of f) taken; room = c.args.io.now.room }
-    = c.in_ok-add_path.ensures.added at.sound ∙ given_on d u f path i of at.row c.args.levels.now taken c.args.io.now.room at.rows at.ascend in
-    let code : c.in_ok-code.code ≡ (row_at (rows_of f) i).code
-    = c.in_ok-code.ensures.value same.sound ∙ ap (λ (x : Links). x.code c.tip_of.result) same.links ∙ ap m.code c.tip_of.ensures ∙ tip_code d.types m f (grounds d u f of at.row.holds) path i at.row in
-    let level : c.level.result ≡ level_at d.types (rows_of f) i = c.level.ensures.value ∙ level_on d u f path i of at.row in
-    let name : c.name_of.result ≡ option_map (λ t. t.name) (type_of d.types (row_at (rows_of f) i).code) = c.name_of.ensures ∙ ap (λ (k : ℕ). option_map (λ t. t.name) (type_of d.types k)) code in
-    ap (λ (b : Buffer). record { status = c.args.status; level = c.level.result; segment = c.name_of.result; key = b.key; area = b.area }) bytes
-    ∙ ap (λ (l : ℕ). record { status = c.args.status; level = l; segment = c.name_of.result; key = keys_of d.types (rows_of f) (path_of d.types (rows_of f) i); area = bytes_of (rows_of f) taken }) level
-    ∙ ap (λ (n : Option (List ℕ)). record { status = c.args.status; level = level_at d.types (rows_of f) i; segment = n; key = keys_of d.types (rows_of f) (path_of d.types (rows_of f) i); area = bytes_of (rows_of f) taken }) name
+    let levels : List ℕ = c.args.levels.now in
+    let io = c.add_path.new.io in
+    let rows : length c.addresses.result.now ≡ length path = ap length c.addresses.ensures.value in
+    let has : HasAdded d u path levels (length path) io = subst (λ n. HasAdded d u path levels n io) rows c.in_ok-add_path.ensures.added in
+    answer_before d u c.add_path.new.volume c.in_ok-add_path.ensures.read path c.args.status a given levels io (added_all d u path levels io has))

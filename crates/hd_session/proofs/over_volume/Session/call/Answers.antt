@@ -1,6 +1,6 @@
 use Rattle.std.proofs.Common.{◌≡◌, ◌≢◌, ℕ, ◌-◌, ◌≤◌, List, length, Some, refl, sym, ap, ◌∙◌, subst}
 use Rattle.std.proofs.lemmas.Bool.{false≢true}
-use Rattle.std.specs.Prelude.{Result, IfErr, slice_index_or}
+use Rattle.std.specs.Prelude.{Result, IfOk, IfErr, slice_index_or}
 use Rattle.hd_dbd.specs.Types.{View}
 use Rattle.hd_dbd.specs.declared.answer.Refused.{Refused}
 use Rattle.hd_dbd.specs.declared.answer.Refused.TheVariants.{Device}
@@ -9,6 +9,8 @@ use Rattle.hd_position.specs.Kept.{Kept}
 use Rattle.hd_update.specs.Loading.{HasPassedAll}
 use Rattle.hd_session.specs.declared.request.Answer.{Answer}
 use Rattle.hd_session.specs.Opening.{SessionState, StandsForState}
+use Rattle.hd_session.specs.Above.{AreKeysOf}
+use Rattle.hd_session.proofs.KeysKnown.{nothing_known}
 use Rattle.hd_session.proofs.SessionCalls.{IsStepOf, its_view, kept_is, loader_past, call_logged, stands_behind}
 use Rattle.hd_session.proofs.over_volume.Session.call.Goals as goal
 
@@ -22,7 +24,7 @@ call_step-answered-requires-clause-loader g c loader =
     let within : n ≤ length pcbs = subst (λ (s : SessionState). n ≤ length s.pcbs) (sym c.self.view_is) c.requires.pcb.1 in
     let is : view_of pcbs n ≡ Some pcb = its_view pcbs n pcb c.requires.pcb.0 within (c.index-pcbs-number.is ∙ ap (λ (ps : List View). slice_index_or ps (n - 1) pcb) c.pcbs-pcbs.ensures.pcbs) in
     subst (λ (ks : List Kept). HasPassedAll d c.self.inside.volume ks n) (sym c.deref_mut.ensures.value)
-    (loader_past d c.self.inside.volume pcbs old n pcb is (c.self.invariant.stands c.if-self.false) loader)
+    (loader_past d c.self.inside.volume pcbs old n pcb is (c.self.invariant.0.stands c.if-self.false) loader)
 
 -- where a refusal is no failed access, the session stands for a state
 pub invariant_of-self : goal.invariant_of-self
@@ -43,18 +45,20 @@ invariant_of-self g c =
     = subst (λ (ks : List Kept). IsStepOf d pcb n c.args.call.now c.self.inside.volume ks r io w new) c.deref_mut.ensures.value
     (record { done = e.done; undone = e.undone; area = e.area; full = e.full; refusal = e.refusal; sound = e.call.sound; size = e.call.size; sizes = e.call.sizes }) in
     let same = kept_is c.self.inside.positions.len new old (e.many ∙ c.deref_mut.ensures.len) c.self.inside.positions.ok.0 in
-    let kept = c.self.invariant in
-    record {
-      made_for = kept.made_for;
-      program = kept.program;
-      size = e.call.size ∙ kept.size;
-      sizes = e.call.sizes ∙ kept.sizes;
-      one_each = ap (λ (ks : List Kept). length ks) same ∙ e.many ∙ ap (λ (ks : List Kept). length ks) c.deref_mut.ensures.value ∙ kept.one_each;
-      stands = λ whole now.
-          subst (λ (ks : List Kept). StandsForState d w pcbs ks) (sym same)
-          (stands_behind d pcbs pcb n c.args.call.now c.self.inside.volume old io w new is c.self.inside.psb.now.made_for r kept.program kept.one_each S
-          (subst (λ (x : Result Answer Refused). IfErr x (λ y. y ≢ Device)) (sym c.in-Err.is) (λ device. false≢true (sym whole ∙ (c.eq-self-inside.ensures ∙ rw device refl)))) now (kept.stands c.if-self.false));
-    }
+    let kept = c.self.invariant.0 in (
+      record {
+        made_for = kept.made_for;
+        program = kept.program;
+        size = e.call.size ∙ kept.size;
+        sizes = e.call.sizes ∙ kept.sizes;
+        one_each = ap (λ (ks : List Kept). length ks) same ∙ e.many ∙ ap (λ (ks : List Kept). length ks) c.deref_mut.ensures.value ∙ kept.one_each;
+        stands = λ whole now.
+            subst (λ (ks : List Kept). StandsForState d w pcbs ks) (sym same)
+            (stands_behind d pcbs pcb n c.args.call.now c.self.inside.volume old io w new is c.self.inside.psb.now.made_for r kept.program kept.one_each S
+            (subst (λ (x : Result Answer Refused). IfErr x (λ y. y ≢ Device)) (sym c.in-Err.is) (λ device. false≢true (sym whole ∙ (c.eq-self-inside.ensures ∙ rw device refl)))) now (kept.stands c.if-self.false));
+      },
+      nothing_known d w c.forget.new.self c.forget.ensures,
+    )
 
 pub invariant_of-self-in_default : goal.invariant_of-self-in_default
 invariant_of-self-in_default g c =
@@ -74,18 +78,20 @@ invariant_of-self-in_default g c =
     = subst (λ (ks : List Kept). IsStepOf d pcb n c.args.call.now c.self.inside.volume ks r io w new) c.deref_mut.ensures.value
     (record { done = e.done; undone = e.undone; area = e.area; full = e.full; refusal = e.refusal; sound = e.call.sound; size = e.call.size; sizes = e.call.sizes }) in
     let same = kept_is c.self.inside.positions.len new old (e.many ∙ c.deref_mut.ensures.len) c.self.inside.positions.ok.0 in
-    let kept = c.self.invariant in
-    record {
-      made_for = kept.made_for;
-      program = kept.program;
-      size = e.call.size ∙ kept.size;
-      sizes = e.call.sizes ∙ kept.sizes;
-      one_each = ap (λ (ks : List Kept). length ks) same ∙ e.many ∙ ap (λ (ks : List Kept). length ks) c.deref_mut.ensures.value ∙ kept.one_each;
-      stands = λ whole now.
-          subst (λ (ks : List Kept). StandsForState d w pcbs ks) (sym same)
-          (stands_behind d pcbs pcb n c.args.call.now c.self.inside.volume old io w new is c.self.inside.psb.now.made_for r kept.program kept.one_each S
-          (subst (λ (x : Result Answer Refused). IfErr x (λ y. y ≢ Device)) (sym c.in_default.is) tt) now (kept.stands c.if-self.false));
-    }
+    let kept = c.self.invariant.0 in (
+      record {
+        made_for = kept.made_for;
+        program = kept.program;
+        size = e.call.size ∙ kept.size;
+        sizes = e.call.sizes ∙ kept.sizes;
+        one_each = ap (λ (ks : List Kept). length ks) same ∙ e.many ∙ ap (λ (ks : List Kept). length ks) c.deref_mut.ensures.value ∙ kept.one_each;
+        stands = λ whole now.
+            subst (λ (ks : List Kept). StandsForState d w pcbs ks) (sym same)
+            (stands_behind d pcbs pcb n c.args.call.now c.self.inside.volume old io w new is c.self.inside.psb.now.made_for r kept.program kept.one_each S
+            (subst (λ (x : Result Answer Refused). IfErr x (λ y. y ≢ Device)) (sym c.in_default.is) tt) now (kept.stands c.if-self.false));
+      },
+      subst (λ (x : Result Answer Refused). IfOk x (λ _. AreKeysOf d w c.call_step-answered.new.above)) c.in_default.is e.known,
+    )
 
 pub returns-in-Err-clause-logged : goal.returns-in-Err-clause-logged
 returns-in-Err-clause-logged g c =

@@ -1,0 +1,205 @@
+/// A command that stands behind the program's name.
+#[derive(Clone, Copy)]
+pub struct Verb {
+    pub name: &'static str,
+    /// What the command does, as the help says it.
+    pub about: &'static str,
+    /// The words that may follow it, in the order of the help.
+    pub words: &'static [Word],
+}
+
+/// A word that may follow a command.
+#[derive(Clone, Copy)]
+pub struct Word {
+    pub name: &'static str,
+    /// What the word is, as the help says it.
+    pub help: &'static str,
+    pub kind: Kind,
+}
+
+/// How a word is given, and which ones there are.
+#[derive(Clone, Copy)]
+pub enum Kind {
+    /// Any word in its place, always.
+    Needed,
+    /// Any word in its place, or none.
+    Optional,
+    /// A number of blocks in its place, always.
+    Blocks,
+    /// Any word behind an option, under the name that the help has for it; perhaps only beside the word that is named last.
+    Behind(&'static str, &'static str, Option<&'static str>),
+    /// A number of blocks behind an option, under the name that the help has for it.
+    BlocksBehind(&'static str, &'static str),
+    /// An option that stands alone.
+    Flag(&'static str),
+}
+
+/// The least number of blocks that a word may say.
+pub const LEAST_BLOCKS: i64 = 1;
+
+/// The greatest number of blocks that a word may say.
+pub const MOST_BLOCKS: i64 = 65_536;
+
+/// The file with the DBD source that every command over a database reads.
+const DBD: Word = Word {
+    name: "DBD",
+    help: "The file with the DBD source",
+    kind: Kind::Needed,
+};
+
+/// The file with the source of a program's PCBs.
+const PSB: Word = Word {
+    name: "PSB",
+    help: "The file with the PSB source",
+    kind: Kind::Needed,
+};
+
+/// A volume over which calls are made.
+const CHANGED_VOLUME: Word = Word {
+    name: "VOLUME",
+    help: "The volume, which is changed in place",
+    kind: Kind::Needed,
+};
+
+/// A volume that a command reads.
+const VOLUME: Word = Word {
+    name: "VOLUME",
+    help: "The volume, which is not changed",
+    kind: Kind::Needed,
+};
+
+/// How many blocks of a volume are kept in memory.
+const CACHE: Word = Word {
+    name: "CACHE",
+    help: "The blocks of the volume that are kept in memory, 1 to 65536; if it is not given 64, and 4 megabytes of them for deck and serve",
+    kind: Kind::BlocksBehind("cache", "BLOCKS"),
+};
+
+/// The commands, in the order of the help.
+pub const VERBS: &[Verb] = &[
+    Verb {
+        name: "deck",
+        about: "Plays a deck of DL/I calls over a volume, which it checks first",
+        words: &[
+            DBD,
+            PSB,
+            CHANGED_VOLUME,
+            Word {
+                name: "DECK",
+                help: "The file with the calls",
+                kind: Kind::Needed,
+            },
+            CACHE,
+        ],
+    },
+    Verb {
+        name: "serve",
+        about: "Serves a program's DL/I calls over a volume, which it checks first: they come as frames on standard input",
+        words: &[DBD, PSB, CHANGED_VOLUME, CACHE],
+    },
+    Verb {
+        name: "check",
+        about: "Says whether a volume is sound, or names its first fault",
+        words: &[DBD, VOLUME, CACHE],
+    },
+    Verb {
+        name: "unload",
+        about: "Checks a volume, and writes its unload stream",
+        words: &[
+            DBD,
+            VOLUME,
+            Word {
+                name: "OUT",
+                help: "The unload stream, made where there is none; it is cut to nothing and written when the volume has passed",
+                kind: Kind::Needed,
+            },
+            CACHE,
+        ],
+    },
+    Verb {
+        name: "reload",
+        about: "Makes a volume of an unload stream",
+        words: &[
+            DBD,
+            Word {
+                name: "IN",
+                help: "The unload stream",
+                kind: Kind::Needed,
+            },
+            Word {
+                name: "VOLUME",
+                help: "The volume, made or cut to nothing first, even where the stream is refused",
+                kind: Kind::Needed,
+            },
+            Word {
+                name: "BLOCKS",
+                help: "The most blocks that the volume may have, 1 to 65536",
+                kind: Kind::Blocks,
+            },
+            CACHE,
+        ],
+    },
+    Verb {
+        name: "show",
+        about: "Draws the hierarchy that a DBD describes; or a volume, which it checks",
+        words: &[
+            DBD,
+            Word {
+                name: "VOLUME",
+                help: "The volume, which is not changed",
+                kind: Kind::Optional,
+            },
+            Word {
+                name: "FILE",
+                help: "Draw the volume as a picture in SVG, into this file",
+                kind: Kind::Behind("svg", "FILE", Some("VOLUME")),
+            },
+            CACHE,
+        ],
+    },
+    Verb {
+        name: "rows",
+        about: "Checks a volume, and writes its segments in hierarchic sequence, a line each",
+        words: &[
+            DBD,
+            VOLUME,
+            Word {
+                name: "TYPE",
+                help: "Write the segments of this type alone, as CSV, with the keys of their parents",
+                kind: Kind::Behind("csv", "TYPE", None),
+            },
+            CACHE,
+        ],
+    },
+    Verb {
+        name: "stream",
+        about: "Makes an unload stream, which hd reload takes, of a text of rows as hd rows writes it",
+        words: &[
+            DBD,
+            Word {
+                name: "IN",
+                help: "The text of rows; twins may stand in any order",
+                kind: Kind::Needed,
+            },
+            Word {
+                name: "OUT",
+                help: "The unload stream, made where there is none; it is cut to nothing and written when the text is read",
+                kind: Kind::Needed,
+            },
+            Word {
+                name: "TABLES",
+                help: "IN is a folder with a table for each type, as hd rows --csv writes it, in TYPE.csv",
+                kind: Kind::Flag("csv"),
+            },
+        ],
+    },
+    Verb {
+        name: "explain",
+        about: "Says what a fault, status or refusal means; without a word it lists them all",
+        words: &[Word {
+            name: "WORD",
+            help: "The number of a fault of a volume, or a code, status or refusal, such as 14, M4, GE or Full",
+            kind: Kind::Optional,
+        }],
+    },
+];

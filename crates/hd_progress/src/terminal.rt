@@ -1,0 +1,124 @@
+use crate::progress::Progress;
+use std::alloc::{AllocError, Global};
+use std::cell::Cell;
+use std::io::Write;
+use std::time::{Clock, Instant};
+
+/// The milliseconds of a command in which nothing is shown.
+const FIRST: u64 = 1000;
+
+/// The milliseconds from one line to the next.
+const EVERY: u64 = 250;
+
+/// What takes a line away: a carriage return, and the sequence that clears what is behind it.
+const CLEAR: &[u8] = b"\r\x1b[K";
+
+/// A terminal on which a line says how far a command is. The line stays one line, which is written over, at most four times a
+/// second and not in the first second, and is taken away at the end.
+#[derive(Drop)]
+pub struct Terminal<'c, C: Clock, T: Write + Copy + Drop> {
+    alloc: Global,
+    clock: &'c C,
+    screen: T,
+    start: Option<Instant>,
+    has_output: bool,
+    due: Cell<u64>,
+    is_shown: Cell<bool>,
+}
+
+impl<'c, C: Clock, T: Write + Copy + Drop> Terminal<'c, C, T> {
+    /// A screen for a command that begins now. Nothing is written to one that is no terminal. It may have standard output too: then
+    /// no line is shown from the first that is written there on.
+    pub fn new(
+        alloc: Global,
+        clock: &'c C,
+        screen: T,
+        is_terminal: bool,
+        has_output: bool,
+    ) -> Terminal<'c, C, T> {
+        let start = if is_terminal {
+            Instant::now(clock).ok()
+        } else {
+            None
+        };
+        Terminal {
+            alloc,
+            clock,
+            screen,
+            start,
+            has_output,
+            due: Cell::new(FIRST),
+            is_shown: Cell::new(false),
+        }
+    }
+
+    /// The milliseconds since the command began; none where nothing is shown.
+    fn time(&self) -> Option<u64> {
+        let start = self.start?;
+        let elapsed = start.elapsed(self.clock).ok()?;
+        u64::try_from(elapsed.as_millis()).ok()
+    }
+
+    /// The time has come for a line.
+    fn is_due(&self) -> bool {
+        let Some(now) = self.time() else {
+            return false;
+        };
+        if now < self.due.get() {
+            return false;
+        }
+        self.due.set(now.saturating_add(EVERY));
+        true
+    }
+}
+
+impl<'c, C: Clock, T: Write + Copy + Drop> Progress for Terminal<'c, C, T> {
+    fn tell(&self, doing: &str, accesses: u64, blocks: u64) {
+        if !self.is_due() {
+            return;
+        }
+        if let Ok(line) = line_of(self.alloc, doing, accesses, blocks) {
+            let mut screen = self.screen;
+            self.is_shown.set(true);
+            let _ = screen.write_all(line.as_bytes());
+        }
+    }
+
+    fn end(&self) {
+        self.due.set(u64::MAX);
+        if self.is_shown.get() {
+            let mut screen = self.screen;
+            self.is_shown.set(false);
+            let _ = screen.write_all(CLEAR);
+        }
+    }
+
+    fn end_before_output(&self) {
+        if self.has_output {
+            self.end();
+        }
+    }
+}
+
+/// The line that says how far a command is, which is written over the one before.
+fn line_of(alloc: Global, doing: &str, accesses: u64, blocks: u64) -> Result<String, AllocError> {
+    let accesses = grouped(alloc, accesses)?;
+    let blocks = grouped(alloc, blocks)?;
+    format!(in alloc; "\r{doing}: {accesses} accesses to {blocks} blocks\x1b[K")
+}
+
+/// A number with commas between its thousands.
+fn grouped(alloc: Global, number: u64) -> Result<String, AllocError> {
+    let (millions, thousands, ones) = (number / 1_000_000, number / 1000 % 1000, number % 1000);
+    if millions >= 1000 {
+        let (billions, millions) = (millions / 1000, millions % 1000);
+        return format!(in alloc; "{billions},{millions:03},{thousands:03},{ones:03}");
+    }
+    if millions > 0 {
+        return format!(in alloc; "{millions},{thousands:03},{ones:03}");
+    }
+    if thousands > 0 {
+        return format!(in alloc; "{thousands},{ones:03}");
+    }
+    format!(in alloc; "{ones}")
+}

@@ -1,0 +1,89 @@
+ghost use Rattle.std.specs.Prelude.{◌≡◌, ◌≤◌, length};
+ghost use Rattle.hd_session.specs.Above.{above_nothing, is_begun_by, AreNoted};
+ghost use Rattle.hd_session.specs.Buffer.{KEY_ROOM};
+
+use crate::buffer::KEY_ROOM;
+use hd_forest::Path;
+use std::alloc::Global;
+use std::marker::Model;
+
+/// The rows above the one that was given last, and their keys: where the next answer is of a row below them, they need not be read again.
+///
+/// Room for the keys is made at once; where there was none, no rows are ever noted.
+#[derive(Debug, Drop)]
+pub struct KeysAbove {
+    path: Path,
+    keys: Vec<u8>,
+}
+
+impl Model for KeysAbove {
+    ghost use Rattle.std.specs.Prelude.{◌≤◌, length};
+    ghost use Rattle.hd_session.specs.Above.{Above};
+    ghost use Rattle.hd_session.specs.Buffer.{KEY_ROOM};
+
+    ghost Value = { Above };
+
+    ghost view = { λ k. record { path = k.path; keys = k.keys.items } };
+
+    ghost invariant = { λ k. length k.keys.items ≤ KEY_ROOM };
+}
+
+impl KeysAbove {
+    /// No row is known.
+    pub fn new(alloc: Global) -> KeysAbove
+        ensures { result ≡ above_nothing }
+    {
+        let keys = match Vec::with_capacity(alloc, KEY_ROOM) {
+            Ok(keys) => keys,
+            Err(_) => Vec::new(alloc),
+        };
+        KeysAbove {
+            path: Path::new(),
+            keys,
+        }
+    }
+
+    /// The keys, root first.
+    pub fn keys(&self) -> &[u8]
+        ensures value { result.now ≡ self.now.keys }
+        ensures short { length result.now ≤ KEY_ROOM }
+    {
+        &self.keys
+    }
+
+    /// The level of the last of the rows, 0 for no row.
+    pub fn level(&self) -> u8
+        ensures { result ≡ length self.now.path }
+    {
+        self.path.level()
+    }
+
+    /// Whether a path begins with the rows, and goes on below them.
+    pub fn begin(&self, path: &Path) -> bool
+        ensures { result ≡ is_begun_by path.now self.now }
+    {
+        self.path.level() < path.level() && path.addresses().starts_with(self.path.addresses())
+    }
+
+    /// Forgets what is known.
+    pub fn forget(&mut self)
+        ensures { self.new ≡ above_nothing }
+    {
+        self.path.clear();
+        self.keys.clear();
+    }
+
+    /// Notes the rows above the last of a path, and their keys, where there is room. No memory is taken.
+    pub fn note(&mut self, path: &Path, keys: &[u8])
+        ensures { AreNoted path.now keys.now self.new }
+    {
+        self.forget();
+        if keys.len() > KEY_ROOM || keys.len() > self.keys.capacity() {
+            return;
+        }
+        if self.keys.extend_from_slice(keys).is_ok() {
+            self.path = path.copy();
+            self.path.up();
+        }
+    }
+}

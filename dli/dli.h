@@ -1,0 +1,94 @@
+/* What the files of the calling side share: the server, the database that it told of, and a call. */
+#ifndef DLI_H
+#define DLI_H
+
+#include <stddef.h>
+#include <stdint.h>
+
+/* The longest frame that either side sends, and the most SSAs and types that a call has. */
+enum { MOST_FRAME = 1 << 20, MOST_SSAS = 15, MOST_LEVELS = 15, MOST_PCBS = 255 };
+
+/* server.c: `hd serve` on two pipes. */
+
+/* Ends the program as an abend does: says why, has the server close the volume, and exits with 16. */
+_Noreturn void abend(const char *format, ...) __attribute__((format(printf, 1, 2)));
+
+/* Starts the server over its words, of which the last is NULL, and gives its first frame; the program's exit status where it ended before that. */
+int server_start(char *const words[], unsigned char **hello, size_t *length);
+
+/* Sends a frame: room for its length, and then so many bytes. */
+void server_send(unsigned char *frame, size_t length);
+
+/* The next frame from the server, which stands until the next one is asked for. */
+const unsigned char *server_receive(size_t *length);
+
+/* Closes the server's input, waits for its end, and gives its exit status; 0 where there is none. */
+int server_end(void);
+
+/* The number in some bytes, the greatest first. */
+uint32_t number_in(const unsigned char *bytes, int count);
+
+/* database.c: segment types, and PCB masks as IMS lays them out. */
+
+struct field {
+    char name[8];
+    unsigned length;
+};
+
+struct type {
+    char name[8];
+    unsigned level, is_variable, most, fields;
+    struct field *field;
+};
+
+/* A PCB mask: what the program reads after each call. Its numbers are as COBOL has them, or as the machine has. */
+struct mask {
+    char database[8], level[2], status[2], procopt[4];
+    uint32_t reserved;
+    char segment[8];
+    uint32_t key_length, sensitive;
+    char key[];
+};
+
+/* A PCB: its mask, the longest key, and the types of the segments that a get with hold gave last. */
+struct pcb {
+    struct mask *mask;
+    unsigned longest_key;
+    int is_big_endian;
+    int held;
+    const struct type *held_types[MOST_LEVELS];
+};
+
+/* Takes the first frame of the server apart. */
+void database_read(const unsigned char *hello, size_t length);
+int database_pcbs(void);
+
+/* The mask of a PCB, from 1, with its numbers the greatest byte first, or in the machine's order. */
+struct mask *database_mask(int number, int is_big_endian);
+
+/* The PCB whose mask this is, or NULL; and its number, from 1. */
+struct pcb *pcb_of(const void *mask);
+int pcb_number(const struct pcb *pcb);
+void mask_number(const struct pcb *pcb, uint32_t *place, uint32_t number);
+
+/* The type of a name of eight letters, or NULL. */
+const struct type *type_named(const char *name);
+const struct field *field_named(const struct type *type, const char *name);
+
+/* The I/O PCB of a batch program, whose calls are answered here. */
+void *io_pcb(void);
+
+/* trace.c: calls as a deck, and answers as the lines of `hd deck`, into files; NULL for none. */
+struct text {
+    const char *bytes;
+    size_t length;
+};
+
+void trace_into(const char *deck_path, const char *answers_path);
+void trace_call(int pcb, const char *function, int count, const struct text *ssas, const unsigned char *area, size_t length);
+void trace_answer(const unsigned char *answer, size_t length);
+
+/* call.c: a call of a program. at[0] is the function, at[1] the PCB, at[2] the I/O area, and then come SSAs. */
+void dli_call(int count, void **at);
+
+#endif

@@ -1,0 +1,212 @@
+"""DL/I for Python over hd.
+
+    import hd
+
+    with hd.open("parts.dbd", "parts.psb", "parts.volume") as session:
+        pcb = session.pcb(1)
+        for part in pcb.segments("PART"):
+            print(part.key.decode(), part.area)
+        pcb.ghu(hd.ssa("PART", PARTNO="CG2040"), hd.ssa("STOCK", WHOUSE="HAM"))
+        pcb.repl("HAM000027")
+
+A call answers an Answer: its status (two letters, "  " where all is well), level, segment, key and area. Statuses are no exceptions, for programs
+decide by them; Refused is raised where the database can't answer at all, and Ended where `hd serve` has ended. The volume is written when the
+session is closed, which `with` does.
+"""
+import os
+import struct
+import subprocess
+from collections import namedtuple
+
+__all__ = ["open", "ssa", "Session", "Pcb", "Answer", "Field", "SegmentType", "Refused", "Ended"]
+
+Answer = namedtuple("Answer", "status level segment key area")
+Answer.__doc__ = "What a call answers: status, level, segment's name, concatenated key, and the bytes of its I/O area."
+
+Field = namedtuple("Field", "name length")
+SegmentType = namedtuple("SegmentType", "name level length fields")
+
+BLANK = "  "
+
+_OUTCOMES = {
+    1: "the volume is full, and nothing was inserted",
+    2: "the area has another length than its segments",
+    3: "no memory for the call, and nothing was changed",
+    4: "an access of the volume failed",
+    5: "the volume can't be used since an access failed",
+}
+
+
+class Refused(Exception):
+    """The database could not answer a call: the volume is full, an access of it failed, or the area has a wrong length."""
+
+
+class Ended(Exception):
+    """`hd serve` has ended: it said why on standard error."""
+
+
+def _bytes(text):
+    return text.encode("latin-1") if isinstance(text, str) else bytes(text)
+
+
+def _name(text):
+    """A name with its padding."""
+    padded = _bytes(text).ljust(8)
+    if len(padded) > 8:
+        raise ValueError(f"a name of more than eight letters: {text}")
+    return padded
+
+
+def ssa(segment, codes="", **fields):
+    """A segment search argument: a segment, its command codes, and fields that are to be equal to values.
+
+    ssa("PART") is any part, ssa("PART", "D", PARTNO="CG2040") is part CG2040 with its bytes in the area. An argument of another form is written by
+    hand: b"PART    (PARTNO  >=CG2040&COLOUR  = steel   )".
+    """
+    text = _name(segment)
+    if codes:
+        text += b"*" + _bytes(codes)
+    if not fields:
+        return text + b" "
+    return text + b"(" + b"&".join(_name(field) + b"EQ" + _bytes(value) for field, value in fields.items()) + b")"
+
+
+class Session:
+    """A program's view of a database, while `hd serve` has its volume open."""
+
+    def __init__(self, dbd, psb, volume, program=None):
+        words = [program or os.environ.get("HD", "hd"), "serve", dbd, psb, volume]
+        self._server = subprocess.Popen([os.fspath(word) for word in words], stdin=subprocess.PIPE, stdout=subprocess.PIPE, bufsize=-1)
+        self._read_hello(self._receive())
+
+    def _read_exact(self, count):
+        found = self._server.stdout.read(count)
+        if len(found) < count:
+            raise Ended(f"hd serve ended with status {self._server.wait()}")
+        return found
+
+    def _receive(self):
+        (length,) = struct.unpack(">I", self._read_exact(4))
+        return self._read_exact(length)
+
+    def _send(self, body):
+        try:
+            self._server.stdin.write(struct.pack(">I", len(body)) + body)
+            self._server.stdin.flush()
+        except BrokenPipeError:
+            raise Ended(f"hd serve ended with status {self._server.wait()}") from None
+
+    def _read_hello(self, hello):
+        if hello[:2] != b"HD" or hello[2:4] != b"\0\1":
+            raise Ended("hd serve is of another version than hd.py")
+        pcbs, types = hello[4], hello[5]
+        at = 6
+        self.types = []
+        for _ in range(types):
+            name, level, _, most, _, count = struct.unpack_from(">8sBBHHB", hello, at)
+            at += 15
+            fields = []
+            for _ in range(count):
+                field, length = struct.unpack_from(">8sH", hello, at)
+                fields.append(Field(field.decode().rstrip(), length))
+                at += 10
+            self.types.append(SegmentType(name.decode().rstrip(), level, most, fields))
+        self.pcbs = []
+        for number in range(1, pcbs + 1):
+            database, procopt, sensitive, longest = struct.unpack_from(">8s4sHH", hello, at)
+            self.pcbs.append(Pcb(self, number, database.decode().rstrip(), procopt.decode().rstrip()))
+            at += 16
+
+    def pcb(self, number):
+        """A PCB of the program, from 1, in the order of the PSB."""
+        return self.pcbs[number - 1]
+
+    def call(self, function, pcb, *ssas, area=b""):
+        """A call by its function, with the number of its PCB."""
+        body = bytes([1, pcb]) + _bytes(function).ljust(4) + bytes([len(ssas)])
+        for argument in map(_bytes, ssas):
+            body += struct.pack(">H", len(argument)) + argument
+        self._send(body + _bytes(area))
+        answer = self._receive()
+        if answer[0]:
+            raise Refused(_OUTCOMES.get(answer[0], f"outcome {answer[0]}"))
+        status, level, segment, length = struct.unpack_from(">2sB8sH", answer, 1)
+        return Answer(status.decode(), level, segment.decode().rstrip(), answer[14 : 14 + length], answer[14 + length :])
+
+    def close(self):
+        """Has the server write the volume, and waits for its end."""
+        if self._server.stdin.closed:
+            return
+        try:
+            self._server.stdin.close()
+        except BrokenPipeError:
+            pass
+        self._server.stdout.close()
+        if self._server.wait():
+            raise Ended(f"hd serve ended with status {self._server.returncode}")
+
+    def __enter__(self):
+        return self
+
+    def __exit__(self, *_):
+        self.close()
+
+
+class Pcb:
+    """A program communication block: a position in a database, with the calls that a program makes by it."""
+
+    def __init__(self, session, number, database, procopt):
+        self.session, self.number, self.database, self.procopt = session, number, database, procopt
+
+    def gu(self, *ssas):
+        """Get unique: the first segment that satisfies the arguments."""
+        return self.session.call("GU", self.number, *ssas)
+
+    def gn(self, *ssas):
+        """Get next: the first behind the position."""
+        return self.session.call("GN", self.number, *ssas)
+
+    def gnp(self, *ssas):
+        """Get next within parent."""
+        return self.session.call("GNP", self.number, *ssas)
+
+    def ghu(self, *ssas):
+        """Get hold unique: as gu, and what is given may be replaced or deleted by the next call."""
+        return self.session.call("GHU", self.number, *ssas)
+
+    def ghn(self, *ssas):
+        """Get hold next."""
+        return self.session.call("GHN", self.number, *ssas)
+
+    def ghnp(self, *ssas):
+        """Get hold next within parent."""
+        return self.session.call("GHNP", self.number, *ssas)
+
+    def isrt(self, *ssas, area):
+        """Insert the segments of an area."""
+        return self.session.call("ISRT", self.number, *ssas, area=area)
+
+    def repl(self, area, *ssas):
+        """Replace what is held by the segments of an area."""
+        return self.session.call("REPL", self.number, *ssas, area=area)
+
+    def dlet(self, *ssas):
+        """Delete what is held, with its dependents."""
+        return self.session.call("DLET", self.number, *ssas)
+
+    def segments(self, *ssas):
+        """The segments behind the position that satisfy the arguments, one after the other."""
+        return iter(lambda: self._next(self.gn, ssas), None)
+
+    def dependents(self, *ssas):
+        """The segments behind the position that satisfy the arguments, below the one that the last gu or gn gave."""
+        return iter(lambda: self._next(self.gnp, ssas), None)
+
+    def _next(self, get, ssas):
+        answer = get(*(argument if isinstance(argument, bytes) else ssa(argument) for argument in ssas))
+        return answer if answer.level else None
+
+
+def open(dbd, psb, volume, program=None):
+    """A session over a volume, by the files of its DBD and of the program's PSB."""
+    return Session(dbd, psb, volume, program)

@@ -1,0 +1,246 @@
+/* hdrun DLI,PROGRAM,PSB: runs a batch program over a volume, as the region controller DFSRRC00 does. */
+#define _GNU_SOURCE
+#include "dli.h"
+#include "include/ims.h"
+
+#include <ctype.h>
+#include <dlfcn.h>
+#include <stdio.h>
+#include <stdlib.h>
+#include <string.h>
+#include <unistd.h>
+
+static const char USAGE[] =
+    "Runs a batch program over a volume of hd.\n"
+    "\n"
+    "Usage: hdrun [OPTIONS] DLI,PROGRAM[,PSB]\n"
+    "\n"
+    "PROGRAM is PROGRAM.so in the folder HD_PGMLIB (else this folder), made by `cobc -m` or `gcc -shared`. The PSB has the program's\n"
+    "name unless it is given: PSB.psb in the folder HD_PSBLIB; the DBD that it names, NAME.dbd in the folder HD_DBDLIB; and the volume, the\n"
+    "file that the environment has as DD_ and the name of the DBD's data set.\n"
+    "\n"
+    "Options:\n"
+    "  --dbd FILE     the DBD's source\n"
+    "  --psb FILE     the PSB's source\n"
+    "  --volume FILE  the volume\n"
+    "  --deck FILE    writes the calls as a deck, which hd deck plays\n"
+    "  --answers FILE writes what is answered, in the lines that hd deck prints\n"
+    "  --native       numbers in PCB masks are in the machine's order, as with cobc -fbinary-byteorder=native\n"
+    "\n"
+    "HD names the program hd where it is not found by that name. The status is the program's; 16 is that of a run that was ended.\n";
+
+/* A file's text, of which a source statement's operands are read. */
+static char *text_of(const char *path)
+{
+    FILE *file = fopen(path, "r");
+    if (!file) {
+        perror(path);
+        exit(16);
+    }
+    char *text = calloc(1, MOST_FRAME + 1);
+    if (!text || (!fread(text, 1, MOST_FRAME, file) && ferror(file))) {
+        perror(path);
+        exit(16);
+    }
+    fclose(file);
+    return text;
+}
+
+/* The word behind an operand's name and '=', at most eight letters; empty where the source has none. */
+static void operand(const char *source, const char *name, char word[9])
+{
+    const char *at = strstr(source, name);
+    size_t length = 0;
+
+    if (at)
+        for (at += strlen(name); length < 8 && (isalnum((unsigned char)at[length]) || strchr("@#$", at[length])); length++)
+            if (!at[length])
+                break;
+    memcpy(word, at ? at : "", length);
+    word[length] = 0;
+}
+
+/* A member of a library: NAME.EXTENSION in the folder that a variable names, or the same in small letters. */
+static char *member(const char *variable, const char *name, const char *extension)
+{
+    static char path[2][4096];
+    const char *folder = getenv(variable) ? getenv(variable) : ".";
+    char small[9] = "";
+
+    for (size_t place = 0; place < 8 && name[place]; place++)
+        small[place] = (char)tolower((unsigned char)name[place]);
+    snprintf(path[0], sizeof path[0], "%s/%s.%s", folder, name, extension);
+    snprintf(path[1], sizeof path[1], "%s/%s.%s", folder, small, extension);
+    return strdup(access(path[0], F_OK) && !access(path[1], F_OK) ? path[1] : path[0]);
+}
+
+struct run {
+    const char *program, *psb_name;
+    char *dbd, *psb, *volume, *deck, *answers;
+    int is_native, has_io_pcb;
+};
+
+static void usage(const char *why)
+{
+    fprintf(stderr, "hdrun: %s\n\n%s", why, USAGE);
+    exit(64);
+}
+
+/* DLI,PROGRAM,PSB taken apart. */
+static void read_region(char *region, struct run *run)
+{
+    char *kind = strsep(&region, ","), *program = strsep(&region, ","), *psb = strsep(&region, ",");
+
+    if (strcmp(kind, "DLI") && strcmp(kind, "DBB"))
+        usage("the region is DLI or DBB: no other kind is run");
+    if (!program || !*program || strlen(program) > 8)
+        usage("the program has a name of one to eight letters");
+    run->program = program;
+    run->psb_name = psb && *psb ? psb : program;
+}
+
+/* Where the file behind an option is kept, or NULL where the word is no such option. */
+static char **file_option(const char *word, struct run *run)
+{
+    const struct {
+        const char *word;
+        char **file;
+    } options[] = {{"--dbd", &run->dbd}, {"--psb", &run->psb}, {"--volume", &run->volume}, {"--deck", &run->deck}, {"--answers", &run->answers}};
+
+    for (size_t place = 0; place < sizeof options / sizeof *options; place++)
+        if (!strcmp(options[place].word, word))
+            return options[place].file;
+    return NULL;
+}
+
+static void read_words(int count, char **words, struct run *run)
+{
+    char *region = NULL;
+
+    for (int place = 1; place < count; place++) {
+        char **into = file_option(words[place], run);
+        if (!strcmp(words[place], "--help")) {
+            fputs(USAGE, stdout);
+            exit(0);
+        } else if (!strcmp(words[place], "--native")) {
+            run->is_native = 1;
+        } else if (into && place + 1 < count) {
+            *into = words[++place];
+        } else if (into || words[place][0] == '-' || region) {
+            usage("a word that is none of these");
+        } else {
+            region = words[place];
+        }
+    }
+    if (!region)
+        usage("no program is named");
+    read_region(region, run);
+}
+
+/* The files that the words leave open: by the PSB's name the DBD's, and by that the volume's. */
+static void find_files(struct run *run)
+{
+    char name[9], variable[12];
+
+    if (!run->psb)
+        run->psb = member("HD_PSBLIB", run->psb_name, "psb");
+    char *source = text_of(run->psb);
+    run->has_io_pcb = strstr(source, "CMPAT=YES") != NULL;
+    operand(source, "DBDNAME=", name);
+    if (!run->dbd)
+        run->dbd = member("HD_DBDLIB", name, "dbd");
+    free(source);
+    if (run->volume)
+        return;
+    source = text_of(run->dbd);
+    operand(source, "DD1=", name);
+    free(source);
+    snprintf(variable, sizeof variable, "DD_%s", name);
+    run->volume = getenv(variable);
+    if (!run->volume) {
+        fprintf(stderr, "hdrun: no volume: %s=FILE says which, or --volume FILE\n", variable);
+        exit(16);
+    }
+}
+
+static void start_server(const struct run *run)
+{
+    char *hd = getenv("HD") ? getenv("HD") : "hd";
+    char *words[] = {hd, "serve", run->dbd, run->psb, run->volume, NULL};
+    unsigned char *hello;
+    size_t length;
+    int status = server_start(words, &hello, &length);
+
+    if (status)
+        exit(status);
+    database_read(hello, length);
+}
+
+/* The end of a program, by its return or by STOP RUN: the server writes what it has, and says whether it could. */
+static void at_end(void)
+{
+    int status = server_end();
+
+    if (status) {
+        fprintf(stderr, "hdrun: hd serve ended with status %d\n", status);
+        fflush(NULL);
+        _exit(16);
+    }
+}
+
+/* The program's PCBs in the order of the PSB, behind the I/O PCB where there is one. */
+static int list_pcbs(const struct run *run, int is_big_endian)
+{
+    int first = run->has_io_pcb, count = database_pcbs();
+
+    for (int number = count; number > 0; number--)
+        __pcblist[number - 1 + first] = database_mask(number, is_big_endian);
+    if (first)
+        __pcblist[0] = io_pcb();
+    return count + first;
+}
+
+static int run_cobol(const struct run *run, const char *entry)
+{
+    void (*begin)(int, char **) = (void (*)(int, char **))dlsym(RTLD_DEFAULT, "cob_init");
+    int (*call)(const char *, int, void **) = (int (*)(const char *, int, void **))dlsym(RTLD_DEFAULT, "cob_call");
+    int count = list_pcbs(run, !run->is_native);
+
+    if (!begin || !call)
+        abend("%s is a COBOL program without GnuCOBOL's library", run->program);
+    begin(0, NULL);
+    return call(entry, count, __pcblist);
+}
+
+static int run_program(const struct run *run)
+{
+    const char *folder = getenv("HD_PGMLIB") ? getenv("HD_PGMLIB") : ".";
+    char path[4096];
+
+    snprintf(path, sizeof path, "%s/%s.so", folder, run->program);
+    void *library = dlopen(path, RTLD_NOW | RTLD_GLOBAL);
+    if (!library)
+        abend("%s", dlerror());
+    if (dlsym(library, "DLITCBL"))
+        return run_cobol(run, "DLITCBL");
+    if (dlsym(library, run->program))
+        return run_cobol(run, run->program);
+    int (*begin)(int, char **) = (int (*)(int, char **))dlsym(library, "main");
+    if (!begin)
+        abend("%s has no entry DLITCBL, %s or main", path, run->program);
+    char *words[] = {path, NULL};
+    list_pcbs(run, 0);
+    return begin(1, words);
+}
+
+int main(int count, char **words)
+{
+    struct run run = {0};
+
+    read_words(count, words, &run);
+    find_files(&run);
+    trace_into(run.deck, run.answers);
+    start_server(&run);
+    atexit(at_end);
+    return run_program(&run);
+}

@@ -1,0 +1,176 @@
+#!/usr/bin/env python3
+"""Compiles the sample programs and runs them over a volume, one after the other; compares what they print, and the volume that they leave.
+
+    dli/test.py FOLDER      FOLDER has hdrun, as `make dli` leaves it in bin; hd is looked for there too
+
+Every program's calls are played once more as a deck over the volume that it began with, and answer the same. Then programs that die, servers that
+are killed and two programs at once are tried. It wants gcc, cobc and python3, and installs nothing.
+"""
+import os
+import shutil
+import signal
+import subprocess
+import sys
+import tempfile
+import time
+
+HERE = os.path.dirname(os.path.abspath(__file__))
+SAMPLES = os.path.join(HERE, "samples")
+PARTS = os.path.join(os.path.dirname(HERE), "examples", "parts")
+
+tried = failed = 0
+
+
+def expect(what, is_right, told=""):
+    """Counts a test, and tells of one that fails."""
+    global tried, failed
+    tried += 1
+    if not is_right:
+        failed += 1
+        print(f"FAILED {what}\n{told}")
+
+
+def text(name):
+    with open(os.path.join(SAMPLES, "expected", name), encoding="ascii") as file:
+        return file.read()
+
+
+class Place:
+    """A folder with the programs, a DBD, PSBs and a volume."""
+
+    def __init__(self, folder, programs):
+        self.folder = folder
+        self.environment = dict(
+            os.environ,
+            PATH=programs + ":" + os.environ["PATH"],
+            HD_PSBLIB=SAMPLES,
+            HD_DBDLIB=PARTS,
+            HD_PGMLIB=folder,
+            DD_PARTSDD="parts.volume",
+            DD_PARTSIN=os.path.join(SAMPLES, "parts.in"),
+            DD_MOVES=os.path.join(SAMPLES, "moves.in"),
+            PYTHONPATH=HERE,
+        )
+
+    def run(self, *words, **more):
+        return subprocess.run(words, cwd=self.folder, env={**self.environment, **more}, stdout=subprocess.PIPE, stderr=subprocess.STDOUT, stdin=subprocess.DEVNULL, timeout=120, encoding="latin-1")
+
+    def start(self, *words, **more):
+        return subprocess.Popen(words, cwd=self.folder, env={**self.environment, **more}, stdout=subprocess.PIPE, stderr=subprocess.STDOUT, stdin=subprocess.DEVNULL, encoding="latin-1")
+
+    def path(self, name):
+        return os.path.join(self.folder, name)
+
+    def compile(self):
+        for name in sorted(os.listdir(SAMPLES) + os.listdir(os.path.join(HERE, "tests"))):
+            source = os.path.join(SAMPLES if os.path.exists(os.path.join(SAMPLES, name)) else os.path.join(HERE, "tests"), name)
+            program, _, kind = name.partition(".")
+            made = None
+            if kind == "cob":
+                made = self.run("cobc", "-m", "-std=ibm", "-o", program + ".so", source)
+            elif kind == "c":
+                made = self.run("gcc", "-Wall", "-Wextra", "-I", os.path.join(HERE, "include"), "-shared", "-fPIC", "-o", program + ".so", source)
+            if made:
+                expect(f"{name} compiles", made.returncode == 0 and not made.stdout, made.stdout)
+
+    def fresh(self, records=b"", count=0):
+        """A volume without segments."""
+        with open(self.path("empty.stream"), "wb") as file:
+            file.write(b"HDUNLOAD\0\1PARTS   " + records + b"\0" + count.to_bytes(4, "big"))
+        made = self.run("hd", "reload", os.path.join(PARTS, "parts.dbd"), "empty.stream", "parts.volume", "64")
+        expect("an empty volume", made.returncode == 0, made.stdout)
+
+    def check(self, after):
+        done = self.run("hd", "check", os.path.join(PARTS, "parts.dbd"), "parts.volume")
+        expect(f"the volume passes after {after}", done.returncode == 0, done.stdout)
+
+
+def play(place, program, psb=None):
+    """Runs a program, compares what it prints, and plays its calls as a deck over the volume as it was."""
+    shutil.copy(place.path("parts.volume"), place.path("before.volume"))
+    done = place.run("hdrun", "--deck", "calls.deck", "--answers", "calls.answers", f"DLI,{program},{psb or program}")
+    expect(f"{program} prints what it should", done.stdout == text(program), done.stdout)
+    expect(f"{program} ends with 0", done.returncode == 0, f"{done.returncode}")
+    place.check(program)
+    deck = place.run("hd", "deck", os.path.join(PARTS, "parts.dbd"), os.path.join(SAMPLES, (psb or program) + ".psb"), "before.volume", "calls.deck")
+    with open(place.path("calls.answers"), encoding="latin-1") as file:
+        answers = file.read()
+    expect(f"{program}'s calls as a deck answer the same", deck.stdout == answers and answers, deck.stdout)
+    with open(place.path("parts.volume"), "rb") as one, open(place.path("before.volume"), "rb") as other:
+        expect(f"{program}'s calls as a deck leave the same volume", one.read() == other.read())
+
+
+def samples(place):
+    place.fresh()
+    for program in ("PARTLOAD", "PARTRPT", "STOCKUPD", "ORDERIN", "STOCKLST"):
+        play(place, program)
+    rows = place.run("hd", "rows", os.path.join(PARTS, "parts.dbd"), "parts.volume")
+    expect("the rows after all programs", rows.stdout == text("rows.after"), rows.stdout)
+    done = place.run("python3", os.path.join(SAMPLES, "reorder.py"), os.path.join(PARTS, "parts.dbd"), os.path.join(SAMPLES, "PARTRPT.psb"), "parts.volume")
+    expect("reorder.py prints what it should", done.stdout == text("reorder"), done.stdout)
+
+
+def refusals(place):
+    """What is said where no program is run, and by programs that call what DL/I does not answer."""
+    for words, part in (
+        (("hdrun",), "no program is named"),
+        (("hdrun", "BMP,PARTRPT"), "DLI or DBB"),
+        (("hdrun", "DLI,PARTREPORT"), "one to eight letters"),
+        (("hdrun", "--volume"), "none of these"),
+    ):
+        done = place.run(*words)
+        expect(" ".join(words), done.returncode == 64 and part in done.stdout, done.stdout)
+    done = place.run("hdrun", "DLI,NOWHERE,PARTRPT")
+    expect("a program that is not there", done.returncode == 16 and "NOWHERE.so" in done.stdout, done.stdout)
+    done = place.run("hdrun", "DLI,PARTRPT,NOPSB")
+    expect("a PSB that is not there", done.returncode == 16 and "NOPSB.psb" in done.stdout, done.stdout)
+    done = place.run("hdrun", "DLI,PARTRPT", DD_PARTSDD="nowhere.volume")
+    expect("a volume that is not there", done.returncode == 16 and done.stdout, done.stdout)
+    done = place.run("hdrun", "DLI,PARTRPT", HD="/nowhere/hd")
+    expect("no hd", done.returncode == 16 and "/nowhere/hd" in done.stdout, done.stdout)
+    done = place.run("hdrun", "DLI,STRANGER,PARTRPT")
+    expect("a PCB that is none", done.returncode == 16 and "U0476" in done.stdout, done.stdout)
+    place.check("a PCB that is none")
+
+
+def deaths(place):
+    """Programs that die in the middle, a server that is killed, two programs at once, and a full volume."""
+    done = place.run("hdrun", "DLI,DYING,STOCKUPD")
+    expect("a program that dies", done.returncode < 0 or done.returncode > 128, f"{done.returncode} {done.stdout}")
+    time.sleep(0.5)
+    place.check("a program that died")
+    one = place.start("hdrun", "DLI,WAITING,PARTRPT")
+    expect("a program that waits has begun", one.stdout.readline().startswith("WAITING"))
+    done = place.run("hdrun", "DLI,PARTRPT")
+    expect("a second program is refused", done.returncode == 16 and "volume is in use" in done.stdout, done.stdout)
+    server = subprocess.run(["pgrep", "-P", str(one.pid)], stdout=subprocess.PIPE, encoding="ascii").stdout.split()
+    expect("a program has a server", len(server) == 1, str(server))
+    if server:
+        os.kill(int(server[0]), signal.SIGKILL)
+    said, _ = one.communicate(timeout=30)
+    expect("a server that is killed", one.returncode == 16 and "has ended before the program" in said, f"{one.returncode} {said}")
+    place.check("a server that was killed")
+    place.fresh()
+    full = place.run("hdrun", "DLI,FILLING,PARTLOAD")
+    expect("a full volume ends the program", full.returncode == 16 and "U0844" in full.stdout, full.stdout)
+    place.check("a full volume")
+
+
+def main(words):
+    programs = os.path.abspath(words[0] if words else "bin")
+    lacking = [it for it in ("gcc", "cobc", "python3") if not shutil.which(it)]
+    if lacking:
+        print(f"dli/test.py wants {', '.join(lacking)}: the Debian packages gcc, gnucobol and python3 have them")
+        return 1
+    with tempfile.TemporaryDirectory() as folder:
+        place = Place(folder, programs)
+        place.compile()
+        samples(place)
+        refusals(place)
+        deaths(place)
+    print(f"{tried - failed} passed, {failed} failed")
+    return 1 if failed else 0
+
+
+if __name__ == "__main__":
+    sys.exit(main(sys.argv[1:]))
