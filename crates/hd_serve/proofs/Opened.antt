@@ -1,5 +1,7 @@
 -- Serving over the volume of a store's bytes.
-use Rattle.std.proofs.Common.{◌≡◌, IsTrue, ℕ, List, Bool, Option, sym, ◌∙◌, subst, refl}
+use Rattle.std.proofs.Common.{◌≡◌, IsTrue, ℕ, List, [], Bool, Option, sym, ap, ◌∙◌, subst, refl}
+use Rattle.std.specs.Io.KnownBytes.{prepend_known}
+use Rattle.std.proofs.KnownBytes.{prepend_known-nil}
 use Rattle.hd_dbd.specs.Types.{View}
 use Rattle.hd_dbd.specs.Hierarchy.{Database}
 use Rattle.hd_dbd.specs.Facts.{stored_sizes}
@@ -13,6 +15,7 @@ use Rattle.hd_image.proofs.OneImage.{held-same}
 use Rattle.hd_session.specs.Opening.{SessionState, session_at_start, IsReadyFor, IsOpenedOver}
 use Rattle.hd_session.specs.Turns.{Turn, AreMade}
 use Rattle.hd_deck.specs.Runs.{IsPlayed}
+use Rattle.hd_frames.specs.declared.call.Limits.{Limits}
 use Rattle.hd_frames.specs.Frames.{frame_bytes}
 use Rattle.hd_frames.specs.Hello.{hello_bytes}
 use Rattle.hd_serve.specs.declared.serving.Stop.{Stop}
@@ -86,3 +89,11 @@ module _ (d : Database) (pcbs : List View) (sound : Bool) (bytes : List ℕ) (v 
     lacking = p.lacking;
     answered = λ is. answered d pcbs bytes v s (given is) p.turns old new p.lacking left p.serves;
   }
+
+-- what is so of a first frame, of an input behind an empty buffer, and of limits, is so of those of the database and the program
+pub as_told : (d : Database) (pcbs : List View) (limits : Limits) (buffer head : List ℕ) (known : Option (List ℕ)) (P : Limits → Option (List ℕ) → List ℕ → Type 0)
+    → limits ≡ limits_of d pcbs → buffer ≡ [] → head ≡ frame_bytes (hello_bytes d pcbs) → P limits (prepend_known buffer known) head → P (limits_of d pcbs) known (frame_bytes (hello_bytes d pcbs))
+as_told d pcbs limits buffer head known P same empty hello p =
+    subst (λ (h : List ℕ). P (limits_of d pcbs) known h) hello
+    (subst (λ (o : Option (List ℕ)). P (limits_of d pcbs) o head) (ap (λ (xs : List ℕ). prepend_known xs known) empty ∙ prepend_known-nil known)
+    (subst (λ (l : Limits). P l (prepend_known buffer known) head) same p))

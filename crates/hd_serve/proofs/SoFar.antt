@@ -1,5 +1,6 @@
 -- The calls that were taken from an input and served, one after another.
-use Rattle.std.proofs.Common.{◌≡◌, ℕ, ◌+◌, List, [], ◌∷◌, ◌++◌, length, All, false, Option, Some, None, ap, sym, ◌∙◌, subst, refl, arith, length-append}
+use Rattle.std.proofs.Common.{◌≡◌, ℕ, ◌+◌, List, [], ◌∷◌, ◌++◌, length, All, false, Option, Some, None, Result, Ok, Err, ap, sym, ◌∙◌, subst, refl, arith, length-append}
+use Rattle.std.specs.Prelude.{IfOk, IfErr}
 use Rattle.std.specs.Io.KnownBytes.{Appends, Consumes, IsAtEnd}
 use Rattle.std.proofs.KnownBytes.{Consumes-nil, Consumes-trans}
 use Rattle.std.proofs.lemmas.List.{append-nil}
@@ -10,6 +11,7 @@ use Rattle.hd_frames.specs.declared.call.Limits.{Limits}
 use Rattle.hd_frames.specs.declared.fault.FrameFault.{FrameFault}
 use Rattle.hd_frames.specs.declared.fault.FrameFault.TheVariants.{Read}
 use Rattle.hd_frames.specs.Frames.{frame_bytes, call_bytes, CallFits, IsWrong}
+use Rattle.hd_serve.specs.declared.serving.Count.{Count}
 use Rattle.hd_serve.specs.declared.serving.Stop.{Stop}
 use Rattle.hd_serve.specs.declared.serving.Stop.TheVariants as stop
 use Rattle.hd_serve.specs.Serves.{framed, frames_of, AreAsked, Ends, GoesWrong, GoesOn, ServesAll, MakesAll, IsServedNext, IsMadeNext, StopsNext, IsServedToTheEnd, IsMadeInPart, IsServedInPart, ServesUntil}
@@ -104,13 +106,22 @@ module _ (limits : Limits) (s m t : SessionState) (input left old mid new : Opti
 -- ---- behind the first frame
 
 module _ (limits : Limits) (s t : SessionState) (input : Option (List ℕ)) (head : List ℕ) (old mid new : Option (List ℕ)) (first : Appends old mid head) where
-  pub end_behind : (calls lacking : ℕ) → IsServedToTheEnd limits s input [] mid new calls lacking t → IsServedToTheEnd limits s input head old new calls lacking t
+  end_behind : (calls lacking : ℕ) → IsServedToTheEnd limits s input [] mid new calls lacking t → IsServedToTheEnd limits s input head old new calls lacking t
   end_behind calls lacking p = record { turns = p.turns; asked = p.asked; count = p.count; serves = served_behind s t p.turns head old mid new lacking first p.serves }
 
-  pub until_behind : (e : Stop) → ServesUntil limits s input [] mid new e t → ServesUntil limits s input head old new e t
+  until_behind : (e : Stop) → ServesUntil limits s input [] mid new e t → ServesUntil limits s input head old new e t
   until_behind stop.Device p = tt
   until_behind stop.Write p = p
   until_behind (stop.Frame e) p = record { turns = p.turns; asked = p.asked; lacking = p.lacking; serves = served_behind s t p.turns head old mid new p.lacking first p.serves }
+
+  -- the same of a result
+  pub ends_behind : (r : Result Count Stop) → IfOk r (λ n. IsServedToTheEnd limits s input [] mid new n.calls n.memory t) → IfOk r (λ n. IsServedToTheEnd limits s input head old new n.calls n.memory t)
+  ends_behind (Ok n) p = end_behind n.calls n.memory p
+  ends_behind (Err e) p = tt
+
+  pub untils_behind : (r : Result Count Stop) → IfErr r (λ e. ServesUntil limits s input [] mid new e t) → IfErr r (λ e. ServesUntil limits s input head old new e t)
+  untils_behind (Ok n) p = tt
+  untils_behind (Err e) p = until_behind e p
 
 -- the first frame was not written
 pub none_made : (limits : Limits) (s : SessionState) (input : Option (List ℕ)) → s.broken ≡ false → IsMadeInPart limits s input s

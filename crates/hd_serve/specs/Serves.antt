@@ -93,10 +93,15 @@ ServesAll s turns head old new lacking t = (st : State) → IsTrue s.volume.is_s
 abbrev pub MakesAll : SessionState → List Turn → SessionState → Type 0
 MakesAll s turns t = (st : State) → IsTrue s.volume.is_sound → Represents s.database s.volume s.kept st → (entries : List (Entry (List ℕ))) × AreMade s st turns entries t
 
--- what a halt at a call says: the call was made, where its answer was not written; a failed access says nothing of it
+-- what a halt at a call says of it: it was made, where its answer was not written; a failed access says nothing
 abbrev pub HaltsAt : SessionState → Turn → Halt → SessionState → Type 0
-HaltsAt s turn halt.Device t = Breaks s t
-HaltsAt s turn halt.Write t = MakesAll s (turn ∷ []) t × StaysWhole s t
+HaltsAt s turn halt.Device t = Unit {0}
+HaltsAt s turn halt.Write t = MakesAll s (turn ∷ []) t
+
+-- and of the session
+abbrev pub IsHalted : SessionState → Halt → SessionState → Type 0
+IsHalted s halt.Device t = Breaks s t
+IsHalted s halt.Write t = StaysWhole s t
 
 -- One call was taken from the input and served.
 pub record IsServedNext (limits : Limits) (s : SessionState) (before after old new : Option (List ℕ)) (lacking : ℕ) (t : SessionState) : Type 0 where

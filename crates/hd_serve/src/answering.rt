@@ -4,7 +4,7 @@ ghost use Rattle.hd_dbd.specs.Hierarchy.{longest_path};
 ghost use Rattle.hd_session.specs.Turns.{StaysWhole};
 ghost use Rattle.hd_deck.specs.Runs.{memory_of};
 ghost use Rattle.hd_frames.specs.Frames.{frame_bytes};
-ghost use Rattle.hd_serve.specs.Serves.{answered_bytes, ServesAll, HaltsAt};
+ghost use Rattle.hd_serve.specs.Serves.{answered_bytes, ServesAll, HaltsAt, IsHalted};
 
 use hd_dbd::Refused;
 use hd_frames::{WriteFault, put_answer, put_refusal};
@@ -70,6 +70,7 @@ pub(crate) fn answer_call<S: BlockStore, W: Write>(
     ensures few { IfOk result (λ lacking. lacking ≤ 1) }
     ensures whole { OnOk result (StaysWhole session.old session.new) }
     ensures halts { IfErr result (λ e. HaltsAt session.old (record { pcb = pcb; call = call.now }) e session.new) }
+    ensures stops { IfErr result (λ e. IsHalted session.old e session.new) }
     ensures same_room { io.new.room ≡ io.old.room }
 {
     let answered = session.call(pcb, call, io);

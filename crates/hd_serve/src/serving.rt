@@ -89,10 +89,10 @@ fn serve_calls<S: BlockStore, I: Read, W: Write>(
 {
     let mut memory = 0u64;
     for calls in 0..u64::MAX {
-        let Some(lacking) = serve_next(session, desk, input, out)? else {
-            return Ok(Count { calls, memory });
-        };
-        memory += lacking;
+        match serve_next(session, desk, input, out)? {
+            Some(lacking) => memory += lacking,
+            None => return Ok(Count { calls, memory }),
+        }
     }
     Err(Stop::Frame(FrameFault::Read))
 }
