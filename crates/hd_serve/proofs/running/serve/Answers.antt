@@ -33,20 +33,20 @@ returns-in-Ok-serve_and_close-clause-served g c =
     let calls : ℕ = c.in-Ok-serve_and_close.end.calls in
     let lacking : ℕ = c.in-Ok-serve_and_close.end.memory in
     let given : IsTrue (g.S.BlockStore.is_sound c.args.store) → IsOpenedWith d pcbs bytes v s = λ sound. (
-      let loaded = c.in-Ok-load.ensures.image sound in
-      let store = c.in-Ok-load.ensures.store in
-      let read = c.in-Ok-open.ensures.read in
-      let whole : IsTrue v.is_sound = rw store.0 sound in
-      let then : IsTrue s.volume.is_sound = rw read.call.sound whole in
-      record {
-        image = loaded.0;
-        size = store.2 ∙ c.requires.size;
-        sizes = store.3;
-        start = c.in-Ok-open.ensures.start;
-        sound = then;
-        now = read.image then ∙ loaded.0;
-        over = c.in-Ok-open.ensures.stands whole;
-      }
+    let loaded = c.in-Ok-load.ensures.image sound in
+    let store = c.in-Ok-load.ensures.store in
+    let read = c.in-Ok-open.ensures.read in
+    let whole : IsTrue v.is_sound = rw store.0 sound in
+    let then : IsTrue s.volume.is_sound = rw read.call.sound whole in
+    record {
+      image = loaded.0;
+      size = store.2 ∙ c.requires.size;
+      sizes = store.3;
+      start = c.in-Ok-open.ensures.start;
+      sound = then;
+      now = read.image then ∙ loaded.0;
+      over = c.in-Ok-open.ensures.stands whole;
+    }
     ) in
     whole_service d pcbs (g.S.BlockStore.is_sound c.args.store) bytes v s given (g.I.Read.remaining c.args.input.now) old new left calls lacking
     (as_told d pcbs c.in-Ok.prepared.1.limits c.in-Ok.prepared.1.buffer c.deref.result.now (g.I.Read.remaining c.args.input.now)
@@ -65,20 +65,20 @@ returns-clause-fault g c =
     let new : Option (List ℕ) = g.W.Write.contents c.serve_and_close.new.out in
     let left : List ℕ = g.S.BlockStore.contents c.in-Err-serve_and_close.store in
     let given : IsTrue (g.S.BlockStore.is_sound c.args.store) → IsOpenedWith d pcbs bytes v s = λ sound. (
-      let loaded = c.in-Ok-load.ensures.image sound in
-      let store = c.in-Ok-load.ensures.store in
-      let read = c.in-Ok-open.ensures.read in
-      let whole : IsTrue v.is_sound = rw store.0 sound in
-      let then : IsTrue s.volume.is_sound = rw read.call.sound whole in
-      record {
-        image = loaded.0;
-        size = store.2 ∙ c.requires.size;
-        sizes = store.3;
-        start = c.in-Ok-open.ensures.start;
-        sound = then;
-        now = read.image then ∙ loaded.0;
-        over = c.in-Ok-open.ensures.stands whole;
-      }
+    let loaded = c.in-Ok-load.ensures.image sound in
+    let store = c.in-Ok-load.ensures.store in
+    let read = c.in-Ok-open.ensures.read in
+    let whole : IsTrue v.is_sound = rw store.0 sound in
+    let then : IsTrue s.volume.is_sound = rw read.call.sound whole in
+    record {
+      image = loaded.0;
+      size = store.2 ∙ c.requires.size;
+      sizes = store.3;
+      start = c.in-Ok-open.ensures.start;
+      sound = then;
+      now = read.image then ∙ loaded.0;
+      over = c.in-Ok-open.ensures.stands whole;
+    }
     ) in
     subst (λ (fault : ServeFault). IsServeFaultOf d pcbs (g.S.BlockStore.is_sound c.args.store) bytes input old new left fault) (sym c.fault_of.ensures)
     (fault_at d pcbs (g.S.BlockStore.is_sound c.args.store) bytes v s given input old new left c.in-Err-serve_and_close.stop
