@@ -3,3 +3,4 @@ mod Turns
 mod SoFar
 mod Closing
 mod Opened
+mod Refused

@@ -3,7 +3,7 @@ use Rattle.hd_dbd.specs.Types.{View}
 use Rattle.hd_dbd.specs.Hierarchy.{Database}
 use Rattle.hd_volume.specs.Volumes.{VolumeState}
 use Rattle.hd_session.specs.Opening.{SessionState}
-use Rattle.hd_deck.proofs.Opened.{fault_of_bytes, left_by_opening}
+use Rattle.hd_serve.proofs.Refused.{fault_of_bytes, left_by_opening}
 use Rattle.hd_serve.specs.declared.running.ServeFault.{ServeFault}
 use Rattle.hd_serve.specs.Serves.{IsServeFaultOf, IsServedOut, LeavesAt}
 use Rattle.hd_serve.proofs.Opened.{IsOpenedWith, whole_service, fault_at, as_told}
