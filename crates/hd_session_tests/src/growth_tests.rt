@@ -13,13 +13,24 @@ use hd_volume::{BlockStore, FuseStore, MemStore, Volume};
 use std::alloc::{AllocError, Global};
 use std::test::Fail;
 
-/// A store in memory in which one of the growths that a reserve asks for, counted from 0, finds no memory. No contract says anything of its bytes.
+/// A store in memory in which one of the growths beyond its reserved room, counted from 0, finds no memory. No contract says anything of its bytes.
 #[derive(Drop)]
 struct Sparing {
     store: MemStore,
     room: u32,
     growths: u32,
     refused: u32,
+}
+
+impl Sparing {
+    /// Whether the next growth is the one that finds no memory. It is counted.
+    fn is_next_refused(&mut self) -> bool
+        ensures { (self.new.room ≡ self.old.room) × (self.new.store ≡ self.old.store) }
+    {
+        let number = self.growths;
+        self.growths = number.saturating_add(1);
+        number == self.refused
+    }
 }
 
 impl BlockStore for Sparing {
@@ -55,9 +66,7 @@ impl BlockStore for Sparing {
         if blocks <= self.room {
             return Ok(());
         }
-        let number = self.growths;
-        self.growths = number.saturating_add(1);
-        if number == self.refused {
+        if self.is_next_refused() {
             return Err(Refused::Memory);
         }
         let _ = self.store.reserve(blocks);
@@ -66,6 +75,9 @@ impl BlockStore for Sparing {
     }
 
     fn grow(&mut self, blocks: u32) -> Result<(), Refused> {
+        if blocks > self.room && self.is_next_refused() {
+            return Err(Refused::Memory);
+        }
         let _ = self.store.grow(blocks);
         self.room = self.room.saturating_sub(blocks);
         Ok(())
@@ -157,6 +169,91 @@ fn changes_nothing_where_a_growth_finds_no_memory(rt: HostRuntime) -> Result<(),
         assert_eq!(rt; memory, 1);
     }
     assert!(rt; false, "no end");
+    Ok(())
+}
+
+/// A call of a function with an argument, if it has one, and an area.
+fn plain_call(
+    alloc: Global,
+    func: &[u8; 4],
+    ssas: &[&[u8]],
+    area: &[u8],
+) -> Result<Call, AllocError> {
+    let mut given = Vec::new(alloc);
+    for ssa in ssas {
+        given.push(ssa.to_vec(alloc)?)?;
+    }
+    Ok(Call {
+        func: *func,
+        ssas: given,
+        area: area.to_vec(alloc)?,
+    })
+}
+
+/// Whether a call by the first PCB is answered with two blanks.
+fn is_blank<S: BlockStore>(session: &mut Session<'_, S>, call: &Call, io: &mut IoArea) -> bool
+    requires one { 0 < length session.old.pcbs }
+    requires room { longest_path session.old.database.types ≤ io.old.room }
+    ensures same { (session.new.pcbs ≡ session.old.pcbs) × (session.new.database ≡ session.old.database) }
+    ensures room { io.new.room ≡ io.old.room }
+{
+    match session.call(1, call, io) {
+        Ok(answer) => answer.status == Status::Blank,
+        Err(_) => false,
+    }
+}
+
+/// Holds a class of the sample, and puts books in until one finds no memory for a growth: a REPL is then answered as if that call had not been, and
+/// so is the same ISRT. `None` where one is answered otherwise, or no growth is refused.
+fn holds_through(alloc: Global, dbd: &Dbd, refused: u32) -> Result<Option<()>, AllocError>
+    requires size { dbd.now.block_size ≡ 128 }
+{
+    let (Some(psb), Some(store)) = (program(alloc, dbd), sample(alloc)) else {
+        return Err(AllocError);
+    };
+    let store = Sparing {
+        store,
+        room: 0,
+        growths: 0,
+        refused,
+    };
+    let mut io = IoArea::new(alloc, dbd)?;
+    let count = psb.pcbs().len();
+    let Ok(volume) = Volume::load(alloc, store, dbd) else {
+        return Err(AllocError);
+    };
+    let Ok(mut session) = Session::open(alloc, volume, dbd, &psb) else {
+        return Ok(None);
+    };
+    let hold = plain_call(alloc, b"GHU ", &[b"CLASS   "], b"")?;
+    let insert = plain_call(alloc, b"ISRT", &[b"COURSE  ", b"BOOK    "], b"GAUSS")?;
+    let replace = plain_call(alloc, b"REPL", &[], b"01XY")?;
+    if count == 0 {
+        return Ok(None);
+    }
+    for _ in 0..SEGMENTS {
+        if !is_blank(&mut session, &hold, &mut io) {
+            return Ok(None);
+        }
+        match session.call(1, &insert, &mut io) {
+            Ok(answer) if answer.status == Status::Blank => {}
+            Err(Refused::Memory) => {
+                let goes_on = is_blank(&mut session, &replace, &mut io)
+                    && is_blank(&mut session, &insert, &mut io);
+                return Ok(if goes_on { Some(()) } else { None });
+            }
+            _ => return Ok(None),
+        }
+    }
+    Ok(None)
+}
+
+#[test]
+fn a_call_that_finds_no_memory_ends_no_hold(rt: HostRuntime) -> Result<(), Fail> {
+    let alloc = rt.alloc();
+    let dbd = database(alloc).expect(&rt, "a database");
+    assert!(rt; holds_through(alloc, &dbd, 0)?.is_some());
+    assert!(rt; holds_through(alloc, &dbd, 1)?.is_some());
     Ok(())
 }
 
