@@ -1,7 +1,7 @@
 use crate::testing::{
     NOTHING, Parts, expect, play_words, refusals_of_growth, remove, sample_with, words_of,
 };
-use hd_play::DBD_SOURCE;
+use hd_play::{DBD_SOURCE, PSB_SOURCE};
 use hd_sample::put;
 use std::fs;
 use std::test::Fail;
@@ -168,5 +168,28 @@ fn checks_once_memory_is_found(rt: HostRuntime) -> Result<(), Fail> {
     let text = b"EDU passes: 4 blocks, 7 segments, 2 roots\n";
     assert!(rt; refusals_of_growth(&rt, &words, b"", text, None) > 0);
     remove(&rt, &["judged.dbd", "judged.volume"])?;
+    Ok(())
+}
+
+#[test]
+fn plays_a_deck_once_memory_is_found(rt: HostRuntime) -> Result<(), Fail> {
+    let files = ["grown.dbd", "grown.psb", "grown.volume", "grown.deck"];
+    fs::write(&rt, "grown.dbd", DBD_SOURCE)?;
+    fs::write(&rt, "grown.psb", PSB_SOURCE)?;
+    fs::write(&rt, "grown.volume", &sample_with(&[(9, &[2])]))?;
+    fs::write(&rt, "grown.deck", b"L     GN\n")?;
+    let words = words_of(
+        rt.alloc(),
+        &[
+            "deck",
+            "grown.dbd",
+            "grown.psb",
+            "grown.volume",
+            "grown.deck",
+        ],
+    )?;
+    let text = b"1 1 GN   [  ] 01 COURSE   key=101 area=101ALGEB\n";
+    assert!(rt; refusals_of_growth(&rt, &words, b"", text, None) > 0);
+    remove(&rt, &files)?;
     Ok(())
 }

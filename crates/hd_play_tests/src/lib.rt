@@ -18,4 +18,6 @@ mod rows_tests;
 #[cfg(test)]
 mod sample_tests;
 #[cfg(test)]
+mod serve_tests;
+#[cfg(test)]
 mod testing;
