@@ -287,7 +287,7 @@ fn is_judged(alloc: Global, dbd: &Dbd, store: MemStore) -> Result<bool, AllocErr
 }
 
 /// Plays the list behind a cache; `None` where the access fails before the first call.
-fn behind(alloc: Global, dbd: &Dbd, passes: u64) -> Result<Option<Behind>, AllocError>
+fn play_behind(alloc: Global, dbd: &Dbd, passes: u64) -> Result<Option<Behind>, AllocError>
     requires size { dbd.now.block_size ≡ 128 }
 {
     let (Some(psb), Some(store)) = (program(alloc, dbd), sample(alloc)) else {
@@ -325,7 +325,7 @@ fn hides_no_failed_access_behind_a_cache(rt: HostRuntime) -> Result<(), Fail> {
     let dbd = database(alloc).expect(&rt, "a database");
     let mut told_by_calls = 0u32;
     for passes in 0..400 {
-        if let Some(played) = behind(alloc, &dbd, passes)? {
+        if let Some(played) = play_behind(alloc, &dbd, passes)? {
             assert!(rt;
                 played.failed <= 10 && played.is_judged,
                 "{passes}: {played:?}"
