@@ -1,8 +1,9 @@
 # `make` proves hd and leaves it at bin/hd; `make run` plays the sample deck; `make try` plays it unproved, in under a
 # minute; `make test` is the gate; `make examples` plays what the documents and examples show, and compares, and so the
-# words of FORMATS; `make bench` measures hd, and SQLite beside it; `make install` puts the program and its manual pages
-# below PREFIX, and `make uninstall` takes them away.
-.PHONY: all run try test examples bench dli dli-test install uninstall clean
+# words of FORMATS; `make bench` measures hd, and SQLite beside it; `make dli` makes hdrun, which runs programs that call
+# DL/I, and `make dli-test` tries it; `make install` puts the program and its manual pages below PREFIX, `make install-dli`
+# what programs want, and `make uninstall` takes them away.
+.PHONY: all run try test examples bench dli dli-test install uninstall install-dli clean
 
 all: bin/hd
 
@@ -61,6 +62,14 @@ install: bin/hd bin/hd-formats.5
 
 uninstall:
 	rm -f $(BIN)/hd $(MAN)/man1/hd.1 $(MAN)/man5/hd-formats.5
+	rm -f $(BIN)/hdrun $(MAN)/man1/hdrun.1 $(DESTDIR)$(PREFIX)/include/ims.h $(DESTDIR)$(PREFIX)/share/hd/hd.py
+
+# what programs in COBOL, C and Python want, beside hd
+install-dli: bin/hdrun
+	install -D -m 755 bin/hdrun $(BIN)/hdrun
+	install -D -m 644 dli/hdrun.1 $(MAN)/man1/hdrun.1
+	install -D -m 644 dli/include/ims.h $(DESTDIR)$(PREFIX)/include/ims.h
+	install -D -m 644 dli/hd.py $(DESTDIR)$(PREFIX)/share/hd/hd.py
 
 clean:
 	rm -rf bin crates/*/out

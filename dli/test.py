@@ -73,11 +73,11 @@ class Place:
             if made:
                 expect(f"{name} compiles", made.returncode == 0 and not made.stdout, made.stdout)
 
-    def fresh(self, records=b"", count=0):
+    def fresh(self, most="64"):
         """A volume without segments."""
         with open(self.path("empty.stream"), "wb") as file:
-            file.write(b"HDUNLOAD\0\1PARTS   " + records + b"\0" + count.to_bytes(4, "big"))
-        made = self.run("hd", "reload", os.path.join(PARTS, "parts.dbd"), "empty.stream", "parts.volume", "64")
+            file.write(b"HDUNLOAD\0\1PARTS   \0\0\0\0\0")
+        made = self.run("hd", "reload", os.path.join(PARTS, "parts.dbd"), "empty.stream", "parts.volume", most)
         expect("an empty volume", made.returncode == 0, made.stdout)
 
     def check(self, after):
@@ -156,6 +156,24 @@ def deaths(place):
     place.check("a full volume")
 
 
+def full_disk(place):
+    """A volume on a disk that is full before the program ends; root alone can make such a disk."""
+    disk = place.path("disk")
+    os.mkdir(disk)
+    if subprocess.run(["mount", "-t", "tmpfs", "-o", "size=16k", "tmpfs", disk], stderr=subprocess.DEVNULL).returncode:
+        print("(a full disk is not tried: only root can make one)")
+        return
+    try:
+        place.fresh(most="65536")
+        shutil.copy(place.path("parts.volume"), os.path.join(disk, "parts.volume"))
+        done = place.run("hdrun", "--volume", "disk/parts.volume", "DLI,FILLING,PARTLOAD")
+        expect("a full disk ends the program", done.returncode == 16 and "hd serve ended with status 3" in done.stdout, f"{done.returncode} {done.stdout}")
+        check = place.run("hd", "check", os.path.join(PARTS, "parts.dbd"), "disk/parts.volume")
+        expect("what is left on a full disk is judged", check.returncode in (0, 1), check.stdout)
+    finally:
+        subprocess.run(["umount", disk], check=True)
+
+
 def main(words):
     programs = os.path.abspath(words[0] if words else "bin")
     lacking = [it for it in ("gcc", "cobc", "python3") if not shutil.which(it)]
@@ -168,6 +186,7 @@ def main(words):
         samples(place)
         refusals(place)
         deaths(place)
+        full_disk(place)
     print(f"{tried - failed} passed, {failed} failed")
     return 1 if failed else 0
 
