@@ -16,35 +16,68 @@ fn left_by(alloc: Global, count: usize) -> Option<Vec<u8>> {
     Some(ended.store.into_bytes())
 }
 
+/// How many of the calls stand whole in so many bytes of their frames; `None` where there is no memory.
+fn whole_calls(alloc: Global, length: usize) -> Option<usize> {
+    let mut count = 0;
+    for more in 1..CALLS.len() + 1 {
+        let frames = calls_of(alloc, CALLS.get(..more).unwrap_or(CALLS))?;
+        if frames.len() <= length {
+            count = more;
+        }
+    }
+    Some(count)
+}
+
+/// What serving the first bytes of the frames must come to: how many calls are answered, what is written and what is left, and whether the
+/// last frame is cut.
+#[derive(Drop)]
+struct Expected {
+    count: usize,
+    out: Vec<u8>,
+    left: Vec<u8>,
+    is_cut: bool,
+}
+
+/// This of a number of bytes; `None` where there is no memory.
+fn expected(alloc: Global, length: usize) -> Option<Expected> {
+    let count = whole_calls(alloc, length)?;
+    let start = calls_of(alloc, CALLS.get(..count).unwrap_or(CALLS))?;
+    Some(Expected {
+        count,
+        out: answers_of(alloc, HELLO, ANSWERS.get(..count).unwrap_or(ANSWERS))?,
+        left: left_by(alloc, count)?,
+        is_cut: start.len() != length,
+    })
+}
+
+#[test]
+fn no_call_changes_nothing(rt: HostRuntime) -> Result<(), Fail> {
+    let left = left_by(rt.alloc(), 0).expect(&rt, "memory");
+    assert_eq!(rt; left.as_slice(), newest_image().as_slice());
+    Ok(())
+}
+
 #[test]
 fn each_cut_keeps_what_was_answered(rt: HostRuntime) -> Result<(), Fail> {
     let alloc = rt.alloc();
     let dbd = database(alloc).expect(&rt, "a database");
     let whole = calls_of(alloc, CALLS).expect(&rt, "memory");
-    let mut count = 0;
-    let mut left = left_by(alloc, 0).expect(&rt, "memory");
-    assert_eq!(rt; left.as_slice(), newest_image().as_slice());
     for cut in 0..whole.len() + 1 {
-        let first = CALLS.get(..count + 1).unwrap_or(CALLS);
-        let next = calls_of(alloc, first).expect(&rt, "memory").len();
-        if count < CALLS.len() && cut == next {
-            count += 1;
-            left = left_by(alloc, count).expect(&rt, "memory");
-        }
-        let start = calls_of(alloc, CALLS.get(..count).unwrap_or(CALLS)).expect(&rt, "memory");
-        let answers = ANSWERS.get(..count).unwrap_or(ANSWERS);
-        let expected = answers_of(alloc, HELLO, answers).expect(&rt, "memory");
+        let expected = expected(alloc, cut).expect(&rt, "memory");
         let store = sample(alloc, &dbd, 512, 0).expect(&rt, "memory");
         let mut input = whole.get(..cut).unwrap_or(&[]);
         let mut out = Vec::new(alloc);
         let ended = serve_over(alloc, &dbd, store, &mut input, &mut out).expect(&rt, "memory");
-        if cut == start.len() {
-            assert_eq!(rt; ended.calls, Ok(count as u64));
-        } else {
+        if expected.is_cut {
             assert_eq!(rt; ended.calls, Err(ServeFault::Frame(FrameFault::Cut)));
+        } else {
+            assert_eq!(rt; ended.calls, Ok(expected.count as u64));
         }
-        assert_eq!(rt; out.as_slice(), expected.as_slice());
-        assert_eq!(rt; ended.store.into_bytes().as_slice(), left.as_slice());
+        assert_eq!(rt; out.as_slice(), expected.out.as_slice());
+        assert_eq!(rt;
+            ended.store.into_bytes().as_slice(),
+            expected.left.as_slice()
+        );
     }
     Ok(())
 }

@@ -18,15 +18,16 @@ pub type Asked = (u8, &'static [u8; 4], &'static [&'static str], &'static str);
 
 /// Adds the frame of a call.
 pub fn push_call(alloc: Global, bytes: &mut Vec<u8>, call: &Asked) -> Option<()> {
+    let (pcb, function, ssas, area) = *call;
     let mut body = Vec::new(alloc);
-    body.extend_from_slice(&[1, call.0]).ok()?;
-    body.extend_from_slice(call.1).ok()?;
-    body.push(u8::try_from(call.2.len()).ok()?).ok()?;
-    for ssa in call.2 {
+    body.extend_from_slice(&[1, pcb]).ok()?;
+    body.extend_from_slice(function).ok()?;
+    body.push(u8::try_from(ssas.len()).ok()?).ok()?;
+    for ssa in ssas {
         push_length(&mut body, ssa.len())?;
         body.extend_from_slice(ssa.as_bytes()).ok()?;
     }
-    body.extend_from_slice(call.3.as_bytes()).ok()?;
+    body.extend_from_slice(area.as_bytes()).ok()?;
     push_frame(bytes, &body)
 }
 
