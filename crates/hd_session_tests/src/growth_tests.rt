@@ -1,5 +1,5 @@
 //! Calls in which a growth of the store finds no memory, and failed accesses behind a cache.
-ghost use Rattle.std.specs.Prelude.{◌≡◌, ◌<◌, ◌≤◌, length};
+ghost use Rattle.std.specs.Prelude.{◌≡◌, ◌<◌, ◌≤◌, [], false, length};
 ghost use Rattle.hd_dbd.specs.Hierarchy.{longest_path};
 
 use crate::calling_tests::play_all;
