@@ -39,7 +39,7 @@ struct Expected {
 }
 
 /// This of a number of bytes; `None` where there is no memory.
-fn expected(alloc: Global, length: usize) -> Option<Expected> {
+fn expected_of(alloc: Global, length: usize) -> Option<Expected> {
     let count = whole_calls(alloc, length)?;
     let start = calls_of(alloc, CALLS.get(..count).unwrap_or(CALLS))?;
     Some(Expected {
@@ -63,7 +63,7 @@ fn each_cut_keeps_what_was_answered(rt: HostRuntime) -> Result<(), Fail> {
     let dbd = database(alloc).expect(&rt, "a database");
     let whole = calls_of(alloc, CALLS).expect(&rt, "memory");
     for cut in 0..whole.len() + 1 {
-        let expected = expected(alloc, cut).expect(&rt, "memory");
+        let expected = expected_of(alloc, cut).expect(&rt, "memory");
         let store = sample(alloc, &dbd, 512, 0).expect(&rt, "memory");
         let mut input = whole.get(..cut).unwrap_or(&[]);
         let mut out = Vec::new(alloc);
