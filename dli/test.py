@@ -110,6 +110,26 @@ def samples(place):
     expect("reorder.py prints what it should", done.stdout == text("reorder"), done.stdout)
 
 
+ENTRIES = """CBLTDLI [  ] 01 PART     CG2040 Cog, 40 teeth     
+PLITDLI [  ] 01 PART     CG2040 Cog, 40 teeth     
+CEETDLI [  ] 01 PART     CG2040 Cog, 40 teeth     
+ctdli GE, key of 0 bytes, area of 0
+"""
+
+IO_PCB = """0 [  ]
+[AD]
+[  ] BX1001
+"""
+
+
+def entries(place):
+    """Each entry point, and an I/O PCB."""
+    done = place.run("hdrun", "DLI,ENTRIES,PARTRPT")
+    expect("the entry points answer the same", (done.returncode, done.stdout) == (0, ENTRIES), done.stdout)
+    done = place.run("hdrun", "--psb", os.path.join(HERE, "tests", "IOPCB.psb"), "DLI,IOPCB")
+    expect("an I/O PCB answers checkpoints", (done.returncode, done.stdout) == (0, IO_PCB), done.stdout)
+
+
 def refusals(place):
     """What is said where no program is run, and by programs that call what DL/I does not answer."""
     for words, part in (
@@ -184,6 +204,7 @@ def main(words):
         place = Place(folder, programs)
         place.compile()
         samples(place)
+        entries(place)
         refusals(place)
         deaths(place)
         full_disk(place)
