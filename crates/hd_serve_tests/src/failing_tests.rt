@@ -187,7 +187,7 @@ fn reads_once_for_each_call_and_answers_it_before_the_next(rt: HostRuntime) -> R
     let dbd = database(alloc).expect(&rt, "a database");
     let mut calls = Vec::new(alloc);
     for place in 0..CALLS.len() {
-        let one = CALLS.get(place..place + 1).unwrap_or(&[]);
+        let one = CALLS.get(place..place + 1).unwrap_or(CALLS);
         calls.push(calls_of(alloc, one).expect(&rt, "memory"))?;
     }
     let store = sample(alloc, &dbd, 512, 0).expect(&rt, "memory");
