@@ -2,6 +2,8 @@
 #![tactic(auto)]
 
 #[cfg(test)]
+mod cache_tests;
+#[cfg(test)]
 mod calling_tests;
 #[cfg(test)]
 mod command_tests;
@@ -9,8 +11,6 @@ mod command_tests;
 mod deck_tests;
 #[cfg(test)]
 mod giving_tests;
-#[cfg(test)]
-mod growth_tests;
 #[cfg(test)]
 mod listed_calls;
 #[cfg(test)]
