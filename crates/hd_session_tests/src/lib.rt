@@ -12,6 +12,8 @@ mod deck_tests;
 #[cfg(test)]
 mod giving_tests;
 #[cfg(test)]
+mod growth_tests;
+#[cfg(test)]
 mod listed_calls;
 #[cfg(test)]
 mod opening_tests;
