@@ -101,3 +101,19 @@ fn reads_a_call_with_its_parts(rt: HostRuntime) {
     assert_eq!(rt; &next.call.func, b"GU  ");
     assert_eq!(rt; (next.call.ssas.len(), next.call.area.len()), (0, 0));
 }
+
+/// A deck with a line of each kind.
+const ALL_KINDS: &[u8] =
+    b"* courses\nS 2\nL   3 GU   COURSE  (NUM     EQ101)\nC          CLASS   *D\n\nL     REPL\nD01XY\nH4142\nL     GN\n";
+
+#[test]
+fn reads_a_deck_cut_at_each_byte(rt: HostRuntime) {
+    let mut whole = 0usize;
+    for length in 0..ALL_KINDS.len().saturating_add(1) {
+        match read_deck(rt.alloc(), ALL_KINDS.get(..length).unwrap_or(&[]), 3) {
+            Ok(steps) => whole = steps.len(),
+            Err(fault) => assert!(rt; fault != DeckFault::Memory),
+        }
+    }
+    assert_eq!(rt; whole, 3);
+}
