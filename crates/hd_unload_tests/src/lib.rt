@@ -2,6 +2,8 @@
 #![tactic(auto)]
 
 #[cfg(test)]
+mod cache_tests;
+#[cfg(test)]
 mod check_tests;
 #[cfg(test)]
 mod heights_tests;
