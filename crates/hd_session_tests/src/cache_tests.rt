@@ -3,11 +3,13 @@ ghost use Rattle.std.specs.Prelude.{◌≡◌};
 
 use crate::calling_tests::play_all;
 use crate::listed_calls::{program, sample};
+use crate::run_tests::steps_of;
 use hd_cache::Cached;
 use hd_check::{CheckFault, check};
 use hd_dbd::Dbd;
+use hd_deck::{RunFault, run};
 use hd_sample::database;
-use hd_session::{IoArea, Session};
+use hd_session::{IoArea, OpenFault, Session};
 use hd_volume::{FuseStore, MemStore, Volume};
 use std::alloc::{AllocError, Global};
 use std::test::Fail;
@@ -93,6 +95,47 @@ fn hides_no_failed_access_behind_a_cache(rt: HostRuntime) -> Result<(), Fail> {
                 assert!(rt; told_by_calls > 0);
                 return Ok(());
             }
+        }
+    }
+    assert!(rt; false, "no end");
+    Ok(())
+}
+
+/// A deck that reads and changes.
+const DECK: &[u8] = b"L     GHU  BOOK    \nL     DLET\nL     ISRT COURSE  \nD303TITLE\nL   6 GN\n";
+
+/// Whether a run of the deck behind a cache met the access that fails, and whether that was told; `None` where another refusal came.
+fn run_behind(alloc: Global, dbd: &Dbd, passes: u64) -> Option<(bool, bool)>
+    requires size { dbd.now.block_size ≡ 128 }
+{
+    let psb = program(alloc, dbd)?;
+    let steps = steps_of(alloc, DECK, &psb)?;
+    let store = sample(alloc)?;
+    let Ok(cached) = Cached::new(alloc, FuseStore::new(store, passes), CACHED) else {
+        return None;
+    };
+    let mut out = Vec::new(alloc);
+    let (is_refused, cached) = match run(alloc, cached, dbd, &psb, &steps, &mut out) {
+        Ok(end) => (false, end.store),
+        Err((cached, RunFault::Device | RunFault::Open(OpenFault::Device))) => (true, cached),
+        Err(_) => return None,
+    };
+    let (fuse, written) = cached.into_store();
+    Some((fuse.accesses() > passes, is_refused || written.is_err()))
+}
+
+#[test]
+fn a_run_behind_a_cache_tells_of_each_failed_access(rt: HostRuntime) -> Result<(), Fail> {
+    let dbd = database(rt.alloc()).expect(&rt, "a database");
+    for passes in 0..400 {
+        let (is_met, is_told) = run_behind(rt.alloc(), &dbd, passes).expect(
+            &rt,
+            "no other refusal",
+        );
+        assert!(rt; is_met == is_told, "{passes}");
+        if !is_met {
+            assert!(rt; passes > 10, "{passes}");
+            return Ok(());
         }
     }
     assert!(rt; false, "no end");
