@@ -98,9 +98,9 @@ def blocks():
 
 def types():
     """255 types, 15 levels, keys of 255 bytes: a chain of 15, and the others below the root."""
-    segments = [("T1", "", 300, 255)]
+    segments = [("TYPE1", "", 300, 255)]
     for code in range(2, 256):
-        segments.append((f"T{code}", f"T{code - 1}" if code <= 15 else "T1", 300, 255))
+        segments.append((f"TYPE{code}", f"TYPE{code - 1}" if code <= 15 else "TYPE1", 300, 255))
     def row(code, number):
         return code, str(number).encode().rjust(255) + bytes(45)
     def records():
@@ -112,7 +112,7 @@ def types():
     run("types: reload", ["reload", "b.dbd", "b.stream", "b.volume", str(MOST_BLOCKS)], reloaded("b.volume", count))
     run("types: check", ["check", "b.dbd", "b.volume"], passes("b.volume", count, 50))
     key = str(49).encode().rjust(255).decode()
-    run("types: every segment by GN", ["deck", "b.dbd", "b.psb", "b.volume", "b.deck"], f"{count} 1 GN   [GK] 02 T255     key={key}{key} area={key}" + "\\x00" * 45)
+    run("types: every segment by GN", ["deck", "b.dbd", "b.psb", "b.volume", "b.deck"], f"{count} 1 GN   [GK] 02 TYPE255  key={key}{key} area={key}" + "\\x00" * 45)
 
 
 def block_count(volume):
