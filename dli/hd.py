@@ -195,16 +195,20 @@ class Pcb:
         return self.session.call("DLET", self.number, *ssas)
 
     def segments(self, *ssas):
-        """The segments behind the position that satisfy the arguments, one after the other."""
+        """The segments behind the position that satisfy the arguments, one after the other; ValueError at a status but GE and GB."""
         return iter(lambda: self._next(self.gn, ssas), None)
 
     def dependents(self, *ssas):
-        """The segments behind the position that satisfy the arguments, below the one that the last gu or gn gave."""
+        """The segments behind the position that satisfy the arguments, below the one that the last gu or gn gave; ValueError as there."""
         return iter(lambda: self._next(self.gnp, ssas), None)
 
     def _next(self, get, ssas):
         answer = get(*(argument if isinstance(argument, bytes) else ssa(argument) for argument in ssas))
-        return answer if answer.level else None
+        if answer.level:
+            return answer
+        if answer.status in ("GE", "GB"):
+            return None
+        raise ValueError(f"status {answer.status} of {get.__name__}")
 
 
 def open(dbd, psb, volume, program=None):
