@@ -10,7 +10,7 @@ use crate::facts::{
     TypeFacts, children_in, children_lists, facts_in, facts_of, levels_of, longest_path, type_of,
 };
 use crate::hierarchy::{FreeSpace, SegType};
-use crate::keys::key_in;
+use crate::keys::{compare_keys, key_in};
 use crate::naming::Name8;
 use crate::rules::{block_size_fits, free_space_fits, types_fault};
 use std::alloc::{AllocError, Global};
@@ -279,7 +279,7 @@ impl Dbd {
         let Some(key) = &segment.key else {
             return true;
         };
-        let order = before.cmp(after);
+        let order = compare_keys(before, after);
         if key.unique {
             order.is_lt()
         } else {

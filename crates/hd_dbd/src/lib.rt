@@ -21,7 +21,7 @@ pub use database::{Dbd, DbdFault};
 pub use facts::type_of;
 pub use fault_law::{law_databases_have_no_fault, law_programs_have_no_fault};
 pub use hierarchy::{Field, FreeSpace, Key, Rule, SegType};
-pub use keys::key_in;
+pub use keys::{compare_keys, key_in};
 pub use law::{
     law_levels_follow_parents, law_loaded_rows_are_valid, law_paths_follow_parents,
     law_sequences_are_valid, law_twins_ascend, law_valid_rows_are_in_sequence,

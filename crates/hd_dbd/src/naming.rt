@@ -5,7 +5,7 @@ ghost use Rattle.hd_dbd.specs.Naming.{is_name, is_name_byte, is_name_rest};
 use std::marker::Model;
 
 /// A name of 1 to 8 characters of A to Z, 0 to 9, `$`, `#` and `@`, the first a letter, blank padded to 8.
-#[derive(Clone, Copy, Debug, PartialEq, Eq)]
+#[derive(Clone, Copy, Debug)]
 pub struct Name8 {
     bytes: [u8; 8],
 }
@@ -21,6 +21,32 @@ impl Model for Name8 {
     ghost invariant = { λ n. IsTrue (is_name n.bytes) };
 
     ghost inverse = { λ bs. record { bytes = bs } };
+}
+
+impl PartialEq for Name8 {
+    ghost use Rattle.std.specs.Prelude.{bytes_eq};
+    ghost use Rattle.std.specs.Cmp.{partial_equiv_from_equiv};
+    ghost use Rattle.std.specs.Cmp.Lexicographic.{nat_list_eq_equiv};
+
+    ghost eq = { bytes_eq };
+
+    ghost laws = { partial_equiv_from_equiv nat_list_eq_equiv };
+
+    // Each call asks names of the DBD and the PSB for equality, most of which differ in their first bytes.
+    fn eq(&self, other: &Name8) -> bool {
+        for place in 0..8 {
+            if self.bytes[place] != other.bytes[place] {
+                return false;
+            }
+        }
+        true
+    }
+}
+
+impl Eq for Name8 {
+    ghost use Rattle.std.specs.Cmp.Lexicographic.{nat_list_eq_equiv};
+
+    ghost laws = { nat_list_eq_equiv };
 }
 
 impl Name8 {
