@@ -16,7 +16,7 @@ ghost use Rattle.hd_entries.specs.Fields.{CountFits};
 
 use crate::noted_blocks::block_address;
 use hd_check_blocks::Fault;
-use hd_dbd::{Dbd, Refused};
+use hd_dbd::{Dbd, Refused, compare_keys};
 use hd_entries::{FIRST, IndexBlock, root_key_length};
 use hd_image::Line;
 use hd_volume::{BlockStore, Volume};
@@ -33,7 +33,7 @@ fn is_above(left: &Left, key: &[u8], key_length: usize) -> bool
     requires short { key_length ≤ 255 }
     ensures { (o : Option Entry) → IsLeft key_length left.now o → result ≡ option_map_or (λ l. key_less l.key key.now) o true }
 {
-    !left.is_some || left.key[..key_length].cmp(key).is_lt()
+    !left.is_some || compare_keys(&left.key[..key_length], key).is_lt()
 }
 
 /// Keeps a key as that of the entry to the left.

@@ -7,6 +7,7 @@ ghost use Rattle.hd_check_levels.specs.Extents.{IsExtent};
 ghost use Rattle.hd_check_levels.specs.BlockExtents.{AreExtents, IsExtentBelow};
 ghost use Rattle.hd_check_levels.specs.Counted.{OfSomeEntries};
 
+use hd_dbd::compare_keys;
 use hd_entries::IndexBlock;
 
 /// The least and the greatest key of some entries, each at the front.
@@ -35,7 +36,7 @@ fn lesser_key(one: &[u8; 255], other: &[u8; 255], key_length: usize) -> [u8; 255
     requires short { key_length ≤ 255 }
     ensures { result ≡ cond (key_less (take key_length one.now) (take key_length other.now)) one.now other.now }
 {
-    if one[..key_length].cmp(&other[..key_length]).is_lt() {
+    if compare_keys(&one[..key_length], &other[..key_length]).is_lt() {
         *one
     } else {
         *other
@@ -47,7 +48,7 @@ fn greater_key(one: &[u8; 255], other: &[u8; 255], key_length: usize) -> [u8; 25
     requires short { key_length ≤ 255 }
     ensures { result ≡ cond (key_less (take key_length one.now) (take key_length other.now)) other.now one.now }
 {
-    if one[..key_length].cmp(&other[..key_length]).is_lt() {
+    if compare_keys(&one[..key_length], &other[..key_length]).is_lt() {
         *other
     } else {
         *one

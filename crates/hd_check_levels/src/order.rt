@@ -17,7 +17,7 @@ ghost use Rattle.hd_check_levels.specs.Judging.{IsFirst, WhereFound};
 
 use crate::extents::{Extent, extent_below};
 use crate::rows::Standing;
-use hd_dbd::Refused;
+use hd_dbd::{Refused, compare_keys};
 use hd_entries::{FIRST, IndexBlock};
 use hd_volume::{BlockStore, Volume};
 use std::alloc::Global;
@@ -34,7 +34,7 @@ fn is_above(left: &Left, key: &[u8], key_length: usize) -> bool
     requires short { key_length ≤ 255 }
     ensures { (o : Option Entry) → IsLeft key_length left.now o → result ≡ option_map_or (λ l. key_less l.key key.now) o true }
 {
-    !left.is_some || left.key[..key_length].cmp(key).is_lt()
+    !left.is_some || compare_keys(&left.key[..key_length], key).is_lt()
 }
 
 /// Keeps a key as that of the entry to the left.
@@ -56,7 +56,7 @@ fn is_below_least(below: &[Extent], index: usize, key: &[u8], key_length: usize)
         return true;
     }
     let extent = &below[index];
-    key.cmp(&extent.least[..key_length]).is_lt()
+    compare_keys(key, &extent.least[..key_length]).is_lt()
 }
 
 /// Whether the key of the entry at an index keeps its bounds.
@@ -68,7 +68,7 @@ fn is_within(level: u8, below: &[Extent], index: usize, key: &[u8], key_length: 
         return true;
     }
     let own = &below[index];
-    if key.cmp(&own.greatest[..key_length]).is_lt() {
+    if compare_keys(key, &own.greatest[..key_length]).is_lt() {
         return false;
     }
     is_below_least(below, index + 1, key, key_length)

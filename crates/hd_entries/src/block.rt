@@ -7,6 +7,7 @@ ghost use Rattle.hd_entries.specs.Fields.{entry_place, entry_count, below_count}
 
 use crate::format::{COUNT, LEVEL, NEXT, entry_place, entry_room};
 use hd_bytes::{read_u16, read_u32};
+use hd_dbd::compare_keys;
 
 /// An index block whose entries have keys of so many bytes: a view over its bytes, whatever they are.
 #[derive(Clone, Copy)]
@@ -91,7 +92,7 @@ impl<'b> IndexBlock<'b> {
         requires { index < entry_count self.now.key_length self.now.bytes.now }
         ensures { result ≡ key_less (bytes_at self.now.bytes.now (entry_place self.now.key_length index) self.now.key_length) key.now }
     {
-        self.key(index).cmp(key).is_lt()
+        compare_keys(self.key(index), key).is_lt()
     }
 
     /// How many of its first entries are below a key.

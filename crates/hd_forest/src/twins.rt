@@ -13,7 +13,7 @@ ghost use Rattle.hd_forest.specs.TwinPlaces.{twin_places, behind_below, passed};
 
 use crate::read::code_at;
 use hd_bytes::read_u32;
-use hd_dbd::{Dbd, Refused};
+use hd_dbd::{Dbd, Refused, compare_keys};
 use hd_prefix::{Layout, Pointer};
 use hd_volume::{BlockStore, Volume};
 
@@ -53,7 +53,7 @@ pub fn key_at(places: TwinPlaces, segment: &[u8]) -> &[u8]
 fn is_below(places: TwinPlaces, segment: &[u8], key: &[u8]) -> bool
     ensures { result ≡ is_lt (slice_cmp nat_cmp (bytes_at segment.now places.key places.length) key.now) }
 {
-    key_at(places, segment).cmp(key).is_lt()
+    compare_keys(key_at(places, segment), key).is_lt()
 }
 
 /// The twin forward of a lent segment.

@@ -16,7 +16,7 @@ ghost use Rattle.hd_index_set.specs.Comings.{MayCome, WhereNoneIsNeeded, HasCome
 
 use crate::descend::MOST_LEVELS;
 use crate::look::has_block;
-use hd_dbd::Refused;
+use hd_dbd::{Refused, compare_keys};
 use hd_entries::{IndexBlock, entry_room};
 use hd_index_edits::{add_entry, set_entry_key};
 use hd_volume::{BlockStore, Volume};
@@ -67,7 +67,7 @@ fn turn_in(block: &IndexBlock, by: &[u8], key: &[u8]) -> Turn
         index,
         count,
         child: block.address(index),
-        is_low: block.key(index).cmp(key).is_lt(),
+        is_low: compare_keys(block.key(index), key).is_lt(),
     }
 }
 

@@ -4,7 +4,7 @@ ghost use Rattle.hd_links.specs.LastRows.{segments_of, parent_on_path, twin_on_p
 ghost use Rattle.hd_unload.specs.Paths.{placed_of};
 
 use crate::path::{LoadPath, Loaded};
-use hd_dbd::{Dbd, LoadFault};
+use hd_dbd::{Dbd, LoadFault, compare_keys};
 
 /// Whether the parent type of a row is not on the path of the row loaded last.
 fn lacks_parent(path: &LoadPath<'_>, dbd: &Dbd, code: u8) -> bool
@@ -26,9 +26,10 @@ fn order_fault(dbd: &Dbd, before: Loaded<'_>, code: u8, bytes: &[u8]) -> Option<
     if before.code < code {
         return None;
     }
-    let order = dbd
-        .key_of(before.code, before.bytes)
-        .cmp(dbd.key_of(code, bytes));
+    let order = compare_keys(
+        dbd.key_of(before.code, before.bytes),
+        dbd.key_of(code, bytes),
+    );
     if dbd.has_unique_key(code) && order.is_eq() {
         return Some(LoadFault::LB);
     }

@@ -8,7 +8,7 @@ ghost use Rattle.hd_get.specs.Meeting.{IsStored};
 ghost use Rattle.hd_get.specs.Searches.{IsOf};
 ghost use Rattle.hd_update.specs.Loading.{HasLastPath, IsCodeOn, IsKeyOrder, SaysParentLacks, IsLoadFault, IsOrderFault, IsLastTwin, key_fault, last_parent};
 
-use hd_dbd::{Dbd, LoadFault, Refused, Status};
+use hd_dbd::{Dbd, LoadFault, Refused, Status, compare_keys};
 use hd_forest::{Path, bytes_in, code_at};
 use hd_volume::{BlockStore, Volume};
 use std::cmp::Ordering;
@@ -92,7 +92,7 @@ pub fn key_order<S: BlockStore>(
 {
     let segment = volume.segment_at(address)?;
     let before = dbd.key_of(code, bytes_in(dbd, segment));
-    Ok(before.cmp(dbd.key_of(code, bytes)))
+    Ok(compare_keys(before, dbd.key_of(code, bytes)))
 }
 
 /// Why a row may not be loaded behind the twin with a key that so stands to its own, if there is a reason.

@@ -13,7 +13,7 @@ ghost use Rattle.hd_get.specs.Starts.{HasRoots};
 ghost use Rattle.hd_update.specs.Places.{has_key, side_of, side_at, IsGapBelow, HasParent, is_equal_at, standing_path, IsStandingTwin, HasRowOf, IsBeforeEqual, HasNextRoot, HasPlace, IsPlaceBelow};
 
 use crate::judging::key_order;
-use hd_dbd::{Dbd, Refused, Rule};
+use hd_dbd::{Dbd, Refused, Rule, compare_keys};
 use hd_forest::{
     Path, TwinPlaces, code_at, first_child, forward_in, key_at, last_twin, parent_on, prev_twin,
     tip_of, twin_places,
@@ -97,7 +97,7 @@ fn meet_twin<S: BlockStore>(
     ensures refusal { OnlyDevice result }
 {
     let segment = volume.segment_at(twin)?;
-    let order = key_at(places, segment).cmp(dbd.key_of(code, bytes));
+    let order = compare_keys(key_at(places, segment), dbd.key_of(code, bytes));
     Ok(Met {
         side: side_of(dbd, code, last, order),
         next: forward_in(places, segment),

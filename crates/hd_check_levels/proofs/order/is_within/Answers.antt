@@ -15,7 +15,7 @@ returns-then-is_lt c = λ b fs e rest h is key.
     let up = c.if-level-eq0.false in
     let least : Bool = is_below_least c.args.key_length c.args.key.now (drop (c.args.index + 1) c.args.below.now) in
     ap (λ (x : Bool). not x && least) (sym c.if-is_lt.true)
-    ∙ bounds-judged c.args.key_length b c.args.level fs c.args.below.now c.args.index e rest _ c.args.key.now c.is_lt.result (omega arith) h is c.if-index-below.false key (c.is_lt.ensures ∙ ap is_lt c.cmp.ensures)
+    ∙ bounds-judged c.args.key_length b c.args.level fs c.args.below.now c.args.index e rest _ c.args.key.now c.is_lt.result (omega arith) h is c.if-index-below.false key (c.is_lt.ensures ∙ ap is_lt c.compare_keys.ensures)
 
 pub returns : goal.returns
 returns c = λ b fs e rest h is key.
@@ -23,4 +23,4 @@ returns c = λ b fs e rest h is key.
     let least : Bool = is_below_least c.args.key_length c.args.key.now (drop (c.args.index + 1) c.args.below.now) in
     c.is_below_least.ensures
     ∙ ap (λ (x : Bool). not x && least) (sym c.if-is_lt.false)
-    ∙ bounds-judged c.args.key_length b c.args.level fs c.args.below.now c.args.index e rest _ c.args.key.now c.is_lt.result (omega arith) h is c.if-index-below.false key (c.is_lt.ensures ∙ ap is_lt c.cmp.ensures)
+    ∙ bounds-judged c.args.key_length b c.args.level fs c.args.below.now c.args.index e rest _ c.args.key.now c.is_lt.result (omega arith) h is c.if-index-below.false key (c.is_lt.ensures ∙ ap is_lt c.compare_keys.ensures)

@@ -31,5 +31,5 @@ returns-clause-turn c fits ascend more =
       count_is = count ∙ sym len;
       address = c.address.ensures;
       child_is = c.address.ensures ∙ child-here by (entries_in k b) i (entry_of k b (12 + i * (k + 4))) index here;
-      low_is = c.is_lt.ensures ∙ ap is_lt c.cmp.ensures ∙ ap (λ (x : List ℕ). key_less x c.args.key.now) c.key.ensures.value;
+      low_is = c.is_lt.ensures ∙ ap is_lt c.compare_keys.ensures ∙ ap (λ (x : List ℕ). key_less x c.args.key.now) c.key.ensures.value;
     }

@@ -22,7 +22,7 @@ returns-clause-side g c sound =
     (ap (λ (x : List ℕ). twin_places d.types (code_of x)) (sym l.stored) ∙ ap (twin_places d.types) (c.requires.typed sound) ∙ c.requires.places) in
     c.side_of.ensures
     ∙ ap (λ (o : Ordering). side_of (has_unique_key d.types c.args.code) c.args.last o)
-    (c.cmp-order.ensures ∙ ap₂ (λ (x y : List ℕ). slice_cmp nat_cmp x y)
+    (c.compare_keys-order.ensures ∙ ap₂ (λ (x y : List ℕ). slice_cmp nat_cmp x y)
     (c.key_at.ensures ∙ R.has_key ∙ ap (λ (x : List ℕ). key_of d.types (record { code = code_of x; bytes = bytes_of d.types (code_of x) x })) (sym l.stored))
     c.key_of.ensures.value)
 
