@@ -1,10 +1,11 @@
 -- A walk along the free elements of a block, as a way from offset 8 to a place.
-use Rattle.std.proofs.Common.{◌≡◌, ◌≢◌, ℕ, ◌+◌, ◌%◌, ◌<◌, ◌≤◌, ◌⊎◌, inl, inr, nat_le, false, List, [], ◌∷◌, ◌++◌, length, Some, None, refl, sym, ap, ◌∙◌, subst, arith, append_assoc, cond}
+use Rattle.std.proofs.Common.{◌≡◌, ◌≢◌, ℕ, ◌+◌, ◌%◌, ◌<◌, ◌≤◌, ◌⊎◌, inl, inr, nat_le, max, false, List, [], ◌∷◌, ◌++◌, length, Some, None, refl, sym, ap, ◌∙◌, subst, arith, append_assoc, cond}
 use Rattle.std.proofs.lemmas.Bool.{lt-leb}
 use Rattle.hd_bytes.specs.Numbers.{number_at}
 use Rattle.hd_block.specs.Extents.{Extent, free, used, taken, IsHole, IsSegment, Fill, IsDivided, UsedAt, TakenAt}
 use Rattle.hd_block.specs.Changes.{hole_at, split_hole, after_take}
-use Rattle.hd_block.specs.Found.{Way, At, Keeps, SeeksHole, SeeksOffset, Progress, Stands, IsLinked}
+use Rattle.hd_block.specs.Parts.{largest_free}
+use Rattle.hd_block.specs.Found.{Way, At, Keeps, SeeksHole, SeeksLargest, SeeksOffset, Progress, Stands, IsLinked}
 use Rattle.hd_block.specs.declared.gives.Link.{Link}
 
 -- a way goes on by a free element
@@ -105,10 +106,10 @@ pub stands : {sizes : ℕ → ℕ} {b : List ℕ} {kept : Keeps} {xs : List Exte
     → Stands sizes b kept xs end g m (number_at 2 b (g + 2))
 stands {sizes} {b} {kept} {xs} {end} {g} {m} p step some = go-on sizes b kept xs end g m p.before p.behind p.place p.way p.fill p.far p.whole p.keeps step some
 
--- it passes that element
-pub passes : {sizes : ℕ → ℕ} {b : List ℕ} {kept : Keeps} {xs : List Extent} {end g m n : ℕ} (s : Stands sizes b kept xs end g m n) → kept (s.before ++ free n ∷ []) (g + n) s.behind
-    → Progress sizes b kept xs (g + 8) (number_at 2 b g) g
-passes {sizes} {b} {kept} {xs} {end} {g} {m} {n} s k =
+-- it passes that element, and may keep another fact from then on
+pub passes : {sizes : ℕ → ℕ} {b : List ℕ} {kept later : Keeps} {xs : List Extent} {end g m n : ℕ} (s : Stands sizes b kept xs end g m n) → later (s.before ++ free n ∷ []) (g + n) s.behind
+    → Progress sizes b later xs (g + 8) (number_at 2 b g) g
+passes {sizes} {b} {kept} {later} {xs} {end} {g} {m} {n} s k =
     record {
       before = s.before ++ free n ∷ [];
       behind = s.behind;
@@ -148,6 +149,33 @@ passes-small {sizes} {b} {size} {xs} {end} {g} {m} {n} s l =
       s.keeps.0 ∙ ap (λ c. cond c (Some g) (hole_at size (g + n) s.behind)) small,
       s.keeps.1 ∙ ap (λ c. s.before ++ cond c (split_hole size n s.behind) (free n ∷ after_take size s.behind)) small ∙ sym (append_assoc s.before _ _),
     )
+
+-- ---- a search for the largest hole
+
+-- it passes extents that are not free
+pub passes-others : (largest : ℕ) (xs : List Extent) (g : ℕ) → Passes (SeeksLargest largest xs) g
+passes-others largest xs g = record { used = λ before ys p n l k. k; taken = λ before ys p n l k. k }
+
+-- and a free element, which may be the largest
+pub passes-free : {sizes : ℕ → ℕ} {b : List ℕ} {xs : List Extent} {end g m n : ℕ} (largest : ℕ) → Stands sizes b (SeeksLargest largest xs) xs end g m n
+    → Progress sizes b (SeeksLargest (max largest n) xs) xs (g + 8) (number_at 2 b g) g
+passes-free {sizes} {b} {xs} {end} {g} {m} {n} largest s = let keeps : largest_free xs ≡ max largest (max n (largest_free s.behind)) = s.keeps in passes s (omega arith)
+
+-- no free element is left
+none-free : (sizes : ℕ → ℕ) (b : List ℕ) (p f : ℕ) (xs : List Extent) → 0 < p → f ≡ 0 → Fill sizes b p f xs → largest_free xs ≡ 0
+none-free sizes b p f [] l e h = refl
+none-free sizes b p f (free n ∷ xs) l e h = absurd (omega arith)
+none-free sizes b p f (used n ∷ xs) l e h = none-free sizes b (p + n) f xs (omega arith) e h.2
+none-free sizes b p f (taken n ∷ xs) l e h = none-free sizes b (p + n) f xs (omega arith) e h.3
+
+-- where the chain has ended, or leads back, all were seen
+pub all-seen : {sizes : ℕ → ℕ} {b : List ℕ} {largest : ℕ} {xs : List Extent} {end g m : ℕ} → Progress sizes b (SeeksLargest largest xs) xs end g m → 0 < end → g < end → largest ≡ largest_free xs
+all-seen {sizes} {b} {largest} {xs} {end} {g} p l k =
+    let far = p.far in
+    let ended : g ≡ 0 = elim (fill-ahead sizes b p.place g p.behind p.fill) [ inl e ↦ e | inr e ↦ absurd (omega arith) ] in
+    let none = none-free sizes b p.place g p.behind (omega arith) ended p.fill in
+    let keeps : largest_free xs ≡ max largest (largest_free p.behind) = p.keeps in
+    omega arith
 
 -- ---- a search for an offset
 

@@ -1,8 +1,9 @@
 -- What a walk along the free elements of a block finds.
-use Rattle.std.specs.Prelude.{◌≡◌, ◌≢◌, ◌⊎◌, ℕ, ◌+◌, ◌%◌, ◌≤◌, List, [], ◌∷◌, ◌++◌}
+use Rattle.std.specs.Prelude.{◌≡◌, ◌≢◌, ◌⊎◌, ℕ, ◌+◌, ◌%◌, ◌≤◌, max, List, [], ◌∷◌, ◌++◌}
 use Rattle.hd_bytes.specs.Numbers.{number_at}
 use Rattle.hd_block.specs.Extents.{Extent, free, used, taken, IsHole, IsSegment, Fill}
 use Rattle.hd_block.specs.Changes.{hole_at, after_take, hole_before}
+use Rattle.hd_block.specs.Parts.{largest_free}
 use Rattle.hd_block.specs.declared.holes.Hole.{Hole}
 use Rattle.hd_block.specs.declared.gives.Link.{Link}
 use Rattle.hd_block.specs.declared.gives.Behind.{Behind}
@@ -29,6 +30,10 @@ Keeps = List Extent → ℕ → List Extent → Type 0
 -- the first hole of this size is not before the place
 abbrev pub SeeksHole : ℕ → List Extent → Keeps
 SeeksHole size xs before place behind = (hole_at size 8 xs ≡ hole_at size place behind) × (after_take size xs ≡ before ++ after_take size behind)
+
+-- the largest hole is this long, or not before the place
+abbrev pub SeeksLargest : ℕ → List Extent → Keeps
+SeeksLargest largest xs before place behind = largest_free xs ≡ max largest (largest_free behind)
 
 -- what stands at this offset is not before the place
 abbrev pub SeeksOffset : ℕ → ℕ → Keeps

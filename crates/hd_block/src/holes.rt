@@ -2,6 +2,7 @@ ghost use Rattle.std.specs.Prelude.{◌≡◌, ◌⊎◌, ◌+◌, ◌%◌, ◌�
 ghost use Rattle.hd_bytes.specs.Ranges.{AgreeOn};
 ghost use Rattle.hd_block.specs.Extents.{Extent, IsDivided, UsedAt};
 ghost use Rattle.hd_block.specs.Changes.{hole_at, after_take};
+ghost use Rattle.hd_block.specs.Parts.{largest_free};
 ghost use Rattle.hd_block.specs.Found.{IsFound};
 
 use crate::element::write_element;
@@ -42,6 +43,24 @@ fn find_hole(bytes: &[u8], size: u16) -> Option<Hole>
         place = next as usize;
     }
     None
+}
+
+/// The length of the largest free element, 0 where there is none; a chain that does not ascend ends the search.
+pub fn largest_free(bytes: &[u8]) -> u16
+    requires { 8 ≤ length bytes.now }
+    ensures { (sizes : ℕ → ℕ) (xs : List Extent) → IsDivided sizes bytes.now xs → result ≡ largest_free xs }
+{
+    let mut largest = 0;
+    let mut end = 8;
+    let mut place = read_u16(bytes, 0) as usize;
+    'walk: while place >= end && place + 8 <= bytes.len() {
+        let len = read_u16(bytes, place + 2);
+        let next = read_u16(bytes, place);
+        largest = largest.max(len);
+        end = place + 8;
+        place = next as usize;
+    }
+    largest
 }
 
 /// Takes the front of the first hole that is large enough.

@@ -9,6 +9,7 @@ mod law;
 mod parts;
 
 pub use block::Block;
+pub use holes::largest_free;
 pub use law::{
     law_one_division, law_room_is_filled, law_segments_are_apart, law_writes_keep_division,
 };

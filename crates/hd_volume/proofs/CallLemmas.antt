@@ -6,7 +6,8 @@ use Rattle.std.proofs.Math.ListN.{length-set}
 use Rattle.hd_bytes.specs.Ranges.{bytes_at, with_bytes}
 use Rattle.hd_bytes.specs.Blocks.{block_of, HasBlock}
 use Rattle.hd_bytes.proofs.BlockLemmas.{place-of, length-block}
-use Rattle.hd_block.specs.Extents.{UsedAt}
+use Rattle.hd_block.specs.Extents.{Extent, IsDivided, UsedAt}
+use Rattle.hd_block.specs.Parts.{largest_free}
 use Rattle.hd_block.specs.Walk.{parts_in}
 use Rattle.std.proofs.Math.Nat.{mul-div_cancel}
 use Rattle.hd_volume.specs.declared.space.Space.{Space}
@@ -17,11 +18,11 @@ use Rattle.hd_volume.specs.Headers.{header_of, HasHeader}
 use Rattle.hd_volume.specs.Volumes.{VolumeState, block_at, kind_of, IsKind, HasExtents, IsFormatted}
 use Rattle.hd_volume.specs.Records.{segment_in, find}
 use Rattle.hd_volume.specs.Rooms.{free_below, largest_hole}
-use Rattle.hd_volume.specs.Spaces.{blocks_in, content_at, IsContent, IsSpaceOf}
+use Rattle.hd_volume.specs.Spaces.{blocks_in, content_at, IsContent, IsSpaceOf, AreDivided}
 use Rattle.hd_volume.specs.Calls.{KeepsOthers, HasSegment, IsWritten, IsFreed}
 use Rattle.hd_volume.proofs.MapLemmas.{IsFound, find-some, find-in, find-there}
 use Rattle.hd_volume.proofs.ExtentLemmas.{used-is, segment-some}
-use Rattle.hd_volume.proofs.EditLemmas.{IsEdited, write-edits, IsFreeIn, free-edits}
+use Rattle.hd_volume.proofs.EditLemmas.{IsEdited, write-edits, IsFreeIn, free-edits, largest-divided}
 use Rattle.hd_volume.proofs.FrameLemmas.{AreSame, HasChanged, block-seen, kind-on, other-blocks, other-segments, keeps-header, keeps-kinds, keeps-spare, keeps-formatted, keeps-holes, keeps-space, free-same}
 use Rattle.hd_volume.proofs.SpaceLemmas.{whole-block}
 
@@ -242,6 +243,15 @@ module _ (v w : VolumeState) (a : ℕ) (f : IsFormatted v) (h : HasSegment v a 0
       opened-space v w (a / v.size) hole space new-space c f.header k o free-is lowest-is later freed-found.kind (freed-in.kind ∙ freed-found.kind) (looked-at v (a / v.size) f.header some freed-there.there) (omega arith)
 
 -- ---- seeking a hole
+
+-- the largest free element of a data block that is looked at is its largest hole
+pub seen-hole : (size : ℕ) (sizes image : List ℕ) (space : Space) (n hole : ℕ) (hand : List ℕ) → IsSpaceOf size sizes image space → AreDivided (slice_index sizes) size image
+    → 0 < n → n < blocks_in size image → (content_at space n).kind ≡ 1 → hand ≡ block_of size image n
+    → ((f : ℕ → ℕ) (xs : List Extent) → IsDivided f hand xs → hole ≡ largest_free xs) → hole ≡ largest_hole (parts_in (slice_index sizes) (block_of size image n))
+seen-hole size sizes image space n hole hand h divided some below is at found =
+    let x = divided n some below (sym (h.contents n some below).kind_is ∙ is) in
+    let P : List ℕ → Type 0 = λ b. IsDivided (slice_index sizes) b x.extents in
+    found (slice_index sizes) x.extents (subst P (sym at) x.divides) ∙ sym (largest-divided (slice_index sizes) (block_of size image n) x)
 
 -- what is kept stays true where the bound of a data block is made its largest hole
 pub mended-space : (size : ℕ) (sizes image : List ℕ) (space new : Space) (n hole : ℕ) → IsSpaceOf size sizes image space → new.contents.items ≡ slice_set space.contents.items n (record { kind = 1; hole = hole })

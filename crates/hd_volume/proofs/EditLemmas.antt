@@ -7,7 +7,7 @@ use Rattle.hd_bytes.proofs.BlockLemmas.{length-bytes_at, byte-at, agree-changed,
 use Rattle.hd_bytes.proofs.NumberLemmas.{changes-with, length-with, number-below}
 use Rattle.hd_block.specs.Extents.{Extent, free, used, taken, Fill, IsDivided, AreWhole, UsedAt, TakenAt}
 use Rattle.hd_block.specs.Changes.{hole_at, after_take, split_hole, after_fill, after_give, hole_before}
-use Rattle.hd_block.specs.Parts.{parts_of}
+use Rattle.hd_block.specs.Parts.{parts_of, largest_free}
 use Rattle.hd_block.specs.Walk.{parts_in}
 use Rattle.hd_block.proofs.Walk.{fill-within}
 use Rattle.hd_block.proofs.FrameLemmas.{used-ahead, agree-both}
@@ -15,6 +15,7 @@ use Rattle.hd_block.proofs.LawLemmas.{fill-written, fill-filled, used-apart}
 use Rattle.hd_block.proofs.PartLemmas.{parts-divided}
 use Rattle.hd_volume.specs.Records.{segment_in}
 use Rattle.hd_volume.specs.Rooms.{largest_hole}
+use Rattle.hd_volume.specs.Volumes.{HasExtents}
 use Rattle.hd_volume.specs.Edits.{IsTaken, IsGiven}
 use Rattle.hd_volume.proofs.ExtentLemmas.{used-is, segment-is, segment-none, segment-same}
 
@@ -371,3 +372,14 @@ none-large n p [] some w none = some
 none-large n p (free m ∷ xs) some w none = none-by n p m xs (nat_le n m) refl (none-large n (p + m) xs some w) none
 none-large n p (used m ∷ xs) some w none = none-large n (p + m) xs some w none
 none-large n p (taken m ∷ xs) some w none = absurd w
+
+-- the largest hole among the parts of extents is their largest free element
+largest-parts : (p : ℕ) (xs : List Extent) → largest_hole (parts_of p xs) ≡ largest_free xs
+largest-parts p [] = refl
+largest-parts p (free m ∷ xs) = ap (max m) (largest-parts (p + m) xs)
+largest-parts p (used m ∷ xs) = largest-parts (p + m) xs
+largest-parts p (taken m ∷ xs) = largest-parts (p + m) xs
+
+-- and that of a divided block is that of its extents
+pub largest-divided : (sizes : ℕ → ℕ) (b : List ℕ) (x : HasExtents sizes b) → largest_hole (parts_in sizes b) ≡ largest_free x.extents
+largest-divided sizes b x = ap largest_hole (parts-divided sizes b x.extents x.divides x.whole) ∙ largest-parts 8 x.extents

@@ -14,7 +14,7 @@ use Rattle.hd_volume.specs.Headers.{HasHeader}
 use Rattle.hd_volume.specs.Volumes.{VolumeState, block_at, kind_of, IsFormatted}
 use Rattle.hd_volume.specs.Records.{segment_in}
 use Rattle.hd_volume.specs.Rooms.{largest_hole, HasHole}
-use Rattle.hd_volume.specs.Spaces.{blocks_in, IsSpaceOf, IsSeen}
+use Rattle.hd_volume.specs.Spaces.{blocks_in, IsSpaceOf, AreDivided, IsSeen}
 use Rattle.hd_volume.specs.Steps as step
 use Rattle.hd_volume.proofs.MapLemmas.{find-in}
 use Rattle.hd_volume.proofs.EditLemmas.{IsPutIn, put-edits, none-large}
@@ -115,6 +115,10 @@ if-none-map (Some x) h p = tt
 -- a data block that was found has room
 pub room-of : (v : VolumeState) (n need : ℕ) → 0 < v.size → (0 < n) × (n < blocks_in v.size v.image) × (kind_of (block_at v n) ≡ 1) × (need ≤ largest_hole (parts_in (slice_index v.sizes) (block_at v n))) → step.HasRoom v n need
 room-of v n need some h = let low = h.1 in record { is_data = record { there = has-block v.size n v.image some (omega arith); later = h.0; kind_is = h.2 }; large = h.3 }
+
+-- in a formatted volume each data block that is looked at is divided
+pub are-divided : (v : VolumeState) → 0 < v.size → IsFormatted v → AreDivided (slice_index v.sizes) v.size v.image
+are-divided v some f n later below kind = f.divided n (record { there = has-block v.size n v.image some (omega arith); later = later; kind_is = kind })
 
 -- where no block that is looked at has a hole of a size, there is none
 pub no-hole : (v : VolumeState) (need : ℕ) → HasHeader v.size v.image → 0 < v.size

@@ -6,7 +6,7 @@ use Rattle.hd_volume.specs.declared.space.Content.{Content}
 use Rattle.hd_volume.specs.declared.space.Space.{Space}
 use Rattle.hd_bytes.specs.Blocks.{block_of}
 use Rattle.hd_volume.specs.Buffers.{Buffered}
-use Rattle.hd_volume.specs.Volumes.{VolumeState, kind_of}
+use Rattle.hd_volume.specs.Volumes.{VolumeState, kind_of, HasExtents}
 use Rattle.hd_volume.specs.Rooms.{free_below, largest_hole}
 use Rattle.hd_volume.specs.declared.load.TheConstants.{MOST_BLOCKS}
 
@@ -39,6 +39,11 @@ pub record IsSpaceOf (size : ℕ) (sizes image : List ℕ) (space : Space) : Typ
   pub lowest : (c n : ℕ) → 0 < n → n < slice_index space.lowest.items c → n < blocks_in size image → (content_at space n).kind ≡ 1 → (content_at space n).hole < slice_index sizes c
   pub free : space.free ≡ free_below size image (blocks_in size image)
   pub lowest_free : (n : ℕ) → 0 < n → n < space.lowest_free → n < blocks_in size image → kind_of (block_of size image n) ≡ 3 → ⊥
+
+-- each data block that is looked at is divided into free elements and segments
+abbrev pub AreDivided : (ℕ → ℕ) → ℕ → List ℕ → Type 0
+AreDivided sizes size image =
+    (n : ℕ) → 0 < n → n < blocks_in size image → kind_of (block_of size image n) ≡ 1 → HasExtents sizes (block_of size image n)
 
 -- Stored sizes: each fits into a block behind its first 8 bytes, and is a multiple of 8.
 pub record AreSizes (size : ℕ) (sizes : List ℕ) : Type 0 where

@@ -1,4 +1,4 @@
-ghost use Rattle.std.specs.Prelude.{◌≡◌, ◌+◌, ◌≤◌, ◌<◌, ◌%◌, true, false, vec_len, IsTrue, length, OnOk, IfOk, IfErr, IfSome, slice_index};
+ghost use Rattle.std.specs.Prelude.{◌≡◌, ◌+◌, ◌/◌, ◌%◌, ◌≤◌, ◌<◌, true, false, vec_len, IsTrue, length, OnOk, IfOk, IfErr, IfSome, slice_index};
 ghost use Rattle.hd_dbd.specs.Refusals.{OnlyDevice, OnlyMemory};
 ghost use Rattle.hd_bytes.specs.Blocks.{block_of, grown, HasBlock};
 ghost use Rattle.hd_bytes.specs.Ranges.{with_bytes};
@@ -79,6 +79,16 @@ impl<S: BlockStore> Blocks<S> {
         self.block_size
     }
 
+    /// The number of the block that an address is in, and the offset there.
+    pub fn place(&self, address: u32) -> (u32, usize)
+        ensures number { result.0 ≡ address / self.now.size }
+        ensures offset { result.1 ≡ address % self.now.size }
+        ensures within { result.1 < self.now.size }
+    {
+        let size = self.block_size as u32;
+        (address / size, (address % size) as usize)
+    }
+
     /// All bytes, which need be no whole number of blocks.
     pub fn length(&self) -> u64
         ensures { IsTrue self.now.is_sound → result ≡ length self.now.image }
@@ -129,6 +139,9 @@ impl<S: BlockStore> Blocks<S> {
         ensures size { self.new.size ≡ self.old.size }
         ensures room { self.new.room ≡ self.old.room }
     {
+        if self.hand.holds && self.hand.number == n {
+            return Ok(());
+        }
         bring(&mut self.store, &mut self.hand, n)?;
         Ok(())
     }

@@ -39,7 +39,7 @@ pub fn write_back<S: BlockStore>(store: &mut S, buffer: &mut Buffer) -> Result<(
     Ok(())
 }
 
-/// Brings a block to the buffer. The one that it holds is written back first.
+/// Reads a block into the buffer. The one that it holds is written back first.
 pub fn bring<S: BlockStore>(store: &mut S, buffer: &mut Buffer, n: u32) -> Result<(), Refused>
     requires len { vec_len buffer.old.bytes ≡ S.size store.old }
     requires ready { IsTrue (S.is_sound store.old) → IsBuffer (S.size store.old) (S.contents store.old) buffer.old }
@@ -57,9 +57,6 @@ pub fn bring<S: BlockStore>(store: &mut S, buffer: &mut Buffer, n: u32) -> Resul
     ensures size { S.size store.new ≡ S.size store.old }
     ensures room { S.room store.new ≡ S.room store.old }
 {
-    if buffer.holds && buffer.number == n {
-        return Ok(());
-    }
     write_back(store, buffer)?;
     store.read(n, &mut buffer.bytes)?;
     buffer.number = n;

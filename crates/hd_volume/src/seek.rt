@@ -1,13 +1,13 @@
 ghost use Rattle.std.specs.Prelude.{◌≡◌, ◌≤◌, ◌<◌, ℕ, true, false, IsTrue, slice_index, slice_set, vec_len, IfOk, IfSome, IfNone};
 ghost use Rattle.hd_dbd.specs.Refusals.{OnlyDevice};
 ghost use Rattle.hd_volume.specs.Buffers.{IsFetch};
-ghost use Rattle.hd_volume.specs.Rooms.{largest_hole};
-ghost use Rattle.hd_volume.specs.Spaces.{IsSpaceOf, IsSeen, blocks_in, content_at, KeepsTables, IsSeenAt, NoneIsSeen, HasHoleIn, IsLowestFree, NoneIsFreeBelow};
+ghost use Rattle.hd_volume.specs.Spaces.{IsSpaceOf, AreDivided, IsSeen, blocks_in, content_at, KeepsTables, IsSeenAt, NoneIsSeen, HasHoleIn, IsLowestFree, NoneIsFreeBelow};
 ghost use Rattle.hd_volume.specs.declared.load.TheConstants.{MOST_BLOCKS};
 
 use crate::blocks::Blocks;
-use crate::space::{Content, DATA, FREE, Space, largest_hole, set_content, size_of};
+use crate::space::{Content, DATA, FREE, Space, set_content, size_of};
 use crate::store::BlockStore;
+use hd_block::largest_free;
 use hd_dbd::Refused;
 
 /// The lowest data block with a hole of the size of a type's segments, if there is one. Blocks that can't have one are not
@@ -21,6 +21,7 @@ pub fn seek_hole<S: BlockStore>(
     requires least { 8 ≤ blocks.old.size }
     requires few { vec_len space.old.contents ≤ MOST_BLOCKS }
     requires space_is { IsTrue blocks.old.is_sound → IsSpaceOf blocks.old.size sizes.now blocks.old.image space.old }
+    requires divided { IsTrue blocks.old.is_sound → AreDivided (slice_index sizes.now) blocks.old.size blocks.old.image }
     ensures fetch { IsFetch blocks.old result blocks.new }
     ensures space { IsTrue blocks.new.is_sound → IsSpaceOf blocks.old.size sizes.now blocks.old.image space.new }
     ensures tables { KeepsTables space.old space.new }
@@ -42,7 +43,8 @@ pub fn seek_hole<S: BlockStore>(
     Ok(None)
 }
 
-/// A block is for data and has a hole of this size. It is read only where it may have one, and what is kept of it is mended.
+/// A block is for data and has a hole of this size. It is read only where it may have one, along its free elements alone, and
+/// what is kept of it is mended.
 fn try_block<S: BlockStore>(
     blocks: &mut Blocks<S>,
     space: &mut Space,
@@ -52,6 +54,7 @@ fn try_block<S: BlockStore>(
 ) -> Result<bool, Refused>
     requires least { 8 ≤ blocks.old.size }
     requires space_is { IsTrue blocks.old.is_sound → IsSpaceOf blocks.old.size sizes.now blocks.old.image space.old }
+    requires divided { IsTrue blocks.old.is_sound → AreDivided (slice_index sizes.now) blocks.old.size blocks.old.image }
     requires there { IsTrue blocks.old.is_sound → (0 < n) × (n < blocks_in blocks.old.size blocks.old.image) }
     ensures fetch { IsFetch blocks.old result blocks.new }
     ensures space { IsTrue blocks.new.is_sound → IsSpaceOf blocks.old.size sizes.now blocks.old.image space.new }
@@ -67,7 +70,7 @@ fn try_block<S: BlockStore>(
         return Ok(false);
     }
     blocks.fetch(n)?;
-    let hole = largest_hole(blocks.hand(), sizes);
+    let hole = largest_free(blocks.hand());
     set_content(space, n, Content { kind: DATA, hole });
     Ok(hole >= size)
 }
@@ -120,6 +123,7 @@ pub fn seek_size<S: BlockStore>(
     requires least { 8 ≤ blocks.old.size }
     requires few { vec_len space.old.contents ≤ MOST_BLOCKS }
     requires space_is { IsTrue blocks.old.is_sound → IsSpaceOf blocks.old.size sizes.now blocks.old.image space.old }
+    requires divided { IsTrue blocks.old.is_sound → AreDivided (slice_index sizes.now) blocks.old.size blocks.old.image }
     ensures fetch { IsFetch blocks.old result blocks.new }
     ensures space { IsTrue blocks.new.is_sound → IsSpaceOf blocks.old.size sizes.now blocks.old.image space.new }
     ensures tables { KeepsTables space.old space.new }

@@ -91,9 +91,8 @@ impl<S: BlockStore> Volume<S> {
         ensures* after { sem 𝓛 (Rests S.row S.BlockStore self.entry (λ new. IsRead self.old result new)) }
         ensures refusal { OnlyDevice result }
     {
-        let size = self.blocks.block_size();
-        let at = address as usize % size;
-        self.blocks.fetch(address / size as u32)?;
+        let (n, at) = self.blocks.place(address);
+        self.blocks.fetch(n)?;
         let end = segment_end(self.blocks.hand(), &self.sizes, at);
         Ok(&self.blocks.hand()[at..end])
     }
@@ -109,8 +108,8 @@ impl<S: BlockStore> Volume<S> {
         ensures room { self.new.room ≡ self.old.room }
     {
         let size = self.blocks.block_size();
-        let at = address as usize % size;
-        self.blocks.fetch(address / size as u32)?;
+        let (n, at) = self.blocks.place(address);
+        self.blocks.fetch(n)?;
         if offset > size - at || bytes.len() > size - at - offset {
             return Ok(());
         }
@@ -128,8 +127,7 @@ impl<S: BlockStore> Volume<S> {
         ensures room { self.new.room ≡ self.old.room }
     {
         let size = self.blocks.block_size();
-        let n = address / size as u32;
-        let at = address as usize % size;
+        let (n, at) = self.blocks.place(address);
         self.blocks.fetch(n)?;
         let len = segment_length(self.blocks.hand(), &self.sizes, at);
         if at < 8 || len < 8 || len as usize > size - at {

@@ -17,7 +17,7 @@ fetch-requires g c = record {
   there =
       let P : VolumeState → Type 0 = λ v. IsTrue v.is_sound → (0 < c.args.address / v.size) × HasBlock v.size v.image (c.args.address / v.size) in
       let there = subst P (sym c.self.view_is) (λ sound. let k = find-there c.args.self.now c.args.address _ (c.requires.formatted sound) (c.requires.there sound) in (k.later, k.there)) in
-      rw c.block_size-size.ensures.value there;
+      rw c.place-n.ensures.number there;
 }
 
 pub returns-then-at-lt8-clause-freed : goal.returns-then-at-lt8-clause-freed
@@ -34,13 +34,13 @@ returns-then-at-lt8-clause-freed g c sound =
     let now : IsTrue c.fetch.new.self.is_sound = rw c.in_ok-fetch.ensures.sound before in
     let there = find-there v a 0 f h in
     let later = there.later in
-    let hand : c.fetch.new.self.hand ≡ a / v.size = c.in_ok-fetch.ensures.hand ∙ ap (λ (n : ℕ). a / n) c.block_size-size.ensures.value in
+    let hand : c.fetch.new.self.hand ≡ a / v.size = c.in_ok-fetch.ensures.hand ∙ c.place-n.ensures.number in
     let some : 0 < c.fetch.new.self.hand = omega arith in
     let image : c.fetch.new.self.image ≡ v.image = c.in_ok-fetch.ensures.image before in
-    let at : a % c.block_size-size.result ≡ a % v.size = ap (λ (n : ℕ). a % n) c.block_size-size.ensures.value in
+    let at : c.place-n.result.1 ≡ a % v.size = c.place-n.ensures.offset in
     let block : c.hand.result.now ≡ block_at v (a / v.size) = c.hand.ensures.value now some ∙ (let e : block_of c.fetch.new.self.size c.fetch.new.self.image c.fetch.new.self.hand ≡ block_at v (a / v.size) = rw (c.fetch.ensures.size, image, hand) refl in e) in
     let sized = segment-size v a 0 f h in
-    let code : slice_index c.deref.result.now (slice_index c.hand.result.now (a % c.block_size-size.result)) ≡ slice_index v.sizes (slice_index (block_at v (a / v.size)) (a % v.size)) = rw (c.deref.ensures.value, block, at) refl in
+    let code : slice_index c.deref.result.now (slice_index c.hand.result.now c.place-n.result.1) ≡ slice_index v.sizes (slice_index (block_at v (a / v.size)) (a % v.size)) = rw (c.deref.ensures.value, block, at) refl in
     let long : c.segment_length-len.result ≡ length h.bytes = c.segment_length-len.ensures ∙ code ∙ sized.0 in
     let fits = segment-within v a 0 f h in
     absurd (elim c.then-at-lt8.branch [
@@ -72,21 +72,21 @@ invariant_of-self-2 g c =
           let now : IsTrue c.fetch.new.self.is_sound = rw c.in_ok-fetch.ensures.sound before in
           let there = find-there v a 0 f h in
           let later = there.later in
-          let hand : c.fetch.new.self.hand ≡ a / v.size = c.in_ok-fetch.ensures.hand ∙ ap (λ (n : ℕ). a / n) c.block_size-size.ensures.value in
+          let hand : c.fetch.new.self.hand ≡ a / v.size = c.in_ok-fetch.ensures.hand ∙ c.place-n.ensures.number in
           let some : 0 < c.fetch.new.self.hand = omega arith in
           let image : c.fetch.new.self.image ≡ v.image = c.in_ok-fetch.ensures.image before in
-          let at : a % c.block_size-size.result ≡ a % v.size = ap (λ (n : ℕ). a % n) c.block_size-size.ensures.value in
+          let at : c.place-n.result.1 ≡ a % v.size = c.place-n.ensures.offset in
           let block : c.hand.result.now ≡ block_at v (a / v.size) = c.hand.ensures.value now some ∙ (let e : block_of c.fetch.new.self.size c.fetch.new.self.image c.fetch.new.self.hand ≡ block_at v (a / v.size) = rw (c.fetch.ensures.size, image, hand) refl in e) in
           let sized = segment-size v a 0 f h in
-          let code : slice_index c.deref.result.now (slice_index c.hand.result.now (a % c.block_size-size.result)) ≡ slice_index v.sizes (slice_index (block_at v (a / v.size)) (a % v.size)) = rw (c.deref.ensures.value, block, at) refl in
+          let code : slice_index c.deref.result.now (slice_index c.hand.result.now c.place-n.result.1) ≡ slice_index v.sizes (slice_index (block_at v (a / v.size)) (a % v.size)) = rw (c.deref.ensures.value, block, at) refl in
           let long : c.segment_length-len.result ≡ length h.bytes = c.segment_length-len.ensures ∙ code ∙ sized.0 in
           let fits = segment-within v a 0 f h in
           let changed : HasChanged v w (a / v.size) = changed-by v w c.fetch.new.self.size c.fetch.new.self.hand (a / v.size) c.fetch.new.self.image size refl c.fetch.ensures.size image hand (c.give.ensures.others now some) in
           let new : IsGiven (slice_index v.sizes) (a % v.size) (length h.bytes) (block_at v (a / v.size)) (block_of v.size w.image (a / v.size)) =
           rw (c.deref-2.ensures.value, c.fetch.ensures.size, image, hand, at, long) at (c.give.ensures.block now some) in
           let least = c.self.invariant.least in
-          let number : a / c.block_size-size.result ≡ a / v.size = ap (λ (n : ℕ). a / n) c.block_size-size.ensures.value in
-          let here : IsOpened c.self.inside.space (a / c.block_size-size.result) c.block_size-size.result c.open_block.new.space = record { contents = c.open_block.ensures.contents; len = c.open_block.ensures.len; lowest = c.open_block.ensures.lowest } in
+          let number : c.place-n.result.0 ≡ a / v.size = c.place-n.ensures.number in
+          let here : IsOpened c.self.inside.space c.place-n.result.0 c.block_size-size.result c.open_block.new.space = record { contents = c.open_block.ensures.contents; len = c.open_block.ensures.len; lowest = c.open_block.ensures.lowest } in
           let O : ℕ → Type 0 = λ n. IsOpened c.self.inside.space n c.block_size-size.result c.open_block.new.space in
           let opened : IsOpened c.self.inside.space (a / v.size) c.block_size-size.result c.open_block.new.space = subst O number here in
           rw size (free-space v w a f h (omega arith) changed new c.self.inside.space c.open_block.new.space c.block_size-size.result (c.self.invariant.true_of before) opened c.open_block.ensures.free c.open_block.ensures.lowest_free c.block_size-size.ensures.value);
@@ -110,13 +110,13 @@ returns-clause-freed g c =
     let now : IsTrue c.fetch.new.self.is_sound = rw c.in_ok-fetch.ensures.sound before in
     let there = find-there v a 0 f h in
     let later = there.later in
-    let hand : c.fetch.new.self.hand ≡ a / v.size = c.in_ok-fetch.ensures.hand ∙ ap (λ (n : ℕ). a / n) c.block_size-size.ensures.value in
+    let hand : c.fetch.new.self.hand ≡ a / v.size = c.in_ok-fetch.ensures.hand ∙ c.place-n.ensures.number in
     let some : 0 < c.fetch.new.self.hand = omega arith in
     let image : c.fetch.new.self.image ≡ v.image = c.in_ok-fetch.ensures.image before in
-    let at : a % c.block_size-size.result ≡ a % v.size = ap (λ (n : ℕ). a % n) c.block_size-size.ensures.value in
+    let at : c.place-n.result.1 ≡ a % v.size = c.place-n.ensures.offset in
     let block : c.hand.result.now ≡ block_at v (a / v.size) = c.hand.ensures.value now some ∙ (let e : block_of c.fetch.new.self.size c.fetch.new.self.image c.fetch.new.self.hand ≡ block_at v (a / v.size) = rw (c.fetch.ensures.size, image, hand) refl in e) in
     let sized = segment-size v a 0 f h in
-    let code : slice_index c.deref.result.now (slice_index c.hand.result.now (a % c.block_size-size.result)) ≡ slice_index v.sizes (slice_index (block_at v (a / v.size)) (a % v.size)) = rw (c.deref.ensures.value, block, at) refl in
+    let code : slice_index c.deref.result.now (slice_index c.hand.result.now c.place-n.result.1) ≡ slice_index v.sizes (slice_index (block_at v (a / v.size)) (a % v.size)) = rw (c.deref.ensures.value, block, at) refl in
     let long : c.segment_length-len.result ≡ length h.bytes = c.segment_length-len.ensures ∙ code ∙ sized.0 in
     let fits = segment-within v a 0 f h in
     let changed : HasChanged v w (a / v.size) = changed-by v w c.fetch.new.self.size c.fetch.new.self.hand (a / v.size) c.fetch.new.self.image size refl c.fetch.ensures.size image hand (c.give.ensures.others now some) in

@@ -11,14 +11,14 @@ fetch-requires g c = record {
   there =
       let P : VolumeState → Type 0 = λ v. IsTrue v.is_sound → (0 < c.args.address / v.size) × HasBlock v.size v.image (c.args.address / v.size) in
       let there = subst P (sym c.self.view_is) (λ sound. let k = find-there c.args.self.now c.args.address 0 (c.requires.formatted sound) (c.requires.there sound) in (k.later, k.there)) in
-      rw c.block_size-size.ensures.value there;
+      rw c.place-n.ensures.number there;
 }
 
 pub returns : goal.returns
 returns g c =
     let v : VolumeState = c.args.self.now in
     let a : ℕ = c.args.address in
-    let bs : c.block_size-size.result ≡ v.size = c.block_size-size.ensures.value ∙ ap (λ (w : VolumeState). w.size) c.self.view_is in
+    let bs : c.self.inside.blocks.size ≡ v.size = ap (λ (w : VolumeState). w.size) c.self.view_is in
     let brought : IsBrought c.self.inside.blocks c.fetch.new.self =
     record {
       sound = c.in_ok-fetch.ensures.sound;
@@ -41,7 +41,7 @@ returns g c =
             let k = find-there v a 0 (c.requires.formatted sound) (c.requires.there sound) in
             let image : c.fetch.new.self.image ≡ v.image = c.in_ok-fetch.ensures.image before ∙ ap (λ (w : VolumeState). w.image) c.self.view_is in
             let size : c.fetch.new.self.size ≡ v.size = c.fetch.ensures.size ∙ ap (λ (w : VolumeState). w.size) c.self.view_is in
-            let number : c.fetch.new.self.hand ≡ a / v.size = c.in_ok-fetch.ensures.hand ∙ ap (λ (n : ℕ). a / n) bs in
+            let number : c.fetch.new.self.hand ≡ a / v.size = c.in_ok-fetch.ensures.hand ∙ c.place-n.ensures.number ∙ ap (λ (n : ℕ). a / n) bs in
             let later = k.later in
             let some : 0 < c.fetch.new.self.hand = omega arith in
             let block : block_of c.fetch.new.self.size c.fetch.new.self.image c.fetch.new.self.hand ≡ block_at v (a / v.size) = rw (size, image, number) refl in
@@ -49,10 +49,10 @@ returns g c =
             let second : c.hand-2.result.now ≡ block_at v (a / v.size) = c.hand-2.ensures.value now some ∙ block in
             let same : c.hand.result.now ≡ c.hand-2.result.now = first ∙ sym second in
             let sizes : c.deref.result.now ≡ v.sizes = c.deref.ensures.value ∙ ap (λ (w : VolumeState). w.sizes) c.self.view_is in
-            let at : ℕ = a % c.block_size-size.result in
+            let at : ℕ = c.place-n.result.1 in
             let end : c.segment_end-end.result ≡ min (at + slice_index v.sizes (slice_index c.hand-2.result.now at)) (length c.hand-2.result.now) =
             c.segment_end-end.ensures ∙ (let e : min (at + slice_index c.deref.result.now (slice_index c.hand.result.now at)) (length c.hand.result.now) ≡ min (at + slice_index v.sizes (slice_index c.hand-2.result.now at)) (length c.hand-2.result.now) = rw (sizes, same) refl in e) in
-            segment-read v a 0 at c.segment_end-end.result c.hand-2.result.now (c.requires.formatted sound) (c.requires.there sound) (ap (λ (n : ℕ). a % n) bs) second end;
+            segment-read v a 0 at c.segment_end-end.result c.hand-2.result.now (c.requires.formatted sound) (c.requires.there sound) (c.place-n.ensures.offset ∙ ap (λ (n : ℕ). a % n) bs) second end;
         after = tt;
         refusal = tt;
       },

@@ -17,7 +17,7 @@ fetch-requires g c = record {
   there =
       let P : VolumeState → Type 0 = λ v. IsTrue v.is_sound → (0 < c.args.address / v.size) × HasBlock v.size v.image (c.args.address / v.size) in
       let there = subst P (sym c.self.view_is) (λ sound. let k = find-there c.args.self.now c.args.address _ (c.requires.formatted sound) (c.requires.there sound) in (k.later, k.there)) in
-      rw c.block_size-size.ensures.value there;
+      rw c.place-n.ensures.number there;
 }
 
 pub returns-then-offset-size-clause-written : goal.returns-then-offset-size-clause-written
@@ -25,7 +25,7 @@ returns-then-offset-size-clause-written g c sound =
     let v : VolumeState = c.args.self.now in
     let bs : c.block_size-size.result ≡ v.size = c.block_size-size.ensures.value ∙ ap (λ (u : VolumeState). u.size) c.self.view_is in
     let fits = segment-within v c.args.address (c.args.offset + length c.args.bytes.now) (c.requires.formatted sound) (c.requires.there sound) in
-    let at : c.args.address % c.block_size-size.result ≡ c.args.address % v.size = ap (λ (n : ℕ). c.args.address % n) bs in
+    let at : c.place-n.result.1 ≡ c.args.address % v.size = c.place-n.ensures.offset ∙ ap (λ (u : VolumeState). c.args.address % u.size) c.self.view_is in
     absurd (elim c.then-offset-size.branch [
       | then-offset-size-via-then-offset-size w ↦ (let over = w.if-offset-size.true in omega arith)
       | then-offset-size-via-else-offset-size+then-bytes-size w ↦ (let over = w.if-bytes-size.true in omega arith)
@@ -56,11 +56,11 @@ invariant_of-self-2 g c =
           let now : IsTrue c.fetch.new.self.is_sound = rw c.in_ok-fetch.ensures.sound before in
           let there = find-there v a (o + length bytes) f h in
           let later = there.later in
-          let hand : c.fetch.new.self.hand ≡ a / v.size = c.in_ok-fetch.ensures.hand ∙ ap (λ (n : ℕ). a / n) c.block_size-size.ensures.value in
+          let hand : c.fetch.new.self.hand ≡ a / v.size = c.in_ok-fetch.ensures.hand ∙ c.place-n.ensures.number in
           let some : 0 < c.fetch.new.self.hand = omega arith in
           let image : c.fetch.new.self.image ≡ v.image = c.in_ok-fetch.ensures.image before in
           let changed : HasChanged v w (a / v.size) = changed-by v w c.fetch.new.self.size c.fetch.new.self.hand (a / v.size) c.fetch.new.self.image size refl c.fetch.ensures.size image hand (c.write_hand.ensures.others now some) in
-          let at : a % c.block_size-size.result ≡ a % v.size = ap (λ (n : ℕ). a % n) c.block_size-size.ensures.value in
+          let at : c.place-n.result.1 ≡ a % v.size = c.place-n.ensures.offset in
           let new : block_of v.size w.image (a / v.size) ≡ with_bytes (block_at v (a / v.size)) (a % v.size + o) bytes = rw (c.fetch.ensures.size, image, hand, at) at (c.write_hand.ensures.block now some) in
           let least = c.self.invariant.least in
           rw size (write-space v w a o bytes f h c.requires.past_code (omega arith) changed new c.self.inside.space (c.self.invariant.true_of before));
@@ -86,11 +86,11 @@ returns-clause-written g c =
     let now : IsTrue c.fetch.new.self.is_sound = rw c.in_ok-fetch.ensures.sound before in
     let there = find-there v a (o + length bytes) f h in
     let later = there.later in
-    let hand : c.fetch.new.self.hand ≡ a / v.size = c.in_ok-fetch.ensures.hand ∙ ap (λ (n : ℕ). a / n) c.block_size-size.ensures.value in
+    let hand : c.fetch.new.self.hand ≡ a / v.size = c.in_ok-fetch.ensures.hand ∙ c.place-n.ensures.number in
     let some : 0 < c.fetch.new.self.hand = omega arith in
     let image : c.fetch.new.self.image ≡ v.image = c.in_ok-fetch.ensures.image before in
     let changed : HasChanged v w (a / v.size) = changed-by v w c.fetch.new.self.size c.fetch.new.self.hand (a / v.size) c.fetch.new.self.image size refl c.fetch.ensures.size image hand (c.write_hand.ensures.others now some) in
-    let at : a % c.block_size-size.result ≡ a % v.size = ap (λ (n : ℕ). a % n) c.block_size-size.ensures.value in
+    let at : c.place-n.result.1 ≡ a % v.size = c.place-n.ensures.offset in
     let new : block_of v.size w.image (a / v.size) ≡ with_bytes (block_at v (a / v.size)) (a % v.size + o) bytes = rw (c.fetch.ensures.size, image, hand, at) at (c.write_hand.ensures.block now some) in
     let least = c.self.invariant.least in
     write-writes v w a o bytes f h c.requires.past_code (omega arith) changed new)
