@@ -6,10 +6,13 @@ processor time in seconds, memory is the peak in MB, and accesses are the system
 The time of a call, and the ratio beside it, leave out what "open" takes: a deck of one call, which checks the volume first. The time to read the
 deck is in them.
 
-    bench/bench.py [SEGMENTS ..] [--shape NAME] [--calls N]
+With --instructions each command is run once more below valgrind, which counts instructions: these do not depend on what else the machine does.
+
+    bench/bench.py [SEGMENTS ..] [--shape NAME] [--calls N] [--instructions]
 """
 import argparse
 import os
+import re
 import shutil
 import subprocess
 import sys
@@ -57,12 +60,21 @@ def accesses(words, volume):
     return count
 
 
+def instructions(words, **files):
+    """How many instructions a command takes."""
+    opened = {name: open(path, "rb") for name, path in files.items()}
+    counting = ["valgrind", "--tool=callgrind", "--callgrind-out-file=/dev/null", *words]
+    told = subprocess.run(counting, stdout=subprocess.DEVNULL, stderr=subprocess.PIPE, text=True, check=True, **opened).stderr
+    return int(re.search(r"Collected : (\d+)", told)[1])
+
+
 class Row:
     """What was measured of one piece of work."""
 
     def __init__(self, name, calls=0, opening=None):
         """So many calls, behind an opening of the volume that was measured before."""
         self.name, self.calls, self.opening, self.hd, self.sqlite, self.memory, self.accesses = name, calls, opening, [], [], 0, 0
+        self.counted = [0, 0]
 
     def show(self):
         text = f"{self.name:12} {min(self.hd):7.2f} to {max(self.hd):5.2f} s {self.memory:6.1f} MB {self.accesses:9} accesses"
@@ -73,6 +85,12 @@ class Row:
         if self.sqlite:
             text += f"   SQLite {min(self.sqlite):6.2f} s, ratio {least / max(other, 0.001):5.2f}"
         print(text, flush=True)
+        if any(self.counted):
+            before = self.opening.counted if self.opening else [0, 0]
+            hd, sqlite = (now - then for now, then in zip(self.counted, before))
+            each = f", {hd / self.calls:,.0f} a call" if self.opening else ""
+            other = f"   SQLite {sqlite:,}, ratio {hd / sqlite:5.2f}" if sqlite > 0 else ""
+            print(f"{'':12} {hd:,} instructions{each}{other}", flush=True)
 
 
 def import_sql(rows):
@@ -86,7 +104,7 @@ def import_sql(rows):
         file.write(text + "commit;\n")
 
 
-def play(row, hd, sqlite, volume, before=lambda: None):
+def play(row, hd, sqlite, volume, is_counted, before=lambda: None):
     """Runs both in turn."""
     for _ in range(RUNS):
         before()
@@ -98,6 +116,9 @@ def play(row, hd, sqlite, volume, before=lambda: None):
     before()
     if shutil.which("strace"):
         row.accesses = accesses(hd, volume)
+    if is_counted:
+        before()
+        row.counted = [instructions(hd), instructions(*sqlite[0], **sqlite[1]) if sqlite else 0]
     row.show()
 
 
@@ -126,7 +147,7 @@ def write_deck(name, segments, calls):
         file.write(str(made))
 
 
-def measure(shape, segments, calls, has_sqlite):
+def measure(shape, segments, calls, has_sqlite, is_counted):
     apart(lambda: write_rows(shape, segments))
 
     def sqlite(*words, **files):
@@ -135,12 +156,12 @@ def measure(shape, segments, calls, has_sqlite):
     def fresh():
         remove("b.volume", "b.sqlite")
 
-    play(Row("reload"), [HD, "reload", "b.dbd", "b.stream", "b.volume", "65536"], sqlite("b.sqlite", stdin="import.sql"), "b.volume", fresh)
+    play(Row("reload"), [HD, "reload", "b.dbd", "b.stream", "b.volume", "65536"], sqlite("b.sqlite", stdin="import.sql"), "b.volume", is_counted, fresh)
     if has_sqlite and not os.path.exists("b.sqlite"):
         measured(["sqlite3", "b.sqlite"], stdin="import.sql")
-    play(Row("check"), [HD, "check", "b.dbd", "b.volume"], sqlite("b.sqlite", "pragma integrity_check"), "b.volume")
+    play(Row("check"), [HD, "check", "b.dbd", "b.volume"], sqlite("b.sqlite", "pragma integrity_check"), "b.volume", is_counted)
     dump = "select * from course; select * from class; select * from stud; select * from book;"
-    play(Row("unload"), [HD, "unload", "b.dbd", "b.volume", "b.out"], sqlite("b.sqlite", dump), "b.volume")
+    play(Row("unload"), [HD, "unload", "b.dbd", "b.volume", "b.out"], sqlite("b.sqlite", dump), "b.volume", is_counted)
     if shape == "deep":
         opening = None
         for name in shapes.DECKS:
@@ -155,7 +176,7 @@ def measure(shape, segments, calls, has_sqlite):
 
             prepared = (([["./calls", "c.sqlite", "b.deck"]]), {}) if has_sqlite else None
             row = Row(name, made, opening)
-            play(row, [HD, "deck", "b.dbd", "b.psb", "c.volume", "b.deck"], prepared, "c.volume", again)
+            play(row, [HD, "deck", "b.dbd", "b.psb", "c.volume", "b.deck"], prepared, "c.volume", is_counted, again)
             opening = opening or row
 
 
@@ -164,6 +185,7 @@ def main():
     parser.add_argument("segments", nargs="*", type=int, default=[10_000, 200_000, 1_000_000])
     parser.add_argument("--shape", choices=shapes.SHAPES, action="append")
     parser.add_argument("--calls", type=int, default=100_000)
+    parser.add_argument("--instructions", action="store_true")
     words = parser.parse_args()
     folder = tempfile.mkdtemp(prefix="hd-bench-")
     source = os.path.dirname(os.path.abspath(__file__))
@@ -174,7 +196,7 @@ def main():
         has_sqlite = built.returncode == 0
     for segments in words.segments:
         for shape in words.shape or shapes.SHAPES:
-            measure(shape, segments, words.calls, has_sqlite)
+            measure(shape, segments, words.calls, has_sqlite, words.instructions)
     shutil.rmtree(folder)
 
 
