@@ -62,10 +62,11 @@ fn is_key_past(dbd: &Dbd, ssas: &[ResolvedSsa<'_>], code: u8, bytes: &[u8]) -> b
 fn look_of(dbd: &Dbd, ssas: &[ResolvedSsa<'_>], code: u8, bytes: &[u8]) -> Look
     ensures { result ≡ look_of dbd.now.types ssas.now (record { code = code; bytes = bytes.now }) }
 {
+    let qualifies = qualifies_all(ssas, code, bytes);
     Look {
         code,
-        qualifies: qualifies_all(ssas, code, bytes),
-        is_past: is_key_past(dbd, ssas, code, bytes),
+        qualifies,
+        is_past: !qualifies && is_key_past(dbd, ssas, code, bytes),
     }
 }
 

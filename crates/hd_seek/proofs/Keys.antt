@@ -116,7 +116,7 @@ group_false k bytes (c ∷ group) h = elim (or_cases (is_comparison_past k bytes
   | inr v ↦ ap (λ (b : Bool). is_true_of bytes c && b) (group_false k bytes group v) ∙ and_no (is_true_of bytes c)
 ]
 
-groups_false : (k : Key) (bytes : List ℕ) (groups : List (List Comparison)) → are_groups_past k bytes groups ≡ true → list_any (λ group. list_all (λ c. is_true_of bytes c) group) groups ≡ false
+pub groups_false : (k : Key) (bytes : List ℕ) (groups : List (List Comparison)) → are_groups_past k bytes groups ≡ true → list_any (λ group. list_all (λ c. is_true_of bytes c) group) groups ≡ false
 groups_false k bytes [] h = refl
 groups_false k bytes (g ∷ groups) h =
     (let P = and_parts _ _ h in

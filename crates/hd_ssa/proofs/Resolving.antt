@@ -1,12 +1,14 @@
 -- What SSAs mean is what their heads mean, as the PCB sees them.
-use Rattle.std.proofs.Common.{◌≡◌, ◌≤◌, ℕ, List, length, Bool, true, false, Option, Some, None, ap, ◌∙◌, sym, refl, cond}
-use Rattle.std.specs.Prelude.{nat_le, option_map, option_and_then, Err}
+use Rattle.std.proofs.Common.{◌≡◌, ◌≤◌, ℕ, List, [], length, Bool, true, false, Option, Some, None, ap, ◌∙◌, sym, refl, cond}
+use Rattle.std.specs.Prelude.{nat_le, not, ◌||◌, option_map, option_and_then, Ok, Err}
 use Rattle.std.specs.Option.{ok_or}
 use Rattle.std.proofs.lemmas.Bool.{le-leb}
 use Rattle.std.proofs.lemmas.List.{length-map}
 use Rattle.hd_dbd.specs.Views.{Setting}
 use Rattle.hd_dbd.specs.declared.answer.Status.TheVariants.{AC, AJ}
 use Rattle.hd_calls.specs.declared.call.Function.{Function}
+use Rattle.hd_calls.specs.declared.call.Function.TheVariants.{Get, Insert, Replace, Delete}
+use Rattle.hd_calls.specs.Access.{loads}
 use Rattle.hd_calls.specs.Functions.{result_and_then, ok_if}
 use Rattle.hd_calls.specs.Ssas.{Head, read_heads, heads_suit, codes_below, codes_of, types_suit, read_ssas, resolve}
 use Rattle.hd_ssa.specs.Named.{Named, named, all_named, named_heads, heads_in, codes_down, resolve_named}
@@ -77,3 +79,15 @@ module _ (s : Setting) (f : Function) where
       result_and_then (ok_if (types_suit s f (heads_in ns) cs) AC cs) (λ cs. read_ssas s cs (heads_in ns))))) (le-leb (length ns) 15 few)
       ∙ ap (λ o. result_and_then (ok_or o AC) (λ cs. result_and_then (ok_if (types_suit s f (heads_in ns) cs) AC cs) (λ cs. read_ssas s cs (heads_in ns)))) codes
       ∙ ap (λ b. result_and_then (ok_if b AC cs) (λ cs. read_ssas s cs (heads_in ns))) types
+
+-- no text means no argument
+pub resolve_nothing : (s : Setting) (f : Function) → resolve s f [] ≡ Ok []
+resolve_nothing s (Get kind hold) = refl
+resolve_nothing s Insert =
+    ap (λ b. result_and_then (ok_or (cond b (Some []) None) AJ) (λ hs. result_and_then (ok_or (codes_of s Insert hs) AC) (λ cs. read_ssas s cs hs))) (or_true (not (loads s.pcb)))
+  where
+    or_true : (b : Bool) → (b || true) ≡ true
+    or_true true = refl
+    or_true false = refl
+resolve_nothing s Replace = refl
+resolve_nothing s Delete = refl

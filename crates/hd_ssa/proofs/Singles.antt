@@ -6,7 +6,7 @@ use Rattle.hd_dbd.specs.declared.answer.Status.TheVariants.{AJ}
 use Rattle.hd_calls.specs.Functions.{result_and_then}
 use Rattle.hd_calls.specs.Ssas.{Comparison, ComparisonRead, read_comparison, read_groups, read_qualification, joined_to, begins_with, is_close, is_and, is_or}
 use Rattle.hd_ssa.specs.Texts.{groups_in, single_of}
-use Rattle.hd_ssa.proofs.Groups.{and_of, or_of, read_behind, read_next}
+use Rattle.hd_ssa.proofs.Groups.{and_of, or_of, read_behind, read_next, read_cut_fault}
 
 -- the first group has a comparison
 abbrev is_begun : List (List Comparison) → Bool
@@ -78,3 +78,8 @@ single_open t text c whole cut unclosed = by_length (length text) refl
     by_length zero is = (let wrong : Err AJ ≡ Ok (groups_in t text) = sym (ap (λ n. read_groups t n text) is) ∙ whole in cc)
     by_length (suc m) is =
         (connected_more t m c (groups_in t text) (λ text gs h. read_begun t m text gs h) unclosed (sym (read_next t (length text) m text c is cut) ∙ whole)).1
+
+-- a fault of the first comparison is the qualification's
+pub first_fault : (t : SegmentType) (text : List ℕ) (e : Status) → read_comparison t text ≡ Err e → read_qualification t text ≡ Err e
+first_fault t [] e is = (let same : AJ ≡ e = cc in ap (λ (x : Status). Err x) same)
+first_fault t (b ∷ bs) e is = read_cut_fault t (length (b ∷ bs)) (length bs) (b ∷ bs) e refl is

@@ -1,4 +1,4 @@
-ghost use Rattle.std.specs.Prelude.{◌≡◌, ◌||◌, drop, find, bytes_eq, option_copied};
+ghost use Rattle.std.specs.Prelude.{◌≡◌, ◌≤◌, ◌||◌, length, take, drop, find, bytes_eq, option_copied};
 ghost use Rattle.std.specs.Ordering.{nat_cmp};
 ghost use Rattle.std.specs.Cmp.Lexicographic.{slice_cmp};
 ghost use Rattle.hd_dbd.specs.Hierarchy.{part_of};
@@ -8,7 +8,7 @@ ghost use Rattle.hd_seek.specs.Keys.{refuses_from, is_of_key, is_comparison_past
 ghost use Rattle.hd_ssa.specs.LeastKeys.{refuses_below, bound_of};
 
 use hd_calls::Operator;
-use hd_dbd::{Field, Key, SegType, Status};
+use hd_dbd::{Field, Key, Name8, SegType, Status};
 use std::cmp::Ordering;
 use std::marker::Model;
 
@@ -145,12 +145,39 @@ fn operator_of(bytes: &[u8]) -> Option<Operator>
     }
 }
 
-/// The field of a name in eight bytes.
-fn field_named(segment: &SegType, name: &[u8]) -> Option<Field>
-    ensures { result ≡ find (λ f. bytes_eq f.name name.now) segment.now.fields }
+/// The first eight bytes of a text.
+fn first_eight(text: &[u8]) -> [u8; 8]
+    requires { 8 ≤ length text.now }
+    ensures { result ≡ take 8 text.now }
+{
+    match text.first_chunk::<8>() {
+        Some(bytes) => *bytes,
+        None => [0; 8],
+    }
+}
+
+/// Whether eight bytes are these. They are compared at once, as numbers.
+fn are_bytes(left: &[u8; 8], right: &[u8; 8]) -> bool
+    ensures { result ≡ bytes_eq left.now right.now }
+{
+    u64::from_be_bytes(*left) == u64::from_be_bytes(*right)
+}
+
+/// Whether a text begins with the eight bytes of a name.
+fn begins_with_name(text: &[u8], name: &Name8) -> bool
+    requires { 8 ≤ length text.now }
+    ensures { result ≡ bytes_eq name.now (take 8 text.now) }
+{
+    are_bytes(name.bytes(), &first_eight(text))
+}
+
+/// The field of the name with which a text begins.
+fn field_named(segment: &SegType, text: &[u8]) -> Option<Field>
+    requires { 8 ≤ length text.now }
+    ensures { result ≡ find (λ f. bytes_eq f.name (take 8 text.now)) segment.now.fields }
 {
     for field in &segment.fields {
-        if field.name.bytes().as_slice() == name {
+        if begins_with_name(text, &field.name) {
             return Some(*field);
         }
     }
@@ -166,7 +193,7 @@ impl<'a> ComparisonRead<'a> {
         if text.len() < 8 {
             return Err(Status::AJ);
         }
-        let Some(field) = field_named(segment, &text[..8]) else {
+        let Some(field) = field_named(segment, text) else {
             return Err(Status::AK);
         };
         let rest = &text[8..];

@@ -40,12 +40,22 @@ impl<'a> Qualification<'a> {
     pub fn read(segment: &'a SegType, text: &'a [u8]) -> Result<Qualification<'a>, Status>
         ensures { result ≡ read_qualification segment.now text.now }
     {
+        let read = match ComparisonRead::read(segment, text) {
+            Ok(read) => read,
+            Err(status) => return Err(status),
+        };
+        if read.closes() {
+            return Ok(Qualification {
+                segment,
+                text,
+                single: Some(read.comparison),
+            });
+        }
         check_comparisons(segment, text)?;
-        let single = single_in(segment, text);
         Ok(Qualification {
             segment,
             text,
-            single,
+            single: None,
         })
     }
 
@@ -77,21 +87,6 @@ impl<'a> Qualification<'a> {
             Some(comparison) => comparison.bound_of(key),
             None => least_bound(self.segment, self.text, key),
         }
-    }
-}
-
-/// The comparison of a qualification, where it has but one.
-fn single_in<'a>(segment: &SegType, text: &'a [u8]) -> Option<Comparison<'a>>
-    requires { read_qualification segment.now text.now ≡ Ok (groups_in segment.now text.now) }
-    ensures { result ≡ single_of (groups_in segment.now text.now) }
-{
-    let Ok(read) = ComparisonRead::read(segment, text) else {
-        return None;
-    };
-    if read.closes() {
-        Some(read.comparison)
-    } else {
-        None
     }
 }
 

@@ -323,9 +323,8 @@ fn resolve_heads<'a>(
     read_ssas(alloc, dbd, codes.as_slice(), heads)
 }
 
-/// What the segment search arguments of a call mean to a PCB. Where they mean nothing it answers AJ for the heads, then AC for the
-/// types, then AJ or AK for the qualifications. Want of memory may come with five or more.
-pub fn resolve<'a>(
+/// What the texts of segment search arguments mean to a PCB.
+fn resolve_texts<'a>(
     alloc: Global,
     function: Function,
     ssas: &'a [Vec<u8>],
@@ -341,4 +340,25 @@ pub fn resolve<'a>(
         Err(fault) => return Err(fault),
     };
     resolve_heads(alloc, function, heads.as_slice(), pcb, dbd)
+}
+
+/// What the segment search arguments of a call mean to a PCB. Where they mean nothing it answers AJ for the heads, then AC for the
+/// types, then AJ or AK for the qualifications. Want of memory may come with five or more.
+pub fn resolve<'a>(
+    alloc: Global,
+    function: Function,
+    ssas: &'a [Vec<u8>],
+    pcb: &Pcb,
+    dbd: &'a Dbd,
+) -> Result<Resolved<'a>, SsaFault>
+    ensures ok { IfOk result (λ r. resolve (record { types = dbd.now.types; pcb = pcb.now }) function (map (λ s. s.items) ssas.now) ≡ Ok r) }
+    ensures status { (st : Status) → result ≡ Err (SsaFault.Status st) → resolve (record { types = dbd.now.types; pcb = pcb.now }) function (map (λ s. s.items) ssas.now) ≡ Err st }
+    ensures memory { length ssas.now ≤ 4 → IfErr result (λ e. e ≢ SsaFault.Memory) }
+{
+    if ssas.is_empty() {
+        return Ok(Resolved {
+            ssas: SmallVec::new(alloc),
+        });
+    }
+    resolve_texts(alloc, function, ssas, pcb, dbd)
 }

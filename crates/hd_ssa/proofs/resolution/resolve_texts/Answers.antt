@@ -8,7 +8,7 @@ use Rattle.hd_ssa.specs.declared.fault.SsaFault.{SsaFault}
 use Rattle.hd_ssa.specs.declared.fault.SsaFault.TheVariants as fault
 use Rattle.hd_ssa.specs.Named.{Named, resolve_named}
 use Rattle.hd_ssa.proofs.Resolving.{resolve_heads, resolve_no_heads}
-use Rattle.hd_ssa.proofs.resolution.resolve.Goals as goal
+use Rattle.hd_ssa.proofs.resolution.resolve_texts.Goals as goal
 
 pub returns-in-Err-clause-status : goal.returns-in-Err-clause-status
 returns-in-Err-clause-status c =
