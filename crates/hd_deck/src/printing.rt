@@ -1,9 +1,9 @@
-ghost use Rattle.std.specs.Prelude.{◌≡◌, ◌<◌, ◌++◌, unwrap_or, replicate, OnOk};
+ghost use Rattle.std.specs.Prelude.{◌≡◌, ◌<◌, ◌++◌, unwrap_or, replicate, codes, decimal, OnOk};
 ghost use Rattle.std.specs.List.{list_all};
 ghost use Rattle.std.specs.Io.KnownBytes.{Appends};
 ghost use Rattle.hd_dbd.specs.Logs.{replied};
 ghost use Rattle.hd_session.specs.Replies.{reply_of};
-ghost use Rattle.hd_deck.specs.Printing.{status_text, hex_digit, is_plain, shown, shown_byte, two_digits, head_text, bracket_text, place_text, bytes_text, outcome_text, refused_text, refusal_text, answered_text};
+ghost use Rattle.hd_deck.specs.Printing.{status_text, hex_digit, is_plain, shown, shown_byte, two_digits, head_text, bracket_text, place_text, outcome_text, refused_text, refusal_text, answered_text};
 
 use hd_dbd::{Name8, Refused, Status};
 use hd_session::{Answer, IoArea};
@@ -106,25 +106,39 @@ fn put_shown_byte<W: Write>(out: &mut W, byte: u8) -> Result<(), WriteFault>
     }
 }
 
-/// Writes the number of the call, the PCB and the function.
-fn put_head<W: Write>(out: &mut W, number: u64, pcb: u8, function: &[u8]) -> Result<(), WriteFault>
-    ensures { OnOk result (Appends (W.contents out.old) (W.contents out.new) (head_text number pcb function.now)) }
+/// The PCB and the function, as they stand behind the number of a call, for a PCB of one digit.
+fn short_head(pcb: u8, function: &[u8; 4]) -> [u8; 7]
+    requires { pcb < 10 }
+    ensures { result ≡ codes " " ++ decimal pcb ++ codes " " ++ function.now }
 {
-    let mut digits = Buffer::new();
-    put(out, digits.format(number).as_bytes())?;
+    let [first, second, third, fourth] = *function;
+    [b' ', b'0' + pcb, b' ', first, second, third, fourth]
+}
+
+/// Writes the PCB and the function, as they stand behind the number of a call.
+fn put_function<W: Write>(out: &mut W, pcb: u8, function: &[u8; 4]) -> Result<(), WriteFault>
+    ensures { OnOk result (Appends (W.contents out.old) (W.contents out.new) (codes " " ++ decimal pcb ++ codes " " ++ function.now)) }
+{
+    if pcb < 10 {
+        return put(out, &short_head(pcb, function));
+    }
     put(out, b" ")?;
-    put(out, digits.format(pcb).as_bytes())?;
+    put(out, Buffer::new().format(pcb).as_bytes())?;
     put(out, b" ")?;
     put(out, function)
 }
 
-/// Writes the status in its brackets.
-fn put_status<W: Write>(out: &mut W, status: Status) -> Result<(), WriteFault>
-    ensures { OnOk result (Appends (W.contents out.old) (W.contents out.new) (bracket_text status)) }
+/// Writes the number of the call, the PCB and the function.
+fn put_head<W: Write>(
+    out: &mut W,
+    number: u64,
+    pcb: u8,
+    function: &[u8; 4],
+) -> Result<(), WriteFault>
+    ensures { OnOk result (Appends (W.contents out.old) (W.contents out.new) (head_text number pcb function.now)) }
 {
-    put(out, b" [")?;
-    put(out, status_text(status))?;
-    put(out, b"] ")
+    put(out, Buffer::new().format(number).as_bytes())?;
+    put_function(out, pcb, function)
 }
 
 /// A number below 100 in two digits.
@@ -134,17 +148,8 @@ fn two_digits(number: u8) -> [u8; 2]
     [b'0' + number / 10, b'0' + number % 10]
 }
 
-/// Writes level and segment.
-fn put_place<W: Write>(out: &mut W, level: u8, segment: &Option<Name8>) -> Result<(), WriteFault>
-    ensures { OnOk result (Appends (W.contents out.old) (W.contents out.new) (place_text level segment.now)) }
-{
-    put(out, &two_digits(level))?;
-    put(out, b" ")?;
-    put(out, segment_text(segment))
-}
-
 /// A segment's name, and blanks where there is none.
-fn segment_text(segment: &Option<Name8>) -> &[u8]
+fn segment_text(segment: &Option<Name8>) -> &[u8; 8]
     ensures { result.now ≡ unwrap_or segment.now (replicate 8 32) }
 {
     match segment {
@@ -153,11 +158,23 @@ fn segment_text(segment: &Option<Name8>) -> &[u8]
     }
 }
 
-/// Writes key and area.
-fn put_bytes<W: Write>(out: &mut W, io: &IoArea) -> Result<(), WriteFault>
-    ensures { OnOk result (Appends (W.contents out.old) (W.contents out.new) (bytes_text io.now.key io.now.area)) }
+/// The status in its brackets, level and segment, and the word before the key.
+fn place_bytes(status: Status, level: u8, segment: &Option<Name8>) -> [u8; 22]
+    ensures { result ≡ bracket_text status ++ place_text level segment.now ++ codes " key=" }
 {
-    put(out, b" key=")?;
+    let [s, t] = *status_text(status);
+    let [tens, ones] = two_digits(level);
+    let [a, b, c, d, e, f, g, h] = *segment_text(segment);
+    [
+        b' ', b'[', s, t, b']', b' ', tens, ones, b' ', a, b, c, d, e, f, g, h, b' ', b'k', b'e',
+        b'y', b'=',
+    ]
+}
+
+/// Writes key and area, from the key's bytes on.
+fn put_bytes<W: Write>(out: &mut W, io: &IoArea) -> Result<(), WriteFault>
+    ensures { OnOk result (Appends (W.contents out.old) (W.contents out.new) (shown io.now.key ++ codes " area=" ++ shown io.now.area ++ codes "\n")) }
+{
     put_shown(out, io.key())?;
     put(out, b" area=")?;
     put_shown(out, io.area())?;
@@ -168,8 +185,10 @@ fn put_bytes<W: Write>(out: &mut W, io: &IoArea) -> Result<(), WriteFault>
 fn put_answer<W: Write>(out: &mut W, answer: &Answer, io: &IoArea) -> Result<(), WriteFault>
     ensures { OnOk result (Appends (W.contents out.old) (W.contents out.new) (outcome_text (replied (reply_of answer.now io.now)))) }
 {
-    put_status(out, answer.status)?;
-    put_place(out, answer.level, &answer.segment)?;
+    put(
+        out,
+        &place_bytes(answer.status, answer.level, &answer.segment),
+    )?;
     put_bytes(out, io)
 }
 

@@ -13,9 +13,6 @@ use std::os::unix::fs::MetadataExt;
 use std::rt::Files;
 use std::sync::ledger::{Blank, Ledger};
 
-/// The bytes of output that go out in one piece.
-pub const PIECE: usize = 65_536;
-
 /// How many blocks of a volume are kept in memory for a command that goes through it in order, where the command line does not say.
 pub const CACHE: u32 = 64;
 

@@ -1,15 +1,16 @@
 ghost use Rattle.std.specs.Prelude.{◌≡◌, ◌<◌};
 
 use crate::checking::load_volume;
-use crate::files::{CACHE, PIECE, cached_blocks, open_read_volume, read_database};
+use crate::files::{CACHE, cached_blocks, open_read_volume, read_database};
 use crate::stop::Stop;
 use hd_commands::{Ended, Refusal, refuse};
 use hd_dbd::Dbd;
+use hd_pieces::Pieces;
 use hd_rows::{Form, RowWriter, code_named};
 use hd_unload::unload;
 use std::alloc::Global;
 use std::fs::File;
-use std::io::{BufWriter, Write};
+use std::io::Write;
 use std::marker::Brand;
 use std::rt::Files;
 use std::sync::ledger::{Blank, Ledger};
@@ -31,15 +32,11 @@ fn list<L: Ledger, O: Write, E: Write>(
 {
     let store = cached_blocks::<L>(alloc, dbd, file, cache, blank)?;
     let mut volume = load_volume(alloc, dbd, store)?;
-    let Ok(mut lines) = BufWriter::with_capacity(alloc, PIECE, out) else {
+    let Ok(mut lines) = Pieces::new(alloc, out) else {
         return Err(Stop::from(Refusal::Memory));
     };
     let mut rows = RowWriter::new(alloc, dbd, form, &mut lines)?;
-    let unloaded = unload(alloc, &mut volume, dbd, &mut rows);
-    drop(rows);
-    // What a failed write leaves in the buffer is not written again.
-    let (_, _) = lines.into_parts();
-    match unloaded {
+    match unload(alloc, &mut volume, dbd, &mut rows) {
         Ok(_) => Ok(Ended::with_status(0)),
         Err(fault) => Ok(refuse(Refusal::of_unload(fault), err)),
     }

@@ -1,16 +1,17 @@
-use crate::files::{Identity, PIECE, Rewritten, open_output, read_database, read_file};
+use crate::files::{Identity, Rewritten, open_output, read_database, read_file};
 use crate::stop::{Named, Stop, of_file};
 use hd_commands::{Ended, Refusal};
 use hd_dbd::{Dbd, Name8, SegType};
+use hd_pieces::Pieces;
 use hd_rows::{TextFault, stream_of_rows, stream_of_tables};
 use std::alloc::{AllocError, Global};
 use std::fs::File;
-use std::io::{self, BufWriter, ErrorKind, Write};
+use std::io::{self, ErrorKind, Write};
 use std::rt::Files;
 
 /// The stream's file, which has what it had until the first record is written.
-fn records_into(alloc: Global, file: File) -> Result<BufWriter<Rewritten>, Stop> {
-    match BufWriter::with_capacity(alloc, PIECE, Rewritten::over(file)) {
+fn records_into(alloc: Global, file: File) -> Result<Pieces<Rewritten>, Stop> {
+    match Pieces::new(alloc, Rewritten::over(file)) {
         Ok(records) => Ok(records),
         Err(_) => Err(Stop::from(Refusal::Memory)),
     }
@@ -19,7 +20,7 @@ fn records_into(alloc: Global, file: File) -> Result<BufWriter<Rewritten>, Stop>
 /// Says how many segments a stream has that was made, when its file has all of it.
 fn end_stream<O: Write>(
     segments: u32,
-    records: &mut BufWriter<Rewritten>,
+    records: &mut Pieces<Rewritten>,
     out: &mut O,
 ) -> Result<Ended, Stop> {
     of_file(Named::Out, records.flush())?;
@@ -47,11 +48,8 @@ where
     let mut records = records_into(alloc, file)?;
     match stream_of_rows(alloc, &dbd, &text, &mut records) {
         Ok(segments) => end_stream(segments, &mut records, out),
-        Err(fault) => {
-            // What a refusal leaves in the buffer is not written.
-            let (_, _) = records.into_parts();
-            Err(rows_refused(fault, text))
-        }
+        // What a refusal leaves gathered is not written.
+        Err(fault) => Err(rows_refused(fault, text)),
     }
 }
 
@@ -175,11 +173,8 @@ where
     let pairs = pairs_of(alloc, &tables)?;
     match stream_of_tables(alloc, &dbd, &pairs, &mut records) {
         Ok(segments) => end_stream(segments, &mut records, out),
-        Err(fault) => {
-            // What a refusal leaves in the buffer is not written.
-            let (_, _) = records.into_parts();
-            Err(tables_refused(alloc, &dbd, fault))
-        }
+        // What a refusal leaves gathered is not written.
+        Err(fault) => Err(tables_refused(alloc, &dbd, fault)),
     }
 }
 

@@ -3,7 +3,7 @@ ghost use Rattle.hd_dbd.specs.ProgramRules.{type_names};
 ghost use Rattle.hd_deck.specs.StepText.{StepFits};
 
 use crate::files::{
-    Identity, PIECE, blocks_for_calls, cached_blocks, open_volume, read_database, read_file,
+    Identity, blocks_for_calls, cached_blocks, open_volume, read_database, read_file,
 };
 use crate::input::read_whole;
 use crate::sample;
@@ -12,22 +12,34 @@ use hd_commands::{Ended, Refusal, play_deck, status_of_calls};
 use hd_dbd::{Dbd, Psb};
 use hd_deck::{Step, read_deck};
 use hd_gen::read_psb;
-use hd_progress::{Counted, Progress};
+use hd_pieces::Pieces;
+use hd_progress::{Answers, Counted, Progress, Silent};
 use hd_volume::BlockStore;
 use std::alloc::Global;
 use std::fs::File;
-use std::io::{BufWriter, Read, Write};
+use std::io::{Read, Write};
 use std::marker::Brand;
 use std::rt::Files;
 use std::sync::ledger::{Blank, Ledger};
 
-/// Plays a deck over the volume in a store; its lines go out in large pieces. Says how it ended, and gives the store back.
-fn play_store<S: BlockStore, O: Write, E: Write>(
+/// How many calls a deck has.
+fn count_calls(steps: &[Step]) -> u64 {
+    let mut calls = 0u64;
+    for step in steps {
+        calls = calls.saturating_add(u64::from(step.repeat));
+    }
+    calls
+}
+
+/// Plays a deck over the volume in a store; its lines go out in large pieces, and how many of its calls are answered is told. Says how it ended,
+/// and gives the store back.
+fn play_store<S: BlockStore, P: Progress, O: Write, E: Write>(
     alloc: Global,
     dbd: &Dbd,
     psb: &Psb,
     steps: &[Step],
     store: S,
+    progress: &P,
     out: &mut O,
     err: &mut E,
 ) -> (S, Result<Ended, Stop>)
@@ -36,12 +48,11 @@ fn play_store<S: BlockStore, O: Write, E: Write>(
     requires steps { All (StepFits (length psb.now.pcbs)) steps.now }
     requires count { length steps.now ≤ 2 ^ 30 }
 {
-    let Ok(mut lines) = BufWriter::with_capacity(alloc, PIECE, out) else {
+    let Ok(pieces) = Pieces::new(alloc, out) else {
         return (store, Err(Stop::from(Refusal::Memory)));
     };
+    let mut lines = Answers::new(pieces, count_calls(steps), progress);
     let (store, played) = play_deck(alloc, dbd, psb, steps, store, &mut lines, err);
-    // What a failed write leaves in the buffer is not written again.
-    let (_, _) = lines.into_parts();
     match played {
         Ok(memory) => (store, Ok(Ended::with_status(status_of_calls(memory)))),
         Err(ended) => (store, Ok(ended)),
@@ -66,7 +77,7 @@ pub fn play_sample<I: Read, O: Write, E: Write>(
         Err(fault) => return Err(Stop::deck(fault, text, Named::Input)),
     };
     let store = sample::volume(alloc, &dbd)?;
-    let (_, status) = play_store(alloc, &dbd, &psb, &steps, store, out, err);
+    let (_, status) = play_store(alloc, &dbd, &psb, &steps, store, &Silent, out, err);
     status
 }
 
@@ -129,7 +140,7 @@ fn play_over<L: Ledger, P: Progress, O: Write, E: Write>(
 {
     let store = cached_blocks::<L>(alloc, dbd, file, cache, blank)?;
     let store = Counted::new(store, "playing", progress);
-    let (store, played) = play_store(alloc, dbd, psb, steps, store, out, err);
+    let (store, played) = play_store(alloc, dbd, psb, steps, store, progress, out, err);
     let (_, written) = store.into_inner().into_store();
     let ended = played?;
     if ended.status != DEVICE_FAILED {

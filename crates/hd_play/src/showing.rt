@@ -1,23 +1,22 @@
 ghost use Rattle.std.specs.Prelude.{◌≡◌, ◌<◌};
 
 use crate::checking::load_volume;
-use crate::files::{
-    CACHE, PIECE, Rewritten, cached_blocks, open_output, open_read_volume, read_database,
-};
+use crate::files::{CACHE, Rewritten, cached_blocks, open_output, open_read_volume, read_database};
 use crate::stop::{Named, Stop, of_file};
 use hd_commands::{Ended, Refusal, check_volume};
 use hd_dbd::Dbd;
+use hd_pieces::Pieces;
 use hd_show::{Survey, draw_database, draw_svg, draw_volume, survey_volume};
 use std::alloc::Global;
 use std::fs::File;
-use std::io::{BufWriter, Write};
+use std::io::Write;
 use std::marker::Brand;
 use std::rt::Files;
 use std::sync::ledger::{Blank, Ledger};
 
 /// Draws a volume that was surveyed, as text.
 fn draw_text<O: Write>(alloc: Global, dbd: &Dbd, survey: &Survey, out: &mut O) -> Result<(), Stop> {
-    let Ok(mut lines) = BufWriter::with_capacity(alloc, PIECE, out) else {
+    let Ok(mut lines) = Pieces::new(alloc, out) else {
         return Err(Stop::from(Refusal::Memory));
     };
     draw_volume(survey, dbd, &mut lines)?;
@@ -27,7 +26,7 @@ fn draw_text<O: Write>(alloc: Global, dbd: &Dbd, survey: &Survey, out: &mut O) -
 
 /// Draws a volume that was surveyed, as a picture in a file.
 fn draw_picture(alloc: Global, dbd: &Dbd, survey: &Survey, picture: Rewritten) -> Result<(), Stop> {
-    let Ok(mut lines) = BufWriter::with_capacity(alloc, PIECE, picture) else {
+    let Ok(mut lines) = Pieces::new(alloc, picture) else {
         return Err(Stop::from(Refusal::Memory));
     };
     of_file(Named::Picture, draw_svg(survey, dbd, &mut lines))?;

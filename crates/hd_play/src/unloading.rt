@@ -1,16 +1,15 @@
 ghost use Rattle.std.specs.Prelude.{◌≡◌, ◌<◌};
 
 use crate::checking::load_volume;
-use crate::files::{
-    CACHE, PIECE, Rewritten, cached_blocks, open_output, open_read_volume, read_database,
-};
+use crate::files::{CACHE, Rewritten, cached_blocks, open_output, open_read_volume, read_database};
 use crate::stop::{Named, Stop};
 use hd_commands::{Ended, Refusal, unload_volume};
 use hd_dbd::Dbd;
+use hd_pieces::Pieces;
 use hd_progress::{Counted, Progress};
 use std::alloc::Global;
 use std::fs::File;
-use std::io::{BufWriter, Write};
+use std::io::Write;
 use std::marker::Brand;
 use std::rt::Files;
 use std::sync::ledger::{Blank, Ledger};
@@ -33,13 +32,11 @@ fn copy<L: Ledger, P: Progress, O: Write, E: Write>(
 {
     let store = cached_blocks::<L>(alloc, dbd, file, cache, blank)?;
     let mut volume = load_volume(alloc, dbd, Counted::new(store, "unloading", progress))?;
-    let Ok(mut records) = BufWriter::with_capacity(alloc, PIECE, stream) else {
+    let Ok(mut records) = Pieces::new(alloc, stream) else {
         return Err(Stop::from(Refusal::Memory));
     };
-    let ended = unload_volume(alloc, &mut volume, dbd, &mut records, out, err);
-    // What a refusal leaves in the buffer is not written.
-    let (_, _) = records.into_parts();
-    Ok(ended)
+    // What a refusal leaves gathered is not written.
+    Ok(unload_volume(alloc, &mut volume, dbd, &mut records, out, err))
 }
 
 /// As `copy`, with a ledger of its own.

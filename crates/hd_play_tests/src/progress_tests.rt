@@ -93,6 +93,23 @@ fn parts_the_thousands_of_a_number(rt: HostRuntime) -> Result<(), Fail> {
 }
 
 #[test]
+fn shows_how_many_calls_are_answered(rt: HostRuntime) -> Result<(), Fail> {
+    let screen = File::create(&rt, "calls.screen")?;
+    let clock = Ticks::of(1000);
+    let terminal = Terminal::new(rt.alloc(), &clock, &screen, true, false);
+    terminal.tell("playing", 256, 4096);
+    terminal.answered(1, 50_001);
+    terminal.answered(1_234, 50_001);
+    terminal.tell("playing", 512, 4096);
+    terminal.end();
+    let text =
+        b"\rplaying: 256 accesses to 4,096 blocks\x1b[K\rplaying: 1,234 of 50,001 calls, 512 accesses to 4,096 blocks\x1b[K\r\x1b[K";
+    assert_eq!(rt; fs::read(&rt, "calls.screen")?.as_slice(), text.as_slice());
+    remove(&rt, &["calls.screen"])?;
+    Ok(())
+}
+
+#[test]
 fn gives_way_to_output_on_the_same_terminal(rt: HostRuntime) -> Result<(), Fail> {
     let screen = File::create(&rt, "same.screen")?;
     let clock = Ticks::of(1000);
@@ -126,6 +143,8 @@ struct Told {
     tells: Cell<u64>,
     accesses: Cell<u64>,
     blocks: Cell<u64>,
+    answered: Cell<u64>,
+    calls: Cell<u64>,
     is_shown: Cell<bool>,
 }
 
@@ -135,6 +154,8 @@ impl Told {
             tells: Cell::new(0),
             accesses: Cell::new(0),
             blocks: Cell::new(0),
+            answered: Cell::new(0),
+            calls: Cell::new(0),
             is_shown: Cell::new(false),
         }
     }
@@ -146,6 +167,11 @@ impl Progress for Told {
         self.accesses.set(accesses);
         self.blocks.set(blocks);
         self.is_shown.set(true);
+    }
+
+    fn answered(&self, answered: u64, calls: u64) {
+        self.answered.set(answered);
+        self.calls.set(calls);
     }
 
     fn end(&self) {
@@ -187,12 +213,14 @@ impl<'t> Write for Line<'t> {
     }
 }
 
-/// The words end with a status; meanwhile progress is told of a volume of so many blocks, and none of it is seen beside a line or at the end.
+/// The words end with a status; meanwhile progress is told of a volume of so many blocks, and of so many calls, all of which are answered, and none
+/// of it is seen beside a line or at the end.
 fn expect_told<R: Files<File = File> + AllocGlobal + Abort>(
     rt: &R,
     words: &[&str],
     status: u8,
     blocks: u64,
+    calls: u64,
 ) -> Result<(), Fail> {
     let given = words_of(rt.alloc(), words)?;
     let told = Told::nothing();
@@ -204,6 +232,7 @@ fn expect_told<R: Files<File = File> + AllocGlobal + Abort>(
     assert!(rt; told.tells.get() > 0);
     assert_eq!(rt; told.accesses.get(), told.tells.get().saturating_mul(256));
     assert!(rt; told.blocks.get() <= blocks);
+    assert_eq!(rt; (told.answered.get(), told.calls.get()), (calls, calls));
     assert!(rt; !told.is_shown.get());
     assert!(rt; !out.is_mixed);
     assert!(rt; !err.is_mixed);
@@ -225,7 +254,7 @@ fn courses(alloc: Global, count: u32) -> io::Result<Vec<u8>> {
 fn tells_how_far_each_command_is(rt: HostRuntime) -> Result<(), Fail> {
     fs::write(&rt, "told.dbd", DBD_SOURCE)?;
     fs::write(&rt, "told.psb", PSB_SOURCE)?;
-    fs::write(&rt, "told.deck", b"L     GN\n")?;
+    fs::write(&rt, "told.deck", b"L  303 GN\n")?;
     fs::write(&rt, "told.rows", &courses(rt.alloc(), 300)?)?;
     expect(
         &rt,
@@ -235,20 +264,20 @@ fn tells_how_far_each_command_is(rt: HostRuntime) -> Result<(), Fail> {
         b"",
     )?;
     let reload = ["reload", "told.dbd", "told.stream", "told.volume", "1000"];
-    expect_told(&rt, &reload, 0, 1000)?;
+    expect_told(&rt, &reload, 0, 1000, 0)?;
     let length = fs::metadata(&rt, "told.volume")?.len();
     let check = ["check", "told.dbd", "told.volume"];
-    expect_told(&rt, &check, 0, length / 128)?;
+    expect_told(&rt, &check, 0, length / 128, 0)?;
     let unload = ["unload", "told.dbd", "told.volume", "told.out"];
-    expect_told(&rt, &unload, 0, length / 128)?;
+    expect_told(&rt, &unload, 0, length / 128, 0)?;
     assert_eq!(rt;
         fs::read(&rt, "told.out")?.as_slice(),
         fs::read(&rt, "told.stream")?.as_slice()
     );
     let deck = ["deck", "told.dbd", "told.psb", "told.volume", "told.deck"];
-    expect_told(&rt, &deck, 0, length / 128)?;
+    expect_told(&rt, &deck, 0, length / 128, 303)?;
     let full = ["reload", "told.dbd", "told.stream", "told.volume", "40"];
-    expect_told(&rt, &full, 1, 40)?;
+    expect_told(&rt, &full, 1, 40, 0)?;
     remove(
         &rt,
         &[
@@ -280,7 +309,7 @@ fn takes_progress_away_before_a_refusal(rt: HostRuntime) -> Result<(), Fail> {
     }
     fs::write(&rt, "away.volume", &bytes)?;
     let check = ["check", "away.dbd", "away.volume", "--explain=always"];
-    expect_told(&rt, &check, 1, 1000)?;
+    expect_told(&rt, &check, 1, 1000, 0)?;
     remove(
         &rt,
         &["away.dbd", "away.rows", "away.stream", "away.volume"],

@@ -3,6 +3,9 @@ pub trait Progress {
     /// So many accesses were made of a volume that has so many blocks.
     fn tell(&self, doing: &str, accesses: u64, blocks: u64);
 
+    /// So many of all calls were answered. It is called at each of them, and seen with what is told next.
+    fn answered(&self, answered: u64, calls: u64);
+
     /// Takes away what was told, and tells no more. It is called before a line on standard error, and at the end.
     fn end(&self);
 
@@ -16,6 +19,8 @@ pub struct Silent;
 
 impl Progress for Silent {
     fn tell(&self, _doing: &str, _accesses: u64, _blocks: u64) {}
+
+    fn answered(&self, _answered: u64, _calls: u64) {}
 
     fn end(&self) {}
 

@@ -23,6 +23,8 @@ pub struct Terminal<'c, C: Clock, T: Write + Copy + Drop> {
     start: Option<Instant>,
     has_output: bool,
     due: Cell<u64>,
+    answered: Cell<u64>,
+    calls: Cell<u64>,
     is_shown: Cell<bool>,
 }
 
@@ -48,6 +50,8 @@ impl<'c, C: Clock, T: Write + Copy + Drop> Terminal<'c, C, T> {
             start,
             has_output,
             due: Cell::new(FIRST),
+            answered: Cell::new(0),
+            calls: Cell::new(0),
             is_shown: Cell::new(false),
         }
     }
@@ -77,11 +81,18 @@ impl<'c, C: Clock, T: Write + Copy + Drop> Progress for Terminal<'c, C, T> {
         if !self.is_due() {
             return;
         }
-        if let Ok(line) = line_of(self.alloc, doing, accesses, blocks) {
+        let share = share_of(self.alloc, self.answered.get(), self.calls.get());
+        if let Ok(line) = line_of(self.alloc, doing, share, accesses, blocks) {
             let mut screen = self.screen;
             self.is_shown.set(true);
             let _ = screen.write_all(line.as_bytes());
         }
+    }
+
+    #[inline(always)]
+    fn answered(&self, answered: u64, calls: u64) {
+        self.answered.set(answered);
+        self.calls.set(calls);
     }
 
     fn end(&self) {
@@ -101,10 +112,27 @@ impl<'c, C: Clock, T: Write + Copy + Drop> Progress for Terminal<'c, C, T> {
 }
 
 /// The line that says how far a command is, which is written over the one before.
-fn line_of(alloc: Global, doing: &str, accesses: u64, blocks: u64) -> Result<String, AllocError> {
+fn line_of(
+    alloc: Global,
+    doing: &str,
+    share: Result<String, AllocError>,
+    accesses: u64,
+    blocks: u64,
+) -> Result<String, AllocError> {
+    let share = share?;
     let accesses = grouped(alloc, accesses)?;
     let blocks = grouped(alloc, blocks)?;
-    format!(in alloc; "\r{doing}: {accesses} accesses to {blocks} blocks\x1b[K")
+    format!(in alloc; "\r{doing}: {share}{accesses} accesses to {blocks} blocks\x1b[K")
+}
+
+/// How many of all calls were answered, in front of the accesses; nothing before the first was.
+fn share_of(alloc: Global, answered: u64, calls: u64) -> Result<String, AllocError> {
+    if calls == 0 {
+        return Ok(String::new(alloc));
+    }
+    let answered = grouped(alloc, answered)?;
+    let calls = grouped(alloc, calls)?;
+    format!(in alloc; "{answered} of {calls} calls, ")
 }
 
 /// A number with commas between its thousands.

@@ -1,0 +1,39 @@
+-- The parts of a line that have a fixed length, as their bytes.
+use Rattle.std.proofs.Common.{◌≡◌, ℕ, ◌+◌, ◌<◌, List, [], ◌∷◌, ◌++◌, length, get_or, codes, decimal, refl, sym, ap, ◌∙◌}
+use Rattle.std.proofs.lemmas.Slice.Eq.{text_from_reads}
+use Rattle.std.proofs.lemmas.Fmt.{decimal_digit}
+
+two_items : (xs : List ℕ) → length xs ≡ 2 → xs ≡ get_or xs 0 0 ∷ get_or xs 1 0 ∷ []
+two_items xs h = text_from_reads xs _ h (refl, (refl, tt))
+
+four_items : (xs : List ℕ) → length xs ≡ 4 → xs ≡ get_or xs 0 0 ∷ get_or xs 1 0 ∷ get_or xs 2 0 ∷ get_or xs 3 0 ∷ []
+four_items xs h = text_from_reads xs _ h (refl, (refl, (refl, (refl, tt))))
+
+eight_items : (xs : List ℕ) → length xs ≡ 8 → xs ≡ get_or xs 0 0 ∷ get_or xs 1 0 ∷ get_or xs 2 0 ∷ get_or xs 3 0 ∷ get_or xs 4 0 ∷ get_or xs 5 0 ∷ get_or xs 6 0 ∷ get_or xs 7 0 ∷ []
+eight_items xs h = text_from_reads xs _ h (refl, (refl, (refl, (refl, (refl, (refl, (refl, (refl, tt))))))))
+
+-- a PCB of one digit, and a function
+pub short-head : (pcb : ℕ) (f : List ℕ) → pcb < 10 → length f ≡ 4
+    → 32 ∷ (48 + pcb) ∷ 32 ∷ get_or f 0 0 ∷ get_or f 1 0 ∷ get_or f 2 0 ∷ get_or f 3 0 ∷ [] ≡ codes " " ++ decimal pcb ++ codes " " ++ f
+short-head pcb f small four =
+    ap (λ l. 32 ∷ (48 + pcb) ∷ 32 ∷ l) (sym (four_items f four)) ∙ ap (λ l. codes " " ++ l ++ codes " " ++ f) (sym (decimal_digit pcb small))
+
+status-bytes : (s d n : List ℕ) → length s ≡ 2 → length d ≡ 2 → length n ≡ 8
+    → 32 ∷ 91 ∷ get_or s 0 0 ∷ get_or s 1 0 ∷ 93 ∷ 32 ∷ get_or d 0 0 ∷ get_or d 1 0 ∷ 32 ∷ get_or n 0 0 ∷ get_or n 1 0 ∷ get_or n 2 0 ∷ get_or n 3 0 ∷ get_or n 4 0 ∷ get_or n 5 0 ∷ get_or n 6 0 ∷ get_or n 7 0 ∷ 32 ∷ 107 ∷ 101 ∷ 121 ∷ 61 ∷ []
+    ≡ (codes " [" ++ s ++ codes "] ") ++ (d ++ codes " " ++ n) ++ codes " key="
+status-bytes s d n two two' eight =
+    let d' = get_or d 0 0 ∷ get_or d 1 0 ∷ [] in
+    let n' = get_or n 0 0 ∷ get_or n 1 0 ∷ get_or n 2 0 ∷ get_or n 3 0 ∷ get_or n 4 0 ∷ get_or n 5 0 ∷ get_or n 6 0 ∷ get_or n 7 0 ∷ [] in
+    ap (λ l. (codes " [" ++ l ++ codes "] ") ++ (d' ++ codes " " ++ n') ++ codes " key=") (sym (two_items s two))
+    ∙ ap (λ l. (codes " [" ++ s ++ codes "] ") ++ (l ++ codes " " ++ n') ++ codes " key=") (sym (two_items d two'))
+    ∙ ap (λ l. (codes " [" ++ s ++ codes "] ") ++ (d ++ codes " " ++ l) ++ codes " key=") (sym (eight_items n eight))
+
+-- a status, a level, a name
+pub place-bytes : (s d n s' d' n' : List ℕ) → length s ≡ 2 → length d ≡ 2 → length n ≡ 8 → s ≡ s' → d ≡ d' → n ≡ n'
+    → 32 ∷ 91 ∷ get_or s 0 0 ∷ get_or s 1 0 ∷ 93 ∷ 32 ∷ get_or d 0 0 ∷ get_or d 1 0 ∷ 32 ∷ get_or n 0 0 ∷ get_or n 1 0 ∷ get_or n 2 0 ∷ get_or n 3 0 ∷ get_or n 4 0 ∷ get_or n 5 0 ∷ get_or n 6 0 ∷ get_or n 7 0 ∷ 32 ∷ 107 ∷ 101 ∷ 121 ∷ 61 ∷ []
+    ≡ (codes " [" ++ s' ++ codes "] ") ++ (d' ++ codes " " ++ n') ++ codes " key="
+place-bytes s d n s' d' n' two two' eight es ed en =
+    status-bytes s d n two two' eight
+    ∙ ap (λ l. (codes " [" ++ l ++ codes "] ") ++ (d ++ codes " " ++ n) ++ codes " key=") es
+    ∙ ap (λ l. (codes " [" ++ s' ++ codes "] ") ++ (l ++ codes " " ++ n) ++ codes " key=") ed
+    ∙ ap (λ l. (codes " [" ++ s' ++ codes "] ") ++ (d' ++ codes " " ++ l) ++ codes " key=") en
