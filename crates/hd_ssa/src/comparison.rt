@@ -8,7 +8,7 @@ ghost use Rattle.hd_seek.specs.Keys.{refuses_from, is_of_key, is_comparison_past
 ghost use Rattle.hd_ssa.specs.LeastKeys.{refuses_below, bound_of};
 
 use hd_calls::Operator;
-use hd_dbd::{Field, Key, Name8, SegType, Status};
+use hd_dbd::{Field, Key, Name8, SegType, Status, compare_keys};
 use std::cmp::Ordering;
 use std::marker::Model;
 
@@ -118,7 +118,7 @@ impl<'a> Comparison<'a> {
         ensures { result ≡ slice_cmp nat_cmp (part_of bytes.now self.now.field.start self.now.field.length) self.now.value }
     {
         let field = self.field;
-        part_of(bytes, field.start, field.length).cmp(self.value)
+        compare_keys(part_of(bytes, field.start, field.length), self.value)
     }
 
     /// Whether the field is the whole key.

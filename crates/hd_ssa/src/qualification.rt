@@ -9,7 +9,7 @@ ghost use Rattle.hd_ssa.specs.LeastKeys.{bound_of, greater_of, lesser_of, least_
 
 use crate::comparison::{Comparison, ComparisonRead};
 use crate::question::Question;
-use hd_dbd::{Key, SegType, Status};
+use hd_dbd::{Key, SegType, Status, compare_keys};
 use std::marker::Model;
 
 /// A qualification, by its text in the call and the type of which it speaks, and its comparison, where it has but one. It takes no
@@ -154,7 +154,7 @@ fn greater_of<'a>(first: Option<&'a [u8]>, second: Option<&'a [u8]>) -> Option<&
         (None, second) => second,
         (first, None) => first,
         (Some(one), Some(other)) => {
-            if one.cmp(other).is_lt() {
+            if compare_keys(one, other).is_lt() {
                 Some(other)
             } else {
                 Some(one)
@@ -181,7 +181,7 @@ fn with_group<'a>(least: Option<&'a [u8]>, bound: Option<&'a [u8]>) -> Option<&'
     let bound = bound?;
     match least {
         Some(least) => {
-            if bound.cmp(least).is_lt() {
+            if compare_keys(bound, least).is_lt() {
                 Some(bound)
             } else {
                 Some(least)
