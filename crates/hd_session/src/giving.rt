@@ -117,7 +117,7 @@ fn add_above(path: &Path, levels: &Levels, above: &KeysAbove, io: &mut IoArea) -
 }
 
 /// Adds the keys of the rows on a path to an empty area, and the bytes of those at the levels. What is known of the rows above is not read
-/// again, and the rows above the last are noted.
+/// again, and the rows above the last are noted, unless all of them are known.
 fn add_known<S: BlockStore>(
     volume: &mut Volume<S>,
     dbd: &Dbd,
@@ -140,6 +140,9 @@ fn add_known<S: BlockStore>(
     let rows = path.addresses().len();
     let last = rows.saturating_sub(1);
     let known = add_above(path, levels, above, io);
+    if known == last {
+        return add_path(volume, dbd, path, levels, last, rows, io);
+    }
     add_path(volume, dbd, path, levels, known, last, io)?;
     above.note(path, io.key());
     add_path(volume, dbd, path, levels, last, rows, io)
