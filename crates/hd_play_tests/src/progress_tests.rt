@@ -254,7 +254,7 @@ fn courses(alloc: Global, count: u32) -> io::Result<Vec<u8>> {
 fn tells_how_far_each_command_is(rt: HostRuntime) -> Result<(), Fail> {
     fs::write(&rt, "told.dbd", DBD_SOURCE)?;
     fs::write(&rt, "told.psb", PSB_SOURCE)?;
-    fs::write(&rt, "told.deck", b"L  303 GN\n")?;
+    fs::write(&rt, "told.deck", b"L 303 GN\n")?;
     fs::write(&rt, "told.rows", &courses(rt.alloc(), 300)?)?;
     expect(
         &rt,
