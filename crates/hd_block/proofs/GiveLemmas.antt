@@ -11,11 +11,12 @@ use Rattle.hd_block.specs.declared.gives.Link.{Link}
 use Rattle.hd_block.specs.declared.gives.Behind.{Behind}
 use Rattle.hd_block.proofs.Walk.{fill-within}
 use Rattle.hd_block.proofs.Reroute.{Redirects, to, way-within, way-link, way-next, way-apart, reroute, fill-same}
+use Rattle.hd_dbd.specs.declared.facts.SegmentSize.{SegmentSize}
 
 -- ---- the hole behind
 
 -- where the next free element is not at a place, no hole begins there
-pub none-behind : (sizes : ℕ → ℕ) (b : List ℕ) (place next : ℕ) (xs : List Extent) (behind : Behind) → 0 < place → Fill sizes b place next xs → place ≢ next → behind.more ≡ 0 → behind.next ≡ next
+pub none-behind : (sizes : List SegmentSize) (b : List ℕ) (place next : ℕ) (xs : List Extent) (behind : Behind) → 0 < place → Fill sizes b place next xs → place ≢ next → behind.more ≡ 0 → behind.next ≡ next
     → IsBehind sizes b place xs behind
 none-behind sizes b place next xs behind some h other more same =
     let at : place + behind.more ≡ place = omega arith in
@@ -34,7 +35,7 @@ none-behind sizes b place next xs behind some h other more same =
     stays n (taken m ∷ ys) f = refl
 
 -- where it is, a hole begins there, which fits in the block
-pub some-behind : (sizes : ℕ → ℕ) (b : List ℕ) (place next : ℕ) (xs : List Extent) (behind : Behind) → 0 < place → Fill sizes b place next xs → place ≡ next
+pub some-behind : (sizes : List SegmentSize) (b : List ℕ) (place next : ℕ) (xs : List Extent) (behind : Behind) → 0 < place → Fill sizes b place next xs → place ≡ next
     → behind.more ≡ number_at 2 b (place + 2) → behind.next ≡ number_at 2 b place → IsBehind sizes b place xs behind × (8 ≤ behind.more) × (place + behind.more ≤ length b)
 some-behind sizes b place next [] behind some h e more on = absurd (omega arith)
 some-behind sizes b place next (used m ∷ xs) behind some h e more on = absurd (h.0 e)
@@ -62,7 +63,7 @@ give-here place n extent xs (inl e) = ap (λ z. after_give place place (z ∷ xs
 give-here place n extent xs (inr e) = ap (λ z. after_give place place (z ∷ xs)) e ∙ ap (λ t. cond t (hole_before n xs) (taken n ∷ after_give place (place + n) xs)) (eq-eqb place place refl)
 
 -- a hole on the way is not joined to what follows it
-hole-stays : (sizes : ℕ → ℕ) (b : List ℕ) (p n : ℕ) (xs zs : List Extent) (q g m : ℕ) → 8 ≤ p → IsHole b p n → Way sizes b (p + n) (number_at 2 b p) p xs q g m
+hole-stays : (sizes : List SegmentSize) (b : List ℕ) (p n : ℕ) (xs zs : List Extent) (q g m : ℕ) → 8 ≤ p → IsHole b p n → Way sizes b (p + n) (number_at 2 b p) p xs q g m
     → (8 ≤ m → m + number_at 2 b (m + 2) ≢ q) → hole_before n (xs ++ zs) ≡ free n ∷ (xs ++ zs)
 hole-stays sizes b p n [] zs q g m l e w apart =
     let len : p + number_at 2 b (p + 2) ≡ p + n = ap (λ (z : ℕ). p + z) e.element.len in
@@ -73,7 +74,7 @@ hole-stays sizes b p n (used k ∷ xs) zs q g m l e w apart = refl
 hole-stays sizes b p n (taken k ∷ xs) zs q g m l e w apart = refl
 
 -- what is given back behind a way leaves the extents on the way
-give-way : (sizes : ℕ → ℕ) (b : List ℕ) (p f l : ℕ) (xs ys zs : List Extent) (q g m place : ℕ) → l + 8 ≤ p → Way sizes b p f l xs q g m → q ≤ place
+give-way : (sizes : List SegmentSize) (b : List ℕ) (p f l : ℕ) (xs ys zs : List Extent) (q g m place : ℕ) → l + 8 ≤ p → Way sizes b p f l xs q g m → q ≤ place
     → (8 ≤ m → m + number_at 2 b (m + 2) ≢ q) → after_give place q ys ≡ zs → after_give place p (xs ++ ys) ≡ xs ++ zs
 give-way sizes b p f l [] ys zs q g m place h w o apart e = rw w.0 e
 give-way sizes b p f l (free n ∷ xs) ys zs q g m place h w o apart e =
@@ -93,7 +94,7 @@ give-way sizes b p f l (taken n ∷ xs) ys zs q g m place h w o apart e =
 -- ---- a hole of its own
 
 -- no free element ends where the room begins: it becomes one, by the two writes that do it
-pub gives-own : {sizes : ℕ → ℕ} {b : List ℕ} {xs : List Extent} {offset n : ℕ} {link : Link} {behind : Behind} {b1 b2 : List ℕ} (s : IsLinked sizes b xs offset n link)
+pub gives-own : {sizes : List SegmentSize} {b : List ℕ} {xs : List Extent} {offset n : ℕ} {link : Link} {behind : Behind} {b1 b2 : List ℕ} (s : IsLinked sizes b xs offset n link)
     → IsBehind sizes b (offset + n) s.behind behind → (8 ≤ link.link → link.link + number_at 2 b (link.link + 2) ≢ offset) → 8 ≤ n → n % 8 ≡ 0
     → ChangesOnly offset 8 b b1 → ChangesOnly link.link 2 b1 b2
     → number_at 2 b1 offset ≡ behind.next → number_at 2 b1 (offset + 2) ≡ n + behind.more → number_at 4 b1 (offset + 4) ≡ 0 → number_at 2 b2 link.link ≡ offset
@@ -131,7 +132,7 @@ gives-own {sizes} {b} {xs} {offset} {n} {link} {behind} {b1} {b2} s t apart some
 -- ---- a longer hole
 
 -- a way that ends with the free element that the number stands in
-pub record EndsFree (sizes : ℕ → ℕ) (b : List ℕ) (p f l : ℕ) (xs : List Extent) (m : ℕ) : Type 0 where
+pub record EndsFree (sizes : List SegmentSize) (b : List ℕ) (p f l : ℕ) (xs : List Extent) (m : ℕ) : Type 0 where
   pub front : List Extent
   pub size : ℕ
   pub link : ℕ
@@ -140,7 +141,7 @@ pub record EndsFree (sizes : ℕ → ℕ) (b : List ℕ) (p f l : ℕ) (xs : Lis
   pub hole : IsHole b m size
 
 -- a way that leads nowhere has no extents
-way-empty : (sizes : ℕ → ℕ) (b : List ℕ) (p f l : ℕ) (xs : List Extent) (q g m : ℕ) → l + 8 ≤ p → Way sizes b p f l xs q g m → q ≤ p → xs ≡ []
+way-empty : (sizes : List SegmentSize) (b : List ℕ) (p f l : ℕ) (xs : List Extent) (q g m : ℕ) → l + 8 ≤ p → Way sizes b p f l xs q g m → q ≤ p → xs ≡ []
 way-empty sizes b p f l [] q g m h w o = refl
 way-empty sizes b p f l (free n ∷ xs) q g m h w o =
     let some = w.1.element.some in let r = way-within sizes b (p + n) (number_at 2 b p) p xs q g m (omega arith) w.2 in absurd (omega arith)
@@ -150,7 +151,7 @@ way-empty sizes b p f l (taken n ∷ xs) q g m h w o =
     let r = way-within sizes b (p + n) f l xs q g m (omega arith) w.3 in absurd (omega arith)
 
 -- where the element that the number stands in ends at the end of a way, it is the last on it
-way-last : (sizes : ℕ → ℕ) (b : List ℕ) (p f l : ℕ) (xs : List Extent) (q g m : ℕ) → l + 8 ≤ p → Way sizes b p f l xs q g m → p ≤ m → m + number_at 2 b (m + 2) ≡ q
+way-last : (sizes : List SegmentSize) (b : List ℕ) (p f l : ℕ) (xs : List Extent) (q g m : ℕ) → l + 8 ≤ p → Way sizes b p f l xs q g m → p ≤ m → m + number_at 2 b (m + 2) ≡ q
     → EndsFree sizes b p f l xs m
 way-last sizes b p f l [] q g m h w o e = absurd (omega arith)
 way-last sizes b p f l (free n ∷ xs) q g m h w o e =
@@ -175,7 +176,7 @@ way-last sizes b p f l (taken n ∷ xs) q g m h w o e =
     record { front = taken n ∷ r.front; size = r.size; link = r.link; is = ap (λ (z : List Extent). taken n ∷ z) r.is; way = (w.0, w.1, w.2, r.way); hole = r.hole }
 
 -- a free element ends where the room begins: it becomes longer, by the two writes that do it
-pub gives-joined : {sizes : ℕ → ℕ} {b : List ℕ} {xs : List Extent} {offset n : ℕ} {link : Link} {behind : Behind} {b1 b2 : List ℕ} (s : IsLinked sizes b xs offset n link)
+pub gives-joined : {sizes : List SegmentSize} {b : List ℕ} {xs : List Extent} {offset n : ℕ} {link : Link} {behind : Behind} {b1 b2 : List ℕ} (s : IsLinked sizes b xs offset n link)
     → IsBehind sizes b (offset + n) s.behind behind → 8 ≤ link.link → link.link + number_at 2 b (link.link + 2) ≡ offset → n % 8 ≡ 0
     → ChangesOnly link.link 2 b b1 → ChangesOnly (link.link + 2) 2 b1 b2
     → number_at 2 b1 link.link ≡ behind.next → number_at 2 b2 (link.link + 2) ≡ number_at 2 b (link.link + 2) + (n + behind.more)

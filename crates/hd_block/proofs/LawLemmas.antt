@@ -9,6 +9,8 @@ use Rattle.hd_block.specs.Changes.{after_fill}
 use Rattle.hd_block.proofs.Walk.{fill-within, at-ahead, at-taken}
 use Rattle.hd_block.proofs.Reroute.{fill-same, segment-kept}
 use Rattle.hd_block.proofs.FrameLemmas.{used-ahead}
+use Rattle.hd_dbd.specs.declared.facts.SegmentSize.{SegmentSize}
+use Rattle.hd_block.specs.Sizes.{size_at}
 
 -- a free element before a change
 element-before : {p n : ℕ} {b b' : List ℕ} (q m : ℕ) → ChangesOnly p n b b' → q + m ≤ p → IsHole b q m → IsHole b' q m
@@ -24,30 +26,29 @@ element-before q m c l e =
       apart = λ v. e.apart (sym (number-below 2 q c (omega arith)) ∙ v);
     }
 
--- a change inside a segment, past its code
-pub fill-written : (sizes : ℕ → ℕ) (b b' : List ℕ) (p f : ℕ) (xs : List Extent) (place n : ℕ) → Fill sizes b p f xs → UsedAt p xs place n → ChangesOnly (place + 1) (n - 1) b b' → Fill sizes b' p f xs
-fill-written sizes b b' p f [] place n h u c = absurd u
-fill-written sizes b b' p f (free m ∷ xs) place n h u c =
+-- a change inside a segment that leaves it its size
+pub fill-written : (sizes : List SegmentSize) (b b' : List ℕ) (p f : ℕ) (xs : List Extent) (place n : ℕ) → Fill sizes b p f xs → UsedAt p xs place n → ChangesOnly place n b b' → size_at sizes b' place ≡ n → Fill sizes b' p f xs
+fill-written sizes b b' p f [] place n h u c k = absurd u
+fill-written sizes b b' p f (free m ∷ xs) place n h u c k =
     let some = h.1.element.some in
     let ahead = used-ahead (p + m) xs place n u in
     let next : number_at 2 b' p ≡ number_at 2 b p = number-below 2 p c (omega arith) in
-    (h.0, element-before p m c (omega arith) h.1, rw next (fill-written sizes b b' (p + m) (number_at 2 b p) xs place n h.2 u c))
-fill-written sizes b b' p f (taken m ∷ xs) place n h u c = (h.0, h.1, h.2, fill-written sizes b b' (p + m) f xs place n h.3 u c)
-fill-written sizes b b' p f (used m ∷ xs) place n h (inl e) c =
-    let some = h.1.some in
-    (h.0, segment-kept (c.below p (omega arith)) h.1, fill-same sizes b b' (p + m) f xs c.len (λ j l. c.above j (omega arith)) h.2)
-fill-written sizes b b' p f (used m ∷ xs) place n h (inr u) c =
+    (h.0, element-before p m c (omega arith) h.1, rw next (fill-written sizes b b' (p + m) (number_at 2 b p) xs place n h.2 u c k))
+fill-written sizes b b' p f (taken m ∷ xs) place n h u c k = (h.0, h.1, h.2, fill-written sizes b b' (p + m) f xs place n h.3 u c k)
+fill-written sizes b b' p f (used m ∷ xs) place n h (inl e) c k =
+    let segment : IsSegment sizes b' p m = record { size = ap (size_at sizes b') e.0 ∙ k ∙ sym e.1; some = h.1.some; whole = h.1.whole } in
+    (h.0, segment, fill-same sizes b b' (p + m) f xs c.len (λ j l. c.above j (omega arith)) h.2)
+fill-written sizes b b' p f (used m ∷ xs) place n h (inr u) c k =
     let ahead = used-ahead (p + m) xs place n u in
-    let some = h.1.some in
-    (h.0, segment-kept (c.below p (omega arith)) h.1, fill-written sizes b b' (p + m) f xs place n h.2 u c)
+    (h.0, segment-kept (λ j l v. c.below j (omega arith)) h.1, fill-written sizes b b' (p + m) f xs place n h.2 u c k)
 
 -- room that was handed out stands behind where the extents begin
 pub taken-ahead : (p : ℕ) (xs : List Extent) (place n : ℕ) → TakenAt p xs place n → p ≤ place
 taken-ahead p xs place n u = at-ahead p xs place n (at-taken p xs place n u)
 
 -- a segment that is put into room of its size
-pub fill-filled : (sizes : ℕ → ℕ) (b b' : List ℕ) (p f : ℕ) (xs : List Extent) (place n : ℕ) → Fill sizes b p f xs → TakenAt p xs place n → ChangesOnly place n b b'
-    → sizes (slice_index b' place) ≡ n → Fill sizes b' p f (after_fill place p xs)
+pub fill-filled : (sizes : List SegmentSize) (b b' : List ℕ) (p f : ℕ) (xs : List Extent) (place n : ℕ) → Fill sizes b p f xs → TakenAt p xs place n → ChangesOnly place n b b'
+    → size_at sizes b' place ≡ n → Fill sizes b' p f (after_fill place p xs)
 fill-filled sizes b b' p f [] place n h u c e = absurd u
 fill-filled sizes b b' p f (free m ∷ xs) place n h u c e =
     let some = h.1.element.some in
@@ -55,11 +56,10 @@ fill-filled sizes b b' p f (free m ∷ xs) place n h u c e =
     let next : number_at 2 b' p ≡ number_at 2 b p = number-below 2 p c (omega arith) in
     (h.0, element-before p m c (omega arith) h.1, rw next (fill-filled sizes b b' (p + m) (number_at 2 b p) xs place n h.2 u c e))
 fill-filled sizes b b' p f (used m ∷ xs) place n h u c e =
-    let some = h.1.some in
     let ahead = taken-ahead (p + m) xs place n u in
-    (h.0, segment-kept (c.below p (omega arith)) h.1, fill-filled sizes b b' (p + m) f xs place n h.2 u c e)
+    (h.0, segment-kept (λ j l v. c.below j (omega arith)) h.1, fill-filled sizes b b' (p + m) f xs place n h.2 u c e)
 fill-filled sizes b b' p f (taken m ∷ xs) place n h (inl d) c e =
-    let segment : IsSegment sizes b' p m = record { size = ap (λ (z : ℕ). sizes (slice_index b' z)) d.0 ∙ e ∙ sym d.1; some = h.1; whole = h.2 } in
+    let segment : IsSegment sizes b' p m = record { size = ap (size_at sizes b') d.0 ∙ e ∙ sym d.1; some = h.1; whole = h.2 } in
     rw (eq-eqb p place d.0) (h.0, segment, fill-same sizes b b' (p + m) f xs c.len (λ j l. c.above j (omega arith)) h.3)
 fill-filled sizes b b' p f (taken m ∷ xs) place n h (inr u) c e =
     let ahead = taken-ahead (p + m) xs place n u in
@@ -78,7 +78,7 @@ used-apart p (used k ∷ xs) place n other m (inr u) (inl d) = let r = used-ahea
 used-apart p (used k ∷ xs) place n other m (inr u) (inr v) = used-apart (p + k) xs place n other m u v
 
 -- bytes have one division
-pub one-division : (sizes : ℕ → ℕ) (b : List ℕ) (p f : ℕ) (xs ys : List Extent) → 0 < p → AreWhole xs → AreWhole ys → Fill sizes b p f xs → Fill sizes b p f ys → xs ≡ ys
+pub one-division : (sizes : List SegmentSize) (b : List ℕ) (p f : ℕ) (xs ys : List Extent) → 0 < p → AreWhole xs → AreWhole ys → Fill sizes b p f xs → Fill sizes b p f ys → xs ≡ ys
 one-division sizes b p f (taken n ∷ xs) ys k s t h i = absurd s
 one-division sizes b p f [] (taken m ∷ ys) k s t h i = absurd t
 one-division sizes b p f (free n ∷ xs) (taken m ∷ ys) k s t h i = absurd t

@@ -1,3 +1,4 @@
+pub mod SizeLemmas
 pub mod Walk
 pub mod Reroute
 pub mod TakeLemmas

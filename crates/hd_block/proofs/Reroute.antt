@@ -1,9 +1,12 @@
 -- A write of one number of the chain of free elements, and of what lies behind a place.
 use Rattle.std.proofs.Common.{◌≡◌, ◌≢◌, ℕ, ◌+◌, ◌<◌, ◌≤◌, ◌⊎◌, inl, inr, List, [], ◌∷◌, ◌++◌, length, slice_index, refl, sym, ap, ◌∙◌, subst, arith}
 use Rattle.hd_bytes.specs.Numbers.{number_at}
+use Rattle.hd_bytes.specs.Ranges.{AgreeOn}
 use Rattle.hd_bytes.proofs.NumberLemmas.{number-same}
 use Rattle.hd_block.specs.Extents.{Extent, free, used, taken, IsHole, IsSegment, Fill}
 use Rattle.hd_block.specs.Found.{Way}
+use Rattle.hd_block.proofs.SizeLemmas.{size-kept}
+use Rattle.hd_dbd.specs.declared.facts.SegmentSize.{SegmentSize}
 
 -- below q only the two bytes at m may differ
 pub record Redirects (b b' : List ℕ) (m q : ℕ) : Type 0 where
@@ -28,14 +31,14 @@ byte-kept r p h (inl l) = r.below p h l
 byte-kept r p h (inr l) = r.above p h l
 
 -- the number that leads on is the first one, or stands in a free element on the way
-pub way-link : (sizes : ℕ → ℕ) (b : List ℕ) (p f l : ℕ) (xs : List Extent) (q g m : ℕ) → Way sizes b p f l xs q g m → (m ≡ l) ⊎ (p ≤ m)
+pub way-link : (sizes : List SegmentSize) (b : List ℕ) (p f l : ℕ) (xs : List Extent) (q g m : ℕ) → Way sizes b p f l xs q g m → (m ≡ l) ⊎ (p ≤ m)
 way-link sizes b p f l [] q g m w = inl (sym w.2)
 way-link sizes b p f l (free n ∷ xs) q g m w = elim (way-link sizes b (p + n) (number_at 2 b p) p xs q g m w.2) [ inl e ↦ inr (omega arith) | inr h ↦ inr (omega arith) ]
 way-link sizes b p f l (used n ∷ xs) q g m w = elim (way-link sizes b (p + n) f l xs q g m w.2) [ inl e ↦ inl e | inr h ↦ inr (omega arith) ]
 way-link sizes b p f l (taken n ∷ xs) q g m w = elim (way-link sizes b (p + n) f l xs q g m w.3) [ inl e ↦ inl e | inr h ↦ inr (omega arith) ]
 
 -- a way leads on, past that number
-pub way-within : (sizes : ℕ → ℕ) (b : List ℕ) (p f l : ℕ) (xs : List Extent) (q g m : ℕ) → l + 8 ≤ p → Way sizes b p f l xs q g m → (p ≤ q) × (m + 8 ≤ q)
+pub way-within : (sizes : List SegmentSize) (b : List ℕ) (p f l : ℕ) (xs : List Extent) (q g m : ℕ) → l + 8 ≤ p → Way sizes b p f l xs q g m → (p ≤ q) × (m + 8 ≤ q)
 way-within sizes b p f l [] q g m h w = (omega arith, omega arith)
 way-within sizes b p f l (free n ∷ xs) q g m h w =
     let e = w.1.element.some in let r = way-within sizes b (p + n) (number_at 2 b p) p xs q g m (omega arith) w.2 in (omega arith, omega arith)
@@ -45,14 +48,14 @@ way-within sizes b p f l (taken n ∷ xs) q g m h w =
     let r = way-within sizes b (p + n) f l xs q g m (omega arith) w.3 in (omega arith, omega arith)
 
 -- the number that leads on is the next free element's place
-pub way-next : (sizes : ℕ → ℕ) (b : List ℕ) (p f l : ℕ) (xs : List Extent) (q g m : ℕ) → number_at 2 b l ≡ f → Way sizes b p f l xs q g m → number_at 2 b m ≡ g
+pub way-next : (sizes : List SegmentSize) (b : List ℕ) (p f l : ℕ) (xs : List Extent) (q g m : ℕ) → number_at 2 b l ≡ f → Way sizes b p f l xs q g m → number_at 2 b m ≡ g
 way-next sizes b p f l [] q g m k w = ap (number_at 2 b) (sym w.2) ∙ k ∙ w.1
 way-next sizes b p f l (free n ∷ xs) q g m k w = way-next sizes b (p + n) (number_at 2 b p) p xs q g m refl w.2
 way-next sizes b p f l (used n ∷ xs) q g m k w = way-next sizes b (p + n) f l xs q g m k w.2
 way-next sizes b p f l (taken n ∷ xs) q g m k w = way-next sizes b (p + n) f l xs q g m k w.3
 
 -- the free element that it stands in does not end where the next one begins
-pub way-apart : (sizes : ℕ → ℕ) (b : List ℕ) (p f l : ℕ) (xs : List Extent) (q g m : ℕ) → Way sizes b p f l xs q g m → (m ≡ l) ⊎ (m + number_at 2 b (m + 2) ≢ number_at 2 b m)
+pub way-apart : (sizes : List SegmentSize) (b : List ℕ) (p f l : ℕ) (xs : List Extent) (q g m : ℕ) → Way sizes b p f l xs q g m → (m ≡ l) ⊎ (m + number_at 2 b (m + 2) ≢ number_at 2 b m)
 way-apart sizes b p f l [] q g m w = inl (sym w.2)
 way-apart sizes b p f l (free n ∷ xs) q g m w =
     let at = w.1.element.len in
@@ -72,14 +75,14 @@ not-at {b} {b'} {m} {q} p n f l r (inl e) h w s k other (past z) = let t : numbe
 not-at {b} {b'} {m} {q} p n f l r (inl e) h w s k other (to z y) = let t : number_at 2 b' l ≡ number_at 2 b' m = ap (number_at 2 b') (sym e) in λ u. omega arith
 not-at {b} {b'} {m} {q} p n f l r (inr e) h w s k other z = λ u. other (u ∙ number-kept r 2 l (omega arith) (inl (omega arith)) ∙ k)
 
--- a segment's code is clear of them
-clear-of : {m l p n : ℕ} → (m ≡ l) ⊎ (p + n ≤ m) → l + 8 ≤ p → 8 ≤ n → (p < m) ⊎ (m + 2 ≤ p)
-clear-of (inl e) h s = inr (omega arith)
-clear-of (inr e) h s = inl (omega arith)
+-- a segment is clear of them
+clear-of : {b b' : List ℕ} {m l p q : ℕ} (n : ℕ) → Redirects b b' m q → (m ≡ l) ⊎ (p + n ≤ m) → l + 8 ≤ p → p + n ≤ q → AgreeOn p n b' b
+clear-of n r (inl e) h w = λ k u v. byte-kept r k (omega arith) (inr (omega arith))
+clear-of n r (inr e) h w = λ k u v. byte-kept r k (omega arith) (inl (omega arith))
 
--- a segment whose code stays
-pub segment-kept : {sizes : ℕ → ℕ} {b b' : List ℕ} {p n : ℕ} → slice_index b' p ≡ slice_index b p → IsSegment sizes b p n → IsSegment sizes b' p n
-segment-kept {sizes} e s = record { size = ap sizes e ∙ s.size; some = s.some; whole = s.whole }
+-- a segment whose bytes stay
+pub segment-kept : {sizes : List SegmentSize} {b b' : List ℕ} {p n : ℕ} → AgreeOn p n b' b → IsSegment sizes b p n → IsSegment sizes b' p n
+segment-kept {sizes} {b} {b'} {p} {n} e s = record { size = size-kept sizes b b' p n e s.some s.size; some = s.some; whole = s.whole }
 
 -- the element that they stand in still does not end where they lead
 element-apart : {b b' : List ℕ} {m q p n : ℕ} → m ≡ p → 8 ≤ p → p + n ≤ q → number_at 2 b (p + 2) ≡ n → LeadsOn b b' m q → number_at 2 b' p ≢ p + n
@@ -117,7 +120,7 @@ element-kept {b} {b'} {m} {q} {p} {n} r (inr e) l w s z =
     }
 
 -- After such a write the same extents lead to place q, and from there on what the number says.
-pub reroute : (sizes : ℕ → ℕ) (b b' : List ℕ) (p f l : ℕ) (xs zs : List Extent) (q g m : ℕ) → Way sizes b p f l xs q g m → number_at 2 b l ≡ f → l + 8 ≤ p → Redirects b b' m q
+pub reroute : (sizes : List SegmentSize) (b b' : List ℕ) (p f l : ℕ) (xs zs : List Extent) (q g m : ℕ) → Way sizes b p f l xs q g m → number_at 2 b l ≡ f → l + 8 ≤ p → Redirects b b' m q
     → LeadsOn b b' m q → Fill sizes b' q (number_at 2 b' m) zs → Fill sizes b' p (number_at 2 b' l) (xs ++ zs)
 reroute sizes b b' p f l [] zs q g m w k h r z t = rw (w.0, w.2) t
 reroute sizes b b' p f l (free n ∷ xs) zs q g m w k h r z t =
@@ -134,7 +137,7 @@ reroute sizes b b' p f l (used n ∷ xs) zs q g m w k h r z t =
     let in_way = way-within sizes b (p + n) f l xs q g m (omega arith) w.2 in
     let link = way-link sizes b (p + n) f l xs q g m w.2 in (
       not-at p n f l r link h in_way.0 some k w.0 z,
-      segment-kept (byte-kept r p (omega arith) (clear-of link h some)) w.1,
+      segment-kept (clear-of n r link h in_way.0) w.1,
       reroute sizes b b' (p + n) f l xs zs q g m w.2 k (omega arith) r z t,
     )
 reroute sizes b b' p f l (taken n ∷ xs) zs q g m w k h r z t =
@@ -147,7 +150,7 @@ reroute sizes b b' p f l (taken n ∷ xs) zs q g m w k h r z t =
     )
 
 -- extents that no write touches
-pub fill-same : (sizes : ℕ → ℕ) (b b' : List ℕ) (p f : ℕ) (xs : List Extent) → length b' ≡ length b → ((k : ℕ) → p ≤ k → slice_index b' k ≡ slice_index b k) → Fill sizes b p f xs → Fill sizes b' p f xs
+pub fill-same : (sizes : List SegmentSize) (b b' : List ℕ) (p f : ℕ) (xs : List Extent) → length b' ≡ length b → ((k : ℕ) → p ≤ k → slice_index b' k ≡ slice_index b k) → Fill sizes b p f xs → Fill sizes b' p f xs
 fill-same sizes b b' p f [] len same h = (h.0 ∙ sym len, h.1)
 fill-same sizes b b' p f (free n ∷ xs) len same h =
     let same_number : (i q : ℕ) → p ≤ q → number_at i b' q ≡ number_at i b q = λ i q l. number-same i q b' b (λ k a c. same k (omega arith)) in
@@ -165,6 +168,6 @@ fill-same sizes b b' p f (free n ∷ xs) len same h =
       rw next (fill-same sizes b b' (p + n) (number_at 2 b p) xs len (λ k l. same k (omega arith)) h.2),
     )
 fill-same sizes b b' p f (used n ∷ xs) len same h =
-    (h.0, segment-kept (same p (omega arith)) h.1, fill-same sizes b b' (p + n) f xs len (λ k l. same k (omega arith)) h.2)
+    (h.0, segment-kept (λ k l u. same k l) h.1, fill-same sizes b b' (p + n) f xs len (λ k l. same k (omega arith)) h.2)
 fill-same sizes b b' p f (taken n ∷ xs) len same h =
     (h.0, h.1, h.2, fill-same sizes b b' (p + n) f xs len (λ k l. same k (omega arith)) h.3)

@@ -9,9 +9,10 @@ use Rattle.hd_block.specs.Changes.{split_hole, after_take}
 use Rattle.hd_block.specs.Found.{SeeksHole, Stands}
 use Rattle.hd_block.proofs.Walk.{fill-ahead}
 use Rattle.hd_block.proofs.Reroute.{Redirects, LeadsOn, ends, past, way-within, reroute, fill-same}
+use Rattle.hd_dbd.specs.declared.facts.SegmentSize.{SegmentSize}
 
 -- a hole of just the size is taken out of the chain
-pub takes-whole : {sizes : ℕ → ℕ} {b : List ℕ} {xs : List Extent} {end g m n : ℕ} (size : ℕ) (b' : List ℕ) → Stands sizes b (SeeksHole size xs) xs end g m n → n ≡ size
+pub takes-whole : {sizes : List SegmentSize} {b : List ℕ} {xs : List Extent} {end g m n : ℕ} (size : ℕ) (b' : List ℕ) → Stands sizes b (SeeksHole size xs) xs end g m n → n ≡ size
     → ChangesOnly m 2 b b' → number_at 2 b' m ≡ number_at 2 b g → IsDivided sizes b' (after_take size xs)
 takes-whole {sizes} {b} {xs} {end} {g} {m} {n} size b' s e c next =
     let some = s.hole.element.some in
@@ -27,7 +28,7 @@ takes-whole {sizes} {b} {xs} {end} {g} {m} {n} size b' s e c next =
     rw whole (reroute sizes b b' 8 (number_at 2 b 0) 0 s.before (taken size ∷ s.behind) g g m s.way refl (omega arith) r later (apart, omega arith, even, rest))
 
 -- the front of a larger hole is taken, and the rest stays free
-takes-front : {sizes : ℕ → ℕ} {b : List ℕ} {xs : List Extent} {end g m n : ℕ} (size : ℕ) (b' : List ℕ) → Stands sizes b (SeeksHole size xs) xs end g m n → size + 8 ≤ n → 0 < size → size % 8 ≡ 0
+takes-front : {sizes : List SegmentSize} {b : List ℕ} {xs : List Extent} {end g m n : ℕ} (size : ℕ) (b' : List ℕ) → Stands sizes b (SeeksHole size xs) xs end g m n → size + 8 ≤ n → 0 < size → size % 8 ≡ 0
     → Redirects b b' m g → ((k : ℕ) → g + n ≤ k → slice_index b' k ≡ slice_index b k)
     → number_at 2 b' m ≡ g + size → number_at 2 b' (g + size) ≡ number_at 2 b g → number_at 2 b' (g + size + 2) ≡ n - size → number_at 4 b' (g + size + 4) ≡ 0
     → IsDivided sizes b' (after_take size xs)
@@ -58,7 +59,7 @@ pub no-crumb : {n size : ℕ} → n % 8 ≡ 0 → size ≤ n → n ≢ size → 
 no-crumb even l e h = omega arith
 
 -- the same by the two writes that do it
-pub takes-two : {sizes : ℕ → ℕ} {b : List ℕ} {xs : List Extent} {end g m n : ℕ} {b1 b2 : List ℕ} (size : ℕ) → Stands sizes b (SeeksHole size xs) xs end g m n → size + 8 ≤ n → 0 < size → size % 8 ≡ 0
+pub takes-two : {sizes : List SegmentSize} {b : List ℕ} {xs : List Extent} {end g m n : ℕ} {b1 b2 : List ℕ} (size : ℕ) → Stands sizes b (SeeksHole size xs) xs end g m n → size + 8 ≤ n → 0 < size → size % 8 ≡ 0
     → ChangesOnly (g + size) 8 b b1 → ChangesOnly m 2 b1 b2
     → number_at 2 b1 (g + size) ≡ number_at 2 b g → number_at 2 b1 (g + size + 2) ≡ n - size → number_at 4 b1 (g + size + 4) ≡ 0 → number_at 2 b2 m ≡ g + size
     → IsDivided sizes b2 (after_take size xs)

@@ -7,9 +7,10 @@ use Rattle.hd_block.specs.Changes.{hole_at, split_hole, after_take}
 use Rattle.hd_block.specs.Parts.{largest_free}
 use Rattle.hd_block.specs.Found.{Way, At, Keeps, SeeksHole, SeeksLargest, SeeksOffset, Progress, Stands, IsLinked}
 use Rattle.hd_block.specs.declared.gives.Link.{Link}
+use Rattle.hd_dbd.specs.declared.facts.SegmentSize.{SegmentSize}
 
 -- a way goes on by a free element
-pub way-free : (sizes : ℕ → ℕ) (b : List ℕ) (p f l : ℕ) (xs : List Extent) (q m n : ℕ) → Way sizes b p f l xs q q m → IsHole b q n
+pub way-free : (sizes : List SegmentSize) (b : List ℕ) (p f l : ℕ) (xs : List Extent) (q m n : ℕ) → Way sizes b p f l xs q q m → IsHole b q n
     → Way sizes b p f l (xs ++ free n ∷ []) (q + n) (number_at 2 b q) q
 way-free sizes b p f l [] q m n w e = (w.0 ∙ sym w.1, rw w.0 e, (ap (λ (x : ℕ). x + n) w.0, ap (number_at 2 b) w.0, w.0))
 way-free sizes b p f l (free k ∷ xs) q m n w e = (w.0, w.1, way-free sizes b (p + k) (number_at 2 b p) p xs q m n w.2 e)
@@ -17,7 +18,7 @@ way-free sizes b p f l (used k ∷ xs) q m n w e = (w.0, w.1, way-free sizes b (
 way-free sizes b p f l (taken k ∷ xs) q m n w e = (w.0, w.1, w.2, way-free sizes b (p + k) f l xs q m n w.3 e)
 
 -- it goes on by a segment
-pub way-used : (sizes : ℕ → ℕ) (b : List ℕ) (p f l : ℕ) (xs : List Extent) (q g m n : ℕ) → Way sizes b p f l xs q g m → q ≢ g → IsSegment sizes b q n
+pub way-used : (sizes : List SegmentSize) (b : List ℕ) (p f l : ℕ) (xs : List Extent) (q g m n : ℕ) → Way sizes b p f l xs q g m → q ≢ g → IsSegment sizes b q n
     → Way sizes b p f l (xs ++ used n ∷ []) (q + n) g m
 way-used sizes b p f l [] q g m n w a e = (λ h. a (sym w.0 ∙ h ∙ w.1), rw w.0 e, (ap (λ (x : ℕ). x + n) w.0, w.1, w.2))
 way-used sizes b p f l (free k ∷ xs) q g m n w a e = (w.0, w.1, way-used sizes b (p + k) (number_at 2 b p) p xs q g m n w.2 a e)
@@ -25,7 +26,7 @@ way-used sizes b p f l (used k ∷ xs) q g m n w a e = (w.0, w.1, way-used sizes
 way-used sizes b p f l (taken k ∷ xs) q g m n w a e = (w.0, w.1, w.2, way-used sizes b (p + k) f l xs q g m n w.3 a e)
 
 -- it goes on by room that was handed out
-pub way-taken : (sizes : ℕ → ℕ) (b : List ℕ) (p f l : ℕ) (xs : List Extent) (q g m n : ℕ) → Way sizes b p f l xs q g m → q ≢ g → 8 ≤ n → n % 8 ≡ 0
+pub way-taken : (sizes : List SegmentSize) (b : List ℕ) (p f l : ℕ) (xs : List Extent) (q g m n : ℕ) → Way sizes b p f l xs q g m → q ≢ g → 8 ≤ n → n % 8 ≡ 0
     → Way sizes b p f l (xs ++ taken n ∷ []) (q + n) g m
 way-taken sizes b p f l [] q g m n w a e d = (λ h. a (sym w.0 ∙ h ∙ w.1), e, d, (ap (λ (x : ℕ). x + n) w.0, w.1, w.2))
 way-taken sizes b p f l (free k ∷ xs) q g m n w a e d = (w.0, w.1, way-taken sizes b (p + k) (number_at 2 b p) p xs q g m n w.2 a e d)
@@ -33,14 +34,14 @@ way-taken sizes b p f l (used k ∷ xs) q g m n w a e d = (w.0, w.1, way-taken s
 way-taken sizes b p f l (taken k ∷ xs) q g m n w a e d = (w.0, w.1, w.2, way-taken sizes b (p + k) f l xs q g m n w.3 a e d)
 
 -- the extents end within the block
-pub fill-within : (sizes : ℕ → ℕ) (b : List ℕ) (p f : ℕ) (xs : List Extent) → Fill sizes b p f xs → p ≤ length b
+pub fill-within : (sizes : List SegmentSize) (b : List ℕ) (p f : ℕ) (xs : List Extent) → Fill sizes b p f xs → p ≤ length b
 fill-within sizes b p f [] h = omega arith
 fill-within sizes b p f (free n ∷ xs) h = let r = fill-within sizes b (p + n) (number_at 2 b p) xs h.2 in omega arith
 fill-within sizes b p f (used n ∷ xs) h = let r = fill-within sizes b (p + n) f xs h.2 in omega arith
 fill-within sizes b p f (taken n ∷ xs) h = let r = fill-within sizes b (p + n) f xs h.3 in omega arith
 
 -- the next free element, if there is one, is not before
-pub fill-ahead : (sizes : ℕ → ℕ) (b : List ℕ) (p f : ℕ) (xs : List Extent) → Fill sizes b p f xs → (f ≡ 0) ⊎ (p ≤ f)
+pub fill-ahead : (sizes : List SegmentSize) (b : List ℕ) (p f : ℕ) (xs : List Extent) → Fill sizes b p f xs → (f ≡ 0) ⊎ (p ≤ f)
 fill-ahead sizes b p f [] h = inl h.1
 fill-ahead sizes b p f (free n ∷ xs) h = inr (omega arith)
 fill-ahead sizes b p f (used n ∷ xs) h = elim (fill-ahead sizes b (p + n) f xs h.2) [ inl e ↦ inl e | inr l ↦ inr (omega arith) ]
@@ -71,11 +72,11 @@ passes-offset offset n g m = record {
 }
 
 -- a walk begins at offset 8
-pub begins : (sizes : ℕ → ℕ) (b : List ℕ) (kept : Keeps) (xs : List Extent) → IsDivided sizes b xs → kept [] 8 xs → Progress sizes b kept xs 8 (number_at 2 b 0) 0
+pub begins : (sizes : List SegmentSize) (b : List ℕ) (kept : Keeps) (xs : List Extent) → IsDivided sizes b xs → kept [] 8 xs → Progress sizes b kept xs 8 (number_at 2 b 0) 0
 begins sizes b kept xs h k = record { before = []; behind = xs; place = 8; way = (refl, refl, refl); fill = h; far = omega arith; whole = refl; keeps = k }
 
 -- a walk goes on past what is not free
-go-on : (sizes : ℕ → ℕ) (b : List ℕ) (kept : Keeps) (xs : List Extent) (end g m : ℕ) (before behind : List Extent) (place : ℕ)
+go-on : (sizes : List SegmentSize) (b : List ℕ) (kept : Keeps) (xs : List Extent) (end g m : ℕ) (before behind : List Extent) (place : ℕ)
     → Way sizes b 8 (number_at 2 b 0) 0 before place g m → Fill sizes b place g behind → end ≤ place → xs ≡ before ++ behind → kept before place behind → Passes kept g → g ≢ 0
     → Stands sizes b kept xs end g m (number_at 2 b (g + 2))
 go-on sizes b kept xs end g m before [] place w f l e k step some = absurd (some f.1)
@@ -102,12 +103,12 @@ go-on sizes b kept xs end g m before (taken n ∷ ys) place w f l e k step some 
     (e ∙ sym (append_assoc before _ _)) (step.taken before ys place n low k) step some
 
 -- a walk comes to the next free element
-pub stands : {sizes : ℕ → ℕ} {b : List ℕ} {kept : Keeps} {xs : List Extent} {end g m : ℕ} → Progress sizes b kept xs end g m → Passes kept g → g ≢ 0
+pub stands : {sizes : List SegmentSize} {b : List ℕ} {kept : Keeps} {xs : List Extent} {end g m : ℕ} → Progress sizes b kept xs end g m → Passes kept g → g ≢ 0
     → Stands sizes b kept xs end g m (number_at 2 b (g + 2))
 stands {sizes} {b} {kept} {xs} {end} {g} {m} p step some = go-on sizes b kept xs end g m p.before p.behind p.place p.way p.fill p.far p.whole p.keeps step some
 
 -- it passes that element, and may keep another fact from then on
-pub passes : {sizes : ℕ → ℕ} {b : List ℕ} {kept later : Keeps} {xs : List Extent} {end g m n : ℕ} (s : Stands sizes b kept xs end g m n) → later (s.before ++ free n ∷ []) (g + n) s.behind
+pub passes : {sizes : List SegmentSize} {b : List ℕ} {kept later : Keeps} {xs : List Extent} {end g m n : ℕ} (s : Stands sizes b kept xs end g m n) → later (s.before ++ free n ∷ []) (g + n) s.behind
     → Progress sizes b later xs (g + 8) (number_at 2 b g) g
 passes {sizes} {b} {kept} {later} {xs} {end} {g} {m} {n} s k =
     record {
@@ -124,24 +125,24 @@ passes {sizes} {b} {kept} {later} {xs} {end} {g} {m} {n} s k =
 -- ---- a search for a hole
 
 -- no free element is left
-no-hole : (sizes : ℕ → ℕ) (b : List ℕ) (size p f : ℕ) (xs : List Extent) → 0 < p → f ≡ 0 → Fill sizes b p f xs → hole_at size p xs ≡ None
+no-hole : (sizes : List SegmentSize) (b : List ℕ) (size p f : ℕ) (xs : List Extent) → 0 < p → f ≡ 0 → Fill sizes b p f xs → hole_at size p xs ≡ None
 no-hole sizes b size p f [] l e h = refl
 no-hole sizes b size p f (free n ∷ xs) l e h = absurd (omega arith)
 no-hole sizes b size p f (used n ∷ xs) l e h = no-hole sizes b size (p + n) f xs (omega arith) e h.2
 no-hole sizes b size p f (taken n ∷ xs) l e h = no-hole sizes b size (p + n) f xs (omega arith) e h.3
 
 -- a chain that has ended has no hole
-none-left : {sizes : ℕ → ℕ} {b : List ℕ} {xs : List Extent} {end g m : ℕ} (size : ℕ) → Progress sizes b (SeeksHole size xs) xs end g m → 0 < end → g ≡ 0 → hole_at size 8 xs ≡ None
+none-left : {sizes : List SegmentSize} {b : List ℕ} {xs : List Extent} {end g m : ℕ} (size : ℕ) → Progress sizes b (SeeksHole size xs) xs end g m → 0 < end → g ≡ 0 → hole_at size 8 xs ≡ None
 none-left {sizes} {b} size p l e = p.keeps.0 ∙ no-hole sizes b size p.place _ p.behind (let far = p.far in omega arith) e p.fill
 
 -- nor has one that leads back
-pub none-past : {sizes : ℕ → ℕ} {b : List ℕ} {xs : List Extent} {end g m : ℕ} (size : ℕ) → Progress sizes b (SeeksHole size xs) xs end g m → 0 < end → g < end → hole_at size 8 xs ≡ None
+pub none-past : {sizes : List SegmentSize} {b : List ℕ} {xs : List Extent} {end g m : ℕ} (size : ℕ) → Progress sizes b (SeeksHole size xs) xs end g m → 0 < end → g < end → hole_at size 8 xs ≡ None
 none-past {sizes} {b} {xs} {end} {g} size p l k =
     let far = p.far in
     elim (fill-ahead sizes b p.place g p.behind p.fill) [ inl e ↦ none-left size p l e | inr e ↦ absurd (omega arith) ]
 
 -- an element that is too small is passed
-pub passes-small : {sizes : ℕ → ℕ} {b : List ℕ} {size : ℕ} {xs : List Extent} {end g m n : ℕ} → Stands sizes b (SeeksHole size xs) xs end g m n → n < size
+pub passes-small : {sizes : List SegmentSize} {b : List ℕ} {size : ℕ} {xs : List Extent} {end g m n : ℕ} → Stands sizes b (SeeksHole size xs) xs end g m n → n < size
     → Progress sizes b (SeeksHole size xs) xs (g + 8) (number_at 2 b g) g
 passes-small {sizes} {b} {size} {xs} {end} {g} {m} {n} s l =
     let small : nat_le size n ≡ false = lt-leb size n l in
@@ -157,19 +158,19 @@ pub passes-others : (largest : ℕ) (xs : List Extent) (g : ℕ) → Passes (See
 passes-others largest xs g = record { used = λ before ys p n l k. k; taken = λ before ys p n l k. k }
 
 -- and a free element, which may be the largest
-pub passes-free : {sizes : ℕ → ℕ} {b : List ℕ} {xs : List Extent} {end g m n : ℕ} (largest : ℕ) → Stands sizes b (SeeksLargest largest xs) xs end g m n
+pub passes-free : {sizes : List SegmentSize} {b : List ℕ} {xs : List Extent} {end g m n : ℕ} (largest : ℕ) → Stands sizes b (SeeksLargest largest xs) xs end g m n
     → Progress sizes b (SeeksLargest (max largest n) xs) xs (g + 8) (number_at 2 b g) g
 passes-free {sizes} {b} {xs} {end} {g} {m} {n} largest s = let keeps : largest_free xs ≡ max largest (max n (largest_free s.behind)) = s.keeps in passes s (omega arith)
 
 -- no free element is left
-none-free : (sizes : ℕ → ℕ) (b : List ℕ) (p f : ℕ) (xs : List Extent) → 0 < p → f ≡ 0 → Fill sizes b p f xs → largest_free xs ≡ 0
+none-free : (sizes : List SegmentSize) (b : List ℕ) (p f : ℕ) (xs : List Extent) → 0 < p → f ≡ 0 → Fill sizes b p f xs → largest_free xs ≡ 0
 none-free sizes b p f [] l e h = refl
 none-free sizes b p f (free n ∷ xs) l e h = absurd (omega arith)
 none-free sizes b p f (used n ∷ xs) l e h = none-free sizes b (p + n) f xs (omega arith) e h.2
 none-free sizes b p f (taken n ∷ xs) l e h = none-free sizes b (p + n) f xs (omega arith) e h.3
 
 -- where the chain has ended, or leads back, all were seen
-pub all-seen : {sizes : ℕ → ℕ} {b : List ℕ} {largest : ℕ} {xs : List Extent} {end g m : ℕ} → Progress sizes b (SeeksLargest largest xs) xs end g m → 0 < end → g < end → largest ≡ largest_free xs
+pub all-seen : {sizes : List SegmentSize} {b : List ℕ} {largest : ℕ} {xs : List Extent} {end g m : ℕ} → Progress sizes b (SeeksLargest largest xs) xs end g m → 0 < end → g < end → largest ≡ largest_free xs
 all-seen {sizes} {b} {largest} {xs} {end} {g} p l k =
     let far = p.far in
     let ended : g ≡ 0 = elim (fill-ahead sizes b p.place g p.behind p.fill) [ inl e ↦ e | inr e ↦ absurd (omega arith) ] in
@@ -210,7 +211,7 @@ at-ahead p (taken k ∷ xs) place n (inl e) = omega arith
 at-ahead p (taken k ∷ xs) place n (inr h) = let r = at-ahead (p + k) xs place n h in omega arith
 
 -- it goes on to the offset
-arrive : (sizes : ℕ → ℕ) (b : List ℕ) (xs : List Extent) (link : Link) (offset n : ℕ) (before behind : List Extent) (place : ℕ) → 0 < place
+arrive : (sizes : List SegmentSize) (b : List ℕ) (xs : List Extent) (link : Link) (offset n : ℕ) (before behind : List Extent) (place : ℕ) → 0 < place
     → Way sizes b 8 (number_at 2 b 0) 0 before place link.next link.link → Fill sizes b place link.next behind → xs ≡ before ++ behind → At place behind offset n
     → (link.next ≡ 0) ⊎ (offset ≤ link.next) → IsLinked sizes b xs offset n link
 arrive sizes b xs link offset n before [] place z w f e h past = absurd h
@@ -244,7 +245,7 @@ arrive sizes b xs link offset n before (taken k ∷ ys) place z w f e (inr h) pa
     (e ∙ sym (append_assoc before _ _)) h past
 
 -- a walk that is past the offset, or at the end of the chain, comes to the offset
-pub arrives : {sizes : ℕ → ℕ} {b : List ℕ} {xs : List Extent} {end offset n : ℕ} (link : Link) → 0 < end → Progress sizes b (SeeksOffset offset n) xs end link.next link.link
+pub arrives : {sizes : List SegmentSize} {b : List ℕ} {xs : List Extent} {end offset n : ℕ} (link : Link) → 0 < end → Progress sizes b (SeeksOffset offset n) xs end link.next link.link
     → (link.next < end) ⊎ (offset ≤ link.next) → IsLinked sizes b xs offset n link
 arrives {sizes} {b} {xs} {end} {offset} {n} link l p past =
     let far = p.far in
@@ -253,6 +254,6 @@ arrives {sizes} {b} {xs} {end} {offset} {n} link l p past =
     arrive sizes b xs link offset n p.before p.behind p.place (omega arith) p.way p.fill p.whole p.keeps end_or_past
 
 -- an element before the offset is passed
-pub passes-before : {sizes : ℕ → ℕ} {b : List ℕ} {xs : List Extent} {end offset k g m n : ℕ} → Stands sizes b (SeeksOffset offset k) xs end g m n
+pub passes-before : {sizes : List SegmentSize} {b : List ℕ} {xs : List Extent} {end offset k g m n : ℕ} → Stands sizes b (SeeksOffset offset k) xs end g m n
     → Progress sizes b (SeeksOffset offset k) xs (g + 8) (number_at 2 b g) g
 passes-before s = passes s s.keeps

@@ -2,6 +2,7 @@
 use Rattle.std.specs.Prelude.{◌≢◌, ◌⊎◌, ℕ, ◌+◌, ◌-◌, nat_le, ◌==◌, cond, List, [], ◌∷◌, Option, Some, None}
 use Rattle.hd_bytes.specs.Ranges.{AgreeOn}
 use Rattle.hd_block.specs.Extents.{Extent, free, used, taken, IsDivided, UsedAt, TakenAt}
+use Rattle.hd_dbd.specs.declared.facts.SegmentSize.{SegmentSize}
 
 -- ---- taking
 
@@ -54,10 +55,10 @@ abbrev pub IsHeldAt : List Extent → ℕ → ℕ → Type 0
 IsHeldAt xs place n = UsedAt 8 xs place n ⊎ TakenAt 8 xs place n
 
 -- Where a segment or room of a size stood at an offset, the block is divided as after it was given back.
-abbrev pub IsGivenBack : (ℕ → ℕ) → List ℕ → ℕ → ℕ → List ℕ → Type 0
+abbrev pub IsGivenBack : List SegmentSize → List ℕ → ℕ → ℕ → List ℕ → Type 0
 IsGivenBack sizes old offset size new = (xs : List Extent) → IsDivided sizes old xs → IsHeldAt xs offset size → IsDivided sizes new (after_give offset 8 xs)
 
 -- Every segment but the one at the offset keeps its bytes.
-abbrev pub KeepsOthers : (ℕ → ℕ) → List ℕ → ℕ → ℕ → List ℕ → Type 0
+abbrev pub KeepsOthers : List SegmentSize → List ℕ → ℕ → ℕ → List ℕ → Type 0
 KeepsOthers sizes old offset size new =
     (xs : List Extent) (q n : ℕ) → IsDivided sizes old xs → IsHeldAt xs offset size → UsedAt 8 xs q n → q ≢ offset → AgreeOn q n old new

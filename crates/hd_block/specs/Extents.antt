@@ -1,7 +1,8 @@
--- The extents that fill a data block from offset 8: free elements, and segments. A size function gives the bytes that a
--- segment with a code takes, 0 where there is no such type.
+-- The extents that fill a data block from offset 8: free elements, and segments.
 use Rattle.std.specs.Prelude.{◌≡◌, ◌≢◌, ◌⊎◌, ℕ, ◌+◌, ◌%◌, ◌≤◌, List, [], ◌∷◌, length, slice_index}
 use Rattle.hd_bytes.specs.Numbers.{number_at}
+use Rattle.hd_dbd.specs.declared.facts.SegmentSize.{SegmentSize}
+use Rattle.hd_block.specs.Sizes.{size_at}
 
 -- A free element, a segment, or room that was handed out and has no segment yet, each with its length.
 pub data Extent : Type 0 where
@@ -21,14 +22,14 @@ pub record IsHole (bytes : List ℕ) (place n : ℕ) : Type 0 where
   pub element : IsFreeElement bytes place n
   pub apart : number_at 2 bytes place ≢ place + n
 
--- A segment of n bytes, as the code in its first byte says.
-pub record IsSegment (sizes : ℕ → ℕ) (bytes : List ℕ) (place n : ℕ) : Type 0 where
-  pub size : sizes (slice_index bytes place) ≡ n
+-- A segment of n bytes, as its type's segments take, or as it says.
+pub record IsSegment (sizes : List SegmentSize) (bytes : List ℕ) (place n : ℕ) : Type 0 where
+  pub size : size_at sizes bytes place ≡ n
   pub some : 8 ≤ n
   pub whole : n % 8 ≡ 0
 
 -- From a place on, where the next free element begins at `next` (0 for none), the bytes are these extents.
-abbrev pub Fill : (ℕ → ℕ) → List ℕ → ℕ → ℕ → List Extent → Type 0
+abbrev pub Fill : List SegmentSize → List ℕ → ℕ → ℕ → List Extent → Type 0
 Fill sizes bytes place next [] = (place ≡ length bytes) × (next ≡ 0)
 Fill sizes bytes place next (free n ∷ xs) = (place ≡ next) × IsHole bytes place n × Fill sizes bytes (place + n) (number_at 2 bytes place) xs
 Fill sizes bytes place next (used n ∷ xs) = (place ≢ next) × IsSegment sizes bytes place n × Fill sizes bytes (place + n) next xs
@@ -36,7 +37,7 @@ Fill sizes bytes place next (taken n ∷ xs) = (place ≢ next) × (8 ≤ n) × 
 
 -- A data block is divided into these extents: they fill it from offset 8, and its first two bytes name the first free
 -- element.
-abbrev pub IsDivided : (ℕ → ℕ) → List ℕ → List Extent → Type 0
+abbrev pub IsDivided : List SegmentSize → List ℕ → List Extent → Type 0
 IsDivided sizes bytes xs = Fill sizes bytes 8 (number_at 2 bytes 0) xs
 
 -- all room that was handed out has its segment

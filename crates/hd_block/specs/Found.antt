@@ -7,10 +7,11 @@ use Rattle.hd_block.specs.Parts.{largest_free}
 use Rattle.hd_block.specs.declared.holes.Hole.{Hole}
 use Rattle.hd_block.specs.declared.gives.Link.{Link}
 use Rattle.hd_block.specs.declared.gives.Behind.{Behind}
+use Rattle.hd_dbd.specs.declared.facts.SegmentSize.{SegmentSize}
 
 -- From place p, where the next free element is at f as the two bytes at l say, these extents lead to
 -- place q, where the next free element is at g, as the two bytes at m say.
-abbrev pub Way : (ℕ → ℕ) → List ℕ → (p f l : ℕ) → List Extent → (q g m : ℕ) → Type 0
+abbrev pub Way : List SegmentSize → List ℕ → (p f l : ℕ) → List Extent → (q g m : ℕ) → Type 0
 Way sizes b p f l [] q g m = (p ≡ q) × (f ≡ g) × (l ≡ m)
 Way sizes b p f l (free n ∷ xs) q g m = (p ≡ f) × IsHole b p n × Way sizes b (p + n) (number_at 2 b p) p xs q g m
 Way sizes b p f l (used n ∷ xs) q g m = (p ≢ f) × IsSegment sizes b p n × Way sizes b (p + n) f l xs q g m
@@ -40,7 +41,7 @@ abbrev pub SeeksOffset : ℕ → ℕ → Keeps
 SeeksOffset offset n before place behind = At place behind offset n
 
 -- the walk has come to place q, where the next free element is at g, as the two bytes at m say
-pub record Progress (sizes : ℕ → ℕ) (b : List ℕ) (kept : Keeps) (xs : List Extent) (end g m : ℕ) : Type 0 where
+pub record Progress (sizes : List SegmentSize) (b : List ℕ) (kept : Keeps) (xs : List Extent) (end g m : ℕ) : Type 0 where
   pub before : List Extent
   pub behind : List Extent
   pub place : ℕ
@@ -51,7 +52,7 @@ pub record Progress (sizes : ℕ → ℕ) (b : List ℕ) (kept : Keeps) (xs : Li
   pub keeps : kept before place behind
 
 -- the walk stands before a free element of n bytes
-pub record Stands (sizes : ℕ → ℕ) (b : List ℕ) (kept : Keeps) (xs : List Extent) (end g m n : ℕ) : Type 0 where
+pub record Stands (sizes : List SegmentSize) (b : List ℕ) (kept : Keeps) (xs : List Extent) (end g m n : ℕ) : Type 0 where
   pub before : List Extent
   pub behind : List Extent
   pub way : Way sizes b 8 (number_at 2 b 0) 0 before g g m
@@ -62,7 +63,7 @@ pub record Stands (sizes : ℕ → ℕ) (b : List ℕ) (kept : Keeps) (xs : List
   pub keeps : kept before g (free n ∷ behind)
 
 -- the walk stands before this hole
-pub record IsFound (sizes : ℕ → ℕ) (bytes : List ℕ) (size : ℕ) (xs : List Extent) (hole : Hole) : Type 0 where
+pub record IsFound (sizes : List SegmentSize) (bytes : List ℕ) (size : ℕ) (xs : List Extent) (hole : Hole) : Type 0 where
   pub end : ℕ
   pub stands : Stands sizes bytes (SeeksHole size xs) xs end hole.place hole.link hole.len
   pub next : hole.next ≡ number_at 2 bytes hole.place
@@ -70,7 +71,7 @@ pub record IsFound (sizes : ℕ → ℕ) (bytes : List ℕ) (size : ℕ) (xs : L
   pub far : 8 ≤ end
 
 -- the walk stands before the n bytes at this offset, and the link leads past it
-pub record IsLinked (sizes : ℕ → ℕ) (bytes : List ℕ) (xs : List Extent) (offset n : ℕ) (link : Link) : Type 0 where
+pub record IsLinked (sizes : List SegmentSize) (bytes : List ℕ) (xs : List Extent) (offset n : ℕ) (link : Link) : Type 0 where
   pub before : List Extent
   pub extent : Extent
   pub behind : List Extent
@@ -80,7 +81,7 @@ pub record IsLinked (sizes : ℕ → ℕ) (bytes : List ℕ) (xs : List Extent) 
   pub whole : xs ≡ before ++ extent ∷ behind
 
 -- these extents from a place on, joined to a hole before them: so many bytes more, and the others
-pub record IsBehind (sizes : ℕ → ℕ) (bytes : List ℕ) (place : ℕ) (xs : List Extent) (behind : Behind) : Type 0 where
+pub record IsBehind (sizes : List SegmentSize) (bytes : List ℕ) (place : ℕ) (xs : List Extent) (behind : Behind) : Type 0 where
   pub rest : List Extent
   pub joined : (n : ℕ) → hole_before n xs ≡ free (n + behind.more) ∷ rest
   pub fill : Fill sizes bytes (place + behind.more) behind.next rest

@@ -1,25 +1,27 @@
--- Laws of divided blocks, for every size function.
+-- Laws of divided blocks, whatever bytes the segments of each type take.
 use Rattle.std.specs.Prelude.{◌≡◌, ◌⊎◌, ℕ, ◌+◌, ◌-◌, ◌≤◌, List, slice_index}
 use Rattle.hd_bytes.specs.Ranges.{ChangesOnly}
 use Rattle.hd_block.specs.Extents.{Extent, IsDivided, AreWhole, UsedAt, TakenAt}
 use Rattle.hd_block.specs.Changes.{after_fill}
+use Rattle.hd_dbd.specs.declared.facts.SegmentSize.{SegmentSize}
+use Rattle.hd_block.specs.Sizes.{size_at}
 
 -- A block has at most one division into free elements and segments.
 abbrev pub OneDivision : Type 0
 OneDivision =
-    (sizes : ℕ → ℕ) (bytes : List ℕ) (xs ys : List Extent) → IsDivided sizes bytes xs → AreWhole xs → IsDivided sizes bytes ys → AreWhole ys → xs ≡ ys
+    (sizes : List SegmentSize) (bytes : List ℕ) (xs ys : List Extent) → IsDivided sizes bytes xs → AreWhole xs → IsDivided sizes bytes ys → AreWhole ys → xs ≡ ys
 
--- A change inside a segment, past its code, keeps the division.
+-- A change inside a segment that leaves it its size keeps the division.
 abbrev pub WritesKeepDivision : Type 0
 WritesKeepDivision =
-    (sizes : ℕ → ℕ) (old new : List ℕ) (xs : List Extent) (place n : ℕ) → IsDivided sizes old xs → UsedAt 8 xs place n
-    → ChangesOnly (place + 1) (n - 1) old new → IsDivided sizes new xs
+    (sizes : List SegmentSize) (old new : List ℕ) (xs : List Extent) (place n : ℕ) → IsDivided sizes old xs → UsedAt 8 xs place n
+    → ChangesOnly place n old new → size_at sizes new place ≡ n → IsDivided sizes new xs
 
 -- A segment that is put where room of its size was handed out takes that room.
 abbrev pub RoomIsFilled : Type 0
 RoomIsFilled =
-    (sizes : ℕ → ℕ) (old new : List ℕ) (xs : List Extent) (place n : ℕ) → IsDivided sizes old xs → TakenAt 8 xs place n
-    → ChangesOnly place n old new → sizes (slice_index new place) ≡ n → IsDivided sizes new (after_fill place 8 xs)
+    (sizes : List SegmentSize) (old new : List ℕ) (xs : List Extent) (place n : ℕ) → IsDivided sizes old xs → TakenAt 8 xs place n
+    → ChangesOnly place n old new → size_at sizes new place ≡ n → IsDivided sizes new (after_fill place 8 xs)
 
 -- Two segments of a block are one, or apart.
 abbrev pub SegmentsAreApart : Type 0

@@ -2,14 +2,15 @@
 use Rattle.std.specs.Prelude.{◌≡◌, ℕ, List, slice_index}
 use Rattle.std.specs.Borrow.{GName}
 use Rattle.hd_block.specs.declared.block.Block.{Block}
+use Rattle.hd_dbd.specs.declared.facts.SegmentSize.{SegmentSize}
 
 -- the block's bytes
 abbrev pub bytes_of : Block → List ℕ
 bytes_of b = b.bytes.now
 
--- the bytes that a segment with a code takes
-abbrev pub sizes_of : Block → ℕ → ℕ
-sizes_of b = slice_index b.sizes.now
+-- the bytes that the segments of each type take, by code
+abbrev pub sizes_of : Block → List SegmentSize
+sizes_of b = b.sizes.now
 
 -- the ghost name of the reference to the bytes
 abbrev pub lender_of : Block → GName

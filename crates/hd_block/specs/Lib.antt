@@ -1,3 +1,4 @@
+pub mod Sizes
 pub mod Extents
 pub mod Parts
 pub mod Changes

@@ -8,24 +8,25 @@ ghost use Rattle.hd_block.specs.Walk.{parts_in};
 use crate::gives::give_hole;
 use crate::holes::take_hole;
 use crate::parts::Parts;
+use hd_dbd::SegmentSize;
 
 /// A data block, with the bytes that the segments of each type take in it, by code.
 #[derive(Drop)]
 pub struct Block<'a> {
     bytes: &'a mut [u8],
-    sizes: &'a [u16],
+    sizes: &'a [SegmentSize],
     ghost sized: { (8 ≤ length bytes.now) × (length bytes.now ≤ 32768) },
 }
 
 impl<'a> Block<'a> {
     ghost use Rattle.hd_block.specs.Lent.{bytes_of, sizes_of, lender_of, IsSameBlock};
 
-    /// These bytes as a block, of 8 to 32,768 bytes. A size is 0 where there is no type, and so it is past the last.
-    pub fn new(bytes: &'a mut [u8], sizes: &'a [u16]) -> Block<'a>
+    /// These bytes as a block, of 8 to 32,768 bytes. A size is a fixed 0 where there is no type, and so it is past the last.
+    pub fn new(bytes: &'a mut [u8], sizes: &'a [SegmentSize]) -> Block<'a>
         requires { (8 ≤ length bytes.old) × (length bytes.old ≤ 32768) }
         ensures lender { lender_of result ≡ bytes.entry.ghost_name }
         ensures bytes { bytes_of result ≡ bytes.old }
-        ensures sizes { sizes_of result ≡ slice_index sizes.now }
+        ensures sizes { sizes_of result ≡ sizes.now }
     {
         Block { bytes, sizes }
     }

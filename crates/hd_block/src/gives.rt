@@ -3,6 +3,7 @@ ghost use Rattle.hd_bytes.specs.Ranges.{AgreeOn};
 ghost use Rattle.hd_block.specs.Extents.{Extent, Fill, IsDivided};
 ghost use Rattle.hd_block.specs.Changes.{IsGivenBack, KeepsOthers};
 ghost use Rattle.hd_block.specs.Found.{At, IsLinked, IsBehind};
+ghost use Rattle.hd_dbd.specs.declared.facts.SegmentSize.{SegmentSize};
 
 use crate::element::write_element;
 use hd_bytes::{read_u16, write_u16};
@@ -26,7 +27,7 @@ fn find_link(bytes: &[u8], offset: u16) -> Link
     requires { (8 ≤ offset) × (offset + 8 ≤ length bytes.now) }
     ensures place { result.link < offset }
     ensures head { (8 ≤ result.link) ⊎ (result.link ≡ 0) }
-    ensures found { (sizes : ℕ → ℕ) (xs : List Extent) (n : ℕ) → IsDivided sizes bytes.now xs → At 8 xs offset n → IsLinked sizes bytes.now xs offset n result }
+    ensures found { (sizes : List SegmentSize) (xs : List Extent) (n : ℕ) → IsDivided sizes bytes.now xs → At 8 xs offset n → IsLinked sizes bytes.now xs offset n result }
 {
     let mut link = 0;
     let mut end = 8;
@@ -43,7 +44,7 @@ fn find_link(bytes: &[u8], offset: u16) -> Link
 fn find_behind(bytes: &[u8], place: usize, next: u16) -> Behind
     requires { place ≤ length bytes.now }
     ensures place { place + result.more ≤ length bytes.now }
-    ensures found { (sizes : ℕ → ℕ) (xs : List Extent) → 0 < place → Fill sizes bytes.now place next xs → IsBehind sizes bytes.now place xs result }
+    ensures found { (sizes : List SegmentSize) (xs : List Extent) → 0 < place → Fill sizes bytes.now place next xs → IsBehind sizes bytes.now place xs result }
 {
     if next as usize != place || bytes.len() - place < 8 {
         return Behind { more: 0, next };
@@ -62,10 +63,10 @@ pub fn give_hole(bytes: &mut [u8], offset: u16, size: u16)
     requires offset { 8 ≤ offset }
     requires size { (8 ≤ size) × (size % 8 ≡ 0) }
     requires within { offset + size ≤ length bytes.old }
-    ensures after { (sizes : ℕ → ℕ) → IsGivenBack sizes bytes.old offset size bytes.new }
+    ensures after { (sizes : List SegmentSize) → IsGivenBack sizes bytes.old offset size bytes.new }
     ensures len { length bytes.new ≡ length bytes.old }
     ensures head { AgreeOn 2 6 bytes.old bytes.new }
-    ensures others { (sizes : ℕ → ℕ) → KeepsOthers sizes bytes.old offset size bytes.new }
+    ensures others { (sizes : List SegmentSize) → KeepsOthers sizes bytes.old offset size bytes.new }
 {
     let link = find_link(bytes, offset);
     let behind = find_behind(bytes, offset as usize + size as usize, link.next);

@@ -4,6 +4,7 @@ ghost use Rattle.hd_block.specs.Extents.{Extent, IsDivided, UsedAt};
 ghost use Rattle.hd_block.specs.Changes.{hole_at, after_take};
 ghost use Rattle.hd_block.specs.Parts.{largest_free};
 ghost use Rattle.hd_block.specs.Found.{IsFound};
+ghost use Rattle.hd_dbd.specs.declared.facts.SegmentSize.{SegmentSize};
 
 use crate::element::write_element;
 use hd_bytes::{read_u16, write_u16};
@@ -22,7 +23,7 @@ fn find_hole(bytes: &[u8], size: u16) -> Option<Hole>
     requires { 8 ≤ length bytes.now }
     ensures place { IfSome result (λ h. (h.link + 2 ≤ length bytes.now) × (h.place + 8 ≤ length bytes.now) × (size ≤ h.len)) }
     ensures head { IfSome result (λ h. (8 ≤ h.place) × ((8 ≤ h.link) ⊎ (h.link ≡ 0))) }
-    ensures found { (sizes : ℕ → ℕ) (xs : List Extent) → IsDivided sizes bytes.now xs → MatchOption result (hole_at size 8 xs ≡ None) (IsFound sizes bytes.now size xs) }
+    ensures found { (sizes : List SegmentSize) (xs : List Extent) → IsDivided sizes bytes.now xs → MatchOption result (hole_at size 8 xs ≡ None) (IsFound sizes bytes.now size xs) }
 {
     let mut link = 0;
     let mut end = 8;
@@ -48,7 +49,7 @@ fn find_hole(bytes: &[u8], size: u16) -> Option<Hole>
 /// The length of the largest free element, 0 where there is none; a chain that does not ascend ends the search.
 pub fn largest_free(bytes: &[u8]) -> u16
     requires { 8 ≤ length bytes.now }
-    ensures { (sizes : ℕ → ℕ) (xs : List Extent) → IsDivided sizes bytes.now xs → result ≡ largest_free xs }
+    ensures { (sizes : List SegmentSize) (xs : List Extent) → IsDivided sizes bytes.now xs → result ≡ largest_free xs }
 {
     let mut largest = 0;
     let mut end = 8;
@@ -67,13 +68,13 @@ pub fn largest_free(bytes: &[u8]) -> u16
 pub fn take_hole(bytes: &mut [u8], size: u16) -> Option<u16>
     requires block { (8 ≤ length bytes.old) × (length bytes.old ≤ 32768) }
     requires size { (0 < size) × (size % 8 ≡ 0) }
-    ensures found { (sizes : ℕ → ℕ) (xs : List Extent) → IsDivided sizes bytes.old xs → result ≡ hole_at size 8 xs }
-    ensures after { (sizes : ℕ → ℕ) (xs : List Extent) → IsDivided sizes bytes.old xs → OnSome result (IsDivided sizes bytes.new (after_take size xs)) }
+    ensures found { (sizes : List SegmentSize) (xs : List Extent) → IsDivided sizes bytes.old xs → result ≡ hole_at size 8 xs }
+    ensures after { (sizes : List SegmentSize) (xs : List Extent) → IsDivided sizes bytes.old xs → OnSome result (IsDivided sizes bytes.new (after_take size xs)) }
     ensures fits { IfSome result (λ p. (8 ≤ p) × (p + size ≤ length bytes.old)) }
     ensures none { IfNone result (bytes.new ≡ bytes.old) }
     ensures len { length bytes.new ≡ length bytes.old }
     ensures head { AgreeOn 2 6 bytes.old bytes.new }
-    ensures others { (sizes : ℕ → ℕ) (xs : List Extent) (q n : ℕ) → IsDivided sizes bytes.old xs → UsedAt 8 xs q n → AgreeOn q n bytes.old bytes.new }
+    ensures others { (sizes : List SegmentSize) (xs : List Extent) (q n : ℕ) → IsDivided sizes bytes.old xs → UsedAt 8 xs q n → AgreeOn q n bytes.old bytes.new }
 {
     let hole = find_hole(bytes, size)?;
     let rest = hole.place + size as usize;

@@ -5,7 +5,7 @@ pub fn law_one_division()
     ensures { OneDivision }
 {}
 
-/// A change inside a segment, past its code, keeps the division.
+/// A change inside a segment that leaves it its size keeps the division.
 pub fn law_writes_keep_division()
     ensures { WritesKeepDivision }
 {}

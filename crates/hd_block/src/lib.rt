@@ -7,6 +7,7 @@ mod gives;
 mod holes;
 mod law;
 mod parts;
+mod sizes;
 
 pub use block::Block;
 pub use holes::largest_free;
@@ -14,3 +15,4 @@ pub use law::{
     law_one_division, law_room_is_filled, law_segments_are_apart, law_writes_keep_division,
 };
 pub use parts::{Part, Parts};
+pub use sizes::size_at;

@@ -2,7 +2,9 @@ ghost use Rattle.std.specs.Prelude.{◌≡◌, ◌+◌, ◌≤◌, [], length, s
 ghost use Rattle.std.specs.Iterator.{YieldsFirst, item_count};
 ghost use Rattle.hd_block.specs.Walk.{parts_in, parts_from, IsFirstPart};
 
+use crate::sizes::size_at;
 use hd_bytes::read_u16;
+use hd_dbd::SegmentSize;
 use std::iter::FusedIterator;
 use std::marker::Model;
 
@@ -17,7 +19,7 @@ pub enum Part {
 #[derive(Drop)]
 pub struct Parts<'a> {
     bytes: &'a [u8],
-    sizes: &'a [u16],
+    sizes: &'a [SegmentSize],
     place: usize,
     next: u16,
 }
@@ -29,16 +31,16 @@ impl<'a> Model for Parts<'a> {
 
     ghost Value = { List Part };
 
-    ghost view = { λ s. parts_from (slice_index s.sizes.now) s.bytes.now s.place s.next };
+    ghost view = { λ s. parts_from (s.sizes.now) s.bytes.now s.place s.next };
 
     ghost invariant = { λ s. (s.place ≤ length s.bytes.now) × (length s.bytes.now ≤ 32768) };
 }
 
 impl<'a> Parts<'a> {
     /// All parts of these bytes, of 8 to 32,768, with the bytes that the segments of each type take, by code.
-    pub fn new(bytes: &'a [u8], sizes: &'a [u16]) -> Parts<'a>
+    pub fn new(bytes: &'a [u8], sizes: &'a [SegmentSize]) -> Parts<'a>
         requires { (8 ≤ length bytes.now) × (length bytes.now ≤ 32768) }
-        ensures { result ≡ parts_in (slice_index sizes.now) bytes.now }
+        ensures { result ≡ parts_in sizes.now bytes.now }
     {
         let next = read_u16(bytes, 0);
         Parts {
@@ -82,17 +84,10 @@ pub struct Step {
     pub next: u16,
 }
 
-/// The bytes that a segment with a code takes; 0 where there is no type.
-fn size_of(sizes: &[u16], code: u8) -> u16
-    ensures { result ≡ slice_index sizes.now code }
-{
-    sizes.get(code as usize).copied().unwrap_or(0)
-}
-
 /// The part at a place, where the next free element begins at `next`.
-fn read_part(bytes: &[u8], sizes: &[u16], place: usize, next: u16) -> Option<Step>
+fn read_part(bytes: &[u8], sizes: &[SegmentSize], place: usize, next: u16) -> Option<Step>
     requires { (place ≤ length bytes.now) × (length bytes.now ≤ 32768) }
-    ensures { MatchOption result (parts_from (slice_index sizes.now) bytes.now place next ≡ []) (λ s. IsFirstPart (slice_index sizes.now) bytes.now place next s) }
+    ensures { MatchOption result (parts_from sizes.now bytes.now place next ≡ []) (λ s. IsFirstPart sizes.now bytes.now place next s) }
 {
     let left = bytes.len() - place;
     if left < 8 {
@@ -100,13 +95,14 @@ fn read_part(bytes: &[u8], sizes: &[u16], place: usize, next: u16) -> Option<Ste
     }
     let is_free = place == next as usize;
     let size = if is_free {
-        read_u16(bytes, place + 2)
+        read_u16(bytes, place + 2) as usize
     } else {
-        size_of(sizes, bytes[place])
+        size_at(bytes, sizes, place)
     };
-    if size < 8 || left < size as usize {
+    if size < 8 || left < size {
         return None;
     }
+    let size = size as u16;
     if is_free {
         let next = read_u16(bytes, place);
         let part = Part::Free(place as u16, size);

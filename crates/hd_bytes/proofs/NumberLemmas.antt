@@ -25,6 +25,22 @@ number-same (suc n) p a b h =
     let rest : number_at n a (suc p) ≡ number_at n b (suc p) = number-same n (suc p) a b (λ k l m. h k (omega arith) (omega arith)) in
     rw (here, rest) refl
 
+-- n bytes that stand at one place of a list and at one of another are the same number there
+pub number-moved : (n p q : ℕ) (a b : List ℕ) → ((k : ℕ) → k < n → slice_index b (q + k) ≡ slice_index a (p + k)) → number_at n b q ≡ number_at n a p
+unfolding number_at
+number-moved zero p q a b h = refl
+number-moved (suc n) p q a b h =
+    let ends : q + 0 ≡ q = omega arith in
+    let starts : p + 0 ≡ p = omega arith in
+    let here : slice_index b q ≡ slice_index a p = ap (slice_index b) (sym ends) ∙ h 0 (omega arith) ∙ ap (slice_index a) starts in
+    let rest : number_at n b (suc q) ≡ number_at n a (suc p) =
+    number-moved n (suc p) (suc q) a b (λ k l.
+        let to : suc q + k ≡ q + suc k = omega arith in
+        let from : p + suc k ≡ suc p + k = omega arith in
+        ap (slice_index b) to ∙ h (suc k) (omega arith) ∙ ap (slice_index a) from)
+    in
+    rw (here, rest) refl
+
 -- bytes put at a place keep the length
 pub length-with : (b xs : List ℕ) (p : ℕ) → p + length xs ≤ length b → length (with_bytes b p xs) ≡ length b
 length-with b xs p h = grind (arith, common_steps)

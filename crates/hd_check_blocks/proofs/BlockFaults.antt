@@ -78,7 +78,7 @@ wrong-of d v k a o some two = second-lines (λ x. Stands d v x a o → Wrong v x
 
 -- a right block is not wrong
 right-not-wrong : (v : VolumeState) (n : ℕ) (k : Line) (place : ℕ) → IsWrongIn v n k place → IsRightBlock v.sizes (block_at v n) → ⊥
-right-not-wrong v n k place (inl c) r = divided-chain (slice_index v.sizes) (block_at v n) (r.divided c.2) c.3
+right-not-wrong v n k place (inl c) r = divided-chain v.sizes (block_at v n) (r.divided c.2) c.3
 right-not-wrong v n k place (inr (inl c)) r = (let at = c.2 in divided-place v.sizes (block_at v n) at.0 at.1 place (r.divided c.1) at.2 at.3 at.4 at.5)
 right-not-wrong v n k place (inr (inr c)) r = elim r.kind [ inl one ↦ c.2 one | inr (inl two) ↦ c.3 two | inr (inr three) ↦ c.4 three ]
 

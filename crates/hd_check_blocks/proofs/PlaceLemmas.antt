@@ -23,6 +23,7 @@ use Rattle.hd_image.specs.Records.{stored_at, links_of}
 use Rattle.hd_check_blocks.specs.declared.places.Place.{Place}
 use Rattle.hd_check_blocks.specs.Phases.{AreBlocksRight}
 use Rattle.hd_check_blocks.specs.Places.{places_in, places_at, places_behind, places_of, IsPlaceOf, AreFrom, PlacesAscend, ArePlaces}
+use Rattle.hd_dbd.specs.declared.facts.SegmentSize.{SegmentSize}
 
 -- ---- one block
 
@@ -55,14 +56,14 @@ lower a b [] l h = tt
 lower a b (p ∷ ps) l h = ((let k = h.0 in omega arith), lower a b ps l h.1)
 
 -- the places of a block stand in it
-block-from : (sizes : ℕ → ℕ) (b : List ℕ) (first p next : ℕ) (xs : List Extent) → Fill sizes b p next xs → AreFrom (first + p) (places_in b first (parts_of p xs))
+block-from : (sizes : List SegmentSize) (b : List ℕ) (first p next : ℕ) (xs : List Extent) → Fill sizes b p next xs → AreFrom (first + p) (places_in b first (parts_of p xs))
 block-from sizes b first p next [] f = tt
 block-from sizes b first p next (free n ∷ xs) f = lower (first + p) (first + (p + n)) (places_in b first (parts_of (p + n) xs)) (omega arith) (block-from sizes b first (p + n) _ xs f.2)
 block-from sizes b first p next (used n ∷ xs) f = (omega arith, lower (first + p) (first + (p + n)) (places_in b first (parts_of (p + n) xs)) (omega arith) (block-from sizes b first (p + n) next xs f.2))
 block-from sizes b first p next (taken n ∷ xs) f = lower (first + p) (first + (p + n)) (places_in b first (parts_of (p + n) xs)) (omega arith) (block-from sizes b first (p + n) next xs f.3)
 
 -- and ascend
-block-ascends : (sizes : ℕ → ℕ) (b : List ℕ) (first p next : ℕ) (xs : List Extent) → Fill sizes b p next xs → PlacesAscend (places_in b first (parts_of p xs))
+block-ascends : (sizes : List SegmentSize) (b : List ℕ) (first p next : ℕ) (xs : List Extent) → Fill sizes b p next xs → PlacesAscend (places_in b first (parts_of p xs))
 block-ascends sizes b first p next [] f = tt
 block-ascends sizes b first p next (free n ∷ xs) f = block-ascends sizes b first (p + n) _ xs f.2
 block-ascends sizes b first p next (used n ∷ xs) f = (
@@ -114,7 +115,7 @@ module _ (types : List SegmentType) (v : VolumeState) (h : HasHeader v.size v.im
   at-data : (n : ℕ) (k : IsKind v 1 n) → places_at v n ≡ places_in (block_at v n) (n * v.size) (parts_of 8 (r.divided n k).extents)
   at-data n k =
       cond-true (kind_of (block_at v n) == 1) _ _ (eq-eqb (kind_of (block_at v n)) 1 k.kind_is)
-      ∙ ap (places_in (block_at v n) (n * v.size)) (parts-divided (slice_index v.sizes) (block_at v n) (r.divided n k).extents (r.divided n k).divides (r.divided n k).whole)
+      ∙ ap (places_in (block_at v n) (n * v.size)) (parts-divided v.sizes (block_at v n) (r.divided n k).extents (r.divided n k).divides (r.divided n k).whole)
 
   -- those of another
   at-other : (n : ℕ) → kind_of (block_at v n) ≢ 1 → places_at v n ≡ []
@@ -128,8 +129,8 @@ module _ (types : List SegmentType) (v : VolumeState) (h : HasHeader v.size v.im
         let e = r.divided n k in
         let P : List Place → Type 0 = λ ps. PlacesAscend ps × AreFrom (n * v.size) ps in
         subst P (sym (at-data n k)) (
-          block-ascends (slice_index v.sizes) (block_at v n) (n * v.size) 8 _ e.extents e.divides,
-          lower (n * v.size) (n * v.size + 8) (places_in (block_at v n) (n * v.size) (parts_of 8 e.extents)) (omega arith) (block-from (slice_index v.sizes) (block_at v n) (n * v.size) 8 _ e.extents e.divides),
+          block-ascends v.sizes (block_at v n) (n * v.size) 8 _ e.extents e.divides,
+          lower (n * v.size) (n * v.size + 8) (places_in (block_at v n) (n * v.size) (parts_of 8 e.extents)) (omega arith) (block-from v.sizes (block_at v n) (n * v.size) 8 _ e.extents e.divides),
         ))
     | inr other ↦ (let P : List Place → Type 0 = λ ps. PlacesAscend ps × AreFrom (n * v.size) ps in subst P (sym (at-other n other)) (tt, tt))
   ]
@@ -142,16 +143,16 @@ module _ (types : List SegmentType) (v : VolumeState) (h : HasHeader v.size v.im
         (let k : IsKind v 1 n = record { there = counted n low; later = later; kind_is = one } in
         let e = r.divided n k in
         let x = noted (block_at v n) (n * v.size) 8 e.extents p (subst (IsPlaceOf p) (at-data n k) i) in
-        let u = used-is (slice_index v.sizes) (block_at v n) 8 _ e.extents x.place x.size e.divides x.used in
+        let u = used-is v.sizes (block_at v n) 8 _ e.extents x.place x.size e.divides x.used in
         let short : x.place < v.size = (let w = u.within in let s = u.some in let len = length-block v.size n v.image (counted n low) in omega arith) in
         let a : ℕ = n * v.size + x.place in
         let block : a / v.size ≡ n = div-mul-add n v.size x.place short in
         let offset : a % v.size ≡ x.place = mod-mul-add n v.size x.place short in
         let found : find v a ≡ Some (bytes_at (block_at v n) x.place x.size) =
         find-in v a (λ z. omega arith) (ap (λ (z : ℕ). kind_of (block_at v z)) block ∙ one)
-        ∙ ap (λ (z : ℕ). segment_in (slice_index v.sizes) (block_at v z) (a % v.size)) block ∙ ap (segment_in (slice_index v.sizes) (block_at v n)) offset
-        ∙ ap (λ (ps : List Part). option_map (λ (m : ℕ). bytes_at (block_at v n) x.place m) (used_at ps x.place)) (parts-divided (slice_index v.sizes) (block_at v n) e.extents e.divides e.whole)
-        ∙ ap (λ (o : Option ℕ). option_map (λ (m : ℕ). bytes_at (block_at v n) x.place m) o) (used-found (slice_index v.sizes) (block_at v n) 8 _ e.extents x.place x.size e.divides x.used) in
+        ∙ ap (λ (z : ℕ). segment_in v.sizes (block_at v z) (a % v.size)) block ∙ ap (segment_in v.sizes (block_at v n)) offset
+        ∙ ap (λ (ps : List Part). option_map (λ (m : ℕ). bytes_at (block_at v n) x.place m) (used_at ps x.place)) (parts-divided v.sizes (block_at v n) e.extents e.divides e.whole)
+        ∙ ap (λ (o : Option ℕ). option_map (λ (m : ℕ). bytes_at (block_at v n) x.place m) o) (used-found v.sizes (block_at v n) 8 _ e.extents x.place x.size e.divides x.used) in
         let stored : stored_at v a ≡ bytes_at (block_at v n) x.place x.size = rw found refl in
         let code : (links_of types v).code a ≡ slice_index (block_at v n) x.place =
         ap code_of stored ∙ byte-at (block_at v n) x.place x.size 0 u.within (let s = u.some in omega arith) ∙ ap (slice_index (block_at v n)) (let z : x.place + 0 ≡ x.place = omega arith in z) in
@@ -170,7 +171,7 @@ module _ (types : List SegmentType) (v : VolumeState) (h : HasHeader v.size v.im
       let e = r.divided n k in
       let q : ℕ = a % v.size in
       let parts : option_map (λ (m : ℕ). bytes_at (block_at v n) q m) (used_at (parts_of 8 e.extents) q) ≡ Some s =
-      ap (λ (ps : List Part). option_map (λ (m : ℕ). bytes_at (block_at v n) q m) (used_at ps q)) (sym (parts-divided (slice_index v.sizes) (block_at v n) e.extents e.divides e.whole)) ∙ f.segment in
+      ap (λ (ps : List Part). option_map (λ (m : ℕ). bytes_at (block_at v n) q m) (used_at ps q)) (sym (parts-divided v.sizes (block_at v n) e.extents e.divides e.whole)) ∙ f.segment in
       let own = some-of (λ (m : ℕ). bytes_at (block_at v n) q m) (used_at (parts_of 8 e.extents) q) parts in
       let at : n * v.size + q ≡ a = place-of v.size a some in
       let i : IsPlaceOf (record { address = n * v.size + q; code = slice_index (block_at v n) q }) (places_at v n) =

@@ -6,10 +6,12 @@ use Rattle.hd_volume.specs.Volumes.{HasExtents}
 use Rattle.hd_volume.specs.Indexes.{IsAmong}
 use Rattle.hd_image.specs.BlockFaults.{IsElementAt, AreFreeElements, HasFreeElements, IsNoSegment, IsStep, IsReadTo}
 use Rattle.hd_check_blocks.specs.Reading.{IsRoom}
+use Rattle.hd_dbd.specs.declared.facts.SegmentSize.{SegmentSize}
+use Rattle.hd_block.specs.Sizes.{size_at}
 
 -- What is known of a block that was read up to a place, where the next free element begins at `next`: the free elements from
 -- there on, that the place was read to, and that what is left gives the extents of all.
-pub record IsReadUpTo (sizes block places : List ℕ) (place next : ℕ) : Type 0 where
+pub record IsReadUpTo (sizes : List SegmentSize) (block places : List ℕ) (place next : ℕ) : Type 0 where
   pub end : ℕ
   pub rest : List ℕ
   pub chain : AreFreeElements block end next rest
@@ -22,10 +24,10 @@ pub record IsReadUpTo (sizes block places : List ℕ) (place next : ℕ) : Type 
   pub eighth : place % 8 ≡ 0
   pub first : 8 ≤ place
   pub within : place ≤ length block
-  pub fill : (xs : List Extent) → Fill (slice_index sizes) block place next xs → AreWhole xs → HasExtents (slice_index sizes) block
+  pub fill : (xs : List Extent) → Fill sizes block place next xs → AreWhole xs → HasExtents sizes block
 
 -- at the beginning
-pub at-first : (sizes block places : List ℕ) → 8 ≤ length block → HasFreeElements block places → IsReadUpTo sizes block places 8 (number_at 2 block 0)
+pub at-first : (sizes : List SegmentSize) (block places : List ℕ) → 8 ≤ length block → HasFreeElements block places → IsReadUpTo sizes block places 8 (number_at 2 block 0)
 at-first sizes block places long chain = record {
   end = 7;
   rest = places;
@@ -58,13 +60,13 @@ not-before block end next (p ∷ ps) q h (inr i) = (let f = h.0 in let some = h.
     behind-end e n (r ∷ rs) k (inr j) = (let l = k.1 in let s = k.2.element.some in let m = behind-end (r + number_at 2 block (r + 2)) (number_at 2 block r) rs k.3 j in omega arith)
 
 -- one place more on the way
-read-on : (sizes block places : List ℕ) (from : ℕ) (way : List ℕ) (place next : ℕ) → IsReadTo sizes block places from way place → IsStep sizes block places place next
+read-on : (sizes : List SegmentSize) (block places : List ℕ) (from : ℕ) (way : List ℕ) (place next : ℕ) → IsReadTo sizes block places from way place → IsStep sizes block places place next
     → IsReadTo sizes block places from (way ++ next ∷ []) next
 read-on sizes block places from [] place next h s = (subst (λ (p : ℕ). IsStep sizes block places p next) (sym h) s, refl)
 read-on sizes block places from (n ∷ way) place next h s = (h.0, read-on sizes block places n way place next h.1 s)
 
 -- where the block ends, its extents are read
-pub at-end : (sizes block places : List ℕ) (place next : ℕ) → IsReadUpTo sizes block places place next → length block ≤ place → HasExtents (slice_index sizes) block
+pub at-end : (sizes : List SegmentSize) (block places : List ℕ) (place next : ℕ) → IsReadUpTo sizes block places place next → length block ≤ place → HasExtents sizes block
 at-end sizes block places place next r over = r.fill [] (place-is, none r.rest r.chain) tt
   where
     place-is : place ≡ length block
@@ -78,7 +80,7 @@ at-end sizes block places place next r over = r.fill [] (place-is, none r.rest r
     ]
 
 -- behind a free element
-pub past-free : (sizes block places : List ℕ) (place : ℕ) → IsReadUpTo sizes block places place place → place < length block
+pub past-free : (sizes : List SegmentSize) (block places : List ℕ) (place : ℕ) → IsReadUpTo sizes block places place place → place < length block
     → (8 ≤ number_at 2 block (place + 2)) × IsReadUpTo sizes block places (place + number_at 2 block (place + 2)) (number_at 2 block place)
 past-free sizes block places place r inside = go r.rest r.chain r.among r.back
   where
@@ -128,7 +130,7 @@ past-free sizes block places place r inside = go r.rest r.chain r.among r.back
         apart (x ∷ xs) k = λ e. (let f = k.0 in let l = k.1 in omega arith)
 
 -- no free element begins at a place that the next one does not name
-not-there : (sizes block places : List ℕ) (place next : ℕ) → IsReadUpTo sizes block places place next → place ≢ next → IsAmong place places → ⊥
+not-there : (sizes : List SegmentSize) (block places : List ℕ) (place next : ℕ) → IsReadUpTo sizes block places place next → place ≢ next → IsAmong place places → ⊥
 not-there sizes block places place next r other i =
     let j = r.among place (omega arith) i in
     let low = not-before block r.end next r.rest place r.chain j in
@@ -142,8 +144,8 @@ not-there sizes block places place next r other i =
     none (p ∷ ps) h j = elim r.ahead [ inl z ↦ (let e = h.0 in let l = h.1 in absurd (omega arith)) | inr l ↦ other (let m = not-before block r.end next (p ∷ ps) place h j in omega arith) ]
 
 -- behind a segment
-pub past-used : (sizes block places : List ℕ) (place next n : ℕ) → IsReadUpTo sizes block places place next → place < length block → place ≢ next
-    → slice_index sizes (slice_index block place) ≡ n → n % 8 ≡ 0 → IsRoom block place next n → IsReadUpTo sizes block places (place + n) next
+pub past-used : (sizes : List SegmentSize) (block places : List ℕ) (place next n : ℕ) → IsReadUpTo sizes block places place next → place < length block → place ≢ next
+    → size_at sizes block place ≡ n → n % 8 ≡ 0 → IsRoom block place next n → IsReadUpTo sizes block places (place + n) next
 past-used sizes block places place next n r inside other size whole room = record {
   end = r.end;
   rest = r.rest;
@@ -170,7 +172,7 @@ past-used sizes block places place next n r inside other size whole room = recor
   fill = λ xs f w. r.fill (used n ∷ xs) (other, record { size = size; some = (let s = room.some in omega arith); whole = whole }, f) w;
 }
   where
-    past-all : (q : ℕ) → IsAmong q r.rest → next ≤ place → place < q → place + slice_index sizes (slice_index block place) ≤ q
+    past-all : (q : ℕ) → IsAmong q r.rest → next ≤ place → place < q → place + size_at sizes block place ≤ q
     past-all q j b l = elim r.ahead [
       | inl z ↦ absurd (none r.rest r.chain j z)
       | inr m ↦ absurd (other (omega arith))
@@ -181,8 +183,8 @@ past-used sizes block places place next n r inside other size whole room = recor
         none (p ∷ ps) h k z = (let e = h.0 in let s = h.1 in absurd (omega arith))
 
 -- a place where there is no room for a segment
-pub no-room : (sizes block places : List ℕ) (place next n : ℕ) → IsReadUpTo sizes block places place next → place ≢ next
-    → slice_index sizes (slice_index block place) ≡ n → (IsRoom block place next n → ⊥) → IsNoSegment sizes block places place
+pub no-room : (sizes : List SegmentSize) (block places : List ℕ) (place next n : ℕ) → IsReadUpTo sizes block places place next → place ≢ next
+    → size_at sizes block place ≡ n → (IsRoom block place next n → ⊥) → IsNoSegment sizes block places place
 no-room sizes block places place next n r other size none = record {
   apart = not-there sizes block places place next r other;
   fits = λ some within before. none (record {

@@ -10,6 +10,7 @@ use Rattle.hd_image.specs.declared.line.Line.{Line}
 use Rattle.hd_check_blocks.specs.declared.fault.Fault.{Fault}
 use Rattle.hd_image.specs.declared.line.Line.TheVariants.{AnotherDatabase, NoKind, NoVersion, NoVolume, WrongChain, WrongPlace}
 use Rattle.hd_volume.specs.declared.load.TheConstants.{MOST_BLOCKS}
+use Rattle.hd_dbd.specs.declared.facts.SegmentSize.{SegmentSize}
 
 -- The header counts an image of so many bytes, in blocks of a size: all that it must say but that it is there.
 pub record CountsImage (size len : ℕ) (h : Header) : Type 0 where
@@ -35,17 +36,17 @@ pub record IsHeaderRight (d : Database) (v : VolumeState) : Type 0 where
   pub known : IsKnown d (header_of v.image)
 
 -- A block has a kind, and extents where it is one for data.
-pub record IsRightBlock (sizes block : List ℕ) : Type 0 where
+pub record IsRightBlock (sizes : List SegmentSize) (block : List ℕ) : Type 0 where
   pub kind : (kind_of block ≡ 1) ⊎ ((kind_of block ≡ 2) ⊎ (kind_of block ≡ 3))
-  pub divided : kind_of block ≡ 1 → HasExtents (slice_index sizes) block
+  pub divided : kind_of block ≡ 1 → HasExtents sizes block
 
 -- A data block whose chain is right, read from offset 8, comes to a place with neither a free element nor a segment.
-abbrev pub IsWrongAt : List ℕ → List ℕ → ℕ → Type 0
+abbrev pub IsWrongAt : List SegmentSize → List ℕ → ℕ → Type 0
 IsWrongAt sizes block place =
     (places way : List ℕ) × HasFreeElements block places × IsReadTo sizes block places 8 way place × (place < length block) × IsNoSegment sizes block places place
 
 -- What is wrong with a block by itself, which begins at an address.
-abbrev pub IsWrongBlock : List ℕ → List ℕ → ℕ → Fault → Type 0
+abbrev pub IsWrongBlock : List SegmentSize → List ℕ → ℕ → Fault → Type 0
 IsWrongBlock sizes block first f =
     ((f ≡ record { line = WrongChain; address = first; other = 0 }) × (kind_of block ≡ 1) × ((places : List ℕ) → HasFreeElements block places → ⊥))
     ⊎ (((place : ℕ) × (f ≡ record { line = WrongPlace; address = first + place; other = 0 }) × (kind_of block ≡ 1) × IsWrongAt sizes block place)
@@ -53,7 +54,7 @@ IsWrongBlock sizes block first f =
 
 -- Each block has a kind, and extents where it is one for data.
 pub record AreBlocksRight (v : VolumeState) : Type 0 where
-  pub divided : (n : ℕ) → IsKind v 1 n → HasExtents (slice_index v.sizes) (block_at v n)
+  pub divided : (n : ℕ) → IsKind v 1 n → HasExtents v.sizes (block_at v n)
   pub kinds : HasKinds v
 
 -- The fault stands in a volume, and of the faults of its phase none comes before it.

@@ -18,7 +18,7 @@ places_in block first (Used p n ∷ parts) = record { address = first + p; code 
 
 -- the segments of block n
 abbrev pub places_at : VolumeState → ℕ → List Place
-places_at v n = cond (kind_of (block_at v n) == 1) (places_in (block_at v n) (n * v.size) (parts_in (slice_index v.sizes) (block_at v n))) []
+places_at v n = cond (kind_of (block_at v n) == 1) (places_in (block_at v n) (n * v.size) (parts_in v.sizes (block_at v n))) []
 
 -- the segments of so many blocks behind block 0
 abbrev pub places_behind : VolumeState → ℕ → List Place

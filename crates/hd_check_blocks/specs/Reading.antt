@@ -1,9 +1,8 @@
 -- Room for a segment in a block that is read.
 use Rattle.std.specs.Prelude.{◌≡◌, ◌⊎◌, ℕ, ◌+◌, ◌<◌, ◌≤◌, List, length, Option, MatchOption}
-use Rattle.hd_dbd.specs.Types.{SegmentType}
-use Rattle.hd_dbd.specs.Facts.{stored_sizes}
 use Rattle.hd_image.specs.BlockFaults.{IsNoSegment, IsReadTo, HasFreeElements}
 use Rattle.hd_check_blocks.specs.declared.wrong_place.Reading.{Reading}
+use Rattle.hd_dbd.specs.declared.facts.SegmentSize.{SegmentSize}
 
 -- A segment of so many bytes fits at a place: within the block, and before the next free element, if that stands behind it.
 pub record IsRoom (block : List ℕ) (place next size : ℕ) : Type 0 where
@@ -16,8 +15,8 @@ abbrev pub IsReadOn : List ℕ → ℕ → ℕ → ℕ → Option Reading → Ty
 IsReadOn block place next size behind =
     MatchOption behind (IsRoom block place next size → ⊥) (λ r. IsRoom block place next size × (r ≡ record { place = place + size; next = next }))
 
--- Read from its front on, the block comes to a place where no segment of the database stands.
-abbrev pub HasWrongPlace : List SegmentType → List ℕ → ℕ → Type 0
-HasWrongPlace types block place =
+-- Read from its front on, the block comes to a place where neither a free element nor a segment stands.
+abbrev pub HasWrongPlace : List SegmentSize → List ℕ → ℕ → Type 0
+HasWrongPlace sizes block place =
     (places : List ℕ) → HasFreeElements block places
-    → (way : List ℕ) × IsReadTo (stored_sizes types) block places 8 way place × (place < length block) × IsNoSegment (stored_sizes types) block places place
+    → (way : List ℕ) × IsReadTo sizes block places 8 way place × (place < length block) × IsNoSegment sizes block places place

@@ -1,8 +1,9 @@
 //! Phase 2: the blocks, one by one.
-ghost use Rattle.std.specs.Prelude.{◌≡◌, ◌≤◌, ◌<◌, ◌+◌, ◌*◌, ◌%◌, ◌++◌, [], length, slice_index, IsTrue, IfNone, IfSome};
+ghost use Rattle.std.specs.Prelude.{◌≡◌, ◌≤◌, ◌<◌, ◌+◌, ◌*◌, ◌%◌, ◌++◌, ℕ, List, [], length, slice_index, IsTrue, IfNone, IfSome};
 ghost use Rattle.hd_bytes.specs.Blocks.{HasBlock};
 ghost use Rattle.hd_dbd.specs.Refusals.{OnlyDeviceOrMemory};
 ghost use Rattle.hd_dbd.specs.Facts.{stored_sizes};
+ghost use Rattle.hd_block.specs.Sizes.{size_at};
 ghost use Rattle.hd_volume.specs.Headers.{HasHeader};
 ghost use Rattle.hd_volume.specs.Volumes.{block_at, kind_of, HasExtents};
 ghost use Rattle.hd_volume.specs.Calls.{IsRead};
@@ -15,37 +16,39 @@ use crate::fault::Fault;
 use crate::free_elements::is_chain_right;
 use crate::places::{Place, note_segments};
 use crate::wrong_place::wrong_place;
-use hd_dbd::{Dbd, Refused};
+use hd_dbd::{Dbd, Refused, SegmentSize};
 use hd_image::Line;
 use hd_volume::{BlockStore, DATA, FREE, INDEX, MOST_BLOCKS, Volume, size_table};
 use std::alloc::Global;
 
 /// What is wrong with a data block that begins at an address.
-fn data_fault(block: &[u8], dbd: &Dbd, first: u32) -> Option<Fault>
+fn data_fault(block: &[u8], sizes: &[SegmentSize], first: u32) -> Option<Fault>
     requires size { (8 ≤ length block.now) × (length block.now ≤ 32768) × (length block.now % 8 ≡ 0) }
+    requires eighths { (bytes : List ℕ) (place : ℕ) → size_at sizes.now bytes place % 8 ≡ 0 }
     requires data { kind_of block.now ≡ 1 }
     requires within { first + length block.now ≤ 4294967296 }
-    ensures none { IfNone result (HasExtents (slice_index (stored_sizes dbd.now.types)) block.now) }
-    ensures some { IfSome result (λ f. IsWrongBlock (stored_sizes dbd.now.types) block.now first f) }
+    ensures none { IfNone result (HasExtents sizes.now block.now) }
+    ensures some { IfSome result (λ f. IsWrongBlock sizes.now block.now first f) }
 {
     if !is_chain_right(block) {
         return Some(Fault::at(Line::WrongChain, first, 0));
     }
-    match wrong_place(block, dbd) {
+    match wrong_place(block, sizes) {
         None => None,
         Some(place) => Some(Fault::at(Line::WrongPlace, first + place as u32, 0)),
     }
 }
 
 /// What is wrong with a block, behind block 0, that begins at an address.
-fn block_fault(block: &[u8], dbd: &Dbd, first: u32) -> Option<Fault>
+fn block_fault(block: &[u8], sizes: &[SegmentSize], first: u32) -> Option<Fault>
     requires size { (8 ≤ length block.now) × (length block.now ≤ 32768) × (length block.now % 8 ≡ 0) }
+    requires eighths { (bytes : List ℕ) (place : ℕ) → size_at sizes.now bytes place % 8 ≡ 0 }
     requires within { first + length block.now ≤ 4294967296 }
-    ensures none { IfNone result (IsRightBlock (stored_sizes dbd.now.types) block.now) }
-    ensures some { IfSome result (λ f. IsWrongBlock (stored_sizes dbd.now.types) block.now first f) }
+    ensures none { IfNone result (IsRightBlock sizes.now block.now) }
+    ensures some { IfSome result (λ f. IsWrongBlock sizes.now block.now first f) }
 {
     match block[2] {
-        DATA => data_fault(block, dbd, first),
+        DATA => data_fault(block, sizes, first),
         INDEX | FREE => None,
         _ => Some(Fault::at(Line::NoKind, first, 0)),
     }
@@ -56,7 +59,7 @@ fn stored_block_fault<S: BlockStore>(
     places: &mut Vec<Place>,
     volume: &mut Volume<S>,
     dbd: &Dbd,
-    sizes: &[u16],
+    sizes: &[SegmentSize],
     n: u32,
     size: usize,
 ) -> Result<Option<Fault>, Refused>
@@ -74,7 +77,7 @@ fn stored_block_fault<S: BlockStore>(
     if block.len() != size {
         return Ok(None);
     }
-    let fault = block_fault(block, dbd, first);
+    let fault = block_fault(block, sizes, first);
     if block[2] == DATA {
         note_segments(places, block, sizes, first)?;
     }

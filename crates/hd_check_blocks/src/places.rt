@@ -5,7 +5,7 @@ ghost use Rattle.hd_dbd.specs.Refusals.{OnlyMemory};
 ghost use Rattle.hd_check_blocks.specs.Places.{places_in};
 
 use hd_block::{Part, Parts};
-use hd_dbd::Refused;
+use hd_dbd::{Refused, SegmentSize};
 
 /// Where a segment stands, and its code.
 #[derive(Clone, Copy, Debug)]
@@ -18,12 +18,12 @@ pub struct Place {
 pub fn note_segments(
     places: &mut Vec<Place>,
     block: &[u8],
-    sizes: &[u16],
+    sizes: &[SegmentSize],
     first: u32,
 ) -> Result<(), Refused>
     requires size { (8 ≤ length block.now) × (length block.now ≤ 32768) }
     requires within { first + 65536 ≤ 4294967296 }
-    ensures places { OnOk result (places.new.items ≡ places.old.items ++ places_in block.now first (parts_in (slice_index sizes.now) block.now)) }
+    ensures places { OnOk result (places.new.items ≡ places.old.items ++ places_in block.now first (parts_in sizes.now block.now)) }
     ensures refusal { OnlyMemory result }
 {
     for part in Parts::new(block, sizes) {

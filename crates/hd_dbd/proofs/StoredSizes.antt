@@ -1,6 +1,6 @@
 -- The table of the bytes that segments take in a block.
-use Rattle.std.proofs.Common.{◌≡◌, inl, inr, ℕ, zero, suc, ◌+◌, ◌-◌, ◌%◌, ◌<◌, ◌≤◌, List, length, true, slice_index, refl, sym, ap, ◌∙◌, arith, Option, Some, None, IsTrue, nat_le, ◌&&◌}
-use Rattle.std.specs.Prelude.{slice_get}
+use Rattle.std.proofs.Common.{◌≡◌, inl, inr, ℕ, zero, suc, ◌+◌, ◌-◌, ◌%◌, ◌<◌, ◌≤◌, List, length, true, refl, sym, ap, ◌∙◌, arith, Option, Some, None, IsTrue, nat_le, ◌&&◌}
+use Rattle.std.specs.Prelude.{slice_get, slice_index_or}
 use Rattle.std.specs.Option.{option_map_or}
 use Rattle.std.proofs.lemmas.Option.{get_or_from_slice_get, slice_get_cases}
 use Rattle.std.proofs.lemmas.List.{get_or_past}
@@ -9,7 +9,8 @@ use Rattle.hd_dbd.specs.declared.hierarchy.FreeSpace.{FreeSpace}
 use Rattle.hd_dbd.specs.Types.{SegmentType}
 use Rattle.hd_dbd.specs.Hierarchy.{type_of}
 use Rattle.hd_dbd.specs.Prefixes.{prefix_length, rounded_up, stored_size}
-use Rattle.hd_dbd.specs.Facts.{table_from, stored_sizes}
+use Rattle.hd_dbd.specs.Facts.{table_from, segment_size, stored_sizes}
+use Rattle.hd_dbd.specs.declared.facts.SegmentSize.TheVariants.{Fixed}
 use Rattle.hd_dbd.specs.DatabaseRules.{well_formed}
 use Rattle.hd_dbd.proofs.Levels.{type_of-later}
 use Rattle.hd_dbd.proofs.Tables.{length-table_from, slice_get-table_from}
@@ -24,16 +25,16 @@ none-past types c past =
     ]
 
 -- the table has each type's, and 0 where there is no type
-pub stored_sizes-at : (types : List SegmentType) (c : ℕ) → slice_index (stored_sizes types) c ≡ stored_size types c
+pub stored_sizes-at : (types : List SegmentType) (c : ℕ) → slice_index_or (stored_sizes types) c (Fixed 0) ≡ segment_size types c
 stored_sizes-at types zero = refl
 stored_sizes-at types (suc i) =
     elim (cases_lt i (length types)) [
       | inl l ↦
-          get_or_from_slice_get (table_from (stored_size types) 1 (length types)) i (stored_size types (1 + i)) 0 (slice_get-table_from (stored_size types) 1 (length types) i l)
-          ∙ ap (stored_size types) (let e : 1 + i ≡ suc i = omega arith in e)
+          get_or_from_slice_get (table_from (segment_size types) 1 (length types)) i (segment_size types (1 + i)) (Fixed 0) (slice_get-table_from (segment_size types) 1 (length types) i l)
+          ∙ ap (segment_size types) (let e : 1 + i ≡ suc i = omega arith in e)
       | inr l ↦
-          get_or_past (table_from (stored_size types) 1 (length types)) i 0 (omega (arith, length-table_from (stored_size types) 1 (length types)))
-          ∙ sym (none-past types (suc i) (omega arith))
+          get_or_past (table_from (segment_size types) 1 (length types)) i (Fixed 0) (omega (arith, length-table_from (segment_size types) 1 (length types)))
+          ∙ ap (λ (n : ℕ). Fixed n) (sym (none-past types (suc i) (omega arith)))
     ]
 
 size-of : (types : List SegmentType) (c n : ℕ) (o : Option SegmentType) → type_of types c ≡ o → ((t : SegmentType) → o ≡ Some t → stored_size types c + 8 ≤ n) → 8 ≤ n → stored_size types c + 8 ≤ n

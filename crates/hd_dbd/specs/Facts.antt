@@ -2,6 +2,8 @@
 use Rattle.std.specs.Prelude.{ℕ, zero, suc, ◌+◌, List, [], ◌∷◌, length}
 use Rattle.hd_dbd.specs.Types.{SegmentType}
 use Rattle.hd_dbd.specs.declared.facts.TypeFacts.{TypeFacts}
+use Rattle.hd_dbd.specs.declared.facts.SegmentSize.{SegmentSize}
+use Rattle.hd_dbd.specs.declared.facts.SegmentSize.TheVariants.{Fixed}
 use Rattle.hd_dbd.specs.Hierarchy.{level_of}
 use Rattle.hd_dbd.specs.Prefixes.{prefix_length, pointers_at, stored_size, children_of}
 
@@ -21,6 +23,10 @@ facts_of types = table_from (facts_at types) 1 (length types)
 abbrev pub children_lists : List SegmentType → List (List ℕ)
 children_lists types = table_from (children_of types) 1 (length types)
 
+-- the bytes that the segments of the type of a code take in a block, 0 each where there is no type
+abbrev pub segment_size : List SegmentType → ℕ → SegmentSize
+segment_size types c = Fixed (stored_size types c)
+
 -- the bytes that the segments of each type take in a block, by code; none of code 0
-abbrev pub stored_sizes : List SegmentType → List ℕ
-stored_sizes types = 0 ∷ table_from (stored_size types) 1 (length types)
+abbrev pub stored_sizes : List SegmentType → List SegmentSize
+stored_sizes types = Fixed 0 ∷ table_from (segment_size types) 1 (length types)

@@ -1,13 +1,14 @@
 ghost use Rattle.std.specs.Prelude.{◌≡◌, ◌⊎◌, true, is_none, ◌≤◌, Some, None, IsTrue, IfOk, OnOk, IfErr, option_copied};
 ghost use Rattle.hd_dbd.specs.Hierarchy.{type_of, parent_of, level_of, is_under, longest_path};
 ghost use Rattle.hd_dbd.specs.Prefixes.{is_backward_kept, is_last_kept, prefix_length, pointers_at, children_of, stored_size};
+ghost use Rattle.hd_dbd.specs.Facts.{segment_size};
 ghost use Rattle.hd_dbd.specs.Rows.{key_of, keys_in_order};
 ghost use Rattle.hd_dbd.specs.Loads.{has_unique_key};
 ghost use Rattle.hd_dbd.specs.DatabaseRules.{well_formed};
 ghost use Rattle.hd_dbd.specs.DatabaseFaults.{size_fault, database_fault};
 
 use crate::facts::{
-    TypeFacts, children_in, children_lists, facts_in, facts_of, levels_of, longest_path, type_of,
+    SegmentSize, TypeFacts, children_in, children_lists, facts_in, facts_of, levels_of, longest_path, type_of,
 };
 use crate::hierarchy::{FreeSpace, SegType};
 use crate::keys::{compare_keys, key_in};
@@ -300,6 +301,13 @@ impl Dbd {
         ensures { result ≡ stored_size self.now.types code }
     {
         self.facts_of(code).size
+    }
+
+    /// The bytes that the segments of the type take in a block; 0 each for no type.
+    pub fn segment_size(&self, code: u8) -> SegmentSize
+        ensures { result ≡ segment_size self.now.types code }
+    {
+        SegmentSize::Fixed(self.stored_size(code))
     }
 
     /// The bytes of the longest path of segments, from a root down.

@@ -17,6 +17,16 @@ pub struct TypeFacts {
     pub size: u16,
 }
 
+/// The bytes that the segments of a type take in a block, prefix and padding included.
+#[derive(Clone, Copy, Debug, PartialEq, Eq)]
+pub enum SegmentSize {
+    /// So many each; 0 where there is no type.
+    Fixed(u16),
+    /// As many as each says: the two bytes behind a prefix of so many bytes say how many bytes stand behind it, themselves
+    /// counted, at least and at most so many.
+    Varying(u16, u16, u16),
+}
+
 /// The type of a code, if there is one.
 pub fn type_of(types: &[SegType], code: u8) -> Option<&SegType>
     ensures { option_copied result ≡ type_of types.now code }

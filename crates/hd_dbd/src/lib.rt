@@ -18,7 +18,7 @@ mod rules;
 
 pub use answer::{LoadFault, Refused, Status};
 pub use database::{Dbd, DbdFault};
-pub use facts::type_of;
+pub use facts::{SegmentSize, type_of};
 pub use fault_law::{law_databases_have_no_fault, law_programs_have_no_fault};
 pub use hierarchy::{Field, FreeSpace, Key, Rule, SegType};
 pub use keys::{compare_keys, key_in};

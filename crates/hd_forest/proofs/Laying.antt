@@ -8,11 +8,12 @@ use Rattle.hd_dbd.specs.declared.hierarchy.FreeSpace.{FreeSpace}
 use Rattle.hd_dbd.specs.Types.{SegmentType}
 use Rattle.hd_dbd.specs.Segment.{Segment}
 use Rattle.hd_dbd.specs.Hierarchy.{Database, type_of}
-use Rattle.hd_dbd.specs.Prefixes.{is_backward_kept}
+use Rattle.hd_dbd.specs.Prefixes.{is_backward_kept, stored_size}
 use Rattle.hd_dbd.specs.Rows.{row_fits}
 use Rattle.hd_dbd.specs.Facts.{stored_sizes}
 use Rattle.hd_dbd.specs.DatabaseRules.{well_formed}
-use Rattle.hd_dbd.proofs.StoredSizes.{stored_sizes-at, block_size-bounds}
+use Rattle.hd_dbd.proofs.StoredSizes.{block_size-bounds}
+use Rattle.hd_block.proofs.SizeLemmas.{size-fixed}
 use Rattle.hd_volume.specs.Volumes.{VolumeState}
 use Rattle.hd_volume.specs.Rooms.{HasHole}
 use Rattle.hd_volume.specs.Calls.{IsPut}
@@ -29,6 +30,8 @@ use Rattle.hd_image.proofs.Puts.{putting-adds, put-free}
 use Rattle.hd_forest.specs.Leaves.{IsLeaf, IsLeafPut}
 use Rattle.hd_forest.proofs.Keeping.{rest-put, count-put}
 use Rattle.hd_forest.proofs.Setting.{no-place}
+use Rattle.hd_dbd.specs.declared.facts.SegmentSize.{SegmentSize}
+use Rattle.hd_block.specs.Sizes.{size_at}
 
 -- A row was made a new segment, and its twins' addresses were written.
 pub record AreLaid (types : List SegmentType) (c : ℕ) (row : List ℕ) (y x : ℕ) (s0 s1 s2 : List ℕ) : Type 0 where
@@ -105,11 +108,11 @@ laid-leaf block_size frspc types c row y x s0 s1 s2 fit fits h =
 
 -- ---- the leaf is put
 
-pub put-whole : (types : List SegmentType) (row : Segment) (y x : ℕ) (segment sizes : List ℕ) → IsLeaf types row y x segment → row_fits types row ≡ true → sizes ≡ stored_sizes types
-    → (0 < length segment) × (slice_index sizes (slice_index segment 0) ≡ length segment)
+pub put-whole : (types : List SegmentType) (row : Segment) (y x : ℕ) (segment : List ℕ) (sizes : List SegmentSize) → IsLeaf types row y x segment → row_fits types row ≡ true → sizes ≡ stored_sizes types
+    → (0 < length segment) × (size_at sizes segment 0 ≡ length segment)
 put-whole types row y x segment sizes leaf fits is = (
   some _ _ _ _ (row_is types row.code row.bytes fits).0 (stored_long types row.code) leaf.size,
-  ap (slice_index sizes) leaf.code ∙ ap (λ (ns : List ℕ). slice_index ns row.code) is ∙ stored_sizes-at types row.code ∙ sym leaf.size,
+  ap (λ (s : List SegmentSize). size_at s segment 0) is ∙ size-fixed types segment 0 ∙ ap (stored_size types) leaf.code ∙ sym leaf.size,
 )
   where
     some : (p n s l : ℕ) → 2 ≤ p → p + n ≤ s → l ≡ s → 0 < l

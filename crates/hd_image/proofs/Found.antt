@@ -4,14 +4,18 @@ use Rattle.std.specs.Prelude.{is_some}
 use Rattle.std.specs.Option.{option_map_or}
 use Rattle.std.proofs.Math.Nat.{mod-lt, zero-div}
 use Rattle.std.proofs.lemmas.Bool.{cases_eq, eq-eqb}
+use Rattle.hd_bytes.specs.Ranges.{with_bytes}
+use Rattle.hd_bytes.proofs.NumberLemmas.{changes-with}
 use Rattle.hd_bytes.proofs.BlockLemmas.{byte-at, length-bytes_at, place-of}
 use Rattle.hd_dbd.specs.Types.{SegmentType}
 use Rattle.hd_dbd.specs.Hierarchy.{Database, type_of}
 use Rattle.hd_dbd.specs.Prefixes.{prefix_length, stored_size}
 use Rattle.hd_dbd.specs.Rows.{row_fits}
-use Rattle.hd_dbd.proofs.StoredSizes.{stored_sizes-at, block_size-bounds}
+use Rattle.hd_dbd.proofs.StoredSizes.{block_size-bounds}
+use Rattle.hd_block.proofs.SizeLemmas.{size-fixed}
 use Rattle.hd_volume.specs.Volumes.{VolumeState, block_at}
 use Rattle.hd_volume.specs.Records.{find}
+use Rattle.hd_volume.specs.Calls.{HasSegment, KeepsSize}
 use Rattle.hd_volume.proofs.ExtentLemmas.{used-is, segment-some}
 use Rattle.hd_volume.proofs.MapLemmas.{find-some, find-there}
 use Rattle.hd_prefix.specs.Fields.{code_of, length_of, bytes_of}
@@ -20,6 +24,8 @@ use Rattle.hd_links.specs.Links.{IsSegment}
 use Rattle.hd_image.specs.Records.{stored_at, links_of, IsVolumeOf}
 use Rattle.hd_image.specs.Laws.{IsDatabase, RecordsAreALinkGraph}
 use Rattle.hd_image.proofs.Roots.{header-code}
+use Rattle.hd_dbd.specs.declared.facts.SegmentSize.{SegmentSize}
+use Rattle.hd_block.specs.Sizes.{size_at}
 
 -- A segment at an address has a type and the bytes that the type's segments take, and stands in the image behind block 0.
 pub record HasSegmentOf (d : Database) (v : VolumeState) (a : ℕ) : Type 0 where
@@ -36,20 +42,30 @@ type-by : (types : List SegmentType) (c : ℕ) (o : Option SegmentType) → type
 type-by types c None is some = absurd (let none : stored_size types c ≡ 0 = size_is types c None is in omega arith)
 type-by types c (Some t) is some = (t, is)
 
+-- a segment has the bytes that its type's segments take
+segment-long : (d : Database) (v : VolumeState) (a : ℕ) (s : List ℕ) → IsDatabase d → IsVolumeOf d v → find v a ≡ Some s → length s ≡ stored_size d.types (code_of s)
+segment-long d v a s fit of is =
+    let k = find-some v a s is in
+    let block : List ℕ = block_at v (a / v.size) in
+    let kind = find-there v a 0 of.formatted (record { bytes = s; is = is; long = omega arith }) in
+    let x = of.formatted.divided (a / v.size) kind in
+    let u = segment-some v.sizes block x.extents x.divides x.whole (a % v.size) s k.segment in
+    let used = used-is v.sizes block 8 _ x.extents (a % v.size) (length s) x.divides u.0 in
+    let some : 8 ≤ length s = used.some in
+    let code : code_of s ≡ slice_index block (a % v.size) =
+    ap code_of u.1 ∙ byte-at block (a % v.size) (length s) 0 used.within (omega arith) ∙ ap (slice_index block) (let e : a % v.size + 0 ≡ a % v.size = omega arith in e) in
+    sym used.size ∙ ap (λ (sizes : List SegmentSize). size_at sizes block (a % v.size)) of.sizes ∙ size-fixed d.types block (a % v.size) ∙ ap (stored_size d.types) (sym code)
+
 pub found-of : (d : Database) (v : VolumeState) (a : ℕ) (s : List ℕ) → IsDatabase d → IsVolumeOf d v → find v a ≡ Some s → HasSegmentOf d v a
 found-of d v a s fit of is =
     let k = find-some v a s is in
     let block : List ℕ = block_at v (a / v.size) in
     let kind = find-there v a 0 of.formatted (record { bytes = s; is = is; long = omega arith }) in
     let x = of.formatted.divided (a / v.size) kind in
-    let u = segment-some (slice_index v.sizes) block x.extents x.divides x.whole (a % v.size) s k.segment in
-    let used = used-is (slice_index v.sizes) block 8 _ x.extents (a % v.size) (length s) x.divides u.0 in
+    let u = segment-some v.sizes block x.extents x.divides x.whole (a % v.size) s k.segment in
+    let used = used-is v.sizes block 8 _ x.extents (a % v.size) (length s) x.divides u.0 in
     let some : 8 ≤ length s = used.some in
-    let within = used.within in
-    let code : code_of s ≡ slice_index block (a % v.size) =
-    ap code_of u.1 ∙ byte-at block (a % v.size) (length s) 0 within (omega arith) ∙ ap (slice_index block) (let e : a % v.size + 0 ≡ a % v.size = omega arith in e) in
-    let size : length s ≡ stored_size d.types (code_of s) =
-    sym used.size ∙ ap (slice_index v.sizes) (sym code) ∙ ap (λ (sizes : List ℕ). slice_index sizes (code_of s)) of.sizes ∙ stored_sizes-at d.types (code_of s) in
+    let size : length s ≡ stored_size d.types (code_of s) = segment-long d v a s fit of is in
     let large : 128 ≤ v.size = (let b = (block_size-bounds d.block_size d.frspc d.types fit).0 in let e = of.size in omega arith) in
     let t = type-by d.types (code_of s) (type_of d.types (code_of s)) refl (omega arith) in
     record {
@@ -70,6 +86,15 @@ found-of d v a s fit of is =
 
     inside-below : (a n l : ℕ) → 0 < n → (a / n) * n + n ≤ l → a < l
     inside-below a n l some there = let at = place-of n a some in let low = mod-lt a some in omega arith
+
+-- bytes that are written into a segment past its code leave it its size
+pub keeps-size : (d : Database) (v : VolumeState) (a o : ℕ) (bytes : List ℕ) → IsDatabase d → IsVolumeOf d v → 0 < o → HasSegment v a (o + length bytes) → KeepsSize v a o bytes
+keeps-size d v a o bytes fit of past h s is =
+    let same : s ≡ h.bytes = (let z : Some s ≡ Some h.bytes = sym is ∙ h.is in cc) in
+    let long : o + length bytes ≤ length s = rw same h.long in
+    let first : slice_index (with_bytes s o bytes) 0 ≡ slice_index s 0 = (changes-with s bytes o long).below 0 past in
+    ap (λ (sizes : List SegmentSize). size_at sizes (with_bytes s o bytes) 0) of.sizes ∙ size-fixed d.types (with_bytes s o bytes) 0 ∙ ap (stored_size d.types) first
+    ∙ sym (segment-long d v a s fit of is)
 
 -- the record at an address behind the header is a segment that is found
 pub segment-found : (d : Database) (v : VolumeState) (a : ℕ) → IsDatabase d → IsVolumeOf d v → IsSegment (links_of d.types v) a → HasSegmentOf d v a

@@ -8,6 +8,8 @@ use Rattle.hd_dbd.specs.Hierarchy.{Database}
 use Rattle.hd_volume.specs.Headers.{header_of, HasHeader}
 use Rattle.hd_volume.specs.Volumes.{VolumeState, block_at, kind_of, IsKind}
 use Rattle.hd_volume.specs.Indexes.{IsAmong}
+use Rattle.hd_dbd.specs.declared.facts.SegmentSize.{SegmentSize}
+use Rattle.hd_block.specs.Sizes.{size_at}
 
 -- ---- phase 1: the header
 
@@ -47,21 +49,21 @@ abbrev pub IsWrongChain : VolumeState → ℕ → ℕ → Type 0
 IsWrongChain v address other =
     (n : ℕ) × IsKind v 1 n × ((places : List ℕ) → HasFreeElements (block_at v n) places → ⊥) × (address ≡ n * v.size) × (other ≡ 0)
 
--- no free element begins at a place, and a segment of its code would end past the block or past the next free element
-pub record IsNoSegment (sizes : List ℕ) (block places : List ℕ) (place : ℕ) : Type 0 where
+-- no free element begins at a place, and none of the segments that may be there ends within the block and before the next free element
+pub record IsNoSegment (sizes : List SegmentSize) (block places : List ℕ) (place : ℕ) : Type 0 where
   pub apart : IsAmong place places → ⊥
-  pub fits : 0 < slice_index sizes (slice_index block place) → place + slice_index sizes (slice_index block place) ≤ length block
-      → ((next : ℕ) → IsAmong next places → place < next → place + slice_index sizes (slice_index block place) ≤ next) → ⊥
+  pub fits : 0 < size_at sizes block place → place + size_at sizes block place ≤ length block
+      → ((next : ℕ) → IsAmong next places → place < next → place + size_at sizes block place ≤ next) → ⊥
 
 -- a free element or a segment stands at a place, and so many bytes behind it is another place
-pub record IsStep (sizes : List ℕ) (block places : List ℕ) (place next : ℕ) : Type 0 where
+pub record IsStep (sizes : List SegmentSize) (block places : List ℕ) (place next : ℕ) : Type 0 where
   pub some : place < length block
   pub right : IsNoSegment sizes block places place → ⊥
   pub free : IsAmong place places → next ≡ place + number_at 2 block (place + 2)
-  pub used : (IsAmong place places → ⊥) → next ≡ place + slice_index sizes (slice_index block place)
+  pub used : (IsAmong place places → ⊥) → next ≡ place + size_at sizes block place
 
 -- a block that is read from one place on comes to another, by way of these
-abbrev pub IsReadTo : List ℕ → List ℕ → List ℕ → ℕ → List ℕ → ℕ → Type 0
+abbrev pub IsReadTo : List SegmentSize → List ℕ → List ℕ → ℕ → List ℕ → ℕ → Type 0
 IsReadTo sizes block places from [] place = from ≡ place
 IsReadTo sizes block places from (next ∷ way) place = IsStep sizes block places from next × IsReadTo sizes block places next way place
 

@@ -34,7 +34,7 @@ pub record IsKnown (d : Database) (header : Header) : Type 0 where
 pub record BlocksAreRight (d : Database) (v : VolumeState) : Type 0 where
   pub header : HasHeader d.block_size v.image
   pub known : IsKnown d (header_of v.image)
-  pub divided : (n : ℕ) → IsKind v 1 n → HasExtents (slice_index v.sizes) (block_at v n)
+  pub divided : (n : ℕ) → IsKind v 1 n → HasExtents v.sizes (block_at v n)
   pub kinds : HasKinds v
 
 -- Top and height are both 0, or name a chain of index blocks that ends, and no other block is an index block.

@@ -10,6 +10,7 @@ use Rattle.hd_volume.specs.Volumes.{block_at, IsKind, HasExtents, IsFormatted}
 use Rattle.hd_levels.specs.Levels.{IsIndexSet, blocks_down}
 use Rattle.hd_levels.specs.IndexSets.{index_blocks, top_blocks, top_level, HasIndexSet}
 use Rattle.hd_levels.specs.WorkedVolume.{sample_image, sample_volume, one_level_volume, SampleHasIndexSet, OneLevelHasIndexSet}
+use Rattle.hd_block.specs.Sizes.{size_at}
 
 header : HasHeader 128 sample_image
 unfolding number_at
@@ -23,11 +24,11 @@ outside : (n : ℕ) → suc (suc (suc (suc (suc (suc n))))) * 128 + 128 ≤ leng
 outside n there = (let e = whole in absurd (omega arith))
 
 -- a segment, and what follows it
-part : {bytes : List ℕ} {place next n : ℕ} {A : Type 0} → eqb place next ≡ false → slice_index sample_volume.sizes (slice_index bytes place) ≡ n → leb 8 n ≡ true → n % 8 ≡ 0
-    → A → (place ≢ next) × IsSegment (slice_index sample_volume.sizes) bytes place n × A
+part : {bytes : List ℕ} {place next n : ℕ} {A : Type 0} → eqb place next ≡ false → size_at sample_volume.sizes bytes place ≡ n → leb 8 n ≡ true → n % 8 ≡ 0
+    → A → (place ≢ next) × IsSegment sample_volume.sizes bytes place n × A
 part {bytes} {place} {next} {n} {A} apart size some whole rest = (eqb-false place next apart, record { size = size; some = leb-true 8 n some; whole = whole }, rest)
 
-classes : HasExtents (slice_index sample_volume.sizes) (block_at sample_volume 1)
+classes : HasExtents sample_volume.sizes (block_at sample_volume 1)
 unfolding number_at
 classes = record {
   extents = used 40 ∷ used 24 ∷ used 16 ∷ used 16 ∷ used 24 ∷ [];
@@ -39,7 +40,7 @@ hole : IsHole (block_at sample_volume 2) 64 64
 unfolding number_at
 hole = record { element = record { len = refl; task = refl; some = omega arith; whole = refl }; apart = eqb-false _ _ refl }
 
-books : HasExtents (slice_index sample_volume.sizes) (block_at sample_volume 2)
+books : HasExtents sample_volume.sizes (block_at sample_volume 2)
 unfolding number_at
 books = record {
   extents = used 16 ∷ used 40 ∷ free 64 ∷ [];
@@ -47,7 +48,7 @@ books = record {
   whole = tt;
 }
 
-divided : (n : ℕ) → IsKind sample_volume 1 n → HasExtents (slice_index sample_volume.sizes) (block_at sample_volume n)
+divided : (n : ℕ) → IsKind sample_volume 1 n → HasExtents sample_volume.sizes (block_at sample_volume n)
 unfolding number_at
 divided zero k = absurd (let h = k.later in omega arith)
 divided (suc zero) k = classes
@@ -112,7 +113,7 @@ sample-has = (has-set, refl, refl, refl, refl)
 one-outside : (n : ℕ) → suc (suc (suc (suc n))) * 128 + 128 ≤ length (one_level_volume 2 0).image → ⊥
 one-outside n there = (let e : length (one_level_volume 2 0).image ≡ 512 = refl in absurd (omega arith))
 
-one-divided : (n : ℕ) → IsKind (one_level_volume 2 0) 1 n → HasExtents (slice_index (one_level_volume 2 0).sizes) (block_at (one_level_volume 2 0) n)
+one-divided : (n : ℕ) → IsKind (one_level_volume 2 0) 1 n → HasExtents (one_level_volume 2 0).sizes (block_at (one_level_volume 2 0) n)
 unfolding number_at
 one-divided zero k = absurd (let h = k.later in omega arith)
 one-divided (suc zero) k = classes

@@ -5,7 +5,7 @@ ghost use Rattle.hd_dbd.specs.Refusals.{OnlyMemory};
 use crate::survey::{BlockUse, Kind, TypeUse};
 use crate::twins::{Twin, note_parent, note_segment, note_twin};
 use hd_block::{Part, Parts};
-use hd_dbd::{Dbd, Refused};
+use hd_dbd::{Dbd, Refused, SegmentSize};
 use hd_entries::{FIRST, IndexBlock, entry_place, entry_room, root_key_length};
 use hd_prefix::{Layout, Pointer};
 use hd_volume::{DATA, FREE, INDEX, MARK};
@@ -23,7 +23,7 @@ pub fn note_block(
     found: &mut Found,
     block: &[u8],
     dbd: &Dbd,
-    sizes: &[u16],
+    sizes: &[SegmentSize],
     n: u32,
     first: u32,
 ) -> Result<(), Refused>
@@ -84,7 +84,7 @@ fn note_data(
     found: &mut Found,
     block: &[u8],
     dbd: &Dbd,
-    sizes: &[u16],
+    sizes: &[SegmentSize],
     first: u32,
 ) -> Result<BlockUse, Refused>
     requires { (128 ≤ length block.now) × (length block.now ≤ 32768) }

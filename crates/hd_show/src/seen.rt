@@ -10,7 +10,7 @@ ghost use Rattle.hd_volume.specs.Records.{used_at, segment_in};
 ghost use Rattle.hd_show.specs.Sights.{sight_of, sight_at, sight_in};
 
 use hd_block::{Part, Parts};
-use hd_dbd::{Dbd, Refused};
+use hd_dbd::{Dbd, Refused, SegmentSize};
 use hd_prefix::Layout;
 use hd_volume::{BlockStore, DATA, Volume, size_table};
 use std::alloc::Global;
@@ -63,13 +63,13 @@ fn has_block<S: BlockStore>(volume: &Volume<S>, n: u32) -> bool
 fn see_in_block(
     alloc: Global,
     dbd: &Dbd,
-    sizes: &[u16],
+    sizes: &[SegmentSize],
     block: &[u8],
     place: usize,
 ) -> Result<Option<Seen>, Refused>
     requires size { (128 ≤ length block.now) × (length block.now ≤ 32768) }
     requires place { place < length block.now }
-    ensures value { IfOk result (λ seen. option_map sight_of seen ≡ cond (slice_index block.now 2 == 1) (option_and_then (sight_in dbd.now.types) (segment_in (slice_index sizes.now) block.now place)) None) }
+    ensures value { IfOk result (λ seen. option_map sight_of seen ≡ cond (slice_index block.now 2 == 1) (option_and_then (sight_in dbd.now.types) (segment_in sizes.now block.now place)) None) }
     ensures refusal { OnlyMemory result }
 {
     if block[2] != DATA {
@@ -92,9 +92,9 @@ fn bytes_at(block: &[u8], place: usize, count: usize) -> &[u8]
 }
 
 /// The bytes of the segment that is one of the parts of a block, at a place.
-fn used_length(block: &[u8], sizes: &[u16], place: usize) -> Option<u16>
+fn used_length(block: &[u8], sizes: &[SegmentSize], place: usize) -> Option<u16>
     requires { (8 ≤ length block.now) × (length block.now ≤ 32768) }
-    ensures { result ≡ used_at (parts_in (slice_index sizes.now) block.now) place }
+    ensures { result ≡ used_at (parts_in sizes.now block.now) place }
 {
     for part in Parts::new(block, sizes) {
         if let Part::Used(at, len) = part {

@@ -8,7 +8,7 @@ ghost use Rattle.hd_volume.specs.declared.load.TheConstants.{MOST_BLOCKS};
 use crate::blocks::{Found, note_block};
 use crate::survey::{Survey, TypeUse};
 use crate::twins::{count_chains, note_parent};
-use hd_dbd::{Dbd, Refused};
+use hd_dbd::{Dbd, Refused, SegmentSize};
 use hd_entries::{FIRST, entry_place, entry_room, root_key_length};
 use hd_volume::{BlockStore, MOST_BLOCKS, Volume, size_table};
 use std::alloc::Global;
@@ -48,7 +48,7 @@ fn read_blocks<S: BlockStore>(
     found: &mut Found,
     volume: &mut Volume<S>,
     dbd: &Dbd,
-    sizes: &[u16],
+    sizes: &[SegmentSize],
 ) -> Result<(), Refused>
     ensures read { IsRead volume.old result volume.new }
     ensures refusal { OnlyDeviceOrMemory result }
@@ -66,7 +66,7 @@ fn read_block<S: BlockStore>(
     found: &mut Found,
     volume: &mut Volume<S>,
     dbd: &Dbd,
-    sizes: &[u16],
+    sizes: &[SegmentSize],
     n: u32,
     size: usize,
 ) -> Result<(), Refused>

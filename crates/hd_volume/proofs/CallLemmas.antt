@@ -5,7 +5,9 @@ use Rattle.std.proofs.lemmas.List.{get_or_past}
 use Rattle.std.proofs.Math.ListN.{length-set}
 use Rattle.hd_bytes.specs.Ranges.{bytes_at, with_bytes}
 use Rattle.hd_bytes.specs.Blocks.{block_of, HasBlock}
-use Rattle.hd_bytes.proofs.BlockLemmas.{place-of, length-block}
+use Rattle.hd_bytes.proofs.BlockLemmas.{place-of, length-block, byte-at}
+use Rattle.hd_bytes.proofs.NumberLemmas.{length-with}
+use Rattle.hd_block.proofs.SizeLemmas.{size-moved}
 use Rattle.hd_block.specs.Extents.{Extent, IsDivided, UsedAt}
 use Rattle.hd_block.specs.Parts.{largest_free}
 use Rattle.hd_block.specs.Walk.{parts_in}
@@ -19,16 +21,18 @@ use Rattle.hd_volume.specs.Volumes.{VolumeState, block_at, kind_of, IsKind, HasE
 use Rattle.hd_volume.specs.Records.{segment_in, find}
 use Rattle.hd_volume.specs.Rooms.{free_below, largest_hole}
 use Rattle.hd_volume.specs.Spaces.{blocks_in, content_at, IsContent, IsSpaceOf, AreDivided}
-use Rattle.hd_volume.specs.Calls.{KeepsOthers, HasSegment, IsWritten, IsFreed}
+use Rattle.hd_volume.specs.Calls.{KeepsOthers, HasSegment, KeepsSize, IsWritten, IsFreed}
 use Rattle.hd_volume.proofs.MapLemmas.{IsFound, find-some, find-in, find-there}
-use Rattle.hd_volume.proofs.ExtentLemmas.{used-is, segment-some}
-use Rattle.hd_volume.proofs.EditLemmas.{IsEdited, write-edits, IsFreeIn, free-edits, largest-divided}
+use Rattle.hd_volume.proofs.ExtentLemmas.{IsUsed, used-is, segment-some}
+use Rattle.hd_volume.proofs.EditLemmas.{IsEdited, with-inside, write-edits, IsFreeIn, free-edits, largest-divided}
 use Rattle.hd_volume.proofs.FrameLemmas.{AreSame, HasChanged, block-seen, kind-on, other-blocks, other-segments, keeps-header, keeps-kinds, keeps-spare, keeps-formatted, keeps-holes, keeps-space, free-same}
 use Rattle.hd_volume.proofs.SpaceLemmas.{whole-block}
+use Rattle.hd_dbd.specs.declared.facts.SegmentSize.{SegmentSize}
+use Rattle.hd_block.specs.Sizes.{size_at}
 
 -- in a data block the map has the segments of the block
 pub find-new : (v w : VolumeState) → AreSame v w → (a : ℕ) → a / v.size ≢ 0 → kind_of (block_of v.size w.image (a / v.size)) ≡ 1
-    → find w a ≡ segment_in (slice_index v.sizes) (block_of v.size w.image (a / v.size)) (a % v.size)
+    → find w a ≡ segment_in v.sizes (block_of v.size w.image (a / v.size)) (a % v.size)
 find-new v w s a later kind = rw (s.size, s.sizes, ne_eqb (a / v.size) 0 later, eq-eqb (kind_of (block_of v.size w.image (a / v.size))) 1 kind) refl
 
 -- two addresses with one block and one place are one
@@ -42,14 +46,14 @@ one-address size a b some block place =
 -- a data block all of whose other segments stay
 pub keeps-others : (v w : VolumeState) (a : ℕ) → HasChanged v w (a / v.size) → HasHeader v.size v.image → 0 < v.size → a / v.size ≢ 0
     → kind_of (block_at v (a / v.size)) ≡ 1 → kind_of (block_of v.size w.image (a / v.size)) ≡ 1
-    → ((p : ℕ) → p ≢ a % v.size → segment_in (slice_index v.sizes) (block_of v.size w.image (a / v.size)) p ≡ segment_in (slice_index v.sizes) (block_at v (a / v.size)) p)
+    → ((p : ℕ) → p ≢ a % v.size → segment_in v.sizes (block_of v.size w.image (a / v.size)) p ≡ segment_in v.sizes (block_at v (a / v.size)) p)
     → KeepsOthers v w a
 keeps-others v w a c header some later was is stay b other =
     elim (cases_eq (b / v.size) (a / v.size)) [
       | inr apart ↦ other-segments c header b apart
       | inl same ↦
           let at : b % v.size ≢ a % v.size = λ e. other (one-address v.size a b some same e) in
-          let P : ℕ → Type 0 = λ n. segment_in (slice_index v.sizes) (block_of v.size w.image n) (b % v.size) ≡ segment_in (slice_index v.sizes) (block_at v n) (b % v.size) in
+          let P : ℕ → Type 0 = λ n. segment_in v.sizes (block_of v.size w.image n) (b % v.size) ≡ segment_in v.sizes (block_at v n) (b % v.size) in
           let stays = subst P (sym same) (stay (b % v.size) at) in
           let later' : b / v.size ≢ 0 = λ e. later (sym same ∙ e) in
           find-new v w c.same b later' (ap (λ (n : ℕ). kind_of (block_of v.size w.image n)) same ∙ is) ∙ stays
@@ -58,7 +62,7 @@ keeps-others v w a c header some later was is stay b other =
 
 -- ---- writing
 
-module _ (v w : VolumeState) (a o : ℕ) (bs : List ℕ) (f : IsFormatted v) (h : HasSegment v a (o + length bs)) (past : 0 < o) (least : 44 ≤ v.size)
+module _ (v w : VolumeState) (a o : ℕ) (bs : List ℕ) (f : IsFormatted v) (h : HasSegment v a (o + length bs)) (keeps : KeepsSize v a o bs) (least : 44 ≤ v.size)
     (c : HasChanged v w (a / v.size)) (new : block_of v.size w.image (a / v.size) ≡ with_bytes (block_at v (a / v.size)) (a % v.size + o) bs) where
   found : IsFound v a h.bytes
   found = find-some v a h.bytes h.is
@@ -66,16 +70,33 @@ module _ (v w : VolumeState) (a o : ℕ) (bs : List ℕ) (f : IsFormatted v) (h 
   there : IsKind v 1 (a / v.size)
   there = find-there v a (o + length bs) f h
 
-  x : HasExtents (slice_index v.sizes) (block_at v (a / v.size))
+  x : HasExtents v.sizes (block_at v (a / v.size))
   x = f.divided (a / v.size) there
 
   s : (UsedAt 8 x.extents (a % v.size) (length h.bytes)) × (h.bytes ≡ bytes_at (block_at v (a / v.size)) (a % v.size) (length h.bytes))
-  s = segment-some (slice_index v.sizes) (block_at v (a / v.size)) x.extents x.divides x.whole (a % v.size) h.bytes found.segment
+  s = segment-some v.sizes (block_at v (a / v.size)) x.extents x.divides x.whole (a % v.size) h.bytes found.segment
 
-  edited : IsEdited (slice_index v.sizes) (block_at v (a / v.size)) (block_of v.size w.image (a / v.size)) x.extents (a % v.size) (length h.bytes) o bs
+  u : IsUsed v.sizes (block_at v (a / v.size)) 8 (a % v.size) (length h.bytes)
+  u = used-is v.sizes (block_at v (a / v.size)) 8 _ x.extents (a % v.size) (length h.bytes) x.divides s.0
+
+  -- the segment with the bytes takes as many in its block
+  sized : size_at v.sizes (with_bytes (block_at v (a / v.size)) (a % v.size + o) bs) (a % v.size) ≡ length h.bytes
+  sized =
+      let b : List ℕ = block_at v (a / v.size) in
+      let b' : List ℕ = with_bytes b (a % v.size + o) bs in
+      let q : ℕ = a % v.size in
+      let long = h.long in
+      let within = u.within in
+      let is : bytes_at b' q (length h.bytes) ≡ with_bytes h.bytes o bs =
+      with-inside b bs q (length h.bytes) o within long ∙ ap (λ (z : List ℕ). with_bytes z o bs) (sym s.1) in
+      let len = length-with b bs (q + o) (omega arith) in
+      size-moved v.sizes (with_bytes h.bytes o bs) b' 0 q (length h.bytes)
+      (λ k l. sym (byte-at b' q (length h.bytes) k (omega arith) l) ∙ ap (λ (z : List ℕ). slice_index z k) is ∙ ap (slice_index (with_bytes h.bytes o bs)) (let z : k ≡ 0 + k = omega arith in z)) u.some (keeps h.bytes h.is)
+
+  edited : IsEdited v.sizes (block_at v (a / v.size)) (block_of v.size w.image (a / v.size)) x.extents (a % v.size) (length h.bytes) o bs
   edited =
-      let P : List ℕ → Type 0 = λ b. IsEdited (slice_index v.sizes) (block_at v (a / v.size)) b x.extents (a % v.size) (length h.bytes) o bs in
-      subst P (sym new) (write-edits (slice_index v.sizes) (block_at v (a / v.size)) x.extents (a % v.size) (length h.bytes) o bs x.divides x.whole s.0 past h.long)
+      let P : List ℕ → Type 0 = λ b. IsEdited v.sizes (block_at v (a / v.size)) b x.extents (a % v.size) (length h.bytes) o bs in
+      subst P (sym new) (write-edits v.sizes (block_at v (a / v.size)) x.extents (a % v.size) (length h.bytes) o bs x.divides x.whole s.0 sized h.long)
 
   pub write-writes : IsWritten v a o bs w
   write-writes =
@@ -93,7 +114,7 @@ module _ (v w : VolumeState) (a o : ℕ) (bs : List ℕ) (f : IsFormatted v) (h 
         kinds = λ n. ap kind_of (block-seen c.same n) ∙ keeps-kinds c f.header edited.kind n;
         header = header;
         spares = keeps-spare c f.header header edited.kind;
-        holes = keeps-holes c f.header edited.kind (λ _. (let e : largest_hole (parts_in (slice_index v.sizes) (block_of v.size w.image (a / v.size))) ≡ largest_hole (parts_in (slice_index v.sizes) (block_at v (a / v.size))) = ap largest_hole edited.parts in omega arith));
+        holes = keeps-holes c f.header edited.kind (λ _. (let e : largest_hole (parts_in v.sizes (block_of v.size w.image (a / v.size))) ≡ largest_hole (parts_in v.sizes (block_at v (a / v.size))) = ap largest_hole edited.parts in omega arith));
       }
 
   pub write-space : (space : Space) → IsSpaceOf v.size v.sizes v.image space → IsSpaceOf v.size v.sizes w.image space
@@ -103,7 +124,7 @@ module _ (v w : VolumeState) (a o : ℕ) (bs : List ℕ) (f : IsFormatted v) (h 
       let later : a / v.size ≢ 0 = found.later in
       let old = k.contents (a / v.size) (omega arith) below in
       let bound = old.bound (old.kind_is ∙ one) in
-      let e : largest_hole (parts_in (slice_index v.sizes) (block_of v.size w.image (a / v.size))) ≡ largest_hole (parts_in (slice_index v.sizes) (block_at v (a / v.size))) = ap largest_hole edited.parts in omega arith)
+      let e : largest_hole (parts_in v.sizes (block_of v.size w.image (a / v.size))) ≡ largest_hole (parts_in v.sizes (block_at v (a / v.size))) = ap largest_hole edited.parts in omega arith)
 
 -- a block that was brought to hand and edited there has changed
 pub changed-by : (v w : VolumeState) (size hand n : ℕ) (image : List ℕ) → w.size ≡ v.size → w.sizes ≡ v.sizes → size ≡ v.size → image ≡ v.image → hand ≡ n
@@ -116,8 +137,8 @@ segment-within v a n f h =
     let k = find-some v a h.bytes h.is in
     let t = find-there v a n f h in
     let x = f.divided (a / v.size) t in
-    let s = segment-some (slice_index v.sizes) (block_at v (a / v.size)) x.extents x.divides x.whole (a % v.size) h.bytes k.segment in
-    let u = used-is (slice_index v.sizes) (block_at v (a / v.size)) 8 _ x.extents (a % v.size) (length h.bytes) x.divides s.0 in
+    let s = segment-some v.sizes (block_at v (a / v.size)) x.extents x.divides x.whole (a % v.size) h.bytes k.segment in
+    let u = used-is v.sizes (block_at v (a / v.size)) 8 _ x.extents (a % v.size) (length h.bytes) x.divides s.0 in
     let len = length-block v.size (a / v.size) v.image t.there in
     let within = u.within in
     let long = h.long in
@@ -125,13 +146,13 @@ segment-within v a n f h =
 
 -- the code of a segment says its length
 pub segment-size : (v : VolumeState) (a n : ℕ) → (f : IsFormatted v) → (h : HasSegment v a n)
-    → (slice_index v.sizes (slice_index (block_at v (a / v.size)) (a % v.size)) ≡ length h.bytes) × (8 ≤ length h.bytes) × (a % v.size + length h.bytes ≤ v.size)
+    → (size_at v.sizes (block_at v (a / v.size)) (a % v.size) ≡ length h.bytes) × (8 ≤ length h.bytes) × (a % v.size + length h.bytes ≤ v.size)
 segment-size v a n f h =
     let k = find-some v a h.bytes h.is in
     let t = find-there v a n f h in
     let x = f.divided (a / v.size) t in
-    let s = segment-some (slice_index v.sizes) (block_at v (a / v.size)) x.extents x.divides x.whole (a % v.size) h.bytes k.segment in
-    let u = used-is (slice_index v.sizes) (block_at v (a / v.size)) 8 _ x.extents (a % v.size) (length h.bytes) x.divides s.0 in
+    let s = segment-some v.sizes (block_at v (a / v.size)) x.extents x.divides x.whole (a % v.size) h.bytes k.segment in
+    let u = used-is v.sizes (block_at v (a / v.size)) 8 _ x.extents (a % v.size) (length h.bytes) x.divides s.0 in
     let len = length-block v.size (a / v.size) v.image t.there in
     let within = u.within in
     (u.size, u.some, omega arith)
@@ -158,7 +179,7 @@ content-other space new n m x e other =
 -- what is kept stays true where a data block is opened for holes as long as the largest that it has
 pub opened-space : (v w : VolumeState) (n hole : ℕ) (space new : Space) → HasChanged v w n → HasHeader v.size v.image → IsSpaceOf v.size v.sizes v.image space → IsOpened space n hole new
     → new.free ≡ space.free → new.lowest_free ≡ space.lowest_free → n ≢ 0 → kind_of (block_at v n) ≡ 1 → kind_of (block_of v.size w.image n) ≡ 1 → n < blocks_in v.size v.image
-    → largest_hole (parts_in (slice_index v.sizes) (block_of v.size w.image n)) ≤ hole → IsSpaceOf v.size v.sizes w.image new
+    → largest_hole (parts_in v.sizes (block_of v.size w.image n)) ≤ hole → IsSpaceOf v.size v.sizes w.image new
 opened-space v w n hole space new c header h o free-is lowest-is later was is below fits =
     let own : kind_of (block_of v.size w.image n) ≡ kind_of (block_at v n) = is ∙ sym was in
     let blocks : blocks_in v.size w.image ≡ blocks_in v.size v.image = ap (λ (k : ℕ). min (k / v.size) 65536) c.change.len in
@@ -167,12 +188,12 @@ opened-space v w n hole space new c header h o free-is lowest-is later was is be
     record {
       len = o.len ∙ h.len ∙ sym blocks;
       contents = λ m some under. elim (cases_eq m n) [
-        | inl e ↦ (let P : ℕ → Type 0 = λ i. IsContent (slice_index v.sizes) (block_of v.size w.image i) (content_at new i) in
-            let R : Content → Type 0 = λ y. IsContent (slice_index v.sizes) (block_of v.size w.image n) y in
+        | inl e ↦ (let P : ℕ → Type 0 = λ i. IsContent v.sizes (block_of v.size w.image i) (content_at new i) in
+            let R : Content → Type 0 = λ y. IsContent v.sizes (block_of v.size w.image n) y in
             subst P (sym e) (subst R (sym (content-own space new n x o.contents low)) (record { kind_is = sym is; bound = λ _. fits })))
         | inr other ↦ (let old = h.contents m some (rw blocks at under) in
-            let R : Content → Type 0 = λ y. IsContent (slice_index v.sizes) (block_of v.size w.image m) y in
-            let S : List ℕ → Type 0 = λ b. IsContent (slice_index v.sizes) b (content_at space m) in
+            let R : Content → Type 0 = λ y. IsContent v.sizes (block_of v.size w.image m) y in
+            let S : List ℕ → Type 0 = λ b. IsContent v.sizes b (content_at space m) in
             subst R (sym (content-other space new n m x o.contents other)) (subst S (sym (other-blocks c header m other)) old))
       ];
       lowest = λ k m some under beneath is-data.
@@ -196,18 +217,18 @@ looked-at v n h some there =
     omega arith
 
 module _ (v w : VolumeState) (a : ℕ) (f : IsFormatted v) (h : HasSegment v a 0) (least : 44 ≤ v.size)
-    (c : HasChanged v w (a / v.size)) (new : IsGiven (slice_index v.sizes) (a % v.size) (length h.bytes) (block_at v (a / v.size)) (block_of v.size w.image (a / v.size))) where
+    (c : HasChanged v w (a / v.size)) (new : IsGiven v.sizes (a % v.size) (length h.bytes) (block_at v (a / v.size)) (block_of v.size w.image (a / v.size))) where
   freed-found : IsFound v a h.bytes
   freed-found = find-some v a h.bytes h.is
 
   freed-there : IsKind v 1 (a / v.size)
   freed-there = find-there v a 0 f h
 
-  freed-in : IsFreeIn (slice_index v.sizes) (block_at v (a / v.size)) (block_of v.size w.image (a / v.size)) (a % v.size) (length h.bytes)
+  freed-in : IsFreeIn v.sizes (block_at v (a / v.size)) (block_of v.size w.image (a / v.size)) (a % v.size) (length h.bytes)
   freed-in =
       let x = f.divided (a / v.size) freed-there in
-      let s = segment-some (slice_index v.sizes) (block_at v (a / v.size)) x.extents x.divides x.whole (a % v.size) h.bytes freed-found.segment in
-      free-edits (slice_index v.sizes) (block_at v (a / v.size)) (block_of v.size w.image (a / v.size)) x.extents (a % v.size) (length h.bytes) x.divides x.whole s.0 new
+      let s = segment-some v.sizes (block_at v (a / v.size)) x.extents x.divides x.whole (a % v.size) h.bytes freed-found.segment in
+      free-edits v.sizes (block_at v (a / v.size)) (block_of v.size w.image (a / v.size)) x.extents (a % v.size) (length h.bytes) x.divides x.whole s.0 new
 
   pub free-frees : IsFreed v a w
   free-frees =
@@ -226,9 +247,9 @@ module _ (v w : VolumeState) (a : ℕ) (f : IsFormatted v) (h : HasSegment v a 0
         hole = λ s e.
             let same : s ≡ h.bytes = (let z : Some s ≡ Some h.bytes = sym e ∙ h.is in cc) in
             let on = kind-on c.same 1 (a / v.size) c.change.len freed-in.kind freed-there in
-            let P : List ℕ → Type 0 = λ b. length s ≤ largest_hole (parts_in (slice_index w.sizes) b) in
-            let Q : List ℕ → Type 0 = λ z. length s ≤ largest_hole (parts_in (slice_index z) (block_of v.size w.image (a / v.size))) in
-            let R : List ℕ → Type 0 = λ z. length z ≤ largest_hole (parts_in (slice_index v.sizes) (block_of v.size w.image (a / v.size))) in
+            let P : List ℕ → Type 0 = λ b. length s ≤ largest_hole (parts_in w.sizes b) in
+            let Q : List SegmentSize → Type 0 = λ z. length s ≤ largest_hole (parts_in z (block_of v.size w.image (a / v.size))) in
+            let R : List ℕ → Type 0 = λ z. length z ≤ largest_hole (parts_in v.sizes (block_of v.size w.image (a / v.size))) in
             record { block = a / v.size; is_data = on; large = subst P (sym (block-seen c.same (a / v.size))) (subst Q (sym c.same.sizes) (subst R (sym same) freed-in.hole)) };
         holes = keeps-holes c f.header freed-in.kind (λ _. freed-in.holes);
       }
@@ -245,40 +266,40 @@ module _ (v w : VolumeState) (a : ℕ) (f : IsFormatted v) (h : HasSegment v a 0
 -- ---- seeking a hole
 
 -- the largest free element of a data block that is looked at is its largest hole
-pub seen-hole : (size : ℕ) (sizes image : List ℕ) (space : Space) (n hole : ℕ) (hand : List ℕ) → IsSpaceOf size sizes image space → AreDivided (slice_index sizes) size image
+pub seen-hole : (size : ℕ) (sizes : List SegmentSize) (image : List ℕ) (space : Space) (n hole : ℕ) (hand : List ℕ) → IsSpaceOf size sizes image space → AreDivided sizes size image
     → 0 < n → n < blocks_in size image → (content_at space n).kind ≡ 1 → hand ≡ block_of size image n
-    → ((f : ℕ → ℕ) (xs : List Extent) → IsDivided f hand xs → hole ≡ largest_free xs) → hole ≡ largest_hole (parts_in (slice_index sizes) (block_of size image n))
+    → ((f : List SegmentSize) (xs : List Extent) → IsDivided f hand xs → hole ≡ largest_free xs) → hole ≡ largest_hole (parts_in sizes (block_of size image n))
 seen-hole size sizes image space n hole hand h divided some below is at found =
     let x = divided n some below (sym (h.contents n some below).kind_is ∙ is) in
-    let P : List ℕ → Type 0 = λ b. IsDivided (slice_index sizes) b x.extents in
-    found (slice_index sizes) x.extents (subst P (sym at) x.divides) ∙ sym (largest-divided (slice_index sizes) (block_of size image n) x)
+    let P : List ℕ → Type 0 = λ b. IsDivided sizes b x.extents in
+    found sizes x.extents (subst P (sym at) x.divides) ∙ sym (largest-divided sizes (block_of size image n) x)
 
 -- what is kept stays true where the bound of a data block is made its largest hole
-pub mended-space : (size : ℕ) (sizes image : List ℕ) (space new : Space) (n hole : ℕ) → IsSpaceOf size sizes image space → new.contents.items ≡ slice_set space.contents.items n (record { kind = 1; hole = hole })
+pub mended-space : (size : ℕ) (sizes : List SegmentSize) (image : List ℕ) (space new : Space) (n hole : ℕ) → IsSpaceOf size sizes image space → new.contents.items ≡ slice_set space.contents.items n (record { kind = 1; hole = hole })
     → vec_len new.contents ≡ vec_len space.contents → new.lowest ≡ space.lowest → new.free ≡ space.free → new.lowest_free ≡ space.lowest_free
-    → 0 < n → n < blocks_in size image → (content_at space n).kind ≡ 1 → hole ≡ largest_hole (parts_in (slice_index sizes) (block_of size image n)) → IsSpaceOf size sizes image new
+    → 0 < n → n < blocks_in size image → (content_at space n).kind ≡ 1 → hole ≡ largest_hole (parts_in sizes (block_of size image n)) → IsSpaceOf size sizes image new
 mended-space size sizes image space new n hole h contents len lowest free-is lowest-is some below is hole-is =
     let x : Content = record { kind = 1; hole = hole } in
     let low : n < vec_len space.contents = omega (arith, h.len) in
     let old = h.contents n some below in
     let own = content-own space new n x contents low in
-    let bound : largest_hole (parts_in (slice_index sizes) (block_of size image n)) ≤ (content_at space n).hole = old.bound is in
+    let bound : largest_hole (parts_in sizes (block_of size image n)) ≤ (content_at space n).hole = old.bound is in
     record {
       len = len ∙ h.len;
       contents = λ m more under. elim (cases_eq m n) [
-        | inl e ↦ (let P : ℕ → Type 0 = λ i. IsContent (slice_index sizes) (block_of size image i) (content_at new i) in
-            let R : Content → Type 0 = λ y. IsContent (slice_index sizes) (block_of size image n) y in
+        | inl e ↦ (let P : ℕ → Type 0 = λ i. IsContent sizes (block_of size image i) (content_at new i) in
+            let R : Content → Type 0 = λ y. IsContent sizes (block_of size image n) y in
             subst P (sym e) (subst R (sym own) (record { kind_is = sym is ∙ old.kind_is; bound = λ _. omega arith })))
-        | inr other ↦ (let R : Content → Type 0 = λ y. IsContent (slice_index sizes) (block_of size image m) y in
+        | inr other ↦ (let R : Content → Type 0 = λ y. IsContent sizes (block_of size image m) y in
             subst R (sym (content-other space new n m x contents other)) (h.contents m more under))
       ];
       lowest = λ k m more under beneath is-data.
           let before : m < slice_index space.lowest.items k = rw lowest at under in
           elim (cases_eq m n) [
-            | inl e ↦ (let P : ℕ → Type 0 = λ i. (content_at new i).hole < slice_index sizes k in
+            | inl e ↦ (let P : ℕ → Type 0 = λ i. (content_at new i).hole < 8 * k in
                 let Q : ℕ → Type 0 = λ i. i < slice_index space.lowest.items k in
                 let kept = h.lowest k n some (subst Q e before) below is in
-                let R : Content → Type 0 = λ y. y.hole < slice_index sizes k in
+                let R : Content → Type 0 = λ y. y.hole < 8 * k in
                 subst P (sym e) (subst R (sym own) (omega arith)))
             | inr other ↦ (let same = content-other space new n m x contents other in rw same (h.lowest k m more before beneath (rw same at is-data)))
           ];
@@ -296,10 +317,10 @@ lowest-set xs code n c m h =
       ]
     ]
 
--- what is kept stays true where a type's lowest block is made one below which no data block has a hole of its size
-pub lowest-space : (size : ℕ) (sizes image : List ℕ) (space new : Space) (code n : ℕ) → IsSpaceOf size sizes image space → new.contents ≡ space.contents → new.lowest.items ≡ slice_set space.lowest.items code n
+-- what is kept stays true where the lowest block for a multiple of 8 is made one below which no data block has a hole of so many bytes
+pub lowest-space : (size : ℕ) (sizes : List SegmentSize) (image : List ℕ) (space new : Space) (code n : ℕ) → IsSpaceOf size sizes image space → new.contents ≡ space.contents → new.lowest.items ≡ slice_set space.lowest.items code n
     → new.free ≡ space.free → new.lowest_free ≡ space.lowest_free
-    → ((m : ℕ) → 0 < m → m < n → m < blocks_in size image → (content_at space m).kind ≡ 1 → (content_at space m).hole < slice_index sizes code) → IsSpaceOf size sizes image new
+    → ((m : ℕ) → 0 < m → m < n → m < blocks_in size image → (content_at space m).kind ≡ 1 → (content_at space m).hole < 8 * code) → IsSpaceOf size sizes image new
 lowest-space size sizes image space new code n h contents lowest free-is lowest-is passed =
     let same = λ (m : ℕ). (let e : content_at new m ≡ content_at space m = ap (λ v. slice_index_or v.items m (record { kind = 0; hole = 0 })) contents in e) in
     record {
@@ -307,8 +328,8 @@ lowest-space size sizes image space new code n h contents lowest free-is lowest-
       contents = λ m some below. rw (same m) (h.contents m some below);
       lowest = λ k m some under beneath is-data.
           let is-data' : (content_at space m).kind ≡ 1 = rw (same m) at is-data in
-          let kept : (content_at space m).hole < slice_index sizes k = elim (lowest-set space.lowest.items code n k m (rw lowest at under)) [
-            | inl e ↦ (let P : ℕ → Type 0 = λ i. (content_at space m).hole < slice_index sizes i in subst P (sym e.0) (passed m some e.1 beneath is-data'))
+          let kept : (content_at space m).hole < 8 * k = elim (lowest-set space.lowest.items code n k m (rw lowest at under)) [
+            | inl e ↦ (let P : ℕ → Type 0 = λ i. (content_at space m).hole < 8 * i in subst P (sym e.0) (passed m some e.1 beneath is-data'))
             | inr before ↦ h.lowest k m some before beneath is-data'
           ] in
           rw (same m) kept;

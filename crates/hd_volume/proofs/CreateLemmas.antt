@@ -16,6 +16,7 @@ use Rattle.hd_volume.specs.Spaces.{blocks_in, IsSpaceOf}
 use Rattle.hd_volume.specs.Creates.{new_header, head_list, IsCreated}
 use Rattle.hd_volume.proofs.FrameLemmas.{header-same}
 use Rattle.hd_volume.proofs.MapLemmas.{past-end}
+use Rattle.hd_dbd.specs.declared.facts.SegmentSize.{SegmentSize}
 
 eight-bytes : (xs : List ℕ) → length xs ≡ 8
     → slice_index xs 0 ∷ slice_index xs 1 ∷ slice_index xs 2 ∷ slice_index xs 3 ∷ slice_index xs 4 ∷ slice_index xs 5 ∷ slice_index xs 6 ∷ slice_index xs 7 ∷ [] ≡ xs
@@ -50,7 +51,7 @@ pub own-block : (size : ℕ) (b : List ℕ) → length b ≡ size → block_of s
 own-block size b len = (let z : 0 * size ≡ 0 = omega arith in let e : take size (drop (0 * size) b) ≡ take size b = rw z refl in e) ∙ take_all size b (omega arith)
 
 -- what is kept of the blocks says nothing of an image of one
-pub only-space : (size : ℕ) (sizes a b : List ℕ) (space : Space) → 0 < size → length a ≡ size → length b ≡ size → IsSpaceOf size sizes a space → IsSpaceOf size sizes b space
+pub only-space : (size : ℕ) (sizes : List SegmentSize) (a b : List ℕ) (space : Space) → 0 < size → length a ≡ size → length b ≡ size → IsSpaceOf size sizes a space → IsSpaceOf size sizes b space
 only-space size sizes a b space positive la lb h =
     let one : size / size ≡ 1 = (let e : 1 * size / size ≡ 1 = mul-div_cancel 1 positive in ap (λ (k : ℕ). k / size) (let s : size ≡ 1 * size = omega arith in s) ∙ e) in
     let qa : length a / size ≡ 1 = rw la one in

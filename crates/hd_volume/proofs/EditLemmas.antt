@@ -11,6 +11,7 @@ use Rattle.hd_block.specs.Parts.{parts_of, largest_free}
 use Rattle.hd_block.specs.Walk.{parts_in}
 use Rattle.hd_block.proofs.Walk.{fill-within}
 use Rattle.hd_block.proofs.FrameLemmas.{used-ahead, agree-both}
+use Rattle.hd_block.proofs.SizeLemmas.{size-moved}
 use Rattle.hd_block.proofs.LawLemmas.{fill-written, fill-filled, used-apart}
 use Rattle.hd_block.proofs.PartLemmas.{parts-divided}
 use Rattle.hd_volume.specs.Records.{segment_in}
@@ -18,6 +19,8 @@ use Rattle.hd_volume.specs.Rooms.{largest_hole}
 use Rattle.hd_volume.specs.Volumes.{HasExtents}
 use Rattle.hd_volume.specs.Edits.{IsTaken, IsGiven}
 use Rattle.hd_volume.proofs.ExtentLemmas.{used-is, segment-is, segment-none, segment-same}
+use Rattle.hd_dbd.specs.declared.facts.SegmentSize.{SegmentSize}
+use Rattle.hd_block.specs.Sizes.{size_at}
 
 -- ---- writing into a segment
 
@@ -26,7 +29,7 @@ pub put-byte : (b bs : List ℕ) (p i : ℕ) → p + length bs ≤ length b → 
 put-byte b bs p i h l = grind (arith, common_steps)
 
 -- bytes written into a range, seen from the range
-with-inside : (b bs : List ℕ) (q n o : ℕ) → q + n ≤ length b → o + length bs ≤ n → bytes_at (with_bytes b (q + o) bs) q n ≡ with_bytes (bytes_at b q n) o bs
+pub with-inside : (b bs : List ℕ) (q n o : ℕ) → q + n ≤ length b → o + length bs ≤ n → bytes_at (with_bytes b (q + o) bs) q n ≡ with_bytes (bytes_at b q n) o bs
 with-inside b bs q n o h k =
     let b' : List ℕ = with_bytes b (q + o) bs in
     let s : List ℕ = bytes_at b q n in
@@ -48,24 +51,24 @@ with-inside b bs q n o h k =
       ]
     ]))
 
--- A write into a segment, past its code, keeps the division, and changes these bytes of the segment alone.
-pub record IsEdited (sizes : ℕ → ℕ) (b b' : List ℕ) (xs : List Extent) (q n o : ℕ) (bs : List ℕ) : Type 0 where
+-- A write into a segment that leaves it its size keeps the division, and changes these bytes of the segment alone.
+pub record IsEdited (sizes : List SegmentSize) (b b' : List ℕ) (xs : List Extent) (q n o : ℕ) (bs : List ℕ) : Type 0 where
   pub divides : IsDivided sizes b' xs
   pub is : segment_in sizes b' q ≡ Some (with_bytes (bytes_at b q n) o bs)
   pub others : (p : ℕ) → p ≢ q → segment_in sizes b' p ≡ segment_in sizes b p
   pub parts : parts_in sizes b' ≡ parts_in sizes b
   pub kind : slice_index b' 2 ≡ slice_index b 2
 
-pub write-edits : (sizes : ℕ → ℕ) (b : List ℕ) (xs : List Extent) (q n o : ℕ) (bs : List ℕ) → IsDivided sizes b xs → AreWhole xs → UsedAt 8 xs q n → 0 < o → o + length bs ≤ n
+pub write-edits : (sizes : List SegmentSize) (b : List ℕ) (xs : List Extent) (q n o : ℕ) (bs : List ℕ) → IsDivided sizes b xs → AreWhole xs → UsedAt 8 xs q n → size_at sizes (with_bytes b (q + o) bs) q ≡ n → o + length bs ≤ n
     → IsEdited sizes b (with_bytes b (q + o) bs) xs q n o bs
-write-edits sizes b xs q n o bs h w u some within =
+write-edits sizes b xs q n o bs h w u keeps within =
     let b' : List ℕ = with_bytes b (q + o) bs in
     let k = used-is sizes b 8 _ xs q n h u in
     let end = k.within in
     let ahead = k.ahead in
     let c = changes-with b bs (q + o) (omega arith) in
-    let inside : ChangesOnly (q + 1) (n - 1) b b' = record { len = c.len; below = λ j l. c.below j (omega arith); above = λ j l. c.above j (omega arith) } in
-    let divides : IsDivided sizes b' xs = rw (number-below 2 0 c (omega arith)) (fill-written sizes b b' 8 _ xs q n h u inside) in
+    let inside : ChangesOnly q n b b' = record { len = c.len; below = λ j l. c.below j (omega arith); above = λ j l. c.above j (omega arith) } in
+    let divides : IsDivided sizes b' xs = rw (number-below 2 0 c (omega arith)) (fill-written sizes b b' 8 _ xs q n h u inside keeps) in
     record {
       divides = divides;
       is = segment-is sizes b' xs divides w q n u ∙ ap (λ (t : List ℕ). Some t) (with-inside b bs q n o end within);
@@ -170,7 +173,7 @@ put-by p f m xs q n false is some whole ahead more found =
     put-behind-free p m xs (after_fill q (p + m) (after_take n xs)) q n (more found)
 
 -- a segment of n bytes that is put where the first hole of its size begins
-pub put-extents : (sizes : ℕ → ℕ) (b : List ℕ) (p f : ℕ) (xs : List Extent) (q n : ℕ) → Fill sizes b p f xs → AreWhole xs → 0 < n → hole_at n p xs ≡ Some q
+pub put-extents : (sizes : List SegmentSize) (b : List ℕ) (p f : ℕ) (xs : List Extent) (q n : ℕ) → Fill sizes b p f xs → AreWhole xs → 0 < n → hole_at n p xs ≡ Some q
     → HasPut p xs (after_fill q p (after_take n xs)) q n
 put-extents sizes b p f [] q n h w some found = absurd (cc)
 put-extents sizes b p f (free m ∷ xs) q n h w some found =
@@ -192,7 +195,7 @@ take-taken p (used m ∷ xs) q n found = take-taken (p + m) xs q n found
 take-taken p (taken m ∷ xs) q n found = inr (take-taken (p + m) xs q n found)
 
 -- A segment was put at a place of a block where there was none; all others are as they were.
-pub record IsPutIn (sizes : ℕ → ℕ) (b b' : List ℕ) (q : ℕ) (bs : List ℕ) : Type 0 where
+pub record IsPutIn (sizes : List SegmentSize) (b b' : List ℕ) (q : ℕ) (bs : List ℕ) : Type 0 where
   pub extents : List Extent
   pub divides : IsDivided sizes b' extents
   pub whole : AreWhole extents
@@ -203,9 +206,10 @@ pub record IsPutIn (sizes : ℕ → ℕ) (b b' : List ℕ) (q : ℕ) (bs : List 
   pub holes : largest_hole (parts_in sizes b') ≤ largest_hole (parts_in sizes b)
   pub rest : (k : ℕ) → length bs < k → k ≤ largest_hole (parts_in sizes b) → k - length bs ≤ largest_hole (parts_in sizes b')
 
-pub put-edits : (sizes : ℕ → ℕ) (b b1 : List ℕ) (xs : List Extent) (q : ℕ) (bs : List ℕ) → IsDivided sizes b xs → AreWhole xs → IsTaken sizes (length bs) b (Some q) b1
-    → 0 < length bs → sizes (slice_index bs 0) ≡ length bs → q + length bs ≤ length b1 → IsPutIn sizes b (with_bytes b1 q bs) q bs
-put-edits sizes b b1 xs q bs h w t some code fits =
+pub put-edits : (sizes : List SegmentSize) (b b1 : List ℕ) (xs : List Extent) (q : ℕ) (bs : List ℕ) → IsDivided sizes b xs → AreWhole xs → IsTaken sizes (length bs) b (Some q) b1
+    → 8 ≤ length bs → size_at sizes bs 0 ≡ length bs → q + length bs ≤ length b1 → IsPutIn sizes b (with_bytes b1 q bs) q bs
+put-edits sizes b b1 xs q bs h w t eight code fits =
+    let some : 0 < length bs = omega arith in
     let n : ℕ = length bs in
     let b2 : List ℕ = with_bytes b1 q bs in
     let found : hole_at n 8 xs ≡ Some q = sym (t.found xs h) in
@@ -213,9 +217,9 @@ put-edits sizes b b1 xs q bs h w t some code fits =
     let x = put-extents sizes b 8 _ xs q n h w some found in
     let c = changes-with b1 bs q fits in
     let ahead = x.ahead in
-    let first : slice_index b2 q ≡ slice_index bs 0 = ap (λ (i : ℕ). slice_index b2 i) (let e : q ≡ q + 0 = omega arith in e) ∙ put-byte b1 bs q 0 fits some in
+    let first : size_at sizes b2 q ≡ n = size-moved sizes bs b2 0 q n (λ k l. put-byte b1 bs q k fits l ∙ ap (slice_index bs) (let z : k ≡ 0 + k = omega arith in z)) eight code in
     let divides : IsDivided sizes b2 ys =
-    rw (number-below 2 0 c (omega arith)) (fill-filled sizes b1 b2 8 _ (after_take n xs) q n (t.after xs h) (take-taken 8 xs q n found) c (ap sizes first ∙ code)) in
+    rw (number-below 2 0 c (omega arith)) (fill-filled sizes b1 b2 8 _ (after_take n xs) q n (t.after xs h) (take-taken 8 xs q n found) c first) in
     let before = parts-divided sizes b xs h w in
     let after = parts-divided sizes b2 ys divides x.whole in
     record {
@@ -302,7 +306,7 @@ freed-by p m xs zs q n false is some whole ahead u more =
       holes = h.holes;
     }
 
-pub free-extents : (sizes : ℕ → ℕ) (b : List ℕ) (p f : ℕ) (xs : List Extent) (q n : ℕ) → Fill sizes b p f xs → AreWhole xs → UsedAt p xs q n → HasFreed p xs (after_give q p xs) q n
+pub free-extents : (sizes : List SegmentSize) (b : List ℕ) (p f : ℕ) (xs : List Extent) (q n : ℕ) → Fill sizes b p f xs → AreWhole xs → UsedAt p xs q n → HasFreed p xs (after_give q p xs) q n
 free-extents sizes b p f [] q n h w u = absurd u
 free-extents sizes b p f (taken m ∷ xs) q n h w u = absurd w
 free-extents sizes b p f (free m ∷ xs) q n h w u =
@@ -324,14 +328,14 @@ free-extents sizes b p f (used m ∷ xs) q n h w u =
     freed-by p m xs (after_give q (p + m) xs) q n (p == q) refl h.1.some w (λ r k v. used-ahead (p + m) xs r k v) u (free-extents sizes b (p + m) _ xs q n h.2 w)
 
 -- no hole is longer than the block
-pub largest-within : (sizes : ℕ → ℕ) (b : List ℕ) (p f : ℕ) (xs : List Extent) → Fill sizes b p f xs → largest_hole (parts_of p xs) ≤ length b
+pub largest-within : (sizes : List SegmentSize) (b : List ℕ) (p f : ℕ) (xs : List Extent) → Fill sizes b p f xs → largest_hole (parts_of p xs) ≤ length b
 largest-within sizes b p f [] h = omega arith
 largest-within sizes b p f (free m ∷ xs) h = let r = largest-within sizes b (p + m) _ xs h.2 in let w = fill-within sizes b (p + m) _ xs h.2 in omega arith
 largest-within sizes b p f (used m ∷ xs) h = largest-within sizes b (p + m) _ xs h.2
 largest-within sizes b p f (taken m ∷ xs) h = largest-within sizes b (p + m) _ xs h.3
 
 -- A segment of n bytes of a block was freed; all others are as they were.
-pub record IsFreeIn (sizes : ℕ → ℕ) (b b' : List ℕ) (q n : ℕ) : Type 0 where
+pub record IsFreeIn (sizes : List SegmentSize) (b b' : List ℕ) (q n : ℕ) : Type 0 where
   pub extents : List Extent
   pub divides : IsDivided sizes b' extents
   pub whole : AreWhole extents
@@ -342,7 +346,7 @@ pub record IsFreeIn (sizes : ℕ → ℕ) (b b' : List ℕ) (q n : ℕ) : Type 0
   pub holes : largest_hole (parts_in sizes b) ≤ largest_hole (parts_in sizes b')
   pub most : largest_hole (parts_in sizes b') ≤ length b'
 
-pub free-edits : (sizes : ℕ → ℕ) (b b' : List ℕ) (xs : List Extent) (q n : ℕ) → IsDivided sizes b xs → AreWhole xs → UsedAt 8 xs q n → IsGiven sizes q n b b' → IsFreeIn sizes b b' q n
+pub free-edits : (sizes : List SegmentSize) (b b' : List ℕ) (xs : List Extent) (q n : ℕ) → IsDivided sizes b xs → AreWhole xs → UsedAt 8 xs q n → IsGiven sizes q n b b' → IsFreeIn sizes b b' q n
 free-edits sizes b b' xs q n h w u t =
     let zs : List Extent = after_give q 8 xs in
     let x = free-extents sizes b 8 _ xs q n h w u in
@@ -381,5 +385,5 @@ largest-parts p (used m ∷ xs) = largest-parts (p + m) xs
 largest-parts p (taken m ∷ xs) = largest-parts (p + m) xs
 
 -- and that of a divided block is that of its extents
-pub largest-divided : (sizes : ℕ → ℕ) (b : List ℕ) (x : HasExtents sizes b) → largest_hole (parts_in sizes b) ≡ largest_free x.extents
+pub largest-divided : (sizes : List SegmentSize) (b : List ℕ) (x : HasExtents sizes b) → largest_hole (parts_in sizes b) ≡ largest_free x.extents
 largest-divided sizes b x = ap largest_hole (parts-divided sizes b x.extents x.divides x.whole) ∙ largest-parts 8 x.extents

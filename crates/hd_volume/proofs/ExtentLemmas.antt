@@ -11,15 +11,17 @@ use Rattle.hd_block.proofs.Walk.{fill-within}
 use Rattle.hd_block.proofs.FrameLemmas.{used-ahead}
 use Rattle.hd_block.proofs.PartLemmas.{parts-divided}
 use Rattle.hd_volume.specs.Records.{used_at, segment_in}
+use Rattle.hd_dbd.specs.declared.facts.SegmentSize.{SegmentSize}
+use Rattle.hd_block.specs.Sizes.{size_at}
 
 -- A segment of a division takes as many bytes as its code says, and ends in the block.
-pub record IsUsed (sizes : ℕ → ℕ) (b : List ℕ) (p q n : ℕ) : Type 0 where
-  pub size : sizes (slice_index b q) ≡ n
+pub record IsUsed (sizes : List SegmentSize) (b : List ℕ) (p q n : ℕ) : Type 0 where
+  pub size : size_at sizes b q ≡ n
   pub some : 8 ≤ n
   pub within : q + n ≤ length b
   pub ahead : p ≤ q
 
-pub used-is : (sizes : ℕ → ℕ) (b : List ℕ) (p f : ℕ) (xs : List Extent) (q n : ℕ) → Fill sizes b p f xs → UsedAt p xs q n → IsUsed sizes b p q n
+pub used-is : (sizes : List SegmentSize) (b : List ℕ) (p f : ℕ) (xs : List Extent) (q n : ℕ) → Fill sizes b p f xs → UsedAt p xs q n → IsUsed sizes b p q n
 used-is sizes b p f [] q n h u = absurd u
 used-is sizes b p f (free m ∷ xs) q n h u =
     let r = used-is sizes b (p + m) _ xs q n h.2 u in let some = h.1.element.some in
@@ -30,7 +32,7 @@ used-is sizes b p f (taken m ∷ xs) q n h u =
 used-is sizes b p f (used m ∷ xs) q n h (inl e) =
     let within = fill-within sizes b (p + m) f xs h.2 in
     let some = h.1.some in
-    record { size = ap (λ (k : ℕ). sizes (slice_index b k)) (sym e.0) ∙ h.1.size ∙ e.1; some = omega arith; within = omega arith; ahead = omega arith }
+    record { size = ap (λ (k : ℕ). size_at sizes b k) (sym e.0) ∙ h.1.size ∙ e.1; some = omega arith; within = omega arith; ahead = omega arith }
 used-is sizes b p f (used m ∷ xs) q n h (inr u) =
     let r = used-is sizes b (p + m) _ xs q n h.2 u in
     let ahead = r.ahead in record { size = r.size; some = r.some; within = r.within; ahead = omega arith }
@@ -48,7 +50,7 @@ found-used p (used m ∷ xs) q n e =
     ]
 
 -- and a segment at a place is found there
-pub used-found : (sizes : ℕ → ℕ) (b : List ℕ) (p f : ℕ) (xs : List Extent) (q n : ℕ) → Fill sizes b p f xs → UsedAt p xs q n → used_at (parts_of p xs) q ≡ Some n
+pub used-found : (sizes : List SegmentSize) (b : List ℕ) (p f : ℕ) (xs : List Extent) (q n : ℕ) → Fill sizes b p f xs → UsedAt p xs q n → used_at (parts_of p xs) q ≡ Some n
 used-found sizes b p f [] q n h u = absurd u
 used-found sizes b p f (free m ∷ xs) q n h u = used-found sizes b (p + m) _ xs q n h.2 u
 used-found sizes b p f (taken m ∷ xs) q n h u = used-found sizes b (p + m) _ xs q n h.3 u
@@ -72,7 +74,7 @@ some-of : (b : List ℕ) (q : ℕ) (s : List ℕ) (o : Option ℕ) → option_ma
 some-of b q s None e = absurd (cc)
 some-of b q s (Some n) e = (n, refl, let same : bytes_at b q n ≡ s = cc in same)
 
-module _ (sizes : ℕ → ℕ) (b : List ℕ) (xs : List Extent) (divides : IsDivided sizes b xs) (whole : AreWhole xs) where
+module _ (sizes : List SegmentSize) (b : List ℕ) (xs : List Extent) (divides : IsDivided sizes b xs) (whole : AreWhole xs) where
   parts-are : parts_in sizes b ≡ parts_of 8 xs
   parts-are = parts-divided sizes b xs divides whole
 
@@ -93,7 +95,7 @@ module _ (sizes : ℕ → ℕ) (b : List ℕ) (xs : List Extent) (divides : IsDi
   pub segment-none : (q : ℕ) → ((n : ℕ) → UsedAt 8 xs q n → ⊥) → segment_in sizes b q ≡ None
   segment-none q h = ap (λ parts. option_map (λ m. bytes_at b q m) (used_at parts q)) parts-are ∙ ap (option_map (λ m. bytes_at b q m)) (not-found 8 xs q h)
 
-same-by : (sizes : ℕ → ℕ) (b b' : List ℕ) (xs ys : List Extent) (h : IsDivided sizes b xs) (k : IsDivided sizes b' ys) (w : AreWhole xs) (z : AreWhole ys) (q : ℕ) (o : Option ℕ)
+same-by : (sizes : List SegmentSize) (b b' : List ℕ) (xs ys : List Extent) (h : IsDivided sizes b xs) (k : IsDivided sizes b' ys) (w : AreWhole xs) (z : AreWhole ys) (q : ℕ) (o : Option ℕ)
     → used_at (parts_of 8 xs) q ≡ o → ((n : ℕ) → UsedAt 8 xs q n → UsedAt 8 ys q n × AgreeOn q n b b') → ((n : ℕ) → UsedAt 8 ys q n → UsedAt 8 xs q n)
     → segment_in sizes b' q ≡ segment_in sizes b q
 same-by sizes b b' xs ys h k w z q (Some n) is on back =
@@ -107,7 +109,7 @@ same-by sizes b b' xs ys h k w z q None is on back =
     segment-none sizes b' ys k z q (λ n v. none n (back n v)) ∙ sym (segment-none sizes b xs h w q none)
 
 -- where two blocks have the same segment at a place, with the same bytes, or none
-pub segment-same : (sizes : ℕ → ℕ) (b b' : List ℕ) (xs ys : List Extent) → IsDivided sizes b xs → IsDivided sizes b' ys → AreWhole xs → AreWhole ys → (q : ℕ)
+pub segment-same : (sizes : List SegmentSize) (b b' : List ℕ) (xs ys : List Extent) → IsDivided sizes b xs → IsDivided sizes b' ys → AreWhole xs → AreWhole ys → (q : ℕ)
     → ((n : ℕ) → UsedAt 8 xs q n → UsedAt 8 ys q n × AgreeOn q n b b') → ((n : ℕ) → UsedAt 8 ys q n → UsedAt 8 xs q n)
     → segment_in sizes b' q ≡ segment_in sizes b q
 segment-same sizes b b' xs ys h k w z q on back = same-by sizes b b' xs ys h k w z q (used_at (parts_of 8 xs) q) refl on back

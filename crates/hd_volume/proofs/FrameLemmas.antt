@@ -16,6 +16,7 @@ use Rattle.hd_volume.specs.Rooms.{is_free, one_if, free_below, spare, largest_ho
 use Rattle.hd_volume.specs.Spaces.{blocks_in, content_at, IsSpaceOf}
 use Rattle.hd_volume.specs.Calls.{KeepsHoles}
 use Rattle.hd_volume.proofs.MapLemmas.{past-end}
+use Rattle.hd_dbd.specs.declared.facts.SegmentSize.{SegmentSize}
 
 -- ---- the header
 
@@ -129,43 +130,43 @@ module _ {v w : VolumeState} {n : ℕ} (c : HasChanged v w n) (header : HasHeade
 
   -- a block that keeps its kind and has extents, if it is for data, leaves the volume formatted
   pub keeps-formatted : IsFormatted v → header_of w.image ≡ header_of v.image → kind_of (block_of v.size w.image n) ≡ kind_of (block_at v n)
-      → (kind_of (block_at v n) ≡ 1 → HasExtents (slice_index v.sizes) (block_of v.size w.image n)) → IsFormatted w
+      → (kind_of (block_at v n) ≡ 1 → HasExtents v.sizes (block_of v.size w.image n)) → IsFormatted w
   keeps-formatted f same own extents = record {
     header = has-header same;
     divided = λ m k.
         let back = kind-back c.same 1 m c.change.len (keeps-kinds own m) k in
-        let P : List ℕ → Type 0 = λ b. HasExtents (slice_index w.sizes) b in
-        let Q : List ℕ → Type 0 = λ z. HasExtents (slice_index z) (block_of v.size w.image m) in
+        let P : List ℕ → Type 0 = λ b. HasExtents w.sizes b in
+        let Q : List SegmentSize → Type 0 = λ z. HasExtents z (block_of v.size w.image m) in
         subst P (sym (block-seen c.same m)) (subst Q (sym c.same.sizes)
         (elim (cases_eq m n) [
-          | inl e ↦ (let R : ℕ → Type 0 = λ i. HasExtents (slice_index v.sizes) (block_of v.size w.image i) in
+          | inl e ↦ (let R : ℕ → Type 0 = λ i. HasExtents v.sizes (block_of v.size w.image i) in
               let own_kind : kind_of (block_at v n) ≡ 1 = ap (λ (i : ℕ). kind_of (block_at v i)) (sym e) ∙ back.kind_is in subst R (sym e) (extents own_kind))
-          | inr other ↦ (let R : List ℕ → Type 0 = λ b. HasExtents (slice_index v.sizes) b in subst R (sym (other-blocks m other)) (f.divided m back))
+          | inr other ↦ (let R : List ℕ → Type 0 = λ b. HasExtents v.sizes b in subst R (sym (other-blocks m other)) (f.divided m back))
         ]));
   }
 
   -- where no hole of the block becomes smaller, none does
   pub keeps-holes : kind_of (block_of v.size w.image n) ≡ kind_of (block_at v n)
-      → (kind_of (block_at v n) ≡ 1 → largest_hole (parts_in (slice_index v.sizes) (block_at v n)) ≤ largest_hole (parts_in (slice_index v.sizes) (block_of v.size w.image n))) → KeepsHoles v w
+      → (kind_of (block_at v n) ≡ 1 → largest_hole (parts_in v.sizes (block_at v n)) ≤ largest_hole (parts_in v.sizes (block_of v.size w.image n))) → KeepsHoles v w
   keeps-holes own more k h =
       let m : ℕ = h.block in
       let on = kind-on c.same 1 m c.change.len (keeps-kinds own m) h.is_data in
-      let large : k ≤ largest_hole (parts_in (slice_index v.sizes) (block_of v.size w.image m)) =
+      let large : k ≤ largest_hole (parts_in v.sizes (block_of v.size w.image m)) =
       elim (cases_eq m n) [
-        | inl e ↦ (let R : ℕ → Type 0 = λ i. k ≤ largest_hole (parts_in (slice_index v.sizes) (block_of v.size w.image i)) in
+        | inl e ↦ (let R : ℕ → Type 0 = λ i. k ≤ largest_hole (parts_in v.sizes (block_of v.size w.image i)) in
             let is : kind_of (block_at v n) ≡ 1 = ap (λ (i : ℕ). kind_of (block_at v i)) (sym e) ∙ h.is_data.kind_is in
-            let big : k ≤ largest_hole (parts_in (slice_index v.sizes) (block_at v n)) = (let S : ℕ → Type 0 = λ i. k ≤ largest_hole (parts_in (slice_index v.sizes) (block_at v i)) in subst S e h.large) in
+            let big : k ≤ largest_hole (parts_in v.sizes (block_at v n)) = (let S : ℕ → Type 0 = λ i. k ≤ largest_hole (parts_in v.sizes (block_at v i)) in subst S e h.large) in
             let up = more is in subst R (sym e) (omega arith))
-        | inr other ↦ (let R : List ℕ → Type 0 = λ b. k ≤ largest_hole (parts_in (slice_index v.sizes) b) in subst R (sym (other-blocks m other)) h.large)
+        | inr other ↦ (let R : List ℕ → Type 0 = λ b. k ≤ largest_hole (parts_in v.sizes b) in subst R (sym (other-blocks m other)) h.large)
       ]
       in
-      let P : List ℕ → Type 0 = λ b. k ≤ largest_hole (parts_in (slice_index w.sizes) b) in
-      let Q : List ℕ → Type 0 = λ z. k ≤ largest_hole (parts_in (slice_index z) (block_of v.size w.image m)) in
+      let P : List ℕ → Type 0 = λ b. k ≤ largest_hole (parts_in w.sizes b) in
+      let Q : List SegmentSize → Type 0 = λ z. k ≤ largest_hole (parts_in z (block_of v.size w.image m)) in
       record { block = m; is_data = on; large = subst P (sym (block-seen c.same m)) (subst Q (sym c.same.sizes) large) }
 
   -- what is kept of the blocks stays true where the block keeps its kind and its holes are not above the bound
   pub keeps-space : (space : Space) → IsSpaceOf v.size v.sizes v.image space → kind_of (block_of v.size w.image n) ≡ kind_of (block_at v n)
-      → (kind_of (block_at v n) ≡ 1 → n < blocks_in v.size v.image → largest_hole (parts_in (slice_index v.sizes) (block_of v.size w.image n)) ≤ (content_at space n).hole)
+      → (kind_of (block_at v n) ≡ 1 → n < blocks_in v.size v.image → largest_hole (parts_in v.sizes (block_of v.size w.image n)) ≤ (content_at space n).hole)
       → IsSpaceOf v.size v.sizes w.image space
   keeps-space space h own bound =
       let blocks : blocks_in v.size w.image ≡ blocks_in v.size v.image = ap (λ (k : ℕ). min (k / v.size) 65536) c.change.len in
@@ -177,9 +178,9 @@ module _ {v w : VolumeState} {n : ℕ} (c : HasChanged v w n) (header : HasHeade
             record {
               kind_is = old.kind_is ∙ sym (keeps-kinds own m);
               bound = λ is. elim (cases_eq m n) [
-                | inl e ↦ (let P : ℕ → Type 0 = λ i. largest_hole (parts_in (slice_index v.sizes) (block_of v.size w.image i)) ≤ (content_at space i).hole in
+                | inl e ↦ (let P : ℕ → Type 0 = λ i. largest_hole (parts_in v.sizes (block_of v.size w.image i)) ≤ (content_at space i).hole in
                     let one : kind_of (block_at v n) ≡ 1 = ap (λ (i : ℕ). kind_of (block_at v i)) (sym e) ∙ sym old.kind_is ∙ is in subst P (sym e) (bound one (omega arith)))
-                | inr other ↦ (let P : List ℕ → Type 0 = λ b. largest_hole (parts_in (slice_index v.sizes) b) ≤ (content_at space m).hole in subst P (sym (other-blocks m other)) (old.bound is))
+                | inr other ↦ (let P : List ℕ → Type 0 = λ b. largest_hole (parts_in v.sizes b) ≤ (content_at space m).hole in subst P (sym (other-blocks m other)) (old.bound is))
               ];
             };
         lowest = λ k m some low below. h.lowest k m some low (rw blocks at below);

@@ -25,6 +25,7 @@ use Rattle.hd_volume.proofs.EditLemmas.{put-byte}
 use Rattle.hd_volume.specs.Calls as call
 use Rattle.hd_volume.proofs.FrameLemmas.{AreSame, HasChanged, block-seen, find-frame, free-same, other-blocks, other-segments, kind-back, kind-on}
 use Rattle.hd_volume.proofs.SpaceLemmas.{number-in-first, free-more, one-most, content-before, content-last}
+use Rattle.hd_dbd.specs.declared.facts.SegmentSize.{SegmentSize}
 
 -- ---- one number of the header
 
@@ -207,9 +208,9 @@ module _ {v w : VolumeState} (g : IsGrown v w) (f : IsFormatted v) (positive : 0
               let old = grown-kind 1 m k (λ e. omega arith) in
               let later : m ≢ 0 = (let l = k.later in λ e. omega arith) in
               let apart : m ≢ (header_of v.image).count = λ e. (let t = old.kind_is in let none : kind_of (block_at v m) ≡ 0 = ap kind_of (past-old m (omega arith)) in omega arith) in
-              let P : List ℕ → Type 0 = λ b. HasExtents (slice_index w.sizes) b in
-              let Q : List ℕ → Type 0 = λ z. HasExtents (slice_index z) (block_of v.size w.image m) in
-              let R : List ℕ → Type 0 = λ b. HasExtents (slice_index v.sizes) b in
+              let P : List ℕ → Type 0 = λ b. HasExtents w.sizes b in
+              let Q : List SegmentSize → Type 0 = λ z. HasExtents z (block_of v.size w.image m) in
+              let R : List ℕ → Type 0 = λ b. HasExtents v.sizes b in
               subst P (sym (block-seen g.same m)) (subst Q (sym g.same.sizes) (subst R (sym (grown-block m later apart)) (f.divided m old)));
         };
         is = record { there = rw g.same.size grown-there; later = some; kind_is = ap kind_of (block-seen g.same (header_of v.image).count) ∙ g.kind };
@@ -226,9 +227,9 @@ module _ {v w : VolumeState} (g : IsGrown v w) (f : IsFormatted v) (positive : 0
             let later : m ≢ 0 = (let l = h.is_data.later in λ e. omega arith) in
             let apart : m ≢ (header_of v.image).count = λ e. (let t = h.is_data.kind_is in let none : kind_of (block_at v m) ≡ 0 = ap kind_of (past-old m (omega arith)) in omega arith) in
             let same = grown-block m later apart in
-            let P : List ℕ → Type 0 = λ b. k ≤ largest_hole (parts_in (slice_index w.sizes) b) in
-            let Q : List ℕ → Type 0 = λ z. k ≤ largest_hole (parts_in (slice_index z) (block_of v.size w.image m)) in
-            let R : List ℕ → Type 0 = λ b. k ≤ largest_hole (parts_in (slice_index v.sizes) b) in
+            let P : List ℕ → Type 0 = λ b. k ≤ largest_hole (parts_in w.sizes b) in
+            let Q : List SegmentSize → Type 0 = λ z. k ≤ largest_hole (parts_in z (block_of v.size w.image m)) in
+            let R : List ℕ → Type 0 = λ b. k ≤ largest_hole (parts_in v.sizes b) in
             record {
               block = m;
               is_data = record {
@@ -261,12 +262,12 @@ grown-space {v} {w} g f positive space new h contents len lowest free-is low-fre
       len = omega (arith, h.len);
       contents = λ m some under. elim (cases_lt m n) [
         | inl l ↦ (let old = h.contents m some (omega arith) in
-            let R : Content → Type 0 = λ y. IsContent (slice_index v.sizes) (block_of v.size w.image m) y in
-            let S : List ℕ → Type 0 = λ b. IsContent (slice_index v.sizes) b (content_at space m) in
+            let R : Content → Type 0 = λ y. IsContent v.sizes (block_of v.size w.image m) y in
+            let S : List ℕ → Type 0 = λ b. IsContent v.sizes b (content_at space m) in
             subst R (sym (before m l)) (subst S (sym (grown-block g f positive m (λ e. omega arith) (λ e. omega arith))) old))
         | inr high ↦ (let here : m ≡ n = omega arith in
             let own : content_at new m ≡ x = ap (λ (xs : List Content). slice_index_or xs m d) contents ∙ content-last space.contents.items x d m (omega arith) in
-            let R : Content → Type 0 = λ y. IsContent (slice_index v.sizes) (block_of v.size w.image m) y in
+            let R : Content → Type 0 = λ y. IsContent v.sizes (block_of v.size w.image m) y in
             let kind : kind_of (block_of v.size w.image m) ≡ 3 = ap (λ (i : ℕ). kind_of (block_of v.size w.image i)) here ∙ g.kind in
             subst R (sym own) (record { kind_is = sym kind; bound = λ e. absurd (cc) }))
       ];
@@ -377,9 +378,9 @@ module _ (v w : VolumeState) (h : Header) (f : IsFormatted v) (positive : 0 < v.
           };
           divided = λ m k.
               let some : m ≢ 0 = (let l = k.later in λ e. omega arith) in
-              let P : List ℕ → Type 0 = λ b. HasExtents (slice_index w.sizes) b in
-              let Q : List ℕ → Type 0 = λ z. HasExtents (slice_index z) (block_of v.size w.image m) in
-              let R : List ℕ → Type 0 = λ b. HasExtents (slice_index v.sizes) b in
+              let P : List ℕ → Type 0 = λ b. HasExtents w.sizes b in
+              let Q : List SegmentSize → Type 0 = λ z. HasExtents z (block_of v.size w.image m) in
+              let R : List ℕ → Type 0 = λ b. HasExtents v.sizes b in
               subst P (sym (block-seen c.same m)) (subst Q (sym c.same.sizes) (subst R (sym (other-blocks c f.header m some)) (f.divided m (kind-back c.same 1 m len (set-kinds m some) k))));
         };
         is = is;
@@ -394,9 +395,9 @@ module _ (v w : VolumeState) (h : Header) (f : IsFormatted v) (positive : 0 < v.
         holes = λ k x.
             let m : ℕ = x.block in
             let some : m ≢ 0 = (let l = x.is_data.later in λ e. omega arith) in
-            let P : List ℕ → Type 0 = λ b. k ≤ largest_hole (parts_in (slice_index w.sizes) b) in
-            let Q : List ℕ → Type 0 = λ z. k ≤ largest_hole (parts_in (slice_index z) (block_of v.size w.image m)) in
-            let R : List ℕ → Type 0 = λ b. k ≤ largest_hole (parts_in (slice_index v.sizes) b) in
+            let P : List ℕ → Type 0 = λ b. k ≤ largest_hole (parts_in w.sizes b) in
+            let Q : List SegmentSize → Type 0 = λ z. k ≤ largest_hole (parts_in z (block_of v.size w.image m)) in
+            let R : List ℕ → Type 0 = λ b. k ≤ largest_hole (parts_in v.sizes b) in
             record { block = m; is_data = kind-on c.same 1 m len (set-kinds m some) x.is_data; large = subst P (sym (block-seen c.same m)) (subst Q (sym c.same.sizes) (subst R (sym (other-blocks c f.header m some)) x.large)) };
       }
 
@@ -407,7 +408,7 @@ set-space v w space f c h =
     record {
       len = h.len ∙ sym blocks;
       contents = λ m some below.
-          (let R : List ℕ → Type 0 = λ b. IsContent (slice_index v.sizes) b (content_at space m) in
+          (let R : List ℕ → Type 0 = λ b. IsContent v.sizes b (content_at space m) in
           subst R (sym (other-blocks c f.header m (λ e. omega arith))) (h.contents m some (rw blocks at below)));
       lowest = λ k m some low below. h.lowest k m some low (rw blocks at below);
       free = h.free ∙ (let e : free_below v.size v.image (blocks_in v.size v.image) ≡ free_below v.size w.image (blocks_in v.size w.image) =

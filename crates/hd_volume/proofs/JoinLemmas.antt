@@ -20,6 +20,7 @@ use Rattle.hd_volume.proofs.FrameLemmas.{AreSame, block-seen}
 use Rattle.hd_volume.proofs.MapLemmas.{kind-there}
 use Rattle.std.proofs.lemmas.Nat.{row_fits}
 use Rattle.hd_volume.proofs.KindLemmas.{none-free, some-free}
+use Rattle.hd_dbd.specs.declared.facts.SegmentSize.{SegmentSize}
 
 -- ---- one image
 
@@ -46,8 +47,8 @@ module _ {v w : VolumeState} (o : AreOne v w) where
   one-formatted f = record {
     header = (let P : List ℕ → Type 0 = λ i. HasHeader w.size i in let Q : ℕ → Type 0 = λ z. HasHeader z v.image in subst P (sym o.image) (subst Q (sym o.same.size) f.header));
     divided = λ n k.
-        let P : List ℕ → Type 0 = λ b. HasExtents (slice_index w.sizes) b in
-        let Q : List ℕ → Type 0 = λ z. HasExtents (slice_index z) (block_at v n) in
+        let P : List ℕ → Type 0 = λ b. HasExtents w.sizes b in
+        let Q : List SegmentSize → Type 0 = λ z. HasExtents z (block_at v n) in
         subst P (sym (one-block n)) (subst Q (sym o.same.sizes) (f.divided n (one-back 1 n k)));
   }
 
@@ -59,8 +60,8 @@ module _ {v w : VolumeState} (o : AreOne v w) where
 
   pub one-room : (n need : ℕ) → step.HasRoom v n need → step.HasRoom w n need
   one-room n need r =
-      let P : List ℕ → Type 0 = λ b. need ≤ largest_hole (parts_in (slice_index w.sizes) b) in
-      let Q : List ℕ → Type 0 = λ z. need ≤ largest_hole (parts_in (slice_index z) (block_at v n)) in
+      let P : List ℕ → Type 0 = λ b. need ≤ largest_hole (parts_in w.sizes b) in
+      let Q : List SegmentSize → Type 0 = λ z. need ≤ largest_hole (parts_in z (block_at v n)) in
       record { is_data = one-kind 1 n r.is_data; large = subst P (sym (one-block n)) (subst Q (sym o.same.sizes) r.large) }
 
   pub one-holes : KeepsHoles v w
@@ -207,7 +208,7 @@ put-from {u} {v} {w} n need a bs size s r p need-is =
 -- ---- seeking a free block
 
 -- what is kept stays true where the lowest free block is noted
-pub sought-space : (size : ℕ) (sizes image : List ℕ) (space new : Space) (r : ℕ) → IsSpaceOf size sizes image space → new.contents ≡ space.contents → new.lowest ≡ space.lowest → new.free ≡ space.free
+pub sought-space : (size : ℕ) (sizes : List SegmentSize) (image : List ℕ) (space new : Space) (r : ℕ) → IsSpaceOf size sizes image space → new.contents ≡ space.contents → new.lowest ≡ space.lowest → new.free ≡ space.free
     → (0 < r → (r < vec_len space.contents) × ((content_at space r).kind ≡ 3) × (new.lowest_free ≡ r) × ((m : ℕ) → 0 < m → space.lowest_free ≤ m → m < r → (content_at space m).kind ≡ 3 → ⊥))
     → (r ≡ 0 → (new.lowest_free ≡ space.lowest_free) × ((m : ℕ) → 0 < m → space.lowest_free ≤ m → m < vec_len space.contents → (content_at space m).kind ≡ 3 → ⊥))
     → IsSpaceOf size sizes image new

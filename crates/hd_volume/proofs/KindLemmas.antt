@@ -26,6 +26,7 @@ use Rattle.hd_volume.specs.Calls as call
 use Rattle.hd_volume.proofs.EditLemmas.{put-byte}
 use Rattle.hd_volume.proofs.FrameLemmas.{HasChanged, block-seen, kind-back, kind-on, other-blocks, other-segments, keeps-header, has-header, keeps-space}
 use Rattle.hd_volume.proofs.CallLemmas.{find-new, looked-at, content-own, content-other}
+use Rattle.hd_dbd.specs.declared.facts.SegmentSize.{SegmentSize}
 
 -- ---- counting free blocks
 
@@ -87,25 +88,25 @@ none-free size a (suc N) h =
 
 module _ {v w : VolumeState} {n : ℕ} (c : HasChanged v w n) (f : IsFormatted v) (was : kind_of (block_at v n) ≢ 1) where
   -- the volume stays formatted, if the block is divided where it is now for data
-  pub made-formatted : header_of w.image ≡ header_of v.image → (kind_of (block_of v.size w.image n) ≡ 1 → HasExtents (slice_index v.sizes) (block_of v.size w.image n)) → IsFormatted w
+  pub made-formatted : header_of w.image ≡ header_of v.image → (kind_of (block_of v.size w.image n) ≡ 1 → HasExtents v.sizes (block_of v.size w.image n)) → IsFormatted w
   made-formatted same extents = record {
     header = has-header c f.header same;
     divided = λ m k.
-        let P : List ℕ → Type 0 = λ b. HasExtents (slice_index w.sizes) b in
-        let Q : List ℕ → Type 0 = λ z. HasExtents (slice_index z) (block_of v.size w.image m) in
+        let P : List ℕ → Type 0 = λ b. HasExtents w.sizes b in
+        let Q : List SegmentSize → Type 0 = λ z. HasExtents z (block_of v.size w.image m) in
         let kind : kind_of (block_of v.size w.image m) ≡ 1 = ap kind_of (sym (block-seen c.same m)) ∙ k.kind_is in
         subst P (sym (block-seen c.same m)) (subst Q (sym c.same.sizes)
         (elim (cases_eq m n) [
-          | inl e ↦ (let R : ℕ → Type 0 = λ i. HasExtents (slice_index v.sizes) (block_of v.size w.image i) in
+          | inl e ↦ (let R : ℕ → Type 0 = λ i. HasExtents v.sizes (block_of v.size w.image i) in
               subst R (sym e) (extents (ap (λ (i : ℕ). kind_of (block_of v.size w.image i)) (sym e) ∙ kind)))
-          | inr other ↦ (let R : List ℕ → Type 0 = λ b. HasExtents (slice_index v.sizes) b in
+          | inr other ↦ (let R : List ℕ → Type 0 = λ b. HasExtents v.sizes b in
               let own : kind_of (block_of v.size w.image m) ≡ kind_of (block_at v m) = ap kind_of (other-blocks c f.header m other) in
               subst R (sym (other-blocks c f.header m other)) (f.divided m (kind-back c.same 1 m c.change.len own k)))
         ]));
   }
 
   -- and all segments stay, if there is none in the block
-  pub made-segments : (kind_of (block_of v.size w.image n) ≡ 1 → (p : ℕ) → segment_in (slice_index v.sizes) (block_of v.size w.image n) p ≡ None) → KeepsSegments v w
+  pub made-segments : (kind_of (block_of v.size w.image n) ≡ 1 → (p : ℕ) → segment_in v.sizes (block_of v.size w.image n) p ≡ None) → KeepsSegments v w
   made-segments none a =
       elim (cases_eq (a / v.size) n) [
         | inr other ↦ other-segments c f.header a other
@@ -114,7 +115,7 @@ module _ {v w : VolumeState} {n : ℕ} (c : HasChanged v w n) (f : IsFormatted v
           | inr some ↦
               (let before : find v a ≡ None = gone v a some (λ e. was (ap (λ (i : ℕ). kind_of (block_at v i)) (sym here) ∙ e)) in
               elim (cases_eq (kind_of (block_of v.size w.image (a / v.size))) 1) [
-                | inl is ↦ find-new v w c.same a some is ∙ (let P : ℕ → Type 0 = λ i. segment_in (slice_index v.sizes) (block_of v.size w.image i) (a % v.size) ≡ None in
+                | inl is ↦ find-new v w c.same a some is ∙ (let P : ℕ → Type 0 = λ i. segment_in v.sizes (block_of v.size w.image i) (a % v.size) ≡ None in
                     subst P (sym here) (none (ap (λ (i : ℕ). kind_of (block_of v.size w.image i)) (sym here) ∙ is) (a % v.size))) ∙ sym before
                 | inr isnt ↦ (let after : find w a ≡ None = rw (c.same.size, c.same.sizes, ne_eqb (a / v.size) 0 some, ne_eqb (kind_of (block_of v.size w.image (a / v.size))) 1 isnt) refl in after ∙ sym before)
               ])
@@ -132,9 +133,9 @@ module _ {v w : VolumeState} {n : ℕ} (c : HasChanged v w n) (f : IsFormatted v
       let m : ℕ = h.block in
       let other : m ≢ n = λ e. was (ap (λ (i : ℕ). kind_of (block_at v i)) (sym e) ∙ h.is_data.kind_is) in
       let same = other-blocks c f.header m other in
-      let P : List ℕ → Type 0 = λ b. k ≤ largest_hole (parts_in (slice_index w.sizes) b) in
-      let Q : List ℕ → Type 0 = λ z. k ≤ largest_hole (parts_in (slice_index z) (block_of v.size w.image m)) in
-      let R : List ℕ → Type 0 = λ b. k ≤ largest_hole (parts_in (slice_index v.sizes) b) in
+      let P : List ℕ → Type 0 = λ b. k ≤ largest_hole (parts_in w.sizes b) in
+      let Q : List SegmentSize → Type 0 = λ z. k ≤ largest_hole (parts_in z (block_of v.size w.image m)) in
+      let R : List ℕ → Type 0 = λ b. k ≤ largest_hole (parts_in v.sizes b) in
       record {
         block = m;
         is_data = kind-on c.same 1 m c.change.len (ap kind_of same) h.is_data;
@@ -154,7 +155,7 @@ module _ {v w : VolumeState} {n : ℕ} (c : HasChanged v w n) (f : IsFormatted v
 
 -- what is kept stays true where another content of the block is noted
 pub made-space : (v w : VolumeState) (n : ℕ) (space new : Space) (x : Content) → HasChanged v w n → HasHeader v.size v.image → IsSpaceOf v.size v.sizes v.image space → n ≢ 0 → n < blocks_in v.size v.image
-    → new.contents.items ≡ slice_set space.contents.items n x → vec_len new.contents ≡ vec_len space.contents → IsContent (slice_index v.sizes) (block_of v.size w.image n) x
+    → new.contents.items ≡ slice_set space.contents.items n x → vec_len new.contents ≡ vec_len space.contents → IsContent v.sizes (block_of v.size w.image n) x
     → ((c : ℕ) → slice_index new.lowest.items c ≤ slice_index space.lowest.items c) → (x.kind ≡ 1 → (c : ℕ) → slice_index new.lowest.items c ≤ n)
     → new.free + one_if (is_free v.size v.image n) ≡ space.free + one_if (is_free v.size w.image n)
     → new.lowest_free ≤ space.lowest_free → (kind_of (block_of v.size w.image n) ≡ 3 → new.lowest_free ≤ n) → IsSpaceOf v.size v.sizes w.image new
@@ -165,12 +166,12 @@ made-space v w n space new x c header h some below contents len own lower opened
     record {
       len = len ∙ h.len ∙ sym blocks;
       contents = λ m more under. elim (cases_eq m n) [
-        | inl e ↦ (let P : ℕ → Type 0 = λ i. IsContent (slice_index v.sizes) (block_of v.size w.image i) (content_at new i) in
-            let R : Content → Type 0 = λ y. IsContent (slice_index v.sizes) (block_of v.size w.image n) y in
+        | inl e ↦ (let P : ℕ → Type 0 = λ i. IsContent v.sizes (block_of v.size w.image i) (content_at new i) in
+            let R : Content → Type 0 = λ y. IsContent v.sizes (block_of v.size w.image n) y in
             subst P (sym e) (subst R (sym mine) own))
         | inr other ↦ (let old = h.contents m more (rw blocks at under) in
-            let R : Content → Type 0 = λ y. IsContent (slice_index v.sizes) (block_of v.size w.image m) y in
-            let S : List ℕ → Type 0 = λ b. IsContent (slice_index v.sizes) b (content_at space m) in
+            let R : Content → Type 0 = λ y. IsContent v.sizes (block_of v.size w.image m) y in
+            let S : List ℕ → Type 0 = λ b. IsContent v.sizes b (content_at space m) in
             subst R (sym (content-other space new n m x contents other)) (subst S (sym (other-blocks c header m other)) old))
       ];
       lowest = λ k m more under beneath is-data.
@@ -207,7 +208,7 @@ fresh-number : (b : List ℕ) (high low : ℕ) → (number_at 2 (with_bytes b 0 
 unfolding number_at
 fresh-number b high low = (refl, omega arith, refl, refl)
 
-pub fresh-divides : (sizes : ℕ → ℕ) (b : List ℕ) (size high low : ℕ) → length b ≡ size → 128 ≤ size → size % 8 ≡ 0 → high * 256 + low ≡ size - 8
+pub fresh-divides : (sizes : List SegmentSize) (b : List ℕ) (size high low : ℕ) → length b ≡ size → 128 ≤ size → size % 8 ≡ 0 → high * 256 + low ≡ size - 8
     → IsDivided sizes (with_bytes b 0 (data_head high low)) (free (size - 8) ∷ [])
 fresh-divides sizes b size high low len least whole is =
     let b' : List ℕ = with_bytes b 0 (data_head high low) in
@@ -218,16 +219,16 @@ fresh-divides sizes b size high low len least whole is =
 
 module _ (v w : VolumeState) (n high low : ℕ) (f : IsFormatted v) (free-is : IsKind v 3 n) (least : 128 ≤ v.size) (eighths : v.size % 8 ≡ 0)
     (c : HasChanged v w n) (new : block_of v.size w.image n ≡ with_bytes (block_at v n) 0 (data_head high low)) (size-is : high * 256 + low ≡ v.size - 8) where
-  data-divides : IsDivided (slice_index v.sizes) (block_of v.size w.image n) (free (v.size - 8) ∷ [])
+  data-divides : IsDivided v.sizes (block_of v.size w.image n) (free (v.size - 8) ∷ [])
   data-divides =
-      let P : List ℕ → Type 0 = λ b. IsDivided (slice_index v.sizes) b (free (v.size - 8) ∷ []) in
-      subst P (sym new) (fresh-divides (slice_index v.sizes) (block_at v n) v.size high low (length-block v.size n v.image free-is.there) least eighths size-is)
+      let P : List ℕ → Type 0 = λ b. IsDivided v.sizes b (free (v.size - 8) ∷ []) in
+      subst P (sym new) (fresh-divides v.sizes (block_at v n) v.size high low (length-block v.size n v.image free-is.there) least eighths size-is)
 
   data-kind : kind_of (block_of v.size w.image n) ≡ 1
   data-kind = ap kind_of new
 
-  data-large : largest_hole (parts_in (slice_index v.sizes) (block_of v.size w.image n)) ≡ v.size - 8
-  data-large = ap largest_hole (parts-divided (slice_index v.sizes) (block_of v.size w.image n) (free (v.size - 8) ∷ []) data-divides tt) ∙ (let e : max (v.size - 8) 0 ≡ v.size - 8 = omega arith in e)
+  data-large : largest_hole (parts_in v.sizes (block_of v.size w.image n)) ≡ v.size - 8
+  data-large = ap largest_hole (parts-divided v.sizes (block_of v.size w.image n) (free (v.size - 8) ∷ []) data-divides tt) ∙ (let e : max (v.size - 8) 0 ≡ v.size - 8 = omega arith in e)
 
   data-later : n ≢ 0
   data-later = (let l = free-is.later in λ e. omega arith)
@@ -251,7 +252,7 @@ module _ (v w : VolumeState) (n high low : ℕ) (f : IsFormatted v) (free-is : I
         is = data-is;
         block = c.change;
         header = header;
-        segments = made-segments c f data-was (λ _ p. segment-none (slice_index v.sizes) (block_of v.size w.image n) (free (v.size - 8) ∷ []) data-divides tt p (λ k u. u));
+        segments = made-segments c f data-was (λ _ p. segment-none v.sizes (block_of v.size w.image n) (free (v.size - 8) ∷ []) data-divides tt p (λ k u. u));
         spares =
             let s = made-spare c f data-was header (below-count v n f.header some free-is.there) in
             let one = is-free v.size v.image n data-later free-is.kind_is in
@@ -262,8 +263,8 @@ module _ (v w : VolumeState) (n high low : ℕ) (f : IsFormatted v) (free-is : I
 
   pub data-room : step.HasRoom w n (v.size - 8)
   data-room =
-      let P : List ℕ → Type 0 = λ b. v.size - 8 ≤ largest_hole (parts_in (slice_index w.sizes) b) in
-      let Q : List ℕ → Type 0 = λ z. v.size - 8 ≤ largest_hole (parts_in (slice_index z) (block_of v.size w.image n)) in
+      let P : List ℕ → Type 0 = λ b. v.size - 8 ≤ largest_hole (parts_in w.sizes b) in
+      let Q : List SegmentSize → Type 0 = λ z. v.size - 8 ≤ largest_hole (parts_in z (block_of v.size w.image n)) in
       let large = data-large in
       record { is_data = data-is; large = subst P (sym (block-seen c.same n)) (subst Q (sym c.same.sizes) (omega arith)) }
 

@@ -14,6 +14,8 @@ use Rattle.hd_volume.specs.Records.{segment_in, find}
 use Rattle.hd_volume.specs.Spaces.{volume_of}
 use Rattle.hd_volume.specs.Calls.{IsRead, HasSegment}
 use Rattle.hd_volume.proofs.ExtentLemmas.{used-is, segment-some}
+use Rattle.hd_dbd.specs.declared.facts.SegmentSize.{SegmentSize}
+use Rattle.hd_block.specs.Sizes.{size_at}
 
 -- ---- blocks of a formatted volume
 
@@ -38,7 +40,7 @@ kind-there size n count kind image len some is =
 pub record IsFound (v : VolumeState) (address : ℕ) (s : List ℕ) : Type 0 where
   pub later : address / v.size ≢ 0
   pub kind : kind_of (block_at v (address / v.size)) ≡ 1
-  pub segment : segment_in (slice_index v.sizes) (block_at v (address / v.size)) (address % v.size) ≡ Some s
+  pub segment : segment_in v.sizes (block_at v (address / v.size)) (address % v.size) ≡ Some s
 
 found-in : {A : Type 0} (n k : ℕ) (o : Option A) (s : A) → cond (n == 0) None (cond (k == 1) o None) ≡ Some s → (n ≢ 0) × (k ≡ 1) × (o ≡ Some s)
 found-in {A} n k o s e =
@@ -53,12 +55,12 @@ found-in {A} n k o s e =
 
 pub find-some : (v : VolumeState) (address : ℕ) (s : List ℕ) → find v address ≡ Some s → IsFound v address s
 find-some v address s e =
-    let f = found-in (address / v.size) (kind_of (block_at v (address / v.size))) (segment_in (slice_index v.sizes) (block_at v (address / v.size)) (address % v.size)) s e in
+    let f = found-in (address / v.size) (kind_of (block_at v (address / v.size))) (segment_in v.sizes (block_at v (address / v.size)) (address % v.size)) s e in
     record { later = f.0; kind = f.1; segment = f.2 }
 
 -- in a data block the map has the segments of the block
 pub find-in : (v : VolumeState) (address : ℕ) → address / v.size ≢ 0 → kind_of (block_at v (address / v.size)) ≡ 1
-    → find v address ≡ segment_in (slice_index v.sizes) (block_at v (address / v.size)) (address % v.size)
+    → find v address ≡ segment_in v.sizes (block_at v (address / v.size)) (address % v.size)
 find-in v address later kind = rw (ne_eqb (address / v.size) 0 later, eq-eqb (kind_of (block_at v (address / v.size))) 1 kind) refl
 
 -- the block of a segment is a data block
@@ -74,17 +76,17 @@ find-there v address n f h =
 
 -- what is read of a block from a segment's place on, as far as its code says, is the segment
 pub segment-read : (v : VolumeState) (address n at end : ℕ) (b : List ℕ) → IsFormatted v → HasSegment v address n → at ≡ address % v.size → b ≡ block_at v (address / v.size)
-    → end ≡ min (at + slice_index v.sizes (slice_index b at)) (length b) → find v address ≡ Some (bytes_at b at (end - at))
+    → end ≡ min (at + size_at v.sizes b at) (length b) → find v address ≡ Some (bytes_at b at (end - at))
 segment-read v address n at end b f h at_is b_is end_is =
     let k = find-some v address h.bytes h.is in
     let x = f.divided (address / v.size) (find-there v address n f h) in
     let block : List ℕ = block_at v (address / v.size) in
     let q : ℕ = address % v.size in
-    let s = segment-some (slice_index v.sizes) block x.extents x.divides x.whole q h.bytes k.segment in
-    let u = used-is (slice_index v.sizes) block 8 _ x.extents q (length h.bytes) x.divides s.0 in
-    let code : slice_index v.sizes (slice_index b at) ≡ length h.bytes = rw (at_is, b_is) u.size in
+    let s = segment-some v.sizes block x.extents x.divides x.whole q h.bytes k.segment in
+    let u = used-is v.sizes block 8 _ x.extents q (length h.bytes) x.divides s.0 in
+    let code : size_at v.sizes b at ≡ length h.bytes = rw (at_is, b_is) u.size in
     let within : at + length h.bytes ≤ length b = rw (at_is, b_is) u.within in
-    let least : min (at + slice_index v.sizes (slice_index b at)) (length b) ≡ at + length h.bytes = rw code (min-eq_left within) in
+    let least : min (at + size_at v.sizes b at) (length b) ≡ at + length h.bytes = rw code (min-eq_left within) in
     h.is ∙ ap (λ (t : List ℕ). Some t) (s.1 ∙ (let e : bytes_at block q (length h.bytes) ≡ bytes_at b at (end - at) = rw (at_is, b_is) (ap (λ (m : ℕ). bytes_at block q m) (let l : length h.bytes ≡ end - q = omega arith in l)) in e))
 
 -- ---- a call that reads
@@ -99,7 +101,7 @@ pub record IsBrought (old new : Buffered) : Type 0 where
   pub stands : IsTrue old.is_sound → old.stored ≡ old.image → new.stored ≡ old.image
   pub first : IsTrue old.is_sound → KeepsFirst old.size old.stored new.stored
 
-pub is-read : {T : Type 0} (old new : Buffered) (sizes : List ℕ) (room room' : ℕ) (x : T) → IsBrought old new → room' ≡ room
+pub is-read : {T : Type 0} (old new : Buffered) (sizes : List SegmentSize) (room room' : ℕ) (x : T) → IsBrought old new → room' ≡ room
     → IsRead {T = T} (volume_of old sizes room) (Ok x) (volume_of new sizes room')
 is-read old new sizes room room' x h same =
     let before = λ (sound : IsTrue new.is_sound). (let s : IsTrue old.is_sound = rw (← h.sound) sound in s) in
@@ -111,7 +113,7 @@ is-read old new sizes room room' x h same =
     }
 
 -- the same as a caller sees it
-pub is-read-seen : {T : Type 0} {x : T} (seen : VolumeState) (old new : Buffered) (sizes : List ℕ) (room room' : ℕ) → volume_of old sizes room ≡ seen → IsBrought old new → room' ≡ room
+pub is-read-seen : {T : Type 0} {x : T} (seen : VolumeState) (old new : Buffered) (sizes : List SegmentSize) (room room' : ℕ) → volume_of old sizes room ≡ seen → IsBrought old new → room' ≡ room
     → IsRead {T = T} seen (Ok x) (volume_of new sizes room')
 is-read-seen {T} {x} seen old new sizes room room' view h same =
     let P : VolumeState → Type 0 = λ v. IsRead {T = T} v (Ok x) (volume_of new sizes room') in subst P view (is-read old new sizes room room' x h same)

@@ -9,6 +9,7 @@ use Rattle.hd_volume.specs.Headers.{Header, header_of}
 use Rattle.hd_volume.specs.Volumes.{VolumeState, block_at, kind_of, IsKind, IsFormatted}
 use Rattle.hd_volume.specs.Records.{find}
 use Rattle.hd_volume.specs.Rooms.{spare, HasHole}
+use Rattle.hd_block.specs.Sizes.{size_at}
 
 -- What every call does but a flush: Device is answered exactly where a failed access was counted; the sizes stay; and
 -- while the store is sound, its own block 0 stays.
@@ -31,6 +32,10 @@ pub record HasSegment (v : VolumeState) (address n : ℕ) : Type 0 where
   pub bytes : List ℕ
   pub is : find v address ≡ Some bytes
   pub long : n ≤ length bytes
+
+-- with these bytes written into it, the segment at an address takes as many as before
+abbrev pub KeepsSize : VolumeState → ℕ → ℕ → List ℕ → Type 0
+KeepsSize v address offset bytes = (s : List ℕ) → find v address ≡ Some s → size_at v.sizes (with_bytes s offset bytes) 0 ≡ length s
 
 -- all segments but the one at an address, if there is one, stay where they are
 abbrev pub KeepsOthers : VolumeState → VolumeState → ℕ → Type 0

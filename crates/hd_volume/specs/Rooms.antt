@@ -34,7 +34,7 @@ largest_hole (Used p n ∷ parts) = largest_hole parts
 pub record HasHole (v : VolumeState) (n : ℕ) : Type 0 where
   pub block : ℕ
   pub is_data : IsKind v 1 block
-  pub large : n ≤ largest_hole (parts_in (slice_index v.sizes) (block_at v block))
+  pub large : n ≤ largest_hole (parts_in v.sizes (block_at v block))
 
 -- how many blocks are free
 abbrev pub free_blocks : VolumeState → ℕ

@@ -1,5 +1,5 @@
 -- What a volume keeps of its blocks, so that no block is read in vain.
-use Rattle.std.specs.Prelude.{◌≡◌, ℕ, ◌+◌, ◌-◌, ◌/◌, ◌%◌, ◌<◌, ◌≤◌, Bool, IsTrue, List, length, min, slice_index, slice_index_or, vec_len}
+use Rattle.std.specs.Prelude.{◌≡◌, ℕ, ◌+◌, ◌-◌, ◌*◌, ◌/◌, ◌%◌, ◌<◌, ◌≤◌, Bool, IsTrue, List, length, min, slice_index, slice_index_or, vec_len}
 use Rattle.std.specs.Vec.{vec_capacity}
 use Rattle.hd_block.specs.Walk.{parts_in}
 use Rattle.hd_volume.specs.declared.space.Content.{Content}
@@ -9,9 +9,11 @@ use Rattle.hd_volume.specs.Buffers.{Buffered}
 use Rattle.hd_volume.specs.Volumes.{VolumeState, kind_of, HasExtents}
 use Rattle.hd_volume.specs.Rooms.{free_below, largest_hole}
 use Rattle.hd_volume.specs.declared.load.TheConstants.{MOST_BLOCKS}
+use Rattle.hd_dbd.specs.declared.facts.SegmentSize.{SegmentSize}
+use Rattle.hd_block.specs.Sizes.{size_at}
 
 -- the volume that blocks and stored sizes are, with room for so many growths
-abbrev pub volume_of : Buffered → List ℕ → ℕ → VolumeState
+abbrev pub volume_of : Buffered → List SegmentSize → ℕ → VolumeState
 volume_of b sizes room = record { image = b.image; stored = b.stored; is_sound = b.is_sound; failures = b.failures; room = room; size = b.size; sizes = sizes }
 
 -- so many growths find memory, in the store and for what is kept of each block
@@ -27,31 +29,31 @@ abbrev pub content_at : Space → ℕ → Content
 content_at space n = slice_index_or space.contents.items n (record { kind = 0; hole = 0 })
 
 -- What is kept of a block is its kind and, of a data block, a length that no hole of it exceeds.
-pub record IsContent (sizes : ℕ → ℕ) (block : List ℕ) (content : Content) : Type 0 where
+pub record IsContent (sizes : List SegmentSize) (block : List ℕ) (content : Content) : Type 0 where
   pub kind_is : content.kind ≡ kind_of block
   pub bound : content.kind ≡ 1 → largest_hole (parts_in sizes block) ≤ content.hole
 
--- What is kept is true: of each block behind block 0; for each type, that no data block below the lowest has a hole of its
--- size; the number of free blocks; and that none is free below the lowest.
-pub record IsSpaceOf (size : ℕ) (sizes image : List ℕ) (space : Space) : Type 0 where
+-- What is kept is true: of each block behind block 0; for each multiple of 8, that no data block below the lowest has a hole of so
+-- many bytes; the number of free blocks; and that none is free below the lowest.
+pub record IsSpaceOf (size : ℕ) (sizes : List SegmentSize) (image : List ℕ) (space : Space) : Type 0 where
   pub len : vec_len space.contents ≡ blocks_in size image
-  pub contents : (n : ℕ) → 0 < n → n < blocks_in size image → IsContent (slice_index sizes) (block_of size image n) (content_at space n)
-  pub lowest : (c n : ℕ) → 0 < n → n < slice_index space.lowest.items c → n < blocks_in size image → (content_at space n).kind ≡ 1 → (content_at space n).hole < slice_index sizes c
+  pub contents : (n : ℕ) → 0 < n → n < blocks_in size image → IsContent sizes (block_of size image n) (content_at space n)
+  pub lowest : (k n : ℕ) → 0 < n → n < slice_index space.lowest.items k → n < blocks_in size image → (content_at space n).kind ≡ 1 → (content_at space n).hole < 8 * k
   pub free : space.free ≡ free_below size image (blocks_in size image)
   pub lowest_free : (n : ℕ) → 0 < n → n < space.lowest_free → n < blocks_in size image → kind_of (block_of size image n) ≡ 3 → ⊥
 
 -- each data block that is looked at is divided into free elements and segments
-abbrev pub AreDivided : (ℕ → ℕ) → ℕ → List ℕ → Type 0
+abbrev pub AreDivided : List SegmentSize → ℕ → List ℕ → Type 0
 AreDivided sizes size image =
     (n : ℕ) → 0 < n → n < blocks_in size image → kind_of (block_of size image n) ≡ 1 → HasExtents sizes (block_of size image n)
 
--- Stored sizes: each fits into a block behind its first 8 bytes, and is a multiple of 8.
-pub record AreSizes (size : ℕ) (sizes : List ℕ) : Type 0 where
-  pub fit : (c : ℕ) → slice_index sizes c + 8 ≤ size
-  pub whole : (c : ℕ) → slice_index sizes c % 8 ≡ 0
+-- Sizes: whatever a segment takes fits into a block behind its first 8 bytes, and is a multiple of 8.
+pub record AreSizes (size : ℕ) (sizes : List SegmentSize) : Type 0 where
+  pub fit : (bytes : List ℕ) (place : ℕ) → size_at sizes bytes place + 8 ≤ size
+  pub whole : (bytes : List ℕ) (place : ℕ) → size_at sizes bytes place % 8 ≡ 0
 
 -- what a volume keeps
-pub record IsKeptVolume (size : ℕ) (sizes image : List ℕ) (is_sound : Bool) (space : Space) : Type 0 where
+pub record IsKeptVolume (size : ℕ) (sizes : List SegmentSize) (image : List ℕ) (is_sound : Bool) (space : Space) : Type 0 where
   pub least : 128 ≤ size
   pub most : size ≤ 32768
   pub eighths : size % 8 ≡ 0
@@ -66,7 +68,7 @@ pub record KeepsTables (old new : Space) : Type 0 where
   pub free : new.free ≡ old.free
 
 -- Some block that is looked at is for data and has a hole of at least this size.
-pub record IsSeen (sizes : ℕ → ℕ) (size : ℕ) (image : List ℕ) (need : ℕ) : Type 0 where
+pub record IsSeen (sizes : List SegmentSize) (size : ℕ) (image : List ℕ) (need : ℕ) : Type 0 where
   pub block : ℕ
   pub later : 0 < block
   pub below : block < blocks_in size image
@@ -74,16 +76,16 @@ pub record IsSeen (sizes : ℕ → ℕ) (size : ℕ) (image : List ℕ) (need : 
   pub large : need ≤ largest_hole (parts_in sizes (block_of size image block))
 
 -- block n is for data, and has a hole of at least so many bytes
-abbrev pub HasHoleIn : (ℕ → ℕ) → ℕ → List ℕ → ℕ → ℕ → Type 0
+abbrev pub HasHoleIn : List SegmentSize → ℕ → List ℕ → ℕ → ℕ → Type 0
 HasHoleIn sizes size image need n = (kind_of (block_of size image n) ≡ 1) × (need ≤ largest_hole (parts_in sizes (block_of size image n)))
 
 -- block n is looked at, and is such a block
-abbrev pub IsSeenAt : (ℕ → ℕ) → ℕ → List ℕ → ℕ → ℕ → Type 0
+abbrev pub IsSeenAt : List SegmentSize → ℕ → List ℕ → ℕ → ℕ → Type 0
 IsSeenAt sizes size image need n =
     (0 < n) × (n < blocks_in size image) × (kind_of (block_of size image n) ≡ 1) × (need ≤ largest_hole (parts_in sizes (block_of size image n)))
 
 -- no data block that is looked at has a hole of so many bytes
-abbrev pub NoneIsSeen : (ℕ → ℕ) → ℕ → List ℕ → ℕ → Type 0
+abbrev pub NoneIsSeen : List SegmentSize → ℕ → List ℕ → ℕ → Type 0
 NoneIsSeen sizes size image need =
     (n : ℕ) → 0 < n → n < blocks_in size image → kind_of (block_of size image n) ≡ 1 → largest_hole (parts_in sizes (block_of size image n)) < need
 

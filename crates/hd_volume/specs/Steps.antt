@@ -12,7 +12,7 @@ use Rattle.hd_volume.specs.Calls.{KeepsOthers, KeepsSegments, KeepsIndex, KeepsH
 -- A data block has a hole of at least n bytes.
 pub record HasRoom (v : VolumeState) (n need : ℕ) : Type 0 where
   pub is_data : IsKind v 1 n
-  pub large : need ≤ largest_hole (parts_in (slice_index v.sizes) (block_at v n))
+  pub large : need ≤ largest_hole (parts_in v.sizes (block_at v n))
 
 -- A segment was put into the hole of data block n.
 pub record IsPutIn (old : VolumeState) (n address : ℕ) (bytes : List ℕ) (new : VolumeState) : Type 0 where

@@ -3,6 +3,7 @@ use Rattle.std.specs.Prelude.{◌≡◌, ◌⊎◌, ℕ, ◌<◌, Bool, List, sl
 use Rattle.hd_bytes.specs.Blocks.{block_of, HasBlock}
 use Rattle.hd_block.specs.Extents.{Extent, IsDivided, AreWhole}
 use Rattle.hd_volume.specs.Headers.{HasHeader}
+use Rattle.hd_dbd.specs.declared.facts.SegmentSize.{SegmentSize}
 
 pub record VolumeState : Type 0 where
   -- all bytes, as they will stand in the store once they are flushed
@@ -15,9 +16,9 @@ pub record VolumeState : Type 0 where
   pub failures : ℕ
   -- so many calls that add a block find memory
   pub room : ℕ
-  -- the bytes of a block, and by code the bytes that a segment takes
+  -- the bytes of a block, and by code the bytes that the segments of a type take
   pub size : ℕ
-  pub sizes : List ℕ
+  pub sizes : List SegmentSize
 
 -- the bytes of block n
 abbrev pub block_at : VolumeState → ℕ → List ℕ
@@ -34,7 +35,7 @@ pub record IsKind (v : VolumeState) (kind n : ℕ) : Type 0 where
   pub kind_is : kind_of (block_at v n) ≡ kind
 
 -- a block is divided into free elements and segments
-pub record HasExtents (sizes : ℕ → ℕ) (block : List ℕ) : Type 0 where
+pub record HasExtents (sizes : List SegmentSize) (block : List ℕ) : Type 0 where
   pub extents : List Extent
   pub divides : IsDivided sizes block extents
   pub whole : AreWhole extents
@@ -42,7 +43,7 @@ pub record HasExtents (sizes : ℕ → ℕ) (block : List ℕ) : Type 0 where
 -- What the calls on segments and blocks ask of a volume: a header, and extents in every data block.
 pub record IsFormatted (v : VolumeState) : Type 0 where
   pub header : HasHeader v.size v.image
-  pub divided : (n : ℕ) → IsKind v 1 n → HasExtents (slice_index v.sizes) (block_at v n)
+  pub divided : (n : ℕ) → IsKind v 1 n → HasExtents v.sizes (block_at v n)
 
 -- Each block behind block 0 is one for data, for the index, or free.
 abbrev pub HasKinds : VolumeState → Type 0

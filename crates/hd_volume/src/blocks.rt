@@ -12,7 +12,7 @@ use crate::buffer::{Buffer, bring, write_back};
 use crate::store::BlockStore;
 use hd_block::Block;
 use hd_bytes::{write_bytes, write_u32};
-use hd_dbd::Refused;
+use hd_dbd::{Refused, SegmentSize};
 use std::alloc::{AllocError, Global};
 use std::marker::Model;
 
@@ -167,12 +167,12 @@ impl<S: BlockStore> Blocks<S> {
     }
 
     /// Takes the front of the first hole of the block in hand that is large enough.
-    pub fn take(&mut self, sizes: &[u16], size: u16) -> Option<u16>
+    pub fn take(&mut self, sizes: &[SegmentSize], size: u16) -> Option<u16>
         requires block { 8 ≤ self.old.size }
         requires size { (0 < size) × (size % 8 ≡ 0) }
         ensures rest { self.new ≡ record self.old { image = self.new.image } }
         ensures others { IsTrue self.old.is_sound → 0 < self.old.hand → ChangesBlock self.old.size self.old.hand self.old.image self.new.image }
-        ensures block { ChangesHand self.old (λ old new. IsTaken (slice_index sizes.now) size old result new) self.new }
+        ensures block { ChangesHand self.old (λ old new. IsTaken sizes.now size old result new) self.new }
         ensures fits { IfSome result (λ p. (8 ≤ p) × (p + size ≤ self.old.size)) }
     {
         self.hand.changed = true;
@@ -180,13 +180,13 @@ impl<S: BlockStore> Blocks<S> {
     }
 
     /// Gives back the segment at an offset in the block in hand.
-    pub fn give(&mut self, sizes: &[u16], offset: u16, size: u16)
+    pub fn give(&mut self, sizes: &[SegmentSize], offset: u16, size: u16)
         requires offset { 8 ≤ offset }
         requires size { (8 ≤ size) × (size % 8 ≡ 0) }
         requires within { offset + size ≤ self.old.size }
         ensures rest { self.new ≡ record self.old { image = self.new.image } }
         ensures others { IsTrue self.old.is_sound → 0 < self.old.hand → ChangesBlock self.old.size self.old.hand self.old.image self.new.image }
-        ensures block { ChangesHand self.old (λ old new. IsGiven (slice_index sizes.now) offset size old new) self.new }
+        ensures block { ChangesHand self.old (λ old new. IsGiven sizes.now offset size old new) self.new }
     {
         self.hand.changed = true;
         give_to(&mut self.hand.bytes, sizes, offset, size);
@@ -290,23 +290,23 @@ fn write_first<S: BlockStore>(
     Ok(())
 }
 
-fn take_from(bytes: &mut [u8], sizes: &[u16], size: u16) -> Option<u16>
+fn take_from(bytes: &mut [u8], sizes: &[SegmentSize], size: u16) -> Option<u16>
     requires block { (8 ≤ length bytes.old) × (length bytes.old ≤ 32768) }
     requires size { (0 < size) × (size % 8 ≡ 0) }
     ensures len { length bytes.new ≡ length bytes.old }
-    ensures taken { IsTaken (slice_index sizes.now) size bytes.old result bytes.new }
+    ensures taken { IsTaken sizes.now size bytes.old result bytes.new }
     ensures fits { IfSome result (λ p. (8 ≤ p) × (p + size ≤ length bytes.old)) }
 {
     Block::new(bytes, sizes).take(size)
 }
 
-fn give_to(bytes: &mut [u8], sizes: &[u16], offset: u16, size: u16)
+fn give_to(bytes: &mut [u8], sizes: &[SegmentSize], offset: u16, size: u16)
     requires block { length bytes.old ≤ 32768 }
     requires offset { 8 ≤ offset }
     requires size { (8 ≤ size) × (size % 8 ≡ 0) }
     requires within { offset + size ≤ length bytes.old }
     ensures len { length bytes.new ≡ length bytes.old }
-    ensures given { IsGiven (slice_index sizes.now) offset size bytes.old bytes.new }
+    ensures given { IsGiven sizes.now offset size bytes.old bytes.new }
 {
     Block::new(bytes, sizes).give(offset, size);
 }

@@ -11,23 +11,23 @@ ghost use Rattle.hd_volume.specs.declared.load.TheConstants.{MOST_BLOCKS};
 use crate::blocks::Blocks;
 use crate::space::{Content, FREE, Space, content_of};
 use crate::store::BlockStore;
-use hd_dbd::{Dbd, Refused};
+use hd_dbd::{Dbd, Refused, SegmentSize};
 use std::alloc::{AllocError, Global};
 
 /// The most blocks that a volume has.
 pub const MOST_BLOCKS: u32 = 65536;
 
 /// The bytes that the segments of each type take, by code.
-pub fn size_table(alloc: Global, dbd: &Dbd) -> Result<Vec<u16>, AllocError>
+pub fn size_table(alloc: Global, dbd: &Dbd) -> Result<Vec<SegmentSize>, AllocError>
     ensures sizes { IfOk result (λ v. v.items ≡ stored_sizes dbd.now.types) }
     ensures fit { IfOk result (λ v. AreSizes dbd.now.block_size v.items) }
     ensures block { (128 ≤ dbd.now.block_size) × (dbd.now.block_size ≤ 32768) × (dbd.now.block_size % 8 ≡ 0) }
 {
     let count = dbd.types().len();
     let mut sizes = Vec::new(alloc);
-    sizes.push(0)?;
+    sizes.push(SegmentSize::Fixed(0))?;
     for place in 0..count {
-        sizes.push(dbd.stored_size(place as u8 + 1))?;
+        sizes.push(dbd.segment_size(place as u8 + 1))?;
     }
     Ok(sizes)
 }
@@ -36,7 +36,7 @@ pub fn size_table(alloc: Global, dbd: &Dbd) -> Result<Vec<u16>, AllocError>
 pub fn survey<S: BlockStore>(
     alloc: Global,
     blocks: &mut Blocks<S>,
-    sizes: &[u16],
+    sizes: &[SegmentSize],
 ) -> Result<Space, Refused>
     requires least { 8 ≤ blocks.old.size }
     requires stands { IsTrue blocks.old.is_sound → blocks.old.stored ≡ blocks.old.image }
@@ -51,7 +51,7 @@ pub fn survey<S: BlockStore>(
 {
     let size = blocks.block_size() as u64;
     let count = (blocks.length() / size).min(u64::from(MOST_BLOCKS)) as u32;
-    let mut space = empty_space(alloc, sizes.len())?;
+    let mut space = empty_space(alloc, greatest_size(sizes) / 8 + 1)?;
     for n in 0..count {
         let content = survey_block(blocks, sizes, n)?;
         note(&mut space, content)?;
@@ -59,14 +59,29 @@ pub fn survey<S: BlockStore>(
     Ok(space)
 }
 
-/// What is kept of no block, with types of codes below a number.
-fn empty_space(alloc: Global, types: usize) -> Result<Space, Refused>
+/// The most bytes that a segment takes.
+fn greatest_size(sizes: &[SegmentSize]) -> usize
+    ensures { result ≤ 131080 }
+{
+    let mut greatest = 0;
+    for size in sizes {
+        let most = match size {
+            SegmentSize::Fixed(size) => *size as usize,
+            SegmentSize::Varying(prefix, _, most) => *prefix as usize + *most as usize + 7,
+        };
+        greatest = greatest.max(most);
+    }
+    greatest
+}
+
+/// What is kept of no block, with the lowest blocks for so many multiples of 8.
+fn empty_space(alloc: Global, multiples: usize) -> Result<Space, Refused>
     ensures contents { IfOk result (λ space. (space.contents.items ≡ []) × (vec_len space.contents ≡ 0)) }
     ensures lowest { IfOk result (λ space. (c : ℕ) → slice_index space.lowest.items c ≤ 1) }
     ensures free { IfOk result (λ space. (space.free ≡ 0) × (space.lowest_free ≡ 1)) }
     ensures refusal { OnlyMemory result }
 {
-    let Ok(lowest) = vec![in alloc; 1u32; types] else {
+    let Ok(lowest) = vec![in alloc; 1u32; multiples] else {
         return Err(Refused::Memory);
     };
     Ok(Space {
@@ -80,12 +95,12 @@ fn empty_space(alloc: Global, types: usize) -> Result<Space, Refused>
 /// What is kept of a block, which is read; block 0 is left aside.
 fn survey_block<S: BlockStore>(
     blocks: &mut Blocks<S>,
-    sizes: &[u16],
+    sizes: &[SegmentSize],
     n: u32,
 ) -> Result<Content, Refused>
     requires least { 8 ≤ blocks.old.size }
     requires there { IsTrue blocks.old.is_sound → HasBlock blocks.old.size blocks.old.image n }
-    ensures content { IfOk result (λ content. IsTrue blocks.old.is_sound → 0 < n → IsContent (slice_index sizes.now) (block_of blocks.old.size blocks.old.image n) content) }
+    ensures content { IfOk result (λ content. IsTrue blocks.old.is_sound → 0 < n → IsContent sizes.now (block_of blocks.old.size blocks.old.image n) content) }
     ensures first { IfOk result (λ content. n ≡ 0 → content.kind ≡ 0) }
     ensures image { OnOk result (IsTrue blocks.old.is_sound → blocks.new.image ≡ blocks.old.image) }
     ensures stands { OnOk result (IsTrue blocks.old.is_sound → blocks.old.stored ≡ blocks.old.image → blocks.new.stored ≡ blocks.old.image) }

@@ -1,4 +1,4 @@
-ghost use Rattle.std.specs.Prelude.{◌≡◌, ◌+◌, ◌-◌, ◌≤◌, ◌<◌, ℕ, IsTrue, length, slice_index, true, false, IfOk, IfErr, IfSome, IfNone, OnOk};
+ghost use Rattle.std.specs.Prelude.{◌≡◌, ◌+◌, ◌-◌, ◌%◌, ◌≤◌, ◌<◌, ℕ, IsTrue, length, slice_index, true, false, IfOk, IfErr, IfSome, IfNone, OnOk};
 ghost use Rattle.hd_dbd.specs.Refusals.{OnlyDevice, OnlyRoomOrDevice};
 ghost use Rattle.hd_volume.specs.Headers.{header_of};
 ghost use Rattle.hd_volume.specs.Volumes.{IsFormatted, IsKind};
@@ -6,6 +6,7 @@ ghost use Rattle.hd_volume.specs.Rooms.{spare, HasHole, HasFreeBlock};
 ghost use Rattle.hd_volume.specs.Calls.{IsCall, IsRead, IsPut};
 ghost use Rattle.hd_volume.specs.Steps.{HasRoom, IsPutIn, HasFree, IsMade, IsReady, data_head};
 ghost use Rattle.hd_volume.specs.declared.load.TheConstants.{MOST_BLOCKS};
+ghost use Rattle.hd_block.specs.Sizes.{size_at};
 
 use crate::load::MOST_BLOCKS;
 use crate::seek::{seek_free, seek_hole, seek_size};
@@ -18,7 +19,7 @@ impl<S: BlockStore> Volume<S> {
     /// Puts a segment into the hole of a data block.
     fn put_in(&mut self, n: u32, bytes: &[u8]) -> Result<u32, Refused>
         requires formatted { IsTrue self.old.is_sound → IsFormatted self.old }
-        requires whole { (0 < length bytes.now) × (slice_index self.old.sizes (slice_index bytes.now 0) ≡ length bytes.now) }
+        requires whole { (0 < length bytes.now) × (size_at self.old.sizes bytes.now 0 ≡ length bytes.now) }
         requires has_room { IsTrue self.old.is_sound → HasRoom self.old n (length bytes.now) }
         requires small { n < MOST_BLOCKS }
         ensures call { IsCall self.old result self.new }
@@ -37,17 +38,18 @@ impl<S: BlockStore> Volume<S> {
         }
     }
 
-    /// The lowest data block with a hole of the size of a type's segments, if there is one.
-    fn find_hole(&mut self, code: u8) -> Result<Option<u32>, Refused>
+    /// The lowest data block with a hole for a segment, if there is one.
+    fn find_hole(&mut self, bytes: &[u8]) -> Result<Option<u32>, Refused>
         requires formatted { IsTrue self.old.is_sound → IsFormatted self.old }
+        requires whole { (0 < length bytes.now) × (size_at self.old.sizes bytes.now 0 ≡ length bytes.now) }
         ensures read { IsRead self.old result self.new }
-        ensures found { IfOk result (λ o. IsTrue self.old.is_sound → IfSome o (λ n. HasRoom self.old n (slice_index self.old.sizes code))) }
-        ensures none { IfOk result (λ o. IsTrue self.old.is_sound → IfNone o (HasHole self.old (slice_index self.old.sizes code) → ⊥)) }
+        ensures found { IfOk result (λ o. IsTrue self.old.is_sound → IfSome o (λ n. HasRoom self.old n (length bytes.now))) }
+        ensures none { IfOk result (λ o. IsTrue self.old.is_sound → IfNone o (HasHole self.old (length bytes.now) → ⊥)) }
+        ensures fits { length bytes.now + 8 ≤ self.old.size }
         ensures small { IfOk result (λ o. IfSome o (λ n. n < MOST_BLOCKS)) }
-        ensures fits { (c : ℕ) → slice_index self.old.sizes c + 8 ≤ self.old.size }
         ensures refusal { OnlyDevice result }
     {
-        let found = seek_hole(&mut self.blocks, &mut self.space, &self.sizes, code)?;
+        let found = seek_hole(&mut self.blocks, &mut self.space, &self.sizes, bytes.len() as u16)?;
         Ok(found)
     }
 
@@ -169,21 +171,22 @@ impl<S: BlockStore> Volume<S> {
         Ok(n)
     }
 
-    /// A data block with room for a segment of a type.
-    fn ready_block(&mut self, code: u8) -> Result<u32, Refused>
+    /// A data block with room for a segment.
+    fn ready_block(&mut self, bytes: &[u8]) -> Result<u32, Refused>
         requires formatted { IsTrue self.old.is_sound → IsFormatted self.old }
+        requires whole { (0 < length bytes.now) × (size_at self.old.sizes bytes.now 0 ≡ length bytes.now) }
         ensures call { IsCall self.old result self.new }
-        ensures ready { IfOk result (λ n. IsTrue self.old.is_sound → IsReady self.old n (slice_index self.old.sizes code) self.new) }
+        ensures ready { IfOk result (λ n. IsTrue self.old.is_sound → IsReady self.old n (length bytes.now) self.new) }
         ensures small { IfOk result (λ n. n < MOST_BLOCKS) }
         ensures kept { IfErr result (λ _. IsTrue self.new.is_sound → self.new.image ≡ self.old.image) }
-        ensures full { IfErr result (λ e. e ≡ Refused.Full → IsTrue self.old.is_sound → (spare self.old ≡ 0) × (HasHole self.old (slice_index self.old.sizes code) → ⊥)) }
+        ensures full { IfErr result (λ e. e ≡ Refused.Full → IsTrue self.old.is_sound → (spare self.old ≡ 0) × (HasHole self.old (length bytes.now) → ⊥)) }
         ensures memory { IfErr result (λ e. e ≡ Refused.Memory → self.old.room ≡ 0) }
         ensures no_free { IfErr result (λ e. e ≡ Refused.Memory → IsTrue self.old.is_sound → HasFreeBlock self.old → ⊥) }
-        ensures no_hole { IfErr result (λ e. e ≡ Refused.Memory → IsTrue self.old.is_sound → HasHole self.old (slice_index self.old.sizes code) → ⊥) }
+        ensures no_hole { IfErr result (λ e. e ≡ Refused.Memory → IsTrue self.old.is_sound → HasHole self.old (length bytes.now) → ⊥) }
         ensures refusal { OnlyRoomOrDevice result }
         ensures room { IsTrue self.new.is_sound → self.old.room ≤ self.new.room + 1 }
     {
-        match self.find_hole(code)? {
+        match self.find_hole(bytes)? {
             Some(n) => Ok(n),
             None => self.new_block(),
         }
@@ -195,7 +198,7 @@ impl<S: BlockStore> Volume<S> {
     /// grow and no room is reserved.
     pub fn put(&mut self, bytes: &[u8]) -> Result<u32, Refused>
         requires formatted { IsTrue self.old.is_sound → IsFormatted self.old }
-        requires whole { (0 < length bytes.now) × (slice_index self.old.sizes (slice_index bytes.now 0) ≡ length bytes.now) }
+        requires whole { (0 < length bytes.now) × (size_at self.old.sizes bytes.now 0 ≡ length bytes.now) }
         ensures call { IsCall self.old result self.new }
         ensures put { IfOk result (λ address. IsTrue self.old.is_sound → IsPut self.old address bytes.now self.new) }
         ensures kept { IfErr result (λ _. IsTrue self.new.is_sound → self.new.image ≡ self.old.image) }
@@ -206,7 +209,7 @@ impl<S: BlockStore> Volume<S> {
         ensures refusal { OnlyRoomOrDevice result }
         ensures room { IsTrue self.new.is_sound → self.old.room ≤ self.new.room + 1 }
     {
-        let n = self.ready_block(bytes[0])?;
+        let n = self.ready_block(bytes)?;
         let address = self.put_in(n, bytes)?;
         Ok(address)
     }

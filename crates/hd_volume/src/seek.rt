@@ -1,45 +1,46 @@
-ghost use Rattle.std.specs.Prelude.{◌≡◌, ◌≤◌, ◌<◌, ℕ, true, false, IsTrue, slice_index, slice_set, vec_len, IfOk, IfSome, IfNone};
+ghost use Rattle.std.specs.Prelude.{◌≡◌, ◌%◌, ◌≤◌, ◌<◌, ℕ, true, false, IsTrue, slice_index, slice_set, vec_len, IfOk, IfSome, IfNone};
 ghost use Rattle.hd_dbd.specs.Refusals.{OnlyDevice};
 ghost use Rattle.hd_volume.specs.Buffers.{IsFetch};
 ghost use Rattle.hd_volume.specs.Spaces.{IsSpaceOf, AreDivided, IsSeen, blocks_in, content_at, KeepsTables, IsSeenAt, NoneIsSeen, HasHoleIn, IsLowestFree, NoneIsFreeBelow};
 ghost use Rattle.hd_volume.specs.declared.load.TheConstants.{MOST_BLOCKS};
 
 use crate::blocks::Blocks;
-use crate::space::{Content, DATA, FREE, Space, set_content, size_of};
+use crate::space::{Content, DATA, FREE, Space, set_content};
 use crate::store::BlockStore;
 use hd_block::largest_free;
-use hd_dbd::Refused;
+use hd_dbd::{Refused, SegmentSize};
 
-/// The lowest data block with a hole of the size of a type's segments, if there is one. Blocks that can't have one are not
-/// read.
+/// The lowest data block with a hole of at least so many bytes, a multiple of 8, if there is one. Blocks that can't have one are
+/// not read.
 pub fn seek_hole<S: BlockStore>(
     blocks: &mut Blocks<S>,
     space: &mut Space,
-    sizes: &[u16],
-    code: u8,
+    sizes: &[SegmentSize],
+    size: u16,
 ) -> Result<Option<u32>, Refused>
     requires least { 8 ≤ blocks.old.size }
+    requires whole { size % 8 ≡ 0 }
     requires few { vec_len space.old.contents ≤ MOST_BLOCKS }
     requires space_is { IsTrue blocks.old.is_sound → IsSpaceOf blocks.old.size sizes.now blocks.old.image space.old }
-    requires divided { IsTrue blocks.old.is_sound → AreDivided (slice_index sizes.now) blocks.old.size blocks.old.image }
+    requires divided { IsTrue blocks.old.is_sound → AreDivided sizes.now blocks.old.size blocks.old.image }
     ensures fetch { IsFetch blocks.old result blocks.new }
     ensures space { IsTrue blocks.new.is_sound → IsSpaceOf blocks.old.size sizes.now blocks.old.image space.new }
     ensures tables { KeepsTables space.old space.new }
-    ensures found { IfOk result (λ o. IsTrue blocks.old.is_sound → IfSome o (λ n. IsSeenAt (slice_index sizes.now) blocks.old.size blocks.old.image (slice_index sizes.now code) n)) }
-    ensures none { IfOk result (λ o. IsTrue blocks.old.is_sound → IfNone o (NoneIsSeen (slice_index sizes.now) blocks.old.size blocks.old.image (slice_index sizes.now code))) }
+    ensures found { IfOk result (λ o. IsTrue blocks.old.is_sound → IfSome o (λ n. IsSeenAt sizes.now blocks.old.size blocks.old.image size n)) }
+    ensures none { IfOk result (λ o. IsTrue blocks.old.is_sound → IfNone o (NoneIsSeen sizes.now blocks.old.size blocks.old.image size)) }
     ensures small { IfOk result (λ o. IfSome o (λ n. n < MOST_BLOCKS)) }
     ensures refusal { OnlyDevice result }
 {
-    let size = size_of(sizes, code);
-    let start = space.lowest.get(code as usize).copied().unwrap_or(1).max(1);
+    let eighths = size as usize / 8;
+    let start = space.lowest.get(eighths).copied().unwrap_or(1).max(1);
     let count = space.contents.len() as u32;
     for n in start..count {
         if try_block(blocks, space, sizes, n, size)? {
-            set_lowest(&mut space.lowest, code, n);
+            set_lowest(&mut space.lowest, eighths, n);
             return Ok(Some(n));
         }
     }
-    set_lowest(&mut space.lowest, code, count);
+    set_lowest(&mut space.lowest, eighths, count);
     Ok(None)
 }
 
@@ -48,20 +49,20 @@ pub fn seek_hole<S: BlockStore>(
 fn try_block<S: BlockStore>(
     blocks: &mut Blocks<S>,
     space: &mut Space,
-    sizes: &[u16],
+    sizes: &[SegmentSize],
     n: u32,
     size: u16,
 ) -> Result<bool, Refused>
     requires least { 8 ≤ blocks.old.size }
     requires space_is { IsTrue blocks.old.is_sound → IsSpaceOf blocks.old.size sizes.now blocks.old.image space.old }
-    requires divided { IsTrue blocks.old.is_sound → AreDivided (slice_index sizes.now) blocks.old.size blocks.old.image }
+    requires divided { IsTrue blocks.old.is_sound → AreDivided sizes.now blocks.old.size blocks.old.image }
     requires there { IsTrue blocks.old.is_sound → (0 < n) × (n < blocks_in blocks.old.size blocks.old.image) }
     ensures fetch { IsFetch blocks.old result blocks.new }
     ensures space { IsTrue blocks.new.is_sound → IsSpaceOf blocks.old.size sizes.now blocks.old.image space.new }
     ensures tables { KeepsTables space.old space.new }
     ensures lowest { space.new.lowest ≡ space.old.lowest }
     ensures others { (m : ℕ) → (m ≡ n → ⊥) → content_at space.new m ≡ content_at space.old m }
-    ensures found { IfOk result (λ f. IsTrue blocks.old.is_sound → f ≡ true → HasHoleIn (slice_index sizes.now) blocks.old.size blocks.old.image size n) }
+    ensures found { IfOk result (λ f. IsTrue blocks.old.is_sound → f ≡ true → HasHoleIn sizes.now blocks.old.size blocks.old.image size n) }
     ensures passed { IfOk result (λ f. IsTrue blocks.old.is_sound → f ≡ false → (content_at space.new n).kind ≡ 1 → (content_at space.new n).hole < size) }
     ensures refusal { OnlyDevice result }
 {
@@ -83,14 +84,13 @@ fn content_of_block(space: &Space, n: u32) -> Content
     space.contents.get(n as usize).copied().unwrap_or(none)
 }
 
-/// Notes the lowest block that may have a hole of a type's size.
-fn set_lowest(lowest: &mut Vec<u32>, code: u8, n: u32)
+/// Notes the lowest block that may have a hole of so many times 8 bytes.
+fn set_lowest(lowest: &mut Vec<u32>, eighths: usize, n: u32)
     ensures len { vec_len lowest.new ≡ vec_len lowest.old }
-    ensures value { lowest.new.items ≡ slice_set lowest.old.items code n }
+    ensures value { lowest.new.items ≡ slice_set lowest.old.items eighths n }
 {
-    let code = code as usize;
-    if code < lowest.len() {
-        lowest[code] = n;
+    if eighths < lowest.len() {
+        lowest[eighths] = n;
     }
 }
 
@@ -117,18 +117,18 @@ pub fn seek_free(space: &mut Space) -> u32
 pub fn seek_size<S: BlockStore>(
     blocks: &mut Blocks<S>,
     space: &mut Space,
-    sizes: &[u16],
+    sizes: &[SegmentSize],
     size: u16,
 ) -> Result<bool, Refused>
     requires least { 8 ≤ blocks.old.size }
     requires few { vec_len space.old.contents ≤ MOST_BLOCKS }
     requires space_is { IsTrue blocks.old.is_sound → IsSpaceOf blocks.old.size sizes.now blocks.old.image space.old }
-    requires divided { IsTrue blocks.old.is_sound → AreDivided (slice_index sizes.now) blocks.old.size blocks.old.image }
+    requires divided { IsTrue blocks.old.is_sound → AreDivided sizes.now blocks.old.size blocks.old.image }
     ensures fetch { IsFetch blocks.old result blocks.new }
     ensures space { IsTrue blocks.new.is_sound → IsSpaceOf blocks.old.size sizes.now blocks.old.image space.new }
     ensures tables { KeepsTables space.old space.new }
-    ensures found { IfOk result (λ f. IsTrue blocks.old.is_sound → f ≡ true → IsSeen (slice_index sizes.now) blocks.old.size blocks.old.image size) }
-    ensures none { IfOk result (λ f. IsTrue blocks.old.is_sound → f ≡ false → NoneIsSeen (slice_index sizes.now) blocks.old.size blocks.old.image size) }
+    ensures found { IfOk result (λ f. IsTrue blocks.old.is_sound → f ≡ true → IsSeen sizes.now blocks.old.size blocks.old.image size) }
+    ensures none { IfOk result (λ f. IsTrue blocks.old.is_sound → f ≡ false → NoneIsSeen sizes.now blocks.old.size blocks.old.image size) }
     ensures refusal { OnlyDevice result }
 {
     let count = space.contents.len() as u32;

@@ -6,7 +6,7 @@ ghost use Rattle.hd_volume.specs.Rooms.{largest_hole};
 ghost use Rattle.hd_volume.specs.Spaces.{IsContent};
 
 use hd_block::{Part, Parts};
-use hd_dbd::Refused;
+use hd_dbd::{Refused, SegmentSize};
 
 /// The kind of a data block.
 pub const DATA: u8 = 1;
@@ -24,8 +24,8 @@ pub struct Content {
     pub hole: u16,
 }
 
-/// What a volume keeps of its blocks, so that no block is read in vain: each one's content, block 0 left aside; by code
-/// the lowest data block that may have a hole of the type's size; how many blocks are free, and the lowest that may be.
+/// What a volume keeps of its blocks, so that no block is read in vain: each one's content, block 0 left aside; for each multiple
+/// of 8 the lowest data block that may have a hole of so many bytes; how many blocks are free, and the lowest that may be.
 #[derive(Drop)]
 pub struct Space {
     pub contents: Vec<Content>,
@@ -34,17 +34,10 @@ pub struct Space {
     pub lowest_free: u32,
 }
 
-/// The bytes that a segment with a code takes; 0 where there is no type.
-pub fn size_of(sizes: &[u16], code: u8) -> u16
-    ensures { result ≡ slice_index sizes.now code }
-{
-    sizes.get(code as usize).copied().unwrap_or(0)
-}
-
 /// The length of the largest hole of a block.
-pub fn largest_hole(bytes: &[u8], sizes: &[u16]) -> u16
+pub fn largest_hole(bytes: &[u8], sizes: &[SegmentSize]) -> u16
     requires { (8 ≤ length bytes.now) × (length bytes.now ≤ 32768) }
-    ensures { result ≡ largest_hole (parts_in (slice_index sizes.now) bytes.now) }
+    ensures { result ≡ largest_hole (parts_in sizes.now bytes.now) }
 {
     let mut largest = 0;
     for part in Parts::new(bytes, sizes) {
@@ -56,9 +49,9 @@ pub fn largest_hole(bytes: &[u8], sizes: &[u16]) -> u16
 }
 
 /// What is kept of a block with these bytes.
-pub fn content_of(bytes: &[u8], sizes: &[u16]) -> Content
+pub fn content_of(bytes: &[u8], sizes: &[SegmentSize]) -> Content
     requires { (8 ≤ length bytes.now) × (length bytes.now ≤ 32768) }
-    ensures { IsContent (slice_index sizes.now) bytes.now result }
+    ensures { IsContent sizes.now bytes.now result }
 {
     let kind = bytes[2];
     let hole = if kind == DATA {

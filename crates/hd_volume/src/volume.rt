@@ -7,14 +7,16 @@ ghost use Rattle.hd_bytes.specs.Numbers.{number_at};
 ghost use Rattle.hd_volume.specs.Headers.{header_of};
 ghost use Rattle.hd_volume.specs.Volumes.{IsFormatted, block_at};
 ghost use Rattle.hd_volume.specs.Records.{find};
-ghost use Rattle.hd_volume.specs.Calls.{IsCall, IsRead, HasSegment, IsWritten, IsFreed};
+ghost use Rattle.hd_volume.specs.Calls.{IsCall, IsRead, HasSegment, KeepsSize, IsWritten, IsFreed};
+ghost use Rattle.hd_block.specs.Sizes.{size_at};
 
 use crate::blocks::Blocks;
 use crate::load::{size_table, survey};
-use crate::space::{Space, open_block, size_of};
+use crate::space::{Space, open_block};
 use crate::store::BlockStore;
+use hd_block::size_at;
 use hd_bytes::read_u32;
-use hd_dbd::{Dbd, Refused};
+use hd_dbd::{Dbd, Refused, SegmentSize};
 use std::alloc::Global;
 use std::marker::Model;
 
@@ -38,7 +40,7 @@ pub const HEIGHT: usize = 40;
 pub struct Volume<S: BlockStore> {
     pub(crate) blocks: Blocks<S>,
     pub(crate) space: Space,
-    pub(crate) sizes: Vec<u16>,
+    pub(crate) sizes: Vec<SegmentSize>,
 }
 
 impl<S: BlockStore> Model for Volume<S> {
@@ -97,10 +99,11 @@ impl<S: BlockStore> Volume<S> {
         Ok(&self.blocks.hand()[at..end])
     }
 
-    /// Writes bytes into the segment at an address, from an offset past its code on.
+    /// Writes bytes into the segment at an address, from an offset past its code on; it takes as many bytes as before.
     pub fn write_at(&mut self, address: u32, offset: usize, bytes: &[u8]) -> Result<(), Refused>
         requires formatted { IsTrue self.old.is_sound → IsFormatted self.old }
         requires past_code { 0 < offset }
+        requires keeps_size { IsTrue self.old.is_sound → KeepsSize self.old address offset bytes.now }
         requires there { IsTrue self.old.is_sound → HasSegment self.old address (offset + length bytes.now) }
         ensures call { IsCall self.old result self.new }
         ensures written { OnOk result (IsTrue self.old.is_sound → IsWritten self.old address offset bytes.now self.new) }
@@ -129,11 +132,11 @@ impl<S: BlockStore> Volume<S> {
         let size = self.blocks.block_size();
         let (n, at) = self.blocks.place(address);
         self.blocks.fetch(n)?;
-        let len = segment_length(self.blocks.hand(), &self.sizes, at);
-        if at < 8 || len < 8 || len as usize > size - at {
+        let len = size_at(self.blocks.hand(), &self.sizes, at);
+        if at < 8 || len < 8 || len > size - at {
             return Ok(());
         }
-        self.blocks.give(&self.sizes, at as u16, len);
+        self.blocks.give(&self.sizes, at as u16, len as u16);
         open_block(&mut self.space, n, size as u16);
         Ok(())
     }
@@ -236,21 +239,13 @@ impl<S: BlockStore> Volume<S> {
     }
 }
 
-/// The bytes of the segment at a place of a block, as its code says.
-fn segment_length(block: &[u8], sizes: &[u16], at: usize) -> u16
-    requires { at < length block.now }
-    ensures { result ≡ slice_index sizes.now (slice_index block.now at) }
-{
-    size_of(sizes, block[at])
-}
-
 /// Where the segment at a place of a block ends, at most at the end of the block.
-fn segment_end(block: &[u8], sizes: &[u16], at: usize) -> usize
-    requires { at < length block.now }
-    ensures { result ≡ min (at + slice_index sizes.now (slice_index block.now at)) (length block.now) }
+fn segment_end(block: &[u8], sizes: &[SegmentSize], at: usize) -> usize
+    requires { (at < length block.now) × (length block.now ≤ 32768) }
+    ensures { result ≡ min (at + size_at sizes.now block.now at) (length block.now) }
 {
-    let len = size_of(sizes, block[at]) as usize;
-    (at + len).min(block.len())
+    let len = size_at(block, sizes, at);
+    at.saturating_add(len).min(block.len())
 }
 
 /// The number of four bytes at a place of block 0.

@@ -2,6 +2,7 @@ use Rattle.std.proofs.Common.{◌<◌, ◌≤◌, ◌+◌, ◌-◌, ◌≡◌, �
 use Rattle.hd_block.specs.Extents.{Extent, IsDivided}
 use Rattle.hd_block.specs.Found.{Progress, SeeksHole}
 use Rattle.hd_block.proofs.holes.find_hole.Given as goal
+use Rattle.hd_dbd.specs.declared.facts.SegmentSize.{SegmentSize}
 
 abbrev pub invariant-walk : goal.invariant-walk
 invariant-walk l = record {
@@ -9,7 +10,7 @@ invariant-walk l = record {
   head : (8 ≤ l.link) ⊎ (l.link ≡ 0);
   end : 8 ≤ l.end;
   small : l.place < 65536;
-  progress : (sizes : ℕ → ℕ) (xs : List Extent) → IsDivided sizes l.bytes xs → Progress sizes l.bytes (SeeksHole l.size xs) xs l.end l.place l.link;
+  progress : (sizes : List SegmentSize) (xs : List Extent) → IsDivided sizes l.bytes xs → Progress sizes l.bytes (SeeksHole l.size xs) xs l.end l.place l.link;
 }
 
 abbrev pub decreases-walk : goal.decreases-walk

@@ -14,6 +14,7 @@ use Rattle.hd_check_blocks.specs.Places.{places_at, places_behind, ArePlaces}
 use Rattle.hd_check_blocks.proofs.BlockFaults.{wrong-least, all-right}
 use Rattle.hd_check_blocks.proofs.PlaceLemmas.{are-places}
 use Rattle.hd_check_blocks.proofs.blocks.blocks_fault.Goals as goal
+use Rattle.hd_dbd.specs.declared.facts.SegmentSize.{SegmentSize}
 
 pub returns-in-Some-clause-some : goal.returns-in-Some-clause-some
 returns-in-Some-clause-some g c = λ sound.
@@ -34,14 +35,14 @@ returns-in-Some-clause-some g c = λ sound.
     let there : HasBlock v.size v.image c.loop-n.n =
     (let fits : c.loop-n.n * v.size + v.size ≤ (header_of v.image).count * v.size = row_fits c.loop-n.n v.size (header_of v.image).count v.size (omega arith) (omega arith) in omega arith) in
     let some : 0 < v.size = (let own = c.block_size-size.ensures.value in let least = c.block_size-size.ensures.least in omega arith) in
-    let W : List ℕ → List ℕ → ℕ → Fault → Type 0 = λ s b a f. IsWrongBlock s b a f in
+    let W : List SegmentSize → List ℕ → ℕ → Fault → Type 0 = λ s b a f. IsWrongBlock s b a f in
     let O : Option Fault → Type 0 = λ o. IfSome o (λ f. IsWrongBlock w.sizes (block_at w c.loop-n.n) (c.loop-n.n * w.size) f) in
     let wrong : IsWrongBlock w.sizes (block_at w c.loop-n.n) (c.loop-n.n * w.size) c.in-Some.fault = subst O c.in-Some.is (c.in_ok-stored_block_fault.ensures.some now) in
     let block : block_at w c.loop-n.n ≡ block_at v c.loop-n.n = rw (size, same) refl in
     wrong-least d v c.loop-n.n c.in-Some.fault some there (let first = i.first in omega arith) (i.right sound)
     (subst (λ (a : ℕ). W v.sizes (block_at v c.loop-n.n) a c.in-Some.fault) (ap (λ (z : ℕ). c.loop-n.n * z) size)
     (subst (λ (b : List ℕ). W v.sizes b (c.loop-n.n * w.size) c.in-Some.fault) block
-    (subst (λ (s : List ℕ). W s (block_at w c.loop-n.n) (c.loop-n.n * w.size) c.in-Some.fault) sizes wrong)))
+    (subst (λ (s : List SegmentSize). W s (block_at w c.loop-n.n) (c.loop-n.n * w.size) c.in-Some.fault) sizes wrong)))
 
 pub returns-clause-none : goal.returns-clause-none
 returns-clause-none g c = λ sound.
@@ -77,10 +78,10 @@ loop-n-preserved g c =
             let P : Option Fault → Type 0 = λ o. IfNone o (IsRightBlock w.sizes (block_at w n)) in
             let own : IsRightBlock w.sizes (block_at w n) = subst P c.in-None.is (c.in_ok-stored_block_fault.ensures.none now) in
             let block : block_at w n ≡ block_at v n = (let e = same sound in rw (size, e) refl) in
-            let R : List ℕ → List ℕ → Type 0 = λ s b. IsRightBlock s b in
+            let R : List SegmentSize → List ℕ → Type 0 = λ s b. IsRightBlock s b in
             let at : m ≡ n = omega arith in
             subst (λ (k : ℕ). IsRightBlock v.sizes (block_at v k)) (sym at)
-            (subst (λ (b : List ℕ). R v.sizes b) block (subst (λ (s : List ℕ). R s (block_at w n)) sizes own)))
+            (subst (λ (b : List ℕ). R v.sizes b) block (subst (λ (s : List SegmentSize). R s (block_at w n)) sizes own)))
       ];
       places = λ sound.
           (let now = sound-now sound in

@@ -6,6 +6,6 @@ use Rattle.hd_check_blocks.proofs.wrong_place.wrong_place.Given as goal
 
 abbrev pub invariant-loop-turn : goal.invariant-loop-turn
 invariant-loop-turn l = record {
-  read : (places : List ℕ) → HasFreeElements l.block places → IsReadUpTo (stored_sizes l.dbd.types) l.block places l.at.place l.at.next;
+  read : (places : List ℕ) → HasFreeElements l.block places → IsReadUpTo l.sizes l.block places l.at.place l.at.next;
   past : l._turn + 8 ≤ l.at.place;
 }

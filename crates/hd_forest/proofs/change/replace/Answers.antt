@@ -6,6 +6,7 @@ use Rattle.hd_links.specs.Links.{Links}
 use Rattle.hd_links.specs.Changes.{CanReplace, replaced}
 use Rattle.hd_image.specs.Records.{links_of}
 use Rattle.hd_forest.specs.Sets.{IsRecorded}
+use Rattle.hd_image.proofs.Found.{keeps-size}
 use Rattle.hd_forest.proofs.Reading.{after-read, sound-before}
 use Rattle.hd_forest.proofs.Exchanging.{recorded-after, replace-room, recorded-replaced, replaced-done}
 use Rattle.hd_forest.proofs.change.replace.Goals as goal
@@ -21,6 +22,19 @@ write_at-requires-clause-there g c now =
     = subst (λ (m : Links). CanReplace d.types m c.args.address c.args.bytes.now) (sym same.links) (c.requires.there sound) in
     replace-room d v c.args.address c.in_ok-code.code c.place_of_bytes.result c.args.bytes.now c.place_of_bytes.ensures.fit (same.volume (c.requires.of sound)) can
     (c.in_ok-code.ensures.value sound ∙ ap (λ (m : Links). m.code c.args.address) (sym same.links)) c.place_of_bytes.ensures.value
+
+pub write_at-requires-clause-keeps_size : goal.write_at-requires-clause-keeps_size
+write_at-requires-clause-keeps_size g c now =
+    let d : Database = c.args.dbd.now in
+    let u : VolumeState = c.args.volume.now in
+    let v : VolumeState = c.code_at.new.volume in
+    let sound = sound-before u v c.in_ok-code.ensures.read now in
+    let same = after-read d u v c.in_ok-code.ensures.read sound in
+    let can : CanReplace d.types (links_of d.types v) c.args.address c.args.bytes.now
+    = subst (λ (m : Links). CanReplace d.types m c.args.address c.args.bytes.now) (sym same.links) (c.requires.there sound) in
+    keeps-size d v c.args.address c.place_of_bytes.result c.args.bytes.now c.place_of_bytes.ensures.fit (same.volume (c.requires.of sound)) c.place_of_bytes.ensures.some
+    (replace-room d v c.args.address c.in_ok-code.code c.place_of_bytes.result c.args.bytes.now c.place_of_bytes.ensures.fit (same.volume (c.requires.of sound)) can
+    (c.in_ok-code.ensures.value sound ∙ ap (λ (m : Links). m.code c.args.address) (sym same.links)) c.place_of_bytes.ensures.value)
 
 pub returns-clause-replaced : goal.returns-clause-replaced
 returns-clause-replaced g c =

@@ -20,7 +20,7 @@ loop-n-preserved g c =
     let sound-now = λ (sound : IsTrue c.args.blocks.now.is_sound). (let s : IsTrue c.loop-n.blocks.is_sound = rw inv.is_sound sound in s) in
     let same = λ (sound : IsTrue c.args.blocks.now.is_sound). (let s : block_of c.loop-n.blocks.size c.loop-n.blocks.image n ≡ block_of size image n = rw (inv.size, inv.image sound) refl in s) in
     let own = λ (sound : IsTrue c.args.blocks.now.is_sound) (some : 0 < n).
-    (let P : List ℕ → Type 0 = λ b. IsContent (slice_index c.args.sizes.now) b x in
+    (let P : List ℕ → Type 0 = λ b. IsContent c.args.sizes.now b x in
     let s : P (block_of size image n) = subst P (same sound) (c.in_ok-content.ensures.content (sound-now sound) some) in s)
     in
     record {
@@ -32,14 +32,14 @@ loop-n-preserved g c =
       stored = λ sound. c.in_ok-content.ensures.stands (sound-now sound) (inv.stored sound ∙ sym (inv.image sound)) ∙ inv.image sound;
       len = c.in_ok-note.ensures.len ∙ ap (λ (k : ℕ). k + 1) inv.len;
       contents = λ sound m some below.
-          let P : List Content → Type 0 = λ xs. IsContent (slice_index c.args.sizes.now) (block_of size image m) (slice_index_or xs m d) in
+          let P : List Content → Type 0 = λ xs. IsContent c.args.sizes.now (block_of size image m) (slice_index_or xs m d) in
           subst P (sym c.in_ok-note.ensures.contents)
           (elim (cases_lt m n) [
-            | inl l ↦ (let Q : Content → Type 0 = λ y. IsContent (slice_index c.args.sizes.now) (block_of size image m) y in
+            | inl l ↦ (let Q : Content → Type 0 = λ y. IsContent c.args.sizes.now (block_of size image m) y in
                 subst Q (sym (content-before old x d m (omega arith))) (inv.contents sound m some l))
             | inr l ↦ (let here : m ≡ n = omega arith in
-                let Q : Content → Type 0 = λ y. IsContent (slice_index c.args.sizes.now) (block_of size image m) y in
-                let R : ℕ → Type 0 = λ k. IsContent (slice_index c.args.sizes.now) (block_of size image k) x in
+                let Q : Content → Type 0 = λ y. IsContent c.args.sizes.now (block_of size image m) y in
+                let R : ℕ → Type 0 = λ k. IsContent c.args.sizes.now (block_of size image k) x in
                 subst Q (sym (content-last old x d m (omega arith))) (subst R (sym here) (own sound (omega arith))))
           ]);
       lowest = λ k. rw c.note.ensures.lowest (inv.lowest k);

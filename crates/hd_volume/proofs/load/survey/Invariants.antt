@@ -13,7 +13,7 @@ invariant-loop-n g l = record {
   image : IsTrue l.fn.blocks.is_sound → l.blocks.image ≡ l.fn.blocks.image;
   stored : IsTrue l.fn.blocks.is_sound → l.blocks.stored ≡ l.fn.blocks.image;
   len : vec_len l.space.contents ≡ l.n;
-  contents : IsTrue l.fn.blocks.is_sound → (m : ℕ) → 0 < m → m < l.n → IsContent (slice_index l.sizes) (block_of l.fn.blocks.size l.fn.blocks.image m) (content_at l.space m);
+  contents : IsTrue l.fn.blocks.is_sound → (m : ℕ) → 0 < m → m < l.n → IsContent l.sizes (block_of l.fn.blocks.size l.fn.blocks.image m) (content_at l.space m);
   lowest : (c : ℕ) → slice_index l.space.lowest.items c ≤ 1;
   lowest_free : l.space.lowest_free ≡ 1;
   few : l.space.free ≤ l.n;

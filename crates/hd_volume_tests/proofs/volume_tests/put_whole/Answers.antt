@@ -1,7 +1,9 @@
 use Rattle.std.proofs.Common.{◌≡◌, ◌==◌, ℕ, ◌<◌, List, true, false, length, slice_index, inl, inr, sym, ap, ◌∙◌, rules, arith}
 use Rattle.std.proofs.lemmas.Bool.{cases_eq, eq-eqb}
-use Rattle.hd_dbd.proofs.StoredSizes.{stored_sizes-at}
+use Rattle.hd_block.proofs.SizeLemmas.{size-fixed}
 use Rattle.hd_volume_tests.proofs.volume_tests.put_whole.Goals as goal
+use Rattle.hd_dbd.specs.declared.facts.SegmentSize.{SegmentSize}
+use Rattle.hd_block.specs.Sizes.{size_at}
 
 pub put-requires-clause-whole : goal.put-requires-clause-whole
 put-requires-clause-whole g c =
@@ -11,4 +13,4 @@ put-requires-clause-whole g c =
       | inr other ↦ omega arith
     ] in
     let len : length bytes ≡ c.stored_size.result = search rules in
-    (some, ap (λ (s : List ℕ). slice_index s (slice_index bytes 0)) c.requires.sizes ∙ stored_sizes-at c.args.dbd.now.types (slice_index bytes 0) ∙ sym c.stored_size.ensures ∙ sym len)
+    (some, ap (λ (s : List SegmentSize). size_at s bytes 0) c.requires.sizes ∙ size-fixed c.args.dbd.now.types bytes 0 ∙ sym c.stored_size.ensures ∙ sym len)

@@ -14,7 +14,7 @@ returns-clause-others g c =
 
 pub returns-clause-block : goal.returns-clause-block
 returns-clause-block g c =
-    let P : Buffered → Type 0 = λ b. IsTrue b.is_sound → 0 < b.hand → IsGiven (slice_index c.args.sizes.now) c.args.offset c.args.size (block_of b.size b.image b.hand) (block_of b.size (image_of c.self.inside.block_size (g.S.BlockStore.contents c.self.inside.store) c.self.inside.head (edited c.self.inside.hand c.give_to.new.bytes)) b.hand) in
+    let P : Buffered → Type 0 = λ b. IsTrue b.is_sound → 0 < b.hand → IsGiven c.args.sizes.now c.args.offset c.args.size (block_of b.size b.image b.hand) (block_of b.size (image_of c.self.inside.block_size (g.S.BlockStore.contents c.self.inside.store) c.self.inside.head (edited c.self.inside.hand c.give_to.new.bytes)) b.hand) in
     subst P c.self.view_is
     (λ sound some.
     let k = buffers-of c.self.invariant sound in

@@ -1,4 +1,4 @@
-use Rattle.std.proofs.Common.{ℕ, slice_index, vec_len, IsTrue, IfSome, IfNone, subst, sym, arith}
+use Rattle.std.proofs.Common.{ℕ, length, vec_len, IsTrue, IfSome, IfNone, subst, sym, arith}
 use Rattle.std.specs.Vec.{vec_capacity}
 use Rattle.hd_volume.specs.Volumes.{VolumeState, IsFormatted}
 use Rattle.hd_volume.specs.Rooms.{HasHole}
@@ -18,17 +18,17 @@ seek_hole-requires-clause-divided g c =
 
 pub returns-clause-found : goal.returns-clause-found
 returns-clause-found g c =
-    let P : VolumeState → Type 0 = λ v. IsTrue v.is_sound → IfSome c.in_ok-found.found (λ n. HasRoom v n (slice_index v.sizes c.args.code)) in
+    let P : VolumeState → Type 0 = λ v. IsTrue v.is_sound → IfSome c.in_ok-found.found (λ n. HasRoom v n (length c.args.bytes.now)) in
     let room : ℕ = room_for c.self.inside.blocks.room (vec_len c.self.inside.space.contents) (vec_capacity c.self.inside.space.contents) in
     let v : VolumeState = volume_of c.self.inside.blocks c.self.inside.sizes.items room in
     let least = c.self.invariant.least in
     subst P c.self.view_is
-    (λ sound. if-some-map c.in_ok-found.found (λ n h. room-of v n (slice_index v.sizes c.args.code) (omega arith) h)
+    (λ sound. if-some-map c.in_ok-found.found (λ n h. room-of v n (length c.args.bytes.now) (omega arith) h)
     (rw c.deref.ensures.value at (c.in_ok-found.ensures.found sound)))
 
 pub returns-clause-none : goal.returns-clause-none
 returns-clause-none g c =
-    let P : VolumeState → Type 0 = λ v. IsTrue v.is_sound → IfNone c.in_ok-found.found (HasHole v (slice_index v.sizes c.args.code) → ⊥) in
+    let P : VolumeState → Type 0 = λ v. IsTrue v.is_sound → IfNone c.in_ok-found.found (HasHole v (length c.args.bytes.now) → ⊥) in
     let room : ℕ = room_for c.self.inside.blocks.room (vec_len c.self.inside.space.contents) (vec_capacity c.self.inside.space.contents) in
     let v : VolumeState = volume_of c.self.inside.blocks c.self.inside.sizes.items room in
     let least = c.self.invariant.least in
@@ -36,5 +36,5 @@ returns-clause-none g c =
     subst P c.self.view_is
     (λ sound.
     let f : IsFormatted v = subst F (sym c.self.view_is) c.requires.formatted sound in
-    if-none-map c.in_ok-found.found (λ h. no-hole v (slice_index v.sizes c.args.code) f.header (omega arith) h)
+    if-none-map c.in_ok-found.found (λ h. no-hole v (length c.args.bytes.now) f.header (omega arith) h)
     (rw c.deref.ensures.value at (c.in_ok-found.ensures.none sound)))

@@ -11,6 +11,7 @@ use Rattle.hd_volume.proofs.FrameLemmas.{HasChanged}
 use Rattle.hd_volume.proofs.CallLemmas.{free-frees, free-space, IsOpened, changed-by, segment-within, segment-size}
 use Rattle.hd_volume.proofs.volume.Volume.free.Goals as goal
 use Rattle.hd_volume.proofs.volume.Volume.free.Goals.{then-at-lt8-via-then-at-lt8, then-at-lt8-via-else-at-lt8+then-len-lt8, then-at-lt8-via-else-at-lt8+else-len-lt8+then-len-size}
+use Rattle.hd_block.specs.Sizes.{size_at}
 
 pub fetch-requires : goal.fetch-requires
 fetch-requires g c = record {
@@ -40,8 +41,8 @@ returns-then-at-lt8-clause-freed g c sound =
     let at : c.place-n.result.1 ≡ a % v.size = c.place-n.ensures.offset in
     let block : c.hand.result.now ≡ block_at v (a / v.size) = c.hand.ensures.value now some ∙ (let e : block_of c.fetch.new.self.size c.fetch.new.self.image c.fetch.new.self.hand ≡ block_at v (a / v.size) = rw (c.fetch.ensures.size, image, hand) refl in e) in
     let sized = segment-size v a 0 f h in
-    let code : slice_index c.deref.result.now (slice_index c.hand.result.now c.place-n.result.1) ≡ slice_index v.sizes (slice_index (block_at v (a / v.size)) (a % v.size)) = rw (c.deref.ensures.value, block, at) refl in
-    let long : c.segment_length-len.result ≡ length h.bytes = c.segment_length-len.ensures ∙ code ∙ sized.0 in
+    let code : size_at c.deref.result.now c.hand.result.now c.place-n.result.1 ≡ size_at v.sizes (block_at v (a / v.size)) (a % v.size) = rw (c.deref.ensures.value, block, at) refl in
+    let long : c.size_at-len.result ≡ length h.bytes = c.size_at-len.ensures ∙ code ∙ sized.0 in
     let fits = segment-within v a 0 f h in
     absurd (elim c.then-at-lt8.branch [
       | then-at-lt8-via-then-at-lt8 w ↦ (let over = w.if-at-lt8.true in omega arith)
@@ -78,11 +79,11 @@ invariant_of-self-2 g c =
           let at : c.place-n.result.1 ≡ a % v.size = c.place-n.ensures.offset in
           let block : c.hand.result.now ≡ block_at v (a / v.size) = c.hand.ensures.value now some ∙ (let e : block_of c.fetch.new.self.size c.fetch.new.self.image c.fetch.new.self.hand ≡ block_at v (a / v.size) = rw (c.fetch.ensures.size, image, hand) refl in e) in
           let sized = segment-size v a 0 f h in
-          let code : slice_index c.deref.result.now (slice_index c.hand.result.now c.place-n.result.1) ≡ slice_index v.sizes (slice_index (block_at v (a / v.size)) (a % v.size)) = rw (c.deref.ensures.value, block, at) refl in
-          let long : c.segment_length-len.result ≡ length h.bytes = c.segment_length-len.ensures ∙ code ∙ sized.0 in
+          let code : size_at c.deref.result.now c.hand.result.now c.place-n.result.1 ≡ size_at v.sizes (block_at v (a / v.size)) (a % v.size) = rw (c.deref.ensures.value, block, at) refl in
+          let long : c.size_at-len.result ≡ length h.bytes = c.size_at-len.ensures ∙ code ∙ sized.0 in
           let fits = segment-within v a 0 f h in
           let changed : HasChanged v w (a / v.size) = changed-by v w c.fetch.new.self.size c.fetch.new.self.hand (a / v.size) c.fetch.new.self.image size refl c.fetch.ensures.size image hand (c.give.ensures.others now some) in
-          let new : IsGiven (slice_index v.sizes) (a % v.size) (length h.bytes) (block_at v (a / v.size)) (block_of v.size w.image (a / v.size)) =
+          let new : IsGiven v.sizes (a % v.size) (length h.bytes) (block_at v (a / v.size)) (block_of v.size w.image (a / v.size)) =
           rw (c.deref-2.ensures.value, c.fetch.ensures.size, image, hand, at, long) at (c.give.ensures.block now some) in
           let least = c.self.invariant.least in
           let number : c.place-n.result.0 ≡ a / v.size = c.place-n.ensures.number in
@@ -116,11 +117,11 @@ returns-clause-freed g c =
     let at : c.place-n.result.1 ≡ a % v.size = c.place-n.ensures.offset in
     let block : c.hand.result.now ≡ block_at v (a / v.size) = c.hand.ensures.value now some ∙ (let e : block_of c.fetch.new.self.size c.fetch.new.self.image c.fetch.new.self.hand ≡ block_at v (a / v.size) = rw (c.fetch.ensures.size, image, hand) refl in e) in
     let sized = segment-size v a 0 f h in
-    let code : slice_index c.deref.result.now (slice_index c.hand.result.now c.place-n.result.1) ≡ slice_index v.sizes (slice_index (block_at v (a / v.size)) (a % v.size)) = rw (c.deref.ensures.value, block, at) refl in
-    let long : c.segment_length-len.result ≡ length h.bytes = c.segment_length-len.ensures ∙ code ∙ sized.0 in
+    let code : size_at c.deref.result.now c.hand.result.now c.place-n.result.1 ≡ size_at v.sizes (block_at v (a / v.size)) (a % v.size) = rw (c.deref.ensures.value, block, at) refl in
+    let long : c.size_at-len.result ≡ length h.bytes = c.size_at-len.ensures ∙ code ∙ sized.0 in
     let fits = segment-within v a 0 f h in
     let changed : HasChanged v w (a / v.size) = changed-by v w c.fetch.new.self.size c.fetch.new.self.hand (a / v.size) c.fetch.new.self.image size refl c.fetch.ensures.size image hand (c.give.ensures.others now some) in
-    let new : IsGiven (slice_index v.sizes) (a % v.size) (length h.bytes) (block_at v (a / v.size)) (block_of v.size w.image (a / v.size)) =
+    let new : IsGiven v.sizes (a % v.size) (length h.bytes) (block_at v (a / v.size)) (block_of v.size w.image (a / v.size)) =
     rw (c.deref-2.ensures.value, c.fetch.ensures.size, image, hand, at, long) at (c.give.ensures.block now some) in
     let least = c.self.invariant.least in
     free-frees v w a f h (omega arith) changed new)

@@ -1,4 +1,4 @@
-use Rattle.std.proofs.Common.{IsTrue, slice_index}
+use Rattle.std.proofs.Common.{IsTrue, length, refl}
 use Rattle.hd_volume.specs.Volumes.{VolumeState}
 use Rattle.hd_volume.proofs.FrameLemmas.{AreSame}
 use Rattle.hd_volume.proofs.JoinLemmas.{put-from}
@@ -10,4 +10,4 @@ returns-clause-put g c sound =
     let m : VolumeState = c.ready_block.new.self in
     let now : IsTrue m.is_sound = rw c.in_ok-n.ensures.call.sound sound in
     let same : AreSame m c.put_in.new.self = record { size = c.in_ok-address.ensures.call.size; sizes = c.in_ok-address.ensures.call.sizes } in
-    put-from c.in_ok-n.n (slice_index v.sizes (slice_index c.args.bytes.now 0)) c.in_ok-address.address c.args.bytes.now c.in_ok-n.ensures.call.size same (c.in_ok-n.ensures.ready sound) (c.in_ok-address.ensures.placed now) c.requires.whole.1
+    put-from c.in_ok-n.n (length c.args.bytes.now) c.in_ok-address.address c.args.bytes.now c.in_ok-n.ensures.call.size same (c.in_ok-n.ensures.ready sound) (c.in_ok-address.ensures.placed now) refl

@@ -12,6 +12,7 @@ use Rattle.hd_volume.specs.Spaces.{volume_of, room_for}
 use Rattle.hd_volume.proofs.FrameLemmas.{HasChanged}
 use Rattle.hd_volume.proofs.PutLemmas.{address-block, address-place, changes-both, put-puts, put-space, room-found}
 use Rattle.hd_volume.proofs.volume.Volume.put_in.Goals as goal
+use Rattle.hd_block.specs.Sizes.{size_at}
 
 pub invariant_of-self-in-None : goal.invariant_of-self-in-None
 invariant_of-self-in-None g c =
@@ -21,7 +22,7 @@ invariant_of-self-in-None g c =
     let bytes : List ℕ = c.args.bytes.now in
     let F : VolumeState → Type 0 = λ u. IsTrue u.is_sound → IsFormatted u in
     let R : VolumeState → Type 0 = λ u. IsTrue u.is_sound → HasRoom u n (length bytes) in
-    let W : VolumeState → Type 0 = λ u. (0 < length bytes) × (slice_index u.sizes (slice_index bytes 0) ≡ length bytes) in
+    let W : VolumeState → Type 0 = λ u. (0 < length bytes) × (size_at u.sizes bytes 0 ≡ length bytes) in
     let whole = subst W (sym c.self.view_is) c.requires.whole in
     let size : c.take.new.self.size ≡ v.size = ap (λ (b : Buffered). b.size) c.take.ensures.rest ∙ c.fetch.ensures.size in
     let sound-is : c.take.new.self.is_sound ≡ v.is_sound = ap (λ (b : Buffered). b.is_sound) c.take.ensures.rest ∙ c.in_ok-fetch.ensures.sound in
@@ -40,7 +41,7 @@ invariant_of-self-in-None g c =
           let hand : c.fetch.new.self.hand ≡ n = c.in_ok-fetch.ensures.hand in
           let some : 0 < c.fetch.new.self.hand = omega arith in
           let image : c.fetch.new.self.image ≡ v.image = c.in_ok-fetch.ensures.image before in
-          let taken : IsTaken (slice_index v.sizes) (length bytes) (block_at v n) None (block_of v.size c.take.new.self.image n) =
+          let taken : IsTaken v.sizes (length bytes) (block_at v n) None (block_of v.size c.take.new.self.image n) =
           rw (c.deref.ensures.value, c.fetch.ensures.size, image, hand) at (c.in-None.ensures.block now some) in
           absurd (room-found v n (length bytes) (block_of v.size c.take.new.self.image n) f r whole.0 taken);
     }
@@ -53,7 +54,7 @@ returns-in-None-clause-placed g c sound =
     let bytes : List ℕ = c.args.bytes.now in
     let F : VolumeState → Type 0 = λ u. IsTrue u.is_sound → IsFormatted u in
     let R : VolumeState → Type 0 = λ u. IsTrue u.is_sound → HasRoom u n (length bytes) in
-    let W : VolumeState → Type 0 = λ u. (0 < length bytes) × (slice_index u.sizes (slice_index bytes 0) ≡ length bytes) in
+    let W : VolumeState → Type 0 = λ u. (0 < length bytes) × (size_at u.sizes bytes 0 ≡ length bytes) in
     let whole = subst W (sym c.self.view_is) c.requires.whole in
     let B : VolumeState → Type 0 = λ u. IsTrue u.is_sound in
     let before : IsTrue v.is_sound = subst B (sym c.self.view_is) sound in
@@ -64,7 +65,7 @@ returns-in-None-clause-placed g c sound =
     let hand : c.fetch.new.self.hand ≡ n = c.in_ok-fetch.ensures.hand in
     let some : 0 < c.fetch.new.self.hand = omega arith in
     let image : c.fetch.new.self.image ≡ v.image = c.in_ok-fetch.ensures.image before in
-    let taken : IsTaken (slice_index v.sizes) (length bytes) (block_at v n) None (block_of v.size c.take.new.self.image n) =
+    let taken : IsTaken v.sizes (length bytes) (block_at v n) None (block_of v.size c.take.new.self.image n) =
     rw (c.deref.ensures.value, c.fetch.ensures.size, image, hand) at (c.in-None.ensures.block now some) in
     absurd (room-found v n (length bytes) (block_of v.size c.take.new.self.image n) f r whole.0 taken)
 
@@ -76,7 +77,7 @@ invariant_of-self-in-Some g c =
     let bytes : List ℕ = c.args.bytes.now in
     let F : VolumeState → Type 0 = λ u. IsTrue u.is_sound → IsFormatted u in
     let R : VolumeState → Type 0 = λ u. IsTrue u.is_sound → HasRoom u n (length bytes) in
-    let W : VolumeState → Type 0 = λ u. (0 < length bytes) × (slice_index u.sizes (slice_index bytes 0) ≡ length bytes) in
+    let W : VolumeState → Type 0 = λ u. (0 < length bytes) × (size_at u.sizes bytes 0 ≡ length bytes) in
     let whole = subst W (sym c.self.view_is) c.requires.whole in
     let w : VolumeState = volume_of c.write_hand.new.self c.self.inside.sizes.items room in
     let size : c.write_hand.new.self.size ≡ v.size = ap (λ (b : Buffered). b.size) c.write_hand.ensures.rest ∙ (ap (λ (b : Buffered). b.size) c.take.ensures.rest ∙ c.fetch.ensures.size) in
@@ -96,7 +97,7 @@ invariant_of-self-in-Some g c =
           let hand : c.fetch.new.self.hand ≡ n = c.in_ok-fetch.ensures.hand in
           let some : 0 < c.fetch.new.self.hand = omega arith in
           let image : c.fetch.new.self.image ≡ v.image = c.in_ok-fetch.ensures.image before in
-          let taken : IsTaken (slice_index v.sizes) (length bytes) (block_at v n) (Some c.in-Some.at) (block_of v.size c.take.new.self.image n) =
+          let taken : IsTaken v.sizes (length bytes) (block_at v n) (Some c.in-Some.at) (block_of v.size c.take.new.self.image n) =
           rw (c.deref.ensures.value, c.fetch.ensures.size, image, hand) at (c.in-Some.ensures.block now some) in
           let t-size : c.take.new.self.size ≡ v.size = ap (λ (b : Buffered). b.size) c.take.ensures.rest ∙ c.fetch.ensures.size in
           let t-hand : c.take.new.self.hand ≡ n = ap (λ (b : Buffered). b.hand) c.take.ensures.rest ∙ hand in
@@ -112,7 +113,7 @@ invariant_of-self-in-Some g c =
           let ends : c.in-Some.at + length bytes ≤ length (block_of v.size c.take.new.self.image n) = (let s : c.fetch.new.self.size ≡ v.size = c.fetch.ensures.size in omega arith) in
           let low : c.in-Some.at < v.size = (let s : c.fetch.new.self.size ≡ v.size = c.fetch.ensures.size in let l = whole.0 in omega arith) in
           let least = c.self.invariant.least in
-          rw size (put-space v w n (n * v.size + c.in-Some.at) c.in-Some.at bytes (block_of v.size c.take.new.self.image n) f r (omega arith) changed taken new whole.0 whole.1 ends (address-block n v.size c.in-Some.at low) (address-place n v.size c.in-Some.at low) c.self.inside.space (c.self.invariant.true_of before));
+          rw size (put-space v w n (n * v.size + c.in-Some.at) c.in-Some.at bytes (block_of v.size c.take.new.self.image n) f r (omega arith) changed taken new (let w = rw whole.1 at (c.self.invariant.fits.whole bytes 0) in let l = whole.0 in omega arith) whole.1 ends (address-block n v.size c.in-Some.at low) (address-place n v.size c.in-Some.at low) c.self.inside.space (c.self.invariant.true_of before));
     }
 
 pub returns-in-Some-clause-placed : goal.returns-in-Some-clause-placed
@@ -123,7 +124,7 @@ returns-in-Some-clause-placed g c =
     let bytes : List ℕ = c.args.bytes.now in
     let F : VolumeState → Type 0 = λ u. IsTrue u.is_sound → IsFormatted u in
     let R : VolumeState → Type 0 = λ u. IsTrue u.is_sound → HasRoom u n (length bytes) in
-    let W : VolumeState → Type 0 = λ u. (0 < length bytes) × (slice_index u.sizes (slice_index bytes 0) ≡ length bytes) in
+    let W : VolumeState → Type 0 = λ u. (0 < length bytes) × (size_at u.sizes bytes 0 ≡ length bytes) in
     let whole = subst W (sym c.self.view_is) c.requires.whole in
     let room2 : ℕ = room_for c.write_hand.new.self.room (vec_len c.self.inside.space.contents) (vec_capacity c.self.inside.space.contents) in
     let w : VolumeState = volume_of c.write_hand.new.self c.self.inside.sizes.items room2 in
@@ -139,7 +140,7 @@ returns-in-Some-clause-placed g c =
     let hand : c.fetch.new.self.hand ≡ n = c.in_ok-fetch.ensures.hand in
     let some : 0 < c.fetch.new.self.hand = omega arith in
     let image : c.fetch.new.self.image ≡ v.image = c.in_ok-fetch.ensures.image before in
-    let taken : IsTaken (slice_index v.sizes) (length bytes) (block_at v n) (Some c.in-Some.at) (block_of v.size c.take.new.self.image n) =
+    let taken : IsTaken v.sizes (length bytes) (block_at v n) (Some c.in-Some.at) (block_of v.size c.take.new.self.image n) =
     rw (c.deref.ensures.value, c.fetch.ensures.size, image, hand) at (c.in-Some.ensures.block now some) in
     let t-size : c.take.new.self.size ≡ v.size = ap (λ (b : Buffered). b.size) c.take.ensures.rest ∙ c.fetch.ensures.size in
     let t-hand : c.take.new.self.hand ≡ n = ap (λ (b : Buffered). b.hand) c.take.ensures.rest ∙ hand in
@@ -157,4 +158,4 @@ returns-in-Some-clause-placed g c =
     let least = c.self.invariant.least in
     let A : ℕ → Type 0 = λ a. IsPutIn v n a bytes w in
     let address : n * v.size + c.in-Some.at ≡ n * c.block_size-size.result + c.from.result = rw (c.block_size-size.ensures.value, c.from.ensures) refl in
-    subst A address (put-puts v w n (n * v.size + c.in-Some.at) c.in-Some.at bytes (block_of v.size c.take.new.self.image n) f r (omega arith) changed taken new whole.0 whole.1 ends (address-block n v.size c.in-Some.at low) (address-place n v.size c.in-Some.at low)))
+    subst A address (put-puts v w n (n * v.size + c.in-Some.at) c.in-Some.at bytes (block_of v.size c.take.new.self.image n) f r (omega arith) changed taken new (let w = rw whole.1 at (c.self.invariant.fits.whole bytes 0) in let l = whole.0 in omega arith) whole.1 ends (address-block n v.size c.in-Some.at low) (address-place n v.size c.in-Some.at low)))

@@ -5,6 +5,7 @@ use Rattle.hd_volume.specs.Volumes.{VolumeState, block_at}
 use Rattle.hd_volume.specs.Spaces.{room_for}
 use Rattle.hd_volume.proofs.MapLemmas.{find-there, segment-read, IsBrought, is-read-seen}
 use Rattle.hd_volume.proofs.volume.Volume.segment_at.Goals as goal
+use Rattle.hd_block.specs.Sizes.{size_at}
 
 pub fetch-requires : goal.fetch-requires
 fetch-requires g c = record {
@@ -50,8 +51,8 @@ returns g c =
             let same : c.hand.result.now ≡ c.hand-2.result.now = first ∙ sym second in
             let sizes : c.deref.result.now ≡ v.sizes = c.deref.ensures.value ∙ ap (λ (w : VolumeState). w.sizes) c.self.view_is in
             let at : ℕ = c.place-n.result.1 in
-            let end : c.segment_end-end.result ≡ min (at + slice_index v.sizes (slice_index c.hand-2.result.now at)) (length c.hand-2.result.now) =
-            c.segment_end-end.ensures ∙ (let e : min (at + slice_index c.deref.result.now (slice_index c.hand.result.now at)) (length c.hand.result.now) ≡ min (at + slice_index v.sizes (slice_index c.hand-2.result.now at)) (length c.hand-2.result.now) = rw (sizes, same) refl in e) in
+            let end : c.segment_end-end.result ≡ min (at + size_at v.sizes c.hand-2.result.now at) (length c.hand-2.result.now) =
+            c.segment_end-end.ensures ∙ (let e : min (at + size_at c.deref.result.now c.hand.result.now at) (length c.hand.result.now) ≡ min (at + size_at v.sizes c.hand-2.result.now at) (length c.hand-2.result.now) = rw (sizes, same) refl in e) in
             segment-read v a 0 at c.segment_end-end.result c.hand-2.result.now (c.requires.formatted sound) (c.requires.there sound) (c.place-n.ensures.offset ∙ ap (λ (n : ℕ). a % n) bs) second end;
         after = tt;
         refusal = tt;

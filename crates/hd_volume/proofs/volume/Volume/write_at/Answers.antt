@@ -4,7 +4,7 @@ use Rattle.hd_bytes.specs.Blocks.{block_of, HasBlock}
 use Rattle.hd_bytes.specs.Ranges.{with_bytes}
 use Rattle.hd_volume.specs.Buffers.{Buffered}
 use Rattle.hd_volume.specs.Volumes.{VolumeState, block_at, IsFormatted}
-use Rattle.hd_volume.specs.Calls.{IsWritten, HasSegment}
+use Rattle.hd_volume.specs.Calls.{IsWritten, HasSegment, KeepsSize}
 use Rattle.hd_volume.specs.Spaces.{volume_of, room_for}
 use Rattle.hd_volume.proofs.MapLemmas.{find-there}
 use Rattle.hd_volume.proofs.FrameLemmas.{HasChanged}
@@ -43,6 +43,7 @@ invariant_of-self-2 g c =
     let sound-is : c.write_hand.new.self.is_sound ≡ v.is_sound = ap (λ (b : Buffered). b.is_sound) c.write_hand.ensures.rest ∙ c.in_ok-fetch.ensures.sound in
     let F : VolumeState → Type 0 = λ u. IsTrue u.is_sound → IsFormatted u in
     let T : VolumeState → Type 0 = λ u. IsTrue u.is_sound → HasSegment u a (o + length bytes) in
+    let K : VolumeState → Type 0 = λ u. IsTrue u.is_sound → KeepsSize u a o bytes in
     record {
       least = rw size c.self.invariant.least;
       most = rw size c.self.invariant.most;
@@ -53,6 +54,7 @@ invariant_of-self-2 g c =
           let before : IsTrue v.is_sound = rw (← sound-is) sound in
           let f : IsFormatted v = subst F (sym c.self.view_is) c.requires.formatted before in
           let h : HasSegment v a (o + length bytes) = subst T (sym c.self.view_is) c.requires.there before in
+          let keeps : KeepsSize v a o bytes = subst K (sym c.self.view_is) c.requires.keeps_size before in
           let now : IsTrue c.fetch.new.self.is_sound = rw c.in_ok-fetch.ensures.sound before in
           let there = find-there v a (o + length bytes) f h in
           let later = there.later in
@@ -63,7 +65,7 @@ invariant_of-self-2 g c =
           let at : c.place-n.result.1 ≡ a % v.size = c.place-n.ensures.offset in
           let new : block_of v.size w.image (a / v.size) ≡ with_bytes (block_at v (a / v.size)) (a % v.size + o) bytes = rw (c.fetch.ensures.size, image, hand, at) at (c.write_hand.ensures.block now some) in
           let least = c.self.invariant.least in
-          rw size (write-space v w a o bytes f h c.requires.past_code (omega arith) changed new c.self.inside.space (c.self.invariant.true_of before));
+          rw size (write-space v w a o bytes f h keeps (omega arith) changed new c.self.inside.space (c.self.invariant.true_of before));
     }
 
 pub returns-clause-written : goal.returns-clause-written
@@ -78,11 +80,13 @@ returns-clause-written g c =
     let size : c.write_hand.new.self.size ≡ v.size = ap (λ (b : Buffered). b.size) c.write_hand.ensures.rest ∙ c.fetch.ensures.size in
     let F : VolumeState → Type 0 = λ u. IsTrue u.is_sound → IsFormatted u in
     let T : VolumeState → Type 0 = λ u. IsTrue u.is_sound → HasSegment u a (o + length bytes) in
+    let K : VolumeState → Type 0 = λ u. IsTrue u.is_sound → KeepsSize u a o bytes in
     let P : VolumeState → Type 0 = λ u. IsTrue u.is_sound → IsWritten u a o bytes w in
     subst P c.self.view_is
     (λ before.
     let f : IsFormatted v = subst F (sym c.self.view_is) c.requires.formatted before in
     let h : HasSegment v a (o + length bytes) = subst T (sym c.self.view_is) c.requires.there before in
+    let keeps : KeepsSize v a o bytes = subst K (sym c.self.view_is) c.requires.keeps_size before in
     let now : IsTrue c.fetch.new.self.is_sound = rw c.in_ok-fetch.ensures.sound before in
     let there = find-there v a (o + length bytes) f h in
     let later = there.later in
@@ -93,4 +97,4 @@ returns-clause-written g c =
     let at : c.place-n.result.1 ≡ a % v.size = c.place-n.ensures.offset in
     let new : block_of v.size w.image (a / v.size) ≡ with_bytes (block_at v (a / v.size)) (a % v.size + o) bytes = rw (c.fetch.ensures.size, image, hand, at) at (c.write_hand.ensures.block now some) in
     let least = c.self.invariant.least in
-    write-writes v w a o bytes f h c.requires.past_code (omega arith) changed new)
+    write-writes v w a o bytes f h keeps (omega arith) changed new)
