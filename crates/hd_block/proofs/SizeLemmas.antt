@@ -31,9 +31,9 @@ size-by-moved (Varying prefix least most) b b' p q n same some is =
     let within = said-within prefix least most (number_at 2 b (p + prefix)) n is some in
     let said : number_at 2 b' (q + prefix) ≡ number_at 2 b (p + prefix) =
     number-moved 2 (p + prefix) (q + prefix) b b' (λ j l.
-        let to : q + prefix + j ≡ q + (prefix + j) = omega arith in
-        let from : p + (prefix + j) ≡ p + prefix + j = omega arith in
-        ap (slice_index b') to ∙ same (prefix + j) (omega (arith, within.0, within.1)) ∙ ap (slice_index b) from)
+    let to : q + prefix + j ≡ q + (prefix + j) = omega arith in
+    let from : p + (prefix + j) ≡ p + prefix + j = omega arith in
+    ap (slice_index b') to ∙ same (prefix + j) (omega (arith, within.0, within.1)) ∙ ap (slice_index b) from)
     in
     ap (size_said prefix least most) said ∙ is
 

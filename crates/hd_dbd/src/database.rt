@@ -8,7 +8,8 @@ ghost use Rattle.hd_dbd.specs.DatabaseRules.{well_formed};
 ghost use Rattle.hd_dbd.specs.DatabaseFaults.{size_fault, database_fault};
 
 use crate::facts::{
-    SegmentSize, TypeFacts, children_in, children_lists, facts_in, facts_of, levels_of, longest_path, type_of,
+    SegmentSize, TypeFacts, children_in, children_lists, facts_in, facts_of, levels_of,
+    longest_path, type_of,
 };
 use crate::hierarchy::{FreeSpace, SegType};
 use crate::keys::{compare_keys, key_in};

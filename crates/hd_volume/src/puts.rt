@@ -49,7 +49,12 @@ impl<S: BlockStore> Volume<S> {
         ensures small { IfOk result (λ o. IfSome o (λ n. n < MOST_BLOCKS)) }
         ensures refusal { OnlyDevice result }
     {
-        let found = seek_hole(&mut self.blocks, &mut self.space, &self.sizes, bytes.len() as u16)?;
+        let found = seek_hole(
+            &mut self.blocks,
+            &mut self.space,
+            &self.sizes,
+            bytes.len() as u16,
+        )?;
         Ok(found)
     }
 
