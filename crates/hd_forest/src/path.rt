@@ -1,4 +1,5 @@
-ghost use Rattle.std.specs.Prelude.{◌≡◌, ◌-◌, ◌≤◌, ◌<◌, [], ◌∷◌, ◌++◌, length, take};
+ghost use Rattle.std.specs.Prelude.{◌≡◌, ◌-◌, ◌≤◌, ◌<◌, [], ◌∷◌, ◌++◌, length, map, take};
+ghost use Rattle.hd_links.specs.Moves.{moved_to};
 
 use std::marker::Model;
 
@@ -91,5 +92,16 @@ impl Path {
         ensures few { length self.new < 15 }
     {
         self.count = self.count.saturating_sub(1);
+    }
+
+    /// Names the row at an address by another, to which it moved.
+    pub fn move_row(&mut self, from: u32, to: u32)
+        ensures { self.new ≡ map (λ x. moved_to from to x) self.old }
+    {
+        for own in self.addresses.iter_mut() {
+            if *own == from {
+                *own = to;
+            }
+        }
     }
 }

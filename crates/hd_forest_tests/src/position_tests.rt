@@ -58,7 +58,8 @@ fn told(position: &Position) -> (Option<u32>, Option<u32>, Option<u32>, bool, bo
 }
 
 /// What the test below saw of a PCB: behind a GU to EVE with a hold of the class and EVE, where the next row is, behind a GNP below the
-/// class, behind a deletion of the class, and as insertions leave it, of a class without parentage and of a book below the course.
+/// class, with the class at another address, behind a deletion of the class, and as insertions leave it, of a class without parentage
+/// and of a book below the course.
 #[derive(Drop)]
 struct Seen {
     back: bool,
@@ -67,6 +68,7 @@ struct Seen {
     last: Option<LastType>,
     next: Option<u32>,
     within: (Option<u32>, Option<u32>, Option<u32>, bool, bool),
+    moved: (Option<u32>, Option<u32>, Option<u32>, bool, bool),
     left: (Option<u32>, Option<u32>, Option<u32>, bool, bool),
     then: Option<u32>,
     alone: (Option<u32>, Option<u32>, Option<u32>, bool, bool),
@@ -114,6 +116,9 @@ fn watch<S: BlockStore>(volume: &mut Volume<S>, dbd: &Dbd) -> Result<Seen, Refus
         held,
     )?;
     let within = told(&position);
+    position.move_row(176, 304);
+    let moved = told(&position);
+    position.move_row(304, 176);
     let class = path_of(&[136, 176]);
     let before = row_before(volume, dbd, &class)?;
     unlink_span(volume, dbd, &class)?;
@@ -139,6 +144,7 @@ fn watch<S: BlockStore>(volume: &mut Volume<S>, dbd: &Dbd) -> Result<Seen, Refus
         last,
         next,
         within,
+        moved,
         left,
         then,
         alone,
@@ -192,11 +198,22 @@ fn stands_and_goes_back_in_the_sample(rt: HostRuntime) -> Result<(), Fail> {
     assert_eq!(rt; seen.last, Some(LastType { level: 3, code: 3 }));
     assert_eq!(rt; seen.next, Some(232));
     assert_eq!(rt; seen.within, (Some(200), Some(200), Some(176), true, false));
+    assert_eq!(rt; seen.moved, (Some(200), Some(200), Some(304), true, false));
     assert_eq!(rt; seen.left, (Some(136), Some(136), None, false, false));
     assert_eq!(rt; seen.then, Some(232));
     assert_eq!(rt; seen.alone, (Some(232), Some(232), Some(232), false, false));
     assert_eq!(rt; seen.below, (Some(264), Some(264), Some(136), false, false));
     fs::remove_file(&rt, "positions")?;
+    Ok(())
+}
+
+#[test]
+fn names_a_moved_row_on_the_path(rt: HostRuntime) -> Result<(), Fail> {
+    let mut path = path_of(&[136, 176, 216]);
+    path.move_row(216, 304);
+    path.move_row(136, 320);
+    path.move_row(200, 336);
+    assert_eq!(rt; path.addresses(), [320, 176, 304].as_slice());
     Ok(())
 }
 

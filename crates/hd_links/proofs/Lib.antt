@@ -13,6 +13,7 @@ pub mod Linking
 pub mod Gaps
 pub mod Unlinking
 pub mod Replacing
+pub mod Moving
 pub mod Numbers
 pub mod Ways
 pub mod Standing

@@ -1,5 +1,5 @@
 -- Laws of the linked forest, for every well-formed list of types.
-use Rattle.std.specs.Prelude.{slice_set, ◌≡◌, ℕ, ◌<◌, List, [], length, true, IsTrue}
+use Rattle.std.specs.Prelude.{slice_set, ◌≡◌, ℕ, ◌<◌, List, [], length, map, true, IsTrue}
 use Rattle.hd_dbd.specs.declared.hierarchy.FreeSpace.{FreeSpace}
 use Rattle.hd_dbd.specs.Types.{SegmentType}
 use Rattle.hd_dbd.specs.DatabaseRules.{well_formed}
@@ -12,7 +12,8 @@ use Rattle.hd_dbd.specs.Prefixes.{is_backward_kept}
 use Rattle.hd_links.specs.Placed.{Placed, forest_of, count, Lies, Holds}
 use Rattle.hd_links.specs.Pointers.{IsInChain, AreLinked, PointersAreTyped, PredecessorsAreOne, IsTwinAfter}
 use Rattle.hd_links.specs.Changes.{AgreeAt, Agree, twin_behind, linked, unlinked, replaced, with_leaf, without_span, with_bytes, CanLink, CanUnlink, CanReplace}
-use Rattle.hd_links.specs.Steps.{rows_of, addresses, address_at, RowsHaveAddresses, next_row, StepsAreRows}
+use Rattle.hd_links.specs.Moves.{moved_to, moved, with_address, CanMove}
+use Rattle.hd_links.specs.Steps.{rows_of, addresses, address_at, path_at, RowsHaveAddresses, next_row, StepsAreRows}
 use Rattle.hd_links.specs.Numbers.{LeafGoesInAt, RowsLeave}
 use Rattle.hd_links.specs.Faulty.{FaultyRecords}
 
@@ -73,6 +74,24 @@ ReplacingChangesBytes =
     → IsTrue (well_formed block_size frspc types) → IsLinkGraph types bound m → Holds types m f
     → CanReplace types m a bytes → Agree types (replaced m a bytes) m2
     → IsLinkGraph types bound m2 × Holds types m2 (with_bytes a bytes f)
+
+-- After a segment moved the records are those of a database, and hold the same forest, the row at its new address.
+abbrev pub MovingKeepsTheForest : Type 0
+MovingKeepsTheForest =
+    (block_size : ℕ) (frspc : FreeSpace) (types : List SegmentType) (bound : ℕ) (m : Links) (f : Forest Placed) (a b : ℕ)
+    → IsTrue (well_formed block_size frspc types) → IsLinkGraph types bound m → Holds types m f
+    → CanMove m a b → b < bound
+    → IsLinkGraph types bound (moved m a b)
+    × ((m2 : Links) → Agree types (moved m a b) m2 → IsLinkGraph types bound m2 × Holds types m2 (with_address a b f))
+
+-- A segment that moves leaves the rows as they were, and its new address stands wherever the old one stood.
+abbrev pub AMoveKeepsRows : Type 0
+AMoveKeepsRows =
+    (types : List SegmentType) (f : Forest Placed) (a b : ℕ)
+    → (rows_of (with_address a b f) ≡ rows_of f)
+    × (0 < a → (i : ℕ)
+    → (address_at (with_address a b f) i ≡ moved_to a b (address_at f i))
+    × (path_at types (with_address a b f) i ≡ map (moved_to a b) (path_at types f i)))
 
 -- Addresses are row numbers.
 abbrev pub AddressesAreRows : Type 0

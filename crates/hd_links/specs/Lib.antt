@@ -2,6 +2,7 @@ pub mod Links
 pub mod Placed
 pub mod Pointers
 pub mod Changes
+pub mod Moves
 pub mod Steps
 pub mod Numbers
 pub mod Faulty

@@ -1,5 +1,5 @@
 ghost use Rattle.hd_links.specs.LastRows.{LoadedRowsComeLast};
-ghost use Rattle.hd_links.specs.Laws.{PointersDecide, HeldTwinsAscend, LiesByItsPlaces, LinkingAddsALeaf, UnlinkingTakesASpan, ReplacingChangesBytes, AddressesAreRows, PointersFollowRows, FaultyRecordsHoldNone, LeavesGoInBetweenRows, SpansAreRowsToTheirEnd, BytesChangeOneRow, BackwardNamesTheTwinBefore, ChainsEnd, LastChildEndsTheTwins};
+ghost use Rattle.hd_links.specs.Laws.{PointersDecide, HeldTwinsAscend, LiesByItsPlaces, LinkingAddsALeaf, UnlinkingTakesASpan, ReplacingChangesBytes, MovingKeepsTheForest, AMoveKeepsRows, AddressesAreRows, PointersFollowRows, FaultyRecordsHoldNone, LeavesGoInBetweenRows, SpansAreRowsToTheirEnd, BytesChangeOneRow, BackwardNamesTheTwinBefore, ChainsEnd, LastChildEndsTheTwins};
 
 /// The pointers of a database's records decide which forest they hold.
 pub fn law_pointers_decide()
@@ -35,6 +35,16 @@ pub fn law_unlinking_takes_a_span()
 /// After a segment's bytes were replaced the records hold the forest with these bytes, all addresses kept.
 pub fn law_replacing_changes_bytes()
     ensures { ReplacingChangesBytes }
+{}
+
+/// After a segment moved to an address where none stood the records hold the same forest, the row at its new address.
+pub fn law_moving_keeps_the_forest()
+    ensures { MovingKeepsTheForest }
+{}
+
+/// A segment that moves leaves the rows as they were, and its new address stands wherever the old one stood.
+pub fn law_a_move_keeps_rows()
+    ensures { AMoveKeepsRows }
 {}
 
 /// Each placed address is that of one row, and each row has one address.

@@ -6,6 +6,7 @@ pub mod Falling
 pub mod Leaving
 pub mod Before
 pub mod Same
+pub mod Moving
 pub mod RootRows
 pub mod OnPaths
 pub mod Adding

@@ -8,6 +8,7 @@ use Rattle.hd_dbd.specs.Paths.{path_of}
 use Rattle.hd_dbd.specs.Positions.{Position, Place}
 use Rattle.hd_dbd.specs.Forest.{Forest}
 use Rattle.hd_links.specs.Placed.{Placed}
+use Rattle.hd_links.specs.Moves.{moved_to}
 use Rattle.hd_links.specs.Steps.{rows_of, address_at}
 
 -- ---- what is kept
@@ -95,3 +96,7 @@ is_on path a = list_any (λ b. b == a) path
 -- The span of the row at a, of level l, was taken out: what is kept changes where the row is on the path.
 abbrev pub without_row : ℕ → ℕ → List ℕ → Kept → Kept
 without_row a l before k = cond (is_on k.path a) (without_level l before k) k
+
+-- The row at an address moved to another: the path names it there.
+abbrev pub moved_row : ℕ → ℕ → Kept → Kept
+moved_row a b k = record k { path = map (λ x. moved_to a b x) k.path }

@@ -13,10 +13,11 @@ use Rattle.hd_calls.specs.Moves.{Rewrite, number_after_insert, position_after_in
 use Rattle.hd_links.specs.Links.{Links, IsLinkGraph}
 use Rattle.hd_links.specs.Placed.{Placed, Holds}
 use Rattle.hd_links.specs.Changes.{with_leaf, without_span, with_bytes, CanLink, CanUnlink}
+use Rattle.hd_links.specs.Moves.{with_address}
 use Rattle.hd_links.specs.Steps.{rows_of, address_at, path_at, LeadsDown, next_row}
 use Rattle.hd_links.specs.Numbers.{LeafGoesInAt}
 use Rattle.hd_links.specs.LastRows.{roots_of}
-use Rattle.hd_position.specs.Kept.{Kept, StandsFor, kept_start, path_before, row_on, without_row, without_hold, after_rewrite}
+use Rattle.hd_position.specs.Kept.{Kept, StandsFor, kept_start, path_before, row_on, without_row, without_hold, after_rewrite, moved_row}
 
 -- The records, a link graph of a well-formed database, hold the placed forest.
 pub record IsHeld (block_size : ℕ) (frspc : FreeSpace) (types : List SegmentType) (bound : ℕ) (m : Links) (f : Forest Placed) : Type 0 where
@@ -87,6 +88,12 @@ RewritingEndsHolds =
 -- Rows that get new bytes one by one end the holds that they do together.
 abbrev pub RewritesAddUp : Type 0
 RewritesAddUp = (w : Rewrite) (ws : List Rewrite) (q : Position) → position_after_rewrite ws (position_after_rewrite (w ∷ []) q) ≡ position_after_rewrite (w ∷ ws) q
+
+-- A row that moves to another address changes the path that is kept, and no position.
+abbrev pub MovingKeepsPositions : Type 0
+MovingKeepsPositions =
+    (types : List SegmentType) (f : Forest Placed) (a b : ℕ) (k : Kept) (q : Position) → 0 < a
+    → StandsFor types f k q → StandsFor types (with_address a b f) (moved_row a b k) q
 
 -- ---- paths by addresses
 

@@ -1,4 +1,4 @@
-ghost use Rattle.hd_position.specs.Laws.{TheStartIsBeforeAllRows, LinkingMovesPositions, LeavesGoInBelowLeaves, InsertionsAddUp, UnlinkingMovesPositions, ReplacingKeepsPositions, EndedHoldsHoldNothing, RewritingEndsHolds, RewritesAddUp, TheRowBeforeIsOne, PathsAreLevels, RowsAreFew, RootsAreOfLevelOne, SpansAreOnPaths};
+ghost use Rattle.hd_position.specs.Laws.{TheStartIsBeforeAllRows, LinkingMovesPositions, LeavesGoInBelowLeaves, InsertionsAddUp, UnlinkingMovesPositions, ReplacingKeepsPositions, EndedHoldsHoldNothing, RewritingEndsHolds, RewritesAddUp, MovingKeepsPositions, TheRowBeforeIsOne, PathsAreLevels, RowsAreFew, RootsAreOfLevelOne, SpansAreOnPaths};
 ghost use Rattle.hd_position.specs.Volumes.{ForestsOfVolumesAreHeld, LinkedRowsMovePositions, LinkedPathsGoInTogether, UnlinkedRowsMovePositions, LastPathsAreKept};
 
 /// What is kept before all rows stands for the start.
@@ -46,6 +46,11 @@ pub fn law_rewriting_ends_holds()
 /// Rows that get new bytes one by one end the holds that they do together.
 pub fn law_rewrites_add_up()
     ensures { RewritesAddUp }
+{}
+
+/// A row that moves to another address changes the path that is kept, and no position.
+pub fn law_moving_keeps_positions()
+    ensures { MovingKeepsPositions }
 {}
 
 /// A path that leads down, and behind whose last row stands a row, is that of the row before it.

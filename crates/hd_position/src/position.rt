@@ -1,5 +1,5 @@
 ghost use Rattle.std.specs.Prelude.{◌≡◌, option_map};
-ghost use Rattle.hd_position.specs.Kept.{kept_start, row_on, without_hold, is_held, after_rewrite, is_on, without_level, without_row};
+ghost use Rattle.hd_position.specs.Kept.{kept_start, row_on, without_hold, is_held, after_rewrite, is_on, without_level, without_row, moved_row};
 ghost use Rattle.hd_position.specs.LastTypes.{place_of};
 ghost use Rattle.hd_position.specs.Standing.{standing_on};
 
@@ -165,5 +165,12 @@ impl Position {
         if self.is_below(address) {
             self.leave_level(level, before);
         }
+    }
+
+    /// The row at an address moved to another: the path names it there.
+    pub fn move_row(&mut self, from: u32, to: u32)
+        ensures { self.new ≡ moved_row from to self.old }
+    {
+        self.path.move_row(from, to);
     }
 }
