@@ -95,7 +95,7 @@ impl<'b> IndexBlock<'b> {
         compare_keys(self.key(index), key).is_lt()
     }
 
-    /// How many of its first entries are below a key.
+    /// How many of its first entries are below a key. The last is looked at first, for new keys often come behind all others.
     pub fn place_of(&self, key: &[u8]) -> usize
         ensures most { result ≤ entry_count self.now.key_length self.now.bytes.now }
         ensures value { IfInOrder self.now.key_length self.now.bytes.now (result ≡ below_count key.now (entries_in self.now.key_length self.now.bytes.now)) }
@@ -104,7 +104,7 @@ impl<'b> IndexBlock<'b> {
         let mut low = 0;
         let mut high = count;
         while low < high {
-            let middle = low + (high - low) / 2;
+            let middle = middle_of(low, high, count);
             if self.is_below(middle, key) {
                 low = middle + 1;
             } else {
@@ -121,5 +121,17 @@ impl<'b> IndexBlock<'b> {
         let index = self.place_of(key);
         let next = if index < self.count() { 0 } else { self.next() };
         Seen { index, next }
+    }
+}
+
+/// Which of the entries from one to before another is looked at next: the last of all at first, else one in the middle.
+fn middle_of(low: usize, high: usize, count: usize) -> usize
+    requires { low < high }
+    ensures { (low ≤ result) × (result < high) }
+{
+    if high == count {
+        high - 1
+    } else {
+        low + (high - low) / 2
     }
 }

@@ -9,7 +9,8 @@ use Rattle.hd_entries.proofs.block.IndexBlock.place_of.Goals as goal
 pub loop-low-preserved-then-is_below : goal.loop-low-preserved-then-is_below
 loop-low-preserved-then-is_below c =
     let inv = c.loop-low.invariant in
-    let m : ℕ = c.loop-low.low + (c.loop-low.high - c.loop-low.low) / 2 in
+    let m : ℕ = c.middle_of-middle.result in
+    let within = c.middle_of-middle.ensures in
     record {
       order = omega arith;
       most = inv.most;
@@ -20,7 +21,8 @@ loop-low-preserved-then-is_below c =
 pub loop-low-preserved : goal.loop-low-preserved
 loop-low-preserved c =
     let inv = c.loop-low.invariant in
-    let m : ℕ = c.loop-low.low + (c.loop-low.high - c.loop-low.low) / 2 in
+    let m : ℕ = c.middle_of-middle.result in
+    let within = c.middle_of-middle.ensures in
     record {
       order = omega arith;
       most = omega arith;
