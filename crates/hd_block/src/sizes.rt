@@ -1,4 +1,4 @@
-ghost use Rattle.std.specs.Prelude.{◌≡◌, ◌≤◌, length, slice_index, slice_index_or};
+ghost use Rattle.std.specs.Prelude.{◌≡◌, ◌≤◌, ◌<◌, length, slice_index, slice_index_or};
 ghost use Rattle.hd_bytes.specs.Numbers.{number_at};
 ghost use Rattle.hd_dbd.specs.declared.facts.SegmentSize.TheVariants.{Fixed};
 ghost use Rattle.hd_block.specs.Sizes.{size_at, size_said};
@@ -8,27 +8,20 @@ use hd_dbd::SegmentSize;
 /// The bytes that the segment at a place takes, by the code in its first byte and, where its type's segments vary, as it says; 0
 /// where no segment is there. Bytes past the end are read as 0.
 pub fn size_at(bytes: &[u8], sizes: &[SegmentSize], place: usize) -> usize
-    requires { (place ≤ length bytes.now) × (length bytes.now ≤ 32768) }
+    requires { (place < length bytes.now) × (length bytes.now ≤ 32768) }
     ensures { result ≡ size_at sizes.now bytes.now place }
 {
-    match size_of(sizes, byte_at(bytes, place)) {
-        SegmentSize::Fixed(size) => size as usize,
-        SegmentSize::Varying(prefix, least, most) => {
-            let said = said_at(bytes, place + prefix as usize);
-            size_said(prefix, least, most, said)
+    match sizes.get(bytes[place] as usize) {
+        Some(SegmentSize::Fixed(size)) => *size as usize,
+        Some(SegmentSize::Varying(prefix, least, most)) => {
+            let said = said_at(bytes, place + *prefix as usize);
+            size_said(*prefix, *least, *most, said)
         }
+        None => 0,
     }
 }
 
-/// What a table has for the type of a code; 0 each for no type.
-fn size_of(sizes: &[SegmentSize], code: u8) -> SegmentSize
-    ensures { result ≡ slice_index_or sizes.now code (Fixed 0) }
-{
-    let none = SegmentSize::Fixed(0);
-    sizes.get(code as usize).copied().unwrap_or(none)
-}
-
-/// The byte at a place.
+/// The byte at a place; 0 past the end.
 fn byte_at(bytes: &[u8], place: usize) -> u8
     ensures { result ≡ slice_index bytes.now place }
 {
