@@ -99,7 +99,7 @@ fn pointers_fault<S: BlockStore>(
     if found.is_some() {
         return Ok(found);
     }
-    let found = predecessors_fault(&mut namings, places)?;
+    let found = predecessors_fault(alloc, &mut namings, places)?;
     if found.is_some() {
         return Ok(found);
     }

@@ -9,12 +9,7 @@ use Rattle.hd_links.proofs.Types.{is_in, in_cases, in_head, in_tail, AllAbove, A
 use Rattle.hd_check_blocks.specs.declared.places.Place.{Place}
 use Rattle.hd_check_pointers.specs.declared.namings.Naming.{Naming}
 use Rattle.hd_check_blocks.specs.Places.{IsPlaceOf, AreFrom, PlacesAscend}
-use Rattle.hd_check_pointers.specs.Namings.{naming_of, first_namings, segment_namings, namings_at, namings_of}
-
--- the holders of those pointers that name an address, in the table's order
-abbrev pub holders : ℕ → List Naming → List ℕ
-holders a [] = []
-holders a (n ∷ ns) = cond (n.target == a) (n.holder ∷ holders a ns) (holders a ns)
+use Rattle.hd_check_pointers.specs.Namings.{naming_of, first_namings, segment_namings, namings_at, namings_of, holders}
 
 -- the holder is one of these
 abbrev pub IsAmong : ℕ → List ℕ → Type 0
@@ -22,7 +17,7 @@ IsAmong h [] = ⊥
 IsAmong h (x ∷ xs) = (h ≡ x) ⊎ IsAmong h xs
 
 -- of two tables, one behind the other
-holders-parts : (a : ℕ) (xs ys : List Naming) → holders a (xs ++ ys) ≡ holders a xs ++ holders a ys
+pub holders-parts : (a : ℕ) (xs ys : List Naming) → holders a (xs ++ ys) ≡ holders a xs ++ holders a ys
 holders-parts a [] ys = refl
 holders-parts a (n ∷ ns) ys = elim (cases_Bool (n.target == a)) [
   | inl e ↦

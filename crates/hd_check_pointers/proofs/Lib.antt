@@ -7,6 +7,7 @@ pub mod RecordSteps
 pub mod Noting
 pub mod Holders
 pub mod Matching
+pub mod Arranging
 pub mod OneEach
 pub mod TwinChains
 pub mod PlaceNumbers

@@ -8,8 +8,8 @@ use Rattle.hd_check_blocks.specs.declared.fault.Fault.{Fault}
 use Rattle.hd_check_blocks.specs.declared.places.Place.{Place}
 use Rattle.hd_check_pointers.specs.declared.namings.Naming.{Naming}
 use Rattle.hd_check_blocks.specs.Places.{AreFrom, PlacesAscend}
-use Rattle.hd_check_pointers.specs.Namings.{second_fault, fault_or, first_unmatched}
-use Rattle.hd_check_pointers.proofs.Holders.{holders, IsAmong}
+use Rattle.hd_check_pointers.specs.Namings.{second_fault, fault_or, first_unmatched, holders}
+use Rattle.hd_check_pointers.proofs.Holders.{IsAmong}
 use Rattle.hd_image.specs.declared.line.Line.TheVariants.{NoPredecessor, TwoPredecessors}
 
 -- ---- tables of pointers
@@ -35,7 +35,7 @@ each-two P Q R [] w h g = tt
 each-two P Q R (n ∷ ns) w h g = (w n h.0 g.0, each-two P Q R ns w h.1 g.1)
 
 -- where all pointers name what is behind an address, none names it
-none-above : (a : ℕ) (ns : List Naming) → EachNaming (λ n. a < n.target) ns → holders a ns ≡ []
+pub none-above : (a : ℕ) (ns : List Naming) → EachNaming (λ n. a < n.target) ns → holders a ns ≡ []
 none-above a [] h = refl
 none-above a (n ∷ ns) h = cond-false (n.target == a) (n.holder ∷ holders a ns) (holders a ns) (ne_eqb n.target a (λ e. (let l = h.0 in omega arith))) ∙ none-above a ns h.1
 

@@ -19,9 +19,10 @@ use Rattle.hd_check_pointers.specs.declared.namings.Naming.{Naming}
 use Rattle.hd_check_blocks.specs.Phases.{IsLeastOf}
 use Rattle.hd_check_blocks.specs.Places.{IsPlaceOf, ArePlaces, PlacesAscend}
 use Rattle.hd_check_pointers.specs.Tables.{place_at, naming_at, ArePredecessors}
-use Rattle.hd_check_pointers.specs.Namings.{AreNamings, first_unmatched}
+use Rattle.hd_check_pointers.specs.Namings.{AreNamings, first_unmatched, holders, NameTheirPlaces, HaveSameHolders}
 use Rattle.hd_check_pointers.proofs.TypedRecords.{before-it}
-use Rattle.hd_check_pointers.proofs.Holders.{holders, IsAmong, AreHolders, are-holders, none-zero}
+use Rattle.hd_check_pointers.proofs.Holders.{IsAmong, AreHolders, are-holders, none-zero}
+use Rattle.hd_check_pointers.proofs.Arranging.{names-match}
 use Rattle.hd_check_pointers.proofs.Matching.{IsAddress, address-from, AreMatched, IsWrongFor, IsFirstWrong, IsJudged, AreNamingsOf, each-held, order-from-sort, holders-sorted, judged}
 
 -- ---- places and addresses
@@ -252,6 +253,19 @@ module _ (d : Database) (v : VolumeState) (of : IsVolumeOf d v) (ps : List Place
         );
         least = nothing-before f w TwoPredecessors refl (λ k less x. elim x [ inl y ↦ (let n = y.0 in omega arith) | inr y ↦ (let n = y.0 in omega arith) ]);
       })
+
+  -- a table in which each pointer names the place of its number is matched with the places
+  module _ (new : List Naming) (names : NameTheirPlaces ps new) (same : HaveSameHolders ps old new) where
+    named-match : AreMatched (λ a. holders a old) ps new
+    named-match = names-match (λ a. holders a old) ps new places.ascend names (λ a i. sym (same places.ascend a (address-some a i)))
+
+    -- each segment has one predecessor
+    pub named-one : PredecessorsAreOne d.types (links_of d.types v)
+    named-one = matched-are-one new named-match
+
+    -- and the table is that of the predecessors
+    pub named-table : ArePredecessors d.types (links_of d.types v) ps new
+    named-table = matched-are-predecessors new named-match
 
   -- what the matching finds is what the phase asks
   module _ (new : List Naming) (sorted : IsNonDecreasingBy (λ n. n.target) new) (stable : IsStableByKey (λ n. n.target) nat_cmp old new) where

@@ -1,8 +1,9 @@
 -- The pointers by which segments are named, and how they are matched with the segments.
-use Rattle.std.specs.Prelude.{◌≡◌, ℕ, List, [], ◌∷◌, ◌++◌, ◌==◌, cond, drop, Option, Some, None}
+use Rattle.std.specs.Prelude.{◌≡◌, ◌≢◌, ℕ, List, [], ◌∷◌, ◌++◌, ◌==◌, cond, drop, Option, Some, None}
 use Rattle.hd_dbd.specs.Types.{SegmentType}
 use Rattle.hd_links.specs.Links.{Links, child_types}
 use Rattle.hd_check_blocks.specs.declared.places.Place.{Place}
+use Rattle.hd_check_blocks.specs.Places.{PlacesAscend}
 use Rattle.hd_check_pointers.specs.declared.namings.Naming.{Naming}
 use Rattle.hd_check_blocks.specs.declared.fault.Fault.{Fault}
 use Rattle.hd_image.specs.declared.line.Line.TheVariants.{NoPredecessor, TwoPredecessors}
@@ -40,7 +41,23 @@ abbrev pub forwards_of : Links → List Place → List ℕ
 forwards_of m [] = []
 forwards_of m (p ∷ ps) = m.forward p.address ∷ forwards_of m ps
 
+-- the holders of those pointers that name an address, in the table's order
+abbrev pub holders : ℕ → List Naming → List ℕ
+holders a [] = []
+holders a (n ∷ ns) = cond (n.target == a) (n.holder ∷ holders a ns) (holders a ns)
+
 -- ---- the matching
+
+-- each pointer names the place of its number
+abbrev pub NameTheirPlaces : List Place → List Naming → Type 0
+NameTheirPlaces [] [] = Unit {0}
+NameTheirPlaces [] (n ∷ ns) = ⊥
+NameTheirPlaces (p ∷ ps) [] = ⊥
+NameTheirPlaces (p ∷ ps) (n ∷ ns) = (n.target ≡ p.address) × NameTheirPlaces ps ns
+
+-- where the places are in order, each address has by the new table the holders that it has by the old one
+abbrev pub HaveSameHolders : List Place → List Naming → List Naming → Type 0
+HaveSameHolders places old new = PlacesAscend places → (a : ℕ) → a ≢ 0 → holders a new ≡ holders a old
 
 -- a second pointer names the address
 abbrev pub second_fault : ℕ → List Naming → Option Fault

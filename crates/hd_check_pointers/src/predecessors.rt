@@ -1,5 +1,5 @@
 //! Phase 4: each segment has one predecessor.
-ghost use Rattle.std.specs.Prelude.{◌≡◌, drop, IfOk, IfNone, IfSome, OnOk};
+ghost use Rattle.std.specs.Prelude.{◌≡◌, drop, length, replicate, true, IfOk, IfNone, IfSome, OnOk};
 ghost use Rattle.std.specs.Ordering.{nat_cmp};
 ghost use Rattle.std.specs.List.Sorted.{IsNonDecreasingBy, IsStableByKey};
 ghost use Rattle.hd_dbd.specs.Refusals.{OnlyMemory};
@@ -7,14 +7,14 @@ ghost use Rattle.hd_links.specs.Pointers.{PredecessorsAreOne};
 ghost use Rattle.hd_image.specs.Records.{links_of};
 ghost use Rattle.hd_check_blocks.specs.Phases.{IsLeastOf};
 ghost use Rattle.hd_check_pointers.specs.Tables.{ArePredecessors};
-ghost use Rattle.hd_check_pointers.specs.Namings.{match_fault, first_unmatched};
+ghost use Rattle.hd_check_pointers.specs.Namings.{match_fault, first_unmatched, NameTheirPlaces, HaveSameHolders};
 ghost use Rattle.hd_check_pointers.specs.Matched.{OfNamed};
 
 use crate::namings::Naming;
-use hd_check_blocks::{Fault, Place};
-use hd_dbd::{Dbd, Refused};
+use hd_check_blocks::{Fault, Place, number_near};
+use hd_dbd::Refused;
 use hd_image::Line;
-use hd_prefix::{Layout, Pointer};
+use std::alloc::Global;
 
 /// What is wrong with the predecessors of the segment at an address, where those pointers that name it come first, from a
 /// number on.
@@ -56,8 +56,66 @@ fn sort_namings(namings: &mut Vec<Naming>) -> Result<(), Refused>
     }
 }
 
+/// Whether each pointer names the place of its number.
+fn name_their_places(places: &[Place], namings: &[Naming]) -> bool
+    requires { length namings.now ≡ length places.now }
+    ensures { result ≡ true → NameTheirPlaces places.now namings.now }
+{
+    for number in 0..places.len() {
+        if namings[number].target != places[number].address {
+            return false;
+        }
+    }
+    true
+}
+
+/// A table with nothing at so many numbers.
+fn empty_table(alloc: Global, count: usize) -> Result<Vec<Naming>, Refused>
+    ensures empty { IfOk result (λ table. table.items ≡ replicate count (record { target = 0; holder = 0 })) }
+    ensures refusal { OnlyMemory result }
+{
+    let nothing = Naming {
+        target: 0,
+        holder: 0,
+    };
+    let Ok(table) = vec![in alloc; nothing; count] else {
+        return Err(Refused::Memory);
+    };
+    Ok(table)
+}
+
+/// The pointers, each at the number of the place that it names, which spares a sort; nothing where a place is not named by just
+/// one of them.
+fn arrange(
+    alloc: Global,
+    namings: &[Naming],
+    places: &[Place],
+) -> Result<Option<Vec<Naming>>, Refused>
+    ensures places { IfOk result (λ o. IfSome o (λ table. NameTheirPlaces places.now table.items)) }
+    ensures holders { IfOk result (λ o. IfSome o (λ table. HaveSameHolders places.now namings.now table.items)) }
+    ensures refusal { OnlyMemory result }
+{
+    let mut table = empty_table(alloc, places.len())?;
+    let mut near = 0;
+    for naming in namings {
+        let Some(number) = number_near(places, naming.target, near) else {
+            return Ok(None);
+        };
+        if table[number].target != 0 {
+            return Ok(None);
+        }
+        table[number] = *naming;
+        near = number + 1;
+    }
+    if !name_their_places(places, &table) {
+        return Ok(None);
+    }
+    Ok(Some(table))
+}
+
 /// What is wrong with the predecessors of the segments: each must have just one. The pointers are put in order of what they name.
 pub fn predecessors_fault(
+    alloc: Global,
     namings: &mut Vec<Naming>,
     places: &[Place],
 ) -> Result<Option<Fault>, Refused>
@@ -66,6 +124,10 @@ pub fn predecessors_fault(
     ensures some { OfNamed places.now namings.old.items (λ d v. IfOk result (λ o. IfSome o (λ f. IsLeastOf d v 4 f))) }
     ensures refusal { OnlyMemory result }
 {
+    if let Some(arranged) = arrange(alloc, namings, places)? {
+        *namings = arranged;
+        return Ok(None);
+    }
     sort_namings(namings)?;
     Ok(first_unmatched(places, namings))
 }
