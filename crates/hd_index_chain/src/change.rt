@@ -153,13 +153,10 @@ fn set_key<S: BlockStore>(
     ensures room { volume.new.room ≡ volume.old.room }
 {
     let spot = locate(volume, key_length, key)?;
-    let Some(found) = spot.found else {
-        return Ok(());
-    };
-    if !found.is_key {
-        return Ok(());
+    match spot.found {
+        Some(found) if found.is_key => set_entry_address(
+            volume, key_length, spot.block, spot.index, spot.count, address,
+        ),
+        _ => Ok(()),
     }
-    set_entry_address(
-        volume, key_length, spot.block, spot.index, spot.count, address,
-    )
 }
