@@ -1,5 +1,5 @@
 -- A key of the index gets another address.
-use Rattle.std.proofs.Common.{◌≡◌, ℕ, ◌<◌, true, List, ◌∷◌, ◌++◌, Option, Some, None, refl, sym, ap, ◌∙◌, subst, arith}
+use Rattle.std.proofs.Common.{◌≡◌, ℕ, ◌<◌, true, List, ◌++◌, Option, Some, None, refl, sym, ap, ◌∙◌, subst, arith}
 use Rattle.std.specs.Prelude.{slice_get, option_map, bytes_eq}
 use Rattle.hd_bytes.specs.Numbers.{number_at}
 use Rattle.hd_volume.specs.Headers.{header_of}
@@ -14,7 +14,7 @@ use Rattle.hd_index_chain.specs.declared.place.Found.{Found}
 use Rattle.hd_index_chain.specs.declared.place.Spot.{Spot}
 use Rattle.hd_index_chain.specs.Maps.{address_of, with_address}
 use Rattle.hd_index_chain.specs.Places.{place_of, spot_of, address_found}
-use Rattle.hd_index_chain.specs.Edits.{IsEdit, HasNewEntries, IsChanged, IsKeySet}
+use Rattle.hd_index_chain.specs.Edits.{IsEdit, HasNewEntries, IsKeySet}
 use Rattle.hd_index_chain.proofs.MapLemmas.{set-behind, set-here}
 use Rattle.hd_index_chain.proofs.ChainLemmas.{place-entries, index-found, spot-found}
 use Rattle.hd_index_chain.proofs.EditLemmas.{one-block-at}

@@ -1,4 +1,4 @@
-use Rattle.std.proofs.Common.{◌≡◌, ◌+◌, ◌*◌, ℕ, IsTrue, List, ap, subst}
+use Rattle.std.proofs.Common.{◌≡◌, ◌+◌, ◌*◌, ℕ, IsTrue, List, subst}
 use Rattle.hd_bytes.specs.Ranges.{with_bytes}
 use Rattle.hd_volume.specs.Volumes.{block_at}
 use Rattle.hd_index_edits.specs.Edits.{HasNewBytes}

@@ -5,7 +5,6 @@ use Rattle.hd_bytes.specs.Numbers.{number_at}
 use Rattle.hd_volume.specs.Entries.{Entry, entries_in}
 use Rattle.hd_entries.specs.Fields.{below_count}
 use Rattle.hd_entries.proofs.BlockLemmas.{entry_of, length-entries, entry-get}
-use Rattle.hd_levels.specs.Maps.{with_address}
 use Rattle.hd_index_edits.specs.Blocks.{with_address_at}
 use Rattle.hd_index_set.proofs.Places.{below-all, address-past, address-none}
 use Rattle.hd_index_set.proofs.Addressing.{address-set}

@@ -1,4 +1,4 @@
-use Rattle.std.proofs.Common.{◌≡◌, ℕ, Option, IsTrue, IfSome, sym, ◌∙◌, subst}
+use Rattle.std.proofs.Common.{ℕ, Option, IsTrue, IfSome, sym, ◌∙◌, subst}
 use Rattle.hd_volume.specs.Volumes.{block_at}
 use Rattle.hd_volume.specs.Entries.{entries_in}
 use Rattle.hd_volume.proofs.JoinLemmas.{read-one}
