@@ -79,7 +79,7 @@ pub record IsChanged (key_length : ℕ) (old : VolumeState) (es : List Entry) (m
   pub change : IsIndexChange old more new
   pub spares : spare old ≤ spare new + more
 
--- A key that the index had got another address: no block was taken or became free, and the header stays.
+-- The address at a key was set, where the index has it: no block was taken or became free, and the header stays.
 pub record IsKeySet (key_length : ℕ) (old : VolumeState) (key : List ℕ) (address : ℕ) (new : VolumeState) : Type 0 where
   pub changed : IsChanged key_length old (with_address key address (entries key_length old)) 0 new
   pub spares : spare new ≡ spare old

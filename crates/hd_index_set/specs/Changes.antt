@@ -36,7 +36,7 @@ IsKeyEntered key_length old key address more new = IsChanged key_length old (wit
 abbrev pub IsKeyRemoved : ℕ → VolumeState → List ℕ → VolumeState → Type 0
 IsKeyRemoved key_length old key new = IsChanged key_length old (without_key key (index_entries key_length old)) 0 new
 
--- A key that the index had got another address: no block was taken or became free, and the header stays.
+-- The address at a key was set, where the index has it: no block was taken or became free, and the header stays.
 pub record IsKeySet (key_length : ℕ) (old : VolumeState) (key : List ℕ) (address : ℕ) (new : VolumeState) : Type 0 where
   pub changed : IsChanged key_length old (with_address key address (index_entries key_length old)) 0 new
   pub spares : spare new ≡ spare old
