@@ -7,7 +7,7 @@ ghost use Rattle.hd_volume.specs.Rooms.{spare, free_blocks};
 ghost use Rattle.hd_volume.specs.Calls.{IsCall, IsRead};
 ghost use Rattle.hd_volume.specs.Indexes.{root_key_length};
 ghost use Rattle.hd_levels.specs.Needs.{entry_growth, IsHighest};
-ghost use Rattle.hd_index.specs.Maps.{address_of, with_entry, without_key};
+ghost use Rattle.hd_index.specs.Maps.{address_of, with_entry, without_key, with_address};
 ghost use Rattle.hd_index.specs.Places.{blocks_needed};
 ghost use Rattle.hd_index.specs.Changes.{IsIndexOf, entries_for, IsIndexChange};
 
@@ -107,5 +107,29 @@ pub fn remove<S: BlockStore>(volume: &mut Volume<S>, dbd: &Dbd, key: &[u8]) -> R
         hd_index_chain::remove(volume, dbd, key)
     } else {
         hd_index_set::remove(volume, dbd, key)
+    }
+}
+
+/// Sets the address at the key of a root; a key that the index does not have leaves it as it is.
+pub fn set<S: BlockStore>(
+    volume: &mut Volume<S>,
+    dbd: &Dbd,
+    key: &[u8],
+    address: u32,
+) -> Result<(), Refused>
+    requires index { IsTrue volume.old.is_sound → IsIndexOf dbd.now volume.old }
+    ensures call { IsCall volume.old result volume.new }
+    ensures index { OnOk result (IsTrue volume.old.is_sound → IsIndexOf dbd.now volume.new) }
+    ensures entries { OnOk result (IsTrue volume.old.is_sound → entries_for dbd.now volume.new ≡ with_address key.now address (entries_for dbd.now volume.old)) }
+    ensures changed { OnOk result (IsTrue volume.old.is_sound → IsIndexChange volume.old 0 volume.new) }
+    ensures spares { OnOk result (IsTrue volume.old.is_sound → spare volume.new ≡ spare volume.old) }
+    ensures header { OnOk result (IsTrue volume.old.is_sound → header_of volume.new.image ≡ header_of volume.old.image) }
+    ensures refusal { OnlyDevice result }
+    ensures room { volume.new.room ≡ volume.old.room }
+{
+    if is_chain(volume) {
+        hd_index_chain::set(volume, dbd, key, address)
+    } else {
+        hd_index_set::set(volume, dbd, key, address)
     }
 }

@@ -7,7 +7,7 @@ mod change;
 mod counts_tests;
 mod search;
 
-pub use change::{blocks_needed, growth, insert, is_highest, remove};
+pub use change::{blocks_needed, growth, insert, is_highest, remove, set};
 pub use search::{find, next_from};
 
 #[cfg(test)]

@@ -3,7 +3,7 @@ ghost use Rattle.std.specs.Prelude.{◌≡◌, ◌≤◌, ◌<◌, true, false, 
 ghost use Rattle.hd_volume.specs.Indexes.{root_key_length};
 ghost use Rattle.hd_index.specs.Changes.{IsIndexOf};
 
-use crate::{find, growth, insert, remove};
+use crate::{find, growth, insert, remove, set};
 use hd_dbd::{Dbd, DbdFault, FreeSpace, Key, Name8, Refused, Rule, SegType};
 use hd_volume::{BlockStore, FuseStore, MemStore, Volume};
 use std::alloc::{AllocError, Global};
@@ -97,6 +97,21 @@ pub fn leave<S: BlockStore>(
         return Ok(());
     }
     remove(volume, dbd, key)?;
+    Ok(())
+}
+
+/// Gives a key another address.
+pub fn readdress<S: BlockStore>(
+    volume: &mut Volume<S>,
+    dbd: &Dbd,
+    key: &[u8],
+    address: u32,
+) -> Result<(), Refused>
+    requires index { IsTrue volume.old.is_sound → IsIndexOf dbd.now volume.old }
+    ensures index { OnOk result (IsTrue volume.new.is_sound → IsIndexOf dbd.now volume.new) }
+    ensures size { volume.new.size ≡ volume.old.size }
+{
+    set(volume, dbd, key, address)?;
     Ok(())
 }
 

@@ -3,7 +3,7 @@ ghost use Rattle.hd_volume.specs.Indexes.{root_key_length};
 ghost use Rattle.hd_index.specs.Changes.{IsIndexOf};
 
 use super::*;
-use crate::test_volumes::{database, enter, key_of, leave, new_volume, old_volume};
+use crate::test_volumes::{database, enter, key_of, leave, new_volume, old_volume, readdress};
 use hd_dbd::{Dbd, Refused};
 use hd_volume::{BlockStore, FuseStore, MemStore, Volume};
 use std::alloc::Global;
@@ -205,6 +205,45 @@ fn frees_an_emptied_block(rt: HostRuntime) -> Result<(), Fail> {
     let mut volume = new_volume(rt.alloc(), store, &dbd, 65536).expect(&rt, "a volume");
     assert_eq!(rt; emptied(&mut volume, &dbd), Some([Some(17), None, Some(1)]));
     assert_eq!(rt; volume.block_count(), 4);
+    Ok(())
+}
+
+/// Enters so many keys, sets the address at as many odd ones, half of which are not there, and says whether all then have the address that
+/// they should, or none. A refusal gives `None`.
+fn readdressed<S: BlockStore>(volume: &mut Volume<S>, dbd: &Dbd, count: u32) -> Option<bool>
+    requires size { volume.old.size ≡ dbd.now.block_size }
+    requires index { IsTrue volume.old.is_sound → IsIndexOf dbd.now volume.old }
+    requires three { root_key_length dbd.now.types ≡ 3 }
+    requires small { count < 30000 }
+{
+    ascending(volume, dbd, count)?;
+    for i in 0..count {
+        let n = 2 * i + 1;
+        readdress(volume, dbd, &key_of(n, 3)[..3], n + 70_000).ok()?;
+    }
+    for n in 0..2 * count {
+        let want = match (n < count, n % 2) {
+            (false, _) => None,
+            (true, 0) => Some(n + 1),
+            (true, _) => Some(n + 70_000),
+        };
+        if find(volume, dbd, &key_of(n, 3)[..3]).ok()? != want {
+            return Some(false);
+        }
+    }
+    Some(true)
+}
+
+#[test]
+fn sets_addresses(rt: HostRuntime) -> Result<(), Fail> {
+    let dbd = database(rt.alloc(), 128, 3).expect(&rt, "a database");
+    let store = MemStore::new(128, Vec::new(rt.alloc()));
+    let mut volume = new_volume(rt.alloc(), store, &dbd, 65536).expect(&rt, "a volume");
+    assert_eq!(rt; readdressed(&mut volume, &dbd, 300), Some(true));
+    assert_eq!(rt; volume.height(), 3);
+    let mut old = old_volume(rt.alloc(), &dbd, 128).expect(&rt, "a volume");
+    assert_eq!(rt; readdressed(&mut old, &dbd, 300), Some(true));
+    assert!(rt; old.block_count() > 18, "{} blocks", old.block_count());
     Ok(())
 }
 

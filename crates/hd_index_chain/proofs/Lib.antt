@@ -6,5 +6,6 @@ pub mod EntryEdits
 pub mod SpliceLemmas
 pub mod StepLemmas
 pub mod ChangeLemmas
+pub mod AddressLemmas
 pub mod InsertLemmas
 pub mod NeedLemmas

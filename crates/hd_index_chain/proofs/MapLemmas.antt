@@ -9,8 +9,9 @@ use Rattle.std.proofs.lemmas.Map.Text.{is_eq-slice_cmp}
 use Rattle.hd_volume.specs.Entries.{Entry}
 use Rattle.hd_volume.specs.Indexes.{key_less, is_below_first, keys_ascend}
 use Rattle.hd_volume.proofs.KeyLemmas.{less-trans, less-not}
-use Rattle.hd_index_chain.specs.Maps.{address_of, address_from, with_entry, without_key}
+use Rattle.hd_index_chain.specs.Maps.{address_of, address_from, with_entry, without_key, with_address}
 use Rattle.hd_entries.specs.Fields.{below_count}
+use Rattle.hd_index_edits.specs.Blocks.{with_address_at}
 
 -- ---- the order of keys
 
@@ -113,6 +114,12 @@ pub without-behind : (k : List ℕ) (xs ys : List Entry) → AreBelow k xs → w
 unfolding AreBelow
 without-behind k [] ys h = refl
 without-behind k (x ∷ xs) ys h = rw (less-other x.key k h.0) (ap (λ (t : List Entry). x ∷ t) (without-behind k xs ys h.1))
+
+-- a key gets another address behind the entries that are below it
+pub set-behind : (k : List ℕ) (address : ℕ) (xs ys : List Entry) → AreBelow k xs → with_address k address (xs ++ ys) ≡ xs ++ with_address k address ys
+unfolding AreBelow
+set-behind k address [] ys h = refl
+set-behind k address (x ∷ xs) ys h = rw (less-other x.key k h.0) (ap (λ (t : List Entry). x ∷ t) (set-behind k address xs ys h.1))
 
 -- ---- ascending keys
 
@@ -224,6 +231,21 @@ without-here k (e ∷ es) bs x there same = by-test (key_less e.key k) refl ther
     by-test : (b : Bool) → key_less e.key k ≡ b → slice_get (e ∷ es) (cond b (suc (below_count k es)) 0) ≡ Some x
         → (slice_get es (below_count k es) ≡ Some x → bytes_eq x.key k ≡ true → without_key k (es ++ bs) ≡ (take (below_count k es) es ++ drop (suc (below_count k es)) es) ++ bs)
         → without_key k (e ∷ (es ++ bs)) ≡ (take (cond b (suc (below_count k es)) 0) (e ∷ es) ++ drop (suc (cond b (suc (below_count k es)) 0)) (e ∷ es)) ++ bs
+    by-test true is there rest = rw (less-other e.key k is) (ap (λ (t : List Entry). e ∷ t) (rest there same))
+    by-test false is there rest =
+        let one : e ≡ x = cc in
+        let eq : bytes_eq e.key k ≡ true = ap (λ (t : Entry). bytes_eq t.key k) one ∙ same in
+        rw eq refl
+
+-- the entry at the place of a key gets another address
+pub set-here : (k : List ℕ) (address : ℕ) (es bs : List Entry) (x : Entry) → slice_get es (below_count k es) ≡ Some x → bytes_eq x.key k ≡ true
+    → with_address k address (es ++ bs) ≡ with_address_at (below_count k es) address es ++ bs
+set-here k address [] bs x there same = cc
+set-here k address (e ∷ es) bs x there same = by-test (key_less e.key k) refl there (set-here k address es bs x)
+  where
+    by-test : (b : Bool) → key_less e.key k ≡ b → slice_get (e ∷ es) (cond b (suc (below_count k es)) 0) ≡ Some x
+        → (slice_get es (below_count k es) ≡ Some x → bytes_eq x.key k ≡ true → with_address k address (es ++ bs) ≡ with_address_at (below_count k es) address es ++ bs)
+        → with_address k address (e ∷ (es ++ bs)) ≡ with_address_at (cond b (suc (below_count k es)) 0) address (e ∷ es) ++ bs
     by-test true is there rest = rw (less-other e.key k is) (ap (λ (t : List Entry). e ∷ t) (rest there same))
     by-test false is there rest =
         let one : e ≡ x = cc in

@@ -11,7 +11,7 @@ use Rattle.hd_volume.specs.Calls.{KeepsSegments, KeepsHoles}
 use Rattle.hd_volume.specs.Entries.{Entry, entries_in, entries_of, entries}
 use Rattle.hd_volume.specs.Indexes.{IsEntryBlock, IsAmong, HasIndex}
 use Rattle.hd_index_chain.specs.Changes.{IsIndexChange}
-use Rattle.hd_index_chain.specs.Maps.{with_entry, with_entry_at, without_entry_at}
+use Rattle.hd_index_chain.specs.Maps.{with_entry, with_entry_at, without_entry_at, with_address}
 use Rattle.hd_index_chain.specs.Places.{chain_blocks_needed}
 
 -- Index block n may have changed, and nothing else has.
@@ -78,6 +78,12 @@ pub record IsChanged (key_length : ℕ) (old : VolumeState) (es : List Entry) (m
   pub entries : entries key_length new ≡ es
   pub change : IsIndexChange old more new
   pub spares : spare old ≤ spare new + more
+
+-- The address at a key was set, where the index has it: no block was taken or became free, and the header stays.
+pub record IsKeySet (key_length : ℕ) (old : VolumeState) (key : List ℕ) (address : ℕ) (new : VolumeState) : Type 0 where
+  pub changed : IsChanged key_length old (with_address key address (entries key_length old)) 0 new
+  pub spares : spare new ≡ spare old
+  pub header : header_of new.image ≡ header_of old.image
 
 -- The entries of block n from an index on have gone to block m, which is new and stands behind it; behind that stands a block.
 pub record IsHalved (key_length : ℕ) (old : VolumeState) (n m half next : ℕ) (new : VolumeState) : Type 0 where

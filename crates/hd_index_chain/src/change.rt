@@ -1,11 +1,12 @@
 ghost use Rattle.std.specs.Prelude.{◌≡◌, ◌+◌, ◌≤◌, ◌<◌, length, None, IsTrue, IfOk, IfErr, OnOk};
 ghost use Rattle.hd_dbd.specs.Refusals.{OnlyDevice, OnlyRoomOrDevice};
+ghost use Rattle.hd_volume.specs.Headers.{header_of};
 ghost use Rattle.hd_volume.specs.Rooms.{spare, free_blocks};
 ghost use Rattle.hd_volume.specs.Calls.{IsCall, IsRead};
 ghost use Rattle.hd_volume.specs.Indexes.{root_key_length, index_growth, HasIndex};
 ghost use Rattle.hd_volume.specs.Entries.{entries};
-ghost use Rattle.hd_index_chain.specs.Edits.{IsChanged};
-ghost use Rattle.hd_index_chain.specs.Maps.{address_of, with_entry, without_key};
+ghost use Rattle.hd_index_chain.specs.Edits.{IsChanged, IsKeySet};
+ghost use Rattle.hd_index_chain.specs.Maps.{address_of, with_entry, without_key, with_address};
 ghost use Rattle.hd_index_chain.specs.Places.{chain_blocks_needed};
 ghost use Rattle.hd_index_chain.specs.Changes.{IsIndexOf, entries_for, IsIndexChange};
 
@@ -14,6 +15,7 @@ use crate::enter::insert_key;
 use crate::place::locate;
 use hd_dbd::{Dbd, Refused};
 use hd_entries::{entry_room, root_key_length};
+use hd_index_edits::set_entry_address;
 use hd_volume::{BlockStore, Volume};
 
 /// The blocks that an insert may need.
@@ -113,4 +115,48 @@ fn remove_key<S: BlockStore>(
         return Ok(());
     }
     remove_entry(volume, key_length, spot.block, spot.index, spot.count)
+}
+
+/// Sets the address at the key of a root; a key that the index does not have leaves it as it is.
+pub fn set<S: BlockStore>(
+    volume: &mut Volume<S>,
+    dbd: &Dbd,
+    key: &[u8],
+    address: u32,
+) -> Result<(), Refused>
+    requires index { IsTrue volume.old.is_sound → IsIndexOf dbd.now volume.old }
+    ensures call { IsCall volume.old result volume.new }
+    ensures index { OnOk result (IsTrue volume.old.is_sound → IsIndexOf dbd.now volume.new) }
+    ensures entries { OnOk result (IsTrue volume.old.is_sound → entries_for dbd.now volume.new ≡ with_address key.now address (entries_for dbd.now volume.old)) }
+    ensures changed { OnOk result (IsTrue volume.old.is_sound → IsIndexChange volume.old 0 volume.new) }
+    ensures spares { OnOk result (IsTrue volume.old.is_sound → spare volume.new ≡ spare volume.old) }
+    ensures header { OnOk result (IsTrue volume.old.is_sound → header_of volume.new.image ≡ header_of volume.old.image) }
+    ensures refusal { OnlyDevice result }
+    ensures room { volume.new.room ≡ volume.old.room }
+{
+    let key_length = root_key_length(dbd);
+    set_key(volume, key_length, key, address)
+}
+
+/// Sets the address at the key of a root, of a length.
+fn set_key<S: BlockStore>(
+    volume: &mut Volume<S>,
+    key_length: usize,
+    key: &[u8],
+    address: u32,
+) -> Result<(), Refused>
+    requires index { IsTrue volume.old.is_sound → HasIndex key_length volume.old }
+    requires short { key_length ≤ 255 }
+    ensures call { IsCall volume.old result volume.new }
+    ensures changed { OnOk result (IsTrue volume.old.is_sound → IsKeySet key_length volume.old key.now address volume.new) }
+    ensures refusal { OnlyDevice result }
+    ensures room { volume.new.room ≡ volume.old.room }
+{
+    let spot = locate(volume, key_length, key)?;
+    match spot.found {
+        Some(found) if found.is_key => set_entry_address(
+            volume, key_length, spot.block, spot.index, spot.count, address,
+        ),
+        _ => Ok(()),
+    }
 }

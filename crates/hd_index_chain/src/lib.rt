@@ -9,5 +9,5 @@ mod enter;
 mod place;
 mod search;
 
-pub use change::{blocks_needed, growth, insert, remove};
+pub use change::{blocks_needed, growth, insert, remove, set};
 pub use search::{find, next_from};

@@ -5,7 +5,7 @@ use Rattle.hd_bytes.specs.Ranges.{bytes_at, with_bytes}
 use Rattle.hd_volume.specs.Entries.{Entry, entries_at}
 use Rattle.hd_entries.proofs.BlockLemmas.{entry_of, length-entries}
 use Rattle.hd_entries.proofs.EntryLemmas.{bytes-apart, bytes-put, byte-below, entries-same, entries-split, length-put, number-apart, number-put, three-parts}
-use Rattle.hd_index_edits.specs.Blocks.{level_of, with_key_at}
+use Rattle.hd_index_edits.specs.Blocks.{level_of, with_key_at, with_address_at}
 
 -- The bytes of an index block: its level, its count, its entries and the block behind it.
 pub record AreBytes (k l : ℕ) (b : List ℕ) (c : ℕ) (es : List Entry) (next : ℕ) : Type 0 where
@@ -92,3 +92,35 @@ entries-keyed k b key i c low fits long =
     take-whole : (xs : List ℕ) → take (length xs) xs ≡ xs
     take-whole [] = refl
     take-whole (x ∷ xs) = ap (λ (t : List ℕ). x ∷ t) (take-whole xs)
+
+-- ---- another address of an entry
+
+-- the address behind so many entries
+pub address-at : (address : ℕ) (front : List Entry) (e : Entry) (back : List Entry) → with_address_at (length front) address (front ++ (e ∷ back)) ≡ front ++ (record { key = e.key; address = address } ∷ back)
+address-at address [] e back = refl
+address-at address (f ∷ front) e back = ap (λ (es : List Entry). f ∷ es) (address-at address front e back)
+
+-- four bytes written over the address of an entry are its address
+pub entries-addressed : (k : ℕ) (b four : List ℕ) (i c address : ℕ) → i < c → 12 + c * (k + 4) ≤ length b → length four ≡ 4 → number_at 4 four 0 ≡ address
+    → entries_at k (with_bytes b (12 + i * (k + 4) + k) four) 12 c ≡ with_address_at i address (entries_at k b 12 c)
+entries-addressed k b four i c address low fits long is =
+    let d : ℕ = c - (i + 1) in
+    let p : ℕ = 12 + i * (k + 4) in
+    let total : c * (k + 4) ≡ i * (k + 4) + (k + 4) + d * (k + 4) = ap (λ (x : ℕ). x * (k + 4)) (let e : c ≡ i + d + 1 = omega arith in e) ∙ three-parts i d k in
+    let n : List ℕ = with_bytes b (p + k) four in
+    let len : length n ≡ length b = length-put b four (p + k) (omega arith) in
+    let split : (x : List ℕ) → entries_at k x 12 c ≡ entries_at k x 12 i ++ (entry_of k x p ∷ entries_at k x (p + k + 4) d) = λ x.
+    ap (entries_at k x 12) (let e : c ≡ i + suc d = omega arith in e) ∙ entries-split k x 12 i (suc d) in
+    let front : entries_at k n 12 i ≡ entries_at k b 12 i = entries-same k n b 12 12 i (omega arith) (omega arith) (bytes-apart b four (p + k) 12 (i * (k + 4)) (omega arith) (omega arith) (inl (omega arith))) in
+    let rear : entries_at k n (p + k + 4) d ≡ entries_at k b (p + k + 4) d =
+    entries-same k n b (p + k + 4) (p + k + 4) d (omega arith) (omega arith) (bytes-apart b four (p + k) (p + k + 4) (d * (k + 4)) (omega arith) (omega arith) (inr (omega arith))) in
+    let own : bytes_at n p k ≡ bytes_at b p k = bytes-apart b four (p + k) p k (omega arith) (omega arith) (inl (omega arith)) in
+    let put : number_at 4 n (p + k) ≡ address = ap (number_at 4 n) (let e : p + k ≡ p + k + 0 = omega arith in e) ∙ number-put b four (p + k) 4 0 (omega arith) (omega arith) ∙ is in
+    let one : entry_of k n p ≡ record { key = bytes_at b p k; address = address } = rw (own, put) refl in
+    let changed = address-at address (entries_at k b 12 i) (entry_of k b p) (entries_at k b (p + k + 4) d) in
+    let at : with_address_at i address (entries_at k b 12 i ++ (entry_of k b p ∷ entries_at k b (p + k + 4) d)) ≡ entries_at k b 12 i ++ (record { key = bytes_at b p k; address = address } ∷ entries_at k b (p + k + 4) d) =
+    ap (λ (j : ℕ). with_address_at j address (entries_at k b 12 i ++ (entry_of k b p ∷ entries_at k b (p + k + 4) d))) (sym (length-entries k b 12 i)) ∙ changed in
+    split n ∙ ap (λ (es : List Entry). es ++ (entry_of k n p ∷ entries_at k n (p + k + 4) d)) front
+    ∙ ap (λ (e : Entry). entries_at k b 12 i ++ (e ∷ entries_at k n (p + k + 4) d)) one
+    ∙ ap (λ (es : List Entry). entries_at k b 12 i ++ (record { key = bytes_at b p k; address = address } ∷ es)) rear
+    ∙ sym at ∙ ap (with_address_at i address) (sym (split b))

@@ -8,13 +8,13 @@ use Rattle.hd_bytes.specs.Blocks.{HasBlock}
 use Rattle.hd_volume.specs.Entries.{entries_in}
 use Rattle.hd_volume.specs.Volumes.{VolumeState, block_at}
 use Rattle.hd_volume.specs.Indexes.{entry_room}
-use Rattle.hd_index_edits.specs.Blocks.{level_of, with_key_at, IsIndexBlock, Bears}
+use Rattle.hd_index_edits.specs.Blocks.{level_of, with_key_at, with_address_at, IsIndexBlock, Bears}
 use Rattle.hd_index_edits.specs.Edits.{HasNewBytes, HasNewEntries}
 use Rattle.hd_index_edits.proofs.EditLemmas.{edit-join, length-at}
 use Rattle.hd_entries.proofs.BlockLemmas.{length-entries}
 use Rattle.hd_entries.proofs.EntryLemmas.{IsEntryBytes, added, entries-added, entries-drop, entries-same, entries-take, entries-taken, length-put, one-part, taken, three-parts, two-parts}
 use Rattle.hd_entries.proofs.RoomLemmas.{room-within}
-use Rattle.hd_index_edits.proofs.BlockBytes.{AreBytes, put-behind, put-count, put-next, entries-keyed}
+use Rattle.hd_index_edits.proofs.BlockBytes.{AreBytes, put-behind, put-count, put-next, entries-keyed, entries-addressed}
 
 -- a block with new bytes bears their entries
 pub bears-by : (k : ℕ) (u w : VolumeState) (n : ℕ) (b : List ℕ) (c : ℕ) (es : List Entry) (next : ℕ) → HasNewBytes u n b w → AreBytes k (level_of (block_at u n)) b c es next → c ≤ entry_room k u.size → HasNewEntries k u n es next w
@@ -154,7 +154,7 @@ bytes-of-none k l v n next h least =
     let none : number_at 2 (block_at v n) 4 ≡ 0 = sym (length-entries k (block_at v n) 12 (number_at 2 (block_at v n) 4)) ∙ ap length h.entries in
     record { level = refl; count = none; entries = refl; next_is = h.next_is; fits = omega arith }
 
--- ---- another key, and another block behind
+-- ---- another key, another address, and another block behind
 
 -- another key of an entry, by one write
 pub key-edit : (k : ℕ) (u w : VolumeState) (n i c : ℕ) (key : List ℕ) → IsIndexBlock k u n → number_at 2 (block_at u n) 4 ≡ c → i < c → 12 + c * (k + 4) ≤ u.size → length key ≡ k
@@ -173,6 +173,24 @@ key-edit k u w n i c key is count low fits long h =
     let most = is.count in
     let G : ℕ → Type 0 = λ j. HasNewEntries k u n (with_key_at i key (entries_at k b 12 j)) (number_at 4 b 8) w in
     subst G (sym count) (bears-by k u w n (with_bytes b p key) c (with_key_at i key (entries_at k b 12 c)) (number_at 4 b 8) h all (omega arith))
+
+-- another address of an entry, by one write
+pub address-edit : (k : ℕ) (u w : VolumeState) (n i c : ℕ) (four : List ℕ) (address : ℕ) → IsIndexBlock k u n → number_at 2 (block_at u n) 4 ≡ c → i < c → 12 + c * (k + 4) ≤ u.size → length four ≡ 4 → number_at 4 four 0 ≡ address
+    → HasNewBytes u n (with_bytes (block_at u n) (12 + i * (k + 4) + k) four) w
+    → HasNewEntries k u n (with_address_at i address (entries_in k (block_at u n))) (number_at 4 (block_at u n) 8) w
+address-edit k u w n i c four address is count low fits long value h =
+    let b : List ℕ = block_at u n in
+    let lb : length b ≡ u.size = length-at u n is.is.there in
+    let p : ℕ = 12 + i * (k + 4) + k in
+    let total : c * (k + 4) ≡ i * (k + 4) + (k + 4) + (c - (i + 1)) * (k + 4) = ap (λ (x : ℕ). x * (k + 4)) (let e : c ≡ i + (c - (i + 1)) + 1 = omega arith in e) ∙ three-parts i (c - (i + 1)) k in
+    let own : AreBytes k (level_of b) b c (entries_at k b 12 c) (number_at 4 b 8) = record { level = refl; count = count; entries = refl; next_is = refl; fits = omega arith } in
+    let first = put-behind k (level_of b) b four p c (entries_at k b 12 c) (number_at 4 b 8) own (omega arith) (omega arith) in
+    let changed : entries_at k (with_bytes b p four) 12 c ≡ with_address_at i address (entries_at k b 12 c) = entries-addressed k b four i c address low (omega arith) long value in
+    let all : AreBytes k (level_of b) (with_bytes b p four) c (with_address_at i address (entries_at k b 12 c)) (number_at 4 b 8) =
+    record { level = first.level; count = first.count; entries = changed; next_is = first.next_is; fits = first.fits } in
+    let most = is.count in
+    let G : ℕ → Type 0 = λ j. HasNewEntries k u n (with_address_at i address (entries_at k b 12 j)) (number_at 4 b 8) w in
+    subst G (sym count) (bears-by k u w n (with_bytes b p four) c (with_address_at i address (entries_at k b 12 c)) (number_at 4 b 8) h all (omega arith))
 
 -- another block behind, by one write
 pub next-edit : (k : ℕ) (u w : VolumeState) (n : ℕ) (four : List ℕ) (next : ℕ) → IsIndexBlock k u n → 12 ≤ u.size → length four ≡ 4 → number_at 4 four 0 ≡ next

@@ -40,3 +40,9 @@ abbrev pub with_key_at : ℕ → List ℕ → List Entry → List Entry
 with_key_at index key [] = []
 with_key_at zero key (e ∷ es) = record { key = key; address = e.address } ∷ es
 with_key_at (suc index) key (e ∷ es) = e ∷ with_key_at index key es
+
+-- the entries with another address of that at an index
+abbrev pub with_address_at : ℕ → ℕ → List Entry → List Entry
+with_address_at index address [] = []
+with_address_at zero address (e ∷ es) = record { key = e.key; address = address } ∷ es
+with_address_at (suc index) address (e ∷ es) = e ∷ with_address_at index address es

@@ -9,7 +9,7 @@ use Rattle.hd_volume.specs.Volumes.{VolumeState, block_at, IsKind, IsFormatted}
 use Rattle.hd_volume.specs.Rooms.{spare, HasFreeBlock}
 use Rattle.hd_volume.specs.Calls.{KeepsSegments, KeepsHoles}
 use Rattle.hd_volume.specs.Entries.{Entry, entries_in}
-use Rattle.hd_index_edits.specs.Blocks.{level_of, Bears, with_entry_at, without_entry_at, with_key_at}
+use Rattle.hd_index_edits.specs.Blocks.{level_of, Bears, with_entry_at, without_entry_at, with_key_at, with_address_at}
 use Rattle.hd_index_edits.specs.Changes.{IsIndexChange}
 
 -- Index block n may have changed, and nothing else has.
@@ -86,6 +86,11 @@ IsEntryRemoved key_length old n index new =
 abbrev pub IsKeyChanged : VolumeState → ℕ → ℕ → List ℕ → VolumeState → Type 0
 IsKeyChanged old n index key new =
     HasNewEntries (length key) old n (with_key_at index key (entries_in (length key) (block_at old n))) (number_at 4 (block_at old n) 8) new
+
+-- The entry at an index of block n has another address.
+abbrev pub IsAddressChanged : ℕ → VolumeState → ℕ → ℕ → ℕ → VolumeState → Type 0
+IsAddressChanged key_length old n index address new =
+    HasNewEntries key_length old n (with_address_at index address (entries_in key_length (block_at old n))) (number_at 4 (block_at old n) 8) new
 
 -- Block n names another block behind it.
 abbrev pub IsNextChanged : ℕ → VolumeState → ℕ → ℕ → VolumeState → Type 0

@@ -6,7 +6,7 @@ ghost use Rattle.hd_volume.specs.Calls.{IsCall};
 ghost use Rattle.hd_volume.specs.Indexes.{entry_room};
 ghost use Rattle.hd_entries.specs.Fields.{entry_place};
 ghost use Rattle.hd_index_edits.specs.Blocks.{IsIndexBlock};
-ghost use Rattle.hd_index_edits.specs.Edits.{IsEntryAdded, IsEntryRemoved, IsKeyChanged, IsNextChanged};
+ghost use Rattle.hd_index_edits.specs.Edits.{IsEntryAdded, IsEntryRemoved, IsKeyChanged, IsAddressChanged, IsNextChanged};
 
 use crate::bytes::{copy_down, four_bytes, move_up, two_bytes, write_part};
 use hd_bytes::write_u32;
@@ -113,6 +113,31 @@ pub fn set_entry_key<S: BlockStore>(
     ensures room { volume.new.room ≡ volume.old.room }
 {
     write_part(volume, n, entry_place(key.len(), index), key)
+}
+
+/// Gives the entry of a block at an index another address; its key stays.
+pub fn set_entry_address<S: BlockStore>(
+    volume: &mut Volume<S>,
+    key_length: usize,
+    n: u32,
+    index: usize,
+    count: usize,
+    address: u32,
+) -> Result<(), Refused>
+    requires formatted { IsTrue volume.old.is_sound → IsFormatted volume.old }
+    requires block { IsTrue volume.old.is_sound → IsIndexBlock key_length volume.old n }
+    requires count { IsTrue volume.old.is_sound → number_at 2 (block_at volume.old n) 4 ≡ count }
+    requires index { index < count }
+    requires short { key_length ≤ 255 }
+    requires small { count ≤ 65535 }
+    requires fits { entry_place key_length count ≤ volume.old.size }
+    ensures call { IsCall volume.old result volume.new }
+    ensures changed { OnOk result (IsTrue volume.old.is_sound → IsAddressChanged key_length volume.old n index address volume.new) }
+    ensures refusal { OnlyDevice result }
+    ensures room { volume.new.room ≡ volume.old.room }
+{
+    let place = entry_place(key_length, index) + key_length;
+    write_part(volume, n, place, &four_bytes(address))
 }
 
 /// Names another block behind a block, 0 for none.

@@ -21,3 +21,4 @@ pub mod Inserting
 pub mod Hanging
 pub mod Ends
 pub mod Leading
+pub mod Addressing

@@ -2,12 +2,13 @@
 use Rattle.std.specs.Prelude.{◌≡◌, ℕ, ◌+◌, ◌≤◌, List, IsTrue, Result, IfOk}
 use Rattle.hd_dbd.specs.Hierarchy.{Database}
 use Rattle.hd_dbd.specs.declared.answer.Refused.{Refused}
+use Rattle.hd_volume.specs.Headers.{header_of}
 use Rattle.hd_volume.specs.Rooms.{spare}
 use Rattle.hd_volume.specs.Volumes.{VolumeState}
 use Rattle.hd_volume.specs.Entries.{Entry}
 use Rattle.hd_volume.specs.Indexes.{root_key_length}
 use Rattle.hd_levels.specs.IndexSets.{index_entries, HasIndexSet}
-use Rattle.hd_levels.specs.Maps.{with_entry, without_key}
+use Rattle.hd_levels.specs.Maps.{with_entry, without_key, with_address}
 pub use Rattle.hd_index_edits.specs.Changes.{IsIndexChange}
 
 -- The volume is of the database's block size, and has an index set for its root keys.
@@ -34,6 +35,12 @@ IsKeyEntered key_length old key address more new = IsChanged key_length old (wit
 -- A key was taken out, and no block was taken.
 abbrev pub IsKeyRemoved : ℕ → VolumeState → List ℕ → VolumeState → Type 0
 IsKeyRemoved key_length old key new = IsChanged key_length old (without_key key (index_entries key_length old)) 0 new
+
+-- The address at a key was set, where the index has it: no block was taken or became free, and the header stays.
+pub record IsKeySet (key_length : ℕ) (old : VolumeState) (key : List ℕ) (address : ℕ) (new : VolumeState) : Type 0 where
+  pub changed : IsChanged key_length old (with_address key address (index_entries key_length old)) 0 new
+  pub spares : spare new ≡ spare old
+  pub header : header_of new.image ≡ header_of old.image
 
 -- the fact holds of what a call answers that is not refused, where the volume's store was sound
 abbrev pub WhereSound : {A : Type 0} → VolumeState → Result A Refused → (A → Type 0) → Type 0

@@ -2,6 +2,7 @@
 //! sequence set.
 #![tactic(auto)]
 
+mod address;
 mod behind;
 mod descend;
 mod dividing;
@@ -18,6 +19,7 @@ mod stand;
 mod unlink;
 mod way;
 
+pub use address::set;
 pub use insertion::insert;
 pub use leave::remove;
 pub use need::{blocks_needed, growth};

@@ -23,6 +23,11 @@ abbrev pub without_key : List ℕ → List Entry → List Entry
 without_key key [] = []
 without_key key (e ∷ es) = cond (bytes_eq e.key key) es (e ∷ without_key key es)
 
+-- the entries with another address at a key
+abbrev pub with_address : List ℕ → ℕ → List Entry → List Entry
+with_address key address [] = []
+with_address key address (e ∷ es) = cond (bytes_eq e.key key) (record { key = e.key; address = address } ∷ es) (e ∷ with_address key address es)
+
 -- the greatest key below a key, or else another
 abbrev pub greatest_below : List ℕ → List ℕ → List Entry → List ℕ
 greatest_below other key [] = other
