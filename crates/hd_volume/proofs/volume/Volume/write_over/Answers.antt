@@ -77,7 +77,7 @@ invariant_of-self-then-bytes-len g c =
           let least = c.self.invariant.least in
           let changed : HasChanged v w (a / v.size) = changed-by v w c.fetch.new.self.size c.fetch.new.self.hand (a / v.size) c.fetch.new.self.image size refl c.fetch.ensures.size image hand (c.write_hand.ensures.others now some) in
           let new : block_of v.size w.image (a / v.size) ≡ with_bytes (block_at v (a / v.size)) (a % v.size) bytes = rw (c.fetch.ensures.size, image, hand, at) at (c.write_hand.ensures.block now some) in
-          let same : length h.bytes ≡ length bytes = sym long ∙ sym c.if-bytes-len.true in
+          let same : length h.bytes ≡ length bytes = (let e = c.if-bytes-len.true in omega arith) in
           rw size (same-space v w a bytes f h (omega arith) changed same whole.1 new c.self.inside.space (c.self.invariant.true_of before));
     }
 
@@ -111,7 +111,7 @@ returns-then-bytes-len-clause-written g c =
     let least = c.self.invariant.least in
     let changed : HasChanged v w (a / v.size) = changed-by v w c.fetch.new.self.size c.fetch.new.self.hand (a / v.size) c.fetch.new.self.image size refl c.fetch.ensures.size image hand (c.write_hand.ensures.others now some) in
     let new : block_of v.size w.image (a / v.size) ≡ with_bytes (block_at v (a / v.size)) (a % v.size) bytes = rw (c.fetch.ensures.size, image, hand, at) at (c.write_hand.ensures.block now some) in
-    let same : length h.bytes ≡ length bytes = sym long ∙ sym c.if-bytes-len.true in
+    let same : length h.bytes ≡ length bytes = (let e = c.if-bytes-len.true in omega arith) in
     same-rewrites v w a bytes f h (omega arith) changed same whole.1 new)
 
 pub invariant_of-self-2 : goal.invariant_of-self-2
