@@ -1,12 +1,12 @@
 -- Divisions are unique, and stay where segments are written.
-use Rattle.std.proofs.Common.{◌≡◌, ℕ, ◌+◌, ◌-◌, ◌<◌, ◌≤◌, ◌⊎◌, inl, inr, List, [], ◌∷◌, slice_index, refl, sym, ap, ◌∙◌, arith, ne_eqb}
+use Rattle.std.proofs.Common.{◌≡◌, ◌≢◌, ℕ, ◌+◌, ◌-◌, ◌%◌, ◌<◌, ◌≤◌, ◌⊎◌, inl, inr, List, [], ◌∷◌, slice_index, refl, sym, ap, ◌∙◌, arith, ne_eqb}
 use Rattle.std.proofs.lemmas.Bool.{eq-eqb}
 use Rattle.hd_bytes.specs.Ranges.{ChangesOnly}
 use Rattle.hd_bytes.specs.Numbers.{number_at}
 use Rattle.hd_bytes.proofs.NumberLemmas.{number-below}
 use Rattle.hd_block.specs.Extents.{Extent, free, used, taken, IsHole, IsSegment, Fill, AreWhole, UsedAt, TakenAt}
-use Rattle.hd_block.specs.Changes.{after_fill}
-use Rattle.hd_block.proofs.Walk.{fill-within, at-ahead, at-taken}
+use Rattle.hd_block.specs.Changes.{after_fill, after_shrink}
+use Rattle.hd_block.proofs.Walk.{fill-within, fill-ahead, at-ahead, at-taken}
 use Rattle.hd_block.proofs.Reroute.{fill-same, segment-kept}
 use Rattle.hd_block.proofs.FrameLemmas.{used-ahead}
 use Rattle.hd_dbd.specs.declared.facts.SegmentSize.{SegmentSize}
@@ -65,6 +65,28 @@ fill-filled sizes b b' p f (taken m ∷ xs) place n h (inr u) c e =
     let ahead = taken-ahead (p + m) xs place n u in
     let some = h.1 in
     rw (ne_eqb p place (λ v. omega arith)) (h.0, h.1, h.2, fill-filled sizes b b' (p + m) f xs place n h.3 u c e)
+
+-- a segment that is made shorter
+pub fill-shrunk : (sizes : List SegmentSize) (b b' : List ℕ) (p f : ℕ) (xs : List Extent) (place n m : ℕ) → 0 < p → Fill sizes b p f xs → UsedAt p xs place n → ChangesOnly place n b b'
+    → size_at sizes b' place ≡ m → 8 ≤ m → m % 8 ≡ 0 → m < n → Fill sizes b' p f (after_shrink place m p xs)
+fill-shrunk sizes b b' p f [] place n m z h u c e some whole less = absurd u
+fill-shrunk sizes b b' p f (free k ∷ xs) place n m z h u c e some whole less =
+    let least = h.1.element.some in
+    let ahead = used-ahead (p + k) xs place n u in
+    let next : number_at 2 b' p ≡ number_at 2 b p = number-below 2 p c (omega arith) in
+    (h.0, element-before p k c (omega arith) h.1, rw next (fill-shrunk sizes b b' (p + k) (number_at 2 b p) xs place n m (omega arith) h.2 u c e some whole less))
+fill-shrunk sizes b b' p f (taken k ∷ xs) place n m z h u c e some whole less = (h.0, h.1, h.2, fill-shrunk sizes b b' (p + k) f xs place n m (omega arith) h.3 u c e some whole less)
+fill-shrunk sizes b b' p f (used k ∷ xs) place n m z h (inl d) c e some whole less =
+    let segment : IsSegment sizes b' p m = record { size = ap (size_at sizes b') d.0 ∙ e; some = some; whole = whole } in
+    let eighths = h.1.whole in
+    let apart : p + m ≢ f = elim (fill-ahead sizes b (p + k) f xs h.2) [ inl none ↦ (λ v. omega arith) | inr l ↦ (λ v. omega arith) ] in
+    let same : p + m + (k - m) ≡ p + k = omega arith in
+    let rest : Fill sizes b' (p + m + (k - m)) f xs = rw same (fill-same sizes b b' (p + k) f xs c.len (λ j l. c.above j (omega arith)) h.2) in
+    rw (eq-eqb p place d.0) (h.0, segment, (apart, omega arith, omega arith, rest))
+fill-shrunk sizes b b' p f (used k ∷ xs) place n m z h (inr u) c e some whole less =
+    let ahead = used-ahead (p + k) xs place n u in
+    let least = h.1.some in
+    rw (ne_eqb p place (λ v. omega arith)) (h.0, segment-kept (λ j l v. c.below j (omega arith)) h.1, fill-shrunk sizes b b' (p + k) f xs place n m (omega arith) h.2 u c e some whole less)
 
 -- the segments at two places are one, or one ends before the other begins
 pub used-apart : (p : ℕ) (xs : List Extent) (place n other m : ℕ) → UsedAt p xs place n → UsedAt p xs other m

@@ -31,6 +31,13 @@ after_fill place p (free n ∷ xs) = free n ∷ after_fill place (p + n) xs
 after_fill place p (used n ∷ xs) = used n ∷ after_fill place (p + n) xs
 after_fill place p (taken n ∷ xs) = cond (p == place) (used n ∷ xs) (taken n ∷ after_fill place (p + n) xs)
 
+-- of extents that begin at p, those after the segment at a place was made shorter: what it no longer takes is room that was handed out
+abbrev pub after_shrink : ℕ → ℕ → ℕ → List Extent → List Extent
+after_shrink place m p [] = []
+after_shrink place m p (free n ∷ xs) = free n ∷ after_shrink place m (p + n) xs
+after_shrink place m p (used n ∷ xs) = cond (p == place) (used m ∷ taken (n - m) ∷ xs) (used n ∷ after_shrink place m (p + n) xs)
+after_shrink place m p (taken n ∷ xs) = taken n ∷ after_shrink place m (p + n) xs
+
 -- ---- giving back
 
 -- a hole of n bytes before other extents, joined to a hole that begins them

@@ -1,8 +1,8 @@
 -- Laws of divided blocks, whatever bytes the segments of each type take.
-use Rattle.std.specs.Prelude.{◌≡◌, ◌⊎◌, ℕ, ◌+◌, ◌-◌, ◌≤◌, List, slice_index}
+use Rattle.std.specs.Prelude.{◌≡◌, ◌⊎◌, ℕ, ◌+◌, ◌-◌, ◌%◌, ◌<◌, ◌≤◌, List, slice_index}
 use Rattle.hd_bytes.specs.Ranges.{ChangesOnly}
 use Rattle.hd_block.specs.Extents.{Extent, IsDivided, AreWhole, UsedAt, TakenAt}
-use Rattle.hd_block.specs.Changes.{after_fill}
+use Rattle.hd_block.specs.Changes.{after_fill, after_shrink}
 use Rattle.hd_dbd.specs.declared.facts.SegmentSize.{SegmentSize}
 use Rattle.hd_block.specs.Sizes.{size_at}
 
@@ -22,6 +22,12 @@ abbrev pub RoomIsFilled : Type 0
 RoomIsFilled =
     (sizes : List SegmentSize) (old new : List ℕ) (xs : List Extent) (place n : ℕ) → IsDivided sizes old xs → TakenAt 8 xs place n
     → ChangesOnly place n old new → size_at sizes new place ≡ n → IsDivided sizes new (after_fill place 8 xs)
+
+-- A shorter segment that is written where one stood leaves the rest as room that was handed out.
+abbrev pub SegmentsShrink : Type 0
+SegmentsShrink =
+    (sizes : List SegmentSize) (old new : List ℕ) (xs : List Extent) (place n m : ℕ) → IsDivided sizes old xs → UsedAt 8 xs place n
+    → ChangesOnly place n old new → size_at sizes new place ≡ m → 8 ≤ m → m % 8 ≡ 0 → m < n → IsDivided sizes new (after_shrink place m 8 xs)
 
 -- Two segments of a block are one, or apart.
 abbrev pub SegmentsAreApart : Type 0

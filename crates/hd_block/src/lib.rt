@@ -12,7 +12,8 @@ mod sizes;
 pub use block::Block;
 pub use holes::largest_free;
 pub use law::{
-    law_one_division, law_room_is_filled, law_segments_are_apart, law_writes_keep_division,
+    law_one_division, law_room_is_filled, law_segments_are_apart, law_segments_shrink,
+    law_writes_keep_division,
 };
 pub use parts::{Part, Parts};
 pub use sizes::size_at;

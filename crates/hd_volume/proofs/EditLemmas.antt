@@ -256,14 +256,14 @@ pub record HasFreed (p : ℕ) (xs zs : List Extent) (q n : ℕ) : Type 0 where
   pub holes : largest_hole (parts_of p xs) ≤ largest_hole (parts_of p zs)
 
 -- A hole of n bytes was put before extents that begin where it ends.
-record HasBefore (p n : ℕ) (xs zs : List Extent) : Type 0 where
+pub record HasBefore (p n : ℕ) (xs zs : List Extent) : Type 0 where
   pub whole : AreWhole xs → AreWhole zs
   pub on : (r m : ℕ) → UsedAt (p + n) xs r m → UsedAt p zs r m
   pub back : (r m : ℕ) → UsedAt p zs r m → UsedAt (p + n) xs r m
   pub hole : n ≤ largest_hole (parts_of p zs)
   pub holes : largest_hole (parts_of (p + n) xs) ≤ largest_hole (parts_of p zs)
 
-before-is : (p n : ℕ) (xs : List Extent) → HasBefore p n xs (hole_before n xs)
+pub before-is : (p n : ℕ) (xs : List Extent) → HasBefore p n xs (hole_before n xs)
 before-is p n [] = record { whole = λ w. w; on = λ r m u. u; back = λ r m u. u; hole = omega arith; holes = omega arith }
 before-is p n (used k ∷ xs) = record { whole = λ w. w; on = λ r m u. u; back = λ r m u. u; hole = omega arith; holes = omega arith }
 before-is p n (taken k ∷ xs) = record { whole = λ w. w; on = λ r m u. u; back = λ r m u. u; hole = omega arith; holes = omega arith }

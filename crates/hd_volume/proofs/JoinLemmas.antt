@@ -30,13 +30,13 @@ pub record AreOne (v w : VolumeState) : Type 0 where
   pub image : w.image ≡ v.image
 
 module _ {v w : VolumeState} (o : AreOne v w) where
-  one-block : (n : ℕ) → block_at w n ≡ block_at v n
+  pub one-block : (n : ℕ) → block_at w n ≡ block_at v n
   one-block n = block-seen o.same n ∙ ap (λ (i : List ℕ). block_of v.size i n) o.image
 
   pub one-kind : (k n : ℕ) → IsKind v k n → IsKind w k n
   one-kind k n h = record { there = (let t = h.there in let l : length w.image ≡ length v.image = ap length o.image in rw o.same.size (omega arith)); later = h.later; kind_is = ap kind_of (one-block n) ∙ h.kind_is }
 
-  one-back : (k n : ℕ) → IsKind w k n → IsKind v k n
+  pub one-back : (k n : ℕ) → IsKind w k n → IsKind v k n
   one-back k n h = record {
     there = (let t : n * v.size + v.size ≤ length w.image = rw o.same.size at h.there in let l : length w.image ≡ length v.image = ap length o.image in omega arith);
     later = h.later;

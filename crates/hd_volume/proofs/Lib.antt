@@ -14,3 +14,5 @@ pub mod SpaceLemmas
 pub mod IndexLemmas
 pub mod KeyLemmas
 pub mod CallSteps
+pub mod ShrinkLemmas
+pub mod RewriteLemmas

@@ -47,6 +47,14 @@ pub record IsMade (old : VolumeState) (n kind : ℕ) (new : VolumeState) : Type 
   pub spares : spare old ≡ spare new + 1
   pub holes : KeepsHoles old new
 
+-- so many bytes are those of the segment at an address
+abbrev pub IsLengthAt : VolumeState → ℕ → ℕ → Type 0
+IsLengthAt v address n = (s : List ℕ) → find v address ≡ Some s → n ≡ length s
+
+-- the segment at an address is shorter than these bytes
+abbrev pub IsShorter : VolumeState → ℕ → List ℕ → Type 0
+IsShorter v address bytes = (s : List ℕ) → find v address ≡ Some s → length s < length bytes
+
 -- the first bytes of a data block with one hole, which begins at offset 8 and whose length has these two bytes
 abbrev pub data_head : ℕ → ℕ → List ℕ
 data_head high low = 0 ∷ 8 ∷ 1 ∷ 0 ∷ 0 ∷ 0 ∷ 0 ∷ 0 ∷ 0 ∷ 0 ∷ high ∷ low ∷ 0 ∷ 0 ∷ 0 ∷ 0 ∷ []

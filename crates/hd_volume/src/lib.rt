@@ -13,6 +13,7 @@ mod law;
 mod load;
 mod memory;
 mod puts;
+mod rewrite;
 mod seek;
 mod space;
 mod store;

@@ -1,7 +1,14 @@
 use hd_block::{Block, Part};
+use hd_dbd::SegmentSize;
 
 /// The sizes of a course, a class, a student and a book.
-const SIZES: [u16; 5] = [0, 40, 24, 16, 16];
+const SIZES: [SegmentSize; 5] = [
+    SegmentSize::Fixed(0),
+    SegmentSize::Fixed(40),
+    SegmentSize::Fixed(24),
+    SegmentSize::Fixed(16),
+    SegmentSize::Fixed(16),
+];
 
 /// Block 2 of the sample image: a book, a course, and a hole.
 fn sample_block() -> [u8; 128] {

@@ -1,5 +1,6 @@
-ghost use Rattle.std.specs.Prelude.{◌≡◌, ◌<◌, true, false, IfOk};
+ghost use Rattle.std.specs.Prelude.{◌≡◌, ◌<◌, length, true, false, IfOk};
 ghost use Rattle.hd_dbd.specs.Facts.{stored_sizes};
+ghost use Rattle.hd_block.specs.Sizes.{size_at};
 
 use hd_dbd::{Dbd, Refused};
 use hd_sample::database;
@@ -23,6 +24,16 @@ fn header(blocks: u8) -> [u8; 128] {
     bytes
 }
 
+/// A segment has its type's size.
+fn is_whole(dbd: &Dbd, bytes: &[u8]) -> bool
+    ensures { result ≡ true → (0 < length bytes.now) × (size_at (stored_sizes dbd.now.types) bytes.now 0 ≡ length bytes.now) }
+{
+    if bytes.is_empty() {
+        return false;
+    }
+    bytes.len() == dbd.stored_size(bytes[0]) as usize
+}
+
 /// Puts a segment of its type's size; `Area` says that it has another.
 fn put_whole<S: BlockStore>(volume: &mut Volume<S>, dbd: &Dbd, bytes: &[u8]) -> Result<u32, Refused>
     requires unsound { volume.old.is_sound ≡ false }
@@ -30,7 +41,7 @@ fn put_whole<S: BlockStore>(volume: &mut Volume<S>, dbd: &Dbd, bytes: &[u8]) -> 
     ensures unsound { volume.new.is_sound ≡ false }
     ensures sizes { volume.new.sizes ≡ volume.old.sizes }
 {
-    if bytes.is_empty() || bytes.len() != dbd.stored_size(bytes[0]) as usize {
+    if !is_whole(dbd, bytes) {
         return Err(Refused::Area);
     }
     volume.put(bytes)
@@ -38,6 +49,9 @@ fn put_whole<S: BlockStore>(volume: &mut Volume<S>, dbd: &Dbd, bytes: &[u8]) -> 
 
 /// A student's segment.
 const STUDENT: [u8; 16] = *b"\x03\0\0\0\0\0ADAM01\0\0\0\0";
+
+/// Another student's.
+const OTHER: [u8; 16] = *b"\x03\0\0\0\0\0BETH02\0\0\0\0";
 
 /// A course's segment.
 const COURSE: [u8; 40] = [
@@ -207,6 +221,47 @@ fn store_of(
     let mut store = FuseStore::new(MemStore::new(128, bytes), 0);
     let _ = store.grow(1);
     Ok(FuseStore::new(store, passes))
+}
+
+/// Writes another student over the first of the volume of three blocks. `Area` says that a student has another size.
+fn write_other<S: BlockStore>(volume: &mut Volume<S>, dbd: &Dbd) -> Result<u32, Refused>
+    requires unsound { volume.old.is_sound ≡ false }
+    requires sizes { volume.old.sizes ≡ stored_sizes dbd.now.types }
+{
+    if !is_whole(dbd, &OTHER) {
+        return Err(Refused::Area);
+    }
+    let to = volume.rewrite(136, &OTHER)?;
+    volume.flush()?;
+    Ok(to)
+}
+
+/// Where another student stands that was written over the first, and the bytes of the volume.
+fn with_other(
+    alloc: Global,
+    image: &[u8],
+    dbd: &Dbd,
+) -> Result<(Result<u32, Refused>, Vec<u8>), AllocError>
+    requires { dbd.now.block_size ≡ 128 }
+{
+    let store = store_of(alloc, image, u64::MAX)?;
+    let (to, store) = match Volume::load(alloc, store, dbd) {
+        Ok(mut volume) => (write_other(&mut volume, dbd), volume.into_store()),
+        Err((store, refused)) => (Err(refused), store),
+    };
+    Ok((to, store.into_inner().into_inner().into_bytes()))
+}
+
+#[test]
+fn writes_a_segment_over_another_of_its_size(rt: HostRuntime) -> Result<(), Fail> {
+    let dbd = database(rt.alloc()).expect(&rt, "a database");
+    let old = three_blocks(rt.alloc())?;
+    let (to, new) = with_other(rt.alloc(), &old, &dbd)?;
+    assert_eq!(rt; to, Ok(136));
+    assert_eq!(rt; new.get(..136), old.get(..136));
+    assert_eq!(rt; new.get(136..152), Some(OTHER.as_slice()));
+    assert_eq!(rt; new.get(152..), old.get(152..));
+    Ok(())
 }
 
 /// Puts courses until the volume grows, sets its first root, and flushes it.
