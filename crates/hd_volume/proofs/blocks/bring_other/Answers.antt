@@ -1,6 +1,5 @@
-use Rattle.std.proofs.Common.{◌≡◌, IsTrue, sym, ap, ◌∙◌, arith}
-use Rattle.hd_volume.specs.Buffers.{ArePair, put_in, put_pair}
-use Rattle.hd_volume.proofs.BufferLemmas.{IsBrought, pair-turned, put-turned, pair-brought, put-brought}
+use Rattle.std.proofs.Common.{◌≡◌, IsTrue, ◌∙◌, arith}
+use Rattle.hd_volume.proofs.BufferLemmas.{IsBrought, put-turned, pair-brought, put-brought}
 use Rattle.hd_volume.proofs.blocks.bring_other.Goals as goal
 
 pub returns-then-hand-n-clause-contents : goal.returns-then-hand-n-clause-contents
