@@ -1,5 +1,5 @@
-//! Tests that count the accesses of searches. A block that is in hand is not read again, so a search costs one access for each time
-//! that it comes to a row, or to the index, in another block than the last.
+//! Tests that count the accesses of searches. The last two blocks are not read again, so a search costs one access for each time that
+//! it comes to a row, or to the index, in another block than these.
 ghost use Rattle.std.specs.Prelude.{◌≡◌, ◌<◌, false};
 ghost use Rattle.hd_dbd.specs.Facts.{stored_sizes};
 
@@ -463,8 +463,8 @@ fn a_walk_goes_on_in_the_block_that_it_left(rt: HostRuntime) -> Result<(), Fail>
     let (_, none) = run_on(&rt, "spread", &dbd, &all, last, Search::None)?;
     let (found, accesses) = run_on(&rt, "spread", &dbd, &all, last, Search::All)?;
     assert_eq!(rt; found, Ok(2 * 10));
-    // of each course: its two blocks; behind its classes its own again, and for its books the other; and behind these its own again
-    assert_eq!(rt; accesses.saturating_sub(none), 2 * (2 + 2 + 1));
+    // of each course: its two blocks, which both stay in memory
+    assert_eq!(rt; accesses.saturating_sub(none), 2 * 2);
     fs::remove_file(&rt, "spread")?;
     Ok(())
 }
@@ -486,9 +486,9 @@ fn goes_to_the_last_child_from_an_earlier_one(rt: HostRuntime) -> Result<(), Fai
     for (ssas, row) in cases {
         let (found, accesses) = run_on(&rt, "last", &dbd, &all, last, Search::Below(ssas))?;
         assert_eq!(rt; found, Ok(rows.get(row).copied().unwrap_or(0)));
-        // The index and the course. Then the first class, where GNP begins; the course, whether it is admitted; the class, which is not
-        // the row that is asked for; the course, for its last child; and that.
-        assert_eq!(rt; accesses.saturating_sub(none), 2 + 5);
+        // The index and the course. Then the first class, where GNP begins, and which is not the row that is asked for; and the last
+        // child of the course, which stays in memory.
+        assert_eq!(rt; accesses.saturating_sub(none), 2 + 2);
     }
     fs::remove_file(&rt, "last")?;
     Ok(())

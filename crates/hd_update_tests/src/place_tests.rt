@@ -278,8 +278,8 @@ const COUNTED: &[(Case, u64)] = &[
     ((b"40", 4, Rule::Last, None, Some(4)), 1),
     ((b"50", 2, Rule::First, None, Some(4)), 1),
     ((b"40", 5, Rule::Last, None, Some(4)), 4),
-    // Others are sought from the first twin on, up to the one before which they go: the last, the parent, three twins.
-    ((b"25", 2, Rule::Last, None, Some(2)), 5),
+    // Others are sought from the first twin on, up to the one before which they go: the last, three twins. The parent stays in memory.
+    ((b"25", 2, Rule::Last, None, Some(2)), 4),
     ((b"05", 5, Rule::First, None, Some(0)), 1),
     // Roots: the index, and the root that follows.
     ((b"200", 1, Rule::First, None, Some(1)), 2),

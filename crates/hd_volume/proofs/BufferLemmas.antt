@@ -1,14 +1,17 @@
 -- A block in memory, and the image that it makes with a store.
-use Rattle.std.proofs.Common.{◌≡◌, ◌≢◌, ◌⊎◌, inl, inr, vec_len, true, false, Bool, cond, IsTrue, ℕ, zero, suc, ◌+◌, ◌*◌, ◌<◌, ◌≤◌, List, ◌++◌, length, take, drop, refl, sym, ap, ◌∙◌, arith, replicate}
+use Rattle.std.proofs.Common.{◌≡◌, ◌≢◌, ◌⊎◌, inl, inr, vec_len, true, false, Bool, cond, IsTrue, ℕ, zero, suc, ◌+◌, ◌-◌, ◌*◌, ◌<◌, ◌≤◌, List, ◌++◌, length, take, drop, get_or, refl, sym, ap, ◌∙◌, arith, replicate}
 use Rattle.std.proofs.lemmas.List.{take_at, take-append-le, drop-append-le, append_assoc}
 use Rattle.std.proofs.lemmas.Bool.{cases_lt}
+use Rattle.std.proofs.lemmas.Grind.{common_steps, same_number_lists}
+use Rattle.std.proofs.lemmas.Nat.{row_fits}
 use Rattle.std.specs.Vec.{with_items}
 use Rattle.std.specs.declared.vec.Vec.{Vec}
 use Rattle.std.specs.declared.alloc.Global.{Global}
+use Rattle.hd_bytes.specs.Ranges.{with_bytes}
 use Rattle.hd_bytes.specs.Blocks.{block_of, with_block, grown, HasBlock}
 use Rattle.hd_bytes.proofs.BlockLemmas.{with-own, length-with_block, own-with, other-with, block-grown, length-grown}
 use Rattle.hd_volume.specs.declared.buffer.Buffer.{Buffer}
-use Rattle.hd_volume.specs.Buffers.{put_in, image_of, IsBuffer, AreBuffers, AreKept, number_of}
+use Rattle.hd_volume.specs.Buffers.{put_in, put_pair, image_of, IsBuffer, AreBuffers, ArePair, AreKept, KeepsImage, number_of}
 use Rattle.hd_volume.specs.Images.{ChangesBlock}
 
 -- what holds of both outcomes of a test holds
@@ -40,6 +43,14 @@ stays-buffer size c d b zeroth h len same =
       there = λ holds. rw len (h.there holds);
       same = λ holds un. h.same holds un ∙ sym (here (let k : HasBlock size c b.number = h.there holds in rw zeroth at k));
     }
+
+-- a buffer stays one where its block does
+pub still-buffer : (size : ℕ) (c d : List ℕ) (b : Buffer) → IsBuffer size c b → length d ≡ length c
+    → (b.holds ≡ true → block_of size d b.number ≡ block_of size c b.number) → IsBuffer size d b
+still-buffer size c d b h len same = record {
+  there = λ holds. rw len (h.there holds);
+  same = λ holds un. h.same holds un ∙ sym (same holds);
+}
 
 -- the image is as long as the store
 pub length-image : (size : ℕ) (c : List ℕ) (head hand : Buffer) → vec_len head.bytes ≡ size → vec_len hand.bytes ≡ size → head.number ≡ 0 → AreBuffers size c head hand
@@ -92,9 +103,36 @@ module _ {size : ℕ} {c : List ℕ} {head hand : Buffer} (k : Buffers size c he
       other-put_in size (put_in size c hand) head m k.head_len inner-head (rw inner-length there) (λ _ e. some (e ∙ k.head_number))
       ∙ other-put_in size c hand m k.hand_len k.are.in_hand there other
 
--- while the store is sound
-pub buffers-of : {store_size size : ℕ} {c : List ℕ} {is_sound : Bool} {head hand : Buffer} → AreKept store_size c is_sound size head hand → IsTrue is_sound → Buffers size c head hand
-buffers-of k sound = record { head_len = k.head_len; hand_len = k.hand_len; head_number = k.head_number; are = k.ready sound }
+module _ {size : ℕ} {c : List ℕ} {head hand aside : Buffer} (k : Buffers size c head hand) (len : vec_len aside.bytes ≡ size) (p : ArePair size c hand aside) where
+  pub aside-length : length (put_in size c aside) ≡ length c
+  aside-length = length-put_in size c aside len p.beside
+
+  -- the buffers over the store are such over its bytes with the block aside put in
+  pub over-aside : Buffers size (put_in size c aside) head hand
+  over-aside = record {
+    head_len = k.head_len;
+    hand_len = k.hand_len;
+    head_number = k.head_number;
+    are = record {
+      at_front =
+          stays-buffer size c (put_in size c aside) head k.head_number k.are.at_front aside-length
+          (λ there. other-put_in size c aside 0 len p.beside there (λ holds e. p.aside_later holds (sym e)));
+      in_hand =
+          still-buffer size c (put_in size c aside) hand k.are.in_hand aside-length
+          (λ holds. other-put_in size c aside hand.number len p.beside (k.are.in_hand.there holds) (p.apart holds));
+      first = λ there. k.are.first (rw (← aside-length) there);
+      later = k.are.later;
+    };
+  }
+
+-- what is kept over the store, while it is sound
+pub stored-buffers : {store_size size : ℕ} {c : List ℕ} {is_sound : Bool} {head hand aside : Buffer} → AreKept store_size c is_sound size head hand aside → IsTrue is_sound → Buffers size c head hand
+stored-buffers k sound = record { head_len = k.head_len; hand_len = k.hand_len; head_number = k.head_number; are = k.ready sound }
+
+-- and over its bytes with the block aside put in
+pub buffers-of : {store_size size : ℕ} {c : List ℕ} {is_sound : Bool} {head hand aside : Buffer} → AreKept store_size c is_sound size head hand aside → IsTrue is_sound
+    → Buffers size (put_in size c aside) head hand
+buffers-of k sound = over-aside (stored-buffers k sound) k.aside_len (k.pair sound)
 
 -- a vector that was overwritten by as many bytes has these
 pub refilled : (v : Vec ℕ Global) (ws : List ℕ) → length ws ≡ vec_len v → (with_items v ws).items ≡ ws
@@ -293,3 +331,220 @@ put-stands size n c bytes false there same = refl
 pub hand-stands : {size : ℕ} {c : List ℕ} {head hand : Buffer} → Buffers size c head hand → c ≡ image_of size c head hand → put_in size c hand ≡ c
 hand-stands {size} {c} {head} {hand} k same =
     put-stands size hand.number c hand.bytes.items hand.holds k.are.in_hand.there (λ holds. ap (λ (t : List ℕ). block_of size t hand.number) same ∙ image-hand k holds)
+
+-- ---- the block aside
+
+module _ {size : ℕ} {c : List ℕ} {head hand aside : Buffer} (k : Buffers size c head hand) (len : vec_len aside.bytes ≡ size) (p : ArePair size c hand aside) where
+  -- the image's block aside
+  image-aside : aside.holds ≡ true → block_of size (image_of size (put_in size c aside) head hand) aside.number ≡ aside.bytes.items
+  image-aside holds =
+      let there : HasBlock size (put_in size c aside) aside.number = rw (aside-length k len p) (p.beside.there holds) in
+      image-other (over-aside k len p) aside.number there (p.aside_later holds) (λ held e. p.apart held holds (sym e)) ∙ own-put_in size c aside len p.beside holds
+
+  -- where the image stands in the store, so does the block aside
+  pub aside-stands : c ≡ image_of size (put_in size c aside) head hand → put_in size c aside ≡ c
+  aside-stands same =
+      put-stands size aside.number c aside.bytes.items aside.holds p.beside.there
+      (λ holds. ap (λ (t : List ℕ). block_of size t aside.number) same ∙ image-aside holds)
+
+  aside-image-length : length (image_of size (put_in size c aside) head hand) ≡ length c
+  aside-image-length = image-length (over-aside k len p) ∙ aside-length k len p
+
+  -- the block aside, once it was written back and the store has the image
+  aside-flushed : {aside' : Buffer} → IsWritten aside aside' → IsBuffer size (image_of size (put_in size c aside) head hand) aside'
+  aside-flushed {aside'} w =
+      let image : List ℕ = image_of size (put_in size c aside) head hand in
+      record {
+        there = λ holds. let t : HasBlock size c aside.number = p.beside.there (sym w.holds ∙ holds) in rw (w.number, aside-image-length) t;
+        same = λ holds un. ap (λ v. v.items) w.bytes ∙ sym (image-aside (sym w.holds ∙ holds)) ∙ ap (block_of size image) (sym w.number);
+      }
+
+  -- both buffers then
+  pub pair-flushed : {hand' aside' : Buffer} → IsWritten aside aside' → IsWritten hand hand' → IsBuffer size (image_of size (put_in size c aside) head hand) hand'
+      → ArePair size (image_of size (put_in size c aside) head hand) hand' aside'
+  pair-flushed w v h = record {
+    in_hand = h;
+    beside = aside-flushed w;
+    hand_later = λ holds. rw v.number (p.hand_later (sym v.holds ∙ holds));
+    aside_later = λ holds. rw w.number (p.aside_later (sym w.holds ∙ holds));
+    apart = λ held holds. rw (v.number, w.number) (p.apart (sym v.holds ∙ held) (sym w.holds ∙ holds));
+  }
+
+  -- the block aside is put in where it stands then
+  pub aside-put-flushed : {aside' : Buffer} → IsWritten aside aside' → put_in size (image_of size (put_in size c aside) head hand) aside' ≡ image_of size (put_in size c aside) head hand
+  aside-put-flushed {aside'} w = unchanged-put size (image_of size (put_in size c aside) head hand) aside' (aside-flushed w) w.unchanged
+
+-- where the store grows
+pub grown-pair : {size : ℕ} {c : List ℕ} {hand aside : Buffer} → ArePair size c hand aside → (blocks : ℕ) → ArePair size (grown size c blocks) hand aside
+grown-pair {size} {c} {hand} {aside} p blocks = record {
+  in_hand = grown-buffer size blocks c hand p.in_hand;
+  beside = grown-buffer size blocks c aside p.beside;
+  hand_later = p.hand_later;
+  aside_later = p.aside_later;
+  apart = p.apart;
+}
+
+-- the bytes with a buffer's block put in grow with the store
+pub put_in-grown : {size : ℕ} {c : List ℕ} (b : Buffer) → vec_len b.bytes ≡ size → IsBuffer size c b → (blocks : ℕ) → put_in size (grown size c blocks) b ≡ grown size (put_in size c b) blocks
+put_in-grown {size} {c} b len h blocks = put-grown size b.number blocks c b.bytes.items b.holds h.there (sym b.bytes.ok.0 ∙ len)
+
+-- a byte before those that were put at a place
+byte-below : (c xs : List ℕ) (p k : ℕ) → p + length xs ≤ length c → k < p → get_or (with_bytes c p xs) k 0 ≡ get_or c k 0
+byte-below c xs p k h l = grind (arith, common_steps)
+
+-- a byte of them
+byte-inside : (c xs : List ℕ) (p j : ℕ) → p + length xs ≤ length c → j < length xs → get_or (with_bytes c p xs) (p + j) 0 ≡ get_or xs j 0
+byte-inside c xs p j h l = grind (arith, common_steps)
+
+-- a byte behind them
+byte-above : (c xs : List ℕ) (p k : ℕ) → p + length xs ≤ length c → p + length xs ≤ k → get_or (with_bytes c p xs) k 0 ≡ get_or c k 0
+byte-above c xs p k h l = grind (arith, common_steps)
+
+length-with : (c xs : List ℕ) (p : ℕ) → p + length xs ≤ length c → length (with_bytes c p xs) ≡ length c
+length-with c xs p h = grind (arith, common_steps)
+
+module _ (p q : ℕ) (c a b : List ℕ) (h : p + length a ≤ q) (l : q + length b ≤ length c) where
+  front-fits : p + length a ≤ length c
+  front-fits = omega arith
+
+  behind-fits : q + length b ≤ length (with_bytes c p a)
+  behind-fits = rw (length-with c a p front-fits) l
+
+  front-still-fits : p + length a ≤ length (with_bytes c q b)
+  front-still-fits = rw (length-with c b q l) front-fits
+
+  behind-front : (k : ℕ) → k < p → get_or (with_bytes (with_bytes c p a) q b) k 0 ≡ get_or (with_bytes (with_bytes c q b) p a) k 0
+  behind-front k u =
+      byte-below (with_bytes c p a) b q k behind-fits (omega arith) ∙ byte-below c a p k front-fits u
+      ∙ sym (byte-below (with_bytes c q b) a p k front-still-fits u ∙ byte-below c b q k l (omega arith))
+
+  behind-first : (j : ℕ) → j < length a → get_or (with_bytes (with_bytes c p a) q b) (p + j) 0 ≡ get_or (with_bytes (with_bytes c q b) p a) (p + j) 0
+  behind-first j u =
+      byte-below (with_bytes c p a) b q (p + j) behind-fits (omega arith) ∙ byte-inside c a p j front-fits u ∙ sym (byte-inside (with_bytes c q b) a p j front-still-fits u)
+
+  behind-between : (k : ℕ) → p + length a ≤ k → k < q → get_or (with_bytes (with_bytes c p a) q b) k 0 ≡ get_or (with_bytes (with_bytes c q b) p a) k 0
+  behind-between k m u =
+      byte-below (with_bytes c p a) b q k behind-fits u ∙ byte-above c a p k front-fits m
+      ∙ sym (byte-above (with_bytes c q b) a p k front-still-fits m ∙ byte-below c b q k l u)
+
+  behind-second : (j : ℕ) → j < length b → get_or (with_bytes (with_bytes c p a) q b) (q + j) 0 ≡ get_or (with_bytes (with_bytes c q b) p a) (q + j) 0
+  behind-second j u =
+      byte-inside (with_bytes c p a) b q j behind-fits u
+      ∙ sym (byte-above (with_bytes c q b) a p (q + j) front-still-fits (omega arith) ∙ byte-inside c b q j l u)
+
+  behind-last : (k : ℕ) → q + length b ≤ k → get_or (with_bytes (with_bytes c p a) q b) k 0 ≡ get_or (with_bytes (with_bytes c q b) p a) k 0
+  behind-last k m =
+      byte-above (with_bytes c p a) b q k behind-fits m ∙ byte-above c a p k front-fits (omega arith)
+      ∙ sym (byte-above (with_bytes c q b) a p k front-still-fits (omega arith) ∙ byte-above c b q k l m)
+
+  behind-byte : (k : ℕ) → get_or (with_bytes (with_bytes c p a) q b) k 0 ≡ get_or (with_bytes (with_bytes c q b) p a) k 0
+  behind-byte k =
+      elim (cases_lt k p) [
+        | inl u ↦ behind-front k u
+        | inr m ↦ elim (cases_lt k (p + length a)) [
+          | inl u ↦ let e : p + (k - p) ≡ k = omega arith in rw e at (behind-first (k - p) (omega arith))
+          | inr m ↦ elim (cases_lt k q) [
+            | inl u ↦ behind-between k (omega arith) u
+            | inr m ↦ elim (cases_lt k (q + length b)) [ inl u ↦ let e : q + (k - q) ≡ k = omega arith in rw e at (behind-second (k - q) (omega arith)) | inr m ↦ behind-last k (omega arith) ]
+          ]
+        ]
+      ]
+
+  -- bytes that are put at a place and others behind them, in either order
+  with-behind : with_bytes (with_bytes c p a) q b ≡ with_bytes (with_bytes c q b) p a
+  with-behind =
+      same_number_lists _ _
+      (length-with (with_bytes c p a) b q behind-fits ∙ length-with c a p front-fits ∙ sym (length-with (with_bytes c q b) a p front-still-fits ∙ length-with c b q l))
+      (λ k u. behind-byte k)
+
+-- two blocks that are put in in either order
+pub with-both : (size n m : ℕ) (c a b : List ℕ) → HasBlock size c n → HasBlock size c m → length a ≡ size → length b ≡ size → n ≢ m
+    → with_block size (with_block size c n a) m b ≡ with_block size (with_block size c m b) n a
+with-both size n m c a b h l la lb other =
+    elim (cases_lt n m) [
+      | inl k ↦ with-behind (n * size) (m * size) c a b (rw la (row_fits n size m size k (omega arith))) (rw lb l)
+      | inr k ↦ let j : m < n = omega arith in sym (with-behind (m * size) (n * size) c b a (rw lb (row_fits m size n size j (omega arith))) (rw la h))
+    ]
+
+put-both : (size n m : ℕ) (c a b : List ℕ) (x y : Bool) → (x ≡ true → HasBlock size c n) → (y ≡ true → HasBlock size c m) → length a ≡ size → length b ≡ size
+    → (x ≡ true → y ≡ true → n ≢ m)
+    → cond y (with_block size (cond x (with_block size c n a) c) m b) (cond x (with_block size c n a) c)
+    ≡ cond x (with_block size (cond y (with_block size c m b) c) n a) (cond y (with_block size c m b) c)
+put-both size n m c a b true true h l la lb other = with-both size n m c a b (h refl) (l refl) la lb (other refl refl)
+put-both size n m c a b true false h l la lb other = refl
+put-both size n m c a b false true h l la lb other = refl
+put-both size n m c a b false false h l la lb other = refl
+
+module _ {size : ℕ} {c : List ℕ} {hand aside : Buffer} (p : ArePair size c hand aside) where
+  -- the block aside and the block in hand in each other's place
+  pub pair-turned : ArePair size c aside hand
+  pair-turned = record {
+    in_hand = p.beside;
+    beside = p.in_hand;
+    hand_later = p.aside_later;
+    aside_later = p.hand_later;
+    apart = λ held holds e. p.apart holds held (sym e);
+  }
+
+  -- they make the same image
+  pub put-turned : vec_len hand.bytes ≡ size → vec_len aside.bytes ≡ size → put_pair size c aside hand ≡ put_pair size c hand aside
+  put-turned l m =
+      put-both size hand.number aside.number c hand.bytes.items aside.bytes.items hand.holds aside.holds p.in_hand.there p.beside.there (sym hand.bytes.ok.0 ∙ l)
+      (sym aside.bytes.ok.0 ∙ m) p.apart
+
+-- a block was brought to the buffer that was aside, and the one that was in hand is aside
+pub record IsBrought (size : ℕ) (c d : List ℕ) (hand aside new : Buffer) : Type 0 where
+  pub len : length d ≡ length c
+  pub buffer : IsBuffer size d new
+  pub same : put_in size d new ≡ put_in size c aside
+  pub later : new.number ≢ 0
+  pub other : hand.holds ≡ true → hand.number ≢ new.number
+
+module _ {size : ℕ} {c d : List ℕ} {hand aside new : Buffer} (p : ArePair size c hand aside) (b : IsBrought size c d hand aside new) (l : vec_len aside.bytes ≡ size) (m : vec_len new.bytes ≡ size) where
+  pub pair-brought : ArePair size d new hand
+  pair-brought = record {
+    in_hand = b.buffer;
+    beside =
+        still-buffer size c d hand p.in_hand b.len
+        (λ holds.
+        let there : HasBlock size c hand.number = p.in_hand.there holds in
+        sym (other-put_in size d new hand.number m b.buffer (rw b.len there) (λ _. b.other holds)) ∙ ap (λ (t : List ℕ). block_of size t hand.number) b.same
+        ∙ other-put_in size c aside hand.number l p.beside there (p.apart holds));
+    hand_later = λ _. b.later;
+    aside_later = p.hand_later;
+    apart = λ _ holds e. b.other holds (sym e);
+  }
+
+  -- the image is as it was
+  pub put-brought : vec_len hand.bytes ≡ size → put_pair size d new hand ≡ put_pair size c hand aside
+  put-brought n = sym (put-turned pair-brought m n) ∙ ap (λ (t : List ℕ). put_in size t hand) b.same
+
+-- The block aside was written back, then the block in hand, and then block 0; c, d, e and f are the store's bytes before and after each.
+pub record IsFlushed (size : ℕ) (c d e f : List ℕ) (head hand aside head' hand' aside' : Buffer) : Type 0 where
+  pub aside_written : IsWritten aside aside'
+  pub hand_written : IsWritten hand hand'
+  pub first : d ≡ put_in size c aside
+  pub second : e ≡ put_in size d hand
+  pub third : f ≡ image_of size e head hand'
+  pub image : KeepsImage size e head hand' f head'
+  pub ready : AreBuffers size f head' hand'
+
+module _ {size : ℕ} {c d e f : List ℕ} {head hand aside head' hand' aside' : Buffer} (k : Buffers size c head hand) (len : vec_len aside.bytes ≡ size) (p : ArePair size c hand aside)
+    (w : IsFlushed size c d e f head hand aside head' hand' aside') where
+  middle-image : image_of size e head hand' ≡ image_of size (put_in size c aside) head hand
+  middle-image =
+      ap (λ (t : List ℕ). image_of size t head hand') (w.second ∙ ap (λ (t : List ℕ). put_in size t hand) w.first)
+      ∙ image-hand-written (over-aside k len p) w.hand_written
+
+  -- the store has the image then
+  pub flushed-stored : f ≡ image_of size (put_in size c aside) head hand
+  flushed-stored = w.third ∙ middle-image
+
+  pub flushed-pair : ArePair size f hand' aside'
+  flushed-pair = rw flushed-stored (pair-flushed k len p w.aside_written w.hand_written (rw flushed-stored at w.ready.in_hand))
+
+  -- and the image is as it was
+  pub flushed-image : image_of size (put_in size f aside') head' hand' ≡ image_of size (put_in size c aside) head hand
+  flushed-image =
+      let put : put_in size f aside' ≡ f = rw flushed-stored (aside-put-flushed k len p w.aside_written) in
+      ap (λ (t : List ℕ). image_of size t head' hand') put ∙ w.image ∙ middle-image

@@ -14,6 +14,10 @@ put_in size contents b = cond b.holds (with_block size contents b.number b.bytes
 abbrev pub image_of : ℕ → List ℕ → Buffer → Buffer → List ℕ
 image_of size contents head hand = put_in size (put_in size contents hand) head
 
+-- the store's bytes with the block aside and the block in hand put in
+abbrev pub put_pair : ℕ → List ℕ → Buffer → Buffer → List ℕ
+put_pair size contents hand aside = put_in size (put_in size contents aside) hand
+
 -- a buffer holds a block of the store, as it stands there unless it was changed
 pub record IsBuffer (size : ℕ) (contents : List ℕ) (b : Buffer) : Type 0 where
   pub there : b.holds ≡ true → HasBlock size contents b.number
@@ -25,6 +29,14 @@ pub record AreBuffers (size : ℕ) (contents : List ℕ) (head hand : Buffer) : 
   pub in_hand : IsBuffer size contents hand
   pub first : HasBlock size contents 0 → head.holds ≡ true
   pub later : hand.holds ≡ true → hand.number ≢ 0
+
+-- Two buffers are for later blocks than block 0, and never for the same one: one block is in hand, and one aside.
+pub record ArePair (size : ℕ) (contents : List ℕ) (hand aside : Buffer) : Type 0 where
+  pub in_hand : IsBuffer size contents hand
+  pub beside : IsBuffer size contents aside
+  pub hand_later : hand.holds ≡ true → hand.number ≢ 0
+  pub aside_later : aside.holds ≡ true → aside.number ≢ 0
+  pub apart : hand.holds ≡ true → aside.holds ≡ true → hand.number ≢ aside.number
 
 -- What is seen of a store through buffers: all bytes as they will stand once they are written back, those of the store
 -- as they stand, the store's meanings, and the number of the block in hand, 0 for none.
@@ -42,14 +54,16 @@ abbrev pub number_of : Buffer → ℕ
 number_of b = cond b.holds b.number 0
 
 -- what buffers over a store keep
-pub record AreKept (store_size : ℕ) (contents : List ℕ) (is_sound : Bool) (size : ℕ) (head hand : Buffer) : Type 0 where
+pub record AreKept (store_size : ℕ) (contents : List ℕ) (is_sound : Bool) (size : ℕ) (head hand aside : Buffer) : Type 0 where
   pub same_size : store_size ≡ size
   pub some : 0 < size
   pub small : size ≤ 32768
   pub head_len : vec_len head.bytes ≡ size
   pub hand_len : vec_len hand.bytes ≡ size
+  pub aside_len : vec_len aside.bytes ≡ size
   pub head_number : head.number ≡ 0
   pub ready : IsTrue is_sound → AreBuffers size contents head hand
+  pub pair : IsTrue is_sound → ArePair size contents hand aside
 
 -- A call that brings at most one block to hand, and changes nothing of the image; where the store has all of it, so it does
 -- afterwards.

@@ -1,4 +1,4 @@
-ghost use Rattle.std.specs.Prelude.{◌≡◌, ◌+◌, ◌/◌, ◌%◌, ◌≤◌, ◌<◌, true, false, vec_len, IsTrue, length, OnOk, IfOk, IfErr, IfSome, slice_index};
+ghost use Rattle.std.specs.Prelude.{◌≡◌, ◌≢◌, ◌+◌, ◌/◌, ◌%◌, ◌≤◌, ◌<◌, true, false, vec_len, IsTrue, length, OnOk, IfOk, IfErr, IfSome, slice_index};
 ghost use Rattle.hd_dbd.specs.Refusals.{OnlyDevice, OnlyMemory};
 ghost use Rattle.hd_bytes.specs.Blocks.{block_of, grown, HasBlock};
 ghost use Rattle.hd_bytes.specs.Ranges.{with_bytes};
@@ -6,7 +6,7 @@ ghost use Rattle.byteorder.specs.Endian.{big_bytes};
 ghost use Rattle.hd_volume.specs.Edits.{IsTaken, IsGiven};
 ghost use Rattle.hd_volume.specs.Stores.{CountsDevice, StaysSound, RefusesGrowth, IsGivenBack};
 ghost use Rattle.hd_volume.specs.Images.{ChangesBlock, KeepsFirst};
-ghost use Rattle.hd_volume.specs.Buffers.{AreBuffers, image_of, ChangesHand, ChangesHead, KeepsImage};
+ghost use Rattle.hd_volume.specs.Buffers.{AreBuffers, ArePair, put_in, put_pair, image_of, ChangesHand, ChangesHead, KeepsImage};
 
 use crate::buffer::{Buffer, bring, write_back};
 use crate::store::BlockStore;
@@ -15,23 +15,26 @@ use hd_bytes::{write_bytes, write_u32};
 use hd_dbd::{Refused, SegmentSize};
 use std::alloc::{AllocError, Global};
 use std::marker::Model;
+use std::mem::swap;
 
-/// The blocks of a store, of which block 0 and one more are in memory.
+/// The blocks of a store, of which block 0 and two more are in memory: the one in hand, and the one that was in hand
+/// before.
 #[derive(Drop)]
 pub struct Blocks<S: BlockStore> {
     store: S,
     head: Buffer,
     hand: Buffer,
+    aside: Buffer,
     block_size: usize,
 }
 
 impl<S: BlockStore> Model for Blocks<S> {
-    ghost use Rattle.hd_volume.specs.Buffers.{Buffered, AreKept, image_of, number_of};
+    ghost use Rattle.hd_volume.specs.Buffers.{Buffered, AreKept, put_in, image_of, number_of};
 
     ghost Value = { Buffered };
 
     ghost view = { λ v. record {
-      image = image_of v.block_size (S.contents v.store) v.head v.hand;
+      image = image_of v.block_size (put_in v.block_size (S.contents v.store) v.aside) v.head v.hand;
       stored = S.contents v.store;
       is_sound = S.is_sound v.store;
       failures = S.failures v.store;
@@ -40,7 +43,7 @@ impl<S: BlockStore> Model for Blocks<S> {
       hand = number_of v.hand;
     } };
 
-    ghost invariant = { λ v. AreKept (S.size v.store) (S.contents v.store) (S.is_sound v.store) v.block_size v.head v.hand };
+    ghost invariant = { λ v. AreKept (S.size v.store) (S.contents v.store) (S.is_sound v.store) v.block_size v.head v.hand v.aside };
 }
 
 impl<S: BlockStore> Blocks<S> {
@@ -57,6 +60,9 @@ impl<S: BlockStore> Blocks<S> {
         let Ok(hand) = empty_buffer(alloc, block_size) else {
             return Err((store, Refused::Memory));
         };
+        let Ok(aside) = empty_buffer(alloc, block_size) else {
+            return Err((store, Refused::Memory));
+        };
         if store.length() >= block_size as u64 {
             if let Err(refused) = bring(&mut store, &mut head, 0) {
                 return Err((store, refused));
@@ -66,6 +72,7 @@ impl<S: BlockStore> Blocks<S> {
             store,
             head,
             hand,
+            aside,
             block_size,
         })
     }
@@ -142,7 +149,7 @@ impl<S: BlockStore> Blocks<S> {
         if self.hand.holds && self.hand.number == n {
             return Ok(());
         }
-        bring(&mut self.store, &mut self.hand, n)?;
+        bring_other(&mut self.store, &mut self.hand, &mut self.aside, n)?;
         Ok(())
     }
 
@@ -224,7 +231,7 @@ impl<S: BlockStore> Blocks<S> {
         Ok(())
     }
 
-    /// Writes what is changed to the store: the block in hand, and then block 0.
+    /// Writes what is changed to the store: the block aside, the block in hand, and then block 0.
     pub fn flush(&mut self) -> Result<(), Refused>
         ensures image { OnOk result (IsTrue self.old.is_sound → (self.new.image ≡ self.old.image) × (self.new.stored ≡ self.old.image)) }
         ensures refusal { OnlyDevice result }
@@ -233,6 +240,7 @@ impl<S: BlockStore> Blocks<S> {
         ensures size { self.new.size ≡ self.old.size }
         ensures room { self.new.room ≡ self.old.room }
     {
+        write_back(&mut self.store, &mut self.aside)?;
         write_back(&mut self.store, &mut self.hand)?;
         write_first(&mut self.store, &mut self.head, &self.hand)?;
         Ok(())
@@ -262,6 +270,38 @@ fn empty_buffer(alloc: Global, block_size: usize) -> Result<Buffer, AllocError>
         holds: false,
         changed: false,
     })
+}
+
+/// Brings a block that is not in hand to hand; the one that was in hand is aside then.
+fn bring_other<S: BlockStore>(
+    store: &mut S,
+    hand: &mut Buffer,
+    aside: &mut Buffer,
+    n: u32,
+) -> Result<(), Refused>
+    requires len { (vec_len hand.old.bytes ≡ S.size store.old) × (vec_len aside.old.bytes ≡ S.size store.old) }
+    requires ready { IsTrue (S.is_sound store.old) → ArePair (S.size store.old) (S.contents store.old) hand.old aside.old }
+    requires there { IsTrue (S.is_sound store.old) → (0 < n) × HasBlock (S.size store.old) (S.contents store.old) n }
+    requires other { hand.old.holds ≡ true → hand.old.number ≢ n }
+    ensures contents { OnOk result (IsTrue (S.is_sound store.old) → put_pair (S.size store.old) (S.contents store.new) hand.new aside.new ≡ put_pair (S.size store.old) (S.contents store.old) hand.old aside.old) }
+    ensures length { OnOk result (IsTrue (S.is_sound store.old) → length (S.contents store.new) ≡ length (S.contents store.old)) }
+    ensures first { OnOk result (IsTrue (S.is_sound store.old) → KeepsFirst (S.size store.old) (S.contents store.old) (S.contents store.new)) }
+    ensures stands { OnOk result (IsTrue (S.is_sound store.old) → put_in (S.size store.old) (S.contents store.old) aside.old ≡ S.contents store.old → S.contents store.new ≡ S.contents store.old) }
+    ensures ready { OnOk result (IsTrue (S.is_sound store.old) → ArePair (S.size store.old) (S.contents store.new) hand.new aside.new) }
+    ensures holds { OnOk result ((hand.new.holds ≡ true) × (hand.new.number ≡ n)) }
+    ensures len { (vec_len hand.new.bytes ≡ S.size store.old) × (vec_len aside.new.bytes ≡ S.size store.old) }
+    ensures refusal { OnlyDevice result }
+    ensures counts { CountsDevice result (S.failures store.old) (S.failures store.new) }
+    ensures sound { StaysSound result (S.is_sound store.old) (S.is_sound store.new) }
+    ensures size { S.size store.new ≡ S.size store.old }
+    ensures room { S.room store.new ≡ S.room store.old }
+{
+    swap(hand, aside);
+    if hand.holds && hand.number == n {
+        return Ok(());
+    }
+    bring(store, hand, n)?;
+    Ok(())
 }
 
 /// Writes block 0 to the store, if it was changed, once the block in hand stands there.

@@ -35,7 +35,7 @@ pub const HEIGHT: usize = 40;
 
 /// A volume over a store: a finite map from addresses to segments, and blocks for an index.
 ///
-/// It keeps block 0 and one block more in memory, and a few bytes of each block.
+/// It keeps block 0 and two blocks more in memory, and a few bytes of each block.
 #[derive(Drop)]
 pub struct Volume<S: BlockStore> {
     pub(crate) blocks: Blocks<S>,

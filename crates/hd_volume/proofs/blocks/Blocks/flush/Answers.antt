@@ -1,28 +1,85 @@
-use Rattle.std.proofs.Common.{◌≡◌, ℕ, IsTrue, subst, ◌∙◌}
-use Rattle.hd_volume.specs.Buffers.{Buffered, image_of, put_in}
-use Rattle.hd_volume.proofs.BufferLemmas.{buffers-of, IsWritten, hand-written, image-hand-written}
+use Rattle.std.proofs.Common.{◌≡◌, ℕ, List, vec_len, IsTrue, subst, ap, ◌∙◌}
+use Rattle.hd_volume.specs.Buffers.{Buffered, ArePair, image_of, put_in}
+use Rattle.hd_volume.proofs.BufferLemmas.{stored-buffers, buffers-of, IsWritten, hand-written, IsFlushed, flushed-stored, flushed-pair, flushed-image}
 use Rattle.hd_volume.proofs.blocks.Blocks.flush.Goals as goal
+
+pub write_back-requires-2-clause-ready : goal.write_back-requires-2-clause-ready
+write_back-requires-2-clause-ready g c sound =
+    let before : IsTrue (g.S.BlockStore.is_sound c.self.inside.store) = rw (← c.in_ok-write_back.ensures.sound) sound in
+    rw (c.write_back.ensures.size, c.in_ok-write_back.ensures.contents before, c.self.invariant.same_size) (buffers-of c.self.invariant before).are.in_hand
 
 pub write_first-requires-clause-ready : goal.write_first-requires-clause-ready
 write_first-requires-clause-ready g c sound =
-    let before : IsTrue (g.S.BlockStore.is_sound c.self.inside.store) = rw (← c.in_ok-write_back.ensures.sound) sound in
-    let k = buffers-of c.self.invariant before in
-    let w : IsWritten c.self.inside.hand c.write_back.new.buffer =
+    let sound-1 : IsTrue (g.S.BlockStore.is_sound c.write_back.new.store) = rw (← c.in_ok-write_back-2.ensures.sound) sound in
+    let before : IsTrue (g.S.BlockStore.is_sound c.self.inside.store) = rw (← c.in_ok-write_back.ensures.sound) sound-1 in
+    let v : IsWritten c.self.inside.hand c.write_back-2.new.buffer =
+    record { bytes = c.write_back-2.ensures.bytes; number = c.write_back-2.ensures.number; holds = c.write_back-2.ensures.holds; unchanged = c.in_ok-write_back-2.ensures.unchanged } in
+    rw (c.write_back-2.ensures.size, c.in_ok-write_back-2.ensures.contents sound-1, c.write_back.ensures.size, c.in_ok-write_back.ensures.contents before, c.self.invariant.same_size)
+    (hand-written (buffers-of c.self.invariant before) v)
+
+pub invariant_of-self-2 : goal.invariant_of-self-2
+invariant_of-self-2 g c =
+    let size : ℕ = c.self.inside.block_size in
+    let contents : List ℕ = g.S.BlockStore.contents c.self.inside.store in
+    let w : IsWritten c.self.inside.aside c.write_back.new.buffer =
     record { bytes = c.write_back.ensures.bytes; number = c.write_back.ensures.number; holds = c.write_back.ensures.holds; unchanged = c.in_ok-write_back.ensures.unchanged } in
-    rw (c.write_back.ensures.size, c.in_ok-write_back.ensures.contents before, c.self.invariant.same_size) (hand-written k w)
+    let v : IsWritten c.self.inside.hand c.write_back-2.new.buffer =
+    record { bytes = c.write_back-2.ensures.bytes; number = c.write_back-2.ensures.number; holds = c.write_back-2.ensures.holds; unchanged = c.in_ok-write_back-2.ensures.unchanged } in
+    let same-1 : g.S.BlockStore.size c.write_back.new.store ≡ size = c.write_back.ensures.size ∙ c.self.invariant.same_size in
+    let same-2 : g.S.BlockStore.size c.write_back-2.new.store ≡ size = c.write_back-2.ensures.size ∙ same-1 in
+    record {
+      same_size = c.write_first.ensures.size ∙ same-2;
+      some = c.self.invariant.some;
+      small = c.self.invariant.small;
+      head_len = c.write_first.ensures.len ∙ same-2;
+      hand_len = ap vec_len c.write_back-2.ensures.bytes ∙ c.self.invariant.hand_len;
+      aside_len = ap vec_len c.write_back.ensures.bytes ∙ c.self.invariant.aside_len;
+      head_number = c.write_first.ensures.number;
+      ready = λ sound.
+          let sound-2 : IsTrue (g.S.BlockStore.is_sound c.write_back-2.new.store) = rw (← c.in_ok-write_first.ensures.sound) sound in
+          rw same-2 at (c.in_ok-write_first.ensures.ready sound-2);
+      pair = λ sound.
+          let sound-2 : IsTrue (g.S.BlockStore.is_sound c.write_back-2.new.store) = rw (← c.in_ok-write_first.ensures.sound) sound in
+          let sound-1 : IsTrue (g.S.BlockStore.is_sound c.write_back.new.store) = rw (← c.in_ok-write_back-2.ensures.sound) sound-2 in
+          let before : IsTrue (g.S.BlockStore.is_sound c.self.inside.store) = rw (← c.in_ok-write_back.ensures.sound) sound-1 in
+          let all : IsFlushed size contents (g.S.BlockStore.contents c.write_back.new.store) (g.S.BlockStore.contents c.write_back-2.new.store) (g.S.BlockStore.contents c.write_first.new.store) c.self.inside.head c.self.inside.hand c.self.inside.aside c.write_first.new.head c.write_back-2.new.buffer c.write_back.new.buffer =
+          record {
+            aside_written = w;
+            hand_written = v;
+            first = rw c.self.invariant.same_size at (c.in_ok-write_back.ensures.contents before);
+            second = rw same-1 at (c.in_ok-write_back-2.ensures.contents sound-1);
+            third = rw same-2 at (c.in_ok-write_first.ensures.contents sound-2);
+            image = rw same-2 at (c.in_ok-write_first.ensures.image sound-2);
+            ready = rw same-2 at (c.in_ok-write_first.ensures.ready sound-2);
+          } in
+          flushed-pair (stored-buffers c.self.invariant before) c.self.invariant.aside_len (c.self.invariant.pair before) all;
+    }
 
 pub returns-clause-image : goal.returns-clause-image
 returns-clause-image g c =
     let size : ℕ = c.self.inside.block_size in
-    let P : Buffered → Type 0 = λ b. IsTrue b.is_sound → (image_of size (g.S.BlockStore.contents c.write_first.new.store) c.write_first.new.head c.write_back.new.buffer ≡ b.image) × (g.S.BlockStore.contents c.write_first.new.store ≡ b.image) in
+    let contents : List ℕ = g.S.BlockStore.contents c.self.inside.store in
+    let w : IsWritten c.self.inside.aside c.write_back.new.buffer =
+    record { bytes = c.write_back.ensures.bytes; number = c.write_back.ensures.number; holds = c.write_back.ensures.holds; unchanged = c.in_ok-write_back.ensures.unchanged } in
+    let v : IsWritten c.self.inside.hand c.write_back-2.new.buffer =
+    record { bytes = c.write_back-2.ensures.bytes; number = c.write_back-2.ensures.number; holds = c.write_back-2.ensures.holds; unchanged = c.in_ok-write_back-2.ensures.unchanged } in
+    let same-1 : g.S.BlockStore.size c.write_back.new.store ≡ size = c.write_back.ensures.size ∙ c.self.invariant.same_size in
+    let same-2 : g.S.BlockStore.size c.write_back-2.new.store ≡ size = c.write_back-2.ensures.size ∙ same-1 in
+    let P : Buffered → Type 0 = λ b. IsTrue b.is_sound → (image_of size (put_in size (g.S.BlockStore.contents c.write_first.new.store) c.write_back.new.buffer) c.write_first.new.head c.write_back-2.new.buffer ≡ b.image) × (g.S.BlockStore.contents c.write_first.new.store ≡ b.image) in
     subst P c.self.view_is
     (λ before.
-    let k = buffers-of c.self.invariant before in
-    let w : IsWritten c.self.inside.hand c.write_back.new.buffer =
-    record { bytes = c.write_back.ensures.bytes; number = c.write_back.ensures.number; holds = c.write_back.ensures.holds; unchanged = c.in_ok-write_back.ensures.unchanged } in
-    let sound : IsTrue (g.S.BlockStore.is_sound c.write_back.new.store) = rw c.in_ok-write_back.ensures.sound before in
-    let same : g.S.BlockStore.size c.write_back.new.store ≡ size = c.write_back.ensures.size ∙ c.self.invariant.same_size in
-    let contents : g.S.BlockStore.contents c.write_back.new.store ≡ put_in size (g.S.BlockStore.contents c.self.inside.store) c.self.inside.hand = rw (← c.self.invariant.same_size) (c.in_ok-write_back.ensures.contents before) in
-    let image = image-hand-written k w in
-    let all : image_of size (g.S.BlockStore.contents c.write_back.new.store) c.self.inside.head c.write_back.new.buffer ≡ image_of size (g.S.BlockStore.contents c.self.inside.store) c.self.inside.head c.self.inside.hand = rw contents image in
-    (rw same at (c.in_ok-write_first.ensures.image sound) ∙ all, rw same at (c.in_ok-write_first.ensures.contents sound) ∙ all))
+    let sound-1 : IsTrue (g.S.BlockStore.is_sound c.write_back.new.store) = rw c.in_ok-write_back.ensures.sound before in
+    let sound-2 : IsTrue (g.S.BlockStore.is_sound c.write_back-2.new.store) = rw c.in_ok-write_back-2.ensures.sound sound-1 in
+    let all : IsFlushed size contents (g.S.BlockStore.contents c.write_back.new.store) (g.S.BlockStore.contents c.write_back-2.new.store) (g.S.BlockStore.contents c.write_first.new.store) c.self.inside.head c.self.inside.hand c.self.inside.aside c.write_first.new.head c.write_back-2.new.buffer c.write_back.new.buffer =
+    record {
+      aside_written = w;
+      hand_written = v;
+      first = rw c.self.invariant.same_size at (c.in_ok-write_back.ensures.contents before);
+      second = rw same-1 at (c.in_ok-write_back-2.ensures.contents sound-1);
+      third = rw same-2 at (c.in_ok-write_first.ensures.contents sound-2);
+      image = rw same-2 at (c.in_ok-write_first.ensures.image sound-2);
+      ready = rw same-2 at (c.in_ok-write_first.ensures.ready sound-2);
+    } in
+    let k = stored-buffers c.self.invariant before in
+    let p : ArePair size contents c.self.inside.hand c.self.inside.aside = c.self.invariant.pair before in
+    (flushed-image k c.self.invariant.aside_len p all, flushed-stored k c.self.invariant.aside_len p all))

@@ -1,7 +1,7 @@
-use Rattle.std.proofs.Common.{◌≡◌, ℕ, List, IsTrue, subst, sym, ◌∙◌, arith}
+use Rattle.std.proofs.Common.{◌≡◌, ℕ, List, length, IsTrue, subst, sym, ◌∙◌, arith}
 use Rattle.hd_bytes.specs.Blocks.{grown, HasBlock}
-use Rattle.hd_volume.specs.Buffers.{Buffered, image_of}
-use Rattle.hd_volume.proofs.BufferLemmas.{buffers-of, image-length, grown-buffers, image-grown}
+use Rattle.hd_volume.specs.Buffers.{Buffered, put_in, image_of}
+use Rattle.hd_volume.proofs.BufferLemmas.{stored-buffers, buffers-of, aside-length, image-length, grown-buffers, grown-pair, put_in-grown, image-grown}
 use Rattle.hd_volume.proofs.blocks.Blocks.grow.Goals as goal
 
 pub invariant_of-self-2 : goal.invariant_of-self-2
@@ -14,18 +14,25 @@ invariant_of-self-2 g c =
       small = c.self.invariant.small;
       head_len = c.self.invariant.head_len;
       hand_len = c.self.invariant.hand_len;
+      aside_len = c.self.invariant.aside_len;
       head_number = c.self.invariant.head_number;
       ready = λ sound.
           let before : IsTrue (g.S.BlockStore.is_sound c.self.inside.store) = rw (← c.in_ok-grow.ensures.sound) sound in
-          let k = buffers-of c.self.invariant before in
+          let k = stored-buffers c.self.invariant before in
           let P : Buffered → Type 0 = λ b. IsTrue b.is_sound → HasBlock b.size b.image 0 in
           let there = subst P (sym c.self.view_is) c.requires.there before in
-          let first : HasBlock size contents 0 = let len = image-length k in omega arith in
+          let len : length (put_in size contents c.self.inside.aside) ≡ length contents = aside-length k c.self.invariant.aside_len (c.self.invariant.pair before) in
+          let first : HasBlock size contents 0 = let image = image-length (buffers-of c.self.invariant before) in omega arith in
           rw (c.in_ok-grow.ensures.value before, c.self.invariant.same_size) (grown-buffers k 1 first);
+      pair = λ sound.
+          let before : IsTrue (g.S.BlockStore.is_sound c.self.inside.store) = rw (← c.in_ok-grow.ensures.sound) sound in
+          rw (c.in_ok-grow.ensures.value before, c.self.invariant.same_size) (grown-pair (c.self.invariant.pair before) 1);
     }
 
 pub returns-clause-image : goal.returns-clause-image
 returns-clause-image g c =
-    let P : Buffered → Type 0 = λ b. IsTrue b.is_sound → image_of c.self.inside.block_size (g.S.BlockStore.contents c.grow.new.self) c.self.inside.head c.self.inside.hand ≡ grown b.size b.image 1 in
+    let P : Buffered → Type 0 = λ b. IsTrue b.is_sound → image_of c.self.inside.block_size (put_in c.self.inside.block_size (g.S.BlockStore.contents c.grow.new.self) c.self.inside.aside) c.self.inside.head c.self.inside.hand ≡ grown b.size b.image 1 in
     subst P c.self.view_is
-    (λ sound. let k = buffers-of c.self.invariant sound in rw (c.in_ok-grow.ensures.value sound, c.self.invariant.same_size) (image-grown k 1))
+    (λ sound.
+    let put = put_in-grown c.self.inside.aside c.self.invariant.aside_len (c.self.invariant.pair sound).beside 1 in
+    rw (c.in_ok-grow.ensures.value sound, c.self.invariant.same_size, put) (image-grown (buffers-of c.self.invariant sound) 1))
