@@ -2,7 +2,7 @@
 ghost use Rattle.std.specs.Prelude.{◌≡◌};
 
 use crate::calling_tests::play_all;
-use crate::listed_calls::{program, sample};
+use crate::listed_calls::{program, sample, spread};
 use crate::run_tests::steps_of;
 use hd_cache::Cached;
 use hd_check::{CheckFault, check};
@@ -17,7 +17,7 @@ use std::test::Fail;
 /// The blocks of the cache.
 const CACHED: usize = 2;
 
-/// What comes of the list over the sample, with a cache before a fuse that passes so many accesses.
+/// What comes of the list over the sample's rows, with a cache before a fuse that passes so many accesses.
 #[derive(Debug, Drop)]
 struct Behind {
     /// The place of the call that answered `Device`; 10 where none did.
@@ -46,7 +46,7 @@ fn is_judged(alloc: Global, dbd: &Dbd, image: Vec<u8>) -> Result<bool, AllocErro
 fn play_behind(alloc: Global, dbd: &Dbd, passes: u64) -> Result<Option<Behind>, AllocError>
     requires size { dbd.now.block_size ≡ 128 }
 {
-    let (Some(psb), Some(store)) = (program(alloc, dbd), sample(alloc)) else {
+    let (Some(psb), Some(store)) = (program(alloc, dbd), spread(alloc)) else {
         return Err(AllocError);
     };
     let mut io = IoArea::new(alloc, dbd)?;

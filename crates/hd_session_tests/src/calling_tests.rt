@@ -1,7 +1,7 @@
 ghost use Rattle.std.specs.Prelude.{◌≡◌, ◌<◌, ◌≤◌, length};
 ghost use Rattle.hd_dbd.specs.Hierarchy.{longest_path};
 
-use crate::listed_calls::{is_answer, play, program, sample};
+use crate::listed_calls::{is_answer, play, program, spread};
 use hd_dbd::{Dbd, Refused};
 use hd_sample::database;
 use hd_session::{IoArea, Session};
@@ -44,7 +44,7 @@ pub fn play_all<S: BlockStore>(
     Some(failed)
 }
 
-/// How the calls of the list go over the sample in a fuse that passes so many accesses, and whether the fuse met the one that fails; `None`
+/// How the calls of the list go over the sample's rows in a fuse that passes so many accesses, and whether the fuse met the one that fails; `None`
 /// where it meets it before the first call.
 fn fused(alloc: Global, dbd: &Dbd, io: &mut IoArea, passes: u64) -> Option<(Option<usize>, bool)>
     requires size { dbd.now.block_size ≡ 128 }
@@ -52,7 +52,7 @@ fn fused(alloc: Global, dbd: &Dbd, io: &mut IoArea, passes: u64) -> Option<(Opti
 {
     let psb = program(alloc, dbd)?;
     let _count = psb.pcbs().len();
-    let store = FuseStore::new(sample(alloc)?, passes);
+    let store = FuseStore::new(spread(alloc)?, passes);
     let volume = Volume::load(alloc, store, dbd).ok()?;
     match Session::open(alloc, volume, dbd, &psb) {
         Ok(mut session) => {
@@ -91,10 +91,8 @@ fn is_broken_after_each_access_that_fails(rt: HostRuntime) -> Result<(), Fail> {
         }
     }
     assert!(rt; passed);
-    // The second and third call stay in the block that the first brought into memory, and the fifth holds nothing.
-    let reach = [
-        true, false, false, true, false, true, true, true, true, true,
-    ];
+    // All but the fifth, which holds nothing, come to a block that is not in memory.
+    let reach = [true, true, true, true, false, true, true, true, true, true];
     assert_eq!(rt; told, reach);
     Ok(())
 }

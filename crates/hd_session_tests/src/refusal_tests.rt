@@ -1,6 +1,7 @@
 ghost use Rattle.std.specs.Prelude.{◌≡◌, IfSome, [], false};
 ghost use Rattle.hd_dbd.specs.ProgramRules.{type_names};
 
+use crate::listed_calls::spread;
 use crate::run_tests::{edited, steps_of};
 use hd_dbd::{Dbd, Name8, Pcb, Psb, Refused, Sens};
 use hd_deck::{RunFault, run};
@@ -10,7 +11,7 @@ use std::alloc::Global;
 use std::io::Write;
 use std::test::Fail;
 
-/// A program of one PCB that sees the courses; `None` where there is no memory for it.
+/// A program of one PCB that sees the courses and their classes; `None` where there is no memory for it.
 fn program(alloc: Global, dbd: &Dbd) -> Option<Psb>
     ensures { IfSome result (λ psb. psb.made_for ≡ type_names dbd.now.types) }
 {
@@ -18,6 +19,12 @@ fn program(alloc: Global, dbd: &Dbd) -> Option<Psb>
     sens.push(Sens {
         name: Name8::from_padded(*b"COURSE  ").unwrap(),
         parent: None,
+        procopt: None,
+    })
+    .ok()?;
+    sens.push(Sens {
+        name: Name8::from_padded(*b"CLASS   ").unwrap(),
+        parent: Some(Name8::from_padded(*b"COURSE  ").unwrap()),
         procopt: None,
     })
     .ok()?;
@@ -62,7 +69,7 @@ fn prints_the_call_in_which_an_access_fails(rt: HostRuntime) -> Result<(), Fail>
     let mut second = false;
     for passes in 0..100 {
         let mut out = Vec::new(alloc);
-        let store = FuseStore::new(edited(alloc, (19, 16)).expect(&rt, "memory"), passes);
+        let store = FuseStore::new(spread(alloc).expect(&rt, "memory"), passes);
         let ended = played(alloc, b"L   2 GN\n", store, &mut out).expect(&rt, "memory");
         if ended == Ok((2, 0)) {
             assert!(rt; first && second);
