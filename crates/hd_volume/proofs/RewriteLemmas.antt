@@ -1,13 +1,13 @@
 -- A segment of a volume that is replaced by another.
 use Rattle.std.proofs.Common.{◌≡◌, ◌≢◌, ◌⊎◌, inl, inr, ℕ, ◌+◌, ◌-◌, ◌*◌, ◌/◌, ◌%◌, ◌<◌, ◌≤◌, List, length, Option, Some, None, refl, sym, ap, ◌∙◌, arith, subst}
-use Rattle.hd_bytes.specs.Ranges.{bytes_at, with_bytes}
+use Rattle.hd_bytes.specs.Ranges.{with_bytes}
 use Rattle.hd_bytes.specs.Blocks.{block_of, HasBlock}
 use Rattle.hd_bytes.proofs.BlockLemmas.{length-block}
 use Rattle.hd_volume.specs.declared.space.Space.{Space}
 use Rattle.hd_volume.specs.Edits.{IsGiven}
 use Rattle.hd_volume.specs.Images.{ChangesBlock}
 use Rattle.hd_volume.specs.Headers.{Header, header_of}
-use Rattle.hd_volume.specs.Volumes.{VolumeState, block_at, kind_of, IsKind, HasExtents, IsFormatted}
+use Rattle.hd_volume.specs.Volumes.{VolumeState, block_at, kind_of, IsKind, IsFormatted}
 use Rattle.hd_volume.specs.Records.{find}
 use Rattle.hd_volume.specs.Rooms.{spare}
 use Rattle.hd_volume.specs.Spaces.{IsSpaceOf}
@@ -16,7 +16,7 @@ use Rattle.hd_volume.specs.Calls.{KeepsOthers, KeepsHoles, KeepsSize, HasSegment
 use Rattle.hd_volume.proofs.MapLemmas.{IsFound, find-some, find-there, kind-there}
 use Rattle.hd_volume.proofs.ExtentLemmas.{segment-some}
 use Rattle.hd_volume.proofs.ShrinkLemmas.{IsShrunkIn, shrink-edits, with-all}
-use Rattle.hd_volume.proofs.FrameLemmas.{AreSame, HasChanged, block-seen, keeps-header, keeps-kinds, keeps-spare, keeps-formatted, keeps-holes}
+use Rattle.hd_volume.proofs.FrameLemmas.{AreSame, HasChanged, block-seen, keeps-header, keeps-spare, keeps-formatted, keeps-holes}
 use Rattle.hd_volume.proofs.CallLemmas.{find-new, keeps-others, write-writes, write-space, IsOpened, opened-space, looked-at}
 use Rattle.hd_volume.proofs.JoinLemmas.{AreOne, one-block, one-kind, one-back, one-segments, one-spare, one-holes}
 use Rattle.hd_block.specs.Sizes.{size_at}

@@ -1,9 +1,9 @@
 -- A divided block of which a segment is made shorter.
-use Rattle.std.proofs.Common.{◌≡◌, ◌≢◌, ◌⊎◌, inl, inr, ℕ, ◌+◌, ◌-◌, ◌%◌, ◌<◌, ◌≤◌, List, [], ◌∷◌, length, slice_index, Some, refl, sym, ap, ◌∙◌, arith, ne_eqb}
+use Rattle.std.proofs.Common.{◌≡◌, ◌≢◌, inl, inr, ℕ, ◌+◌, ◌-◌, ◌%◌, ◌<◌, ◌≤◌, List, [], ◌∷◌, length, slice_index, Some, refl, sym, ap, ◌∙◌, arith, ne_eqb}
 use Rattle.std.proofs.lemmas.Bool.{eq-eqb}
 use Rattle.std.proofs.lemmas.Grind.{same_number_lists}
-use Rattle.hd_bytes.specs.Ranges.{bytes_at, with_bytes, ChangesOnly, AgreeOn}
-use Rattle.hd_bytes.proofs.BlockLemmas.{byte-at, agree-changed, agree-bytes_at, bytes-with}
+use Rattle.hd_bytes.specs.Ranges.{with_bytes, ChangesOnly, AgreeOn}
+use Rattle.hd_bytes.proofs.BlockLemmas.{agree-changed, agree-bytes_at, bytes-with}
 use Rattle.hd_bytes.proofs.NumberLemmas.{changes-with, length-with, number-below}
 use Rattle.hd_block.specs.Extents.{Extent, free, used, taken, Fill, IsDivided, AreWhole, UsedAt, TakenAt}
 use Rattle.hd_block.specs.Changes.{after_shrink, after_give, hole_before}

@@ -1,7 +1,6 @@
 use Rattle.std.proofs.Common.{IsTrue}
 use Rattle.hd_volume.specs.Volumes.{VolumeState}
 use Rattle.hd_volume.proofs.FrameLemmas.{AreSame}
-use Rattle.hd_volume.proofs.CallSteps.{sound-back}
 use Rattle.hd_volume.proofs.RewriteLemmas.{put-there, move-rewrites}
 use Rattle.hd_volume.proofs.volume.Volume.move_segment.Goals as goal
 

@@ -1,4 +1,4 @@
-use Rattle.std.proofs.Common.{◌≡◌, ℕ, ◌/◌, ◌%◌, ◌<◌, List, length, vec_len, IsTrue, Some, refl, subst, sym, ap, ◌∙◌, arith}
+use Rattle.std.proofs.Common.{◌≡◌, ℕ, ◌/◌, ◌%◌, ◌<◌, length, vec_len, IsTrue, Some, refl, subst, sym, ap, ◌∙◌, arith}
 use Rattle.std.specs.Vec.{vec_capacity}
 use Rattle.hd_bytes.specs.Blocks.{block_of, HasBlock}
 use Rattle.hd_volume.specs.Volumes.{VolumeState, block_at, IsFormatted}
