@@ -1,4 +1,4 @@
-use Rattle.std.proofs.Common.{◌≡◌, IsTrue, ◌∙◌, arith}
+use Rattle.std.proofs.Common.{◌∙◌, arith}
 use Rattle.hd_volume.proofs.BufferLemmas.{IsBrought, put-turned, pair-brought, put-brought}
 use Rattle.hd_volume.proofs.blocks.bring_other.Goals as goal
 
