@@ -99,10 +99,9 @@ impl<S: BlockStore> Volume<S> {
         Ok(&self.blocks.hand()[at..end])
     }
 
-    /// Writes bytes into the segment at an address, from an offset past its code on; it takes as many bytes as before.
+    /// Writes bytes into the segment at an address, from an offset on; it takes as many bytes as before.
     pub fn write_at(&mut self, address: u32, offset: usize, bytes: &[u8]) -> Result<(), Refused>
         requires formatted { IsTrue self.old.is_sound → IsFormatted self.old }
-        requires past_code { 0 < offset }
         requires keeps_size { IsTrue self.old.is_sound → KeepsSize self.old address offset bytes.now }
         requires there { IsTrue self.old.is_sound → HasSegment self.old address (offset + length bytes.now) }
         ensures call { IsCall self.old result self.new }
