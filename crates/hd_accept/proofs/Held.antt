@@ -28,12 +28,12 @@ all_but out g (x ∷ xs) = ap (λ b. (out x || g x) && b) (all_but out g xs) ∙
 pub all_replaced : (s : Setting) (ssas : List Ssa) (places : ℕ → ℕ) (rows : List Segment) (numbers : List ℕ)
     → all_replaceable s ssas (held_at places rows numbers) ≡ list_all (λ i. may s gives_replace (row_at rows i).code) (replaced_rows rows ssas numbers)
 all_replaced s ssas places rows numbers =
-    list_all-map (λ (h : HeldRow). is_excepted ssas h.code || may s gives_replace h.code) (λ i. record { address = places i; code = (row_at rows i).code }) numbers
+    list_all-map (λ (h : HeldRow). is_excepted ssas h.code || may s gives_replace h.code) (λ i. record { address = places i; code = (row_at rows i).code; length = length (row_at rows i).bytes }) numbers
     ∙ all_but (λ i. is_excepted ssas (row_at rows i).code) (λ i. may s gives_replace (row_at rows i).code) numbers
 
 -- the first of two ways
 first_of : (b : Bool) (places : ℕ → ℕ) (rows : List Segment) (i : ℕ) (xs : Option HeldRow) (ys : Option ℕ) → option_map (λ h. h.code) xs ≡ option_map (λ k. (row_at rows k).code) ys
-    → option_map (λ h. h.code) (cond b (Some (record { address = places i; code = (row_at rows i).code })) xs) ≡ option_map (λ k. (row_at rows k).code) (cond b (Some i) ys)
+    → option_map (λ h. h.code) (cond b (Some (record { address = places i; code = (row_at rows i).code; length = length (row_at rows i).bytes })) xs) ≡ option_map (λ k. (row_at rows k).code) (cond b (Some i) ys)
 first_of true places rows i xs ys e = refl
 first_of false places rows i xs ys e = e
 
@@ -57,7 +57,7 @@ code_taken rows numbers held (a ∷ ssas) of =
 
 -- the held row of a number
 abbrev the_row : (ℕ → ℕ) → List Segment → ℕ → HeldRow
-the_row places rows i = record { address = places i; code = (row_at rows i).code }
+the_row places rows i = record { address = places i; code = (row_at rows i).code; length = length (row_at rows i).bytes }
 
 -- as many rows are held as there are numbers
 pub as_many_held : (rows : List Segment) (numbers : List ℕ) (held : List HeldRow) → AreHeldOf rows numbers held → length numbers ≡ length held

@@ -1,5 +1,5 @@
 -- The tests of a call over a volume.
-use Rattle.std.specs.Prelude.{◌≡◌, ℕ, List, Bool, ◌||◌, map, Option, Some, None, Result, Ok, Err, option_map}
+use Rattle.std.specs.Prelude.{◌≡◌, ℕ, List, Bool, ◌||◌, map, Option, Some, None, Result, Ok, Err, option_map, length}
 use Rattle.std.specs.List.{list_all}
 use Rattle.hd_dbd.specs.Types.{View}
 use Rattle.hd_dbd.specs.Hierarchy.{Database}
@@ -25,7 +25,7 @@ use Rattle.hd_update.specs.declared.held.HeldRow.{HeldRow}
 
 -- rows of these numbers, as they are held at some addresses
 abbrev pub held_at : (ℕ → ℕ) → List Segment → List ℕ → List HeldRow
-held_at places rows numbers = map (λ i. record { address = places i; code = (row_at rows i).code }) numbers
+held_at places rows numbers = map (λ i. record { address = places i; code = (row_at rows i).code; length = length (row_at rows i).bytes }) numbers
 
 -- these are the rows of the numbers
 abbrev pub AreHeldOf : List Segment → List ℕ → List HeldRow → Type 0

@@ -1,12 +1,13 @@
 -- What the effects of ISRT, REPL and DLET keep to, and those of a whole call.
 use Rattle.std.proofs.Common.{◌≡◌, ℕ, zero, suc, ◌+◌, ◌-◌, ◌<◌, ◌≤◌, List, [], ◌∷◌, length, map, true, false, Bool, cond, arith, ap, sym, ◌∙◌, Option, Some, None, refl, inl}
-use Rattle.std.specs.Prelude.{◌==◌, ◌&&◌, ◌||◌, not, nat_lt, nat_le, find, option_map, option_and_then, drop, take}
+use Rattle.std.specs.Prelude.{Ok, ◌==◌, ◌&&◌, ◌||◌, not, nat_le, find, take}
 use Rattle.std.specs.Option.{option_map_or}
 use Rattle.std.specs.List.{list_any, list_all}
 use Rattle.std.proofs.lemmas.Bool.{eqb-true, eq-eqb}
+use Rattle.std.proofs.lemmas.List.{length-map}
 use Rattle.hd_dbd.specs.Types.{SegmentType}
 use Rattle.hd_dbd.specs.declared.answer.Status.{Status}
-use Rattle.hd_dbd.specs.declared.answer.Status.TheVariants.{Blank, GE, DA, DJ, II}
+use Rattle.hd_dbd.specs.declared.answer.Status.TheVariants.{Blank, GE, V1, DA, DJ, II}
 use Rattle.hd_dbd.specs.declared.answer.LoadFault.{LoadFault}
 use Rattle.hd_dbd.specs.declared.answer.LoadFault.TheVariants.{LB, LC, LD, LE}
 use Rattle.hd_dbd.specs.Segment.{Segment}
@@ -22,8 +23,9 @@ use Rattle.hd_calls.specs.Access.{loads}
 use Rattle.hd_calls.specs.Ssas.{Ssa, first_inserted}
 use Rattle.hd_calls.specs.Places.{insert_parent, is_key_taken}
 use Rattle.hd_calls.specs.Moves.{Rewrite, rewritten, is_rewritten}
-use Rattle.hd_calls.specs.Steps.{answered, wrong_area, bare_answer, insert_at, insert_below, insert_rows, load_step, insert_or_load, insert_step, divide, length_of, inserted_codes, new_rows, rewrites_of, rewrites_asked, is_excepted, keeps_key, replace_rows, replace_step, delete_row, delete_step, deleted_row, lowest}
+use Rattle.hd_calls.specs.Steps.{answered, bare_answer, insert_at, insert_below, insert_rows, load_step, insert_or_load, insert_step, new_row, divide, inserted_codes, new_rows, rewrites_of, rewrites_asked, is_excepted, keeps_key, replace_rows, held_part, replace_step, delete_row, delete_step, deleted_row, lowest}
 use Rattle.hd_calls.specs.NoLostUpdate.{is_blank}
+use Rattle.hd_calls.proofs.Areas.{are_parts, as_many_parts, by_division}
 use Rattle.hd_calls.proofs.Fair.{IsFair, refused_fair}
 
 -- ---- ISRT
@@ -74,7 +76,9 @@ module _ (s : Setting) (rows : List Segment) (p : Position) (held : List ℕ) (e
       by_fault (Some fault) is = refused_fair (Some Insert) s.types rows held excepted p (status_of_load fault) (load_named fault)
 
   pub insert_step_fair : (ssas : List Ssa) (area : List ℕ) → IsFair (Some Insert) s.types rows held excepted (insert_step s rows p ssas area)
-  insert_step_fair ssas area = by_parts (divide (map (λ c. length_of s.types c) (inserted_codes ssas)) area)
+  insert_step_fair ssas area =
+      by_division (IsFair (Some Insert) s.types rows held excepted) p (divide s.types (map (λ c. new_row c) (inserted_codes ssas)) area) (λ parts. insert_or_load s rows p ssas (new_rows (inserted_codes ssas) parts))
+      (refused_fair (Some Insert) s.types rows held excepted p V1 refl) tt (λ parts is. by_rows (new_rows (inserted_codes ssas) parts))
     where
       by_rows : (new : List Segment) → IsFair (Some Insert) s.types rows held excepted (insert_or_load s rows p ssas new)
       by_rows [] = tt
@@ -84,28 +88,7 @@ module _ (s : Setting) (rows : List Segment) (p : Position) (held : List ℕ) (e
           by_load true = load_step_fair r
           by_load false = insert_rows_fair s rows p held excepted ssas (r ∷ rs) r
 
-      by_parts : (o : Option (List (List ℕ))) → IsFair (Some Insert) s.types rows held excepted (option_map_or (λ parts. insert_or_load s rows p ssas (new_rows (inserted_codes ssas) parts)) o wrong_area)
-      by_parts None = tt
-      by_parts (Some parts) = by_rows (new_rows (inserted_codes ssas) parts)
-
 -- ---- REPL
-
-pub divided_alike : (ns : List ℕ) (area : List ℕ) (parts : List (List ℕ)) → divide ns area ≡ Some parts → length parts ≡ length ns
-divided_alike [] area parts is = by_rest (length area == 0) is
-  where
-    by_rest : (b : Bool) → cond b (Some []) None ≡ Some parts → length parts ≡ 0
-    by_rest true is = (let eq : [] ≡ parts = cc in sym (ap length eq))
-    by_rest false is = cc
-divided_alike (n ∷ ns) area parts is = by_fit (nat_le n (length area)) (divide ns (drop n area)) (λ rest r. divided_alike ns (drop n area) rest r) refl is
-  where
-    by_fit : (b : Bool) (o : Option (List (List ℕ))) → ((rest : List (List ℕ)) → divide ns (drop n area) ≡ Some rest → length rest ≡ length ns) → divide ns (drop n area) ≡ o
-        → cond b (option_map (λ parts. take n area ∷ parts) o) None ≡ Some parts → length parts ≡ suc (length ns)
-    by_fit true None more o_is is = cc
-    by_fit true (Some rest) more o_is is =
-        let eq : take n area ∷ rest ≡ parts = cc in
-        let len : length rest ≡ length ns = more rest o_is in
-        sym (ap length eq) ∙ ap suc len
-    by_fit false o more o_is is = cc
 
 -- a row is rewritten where it is held and not excepted
 asked_rows : (rows : List Segment) (ssas : List Ssa) (held : List ℕ) (parts : List (List ℕ)) (i : ℕ) → length parts ≡ length held
@@ -136,14 +119,19 @@ asked_rows rows ssas (h ∷ hs) (bytes ∷ parts) i same =
     by_kept false kept rest false here =
         ap (λ b. b || is_rewritten (rewrites_asked rows ssas (rewrites_of hs parts)) i) here ∙ rest
 
-length-map' : {X Y : Type 0} (f : X → Y) (xs : List X) → length (map f xs) ≡ length xs
-length-map' f [] = refl
-length-map' f (x ∷ xs) = ap suc (length-map' f xs)
-
 pub replace_step_fair : (s : Setting) (rows : List Segment) (p : Position) (ssas : List Ssa) (area : List ℕ) (excepted : ℕ → Bool) → not (length p.held == 0) ≡ true
     → ((i : ℕ) → excepted i ≡ is_excepted ssas (row_at rows i).code) → IsFair (Some Replace) s.types rows p.held excepted (replace_step s rows p ssas area)
-replace_step_fair s rows p ssas area excepted some kept = by_parts (divide (map (λ i. length_of s.types (row_at rows i).code) p.held) area) refl
+replace_step_fair s rows p ssas area excepted some kept =
+    by_division (IsFair (Some Replace) s.types rows p.held excepted) p (divide s.types (map (λ i. held_part rows ssas i) p.held) area) (λ parts. replace_rows s rows p (rewrites_asked rows ssas (rewrites_of p.held parts)))
+    (refused_fair (Some Replace) s.types rows p.held excepted p V1 refl) tt
+    (λ parts is. by_keys (rewrites_asked rows ssas (rewrites_of p.held parts))
+    (λ i. asked_rows rows ssas p.held parts i (as_many parts is) ∙ ap (λ b. list_any (λ h. h == i) p.held && not b) (sym (kept i))))
   where
+    as_many : (parts : List (List ℕ)) → divide s.types (map (λ i. held_part rows ssas i) p.held) area ≡ Ok parts → length parts ≡ length p.held
+    as_many parts is =
+        as_many_parts s.types (map (λ i. held_part rows ssas i) p.held) parts (are_parts s.types (map (λ i. held_part rows ssas i) p.held) area parts is)
+        ∙ length-map p.held (λ i. held_part rows ssas i)
+
     some_held : (xs : List ℕ) → not (length xs == 0) ≡ true → 0 < length xs
     some_held [] is = cc
     some_held (x ∷ xs) is = omega arith
@@ -155,14 +143,6 @@ replace_step_fair s rows p ssas area excepted some kept = by_parts (divide (map 
         by_key : (b : Bool) → IsFair (Some Replace) s.types rows p.held excepted (cond b (answered (row_reply s rows (lowest p.held) Blank []) (rewritten ws) (unheld p)) (bare_answer p DA))
         by_key true = record { holds = inl refl; forward = tt; touches = λ u b. (some_held p.held some, just) }
         by_key false = refused_fair (Some Replace) s.types rows p.held excepted p DA refl
-
-    by_parts : (o : Option (List (List ℕ))) → divide (map (λ i. length_of s.types (row_at rows i).code) p.held) area ≡ o
-        → IsFair (Some Replace) s.types rows p.held excepted (option_map_or (λ parts. replace_rows s rows p (rewrites_asked rows ssas (rewrites_of p.held parts))) o wrong_area)
-    by_parts None is = tt
-    by_parts (Some parts) is =
-        by_keys (rewrites_asked rows ssas (rewrites_of p.held parts))
-        (λ i. asked_rows rows ssas p.held parts i (divided_alike (map (λ i. length_of s.types (row_at rows i).code) p.held) area parts is ∙ length-map' (λ i. length_of s.types (row_at rows i).code) p.held)
-        ∙ ap (λ b. list_any (λ h. h == i) p.held && not b) (sym (kept i)))
 
 -- ---- DLET
 

@@ -1,6 +1,8 @@
 pub mod Playing
 pub mod WorkedRows
 pub mod WorkedEdges
+pub mod WorkedVarying
+pub mod Areas
 pub mod Fair
 pub mod FairUpdates
 pub mod FairCalls

@@ -84,6 +84,18 @@ played_with types calls = play types sample_pcbs (record { rows = sample_rows; p
 abbrev pub with_rule : List ℕ → Rule → List SegmentType
 with_rule name rule = map (λ t. cond (bytes_eq t.name name) (record t { rule = rule }) t) sample_types
 
+-- the sample's types, whose books have from 4 to 9 bytes
+abbrev pub varying_types : List SegmentType
+varying_types = map (λ t. cond (bytes_eq t.name (codes "BOOK    ")) (record t { length = 9; least = Some 4 }) t) sample_types
+
+-- calls over some rows of these types
+abbrev pub played_varying : List Segment → List Asked → Ended
+played_varying rows calls = play varying_types sample_pcbs (record { rows = rows; positions = three }) calls
+
+-- a book that says how many bytes it has, the two that say so counted
+abbrev pub book : ℕ → List ℕ → List ℕ
+book said text = 0 ∷ said ∷ text
+
 -- calls by a PCB that loads, over no rows
 abbrev pub played_load : List Asked → Ended
 played_load calls = play sample_types (record { procopt = codes "L"; sens = all_seen } ∷ []) (record { rows = []; positions = at_start ∷ [] }) calls

@@ -1,10 +1,10 @@
 -- What resolved segment search arguments keep to: each type stands, and below the one before it.
 use Rattle.std.proofs.Common.{◌≡◌, ℕ, zero, suc, ◌+◌, ◌-◌, ◌<◌, List, [], ◌∷◌, length, map, true, false, Bool, cond, arith, ap, sym, ◌∙◌, subst, Option, Some, None, refl, inl, inr}
-use Rattle.std.specs.Prelude.{Result, Ok, bytes_eq, slice_get, ◌==◌, ◌||◌, nat_le, option_map, option_and_then, IfSome, replicate, position}
+use Rattle.std.specs.Prelude.{Result, Ok, bytes_eq, slice_get, ◌==◌, ◌||◌, nat_le, option_map, option_and_then, IfSome, position}
 use Rattle.std.specs.Option.{option_map_or, ok_or}
-use Rattle.std.proofs.lemmas.Bool.{eqb-true, eq-eqb, ne_eqb, or_cases, cond-false}
+use Rattle.std.proofs.lemmas.Bool.{eqb-true, ne_eqb, or_cases, cond-false}
 use Rattle.std.proofs.lemmas.List.Quantifiers.{position-Some}
-use Rattle.std.proofs.lemmas.List.{length-replicate, length-map}
+use Rattle.std.proofs.lemmas.List.{length-map}
 use Rattle.hd_dbd.specs.declared.program.TypeName.{TypeName}
 use Rattle.hd_dbd.specs.Types.{SegmentType}
 use Rattle.hd_dbd.specs.declared.answer.Status.{Status}
@@ -23,10 +23,7 @@ use Rattle.hd_calls.proofs.FairCalls.{and_then_ok, or_ok, ssa_heads}
 
 -- a type's level is one more than its parent's
 pub type_level : (types : List SegmentType) (leveled : Leveled types) (c : ℕ) (t : SegmentType) → type_of types c ≡ Some t → level_of types c ≡ depth_below types (parent_of types c) + 1
-type_level types leveled c t is =
-    let zeros : List ℕ = replicate t.length 0 in
-    leveled.law (record { code = c; bytes = zeros })
-    (ap (λ (o : Option SegmentType). option_map_or (λ u. length zeros == u.length) o false) is ∙ eq-eqb (length zeros) t.length (length-replicate t.length 0))
+type_level types leveled c t is = leveled.own c t is
 
 parent_level : (types : List SegmentType) (leveled : Leveled types) (c p : ℕ) → parent_of types c ≡ Some p → level_of types p < level_of types c
 parent_level types leveled c p is = by_type (type_of types c) refl is

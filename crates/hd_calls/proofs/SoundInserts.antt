@@ -1,10 +1,10 @@
 -- What an ISRT leaves: rows in hierarchic sequence, and its position in range.
 use Rattle.std.proofs.Common.{◌≡◌, ℕ, zero, suc, ◌+◌, ◌-◌, ◌<◌, ◌≤◌, List, [], ◌∷◌, ◌++◌, length, map, take, drop, true, false, Bool, cond, arith, ap, sym, ◌∙◌, subst, Option, Some, None, refl, inl, inr, ◌⊎◌}
-use Rattle.std.specs.Prelude.{◌==◌, ◌&&◌, nat_le, nat_lt, option_map, IfSome, unwrap_or}
+use Rattle.std.specs.Prelude.{◌==◌, ◌&&◌, nat_lt, option_map, IfSome, unwrap_or}
 use Rattle.std.specs.Option.{option_map_or, option_or}
 use Rattle.std.specs.List.{list_all, AllByRecursion}
-use Rattle.std.proofs.lemmas.Bool.{and_parts, and_from, or_cases, or_left, cases_eq, cases_lt, cond-true, cond-false, eqb-true, eq-eqb, ne_eqb, leb-true, lt-ltb}
-use Rattle.std.proofs.lemmas.List.{length-take, take_all, drop_all, get_or_append_left, append-nil}
+use Rattle.std.proofs.lemmas.Bool.{and_parts, and_from, or_cases, or_left, cases_eq, cases_lt, cond-true, cond-false, eqb-true, eq-eqb, ne_eqb, lt-ltb}
+use Rattle.std.proofs.lemmas.List.{take_all, drop_all, get_or_append_left, append-nil}
 use Rattle.hd_dbd.specs.declared.hierarchy.Rule.{Rule}
 use Rattle.hd_dbd.specs.Types.{SegmentType}
 use Rattle.hd_dbd.specs.Segment.{Segment}
@@ -17,7 +17,7 @@ use Rattle.hd_dbd.specs.Laws.{IsInSequence}
 use Rattle.hd_dbd.specs.Loads.{last_path, load_fault, status_of_load}
 use Rattle.hd_dbd.specs.Views.{Setting}
 use Rattle.hd_dbd.specs.declared.answer.LoadFault.{LoadFault}
-use Rattle.hd_dbd.specs.declared.answer.Status.TheVariants.{GE, II}
+use Rattle.hd_dbd.specs.declared.answer.Status.TheVariants.{GE, II, V1}
 use Rattle.hd_dbd.proofs.LevelLaw.{Leveled, depth_below, typed}
 use Rattle.hd_dbd.proofs.InSequence.{in_sequence, sequence_valid}
 use Rattle.hd_dbd.proofs.Loading.{loaded_valid}
@@ -29,8 +29,9 @@ use Rattle.hd_calls.specs.Ssas.{Head, Ssa, first_inserted_of, first_inserted_hea
 use Rattle.hd_calls.specs.Satisfies.{on_path_at, is_child, is_named, meets_on_path}
 use Rattle.hd_calls.specs.Places.{is_plain, first_named, insert_parent, is_key_taken, comes_after, end_below, insertion_point}
 use Rattle.hd_calls.specs.Moves.{inserted, put_in, position_after}
-use Rattle.hd_calls.specs.Steps.{wrong_area, bare_answer, divide, length_of, new_rows, parent_of_new, insert_at, rule_asked, insert_below, insert_rows, load_step, insert_or_load, inserted_codes, insert_step}
+use Rattle.hd_calls.specs.Steps.{bare_answer, new_row, divide, new_rows, parent_of_new, insert_at, rule_asked, insert_below, insert_rows, load_step, insert_or_load, inserted_codes, insert_step}
 use Rattle.hd_calls.specs.Laws.{IsOf, begin_below, IsInRange}
+use Rattle.hd_calls.proofs.Areas.{AreParts, are_parts, by_division}
 use Rattle.hd_calls.proofs.Searches.{least_some, least_no}
 use Rattle.hd_calls.proofs.Moving.{length-put_in}
 use Rattle.hd_calls.proofs.Spans.{IsEnd, end_is}
@@ -106,29 +107,11 @@ abbrev pub ChainRows : List SegmentType → Option ℕ → List Segment → Type
 ChainRows types above [] = Unit {0}
 ChainRows types above (r ∷ rs) = IfSome above (λ p. parent_of types r.code ≡ Some p) × (row_fits types r ≡ true) × ChainRows types (Some r.code) rs
 
-pub chain_rows : (types : List SegmentType) (above : Option ℕ) (cs : List ℕ) (area : List ℕ) (parts : List (List ℕ)) → ChainCodes types above cs → divide (map (λ c. length_of types c) cs) area ≡ Some parts
+pub chain_rows : (types : List SegmentType) (above : Option ℕ) (cs : List ℕ) (parts : List (List ℕ)) → ChainCodes types above cs → AreParts types (map (λ c. new_row c) cs) parts
     → ChainRows types above (new_rows cs parts)
-chain_rows types above [] area parts chain is = tt
-chain_rows types above (c ∷ cs) area parts chain is =
-    by_room (nat_le (length_of types c) (length area)) (divide (map (λ c. length_of types c) cs) (drop (length_of types c) area)) refl
-    (λ rest r. chain_rows types (Some c) cs (drop (length_of types c) area) rest chain.2 r) refl is
-  where
-    fits : (bytes : List ℕ) → length bytes ≡ length_of types c → row_fits types (record { code = c; bytes = bytes }) ≡ true
-    fits bytes same =
-        ap (λ (o : Option SegmentType). option_map_or (λ t. length bytes == t.length) o false) chain.1.1
-        ∙ eq-eqb (length bytes) chain.1.0.length (same ∙ ap (λ (o : Option SegmentType). option_map_or (λ t. t.length) o 0) chain.1.1)
-
-    by_room : (b : Bool) (o : Option (List (List ℕ))) → divide (map (λ c. length_of types c) cs) (drop (length_of types c) area) ≡ o
-        → ((rest : List (List ℕ)) → divide (map (λ c. length_of types c) cs) (drop (length_of types c) area) ≡ Some rest → ChainRows types (Some c) (new_rows cs rest))
-        → nat_le (length_of types c) (length area) ≡ b
-        → cond b (option_map (λ parts. take (length_of types c) area ∷ parts) o) None ≡ Some parts → ChainRows types above (new_rows (c ∷ cs) parts)
-    by_room false o o_is more room is = cc
-    by_room true None o_is more room is = cc
-    by_room true (Some rest) o_is more room is =
-        let shape : take (length_of types c) area ∷ rest ≡ parts = cc in
-        let enough : length_of types c ≤ length area = leb-true (length_of types c) (length area) room in
-        subst (λ (ps : List (List ℕ)). ChainRows types above (new_rows (c ∷ cs) ps)) shape
-        (chain.0, fits (take (length_of types c) area) (omega (arith, length-take (length_of types c) area)), more rest o_is)
+chain_rows types above [] parts chain are = tt
+chain_rows types above (c ∷ cs) [] chain are = absurd are
+chain_rows types above (c ∷ cs) (bytes ∷ parts) chain are = (chain.0, are.0, chain_rows types (Some c) cs parts chain.2 are.1)
 
 pub chain_fit : (types : List SegmentType) (above : Option ℕ) (rs : List Segment) (i : ℕ) → ChainRows types above rs → i < length rs → row_fits types (row_at rs i) ≡ true
 chain_fit types above [] i chain within = absurd (omega arith)
@@ -380,7 +363,11 @@ module _ (s : Setting) (leveled : Leveled s.types) (rows : List Segment) (ordere
           insert_at_sound s rows p (r ∷ []) (length rows) (omega arith) (omega arith) (put, after) fits
 
   pub insert_sound : (ssas : List Ssa) (area : List ℕ) → IsResolvedCall s Insert ssas → IsSoundEffect s.types rows (insert_step s rows p ssas area)
-  insert_sound ssas area call = by_parts (divide (map (λ c. length_of s.types c) (inserted_codes ssas)) area) refl
+  insert_sound ssas area call =
+      by_division (IsSoundEffect s.types rows) p (divide s.types (map (λ c. new_row c) (inserted_codes ssas)) area) (λ parts. insert_or_load s rows p ssas (new_rows (inserted_codes ssas) parts))
+      (bare_sound s.types rows p V1 fits) tt
+      (λ parts is. by_rows (new_rows (inserted_codes ssas) parts)
+      (chain_rows s.types (above_code (first_inserted ssas) ssas) (inserted_codes ssas) parts codes (are_parts s.types (map (λ c. new_row c) (inserted_codes ssas)) area parts is)))
     where
       same_place : first_inserted_head call.heads ≡ first_inserted ssas
       same_place = ap (λ (cs : List Commands). first_inserted_of cs) (same_commands s.types None call.heads ssas call.resolved)
@@ -396,8 +383,3 @@ module _ (s : Setting) (leveled : Leveled s.types) (rows : List Segment) (ordere
           by_load : (b : Bool) → IsSoundEffect s.types rows (cond b (load_step s rows p r) (insert_rows s rows p ssas (r ∷ rs) r))
           by_load true = load_sound r chain.1
           by_load false = rows_sound ssas r rs chain
-
-      by_parts : (o : Option (List (List ℕ))) → divide (map (λ c. length_of s.types c) (inserted_codes ssas)) area ≡ o
-          → IsSoundEffect s.types rows (option_map_or (λ parts. insert_or_load s rows p ssas (new_rows (inserted_codes ssas) parts)) o wrong_area)
-      by_parts None is = tt
-      by_parts (Some parts) is = by_rows (new_rows (inserted_codes ssas) parts) (chain_rows s.types (above_code (first_inserted ssas) ssas) (inserted_codes ssas) area parts codes is)

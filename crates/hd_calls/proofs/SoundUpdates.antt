@@ -1,14 +1,13 @@
 -- What the updates leave: rows in hierarchic sequence, and positions in range.
-use Rattle.std.proofs.Common.{◌≡◌, ℕ, ◌-◌, ◌<◌, ◌≤◌, List, [], ◌∷◌, length, map, take, drop, true, false, Bool, cond, arith, ap, sym, ◌∙◌, subst, Option, Some, None, refl, inl, inr}
-use Rattle.std.specs.Prelude.{◌==◌, ◌||◌, not, nat_le, filter, option_map, slice_set}
+use Rattle.std.proofs.Common.{◌≡◌, ℕ, ◌-◌, ◌<◌, List, [], ◌∷◌, length, map, true, false, Bool, cond, arith, ap, sym, ◌∙◌, subst, Option, Some, None, refl, inl, inr}
+use Rattle.std.specs.Prelude.{◌==◌, ◌||◌, not, slice_set}
 use Rattle.std.specs.Option.{option_map_or}
 use Rattle.std.specs.List.{list_any, list_all, AllByRecursion}
-use Rattle.std.proofs.lemmas.Bool.{and_parts, cases_Bool, cases_eq, eqb-true, eq-eqb, leb-true}
-use Rattle.std.proofs.lemmas.List.{get_or-set_other, get_or-set_same, length-set, length-take}
+use Rattle.std.proofs.lemmas.Bool.{and_parts, cases_Bool, cases_eq, eqb-true}
+use Rattle.std.proofs.lemmas.List.{get_or-set_other, get_or-set_same, length-set}
 use Rattle.std.proofs.lemmas.Slice.Eq.{bytes_eq-Decides}
 use Rattle.hd_dbd.specs.Types.{SegmentType}
 use Rattle.hd_dbd.specs.Segment.{Segment}
-use Rattle.hd_dbd.specs.Hierarchy.{type_of}
 use Rattle.hd_dbd.specs.Rows.{key_of, row_fits}
 use Rattle.hd_dbd.specs.Paths.{no_row, row_at, end_of}
 use Rattle.hd_dbd.specs.Positions.{Position}
@@ -16,12 +15,14 @@ use Rattle.hd_dbd.specs.Laws.{IsInSequence}
 use Rattle.hd_dbd.specs.Views.{Setting}
 use Rattle.hd_dbd.specs.Calls.{row_reply}
 use Rattle.hd_dbd.specs.declared.answer.Status.{Status}
-use Rattle.hd_dbd.specs.declared.answer.Status.TheVariants.{Blank, DA, DJ}
+use Rattle.hd_dbd.specs.declared.answer.Status.TheVariants.{Blank, V1, DA, DJ}
 use Rattle.hd_calls.specs.Ssas.{Ssa}
 use Rattle.hd_calls.specs.Gets.{unheld}
 use Rattle.hd_calls.specs.Moves.{Rewrite, Change, unchanged, inserted, deleted, rewritten, put_in, taken_out, rewrite_rows, rows_after, is_rewritten, position_after}
-use Rattle.hd_calls.specs.Steps.{Effect, answered, wrong_area, bare_answer, divide, length_of, rewrites_of, rewrites_asked, is_excepted, keeps_key, lowest, replace_rows, replace_step, delete_row, delete_step, deleted_row}
+use Rattle.hd_calls.specs.Steps.{Effect, answered, wrong_area, bare_answer, new_row, old_bytes, divide, rewrites_of, rewrites_asked, is_excepted, keeps_key, lowest, replace_rows, held_part, replace_step, delete_row, delete_step, deleted_row}
+use Rattle.hd_calls.specs.Runs.{row_with}
 use Rattle.hd_calls.specs.Laws.{LieOnOnePath, IsInRange}
+use Rattle.hd_calls.proofs.Areas.{IsPart, AreParts, are_parts, by_division}
 use Rattle.hd_calls.proofs.FairUpdates.{taken_held}
 use Rattle.hd_calls.proofs.Splicing.{IsSpliced, rest_in_sequence}
 use Rattle.hd_calls.proofs.InRange.{inserted_in_range, gone_spliced, deleted_in_range, alike_in_range}
@@ -91,7 +92,7 @@ delete_sound s rows p ssas fits = by_row (deleted_row rows ssas p.held) refl
 
 -- ---- REPL
 
--- New bytes of a row that keep its length and its key.
+-- New bytes of a row that fit its type and keep its key.
 pub record FitsRow (types : List SegmentType) (rows : List Segment) (w : Rewrite) : Type 0 where
   pub there : w.number < length rows
   pub fit : row_fits types (record { code = (row_at rows w.number).code; bytes = w.bytes }) ≡ true
@@ -102,9 +103,6 @@ alike_self types rows fit = record { same = refl; codes = λ i. refl; keys = λ 
 
 alike_both : (types : List SegmentType) (a b c : List Segment) → AreAlike types a b → AreAlike types b c → AreAlike types a c
 alike_both types a b c ab bc = record { same = bc.same ∙ ab.same; codes = λ i. bc.codes i ∙ ab.codes i; keys = λ i. bc.keys i ∙ ab.keys i; fit = bc.fit }
-
-abbrev new_row : List Segment → Rewrite → Segment
-new_row rows w = record { code = (row_at rows w.number).code; bytes = w.bytes }
 
 abbrev with_row : List Segment → Rewrite → List Segment
 with_row rows w = slice_set rows w.number (record { code = (row_at rows w.number).code; bytes = w.bytes })
@@ -126,11 +124,11 @@ alike_one types rows w fit fits = record {
   ];
 }
   where
-    at : row_at (with_row rows w) w.number ≡ new_row rows w
-    at = get_or-set_same rows w.number (new_row rows w) no_row fits.there
+    at : row_at (with_row rows w) w.number ≡ row_with rows w
+    at = get_or-set_same rows w.number (row_with rows w) no_row fits.there
 
     apart : (i : ℕ) → (i ≡ w.number → ⊥) → row_at (with_row rows w) i ≡ row_at rows i
-    apart i other = get_or-set_other rows w.number i (new_row rows w) no_row other
+    apart i other = get_or-set_other rows w.number i (row_with rows w) no_row other
 
 -- what fits a row fits it among alike rows
 still_fits : (types : List SegmentType) (old new : List Segment) (w : Rewrite) → AreAlike types old new → FitsRow types old w → FitsRow types new w
@@ -154,44 +152,22 @@ rewritten_alike types (w ∷ ws) rows fit all =
     alike_both types rows (with_row rows w) (rewrite_rows ws (with_row rows w)) one
     (rewritten_alike types ws (with_row rows w) one.fit (all_still types rows (with_row rows w) one ws all.1))
 
--- The new bytes are for a row that is there, and of its length.
+-- The new bytes are for a row that is there, and fit its type.
 abbrev OfRow : List SegmentType → List Segment → Rewrite → Type 0
 OfRow types rows w = (w.number < length rows) × (row_fits types (record { code = (row_at rows w.number).code; bytes = w.bytes }) ≡ true)
 
-fits_part : (types : List SegmentType) (r : Segment) (bytes : List ℕ) → row_fits types r ≡ true → length bytes ≡ length_of types r.code → row_fits types (record { code = r.code; bytes = bytes }) ≡ true
-fits_part types r bytes fit same = by_type (type_of types r.code) fit same
+-- what is asked for held rows, but those that N excepts, fits their types
+asked_fit : (types : List SegmentType) (rows : List Segment) (ssas : List Ssa) (held : List ℕ) (parts : List (List ℕ)) → LieOnOnePath types rows held
+    → AreParts types (map (λ i. held_part rows ssas i) held) parts → AllByRecursion (λ w. OfRow types rows w) (rewrites_asked rows ssas (rewrites_of held parts))
+asked_fit types rows ssas [] parts lies are = tt
+asked_fit types rows ssas (i ∷ is) [] lies are = absurd are
+asked_fit types rows ssas (i ∷ is) (bytes ∷ parts) lies are = by_excepted (is_excepted ssas (row_at rows i).code) are.0 (asked_fit types rows ssas is parts lies.2 are.1)
   where
-    by_type : (o : Option SegmentType) → option_map_or (λ t. length r.bytes == t.length) o false ≡ true → length bytes ≡ option_map_or (λ t. t.length) o 0
-        → option_map_or (λ t. length bytes == t.length) o false ≡ true
-    by_type None f same = cc
-    by_type (Some t) f same = eq-eqb (length bytes) t.length same
-
-parts_of_rows : (types : List SegmentType) (rows : List Segment) → ((i : ℕ) → i < length rows → row_fits types (row_at rows i) ≡ true) → (held : List ℕ) → LieOnOnePath types rows held
-    → (area : List ℕ) (parts : List (List ℕ)) → divide (map (λ i. length_of types (row_at rows i).code) held) area ≡ Some parts → AllByRecursion (λ w. OfRow types rows w) (rewrites_of held parts)
-parts_of_rows types rows fit [] lies area parts is = tt
-parts_of_rows types rows fit (i ∷ is_) lies area parts is =
-    by_room (nat_le (length_of types (row_at rows i).code) (length area)) (divide (map (λ i. length_of types (row_at rows i).code) is_) (drop (length_of types (row_at rows i).code) area)) refl
-    (λ rest r. parts_of_rows types rows fit is_ lies.2 (drop (length_of types (row_at rows i).code) area) rest r) refl is
-  where
-    by_room : (b : Bool) (o : Option (List (List ℕ))) → divide (map (λ i. length_of types (row_at rows i).code) is_) (drop (length_of types (row_at rows i).code) area) ≡ o
-        → ((rest : List (List ℕ)) → divide (map (λ i. length_of types (row_at rows i).code) is_) (drop (length_of types (row_at rows i).code) area) ≡ Some rest → AllByRecursion (λ w. OfRow types rows w) (rewrites_of is_ rest))
-        → nat_le (length_of types (row_at rows i).code) (length area) ≡ b
-        → cond b (option_map (λ parts. take (length_of types (row_at rows i).code) area ∷ parts) o) None ≡ Some parts → AllByRecursion (λ w. OfRow types rows w) (rewrites_of (i ∷ is_) parts)
-    by_room false o o_is more room is = cc
-    by_room true None o_is more room is = cc
-    by_room true (Some rest) o_is more room is =
-        let shape : take (length_of types (row_at rows i).code) area ∷ rest ≡ parts = cc in
-        let enough : length_of types (row_at rows i).code ≤ length area = leb-true (length_of types (row_at rows i).code) (length area) room in
-        subst (λ (ps : List (List ℕ)). AllByRecursion (λ w. OfRow types rows w) (rewrites_of (i ∷ is_) ps)) shape
-        ((lies.0, fits_part types (row_at rows i) (take (length_of types (row_at rows i).code) area) (fit i lies.0) (omega (arith, length-take (length_of types (row_at rows i).code) area))), more rest o_is)
-
-all_filtered : (P : Rewrite → Type 0) (test : Rewrite → Bool) (ws : List Rewrite) → AllByRecursion P ws → AllByRecursion P (filter test ws)
-all_filtered P test [] all = tt
-all_filtered P test (w ∷ ws) all = by_test (test w) (all_filtered P test ws all.1)
-  where
-    by_test : (b : Bool) → AllByRecursion P (filter test ws) → AllByRecursion P (cond b (w ∷ filter test ws) (filter test ws))
-    by_test true rest = (all.0, rest)
-    by_test false rest = rest
+    by_excepted : (b : Bool) → IsPart types (cond b (old_bytes (length (row_at rows i).bytes)) (new_row (row_at rows i).code)) bytes
+        → AllByRecursion (λ w. OfRow types rows w) (rewrites_asked rows ssas (rewrites_of is parts))
+        → AllByRecursion (λ w. OfRow types rows w) (cond (not b) (record { number = i; bytes = bytes } ∷ rewrites_asked rows ssas (rewrites_of is parts)) (rewrites_asked rows ssas (rewrites_of is parts)))
+    by_excepted true part others = others
+    by_excepted false part others = ((lies.0, part), others)
 
 keys_kept : (types : List SegmentType) (rows : List Segment) (ws : List Rewrite) → AllByRecursion (λ w. OfRow types rows w) ws → list_all (λ w. keeps_key types rows w) ws ≡ true → AllByRecursion (λ w. FitsRow types rows w) ws
 keys_kept types rows [] all is = tt
@@ -206,7 +182,11 @@ keys_kept types rows (w ∷ ws) all is =
     )
 
 pub replace_sound : (s : Setting) (rows : List Segment) (p : Position) (ssas : List Ssa) (area : List ℕ) → IsInSequence s.types rows → IsInRange s.types rows p → IsSoundEffect s.types rows (replace_step s rows p ssas area)
-replace_sound s rows p ssas area ordered fits = by_parts (divide (map (λ i. length_of s.types (row_at rows i).code) p.held) area) refl
+replace_sound s rows p ssas area ordered fits =
+    by_division (IsSoundEffect s.types rows) p (divide s.types (map (λ i. held_part rows ssas i) p.held) area) (λ parts. replace_rows s rows p (rewrites_asked rows ssas (rewrites_of p.held parts)))
+    (bare_sound s.types rows p V1 fits) tt
+    (λ parts is. by_keys (rewrites_asked rows ssas (rewrites_of p.held parts))
+    (asked_fit s.types rows ssas p.held parts fits.held (are_parts s.types (map (λ i. held_part rows ssas i) p.held) area parts is)))
   where
     by_keys : (ws : List Rewrite) → AllByRecursion (λ w. OfRow s.types rows w) ws → IsSoundEffect s.types rows (replace_rows s rows p ws)
     by_keys ws all = by_key (list_all (λ w. keeps_key s.types rows w) ws) refl
@@ -216,11 +196,3 @@ replace_sound s rows p ssas area ordered fits = by_parts (divide (map (λ i. len
             let fine : AreAlike s.types rows (rewrite_rows ws rows) = rewritten_alike s.types ws rows ordered.fit (keys_kept s.types rows ws all is) in
             (fine, unheld_in_range s.types (rewrite_rows ws rows) p (alike_in_range s.types rows (rewrite_rows ws rows) fine p fits))
         by_key false is = bare_sound s.types rows p DA fits
-
-    by_parts : (o : Option (List (List ℕ))) → divide (map (λ i. length_of s.types (row_at rows i).code) p.held) area ≡ o
-        → IsSoundEffect s.types rows (option_map_or (λ parts. replace_rows s rows p (rewrites_asked rows ssas (rewrites_of p.held parts))) o wrong_area)
-    by_parts None is = tt
-    by_parts (Some parts) is =
-        by_keys (rewrites_asked rows ssas (rewrites_of p.held parts))
-        (all_filtered (λ w. OfRow s.types rows w) (λ w. not (is_excepted ssas (row_at rows w.number).code)) (rewrites_of p.held parts)
-        (parts_of_rows s.types rows ordered.fit p.held fits.held area parts is))

@@ -1,15 +1,16 @@
 -- Runs of calls by the PCBs of a program, and which logs of them are legal. What stands between two calls is an image: of a volume,
 -- its bytes. A call that came to a failed access ends a run, and stands in no log.
-use Rattle.std.specs.Prelude.{◌≡◌, ◌⊎◌, ℕ, ◌+◌, ◌-◌, ◌<◌, ◌≤◌, List, [], ◌∷◌, length, map, sum, true, Bool, ◌==◌, cond, Option, None, slice_get}
+use Rattle.std.specs.Prelude.{◌≡◌, ◌⊎◌, ℕ, ◌+◌, ◌-◌, ◌<◌, ◌≤◌, List, [], ◌∷◌, length, map, filter, sum, true, false, Bool, ◌&&◌, ◌==◌, nat_lt, cond, Option, None, slice_get, slice_index}
 use Rattle.std.specs.Option.{option_map_or}
 use Rattle.std.specs.List.{list_any}
 use Rattle.hd_dbd.specs.Types.{SegmentType, View}
 use Rattle.hd_dbd.specs.declared.answer.Status.TheVariants.{Blank}
 use Rattle.hd_dbd.specs.Segment.{Segment}
-use Rattle.hd_dbd.specs.Prefixes.{stored_size}
+use Rattle.hd_dbd.specs.Paths.{row_at}
+use Rattle.hd_dbd.specs.Prefixes.{size_with}
 use Rattle.hd_dbd.specs.Calls.{CallText}
 use Rattle.hd_dbd.specs.Logs.{Outcome, replied, area, full, memory, Entry, Log}
-use Rattle.hd_calls.specs.Moves.{Change, unchanged, inserted, deleted, rewritten, put_in, taken_out}
+use Rattle.hd_calls.specs.Moves.{Rewrite, Change, unchanged, inserted, deleted, rewritten, put_in, taken_out}
 use Rattle.hd_calls.specs.Steps.{Effect, answered, wrong_area, State, step, state_after}
 
 -- ---- what a call may come to
@@ -54,20 +55,35 @@ state_after_outcome types st number effect memory = st
 
 -- ---- room
 
--- the rows that a change puts in
-abbrev pub rows_put_in : Change → List Segment
-rows_put_in unchanged = []
-rows_put_in (inserted p new) = new
-rows_put_in (deleted from to) = []
-rows_put_in (rewritten ws) = []
+-- a row's new bytes are more than it has
+abbrev pub is_longer : List Segment → Rewrite → Bool
+is_longer rows w = nat_lt (length (row_at rows w.number).bytes) (length w.bytes)
+
+-- a row as it is with its new bytes
+abbrev pub row_with : List Segment → Rewrite → Segment
+row_with rows w = record { code = (row_at rows w.number).code; bytes = w.bytes }
+
+-- the rows for which a change needs room: those that it puts in, and those that it makes longer, as they are then
+abbrev pub rows_stored : List Segment → Change → List Segment
+rows_stored rows unchanged = []
+rows_stored rows (inserted p new) = new
+rows_stored rows (deleted from to) = []
+rows_stored rows (rewritten ws) = map (λ w. row_with rows w) (filter (λ w. is_longer rows w) ws)
 
 -- a root is among some rows
 abbrev pub has_root : List Segment → Bool
-has_root new = list_any (λ r. r.code == 1) new
+has_root rows = list_any (λ r. r.code == 1) rows
+
+-- a change puts in a root
+abbrev pub inserts_root : Change → Bool
+inserts_root unchanged = false
+inserts_root (inserted p new) = has_root new
+inserts_root (deleted from to) = false
+inserts_root (rewritten ws) = false
 
 -- the bytes that some rows take together, each with its prefix and rounded up
 abbrev pub stored_sizes : List SegmentType → List Segment → ℕ
-stored_sizes types new = sum (map (λ r. stored_size types r.code) new)
+stored_sizes types new = sum (map (λ r. size_with types r.code (length r.bytes)) new)
 
 -- What a log asks of images. `HoldsAt`: an image holds the forest of these rows, in hierarchic sequence, at these addresses.
 -- `largest`: its largest count of blocks. `spare`: the blocks by which it may still grow, and the free ones. `index_growth`: the
@@ -81,39 +97,44 @@ pub record Images (Image : Type 0) : Type 1 where
   pub IsHighest : Image → Type 0
   pub HasHole : Image → ℕ → Type 0
 
+-- a change makes the row of a number longer
+abbrev pub lengthens : List Segment → List Rewrite → ℕ → Bool
+lengthens rows ws i = list_any (λ w. w.number == i && is_longer rows w) ws
+
 -- Of the addresses before a change those of the rows that stay are kept: where rows were put in some come between, where rows were
--- taken out theirs are gone.
-abbrev pub AddressesFollow : Change → List ℕ → List ℕ → Type 0
-AddressesFollow unchanged old new = new ≡ old
-AddressesFollow (inserted p rows) old new = (fresh : List ℕ) × (length fresh ≡ length rows) × (new ≡ put_in p fresh old)
-AddressesFollow (deleted from to) old new = new ≡ taken_out from to old
-AddressesFollow (rewritten ws) old new = new ≡ old
+-- taken out theirs are gone, and a row that is made longer may move.
+abbrev pub AddressesFollow : List Segment → Change → List ℕ → List ℕ → Type 0
+AddressesFollow rows unchanged old new = new ≡ old
+AddressesFollow rows (inserted p put) old new = (fresh : List ℕ) × (length fresh ≡ length put) × (new ≡ put_in p fresh old)
+AddressesFollow rows (deleted from to) old new = new ≡ taken_out from to old
+AddressesFollow rows (rewritten ws) old new =
+    (length new ≡ length old) × ((i : ℕ) → lengthens rows ws i ≡ false → slice_index new i ≡ slice_index old i)
 
 module _ {Image : Type 0} (images : Images Image) where
   -- an image holds these rows, wherever they stand
   abbrev pub Holds : Image → List Segment → Type 0
   Holds image rows = (addresses : List ℕ) × images.HoldsAt image rows addresses
 
-  -- the blocks that some rows may need: one each, and those of the index where a root is among them
-  abbrev pub blocks_for : Image → List Segment → ℕ
-  blocks_for image new = length new + cond (has_root new) (images.index_growth image) 0
+  -- the blocks that some rows may need: one each, and those of the index where a root is put in
+  abbrev pub blocks_for : Image → List Segment → Bool → ℕ
+  blocks_for image stored root = length stored + cond root (images.index_growth image) 0
 
-  -- Fewer blocks are to spare than some rows may need, or a root is among them and the index may have no level more.
-  abbrev pub LacksBlocks : Image → List Segment → Type 0
-  LacksBlocks image new = (images.spare image < blocks_for image new) ⊎ ((has_root new ≡ true) × images.IsHighest image)
+  -- Fewer blocks are to spare than some rows may need, or a root is put in and the index may have no level more.
+  abbrev pub LacksBlocks : Image → List Segment → Bool → Type 0
+  LacksBlocks image stored root = (images.spare image < blocks_for image stored root) ⊎ ((root ≡ true) × images.IsHighest image)
 
-  -- An image lacks room for some rows: blocks or levels are lacking, and either a root is among them or no hole is as large as all of them
+  -- An image lacks room for some rows: blocks or levels are lacking, and either a root is put in or no hole is as large as all of them
   -- together.
-  pub record LacksRoom (types : List SegmentType) (image : Image) (new : List Segment) : Type 0 where
-    pub blocks : LacksBlocks image new
-    pub holes : (has_root new ≡ true) ⊎ (images.HasHole image (stored_sizes types new) → ⊥)
+  pub record LacksRoom (types : List SegmentType) (image : Image) (stored : List Segment) (root : Bool) : Type 0 where
+    pub blocks : LacksBlocks image stored root
+    pub holes : (root ≡ true) ⊎ (images.HasHole image (stored_sizes types stored) → ⊥)
 
-  -- An image follows from another by a change of the rows: the largest count stays, no more blocks were taken than the rows put in
-  -- may need, and the rows that stay keep their addresses.
+  -- An image follows from another by a change of the rows: the largest count stays, no more blocks were taken than the rows that it
+  -- stores may need, and the rows that stay and grow no longer keep their addresses.
   pub record Follows (rows : List Segment) (old : Image) (change : Change) (rows_then : List Segment) (new : Image) : Type 0 where
     pub largest : images.largest new ≡ images.largest old
-    pub room : images.spare old ≤ images.spare new + blocks_for old (rows_put_in change)
-    pub addresses : (before after : List ℕ) → images.HoldsAt old rows before → images.HoldsAt new rows_then after → AddressesFollow change before after
+    pub room : images.spare old ≤ images.spare new + blocks_for old (rows_stored rows change) (inserts_root change)
+    pub addresses : (before after : List ℕ) → images.HoldsAt old rows before → images.HoldsAt new rows_then after → AddressesFollow rows change before after
 
 -- ---- runs
 
@@ -147,12 +168,12 @@ module _ {Image : Type 0} where
 
 module _ {Image : Type 0} (images : Images Image) where
   -- What an outcome says of the images around an entry: after an answer the image follows by the change; Full stands only where
-  -- room lacks for the rows that the call would put in; after any refusal the image is the old one.
+  -- room lacks for the rows that the call would store; after any refusal the image is the old one.
   abbrev pub ImageFollows : List SegmentType → State → ℕ → Effect → Outcome → Image → Image → Type 0
   ImageFollows types st number effect (replied r) old new =
       Follows images st.rows old (change_of effect) (state_after types st number effect).rows new
   ImageFollows types st number effect area old new = new ≡ old
-  ImageFollows types st number effect full old new = LacksRoom images types old (rows_put_in (change_of effect)) × (new ≡ old)
+  ImageFollows types st number effect full old new = LacksRoom images types old (rows_stored st.rows (change_of effect)) (inserts_root (change_of effect)) × (new ≡ old)
   ImageFollows types st number effect memory old new = new ≡ old
 
   -- Each image holds the rows of its state, and follows from the one before it.

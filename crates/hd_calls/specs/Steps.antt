@@ -5,13 +5,16 @@ use Rattle.std.specs.List.{list_any, list_all}
 use Rattle.hd_dbd.specs.declared.hierarchy.Rule.{Rule}
 use Rattle.hd_dbd.specs.Types.{SegmentType, View}
 use Rattle.hd_dbd.specs.declared.answer.Status.{Status}
-use Rattle.hd_dbd.specs.declared.answer.Status.TheVariants.{Blank, GE, GP, II, DA, DJ, AD, AH, AM}
+use Rattle.hd_dbd.specs.declared.answer.Status.TheVariants.{Blank, GE, GP, II, V1, DA, DJ, AD, AH, AM}
 use Rattle.hd_calls.specs.declared.call.GetKind.TheVariants.{NextInParent}
+use Rattle.hd_calls.specs.declared.call.AreaFault.{AreaFault}
+use Rattle.hd_calls.specs.declared.call.AreaFault.TheVariants.{Length, Bytes}
 use Rattle.hd_calls.specs.declared.call.Function.{Function}
 use Rattle.hd_calls.specs.declared.call.Function.TheVariants.{Get, Insert, Replace, Delete}
 use Rattle.hd_dbd.specs.Segment.{Segment}
 use Rattle.hd_dbd.specs.Hierarchy.{type_of, parent_of, is_under}
-use Rattle.hd_dbd.specs.Rows.{key_of}
+use Rattle.hd_dbd.specs.Lengths.{length_in}
+use Rattle.hd_dbd.specs.Rows.{key_of, row_fits}
 use Rattle.hd_dbd.specs.Paths.{row_at, level_at, end_of}
 use Rattle.hd_dbd.specs.Positions.{Position, at_start}
 use Rattle.hd_dbd.specs.Letters.{gives_get}
@@ -118,15 +121,42 @@ bare_answer p status = answered (bare status) unchanged (unheld p)
 
 -- ---- the area
 
--- an area divided into parts of these lengths, which take all of it
-abbrev pub divide : List ℕ → List ℕ → Option (List (List ℕ))
-divide [] area = cond (length area == 0) (Some []) None
-divide (n ∷ ns) area =
-    cond (nat_le n (length area)) (option_map (λ parts. take n area ∷ parts) (divide ns (drop n area))) None
+-- A part of an area: the new bytes of a row of the type of a code, or as many bytes as a row has that gets none.
+pub data Part : Type 0 where
+  new_row : ℕ → Part
+  old_bytes : ℕ → Part
 
--- the length of a type's segments
-abbrev pub length_of : List SegmentType → ℕ → ℕ
-length_of types code = option_map_or (λ t. t.length) (type_of types code) 0
+-- the bytes at the front of an area that a row of a type takes
+abbrev pub front : List SegmentType → ℕ → List ℕ → List ℕ
+front types c area = take (length_in types c area) area
+
+-- rows of the type vary in length
+abbrev pub varies : List SegmentType → ℕ → Bool
+varies types c = option_map_or (λ t. is_some t.least) (type_of types c) false
+
+-- what is wrong where a row of a type does not stand at the front of an area
+abbrev pub front_fault : List SegmentType → ℕ → AreaFault
+front_fault types c = cond (varies types c) Length Bytes
+
+-- the bytes of the part at the front of an area: a row as long as its type allows and as it says itself, or so many bytes
+abbrev pub part_at : List SegmentType → Part → List ℕ → Result (List ℕ) AreaFault
+part_at types (new_row c) area =
+    cond (row_fits types (record { code = c; bytes = front types c area })) (Ok (front types c area)) (Err (front_fault types c))
+part_at types (old_bytes n) area = cond (nat_le n (length area)) (Ok (take n area)) (Err Bytes)
+
+-- an area divided into parts, one behind the other, which take all of it; else the first fault from the front
+abbrev pub divide : List SegmentType → List Part → List ℕ → Result (List (List ℕ)) AreaFault
+divide types [] area = cond (length area == 0) (Ok []) (Err Bytes)
+divide types (p ∷ ps) area =
+    result_and_then (part_at types p area) (λ bytes.
+    result_and_then (divide types ps (drop (length bytes) area)) (λ parts.
+    Ok (bytes ∷ parts)))
+
+-- what a call does with the parts of its area; a wrong length of a row answers V1
+abbrev pub with_parts : Position → Result (List (List ℕ)) AreaFault → (List (List ℕ) → Effect) → Effect
+with_parts p (Ok parts) effect = effect parts
+with_parts p (Err Length) effect = bare_answer p V1
+with_parts p (Err Bytes) effect = wrong_area
 
 -- ---- ISRT
 
@@ -194,8 +224,8 @@ inserted_codes ssas = map (λ a. a.code) (drop (first_inserted ssas) ssas)
 -- ISRT: the area is the inserted rows, in order
 abbrev pub insert_step : Setting → List Segment → Position → List Ssa → List ℕ → Effect
 insert_step s rows p ssas area =
-    option_map_or (λ parts. insert_or_load s rows p ssas (new_rows (inserted_codes ssas) parts))
-    (divide (map (λ c. length_of s.types c) (inserted_codes ssas)) area) wrong_area
+    with_parts p (divide s.types (map (λ c. new_row c) (inserted_codes ssas)) area) (λ parts.
+    insert_or_load s rows p ssas (new_rows (inserted_codes ssas) parts))
 
 -- ---- REPL
 
@@ -225,11 +255,15 @@ replace_rows s rows p ws =
     (answered (row_reply s rows (lowest p.held) Blank []) (rewritten ws) (unheld p))
     (bare_answer p DA)
 
+-- the part of a held row: new bytes, or as many as it has where N excepts it
+abbrev pub held_part : List Segment → List Ssa → ℕ → Part
+held_part rows ssas i = cond (is_excepted ssas (row_at rows i).code) (old_bytes (length (row_at rows i).bytes)) (new_row (row_at rows i).code)
+
 -- REPL: the area is all held rows, in order
 abbrev pub replace_step : Setting → List Segment → Position → List Ssa → List ℕ → Effect
 replace_step s rows p ssas area =
-    option_map_or (λ parts. replace_rows s rows p (rewrites_asked rows ssas (rewrites_of p.held parts)))
-    (divide (map (λ i. length_of s.types (row_at rows i).code) p.held) area) wrong_area
+    with_parts p (divide s.types (map (λ i. held_part rows ssas i) p.held) area) (λ parts.
+    replace_rows s rows p (rewrites_asked rows ssas (rewrites_of p.held parts)))
 
 -- ---- DLET
 

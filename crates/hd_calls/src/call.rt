@@ -35,3 +35,12 @@ pub struct Commands {
     pub last: bool,
     pub excepted: bool,
 }
+
+/// Why an area is not the rows that it should be, of which the first from its front answers.
+#[derive(Clone, Copy, Debug, PartialEq, Eq)]
+pub enum AreaFault {
+    /// V1: a row of a type whose rows vary says no length that its type allows, or more bytes than are left.
+    Length,
+    /// Bytes lack for a row, or are left over.
+    Bytes,
+}

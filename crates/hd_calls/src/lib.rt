@@ -6,7 +6,7 @@
 mod call;
 mod law;
 
-pub use call::{Commands, Function, GetKind, Operator};
+pub use call::{AreaFault, Commands, Function, GetKind, Operator};
 pub use law::{
     law_calls_keep_states_sound, law_new_rows_go_between_twins, law_no_lost_update,
     law_runs_stay_sound, law_spans_are_the_rows_below, law_spans_may_be_skipped,

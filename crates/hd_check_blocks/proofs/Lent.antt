@@ -7,8 +7,7 @@ use Rattle.hd_volume.specs.Volumes.{VolumeState}
 use Rattle.hd_volume.specs.Records.{find}
 use Rattle.hd_volume.specs.Calls.{HasSegment}
 use Rattle.hd_prefix.specs.Fields.{code_of}
-use Rattle.hd_prefix.proofs.Sizes.{stored_long}
-use Rattle.hd_prefix.proofs.Fitting.{row_is}
+use Rattle.hd_prefix.proofs.Fitting.{row_prefix}
 use Rattle.hd_links.specs.Links.{IsSegment}
 use Rattle.hd_image.specs.Records.{links_of, IsVolumeOf}
 use Rattle.hd_image.specs.Laws.{IsDatabase}
@@ -24,11 +23,14 @@ pub lent : (d : Database) (v : VolumeState) (a : ℕ) (s : List ℕ) → IsDatab
 lent d v a s fit of there is =
     let h = segment-found d v a fit of there in
     let same : h.bytes ≡ s = (let e : Some h.bytes ≡ Some s = sym h.is ∙ is in cc) in
-    let two : 1 < length h.bytes = (let x = stored_long d.types (code_of h.bytes) in let p : 2 ≤ prefix_length d.types (code_of h.bytes) = subst (λ (b : List ℕ). 2 ≤ prefix_length d.types (code_of b)) (stored-found d v a h) (row_is d.types ((links_of d.types v).code a) ((links_of d.types v).bytes a) (row-found d v a h)).0 in let e = h.size in omega arith) in
+    let prefix : 2 ≤ prefix_length d.types (code_of h.bytes) =
+    subst (λ (b : List ℕ). 2 ≤ prefix_length d.types (code_of b)) (stored-found d v a h)
+    (row_prefix d.types ((links_of d.types v).code a) ((links_of d.types v).bytes a) (row-found d v a h fit)) in
+    let two : 1 < length h.bytes = omega (arith, prefix, h.whole) in
     subst (IsLent d.types v a) same (record {
       some = λ z. (let x = there.some in omega arith);
       stored = stored-found d v a h;
       typed = λ z. (let w = (type_within d.types (code_of h.bytes) h.own h.typed).0 in omega arith);
       two = two;
-      whole = (let e = h.size in omega arith);
+      whole = h.whole;
     })

@@ -1,9 +1,8 @@
 -- A segment that a volume lends.
-use Rattle.std.specs.Prelude.{◌≡◌, ◌≢◌, ℕ, ◌<◌, ◌≤◌, List, length}
+use Rattle.std.specs.Prelude.{◌≡◌, ◌≢◌, ℕ, ◌<◌, List, length}
 use Rattle.hd_dbd.specs.Types.{SegmentType}
-use Rattle.hd_dbd.specs.Prefixes.{stored_size}
 use Rattle.hd_volume.specs.Volumes.{VolumeState}
-use Rattle.hd_prefix.specs.Fields.{code_of}
+use Rattle.hd_prefix.specs.Fields.{code_of, IsWhole}
 use Rattle.hd_image.specs.Records.{stored_at}
 
 -- The bytes are those of the segment at an address, which has a type.
@@ -12,4 +11,4 @@ pub record IsLent (types : List SegmentType) (v : VolumeState) (a : ℕ) (segmen
   pub stored : stored_at v a ≡ segment
   pub typed : code_of segment ≢ 0
   pub two : 1 < length segment
-  pub whole : stored_size types (code_of segment) ≤ length segment
+  pub whole : IsWhole types (code_of segment) segment

@@ -1,15 +1,14 @@
 -- The entries of an index block, one by one, and what names a root.
-use Rattle.std.proofs.Common.{◌≡◌, inl, inr, ℕ, suc, ◌+◌, ◌-◌, ◌*◌, ◌<◌, ◌≤◌, List, [], ◌∷◌, ◌++◌, length, map, Bool, true, false, Option, Some, None, Ok, Err, refl, sym, ap, subst, ◌∙◌, arith, ne_eqb}
+use Rattle.std.proofs.Common.{◌≡◌, inl, inr, ℕ, suc, ◌+◌, ◌-◌, ◌*◌, ◌<◌, List, [], ◌∷◌, ◌++◌, map, Bool, true, false, Option, Some, None, Ok, Err, refl, sym, ap, subst, ◌∙◌, arith, ne_eqb}
 use Rattle.std.specs.Prelude.{◌==◌, ◌&&◌, not, find, nat_eq, bytes_eq, option_map}
 use Rattle.std.specs.List.{list_all}
 use Rattle.std.proofs.lemmas.Bool.{cases_eq, cases_Bool, eq-eqb, eqb-true, and_parts, false≢true}
 use Rattle.hd_dbd.specs.Types.{SegmentType}
 use Rattle.hd_dbd.specs.Hierarchy.{Database}
-use Rattle.hd_dbd.specs.Prefixes.{stored_size}
 use Rattle.hd_dbd.specs.Rows.{key_of}
 use Rattle.hd_volume.specs.Volumes.{VolumeState, block_at}
 use Rattle.hd_volume.specs.Entries.{Entry, entries_at}
-use Rattle.hd_prefix.specs.Fields.{code_of, bytes_of}
+use Rattle.hd_prefix.specs.Fields.{code_of, bytes_of, IsWhole}
 use Rattle.hd_links.specs.Links.{Links, IsSegment, segment_at}
 use Rattle.hd_dbd.specs.declared.answer.Refused.TheVariants.{Memory}
 use Rattle.hd_volume.specs.Calls.{IsRead}
@@ -73,7 +72,7 @@ module _ (types : List SegmentType) (v : VolumeState) where
 
   -- the key of a root that is lent is that of its record
   pub root-key : (a : ℕ) (segment key : List ℕ) (b : Bool) → IsLent types v a segment → is-root a ≡ true
-      → (stored_size types 1 ≤ length segment → b ≡ bytes_eq (key_of types (record { code = 1; bytes = bytes_of types 1 segment })) key)
+      → (IsWhole types 1 segment → b ≡ bytes_eq (key_of types (record { code = 1; bytes = bytes_of types 1 segment })) key)
       → b ≡ (is-root a && bytes_eq (key_of types (segment_at (links_of types v) a)) key)
   root-key a segment key b lent root is =
       let own = (root-there a root).1 in
@@ -81,7 +80,7 @@ module _ (types : List SegmentType) (v : VolumeState) where
       let whole : bytes_eq (key_of types (record { code = 1; bytes = bytes_of types 1 segment })) key ≡ bytes_eq (key_of types (segment_at (links_of types v) a)) key =
       ap (λ (c : ℕ). bytes_eq (key_of types (record { code = c; bytes = bytes_of types c segment })) key) (sym same)
       ∙ ap (λ (s : List ℕ). bytes_eq (key_of types (record { code = code_of s; bytes = bytes_of types (code_of s) s })) key) (sym lent.stored) in
-      is (subst (λ (c : ℕ). stored_size types c ≤ length segment) same lent.whole) ∙ whole ∙ ap (λ (t : Bool). t && bytes_eq (key_of types (segment_at (links_of types v) a)) key) (sym root)
+      is (subst (λ (c : ℕ). IsWhole types c segment) same lent.whole) ∙ whole ∙ ap (λ (t : Bool). t && bytes_eq (key_of types (segment_at (links_of types v) a)) key) (sym root)
 
 -- ---- tests of entries
 

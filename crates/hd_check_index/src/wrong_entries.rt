@@ -1,17 +1,16 @@
 //! Phase 12: each entry names a root of its key.
-ghost use Rattle.std.specs.Prelude.{◌≡◌, ◌≤◌, ◌<◌, [], ◌++◌, ◌==◌, ◌&&◌, not, Some, map, bytes_eq, length, true, false, IsTrue, IfOk};
+ghost use Rattle.std.specs.Prelude.{◌≡◌, ◌≤◌, ◌<◌, [], ◌++◌, ◌==◌, ◌&&◌, not, Some, map, bytes_eq, true, false, IsTrue, IfOk};
 ghost use Rattle.std.specs.List.{list_all};
 ghost use Rattle.hd_bytes.specs.Numbers.{number_at};
 ghost use Rattle.hd_dbd.specs.Refusals.{OnlyDevice, OnlyDeviceOrMemory};
 ghost use Rattle.hd_dbd.specs.Hierarchy.{Database};
-ghost use Rattle.hd_dbd.specs.Prefixes.{stored_size};
 ghost use Rattle.hd_dbd.specs.Rows.{key_of};
 ghost use Rattle.hd_volume.specs.Volumes.{VolumeState, block_at};
 ghost use Rattle.hd_volume.specs.Entries.{entries_in};
 ghost use Rattle.hd_levels.specs.IndexSets.{index_entries};
 ghost use Rattle.hd_volume.specs.Indexes.{root_key_length, IsEntryBlock};
 ghost use Rattle.hd_volume.specs.Calls.{IsRead};
-ghost use Rattle.hd_prefix.specs.Fields.{bytes_of};
+ghost use Rattle.hd_prefix.specs.Fields.{bytes_of, IsWhole};
 ghost use Rattle.hd_image.specs.IndexFaults.{names_a_root};
 ghost use Rattle.hd_image.specs.Records.{links_of, IsVolumeOf};
 ghost use Rattle.hd_check_blocks.specs.Phases.{IsLeastOf};
@@ -29,7 +28,7 @@ use hd_volume::{BlockStore, Volume};
 
 /// Whether a stored root has a key.
 fn has_key(dbd: &Dbd, segment: &[u8], key: &[u8]) -> bool
-    ensures { stored_size dbd.now.types 1 ≤ length segment.now → result ≡ bytes_eq (key_of dbd.now.types (record { code = 1; bytes = bytes_of dbd.now.types 1 segment.now })) key.now }
+    ensures { IsWhole dbd.now.types 1 segment.now → result ≡ bytes_eq (key_of dbd.now.types (record { code = 1; bytes = bytes_of dbd.now.types 1 segment.now })) key.now }
 {
     stored_key(dbd, 1, segment) == key
 }

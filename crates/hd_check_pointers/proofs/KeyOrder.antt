@@ -1,5 +1,5 @@
 -- Keys of twins, and the first that is out of order.
-use Rattle.std.proofs.Common.{◌≡◌, inl, inr, ℕ, ◌<◌, ◌≤◌, List, [], length, Bool, true, false, cond, Option, Some, None, refl, sym, ap, subst, ◌∙◌, arith}
+use Rattle.std.proofs.Common.{◌≡◌, inl, inr, ℕ, ◌<◌, List, [], length, Bool, true, false, cond, Option, Some, None, refl, sym, ap, subst, ◌∙◌, arith}
 use Rattle.std.specs.Prelude.{is_some}
 use Rattle.std.specs.Option.{option_map_or}
 use Rattle.std.specs.Ordering.{nat_cmp, is_lt, is_le}
@@ -9,10 +9,9 @@ use Rattle.hd_dbd.specs.declared.hierarchy.Key.{Key}
 use Rattle.hd_dbd.specs.Types.{SegmentType}
 use Rattle.hd_dbd.specs.Segment.{Segment}
 use Rattle.hd_dbd.specs.Hierarchy.{Database, type_of, key_in}
-use Rattle.hd_dbd.specs.Prefixes.{stored_size}
 use Rattle.hd_dbd.specs.Rows.{key_of, keys_in_order, twins_in_order}
 use Rattle.hd_volume.specs.Volumes.{VolumeState}
-use Rattle.hd_prefix.specs.Fields.{code_of, bytes_of}
+use Rattle.hd_prefix.specs.Fields.{code_of, bytes_of, IsWhole}
 use Rattle.hd_links.specs.Links.{segment_at}
 use Rattle.hd_links.specs.Pointers.{IsTwinBefore, Precedes, KeysAscend}
 use Rattle.hd_links.proofs.Types.{row_type}
@@ -33,10 +32,10 @@ use Rattle.hd_check_pointers.proofs.PlaceNumbers.{stands, coded, number-at, numb
 
 -- the key of a segment that is lent is that of its record
 pub lent-key : (types : List SegmentType) (v : VolumeState) (a : ℕ) (segment : List ℕ) (code : ℕ) (key : List ℕ) → IsLent types v a segment → (links_of types v).code a ≡ code
-    → (stored_size types code ≤ length segment → key ≡ key_of types (record { code = code; bytes = bytes_of types code segment })) → key ≡ key_of types (segment_at (links_of types v) a)
+    → (IsWhole types code segment → key ≡ key_of types (record { code = code; bytes = bytes_of types code segment })) → key ≡ key_of types (segment_at (links_of types v) a)
 lent-key types v a segment code key lent own is =
     let same : code_of segment ≡ code = ap code_of (sym lent.stored) ∙ own in
-    is (subst (λ (c : ℕ). stored_size types c ≤ length segment) same lent.whole)
+    is (subst (λ (c : ℕ). IsWhole types c segment) same lent.whole)
     ∙ ap (λ (c : ℕ). key_of types (record { code = c; bytes = bytes_of types c segment })) (sym same)
     ∙ ap (λ (s : List ℕ). key_of types (record { code = code_of s; bytes = bytes_of types (code_of s) s })) (sym lent.stored)
 
@@ -78,7 +77,7 @@ module _ (d : Database) (v : VolumeState) (ps : List Place) (M : IsMatched d v p
   unkeyed-right i l none h b =
       let s = stands d v ps M i l in
       let f = segment-found d v (place_at ps i).address M.volume.fit M.volume s in
-      let t = row_type d.types (segment_at (links_of d.types v) (place_at ps i).address) (row-found d v (place_at ps i).address f) in
+      let t = row_type d.types (segment_at (links_of d.types v) (place_at ps i).address) (row-found d v (place_at ps i).address f M.volume.fit) in
       unkeyed d.types (segment_at (links_of d.types v) h) (segment_at (links_of d.types v) (place_at ps i).address) t.0 t.1 (ap (is_keyed d.types) (coded d v ps M i l) ∙ none)
 
   -- and so is that of a segment without a twin before it

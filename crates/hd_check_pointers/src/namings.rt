@@ -1,7 +1,7 @@
 //! The table of the pointers by which segments are named, which phase 3 notes.
 ghost use Rattle.std.specs.Prelude.{◌≡◌, ◌≤◌, ◌++◌, ◌∷◌, [], length, OnOk};
 ghost use Rattle.hd_dbd.specs.Refusals.{OnlyMemory};
-ghost use Rattle.hd_dbd.specs.Prefixes.{stored_size};
+ghost use Rattle.hd_dbd.specs.Prefixes.{prefix_length};
 ghost use Rattle.hd_prefix.specs.Fields.{code_of};
 ghost use Rattle.hd_check_pointers.specs.Namings.{naming_of, first_namings, segment_namings};
 ghost use Rattle.hd_check_pointers.specs.Judging.{OfStoredAt, OfLentAt};
@@ -39,7 +39,7 @@ fn note_first_children(
     types: &[u8],
 ) -> Result<(), Refused>
     requires own { code ≡ code_of segment.now }
-    requires whole { stored_size dbd.now.types (code_of segment.now) ≤ length segment.now }
+    requires whole { prefix_length dbd.now.types (code_of segment.now) ≤ length segment.now }
     ensures namings { OnOk result (OfStoredAt dbd.now.types address segment.now (λ m. namings.new.items ≡ namings.old.items ++ first_namings m address types.now)) }
     ensures refusal { OnlyMemory result }
 {
@@ -64,7 +64,7 @@ pub fn note_pointers(
     ensures refusal { OnlyMemory result }
 {
     let code = segment.first().copied().unwrap_or(0);
-    if segment.len() < dbd.stored_size(code) as usize {
+    if segment.len() < dbd.prefix_length(code) as usize {
         return Ok(());
     }
     let forward = Layout::of(dbd, code).read(segment, Pointer::TwinForward);

@@ -1,6 +1,6 @@
 //! Phase 3: the pointers of one record.
 ghost use Rattle.std.specs.Prelude.{◌≡◌, ◌≢◌, ◌≤◌, ◌<◌, [], ◌∷◌, length, IfNone, IfSome};
-ghost use Rattle.hd_dbd.specs.Prefixes.{stored_size};
+ghost use Rattle.hd_dbd.specs.Prefixes.{prefix_length};
 ghost use Rattle.hd_volume.specs.Volumes.{VolumeState};
 ghost use Rattle.hd_prefix.specs.Fields.{code_of};
 ghost use Rattle.hd_image.specs.Records.{links_of};
@@ -74,7 +74,7 @@ fn judge_children(
     wrong: Wrong,
 ) -> Wrong
     requires own { code ≡ code_of segment.now }
-    requires whole { stored_size dbd.now.types (code_of segment.now) ≤ length segment.now }
+    requires whole { prefix_length dbd.now.types (code_of segment.now) ≤ length segment.now }
     ensures { OfStored dbd.now.types places.now segment.now (λ m a. result ≡ wrong_or wrong (wrong_among m (child_pointers dbd.now.types m a types.now))) }
 {
     let layout = Layout::of(dbd, code);
@@ -92,7 +92,7 @@ fn judge_children(
 fn judge_segment(places: &[Place], number: usize, dbd: &Dbd, code: u8, segment: &[u8]) -> Wrong
     requires own { code ≡ code_of segment.now }
     requires some { code ≢ 0 }
-    requires whole { stored_size dbd.now.types (code_of segment.now) ≤ length segment.now }
+    requires whole { prefix_length dbd.now.types (code_of segment.now) ≤ length segment.now }
     ensures { OfStored dbd.now.types places.now segment.now (λ m a. result ≡ wrong_among m (pointers_of dbd.now.types m a)) }
 {
     let layout = Layout::of(dbd, code);
@@ -134,7 +134,7 @@ pub fn segment_pointers_fault(
     ensures some { OfPlaced dbd.now.types places.now address segment.now (λ m. IfSome result (λ f. IsWrongRecord dbd.now.types m address f)) }
 {
     let code = segment.first().copied().unwrap_or(0);
-    if code == 0 || segment.len() < 2 || segment.len() < dbd.stored_size(code) as usize {
+    if code == 0 || segment.len() < 2 || segment.len() < dbd.prefix_length(code) as usize {
         return None;
     }
     let delete_byte = delete_byte_of(segment);

@@ -2,7 +2,7 @@
 ghost use Rattle.std.specs.Prelude.{◌≡◌, ◌≤◌, ◌<◌, length, true, false, IsTrue, IfNone, IfSome};
 ghost use Rattle.hd_dbd.specs.Refusals.{OnlyDevice};
 ghost use Rattle.hd_dbd.specs.Hierarchy.{Database};
-ghost use Rattle.hd_dbd.specs.Prefixes.{stored_size};
+ghost use Rattle.hd_dbd.specs.Prefixes.{prefix_length};
 ghost use Rattle.hd_volume.specs.Volumes.{VolumeState};
 ghost use Rattle.hd_volume.specs.Calls.{IsRead};
 ghost use Rattle.hd_prefix.specs.Fields.{pointer_of};
@@ -26,7 +26,7 @@ use hd_volume::{BlockStore, Volume};
 
 /// A pointer of a stored segment of a type.
 fn pointer_in(dbd: &Dbd, code: u8, segment: &[u8], pointer: Pointer) -> u32
-    requires { stored_size dbd.now.types code ≤ length segment.now }
+    requires { prefix_length dbd.now.types code ≤ length segment.now }
     ensures { result ≡ pointer_of dbd.now.types code pointer segment.now }
 {
     Layout::of(dbd, code).read(segment, pointer)
@@ -52,7 +52,7 @@ fn wrong_backward(
     segment: &[u8],
 ) -> Option<u32>
     requires within { number < length places.now }
-    requires whole { stored_size dbd.now.types (place_at places.now number).code ≤ length segment.now }
+    requires whole { prefix_length dbd.now.types (place_at places.now number).code ≤ length segment.now }
     ensures none { OfLent dbd.now places.now number segment.now (λ m a. Precedes dbd.now.types m holder a → IfNone result (IsBackwardRight dbd.now.types m a)) }
     ensures some { OfLent dbd.now places.now number segment.now (λ m a. Precedes dbd.now.types m holder a → IfSome result (λ x. (x ≡ m.backward a) × IsWrongBackward dbd.now.types m a x)) }
 {
@@ -99,7 +99,7 @@ fn wrong_child(
     child: u8,
 ) -> Option<u32>
     requires within { number < length places.now }
-    requires whole { stored_size dbd.now.types (place_at places.now number).code ≤ length segment.now }
+    requires whole { prefix_length dbd.now.types (place_at places.now number).code ≤ length segment.now }
     ensures none { OfChildTwin dbd.now places.now forwards.now owners.now number segment.now child (λ m a. IfNone result (is_last_kept dbd.now.types child ≡ true → IsLastRight m a child)) }
     ensures some { OfChildTwin dbd.now places.now forwards.now owners.now number segment.now child (λ m a. IfSome result (λ x. IsWrongLastNamed dbd.now.types m a child x)) }
 {
@@ -125,7 +125,7 @@ fn wrong_last(
     segment: &[u8],
 ) -> Option<u32>
     requires within { number < length places.now }
-    requires whole { stored_size dbd.now.types (place_at places.now number).code ≤ length segment.now }
+    requires whole { prefix_length dbd.now.types (place_at places.now number).code ≤ length segment.now }
     ensures none { OfLentTwin dbd.now places.now forwards.now owners.now number segment.now (λ m a. IfNone result (AreLastsRight dbd.now.types m a)) }
     ensures some { OfLentTwin dbd.now places.now forwards.now owners.now number segment.now (λ m a. IfSome result (λ x. HasWrongLast dbd.now.types m a x)) }
 {
@@ -154,7 +154,7 @@ fn twin_pointers_fault(
     ensures some { OfLentTwin dbd.now places.now forwards.now owners.now number segment.now (λ m a. Precedes dbd.now.types m holder a → IfSome result (λ f. AreTwinsWrong dbd.now.types m a f)) }
 {
     let place = places[number];
-    if segment.len() < dbd.stored_size(place.code) as usize {
+    if segment.len() < dbd.prefix_length(place.code) as usize {
         return None;
     }
     if let Some(backward) = wrong_backward(places, dbd, number, holder, segment) {

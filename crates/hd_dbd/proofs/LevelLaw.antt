@@ -9,6 +9,7 @@ use Rattle.hd_dbd.specs.Types.{SegmentType}
 use Rattle.hd_dbd.specs.Segment.{Segment}
 use Rattle.hd_dbd.specs.Hierarchy.{type_of, parent_of, weights_from, levels_of, level_of}
 use Rattle.hd_dbd.specs.DatabaseRules.{well_formed}
+use Rattle.hd_dbd.specs.Lengths.{length_fits}
 use Rattle.hd_dbd.specs.Rows.{level, row_fits}
 use Rattle.hd_dbd.proofs.Levels.{weights_front, type_of-later, type_within, level_of-later}
 use Rattle.hd_dbd.proofs.Fitting.{IsEarlier, parent_part, type_of-fits, types_fit}
@@ -76,8 +77,10 @@ level_above types c t early is =
 abbrev pub depth_below : List SegmentType → Option ℕ → ℕ
 depth_below types parent = option_map_or (λ p. level_of types p) parent 0
 
--- What the levels of rows are: one more than that of the parent's type, which is not 0.
+-- What the levels of types are: one more than that of the parent, which is not 0; and so of rows.
 pub record Leveled (types : List SegmentType) : Type 0 where
+  pub own : (c : ℕ) (t : SegmentType) → type_of types c ≡ Some t → level_of types c ≡ depth_below types (parent_of types c) + 1
+  pub above : (c p : ℕ) → parent_of types c ≡ Some p → 0 < level_of types p
   pub law : (r : Segment) → row_fits types r ≡ true → level types r ≡ depth_below types (parent_of types r.code) + 1
   pub parents : (r : Segment) (p : ℕ) → row_fits types r ≡ true → parent_of types r.code ≡ Some p → 0 < level_of types p
 
@@ -85,7 +88,7 @@ pub record Leveled (types : List SegmentType) : Type 0 where
 pub typed : (types : List SegmentType) (r : Segment) → row_fits types r ≡ true → (t : SegmentType) × (type_of types r.code ≡ Some t)
 typed types r fits = some_type (type_of types r.code) fits
   where
-    some_type : (o : Option SegmentType) → option_map_or (λ t. length r.bytes == t.length) o false ≡ true → (t : SegmentType) × (o ≡ Some t)
+    some_type : (o : Option SegmentType) → option_map_or (λ t. length_fits t r.bytes) o false ≡ true → (t : SegmentType) × (o ≡ Some t)
     some_type None h = cc
     some_type (Some t) h = (t, refl)
 
@@ -93,18 +96,33 @@ type_at : (types : List SegmentType) (p : ℕ) (d : SegmentType) → 0 < p → p
 type_at types p d some within =
     (get_or types (p - 1) d, type_of-later types p (λ none. omega arith) ∙ slice_get-get_or types (p - 1) d within)
 
--- the rows of a well-formed list of types have such levels
-pub leveled : (block_size : ℕ) (frspc : FreeSpace) (types : List SegmentType) → IsTrue (well_formed block_size frspc types) → Leveled types
-leveled block_size frspc types formed = record {
-  law = λ r fits. (let t = typed types r fits in
-      level_above types r.code t.0 (parents_earlier block_size frspc types r.code t.0 formed t.1) t.1
-      ∙ ap (λ (o : Option SegmentType). option_map_or (λ p. level_of types p) (option_and_then (λ (u : SegmentType). u.parent) o) 0 + 1) (sym t.1));
-  parents = λ r p fits is. (let t = typed types r fits in
-      let own : t.0.parent ≡ Some p = ap (λ (o : Option SegmentType). option_and_then (λ (u : SegmentType). u.parent) o) (sym t.1) ∙ is in
-      let early : (0 < p) × (p < r.code) = subst (λ (o : Option ℕ). IsEarlier o r.code) own (parents_earlier block_size frspc types r.code t.0 formed t.1) in
-      let within : r.code - 1 < length types = slice_get_within types (r.code - 1) t.0 (type_within types r.code t.0 t.1).1 in
+-- a type that has a parent is one
+parent_typed : (types : List SegmentType) (c p : ℕ) (o : Option SegmentType) → type_of types c ≡ o → option_and_then (λ (t : SegmentType). t.parent) o ≡ Some p
+    → (t : SegmentType) × (type_of types c ≡ Some t) × (t.parent ≡ Some p)
+parent_typed types c p None is above = cc
+parent_typed types c p (Some t) is above = (t, is, above)
+
+module _ (block_size : ℕ) (frspc : FreeSpace) (types : List SegmentType) (formed : IsTrue (well_formed block_size frspc types)) where
+  type_level : (c : ℕ) (t : SegmentType) → type_of types c ≡ Some t → level_of types c ≡ depth_below types (parent_of types c) + 1
+  type_level c t is =
+      level_above types c t (parents_earlier block_size frspc types c t formed is) is
+      ∙ ap (λ (o : Option SegmentType). option_map_or (λ p. level_of types p) (option_and_then (λ (u : SegmentType). u.parent) o) 0 + 1) (sym is)
+
+  parent_level_some : (c p : ℕ) → parent_of types c ≡ Some p → 0 < level_of types p
+  parent_level_some c p is =
+      let t = parent_typed types c p (type_of types c) refl is in
+      let early : (0 < p) × (p < c) = subst (λ (o : Option ℕ). IsEarlier o c) t.2 (parents_earlier block_size frspc types c t.0 formed t.1) in
+      let within : c - 1 < length types = slice_get_within types (c - 1) t.0 (type_within types c t.0 t.1).1 in
       let u = type_at types p t.0 early.0 (omega arith) in
       let above : level_of types p ≡ option_map_or (λ q. level_of types q) u.0.parent 0 + 1 =
       level_above types p u.0 (parents_earlier block_size frspc types p u.0 formed u.1) u.1 in
-      omega arith);
+      omega arith
+
+-- the types of a well-formed list, and their rows, have such levels
+pub leveled : (block_size : ℕ) (frspc : FreeSpace) (types : List SegmentType) → IsTrue (well_formed block_size frspc types) → Leveled types
+leveled block_size frspc types formed = record {
+  own = type_level block_size frspc types formed;
+  above = parent_level_some block_size frspc types formed;
+  law = λ r fits. (let t = typed types r fits in type_level block_size frspc types formed r.code t.0 t.1);
+  parents = λ r p fits is. parent_level_some block_size frspc types formed r.code p is;
 }

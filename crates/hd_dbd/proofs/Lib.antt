@@ -3,6 +3,8 @@ pub mod LevelLaw
 pub mod Levels
 pub mod Tables
 pub mod Fitting
+pub mod TypeLengths
+pub mod FixedLengths
 pub mod StoredSizes
 pub mod Kept
 pub mod KeyLengths

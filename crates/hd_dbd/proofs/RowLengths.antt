@@ -2,7 +2,7 @@
 use Rattle.std.proofs.Common.{◌≡◌, ℕ, zero, suc, ◌+◌, ◌-◌, ◌≤◌, List, [], ◌∷◌, ◌++◌, length, true, false, arith, Option, Some, None, refl, ap, ◌∙◌, subst, sym}
 use Rattle.std.specs.Prelude.{IsTrue, slice_get, slice_index, ◌==◌}
 use Rattle.std.specs.Option.{option_map_or}
-use Rattle.std.proofs.lemmas.Bool.{and_parts, eqb-true}
+use Rattle.std.proofs.lemmas.Bool.{and_parts}
 use Rattle.std.proofs.lemmas.List.{length-append, get_or_at}
 use Rattle.hd_dbd.specs.Types.{SegmentType}
 use Rattle.hd_dbd.specs.Segment.{Segment}
@@ -10,6 +10,7 @@ use Rattle.hd_dbd.specs.Hierarchy.{weights_from, weights, greatest, longest_path
 use Rattle.hd_dbd.specs.Rows.{row_fits, valid, valid_from, next_path}
 use Rattle.hd_dbd.specs.Paths.{row_at}
 use Rattle.hd_dbd.proofs.Levels.{weights_front, type_within}
+use Rattle.hd_dbd.proofs.TypeLengths.{row-type, length-most}
 
 -- a type weighs with those above it no less than alone
 weight_counts : (w : SegmentType → ℕ) (so_far : List ℕ) (ts : List SegmentType) (i : ℕ) (t : SegmentType) → slice_get ts i ≡ Some t → w t ≤ slice_index (weights_from w so_far ts) (length so_far + i)
@@ -35,19 +36,16 @@ below_greatest [] i = omega arith
 below_greatest (x ∷ xs) zero = omega arith
 below_greatest (x ∷ xs) (suc i) = omega (arith, below_greatest xs i)
 
-row_short_by : (types : List SegmentType) (r : Segment) (o : Option SegmentType) → type_of types r.code ≡ o → option_map_or (λ t. length r.bytes == t.length) o false ≡ true → length r.bytes ≤ longest_path types
-row_short_by types r None is fits = cc
-row_short_by types r (Some t) is fits =
+-- a row of a type is no longer than the longest path
+row_short : (types : List SegmentType) (r : Segment) → row_fits types r ≡ true → length r.bytes ≤ longest_path types
+row_short types r fits =
+    let own = row-type types r fits in
     omega (
       arith,
-      eqb-true (length r.bytes) t.length fits,
-      weight_counts (λ s. s.length) [] types (r.code - 1) t (type_within types r.code t is).1,
+      length-most own.type r.bytes own.fits,
+      weight_counts (λ s. s.length) [] types (r.code - 1) own.type (type_within types r.code own.type own.is).1,
       below_greatest (weights (λ s. s.length) types) (0 + (r.code - 1)),
     )
-
--- a row with its type's length is no longer than the longest path
-row_short : (types : List SegmentType) (r : Segment) → row_fits types r ≡ true → length r.bytes ≤ longest_path types
-row_short types r fits = row_short_by types r (type_of types r.code) refl fits
 
 rows_short_from : (types : List SegmentType) (path rows : List Segment) (i : ℕ) → valid_from types path rows ≡ true → length (row_at rows i).bytes ≤ longest_path types
 rows_short_from types path [] i valid = omega arith

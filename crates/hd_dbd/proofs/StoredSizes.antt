@@ -9,19 +9,19 @@ use Rattle.hd_dbd.specs.declared.hierarchy.FreeSpace.{FreeSpace}
 use Rattle.hd_dbd.specs.Types.{SegmentType}
 use Rattle.hd_dbd.specs.Hierarchy.{type_of}
 use Rattle.hd_dbd.specs.Prefixes.{prefix_length, rounded_up, stored_size}
-use Rattle.hd_dbd.specs.Facts.{table_from, segment_size, stored_sizes}
+use Rattle.hd_dbd.specs.Facts.{table_from, size_of_type, segment_size, stored_sizes}
 use Rattle.hd_dbd.specs.declared.facts.SegmentSize.TheVariants.{Fixed}
 use Rattle.hd_dbd.specs.DatabaseRules.{well_formed}
 use Rattle.hd_dbd.proofs.Levels.{type_of-later}
 use Rattle.hd_dbd.proofs.Tables.{length-table_from, slice_get-table_from}
 use Rattle.hd_dbd.proofs.Fitting.{type_of-fits, size_part, size_fits, types_fit}
 
-none-past : (types : List SegmentType) (c : ℕ) → length types < c → stored_size types c ≡ 0
+none-past : (types : List SegmentType) (c : ℕ) → length types < c → segment_size types c ≡ Fixed 0
 none-past types c past =
     let at : type_of types c ≡ slice_get types (c - 1) = type_of-later types c (λ z. omega arith) in
     elim (slice_get_cases types (c - 1)).1 [
       | inl found ↦ absurd (omega (arith, found.1))
-      | inr none ↦ ap (λ (o : Option SegmentType). option_map_or (λ t. rounded_up (prefix_length types c + t.length)) o 0) (at ∙ none.1)
+      | inr none ↦ ap (λ (o : Option SegmentType). option_map_or (λ t. size_of_type types c t) o (Fixed 0)) (at ∙ none.1)
     ]
 
 -- the table has each type's, and 0 where there is no type
@@ -34,7 +34,7 @@ stored_sizes-at types (suc i) =
           ∙ ap (segment_size types) (let e : 1 + i ≡ suc i = omega arith in e)
       | inr l ↦
           get_or_past (table_from (segment_size types) 1 (length types)) i (Fixed 0) (omega (arith, length-table_from (segment_size types) 1 (length types)))
-          ∙ ap (λ (n : ℕ). Fixed n) (sym (none-past types (suc i) (omega arith)))
+          ∙ sym (none-past types (suc i) (omega arith))
     ]
 
 size-of : (types : List SegmentType) (c n : ℕ) (o : Option SegmentType) → type_of types c ≡ o → ((t : SegmentType) → o ≡ Some t → stored_size types c + 8 ≤ n) → 8 ≤ n → stored_size types c + 8 ≤ n

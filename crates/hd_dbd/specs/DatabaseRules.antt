@@ -6,6 +6,7 @@ use Rattle.hd_dbd.specs.declared.hierarchy.Field.{Field}
 use Rattle.hd_dbd.specs.declared.hierarchy.FreeSpace.{FreeSpace}
 use Rattle.hd_dbd.specs.Types.{SegmentType}
 use Rattle.hd_dbd.specs.Hierarchy.{level_of}
+use Rattle.hd_dbd.specs.Lengths.{least_length}
 use Rattle.hd_dbd.specs.Prefixes.{stored_size}
 use Rattle.hd_dbd.specs.IndexBlocks.{entry_place}
 
@@ -34,10 +35,16 @@ abbrev pub fields_fit : ℕ → List Field → Bool
 fields_fit len [] = true
 fields_fit len (f ∷ fs) = part_fits len f.start f.length && fields_fit len fs
 
--- B5: the segment has a byte, and its key and its fields lie inside it
+-- where the segments vary, the least of them holds the two bytes that say how many they are, and is no longer than the longest; and a
+-- type whose segments vary is not taken yet
+abbrev pub least_fits : SegmentType → Bool
+least_fits t = option_map_or (λ least. nat_le 2 least && nat_le least t.length) t.least true && is_none t.least
+
+-- B5: the segment has a byte, a least length that fits if they vary, and its key and its fields lie inside the least of them
 abbrev pub parts_fit : SegmentType → Bool
 parts_fit t =
-    nat_lt 0 t.length && option_map_or (λ k. part_fits t.length k.start k.length) t.key true && fields_fit t.length t.fields
+    nat_lt 0 t.length && least_fits t
+    && option_map_or (λ k. part_fits (least_length t) k.start k.length) t.key true && fields_fit (least_length t) t.fields
 
 -- B6: the root has a unique key
 abbrev pub root_key_fits : ℕ → SegmentType → Bool

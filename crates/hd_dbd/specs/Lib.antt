@@ -2,6 +2,7 @@ pub mod Naming
 pub mod Types
 pub mod Segment
 pub mod Hierarchy
+pub mod Lengths
 pub mod Prefixes
 pub mod Facts
 pub mod IndexBlocks

@@ -55,6 +55,10 @@ children_of types p = children_from p 1 types
 abbrev pub rounded_up : ℕ → ℕ
 rounded_up n = (n + 7) / 8 * 8
 
--- the bytes that a segment of the type takes in a block
+-- the bytes that a segment of the type takes in a block, with so many bytes of its own
+abbrev pub size_with : List SegmentType → ℕ → ℕ → ℕ
+size_with types c count = rounded_up (prefix_length types c + count)
+
+-- the bytes that the longest segment of the type takes in a block
 abbrev pub stored_size : List SegmentType → ℕ → ℕ
-stored_size types c = option_map_or (λ t. rounded_up (prefix_length types c + t.length)) (type_of types c) 0
+stored_size types c = option_map_or (λ t. size_with types c t.length) (type_of types c) 0

@@ -14,10 +14,10 @@ front_field name count = record { name = name; start = 1; length = count }
 -- the segment types
 abbrev pub sample_types : List SegmentType
 sample_types =
-    record { name = codes "COURSE  "; parent = None; length = 8; key = Some (record { start = 1; length = 3; unique = true }); rule = Last; backward = true; last_pointer = false; fields = front_field (codes "NUM     ") 3 ∷ [] }
-    ∷ record { name = codes "CLASS   "; parent = Some 1; length = 4; key = Some (record { start = 1; length = 2; unique = true }); rule = Last; backward = true; last_pointer = true; fields = front_field (codes "ED      ") 2 ∷ [] }
-    ∷ record { name = codes "STUD    "; parent = Some 2; length = 6; key = Some (record { start = 1; length = 4; unique = false }); rule = Last; backward = false; last_pointer = false; fields = front_field (codes "SNAME   ") 4 ∷ [] }
-    ∷ record { name = codes "BOOK    "; parent = Some 1; length = 5; key = None; rule = Here; backward = true; last_pointer = true; fields = [] }
+    record { name = codes "COURSE  "; parent = None; length = 8; least = None; key = Some (record { start = 1; length = 3; unique = true }); rule = Last; backward = true; last_pointer = false; fields = front_field (codes "NUM     ") 3 ∷ [] }
+    ∷ record { name = codes "CLASS   "; parent = Some 1; length = 4; least = None; key = Some (record { start = 1; length = 2; unique = true }); rule = Last; backward = true; last_pointer = true; fields = front_field (codes "ED      ") 2 ∷ [] }
+    ∷ record { name = codes "STUD    "; parent = Some 2; length = 6; least = None; key = Some (record { start = 1; length = 4; unique = false }); rule = Last; backward = false; last_pointer = false; fields = front_field (codes "SNAME   ") 4 ∷ [] }
+    ∷ record { name = codes "BOOK    "; parent = Some 1; length = 5; least = None; key = None; rule = Here; backward = true; last_pointer = true; fields = [] }
     ∷ []
 
 -- the database

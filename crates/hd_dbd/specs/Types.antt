@@ -4,12 +4,14 @@ use Rattle.hd_dbd.specs.declared.hierarchy.Field.{Field}
 use Rattle.hd_dbd.specs.declared.hierarchy.Key.{Key}
 use Rattle.hd_dbd.specs.declared.hierarchy.Rule.{Rule}
 
--- A segment type: its name, the code of its parent type, the bytes of its segments, its key, where a new twin without a
--- unique key goes, whether twin backward and its parent's last child pointer are kept, and its fields.
+-- A segment type: its name, the code of its parent type, the bytes of its segments, or where these vary the most and the least
+-- of them, its key, where a new twin without a unique key goes, whether twin backward and its parent's last child pointer are
+-- kept, and its fields.
 pub record SegmentType : Type 0 where
   pub name : List ℕ
   pub parent : Option ℕ
   pub length : ℕ
+  pub least : Option ℕ
   pub key : Option Key
   pub rule : Rule
   pub backward : Bool

@@ -8,6 +8,7 @@ pub enum Status {
     GE,
     GP,
     II,
+    V1,
     DA,
     DJ,
     LB,

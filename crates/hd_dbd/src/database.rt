@@ -1,8 +1,9 @@
-ghost use Rattle.std.specs.Prelude.{◌≡◌, ◌⊎◌, true, is_none, ◌≤◌, Some, None, IsTrue, IfOk, OnOk, IfErr, option_copied};
+ghost use Rattle.std.specs.Prelude.{◌≡◌, ◌⊎◌, true, is_none, ◌≤◌, length, Some, None, IsTrue, IfOk, OnOk, IfErr, option_copied};
 ghost use Rattle.hd_dbd.specs.Hierarchy.{type_of, parent_of, level_of, is_under, longest_path};
-ghost use Rattle.hd_dbd.specs.Prefixes.{is_backward_kept, is_last_kept, prefix_length, pointers_at, children_of, stored_size};
+ghost use Rattle.hd_dbd.specs.Prefixes.{is_backward_kept, is_last_kept, prefix_length, pointers_at, children_of, size_with, stored_size};
 ghost use Rattle.hd_dbd.specs.Facts.{segment_size};
-ghost use Rattle.hd_dbd.specs.Rows.{key_of, keys_in_order};
+ghost use Rattle.hd_dbd.specs.Lengths.{length_in};
+ghost use Rattle.hd_dbd.specs.Rows.{key_of, row_fits, keys_in_order};
 ghost use Rattle.hd_dbd.specs.Loads.{has_unique_key};
 ghost use Rattle.hd_dbd.specs.DatabaseRules.{well_formed};
 ghost use Rattle.hd_dbd.specs.DatabaseFaults.{size_fault, database_fault};
@@ -13,6 +14,7 @@ use crate::facts::{
 };
 use crate::hierarchy::{FreeSpace, SegType};
 use crate::keys::{compare_keys, key_in};
+use crate::lengths::{length_fits, own_length};
 use crate::naming::Name8;
 use crate::rules::{block_size_fits, free_space_fits, types_fault};
 use std::alloc::{AllocError, Global};
@@ -35,7 +37,8 @@ pub enum DbdFault {
     /// A parent that is no earlier type; a root with a parent.
     #[error("type {0}, B4")]
     B4(u8),
-    /// A segment, field or key without a byte, or a field or key outside its segment.
+    /// A segment, field or key without a byte; a least length of fewer than the two bytes that say how many there are, or of
+    /// more than the segment has; or a field or key outside the shortest segment.
     #[error("type {0}, B5")]
     B5(u8),
     /// A root without a unique key.
@@ -296,8 +299,36 @@ impl Dbd {
         children_in(&self.children, code)
     }
 
-    /// The bytes that a segment of the type takes in a block: its prefix and its bytes, rounded up to a multiple of 8;
-    /// 0 for no type.
+    /// These may be the bytes of a segment of the type: as many as the type says, or, where its segments vary, as many as
+    /// their first two say, no fewer and no more than it may have.
+    pub fn row_fits(&self, code: u8, bytes: &[u8]) -> bool
+        ensures { result ≡ row_fits self.now.types (record { code = code; bytes = bytes.now }) }
+    {
+        self.type_of(code)
+            .is_some_and(|segment| length_fits(segment, bytes))
+    }
+
+    /// How many bytes a segment of the type has that begins with these; 0 for no type.
+    pub fn length_in(&self, code: u8, bytes: &[u8]) -> usize
+        ensures { result ≡ length_in self.now.types code bytes.now }
+    {
+        match self.type_of(code) {
+            Some(segment) => own_length(segment, bytes) as usize,
+            None => 0,
+        }
+    }
+
+    /// The bytes that a segment of the type takes in a block, with so many bytes of its own: these and its prefix, rounded up to
+    /// a multiple of 8.
+    pub fn size_with(&self, code: u8, count: usize) -> usize
+        requires { count ≤ 4294967295 }
+        ensures { result ≡ size_with self.now.types code count }
+    {
+        (self.prefix_length(code) as usize + count).div_ceil(8) * 8
+    }
+
+    /// The bytes that the longest segment of the type takes in a block: its prefix and its bytes, rounded up to a multiple
+    /// of 8; 0 for no type.
     pub fn stored_size(&self, code: u8) -> u16
         ensures { result ≡ stored_size self.now.types code }
     {
@@ -308,7 +339,17 @@ impl Dbd {
     pub fn segment_size(&self, code: u8) -> SegmentSize
         ensures { result ≡ segment_size self.now.types code }
     {
-        SegmentSize::Fixed(self.stored_size(code))
+        let Some(segment) = self.type_of(code) else {
+            return SegmentSize::Fixed(0);
+        };
+        match segment.least {
+            Some(least) => SegmentSize::Varying(
+                self.prefix_length(code),
+                least as u16,
+                segment.length as u16,
+            ),
+            None => SegmentSize::Fixed(self.stored_size(code)),
+        }
     }
 
     /// The bytes of the longest path of segments, from a root down.

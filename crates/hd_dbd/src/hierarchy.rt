@@ -34,13 +34,15 @@ pub struct Field {
 }
 
 /// A segment type. Its code is its place among the types of the database, from 1, and `parent` is the code of its
-/// parent type. `length` is that of its segments in bytes; `backward` and `last_pointer` say which pointers are kept:
-/// twin backward in each segment, and last child in each parent.
+/// parent type. `length` is that of its segments in bytes. Where there is a `least` they vary: each has from `least` to
+/// `length` bytes, and its first two say how many, themselves counted. `backward` and `last_pointer` say which pointers
+/// are kept: twin backward in each segment, and last child in each parent.
 #[derive(Debug, Drop)]
 pub struct SegType {
     pub name: Name8,
     pub parent: Option<u8>,
     pub length: u32,
+    pub least: Option<u32>,
     pub key: Option<Key>,
     pub rule: Rule,
     pub backward: bool,
@@ -57,6 +59,7 @@ impl Model for SegType {
       name = t.name;
       parent = t.parent;
       length = t.length;
+      least = t.least;
       key = t.key;
       rule = t.rule;
       backward = t.backward;

@@ -10,6 +10,7 @@ mod fault_law;
 mod hierarchy;
 mod keys;
 mod law;
+mod lengths;
 mod naming;
 mod procopt;
 mod program;
@@ -27,6 +28,7 @@ pub use law::{
     law_sequences_are_valid, law_twins_ascend, law_valid_rows_are_in_sequence,
     law_valid_rows_are_one_forest,
 };
+pub use lengths::{least_length, length_fits};
 pub use naming::Name8;
 pub use procopt::gives_get;
 pub use program::{Pcb, Psb, PsbFault, Sens};

@@ -1,13 +1,14 @@
 ghost use Rattle.std.specs.Prelude.{◌≡◌, ◌+◌, ◌*◌, ◌≤◌, ◌<◌, ◌||◌, IsNone, IsTrue, bytes_eq, length, nat_le, not};
 ghost use Rattle.std.specs.List.{list_any};
 ghost use Rattle.hd_dbd.specs.Hierarchy.{levels_of};
-ghost use Rattle.hd_dbd.specs.DatabaseRules.{block_size_fits, free_space_fits, parent_fits, part_fits, fields_fit, parts_fit, root_key_fits, field_names_differ, names_fit, sizes_fit, key_length_fits, types_fit_from};
+ghost use Rattle.hd_dbd.specs.DatabaseRules.{block_size_fits, free_space_fits, parent_fits, part_fits, fields_fit, least_fits, parts_fit, root_key_fits, field_names_differ, names_fit, sizes_fit, key_length_fits, types_fit_from};
 ghost use Rattle.hd_dbd.specs.IndexBlocks.{entry_place};
 ghost use Rattle.hd_dbd.specs.DatabaseFaults.{type_fault, types_fault_from};
 
 use crate::database::DbdFault;
 use crate::facts::{level_at, stored_size};
 use crate::hierarchy::{Field, FreeSpace, SegType};
+use crate::lengths::least_length;
 use crate::naming::Name8;
 
 pub fn block_size_fits(block_size: u32) -> bool
@@ -60,15 +61,28 @@ fn fields_fit(length: u32, fields: &[Field]) -> bool
     true
 }
 
-/// Whether the segment has a byte, and its key and its fields lie inside it.
+/// Whether a least length holds the two bytes that say how many bytes a segment has, and is no longer than the longest; none
+/// is taken yet.
+fn least_fits(segment: &SegType) -> bool
+    ensures { result ≡ least_fits segment.now }
+{
+    segment
+        .least
+        .is_none_or(|least| 2 <= least && least <= segment.length)
+        && segment.least.is_none()
+}
+
+/// Whether the segment has a byte, a least length that fits if it has one, and its key and its fields lie inside that.
 fn parts_fit(segment: &SegType) -> bool
     ensures { result ≡ parts_fit segment.now }
 {
+    let least = least_length(segment);
     0 < segment.length
+        && least_fits(segment)
         && segment
             .key
-            .is_none_or(|key| part_fits(segment.length, key.start, key.length))
-        && fields_fit(segment.length, &segment.fields)
+            .is_none_or(|key| part_fits(least, key.start, key.length))
+        && fields_fit(least, &segment.fields)
 }
 
 /// Whether the root has a unique key.

@@ -1,7 +1,7 @@
 -- The lines that a run prints, one for each entry of its log.
 use Rattle.std.specs.Prelude.{ℕ, ◌+◌, ◌/◌, ◌%◌, List, [], ◌∷◌, ◌++◌, Bool, cond, not, nat_le, nat_lt, ◌&&◌, ◌==◌, Option, codes, decimal, replicate, flat_map, unwrap_or, Result, Ok, Err}
 use Rattle.hd_dbd.specs.declared.answer.Status.{Status}
-use Rattle.hd_dbd.specs.declared.answer.Status.TheVariants.{Blank, GA, GK, GB, GE, GP, II, DA, DJ, LB, LC, LD, LE, AC, AD, AH, AJ, AK, AM}
+use Rattle.hd_dbd.specs.declared.answer.Status.TheVariants.{Blank, GA, GK, GB, GE, GP, II, V1, DA, DJ, LB, LC, LD, LE, AC, AD, AH, AJ, AK, AM}
 use Rattle.hd_dbd.specs.declared.answer.Refused.{Refused}
 use Rattle.hd_dbd.specs.declared.answer.Refused.TheVariants as refused
 use Rattle.hd_dbd.specs.Logs.{Outcome, replied, area, full, memory, Entry, Log}
@@ -17,6 +17,7 @@ status_text GB = codes "GB"
 status_text GE = codes "GE"
 status_text GP = codes "GP"
 status_text II = codes "II"
+status_text V1 = codes "V1"
 status_text DA = codes "DA"
 status_text DJ = codes "DJ"
 status_text LB = codes "LB"

@@ -54,6 +54,15 @@ pub const STATUS_CODES: &[Explanation] = &[
                Nothing was inserted. Use another key, or get the twin with a hold and replace it.",
     },
     Entry {
+        word: "V1",
+        kind: Kind::Status,
+        summary: "a segment of variable length says a wrong length",
+        text: "The segments of the type vary in length: the first two bytes of one, the higher first, say how many\n\
+               it has, themselves counted. In the area of an ISRT or REPL they say a length that the type does not\n\
+               allow, or more bytes than the area has left. Nothing was inserted or replaced, and a hold has ended.\n\
+               Correct the two bytes, or the bytes behind them.",
+    },
+    Entry {
         word: "DA",
         kind: Kind::Status,
         summary: "a REPL would change a key",
@@ -167,8 +176,9 @@ pub const REFUSALS: &[Explanation] = &[
         kind: Kind::Refusal,
         summary: "the I/O area has a wrong length",
         text: "An ISRT takes as many bytes as the segments that it inserts have, and a REPL as many as all that is\n\
-               held. Nothing was changed, a hold still stands, and a deck goes on. Correct the bytes of the D and H\n\
-               lines; a blank at a line's end counts.",
+               held; a segment that varies in length has as many as its first two bytes say. Nothing was changed, a\n\
+               hold still stands, and a deck goes on. Correct the bytes of the D and H lines; a blank at a line's\n\
+               end counts.",
     },
     Entry {
         word: "Memory",

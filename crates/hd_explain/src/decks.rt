@@ -85,8 +85,9 @@ pub const STREAM_FAULTS: &[Explanation] = &[
         word: "U4",
         kind: Kind::StreamFault,
         summary: "a wrong length, or a wrong end",
-        text: "The record's length is not that of its type; or at the end the number of records is wrong, or bytes\n\
-               follow it. The DBD gives the type another length than at the unload, or the stream is damaged. Use\n\
-               the DBD of the unload, or unload again.",
+        text: "The type may not have segments of the record's length, or they vary and the first two bytes of this\n\
+               one say another; or at the end the number of records is wrong, or bytes follow it. The DBD gives the\n\
+               type other lengths than at the unload, or the stream is damaged. Use the DBD of the unload, or\n\
+               unload again.",
     },
 ];

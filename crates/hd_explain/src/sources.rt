@@ -108,10 +108,11 @@ pub const SOURCE_FAULTS: &[Explanation] = &[
     Entry {
         word: "B5",
         kind: Kind::SourceFault,
-        summary: "a segment, field or key without a byte, or outside its segment",
-        text: "BYTES is 0, in the segment or in one of its fields, or a field does not lie inside the segment.\n\
-               START counts from 1, and START and BYTES of a field together are at most one more than BYTES of its\n\
-               segment. Correct BYTES or START.",
+        summary: "no byte, a wrong least length, or a field or key outside its segment",
+        text: "BYTES is 0, in the segment or in one of its fields; or of BYTES=(max,min) min is below 2 or above\n\
+               max; or a field does not lie inside its segment, or inside the shortest where they vary. START\n\
+               counts from 1, and START and BYTES of a field together are at most one more than BYTES of its\n\
+               segment, or than min. A type with BYTES=(max,min) is not taken yet. Correct BYTES or START.",
     },
     Entry {
         word: "B6",
@@ -131,9 +132,10 @@ pub const SOURCE_FAULTS: &[Explanation] = &[
         word: "B8",
         kind: Kind::SourceFault,
         summary: "a segment, or the index, does not fit into a block",
-        text: "The segment with its prefix, rounded up to a multiple of 8, has more bytes than a block without its\n\
-               first 8. Or, with type 1, the root's key is so long that three entries of the index do not fit into\n\
-               a block. Make SIZE of the DATASET statement larger, or the segment or the key smaller.",
+        text: "The longest segment of the type, with its prefix and rounded up to a multiple of 8, has more bytes\n\
+               than a block without its first 8. Or, with type 1, the root's key is so long that three entries of\n\
+               the index do not fit into a block. Make SIZE of the DATASET statement larger, or the segment or the\n\
+               key smaller.",
     },
     Entry {
         word: "B9",

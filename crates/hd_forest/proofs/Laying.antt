@@ -8,21 +8,22 @@ use Rattle.hd_dbd.specs.declared.hierarchy.FreeSpace.{FreeSpace}
 use Rattle.hd_dbd.specs.Types.{SegmentType}
 use Rattle.hd_dbd.specs.Segment.{Segment}
 use Rattle.hd_dbd.specs.Hierarchy.{Database, type_of}
-use Rattle.hd_dbd.specs.Prefixes.{is_backward_kept, stored_size}
+use Rattle.hd_dbd.specs.Prefixes.{is_backward_kept, size_with}
 use Rattle.hd_dbd.specs.Rows.{row_fits}
 use Rattle.hd_dbd.specs.Facts.{stored_sizes}
 use Rattle.hd_dbd.specs.DatabaseRules.{well_formed}
 use Rattle.hd_dbd.proofs.StoredSizes.{block_size-bounds}
-use Rattle.hd_block.proofs.SizeLemmas.{size-fixed}
+use Rattle.hd_dbd.proofs.TypeLengths.{row-type, row-begins}
 use Rattle.hd_volume.specs.Volumes.{VolumeState}
 use Rattle.hd_volume.specs.Rooms.{HasHole}
 use Rattle.hd_volume.specs.Calls.{IsPut}
 use Rattle.hd_prefix.specs.declared.pointer.Pointer.TheVariants.{TwinForward, TwinBackward, FirstChild, LastChild}
 use Rattle.hd_prefix.specs.Pointers.{place_of}
-use Rattle.hd_prefix.specs.Fields.{new_segment, IsPointerSet, IsNewSegment}
+use Rattle.hd_prefix.specs.Fields.{bytes_of, new_segment, IsPointerSet, IsNewSegment}
 use Rattle.hd_prefix.proofs.Places.{inside_some}
-use Rattle.hd_prefix.proofs.Fitting.{row_is}
-use Rattle.hd_prefix.proofs.Sizes.{stored_long}
+use Rattle.hd_prefix.proofs.Fitting.{row_prefix}
+use Rattle.hd_prefix.proofs.Sizes.{size_long}
+use Rattle.hd_image.proofs.RowSizes.{row-takes}
 use Rattle.hd_prefix.proofs.NewSegments.{new_segment_is}
 use Rattle.hd_image.specs.Records.{IsVolumeOf}
 use Rattle.hd_image.specs.Laws.{IsDatabase}
@@ -39,12 +40,6 @@ pub record AreLaid (types : List SegmentType) (c : ℕ) (row : List ℕ) (y x : 
   pub forward : OnSome (place_of types c TwinForward) (IsPointerSet types c TwinForward x s0 s1)
   pub same : MatchOption (place_of types c TwinBackward) (s2 ≡ s1) (λ p. ChangesOnly p 4 s1 s2)
   pub backward : OnSome (place_of types c TwinBackward) (IsPointerSet types c TwinBackward y s1 s2)
-
--- a type that a row fits is there
-type-of-row : (types : List SegmentType) (c : ℕ) (row : List ℕ) (o : Option SegmentType) → type_of types c ≡ o → row_fits types (record { code = c; bytes = row }) ≡ true
-    → (t : SegmentType) × (type_of types c ≡ Some t)
-type-of-row types c row None is fits = absurd (false≢true (sym (ap (λ o. option_map_or (λ (t : SegmentType). length row == t.length) o false) is) ∙ fits))
-type-of-row types c row (Some t) is fits = (t, is)
 
 -- with twin forward alone
 pub half-leaf : (types : List SegmentType) (c : ℕ) (row : List ℕ) (x : ℕ) (s0 s1 : List ℕ) → IsNewSegment types c row s0 → IsPointerSet types c TwinForward x s0 s1
@@ -100,19 +95,19 @@ forward-by {P} x o t is h = subst (λ z. OnSome (option_map (λ _. x) z) P) is h
 pub laid-leaf : (block_size : ℕ) (frspc : FreeSpace) (types : List SegmentType) (c : ℕ) (row : List ℕ) (y x : ℕ) (s0 s1 s2 : List ℕ) → IsTrue (well_formed block_size frspc types)
     → row_fits types (record { code = c; bytes = row }) ≡ true → AreLaid types c row y x s0 s1 s2 → IsLeaf types (record { code = c; bytes = row }) y x s2
 laid-leaf block_size frspc types c row y x s0 s1 s2 fit fits h =
-    let own = type-of-row types c row (type_of types c) refl fits in
-    let fitting = row_is types c row fits in
+    let own = row-type types (record { code = c; bytes = row }) fits in
     let new : IsNewSegment types c row s0 = subst (λ s. IsNewSegment types c row s) (sym h.new)
-    (new_segment_is types c row fitting.0 fitting.1 (λ pointer. inside_some block_size frspc types c pointer (place_of types c pointer) fit refl)) in
-    backward-by types c row y x s1 s2 (place_of types c TwinBackward) refl (half-leaf types c row x s0 s1 new (forward-by 2 (type_of types c) own.0 own.1 h.forward)) h.same h.backward
+    (new_segment_is types c row (row_prefix types c row fits) (λ behind same. row-begins block_size frspc types c row behind fit fits same) (λ pointer. inside_some block_size frspc types c pointer (place_of types c pointer) fit refl)) in
+    backward-by types c row y x s1 s2 (place_of types c TwinBackward) refl (half-leaf types c row x s0 s1 new (forward-by 2 (type_of types c) own.type own.is h.forward)) h.same h.backward
 
 -- ---- the leaf is put
 
-pub put-whole : (types : List SegmentType) (row : Segment) (y x : ℕ) (segment : List ℕ) (sizes : List SegmentSize) → IsLeaf types row y x segment → row_fits types row ≡ true → sizes ≡ stored_sizes types
-    → (0 < length segment) × (size_at sizes segment 0 ≡ length segment)
-put-whole types row y x segment sizes leaf fits is = (
-  some _ _ _ _ (row_is types row.code row.bytes fits).0 (stored_long types row.code) leaf.size,
-  ap (λ (s : List SegmentSize). size_at s segment 0) is ∙ size-fixed types segment 0 ∙ ap (stored_size types) leaf.code ∙ sym leaf.size,
+pub put-whole : (block_size : ℕ) (frspc : FreeSpace) (types : List SegmentType) (row : Segment) (y x : ℕ) (segment : List ℕ) (sizes : List SegmentSize) → IsTrue (well_formed block_size frspc types)
+    → IsLeaf types row y x segment → row_fits types row ≡ true → sizes ≡ stored_sizes types → (0 < length segment) × (size_at sizes segment 0 ≡ length segment)
+put-whole block_size frspc types row y x segment sizes fit leaf fits is = (
+  some _ _ _ _ (row_prefix types row.code row.bytes fits) (size_long types row.code (length row.bytes)).0 leaf.size,
+  ap (λ (s : List SegmentSize). size_at s segment 0) is
+      ∙ row-takes block_size frspc types row.code row.bytes segment fit fits leaf.code leaf.bytes ∙ sym leaf.size,
 )
   where
     some : (p n s l : ℕ) → 2 ≤ p → p + n ≤ s → l ≡ s → 0 < l

@@ -1,12 +1,13 @@
 -- What is read of a volume's records, and what reading leaves of them.
-use Rattle.std.proofs.Common.{◌≡◌, ℕ, ◌≤◌, IsTrue, List, length, Ok, Some, sym, subst, ◌∙◌, arith}
+use Rattle.std.proofs.Common.{◌≡◌, ℕ, ◌≤◌, IsTrue, List, length, Ok, Some, sym, ap, subst, ◌∙◌, arith}
 use Rattle.hd_dbd.specs.Types.{SegmentType}
-use Rattle.hd_dbd.specs.Hierarchy.{Database}
-use Rattle.hd_dbd.specs.Prefixes.{stored_size}
+use Rattle.hd_dbd.specs.Hierarchy.{Database, type_of}
+use Rattle.hd_dbd.specs.Lengths.{least_length}
+use Rattle.hd_dbd.specs.Prefixes.{prefix_length}
 use Rattle.hd_volume.specs.Volumes.{VolumeState}
 use Rattle.hd_volume.specs.Records.{find}
 use Rattle.hd_volume.specs.Calls.{IsRead}
-use Rattle.hd_prefix.specs.Fields.{code_of}
+use Rattle.hd_prefix.specs.Fields.{code_of, length_of, IsWhole}
 use Rattle.hd_links.specs.Links.{Links, IsSegment}
 use Rattle.hd_links.specs.Placed.{Holds}
 use Rattle.hd_image.specs.Records.{links_of, IsVolumeOf, stored_at}
@@ -44,10 +45,12 @@ after-read d u v r s =
 
 -- ---- one segment
 
--- What is found at a segment's address is stored there, as long as its type's segments are.
+-- What is found at a segment's address is stored there, with its prefix and its own bytes, no fewer than its type asks.
 pub record IsLent (types : List SegmentType) (v : VolumeState) (a : ℕ) (s : List ℕ) : Type 0 where
   pub stored : stored_at v a ≡ s
-  pub long : stored_size types (code_of s) ≤ length s
+  pub prefix : prefix_length types (code_of s) ≤ length s
+  pub whole : IsWhole types (code_of s) s
+  pub least : (t : SegmentType) → type_of types (code_of s) ≡ Some t → least_length t ≤ length_of types (code_of s) s
 
 -- two that are there and equal are one
 some-eq : {A : Type 0} (x y : A) → Some x ≡ Some y → x ≡ y
@@ -58,10 +61,14 @@ pub lent : (d : Database) (v : VolumeState) (a : ℕ) (s : List ℕ) → IsDatab
 lent d v a s fit of there is =
     let h = segment-found d v a fit of there in
     let same : h.bytes ≡ s = some-eq h.bytes s (sym h.is ∙ is) in
-    let size : length h.bytes ≡ stored_size d.types (code_of h.bytes) = h.size in
+    let whole : IsWhole d.types (code_of s) s = subst (λ x. IsWhole d.types (code_of x) x) same h.whole in
+    let least : least_length h.own ≤ length_of d.types (code_of s) s = subst (λ x. least_length h.own ≤ length_of d.types (code_of x) x) same h.least in
+    let typed : type_of d.types (code_of s) ≡ Some h.own = ap (λ x. type_of d.types (code_of x)) (sym same) ∙ h.typed in
     record {
       stored = stored-found d v a h ∙ same;
-      long = subst (λ x. stored_size d.types (code_of x) ≤ length x) same (omega arith);
+      prefix = omega (arith, whole);
+      whole = whole;
+      least = λ t is. subst (λ u. least_length u ≤ length_of d.types (code_of s) s) (some-eq h.own t (sym typed ∙ is)) least;
     }
 
 -- a store that is sound after a call that read was so before

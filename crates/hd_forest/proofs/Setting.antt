@@ -9,7 +9,7 @@ use Rattle.hd_bytes.specs.Numbers.{number_at}
 use Rattle.hd_dbd.specs.declared.hierarchy.FreeSpace.{FreeSpace}
 use Rattle.hd_dbd.specs.Types.{SegmentType}
 use Rattle.hd_dbd.specs.Hierarchy.{Database, type_of, parent_of}
-use Rattle.hd_dbd.specs.Prefixes.{is_backward_kept, prefix_length, stored_size, pointers_at, children_of}
+use Rattle.hd_dbd.specs.Prefixes.{is_backward_kept, prefix_length, pointers_at, children_of}
 use Rattle.hd_dbd.specs.DatabaseRules.{well_formed}
 use Rattle.hd_dbd.proofs.Levels.{type_of-zero}
 use Rattle.hd_dbd.proofs.Fitting.{types_fit, type_of-fits, parent_part, IsEarlier}
@@ -19,8 +19,8 @@ use Rattle.hd_volume.specs.Calls.{IsWritten, HasNewHeader, HasSegment}
 use Rattle.hd_prefix.specs.declared.pointer.Pointer.{Pointer}
 use Rattle.hd_prefix.specs.declared.pointer.Pointer.TheVariants.{TwinForward, TwinBackward, FirstChild, LastChild}
 use Rattle.hd_prefix.specs.Pointers.{is_child, place_of}
+use Rattle.hd_volume.specs.Records.{find}
 use Rattle.hd_prefix.specs.Fields.{code_of}
-use Rattle.hd_prefix.proofs.Sizes.{stored_long}
 use Rattle.hd_prefix.proofs.Listed.{children_listed}
 use Rattle.hd_prefix.proofs.Children.{child_is}
 use Rattle.hd_links.specs.Links.{Links, IsSegment, is_child_type, is_last_kept}
@@ -185,10 +185,20 @@ pub pointer-room : (d : Database) (v : VolumeState) (a c place n : ℕ) → IsDa
 pointer-room d v a c place n fit of s is inside four =
     let h = segment-found d v a fit of s in
     let code : c ≡ code_of h.bytes = sym is ∙ ap code_of (stored-found d v a h) in
-    record { bytes = h.bytes; is = h.is; long = room _ _ _ _ _ _ inside (stored_long d.types c) four (h.size ∙ ap (stored_size d.types) (sym code)) }
+    record { bytes = h.bytes; is = h.is; long = room _ _ _ _ _ _ inside (ap (prefix_length d.types) code) h.whole four }
   where
-    room : (place p m s n l : ℕ) → place + 4 ≤ p → p + m ≤ s → n ≡ 4 → l ≡ s → place + n ≤ l
-    room place p m s n l e f g h = omega arith
+    room : (place p q m n l : ℕ) → place + 4 ≤ p → p ≡ q → q + m ≤ l → n ≡ 4 → place + n ≤ l
+    room place p q m n l e f g h = omega arith
+
+-- which lie in its prefix
+pub pointer-inside : (types : List SegmentType) (v : VolumeState) (a c place n : ℕ) → (links_of types v).code a ≡ c → place + 4 ≤ prefix_length types c → n ≡ 4
+    → (s : List ℕ) → find v a ≡ Some s → place + n ≤ prefix_length types (code_of s)
+pointer-inside types v a c place n is inside four s found =
+    let code : c ≡ code_of s = sym is ∙ ap (λ (o : Option (List ℕ)). code_of (option_map_or (λ x. x) o [])) found in
+    inner _ _ _ _ inside (ap (prefix_length types) code) four
+  where
+    inner : (place p q n : ℕ) → place + 4 ≤ p → p ≡ q → n ≡ 4 → place + n ≤ q
+    inner place p q n e f g = omega arith
 
 pub recorded-written : (d : Database) (v w : VolumeState) (pointer : Pointer) (a c place x : ℕ) (bytes : List ℕ) → IsDatabase d → IsVolumeOf d v → w.size ≡ v.size → w.sizes ≡ v.sizes
     → IsSegment (links_of d.types v) a → (links_of d.types v).code a ≡ c → place_of d.types c pointer ≡ Some place → length bytes ≡ 4 → number_at 4 bytes 0 ≡ x

@@ -1,10 +1,9 @@
 -- The first of a chain of twins whose key is not below a key.
 use Rattle.std.proofs.Common.{◌≡◌, ℕ, zero, suc, ◌+◌, ◌-◌, ◌<◌, ◌≤◌, List, [], length, take, drop, Bool, true, false, cond, Option, Some, None, IsTrue, ap, sym, ◌∙◌, refl, subst, arith}
-use Rattle.std.specs.Prelude.{◌&&◌, nat_lt, nat_le, option_map, option_and_then}
+use Rattle.std.specs.Prelude.{option_map, option_and_then}
 use Rattle.std.specs.Option.{option_map_or}
 use Rattle.std.specs.Ordering.{nat_cmp, is_lt}
 use Rattle.std.specs.Cmp.Lexicographic.{slice_cmp}
-use Rattle.std.proofs.lemmas.Bool.{and_parts, leb-true, ltb-true}
 use Rattle.std.proofs.lemmas.List.{drop-drop, drop-take, take-take}
 use Rattle.hd_bytes.specs.Ranges.{bytes_at}
 use Rattle.hd_bytes.specs.Numbers.{number_at}
@@ -14,15 +13,15 @@ use Rattle.hd_dbd.specs.Types.{SegmentType}
 use Rattle.hd_dbd.specs.Segment.{Segment}
 use Rattle.hd_dbd.specs.Hierarchy.{type_of, part_of}
 use Rattle.hd_dbd.specs.Rows.{key_of}
-use Rattle.hd_dbd.specs.DatabaseRules.{well_formed, part_fits, parts_fit}
+use Rattle.hd_dbd.specs.DatabaseRules.{well_formed}
+use Rattle.hd_dbd.specs.Lengths.{least_length}
 use Rattle.hd_dbd.specs.Paths.{is_twin}
-use Rattle.hd_dbd.specs.Prefixes.{twin_part, child_parts, prefix_length, stored_size}
+use Rattle.hd_dbd.specs.Prefixes.{twin_part, child_parts, prefix_length}
 use Rattle.hd_dbd.specs.Searches.{first_from, least_within}
 use Rattle.hd_dbd.specs.Forest.{Forest}
-use Rattle.hd_dbd.proofs.Fitting.{type_of-fits, types_fit}
+use Rattle.hd_dbd.proofs.TypeLengths.{type-lengths}
 use Rattle.hd_prefix.specs.declared.pointer.Pointer.TheVariants.{TwinForward}
-use Rattle.hd_prefix.specs.Fields.{pointer_of, bytes_of, length_of}
-use Rattle.hd_prefix.proofs.Sizes.{length_is, stored_long}
+use Rattle.hd_prefix.specs.Fields.{pointer_of, bytes_of, length_of, IsWhole}
 use Rattle.hd_links.specs.Links.{Links, IsSegment, segment_at}
 use Rattle.hd_links.specs.Pointers.{PointersAreTyped}
 use Rattle.hd_links.specs.Placed.{Placed}
@@ -42,16 +41,12 @@ part_in s place len start n within =
     ∙ take-take n (len - (start - 1)) (drop (start - 1) (drop place s)) (omega arith)
     ∙ ap (λ (xs : List ℕ). take n xs) (drop-drop (start - 1) place s)
 
--- a key lies inside its segments
+-- a key lies inside the shortest of its segments
 key_fits : (size : ℕ) (frspc : FreeSpace) (types : List SegmentType) (c : ℕ) (t : SegmentType) (k : Key) → IsTrue (well_formed size frspc types) → type_of types c ≡ Some t
-    → t.key ≡ Some k → (k.start - 1) + k.length ≤ t.length
+    → t.key ≡ Some k → (k.start - 1) + k.length ≤ least_length t
 key_fits size frspc types c t k fit is has =
-    let all = type_of-fits size types c t (types_fit size frspc types fit) is in
-    let parts : parts_fit t ≡ true = (and_parts _ _ (and_parts _ _ (and_parts _ _ (and_parts _ _ (and_parts _ _ all).0).0).0).0).1 in
-    let key : part_fits t.length k.start k.length ≡ true = sym (ap (λ (o : Option Key). option_map_or (λ k. part_fits t.length k.start k.length) o true) has) ∙ (and_parts _ _ (and_parts _ _ parts).0).1 in
-    let P = and_parts (nat_lt 0 k.length && nat_lt 0 k.start) (nat_le (k.start + k.length) (t.length + 1)) key in
-    let low : 0 < k.start = ltb-true 0 k.start (and_parts _ _ P.0).1 in
-    inner k.start k.length t.length low (leb-true (k.start + k.length) (t.length + 1) P.1)
+    let key = (type-lengths size frspc types c t fit is).key k has in
+    inner k.start k.length (least_length t) key.1 key.2
   where
     inner : (start n len : ℕ) → 0 < start → start + n ≤ len + 1 → (start - 1) + n ≤ len
     inner start n len low high = omega arith
@@ -63,31 +58,30 @@ pub record IsRead (types : List SegmentType) (c : ℕ) (places : TwinPlaces) (ke
   pub forward : number_at 4 s places.forward ≡ pointer_of types c TwinForward s
   pub long : places.forward + 4 ≤ length s
 
-module _ (size : ℕ) (frspc : FreeSpace) (types : List SegmentType) (fit : IsTrue (well_formed size frspc types)) (c : ℕ) (key s : List ℕ) (long : stored_size types c ≤ length s) where
+module _ (size : ℕ) (frspc : FreeSpace) (types : List SegmentType) (fit : IsTrue (well_formed size frspc types)) (c : ℕ) (key s : List ℕ)
+    (whole : IsWhole types c s) (least : (t : SegmentType) → type_of types c ≡ Some t → least_length t ≤ length_of types c s) where
   read_at : (t : SegmentType) (k : Key) → type_of types c ≡ Some t → t.key ≡ Some k → IsRead types c (places_of types c k 2) key s
   read_at t k is has =
-      let inside : (k.start - 1) + k.length ≤ t.length = key_fits size frspc types c t k fit is has in
-      let len : length_of types c ≡ t.length = length_is types c (Some t) is in
+      let inside : (k.start - 1) + k.length ≤ length_of types c s = (let low = key_fits size frspc types c t k fit is has in let enough = least t is in omega arith) in
       let prefix : prefix_length types c ≡ twin_part c t + child_parts c types = ap (λ (o : Option SegmentType). option_map_or (λ t. twin_part c t + child_parts c types) o 0) is in
       let some : 6 ≤ twin_part c t = least_part c t in
-      let room : prefix_length types c + length_of types c ≤ stored_size types c = stored_long types c in
       record {
         key_is = sym (ap (λ (o : Option SegmentType). option_map_or (λ t. option_map_or (λ k. is_lt (slice_cmp nat_cmp (part_of (bytes_of types c s) k.start k.length) key)) t.key false) o false) is
             ∙ ap (λ (o : Option Key). option_map_or (λ k. is_lt (slice_cmp nat_cmp (part_of (bytes_of types c s) k.start k.length) key)) o false) has
-            ∙ ap (λ (xs : List ℕ). is_lt (slice_cmp nat_cmp xs key)) (part_in s (prefix_length types c) (length_of types c) k.start k.length (omega arith)));
+            ∙ ap (λ (xs : List ℕ). is_lt (slice_cmp nat_cmp xs key)) (part_in s (prefix_length types c) (length_of types c s) k.start k.length inside));
         has_key = sym (ap (λ (o : Option SegmentType). option_map_or (λ t. option_map_or (λ k. part_of (bytes_of types c s) k.start k.length) t.key []) o []) is
             ∙ ap (λ (o : Option Key). option_map_or (λ k. part_of (bytes_of types c s) k.start k.length) o []) has
-            ∙ part_in s (prefix_length types c) (length_of types c) k.start k.length (omega arith));
+            ∙ part_in s (prefix_length types c) (length_of types c s) k.start k.length inside);
         forward = sym (ap (λ (o : Option SegmentType). option_map_or (λ place. number_at 4 s place) (option_map (λ _. 2) o) 0) is);
         long = omega arith;
       }
     where
-      least : (b : Bool) → 6 ≤ cond b 10 6
-      least true = omega arith
-      least false = omega arith
+      sizes : (b : Bool) → 6 ≤ cond b 10 6
+      sizes true = omega arith
+      sizes false = omega arith
 
       least_part : (c : ℕ) (t : SegmentType) → 6 ≤ twin_part c t
-      least_part c t = least _
+      least_part c t = sizes _
 
   -- the places of a type are where its segments have twin forward and the key
   pub places_read : (places : TwinPlaces) → twin_places types c ≡ Some places → IsRead types c places key s

@@ -3,7 +3,7 @@ use Rattle.std.specs.Prelude.{◌≡◌, ℕ, ◌+◌, ◌-◌, ◌<◌, ◌≤�
 use Rattle.hd_dbd.specs.Types.{SegmentType}
 use Rattle.hd_dbd.specs.Hierarchy.{Database}
 use Rattle.hd_dbd.specs.Segment.{Segment}
-use Rattle.hd_dbd.specs.Prefixes.{is_backward_kept, stored_size}
+use Rattle.hd_dbd.specs.Prefixes.{is_backward_kept, size_with}
 use Rattle.hd_volume.specs.Headers.{header_of}
 use Rattle.hd_volume.specs.Volumes.{VolumeState}
 use Rattle.hd_volume.specs.Rooms.{spare, HasHole}
@@ -16,7 +16,7 @@ use Rattle.hd_forest.specs.Updates.{KeepsTheRest}
 
 -- The segment is that of a row between its twins y and x, with no child.
 pub record IsLeaf (types : List SegmentType) (row : Segment) (y x : ℕ) (segment : List ℕ) : Type 0 where
-  pub size : length segment ≡ stored_size types row.code
+  pub size : length segment ≡ size_with types row.code (length row.bytes)
   pub code : code_of segment ≡ row.code
   pub delete_byte : delete_byte_of segment ≡ 0
   pub bytes : bytes_of types row.code segment ≡ row.bytes
@@ -37,5 +37,5 @@ pub record IsLeafPut (d : Database) (old : VolumeState) (row : Segment) (y x a :
   pub count : (header_of old.image).count ≤ (header_of new.image).count
   pub grows : (header_of new.image).count ≤ (header_of old.image).count + 1
   pub spares : spare old ≤ spare new + 1
-  pub in_hole : HasHole old (stored_size d.types row.code) → spare new ≡ spare old
-  pub holes : (n : ℕ) → stored_size d.types row.code < n → HasHole old n → HasHole new (n - stored_size d.types row.code)
+  pub in_hole : HasHole old (size_with d.types row.code (length row.bytes)) → spare new ≡ spare old
+  pub holes : (n : ℕ) → size_with d.types row.code (length row.bytes) < n → HasHole old n → HasHole new (n - size_with d.types row.code (length row.bytes))

@@ -1,9 +1,9 @@
 -- What the calls that change the linked forest do to a volume.
-use Rattle.std.specs.Prelude.{◌≡◌, ℕ, ◌+◌, ◌-◌, ◌<◌, ◌≤◌, List, false}
+use Rattle.std.specs.Prelude.{◌≡◌, ℕ, ◌+◌, ◌-◌, ◌<◌, ◌≤◌, List, false, length}
 use Rattle.hd_dbd.specs.Types.{SegmentType}
 use Rattle.hd_dbd.specs.Hierarchy.{Database}
 use Rattle.hd_dbd.specs.Segment.{Segment}
-use Rattle.hd_dbd.specs.Prefixes.{stored_size}
+use Rattle.hd_dbd.specs.Prefixes.{size_with}
 use Rattle.hd_dbd.specs.Forest.{Forest}
 use Rattle.hd_volume.specs.Headers.{header_of}
 use Rattle.hd_volume.specs.Volumes.{VolumeState, IsKind, HasKinds}
@@ -41,8 +41,8 @@ pub record IsLinked (d : Database) (old : VolumeState) (h y : ℕ) (row : Segmen
   pub count : (header_of old.image).count ≤ (header_of new.image).count
   pub grows : (header_of new.image).count ≤ (header_of old.image).count + 1
   pub spares : spare old ≤ spare new + 1
-  pub in_hole : HasHole old (stored_size d.types row.code) → spare new ≡ spare old
-  pub holes : (n : ℕ) → stored_size d.types row.code < n → HasHole old n → HasHole new (n - stored_size d.types row.code)
+  pub in_hole : HasHole old (size_with d.types row.code (length row.bytes)) → spare new ≡ spare old
+  pub holes : (n : ℕ) → size_with d.types row.code (length row.bytes) < n → HasHole old n → HasHole new (n - size_with d.types row.code (length row.bytes))
 
 -- The last row of the path was unlinked, with all below it, and their room is free: the records, and each forest that they
 -- held, are without its span.

@@ -1,7 +1,7 @@
 ghost use Rattle.std.specs.Prelude.{◌≡◌, ◌+◌, ◌≤◌, ◌<◌, true, length, IsTrue, IfOk, IfErr, OnOk};
 ghost use Rattle.hd_dbd.specs.Rows.{row_fits};
 ghost use Rattle.hd_dbd.specs.Facts.{stored_sizes};
-ghost use Rattle.hd_dbd.specs.Prefixes.{prefix_length, stored_size};
+ghost use Rattle.hd_dbd.specs.Prefixes.{prefix_length, size_with};
 ghost use Rattle.hd_dbd.specs.DatabaseRules.{well_formed};
 ghost use Rattle.hd_dbd.specs.Refusals.{OnlyDevice, OnlyRoomOrDevice};
 ghost use Rattle.hd_volume.specs.Rooms.{spare, HasHole, HasFreeBlock};
@@ -39,10 +39,10 @@ pub fn link<S: BlockStore>(
     ensures call { IsCall volume.old result volume.new }
     ensures linked { IfOk result (λ a. IsTrue volume.old.is_sound → IsLinked dbd.now volume.old parent after (record { code = code; bytes = bytes.now }) a volume.new) }
     ensures kept { IfErr result (λ _. IsTrue volume.new.is_sound → volume.new.image ≡ volume.old.image) }
-    ensures full { IfErr result (λ e. e ≡ Refused.Full → IsTrue volume.old.is_sound → (spare volume.old ≡ 0) × (HasHole volume.old (stored_size dbd.now.types code) → ⊥)) }
+    ensures full { IfErr result (λ e. e ≡ Refused.Full → IsTrue volume.old.is_sound → (spare volume.old ≡ 0) × (HasHole volume.old (size_with dbd.now.types code (length bytes.now)) → ⊥)) }
     ensures memory { IfErr result (λ e. e ≡ Refused.Memory → volume.old.room ≡ 0) }
     ensures no_free { IfErr result (λ e. e ≡ Refused.Memory → IsTrue volume.old.is_sound → HasFreeBlock volume.old → ⊥) }
-    ensures no_hole { IfErr result (λ e. e ≡ Refused.Memory → IsTrue volume.old.is_sound → HasHole volume.old (stored_size dbd.now.types code) → ⊥) }
+    ensures no_hole { IfErr result (λ e. e ≡ Refused.Memory → IsTrue volume.old.is_sound → HasHole volume.old (size_with dbd.now.types code (length bytes.now)) → ⊥) }
     ensures refusal { OnlyRoomOrDevice result }
     ensures room { IsTrue volume.new.is_sound → volume.old.room ≤ volume.new.room + 1 }
 {
@@ -52,7 +52,7 @@ pub fn link<S: BlockStore>(
     Ok(address)
 }
 
-/// Replaces the bytes of a segment by others with the same key.
+/// Replaces the bytes of a segment by as many others with the same key.
 pub fn replace<S: BlockStore>(
     volume: &mut Volume<S>,
     dbd: &Dbd,
@@ -61,6 +61,7 @@ pub fn replace<S: BlockStore>(
 ) -> Result<(), Refused>
     requires of { IsTrue volume.old.is_sound → IsVolumeOf dbd.now volume.old }
     requires there { IsTrue volume.old.is_sound → CanReplace dbd.now.types (links_of dbd.now.types volume.old) address bytes.now }
+    requires long { IsTrue volume.old.is_sound → length bytes.now ≡ length ((links_of dbd.now.types volume.old).bytes address) }
     ensures call { IsCall volume.old result volume.new }
     ensures replaced { OnOk result (IsTrue volume.old.is_sound → IsReplaced dbd.now volume.old address bytes.now volume.new) }
     ensures refusal { OnlyDevice result }

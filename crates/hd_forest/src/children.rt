@@ -1,5 +1,5 @@
 ghost use Rattle.std.specs.Prelude.{◌≡◌, ◌≤◌, length, IsTrue, IfOk};
-ghost use Rattle.hd_dbd.specs.Prefixes.{stored_size, children_of};
+ghost use Rattle.hd_dbd.specs.Prefixes.{prefix_length, children_of};
 ghost use Rattle.hd_dbd.specs.Refusals.{OnlyDevice};
 ghost use Rattle.hd_volume.specs.Calls.{IsRead};
 ghost use Rattle.hd_prefix.specs.Fields.{code_of};
@@ -27,7 +27,7 @@ fn later_than(code: u8, types: &[u8]) -> &[u8]
 
 /// The first child that a lent segment names, of some types in order, 0 for none.
 fn child_in(dbd: &Dbd, segment: &[u8], types: &[u8]) -> u32
-    ensures { stored_size dbd.now.types (code_of segment.now) ≤ length segment.now → result ≡ child_in dbd.now.types segment.now types.now }
+    ensures { prefix_length dbd.now.types (code_of segment.now) ≤ length segment.now → result ≡ child_in dbd.now.types segment.now types.now }
 {
     for code in types {
         let child = pointer_in(dbd, segment, Pointer::FirstChild(*code));
@@ -50,7 +50,7 @@ fn comes_before(end: Option<u8>, code: u8) -> bool
 
 /// The last type of which a lent segment names a first child, of some types in order up to before one, if one is given; 0 for none.
 fn last_named_in(dbd: &Dbd, segment: &[u8], end: Option<u8>, types: &[u8]) -> u8
-    ensures { stored_size dbd.now.types (code_of segment.now) ≤ length segment.now → result ≡ last_named_in dbd.now.types segment.now end 0 types.now }
+    ensures { prefix_length dbd.now.types (code_of segment.now) ≤ length segment.now → result ≡ last_named_in dbd.now.types segment.now end 0 types.now }
 {
     let mut last = 0;
     for code in types {

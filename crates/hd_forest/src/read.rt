@@ -1,5 +1,5 @@
 ghost use Rattle.std.specs.Prelude.{◌≡◌, ◌<◌, ◌≤◌, true, length, IsTrue, IfOk};
-ghost use Rattle.hd_dbd.specs.Prefixes.{stored_size};
+ghost use Rattle.hd_dbd.specs.Prefixes.{prefix_length};
 ghost use Rattle.hd_dbd.specs.Refusals.{OnlyDevice};
 ghost use Rattle.hd_volume.specs.Calls.{IsRead};
 ghost use Rattle.hd_prefix.specs.Fields.{code_of, pointer_of};
@@ -22,12 +22,12 @@ pub fn code_in(segment: &[u8]) -> u8
     segment.first().copied().unwrap_or(0)
 }
 
-/// The address in a pointer of a lent segment, 0 where it is shorter than its type's segments.
+/// The address in a pointer of a lent segment, 0 where it is shorter than its type's prefix.
 pub fn pointer_in(dbd: &Dbd, segment: &[u8], pointer: Pointer) -> u32
-    ensures { stored_size dbd.now.types (code_of segment.now) ≤ length segment.now → result ≡ pointer_of dbd.now.types (code_of segment.now) pointer segment.now }
+    ensures { prefix_length dbd.now.types (code_of segment.now) ≤ length segment.now → result ≡ pointer_of dbd.now.types (code_of segment.now) pointer segment.now }
 {
     let layout = Layout::of(dbd, code_in(segment));
-    if segment.len() < layout.stored_size() as usize {
+    if segment.len() < layout.prefix_length() as usize {
         return 0;
     }
     layout.read(segment, pointer)

@@ -19,7 +19,7 @@ use std::{fs, io};
 fn add_row(text: &mut Vec<u8>, dbd: &Dbd, segment: &[u8]) -> Result<(), AllocError> {
     if !segment.is_empty() {
         let layout = Layout::of(dbd, code_of(segment));
-        if layout.stored_size() as usize <= segment.len() {
+        if layout.is_whole(segment) {
             text.extend_from_slice(layout.bytes(segment))?;
         }
     }

@@ -3,7 +3,7 @@ use Rattle.std.proofs.Common.{◌≡◌, ℕ, ◌+◌, List, [], ◌∷◌, ◌+
 use Rattle.std.specs.Prelude.{replicate, unwrap_or}
 use Rattle.std.specs.Int.{w16, w32, to_be_bytes}
 use Rattle.hd_dbd.specs.declared.answer.Status.{Status}
-use Rattle.hd_dbd.specs.declared.answer.Status.TheVariants.{Blank, GA, GK, GB, GE, GP, II, DA, DJ, LB, LC, LD, LE, AC, AD, AH, AJ, AK, AM}
+use Rattle.hd_dbd.specs.declared.answer.Status.TheVariants.{Blank, GA, GK, GB, GE, GP, II, V1, DA, DJ, LB, LC, LD, LE, AC, AD, AH, AJ, AK, AM}
 use Rattle.hd_dbd.specs.Calls.{Reply}
 use Rattle.hd_frames.specs.Frames.{frame_bytes}
 use Rattle.hd_frames.specs.Answers.{status_text, answer_bytes}
@@ -17,6 +17,7 @@ two-letters GB = refl
 two-letters GE = refl
 two-letters GP = refl
 two-letters II = refl
+two-letters V1 = refl
 two-letters DA = refl
 two-letters DJ = refl
 two-letters LB = refl

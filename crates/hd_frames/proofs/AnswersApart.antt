@@ -6,7 +6,7 @@ use Rattle.std.proofs.lemmas.Bool.{cond-false, and_parts, eqb-true, ne_eqb, leb-
 use Rattle.std.proofs.lemmas.List.{take_at, drop_at}
 use Rattle.std.proofs.lemmas.Nat.{from_be_bytes-to_be_bytes_2}
 use Rattle.hd_dbd.specs.declared.answer.Status.{Status}
-use Rattle.hd_dbd.specs.declared.answer.Status.TheVariants.{Blank, GA, GK, GB, GE, GP, II, DA, DJ, LB, LC, LD, LE, AC, AD, AH, AJ, AK, AM}
+use Rattle.hd_dbd.specs.declared.answer.Status.TheVariants.{Blank, GA, GK, GB, GE, GP, II, V1, DA, DJ, LB, LC, LD, LE, AC, AD, AH, AJ, AK, AM}
 use Rattle.hd_dbd.specs.Naming.{is_name, is_letter, is_name_rest}
 use Rattle.hd_dbd.specs.Calls.{Reply}
 use Rattle.hd_frames.specs.Answers.{status_text, answer_bytes}
@@ -17,10 +17,10 @@ use Rattle.hd_frames.proofs.Answers.{two-letters}
 abbrev status-of : List ℕ → Status
 status-of xs =
     cond (bytes_eq xs (codes "GA")) GA (cond (bytes_eq xs (codes "GK")) GK (cond (bytes_eq xs (codes "GB")) GB (cond (bytes_eq xs (codes "GE")) GE
-    (cond (bytes_eq xs (codes "GP")) GP (cond (bytes_eq xs (codes "II")) II (cond (bytes_eq xs (codes "DA")) DA (cond (bytes_eq xs (codes "DJ")) DJ
-    (cond (bytes_eq xs (codes "LB")) LB (cond (bytes_eq xs (codes "LC")) LC (cond (bytes_eq xs (codes "LD")) LD (cond (bytes_eq xs (codes "LE")) LE
-    (cond (bytes_eq xs (codes "AC")) AC (cond (bytes_eq xs (codes "AD")) AD (cond (bytes_eq xs (codes "AH")) AH (cond (bytes_eq xs (codes "AJ")) AJ
-    (cond (bytes_eq xs (codes "AK")) AK (cond (bytes_eq xs (codes "AM")) AM Blank)))))))))))))))))
+    (cond (bytes_eq xs (codes "GP")) GP (cond (bytes_eq xs (codes "II")) II (cond (bytes_eq xs (codes "V1")) V1 (cond (bytes_eq xs (codes "DA")) DA
+    (cond (bytes_eq xs (codes "DJ")) DJ (cond (bytes_eq xs (codes "LB")) LB (cond (bytes_eq xs (codes "LC")) LC (cond (bytes_eq xs (codes "LD")) LD
+    (cond (bytes_eq xs (codes "LE")) LE (cond (bytes_eq xs (codes "AC")) AC (cond (bytes_eq xs (codes "AD")) AD (cond (bytes_eq xs (codes "AH")) AH
+    (cond (bytes_eq xs (codes "AJ")) AJ (cond (bytes_eq xs (codes "AK")) AK (cond (bytes_eq xs (codes "AM")) AM Blank))))))))))))))))))
 
 status-told : (s : Status) → status-of (status_text s) ≡ s
 status-told Blank = refl
@@ -30,6 +30,7 @@ status-told GB = refl
 status-told GE = refl
 status-told GP = refl
 status-told II = refl
+status-told V1 = refl
 status-told DA = refl
 status-told DJ = refl
 status-told LB = refl

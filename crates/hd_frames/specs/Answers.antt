@@ -2,7 +2,7 @@
 use Rattle.std.specs.Prelude.{ℕ, List, ◌∷◌, ◌++◌, length, codes, replicate, unwrap_or}
 use Rattle.std.specs.Int.{w16, to_be_bytes}
 use Rattle.hd_dbd.specs.declared.answer.Status.{Status}
-use Rattle.hd_dbd.specs.declared.answer.Status.TheVariants.{Blank, GA, GK, GB, GE, GP, II, DA, DJ, LB, LC, LD, LE, AC, AD, AH, AJ, AK, AM}
+use Rattle.hd_dbd.specs.declared.answer.Status.TheVariants.{Blank, GA, GK, GB, GE, GP, II, V1, DA, DJ, LB, LC, LD, LE, AC, AD, AH, AJ, AK, AM}
 use Rattle.hd_dbd.specs.declared.answer.Refused.{Refused}
 use Rattle.hd_dbd.specs.declared.answer.Refused.TheVariants.{Memory, Full, Device, Broken, Area}
 use Rattle.hd_dbd.specs.Calls.{Reply}
@@ -15,6 +15,7 @@ status_text GB = codes "GB"
 status_text GE = codes "GE"
 status_text GP = codes "GP"
 status_text II = codes "II"
+status_text V1 = codes "V1"
 status_text DA = codes "DA"
 status_text DJ = codes "DJ"
 status_text LB = codes "LB"

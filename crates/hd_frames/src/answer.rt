@@ -28,6 +28,7 @@ fn status_text(status: Status) -> [u8; 2]
         Status::GE => *b"GE",
         Status::GP => *b"GP",
         Status::II => *b"II",
+        Status::V1 => *b"V1",
         Status::DA => *b"DA",
         Status::DJ => *b"DJ",
         Status::LB => *b"LB",

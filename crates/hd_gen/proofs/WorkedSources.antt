@@ -1,10 +1,11 @@
 -- Worked sources, computed by the definitions themselves: an edit of a definition that changes what a source says is
 -- refused here.
-use Rattle.std.proofs.Common.{◌≡◌, ℕ, List, [], ◌++◌, refl}
-use Rattle.std.specs.Prelude.{codes, Ok, Err}
-use Rattle.hd_dbd.specs.declared.database.DbdFault.TheVariants.{B6, B10}
+use Rattle.std.proofs.Common.{◌≡◌, ℕ, List, [], ◌∷◌, ◌++◌, refl}
+use Rattle.std.specs.Prelude.{codes, Some, Ok, Err}
+use Rattle.hd_dbd.specs.declared.database.DbdFault.TheVariants.{B5, B6, B10}
 use Rattle.hd_dbd.specs.declared.program.PsbFault.TheVariants.{P1, P4}
 use Rattle.hd_dbd.specs.ProgramRules.{type_names}
+use Rattle.hd_dbd.specs.Types.{SegmentType}
 use Rattle.hd_dbd.specs.Sample.{sample_types, sample_database, sample_pcbs}
 use Rattle.hd_gen.specs.declared.fault.GenFault.TheVariants.{G1, G2, G3, G4, G5, Dbd, Psb}
 use Rattle.hd_gen.specs.Sources.{dbd_of, psb_of}
@@ -56,9 +57,32 @@ other_statement = refl
 pub no_dbdgen : dbd_of (source_with dataset root field []) ≡ Err (G2 12)
 no_dbdgen = refl
 
--- a variable length
-pub variable_length : dbd_of (source_with dataset (codes "         SEGM  NAME=COURSE,PARENT=0,BYTES=(8,4)\n") field end) ≡ Err (G3 3)
+-- segments that vary in length: the most bytes stand first, and the key of three bytes lies inside the least
+abbrev varying_root : List ℕ → List ℕ
+varying_root bytes = codes "         SEGM  NAME=COURSE,PARENT=0,BYTES=" ++ bytes ++ codes ",PTR=TB\n"
+
+pub variable_length : dbd_of (source_with dataset (varying_root (codes "(8,4)")) field end) ≡ Err (Dbd (B5 1))
 variable_length = refl
+
+pub most_below_least : dbd_of (source_with dataset (varying_root (codes "(4,8)")) field end) ≡ Err (Dbd (B5 1))
+most_below_least = refl
+
+pub key_beyond_least : dbd_of (source_with dataset (varying_root (codes "(8,2)")) field end) ≡ Err (Dbd (B5 1))
+key_beyond_least = refl
+
+-- lengths that are no pair, and a pair without a number
+pub pair_of_one : dbd_of (source_with dataset (varying_root (codes "(8)")) field end) ≡ Err (G3 3)
+pair_of_one = refl
+
+pub pair_of_three : dbd_of (source_with dataset (varying_root (codes "(8,4,2)")) field end) ≡ Err (G3 3)
+pair_of_three = refl
+
+pub pair_of_a_word : dbd_of (source_with dataset (varying_root (codes "(8,X)")) field end) ≡ Err (G4 3)
+pair_of_a_word = refl
+
+-- a field does not vary
+pub pair_of_a_field : dbd_of (source_with dataset root (codes "         FIELD NAME=(NUM,SEQ,U),BYTES=(3,2),START=1\n") end) ≡ Err (G3 5)
+pair_of_a_field = refl
 
 -- a parent that is no name
 pub number_for_parent : dbd_of (source_with dataset (codes "         SEGM  NAME=COURSE,PARENT=1,BYTES=8\n") field end) ≡ Err (G4 3)

@@ -43,6 +43,7 @@ segment_type types g name len =
       name = name;
       parent = option_map (λ p. code_of types p) g.parent.name;
       length = len;
+      least = g.least;
       key = None;
       rule = g.rule;
       backward = g.backward;

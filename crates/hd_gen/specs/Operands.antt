@@ -18,7 +18,7 @@ use Rattle.hd_gen.specs.declared.table.Meaning.TheVariants as meanings
 use Rattle.hd_gen.specs.declared.value.Wrong.{Wrong}
 use Rattle.hd_gen.specs.declared.value.Wrong.TheVariants.{NotSupported, IllFormed}
 use Rattle.hd_gen.specs.Tables.{look_up, operands_of, main_keyword, positionings, usual_block_size}
-use Rattle.hd_gen.specs.Values.{Value, value_in, only_if, name_in, number_in, is_access, block_size_in, free_space_in, parent_in, seen_parent_in, twins_in, rule_in, field_in, is_data_type, index_in, is_word, database_in, letters_in}
+use Rattle.hd_gen.specs.Values.{Value, value_in, only_if, name_in, number_in, bytes_in, is_access, block_size_in, free_space_in, parent_in, seen_parent_in, twins_in, rule_in, field_in, is_data_type, index_in, is_word, database_in, letters_in}
 use Rattle.hd_lines.specs.Reading.{then}
 
 -- What the operands of a statement give. Without them POINTER is TWIN, RULES is LAST, a PARENT is 0, the child pointer is
@@ -29,7 +29,9 @@ pub record Given : Type 0 where
   pub block_size : ℕ
   pub frspc : FreeSpace
   pub parent : Parent
+  -- the bytes, or of a SEGM whose segments vary the most of them, and the least
   pub length : Option ℕ
+  pub least : Option ℕ
   pub backward : Bool
   pub rule : Rule
   -- for a sequence field, whether it is unique
@@ -49,6 +51,7 @@ nothing_given =
       frspc = record { fbff = 0; fspf = 0 };
       parent = record { name = None; last_pointer = false };
       length = None;
+      least = None;
       backward = false;
       rule = Last;
       unique = None;
@@ -71,6 +74,7 @@ with_value c meanings.FreeSpace g v = then (free_space_in v) (λ x. Ok (record g
 with_value c meanings.Parent g v = then (parent_in v) (λ x. Ok (record g { parent = x }))
 with_value c meanings.SeenParent g v = then (seen_parent_in v) (λ x. Ok (record g { parent = x }))
 with_value c meanings.Length g v = then (number_in v) (λ x. Ok (record g { length = Some x }))
+with_value c meanings.SegmentBytes g v = then (bytes_in v) (λ x. Ok (record g { length = Some x.length; least = x.least }))
 with_value c meanings.Twins g v = then (twins_in c.is_root v) (λ x. Ok (record g { backward = x }))
 with_value c meanings.Rules g v = then (rule_in v) (λ x. Ok (record g { rule = x }))
 with_value c meanings.FieldName g v = then (field_in v) (λ f. with_field c.has_key g f)

@@ -74,7 +74,7 @@ operands_of operations.Dataset =
     entry (codes "SIZE") meanings.BlockSize ∷ entry (codes "FRSPC") meanings.FreeSpace ∷ entry (codes "DD1") meanings.NotUsed
     ∷ entry (codes "DEVICE") meanings.NotUsed ∷ entry (codes "SCAN") meanings.NotUsed ∷ entry (codes "MODEL") meanings.NotUsed ∷ []
 operands_of operations.Segm =
-    entry (codes "NAME") meanings.Name ∷ entry (codes "PARENT") meanings.Parent ∷ entry (codes "BYTES") meanings.Length
+    entry (codes "NAME") meanings.Name ∷ entry (codes "PARENT") meanings.Parent ∷ entry (codes "BYTES") meanings.SegmentBytes
     ∷ entry (codes "POINTER") meanings.Twins ∷ entry (codes "PTR") meanings.Twins ∷ entry (codes "RULES") meanings.Rules
     ∷ entry (codes "FREQ") meanings.NotUsed ∷ []
 operands_of operations.Field =

@@ -10,6 +10,7 @@ use Rattle.hd_dbd.specs.declared.hierarchy.Rule.{Rule}
 use Rattle.hd_dbd.specs.Naming.{is_name}
 use Rattle.hd_gen.specs.declared.operand.FieldName.{FieldName}
 use Rattle.hd_gen.specs.declared.operand.Parent.{Parent}
+use Rattle.hd_gen.specs.declared.operand.SegmentBytes.{SegmentBytes}
 use Rattle.hd_gen.specs.declared.value.Wrong.{Wrong}
 use Rattle.hd_gen.specs.declared.value.Wrong.TheVariants.{NotSupported, IllFormed}
 use Rattle.hd_gen.specs.Tables.{look_up, twin_pointers, child_pointers, twin_rules, sequence_fields, access_methods, data_types}
@@ -113,6 +114,12 @@ name_in value = Err NotSupported
 abbrev pub number_in : Value → Result ℕ Wrong
 number_in (word w) = number_of w
 number_in value = Err NotSupported
+
+-- BYTES of a SEGM: n, or (max,min) where its segments vary in length
+abbrev pub bytes_in : Value → Result SegmentBytes Wrong
+bytes_in (listed (two most least)) = then (number_of most) (λ length. then (number_of least) (λ n. Ok (record { length = length; least = Some n })))
+bytes_in (word w) = then (number_of w) (λ length. Ok (record { length = length; least = None }))
+bytes_in value = Err NotSupported
 
 -- ACCESS=HIDAM, (HIDAM), (HIDAM,VSAM) or (HIDAM,OSAM)
 abbrev pub is_access : Value → Bool

@@ -125,6 +125,7 @@ fn segment_type(
         name,
         parent: given.parent.name.map(|parent| code_of(types, &parent)),
         length,
+        least: given.least,
         key: None,
         rule: given.rule,
         backward: given.backward,

@@ -8,9 +8,9 @@ ghost use Rattle.hd_lines.specs.Reading.{then};
 
 use crate::fault::GenFault;
 use crate::operand::{
-    FieldName, Parent, block_size_in, database_in, field_in, free_space_in, index_in, is_access,
-    is_data_type, is_database_type, is_index_pointer, is_positioning, letters_in, name_in,
-    number_in, parent_in, rule_in, seen_parent_in, twins_in,
+    FieldName, Parent, block_size_in, bytes_in, database_in, field_in, free_space_in, index_in,
+    is_access, is_data_type, is_database_type, is_index_pointer, is_positioning, letters_in,
+    name_in, number_in, parent_in, rule_in, seen_parent_in, twins_in,
 };
 use crate::table::{Meaning, Operation, main_keyword, meaning_of};
 use crate::value::{Value, Wrong, value_in};
@@ -35,7 +35,9 @@ pub(crate) struct Given<'a> {
     pub block_size: u32,
     pub frspc: FreeSpace,
     pub parent: Parent,
+    /// The bytes, or of a SEGM whose segments vary the most of them, and the least.
     pub length: Option<u32>,
+    pub least: Option<u32>,
     pub backward: bool,
     pub rule: Rule,
     /// For a sequence field, whether it is unique.
@@ -60,6 +62,7 @@ impl<'a> Model for Given<'a> {
       frspc = g.frspc;
       parent = g.parent;
       length = g.length;
+      least = g.least;
       backward = g.backward;
       rule = g.rule;
       unique = g.unique;
@@ -85,6 +88,7 @@ fn nothing_given<'a>() -> Given<'a>
             last_pointer: false,
         },
         length: None,
+        least: None,
         backward: false,
         rule: Rule::Last,
         unique: None,
@@ -137,6 +141,11 @@ fn with_value<'a>(
         Meaning::Parent => given.parent = parent_in(value)?,
         Meaning::SeenParent => given.parent = seen_parent_in(value)?,
         Meaning::Length => given.length = Some(number_in(value)?),
+        Meaning::SegmentBytes => {
+            let bytes = bytes_in(value)?;
+            given.length = Some(bytes.length);
+            given.least = bytes.least;
+        }
         Meaning::Twins => given.backward = twins_in(context.is_root, value)?,
         Meaning::Rules => given.rule = rule_in(value)?,
         Meaning::FieldName => return with_field(context.has_key, given, field_in(value)?),

@@ -3,7 +3,7 @@ ghost use Rattle.std.specs.List.{list_all};
 ghost use Rattle.std.specs.Result.{result_map_both};
 ghost use Rattle.hd_gen.specs.Shapes.{value_of, words_of};
 ghost use Rattle.hd_gen.specs.Tables.{look_up, child_pointers, twins, twin_pointers, twin_rules, sequence_fields, access_methods, data_types, positionings};
-ghost use Rattle.hd_gen.specs.Values.{word, name_of, is_one_of, name_in, number_in, is_access, block_size_in, free_space_in, parent_of_words, parent_in, seen_parent_in, twins_in, rule_in, field_in, is_data_type, index_in, is_word, database_in, letters_in};
+ghost use Rattle.hd_gen.specs.Values.{word, name_of, is_one_of, name_in, number_in, bytes_in, is_access, block_size_in, free_space_in, parent_of_words, parent_in, seen_parent_in, twins_in, rule_in, field_in, is_data_type, index_in, is_word, database_in, letters_in};
 ghost use Rattle.hd_lines.specs.Reading.{then};
 
 use crate::value::{Value, Words, Wrong, name_of, number_of};
@@ -14,6 +14,13 @@ use hd_dbd::{FreeSpace, Name8, Rule};
 pub(crate) struct Parent {
     pub name: Option<Name8>,
     pub last_pointer: bool,
+}
+
+/// BYTES of a SEGM: the bytes of its segments, or the most of them, and the least where they vary.
+#[derive(Clone, Copy)]
+pub(crate) struct SegmentBytes {
+    pub length: u32,
+    pub least: Option<u32>,
 }
 
 /// A field's name; where it is a sequence field, whether that is unique.
@@ -37,6 +44,23 @@ pub(crate) fn number_in(value: Value<'_>) -> Result<u32, Wrong>
 {
     match value {
         Value::Word(word) => number_of(word),
+        _ => Err(Wrong::NotSupported),
+    }
+}
+
+/// BYTES of a SEGM: n, or (max,min) where its segments vary in length.
+pub(crate) fn bytes_in(value: Value<'_>) -> Result<SegmentBytes, Wrong>
+    ensures { result ≡ bytes_in (value_of value.entry) }
+{
+    match value {
+        Value::Listed(Words::Two(most, least)) => Ok(SegmentBytes {
+            length: number_of(most)?,
+            least: Some(number_of(least)?),
+        }),
+        Value::Word(word) => Ok(SegmentBytes {
+            length: number_of(word)?,
+            least: None,
+        }),
         _ => Err(Wrong::NotSupported),
     }
 }

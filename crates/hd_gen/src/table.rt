@@ -45,6 +45,7 @@ pub(crate) enum Meaning {
     Parent,
     SeenParent,
     Length,
+    SegmentBytes,
     Twins,
     Rules,
     FieldName,
@@ -162,7 +163,7 @@ fn segm_operand(keyword: &[u8]) -> Option<Meaning>
     match keyword {
         b"NAME" => Some(Meaning::Name),
         b"PARENT" => Some(Meaning::Parent),
-        b"BYTES" => Some(Meaning::Length),
+        b"BYTES" => Some(Meaning::SegmentBytes),
         b"POINTER" | b"PTR" => Some(Meaning::Twins),
         b"RULES" => Some(Meaning::Rules),
         b"FREQ" => Some(Meaning::NotUsed),

@@ -34,14 +34,7 @@ levels_among types as_ = filter_map (λ a. cond a.commands.path (Some (level_of 
 
 -- a type's parent has a level
 parent_some : (types : List SegmentType) (L : Leveled types) (c p : ℕ) → parent_of types c ≡ Some p → 0 < level_of types p
-parent_some types L c p is = by (type_of types c) refl is
-  where
-    by : (o : Option SegmentType) → type_of types c ≡ o → option_and_then (λ t. t.parent) o ≡ Some p → 0 < level_of types p
-    by None e h = cc
-    by (Some t) e h =
-        let zeros : List ℕ = replicate t.length 0 in
-        L.parents (record { code = c; bytes = zeros }) p
-        (ap (λ (o : Option SegmentType). option_map_or (λ u. length zeros == u.length) o false) e ∙ eq-eqb (length zeros) t.length (length-replicate t.length 0)) is
+parent_some types L c p is = L.above c p is
 
 -- so has each type above a type
 above_some : (types : List SegmentType) (L : Leveled types) (n c above : ℕ) → is_under_within types n c above ≡ true → 0 < level_of types above

@@ -1,7 +1,6 @@
-ghost use Rattle.std.specs.Prelude.{◌≡◌, ◌≤◌, ◌==◌, ◌&&◌, ◌||◌, not, length, IfOk};
+ghost use Rattle.std.specs.Prelude.{◌≡◌, ◌==◌, ◌&&◌, ◌||◌, not, length, IfOk};
 ghost use Rattle.hd_dbd.specs.Refusals.{OnlyDevice};
-ghost use Rattle.hd_dbd.specs.Prefixes.{stored_size};
-ghost use Rattle.hd_prefix.specs.Fields.{code_of};
+ghost use Rattle.hd_prefix.specs.Fields.{code_of, IsWhole};
 ghost use Rattle.hd_calls.specs.Satisfies.{qualifies};
 ghost use Rattle.hd_volume.specs.Calls.{IsRead};
 ghost use Rattle.hd_seek.specs.Keys.{is_ssa_past, is_past};
@@ -72,7 +71,7 @@ fn look_of(dbd: &Dbd, ssas: &[ResolvedSsa<'_>], code: u8, bytes: &[u8]) -> Look
 
 /// What a look at a lent segment tells.
 fn look_in(dbd: &Dbd, ssas: &[ResolvedSsa<'_>], segment: &[u8]) -> Look
-    ensures { stored_size dbd.now.types (code_of segment.now) ≤ length segment.now → result ≡ look_of dbd.now.types ssas.now (stored_row dbd.now.types segment.now) }
+    ensures { IsWhole dbd.now.types (code_of segment.now) segment.now → result ≡ look_of dbd.now.types ssas.now (stored_row dbd.now.types segment.now) }
 {
     let code = segment.first().copied().unwrap_or(0);
     look_of(dbd, ssas, code, bytes_in(dbd, segment))

@@ -141,6 +141,7 @@ fn segment_type(alloc: Global, code: u8, own: PlainType) -> Result<SegType, Allo
         name: type_name(code),
         parent: Some(own.parent).filter(|parent| *parent > 0),
         length: 4,
+        least: None,
         key: Some(Key {
             start: 1,
             length: 2,

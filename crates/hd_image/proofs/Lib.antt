@@ -2,6 +2,7 @@ pub mod SameRecords
 pub mod OneImage
 pub mod Roots
 pub mod Found
+pub mod RowSizes
 pub mod Saying
 pub mod Writes
 pub mod Puts

@@ -1,11 +1,13 @@
 -- Bytes that are written into a segment of a database's volume.
-use Rattle.std.proofs.Common.{◌≡◌, ◌≢◌, ℕ, ◌<◌, List, ◌==◌, refl, sym, ap, subst, ◌∙◌, Some, arith, ne_eqb, inl, inr}
+use Rattle.std.proofs.Common.{◌≡◌, ◌≢◌, ℕ, ◌+◌, ◌≤◌, ◌<◌, List, length, true, ◌==◌, refl, sym, ap, subst, ◌∙◌, Some, arith, ne_eqb, inl, inr}
 use Rattle.std.proofs.lemmas.Bool.{cases_eq, eq-eqb, cond-true, cond-false}
 use Rattle.hd_bytes.specs.Numbers.{number_at}
 use Rattle.hd_bytes.specs.Ranges.{with_bytes}
 use Rattle.hd_dbd.specs.Types.{SegmentType}
 use Rattle.hd_dbd.specs.Prefixes.{prefix_length}
 use Rattle.hd_dbd.specs.Rows.{row_fits}
+use Rattle.hd_dbd.proofs.TypeLengths.{row-begins}
+use Rattle.hd_bytes.proofs.BlockLemmas.{length-bytes_at}
 use Rattle.hd_volume.specs.Headers.{Header, header_of}
 use Rattle.hd_volume.specs.Volumes.{VolumeState}
 use Rattle.hd_volume.specs.Records.{find}
@@ -13,9 +15,9 @@ use Rattle.hd_volume.specs.Calls.{IsWritten}
 use Rattle.hd_prefix.specs.declared.pointer.Pointer.{Pointer}
 use Rattle.hd_prefix.specs.declared.pointer.Pointer.TheVariants.{TwinForward, TwinBackward, FirstChild, LastChild}
 use Rattle.hd_prefix.specs.Pointers.{place_of}
-use Rattle.hd_prefix.specs.Fields.{code_of, pointer_of, bytes_of, IsPointerSet, IsBytesSet}
+use Rattle.hd_prefix.specs.Fields.{code_of, pointer_of, length_of, bytes_of, IsPointerSet, IsBytesSet}
 use Rattle.hd_prefix.proofs.Places.{inside_some, apart_some}
-use Rattle.hd_prefix.proofs.Fitting.{row_is}
+use Rattle.hd_prefix.proofs.Fitting.{row_prefix}
 use Rattle.hd_prefix.proofs.Writes.{pointer_with, bytes_with}
 use Rattle.hd_links.specs.Links.{Links}
 use Rattle.hd_links.specs.Changes.{replaced}
@@ -58,7 +60,7 @@ writing-sets d v w pointer a place bytes fit of after s at four written =
     pointer_with d.types (code_of h.bytes) pointer place bytes h.bytes kept
     (inside_some d.block_size d.frspc d.types (code_of h.bytes) pointer (Some place) fit (sym kept))
     (apart_some d.block_size d.frspc d.types (code_of h.bytes) pointer (Some place) fit (sym kept))
-    (let size = h.size in omega arith) four in
+    (omega (arith, h.whole)) four in
     λ b. same-agree d.types (with_pointer (links_of d.types v) pointer a (number_at 4 bytes 0)) (links_of d.types w) b
     (with-same (links_of d.types v) (links_of d.types w) pointer a (number_at 4 bytes 0)
     (set-at d.types v w pointer a (number_at 4 bytes 0) h.bytes (with_bytes h.bytes place bytes) h.some h.is (written.is h.bytes h.is) set)
@@ -99,13 +101,16 @@ replaced-at types v w a bytes s t some was is set =
     }
 
 pub writing-replaces : WritingReplacesBytes
-writing-replaces d v w a bytes fit of after s fits written b =
+writing-replaces d v w a bytes fit of after s fits len written b =
     let h = segment-found d v a fit of s in
     let c : ℕ = code_of h.bytes in
     let code : code_of (stored_at v a) ≡ c = ap code_of (stored-found d v a h) in
-    let row = row_is d.types c bytes (ap (λ k. row_fits d.types (record { code = k; bytes = bytes })) (sym code) ∙ fits) in
+    let row : row_fits d.types (record { code = c; bytes = bytes }) ≡ true = ap (λ k. row_fits d.types (record { code = k; bytes = bytes })) (sym code) ∙ fits in
+    let own : length bytes ≡ length_of d.types c h.bytes =
+    len ∙ ap (λ (x : List ℕ). length (bytes_of d.types (code_of x) x)) (stored-found d v a h) ∙ length-bytes_at h.bytes (prefix_length d.types c) (length_of d.types c h.bytes) h.whole in
     let set : IsBytesSet d.types c bytes h.bytes (with_bytes h.bytes (prefix_length d.types c) bytes) =
-    bytes_with d.types c bytes h.bytes row.0 row.1 (λ pointer. inside_some d.block_size d.frspc d.types c pointer (place_of d.types c pointer) fit refl) (let size = h.size in omega arith) in
+    bytes_with d.types c bytes h.bytes (row_prefix d.types c bytes row) (λ behind same. row-begins d.block_size d.frspc d.types c bytes behind fit row same)
+    (λ pointer. inside_some d.block_size d.frspc d.types c pointer (place_of d.types c pointer) fit refl) (omega (arith, own, h.whole)) in
     let stored : find w a ≡ Some (with_bytes h.bytes (prefix_length d.types c) bytes) = written.is h.bytes h.is ∙ ap (λ k. Some (with_bytes h.bytes (prefix_length d.types k) bytes)) code in
     same-agree d.types (replaced (links_of d.types v) a bytes) (links_of d.types w) b (elim (cases_eq b a) [
       | inl e ↦ subst (λ (k : ℕ). SameAt (replaced (links_of d.types v) a bytes) (links_of d.types w) k) (sym e)

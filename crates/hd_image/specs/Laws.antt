@@ -66,12 +66,12 @@ FreeingTakesARecord =
     (types : List SegmentType) (v w : VolumeState) (a : ℕ) → IsSegment (links_of types v) a → IsFreed v a w
     → Agree types (without_record (links_of types v) a) (links_of types w)
 
--- A row's bytes that were written behind a segment's prefix change its bytes alone.
+-- A row's bytes that were written behind a segment's prefix, as many as it has, change its bytes alone.
 abbrev pub WritingReplacesBytes : Type 0
 WritingReplacesBytes =
     (d : Database) (v w : VolumeState) (a : ℕ) (bytes : List ℕ) → IsDatabase d → IsVolumeOf d v → IsVolumeOf d w
     → IsSegment (links_of d.types v) a → row_fits d.types (record { code = (links_of d.types v).code a; bytes = bytes }) ≡ true
-    → IsWritten v a (prefix_length d.types ((links_of d.types v).code a)) bytes w
+    → length bytes ≡ length ((links_of d.types v).bytes a) → IsWritten v a (prefix_length d.types ((links_of d.types v).code a)) bytes w
     → Agree d.types (replaced (links_of d.types v) a bytes) (links_of d.types w)
 
 -- A volume holds one forest of a database at most.

@@ -16,6 +16,7 @@ fn root_type(alloc: Global, key_length: u32) -> Result<Vec<SegType>, AllocError>
         name: Name8::from_padded(*b"ROOT    ").unwrap(),
         parent: None,
         length: key_length,
+        least: None,
         key: Some(Key {
             start: 1,
             length: key_length,

@@ -117,7 +117,7 @@ begin-roots d v w x f y n more p H may P I E room =
     let root : has_root (p.segment ∷ []) ≡ true = or_left (p.segment.code == 1) false (eq-eqb p.segment.code 1 (header-child d.types v p.segment.code typed)) in
     let growth : (images_of d).index_growth v.image ≡ entry_growth w
     = (have-room d v H.volume).1 ∙ sym (growth-kept d v w f 0 y p.address p.segment H I) in
-    let needed : blocks_for (images_of d) v.image (p.segment ∷ []) ≡ 1 + entry_growth w
+    let needed : blocks_for (images_of d) v.image (p.segment ∷ []) (has_root (p.segment ∷ [])) ≡ 1 + entry_growth w
     = ap₂ (λ (b : Bool) (g : ℕ). 1 + cond b g 0) root growth in
     record {
       held = H;
@@ -208,7 +208,7 @@ go-on d v w x f g n front last p W typed fits I =
       takes = leaf.1;
       largest = ap (λ (z : Header). z.largest) I.rest.header ∙ W.largest;
       spares =
-          (let before : spare v ≤ spare w + blocks_for (images_of d) v.image (segments_of new) = W.spares in
+          (let before : spare v ≤ spare w + blocks_for (images_of d) v.image (segments_of new) (has_root (segments_of new)) = W.spares in
           let less : spare w ≤ spare x + 1 = I.spares in
           let more : length (segments_of (new ++ p ∷ [])) ≡ length (segments_of new) + 1
           = length-map (new ++ p ∷ []) (λ (q : Placed). q.segment) ∙ length-append new (p ∷ []) ∙ (let e : length new + 1 ≡ length (segments_of new) + 1 = ap (λ (k : ℕ). k + 1) (sym (length-map new (λ (q : Placed). q.segment))) in e) in

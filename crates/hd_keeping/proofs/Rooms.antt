@@ -1,12 +1,12 @@
 -- Room and memory for the rows that one call puts in.
-use Rattle.std.proofs.Common.{◌≡◌, ◌≢◌, ℕ, ◌+◌, ◌-◌, ◌≤◌, List, ◌∷◌, sym, ap, subst, ◌∙◌, arith, inl, inr}
+use Rattle.std.proofs.Common.{◌≡◌, ◌≢◌, ℕ, ◌+◌, ◌-◌, ◌≤◌, List, ◌∷◌, length, sym, ap, subst, ◌∙◌, arith, inl, inr}
 use Rattle.std.specs.Prelude.{map}
 use Rattle.std.proofs.lemmas.Bool.{cases_eq}
 use Rattle.std.proofs.lemmas.List.Sums.{sum_by-cons}
 use Rattle.hd_dbd.specs.Types.{SegmentType}
 use Rattle.hd_dbd.specs.Hierarchy.{Database}
 use Rattle.hd_dbd.specs.Segment.{Segment}
-use Rattle.hd_dbd.specs.Prefixes.{stored_size}
+use Rattle.hd_dbd.specs.Prefixes.{size_with}
 use Rattle.hd_dbd.specs.Forest.{Forest}
 use Rattle.hd_calls.specs.Runs.{stored_sizes}
 use Rattle.hd_volume.specs.Headers.{Header, header_of}
@@ -26,24 +26,24 @@ use Rattle.hd_keeping.specs.Entered.{IsEntered}
 use Rattle.hd_keeping.specs.Rooms.{HasRoomFor, HasMemoryFor, FirstRowsFindRoom, RoomLasts, blocks_for_entry, HasRootRoomFor, HasRootMemoryFor, FirstRootsFindRoom, RootEntriesFindRoom, RootRoomLasts, HaveOneImage, OneImageIsOneVolume}
 
 -- what rows take is what the first takes, and the rest
-sizes-more : (types : List SegmentType) (row : Segment) (rest : List Segment) → stored_sizes types (row ∷ rest) ≡ stored_size types row.code + stored_sizes types rest
-sizes-more types row rest = sum_by-cons (λ (x : ℕ). x) (stored_size types row.code) (map (λ (r : Segment). stored_size types r.code) rest)
+sizes-more : (types : List SegmentType) (row : Segment) (rest : List Segment) → stored_sizes types (row ∷ rest) ≡ size_with types row.code (length row.bytes) + stored_sizes types rest
+sizes-more types row rest = sum_by-cons (λ (x : ℕ). x) (size_with types row.code (length row.bytes)) (map (λ (r : Segment). size_with types r.code (length r.bytes)) rest)
 
 -- where there is a hole, there is one as large as less
 smaller : (v : VolumeState) (n k : ℕ) → HasHole v n → k ≤ n → HasHole v k
 smaller v n k H less = record { block = H.block; is_data = H.is_data; large = (let big : n ≤ _ = H.large in omega arith) }
 
 -- a hole as large as all rows is one for the first
-hole-first : (types : List SegmentType) (v : VolumeState) (row : Segment) (rest : List Segment) → HasHole v (stored_sizes types (row ∷ rest)) → HasHole v (stored_size types row.code)
+hole-first : (types : List SegmentType) (v : VolumeState) (row : Segment) (rest : List Segment) → HasHole v (stored_sizes types (row ∷ rest)) → HasHole v (size_with types row.code (length row.bytes))
 hole-first types v row rest hole =
-    (let both : stored_sizes types (row ∷ rest) ≡ stored_size types row.code + stored_sizes types rest = sizes-more types row rest in
-    smaller v (stored_sizes types (row ∷ rest)) (stored_size types row.code) hole (omega arith))
+    (let both : stored_sizes types (row ∷ rest) ≡ size_with types row.code (length row.bytes) + stored_sizes types rest = sizes-more types row rest in
+    smaller v (stored_sizes types (row ∷ rest)) (size_with types row.code (length row.bytes)) hole (omega arith))
 
 -- and once that is linked, for the others
 hole-left : (d : Database) (v w : VolumeState) (h y a : ℕ) (row : Segment) (rest : List Segment) → IsLinked d v h y row a w
     → HasHole v (stored_sizes d.types (row ∷ rest)) → HasHole w (stored_sizes d.types rest)
 hole-left d v w h y a row rest I hole =
-    let own : ℕ = stored_size d.types row.code in
+    let own : ℕ = size_with d.types row.code (length row.bytes) in
     let more : ℕ = stored_sizes d.types rest in
     let both : stored_sizes d.types (row ∷ rest) ≡ own + more = sizes-more d.types row rest in
     elim (cases_eq more 0) [

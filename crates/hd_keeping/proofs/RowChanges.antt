@@ -1,6 +1,6 @@
 -- Rows that one call replaces or deletes, as a log of calls has them.
 use Rattle.std.proofs.Common.{◌≡◌, ℕ, ◌<◌, List, [], ◌∷◌, ◌++◌, length, refl, sym, ap, subst, ◌∙◌, arith}
-use Rattle.std.specs.Prelude.{slice_set}
+use Rattle.std.specs.Prelude.{slice_index, slice_set}
 use Rattle.hd_dbd.specs.Hierarchy.{Database}
 use Rattle.hd_dbd.specs.Segment.{Segment}
 use Rattle.hd_dbd.specs.Paths.{row_at, end_of}
@@ -52,7 +52,8 @@ rewriting-goes-on d v w x f g ws i bytes W within C I =
 
 pub rewriting-follows : RewritingFollows
 rewriting-follows d v w f g ws W =
-    follow d v w f g (rewritten ws) W.held W.holds W.largest (let same : spare w ≡ spare v = W.spares in omega arith) W.places
+    follow d v w f g (rewritten ws) W.held W.holds W.largest (let same : spare w ≡ spare v = W.spares in omega arith)
+    (ap (λ (xs : List ℕ). length xs) W.places, λ i stays. ap (λ (xs : List ℕ). slice_index xs i) W.places)
 
 -- ---- deletion
 

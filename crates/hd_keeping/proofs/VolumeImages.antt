@@ -1,9 +1,9 @@
 -- The bytes of volumes as the images that a log of calls speaks of.
-use Rattle.std.proofs.Common.{◌≡◌, ℕ, ◌+◌, ◌<◌, List, length, cond, refl, sym, ap, subst, ◌∙◌, arith, inl, inr}
+use Rattle.std.proofs.Common.{◌≡◌, ℕ, ◌+◌, ◌<◌, List, length, Bool, cond, refl, sym, ap, subst, ◌∙◌, arith, inl, inr}
 use Rattle.hd_dbd.specs.Hierarchy.{Database}
 use Rattle.hd_dbd.specs.Segment.{Segment}
 use Rattle.hd_dbd.specs.Forest.{Forest}
-use Rattle.hd_calls.specs.Runs.{has_root, stored_sizes, blocks_for, AddressesFollow}
+use Rattle.hd_calls.specs.Runs.{stored_sizes, blocks_for, AddressesFollow}
 use Rattle.hd_volume.specs.Volumes.{VolumeState}
 use Rattle.hd_volume.specs.Rooms.{spare}
 use Rattle.hd_levels.specs.Needs.{entry_growth, IsHighest}
@@ -53,27 +53,27 @@ have-room d v V =
     (one-spare o, growth-same v (volume_of d v.image) refl, (λ h. h, λ h. h), λ n. (hole-after o n, one-holes o n))
 
 -- the blocks that rows may need are those that they may need in the volume
-blocks-same : (d : Database) (v : VolumeState) (rows : List Segment) → blocks_for (images_of d) v.image rows ≡ length rows + cond (has_root rows) (entry_growth v) 0
-blocks-same d v rows = ap (λ (n : ℕ). length rows + cond (has_root rows) n 0) (growth-same v (volume_of d v.image) refl)
+blocks-same : (d : Database) (v : VolumeState) (rows : List Segment) (root : Bool) → blocks_for (images_of d) v.image rows root ≡ length rows + cond root (entry_growth v) 0
+blocks-same d v rows root = ap (λ (n : ℕ). length rows + cond root n 0) (growth-same v (volume_of d v.image) refl)
 
 pub lacking-room : LackingRoomIsTheRule
-lacking-room d v rows V =
+lacking-room d v rows root V =
     let o : AreOne v (volume_of d v.image) = of-bytes d v V in
     let spares : spare (volume_of d v.image) ≡ spare v = one-spare o in
-    let blocks : blocks_for (images_of d) v.image rows ≡ length rows + cond (has_root rows) (entry_growth v) 0 = blocks-same d v rows in (
+    let blocks : blocks_for (images_of d) v.image rows root ≡ length rows + cond root (entry_growth v) 0 = blocks-same d v rows root in (
       λ L. (
         elim L.blocks [
-          | inl lacks ↦ inl (let few : spare (volume_of d v.image) < blocks_for (images_of d) v.image rows = lacks in omega (arith, few, spares, blocks))
+          | inl lacks ↦ inl (let few : spare (volume_of d v.image) < blocks_for (images_of d) v.image rows root = lacks in omega (arith, few, spares, blocks))
           | inr high ↦ inr high
         ],
-        elim L.holes [ inl root ↦ inl root | inr none ↦ inr (λ hole. none (one-holes o (stored_sizes d.types rows) hole)) ],
+        elim L.holes [ inl put ↦ inl put | inr none ↦ inr (λ hole. none (one-holes o (stored_sizes d.types rows) hole)) ],
       ),
       λ L. record {
         blocks = elim L.0 [
-          | inl lacks ↦ inl (let few : spare v < length rows + cond (has_root rows) (entry_growth v) 0 = lacks in omega (arith, few, spares, blocks))
+          | inl lacks ↦ inl (let few : spare v < length rows + cond root (entry_growth v) 0 = lacks in omega (arith, few, spares, blocks))
           | inr high ↦ inr high
         ];
-        holes = elim L.1 [ inl root ↦ inl root | inr none ↦ inr (λ hole. none (hole-after o (stored_sizes d.types rows) hole)) ];
+        holes = elim L.1 [ inl put ↦ inl put | inr none ↦ inr (λ hole. none (hole-after o (stored_sizes d.types rows) hole)) ];
       },
     )
 
@@ -89,5 +89,5 @@ follow d v w f g change H K largest room addresses-follow = record {
   addresses = λ before after B A.
       let old = own-rows d v f (rows_of f) before H B in
       let new = own-rows d w g (rows_of g) after K A in
-      subst (λ (xs : List ℕ). AddressesFollow change xs after) (sym old.1) (subst (AddressesFollow change (addresses f)) (sym new.1) addresses-follow);
+      subst (λ (xs : List ℕ). AddressesFollow (rows_of f) change xs after) (sym old.1) (subst (AddressesFollow (rows_of f) change (addresses f)) (sym new.1) addresses-follow);
 }

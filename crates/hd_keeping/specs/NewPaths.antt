@@ -8,7 +8,7 @@ use Rattle.hd_dbd.specs.Segment.{Segment}
 use Rattle.hd_dbd.specs.Rows.{row_fits, key_of}
 use Rattle.hd_dbd.specs.Forest.{Forest}
 use Rattle.hd_calls.specs.Moves.{inserted, put_in}
-use Rattle.hd_calls.specs.Runs.{blocks_for, Follows}
+use Rattle.hd_calls.specs.Runs.{has_root, blocks_for, Follows}
 use Rattle.hd_volume.specs.Headers.{header_of}
 use Rattle.hd_volume.specs.Volumes.{VolumeState}
 use Rattle.hd_volume.specs.Rooms.{spare}
@@ -63,7 +63,7 @@ pub record IsPathIn (d : Database) (v : VolumeState) (f : Forest Placed) (n : �
   pub childless : HasNoChild d.types (links_of d.types w) last.address
   pub takes : TakesAChild d.types (links_of d.types w) last
   pub largest : (header_of w.image).largest ≡ (header_of v.image).largest
-  pub spares : spare v ≤ spare w + blocks_for (images_of d) v.image (segments_of (front ++ last ∷ []))
+  pub spares : spare v ≤ spare w + blocks_for (images_of d) v.image (segments_of (front ++ last ∷ [])) (has_root (segments_of (front ++ last ∷ [])))
 
 -- A row that is linked below another begins a path.
 abbrev pub PathsBeginBelowRows : Type 0

@@ -3,7 +3,7 @@ use Rattle.std.specs.Prelude.{◌≡◌, ◌⊎◌, ℕ, ◌+◌, ◌≤◌, Lis
 use Rattle.hd_dbd.specs.Types.{SegmentType}
 use Rattle.hd_dbd.specs.Hierarchy.{Database}
 use Rattle.hd_dbd.specs.Segment.{Segment}
-use Rattle.hd_dbd.specs.Prefixes.{stored_size}
+use Rattle.hd_dbd.specs.Prefixes.{size_with}
 use Rattle.hd_dbd.specs.Forest.{Forest}
 use Rattle.hd_calls.specs.Runs.{stored_sizes}
 use Rattle.hd_volume.specs.Volumes.{VolumeState}
@@ -21,11 +21,11 @@ use Rattle.hd_keeping.specs.Entered.{IsEntered}
 
 -- A row finds no room: no block is to spare, and no hole is as large. So much is known where `link` answers Full.
 abbrev pub FindsNoRoom : List SegmentType → VolumeState → Segment → Type 0
-FindsNoRoom types v row = (spare v ≡ 0) × (HasHole v (stored_size types row.code) → ⊥)
+FindsNoRoom types v row = (spare v ≡ 0) × (HasHole v (size_with types row.code (length row.bytes)) → ⊥)
 
 -- A row finds no memory: none is reserved for a block, and no hole is as large. So much is known where `link` answers Memory.
 abbrev pub FindsNoMemory : List SegmentType → VolumeState → Segment → Type 0
-FindsNoMemory types v row = (v.room ≡ 0) × (HasHole v (stored_size types row.code) → ⊥)
+FindsNoMemory types v row = (v.room ≡ 0) × (HasHole v (size_with types row.code (length row.bytes)) → ⊥)
 
 -- ---- rows of which none is a root
 

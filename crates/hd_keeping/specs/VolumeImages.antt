@@ -1,10 +1,10 @@
 -- The bytes of volumes as the images that a log of calls speaks of.
-use Rattle.std.specs.Prelude.{◌≡◌, ◌↔◌, ◌⊎◌, ℕ, ◌+◌, ◌<◌, ◌≤◌, List, length, true, cond}
+use Rattle.std.specs.Prelude.{◌≡◌, ◌↔◌, ◌⊎◌, ℕ, ◌+◌, ◌<◌, ◌≤◌, List, length, true, Bool, cond}
 use Rattle.hd_dbd.specs.Hierarchy.{Database}
 use Rattle.hd_dbd.specs.Segment.{Segment}
 use Rattle.hd_dbd.specs.Forest.{Forest}
 use Rattle.hd_calls.specs.Moves.{Change}
-use Rattle.hd_calls.specs.Runs.{Images, has_root, stored_sizes, rows_put_in, blocks_for, AddressesFollow, LacksRoom, Follows}
+use Rattle.hd_calls.specs.Runs.{Images, stored_sizes, rows_stored, inserts_root, blocks_for, AddressesFollow, LacksRoom, Follows}
 use Rattle.hd_volume.specs.Headers.{header_of}
 use Rattle.hd_volume.specs.Volumes.{VolumeState}
 use Rattle.hd_volume.specs.Rooms.{spare, HasHole}
@@ -45,19 +45,19 @@ VolumesHaveTheirRoom =
     (d : Database) (v : VolumeState) → IsVolumeOf d v
     → ((images_of d).spare v.image ≡ spare v) × ((images_of d).index_growth v.image ≡ entry_growth v) × ((images_of d).IsHighest v.image ↔ IsHighest v) × ((n : ℕ) → (images_of d).HasHole v.image n ↔ HasHole v n)
 
--- An image lacks room for rows just where its volume has fewer blocks to spare than they may need, or a root is among them and its index may
--- have no level more, and either a root is among them or no hole is as large as all of them together.
+-- An image lacks room for rows just where its volume has fewer blocks to spare than they may need, or a root is put in and its index may
+-- have no level more, and either a root is put in or no hole is as large as all of them together.
 abbrev pub LackingRoomIsTheRule : Type 0
 LackingRoomIsTheRule =
-    (d : Database) (v : VolumeState) (rows : List Segment) → IsVolumeOf d v
-    → LacksRoom (images_of d) d.types v.image rows
-    ↔ (((spare v < length rows + cond (has_root rows) (entry_growth v) 0) ⊎ ((has_root rows ≡ true) × IsHighest v)) × ((has_root rows ≡ true) ⊎ (HasHole v (stored_sizes d.types rows) → ⊥)))
+    (d : Database) (v : VolumeState) (rows : List Segment) (root : Bool) → IsVolumeOf d v
+    → LacksRoom (images_of d) d.types v.image rows root
+    ↔ (((spare v < length rows + cond root (entry_growth v) 0) ⊎ ((root ≡ true) × IsHighest v)) × ((root ≡ true) ⊎ (HasHole v (stored_sizes d.types rows) → ⊥)))
 
 -- A volume's bytes follow from those before by a change of the rows where the largest count stays, no more blocks were taken than the
 -- change may need, and the addresses of the two forests follow.
 abbrev pub VolumesFollow : Type 0
 VolumesFollow =
     (d : Database) (v w : VolumeState) (f g : Forest Placed) (change : Change) → HoldsPlaced d v f → HoldsPlaced d w g
-    → (header_of w.image).largest ≡ (header_of v.image).largest → spare v ≤ spare w + blocks_for (images_of d) v.image (rows_put_in change)
-    → AddressesFollow change (addresses f) (addresses g)
+    → (header_of w.image).largest ≡ (header_of v.image).largest → spare v ≤ spare w + blocks_for (images_of d) v.image (rows_stored (rows_of f) change) (inserts_root change)
+    → AddressesFollow (rows_of f) change (addresses f) (addresses g)
     → Follows (images_of d) (rows_of f) v.image change (rows_of g) w.image

@@ -65,7 +65,7 @@ twin_at m p (suc j) h = (
 )
 
 -- a chain has one end
-one_end : (m : Links) (n k p l a : ℕ) → IsTwinAfter m n p l → m.forward l ≡ 0 → IsTwinAfter m k p a → m.forward a ≡ 0 → a ≡ l
+pub one_end : (m : Links) (n k p l a : ℕ) → IsTwinAfter m n p l → m.forward l ≡ 0 → IsTwinAfter m k p a → m.forward a ≡ 0 → a ≡ l
 one_end m zero zero p l a v e w f = sym w.1 ∙ v.1
 one_end m zero (suc k) p l a v e w f = absurd (goes k w.1 (ap m.forward v.1 ∙ e))
   where

@@ -14,6 +14,7 @@ pub mod Gaps
 pub mod Unlinking
 pub mod Replacing
 pub mod Moving
+pub mod MovingWith
 pub mod Numbers
 pub mod Ways
 pub mod Standing

@@ -32,16 +32,16 @@ agrees types m x = record {
 module _ (a b : ℕ) where
   -- ---- addresses
 
-  to_own : (x : ℕ) → x ≡ a → moved_to a b x ≡ b
+  pub to_own : (x : ℕ) → x ≡ a → moved_to a b x ≡ b
   to_own x e = cond-true (x == a) b x (eq-eqb x a e)
 
-  to_other : (x : ℕ) → (x ≡ a → ⊥) → moved_to a b x ≡ x
+  pub to_other : (x : ℕ) → (x ≡ a → ⊥) → moved_to a b x ≡ x
   to_other x ne = cond-false (x == a) b x (ne_eqb x a ne)
 
-  from_own : (x : ℕ) → x ≡ b → moved_from a b x ≡ a
+  pub from_own : (x : ℕ) → x ≡ b → moved_from a b x ≡ a
   from_own x e = cond-true (x == b) a x (eq-eqb x b e)
 
-  from_other : (x : ℕ) → (x ≡ b → ⊥) → moved_from a b x ≡ x
+  pub from_other : (x : ℕ) → (x ≡ b → ⊥) → moved_from a b x ≡ x
   from_other x ne = cond-false (x == b) a x (ne_eqb x b ne)
 
   -- no address stays none
@@ -105,7 +105,7 @@ module _ (a b : ℕ) where
     there_some : 0 < a
     there_some = C.there.some
 
-    not_free : (x : ℕ) → m.here x ≡ true → x ≡ b → ⊥
+    pub not_free : (x : ℕ) → m.here x ≡ true → x ≡ b → ⊥
     not_free x here e = false≢true (sym C.free ∙ ap m.here (sym e) ∙ here)
 
     -- each record is found again
@@ -133,17 +133,26 @@ module _ (a b : ℕ) where
     segment_to x s = record { some = some_to x s.some; here = here_to x s.here }
 
     -- a record that did not move
-    stayed : (x : ℕ) → (moved m a b).here x ≡ true → (x ≡ b → ⊥) → (m.here x ≡ true) × (x ≡ a → ⊥)
+    pub stayed : (x : ℕ) → (moved m a b).here x ≡ true → (x ≡ b → ⊥) → (m.here x ≡ true) × (x ≡ a → ⊥)
     stayed x here ne =
         let both : (m.here x && not (x == a)) ≡ true = sym (ap (λ c. c || (m.here x && not (x == a))) (ne_eqb x b ne)) ∙ here in
         let parts = and_parts (m.here x) (not (x == a)) both in
         (parts.0, λ e. false≢true (sym (ap not (eq-eqb x a e)) ∙ parts.1))
 
-    segment_from : (x : ℕ) → IsSegment (moved m a b) x → IsSegment m (moved_from a b x)
-    segment_from x s = elim (cases_eq x b) [
-      | inl e ↦ subst (IsSegment m) (sym (from_own x e)) C.there
-      | inr ne ↦ subst (IsSegment m) (sym (from_other x ne)) (record { some = s.some; here = (stayed x s.here ne).0 })
+    pub here_from : (x : ℕ) → (moved m a b).here x ≡ true → m.here (moved_from a b x) ≡ true
+    here_from x here = elim (cases_eq x b) [
+      | inl e ↦ ap m.here (from_own x e) ∙ C.there.here
+      | inr ne ↦ ap m.here (from_other x ne) ∙ (stayed x here ne).0
     ]
+
+    pub segment_from : (x : ℕ) → IsSegment (moved m a b) x → IsSegment m (moved_from a b x)
+    segment_from x s = record {
+      some = elim (cases_eq x b) [
+        | inl e ↦ subst (λ y. 0 < y) (sym (from_own x e)) there_some
+        | inr ne ↦ subst (λ y. 0 < y) (sym (from_other x ne)) s.some
+      ];
+      here = here_from x s.here;
+    }
 
     module _ (types : List SegmentType) (m2 : Links) (A : Agree types (moved m a b) m2) where
       named : (c h : ℕ) (k : Forest Placed) → m.here h ≡ true → m.code h ≡ c → NamesChildren types m c h k → NamesChildren types m2 c (moved_to a b h) (with_address a b k)

@@ -8,7 +8,7 @@ use Rattle.hd_dbd.specs.Forest.{Forest, empty, node}
 use Rattle.hd_links.specs.Links.{Links, IsSegment, segment_at, is_child_type}
 use Rattle.hd_links.specs.Placed.{Placed, first_of, nowhere, with_node, with_nodes, NodesLie}
 use Rattle.hd_links.specs.Pointers.{IsTwinAfter}
-use Rattle.hd_links.specs.Changes.{twin_behind, put_first, put_behind}
+use Rattle.hd_links.specs.Changes.{twin_behind, put_first, put_behind, CanUnlink}
 use Rattle.hd_links.proofs.Forms.{Formed, is_behind, follows_code, code_follows, key_follows, segment_is}
 use Rattle.hd_links.proofs.Joins.{join, IsOne}
 
@@ -33,6 +33,13 @@ pub one_there : (types : List SegmentType) (m : Links) (t y : ℕ) (b : ℕ → 
 one_there types m t y b empty s o = absurd o
 one_there types m t y b (node r k n) s (inl e) = (subst (IsSegment m) e.0 s.0.there, ap m.code (sym e.0) ∙ s.0.code ∙ e.1)
 one_there types m t y b (node r k n) s (inr o) = one_there types m t y (with_node b r) n s.2 o
+
+-- the parent, or the twin before, names the segment whose span may be unlinked
+pub first_named : (types : List SegmentType) (m : Links) (h y a : ℕ) → CanUnlink types m h y a → y ≡ 0 → m.first_child h (m.code a) ≡ a
+first_named types m h y a C e = sym (cond-true (y == 0) (m.first_child h (m.code a)) (m.forward y) (eq-eqb y 0 e)) ∙ C.here
+
+pub twin_named : (types : List SegmentType) (m : Links) (h y a : ℕ) → CanUnlink types m h y a → 0 < y → m.forward y ≡ a
+twin_named types m h y a C some = sym (cond-false (y == 0) (m.first_child h (m.code a)) (m.forward y) (ne_eqb y 0 (λ (e : y ≡ 0). omega arith))) ∙ C.here
 
 -- ---- the place of a new first one
 

@@ -24,7 +24,7 @@ use Rattle.hd_links.proofs.Build.{zero_or}
 use Rattle.hd_links.proofs.Joins.{IsOne, first_one}
 use Rattle.hd_links.proofs.Counts.{absent}
 use Rattle.hd_links.proofs.Lift.{Spot, spot, at_most_once}
-use Rattle.hd_links.proofs.Places.{chain_one}
+use Rattle.hd_links.proofs.Places.{chain_one, first_named, twin_named}
 use Rattle.hd_links.proofs.Gaps.{next_one}
 use Rattle.hd_links.proofs.Replacing.{address_kept}
 use Rattle.hd_links.proofs.Numbers.{map_both, occurs, occurs_both, occurs_count, front_occurs, back_occurs, rows_map, rows_length, rows_addressed, skip_least}
@@ -312,12 +312,12 @@ module _ (types : List SegmentType) (O : Ordered types) (leveled : Leveled types
       let one : IsOne (m.code a) a K = elim (zero_or y) [
         | inl e ↦
             (let is : first_of K (m.code a) ≡ a
-            = sym (S.named.first (m.code a) C.typed) ∙ sym (cond-true (y == 0) (m.first_child h (m.code a)) (m.forward y) (eq-eqb y 0 e)) ∙ C.here in
+            = sym (S.named.first (m.code a) C.typed) ∙ first_named types m h y a C e in
             subst (λ x. IsOne (m.code a) x K) is (first_one K (m.code a) (subst (λ x. 0 < x) (sym is) C.some)))
         | inr some ↦
             (let c = C.twin some in
             let y_one : IsOne (m.code a) y K = chain_one types m (m.code a) y nowhere K S.stand c.0 (subst (λ x. IsTwinAfter m c.0 x y) (S.named.first (m.code a) C.typed) c.1) in
-            let is : m.forward y ≡ a = sym (cond-false (y == 0) (m.first_child h (m.code a)) (m.forward y) (ne_eqb y 0 (λ (e : y ≡ 0). omega arith))) ∙ C.here in
+            let is : m.forward y ≡ a = twin_named types m h y a C some in
             subst (λ x. IsOne (m.code a) x K) is (next_one types m (m.code a) y nowhere K S.stand y_one (subst (λ x. 0 < x) (sym is) C.some)))
       ] in
       span_cut h y a i K (in_row types m (m.code a) a (m.code h) (record { address = a; segment = no_row }) nowhere K S.stand S.formed one) (around types m h (take_out a) K f H S) within at

@@ -13,6 +13,7 @@ use Rattle.hd_dbd.specs.Rows.{row_fits}
 use Rattle.hd_dbd.specs.DatabaseRules.{well_formed, parent_fits}
 use Rattle.hd_dbd.proofs.Levels.{type_of-later, type_within}
 use Rattle.hd_dbd.proofs.LevelLaw.{parents_earlier}
+use Rattle.hd_dbd.proofs.TypeLengths.{row-type}
 use Rattle.hd_dbd.proofs.Fitting.{IsEarlier, type_of-fits, types_fit}
 use Rattle.hd_links.specs.Links.{child_types, is_child_type}
 
@@ -145,11 +146,7 @@ child_parent p (Some q) h = ap (λ (n : ℕ). Some n) (eqb-true q p h)
 
 -- a row that fits has a type
 pub row_type : (types : List SegmentType) (r : Segment) → row_fits types r ≡ true → (t : SegmentType) × (type_of types r.code ≡ Some t)
-row_type types r fits = some_type (type_of types r.code) fits
-  where
-    some_type : (o : Option SegmentType) → option_map_or (λ t. length r.bytes == t.length) o false ≡ true → (t : SegmentType) × (o ≡ Some t)
-    some_type None h = cc
-    some_type (Some t) h = (t, refl)
+row_type types r fits = let own = row-type types r fits in (own.type, own.is)
 
 -- What a proof needs to know of the child types: which type's they are, and that they come later.
 pub record Ordered (types : List SegmentType) : Type 0 where
@@ -157,6 +154,7 @@ pub record Ordered (types : List SegmentType) : Type 0 where
   pub later : (c t : ℕ) → is_child_type types c t ≡ true → c < t
   pub parent : (c : ℕ) (r : Segment) → row_fits types r ≡ true → is_child_type types c r.code ≡ true → parent_of types r.code ≡ above c
   pub child : (c : ℕ) (r : Segment) → row_fits types r ≡ true → parent_of types r.code ≡ above c → is_child_type types c r.code ≡ true
+  pub typed : (c t : ℕ) (u : SegmentType) → type_of types t ≡ Some u → parent_of types t ≡ above c → is_child_type types c t ≡ true
 
 -- a row that fits has another code than the header
 pub code_some : (types : List SegmentType) (r : Segment) → row_fits types r ≡ true → 0 < r.code
@@ -208,20 +206,21 @@ module _ (block_size : ℕ) (frspc : FreeSpace) (types : List SegmentType) (form
       let K = child_type (suc c) r.code (ap (λ (x : List ℕ). is_in x r.code) (sym (cond-false (suc c == 0) (1 ∷ []) (children_of types (suc c)) (ne_eqb (suc c) 0 (λ (e : suc c ≡ 0). omega arith)))) ∙ h) in
       parent_is r.code K.0 K.1 ∙ K.2
 
-  types_child : (c : ℕ) (r : Segment) → row_fits types r ≡ true → parent_of types r.code ≡ above c → is_child_type types c r.code ≡ true
-  types_child zero r fits p =
-      let T = row_type types r fits in
-      let e : r.code ≡ 1 = roots_alone r.code T.0 (type_parent r.code T.0 T.1) (sym (parent_is r.code T.0 T.1) ∙ p) in
-      in_head 1 r.code [] (sym e)
-  types_child (suc c) r fits p =
-      let T = row_type types r fits in
-      let some : 0 < r.code = (type_within types r.code T.0 T.1).0 in
-      let i : r.code ≡ 1 + (r.code - 1) = omega arith in
-      let own : T.0.parent ≡ Some (suc c) = sym (parent_is r.code T.0 T.1) ∙ p in
-      ap (λ (x : List ℕ). is_in x r.code) (cond-false (suc c == 0) (1 ∷ []) (children_of types (suc c)) (ne_eqb (suc c) 0 (λ (e : suc c ≡ 0). omega arith)))
+  typed_child : (c t : ℕ) (u : SegmentType) → type_of types t ≡ Some u → parent_of types t ≡ above c → is_child_type types c t ≡ true
+  typed_child zero t u is p =
+      let e : t ≡ 1 = roots_alone t u (type_parent t u is) (sym (parent_is t u is) ∙ p) in
+      in_head 1 t [] (sym e)
+  typed_child (suc c) t u is p =
+      let some : 0 < t = (type_within types t u is).0 in
+      let i : t ≡ 1 + (t - 1) = omega arith in
+      let own : u.parent ≡ Some (suc c) = sym (parent_is t u is) ∙ p in
+      ap (λ (x : List ℕ). is_in x t) (cond-false (suc c == 0) (1 ∷ []) (children_of types (suc c)) (ne_eqb (suc c) 0 (λ (e : suc c ≡ 0). omega arith)))
       ∙ ap (is_in (children_of types (suc c))) i
-      ∙ at_child (suc c) 1 (r.code - 1) types T.0 (type_within types r.code T.0 T.1).1
+      ∙ at_child (suc c) 1 (t - 1) types u (type_within types t u is).1
       (ap (λ (o : Option ℕ). option_map_or (λ q. q == suc c) o false) own ∙ eq-eqb (suc c) (suc c) refl)
 
+  types_child : (c : ℕ) (r : Segment) → row_fits types r ≡ true → parent_of types r.code ≡ above c → is_child_type types c r.code ≡ true
+  types_child c r fits p = (let T = row_type types r fits in typed_child c r.code T.0 T.1 p)
+
   pub ordered : Ordered types
-  ordered = record { ascending = types_ascend types; later = types_later; parent = types_parent; child = types_child }
+  ordered = record { ascending = types_ascend types; later = types_later; parent = types_parent; child = types_child; typed = typed_child }

@@ -18,7 +18,7 @@ use Rattle.hd_links.proofs.Sound.{are_linked}
 use Rattle.hd_links.proofs.Joins.{stands_right, placed_right, join, AllPlaced, all_placed, pick, pick_zero, pick_some, count_join, first_join, last_join, last_none, last_some, last_one, one_counts, first_counts, first_one, IsOne, NotBelow, one_not_below, none_below, not_below_left}
 use Rattle.hd_links.proofs.Touch.{all_three, not_second, not_third, Keeps, Touch, behind, before}
 use Rattle.hd_links.proofs.Lift.{Spot, spot, at_most_once, changed_lies, changed_formed, changed_count}
-use Rattle.hd_links.proofs.Places.{chain_one, one_there}
+use Rattle.hd_links.proofs.Places.{chain_one, one_there, first_named, twin_named}
 use Rattle.hd_links.proofs.Gaps.{next_one, last_forward, OutPlace, out_place, formed_out}
 
 module _ (types : List SegmentType) (O : Ordered types) (bound : ℕ) (m m2 : Links) (G : IsLinkGraph types bound m) (f : Forest Placed) (H : Holds types m f) (h y a : ℕ)
@@ -45,10 +45,10 @@ module _ (types : List SegmentType) (O : Ordered types) (bound : ℕ) (m m2 : Li
   y_there some = one_there types m (m.code a) y nowhere K S.stand (y_one some)
 
   first_is : y ≡ 0 → m.first_child h (m.code a) ≡ a
-  first_is e = sym (cond-true (y == 0) (m.first_child h (m.code a)) (m.forward y) (eq-eqb y 0 e)) ∙ C.here
+  first_is e = first_named types m h y a C e
 
   forward_is : 0 < y → m.forward y ≡ a
-  forward_is some = sym (cond-false (y == 0) (m.first_child h (m.code a)) (m.forward y) (ne_eqb y 0 (λ (e : y ≡ 0). omega arith))) ∙ C.here
+  forward_is some = twin_named types m h y a C some
 
   a_one : IsOne (m.code a) a K
   a_one = elim (zero_or y) [

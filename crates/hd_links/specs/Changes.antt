@@ -128,7 +128,7 @@ pub record CanUnlink (types : List SegmentType) (m : Links) (h y a : ℕ) : Type
   pub twin : 0 < y → IsInChain m (m.first_child h (m.code a)) y
   pub here : twin_behind m h (m.code a) y ≡ a
 
--- The segment's bytes may be replaced: they have its type's length and the same key.
+-- The segment's bytes may be replaced: the type may have them, and they have the same key.
 pub record CanReplace (types : List SegmentType) (m : Links) (a : ℕ) (bytes : List ℕ) : Type 0 where
   pub there : IsSegment m a
   pub fits : row_fits types (record { code = m.code a; bytes = bytes }) ≡ true

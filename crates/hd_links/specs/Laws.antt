@@ -12,7 +12,7 @@ use Rattle.hd_dbd.specs.Prefixes.{is_backward_kept}
 use Rattle.hd_links.specs.Placed.{Placed, forest_of, count, Lies, Holds}
 use Rattle.hd_links.specs.Pointers.{IsInChain, AreLinked, PointersAreTyped, PredecessorsAreOne, IsTwinAfter}
 use Rattle.hd_links.specs.Changes.{AgreeAt, Agree, twin_behind, linked, unlinked, replaced, with_leaf, without_span, with_bytes, CanLink, CanUnlink, CanReplace}
-use Rattle.hd_links.specs.Moves.{moved_to, moved, with_address, CanMove}
+use Rattle.hd_links.specs.Moves.{moved_to, moved, moved_with, with_address, CanMove}
 use Rattle.hd_links.specs.Steps.{rows_of, addresses, address_at, path_at, RowsHaveAddresses, next_row, StepsAreRows}
 use Rattle.hd_links.specs.Numbers.{LeafGoesInAt, RowsLeave}
 use Rattle.hd_links.specs.Faulty.{FaultyRecords}
@@ -83,6 +83,15 @@ MovingKeepsTheForest =
     → CanMove m a b → b < bound
     → IsLinkGraph types bound (moved m a b)
     × ((m2 : Links) → Agree types (moved m a b) m2 → IsLinkGraph types bound m2 × Holds types m2 (with_address a b f))
+
+-- After a segment moved with other bytes, and its twins or its parent named it where it stands then, the records are those of a database,
+-- and hold the forest with these bytes, the row at its new address.
+abbrev pub MovingWithNewBytes : Type 0
+MovingWithNewBytes =
+    (block_size : ℕ) (frspc : FreeSpace) (types : List SegmentType) (bound : ℕ) (m m2 : Links) (f : Forest Placed) (h y a b : ℕ) (bytes : List ℕ)
+    → IsTrue (well_formed block_size frspc types) → IsLinkGraph types bound m → Holds types m f
+    → CanReplace types m a bytes → CanUnlink types m h y a → CanMove m a b → b < bound → Agree types (moved_with m h y a b bytes) m2
+    → IsLinkGraph types bound m2 × Holds types m2 (with_address a b (with_bytes a bytes f))
 
 -- A segment that moves leaves the rows as they were, and its new address stands wherever the old one stood.
 abbrev pub AMoveKeepsRows : Type 0

@@ -1,5 +1,5 @@
 -- A segment that moves to another address: the records, and the forest that they hold.
-use Rattle.std.specs.Prelude.{◌≡◌, ℕ, ◌<◌, false, ◌&&◌, ◌||◌, not, ◌==◌, cond}
+use Rattle.std.specs.Prelude.{◌≡◌, ℕ, ◌<◌, List, false, ◌&&◌, ◌||◌, not, ◌==◌, cond}
 use Rattle.hd_dbd.specs.Forest.{Forest, empty, node}
 use Rattle.hd_links.specs.Links.{Links, IsSegment}
 use Rattle.hd_links.specs.Placed.{Placed}
@@ -23,6 +23,20 @@ moved m a b = record {
   backward = λ x. moved_to a b (m.backward (moved_from a b x));
   first_child = λ x t. moved_to a b (m.first_child (moved_from a b x) t);
   last_child = λ x t. moved_to a b (m.last_child (moved_from a b x) t);
+}
+
+-- The records after the segment at a, which stands below h behind its twin y, or as the first of its type where y is 0, moved to b with
+-- other bytes: y, or the parent, and the twin behind, or the parent, name it there, and what else stands at an address stays.
+abbrev pub moved_with : Links → (h y a b : ℕ) → List ℕ → Links
+moved_with m h y a b bytes = record {
+  here = λ x. x == b || (m.here x && not (x == a));
+  code = λ x. m.code (moved_from a b x);
+  delete_byte = λ x. m.delete_byte (moved_from a b x);
+  bytes = λ x. cond (x == b) bytes (m.bytes x);
+  forward = λ x. cond (x == y) b (m.forward (moved_from a b x));
+  backward = λ x. cond (x == m.forward a) b (m.backward (moved_from a b x));
+  first_child = λ x t. cond (x == h && t == m.code a && y == 0) b (m.first_child (moved_from a b x) t);
+  last_child = λ x t. cond (x == h && t == m.code a && m.forward a == 0) b (m.last_child (moved_from a b x) t);
 }
 
 -- the forest with the row at a standing at b

@@ -1,5 +1,5 @@
 ghost use Rattle.hd_links.specs.LastRows.{LoadedRowsComeLast};
-ghost use Rattle.hd_links.specs.Laws.{PointersDecide, HeldTwinsAscend, LiesByItsPlaces, LinkingAddsALeaf, UnlinkingTakesASpan, ReplacingChangesBytes, MovingKeepsTheForest, AMoveKeepsRows, AddressesAreRows, PointersFollowRows, FaultyRecordsHoldNone, LeavesGoInBetweenRows, SpansAreRowsToTheirEnd, BytesChangeOneRow, BackwardNamesTheTwinBefore, ChainsEnd, LastChildEndsTheTwins};
+ghost use Rattle.hd_links.specs.Laws.{PointersDecide, HeldTwinsAscend, LiesByItsPlaces, LinkingAddsALeaf, UnlinkingTakesASpan, ReplacingChangesBytes, MovingKeepsTheForest, MovingWithNewBytes, AMoveKeepsRows, AddressesAreRows, PointersFollowRows, FaultyRecordsHoldNone, LeavesGoInBetweenRows, SpansAreRowsToTheirEnd, BytesChangeOneRow, BackwardNamesTheTwinBefore, ChainsEnd, LastChildEndsTheTwins};
 
 /// The pointers of a database's records decide which forest they hold.
 pub fn law_pointers_decide()
@@ -40,6 +40,12 @@ pub fn law_replacing_changes_bytes()
 /// After a segment moved to an address where none stood the records hold the same forest, the row at its new address.
 pub fn law_moving_keeps_the_forest()
     ensures { MovingKeepsTheForest }
+{}
+
+/// After a segment moved with other bytes, and was named where it stands then, the records hold the forest with these bytes, the row at
+/// its new address.
+pub fn law_moving_with_new_bytes()
+    ensures { MovingWithNewBytes }
 {}
 
 /// A segment that moves leaves the rows as they were, and its new address stands wherever the old one stood.

@@ -3,15 +3,16 @@ use Rattle.std.proofs.Common.{◌≡◌, ℕ, zero, suc, ◌+◌, ◌-◌, ◌*�
 use Rattle.std.specs.Prelude.{IfSome, replicate, slice_set}
 use Rattle.std.specs.Option.{option_map_or}
 use Rattle.std.proofs.lemmas.Grind.{common_steps}
-use Rattle.std.proofs.lemmas.List.{length-replicate, get_or_append_left, get_or-replicate, take-replicate, drop-replicate, drop_at, take_at}
+use Rattle.std.proofs.lemmas.List.{length-replicate, get_or_append_left, get_or-replicate, get_or-take, take-replicate, drop-replicate, drop_at, take_at}
 use Rattle.hd_bytes.specs.Ranges.{bytes_at, with_bytes}
 use Rattle.hd_bytes.specs.Numbers.{number_at}
 use Rattle.hd_dbd.specs.Types.{SegmentType}
-use Rattle.hd_dbd.specs.Prefixes.{prefix_length, stored_size}
+use Rattle.hd_dbd.specs.Lengths.{length_in}
+use Rattle.hd_dbd.specs.Prefixes.{prefix_length, size_with}
 use Rattle.hd_prefix.specs.declared.pointer.Pointer.{Pointer}
 use Rattle.hd_prefix.specs.Pointers.{place_of}
 use Rattle.hd_prefix.specs.Fields.{length_of, new_segment, IsNewSegment}
-use Rattle.hd_prefix.proofs.Sizes.{stored_long}
+use Rattle.hd_prefix.proofs.Sizes.{size_long}
 
 -- a number whose bytes are all 0
 number_zero : (n p : ℕ) (b : List ℕ) → ((k : ℕ) → p ≤ k → k < p + n → slice_index b k ≡ 0) → number_at n b p ≡ 0
@@ -53,29 +54,31 @@ pointers_zero n segment (Some x) zeros inside =
     let high = inside.1 in
     number_zero 4 x segment (λ k l m. zeros k (omega arith) (omega arith))
 
-pub new_segment_is : (types : List SegmentType) (c : ℕ) (bytes : List ℕ) → 2 ≤ prefix_length types c → length bytes ≡ length_of types c
+pub new_segment_is : (types : List SegmentType) (c : ℕ) (bytes : List ℕ) → 2 ≤ prefix_length types c
+    → ((behind : List ℕ) → ((k : ℕ) → k < length bytes → slice_index behind k ≡ slice_index bytes k) → length_in types c behind ≡ length bytes)
     → ((pointer : Pointer) → IfSome (place_of types c pointer) (λ x. (2 ≤ x) × (x + 4 ≤ prefix_length types c)))
     → IsNewSegment types c bytes (new_segment types c bytes)
 new_segment_is types c bytes low len inside =
     let prefix : ℕ = prefix_length types c in
-    let padding : ℕ = stored_size types c - prefix - length bytes in
+    let padding : ℕ = size_with types c (length bytes) - prefix - length bytes in
+    let new : List ℕ = new_segment types c bytes in
     let whole : 1 + (prefix - 1) ≡ prefix = omega arith in
     let next : suc (prefix - 1) ≡ prefix = omega arith in
     let zeros : (k : ℕ) → 0 < k → k < prefix → slice_index (new_segment types c bytes) k ≡ 0 =
     λ (k : ℕ) (some : 0 < k) (below : k < prefix). nothing-laid_out c (prefix - 1) bytes padding k some (omega arith) in
+    let there : bytes_at new prefix (length bytes) ≡ bytes = ap (λ (p : ℕ). bytes_at new p (length bytes)) (sym next) ∙ bytes-laid_out c (prefix - 1) bytes padding in
+    let own : length_of types c new ≡ length bytes =
+    len (drop prefix new) (λ k below. sym (get_or-take (length bytes) (drop prefix new) k 0 below) ∙ ap (λ (xs : List ℕ). slice_index xs k) there) in
     record {
-      size = length-laid_out c (prefix - 1) bytes padding ∙ sums _ _ _ _ low (stored_long types c) len;
+      size = length-laid_out c (prefix - 1) bytes padding ∙ sums _ _ _ low (size_long types c (length bytes)).0;
       code = refl;
       delete_byte = zeros 1 (omega arith) (omega arith);
       pointers = λ pointer. pointers_zero prefix (new_segment types c bytes) (place_of types c pointer) zeros (inside pointer);
-      bytes =
-          ap (λ (n : ℕ). bytes_at (new_segment types c bytes) prefix n) (sym len)
-          ∙ ap (λ (p : ℕ). bytes_at (new_segment types c bytes) p (length bytes)) (sym next)
-          ∙ bytes-laid_out c (prefix - 1) bytes padding;
+      bytes = ap (λ (n : ℕ). bytes_at new prefix n) own ∙ there;
     }
   where
-    sums : (p n s b : ℕ) → 2 ≤ p → p + n ≤ s → b ≡ n → 1 + (p - 1) + b + (s - p - b) ≡ s
-    sums p n s b e f g = omega arith
+    sums : (p s b : ℕ) → 2 ≤ p → p + b ≤ s → 1 + (p - 1) + b + (s - p - b) ≡ s
+    sums p s b e f = omega arith
 
 -- a code and bytes that are written over zeros
 pub laid_over : (c prefix size : ℕ) (bytes : List ℕ) → 1 ≤ prefix → prefix + length bytes ≤ size

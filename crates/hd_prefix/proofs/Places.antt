@@ -6,11 +6,11 @@ use Rattle.std.proofs.lemmas.Bool.{and_parts, ne_eqb, cases_eq, cases_lt, cond-t
 use Rattle.std.proofs.lemmas.Option.{cond_some, same_Some}
 use Rattle.hd_dbd.specs.Types.{SegmentType}
 use Rattle.hd_dbd.specs.Hierarchy.{type_of}
-use Rattle.hd_dbd.specs.Prefixes.{keeps_backward, twin_part, child_part, prefix_length, pointers_at, stored_size}
+use Rattle.hd_dbd.specs.Prefixes.{keeps_backward, twin_part, child_part, prefix_length, pointers_at}
 use Rattle.hd_dbd.specs.declared.hierarchy.FreeSpace.{FreeSpace}
 use Rattle.hd_dbd.specs.DatabaseRules.{types_fit_from, well_formed}
-use Rattle.hd_dbd.proofs.Fitting.{types_fit, size_fits, size_bound}
-use Rattle.hd_prefix.proofs.Sizes.{stored_long}
+use Rattle.hd_dbd.proofs.Fitting.{types_fit}
+use Rattle.hd_dbd.proofs.TypeLengths.{prefix-low}
 use Rattle.hd_prefix.specs.declared.pointer.Pointer.{Pointer}
 use Rattle.hd_prefix.specs.declared.pointer.Pointer.TheVariants.{TwinForward, TwinBackward, FirstChild, LastChild}
 use Rattle.hd_prefix.specs.Pointers.{is_child, place_of, IsApart}
@@ -222,8 +222,7 @@ pointers_low block_size frspc types c t fit child =
     let all = types_fit block_size frspc types fit in
     let k = child_is block_size types c t all child in
     let in_prefix = child_inside types c t k in
-    let bound : stored_size types c ≤ 65535 = size_bound block_size types c all (size_fits block_size frspc types fit) in
-    sums _ _ _ _ _ in_prefix.1 (part_some k.own) (stored_long types c) bound
+    sums _ _ _ in_prefix.1 (part_some k.own) (prefix-low block_size frspc types c fit)
   where
-    sums : (p y q n s : ℕ) → p + y ≤ q → 4 ≤ y → q + n ≤ s → s ≤ 65535 → p + 4 ≤ 65535
-    sums p y q n s e f g h = omega arith
+    sums : (p y q : ℕ) → p + y ≤ q → 4 ≤ y → q ≤ 65535 → p + 4 ≤ 65535
+    sums p y q e f g = omega arith

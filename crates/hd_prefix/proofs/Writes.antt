@@ -1,17 +1,18 @@
 -- A field of a segment is written, and the others stay.
-use Rattle.std.proofs.Common.{◌≡◌, ℕ, suc, ◌+◌, ◌*◌, ◌^◌, slice_index, ◌<◌, ◌≤◌, ◌≢◌, ◌⊎◌, List, length, arith, ap, sym, ◌∙◌, refl, subst, Option, Some, None, inl, inr}
+use Rattle.std.proofs.Common.{◌≡◌, ℕ, suc, ◌+◌, ◌*◌, ◌^◌, slice_index, ◌<◌, ◌≤◌, ◌≢◌, ◌⊎◌, List, length, take, drop, ◌-◌, arith, ap, sym, ◌∙◌, refl, subst, Option, Some, None, inl, inr}
 use Rattle.std.specs.Prelude.{IfSome, OnSome, MatchOption}
 use Rattle.std.specs.Option.{option_map_or}
+use Rattle.std.proofs.lemmas.List.{ext_get_or, length-drop, get_or-drop, get_or-take}
 use Rattle.hd_bytes.specs.Ranges.{bytes_at, with_bytes, ChangesOnly}
 use Rattle.hd_bytes.specs.Numbers.{number_at}
 use Rattle.hd_bytes.proofs.NumberLemmas.{number-below, number-above, changes-with, length-with}
 use Rattle.hd_bytes.proofs.BlockLemmas.{byte-at, bytes-with, agree-bytes_at, agree-changed}
 use Rattle.hd_dbd.specs.Types.{SegmentType}
-use Rattle.hd_dbd.specs.Prefixes.{prefix_length, stored_size}
+use Rattle.hd_dbd.specs.Lengths.{length_in}
+use Rattle.hd_dbd.specs.Prefixes.{prefix_length}
 use Rattle.hd_prefix.specs.declared.pointer.Pointer.{Pointer}
 use Rattle.hd_prefix.specs.Pointers.{place_of, IsApart}
 use Rattle.hd_prefix.specs.Fields.{pointer_of, length_of, bytes_of, IsPointerSet, IsBytesSet}
-use Rattle.hd_prefix.proofs.Sizes.{stored_long}
 
 -- the address in a pointer that is kept
 pub pointer_at : (types : List SegmentType) (c : ℕ) (pointer : Pointer) (x : ℕ) (segment : List ℕ) → place_of types c pointer ≡ Some x
@@ -28,24 +29,23 @@ other_by : (x : ℕ) (old new : List ℕ) (o : Option ℕ) → ChangesOnly x 4 o
 other_by x old new None changes apart = refl
 other_by x old new (Some y) changes apart = number_beside x 4 y old new changes apart
 
+-- what stands behind a change stays
+behind_kept : (p x n : ℕ) (old new : List ℕ) → x + n ≤ p → ChangesOnly x n old new → drop p new ≡ drop p old
+behind_kept p x n old new inside changes =
+    ext_get_or 0 (drop p new) (drop p old) (length-drop p new ∙ ap (λ (l : ℕ). l - p) changes.len ∙ sym (length-drop p old))
+    (λ k low. get_or-drop p new k 0 ∙ changes.above (p + k) (omega (arith, inside)) ∙ sym (get_or-drop p old k 0))
+
 -- the segment's own bytes stay where nothing behind the prefix changes
-bytes_kept : (types : List SegmentType) (c x n : ℕ) (old new : List ℕ) → stored_size types c ≤ length old → x + n ≤ prefix_length types c → ChangesOnly x n old new
+bytes_kept : (types : List SegmentType) (c x n : ℕ) (old new : List ℕ) → x + n ≤ prefix_length types c → ChangesOnly x n old new
     → bytes_of types c new ≡ bytes_of types c old
-bytes_kept types c x n old new long inside changes =
-    let sizes = stored_long types c in
-    let len = changes.len in
-    let fits : prefix_length types c + length_of types c ≤ length old = sums _ _ _ sizes long in
-    let fits_new : prefix_length types c + length_of types c ≤ length new = omega (arith, len) in
-    sym (agree-bytes_at (prefix_length types c) (length_of types c) old new fits fits_new (agree-changed (prefix_length types c) (length_of types c) changes (inr inside)))
-  where
-    sums : (p s l : ℕ) → p ≤ s → s ≤ l → p ≤ l
-    sums p s l e f = omega arith
+bytes_kept types c x n old new inside changes =
+    ap (λ (behind : List ℕ). take (length_in types c behind) behind) (behind_kept (prefix_length types c) x n old new inside changes)
 
 -- a change of the four bytes of a pointer is a write of that pointer alone
 pub pointer_set : (types : List SegmentType) (c : ℕ) (pointer : Pointer) (x address : ℕ) (old new : List ℕ) → place_of types c pointer ≡ Some x
     → (2 ≤ x) × (x + 4 ≤ prefix_length types c) → ((other : Pointer) → other ≢ pointer → IfSome (place_of types c other) (λ y. IsApart x y))
-    → stored_size types c ≤ length old → ChangesOnly x 4 old new → number_at 4 new x ≡ address → IsPointerSet types c pointer address old new
-pointer_set types c pointer x address old new is inside apart long changes reads =
+    → ChangesOnly x 4 old new → number_at 4 new x ≡ address → IsPointerSet types c pointer address old new
+pointer_set types c pointer x address old new is inside apart changes reads =
     let low = inside.0 in
     record {
       len = changes.len;
@@ -53,7 +53,7 @@ pointer_set types c pointer x address old new is inside apart long changes reads
       others = λ other ne. other_by x old new (place_of types c other) changes (apart other ne);
       code = changes.below 0 (omega arith);
       delete_byte = changes.below 1 (omega arith);
-      bytes = bytes_kept types c x 4 old new long inside.1 changes;
+      bytes = bytes_kept types c x 4 old new inside.1 changes;
     }
 
 -- the number in bytes that were put at a place
@@ -90,36 +90,34 @@ match_some o x P Q is holds = subst (λ z. MatchOption z P Q) (sym is) holds
 -- the same, of four bytes that are put at the place
 pub pointer_with : (types : List SegmentType) (c : ℕ) (pointer : Pointer) (x : ℕ) (bytes old : List ℕ) → place_of types c pointer ≡ Some x
     → (2 ≤ x) × (x + 4 ≤ prefix_length types c) → ((other : Pointer) → other ≢ pointer → IfSome (place_of types c other) (λ y. IsApart x y))
-    → stored_size types c ≤ length old → length bytes ≡ 4 → IsPointerSet types c pointer (number_at 4 bytes 0) old (with_bytes old x bytes)
+    → prefix_length types c ≤ length old → length bytes ≡ 4 → IsPointerSet types c pointer (number_at 4 bytes 0) old (with_bytes old x bytes)
 pointer_with types c pointer x bytes old is inside apart long four =
-    let sizes = stored_long types c in
-    let room : x + length bytes ≤ length old = sums _ _ _ _ _ _ inside.1 sizes long four in
+    let room : x + length bytes ≤ length old = sums _ _ _ _ inside.1 long four in
     let changes : ChangesOnly x 4 old (with_bytes old x bytes) = subst (λ (n : ℕ). ChangesOnly x n old (with_bytes old x bytes)) four (changes-with old bytes x room) in
-    pointer_set types c pointer x (number_at 4 bytes 0) old (with_bytes old x bytes) is inside apart long changes (number_put x bytes old room four)
+    pointer_set types c pointer x (number_at 4 bytes 0) old (with_bytes old x bytes) is inside apart changes (number_put x bytes old room four)
   where
-    sums : (x p n s l b : ℕ) → x + 4 ≤ p → p + n ≤ s → s ≤ l → b ≡ 4 → x + b ≤ l
-    sums x p n s l b e f g h = omega arith
+    sums : (x p l b : ℕ) → x + 4 ≤ p → p ≤ l → b ≡ 4 → x + b ≤ l
+    sums x p l b e f g = omega arith
 
 -- a row's bytes that are put behind the prefix
-pub bytes_with : (types : List SegmentType) (c : ℕ) (bytes old : List ℕ) → 2 ≤ prefix_length types c → length bytes ≡ length_of types c
+pub bytes_with : (types : List SegmentType) (c : ℕ) (bytes old : List ℕ) → 2 ≤ prefix_length types c
+    → ((behind : List ℕ) → ((k : ℕ) → k < length bytes → slice_index behind k ≡ slice_index bytes k) → length_in types c behind ≡ length bytes)
     → ((pointer : Pointer) → IfSome (place_of types c pointer) (λ x. (2 ≤ x) × (x + 4 ≤ prefix_length types c)))
-    → stored_size types c ≤ length old → IsBytesSet types c bytes old (with_bytes old (prefix_length types c) bytes)
-bytes_with types c bytes old low len inside long =
-    let sizes = stored_long types c in
+    → prefix_length types c + length bytes ≤ length old → IsBytesSet types c bytes old (with_bytes old (prefix_length types c) bytes)
+bytes_with types c bytes old low len inside room =
     let start : ℕ = prefix_length types c in
-    let room : start + length bytes ≤ length old = sums _ _ _ _ _ sizes long len in
+    let new : List ℕ = with_bytes old start bytes in
+    let there : bytes_at new start (length bytes) ≡ bytes = bytes-with old bytes start room in
+    let own : length_of types c new ≡ length bytes = len (drop start new) (λ k low. sym (get_or-take (length bytes) (drop start new) k 0 low) ∙ ap (λ (xs : List ℕ). slice_index xs k) there) in
     let changes = changes-with old bytes start room in
     record {
       len = changes.len;
-      is = ap (λ (n : ℕ). bytes_at (with_bytes old start bytes) start n) (sym len) ∙ bytes-with old bytes start room;
+      is = ap (λ (n : ℕ). bytes_at new start n) own ∙ there;
       code = changes.below 0 (omega arith);
       delete_byte = changes.below 1 (omega arith);
       pointers = λ pointer. kept (length bytes) start old (with_bytes old start bytes) (place_of types c pointer) changes (inside pointer);
     }
   where
-    sums : (p n s l b : ℕ) → p + n ≤ s → s ≤ l → b ≡ n → p + b ≤ l
-    sums p n s l b e f g = omega arith
-
     kept : (n start : ℕ) (old new : List ℕ) (o : Option ℕ) → ChangesOnly start n old new → IfSome o (λ x. (2 ≤ x) × (x + 4 ≤ start))
         → option_map_or (λ place. number_at 4 new place) o 0 ≡ option_map_or (λ place. number_at 4 old place) o 0
     kept n start old new None changes inside = refl

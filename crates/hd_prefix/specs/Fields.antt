@@ -1,11 +1,11 @@
 -- The fields of a stored segment of the type of code c: its prefix, its own bytes, and padding.
-use Rattle.std.specs.Prelude.{◌≡◌, ◌≢◌, ℕ, ◌-◌, List, ◌∷◌, ◌++◌, length, replicate, slice_index}
+use Rattle.std.specs.Prelude.{◌≡◌, ◌≢◌, ℕ, ◌+◌, ◌-◌, ◌≤◌, List, ◌∷◌, ◌++◌, length, drop, replicate, slice_index}
 use Rattle.std.specs.Option.{option_map_or}
 use Rattle.hd_bytes.specs.Ranges.{bytes_at}
 use Rattle.hd_bytes.specs.Numbers.{number_at}
 use Rattle.hd_dbd.specs.Types.{SegmentType}
-use Rattle.hd_dbd.specs.Hierarchy.{type_of}
-use Rattle.hd_dbd.specs.Prefixes.{prefix_length, stored_size}
+use Rattle.hd_dbd.specs.Lengths.{length_in}
+use Rattle.hd_dbd.specs.Prefixes.{prefix_length, size_with}
 use Rattle.hd_prefix.specs.declared.pointer.Pointer.{Pointer}
 use Rattle.hd_prefix.specs.Pointers.{place_of}
 
@@ -21,19 +21,23 @@ delete_byte_of segment = slice_index segment 1
 abbrev pub pointer_of : List SegmentType → ℕ → Pointer → List ℕ → ℕ
 pointer_of types c pointer segment = option_map_or (λ place. number_at 4 segment place) (place_of types c pointer) 0
 
--- the length of the segment's own bytes; 0 for no type
-abbrev pub length_of : List SegmentType → ℕ → ℕ
-length_of types c = option_map_or (λ t. t.length) (type_of types c) 0
+-- how many bytes a stored segment has of its own: as its type says, or as those behind the prefix do; 0 for no type
+abbrev pub length_of : List SegmentType → ℕ → List ℕ → ℕ
+length_of types c segment = length_in types c (drop (prefix_length types c) segment)
 
 -- the segment's own bytes stand behind the prefix
 abbrev pub bytes_of : List SegmentType → ℕ → List ℕ → List ℕ
-bytes_of types c segment = bytes_at segment (prefix_length types c) (length_of types c)
+bytes_of types c segment = bytes_at segment (prefix_length types c) (length_of types c segment)
+
+-- a stored segment has its prefix and all of its own bytes
+abbrev pub IsWhole : List SegmentType → ℕ → List ℕ → Type 0
+IsWhole types c segment = prefix_length types c + length_of types c segment ≤ length segment
 
 -- A row as a whole stored segment that stands nowhere yet: its code, delete byte and all pointers 0, its bytes, and 0 up to
--- the stored size.
+-- the size that it takes.
 abbrev pub new_segment : List SegmentType → ℕ → List ℕ → List ℕ
 new_segment types c bytes =
-    c ∷ (replicate (prefix_length types c - 1) 0 ++ (bytes ++ replicate (stored_size types c - prefix_length types c - length bytes) 0))
+    c ∷ (replicate (prefix_length types c - 1) 0 ++ (bytes ++ replicate (size_with types c (length bytes) - prefix_length types c - length bytes) 0))
 
 -- A pointer of a segment was written: it is the address, and the code, the delete byte, every other pointer and the
 -- segment's own bytes are as they were.
@@ -53,10 +57,10 @@ pub record IsBytesSet (types : List SegmentType) (c : ℕ) (bytes old new : List
   pub delete_byte : delete_byte_of new ≡ delete_byte_of old
   pub pointers : (pointer : Pointer) → pointer_of types c pointer new ≡ pointer_of types c pointer old
 
--- A segment is a row that stands nowhere yet: of the size of its type, with the row's code and bytes, and 0 in delete byte
+-- A segment is a row that stands nowhere yet: of the size that the row takes, with the row's code and bytes, and 0 in delete byte
 -- and pointers.
 pub record IsNewSegment (types : List SegmentType) (c : ℕ) (row segment : List ℕ) : Type 0 where
-  pub size : length segment ≡ stored_size types c
+  pub size : length segment ≡ size_with types c (length row)
   pub code : code_of segment ≡ c
   pub delete_byte : delete_byte_of segment ≡ 0
   pub pointers : (pointer : Pointer) → pointer_of types c pointer segment ≡ 0

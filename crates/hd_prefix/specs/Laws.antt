@@ -6,7 +6,7 @@ use Rattle.hd_bytes.specs.Numbers.{number_at}
 use Rattle.hd_dbd.specs.declared.hierarchy.FreeSpace.{FreeSpace}
 use Rattle.hd_dbd.specs.Types.{SegmentType}
 use Rattle.hd_dbd.specs.Hierarchy.{type_of}
-use Rattle.hd_dbd.specs.Prefixes.{prefix_length, pointers_at, stored_size, children_of}
+use Rattle.hd_dbd.specs.Prefixes.{prefix_length, pointers_at, children_of}
 use Rattle.hd_dbd.specs.Rows.{row_fits}
 use Rattle.hd_dbd.specs.DatabaseRules.{well_formed}
 use Rattle.hd_prefix.specs.declared.pointer.Pointer.{Pointer}
@@ -31,17 +31,17 @@ PointersStandApart =
 abbrev pub PointersAreSet : Type 0
 PointersAreSet =
     (block_size : ℕ) (frspc : FreeSpace) (types : List SegmentType) (c : ℕ) (pointer : Pointer) (place : ℕ) (bytes segment : List ℕ)
-    → IsTrue (well_formed block_size frspc types) → place_of types c pointer ≡ Some place → stored_size types c ≤ length segment → length bytes ≡ 4
+    → IsTrue (well_formed block_size frspc types) → place_of types c pointer ≡ Some place → prefix_length types c ≤ length segment → length bytes ≡ 4
     → IsPointerSet types c pointer (number_at 4 bytes 0) segment (with_bytes segment place bytes)
 
 -- A row's bytes that are written behind the prefix are the segment's own bytes, and every other field stays.
 abbrev pub BytesAreSet : Type 0
 BytesAreSet =
     (block_size : ℕ) (frspc : FreeSpace) (types : List SegmentType) (c : ℕ) (bytes segment : List ℕ)
-    → IsTrue (well_formed block_size frspc types) → row_fits types (record { code = c; bytes = bytes }) ≡ true → stored_size types c ≤ length segment
+    → IsTrue (well_formed block_size frspc types) → row_fits types (record { code = c; bytes = bytes }) ≡ true → prefix_length types c + length bytes ≤ length segment
     → IsBytesSet types c bytes segment (with_bytes segment (prefix_length types c) bytes)
 
--- A row that is made a stored segment has its type's size, and its fields are the row's and 0.
+-- A row that is made a stored segment has the size that it takes, and its fields are the row's and 0.
 abbrev pub NewSegmentsAreRows : Type 0
 NewSegmentsAreRows =
     (block_size : ℕ) (frspc : FreeSpace) (types : List SegmentType) (c : ℕ) (bytes : List ℕ)

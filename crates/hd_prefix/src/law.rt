@@ -20,7 +20,7 @@ pub fn law_bytes_are_set()
     ensures { BytesAreSet }
 {}
 
-/// A row that is made a stored segment has its type's size, and its fields are the row's and 0.
+/// A row that is made a stored segment has the size that it takes, and its fields are the row's and 0.
 pub fn law_new_segments_are_rows()
     ensures { NewSegmentsAreRows }
 {}

@@ -1,11 +1,11 @@
-ghost use Rattle.std.specs.Prelude.{◌≡◌, ◌≢◌, ◌+◌, ◌≤◌, length, true, IfSome, OnSome, MatchOption};
+ghost use Rattle.std.specs.Prelude.{◌≡◌, ◌≢◌, ◌+◌, ◌≤◌, length, true, IfSome, OnSome, MatchOption, IsTrue, IsFalse};
 ghost use Rattle.hd_bytes.specs.Ranges.{ChangesOnly};
-ghost use Rattle.hd_dbd.specs.Prefixes.{prefix_length, stored_size};
+ghost use Rattle.hd_dbd.specs.Prefixes.{prefix_length, size_with};
 ghost use Rattle.hd_dbd.specs.Rows.{row_fits};
 ghost use Rattle.hd_prefix.specs.declared.pointer.Pointer.{Pointer};
 ghost use Rattle.hd_prefix.specs.declared.pointer.Pointer.TheVariants.{TwinForward, TwinBackward, FirstChild, LastChild};
 ghost use Rattle.hd_prefix.specs.Pointers.{is_child, place_of, IsApart};
-ghost use Rattle.hd_prefix.specs.Fields.{pointer_of, length_of, bytes_of, new_segment, IsPointerSet};
+ghost use Rattle.hd_prefix.specs.Fields.{pointer_of, bytes_of, IsWhole, new_segment, IsPointerSet};
 
 use crate::pointer::Pointer;
 use hd_bytes::{read_u32, write_bytes, write_u32};
@@ -37,11 +37,16 @@ impl<'a> Layout<'a> {
         self.dbd.prefix_length(self.code)
     }
 
-    /// The bytes that a segment takes: prefix, its own bytes and padding; 0 for no type.
-    pub fn stored_size(&self) -> u16
-        ensures { result ≡ stored_size (types_of self.now) (type_code self.now) }
+    /// Whether a stored segment has its prefix and all of its own bytes.
+    pub fn is_whole(&self, segment: &[u8]) -> bool
+        ensures whole { IsTrue result → IsWhole (types_of self.now) (type_code self.now) segment.now }
+        ensures short { IsFalse result → IsWhole (types_of self.now) (type_code self.now) segment.now → ⊥ }
     {
-        self.dbd.stored_size(self.code)
+        let prefix = self.prefix_length() as usize;
+        match segment.get(prefix..) {
+            Some(behind) => self.dbd.length_in(self.code, behind) <= behind.len(),
+            None => false,
+        }
     }
 
     /// Where a pointer stands in the prefix; `None` where the type does not keep it, or has no such child type. No two
@@ -61,7 +66,7 @@ impl<'a> Layout<'a> {
 
     /// The address in a pointer of a stored segment; 0 for none, and where the pointer is not kept.
     pub fn read(&self, segment: &[u8], pointer: Pointer) -> u32
-        requires { stored_size (types_of self.now) (type_code self.now) ≤ length segment.now }
+        requires { prefix_length (types_of self.now) (type_code self.now) ≤ length segment.now }
         ensures { result ≡ pointer_of (types_of self.now) (type_code self.now) pointer segment.now }
     {
         match self.place_of(pointer) {
@@ -72,7 +77,7 @@ impl<'a> Layout<'a> {
 
     /// Writes an address, 0 for none, into a pointer of a stored segment; nothing where the pointer is not kept.
     pub fn write(&self, segment: &mut [u8], pointer: Pointer, address: u32)
-        requires { stored_size (types_of self.now) (type_code self.now) ≤ length segment.old }
+        requires { prefix_length (types_of self.now) (type_code self.now) ≤ length segment.old }
         ensures changes { MatchOption (place_of (types_of self.now) (type_code self.now) pointer) (segment.new ≡ segment.old) (λ x. ChangesOnly x 4 segment.old segment.new) }
         ensures set { OnSome (place_of (types_of self.now) (type_code self.now) pointer) (IsPointerSet (types_of self.now) (type_code self.now) pointer address segment.old segment.new) }
     {
@@ -83,34 +88,23 @@ impl<'a> Layout<'a> {
 
     /// The segment's own bytes, without prefix and padding; none for no type.
     pub fn bytes<'s>(&self, segment: &'s [u8]) -> &'s [u8]
-        requires { stored_size (types_of self.now) (type_code self.now) ≤ length segment.now }
+        requires { IsWhole (types_of self.now) (type_code self.now) segment.now }
         ensures { result.now ≡ bytes_of (types_of self.now) (type_code self.now) segment.now }
     {
-        let start = self.prefix_length() as usize;
-        &segment[start..start + self.length()]
+        let behind = &segment[self.prefix_length() as usize..];
+        &behind[..self.dbd.length_in(self.code, behind)]
     }
 
-    /// Makes room of the type's stored size a row of the type, as a whole stored segment that no pointer leads from.
+    /// Makes room of the size that a row of the type takes the row, as a whole stored segment that no pointer leads from.
     pub fn write_new(&self, segment: &mut [u8], bytes: &[u8])
         requires fits { row_fits (types_of self.now) (record { code = type_code self.now; bytes = bytes.now }) ≡ true }
-        requires size { length segment.old ≡ stored_size (types_of self.now) (type_code self.now) }
+        requires size { length segment.old ≡ size_with (types_of self.now) (type_code self.now) (length bytes.now) }
         ensures { segment.new ≡ new_segment (types_of self.now) (type_code self.now) bytes.now }
     {
         let prefix = self.prefix_length() as usize;
         segment.fill(0);
         segment[0] = self.code;
         write_bytes(segment, prefix, bytes);
-    }
-
-    /// The length of the segment's own bytes.
-    fn length(&self) -> usize
-        ensures value { result ≡ length_of (types_of self.now) (type_code self.now) }
-        ensures bound { result ≤ 4294967295 }
-    {
-        match self.dbd.type_of(self.code) {
-            Some(segment) => segment.length as usize,
-            None => 0,
-        }
     }
 
     fn forward_place(&self) -> Option<u16>

@@ -49,6 +49,7 @@ fn type_with(
         name: name(called),
         parent,
         length,
+        least: None,
         key: key_of(key),
         rule: Rule::Last,
         backward: true,

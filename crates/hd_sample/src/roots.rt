@@ -18,6 +18,7 @@ pub fn root_database(alloc: Global, block_size: u32, key_length: u8) -> Result<D
             name: Name8::from_padded(*b"ROOT    ").unwrap(),
             parent: None,
             length: u32::from(key_length) + REST,
+            least: None,
             key: Some(Key {
                 start: 1,
                 length: u32::from(key_length),

@@ -16,6 +16,7 @@ pub fn segment_type(
         name,
         parent,
         length,
+        least: None,
         key: if key == 0 {
             None
         } else {

@@ -1,10 +1,10 @@
 -- What ISRT comes to: rows that went in, or a status alone.
-use Rattle.std.proofs.Common.{◌≡◌, ℕ, ◌<◌, List, [], ◌∷◌, length, take, Bool, true, false, cond, Option, Some, None, refl, sym, ap, ◌∙◌, subst, arith}
-use Rattle.std.specs.Prelude.{map}
+use Rattle.std.proofs.Common.{◌≡◌, ℕ, ◌<◌, List, [], ◌∷◌, length, take, Bool, true, false, cond, Option, Some, None, refl, sym, ap, ◌∙◌, subst, arith, Ok, Err}
+use Rattle.std.specs.Prelude.{map, Result}
 use Rattle.std.specs.Option.{option_map_or}
 use Rattle.std.proofs.lemmas.Bool.{cond-false, false≢true}
 use Rattle.hd_dbd.specs.declared.answer.Status.{Status}
-use Rattle.hd_dbd.specs.declared.answer.Status.TheVariants.{GE, II}
+use Rattle.hd_dbd.specs.declared.answer.Status.TheVariants.{GE, II, V1}
 use Rattle.hd_dbd.specs.Hierarchy.{parent_of}
 use Rattle.hd_dbd.specs.Segment.{Segment}
 use Rattle.hd_dbd.specs.Positions.{Position}
@@ -15,7 +15,9 @@ use Rattle.hd_calls.specs.Ssas.{Ssa, first_inserted}
 use Rattle.hd_calls.specs.Moves.{Change}
 use Rattle.hd_calls.specs.NoLostUpdate.{is_done}
 use Rattle.hd_calls.specs.Places.{insert_parent, is_key_taken, insertion_point}
-use Rattle.hd_calls.specs.Steps.{Effect, answered, wrong_area, bare_answer, divide, length_of, new_rows, inserted_codes, rule_asked, insert_at, insert_below, insert_rows, insert_or_load, load_step, insert_step}
+use Rattle.hd_calls.specs.Steps.{Effect, answered, wrong_area, bare_answer, divide, new_rows, inserted_codes, rule_asked, insert_at, insert_below, insert_rows, insert_or_load, load_step, insert_step, new_row, with_parts}
+use Rattle.hd_calls.specs.declared.call.AreaFault.{AreaFault}
+use Rattle.hd_calls.specs.declared.call.AreaFault.TheVariants.{Length, Bytes}
 
 -- The effect of an insertion: some rows go in at a number.
 pub record IsInsertion (s : Setting) (rows : List Segment) (p : Position) (effect : Effect) : Type 0 where
@@ -77,8 +79,9 @@ module _ (s : Setting) (rows : List Segment) (p : Position) where
       subst (Inserts s rows p) (sym (cond-false (loads s.pcb) (load_step s rows p r) (insert_rows s rows p ssas (r ∷ rs) r) no_load)) (by_parent ssas (r ∷ rs) r (omega arith))
 
   pub insert_answers : loads s.pcb ≡ false → (ssas : List Ssa) (area : List ℕ) → Inserts s rows p (insert_step s rows p ssas area)
-  insert_answers no_load ssas area = by (divide (map (λ c. length_of s.types c) (inserted_codes ssas)) area)
+  insert_answers no_load ssas area = by (divide s.types (map (λ c. new_row c) (inserted_codes ssas)) area)
     where
-      by : (o : Option (List (List ℕ))) → Inserts s rows p (option_map_or (λ parts. insert_or_load s rows p ssas (new_rows (inserted_codes ssas) parts)) o wrong_area)
-      by None = by_area
-      by (Some parts) = by_rows no_load ssas (new_rows (inserted_codes ssas) parts)
+      by : (r : Result (List (List ℕ)) AreaFault) → Inserts s rows p (with_parts p r (λ parts. insert_or_load s rows p ssas (new_rows (inserted_codes ssas) parts)))
+      by (Err Length) = by_status V1 refl
+      by (Err Bytes) = by_area
+      by (Ok parts) = by_rows no_load ssas (new_rows (inserted_codes ssas) parts)

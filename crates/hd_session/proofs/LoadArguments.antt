@@ -1,5 +1,5 @@
 -- What the arguments of an ISRT insert: nothing where there is none, one row where the PCB loads.
-use Rattle.std.proofs.Common.{◌≡◌, ℕ, ◌<◌, ◌≤◌, List, [], ◌∷◌, length, drop, Bool, true, false, cond, Ok, Option, Some, None, refl, sym, ap, subst, ◌∙◌, arith, inl, inr}
+use Rattle.std.proofs.Common.{◌≡◌, ℕ, ◌<◌, ◌≤◌, List, [], ◌∷◌, length, drop, Bool, true, false, cond, Ok, Option, Some, None, refl, sym, ap, subst, ◌∙◌, arith, inl, inr, Err}
 use Rattle.std.specs.Prelude.{Result, is_some, map, nat_le, not, ◌||◌, ◌==◌, slice_index_or, option_and_then}
 use Rattle.std.specs.Option.{option_map_or, ok_or}
 use Rattle.std.proofs.lemmas.Bool.{and_parts, cases_lt, eq-eqb, eqb-true, leb-true, false≢true}
@@ -12,13 +12,14 @@ use Rattle.hd_calls.specs.declared.call.Function.TheVariants.{Insert}
 use Rattle.hd_calls.specs.Access.{loads}
 use Rattle.hd_calls.specs.Functions.{result_and_then}
 use Rattle.hd_calls.specs.Ssas.{Head, Ssa, read_heads, heads_of, heads_suit, unqualified, first_inserted_head, codes_of, first_inserted, read_ssa, read_ssas}
-use Rattle.hd_calls.specs.Steps.{State, wrong_area, position_at, inserted_codes, insert_or_load, new_rows}
+use Rattle.hd_calls.specs.Steps.{State, wrong_area, position_at, inserted_codes, insert_or_load, new_rows, with_parts}
 use Rattle.hd_calls.proofs.FairCalls.{and_then_ok, or_ok}
 use Rattle.hd_calls.proofs.SoundInserts.{ChainCodes, above_code}
 use Rattle.hd_update.specs.Inserting.{insert_effect}
 use Rattle.hd_update.specs.Loading.{InsertsOne}
 use Rattle.hd_update.proofs.InsertArguments.{inserted_chain}
 use Rattle.hd_session.specs.Inserts.{AreArgumentsOf}
+use Rattle.hd_calls.specs.declared.call.AreaFault.TheVariants.{Bytes}
 
 -- ---- no argument
 
@@ -35,7 +36,7 @@ is_some_number n b is some = elim (cases_lt 0 n) [
 pub none_inserted : (d : Database) (pcb : View) (number : ℕ) (ssas : List Ssa) (area : List ℕ) (st : State) → length ssas ≡ 0 → insert_effect d pcb number ssas area st ≡ wrong_area
 none_inserted d pcb number [] area st none = by (length area == 0)
   where
-    by : (b : Bool) → option_map_or (λ parts. insert_or_load (record { types = d.types; pcb = pcb }) st.rows (position_at st number) [] (new_rows [] parts)) (cond b (Some []) None) wrong_area ≡ wrong_area
+    by : (b : Bool) → with_parts (position_at st number) (cond b (Ok []) (Err Bytes)) (λ parts. insert_or_load (record { types = d.types; pcb = pcb }) st.rows (position_at st number) [] (new_rows [] parts)) ≡ wrong_area
     by true = refl
     by false = refl
 none_inserted d pcb number (a ∷ ssas) area st none = absurd (omega arith)

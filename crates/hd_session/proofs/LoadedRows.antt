@@ -30,7 +30,7 @@ module _ (d : Database) (pcb : View) (ssas : List Ssa) (code : ℕ) (area : List
   row = record { code = code; bytes = area }
 
   is : load_effect d pcb number ssas area st ≡ insert_at (record { types = d.types; pcb = pcb }) st.rows (position_at st number) (row ∷ []) (length st.rows)
-  is = (load_answers d code area pcb ssas I st number A.reply A.change A.own typed A.is).found (ap is_done A.outcome_is.0 ∙ A.outcome_is.1)
+  is = (load_answers d code area pcb ssas I st number A.reply A.change A.own A.is).found (ap is_done A.outcome_is.0 ∙ A.outcome_is.1)
 
   -- the PCB has its path
   pub on_loaded : IsOnRow d.types (links_of d.types w) A.represents.placed (slice_index_or new (number - 1) k).path (length st.rows + 1 - 1)
@@ -51,7 +51,7 @@ missed_step d pcb ssas code area I typed v st number status w new reply none A =
   is =
       A.is
       ∙ ap (λ (r : Reply). answered r A.change A.own)
-      ((load_answers d code area pcb ssas I st number A.reply A.change A.own typed A.is).missed (ap is_done A.outcome_is.0 ∙ A.outcome_is.1) ∙ ap bare A.outcome_is.0 ∙ sym none);
+      ((load_answers d code area pcb ssas I st number A.reply A.change A.own A.is).missed (ap is_done A.outcome_is.0 ∙ A.outcome_is.1) ∙ ap bare A.outcome_is.0 ∙ sym none);
   represents = A.represents;
   follows = A.follows;
 }

@@ -23,11 +23,13 @@ use Rattle.hd_calls.specs.Access.{loads}
 use Rattle.hd_calls.specs.Moves.{put_in, rows_after, position_after}
 use Rattle.hd_calls.specs.Runs.{view_of, effect_by, state_after_outcome}
 use Rattle.hd_calls.specs.Ssas.{Ssa}
-use Rattle.hd_calls.specs.Steps.{State, Effect, answered, wrong_area, AcceptedCall, accepted_call, after_tests, effect_of, own_step, is_allowed, position_at, state_after, step, bare_answer, divide, length_of, new_rows, inserted_codes, insert_at, insert_or_load, insert_rows, insert_step, load_step}
+use Rattle.hd_calls.specs.Steps.{State, Effect, answered, wrong_area, AcceptedCall, accepted_call, after_tests, effect_of, own_step, is_allowed, position_at, state_after, step, bare_answer, divide, new_rows, inserted_codes, insert_at, insert_or_load, insert_rows, insert_step, load_step, new_row, with_parts}
 use Rattle.hd_calls.proofs.Moving.{length-put_in}
 use Rattle.hd_session.specs.Opening.{LoadersArePastAll}
 use Rattle.hd_session.proofs.LoadArguments.{is_some_number}
 use Rattle.hd_session.proofs.TestedCalls.{accepted_ok}
+use Rattle.hd_calls.specs.declared.call.AreaFault.{AreaFault}
+use Rattle.hd_calls.specs.declared.call.AreaFault.TheVariants.{Length, Bytes}
 
 -- ---- a PCB that loads stands alone
 
@@ -98,11 +100,12 @@ module _ (s : Setting) (rows : List Segment) (p : Position) (past : p.passed ≡
   rows_past loader ssas (r ∷ rs) = subst (StaysPast rows) (sym (cond-true (loads s.pcb) (load_step s rows p r) (insert_rows s rows p ssas (r ∷ rs) r) loader)) (load_past r)
 
   insert_past : loads s.pcb ≡ true → (ssas : List Ssa) (bytes : List ℕ) → StaysPast rows (insert_step s rows p ssas bytes)
-  insert_past loader ssas bytes = by (divide (map (λ c. length_of s.types c) (inserted_codes ssas)) bytes)
+  insert_past loader ssas bytes = by (divide s.types (map (λ c. new_row c) (inserted_codes ssas)) bytes)
     where
-      by : (o : Option (List (List ℕ))) → StaysPast rows (option_map_or (λ parts. insert_or_load s rows p ssas (new_rows (inserted_codes ssas) parts)) o wrong_area)
-      by None = tt
-      by (Some parts) = rows_past loader ssas (new_rows (inserted_codes ssas) parts)
+      by : (r : Result (List (List ℕ)) AreaFault) → StaysPast rows (with_parts p r (λ parts. insert_or_load s rows p ssas (new_rows (inserted_codes ssas) parts)))
+      by (Err Length) = past
+      by (Err Bytes) = tt
+      by (Ok parts) = rows_past loader ssas (new_rows (inserted_codes ssas) parts)
 
   -- no other function passes its tests
   forbidden : (l x : Bool) → l ≡ true → (not l && x) ≡ true → ⊥

@@ -1,8 +1,7 @@
 -- The rows on one path are together no longer than the longest path.
 use Rattle.std.proofs.Common.{◌≡◌, ℕ, zero, suc, ◌+◌, ◌-◌, ◌<◌, ◌≤◌, List, [], ◌∷◌, ◌++◌, length, true, false, arith, Option, Some, None, refl, sym, ap, ◌∙◌, subst, IsTrue}
-use Rattle.std.specs.Prelude.{slice_get, slice_index, option_and_then, option_map, ◌==◌}
+use Rattle.std.specs.Prelude.{slice_get, slice_index, option_and_then, option_map}
 use Rattle.std.specs.Option.{option_map_or}
-use Rattle.std.proofs.lemmas.Bool.{eqb-true}
 use Rattle.std.proofs.lemmas.List.{length-append, get_or_at}
 use Rattle.hd_dbd.specs.Types.{SegmentType}
 use Rattle.hd_dbd.specs.Segment.{Segment}
@@ -10,11 +9,12 @@ use Rattle.hd_dbd.specs.Hierarchy.{weights_from, weights, greatest, longest_path
 use Rattle.hd_dbd.specs.declared.hierarchy.FreeSpace.{FreeSpace}
 use Rattle.hd_dbd.specs.DatabaseRules.{well_formed}
 use Rattle.hd_dbd.specs.Laws.{IsInSequence}
-use Rattle.hd_dbd.specs.Rows.{row_fits, valid}
+use Rattle.hd_dbd.specs.Rows.{valid}
 use Rattle.hd_dbd.specs.Paths.{row_at, level_at, parent_row, path_of}
 use Rattle.hd_dbd.proofs.Levels.{weights_front, type_within}
 use Rattle.hd_dbd.proofs.Fitting.{IsEarlier}
-use Rattle.hd_dbd.proofs.LevelLaw.{leveled, parents_earlier, typed}
+use Rattle.hd_dbd.proofs.LevelLaw.{leveled, parents_earlier}
+use Rattle.hd_dbd.proofs.TypeLengths.{row-type, length-most}
 use Rattle.hd_dbd.proofs.RowPaths.{path_follows}
 use Rattle.hd_dbd.proofs.InSequence.{in_sequence}
 use Rattle.hd_dbd.proofs.Twins.{nearest_before}
@@ -99,24 +99,23 @@ module _ (types : List SegmentType) (rows : List Segment) (block_size : ℕ) (fr
   abbrev bytes_at_row : ℕ → List ℕ
   bytes_at_row k = (row_at rows k).bytes
 
-  fits_by : (r : Segment) (t : SegmentType) → type_of types r.code ≡ Some t → row_fits types r ≡ true → length r.bytes ≡ t.length
-  fits_by r t is fits = eqb-true (length r.bytes) t.length (ap (λ (o : Option SegmentType). option_map_or (λ u. length r.bytes == u.length) o false) (sym is) ∙ fits)
-
-  -- a row's type weighs as much as the row, with its parent's type
-  own_weight : (i : ℕ) → i < length rows → weight_of types (row_at rows i).code ≡ length (bytes_at_row i) + above_weight (type_weights types) (parent_of types (row_at rows i).code)
+  -- a row's type weighs no less than the row, with its parent's type
+  own_weight : (i : ℕ) → i < length rows → length (bytes_at_row i) + above_weight (type_weights types) (parent_of types (row_at rows i).code) ≤ weight_of types (row_at rows i).code
   own_weight i within =
       let r : Segment = row_at rows i in
-      let fits : row_fits types r ≡ true = in_order.fit i within in
-      let T = typed types r fits in
-      weight_above types r.code T.0 (parents_earlier block_size frspc types r.code T.0 formed T.1) T.1
-      ∙ ap (λ (n : ℕ). n + above_weight (type_weights types) T.0.parent) (sym (fits_by r T.0 T.1 fits))
-      ∙ ap (λ (o : Option ℕ). length r.bytes + above_weight (type_weights types) o) (ap (λ (o : Option SegmentType). option_and_then (λ (u : SegmentType). u.parent) o) (sym T.1))
+      let T = row-type types r (in_order.fit i within) in
+      let most : length r.bytes ≤ T.type.length = length-most T.type r.bytes T.fits in
+      let weighs : weight_of types r.code ≡ T.type.length + above_weight (type_weights types) T.type.parent =
+      weight_above types r.code T.type (parents_earlier block_size frspc types r.code T.type formed T.is) T.is in
+      let above : above_weight (type_weights types) (parent_of types r.code) ≡ above_weight (type_weights types) T.type.parent =
+      ap (λ (o : Option SegmentType). above_weight (type_weights types) (option_and_then (λ (u : SegmentType). u.parent) o)) T.is in
+      omega (arith, most, weighs, above)
 
   none_above : (i : ℕ) → i < length rows → parent_row types rows i ≡ None → total bytes_at_row (path_of types rows i) ≤ weight_of types (row_at rows i).code
   none_above i within e =
       let path : path_of types rows i ≡ i ∷ [] = path_follows types rows i ∙ ap (λ (o : Option ℕ). option_map_or (λ p. path_of types rows p) o [] ++ i ∷ []) e in
       let size : total bytes_at_row (path_of types rows i) ≡ length (bytes_at_row i) + 0 = ap (total bytes_at_row) path in
-      let own : weight_of types (row_at rows i).code ≡ length (bytes_at_row i) + above_weight (type_weights types) (parent_of types (row_at rows i).code) = own_weight i within in
+      let own = own_weight i within in
       omega arith
 
   one_above : (i q : ℕ) → i < length rows → parent_row types rows i ≡ Some q → total bytes_at_row (path_of types rows q) ≤ weight_of types (row_at rows q).code
@@ -124,9 +123,10 @@ module _ (types : List SegmentType) (rows : List Segment) (block_size : ℕ) (fr
   one_above i q within e more =
       let path : path_of types rows i ≡ path_of types rows q ++ i ∷ [] = path_follows types rows i ∙ ap (λ (o : Option ℕ). option_map_or (λ p. path_of types rows p) o [] ++ i ∷ []) e in
       let size : total bytes_at_row (path_of types rows i) ≡ total bytes_at_row (path_of types rows q) + (length (bytes_at_row i) + 0) = ap (total bytes_at_row) path ∙ total_join bytes_at_row (path_of types rows q) (i ∷ []) in
-      let own : weight_of types (row_at rows i).code ≡ length (bytes_at_row i) + weight_of types (row_at rows q).code
-      = own_weight i within ∙ ap (λ (o : Option ℕ). length (bytes_at_row i) + above_weight (type_weights types) o) (sym (in_order.parents i within) ∙ ap (option_map (λ j. (row_at rows j).code)) e) in
-      omega arith
+      let above : above_weight (type_weights types) (parent_of types (row_at rows i).code) ≡ weight_of types (row_at rows q).code =
+      ap (λ (o : Option ℕ). above_weight (type_weights types) o) (sym (in_order.parents i within) ∙ ap (option_map (λ j. (row_at rows j).code)) e) in
+      let own = own_weight i within in
+      omega (arith, own, above, more, size)
 
   weighs : (n i : ℕ) → i < n → i < length rows → total bytes_at_row (path_of types rows i) ≤ weight_of types (row_at rows i).code
   weighs zero i few within = absurd (omega arith)

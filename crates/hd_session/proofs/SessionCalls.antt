@@ -16,7 +16,7 @@ use Rattle.hd_dbd.specs.declared.answer.Refused.{Refused}
 use Rattle.hd_dbd.specs.declared.answer.Refused.TheVariants as refused
 use Rattle.hd_dbd.specs.declared.program.TypeName.{TypeName}
 use Rattle.hd_calls.specs.Access.{loads}
-use Rattle.hd_calls.specs.Runs.{view_of, effect_by, MayComeTo, ImageFollows, Follows, LacksRoom, change_of, rows_put_in, state_after_outcome}
+use Rattle.hd_calls.specs.Runs.{view_of, effect_by, MayComeTo, ImageFollows, Follows, LacksRoom, change_of, state_after_outcome, rows_stored, inserts_root}
 use Rattle.hd_calls.specs.Steps.{State, Effect, answered, wrong_area, step, state_after}
 use Rattle.hd_volume.specs.Volumes.{VolumeState}
 use Rattle.hd_volume.specs.Stores.{StaysSound}
@@ -125,7 +125,7 @@ module _ (d : Database) (pcbs : List View) (pcb : View) (number : ℕ) (call : C
       record {
         may = subst (λ (x : Effect). MayComeTo x full) (sym e_is) L.blank;
         represents = stays d v w old new st S.size S.sizes now U R;
-        follows = (subst (λ (c : _). LacksRoom (images_of d) d.types v.image (rows_put_in c)) (sym (ap change_of e_is)) L.lacks, U.image now);
+        follows = (subst (λ (c : _). LacksRoom (images_of d) d.types v.image (rows_stored st.rows c) (inserts_root c)) (sym (ap change_of e_is)) L.lacks, U.image now);
       }
   logged (Err refused.Device) S st sound R = tt
   logged (Err refused.Broken) S st sound R = tt

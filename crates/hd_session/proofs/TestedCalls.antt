@@ -17,7 +17,7 @@ use Rattle.hd_calls.specs.Functions.{function_of, result_and_then}
 use Rattle.hd_calls.specs.Ssas.{Ssa, resolve}
 use Rattle.hd_calls.specs.Gets.{unheld}
 use Rattle.hd_calls.specs.Moves.{unchanged}
-use Rattle.hd_calls.specs.Runs.{Follows, LacksRoom, rows_put_in}
+use Rattle.hd_calls.specs.Runs.{Follows, LacksRoom, rows_stored, inserts_root}
 use Rattle.hd_calls.specs.Steps.{State, Effect, AcceptedCall, accepted_call, last_tests, holds_enough, is_allowed, names_enough, looks_below_parent, own_step, after_tests, bare_answer, position_at, state_after}
 use Rattle.hd_volume.specs.Volumes.{VolumeState}
 use Rattle.hd_volume.specs.Calls.{IsRead}
@@ -104,14 +104,14 @@ step_before d v mid st number e w kept image S = record {
 }
 
 -- and room that lacks after them lacked before
-pub lacks_before : (d : Database) (v mid : VolumeState) (e : Effect) → mid.image ≡ v.image → LacksRoomFor d mid e → LacksRoomFor d v e
-lacks_before d v mid e image L = record {
+pub lacks_before : (d : Database) (v mid : VolumeState) (rows : List Segment) (e : Effect) → mid.image ≡ v.image → LacksRoomFor d mid rows e → LacksRoomFor d v rows e
+lacks_before d v mid rows e image L = record {
   reply = L.reply;
   change = L.change;
   own = L.own;
   is = L.is;
   blank = L.blank;
-  lacks = subst (λ (x : List ℕ). LacksRoom (images_of d) d.types x (rows_put_in L.change)) image L.lacks;
+  lacks = subst (λ (x : List ℕ). LacksRoom (images_of d) d.types x (rows_stored rows L.change) (inserts_root L.change)) image L.lacks;
 }
 
 -- a status that changes nothing

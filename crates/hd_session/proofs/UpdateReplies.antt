@@ -1,6 +1,6 @@
 -- What REPL and DLET answer.
-use Rattle.std.proofs.Common.{◌≡◌, ℕ, ◌-◌, ◌<◌, ◌≤◌, List, [], length, Bool, true, false, cond, Ok, Option, Some, None, refl, sym, ap, ◌∙◌, subst}
-use Rattle.std.specs.Prelude.{map, slice_index_or}
+use Rattle.std.proofs.Common.{◌≡◌, ℕ, ◌-◌, ◌<◌, ◌≤◌, List, [], length, Bool, true, false, cond, Ok, Option, Some, None, refl, sym, ap, ◌∙◌, subst, Err}
+use Rattle.std.specs.Prelude.{map, slice_index_or, Result}
 use Rattle.std.specs.Option.{option_map_or}
 use Rattle.std.specs.List.{list_all}
 use Rattle.hd_dbd.specs.Hierarchy.{Database}
@@ -10,11 +10,11 @@ use Rattle.hd_dbd.specs.Positions.{Position}
 use Rattle.hd_dbd.specs.Calls.{Reply, bare, row_reply}
 use Rattle.hd_dbd.specs.Views.{Setting}
 use Rattle.hd_dbd.specs.declared.answer.Status.{Status}
-use Rattle.hd_dbd.specs.declared.answer.Status.TheVariants.{Blank, DA, DJ}
+use Rattle.hd_dbd.specs.declared.answer.Status.TheVariants.{Blank, DA, DJ, V1}
 use Rattle.hd_calls.specs.Ssas.{Ssa}
 use Rattle.hd_calls.specs.Gets.{unheld}
 use Rattle.hd_calls.specs.Moves.{Change, Rewrite, rewritten}
-use Rattle.hd_calls.specs.Steps.{State, Effect, answered, wrong_area, bare_answer, position_at, lowest, divide, length_of, rewrites_of, rewrites_asked, keeps_key, replace_rows, replace_step, deleted_row, delete_row, delete_step}
+use Rattle.hd_calls.specs.Steps.{State, Effect, answered, wrong_area, bare_answer, position_at, lowest, divide, rewrites_of, rewrites_asked, keeps_key, replace_rows, replace_step, deleted_row, delete_row, delete_step, held_part, with_parts}
 use Rattle.hd_calls.specs.NoLostUpdate.{is_done}
 use Rattle.hd_volume.specs.Volumes.{VolumeState}
 use Rattle.hd_volume.specs.Calls.{IsRead}
@@ -29,6 +29,8 @@ use Rattle.hd_update.proofs.Answering.{answered_before, represented}
 use Rattle.hd_update.proofs.Standing.{own_position}
 use Rattle.hd_session.specs.Sessions.{IsStep, IsTold, IsLevelGiven, IsReplaceStep, IsDeleteStep, lowest_level, deleted_level}
 use Rattle.hd_session.proofs.HeldLevels.{lowest_at, deleted_at}
+use Rattle.hd_calls.specs.declared.call.AreaFault.{AreaFault}
+use Rattle.hd_calls.specs.declared.call.AreaFault.TheVariants.{Length, Bytes}
 
 true_false : true ≡ false → ⊥
 true_false e = cc
@@ -69,11 +71,12 @@ rows_reply s rows p ws = by (list_all (λ w. keeps_key s.types rows w) ws)
     by false = gives_none DA (row_reply s rows (lowest p.held) Blank []) _ (unheld p) refl
 
 replace_reply : (s : Setting) (rows : List Segment) (p : Position) (ssas : List Ssa) (area : List ℕ) → GivesRow (replace_step s rows p ssas area) (row_reply s rows (lowest p.held) Blank [])
-replace_reply s rows p ssas area = by (divide (map (λ i. length_of s.types (row_at rows i).code) p.held) area)
+replace_reply s rows p ssas area = by (divide s.types (map (λ i. held_part rows ssas i) p.held) area)
   where
-    by : (o : Option (List (List ℕ))) → GivesRow (option_map_or (λ parts. replace_rows s rows p (rewrites_asked rows ssas (rewrites_of p.held parts))) o wrong_area) (row_reply s rows (lowest p.held) Blank [])
-    by None = gives_area (row_reply s rows (lowest p.held) Blank [])
-    by (Some parts) = rows_reply s rows p (rewrites_asked rows ssas (rewrites_of p.held parts))
+    by : (r : Result (List (List ℕ)) AreaFault) → GivesRow (with_parts p r (λ parts. replace_rows s rows p (rewrites_asked rows ssas (rewrites_of p.held parts)))) (row_reply s rows (lowest p.held) Blank [])
+    by (Err Length) = gives_none V1 (row_reply s rows (lowest p.held) Blank []) _ (unheld p) refl
+    by (Err Bytes) = gives_area (row_reply s rows (lowest p.held) Blank [])
+    by (Ok parts) = rows_reply s rows p (rewrites_asked rows ssas (rewrites_of p.held parts))
 
 delete_reply : (s : Setting) (rows : List Segment) (p : Position) (ssas : List Ssa) (row : Reply)
     → ((i : ℕ) → deleted_row rows ssas p.held ≡ Some i → row ≡ row_reply s rows i Blank []) → GivesRow (delete_step s rows p ssas) row

@@ -100,4 +100,4 @@ IsUndoneUnlessDevice v old e w new = e ≢ Device → IsUndone v old w new
 -- Where the refusal is Full, the call would be answered with blanks, and room lacks for its rows, whatever state the sound volume and what
 -- was kept stood for.
 abbrev pub IsRoomLacking : Database → VolumeState → List Kept → (State → Effect) → Refused → Type 0
-IsRoomLacking d v old effect e = (st : State) → e ≡ Full → IsTrue v.is_sound → Represents d v old st → LacksRoomFor d v (effect st)
+IsRoomLacking d v old effect e = (st : State) → e ≡ Full → IsTrue v.is_sound → Represents d v old st → LacksRoomFor d v st.rows (effect st)

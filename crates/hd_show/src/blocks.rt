@@ -98,7 +98,7 @@ fn note_data(
             Part::Used(place, len) => {
                 used = used.saturating_add(len);
                 end = end.saturating_add(len as usize);
-                note_stored(found, block, dbd, first, place)?;
+                note_stored(found, block, dbd, first, place, len)?;
             }
         }
     }
@@ -110,13 +110,14 @@ fn note_data(
     Ok(BlockUse { kind, used })
 }
 
-/// Notes the segment at a place of a data block that begins at an address.
+/// Notes the segment of a length at a place of a data block that begins at an address.
 fn note_stored(
     found: &mut Found,
     block: &[u8],
     dbd: &Dbd,
     first: u32,
     place: u16,
+    len: u16,
 ) -> Result<(), Refused>
     ensures { OnlyMemory result }
 {
@@ -125,12 +126,13 @@ fn note_stored(
     };
     let code = segment.first().copied().unwrap_or(0);
     let layout = Layout::of(dbd, code);
-    if segment.len() < layout.stored_size() as usize {
+    if !layout.is_whole(segment) {
         return Ok(());
     }
     let forward = layout.read(segment, Pointer::TwinForward);
     let address = first.saturating_add(u32::from(place));
-    note_segment(&mut found.types, code);
+    let own = layout.bytes(segment).len();
+    note_segment(&mut found.types, code, u64::from(len), own as u64);
     note_children(&mut found.types, dbd, code, segment);
     note_twin(&mut found.twins, address, forward, code)
 }
@@ -138,7 +140,7 @@ fn note_stored(
 /// Notes for each child type whether a segment has such children.
 fn note_children(types: &mut Vec<TypeUse>, dbd: &Dbd, code: u8, segment: &[u8]) {
     let layout = Layout::of(dbd, code);
-    if segment.len() < layout.stored_size() as usize {
+    if segment.len() < layout.prefix_length() as usize {
         return;
     }
     for child in dbd.children_of(code) {

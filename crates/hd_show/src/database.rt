@@ -17,10 +17,11 @@ const TWINS: usize = 17;
 
 const PARENT: usize = 11;
 
-/// How wide the columns are whose width the database gives: the tree, and the name and the place of a key.
+/// How wide the columns are whose width the database gives: the tree, the bytes, and the name and the place of a key.
 #[derive(Clone, Copy)]
 struct Widths {
     tree: usize,
+    bytes: usize,
     name: usize,
     range: usize,
     has_fields: bool,
@@ -36,8 +37,11 @@ impl Widths {
 
     /// The columns before the fields.
     fn before_fields(&self) -> usize {
-        let fixed = 2 + 5 + 2 + 5 + 2 + 2 + RULE + 2 + TWINS + 2 + PARENT + 2;
-        self.tree.saturating_add(self.key()).saturating_add(fixed)
+        let fixed = 2 + 5 + 2 + 2 + 2 + RULE + 2 + TWINS + 2 + PARENT + 2;
+        self.tree
+            .saturating_add(self.bytes)
+            .saturating_add(self.key())
+            .saturating_add(fixed)
     }
 }
 
@@ -105,6 +109,27 @@ fn put_range<W: Write>(start: u32, length: u32, out: &mut W) -> io::Result<()> {
     put_number(out, last_column(start, length))
 }
 
+/// How many columns the bytes of a type's segments take.
+fn bytes_width(segment: &SegType) -> usize {
+    let most = digits(u64::from(segment.length));
+    match segment.least {
+        Some(least) => digits(u64::from(least))
+            .saturating_add(most)
+            .saturating_add(1),
+        None => most,
+    }
+}
+
+/// Writes how many bytes a type's segments have, and where they vary the fewest before.
+fn put_bytes<W: Write>(segment: &SegType, widths: &Widths, out: &mut W) -> io::Result<()> {
+    put_blanks(out, widths.bytes.saturating_sub(bytes_width(segment)))?;
+    if let Some(least) = segment.least {
+        put_number(out, u64::from(least))?;
+        put(out, "-")?;
+    }
+    put_number(out, u64::from(segment.length))
+}
+
 /// The widths, with room for one type more.
 fn widened(widths: Widths, level: u8, segment: &SegType) -> Widths {
     let tree = branch_width(level).saturating_add(name_text(&segment.name).len());
@@ -114,6 +139,7 @@ fn widened(widths: Widths, level: u8, segment: &SegType) -> Widths {
         .map_or(0, |key| range_width(key.start, key.length));
     Widths {
         tree: widths.tree.max(tree),
+        bytes: widths.bytes.max(bytes_width(segment)),
         name: widths.name.max(name),
         range: widths.range.max(range),
         has_fields: widths.has_fields
@@ -124,6 +150,7 @@ fn widened(widths: Widths, level: u8, segment: &SegType) -> Widths {
 fn widths_of(dbd: &Dbd) -> Widths {
     let mut widths = Widths {
         tree: 7,
+        bytes: 5,
         name: 3,
         range: 3,
         has_fields: false,
@@ -138,7 +165,9 @@ fn widths_of(dbd: &Dbd) -> Widths {
 
 fn put_headings<W: Write>(widths: &Widths, out: &mut W) -> io::Result<()> {
     put_left(out, b"Segment", widths.tree)?;
-    put(out, "  Level  Bytes  ")?;
+    put(out, "  Level  ")?;
+    put_blanks(out, widths.bytes.saturating_sub(5))?;
+    put(out, "Bytes  ")?;
     put_left(out, b"Key", widths.key())?;
     put(out, "  Rule   Twins              In parent")?;
     if widths.has_fields {
@@ -161,7 +190,7 @@ fn put_type<W: Write>(dbd: &Dbd, code: u8, widths: &Widths, out: &mut W) -> io::
     put(out, "\n")
 }
 
-/// Writes the branches and the name of a type, its level and its length.
+/// Writes the branches and the name of a type, its level and its bytes.
 fn put_tree<W: Write>(
     dbd: &Dbd,
     code: u8,
@@ -174,7 +203,8 @@ fn put_tree<W: Write>(
     let width = widths.tree.saturating_sub(branch_width(level));
     put_left(out, name_text(&segment.name), width)?;
     put_count(out, u64::from(level), 7)?;
-    put_count(out, u64::from(segment.length), 7)?;
+    put(out, "  ")?;
+    put_bytes(segment, widths, out)?;
     put(out, "  ")
 }
 

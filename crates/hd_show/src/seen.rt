@@ -112,11 +112,11 @@ fn see_in(alloc: Global, dbd: &Dbd, segment: &[u8]) -> Result<Option<Seen>, Refu
     ensures refusal { OnlyMemory result }
 {
     let code = segment.first().copied().unwrap_or(0);
-    if dbd.type_of(code).is_none() || segment.len() < dbd.stored_size(code) as usize {
+    let layout = Layout::of(dbd, code);
+    if dbd.type_of(code).is_none() || !layout.is_whole(segment) {
         return Ok(None);
     }
-    let stored = Layout::of(dbd, code).bytes(segment);
-    match copied(alloc, dbd.key_of(code, stored)) {
+    match copied(alloc, dbd.key_of(code, layout.bytes(segment))) {
         Some(key) => Ok(Some(Seen { code, key })),
         None => Err(Refused::Memory),
     }

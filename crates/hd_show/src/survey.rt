@@ -21,12 +21,14 @@ pub struct BlockUse {
     pub used: u16,
 }
 
-/// The segments of a type: how many they are, how many parents have such children, in how many twin chains they stand,
-/// and how many are in the longest. Of damage, the twin forward pointers that name no segment of the type, and the
-/// chains that come upon a segment that is passed already.
+/// The segments of a type: how many they are, the bytes that they take in data blocks, and of these their own; how many parents
+/// have such children, in how many twin chains they stand, and how many are in the longest. Of damage, the twin forward
+/// pointers that name no segment of the type, and the chains that come upon a segment that is passed already.
 #[derive(Clone, Copy, Debug)]
 pub struct TypeUse {
     pub segments: u32,
+    pub stored: u64,
+    pub data: u64,
     pub parents: u32,
     pub chains: u32,
     pub longest: u32,
@@ -78,6 +80,8 @@ impl TypeUse {
     pub fn none() -> TypeUse {
         TypeUse {
             segments: 0,
+            stored: 0,
+            data: 0,
             parents: 0,
             chains: 0,
             longest: 0,
@@ -95,12 +99,11 @@ impl TypeUse {
     /// The bytes of the segments, which are of the type of a code.
     pub fn bytes(&self, dbd: &Dbd, code: u8) -> TypeBytes {
         let segments = u64::from(self.segments);
-        let length = dbd.type_of(code).map_or(0, |segment| segment.length);
         TypeBytes {
             segments,
-            stored: segments.saturating_mul(u64::from(dbd.stored_size(code))),
+            stored: self.stored,
             prefix: segments.saturating_mul(u64::from(dbd.prefix_length(code))),
-            data: segments.saturating_mul(u64::from(length)),
+            data: self.data,
             chains: u64::from(self.chains),
         }
     }

@@ -100,10 +100,12 @@ fn note_nowhere(types: &mut Vec<TypeUse>, code: u8) {
     }
 }
 
-/// Counts a segment of a type.
-pub fn note_segment(types: &mut Vec<TypeUse>, code: u8) {
+/// Counts a segment of a type, the bytes that it takes, and its own among them.
+pub fn note_segment(types: &mut Vec<TypeUse>, code: u8, stored: u64, data: u64) {
     if let Some(own) = type_at(types, code) {
         own.segments = own.segments.saturating_add(1);
+        own.stored = own.stored.saturating_add(stored);
+        own.data = own.data.saturating_add(data);
     }
 }
 

@@ -7,7 +7,7 @@ const WORDS: &[&str] = &[
     "18", "19", "20", "M1", "M2", "M3", "M4", "G1", "G2", "G3", "G4", "G5", "B1", "B2", "B3", "B4",
     "B5", "B6", "B7", "B8", "B9", "B10", "P1", "P2", "P3", "P4", "P5", "P6", "K1", "K2", "K3",
     "K4", "K5", "K6", "K7", "U1", "U2", "U3", "U4", "Blank", "ga", "GK", "gb", "GE", "GP", "II",
-    "DA", "DJ", "LB", "LC", "LD", "LE", "AC", "AD", "AH", "AJ", "AK", "AM", "full", "AREA",
+    "V1", "DA", "DJ", "LB", "LC", "LD", "LE", "AC", "AD", "AH", "AJ", "AK", "AM", "full", "AREA",
     "Memory", "Device", "Broken", "exit0", "exit1", "exit2", "exit3", "exit4", "exit64",
 ];
 
@@ -34,7 +34,7 @@ fn tells_whole_sentences_in_short_lines(rt: HostRuntime) {
 
 #[test]
 fn knows_no_other_word(rt: HostRuntime) {
-    for word in &["", "0", "21", "M5", "GX", "V1", "exit5", "GE "] {
+    for word in &["", "0", "21", "M5", "GX", "V2", "exit5", "GE "] {
         let found = explain(word);
         assert!(rt; found.is_none(), "at {word}");
     }

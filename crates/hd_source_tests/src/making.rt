@@ -36,6 +36,7 @@ fn segment_type(
         name: name_of(kind.name),
         parent,
         length,
+        least: None,
         key,
         rule: Rule::Last,
         backward: false,
@@ -198,6 +199,7 @@ fn chain_types(alloc: Global) -> Result<Vec<SegType>, AllocError> {
             name: name_of(&chain_name(code)),
             parent: code.checked_sub(1).filter(|parent| *parent > 0),
             length: 4,
+            least: None,
             key: Some(Key {
                 start: 1,
                 length: 4,

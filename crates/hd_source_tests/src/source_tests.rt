@@ -69,6 +69,72 @@ fn reads_a_key_of_255_bytes(rt: HostRuntime) {
     }
 }
 
+/// The fault of a source whose root has these BYTES and a key of these BYTES and START, with blocks of 128 bytes.
+fn fault_of_root<R: AllocGlobal + Abort>(rt: &R, bytes: &[u8], key: &[u8]) -> Option<GenFault> {
+    let mut text = begun(rt, b"SIZE=128");
+    add(rt, &mut text, &[b" SEGM NAME=A,BYTES=", bytes]);
+    add(rt, &mut text, &[b" FIELD NAME=(KEY,SEQ),", key]);
+    add(rt, &mut text, &[b" DBDGEN"]);
+    fault_of(rt.alloc(), &text)
+}
+
+#[test]
+fn takes_no_type_that_varies(rt: HostRuntime) {
+    let text = b"\
+X DBD NAME=VARY,ACCESS=HIDAM
+ DATASET SIZE=128
+ SEGM NAME=A,BYTES=(8,4)
+ FIELD NAME=(KEY,SEQ),BYTES=2,START=3
+ SEGM NAME=B,PARENT=A,BYTES=8
+ SEGM NAME=C,PARENT=B,BYTES=(6,6)
+ DBDGEN
+";
+    let fault = fault_of(rt.alloc(), text.as_slice());
+    assert_eq!(rt; fault, Some(GenFault::Dbd(DbdFault::B5(1))));
+}
+
+#[test]
+fn judges_the_least_bytes(rt: HostRuntime) {
+    for (bytes, fault) in [
+        (b"(8,1)".as_slice(), Some(GenFault::Dbd(DbdFault::B5(1)))),
+        (b"(8,0)", Some(GenFault::Dbd(DbdFault::B5(1)))),
+        (b"(8,9)", Some(GenFault::Dbd(DbdFault::B5(1)))),
+        (b"(0,0)", Some(GenFault::Dbd(DbdFault::B5(1)))),
+    ] {
+        assert_eq!(rt; fault_of_root(&rt, bytes, b"BYTES=1,START=1"), fault);
+    }
+}
+
+#[test]
+fn counts_the_most_bytes_for_a_block(rt: HostRuntime) {
+    for (bytes, fault) in [
+        (b"110".as_slice(), None),
+        (b"111", Some(GenFault::Dbd(DbdFault::B8(1)))),
+    ] {
+        assert_eq!(rt; fault_of_root(&rt, bytes, b"BYTES=2,START=3"), fault);
+    }
+}
+
+#[test]
+fn takes_a_pair_of_numbers_for_bytes_of_a_segment_alone(rt: HostRuntime) {
+    for (bytes, fault) in [
+        (b"(8)".as_slice(), GenFault::G3(3)),
+        (b"(8,4,2)", GenFault::G3(3)),
+        (b"((8,4))", GenFault::G3(3)),
+        (b"(8,X)", GenFault::G4(3)),
+        (b"(X,4)", GenFault::G4(3)),
+        (b"(8,)", GenFault::G4(3)),
+        (b"(,4)", GenFault::G4(3)),
+        (b"(8,4294967296)", GenFault::G4(3)),
+    ] {
+        assert_eq!(rt; fault_of_root(&rt, bytes, b"BYTES=2,START=3"), Some(fault));
+    }
+    assert_eq!(rt;
+        fault_of_root(&rt, b"(8,4)", b"BYTES=(2,1),START=3"),
+        Some(GenFault::G3(4))
+    );
+}
+
 #[test]
 fn reads_every_statement_and_operand(rt: HostRuntime) {
     let text = b"\

@@ -100,6 +100,7 @@ fn random_type(
         name,
         parent,
         length,
+        least: None,
         key,
         rule: rule.unwrap_or(Rule::Last),
         backward: random.percent(50),

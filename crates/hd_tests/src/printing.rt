@@ -14,6 +14,7 @@ fn code_of(status: Status) -> &'static str {
         Status::GE => "GE",
         Status::GP => "GP",
         Status::II => "II",
+        Status::V1 => "V1",
         Status::DA => "DA",
         Status::DJ => "DJ",
         Status::LB => "LB",

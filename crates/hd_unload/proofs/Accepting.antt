@@ -1,26 +1,26 @@
 -- Of a stream that spells rows no record is refused.
-use Rattle.std.proofs.Common.{◌≡◌, ℕ, ◌+◌, ◌<◌, ◌≤◌, ◌^◌, List, [], ◌∷◌, ◌++◌, length, take, true, Option, Some, None, inl, inr, refl, sym, ap, ap₂, ◌∙◌, arith}
-use Rattle.std.specs.Prelude.{nat_lt, bytes_eq, ◌==◌, ◌-◌, option_map}
+use Rattle.std.proofs.Common.{◌≡◌, ℕ, ◌+◌, ◌<◌, ◌≤◌, ◌^◌, List, [], ◌∷◌, ◌++◌, length, take, drop, true, Option, Some, None, inl, inr, refl, sym, ap, ap₂, ◌∙◌, arith}
+use Rattle.std.specs.Prelude.{nat_lt, nat_le, bytes_eq, not, ◌&&◌, ◌==◌, ◌-◌, option_map}
 use Rattle.std.specs.Option.{option_map_or, option_or}
 use Rattle.std.specs.Int.{w16, w32, to_be_bytes, from_be_bytes}
-use Rattle.std.proofs.lemmas.Bool.{and_parts, and_from, eq-eqb, ne_eqb, le-ltb, cond-true, cond-false}
-use Rattle.std.proofs.lemmas.Nat.{from_be_bytes-to_be_bytes_2, from_be_bytes-to_be_bytes_4}
-use Rattle.std.proofs.lemmas.List.{append_assoc, append-nil, length-append, take_at}
+use Rattle.std.proofs.lemmas.Bool.{and_parts, and_from, eq-eqb, ne_eqb, le-leb, le-ltb, cond-true, cond-false}
+use Rattle.std.proofs.lemmas.Nat.{from_be_bytes-to_be_bytes_4}
+use Rattle.std.proofs.lemmas.List.{append_assoc, append-nil, length-append, length-drop, length-take-le, take_at}
 use Rattle.std.proofs.lemmas.Slice.Eq.{bytes_eq-Decides}
 use Rattle.hd_dbd.specs.Types.{SegmentType}
 use Rattle.hd_dbd.specs.Segment.{Segment}
-use Rattle.hd_dbd.specs.Hierarchy.{Database, type_of}
+use Rattle.hd_dbd.specs.Hierarchy.{Database}
+use Rattle.hd_dbd.specs.Lengths.{least_length, length_fits}
 use Rattle.hd_dbd.specs.Rows.{row_fits, valid_from, next_path}
 use Rattle.hd_dbd.specs.Loads.{last_path, load_fault}
-use Rattle.hd_dbd.proofs.LevelLaw.{typed, leveled}
+use Rattle.hd_dbd.proofs.LevelLaw.{leveled}
 use Rattle.hd_dbd.proofs.Loading.{loaded_valid}
-use Rattle.hd_dbd.proofs.StoredSizes.{block_size-bounds, stored_size-fits}
-use Rattle.hd_prefix.proofs.Sizes.{length_is, stored_long}
+use Rattle.hd_dbd.proofs.TypeLengths.{row-type, length-least, length-most}
 use Rattle.hd_image.specs.Laws.{IsDatabase}
 use Rattle.hd_unload.specs.declared.fault.RecordFault.{RecordFault}
 use Rattle.hd_unload.specs.declared.fault.RecordFault.TheVariants.{U3}
-use Rattle.hd_unload.specs.Streams.{head_bytes, record_bytes, records_bytes, end_bytes, head_fault, end_fault, spelling_fault, row_of, refusal_of, record_fault, IsStreamOf, IsRefusedAt}
-use Rattle.hd_unload.proofs.Streaming.{own-length, code-some, first-fits, behind-valid, spelled-first}
+use Rattle.hd_unload.specs.Streams.{head_bytes, record_bytes, records_bytes, end_bytes, head_fault, end_fault, length_said, row_bytes, spelling_fault, row_of, refusal_of, record_fault, IsStreamOf, IsRefusedAt}
+use Rattle.hd_unload.proofs.Streaming.{row-short, said, code-some, first-fits, behind-valid, spelled-first}
 
 -- ---- the header
 
@@ -42,37 +42,34 @@ end-accepted count few =
 
 -- ---- a record
 
--- nothing is wrong with the spelling of a record of a length, where bytes enough follow
-spelling-accepted : (own : ℕ) (rest : List ℕ) → 2 + own ≤ length rest → from_be_bytes w16 rest ≡ own → spelling_fault own rest ≡ None
-spelling-accepted own rest long is =
+-- nothing is wrong with the spelling of a record of a type, where bytes enough follow and their length is one that the type allows
+spelling-accepted : (t : SegmentType) (rest : List ℕ) → 2 + length_said rest ≤ length rest → length_fits t (row_bytes rest) ≡ true → spelling_fault t rest ≡ None
+spelling-accepted t rest long fits =
+    let own : ℕ = length_said rest in
+    let len : length (row_bytes rest) ≡ own = length-take-le own (drop 2 rest) (omega (arith, length-drop 2 rest)) in
+    let least : least_length t ≤ own = omega (arith, length-least t (row_bytes rest) fits, len) in
+    let most : own ≤ t.length = omega (arith, length-most t (row_bytes rest) fits, len) in
     cond-false (nat_lt (length rest) 2) _ _ (le-ltb (length rest) 2 (omega arith))
-    ∙ cond-true (from_be_bytes w16 rest == own) _ _ (eq-eqb (from_be_bytes w16 rest) own is)
+    ∙ cond-false (not (nat_le (least_length t) own && nat_le own t.length)) _ _ (ap not (and_from _ _ (le-leb _ _ least) (le-leb _ _ most)))
     ∙ cond-false (nat_lt (length rest - 2) own) _ _ (le-ltb (length rest - 2) own (omega arith))
-
--- no type's segments have 2 to the 16 bytes
-types-short : (d : Database) (c : ℕ) (t : SegmentType) → IsDatabase d → type_of d.types c ≡ Some t → t.length < 2 ^ 16
-types-short d c t formed is =
-    let fits = stored_size-fits d.block_size d.frspc d.types c formed in
-    let most = (block_size-bounds d.block_size d.frspc d.types formed).1 in
-    omega (arith, stored_long d.types c, length_is d.types c (Some t) is)
+    ∙ cond-true (length_fits t (row_bytes rest)) _ _ fits
 
 -- nothing is wrong with the record of a row with which the rows before it are valid
 record-accepted : (d : Database) (rows : List Segment) (r : Segment) (rest : List ℕ) → IsDatabase d → row_fits d.types r ≡ true → valid_from d.types [] rows ≡ true → valid_from d.types [] (rows ++ r ∷ []) ≡ true
     → record_fault d.types rows (record_bytes r ++ rest) ≡ None
 record-accepted d rows r rest formed fits valid more =
-    let t = typed d.types r fits in
-    let long : length r.bytes ≡ t.0.length = own-length d.types r t.0 t.1 fits in
+    let t = row-type d.types r fits in
     let some = code-some d.types r fits in
     let behind : List ℕ = (to_be_bytes w16 (length r.bytes) ++ r.bytes) ++ rest in
-    let fault = λ (own : ℕ). option_or (spelling_fault own behind) (option_map refusal_of (load_fault d.types (last_path d.types rows) (row_of r.code own behind))) in
-    let row : row_of r.code (length r.bytes) behind ≡ r = ap (λ (xs : List ℕ). record { code = r.code; bytes = xs }) (take_at r.bytes rest (length r.bytes) refl) in
+    let load : Option RecordFault = option_map refusal_of (load_fault d.types (last_path d.types rows) (row_of r.code behind)) in
+    let own : length_said behind ≡ length r.bytes = said r rest (row-short d r formed fits) in
+    let bytes : row_bytes behind ≡ r.bytes = ap (λ (n : ℕ). take n (r.bytes ++ rest)) own ∙ take_at r.bytes rest (length r.bytes) refl in
+    let long : 2 + length_said behind ≤ length behind = omega (arith, own, length-append r.bytes rest) in
     let may : load_fault d.types (last_path d.types rows) r ≡ None = (loaded_valid d.types (leveled d.block_size d.frspc d.types formed) rows r valid fits).1 more in
-    let short : length r.bytes < 2 ^ 16 = (let own = types-short d r.code t.0 formed t.1 in omega arith) in
     cond-false (r.code == 0) _ _ (ne_eqb r.code 0 (λ e. omega arith))
-    ∙ ap (λ (o : Option SegmentType). option_map_or (λ u. fault u.length) o (Some U3)) t.1
-    ∙ ap fault (sym long)
-    ∙ ap (λ (o : Option RecordFault). option_or o (option_map refusal_of (load_fault d.types (last_path d.types rows) (row_of r.code (length r.bytes) behind)))) (spelling-accepted (length r.bytes) behind (omega (arith, length-append r.bytes rest)) (from_be_bytes-to_be_bytes_2 (length r.bytes) short))
-    ∙ ap (λ (x : Segment). option_map refusal_of (load_fault d.types (last_path d.types rows) x)) row
+    ∙ ap (λ (o : Option SegmentType). option_map_or (λ u. option_or (spelling_fault u behind) load) o (Some U3)) t.is
+    ∙ ap (λ (o : Option RecordFault). option_or o load) (spelling-accepted t.type behind long (ap (length_fits t.type) bytes ∙ t.fits))
+    ∙ ap (λ (xs : List ℕ). option_map refusal_of (load_fault d.types (last_path d.types rows) (record { code = r.code; bytes = xs }))) bytes
     ∙ ap (option_map refusal_of) may
 
 -- ---- the stream
@@ -105,6 +102,6 @@ none-refused d stream rows formed named s n fault refused = elim refused [
       fault-none fault
       (sym (head-accepted d stream (records_bytes rows ++ end_bytes (length rows)) named (s.spelled ∙ append_assoc (head_bytes d) (records_bytes rows) (end_bytes (length rows)))) ∙ head.1)
   | inr next ↦
-      (let first = spelled-first d stream rows next.0 next.1 s next.2.valid next.2.is in
+      (let first = spelled-first d stream rows next.0 next.1 formed s next.2.valid next.2.is in
       fault-none fault (sym (next-accepted d rows next.0 first.0 next.1 formed s.valid s.few next.2.valid first.1 first.2) ∙ next.4))
 ]

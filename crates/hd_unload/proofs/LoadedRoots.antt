@@ -1,12 +1,12 @@
 -- A root that is linked behind the last row of a volume, and entered into its index.
-use Rattle.std.proofs.Common.{◌≡◌, ◌⊎◌, inr, ℕ, ◌+◌, ◌-◌, ◌<◌, ◌≤◌, List, [], ◌∷◌, ◌++◌, take, true, false, IsTrue, Option, None, refl, sym, ap, subst, ◌∙◌, arith, inl}
+use Rattle.std.proofs.Common.{◌≡◌, ◌⊎◌, inr, ℕ, ◌+◌, ◌-◌, ◌<◌, ◌≤◌, List, [], ◌∷◌, ◌++◌, length, take, true, false, IsTrue, Option, None, refl, sym, ap, subst, ◌∙◌, arith, inl}
 use Rattle.std.specs.Prelude.{slice_get}
 use Rattle.std.specs.Option.{option_map_or}
 use Rattle.hd_dbd.specs.declared.hierarchy.FreeSpace.{FreeSpace}
 use Rattle.hd_dbd.specs.Types.{SegmentType}
 use Rattle.hd_dbd.specs.Hierarchy.{Database}
 use Rattle.hd_dbd.specs.DatabaseRules.{well_formed}
-use Rattle.hd_dbd.specs.Prefixes.{stored_size}
+use Rattle.hd_dbd.specs.Prefixes.{size_with}
 use Rattle.hd_dbd.specs.Segment.{Segment}
 use Rattle.hd_dbd.specs.Rows.{row_fits, level, key_of}
 use Rattle.hd_dbd.specs.Loads.{load_fault}
@@ -92,15 +92,16 @@ root-linked d v w y a bytes fits L I =
     linked-new d v w L.2.placed y a (record { code = 1; bytes = bytes }) L.2.holds (may-link-root d v bytes y fits L) I
 
 -- where the volume has room for a root it is not refused as full
-pub room-links : (d : Database) (v : VolumeState) (key : List ℕ) → HasRootRoom d v key → spare v ≡ 0 → (HasHole v (stored_size d.types 1) → ⊥) → ⊥
-room-links d v key room none no-hole = (first-roots d v key (row_of 1 []) []).0 room (none, no-hole)
+pub room-links : (d : Database) (v : VolumeState) (bytes : List ℕ) → HasRootRoom d v (row_of 1 bytes) → spare v ≡ 0 → (HasHole v (size_with d.types 1 (length bytes)) → ⊥) → ⊥
+room-links d v bytes room none no-hole = (first-roots d v (key_of d.types (row_of 1 bytes)) (row_of 1 bytes) []).0 room (none, no-hole)
 
 -- and once the root is linked there is room in the index
-pub room-enters : (d : Database) (v w : VolumeState) (y a : ℕ) (bytes key : List ℕ) → CanLoadRoot d v y (record { code = 1; bytes = bytes }) → HasRootRoom d v key
-    → IsLinked d v 0 y (record { code = 1; bytes = bytes }) a w → (spare w < blocks_needed (root_key_length d.types) w key) ⊎ IsHighest w → ⊥
-room-enters d v w y a bytes key L room I (inl few) =
-    (let enough : blocks_needed (root_key_length d.types) w key ≤ spare w = ((entries-room d v w L.2.placed key y a (row_of 1 bytes) [] L.2.holds I).0 room).1 in omega arith)
-room-enters d v w y a bytes key L room I (inr high) = ((entries-room d v w L.2.placed key y a (row_of 1 bytes) [] L.2.holds I).0 room).0 high
+pub room-enters : (d : Database) (v w : VolumeState) (y a : ℕ) (bytes : List ℕ) → CanLoadRoot d v y (row_of 1 bytes) → HasRootRoom d v (row_of 1 bytes) → IsLinked d v 0 y (row_of 1 bytes) a w
+    → (spare w < blocks_needed (root_key_length d.types) w (key_of d.types (row_of 1 bytes))) ⊎ IsHighest w → ⊥
+room-enters d v w y a bytes L room I full =
+    let key : List ℕ = key_of d.types (row_of 1 bytes) in
+    let there = (entries-room d v w L.2.placed key y a (row_of 1 bytes) [] L.2.holds I).0 room in
+    elim full [ inl few ↦ (let enough : blocks_needed (root_key_length d.types) w key ≤ spare w = there.1 in omega arith) | inr high ↦ there.0 high ]
 
 -- it is loaded once it is linked and entered
 pub root-loaded : (d : Database) (v w x : VolumeState) (y a more : ℕ) (bytes key : List ℕ) → row_fits d.types (record { code = 1; bytes = bytes }) ≡ true

@@ -2,6 +2,7 @@
 use Rattle.std.proofs.Common.{◌≡◌, ℕ, ◌+◌, cond, ◌==◌, List, [], ◌∷◌, refl, ap, subst, ◌∙◌, arith}
 use Rattle.hd_dbd.specs.Hierarchy.{Database}
 use Rattle.hd_dbd.specs.Segment.{Segment}
+use Rattle.hd_dbd.specs.Rows.{key_of}
 use Rattle.hd_volume.specs.Headers.{header_of}
 use Rattle.hd_volume.specs.Volumes.{VolumeState}
 use Rattle.hd_volume.specs.Rooms.{spare}
@@ -13,7 +14,7 @@ use Rattle.hd_image.proofs.OneImage.{links-same, held-same}
 use Rattle.hd_index.proofs.NeedLemmas as need
 use Rattle.hd_keeping.proofs.Rooms.{one-volume}
 use Rattle.hd_unload.specs.Loads.{blocks_for}
-use Rattle.hd_unload.specs.Steps.{row_of, HasRootRoom, IsLoadedTo, IsRowLoaded}
+use Rattle.hd_unload.specs.Steps.{HasRootRoom, IsLoadedTo, IsRowLoaded}
 
 -- the rows that it holds
 pub loaded-same : (d : Database) (v w : VolumeState) (rows : List Segment) (path : List Placed) → AreOne v w → IsLoadedTo d rows path v → IsLoadedTo d rows path w
@@ -25,8 +26,8 @@ loaded-same d v w rows path o L = record {
 }
 
 -- the room for a root
-pub room-same : (d : Database) (v w : VolumeState) (key : List ℕ) → AreOne v w → HasRootRoom d v key → HasRootRoom d w key
-room-same d v w key o room = (one-volume d v w (record { image = o.image; size = o.same.size; sizes = o.same.sizes })).2 key (row_of 1 [] ∷ []) room
+pub room-same : (d : Database) (v w : VolumeState) (row : Segment) → AreOne v w → HasRootRoom d v row → HasRootRoom d w row
+room-same d v w row o room = (one-volume d v w (record { image = o.image; size = o.same.size; sizes = o.same.sizes })).2 (key_of d.types row) (row ∷ []) room
 
 -- the blocks that a row may need
 growth-same : (v w : VolumeState) (row : Segment) → w.image ≡ v.image → blocks_for w row ≡ blocks_for v row

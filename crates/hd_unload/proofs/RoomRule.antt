@@ -4,7 +4,7 @@ use Rattle.std.proofs.lemmas.Bool.{eq-eqb, eqb-true}
 use Rattle.std.proofs.Math.Bool.{or-false}
 use Rattle.hd_dbd.specs.Types.{SegmentType}
 use Rattle.hd_dbd.specs.Segment.{Segment}
-use Rattle.hd_dbd.specs.Prefixes.{stored_size}
+use Rattle.hd_dbd.specs.Prefixes.{size_with}
 use Rattle.hd_calls.specs.Runs.{has_root, stored_sizes}
 use Rattle.hd_volume.specs.Volumes.{VolumeState}
 use Rattle.hd_volume.specs.Rooms.{spare, HasHole}
@@ -17,7 +17,7 @@ root-alone : (row : Segment) → has_root (row ∷ []) ≡ (row.code == 1)
 root-alone row = or-false (row.code == 1)
 
 -- one row takes what it takes
-size-alone : (types : List SegmentType) (row : Segment) → stored_sizes types (row ∷ []) ≡ stored_size types row.code
+pub size-alone : (types : List SegmentType) (row : Segment) → stored_sizes types (row ∷ []) ≡ size_with types row.code (length row.bytes)
 size-alone types row = omega arith
 
 -- and may need its block, and those of the index for a root
@@ -26,7 +26,7 @@ need-alone v row = ap (λ (b : Bool). 1 + cond b (entry_growth v) 0) (root-alone
 
 pub share-a-rule : LoadsAndCallsShareARule
 share-a-rule d v row V =
-    let rule = lacking-room d v (row ∷ []) V in
+    let rule = lacking-room d v (row ∷ []) (has_root (row ∷ [])) V in
     let need = need-alone v row in (
       λ L. rule.1 (
         elim L.blocks [

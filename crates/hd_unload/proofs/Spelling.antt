@@ -1,9 +1,8 @@
 -- Bytes with which nothing is wrong are the spelling of what they say.
 use Rattle.std.proofs.Common.{◌≡◌, ℕ, zero, suc, ◌+◌, ◌-◌, ◌<◌, ◌≤◌, ◌^◌, List, [], ◌∷◌, ◌++◌, length, take, drop, get_or, Bool, true, false, cond, Option, Some, None, eqb, refl, sym, ap, ap₂, ◌∙◌, subst, arith}
 use Rattle.std.specs.Prelude.{nat_lt, ◌==◌, ◌&&◌}
-use Rattle.std.specs.Option.{option_map_or}
 use Rattle.std.specs.Int.{w16, w32, to_be_bytes, from_be_bytes}
-use Rattle.std.proofs.lemmas.Bool.{and_parts, eqb-true, eq-eqb, ltb-false}
+use Rattle.std.proofs.lemmas.Bool.{and_parts, eqb-true}
 use Rattle.std.proofs.lemmas.Nat.{be_bytes_2, be_bytes_4}
 use Rattle.std.proofs.lemmas.List.{take-append-drop, length-take-le, take_all, length-drop}
 use Rattle.std.proofs.lemmas.Slice.Eq.{bytes_eq-Decides}
@@ -12,9 +11,11 @@ use Rattle.hd_dbd.specs.Types.{SegmentType}
 use Rattle.hd_dbd.specs.Hierarchy.{Database, type_of}
 use Rattle.hd_dbd.specs.Rows.{row_fits}
 use Rattle.hd_dbd.specs.Segment.{Segment}
+use Rattle.hd_dbd.specs.Lengths.{length_fits}
+use Rattle.hd_dbd.proofs.TypeLengths.{type-row}
 use Rattle.hd_unload.specs.declared.fault.RecordFault.{RecordFault}
 use Rattle.hd_unload.specs.declared.fault.RecordFault.TheVariants.{U2, U4}
-use Rattle.hd_unload.specs.Streams.{head_bytes, record_bytes, end_bytes, end_fault, spelling_fault}
+use Rattle.hd_unload.specs.Streams.{head_bytes, record_bytes, end_bytes, end_fault, length_said, row_bytes, row_of}
 
 -- a fault is not none
 some-none : {A : Type 0} (x : A) → Some x ≡ None → ⊥
@@ -49,25 +50,19 @@ end-right count rest bytes e =
       subst (λ (n : ℕ). n < 2 ^ 32) number (four-below rest bytes),
     )
 
--- a record with which nothing is wrong is that of its row
-pub row-right : (code own : ℕ) (rest : List ℕ) → ((i : ℕ) → get_or rest i 0 < 256) → spelling_fault own rest ≡ None
-    → (length (take own (drop 2 rest)) ≡ own) × (code ∷ rest ≡ record_bytes (record { code = code; bytes = take own (drop 2 rest) }) ++ drop (2 + own) rest)
-row-right code own [] bytes e = absurd (some-none U2 e)
-row-right code own (a ∷ []) bytes e = absurd (some-none U2 e)
-row-right code own (a ∷ b ∷ rs) bytes e =
-    let two-there = chosen (nat_lt (length (a ∷ b ∷ rs)) 2) U2 _ e in
-    let number = kept (from_be_bytes w16 (a ∷ b ∷ rs) == own) U4 _ two-there.1 in
-    let whole = chosen (nat_lt (length (a ∷ b ∷ rs) - 2) own) U2 None number.1 in
-    let long : own ≤ length rs = (let l : own ≤ length (a ∷ b ∷ rs) - 2 = ltb-false (length (a ∷ b ∷ rs) - 2) own whole.0 in omega arith) in
-    let len : length (take own rs) ≡ own = length-take-le own rs long in
-    let own-is : from_be_bytes w16 (a ∷ b ∷ rs) ≡ own = eqb-true (from_be_bytes w16 (a ∷ b ∷ rs)) own number.0 in
-    let spelled : to_be_bytes w16 own ≡ a ∷ b ∷ [] = be_bytes_2 (a ∷ b ∷ []) own refl (λ i. two i) (sym own-is) in (
-      len,
-      ap (λ (xs : List ℕ). code ∷ (a ∷ b ∷ xs)) (sym (take-append-drop own rs))
-          ∙ ap (λ (xs : List ℕ). code ∷ (xs ++ (take own rs ++ drop own rs))) (sym spelled)
-          ∙ ap (λ (n : ℕ). code ∷ (to_be_bytes w16 n ++ (take own rs ++ drop own rs))) (sym len)
-          ∙ ap (λ (xs : List ℕ). code ∷ (to_be_bytes w16 (length (take own rs)) ++ (take own rs ++ xs))) (behind-two own),
-    )
+-- a record of which all bytes are there is that of its row
+pub row-right : (code : ℕ) (rest : List ℕ) → ((i : ℕ) → get_or rest i 0 < 256) → 2 + length_said rest ≤ length rest
+    → code ∷ rest ≡ record_bytes (row_of code rest) ++ drop (2 + length_said rest) rest
+row-right code [] bytes long = absurd (omega arith)
+row-right code (a ∷ []) bytes long = absurd (omega arith)
+row-right code (a ∷ b ∷ rs) bytes long =
+    let own : ℕ = length_said (a ∷ b ∷ rs) in
+    let len : length (take own rs) ≡ own = length-take-le own rs (omega arith) in
+    let spelled : to_be_bytes w16 own ≡ a ∷ b ∷ [] = be_bytes_2 (a ∷ b ∷ []) own refl (λ i. two i) refl in
+    ap (λ (xs : List ℕ). code ∷ (a ∷ b ∷ xs)) (sym (take-append-drop own rs))
+    ∙ ap (λ (xs : List ℕ). code ∷ (xs ++ (take own rs ++ drop own rs))) (sym spelled)
+    ∙ ap (λ (n : ℕ). code ∷ (to_be_bytes w16 n ++ (take own rs ++ drop own rs))) (sym len)
+    ∙ ap (λ (xs : List ℕ). code ∷ (to_be_bytes w16 (length (take own rs)) ++ (take own rs ++ xs))) (behind-two own)
   where
     behind-two : (n : ℕ) → drop n rs ≡ drop (2 + n) (a ∷ b ∷ rs)
     behind-two n = ap (λ (k : ℕ). drop k (a ∷ b ∷ rs)) (let more : suc (suc n) ≡ 2 + n = omega arith in more)
@@ -84,21 +79,16 @@ head-right stream head long same =
     ∙ ap₂ (λ (xs ys : List ℕ). xs ++ ys) ((bytes_eq-Decides (take 18 stream) head).0 same)
     (sym (take_all (length stream - 18) (drop 18 stream) (omega (arith, length-drop 18 stream))))
 
--- a row of its type's length fits
-pub row-fits : (types : List SegmentType) (t : SegmentType) (r : Segment) → type_of types r.code ≡ Some t → length r.bytes ≡ t.length → row_fits types r ≡ true
-row-fits types t r is len = ap (λ (o : Option SegmentType). option_map_or (λ u. length r.bytes == u.length) o false) is ∙ eq-eqb (length r.bytes) t.length len
-
--- the next record, with which nothing is wrong, is that of a row that fits, and what follows
-pub next-right : (types : List SegmentType) (left : List ℕ) (x own : ℕ) (rest : List ℕ) (t : SegmentType) (code : ℕ) (bytes behind : List ℕ) → left ≡ x ∷ rest → ((i : ℕ) → get_or left i 0 < 256)
-    → type_of types x ≡ Some t → own ≡ t.length → spelling_fault own rest ≡ None → code ≡ x → bytes ≡ take own (drop 2 rest) → behind ≡ drop (2 + own) rest
+-- the next record, of which all bytes are there and whose row has a length that its type allows, is that of a row that fits, and what follows
+pub next-right : (types : List SegmentType) (left : List ℕ) (x : ℕ) (rest : List ℕ) (t : SegmentType) (code : ℕ) (bytes behind : List ℕ) → left ≡ x ∷ rest → ((i : ℕ) → get_or left i 0 < 256)
+    → type_of types x ≡ Some t → length_fits t bytes ≡ true → 2 + length_said rest ≤ length rest → code ≡ x → bytes ≡ row_bytes rest → behind ≡ drop (2 + length_said rest) rest
     → (row_fits types (record { code = code; bytes = bytes }) ≡ true) × (left ≡ record_bytes (record { code = code; bytes = bytes }) ++ behind)
-next-right types left x own rest t code bytes behind first all typed same none code-is bytes-is behind-is =
-    let both = row-right x own rest (behind-first left x rest first all) none in (
-      row-fits types t (record { code = code; bytes = bytes }) (ap (λ (c : ℕ). type_of types c) code-is ∙ typed) (ap (λ (xs : List ℕ). length xs) bytes-is ∙ both.0 ∙ same),
-      first ∙ both.1
-          ∙ ap₂ (λ (n : ℕ) (xs : List ℕ). record_bytes (record { code = n; bytes = xs }) ++ drop (2 + own) rest) (sym code-is) (sym bytes-is)
-          ∙ ap (λ (xs : List ℕ). record_bytes (record { code = code; bytes = bytes }) ++ xs) (sym behind-is),
-    )
+next-right types left x rest t code bytes behind first all typed fits long code-is bytes-is behind-is = (
+  type-row types (record { code = code; bytes = bytes }) t (ap (λ (c : ℕ). type_of types c) code-is ∙ typed) fits,
+  first ∙ row-right x rest (behind-first left x rest first all) long
+      ∙ ap₂ (λ (n : ℕ) (xs : List ℕ). record_bytes (record { code = n; bytes = xs }) ++ drop (2 + length_said rest) rest) (sym code-is) (sym bytes-is)
+      ∙ ap (λ (xs : List ℕ). record_bytes (record { code = code; bytes = bytes }) ++ xs) (sym behind-is),
+)
 
 -- bytes that begin with a header's bytes
 pub head-found : (d : Database) (stream head : List ℕ) → 18 ≤ length stream → true ≡ pointwise eqb (take 18 stream) head → head ≡ head_bytes d

@@ -1,18 +1,25 @@
 -- How the records of a volume's rows are written one after another.
-use Rattle.std.proofs.Common.{◌≡◌, ℕ, suc, ◌+◌, ◌<◌, ◌≤◌, List, [], ◌∷◌, ◌++◌, length, take, Bool, true, false, IsTrue, Option, Ok, refl, sym, ap, subst, ◌∙◌, arith, inl, inr}
+use Rattle.std.proofs.Common.{◌≡◌, ℕ, suc, ◌+◌, ◌<◌, ◌≤◌, List, [], ◌∷◌, ◌++◌, length, take, drop, get_or, Bool, true, false, IsTrue, Option, Some, None, Ok, refl, sym, ap, subst, ◌∙◌, arith, inl, inr}
 use Rattle.std.specs.Io.KnownBytes.{Appends}
+use Rattle.std.specs.Option.{option_map_or}
 use Rattle.std.proofs.KnownBytes.{Appends-nil, Appends-trans}
 use Rattle.std.proofs.lemmas.Bool.{cases_lt}
-use Rattle.std.proofs.lemmas.List.{append_assoc, take_all, take_more}
-use Rattle.hd_dbd.specs.Hierarchy.{Database}
+use Rattle.std.proofs.lemmas.List.{append_assoc, get_or-drop, take_all, take_more}
+use Rattle.hd_dbd.specs.Types.{SegmentType}
+use Rattle.hd_dbd.specs.Hierarchy.{Database, type_of}
+use Rattle.hd_dbd.specs.Lengths.{said_length, own_length}
+use Rattle.hd_dbd.specs.Prefixes.{prefix_length}
 use Rattle.hd_dbd.specs.Segment.{Segment}
 use Rattle.hd_dbd.specs.Forest.{Forest}
 use Rattle.hd_dbd.specs.Paths.{row_at, no_row}
+use Rattle.hd_dbd.proofs.TypeLengths.{type-room}
+use Rattle.hd_prefix.specs.Fields.{length_of}
 use Rattle.hd_volume.specs.Volumes.{VolumeState}
 use Rattle.hd_volume.specs.Calls.{IsRead}
 use Rattle.hd_links.specs.Links.{Links, IsSegment, segment_at}
 use Rattle.hd_links.specs.Placed.{Placed}
 use Rattle.hd_links.specs.Steps.{rows_of}
+use Rattle.hd_image.specs.Laws.{IsDatabase}
 use Rattle.hd_image.specs.Records.{links_of, IsVolumeOf}
 use Rattle.hd_image.specs.Holding.{HoldsPlaced}
 use Rattle.hd_forest.specs.Walks.{tip, next_on, walked, AreSegments, HasForest}
@@ -24,6 +31,29 @@ use Rattle.hd_unload.specs.Streams.{head_bytes, record_bytes, records_bytes, end
 use Rattle.hd_unload.specs.Unloads.{IsTurn}
 use Rattle.hd_unload.proofs.Reading.{nothing-behind}
 use Rattle.hd_unload.proofs.HeldStreams.{held-few}
+
+-- a stored segment has no more bytes of its own than a record can say
+pub own-short : (d : Database) (c : ℕ) (s : List ℕ) → IsDatabase d → ((i : ℕ) → get_or s i 0 < 256) → length_of d.types c s < 65536
+own-short d c s formed all = by-type (type_of d.types c) refl
+  where
+    behind : List ℕ
+    behind = drop (prefix_length d.types c) s
+
+    byte : (i : ℕ) → get_or behind i 0 < 256
+    byte i = subst (λ (n : ℕ). n < 256) (sym (get_or-drop (prefix_length d.types c) s i 0)) (all (prefix_length d.types c + i))
+
+    by-least : (t : SegmentType) (o : Option ℕ) → type_of d.types c ≡ Some t → t.least ≡ o → own_length t behind < 65536
+    by-least t None typed is =
+        let own : own_length t behind ≡ t.length = ap (λ (o : Option ℕ). option_map_or (λ _. said_length behind) o t.length) is in
+        omega (arith, own, type-room d.block_size d.frspc d.types c t formed typed)
+    by-least t (Some least) typed is =
+        let own : own_length t behind ≡ said_length behind = ap (λ (o : Option ℕ). option_map_or (λ _. said_length behind) o t.length) is in
+        omega (arith, own, byte 0, byte 1)
+
+    by-type : (o : Option SegmentType) → type_of d.types c ≡ o → length_of d.types c s < 65536
+    by-type None is = (let none : length_of d.types c s ≡ 0 = ap (λ (o : Option SegmentType). option_map_or (λ t. own_length t behind) o 0) is in omega arith)
+    by-type (Some t) is =
+        subst (λ (n : ℕ). n < 65536) (sym (ap (λ (o : Option SegmentType). option_map_or (λ u. own_length u behind) o 0) is)) (by-least t t.least is refl)
 
 -- the last address of a path of segments is one of a segment
 pub tip-there : (m : Links) (path : List ℕ) → AreSegments m path → 0 < tip path → IsSegment m (tip path)

@@ -2,7 +2,7 @@
 use Rattle.std.specs.Prelude.{◌≡◌, ◌↔◌, ℕ, List, [], ◌∷◌, length}
 use Rattle.hd_dbd.specs.Hierarchy.{Database}
 use Rattle.hd_dbd.specs.Segment.{Segment}
-use Rattle.hd_calls.specs.Runs.{LacksRoom as LacksRoomForRows}
+use Rattle.hd_calls.specs.Runs.{has_root, LacksRoom as LacksRoomForRows}
 use Rattle.hd_volume.specs.Volumes.{VolumeState}
 use Rattle.hd_image.specs.Records.{IsVolumeOf}
 use Rattle.hd_image.specs.Laws.{IsDatabase}
@@ -12,9 +12,10 @@ use Rattle.hd_keeping.specs.VolumeImages.{images_of}
 use Rattle.hd_unload.specs.Loads.{LacksRoom}
 use Rattle.hd_unload.specs.Streams.{unload_bytes, IsStreamOf, IsRefusedAt}
 
--- A stream spells one list of rows.
+-- A stream of a database spells one list of rows.
 abbrev pub StreamsSpellOneList : Type 0
-StreamsSpellOneList = (d : Database) (stream : List ℕ) (rows others : List Segment) → IsStreamOf d stream rows → IsStreamOf d stream others → others ≡ rows
+StreamsSpellOneList =
+    (d : Database) (stream : List ℕ) (rows others : List Segment) → IsDatabase d → IsStreamOf d stream rows → IsStreamOf d stream others → others ≡ rows
 
 -- Of a stream that spells rows no record is refused; a database's name has eight bytes, blanks among them.
 abbrev pub StreamsAreNotRefused : Type 0
@@ -29,4 +30,4 @@ HeldRowsHaveAStream = (d : Database) (v : VolumeState) (rows : List Segment) →
 abbrev pub LoadsAndCallsShareARule : Type 0
 LoadsAndCallsShareARule =
     (d : Database) (v : VolumeState) (row : Segment) → IsVolumeOf d v
-    → LacksRoom d v row ↔ LacksRoomForRows (images_of d) d.types v.image (row ∷ [])
+    → LacksRoom d v row ↔ LacksRoomForRows (images_of d) d.types v.image (row ∷ []) (has_root (row ∷ []))

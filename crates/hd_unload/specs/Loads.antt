@@ -2,7 +2,7 @@
 use Rattle.std.specs.Prelude.{◌≡◌, ◌⊎◌, ℕ, ◌+◌, ◌<◌, ◌≤◌, List, [], ◌++◌, length, true, None, ◌==◌, cond, replicate}
 use Rattle.hd_bytes.specs.Blocks.{block_of}
 use Rattle.hd_dbd.specs.Hierarchy.{Database}
-use Rattle.hd_dbd.specs.Prefixes.{stored_size}
+use Rattle.hd_dbd.specs.Prefixes.{size_with}
 use Rattle.hd_dbd.specs.Segment.{Segment}
 use Rattle.hd_dbd.specs.Rows.{row_fits}
 use Rattle.hd_dbd.specs.Loads.{Loading, rows_loaded, image_before, last_path, load_fault, IsLegalLoad}
@@ -38,7 +38,7 @@ pub record IsLoad (d : Database) (largest : ℕ) (rows : List Segment) (last : V
 -- root, or no hole is as large.
 pub record LacksRoom (d : Database) (v : VolumeState) (row : Segment) : Type 0 where
   pub blocks : (spare v < blocks_for v row) ⊎ ((row.code ≡ 1) × IsHighest v)
-  pub holes : (row.code ≡ 1) ⊎ (HasHole v (stored_size d.types row.code) → ⊥)
+  pub holes : (row.code ≡ 1) ⊎ (HasHole v (size_with d.types row.code (length row.bytes)) → ⊥)
 
 -- The stream has a record with which nothing is wrong, and for which a legal load of just the records before left no room.
 pub record IsFullAt (d : Database) (stream : List ℕ) (largest n : ℕ) : Type 0 where

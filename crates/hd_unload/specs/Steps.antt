@@ -4,7 +4,7 @@ use Rattle.hd_dbd.specs.declared.answer.Refused.{Refused}
 use Rattle.hd_dbd.specs.declared.answer.Refused.TheVariants.{Full}
 use Rattle.hd_dbd.specs.Hierarchy.{Database}
 use Rattle.hd_dbd.specs.Segment.{Segment}
-use Rattle.hd_dbd.specs.Rows.{level}
+use Rattle.hd_dbd.specs.Rows.{level, key_of}
 use Rattle.hd_dbd.specs.Loads.{last_path, load_fault}
 use Rattle.hd_dbd.specs.Forest.{Forest}
 use Rattle.hd_volume.specs.Volumes.{VolumeState}
@@ -45,9 +45,9 @@ CanLoad d v parent after row =
     (rows : List Segment) × (path : List Placed) × IsLoadedTo d rows path v × (load_fault d.types (segments_of path) row ≡ None)
     × (parent ≡ parent_on_path d.types path row) × (after ≡ twin_on_path d.types path row)
 
--- the volume has room for one root more, whatever its bytes, and for the entry of its key
-abbrev pub HasRootRoom : Database → VolumeState → List ℕ → Type 0
-HasRootRoom d v key = HasRootRoomFor d v key (row_of 1 [] ∷ [])
+-- the volume has room for a root more, and for the entry of its key
+abbrev pub HasRootRoom : Database → VolumeState → Segment → Type 0
+HasRootRoom d v row = HasRootRoomFor d v (key_of d.types row) (row ∷ [])
 
 -- The root was loaded at an address, wherever it could be.
 abbrev pub IsRootLoadedAt : Database → VolumeState → ℕ → Segment → ℕ → VolumeState → Type 0

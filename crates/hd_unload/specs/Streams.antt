@@ -1,5 +1,5 @@
 -- The unload stream: how rows are spelled, and what is wrong with bytes that spell none.
-use Rattle.std.specs.Prelude.{◌≡◌, ◌⊎◌, ℕ, ◌+◌, ◌-◌, ◌<◌, ◌^◌, List, [], ◌∷◌, ◌++◌, length, take, drop, codes, true, ◌&&◌, ◌==◌, nat_lt, bytes_eq, cond, Option, Some, None, option_map, ◌≤◌}
+use Rattle.std.specs.Prelude.{◌≡◌, ◌⊎◌, ℕ, ◌+◌, ◌-◌, ◌<◌, ◌^◌, List, [], ◌∷◌, ◌++◌, length, take, drop, codes, true, not, ◌&&◌, ◌==◌, nat_lt, nat_le, bytes_eq, cond, Option, Some, None, option_map, ◌≤◌}
 use Rattle.std.specs.Option.{option_map_or, option_or}
 use Rattle.std.specs.Int.{w16, w32, to_be_bytes, from_be_bytes}
 use Rattle.hd_dbd.specs.declared.answer.LoadFault.{LoadFault}
@@ -11,8 +11,8 @@ use Rattle.hd_dbd.specs.Rows.{valid, row_fits}
 use Rattle.hd_dbd.specs.Loads.{last_path, load_fault}
 use Rattle.hd_unload.specs.declared.fault.RecordFault.{RecordFault}
 use Rattle.hd_unload.specs.declared.fault.RecordFault.TheVariants.{U1, U2, U3, U4, LB, LC, LD, LE}
-use Rattle.hd_prefix.specs.Fields.{code_of, bytes_of}
-use Rattle.hd_dbd.specs.Prefixes.{stored_size}
+use Rattle.hd_prefix.specs.Fields.{code_of, bytes_of, IsWhole as IsWholeOf}
+use Rattle.hd_dbd.specs.Lengths.{least_length, length_fits}
 
 -- ---- spelling
 
@@ -52,14 +52,26 @@ head_fault d stream = cond (nat_lt (length stream) 18) (Some U2) (cond (bytes_eq
 abbrev pub end_fault : ℕ → List ℕ → Option RecordFault
 end_fault count rest = cond (nat_lt (length rest) 4) (Some U2) (cond (length rest == 4 && from_be_bytes w32 rest == count) None (Some U4))
 
--- with the spelling of a record of a type of some length, by the bytes behind its code
-abbrev pub spelling_fault : ℕ → List ℕ → Option RecordFault
-spelling_fault own rest =
-    cond (nat_lt (length rest) 2) (Some U2) (cond (from_be_bytes w16 rest == own) (cond (nat_lt (length rest - 2) own) (Some U2) None) (Some U4))
+-- how many bytes a record says that its row has, in those behind its code
+abbrev pub length_said : List ℕ → ℕ
+length_said rest = from_be_bytes w16 rest
 
--- the row of a code and a length, by the bytes behind its code
-abbrev pub row_of : ℕ → ℕ → List ℕ → Segment
-row_of code own rest = record { code = code; bytes = take own (drop 2 rest) }
+-- the bytes of a record's row, by those behind its code
+abbrev pub row_bytes : List ℕ → List ℕ
+row_bytes rest = take (length_said rest) (drop 2 rest)
+
+-- with the spelling of a record of a type, by the bytes behind its code: a length that the type may not have, and behind all of its bytes
+-- one that its row does not say itself
+abbrev pub spelling_fault : SegmentType → List ℕ → Option RecordFault
+spelling_fault t rest =
+    cond (nat_lt (length rest) 2) (Some U2)
+    (cond (not (nat_le (least_length t) (length_said rest) && nat_le (length_said rest) t.length)) (Some U4)
+    (cond (nat_lt (length rest - 2) (length_said rest)) (Some U2)
+    (cond (length_fits t (row_bytes rest)) None (Some U4))))
+
+-- the row of a record, by its code and the bytes behind it
+abbrev pub row_of : ℕ → List ℕ → Segment
+row_of code rest = record { code = code; bytes = row_bytes rest }
 
 -- the fault of a record whose row may not be loaded
 abbrev pub refusal_of : LoadFault → RecordFault
@@ -73,7 +85,7 @@ abbrev pub record_fault : List SegmentType → List Segment → List ℕ → Opt
 record_fault types rows [] = Some U2
 record_fault types rows (code ∷ rest) =
     cond (code == 0) (end_fault (length rows) rest)
-    (option_map_or (λ t. option_or (spelling_fault t.length rest) (option_map refusal_of (load_fault types (last_path types rows) (row_of code t.length rest))))
+    (option_map_or (λ t. option_or (spelling_fault t rest) (option_map refusal_of (load_fault types (last_path types rows) (row_of code rest))))
     (type_of types code) (Some U3))
 
 -- Behind the header the bytes spell these rows, and then others follow.
@@ -89,7 +101,7 @@ IsRefusedAt d stream n fault =
 
 -- ---- a record that is read
 
--- A record's row is of its type's length, and the text begins with the record's bytes.
+-- A record's row has a length that its type allows, and the text begins with the record's bytes.
 abbrev pub IsRecordRead : List SegmentType → List ℕ → Segment → List ℕ → Type 0
 IsRecordRead types text row rest = (row_fits types row ≡ true) × (text ≡ record_bytes row ++ rest)
 
@@ -102,6 +114,6 @@ HasLoadFault types text row =
 abbrev pub stored_row : List SegmentType → List ℕ → Segment
 stored_row types segment = record { code = code_of segment; bytes = bytes_of types (code_of segment) segment }
 
--- a stored segment is as long as its type's segments
+-- a stored segment has its prefix and its own bytes
 abbrev pub IsWhole : List SegmentType → List ℕ → Type 0
-IsWhole types segment = stored_size types (code_of segment) ≤ length segment
+IsWhole types segment = IsWholeOf types (code_of segment) segment

@@ -16,7 +16,8 @@ pub enum RecordFault {
     /// The database has no type of the code.
     #[error("U3")]
     U3,
-    /// The length is not that of the type; or the end counts other records, or bytes follow it.
+    /// The length is none that the type allows, or not the one that the row says itself; or the end counts other records, or
+    /// bytes follow it.
     #[error("U4")]
     U4,
     /// The twin before it has the same key, which is unique.

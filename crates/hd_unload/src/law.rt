@@ -1,6 +1,6 @@
 ghost use Rattle.hd_unload.specs.Laws.{StreamsSpellOneList, StreamsAreNotRefused, HeldRowsHaveAStream, LoadsAndCallsShareARule};
 
-/// A stream spells one list of rows.
+/// A stream of a database spells one list of rows.
 pub fn law_streams_spell_one_list()
     ensures { StreamsSpellOneList }
 {}

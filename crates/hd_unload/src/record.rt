@@ -1,10 +1,11 @@
-ghost use Rattle.std.specs.Prelude.{◌≡◌, ◌<◌, ◌^◌, ◌+◌, ◌≤◌, List, ◌++◌, length, take, drop, Some, None, IfErr, IfOk, IfNone, IfSome};
+ghost use Rattle.std.specs.Prelude.{◌≡◌, ◌<◌, ◌^◌, ◌+◌, ◌≤◌, List, ◌++◌, length, drop, true, Some, None, IfErr, IfOk, IfNone, IfSome};
 ghost use Rattle.hd_dbd.specs.Hierarchy.{type_of};
 ghost use Rattle.hd_dbd.specs.Segment.{Segment};
-ghost use Rattle.hd_unload.specs.Streams.{head_bytes, head_fault, end_bytes, end_fault, spelling_fault, record_fault, IsRecordRead, HasLoadFault};
+ghost use Rattle.hd_dbd.specs.Lengths.{length_fits};
+ghost use Rattle.hd_unload.specs.Streams.{head_bytes, head_fault, end_bytes, end_fault, length_said, row_bytes, spelling_fault, record_fault, IsRecordRead, HasLoadFault};
 
 use crate::fault::RecordFault;
-use hd_dbd::{Dbd, SegType, type_of};
+use hd_dbd::{Dbd, SegType, least_length, length_fits, type_of};
 
 /// A record of a stream: its row's code, the row's bytes, and what follows the record.
 #[derive(Clone, Copy)]
@@ -54,8 +55,8 @@ fn end_fault(rest: &[u8], count: u64) -> Option<RecordFault>
     }
 }
 
-/// The next record of a stream behind so many; none at its end. Of a record's row nothing is said but that it is of its
-/// type's length.
+/// The next record of a stream behind so many; none at its end. Of a record's row nothing is said but that it has a
+/// length that its type allows.
 pub fn next_record<'a>(
     left: &'a [u8],
     count: u64,
@@ -78,28 +79,35 @@ pub fn next_record<'a>(
     let Some(segment) = type_of(types, *code) else {
         return Err(RecordFault::U3);
     };
-    let record = read_record(*code, rest, segment.length as usize)?;
+    let record = read_record(*code, rest, segment)?;
     Ok(Some(record))
 }
 
-/// The record of a code and a length, by the bytes behind its code.
-fn read_record(code: u8, rest: &[u8], own: usize) -> Result<Record<'_>, RecordFault>
-    ensures err { IfErr result (λ e. spelling_fault own rest.now ≡ Some e) }
-    ensures ok { IfOk result (λ r. (spelling_fault own rest.now ≡ None) × (r.code ≡ code) × (r.bytes.now ≡ take own (drop 2 rest.now)) × (r.rest.now ≡ drop (2 + own) rest.now)) }
-    ensures long { IfOk result (λ r. 2 + own ≤ length rest.now) }
+/// The record of a code and its type, by the bytes behind its code.
+fn read_record<'a>(code: u8, rest: &'a [u8], segment: &SegType) -> Result<Record<'a>, RecordFault>
+    ensures err { IfErr result (λ e. spelling_fault segment.now rest.now ≡ Some e) }
+    ensures ok { IfOk result (λ r. (spelling_fault segment.now rest.now ≡ None) × (r.code ≡ code) × (r.bytes.now ≡ row_bytes rest.now) × (r.rest.now ≡ drop (2 + length_said rest.now) rest.now)) }
+    ensures long { IfOk result (λ r. 2 + length_said rest.now ≤ length rest.now) }
+    ensures fits { IfOk result (λ r. length_fits segment.now r.bytes.now ≡ true) }
 {
     if rest.len() < 2 {
         return Err(RecordFault::U2);
     }
-    if u16::from_be_bytes([rest[0], rest[1]]) as usize != own {
+    let said = u16::from_be_bytes([rest[0], rest[1]]);
+    if u32::from(said) < least_length(segment) || u32::from(said) > segment.length {
         return Err(RecordFault::U4);
     }
+    let own = said as usize;
     if rest.len() - 2 < own {
         return Err(RecordFault::U2);
     }
+    let bytes = &rest[2..2 + own];
+    if !length_fits(segment, bytes) {
+        return Err(RecordFault::U4);
+    }
     Ok(Record {
         code,
-        bytes: &rest[2..2 + own],
+        bytes,
         rest: &rest[2 + own..],
     })
 }

@@ -1,6 +1,7 @@
 ghost use Rattle.std.specs.Prelude.{◌≡◌, ◌≢◌, ◌⊎◌, ◌+◌, ◌<◌, List, length, true, false, None, IsTrue, IfOk, IfErr, OnOk};
 ghost use Rattle.hd_dbd.specs.Facts.{stored_sizes};
 ghost use Rattle.hd_dbd.specs.DatabaseRules.{well_formed};
+ghost use Rattle.hd_dbd.specs.Prefixes.{size_with};
 ghost use Rattle.hd_dbd.specs.Segment.{Segment};
 ghost use Rattle.hd_dbd.specs.Rows.{row_fits, key_of, next_path};
 ghost use Rattle.hd_dbd.specs.Loads.{load_fault};
@@ -29,30 +30,41 @@ pub fn root_key<'a>(dbd: &Dbd, bytes: &'a [u8]) -> &'a [u8]
     dbd.key_of(1, bytes)
 }
 
+/// The bytes that a root takes as a segment.
+fn root_size(dbd: &Dbd, bytes: &[u8]) -> u16
+    requires { row_fits dbd.now.types (row_of 1 bytes.now) ≡ true }
+    ensures { result ≡ size_with dbd.now.types 1 (length bytes.now) }
+{
+    let _ = dbd.types();
+    dbd.size_with(1, bytes.len()) as u16
+}
+
 /// Whether a volume lacks room for one root more: its index may have no level more, or its segment needs a block where no hole is as
 /// large, and its entry in the index may need others.
-fn lacks_room<S: BlockStore>(volume: &mut Volume<S>, dbd: &Dbd, key: &[u8]) -> Result<bool, Refused>
+fn lacks_room<S: BlockStore>(
+    volume: &mut Volume<S>,
+    dbd: &Dbd,
+    bytes: &[u8],
+) -> Result<bool, Refused>
+    requires fits { row_fits dbd.now.types (row_of 1 bytes.now) ≡ true }
     requires index { IsTrue volume.old.is_sound → IsIndexOf dbd.now volume.old }
     ensures read { IsRead volume.old result volume.new }
     ensures lacks { IfOk result (λ b. IsTrue volume.old.is_sound → b ≡ true → (spare volume.old < 1 + entry_growth volume.old) ⊎ IsHighest volume.old) }
-    ensures room { IfOk result (λ b. IsTrue volume.old.is_sound → b ≡ false → HasRootRoom dbd.now volume.old key.now) }
+    ensures room { IfOk result (λ b. IsTrue volume.old.is_sound → b ≡ false → HasRootRoom dbd.now volume.old (row_of 1 bytes.now)) }
     ensures refusal { OnlyDevice result }
 {
     if is_highest(volume) {
         return Ok(true);
     }
     let spare = u64::from(volume.spare());
-    let entry = u64::from(blocks_needed(volume, dbd, key)?);
+    let entry = u64::from(blocks_needed(volume, dbd, root_key(dbd, bytes))?);
     if spare < entry {
         return Ok(true);
     }
     if entry + 1 <= spare {
         return Ok(false);
     }
-    if !volume.has_hole(dbd.stored_size(1))? {
-        return Ok(true);
-    }
-    Ok(false)
+    Ok(!volume.has_hole(root_size(dbd, bytes))?)
 }
 
 /// Links a root behind the last one, and enters it into the index, which have room for it.
@@ -65,7 +77,7 @@ fn load_root<S: BlockStore>(
     requires sizes { (volume.old.size ≡ dbd.now.block_size) × (volume.old.sizes ≡ stored_sizes dbd.now.types) }
     requires fits { row_fits dbd.now.types (row_of 1 bytes.now) ≡ true }
     requires can { IsTrue volume.old.is_sound → CanLoadRoot dbd.now volume.old after (row_of 1 bytes.now) }
-    requires room { IsTrue volume.old.is_sound → HasRootRoom dbd.now volume.old (key_of dbd.now.types (row_of 1 bytes.now)) }
+    requires room { IsTrue volume.old.is_sound → HasRootRoom dbd.now volume.old (row_of 1 bytes.now) }
     ensures call { IsCall volume.old result volume.new }
     ensures loaded { IfOk result (λ a. IsTrue volume.old.is_sound → IsRootLoadedAt dbd.now volume.old after (row_of 1 bytes.now) a volume.new) }
     ensures not_full { IfErr result (λ e. e ≡ Refused.Full → IsTrue volume.old.is_sound → ⊥) }
@@ -91,7 +103,7 @@ fn load_root_with_room<S: BlockStore>(
     ensures full { IfErr result (λ e. IsFullFor dbd.now volume.old (row_of 1 bytes.now) e) }
     ensures refusal { OnlyRoomOrDevice result }
 {
-    if lacks_room(volume, dbd, root_key(dbd, bytes))? {
+    if lacks_room(volume, dbd, bytes)? {
         return Err(Refused::Full);
     }
     load_root(volume, dbd, after, bytes)

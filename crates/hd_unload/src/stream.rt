@@ -1,7 +1,6 @@
 ghost use Rattle.std.specs.Prelude.{◌≡◌, ◌≤◌, ◌<◌, List, length, IsTrue, IfOk, IfErr, OnOk};
 ghost use Rattle.std.specs.Io.KnownBytes.{Appends};
 ghost use Rattle.hd_dbd.specs.Forest.{Forest};
-ghost use Rattle.hd_dbd.specs.Prefixes.{stored_size};
 ghost use Rattle.hd_dbd.specs.Segment.{Segment};
 ghost use Rattle.hd_volume.specs.Calls.{IsRead};
 ghost use Rattle.hd_prefix.specs.Fields.{code_of};
@@ -53,14 +52,15 @@ fn put_end<W: Write>(out: &mut W, count: u32) -> Result<(), StreamFault>
     put(out, &[0, a, b, c, d])
 }
 
-/// Writes the record of a stored segment, which is as long as its type's segments.
+/// Writes the record of a stored segment, which has its prefix and all of its own bytes.
 fn put_record<W: Write>(dbd: &Dbd, segment: &[u8], out: &mut W) -> Result<(), StreamFault>
     ensures record { OnOk result (IsWhole dbd.now.types segment.now → Appends (W.contents out.old) (W.contents out.new) (record_bytes (stored_row dbd.now.types segment.now))) }
     ensures refusal { IfErr result (λ e. e ≡ StreamFault.Write) }
 {
+    let _ = dbd.types();
     let code = segment.first().copied().unwrap_or(0);
     let layout = Layout::of(dbd, code);
-    if segment.len() < layout.stored_size() as usize {
+    if !layout.is_whole(segment) {
         return Ok(());
     }
     put_row(out, code, layout.bytes(segment))

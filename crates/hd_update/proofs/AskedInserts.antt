@@ -9,7 +9,7 @@ use Rattle.hd_dbd.specs.Segment.{Segment}
 use Rattle.hd_dbd.specs.Hierarchy.{Database}
 use Rattle.hd_dbd.specs.Views.{Setting}
 use Rattle.hd_calls.specs.Access.{loads}
-use Rattle.hd_calls.specs.Runs.{LacksRoom, rows_put_in}
+use Rattle.hd_calls.specs.Runs.{LacksRoom, rows_stored, inserts_root}
 use Rattle.hd_calls.specs.Ssas.{Ssa, first_inserted}
 use Rattle.hd_calls.specs.Places.{rule_of, rule_under}
 use Rattle.hd_calls.specs.Steps.{State, Effect, bare_answer, position_at, inserted_codes}
@@ -21,7 +21,7 @@ use Rattle.hd_get.specs.declared.outcome.Outcome.{Outcome}
 use Rattle.hd_get.specs.declared.outcome.Outcome.TheVariants.{Missing}
 use Rattle.hd_keeping.specs.VolumeImages.{images_of}
 use Rattle.hd_position.specs.Kept.{Kept}
-use Rattle.hd_update.specs.NewRows.{codes_of, has_length_for, rows_in}
+use Rattle.hd_update.specs.NewRows.{codes_of, are_rows_in, rows_in}
 use Rattle.hd_update.specs.Inserting.{AreInsertArguments, insert_effect, insert_under, parent_asked, IsParentAsked, IsUnder, HasParentFor, LacksRoomFor, AreInsertedUnder, IsFullUnder, IsInsertDone, IsInsertFull}
 use Rattle.hd_update.specs.Places.{IsTypeBelow}
 use Rattle.hd_update.specs.Positions.{unheld_at}
@@ -32,36 +32,36 @@ use Rattle.hd_update.proofs.InsertCalls.{no_parent, below_parent}
 use Rattle.hd_update.proofs.Standing.{own_position}
 
 -- room lacks after calls that only read where it lacked before them
-lacks_before : (d : Database) (v mid : VolumeState) (e e2 : Effect) → mid.image ≡ v.image → e2 ≡ e → LacksRoomFor d mid e → LacksRoomFor d v e2
-lacks_before d v mid e e2 image same L = record {
+lacks_before : (d : Database) (v mid : VolumeState) (rows : List Segment) (e e2 : Effect) → mid.image ≡ v.image → e2 ≡ e → LacksRoomFor d mid rows e → LacksRoomFor d v rows e2
+lacks_before d v mid rows e e2 image same L = record {
   reply = L.reply;
   change = L.change;
   own = L.own;
   is = same ∙ L.is;
   blank = L.blank;
-  lacks = subst (λ (x : List ℕ). LacksRoom (images_of d) d.types x (rows_put_in L.change)) image L.lacks;
+  lacks = subst (λ (x : List ℕ). LacksRoom (images_of d) d.types x (rows_stored rows L.change) (inserts_root L.change)) image L.lacks;
 }
 
--- What is known of a call: its number, where what it inserts begins, and the codes of that; the area is as long as its rows.
+-- What is known of a call: its number, where what it inserts begins, and the codes of that; the area is its rows.
 pub record IsCut (d : Database) (old : List Kept) (number : ℕ) (ssas : List Ssa) (area : List ℕ) (n code : ℕ) : Type 0 where
   pub some : 0 < number
   pub many : number ≤ length old
   pub place : n ≡ first_inserted ssas
   pub codes : List ℕ
   pub begins : inserted_codes ssas ≡ code ∷ codes
-  pub long : has_length_for d.types (inserted_codes ssas) area ≡ true
+  pub are : are_rows_in d.types (inserted_codes ssas) area ≡ true
 
--- where the area is as long as the rows that are cut off
+-- where the area is the rows that are cut off
 pub cut_at : (d : Database) (old : List Kept) (number : ℕ) (ssas : List Ssa) (area : List ℕ) (n code : ℕ) (A : AreInsertArguments d.types ssas) (have : 0 < length ssas) (place : n ≡ first_inserted ssas)
-    → 0 < number → number ≤ length old → (a b : Ssa) → a ≡ slice_index_or ssas n b → code ≡ a.code → has_length_for d.types (codes_of (left d.types ssas A have n place)) area ≡ true
+    → 0 < number → number ≤ length old → (a b : Ssa) → a ≡ slice_index_or ssas n b → code ≡ a.code → are_rows_in d.types (codes_of (left d.types ssas A have n place)) area ≡ true
     → IsCut d old number ssas area n code
-cut_at d old number ssas area n code A have place some many a b is code_is long = record {
+cut_at d old number ssas area n code A have place some many a b is code_is are = record {
   some = some;
   many = many;
   place = place;
   codes = drop 1 (inserted_codes ssas);
   begins = begins d.types ssas A have n place a b is code code_is;
-  long = ap (λ (cs : List ℕ). has_length_for d.types cs area) (sym (codes_left d.types ssas A have n place)) ∙ long;
+  are = ap (λ (cs : List ℕ). are_rows_in d.types cs area) (sym (codes_left d.types ssas A have n place)) ∙ are;
 }
 
 module _ (d : Database) (v mid : VolumeState) (X : Type 0) (x : X) (read : IsRead {T = X} v (Ok x) mid) (old : List Kept) (number : ℕ) (ssas : List Ssa) (area : List ℕ) (n code : ℕ)
@@ -81,7 +81,7 @@ module _ (d : Database) (v mid : VolumeState) (X : Type 0) (x : X) (read : IsRea
   pub answered_none : IsParentAsked d v (take n ssas) code own None → IsInsertDone d v old number ssas area (Missing GE) mid (unheld_at number old)
   answered_none asked = λ pcb normal st sound R.
       answered_as d v st number (bare_answer (position_at st number) GE) (insert_effect d pcb number ssas area st) (Missing GE) mid (unheld_at number old)
-      (no_parent (setting pcb) st.rows (position_at st number) ssas area normal C.long code C.codes C.begins
+      (no_parent (setting pcb) st.rows (position_at st number) ssas area normal C.are code C.codes C.begins
       (at_rows st R None (asked R.placed (position_at st number) (own_position d v old st number R C.some C.many sound k))))
       (bare_answered d v mid old st number GE read sound R C.some C.many refl)
 
@@ -118,7 +118,7 @@ module _ (d : Database) (v mid : VolumeState) (X : Type 0) (x : X) (read : IsRea
       effect_is : (pcb : View) (st : State) (R : Represents d v old st) (F : IsFound st R) → loads pcb ≡ false
           → insert_effect d pcb number ssas area st ≡ insert_under (setting pcb) st.rows (position_at st number) rule F.parent rows
       effect_is pcb st R F normal =
-          below_parent (setting pcb) st.rows (position_at st number) ssas area normal C.long code C.codes C.begins F.parent rule a (at_rows st R (Some F.parent) F.is) there rule_is
+          below_parent (setting pcb) st.rows (position_at st number) ssas area normal C.are code C.codes C.begins F.parent rule a (at_rows st R (Some F.parent) F.is) there rule_is
           ∙ ap (λ (xs : List Segment). insert_under (setting pcb) st.rows (position_at st number) rule F.parent xs) (sym rows_are)
 
       -- the rows went in below the parent
@@ -133,5 +133,5 @@ module _ (d : Database) (v mid : VolumeState) (X : Type 0) (x : X) (read : IsRea
       pub full_below : (e : Refused) → IsFullUnder d mid old number path first rule rows e → IsInsertFull d v old number ssas area e
       full_below e full = λ pcb st normal is sound R.
           (let F = found st R sound in
-          lacks_before d v mid (insert_under (setting pcb) st.rows (position_at st number) rule F.parent rows) (insert_effect d pcb number ssas area st) (after-read d v mid read sound).image
+          lacks_before d v mid st.rows (insert_under (setting pcb) st.rows (position_at st number) rule F.parent rows) (insert_effect d pcb number ssas area st) (after-read d v mid read sound).image
           (effect_is pcb st R F normal) (full pcb st F.parent is F.under))

@@ -1,41 +1,56 @@
 -- What REPL's area asks of a state.
-use Rattle.std.proofs.Common.{◌≡◌, ℕ, ◌<◌, ◌≤◌, List, length, true, false, refl, ap, sym, ◌∙◌, subst, Option, Some, None}
-use Rattle.std.specs.Prelude.{map, is_some}
-use Rattle.std.specs.Option.{option_map_or}
+use Rattle.std.proofs.Common.{◌≡◌, ℕ, ◌<◌, ◌≤◌, List, length, Result, Ok, Err, refl, ap, sym, ◌∙◌, subst}
+use Rattle.std.specs.Prelude.{map}
 use Rattle.hd_dbd.specs.Types.{View}
 use Rattle.hd_dbd.specs.Hierarchy.{Database}
+use Rattle.hd_dbd.specs.declared.answer.Status.TheVariants.{V1}
 use Rattle.hd_dbd.specs.Segment.{Segment}
-use Rattle.hd_dbd.specs.Paths.{row_at}
 use Rattle.hd_dbd.specs.Positions.{Position}
 use Rattle.hd_dbd.specs.Forest.{Forest}
+use Rattle.hd_calls.specs.declared.call.AreaFault.{AreaFault}
+use Rattle.hd_calls.specs.declared.call.AreaFault.TheVariants.{Length, Bytes}
+use Rattle.hd_calls.specs.Functions.{result_and_then}
 use Rattle.hd_calls.specs.Ssas.{Ssa}
 use Rattle.hd_calls.specs.Moves.{Rewrite}
-use Rattle.hd_calls.specs.Steps.{State, wrong_area, position_at, divide, length_of, rewrites_of, rewrites_asked, replace_rows}
+use Rattle.hd_calls.specs.Steps.{State, Effect, Part, wrong_area, bare_answer, position_at, divide, with_parts, held_part, rewrites_of, rewrites_asked, replace_rows}
 use Rattle.hd_volume.specs.Volumes.{VolumeState}
 use Rattle.hd_links.specs.Placed.{Placed}
-use Rattle.hd_links.specs.Steps.{rows_of}
 use Rattle.hd_position.specs.Kept.{Kept}
 use Rattle.hd_update.specs.Calls.{replace_effect}
 use Rattle.hd_update.specs.Held.{held_rows}
-use Rattle.hd_update.specs.Replacing.{lengths_of, is_divided, new_bytes_from, AreRewritesOf}
+use Rattle.hd_update.specs.Replacing.{part_of, parts_held, new_bytes_from, AreRewritesOf}
 use Rattle.hd_update.specs.States.{Represents, kept_of}
 use Rattle.hd_update.specs.declared.held.HeldRow.{HeldRow}
-use Rattle.hd_update.proofs.Asked.{held_lengths, all_asked}
+use Rattle.hd_update.specs.declared.rewrites.NewBytes.{NewBytes}
+use Rattle.hd_update.proofs.Asked.{held_parts, all_asked}
 use Rattle.hd_update.proofs.Levels.{all_held_below}
 use Rattle.hd_update.proofs.Standing.{own_stands}
 
-none_there : {A : Type 0} (o : Option A) → is_some o ≡ false → o ≡ None
-none_there None e = refl
-none_there (Some x) e = cc
+-- ---- what was found of an area
 
-some_there : {A : Type 0} (o : Option A) → is_some o ≡ true → (x : A) × (o ≡ Some x)
-some_there None e = cc
-some_there (Some x) e = (x, refl)
+-- The parts of the held rows, whose new bytes these are.
+pub record HasParts (ssas : List Ssa) (held : List HeldRow) (r : Result (List (List ℕ)) AreaFault) (news : List NewBytes) : Type 0 where
+  pub parts : List (List ℕ)
+  pub is : r ≡ Ok parts
+  pub are : news ≡ new_bytes_from ssas 0 held parts
+
+pub parts_of : (ssas : List Ssa) (held : List HeldRow) (r : Result (List (List ℕ)) AreaFault) (news : List NewBytes) → result_and_then r (λ parts. Ok (new_bytes_from ssas 0 held parts)) ≡ Ok news
+    → HasParts ssas held r news
+parts_of ssas held (Ok parts) news is = record { parts = parts; is = refl; are = (let same : new_bytes_from ssas 0 held parts ≡ news = cc in sym same) }
+parts_of ssas held (Err fault) news is = cc
+
+-- or its fault
+pub fault_of : (ssas : List Ssa) (held : List HeldRow) (r : Result (List (List ℕ)) AreaFault) (fault : AreaFault)
+    → result_and_then r (λ parts. Ok (new_bytes_from ssas 0 held parts)) ≡ Err fault → r ≡ Err fault
+fault_of ssas held (Ok parts) fault is = cc
+fault_of ssas held (Err e) fault is = (let same : e ≡ fault = cc in ap Err same)
+
+-- ---- what it asks
 
 -- What is asked: the rewrites that REPL does then.
-pub record Asks (d : Database) (f : Forest Placed) (st : State) (number : ℕ) (ssas : List Ssa) (area : List ℕ) (held : List HeldRow) : Type 0 where
+pub record Asks (d : Database) (f : Forest Placed) (st : State) (number : ℕ) (ssas : List Ssa) (area : List ℕ) (news : List NewBytes) : Type 0 where
   pub rewrites : List Rewrite
-  pub are : AreRewritesOf d.types f area (new_bytes_from d.types ssas 0 held) rewrites
+  pub are : AreRewritesOf d.types f area news rewrites
   pub effect : (pcb : View) → replace_effect d pcb number ssas area st ≡ replace_rows (record { types = d.types; pcb = pcb }) st.rows (position_at st number) rewrites
 
 module _ (d : Database) (v : VolumeState) (old : List Kept) (st : State) (number : ℕ) (R : Represents d v old st) (some : 0 < number) (within : number ≤ length old)
@@ -46,27 +61,36 @@ module _ (d : Database) (v : VolumeState) (old : List Kept) (st : State) (number
   abbrev p : Position
   p = position_at st number
 
-  abbrev lengths : List Segment → List ℕ
-  lengths rows = map (λ i. length_of d.types (row_at rows i).code) p.held
+  abbrev parts_asked : List Segment → List Part
+  parts_asked rows = map (λ i. held_part rows ssas i) p.held
 
-  lengths_are : lengths st.rows ≡ lengths_of d.types held
-  lengths_are = ap lengths (sym R.rows) ∙ held_lengths d.types f p.held ∙ ap (lengths_of d.types) (sym are)
+  parts_are : parts_asked st.rows ≡ map (λ h. part_of ssas h) held
+  parts_are = ap parts_asked (sym R.rows) ∙ held_parts ssas f p.held ∙ ap (λ (hs : List HeldRow). map (λ h. part_of ssas h) hs) (sym are)
 
-  pub wrong : (pcb : View) → false ≡ is_divided d.types held area → replace_effect d pcb number ssas area st ≡ wrong_area
-  wrong pcb e =
-      ap (λ (o : Option (List (List ℕ))). option_map_or (λ parts. replace_rows (record { types = d.types; pcb = pcb }) st.rows p (rewrites_asked st.rows ssas (rewrites_of p.held parts))) o wrong_area)
-      (none_there (divide (lengths st.rows) area) (ap (λ (ns : List ℕ). is_some (divide ns area)) lengths_are ∙ sym e))
+  abbrev by_parts : View → Result (List (List ℕ)) AreaFault → Effect
+  by_parts pcb r = with_parts p r (λ parts. replace_rows (record { types = d.types; pcb = pcb }) st.rows p (rewrites_asked st.rows ssas (rewrites_of p.held parts)))
 
-  pub asks : true ≡ is_divided d.types held area → Asks d f st number ssas area held
-  asks e =
-      let P = some_there (divide (lengths st.rows) area) (ap (λ (ns : List ℕ). is_some (divide ns area)) lengths_are ∙ sym e) in
-      let of_rows : divide (lengths (rows_of f)) area ≡ Some P.0 = ap (λ (rows : List Segment). divide (lengths rows) area) R.rows ∙ P.1 in
-      let all = all_asked d.types f ssas area p.held P.0 (all_held_below d.types f (kept_of old number) p (own_stands d v old st number R some within)) of_rows in
+  effect_by : (pcb : View) (r : Result (List (List ℕ)) AreaFault) → parts_held d.types ssas held area ≡ r → replace_effect d pcb number ssas area st ≡ by_parts pcb r
+  effect_by pcb r is = ap (by_parts pcb) (ap (λ (ps : List Part). divide d.types ps area) parts_are ∙ is)
+
+  -- bytes lack or are left over
+  pub area_wrong : (pcb : View) → parts_held d.types ssas held area ≡ Err Bytes → replace_effect d pcb number ssas area st ≡ wrong_area
+  area_wrong pcb is = effect_by pcb (Err Bytes) is
+
+  -- a row has a wrong length
+  pub row_wrong : (pcb : View) → parts_held d.types ssas held area ≡ Err Length → replace_effect d pcb number ssas area st ≡ bare_answer p V1
+  row_wrong pcb is = effect_by pcb (Err Length) is
+
+  -- there are parts
+  pub asks : (news : List NewBytes) → HasParts ssas held (parts_held d.types ssas held area) news → Asks d f st number ssas area news
+  asks news P =
+      let of_rows : parts_held d.types ssas (held_rows f p.held) area ≡ Ok P.parts = ap (λ (hs : List HeldRow). parts_held d.types ssas hs area) (sym are) ∙ P.is in
+      let all = all_asked d.types f ssas area p.held P.parts (all_held_below d.types f (kept_of old number) p (own_stands d v old st number R some within)) of_rows in
+      let news_are : new_bytes_from ssas 0 (held_rows f p.held) P.parts ≡ news = ap (λ (hs : List HeldRow). new_bytes_from ssas 0 hs P.parts) (sym are) ∙ sym P.are in
       record {
-        rewrites = rewrites_asked st.rows ssas (rewrites_of p.held P.0);
+        rewrites = rewrites_asked st.rows ssas (rewrites_of p.held P.parts);
         are =
-            subst (λ (hs : List HeldRow). AreRewritesOf d.types f area (new_bytes_from d.types ssas 0 hs) (rewrites_asked st.rows ssas (rewrites_of p.held P.0))) (sym are)
-            (subst (λ (rows : List Segment). AreRewritesOf d.types f area (new_bytes_from d.types ssas 0 (held_rows f p.held)) (rewrites_asked rows ssas (rewrites_of p.held P.0))) R.rows all);
-        effect = λ pcb.
-            ap (λ (o : Option (List (List ℕ))). option_map_or (λ parts. replace_rows (record { types = d.types; pcb = pcb }) st.rows p (rewrites_asked st.rows ssas (rewrites_of p.held parts))) o wrong_area) P.1;
+            subst (λ (ns : List NewBytes). AreRewritesOf d.types f area ns (rewrites_asked st.rows ssas (rewrites_of p.held P.parts))) news_are
+            (subst (λ (rows : List Segment). AreRewritesOf d.types f area (new_bytes_from ssas 0 (held_rows f p.held) P.parts) (rewrites_asked rows ssas (rewrites_of p.held P.parts))) R.rows all);
+        effect = λ pcb. effect_by pcb (Ok P.parts) P.is;
       }

@@ -2,7 +2,7 @@
 use Rattle.std.proofs.Common.{◌≡◌, ℕ, zero, suc, ◌+◌, ◌-◌, ◌<◌, ◌≤◌, List, [], ◌∷◌, length, map, take, drop, Bool, true, false, cond, Ok, Option, Some, None, IsTrue, refl, sym, ap, subst, ◌∙◌, arith}
 use Rattle.std.specs.Prelude.{Result, is_some, nat_le, slice_get, slice_index, slice_index_or, option_and_then}
 use Rattle.std.specs.Option.{ok_or}
-use Rattle.std.proofs.lemmas.Bool.{and_from, leb-true}
+use Rattle.std.proofs.lemmas.Bool.{leb-true}
 use Rattle.std.proofs.lemmas.List.{length-map, length-drop, take_all}
 use Rattle.std.proofs.lemmas.Option.{same_Some}
 use Rattle.hd_dbd.specs.declared.hierarchy.FreeSpace.{FreeSpace}
@@ -24,7 +24,6 @@ use Rattle.hd_calls.proofs.SoundInserts.{ChainCodes, above_code, chain_drop, res
 use Rattle.hd_links.proofs.Types.{above_some}
 use Rattle.hd_seek.specs.Admits.{Descend}
 use Rattle.hd_seek.proofs.Admitting.{resolved_descend}
-use Rattle.hd_update.specs.NewRows.{are_types}
 use Rattle.hd_update.specs.Inserting.{AreInsertArguments, StepDown, IsTargetAbove}
 use Rattle.hd_update.proofs.ParentsAsked.{child_of}
 
@@ -113,10 +112,6 @@ inserted_chain types ssas A =
     chain_drop types (first_inserted ssas) ssas (resolved_typed types None call.heads ssas call.resolved)
     (ap (λ (n : ℕ). steps_down types None (drop (n - 1) (map (λ a. a.code) ssas))) (sym same) ∙ call.suit)
 
-pub chain_types : (types : List SegmentType) (above : Option ℕ) (codes : List ℕ) → ChainCodes types above codes → are_types types codes ≡ true
-chain_types types above [] chain = refl
-chain_types types above (c ∷ cs) chain = and_from (is_some (type_of types c)) (are_types types cs) (ap (λ (o : Option SegmentType). is_some o) chain.1.1) (chain_types types (Some c) cs chain.2)
-
 module _ (block_size : ℕ) (frspc : FreeSpace) (types : List SegmentType) (formed : IsTrue (well_formed block_size frspc types)) where
   chain_steps : (code : ℕ) (codes : List ℕ) → 0 < code → ChainCodes types (Some code) codes → StepDown types code codes
   chain_steps code [] some chain = tt
@@ -158,9 +153,6 @@ module _ (types : List SegmentType) (ssas : List Ssa) (A : AreInsertArguments ty
 
   pub codes_left : map (λ (a : Ssa). a.code) left ≡ inserted_codes ssas
   codes_left = ap (λ (xs : List Ssa). map (λ (a : Ssa). a.code) xs) all_left ∙ ap (λ (m : ℕ). map (λ (a : Ssa). a.code) (drop m ssas)) n_is
-
-  pub typed_left : are_types types (map (λ (a : Ssa). a.code) left) ≡ true
-  typed_left = ap (λ (cs : List ℕ). are_types types cs) codes_left ∙ chain_types types (above_code (first_inserted ssas) ssas) (inserted_codes ssas) (inserted_chain types ssas A)
 
   pub there : (a b : Ssa) → a ≡ slice_index_or ssas n b → slice_get ssas (first_inserted ssas) ≡ Some a
   there a b is = ap (λ (m : ℕ). slice_get ssas m) (sym n_is) ∙ got_at n ssas a b within is

@@ -1,10 +1,10 @@
 -- What an ISRT does, by the parent that it asks for.
-use Rattle.std.proofs.Common.{◌≡◌, ℕ, ◌∷◌, [], List, take, drop, map, true, false, Option, Some, None, refl, sym, ap, ◌∙◌}
-use Rattle.std.specs.Prelude.{is_some, option_map, slice_get}
+use Rattle.std.proofs.Common.{◌≡◌, ℕ, ◌∷◌, List, length, take, drop, true, false, Option, Some, None, Result, Err, refl, sym, ap, ◌∙◌}
+use Rattle.std.specs.Prelude.{option_map, slice_get}
 use Rattle.std.specs.Option.{option_map_or}
 use Rattle.std.proofs.lemmas.Bool.{cond-false}
 use Rattle.hd_dbd.specs.declared.hierarchy.Rule.{Rule}
-use Rattle.hd_dbd.specs.declared.answer.Status.TheVariants.{GE}
+use Rattle.hd_dbd.specs.declared.answer.Status.TheVariants.{GE, V1}
 use Rattle.hd_dbd.specs.Segment.{Segment}
 use Rattle.hd_dbd.specs.Hierarchy.{parent_of}
 use Rattle.hd_dbd.specs.Positions.{Position}
@@ -12,30 +12,31 @@ use Rattle.hd_dbd.specs.Views.{Setting}
 use Rattle.hd_calls.specs.Access.{loads}
 use Rattle.hd_calls.specs.Ssas.{Ssa, first_inserted}
 use Rattle.hd_calls.specs.Places.{insert_parent, rule_of, rule_under}
-use Rattle.hd_calls.specs.Steps.{wrong_area, bare_answer, divide, length_of, new_rows, rule_asked, insert_below, insert_rows, load_step, insert_or_load, inserted_codes, insert_step}
-use Rattle.hd_update.specs.NewRows.{has_length_for, rows_in}
+use Rattle.hd_calls.specs.declared.call.AreaFault.{AreaFault}
+use Rattle.hd_calls.specs.declared.call.AreaFault.TheVariants.{Length, Bytes}
+use Rattle.hd_calls.specs.Steps.{Effect, wrong_area, bare_answer, front, with_parts, new_rows, rule_asked, insert_below, insert_rows, load_step, insert_or_load, inserted_codes, insert_step}
+use Rattle.hd_update.specs.NewRows.{parts_in, are_rows_in, rows_in}
 use Rattle.hd_update.specs.Inserting.{insert_under, parent_asked}
-use Rattle.hd_update.proofs.RowsIn.{Begins, rows_begin}
+use Rattle.hd_update.proofs.RowsIn.{Begins, rows_begin, parts_there, rows_of_parts}
 
 module _ (s : Setting) (rows : List Segment) (p : Position) (ssas : List Ssa) where
-  -- an area of another length
-  pub area_wrong : (area : List ℕ) → has_length_for s.types (inserted_codes ssas) area ≡ false → insert_step s rows p ssas area ≡ wrong_area
-  area_wrong area long = by (divide (map (λ c. length_of s.types c) (inserted_codes ssas)) area) long
-    where
-      by : (o : Option (List (List ℕ))) → is_some o ≡ false → option_map_or (λ parts. insert_or_load s rows p ssas (new_rows (inserted_codes ssas) parts)) o wrong_area ≡ wrong_area
-      by None is = refl
-      by (Some parts) is = cc
+  abbrev by_parts : Result (List (List ℕ)) AreaFault → Effect
+  by_parts r = with_parts p r (λ parts. insert_or_load s rows p ssas (new_rows (inserted_codes ssas) parts))
 
-  -- an area of the rows' length
-  area_right : (area : List ℕ) → has_length_for s.types (inserted_codes ssas) area ≡ true
+  -- an area of which bytes lack or are left over
+  pub area_wrong : (area : List ℕ) → parts_in s.types (inserted_codes ssas) area ≡ Err Bytes → insert_step s rows p ssas area ≡ wrong_area
+  area_wrong area is = ap by_parts is
+
+  -- an area with a row of a wrong length
+  pub row_wrong : (area : List ℕ) → parts_in s.types (inserted_codes ssas) area ≡ Err Length → insert_step s rows p ssas area ≡ bare_answer p V1
+  row_wrong area is = ap by_parts is
+
+  -- an area that is the rows
+  pub area_right : (area : List ℕ) → are_rows_in s.types (inserted_codes ssas) area ≡ true
       → insert_step s rows p ssas area ≡ insert_or_load s rows p ssas (rows_in s.types (inserted_codes ssas) area)
-  area_right area long = by (divide (map (λ c. length_of s.types c) (inserted_codes ssas)) area) long
-    where
-      by : (o : Option (List (List ℕ))) → is_some o ≡ true
-          → option_map_or (λ parts. insert_or_load s rows p ssas (new_rows (inserted_codes ssas) parts)) o wrong_area
-          ≡ insert_or_load s rows p ssas (option_map_or (λ parts. new_rows (inserted_codes ssas) parts) o [])
-      by None is = cc
-      by (Some parts) is = refl
+  area_right area are =
+      let parts = parts_there s.types (inserted_codes ssas) area are in
+      ap by_parts parts.1 ∙ ap (λ (new : List Segment). insert_or_load s rows p ssas new) (sym (rows_of_parts s.types (inserted_codes ssas) area parts.0 parts.1))
 
   -- the rows go in below the parent asked, if there is one
   by_parent : (new : List Segment) (row : Segment)
@@ -56,25 +57,25 @@ module _ (s : Setting) (rows : List Segment) (p : Position) (ssas : List Ssa) wh
       by None = refl
       by (Some code) = found (insert_parent s.types rows p.standing (take (first_inserted ssas) ssas) code)
 
-  module _ (area : List ℕ) (normal : loads s.pcb ≡ false) (long : has_length_for s.types (inserted_codes ssas) area ≡ true) (code : ℕ) (codes : List ℕ) (begins : inserted_codes ssas ≡ code ∷ codes) where
+  module _ (area : List ℕ) (normal : loads s.pcb ≡ false) (are : are_rows_in s.types (inserted_codes ssas) area ≡ true) (code : ℕ) (codes : List ℕ) (begins : inserted_codes ssas ≡ code ∷ codes) where
     abbrev asked : Option (Option ℕ)
     asked = parent_asked s.types rows p.standing (take (first_inserted ssas) ssas) code
 
-    begun : Begins s.types code codes area
-    begun = rows_begin s.types code codes area (ap (λ (cs : List ℕ). has_length_for s.types cs area) (sym begins) ∙ long)
+    begun : Begins s.types code codes area (front s.types code area)
+    begun = rows_begin s.types code codes area (front s.types code area) refl (ap (λ (cs : List ℕ). are_rows_in s.types cs area) (sym begins) ∙ are)
 
     abbrev row : Segment
-    row = record { code = code; bytes = take (length_of s.types code) area }
+    row = record { code = code; bytes = front s.types code area }
 
     abbrev others : List Segment
-    others = rows_in s.types codes (drop (length_of s.types code) area)
+    others = rows_in s.types codes (drop (length (front s.types code area)) area)
 
     rows_are : rows_in s.types (inserted_codes ssas) area ≡ row ∷ others
     rows_are = ap (λ (cs : List ℕ). rows_in s.types cs area) begins ∙ begun.rows
 
     goes_by_parent : insert_step s rows p ssas area ≡ option_map_or (λ parent. insert_below s rows p ssas (row ∷ others) row parent) asked (bare_answer p GE)
     goes_by_parent =
-        area_right area long
+        area_right area are
         ∙ ap (λ (new : List Segment). insert_or_load s rows p ssas new) rows_are
         ∙ cond-false (loads s.pcb) (load_step s rows p row) (insert_rows s rows p ssas (row ∷ others) row) normal
         ∙ by_parent (row ∷ others) row

@@ -1,13 +1,15 @@
 -- What ISRT of one row does in a state of a PCB that loads.
-use Rattle.std.proofs.Common.{◌≡◌, ℕ, ◌-◌, ◌<◌, ◌≤◌, List, [], ◌∷◌, length, take, drop, Bool, true, false, cond, Option, Some, None, IsTrue, Ok, refl, ap, sym, ◌∙◌, subst, arith, length-drop, inl, inr}
-use Rattle.std.specs.Prelude.{map, nat_le, option_map, is_some, slice_index_or, ◌==◌}
+use Rattle.std.proofs.Common.{◌≡◌, ℕ, ◌-◌, ◌<◌, ◌≤◌, List, [], ◌∷◌, ◌++◌, length, drop, true, false, Option, Some, None, Result, IsTrue, Ok, Err, refl, ap, ap₂, sym, ◌∙◌, subst}
+use Rattle.std.specs.Prelude.{slice_index_or}
 use Rattle.std.specs.Option.{option_map_or}
-use Rattle.std.proofs.lemmas.Bool.{cases_Bool, cond-true, cond-false, leb-true, le-leb, eq-eqb, eqb-true, ne_eqb}
-use Rattle.std.proofs.lemmas.List.{take_all, drop_all}
+use Rattle.std.proofs.lemmas.Bool.{cond-true}
+use Rattle.std.proofs.lemmas.List.{append-nil}
 use Rattle.hd_dbd.specs.Types.{SegmentType, View}
+use Rattle.hd_dbd.specs.declared.answer.Status.{Status}
+use Rattle.hd_dbd.specs.declared.answer.Status.TheVariants.{V1}
 use Rattle.hd_dbd.specs.declared.answer.LoadFault.{LoadFault}
 use Rattle.hd_dbd.specs.declared.answer.LoadFault.TheVariants.{LB, LC, LD, LE}
-use Rattle.hd_dbd.specs.Hierarchy.{Database, type_of}
+use Rattle.hd_dbd.specs.Hierarchy.{Database}
 use Rattle.hd_dbd.specs.Segment.{Segment}
 use Rattle.hd_dbd.specs.Rows.{row_fits}
 use Rattle.hd_dbd.specs.Loads.{last_path, load_fault, status_of_load}
@@ -15,12 +17,15 @@ use Rattle.hd_dbd.specs.Positions.{Position}
 use Rattle.hd_dbd.specs.Views.{Setting}
 use Rattle.hd_dbd.specs.Calls.{Reply, bare}
 use Rattle.hd_dbd.specs.Forest.{Forest}
+use Rattle.hd_calls.specs.declared.call.AreaFault.{AreaFault}
+use Rattle.hd_calls.specs.declared.call.AreaFault.TheVariants.{Length, Bytes}
 use Rattle.hd_calls.specs.Ssas.{Ssa}
 use Rattle.hd_calls.specs.Gets.{unheld}
 use Rattle.hd_calls.specs.Moves.{Change, unchanged}
 use Rattle.hd_calls.specs.NoLostUpdate.{is_done}
-use Rattle.hd_calls.specs.Steps.{State, Effect, answered, wrong_area, bare_answer, position_at, divide, length_of, new_rows, insert_at, insert_or_load, load_step}
-use Rattle.hd_calls.specs.Runs.{LacksRoom}
+use Rattle.hd_calls.specs.Steps.{State, Effect, answered, wrong_area, bare_answer, position_at, new_row, with_parts, new_rows, insert_at, insert_or_load, load_step}
+use Rattle.hd_calls.specs.Runs.{LacksRoom, has_root}
+use Rattle.hd_calls.proofs.Areas.{IsCut, cut, nothing_left, part_in_front, new_row_fits}
 use Rattle.hd_keeping.specs.VolumeImages.{images_of}
 use Rattle.hd_update.specs.Inserting.{LacksRoomFor}
 use Rattle.hd_volume.specs.Volumes.{VolumeState}
@@ -31,10 +36,12 @@ use Rattle.hd_position.specs.Kept.{Kept, path_before}
 use Rattle.hd_position.proofs.LastPlaces.{last_paths}
 use Rattle.hd_get.specs.declared.outcome.Outcome.TheVariants.{Missing}
 use Rattle.hd_update.specs.Loading.{HasPassedAll, load_effect, InsertsOne, HasLastPath, IsLastPath, IsLoadFault}
+use Rattle.hd_update.specs.NewRows.{parts_in, are_rows_in}
 use Rattle.hd_update.specs.Positions.{unheld_at}
 use Rattle.hd_update.specs.States.{Represents, IsAnswered}
 use Rattle.hd_update.proofs.Answering.{answered_as, bare_answered}
 use Rattle.hd_update.proofs.LastPaths.{one_forest}
+use Rattle.hd_update.proofs.RowsIn.{parts_there}
 use Rattle.hd_update.proofs.Standing.{own_position}
 
 -- ---- the area
@@ -42,34 +49,25 @@ use Rattle.hd_update.proofs.Standing.{own_position}
 true_false : true ≡ false → ⊥
 true_false e = cc
 
--- an area of one part
-whole_area : (n : ℕ) (area : List ℕ) → length area ≡ n → divide (n ∷ []) area ≡ Some (area ∷ [])
-whole_area n area same =
-    cond-true _ _ _ (le-leb n (length area) (omega arith))
-    ∙ ap (λ (rest : List ℕ). option_map (λ (parts : List (List ℕ)). take n area ∷ parts) (divide [] rest)) (drop_all n area (omega arith))
-    ∙ ap (λ (part : List ℕ). Some (part ∷ [])) (take_all n area (omega arith))
+-- The area is one row of the type, which fits.
+pub record IsOneRow (types : List SegmentType) (code : ℕ) (area : List ℕ) : Type 0 where
+  pub parts : parts_in types (code ∷ []) area ≡ Ok (area ∷ [])
+  pub fits : row_fits types (record { code = code; bytes = area }) ≡ true
 
--- an area of another length
-other_area : (n : ℕ) (area : List ℕ) → (length area ≡ n → ⊥) → divide (n ∷ []) area ≡ None
-other_area n area other = elim (cases_Bool (nat_le n (length area))) [
-  | inl enough ↦
-      (let room : n ≤ length area = leb-true n (length area) enough in
-      let size : length (drop n area) ≡ length area - n = length-drop n area in
-      cond-true _ _ _ enough
-      ∙ ap (λ (b : Bool). option_map (λ (parts : List (List ℕ)). take n area ∷ parts) (cond b (Some []) None))
-      (ne_eqb (length (drop n area)) 0 (λ none. other (omega arith))))
-  | inr short ↦ cond-false _ _ _ short
-]
+one_part : (types : List SegmentType) (code : ℕ) (area : List ℕ) (parts : List (List ℕ)) → parts_in types (code ∷ []) area ≡ Ok parts → IsOneRow types code area
+one_part types code area parts is =
+    let own : IsCut types (new_row code) [] area parts = cut types (new_row code) [] area parts is in
+    let none = nothing_left types (drop (length own.bytes) area) own.others own.rest in
+    let whole : own.bytes ≡ area
+    = sym (append-nil own.bytes) ∙ ap (λ (xs : List ℕ). own.bytes ++ xs) (sym none.0) ∙ part_in_front types (new_row code) area own.bytes own.here in
+    record {
+      parts = is ∙ ap Ok (own.are ∙ ap₂ (λ (xs : List ℕ) (ps : List (List ℕ)). xs ∷ ps) whole none.1);
+      fits = ap (λ (xs : List ℕ). row_fits types (record { code = code; bytes = xs })) (sym whole) ∙ new_row_fits types code area own.bytes own.here;
+    }
 
--- a row that fits has its type's length
-fitting : (bytes : List ℕ) (o : Option SegmentType) → option_map_or (λ t. length bytes == t.length) o false ≡ true → length bytes ≡ option_map_or (λ t. t.length) o 0
-fitting bytes None e = cc
-fitting bytes (Some t) e = eqb-true (length bytes) t.length e
-
--- one that does not has another
-unfitting : (bytes : List ℕ) (o : Option SegmentType) → is_some o ≡ true → option_map_or (λ t. length bytes == t.length) o false ≡ false → length bytes ≡ option_map_or (λ t. t.length) o 0 → ⊥
-unfitting bytes None typed e same = cc
-unfitting bytes (Some t) typed e same = (let is : (length bytes == t.length) ≡ true = eq-eqb (length bytes) t.length same in true_false (sym is ∙ e))
+-- where it has no fault
+pub one_row : (types : List SegmentType) (code : ℕ) (area : List ℕ) → are_rows_in types (code ∷ []) area ≡ true → IsOneRow types code area
+one_row types code area are = (let parts = parts_there types (code ∷ []) area are in one_part types code area parts.0 parts.1)
 
 -- ---- the effect
 
@@ -80,22 +78,26 @@ module _ (d : Database) (code : ℕ) (area : List ℕ) (pcb : View) (ssas : List
   abbrev row : Segment
   row = record { code = code; bytes = area }
 
-  abbrev by_parts : List ℕ → Option (List (List ℕ)) → Effect
-  by_parts codes o = option_map_or (λ parts. insert_or_load setting st.rows (position_at st number) ssas (new_rows codes parts)) o wrong_area
+  abbrev p : Position
+  p = position_at st number
 
-  by_type : load_effect d pcb number ssas area st ≡ by_parts (code ∷ []) (divide (length_of d.types code ∷ []) area)
-  by_type = ap (λ (codes : List ℕ). by_parts codes (divide (map (λ c. length_of d.types c) codes) area)) I.1
+  abbrev by_parts : List ℕ → Result (List (List ℕ)) AreaFault → Effect
+  by_parts codes r = with_parts p r (λ parts. insert_or_load setting st.rows p ssas (new_rows codes parts))
 
-  -- of a row that fits
-  pub loads_row : row_fits d.types row ≡ true → load_effect d pcb number ssas area st ≡ load_step setting st.rows (position_at st number) row
-  loads_row fits =
-      by_type
-      ∙ ap (by_parts (code ∷ [])) (whole_area (length_of d.types code) area (fitting area (type_of d.types code) fits))
-      ∙ cond-true _ _ _ I.0
+  by_type : (r : Result (List (List ℕ)) AreaFault) → parts_in d.types (code ∷ []) area ≡ r → load_effect d pcb number ssas area st ≡ by_parts (code ∷ []) r
+  by_type r is = ap (λ (codes : List ℕ). by_parts codes (parts_in d.types codes area)) I.1 ∙ ap (by_parts (code ∷ [])) is
 
-  -- of one that does not
-  pub loads_none : is_some (type_of d.types code) ≡ true → row_fits d.types row ≡ false → load_effect d pcb number ssas area st ≡ wrong_area
-  loads_none typed unfit = by_type ∙ ap (by_parts (code ∷ [])) (other_area (length_of d.types code) area (unfitting area (type_of d.types code) typed unfit))
+  -- of an area that is one row
+  pub loads_row : IsOneRow d.types code area → load_effect d pcb number ssas area st ≡ load_step setting st.rows p row
+  loads_row one = by_type (Ok (area ∷ [])) one.parts ∙ cond-true _ _ _ I.0
+
+  -- of one of which bytes lack or are left over
+  pub loads_none : parts_in d.types (code ∷ []) area ≡ Err Bytes → load_effect d pcb number ssas area st ≡ wrong_area
+  loads_none is = by_type (Err Bytes) is
+
+  -- of one with a row of a wrong length
+  pub row_wrong : parts_in d.types (code ∷ []) area ≡ Err Length → load_effect d pcb number ssas area st ≡ bare_answer p V1
+  row_wrong is = by_type (Err Length) is
 
 -- ---- the path of the last row
 
@@ -161,42 +163,52 @@ module _ (d : Database) (code : ℕ) (area : List ℕ) (pcb : View) (ssas : List
   abbrev into : Setting
   into = record { types = d.types; pcb = pcb }
 
-  abbrev new_row : Segment
-  new_row = record { code = code; bytes = area }
+  abbrev loaded : Segment
+  loaded = record { code = code; bytes = area }
 
   abbrev behind : Effect
-  behind = insert_at into st.rows (position_at st number) (new_row ∷ []) (length st.rows)
+  behind = insert_at into st.rows (position_at st number) (loaded ∷ []) (length st.rows)
 
   abbrev by_fault : Option LoadFault → Effect
   by_fault o = option_map_or (λ fault. bare_answer (position_at st number) (status_of_load fault)) o behind
+
+  -- a status that changes nothing
+  misses : (status : Status) → is_done status ≡ false → bare_answer (position_at st number) status ≡ answered reply change own → LoadAnswers (bare_answer (position_at st number) status) behind reply
+  misses status none e =
+      let same : bare status ≡ reply = one_reply (bare status) reply unchanged change (unheld (position_at st number)) own e in
+      record {
+        found = λ done. absurd (true_false (sym done ∙ ap (λ (r : Reply). is_done r.status) (sym same) ∙ none));
+        missed = λ _. sym same ∙ ap (λ (r : Reply). bare r.status) same;
+      }
 
   answers_by : (o : Option LoadFault) → by_fault o ≡ answered reply change own → LoadAnswers (by_fault o) behind reply
   answers_by None e = record {
     found = λ _. refl;
     missed = λ none. absurd (true_false (sym (ap (λ (r : Reply). is_done r.status) (sym (one_reply _ reply _ change _ own e))) ∙ none));
   }
-  answers_by (Some fault) e =
-      let same : bare (status_of_load fault) ≡ reply = one_reply (bare (status_of_load fault)) reply unchanged change (unheld (position_at st number)) own e in
-      record {
-        found = λ done. absurd (true_false (sym done ∙ ap (λ (r : Reply). is_done r.status) (sym same) ∙ fault_undone fault));
-        missed = λ _. sym same ∙ ap (λ (r : Reply). bare r.status) same;
-      }
+  answers_by (Some fault) e = misses (status_of_load fault) (fault_undone fault) e
 
-  pub load_answers : is_some (type_of d.types code) ≡ true → load_effect d pcb number ssas area st ≡ answered reply change own → LoadAnswers (load_effect d pcb number ssas area st) behind reply
-  load_answers typed is = elim (cases_Bool (row_fits d.types new_row)) [
-    | inl fits ↦
-        (let same = loads_row d code area pcb ssas I st number fits in
-        subst (λ (e : Effect). LoadAnswers e behind reply) (sym same) (answers_by (load_fault d.types (last_path d.types st.rows) new_row) (sym same ∙ is)))
-    | inr unfit ↦ absurd (no_area reply change own (sym (loads_none d code area pcb ssas I st number typed unfit) ∙ is))
-  ]
+  pub load_answers : load_effect d pcb number ssas area st ≡ answered reply change own → LoadAnswers (load_effect d pcb number ssas area st) behind reply
+  load_answers is = by (parts_in d.types (code ∷ []) area) refl
+    where
+      as_effect : (e : Effect) → load_effect d pcb number ssas area st ≡ e → (e ≡ answered reply change own → LoadAnswers e behind reply) → LoadAnswers (load_effect d pcb number ssas area st) behind reply
+      as_effect e same answers = subst (λ (x : Effect). LoadAnswers x behind reply) (sym same) (answers (sym same ∙ is))
+
+      by : (r : Result (List (List ℕ)) AreaFault) → parts_in d.types (code ∷ []) area ≡ r → LoadAnswers (load_effect d pcb number ssas area st) behind reply
+      by (Ok parts) parts_are =
+          as_effect (by_fault (load_fault d.types (last_path d.types st.rows) loaded)) (loads_row d code area pcb ssas I st number (one_part d.types code area parts parts_are))
+          (answers_by (load_fault d.types (last_path d.types st.rows) loaded))
+      by (Err Length) fault = as_effect (bare_answer (position_at st number) V1) (row_wrong d code area pcb ssas I st number fault) (misses V1 refl)
+      by (Err Bytes) fault = as_effect wrong_area (loads_none d code area pcb ssas I st number fault) (λ wrong. absurd (no_area reply change own wrong))
 
 -- ---- no room
 
 -- a row that may be loaded, and lacks room, is what the load would put in
 pub load_lacks : (d : Database) (pcb : View) (number code : ℕ) (ssas : List Ssa) (area : List ℕ) (v : VolumeState) (st : State) → InsertsOne pcb ssas code
-    → row_fits d.types (record { code = code; bytes = area }) ≡ true → load_fault d.types (last_path d.types st.rows) (record { code = code; bytes = area }) ≡ None
-    → LacksRoom (images_of d) d.types v.image (record { code = code; bytes = area } ∷ []) → LacksRoomFor d v (load_effect d pcb number ssas area st)
-load_lacks d pcb number code ssas area v st I fits none lacks =
+    → IsOneRow d.types code area → load_fault d.types (last_path d.types st.rows) (record { code = code; bytes = area }) ≡ None
+    → LacksRoom (images_of d) d.types v.image (record { code = code; bytes = area } ∷ []) (has_root (record { code = code; bytes = area } ∷ []))
+    → LacksRoomFor d v st.rows (load_effect d pcb number ssas area st)
+load_lacks d pcb number code ssas area v st I one none lacks =
     let s : Setting = record { types = d.types; pcb = pcb } in
     let p : Position = position_at st number in
     let row : Segment = record { code = code; bytes = area } in
@@ -205,7 +217,7 @@ load_lacks d pcb number code ssas area v st I fits none lacks =
       change = _;
       own = _;
       is =
-          loads_row d code area pcb ssas I st number fits
+          loads_row d code area pcb ssas I st number one
           ∙ ap (λ (o : Option LoadFault). option_map_or (λ fault. bare_answer p (status_of_load fault)) o (insert_at s st.rows p (row ∷ []) (length st.rows))) none;
       blank = refl;
       lacks = lacks;

@@ -5,7 +5,7 @@ use Rattle.std.proofs.lemmas.List.{length-append}
 use Rattle.hd_dbd.specs.declared.answer.Refused.{Refused}
 use Rattle.hd_dbd.specs.declared.answer.Refused.TheVariants.{Memory, Full, Device}
 use Rattle.hd_dbd.specs.Hierarchy.{Database}
-use Rattle.hd_dbd.specs.Prefixes.{stored_size}
+use Rattle.hd_dbd.specs.Prefixes.{size_with}
 use Rattle.hd_dbd.specs.Rows.{row_fits}
 use Rattle.hd_dbd.specs.Segment.{Segment}
 use Rattle.hd_dbd.specs.Forest.{Forest}
@@ -55,8 +55,8 @@ one_more d u v w f n front last row a A typed fits I =
 
 -- where there are room and memory, only a failed access refuses a row
 pub row_refused : (d : Database) (v : VolumeState) (row : Segment) (rows : List Segment) → HasRoomFor d.types v (row ∷ rows) → HasMemoryFor d.types v (row ∷ rows)
-    → (e : Refused) → (e ≡ Memory) ⊎ (e ≡ Full) ⊎ (e ≡ Device) → (e ≡ Full → (spare v ≡ 0) × (HasHole v (stored_size d.types row.code) → ⊥)) → (e ≡ Memory → v.room ≡ 0)
-    → (e ≡ Memory → HasHole v (stored_size d.types row.code) → ⊥) → e ≡ Device
+    → (e : Refused) → (e ≡ Memory) ⊎ (e ≡ Full) ⊎ (e ≡ Device) → (e ≡ Full → (spare v ≡ 0) × (HasHole v (size_with d.types row.code (length row.bytes)) → ⊥)) → (e ≡ Memory → v.room ≡ 0)
+    → (e ≡ Memory → HasHole v (size_with d.types row.code (length row.bytes)) → ⊥) → e ≡ Device
 row_refused d v row rows room memory e (inl is) full none hole = absurd ((first-rows d.types v row rows).1 memory (none is, hole is))
 row_refused d v row rows room memory e (inr (inl is)) full none hole = absurd ((first-rows d.types v row rows).0 room (full is))
 row_refused d v row rows room memory e (inr (inr device)) full none hole = device

@@ -1,9 +1,8 @@
 -- The parent that ISRT asks for a row that it puts in.
 use Rattle.std.proofs.Common.{◌≡◌, ℕ, ◌<◌, List, [], length, true, Option, Some, None, IsTrue, refl, sym, ap, subst, ◌∙◌, arith, inl, inr}
-use Rattle.std.specs.Prelude.{is_some, option_map, IfSome, replicate}
+use Rattle.std.specs.Prelude.{is_some, option_map, IfSome}
 use Rattle.std.specs.Option.{option_map_or}
 use Rattle.std.proofs.lemmas.Bool.{false≢true}
-use Rattle.std.proofs.lemmas.List.{length-replicate}
 use Rattle.std.proofs.lemmas.Option.{same_Some}
 use Rattle.hd_dbd.specs.declared.hierarchy.FreeSpace.{FreeSpace}
 use Rattle.hd_dbd.specs.Types.{SegmentType}
@@ -19,7 +18,6 @@ use Rattle.hd_dbd.proofs.LevelLaw.{Leveled, leveled}
 use Rattle.hd_dbd.proofs.InSequence.{in_sequence}
 use Rattle.hd_calls.specs.Ssas.{Ssa, target_code}
 use Rattle.hd_calls.specs.Places.{insert_parent}
-use Rattle.hd_calls.specs.Steps.{length_of}
 use Rattle.hd_calls.specs.Laws.{IsInRange}
 use Rattle.hd_calls.proofs.SoundInserts.{parent_found}
 use Rattle.hd_volume.specs.Volumes.{VolumeState}
@@ -36,17 +34,17 @@ use Rattle.hd_update.specs.Inserting.{IsTargetAbove, parent_asked, IsParentAsked
 use Rattle.hd_update.specs.Parents.{IsInsertParent}
 use Rattle.hd_update.specs.Places.{IsPathOfParent, IsTypeBelow}
 use Rattle.hd_update.proofs.Levels.{row_below}
-use Rattle.hd_update.proofs.RowsIn.{part_fits}
 
 -- ---- types
 
 -- a type is one of the child types of its parent; the root's type is that of the header
 pub child_of : (block_size : ℕ) (frspc : FreeSpace) (types : List SegmentType) → IsTrue (well_formed block_size frspc types) → (parent code : ℕ) → is_some (type_of types code) ≡ true
     → parent_of types code ≡ above parent → is_child_type types parent code ≡ true
-child_of block_size frspc types formed parent code typed is =
-    let bytes : List ℕ = replicate (length_of types code) 0 in
-    (ordered block_size frspc types formed).child parent (record { code = code; bytes = bytes })
-    (part_fits types code bytes typed (length-replicate (length_of types code) 0)) is
+child_of block_size frspc types formed parent code typed is = by (type_of types code) refl typed
+  where
+    by : (o : Option SegmentType) → type_of types code ≡ o → is_some o ≡ true → is_child_type types parent code ≡ true
+    by None none some = cc
+    by (Some t) own some = (ordered block_size frspc types formed).typed parent code t own is
 
 -- only the root's type has no parent
 pub root_of : (block_size : ℕ) (frspc : FreeSpace) (types : List SegmentType) → IsTrue (well_formed block_size frspc types) → (code : ℕ) → is_some (type_of types code) ≡ true

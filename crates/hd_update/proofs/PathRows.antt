@@ -1,15 +1,15 @@
 -- The rows of one ISRT: the first, and those below it.
 use Rattle.std.proofs.Common.{◌≡◌, ℕ, ◌-◌, ◌<◌, ◌≤◌, List, [], ◌∷◌, ◌++◌, length, take, drop, true, refl, sym, ap, ap₂, subst, ◌∙◌, arith}
-use Rattle.std.specs.Prelude.{map, slice_index_or, is_some}
-use Rattle.std.proofs.lemmas.Bool.{and_parts}
-use Rattle.std.proofs.lemmas.List.{append_assoc, take_all, length-drop, length-take-le}
+use Rattle.std.specs.Prelude.{slice_index_or}
+use Rattle.std.proofs.lemmas.List.{append_assoc, take_all, drop_all, length-drop, length-map, length-take}
 use Rattle.hd_dbd.specs.Types.{SegmentType}
-use Rattle.hd_dbd.specs.Hierarchy.{Database, type_of}
+use Rattle.hd_dbd.specs.Hierarchy.{Database}
+use Rattle.hd_dbd.specs.Lengths.{length_in}
 use Rattle.hd_dbd.specs.Rows.{row_fits}
 use Rattle.hd_dbd.specs.Segment.{Segment}
 use Rattle.hd_dbd.specs.Forest.{Forest}
 use Rattle.hd_calls.specs.Ssas.{Ssa}
-use Rattle.hd_calls.specs.Steps.{length_of}
+use Rattle.hd_calls.specs.Steps.{front}
 use Rattle.hd_volume.specs.Volumes.{VolumeState}
 use Rattle.hd_links.specs.Links.{Links}
 use Rattle.hd_links.specs.Placed.{Placed}
@@ -20,42 +20,8 @@ use Rattle.hd_forest.specs.Updates.{MayLink}
 use Rattle.hd_forest.specs.Walks.{tip}
 use Rattle.hd_keeping.specs.Rooms.{HasRoomFor, HasMemoryFor}
 use Rattle.hd_update.specs.Putting.{MayPut, IsPutIn}
-use Rattle.hd_update.specs.NewRows.{codes_of, has_length_for, rows_in, are_types, places_of, AreIn, AreMore, ArePutIn, GoDown, TakeMore}
-use Rattle.hd_update.proofs.RoomOf.{code_of_all}
-use Rattle.hd_update.proofs.RowsIn.{Begins, rows_begin, no_rows, part_fits, tip_pushed}
-
--- ---- codes
-
--- the rows of an area have the codes that were asked
-pub rows_codes : (types : List SegmentType) (codes : List ℕ) (area : List ℕ) → has_length_for types codes area ≡ true → code_of_all (rows_in types codes area) ≡ codes
-rows_codes types [] area long = none (rows_in types [] area) (no_rows types area)
-  where
-    none : (rows : List Segment) → rows ≡ [] → code_of_all rows ≡ []
-    none rows is = ap code_of_all is
-rows_codes types (c ∷ cs) area long =
-    let B : Begins types c cs area = rows_begin types c cs area long in
-    ap code_of_all B.rows ∙ ap (λ (xs : List ℕ). c ∷ xs) (rows_codes types cs (drop (length_of types c) area) B.rest)
-
--- rows with these bytes, of which there are none
-pub blank_rows : List ℕ → List Segment
-blank_rows codes = map (λ c. record { code = c; bytes = [] }) codes
-
-pub blank_codes : (codes : List ℕ) → code_of_all (blank_rows codes) ≡ codes
-unfolding blank_rows
-blank_codes [] = refl
-blank_codes (c ∷ cs) = ap (λ (xs : List ℕ). c ∷ xs) (blank_codes cs)
-
--- the codes of some arguments begin with the first one's
-pub codes_begin : (ssas : List Ssa) (a : Ssa) (code : ℕ) → 0 < length ssas → a ≡ slice_index_or ssas 0 a → code ≡ a.code → codes_of ssas ≡ code ∷ drop 1 (codes_of ssas)
-codes_begin [] a code some is code_is = absurd (omega arith)
-codes_begin (x ∷ xs) a code some is code_is = ap (λ (c : ℕ). c ∷ codes_of xs) (ap (λ (y : Ssa). y.code) (sym is) ∙ sym code_is)
-
--- one type is that of one row
-pub one_code : (ssas : List Ssa) (rows : List Segment) → length ssas ≡ 1 → code_of_all rows ≡ drop 1 (codes_of ssas) → rows ≡ []
-one_code ssas [] one are = refl
-one_code [] (r ∷ rows) one are = cc
-one_code (x ∷ []) (r ∷ rows) one are = cc
-one_code (x ∷ (y ∷ xs)) (r ∷ rows) one are = absurd (omega arith)
+use Rattle.hd_update.specs.NewRows.{codes_of, are_rows_in, rows_in, places_of, AreIn, AreMore, ArePutIn, GoDown, TakeMore}
+use Rattle.hd_update.proofs.RowsIn.{Begins, rows_begin, as_many_rows, tip_pushed}
 
 -- ---- volumes of one image
 
@@ -113,47 +79,50 @@ all_in d v f h y above row a mid rows w path P M =
 
 -- ---- the rows of an area
 
--- The rows of some arguments, of which the first is of this type and has so many bytes: the first of them, and the others, which may go in as they stand.
-pub record AreFirstAndOthers (types : List SegmentType) (ssas : List Ssa) (area : List ℕ) (code len : ℕ) : Type 0 where
-  pub codes : codes_of ssas ≡ code ∷ drop 1 (codes_of ssas)
-  pub within : len ≤ length area
-  pub others_codes : codes_of (take (length ssas - 1) (drop 1 ssas)) ≡ drop 1 (codes_of ssas)
-  pub others_area : take (length area - len) (drop len area) ≡ drop len area
-  pub long : has_length_for types (drop 1 (codes_of ssas)) (drop len area) ≡ true
-  pub typed : (is_some (type_of types code) ≡ true) × (are_types types (drop 1 (codes_of ssas)) ≡ true)
-  pub fits : row_fits types (record { code = code; bytes = take len area }) ≡ true
-  pub rows : rows_in types (codes_of ssas) area ≡ record { code = code; bytes = take len area } ∷ rows_in types (drop 1 (codes_of ssas)) (drop len area)
-  pub rest_codes : code_of_all (rows_in types (drop 1 (codes_of ssas)) (drop len area)) ≡ drop 1 (codes_of ssas)
+-- the codes of some arguments begin with the first one's
+codes_begin : (ssas : List Ssa) (a : Ssa) (code : ℕ) → 0 < length ssas → a ≡ slice_index_or ssas 0 a → code ≡ a.code → codes_of ssas ≡ code ∷ drop 1 (codes_of ssas)
+codes_begin [] a code some is code_is = absurd (omega arith)
+codes_begin (x ∷ xs) a code some is code_is = ap (λ (c : ℕ). c ∷ codes_of xs) (ap (λ (y : Ssa). y.code) (sym is) ∙ sym code_is)
 
-pub first_and_others : (types : List SegmentType) (ssas : List Ssa) (area : List ℕ) (a : Ssa) (code len : ℕ) → 0 < length ssas → a ≡ slice_index_or ssas 0 a → code ≡ a.code → len ≡ length_of types code
-    → are_types types (codes_of ssas) ≡ true → has_length_for types (codes_of ssas) area ≡ true → AreFirstAndOthers types ssas area code len
-first_and_others types ssas area a code len some is code_is len_is typed long =
+-- The rows of some arguments, of which the first is of this type and has these bytes: the first of them, and the others, as they stand.
+pub record AreFirstAndOthers (types : List SegmentType) (ssas : List Ssa) (area : List ℕ) (code : ℕ) (bytes : List ℕ) : Type 0 where
+  pub codes : codes_of ssas ≡ code ∷ drop 1 (codes_of ssas)
+  pub within : length bytes ≤ length area
+  pub others_codes : codes_of (take (length ssas - 1) (drop 1 ssas)) ≡ drop 1 (codes_of ssas)
+  pub others_area : take (length area - length bytes) (drop (length bytes) area) ≡ drop (length bytes) area
+  pub rest : are_rows_in types (drop 1 (codes_of ssas)) (drop (length bytes) area) ≡ true
+  pub fits : row_fits types (record { code = code; bytes = bytes }) ≡ true
+  pub rows : rows_in types (codes_of ssas) area ≡ record { code = code; bytes = bytes } ∷ rows_in types (drop 1 (codes_of ssas)) (drop (length bytes) area)
+  pub many : length (rows_in types (codes_of ssas) area) ≡ length ssas
+
+pub first_and_others : (types : List SegmentType) (ssas : List Ssa) (area : List ℕ) (a : Ssa) (code : ℕ) (bytes : List ℕ) → 0 < length ssas → a ≡ slice_index_or ssas 0 a → code ≡ a.code
+    → bytes ≡ front types code area → are_rows_in types (codes_of ssas) area ≡ true → AreFirstAndOthers types ssas area code bytes
+first_and_others types ssas area a code bytes some is code_is bytes_are are =
     let codes : codes_of ssas ≡ code ∷ drop 1 (codes_of ssas) = codes_begin ssas a code some is code_is in
     let others : List ℕ = drop 1 (codes_of ssas) in
-    let B : Begins types code others area = rows_begin types code others area (ap (λ (cs : List ℕ). has_length_for types cs area) (sym codes) ∙ long) in
-    let both = and_parts (is_some (type_of types code)) (are_types types others) (ap (λ (cs : List ℕ). are_types types cs) (sym codes) ∙ typed) in
-    let within : len ≤ length area = (let w : length_of types code ≤ length area = B.within in omega arith) in
-    let rest : has_length_for types others (drop len area) ≡ true = ap (λ (n : ℕ). has_length_for types others (drop n area)) len_is ∙ B.rest in
+    let B : Begins types code others area bytes = rows_begin types code others area bytes bytes_are (ap (λ (cs : List ℕ). are_rows_in types cs area) (sym codes) ∙ are) in
     record {
       codes = codes;
-      within = within;
+      within = (let many = ap (λ (xs : List ℕ). length xs) bytes_are ∙ length-take (length_in types code area) area in omega arith);
       others_codes = ap codes_of (take_all (length ssas - 1) (drop 1 ssas) (let l : length (drop 1 ssas) ≡ length ssas - 1 = length-drop 1 ssas in omega arith)) ∙ dropped ssas;
-      others_area = take_all (length area - len) (drop len area) (let l : length (drop len area) ≡ length area - len = length-drop len area in omega arith);
-      long = rest;
-      typed = both;
-      fits = part_fits types code (take len area) both.0 (length-take-le len area within ∙ len_is);
-      rows =
-          ap (λ (cs : List ℕ). rows_in types cs area) codes
-          ∙ B.rows
-          ∙ ap (λ (n : ℕ). record { code = code; bytes = take n area } ∷ rows_in types others (drop n area)) (sym len_is);
-      rest_codes = rows_codes types others (drop len area) rest;
+      others_area = take_all (length area - length bytes) (drop (length bytes) area) (let l : length (drop (length bytes) area) ≡ length area - length bytes = length-drop (length bytes) area in omega arith);
+      rest = B.rest;
+      fits = B.fits;
+      rows = ap (λ (cs : List ℕ). rows_in types cs area) codes ∙ B.rows;
+      many = as_many_rows types (codes_of ssas) area are ∙ length-map ssas (λ (b : Ssa). b.code);
     }
   where
     dropped : (xs : List Ssa) → codes_of (drop 1 xs) ≡ drop 1 (codes_of xs)
     dropped [] = refl
     dropped (x ∷ xs) = refl
 
+-- one argument is that of one row
+pub one_row : (types : List SegmentType) (ssas : List Ssa) (area : List ℕ) → length ssas ≡ 1 → are_rows_in types (codes_of ssas) area ≡ true → drop 1 (rows_in types (codes_of ssas) area) ≡ []
+one_row types ssas area one are =
+    drop_all 1 (rows_in types (codes_of ssas) area)
+    (let many = as_many_rows types (codes_of ssas) area are ∙ length-map ssas (λ (b : Ssa). b.code) in omega arith)
+
 -- the others, as they are handed on
-pub others_are : (types : List SegmentType) (ssas : List Ssa) (area : List ℕ) (code len : ℕ) → AreFirstAndOthers types ssas area code len
-    → rows_in types (codes_of (take (length ssas - 1) (drop 1 ssas))) (take (length area - len) (drop len area)) ≡ rows_in types (drop 1 (codes_of ssas)) (drop len area)
-others_are types ssas area code len F = ap₂ (λ (cs : List ℕ) (xs : List ℕ). rows_in types cs xs) F.others_codes F.others_area
+pub others_are : (types : List SegmentType) (ssas : List Ssa) (area : List ℕ) (code : ℕ) (bytes : List ℕ) → AreFirstAndOthers types ssas area code bytes
+    → rows_in types (codes_of (take (length ssas - 1) (drop 1 ssas))) (take (length area - length bytes) (drop (length bytes) area)) ≡ rows_in types (drop 1 (codes_of ssas)) (drop (length bytes) area)
+others_are types ssas area code bytes F = ap₂ (λ (cs : List ℕ) (xs : List ℕ). rows_in types cs xs) F.others_codes F.others_area

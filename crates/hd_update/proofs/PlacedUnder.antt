@@ -1,10 +1,9 @@
 -- Rows that go in below a parent: where they stand, and that they are on one path.
-use Rattle.std.proofs.Common.{◌≡◌, ◌≢◌, ℕ, zero, suc, ◌+◌, ◌<◌, ◌≤◌, List, [], ◌∷◌, length, take, drop, true, Option, Some, None, ap, sym, ◌∙◌, subst, arith}
-use Rattle.std.specs.Prelude.{option_map, IfSome, is_some}
-use Rattle.std.proofs.lemmas.Bool.{and_parts}
+use Rattle.std.proofs.Common.{◌≡◌, ◌≢◌, ℕ, zero, suc, ◌+◌, ◌<◌, ◌≤◌, List, [], ◌∷◌, length, drop, true, Option, Some, None, refl, ap, sym, ◌∙◌, subst, arith}
+use Rattle.std.specs.Prelude.{option_map, IfSome}
 use Rattle.hd_dbd.specs.declared.hierarchy.Rule.{Rule}
 use Rattle.hd_dbd.specs.Types.{SegmentType}
-use Rattle.hd_dbd.specs.Hierarchy.{Database, type_of, parent_of, level_of}
+use Rattle.hd_dbd.specs.Hierarchy.{Database, parent_of, level_of}
 use Rattle.hd_dbd.specs.Segment.{Segment}
 use Rattle.hd_dbd.specs.Rows.{level, row_fits}
 use Rattle.hd_dbd.specs.Paths.{row_at}
@@ -12,7 +11,7 @@ use Rattle.hd_dbd.specs.Forest.{Forest}
 use Rattle.hd_dbd.proofs.Fitting.{level_of-at_most, types_fit}
 use Rattle.hd_dbd.proofs.LevelLaw.{Leveled, depth_below, leveled}
 use Rattle.hd_calls.specs.Places.{insertion_point}
-use Rattle.hd_calls.specs.Steps.{length_of}
+use Rattle.hd_calls.specs.Steps.{front}
 use Rattle.hd_calls.proofs.Inserting.{MayGoIn, parent_in}
 use Rattle.hd_calls.proofs.SoundInserts.{ChainRows, IsPlace, place_between, before_new, behind_new, chain_fit, chain_next}
 use Rattle.hd_volume.specs.Volumes.{VolumeState}
@@ -29,20 +28,17 @@ use Rattle.hd_position.proofs.Before.{path_levels}
 use Rattle.hd_position.proofs.Leaves.{Grounds, grounds}
 use Rattle.hd_position.proofs.VolumeMoves.{held}
 use Rattle.hd_update.specs.Inserting.{StepDown, IsPlaceFor, StandBelow}
-use Rattle.hd_update.specs.NewRows.{has_length_for, rows_in, are_types, GoDown}
+use Rattle.hd_update.specs.NewRows.{are_rows_in, rows_in, GoDown}
 use Rattle.hd_update.specs.Places.{IsPathOfParent, IsTypeBelow, IsPlaceOf}
-use Rattle.hd_update.proofs.RowsIn.{Begins, rows_begin, no_rows, part_fits}
-use Rattle.std.proofs.lemmas.List.{length-take-le}
+use Rattle.hd_update.proofs.RowsIn.{Begins, rows_begin}
 
 -- ---- rows below each other
 
-pub go_down : (types : List SegmentType) (code : ℕ) (codes area : List ℕ) → StepDown types code codes → are_types types codes ≡ true → has_length_for types codes area ≡ true → GoDown types code (rows_in types codes area)
-go_down types code [] area steps typed long = subst (GoDown types code) (sym (no_rows types area)) tt
-go_down types code (c ∷ cs) area steps typed long =
-    let B : Begins types c cs area = rows_begin types c cs area long in
-    let both = and_parts (is_some (type_of types c)) (are_types types cs) typed in
-    subst (GoDown types code) (sym B.rows)
-    (steps.0, part_fits types c (take (length_of types c) area) both.0 (length-take-le (length_of types c) area B.within), go_down types c cs (drop (length_of types c) area) steps.1 both.1 B.rest)
+pub go_down : (types : List SegmentType) (code : ℕ) (codes area : List ℕ) → StepDown types code codes → are_rows_in types codes area ≡ true → GoDown types code (rows_in types codes area)
+go_down types code [] area steps are = tt
+go_down types code (c ∷ cs) area steps are =
+    let B : Begins types c cs area (front types c area) = rows_begin types c cs area (front types c area) refl are in
+    subst (GoDown types code) (sym B.rows) (steps.0, B.fits, go_down types c cs (drop (length (front types c area)) area) steps.1 B.rest)
 
 pub chained : (types : List SegmentType) (O : Ordered types) (code : ℕ) (rows : List Segment) → 0 < code → GoDown types code rows → ChainRows types (Some code) rows
 chained types O code [] some down = tt

@@ -1,13 +1,13 @@
 -- A root that is linked and entered into the index, as a row that was put in.
-use Rattle.std.proofs.Common.{◌≡◌, ℕ, ◌+◌, ◌<◌, ◌≤◌, List, [], ◌∷◌, false, refl, ap, ◌∙◌, subst, arith, inl, inr, ◌⊎◌}
+use Rattle.std.proofs.Common.{◌≡◌, ℕ, ◌+◌, ◌<◌, ◌≤◌, List, [], ◌∷◌, length, true, false, refl, ap, ◌∙◌, subst, arith, inl, inr, ◌⊎◌}
 use Rattle.hd_dbd.specs.declared.answer.Refused.{Refused}
 use Rattle.hd_dbd.specs.declared.answer.Refused.TheVariants.{Memory, Full, Device}
 use Rattle.hd_dbd.specs.Hierarchy.{Database}
 use Rattle.hd_dbd.specs.Segment.{Segment}
 use Rattle.hd_dbd.specs.Rows.{key_of}
-use Rattle.hd_dbd.specs.Prefixes.{stored_size}
+use Rattle.hd_dbd.specs.Prefixes.{size_with}
 use Rattle.hd_dbd.specs.Forest.{Forest}
-use Rattle.hd_calls.specs.Runs.{LacksRoom, blocks_for}
+use Rattle.hd_calls.specs.Runs.{LacksRoom, has_root, blocks_for}
 use Rattle.hd_volume.specs.Headers.{header_of}
 use Rattle.hd_volume.specs.Volumes.{VolumeState}
 use Rattle.hd_volume.specs.Rooms.{spare, HasHole}
@@ -31,7 +31,7 @@ use Rattle.hd_keeping.proofs.NewPaths.{begin-roots}
 use Rattle.hd_keeping.proofs.Rooms.{first-roots, entries-room}
 use Rattle.hd_keeping.proofs.VolumeImages.{lacking-room}
 use Rattle.hd_position.proofs.VolumeMoves.{linked_move}
-use Rattle.hd_update.specs.Putting.{IsPutIn, CanPutRoot, a_root}
+use Rattle.hd_update.specs.Putting.{IsPutIn, CanPutRoot}
 
 -- a root that was linked, and then entered
 pub put_root_in : (d : Database) (v w x : VolumeState) (f : Forest Placed) (y a more : ℕ) (bytes key : List ℕ) → HoldsPlaced d v f
@@ -57,10 +57,10 @@ put_root_in d v w x f y a more bytes key holds may I is E room =
 
 module _ (d : Database) (v : VolumeState) (y : ℕ) (bytes key : List ℕ) (C : CanPutRoot d v y (record { code = 1; bytes = bytes }) key) where
   -- the link is refused by a failed access alone
-  pub link_refused : (e : Refused) → (e ≡ Memory) ⊎ (e ≡ Full) ⊎ (e ≡ Device) → (e ≡ Full → (spare v ≡ 0) × (HasHole v (stored_size d.types 1) → ⊥)) → (e ≡ Memory → v.room ≡ 0)
-      → (e ≡ Memory → HasHole v (stored_size d.types 1) → ⊥) → e ≡ Device
-  link_refused e (inl memory) full room hole = absurd ((first-roots d v key a_root C.others).1 C.memory (room memory, hole memory))
-  link_refused e (inr (inl is)) full room hole = absurd ((first-roots d v key a_root C.others).0 C.room (full is))
+  pub link_refused : (e : Refused) → (e ≡ Memory) ⊎ (e ≡ Full) ⊎ (e ≡ Device) → (e ≡ Full → (spare v ≡ 0) × (HasHole v (size_with d.types 1 (length bytes)) → ⊥)) → (e ≡ Memory → v.room ≡ 0)
+      → (e ≡ Memory → HasHole v (size_with d.types 1 (length bytes)) → ⊥) → e ≡ Device
+  link_refused e (inl memory) full room hole = absurd ((first-roots d v key (record { code = 1; bytes = bytes }) C.others).1 C.memory (room memory, hole memory))
+  link_refused e (inr (inl is)) full room hole = absurd ((first-roots d v key (record { code = 1; bytes = bytes }) C.others).0 C.room (full is))
   link_refused e (inr (inr device)) full room hole = device
 
   -- and so is the entry
@@ -77,9 +77,9 @@ module _ (d : Database) (v : VolumeState) (y : ℕ) (bytes key : List ℕ) (C : 
 
 -- a root lacks room where fewer blocks are to spare than it and its entry may need, or the index may have no level more
 pub no_root_room : (d : Database) (v : VolumeState) (bytes : List ℕ) → IsVolumeOf d v → (spare v < 1 + entry_growth v) ⊎ IsHighest v
-    → LacksRoom (images_of d) d.types v.image (record { code = 1; bytes = bytes } ∷ [])
-no_root_room d v bytes V (inl few) = (lacking-room d v (record { code = 1; bytes = bytes } ∷ []) V).1 (inl few, inl refl)
-no_root_room d v bytes V (inr high) = (lacking-room d v (record { code = 1; bytes = bytes } ∷ []) V).1 (inr (refl, high), inl refl)
+    → LacksRoom (images_of d) d.types v.image (record { code = 1; bytes = bytes } ∷ []) true
+no_root_room d v bytes V (inl few) = (lacking-room d v (record { code = 1; bytes = bytes } ∷ []) true V).1 (inl few, inl refl)
+no_root_room d v bytes V (inr high) = (lacking-room d v (record { code = 1; bytes = bytes } ∷ []) true V).1 (inr (refl, high), inl refl)
 
 -- ---- before calls that only read
 
@@ -101,9 +101,9 @@ put_before d v mid w f h y row a one holds P =
         takes = P.is_in.takes;
         largest = P.is_in.largest ∙ ap (λ (x : List ℕ). (header_of x).largest) one.image;
         spares =
-            (let own : spare mid ≤ spare w + blocks_for (images_of d) mid.image rows = P.is_in.spares in
+            (let own : spare mid ≤ spare w + blocks_for (images_of d) mid.image rows (has_root rows) = P.is_in.spares in
             let same : spare mid ≡ spare v = one-spare one in
-            let need : blocks_for (images_of d) mid.image rows ≡ blocks_for (images_of d) v.image rows = ap (λ (x : List ℕ). blocks_for (images_of d) x rows) one.image in
+            let need : blocks_for (images_of d) mid.image rows (has_root rows) ≡ blocks_for (images_of d) v.image rows (has_root rows) = ap (λ (x : List ℕ). blocks_for (images_of d) x rows (has_root rows)) one.image in
             omega arith);
       };
       moves = P.moves;

@@ -2,7 +2,7 @@
 use Rattle.std.proofs.Common.{◌≡◌, ◌≢◌, ℕ, ◌+◌, [], ◌∷◌, length, cond, subst, arith, inl, inr}
 use Rattle.hd_dbd.specs.Hierarchy.{Database}
 use Rattle.hd_dbd.specs.Segment.{Segment}
-use Rattle.hd_dbd.specs.Prefixes.{stored_size}
+use Rattle.hd_dbd.specs.Prefixes.{size_with}
 use Rattle.hd_dbd.specs.Forest.{Forest}
 use Rattle.hd_calls.specs.Runs.{LacksRoom, has_root, stored_sizes}
 use Rattle.hd_volume.specs.Volumes.{VolumeState}
@@ -33,9 +33,10 @@ put_below d v w f h y a row holds below may I =
     }
 
 -- no block to spare and no hole: there is no room
-pub no_room : (d : Database) (v : VolumeState) (row : Segment) → IsVolumeOf d v → spare v ≡ 0 → (HasHole v (stored_size d.types row.code) → ⊥) → LacksRoom (images_of d) d.types v.image (row ∷ [])
+pub no_room : (d : Database) (v : VolumeState) (row : Segment) → IsVolumeOf d v → spare v ≡ 0 → (HasHole v (size_with d.types row.code (length row.bytes)) → ⊥)
+    → LacksRoom (images_of d) d.types v.image (row ∷ []) (has_root (row ∷ []))
 no_room d v row V none no_hole =
-    (lacking-room d v (row ∷ []) V).1 (
+    (lacking-room d v (row ∷ []) (has_root (row ∷ [])) V).1 (
       inl (let size : length (row ∷ []) + cond (has_root (row ∷ [])) (entry_growth v) 0 ≡ 1 + cond (has_root (row ∷ [])) (entry_growth v) 0 = omega arith in omega arith),
-      inr (λ hole. no_hole (subst (HasHole v) (let e : stored_sizes d.types (row ∷ []) ≡ stored_size d.types row.code = omega arith in e) hole)),
+      inr (λ hole. no_hole (subst (HasHole v) (let own : ℕ = size_with d.types row.code (length row.bytes) in let e : stored_sizes d.types (row ∷ []) ≡ own = omega arith in e) hole)),
     )

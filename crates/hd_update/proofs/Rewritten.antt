@@ -1,20 +1,23 @@
 -- Rows that get new bytes, one after the other.
-use Rattle.std.proofs.Common.{◌≡◌, ℕ, zero, suc, ◌+◌, ◌-◌, ◌<◌, ◌≤◌, List, [], ◌∷◌, ◌++◌, length, take, drop, Bool, true, false, cond, refl, ap, ap₂, sym, ◌∙◌, subst, arith, Option, Some, None, inl, inr}
-use Rattle.std.specs.Prelude.{slice_index_or, slice_set, ◌==◌}
+use Rattle.std.proofs.Common.{◌≡◌, ℕ, zero, suc, ◌+◌, ◌-◌, ◌<◌, ◌≤◌, List, [], ◌∷◌, ◌++◌, length, take, drop, Bool, true, false, cond, refl, ap, ap₂, sym, ◌∙◌, subst, arith, inl, inr}
+use Rattle.std.specs.Prelude.{slice_index_or, slice_set, IsTrue}
 use Rattle.std.specs.List.{list_all, list_any}
-use Rattle.std.specs.Option.{option_map_or}
-use Rattle.std.proofs.lemmas.Bool.{cases_eq, and_parts, eq-eqb}
-use Rattle.std.proofs.lemmas.List.{get_or-set_same, get_or-set_other, length-take-le, length-drop, length-map}
+use Rattle.std.proofs.lemmas.Bool.{cases_eq, and_parts}
+use Rattle.std.proofs.lemmas.List.{get_or-set_same, get_or-set_other, length-map}
 use Rattle.std.proofs.lemmas.Slice.Eq.{bytes_eq-Decides}
+use Rattle.hd_dbd.specs.declared.hierarchy.FreeSpace.{FreeSpace}
 use Rattle.hd_dbd.specs.Types.{SegmentType}
 use Rattle.hd_dbd.specs.Hierarchy.{Database, type_of}
 use Rattle.hd_dbd.specs.Segment.{Segment}
-use Rattle.hd_dbd.specs.Rows.{key_of}
+use Rattle.hd_dbd.specs.DatabaseRules.{well_formed}
+use Rattle.hd_dbd.specs.Rows.{key_of, row_fits}
 use Rattle.hd_dbd.specs.Paths.{row_at, no_row}
 use Rattle.hd_dbd.specs.Positions.{Position}
 use Rattle.hd_dbd.specs.Forest.{Forest, sequence}
+use Rattle.hd_dbd.proofs.FixedLengths.{fixed-length}
+use Rattle.hd_dbd.proofs.TypeLengths.{row-type}
 use Rattle.hd_calls.specs.Moves.{Rewrite, is_rewritten, position_after_rewrite}
-use Rattle.hd_calls.specs.Steps.{length_of, keeps_key}
+use Rattle.hd_calls.specs.Steps.{keeps_key}
 use Rattle.hd_volume.specs.Volumes.{VolumeState}
 use Rattle.hd_links.specs.Links.{Links, IsSegment, IsLinkGraph, segment_at}
 use Rattle.hd_links.specs.Placed.{Placed}
@@ -137,7 +140,7 @@ module _ (d : Database) (v : VolumeState) (f : Forest Placed) (area : List ℕ) 
   stored_row = record { code = n.code; bytes = m.bytes n.address }
 
   abbrev asked_row : Segment
-  asked_row = record { code = n.code; bytes = part_for d.types area n }
+  asked_row = record { code = n.code; bytes = part_for area n }
 
   abbrev new_row : Segment
   new_row = record { code = (row_at (rows_of f) w.number).code; bytes = w.bytes }
@@ -163,10 +166,12 @@ replacing_begins d v f holds = record {
   positions = λ k q F. subst (StandsFor d.types f k) (sym (unmoved q)) F;
 }
 
--- bytes of a type's length are those of a row
-fits_by : (o : Option SegmentType) (a b : ℕ) → option_map_or (λ t. a == t.length) o false ≡ true → b ≡ option_map_or (λ t. t.length) o 0 → option_map_or (λ t. b == t.length) o false ≡ true
-fits_by None a b fits e = cc
-fits_by (Some t) a b fits e = eq-eqb b t.length e
+-- rows of one type are equally long
+equally_long : (block_size : ℕ) (frspc : FreeSpace) (types : List SegmentType) (r s : Segment) → IsTrue (well_formed block_size frspc types) → r.code ≡ s.code → row_fits types r ≡ true
+    → row_fits types s ≡ true → length r.bytes ≡ length s.bytes
+equally_long block_size frspc types r s formed same fits own =
+    let T = row-type types s own in
+    fixed-length block_size frspc types r T.type formed (ap (type_of types) same ∙ T.is) fits ∙ sym (fixed-length block_size frspc types s T.type formed T.is own)
 
 module _ (d : Database) (v x : VolumeState) (f : Forest Placed) (area : List ℕ) (news : List NewBytes) (ws : List Rewrite) (n : NewBytes) (w : Rewrite)
     (of : IsRewriteOf d.types f area n w) (keeps : keeps_key d.types (rows_of f) w ≡ true) (R : AreReplaced d v f news ws x) where
@@ -202,29 +207,31 @@ module _ (d : Database) (v x : VolumeState) (f : Forest Placed) (area : List ℕ
   code_is = ap (λ (r : Segment). r.code) segment_is ∙ R.codes w.number ∙ sym of.code
 
   -- its key is that of its new bytes
-  key_is : key_of d.types (record { code = n.code; bytes = part_for d.types area n }) ≡ key_of d.types (segment_at k n.address)
+  key_is : key_of d.types (record { code = n.code; bytes = part_for area n }) ≡ key_of d.types (segment_at k n.address)
   key_is =
       ap (key_of d.types) (new_row_is d v f area n w R.written.held of)
       ∙ sym ((bytes_eq-Decides (key_of d.types (row_at (rows_of f) w.number)) (key_of d.types (new_row d v f area n w R.written.held of))).0 keeps)
       ∙ sym (R.keys w.number) ∙ ap (key_of d.types) (sym segment_is)
 
-  pub may_replace : CanReplace d.types k n.address (part_for d.types area n)
+  pub may_replace : CanReplace d.types k n.address (part_for area n)
   may_replace =
-      let G : IsLinkGraph d.types (length x.image) k = records-link d x R.written.holds.volume.fit R.written.holds.volume in
-      let few : n.start + length_of d.types n.code ≤ length area = of.within in
-      let rest : length (drop n.start area) ≡ length area - n.start = length-drop n.start area in
-      let size : length (part_for d.types area n) ≡ length_of d.types n.code = length-take-le (length_of d.types n.code) (drop n.start area) (omega arith) in
       record {
         there = there;
-        fits = fits_by (type_of d.types (k.code n.address)) (length (k.bytes n.address)) (length (part_for d.types area n)) (G.fits n.address there)
-            (size ∙ ap (length_of d.types) (sym code_is));
-        key = ap (λ (c : ℕ). key_of d.types (record { code = c; bytes = part_for d.types area n })) code_is ∙ key_is;
+        fits = ap₂ (λ (c : ℕ) (xs : List ℕ). row_fits d.types (record { code = c; bytes = xs })) code_is of.bytes ∙ of.fits;
+        key = ap (λ (c : ℕ). key_of d.types (record { code = c; bytes = part_for area n })) code_is ∙ key_is;
       }
 
-  pub one_replaced : (y : VolumeState) → IsReplaced d x n.address (part_for d.types area n) y → AreReplaced d v f (news ++ n ∷ []) (ws ++ w ∷ []) y
+  -- they are as many as it has
+  pub as_long : length (part_for area n) ≡ length (k.bytes n.address)
+  as_long =
+      let G : IsLinkGraph d.types (length x.image) k = records-link d x R.written.holds.volume.fit R.written.holds.volume in
+      equally_long d.block_size d.frspc d.types (record { code = k.code n.address; bytes = part_for area n }) (segment_at k n.address) R.written.holds.volume.fit refl
+      may_replace.fits (G.fits n.address there)
+
+  pub one_replaced : (y : VolumeState) → IsReplaced d x n.address (part_for area n) y → AreReplaced d v f (news ++ n ∷ []) (ws ++ w ∷ []) y
   one_replaced y I =
-      let C : CanReplace d.types k (address_at g w.number) w.bytes = subst (λ (b : List ℕ). CanReplace d.types k (address_at g w.number) b) of.bytes (subst (λ (a : ℕ). CanReplace d.types k a (part_for d.types area n)) same_place may_replace) in
-      let J : IsReplaced d x (address_at g w.number) w.bytes y = subst (λ (b : List ℕ). IsReplaced d x (address_at g w.number) b y) of.bytes (subst (λ (a : ℕ). IsReplaced d x a (part_for d.types area n) y) same_place I) in
+      let C : CanReplace d.types k (address_at g w.number) w.bytes = subst (λ (b : List ℕ). CanReplace d.types k (address_at g w.number) b) of.bytes (subst (λ (a : ℕ). CanReplace d.types k a (part_for area n)) same_place may_replace) in
+      let J : IsReplaced d x (address_at g w.number) w.bytes y = subst (λ (b : List ℕ). IsReplaced d x (address_at g w.number) b y) of.bytes (subst (λ (a : ℕ). IsReplaced d x a (part_for area n) y) same_place I) in
       let B = bytes_in d.types k g w.number w.bytes R.written.holds.records within in
       let own : key_of d.types (record { code = (row_at (rows_of g) w.number).code; bytes = w.bytes }) ≡ key_of d.types (row_at (rows_of g) w.number)
       = ap (λ (c : ℕ). key_of d.types (record { code = c; bytes = w.bytes })) (R.codes w.number)

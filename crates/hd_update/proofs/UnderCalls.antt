@@ -14,7 +14,7 @@ use Rattle.hd_dbd.specs.Calls.{row_reply}
 use Rattle.hd_dbd.specs.Forest.{Forest}
 use Rattle.hd_calls.specs.Moves.{inserted, put_in, position_after}
 use Rattle.hd_calls.specs.Places.{is_key_taken, insertion_point}
-use Rattle.hd_calls.specs.Runs.{LacksRoom}
+use Rattle.hd_calls.specs.Runs.{LacksRoom, has_root}
 use Rattle.hd_calls.specs.Steps.{State, position_at, bare_answer, insert_at, onto_new}
 use Rattle.hd_volume.specs.Calls.{IsRead}
 use Rattle.hd_volume.specs.Volumes.{VolumeState}
@@ -88,7 +88,7 @@ module _ (d : Database) (v : VolumeState) (old : List Kept) (st : State) (number
       (placed_for d w f (represented d v w old st read U.sound U.represents).holds above parent row rest U.path U.typed fits down p.standing rule y (place_read d v w f parent p.standing rule row (tip above) y read U.sound P))
 
   -- there is no room
-  pub lacks : (pcb : View) → is_key_taken d.types (rows_of f) parent row ≡ false → LacksRoom (images_of d) d.types v.image rows → LacksRoomFor d v (insert_under (setting pcb) st.rows p rule parent rows)
+  pub lacks : (pcb : View) → is_key_taken d.types (rows_of f) parent row ≡ false → LacksRoom (images_of d) d.types v.image rows (has_root rows) → LacksRoomFor d v st.rows (insert_under (setting pcb) st.rows p rule parent rows)
   lacks pcb free none = record {
     reply = row_reply (setting pcb) (put_in n rows st.rows) (n + length rows - 1) Blank [];
     change = inserted n rows;

@@ -14,11 +14,11 @@ use Rattle.hd_position.specs.Kept.{Kept, row_on}
 use Rattle.hd_get.specs.Gets.{IsPositionIn}
 use Rattle.hd_update.specs.declared.held.HeldRow.{HeldRow}
 
--- the address and the code of row i
+-- the address and the code of row i, and how many bytes it has
 abbrev pub held_row : Forest Placed → ℕ → HeldRow
-held_row f i = record { address = address_at f i; code = (row_at (rows_of f) i).code }
+held_row f i = record { address = address_at f i; code = (row_at (rows_of f) i).code; length = length (row_at (rows_of f) i).bytes }
 
--- the addresses and the codes of some rows
+-- the same of some rows
 abbrev pub held_rows : Forest Placed → List ℕ → List HeldRow
 held_rows f held = map (λ i. held_row f i) held
 

@@ -18,7 +18,7 @@ use Rattle.hd_calls.specs.Access.{loads}
 use Rattle.hd_calls.specs.Ssas.{Ssa, resolve, target_code}
 use Rattle.hd_calls.specs.Moves.{Change, put_in}
 use Rattle.hd_calls.specs.Places.{insert_parent, is_key_taken, insertion_point}
-use Rattle.hd_calls.specs.Runs.{LacksRoom, rows_put_in}
+use Rattle.hd_calls.specs.Runs.{LacksRoom, rows_stored, inserts_root}
 use Rattle.hd_calls.specs.Steps.{State, Effect, answered, wrong_area, position_at, bare_answer, insert_at, insert_step}
 use Rattle.hd_volume.specs.Volumes.{VolumeState}
 use Rattle.hd_links.specs.Links.{is_child_type}
@@ -53,19 +53,19 @@ IsInsertDone d v old number ssas area outcome w new =
 abbrev pub IsInsertAreaWrong : Database → VolumeState → List Kept → ℕ → List Ssa → List ℕ → Refused → Type 0
 IsInsertAreaWrong d v old number ssas area e = (pcb : View) → loads pcb ≡ false → IsAreaWrong d v old (insert_effect d pcb number ssas area) e
 
--- The effect would be answered with blanks, and the volume's bytes lack room for the rows that it puts in.
-pub record LacksRoomFor (d : Database) (v : VolumeState) (effect : Effect) : Type 0 where
+-- The effect would be answered with blanks, and the volume's bytes lack room for the rows that it stores.
+pub record LacksRoomFor (d : Database) (v : VolumeState) (rows : List Segment) (effect : Effect) : Type 0 where
   pub reply : Reply
   pub change : Change
   pub own : Position
   pub is : effect ≡ answered reply change own
   pub blank : reply.status ≡ Blank
-  pub lacks : LacksRoom (images_of d) d.types v.image (rows_put_in change)
+  pub lacks : LacksRoom (images_of d) d.types v.image (rows_stored rows change) (inserts_root change)
 
 -- ISRT is refused as Full only where it would be answered with blanks, and room lacks for its rows
 abbrev pub IsInsertFull : Database → VolumeState → List Kept → ℕ → List Ssa → List ℕ → Refused → Type 0
 IsInsertFull d v old number ssas area e =
-    (pcb : View) (st : State) → loads pcb ≡ false → e ≡ Full → IsTrue v.is_sound → Represents d v old st → LacksRoomFor d v (insert_effect d pcb number ssas area st)
+    (pcb : View) (st : State) → loads pcb ≡ false → e ≡ Full → IsTrue v.is_sound → Represents d v old st → LacksRoomFor d v st.rows (insert_effect d pcb number ssas area st)
 
 -- ---- the parent
 
@@ -122,7 +122,7 @@ AreInsertedUnder d v old number above code rule rows outcome w new =
 abbrev pub IsFullUnder : Database → VolumeState → List Kept → ℕ → List ℕ → ℕ → Rule → List Segment → Refused → Type 0
 IsFullUnder d v old number above code rule rows e =
     (pcb : View) (st : State) (parent : Option ℕ) → e ≡ Full → IsUnder d v old st above code parent
-    → LacksRoomFor d v (insert_under (record { types = d.types; pcb = pcb }) st.rows (position_at st number) rule parent rows)
+    → LacksRoomFor d v st.rows (insert_under (record { types = d.types; pcb = pcb }) st.rows (position_at st number) rule parent rows)
 
 -- ---- at their place
 

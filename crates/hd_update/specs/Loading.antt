@@ -16,7 +16,7 @@ use Rattle.hd_dbd.specs.Forest.{Forest}
 use Rattle.hd_dbd.specs.Loads.{has_unique_key, lacks_parent, order_fault, load_fault}
 use Rattle.hd_calls.specs.Ssas.{Ssa}
 use Rattle.hd_calls.specs.Access.{loads}
-use Rattle.hd_calls.specs.Runs.{LacksRoom}
+use Rattle.hd_calls.specs.Runs.{has_root, LacksRoom}
 use Rattle.hd_calls.specs.Steps.{State, Effect, position_at, inserted_codes, insert_step, load_step}
 use Rattle.hd_volume.specs.Volumes.{VolumeState}
 use Rattle.hd_links.specs.Placed.{Placed}
@@ -60,7 +60,7 @@ IsLoadAreaWrong d v old number code area e =
 abbrev pub IsLoadFull : Database → VolumeState → List Kept → ℕ → ℕ → List ℕ → Refused → Type 0
 IsLoadFull d v old number code area e =
     (pcb : View) (ssas : List Ssa) (st : State) → InsertsOne pcb ssas code → e ≡ Full → IsTrue v.is_sound → Represents d v old st
-    → LacksRoomFor d v (load_effect d pcb number ssas area st)
+    → LacksRoomFor d v st.rows (load_effect d pcb number ssas area st)
 
 -- ---- the path of the last row
 
@@ -128,7 +128,7 @@ IsRowLoaded d v old number row outcome w new =
 
 -- the row is refused as Full only where the volume's bytes lack room for it
 abbrev pub IsRowFull : Database → VolumeState → Segment → Refused → Type 0
-IsRowFull d v row e = e ≡ Full → IsTrue v.is_sound → LacksRoom (images_of d) d.types v.image (row ∷ [])
+IsRowFull d v row e = e ≡ Full → IsTrue v.is_sound → LacksRoom (images_of d) d.types v.image (row ∷ []) (has_root (row ∷ []))
 
 -- Of whatever forest the path was that of the last row, the row went in below its parent on the path, behind its twin there, and stands at
 -- the address a.

@@ -1,18 +1,16 @@
 -- Rows that one ISRT puts in, each below the one before.
-use Rattle.std.specs.Prelude.{◌≡◌, ◌≢◌, ℕ, List, [], ◌∷◌, ◌++◌, length, map, sum, slice_index, true, Bool, is_some, IsTrue}
-use Rattle.std.specs.List.{list_all}
-use Rattle.std.specs.Option.{option_map_or}
+use Rattle.std.specs.Prelude.{◌≡◌, ◌≢◌, ℕ, List, [], ◌∷◌, ◌++◌, length, map, slice_index, true, Bool, Result, is_ok, IsTrue}
+use Rattle.std.specs.Result.{result_unwrap_or}
 use Rattle.hd_dbd.specs.Types.{SegmentType}
-use Rattle.hd_dbd.specs.declared.answer.Refused.{Refused}
-use Rattle.hd_dbd.specs.Hierarchy.{Database, type_of}
-use Rattle.hd_dbd.specs.Prefixes.{stored_size}
+use Rattle.hd_dbd.specs.Hierarchy.{Database}
 use Rattle.hd_dbd.specs.Segment.{Segment}
 use Rattle.hd_dbd.specs.Rows.{row_fits, key_of}
 use Rattle.hd_dbd.specs.Positions.{Position}
 use Rattle.hd_dbd.specs.Forest.{Forest}
+use Rattle.hd_calls.specs.declared.call.AreaFault.{AreaFault}
 use Rattle.hd_calls.specs.Ssas.{Ssa}
 use Rattle.hd_calls.specs.Moves.{position_after_insert}
-use Rattle.hd_calls.specs.Steps.{divide, length_of, new_rows}
+use Rattle.hd_calls.specs.Steps.{new_row, divide, new_rows}
 use Rattle.hd_volume.specs.Volumes.{VolumeState}
 use Rattle.hd_links.specs.Links.{is_child_type}
 use Rattle.hd_links.specs.Placed.{Placed}
@@ -23,7 +21,7 @@ use Rattle.hd_forest.specs.Walks.{tip}
 use Rattle.hd_keeping.specs.NewPaths.{IsPathIn}
 use Rattle.hd_keeping.specs.Rooms.{HasRoomFor, HasMemoryFor, HasRootRoomFor, HasRootMemoryFor}
 use Rattle.hd_position.specs.Kept.{Kept, StandsFor}
-use Rattle.hd_update.specs.Putting.{AreFullFor, MayPut}
+use Rattle.hd_update.specs.Putting.{MayPut}
 
 -- ---- the area
 
@@ -35,26 +33,22 @@ codes_of ssas = map (λ a. a.code) ssas
 abbrev pub first_code : List Ssa → ℕ
 first_code ssas = slice_index (codes_of ssas) 0
 
--- the area is as long as rows of these types
-abbrev pub has_length_for : List SegmentType → List ℕ → List ℕ → Bool
-has_length_for types codes area = is_some (divide (map (λ c. length_of types c) codes) area)
+-- an area taken apart into rows of these types, one behind the other
+abbrev pub parts_in : List SegmentType → List ℕ → List ℕ → Result (List (List ℕ)) AreaFault
+parts_in types codes area = divide types (map (λ c. new_row c) codes) area
 
--- the rows of these types that an area gives, one behind the other; none where it has another length
+-- the area is rows of these types
+abbrev pub are_rows_in : List SegmentType → List ℕ → List ℕ → Bool
+are_rows_in types codes area = is_ok (parts_in types codes area)
+
+-- the rows of these types that an area gives, one behind the other; none where it is not rows of these types
 abbrev pub rows_in : List SegmentType → List ℕ → List ℕ → List Segment
-rows_in types codes area = option_map_or (λ parts. new_rows codes parts) (divide (map (λ c. length_of types c) codes) area) []
-
--- the bytes that rows of these types take together, each with its prefix and rounded up
-abbrev pub sizes_of : List SegmentType → List ℕ → ℕ
-sizes_of types codes = sum (map (λ c. stored_size types c) codes)
+rows_in types codes area = new_rows codes (result_unwrap_or (parts_in types codes area) [])
 
 -- The rows may go in below a row of a type, each below the one before: each is one of the database, and of a child type of the one before.
 abbrev pub GoDown : List SegmentType → ℕ → List Segment → Type 0
 GoDown types code [] = Unit {0}
 GoDown types code (r ∷ rows) = (is_child_type types code r.code ≡ true) × (row_fits types r ≡ true) × GoDown types r.code rows
-
--- each of the codes is that of a type
-abbrev pub are_types : List SegmentType → List ℕ → Bool
-are_types types codes = list_all (λ c. is_some (type_of types c)) codes
 
 -- ---- room
 
@@ -67,24 +61,14 @@ pub record HasRoomAndMemory (d : Database) (v : VolumeState) (row : Segment) (ro
 abbrev pub HasRoomBelow : Database → VolumeState → Segment → Type 0
 HasRoomBelow d v row = (rows : List Segment) × HasRoomAndMemory d v row rows
 
--- there are room and memory for whatever rows of these types, of which the first has these bytes
-abbrev pub IsRoomMade : Database → VolumeState → List ℕ → List ℕ → Type 0
-IsRoomMade d v codes bytes =
-    (row : Segment) (rows : List Segment) → map (λ r. r.code) (row ∷ rows) ≡ codes → row.bytes ≡ bytes → HasRoomAndMemory d v row rows
+-- there are room and memory for rows, each below the one before
+abbrev pub IsRoomMade : Database → VolumeState → List Segment → Type 0
+IsRoomMade d v [] = Unit {0}
+IsRoomMade d v (row ∷ rows) = HasRoomAndMemory d v row rows
 
--- there are room and memory for whatever rows of these types below one that went in
-abbrev pub IsRoomLeft : Database → VolumeState → List ℕ → Type 0
-IsRoomLeft d v codes = (rows : List Segment) → map (λ r. r.code) rows ≡ codes → HasRoomFor d.types v rows × HasMemoryFor d.types v rows
-
--- rows of these types are refused as Full only where the volume's bytes lack room for them
-abbrev pub IsFullForTypes : Database → VolumeState → List ℕ → Refused → Type 0
-IsFullForTypes d v codes e =
-    (rows : List Segment) → map (λ r. r.code) rows ≡ codes → AreFullFor d v rows e
-
--- a row, with whatever rows of these types below it, is refused as Full only where the volume's bytes lack room for them
-abbrev pub IsFullWith : Database → VolumeState → Segment → List ℕ → Refused → Type 0
-IsFullWith d v row codes e =
-    (rows : List Segment) → map (λ r. r.code) rows ≡ codes → AreFullFor d v (row ∷ rows) e
+-- there are room and memory for rows below one that went in
+abbrev pub IsRoomLeft : Database → VolumeState → List Segment → Type 0
+IsRoomLeft d v rows = HasRoomFor d.types v rows × HasMemoryFor d.types v rows
 
 -- once the row went in, room and memory that there were for it and others below it last for these
 abbrev pub LastsForOthers : Database → VolumeState → Segment → VolumeState → Type 0

@@ -5,7 +5,7 @@ use Rattle.hd_dbd.specs.declared.answer.Refused.TheVariants.{Full}
 use Rattle.hd_dbd.specs.Hierarchy.{Database}
 use Rattle.hd_dbd.specs.Segment.{Segment}
 use Rattle.hd_dbd.specs.Forest.{Forest}
-use Rattle.hd_calls.specs.Runs.{LacksRoom}
+use Rattle.hd_calls.specs.Runs.{has_root, LacksRoom}
 use Rattle.hd_volume.specs.Volumes.{VolumeState}
 use Rattle.hd_links.specs.Placed.{Placed}
 use Rattle.hd_links.specs.Changes.{with_leaf}
@@ -40,7 +40,7 @@ PutsIn d v h y row a w = (f : Forest Placed) → IsTrue v.is_sound → HoldsPlac
 
 -- rows are refused as Full only where the volume's bytes lack room for them
 abbrev pub AreFullFor : Database → VolumeState → List Segment → Refused → Type 0
-AreFullFor d v rows e = e ≡ Full → IsTrue v.is_sound → HasRoots d v → LacksRoom (images_of d) d.types v.image rows
+AreFullFor d v rows e = e ≡ Full → IsTrue v.is_sound → HasRoots d v → LacksRoom (images_of d) d.types v.image rows (has_root rows)
 
 -- so is one row
 abbrev pub IsFullFor : Database → VolumeState → Segment → Refused → Type 0
@@ -48,20 +48,16 @@ IsFullFor d v row e = AreFullFor d v (row ∷ []) e
 
 -- ---- roots
 
--- a root, whatever its bytes
-abbrev pub a_root : Segment
-a_root = record { code = 1; bytes = [] }
-
 -- There are room and memory for a root that may be put in behind its twin y, for its entry in the index, of this key, and for some rows
 -- below it.
 pub record CanPutRoot (d : Database) (v : VolumeState) (y : ℕ) (row : Segment) (key : List ℕ) : Type 0 where
   pub root : MayPut d v 0 y row
   pub others : List Segment
-  pub room : HasRootRoomFor d v key (a_root ∷ others)
-  pub memory : HasRootMemoryFor v (a_root ∷ others)
+  pub room : HasRootRoomFor d v key (row ∷ others)
+  pub memory : HasRootMemoryFor v (row ∷ others)
 
 -- Once the root of a key and its entry are in, room and memory that there were for them and rows below it last for these.
-abbrev pub LastsBelowRoot : Database → VolumeState → List ℕ → VolumeState → Type 0
-LastsBelowRoot d v key w =
-    (rows : List Segment) → IsTrue v.is_sound → HasRootRoomFor d v key (a_root ∷ rows) → HasRootMemoryFor v (a_root ∷ rows)
+abbrev pub LastsBelowRoot : Database → VolumeState → List ℕ → Segment → VolumeState → Type 0
+LastsBelowRoot d v key row w =
+    (rows : List Segment) → IsTrue v.is_sound → HasRootRoomFor d v key (row ∷ rows) → HasRootMemoryFor v (row ∷ rows)
     → HasRoomFor d.types w rows × HasMemoryFor d.types w rows

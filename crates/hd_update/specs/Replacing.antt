@@ -1,15 +1,16 @@
 -- New bytes for the rows that a PCB holds.
-use Rattle.std.specs.Prelude.{◌≡◌, ℕ, ◌+◌, ◌<◌, ◌≤◌, List, [], ◌∷◌, length, take, drop, map, cond, IsTrue, Bool, is_some, true}
+use Rattle.std.specs.Prelude.{◌≡◌, ℕ, ◌+◌, ◌<◌, ◌≤◌, List, [], ◌∷◌, length, take, drop, map, cond, IsTrue, Bool, Result, true}
 use Rattle.std.specs.List.{list_all}
 use Rattle.hd_dbd.specs.Types.{SegmentType}
 use Rattle.hd_dbd.specs.Hierarchy.{Database}
-use Rattle.hd_dbd.specs.Rows.{key_of}
+use Rattle.hd_dbd.specs.Rows.{key_of, row_fits}
 use Rattle.hd_dbd.specs.Paths.{row_at}
 use Rattle.hd_dbd.specs.Positions.{Position}
 use Rattle.hd_dbd.specs.Forest.{Forest}
 use Rattle.hd_calls.specs.Ssas.{Ssa}
 use Rattle.hd_calls.specs.Moves.{Rewrite, position_after_rewrite}
-use Rattle.hd_calls.specs.Steps.{divide, length_of, is_excepted, keeps_key}
+use Rattle.hd_calls.specs.declared.call.AreaFault.{AreaFault}
+use Rattle.hd_calls.specs.Steps.{Part, new_row, old_bytes, divide, is_excepted, keeps_key}
 use Rattle.hd_volume.specs.Volumes.{VolumeState}
 use Rattle.hd_links.specs.Placed.{Placed}
 use Rattle.hd_links.specs.Steps.{rows_of, address_at}
@@ -20,32 +21,35 @@ use Rattle.hd_update.specs.Positions.{after_rewrites}
 use Rattle.hd_update.specs.declared.held.HeldRow.{HeldRow}
 use Rattle.hd_update.specs.declared.rewrites.NewBytes.{NewBytes}
 
--- the lengths of the segments of these rows
-abbrev pub lengths_of : List SegmentType → List HeldRow → List ℕ
-lengths_of types rows = map (λ h. length_of types h.code) rows
+-- the part of a held row: new bytes, or as many as it has where N excepts it
+abbrev pub part_of : List Ssa → HeldRow → Part
+part_of ssas h = cond (is_excepted ssas h.code) (old_bytes h.length) (new_row h.code)
 
--- of rows whose parts stand one behind the other in an area, from a place on, those that are not excepted by N, and where their parts begin
-abbrev pub new_bytes_from : List SegmentType → List Ssa → ℕ → List HeldRow → List NewBytes
-new_bytes_from types ssas start [] = []
-new_bytes_from types ssas start (h ∷ hs) =
-    cond (is_excepted ssas h.code) (new_bytes_from types ssas (start + length_of types h.code) hs)
-    (record { address = h.address; code = h.code; start = start } ∷ new_bytes_from types ssas (start + length_of types h.code) hs)
+-- an area taken apart into the parts of these rows, one behind the other
+abbrev pub parts_held : List SegmentType → List Ssa → List HeldRow → List ℕ → Result (List (List ℕ)) AreaFault
+parts_held types ssas rows area = divide types (map (λ h. part_of ssas h) rows) area
 
--- the area is the parts of these rows
-abbrev pub is_divided : List SegmentType → List HeldRow → List ℕ → Bool
-is_divided types rows area = is_some (divide (lengths_of types rows) area)
+-- of rows with these parts, which stand one behind the other in an area from a place on, those that are not excepted by N, and where their
+-- parts stand
+abbrev pub new_bytes_from : List Ssa → ℕ → List HeldRow → List (List ℕ) → List NewBytes
+new_bytes_from ssas start [] parts = []
+new_bytes_from ssas start (h ∷ hs) [] = []
+new_bytes_from ssas start (h ∷ hs) (part ∷ parts) =
+    cond (is_excepted ssas h.code) (new_bytes_from ssas (start + length part) hs parts)
+    (record { address = h.address; code = h.code; start = start; length = length part } ∷ new_bytes_from ssas (start + length part) hs parts)
 
 -- the part of an area that has a row's new bytes
-abbrev pub part_for : List SegmentType → List ℕ → NewBytes → List ℕ
-part_for types area n = take (length_of types n.code) (drop n.start area)
+abbrev pub part_for : List ℕ → NewBytes → List ℕ
+part_for area n = take n.length (drop n.start area)
 
--- The new bytes are those that a rewrite gives to a row of the forest.
+-- The new bytes are those that a rewrite gives to a row of the forest, and fit its type.
 pub record IsRewriteOf (types : List SegmentType) (f : Forest Placed) (area : List ℕ) (n : NewBytes) (w : Rewrite) : Type 0 where
   pub row : w.number < length (rows_of f)
   pub address : n.address ≡ address_at f w.number
   pub code : n.code ≡ (row_at (rows_of f) w.number).code
-  pub bytes : part_for types area n ≡ w.bytes
-  pub within : n.start + length_of types n.code ≤ length area
+  pub bytes : part_for area n ≡ w.bytes
+  pub within : n.start + n.length ≤ length area
+  pub fits : row_fits types (record { code = n.code; bytes = w.bytes }) ≡ true
 
 -- the same, one by one
 abbrev pub AreRewritesOf : List SegmentType → Forest Placed → List ℕ → List NewBytes → List Rewrite → Type 0

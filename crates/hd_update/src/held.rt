@@ -1,21 +1,25 @@
-ghost use Rattle.std.specs.Prelude.{◌≡◌, ◌<◌, ◌≤◌, [], ◌∷◌, ◌++◌, length, IfOk};
+ghost use Rattle.std.specs.Prelude.{◌≡◌, ◌<◌, ◌≤◌, [], ◌∷◌, ◌++◌, length, IsTrue, IfOk};
 ghost use Rattle.hd_dbd.specs.Refusals.{OnlyDevice};
 ghost use Rattle.hd_volume.specs.Calls.{IsRead};
+ghost use Rattle.hd_prefix.specs.Fields.{code_of, bytes_of, IsWhole};
+ghost use Rattle.hd_image.specs.Records.{links_of};
 ghost use Rattle.hd_get.specs.Gets.{HasPosition};
+ghost use Rattle.hd_get.specs.Meeting.{IsStored};
 ghost use Rattle.hd_get.specs.Searches.{IsOf};
 ghost use Rattle.hd_update.specs.Held.{HasRowAt, IsRowAt, AreHeld};
 
 use hd_dbd::{Dbd, Refused};
-use hd_forest::{Path, code_at};
+use hd_forest::{Path, bytes_in};
 use hd_position::{Position, row_on};
 use hd_volume::{BlockStore, Volume};
 use std::marker::Model;
 
-/// A row that a PCB holds: its address, and the code of its type.
+/// A row that a PCB holds: its address, the code of its type, and how many bytes it has.
 #[derive(Clone, Copy, Debug)]
 pub struct HeldRow {
     pub address: u32,
     pub code: u8,
+    pub length: usize,
 }
 
 /// The rows that a PCB holds, root first; at most 15.
@@ -44,6 +48,7 @@ impl HeldRows {
         let none = HeldRow {
             address: 0,
             code: 0,
+            length: 0,
         };
         HeldRows {
             rows: [none; 15],
@@ -69,6 +74,33 @@ impl HeldRows {
     }
 }
 
+/// The row at an address, of which this is the lent segment.
+fn row_in(dbd: &Dbd, address: u32, segment: &[u8]) -> HeldRow
+    ensures { IsWhole dbd.now.types (code_of segment.now) segment.now → result ≡ record { address = address; code = code_of segment.now; length = length (bytes_of dbd.now.types (code_of segment.now) segment.now) } }
+{
+    HeldRow {
+        address,
+        code: segment.first().copied().unwrap_or(0),
+        length: bytes_in(dbd, segment).len(),
+    }
+}
+
+/// The row at an address. One access.
+fn stored_row<S: BlockStore>(
+    volume: &mut Volume<S>,
+    dbd: &Dbd,
+    address: u32,
+) -> Result<HeldRow, Refused>
+    requires of { IsOf dbd.now volume.old }
+    requires there { IsStored dbd.now volume.old address }
+    ensures read { IsRead volume.old result volume.new }
+    ensures value { IfOk result (λ row. IsTrue volume.old.is_sound → row ≡ record { address = address; code = (links_of dbd.now.types volume.old).code address; length = length ((links_of dbd.now.types volume.old).bytes address) }) }
+    ensures refusal { OnlyDevice result }
+{
+    let segment = volume.segment_at(address)?;
+    Ok(row_in(dbd, address, segment))
+}
+
 /// The row at a level of a path, from 1 on for the root. One access.
 pub fn row_at<S: BlockStore>(
     volume: &mut Volume<S>,
@@ -83,8 +115,7 @@ pub fn row_at<S: BlockStore>(
     ensures refusal { OnlyDevice result }
 {
     let address = row_on(path, level).unwrap_or(0);
-    let code = code_at(volume, dbd, address)?;
-    Ok(HeldRow { address, code })
+    stored_row(volume, dbd, address)
 }
 
 /// The rows that a PCB holds. One access for each.

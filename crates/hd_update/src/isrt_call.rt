@@ -8,17 +8,16 @@ ghost use Rattle.hd_calls.specs.Places.{rule_under, rule_of};
 ghost use Rattle.hd_calls.specs.Ssas.{first_inserted};
 ghost use Rattle.hd_seek.specs.Admits.{Descend};
 ghost use Rattle.hd_get.specs.Gets.{HasPosition};
-ghost use Rattle.hd_update.specs.NewRows.{codes_of, first_code, has_length_for, rows_in, are_types};
+ghost use Rattle.hd_update.specs.NewRows.{codes_of, first_code, are_rows_in, rows_in};
 ghost use Rattle.hd_update.specs.Putting.{AreFullFor};
 ghost use Rattle.hd_update.specs.Inserting.{AreInsertArguments, IsInsertDone, IsInsertAreaWrong, IsInsertFull, StepDown, IsTargetAbove, IsParentAsked, HasParentFor, AreInsertedUnder, IsFullUnder, HasPlaceFor, AreInserted};
 ghost use Rattle.hd_update.specs.States.{HasState, IsUndone};
 
-use crate::new_rows::has_length_for;
+use crate::area::{answer_fault, area_fault, front};
 use crate::parents::insert_parent;
 use crate::places::place_below;
 use crate::positions::end_hold;
 use crate::put_path::put_path;
-use crate::rewrites::length_of;
 use hd_calls::Commands;
 use hd_dbd::{Dbd, Refused, Rule, Status};
 use hd_forest::Path;
@@ -105,8 +104,7 @@ fn insert_rows<S: BlockStore>(
     requires levels { IsTrue volume.old.is_sound → length parent.now + length ssas.now ≤ 15 }
     requires size { volume.old.size ≡ dbd.now.block_size }
     requires sizes { volume.old.sizes ≡ stored_sizes dbd.now.types }
-    requires typed { are_types dbd.now.types (codes_of ssas.now) ≡ true }
-    requires long { has_length_for dbd.now.types (codes_of ssas.now) area.now ≡ true }
+    requires long { are_rows_in dbd.now.types (codes_of ssas.now) area.now ≡ true }
     requires place { HasPlaceFor dbd.now volume.old positions.old parent.now after (rows_in dbd.now.types (codes_of ssas.now) area.now) }
     ensures call { IsCall volume.old result volume.new }
     ensures done { IfOk result (λ o. AreInserted dbd.now volume.old positions.old number parent.now after (rows_in dbd.now.types (codes_of ssas.now) area.now) o volume.new positions.new) }
@@ -136,9 +134,8 @@ fn insert_under<S: BlockStore>(
     requires few { length ssas.now ≤ 15 }
     requires size { volume.old.size ≡ dbd.now.block_size }
     requires sizes { volume.old.sizes ≡ stored_sizes dbd.now.types }
-    requires typed { are_types dbd.now.types (codes_of ssas.now) ≡ true }
     requires down { StepDown dbd.now.types (first_code ssas.now) (drop 1 (codes_of ssas.now)) }
-    requires long { has_length_for dbd.now.types (codes_of ssas.now) area.now ≡ true }
+    requires long { are_rows_in dbd.now.types (codes_of ssas.now) area.now ≡ true }
     requires parent { HasParentFor dbd.now volume.old positions.old parent.now (first_code ssas.now) }
     ensures call { IsCall volume.old result volume.new }
     ensures done { IfOk result (λ o. AreInsertedUnder dbd.now volume.old positions.old number parent.now (first_code ssas.now) rule (rows_in dbd.now.types (codes_of ssas.now) area.now) o volume.new positions.new) }
@@ -147,7 +144,7 @@ fn insert_under<S: BlockStore>(
     ensures refusal { OnlyRoomOrDevice result }
 {
     let code = ssas[0].code();
-    let bytes = &area[..length_of(dbd, code)];
+    let bytes = front(dbd, code, area);
     let place = place_below(
         volume,
         dbd,
@@ -165,15 +162,15 @@ fn insert_under<S: BlockStore>(
 }
 
 /// ISRT by the PCB of a number, counted from 1, that does not load, once its tests are passed: the I/O area is the inserted rows, one behind
-/// the other. GE where there is no parent, II where the key is unique and a twin has it; else all rows go in, each below the one before, the
-/// PCB stands on the last of them, and those of every other PCB move.
+/// the other. V1 where a row whose type varies has a wrong length, GE where there is no parent, II where the key is unique and a twin has it;
+/// else all rows go in, each below the one before, the PCB stands on the last of them, and those of every other PCB move.
 ///
 /// What is read: the parent, where it is not on the path where the PCB stands, as by GU; the place below it, as its rule and key say; then
 /// each row is one block or two. So many blocks are reserved before the first write as the rows and the root's entry may need, or none where
 /// one hole holds all dependents.
 ///
-/// `Area` says that the area is not as long as the rows, and comes before all else; `Full` and `Memory` that there is no room for all of
-/// them. Nothing is changed then.
+/// `Area` says that bytes of the area lack or are left over, and comes, as V1 does, before all else; `Full` and `Memory` that there is no room
+/// for all rows. Nothing is changed then.
 pub fn isrt<S: BlockStore>(
     volume: &mut Volume<S>,
     dbd: &Dbd,
@@ -197,8 +194,8 @@ pub fn isrt<S: BlockStore>(
 {
     let first = first_inserted(ssas);
     let inserted = &ssas[first..];
-    if !has_length_for(dbd, inserted, area) {
-        return Err(Refused::Area);
+    if let Some(fault) = area_fault(dbd, inserted, area) {
+        return answer_fault(positions, number, fault);
     }
     let code = ssas[first].code();
     let parent = parent_for(volume, dbd, &ssas[..first], &positions[number - 1], code)?;

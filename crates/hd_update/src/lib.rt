@@ -1,6 +1,7 @@
 //! The calls that change a database over a volume: rows put in, rows with new bytes, a row taken out with all that depends on it.
 #![tactic(auto)]
 
+mod area;
 mod deleting;
 mod dlet_call;
 mod held;

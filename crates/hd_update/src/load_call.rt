@@ -7,6 +7,7 @@ ghost use Rattle.hd_volume.specs.Calls.{IsCall};
 ghost use Rattle.hd_update.specs.Loading.{HasPassedAll, MayLoad, PutsLast, IsRowLoaded, IsRowFull, IsLoadDone, IsLoadAreaWrong, IsLoadFull};
 ghost use Rattle.hd_update.specs.States.{IsUndone};
 
+use crate::area::{answer_fault, row_fault};
 use crate::judging::{last_parent, last_twin, load_fault, status_of};
 use crate::positions::end_hold;
 use crate::putting::put_row;
@@ -67,22 +68,11 @@ pub fn load_behind<S: BlockStore>(
     Ok(Outcome::Found(Status::Blank))
 }
 
-/// Whether the I/O area is as long as a row of the type of a code.
-fn is_whole(dbd: &Dbd, code: u8, area: &[u8]) -> bool
-    ensures { result ≡ row_fits dbd.now.types (record { code = code; bytes = area.now }) }
-{
-    match dbd.type_of(code) {
-        Some(segment) => area.len() == segment.length as usize,
-        None => false,
-    }
-}
-
 /// ISRT by the PCB of a number, counted from 1, that loads and has passed all rows, once its tests are passed: the I/O area is one row of
-/// the type of a code, which goes behind all others, and the PCB stands on it. LB, LC, LD or LE where it may not, and the PCB's hold ends;
-/// three accesses at most tell whether it may.
+/// the type of a code, which goes behind all others, and the PCB stands on it. V1 where the type varies and the row has a wrong length, LB, LC,
+/// LD or LE where it may not go there, and the PCB's hold ends; three accesses at most tell whether it may.
 ///
-/// `Area` says that the area is not as long as the type's rows, `Full` and `Memory` that there is no room for the row; nothing is changed
-/// then.
+/// `Area` says that bytes of the area lack or are left over, `Full` and `Memory` that there is no room for the row; nothing is changed then.
 pub fn load_row<S: BlockStore>(
     volume: &mut Volume<S>,
     dbd: &Dbd,
@@ -103,8 +93,8 @@ pub fn load_row<S: BlockStore>(
     ensures full { IfErr result (λ e. IsLoadFull dbd.now volume.old positions.old number code area.now e) }
     ensures refusal { IfErr result (λ e. e ≢ Refused.Broken) }
 {
-    if !is_whole(dbd, code, area) {
-        return Err(Refused::Area);
+    if let Some(fault) = row_fault(dbd, code, area) {
+        return answer_fault(positions, number, fault);
     }
     let path = positions[number - 1].path().copy();
     if let Some(fault) = load_fault(volume, dbd, &path, code, area)? {

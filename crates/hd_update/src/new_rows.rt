@@ -5,29 +5,14 @@ ghost use Rattle.hd_dbd.specs.Rows.{row_fits};
 ghost use Rattle.hd_volume.specs.Calls.{IsCall};
 ghost use Rattle.hd_forest.specs.Walks.{tip};
 ghost use Rattle.hd_update.specs.Putting.{PutsIn, MayPut};
-ghost use Rattle.hd_update.specs.NewRows.{codes_of, has_length_for, rows_in, are_types, TakeMore, TakesMore, GoesInBelow, GoInBelow, LastsForOthers, LastsBelow, HasRoomBelow};
+ghost use Rattle.hd_update.specs.NewRows.{codes_of, are_rows_in, rows_in, TakeMore, TakesMore, GoesInBelow, GoInBelow, LastsForOthers, LastsBelow, HasRoomBelow};
 
+use crate::area::front;
 use crate::putting::link_root;
-use crate::rewrites::length_of;
 use hd_dbd::{Dbd, Refused};
 use hd_forest::{Path, link, tip_of};
 use hd_ssa::ResolvedSsa;
 use hd_volume::{BlockStore, Volume};
-
-/// Whether an I/O area is as long as rows of the types of these arguments, one behind the other.
-pub fn has_length_for(dbd: &Dbd, ssas: &[ResolvedSsa<'_>], area: &[u8]) -> bool
-    ensures { result ≡ has_length_for dbd.now.types (codes_of ssas.now) area.now }
-{
-    let mut start = 0;
-    for place in 0..ssas.len() {
-        let length = length_of(dbd, ssas[place].code());
-        if length > area.len() - start {
-            return false;
-        }
-        start += length;
-    }
-    start == area.len()
-}
 
 /// Puts in the first row of a path below a parent, 0 for a root, behind its preceding twin, 0 for none, where there are room and memory for
 /// it and the rows below; says its address.
@@ -90,8 +75,7 @@ pub fn put_others<S: BlockStore>(
 ) -> Result<(), Refused>
     requires sizes { volume.old.sizes ≡ stored_sizes dbd.now.types }
     requires few { IsTrue volume.old.is_sound → length path.old + length ssas.now ≤ 15 }
-    requires long { has_length_for dbd.now.types (codes_of ssas.now) area.now ≡ true }
-    requires typed { are_types dbd.now.types (codes_of ssas.now) ≡ true }
+    requires long { are_rows_in dbd.now.types (codes_of ssas.now) area.now ≡ true }
     requires more { IsTrue volume.old.is_sound → TakeMore dbd.now volume.old (tip path.old) (rows_in dbd.now.types (codes_of ssas.now) area.now) }
     ensures call { IsCall volume.old result volume.new }
     ensures put_in { OnOk result (GoInBelow dbd.now volume.old path.old (rows_in dbd.now.types (codes_of ssas.now) area.now) volume.new path.new) }
@@ -101,10 +85,10 @@ pub fn put_others<S: BlockStore>(
     let mut start = 0;
     for place in 0..ssas.len() {
         let code = ssas[place].code();
-        let end = start + length_of(dbd, code);
-        let address = put_next(volume, dbd, tip_of(path), code, &area[start..end])?;
+        let row = front(dbd, code, &area[start..]);
+        let address = put_next(volume, dbd, tip_of(path), code, row)?;
         path.push(address);
-        start = end;
+        start += row.len();
     }
     Ok(())
 }

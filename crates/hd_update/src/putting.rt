@@ -7,9 +7,9 @@ ghost use Rattle.hd_volume.specs.Indexes.{root_key_length};
 ghost use Rattle.hd_volume.specs.Rooms.{spare};
 ghost use Rattle.hd_index.specs.Changes.{IsIndexOf};
 ghost use Rattle.hd_keeping.specs.Rooms.{HasRootRoomFor, HasRootMemoryFor};
-ghost use Rattle.hd_update.specs.Putting.{PutsIn, IsFullFor, a_root, MayPut, CanPutRoot, LastsBelowRoot};
+ghost use Rattle.hd_update.specs.Putting.{PutsIn, IsFullFor, MayPut, CanPutRoot, LastsBelowRoot};
 
-use crate::room::lacks_room;
+use crate::room::{lacks_room, row_size};
 use hd_dbd::{Dbd, Refused};
 use hd_forest::link;
 use hd_index::{growth, insert};
@@ -53,7 +53,7 @@ pub fn link_root<S: BlockStore>(
     requires can { IsTrue volume.old.is_sound → CanPutRoot dbd.now volume.old after (record { code = 1; bytes = bytes.now }) key.now }
     ensures call { IsCall volume.old result volume.new }
     ensures put_in { IfOk result (λ a. PutsIn dbd.now volume.old 0 after (record { code = 1; bytes = bytes.now }) a volume.new) }
-    ensures lasts { IfOk result (λ _. LastsBelowRoot dbd.now volume.old key.now volume.new) }
+    ensures lasts { IfOk result (λ _. LastsBelowRoot dbd.now volume.old key.now (record { code = 1; bytes = bytes.now }) volume.new) }
     ensures only { IfErr result (λ e. IsTrue volume.old.is_sound → e ≡ Refused.Device) }
     ensures refusal { OnlyRoomOrDevice result }
 {
@@ -73,7 +73,7 @@ fn put_reserved_root<S: BlockStore>(
     requires sizes { volume.old.sizes ≡ stored_sizes dbd.now.types }
     requires fits { row_fits dbd.now.types (record { code = 1; bytes = bytes.now }) ≡ true }
     requires may { IsTrue volume.old.is_sound → MayPut dbd.now volume.old 0 after (record { code = 1; bytes = bytes.now }) }
-    requires memory { IsTrue volume.old.is_sound → HasRootMemoryFor volume.old (a_root ∷ []) }
+    requires memory { IsTrue volume.old.is_sound → HasRootMemoryFor volume.old (record { code = 1; bytes = bytes.now } ∷ []) }
     ensures call { IsCall volume.old result volume.new }
     ensures put_in { IfOk result (λ a. PutsIn dbd.now volume.old 0 after (record { code = 1; bytes = bytes.now }) a volume.new) }
     ensures kept { IfErr result (λ _. IsTrue volume.new.is_sound → volume.new.image ≡ volume.old.image) }
@@ -81,7 +81,7 @@ fn put_reserved_root<S: BlockStore>(
     ensures refusal { OnlyRoomOrDevice result }
 {
     let key = dbd.key_of(1, bytes);
-    if lacks_room(volume, dbd, key, 1, u32::from(dbd.stored_size(1)))? {
+    if lacks_room(volume, dbd, key, 1, row_size(dbd, 1, bytes))? {
         return Err(Refused::Full);
     }
     link_root(volume, dbd, after, bytes, key)

@@ -4,6 +4,7 @@ ghost use Rattle.hd_volume.specs.Calls.{IsCall};
 ghost use Rattle.hd_update.specs.States.{HasState, IsUndone, kept_of};
 ghost use Rattle.hd_update.specs.Calls.{IsReplaceDone, IsReplaceAreaWrong, HaveState, AreRewritesDone};
 
+use crate::area::answer_fault;
 use crate::held::held_rows;
 use crate::positions::{end_hold, end_holds};
 use crate::replacing::{keep_keys, replace_rows};
@@ -14,11 +15,12 @@ use hd_position::Position;
 use hd_ssa::ResolvedSsa;
 use hd_volume::{BlockStore, Volume};
 
-/// REPL by the PCB of a number, counted from 1, once its tests are passed: the I/O area is the rows that it holds, one behind the other.
-/// DA where the key of a row would change. Each row that no argument excepts by N gets its part of the area, the PCB's hold ends, and so
-/// does that of every other PCB that holds such a row. No memory is taken.
+/// REPL by the PCB of a number, counted from 1, once its tests are passed: the I/O area is the rows that it holds, one behind the other. V1
+/// where the new bytes of a row whose type varies have a wrong length, DA where the key of a row would change. Each row that no argument
+/// excepts by N gets its part of the area, the PCB's hold ends, and so does that of every other PCB that holds such a row. No memory is
+/// taken.
 ///
-/// `Area` says that the area is not as long as the held rows; nothing is changed then.
+/// `Area` says that bytes of the area lack or are left over; nothing is changed then.
 ///
 /// The blocks of the held rows are read and written, and no other.
 pub fn repl<S: BlockStore>(
@@ -39,8 +41,9 @@ pub fn repl<S: BlockStore>(
     ensures refusal { IfErr result (λ e. (e ≡ Refused.Area) ⊎ (e ≡ Refused.Device)) }
 {
     let held = held_rows(volume, dbd, &positions[number - 1])?;
-    let Some(news) = rewrites_of(dbd, ssas, held.as_slice(), area) else {
-        return Err(Refused::Area);
+    let news = match rewrites_of(dbd, ssas, held.as_slice(), area) {
+        Ok(news) => news,
+        Err(fault) => return answer_fault(positions, number, fault),
     };
     replace_held(volume, dbd, positions, number, area, news.as_slice())
 }

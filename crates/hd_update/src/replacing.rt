@@ -24,7 +24,7 @@ fn keeps_key<S: BlockStore>(
     ensures refusal { OnlyDevice result }
 {
     let segment = volume.segment_at(row.address)?;
-    let new = dbd.key_of(row.code, part_for(dbd, area, row));
+    let new = dbd.key_of(row.code, part_for(area, row));
     Ok(dbd.key_of(row.code, bytes_in(dbd, segment)) == new)
 }
 
@@ -64,7 +64,7 @@ pub fn replace_rows<S: BlockStore>(
 {
     for place in 0..news.len() {
         let row = news[place];
-        replace(volume, dbd, row.address, part_for(dbd, area, &row))?;
+        replace(volume, dbd, row.address, part_for(area, &row))?;
     }
     Ok(())
 }

@@ -1,19 +1,22 @@
-ghost use Rattle.std.specs.Prelude.{◌≡◌, ◌<◌, ◌≤◌, ◌+◌, [], ◌∷◌, ◌++◌, length, IfSome, is_some, IsTrue};
-ghost use Rattle.hd_dbd.specs.DatabaseRules.{well_formed};
-ghost use Rattle.hd_calls.specs.Steps.{is_excepted, length_of};
-ghost use Rattle.hd_update.specs.Replacing.{new_bytes_from, is_divided, part_for};
+ghost use Rattle.std.specs.Prelude.{◌≡◌, ◌<◌, ◌≤◌, ◌+◌, [], ◌∷◌, ◌++◌, length, take, cond, Ok, Err, IfOk, IfErr};
+ghost use Rattle.hd_calls.specs.Functions.{result_and_then};
+ghost use Rattle.hd_calls.specs.Steps.{new_row, old_bytes, part_at, is_excepted};
+ghost use Rattle.hd_update.specs.Replacing.{parts_held, new_bytes_from, part_for};
 
+use crate::area::row_length;
 use crate::held::HeldRow;
+use hd_calls::AreaFault;
 use hd_dbd::Dbd;
 use hd_ssa::ResolvedSsa;
 use std::marker::Model;
 
-/// New bytes for a row: its address, the code of its type, and where the bytes begin in the I/O area.
+/// New bytes for a row: its address, the code of its type, where the bytes begin in the I/O area, and how many they are.
 #[derive(Clone, Copy, Debug)]
 pub struct NewBytes {
     pub address: u32,
     pub code: u8,
     pub start: usize,
+    pub length: usize,
 }
 
 /// New bytes for rows of one path, root first; at most 15.
@@ -43,6 +46,7 @@ impl Rewriting {
             address: 0,
             code: 0,
             start: 0,
+            length: 0,
         };
         Rewriting {
             rows: [none; 15],
@@ -68,16 +72,6 @@ impl Rewriting {
     }
 }
 
-/// The bytes of a type's segments, 0 for no type.
-pub fn length_of(dbd: &Dbd, code: u8) -> usize
-    ensures { result ≡ length_of dbd.now.types code }
-{
-    match dbd.type_of(code) {
-        Some(segment) => segment.length as usize,
-        None => 0,
-    }
-}
-
 /// Whether an argument of a type has N.
 pub fn is_excepted(ssas: &[ResolvedSsa<'_>], code: u8) -> bool
     ensures { result ≡ is_excepted ssas.now code }
@@ -87,47 +81,58 @@ pub fn is_excepted(ssas: &[ResolvedSsa<'_>], code: u8) -> bool
 }
 
 /// The part of an I/O area that has a row's new bytes, without bytes where it is shorter.
-pub fn part_for<'a>(dbd: &Dbd, area: &'a [u8], row: &NewBytes) -> &'a [u8]
-    ensures { row.now.start + length_of dbd.now.types row.now.code ≤ length area.now → result.now ≡ part_for dbd.now.types area.now row.now }
+pub fn part_for<'a>(area: &'a [u8], row: &NewBytes) -> &'a [u8]
+    ensures { row.now.start + row.now.length ≤ length area.now → result.now ≡ part_for area.now row.now }
 {
-    let length = length_of(dbd, row.code);
-    if row.start > area.len() || length > area.len() - row.start {
+    if row.start > area.len() || row.length > area.len() - row.start {
         return &[];
     }
-    &area[row.start..row.start + length]
+    &area[row.start..row.start + row.length]
 }
 
-/// The new bytes that an I/O area has for held rows, but those that N excepts; none where the area is not the rows' parts, one behind
-/// the other.
+/// How many bytes the part of a held row has that stands at the front of an I/O area, or what is wrong there: as many as the row has, where N
+/// excepts it, or else those of a new row of its type.
+fn part_length(dbd: &Dbd, row: &HeldRow, excepted: bool, area: &[u8]) -> Result<usize, AreaFault>
+    ensures part { IfOk result (λ n. (n ≤ length area.now) × (part_at dbd.now.types (cond excepted (old_bytes row.now.length) (new_row row.now.code)) area.now ≡ Ok (take n area.now))) }
+    ensures fault { IfErr result (λ f. part_at dbd.now.types (cond excepted (old_bytes row.now.length) (new_row row.now.code)) area.now ≡ Err f) }
+{
+    if !excepted {
+        return row_length(dbd, row.code, area);
+    }
+    if row.length > area.len() {
+        return Err(AreaFault::Bytes);
+    }
+    Ok(row.length)
+}
+
+/// The new bytes that an I/O area has for held rows, but those that N excepts, or why it is not the rows' parts, one behind the other.
 pub fn rewrites_of(
     dbd: &Dbd,
     ssas: &[ResolvedSsa<'_>],
     held: &[HeldRow],
     area: &[u8],
-) -> Option<Rewriting>
+) -> Result<Rewriting, AreaFault>
     requires few { length held.now ≤ 15 }
-    ensures divided { is_some result ≡ is_divided dbd.now.types held.now area.now }
-    ensures value { IfSome result (λ news. news ≡ new_bytes_from dbd.now.types ssas.now 0 held.now) }
+    ensures { result ≡ result_and_then (parts_held dbd.now.types ssas.now held.now area.now) (λ parts. Ok (new_bytes_from ssas.now 0 held.now parts)) }
 {
     let mut news = Rewriting::new();
     let mut start = 0;
     for place in 0..held.len() {
         let row = held[place];
-        let length = length_of(dbd, row.code);
-        if length > area.len() - start {
-            return None;
-        }
-        if !is_excepted(ssas, row.code) {
+        let excepted = is_excepted(ssas, row.code);
+        let length = part_length(dbd, &row, excepted, &area[start..])?;
+        if !excepted {
             news.push(NewBytes {
                 address: row.address,
                 code: row.code,
                 start,
+                length,
             });
         }
         start += length;
     }
     if start < area.len() {
-        return None;
+        return Err(AreaFault::Bytes);
     }
-    Some(news)
+    Ok(news)
 }

@@ -1,27 +1,50 @@
 ghost use Rattle.std.specs.Prelude.{◌≡◌, ◌⊎◌, ◌+◌, ◌<◌, ◌≤◌, length, true, false, IsTrue, IfOk, OnOk, IfErr};
+ghost use Rattle.hd_dbd.specs.DatabaseRules.{well_formed};
+ghost use Rattle.hd_dbd.specs.Prefixes.{size_with};
 ghost use Rattle.hd_dbd.specs.Refusals.{OnlyDevice, OnlyRoomOrDevice};
+ghost use Rattle.hd_dbd.specs.Rows.{row_fits};
+ghost use Rattle.hd_calls.specs.Runs.{stored_sizes};
 ghost use Rattle.hd_volume.specs.Calls.{IsCall, IsRead};
 ghost use Rattle.hd_levels.specs.Needs.{entry_growth, IsHighest};
 ghost use Rattle.hd_volume.specs.Rooms.{spare, HasHole};
 ghost use Rattle.hd_volume.specs.Volumes.{IsFormatted};
 ghost use Rattle.hd_index.specs.Changes.{IsIndexOf};
-ghost use Rattle.hd_update.specs.NewRows.{codes_of, sizes_of, IsRoomMade, IsFullForTypes};
+ghost use Rattle.hd_update.specs.NewRows.{codes_of, are_rows_in, rows_in, IsRoomMade};
+ghost use Rattle.hd_update.specs.Putting.{AreFullFor};
 ghost use Rattle.hd_get.specs.Starts.{HasRoots};
 ghost use Rattle.hd_update.specs.Room.{HasRoom, HasRootRoom};
 
+use crate::area::front;
 use hd_dbd::{Dbd, Refused};
 use hd_index::{blocks_needed, growth, is_highest};
 use hd_ssa::ResolvedSsa;
 use hd_volume::{BlockStore, Volume};
 
-/// The bytes that rows of the types of at most 15 arguments take together, each with its prefix and rounded up.
-fn sizes_of(dbd: &Dbd, ssas: &[ResolvedSsa<'_>]) -> u32
+/// The bytes that a row takes in a block, with its prefix and rounded up.
+pub fn row_size(dbd: &Dbd, code: u8, bytes: &[u8]) -> u32
+    requires fits { row_fits dbd.now.types (record { code = code; bytes = bytes.now }) ≡ true }
+    ensures value { result ≡ size_with dbd.now.types code (length bytes.now) }
+    ensures small { result ≤ 65535 }
+    ensures fit { IsTrue (well_formed dbd.now.block_size dbd.now.frspc dbd.now.types) }
+{
+    let _ = dbd.types();
+    dbd.size_with(code, bytes.len()) as u32
+}
+
+/// The bytes that the rows of at most 15 arguments, which an area has one behind the other, take together, each with its prefix and rounded
+/// up.
+fn sizes_of(dbd: &Dbd, ssas: &[ResolvedSsa<'_>], area: &[u8]) -> u32
     requires few { length ssas.now ≤ 15 }
-    ensures { result ≡ sizes_of dbd.now.types (codes_of ssas.now) }
+    requires long { are_rows_in dbd.now.types (codes_of ssas.now) area.now ≡ true }
+    ensures { result ≡ stored_sizes dbd.now.types (rows_in dbd.now.types (codes_of ssas.now) area.now) }
 {
     let mut total: u32 = 0;
+    let mut start = 0;
     for place in 0..ssas.len() {
-        total += u32::from(dbd.stored_size(ssas[place].code()));
+        let code = ssas[place].code();
+        let row = front(dbd, code, &area[start..]);
+        total += row_size(dbd, code, row);
+        start += row.len();
     }
     total
 }
@@ -121,28 +144,29 @@ fn make_root_room<S: BlockStore>(
     volume.reserve(blocks)
 }
 
-/// Makes sure of room and memory for rows of the types of these arguments, each below the one before, of which the first has these bytes:
-/// so many blocks are reserved as they may need, or none where one hole holds all of them and none is a root.
+/// Makes sure of room and memory for the rows of these arguments, which an area has one behind the other, each below the one before: so many
+/// blocks are reserved as they may need, or none where one hole holds all of them and none is a root.
 pub fn make_room<S: BlockStore>(
     volume: &mut Volume<S>,
     dbd: &Dbd,
     ssas: &[ResolvedSsa<'_>],
-    bytes: &[u8],
+    area: &[u8],
 ) -> Result<(), Refused>
     requires some { 0 < length ssas.now }
     requires few { length ssas.now ≤ 15 }
+    requires long { are_rows_in dbd.now.types (codes_of ssas.now) area.now ≡ true }
     requires size { volume.old.size ≡ dbd.now.block_size }
     requires holds { HasRoots dbd.now volume.old }
     ensures call { IsCall volume.old result volume.new }
     ensures image { IsTrue volume.new.is_sound → volume.new.image ≡ volume.old.image }
-    ensures made { OnOk result (IsTrue volume.old.is_sound → IsRoomMade dbd.now volume.new (codes_of ssas.now) bytes.now) }
-    ensures full { IfErr result (λ e. IsFullForTypes dbd.now volume.old (codes_of ssas.now) e) }
+    ensures made { OnOk result (IsTrue volume.old.is_sound → IsRoomMade dbd.now volume.new (rows_in dbd.now.types (codes_of ssas.now) area.now)) }
+    ensures full { IfErr result (λ e. AreFullFor dbd.now volume.old (rows_in dbd.now.types (codes_of ssas.now) area.now) e) }
     ensures refusal { OnlyRoomOrDevice result }
 {
     let code = ssas[0].code();
-    let key = dbd.key_of(code, bytes);
+    let key = dbd.key_of(code, front(dbd, code, area));
     let count = ssas.len() as u32;
-    let total = sizes_of(dbd, ssas);
+    let total = sizes_of(dbd, ssas, area);
     if code == 1 {
         make_root_room(volume, dbd, key, count, total)
     } else {

@@ -12,10 +12,10 @@ const STUDENT: [u8; 16] = *b"\x03\0\0\0\0\xd8ADAM01\0\0\0\0";
 
 const BOOK: [u8; 16] = *b"\x04\0\0\0\0\0\0\0\0\0EULER\0";
 
-/// The address in a pointer of a segment of the sample; `None` where the segment is too short for its type.
+/// The address in a pointer of a segment of the sample; `None` where the segment is too short for its type's prefix.
 fn address_in(dbd: &Dbd, segment: &[u8], pointer: Pointer) -> Option<u32> {
     let layout = Layout::of(dbd, *segment.first()?);
-    if segment.len() < layout.stored_size() as usize {
+    if segment.len() < layout.prefix_length() as usize {
         return None;
     }
     Some(layout.read(segment, pointer))
@@ -24,7 +24,7 @@ fn address_in(dbd: &Dbd, segment: &[u8], pointer: Pointer) -> Option<u32> {
 /// The segment's own bytes; none where it is too short for its type.
 fn bytes_in<'a>(dbd: &Dbd, segment: &'a [u8], code: u8) -> &'a [u8] {
     let layout = Layout::of(dbd, code);
-    if segment.len() < layout.stored_size() as usize {
+    if !layout.is_whole(segment) {
         return &[];
     }
     layout.bytes(segment)
@@ -66,16 +66,15 @@ fn says_where_pointers_stand(rt: HostRuntime) {
     assert_eq!(rt; student.place_of(Pointer::TwinBackward), None);
     let none = Layout::of(&dbd, 5);
     assert_eq!(rt; none.place_of(Pointer::TwinForward), None);
-    assert_eq!(rt; (none.prefix_length(), none.stored_size()), (0, 0));
+    assert_eq!(rt; none.prefix_length(), 0);
 }
 
-/// Makes a row of a type a new segment, if it fits and the room has the type's size.
+/// Makes a row of a type, of at most 255 bytes, a new segment, if it fits and the room has the size that it takes.
 fn make(dbd: &Dbd, code: u8, segment: &mut [u8], bytes: &[u8]) {
     let layout = Layout::of(dbd, code);
-    if let Some(own) = dbd.type_of(code) {
-        if bytes.len() == own.length as usize && segment.len() == layout.stored_size() as usize {
-            layout.write_new(segment, bytes);
-        }
+    let fits = bytes.len() <= 255 && dbd.row_fits(code, bytes);
+    if fits && segment.len() == dbd.size_with(code, bytes.len()) {
+        layout.write_new(segment, bytes);
     }
 }
 
@@ -86,7 +85,7 @@ fn makes_a_segment_and_writes_a_pointer(rt: HostRuntime) {
     make(&dbd, 4, &mut book, b"EULER");
     assert_eq!(rt; book, BOOK);
     let layout = Layout::of(&dbd, 4);
-    if layout.stored_size() <= 16 {
+    if layout.prefix_length() <= 16 {
         layout.write(&mut book, Pointer::TwinBackward, 264);
     }
     assert_eq!(rt; book, *b"\x04\0\0\0\0\0\0\0\x01\x08EULER\0");

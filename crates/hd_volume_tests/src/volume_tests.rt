@@ -31,6 +31,7 @@ fn is_whole(dbd: &Dbd, bytes: &[u8]) -> bool
     if bytes.is_empty() {
         return false;
     }
+    let _ = dbd.types();
     bytes.len() == dbd.stored_size(bytes[0]) as usize
 }
 

@@ -1,18 +1,18 @@
-use Rattle.std.proofs.Common.{◌≤◌, ℕ, length, sym, subst, arith}
-use Rattle.hd_dbd.specs.Prefixes.{stored_size}
+use Rattle.std.proofs.Common.{ℕ, sym, subst, arith}
+use Rattle.hd_prefix.specs.Fields.{IsWhole}
 use Rattle.hd_image.specs.Records.{links_of}
 use Rattle.hd_check_pointers.specs.Tables.{place_at}
 use Rattle.hd_check_pointers.proofs.TwinPointers.{lent-code}
 use Rattle.hd_check_pointers.proofs.TwinFaults.{not-some, wrong-first, wrong-then}
 use Rattle.hd_check_pointers.proofs.twins.twin_pointers_fault.Goals as goal
 
-pub returns-then-segment-stored_size-clause-none : goal.returns-then-segment-stored_size-clause-none
-returns-then-segment-stored_size-clause-none c = λ v M F O here prec.
+pub returns-then-segment-prefix_length-clause-none : goal.returns-then-segment-prefix_length-clause-none
+returns-then-segment-prefix_length-clause-none c = λ v M F O here prec.
     let code = lent-code c.args.dbd.now v c.args.places.now M c.args.number c.args.segment.now c.requires.within here in
-    let whole : stored_size c.args.dbd.now.types (place_at c.args.places.now c.args.number).code ≤ length c.args.segment.now =
-    subst (λ (x : ℕ). stored_size c.args.dbd.now.types x ≤ length c.args.segment.now) (sym code) here.whole in
-    let size = c.stored_size.ensures in
-    let short = c.if-segment-stored_size.true in
+    let whole : IsWhole c.args.dbd.now.types (place_at c.args.places.now c.args.number).code c.args.segment.now =
+    subst (λ (x : ℕ). IsWhole c.args.dbd.now.types x c.args.segment.now) (sym code) here.whole in
+    let size = c.prefix_length.ensures in
+    let short = c.if-segment-prefix_length.true in
     absurd (omega arith)
 
 pub returns-in-Some-clause-some : goal.returns-in-Some-clause-some

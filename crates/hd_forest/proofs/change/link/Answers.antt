@@ -1,10 +1,10 @@
-use Rattle.std.proofs.Common.{◌≡◌, ℕ, IsTrue, IfErr, Result, Err, Ok, ap, sym, subst, ◌∙◌}
+use Rattle.std.proofs.Common.{◌≡◌, ℕ, IsTrue, IfErr, Result, Err, Ok, ap, sym, subst, ◌∙◌, length}
 use Rattle.std.proofs.lemmas.Result.{err_from_is_err_and}
 use Rattle.hd_dbd.specs.declared.answer.Refused.{Refused}
 use Rattle.hd_dbd.specs.declared.answer.Refused.TheVariants.{Memory, Device}
 use Rattle.hd_dbd.specs.Hierarchy.{Database}
 use Rattle.hd_dbd.specs.Segment.{Segment}
-use Rattle.hd_dbd.specs.Prefixes.{stored_size}
+use Rattle.hd_dbd.specs.Prefixes.{size_with}
 use Rattle.hd_volume.specs.Volumes.{VolumeState}
 use Rattle.hd_volume.specs.Rooms.{HasHole, HasFreeBlock}
 use Rattle.hd_volume.specs.Calls.{IsCall}
@@ -52,7 +52,7 @@ returns-in_err-address-clause-no_hole g c =
     let u : VolumeState = c.args.volume.now in
     let v : VolumeState = c.twin_behind.new.volume in
     let p = err_from_is_err_and c.from_residual-in_err-address.result c.from_residual-in_err-address.ensures.1 in
-    subst (λ (r : Result ℕ Refused). IfErr r (λ e. e ≡ Memory → IsTrue u.is_sound → HasHole u (stored_size c.args.dbd.now.types c.args.code) → ⊥)) (sym (p.1 ∙ ap Err p.2))
+    subst (λ (r : Result ℕ Refused). IfErr r (λ e. e ≡ Memory → IsTrue u.is_sound → HasHole u (size_with c.args.dbd.now.types c.args.code (length c.args.bytes.now)) → ⊥)) (sym (p.1 ∙ ap Err p.2))
     (λ memory sound hole.
     let same = after-read c.args.dbd.now u v c.in_ok-behind.ensures.read sound in
     c.in_err-address.ensures.no_hole memory same.sound ((keeps-same u v same.image c.in_ok-behind.ensures.read.call.size c.in_ok-behind.ensures.read.call.sizes).holes _ hole))
@@ -99,7 +99,7 @@ pub returns-in_err-name_leaf-clause-no_hole : goal.returns-in_err-name_leaf-clau
 returns-in_err-name_leaf-clause-no_hole g c =
     let u : VolumeState = c.args.volume.now in
     let p = err_from_is_err_and c.from_residual-in_err-name_leaf.result c.from_residual-in_err-name_leaf.ensures.1 in
-    subst (λ (r : Result ℕ Refused). IfErr r (λ e. e ≡ Memory → IsTrue u.is_sound → HasHole u (stored_size c.args.dbd.now.types c.args.code) → ⊥)) (sym (p.1 ∙ ap Err p.2))
+    subst (λ (r : Result ℕ Refused). IfErr r (λ e. e ≡ Memory → IsTrue u.is_sound → HasHole u (size_with c.args.dbd.now.types c.args.code (length c.args.bytes.now)) → ⊥)) (sym (p.1 ∙ ap Err p.2))
     (λ memory sound hole. let no : ◌≡◌ {A = Refused} Memory Device = sym memory ∙ c.in_err-name_leaf.ensures.refusal in let f : ⊥ = cc in f)
 
 pub returns-clause-call : goal.returns-clause-call

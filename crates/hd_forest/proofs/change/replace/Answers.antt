@@ -1,4 +1,4 @@
-use Rattle.std.proofs.Common.{subst, sym, ap, ◌∙◌}
+use Rattle.std.proofs.Common.{length, subst, sym, ap, ◌∙◌}
 use Rattle.std.proofs.lemmas.Result.{on_ok_weaker}
 use Rattle.hd_dbd.specs.Hierarchy.{Database}
 use Rattle.hd_volume.specs.Volumes.{VolumeState}
@@ -6,9 +6,8 @@ use Rattle.hd_links.specs.Links.{Links}
 use Rattle.hd_links.specs.Changes.{CanReplace, replaced}
 use Rattle.hd_image.specs.Records.{links_of}
 use Rattle.hd_forest.specs.Sets.{IsRecorded}
-use Rattle.hd_image.proofs.Found.{keeps-size}
 use Rattle.hd_forest.proofs.Reading.{after-read, sound-before}
-use Rattle.hd_forest.proofs.Exchanging.{recorded-after, replace-room, recorded-replaced, replaced-done}
+use Rattle.hd_forest.proofs.Exchanging.{recorded-after, replace-room, replace-keeps, recorded-replaced, replaced-done}
 use Rattle.hd_forest.proofs.change.replace.Goals as goal
 
 pub write_at-requires-clause-there : goal.write_at-requires-clause-there
@@ -21,6 +20,7 @@ write_at-requires-clause-there g c now =
     let can : CanReplace d.types (links_of d.types v) c.args.address c.args.bytes.now
     = subst (λ (m : Links). CanReplace d.types m c.args.address c.args.bytes.now) (sym same.links) (c.requires.there sound) in
     replace-room d v c.args.address c.in_ok-code.code c.place_of_bytes.result c.args.bytes.now c.place_of_bytes.ensures.fit (same.volume (c.requires.of sound)) can
+    (c.requires.long sound ∙ ap (λ (m : Links). length (m.bytes c.args.address)) (sym same.links))
     (c.in_ok-code.ensures.value sound ∙ ap (λ (m : Links). m.code c.args.address) (sym same.links)) c.place_of_bytes.ensures.value
 
 pub write_at-requires-clause-keeps_size : goal.write_at-requires-clause-keeps_size
@@ -32,9 +32,9 @@ write_at-requires-clause-keeps_size g c now =
     let same = after-read d u v c.in_ok-code.ensures.read sound in
     let can : CanReplace d.types (links_of d.types v) c.args.address c.args.bytes.now
     = subst (λ (m : Links). CanReplace d.types m c.args.address c.args.bytes.now) (sym same.links) (c.requires.there sound) in
-    keeps-size d v c.args.address c.place_of_bytes.result c.args.bytes.now c.place_of_bytes.ensures.fit (same.volume (c.requires.of sound)) c.place_of_bytes.ensures.some
-    (replace-room d v c.args.address c.in_ok-code.code c.place_of_bytes.result c.args.bytes.now c.place_of_bytes.ensures.fit (same.volume (c.requires.of sound)) can
-    (c.in_ok-code.ensures.value sound ∙ ap (λ (m : Links). m.code c.args.address) (sym same.links)) c.place_of_bytes.ensures.value)
+    replace-keeps d v c.args.address c.in_ok-code.code c.place_of_bytes.result c.args.bytes.now c.place_of_bytes.ensures.fit (same.volume (c.requires.of sound)) can
+    (c.requires.long sound ∙ ap (λ (m : Links). length (m.bytes c.args.address)) (sym same.links))
+    (c.in_ok-code.ensures.value sound ∙ ap (λ (m : Links). m.code c.args.address) (sym same.links)) c.place_of_bytes.ensures.value
 
 pub returns-clause-replaced : goal.returns-clause-replaced
 returns-clause-replaced g c =
@@ -49,6 +49,7 @@ returns-clause-replaced g c =
     = subst (λ (m : Links). CanReplace d.types m c.args.address c.args.bytes.now) (sym same.links) (c.requires.there sound) in
     let done : IsRecorded d v (replaced (links_of d.types v) c.args.address c.args.bytes.now) w
     = recorded-replaced d v c.args.address c.in_ok-code.code c.place_of_bytes.result c.args.bytes.now c.place_of_bytes.ensures.fit of can
+    (c.requires.long sound ∙ ap (λ (m : Links). length (m.bytes c.args.address)) (sym same.links))
     (c.in_ok-code.ensures.value sound ∙ ap (λ (m : Links). m.code c.args.address) (sym same.links)) c.place_of_bytes.ensures.value
     w c.write_at.ensures.call.size c.write_at.ensures.call.sizes (written same.sound) in
     replaced-done d u w c.args.address c.args.bytes.now c.place_of_bytes.ensures.fit (c.requires.of sound) (c.requires.there sound)

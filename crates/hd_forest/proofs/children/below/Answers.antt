@@ -14,6 +14,6 @@ returns-clause-value g c sound =
     let there = c.requires.there sound in
     let l = lent d v a s (c.requires.of sound).fit (c.requires.of sound) there (c.in_ok-segment.ensures.value sound) in
     let ne : a ≢ 0 = λ e. (let some : 0 < a = there.some in omega arith) in
-    c.child_in.ensures l.long
+    c.child_in.ensures l.prefix
     ∙ ap (child_in d.types s) (c.children_of-types.ensures ∙ ap (children_of d.types) c.code_in.ensures ∙ sym (types-stored d v a s (c.requires.of sound).fit (c.requires.of sound) there l.stored))
     ∙ sym (child-stored d.types v a s _ ne l.stored)

@@ -6,7 +6,8 @@ use Rattle.hd_forest.proofs.leaf.put_laid_out.Goals as goal
 pub put-requires-clause-whole : goal.put-requires-clause-whole
 put-requires-clause-whole g c =
     let row : Segment = record { code = c.args.code; bytes = c.args.bytes.now } in
-    put-whole c.args.dbd.now.types row c.args.after c.args.behind c.lay_out.new.segment c.args.volume.now.sizes c.lay_out.ensures.leaf c.requires.fits c.requires.sizes
+    let d = c.args.dbd.now in
+    put-whole d.block_size d.frspc d.types row c.args.after c.args.behind c.lay_out.new.segment c.args.volume.now.sizes c.lay_out.ensures.fit c.lay_out.ensures.leaf c.requires.fits c.requires.sizes
 
 pub returns-clause-put : goal.returns-clause-put
 returns-clause-put g c =

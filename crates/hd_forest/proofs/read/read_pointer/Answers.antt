@@ -12,4 +12,4 @@ returns-clause-value g c sound =
     let there = c.requires.there sound in
     let found = c.in_ok-segment.ensures.value sound in
     let l = lent d c.args.volume.now c.args.address s fit of there found in
-    c.pointer_in.ensures l.long ∙ ap (λ x. pointer_of d.types (code_of x) c.args.pointer x) (sym l.stored)
+    c.pointer_in.ensures l.prefix ∙ ap (λ x. pointer_of d.types (code_of x) c.args.pointer x) (sym l.stored)

@@ -13,7 +13,7 @@ returns-clause-value g c sound =
     let s : List ℕ = c.in_ok-segment.segment.now in
     let of = c.requires.of sound in
     let l = lent d c.args.volume.now c.args.address s of.fit of (c.requires.there sound) (c.in_ok-segment.ensures.value sound) in
-    let R = places_read d.block_size d.frspc d.types of.fit (code_of s) c.args.key.now s l.long c.args.places
+    let R = places_read d.block_size d.frspc d.types of.fit (code_of s) c.args.key.now s l.whole l.least c.args.places
     (ap (λ (x : List ℕ). twin_places d.types (code_of x)) (sym l.stored) ∙ c.requires.places sound) in
     c.behind_below.ensures R.long
     ∙ ap₂ (λ (b : Bool) n. cond b (Some n) None) R.key_is R.forward

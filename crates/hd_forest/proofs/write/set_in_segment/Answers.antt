@@ -1,7 +1,7 @@
 use Rattle.std.proofs.Common.{sym, ◌∙◌, arith}
 use Rattle.std.proofs.lemmas.Result.{on_ok_weaker}
 use Rattle.hd_image.proofs.Found.{keeps-size}
-use Rattle.hd_forest.proofs.Setting.{recorded-written, recorded-idle, unkept-idle, pointer-room}
+use Rattle.hd_forest.proofs.Setting.{recorded-written, recorded-idle, unkept-idle, pointer-room, pointer-inside}
 use Rattle.hd_forest.proofs.write.set_in_segment.Goals as goal
 
 pub write_at-requires-clause-there : goal.write_at-requires-clause-there
@@ -12,8 +12,7 @@ write_at-requires-clause-there g c = λ sound.
 pub write_at-requires-clause-keeps_size : goal.write_at-requires-clause-keeps_size
 write_at-requires-clause-keeps_size g c = λ sound.
     keeps-size c.args.dbd.now c.args.volume.now c.args.holder c.in-Some.place _ c.place_in.ensures.fit (c.requires.of sound) (omega (arith, c.in-Some.ensures.inside.0))
-    (pointer-room c.args.dbd.now c.args.volume.now c.args.holder c.args.code c.in-Some.place _ c.place_in.ensures.fit (c.requires.of sound) (c.requires.there sound) (c.requires.typed sound)
-    c.in-Some.ensures.inside.1 c.address_bytes.ensures.length)
+    (pointer-inside c.args.dbd.now.types c.args.volume.now c.args.holder c.args.code c.in-Some.place _ (c.requires.typed sound) c.in-Some.ensures.inside.1 c.address_bytes.ensures.length)
 
 pub returns-in-Some-clause-set : goal.returns-in-Some-clause-set
 returns-in-Some-clause-set g c =

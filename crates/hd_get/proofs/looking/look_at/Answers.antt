@@ -9,4 +9,4 @@ returns-clause-value g c sound =
     let d = c.args.dbd.now in
     let of = c.requires.of sound in
     let l = lent d c.args.volume.now c.args.address c.in_ok-segment.segment.now of.fit of (c.requires.there sound) (c.in_ok-segment.ensures.value sound) in
-    c.look_in.ensures l.long ∙ ap (λ x. look_of d.types c.args.ssas.now (record { code = code_of x; bytes = bytes_of d.types (code_of x) x })) (sym l.stored)
+    c.look_in.ensures l.whole ∙ ap (λ x. look_of d.types c.args.ssas.now (record { code = code_of x; bytes = bytes_of d.types (code_of x) x })) (sym l.stored)

@@ -12,4 +12,4 @@ returns-clause-value g c sound =
     let of = c.requires.of sound in
     let l = lent d c.args.volume.now c.args.address c.in_ok-segment.segment.now of.fit of (c.requires.there sound) (c.in_ok-segment.ensures.value sound) in
     c.holds.ensures (m.code c.args.address)
-    ∙ ap (λ b. qualifies c.args.ssa.now (record { code = m.code c.args.address; bytes = b })) (c.bytes_in.ensures l.long ∙ ap (λ x. bytes_of d.types (code_of x) x) (sym l.stored))
+    ∙ ap (λ b. qualifies c.args.ssa.now (record { code = m.code c.args.address; bytes = b })) (c.bytes_in.ensures l.whole ∙ ap (λ x. bytes_of d.types (code_of x) x) (sym l.stored))

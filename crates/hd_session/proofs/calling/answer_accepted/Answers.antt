@@ -47,7 +47,7 @@ pub returns-in-Insert-clause-full : goal.returns-in-Insert-clause-full
 returns-in-Insert-clause-full g c = if-err-map c.answer_insert.result (λ e full st is sound R.
     let d = c.args.dbd.now in
     let n : ℕ = c.args.number in
-    subst (λ (x : Effect). LacksRoomFor d c.args.volume.now x)
+    subst (λ (x : Effect). LacksRoomFor d c.args.volume.now st.rows x)
     (own_is d c.args.pcb.now n st c.deref.result.now c.args.call.now.area Insert c.accepted.inside.function c.ssas-ssas.result.now c.accepted.inside.ssas c.args.accepted.now
     (c.deref.ensures.value ∙ ap (λ (x : CallText). x.area) c.call.view_is) c.ssas-ssas.ensures c.in-Insert.is c.accepted.view_is) (full st is sound R)) c.answer_insert.ensures.full
 

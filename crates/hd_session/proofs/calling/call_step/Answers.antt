@@ -116,7 +116,7 @@ returns-in-Ok-clause-full g c = if-err-map c.answer_accepted.result (λ e full s
     let tested : accepted_call (record { types = d.types; pcb = c.args.pcb.now }) (rows_of R.placed) (position_at st n) c.args.call.now ≡ Ok c.in-Ok.accepted = rw (← c.call.view_is, ← c.deref.ensures.value) (c.in_ok-status.ensures.value R.placed (position_at st n) c.call.inside.area.items at ∙ c.in-Ok.is) in
     let effect : own_in d c.args.pcb.now n c.args.call.now.area c.in-Ok.accepted st ≡ call_in d c.args.pcb.now n c.args.call.now st
     = own_effect d c.args.pcb.now n c.args.call.now u old st R c.in-Ok.accepted tested in
-    subst (λ (x : Effect). LacksRoomFor d u x) effect (lacks_before d u c.accept.new.volume (own_in d c.args.pcb.now n c.args.call.now.area c.in-Ok.accepted st) same.image
+    subst (λ (x : Effect). LacksRoomFor d u st.rows x) effect (lacks_before d u c.accept.new.volume st.rows (own_in d c.args.pcb.now n c.args.call.now.area c.in-Ok.accepted st) same.image
     (full st is same.sound (represented d u c.accept.new.volume old st c.in_ok-status.ensures.read sound R)))) c.answer_accepted.ensures.full
 
 -- ---- what is known

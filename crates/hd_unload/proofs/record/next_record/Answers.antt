@@ -1,5 +1,4 @@
 use Rattle.std.proofs.Common.{◌≡◌, ℕ, ◌∷◌, ap, sym, ◌∙◌, arith}
-use Rattle.hd_dbd.specs.Types.{SegmentType}
 use Rattle.hd_unload.proofs.Spelling.{end-right, next-right, behind-first}
 use Rattle.hd_unload.proofs.record.next_record.Goals as goal
 
@@ -12,6 +11,6 @@ returns-in-None-clause-end c =
 pub returns-clause-some : goal.returns-clause-some
 returns-clause-some c =
     let ok = c.in_ok-record.ensures.ok in
-    next-right c.args.types.now c.args.left.now c.in-Some.code.now c.segment.inside.length c.in-Some.rest.now c.in-Some-type_of.segment.now _ _ _
+    next-right c.args.types.now c.args.left.now c.in-Some.code.now c.in-Some.rest.now c.in-Some-type_of.segment.now _ _ _
     c.in-Some.ensures.cases.0 (λ i. let f = c.type_inv.left i in omega arith)
-    (sym c.in-Some-type_of.ensures) (ap (λ (t : SegmentType). t.length) c.segment.view_is) ok.0 ok.1 ok.2 ok.3
+    (sym c.in-Some-type_of.ensures) c.in_ok-record.ensures.fits c.in_ok-record.ensures.long ok.1 ok.2 ok.3

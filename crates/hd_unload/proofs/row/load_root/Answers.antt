@@ -2,7 +2,6 @@ use Rattle.std.proofs.Common.{◌≡◌, ◌⊎◌, ◌<◌, ℕ, List, IsTrue, 
 use Rattle.std.proofs.lemmas.Result.{err_from_is_err_and}
 use Rattle.hd_dbd.specs.declared.answer.Refused.{Refused}
 use Rattle.hd_dbd.specs.declared.answer.Refused.TheVariants.{Full}
-use Rattle.hd_dbd.specs.Rows.{key_of}
 use Rattle.hd_volume.specs.Rooms.{spare}
 use Rattle.hd_volume.specs.Indexes.{root_key_length}
 use Rattle.hd_levels.specs.Needs.{IsHighest}
@@ -12,7 +11,6 @@ use Rattle.hd_index.specs.Changes.{entries_for}
 use Rattle.hd_index.specs.Places.{blocks_needed}
 use Rattle.hd_index.specs.Maps.{address_of}
 use Rattle.hd_index.proofs.NeedLemmas.{needed-most}
-use Rattle.hd_unload.specs.Steps.{row_of}
 use Rattle.hd_unload.proofs.LoadedRoots.{may-link-root, root-linked, root-loaded, room-links, room-enters}
 use Rattle.hd_unload.proofs.row.load_root.Goals as goal
 
@@ -40,7 +38,7 @@ returns-in_err-address-clause-not_full g c =
     subst (λ (r : Result ℕ Refused). IfErr r (λ e. e ≡ Full → IsTrue c.args.volume.now.is_sound → ⊥)) (sym (p.1 ∙ ap Err p.2))
     (λ full sound.
     let none = c.in_err-address.ensures.full full sound in
-    room-links c.args.dbd.now c.args.volume.now (key_of c.args.dbd.now.types (row_of 1 c.args.bytes.now)) (c.requires.room sound) none.0 none.1)
+    room-links c.args.dbd.now c.args.volume.now c.args.bytes.now (c.requires.room sound) none.0 none.1)
 
 pub returns-in_err-insert-clause-not_full : goal.returns-in_err-insert-clause-not_full
 returns-in_err-insert-clause-not_full g c =
@@ -53,7 +51,7 @@ returns-in_err-insert-clause-not_full g c =
     (λ full sound.
     let after : IsTrue w.is_sound = subst IsTrue (sym o.call.sound) sound in
     let few = subst (λ (key : List ℕ). (spare w < blocks_needed (root_key_length d.types) w key) ⊎ IsHighest w) c.root_key.ensures.key (c.in_err-insert.ensures.full full after) in
-    room-enters d v w c.args.after c.in_ok-address.address c.args.bytes.now (key_of d.types (row_of 1 c.args.bytes.now)) (c.requires.can sound) (c.requires.room sound) (o.linked sound) few)
+    room-enters d v w c.args.after c.in_ok-address.address c.args.bytes.now (c.requires.can sound) (c.requires.room sound) (o.linked sound) few)
 
 pub returns-clause-call : goal.returns-clause-call
 returns-clause-call g c = call-ok c.in_ok-address.address (calls-join _ c.in_ok-address.ensures.call c.in_ok-insert.ensures.call)

@@ -1,9 +1,8 @@
 -- A look for room leaves the volume as it is.
-use Rattle.std.proofs.Common.{ℕ, List, IsTrue, subst}
-use Rattle.hd_dbd.specs.Rows.{key_of}
+use Rattle.std.proofs.Common.{IsTrue, subst}
 use Rattle.hd_volume.proofs.CallSteps.{if-ok}
 use Rattle.hd_volume.proofs.JoinLemmas.{read-one}
-use Rattle.hd_unload.specs.Steps.{row_of, HasRootRoom}
+use Rattle.hd_unload.specs.Steps.{row_of}
 use Rattle.hd_unload.proofs.LoadedRoots.{lacks-beside}
 use Rattle.hd_unload.proofs.OneVolume.{loaded-same, room-same, row-same}
 use Rattle.hd_unload.proofs.row.load_root_with_room.Goals as goal
@@ -23,8 +22,7 @@ pub load_root-requires-clause-room : goal.load_root-requires-clause-room
 load_root-requires-clause-room g c = λ now.
     let o = c.in_ok-lacks_room.ensures in
     let sound : IsTrue c.args.volume.now.is_sound = subst IsTrue o.read.call.sound now in
-    let there = subst (λ (key : List ℕ). HasRootRoom c.args.dbd.now c.args.volume.now key) c.root_key.ensures.key (o.room sound c.if-branch.false) in
-    room-same c.args.dbd.now c.args.volume.now c.lacks_room.new.volume (key_of c.args.dbd.now.types (row_of 1 c.args.bytes.now)) (read-one o.read now) there
+    room-same c.args.dbd.now c.args.volume.now c.lacks_room.new.volume (row_of 1 c.args.bytes.now) (read-one o.read now) (o.room sound c.if-branch.false)
 
 pub returns-clause-loaded : goal.returns-clause-loaded
 returns-clause-loaded g c =

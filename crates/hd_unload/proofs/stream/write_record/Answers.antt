@@ -12,5 +12,5 @@ returns-in-Ok-clause-record g c = on_ok_weaker c.put_record.result
     let d = c.args.dbd.now in
     let of = c.requires.of sound in
     let l = lent d c.args.volume.now c.args.address c.in-Ok.segment.now of.fit of (c.requires.there sound) (c.in-Ok.ensures.value sound) in
-    subst (λ (s : List ℕ). Appends (g.W.Write.contents c.args.out.now) (g.W.Write.contents c.put_record.new.out) (record_bytes (record { code = code_of s; bytes = bytes_of d.types (code_of s) s }))) (sym l.stored) (h l.long))
+    subst (λ (s : List ℕ). Appends (g.W.Write.contents c.args.out.now) (g.W.Write.contents c.put_record.new.out) (record_bytes (record { code = code_of s; bytes = bytes_of d.types (code_of s) s }))) (sym l.stored) (h l.whole))
     c.put_record.ensures.record

@@ -17,5 +17,5 @@ returns-clause-value g c sound =
     let is : c.key_of.result.now ≡ key_of d.types (segment_at m c.args.address)
     = c.key_of.ensures.value
     ∙ ap₂ (λ (k : ℕ) (b : List ℕ). key_of d.types (record { code = k; bytes = b })) (sym (c.requires.typed sound))
-    (c.bytes_in.ensures l.long ∙ ap (λ (x : List ℕ). bytes_of d.types (code_of x) x) (sym l.stored)) in
+    (c.bytes_in.ensures l.whole ∙ ap (λ (x : List ℕ). bytes_of d.types (code_of x) x) (sym l.stored)) in
     c.of.ensures (subst (λ (k : List ℕ). length k ≤ 255) (sym is) (key_of_short d.block_size d.frspc d.types (segment_at m c.args.address) of.fit)) ∙ is

@@ -17,5 +17,5 @@ returns-clause-value g c sound =
     let is : c.key_of-before.result.now ≡ key_of d.types (segment_at (links_of d.types v) c.args.address)
     = c.key_of-before.ensures.value
     ∙ ap₂ (λ (k : ℕ) (b : List ℕ). key_of d.types (record { code = k; bytes = b })) (sym (c.requires.typed sound))
-    (c.bytes_in.ensures l.long ∙ ap (λ (x : List ℕ). bytes_of d.types (code_of x) x) (sym l.stored)) in
+    (c.bytes_in.ensures l.whole ∙ ap (λ (x : List ℕ). bytes_of d.types (code_of x) x) (sym l.stored)) in
     c.compare_keys.ensures ∙ ap₂ (λ (x y : List ℕ). slice_cmp nat_cmp x y) is c.key_of.ensures.value

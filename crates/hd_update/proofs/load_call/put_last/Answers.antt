@@ -1,6 +1,6 @@
 use Rattle.std.proofs.Common.{◌≡◌, ℕ, List, [], ◌∷◌, sym, subst, ◌∙◌}
 use Rattle.hd_dbd.specs.Segment.{Segment}
-use Rattle.hd_calls.specs.Runs.{LacksRoom}
+use Rattle.hd_calls.specs.Runs.{LacksRoom, has_root}
 use Rattle.hd_volume.proofs.CallSteps.{if-ok}
 use Rattle.hd_volume.proofs.JoinLemmas.{if-err-map}
 use Rattle.hd_links.specs.LastRows.{last_on, parent_on_path, twin_on_path}
@@ -63,5 +63,5 @@ returns-clause-full g c = if-err-map c.put_row.result (λ e full is sound.
     let read = c.in_ok-twin.ensures.read in
     let same = after-read d v w read sound in
     let T = c.requires.may sound in
-    subst (λ (x : List ℕ). LacksRoom (images_of d) d.types x (row ∷ [])) same.image
+    subst (λ (x : List ℕ). LacksRoom (images_of d) d.types x (row ∷ []) (has_root (row ∷ []))) same.image
     (full is same.sound (λ _. (T.0, held_read d v w read sound T.0 T.1.holds))))) c.put_row.ensures.full

@@ -1,4 +1,4 @@
-use Rattle.std.proofs.Common.{◌≡◌, ℕ, List, [], ap, ap₂, sym, ◌∙◌}
+use Rattle.std.proofs.Common.{ℕ, List, [], ap, ap₂, sym, ◌∙◌}
 use Rattle.std.specs.Ordering.{nat_cmp}
 use Rattle.std.specs.declared.cmp.Ordering.{Ordering}
 use Rattle.std.specs.Cmp.Lexicographic.{slice_cmp}
@@ -18,7 +18,7 @@ returns-clause-side g c sound =
     let s : List ℕ = c.in_ok-segment.segment.now in
     let of = c.requires.of sound in
     let l = lent d c.args.volume.now c.args.twin s of.fit of (c.requires.there sound) (c.in_ok-segment.ensures.value sound) in
-    let R = places_read d.block_size d.frspc d.types of.fit (code_of s) [] s l.long c.args.places
+    let R = places_read d.block_size d.frspc d.types of.fit (code_of s) [] s l.whole l.least c.args.places
     (ap (λ (x : List ℕ). twin_places d.types (code_of x)) (sym l.stored) ∙ ap (twin_places d.types) (c.requires.typed sound) ∙ c.requires.places) in
     c.side_of.ensures
     ∙ ap (λ (o : Ordering). side_of (has_unique_key d.types c.args.code) c.args.last o)
@@ -32,6 +32,6 @@ returns-clause-next g c sound =
     let s : List ℕ = c.in_ok-segment.segment.now in
     let of = c.requires.of sound in
     let l = lent d c.args.volume.now c.args.twin s of.fit of (c.requires.there sound) (c.in_ok-segment.ensures.value sound) in
-    let R = places_read d.block_size d.frspc d.types of.fit (code_of s) [] s l.long c.args.places
+    let R = places_read d.block_size d.frspc d.types of.fit (code_of s) [] s l.whole l.least c.args.places
     (ap (λ (x : List ℕ). twin_places d.types (code_of x)) (sym l.stored) ∙ ap (twin_places d.types) (c.requires.typed sound) ∙ c.requires.places) in
     c.forward_in.ensures R.long ∙ R.forward ∙ ap (λ (x : List ℕ). pointer_of d.types (code_of x) TwinForward x) (sym l.stored)

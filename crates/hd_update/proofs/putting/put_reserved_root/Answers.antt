@@ -1,4 +1,5 @@
 use Rattle.std.proofs.Common.{◌≡◌, ℕ, ◌+◌, ◌≤◌, [], ◌∷◌, List, length, IsTrue, sym, ap, subst, ◌∙◌, arith}
+use Rattle.hd_dbd.specs.Segment.{Segment}
 use Rattle.hd_levels.specs.Needs.{entry_growth}
 use Rattle.hd_index.proofs.NeedLemmas.{growth-same}
 use Rattle.hd_volume.proofs.CallSteps.{if-ok}
@@ -7,7 +8,6 @@ use Rattle.hd_forest.specs.Updates.{MayLink}
 use Rattle.hd_forest.proofs.Reading.{after-read, sound-before}
 use Rattle.hd_keeping.proofs.RootTypes.{root-key-long}
 use Rattle.hd_keeping.proofs.Rooms.{one-volume}
-use Rattle.hd_update.specs.Putting.{a_root}
 use Rattle.hd_update.proofs.Reading.{held_read}
 use Rattle.hd_update.proofs.PutRoots.{no_root_room, put_before}
 use Rattle.hd_update.proofs.RoomOf.{one_root_room}
@@ -31,17 +31,18 @@ link_root-requires-clause-can g c now =
     let sound : IsTrue v.is_sound = sound-before v w read now in
     let same = after-read d v w read sound in
     let M = c.requires.may sound in
+    let row : Segment = record { code = 1; bytes = c.args.bytes.now } in
     record {
       root = record {
         placed = M.placed;
         holds = held_read d v w read sound M.placed M.holds;
-        may = subst (λ (m : Links). MayLink d.types m 0 c.args.after (record { code = 1; bytes = c.args.bytes.now })) (sym same.links) M.may;
+        may = subst (λ (m : Links). MayLink d.types m 0 c.args.after row) (sym same.links) M.may;
       };
       others = [];
-      room = (one-volume d v w (record { image = same.image; size = read.call.size; sizes = read.call.sizes })).2 c.key_of-key.result.now (a_root ∷ [])
-          (one_root_room d v c.key_of-key.result.now c.from.result (c.from.ensures ∙ c.stored_size.ensures) (c.in_ok-lacks_room.ensures.room sound c.if-branch.false));
+      room = (one-volume d v w (record { image = same.image; size = read.call.size; sizes = read.call.sizes })).2 c.key_of-key.result.now (row ∷ [])
+          (one_root_room d v c.key_of-key.result.now row c.row_size.result c.row_size.ensures.value (c.in_ok-lacks_room.ensures.room sound c.if-branch.false));
       memory =
-          (let own : length (a_root ∷ []) + entry_growth v ≤ v.room = c.requires.memory sound in
+          (let own : length (row ∷ []) + entry_growth v ≤ v.room = c.requires.memory sound in
           let room : w.room ≡ v.room = read.room in
           let growth : entry_growth w ≡ entry_growth v = growth-same v w same.image in omega arith);
     }

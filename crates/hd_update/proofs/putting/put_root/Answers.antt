@@ -1,4 +1,4 @@
-use Rattle.std.proofs.Common.{◌≡◌, ℕ, ◌<◌, ◌≤◌, [], ◌∷◌, List, IsTrue, Ok, sym, subst, arith}
+use Rattle.std.proofs.Common.{◌≡◌, ℕ, ◌<◌, ◌≤◌, [], ◌∷◌, List, true, IsTrue, Ok, sym, subst, arith}
 use Rattle.hd_volume.specs.Indexes.{root_key_length}
 use Rattle.hd_levels.specs.Needs.{entry_growth}
 use Rattle.hd_volume.proofs.CallSteps.{if-ok, sound-back}
@@ -58,5 +58,5 @@ returns-clause-full g c = if-err-map c.put_reserved_root.result (λ e full is so
     let o = c.in_ok-reserve.ensures in
     let now : IsTrue w.is_sound = rw o.call.sound sound in
     let F = some sound in
-    subst (λ (x : List ℕ). LacksRoom (images_of d) d.types x (record { code = 1; bytes = c.args.bytes.now } ∷ [])) (o.image now).0
+    subst (λ (x : List ℕ). LacksRoom (images_of d) d.types x (record { code = 1; bytes = c.args.bytes.now } ∷ []) true) (o.image now).0
     (full is now (λ _. (F.0, held-same d v w (o.image now).0 o.call.size o.call.sizes F.0 F.1))))) c.put_reserved_root.ensures.full

@@ -1,6 +1,6 @@
 use Rattle.std.proofs.Common.{◌≡◌, ℕ, true, sym, subst, ◌∷◌, []}
 use Rattle.hd_dbd.specs.Rows.{row_fits}
-use Rattle.hd_calls.specs.Runs.{LacksRoom}
+use Rattle.hd_calls.specs.Runs.{LacksRoom, has_root}
 use Rattle.hd_keeping.specs.VolumeImages.{images_of}
 use Rattle.hd_volume.proofs.CallSteps.{if-ok}
 use Rattle.hd_volume.proofs.JoinLemmas.{if-err-map}
@@ -23,5 +23,5 @@ returns-then-code-eq1-clause-put_in g c = if-ok c.put_root.result c.put_root.ens
 
 pub returns-then-code-eq1-clause-full : goal.returns-then-code-eq1-clause-full
 returns-then-code-eq1-clause-full g c = if-err-map c.put_root.result (λ e full is sound some.
-    subst (λ (k : ℕ). LacksRoom (images_of c.args.dbd.now) c.args.dbd.now.types c.args.volume.now.image (record { code = k; bytes = c.args.bytes.now } ∷ [])) (sym c.if-code-eq1.true)
+    subst (λ (k : ℕ). LacksRoom (images_of c.args.dbd.now) c.args.dbd.now.types c.args.volume.now.image (record { code = k; bytes = c.args.bytes.now } ∷ []) (has_root (record { code = k; bytes = c.args.bytes.now } ∷ []))) (sym c.if-code-eq1.true)
     (full is sound some)) c.put_root.ensures.full

@@ -1,13 +1,20 @@
-use Rattle.std.proofs.Common.{◌≡◌, List, IsTrue, sym, subst, ◌∙◌}
-use Rattle.hd_calls.specs.Steps.{position_at, replace_rows}
+use Rattle.std.proofs.Common.{◌≡◌, List, IsTrue, Err, refl, sym, ap, subst, ◌∙◌}
+use Rattle.hd_dbd.specs.declared.answer.Status.TheVariants.{V1}
+use Rattle.hd_calls.specs.Steps.{position_at, bare_answer, replace_rows}
 use Rattle.hd_volume.proofs.CallSteps.{if-ok}
+use Rattle.hd_volume.proofs.JoinLemmas.{if-err-map}
 use Rattle.hd_forest.proofs.Reading.{after-read, sound-before}
+use Rattle.hd_position.specs.Kept.{Kept}
+use Rattle.hd_get.specs.declared.outcome.Outcome.{Outcome}
+use Rattle.hd_get.specs.declared.outcome.Outcome.TheVariants.{Missing}
 use Rattle.hd_update.specs.Calls.{replace_effect}
 use Rattle.hd_update.specs.Held.{held_rows}
-use Rattle.hd_update.specs.Replacing.{AreRewritesOf}
+use Rattle.hd_update.specs.Positions.{unheld_at}
+use Rattle.hd_update.specs.Replacing.{parts_held, AreRewritesOf}
+use Rattle.hd_update.specs.States.{IsAnswered}
 use Rattle.hd_update.specs.declared.rewrites.NewBytes.{NewBytes}
-use Rattle.hd_update.proofs.Answering.{answered_as, answered_before, represented}
-use Rattle.hd_update.proofs.AskedStates.{wrong, asks}
+use Rattle.hd_update.proofs.Answering.{answered_as, answered_before, bare_answered, represented}
+use Rattle.hd_update.proofs.AskedStates.{HasParts, parts_of, fault_of, area_wrong, row_wrong, asks}
 use Rattle.hd_update.proofs.Standing.{own_position}
 use Rattle.hd_update.proofs.repl_call.repl.Goals as goal
 
@@ -19,14 +26,31 @@ held_rows-requires-clause-there g c sound =
       own_position c.args.dbd.now c.args.volume.now c.args.positions.now T.0 c.args.number T.1 c.requires.number.0 c.requires.number.1 sound c.index-positions-number.result,
     )
 
-pub returns-in_default-clause-area : goal.returns-in_default-clause-area
-returns-in_default-clause-area g c pcb st is sound R =
+pub returns-in-Err-clause-done : goal.returns-in-Err-clause-done
+returns-in-Err-clause-done g c = if-ok c.answer_fault.result c.answer_fault.ensures.length (λ o short pcb st sound R.
     let d = c.args.dbd.now in
     let v = c.args.volume.now in
-    let old = c.args.positions.now in
+    let w = c.held_rows.new.volume in
+    let old : List Kept = c.args.positions.now in
     let at = own_position d v old st c.args.number R c.requires.number.0 c.requires.number.1 sound c.index-positions-number.result in
     let are : c.as_slice.result.now ≡ held_rows R.placed (position_at st c.args.number).held = c.as_slice.ensures.value ∙ c.in_ok-held.ensures.value R.placed (position_at st c.args.number) at in
-    wrong d v old st c.args.number R c.requires.number.0 c.requires.number.1 c.args.ssas.now c.args.area.now c.as_slice.result.now are pcb c.in_default.ensures.divided
+    let fault = fault_of c.args.ssas.now c.as_slice.result.now (parts_held d.types c.args.ssas.now c.as_slice.result.now c.args.area.now) c.in-Err.fault (sym c.rewrites_of.ensures ∙ c.in-Err.is) ∙ ap Err short.0 in
+    subst (λ (kept : List Kept). IsAnswered d v st c.args.number (replace_effect d pcb c.args.number c.args.ssas.now c.args.area.now st) o w kept) (sym short.2)
+    (subst (λ (outcome : Outcome). IsAnswered d v st c.args.number (replace_effect d pcb c.args.number c.args.ssas.now c.args.area.now st) outcome w (unheld_at c.args.number old)) (sym short.1)
+    (answered_as d v st c.args.number (bare_answer (position_at st c.args.number) V1) (replace_effect d pcb c.args.number c.args.ssas.now c.args.area.now st) (Missing V1) w (unheld_at c.args.number old)
+    (row_wrong d v old st c.args.number R c.requires.number.0 c.requires.number.1 c.args.ssas.now c.args.area.now c.as_slice.result.now are pcb fault)
+    (bare_answered d v w old st c.args.number V1 c.in_ok-held.ensures.read sound R c.requires.number.0 c.requires.number.1 refl))))
+
+pub returns-in-Err-clause-area : goal.returns-in-Err-clause-area
+returns-in-Err-clause-area g c = if-err-map c.answer_fault.result (λ e wrong pcb st is sound R.
+    (let d = c.args.dbd.now in
+    let v = c.args.volume.now in
+    let old : List Kept = c.args.positions.now in
+    let at = own_position d v old st c.args.number R c.requires.number.0 c.requires.number.1 sound c.index-positions-number.result in
+    let are : c.as_slice.result.now ≡ held_rows R.placed (position_at st c.args.number).held = c.as_slice.ensures.value ∙ c.in_ok-held.ensures.value R.placed (position_at st c.args.number) at in
+    area_wrong d v old st c.args.number R c.requires.number.0 c.requires.number.1 c.args.ssas.now c.args.area.now c.as_slice.result.now are pcb
+    (fault_of c.args.ssas.now c.as_slice.result.now (parts_held d.types c.args.ssas.now c.as_slice.result.now c.args.area.now) c.in-Err.fault (sym c.rewrites_of.ensures ∙ c.in-Err.is) ∙ ap Err wrong.0)))
+    c.answer_fault.ensures.bytes
 
 pub replace_held-requires-clause-state : goal.replace_held-requires-clause-state
 replace_held-requires-clause-state g c now =
@@ -36,11 +60,13 @@ replace_held-requires-clause-state g c now =
     let T = c.requires.state sound in
     let at = own_position d v c.args.positions.now T.0 c.args.number T.1 c.requires.number.0 c.requires.number.1 sound c.index-positions-number.result in
     let are : c.as_slice.result.now ≡ held_rows T.1.placed (position_at T.0 c.args.number).held = c.as_slice.ensures.value ∙ c.in_ok-held.ensures.value T.1.placed (position_at T.0 c.args.number) at in
-    let A = asks d v c.args.positions.now T.0 c.args.number T.1 c.requires.number.0 c.requires.number.1 c.args.ssas.now c.args.area.now c.as_slice.result.now are c.in-Some.ensures.divided in (
+    let P : HasParts c.args.ssas.now c.as_slice.result.now (parts_held d.types c.args.ssas.now c.as_slice.result.now c.args.area.now) c.in-Ok.news
+    = parts_of c.args.ssas.now c.as_slice.result.now (parts_held d.types c.args.ssas.now c.as_slice.result.now c.args.area.now) c.in-Ok.news (sym c.rewrites_of.ensures ∙ c.in-Ok.is) in
+    let A = asks d v c.args.positions.now T.0 c.args.number T.1 c.requires.number.0 c.requires.number.1 c.args.ssas.now c.args.area.now c.as_slice.result.now are c.in-Ok.news P in (
       T.0,
       A.rewrites,
       represented d v c.held_rows.new.volume c.args.positions.now T.0 c.in_ok-held.ensures.read sound T.1,
-      subst (λ (ns : List NewBytes). AreRewritesOf d.types T.1.placed c.args.area.now ns A.rewrites) (sym (c.as_slice-2.ensures.value ∙ c.in-Some.ensures.value)) A.are,
+      subst (λ (ns : List NewBytes). AreRewritesOf d.types T.1.placed c.args.area.now ns A.rewrites) (sym c.as_slice-2.ensures.value) A.are,
     )
 
 pub returns-clause-done : goal.returns-clause-done
@@ -53,9 +79,11 @@ returns-clause-done g c = if-ok c.replace_held.result c.replace_held.ensures.don
     let same = after-read d v mid c.in_ok-held.ensures.read sound in
     let at = own_position d v c.args.positions.now st c.args.number R c.requires.number.0 c.requires.number.1 sound c.index-positions-number.result in
     let are : c.as_slice.result.now ≡ held_rows R.placed (position_at st c.args.number).held = c.as_slice.ensures.value ∙ c.in_ok-held.ensures.value R.placed (position_at st c.args.number) at in
-    let A = asks d v c.args.positions.now st c.args.number R c.requires.number.0 c.requires.number.1 c.args.ssas.now c.args.area.now c.as_slice.result.now are c.in-Some.ensures.divided in
+    let P : HasParts c.args.ssas.now c.as_slice.result.now (parts_held d.types c.args.ssas.now c.as_slice.result.now c.args.area.now) c.in-Ok.news
+    = parts_of c.args.ssas.now c.as_slice.result.now (parts_held d.types c.args.ssas.now c.as_slice.result.now c.args.area.now) c.in-Ok.news (sym c.rewrites_of.ensures ∙ c.in-Ok.is) in
+    let A = asks d v c.args.positions.now st c.args.number R c.requires.number.0 c.requires.number.1 c.args.ssas.now c.args.area.now c.as_slice.result.now are c.in-Ok.news P in
     answered_as d v st c.args.number (replace_rows (record { types = d.types; pcb = pcb }) st.rows (position_at st c.args.number) A.rewrites)
     (replace_effect d pcb c.args.number c.args.ssas.now c.args.area.now st) o w new (A.effect pcb)
     (answered_before d v mid st c.args.number (replace_rows (record { types = d.types; pcb = pcb }) st.rows (position_at st c.args.number) A.rewrites) o w new same.image
     (done pcb st A.rewrites same.sound (represented d v mid c.args.positions.now st c.in_ok-held.ensures.read sound R)
-    (subst (λ (ns : List NewBytes). AreRewritesOf d.types R.placed c.args.area.now ns A.rewrites) (sym (c.as_slice-2.ensures.value ∙ c.in-Some.ensures.value)) A.are))))
+    (subst (λ (ns : List NewBytes). AreRewritesOf d.types R.placed c.args.area.now ns A.rewrites) (sym c.as_slice-2.ensures.value) A.are))))

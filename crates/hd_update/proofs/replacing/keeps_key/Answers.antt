@@ -15,7 +15,7 @@ returns-clause-value g c f w sound holds of =
     c.eq.ensures
     ∙ ap₂ bytes_eq
     (c.key_of.ensures.value
-    ∙ ap (λ (b : List ℕ). key_of d.types (record { code = n.code; bytes = b })) (c.bytes_in.ensures l.long ∙ ap (λ (x : List ℕ). bytes_of d.types (code_of x) x) (sym l.stored))
+    ∙ ap (λ (b : List ℕ). key_of d.types (record { code = n.code; bytes = b })) (c.bytes_in.ensures l.whole ∙ ap (λ (x : List ℕ). bytes_of d.types (code_of x) x) (sym l.stored))
     ∙ ap (key_of d.types) (row_is d v f c.args.area.now n w holds of))
     (c.key_of-new.ensures.value
     ∙ ap (λ (b : List ℕ). key_of d.types (record { code = n.code; bytes = b })) (c.part_for.ensures of.within)

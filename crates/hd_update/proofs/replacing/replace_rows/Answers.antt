@@ -1,4 +1,4 @@
-use Rattle.std.proofs.Common.{ℕ, ◌+◌, ◌∷◌, [], ◌++◌, List, take, Ok, IsTrue, sym, subst}
+use Rattle.std.proofs.Common.{ℕ, ◌+◌, ◌∷◌, [], ◌++◌, List, length, take, Ok, IsTrue, sym, ap, subst, ◌∙◌}
 use Rattle.std.specs.Prelude.{slice_index_or}
 use Rattle.std.proofs.lemmas.List.{take_more}
 use Rattle.hd_calls.specs.Moves.{Rewrite}
@@ -9,11 +9,11 @@ use Rattle.hd_image.specs.Records.{links_of}
 use Rattle.hd_forest.specs.Updates.{IsReplaced}
 use Rattle.hd_update.specs.declared.rewrites.NewBytes.{NewBytes}
 use Rattle.hd_update.specs.Replacing.{AreReplaced}
-use Rattle.hd_update.proofs.Rewritten.{next_of, none_left, replacing_begins, may_replace, one_replaced, kept_by}
+use Rattle.hd_update.proofs.Rewritten.{next_of, none_left, replacing_begins, may_replace, as_long, one_replaced, kept_by}
 use Rattle.hd_update.proofs.replacing.replace_rows.Goals as goal
 
 abbrev none : NewBytes
-none = record { address = 0; code = 0; start = 0 }
+none = record { address = 0; code = 0; start = 0; length = 0 }
 
 pub loop-place-init : goal.loop-place-init
 loop-place-init g c = record {
@@ -38,6 +38,18 @@ replace-requires-clause-there g c sound =
     let R = c.loop-place.invariant.done T.0 T.1 first T.2 T.3 T.4 in
     subst (CanReplace d.types (links_of d.types c.loop-place.volume) n.address) (sym (c.part_for.ensures N.of.within))
     (may_replace d c.args.volume.now c.loop-place.volume T.0 area (take c.loop-place.place c.args.news.now) (take c.loop-place.place T.1) n N.rewrite N.of (kept_by d.types T.0 T.1 c.loop-place.place N.rewrite N.left T.4) R)
+
+pub replace-requires-clause-long : goal.replace-requires-clause-long
+replace-requires-clause-long g c sound =
+    let d = c.args.dbd.now in
+    let area : List ℕ = c.args.area.now in
+    let first : IsTrue c.args.volume.now.is_sound = sound-back {A = ℕ} (Ok 0) c.args.volume.now.is_sound c.loop-place.volume.is_sound c.loop-place.invariant.call.sound sound in
+    let T = c.requires.there first in
+    let n : NewBytes = slice_index_or c.args.news.now c.loop-place.place none in
+    let N = next_of d.types T.0 area c.args.news.now T.1 c.loop-place.place none T.3 c.loop-place-test.true in
+    let R = c.loop-place.invariant.done T.0 T.1 first T.2 T.3 T.4 in
+    ap (λ (xs : List ℕ). length xs) (c.part_for.ensures N.of.within)
+    ∙ as_long d c.args.volume.now c.loop-place.volume T.0 area (take c.loop-place.place c.args.news.now) (take c.loop-place.place T.1) n N.rewrite N.of (kept_by d.types T.0 T.1 c.loop-place.place N.rewrite N.left T.4) R
 
 pub loop-place-preserved : goal.loop-place-preserved
 loop-place-preserved g c = record {

@@ -1,16 +1,19 @@
-use Rattle.std.proofs.Common.{◌≡◌, ◌⊎◌, ℕ, ◌+◌, ◌≤◌, List, ◌∷◌, length, IsTrue, sym, ap₂, subst, ◌∙◌, arith, inl, inr}
-use Rattle.std.proofs.lemmas.List.{length-map}
+use Rattle.std.proofs.Common.{◌≡◌, ◌⊎◌, ℕ, ◌+◌, ◌<◌, ◌≤◌, List, ◌∷◌, length, drop, IsTrue, sym, ap, subst, ◌∙◌, arith, inl, inr}
 use Rattle.hd_dbd.specs.Rows.{key_of}
+use Rattle.hd_dbd.specs.Segment.{Segment}
 use Rattle.hd_dbd.proofs.StoredSizes.{block_size-bounds}
+use Rattle.hd_calls.specs.Runs.{LacksRoom, has_root, stored_sizes}
 use Rattle.hd_calls.specs.Ssas.{Ssa}
-use Rattle.hd_levels.specs.Needs.{entry_growth}
-use Rattle.hd_volume.specs.Rooms.{HasHole}
+use Rattle.hd_levels.specs.Needs.{entry_growth, IsHighest}
+use Rattle.hd_volume.specs.Rooms.{spare, HasHole}
 use Rattle.hd_volume.proofs.JoinLemmas.{if-err-map}
 use Rattle.hd_keeping.specs.Rooms.{HasRootRoomFor}
+use Rattle.hd_keeping.specs.VolumeImages.{images_of}
 use Rattle.hd_keeping.proofs.Rooms.{one-volume}
-use Rattle.hd_update.specs.NewRows.{codes_of}
+use Rattle.hd_update.specs.NewRows.{codes_of, rows_in, IsRoomMade}
 use Rattle.hd_update.proofs.NewRows.{on_ok_sound}
-use Rattle.hd_update.proofs.RoomOf.{many, room_of, memory_of, root_room_of, first_row_code, root_rows_full, below_rows_full, hole_kept}
+use Rattle.hd_update.proofs.PathRows.{first_and_others}
+use Rattle.hd_update.proofs.RoomOf.{room_of, memory_of, root_room_of, no_rows_room, no_root_rows_room, hole_kept}
 use Rattle.hd_update.proofs.room.make_room.Goals as goal
 
 pub make_room_below-requires-clause-small : goal.make_room_below-requires-clause-small
@@ -31,29 +34,36 @@ returns-then-code-eq1-clause-made g c =
     let v = c.args.volume.now in
     let w = c.make_root_room.new.volume in
     let ssas : List Ssa = c.args.ssas.now in
-    let count : ℕ = length ssas in
-    let total : ℕ = c.sizes_of-total.result in
+    let first : Segment = record { code = c.code-code.result; bytes = c.front.result.now } in
+    let rest : List Segment = rows_in d.types (drop 1 (codes_of ssas)) (drop (length c.front.result.now) c.args.area.now) in
+    let F = first_and_others d.types ssas c.args.area.now c.index-ssas-0.result c.code-code.result c.front.result.now c.requires.some c.index-ssas-0.is c.code-code.ensures c.front.ensures c.requires.long in
+    let many : length ssas ≡ length (first ∷ rest) = sym F.many ∙ ap (λ (rows : List Segment). length rows) F.rows in
+    let large : c.sizes_of-total.result ≡ stored_sizes d.types (first ∷ rest) = c.sizes_of-total.ensures ∙ ap (stored_sizes d.types) F.rows in
     let made = c.make_root_room.ensures in
-    on_ok_sound c.make_root_room.result v.is_sound w.is_sound made.call.sound made.room made.memory (λ same room memory sound row rows are bytes.
-    (let code : row.code ≡ c.code-code.result = first_row_code ssas c.index-ssas-0.result c.code-code.result row rows are c.index-ssas-0.is c.code-code.ensures in
-    let now : IsTrue w.is_sound = subst IsTrue (sym same) sound in
-    let key : c.key_of-key.result.now ≡ key_of d.types row
-    = c.key_of-key.ensures.value ∙ ap₂ (λ (k : ℕ) (bs : List ℕ). key_of d.types (record { code = k; bytes = bs })) (sym code) (sym bytes) in
-    let count_is : count ≡ length (codes_of ssas) = sym (length-map ssas (λ (a : Ssa). a.code)) in
-    let all : count ≡ length (row ∷ rows) = many d v (codes_of ssas) (row ∷ rows) are count total count_is c.sizes_of-total.ensures in
-    record {
+    on_ok_sound c.make_root_room.result v.is_sound w.is_sound made.call.sound made.room made.memory (λ same room memory sound.
+    (let now : IsTrue w.is_sound = subst IsTrue (sym same) sound in
+    subst (IsRoomMade d w) (sym F.rows)
+    (record {
       root = λ one. (
-        (one-volume d v w (record { image = made.image now; size = made.call.size; sizes = made.call.sizes })).2 (key_of d.types row) (row ∷ rows)
-            (subst (λ (k : List ℕ). HasRootRoomFor d v k (row ∷ rows)) key
-            (root_room_of d v (codes_of ssas) (row ∷ rows) are count total count_is c.sizes_of-total.ensures c.key_of-key.result.now (room sound))),
-        subst (λ (n : ℕ). n + entry_growth w ≤ w.room) all (memory sound),
+        (one-volume d v w (record { image = made.image now; size = made.call.size; sizes = made.call.sizes })).2 (key_of d.types first) (first ∷ rest)
+            (subst (λ (k : List ℕ). HasRootRoomFor d v k (first ∷ rest)) c.key_of-key.ensures.value
+            (root_room_of d v (first ∷ rest) (length ssas) c.sizes_of-total.result many large c.key_of-key.result.now (room sound))),
+        subst (λ (n : ℕ). n + entry_growth w ≤ w.room) many (memory sound),
       );
-      below = λ other. absurd (other (code ∙ c.if-code-eq1.true));
-    }))
+      below = λ other. absurd (other c.if-code-eq1.true);
+    })))
 
 pub returns-then-code-eq1-clause-full : goal.returns-then-code-eq1-clause-full
-returns-then-code-eq1-clause-full g c = if-err-map c.make_root_room.result (λ e full rows are is sound some.
-    root_rows_full c.args.dbd.now c.args.volume.now c.args.ssas.now rows c.index-ssas-0.result c.code-code.result c.requires.some are c.index-ssas-0.is c.code-code.ensures c.if-code-eq1.true (some sound).1.volume (full is sound))
+returns-then-code-eq1-clause-full g c = if-err-map c.make_root_room.result (λ e full is sound some.
+    (let d = c.args.dbd.now in
+    let v = c.args.volume.now in
+    let ssas : List Ssa = c.args.ssas.now in
+    let first : Segment = record { code = c.code-code.result; bytes = c.front.result.now } in
+    let rest : List Segment = rows_in d.types (drop 1 (codes_of ssas)) (drop (length c.front.result.now) c.args.area.now) in
+    let F = first_and_others d.types ssas c.args.area.now c.index-ssas-0.result c.code-code.result c.front.result.now c.requires.some c.index-ssas-0.is c.code-code.ensures c.front.ensures c.requires.long in
+    let many : length ssas ≡ length (first ∷ rest) = sym F.many ∙ ap (λ (rows : List Segment). length rows) F.rows in
+    subst (λ (rows : List Segment). LacksRoom (images_of d) d.types v.image rows (has_root rows)) (sym F.rows)
+    (no_root_rows_room d v first rest (some sound).1.volume c.if-code-eq1.true (subst (λ (n : ℕ). (spare v < n + entry_growth v) ⊎ IsHighest v) many (full is sound)))))
     c.make_root_room.ensures.full
 
 pub returns-else-code-eq1-clause-made : goal.returns-else-code-eq1-clause-made
@@ -62,25 +72,34 @@ returns-else-code-eq1-clause-made g c =
     let v = c.args.volume.now in
     let w = c.make_room_below.new.volume in
     let ssas : List Ssa = c.args.ssas.now in
-    let count : ℕ = length ssas in
     let total : ℕ = c.sizes_of-total.result in
+    let first : Segment = record { code = c.code-code.result; bytes = c.front.result.now } in
+    let rest : List Segment = rows_in d.types (drop 1 (codes_of ssas)) (drop (length c.front.result.now) c.args.area.now) in
+    let F = first_and_others d.types ssas c.args.area.now c.index-ssas-0.result c.code-code.result c.front.result.now c.requires.some c.index-ssas-0.is c.code-code.ensures c.front.ensures c.requires.long in
+    let many : length ssas ≡ length (first ∷ rest) = sym F.many ∙ ap (λ (rows : List Segment). length rows) F.rows in
+    let large : total ≡ stored_sizes d.types (first ∷ rest) = c.sizes_of-total.ensures ∙ ap (stored_sizes d.types) F.rows in
     let made = c.make_room_below.ensures in
-    on_ok_sound c.make_room_below.result v.is_sound w.is_sound made.call.sound made.room made.memory (λ same room memory sound row rows are bytes.
-    (let code : row.code ≡ c.code-code.result = first_row_code ssas c.index-ssas-0.result c.code-code.result row rows are c.index-ssas-0.is c.code-code.ensures in
-    let now : IsTrue w.is_sound = subst IsTrue (sym same) sound in
-    let count_is : count ≡ length (codes_of ssas) = sym (length-map ssas (λ (a : Ssa). a.code)) in
-    let kept : (count ≤ w.room) ⊎ HasHole w total = elim (memory sound) [ inl blocks ↦ inl blocks | inr hole ↦ inr (hole_kept v w total (made.image now) made.call.size made.call.sizes hole) ] in
-    record {
-      root = λ one. absurd (c.if-code-eq1.false (sym code ∙ one));
+    on_ok_sound c.make_room_below.result v.is_sound w.is_sound made.call.sound made.room made.memory (λ same room memory sound.
+    (let now : IsTrue w.is_sound = subst IsTrue (sym same) sound in
+    let kept : (length ssas ≤ w.room) ⊎ HasHole w total = elim (memory sound) [ inl blocks ↦ inl blocks | inr hole ↦ inr (hole_kept v w total (made.image now) made.call.size made.call.sizes hole) ] in
+    subst (IsRoomMade d w) (sym F.rows)
+    (record {
+      root = λ one. absurd (c.if-code-eq1.false one);
       below = λ other. (
-        (one-volume d v w (record { image = made.image now; size = made.call.size; sizes = made.call.sizes })).1 (row ∷ rows)
-            (room_of d v (codes_of ssas) (row ∷ rows) are count total count_is c.sizes_of-total.ensures (room sound)),
-        memory_of d w (codes_of ssas) (row ∷ rows) are count total count_is c.sizes_of-total.ensures kept,
+        (one-volume d v w (record { image = made.image now; size = made.call.size; sizes = made.call.sizes })).1 (first ∷ rest)
+            (room_of d v (first ∷ rest) (length ssas) total many large (room sound)),
+        memory_of d w (first ∷ rest) (length ssas) total many large kept,
       );
-    }))
+    })))
 
 pub returns-else-code-eq1-clause-full : goal.returns-else-code-eq1-clause-full
-returns-else-code-eq1-clause-full g c = if-err-map c.make_room_below.result (λ e full rows are is sound some.
-    (let none = full is sound in
-    below_rows_full c.args.dbd.now c.args.volume.now c.args.ssas.now rows c.sizes_of-total.result are c.sizes_of-total.ensures (some sound).1.volume none.0 none.1))
+returns-else-code-eq1-clause-full g c = if-err-map c.make_room_below.result (λ e full is sound some.
+    (let d = c.args.dbd.now in
+    let v = c.args.volume.now in
+    let ssas : List Ssa = c.args.ssas.now in
+    let rows : List Segment = rows_in d.types (codes_of ssas) c.args.area.now in
+    let F = first_and_others d.types ssas c.args.area.now c.index-ssas-0.result c.code-code.result c.front.result.now c.requires.some c.index-ssas-0.is c.code-code.ensures c.front.ensures c.requires.long in
+    let none = full is sound in
+    no_rows_room d v rows (some sound).1.volume (let many : length rows ≡ length ssas = F.many in omega (arith, many, none.0))
+    (λ hole. none.1 (subst (HasHole v) (sym c.sizes_of-total.ensures) hole))))
     c.make_room_below.ensures.full

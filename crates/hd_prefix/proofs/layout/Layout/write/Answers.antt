@@ -21,4 +21,4 @@ returns-in-Some-clause-set c =
     on_some (place_of types code c.args.pointer) c.in-Some.place (IsPointerSet types code c.args.pointer c.args.address c.args.segment.now c.write_u32.new.bytes)
     is
     (pointer_set types code c.args.pointer c.in-Some.place c.args.address c.args.segment.now c.write_u32.new.bytes is c.in-Some.ensures.inside c.in-Some.ensures.apart
-    c.requires c.write_u32.ensures.changes c.write_u32.ensures.reads_back)
+    c.write_u32.ensures.changes c.write_u32.ensures.reads_back)
