@@ -1,5 +1,5 @@
 -- A segment that is put into a database's volume.
-use Rattle.std.proofs.Common.{◌≡◌, ◌≢◌, ℕ, ◌<◌, ◌/◌, List, Bool, true, false, not, ◌&&◌, ◌||◌, ◌==◌, subst, inl, inr, refl, sym, ap, ap₂, ◌∙◌, Option, Some, arith, ne_eqb}
+use Rattle.std.proofs.Common.{◌≡◌, ◌≢◌, ℕ, ◌<◌, ◌/◌, List, Bool, true, false, not, ◌&&◌, ◌||◌, ◌==◌, subst, inl, inr, refl, sym, ap, ap₂, ◌∙◌, Option, Some, None, arith, ne_eqb}
 use Rattle.std.specs.Prelude.{is_some}
 use Rattle.std.proofs.Math.Nat.{zero-div}
 use Rattle.std.proofs.lemmas.Bool.{cases_eq, eq-eqb, cond-true, cond-false, false≢true}
@@ -7,7 +7,7 @@ use Rattle.hd_dbd.specs.Types.{SegmentType}
 use Rattle.hd_volume.specs.Headers.{Header}
 use Rattle.hd_volume.specs.Volumes.{VolumeState}
 use Rattle.hd_volume.specs.Records.{find}
-use Rattle.hd_volume.specs.Calls.{IsPut}
+use Rattle.hd_volume.specs.Calls.{IsPut, IsRewritten}
 use Rattle.hd_volume.proofs.MapLemmas.{find-some}
 use Rattle.hd_prefix.specs.declared.pointer.Pointer.{Pointer}
 use Rattle.hd_prefix.specs.declared.pointer.Pointer.TheVariants.{TwinForward, TwinBackward, FirstChild, LastChild}
@@ -15,7 +15,7 @@ use Rattle.hd_links.specs.Links.{Links}
 use Rattle.hd_links.specs.Changes.{AgreeAt}
 use Rattle.hd_image.specs.Records.{links_of}
 use Rattle.hd_image.specs.Pointing.{with_record, without_record}
-use Rattle.hd_image.specs.Laws.{PuttingAddsARecord, FreeingTakesARecord}
+use Rattle.hd_image.specs.Laws.{PuttingAddsARecord, FreeingTakesARecord, RewritingReplacesARecord}
 use Rattle.hd_image.proofs.SameRecords.{SameRoots, SameAt, pointer_in, same-agree, found-same}
 use Rattle.hd_image.proofs.Saying.{SaysOf, found-says}
 use Rattle.hd_image.proofs.Writes.{roots-stay}
@@ -104,29 +104,61 @@ less-elsewhere m m2 a b ne same = record {
     pointers (FirstChild t) = same.pointers (FirstChild t)
     pointers (LastChild t) = same.pointers (LastChild t)
 
--- and there is none
-less-there : (types : List SegmentType) (m m2 : Links) (a : ℕ) → m2.here a ≡ false → AgreeAt types (without_record m a) m2 a
-less-there types m m2 a gone =
-    let none : (without_record m a).here a ≡ false = ap (λ x. not x && m.here a) (eq-eqb a a refl) in
-    record {
-      here = gone ∙ sym none;
-      code = λ h. no (sym none ∙ h);
-      bytes = λ s. no (sym none ∙ s.here);
-      delete_byte = λ s. no (sym none ∙ s.here);
-      forward = λ s. no (sym none ∙ s.here);
-      backward = λ s _. no (sym none ∙ s.here);
-      first_child = λ t h _. no (sym none ∙ h);
-      last_child = λ t h _ _. no (sym none ∙ h);
-    }
+-- no record stands at an address
+none-there : (types : List SegmentType) (m m2 : Links) (a : ℕ) → m.here a ≡ false → m2.here a ≡ false → AgreeAt types m m2 a
+none-there types m m2 a none gone = record {
+  here = gone ∙ sym none;
+  code = λ h. no (sym none ∙ h);
+  bytes = λ s. no (sym none ∙ s.here);
+  delete_byte = λ s. no (sym none ∙ s.here);
+  forward = λ s. no (sym none ∙ s.here);
+  backward = λ s _. no (sym none ∙ s.here);
+  first_child = λ t h _. no (sym none ∙ h);
+  last_child = λ t h _ _. no (sym none ∙ h);
+}
   where
     no : {A : Type 0} → false ≡ true → A
     no e = absurd (false≢true e)
 
+-- where a segment was freed there is none
+less-here : (m : Links) (a : ℕ) → (without_record m a).here a ≡ false
+less-here m a = ap (λ x. not x && m.here a) (eq-eqb a a refl)
+
+-- where no segment is found, there is no record behind the header
+not-here : (types : List SegmentType) (v : VolumeState) (a : ℕ) → 0 < a → find v a ≡ None → (links_of types v).here a ≡ false
+not-here types v a some gone = ap₂ (λ (x : Bool) (o : Option (List ℕ)). x || is_some o) (ne_eqb a 0 (λ e. omega arith)) gone
+
 pub freeing-takes : FreeingTakesARecord
 freeing-takes types v w a s freed b = elim (cases_eq b a) [
   | inl e ↦ subst (λ (k : ℕ). AgreeAt types (without_record (links_of types v) a) (links_of types w) k) (sym e)
-      (less-there types (links_of types v) (links_of types w) a
-      (ap₂ (λ (x : Bool) (o : Option (List ℕ)). x || is_some o) (ne_eqb a 0 (λ e. let some = s.some in omega arith)) freed.gone))
+      (none-there types (without_record (links_of types v) a) (links_of types w) a (less-here (links_of types v) a) (not-here types w a s.some freed.gone))
   | inr ne ↦ same-agree types (without_record (links_of types v) a) (links_of types w) b
       (less-elsewhere (links_of types v) (links_of types w) a b ne (found-same types v w b (λ _. roots-stay v w freed.header) (freed.others b ne)))
 ]
+
+-- ---- a segment that is replaced
+
+rewritten-roots : (v w : VolumeState) (a to : ℕ) (s : List ℕ) → IsRewritten v a to s w → SameRoots v w
+rewritten-roots v w a to s r = record { first = ap (λ (h : Header). h.first_root) r.grows.header; last = ap (λ (h : Header). h.last_root) r.grows.header }
+
+pub rewriting-replaces : RewritingReplacesARecord
+rewriting-replaces types v w a to s segment r =
+    let m : Links = links_of types v in
+    let m2 : Links = links_of types w in
+    let less : Links = without_record m a in
+    let later : 0 < to = found-later w to s r.is in (
+      later,
+      λ b. elim (cases_eq b to) [
+        | inl e ↦ subst (λ (k : ℕ). AgreeAt types (with_record types less to s) m2 k) (sym e)
+            (same-agree types (with_record types less to s) m2 to (more-there types less m2 to s (found-says types w to s later r.is)))
+        | inr other ↦ elim (cases_eq b a) [
+          | inl e ↦
+              let moved : a ≢ to = λ f. other (e ∙ f) in
+              let none : (with_record types less to s).here a ≡ false = ap (λ (x : Bool). x || less.here a) (ne_eqb a to moved) ∙ less-here m a in
+              subst (λ (k : ℕ). AgreeAt types (with_record types less to s) m2 k) (sym e)
+              (none-there types (with_record types less to s) m2 a none (not-here types w a segment.some (r.gone (λ f. moved (sym f))).1))
+          | inr ne ↦ same-agree types (with_record types less to s) m2 b
+              (more-elsewhere types less m2 to s b other (less-elsewhere m m2 a b ne (found-same types v w b (λ _. rewritten-roots v w a to s r) (r.others b ne other))))
+        ]
+      ],
+    )

@@ -12,7 +12,7 @@ use Rattle.hd_dbd.specs.Forest.{Forest, empty}
 use Rattle.hd_volume.specs.Headers.{header_of}
 use Rattle.hd_volume.specs.Volumes.{VolumeState}
 use Rattle.hd_volume.specs.Creates.{IsCreated}
-use Rattle.hd_volume.specs.Calls.{IsWritten, IsFreed, IsPut, HasNewHeader, KeepsSegments}
+use Rattle.hd_volume.specs.Calls.{IsWritten, IsFreed, IsPut, IsRewritten, HasNewHeader, KeepsSegments}
 use Rattle.hd_prefix.specs.declared.pointer.Pointer.{Pointer}
 use Rattle.hd_prefix.specs.declared.pointer.Pointer.TheVariants.{FirstChild, LastChild}
 use Rattle.hd_prefix.specs.Pointers.{place_of}
@@ -65,6 +65,12 @@ abbrev pub FreeingTakesARecord : Type 0
 FreeingTakesARecord =
     (types : List SegmentType) (v w : VolumeState) (a : ℕ) → IsSegment (links_of types v) a → IsFreed v a w
     → Agree types (without_record (links_of types v) a) (links_of types w)
+
+-- A segment that was replaced, in its place or elsewhere, is one record less and one more.
+abbrev pub RewritingReplacesARecord : Type 0
+RewritingReplacesARecord =
+    (types : List SegmentType) (v w : VolumeState) (a to : ℕ) (segment : List ℕ) → IsSegment (links_of types v) a → IsRewritten v a to segment w
+    → (0 < to) × Agree types (with_record types (without_record (links_of types v) a) to segment) (links_of types w)
 
 -- A row's bytes that were written behind a segment's prefix, as many as it has, change its bytes alone.
 abbrev pub WritingReplacesBytes : Type 0

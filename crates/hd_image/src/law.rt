@@ -1,4 +1,4 @@
-ghost use Rattle.hd_image.specs.Laws.{RecordsAreALinkGraph, RecordsStay, WritingSetsAPointer, SettingARootSetsAPointer, PuttingAddsARecord, FreeingTakesARecord, NewVolumesAreEmpty, WritingReplacesBytes, AVolumeHoldsOneForest, RowsOfAVolumeAreFew};
+ghost use Rattle.hd_image.specs.Laws.{RecordsAreALinkGraph, RecordsStay, WritingSetsAPointer, SettingARootSetsAPointer, PuttingAddsARecord, FreeingTakesARecord, RewritingReplacesARecord, NewVolumesAreEmpty, WritingReplacesBytes, AVolumeHoldsOneForest, RowsOfAVolumeAreFew};
 ghost use Rattle.hd_image.specs.Exact.{RightVolumesHoldAForest, HeldForestsHaveNoFault};
 
 /// The records of a database's volume are a link graph, whose addresses are places in its image.
@@ -34,6 +34,11 @@ pub fn law_putting_adds_a_record()
 /// A segment that was freed is one record less.
 pub fn law_freeing_takes_a_record()
     ensures { FreeingTakesARecord }
+{}
+
+/// A segment that was replaced, in its place or elsewhere, is one record less and one more.
+pub fn law_rewriting_replaces_a_record()
+    ensures { RewritingReplacesARecord }
 {}
 
 /// A new volume holds the forest without rows.

@@ -39,7 +39,7 @@ fn names_the_first_fault_of_a_dbd_source(rt: HostRuntime) {
         (
             2,
             b"         SEGM  NAME=COURSE,PARENT=0,BYTES=(8,4),POINTER=TWINBWD",
-            "DBD refused: line 3, G3",
+            "DBD refused: type 1, B5",
         ),
         (
             2,

@@ -6,4 +6,5 @@ pub mod Writes
 pub mod Numbers
 pub mod Listed
 pub mod NewSegments
+pub mod OtherBytes
 pub mod WorkedSegments

@@ -1,5 +1,5 @@
 -- The fields of a stored segment of the type of code c: its prefix, its own bytes, and padding.
-use Rattle.std.specs.Prelude.{◌≡◌, ◌≢◌, ℕ, ◌+◌, ◌-◌, ◌≤◌, List, ◌∷◌, ◌++◌, length, drop, replicate, slice_index}
+use Rattle.std.specs.Prelude.{◌≡◌, ◌≢◌, ℕ, ◌+◌, ◌-◌, ◌≤◌, List, ◌∷◌, ◌++◌, length, take, drop, replicate, slice_index}
 use Rattle.std.specs.Option.{option_map_or}
 use Rattle.hd_bytes.specs.Ranges.{bytes_at}
 use Rattle.hd_bytes.specs.Numbers.{number_at}
@@ -39,6 +39,11 @@ abbrev pub new_segment : List SegmentType → ℕ → List ℕ → List ℕ
 new_segment types c bytes =
     c ∷ (replicate (prefix_length types c - 1) 0 ++ (bytes ++ replicate (size_with types c (length bytes) - prefix_length types c - length bytes) 0))
 
+-- A stored segment with other bytes of its own: its prefix, these bytes, and 0 up to the size that they take.
+abbrev pub segment_with : List SegmentType → ℕ → List ℕ → List ℕ → List ℕ
+segment_with types c segment bytes =
+    take (prefix_length types c) segment ++ (bytes ++ replicate (size_with types c (length bytes) - prefix_length types c - length bytes) 0)
+
 -- A pointer of a segment was written: it is the address, and the code, the delete byte, every other pointer and the
 -- segment's own bytes are as they were.
 pub record IsPointerSet (types : List SegmentType) (c : ℕ) (pointer : Pointer) (address : ℕ) (old new : List ℕ) : Type 0 where
@@ -52,6 +57,14 @@ pub record IsPointerSet (types : List SegmentType) (c : ℕ) (pointer : Pointer)
 -- A segment's own bytes were written: the code, the delete byte and every pointer are as they were.
 pub record IsBytesSet (types : List SegmentType) (c : ℕ) (bytes old new : List ℕ) : Type 0 where
   pub len : length new ≡ length old
+  pub is : bytes_of types c new ≡ bytes
+  pub code : code_of new ≡ code_of old
+  pub delete_byte : delete_byte_of new ≡ delete_byte_of old
+  pub pointers : (pointer : Pointer) → pointer_of types c pointer new ≡ pointer_of types c pointer old
+
+-- A segment has other bytes of its own, and the size that they take: the code, the delete byte and every pointer are as they were.
+pub record IsSegmentWith (types : List SegmentType) (c : ℕ) (bytes old new : List ℕ) : Type 0 where
+  pub size : length new ≡ size_with types c (length bytes)
   pub is : bytes_of types c new ≡ bytes
   pub code : code_of new ≡ code_of old
   pub delete_byte : delete_byte_of new ≡ delete_byte_of old

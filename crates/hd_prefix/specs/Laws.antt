@@ -13,7 +13,7 @@ use Rattle.hd_prefix.specs.declared.pointer.Pointer.{Pointer}
 use Rattle.hd_prefix.specs.declared.pointer.Pointer.TheVariants.{TwinForward, TwinBackward, FirstChild, LastChild}
 use Rattle.hd_prefix.specs.Pointers.{is_child, place_of, IsApart}
 use Rattle.hd_dbd.specs.Prefixes.{is_backward_kept, is_last_kept}
-use Rattle.hd_prefix.specs.Fields.{pointer_of, new_segment, IsPointerSet, IsBytesSet, IsNewSegment}
+use Rattle.hd_prefix.specs.Fields.{pointer_of, new_segment, segment_with, IsPointerSet, IsBytesSet, IsNewSegment, IsSegmentWith}
 
 -- Each pointer stands inside the prefix, behind code and delete byte.
 abbrev pub PointersStandInside : Type 0
@@ -47,6 +47,13 @@ NewSegmentsAreRows =
     (block_size : ℕ) (frspc : FreeSpace) (types : List SegmentType) (c : ℕ) (bytes : List ℕ)
     → IsTrue (well_formed block_size frspc types) → row_fits types (record { code = c; bytes = bytes }) ≡ true
     → IsNewSegment types c bytes (new_segment types c bytes)
+
+-- A stored segment with other bytes has these, the size that they take, and every other field as it was.
+abbrev pub SegmentsTakeOtherBytes : Type 0
+SegmentsTakeOtherBytes =
+    (block_size : ℕ) (frspc : FreeSpace) (types : List SegmentType) (c : ℕ) (bytes segment : List ℕ)
+    → IsTrue (well_formed block_size frspc types) → row_fits types (record { code = c; bytes = bytes }) ≡ true → prefix_length types c ≤ length segment
+    → IsSegmentWith types c bytes segment (segment_with types c segment bytes)
 
 -- The child types of a type are those that its list of children has.
 abbrev pub ChildrenAreListed : Type 0

@@ -1,4 +1,4 @@
-ghost use Rattle.hd_prefix.specs.Laws.{PointersStandInside, PointersStandApart, PointersAreSet, BytesAreSet, NewSegmentsAreRows, ChildrenAreListed, PointersAreNumbers};
+ghost use Rattle.hd_prefix.specs.Laws.{PointersStandInside, PointersStandApart, PointersAreSet, BytesAreSet, NewSegmentsAreRows, SegmentsTakeOtherBytes, ChildrenAreListed, PointersAreNumbers};
 
 /// Each pointer stands inside the prefix, behind code and delete byte.
 pub fn law_pointers_stand_inside()
@@ -23,6 +23,11 @@ pub fn law_bytes_are_set()
 /// A row that is made a stored segment has the size that it takes, and its fields are the row's and 0.
 pub fn law_new_segments_are_rows()
     ensures { NewSegmentsAreRows }
+{}
+
+/// A stored segment with other bytes has these, the size that they take, and every other field as it was.
+pub fn law_segments_take_other_bytes()
+    ensures { SegmentsTakeOtherBytes }
 {}
 
 /// The child types of a type are those that its list of children has.

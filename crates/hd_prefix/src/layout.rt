@@ -5,7 +5,7 @@ ghost use Rattle.hd_dbd.specs.Rows.{row_fits};
 ghost use Rattle.hd_prefix.specs.declared.pointer.Pointer.{Pointer};
 ghost use Rattle.hd_prefix.specs.declared.pointer.Pointer.TheVariants.{TwinForward, TwinBackward, FirstChild, LastChild};
 ghost use Rattle.hd_prefix.specs.Pointers.{is_child, place_of, IsApart};
-ghost use Rattle.hd_prefix.specs.Fields.{pointer_of, bytes_of, IsWhole, new_segment, IsPointerSet};
+ghost use Rattle.hd_prefix.specs.Fields.{pointer_of, bytes_of, IsWhole, new_segment, segment_with, IsPointerSet};
 
 use crate::pointer::Pointer;
 use hd_bytes::{read_u32, write_bytes, write_u32};
@@ -105,6 +105,19 @@ impl<'a> Layout<'a> {
         segment.fill(0);
         segment[0] = self.code;
         write_bytes(segment, prefix, bytes);
+    }
+
+    /// Makes room of the size that a row of the type takes a stored segment of the type with the row's bytes in place of its own.
+    pub fn write_with(&self, room: &mut [u8], segment: &[u8], bytes: &[u8])
+        requires prefix { prefix_length (types_of self.now) (type_code self.now) ≤ length segment.now }
+        requires fits { row_fits (types_of self.now) (record { code = type_code self.now; bytes = bytes.now }) ≡ true }
+        requires size { length room.old ≡ size_with (types_of self.now) (type_code self.now) (length bytes.now) }
+        ensures { room.new ≡ segment_with (types_of self.now) (type_code self.now) segment.now bytes.now }
+    {
+        let prefix = self.prefix_length() as usize;
+        room.fill(0);
+        write_bytes(room, 0, &segment[..prefix]);
+        write_bytes(room, prefix, bytes);
     }
 
     fn forward_place(&self) -> Option<u16>

@@ -24,9 +24,10 @@ use Rattle.hd_block.specs.Sizes.{size_at}
 -- ---- in its place
 
 -- a segment that was replaced in its place, in its block alone
-in-place : (v w : VolumeState) (a : ℕ) (bs : List ℕ) → AreSame v w → IsFormatted v → HasSegment v a 0 → IsFormatted w → find w a ≡ Some bs → KeepsOthers v w a
-    → ChangesBlock v.size (a / v.size) v.image w.image → header_of w.image ≡ header_of v.image → spare w ≡ spare v → KeepsHoles v w → IsRewritten v a a bs w
-in-place v w a bs s f h fw is others c header spares holes =
+in-place : (v w : VolumeState) (a : ℕ) (bs : List ℕ) → AreSame v w → IsFormatted v → (h : HasSegment v a 0) → length bs ≤ length h.bytes → IsFormatted w
+    → find w a ≡ Some bs → KeepsOthers v w a → ChangesBlock v.size (a / v.size) v.image w.image → header_of w.image ≡ header_of v.image → spare w ≡ spare v
+    → KeepsHoles v w → IsRewritten v a a bs w
+in-place v w a bs s f h fits fw is others c header spares holes =
     let there = find-there v a 0 f h in
     let count : (header_of w.image).count ≡ (header_of v.image).count = ap (λ (x : Header). x.count) header in
     record {
@@ -34,7 +35,9 @@ in-place v w a bs s f h fw is others c header spares holes =
       is = is;
       gone = λ other. absurd (other refl);
       stays = λ t e l. refl;
+      moves = λ t e l. let one : t ≡ h.bytes = (let z : Some t ≡ Some h.bytes = sym e ∙ h.is in cc) in let same = ap length one in absurd (omega arith);
       others = λ b x y. others b x;
+      data_block = subst (λ (z : ℕ). IsKind w 1 (a / z)) s.size (find-there w a 0 fw (record { bytes = bs; is = is; long = omega arith }));
       index = λ n k. block-seen s n ∙ c.others n k.there (λ e.
           let one : kind_of (block_at v n) ≡ 1 = ap (λ (i : ℕ). kind_of (block_at v i)) e ∙ there.kind_is in
           let two : kind_of (block_at v n) ≡ 2 = k.kind_is in
@@ -44,7 +47,7 @@ in-place v w a bs s f h fw is others c header spares holes =
       grows = record { count = inl count; header = header ∙ (let e : header_of v.image ≡ record (header_of v.image) { count = (header_of w.image).count } = rw count refl in e) };
       spares = omega arith;
       in_hole = λ x. spares;
-      in_place = λ x. spares;
+      in_place = λ x. (spares, holes);
       holes = λ n more x. let y = holes n x in let large = y.large in record { block = y.block; is_data = y.is_data; large = omega arith };
     }
 
@@ -68,7 +71,7 @@ module _ (v w : VolumeState) (a : ℕ) (bs : List ℕ) (f : IsFormatted v) (h : 
   pub same-rewrites : IsRewritten v a a bs w
   same-rewrites =
       let x : IsWritten v a 0 bs w = write-writes v w a 0 bs f long sized least c placed in
-      in-place v w a bs c.same f h x.formatted (x.is h.bytes h.is ∙ ap (λ (z : List ℕ). Some z) (all h.bytes h.is)) x.others x.block x.header x.spares x.holes
+      in-place v w a bs c.same f h (omega arith) x.formatted (x.is h.bytes h.is ∙ ap (λ (z : List ℕ). Some z) (all h.bytes h.is)) x.others x.block x.header x.spares x.holes
 
   pub same-space : (space : Space) → IsSpaceOf v.size v.sizes v.image space → IsSpaceOf v.size v.sizes w.image space
   same-space = write-space v w a 0 bs f long sized least c placed
@@ -95,7 +98,7 @@ module _ (v w : VolumeState) (a : ℕ) (bs : List ℕ) (f : IsFormatted v) (h : 
       let header = keeps-header c f.header least later in
       let positive : 0 < v.size = omega arith in
       let is : kind_of (block_of v.size w.image (a / v.size)) ≡ 1 = shrunk.kind ∙ found.kind in
-      in-place v w a bs c.same f h (keeps-formatted c f.header f header shrunk.kind (λ _. record { extents = shrunk.extents; divides = shrunk.divides; whole = shrunk.whole }))
+      in-place v w a bs c.same f h (omega arith) (keeps-formatted c f.header f header shrunk.kind (λ _. record { extents = shrunk.extents; divides = shrunk.divides; whole = shrunk.whole }))
       (find-new v w c.same a later is ∙ shrunk.is) (keeps-others v w a c f.header positive later found.kind is shrunk.others) c.change header (keeps-spare c f.header header shrunk.kind)
       (keeps-holes c f.header shrunk.kind (λ _. shrunk.holes))
 
@@ -144,6 +147,8 @@ move-rewrites {u} {v} {w} a to bs f h shorter size s p r =
       is = r.others to apart ∙ p.is;
       gone = λ x. (p.was, r.gone);
       stays = λ t e l. let less = shorter t e in absurd (omega arith);
+      moves = λ t e l. apart;
+      data_block = subst (λ (z : ℕ). IsKind w 1 (a / z)) size (record { there = (let t = held.there in let l = r.block.len in rw s.size (omega arith)); later = held.later; kind_is = r.kinds (a / v.size) ∙ held.kind_is });
       others = λ b x y. r.others b x ∙ p.others b y;
       index = λ n k.
           let first = p.index n k in
@@ -176,6 +181,8 @@ rewritten-after {v} {w} {u} o a to bs r =
       is = r.is;
       gone = λ x. let g = r.gone x in (sym (one-segments o to) ∙ g.0, g.1);
       stays = λ t e l. r.stays t (one-segments o a ∙ e) l;
+      moves = λ t e l. r.moves t (one-segments o a ∙ e) l;
+      data_block = subst (λ (n : ℕ). IsKind u 1 n) from r.data_block;
       others = λ b x y. r.others b x y ∙ one-segments o b;
       index = λ n k. r.index n (one-kind o 2 n k) ∙ one-block o n;
       place = λ x.
@@ -196,6 +203,6 @@ rewritten-after {v} {w} {u} o a to bs r =
       };
       spares = let e = one-spare o in let x = r.spares in omega arith;
       in_hole = λ h. r.in_hole (one-holes o (length bs) h) ∙ one-spare o;
-      in_place = λ e. r.in_place e ∙ one-spare o;
+      in_place = λ e. let p = r.in_place e in (p.0 ∙ one-spare o, λ n h. p.1 n (one-holes o n h));
       holes = λ n more h. r.holes n more (one-holes o n h);
     }

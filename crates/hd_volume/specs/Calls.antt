@@ -103,14 +103,16 @@ pub record IsRewritten (old : VolumeState) (address to : ℕ) (bytes : List ℕ)
   pub is : find new to ≡ Some bytes
   pub gone : to ≢ address → (find old to ≡ None) × (find new address ≡ None)
   pub stays : (s : List ℕ) → find old address ≡ Some s → length bytes ≤ length s → to ≡ address
+  pub moves : (s : List ℕ) → find old address ≡ Some s → length s < length bytes → to ≢ address
   pub others : (b : ℕ) → b ≢ address → b ≢ to → find new b ≡ find old b
   pub index : KeepsIndex old new
+  pub data_block : IsKind new 1 (address / old.size)
   pub place : to ≢ address → IsKind old 1 (to / old.size) ⊎ IsKind old 3 (to / old.size) ⊎ (to / old.size ≡ (header_of old.image).count)
   pub blocks : (m : ℕ) → HasBlock old.size old.image m → 0 < m → m ≢ address / old.size → m ≢ to / old.size → block_at new m ≡ block_at old m
   pub grows : MayGrow old (to / old.size) new
   pub spares : spare old ≤ spare new + 1
   pub in_hole : HasHole old (length bytes) → spare new ≡ spare old
-  pub in_place : to ≡ address → spare new ≡ spare old
+  pub in_place : to ≡ address → (spare new ≡ spare old) × KeepsHoles old new
   pub holes : (n : ℕ) → length bytes < n → HasHole old n → HasHole new (n - length bytes)
 
 -- Block n, which was free or is new, is an index block of a level; its count and its next block are 0.
