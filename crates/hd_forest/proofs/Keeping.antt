@@ -1,5 +1,5 @@
 -- Steps that leave the blocks of a volume as they are.
-use Rattle.std.proofs.Common.{◌≡◌, ◌≢◌, ℕ, ◌+◌, ◌*◌, ◌/◌, ◌<◌, ◌≤◌, List, length, refl, sym, ap, subst, ◌∙◌, arith, inl, inr, Some}
+use Rattle.std.proofs.Common.{◌≡◌, ◌≢◌, ◌⊎◌, ℕ, ◌+◌, ◌*◌, ◌/◌, ◌<◌, ◌≤◌, List, length, refl, sym, ap, subst, ◌∙◌, arith, inl, inr, Some}
 use Rattle.std.proofs.lemmas.Bool.{cases_lt, cases_eq}
 use Rattle.std.proofs.lemmas.Nat.{row_fits}
 use Rattle.std.proofs.Math.Nat.{mul-le-mul_right}
@@ -9,7 +9,7 @@ use Rattle.hd_volume.specs.Headers.{Header, header_of}
 use Rattle.hd_volume.specs.Volumes.{VolumeState, block_at, kind_of, IsKind, IsFormatted, HasKinds}
 use Rattle.hd_volume.specs.Rooms.{HasFreeBlock}
 use Rattle.hd_volume.specs.Records.{find}
-use Rattle.hd_volume.specs.Calls.{KeepsIndex, IsWritten, IsFreed, IsPut, HasNewHeader}
+use Rattle.hd_volume.specs.Calls.{KeepsIndex, MayGrow, IsWritten, IsFreed, IsPut, IsRewritten, HasNewHeader}
 use Rattle.hd_volume.proofs.MapLemmas.{find-there, kind-there}
 use Rattle.hd_volume.proofs.JoinLemmas.{AreOne, one-spare, one-holes}
 use Rattle.hd_forest.specs.Updates.{KeepsTheRest}
@@ -133,21 +133,19 @@ keeps-rooted v w first last size h =
       holes = h.holes;
     }
 
--- ---- a segment that is put
+-- ---- a segment that is put, or that is put in the place of another
 
-module _ {v w : VolumeState} {a : ℕ} {s : List ℕ} (f : IsFormatted v) (size : w.size ≡ v.size) (some : 0 < v.size) (h : IsPut v a s w) where
-  -- its block is a data block
-  put-data : IsKind w 1 (a / v.size)
-  put-data = subst (λ (z : ℕ). IsKind w 1 (a / z)) size (find-there w a 0 h.formatted (record { bytes = s; is = h.is; long = omega arith }))
-
+-- Blocks n and k are data blocks now, all others stay, and the volume may have grown by block n.
+module _ {v w : VolumeState} {n k : ℕ} (f : IsFormatted v) (g : IsFormatted w) (size : w.size ≡ v.size) (some : 0 < v.size) (one : IsKind w 1 n) (other : IsKind w 1 k)
+    (blocks : (m : ℕ) → HasBlock v.size v.image m → 0 < m → m ≢ k → m ≢ n → block_at w m ≡ block_at v m) (grows : MayGrow v n w) where
   whole-new : length w.image ≡ (header_of w.image).count * v.size
-  whole-new = h.formatted.header.whole ∙ ap (λ (z : ℕ). (header_of w.image).count * z) size
+  whole-new = g.header.whole ∙ ap (λ (z : ℕ). (header_of w.image).count * z) size
 
   -- the volume is no shorter
-  put-longer : length v.image ≤ length w.image
-  put-longer = elim h.grows.count [
-    | inl e ↦ longer _ _ _ _ f.header.whole whole-new (ap (λ (k : ℕ). k * v.size) e)
-    | inr e ↦ longer-by _ _ _ _ v.size f.header.whole whole-new (ap (λ (k : ℕ). k * v.size) e.1)
+  no-shorter : length v.image ≤ length w.image
+  no-shorter = elim grows.count [
+    | inl e ↦ longer _ _ _ _ f.header.whole whole-new (ap (λ (c : ℕ). c * v.size) e)
+    | inr e ↦ longer-by _ _ _ _ v.size f.header.whole whole-new (ap (λ (c : ℕ). c * v.size) e.1)
   ]
     where
       longer : (l m p q : ℕ) → l ≡ p → m ≡ q → q ≡ p → l ≤ m
@@ -156,17 +154,17 @@ module _ {v w : VolumeState} {a : ℕ} {s : List ℕ} (f : IsFormatted v) (size 
       longer-by : (l m c q z : ℕ) → l ≡ c * z → m ≡ q → q ≡ (c + 1) * z → l ≤ m
       longer-by l m c q z e g i = omega arith
 
-  -- each other block was there
-  put-before : (m : ℕ) → HasBlock w.size w.image m → m ≢ a / v.size → HasBlock v.size v.image m
-  put-before m there other = elim (cases_lt m (header_of v.image).count) [
+  -- each block but n was there
+  there-before : (m : ℕ) → HasBlock w.size w.image m → m ≢ n → HasBlock v.size v.image m
+  there-before m there ne = elim (cases_lt m (header_of v.image).count) [
     | inl low ↦
         (let fits : m * v.size + v.size ≤ (header_of v.image).count * v.size = row_fits m v.size (header_of v.image).count v.size low (omega arith) in
         let whole = f.header.whole in omega arith)
-    | inr high ↦ absurd (elim h.grows.count [
+    | inr high ↦ absurd (elim grows.count [
       | inl e ↦ past m (header_of w.image).count v.size (length w.image) some (omega arith) whole-new (rw size at there)
       | inr e ↦ elim (cases_eq m (header_of v.image).count) [
-        | inl last ↦ other (last ∙ sym e.0)
-        | inr ne ↦ past m (header_of w.image).count v.size (length w.image) some (let more = e.1 in omega arith) whole-new (rw size at there)
+        | inl last ↦ ne (last ∙ sym e.0)
+        | inr less ↦ past m (header_of w.image).count v.size (length w.image) some (let more = e.1 in omega arith) whole-new (rw size at there)
       ]
     ])
   ]
@@ -174,45 +172,73 @@ module _ {v w : VolumeState} {a : ℕ} {s : List ℕ} (f : IsFormatted v) (size 
       past : (m c z l : ℕ) → 0 < z → c ≤ m → l ≡ c * z → m * z + z ≤ l → ⊥
       past m c z l pos low e there = let more : c * z ≤ m * z = mul-le-mul_right z low in omega arith
 
-  put-on : (k m : ℕ) → m ≢ a / v.size → IsKind v k m → IsKind w k m
-  put-on k m other is = record {
-    there = (let t = is.there in let l = put-longer in rw size (omega arith));
+  stays-on : (i m : ℕ) → m ≢ k → m ≢ n → IsKind v i m → IsKind w i m
+  stays-on i m x y is = record {
+    there = (let t = is.there in let l = no-shorter in rw size (omega arith));
     later = is.later;
-    kind_is = ap kind_of (h.blocks m is.there is.later other) ∙ is.kind_is;
+    kind_is = ap kind_of (blocks m is.there is.later x y) ∙ is.kind_is;
   }
 
-  put-back : (k m : ℕ) → m ≢ a / v.size → IsKind w k m → IsKind v k m
-  put-back k m other is =
-      let t = put-before m is.there other in
-      record { there = t; later = is.later; kind_is = sym (ap kind_of (h.blocks m t is.later other)) ∙ is.kind_is }
+  was-before : (i m : ℕ) → m ≢ k → m ≢ n → IsKind w i m → IsKind v i m
+  was-before i m x y is =
+      let t = there-before m is.there y in
+      record { there = t; later = is.later; kind_is = sym (ap kind_of (blocks m t is.later x y)) ∙ is.kind_is }
 
-  put-kinds : HasKinds v → HasKinds w
-  put-kinds kinds m there later = elim (cases_eq m (a / v.size)) [
-    | inl e ↦ inl (subst (λ (k : ℕ). IsKind w 1 k) (sym e) put-data)
-    | inr other ↦ elim (kinds m (put-before m there other) later) [
-      | inl k ↦ inl (put-on 1 m other k)
-      | inr (inl k) ↦ inr (inl (put-on 2 m other k))
-      | inr (inr k) ↦ inr (inr (put-on 3 m other k))
+  -- a block is one of the two, or it stays
+  is-data : (m : ℕ) → IsKind w 1 m ⊎ ((m ≢ k) × (m ≢ n))
+  is-data m = elim (cases_eq m n) [
+    | inl e ↦ inl (subst (λ (i : ℕ). IsKind w 1 i) (sym e) one)
+    | inr y ↦ elim (cases_eq m k) [
+      | inl e ↦ inl (subst (λ (i : ℕ). IsKind w 1 i) (sym e) other)
+      | inr x ↦ inr (x, y)
     ]
   ]
 
-  pub rest-put : KeepsTheRest v w
-  rest-put = record {
-    index = h.index;
-    others = λ m is. elim (cases_eq m (a / v.size)) [
-      | inl e ↦ absurd (let one : kind_of (block_at w m) ≡ 1 = ap (λ (k : ℕ). kind_of (block_at w k)) e ∙ put-data.kind_is in let two = is.kind_is in omega arith)
-      | inr other ↦ put-back 2 m other is
+  stay-kinds : HasKinds v → HasKinds w
+  stay-kinds kinds m there later = elim (is-data m) [
+    | inl own ↦ inl own
+    | inr apart ↦ elim (kinds m (there-before m there apart.1) later) [
+      | inl is ↦ inl (stays-on 1 m apart.0 apart.1 is)
+      | inr (inl is) ↦ inr (inl (stays-on 2 m apart.0 apart.1 is))
+      | inr (inr is) ↦ inr (inr (stays-on 3 m apart.0 apart.1 is))
+    ]
+  ]
+
+  rest-of : KeepsIndex v w → KeepsTheRest v w
+  rest-of index = record {
+    index = index;
+    others = λ m is. elim (is-data m) [
+      | inl own ↦ absurd (let first = own.kind_is in let second = is.kind_is in omega arith)
+      | inr apart ↦ was-before 2 m apart.0 apart.1 is
     ];
-    data_blocks = λ m is. elim (cases_eq m (a / v.size)) [
-      | inl e ↦ subst (λ (k : ℕ). IsKind w 1 k) (sym e) put-data
-      | inr other ↦ put-on 1 m other is
-    ];
-    header = h.grows.header ∙ ap (λ (x : Header). record (header_of v.image) { count = (header_of w.image).count; first_root = x.first_root; last_root = x.last_root }) (sym h.grows.header);
-    kinds = put-kinds;
+    data_blocks = λ m is. elim (is-data m) [ inl own ↦ own | inr apart ↦ stays-on 1 m apart.0 apart.1 is ];
+    header = grows.header ∙ ap (λ (x : Header). record (header_of v.image) { count = (header_of w.image).count; first_root = x.first_root; last_root = x.last_root }) (sym grows.header);
+    kinds = stay-kinds;
   }
 
+-- the volume has grown by one block at most
+count-grown : {v w : VolumeState} (n : ℕ) → MayGrow v n w → ((header_of v.image).count ≤ (header_of w.image).count) × ((header_of w.image).count ≤ (header_of v.image).count + 1)
+count-grown n grows = elim grows.count [ inl e ↦ (omega arith, omega arith) | inr e ↦ (let more = e.1 in (omega arith, omega arith)) ]
+
+-- the block of a segment is a data block
+block-of : (v w : VolumeState) (a : ℕ) (s : List ℕ) → IsFormatted w → w.size ≡ v.size → find w a ≡ Some s → IsKind w 1 (a / v.size)
+block-of v w a s g size is = subst (λ (z : ℕ). IsKind w 1 (a / z)) size (find-there w a 0 g (record { bytes = s; is = is; long = omega arith }))
+
+module _ {v w : VolumeState} {a : ℕ} {s : List ℕ} (f : IsFormatted v) (size : w.size ≡ v.size) (some : 0 < v.size) (h : IsPut v a s w) where
+  pub rest-put : KeepsTheRest v w
+  rest-put =
+      let own = block-of v w a s h.formatted size h.is in
+      rest-of f h.formatted size some own own (λ m there later x y. h.blocks m there later y) h.grows h.index
+
   pub count-put : ((header_of v.image).count ≤ (header_of w.image).count) × ((header_of w.image).count ≤ (header_of v.image).count + 1)
-  count-put = elim h.grows.count [ inl e ↦ (omega arith, omega arith) | inr e ↦ (let more = e.1 in (omega arith, omega arith)) ]
+  count-put = count-grown (a / v.size) h.grows
+
+module _ {v w : VolumeState} {a to : ℕ} {s : List ℕ} (f : IsFormatted v) (size : w.size ≡ v.size) (some : 0 < v.size) (h : IsRewritten v a to s w) where
+  pub rest-rewritten : KeepsTheRest v w
+  rest-rewritten = rest-of f h.formatted size some (block-of v w to s h.formatted size h.is) h.data_block h.blocks h.grows h.index
+
+  pub count-rewritten : ((header_of v.image).count ≤ (header_of w.image).count) × ((header_of w.image).count ≤ (header_of v.image).count + 1)
+  count-rewritten = count-grown (to / v.size) h.grows
 
 -- ---- a call that reads
 

@@ -11,7 +11,7 @@ use std::io;
 use std::marker::Brand;
 use std::sync::ledger::{Blank, Ledger};
 
-/// Links a row; `Area` says that it has not its type's length.
+/// Links a row; `Area` says that it does not fit its type.
 pub fn link_row<S: BlockStore>(
     volume: &mut Volume<S>,
     dbd: &Dbd,
@@ -25,12 +25,10 @@ pub fn link_row<S: BlockStore>(
     ensures unsound { volume.new.is_sound ≡ false }
     ensures sizes { volume.new.sizes ≡ volume.old.sizes }
 {
-    match dbd.type_of(code) {
-        Some(own) if bytes.len() == own.length as usize => {
-            link(volume, dbd, parent, after, code, bytes)
-        }
-        _ => Err(Refused::Area),
+    if !dbd.row_fits(code, bytes) {
+        return Err(Refused::Area);
     }
+    link(volume, dbd, parent, after, code, bytes)
 }
 
 /// Links the sample sequence row by row, and says the address of its book.

@@ -20,7 +20,7 @@ fn store_after_a_failure(alloc: Global) -> FuseStore<MemStore>
     store
 }
 
-/// Links a row; `Area` says that it has not its type's length.
+/// Links a row; `Area` says that it does not fit its type.
 fn link_row<S: BlockStore>(
     volume: &mut Volume<S>,
     dbd: &Dbd,
@@ -35,15 +35,13 @@ fn link_row<S: BlockStore>(
     ensures size { volume.new.size ≡ volume.old.size }
     ensures sizes { volume.new.sizes ≡ volume.old.sizes }
 {
-    match dbd.type_of(code) {
-        Some(own) if bytes.len() == own.length as usize => {
-            link(volume, dbd, parent, after, code, bytes)
-        }
-        _ => Err(Refused::Area),
+    if !dbd.row_fits(code, bytes) {
+        return Err(Refused::Area);
     }
+    link(volume, dbd, parent, after, code, bytes)
 }
 
-/// Enters a root into the index; `Area` says that it has not its type's length.
+/// Enters a root into the index; `Area` says that it does not fit its type.
 fn enter<S: BlockStore>(
     volume: &mut Volume<S>,
     dbd: &Dbd,
@@ -56,12 +54,10 @@ fn enter<S: BlockStore>(
     ensures size { volume.new.size ≡ volume.old.size }
     ensures sizes { volume.new.sizes ≡ volume.old.sizes }
 {
-    match dbd.type_of(1) {
-        Some(own) if bytes.len() == own.length as usize => {
-            insert(volume, dbd, root_key(dbd, bytes), address)
-        }
-        _ => Err(Refused::Area),
+    if !dbd.row_fits(1, bytes) {
+        return Err(Refused::Area);
     }
+    insert(volume, dbd, root_key(dbd, bytes), address)
 }
 
 /// Links the sample, and says the addresses of its first root, of that one's first class, and of its second root.

@@ -109,7 +109,7 @@ fn standing<S: BlockStore>(
     Ok(position)
 }
 
-/// The place of a row below a parent; `Area` says that it has not its type's length.
+/// The place of a row below a parent; `Area` says that it does not fit its type.
 fn place<S: BlockStore>(
     volume: &mut Volume<S>,
     dbd: &Dbd,
@@ -123,12 +123,10 @@ fn place<S: BlockStore>(
     ensures unsound { volume.new.is_sound ≡ false }
     ensures sizes { volume.new.sizes ≡ volume.old.sizes }
 {
-    match dbd.type_of(code) {
-        Some(own) if bytes.len() == own.length as usize => {
-            place_below(volume, dbd, parent, position, rule, code, bytes)
-        }
-        _ => Err(Refused::Area),
+    if !dbd.row_fits(code, bytes) {
+        return Err(Refused::Area);
     }
+    place_below(volume, dbd, parent, position, rule, code, bytes)
 }
 
 /// Whether the place of a row below the root of a number is the one that a case says.

@@ -63,7 +63,7 @@ pub fn row(front: &[u8]) -> [u8; 70] {
     bytes
 }
 
-/// Puts in a row behind its twin; `Area` says that it has not its type's length.
+/// Puts in a row behind its twin; `Area` says that it does not fit its type.
 fn put<S: BlockStore>(
     volume: &mut Volume<S>,
     dbd: &Dbd,
@@ -79,12 +79,10 @@ fn put<S: BlockStore>(
     ensures size { volume.new.size ≡ volume.old.size }
     ensures sizes { volume.new.sizes ≡ volume.old.sizes }
 {
-    match dbd.type_of(code) {
-        Some(own) if bytes.len() == own.length as usize => {
-            put_row(volume, dbd, parent, after, code, bytes)
-        }
-        _ => Err(Refused::Area),
+    if !dbd.row_fits(code, bytes) {
+        return Err(Refused::Area);
     }
+    put_row(volume, dbd, parent, after, code, bytes)
 }
 
 /// Puts in four twins, one behind the other, and says their addresses, from 1 on.
