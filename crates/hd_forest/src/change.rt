@@ -93,7 +93,7 @@ fn twin_behind<S: BlockStore>(
 }
 
 /// Names a new leaf between its twins: by the one before it and the one behind it, or by the parent where there is none.
-fn name_leaf<S: BlockStore>(
+pub fn name_leaf<S: BlockStore>(
     volume: &mut Volume<S>,
     dbd: &Dbd,
     parent: u32,

@@ -14,10 +14,10 @@ use hd_prefix::{Layout, Pointer};
 use hd_volume::{BlockStore, Volume};
 
 /// The most bytes of a block, and so of a segment.
-const LARGEST_BLOCK: usize = 32768;
+pub const LARGEST_BLOCK: usize = 32768;
 
 /// The most bytes of a segment that is laid out in little room, so that a load of small ones does not clear a largest block for each.
-const SMALL_SEGMENT: usize = 512;
+pub const SMALL_SEGMENT: usize = 512;
 
 /// Puts a new leaf, which names its twins and has no child, and says its address.
 pub fn put_leaf<S: BlockStore>(
@@ -135,7 +135,7 @@ fn lay_out(dbd: &Dbd, segment: &mut [u8], after: u32, behind: u32, code: u8, byt
 }
 
 /// The bytes that a row takes as a segment, at most those of a block.
-fn size_of(dbd: &Dbd, code: u8, bytes: &[u8]) -> usize
+pub fn size_of(dbd: &Dbd, code: u8, bytes: &[u8]) -> usize
     requires fits { row_fits dbd.now.types (record { code = code; bytes = bytes.now }) ≡ true }
     ensures value { result ≡ size_with dbd.now.types code (length bytes.now) }
     ensures bound { result ≤ 32768 }
