@@ -24,3 +24,5 @@ pub mod Taken
 pub mod Unlinks
 pub mod UnlinkSpan
 pub mod TwinsBelow
+pub mod SegmentsSet
+pub mod RowsSet

@@ -101,7 +101,7 @@ place-put types m n h t y a s none agree p = place-stays types m n h t y (λ b h
 
 -- ---- after the leaf was named
 
-graph-up : (types : List SegmentType) (n k : ℕ) (m : Links) → n ≤ k → IsLinkGraph types n m → IsLinkGraph types k m
+pub graph-up : (types : List SegmentType) (n k : ℕ) (m : Links) → n ≤ k → IsLinkGraph types n m → IsLinkGraph types k m
 graph-up types n k m up g = record { header = g.header; header_code = g.header_code; fits = g.fits; below = λ a s. (let low = g.below a s in omega arith) }
 
 module _ (d : Database) (u v w x : VolumeState) (h y behind a : ℕ) (row : Segment) (fit : IsDatabase d) (of : IsVolumeOf d u) (forest : HasForest d u)

@@ -47,6 +47,7 @@ pub record IsRoomTaken (d : Database) (old : VolumeState) (a to need : ℕ) (new
   pub some : 0 < to
   pub free : to ≢ a → (links_of d.types old).here to ≡ false
   pub stays : need ≤ size_with d.types ((links_of d.types old).code a) (length ((links_of d.types old).bytes a)) → to ≡ a
+  pub moves : size_with d.types ((links_of d.types old).code a) (length ((links_of d.types old).bytes a)) < need → to ≢ a
   pub rest : KeepsTheRest old new
   pub count : (header_of old.image).count ≤ (header_of new.image).count
   pub grows : (header_of new.image).count ≤ (header_of old.image).count + 1

@@ -50,11 +50,11 @@ pub fn rewrite<S: BlockStore>(
     ensures refusal { OnlyRoomOrDevice result }
     ensures room { IsTrue volume.new.is_sound → volume.old.room ≤ volume.new.room + 1 }
 {
-    if outgrows(volume, dbd, tip_of(path), code, bytes)? {
-        move_row(volume, dbd, path, code, bytes)
-    } else {
-        set_segment(volume, dbd, tip_of(path), code, bytes)
+    let address = tip_of(path);
+    if outgrows(volume, dbd, address, code, bytes)? {
+        return move_row(volume, dbd, path, code, bytes);
     }
+    set_segment(volume, dbd, address, code, bytes)
 }
 
 /// Gives the last row of a path bytes for which its place has no room, and mends what named it.
@@ -211,6 +211,7 @@ fn lay_out_over<S: BlockStore>(
     requires typed { IsTrue volume.old.is_sound → (links_of dbd.now.types volume.old).code address ≡ code }
     ensures read { IsRead volume.old result volume.new }
     ensures row { OnOk result (IsRowSegment dbd.now.types (record { code = code; bytes = bytes.now }) room.new) }
+    ensures fit { OnOk result (IsTrue (well_formed dbd.now.block_size dbd.now.frspc dbd.now.types)) }
     ensures laid { OnOk result (IsTrue volume.old.is_sound → IsSegmentWith dbd.now.types code bytes.now (stored_at volume.old address) room.new) }
     ensures refusal { OnlyDevice result }
 {

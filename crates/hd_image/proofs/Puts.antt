@@ -125,7 +125,7 @@ less-here : (m : Links) (a : ℕ) → (without_record m a).here a ≡ false
 less-here m a = ap (λ x. not x && m.here a) (eq-eqb a a refl)
 
 -- where no segment is found, there is no record behind the header
-not-here : (types : List SegmentType) (v : VolumeState) (a : ℕ) → 0 < a → find v a ≡ None → (links_of types v).here a ≡ false
+pub not-here : (types : List SegmentType) (v : VolumeState) (a : ℕ) → 0 < a → find v a ≡ None → (links_of types v).here a ≡ false
 not-here types v a some gone = ap₂ (λ (x : Bool) (o : Option (List ℕ)). x || is_some o) (ne_eqb a 0 (λ e. omega arith)) gone
 
 pub freeing-takes : FreeingTakesARecord

@@ -74,11 +74,11 @@ module _ (types : List SegmentType) (O : Ordered types) (bound : ℕ) (m : Links
   -- ---- what names a
 
   -- a parent names no segment of its own type
-  no_parent : (l : ℕ) → m.code l ≡ m.code a → h ≡ l → ⊥
+  pub no_parent : (l : ℕ) → m.code l ≡ m.code a → h ≡ l → ⊥
   no_parent l e q = not_own types O (m.code h) (m.code a) C.typed (sym e ∙ ap m.code (sym q))
 
   -- a is not its own twin
-  no_ring : m.forward a ≡ a → ⊥
+  pub no_ring : m.forward a ≡ a → ⊥
   no_ring e = (faulty types O bound m G).ring a 0 V.there (subst (λ x. 0 < x) (sym e) C.some, e) f H
 
   parent_before : y ≡ 0 → Precedes types m h a
