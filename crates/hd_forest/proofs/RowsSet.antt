@@ -74,7 +74,7 @@ row-set-after d u v w path row to fv before same r = record {
 -- ---- in its place
 
 -- the same address
-at-own : (k : Bool) (a x : ℕ) → (k ≡ true → x ≡ a) → cond k a x ≡ x
+pub at-own : (k : Bool) (a x : ℕ) → (k ≡ true → x ≡ a) → cond k a x ≡ x
 at-own true a x is = sym (is refl)
 at-own false a x is = refl
 
@@ -83,7 +83,7 @@ own-here true h there = sym (there refl)
 own-here false true there = refl
 own-here false false there = refl
 
-address-same : (a : ℕ) (f : Forest Placed) → with_address a a f ≡ f
+pub address-same : (a : ℕ) (f : Forest Placed) → with_address a a f ≡ f
 address-same a empty = refl
 address-same a (node p below behind) =
     ap (λ (x : ℕ). node (record { address = x; segment = p.segment }) (with_address a a below) (with_address a a behind)) (at-own (p.address == a) a p.address (eqb-true p.address a))

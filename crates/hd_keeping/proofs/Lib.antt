@@ -10,3 +10,5 @@ pub mod Leaves
 pub mod NewPaths
 pub mod RowChanges
 pub mod Holes
+pub mod SetEntries
+pub mod SetRows

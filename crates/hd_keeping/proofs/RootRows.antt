@@ -170,14 +170,14 @@ module _ (d : Database) (v : VolumeState) (f : Forest Placed) (H : HoldsPlaced d
   -- ---- their entries
 
   -- an entry of the roots is that of a root
-  record RowOf (e : Entry) : Type 0 where
-    row : ℕ
-    within : row < length rows
-    root : is_root rows row ≡ true
-    address : address_at f row ≡ e.address
-    key : key_at d.types rows row ≡ e.key
+  pub record RowOf (e : Entry) : Type 0 where
+    pub row : ℕ
+    pub within : row < length rows
+    pub root : is_root rows row ≡ true
+    pub address : address_at f row ≡ e.address
+    pub key : key_at d.types rows row ≡ e.key
 
-  row-of : (e : Entry) → IsIn e es → RowOf e
+  pub row-of : (e : Entry) → IsIn e es → RowOf e
   row-of e i =
       let N = names-root d.block_size d.frspc d.types O (length v.image) m G fit nowhere f e H.records.lies.nodes F i in
       let R = A.each e.address N.0 in
@@ -194,7 +194,7 @@ module _ (d : Database) (v : VolumeState) (f : Forest Placed) (H : HoldsPlaced d
   abbrev entry-at : ℕ → Entry
   entry-at i = record { key = key_at d.types rows i; address = address_at f i }
 
-  has-entry : (i : ℕ) → i < length rows → is_root rows i ≡ true → IsIn (entry-at i) es
+  pub has-entry : (i : ℕ) → i < length rows → is_root rows i ≡ true → IsIn (entry-at i) es
   has-entry i l root =
       let a : ℕ = address_at f i in
       let same : segment_at m a ≡ row_at rows i = A.same i l in
@@ -203,7 +203,7 @@ module _ (d : Database) (v : VolumeState) (f : Forest Placed) (H : HoldsPlaced d
       subst (λ (k : List ℕ). IsIn (record { key = k; address = a }) es) (ap (key_of d.types) same)
       (each-root d.block_size d.frspc d.types O (length v.image) m G fit a nowhere f H.records.lies.nodes F (omega arith) code)
 
-  up : keys_ascend es ≡ true
+  pub up : keys_ascend es ≡ true
   up = roots-ascend d.block_size d.frspc d.types O (length v.image) m G fit nowhere f H.records.lies.nodes F
 
   -- ---- what is found

@@ -49,7 +49,7 @@ pub held-entered : HeldIsEntered
 held-entered d v f = (entered d v f, λ H. held d v f (root_entries d.types f) H refl)
 
 -- where the rest stays, entries stay
-rest-stays : (d : Database) (v w : VolumeState) (f g : Forest Placed) (es : List Entry) → HoldsWith d v f es → IsVolumeOf d w → KeepsTheRest v w → Holds d.types (links_of d.types w) g
+pub rest-stays : (d : Database) (v w : VolumeState) (f g : Forest Placed) (es : List Entry) → HoldsWith d v f es → IsVolumeOf d w → KeepsTheRest v w → Holds d.types (links_of d.types w) g
     → HoldsWith d w g es
 rest-stays d v w f g es H V R records =
     let kept = indexes-stay (root_key_length d.types) v w H.index V.formatted (V.size ∙ sym H.volume.size) R.header R.index R.others in

@@ -6,3 +6,4 @@ pub mod Rooms
 pub mod VolumeImages
 pub mod NewPaths
 pub mod RowChanges
+pub mod SetRows

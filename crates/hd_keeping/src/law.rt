@@ -3,6 +3,7 @@ ghost use Rattle.hd_keeping.specs.Laws.{ChangesBelowKeepEntries, ReplacingKeepsE
 ghost use Rattle.hd_keeping.specs.Rooms.{FirstRowsFindRoom, RoomLasts, FirstRootsFindRoom, RootEntriesFindRoom, RootRoomLasts, OneImageIsOneVolume};
 ghost use Rattle.hd_keeping.specs.VolumeImages.{VolumesHoldTheirRows, VolumesHaveTheirRoom, LackingRoomIsTheRule, VolumesFollow};
 ghost use Rattle.hd_keeping.specs.NewPaths.{LeavesTakeAChild, FirstChildrenGoInNext, PathsBeginBelowRows, PathsBeginWithRoots, PathsGoOn, PathsAreInsertions};
+ghost use Rattle.hd_keeping.specs.SetRows.{SetRowIsHeld, SetRootIsHeld, SettingBegins, SettingGoesOn, SettingFollows};
 ghost use Rattle.hd_keeping.specs.RowChanges.{RewritingBegins, RewritingGoesOn, RewritingFollows, UnlinkedSpansAreDeleted, UnlinkedRootsAreDeleted};
 
 /// Roots are the rows of the first level, the path of each is the root alone, and its key is as long as those of the index.
@@ -102,6 +103,19 @@ pub fn law_replacements_add_up()
     ensures begin { RewritingBegins }
     ensures more { RewritingGoesOn }
     ensures follows { RewritingFollows }
+{}
+
+/// A row that got other bytes, in its place or elsewhere, is held with these: a root that moved, once its key has its address in the index.
+pub fn law_set_rows_are_held()
+    ensures row { SetRowIsHeld }
+    ensures root { SetRootIsHeld }
+{}
+
+/// Rows that get other bytes one after the other are a replacement of them all, in which those that are made longer may move.
+pub fn law_settings_add_up()
+    ensures begin { SettingBegins }
+    ensures more { SettingGoesOn }
+    ensures follows { SettingFollows }
 {}
 
 /// A span that was unlinked, and for a root its key removed, is a deletion of its rows.
