@@ -1,5 +1,5 @@
 -- A segment that is found in a database's volume.
-use Rattle.std.proofs.Common.{◌≡◌, ◌≢◌, ℕ, ◌+◌, ◌-◌, ◌*◌, ◌/◌, ◌%◌, ◌<◌, ◌≤◌, List, [], length, take, drop, slice_index, Bool, true, false, ◌||◌, ◌==◌, refl, sym, ap, ap₂, subst, ◌∙◌, Option, Some, None, arith, ne_eqb, inl, inr}
+use Rattle.std.proofs.Common.{◌≡◌, ◌≢◌, ℕ, ◌+◌, ◌*◌, ◌/◌, ◌%◌, ◌<◌, ◌≤◌, List, [], length, take, drop, slice_index, Bool, true, false, ◌||◌, refl, sym, ap, ap₂, subst, ◌∙◌, Option, Some, None, arith, ne_eqb, inl, inr}
 use Rattle.std.specs.Prelude.{is_some}
 use Rattle.std.specs.Option.{option_map_or}
 use Rattle.std.proofs.Math.Nat.{mod-lt, zero-div}
@@ -7,7 +7,7 @@ use Rattle.std.proofs.lemmas.Bool.{cases_eq}
 use Rattle.std.proofs.lemmas.List.{length-drop, get_or-drop}
 use Rattle.hd_bytes.specs.Ranges.{with_bytes}
 use Rattle.hd_bytes.proofs.NumberLemmas.{changes-with}
-use Rattle.hd_bytes.proofs.BlockLemmas.{byte-at, length-bytes_at, place-of}
+use Rattle.hd_bytes.proofs.BlockLemmas.{byte-at, place-of}
 use Rattle.hd_dbd.specs.Types.{SegmentType}
 use Rattle.hd_dbd.specs.Hierarchy.{Database, type_of}
 use Rattle.hd_dbd.specs.Lengths.{least_length, own_length, length_fits}

@@ -1,5 +1,5 @@
 -- Bytes that are written into a segment of a database's volume.
-use Rattle.std.proofs.Common.{◌≡◌, ◌≢◌, ℕ, ◌+◌, ◌≤◌, ◌<◌, List, length, true, ◌==◌, refl, sym, ap, subst, ◌∙◌, Some, arith, ne_eqb, inl, inr}
+use Rattle.std.proofs.Common.{◌≡◌, ◌≢◌, ℕ, ◌<◌, List, length, true, ◌==◌, refl, sym, ap, subst, ◌∙◌, Some, arith, ne_eqb, inl, inr}
 use Rattle.std.proofs.lemmas.Bool.{cases_eq, eq-eqb, cond-true, cond-false}
 use Rattle.hd_bytes.specs.Numbers.{number_at}
 use Rattle.hd_bytes.specs.Ranges.{with_bytes}

@@ -1,6 +1,6 @@
 -- What can be wrong with a volume's header and blocks: one word for each line of the fault table, with where the fault stands
 -- and what else it names, 0 where it names nothing.
-use Rattle.std.specs.Prelude.{◌≡◌, ◌≢◌, ◌⊎◌, ℕ, ◌+◌, ◌*◌, ◌%◌, ◌<◌, ◌≤◌, List, [], ◌∷◌, length, slice_index}
+use Rattle.std.specs.Prelude.{◌≡◌, ◌≢◌, ◌⊎◌, ℕ, ◌+◌, ◌*◌, ◌%◌, ◌<◌, ◌≤◌, List, [], ◌∷◌, length}
 use Rattle.hd_block.specs.Extents.{IsFreeElement}
 use Rattle.hd_bytes.specs.Blocks.{HasBlock}
 use Rattle.hd_bytes.specs.Numbers.{number_at}

@@ -1,5 +1,5 @@
 -- A volume in which nothing is wrong, told phase by phase.
-use Rattle.std.specs.Prelude.{◌≡◌, ◌⊎◌, ℕ, ◌<◌, true, ◌==◌, slice_index}
+use Rattle.std.specs.Prelude.{◌≡◌, ◌⊎◌, ℕ, ◌<◌, true, ◌==◌}
 use Rattle.std.specs.List.{list_all, list_any}
 use Rattle.hd_dbd.specs.Hierarchy.{Database}
 use Rattle.hd_dbd.specs.Facts.{stored_sizes}

@@ -1,5 +1,5 @@
 -- The entries of roots where a row got other bytes and may have moved.
-use Rattle.std.proofs.Common.{◌≡◌, ◌≢◌, ◌⊎◌, ℕ, ◌<◌, List, [], ◌∷◌, length, true, false, ◌==◌, cond, refl, sym, ap, ap₂, subst, ◌∙◌, inl, inr, ne_eqb}
+use Rattle.std.proofs.Common.{◌≡◌, ◌≢◌, ◌⊎◌, ℕ, List, [], ◌∷◌, true, ◌==◌, refl, sym, ap, ap₂, subst, ◌∙◌, inl, inr, ne_eqb}
 use Rattle.std.specs.Prelude.{map, bytes_eq}
 use Rattle.std.proofs.lemmas.Bool.{and_parts, eq-eqb, eqb-true, cond-true, cond-false}
 use Rattle.std.proofs.lemmas.Slice.Eq.{bytes_eq-Decides}

@@ -1,8 +1,8 @@
 -- Rows that one call gives other bytes, and of which some move.
-use Rattle.std.proofs.Common.{◌≡◌, ◌≢◌, ◌⊎◌, ℕ, ◌+◌, ◌<◌, ◌≤◌, List, [], ◌∷◌, ◌++◌, length, Bool, true, false, ◌&&◌, ◌||◌, ◌==◌, cond, refl, sym, ap, subst, ◌∙◌, arith, inl, inr, ne_eqb}
-use Rattle.std.specs.Prelude.{map, filter, nat_lt, slice_index, slice_set}
+use Rattle.std.proofs.Common.{◌≡◌, ℕ, ◌+◌, ◌<◌, ◌≤◌, List, [], ◌∷◌, ◌++◌, length, Bool, true, false, ◌&&◌, ◌||◌, ◌==◌, cond, refl, sym, ap, subst, ◌∙◌, arith, inl, inr, ne_eqb}
+use Rattle.std.specs.Prelude.{map, filter, slice_index, slice_set}
 use Rattle.std.specs.List.{list_any}
-use Rattle.std.proofs.lemmas.Bool.{cases_Bool, cases_eq, cases_lt, eq-eqb, eqb-true, lt-ltb, ltb-false, cond-false, false≢true}
+use Rattle.std.proofs.lemmas.Bool.{cases_Bool, cases_eq, cases_lt, eq-eqb, eqb-true, ltb-false, cond-false, false≢true}
 use Rattle.std.proofs.lemmas.List.{length-append, length-map, length-set, get_or-set_other, get_or_past}
 use Rattle.std.proofs.lemmas.List.Elements.{filter-append}
 use Rattle.std.proofs.lemmas.List.Folds.{list_any-append}
@@ -11,16 +11,15 @@ use Rattle.hd_dbd.specs.Hierarchy.{Database}
 use Rattle.hd_dbd.specs.Segment.{Segment}
 use Rattle.hd_dbd.specs.Rows.{key_of}
 use Rattle.hd_dbd.specs.Paths.{no_row, row_at}
-use Rattle.hd_dbd.specs.Prefixes.{prefix_length, size_with}
+use Rattle.hd_dbd.specs.Prefixes.{size_with}
 use Rattle.hd_dbd.specs.Forest.{Forest, sequence}
 use Rattle.hd_calls.specs.Moves.{Rewrite, rewritten, rewrite_rows}
 use Rattle.hd_calls.specs.Runs.{is_longer, lengthens, row_with, rows_stored}
-use Rattle.hd_volume.specs.Headers.{Header, header_of}
+use Rattle.hd_volume.specs.Headers.{Header}
 use Rattle.hd_volume.specs.Volumes.{VolumeState}
-use Rattle.hd_volume.specs.Entries.{Entry}
 use Rattle.hd_volume.specs.Rooms.{spare}
 use Rattle.hd_links.specs.Links.{Links, segment_at}
-use Rattle.hd_links.specs.Placed.{Placed, Holds}
+use Rattle.hd_links.specs.Placed.{Placed}
 use Rattle.hd_links.specs.Changes.{with_bytes, CanReplace}
 use Rattle.hd_links.specs.Moves.{moved_to, with_address}
 use Rattle.hd_links.specs.Steps.{rows_of, addresses, address_at, RowsHaveAddresses}
@@ -30,7 +29,7 @@ use Rattle.hd_links.proofs.RowChanges.{bytes_in}
 use Rattle.hd_image.specs.Records.{links_of}
 use Rattle.hd_image.specs.Holding.{root_entries, HoldsPlaced}
 use Rattle.hd_forest.specs.Walks.{tip}
-use Rattle.hd_forest.specs.Rewrites.{room_of, IsRowSet}
+use Rattle.hd_forest.specs.Rewrites.{IsRowSet}
 use Rattle.hd_forest.proofs.RowsSet.{at-own}
 use Rattle.hd_index.specs.Maps as map
 use Rattle.hd_index.specs.Changes.{entries_for}

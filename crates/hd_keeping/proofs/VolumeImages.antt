@@ -6,7 +6,7 @@ use Rattle.hd_dbd.specs.Forest.{Forest}
 use Rattle.hd_calls.specs.Runs.{stored_sizes, blocks_for, AddressesFollow}
 use Rattle.hd_volume.specs.Volumes.{VolumeState}
 use Rattle.hd_volume.specs.Rooms.{spare}
-use Rattle.hd_levels.specs.Needs.{entry_growth, IsHighest}
+use Rattle.hd_levels.specs.Needs.{entry_growth}
 use Rattle.hd_volume.proofs.JoinLemmas.{AreOne, one-spare, one-holes, hole-after}
 use Rattle.hd_links.specs.Placed.{Placed}
 use Rattle.hd_links.specs.Steps.{rows_of, addresses}
