@@ -28,7 +28,7 @@ use Rattle.hd_keeping.proofs.VolumeImages.{follow}
 -- ---- replacement
 
 -- one more at the end
-rewrite-more : (ws : List Rewrite) (w : Rewrite) (rows : List Segment)
+pub rewrite-more : (ws : List Rewrite) (w : Rewrite) (rows : List Segment)
     → rewrite_rows (ws ++ w ∷ []) rows ≡ slice_set (rewrite_rows ws rows) w.number (record { code = (row_at (rewrite_rows ws rows) w.number).code; bytes = w.bytes })
 rewrite-more [] w rows = refl
 rewrite-more (v ∷ ws) w rows = rewrite-more ws w (slice_set rows v.number (record { code = (row_at rows v.number).code; bytes = v.bytes }))
