@@ -43,7 +43,7 @@ use Rattle.hd_keeping.proofs.RowChanges.{rewrite-more}
 -- ---- one row
 
 -- the forest, with the entries that it had
-with-entries : (d : Database) (v w : VolumeState) (f : Forest Placed) (path : List ℕ) (row : Segment) (to : ℕ) → HoldsPlaced d v f → IsRowSet d v path row to w
+pub with-entries : (d : Database) (v w : VolumeState) (f : Forest Placed) (path : List ℕ) (row : Segment) (to : ℕ) → HoldsPlaced d v f → IsRowSet d v path row to w
     → HoldsWith d w (with_address (tip path) to (with_bytes (tip path) row.bytes f)) (root_entries d.types f)
 with-entries d v w f path row to H I =
     rest-stays d v w f (with_address (tip path) to (with_bytes (tip path) row.bytes f)) (root_entries d.types f) (entered d v f H) I.volume I.room.rest (I.forest f H.records)
@@ -64,12 +64,12 @@ set-root-held d v w x f path row to H can I code E =
 -- ---- rows that are rewritten
 
 -- as many rows
-rewrite-length : (ws : List Rewrite) (rows : List Segment) → length (rewrite_rows ws rows) ≡ length rows
+pub rewrite-length : (ws : List Rewrite) (rows : List Segment) → length (rewrite_rows ws rows) ≡ length rows
 rewrite-length [] rows = refl
 rewrite-length (w ∷ ws) rows = rewrite-length ws (slice_set rows w.number _) ∙ length-set rows w.number _
 
 -- a row that is not among them stays
-rewrite-other : (ws : List Rewrite) (rows : List Segment) (i : ℕ) → list_any (λ z. z.number == i) ws ≡ false → row_at (rewrite_rows ws rows) i ≡ row_at rows i
+pub rewrite-other : (ws : List Rewrite) (rows : List Segment) (i : ℕ) → list_any (λ z. z.number == i) ws ≡ false → row_at (rewrite_rows ws rows) i ≡ row_at rows i
 rewrite-other [] rows i none = refl
 rewrite-other (w ∷ ws) rows i none = elim (cases_Bool (w.number == i)) [
   | inl e ↦ absurd (let is : (true || list_any (λ z. z.number == i) ws) ≡ false = ap (λ (k : Bool). k || list_any (λ z. z.number == i) ws) (sym e) ∙ none in false≢true (sym is))
@@ -92,7 +92,7 @@ pub setting-begins : SettingBegins
 setting-begins d v f H = record { held = H; holds = H; rows = refl; places = λ i _. refl; largest = refl; spares = omega arith }
 
 -- fewer bytes take no more room
-no-more-room : (types : List SegmentType) (c n k : ℕ) → n ≤ k → size_with types c n ≤ size_with types c k
+pub no-more-room : (types : List SegmentType) (c n k : ℕ) → n ≤ k → size_with types c n ≤ size_with types c k
 no-more-room types c n k low = omega arith
 
 module _ (d : Database) (v w x : VolumeState) (f g : Forest Placed) (ws : List Rewrite) (i : ℕ) (path : List ℕ) (row : Segment) (to : ℕ) (W : AreSet d v f ws w g)

@@ -25,9 +25,8 @@ use Rattle.hd_links.specs.Steps.{rows_of}
 use Rattle.hd_forest.proofs.Reading.{after-read}
 use Rattle.hd_keeping.specs.VolumeImages.{images_of}
 use Rattle.hd_position.specs.Kept.{Kept}
-use Rattle.hd_update.specs.Inserting.{LacksRoomFor}
 use Rattle.hd_update.specs.Positions.{unheld_at}
-use Rattle.hd_update.specs.States.{Represents}
+use Rattle.hd_update.specs.States.{Represents, LacksRoomFor}
 use Rattle.hd_update.proofs.Reading.{held_read}
 use Rattle.hd_update.proofs.Standing.{stay_unheld}
 use Rattle.hd_session.specs.Sessions.{IsStep, own_in, call_in}

@@ -19,9 +19,8 @@ use Rattle.hd_get.specs.Gets.{GetCall, IsPositionIn, answer_to}
 use Rattle.hd_get.specs.declared.outcome.Outcome.{Outcome}
 use Rattle.hd_get.specs.declared.outcome.Outcome.TheVariants.{Found, Missing}
 use Rattle.hd_update.specs.Calls.{replace_effect, delete_effect}
-use Rattle.hd_update.specs.Inserting.{LacksRoomFor}
 use Rattle.hd_session.specs.Giving.{is_among}
-use Rattle.hd_update.specs.States.{Represents, IsUndone}
+use Rattle.hd_update.specs.States.{Represents, IsUndone, LacksRoomFor}
 use Rattle.hd_dbd.specs.declared.answer.Refused.{Refused}
 use Rattle.hd_dbd.specs.declared.answer.Refused.TheVariants.{Device, Full}
 

@@ -14,7 +14,7 @@ use Rattle.hd_dbd.specs.Forest.{Forest}
 use Rattle.hd_calls.specs.Gets.{unheld}
 use Rattle.hd_calls.specs.Moves.{Change, unchanged, deleted, rewritten, Rewrite, rows_after, position_after, position_after_rewrite}
 use Rattle.hd_calls.specs.Steps.{Effect, answered, bare_answer, State, state_after, position_at, keeps_key, lowest, replace_rows, delete_row}
-use Rattle.hd_calls.specs.Runs.{Follows}
+use Rattle.hd_calls.specs.Runs.{Follows, LacksRoom, rows_stored}
 use Rattle.hd_calls.specs.NoLostUpdate.{is_done}
 use Rattle.hd_volume.specs.Volumes.{VolumeState}
 use Rattle.hd_volume.specs.Calls.{IsRead}
@@ -25,7 +25,7 @@ use Rattle.hd_image.specs.Holding.{HoldsPlaced}
 use Rattle.hd_forest.proofs.Reading.{after-read}
 use Rattle.hd_keeping.specs.VolumeImages.{images_of}
 use Rattle.hd_keeping.proofs.VolumeImages.{follow}
-use Rattle.hd_keeping.proofs.RowChanges.{rewriting-follows}
+use Rattle.hd_keeping.proofs.SetRows.{setting-follows}
 use Rattle.hd_forest.specs.Walks.{tip, parent_on}
 use Rattle.hd_position.specs.Kept.{Kept, path_before, without_row}
 use Rattle.hd_get.specs.declared.outcome.Outcome.{Outcome}
@@ -33,8 +33,8 @@ use Rattle.hd_get.specs.declared.outcome.Outcome.TheVariants.{Found, Missing}
 use Rattle.hd_update.specs.Positions.{after_rewrites, all_after_rewrites, all_without_row, unheld_at}
 use Rattle.hd_update.specs.Replacing.{AreReplaced}
 use Rattle.hd_update.specs.Deleting.{IsTakenOut}
-use Rattle.hd_update.specs.States.{Represents, IsAnswered}
-use Rattle.hd_update.specs.declared.rewrites.NewBytes.{NewBytes}
+use Rattle.hd_update.specs.States.{Represents, IsAnswered, LacksRoomFor, StoresSome}
+use Rattle.hd_update.specs.declared.replaced.ReplacedRow.{ReplacedRow}
 use Rattle.hd_update.proofs.Reading.{held_read}
 use Rattle.hd_update.proofs.Standing.{all_moved_unheld, stay_unheld}
 
@@ -107,33 +107,63 @@ module _ (d : Database) (pcb : View) (v : VolumeState) (old : List Kept) (st : S
       (cond-false _ _ _ (keys_in d R.placed st.rows ws false R.rows keys))
       (bare_answered d v w old st number DA read sound R some within refl)
 
-  -- the rows have their new bytes
-  pub rows_replaced : (mid w : VolumeState) (news : List NewBytes) → mid.image ≡ v.image → true ≡ list_all (λ w. keeps_key d.types (rows_of R.placed) w) ws
-      → AreReplaced d mid R.placed news ws w → IsAnswered d v st number effect (Found Blank) w (unheld_at number (all_after_rewrites news old))
-  rows_replaced mid w news image keys A =
-      let p : Position = position_at st number in
-      let reply : Reply = row_reply (record { types = d.types; pcb = pcb }) st.rows (lowest p.held) Blank [] in
-      let after : rows_of A.placed ≡ rows_after (rewritten ws) st.rows = A.written.rows ∙ ap (rows_after (rewritten ws)) R.rows in
-      answered_as d v st number (answered reply (rewritten ws) (unheld p)) effect (Found Blank) w (unheld_at number (all_after_rewrites news old))
-      (cond-true _ _ _ (keys_in d R.placed st.rows ws true R.rows keys))
-      (record {
-        reply = reply;
-        change = rewritten ws;
-        own = unheld p;
-        is = refl;
-        outcome_is = (refl, refl);
-        represents = record {
-          placed = A.placed;
-          holds = A.written.holds;
-          rows = after;
-          positions = all_moved_unheld d.types R.placed A.placed (after_rewrites news) (position_after_rewrite ws) A.positions old st.positions number R.positions some within;
-        };
-        follows =
-            subst (λ (xs : List Segment). Follows (images_of d) st.rows v.image (rewritten ws) xs w.image) after
-            (subst (λ (xs : List Segment). Follows (images_of d) xs v.image (rewritten ws) (rows_of A.placed) w.image) R.rows
-            (subst (λ (x : List ℕ). Follows (images_of d) (rows_of R.placed) x (rewritten ws) (rows_of A.placed) w.image) image
-            (rewriting-follows d mid w R.placed A.placed ws A.written)));
-      })
+  -- the keys stay
+  module _ (keys : true ≡ list_all (λ w. keeps_key d.types (rows_of R.placed) w) ws) where
+    abbrev own : Position
+    own = position_at st number
+
+    abbrev reply : Reply
+    reply = row_reply (record { types = d.types; pcb = pcb }) st.rows (lowest own.held) Blank []
+
+    is_replaced : effect ≡ answered reply (rewritten ws) (unheld own)
+    is_replaced = cond-true _ _ _ (keys_in d R.placed st.rows ws true R.rows keys)
+
+    -- the rows have their new bytes
+    pub rows_replaced : (mid w : VolumeState) (rows : List ReplacedRow) → mid.image ≡ v.image
+        → AreReplaced d mid R.placed ws w rows → IsAnswered d v st number effect (Found Blank) w (unheld_at number (all_after_rewrites rows old))
+    rows_replaced mid w rows image A =
+        let after : rows_of A.placed ≡ rows_after (rewritten ws) st.rows = A.set.rows ∙ ap (rows_after (rewritten ws)) R.rows in
+        answered_as d v st number (answered reply (rewritten ws) (unheld own)) effect (Found Blank) w (unheld_at number (all_after_rewrites rows old)) is_replaced
+        (record {
+          reply = reply;
+          change = rewritten ws;
+          own = unheld own;
+          is = refl;
+          outcome_is = (refl, refl);
+          represents = record {
+            placed = A.placed;
+            holds = A.set.holds;
+            rows = after;
+            positions = all_moved_unheld d.types R.placed A.placed (after_rewrites rows) (position_after_rewrite ws) A.positions old st.positions number R.positions some within;
+          };
+          follows =
+              subst (λ (xs : List Segment). Follows (images_of d) st.rows v.image (rewritten ws) xs w.image) after
+              (subst (λ (xs : List Segment). Follows (images_of d) xs v.image (rewritten ws) (rows_of A.placed) w.image) R.rows
+              (subst (λ (x : List ℕ). Follows (images_of d) (rows_of R.placed) x (rewritten ws) (rows_of A.placed) w.image) image
+              (setting-follows d mid w R.placed A.placed ws A.set)));
+        })
+
+    -- room lacks for them
+    pub replace_lacks : LacksRoom (images_of d) d.types v.image (rows_stored (rows_of R.placed) (rewritten ws)) false → LacksRoomFor d v st.rows effect
+    replace_lacks lacks = record {
+      reply = reply;
+      change = rewritten ws;
+      own = unheld own;
+      is = is_replaced;
+      blank = refl;
+      lacks = subst (λ (rows : List Segment). LacksRoom (images_of d) d.types v.image (rows_stored rows (rewritten ws)) false) R.rows lacks;
+    }
+
+    -- one is made longer
+    pub replace_stores : 0 < length (rows_stored (rows_of R.placed) (rewritten ws)) → StoresSome st.rows effect
+    replace_stores longer = record {
+      reply = reply;
+      change = rewritten ws;
+      own = unheld own;
+      is = is_replaced;
+      blank = refl;
+      some = subst (λ (rows : List Segment). 0 < length (rows_stored rows (rewritten ws))) R.rows longer;
+    }
 
 -- ---- DLET
 

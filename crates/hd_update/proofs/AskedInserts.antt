@@ -22,10 +22,10 @@ use Rattle.hd_get.specs.declared.outcome.Outcome.TheVariants.{Missing}
 use Rattle.hd_keeping.specs.VolumeImages.{images_of}
 use Rattle.hd_position.specs.Kept.{Kept}
 use Rattle.hd_update.specs.NewRows.{codes_of, are_rows_in, rows_in}
-use Rattle.hd_update.specs.Inserting.{AreInsertArguments, insert_effect, insert_under, parent_asked, IsParentAsked, IsUnder, HasParentFor, LacksRoomFor, AreInsertedUnder, IsFullUnder, IsInsertDone, IsInsertFull}
+use Rattle.hd_update.specs.Inserting.{AreInsertArguments, insert_effect, insert_under, parent_asked, IsParentAsked, IsUnder, HasParentFor, AreInsertedUnder, IsFullUnder, IsInsertDone, IsInsertFull}
 use Rattle.hd_update.specs.Places.{IsTypeBelow}
 use Rattle.hd_update.specs.Positions.{unheld_at}
-use Rattle.hd_update.specs.States.{Represents, HasState}
+use Rattle.hd_update.specs.States.{Represents, HasState, LacksRoomFor}
 use Rattle.hd_update.proofs.Answering.{answered_as, answered_before, bare_answered, represented}
 use Rattle.hd_update.proofs.InsertArguments.{left, codes_left, begins}
 use Rattle.hd_update.proofs.InsertCalls.{no_parent, below_parent}

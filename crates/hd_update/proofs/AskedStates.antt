@@ -16,13 +16,16 @@ use Rattle.hd_calls.specs.Steps.{State, Effect, Part, wrong_area, bare_answer, p
 use Rattle.hd_volume.specs.Volumes.{VolumeState}
 use Rattle.hd_links.specs.Placed.{Placed}
 use Rattle.hd_position.specs.Kept.{Kept}
-use Rattle.hd_update.specs.Calls.{replace_effect}
+use Rattle.hd_links.specs.Steps.{rows_of}
+use Rattle.hd_position.specs.Kept.{path_passed}
+use Rattle.hd_update.specs.Calls.{replace_effect, AreAsked}
 use Rattle.hd_update.specs.Held.{held_rows}
-use Rattle.hd_update.specs.Replacing.{part_of, parts_held, new_bytes_from, AreRewritesOf}
+use Rattle.hd_update.specs.Replacing.{part_of, parts_held, new_bytes_from, AreRewritesOf, AreOnPath}
 use Rattle.hd_update.specs.States.{Represents, kept_of}
 use Rattle.hd_update.specs.declared.held.HeldRow.{HeldRow}
 use Rattle.hd_update.specs.declared.rewrites.NewBytes.{NewBytes}
 use Rattle.hd_update.proofs.Asked.{held_parts, all_asked}
+use Rattle.hd_update.proofs.AskedPaths.{asked_on_path}
 use Rattle.hd_update.proofs.Levels.{all_held_below}
 use Rattle.hd_update.proofs.Standing.{own_stands}
 
@@ -48,9 +51,9 @@ fault_of ssas held (Err e) fault is = (let same : e ≡ fault = cc in ap Err sam
 -- ---- what it asks
 
 -- What is asked: the rewrites that REPL does then.
-pub record Asks (d : Database) (f : Forest Placed) (st : State) (number : ℕ) (ssas : List Ssa) (area : List ℕ) (news : List NewBytes) : Type 0 where
+pub record Asks (d : Database) (v : VolumeState) (kept : List Kept) (st : State) (number : ℕ) (R : Represents d v kept st) (ssas : List Ssa) (area : List ℕ) (news : List NewBytes) : Type 0 where
   pub rewrites : List Rewrite
-  pub are : AreRewritesOf d.types f area news rewrites
+  pub asked : AreAsked d v kept number area news st R rewrites
   pub effect : (pcb : View) → replace_effect d pcb number ssas area st ≡ replace_rows (record { types = d.types; pcb = pcb }) st.rows (position_at st number) rewrites
 
 module _ (d : Database) (v : VolumeState) (old : List Kept) (st : State) (number : ℕ) (R : Represents d v old st) (some : 0 < number) (within : number ≤ length old)
@@ -82,15 +85,21 @@ module _ (d : Database) (v : VolumeState) (old : List Kept) (st : State) (number
   row_wrong pcb is = effect_by pcb (Err Length) is
 
   -- there are parts
-  pub asks : (news : List NewBytes) → HasParts ssas held (parts_held d.types ssas held area) news → Asks d f st number ssas area news
+  pub asks : (news : List NewBytes) → HasParts ssas held (parts_held d.types ssas held area) news → Asks d v old st number R ssas area news
   asks news P =
       let of_rows : parts_held d.types ssas (held_rows f p.held) area ≡ Ok P.parts = ap (λ (hs : List HeldRow). parts_held d.types ssas hs area) (sym are) ∙ P.is in
-      let all = all_asked d.types f ssas area p.held P.parts (all_held_below d.types f (kept_of old number) p (own_stands d v old st number R some within)) of_rows in
+      let own = own_stands d v old st number R some within in
+      let all = all_asked d.types f ssas area p.held P.parts (all_held_below d.types f (kept_of old number) p own) of_rows in
       let news_are : new_bytes_from ssas 0 (held_rows f p.held) P.parts ≡ news = ap (λ (hs : List HeldRow). new_bytes_from ssas 0 hs P.parts) (sym are) ∙ sym P.are in
       record {
         rewrites = rewrites_asked st.rows ssas (rewrites_of p.held P.parts);
-        are =
-            subst (λ (ns : List NewBytes). AreRewritesOf d.types f area ns (rewrites_asked st.rows ssas (rewrites_of p.held P.parts))) news_are
-            (subst (λ (rows : List Segment). AreRewritesOf d.types f area (new_bytes_from ssas 0 (held_rows f p.held) P.parts) (rewrites_asked rows ssas (rewrites_of p.held P.parts))) R.rows all);
+        asked = record {
+          are =
+              subst (λ (ns : List NewBytes). AreRewritesOf d.types f area ns (rewrites_asked st.rows ssas (rewrites_of p.held P.parts))) news_are
+              (subst (λ (rows : List Segment). AreRewritesOf d.types f area (new_bytes_from ssas 0 (held_rows f p.held) P.parts) (rewrites_asked rows ssas (rewrites_of p.held P.parts))) R.rows all);
+          on =
+              subst (λ (rows : List Segment). AreOnPath (path_passed d.types (rows_of f) p.passed) (rewrites_asked rows ssas (rewrites_of p.held P.parts))) R.rows
+              (asked_on_path (rows_of f) ssas d.types p.passed (length (kept_of old number).path) (kept_of old number).held p.held P.parts own.held_levels own.held);
+        };
         effect = λ pcb. effect_by pcb (Ok P.parts) P.is;
       }

@@ -7,6 +7,8 @@ pub mod Standing
 pub mod Answering
 pub mod AskedStates
 pub mod Taken
+pub mod AskedPaths
+pub mod RewriteRooms
 pub mod Unlinked
 pub mod DeletedStates
 pub mod PutRows

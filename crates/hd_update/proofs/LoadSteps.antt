@@ -27,7 +27,6 @@ use Rattle.hd_calls.specs.Steps.{State, Effect, answered, wrong_area, bare_answe
 use Rattle.hd_calls.specs.Runs.{LacksRoom, has_root}
 use Rattle.hd_calls.proofs.Areas.{IsCut, cut, nothing_left, part_in_front, new_row_fits}
 use Rattle.hd_keeping.specs.VolumeImages.{images_of}
-use Rattle.hd_update.specs.Inserting.{LacksRoomFor}
 use Rattle.hd_volume.specs.Volumes.{VolumeState}
 use Rattle.hd_volume.specs.Calls.{IsRead}
 use Rattle.hd_links.specs.Placed.{Placed}
@@ -38,7 +37,7 @@ use Rattle.hd_get.specs.declared.outcome.Outcome.TheVariants.{Missing}
 use Rattle.hd_update.specs.Loading.{HasPassedAll, load_effect, InsertsOne, HasLastPath, IsLastPath, IsLoadFault}
 use Rattle.hd_update.specs.NewRows.{parts_in, are_rows_in}
 use Rattle.hd_update.specs.Positions.{unheld_at}
-use Rattle.hd_update.specs.States.{Represents, IsAnswered}
+use Rattle.hd_update.specs.States.{Represents, IsAnswered, LacksRoomFor}
 use Rattle.hd_update.proofs.Answering.{answered_as, bare_answered}
 use Rattle.hd_update.proofs.LastPaths.{one_forest}
 use Rattle.hd_update.proofs.RowsIn.{parts_there}

@@ -1,41 +1,52 @@
 -- Rows that get new bytes, one after the other.
-use Rattle.std.proofs.Common.{◌≡◌, ℕ, zero, suc, ◌+◌, ◌-◌, ◌<◌, ◌≤◌, List, [], ◌∷◌, ◌++◌, length, take, drop, Bool, true, false, cond, refl, ap, ap₂, sym, ◌∙◌, subst, arith, inl, inr}
-use Rattle.std.specs.Prelude.{slice_index_or, slice_set, IsTrue}
+use Rattle.std.proofs.Common.{◌≡◌, ◌≢◌, ◌⊎◌, ℕ, zero, suc, ◌+◌, ◌-◌, ◌<◌, ◌≤◌, List, [], ◌∷◌, ◌++◌, length, take, drop, Bool, true, false, cond, refl, ap, ap₂, sym, ◌∙◌, subst, arith, inl, inr}
+use Rattle.std.specs.Prelude.{map, slice_index_or, slice_set, ◌&&◌, ◌||◌, ◌==◌}
 use Rattle.std.specs.List.{list_all, list_any}
-use Rattle.std.proofs.lemmas.Bool.{cases_eq, and_parts}
-use Rattle.std.proofs.lemmas.List.{get_or-set_same, get_or-set_other, length-map}
+use Rattle.std.proofs.lemmas.Bool.{cases_eq, and_parts, or_parts}
+use Rattle.std.proofs.lemmas.List.{get_or-set_same, get_or-set_other}
 use Rattle.std.proofs.lemmas.Slice.Eq.{bytes_eq-Decides}
-use Rattle.hd_dbd.specs.declared.hierarchy.FreeSpace.{FreeSpace}
 use Rattle.hd_dbd.specs.Types.{SegmentType}
-use Rattle.hd_dbd.specs.Hierarchy.{Database, type_of}
+use Rattle.hd_dbd.specs.Hierarchy.{Database, level_of}
 use Rattle.hd_dbd.specs.Segment.{Segment}
-use Rattle.hd_dbd.specs.DatabaseRules.{well_formed}
 use Rattle.hd_dbd.specs.Rows.{key_of, row_fits}
 use Rattle.hd_dbd.specs.Paths.{row_at, no_row}
+use Rattle.hd_dbd.specs.Prefixes.{size_with}
+use Rattle.hd_dbd.specs.declared.answer.Refused.{Refused}
+use Rattle.hd_dbd.specs.declared.answer.Refused.TheVariants.{Memory, Full, Device}
 use Rattle.hd_dbd.specs.Positions.{Position}
-use Rattle.hd_dbd.specs.Forest.{Forest, sequence}
-use Rattle.hd_dbd.proofs.FixedLengths.{fixed-length}
-use Rattle.hd_dbd.proofs.TypeLengths.{row-type}
-use Rattle.hd_calls.specs.Moves.{Rewrite, is_rewritten, position_after_rewrite}
+use Rattle.hd_dbd.specs.Forest.{Forest}
+use Rattle.hd_calls.specs.Moves.{Rewrite, rewritten, is_rewritten, position_after_rewrite}
+use Rattle.hd_calls.specs.Runs.{is_longer, lengthens, row_with, rows_stored}
 use Rattle.hd_calls.specs.Steps.{keeps_key}
 use Rattle.hd_volume.specs.Volumes.{VolumeState}
-use Rattle.hd_links.specs.Links.{Links, IsSegment, IsLinkGraph, segment_at}
+use Rattle.hd_links.specs.Links.{Links, IsSegment, segment_at}
 use Rattle.hd_links.specs.Placed.{Placed}
 use Rattle.hd_links.specs.Changes.{with_bytes, CanReplace}
-use Rattle.hd_links.specs.Steps.{rows_of, addresses, address_at, RowsHaveAddresses}
+use Rattle.hd_links.specs.Moves.{moved_to, with_address}
+use Rattle.hd_links.specs.Steps.{rows_of, addresses, address_at, LeadsDown, RowsHaveAddresses}
+use Rattle.hd_links.proofs.Moving.{rows_same, addresses_to}
 use Rattle.hd_links.proofs.Numbers.{rows_addressed}
-use Rattle.hd_links.proofs.Numbers.{rows_length}
 use Rattle.hd_links.proofs.RowChanges.{bytes_in}
 use Rattle.hd_image.specs.Records.{links_of}
 use Rattle.hd_image.specs.Holding.{HoldsPlaced}
-use Rattle.hd_image.proofs.Found.{records-link}
-use Rattle.hd_forest.specs.Updates.{IsReplaced}
-use Rattle.hd_keeping.proofs.RowChanges.{rewriting-begins, rewriting-goes-on}
-use Rattle.hd_position.specs.Kept.{Kept, StandsFor, after_rewrite}
+use Rattle.hd_volume.specs.Rooms.{spare, HasHole}
+use Rattle.hd_forest.specs.Walks.{tip}
+use Rattle.hd_forest.specs.Rewrites.{Outgrows}
+use Rattle.hd_keeping.specs.Rooms.{HasRoomFor, HasMemoryFor}
+use Rattle.hd_keeping.specs.SetRows.{AreSet}
+use Rattle.hd_keeping.proofs.SetRows.{rewrite-length, rewrite-other, setting-begins, setting-goes-on}
+use Rattle.hd_position.specs.Kept.{Kept, StandsFor, path_passed, path_before, after_rewrite, moved_row}
+use Rattle.hd_position.proofs.Moving.{moving_keeps}
 use Rattle.hd_position.proofs.Rewriting.{rewriting_ends, rewrites_add}
+use Rattle.hd_position.proofs.Same.{passed_same}
+use Rattle.hd_update.specs.Deleting.{path_up_to}
 use Rattle.hd_update.specs.Positions.{after_rewrites}
-use Rattle.hd_update.specs.Replacing.{part_for, IsRewriteOf, AreRewritesOf, AreReplaced}
+use Rattle.hd_update.specs.Replacing.{part_for, IsInArea, AreInArea, IsRewriteOf, AreRewritesOf, MayReplace, IsReplacedTo, MayReplaceAll, AreReplaced}
+use Rattle.hd_update.specs.declared.replaced.ReplacedRow.{ReplacedRow}
 use Rattle.hd_update.specs.declared.rewrites.NewBytes.{NewBytes}
+use Rattle.hd_update.proofs.AskedPaths.{IsAtTurn, at_turn}
+use Rattle.hd_update.proofs.RewriteRooms.{replace_refused, room_left, memory_left}
+use Rattle.hd_update.proofs.Taken.{leads_to_row}
 
 -- ---- one of them
 
@@ -72,6 +83,12 @@ module _ (types : List SegmentType) (f : Forest Placed) (area : List ℕ) where
       let N = none_left ns ws p are.1 (omega arith) in
       (N.0, ap (λ (xs : List Rewrite). w ∷ xs) N.1, ap (λ (xs : List NewBytes). n ∷ xs) N.2)
 
+-- new bytes of a place are in the area
+pub in_area : (types : List SegmentType) (area : List ℕ) (news : List NewBytes) (place : ℕ) (d : NewBytes) → AreInArea types area news → place < length news → IsInArea types area (slice_index_or news place d)
+in_area types area [] place d are within = absurd (omega arith)
+in_area types area (n ∷ ns) zero d are within = are.0
+in_area types area (n ∷ ns) (suc p) d are within = in_area types area ns p d are.1 (omega arith)
+
 -- where all keep their keys, so does it
 pub kept_by : (types : List SegmentType) (f : Forest Placed) (ws : List Rewrite) (place : ℕ) (w : Rewrite) → drop place ws ≡ w ∷ drop (place + 1) ws
     → list_all (λ x. keeps_key types (rows_of f) x) ws ≡ true → keeps_key types (rows_of f) w ≡ true
@@ -106,16 +123,16 @@ module _ (types : List SegmentType) (rows : List Segment) (i : ℕ) (bytes : Lis
 -- ---- positions
 
 -- one more at the end
-pub ended_more : (news : List NewBytes) (n : NewBytes) (k : Kept) → after_rewrites (news ++ n ∷ []) k ≡ after_rewrite n.address (after_rewrites news k)
-ended_more [] n k = refl
-ended_more (x ∷ xs) n k = ended_more xs n (after_rewrite x.address k)
+pub after_more : (rows : List ReplacedRow) (r : ReplacedRow) (k : Kept) → after_rewrites (rows ++ r ∷ []) k ≡ moved_row r.from r.to (after_rewrite r.from (after_rewrites rows k))
+after_more [] r k = refl
+after_more (x ∷ xs) r k = after_more xs r (moved_row x.from x.to (after_rewrite x.from k))
 
 none_rewritten : (held : List ℕ) → list_any (λ n. is_rewritten [] n) held ≡ false
 none_rewritten [] = refl
 none_rewritten (i ∷ is) = none_rewritten is
 
 -- without a new row nothing moves
-unmoved : (q : Position) → position_after_rewrite [] q ≡ q
+pub unmoved : (q : Position) → position_after_rewrite [] q ≡ q
 unmoved q = ap (λ (b : Bool). record q { held = cond b [] q.held }) (none_rewritten q.held)
 
 pub moved_more : (ws : List Rewrite) (w : Rewrite) (q : Position) → position_after_rewrite (w ∷ []) (position_after_rewrite ws q) ≡ position_after_rewrite (ws ++ w ∷ []) q
@@ -157,45 +174,71 @@ module _ (d : Database) (v : VolumeState) (f : Forest Placed) (area : List ℕ) 
 -- ---- from row to row
 
 -- before the first
-pub replacing_begins : (d : Database) (v : VolumeState) (f : Forest Placed) → HoldsPlaced d v f → AreReplaced d v f [] [] v
+abbrev pub replacing_begins : (d : Database) (v : VolumeState) (f : Forest Placed) → HoldsPlaced d v f → AreReplaced d v f [] v []
 replacing_begins d v f holds = record {
   placed = f;
-  written = rewriting-begins d v f holds;
+  set = setting-begins d v f holds;
   codes = λ i. refl;
   keys = λ i. refl;
   positions = λ k q F. subst (StandsFor d.types f k) (sym (unmoved q)) F;
 }
 
--- rows of one type are equally long
-equally_long : (block_size : ℕ) (frspc : FreeSpace) (types : List SegmentType) (r s : Segment) → IsTrue (well_formed block_size frspc types) → r.code ≡ s.code → row_fits types r ≡ true
-    → row_fits types s ≡ true → length r.bytes ≡ length s.bytes
-equally_long block_size frspc types r s formed same fits own =
-    let T = row-type types s own in
-    fixed-length block_size frspc types r T.type formed (ap (type_of types) same ∙ T.is) fits ∙ sym (fixed-length block_size frspc types s T.type formed T.is own)
+-- rows that are not among them are not made longer
+none_longer : (rows : List Segment) (ws : List Rewrite) (i : ℕ) → list_any (λ z. z.number == i) ws ≡ false → lengthens rows ws i ≡ false
+none_longer rows [] i none = refl
+none_longer rows (w ∷ ws) i none =
+    let both = or_parts (w.number == i) (list_any (λ z. z.number == i) ws) none in
+    ap₂ (λ (a b : Bool). a && is_longer rows w || b) both.0 (none_longer rows ws i both.1)
 
-module _ (d : Database) (v x : VolumeState) (f : Forest Placed) (area : List ℕ) (news : List NewBytes) (ws : List Rewrite) (n : NewBytes) (w : Rewrite)
-    (of : IsRewriteOf d.types f area n w) (keeps : keeps_key d.types (rows_of f) w ≡ true) (R : AreReplaced d v f news ws x) where
+-- Of rows that may get new bytes these have them, and those are left: the volume x holds the forest with them, `own` is the path in it, and there
+-- are room and memory for what is left.
+pub record IsSoFar (d : Database) (v : VolumeState) (path area : List ℕ) (news : List NewBytes) (f : Forest Placed) (ws : List Rewrite) (C : MayReplaceAll d v path area news f ws) (x : VolumeState)
+    (own : List ℕ) (rows : List ReplacedRow) (done left : List Rewrite) : Type 0 where
+  pub replaced : AreReplaced d v f done x rows
+  pub own_is : own ≡ path_before d.types replaced.placed C.passed
+  pub room : HasRoomFor d.types x (rows_stored (rows_of f) (rewritten left))
+  pub memory : HasMemoryFor d.types x (rows_stored (rows_of f) (rewritten left))
+
+pub none_so_far : (d : Database) (v : VolumeState) (path area : List ℕ) (news : List NewBytes) (f : Forest Placed) (ws : List Rewrite) (C : MayReplaceAll d v path area news f ws)
+    → IsSoFar d v path area news f ws C v path [] [] ws
+none_so_far d v path area news f ws C = record { replaced = replacing_begins d v f C.holds; own_is = C.path_is; room = C.room; memory = C.memory }
+
+module _ (d : Database) (v x : VolumeState) (path area : List ℕ) (news : List NewBytes) (f : Forest Placed) (ws : List Rewrite) (place : ℕ) (n : NewBytes)
+    (C : MayReplaceAll d v path area news f ws) (N : IsNext d.types f area n ws place) (own : List ℕ) (rows : List ReplacedRow)
+    (S : IsSoFar d v path area news f ws C x own rows (take place ws) (drop place ws)) where
+  abbrev R : AreReplaced d v f (take place ws) x rows
+  R = S.replaced
+
   abbrev g : Forest Placed
-  g = R.placed
+  g = S.replaced.placed
 
   abbrev k : Links
   k = links_of d.types x
 
-  held : RowsHaveAddresses k g
-  held = rows_addressed d.types k g R.written.holds.records
+  abbrev w : Rewrite
+  w = N.rewrite
 
-  many : (h : Forest Placed) → length (addresses h) ≡ length (rows_of h)
-  many h = length-map (sequence h) (λ (p : Placed). p.address) ∙ sym (rows_length h)
+  -- the row as its new bytes make it
+  abbrev row : Segment
+  row = record { code = n.code; bytes = part_for area n }
+
+  abbrev part : List ℕ
+  part = path_up_to n.address own
+
+  turn : IsAtTurn (path_passed d.types (rows_of f) C.passed) ws place w
+  turn = at_turn (path_passed d.types (rows_of f) C.passed) ws (drop (place + 1) ws) place w C.on N.left
+
+  held : RowsHaveAddresses k g
+  held = rows_addressed d.types k g R.set.holds.records
+
+  long : length (rows_of g) ≡ length (rows_of f)
+  long = ap (λ (xs : List Segment). length xs) R.set.rows ∙ rewrite-length (take place ws) (rows_of f)
 
   within : w.number < length (rows_of g)
-  within =
-      let a : length (addresses g) ≡ length (rows_of g) = many g in
-      let b : length (addresses f) ≡ length (rows_of f) = many f in
-      let c : length (addresses g) ≡ length (addresses f) = ap (λ (xs : List ℕ). length xs) R.written.places in
-      let l : w.number < length (rows_of f) = of.row in omega arith
+  within = (let l : w.number < length (rows_of f) = N.of.row in let same = long in omega arith)
 
   same_place : n.address ≡ address_at g w.number
-  same_place = of.address ∙ ap (λ (xs : List ℕ). slice_index_or xs w.number 0) (sym R.written.places)
+  same_place = N.of.address ∙ sym (R.set.places w.number (none_longer (rows_of f) (take place ws) w.number turn.none))
 
   there : IsSegment k n.address
   there = subst (IsSegment k) (sym same_place) (held.there w.number within)
@@ -204,47 +247,146 @@ module _ (d : Database) (v x : VolumeState) (f : Forest Placed) (area : List ℕ
   segment_is = ap (segment_at k) same_place ∙ held.same w.number within
 
   code_is : k.code n.address ≡ n.code
-  code_is = ap (λ (r : Segment). r.code) segment_is ∙ R.codes w.number ∙ sym of.code
+  code_is = ap (λ (r : Segment). r.code) segment_is ∙ R.codes w.number ∙ sym N.of.code
+
+  kept_key : key_of d.types (new_row d v f area n w C.holds N.of) ≡ key_of d.types (row_at (rows_of f) w.number)
+  kept_key = sym ((bytes_eq-Decides (key_of d.types (row_at (rows_of f) w.number)) (key_of d.types (new_row d v f area n w C.holds N.of))).0 (kept_by d.types f ws place w N.left C.keys))
 
   -- its key is that of its new bytes
-  key_is : key_of d.types (record { code = n.code; bytes = part_for area n }) ≡ key_of d.types (segment_at k n.address)
-  key_is =
-      ap (key_of d.types) (new_row_is d v f area n w R.written.held of)
-      ∙ sym ((bytes_eq-Decides (key_of d.types (row_at (rows_of f) w.number)) (key_of d.types (new_row d v f area n w R.written.held of))).0 keeps)
-      ∙ sym (R.keys w.number) ∙ ap (key_of d.types) (sym segment_is)
+  key_is : key_of d.types row ≡ key_of d.types (segment_at k n.address)
+  key_is = ap (key_of d.types) (new_row_is d v f area n w C.holds N.of) ∙ kept_key ∙ sym (R.keys w.number) ∙ ap (key_of d.types) (sym segment_is)
 
-  pub may_replace : CanReplace d.types k n.address (part_for area n)
+  may_replace : CanReplace d.types k n.address (part_for area n)
   may_replace =
       record {
         there = there;
-        fits = ap₂ (λ (c : ℕ) (xs : List ℕ). row_fits d.types (record { code = c; bytes = xs })) code_is of.bytes ∙ of.fits;
+        fits = ap₂ (λ (c : ℕ) (xs : List ℕ). row_fits d.types (record { code = c; bytes = xs })) code_is N.of.bytes ∙ N.of.fits;
         key = ap (λ (c : ℕ). key_of d.types (record { code = c; bytes = part_for area n })) code_is ∙ key_is;
       }
 
-  -- they are as many as it has
-  pub as_long : length (part_for area n) ≡ length (k.bytes n.address)
-  as_long =
-      let G : IsLinkGraph d.types (length x.image) k = records-link d x R.written.holds.volume.fit R.written.holds.volume in
-      equally_long d.block_size d.frspc d.types (record { code = k.code n.address; bytes = part_for area n }) (segment_at k n.address) R.written.holds.volume.fit refl
-      may_replace.fits (G.fits n.address there)
+  same_path : path_passed d.types (rows_of g) C.passed ≡ path_passed d.types (rows_of f) C.passed
+  same_path = passed_same d.types (rows_of f) (rows_of g) (λ i. ap (level_of d.types) (R.codes i)) C.passed
 
-  pub one_replaced : (y : VolumeState) → IsReplaced d x n.address (part_for area n) y → AreReplaced d v f (news ++ n ∷ []) (ws ++ w ∷ []) y
-  one_replaced y I =
-      let C : CanReplace d.types k (address_at g w.number) w.bytes = subst (λ (b : List ℕ). CanReplace d.types k (address_at g w.number) b) of.bytes (subst (λ (a : ℕ). CanReplace d.types k a (part_for area n)) same_place may_replace) in
-      let J : IsReplaced d x (address_at g w.number) w.bytes y = subst (λ (b : List ℕ). IsReplaced d x (address_at g w.number) b y) of.bytes (subst (λ (a : ℕ). IsReplaced d x a (part_for area n) y) same_place I) in
-      let B = bytes_in d.types k g w.number w.bytes R.written.holds.records within in
-      let own : key_of d.types (record { code = (row_at (rows_of g) w.number).code; bytes = w.bytes }) ≡ key_of d.types (row_at (rows_of g) w.number)
-      = ap (λ (c : ℕ). key_of d.types (record { code = c; bytes = w.bytes })) (R.codes w.number)
-      ∙ sym ((bytes_eq-Decides (key_of d.types (row_at (rows_of f) w.number)) (key_of d.types (new_row d v f area n w R.written.held of))).0 keeps)
-      ∙ sym (R.keys w.number) in
-      record {
-        placed = with_bytes (address_at g w.number) w.bytes g;
-        written = rewriting-goes-on d v x y f g ws w.number w.bytes R.written within C J;
-        codes = λ i. ap (λ (rows : List Segment). (row_at rows i).code) B.0 ∙ code_stays d.types (rows_of g) w.number w.bytes within i ∙ R.codes i;
-        keys = λ i. ap (λ (rows : List Segment). key_of d.types (row_at rows i)) B.0 ∙ key_stays d.types (rows_of g) w.number w.bytes within own i ∙ R.keys i;
-        positions = λ kept q F.
-            (let S = rewriting_ends d.types k g w (after_rewrites news kept) (position_after_rewrite ws q) R.written.holds.records within (R.positions kept q F) in
-            subst (λ (k2 : Kept). StandsFor d.types (with_bytes (address_at g w.number) w.bytes g) k2 (position_after_rewrite (ws ++ w ∷ []) q))
-            (ap (λ (a : ℕ). after_rewrite a (after_rewrites news kept)) (sym same_place) ∙ sym (ended_more news n kept))
-            (subst (StandsFor d.types (with_bytes (address_at g w.number) w.bytes g) (after_rewrite (address_at g w.number) (after_rewrites news kept))) (moved_more ws w q) S));
-      }
+  leads : (0 < length part) × LeadsDown d.types k 0 part × (tip part ≡ n.address)
+  leads =
+      let L = leads_to_row d x g R.set.holds.volume R.set.holds.records own C.passed w.number (let l : C.passed ≤ length (rows_of f) = C.within in let same = long in omega arith) S.own_is
+      (ap (λ (xs : List ℕ). list_any (λ j. j == w.number) xs) same_path ∙ turn.on) in
+      subst (λ (a : ℕ). (0 < length (path_up_to a own)) × LeadsDown d.types k 0 (path_up_to a own) × (tip (path_up_to a own) ≡ a)) (sym same_place) L
+
+  pub may_be_replaced : MayReplace d x part row
+  may_be_replaced = record {
+    placed = g;
+    holds = R.set.holds;
+    down = (leads.0, leads.1);
+    typed = ap k.code leads.2 ∙ code_is;
+    may = subst (λ (a : ℕ). CanReplace d.types k a (part_for area n)) (sym leads.2) may_replace;
+  }
+
+  -- the row as it was before the call
+  before_is : segment_at k (tip part) ≡ row_at (rows_of f) w.number
+  before_is = ap (segment_at k) leads.2 ∙ segment_is ∙ ap (λ (rs : List Segment). row_at rs w.number) R.set.rows ∙ rewrite-other (take place ws) (rows_of f) w.number turn.none
+
+  abbrev rest : List Rewrite
+  rest = drop (place + 1) ws
+
+  row_as : row ≡ row_with (rows_of f) w
+  row_as = new_row_is d v f area n w C.holds N.of
+
+  code_here : k.code (tip part) ≡ row.code
+  code_here = ap k.code leads.2 ∙ code_is
+
+  many_here : length (k.bytes (tip part)) ≡ length (row_at (rows_of f) w.number).bytes
+  many_here = ap (λ (s : Segment). length s.bytes) before_is
+
+  room_here : HasRoomFor d.types x (rows_stored (rows_of f) (rewritten (w ∷ rest)))
+  room_here = subst (λ (xs : List Rewrite). HasRoomFor d.types x (rows_stored (rows_of f) (rewritten xs))) N.left S.room
+
+  memory_here : HasMemoryFor d.types x (rows_stored (rows_of f) (rewritten (w ∷ rest)))
+  memory_here = subst (λ (xs : List Rewrite). HasMemoryFor d.types x (rows_stored (rows_of f) (rewritten xs))) N.left S.memory
+
+  -- it is refused by a failed access alone
+  pub row_refused : (e : Refused) → (e ≡ Memory) ⊎ (e ≡ Full) ⊎ (e ≡ Device) → (e ≡ Full → (spare x ≡ 0) × (HasHole x (size_with d.types row.code (length row.bytes)) → ⊥)) → (e ≡ Memory → x.room ≡ 0)
+      → (e ≡ Memory → HasHole x (size_with d.types row.code (length row.bytes)) → ⊥) → (e ≢ Device → Outgrows d x (tip part) row) → e ≡ Device
+  row_refused e why full few hole outgrown = replace_refused d x part (rows_of f) w rest row row_as code_here many_here room_here memory_here e why full few hole outgrown
+
+  module _ (to : ℕ) (y : VolumeState) (I : IsReplacedTo d x part row to y) where
+    abbrev one : Rewrite
+    one = record { number = w.number; bytes = row.bytes }
+
+    abbrev h : Forest Placed
+    h = with_bytes n.address row.bytes g
+
+    abbrev g2 : Forest Placed
+    g2 = with_address n.address to h
+
+    abbrev moved : ReplacedRow
+    moved = record { from = n.address; to = to }
+
+    at_part : (a : ℕ) → tip part ≡ a → AreSet d v f (take place ws ++ one ∷ []) y (with_address (tip part) to (with_bytes (tip part) row.bytes g))
+        → AreSet d v f (take place ws ++ one ∷ []) y (with_address a to (with_bytes a row.bytes g))
+    at_part a is S = subst (λ (b : ℕ). AreSet d v f (take place ws ++ one ∷ []) y (with_address b to (with_bytes b row.bytes g))) is S
+
+    one_set : AreSet d v f (take place ws ++ one ∷ []) y g2
+    one_set =
+        let G = setting-goes-on d v x I.between f g (take place ws) w.number part row to R.set within (leads.2 ∙ same_place) turn.none (sym (ap k.code leads.2 ∙ code_is)) may_be_replaced.may I.set in
+        at_part n.address leads.2 (elim I.entered [
+          | inl keeps ↦ subst (λ (z : VolumeState). AreSet d v f (take place ws ++ one ∷ []) z (with_address (tip part) to (with_bytes (tip part) row.bytes g))) (sym keeps.1) (G.0 keeps.0)
+          | inr E ↦ G.1 y E.root E.entered E.spares
+        ])
+
+    bytes_set : (rows_of h ≡ slice_set (rows_of g) w.number (record { code = (row_at (rows_of g) w.number).code; bytes = row.bytes })) × (addresses h ≡ addresses g)
+    bytes_set =
+        subst (λ (a : ℕ). (rows_of (with_bytes a row.bytes g) ≡ slice_set (rows_of g) w.number (record { code = (row_at (rows_of g) w.number).code; bytes = row.bytes }))
+            × (addresses (with_bytes a row.bytes g) ≡ addresses g)) (sym same_place)
+        (bytes_in d.types k g w.number row.bytes R.set.holds.records within)
+
+    rows_set : rows_of g2 ≡ slice_set (rows_of g) w.number (record { code = (row_at (rows_of g) w.number).code; bytes = row.bytes })
+    rows_set = rows_same n.address to h ∙ bytes_set.0
+
+    codes_set : (i : ℕ) → (row_at (rows_of g2) i).code ≡ (row_at (rows_of f) i).code
+    codes_set i = ap (λ (rs : List Segment). (row_at rs i).code) rows_set ∙ code_stays d.types (rows_of g) w.number row.bytes within i ∙ R.codes i
+
+    own_key : key_of d.types (record { code = (row_at (rows_of g) w.number).code; bytes = row.bytes }) ≡ key_of d.types (row_at (rows_of g) w.number)
+    own_key =
+        ap₂ (λ (c : ℕ) (xs : List ℕ). key_of d.types (record { code = c; bytes = xs })) (R.codes w.number) N.of.bytes ∙ kept_key ∙ sym (R.keys w.number)
+
+    positions_set : (kept : Kept) (q : Position) → StandsFor d.types f kept q → StandsFor d.types g2 (after_rewrites (rows ++ moved ∷ []) kept) (position_after_rewrite (take place ws ++ one ∷ []) q)
+    positions_set kept q F =
+        let S = rewriting_ends d.types k g one (after_rewrites rows kept) (position_after_rewrite (take place ws) q) R.set.holds.records within (R.positions kept q F) in
+        let T : StandsFor d.types h (after_rewrite n.address (after_rewrites rows kept)) (position_after_rewrite (one ∷ []) (position_after_rewrite (take place ws) q))
+        = subst (λ (a : ℕ). StandsFor d.types (with_bytes a row.bytes g) (after_rewrite a (after_rewrites rows kept)) (position_after_rewrite (one ∷ []) (position_after_rewrite (take place ws) q)))
+        (sym same_place) S in
+        let M = moving_keeps d.types h n.address to (after_rewrite n.address (after_rewrites rows kept)) (position_after_rewrite (one ∷ []) (position_after_rewrite (take place ws) q)) there.some T in
+        subst (λ (k2 : Kept). StandsFor d.types g2 k2 (position_after_rewrite (take place ws ++ one ∷ []) q)) (sym (after_more rows moved kept))
+        (subst (StandsFor d.types g2 (moved_row n.address to (after_rewrite n.address (after_rewrites rows kept)))) (moved_more (take place ws) one q) M)
+
+    -- the path, with the row where it stands
+    path_set : map (λ b. moved_to n.address to b) own ≡ path_before d.types g2 C.passed
+    path_set =
+        let P : List ℕ = path_passed d.types (rows_of g) C.passed in
+        let same : path_passed d.types (rows_of g2) C.passed ≡ P
+        = passed_same d.types (rows_of g) (rows_of g2) (λ i. ap (λ (rs : List Segment). level_of d.types (row_at rs i).code) rows_set ∙ ap (level_of d.types) (code_stays d.types (rows_of g) w.number row.bytes within i)) C.passed in
+        ap (map (λ b. moved_to n.address to b)) (S.own_is ∙ ap (λ (ns : List ℕ). map (λ j. slice_index_or ns j 0) P) (sym bytes_set.1))
+        ∙ sym (addresses_to n.address to there.some h P)
+        ∙ ap (map (λ j. address_at g2 j)) (sym same)
+
+    same_rewrite : one ≡ w
+    same_rewrite = ap (λ (b : List ℕ). record { number = w.number; bytes = b }) N.of.bytes
+
+    -- one row more has its new bytes
+    pub one_more : x.room ≤ y.room + 1 → (to ≡ tip part → x.room ≤ y.room)
+        → IsSoFar d v path area news f ws C y (map (λ b. moved_to n.address to b) own) (rows ++ moved ∷ []) (take (place + 1) ws) (drop (place + 1) ws)
+    one_more kept still =
+        subst (λ (xs : List Rewrite). IsSoFar d v path area news f ws C y (map (λ b. moved_to n.address to b) own) (rows ++ moved ∷ []) xs (drop (place + 1) ws))
+        (ap (λ (z : Rewrite). take place ws ++ z ∷ []) same_rewrite ∙ sym N.so_far) (record {
+          replaced = record {
+            placed = g2;
+            set = one_set;
+            codes = codes_set;
+            keys = λ i. ap (λ (rs : List Segment). key_of d.types (row_at rs i)) rows_set ∙ key_stays d.types (rows_of g) w.number row.bytes within own_key i ∙ R.keys i;
+            positions = positions_set;
+          };
+          own_is = path_set;
+          room = room_left d x part (rows_of f) w rest row row_as code_here many_here room_here memory_here to y I;
+          memory = memory_left d x part (rows_of f) w rest row row_as code_here many_here room_here memory_here to y I kept still;
+        })

@@ -17,14 +17,15 @@ use Rattle.hd_links.specs.Placed.{Placed, Holds}
 use Rattle.hd_links.specs.Steps.{rows_of, address_at, tip_from, LeadsDown}
 use Rattle.hd_image.specs.Records.{links_of, IsVolumeOf}
 use Rattle.hd_forest.specs.Rows.{IsOnRow}
+use Rattle.hd_forest.specs.Walks.{tip}
 use Rattle.hd_forest.proofs.RowSteps.{row-steps}
 use Rattle.hd_forest.proofs.Walking.{steps-found}
 use Rattle.hd_position.specs.Kept.{Kept, StandsFor, AreRowsOn, path_passed, path_before, row_on}
 use Rattle.hd_position.proofs.Lists.{first, rest}
-use Rattle.hd_position.proofs.Splices.{AllBelow}
+use Rattle.hd_position.proofs.Splices.{AllBelow, below_more}
+use Rattle.hd_position.proofs.Leaving.{passed_below}
 use Rattle.hd_update.specs.Deleting.{taken_row, path_up_to}
 use Rattle.hd_update.specs.Held.{held_row, held_rows}
-use Rattle.hd_update.proofs.Levels.{all_held_below}
 
 -- ---- which row
 
@@ -50,7 +51,7 @@ got_in [] l x e = absurd (false≢true (ap is_some e))
 got_in (y ∷ ys) zero x e = or_left (y == x) (list_any (λ z. z == x) ys) (eq-eqb y x (let s : y ≡ x = cc in s))
 got_in (y ∷ ys) (suc l) x e = or_right (y == x) (list_any (λ z. z == x) ys) (got_in ys l x e)
 
-row_in : (xs : List ℕ) (l x : ℕ) → row_on xs l ≡ Some x → list_any (λ y. y == x) xs ≡ true
+pub row_in : (xs : List ℕ) (l x : ℕ) → row_on xs l ≡ Some x → list_any (λ y. y == x) xs ≡ true
 row_in xs zero x e = absurd (false≢true (ap is_some e))
 row_in xs (suc l) x e = got_in xs l x e
 
@@ -98,20 +99,37 @@ module _ (d : Database) (v : VolumeState) (f : Forest Placed) (of : IsVolumeOf d
   passed_leads zero within = tt
   passed_leads (suc i) within = (row-steps d v f of holds).down i (omega arith)
 
+  module _ (path : List ℕ) (n i : ℕ) (few : n ≤ length (rows_of f)) (is : path ≡ path_before d.types f n) (member : list_any (λ j. j == i) (path_passed d.types (rows_of f) n) ≡ true) where
+    row_within : i < length (rows_of f)
+    row_within =
+        below_in (length (rows_of f)) (path_passed d.types (rows_of f) n) i
+        (below_more n (length (rows_of f)) (path_passed d.types (rows_of f) n) few (passed_below d.types (rows_of f) n)) member
+
+    row_there : list_any (λ b. b == address_at f i) path ≡ true
+    row_there = ap (list_any (λ b. b == address_at f i)) is ∙ mapped_on (λ j. address_at f j) (path_passed d.types (rows_of f) n) i member
+
+    cut_at_row : LeadsDown d.types (links_of d.types v) 0 (path_up_to (address_at f i) path) × (tip_from 0 (path_up_to (address_at f i) path) ≡ address_at f i)
+    cut_at_row = cut_leads d.types (links_of d.types v) 0 (address_at f i) path (subst (LeadsDown d.types (links_of d.types v) 0) (sym is) (passed_leads n few)) row_there
+
+    -- the path of the last row passed leads down as far as to a row on it
+    pub leads_to_row : (0 < length (path_up_to (address_at f i) path)) × LeadsDown d.types (links_of d.types v) 0 (path_up_to (address_at f i) path)
+        × (tip (path_up_to (address_at f i) path) ≡ address_at f i)
+    leads_to_row = (some_cut (address_at f i) path row_there, cut_at_row.0, cut_at_row.1)
+      where
+        some_cut : (a : ℕ) (path : List ℕ) → list_any (λ b. b == a) path ≡ true → 0 < length (path_up_to a path)
+        some_cut a [] there = absurd (false≢true there)
+        some_cut a (b ∷ path) there = omega arith
+
+    -- it is that row's path
+    pub path_to_row : IsOnRow d.types (links_of d.types v) f (path_up_to (address_at f i) path) i
+    path_to_row = record {
+      holds = holds;
+      within = row_within;
+      is = (steps-found d v f of.fit of holds i row_within).only (path_up_to (address_at f i) path) cut_at_row.0 cut_at_row.1;
+    }
+
   -- as far as to a held row it is that row's path
   pub path_to_held : (k : Kept) (q : Position) (ssas : List Ssa) (i : ℕ) → StandsFor d.types f k q → deleted_row (rows_of f) ssas q.held ≡ Some i
       → IsOnRow d.types (links_of d.types v) f (path_up_to (address_at f i) k.path) i
   path_to_held k q ssas i F is =
-      let m : Links = links_of d.types v in
-      let member : list_any (λ j. j == i) q.held ≡ true = taken_held (rows_of f) ssas q.held i is in
-      let within : i < length (rows_of f) = below_in (length (rows_of f)) q.held i (all_held_below d.types f k q F) member in
-      let on : list_any (λ b. b == address_at f i) k.path ≡ true
-      = ap (list_any (λ b. b == address_at f i)) F.path
-      ∙ mapped_on (λ j. address_at f j) (path_passed d.types (rows_of f) q.passed) i (held_on (path_passed d.types (rows_of f) q.passed) k.held q.held i F.held member) in
-      let leads : LeadsDown d.types m 0 k.path = subst (LeadsDown d.types m 0) (sym F.path) (passed_leads q.passed F.within) in
-      let C = cut_leads d.types m 0 (address_at f i) k.path leads on in
-      record {
-        holds = holds;
-        within = within;
-        is = (steps-found d v f of.fit of holds i within).only (path_up_to (address_at f i) k.path) C.0 C.1;
-      }
+      path_to_row k.path q.passed i F.within F.path (held_on (path_passed d.types (rows_of f) q.passed) k.held q.held i F.held (taken_held (rows_of f) ssas q.held i is))

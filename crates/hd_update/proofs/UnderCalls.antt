@@ -27,7 +27,8 @@ use Rattle.hd_forest.proofs.Reading.{after-read}
 use Rattle.hd_keeping.specs.VolumeImages.{images_of}
 use Rattle.hd_position.specs.Kept.{Kept}
 use Rattle.hd_get.specs.Gets.{IsPositionIn}
-use Rattle.hd_update.specs.Inserting.{IsUnder, insert_under, IsPlaceFor, LacksRoomFor}
+use Rattle.hd_update.specs.Inserting.{IsUnder, insert_under, IsPlaceFor}
+use Rattle.hd_update.specs.States.{LacksRoomFor}
 use Rattle.hd_update.specs.NewRows.{GoDown}
 use Rattle.hd_update.specs.Places.{IsPlaceOf, IsPlaceFound, IsPlaceBelow}
 use Rattle.hd_update.proofs.Answering.{represented}

@@ -32,7 +32,7 @@ use Rattle.hd_get.specs.Gets.{IsPositionIn}
 use Rattle.hd_get.specs.declared.outcome.Outcome.{Outcome}
 use Rattle.hd_update.specs.NewRows.{MayPutThem}
 use Rattle.hd_update.specs.Places.{IsPathOfParent, IsTypeBelow}
-use Rattle.hd_update.specs.States.{Represents, IsAnswered, IsCallDone, IsAreaWrong}
+use Rattle.hd_update.specs.States.{LacksRoomFor, Represents, IsAnswered, IsCallDone, IsAreaWrong}
 
 -- ---- the call
 
@@ -52,15 +52,6 @@ IsInsertDone d v old number ssas area outcome w new =
 -- where ISRT was refused for the area, that has a wrong length
 abbrev pub IsInsertAreaWrong : Database → VolumeState → List Kept → ℕ → List Ssa → List ℕ → Refused → Type 0
 IsInsertAreaWrong d v old number ssas area e = (pcb : View) → loads pcb ≡ false → IsAreaWrong d v old (insert_effect d pcb number ssas area) e
-
--- The effect would be answered with blanks, and the volume's bytes lack room for the rows that it stores.
-pub record LacksRoomFor (d : Database) (v : VolumeState) (rows : List Segment) (effect : Effect) : Type 0 where
-  pub reply : Reply
-  pub change : Change
-  pub own : Position
-  pub is : effect ≡ answered reply change own
-  pub blank : reply.status ≡ Blank
-  pub lacks : LacksRoom (images_of d) d.types v.image (rows_stored rows change) (inserts_root change)
 
 -- ISRT is refused as Full only where it would be answered with blanks, and room lacks for its rows
 abbrev pub IsInsertFull : Database → VolumeState → List Kept → ℕ → List Ssa → List ℕ → Refused → Type 0

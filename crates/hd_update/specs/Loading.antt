@@ -28,8 +28,7 @@ use Rattle.hd_keeping.specs.VolumeImages.{images_of}
 use Rattle.hd_position.specs.Kept.{Kept}
 use Rattle.hd_get.specs.declared.outcome.Outcome.{Outcome}
 use Rattle.hd_update.specs.Putting.{IsPutIn}
-use Rattle.hd_update.specs.Inserting.{LacksRoomFor}
-use Rattle.hd_update.specs.States.{Represents, IsAnswered, IsCallDone, IsAreaWrong}
+use Rattle.hd_update.specs.States.{Represents, IsAnswered, IsCallDone, IsAreaWrong, LacksRoomFor}
 
 -- ---- the call
 

@@ -1,15 +1,17 @@
 -- What a volume and the positions kept beside it stand for, and what one call does to them.
-use Rattle.std.specs.Prelude.{◌≡◌, ℕ, ◌-◌, List, [], ◌∷◌, slice_index_or, IsTrue}
+use Rattle.std.specs.Prelude.{◌≡◌, ℕ, ◌-◌, ◌<◌, List, [], ◌∷◌, length, slice_index_or, IsTrue}
 use Rattle.hd_dbd.specs.Types.{SegmentType}
 use Rattle.hd_dbd.specs.declared.answer.Refused.{Refused}
 use Rattle.hd_dbd.specs.declared.answer.Refused.TheVariants.{Area}
 use Rattle.hd_dbd.specs.Hierarchy.{Database}
+use Rattle.hd_dbd.specs.Segment.{Segment}
+use Rattle.hd_dbd.specs.declared.answer.Status.TheVariants.{Blank}
 use Rattle.hd_dbd.specs.Positions.{Position}
 use Rattle.hd_dbd.specs.Calls.{Reply}
 use Rattle.hd_dbd.specs.Forest.{Forest}
 use Rattle.hd_calls.specs.Moves.{Change}
 use Rattle.hd_calls.specs.Steps.{Effect, answered, wrong_area, State, state_after}
-use Rattle.hd_calls.specs.Runs.{Follows}
+use Rattle.hd_calls.specs.Runs.{Follows, LacksRoom, rows_stored, inserts_root}
 use Rattle.hd_volume.specs.Volumes.{VolumeState}
 use Rattle.hd_links.specs.Placed.{Placed}
 use Rattle.hd_links.specs.Steps.{rows_of}
@@ -57,6 +59,12 @@ abbrev pub IsCallDone : Database → VolumeState → List Kept → ℕ → (Stat
 IsCallDone d v old number effect outcome w new =
     (st : State) → IsTrue v.is_sound → Represents d v old st → IsAnswered d v st number (effect st) outcome w new
 
+-- what is kept of the PCB of a number, from 1
+abbrev pub kept_of : List Kept → ℕ → Kept
+kept_of kept number = slice_index_or kept (number - 1) kept_start
+
+-- ---- a refusal
+
 -- A call that was refused left the volume's bytes and what is kept as they were.
 pub record IsUndone (v : VolumeState) (old : List Kept) (w : VolumeState) (new : List Kept) : Type 0 where
   pub image : IsTrue w.is_sound → w.image ≡ v.image
@@ -66,6 +74,20 @@ pub record IsUndone (v : VolumeState) (old : List Kept) (w : VolumeState) (new :
 abbrev pub IsAreaWrong : Database → VolumeState → List Kept → (State → Effect) → Refused → Type 0
 IsAreaWrong d v old effect e = (st : State) → e ≡ Area → IsTrue v.is_sound → Represents d v old st → effect st ≡ wrong_area
 
--- what is kept of the PCB of a number, from 1
-abbrev pub kept_of : List Kept → ℕ → Kept
-kept_of kept number = slice_index_or kept (number - 1) kept_start
+-- The effect would be answered with blanks, and the volume's bytes lack room for the rows that it stores.
+pub record LacksRoomFor (d : Database) (v : VolumeState) (rows : List Segment) (effect : Effect) : Type 0 where
+  pub reply : Reply
+  pub change : Change
+  pub own : Position
+  pub is : effect ≡ answered reply change own
+  pub blank : reply.status ≡ Blank
+  pub lacks : LacksRoom (images_of d) d.types v.image (rows_stored rows change) (inserts_root change)
+
+-- The effect would be answered with blanks, and its change stores a row: it puts one in, or makes one longer.
+pub record StoresSome (rows : List Segment) (effect : Effect) : Type 0 where
+  pub reply : Reply
+  pub change : Change
+  pub own : Position
+  pub is : effect ≡ answered reply change own
+  pub blank : reply.status ≡ Blank
+  pub some : 0 < length (rows_stored rows change)

@@ -67,7 +67,7 @@ pub fn taken_row(ssas: &[ResolvedSsa<'_>], held: &[HeldRow]) -> Option<HeldRow>
 }
 
 /// A path as far as to an address.
-fn path_up_to(path: &Path, address: u32) -> Path
+pub fn path_up_to(path: &Path, address: u32) -> Path
     ensures { result ≡ path_up_to address path.now }
 {
     let mut part = Path::new();

@@ -15,6 +15,7 @@ mod positions;
 mod put_path;
 mod putting;
 mod repl_call;
+mod replaced;
 mod replacing;
 mod rewrites;
 mod room;

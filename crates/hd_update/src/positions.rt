@@ -2,25 +2,27 @@ ghost use Rattle.std.specs.Prelude.{◌≡◌, ◌<◌, ◌≤◌, length};
 ghost use Rattle.hd_forest.specs.Walks.{tip};
 ghost use Rattle.hd_update.specs.Positions.{after_rewrites, all_after_rewrites, all_without_row, unheld_at};
 
-use crate::rewrites::NewBytes;
+use crate::replaced::ReplacedRow;
 use hd_forest::{Path, tip_of};
 use hd_position::Position;
 
-/// Ends a PCB's hold of rows that got new bytes.
-fn end_hold_of_all(position: &mut Position, news: &[NewBytes])
-    ensures { position.new ≡ after_rewrites news.now position.old }
+/// Ends a PCB's hold of rows that got new bytes, and names each on its path where it stands then.
+fn follow_rows(position: &mut Position, rows: &[ReplacedRow])
+    ensures { position.new ≡ after_rewrites rows.now position.old }
 {
-    for place in 0..news.len() {
-        position.end_hold_of(news[place].address);
+    for place in 0..rows.len() {
+        let row = rows[place];
+        position.end_hold_of(row.from);
+        position.move_row(row.from, row.to);
     }
 }
 
-/// Ends each PCB's hold of rows that got new bytes.
-pub fn end_holds(positions: &mut [Position], news: &[NewBytes])
-    ensures { positions.new ≡ all_after_rewrites news.now positions.old }
+/// Ends each PCB's hold of rows that got new bytes, and names each on its path where it stands then.
+pub fn follow_all(positions: &mut [Position], rows: &[ReplacedRow])
+    ensures { positions.new ≡ all_after_rewrites rows.now positions.old }
 {
     for place in 0..positions.len() {
-        end_hold_of_all(&mut positions[place], news);
+        follow_rows(&mut positions[place], rows);
     }
 }
 

@@ -1,14 +1,17 @@
-ghost use Rattle.std.specs.Prelude.{◌≡◌, ◌⊎◌, ◌<◌, ◌≤◌, length, IfOk, IfErr};
-ghost use Rattle.hd_dbd.specs.Refusals.{OnlyDevice};
+ghost use Rattle.std.specs.Prelude.{◌≡◌, ◌≢◌, ◌<◌, ◌≤◌, length, IsTrue, IfOk, IfErr};
+ghost use Rattle.hd_dbd.specs.Facts.{stored_sizes};
+ghost use Rattle.hd_dbd.specs.Refusals.{OnlyRoomOrDevice};
 ghost use Rattle.hd_volume.specs.Calls.{IsCall};
 ghost use Rattle.hd_update.specs.States.{HasState, IsUndone, kept_of};
-ghost use Rattle.hd_update.specs.Calls.{IsReplaceDone, IsReplaceAreaWrong, HaveState, AreRewritesDone};
+ghost use Rattle.hd_update.specs.Calls.{IsReplaceDone, IsReplaceAreaWrong, IsReplaceFull, ReplaceLengthens, HaveState, AreRewritesDone, AreRewritesFull, RewritesLengthen};
+ghost use Rattle.hd_update.specs.Replacing.{AreInArea};
 
 use crate::area::answer_fault;
 use crate::held::held_rows;
-use crate::positions::{end_hold, end_holds};
+use crate::positions::{end_hold, follow_all};
 use crate::replacing::{keep_keys, replace_rows};
 use crate::rewrites::{NewBytes, rewrites_of};
+use crate::room::make_room_to_replace;
 use hd_dbd::{Dbd, Refused, Status};
 use hd_get::Outcome;
 use hd_position::Position;
@@ -17,12 +20,14 @@ use hd_volume::{BlockStore, Volume};
 
 /// REPL by the PCB of a number, counted from 1, once its tests are passed: the I/O area is the rows that it holds, one behind the other. V1
 /// where the new bytes of a row whose type varies have a wrong length, DA where the key of a row would change. Each row that no argument
-/// excepts by N gets its part of the area, the PCB's hold ends, and so does that of every other PCB that holds such a row. No memory is
-/// taken.
+/// excepts by N gets its part of the area, the PCB's hold ends, and so does that of every other PCB that holds such a row. A row that is made
+/// longer than its place has room for moves, and every PCB's path names it where it then stands.
 ///
-/// `Area` says that bytes of the area lack or are left over; nothing is changed then.
+/// `Area` says that bytes of the area lack or are left over, `Full` and `Memory` that there is no room or no memory for the rows that are made
+/// longer; nothing is changed then. Where none is, no memory is taken.
 ///
-/// The blocks of the held rows are read and written, and no other.
+/// The blocks of the held rows are read and written, and no other where none moves; for one that does, also those of its neighbours, of its
+/// parent and of the place where it goes, and for a root its entry in the index.
 pub fn repl<S: BlockStore>(
     volume: &mut Volume<S>,
     dbd: &Dbd,
@@ -32,13 +37,17 @@ pub fn repl<S: BlockStore>(
     area: &[u8],
 ) -> Result<Outcome, Refused>
     requires number { (0 < number) × (number ≤ length positions.old) }
+    requires size { volume.old.size ≡ dbd.now.block_size }
+    requires sizes { volume.old.sizes ≡ stored_sizes dbd.now.types }
     requires state { HasState dbd.now volume.old positions.old }
     requires held { 0 < length (kept_of positions.old number).held }
     ensures call { IsCall volume.old result volume.new }
     ensures done { IfOk result (λ o. IsReplaceDone dbd.now volume.old positions.old number ssas.now area.now o volume.new positions.new) }
     ensures undone { IfErr result (λ _. IsUndone volume.old positions.old volume.new positions.new) }
     ensures area { IfErr result (λ e. IsReplaceAreaWrong dbd.now volume.old positions.old number ssas.now area.now e) }
-    ensures refusal { IfErr result (λ e. (e ≡ Refused.Area) ⊎ (e ≡ Refused.Device)) }
+    ensures full { IfErr result (λ e. IsReplaceFull dbd.now volume.old positions.old number ssas.now area.now e) }
+    ensures memory { IfErr result (λ e. e ≡ Refused.Memory → ReplaceLengthens dbd.now volume.old positions.old number ssas.now area.now) }
+    ensures refusal { IfErr result (λ e. e ≢ Refused.Broken) }
 {
     let held = held_rows(volume, dbd, &positions[number - 1])?;
     let news = match rewrites_of(dbd, ssas, held.as_slice(), area) {
@@ -58,18 +67,25 @@ fn replace_held<S: BlockStore>(
     news: &[NewBytes],
 ) -> Result<Outcome, Refused>
     requires number { (0 < number) × (number ≤ length positions.old) }
-    requires state { HaveState dbd.now volume.old positions.old area.now news.now }
+    requires few { length news.now ≤ 15 }
+    requires fit { AreInArea dbd.now.types area.now news.now }
+    requires size { volume.old.size ≡ dbd.now.block_size }
+    requires sizes { volume.old.sizes ≡ stored_sizes dbd.now.types }
+    requires state { HaveState dbd.now volume.old positions.old number area.now news.now }
     ensures call { IsCall volume.old result volume.new }
     ensures done { IfOk result (λ o. AreRewritesDone dbd.now volume.old positions.old number area.now news.now o volume.new positions.new) }
     ensures undone { IfErr result (λ _. IsUndone volume.old positions.old volume.new positions.new) }
-    ensures refusal { OnlyDevice result }
+    ensures full { IfErr result (λ e. AreRewritesFull dbd.now volume.old positions.old number area.now news.now e) }
+    ensures memory { IfErr result (λ e. e ≡ Refused.Memory → RewritesLengthen dbd.now volume.old positions.old number area.now news.now) }
+    ensures refusal { OnlyRoomOrDevice result }
 {
     if !keep_keys(volume, dbd, area, news)? {
         end_hold(positions, number);
         return Ok(Outcome::Missing(Status::DA));
     }
-    replace_rows(volume, dbd, area, news)?;
-    end_holds(positions, news);
+    make_room_to_replace(volume, dbd, area, news)?;
+    let rows = replace_rows(volume, dbd, positions[number - 1].path(), area, news)?;
+    follow_all(positions, rows.as_slice());
     end_hold(positions, number);
     Ok(Outcome::Found(Status::Blank))
 }

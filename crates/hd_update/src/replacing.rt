@@ -1,13 +1,22 @@
-ghost use Rattle.std.specs.Prelude.{IfOk, OnOk};
-ghost use Rattle.hd_dbd.specs.Refusals.{OnlyDevice};
+ghost use Rattle.std.specs.Prelude.{◌≡◌, ◌≢◌, ◌+◌, ◌<◌, ◌≤◌, length, true, IsTrue, IfOk, IfErr};
+ghost use Rattle.hd_dbd.specs.Facts.{stored_sizes};
+ghost use Rattle.hd_dbd.specs.Prefixes.{size_with};
+ghost use Rattle.hd_dbd.specs.Refusals.{OnlyDevice, OnlyRoomOrDevice};
+ghost use Rattle.hd_dbd.specs.Rows.{row_fits};
 ghost use Rattle.hd_volume.specs.Calls.{IsCall, IsRead};
+ghost use Rattle.hd_volume.specs.Rooms.{spare, HasHole};
+ghost use Rattle.hd_forest.specs.Rewrites.{Outgrows};
+ghost use Rattle.hd_forest.specs.Walks.{tip};
 ghost use Rattle.hd_get.specs.Meeting.{IsStored};
 ghost use Rattle.hd_get.specs.Searches.{IsOf};
-ghost use Rattle.hd_update.specs.Replacing.{HaveRows, HaveOwnKeys, SaysKeyStays, SaysKeysStay, ReplacesThem};
+ghost use Rattle.hd_update.specs.Replacing.{HaveRows, SaysKeyStays, SaysKeysStay, AreInArea, MayReplace, IsReplacedTo, MayReplaceSome, ReplacesThem};
 
+use crate::dlet_call::path_up_to;
+use crate::replaced::{ReplacedRow, ReplacedRows};
 use crate::rewrites::{NewBytes, part_for};
 use hd_dbd::{Dbd, Refused};
-use hd_forest::{bytes_in, replace};
+use hd_forest::{Path, bytes_in, rewrite, tip_of};
+use hd_index::set;
 use hd_volume::{BlockStore, Volume};
 
 /// Whether the new bytes for a row have the key that it has. One access.
@@ -49,22 +58,65 @@ pub fn keep_keys<S: BlockStore>(
     Ok(true)
 }
 
-/// Gives each row its new bytes, which have the key that it has.
+/// Gives the last row of a path, of the type of a code, other bytes with the key that it has, and says where it then stands. The key of a root
+/// that moves has this address in the index then.
+fn replace_row<S: BlockStore>(
+    volume: &mut Volume<S>,
+    dbd: &Dbd,
+    path: &Path,
+    code: u8,
+    bytes: &[u8],
+) -> Result<u32, Refused>
+    requires fits { row_fits dbd.now.types (record { code = code; bytes = bytes.now }) ≡ true }
+    requires sizes { volume.old.sizes ≡ stored_sizes dbd.now.types }
+    requires may { IsTrue volume.old.is_sound → MayReplace dbd.now volume.old path.now (record { code = code; bytes = bytes.now }) }
+    ensures call { IsCall volume.old result volume.new }
+    ensures replaced { IfOk result (λ to. IsTrue volume.old.is_sound → IsReplacedTo dbd.now volume.old path.now (record { code = code; bytes = bytes.now }) to volume.new) }
+    ensures full { IfErr result (λ e. e ≡ Refused.Full → IsTrue volume.old.is_sound → (spare volume.old ≡ 0) × (HasHole volume.old (size_with dbd.now.types code (length bytes.now)) → ⊥)) }
+    ensures memory { IfErr result (λ e. e ≡ Refused.Memory → volume.old.room ≡ 0) }
+    ensures no_hole { IfErr result (λ e. e ≡ Refused.Memory → IsTrue volume.old.is_sound → HasHole volume.old (size_with dbd.now.types code (length bytes.now)) → ⊥) }
+    ensures outgrown { IfErr result (λ e. e ≢ Refused.Device → IsTrue volume.old.is_sound → Outgrows dbd.now volume.old (tip path.now) (record { code = code; bytes = bytes.now })) }
+    ensures refusal { OnlyRoomOrDevice result }
+    ensures room { IsTrue volume.new.is_sound → volume.old.room ≤ volume.new.room + 1 }
+    ensures still { IfOk result (λ to. to ≡ tip path.now → IsTrue volume.new.is_sound → volume.old.room ≤ volume.new.room) }
+{
+    let from = tip_of(path);
+    let to = rewrite(volume, dbd, path, code, bytes)?;
+    if code == 1 && to != from {
+        set(volume, dbd, dbd.key_of(code, bytes), to)?;
+    }
+    Ok(to)
+}
+
+/// Gives each of these rows of a path its new bytes, which have the key that it has, and says where it stood and where it stands then. There are
+/// room and memory for the rows that are made longer.
 pub fn replace_rows<S: BlockStore>(
     volume: &mut Volume<S>,
     dbd: &Dbd,
+    path: &Path,
     area: &[u8],
     news: &[NewBytes],
-) -> Result<(), Refused>
-    requires of { IsOf dbd.now volume.old }
-    requires there { HaveOwnKeys dbd.now volume.old area.now news.now }
+) -> Result<ReplacedRows, Refused>
+    requires few { length news.now ≤ 15 }
+    requires fit { AreInArea dbd.now.types area.now news.now }
+    requires sizes { volume.old.sizes ≡ stored_sizes dbd.now.types }
+    requires may { MayReplaceSome dbd.now volume.old path.now area.now news.now }
     ensures call { IsCall volume.old result volume.new }
-    ensures replaced { OnOk result (ReplacesThem dbd.now volume.old area.now news.now volume.new) }
-    ensures refusal { OnlyDevice result }
+    ensures replaced { IfOk result (λ rows. ReplacesThem dbd.now volume.old path.now area.now news.now volume.new rows) }
+    ensures only { IfErr result (λ e. IsTrue volume.old.is_sound → e ≡ Refused.Device) }
+    ensures refusal { OnlyRoomOrDevice result }
 {
+    let mut own = path.copy();
+    let mut rows = ReplacedRows::new();
     for place in 0..news.len() {
         let row = news[place];
-        replace(volume, dbd, row.address, part_for(area, &row))?;
+        let part = path_up_to(&own, row.address);
+        let to = replace_row(volume, dbd, &part, row.code, part_for(area, &row))?;
+        own.move_row(row.address, to);
+        rows.push(ReplacedRow {
+            from: row.address,
+            to,
+        });
     }
-    Ok(())
+    Ok(rows)
 }

@@ -10,11 +10,13 @@ use hd_dbd::Dbd;
 use hd_ssa::ResolvedSsa;
 use std::marker::Model;
 
-/// New bytes for a row: its address, the code of its type, where the bytes begin in the I/O area, and how many they are.
+/// New bytes for a row: its address, the code of its type, how many bytes it has so far, where the new ones begin in the I/O area, and how
+/// many they are.
 #[derive(Clone, Copy, Debug)]
 pub struct NewBytes {
     pub address: u32,
     pub code: u8,
+    pub had: usize,
     pub start: usize,
     pub length: usize,
 }
@@ -45,6 +47,7 @@ impl Rewriting {
         let none = NewBytes {
             address: 0,
             code: 0,
+            had: 0,
             start: 0,
             length: 0,
         };
@@ -125,6 +128,7 @@ pub fn rewrites_of(
             news.push(NewBytes {
                 address: row.address,
                 code: row.code,
+                had: row.length,
                 start,
                 length,
             });

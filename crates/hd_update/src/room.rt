@@ -12,9 +12,11 @@ ghost use Rattle.hd_index.specs.Changes.{IsIndexOf};
 ghost use Rattle.hd_update.specs.NewRows.{codes_of, are_rows_in, rows_in, IsRoomMade};
 ghost use Rattle.hd_update.specs.Putting.{AreFullFor};
 ghost use Rattle.hd_get.specs.Starts.{HasRoots};
+ghost use Rattle.hd_update.specs.Replacing.{AreInArea, IsRoomAsked, IsRoomMadeFor, LacksRoomToReplace, MakeLonger};
 ghost use Rattle.hd_update.specs.Room.{HasRoom, HasRootRoom};
 
 use crate::area::front;
+use crate::rewrites::{NewBytes, part_for};
 use hd_dbd::{Dbd, Refused};
 use hd_index::{blocks_needed, growth, is_highest};
 use hd_ssa::ResolvedSsa;
@@ -172,4 +174,48 @@ pub fn make_room<S: BlockStore>(
     } else {
         make_room_below(volume, count, total)
     }
+}
+
+/// How many of the rows that get new bytes are made longer, and how many bytes these take together then, each with its prefix and rounded up.
+fn room_asked(dbd: &Dbd, area: &[u8], news: &[NewBytes]) -> (u32, u32)
+    requires few { length news.now ≤ 15 }
+    requires fit { AreInArea dbd.now.types area.now news.now }
+    ensures { IsRoomAsked dbd.now.types area.now news.now result.0 result.1 }
+{
+    let (mut count, mut total): (u32, u32) = (0, 0);
+    for place in 0..news.len() {
+        let row = news[place];
+        let size = row_size(dbd, row.code, part_for(area, &row));
+        if row.had < row.length {
+            count += 1;
+            total += size;
+        }
+    }
+    (count, total)
+}
+
+/// Makes sure of room and memory for the rows that new bytes make longer: a hole as large as all of them, or a block for each. Where no row is
+/// made longer none is asked for.
+pub fn make_room_to_replace<S: BlockStore>(
+    volume: &mut Volume<S>,
+    dbd: &Dbd,
+    area: &[u8],
+    news: &[NewBytes],
+) -> Result<(), Refused>
+    requires few { length news.now ≤ 15 }
+    requires fit { AreInArea dbd.now.types area.now news.now }
+    requires formatted { IsTrue volume.old.is_sound → IsFormatted volume.old }
+    requires small { volume.old.size ≤ 32768 }
+    ensures call { IsCall volume.old result volume.new }
+    ensures image { IsTrue volume.new.is_sound → volume.new.image ≡ volume.old.image }
+    ensures made { OnOk result (IsTrue volume.old.is_sound → IsRoomMadeFor dbd.now.types area.now news.now volume.new) }
+    ensures full { IfErr result (λ e. e ≡ Refused.Full → IsTrue volume.old.is_sound → LacksRoomToReplace dbd.now volume.old area.now news.now) }
+    ensures longer { IfErr result (λ _. MakeLonger dbd.now.types area.now news.now) }
+    ensures refusal { OnlyRoomOrDevice result }
+{
+    let (count, total) = room_asked(dbd, area, news);
+    if count == 0 {
+        return Ok(());
+    }
+    make_room_below(volume, count, total)
 }

@@ -8,7 +8,6 @@ use Rattle.hd_calls.specs.Steps.{Effect, accepted_call, position_at}
 use Rattle.hd_forest.proofs.Reading.{after-read, sound-before}
 use Rattle.hd_accept.specs.Tests.{AreResolved}
 use Rattle.hd_position.specs.Kept.{Kept, kept_start}
-use Rattle.hd_update.specs.Inserting.{LacksRoomFor}
 use Rattle.hd_update.proofs.Answering.{represented}
 use Rattle.hd_update.proofs.Levels.{as_many}
 use Rattle.hd_update.proofs.Standing.{own_position, own_stands}
