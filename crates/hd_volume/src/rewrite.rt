@@ -1,4 +1,4 @@
-ghost use Rattle.std.specs.Prelude.{◌≡◌, ◌+◌, ◌%◌, ◌≤◌, ◌<◌, ℕ, IsTrue, length, IfOk, IfErr};
+ghost use Rattle.std.specs.Prelude.{◌≡◌, ◌≢◌, ◌+◌, ◌%◌, ◌≤◌, ◌<◌, ℕ, IsTrue, length, IfOk, IfErr};
 ghost use Rattle.hd_dbd.specs.Refusals.{OnlyDevice, OnlyRoomOrDevice};
 ghost use Rattle.hd_volume.specs.Volumes.{IsFormatted};
 ghost use Rattle.hd_volume.specs.Rooms.{spare, HasHole, HasFreeBlock};
@@ -31,6 +31,8 @@ impl<S: BlockStore> Volume<S> {
         ensures no_hole { IfErr result (λ e. e ≡ Refused.Memory → IsTrue self.old.is_sound → HasHole self.old (length bytes.now) → ⊥) }
         ensures refusal { OnlyRoomOrDevice result }
         ensures room { IsTrue self.new.is_sound → self.old.room ≤ self.new.room + 1 }
+        ensures still { IfOk result (λ to. to ≡ address → IsTrue self.new.is_sound → self.old.room ≤ self.new.room) }
+        ensures longer { IfErr result (λ e. e ≢ Refused.Device → IsTrue self.old.is_sound → IsShorter self.old address bytes.now) }
     {
         let len = self.segment_length(address)?;
         if bytes.len() <= len {
