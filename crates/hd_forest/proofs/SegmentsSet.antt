@@ -17,6 +17,8 @@ use Rattle.hd_volume.specs.Volumes.{VolumeState}
 use Rattle.hd_volume.specs.Rooms.{HasHole}
 use Rattle.hd_volume.specs.Records.{find}
 use Rattle.hd_volume.specs.Calls.{HasSegment, IsRewritten}
+use Rattle.hd_volume.specs.Steps.{IsShorter}
+use Rattle.hd_volume.proofs.JoinLemmas.{AreOne, one-segments}
 use Rattle.hd_prefix.specs.declared.pointer.Pointer.{Pointer}
 use Rattle.hd_prefix.specs.declared.pointer.Pointer.TheVariants.{TwinForward, TwinBackward, FirstChild, LastChild}
 use Rattle.hd_prefix.specs.Pointers.{place_of}
@@ -37,7 +39,7 @@ use Rattle.hd_image.proofs.Saying.{SaysOf, found-says}
 use Rattle.hd_image.proofs.Puts.{not-here, rewriting-replaces}
 use Rattle.hd_image.proofs.Found.{HasSegmentOf, segment-found, stored-found}
 use Rattle.hd_image.proofs.RowSizes.{row-takes}
-use Rattle.hd_forest.specs.Rewrites.{room_of, IsRowSegment, set_at, IsSegmentSet}
+use Rattle.hd_forest.specs.Rewrites.{room_of, Outgrows, IsRowSegment, set_at, IsSegmentSet}
 use Rattle.hd_forest.proofs.Keeping.{rest-rewritten, count-rewritten}
 use Rattle.hd_forest.proofs.Agreeing.{agree-trans}
 
@@ -117,6 +119,15 @@ takes-own d v a h =
     ∙ ap₂ (size_with d.types) (sym (ap code_of (stored-found d v a h)))
     (sym (ap (λ (x : List ℕ). length (bytes_of d.types (code_of x) x)) (stored-found d v a h)
     ∙ length-bytes_at h.bytes (prefix_length d.types (code_of h.bytes)) (length_of d.types (code_of h.bytes) h.bytes) h.whole))
+
+-- a row outgrows the place of a segment that is shorter than what is laid out for it
+pub row-longer : (d : Database) (u v : VolumeState) (a : ℕ) (row : Segment) (segment : List ℕ) → IsDatabase d → IsVolumeOf d u → AreOne u v → IsSegment (links_of d.types u) a
+    → length segment ≡ room_of d.types row → IsShorter v a segment → Outgrows d u a row
+row-longer d u v a row segment fit of one there size shorter =
+    let h = segment-found d u a fit of there in
+    let takes : length h.bytes ≡ size_with d.types ((links_of d.types u).code a) (length ((links_of d.types u).bytes a)) = takes-own d u a h in
+    let less : length h.bytes < length segment = shorter h.bytes (one-segments one a ∙ h.is) in
+    omega (arith, takes, less, size)
 
 pub segment-set : (d : Database) (v w : VolumeState) (a to : ℕ) (row : Segment) (segment : List ℕ) → IsDatabase d → IsVolumeOf d v → w.size ≡ v.size → w.sizes ≡ v.sizes
     → IsSegment (links_of d.types v) a → (links_of d.types v).code a ≡ row.code → IsSegmentWith d.types row.code row.bytes (stored_at v a) segment → IsRewritten v a to segment w

@@ -22,6 +22,10 @@ use Rattle.hd_forest.specs.Updates.{KeepsTheRest}
 abbrev pub room_of : List SegmentType → Segment → ℕ
 room_of types row = size_with types row.code (length row.bytes)
 
+-- a row takes more room than the segment at an address has
+abbrev pub Outgrows : Database → VolumeState → ℕ → Segment → Type 0
+Outgrows d v a row = size_with d.types ((links_of d.types v).code a) (length ((links_of d.types v).bytes a)) < room_of d.types row
+
 -- A stored segment is one of the row: of the size that it takes, with its code and its bytes.
 pub record IsRowSegment (types : List SegmentType) (row : Segment) (segment : List ℕ) : Type 0 where
   pub size : length segment ≡ room_of types row

@@ -1,4 +1,4 @@
-ghost use Rattle.std.specs.Prelude.{◌≡◌, ◌+◌, ◌≤◌, ◌<◌, true, length, nat_lt, IsTrue, IfOk, IfErr, OnOk};
+ghost use Rattle.std.specs.Prelude.{◌≡◌, ◌≢◌, ◌+◌, ◌≤◌, ◌<◌, true, length, nat_lt, IsTrue, IfOk, IfErr, OnOk};
 ghost use Rattle.hd_dbd.specs.DatabaseRules.{well_formed};
 ghost use Rattle.hd_dbd.specs.Rows.{row_fits};
 ghost use Rattle.hd_dbd.specs.Facts.{stored_sizes};
@@ -12,7 +12,7 @@ ghost use Rattle.hd_links.specs.Links.{IsSegment};
 ghost use Rattle.hd_links.specs.Steps.{LeadsDown};
 ghost use Rattle.hd_image.specs.Records.{links_of, stored_at, IsVolumeOf};
 ghost use Rattle.hd_forest.specs.Walks.{HasForest, tip};
-ghost use Rattle.hd_forest.specs.Rewrites.{IsRowSegment, IsSegmentSet, IsRowSet};
+ghost use Rattle.hd_forest.specs.Rewrites.{IsRowSegment, IsSegmentSet, IsRowSet, Outgrows};
 
 use crate::change::name_leaf;
 use crate::leaf::{LARGEST_BLOCK, SMALL_SEGMENT, size_of};
@@ -49,6 +49,8 @@ pub fn rewrite<S: BlockStore>(
     ensures no_hole { IfErr result (λ e. e ≡ Refused.Memory → IsTrue volume.old.is_sound → HasHole volume.old (size_with dbd.now.types code (length bytes.now)) → ⊥) }
     ensures refusal { OnlyRoomOrDevice result }
     ensures room { IsTrue volume.new.is_sound → volume.old.room ≤ volume.new.room + 1 }
+    ensures still { IfOk result (λ to. to ≡ tip path.now → IsTrue volume.new.is_sound → volume.old.room ≤ volume.new.room) }
+    ensures outgrown { IfErr result (λ e. e ≢ Refused.Device → IsTrue volume.old.is_sound → Outgrows dbd.now volume.old (tip path.now) (record { code = code; bytes = bytes.now })) }
 {
     let address = tip_of(path);
     if outgrows(volume, dbd, address, code, bytes)? {
@@ -131,6 +133,8 @@ fn set_segment<S: BlockStore>(
     ensures no_hole { IfErr result (λ e. e ≡ Refused.Memory → IsTrue volume.old.is_sound → HasHole volume.old (size_with dbd.now.types code (length bytes.now)) → ⊥) }
     ensures refusal { OnlyRoomOrDevice result }
     ensures room { IsTrue volume.new.is_sound → volume.old.room ≤ volume.new.room + 1 }
+    ensures still { IfOk result (λ to. to ≡ address → IsTrue volume.new.is_sound → volume.old.room ≤ volume.new.room) }
+    ensures outgrown { IfErr result (λ e. e ≢ Refused.Device → IsTrue volume.old.is_sound → Outgrows dbd.now volume.old address (record { code = code; bytes = bytes.now })) }
 {
     let size = size_of(dbd, code, bytes);
     if size > SMALL_SEGMENT {
@@ -161,6 +165,8 @@ fn set_large_segment<S: BlockStore>(
     ensures no_hole { IfErr result (λ e. e ≡ Refused.Memory → IsTrue volume.old.is_sound → HasHole volume.old (size_with dbd.now.types code (length bytes.now)) → ⊥) }
     ensures refusal { OnlyRoomOrDevice result }
     ensures room { IsTrue volume.new.is_sound → volume.old.room ≤ volume.new.room + 1 }
+    ensures still { IfOk result (λ to. to ≡ address → IsTrue volume.new.is_sound → volume.old.room ≤ volume.new.room) }
+    ensures outgrown { IfErr result (λ e. e ≢ Refused.Device → IsTrue volume.old.is_sound → Outgrows dbd.now volume.old address (record { code = code; bytes = bytes.now })) }
 {
     let mut room = [0; LARGEST_BLOCK];
     let size = size_of(dbd, code, bytes);
@@ -190,6 +196,8 @@ fn set_laid_out<S: BlockStore>(
     ensures no_hole { IfErr result (λ e. e ≡ Refused.Memory → IsTrue volume.old.is_sound → HasHole volume.old (size_with dbd.now.types code (length bytes.now)) → ⊥) }
     ensures refusal { OnlyRoomOrDevice result }
     ensures room { IsTrue volume.new.is_sound → volume.old.room ≤ volume.new.room + 1 }
+    ensures still { IfOk result (λ to. to ≡ address → IsTrue volume.new.is_sound → volume.old.room ≤ volume.new.room) }
+    ensures outgrown { IfErr result (λ e. e ≢ Refused.Device → IsTrue volume.old.is_sound → Outgrows dbd.now volume.old address (record { code = code; bytes = bytes.now })) }
 {
     lay_out_over(volume, dbd, room, address, code, bytes)?;
     volume.rewrite(address, room)

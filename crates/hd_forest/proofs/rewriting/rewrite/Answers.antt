@@ -1,18 +1,23 @@
-use Rattle.std.proofs.Common.{◌≡◌, ◌<◌, ℕ, List, length, ap, sym, subst, ◌∙◌}
+use Rattle.std.proofs.Common.{◌≡◌, ◌<◌, ◌≤◌, ℕ, List, length, IsTrue, true, Result, Ok, Err, IfOk, ap, sym, subst, ◌∙◌, arith}
 use Rattle.std.specs.Prelude.{nat_lt}
 use Rattle.std.proofs.lemmas.Bool.{ltb-true, ltb-false}
 use Rattle.std.proofs.lemmas.Result.{IfOk-weaker, IfErr-weaker}
+use Rattle.hd_dbd.specs.declared.answer.Refused.{Refused}
+use Rattle.hd_dbd.specs.Hierarchy.{Database}
 use Rattle.hd_dbd.specs.Segment.{Segment}
 use Rattle.hd_dbd.specs.Prefixes.{size_with}
+use Rattle.hd_volume.specs.Volumes.{VolumeState}
+use Rattle.hd_volume.specs.Calls.{IsCall, IsRead}
 use Rattle.hd_links.specs.Links.{Links, IsSegment}
 use Rattle.hd_links.specs.Steps.{LeadsDown}
 use Rattle.hd_links.specs.Changes.{CanReplace}
-use Rattle.hd_image.specs.Records.{stored_at, links_of}
+use Rattle.hd_image.specs.Records.{stored_at, links_of, IsVolumeOf}
 use Rattle.hd_forest.specs.Walks.{tip}
-use Rattle.hd_forest.specs.Rewrites.{IsSegmentSet}
+use Rattle.hd_forest.specs.Rewrites.{room_of, Outgrows, IsSegmentSet, IsRowSet}
 use Rattle.hd_forest.proofs.Reading.{after-read, sound-before, volume-kept, links-kept}
 use Rattle.hd_forest.proofs.Keeping.{keeps-same}
-use Rattle.hd_forest.proofs.RowsSet.{ingrown, stored-after, row-stays, row-set-read}
+use Rattle.hd_forest.proofs.Naming.{sound-as}
+use Rattle.hd_forest.proofs.RowsSet.{outgrown, ingrown, stored-after, row-stays, row-set-read}
 use Rattle.hd_forest.proofs.rewriting.rewrite.Goals as goal
 
 pub outgrows-requires-clause-there : goal.outgrows-requires-clause-there
@@ -73,6 +78,41 @@ set_segment-requires-clause-typed g c =
     links-kept d (λ (m : Links). m.code c.tip_of-address.result ≡ c.args.code) u c.outgrows.new.volume c.in_ok-outgrows.ensures.read
     (λ sound. ap (links_of d.types u).code c.tip_of-address.ensures ∙ c.requires.typed sound)
 
+-- a row that takes more than is stored outgrows its place
+outgrows-place : (d : Database) (u : VolumeState) (path : List ℕ) (address : ℕ) (row : Segment) → address ≡ tip path → IsVolumeOf d u → IsSegment (links_of d.types u) (tip path)
+    → nat_lt (length (stored_at u address)) (room_of d.types row) ≡ true → Outgrows d u (tip path) row
+outgrows-place d u path address row is of there less =
+    outgrown d u (tip path) (room_of d.types row) of.fit of there
+    (ltb-true (length (stored_at u (tip path))) (room_of d.types row) (subst (λ (a : ℕ). nat_lt (length (stored_at u a)) (room_of d.types row) ≡ true) is less))
+
+-- one that does is set elsewhere
+set-elsewhere : {A : Type 0} {x : A} (d : Database) (u v w : VolumeState) (path : List ℕ) (row : Segment) (result : Result ℕ Refused) → IsRead {T = A} u (Ok x) v
+    → (IsTrue u.is_sound → Outgrows d u (tip path) row) → IsCall v result w → IfOk result (λ to. IsTrue v.is_sound → IsRowSet d v path row to w)
+    → IfOk result (λ to. to ≡ tip path → IsTrue w.is_sound → u.room ≤ w.room)
+set-elsewhere d u v w path row (Ok to) read low call done = λ is now.
+    let sound : IsTrue v.is_sound = sound-as v.is_sound w.is_sound call.sound now in
+    let less : Outgrows d v (tip path) row = links-kept d (λ (m : Links). size_with d.types (m.code (tip path)) (length (m.bytes (tip path))) < room_of d.types row) u v read low sound in
+    absurd ((done sound).room.moves less is)
+set-elsewhere d u v w path row (Err e) read low call done = tt
+
+pub returns-then-branch-clause-still : goal.returns-then-branch-clause-still
+returns-then-branch-clause-still g c =
+    let d = c.args.dbd.now in
+    let u = c.args.volume.now in
+    let path = c.args.path.now in
+    let row : Segment = record { code = c.args.code; bytes = c.args.bytes.now } in
+    set-elsewhere d u c.outgrows.new.volume c.move_row.new.volume path row c.move_row.result c.in_ok-outgrows.ensures.read
+    (λ sound. outgrows-place d u path c.tip_of-address.result row c.tip_of-address.ensures (c.requires.of sound) (c.requires.can sound).there
+    (sym (c.in_ok-outgrows.ensures.value sound) ∙ c.if-branch.true))
+    c.move_row.ensures.call c.move_row.ensures.set
+
+pub returns-then-branch-clause-outgrown : goal.returns-then-branch-clause-outgrown
+returns-then-branch-clause-outgrown g c =
+    IfErr-weaker c.move_row.result _ _ (λ e any other sound.
+    outgrows-place c.args.dbd.now c.args.volume.now c.args.path.now c.tip_of-address.result (record { code = c.args.code; bytes = c.args.bytes.now }) c.tip_of-address.ensures
+    (c.requires.of sound) (c.requires.can sound).there (sym (c.in_ok-outgrows.ensures.value sound) ∙ c.if-branch.true))
+    c.move_row.ensures.refusal
+
 pub returns-then-branch-clause-set : goal.returns-then-branch-clause-set
 returns-then-branch-clause-set g c =
     IfOk-weaker c.move_row.result _ _ (λ to done sound.
@@ -127,3 +167,24 @@ returns-clause-no_hole g c =
     let same = after-read d u v read sound in
     none memory same.sound ((keeps-same u v same.image read.call.size read.call.sizes).holes _ hole))
     c.set_segment.ensures.no_hole
+
+pub returns-clause-still : goal.returns-clause-still
+returns-clause-still g c =
+    IfOk-weaker c.set_segment.result _ _ (λ to still is now.
+    let kept : c.outgrows.new.volume.room ≡ c.args.volume.now.room = c.in_ok-outgrows.ensures.read.room in
+    let more : c.outgrows.new.volume.room ≤ c.set_segment.new.volume.room = still (is ∙ sym c.tip_of-address.ensures) now in
+    omega (arith, kept, more))
+    c.set_segment.ensures.still
+
+pub returns-clause-outgrown : goal.returns-clause-outgrown
+returns-clause-outgrown g c =
+    IfErr-weaker c.set_segment.result _ _ (λ e grown other sound.
+    let d = c.args.dbd.now in
+    let u = c.args.volume.now in
+    let v = c.outgrows.new.volume in
+    let path = c.args.path.now in
+    let row : Segment = record { code = c.args.code; bytes = c.args.bytes.now } in
+    let same = after-read d u v c.in_ok-outgrows.ensures.read sound in
+    subst (λ (m : Links). size_with d.types (m.code (tip path)) (length (m.bytes (tip path))) < room_of d.types row) same.links
+    (subst (λ (a : ℕ). Outgrows d v a row) c.tip_of-address.ensures (grown other same.sound)))
+    c.set_segment.ensures.outgrown

@@ -1,10 +1,10 @@
 use Rattle.std.proofs.Common.{sym, subst, ◌∙◌}
-use Rattle.std.proofs.lemmas.Result.{IfOk-weaker}
+use Rattle.std.proofs.lemmas.Result.{IfOk-weaker, IfErr-weaker}
 use Rattle.hd_dbd.specs.Segment.{Segment}
 use Rattle.hd_volume.proofs.RewriteLemmas.{rewritten-after}
 use Rattle.hd_links.specs.Links.{Links, IsSegment}
 use Rattle.hd_forest.proofs.Reading.{after-read, sound-before}
-use Rattle.hd_forest.proofs.SegmentsSet.{row-whole, stands, segment-set}
+use Rattle.hd_forest.proofs.SegmentsSet.{row-whole, stands, row-longer, segment-set}
 use Rattle.hd_forest.proofs.rewriting.set_laid_out.Goals as goal
 
 pub rewrite-requires-clause-there : goal.rewrite-requires-clause-there
@@ -38,3 +38,16 @@ returns-clause-set g c =
     (c.rewrite.ensures.call.size ∙ read.call.size) (c.rewrite.ensures.call.sizes ∙ read.call.sizes) (c.requires.there sound) (c.requires.typed sound) (c.in_ok-lay_out_over.ensures.laid sound)
     (rewritten-after (record { same = record { size = read.call.size; sizes = read.call.sizes }; image = same.image }) c.args.address to c.lay_out_over.new.room (rewritten same.sound)))
     c.rewrite.ensures.rewritten
+
+pub returns-clause-outgrown : goal.returns-clause-outgrown
+returns-clause-outgrown g c =
+    IfErr-weaker c.rewrite.result _ _ (λ e longer other sound.
+    let d = c.args.dbd.now in
+    let u = c.args.volume.now in
+    let v = c.lay_out_over.new.volume in
+    let row : Segment = record { code = c.args.code; bytes = c.args.bytes.now } in
+    let read = c.in_ok-lay_out_over.ensures.read in
+    let same = after-read d u v read sound in
+    row-longer d u v c.args.address row c.lay_out_over.new.room c.in_ok-lay_out_over.ensures.fit (c.requires.of sound)
+    (record { same = record { size = read.call.size; sizes = read.call.sizes }; image = same.image }) (c.requires.there sound) c.in_ok-lay_out_over.ensures.row.size (longer other same.sound))
+    c.rewrite.ensures.longer
