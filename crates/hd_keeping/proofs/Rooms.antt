@@ -1,5 +1,5 @@
 -- Room and memory for the rows that one call puts in.
-use Rattle.std.proofs.Common.{◌≡◌, ◌≢◌, ℕ, ◌+◌, ◌-◌, ◌≤◌, List, ◌∷◌, length, sym, ap, subst, ◌∙◌, arith, inl, inr}
+use Rattle.std.proofs.Common.{◌≡◌, ◌≢◌, ℕ, ◌+◌, ◌-◌, ◌<◌, ◌≤◌, List, ◌∷◌, length, sym, ap, subst, ◌∙◌, arith, inl, inr}
 use Rattle.std.specs.Prelude.{map}
 use Rattle.std.proofs.lemmas.Bool.{cases_eq}
 use Rattle.std.proofs.lemmas.List.Sums.{sum_by-cons}
@@ -10,7 +10,7 @@ use Rattle.hd_dbd.specs.Prefixes.{size_with}
 use Rattle.hd_dbd.specs.Forest.{Forest}
 use Rattle.hd_calls.specs.Runs.{stored_sizes}
 use Rattle.hd_volume.specs.Headers.{Header, header_of}
-use Rattle.hd_volume.specs.Volumes.{VolumeState}
+use Rattle.hd_volume.specs.Volumes.{VolumeState, IsKind}
 use Rattle.hd_volume.specs.Rooms.{spare, HasHole}
 use Rattle.hd_volume.specs.Entries.{Entry}
 use Rattle.hd_volume.specs.Indexes.{root_key_length}
@@ -23,7 +23,7 @@ use Rattle.hd_image.proofs.OneImage.{held-same}
 use Rattle.hd_forest.specs.Updates.{IsLinked}
 use Rattle.hd_index.proofs.NeedLemmas.{needed-same, needed-stays}
 use Rattle.hd_keeping.specs.Entered.{IsEntered}
-use Rattle.hd_keeping.specs.Rooms.{HasRoomFor, HasMemoryFor, FirstRowsFindRoom, RoomLasts, blocks_for_entry, HasRootRoomFor, HasRootMemoryFor, FirstRootsFindRoom, RootEntriesFindRoom, RootRoomLasts, HaveOneImage, OneImageIsOneVolume}
+use Rattle.hd_keeping.specs.Rooms.{HasRoomFor, HasMemoryFor, FirstRowsFindRoom, RoomLasts, blocks_for_entry, HasRootRoomFor, HasRootMemoryFor, FirstRootsFindRoom, RootEntriesFindRoom, RootRoomLasts, SetRowsLeaveRoom, SameEntriesLeaveRoom, HaveOneImage, OneImageIsOneVolume}
 
 -- what rows take is what the first takes, and the rest
 sizes-more : (types : List SegmentType) (row : Segment) (rest : List Segment) → stored_sizes types (row ∷ rest) ≡ size_with types row.code (length row.bytes) + stored_sizes types rest
@@ -39,19 +39,25 @@ hole-first types v row rest hole =
     (let both : stored_sizes types (row ∷ rest) ≡ size_with types row.code (length row.bytes) + stored_sizes types rest = sizes-more types row rest in
     smaller v (stored_sizes types (row ∷ rest)) (size_with types row.code (length row.bytes)) hole (omega arith))
 
--- and once that is linked, for the others
-hole-left : (d : Database) (v w : VolumeState) (h y a : ℕ) (row : Segment) (rest : List Segment) → IsLinked d v h y row a w
-    → HasHole v (stored_sizes d.types (row ∷ rest)) → HasHole w (stored_sizes d.types rest)
-hole-left d v w h y a row rest I hole =
-    let own : ℕ = size_with d.types row.code (length row.bytes) in
-    let more : ℕ = stored_sizes d.types rest in
-    let both : stored_sizes d.types (row ∷ rest) ≡ own + more = sizes-more d.types row rest in
+-- and once that has its bytes in a hole, for the others
+hole-rest : (types : List SegmentType) (v w : VolumeState) (row : Segment) (rest : List Segment) → ((n : ℕ) → IsKind v 1 n → IsKind w 1 n)
+    → ((n : ℕ) → size_with types row.code (length row.bytes) < n → HasHole v n → HasHole w (n - size_with types row.code (length row.bytes)))
+    → HasHole v (stored_sizes types (row ∷ rest)) → HasHole w (stored_sizes types rest)
+hole-rest types v w row rest data_blocks holes hole =
+    let own : ℕ = size_with types row.code (length row.bytes) in
+    let more : ℕ = stored_sizes types rest in
+    let both : stored_sizes types (row ∷ rest) ≡ own + more = sizes-more types row rest in
     elim (cases_eq more 0) [
-      | inl none ↦ record { block = hole.block; is_data = I.rest.data_blocks hole.block hole.is_data; large = omega arith }
+      | inl none ↦ record { block = hole.block; is_data = data_blocks hole.block hole.is_data; large = omega arith }
       | inr some ↦
-          (let left : HasHole w (own + more - own) = I.holes (own + more) (omega arith) (smaller v (stored_sizes d.types (row ∷ rest)) (own + more) hole (omega arith)) in
+          (let left : HasHole w (own + more - own) = holes (own + more) (omega arith) (smaller v (stored_sizes types (row ∷ rest)) (own + more) hole (omega arith)) in
           smaller w (own + more - own) more left (omega arith))
     ]
+
+-- so it is where that is linked
+hole-left : (d : Database) (v w : VolumeState) (h y a : ℕ) (row : Segment) (rest : List Segment) → IsLinked d v h y row a w
+    → HasHole v (stored_sizes d.types (row ∷ rest)) → HasHole w (stored_sizes d.types rest)
+hole-left d v w h y a row rest I = hole-rest d.types v w row rest I.rest.data_blocks I.holes
 
 -- ---- rows of which none is a root
 
@@ -136,6 +142,40 @@ entries-room d v w f key y a row rest H I = (entry-room d v w f key y a row rest
 
 pub root-room-lasts : RootRoomLasts
 root-room-lasts d v w x f es more key y a row rest H I E = (rest-room d v w f key y a row rest H I x es more E, rest-memory d v w f key y a row rest H I x es more E)
+
+-- ---- rows that get other bytes
+
+pub set-rows-leave-room : SetRowsLeaveRoom
+set-rows-leave-room d v w path row to rest I = (
+  λ room. elim room [
+    | inl enough ↦ inl (let less : spare v ≤ spare w + 1 = I.room.spares in omega arith)
+    | inr hole ↦ inr (hole-rest d.types v w row rest I.room.rest.data_blocks I.room.holes hole)
+  ],
+  λ kept memory. elim memory [
+    | inl enough ↦ inl (omega arith)
+    | inr hole ↦ inr (hole-rest d.types v w row rest I.room.rest.data_blocks I.room.holes hole)
+  ],
+  λ stays room. elim room [
+    | inl enough ↦ inl (let same : spare w ≡ spare v = (I.room.in_place stays).0 in omega arith)
+    | inr hole ↦ inr ((I.room.in_place stays).1 (stored_sizes d.types rest) hole)
+  ],
+  λ stays kept memory. elim memory [
+    | inl enough ↦ inl (omega arith)
+    | inr hole ↦ inr ((I.room.in_place stays).1 (stored_sizes d.types rest) hole)
+  ],
+)
+
+pub same-entries-leave-room : SameEntriesLeaveRoom
+same-entries-leave-room d v w es rows E spares room = (
+  λ enough. elim enough [
+    | inl blocks ↦ inl (omega arith)
+    | inr hole ↦ inr (E.change.holes (stored_sizes d.types rows) hole)
+  ],
+  λ enough. elim enough [
+    | inl blocks ↦ inl (omega arith)
+    | inr hole ↦ inr (E.change.holes (stored_sizes d.types rows) hole)
+  ],
+)
 
 -- ---- a call that only looks
 

@@ -13,7 +13,9 @@ use Rattle.hd_volume.specs.Indexes.{root_key_length}
 use Rattle.hd_levels.specs.Needs.{entry_growth, IsHighest}
 use Rattle.hd_links.specs.Placed.{Placed}
 use Rattle.hd_image.specs.Holding.{HoldsPlaced}
+use Rattle.hd_forest.specs.Walks.{tip}
 use Rattle.hd_forest.specs.Updates.{IsLinked}
+use Rattle.hd_forest.specs.Rewrites.{IsRowSet}
 use Rattle.hd_index.specs.Places.{blocks_needed}
 use Rattle.hd_keeping.specs.Entered.{IsEntered}
 
@@ -88,6 +90,23 @@ RootRoomLasts =
     → HoldsPlaced d v f → IsLinked d v 0 y row a w → IsEntered d w es more x
     → (spare w ≤ spare x + blocks_for_entry d w key → HasRootRoomFor d v key (row ∷ rest) → HasRoomFor d.types x rest)
     × (v.room ≤ w.room + 1 → w.room ≤ x.room + entry_growth w → HasRootMemoryFor v (row ∷ rest) → HasMemoryFor d.types x rest)
+
+-- ---- rows that get other bytes
+
+-- Once a row of a path got other bytes there is room and memory for the others; a row that stays where it stands takes none.
+abbrev pub SetRowsLeaveRoom : Type 0
+SetRowsLeaveRoom =
+    (d : Database) (v w : VolumeState) (path : List ℕ) (row : Segment) (to : ℕ) (rest : List Segment) → IsRowSet d v path row to w
+    → (HasRoomFor d.types v (row ∷ rest) → HasRoomFor d.types w rest)
+    × (v.room ≤ w.room + 1 → HasMemoryFor d.types v (row ∷ rest) → HasMemoryFor d.types w rest)
+    × (to ≡ tip path → HasRoomFor d.types v rest → HasRoomFor d.types w rest)
+    × (to ≡ tip path → v.room ≤ w.room → HasMemoryFor d.types v rest → HasMemoryFor d.types w rest)
+
+-- An index in which no entry more is needs none.
+abbrev pub SameEntriesLeaveRoom : Type 0
+SameEntriesLeaveRoom =
+    (d : Database) (v w : VolumeState) (es : List Entry) (rows : List Segment) → IsEntered d v es 0 w → spare w ≡ spare v → w.room ≡ v.room
+    → (HasRoomFor d.types v rows → HasRoomFor d.types w rows) × (HasMemoryFor d.types v rows → HasMemoryFor d.types w rows)
 
 -- ---- a call that only looks
 

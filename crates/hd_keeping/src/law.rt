@@ -1,6 +1,6 @@
 ghost use Rattle.hd_keeping.specs.Found.{RootsAreOfTheFirstType, RootsStandAlone, RootKeysAreWhole, RootsAscend, IndexAnswersRoots, FirstRootsFollowLesser};
 ghost use Rattle.hd_keeping.specs.Laws.{ChangesBelowKeepEntries, ReplacingKeepsEntries, LinkingEntersRoots, UnlinkingRemovesRoots, HeldIsEntered, ForestChangesKeepEntries, IndexChangesKeepTheForest, ReplacedIsHeld, LinkedBelowIsHeld, LinkedRootIsNew, LinkedRootIsHeld, EnteredRootIsHeld, UnlinkedBelowIsHeld, UnlinkedRootIsHeld, RemovedRootIsHeld};
-ghost use Rattle.hd_keeping.specs.Rooms.{FirstRowsFindRoom, RoomLasts, FirstRootsFindRoom, RootEntriesFindRoom, RootRoomLasts, OneImageIsOneVolume};
+ghost use Rattle.hd_keeping.specs.Rooms.{FirstRowsFindRoom, RoomLasts, FirstRootsFindRoom, RootEntriesFindRoom, RootRoomLasts, SetRowsLeaveRoom, SameEntriesLeaveRoom, OneImageIsOneVolume};
 ghost use Rattle.hd_keeping.specs.VolumeImages.{VolumesHoldTheirRows, VolumesHaveTheirRoom, LackingRoomIsTheRule, VolumesFollow};
 ghost use Rattle.hd_keeping.specs.NewPaths.{LeavesTakeAChild, FirstChildrenGoInNext, PathsBeginBelowRows, PathsBeginWithRoots, PathsGoOn, PathsAreInsertions};
 ghost use Rattle.hd_keeping.specs.SetRows.{SetRowIsHeld, SetRootIsHeld, SettingBegins, SettingGoesOn, SettingFollows};
@@ -69,6 +69,16 @@ pub fn law_room_lasts_for_roots()
     ensures first { FirstRootsFindRoom }
     ensures entry { RootEntriesFindRoom }
     ensures lasts { RootRoomLasts }
+{}
+
+/// Room and memory for rows that get other bytes last from one to the next, and a row that stays where it stands takes none.
+pub fn law_set_rows_leave_room()
+    ensures { SetRowsLeaveRoom }
+{}
+
+/// A change of the index that takes no block leaves the rows the room and memory that they had.
+pub fn law_same_entries_leave_room()
+    ensures { SameEntriesLeaveRoom }
 {}
 
 /// A volume's bytes hold the rows that it holds, and have its room.
