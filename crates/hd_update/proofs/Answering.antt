@@ -14,7 +14,7 @@ use Rattle.hd_dbd.specs.Forest.{Forest}
 use Rattle.hd_calls.specs.Gets.{unheld}
 use Rattle.hd_calls.specs.Moves.{Change, unchanged, deleted, rewritten, Rewrite, rows_after, position_after, position_after_rewrite}
 use Rattle.hd_calls.specs.Steps.{Effect, answered, bare_answer, State, state_after, position_at, keeps_key, lowest, replace_rows, delete_row}
-use Rattle.hd_calls.specs.Runs.{Follows, LacksRoom, rows_stored}
+use Rattle.hd_calls.specs.Runs.{Follows, LacksRoom, rows_stored, inserts_root}
 use Rattle.hd_calls.specs.NoLostUpdate.{is_done}
 use Rattle.hd_volume.specs.Volumes.{VolumeState}
 use Rattle.hd_volume.specs.Calls.{IsRead}
@@ -61,6 +61,21 @@ answered_before d v mid st number e o w kept image A = record {
 abbrev pub represented : {A : Type 0} {x : A} (d : Database) (u v : VolumeState) (kept : List Kept) (st : State) → IsRead {T = A} u (Ok x) v → IsTrue u.is_sound
     → Represents d u kept st → Represents d v kept st
 represented d u v kept st read sound R = record { placed = R.placed; holds = held_read d u v read sound R.placed R.holds; rows = R.rows; positions = R.positions }
+
+-- room lacks after calls that only read where it lacked before them
+pub lacks_before : (d : Database) (v mid : VolumeState) (rows : List Segment) (e e2 : Effect) → mid.image ≡ v.image → e2 ≡ e → LacksRoomFor d mid rows e → LacksRoomFor d v rows e2
+lacks_before d v mid rows e e2 image same L = record {
+  reply = L.reply;
+  change = L.change;
+  own = L.own;
+  is = same ∙ L.is;
+  blank = L.blank;
+  lacks = subst (λ (x : List ℕ). LacksRoom (images_of d) d.types x (rows_stored rows L.change) (inserts_root L.change)) image L.lacks;
+}
+
+-- nor does what a change would store depend on them
+pub stores_before : (rows : List Segment) (e e2 : Effect) → e2 ≡ e → StoresSome rows e → StoresSome rows e2
+stores_before rows e e2 same S = record { reply = S.reply; change = S.change; own = S.own; is = same ∙ S.is; blank = S.blank; some = S.some }
 
 -- nothing follows from nothing
 same_follows : (d : Database) (v : VolumeState) (f : Forest Placed) (rows : List Segment) (image : List ℕ) → HoldsPlaced d v f → rows_of f ≡ rows → image ≡ v.image

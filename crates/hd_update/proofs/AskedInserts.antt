@@ -26,21 +26,10 @@ use Rattle.hd_update.specs.Inserting.{AreInsertArguments, insert_effect, insert_
 use Rattle.hd_update.specs.Places.{IsTypeBelow}
 use Rattle.hd_update.specs.Positions.{unheld_at}
 use Rattle.hd_update.specs.States.{Represents, HasState, LacksRoomFor}
-use Rattle.hd_update.proofs.Answering.{answered_as, answered_before, bare_answered, represented}
+use Rattle.hd_update.proofs.Answering.{answered_as, answered_before, bare_answered, represented, lacks_before}
 use Rattle.hd_update.proofs.InsertArguments.{left, codes_left, begins}
 use Rattle.hd_update.proofs.InsertCalls.{no_parent, below_parent}
 use Rattle.hd_update.proofs.Standing.{own_position}
-
--- room lacks after calls that only read where it lacked before them
-lacks_before : (d : Database) (v mid : VolumeState) (rows : List Segment) (e e2 : Effect) → mid.image ≡ v.image → e2 ≡ e → LacksRoomFor d mid rows e → LacksRoomFor d v rows e2
-lacks_before d v mid rows e e2 image same L = record {
-  reply = L.reply;
-  change = L.change;
-  own = L.own;
-  is = same ∙ L.is;
-  blank = L.blank;
-  lacks = subst (λ (x : List ℕ). LacksRoom (images_of d) d.types x (rows_stored rows L.change) (inserts_root L.change)) image L.lacks;
-}
 
 -- What is known of a call: its number, where what it inserts begins, and the codes of that; the area is its rows.
 pub record IsCut (d : Database) (old : List Kept) (number : ℕ) (ssas : List Ssa) (area : List ℕ) (n code : ℕ) : Type 0 where

@@ -1,6 +1,7 @@
 -- What REPL's area asks of a state.
-use Rattle.std.proofs.Common.{◌≡◌, ℕ, ◌<◌, ◌≤◌, List, length, Result, Ok, Err, refl, ap, sym, ◌∙◌, subst}
-use Rattle.std.specs.Prelude.{map}
+use Rattle.std.proofs.Common.{◌≡◌, ℕ, ◌<◌, ◌≤◌, List, length, true, Result, Ok, Err, refl, ap, sym, ◌∙◌, subst, arith}
+use Rattle.std.specs.Prelude.{◌-◌, map, slice_index_or}
+use Rattle.std.proofs.lemmas.List.{get_or_default}
 use Rattle.hd_dbd.specs.Types.{View}
 use Rattle.hd_dbd.specs.Hierarchy.{Database}
 use Rattle.hd_dbd.specs.declared.answer.Status.TheVariants.{V1}
@@ -11,16 +12,19 @@ use Rattle.hd_calls.specs.declared.call.AreaFault.{AreaFault}
 use Rattle.hd_calls.specs.declared.call.AreaFault.TheVariants.{Length, Bytes}
 use Rattle.hd_calls.specs.Functions.{result_and_then}
 use Rattle.hd_calls.specs.Ssas.{Ssa}
+use Rattle.std.specs.List.{list_all}
 use Rattle.hd_calls.specs.Moves.{Rewrite}
-use Rattle.hd_calls.specs.Steps.{State, Effect, Part, wrong_area, bare_answer, position_at, divide, with_parts, held_part, rewrites_of, rewrites_asked, replace_rows}
+use Rattle.hd_calls.specs.Steps.{State, Effect, Part, wrong_area, bare_answer, position_at, divide, with_parts, held_part, rewrites_of, rewrites_asked, keeps_key, replace_rows}
 use Rattle.hd_volume.specs.Volumes.{VolumeState}
 use Rattle.hd_links.specs.Placed.{Placed}
 use Rattle.hd_position.specs.Kept.{Kept}
 use Rattle.hd_links.specs.Steps.{rows_of}
-use Rattle.hd_position.specs.Kept.{path_passed}
+use Rattle.hd_position.specs.Kept.{kept_start, path_passed}
+use Rattle.hd_image.specs.Holding.{HoldsPlaced}
+use Rattle.hd_image.proofs.OneImage.{held-same}
 use Rattle.hd_update.specs.Calls.{replace_effect, AreAsked}
 use Rattle.hd_update.specs.Held.{held_rows}
-use Rattle.hd_update.specs.Replacing.{part_of, parts_held, new_bytes_from, AreRewritesOf, AreOnPath}
+use Rattle.hd_update.specs.Replacing.{part_of, parts_held, new_bytes_from, AreRewritesOf, AreOnPath, IsRoomMadeFor, MayReplaceAll}
 use Rattle.hd_update.specs.States.{Represents, kept_of}
 use Rattle.hd_update.specs.declared.held.HeldRow.{HeldRow}
 use Rattle.hd_update.specs.declared.rewrites.NewBytes.{NewBytes}
@@ -103,3 +107,29 @@ module _ (d : Database) (v : VolumeState) (old : List Kept) (st : State) (number
         };
         effect = λ pcb. effect_by pcb (Ok P.parts) P.is;
       }
+
+-- ---- what may be done
+
+module _ (d : Database) (v : VolumeState) (old : List Kept) (st : State) (number : ℕ) (R : Represents d v old st) (some : 0 < number) (within : number ≤ length old) (area : List ℕ) (news : List NewBytes)
+    (ws : List Rewrite) (A : AreAsked d v old number area news st R ws) where
+  -- the rewrites, in a volume of the same image that has room and memory for them
+  pub may_replace_asked : (mid w : VolumeState) (path : List ℕ) → HoldsPlaced d mid R.placed → w.image ≡ mid.image → w.size ≡ mid.size → w.sizes ≡ mid.sizes
+      → true ≡ list_all (λ z. keeps_key d.types (rows_of R.placed) z) ws → path ≡ (kept_of old number).path → IsRoomMadeFor d.types area news w → MayReplaceAll d w path area news R.placed ws
+  may_replace_asked mid w path holds image size sizes keys is made =
+      let own = own_stands d v old st number R some within in
+      let room = made R.placed ws A.are in
+      record {
+        holds = held-same d mid w image size sizes R.placed holds;
+        are = A.are;
+        keys = sym keys;
+        passed = (position_at st number).passed;
+        within = own.within;
+        path_is = is ∙ own.path;
+        on = A.on;
+        room = room.0;
+        memory = room.1;
+      }
+
+-- the path of a PCB
+pub own_path : (kept : List Kept) (number : ℕ) (k : Kept) (path : List ℕ) → 0 < number → number ≤ length kept → path ≡ (slice_index_or kept (number - 1) k).path → path ≡ (kept_of kept number).path
+own_path kept number k path some within at = at ∙ ap (λ (x : Kept). x.path) (get_or_default kept (number - 1) k kept_start (omega arith))

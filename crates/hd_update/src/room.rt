@@ -205,7 +205,7 @@ pub fn make_room_to_replace<S: BlockStore>(
     requires few { length news.now ≤ 15 }
     requires fit { AreInArea dbd.now.types area.now news.now }
     requires formatted { IsTrue volume.old.is_sound → IsFormatted volume.old }
-    requires small { volume.old.size ≤ 32768 }
+    requires size { volume.old.size ≡ dbd.now.block_size }
     ensures call { IsCall volume.old result volume.new }
     ensures image { IsTrue volume.new.is_sound → volume.new.image ≡ volume.old.image }
     ensures made { OnOk result (IsTrue volume.old.is_sound → IsRoomMadeFor dbd.now.types area.now news.now volume.new) }
@@ -213,6 +213,7 @@ pub fn make_room_to_replace<S: BlockStore>(
     ensures longer { IfErr result (λ _. MakeLonger dbd.now.types area.now news.now) }
     ensures refusal { OnlyRoomOrDevice result }
 {
+    let _ = dbd.types();
     let (count, total) = room_asked(dbd, area, news);
     if count == 0 {
         return Ok(());

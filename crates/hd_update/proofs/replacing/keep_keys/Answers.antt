@@ -13,7 +13,7 @@ use Rattle.hd_update.proofs.Rewritten.{next_of, none_left, row_stored}
 use Rattle.hd_update.proofs.replacing.keep_keys.Goals as goal
 
 abbrev none : NewBytes
-none = record { address = 0; code = 0; start = 0; length = 0 }
+none = record { address = 0; code = 0; had = 0; start = 0; length = 0 }
 
 pub keeps_key-requires-clause-of : goal.keeps_key-requires-clause-of
 keeps_key-requires-clause-of g c = volume-kept c.args.dbd.now c.args.volume.now c.loop-place.volume c.loop-place.invariant.read c.requires.of
