@@ -40,7 +40,7 @@ pub record IsAnsweredRun (d : Database) (pcbs : List View) (image : List ℕ) (t
   pub passed : PassesFor d image rows
   pub asked : turns_in log.entries ≡ turns
   pub legal : IsLegalLog (images_of d) d.types pcbs image (opened pcbs rows) log
-  pub lacking : All LacksMemoryFairly log.entries
+  pub lacking : All (LacksMemoryFairly d.types) log.entries
   pub passes : PassesFor d left (last_state d.types pcbs (opened pcbs rows) log.entries).rows
 
 -- every run that is played is such a one

@@ -94,7 +94,7 @@ parts-say : (t : SegmentType) → parts_fit t ≡ true → HasLengths t
 parts-say t fits =
     let to_key = and_parts _ _ (and_parts _ _ fits).0 in
     let to_least = and_parts _ _ to_key.0 in
-    let least = least-two t t.least refl (and_parts _ _ to_least.1).0 in
+    let least = least-two t t.least refl to_least.1 in
     record { some = ltb-true 0 t.length to_least.0; most = least.0; said = least.1; key = key-inside t t.key refl to_key.1 }
 
 pub parts-part : (block_size : ℕ) (types : List SegmentType) (c : ℕ) (t : SegmentType) → type_fits block_size types c t ≡ true → parts_fit t ≡ true

@@ -35,10 +35,9 @@ abbrev pub fields_fit : ℕ → List Field → Bool
 fields_fit len [] = true
 fields_fit len (f ∷ fs) = part_fits len f.start f.length && fields_fit len fs
 
--- where the segments vary, the least of them holds the two bytes that say how many they are, and is no longer than the longest; and a
--- type whose segments vary is not taken yet
+-- where the segments vary, the least of them holds the two bytes that say how many they are, and is no longer than the longest
 abbrev pub least_fits : SegmentType → Bool
-least_fits t = option_map_or (λ least. nat_le 2 least && nat_le least t.length) t.least true && is_none t.least
+least_fits t = option_map_or (λ least. nat_le 2 least && nat_le least t.length) t.least true
 
 -- B5: the segment has a byte, a least length that fits if they vary, and its key and its fields lie inside the least of them
 abbrev pub parts_fit : SegmentType → Bool

@@ -61,15 +61,13 @@ fn fields_fit(length: u32, fields: &[Field]) -> bool
     true
 }
 
-/// Whether a least length holds the two bytes that say how many bytes a segment has, and is no longer than the longest; none
-/// is taken yet.
+/// Whether a least length holds the two bytes that say how many bytes a segment has, and is no longer than the longest.
 fn least_fits(segment: &SegType) -> bool
     ensures { result ≡ least_fits segment.now }
 {
     segment
         .least
         .is_none_or(|least| 2 <= least && least <= segment.length)
-        && segment.least.is_none()
 }
 
 /// Whether the segment has a byte, a least length that fits if it has one, and its key and its fields lie inside that.

@@ -138,7 +138,7 @@ pub record IsPlayed (d : Database) (pcbs : List View) (bytes : List ℕ) (turns 
   pub one : (g : Forest Segment) → HoldsForest d (volume_of d bytes) g → g ≡ forest
   pub legal : IsLegalLog (images_of d) d.types pcbs bytes (opened pcbs (sequence forest)) log
   pub asked : turns_in log.entries ≡ turns
-  pub lacking : All LacksMemoryFairly log.entries
+  pub lacking : All (LacksMemoryFairly d.types) log.entries
   pub ends : log.last ≡ left
 
 -- A run that made all calls: their log, its lines, which were written, and how many of the calls found no memory.

@@ -3,6 +3,7 @@ use Rattle.std.proofs.Common.{◌≡◌, ◌≢◌, ◌⊎◌, ℕ, ◌<◌, ◌
 use Rattle.std.specs.Prelude.{IfErr, IfSome}
 use Rattle.std.proofs.lemmas.Bool.{cases_lt}
 use Rattle.std.proofs.lemmas.List.{length-map}
+use Rattle.hd_volume.proofs.JoinLemmas.{if-err-map}
 use Rattle.std.proofs.lemmas.List.Elements.{All-nil, All-cons, All-append}
 use Rattle.hd_dbd.specs.declared.answer.Refused.{Refused}
 use Rattle.hd_dbd.specs.declared.answer.Refused.TheVariants as refused
@@ -48,27 +49,20 @@ made_none s st whole stands = record {
   begins = refl;
   runs = tt;
   follows = holds_state s.database s.volume s.kept st stands;
-  lacking = All-nil LacksMemoryFairly;
+  lacking = All-nil (LacksMemoryFairly s.database.types);
   represents = stands;
   whole = whole_none s whole;
 }
 
--- memory was wanting in vain but at an ISRT, or with more than four arguments
-takes : (f : Option Function) (n : ℕ) → (f ≢ Some Insert → n ≤ 4 → ⊥) → (f ≡ Some Insert) ⊎ (4 < n)
-takes (Some Insert) n none = inl refl
-takes None n none = elim (cases_lt 4 n) [ inl more ↦ inr more | inr few ↦ absurd (none (λ e. cc) few) ]
-takes (Some (Get kind hold)) n none = elim (cases_lt 4 n) [ inl more ↦ inr more | inr few ↦ absurd (none (λ e. cc) few) ]
-takes (Some Replace) n none = elim (cases_lt 4 n) [ inl more ↦ inr more | inr few ↦ absurd (none (λ e. cc) few) ]
-takes (Some Delete) n none = elim (cases_lt 4 n) [ inl more ↦ inr more | inr few ↦ absurd (none (λ e. cc) few) ]
-
-takes_where : (call : CallText) (io : Buffer) (result : Result Answer Refused) → (function_of call.function ≢ Some Insert → length call.ssas ≤ 4 → IfErr result (λ e. e ≢ refused.Memory))
-    → outcome_of result io ≡ Some memory → TakesMemory call
-takes_where call io (Ok a) never is = cc
-takes_where call io (Err refused.Memory) never is = takes (function_of call.function) (length call.ssas) (λ other few. never other few refl)
-takes_where call io (Err refused.Full) never is = cc
-takes_where call io (Err refused.Device) never is = cc
-takes_where call io (Err refused.Broken) never is = cc
-takes_where call io (Err refused.Area) never is = cc
+-- memory was wanting only where the call takes some
+takes_where : (types : List SegmentType) (call : CallText) (io : Buffer) (result : Result Answer Refused) → IfErr result (λ e. e ≡ refused.Memory → TakesMemory types call)
+    → outcome_of result io ≡ Some memory → TakesMemory types call
+takes_where types call io (Ok a) takes is = cc
+takes_where types call io (Err refused.Memory) takes is = takes refl
+takes_where types call io (Err refused.Full) takes is = cc
+takes_where types call io (Err refused.Device) takes is = cc
+takes_where types call io (Err refused.Broken) takes is = cc
+takes_where types call io (Err refused.Area) takes is = cc
 
 module _ (s t : SessionState) (turn : Turn) (io : Buffer) where
   -- a call that came to an outcome leaves the session whole
@@ -120,7 +114,9 @@ module _ (s t : SessionState) (turn : Turn) (io : Buffer) where
         begins = refl;
         runs = (made.pcb.0, made.pcb.1, logged.may, tt);
         follows = (holds_state s.database s.volume s.kept st stands, logged.follows, holds_state s.database t.volume t.kept after logged.represents);
-        lacking = All-cons LacksMemoryFairly (entry_of s turn o) [] (λ lacks. takes_where turn.call io result made.memory (is ∙ ap Some lacks)) (All-nil LacksMemoryFairly);
+        lacking =
+            All-cons (LacksMemoryFairly s.database.types) (entry_of s turn o) []
+            (λ lacks. takes_where s.database.types turn.call io result (if-err-map result (λ e takes is. takes is sound) made.memory) (is ∙ ap Some lacks)) (All-nil (LacksMemoryFairly s.database.types));
         represents = logged.represents;
         whole = turn_whole result o made is;
       }
@@ -185,12 +181,13 @@ made_both s m t st xs ys es fs f g =
     let represents : Represents s.database t.volume t.kept (last_state s.database.types s.pcbs middle fs) =
     subst (λ (d : Database). Represents d t.volume t.kept (last_state d.types s.pcbs middle fs)) database
     (subst (λ (ps : List View). Represents m.database t.volume t.kept (last_state m.database.types ps middle fs)) pcbs g.represents) in
+    let lacking : All (LacksMemoryFairly s.database.types) fs = subst (λ (d : Database). All (LacksMemoryFairly d.types) fs) database g.lacking in
     record {
       asked = turns_in_append es fs ∙ ap (λ (ts : List Turn). ts ++ turns_in fs) f.asked ∙ ap (λ (ts : List Turn). xs ++ ts) g.asked;
       begins = image_at_append es fs m.volume.image t.volume.image g.begins ∙ f.begins;
       runs = run_append s.database.types s.pcbs st es fs f.runs runs;
       follows = images_append (images_of s.database) s.database.types s.pcbs st es fs m.volume.image t.volume.image f.follows g.begins follows;
-      lacking = All-append LacksMemoryFairly es fs f.lacking g.lacking;
+      lacking = All-append (LacksMemoryFairly s.database.types) es fs f.lacking lacking;
       represents = rw (last_state_append s.database.types s.pcbs st es fs) represents;
       whole = whole_both s m t f.whole g.whole;
     }

@@ -1,10 +1,13 @@
 -- Calls that are made in a session one after another, and the entries of a log that they come to.
-use Rattle.std.specs.Prelude.{◌≡◌, ◌≢◌, ◌⊎◌, ℕ, ◌<◌, ◌≤◌, List, length, map, false, All, Some, Result, IfErr}
+use Rattle.std.specs.Prelude.{◌≡◌, ◌⊎◌, ℕ, ◌<◌, ◌≤◌, List, length, map, true, false, All, Some, Result, IsTrue, IfErr}
 use Rattle.hd_dbd.specs.declared.answer.Refused.{Refused}
 use Rattle.hd_dbd.specs.declared.answer.Refused.TheVariants as refused
 use Rattle.hd_dbd.specs.Calls.{CallText}
 use Rattle.hd_dbd.specs.Logs.{Outcome, memory, Entry}
-use Rattle.hd_calls.specs.declared.call.Function.TheVariants.{Insert}
+use Rattle.hd_dbd.specs.Types.{SegmentType}
+use Rattle.hd_dbd.specs.Lengths.{some_vary}
+use Rattle.hd_calls.specs.declared.call.Function.{Function}
+use Rattle.hd_calls.specs.declared.call.Function.TheVariants.{Insert, Replace}
 use Rattle.hd_calls.specs.Functions.{function_of}
 use Rattle.hd_calls.specs.Steps.{State}
 use Rattle.hd_calls.specs.Runs.{IsRun, last_state, image_at, ImagesFollow}
@@ -25,13 +28,17 @@ pub record Turn : Type 0 where
 abbrev pub turns_in : {Image : Type 0} → List (Entry Image) → List Turn
 turns_in entries = map (λ e. record { pcb = e.pcb; call = e.call }) entries
 
--- a call that takes memory: an ISRT, or one with more than four segment search arguments
-abbrev pub TakesMemory : CallText → Type 0
-TakesMemory call = (function_of call.function ≡ Some Insert) ⊎ (4 < length call.ssas)
+-- calls of a function may take memory: ISRT, and REPL where the segments of some type vary, for it may make rows longer
+abbrev pub MayTakeMemory : List SegmentType → Function → Type 0
+MayTakeMemory types f = (f ≡ Insert) ⊎ ((f ≡ Replace) × (some_vary types ≡ true))
+
+-- a call that takes memory: one of such a function, or one with more than four segment search arguments
+abbrev pub TakesMemory : List SegmentType → CallText → Type 0
+TakesMemory types call = ((f : Function) × (function_of call.function ≡ Some f) × MayTakeMemory types f) ⊎ (4 < length call.ssas)
 
 -- an entry says that memory was wanting only where its call takes some
-abbrev pub LacksMemoryFairly : {Image : Type 0} → Entry Image → Type 0
-LacksMemoryFairly e = e.outcome ≡ memory → TakesMemory e.call
+abbrev pub LacksMemoryFairly : {Image : Type 0} → List SegmentType → Entry Image → Type 0
+LacksMemoryFairly types e = e.outcome ≡ memory → TakesMemory types e.call
 
 -- No access has failed in a session, which is still of its database and its PCBs.
 pub record StaysWhole (s t : SessionState) : Type 0 where
@@ -47,7 +54,7 @@ pub record StaysWhole (s t : SessionState) : Type 0 where
 pub record IsTurnAnswered (s : SessionState) (turn : Turn) (result : Result Answer Refused) (io : Buffer) (t : SessionState) : Type 0 where
   pub pcb : (0 < turn.pcb) × (turn.pcb ≤ length s.pcbs)
   pub logged : IsCallLogged s turn.pcb turn.call result io t
-  pub memory : function_of turn.call.function ≢ Some Insert → length turn.call.ssas ≤ 4 → IfErr result (λ e. e ≢ refused.Memory)
+  pub memory : IfErr result (λ e. e ≡ refused.Memory → IsTrue s.volume.is_sound → TakesMemory s.database.types turn.call)
   pub same : t ≡ record s { volume = t.volume; kept = t.kept; broken = is_broken_by result }
   pub call : IsCall s.volume result t.volume
 
@@ -58,7 +65,7 @@ pub record AreMade (s : SessionState) (st : State) (turns : List Turn) (entries 
   pub begins : image_at entries t.volume.image ≡ s.volume.image
   pub runs : IsRun s.database.types s.pcbs st entries
   pub follows : ImagesFollow (images_of s.database) s.database.types s.pcbs st entries t.volume.image
-  pub lacking : All LacksMemoryFairly entries
+  pub lacking : All (LacksMemoryFairly s.database.types) entries
   pub represents : Represents s.database t.volume t.kept (last_state s.database.types s.pcbs st entries)
   pub whole : StaysWhole s t
 

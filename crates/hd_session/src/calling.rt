@@ -15,6 +15,7 @@ ghost use Rattle.hd_session.specs.Replies.{reply_of};
 ghost use Rattle.hd_session.specs.Giving.{IsEmpty};
 ghost use Rattle.hd_session.specs.Above.{AreKeysOf};
 ghost use Rattle.hd_session.specs.Inserts.{AreArgumentsOf};
+ghost use Rattle.hd_session.specs.Turns.{MayTakeMemory, TakesMemory};
 ghost use Rattle.hd_session.specs.Sessions.{IsStepDone, IsUndoneUnlessDevice, IsRoomLacking, own_in, call_in};
 
 use crate::above::KeysAbove;
@@ -112,7 +113,8 @@ fn answer_accepted<S: BlockStore>(
     ensures area { IfErr result (λ e. IsAreaWrong dbd.now volume.old positions.old (own_in dbd.now pcb.now number call.now.area accepted.now) e) }
     ensures full { IfErr result (λ e. IsRoomLacking dbd.now volume.old positions.old (own_in dbd.now pcb.now number call.now.area accepted.now) e) }
     ensures refusal { IfErr result (λ e. e ≢ Refused.Broken) }
-    ensures memory { accepted.now.function ≢ Function.Insert → IfErr result (λ e. e ≢ Refused.Memory) }
+    ensures memory { IfErr result (λ e. e ≡ Refused.Memory → IsTrue volume.old.is_sound → MayTakeMemory dbd.now.types accepted.now.function) }
+    ensures never { accepted.now.function ≢ Function.Insert → accepted.now.function ≢ Function.Replace → IfErr result (λ e. e ≢ Refused.Memory) }
     ensures empty { IfErr result (λ _. IsEmpty io.new) }
     ensures same_room { io.new.room ≡ io.old.room }
     ensures many { length positions.new ≡ length positions.old }
@@ -169,7 +171,8 @@ pub fn call_step<S: BlockStore>(
     ensures area { IfErr result (λ e. IsAreaWrong dbd.now volume.old positions.old (call_in dbd.now pcb.now number call.now) e) }
     ensures full { IfErr result (λ e. IsRoomLacking dbd.now volume.old positions.old (call_in dbd.now pcb.now number call.now) e) }
     ensures refusal { IfErr result (λ e. e ≢ Refused.Broken) }
-    ensures memory { function_of call.now.function ≢ Some Function.Insert → length call.now.ssas ≤ 4 → IfErr result (λ e. e ≢ Refused.Memory) }
+    ensures memory { IfErr result (λ e. e ≡ Refused.Memory → IsTrue volume.old.is_sound → TakesMemory dbd.now.types call.now) }
+    ensures never { function_of call.now.function ≢ Some Function.Insert → function_of call.now.function ≢ Some Function.Replace → length call.now.ssas ≤ 4 → IfErr result (λ e. e ≢ Refused.Memory) }
     ensures empty { IfErr result (λ _. IsEmpty io.new) }
     ensures same_room { io.new.room ≡ io.old.room }
     ensures many { length positions.new ≡ length positions.old }

@@ -9,6 +9,7 @@ ghost use Rattle.hd_session.specs.Opening.{session_at_start, IsOpenedOver, IsOpe
 ghost use Rattle.hd_session.specs.Giving.{IsEmpty};
 ghost use Rattle.hd_session.specs.Sessions.{IsUndoneUnlessDevice};
 ghost use Rattle.hd_session.specs.Logged.{IsCallLogged};
+ghost use Rattle.hd_session.specs.Turns.{TakesMemory};
 
 use crate::above::KeysAbove;
 use crate::buffer::IoArea;
@@ -93,7 +94,8 @@ impl<'a, S: BlockStore> Session<'a, S> {
     ///
     /// `Area`, `Full` and `Memory` change nothing: the I/O area's bytes have not the length that the call asks, the volume has no room for
     /// the rows, or no memory was found. `Device` says that an access failed in this call; from then on every call is `Broken`, whatever it
-    /// asks. GU, GN, GNP, their hold forms, REPL and DLET take no memory with four segment search arguments at most.
+    /// asks. GU, GN, GNP, their hold forms and DLET take no memory with four segment search arguments at most, and neither does REPL where
+    /// the segments of no type vary in length.
     pub fn call(&mut self, pcb: u8, call: &Call, io: &mut IoArea) -> Result<Answer, Refused>
         requires pcb { (0 < pcb) × (pcb ≤ length self.old.pcbs) }
         requires room { longest_path self.old.database.types ≤ io.old.room }
@@ -103,7 +105,8 @@ impl<'a, S: BlockStore> Session<'a, S> {
         ensures broken { self.old.broken ≡ was_broken result }
         ensures untouched { self.old.broken ≡ true → self.new ≡ self.old }
         ensures call { IsCall self.old.volume result self.new.volume }
-        ensures memory { function_of call.now.function ≢ Some Function.Insert → length call.now.ssas ≤ 4 → IfErr result (λ e. e ≢ Refused.Memory) }
+        ensures memory { IfErr result (λ e. e ≡ Refused.Memory → IsTrue self.old.volume.is_sound → TakesMemory self.old.database.types call.now) }
+        ensures never { function_of call.now.function ≢ Some Function.Insert → function_of call.now.function ≢ Some Function.Replace → length call.now.ssas ≤ 4 → IfErr result (λ e. e ≢ Refused.Memory) }
         ensures empty { IfErr result (λ _. IsEmpty io.new) }
         ensures same_room { io.new.room ≡ io.old.room }
     {

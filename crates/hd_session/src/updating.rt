@@ -1,10 +1,12 @@
-ghost use Rattle.std.specs.Prelude.{◌≡◌, ◌⊎◌, ◌<◌, ◌≤◌, length, take, IsTrue, IfOk, IfErr};
+ghost use Rattle.std.specs.Prelude.{◌≡◌, ◌≢◌, ◌<◌, ◌≤◌, length, take, true, IsTrue, IfOk, IfErr};
+ghost use Rattle.hd_dbd.specs.Facts.{stored_sizes};
 ghost use Rattle.hd_dbd.specs.Hierarchy.{longest_path};
+ghost use Rattle.hd_dbd.specs.Lengths.{some_vary};
 ghost use Rattle.hd_dbd.specs.Refusals.{OnlyDevice};
 ghost use Rattle.hd_volume.specs.Calls.{IsCall, IsRead};
 ghost use Rattle.hd_get.specs.Gets.{HasPosition};
 ghost use Rattle.hd_update.specs.States.{HasState, IsUndone, kept_of};
-ghost use Rattle.hd_update.specs.Calls.{IsReplaceAreaWrong};
+ghost use Rattle.hd_update.specs.Calls.{IsReplaceAreaWrong, IsReplaceFull};
 ghost use Rattle.hd_session.specs.Replies.{reply_of};
 ghost use Rattle.hd_session.specs.Giving.{IsEmpty};
 ghost use Rattle.hd_session.specs.Sessions.{IsLevelGiven, IsTold, IsReplaceStep, IsDeleteStep, lowest_level, deleted_level};
@@ -96,16 +98,20 @@ pub fn answer_repl<S: BlockStore>(
 ) -> Result<Answer, Refused>
     requires number { (0 < number) × (number ≤ length positions.old) }
     requires state { HasState dbd.now volume.old positions.old }
+    requires size { volume.old.size ≡ dbd.now.block_size }
+    requires sizes { volume.old.sizes ≡ stored_sizes dbd.now.types }
     requires held { IsTrue volume.old.is_sound → 0 < length (kept_of positions.old number).held }
     requires room { longest_path dbd.now.types ≤ io.old.room }
     ensures call { IsCall volume.old result volume.new }
     ensures done { IfOk result (λ a. IsReplaceStep dbd.now volume.old positions.old number ssas.now area.now (reply_of a io.new) volume.new positions.new) }
     ensures undone { IfErr result (λ _. IsUndone volume.old positions.old volume.new positions.new) }
     ensures area { IfErr result (λ e. IsReplaceAreaWrong dbd.now volume.old positions.old number ssas.now area.now e) }
+    ensures full { IfErr result (λ e. IsReplaceFull dbd.now volume.old positions.old number ssas.now area.now e) }
+    ensures vary { IfErr result (λ e. e ≡ Refused.Memory → IsTrue volume.old.is_sound → some_vary dbd.now.types ≡ true) }
     ensures empty { IfErr result (λ _. IsEmpty io.new) }
     ensures same_room { io.new.room ≡ io.old.room }
     ensures many { length positions.new ≡ length positions.old }
-    ensures refusal { IfErr result (λ e. (e ≡ Refused.Area) ⊎ (e ≡ Refused.Device)) }
+    ensures refusal { IfErr result (λ e. e ≢ Refused.Broken) }
 {
     if positions[number - 1].held().as_slice().is_empty() {
         return Ok(give_none(Status::DJ, io));
@@ -125,16 +131,20 @@ fn replace_held<S: BlockStore>(
 ) -> Result<Answer, Refused>
     requires number { (0 < number) × (number ≤ length positions.old) }
     requires state { HasState dbd.now volume.old positions.old }
+    requires size { volume.old.size ≡ dbd.now.block_size }
+    requires sizes { volume.old.sizes ≡ stored_sizes dbd.now.types }
     requires held { 0 < length (kept_of positions.old number).held }
     requires room { longest_path dbd.now.types ≤ io.old.room }
     ensures call { IsCall volume.old result volume.new }
     ensures done { IfOk result (λ a. IsReplaceStep dbd.now volume.old positions.old number ssas.now area.now (reply_of a io.new) volume.new positions.new) }
     ensures undone { IfErr result (λ _. IsUndone volume.old positions.old volume.new positions.new) }
     ensures area { IfErr result (λ e. IsReplaceAreaWrong dbd.now volume.old positions.old number ssas.now area.now e) }
+    ensures full { IfErr result (λ e. IsReplaceFull dbd.now volume.old positions.old number ssas.now area.now e) }
+    ensures vary { IfErr result (λ e. e ≡ Refused.Memory → IsTrue volume.old.is_sound → some_vary dbd.now.types ≡ true) }
     ensures empty { IfErr result (λ _. IsEmpty io.new) }
     ensures same_room { io.new.room ≡ io.old.room }
     ensures many { length positions.new ≡ length positions.old }
-    ensures refusal { IfErr result (λ e. (e ≡ Refused.Area) ⊎ (e ≡ Refused.Device)) }
+    ensures refusal { IfErr result (λ e. e ≢ Refused.Broken) }
 {
     let level = lowest_level(positions[number - 1].held());
     let given = give_level(volume, dbd, &positions[number - 1], level, io)?;

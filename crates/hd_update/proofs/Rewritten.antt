@@ -2,12 +2,13 @@
 use Rattle.std.proofs.Common.{◌≡◌, ◌≢◌, ◌⊎◌, ℕ, zero, suc, ◌+◌, ◌-◌, ◌<◌, ◌≤◌, List, [], ◌∷◌, ◌++◌, length, take, drop, Bool, true, false, cond, refl, ap, ap₂, sym, ◌∙◌, subst, arith, inl, inr}
 use Rattle.std.specs.Prelude.{map, slice_index_or, slice_set, ◌&&◌, ◌||◌, ◌==◌}
 use Rattle.std.specs.List.{list_all, list_any}
-use Rattle.std.proofs.lemmas.Bool.{cases_eq, and_parts, or_parts}
+use Rattle.std.proofs.lemmas.Bool.{cases_eq, and_parts, or_parts, le-ltb}
 use Rattle.std.proofs.lemmas.List.{get_or-set_same, get_or-set_other}
 use Rattle.std.proofs.lemmas.Slice.Eq.{bytes_eq-Decides}
 use Rattle.hd_dbd.specs.Types.{SegmentType}
 use Rattle.hd_dbd.specs.Hierarchy.{Database, level_of}
 use Rattle.hd_dbd.specs.Segment.{Segment}
+use Rattle.hd_dbd.specs.Lengths.{some_vary}
 use Rattle.hd_dbd.specs.Rows.{key_of, row_fits}
 use Rattle.hd_dbd.specs.Paths.{row_at, no_row}
 use Rattle.hd_dbd.specs.Prefixes.{size_with}
@@ -15,11 +16,12 @@ use Rattle.hd_dbd.specs.declared.answer.Refused.{Refused}
 use Rattle.hd_dbd.specs.declared.answer.Refused.TheVariants.{Memory, Full, Device}
 use Rattle.hd_dbd.specs.Positions.{Position}
 use Rattle.hd_dbd.specs.Forest.{Forest}
+use Rattle.hd_dbd.proofs.FixedLengths.{equally-long}
 use Rattle.hd_calls.specs.Moves.{Rewrite, rewritten, is_rewritten, position_after_rewrite}
 use Rattle.hd_calls.specs.Runs.{is_longer, lengthens, row_with, rows_stored}
 use Rattle.hd_calls.specs.Steps.{keeps_key}
 use Rattle.hd_volume.specs.Volumes.{VolumeState}
-use Rattle.hd_links.specs.Links.{Links, IsSegment, segment_at}
+use Rattle.hd_links.specs.Links.{Links, IsSegment, IsLinkGraph, segment_at}
 use Rattle.hd_links.specs.Placed.{Placed}
 use Rattle.hd_links.specs.Changes.{with_bytes, CanReplace}
 use Rattle.hd_links.specs.Moves.{moved_to, with_address}
@@ -29,6 +31,7 @@ use Rattle.hd_links.proofs.Numbers.{rows_addressed}
 use Rattle.hd_links.proofs.RowChanges.{bytes_in}
 use Rattle.hd_image.specs.Records.{links_of}
 use Rattle.hd_image.specs.Holding.{HoldsPlaced}
+use Rattle.hd_image.proofs.Found.{records-link}
 use Rattle.hd_volume.specs.Rooms.{spare, HasHole}
 use Rattle.hd_forest.specs.Walks.{tip}
 use Rattle.hd_forest.specs.Rewrites.{Outgrows}
@@ -45,7 +48,7 @@ use Rattle.hd_update.specs.Replacing.{part_for, IsInArea, AreInArea, IsRewriteOf
 use Rattle.hd_update.specs.declared.replaced.ReplacedRow.{ReplacedRow}
 use Rattle.hd_update.specs.declared.rewrites.NewBytes.{NewBytes}
 use Rattle.hd_update.proofs.AskedPaths.{IsAtTurn, at_turn}
-use Rattle.hd_update.proofs.RewriteRooms.{replace_refused, room_left, memory_left}
+use Rattle.hd_update.proofs.RewriteRooms.{stored_same, replace_refused, room_left, memory_left}
 use Rattle.hd_update.proofs.Taken.{leads_to_row}
 
 -- ---- one of them
@@ -170,6 +173,27 @@ module _ (d : Database) (v : VolumeState) (f : Forest Placed) (area : List ℕ) 
   -- and its new bytes are the part of the area
   pub new_row_is : asked_row ≡ new_row
   new_row_is = ap₂ (λ (c : ℕ) (b : List ℕ). record { code = c; bytes = b }) of.code of.bytes
+
+  -- and where no segments vary it is as long as the row
+  pub as_long : some_vary d.types ≡ false → length w.bytes ≡ length (row_at (rows_of f) w.number).bytes
+  as_long none =
+      let G : IsLinkGraph d.types (length v.image) m = records-link d v holds.volume.fit holds.volume in
+      let row : Segment = row_at (rows_of f) w.number in
+      equally-long d.types (record { code = row.code; bytes = w.bytes }) row none refl (ap (λ (c : ℕ). row_fits d.types (record { code = c; bytes = w.bytes })) (sym of.code) ∙ of.fits)
+      (ap (row_fits d.types) (sym row_is) ∙ ap (row_fits d.types) row_in_place ∙ G.fits n.address row_stored)
+    where
+      row_in_place : stored_row ≡ segment_at m n.address
+      row_in_place = row_is ∙ sym (ap (segment_at m) of.address ∙ addressed.same w.number of.row)
+
+-- no row is made longer then
+pub none_stored : (d : Database) (v : VolumeState) (f : Forest Placed) (area : List ℕ) (news : List NewBytes) (ws : List Rewrite) → HoldsPlaced d v f → some_vary d.types ≡ false
+    → AreRewritesOf d.types f area news ws → rows_stored (rows_of f) (rewritten ws) ≡ []
+none_stored d v f area [] [] holds none are = refl
+none_stored d v f area [] (w ∷ ws) holds none are = absurd are
+none_stored d v f area (n ∷ ns) [] holds none are = absurd are
+none_stored d v f area (n ∷ ns) (w ∷ ws) holds none are =
+    let long : length w.bytes ≡ length (row_at (rows_of f) w.number).bytes = as_long d v f area n w holds are.0 none in
+    stored_same (rows_of f) w ws (le-ltb (length (row_at (rows_of f) w.number).bytes) (length w.bytes) (omega arith)) ∙ none_stored d v f area ns ws holds none are.1
 
 -- ---- from row to row
 

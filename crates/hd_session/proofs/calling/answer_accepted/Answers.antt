@@ -67,6 +67,14 @@ returns-in-Replace-clause-area g c = if-err-map c.answer_repl.result (λ e area 
     sym (own_is d c.args.pcb.now n st c.deref-in-Replace.result.now c.args.call.now.area Replace c.accepted.inside.function c.ssas-ssas.result.now c.accepted.inside.ssas c.args.accepted.now
     (c.deref-in-Replace.ensures.value ∙ ap (λ (x : CallText). x.area) c.call.view_is) c.ssas-ssas.ensures c.in-Replace.is c.accepted.view_is) ∙ area c.args.pcb.now st is sound R) c.answer_repl.ensures.area
 
+pub returns-in-Replace-clause-full : goal.returns-in-Replace-clause-full
+returns-in-Replace-clause-full g c = if-err-map c.answer_repl.result (λ e full st is sound R.
+    let d = c.args.dbd.now in
+    let n : ℕ = c.args.number in
+    subst (λ (x : Effect). LacksRoomFor d c.args.volume.now st.rows x)
+    (own_is d c.args.pcb.now n st c.deref-in-Replace.result.now c.args.call.now.area Replace c.accepted.inside.function c.ssas-ssas.result.now c.accepted.inside.ssas c.args.accepted.now
+    (c.deref-in-Replace.ensures.value ∙ ap (λ (x : CallText). x.area) c.call.view_is) c.ssas-ssas.ensures c.in-Replace.is c.accepted.view_is) (full c.args.pcb.now st is sound R)) c.answer_repl.ensures.full
+
 pub returns-in-Delete-clause-done : goal.returns-in-Delete-clause-done
 returns-in-Delete-clause-done g c = if-ok c.answer_dlet.result c.answer_dlet.ensures.done (λ a done st sound R.
     let d = c.args.dbd.now in

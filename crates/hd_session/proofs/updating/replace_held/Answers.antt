@@ -1,10 +1,11 @@
-use Rattle.std.proofs.Common.{◌≡◌, ℕ, ◌-◌, ◌<◌, List, length, ap, subst, ◌∙◌, arith}
+use Rattle.std.proofs.Common.{◌≡◌, ℕ, ◌-◌, ◌<◌, List, length, ap, subst, ◌∙◌, refl, arith}
 use Rattle.std.specs.Prelude.{slice_index_or}
 use Rattle.std.proofs.lemmas.List.{get_or_default}
 use Rattle.hd_calls.specs.Steps.{position_at}
 use Rattle.hd_forest.proofs.Reading.{after-read, sound-before}
 use Rattle.hd_position.specs.Kept.{Kept, kept_start}
-use Rattle.hd_update.proofs.Answering.{represented}
+use Rattle.hd_update.specs.Calls.{replace_effect}
+use Rattle.hd_update.proofs.Answering.{represented, lacks_before}
 use Rattle.hd_update.proofs.Standing.{own_position}
 use Rattle.hd_session.specs.Replies.{reply_of}
 use Rattle.hd_session.specs.Sessions.{lowest_level}
@@ -40,6 +41,15 @@ returns-in-Ok-clause-done g c =
     replaced_step c.args.dbd.now c.args.volume.now c.give_level.new.volume c.repl.new.volume old c.repl.new.positions n c.args.ssas.now k c.lowest_level-level.result
     (reply_of c.in_ok-given.given c.give_level.new.io) (reply_of c.told.result c.told.new.io) c.in-Ok.outcome c.in_ok-given.ensures.read some c.requires.number.1 c.in_ok-given.ensures.given c.told.ensures.told
     c.args.area.now level held c.in-Ok.ensures.done
+
+pub returns-in-Err-clause-full : goal.returns-in-Err-clause-full
+returns-in-Err-clause-full g c pcb st is sound R =
+    let d = c.args.dbd.now in
+    let v = c.args.volume.now in
+    let mid = c.give_level.new.volume in
+    let same = after-read d v mid c.in_ok-given.ensures.read sound in
+    let effect = replace_effect d pcb c.args.number c.args.ssas.now c.args.area.now st in
+    lacks_before d v mid st.rows effect effect same.image refl (c.in-Err.ensures.full pcb st is same.sound (represented d v mid c.args.positions.now st c.in_ok-given.ensures.read sound R))
 
 pub returns-in-Err-clause-area : goal.returns-in-Err-clause-area
 returns-in-Err-clause-area g c pcb st is sound R =
