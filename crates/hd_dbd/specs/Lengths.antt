@@ -1,6 +1,7 @@
 -- How many bytes a segment has: as many as its type says, or, where the type has a least number of them, as many as its first two
 -- bytes say, themselves counted.
-use Rattle.std.specs.Prelude.{ℕ, ◌+◌, ◌*◌, List, length, Bool, ◌&&◌, nat_le, ◌==◌, slice_index}
+use Rattle.std.specs.Prelude.{ℕ, ◌+◌, ◌*◌, List, length, Bool, ◌&&◌, nat_le, ◌==◌, slice_index, is_some}
+use Rattle.std.specs.List.{list_any}
 use Rattle.std.specs.Option.{option_map_or}
 use Rattle.hd_dbd.specs.Types.{SegmentType}
 use Rattle.hd_dbd.specs.Hierarchy.{type_of}
@@ -24,3 +25,7 @@ length_in types c bytes = option_map_or (λ t. own_length t bytes) (type_of type
 -- these are as many bytes as a segment of the type has that begins with them, and no fewer and no more than it may have
 abbrev pub length_fits : SegmentType → List ℕ → Bool
 length_fits t bytes = nat_le (least_length t) (length bytes) && nat_le (length bytes) t.length && length bytes == own_length t bytes
+
+-- some segments vary in length
+abbrev pub some_vary : List SegmentType → Bool
+some_vary types = list_any (λ t. is_some t.least) types

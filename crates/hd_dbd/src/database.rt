@@ -2,7 +2,7 @@ ghost use Rattle.std.specs.Prelude.{◌≡◌, ◌⊎◌, true, is_none, ◌≤�
 ghost use Rattle.hd_dbd.specs.Hierarchy.{type_of, parent_of, level_of, is_under, longest_path};
 ghost use Rattle.hd_dbd.specs.Prefixes.{is_backward_kept, is_last_kept, prefix_length, pointers_at, children_of, size_with, stored_size};
 ghost use Rattle.hd_dbd.specs.Facts.{segment_size};
-ghost use Rattle.hd_dbd.specs.Lengths.{length_in};
+ghost use Rattle.hd_dbd.specs.Lengths.{length_in, some_vary};
 ghost use Rattle.hd_dbd.specs.Rows.{key_of, row_fits, keys_in_order};
 ghost use Rattle.hd_dbd.specs.Loads.{has_unique_key};
 ghost use Rattle.hd_dbd.specs.DatabaseRules.{well_formed};
@@ -306,6 +306,13 @@ impl Dbd {
     {
         self.type_of(code)
             .is_some_and(|segment| length_fits(segment, bytes))
+    }
+
+    /// Whether the segments of some type vary in length.
+    pub fn some_vary(&self) -> bool
+        ensures { result ≡ some_vary self.now.types }
+    {
+        self.types.iter().any(|segment| segment.least.is_some())
     }
 
     /// How many bytes a segment of the type has that begins with these; 0 for no type.
