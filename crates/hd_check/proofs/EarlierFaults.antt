@@ -77,7 +77,7 @@ module _ (d : Database) (v : VolumeState) where
   -- the header is right
   pub none-2 : IsHeaderRight d v → NoneBefore d v 2
   none-2 h = next 1 (none-first d v)
-      (λ k a o is. first-lines (λ x. Stands d v x a o → ⊥) (λ s. s.0 h.header) (λ s. elim h.known.version_is [ inl one ↦ s.0 one | inr two ↦ s.1 two ])
+      (λ k a o is. first-lines (λ x. Stands d v x a o → ⊥) (λ s. s.0 h.header) (λ s. s.0 h.known.version_is)
       (λ s. elim s.0 [ inl e ↦ e h.known.name_is | inr e ↦ e h.known.size_is ]) k is)
 
   -- the blocks are

@@ -7,7 +7,7 @@ use Rattle.hd_volume.specs.Headers.{Header, HasHeader, header_of}
 use Rattle.hd_volume.specs.Volumes.{VolumeState, block_at}
 use Rattle.hd_volume.proofs.FrameLemmas.{header-same}
 use Rattle.hd_volume.proofs.CreateLemmas.{own-block}
-use Rattle.hd_image.specs.Right.{IsKnownVersion}
+use Rattle.hd_image.specs.BlockFaults.{IsKnownVersion}
 use Rattle.hd_image.specs.Standing.{Stands, phase_of, number_of, ComesBefore}
 use Rattle.hd_image.specs.declared.line.Line.{Line}
 use Rattle.hd_image.specs.declared.line.Line.TheVariants.{NoVolume, NoVersion, AnotherDatabase, WrongChain, WrongPlace, NoKind, Deleted, NamesNothing, NamesAnother, TwoPredecessors, NoPredecessor, WrongBackward, WrongLast, OutOfOrder, NotReached, WrongTop, WrongForm, NamedTwice, UnreachedBlock, WrongNext, EntryOutOfOrder, WrongEntry, NoEntry}
@@ -61,25 +61,25 @@ wrong-first d v none = record {
 }
 
 -- where the version is not known, with a header
-wrong-second : (d : Database) (v : VolumeState) → HasHeader d.block_size v.image → (header_of v.image).version ≢ 1 → (header_of v.image).version ≢ 2
+wrong-second : (d : Database) (v : VolumeState) → HasHeader d.block_size v.image → (IsKnownVersion d.types (header_of v.image).version → ⊥)
     → IsLeastOf d v 1 (record { line = NoVersion; address = 0; other = (header_of v.image).version })
-wrong-second d v right one two = record {
+wrong-second d v right unknown = record {
   of = refl;
-  stands = (one, two, refl, refl);
+  stands = (unknown, refl, refl);
   least = λ k a o is stands before.
       (let less = before-zero d v NoVersion refl k a o is before in
       first-lines (λ x. Stands d v x a o → number_of x a < 2 → ⊥) (λ s n. s.0 right) (λ s n. omega arith) (λ s n. omega arith) k is stands less);
 }
 
 -- where the header is of another database
-wrong-third : (d : Database) (v : VolumeState) → HasHeader d.block_size v.image → IsKnownVersion (header_of v.image).version
+wrong-third : (d : Database) (v : VolumeState) → HasHeader d.block_size v.image → IsKnownVersion d.types (header_of v.image).version
     → ((header_of v.image).name ≢ d.name) ⊎ ((header_of v.image).block_size ≢ d.block_size) → IsLeastOf d v 1 (record { line = AnotherDatabase; address = 0; other = 0 })
 wrong-third d v right known other = record {
   of = refl;
   stands = (other, refl, refl);
   least = λ k a o is stands before.
       (let less = before-zero d v AnotherDatabase refl k a o is before in
-      first-lines (λ x. Stands d v x a o → number_of x a < 3 → ⊥) (λ s n. s.0 right) (λ s n. elim known [ inl one ↦ s.0 one | inr two ↦ s.1 two ]) (λ s n. omega arith) k is stands less);
+      first-lines (λ x. Stands d v x a o → number_of x a < 3 → ⊥) (λ s n. s.0 right) (λ s n. s.0 known) (λ s n. omega arith) k is stands less);
 }
 
 module _ (d : Database) (v : VolumeState) (size : v.size ≡ d.block_size) (least : 128 ≤ v.size) (there : HasBlock v.size v.image 0) where
@@ -98,16 +98,16 @@ module _ (d : Database) (v : VolumeState) (size : v.size ≡ d.block_size) (leas
   counted h = (let x = subst (λ (s : ℕ). HasHeader s v.image) (sym size) h in record { mark = x.mark; whole = x.whole; within = x.within; bound = x.bound })
 
   -- a right header of block 0 is the right header
-  pub header-right : CountsImage v.size (length v.image) (header_of (block_at v 0)) × IsKnownVersion (header_of (block_at v 0)).version × IsNamed d (header_of (block_at v 0)) → IsHeaderRight d v
+  pub header-right : CountsImage v.size (length v.image) (header_of (block_at v 0)) × IsKnownVersion d.types (header_of (block_at v 0)).version × IsNamed d (header_of (block_at v 0)) → IsHeaderRight d v
   header-right h =
-      let P : Header → Type 0 = λ x. CountsImage v.size (length v.image) x × IsKnownVersion x.version × IsNamed d x in
+      let P : Header → Type 0 = λ x. CountsImage v.size (length v.image) x × IsKnownVersion d.types x.version × IsNamed d x in
       let g = subst P head-is h in
       record { header = whole-header g.0; known = record { version_is = g.1; name_is = g.2.0; size_is = g.2.1 } }
 
   -- by the three lines of the phase
   wrong-by : (f : Fault) → IsWrongHeader d v.size (length v.image) (header_of v.image) f → IsLeastOf d v 1 f
   wrong-by f (inl w) = subst (IsLeastOf d v 1) (sym w.0) (wrong-first d v (λ h. w.1 (counted h)))
-  wrong-by f (inr (inl w)) = subst (IsLeastOf d v 1) (sym w.0) (wrong-second d v (whole-header w.1) w.2 w.3)
+  wrong-by f (inr (inl w)) = subst (IsLeastOf d v 1) (sym w.0) (wrong-second d v (whole-header w.1) w.2)
   wrong-by f (inr (inr w)) = subst (IsLeastOf d v 1) (sym w.0) (wrong-third d v (whole-header w.1) w.2 w.3)
 
   -- a wrong header of block 0 is the least fault

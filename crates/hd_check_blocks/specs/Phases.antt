@@ -3,8 +3,8 @@ use Rattle.std.specs.Prelude.{◌≡◌, ◌≢◌, ◌⊎◌, ℕ, ◌+◌, ◌
 use Rattle.hd_dbd.specs.Hierarchy.{Database}
 use Rattle.hd_volume.specs.Headers.{Header, HasHeader, header_of}
 use Rattle.hd_volume.specs.Volumes.{VolumeState, block_at, kind_of, IsKind, HasExtents, HasKinds}
-use Rattle.hd_image.specs.BlockFaults.{HasFreeElements, IsNoSegment, IsReadTo}
-use Rattle.hd_image.specs.Right.{IsKnownVersion, IsKnown}
+use Rattle.hd_image.specs.BlockFaults.{IsKnownVersion, HasFreeElements, IsNoSegment, IsReadTo}
+use Rattle.hd_image.specs.Right.{IsKnown}
 use Rattle.hd_image.specs.Standing.{Stands, phase_of, ComesBefore}
 use Rattle.hd_image.specs.declared.line.Line.{Line}
 use Rattle.hd_check_blocks.specs.declared.fault.Fault.{Fault}
@@ -27,8 +27,8 @@ IsNamed d h = (h.name ≡ d.name) × (h.block_size ≡ d.block_size)
 abbrev pub IsWrongHeader : Database → ℕ → ℕ → Header → Fault → Type 0
 IsWrongHeader d size len h f =
     ((f ≡ record { line = NoVolume; address = 0; other = 0 }) × (CountsImage size len h → ⊥))
-    ⊎ (((f ≡ record { line = NoVersion; address = 0; other = h.version }) × CountsImage size len h × (h.version ≢ 1) × (h.version ≢ 2))
-    ⊎ ((f ≡ record { line = AnotherDatabase; address = 0; other = 0 }) × CountsImage size len h × IsKnownVersion h.version × ((h.name ≢ d.name) ⊎ (h.block_size ≢ d.block_size))))
+    ⊎ (((f ≡ record { line = NoVersion; address = 0; other = h.version }) × CountsImage size len h × (IsKnownVersion d.types h.version → ⊥))
+    ⊎ ((f ≡ record { line = AnotherDatabase; address = 0; other = 0 }) × CountsImage size len h × IsKnownVersion d.types h.version × ((h.name ≢ d.name) ⊎ (h.block_size ≢ d.block_size))))
 
 -- The header is one of the database, and of a version that is known.
 pub record IsHeaderRight (d : Database) (v : VolumeState) : Type 0 where

@@ -3,7 +3,7 @@ ghost use Rattle.std.specs.Prelude.{◌≡◌, ◌≢◌, ◌≤◌, ◌⊎◌, 
 ghost use Rattle.hd_dbd.specs.Refusals.{OnlyDevice};
 ghost use Rattle.hd_volume.specs.Headers.{header_of};
 ghost use Rattle.hd_volume.specs.Calls.{IsRead};
-ghost use Rattle.hd_image.specs.Right.{IsKnownVersion};
+ghost use Rattle.hd_image.specs.BlockFaults.{IsKnownVersion};
 ghost use Rattle.hd_check_blocks.specs.Phases.{CountsImage, IsNamed, IsWrongHeader, IsHeaderRight, IsLeastOf};
 ghost use Rattle.hd_check_blocks.specs.Finding.{WhereNone, WhereSome};
 
@@ -11,7 +11,10 @@ use crate::fault::Fault;
 use hd_bytes::{read_u16, read_u32};
 use hd_dbd::{Dbd, Refused};
 use hd_image::Line;
-use hd_volume::{BLOCK_SIZE, BlockStore, COUNT, LARGEST, MARK, MOST_BLOCKS, NAME, VERSION, Volume};
+use hd_volume::{
+    BLOCK_SIZE, BlockStore, COUNT, LARGEST, MARK, MOST_BLOCKS, NAME, NEWEST_VERSION, VERSION,
+    Volume,
+};
 
 /// Whether a header counts an image of so many bytes, in blocks of a size.
 fn counts_image(head: &[u8], size: u64, image_length: u64) -> bool
@@ -37,10 +40,18 @@ fn is_of(head: &[u8], dbd: &Dbd) -> bool
         && u32::from(read_u16(head, BLOCK_SIZE)) == dbd.block_size()
 }
 
+/// Whether a version is known: the newest, and where no segments vary in length also 1 and 2.
+fn is_known(version: u16, dbd: &Dbd) -> bool
+    ensures right { result ≡ true → IsKnownVersion dbd.now.types version }
+    ensures wrong { result ≡ false → IsKnownVersion dbd.now.types version → ⊥ }
+{
+    version == NEWEST_VERSION || !dbd.some_vary() && (version == 1 || version == 2)
+}
+
 /// What is wrong with a header of an image of so many bytes.
 fn head_fault(head: &[u8], size: u64, image_length: u64, dbd: &Dbd) -> Option<Fault>
     requires { size ≤ 32768 }
-    ensures none { 44 ≤ length head.now → IfNone result (CountsImage size image_length (header_of head.now) × IsKnownVersion (header_of head.now).version × IsNamed dbd.now (header_of head.now)) }
+    ensures none { 44 ≤ length head.now → IfNone result (CountsImage size image_length (header_of head.now) × IsKnownVersion dbd.now.types (header_of head.now).version × IsNamed dbd.now (header_of head.now)) }
     ensures some { 44 ≤ length head.now → IfSome result (λ f. IsWrongHeader dbd.now size image_length (header_of head.now) f) }
 {
     if head.len() < 44 {
@@ -50,7 +61,7 @@ fn head_fault(head: &[u8], size: u64, image_length: u64, dbd: &Dbd) -> Option<Fa
         return Some(Fault::at(Line::NoVolume, 0, 0));
     }
     let version = read_u16(head, VERSION);
-    if version != 1 && version != 2 {
+    if !is_known(version, dbd) {
         return Some(Fault::at(Line::NoVersion, 0, u32::from(version)));
     }
     if !is_of(head, dbd) {

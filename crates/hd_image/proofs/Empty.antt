@@ -1,5 +1,5 @@
 -- A new volume holds the forest without rows.
-use Rattle.std.proofs.Common.{◌≡◌, ℕ, zero, suc, ◌*◌, ◌<◌, ◌≤◌, List, [], length, Bool, false, ◌||◌, ◌==◌, refl, sym, ap, ap₂, subst, ◌∙◌, Option, arith, ne_eqb, inr}
+use Rattle.std.proofs.Common.{◌≡◌, ℕ, zero, suc, ◌*◌, ◌<◌, ◌≤◌, List, [], length, Bool, false, ◌||◌, ◌==◌, refl, sym, ap, ap₂, subst, ◌∙◌, Option, arith, ne_eqb, inl, inr}
 use Rattle.std.specs.Prelude.{is_some}
 use Rattle.std.proofs.Math.Nat.{mul-le-mul_right}
 use Rattle.std.proofs.lemmas.Bool.{eq-eqb, cond-true, false≢true}
@@ -36,7 +36,7 @@ module _ (d : Database) (v : VolumeState) (largest : ℕ) (fit : IsDatabase d) (
       absurd (false≢true (sym none ∙ s.here))
 
   no-entries : (key_length : ℕ) → index_entries key_length v ≡ []
-  no-entries key_length = empty-entries key_length v (ap (λ (h : Header). h.version) created.header) (ap (λ (h : Header). h.top) created.header)
+  no-entries key_length = empty-entries key_length v (λ e. (let three = ap (λ (h : Header). h.version) created.header in omega arith)) (ap (λ (h : Header). h.top) created.header)
 
   holds-none : Holds d.types (links_of d.types v) empty
   holds-none = record {
@@ -49,12 +49,13 @@ module _ (d : Database) (v : VolumeState) (largest : ℕ) (fit : IsDatabase d) (
   }
 
   has-none : (key_length : ℕ) → HasIndexOf key_length v
-  has-none key_length = inr (set-empty key_length v created.formatted (ap (λ (h : Header). h.version) created.header) (ap (λ (h : Header). h.top) created.header)
+  has-none key_length = inr (set-empty key_length v created.formatted (λ e. (let three = ap (λ (h : Header). h.version) created.header in omega arith)) (ap (λ (h : Header). h.top) created.header)
       (ap (λ (h : Header). h.height) created.header) (λ n is. none-later n is.there is.later))
 
 pub new-empty : NewVolumesAreEmpty
 new-empty d v largest fit size sizes created = record {
   volume = record { fit = fit; formatted = created.formatted; size = size; sizes = sizes };
+  version = inl (ap (λ (h : Header). h.version) created.header);
   name = ap (λ (h : Header). h.name) created.header;
   block_size = ap (λ (h : Header). h.block_size) created.header;
   records = holds-none d v largest fit size created;

@@ -12,7 +12,6 @@ use Rattle.hd_volume.specs.Volumes.{VolumeState}
 use Rattle.hd_volume.specs.Entries.{Entry}
 use Rattle.hd_volume.specs.Indexes.{root_key_length, HasIndex}
 use Rattle.hd_levels.specs.IndexSets.{sequence_blocks, index_entries}
-use Rattle.hd_levels.specs.IndexSets.{HasIndexOf}
 use Rattle.hd_levels.specs.LevelFaults.{HasNoFault}
 use Rattle.hd_levels.proofs.RowFaults.{faults-all}
 use Rattle.hd_levels.proofs.Versions.{chain-of, set-of}
@@ -111,9 +110,8 @@ module _ (d : Database) (v : VolumeState) (f : Forest Placed) (fit : IsDatabase 
       false≢true (sym n.2 ∙ found)
 
   -- its version is known
-  none-version : HasIndexOf (root_key_length d.types) v → {a x : ℕ} → IsOfNoVersion v a x → ⊥
-  none-version (inl i) n = n.0 i.version
-  none-version (inr i) n = n.1 i.version
+  none-version : (a x : ℕ) → IsOfNoVersion d v a x → ⊥
+  none-version a x n = n.0 h.version
 
   -- of version 1 the index is a chain
   chain : (header_of v.image).version ≡ 1 → HasIndex (root_key_length d.types) v
@@ -128,7 +126,7 @@ module _ (d : Database) (v : VolumeState) (f : Forest Placed) (fit : IsDatabase 
   -- line by line
   none : (line : Line) (a x : ℕ) → Stands d v line a x → ⊥
   none NoVolume a x s = none-header a x s
-  none NoVersion a x s = none-version h.index s
+  none NoVersion a x s = none-version a x s
   none AnotherDatabase a x s = none-other a x s
   none WrongChain a x s = none-wrong-chain v a x h.volume.formatted.divided s
   none WrongPlace a x s = none-wrong-place v a x h.volume.formatted.divided s

@@ -32,6 +32,7 @@ held-same d u v image size sizes f h =
     let stays = indexes-stay (root_key_length d.types) u like h.index of.formatted refl refl (λ n k. refl) (λ n k. record { there = k.there; later = k.later; kind_is = k.kind_is }) in
     subst (λ (w : VolumeState). HoldsPlaced d w f) (λ i. record v { image = sym image i; size = sym size i; sizes = sym sizes i }) (record {
       volume = of;
+      version = h.version;
       name = h.name;
       block_size = h.block_size;
       records = h.records;

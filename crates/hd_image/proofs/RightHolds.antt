@@ -1,5 +1,5 @@
 -- A volume with which nothing is wrong holds a forest.
-use Rattle.std.proofs.Common.{◌≡◌, ◌≢◌, inl, inr, ℕ, ◌<◌, List, [], ◌∷◌, length, Bool, true, None, refl, sym, ap, subst, ◌∙◌, arith}
+use Rattle.std.proofs.Common.{◌≡◌, inl, inr, ℕ, ◌<◌, List, [], ◌∷◌, length, Bool, true, None, refl, sym, ap, subst, ◌∙◌, arith}
 use Rattle.std.specs.Prelude.{◌==◌, not}
 use Rattle.std.specs.List.{list_all, list_any}
 use Rattle.std.proofs.lemmas.Bool.{and_parts, or_cases, cases_eq, eqb-true, eq-eqb, false≢true}
@@ -7,7 +7,7 @@ use Rattle.std.proofs.lemmas.Slice.Eq.{bytes_eq-Decides}
 use Rattle.hd_dbd.specs.Hierarchy.{Database}
 use Rattle.hd_dbd.specs.Rows.{key_of}
 use Rattle.hd_dbd.specs.Forest.{Forest}
-use Rattle.hd_volume.specs.Headers.{header_of, HasHeader}
+use Rattle.hd_volume.specs.Headers.{HasHeader}
 use Rattle.hd_volume.specs.Volumes.{VolumeState, IsFormatted}
 use Rattle.hd_volume.specs.Entries.{Entry}
 use Rattle.hd_volume.specs.Indexes.{root_key_length, keys_ascend}
@@ -23,7 +23,7 @@ use Rattle.hd_image.specs.Records.{links_of, IsVolumeOf}
 use Rattle.hd_image.specs.Holding.{root_entries}
 use Rattle.hd_image.specs.Laws.{IsDatabase}
 use Rattle.hd_image.specs.IndexFaults.{names_a_root}
-use Rattle.hd_image.specs.Right.{IsKnownVersion, BlocksAreRight, IndexIsFormed, IndexIsInOrder}
+use Rattle.hd_image.specs.Right.{IndexIsFormed, IndexIsInOrder}
 use Rattle.hd_image.specs.Exact.{RightVolumesHoldAForest}
 use Rattle.hd_image.proofs.Found.{records-link}
 use Rattle.hd_image.proofs.Sorted.{IsIn, same-entries}
@@ -92,19 +92,14 @@ module _ (d : Database) (m : Links) where
       let key : found.0.key ≡ r.key = sym n.key ∙ ap (λ (a : ℕ). key_of d.types (segment_at m a)) found.2 ∙ root.2 in
       subst (λ (x : Entry). IsIn x es) (entry-is found.0.key found.0.address r key found.2) found.1)
 
--- a known version that is not the first
-second : (version : ℕ) → IsKnownVersion version → version ≢ 1 → version ≡ 2
-second version (inl one) later = absurd (later one)
-second version (inr two) later = two
-
 -- an index that is formed and in order is one of its version
-index-is : (d : Database) (v : VolumeState) (k : ℕ) → IsFormatted v → BlocksAreRight d v → IndexIsFormed k v → IndexIsInOrder k v → HasIndexOf k v
-index-is d v k formatted blocks (inl f) (inl o) = inl (record { formatted = formatted; version = f.0; height = f.1.height; chain = f.1.chain; reached = f.1.reached; ascend = o.1 })
-index-is d v k formatted blocks (inl f) (inr o) = absurd (o.0 f.0)
-index-is d v k formatted blocks (inr f) (inl o) = absurd (f.0 o.0)
-index-is d v k formatted blocks (inr f) (inr o) = inr ((sets-faultless k v).1 (record {
+index-is : (d : Database) (v : VolumeState) (k : ℕ) → IsFormatted v → IndexIsFormed k v → IndexIsInOrder k v → HasIndexOf k v
+index-is d v k formatted (inl f) (inl o) = inl (record { formatted = formatted; version = f.0; height = f.1.height; chain = f.1.chain; reached = f.1.reached; ascend = o.1 })
+index-is d v k formatted (inl f) (inr o) = absurd (o.0 f.0)
+index-is d v k formatted (inr f) (inl o) = absurd (f.0 o.0)
+index-is d v k formatted (inr f) (inr o) = inr ((sets-faultless k v).1 (record {
   formatted = formatted;
-  version = second (header_of v.image).version blocks.known.version_is f.0;
+  version = f.0;
   forms = f.1.forms;
   once = f.1.once;
   reached = f.1.reached;
@@ -120,11 +115,12 @@ right-holds d v fit r =
     let volume : IsVolumeOf d v = record { fit = fit; formatted = formatted; size = r.sized.size; sizes = r.sized.sizes } in
     let m : Links = links_of d.types v in
     let G : IsLinkGraph d.types (length v.image) m = records-link d v fit volume in
-    let index = index-is d v (root_key_length d.types) formatted r.blocks r.index r.entries.order in
+    let index = index-is d v (root_key_length d.types) formatted r.index r.entries.order in
     let E = exists d.types (ordered d.block_size d.frspc d.types fit) (length v.image) m G r.pointers in (
       E.0,
       record {
         volume = volume;
+        version = r.blocks.known.version_is;
         name = r.blocks.known.name_is;
         block_size = r.blocks.known.size_is;
         records = E.1;

@@ -1,10 +1,12 @@
 -- What can be wrong with a volume's header and blocks: one word for each line of the fault table, with where the fault stands
 -- and what else it names, 0 where it names nothing.
-use Rattle.std.specs.Prelude.{◌≡◌, ◌≢◌, ◌⊎◌, ℕ, ◌+◌, ◌*◌, ◌%◌, ◌<◌, ◌≤◌, List, [], ◌∷◌, length}
+use Rattle.std.specs.Prelude.{◌≡◌, ◌≢◌, ◌⊎◌, ℕ, ◌+◌, ◌*◌, ◌%◌, ◌<◌, ◌≤◌, List, [], ◌∷◌, length, false}
 use Rattle.hd_block.specs.Extents.{IsFreeElement}
 use Rattle.hd_bytes.specs.Blocks.{HasBlock}
 use Rattle.hd_bytes.specs.Numbers.{number_at}
+use Rattle.hd_dbd.specs.Types.{SegmentType}
 use Rattle.hd_dbd.specs.Hierarchy.{Database}
+use Rattle.hd_dbd.specs.Lengths.{some_vary}
 use Rattle.hd_volume.specs.Headers.{header_of, HasHeader}
 use Rattle.hd_volume.specs.Volumes.{VolumeState, block_at, kind_of, IsKind}
 use Rattle.hd_volume.specs.Indexes.{IsAmong}
@@ -17,9 +19,13 @@ use Rattle.hd_block.specs.Sizes.{size_at}
 abbrev pub IsNoVolume : Database → VolumeState → ℕ → ℕ → Type 0
 IsNoVolume d v address other = (HasHeader d.block_size v.image → ⊥) × (address ≡ 0) × (other ≡ 0)
 
+-- a version that is known: 3, and where no segments vary also 1, where the index is a chain, and 2
+abbrev pub IsKnownVersion : List SegmentType → ℕ → Type 0
+IsKnownVersion types version = (version ≡ 3) ⊎ ((some_vary types ≡ false) × ((version ≡ 1) ⊎ (version ≡ 2)))
+
 -- 2: its version is not known
-abbrev pub IsOfNoVersion : VolumeState → ℕ → ℕ → Type 0
-IsOfNoVersion v address other = ((header_of v.image).version ≢ 1) × ((header_of v.image).version ≢ 2) × (address ≡ 0) × (other ≡ (header_of v.image).version)
+abbrev pub IsOfNoVersion : Database → VolumeState → ℕ → ℕ → Type 0
+IsOfNoVersion d v address other = (IsKnownVersion d.types (header_of v.image).version → ⊥) × (address ≡ 0) × (other ≡ (header_of v.image).version)
 
 -- 3: it is of another database
 abbrev pub IsOfAnother : Database → VolumeState → ℕ → ℕ → Type 0

@@ -14,17 +14,19 @@ use Rattle.hd_levels.specs.IndexSets.{index_entries, HasIndexOf}
 use Rattle.hd_links.specs.Placed.{Placed, forest_of, Holds}
 use Rattle.hd_links.specs.Steps.{rows_of}
 use Rattle.hd_image.specs.Records.{links_of, IsVolumeOf}
+use Rattle.hd_image.specs.BlockFaults.{IsKnownVersion}
 
 -- the keys and addresses of the roots, in order
 abbrev pub root_entries : List SegmentType → Forest Placed → List Entry
 root_entries types empty = []
 root_entries types (node p below behind) = record { key = key_of types p.segment; address = p.address } ∷ root_entries types behind
 
--- The volume holds the placed forest: its header is of the database; the forest lies in the records, and
+-- The volume holds the placed forest: its header is of the database and of a version that is known; the forest lies in the records, and
 -- each record is one of its nodes, once; the header names its first and its last root; the index, which is of the volume's version, has the
 -- roots' keys and addresses in order; and each other block is a data block with extents, an index block reached from the top, or free.
 pub record HoldsPlaced (d : Database) (v : VolumeState) (placed : Forest Placed) : Type 0 where
   pub volume : IsVolumeOf d v
+  pub version : IsKnownVersion d.types (header_of v.image).version
   pub name : (header_of v.image).name ≡ d.name
   pub block_size : (header_of v.image).block_size ≡ d.block_size
   pub records : Holds d.types (links_of d.types v) placed

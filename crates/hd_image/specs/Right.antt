@@ -13,6 +13,7 @@ use Rattle.hd_levels.specs.Faultless.{AreFormsRight, AreNamedOnce, AreAllReached
 use Rattle.hd_links.specs.Links.{IsSegment}
 use Rattle.hd_links.specs.Pointers.{AreLinked}
 use Rattle.hd_image.specs.Records.{links_of}
+use Rattle.hd_image.specs.BlockFaults.{IsKnownVersion}
 use Rattle.hd_image.specs.IndexFaults.{ByVersion, names_a_root}
 
 -- the volume was loaded for the database: its blocks and segments have the database's sizes
@@ -20,13 +21,9 @@ pub record IsSizedFor (d : Database) (v : VolumeState) : Type 0 where
   pub size : v.size ≡ d.block_size
   pub sizes : v.sizes ≡ stored_sizes d.types
 
--- a version that is known: 1, where the index is a chain, and 2, where it is an index set
-abbrev pub IsKnownVersion : ℕ → Type 0
-IsKnownVersion version = (version ≡ 1) ⊎ (version ≡ 2)
-
 -- The header is of a known version, and of the database's name and block size.
 pub record IsKnown (d : Database) (header : Header) : Type 0 where
-  pub version_is : IsKnownVersion header.version
+  pub version_is : IsKnownVersion d.types header.version
   pub name_is : header.name ≡ d.name
   pub size_is : header.block_size ≡ d.block_size
 

@@ -66,7 +66,7 @@ number_of NoEntry address = 18
 -- the condition of a line stands in a volume at an address, with what else it names
 abbrev pub Stands : Database → VolumeState → Line → ℕ → ℕ → Type 0
 Stands d v NoVolume address other = IsNoVolume d v address other
-Stands d v NoVersion address other = IsOfNoVersion v address other
+Stands d v NoVersion address other = IsOfNoVersion d v address other
 Stands d v AnotherDatabase address other = IsOfAnother d v address other
 Stands d v WrongChain address other = IsWrongChain v address other
 Stands d v WrongPlace address other = IsWrongPlace v address other

@@ -50,8 +50,7 @@ needed-most k v key (inl x) =
     let one = most-one v in
     omega arith
 needed-most k v key (inr x) =
-    let two = x.version in
-    let is = needed-set k v key (λ e. omega arith) in
+    let is = needed-set k v key x.version in
     let most = few-needed k v key x in
     omega arith
 
@@ -60,9 +59,8 @@ pub few-grown : (k : ℕ) (v : VolumeState) → HasIndexOf k v → entry_growth 
 unfolding entry_growth
 few-grown k v (inl x) = rw (eq-eqb (header_of v.image).version 1 x.version) (let few : 1 < 1000 = omega arith in few)
 few-grown k v (inr x) =
-    let two = x.version in
     let high : (header_of v.image).height ≤ 64 = elim x.height [ inl none ↦ (let zero = none.1 in omega arith) | inr some ↦ some.2 ] in
-    rw (ne_eqb (header_of v.image).version 1 (λ e. omega arith)) (let few : (header_of v.image).height + 1 < 1000 = omega arith in few)
+    rw (ne_eqb (header_of v.image).version 1 x.version) (let few : (header_of v.image).height + 1 < 1000 = omega arith in few)
 
 -- where the index stays, with what the header says of it, the blocks needed are the same
 pub needed-stays : (k : ℕ) (v w : VolumeState) (key : List ℕ) → HasIndexOf k v → IsFormatted w → w.size ≡ v.size
@@ -73,6 +71,5 @@ needed-stays k v w key (inl x) f size header keeps back =
     needed-chain k w key (version ∙ x.version) ∙ chain.needed-stays k v w key x size header keeps ∙ sym (needed-chain k v key x.version)
 needed-stays k v w key (inr x) f size header keeps back =
     let version : (header_of w.image).version ≡ (header_of v.image).version = ap (λ (h : Header). h.version) header in
-    let two = x.version in
     let s = index-sets-stay k v w x f size header keeps back in
-    needed-set k w key (λ e. omega arith) ∙ s.3 key ∙ sym (needed-set k v key (λ e. omega arith))
+    needed-set k w key (λ e. x.version (sym version ∙ e)) ∙ s.3 key ∙ sym (needed-set k v key x.version)

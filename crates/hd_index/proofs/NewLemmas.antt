@@ -22,7 +22,7 @@ new-index k size largest name v same c =
     let mark = simp (length-take, length-drop) at (ap length c.formatted.header.mark) in
     let one = c.one in
     let some : 0 < v.size = omega arith in
-    inr (set-empty k v c.formatted (ap (λ (h : Header). h.version) c.header) (ap (λ (h : Header). h.top) c.header) (ap (λ (h : Header). h.height) c.header)
+    inr (set-empty k v c.formatted (λ e. (let three = ap (λ (h : Header). h.version) c.header in omega arith)) (ap (λ (h : Header). h.top) c.header) (ap (λ (h : Header). h.height) c.header)
     (λ n kind.
     (let later = kind.later in
     let there : n * v.size + v.size ≤ length v.image = kind.there in

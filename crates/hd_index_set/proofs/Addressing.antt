@@ -67,10 +67,9 @@ key-set k v w key address n x some is right new =
     let O : ℕ → Type 0 = λ i. OthersStay c d 0 i in
     let r = addressed c d h t key address (subst S tops x.set) (subst N is (b.0, b.1)) (subst O is (edited-others k v w 0 n es own new)) (edited-upper k v w 0 n es own new) in
     let y = edited-set k v w 0 n es own new x (λ j e. absurd (omega arith)) (subst D (sym tops) r.0) in
-    let two = x.version in
     let entries : index_entries k w ≡ with_address key address (index_entries k v) =
     edited-entries k v w 0 n es own new y ∙ ap (entries_below d h) tops ∙ r.1
-    ∙ ap (λ (ns : List ℕ). with_address key address (entries_below c h ns)) (sym tops) ∙ ap (with_address key address) (sym ((entries-below k v).1 (λ e. omega arith))) in
+    ∙ ap (λ (ns : List ℕ). with_address key address (entries_below c h ns)) (sym tops) ∙ ap (with_address key address) (sym ((entries-below k v).1 x.version)) in
     record { changed = edited-changed k v w 0 n es own new (with_address key address (index_entries k v)) y entries; spares = new.edit.spares; header = new.edit.header }
 
 -- where the index does not have the key, a read leaves all

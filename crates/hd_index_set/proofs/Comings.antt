@@ -209,10 +209,9 @@ module _ (k : ℕ) (v w : VolumeState) (key by : List ℕ) (l p : ℕ) (turn : T
   -- with the same entries
   raised-same : (s : IsStep k v key by l p turn m.coming.left m.coming.right) → index_entries k w ≡ index_entries k v
   raised-same s =
-      let two = m.index.version in
       edited-entries k v w (suc l) p (with_key_at turn.index key (entries_in k (block_at v p))) own new (raised-set s)
       ∙ same-below (index_blocks k v) (index_blocks k w) (top_level v) (top_blocks v) (raised-top s).1
-      ∙ sym ((entries-below k v).1 (λ e. omega arith))
+      ∙ sym ((entries-below k v).1 m.index.version)
 
   -- the blocks beside it have their entries
   raised-named : (s : IsStep k v key by l p turn m.coming.left m.coming.right) → (across (index_blocks k w) m.coming.left ≡ across (index_blocks k v) m.coming.left)
@@ -363,10 +362,9 @@ leaf-entered k v w key by n address m new =
     let tops = coming-tops k v key by 0 n x in
     let S : List ℕ → Type 0 = λ ns. IsIndexSet d h ns in
     let set = edited-set k v w 0 n es own new m.index (λ j z. absurd (omega arith)) (subst S (sym tops) r.0) in
-    let two = m.index.version in
     edited-changed k v w 0 n es own new (with_entry e (index_entries k v)) set
     (edited-entries k v w 0 n es own new set ∙ ap (entries_below d h) tops ∙ r.1 ∙ ap (λ (ns : List ℕ). with_entry e (entries_below c h ns)) (sym tops)
-    ∙ ap (with_entry e) (sym ((entries-below k v).1 (λ z. omega arith))))
+    ∙ ap (with_entry e) (sym ((entries-below k v).1 m.index.version)))
 
 -- ---- the top
 
@@ -391,7 +389,6 @@ pub come-top : (k : ℕ) (v : VolumeState) (key by : List ℕ) (levels n : ℕ) 
     → 0 < (header_of v.image).top → levels ≡ top_level v → n ≡ (header_of v.image).top → MayCome k v key by levels n
 come-top k v key by levels n x new is some level top =
     let c : IndexBlocks = index_blocks k v in
-    let two = x.version in
     let S : List ℕ → Type 0 = λ ns. IsIndexSet c (top_level v) ns in
     let M : ℕ → ℕ → Type 0 = λ l i. MayCome k v key by l i in
     let begin : MayCome k v key by (top_level v) (header_of v.image).top = record {
@@ -404,7 +401,7 @@ come-top k v key by levels n x new is some level top =
         right = [];
         way = (refl, refl, refl, refl);
         around = top-around c by (top_level v) (header_of v.image).top (subst S (top-is v some) x.set);
-        whole = ap (entries_below c (top_level v)) (sym (top-is v some)) ∙ sym ((entries-below k v).1 (λ e. omega arith));
+        whole = ap (entries_below c (top_level v)) (sym (top-is v some)) ∙ sym ((entries-below k v).1 x.version);
         leads = refl;
       };
     } in

@@ -67,7 +67,6 @@ whole : (k : ℕ) (u w : VolumeState) (kept_top : List ℕ) (es : List Entry) �
     → IsChanged k u es 0 w
 whole k u w kept_top es r set is linked placed =
     let d : IndexBlocks = index_blocks k w in
-    let two = r.version in
     let S : List ℕ → Type 0 = λ t. IsIndexSet d (top_level w) t in
     let L : List ℕ → Type 0 = λ t. AreLevelsLinked d (next_in w) (top_level w) t in
     let P : List ℕ → Type 0 = λ t. ArePlaced d (top_level w) t in
@@ -94,7 +93,7 @@ whole k u w kept_top es r set is linked placed =
     record {
       size = r.size;
       index = assembled k w r.formatted r.version r.height (subst S (sym r.tops) at.0) (subst P (sym r.tops) at.2) r.count (subst L (sym r.tops) at.1);
-      entries = (entries-below k w).1 (λ e. omega arith) ∙ subst E (sym r.tops) at.3;
+      entries = (entries-below k w).1 r.version ∙ subst E (sym r.tops) at.3;
       change = r.change;
       spares = omega arith;
     }
@@ -110,10 +109,9 @@ finish k u w gone kept_top before n behind kept front back steps x some set was 
     let d : IndexBlocks = index_blocks k w in
     let h : ℕ = top_level u in
     let top : ℕ = (header_of u.image).top in
-    let two = x.version in
     let T : List ℕ → Type 0 = λ t. IsIndexSet c h t in
     let all : IsIndexSet c h (top ∷ []) = subst T (top-is u some) x.set in
-    let es : index_entries k u ≡ entries_below c h (top ∷ []) = (entries-below k u).1 (λ e. omega arith) ∙ ap (entries_below c h) (top-is u some) in
+    let es : index_entries k u ≡ entries_below c h (top ∷ []) = (entries-below k u).1 x.version ∙ ap (entries_below c h) (top-is u some) in
     let up = way-up c d (next_in u) (next_in w) h top steps 0 before n behind kept kept_top way in
     let high : steps ≡ h = (let e = way-steps c d (next_in u) (next_in w) h top steps 0 before n behind kept kept_top way in omega arith) in
     let U : ℕ → Type 0 = λ i. IsWayUp c d h top i 0 before n behind kept kept_top in
@@ -316,7 +314,7 @@ module _ {k : ℕ} {u : VolumeState} {gone : Entry} {kept_top : List ℕ} {v : V
           formatted = d.formatted;
           change = change-join 0 0 c.was.formatted r.formatted (size-some u stand.block (level-kind u stand.block l block-level).0) r.size r.change d.change;
           spares = omega arith;
-          version = ap (λ (h : Header). h.version) d.header ∙ r.version;
+          version = λ e. r.version (sym (ap (λ (h : Header). h.version) d.header) ∙ e);
           height = subst H (sym d.header) r.height;
           tops = tops ∙ r.tops;
           level = elim r.level [ inl e ↦ inl (level ∙ e) | inr e ↦ inr e ];

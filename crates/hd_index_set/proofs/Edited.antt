@@ -93,7 +93,7 @@ module _ (k : ℕ) (v w : VolumeState) (l p : ℕ) (es : List Entry) (own : leve
       let S : ℕ → List ℕ → Type 0 = λ i ns. IsIndexSet d i ns in
       let P : ℕ → List ℕ → Type 0 = λ i ns. ArePlaced d i ns in
       let L : ℕ → List ℕ → Type 0 = λ i ns. AreLevelsLinked d (next_in w) i ns in
-      assembled k w new.edit.formatted (ap (λ (h : Header). h.version) new.edit.header ∙ x.version) (rw (top, height) x.height)
+      assembled k w new.edit.formatted (λ e. x.version (sym (ap (λ (h : Header). h.version) new.edit.header) ∙ e)) (rw (top, height) x.height)
       (subst (λ (i : ℕ). S i (top_blocks w)) (sym edited-level) (subst (S (top_level v)) (sym edited-tops) set))
       (subst (λ (i : ℕ). P i (top_blocks w)) (sym edited-level)
       (subst (P (top_level v)) (sym edited-tops)
@@ -105,8 +105,7 @@ module _ (k : ℕ) (v w : VolumeState) (l p : ℕ) (es : List Entry) (own : leve
 
   pub edited-entries : HasIndexSet k w → index_entries k w ≡ entries_below (index_blocks k w) (top_level v) (top_blocks v)
   edited-entries y =
-      let two = y.version in
-      (entries-below k w).1 (λ e. omega arith)
+      (entries-below k w).1 y.version
       ∙ ap (λ (i : ℕ). entries_below (index_blocks k w) i (top_blocks w)) edited-level
       ∙ ap (entries_below (index_blocks k w) (top_level v)) edited-tops
 

@@ -412,7 +412,7 @@ module _ (k : ℕ) {u w : VolumeState} (key by : List ℕ) (address p : ℕ) (le
       let L : ℕ → List ℕ → Type 0 = λ i ns. AreLevelsLinked (index_blocks k w) (next_in w) i ns in
       let P : ℕ → List ℕ → Type 0 = λ i ns. ArePlaced (index_blocks k w) i ns in
       let all = kept in
-      assembled k w h.formatted (ap (λ (x : Header). x.version) h.header ∙ z.index.version) (rw (top-same, height-same) z.index.height)
+      assembled k w h.formatted (λ one. z.index.version (sym (ap (λ (x : Header). x.version) h.header) ∙ one)) (rw (top-same, height-same) z.index.height)
       (subst (λ (i : ℕ). S i (top_blocks w)) (sym level-same) (subst (S (top_level u)) (sym tops-are) all.0.0))
       (subst (λ (i : ℕ). P i (top_blocks w)) (sym level-same) (subst (P (top_level u)) (sym tops-are) placed))
       counts
@@ -421,15 +421,13 @@ module _ (k : ℕ) {u w : VolumeState} (key by : List ℕ) (address p : ℕ) (le
   entries-are : index_entries k w ≡ with_entry (record { key = key; address = address }) (index_entries k u)
   entries-are =
       let e : Entry = record { key = key; address = address } in
-      let two = z.index.version in
-      let same : (header_of w.image).version ≡ (header_of u.image).version = ap (λ (x : Header). x.version) h.header in
-      (entries-below k w).1 (λ e. omega arith)
+      (entries-below k w).1 (λ one. z.index.version (sym (ap (λ (x : Header). x.version) h.header) ∙ one))
       ∙ ap (λ (i : ℕ). entries_below (index_blocks k w) i (top_blocks w)) level-same
       ∙ ap (entries_below (index_blocks k w) (top_level u)) tops-are
       ∙ kept.0.1.0
       ∙ full-set.1
       ∙ ap (λ (ns : List ℕ). with_entry e (entries_below (index_blocks k u) (top_level u) ns)) (sym tops-were)
-      ∙ ap (with_entry e) (sym ((entries-below k u).1 (λ e. omega arith)))
+      ∙ ap (with_entry e) (sym ((entries-below k u).1 z.index.version))
 
   pub hung-changed : IsChanged k u (with_entry (record { key = key; address = address }) (index_entries k u)) 1 w
   hung-changed = record { size = h.size; index = has-set; entries = entries-are; change = h.change; spares = h.spares }

@@ -24,13 +24,12 @@ use Rattle.hd_index_set.proofs.Standing.{block-order}
 
 pub on-stand : (k : ℕ) (v : VolumeState) (key : List ℕ) (l : ℕ) (stand : Stand) → HasIndexSet k v → IsOnWayIn k v key l stand → IsStand k v key l stand
 on-stand k v key l stand x s =
-    let two = x.version in
     record {
       before = s.before;
       behind = s.behind;
       around = s.around;
       left_is = s.left_is;
-      whole = s.whole ∙ ap (entries_below (index_blocks k v) (top_level v)) (sym (top-is v s.some)) ∙ sym ((entries-below k v).1 (λ e. omega arith));
+      whole = s.whole ∙ ap (entries_below (index_blocks k v) (top_level v)) (sym (top-is v s.some)) ∙ sym ((entries-below k v).1 x.version);
     }
 
 pub on-order : (k : ℕ) (v : VolumeState) (key : List ℕ) (l : ℕ) (stand : Stand) → HasIndexSet k v → IsOnWayIn k v key l stand → IsInOrder k v stand.block

@@ -301,7 +301,7 @@ module _ (k : ℕ) {u w : VolumeState} (by : List ℕ) (l p : ℕ) (lead : Lead)
       let L : ℕ → List ℕ → Type 0 = λ i ns. AreLevelsLinked (index_blocks k w) (next_in w) i ns in
       let P : ℕ → List ℕ → Type 0 = λ i ns. ArePlaced (index_blocks k w) i ns in
       let all = kept in
-      assembled k w h.formatted (ap (λ (z : Header). z.version) h.header ∙ x.version) (rw (top-same, height-same) x.height)
+      assembled k w h.formatted (λ e. x.version (sym (ap (λ (z : Header). z.version) h.header) ∙ e)) (rw (top-same, height-same) x.height)
       (subst (λ (i : ℕ). S i (top_blocks w)) (sym level-same) (subst (S (top_level u)) (sym tops-are) all.0.0))
       (subst (λ (i : ℕ). P i (top_blocks w)) (sym level-same) (subst (P (top_level u)) (sym tops-are) placed))
       counts
@@ -309,14 +309,12 @@ module _ (k : ℕ) {u w : VolumeState} (by : List ℕ) (l p : ℕ) (lead : Lead)
 
   entries-stay : index_entries k w ≡ index_entries k u
   entries-stay =
-      let two = x.version in
-      let same : (header_of w.image).version ≡ (header_of u.image).version = ap (λ (z : Header). z.version) h.header in
-      (entries-below k w).1 (λ e. omega arith)
+      (entries-below k w).1 (λ e. x.version (sym (ap (λ (z : Header). z.version) h.header) ∙ e))
       ∙ ap (λ (i : ℕ). entries_below (index_blocks k w) i (top_blocks w)) level-same
       ∙ ap (entries_below (index_blocks k w) (top_level u)) tops-are
       ∙ kept.0.1.0
       ∙ sym (ap (entries_below (index_blocks k u) (top_level u)) tops-were)
-      ∙ sym ((entries-below k u).1 (λ e. omega arith))
+      ∙ sym ((entries-below k u).1 x.version)
 
   -- ---- the blocks that are needed
 

@@ -170,8 +170,7 @@ found-refused k v u key by e o room is r =
 pub growth-is : (k : ℕ) (v : VolumeState) → HasIndexSet k v → entry_growth v ≡ (header_of v.image).height + 1
 unfolding entry_growth
 growth-is k v x =
-    let two = x.version in
-    rw (ne_eqb (header_of v.image).version 1 (λ e. omega arith)) refl
+    rw (ne_eqb (header_of v.image).version 1 x.version) refl
 
 -- only where the height is 64 more than 64 blocks are needed
 pub highest : (k : ℕ) (v : VolumeState) (key : List ℕ) → HasIndexSet k v → 64 < set_blocks_needed k v key → (header_of v.image).height ≡ 64

@@ -45,9 +45,8 @@ order-same k v w n size image h =
 -- where there is no top there is no entry
 pub no-entries : (k : ℕ) (v : VolumeState) → HasIndexSet k v → (header_of v.image).top ≡ 0 → index_entries k v ≡ []
 no-entries k v x none =
-    let two = x.version in
     let top : top_blocks v ≡ [] = rw (eq-eqb (header_of v.image).top 0 none) refl in
-    (entries-below k v).1 (λ e. omega arith) ∙ ap (entries_below (index_blocks k v) (top_level v)) top ∙ entries-none (index_blocks k v) (top_level v)
+    (entries-below k v).1 x.version ∙ ap (entries_below (index_blocks k v) (top_level v)) top ∙ entries-none (index_blocks k v) (top_level v)
 
 -- behind entries with none that is not below a key it is sought in those that follow
 from-on : (key : List ℕ) (xs ys : List Entry) → address_from key xs ≡ None → address_from key (xs ++ ys) ≡ address_from key ys

@@ -1,5 +1,5 @@
 -- A walk down an index set beside the left neighbour.
-use Rattle.std.proofs.Common.{◌≡◌, ◌≢◌, ◌⊎◌, inl, inr, ℕ, suc, ◌<◌, cond, List, [], ◌∷◌, ◌++◌, Some, None, refl, sym, ap, ◌∙◌, subst, arith, ne_eqb}
+use Rattle.std.proofs.Common.{◌≡◌, ◌≢◌, ◌⊎◌, inl, inr, ℕ, suc, ◌<◌, cond, List, [], ◌∷◌, ◌++◌, Some, None, refl, sym, ap, ◌∙◌, subst, ne_eqb}
 use Rattle.std.specs.Prelude.{◌==◌}
 use Rattle.std.proofs.lemmas.Bool.{eq-eqb}
 use Rattle.hd_volume.specs.Headers.{header_of}
@@ -126,7 +126,6 @@ pub stand-top : (k : ℕ) (v : VolumeState) (key : List ℕ) (l : ℕ) (stand : 
     → l ≡ top_level v → IsStand k v key l stand
 stand-top k v key l stand x some left block level =
     let c : IndexBlocks = index_blocks k v in
-    let two = x.version in
     let S : List ℕ → Type 0 = λ ns. IsIndexSet c (top_level v) ns in
     let L : ℕ → Type 0 = λ i. IsAround c key i [] stand.block [] in
     let B : ℕ → Type 0 = λ n. IsAround c key (top_level v) [] n [] in
@@ -137,7 +136,7 @@ stand-top k v key l stand x some left block level =
       left_is = left;
       whole =
           ap (λ (i : ℕ). entries_below c i (stand.block ∷ [])) level ∙ ap (λ (n : ℕ). entries_below c (top_level v) (n ∷ [])) block
-          ∙ ap (entries_below c (top_level v)) (sym (top-is v some)) ∙ sym ((entries-below k v).1 (λ e. omega arith));
+          ∙ ap (entries_below c (top_level v)) (sym (top-is v some)) ∙ sym ((entries-below k v).1 x.version);
     }
 
 -- the last key of some blocks is that of the last of them

@@ -70,7 +70,7 @@ borne k l n next w es b = (level-of w n b.is.is ∙ ap (λ (i : ℕ). Some i) b.
 -- ---- the whole
 
 -- A volume has an index set where its blocks are one, each is the top or has a parent, and all levels are chains.
-pub assembled : (k : ℕ) (v : VolumeState) → IsFormatted v → (header_of v.image).version ≡ 2 → IsHeightRight v → IsIndexSet (index_blocks k v) (top_level v) (top_blocks v)
+pub assembled : (k : ℕ) (v : VolumeState) → IsFormatted v → (header_of v.image).version ≢ 1 → IsHeightRight v → IsIndexSet (index_blocks k v) (top_level v) (top_blocks v)
     → ArePlaced (index_blocks k v) (top_level v) (top_blocks v) → ((n : ℕ) → IsKind v 2 n → number_at 2 (block_at v n) 4 ≤ entry_room k v.size)
     → AreLevelsLinked (index_blocks k v) (next_in v) (top_level v) (top_blocks v) → HasIndexSet k v
 assembled k v f version height set placed count next = record {

@@ -73,7 +73,7 @@ module _ (k : ℕ) {u w : VolumeState} (l : ℕ) (key : List ℕ) (address : ℕ
       let L : ℕ → List ℕ → Type 0 = λ i ns. AreLevelsLinked (index_blocks k w) (next_in w) i ns in
       let P : ℕ → List ℕ → Type 0 = λ i ns. ArePlaced (index_blocks k w) i ns in
       let high = high-is in
-      assembled k w h.formatted (ap (λ (z : Header). z.version) h.header ∙ x.version) (inr (some-top, (omega arith), (omega arith)))
+      assembled k w h.formatted (λ e. x.version (sym (ap (λ (z : Header). z.version) h.header) ∙ e)) (inr (some-top, (omega arith), (omega arith)))
       (subst (λ (i : ℕ). S i (top_blocks w)) (sym level-new) (subst (S l) (sym tops-new) set))
       (subst (λ (i : ℕ). P i (top_blocks w)) (sym level-new) (subst (P l) (sym tops-new) placed))
       (begun-counts x.count)
@@ -81,9 +81,7 @@ module _ (k : ℕ) {u w : VolumeState} (l : ℕ) (key : List ℕ) (address : ℕ
 
   begun-entries : HasIndexSet k u → index_entries k w ≡ entries_below (index_blocks k w) l (h.block ∷ [])
   begun-entries x =
-      let two = x.version in
-      let same : (header_of w.image).version ≡ (header_of u.image).version = ap (λ (z : Header). z.version) h.header in
-      (entries-below k w).1 (λ e. omega arith)
+      (entries-below k w).1 (λ e. x.version (sym (ap (λ (z : Header). z.version) h.header) ∙ e))
       ∙ ap (λ (i : ℕ). entries_below (index_blocks k w) i (top_blocks w)) level-new
       ∙ ap (entries_below (index_blocks k w) l) tops-new
 
@@ -204,7 +202,6 @@ module _ (k : ℕ) {u w : VolumeState} (by : List ℕ) (l : ℕ) (key : List ℕ
       let P : ℕ → Type 0 = λ i. ArePlaced (index_blocks k w) i (h.block ∷ []) in
       let L : ℕ → Type 0 = λ i. AreLevelsLinked (index_blocks k w) (next_in w) i (h.block ∷ []) in
       let set = set-is in
-      let two = x.version in
       let height = high-is k l key t len h in
       let top = some-top k l key t len h in
       let old = needed-all k u by l (λ e. omega arith) full high in
@@ -214,7 +211,7 @@ module _ (k : ℕ) {u w : VolumeState} (by : List ℕ) (l : ℕ) (key : List ℕ
           size = h.size;
           index = begun-set k l key t len h x low (subst S (sym one-up) set.0) (subst P (sym one-up) placed-is) (subst L (sym one-up) linked-is);
           entries = begun-entries k l key t len h x ∙ ap (λ (i : ℕ). entries_below (index_blocks k w) i (h.block ∷ [])) one-up ∙ set.1 ∙ sym (ap (entries_below (index_blocks k u) (top_level u)) tops-were)
-              ∙ sym ((entries-below k u).1 (λ e. omega arith));
+              ∙ sym ((entries-below k u).1 x.version);
           change = h.change;
           spares = h.spares;
         };

@@ -138,7 +138,7 @@ cleared k u v w gone l stand x some level left block thin below same-v top same-
         formatted = formatted-w;
         change = change-join 0 0 x.formatted formatted-v size same-v.size (head-change same-v top refl refl) (head-change same-w height refl refl);
         spares = omega arith;
-        version = ap (λ (h : Header). h.version) height.is ∙ ap (λ (h : Header). h.version) top.is ∙ x.version;
+        version = λ e. x.version (sym (ap (λ (h : Header). h.version) height.is ∙ ap (λ (h : Header). h.version) top.is) ∙ e);
         height = inl (top-w, height-w);
         tops = rw (eq-eqb (header_of w.image).top 0 top-w) refl;
         level = inr refl;
@@ -181,7 +181,7 @@ rest-new k u w n es next x some h =
       formatted = e.formatted;
       change = s.change;
       spares = omega arith;
-      version = ap (λ (t : Header). t.version) e.header ∙ x.version;
+      version = λ one. x.version (sym (ap (λ (t : Header). t.version) e.header) ∙ one);
       height = subst H (sym e.header) x.height;
       tops = tops ∙ top-is u some;
       level = inl (let y : (header_of w.image).height ≡ (header_of u.image).height = ap (λ (t : Header). t.height) e.header in rw y refl);
@@ -210,7 +210,6 @@ leaf-trimmed k u w key stand x s more there h =
     let c : IndexBlocks = index_blocks k u in
     let n : ℕ = stand.block in
     let es : List Entry = entries_in k (block_at u n) in
-    let two = x.version in
     let on = on-parts c 0 s.before (n ∷ s.behind) (set-level c 0 (s.before ++ (n ∷ s.behind)) s.around.set) in
     let f = fronted key es on.1.1 in
     let front : List Entry = front_of key es in
@@ -221,7 +220,7 @@ leaf-trimmed k u w key stand x s more there h =
     let own = new-level k n 0 0 (next_in u n) (front ++ f.back) new is in
     let step = edit-step new.edit in
     let all : index_entries k u ≡ across c (s.before ++ (n ∷ s.behind)) =
-    (entries-below k u).1 (λ e. omega arith) ∙ ap (entries_below c (top_level u)) (top-is u s.some) ∙ sym s.whole in
+    (entries-below k u).1 x.version ∙ ap (entries_below c (top_level u)) (top-is u s.some) ∙ sym s.whole in
     let found : address_of key es ≢ None = λ none. there (ap (address_of key) all ∙ (around-answers c key s.before n s.behind s.around).0 ∙ none) in
     let ascend = (of-level c 0 n (s.before ++ (n ∷ s.behind)) s.around.set (among-right n s.before (n ∷ s.behind) (inl refl))).ascend in
     let name : f.entry.key ≡ key = same-key f.entry.key key (found-front key es f ascend found) in
@@ -264,7 +263,6 @@ fork-trimmed k u w key l stand below x s more thin down there h =
     let n : ℕ = stand.block in
     let top : ℕ = (header_of u.image).top in
     let es : List Entry = entries_in k (block_at u n) in
-    let two = x.version in
     let on = on-parts c (suc l) s.before (n ∷ s.behind) (set-level c (suc l) (s.before ++ (n ∷ s.behind)) s.around.set) in
     let f = fronted key es on.1.1 in
     let front : List Entry = front_of key es in
@@ -286,11 +284,11 @@ fork-trimmed k u w key l stand below x s more thin down there h =
     let only = thin-entry c l b thin-b in
     let gone : Entry = only.0 in
     let all : index_entries k u ≡ entries_below c l before ++ (gone ∷ entries_below c l behind) =
-    (entries-below k u).1 (λ e. omega arith) ∙ ap (entries_below c (top_level u)) (top-is u s.some) ∙ sym s.whole ∙ ap (entries_below c l) about
+    (entries-below k u).1 x.version ∙ ap (entries_below c (top_level u)) (top-is u s.some) ∙ sym s.whole ∙ ap (entries_below c l) about
     ∙ entries-append c l before (b ∷ behind) ∙ ap (λ (t : List Entry). entries_below c l before ++ t) (entries-append c l (b ∷ []) behind ∙ ap (λ (t : List Entry). t ++ entries_below c l behind) only.1) in
     let ascend = ascend-parts (gone ∷ []) (entries_below c l behind)
     (ascend-parts (entries_below c l before) (gone ∷ entries_below c l behind)
-    (ap keys_ascend (sym all ∙ (entries-below k u).1 (λ e. omega arith)) ∙ set-ascends c (top_level u) (top_blocks u) x.set)).1 in
+    (ap keys_ascend (sym all ∙ (entries-below k u).1 x.version) ∙ set-ascends c (top_level u) (top_blocks u) x.set)).1 in
     let name : gone.key ≡ key = same-key gone.key key
     (found-between key (entries_below c l before) gone (entries_below c l behind) around.below around.above ascend.1 (λ none. there (ap (address_of key) all ∙ none))) in
     let others = λ (y j : ℕ) (at : level_in u y ≡ Some j) (p : y ≢ n). other-stays k n n 0 step y j at p p in
@@ -369,11 +367,10 @@ pub all-cleared : (k : ℕ) (u v w : VolumeState) (l : ℕ) (stand : Stand) → 
     → (gone : Entry) × ((key : List ℕ) → address_of key (index_entries k u) ≢ None → gone.key ≡ key) × IsCut k u gone [] w l stand
 all-cleared k u v w l stand x some level left block thin same-v top same-w height =
     let c : IndexBlocks = index_blocks k u in
-    let two = x.version in
     let only = thin-entry c l stand.block thin in
     let gone : Entry = only.0 in
     let all : index_entries k u ≡ gone ∷ [] =
-    (entries-below k u).1 (λ e. omega arith) ∙ ap (entries_below c (top_level u)) (top-is u some) ∙ ap (λ (i : ℕ). entries_below c i ((header_of u.image).top ∷ [])) (sym level)
+    (entries-below k u).1 x.version ∙ ap (entries_below c (top_level u)) (top-is u some) ∙ ap (λ (i : ℕ). entries_below c i ((header_of u.image).top ∷ [])) (sym level)
     ∙ ap (λ (n : ℕ). entries_below c l (n ∷ [])) (sym block) ∙ only.1 in (
       gone,
       (λ key there. same-key gone.key key (found-between key [] gone [] tt refl refl (λ none. there (ap (address_of key) all ∙ none)))),
@@ -392,9 +389,8 @@ on-start k v key l stand x some left block level =
 pub leaf-address : (k : ℕ) (v : VolumeState) (key : List ℕ) (stand : Stand) → HasIndexSet k v → IsOnWayIn k v key 0 stand → address_of key (index_entries k v) ≡ address_of key (entries_in k (block_at v stand.block))
 leaf-address k v key stand x s =
     let c : IndexBlocks = index_blocks k v in
-    let two = x.version in
     let all : index_entries k v ≡ across c (s.before ++ (stand.block ∷ s.behind)) =
-    (entries-below k v).1 (λ e. omega arith) ∙ ap (entries_below c (top_level v)) (top-is v s.some) ∙ sym s.whole in
+    (entries-below k v).1 x.version ∙ ap (entries_below c (top_level v)) (top-is v s.some) ∙ sym s.whole in
     ap (address_of key) all ∙ (around-answers c key s.before stand.block s.behind s.around).0
 
 -- two reads are one

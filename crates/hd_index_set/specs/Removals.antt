@@ -124,7 +124,7 @@ pub record KeepsRest (key_length : ℕ) (old : VolumeState) (kept_top : List ℕ
   pub formatted : IsFormatted new
   pub change : IsIndexChange old 0 new
   pub spares : spare old ≤ spare new
-  pub version : (header_of new.image).version ≡ 2
+  pub version : (header_of new.image).version ≢ 1
   pub height : IsHeightRight new
   pub tops : top_blocks new ≡ kept_top
   pub level : (top_level new ≡ top_level old) ⊎ (kept_top ≡ [])

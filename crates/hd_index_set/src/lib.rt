@@ -1,4 +1,4 @@
-//! The root index of a volume of version 2: an ordered map from the roots' keys to their addresses, in an index set above its
+//! The root index of a volume of version 2 or later: an ordered map from the roots' keys to their addresses, in an index set above its
 //! sequence set.
 #![tactic(auto)]
 

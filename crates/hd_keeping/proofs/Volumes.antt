@@ -16,6 +16,7 @@ use Rattle.hd_links.specs.Placed.{Placed, nowhere, Holds}
 use Rattle.hd_links.specs.Changes.{Agree, put_first, put_behind, take_out, with_leaf, without_span, with_bytes, CanUnlink}
 use Rattle.hd_links.proofs.Touch.{frame}
 use Rattle.hd_image.specs.Records.{links_of, IsVolumeOf}
+use Rattle.hd_image.specs.BlockFaults.{IsKnownVersion}
 use Rattle.hd_image.specs.Holding.{root_entries, HoldsPlaced}
 use Rattle.hd_image.proofs.Found.{records-link}
 use Rattle.hd_image.proofs.SameRecords.{records-stay}
@@ -39,11 +40,11 @@ replacing-keeps types m f a bytes H C = bytes-keep types m nowhere f a bytes H.l
 -- ---- the forest and the entries
 
 pub entered : (d : Database) (v : VolumeState) (f : Forest Placed) → HoldsPlaced d v f → HoldsWith d v f (root_entries d.types f)
-entered d v f H = record { volume = H.volume; name = H.name; block_size = H.block_size; records = H.records; index = H.index; entries = H.entries; kinds = H.kinds }
+entered d v f H = record { volume = H.volume; version = H.version; name = H.name; block_size = H.block_size; records = H.records; index = H.index; entries = H.entries; kinds = H.kinds }
 
 -- with the entries of the forest's roots it is held
 pub held : (d : Database) (v : VolumeState) (f : Forest Placed) (es : List Entry) → HoldsWith d v f es → es ≡ root_entries d.types f → HoldsPlaced d v f
-held d v f es H is = record { volume = H.volume; name = H.name; block_size = H.block_size; records = H.records; index = H.index; entries = H.entries ∙ is; kinds = H.kinds }
+held d v f es H is = record { volume = H.volume; version = H.version; name = H.name; block_size = H.block_size; records = H.records; index = H.index; entries = H.entries ∙ is; kinds = H.kinds }
 
 pub held-entered : HeldIsEntered
 held-entered d v f = (entered d v f, λ H. held d v f (root_entries d.types f) H refl)
@@ -55,6 +56,7 @@ rest-stays d v w f g es H V R records =
     let kept = indexes-stay (root_key_length d.types) v w H.index V.formatted (V.size ∙ sym H.volume.size) R.header R.index R.others in
     record {
       volume = V;
+      version = subst (IsKnownVersion d.types) (sym (ap (λ (x : Header). x.version) R.header)) H.version;
       name = ap (λ (x : Header). x.name) R.header ∙ H.name;
       block_size = ap (λ (x : Header). x.block_size) R.header ∙ H.block_size;
       records = records;
@@ -91,6 +93,7 @@ agree-index d v w more C = records-stay d.types v w C.segments (ap (λ (z : Head
 pub index-changes : IndexChangesKeepTheForest
 index-changes d v w f before after more H E = record {
   volume = record { fit = H.volume.fit; formatted = formatted-of (root_key_length d.types) w E.index.index; size = E.index.size; sizes = E.sizes ∙ H.volume.sizes };
+  version = subst (IsKnownVersion d.types) (sym (ap (λ (z : Header). z.version) E.change.header)) H.version;
   name = ap (λ (z : Header). z.name) E.change.header ∙ H.name;
   block_size = ap (λ (z : Header). z.block_size) E.change.header ∙ H.block_size;
   records = held-agree d.types _ (links_of d.types v) (links_of d.types w) f (records-link d v H.volume.fit H.volume) (agree-index d v w more E.change) H.records;

@@ -11,16 +11,18 @@ use Rattle.hd_volume.specs.Indexes.{root_key_length}
 use Rattle.hd_levels.specs.IndexSets.{HasIndexOf}
 use Rattle.hd_links.specs.Placed.{Placed, Holds}
 use Rattle.hd_image.specs.Records.{links_of, IsVolumeOf}
+use Rattle.hd_image.specs.BlockFaults.{IsKnownVersion}
 use Rattle.hd_index.specs.Changes.{IsIndexOf, entries_for, IsIndexChange}
 
 -- the entry of a root
 abbrev pub entry_of : List SegmentType → Placed → Entry
 entry_of types p = record { key = key_of types p.segment; address = p.address }
 
--- The volume's records hold the placed forest, and its index has these entries, which between the two steps of a change to a root are not
--- those of the roots.
+-- The volume is of a version that is known, its records hold the placed forest, and its index has these entries, which between the two
+-- steps of a change to a root are not those of the roots.
 pub record HoldsWith (d : Database) (v : VolumeState) (placed : Forest Placed) (es : List Entry) : Type 0 where
   pub volume : IsVolumeOf d v
+  pub version : IsKnownVersion d.types (header_of v.image).version
   pub name : (header_of v.image).name ≡ d.name
   pub block_size : (header_of v.image).block_size ≡ d.block_size
   pub records : Holds d.types (links_of d.types v) placed

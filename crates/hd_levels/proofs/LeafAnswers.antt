@@ -1,5 +1,5 @@
 -- What the block of the sequence set that a key leads to, and the next one, answer for the whole index of a volume.
-use Rattle.std.proofs.Common.{◌≡◌, ◌≢◌, inl, Option, ℕ, zero, suc, ◌+◌, ◌<◌, ◌==◌, cond, Bool, true, false, List, [], ◌∷◌, ◌++◌, Some, refl, sym, ap, ◌∙◌, subst, arith, ne_eqb}
+use Rattle.std.proofs.Common.{◌≡◌, ◌≢◌, inl, Option, ℕ, zero, suc, ◌+◌, ◌<◌, ◌==◌, cond, Bool, true, false, List, [], ◌∷◌, ◌++◌, Some, refl, sym, ap, ◌∙◌, subst, ne_eqb}
 use Rattle.std.proofs.lemmas.Bool.{eq-eqb}
 use Rattle.hd_volume.specs.Headers.{header_of}
 use Rattle.hd_volume.specs.Volumes.{VolumeState, block_at}
@@ -53,11 +53,10 @@ leaf-at k v key n x some is =
 pub leaves-answer-all : LeavesAnswerForAll
 leaves-answer-all k v key n x some is =
     let s = leaf-at k v key n x some is in
-    let two = x.version in
     let L : List ℕ → Type 0 = λ ns. IsLinked (next_in v) (first_of (sequence_set (index_blocks k v) (top_level v) (top_blocks v))) ns in
     let linked = linked-behind (next_in v) (first_of (sequence_set (index_blocks k v) (top_level v) (top_blocks v))) s.left n s.right
     (subst L (sym s.whole) (sequence-linked (index_blocks k v) (next_in v) (top_level v) (top_blocks v) x.next)) in
-    let all : index_entries k v ≡ across (index_blocks k v) (s.left ++ (n ∷ s.right)) = (entries-below k v).1 (λ e. omega arith) ∙ ap (across (index_blocks k v)) (sym s.whole) in
+    let all : index_entries k v ≡ across (index_blocks k v) (s.left ++ (n ∷ s.right)) = (entries-below k v).1 x.version ∙ ap (across (index_blocks k v)) (sym s.whole) in
     let own = around-answers (index_blocks k v) key s.left n s.right s.around in
     let on = (on-parts (index_blocks k v) 0 s.left (n ∷ s.right) s.around.set.0).1 in (
       right-block k v 0 n x (of-level (index_blocks k v) 0 n (s.left ++ (n ∷ s.right)) s.around.set (among-right n s.left (n ∷ s.right) (inl refl))),

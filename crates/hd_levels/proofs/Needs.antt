@@ -26,7 +26,7 @@ full-most c room key (suc l) n =
 
 growth-is : (k : ℕ) (v : VolumeState) → HasIndexSet k v → entry_growth v ≡ (header_of v.image).height + 1
 unfolding entry_growth
-growth-is k v x = let two = x.version in rw (ne_eqb (header_of v.image).version 1 (λ e. omega arith)) refl
+growth-is k v x = rw (ne_eqb (header_of v.image).version 1 x.version) refl
 
 by-top : (top height level full : ℕ) (all : Bool) → level ≡ height - 1 → (top ≢ 0 → 0 < height) → full ≤ suc level → cond (top == 0) 1 (full + one_if all) ≤ height + 1
 by-top top height level full all is some most =

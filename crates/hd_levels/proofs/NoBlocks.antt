@@ -1,5 +1,5 @@
--- A volume of version 2 without an index block has an index set.
-use Rattle.std.proofs.Common.{◌≡◌, inl, ℕ, zero, suc, ◌==◌, List, [], ◌∷◌, refl, sym, ap, ◌∙◌, subst, arith}
+-- A volume of version 2 or later without an index block has an index set.
+use Rattle.std.proofs.Common.{◌≡◌, ◌≢◌, inl, ℕ, zero, suc, ◌==◌, List, [], ◌∷◌, refl, sym, ap, ◌∙◌, subst}
 use Rattle.std.proofs.lemmas.Bool.{eq-eqb}
 use Rattle.hd_volume.specs.Headers.{header_of}
 use Rattle.hd_volume.specs.Volumes.{VolumeState, IsKind, IsFormatted}
@@ -22,7 +22,7 @@ none-top : (v : VolumeState) → (header_of v.image).top ≡ 0 → top_blocks v 
 none-top v top = rw (eq-eqb (header_of v.image).top 0 top) refl
 
 -- one without a top block, and without any other
-pub set-empty : (k : ℕ) (v : VolumeState) → IsFormatted v → (header_of v.image).version ≡ 2 → (header_of v.image).top ≡ 0 → (header_of v.image).height ≡ 0
+pub set-empty : (k : ℕ) (v : VolumeState) → IsFormatted v → (header_of v.image).version ≢ 1 → (header_of v.image).top ≡ 0 → (header_of v.image).height ≡ 0
     → ((n : ℕ) → IsKind v 2 n → ⊥) → HasIndexSet k v
 set-empty k v f version top height none = record {
   formatted = f;
@@ -35,8 +35,8 @@ set-empty k v f version top height none = record {
 }
 
 -- and it has no entry
-pub empty-entries : (k : ℕ) (v : VolumeState) → (header_of v.image).version ≡ 2 → (header_of v.image).top ≡ 0 → index_entries k v ≡ []
+pub empty-entries : (k : ℕ) (v : VolumeState) → (header_of v.image).version ≢ 1 → (header_of v.image).top ≡ 0 → index_entries k v ≡ []
 empty-entries k v version top =
-    (entries-below k v).1 (λ e. omega arith)
+    (entries-below k v).1 version
     ∙ ap (λ (ns : List ℕ). entries_below (index_blocks k v) (top_level v) ns) (none-top v top)
     ∙ entries-none (index_blocks k v) (top_level v)

@@ -111,7 +111,7 @@ module _ {k : ℕ} {v w : VolumeState} (x : HasIndexSet k v) (f : IsFormatted w)
       let L : ℕ → List ℕ → Type 0 = λ l ns. AreLevelsLinked (index_blocks k w) (next_in w) l ns in
       record {
         formatted = f;
-        version = version-same ∙ x.version;
+        version = λ e. x.version (sym version-same ∙ e);
         height = rw (top-same, height-same) x.height;
         set = subst (λ (l : ℕ). S l (top_blocks w)) (sym level-same) (subst (S (top_level v)) (sym tops-same) kept.0);
         reached = λ n i. (let A : List ℕ → Type 0 = λ ns. IsAmong n ns in subst A (sym down-same) (x.reached n (back n i)));
@@ -122,12 +122,11 @@ module _ {k : ℕ} {v w : VolumeState} (x : HasIndexSet k v) (f : IsFormatted w)
 
   entries-stay : index_entries k w ≡ index_entries k v
   entries-stay =
-      let two = x.version in
-      (entries-below k w).1 (λ e. (let same = version-same in omega arith))
+      (entries-below k w).1 (λ e. x.version (sym version-same ∙ e))
       ∙ ap (λ (l : ℕ). entries_below (index_blocks k w) l (top_blocks w)) level-same
       ∙ ap (entries_below (index_blocks k w) (top_level v)) tops-same
       ∙ same-below (index_blocks k v) (index_blocks k w) (top_level v) (top_blocks v) kept.1
-      ∙ sym ((entries-below k v).1 (λ e. omega arith))
+      ∙ sym ((entries-below k v).1 x.version)
 
   full-same : (key : List ℕ) → (header_of v.image).top ≢ 0
       → full_blocks (index_blocks k w) (entry_room k v.size) key (top_level v) (header_of v.image).top ≡ full_blocks (index_blocks k v) (entry_room k v.size) key (top_level v) (header_of v.image).top

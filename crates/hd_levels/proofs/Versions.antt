@@ -1,5 +1,5 @@
 -- What the version of a volume says of its index.
-use Rattle.std.proofs.Common.{◌≡◌, ◌≢◌, inl, inr, ℕ, ◌+◌, ◌≤◌, ◌==◌, cond, List, refl, arith}
+use Rattle.std.proofs.Common.{◌≡◌, ◌≢◌, inl, inr, ℕ, ◌+◌, ◌≤◌, ◌==◌, cond, List, refl}
 use Rattle.std.proofs.lemmas.Bool.{eq-eqb}
 use Rattle.hd_volume.specs.Headers.{header_of}
 use Rattle.hd_volume.specs.Volumes.{VolumeState, IsFormatted}
@@ -11,7 +11,7 @@ use Rattle.hd_levels.proofs.Volumes.{entries-below}
 -- of version 1 it is a chain
 pub chain-of : (k : ℕ) (v : VolumeState) → HasIndexOf k v → (header_of v.image).version ≡ 1 → HasIndex k v
 chain-of k v (inl x) one = x
-chain-of k v (inr x) one = (let two = x.version in absurd (omega arith))
+chain-of k v (inr x) one = absurd (x.version one)
 
 -- and else an index set
 pub set-of : (k : ℕ) (v : VolumeState) → HasIndexOf k v → (header_of v.image).version ≢ 1 → HasIndexSet k v

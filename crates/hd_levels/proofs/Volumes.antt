@@ -65,8 +65,7 @@ entries-below k v =
 pub entries-ascend : EntriesAscend
 entries-ascend k v (inl x) = ap keys_ascend ((entries-below k v).0 x.version) ∙ x.ascend
 entries-ascend k v (inr x) =
-    let two = x.version in
-    ap keys_ascend ((entries-below k v).1 (λ e. omega arith)) ∙ set-ascends (index_blocks k v) (top_level v) (top_blocks v) x.set
+    ap keys_ascend ((entries-below k v).1 x.version) ∙ set-ascends (index_blocks k v) (top_level v) (top_blocks v) x.set
 
 -- ---- blocks
 

@@ -96,7 +96,7 @@ has-set : HasIndexSet 3 sample_volume
 unfolding number_at
 has-set = record {
   formatted = formatted;
-  version = refl;
+  version = λ e. omega arith;
   height = inr (omega arith, omega arith, omega arith);
   set = set;
   reached = reached;
@@ -137,7 +137,7 @@ one-set : HasIndexSet 3 (one_level_volume 2 0)
 unfolding number_at
 one-set = record {
   formatted = record { header = one-header; divided = one-divided };
-  version = refl;
+  version = λ e. omega arith;
   height = inr (omega arith, omega arith, omega arith);
   set = ((refl, some _ _, tt), refl);
   reached = λ n k. inl (one-reached n k);

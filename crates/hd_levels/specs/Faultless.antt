@@ -1,5 +1,5 @@
 -- An index set as a check of the volume finds it: block by block, then what is named and reached, then the order and the keys of each level.
-use Rattle.std.specs.Prelude.{◌≡◌, ◌⊎◌, ◌↔◌, ℕ, zero, suc, ◌<◌, ◌≤◌, true, List, [], ◌∷◌, Some, slice_get}
+use Rattle.std.specs.Prelude.{◌≡◌, ◌≢◌, ◌⊎◌, ◌↔◌, ℕ, zero, suc, ◌<◌, ◌≤◌, true, List, [], ◌∷◌, Some, slice_get}
 use Rattle.hd_bytes.specs.Numbers.{number_at}
 use Rattle.hd_volume.specs.Headers.{header_of}
 use Rattle.hd_volume.specs.Volumes.{VolumeState, block_at, IsKind, IsFormatted}
@@ -64,10 +64,10 @@ AreKeysRight c (suc l) ns = (keys_ascend (across c ns) ≡ true) × AreBetween c
 
 -- ---- all together
 
--- Of a volume of version 2 nothing is wrong with the index.
+-- Of a volume of version 2 or later nothing is wrong with the index.
 pub record IsFaultless (key_length : ℕ) (v : VolumeState) : Type 0 where
   pub formatted : IsFormatted v
-  pub version : (header_of v.image).version ≡ 2
+  pub version : (header_of v.image).version ≢ 1
   pub forms : AreFormsRight key_length v
   pub once : AreNamedOnce key_length v
   pub reached : AreAllReached key_length v

@@ -1,6 +1,6 @@
 -- The index of a volume. In version 1 it is one chain of blocks; from version 2 on an index set stands above the sequence set, from one
 -- block at the top down.
-use Rattle.std.specs.Prelude.{◌≡◌, ◌⊎◌, ℕ, ◌+◌, ◌-◌, ◌*◌, ◌<◌, ◌≤◌, ◌==◌, ◌&&◌, not, nat_le, cond, Bool, List, [], ◌∷◌, length, Option, Some, None, slice_index}
+use Rattle.std.specs.Prelude.{◌≡◌, ◌≢◌, ◌⊎◌, ℕ, ◌+◌, ◌-◌, ◌*◌, ◌<◌, ◌≤◌, ◌==◌, ◌&&◌, not, nat_le, cond, Bool, List, [], ◌∷◌, length, Option, Some, None, slice_index}
 use Rattle.hd_bytes.specs.Numbers.{number_at}
 use Rattle.hd_volume.specs.Headers.{header_of}
 use Rattle.hd_volume.specs.Volumes.{VolumeState, block_at, kind_of, IsKind, IsFormatted}
@@ -53,11 +53,11 @@ IsHeightRight v =
     (((header_of v.image).top ≡ 0) × ((header_of v.image).height ≡ 0))
     ⊎ ((0 < (header_of v.image).top) × (0 < (header_of v.image).height) × ((header_of v.image).height ≤ 64))
 
--- The volume is of version 2 and has an index for keys of a length: from the top down its blocks are an index set, no other block is an
+-- The volume is of version 2 or later and has an index for keys of a length: from the top down its blocks are an index set, no other block is an
 -- index block, each has no more entries than find room, and on each level `next` is the order from left to right.
 pub record HasIndexSet (key_length : ℕ) (v : VolumeState) : Type 0 where
   pub formatted : IsFormatted v
-  pub version : (header_of v.image).version ≡ 2
+  pub version : (header_of v.image).version ≢ 1
   pub height : IsHeightRight v
   pub set : IsIndexSet (index_blocks key_length v) (top_level v) (top_blocks v)
   pub reached : (n : ℕ) → IsKind v 2 n → IsAmong n (blocks_down (index_blocks key_length v) (top_level v) (top_blocks v))

@@ -1,4 +1,4 @@
--- What can be wrong with the index of a volume of version 2: one word for each line of the fault table, with where the fault stands and what
+-- What can be wrong with the index of a volume of version 2 or later: one word for each line of the fault table, with where the fault stands and what
 -- else it names, 0 where it names nothing. Each phase supposes that no earlier fault stands.
 use Rattle.std.specs.Prelude.{◌≡◌, ◌≢◌, ◌⊎◌, ◌↔◌, ℕ, zero, suc, ◌-◌, ◌*◌, ◌<◌, ◌≤◌, ◌&&◌, not, cond, Bool, true, List, [], ◌∷◌, ◌++◌, Option, Some, None, option_map}
 use Rattle.std.specs.Option.{option_map_or}
@@ -148,7 +148,7 @@ LevelsAreJudged =
     → (AreLevelsLinked (index_blocks key_length v) (next_in v) (top_level v) (top_blocks v) ↔ StandsNowhere (IsWrongNext key_length v))
     × (AreKeysRight (index_blocks key_length v) (top_level v) (top_blocks v) ↔ StandsNowhere (HasEntryOutOfOrder key_length v))
 
--- A formatted volume of version 2 has an index set just where no line stands.
+-- A formatted volume of version 2 or later has an index set just where no line stands.
 abbrev pub FaultsAreAll : Type 0
 FaultsAreAll =
-    (key_length : ℕ) (v : VolumeState) → IsFormatted v → (header_of v.image).version ≡ 2 → HasIndexSet key_length v ↔ HasNoFault key_length v
+    (key_length : ℕ) (v : VolumeState) → IsFormatted v → (header_of v.image).version ≢ 1 → HasIndexSet key_length v ↔ HasNoFault key_length v

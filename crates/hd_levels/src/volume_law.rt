@@ -101,7 +101,7 @@ pub fn law_levels_are_judged()
     ensures { LevelsAreJudged }
 {}
 
-/// A formatted volume of version 2 has an index set just where no line of the fault table stands.
+/// A formatted volume of version 2 or later has an index set just where no line of the fault table stands.
 pub fn law_faults_are_all()
     ensures { FaultsAreAll }
 {}

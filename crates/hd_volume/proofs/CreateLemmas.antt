@@ -37,14 +37,14 @@ header-by : (i m n : List ℕ) (v b c l f k t h : ℕ) → bytes_at i 0 8 ≡ m 
 header-by i m n v b c l f k t h e1 e2 e3 e4 e5 e6 e7 e8 e9 e10 = rw (e1, e2, e3, e4, e5, e6, e7, e8, e9, e10) refl
 
 head-numbers : (b name : List ℕ) (size largest : ℕ) → let i : List ℕ = with_bytes b 0 (head_list name size largest) in
-    (number_at 2 i 8 ≡ 2) × (number_at 2 i 10 ≡ size) × (number_at 4 i 12 ≡ 1) × (number_at 4 i 16 ≡ largest) × (number_at 4 i 28 ≡ 0) × (number_at 4 i 32 ≡ 0) × (number_at 4 i 36 ≡ 0) × (number_at 4 i 40 ≡ 0)
+    (number_at 2 i 8 ≡ 3) × (number_at 2 i 10 ≡ size) × (number_at 4 i 12 ≡ 1) × (number_at 4 i 16 ≡ largest) × (number_at 4 i 28 ≡ 0) × (number_at 4 i 32 ≡ 0) × (number_at 4 i 36 ≡ 0) × (number_at 4 i 40 ≡ 0)
 unfolding number_at
 head-numbers b name size largest = (refl, omega arith, refl, omega arith, refl, refl, refl, refl)
 
 head-header : (b name : List ℕ) (size largest : ℕ) → length name ≡ 8 → header_of (with_bytes b 0 (head_list name size largest)) ≡ new_header name size largest
 head-header b name size largest len =
     let n = head-numbers b name size largest in
-    header-by (with_bytes b 0 (head_list name size largest)) _ name 2 size 1 largest 0 0 0 0 refl n.0 n.1 n.2 n.3 (eight-bytes name len) n.4 n.5 n.6 n.7
+    header-by (with_bytes b 0 (head_list name size largest)) _ name 3 size 1 largest 0 0 0 0 refl n.0 n.1 n.2 n.3 (eight-bytes name len) n.4 n.5 n.6 n.7
 
 -- a block by itself is an image of one block
 pub own-block : (size : ℕ) (b : List ℕ) → length b ≡ size → block_of size b 0 ≡ b

@@ -7,11 +7,11 @@ use Rattle.hd_volume.specs.Headers.{Header, header_of}
 use Rattle.hd_volume.specs.Volumes.{VolumeState, IsFormatted}
 use Rattle.hd_volume.specs.Records.{find}
 
--- the header of a new volume: version 2, one block, no roots and no index
+-- the header of a new volume: version 3, one block, no roots and no index
 abbrev pub new_header : List ℕ → ℕ → ℕ → Header
 new_header name size largest = record {
   mark = codes "HDVOLUME";
-  version = 2;
+  version = 3;
   block_size = size;
   count = 1;
   largest = largest;
@@ -25,7 +25,7 @@ new_header name size largest = record {
 -- the first 44 bytes of a new volume
 abbrev pub head_list : List ℕ → ℕ → ℕ → List ℕ
 head_list name size largest =
-    72 ∷ 68 ∷ 86 ∷ 79 ∷ 76 ∷ 85 ∷ 77 ∷ 69 ∷ 0 ∷ 2 ∷ (size / 256) ∷ (size % 256) ∷ 0 ∷ 0 ∷ 0 ∷ 1
+    72 ∷ 68 ∷ 86 ∷ 79 ∷ 76 ∷ 85 ∷ 77 ∷ 69 ∷ 0 ∷ 3 ∷ (size / 256) ∷ (size % 256) ∷ 0 ∷ 0 ∷ 0 ∷ 1
     ∷ (largest / 16777216) ∷ (largest / 65536 % 256) ∷ (largest / 256 % 256) ∷ (largest % 256)
     ∷ slice_index name 0 ∷ slice_index name 1 ∷ slice_index name 2 ∷ slice_index name 3 ∷ slice_index name 4 ∷ slice_index name 5 ∷ slice_index name 6 ∷ slice_index name 7
     ∷ 0 ∷ 0 ∷ 0 ∷ 0 ∷ 0 ∷ 0 ∷ 0 ∷ 0 ∷ 0 ∷ 0 ∷ 0 ∷ 0 ∷ 0 ∷ 0 ∷ 0 ∷ 0 ∷ []

@@ -3,14 +3,15 @@ ghost use Rattle.hd_dbd.specs.Facts.{stored_sizes};
 ghost use Rattle.hd_volume.specs.Creates.{IsCreated, IsGivenNew, head_list};
 ghost use Rattle.hd_volume.specs.declared.load.TheConstants.{MOST_BLOCKS};
 
+use crate::header::NEWEST_VERSION;
 use crate::store::BlockStore;
 use crate::volume::Volume;
 use hd_dbd::{Dbd, Refused};
 use std::alloc::Global;
 
 impl<S: BlockStore> Volume<S> {
-    /// A new volume of one block, of version 2 and this largest count, 1 to 65,536, in an empty store. A refusal gives the
-    /// store back.
+    /// A new volume of one block, of the newest version and this largest count, 1 to 65,536, in an empty store. A refusal
+    /// gives the store back.
     pub fn create(
         alloc: Global,
         mut store: S,
@@ -61,10 +62,10 @@ fn head_bytes(n: &[u8; 8], size: u16, largest: u32) -> [u8; 44]
         (largest / 256 % 256) as u8,
         (largest % 256) as u8,
     ];
-    let [high, low] = [(size / 256) as u8, (size % 256) as u8];
+    let [newest, high, low] = [NEWEST_VERSION as u8, (size / 256) as u8, (size % 256) as u8];
     [
-        b'H', b'D', b'V', b'O', b'L', b'U', b'M', b'E', 0, 2, high, low, 0, 0, 0, 1, a, b, c, d,
-        n[0], n[1], n[2], n[3], n[4], n[5], n[6], n[7], 0, 0, 0, 0, 0, 0, 0, 0, 0, 0, 0, 0, 0, 0,
-        0, 0,
+        b'H', b'D', b'V', b'O', b'L', b'U', b'M', b'E', 0, newest, high, low, 0, 0, 0, 1, a, b, c,
+        d, n[0], n[1], n[2], n[3], n[4], n[5], n[6], n[7], 0, 0, 0, 0, 0, 0, 0, 0, 0, 0, 0, 0, 0,
+        0, 0, 0,
     ]
 }

@@ -13,6 +13,9 @@ use hd_bytes::read_u16;
 /// The first eight bytes of a volume.
 pub const MARK: [u8; 8] = *b"HDVOLUME";
 
+/// The version of new volumes.
+pub const NEWEST_VERSION: u16 = 3;
+
 /// Where the header has its version and the block size, of two bytes each, and the name of its database, of eight.
 pub const VERSION: usize = 8;
 

@@ -21,7 +21,7 @@ mod volume;
 
 pub use file::FileStore;
 pub use fuse::FuseStore;
-pub use header::{BLOCK_SIZE, MARK, NAME, VERSION};
+pub use header::{BLOCK_SIZE, MARK, NAME, NEWEST_VERSION, VERSION};
 pub use law::{law_an_index_stays, law_segments_depend_on_data_blocks};
 pub use load::{MOST_BLOCKS, size_table};
 pub use memory::MemStore;

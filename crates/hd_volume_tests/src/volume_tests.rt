@@ -16,7 +16,7 @@ use std::{fs, io};
 fn header(blocks: u8) -> [u8; 128] {
     let mut bytes = [0; 128];
     bytes[..8].copy_from_slice(b"HDVOLUME");
-    bytes[9] = 2;
+    bytes[9] = 3;
     bytes[11] = 128;
     bytes[15] = blocks;
     bytes[17] = 1;
@@ -200,11 +200,11 @@ fn new_volume(alloc: Global, dbd: &Dbd) -> Option<(u16, u32, u32, Vec<u8>)>
 fn creates_a_volume_of_one_block(rt: HostRuntime) {
     let dbd = database(rt.alloc()).expect(&rt, "a database");
     let (version, count, largest, bytes) = new_volume(rt.alloc(), &dbd).expect(&rt, "a new volume");
-    assert_eq!(rt; (version, count, largest), (2, 1, 16));
+    assert_eq!(rt; (version, count, largest), (3, 1, 16));
     assert_eq!(rt; bytes.len(), 128);
     assert_eq!(rt;
         bytes.get(..28),
-        Some(b"HDVOLUME\0\x02\0\x80\0\0\0\x01\0\0\0\x10EDU     ".as_slice())
+        Some(b"HDVOLUME\0\x03\0\x80\0\0\0\x01\0\0\0\x10EDU     ".as_slice())
     );
 }
 

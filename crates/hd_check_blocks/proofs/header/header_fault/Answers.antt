@@ -6,7 +6,7 @@ use Rattle.hd_volume.specs.Headers.{header_of}
 use Rattle.hd_volume.specs.Volumes.{VolumeState, block_at}
 use Rattle.hd_volume.proofs.PutLemmas.{if-some-map, if-none-map}
 use Rattle.hd_check_blocks.specs.declared.fault.Fault.{Fault}
-use Rattle.hd_image.specs.Right.{IsKnownVersion}
+use Rattle.hd_image.specs.BlockFaults.{IsKnownVersion}
 use Rattle.hd_check_blocks.specs.Phases.{CountsImage, IsNamed, IsWrongHeader, IsLeastOf}
 use Rattle.hd_check_blocks.proofs.HeaderFaults.{wrong-first, header-right, header-wrong}
 use Rattle.hd_check_blocks.proofs.header.header_fault.Goals as goal
@@ -34,7 +34,7 @@ returns-clause-none g c = λ sound.
     let there : HasBlock v.size v.image 0 = (let long = c.if-image_length-size.false in omega arith) in
     let head : c.in_ok-head.head.now ≡ block_at v 0 = c.in_ok-head.ensures.value sound in
     let long : 44 ≤ length c.in_ok-head.head.now = (let l = ap (λ (b : List ℕ). length b) head ∙ length-block v.size 0 v.image there in omega arith) in
-    let P : ℕ → ℕ → List ℕ → Type 0 = λ s n b. CountsImage s n (header_of b) × IsKnownVersion (header_of b).version × IsNamed d (header_of b) in
+    let P : ℕ → ℕ → List ℕ → Type 0 = λ s n b. CountsImage s n (header_of b) × IsKnownVersion d.types (header_of b).version × IsNamed d (header_of b) in
     if-none-map c.head_fault.result
     (λ h. header-right d v c.requires.size least there (subst (λ (b : List ℕ). P v.size (length v.image) b) head (subst (λ (n : ℕ). P v.size n c.in_ok-head.head.now) len (subst (λ (s : ℕ). P s c.length-image_length.result c.in_ok-head.head.now) own h))))
     (c.head_fault.ensures.none long)
