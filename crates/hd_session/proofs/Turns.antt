@@ -1,7 +1,6 @@
 -- Calls of a session one after another, and the log that they come to.
-use Rattle.std.proofs.Common.{◌≡◌, ◌≢◌, ◌⊎◌, ℕ, ◌<◌, ◌≤◌, List, [], ◌∷◌, ◌++◌, length, false, Option, Some, None, Result, Ok, Err, IsTrue, All, ap, sym, ◌∙◌, subst, refl, inl, inr}
+use Rattle.std.proofs.Common.{◌≡◌, ℕ, List, [], ◌∷◌, ◌++◌, length, false, Option, Some, Result, Ok, Err, IsTrue, All, ap, sym, ◌∙◌, subst, refl}
 use Rattle.std.specs.Prelude.{IfErr, IfSome}
-use Rattle.std.proofs.lemmas.Bool.{cases_lt}
 use Rattle.std.proofs.lemmas.List.{length-map}
 use Rattle.hd_volume.proofs.JoinLemmas.{if-err-map}
 use Rattle.std.proofs.lemmas.List.Elements.{All-nil, All-cons, All-append}
@@ -10,10 +9,7 @@ use Rattle.hd_dbd.specs.declared.answer.Refused.TheVariants as refused
 use Rattle.hd_dbd.specs.Types.{SegmentType, View}
 use Rattle.hd_dbd.specs.Hierarchy.{Database}
 use Rattle.hd_dbd.specs.Calls.{CallText}
-use Rattle.hd_dbd.specs.Logs.{Outcome, replied, area, full, memory, Entry}
-use Rattle.hd_calls.specs.declared.call.Function.{Function}
-use Rattle.hd_calls.specs.declared.call.Function.TheVariants.{Get, Insert, Replace, Delete}
-use Rattle.hd_calls.specs.Functions.{function_of}
+use Rattle.hd_dbd.specs.Logs.{Outcome, memory, Entry}
 use Rattle.hd_calls.specs.Steps.{State}
 use Rattle.hd_calls.specs.Runs.{Images, Holds, IsRun, effect_by, state_after_outcome, next_state, last_state, image_at, ImagesFollow}
 use Rattle.hd_calls.specs.NoLostUpdate.{opened}
@@ -25,7 +21,6 @@ use Rattle.hd_position.specs.Kept.{Kept}
 use Rattle.hd_update.specs.States.{Represents}
 use Rattle.hd_session.specs.declared.request.Answer.{Answer}
 use Rattle.hd_session.specs.Buffer.{Buffer}
-use Rattle.hd_session.specs.Replies.{reply_of}
 use Rattle.hd_session.specs.Opening.{SessionState, session_at_start}
 use Rattle.hd_session.specs.Logged.{outcome_of, IsLogged}
 use Rattle.hd_session.specs.Turns.{Turn, turns_in, TakesMemory, LacksMemoryFairly, StaysWhole, IsTurnAnswered, AreMade, entry_of}

@@ -9,7 +9,6 @@ use Rattle.hd_dbd.specs.Segment.{Segment}
 use Rattle.hd_dbd.specs.Hierarchy.{Database}
 use Rattle.hd_dbd.specs.Views.{Setting}
 use Rattle.hd_calls.specs.Access.{loads}
-use Rattle.hd_calls.specs.Runs.{LacksRoom, rows_stored, inserts_root}
 use Rattle.hd_calls.specs.Ssas.{Ssa, first_inserted}
 use Rattle.hd_calls.specs.Places.{rule_of, rule_under}
 use Rattle.hd_calls.specs.Steps.{State, Effect, bare_answer, position_at, inserted_codes}
@@ -19,13 +18,12 @@ use Rattle.hd_links.specs.Steps.{rows_of}
 use Rattle.hd_forest.proofs.Reading.{after-read, sound-before}
 use Rattle.hd_get.specs.declared.outcome.Outcome.{Outcome}
 use Rattle.hd_get.specs.declared.outcome.Outcome.TheVariants.{Missing}
-use Rattle.hd_keeping.specs.VolumeImages.{images_of}
 use Rattle.hd_position.specs.Kept.{Kept}
 use Rattle.hd_update.specs.NewRows.{codes_of, are_rows_in, rows_in}
 use Rattle.hd_update.specs.Inserting.{AreInsertArguments, insert_effect, insert_under, parent_asked, IsParentAsked, IsUnder, HasParentFor, AreInsertedUnder, IsFullUnder, IsInsertDone, IsInsertFull}
 use Rattle.hd_update.specs.Places.{IsTypeBelow}
 use Rattle.hd_update.specs.Positions.{unheld_at}
-use Rattle.hd_update.specs.States.{Represents, HasState, LacksRoomFor}
+use Rattle.hd_update.specs.States.{Represents, HasState}
 use Rattle.hd_update.proofs.Answering.{answered_as, answered_before, bare_answered, represented, lacks_before}
 use Rattle.hd_update.proofs.InsertArguments.{left, codes_left, begins}
 use Rattle.hd_update.proofs.InsertCalls.{no_parent, below_parent}

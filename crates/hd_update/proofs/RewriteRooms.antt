@@ -1,6 +1,6 @@
 -- Room and memory for rows that get new bytes, one after the other.
-use Rattle.std.proofs.Common.{◌≡◌, ◌≢◌, ◌⊎◌, ℕ, ◌+◌, ◌<◌, ◌≤◌, List, [], ◌∷◌, length, Bool, true, false, cond, refl, sym, ap, ap₂, subst, ◌∙◌, arith, inl, inr}
-use Rattle.std.specs.Prelude.{◌-◌, map, filter, nat_lt, take, drop}
+use Rattle.std.proofs.Common.{◌≡◌, ◌≢◌, ◌⊎◌, ℕ, ◌+◌, ◌<◌, ◌≤◌, List, ◌∷◌, length, Bool, true, false, cond, sym, ap, ap₂, subst, ◌∙◌, arith, inl, inr}
+use Rattle.std.specs.Prelude.{◌-◌, map, filter, nat_lt, drop}
 use Rattle.std.proofs.lemmas.Bool.{cases_Bool, ltb-false, lt-ltb, le-ltb}
 use Rattle.std.proofs.lemmas.List.{length-take, length-drop}
 use Rattle.hd_dbd.specs.Types.{SegmentType}
@@ -15,7 +15,6 @@ use Rattle.hd_calls.specs.Moves.{Rewrite, rewritten}
 use Rattle.hd_calls.specs.Runs.{is_longer, row_with, rows_stored, stored_sizes}
 use Rattle.hd_volume.specs.Volumes.{VolumeState}
 use Rattle.hd_volume.specs.Rooms.{spare, HasHole}
-use Rattle.hd_links.specs.Links.{segment_at}
 use Rattle.hd_links.specs.Placed.{Placed}
 use Rattle.hd_links.specs.Steps.{rows_of}
 use Rattle.hd_image.specs.Records.{links_of}

@@ -2,7 +2,7 @@
 use Rattle.std.specs.Prelude.{◌≡◌, ℕ, zero, suc, ◌+◌, ◌<◌, List, [], ◌∷◌, length, true, false, cond, Option, Some, None, option_map, Ok, IsTrue}
 use Rattle.std.specs.Option.{option_map_or}
 use Rattle.hd_dbd.specs.declared.hierarchy.Rule.{Rule}
-use Rattle.hd_dbd.specs.declared.answer.Status.TheVariants.{Blank, II}
+use Rattle.hd_dbd.specs.declared.answer.Status.TheVariants.{II}
 use Rattle.hd_dbd.specs.declared.answer.Refused.{Refused}
 use Rattle.hd_dbd.specs.declared.answer.Refused.TheVariants.{Full}
 use Rattle.hd_dbd.specs.Types.{SegmentType, View}
@@ -11,14 +11,12 @@ use Rattle.hd_dbd.specs.Segment.{Segment}
 use Rattle.hd_dbd.specs.Paths.{parent_row}
 use Rattle.hd_dbd.specs.Positions.{Position}
 use Rattle.hd_dbd.specs.Views.{Setting}
-use Rattle.hd_dbd.specs.Calls.{Reply}
 use Rattle.hd_dbd.specs.Forest.{Forest}
 use Rattle.hd_calls.specs.declared.call.Function.TheVariants.{Insert}
 use Rattle.hd_calls.specs.Access.{loads}
 use Rattle.hd_calls.specs.Ssas.{Ssa, resolve, target_code}
-use Rattle.hd_calls.specs.Moves.{Change, put_in}
+use Rattle.hd_calls.specs.Moves.{put_in}
 use Rattle.hd_calls.specs.Places.{insert_parent, is_key_taken, insertion_point}
-use Rattle.hd_calls.specs.Runs.{LacksRoom, rows_stored, inserts_root}
 use Rattle.hd_calls.specs.Steps.{State, Effect, answered, wrong_area, position_at, bare_answer, insert_at, insert_step}
 use Rattle.hd_volume.specs.Volumes.{VolumeState}
 use Rattle.hd_links.specs.Links.{is_child_type}
@@ -26,7 +24,6 @@ use Rattle.hd_links.specs.Placed.{Placed}
 use Rattle.hd_links.specs.Numbers.{LeafGoesInAt}
 use Rattle.hd_links.specs.Steps.{rows_of}
 use Rattle.hd_forest.specs.Walks.{tip}
-use Rattle.hd_keeping.specs.VolumeImages.{images_of}
 use Rattle.hd_position.specs.Kept.{Kept}
 use Rattle.hd_get.specs.Gets.{IsPositionIn}
 use Rattle.hd_get.specs.declared.outcome.Outcome.{Outcome}

@@ -1,10 +1,10 @@
-use Rattle.std.proofs.Common.{◌≡◌, ℕ, ◌-◌, ◌<◌, List, length, false, true, Ok, Err, IsTrue, IfErr, Result, refl, sym, ap, subst, ◌∙◌, inl, inr, arith}
+use Rattle.std.proofs.Common.{◌≡◌, ℕ, ◌-◌, List, length, false, true, Ok, Err, IsTrue, IfErr, Result, sym, ap, subst, ◌∙◌, inl, inr, arith}
 use Rattle.std.proofs.lemmas.Result.{err_from_is_err_and}
 use Rattle.std.proofs.lemmas.Bool.{cases_Bool}
 use Rattle.hd_dbd.specs.Lengths.{some_vary}
 use Rattle.hd_dbd.specs.Segment.{Segment}
 use Rattle.hd_dbd.specs.declared.answer.Refused.{Refused}
-use Rattle.hd_dbd.specs.declared.answer.Refused.TheVariants.{Full, Memory, Device}
+use Rattle.hd_dbd.specs.declared.answer.Refused.TheVariants.{Memory}
 use Rattle.hd_volume.proofs.CallSteps.{call-ok, sound-back}
 use Rattle.hd_volume.proofs.JoinLemmas.{calls-join, read-call}
 use Rattle.hd_links.specs.Steps.{rows_of}
@@ -12,14 +12,14 @@ use Rattle.hd_volume.specs.Calls.{IsCall}
 use Rattle.hd_forest.proofs.Reading.{after-read, sound-before}
 use Rattle.hd_keeping.specs.VolumeImages.{images_of}
 use Rattle.hd_position.specs.Kept.{Kept}
-use Rattle.hd_calls.specs.Moves.{Rewrite, rewritten}
+use Rattle.hd_calls.specs.Moves.{rewritten}
 use Rattle.hd_calls.specs.Runs.{LacksRoom, rows_stored}
-use Rattle.hd_calls.specs.Steps.{position_at, replace_rows}
+use Rattle.hd_calls.specs.Steps.{replace_rows}
 use Rattle.hd_get.specs.declared.outcome.Outcome.{Outcome}
 use Rattle.hd_get.specs.declared.outcome.Outcome.TheVariants.{Found, Missing}
 use Rattle.hd_dbd.specs.declared.answer.Status.TheVariants.{Blank, DA}
-use Rattle.hd_update.specs.Calls.{AreAsked, rewrites_effect, AreRewritesFull, RewritesLengthen}
-use Rattle.hd_update.specs.States.{Represents, IsAnswered}
+use Rattle.hd_update.specs.Calls.{rewrites_effect, AreRewritesFull, RewritesLengthen}
+use Rattle.hd_update.specs.States.{IsAnswered}
 use Rattle.hd_update.specs.Positions.{all_after_rewrites, unheld_at}
 use Rattle.hd_update.specs.declared.replaced.ReplacedRow.{ReplacedRow}
 use Rattle.hd_update.proofs.Reading.{held_read}

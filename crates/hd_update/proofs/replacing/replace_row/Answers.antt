@@ -1,4 +1,4 @@
-use Rattle.std.proofs.Common.{◌≡◌, ◌≢◌, ◌⊎◌, ℕ, IsTrue, Ok, refl, sym, ap, subst, ◌∙◌, inl, inr}
+use Rattle.std.proofs.Common.{◌≡◌, ℕ, IsTrue, Ok, refl, sym, ap, subst, ◌∙◌, inl, inr}
 use Rattle.hd_dbd.specs.Rows.{key_of}
 use Rattle.hd_dbd.specs.Segment.{Segment}
 use Rattle.hd_volume.proofs.CallSteps.{call-ok}
@@ -8,7 +8,6 @@ use Rattle.hd_image.specs.Records.{links_of}
 use Rattle.hd_forest.specs.Walks.{tip}
 use Rattle.hd_index.specs.Changes.{entries_for}
 use Rattle.hd_index.specs.Maps.{with_address}
-use Rattle.hd_keeping.specs.Entered.{IsEntered, HoldsWith}
 use Rattle.hd_keeping.specs.SetRows.{KeepsEntry}
 use Rattle.hd_keeping.proofs.SetRows.{with-entries}
 use Rattle.hd_update.proofs.replacing.replace_row.Goals as goal

@@ -1,11 +1,10 @@
-use Rattle.std.proofs.Common.{◌≡◌, ℕ, ◌+◌, ◌<◌, ◌≤◌, ◌∷◌, [], ◌++◌, List, length, take, drop, true, Ok, Err, IsTrue, IfErr, Result, refl, sym, ap, subst, ◌∙◌, arith}
+use Rattle.std.proofs.Common.{◌≡◌, ℕ, ◌+◌, ◌<◌, ◌≤◌, [], List, length, take, drop, true, Ok, Err, IsTrue, IfErr, Result, sym, ap, subst, ◌∙◌, arith}
 use Rattle.std.specs.Prelude.{map, slice_index_or}
-use Rattle.std.proofs.lemmas.List.{take_more, length-append}
+use Rattle.std.proofs.lemmas.List.{length-append}
 use Rattle.std.proofs.lemmas.Result.{err_from_is_err_and}
 use Rattle.hd_dbd.specs.declared.answer.Refused.{Refused}
 use Rattle.hd_dbd.specs.declared.answer.Refused.TheVariants.{Device}
 use Rattle.hd_dbd.specs.Rows.{row_fits}
-use Rattle.hd_dbd.specs.Segment.{Segment}
 use Rattle.hd_calls.specs.Moves.{Rewrite}
 use Rattle.hd_dbd.specs.Prefixes.{size_with}
 use Rattle.hd_volume.specs.Rooms.{spare, HasHole}
@@ -15,7 +14,7 @@ use Rattle.hd_volume.proofs.CallSteps.{call-ok, call-none, sound-back}
 use Rattle.hd_volume.proofs.JoinLemmas.{calls-join}
 use Rattle.hd_links.specs.Moves.{moved_to}
 use Rattle.hd_update.specs.Deleting.{path_up_to}
-use Rattle.hd_update.specs.Replacing.{AreReplaced, MayReplace, IsReplacedTo, AreInArea, IsInArea, part_for}
+use Rattle.hd_update.specs.Replacing.{AreReplaced, MayReplace, IsReplacedTo, part_for}
 use Rattle.hd_update.specs.declared.rewrites.NewBytes.{NewBytes}
 use Rattle.hd_update.specs.declared.replaced.ReplacedRow.{ReplacedRow}
 use Rattle.hd_update.specs.declared.replaced.ReplacedRows.{ReplacedRows}

@@ -1,9 +1,9 @@
-use Rattle.std.proofs.Common.{◌≡◌, ◌⊎◌, ℕ, ◌+◌, ◌<◌, ◌≤◌, length, false, IsTrue, sym, ap, subst, ◌∙◌, arith, inl, inr}
+use Rattle.std.proofs.Common.{◌⊎◌, ◌≤◌, false, IsTrue, sym, subst, arith, inl, inr}
 use Rattle.std.proofs.lemmas.Result.{IfErr-weaker}
 use Rattle.hd_dbd.proofs.StoredSizes.{block_size-bounds}
 use Rattle.hd_calls.specs.Moves.{rewritten}
-use Rattle.hd_calls.specs.Runs.{rows_stored, stored_sizes}
-use Rattle.hd_volume.specs.Rooms.{spare, HasHole}
+use Rattle.hd_calls.specs.Runs.{rows_stored}
+use Rattle.hd_volume.specs.Rooms.{HasHole}
 use Rattle.hd_links.specs.Steps.{rows_of}
 use Rattle.hd_keeping.proofs.Rooms.{one-volume}
 use Rattle.hd_keeping.proofs.VolumeImages.{lacking-room}

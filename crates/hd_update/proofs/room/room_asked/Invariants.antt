@@ -1,4 +1,4 @@
-use Rattle.std.proofs.Common.{◌≡◌, ℕ, ◌+◌, ◌≤◌, length, drop, List}
+use Rattle.std.proofs.Common.{◌≡◌, ◌+◌, ◌≤◌, length, drop, List}
 use Rattle.std.specs.Prelude.{◌*◌}
 use Rattle.hd_dbd.specs.Forest.{Forest}
 use Rattle.hd_calls.specs.Moves.{Rewrite, rewritten}
