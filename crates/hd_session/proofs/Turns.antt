@@ -1,13 +1,17 @@
 -- Calls of a session one after another, and the log that they come to.
-use Rattle.std.proofs.Common.{◌≡◌, ℕ, List, [], ◌∷◌, ◌++◌, length, false, Option, Some, Result, Ok, Err, IsTrue, All, ap, sym, ◌∙◌, subst, refl}
+use Rattle.std.proofs.Common.{◌≡◌, ◌≢◌, ◌⊎◌, ℕ, ◌<◌, ◌≤◌, Bool, true, None, inl, inr, List, [], ◌∷◌, ◌++◌, length, false, Option, Some, Result, Ok, Err, IsTrue, All, ap, sym, ◌∙◌, subst, refl}
 use Rattle.std.specs.Prelude.{IfErr, IfSome}
 use Rattle.std.proofs.lemmas.List.{length-map}
-use Rattle.hd_volume.proofs.JoinLemmas.{if-err-map}
+use Rattle.std.proofs.lemmas.Bool.{cases_lt}
 use Rattle.std.proofs.lemmas.List.Elements.{All-nil, All-cons, All-append}
 use Rattle.hd_dbd.specs.declared.answer.Refused.{Refused}
 use Rattle.hd_dbd.specs.declared.answer.Refused.TheVariants as refused
 use Rattle.hd_dbd.specs.Types.{SegmentType, View}
 use Rattle.hd_dbd.specs.Hierarchy.{Database}
+use Rattle.hd_dbd.specs.Lengths.{some_vary}
+use Rattle.hd_calls.specs.declared.call.Function.{Function}
+use Rattle.hd_calls.specs.declared.call.Function.TheVariants.{Get, Insert, Replace, Delete}
+use Rattle.hd_calls.specs.Functions.{function_of}
 use Rattle.hd_dbd.specs.Calls.{CallText}
 use Rattle.hd_dbd.specs.Logs.{Outcome, memory, Entry}
 use Rattle.hd_calls.specs.Steps.{State}
@@ -49,15 +53,27 @@ made_none s st whole stands = record {
   whole = whole_none s whole;
 }
 
--- memory was wanting only where the call takes some
-takes_where : (types : List SegmentType) (call : CallText) (io : Buffer) (result : Result Answer Refused) → IfErr result (λ e. e ≡ refused.Memory → TakesMemory types call)
+-- memory was wanting in vain but at an ISRT, a REPL where segments vary, or with more than four arguments
+takes : (f : Option Function) (vary : Bool) (n : ℕ) → (vary ≡ false → f ≢ Some Insert → n ≤ 4 → ⊥) → (f ≢ Some Insert → f ≢ Some Replace → n ≤ 4 → ⊥)
+    → (f ≡ Some Insert) ⊎ ((f ≡ Some Replace) × (vary ≡ true)) ⊎ (4 < n)
+takes (Some Insert) vary n fixed never = inl refl
+takes (Some Replace) true n fixed never = inr (inl (refl, refl))
+takes (Some Replace) false n fixed never = elim (cases_lt 4 n) [ inl more ↦ inr (inr more) | inr few ↦ absurd (fixed refl (λ e. cc) few) ]
+takes None vary n fixed never = elim (cases_lt 4 n) [ inl more ↦ inr (inr more) | inr few ↦ absurd (never (λ e. cc) (λ e. cc) few) ]
+takes (Some (Get kind hold)) vary n fixed never = elim (cases_lt 4 n) [ inl more ↦ inr (inr more) | inr few ↦ absurd (never (λ e. cc) (λ e. cc) few) ]
+takes (Some Delete) vary n fixed never = elim (cases_lt 4 n) [ inl more ↦ inr (inr more) | inr few ↦ absurd (never (λ e. cc) (λ e. cc) few) ]
+
+takes_where : (types : List SegmentType) (call : CallText) (io : Buffer) (result : Result Answer Refused)
+    → (some_vary types ≡ false → function_of call.function ≢ Some Insert → length call.ssas ≤ 4 → IfErr result (λ e. e ≢ refused.Memory))
+    → (function_of call.function ≢ Some Insert → function_of call.function ≢ Some Replace → length call.ssas ≤ 4 → IfErr result (λ e. e ≢ refused.Memory))
     → outcome_of result io ≡ Some memory → TakesMemory types call
-takes_where types call io (Ok a) takes is = cc
-takes_where types call io (Err refused.Memory) takes is = takes refl
-takes_where types call io (Err refused.Full) takes is = cc
-takes_where types call io (Err refused.Device) takes is = cc
-takes_where types call io (Err refused.Broken) takes is = cc
-takes_where types call io (Err refused.Area) takes is = cc
+takes_where types call io (Ok a) fixed never is = cc
+takes_where types call io (Err refused.Memory) fixed never is =
+    takes (function_of call.function) (some_vary types) (length call.ssas) (λ none other few. fixed none other few refl) (λ other more few. never other more few refl)
+takes_where types call io (Err refused.Full) fixed never is = cc
+takes_where types call io (Err refused.Device) fixed never is = cc
+takes_where types call io (Err refused.Broken) fixed never is = cc
+takes_where types call io (Err refused.Area) fixed never is = cc
 
 module _ (s t : SessionState) (turn : Turn) (io : Buffer) where
   -- a call that came to an outcome leaves the session whole
@@ -111,7 +127,7 @@ module _ (s t : SessionState) (turn : Turn) (io : Buffer) where
         follows = (holds_state s.database s.volume s.kept st stands, logged.follows, holds_state s.database t.volume t.kept after logged.represents);
         lacking =
             All-cons (LacksMemoryFairly s.database.types) (entry_of s turn o) []
-            (λ lacks. takes_where s.database.types turn.call io result (if-err-map result (λ e takes is. takes is sound) made.memory) (is ∙ ap Some lacks)) (All-nil (LacksMemoryFairly s.database.types));
+            (λ lacks. takes_where s.database.types turn.call io result (made.memory sound) made.never (is ∙ ap Some lacks)) (All-nil (LacksMemoryFairly s.database.types));
         represents = logged.represents;
         whole = turn_whole result o made is;
       }

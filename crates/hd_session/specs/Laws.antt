@@ -58,7 +58,7 @@ pub record IsOpened (d : Database) (pcbs : List View) (v : VolumeState) (s : Ses
 pub record IsLegalLogOf (d : Database) (pcbs : List View) (image : List ℕ) (rows : List Segment) (turns : List Turn) (log : Log (List ℕ)) : Type 0 where
   pub legal : IsLegalLog (images_of d) d.types pcbs image (opened pcbs rows) log
   pub asked : turns_in log.entries ≡ turns
-  pub lacking : All LacksMemoryFairly log.entries
+  pub lacking : All (LacksMemoryFairly d.types) log.entries
 
 -- calls that were made from a session's opening on come to a legal log, from the rows over which it was opened
 abbrev pub CallsFromOpeningAreLegal : Database → Type 0

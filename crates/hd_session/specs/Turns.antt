@@ -1,12 +1,11 @@
 -- Calls that are made in a session one after another, and the entries of a log that they come to.
-use Rattle.std.specs.Prelude.{◌≡◌, ◌⊎◌, ℕ, ◌<◌, ◌≤◌, List, length, map, true, false, All, Some, Result, IsTrue, IfErr}
+use Rattle.std.specs.Prelude.{◌≡◌, ◌≢◌, ◌⊎◌, ℕ, ◌<◌, ◌≤◌, List, length, map, true, false, All, Some, Result, IsTrue, IfErr}
 use Rattle.hd_dbd.specs.declared.answer.Refused.{Refused}
 use Rattle.hd_dbd.specs.declared.answer.Refused.TheVariants as refused
 use Rattle.hd_dbd.specs.Calls.{CallText}
 use Rattle.hd_dbd.specs.Logs.{Outcome, memory, Entry}
 use Rattle.hd_dbd.specs.Types.{SegmentType}
 use Rattle.hd_dbd.specs.Lengths.{some_vary}
-use Rattle.hd_calls.specs.declared.call.Function.{Function}
 use Rattle.hd_calls.specs.declared.call.Function.TheVariants.{Insert, Replace}
 use Rattle.hd_calls.specs.Functions.{function_of}
 use Rattle.hd_calls.specs.Steps.{State}
@@ -28,13 +27,11 @@ pub record Turn : Type 0 where
 abbrev pub turns_in : {Image : Type 0} → List (Entry Image) → List Turn
 turns_in entries = map (λ e. record { pcb = e.pcb; call = e.call }) entries
 
--- calls of a function may take memory: ISRT, and REPL where the segments of some type vary, for it may make rows longer
-abbrev pub MayTakeMemory : List SegmentType → Function → Type 0
-MayTakeMemory types f = (f ≡ Insert) ⊎ ((f ≡ Replace) × (some_vary types ≡ true))
-
--- a call that takes memory: one of such a function, or one with more than four segment search arguments
+-- a call that takes memory: an ISRT; where the segments of some type vary a REPL, which may make rows longer; or one with more than four
+-- segment search arguments
 abbrev pub TakesMemory : List SegmentType → CallText → Type 0
-TakesMemory types call = ((f : Function) × (function_of call.function ≡ Some f) × MayTakeMemory types f) ⊎ (4 < length call.ssas)
+TakesMemory types call =
+    (function_of call.function ≡ Some Insert) ⊎ ((function_of call.function ≡ Some Replace) × (some_vary types ≡ true)) ⊎ (4 < length call.ssas)
 
 -- an entry says that memory was wanting only where its call takes some
 abbrev pub LacksMemoryFairly : {Image : Type 0} → List SegmentType → Entry Image → Type 0
@@ -54,7 +51,8 @@ pub record StaysWhole (s t : SessionState) : Type 0 where
 pub record IsTurnAnswered (s : SessionState) (turn : Turn) (result : Result Answer Refused) (io : Buffer) (t : SessionState) : Type 0 where
   pub pcb : (0 < turn.pcb) × (turn.pcb ≤ length s.pcbs)
   pub logged : IsCallLogged s turn.pcb turn.call result io t
-  pub memory : IfErr result (λ e. e ≡ refused.Memory → IsTrue s.volume.is_sound → TakesMemory s.database.types turn.call)
+  pub memory : IsTrue s.volume.is_sound → some_vary s.database.types ≡ false → function_of turn.call.function ≢ Some Insert → length turn.call.ssas ≤ 4 → IfErr result (λ e. e ≢ refused.Memory)
+  pub never : function_of turn.call.function ≢ Some Insert → function_of turn.call.function ≢ Some Replace → length turn.call.ssas ≤ 4 → IfErr result (λ e. e ≢ refused.Memory)
   pub same : t ≡ record s { volume = t.volume; kept = t.kept; broken = is_broken_by result }
   pub call : IsCall s.volume result t.volume
 

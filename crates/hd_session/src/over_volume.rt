@@ -1,6 +1,7 @@
-ghost use Rattle.std.specs.Prelude.{◌≡◌, ◌≢◌, ◌<◌, ◌≤◌, IsTrue, IfOk, IfErr, OnOk, Some, length, true};
+ghost use Rattle.std.specs.Prelude.{◌≡◌, ◌≢◌, ◌<◌, ◌≤◌, IsTrue, IfOk, IfErr, OnOk, Some, length, true, false};
 ghost use Rattle.hd_dbd.specs.Facts.{stored_sizes};
 ghost use Rattle.hd_dbd.specs.Hierarchy.{longest_path};
+ghost use Rattle.hd_dbd.specs.Lengths.{some_vary};
 ghost use Rattle.hd_dbd.specs.ProgramRules.{type_names};
 ghost use Rattle.hd_volume.specs.Calls.{IsCall};
 ghost use Rattle.hd_volume.specs.Stores.{CountsDevice, StaysSound};
@@ -9,7 +10,6 @@ ghost use Rattle.hd_session.specs.Opening.{session_at_start, IsOpenedOver, IsOpe
 ghost use Rattle.hd_session.specs.Giving.{IsEmpty};
 ghost use Rattle.hd_session.specs.Sessions.{IsUndoneUnlessDevice};
 ghost use Rattle.hd_session.specs.Logged.{IsCallLogged};
-ghost use Rattle.hd_session.specs.Turns.{TakesMemory};
 
 use crate::above::KeysAbove;
 use crate::buffer::IoArea;
@@ -105,7 +105,7 @@ impl<'a, S: BlockStore> Session<'a, S> {
         ensures broken { self.old.broken ≡ was_broken result }
         ensures untouched { self.old.broken ≡ true → self.new ≡ self.old }
         ensures call { IsCall self.old.volume result self.new.volume }
-        ensures memory { IfErr result (λ e. e ≡ Refused.Memory → IsTrue self.old.volume.is_sound → TakesMemory self.old.database.types call.now) }
+        ensures memory { IsTrue self.old.volume.is_sound → some_vary self.old.database.types ≡ false → function_of call.now.function ≢ Some Function.Insert → length call.now.ssas ≤ 4 → IfErr result (λ e. e ≢ Refused.Memory) }
         ensures never { function_of call.now.function ≢ Some Function.Insert → function_of call.now.function ≢ Some Function.Replace → length call.now.ssas ≤ 4 → IfErr result (λ e. e ≢ Refused.Memory) }
         ensures empty { IfErr result (λ _. IsEmpty io.new) }
         ensures same_room { io.new.room ≡ io.old.room }

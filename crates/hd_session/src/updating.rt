@@ -1,4 +1,4 @@
-ghost use Rattle.std.specs.Prelude.{◌≡◌, ◌≢◌, ◌<◌, ◌≤◌, length, take, true, IsTrue, IfOk, IfErr};
+ghost use Rattle.std.specs.Prelude.{◌≡◌, ◌≢◌, ◌<◌, ◌≤◌, length, take, false, IsTrue, IfOk, IfErr};
 ghost use Rattle.hd_dbd.specs.Facts.{stored_sizes};
 ghost use Rattle.hd_dbd.specs.Hierarchy.{longest_path};
 ghost use Rattle.hd_dbd.specs.Lengths.{some_vary};
@@ -107,7 +107,7 @@ pub fn answer_repl<S: BlockStore>(
     ensures undone { IfErr result (λ _. IsUndone volume.old positions.old volume.new positions.new) }
     ensures area { IfErr result (λ e. IsReplaceAreaWrong dbd.now volume.old positions.old number ssas.now area.now e) }
     ensures full { IfErr result (λ e. IsReplaceFull dbd.now volume.old positions.old number ssas.now area.now e) }
-    ensures vary { IfErr result (λ e. e ≡ Refused.Memory → IsTrue volume.old.is_sound → some_vary dbd.now.types ≡ true) }
+    ensures memory { IsTrue volume.old.is_sound → some_vary dbd.now.types ≡ false → IfErr result (λ e. e ≢ Refused.Memory) }
     ensures empty { IfErr result (λ _. IsEmpty io.new) }
     ensures same_room { io.new.room ≡ io.old.room }
     ensures many { length positions.new ≡ length positions.old }
@@ -140,7 +140,7 @@ fn replace_held<S: BlockStore>(
     ensures undone { IfErr result (λ _. IsUndone volume.old positions.old volume.new positions.new) }
     ensures area { IfErr result (λ e. IsReplaceAreaWrong dbd.now volume.old positions.old number ssas.now area.now e) }
     ensures full { IfErr result (λ e. IsReplaceFull dbd.now volume.old positions.old number ssas.now area.now e) }
-    ensures vary { IfErr result (λ e. e ≡ Refused.Memory → IsTrue volume.old.is_sound → some_vary dbd.now.types ≡ true) }
+    ensures memory { IsTrue volume.old.is_sound → some_vary dbd.now.types ≡ false → IfErr result (λ e. e ≢ Refused.Memory) }
     ensures empty { IfErr result (λ _. IsEmpty io.new) }
     ensures same_room { io.new.room ≡ io.old.room }
     ensures many { length positions.new ≡ length positions.old }

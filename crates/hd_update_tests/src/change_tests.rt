@@ -62,6 +62,7 @@ fn hold<S: BlockStore>(
     requires unsound { volume.old.is_sound ≡ false }
     requires sizes { volume.old.sizes ≡ stored_sizes dbd.now.types }
     ensures unsound { volume.new.is_sound ≡ false }
+    ensures size { volume.new.size ≡ volume.old.size }
     ensures sizes { volume.new.sizes ≡ volume.old.sizes }
 {
     let mut held = Levels::new();
@@ -89,8 +90,10 @@ fn replace<S: BlockStore>(
 ) -> Result<Outcome, Refused>
     requires some { 0 < length positions.old }
     requires unsound { volume.old.is_sound ≡ false }
+    requires size { volume.old.size ≡ dbd.now.block_size }
     requires sizes { volume.old.sizes ≡ stored_sizes dbd.now.types }
     ensures unsound { volume.new.is_sound ≡ false }
+    ensures size { volume.new.size ≡ volume.old.size }
     ensures sizes { volume.new.sizes ≡ volume.old.sizes }
 {
     let (Ok(pcb), Ok(text)) = (writer(alloc), Vec::from_slice(alloc, ssa)) else {
@@ -146,6 +149,7 @@ fn has_bytes<S: BlockStore>(
 ) -> Result<bool, Refused>
     requires unsound { volume.old.is_sound ≡ false }
     ensures unsound { volume.new.is_sound ≡ false }
+    ensures size { volume.new.size ≡ volume.old.size }
     ensures sizes { volume.new.sizes ≡ volume.old.sizes }
 {
     let segment = volume.segment_at(address)?;
@@ -180,6 +184,7 @@ fn watch_replaced<S: BlockStore>(
     dbd: &Dbd,
 ) -> Result<Replaced, Refused>
     requires unsound { volume.old.is_sound ≡ false }
+    requires size { volume.old.size ≡ dbd.now.block_size }
     requires sizes { volume.old.sizes ≡ stored_sizes dbd.now.types }
     ensures unsound { volume.new.is_sound ≡ false }
     ensures sizes { volume.new.sizes ≡ volume.old.sizes }
@@ -309,6 +314,7 @@ fn watch<S: BlockStore>(
     dbd: &Dbd,
 ) -> Result<(Replaced, Deleted), Refused>
     requires unsound { volume.old.is_sound ≡ false }
+    requires size { volume.old.size ≡ dbd.now.block_size }
     requires sizes { volume.old.sizes ≡ stored_sizes dbd.now.types }
 {
     let replaced = watch_replaced(alloc, volume, dbd)?;

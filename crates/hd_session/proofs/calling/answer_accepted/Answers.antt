@@ -5,6 +5,7 @@ use Rattle.hd_volume.proofs.JoinLemmas.{if-err-map}
 use Rattle.hd_calls.specs.declared.call.Function.TheVariants.{Get, Insert, Replace, Delete}
 use Rattle.hd_calls.specs.Steps.{AcceptedCall, Effect}
 use Rattle.hd_seek.proofs.Admitting.{resolved_descend}
+use Rattle.hd_update.specs.States.{LacksRoomFor}
 use Rattle.hd_session.specs.Sessions.{own_in}
 use Rattle.hd_session.proofs.KeysKnown.{nothing_known, if_ok_any}
 use Rattle.hd_session.proofs.OwnSteps.{step_as}

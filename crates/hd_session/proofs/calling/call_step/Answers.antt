@@ -11,6 +11,7 @@ use Rattle.hd_position.specs.Kept.{Kept, kept_start}
 use Rattle.hd_update.proofs.Answering.{represented}
 use Rattle.hd_update.proofs.Levels.{as_many}
 use Rattle.hd_update.proofs.Standing.{own_position, own_stands}
+use Rattle.hd_update.specs.States.{LacksRoomFor}
 use Rattle.hd_session.specs.Sessions.{own_in, call_in}
 use Rattle.hd_session.proofs.KeysKnown.{keys_kept}
 use Rattle.hd_session.proofs.OwnSteps.{step_as}

@@ -1,5 +1,6 @@
-use Rattle.std.proofs.Common.{◌≡◌, ℕ, ◌-◌, ◌<◌, List, length, ap, subst, ◌∙◌, refl, arith}
+use Rattle.std.proofs.Common.{◌≡◌, ℕ, ◌-◌, ◌<◌, List, length, sym, ap, subst, ◌∙◌, refl, arith}
 use Rattle.std.specs.Prelude.{slice_index_or}
+use Rattle.std.proofs.lemmas.Bool.{false≢true}
 use Rattle.std.proofs.lemmas.List.{get_or_default}
 use Rattle.hd_calls.specs.Steps.{position_at}
 use Rattle.hd_forest.proofs.Reading.{after-read, sound-before}
@@ -50,6 +51,10 @@ returns-in-Err-clause-full g c pcb st is sound R =
     let same = after-read d v mid c.in_ok-given.ensures.read sound in
     let effect = replace_effect d pcb c.args.number c.args.ssas.now c.args.area.now st in
     lacks_before d v mid st.rows effect effect same.image refl (c.in-Err.ensures.full pcb st is same.sound (represented d v mid c.args.positions.now st c.in_ok-given.ensures.read sound R))
+
+pub returns-in-Err-clause-memory : goal.returns-in-Err-clause-memory
+returns-in-Err-clause-memory g c sound none is =
+    false≢true (sym none ∙ c.in-Err.ensures.vary is (after-read c.args.dbd.now c.args.volume.now c.give_level.new.volume c.in_ok-given.ensures.read sound).sound)
 
 pub returns-in-Err-clause-area : goal.returns-in-Err-clause-area
 returns-in-Err-clause-area g c pcb st is sound R =
