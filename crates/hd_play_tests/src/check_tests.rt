@@ -176,7 +176,7 @@ fn plays_a_deck_once_memory_is_found(rt: HostRuntime) -> Result<(), Fail> {
     let files = ["grown.dbd", "grown.psb", "grown.volume", "grown.deck"];
     fs::write(&rt, "grown.dbd", DBD_SOURCE)?;
     fs::write(&rt, "grown.psb", PSB_SOURCE)?;
-    fs::write(&rt, "grown.volume", &sample_with(&[(9, &[2])]))?;
+    fs::write(&rt, "grown.volume", &sample_with(&[(9, &[3])]))?;
     fs::write(&rt, "grown.deck", b"L     GN\n")?;
     let words = words_of(
         rt.alloc(),

@@ -95,7 +95,7 @@ fn goes_on_after_a_wrong_area(rt: HostRuntime) {
 fn plays_a_deck_over_a_volume(rt: HostRuntime) -> Result<(), Fail> {
     fs::write(&rt, "played.dbd", DBD_SOURCE)?;
     fs::write(&rt, "played.psb", PSB_SOURCE)?;
-    fs::write(&rt, "played.volume", &sample_with(&[(9, b"\x02")]))?;
+    fs::write(&rt, "played.volume", &sample_with(&[(9, b"\x03")]))?;
     fs::write(
         &rt,
         "played.deck",
@@ -169,7 +169,7 @@ fn goes_on_after_a_full_volume(rt: HostRuntime) -> Result<(), Fail> {
 fn unloads_what_a_deck_leaves(rt: HostRuntime) -> Result<(), Fail> {
     fs::write(&rt, "left.dbd", DBD_SOURCE)?;
     fs::write(&rt, "left.psb", PSB_SOURCE)?;
-    fs::write(&rt, "left.volume", &sample_with(&[(9, b"\x02")]))?;
+    fs::write(&rt, "left.volume", &sample_with(&[(9, b"\x03")]))?;
     fs::write(
         &rt,
         "left.deck",
@@ -207,7 +207,7 @@ fn unloads_what_a_deck_leaves(rt: HostRuntime) -> Result<(), Fail> {
 fn leaves_a_volume_that_is_in_use_alone(rt: HostRuntime) -> Result<(), Fail> {
     fs::write(&rt, "used.dbd", DBD_SOURCE)?;
     fs::write(&rt, "used.psb", PSB_SOURCE)?;
-    fs::write(&rt, "used.volume", &sample_with(&[(9, b"\x02")]))?;
+    fs::write(&rt, "used.volume", &sample_with(&[(9, b"\x03")]))?;
     fs::write(&rt, "used.deck", b"L     GN\n".as_slice())?;
     fs::write(&rt, "used.in", &stream_of(rt.alloc(), RECORDS)?)?;
     let check = ["check", "used.dbd", "used.volume"];
@@ -230,7 +230,7 @@ fn leaves_a_volume_that_is_in_use_alone(rt: HostRuntime) -> Result<(), Fail> {
     }
     assert_eq!(rt;
         fs::read(&rt, "used.volume")?.as_slice(),
-        sample_with(&[(9, b"\x02")]).as_slice()
+        sample_with(&[(9, b"\x03")]).as_slice()
     );
     file.unlock()?;
     for words in [&deck as &[&str], &reload] {
@@ -408,7 +408,7 @@ fn tells_why_a_deck_is_not_played(rt: HostRuntime) -> Result<(), Fail> {
     fs::write(
         &rt,
         "told.volume",
-        &sample_with(&[(9, b"\x02"), (177, b"\x01")]),
+        &sample_with(&[(9, b"\x03"), (177, b"\x01")]),
     )?;
     fs::write(&rt, "told.deck", b"L     GN\n".as_slice())?;
     fs::write(

@@ -77,7 +77,7 @@ fn joined(alloc: Global, parts: &[&[u8]]) -> Result<Vec<u8>, AllocError> {
 
 #[test]
 fn answers_the_calls_of_a_program(rt: HostRuntime) -> Result<(), Fail> {
-    write_files(&rt, 2)?;
+    write_files(&rt, 3)?;
     let end = served(&rt, &[NEXT, HOLD, DELETE])?;
     assert_eq!(rt; end.err.as_slice(), b"".as_slice());
     assert_eq!(rt; end.status, 0);
@@ -96,7 +96,7 @@ fn answers_the_calls_of_a_program(rt: HostRuntime) -> Result<(), Fail> {
 
 #[test]
 fn ends_at_a_frame_that_is_no_call(rt: HostRuntime) -> Result<(), Fail> {
-    write_files(&rt, 2)?;
+    write_files(&rt, 3)?;
     let end = served(&rt, &[HOLD, DELETE, STRANGER, NEXT])?;
     assert_eq!(rt; end.err.as_slice(), b"frame refused: no PCB 4\n".as_slice());
     assert_eq!(rt; end.status, 3);

@@ -60,7 +60,7 @@ pub fn program(alloc: Global, dbd: &Dbd) -> Option<Psb>
 /// The sample's bytes, as a volume of the newest version.
 pub fn newest_image() -> [u8; 512] {
     let mut bytes = image();
-    bytes[9] = 2;
+    bytes[9] = 3;
     bytes
 }
 

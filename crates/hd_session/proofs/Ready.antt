@@ -21,7 +21,7 @@ use Rattle.hd_check.specs.Checks.{IsPassed}
 use Rattle.hd_calls.specs.NoLostUpdate.{opened}
 use Rattle.hd_position.specs.Kept.{Kept, kept_start}
 use Rattle.hd_update.specs.States.{Represents, StandForAll}
-use Rattle.hd_session.specs.declared.opening.TheConstants.{NEWEST_VERSION}
+use Rattle.hd_volume.specs.declared.header.TheConstants.{NEWEST_VERSION}
 use Rattle.hd_session.specs.Opening.{has_loader, all_at_start, IsReadyFor, StandsForState}
 use Rattle.hd_session.proofs.AtStart.{all_stand, loaders_past_all}
 

@@ -18,6 +18,7 @@ use Rattle.hd_calls.specs.NoLostUpdate.{opened}
 use Rattle.hd_volume.specs.Headers.{header_of}
 use Rattle.hd_volume.specs.Volumes.{VolumeState}
 use Rattle.hd_volume.specs.Calls.{IsRead}
+use Rattle.hd_volume.specs.declared.header.TheConstants.{NEWEST_VERSION}
 use Rattle.hd_links.specs.Placed.{Placed, forest_of}
 use Rattle.hd_links.specs.Steps.{rows_of}
 use Rattle.hd_image.specs.Holding.{HoldsPlaced, HoldsForest, HoldsRows}
@@ -25,7 +26,6 @@ use Rattle.hd_check.specs.declared.checking.CheckFault.TheVariants as check
 use Rattle.hd_check.specs.Checks.{IsFaultOf}
 use Rattle.hd_position.specs.Kept.{Kept, kept_start}
 use Rattle.hd_update.specs.States.{Represents}
-use Rattle.hd_session.specs.declared.opening.TheConstants.{NEWEST_VERSION}
 use Rattle.hd_session.specs.declared.opening.OpenFault.{OpenFault}
 use Rattle.hd_session.specs.declared.opening.OpenFault.TheVariants as opening
 

@@ -7,7 +7,7 @@ use hd_check::{CheckFault, Fault, check};
 use hd_dbd::{Dbd, Pcb};
 use hd_position::Position;
 use hd_ssa::loads;
-use hd_volume::{BlockStore, Volume};
+use hd_volume::{BlockStore, NEWEST_VERSION, Volume};
 use std::alloc::{AllocError, Global};
 
 /// Why a session is not opened.
@@ -24,9 +24,6 @@ pub enum OpenFault {
     /// An access of the store failed.
     Device,
 }
-
-/// The version of new volumes, which a session wants.
-pub const NEWEST_VERSION: u16 = 2;
 
 /// Whether one of the PCBs loads.
 fn has_loader(pcbs: &[Pcb]) -> bool

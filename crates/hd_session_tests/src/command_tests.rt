@@ -25,7 +25,7 @@ pub(crate) fn sample_store(alloc: Global, place: usize, byte: u8) -> Result<MemS
 {
     let mut bytes = Vec::new(alloc);
     let mut newest = image();
-    newest[9] = 2;
+    newest[9] = 3;
     bytes.extend_from_slice(&newest)?;
     if let Some(old) = bytes.get_mut(place) {
         *old = byte;

@@ -69,7 +69,7 @@ pub fn sample(alloc: Global) -> Option<MemStore>
     ensures { IfSome result (λ store. store.size ≡ 128) }
 {
     let mut newest = image();
-    newest[9] = 2;
+    newest[9] = 3;
     let mut bytes = Vec::new(alloc);
     bytes.extend_from_slice(&newest).ok()?;
     Some(MemStore::new(128, bytes))
@@ -79,7 +79,7 @@ pub fn sample(alloc: Global) -> Option<MemStore>
 const SPREAD: [(usize, &[u8]); 23] = [
     (
         0,
-        b"HDVOLUME\0\x02\0\x80\0\0\0\x09\0\0\0\x10EDU     \0\0\0\x88\0\0\x03\x88\0\0\0\x08\0\0\0\x01",
+        b"HDVOLUME\0\x03\0\x80\0\0\0\x09\0\0\0\x10EDU     \0\0\0\x88\0\0\x03\x88\0\0\0\x08\0\0\0\x01",
     ),
     (128, b"\0\x30\x01"),
     (

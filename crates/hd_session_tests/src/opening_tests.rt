@@ -29,7 +29,7 @@ fn program(alloc: Global, dbd: &Dbd, procopt: &str) -> Option<Psb>
 /// The sample's bytes, as a volume of the newest version.
 fn newest_image() -> [u8; 512] {
     let mut bytes = image();
-    bytes[9] = 2;
+    bytes[9] = 3;
     bytes
 }
 
@@ -84,6 +84,8 @@ fn tells_why_it_is_not_opened(rt: HostRuntime) -> Result<(), Fail> {
     let dbd = database(rt.alloc()).expect(&rt, "a database");
     let old = opened(rt.alloc(), &dbd, "L", &[(9, 1)]).expect(&rt, "memory");
     assert_eq!(rt; old.err(), Some(OpenFault::Old(1)));
+    let second = opened(rt.alloc(), &dbd, "A", &[(9, 2)]).expect(&rt, "memory");
+    assert_eq!(rt; second.err(), Some(OpenFault::Old(2)));
     let loading = opened(rt.alloc(), &dbd, "L", &[]).expect(&rt, "memory");
     assert_eq!(rt; loading.err(), Some(OpenFault::NotEmptyForLoad));
     let damaged = opened(rt.alloc(), &dbd, "A", &[(177, 1)]).expect(&rt, "memory");

@@ -128,7 +128,7 @@ impl BlockStore for Unyielding {
 
     fn read(&mut self, n: u32, buf: &mut [u8]) -> Result<(), Refused> {
         let mut sample = image();
-        sample[9] = 2;
+        sample[9] = 3;
         let start = n as usize * 128;
         for (place, byte) in buf.iter_mut().enumerate() {
             *byte = sample

@@ -74,7 +74,7 @@ pub(crate) fn steps_of(alloc: Global, deck: &[u8], psb: &Psb) -> Option<Vec<Step
 /// The sample's bytes, as a volume of the newest version.
 fn newest_image() -> [u8; 512] {
     let mut bytes = image();
-    bytes[9] = 2;
+    bytes[9] = 3;
     bytes
 }
 

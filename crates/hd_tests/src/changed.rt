@@ -62,9 +62,9 @@ fn end_a_line(rows: &[Row]) -> bool {
     rows.iter().any(|row| row.bytes.contains(&b'\n') || row.bytes.contains(&b'\r'))
 }
 
-/// Whether the header says version 2, so that a session may be opened.
+/// Whether the header says version 3, the newest, so that a session may be opened.
 fn is_newest(image: &[u8]) -> bool {
-    image.get(8..10) == Some(&[0, 2])
+    image.get(8..10) == Some(&[0, 3])
 }
 
 /// What a check says of an image: the stream of what it holds where it passes, or none where it has a fault, which a session names too.

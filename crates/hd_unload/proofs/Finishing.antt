@@ -47,7 +47,7 @@ legal-version : (d : Database) (rows : List Segment) (loadings : List (Loading V
 legal-version d rows [] last legal = refl
 legal-version d rows (l ∷ ls) last legal = legal-version d (rows ++ l.row ∷ []) ls last legal.4 ∙ legal.3.version
 
-load-version : (d : Database) (largest : ℕ) (rows : List Segment) (v : VolumeState) → IsLoad d largest rows v → (header_of v.image).version ≡ 2
+load-version : (d : Database) (largest : ℕ) (rows : List Segment) (v : VolumeState) → IsLoad d largest rows v → (header_of v.image).version ≡ 3
 load-version d largest rows v load = legal-version d [] load.loadings v load.legal ∙ ap (λ (h : Header). h.version) load.new.header
 
 -- ---- the store

@@ -53,13 +53,13 @@ pub record IsFullAt (d : Database) (stream : List ℕ) (largest n : ℕ) : Type 
   pub load : IsLoad d largest rows last
   pub room : LacksRoom d last row
 
--- The bytes are a volume of version 2 that holds the rows of the stream, with this largest count, so many segments and so many
+-- The bytes are a volume of version 3 that holds the rows of the stream, with this largest count, so many segments and so many
 -- blocks.
 pub record IsReloaded (d : Database) (stream : List ℕ) (largest segments blocks : ℕ) (image : List ℕ) : Type 0 where
   pub rows : List Segment
   pub stream_of : IsStreamOf d stream rows
   pub holds : HoldsRows d (volume_of d image) rows
-  pub version : (header_of image).version ≡ 2
+  pub version : (header_of image).version ≡ 3
   pub largest_is : (header_of image).largest ≡ largest
   pub segments_are : segments ≡ length rows
   pub blocks_are : blocks ≡ (header_of image).count

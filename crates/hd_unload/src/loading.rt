@@ -91,7 +91,7 @@ fn load_records<S: BlockStore>(
     Err(ReloadFault::Record(RecordFault::U2, records.len() as u64 + 1))
 }
 
-/// Makes a volume of an unload stream in an empty store: version 2, of this largest count, 1 to 65,536 blocks, and flushed.
+/// Makes a volume of an unload stream in an empty store: of the newest version, of this largest count, 1 to 65,536 blocks, and flushed.
 ///
 /// The first record with a fault refuses the stream; `Full` comes at a record with which nothing is wrong where the volume has no
 /// room for it. A refusal gives the store back; unless an access failed, it has then no volume.

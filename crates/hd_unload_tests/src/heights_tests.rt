@@ -88,7 +88,7 @@ fn each_changed_byte_of_three_levels(rt: HostRuntime) -> Result<(), Fail> {
     let stream = root_stream(alloc, &dbd, KEY_LENGTH, ROOTS, 0x0101)?;
     let mut image = reloaded(alloc, &dbd, &stream).expect(&rt, "a volume");
     assert_eq!(rt; image.len(), usize::from(BLOCKS) * 128);
-    assert_eq!(rt; byte_at(&image, 9), 2);
+    assert_eq!(rt; byte_at(&image, 9), 3);
     assert_eq!(rt; byte_at(&image, 43), 3);
     assert_eq!(rt; verdict(alloc, &dbd, &image)?, Some(true));
     let changes = change_each(alloc, &dbd, &mut image)?;

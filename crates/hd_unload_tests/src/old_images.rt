@@ -1,4 +1,4 @@
-//! Volumes of version 1, made of those of version 2.
+//! Volumes of version 1, made of new ones.
 
 use hd_sample::{byte_at, set_byte};
 
@@ -39,7 +39,7 @@ fn ends(image: &[u8], blocks: u8) -> (u8, u8) {
     (first, last)
 }
 
-/// Makes a volume of version 2, of so many blocks of 128 bytes, whose keys came in ascending order, one of version 1. Its chain is the sequence
+/// Makes a new volume, of so many blocks of 128 bytes, whose keys came in ascending order, one of version 1. Its chain is the sequence
 /// set, and behind that a block without entries, which was the top; the other blocks above the sequence set are free.
 pub fn make_old(image: &mut [u8], blocks: u8) {
     let top = byte_at(image, 39);
