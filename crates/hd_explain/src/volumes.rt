@@ -17,8 +17,10 @@ pub const VOLUME_FAULTS: &[Explanation] = &[
         kind: Kind::VolumeFault,
         summary: "the version of the volume's layout is unknown",
         text: "The header gives the layout a version that this program does not know; other is that version. A\n\
-               newer program wrote the volume, or its first block is damaged. Use the program that made it, or else\n\
-               the last copy that passes. The program's exit status 2 is told by hd explain exit2.",
+               newer program wrote the volume, or its first block is damaged: use the program that made it, or else\n\
+               the last copy that passes. Or it is of version 1 or 2, and the DBD has segments that vary in length,\n\
+               which no volume of these versions has: name the DBD with which it was made. The program's exit\n\
+               status 2 is told by hd explain exit2.",
     },
     Entry {
         word: "3",
