@@ -112,7 +112,7 @@ pub const SOURCE_FAULTS: &[Explanation] = &[
         text: "BYTES is 0, in the segment or in one of its fields; or of BYTES=(max,min) min is below 2 or above\n\
                max; or a field does not lie inside its segment, or inside the shortest where they vary. START\n\
                counts from 1, and START and BYTES of a field together are at most one more than BYTES of its\n\
-               segment, or than min. A type with BYTES=(max,min) is not taken yet. Correct BYTES or START.",
+               segment, or than min. Correct BYTES or START.",
     },
     Entry {
         word: "B6",

@@ -1,20 +1,21 @@
 -- The frame that a server writes first: the types of its database, and the PCBs of its program.
-use Rattle.std.specs.Prelude.{ℕ, ◌+◌, List, [], ◌∷◌, ◌++◌, length, take, map, flat_map, codes, replicate, Bool, ◌&&◌, nat_lt, slice_index, bytes_eq, position}
+use Rattle.std.specs.Prelude.{ℕ, ◌+◌, List, [], ◌∷◌, ◌++◌, length, take, map, flat_map, codes, replicate, Bool, ◌&&◌, nat_lt, cond, is_some, slice_index, bytes_eq, position}
 use Rattle.std.specs.Option.{option_map_or}
 use Rattle.std.specs.List.{list_all}
 use Rattle.std.specs.Int.{w16, to_be_bytes}
 use Rattle.hd_dbd.specs.declared.hierarchy.Field.{Field}
 use Rattle.hd_dbd.specs.Types.{SegmentType, View}
 use Rattle.hd_dbd.specs.Hierarchy.{Database, weights, level_of, greatest}
+use Rattle.hd_dbd.specs.Lengths.{least_length}
 
 -- a field: its name and its length
 abbrev pub field_bytes : Field → List ℕ
 field_bytes f = f.name ++ to_be_bytes w16 f.length
 
--- the type of a code: its name and level; 0, since its segments are of one length; the most and the least bytes of them; and its fields
+-- the type of a code: its name and level; 1 where its segments vary in length, else 0; the most and the least bytes of them; and its fields
 abbrev pub type_bytes : List SegmentType → ℕ → SegmentType → List ℕ
 type_bytes types code t =
-    t.name ++ level_of types code ∷ 0 ∷ (to_be_bytes w16 t.length ++ (to_be_bytes w16 t.length ++ length t.fields ∷ flat_map field_bytes t.fields))
+    t.name ++ level_of types code ∷ cond (is_some t.least) 1 0 ∷ (to_be_bytes w16 t.length ++ (to_be_bytes w16 (least_length t) ++ length t.fields ∷ flat_map field_bytes t.fields))
 
 -- types of a database, the first of which has the code
 abbrev pub types_bytes : List SegmentType → ℕ → List SegmentType → List ℕ
@@ -51,7 +52,7 @@ abbrev pub field_fits : Field → Bool
 field_fits f = nat_lt f.length 65536
 
 abbrev pub type_fits : SegmentType → Bool
-type_fits t = nat_lt t.length 65536 && nat_lt (length t.fields) 256 && list_all field_fits t.fields
+type_fits t = nat_lt t.length 65536 && nat_lt (least_length t) 65536 && nat_lt (length t.fields) 256 && list_all field_fits t.fields
 
 abbrev pub pcb_fits : Database → View → Bool
 pcb_fits d pcb = nat_lt (length pcb.sens) 65536 && nat_lt (longest_key d.types pcb) 65536

@@ -8,7 +8,7 @@ ghost use Rattle.hd_frames.specs.Hello.{field_bytes, type_bytes, types_bytes, ke
 
 use crate::call::Limits;
 use crate::fault::HelloFault;
-use hd_dbd::{Dbd, Field, Name8, Pcb, Psb, SegType, Sens};
+use hd_dbd::{Dbd, Field, Name8, Pcb, Psb, SegType, Sens, least_length};
 use std::alloc::{AllocError, Global};
 
 /// What a right frame keeps to where calls are made by the PCBs of a program over a database.
@@ -76,9 +76,9 @@ fn push_type(bytes: &mut Vec<u8>, dbd: &Dbd, code: u8, segment: &SegType) -> Res
     ensures large { IfErr result (λ e. e ≡ HelloFault.Large → type_fits segment.now ≡ false) }
 {
     bytes.extend_from_slice(segment.name.bytes())?;
-    bytes.extend_from_slice(&[dbd.level(code), 0])?;
+    bytes.extend_from_slice(&[dbd.level(code), u8::from(segment.least.is_some())])?;
     push_u16(bytes, segment.length as usize)?;
-    push_u16(bytes, segment.length as usize)?;
+    push_u16(bytes, least_length(segment) as usize)?;
     push_u8(bytes, segment.fields.len())?;
     push_fields(bytes, &segment.fields)
 }

@@ -58,10 +58,16 @@ pub no_dbdgen : dbd_of (source_with dataset root field []) ≡ Err (G2 12)
 no_dbdgen = refl
 
 -- segments that vary in length: the most bytes stand first, and the key of three bytes lies inside the least
+abbrev first_varies : List SegmentType → List SegmentType
+first_varies [] = []
+first_varies (t ∷ ts) = record { name = t.name; parent = t.parent; length = t.length; least = Some 4; key = t.key; rule = t.rule; backward = t.backward; last_pointer = t.last_pointer; fields = t.fields } ∷ ts
+
 abbrev varying_root : List ℕ → List ℕ
 varying_root bytes = codes "         SEGM  NAME=COURSE,PARENT=0,BYTES=" ++ bytes ++ codes ",PTR=TB\n"
 
-pub variable_length : dbd_of (source_with dataset (varying_root (codes "(8,4)")) field end) ≡ Err (Dbd (B5 1))
+pub variable_length :
+    dbd_of (source_with dataset (varying_root (codes "(8,4)")) field end)
+    ≡ Ok (record { name = sample_database.name; block_size = 128; frspc = sample_database.frspc; types = first_varies sample_types })
 variable_length = refl
 
 pub most_below_least : dbd_of (source_with dataset (varying_root (codes "(4,8)")) field end) ≡ Err (Dbd (B5 1))

@@ -38,11 +38,6 @@ fn names_the_first_fault_of_a_dbd_source(rt: HostRuntime) {
         ),
         (
             2,
-            b"         SEGM  NAME=COURSE,PARENT=0,BYTES=(8,4),POINTER=TWINBWD",
-            "DBD refused: type 1, B5",
-        ),
-        (
-            2,
             b"         SEGM  NAME=COURSE,PARENT=1,BYTES=8,POINTER=TWINBWD",
             "DBD refused: line 3, G4",
         ),
@@ -65,6 +60,13 @@ fn names_the_first_fault_of_a_dbd_source(rt: HostRuntime) {
         let text = with_line(&rt, DBD_SOURCE, number, line);
         assert_eq!(rt; dbd_refusal(&rt, &text).as_str(), refusal);
     }
+    let varying = with_line(
+        &rt,
+        DBD_SOURCE,
+        2,
+        b"         SEGM  NAME=COURSE,PARENT=0,BYTES=(8,4),POINTER=TWINBWD",
+    );
+    assert!(rt; read_dbd(rt.alloc(), &varying).is_ok());
     let mut without_end = DBD_SOURCE;
     for _ in 0..4 {
         let end = without_end.iter().rposition(|b| *b == b'\n').unwrap_or(0);

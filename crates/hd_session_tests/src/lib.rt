@@ -23,3 +23,5 @@ mod playing_tests;
 mod refusal_tests;
 #[cfg(test)]
 mod run_tests;
+#[cfg(test)]
+mod varying_tests;

@@ -33,7 +33,7 @@ fn seen(alloc: Global) -> Option<Vec<Sens>> {
 }
 
 /// A program of two PCBs that see the books; `None` where there is no memory for it.
-fn program(alloc: Global, dbd: &Dbd) -> Option<Psb>
+pub(crate) fn program(alloc: Global, dbd: &Dbd) -> Option<Psb>
     ensures { IfSome result (λ psb. psb.made_for ≡ type_names dbd.now.types) }
 {
     let mut pcbs = Vec::new(alloc);

@@ -79,7 +79,7 @@ fn fault_of_root<R: AllocGlobal + Abort>(rt: &R, bytes: &[u8], key: &[u8]) -> Op
 }
 
 #[test]
-fn takes_no_type_that_varies(rt: HostRuntime) {
+fn reads_types_that_vary(rt: HostRuntime) {
     let text = b"\
 X DBD NAME=VARY,ACCESS=HIDAM
  DATASET SIZE=128
@@ -89,14 +89,24 @@ X DBD NAME=VARY,ACCESS=HIDAM
  SEGM NAME=C,PARENT=B,BYTES=(6,6)
  DBDGEN
 ";
-    let fault = fault_of(rt.alloc(), text.as_slice());
-    assert_eq!(rt; fault, Some(GenFault::Dbd(DbdFault::B5(1))));
+    let dbd = read_dbd(rt.alloc(), text.as_slice()).expect(&rt, "a database");
+    assert!(rt; dbd.some_vary());
+    assert_eq!(rt; dbd.types().len(), 3);
+    let root = &dbd.types()[0];
+    assert_eq!(rt; (root.length, root.least), (8, Some(4)));
+    let fixed = &dbd.types()[1];
+    assert_eq!(rt; (fixed.length, fixed.least), (8, None));
+    let least = &dbd.types()[2];
+    assert_eq!(rt; (least.length, least.least), (6, Some(6)));
 }
 
 #[test]
 fn judges_the_least_bytes(rt: HostRuntime) {
     for (bytes, fault) in [
-        (b"(8,1)".as_slice(), Some(GenFault::Dbd(DbdFault::B5(1)))),
+        (b"(8,2)".as_slice(), None),
+        (b"(8,8)", None),
+        (b"(2,2)", None),
+        (b"(8,1)", Some(GenFault::Dbd(DbdFault::B5(1)))),
         (b"(8,0)", Some(GenFault::Dbd(DbdFault::B5(1)))),
         (b"(8,9)", Some(GenFault::Dbd(DbdFault::B5(1)))),
         (b"(0,0)", Some(GenFault::Dbd(DbdFault::B5(1)))),
@@ -106,10 +116,23 @@ fn judges_the_least_bytes(rt: HostRuntime) {
 }
 
 #[test]
+fn looks_for_a_key_in_the_least_bytes(rt: HostRuntime) {
+    for (bytes, fault) in [
+        (b"(8,4)".as_slice(), None),
+        (b"(8,8)", None),
+        (b"(8,3)", Some(GenFault::Dbd(DbdFault::B5(1)))),
+    ] {
+        assert_eq!(rt; fault_of_root(&rt, bytes, b"BYTES=2,START=3"), fault);
+    }
+}
+
+#[test]
 fn counts_the_most_bytes_for_a_block(rt: HostRuntime) {
     for (bytes, fault) in [
         (b"110".as_slice(), None),
         (b"111", Some(GenFault::Dbd(DbdFault::B8(1)))),
+        (b"(110,4)", None),
+        (b"(111,4)", Some(GenFault::Dbd(DbdFault::B8(1)))),
     ] {
         assert_eq!(rt; fault_of_root(&rt, bytes, b"BYTES=2,START=3"), fault);
     }

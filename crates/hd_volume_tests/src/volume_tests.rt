@@ -24,14 +24,16 @@ fn header(blocks: u8) -> [u8; 128] {
     bytes
 }
 
-/// A segment has its type's size.
+/// A segment has its type's size, where no type's segments vary in length.
 fn is_whole(dbd: &Dbd, bytes: &[u8]) -> bool
     ensures { result ≡ true → (0 < length bytes.now) × (size_at (stored_sizes dbd.now.types) bytes.now 0 ≡ length bytes.now) }
 {
+    if dbd.some_vary() {
+        return false;
+    }
     if bytes.is_empty() {
         return false;
     }
-    let _ = dbd.types();
     bytes.len() == dbd.stored_size(bytes[0]) as usize
 }
 

@@ -1,0 +1,216 @@
+ghost use Rattle.std.specs.Prelude.{◌≡◌, ◌<◌, ◌≤◌, IfOk};
+
+use crate::run_tests::{program, steps_of};
+use hd_commands::{check_volume, play_deck, reload_store};
+use hd_dbd::{Dbd, DbdFault, FreeSpace, Name8, SegType};
+use hd_sample::{segment_type, stream_of};
+use hd_volume::{MemStore, Volume};
+use std::alloc::{AllocError, Global};
+use std::process::Abort;
+use std::test::Fail;
+
+/// The types of the sample database, but that its books have 4 to 9 bytes.
+fn types(alloc: Global) -> Result<Vec<SegType>, AllocError> {
+    let course = Name8::from_padded(*b"COURSE  ").unwrap();
+    let class = Name8::from_padded(*b"CLASS   ").unwrap();
+    let student = Name8::from_padded(*b"STUD    ").unwrap();
+    let book = Name8::from_padded(*b"BOOK    ").unwrap();
+    let mut books = segment_type(alloc, book, Some(1), 9, 0);
+    books.least = Some(4);
+    Ok(vec![in alloc;
+        segment_type(alloc, course, None, 8, 3),
+        segment_type(alloc, class, Some(1), 4, 2),
+        segment_type(alloc, student, Some(2), 6, 4),
+        books,
+    ]?)
+}
+
+/// The sample database with these types.
+fn database(alloc: Global) -> Result<Dbd, DbdFault>
+    ensures { IfOk result (λ dbd. dbd.block_size ≡ 128) }
+{
+    let name = Name8::from_padded(*b"EDU     ").unwrap();
+    let frspc = FreeSpace { fbff: 0, fspf: 0 };
+    let types = types(alloc)?;
+    Dbd::new(alloc, name, 128, frspc, types)
+}
+
+/// The bytes that a reload of records left in an empty store, and what it wrote on standard error.
+fn reloaded(
+    alloc: Global,
+    dbd: &Dbd,
+    records: &[u8],
+    largest: u32,
+) -> Result<(Vec<u8>, Vec<u8>), AllocError>
+    requires size { dbd.now.block_size ≡ 128 }
+    requires bounds { (0 < largest) × (largest ≤ 65536) }
+{
+    let stream = stream_of(alloc, records)?;
+    let (mut out, mut err) = (Vec::new(alloc), Vec::new(alloc));
+    let store = MemStore::new(128, Vec::new(alloc));
+    let (store, _) = reload_store(alloc, dbd, &stream, store, largest, &mut out, &mut err);
+    Ok((store.into_bytes(), err))
+}
+
+/// The lines that a deck printed over a volume, and the bytes that it left; `None` where not all of its calls were made, or where there is no
+/// memory for it.
+fn played(alloc: Global, dbd: &Dbd, volume: &[u8], deck: &[u8]) -> Option<(Vec<u8>, Vec<u8>)>
+    requires { dbd.now.block_size ≡ 128 }
+{
+    let psb = program(alloc, dbd)?;
+    let steps = steps_of(alloc, deck, &psb)?;
+    let (mut out, mut err) = (Vec::new(alloc), Vec::new(alloc));
+    let store = MemStore::new(128, volume.to_vec(alloc).ok()?);
+    let (store, ended) = play_deck(alloc, dbd, &psb, &steps, store, &mut out, &mut err);
+    if ended.is_err() {
+        return None;
+    }
+    Some((out, store.into_bytes()))
+}
+
+/// What a check of a volume printed; `None` where it is not read, or where there is no memory for it.
+fn checked(alloc: Global, dbd: &Dbd, volume: &[u8]) -> Option<Vec<u8>>
+    requires { dbd.now.block_size ≡ 128 }
+{
+    let store = MemStore::new(128, volume.to_vec(alloc).ok()?);
+    let (mut out, mut err) = (Vec::new(alloc), Vec::new(alloc));
+    match Volume::load(alloc, store, dbd) {
+        Ok(volume) => {
+            let mut volume = volume;
+            check_volume(alloc, &mut volume, dbd, &mut out, &mut err);
+            Some(out)
+        }
+        Err(_) => None,
+    }
+}
+
+/// The volume of records, of 16 blocks at most.
+fn volume_of(alloc: Global, dbd: &Dbd, records: &[u8]) -> Result<Vec<u8>, AllocError>
+    requires { dbd.now.block_size ≡ 128 }
+{
+    let (volume, _) = reloaded(alloc, dbd, records, 16)?;
+    Ok(volume)
+}
+
+/// A deck prints these lines over the volume of records, and what it leaves passes with this line.
+fn expect<R: AllocGlobal + Abort>(
+    rt: &R,
+    records: &[u8],
+    deck: &[u8],
+    lines: &[u8],
+    passes: &[u8],
+) -> Result<(), Fail> {
+    let alloc = rt.alloc();
+    let dbd = database(alloc).expect(rt, "a database");
+    let volume = volume_of(alloc, &dbd, records)?;
+    let (out, left) = played(alloc, &dbd, &volume, deck).expect(rt, "a run");
+    assert_eq!(rt; out.as_slice(), lines);
+    let line = checked(alloc, &dbd, &left).expect(rt, "a volume");
+    assert_eq!(rt; line.as_slice(), passes);
+    Ok(())
+}
+
+/// A course with a book of five bytes.
+const ONE_BOOK: &[u8] = b"\x01\0\x08101ALGEB\x04\0\x05\0\x05ABC\0\0\0\0\x02";
+
+/// What a check says of it.
+const ONE_PASSES: &[u8] = b"EDU passes: 3 blocks, 2 segments, 1 roots\n";
+
+#[test]
+fn gives_a_row_with_its_length(rt: HostRuntime) -> Result<(), Fail> {
+    expect(
+        &rt,
+        ONE_BOOK,
+        b"L     GU   BOOK    \n",
+        b"1 1 GU   [  ] 02 BOOK     key=101 area=\\x00\\x05ABC\n",
+        ONE_PASSES,
+    )
+}
+
+#[test]
+fn replaces_no_row_by_one_of_a_wrong_length(rt: HostRuntime) -> Result<(), Fail> {
+    for (deck, line) in [
+        (
+            b"L     GHU  BOOK    \nL     REPL\nH0003\nDA\nL     GU   BOOK    \n".as_slice(),
+            "2 1 REPL [V1] 00          key= area=\n",
+        ),
+        (
+            b"L     GHU  BOOK    \nL     REPL\nH000a\nDABCDEFGH\nL     GU   BOOK    \n",
+            "2 1 REPL [V1] 00          key= area=\n",
+        ),
+        (
+            b"L     GHU  BOOK    \nL     REPL\nH0009\nDABC\nL     GU   BOOK    \n",
+            "2 1 REPL [V1] 00          key= area=\n",
+        ),
+        (
+            b"L     GHU  BOOK    \nL     REPL\nH0005\nDABCD\nL     GU   BOOK    \n",
+            "2 1 REPL [!!] Area\n",
+        ),
+    ] {
+        let mut lines = String::new(rt.alloc());
+        lines.push_str("1 1 GHU  [  ] 02 BOOK     key=101 area=\\x00\\x05ABC\n")?;
+        lines.push_str(line)?;
+        lines.push_str("3 1 GU   [  ] 02 BOOK     key=101 area=\\x00\\x05ABC\n")?;
+        expect(&rt, ONE_BOOK, deck, lines.as_bytes(), ONE_PASSES)?;
+    }
+    Ok(())
+}
+
+#[test]
+fn moves_a_row_that_is_made_longer(rt: HostRuntime) -> Result<(), Fail> {
+    expect(
+        &rt,
+        ONE_BOOK,
+        b"L     GHU  BOOK    \nL     REPL\nH0009\nDABCDEFG\nL     GU   BOOK    \n",
+        b"1 1 GHU  [  ] 02 BOOK     key=101 area=\\x00\\x05ABC\n2 1 REPL [  ] 02 BOOK     key=101 area=\n3 1 GU   [  ] 02 BOOK     key=101 area=\\x00\\x09ABCDEFG\n",
+        ONE_PASSES,
+    )
+}
+
+#[test]
+fn goes_on_behind_a_row_that_another_pcb_moved(rt: HostRuntime) -> Result<(), Fail> {
+    expect(
+        &rt,
+        b"\x01\0\x08101ALGEB\x04\0\x04\0\x04AA\x04\0\x04\0\x04BB\0\0\0\0\x03",
+        b"S 2\nL     GU   BOOK    \nS 1\nL     GHU  BOOK    \nL     REPL\nH0009\nDAAAAAAA\nS 2\nL     GN   BOOK    \n",
+        b"1 2 GU   [  ] 02 BOOK     key=101 area=\\x00\\x04AA\n2 1 GHU  [  ] 02 BOOK     key=101 area=\\x00\\x04AA\n3 1 REPL [  ] 02 BOOK     key=101 area=\n4 2 GN   [  ] 02 BOOK     key=101 area=\\x00\\x04BB\n",
+        b"EDU passes: 3 blocks, 3 segments, 1 roots\n",
+    )
+}
+
+#[test]
+fn leaves_a_full_volume_as_it_was(rt: HostRuntime) -> Result<(), Fail> {
+    let alloc = rt.alloc();
+    let dbd = database(alloc).expect(&rt, "a database");
+    let records =
+        b"\x01\0\x08101ALGEB\x04\0\x04\0\x04AA\x04\0\x04\0\x04AA\x04\0\x04\0\x04AA\x04\0\x04\0\x04AA\x04\0\x04\0\x04AA\0\0\0\0\x06";
+    let (volume, err) = reloaded(alloc, &dbd, records, 3)?;
+    assert_eq!(rt; err.len(), 0);
+    let deck = b"L     GHU  BOOK    \nL     REPL\nH0009\nDAAAAAAA\n";
+    let (out, left) = played(alloc, &dbd, &volume, deck).expect(&rt, "a run");
+    assert_eq!(rt;
+        out.as_slice(),
+        b"1 1 GHU  [  ] 02 BOOK     key=101 area=\\x00\\x04AA\n2 1 REPL [!!] Full\n".as_slice()
+    );
+    assert_eq!(rt; left.as_slice(), volume.as_slice());
+    assert_eq!(rt;
+        checked(alloc, &dbd, &left)
+            .expect(&rt, "a volume")
+            .as_slice(),
+        b"EDU passes: 3 blocks, 6 segments, 1 roots\n".as_slice()
+    );
+    Ok(())
+}
+
+#[test]
+fn refuses_a_record_that_says_another_length(rt: HostRuntime) -> Result<(), Fail> {
+    let alloc = rt.alloc();
+    let dbd = database(alloc).expect(&rt, "a database");
+    let records = b"\x01\0\x08101ALGEB\x04\0\x05\0\x06ABC\0\0\0\0\x02";
+    let (_, err) = reloaded(alloc, &dbd, records, 16)?;
+    assert_eq!(rt;
+        err.as_slice(),
+        b"reload refused: U4 at record 2\n".as_slice()
+    );
+    Ok(())
+}
