@@ -1,5 +1,9 @@
-use Rattle.std.proofs.Common.{◌≡◌, ℕ, ◌-◌, ◌<◌, List, length, map, Ok, Err, ap, sym, subst, ◌∙◌, arith}
+use Rattle.std.proofs.Common.{◌≡◌, ◌≢◌, ℕ, ◌-◌, ◌<◌, List, length, map, Result, Ok, Err, IfErr, ap, sym, subst, ◌∙◌, arith}
 use Rattle.std.specs.Prelude.{slice_index_or}
+use Rattle.std.proofs.lemmas.List.{length-map}
+use Rattle.std.proofs.lemmas.Result.{err_from_is_err_and}
+use Rattle.hd_dbd.specs.declared.answer.Refused.{Refused}
+use Rattle.hd_dbd.specs.declared.answer.Refused.TheVariants.{Memory, Device}
 use Rattle.hd_dbd.specs.Calls.{CallText}
 use Rattle.hd_volume.proofs.CallSteps.{if-ok}
 use Rattle.hd_volume.proofs.JoinLemmas.{if-err-map}
@@ -13,6 +17,7 @@ use Rattle.hd_update.proofs.Levels.{as_many}
 use Rattle.hd_update.proofs.Standing.{own_position, own_stands}
 use Rattle.hd_update.specs.States.{LacksRoomFor}
 use Rattle.hd_session.specs.Sessions.{own_in, call_in}
+use Rattle.hd_session.specs.declared.request.Answer.{Answer}
 use Rattle.hd_session.proofs.KeysKnown.{keys_kept}
 use Rattle.hd_session.proofs.OwnSteps.{step_as}
 use Rattle.hd_session.proofs.TestedCalls.{accepted_ok, replace_held, step_before, lacks_before, own_effect, failed_step}
@@ -126,3 +131,12 @@ answer_accepted-requires-clause-known g c = keys_kept c.args.dbd.now c.args.volu
 
 pub returns-in-Err-clause-known : goal.returns-in-Err-clause-known
 returns-in-Err-clause-known g c = keys_kept c.args.dbd.now c.args.volume.now c.accept.new.volume c.in_ok-status.ensures.read c.args.above.now c.requires.known
+
+-- ---- memory
+
+pub returns-in_err-status-clause-memory : goal.returns-in_err-status-clause-memory
+returns-in_err-status-clause-memory g c sound none other few =
+    let p = err_from_is_err_and c.from_residual.result c.from_residual.ensures.1 in
+    let many = ap length c.deref.ensures.value ∙ sym (length-map c.call.inside.ssas.items (λ s. s.items)) ∙ ap (λ (x : CallText). length x.ssas) c.call.view_is in
+    subst (λ (r : Result Answer Refused). IfErr r (λ e. e ≢ Memory)) (sym (p.1 ∙ ap Err p.2))
+    (λ is. let both : Memory ≡ Device = sym is ∙ c.in_err-status.ensures.memory (omega arith) in cc)
