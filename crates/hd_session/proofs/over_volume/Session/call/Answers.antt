@@ -1,4 +1,4 @@
-use Rattle.std.proofs.Common.{◌≡◌, ◌≢◌, ℕ, ◌-◌, ◌≤◌, List, length, Some, refl, sym, ap, ◌∙◌, subst}
+use Rattle.std.proofs.Common.{◌≡◌, ◌≢◌, ℕ, ◌-◌, ◌≤◌, List, length, Some, refl, sym, ap, ◌∙◌, subst, IsTrue}
 use Rattle.std.proofs.lemmas.Bool.{false≢true}
 use Rattle.std.specs.Prelude.{Result, IfOk, IfErr, slice_index_or}
 use Rattle.hd_dbd.specs.Types.{View}
@@ -7,6 +7,7 @@ use Rattle.hd_dbd.specs.declared.answer.Refused.TheVariants.{Device}
 use Rattle.hd_calls.specs.Runs.{view_of}
 use Rattle.hd_position.specs.Kept.{Kept}
 use Rattle.hd_update.specs.Loading.{HasPassedAll}
+use Rattle.hd_dbd.specs.Lengths.{some_vary}
 use Rattle.hd_session.specs.declared.request.Answer.{Answer}
 use Rattle.hd_session.specs.Opening.{SessionState, StandsForState}
 use Rattle.hd_session.specs.Above.{AreKeysOf}
@@ -132,3 +133,8 @@ returns-in_default-clause-logged g c =
     (record { done = e.done; undone = e.undone; area = e.area; full = e.full; refusal = e.refusal; sound = e.call.sound; size = e.call.size; sizes = e.call.sizes }) in
     let same = kept_is c.self.inside.positions.len new old (e.many ∙ c.deref_mut.ensures.len) c.self.inside.positions.ok.0 in
     call_logged d pcbs c.self.inside.volume old c.self.inside.broken c.args.self.now c.self.view_is pcb n c.args.call.now r io w new _ is S same
+
+pub returns-in-Err-clause-memory : goal.returns-in-Err-clause-memory
+returns-in-Err-clause-memory g c sound none other few =
+    c.call_step-answered.ensures.memory (subst IsTrue (sym (ap (λ (s : SessionState). s.volume.is_sound) c.self.view_is)) sound)
+    (ap (λ (s : SessionState). some_vary s.database.types) c.self.view_is ∙ none) other few
