@@ -93,13 +93,13 @@ module _ (types : List SegmentType) (ssas : List Ssa) (area : List ℕ) where
       (elim (cases_Bool (is_excepted ssas h.code)) [
         | inl out ↦ subst (AreInArea types area) (sym (cond-true _ _ _ out)) rest
         | inr in_ ↦ subst (AreInArea types area) (sym (cond-false _ _ _ in_)) (
-            record {
-              within = later;
-              fits = subst (λ (b : List ℕ). row_fits types (record { code = h.code; bytes = b }) ≡ true) (sym front.0)
-                  (subst (λ (q : Part). IsPart types q C.bytes) (cond-false _ _ _ in_) (part_asked types p (drop start area) C.bytes C.here));
-            },
-            rest,
-          )
+          record {
+            within = later;
+            fits = subst (λ (b : List ℕ). row_fits types (record { code = h.code; bytes = b }) ≡ true) (sym front.0)
+                (subst (λ (q : Part). IsPart types q C.bytes) (cond-false _ _ _ in_) (part_asked types p (drop start area) C.bytes C.here));
+          },
+          rest,
+        )
       ])
 
   -- new bytes that an area has stand in it, and fit

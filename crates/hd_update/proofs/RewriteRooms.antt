@@ -21,7 +21,6 @@ use Rattle.hd_image.specs.Records.{links_of}
 use Rattle.hd_forest.specs.Walks.{tip}
 use Rattle.hd_forest.specs.Rewrites.{Outgrows}
 use Rattle.hd_keeping.specs.Rooms.{HasRoomFor, HasMemoryFor}
-
 use Rattle.hd_keeping.proofs.Rooms.{sizes-more, first-rows, set-rows-leave-room, same-entries-leave-room}
 use Rattle.hd_keeping.proofs.SetRows.{no-more-room}
 use Rattle.hd_update.specs.Replacing.{part_for, IsRewriteOf, IsReplacedTo}
@@ -117,15 +116,15 @@ module _ (d : Database) (x : VolumeState) (path : List ℕ) (rows : List Segment
       → (e ≡ Memory → HasHole x (size_with d.types row.code (length row.bytes)) → ⊥) → (e ≢ Device → Outgrows d x (tip path) row) → e ≡ Device
   replace_refused e why full few hole outgrown = elim (cases_Bool (is_longer rows w)) [
     | inl long ↦ elim why [
-        | inl is ↦ absurd ((first-rows d.types x row (rows_stored rows (rewritten rest))).1 (long_memory long) (few is, hole is))
-        | inr (inl is) ↦ absurd ((first-rows d.types x row (rows_stored rows (rewritten rest))).0 (long_room long) (full is))
-        | inr (inr is) ↦ is
-      ]
+      | inl is ↦ absurd ((first-rows d.types x row (rows_stored rows (rewritten rest))).1 (long_memory long) (few is, hole is))
+      | inr (inl is) ↦ absurd ((first-rows d.types x row (rows_stored rows (rewritten rest))).0 (long_room long) (full is))
+      | inr (inr is) ↦ is
+    ]
     | inr short ↦ elim why [
-        | inl is ↦ absurd (let fits = short_fits short in let more : Outgrows d x (tip path) row = outgrown (λ (f : e ≡ Device). (let both : Memory ≡ Device = sym is ∙ f in cc)) in omega arith)
-        | inr (inl is) ↦ absurd (let fits = short_fits short in let more : Outgrows d x (tip path) row = outgrown (λ (f : e ≡ Device). (let both : Full ≡ Device = sym is ∙ f in cc)) in omega arith)
-        | inr (inr is) ↦ is
-      ]
+      | inl is ↦ absurd (let fits = short_fits short in let more : Outgrows d x (tip path) row = outgrown (λ (f : e ≡ Device). (let both : Memory ≡ Device = sym is ∙ f in cc)) in omega arith)
+      | inr (inl is) ↦ absurd (let fits = short_fits short in let more : Outgrows d x (tip path) row = outgrown (λ (f : e ≡ Device). (let both : Full ≡ Device = sym is ∙ f in cc)) in omega arith)
+      | inr (inr is) ↦ is
+    ]
   ]
 
   module _ (to : ℕ) (y : VolumeState) (I : IsReplacedTo d x path row to y) where

@@ -361,7 +361,7 @@ module _ (d : Database) (v x : VolumeState) (path area : List ℕ) (news : List 
     bytes_set : (rows_of h ≡ slice_set (rows_of g) w.number (record { code = (row_at (rows_of g) w.number).code; bytes = row.bytes })) × (addresses h ≡ addresses g)
     bytes_set =
         subst (λ (a : ℕ). (rows_of (with_bytes a row.bytes g) ≡ slice_set (rows_of g) w.number (record { code = (row_at (rows_of g) w.number).code; bytes = row.bytes }))
-            × (addresses (with_bytes a row.bytes g) ≡ addresses g)) (sym same_place)
+        × (addresses (with_bytes a row.bytes g) ≡ addresses g)) (sym same_place)
         (bytes_in d.types k g w.number row.bytes R.set.holds.records within)
 
     rows_set : rows_of g2 ≡ slice_set (rows_of g) w.number (record { code = (row_at (rows_of g) w.number).code; bytes = row.bytes })

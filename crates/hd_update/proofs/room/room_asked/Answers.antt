@@ -33,32 +33,32 @@ loop-place-preserved c =
     let one : c.row_size-size.result ≤ 65535 = c.row_size-size.ensures.small in
     elim c.if-row.branch [
       | then-row w ↦ record {
-          few = (let is = w.count-is in omega arith);
-          small = (let is = w.total-is in omega arith);
-          left = λ f ws are.
-              (let N = next_of types f area c.args.news.now ws place none are c.loop-place-test.true in
-              let L = asked_long types f area n N.rewrite (drop (place + 1) ws) N.of w.if-row.true in
-              let before = c.loop-place.invariant.left f ws are in
-              let size : c.row_size-size.result ≡ size_with types n.code (length (part_for area n)) = c.row_size-size.ensures.value ∙ ap (λ (b : List ℕ). size_with types n.code (length b)) (c.part_for.ensures A.within) in
-              let many = ap (λ (xs : List Rewrite). length (rows_stored (rows_of f) (rewritten xs))) N.left ∙ L.many in
-              let large = ap (λ (xs : List Rewrite). stored_sizes types (rows_stored (rows_of f) (rewritten xs))) N.left ∙ L.large in (
-                (let is = w.count-is in let b = before.0 in omega arith),
-                (let is = w.total-is in let b = before.1 in omega arith),
-              ));
-        }
+        few = (let is = w.count-is in omega arith);
+        small = (let is = w.total-is in omega arith);
+        left = λ f ws are.
+            (let N = next_of types f area c.args.news.now ws place none are c.loop-place-test.true in
+            let L = asked_long types f area n N.rewrite (drop (place + 1) ws) N.of w.if-row.true in
+            let before = c.loop-place.invariant.left f ws are in
+            let size : c.row_size-size.result ≡ size_with types n.code (length (part_for area n)) = c.row_size-size.ensures.value ∙ ap (λ (b : List ℕ). size_with types n.code (length b)) (c.part_for.ensures A.within) in
+            let many = ap (λ (xs : List Rewrite). length (rows_stored (rows_of f) (rewritten xs))) N.left ∙ L.many in
+            let large = ap (λ (xs : List Rewrite). stored_sizes types (rows_stored (rows_of f) (rewritten xs))) N.left ∙ L.large in (
+              (let is = w.count-is in let b = before.0 in omega arith),
+              (let is = w.total-is in let b = before.1 in omega arith),
+            ));
+      }
       | else-row w ↦ record {
-          few = (let is = w.count-is in omega arith);
-          small = (let is = w.total-is in omega arith);
-          left = λ f ws are.
-              (let N = next_of types f area c.args.news.now ws place none are c.loop-place-test.true in
-              let same = ap (λ (xs : List Rewrite). rows_stored (rows_of f) (rewritten xs)) N.left ∙ asked_short types f area n N.rewrite (drop (place + 1) ws) N.of w.if-row.false in
-              let before = c.loop-place.invariant.left f ws are in
-              let many = ap (λ xs. length xs) same in
-              let large = ap (stored_sizes types) same in (
-                (let is = w.count-is in let b = before.0 in omega arith),
-                (let is = w.total-is in let b = before.1 in omega arith),
-              ));
-        }
+        few = (let is = w.count-is in omega arith);
+        small = (let is = w.total-is in omega arith);
+        left = λ f ws are.
+            (let N = next_of types f area c.args.news.now ws place none are c.loop-place-test.true in
+            let same = ap (λ (xs : List Rewrite). rows_stored (rows_of f) (rewritten xs)) N.left ∙ asked_short types f area n N.rewrite (drop (place + 1) ws) N.of w.if-row.false in
+            let before = c.loop-place.invariant.left f ws are in
+            let many = ap (λ xs. length xs) same in
+            let large = ap (stored_sizes types) same in (
+              (let is = w.count-is in let b = before.0 in omega arith),
+              (let is = w.total-is in let b = before.1 in omega arith),
+            ));
+      }
     ]
 
 pub returns : goal.returns
