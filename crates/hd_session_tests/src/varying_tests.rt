@@ -3,7 +3,7 @@ ghost use Rattle.std.specs.Prelude.{◌≡◌, ◌<◌, ◌≤◌, IfOk};
 use crate::run_tests::{program, steps_of};
 use hd_commands::{check_volume, play_deck, reload_store};
 use hd_dbd::{Dbd, DbdFault, FreeSpace, Name8, SegType};
-use hd_sample::{segment_type, stream_of};
+use hd_sample::{image, segment_type, stream_of};
 use hd_volume::{MemStore, Volume};
 use std::alloc::{AllocError, Global};
 use std::process::Abort;
@@ -68,8 +68,8 @@ fn played(alloc: Global, dbd: &Dbd, volume: &[u8], deck: &[u8]) -> Option<(Vec<u
     Some((out, store.into_bytes()))
 }
 
-/// What a check of a volume printed; `None` where it is not read, or where there is no memory for it.
-fn checked(alloc: Global, dbd: &Dbd, volume: &[u8]) -> Option<Vec<u8>>
+/// What a check of a volume printed, and what on standard error; `None` where it is not read, or where there is no memory for it.
+fn checked(alloc: Global, dbd: &Dbd, volume: &[u8]) -> Option<(Vec<u8>, Vec<u8>)>
     requires { dbd.now.block_size ≡ 128 }
 {
     let store = MemStore::new(128, volume.to_vec(alloc).ok()?);
@@ -78,7 +78,7 @@ fn checked(alloc: Global, dbd: &Dbd, volume: &[u8]) -> Option<Vec<u8>>
         Ok(volume) => {
             let mut volume = volume;
             check_volume(alloc, &mut volume, dbd, &mut out, &mut err);
-            Some(out)
+            Some((out, err))
         }
         Err(_) => None,
     }
@@ -105,7 +105,7 @@ fn expect<R: AllocGlobal + Abort>(
     let volume = volume_of(alloc, &dbd, records)?;
     let (out, left) = played(alloc, &dbd, &volume, deck).expect(rt, "a run");
     assert_eq!(rt; out.as_slice(), lines);
-    let line = checked(alloc, &dbd, &left).expect(rt, "a volume");
+    let (line, _) = checked(alloc, &dbd, &left).expect(rt, "a volume");
     assert_eq!(rt; line.as_slice(), passes);
     Ok(())
 }
@@ -193,10 +193,9 @@ fn leaves_a_full_volume_as_it_was(rt: HostRuntime) -> Result<(), Fail> {
         b"1 1 GHU  [  ] 02 BOOK     key=101 area=\\x00\\x04AA\n2 1 REPL [!!] Full\n".as_slice()
     );
     assert_eq!(rt; left.as_slice(), volume.as_slice());
+    let (line, _) = checked(alloc, &dbd, &left).expect(&rt, "a volume");
     assert_eq!(rt;
-        checked(alloc, &dbd, &left)
-            .expect(&rt, "a volume")
-            .as_slice(),
+        line.as_slice(),
         b"EDU passes: 3 blocks, 6 segments, 1 roots\n".as_slice()
     );
     Ok(())
@@ -212,5 +211,15 @@ fn refuses_a_record_that_says_another_length(rt: HostRuntime) -> Result<(), Fail
         err.as_slice(),
         b"reload refused: U4 at record 2\n".as_slice()
     );
+    Ok(())
+}
+
+#[test]
+fn knows_no_old_version_where_segments_vary(rt: HostRuntime) -> Result<(), Fail> {
+    let alloc = rt.alloc();
+    let dbd = database(alloc).expect(&rt, "a database");
+    let (out, err) = checked(alloc, &dbd, &image()).expect(&rt, "a volume");
+    assert_eq!(rt; out.len(), 0);
+    assert_eq!(rt; err.as_slice(), b"fault 2 at 0, other 1\n".as_slice());
     Ok(())
 }
