@@ -34,7 +34,8 @@ fn add_comparison(
     };
     ssa.extend_from_slice(operator)?;
     let value = field_in(bytes, field);
-    if random.percent(85) && value.len() == field.length as usize {
+    let ends_a_line = value.contains(&b'\n') || value.contains(&b'\r');
+    if random.percent(85) && value.len() == field.length as usize && !ends_a_line {
         return ssa.extend_from_slice(value);
     }
     for _ in 0..field.length {

@@ -1,7 +1,7 @@
 //! Random ISRT, REPL and DLET.
 
 use crate::asking::{Form, argument_of, bytes_on, types_above};
-use crate::contents::{random_bytes, random_child};
+use crate::contents::{random_bytes, random_child, random_count, say_length};
 use crate::position::Position;
 use crate::random::Random;
 use crate::rows::{Row, bytes_at, code_at, parent_of, path_of};
@@ -94,6 +94,11 @@ fn random_twin(
             let number = place.saturating_add(1);
             if start <= number && number < end {
                 *byte = *same;
+            }
+        }
+        if let Some(segment) = dbd.type_of(code) {
+            if random.percent(90) {
+                say_length(segment, &mut bytes);
             }
         }
     }
@@ -198,23 +203,56 @@ fn key_span(dbd: &Dbd, code: u8) -> (usize, usize) {
     }
 }
 
-/// Adds a row's bytes with some changed, those of its key so many times of a hundred.
-fn add_changed(
+/// A row's bytes, so many, with some changed, those of its key so many times of a hundred.
+fn changed(
+    alloc: Global,
     random: &mut Random,
     dbd: &Dbd,
     rows: &[Row],
     row: usize,
     keys: usize,
-    area: &mut Vec<u8>,
-) -> Result<(), AllocError> {
+    count: usize,
+) -> Result<Vec<u8>, AllocError> {
     let (start, end) = key_span(dbd, code_at(rows, row));
-    for (place, byte) in bytes_at(rows, row).iter().enumerate() {
+    let old = bytes_at(rows, row);
+    let mut bytes = Vec::new(alloc);
+    for place in 0..count {
         let number = place.saturating_add(1);
         let is_key = start <= number && number < end;
         let is_changed = random.percent(if is_key { keys } else { 40 });
-        area.push(if is_changed { random.byte() } else { *byte })?;
+        let new = random.byte();
+        let own = old.get(place).copied().unwrap_or(new);
+        bytes.push(if is_changed { new } else { own })?;
     }
-    Ok(())
+    Ok(bytes)
+}
+
+/// New bytes of a row, of another length now and then, or as many as it has where it is excepted.
+fn new_bytes(
+    alloc: Global,
+    random: &mut Random,
+    dbd: &Dbd,
+    rows: &[Row],
+    row: usize,
+    is_excepted: bool,
+) -> Result<Vec<u8>, AllocError> {
+    let had = bytes_at(rows, row).len();
+    if is_excepted {
+        return changed(alloc, random, dbd, rows, row, 40, had);
+    }
+    let Some(segment) = dbd.type_of(code_at(rows, row)) else {
+        return changed(alloc, random, dbd, rows, row, 1, had);
+    };
+    let count = if random.percent(50) {
+        random_count(random, segment)
+    } else {
+        had
+    };
+    let mut bytes = changed(alloc, random, dbd, rows, row, 1, count)?;
+    if random.percent(95) {
+        say_length(segment, &mut bytes);
+    }
+    Ok(bytes)
 }
 
 /// REPL of the held rows, now and then with N for some of them.
@@ -234,8 +272,7 @@ pub fn replace_call(
             let form = plain(if is_excepted { b"N" } else { b"" });
             ssas.push(argument_of(alloc, random, dbd, code_at(rows, *row), &[], form)?)?;
         }
-        let keys = if is_excepted { 40 } else { 1 };
-        add_changed(random, dbd, rows, *row, keys, &mut area)?;
+        area.extend_from_slice(&new_bytes(alloc, random, dbd, rows, *row, is_excepted)?)?;
     }
     Ok(Call {
         func: *b"REPL",

@@ -3,8 +3,30 @@
 use crate::places::{NewRow, is_taken, place_of};
 use crate::random::Random;
 use crate::rows::{Row, code_at};
-use hd_dbd::{Dbd, Rule};
+use hd_dbd::{Dbd, Rule, SegType};
 use std::alloc::{AllocError, Global};
+
+/// A number of bytes that a segment of a type may have.
+pub fn random_count(random: &mut Random, segment: &SegType) -> usize {
+    let most = segment.length as usize;
+    match segment.least {
+        Some(least) => {
+            let more = random.below(most.saturating_sub(least as usize).saturating_add(1));
+            most.min((least as usize).saturating_add(more))
+        }
+        None => most,
+    }
+}
+
+/// Lets the first two bytes of a segment say how many it has, where those of its type vary.
+pub fn say_length(segment: &SegType, bytes: &mut [u8]) {
+    if segment.least.is_some() {
+        let own = u16::try_from(bytes.len()).unwrap_or(0).to_be_bytes();
+        for (byte, said) in bytes.iter_mut().zip(&own) {
+            *byte = *said;
+        }
+    }
+}
 
 /// Random bytes of a segment of a type.
 pub fn random_bytes(
@@ -15,9 +37,10 @@ pub fn random_bytes(
 ) -> Result<Vec<u8>, AllocError> {
     let mut bytes = Vec::new(alloc);
     if let Some(segment) = dbd.type_of(code) {
-        for _ in 0..segment.length {
+        for _ in 0..random_count(random, segment) {
             bytes.push(random.byte())?;
         }
+        say_length(segment, &mut bytes);
     }
     Ok(bytes)
 }

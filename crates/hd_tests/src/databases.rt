@@ -94,18 +94,25 @@ fn random_type(
     let length = u32::try_from(random.below(most))
         .unwrap_or(0)
         .saturating_add(2);
-    let key = random_key(random, code, length);
+    let least = if random.percent(30) {
+        let more = random.below((length as usize).saturating_sub(1));
+        Some(u32::try_from(more).unwrap_or(0).saturating_add(2))
+    } else {
+        None
+    };
+    let shortest = least.unwrap_or(length);
+    let key = random_key(random, code, shortest);
     let rule = random.pick(&[Rule::First, Rule::Last, Rule::Here]);
     Ok(SegType {
         name,
         parent,
         length,
-        least: None,
+        least,
         key,
         rule: rule.unwrap_or(Rule::Last),
         backward: random.percent(50),
         last_pointer: random.percent(50),
-        fields: random_fields(alloc, random, key, length)?,
+        fields: random_fields(alloc, random, key, shortest)?,
     })
 }
 

@@ -1,10 +1,10 @@
 //! A database as a plain list of rows, with the positions of a program's PCBs.
 
-use crate::areas::parts_of;
+use crate::areas::{Part, parts_of};
 use crate::arguments::{Argument, arguments_of, codes_of, first_inserted, heads_of};
 use crate::outcome::{Outcome, Reply, Stop};
 use crate::position::Position;
-use crate::rows::{Row, code_at, copy_rows};
+use crate::rows::{Row, bytes_at, code_at, copy_rows};
 use crate::search::get;
 use crate::step::{
     Function, excepted_by, function_of, target_of, test_parents, test_rights, test_shape,
@@ -128,21 +128,33 @@ impl Model {
             },
             Function::Insert => {
                 let codes = codes_from(alloc, arguments, first)?;
-                let parts = parts_of(alloc, dbd, &codes, area)?;
+                let mut wanted = Vec::new(alloc);
+                for code in &codes {
+                    let part = Part {
+                        code: *code,
+                        kept: None,
+                    };
+                    wanted.push(part).map_err(AllocError::from)?;
+                }
+                let parts = parts_of(alloc, dbd, &wanted, area)?;
                 match (view.loads(), codes.last()) {
                     (true, Some(code)) => self.load(alloc, dbd, pcb, *code, &parts),
                     _ => self.insert(alloc, dbd, pcb, arguments, first, &parts),
                 }
             }
             Function::Replace => {
-                let mut codes = Vec::new(alloc);
-                for row in &held {
-                    codes
-                        .push(code_at(&self.rows, *row))
-                        .map_err(AllocError::from)?;
-                }
-                let parts = parts_of(alloc, dbd, &codes, area)?;
                 let excepted = excepted_by(alloc, arguments)?;
+                let mut wanted = Vec::new(alloc);
+                for row in &held {
+                    let code = code_at(&self.rows, *row);
+                    let kept = if excepted.contains(&code) {
+                        Some(bytes_at(&self.rows, *row).len())
+                    } else {
+                        None
+                    };
+                    wanted.push(Part { code, kept }).map_err(AllocError::from)?;
+                }
+                let parts = parts_of(alloc, dbd, &wanted, area)?;
                 self.replace(alloc, dbd, pcb, &held, &excepted, &parts)
             }
             Function::Delete => match target_of(&self.rows, &held, arguments) {

@@ -6,7 +6,6 @@ use crate::calls::random_call;
 use crate::contents::random_rows;
 use crate::databases::random_database;
 use crate::decks::{Deck, run_cached};
-use crate::heads::head_of;
 use crate::model::Model;
 use crate::outcome::Outcome;
 use crate::played::{ask, fault_of, store_of};
@@ -38,55 +37,69 @@ fn call_text(alloc: Global, pcb: u8, call: &Call) -> Result<String, AllocError> 
     Ok(text)
 }
 
-/// The rows that ISRT puts in, by its arguments: from the first with D to the last.
-fn inserted<'a>(alloc: Global, dbd: &Dbd, call: &'a Call) -> Result<Vec<u8>, AllocError> {
-    let mut codes = Vec::new(alloc);
-    let mut is_inserted = false;
-    for (place, ssa) in call.ssas.iter().enumerate() {
-        if let Some(head) = head_of(ssa) {
-            let is_last = place.saturating_add(1) == call.ssas.len();
-            is_inserted = is_inserted || head.has(b'D') || is_last;
-            for code in 1..=u8::MAX {
-                let is_named = match dbd.type_of(code) {
-                    Some(segment) => segment.name.bytes().as_slice() == head.name,
-                    None => false,
-                };
-                if is_inserted && is_named {
-                    codes.push(code)?;
-                }
+/// What a call wants to store: how many rows, how many bytes they take together, and whether a root is put in.
+#[derive(Clone, Copy, Debug)]
+struct Wanted {
+    rows: usize,
+    bytes: usize,
+    root: bool,
+}
+
+/// What a call wants to store by which these rows become those: the rows that it puts in, or those that it makes longer.
+fn wanted_by(dbd: &Dbd, before: &[Row], after: &[Row]) -> Wanted {
+    let more = after.len().saturating_sub(before.len());
+    let mut same: usize = 0;
+    for (place, old) in before.iter().enumerate() {
+        if let Some(new) = after.get(place) {
+            if same == place && new.code == old.code && new.bytes == old.bytes {
+                same = same.saturating_add(1);
             }
         }
     }
-    Ok(codes)
+    let mut wanted = Wanted {
+        rows: 0,
+        bytes: 0,
+        root: false,
+    };
+    for (place, row) in after.iter().enumerate() {
+        let is_put_in = same <= place && place < same.saturating_add(more);
+        let is_longer = match before.get(place) {
+            Some(old) => more == 0 && old.bytes.len() < row.bytes.len(),
+            None => false,
+        };
+        if is_put_in || is_longer {
+            let size = dbd.size_with(row.code, row.bytes.len().min(65_535));
+            wanted.rows = wanted.rows.saturating_add(1);
+            wanted.bytes = wanted.bytes.saturating_add(size);
+            wanted.root = wanted.root || is_put_in && row.code == 1;
+        }
+    }
+    wanted
 }
 
-/// Whether the bytes of a volume show that a call may be answered Full: there are too few blocks for its rows, and a root is among them or
-/// no hole is as large as all of them.
-fn has_no_room(alloc: Global, dbd: &Dbd, image: &[u8], call: &Call) -> Result<bool, AllocError> {
-    let codes = inserted(alloc, dbd, call)?;
+/// Whether the bytes of a volume show that a call may be answered Full: there are too few blocks for its rows, and a root is put in or no hole
+/// is as large as all of them.
+fn has_no_room(dbd: &Dbd, image: &[u8], wanted: Wanted) -> bool {
     let block_size = dbd.block_size() as usize;
-    let mut size: usize = 0;
-    for code in &codes {
-        size = size.saturating_add(usize::from(dbd.stored_size(*code)));
-    }
-    let has_root = codes.contains(&1);
-    let blocks = if has_root { index_blocks(image) } else { 0 };
-    let wanted = codes.len().saturating_add(blocks);
-    Ok(spare(image, block_size) < wanted && (has_root || largest_hole(image, block_size) < size))
+    let blocks = if wanted.root { index_blocks(image) } else { 0 };
+    spare(image, block_size) < wanted.rows.saturating_add(blocks)
+        && (wanted.root || largest_hole(image, block_size) < wanted.bytes)
 }
 
 /// What came of a call: both told the same, the session was full where the rows were not, or they differ.
 #[derive(Debug, Drop)]
 enum Compared {
     Same,
-    Full,
+    Full(Wanted),
     Other(String),
 }
 
 /// Whether an answer is one in whose place Full may come.
 fn may_be_full(call: &Call, outcome: &Outcome) -> bool {
     match outcome {
-        Outcome::Reply(reply) => call.func == *b"ISRT" && reply.status == Status::Blank,
+        Outcome::Reply(reply) => {
+            (call.func == *b"ISRT" || call.func == *b"REPL") && reply.status == Status::Blank
+        }
         Outcome::Refused(_) => false,
     }
 }
@@ -112,8 +125,9 @@ fn compare(
     deck.add(alloc, pcb, call, &given)?;
     if let Outcome::Refused(Refused::Full) = &told {
         if may_be_full(call, &outcome) {
+            let wanted = wanted_by(dbd, &before.rows, &model.rows);
             *model = before;
-            return Ok(Compared::Full);
+            return Ok(Compared::Full(wanted));
         }
     }
     let wanted = whole(alloc, &outcome)?;
@@ -129,7 +143,7 @@ fn compare(
 #[derive(Drop)]
 enum Stopped {
     Done,
-    Full(Call),
+    Full(Wanted),
     Differs(String),
 }
 
@@ -154,9 +168,9 @@ fn play(
         }
         match compare(alloc, dbd, psb, session, model, deck, pcb, &call)? {
             Compared::Same => {}
-            Compared::Full => {
+            Compared::Full(wanted) => {
                 if random.percent(20) {
-                    return Ok(Stopped::Full(call));
+                    return Ok(Stopped::Full(wanted));
                 }
             }
             Compared::Other(text) => {
@@ -176,10 +190,10 @@ fn left_fault(
     dbd: &Dbd,
     model: &Model,
     image: Vec<u8>,
-    full: Option<&Call>,
+    full: Option<Wanted>,
 ) -> Result<&'static str, AllocError> {
-    if let Some(call) = full {
-        if !has_no_room(alloc, dbd, &image, call)? {
+    if let Some(wanted) = full {
+        if !has_no_room(dbd, &image, wanted) {
             return Ok("Full with room");
         }
     }
@@ -312,7 +326,7 @@ pub fn run_from(
         return String::from_str(alloc, "the run leaves other bytes");
     }
     let full = match &stopped {
-        Stopped::Full(call) => Some(call),
+        Stopped::Full(wanted) => Some(*wanted),
         _ => None,
     };
     String::from_str(alloc, left_fault(alloc, dbd, &model, image, full)?)
