@@ -1,8 +1,9 @@
 //! Calls in which a growth of the store finds no memory.
-ghost use Rattle.std.specs.Prelude.{◌≡◌, ◌<◌, ◌≤◌, [], false, length};
+ghost use Rattle.std.specs.Prelude.{◌≡◌, ◌<◌, ◌≤◌, length};
 ghost use Rattle.hd_dbd.specs.Hierarchy.{longest_path};
 
 use crate::listed_calls::{program, sample};
+use crate::stores::{SIZE, Sparing};
 use hd_dbd::{Dbd, Refused, Status};
 use hd_sample::database;
 use hd_session::{Call, IoArea, Session};
@@ -10,122 +11,19 @@ use hd_volume::{BlockStore, Volume};
 use std::alloc::{AllocError, Global};
 use std::test::Fail;
 
-/// The bytes of a block.
-const SIZE: usize = 128;
-
-/// A store in memory in which one of the growths beyond its reserved room, counted from 0, finds no memory. No contract says anything of its bytes.
-#[derive(Drop)]
-struct Sparing {
-    bytes: Vec<u8>,
-    room: u32,
-    growths: u32,
-    refused: u32,
-}
-
-impl Sparing {
-    /// Whether the next growth is the one that finds no memory. It is counted.
-    fn is_next_refused(&mut self) -> bool
-        ensures { self.new.room ≡ self.old.room }
-    {
-        let number = self.growths;
-        self.growths = number.saturating_add(1);
-        number == self.refused
-    }
-}
-
-/// Fills a buffer with the bytes of an image from a place on.
-fn fill_from(buf: &mut [u8], image: &[u8], start: usize)
-    ensures { length buf.new ≡ length buf.old }
-{
-    for (place, byte) in buf.iter_mut().enumerate() {
-        *byte = image.get(start.saturating_add(place)).copied().unwrap_or(0);
-    }
-}
-
-/// Puts bytes into an image from a place on.
-fn put_from(image: &mut [u8], start: usize, bytes: &[u8]) {
-    for (place, byte) in bytes.iter().enumerate() {
-        if let Some(own) = image.get_mut(start.saturating_add(place)) {
-            *own = *byte;
-        }
-    }
-}
-
-/// Adds blocks of zeros.
-fn lengthen(bytes: &mut Vec<u8>, blocks: u32) {
-    for _ in 0..blocks {
-        let _ = bytes.extend_from_slice(&[0; SIZE]);
-    }
-}
-
-impl BlockStore for Sparing {
-    ghost size = { λ _. 128 };
-
-    ghost contents = { λ _. [] };
-
-    ghost is_sound = { λ _. false };
-
-    ghost failures = { λ _. 0 };
-
-    ghost room = { λ s. s.room };
-
-    fn block_size(&self) -> usize {
-        SIZE
-    }
-
-    fn length(&self) -> u64 {
-        self.bytes.len() as u64
-    }
-
-    fn read(&mut self, n: u32, buf: &mut [u8]) -> Result<(), Refused> {
-        fill_from(buf, &self.bytes, n as usize * SIZE);
-        Ok(())
-    }
-
-    fn write(&mut self, n: u32, bytes: &[u8]) -> Result<(), Refused> {
-        put_from(&mut self.bytes, n as usize * SIZE, bytes);
-        Ok(())
-    }
-
-    fn reserve(&mut self, blocks: u32) -> Result<(), Refused> {
-        if blocks <= self.room {
-            return Ok(());
-        }
-        if self.is_next_refused() {
-            return Err(Refused::Memory);
-        }
-        self.room = blocks;
-        Ok(())
-    }
-
-    fn grow(&mut self, blocks: u32) -> Result<(), Refused> {
-        if blocks > self.room && self.is_next_refused() {
-            return Err(Refused::Memory);
-        }
-        lengthen(&mut self.bytes, blocks);
-        self.room = self.room.saturating_sub(blocks);
-        Ok(())
-    }
-}
-
-/// The sample in such a store.
+/// The sample in a store in which a growth finds no memory.
 fn sample_sparing(alloc: Global, refused: u32) -> Result<Sparing, AllocError> {
     let Some(store) = sample(alloc) else {
         return Err(AllocError);
     };
-    Ok(Sparing {
-        bytes: store.into_bytes(),
-        room: 0,
-        growths: 0,
-        refused,
-    })
+    Ok(Sparing::new(store.into_bytes(), refused))
 }
 
 /// How many segments are put in, books and courses by turns: they take several blocks.
 const SEGMENTS: u8 = 24;
 
 /// A call of a function with arguments and an area.
-fn plain_call(
+pub(crate) fn plain_call(
     alloc: Global,
     func: &[u8; 4],
     ssas: &[&[u8]],
@@ -156,7 +54,7 @@ fn insertion(alloc: Global, number: u8) -> Result<Call, AllocError> {
 
 /// What a call by the first PCB comes to.
 #[derive(Clone, Copy, Debug, PartialEq, Eq)]
-enum Made {
+pub(crate) enum Made {
     /// Two blanks.
     Done,
     Memory,
@@ -164,7 +62,11 @@ enum Made {
 }
 
 /// Makes a call by the first PCB.
-fn make<S: BlockStore>(session: &mut Session<'_, S>, call: &Call, io: &mut IoArea) -> Made
+pub(crate) fn make<S: BlockStore>(
+    session: &mut Session<'_, S>,
+    call: &Call,
+    io: &mut IoArea,
+) -> Made
     requires one { 0 < length session.old.pcbs }
     requires room { longest_path session.old.database.types ≤ io.old.room }
     ensures same { (session.new.pcbs ≡ session.old.pcbs) × (session.new.database ≡ session.old.database) }

@@ -14,7 +14,13 @@ mod giving_tests;
 #[cfg(test)]
 mod growth_tests;
 #[cfg(test)]
+mod lengthening_tests;
+#[cfg(test)]
 mod listed_calls;
+#[cfg(test)]
+mod long_rows;
+#[cfg(test)]
+mod moving_tests;
 #[cfg(test)]
 mod opening_tests;
 #[cfg(test)]
@@ -23,5 +29,7 @@ mod playing_tests;
 mod refusal_tests;
 #[cfg(test)]
 mod run_tests;
+#[cfg(test)]
+mod stores;
 #[cfg(test)]
 mod varying_tests;

@@ -32,13 +32,13 @@ fn seen(alloc: Global) -> Option<Vec<Sens>> {
     Some(sens)
 }
 
-/// A program of two PCBs that see the books; `None` where there is no memory for it.
-pub(crate) fn program(alloc: Global, dbd: &Dbd) -> Option<Psb>
+/// A program of two PCBs of these letters that see the books; `None` where there is no memory for it.
+pub(crate) fn program_of(alloc: Global, dbd: &Dbd, letters: &str) -> Option<Psb>
     ensures { IfSome result (λ psb. psb.made_for ≡ type_names dbd.now.types) }
 {
     let mut pcbs = Vec::new(alloc);
     for _ in 0..2 {
-        let procopt = String::from_str(alloc, "A").ok()?;
+        let procopt = String::from_str(alloc, letters).ok()?;
         pcbs.push(Pcb {
             procopt,
             sens: seen(alloc)?,
@@ -46,6 +46,13 @@ pub(crate) fn program(alloc: Global, dbd: &Dbd) -> Option<Psb>
         .ok()?;
     }
     Psb::new(alloc, dbd, pcbs).ok()
+}
+
+/// A program of two PCBs that see the books; `None` where there is no memory for it.
+pub(crate) fn program(alloc: Global, dbd: &Dbd) -> Option<Psb>
+    ensures { IfSome result (λ psb. psb.made_for ≡ type_names dbd.now.types) }
+{
+    program_of(alloc, dbd, "A")
 }
 
 /// How a run ended: its calls or its fault, whether the access of the store that fails was met, and the bytes that are left.

@@ -69,7 +69,7 @@ fn played(alloc: Global, dbd: &Dbd, volume: &[u8], deck: &[u8]) -> Option<(Vec<u
 }
 
 /// What a check of a volume printed, and what on standard error; `None` where it is not read, or where there is no memory for it.
-fn checked(alloc: Global, dbd: &Dbd, volume: &[u8]) -> Option<(Vec<u8>, Vec<u8>)>
+pub(crate) fn checked(alloc: Global, dbd: &Dbd, volume: &[u8]) -> Option<(Vec<u8>, Vec<u8>)>
     requires { dbd.now.block_size ≡ 128 }
 {
     let store = MemStore::new(128, volume.to_vec(alloc).ok()?);
@@ -85,7 +85,7 @@ fn checked(alloc: Global, dbd: &Dbd, volume: &[u8]) -> Option<(Vec<u8>, Vec<u8>)
 }
 
 /// The volume of records, of 16 blocks at most.
-fn volume_of(alloc: Global, dbd: &Dbd, records: &[u8]) -> Result<Vec<u8>, AllocError>
+pub(crate) fn volume_of(alloc: Global, dbd: &Dbd, records: &[u8]) -> Result<Vec<u8>, AllocError>
     requires { dbd.now.block_size ≡ 128 }
 {
     let (volume, _) = reloaded(alloc, dbd, records, 16)?;
