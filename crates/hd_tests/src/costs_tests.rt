@@ -104,7 +104,7 @@ fn has_done(line: &[u8]) -> bool {
 }
 
 /// The accesses that the second deck makes beyond those of the first, which it begins with.
-fn more(
+pub(crate) fn more(
     alloc: Global,
     dbd: &Dbd,
     psb: &Psb,

@@ -50,6 +50,8 @@ mod random_runs;
 #[cfg(test)]
 mod random_tests;
 #[cfg(test)]
+mod replacing_costs_tests;
+#[cfg(test)]
 mod room;
 #[cfg(test)]
 mod rows;
