@@ -6,7 +6,6 @@ pub mod FirstChildren
 pub mod Keeping
 pub mod Setting
 pub mod Laying
-pub mod Exchanging
 pub mod Agreeing
 pub mod Naming
 pub mod Leafing

@@ -1,7 +1,7 @@
 -- The row of a path that is given other bytes.
 use Rattle.std.proofs.Common.{◌≡◌, ◌≢◌, ◌⊎◌, ℕ, ◌+◌, ◌<◌, ◌≤◌, List, [], length, Option, Bool, true, false, not, ◌&&◌, ◌||◌, ◌==◌, cond, refl, sym, ap, ap₂, subst, ◌∙◌, arith, inl, inr, ne_eqb, IsTrue, Ok}
 use Rattle.std.specs.Option.{option_map_or}
-use Rattle.std.proofs.lemmas.Bool.{cases_Bool, eqb-true, eq-eqb, cond-true, false≢true}
+use Rattle.std.proofs.lemmas.Bool.{cases_Bool, eqb-true, false≢true}
 use Rattle.hd_dbd.specs.Types.{SegmentType}
 use Rattle.hd_dbd.specs.Hierarchy.{Database}
 use Rattle.hd_dbd.specs.Segment.{Segment}
@@ -14,7 +14,7 @@ use Rattle.hd_links.specs.Links.{Links, IsSegment, is_child_type}
 use Rattle.hd_links.specs.Placed.{Placed, Holds}
 use Rattle.hd_links.specs.Steps.{LeadsDown}
 use Rattle.hd_links.specs.Changes.{Agree, replaced, with_bytes, CanUnlink, CanReplace}
-use Rattle.hd_links.specs.Moves.{moved_to, moved_from, moved_with, with_address, CanMove}
+use Rattle.hd_links.specs.Moves.{moved_from, moved_with, with_address, CanMove}
 use Rattle.hd_links.proofs.Places.{twin_named}
 use Rattle.hd_links.proofs.Replacing.{bytes_held}
 use Rattle.hd_links.proofs.MovingWith.{no_parent, no_ring, moved_held}
@@ -23,7 +23,7 @@ use Rattle.hd_image.specs.Laws.{IsDatabase}
 use Rattle.hd_image.proofs.Found.{segment-found, stored-found}
 use Rattle.hd_forest.specs.Walks.{tip, parent_on, HasForest}
 use Rattle.hd_forest.specs.Sets.{named, IsTwinPlace, KeepsBlocks, IsRecorded}
-use Rattle.hd_forest.specs.Rewrites.{set_at, room_of, IsRoomTaken, IsSegmentSet, IsRowSet}
+use Rattle.hd_forest.specs.Replacing.{set_at, room_of, IsRoomTaken, IsSegmentSet, IsRowSet}
 use Rattle.hd_forest.proofs.Held.{Held, held, last-below}
 use Rattle.hd_forest.proofs.Tips.{IsBelow}
 use Rattle.hd_forest.proofs.UnlinkSpan.{place-before}

@@ -1,5 +1,5 @@
 -- A segment that is given other bytes.
-use Rattle.std.proofs.Common.{◌≡◌, ◌≢◌, ℕ, ◌+◌, ◌-◌, ◌<◌, ◌≤◌, List, length, Bool, true, false, not, ◌&&◌, ◌||◌, ◌==◌, cond, refl, sym, ap, ap₂, subst, ◌∙◌, arith, Some, IsTrue}
+use Rattle.std.proofs.Common.{◌≡◌, ℕ, ◌+◌, ◌-◌, ◌<◌, ◌≤◌, List, length, Bool, true, false, not, ◌&&◌, ◌||◌, ◌==◌, cond, refl, sym, ap, ap₂, subst, ◌∙◌, arith, IsTrue}
 use Rattle.hd_dbd.specs.declared.hierarchy.FreeSpace.{FreeSpace}
 use Rattle.hd_dbd.specs.declared.facts.SegmentSize.{SegmentSize}
 use Rattle.hd_dbd.specs.Types.{SegmentType}
@@ -15,7 +15,6 @@ use Rattle.hd_bytes.proofs.BlockLemmas.{length-bytes_at}
 use Rattle.hd_block.specs.Sizes.{size_at}
 use Rattle.hd_volume.specs.Volumes.{VolumeState}
 use Rattle.hd_volume.specs.Rooms.{HasHole}
-use Rattle.hd_volume.specs.Records.{find}
 use Rattle.hd_volume.specs.Calls.{HasSegment, IsRewritten}
 use Rattle.hd_volume.specs.Steps.{IsShorter}
 use Rattle.hd_volume.proofs.JoinLemmas.{AreOne, one-segments}
@@ -30,16 +29,15 @@ use Rattle.hd_prefix.proofs.NewSegments.{new_segment_is}
 use Rattle.hd_prefix.proofs.OtherBytes.{segment_with_is}
 use Rattle.hd_links.specs.Links.{Links, IsSegment}
 use Rattle.hd_links.specs.Changes.{Agree}
-use Rattle.hd_links.specs.Moves.{moved_from}
 use Rattle.hd_image.specs.Records.{stored_at, links_of, IsVolumeOf}
 use Rattle.hd_image.specs.Laws.{IsDatabase}
 use Rattle.hd_image.specs.Pointing.{with_record, without_record}
-use Rattle.hd_image.proofs.SameRecords.{SameAt, pointer_in, same-agree}
+use Rattle.hd_image.proofs.SameRecords.{pointer_in, same-agree}
 use Rattle.hd_image.proofs.Saying.{SaysOf, found-says}
 use Rattle.hd_image.proofs.Puts.{not-here, rewriting-replaces}
 use Rattle.hd_image.proofs.Found.{HasSegmentOf, segment-found, stored-found}
 use Rattle.hd_image.proofs.RowSizes.{row-takes}
-use Rattle.hd_forest.specs.Rewrites.{room_of, Outgrows, IsRowSegment, set_at, IsSegmentSet}
+use Rattle.hd_forest.specs.Replacing.{room_of, Outgrows, IsRowSegment, set_at, IsSegmentSet}
 use Rattle.hd_forest.proofs.Keeping.{rest-rewritten, count-rewritten}
 use Rattle.hd_forest.proofs.Agreeing.{agree-trans}
 

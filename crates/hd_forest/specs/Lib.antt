@@ -6,6 +6,6 @@ pub mod Children
 pub mod Updates
 pub mod Sets
 pub mod Leaves
-pub mod Rewrites
+pub mod Replacing
 pub mod Spans
 pub mod Laws

@@ -11,7 +11,7 @@ use Rattle.hd_volume.specs.Rooms.{spare, HasHole}
 use Rattle.hd_volume.specs.Calls.{KeepsIndex, KeepsHoles}
 use Rattle.hd_links.specs.Links.{Links}
 use Rattle.hd_links.specs.Placed.{Placed, Holds}
-use Rattle.hd_links.specs.Changes.{Agree, linked, unlinked, replaced, with_leaf, without_span, with_bytes, CanLink, CanUnlink}
+use Rattle.hd_links.specs.Changes.{Agree, linked, unlinked, with_leaf, without_span, CanLink, CanUnlink}
 use Rattle.hd_image.specs.Records.{links_of, IsVolumeOf}
 use Rattle.hd_forest.specs.Walks.{tip, parent_on}
 
@@ -51,16 +51,6 @@ pub record IsUnlinked (d : Database) (old : VolumeState) (path : List ℕ) (new 
   pub records : (f : Forest Placed) → Holds d.types (links_of d.types old) f → (y : ℕ) × CanUnlink d.types (links_of d.types old) (parent_on path) y (tip path)
       × Agree d.types (unlinked (links_of d.types old) (parent_on path) y (tip path) (without_span (parent_on path) (tip path) f)) (links_of d.types new)
   pub forest : (f : Forest Placed) → Holds d.types (links_of d.types old) f → Holds d.types (links_of d.types new) (without_span (parent_on path) (tip path) f)
-  pub rest : KeepsTheRest old new
-  pub count : (header_of new.image).count ≡ (header_of old.image).count
-  pub spares : spare new ≡ spare old
-  pub holes : KeepsHoles old new
-
--- The bytes of the segment at a were replaced: in the records, and in each forest that they held.
-pub record IsReplaced (d : Database) (old : VolumeState) (a : ℕ) (bytes : List ℕ) (new : VolumeState) : Type 0 where
-  pub volume : IsVolumeOf d new
-  pub records : Agree d.types (replaced (links_of d.types old) a bytes) (links_of d.types new)
-  pub forest : (f : Forest Placed) → Holds d.types (links_of d.types old) f → Holds d.types (links_of d.types new) (with_bytes a bytes f)
   pub rest : KeepsTheRest old new
   pub count : (header_of new.image).count ≡ (header_of old.image).count
   pub spares : spare new ≡ spare old

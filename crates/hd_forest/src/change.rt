@@ -1,19 +1,18 @@
-ghost use Rattle.std.specs.Prelude.{◌≡◌, ◌+◌, ◌≤◌, ◌<◌, true, length, IsTrue, IfOk, IfErr, OnOk};
+ghost use Rattle.std.specs.Prelude.{◌≡◌, ◌+◌, ◌≤◌, true, length, IsTrue, IfOk, IfErr, OnOk};
 ghost use Rattle.hd_dbd.specs.Rows.{row_fits};
 ghost use Rattle.hd_dbd.specs.Facts.{stored_sizes};
-ghost use Rattle.hd_dbd.specs.Prefixes.{prefix_length, size_with};
-ghost use Rattle.hd_dbd.specs.DatabaseRules.{well_formed};
+ghost use Rattle.hd_dbd.specs.Prefixes.{size_with};
 ghost use Rattle.hd_dbd.specs.Refusals.{OnlyDevice, OnlyRoomOrDevice};
 ghost use Rattle.hd_volume.specs.Rooms.{spare, HasHole, HasFreeBlock};
 ghost use Rattle.hd_volume.specs.Calls.{IsCall, IsRead};
-ghost use Rattle.hd_links.specs.Changes.{twin_behind, CanReplace};
+ghost use Rattle.hd_links.specs.Changes.{twin_behind};
 ghost use Rattle.hd_image.specs.Records.{links_of, IsVolumeOf};
 ghost use Rattle.hd_forest.specs.Walks.{HasForest};
 ghost use Rattle.hd_forest.specs.Sets.{named, IsTwinPlace, IsRecorded};
-ghost use Rattle.hd_forest.specs.Updates.{MayLink, IsLinked, IsReplaced};
+ghost use Rattle.hd_forest.specs.Updates.{MayLink, IsLinked};
 
 use crate::leaf::put_leaf;
-use crate::read::{code_at, first_child, next_twin};
+use crate::read::{first_child, next_twin};
 use crate::write::{set_following, set_preceding};
 use hd_dbd::{Dbd, Refused};
 use hd_volume::{BlockStore, Volume};
@@ -50,25 +49,6 @@ pub fn link<S: BlockStore>(
     let address = put_leaf(volume, dbd, after, behind, code, bytes)?;
     name_leaf(volume, dbd, parent, after, behind, code, address)?;
     Ok(address)
-}
-
-/// Replaces the bytes of a segment by as many others with the same key.
-pub fn replace<S: BlockStore>(
-    volume: &mut Volume<S>,
-    dbd: &Dbd,
-    address: u32,
-    bytes: &[u8],
-) -> Result<(), Refused>
-    requires of { IsTrue volume.old.is_sound → IsVolumeOf dbd.now volume.old }
-    requires there { IsTrue volume.old.is_sound → CanReplace dbd.now.types (links_of dbd.now.types volume.old) address bytes.now }
-    requires long { IsTrue volume.old.is_sound → length bytes.now ≡ length ((links_of dbd.now.types volume.old).bytes address) }
-    ensures call { IsCall volume.old result volume.new }
-    ensures replaced { OnOk result (IsTrue volume.old.is_sound → IsReplaced dbd.now volume.old address bytes.now volume.new) }
-    ensures refusal { OnlyDevice result }
-    ensures room { volume.new.room ≡ volume.old.room }
-{
-    let code = code_at(volume, dbd, address)?;
-    volume.write_at(address, place_of_bytes(dbd, code), bytes)
 }
 
 /// The twin behind a twin, or the first child of a type where the twin is 0; 0 for none.
@@ -112,14 +92,4 @@ pub fn name_leaf<S: BlockStore>(
 {
     set_following(volume, dbd, parent, after, code, address)?;
     set_preceding(volume, dbd, parent, behind, code, address)
-}
-
-/// Where the bytes of a type's segments begin: behind the prefix, and behind the code where there is no such type.
-fn place_of_bytes(dbd: &Dbd, code: u8) -> usize
-    ensures value { 0 < prefix_length dbd.now.types code → result ≡ prefix_length dbd.now.types code }
-    ensures some { 0 < result }
-    ensures fit { IsTrue (well_formed dbd.now.block_size dbd.now.frspc dbd.now.types) }
-{
-    let _ = dbd.types();
-    dbd.prefix_length(code).max(1) as usize
 }

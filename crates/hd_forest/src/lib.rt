@@ -7,21 +7,21 @@ mod law;
 mod leaf;
 mod path;
 mod read;
-mod rewriting;
+mod replacing;
 mod row;
 mod twins;
 mod unlink;
 mod walk;
 mod write;
 
-pub use change::{link, replace};
+pub use change::link;
 pub use children::last_child_type;
 pub use law::{law_steps_go_to_rows, law_walking_gives_the_sequence};
 pub use path::Path;
 pub use read::{
     code_at, first_child, last_child, last_twin, next_twin, parent_on, prev_twin, tip_of,
 };
-pub use rewriting::rewrite;
+pub use replacing::replace;
 pub use row::bytes_in;
 pub use twins::{TwinPlaces, forward_in, key_at, twin_from, twin_places};
 pub use unlink::unlink_span;

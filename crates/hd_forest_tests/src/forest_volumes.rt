@@ -2,7 +2,7 @@ ghost use Rattle.std.specs.Prelude.{◌≡◌, ◌<◌, false, IfOk};
 ghost use Rattle.hd_dbd.specs.Facts.{stored_sizes};
 
 use hd_dbd::{Dbd, DbdFault, FreeSpace, Name8, Refused, SegType};
-use hd_forest::{Path, last_child, link, replace, rewrite};
+use hd_forest::{Path, last_child, link, replace};
 use hd_sample::segment_type;
 use hd_volume::{BlockStore, FileStore, FuseStore, Volume};
 use std::alloc::{AllocError, Global};
@@ -139,7 +139,7 @@ fn link_last<S: BlockStore>(
 }
 
 /// Gives the book of the sample, below the first root, other bytes, and says where it then stands; `Area` says that they do not fit its type.
-fn rewrite_book<S: BlockStore>(volume: &mut Volume<S>, dbd: &Dbd, book: u32) -> Result<u32, Refused>
+fn replace_book<S: BlockStore>(volume: &mut Volume<S>, dbd: &Dbd, book: u32) -> Result<u32, Refused>
     requires unsound { volume.old.is_sound ≡ false }
     requires sizes { volume.old.sizes ≡ stored_sizes dbd.now.types }
     ensures unsound { volume.new.is_sound ≡ false }
@@ -152,7 +152,7 @@ fn rewrite_book<S: BlockStore>(volume: &mut Volume<S>, dbd: &Dbd, book: u32) -> 
     let mut path = Path::new();
     path.push(136);
     path.push(book);
-    rewrite(volume, dbd, &path, 4, bytes)
+    replace(volume, dbd, &path, 4, bytes)
 }
 
 /// What a test does to a new volume.
@@ -160,7 +160,6 @@ fn rewrite_book<S: BlockStore>(volume: &mut Volume<S>, dbd: &Dbd, book: u32) -> 
 pub enum Work {
     Sample,
     Replaced,
-    Rewritten,
     Kinds,
     Behind(u32),
     First(u32),
@@ -178,8 +177,7 @@ fn perform<S: BlockStore>(volume: &mut Volume<S>, dbd: &Dbd, work: Work) -> Resu
     }
     let book = link_sample(volume, dbd)?;
     match work {
-        Work::Replaced => replace(volume, dbd, book, b"GAUSS").map(|_| book),
-        Work::Rewritten => rewrite_book(volume, dbd, book),
+        Work::Replaced => replace_book(volume, dbd, book),
         Work::Behind(count) => link_behind(volume, dbd, 280, count),
         Work::First(count) => link_first(volume, dbd, 280, count),
         Work::Last(count) => link_last(volume, dbd, 280, count),

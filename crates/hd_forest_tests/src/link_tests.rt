@@ -56,15 +56,13 @@ fn replaces_the_bytes_of_a_row(rt: HostRuntime) -> Result<(), Fail> {
     let dbd = database(rt.alloc()).expect(&rt, "a database");
     let mut want = second_block();
     want[18..23].copy_from_slice(b"GAUSS");
-    for work in [Work::Replaced, Work::Rewritten] {
-        let file = new_file(&rt, "replaced")?;
-        let (answer, _) = work_on(rt.alloc(), file, &dbd, work, u64::MAX)?;
-        assert_eq!(rt; answer, Ok(264));
-        let image = fs::read(&rt, "replaced")?;
-        assert_eq!(rt; image.get(128..256), Some(first_block().as_slice()));
-        assert_eq!(rt; image.get(256..), Some(want.as_slice()));
-        fs::remove_file(&rt, "replaced")?;
-    }
+    let file = new_file(&rt, "replaced")?;
+    let (answer, _) = work_on(rt.alloc(), file, &dbd, Work::Replaced, u64::MAX)?;
+    assert_eq!(rt; answer, Ok(264));
+    let image = fs::read(&rt, "replaced")?;
+    assert_eq!(rt; image.get(128..256), Some(first_block().as_slice()));
+    assert_eq!(rt; image.get(256..), Some(want.as_slice()));
+    fs::remove_file(&rt, "replaced")?;
     Ok(())
 }
 

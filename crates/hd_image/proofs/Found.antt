@@ -101,12 +101,6 @@ pub found-whole : (d : Database) (v : VolumeState) (a : ℕ) (s : List ℕ) → 
 unfolding found-of
 found-whole d v a s fit of is = (found-of d v a s fit of is).whole
 
--- and takes as many bytes as these
-pub found-size : (d : Database) (v : VolumeState) (a : ℕ) (s : List ℕ) → IsDatabase d → IsVolumeOf d v → find v a ≡ Some s
-    → length s ≡ size_with d.types (code_of s) (length_of d.types (code_of s) s)
-unfolding found-of
-found-size d v a s fit of is = (found-of d v a s fit of is).size
-
 -- a whole segment that has the code and the own length of another takes as many bytes
 size-alike : (d : Database) (v : VolumeState) (a : ℕ) (s t : List ℕ) → IsDatabase d → IsVolumeOf d v → find v a ≡ Some s → slice_index t 0 ≡ slice_index s 0
     → ((k : ℕ) → k < 2 → slice_index (drop (prefix_length d.types (code_of s)) t) k ≡ slice_index (drop (prefix_length d.types (code_of s)) s) k)

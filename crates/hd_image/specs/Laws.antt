@@ -1,12 +1,10 @@
 -- Laws of the records of a volume.
-use Rattle.std.specs.Prelude.{◌≡◌, ℕ, List, length, true, Some, IsTrue, ◌<◌}
+use Rattle.std.specs.Prelude.{◌≡◌, ℕ, List, length, Some, IsTrue, ◌<◌}
 use Rattle.hd_bytes.specs.Numbers.{number_at}
 use Rattle.hd_dbd.specs.Types.{SegmentType}
 use Rattle.hd_dbd.specs.Hierarchy.{Database}
 use Rattle.hd_dbd.specs.DatabaseRules.{well_formed}
 use Rattle.hd_dbd.specs.Segment.{Segment}
-use Rattle.hd_dbd.specs.Prefixes.{prefix_length}
-use Rattle.hd_dbd.specs.Rows.{row_fits}
 use Rattle.hd_dbd.specs.Facts.{stored_sizes}
 use Rattle.hd_dbd.specs.Forest.{Forest, empty}
 use Rattle.hd_volume.specs.Headers.{header_of}
@@ -71,14 +69,6 @@ abbrev pub RewritingReplacesARecord : Type 0
 RewritingReplacesARecord =
     (types : List SegmentType) (v w : VolumeState) (a to : ℕ) (segment : List ℕ) → IsSegment (links_of types v) a → IsRewritten v a to segment w
     → (0 < to) × Agree types (with_record types (without_record (links_of types v) a) to segment) (links_of types w)
-
--- A row's bytes that were written behind a segment's prefix, as many as it has, change its bytes alone.
-abbrev pub WritingReplacesBytes : Type 0
-WritingReplacesBytes =
-    (d : Database) (v w : VolumeState) (a : ℕ) (bytes : List ℕ) → IsDatabase d → IsVolumeOf d v → IsVolumeOf d w
-    → IsSegment (links_of d.types v) a → row_fits d.types (record { code = (links_of d.types v).code a; bytes = bytes }) ≡ true
-    → length bytes ≡ length ((links_of d.types v).bytes a) → IsWritten v a (prefix_length d.types ((links_of d.types v).code a)) bytes w
-    → Agree d.types (replaced (links_of d.types v) a bytes) (links_of d.types w)
 
 -- A volume holds one forest of a database at most.
 abbrev pub AVolumeHoldsOneForest : Type 0

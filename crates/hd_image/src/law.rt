@@ -1,4 +1,4 @@
-ghost use Rattle.hd_image.specs.Laws.{RecordsAreALinkGraph, RecordsStay, WritingSetsAPointer, SettingARootSetsAPointer, PuttingAddsARecord, FreeingTakesARecord, RewritingReplacesARecord, NewVolumesAreEmpty, WritingReplacesBytes, AVolumeHoldsOneForest, RowsOfAVolumeAreFew};
+ghost use Rattle.hd_image.specs.Laws.{RecordsAreALinkGraph, RecordsStay, WritingSetsAPointer, SettingARootSetsAPointer, PuttingAddsARecord, FreeingTakesARecord, RewritingReplacesARecord, NewVolumesAreEmpty, AVolumeHoldsOneForest, RowsOfAVolumeAreFew};
 ghost use Rattle.hd_image.specs.Exact.{RightVolumesHoldAForest, HeldForestsHaveNoFault};
 
 /// The records of a database's volume are a link graph, whose addresses are places in its image.
@@ -19,11 +19,6 @@ pub fn law_writing_sets_a_pointer()
 /// A root that was set in the header is its first or last child.
 pub fn law_setting_a_root_sets_a_pointer()
     ensures { SettingARootSetsAPointer }
-{}
-
-/// A row's bytes that were written behind a segment's prefix change its bytes alone.
-pub fn law_writing_replaces_bytes()
-    ensures { WritingReplacesBytes }
 {}
 
 /// A segment that was put is one record more.

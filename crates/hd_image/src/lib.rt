@@ -10,7 +10,6 @@ pub use law::{
     law_a_volume_holds_one_forest, law_freeing_takes_a_record, law_held_forests_have_no_fault,
     law_new_volumes_are_empty, law_putting_adds_a_record, law_records_are_a_link_graph,
     law_records_stay, law_rewriting_replaces_a_record, law_right_volumes_hold_a_forest,
-    law_rows_of_a_volume_are_few, law_setting_a_root_sets_a_pointer, law_writing_replaces_bytes,
-    law_writing_sets_a_pointer,
+    law_rows_of_a_volume_are_few, law_setting_a_root_sets_a_pointer, law_writing_sets_a_pointer,
 };
 pub use line::Line;

@@ -8,7 +8,7 @@ pub mod Rooms
 pub mod VolumeImages
 pub mod Leaves
 pub mod NewPaths
-pub mod RowChanges
+pub mod Deletions
 pub mod Holes
 pub mod SetEntries
 pub mod SetRows

@@ -29,7 +29,7 @@ use Rattle.hd_links.proofs.RowChanges.{bytes_in}
 use Rattle.hd_image.specs.Records.{links_of}
 use Rattle.hd_image.specs.Holding.{root_entries, HoldsPlaced}
 use Rattle.hd_forest.specs.Walks.{tip}
-use Rattle.hd_forest.specs.Rewrites.{IsRowSet}
+use Rattle.hd_forest.specs.Replacing.{IsRowSet}
 use Rattle.hd_forest.proofs.RowsSet.{at-own}
 use Rattle.hd_index.specs.Maps as map
 use Rattle.hd_index.specs.Changes.{entries_for}
@@ -38,7 +38,6 @@ use Rattle.hd_keeping.specs.SetRows.{KeepsEntry, SetRowIsHeld, SetRootIsHeld, Ar
 use Rattle.hd_keeping.proofs.SetEntries.{entries-stay, entries-set, entries-with}
 use Rattle.hd_keeping.proofs.Volumes.{rest-stays, held, entered, index-changes}
 use Rattle.hd_keeping.proofs.VolumeImages.{follow}
-use Rattle.hd_keeping.proofs.RowChanges.{rewrite-more}
 
 -- ---- one row
 
@@ -62,6 +61,12 @@ set-root-held d v w x f path row to H can I code E =
     ∙ sym (entries-with d v f H (tip path) to row.bytes can ∙ entries-set d v f H (tip path) to can.there code))
 
 -- ---- rows that are rewritten
+
+-- one more at the end
+pub rewrite-more : (ws : List Rewrite) (w : Rewrite) (rows : List Segment)
+    → rewrite_rows (ws ++ w ∷ []) rows ≡ slice_set (rewrite_rows ws rows) w.number (record { code = (row_at (rewrite_rows ws rows) w.number).code; bytes = w.bytes })
+rewrite-more [] w rows = refl
+rewrite-more (v ∷ ws) w rows = rewrite-more ws w (slice_set rows v.number (record { code = (row_at rows v.number).code; bytes = v.bytes }))
 
 -- as many rows
 pub rewrite-length : (ws : List Rewrite) (rows : List Segment) → length (rewrite_rows ws rows) ≡ length rows

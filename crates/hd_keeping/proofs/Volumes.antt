@@ -13,7 +13,7 @@ use Rattle.hd_levels.proofs.StayingSets.{indexes-stay}
 use Rattle.hd_levels.proofs.Versions.{formatted-of}
 use Rattle.hd_links.specs.Links.{Links, IsLinkGraph, IsSegment, is_child_type, segment_at}
 use Rattle.hd_links.specs.Placed.{Placed, nowhere, Holds}
-use Rattle.hd_links.specs.Changes.{Agree, put_first, put_behind, take_out, with_leaf, without_span, with_bytes, CanUnlink}
+use Rattle.hd_links.specs.Changes.{Agree, put_first, put_behind, take_out, with_leaf, without_span, CanUnlink}
 use Rattle.hd_links.proofs.Touch.{frame}
 use Rattle.hd_image.specs.Records.{links_of, IsVolumeOf}
 use Rattle.hd_image.specs.BlockFaults.{IsKnownVersion}
@@ -25,7 +25,7 @@ use Rattle.hd_forest.specs.Updates.{MayLink, KeepsTheRest}
 use Rattle.hd_index.specs.Maps.{address_of, with_entry, without_key}
 use Rattle.hd_index.specs.Changes.{entries_for, IsIndexChange}
 use Rattle.hd_keeping.specs.Entered.{entry_of, HoldsWith}
-use Rattle.hd_keeping.specs.Laws.{ChangesBelowKeepEntries, ReplacingKeepsEntries, HeldIsEntered, ForestChangesKeepEntries, IndexChangesKeepTheForest, ReplacedIsHeld, LinkedBelowIsHeld, LinkedRootIsNew, LinkedRootIsHeld, EnteredRootIsHeld, UnlinkedBelowIsHeld, UnlinkedRootIsHeld, RemovedRootIsHeld}
+use Rattle.hd_keeping.specs.Laws.{ChangesBelowKeepEntries, ReplacingKeepsEntries, HeldIsEntered, ForestChangesKeepEntries, IndexChangesKeepTheForest, LinkedBelowIsHeld, LinkedRootIsNew, LinkedRootIsHeld, EnteredRootIsHeld, UnlinkedBelowIsHeld, UnlinkedRootIsHeld, RemovedRootIsHeld}
 use Rattle.hd_keeping.proofs.Entries.{children-keep, bytes-keep}
 use Rattle.hd_keeping.proofs.RootEntries.{linking-enters, unlinking-removes, gone-there}
 
@@ -69,7 +69,6 @@ pub forest-changes : ForestChangesKeepEntries
 forest-changes d v w f es H = (
   λ h y a row I. rest-stays d v w f (with_leaf h y (record { address = a; segment = row }) f) es H I.volume I.rest (I.forest f H.records),
   λ path I. rest-stays d v w f (without_span (parent_on path) (tip path) f) es H I.volume I.rest (I.forest f H.records),
-  λ a bytes I. rest-stays d v w f (with_bytes a bytes f) es H I.volume I.rest (I.forest f H.records),
 )
 
 -- records that agree hold the same forest
@@ -103,11 +102,6 @@ index-changes d v w f before after more H E = record {
 }
 
 -- ---- a change that is done
-
-pub replaced-held : ReplacedIsHeld
-replaced-held d v w f a bytes H C I =
-    held d w (with_bytes a bytes f) (root_entries d.types f) ((forest-changes d v w f (root_entries d.types f) (entered d v f H)).2 a bytes I)
-    (sym (replacing-keeps d.types (links_of d.types v) f a bytes H.records C))
 
 pub linked-below : LinkedBelowIsHeld
 linked-below d v w f h y a row H some I =

@@ -15,7 +15,7 @@ use Rattle.hd_links.specs.Changes.{with_leaf, without_span, with_bytes, CanLink,
 use Rattle.hd_image.specs.Records.{links_of}
 use Rattle.hd_image.specs.Holding.{root_entries, HoldsPlaced}
 use Rattle.hd_forest.specs.Walks.{tip, parent_on}
-use Rattle.hd_forest.specs.Updates.{MayLink, IsLinked, IsUnlinked, IsReplaced}
+use Rattle.hd_forest.specs.Updates.{MayLink, IsLinked, IsUnlinked}
 use Rattle.hd_index.specs.Maps.{address_of, with_entry, without_key}
 use Rattle.hd_index.specs.Changes.{IsIndexOf, entries_for}
 use Rattle.hd_keeping.specs.Entered.{entry_of, HoldsWith, IsEntered}
@@ -58,13 +58,12 @@ HeldIsEntered =
     (d : Database) (v : VolumeState) (f : Forest Placed)
     → (HoldsPlaced d v f → HoldsWith d v f (root_entries d.types f)) × (HoldsWith d v f (root_entries d.types f) → HoldsPlaced d v f)
 
--- Linking, unlinking and replacing change the forest, and no entry.
+-- Linking and unlinking change the forest, and no entry.
 abbrev pub ForestChangesKeepEntries : Type 0
 ForestChangesKeepEntries =
     (d : Database) (v w : VolumeState) (f : Forest Placed) (es : List Entry) → HoldsWith d v f es
     → ((h y a : ℕ) (row : Segment) → IsLinked d v h y row a w → HoldsWith d w (with_leaf h y (record { address = a; segment = row }) f) es)
     × ((path : List ℕ) → IsUnlinked d v path w → HoldsWith d w (without_span (parent_on path) (tip path) f) es)
-    × ((a : ℕ) (bytes : List ℕ) → IsReplaced d v a bytes w → HoldsWith d w (with_bytes a bytes f) es)
 
 -- A change of the index changes the entries, and not the forest.
 abbrev pub IndexChangesKeepTheForest : Type 0
@@ -73,12 +72,6 @@ IndexChangesKeepTheForest =
     → HoldsWith d v f before → IsEntered d v after more w → HoldsWith d w f after
 
 -- ---- a change that is done
-
--- A volume in which a segment has other bytes of the same key holds the forest with these.
-abbrev pub ReplacedIsHeld : Type 0
-ReplacedIsHeld =
-    (d : Database) (v w : VolumeState) (f : Forest Placed) (a : ℕ) (bytes : List ℕ) → HoldsPlaced d v f
-    → CanReplace d.types (links_of d.types v) a bytes → IsReplaced d v a bytes w → HoldsPlaced d w (with_bytes a bytes f)
 
 -- A volume in which a row was linked below another holds the forest with it.
 abbrev pub LinkedBelowIsHeld : Type 0

@@ -5,5 +5,5 @@ pub mod Laws
 pub mod Rooms
 pub mod VolumeImages
 pub mod NewPaths
-pub mod RowChanges
+pub mod Deletions
 pub mod SetRows

@@ -15,7 +15,7 @@ use Rattle.hd_links.specs.Placed.{Placed}
 use Rattle.hd_image.specs.Holding.{HoldsPlaced}
 use Rattle.hd_forest.specs.Walks.{tip}
 use Rattle.hd_forest.specs.Updates.{IsLinked}
-use Rattle.hd_forest.specs.Rewrites.{IsRowSet}
+use Rattle.hd_forest.specs.Replacing.{IsRowSet}
 use Rattle.hd_index.specs.Places.{blocks_needed}
 use Rattle.hd_keeping.specs.Entered.{IsEntered}
 

@@ -1,10 +1,10 @@
 ghost use Rattle.hd_keeping.specs.Found.{RootsAreOfTheFirstType, RootsStandAlone, RootKeysAreWhole, RootsAscend, IndexAnswersRoots, FirstRootsFollowLesser};
-ghost use Rattle.hd_keeping.specs.Laws.{ChangesBelowKeepEntries, ReplacingKeepsEntries, LinkingEntersRoots, UnlinkingRemovesRoots, HeldIsEntered, ForestChangesKeepEntries, IndexChangesKeepTheForest, ReplacedIsHeld, LinkedBelowIsHeld, LinkedRootIsNew, LinkedRootIsHeld, EnteredRootIsHeld, UnlinkedBelowIsHeld, UnlinkedRootIsHeld, RemovedRootIsHeld};
+ghost use Rattle.hd_keeping.specs.Laws.{ChangesBelowKeepEntries, ReplacingKeepsEntries, LinkingEntersRoots, UnlinkingRemovesRoots, HeldIsEntered, ForestChangesKeepEntries, IndexChangesKeepTheForest, LinkedBelowIsHeld, LinkedRootIsNew, LinkedRootIsHeld, EnteredRootIsHeld, UnlinkedBelowIsHeld, UnlinkedRootIsHeld, RemovedRootIsHeld};
 ghost use Rattle.hd_keeping.specs.Rooms.{FirstRowsFindRoom, RoomLasts, FirstRootsFindRoom, RootEntriesFindRoom, RootRoomLasts, SetRowsLeaveRoom, SameEntriesLeaveRoom, OneImageIsOneVolume};
 ghost use Rattle.hd_keeping.specs.VolumeImages.{VolumesHoldTheirRows, VolumesHaveTheirRoom, LackingRoomIsTheRule, VolumesFollow};
 ghost use Rattle.hd_keeping.specs.NewPaths.{LeavesTakeAChild, FirstChildrenGoInNext, PathsBeginBelowRows, PathsBeginWithRoots, PathsGoOn, PathsAreInsertions};
 ghost use Rattle.hd_keeping.specs.SetRows.{SetRowIsHeld, SetRootIsHeld, SettingBegins, SettingGoesOn, SettingFollows};
-ghost use Rattle.hd_keeping.specs.RowChanges.{RewritingBegins, RewritingGoesOn, RewritingFollows, UnlinkedSpansAreDeleted, UnlinkedRootsAreDeleted};
+ghost use Rattle.hd_keeping.specs.Deletions.{UnlinkedSpansAreDeleted, UnlinkedRootsAreDeleted};
 
 /// Roots are the rows of the first level, the path of each is the root alone, and its key is as long as those of the index.
 pub fn law_roots_are_of_the_first_type()
@@ -47,7 +47,6 @@ pub fn law_changes_are_apart()
 
 /// After each change a volume holds the forest so changed: a root's, once both of its steps are done.
 pub fn law_changed_volumes_hold()
-    ensures replaced { ReplacedIsHeld }
     ensures linked { LinkedBelowIsHeld }
     ensures linked_new { LinkedRootIsNew }
     ensures linked_root { LinkedRootIsHeld }
@@ -106,13 +105,6 @@ pub fn law_paths_go_in_together()
     ensures roots { PathsBeginWithRoots }
     ensures more { PathsGoOn }
     ensures insertion { PathsAreInsertions }
-{}
-
-/// Rows that are replaced one after the other are a replacement of them all.
-pub fn law_replacements_add_up()
-    ensures begin { RewritingBegins }
-    ensures more { RewritingGoesOn }
-    ensures follows { RewritingFollows }
 {}
 
 /// A row that got other bytes, in its place or elsewhere, is held with these: a root that moved, once its key has its address in the index.

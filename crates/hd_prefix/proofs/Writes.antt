@@ -2,17 +2,17 @@
 use Rattle.std.proofs.Common.{◌≡◌, ℕ, suc, ◌+◌, ◌*◌, ◌^◌, slice_index, ◌<◌, ◌≤◌, ◌≢◌, ◌⊎◌, List, length, take, drop, ◌-◌, arith, ap, sym, ◌∙◌, refl, subst, Option, Some, None, inl, inr}
 use Rattle.std.specs.Prelude.{IfSome, OnSome, MatchOption}
 use Rattle.std.specs.Option.{option_map_or}
-use Rattle.std.proofs.lemmas.List.{ext_get_or, length-drop, get_or-drop, get_or-take}
+use Rattle.std.proofs.lemmas.List.{ext_get_or, length-drop, get_or-drop}
 use Rattle.hd_bytes.specs.Ranges.{bytes_at, with_bytes, ChangesOnly}
 use Rattle.hd_bytes.specs.Numbers.{number_at}
 use Rattle.hd_bytes.proofs.NumberLemmas.{number-below, number-above, changes-with, length-with}
-use Rattle.hd_bytes.proofs.BlockLemmas.{byte-at, bytes-with, agree-bytes_at, agree-changed}
+use Rattle.hd_bytes.proofs.BlockLemmas.{byte-at, bytes-with}
 use Rattle.hd_dbd.specs.Types.{SegmentType}
 use Rattle.hd_dbd.specs.Lengths.{length_in}
 use Rattle.hd_dbd.specs.Prefixes.{prefix_length}
 use Rattle.hd_prefix.specs.declared.pointer.Pointer.{Pointer}
 use Rattle.hd_prefix.specs.Pointers.{place_of, IsApart}
-use Rattle.hd_prefix.specs.Fields.{pointer_of, length_of, bytes_of, IsPointerSet, IsBytesSet}
+use Rattle.hd_prefix.specs.Fields.{pointer_of, bytes_of, IsPointerSet}
 
 -- the address in a pointer that is kept
 pub pointer_at : (types : List SegmentType) (c : ℕ) (pointer : Pointer) (x : ℕ) (segment : List ℕ) → place_of types c pointer ≡ Some x
@@ -98,30 +98,6 @@ pointer_with types c pointer x bytes old is inside apart long four =
   where
     sums : (x p l b : ℕ) → x + 4 ≤ p → p ≤ l → b ≡ 4 → x + b ≤ l
     sums x p l b e f g = omega arith
-
--- a row's bytes that are put behind the prefix
-pub bytes_with : (types : List SegmentType) (c : ℕ) (bytes old : List ℕ) → 2 ≤ prefix_length types c
-    → ((behind : List ℕ) → ((k : ℕ) → k < length bytes → slice_index behind k ≡ slice_index bytes k) → length_in types c behind ≡ length bytes)
-    → ((pointer : Pointer) → IfSome (place_of types c pointer) (λ x. (2 ≤ x) × (x + 4 ≤ prefix_length types c)))
-    → prefix_length types c + length bytes ≤ length old → IsBytesSet types c bytes old (with_bytes old (prefix_length types c) bytes)
-bytes_with types c bytes old low len inside room =
-    let start : ℕ = prefix_length types c in
-    let new : List ℕ = with_bytes old start bytes in
-    let there : bytes_at new start (length bytes) ≡ bytes = bytes-with old bytes start room in
-    let own : length_of types c new ≡ length bytes = len (drop start new) (λ k low. sym (get_or-take (length bytes) (drop start new) k 0 low) ∙ ap (λ (xs : List ℕ). slice_index xs k) there) in
-    let changes = changes-with old bytes start room in
-    record {
-      len = changes.len;
-      is = ap (λ (n : ℕ). bytes_at new start n) own ∙ there;
-      code = changes.below 0 (omega arith);
-      delete_byte = changes.below 1 (omega arith);
-      pointers = λ pointer. kept (length bytes) start old (with_bytes old start bytes) (place_of types c pointer) changes (inside pointer);
-    }
-  where
-    kept : (n start : ℕ) (old new : List ℕ) (o : Option ℕ) → ChangesOnly start n old new → IfSome o (λ x. (2 ≤ x) × (x + 4 ≤ start))
-        → option_map_or (λ place. number_at 4 new place) o 0 ≡ option_map_or (λ place. number_at 4 old place) o 0
-    kept n start old new None changes inside = refl
-    kept n start old new (Some x) changes inside = number_beside start n x old new changes (inr inside.1)
 
 pub on_some : {A : Type 0} (o : Option A) (x : A) (P : Type 0) → o ≡ Some x → P → OnSome o P
 on_some o x P is holds = subst (λ z. OnSome z P) (sym is) holds

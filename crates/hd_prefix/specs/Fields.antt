@@ -54,14 +54,6 @@ pub record IsPointerSet (types : List SegmentType) (c : ℕ) (pointer : Pointer)
   pub delete_byte : delete_byte_of new ≡ delete_byte_of old
   pub bytes : bytes_of types c new ≡ bytes_of types c old
 
--- A segment's own bytes were written: the code, the delete byte and every pointer are as they were.
-pub record IsBytesSet (types : List SegmentType) (c : ℕ) (bytes old new : List ℕ) : Type 0 where
-  pub len : length new ≡ length old
-  pub is : bytes_of types c new ≡ bytes
-  pub code : code_of new ≡ code_of old
-  pub delete_byte : delete_byte_of new ≡ delete_byte_of old
-  pub pointers : (pointer : Pointer) → pointer_of types c pointer new ≡ pointer_of types c pointer old
-
 -- A segment has other bytes of its own, and the size that they take: the code, the delete byte and every pointer are as they were.
 pub record IsSegmentWith (types : List SegmentType) (c : ℕ) (bytes old new : List ℕ) : Type 0 where
   pub size : length new ≡ size_with types c (length bytes)

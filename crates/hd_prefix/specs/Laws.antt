@@ -13,7 +13,7 @@ use Rattle.hd_prefix.specs.declared.pointer.Pointer.{Pointer}
 use Rattle.hd_prefix.specs.declared.pointer.Pointer.TheVariants.{TwinForward, TwinBackward, FirstChild, LastChild}
 use Rattle.hd_prefix.specs.Pointers.{is_child, place_of, IsApart}
 use Rattle.hd_dbd.specs.Prefixes.{is_backward_kept, is_last_kept}
-use Rattle.hd_prefix.specs.Fields.{pointer_of, new_segment, segment_with, IsPointerSet, IsBytesSet, IsNewSegment, IsSegmentWith}
+use Rattle.hd_prefix.specs.Fields.{pointer_of, new_segment, segment_with, IsPointerSet, IsNewSegment, IsSegmentWith}
 
 -- Each pointer stands inside the prefix, behind code and delete byte.
 abbrev pub PointersStandInside : Type 0
@@ -33,13 +33,6 @@ PointersAreSet =
     (block_size : ℕ) (frspc : FreeSpace) (types : List SegmentType) (c : ℕ) (pointer : Pointer) (place : ℕ) (bytes segment : List ℕ)
     → IsTrue (well_formed block_size frspc types) → place_of types c pointer ≡ Some place → prefix_length types c ≤ length segment → length bytes ≡ 4
     → IsPointerSet types c pointer (number_at 4 bytes 0) segment (with_bytes segment place bytes)
-
--- A row's bytes that are written behind the prefix are the segment's own bytes, and every other field stays.
-abbrev pub BytesAreSet : Type 0
-BytesAreSet =
-    (block_size : ℕ) (frspc : FreeSpace) (types : List SegmentType) (c : ℕ) (bytes segment : List ℕ)
-    → IsTrue (well_formed block_size frspc types) → row_fits types (record { code = c; bytes = bytes }) ≡ true → prefix_length types c + length bytes ≤ length segment
-    → IsBytesSet types c bytes segment (with_bytes segment (prefix_length types c) bytes)
 
 -- A row that is made a stored segment has the size that it takes, and its fields are the row's and 0.
 abbrev pub NewSegmentsAreRows : Type 0

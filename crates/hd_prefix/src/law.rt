@@ -1,4 +1,4 @@
-ghost use Rattle.hd_prefix.specs.Laws.{PointersStandInside, PointersStandApart, PointersAreSet, BytesAreSet, NewSegmentsAreRows, SegmentsTakeOtherBytes, ChildrenAreListed, PointersAreNumbers};
+ghost use Rattle.hd_prefix.specs.Laws.{PointersStandInside, PointersStandApart, PointersAreSet, NewSegmentsAreRows, SegmentsTakeOtherBytes, ChildrenAreListed, PointersAreNumbers};
 
 /// Each pointer stands inside the prefix, behind code and delete byte.
 pub fn law_pointers_stand_inside()
@@ -13,11 +13,6 @@ pub fn law_pointers_stand_apart()
 /// Four bytes that are written at the place of a pointer are its address, and every other field stays.
 pub fn law_pointers_are_set()
     ensures { PointersAreSet }
-{}
-
-/// A row's bytes that are written behind the prefix are the segment's own bytes, and every other field stays.
-pub fn law_bytes_are_set()
-    ensures { BytesAreSet }
 {}
 
 /// A row that is made a stored segment has the size that it takes, and its fields are the row's and 0.

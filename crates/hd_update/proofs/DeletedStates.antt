@@ -16,7 +16,8 @@ use Rattle.hd_image.specs.Records.{links_of}
 use Rattle.hd_forest.specs.Rows.{IsOnRow}
 use Rattle.hd_position.specs.Kept.{Kept, kept_start}
 use Rattle.hd_update.specs.Calls.{delete_effect}
-use Rattle.hd_update.specs.Deleting.{taken_row, path_up_to}
+use Rattle.hd_update.specs.Deleting.{taken_row}
+use Rattle.hd_update.specs.Paths.{path_up_to}
 use Rattle.hd_update.specs.Held.{held_row, held_rows}
 use Rattle.hd_update.specs.States.{Represents, kept_of}
 use Rattle.hd_update.specs.declared.held.HeldRow.{HeldRow}

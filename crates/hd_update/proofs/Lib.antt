@@ -6,6 +6,7 @@ pub mod Rewritten
 pub mod Standing
 pub mod Answering
 pub mod AskedStates
+pub mod CutPaths
 pub mod Taken
 pub mod AskedPaths
 pub mod RewriteRooms

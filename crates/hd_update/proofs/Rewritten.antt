@@ -34,7 +34,7 @@ use Rattle.hd_image.specs.Holding.{HoldsPlaced}
 use Rattle.hd_image.proofs.Found.{records-link}
 use Rattle.hd_volume.specs.Rooms.{spare, HasHole}
 use Rattle.hd_forest.specs.Walks.{tip}
-use Rattle.hd_forest.specs.Rewrites.{Outgrows}
+use Rattle.hd_forest.specs.Replacing.{Outgrows}
 use Rattle.hd_keeping.specs.Rooms.{HasRoomFor, HasMemoryFor}
 use Rattle.hd_keeping.specs.SetRows.{AreSet}
 use Rattle.hd_keeping.proofs.SetRows.{rewrite-length, rewrite-other, setting-begins, setting-goes-on}
@@ -42,14 +42,14 @@ use Rattle.hd_position.specs.Kept.{Kept, StandsFor, path_passed, path_before, af
 use Rattle.hd_position.proofs.Moving.{moving_keeps}
 use Rattle.hd_position.proofs.Rewriting.{rewriting_ends, rewrites_add}
 use Rattle.hd_position.proofs.Same.{passed_same}
-use Rattle.hd_update.specs.Deleting.{path_up_to}
+use Rattle.hd_update.specs.Paths.{path_up_to}
 use Rattle.hd_update.specs.Positions.{after_rewrites}
 use Rattle.hd_update.specs.Replacing.{part_for, IsInArea, AreInArea, IsRewriteOf, AreRewritesOf, MayReplace, IsReplacedTo, MayReplaceAll, AreReplaced}
 use Rattle.hd_update.specs.declared.replaced.ReplacedRow.{ReplacedRow}
 use Rattle.hd_update.specs.declared.rewrites.NewBytes.{NewBytes}
 use Rattle.hd_update.proofs.AskedPaths.{IsAtTurn, at_turn}
 use Rattle.hd_update.proofs.RewriteRooms.{stored_same, replace_refused, room_left, memory_left}
-use Rattle.hd_update.proofs.Taken.{leads_to_row}
+use Rattle.hd_update.proofs.CutPaths.{leads_to_row}
 
 -- ---- one of them
 

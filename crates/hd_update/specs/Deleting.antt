@@ -1,5 +1,5 @@
 -- A row that is deleted with all that depends on it.
-use Rattle.std.specs.Prelude.{ℕ, List, [], ◌∷◌, length, ◌==◌, cond, Option, find, slice_get, IsTrue}
+use Rattle.std.specs.Prelude.{ℕ, List, [], ◌∷◌, length, ◌==◌, Option, find, slice_get, IsTrue}
 use Rattle.hd_dbd.specs.Hierarchy.{Database}
 use Rattle.hd_dbd.specs.Forest.{Forest}
 use Rattle.hd_calls.specs.Ssas.{Ssa}
@@ -10,7 +10,7 @@ use Rattle.hd_image.specs.Records.{links_of}
 use Rattle.hd_image.specs.Holding.{HoldsPlaced}
 use Rattle.hd_forest.specs.Walks.{tip, parent_on}
 use Rattle.hd_forest.specs.Rows.{IsOnRow}
-use Rattle.hd_keeping.specs.RowChanges.{IsDeleted}
+use Rattle.hd_keeping.specs.Deletions.{IsDeleted}
 use Rattle.hd_position.specs.Laws.{MovesDown}
 use Rattle.hd_update.specs.declared.held.HeldRow.{HeldRow}
 
@@ -18,11 +18,6 @@ use Rattle.hd_update.specs.declared.held.HeldRow.{HeldRow}
 abbrev pub taken_row : List Ssa → List HeldRow → Option HeldRow
 taken_row [] held = slice_get held 0
 taken_row (a ∷ ssas) held = find (λ h. h.code == a.code) held
-
--- a path as far as to an address
-abbrev pub path_up_to : ℕ → List ℕ → List ℕ
-path_up_to a [] = []
-path_up_to a (b ∷ path) = b ∷ cond (b == a) [] (path_up_to a path)
 
 -- The sound volume holds the forest, and the path is that of its row i.
 pub record IsPlacedOn (d : Database) (v : VolumeState) (f : Forest Placed) (path : List ℕ) (i : ℕ) : Type 0 where

@@ -1,6 +1,7 @@
 pub mod States
 pub mod Held
 pub mod Positions
+pub mod Paths
 pub mod Replacing
 pub mod Calls
 pub mod Deleting

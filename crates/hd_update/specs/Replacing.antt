@@ -22,7 +22,7 @@ use Rattle.hd_links.specs.Steps.{rows_of, address_at, LeadsDown}
 use Rattle.hd_image.specs.Records.{links_of, IsVolumeOf}
 use Rattle.hd_image.specs.Holding.{HoldsPlaced}
 use Rattle.hd_forest.specs.Walks.{tip}
-use Rattle.hd_forest.specs.Rewrites.{IsRowSet}
+use Rattle.hd_forest.specs.Replacing.{IsRowSet}
 use Rattle.hd_index.specs.Maps.{with_address}
 use Rattle.hd_index.specs.Changes.{entries_for}
 use Rattle.hd_keeping.specs.Entered.{IsEntered}

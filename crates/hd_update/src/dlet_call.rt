@@ -2,11 +2,12 @@ ghost use Rattle.std.specs.Prelude.{◌≡◌, ◌<◌, ◌≤◌, ◌==◌, len
 ghost use Rattle.hd_dbd.specs.Refusals.{OnlyDevice};
 ghost use Rattle.hd_volume.specs.Calls.{IsCall};
 ghost use Rattle.hd_update.specs.States.{HasState, IsUndone};
-ghost use Rattle.hd_update.specs.Deleting.{taken_row, path_up_to};
+ghost use Rattle.hd_update.specs.Deleting.{taken_row};
 ghost use Rattle.hd_update.specs.Calls.{IsDeleteDone, HasPath, IsRowDeleted};
 
 use crate::deleting::delete_span;
 use crate::held::{HeldRow, held_rows};
+use crate::paths::path_up_to;
 use crate::positions::{end_hold, leave_spans};
 use hd_dbd::{Dbd, Refused, Status};
 use hd_forest::Path;
@@ -64,20 +65,6 @@ pub fn taken_row(ssas: &[ResolvedSsa<'_>], held: &[HeldRow]) -> Option<HeldRow>
         Some(ssa) => first_of_type(held, ssa.code()),
         None => held.first().copied(),
     }
-}
-
-/// A path as far as to an address.
-pub fn path_up_to(path: &Path, address: u32) -> Path
-    ensures { result ≡ path_up_to address path.now }
-{
-    let mut part = Path::new();
-    for own in path.addresses() {
-        part.push(*own);
-        if *own == address {
-            return part;
-        }
-    }
-    part
 }
 
 /// DLET of the last row of a path.

@@ -10,6 +10,7 @@ mod judging;
 mod load_call;
 mod new_rows;
 mod parents;
+mod paths;
 mod places;
 mod positions;
 mod put_path;

@@ -5,17 +5,17 @@ ghost use Rattle.hd_dbd.specs.Refusals.{OnlyDevice, OnlyRoomOrDevice};
 ghost use Rattle.hd_dbd.specs.Rows.{row_fits};
 ghost use Rattle.hd_volume.specs.Calls.{IsCall, IsRead};
 ghost use Rattle.hd_volume.specs.Rooms.{spare, HasHole};
-ghost use Rattle.hd_forest.specs.Rewrites.{Outgrows};
+ghost use Rattle.hd_forest.specs.Replacing.{Outgrows};
 ghost use Rattle.hd_forest.specs.Walks.{tip};
 ghost use Rattle.hd_get.specs.Meeting.{IsStored};
 ghost use Rattle.hd_get.specs.Searches.{IsOf};
 ghost use Rattle.hd_update.specs.Replacing.{HaveRows, SaysKeyStays, SaysKeysStay, AreInArea, MayReplace, IsReplacedTo, MayReplaceSome, ReplacesThem};
 
-use crate::dlet_call::path_up_to;
+use crate::paths::path_up_to;
 use crate::replaced::{ReplacedRow, ReplacedRows};
 use crate::rewrites::{NewBytes, part_for};
 use hd_dbd::{Dbd, Refused};
-use hd_forest::{Path, bytes_in, rewrite, tip_of};
+use hd_forest::{Path, bytes_in, replace, tip_of};
 use hd_index::set;
 use hd_volume::{BlockStore, Volume};
 
@@ -81,7 +81,7 @@ fn replace_row<S: BlockStore>(
     ensures still { IfOk result (λ to. to ≡ tip path.now → IsTrue volume.new.is_sound → volume.old.room ≤ volume.new.room) }
 {
     let from = tip_of(path);
-    let to = rewrite(volume, dbd, path, code, bytes)?;
+    let to = replace(volume, dbd, path, code, bytes)?;
     if code == 1 && to != from {
         set(volume, dbd, dbd.key_of(code, bytes), to)?;
     }

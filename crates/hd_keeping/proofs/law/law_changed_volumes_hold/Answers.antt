@@ -1,8 +1,5 @@
-use Rattle.hd_keeping.proofs.Volumes.{replaced-held, linked-below, linked-new, linked-root, entered-root, unlinked-below, unlinked-root, removed-root}
+use Rattle.hd_keeping.proofs.Volumes.{linked-below, linked-new, linked-root, entered-root, unlinked-below, unlinked-root, removed-root}
 use Rattle.hd_keeping.proofs.law.law_changed_volumes_hold.Goals as goal
-
-pub returns-clause-replaced : goal.returns-clause-replaced
-returns-clause-replaced c = replaced-held
 
 pub returns-clause-linked : goal.returns-clause-linked
 returns-clause-linked c = linked-below

@@ -1,4 +1,4 @@
-use Rattle.hd_keeping.proofs.RowChanges.{spans-deleted, roots-deleted}
+use Rattle.hd_keeping.proofs.Deletions.{spans-deleted, roots-deleted}
 use Rattle.hd_keeping.proofs.law.law_unlinked_spans_are_deleted.Goals as goal
 
 pub returns-clause-below : goal.returns-clause-below

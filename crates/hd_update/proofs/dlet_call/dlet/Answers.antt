@@ -9,7 +9,7 @@ use Rattle.hd_forest.proofs.Reading.{after-read, sound-before}
 use Rattle.hd_position.specs.Kept.{Kept}
 use Rattle.hd_get.specs.declared.outcome.Outcome.TheVariants.{Missing}
 use Rattle.hd_update.specs.Calls.{delete_effect}
-use Rattle.hd_update.specs.Deleting.{path_up_to}
+use Rattle.hd_update.specs.Paths.{path_up_to}
 use Rattle.hd_update.specs.Held.{held_rows}
 use Rattle.hd_update.specs.Positions.{unheld_at}
 use Rattle.hd_update.specs.States.{IsAnswered, kept_of}

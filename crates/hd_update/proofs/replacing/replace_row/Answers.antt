@@ -19,7 +19,7 @@ set-requires g c = record {
   index = λ sound.
       (let d = c.args.dbd.now in
       let v = c.args.volume.now in
-      let w = c.rewrite.new.volume in
+      let w = c.replace.new.volume in
       let o = c.in_ok-to.ensures in
       let before : IsTrue v.is_sound = subst IsTrue o.call.sound sound in
       let M = c.requires.may before in
@@ -34,7 +34,7 @@ pub returns-in_ok-set-clause-replaced : goal.returns-in_ok-set-clause-replaced
 returns-in_ok-set-clause-replaced g c sound =
     let d = c.args.dbd.now in
     let v = c.args.volume.now in
-    let w = c.rewrite.new.volume in
+    let w = c.replace.new.volume in
     let x = c.set.new.volume in
     let o = c.in_ok-to.ensures in
     let e = c.in_ok-set.ensures in
@@ -71,7 +71,7 @@ returns-else-code-eq1-clause-replaced g c sound =
       | else-code-eq1-via-then-code-eq1+else-to-from w ↦ inr (stays c.in_ok-to.to (tip c.args.path.now) c.tip_of-from.result c.tip_of-from.ensures w.if-to-from.false)
       | else-code-eq1-via-else-code-eq1 w ↦ inl (λ root. w.if-code-eq1.false (sym M.typed ∙ root))
     ] in
-    record { between = c.rewrite.new.volume; set = c.in_ok-to.ensures.set sound; entered = inl (keeps, refl) }
+    record { between = c.replace.new.volume; set = c.in_ok-to.ensures.set sound; entered = inl (keeps, refl) }
   where
     stays : (to a from : ℕ) → from ≡ a → to ≡ from → to ≡ a
     stays to a from is same = same ∙ is

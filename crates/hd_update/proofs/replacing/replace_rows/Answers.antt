@@ -9,11 +9,11 @@ use Rattle.hd_calls.specs.Moves.{Rewrite}
 use Rattle.hd_dbd.specs.Prefixes.{size_with}
 use Rattle.hd_volume.specs.Rooms.{spare, HasHole}
 use Rattle.hd_forest.specs.Walks.{tip}
-use Rattle.hd_forest.specs.Rewrites.{Outgrows}
+use Rattle.hd_forest.specs.Replacing.{Outgrows}
 use Rattle.hd_volume.proofs.CallSteps.{call-ok, call-none, sound-back}
 use Rattle.hd_volume.proofs.JoinLemmas.{calls-join}
 use Rattle.hd_links.specs.Moves.{moved_to}
-use Rattle.hd_update.specs.Deleting.{path_up_to}
+use Rattle.hd_update.specs.Paths.{path_up_to}
 use Rattle.hd_update.specs.Replacing.{AreReplaced, MayReplace, IsReplacedTo, part_for}
 use Rattle.hd_update.specs.declared.rewrites.NewBytes.{NewBytes}
 use Rattle.hd_update.specs.declared.replaced.ReplacedRow.{ReplacedRow}

@@ -5,7 +5,7 @@ use Rattle.hd_volume.proofs.RewriteLemmas.{rewritten-after}
 use Rattle.hd_links.specs.Links.{Links, IsSegment}
 use Rattle.hd_forest.proofs.Reading.{after-read, sound-before}
 use Rattle.hd_forest.proofs.SegmentsSet.{row-whole, stands, row-longer, segment-set}
-use Rattle.hd_forest.proofs.rewriting.set_laid_out.Goals as goal
+use Rattle.hd_forest.proofs.replacing.set_laid_out.Goals as goal
 
 pub rewrite-requires-clause-there : goal.rewrite-requires-clause-there
 rewrite-requires-clause-there g c now =

@@ -12,7 +12,7 @@ ghost use Rattle.hd_links.specs.Links.{IsSegment};
 ghost use Rattle.hd_links.specs.Steps.{LeadsDown};
 ghost use Rattle.hd_image.specs.Records.{links_of, stored_at, IsVolumeOf};
 ghost use Rattle.hd_forest.specs.Walks.{HasForest, tip};
-ghost use Rattle.hd_forest.specs.Rewrites.{IsRowSegment, IsSegmentSet, IsRowSet, Outgrows};
+ghost use Rattle.hd_forest.specs.Replacing.{IsRowSegment, IsSegmentSet, IsRowSet, Outgrows};
 
 use crate::change::name_leaf;
 use crate::leaf::{LARGEST_BLOCK, SMALL_SEGMENT, size_of};
@@ -27,7 +27,7 @@ use hd_volume::{BlockStore, Volume};
 ///
 /// `Full` says that there is no block to spare and no hole of its size; `Memory` comes only where the volume would have to
 /// grow and no room is reserved.
-pub fn rewrite<S: BlockStore>(
+pub fn replace<S: BlockStore>(
     volume: &mut Volume<S>,
     dbd: &Dbd,
     path: &Path,

@@ -1,6 +1,6 @@
 use Rattle.std.proofs.Common.{◌≡◌, ◌++◌, length, drop}
-use Rattle.hd_update.specs.Deleting.{path_up_to}
-use Rattle.hd_update.proofs.dlet_call.path_up_to.Given as goal
+use Rattle.hd_update.specs.Paths.{path_up_to}
+use Rattle.hd_update.proofs.paths.path_up_to.Given as goal
 
 abbrev pub invariant-loop-own : goal.invariant-loop-own
 invariant-loop-own l = record {

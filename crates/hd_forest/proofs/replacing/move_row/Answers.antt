@@ -1,7 +1,7 @@
-use Rattle.std.proofs.Common.{◌≡◌, ℕ, ◌<◌, length, IsTrue, IfErr, Result, Err, Ok, sym, ap, subst, ◌∙◌}
+use Rattle.std.proofs.Common.{◌≡◌, ℕ, length, IsTrue, IfErr, Result, Err, Ok, sym, ap, subst, ◌∙◌}
 use Rattle.std.proofs.lemmas.Result.{err_from_is_err_and}
 use Rattle.hd_dbd.specs.declared.answer.Refused.{Refused}
-use Rattle.hd_dbd.specs.declared.answer.Refused.TheVariants.{Memory, Device}
+use Rattle.hd_dbd.specs.declared.answer.Refused.TheVariants.{Memory}
 use Rattle.hd_dbd.specs.Hierarchy.{Database}
 use Rattle.hd_dbd.specs.Segment.{Segment}
 use Rattle.hd_dbd.specs.Prefixes.{size_with}
@@ -11,15 +11,15 @@ use Rattle.hd_volume.specs.Calls.{IsCall}
 use Rattle.hd_volume.proofs.JoinLemmas.{calls-join}
 use Rattle.hd_volume.proofs.CallSteps.{call-ok, reads-join}
 use Rattle.hd_links.specs.Links.{Links, IsSegment}
-use Rattle.hd_image.specs.Records.{stored_at, links_of}
+use Rattle.hd_image.specs.Records.{links_of}
 use Rattle.hd_forest.specs.Walks.{tip, parent_on}
 use Rattle.hd_forest.specs.Sets.{named, IsTwinPlace, IsRecorded}
-use Rattle.hd_forest.specs.Rewrites.{IsSegmentSet}
+use Rattle.hd_forest.specs.Replacing.{IsSegmentSet}
 use Rattle.hd_forest.proofs.Reading.{after-read, sound-before, volume-kept, links-kept}
 use Rattle.hd_forest.proofs.Keeping.{keeps-same}
 use Rattle.hd_forest.proofs.Naming.{sound-as}
 use Rattle.hd_forest.proofs.RowsSet.{outgrown, MayMove, may-move-after, before-there, behind-there, move-done, row-set-read}
-use Rattle.hd_forest.proofs.rewriting.move_row.Goals as goal
+use Rattle.hd_forest.proofs.replacing.move_row.Goals as goal
 
 pub next_twin-requires-clause-of : goal.next_twin-requires-clause-of
 next_twin-requires-clause-of g c = volume-kept c.args.dbd.now c.args.volume.now c.prev_twin.new.volume c.in_ok-before.ensures.read c.requires.of

@@ -13,12 +13,12 @@ use Rattle.hd_links.specs.Steps.{LeadsDown}
 use Rattle.hd_links.specs.Changes.{CanReplace}
 use Rattle.hd_image.specs.Records.{stored_at, links_of, IsVolumeOf}
 use Rattle.hd_forest.specs.Walks.{tip}
-use Rattle.hd_forest.specs.Rewrites.{room_of, Outgrows, IsSegmentSet, IsRowSet}
+use Rattle.hd_forest.specs.Replacing.{room_of, Outgrows, IsSegmentSet, IsRowSet}
 use Rattle.hd_forest.proofs.Reading.{after-read, sound-before, volume-kept, links-kept}
 use Rattle.hd_forest.proofs.Keeping.{keeps-same}
 use Rattle.hd_forest.proofs.Naming.{sound-as}
 use Rattle.hd_forest.proofs.RowsSet.{outgrown, ingrown, stored-after, row-stays, row-set-read}
-use Rattle.hd_forest.proofs.rewriting.rewrite.Goals as goal
+use Rattle.hd_forest.proofs.replacing.replace.Goals as goal
 
 pub outgrows-requires-clause-there : goal.outgrows-requires-clause-there
 outgrows-requires-clause-there g c sound =

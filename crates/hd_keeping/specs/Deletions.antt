@@ -1,57 +1,25 @@
--- Rows that one call replaces or deletes, as a log of calls has them.
-use Rattle.std.specs.Prelude.{◌≡◌, ◌≢◌, ℕ, ◌<◌, ◌≤◌, List, [], ◌∷◌, ◌++◌, length}
+-- Rows that one call deletes, as a log of calls has them.
+use Rattle.std.specs.Prelude.{◌≡◌, ◌≢◌, ℕ, ◌<◌, ◌≤◌, List, length}
 use Rattle.hd_dbd.specs.Hierarchy.{Database}
 use Rattle.hd_dbd.specs.Rows.{key_of}
 use Rattle.hd_dbd.specs.Paths.{end_of}
 use Rattle.hd_dbd.specs.Forest.{Forest}
-use Rattle.hd_calls.specs.Moves.{Rewrite, deleted, rewritten, rows_after}
+use Rattle.hd_calls.specs.Moves.{deleted, rows_after}
 use Rattle.hd_calls.specs.Runs.{Follows}
-use Rattle.hd_volume.specs.Headers.{header_of}
 use Rattle.hd_volume.specs.Volumes.{VolumeState}
 use Rattle.hd_volume.specs.Rooms.{spare}
 use Rattle.hd_links.specs.Links.{segment_at}
 use Rattle.hd_links.specs.Placed.{Placed}
-use Rattle.hd_links.specs.Changes.{with_bytes, without_span, CanReplace}
-use Rattle.hd_links.specs.Steps.{rows_of, addresses, address_at}
+use Rattle.hd_links.specs.Changes.{without_span}
+use Rattle.hd_links.specs.Steps.{rows_of, address_at}
 use Rattle.hd_image.specs.Records.{links_of}
 use Rattle.hd_image.specs.Holding.{HoldsPlaced}
 use Rattle.hd_forest.specs.Walks.{tip, parent_on}
-use Rattle.hd_forest.specs.Updates.{IsUnlinked, IsReplaced}
+use Rattle.hd_forest.specs.Updates.{IsUnlinked}
 use Rattle.hd_index.specs.Maps.{without_key}
 use Rattle.hd_index.specs.Changes.{entries_for}
 use Rattle.hd_keeping.specs.Entered.{IsEntered}
 use Rattle.hd_keeping.specs.VolumeImages.{images_of}
-
--- ---- replacement
-
--- Rows of the forest f, which the volume v held, got new bytes in this order: the volume w holds g, the forest with them, at the
--- same addresses, and no block was taken.
-pub record IsRewritten (d : Database) (v : VolumeState) (f : Forest Placed) (ws : List Rewrite) (w : VolumeState) (g : Forest Placed) : Type 0 where
-  pub held : HoldsPlaced d v f
-  pub holds : HoldsPlaced d w g
-  pub rows : rows_of g ≡ rows_after (rewritten ws) (rows_of f)
-  pub places : addresses g ≡ addresses f
-  pub largest : (header_of w.image).largest ≡ (header_of v.image).largest
-  pub spares : spare w ≡ spare v
-
--- At the beginning no row has new bytes.
-abbrev pub RewritingBegins : Type 0
-RewritingBegins = (d : Database) (v : VolumeState) (f : Forest Placed) → HoldsPlaced d v f → IsRewritten d v f [] v f
-
--- A row that is replaced is one more.
-abbrev pub RewritingGoesOn : Type 0
-RewritingGoesOn =
-    (d : Database) (v w x : VolumeState) (f g : Forest Placed) (ws : List Rewrite) (i : ℕ) (bytes : List ℕ) → IsRewritten d v f ws w g → i < length (rows_of g)
-    → CanReplace d.types (links_of d.types w) (address_at g i) bytes → IsReplaced d w (address_at g i) bytes x
-    → IsRewritten d v f (ws ++ record { number = i; bytes = bytes } ∷ []) x (with_bytes (address_at g i) bytes g)
-
--- The volume's bytes follow by these replacements.
-abbrev pub RewritingFollows : Type 0
-RewritingFollows =
-    (d : Database) (v w : VolumeState) (f g : Forest Placed) (ws : List Rewrite) → IsRewritten d v f ws w g
-    → Follows (images_of d) (rows_of f) v.image (rewritten ws) (rows_of g) w.image
-
--- ---- deletion
 
 -- The rows from i to the end of its span have left the forest f, which the volume v held: the volume w holds g, the forest without
 -- them, and its bytes follow by this deletion.

@@ -3,7 +3,7 @@ use Rattle.hd_dbd.specs.Types.{SegmentType}
 use Rattle.hd_dbd.specs.Segment.{Segment}
 use Rattle.hd_prefix.specs.Fields.{new_segment, segment_with}
 use Rattle.hd_forest.proofs.SegmentsSet.{laid-with, laid-new}
-use Rattle.hd_forest.proofs.rewriting.lay_out_with.Goals as goal
+use Rattle.hd_forest.proofs.replacing.lay_out_with.Goals as goal
 
 pub returns-then-prefix_length-segment-clause-laid : goal.returns-then-prefix_length-segment-clause-laid
 returns-then-prefix_length-segment-clause-laid c = λ own some long.

@@ -3,7 +3,7 @@ use Rattle.hd_dbd.specs.Prefixes.{prefix_length}
 use Rattle.hd_prefix.specs.Fields.{code_of, IsSegmentWith}
 use Rattle.hd_prefix.proofs.Fitting.{row_prefix}
 use Rattle.hd_forest.proofs.Reading.{lent}
-use Rattle.hd_forest.proofs.rewriting.lay_out_over.Goals as goal
+use Rattle.hd_forest.proofs.replacing.lay_out_over.Goals as goal
 
 pub returns-clause-laid : goal.returns-clause-laid
 returns-clause-laid g c sound =

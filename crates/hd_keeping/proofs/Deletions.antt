@@ -1,12 +1,10 @@
--- Rows that one call replaces or deletes, as a log of calls has them.
-use Rattle.std.proofs.Common.{◌≡◌, ℕ, ◌<◌, List, [], ◌∷◌, ◌++◌, length, refl, sym, ap, subst, ◌∙◌, arith}
-use Rattle.std.specs.Prelude.{slice_index, slice_set}
+-- Rows that one call deletes, as a log of calls has them.
+use Rattle.std.proofs.Common.{◌≡◌, ℕ, ◌<◌, List, length, ap, subst, ◌∙◌, arith}
 use Rattle.hd_dbd.specs.Hierarchy.{Database}
-use Rattle.hd_dbd.specs.Segment.{Segment}
-use Rattle.hd_dbd.specs.Paths.{row_at, end_of}
+use Rattle.hd_dbd.specs.Paths.{end_of}
 use Rattle.hd_dbd.specs.Forest.{Forest}
 use Rattle.hd_dbd.proofs.LevelLaw.{leveled}
-use Rattle.hd_calls.specs.Moves.{Rewrite, deleted, rewritten, taken_out, rewrite_rows}
+use Rattle.hd_calls.specs.Moves.{deleted, taken_out}
 use Rattle.hd_volume.specs.Headers.{Header}
 use Rattle.hd_volume.specs.Volumes.{VolumeState}
 use Rattle.hd_volume.specs.Rooms.{spare}
@@ -15,47 +13,15 @@ use Rattle.hd_links.specs.Changes.{without_span}
 use Rattle.hd_links.specs.Steps.{rows_of, addresses, address_at}
 use Rattle.hd_links.specs.Numbers.{RowsLeave}
 use Rattle.hd_links.proofs.Types.{ordered}
-use Rattle.hd_links.proofs.RowChanges.{span_out, bytes_in}
+use Rattle.hd_links.proofs.RowChanges.{span_out}
 use Rattle.hd_image.specs.Records.{links_of}
 use Rattle.hd_image.specs.Holding.{HoldsPlaced}
 use Rattle.hd_image.proofs.Found.{records-link}
 use Rattle.hd_forest.specs.Walks.{tip, parent_on}
 use Rattle.hd_forest.specs.Updates.{IsUnlinked}
-use Rattle.hd_keeping.specs.RowChanges.{RewritingBegins, RewritingGoesOn, RewritingFollows, UnlinkedSpansAreDeleted, UnlinkedRootsAreDeleted}
-use Rattle.hd_keeping.proofs.Volumes.{replaced-held, unlinked-below, unlinked-root}
+use Rattle.hd_keeping.specs.Deletions.{UnlinkedSpansAreDeleted, UnlinkedRootsAreDeleted}
+use Rattle.hd_keeping.proofs.Volumes.{unlinked-below, unlinked-root}
 use Rattle.hd_keeping.proofs.VolumeImages.{follow}
-
--- ---- replacement
-
--- one more at the end
-pub rewrite-more : (ws : List Rewrite) (w : Rewrite) (rows : List Segment)
-    → rewrite_rows (ws ++ w ∷ []) rows ≡ slice_set (rewrite_rows ws rows) w.number (record { code = (row_at (rewrite_rows ws rows) w.number).code; bytes = w.bytes })
-rewrite-more [] w rows = refl
-rewrite-more (v ∷ ws) w rows = rewrite-more ws w (slice_set rows v.number (record { code = (row_at rows v.number).code; bytes = v.bytes }))
-
-pub rewriting-begins : RewritingBegins
-rewriting-begins d v f H = record { held = H; holds = H; rows = refl; places = refl; largest = refl; spares = refl }
-
-pub rewriting-goes-on : RewritingGoesOn
-rewriting-goes-on d v w x f g ws i bytes W within C I =
-    let B = bytes_in d.types (links_of d.types w) g i bytes W.holds.records within in
-    record {
-      held = W.held;
-      holds = replaced-held d w x g (address_at g i) bytes W.holds C I;
-      rows =
-          B.0 ∙ ap (λ (rows : List Segment). slice_set rows i (record { code = (row_at rows i).code; bytes = bytes })) W.rows
-          ∙ sym (rewrite-more ws (record { number = i; bytes = bytes }) (rows_of f));
-      places = B.1 ∙ W.places;
-      largest = ap (λ (z : Header). z.largest) I.rest.header ∙ W.largest;
-      spares = I.spares ∙ W.spares;
-    }
-
-pub rewriting-follows : RewritingFollows
-rewriting-follows d v w f g ws W =
-    follow d v w f g (rewritten ws) W.held W.holds W.largest (let same : spare w ≡ spare v = W.spares in omega arith)
-    (ap (λ (xs : List ℕ). length xs) W.places, λ i stays. ap (λ (xs : List ℕ). slice_index xs i) W.places)
-
--- ---- deletion
 
 -- the rows and the addresses without the span
 leave : (d : Database) (v w : VolumeState) (f : Forest Placed) (path : List ℕ) (i : ℕ) → HoldsPlaced d v f → i < length (rows_of f) → address_at f i ≡ tip path → IsUnlinked d v path w
