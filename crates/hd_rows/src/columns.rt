@@ -48,6 +48,7 @@ fn key_column(dbd: &Dbd, above: &[Above], name: &[u8], label: &[u8]) -> Option<C
             name: None,
             start: keys_length(above.get(..place)?),
             length: key.length,
+            is_open: false,
         },
         is_key: true,
     })

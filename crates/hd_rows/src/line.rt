@@ -47,6 +47,15 @@ impl<'a> LineReader<'a> {
     /// Reads the values of a segment of a type.
     fn read_values(&mut self, segment: &SegType, text: &[u8]) -> Result<(), Wrong> {
         self.draft.begin(segment.length as usize)?;
+        self.read_parts(segment, text)?;
+        if let Some(least) = segment.least {
+            self.draft.end(least)?;
+        }
+        Ok(())
+    }
+
+    /// Reads the parts of a segment and their values, as many as a text has.
+    fn read_parts(&mut self, segment: &SegType, text: &[u8]) -> Result<(), Wrong> {
         let mut left = unpadded(text);
         for _ in 0..text.len() {
             if left.is_empty() {

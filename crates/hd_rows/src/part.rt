@@ -4,13 +4,18 @@ use itoa::Buffer;
 use memchr::memchr;
 use std::alloc::{AllocError, Global};
 
-/// Bytes of a segment that a text gives by one name: a field, or a range without a name. `start` counts from 0.
+/// Bytes of a segment that a text gives by one name: a field, or a range without a name. `start` counts from 0. An open range has as many
+/// bytes, at most `length`, as the segment has from there on.
 #[derive(Clone, Copy, Debug, PartialEq, Eq)]
 pub struct Part {
     pub name: Option<Name8>,
     pub start: u32,
     pub length: u32,
+    pub is_open: bool,
 }
+
+/// How many bytes of a segment that varies in length say how many it has.
+pub const LENGTH_BYTES: u32 = 2;
 
 /// So many bytes from a place, as far as they go.
 pub fn bytes_at(bytes: &[u8], start: usize, length: usize) -> &[u8] {
@@ -26,6 +31,7 @@ impl Part {
             name: Some(field.name),
             start: field.start.saturating_sub(1),
             length: field.length,
+            is_open: false,
         }
     }
 
@@ -40,6 +46,7 @@ impl Part {
             name: None,
             start: key.start.saturating_sub(1),
             length: key.length,
+            is_open: false,
         }
     }
 
@@ -48,7 +55,7 @@ impl Part {
         bytes_at(segment, self.start as usize, self.length as usize)
     }
 
-    /// Appends what a text calls the part: its name, or its first and last byte, counted from 1.
+    /// Appends what a text calls the part: its name, or its first and last byte, counted from 1; of an open range the first alone.
     pub fn push_label(&self, label: &mut Vec<u8>) -> Result<(), AllocError> {
         if let Some(name) = &self.name {
             return label.extend_from_slice(without_padding(name.bytes()));
@@ -58,6 +65,9 @@ impl Part {
         let mut digits = Buffer::new();
         label.extend_from_slice(digits.format(first).as_bytes())?;
         label.extend_from_slice(b"-")?;
+        if self.is_open {
+            return Ok(());
+        }
         label.extend_from_slice(digits.format(last).as_bytes())
     }
 }
@@ -72,8 +82,8 @@ fn fields_of(alloc: Global, segment: &SegType) -> Result<Vec<Part>, AllocError> 
     Ok(parts)
 }
 
-/// The range from one place to another, where it has bytes.
-fn range(from: u32, to: u32) -> Option<Part> {
+/// The range from one place to another, where it has bytes; whether it is open.
+fn range(from: u32, to: u32, is_open: bool) -> Option<Part> {
     let length = to.checked_sub(from)?;
     if length == 0 {
         return None;
@@ -82,20 +92,23 @@ fn range(from: u32, to: u32) -> Option<Part> {
         name: None,
         start: from,
         length,
+        is_open,
     })
 }
 
-/// The ranges of a type that none of its fields covers, in order.
+/// The ranges of a type that none of its fields covers, in order. Where its segments vary in length the bytes that say it are left out, and
+/// the last range is open.
 fn gaps_of(alloc: Global, segment: &SegType, fields: &[Part]) -> Result<Vec<Part>, AllocError> {
     let mut gaps = Vec::new(alloc);
-    let mut covered = 0u32;
+    let varies = segment.least.is_some();
+    let mut covered = if varies { LENGTH_BYTES } else { 0 };
     for field in fields {
-        if let Some(gap) = range(covered, field.start) {
+        if let Some(gap) = range(covered, field.start, false) {
             gaps.push(gap)?;
         }
         covered = covered.max(field.start.saturating_add(field.length));
     }
-    if let Some(gap) = range(covered, segment.length) {
+    if let Some(gap) = range(covered, segment.length, varies) {
         gaps.push(gap)?;
     }
     Ok(gaps)
@@ -132,21 +145,25 @@ fn number(digits: &[u8]) -> Option<u32> {
     Some(number)
 }
 
-/// The range that the numbers of its first and last byte spell, where a segment of the length has it.
-fn range_named(length: u32, name: &[u8]) -> Option<Part> {
+/// The range that the numbers of its first and last byte spell, where a segment of the type may have it; without the last an open one, where
+/// the type's segments vary in length.
+fn range_named(segment: &SegType, name: &[u8]) -> Option<Part> {
     let dash = memchr(b'-', name)?;
-    let first = number(&name[..dash])?;
+    let from = number(&name[..dash])?.checked_sub(1)?;
+    if segment.least.is_some() && name[dash + 1..].is_empty() {
+        return range(from, segment.length, true);
+    }
     let last = number(&name[dash + 1..])?;
-    if last > length {
+    if last > segment.length {
         return None;
     }
-    range(first.checked_sub(1)?, last)
+    range(from, last, false)
 }
 
-/// The part of a type that a text calls by a name: a field's, or the first and last byte of any range.
+/// The part of a type that a text calls by a name: a field's, or the first and last byte of any range, or an open one's first.
 pub fn part_named(segment: &SegType, label: &[u8]) -> Option<Part> {
     let Some(name) = name_of(label) else {
-        return range_named(segment.length, label);
+        return range_named(segment, label);
     };
     for field in &segment.fields {
         if field.name == name {

@@ -1,6 +1,6 @@
 use crate::naming::without_padding;
 use crate::part::{Part, parts_of};
-use crate::value::put_value;
+use crate::value::{put_value, shown_part};
 use hd_dbd::{Dbd, SegType};
 use std::alloc::{AllocError, Global};
 use std::io::{self, Write};
@@ -67,7 +67,7 @@ pub fn put_line<W: Write>(
     out.write_all(&form.head)?;
     for labelled in &form.parts {
         out.write_all(&labelled.label)?;
-        put_value(out, labelled.part.bytes_in(bytes))?;
+        put_value(out, shown_part(&labelled.part, bytes))?;
     }
     out.write_all(b"\n")
 }

@@ -16,6 +16,7 @@ pub struct TableReader<'a> {
     pub keys_length: u32,
     text: &'a [u8],
     length: u32,
+    least: Option<u32>,
     columns: Vec<Column>,
     cell: Vec<u8>,
     keys: Draft,
@@ -24,12 +25,17 @@ pub struct TableReader<'a> {
 
 impl<'a> TableReader<'a> {
     /// A table of a type, without columns.
-    fn new(alloc: Global, code: u8, text: &'a [u8], length: u32) -> TableReader<'a> {
+    fn new(alloc: Global, dbd: &Dbd, code: u8, text: &'a [u8]) -> TableReader<'a> {
+        let (length, least) = match dbd.type_of(code) {
+            Some(segment) => (segment.length, segment.least),
+            None => (0, None),
+        };
         TableReader {
             code,
             keys_length: 0,
             text,
             length,
+            least,
             columns: Vec::new(alloc),
             cell: Vec::new(alloc),
             keys: Draft::new(alloc),
@@ -94,11 +100,13 @@ impl<'a> TableReader<'a> {
             left = behind.rest;
             is_last = behind.is_last;
         }
-        if is_last {
-            Ok(left)
-        } else {
-            Err(Wrong::Row(RowFault::Cells))
+        if !is_last {
+            return Err(Wrong::Row(RowFault::Cells));
         }
+        if let Some(least) = self.least {
+            self.segment.end(least)?;
+        }
+        Ok(left)
     }
 
     /// Reads the record that begins at a place.
@@ -151,11 +159,7 @@ pub fn read_table<'a>(
     text: &'a [u8],
     rows: &mut Rows,
 ) -> Result<TableReader<'a>, TextFault> {
-    let length = match dbd.type_of(code) {
-        Some(segment) => segment.length,
-        None => 0,
-    };
-    let mut table = TableReader::new(alloc, code, text, length);
+    let mut table = TableReader::new(alloc, dbd, code, text);
     let left = without_ends(without_mark(text));
     if left.is_empty() {
         return Ok(table);

@@ -1,7 +1,7 @@
 use crate::above::{Above, keys_above};
 use crate::naming::without_padding;
 use crate::part::{Part, columns_of};
-use crate::value::shown;
+use crate::value::{shown, shown_part};
 use csv::{Error, Writer};
 use hd_dbd::Dbd;
 use std::alloc::{AllocError, Global};
@@ -39,7 +39,7 @@ fn csv_line(
         cells.write_field(shown(&kept.key))?;
     }
     for part in columns {
-        cells.write_field(shown(part.bytes_in(bytes)))?;
+        cells.write_field(shown_part(part, bytes))?;
     }
     cells.end_record()?;
     cells.flush()

@@ -1,5 +1,6 @@
 use crate::fault::{RowFault, Wrong};
 use crate::naming::without_padding;
+use crate::part::Part;
 use std::io::{self, Write};
 
 /// A value as a text shows it: text loses the blanks at its end, with which a reader pads it; other bytes stay whole.
@@ -9,6 +10,12 @@ pub fn shown(value: &[u8]) -> &[u8] {
     } else {
         value
     }
+}
+
+/// The bytes of a part as a text shows them: those of an open range stay whole, since they say how long the segment is.
+pub fn shown_part<'b>(part: &Part, segment: &'b [u8]) -> &'b [u8] {
+    let bytes = part.bytes_in(segment);
+    if part.is_open { bytes } else { shown(bytes) }
 }
 
 /// A byte that stands for itself between quotes.
@@ -49,7 +56,6 @@ fn put_bytes<W: Write>(out: &mut W, bytes: &[u8]) -> io::Result<()> {
 
 /// Writes a value of a row's line, in quotes where it is empty or has a blank or a quote.
 pub fn put_value<W: Write>(out: &mut W, value: &[u8]) -> io::Result<()> {
-    let value = shown(value);
     if !value.is_empty() && value.iter().all(|b| *b != b' ' && *b != b'"') {
         return put_bytes(out, value);
     }

@@ -63,7 +63,7 @@ impl Printer {
 #[derive(Drop)]
 pub struct RowWriter<'a, W: Write> {
     name: Name8,
-    lengths: Vec<u32>,
+    lengths: Vec<(u32, Option<u32>)>,
     printer: Printer,
     out: &'a mut W,
     stage: Stage,
@@ -90,11 +90,11 @@ fn record_length(record: &[u8]) -> usize {
     3 + u16::from_be_bytes([record[1], record[2]]) as usize
 }
 
-/// The lengths of the segments of each type.
-fn lengths_of(alloc: Global, dbd: &Dbd) -> Result<Vec<u32>, AllocError> {
+/// The most bytes of the segments of each type, and where they vary the least.
+fn lengths_of(alloc: Global, dbd: &Dbd) -> Result<Vec<(u32, Option<u32>)>, AllocError> {
     let mut lengths = Vec::new(alloc);
     for segment in dbd.types() {
-        lengths.push(segment.length)?;
+        lengths.push((segment.length, segment.least))?;
     }
     Ok(lengths)
 }
@@ -178,11 +178,16 @@ impl<'a, W: Write> RowWriter<'a, W> {
 }
 
 /// Whether a record is of a type of these lengths, and has the bytes of one of its segments.
-fn is_record(record: &[u8], lengths: &[u32]) -> bool {
+fn is_record(record: &[u8], lengths: &[(u32, Option<u32>)]) -> bool {
     let code = record.first().copied().unwrap_or(0);
     let place = (code as usize).saturating_sub(1);
+    let own = record.len().saturating_sub(3);
     match lengths.get(place) {
-        Some(length) => (*length as usize).saturating_add(3) == record.len(),
+        Some((most, None)) => *most as usize == own,
+        Some((most, Some(least))) => {
+            let is_long = own >= *least as usize && own <= *most as usize;
+            is_long && bytes_at(record, 3, 2) == bytes_at(record, 1, 2)
+        }
         None => false,
     }
 }

@@ -89,6 +89,22 @@ pub fn nameless(alloc: Global) -> Result<Dbd, DbdFault> {
     Dbd::new(alloc, name(b"NONE"), 128, frspc, nameless_types(alloc)?)
 }
 
+/// A type of fixed length above one that varies, of 6 to 60 bytes.
+fn note_types(alloc: Global) -> Result<Vec<SegType>, AllocError> {
+    let mut note = type_with(alloc, b"NOTE", Some(1), 60, 0, &[(b"BY", 3, 4)])?;
+    note.least = Some(6);
+    Ok(vec![in alloc;
+        type_with(alloc, b"TICKET", None, 3, 3, &[(b"NUM", 1, 3)])?,
+        note,
+    ]?)
+}
+
+/// A database of tickets with notes of free text.
+pub fn notes(alloc: Global) -> Result<Dbd, DbdFault> {
+    let frspc = FreeSpace { fbff: 0, fspf: 0 };
+    Dbd::new(alloc, name(b"NOTES"), 128, frspc, note_types(alloc)?)
+}
+
 /// The sample database with its fields.
 pub fn edu(alloc: Global) -> Result<Dbd, DbdFault> {
     let frspc = FreeSpace { fbff: 0, fspf: 0 };

@@ -8,4 +8,6 @@ mod tables_tests;
 #[cfg(test)]
 mod text_tests;
 #[cfg(test)]
+mod varying_tests;
+#[cfg(test)]
 mod writer_tests;
