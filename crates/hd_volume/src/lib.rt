@@ -16,6 +16,7 @@ mod puts;
 mod rewrite;
 mod seek;
 mod space;
+mod spacing;
 mod store;
 mod volume;
 
