@@ -35,7 +35,7 @@ pub record IsLeafPut (d : Database) (old : VolumeState) (row : Segment) (y x a :
   pub records : Agree d.types (with_record d.types (links_of d.types old) a segment) (links_of d.types new)
   pub rest : KeepsTheRest old new
   pub count : (header_of old.image).count ≤ (header_of new.image).count
-  pub grows : (header_of new.image).count ≤ (header_of old.image).count + 2
+  pub grows : (header_of new.image).count ≤ (header_of old.image).count + 1
   pub spares : spare old ≤ spare new + 1
-  pub in_hole : IsPlain old → HasHole old (size_with d.types row.code (length row.bytes)) → spare new ≡ spare old
+  pub in_hole : HasHole old (size_with d.types row.code (length row.bytes)) → spare new ≡ spare old
   pub holes : (n : ℕ) → size_with d.types row.code (length row.bytes) < n → HasHole old n → HasHole new (n - size_with d.types row.code (length row.bytes))

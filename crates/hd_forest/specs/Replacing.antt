@@ -54,9 +54,9 @@ pub record IsRoomTaken (d : Database) (old : VolumeState) (a to need : ℕ) (new
   pub moves : size_with d.types ((links_of d.types old).code a) (length ((links_of d.types old).bytes a)) < need → to ≢ a
   pub rest : KeepsTheRest old new
   pub count : (header_of old.image).count ≤ (header_of new.image).count
-  pub grows : (header_of new.image).count ≤ (header_of old.image).count + 2
+  pub grows : (header_of new.image).count ≤ (header_of old.image).count + 1
   pub spares : spare old ≤ spare new + 1
-  pub in_hole : IsPlain old → HasHole old need → spare new ≡ spare old
+  pub in_hole : HasHole old need → spare new ≡ spare old
   pub holes : (n : ℕ) → need < n → HasHole old n → HasHole new (n - need)
   pub in_place : to ≡ a → (spare new ≡ spare old) × KeepsHoles old new
 

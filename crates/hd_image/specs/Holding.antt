@@ -44,4 +44,4 @@ HoldsRows d v rows = (placed : Forest Placed) × (rows_of placed ≡ rows) × Ho
 
 -- the volume that is loaded for a database from these bytes
 abbrev pub volume_of : Database → List ℕ → VolumeState
-volume_of d image = record { image = image; stored = image; is_sound = true; failures = 0; room = 0; size = d.block_size; sizes = stored_sizes d.types; spacing = d.frspc }
+volume_of d image = record { image = image; stored = image; is_sound = true; failures = 0; room = 0; size = d.block_size; sizes = stored_sizes d.types }

@@ -1,6 +1,5 @@
 pub mod BufferLemmas
 pub mod ExtentLemmas
-pub mod FreeLemmas
 pub mod EditLemmas
 pub mod MapLemmas
 pub mod FrameLemmas
@@ -8,7 +7,6 @@ pub mod CallLemmas
 pub mod PutLemmas
 pub mod KindLemmas
 pub mod GrowLemmas
-pub mod SpacingLemmas
 pub mod JoinLemmas
 pub mod LawLemmas
 pub mod CreateLemmas

@@ -16,7 +16,6 @@ mod puts;
 mod rewrite;
 mod seek;
 mod space;
-mod spacing;
 mod store;
 mod volume;
 

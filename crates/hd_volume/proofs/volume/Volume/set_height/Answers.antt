@@ -11,11 +11,11 @@ use Rattle.hd_volume.proofs.volume.Volume.set_height.Goals as goal
 
 pub invariant_of-self : goal.invariant_of-self
 invariant_of-self g c =
-    let room : ℕ = room_for c.self.inside.spacing c.self.inside.blocks.room (vec_len c.self.inside.space.contents) (vec_capacity c.self.inside.space.contents) in
-    let v : VolumeState = volume_of c.self.inside.blocks c.self.inside.sizes.items c.self.inside.spacing room in
+    let room : ℕ = room_for c.self.inside.blocks.room (vec_len c.self.inside.space.contents) (vec_capacity c.self.inside.space.contents) in
+    let v : VolumeState = volume_of c.self.inside.blocks c.self.inside.sizes.items room in
     let size : c.write_head.new.self.size ≡ v.size = ap (λ (b : Buffered). b.size) c.write_head.ensures.rest in
     let F : VolumeState → Type 0 = λ u. IsTrue u.is_sound → IsFormatted u in
-    let w : VolumeState = volume_of c.write_head.new.self c.self.inside.sizes.items c.self.inside.spacing room in
+    let w : VolumeState = volume_of c.write_head.new.self c.self.inside.sizes.items room in
     let sound-is : c.write_head.new.self.is_sound ≡ v.is_sound = ap (λ (b : Buffered). b.is_sound) c.write_head.ensures.rest in
     record {
       least = rw size c.self.invariant.least;
@@ -34,12 +34,12 @@ invariant_of-self g c =
 
 pub returns-clause-set : goal.returns-clause-set
 returns-clause-set g c =
-    let room : ℕ = room_for c.self.inside.spacing c.self.inside.blocks.room (vec_len c.self.inside.space.contents) (vec_capacity c.self.inside.space.contents) in
-    let v : VolumeState = volume_of c.self.inside.blocks c.self.inside.sizes.items c.self.inside.spacing room in
+    let room : ℕ = room_for c.self.inside.blocks.room (vec_len c.self.inside.space.contents) (vec_capacity c.self.inside.space.contents) in
+    let v : VolumeState = volume_of c.self.inside.blocks c.self.inside.sizes.items room in
     let size : c.write_head.new.self.size ≡ v.size = ap (λ (b : Buffered). b.size) c.write_head.ensures.rest in
     let F : VolumeState → Type 0 = λ u. IsTrue u.is_sound → IsFormatted u in
-    let room2 : ℕ = room_for c.self.inside.spacing c.write_head.new.self.room (vec_len c.self.inside.space.contents) (vec_capacity c.self.inside.space.contents) in
-    let w : VolumeState = volume_of c.write_head.new.self c.self.inside.sizes.items c.self.inside.spacing room2 in
+    let room2 : ℕ = room_for c.write_head.new.self.room (vec_len c.self.inside.space.contents) (vec_capacity c.self.inside.space.contents) in
+    let w : VolumeState = volume_of c.write_head.new.self c.self.inside.sizes.items room2 in
     let P : VolumeState → Type 0 = λ u. IsTrue u.is_sound → HasNewHeader u (record (header_of u.image) { height = c.args.height }) w in
     subst P c.self.view_is
     (λ before.
