@@ -4,8 +4,8 @@ use Rattle.std.proofs.lemmas.Bool.{lt-leb}
 use Rattle.hd_bytes.specs.Numbers.{number_at}
 use Rattle.hd_block.specs.Extents.{Extent, free, used, taken, IsHole, IsSegment, Fill, IsDivided, UsedAt, TakenAt}
 use Rattle.hd_block.specs.Changes.{hole_at, split_hole, after_take}
-use Rattle.hd_block.specs.Parts.{largest_free}
-use Rattle.hd_block.specs.Found.{Way, At, Keeps, SeeksHole, SeeksLargest, SeeksOffset, Progress, Stands, IsLinked}
+use Rattle.hd_block.specs.Parts.{largest_free, free_bytes}
+use Rattle.hd_block.specs.Found.{Way, At, Keeps, SeeksHole, SeeksLargest, SumsFree, SeeksOffset, Progress, Stands, IsLinked}
 use Rattle.hd_block.specs.declared.gives.Link.{Link}
 use Rattle.hd_dbd.specs.declared.facts.SegmentSize.{SegmentSize}
 
@@ -176,6 +176,40 @@ all-seen {sizes} {b} {largest} {xs} {end} {g} p l k =
     let ended : g ≡ 0 = elim (fill-ahead sizes b p.place g p.behind p.fill) [ inl e ↦ e | inr e ↦ absurd (omega arith) ] in
     let none = none-free sizes b p.place g p.behind (omega arith) ended p.fill in
     let keeps : largest_free xs ≡ max largest (largest_free p.behind) = p.keeps in
+    omega arith
+
+-- ---- the sum of all free elements
+
+-- the free elements lie in the block
+pub free-within : (sizes : List SegmentSize) (b : List ℕ) (p f : ℕ) (xs : List Extent) → Fill sizes b p f xs → p + free_bytes xs ≤ length b
+free-within sizes b p f [] h = omega arith
+free-within sizes b p f (free n ∷ xs) h = let r = free-within sizes b (p + n) (number_at 2 b p) xs h.2 in omega arith
+free-within sizes b p f (used n ∷ xs) h = let r = free-within sizes b (p + n) f xs h.2 in omega arith
+free-within sizes b p f (taken n ∷ xs) h = let r = free-within sizes b (p + n) f xs h.3 in omega arith
+
+-- a sum passes extents that are not free
+pub passes-unsummed : (total : ℕ) (xs : List Extent) (g : ℕ) → Passes (SumsFree total xs) g
+passes-unsummed total xs g = record { used = λ before ys p n l k. k; taken = λ before ys p n l k. k }
+
+-- and a free element, which it counts
+pub passes-summed : {sizes : List SegmentSize} {b : List ℕ} {xs : List Extent} {end g m n : ℕ} (total : ℕ) → Stands sizes b (SumsFree total xs) xs end g m n
+    → Progress sizes b (SumsFree (total + n) xs) xs (g + 8) (number_at 2 b g) g
+passes-summed {sizes} {b} {xs} {end} {g} {m} {n} total s = let keeps : free_bytes xs ≡ total + (n + free_bytes s.behind) = s.keeps in passes s (omega arith)
+
+-- no free element is left
+none-more : (sizes : List SegmentSize) (b : List ℕ) (p f : ℕ) (xs : List Extent) → 0 < p → f ≡ 0 → Fill sizes b p f xs → free_bytes xs ≡ 0
+none-more sizes b p f [] l e h = refl
+none-more sizes b p f (free n ∷ xs) l e h = absurd (omega arith)
+none-more sizes b p f (used n ∷ xs) l e h = none-more sizes b (p + n) f xs (omega arith) e h.2
+none-more sizes b p f (taken n ∷ xs) l e h = none-more sizes b (p + n) f xs (omega arith) e h.3
+
+-- where the chain has ended, or leads back, all were counted
+pub all-summed : {sizes : List SegmentSize} {b : List ℕ} {total : ℕ} {xs : List Extent} {end g m : ℕ} → Progress sizes b (SumsFree total xs) xs end g m → 0 < end → g < end → total ≡ free_bytes xs
+all-summed {sizes} {b} {total} {xs} {end} {g} p l k =
+    let far = p.far in
+    let ended : g ≡ 0 = elim (fill-ahead sizes b p.place g p.behind p.fill) [ inl e ↦ e | inr e ↦ absurd (omega arith) ] in
+    let none = none-more sizes b p.place g p.behind (omega arith) ended p.fill in
+    let keeps : free_bytes xs ≡ total + free_bytes p.behind = p.keeps in
     omega arith
 
 -- ---- a search for an offset

@@ -3,7 +3,7 @@ use Rattle.std.specs.Prelude.{◌≡◌, ◌≢◌, ◌⊎◌, ℕ, ◌+◌, ◌
 use Rattle.hd_bytes.specs.Numbers.{number_at}
 use Rattle.hd_block.specs.Extents.{Extent, free, used, taken, IsHole, IsSegment, Fill}
 use Rattle.hd_block.specs.Changes.{hole_at, after_take, hole_before}
-use Rattle.hd_block.specs.Parts.{largest_free}
+use Rattle.hd_block.specs.Parts.{largest_free, free_bytes}
 use Rattle.hd_block.specs.declared.holes.Hole.{Hole}
 use Rattle.hd_block.specs.declared.gives.Link.{Link}
 use Rattle.hd_block.specs.declared.gives.Behind.{Behind}
@@ -35,6 +35,10 @@ SeeksHole size xs before place behind = (hole_at size 8 xs ≡ hole_at size plac
 -- the largest hole is this long, or not before the place
 abbrev pub SeeksLargest : ℕ → List Extent → Keeps
 SeeksLargest largest xs before place behind = largest_free xs ≡ max largest (largest_free behind)
+
+-- so many bytes are free before the place
+abbrev pub SumsFree : ℕ → List Extent → Keeps
+SumsFree total xs before place behind = free_bytes xs ≡ total + free_bytes behind
 
 -- what stands at this offset is not before the place
 abbrev pub SeeksOffset : ℕ → ℕ → Keeps

@@ -17,3 +17,10 @@ largest_free [] = 0
 largest_free (free n ∷ xs) = max n (largest_free xs)
 largest_free (used n ∷ xs) = largest_free xs
 largest_free (taken n ∷ xs) = largest_free xs
+
+-- the bytes of all free elements among extents
+abbrev pub free_bytes : List Extent → ℕ
+free_bytes [] = 0
+free_bytes (free n ∷ xs) = n + free_bytes xs
+free_bytes (used n ∷ xs) = free_bytes xs
+free_bytes (taken n ∷ xs) = free_bytes xs

@@ -2,7 +2,7 @@ ghost use Rattle.std.specs.Prelude.{◌≡◌, ◌⊎◌, ◌+◌, ◌%◌, ◌�
 ghost use Rattle.hd_bytes.specs.Ranges.{AgreeOn};
 ghost use Rattle.hd_block.specs.Extents.{Extent, IsDivided, UsedAt};
 ghost use Rattle.hd_block.specs.Changes.{hole_at, after_take};
-ghost use Rattle.hd_block.specs.Parts.{largest_free};
+ghost use Rattle.hd_block.specs.Parts.{largest_free, free_bytes};
 ghost use Rattle.hd_block.specs.Found.{IsFound};
 ghost use Rattle.hd_dbd.specs.declared.facts.SegmentSize.{SegmentSize};
 
@@ -62,6 +62,24 @@ pub fn largest_free(bytes: &[u8]) -> u16
         place = next as usize;
     }
     largest
+}
+
+/// The bytes of all free elements; a chain that does not ascend ends the sum.
+pub fn free_bytes(bytes: &[u8]) -> u32
+    requires { (8 ≤ length bytes.now) × (length bytes.now ≤ 32768) }
+    ensures { (sizes : List SegmentSize) (xs : List Extent) → IsDivided sizes bytes.now xs → result ≡ free_bytes xs }
+{
+    let mut total: u32 = 0;
+    let mut end = 8;
+    let mut place = read_u16(bytes, 0) as usize;
+    'walk: while place >= end && place + 8 <= bytes.len() {
+        let len = read_u16(bytes, place + 2);
+        let next = read_u16(bytes, place);
+        total = total.saturating_add(u32::from(len));
+        end = place + 8;
+        place = next as usize;
+    }
+    total
 }
 
 /// Takes the front of the first hole that is large enough.

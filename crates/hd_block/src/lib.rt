@@ -10,7 +10,7 @@ mod parts;
 mod sizes;
 
 pub use block::Block;
-pub use holes::largest_free;
+pub use holes::{free_bytes, largest_free};
 pub use law::{
     law_one_division, law_room_is_filled, law_segments_are_apart, law_segments_shrink,
     law_writes_keep_division,

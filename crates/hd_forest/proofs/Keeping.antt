@@ -11,7 +11,7 @@ use Rattle.hd_volume.specs.Rooms.{HasFreeBlock}
 use Rattle.hd_volume.specs.Records.{find}
 use Rattle.hd_volume.specs.Calls.{KeepsIndex, MayGrow, IsWritten, IsFreed, IsPut, IsRewritten, HasNewHeader}
 use Rattle.hd_volume.proofs.MapLemmas.{find-there, kind-there}
-use Rattle.hd_volume.proofs.JoinLemmas.{AreOne, one-spare, one-holes}
+use Rattle.hd_volume.proofs.JoinLemmas.{AreOne, one-spare, one-holes, grown-count, counted}
 use Rattle.hd_forest.specs.Updates.{KeepsTheRest}
 use Rattle.hd_forest.specs.Sets.{KeepsBlocks}
 
@@ -143,34 +143,16 @@ module _ {v w : VolumeState} {n k : ℕ} (f : IsFormatted v) (g : IsFormatted w)
 
   -- the volume is no shorter
   no-shorter : length v.image ≤ length w.image
-  no-shorter = elim grows.count [
-    | inl e ↦ longer _ _ _ _ f.header.whole whole-new (ap (λ (c : ℕ). c * v.size) e)
-    | inr e ↦ longer-by _ _ _ _ v.size f.header.whole whole-new (ap (λ (c : ℕ). c * v.size) e.1)
-  ]
-    where
-      longer : (l m p q : ℕ) → l ≡ p → m ≡ q → q ≡ p → l ≤ m
-      longer l m p q e g i = omega arith
+  no-shorter = (let more : (header_of v.image).count * v.size ≤ (header_of w.image).count * v.size = mul-le-mul_right v.size (grown-count n grows) in let old = f.header.whole in let new = whole-new in omega arith)
 
-      longer-by : (l m c q z : ℕ) → l ≡ c * z → m ≡ q → q ≡ (c + 1) * z → l ≤ m
-      longer-by l m c q z e g i = omega arith
-
-  -- each block but n was there
-  there-before : (m : ℕ) → HasBlock w.size w.image m → m ≢ n → HasBlock v.size v.image m
+  -- each block but n was there, or is free
+  there-before : (m : ℕ) → HasBlock w.size w.image m → m ≢ n → HasBlock v.size v.image m ⊎ IsKind w 3 m
   there-before m there ne = elim (cases_lt m (header_of v.image).count) [
     | inl low ↦
         (let fits : m * v.size + v.size ≤ (header_of v.image).count * v.size = row_fits m v.size (header_of v.image).count v.size low (omega arith) in
-        let whole = f.header.whole in omega arith)
-    | inr high ↦ absurd (elim grows.count [
-      | inl e ↦ past m (header_of w.image).count v.size (length w.image) some (omega arith) whole-new (rw size at there)
-      | inr e ↦ elim (cases_eq m (header_of v.image).count) [
-        | inl last ↦ ne (last ∙ sym e.0)
-        | inr less ↦ past m (header_of w.image).count v.size (length w.image) some (let more = e.1 in omega arith) whole-new (rw size at there)
-      ]
-    ])
+        let whole = f.header.whole in inl (omega arith))
+    | inr high ↦ inr (grows.passed m high (counted w m g (rw size some) there) ne)
   ]
-    where
-      past : (m c z l : ℕ) → 0 < z → c ≤ m → l ≡ c * z → m * z + z ≤ l → ⊥
-      past m c z l pos low e there = let more : c * z ≤ m * z = mul-le-mul_right z low in omega arith
 
   stays-on : (i m : ℕ) → m ≢ k → m ≢ n → IsKind v i m → IsKind w i m
   stays-on i m x y is = record {
@@ -179,10 +161,11 @@ module _ {v w : VolumeState} {n k : ℕ} (f : IsFormatted v) (g : IsFormatted w)
     kind_is = ap kind_of (blocks m is.there is.later x y) ∙ is.kind_is;
   }
 
-  was-before : (i m : ℕ) → m ≢ k → m ≢ n → IsKind w i m → IsKind v i m
-  was-before i m x y is =
-      let t = there-before m is.there y in
-      record { there = t; later = is.later; kind_is = sym (ap kind_of (blocks m t is.later x y)) ∙ is.kind_is }
+  was-before : (i m : ℕ) → i ≢ 3 → m ≢ k → m ≢ n → IsKind w i m → IsKind v i m
+  was-before i m kept x y is = elim (there-before m is.there y) [
+    | inl t ↦ record { there = t; later = is.later; kind_is = sym (ap kind_of (blocks m t is.later x y)) ∙ is.kind_is }
+    | inr three ↦ absurd (kept (sym is.kind_is ∙ three.kind_is))
+  ]
 
   -- a block is one of the two, or it stays
   is-data : (m : ℕ) → IsKind w 1 m ⊎ ((m ≢ k) × (m ≢ n))
@@ -197,10 +180,13 @@ module _ {v w : VolumeState} {n k : ℕ} (f : IsFormatted v) (g : IsFormatted w)
   stay-kinds : HasKinds v → HasKinds w
   stay-kinds kinds m there later = elim (is-data m) [
     | inl own ↦ inl own
-    | inr apart ↦ elim (kinds m (there-before m there apart.1) later) [
-      | inl is ↦ inl (stays-on 1 m apart.0 apart.1 is)
-      | inr (inl is) ↦ inr (inl (stays-on 2 m apart.0 apart.1 is))
-      | inr (inr is) ↦ inr (inr (stays-on 3 m apart.0 apart.1 is))
+    | inr apart ↦ elim (there-before m there apart.1) [
+      | inr free ↦ inr (inr free)
+      | inl old ↦ elim (kinds m old later) [
+        | inl is ↦ inl (stays-on 1 m apart.0 apart.1 is)
+        | inr (inl is) ↦ inr (inl (stays-on 2 m apart.0 apart.1 is))
+        | inr (inr is) ↦ inr (inr (stays-on 3 m apart.0 apart.1 is))
+      ]
     ]
   ]
 
@@ -209,16 +195,16 @@ module _ {v w : VolumeState} {n k : ℕ} (f : IsFormatted v) (g : IsFormatted w)
     index = index;
     others = λ m is. elim (is-data m) [
       | inl own ↦ absurd (let first = own.kind_is in let second = is.kind_is in omega arith)
-      | inr apart ↦ was-before 2 m apart.0 apart.1 is
+      | inr apart ↦ was-before 2 m (λ e. omega arith) apart.0 apart.1 is
     ];
     data_blocks = λ m is. elim (is-data m) [ inl own ↦ own | inr apart ↦ stays-on 1 m apart.0 apart.1 is ];
     header = grows.header ∙ ap (λ (x : Header). record (header_of v.image) { count = (header_of w.image).count; first_root = x.first_root; last_root = x.last_root }) (sym grows.header);
     kinds = stay-kinds;
   }
 
--- the volume has grown by one block at most
-count-grown : {v w : VolumeState} (n : ℕ) → MayGrow v n w → ((header_of v.image).count ≤ (header_of w.image).count) × ((header_of w.image).count ≤ (header_of v.image).count + 1)
-count-grown n grows = elim grows.count [ inl e ↦ (omega arith, omega arith) | inr e ↦ (let more = e.1 in (omega arith, omega arith)) ]
+-- the volume has grown by two blocks at most
+count-grown : {v w : VolumeState} (n : ℕ) → MayGrow v n w → ((header_of v.image).count ≤ (header_of w.image).count) × ((header_of w.image).count ≤ (header_of v.image).count + 2)
+count-grown n grows = elim grows.count [ inl e ↦ (omega arith, omega arith) | inr e ↦ (let a = e.0 in let b = e.1 in let c = e.2 in (omega arith, omega arith)) ]
 
 -- the block of a segment is a data block
 block-of : (v w : VolumeState) (a : ℕ) (s : List ℕ) → IsFormatted w → w.size ≡ v.size → find w a ≡ Some s → IsKind w 1 (a / v.size)
@@ -230,14 +216,14 @@ module _ {v w : VolumeState} {a : ℕ} {s : List ℕ} (f : IsFormatted v) (size 
       let own = block-of v w a s h.formatted size h.is in
       rest-of f h.formatted size some own own (λ m there later x y. h.blocks m there later y) h.grows h.index
 
-  pub count-put : ((header_of v.image).count ≤ (header_of w.image).count) × ((header_of w.image).count ≤ (header_of v.image).count + 1)
+  pub count-put : ((header_of v.image).count ≤ (header_of w.image).count) × ((header_of w.image).count ≤ (header_of v.image).count + 2)
   count-put = count-grown (a / v.size) h.grows
 
 module _ {v w : VolumeState} {a to : ℕ} {s : List ℕ} (f : IsFormatted v) (size : w.size ≡ v.size) (some : 0 < v.size) (h : IsRewritten v a to s w) where
   pub rest-rewritten : KeepsTheRest v w
   rest-rewritten = rest-of f h.formatted size some (block-of v w to s h.formatted size h.is) h.data_block h.blocks h.grows h.index
 
-  pub count-rewritten : ((header_of v.image).count ≤ (header_of w.image).count) × ((header_of w.image).count ≤ (header_of v.image).count + 1)
+  pub count-rewritten : ((header_of v.image).count ≤ (header_of w.image).count) × ((header_of w.image).count ≤ (header_of v.image).count + 2)
   count-rewritten = count-grown (to / v.size) h.grows
 
 -- ---- a call that reads

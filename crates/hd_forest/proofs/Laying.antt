@@ -129,7 +129,7 @@ leaf-put d v w row y x a segment fit of size sizes leaf put =
       count = (count-put of.formatted size some put).0;
       grows = (count-put of.formatted size some put).1;
       spares = put.spares;
-      in_hole = λ h. put.in_hole (subst (λ n. HasHole v n) (sym leaf.size) h);
+      in_hole = λ plain h. put.in_hole plain (subst (λ n. HasHole v n) (sym leaf.size) h);
       holes = λ n more h. subst (λ k. HasHole w (n - k)) leaf.size (put.holes n (less _ _ _ leaf.size more) h);
     }
   where

@@ -5,6 +5,7 @@ use Rattle.hd_dbd.specs.Types.{SegmentType}
 use Rattle.hd_dbd.specs.Segment.{Segment}
 use Rattle.hd_dbd.specs.Hierarchy.{Database}
 use Rattle.hd_volume.specs.Volumes.{VolumeState}
+use Rattle.hd_volume.specs.Spacing.{IsPlain}
 use Rattle.hd_links.specs.Links.{Links, IsSegment, IsLinkGraph, is_child_type}
 use Rattle.hd_links.specs.Placed.{Placed}
 use Rattle.hd_links.specs.Pointers.{IsInChain, PointersAreTyped}
@@ -105,7 +106,7 @@ pub graph-up : (types : List SegmentType) (n k : ℕ) (m : Links) → n ≤ k �
 graph-up types n k m up g = record { header = g.header; header_code = g.header_code; fits = g.fits; below = λ a s. (let low = g.below a s in omega arith) }
 
 module _ (d : Database) (u v w x : VolumeState) (h y behind a : ℕ) (row : Segment) (fit : IsDatabase d) (of : IsVolumeOf d u) (forest : HasForest d u)
-    (may : MayLink d.types (links_of d.types u) h y row) (image : v.image ≡ u.image) (size : v.size ≡ u.size) (sizes : v.sizes ≡ u.sizes) (ofv : IsVolumeOf d v)
+    (may : MayLink d.types (links_of d.types u) h y row) (image : v.image ≡ u.image) (size : v.size ≡ u.size) (sizes : v.sizes ≡ u.sizes) (plain-on : IsPlain u → IsPlain v) (ofv : IsVolumeOf d v)
     (is : behind ≡ twin_behind (links_of d.types u) h row.code y) (put : IsLeafPut d v row y behind a w) (done : IsRecorded d w (named (links_of d.types w) h row.code y behind a) x) where
   abbrev m : Links
   m = links_of d.types u
@@ -148,14 +149,14 @@ module _ (d : Database) (u v w x : VolumeState) (h y behind a : ℕ) (row : Segm
         count = no-less _ _ _ _ same.count put.count done.keeps.count;
         grows = no-more _ _ _ _ same.count put.grows done.keeps.count;
         spares = one-less _ _ _ _ same.spares put.spares done.keeps.spares;
-        in_hole = λ hole. done.keeps.spares ∙ put.in_hole (same.holes _ hole) ∙ same.spares;
+        in_hole = λ plain hole. done.keeps.spares ∙ put.in_hole (plain-on plain) (same.holes _ hole) ∙ same.spares;
         holes = λ n more hole. done.keeps.holes _ (put.holes n more (same.holes n hole));
       }
     where
       no-less : (a b c d : ℕ) → b ≡ a → b ≤ c → d ≡ c → a ≤ d
       no-less a b c d e f g = omega arith
 
-      no-more : (a b c d : ℕ) → b ≡ a → c ≤ b + 1 → d ≡ c → d ≤ a + 1
+      no-more : (a b c d : ℕ) → b ≡ a → c ≤ b + 2 → d ≡ c → d ≤ a + 2
       no-more a b c d e f g = omega arith
 
       one-less : (a b c d : ℕ) → b ≡ a → b ≤ c + 1 → d ≡ c → a ≤ d + 1

@@ -8,6 +8,7 @@ use Rattle.hd_dbd.specs.Segment.{Segment}
 use Rattle.hd_dbd.specs.Forest.{Forest, empty, node}
 use Rattle.hd_dbd.specs.Prefixes.{size_with}
 use Rattle.hd_volume.specs.Volumes.{VolumeState, IsFormatted}
+use Rattle.hd_volume.specs.Spacing.{IsPlain}
 use Rattle.hd_volume.specs.Calls.{IsRead}
 use Rattle.hd_volume.proofs.JoinLemmas.{AreOne, one-segments}
 use Rattle.hd_links.specs.Links.{Links, IsSegment, is_child_type}
@@ -36,9 +37,9 @@ use Rattle.hd_forest.proofs.Linking.{graph-up}
 
 -- ---- the room, where the blocks stayed before and behind
 
-pub room-between : (d : Database) (u v w x : VolumeState) (a to need : ℕ) → IsFormatted v → IsFormatted w → KeepsBlocks u v → links_of d.types v ≡ links_of d.types u
-    → IsRoomTaken d v a to need w → KeepsBlocks w x → IsRoomTaken d u a to need x
-room-between d u v w x a to need fv fw before same r behind =
+pub room-between : (d : Database) (u v w x : VolumeState) (a to need : ℕ) → IsFormatted v → IsFormatted w → (IsPlain u → IsPlain v) → KeepsBlocks u v
+    → links_of d.types v ≡ links_of d.types u → IsRoomTaken d v a to need w → KeepsBlocks w x → IsRoomTaken d u a to need x
+room-between d u v w x a to need fv fw plain-on before same r behind =
     let e = before.spares in
     let f = behind.spares in
     let g = r.spares in
@@ -57,18 +58,18 @@ room-between d u v w x a to need fv fw before same r behind =
       count = omega arith;
       grows = omega arith;
       spares = omega arith;
-      in_hole = λ hole. f ∙ r.in_hole (before.holes need hole) ∙ e;
+      in_hole = λ plain hole. f ∙ r.in_hole (plain-on plain) (before.holes need hole) ∙ e;
       holes = λ n more hole. behind.holes _ (r.holes n more (before.holes n hole));
       in_place = λ stays. let p = r.in_place stays in (f ∙ p.0 ∙ e, λ n hole. behind.holes n (p.1 n (before.holes n hole)));
     }
 
 -- what was done after a call that read
-pub row-set-after : (d : Database) (u v w : VolumeState) (path : List ℕ) (row : Segment) (to : ℕ) → IsFormatted v → KeepsBlocks u v → links_of d.types v ≡ links_of d.types u
+pub row-set-after : (d : Database) (u v w : VolumeState) (path : List ℕ) (row : Segment) (to : ℕ) → IsFormatted v → (IsPlain u → IsPlain v) → KeepsBlocks u v → links_of d.types v ≡ links_of d.types u
     → IsRowSet d v path row to w → IsRowSet d u path row to w
-row-set-after d u v w path row to fv before same r = record {
+row-set-after d u v w path row to fv plain-on before same r = record {
   volume = r.volume;
   forest = λ f holds. r.forest f (subst (λ (m : Links). Holds d.types m f) (sym same) holds);
-  room = room-between d u v w w (tip path) to (room_of d.types row) fv r.volume.formatted before same r.room (keeps-refl w);
+  room = room-between d u v w w (tip path) to (room_of d.types row) fv r.volume.formatted plain-on before same r.room (keeps-refl w);
 }
 
 -- ---- in its place
@@ -231,7 +232,7 @@ module _ (d : Database) (v w : VolumeState) (fit : IsDatabase d) (of : IsVolumeO
         volume = done.volume;
         forest = λ f holds. (moved_held d.types K.ordered (length v.image + to + 1) m (graph-up d.types (length v.image) (length v.image + to + 1) m (omega arith) K.graph) f holds
             h y a to can may row.bytes replace (links_of d.types x) agree (omega arith)).1;
-        room = room-between d v v w x a to (room_of d.types row) of.formatted set.volume.formatted (keeps-refl v) refl set.room done.keeps;
+        room = room-between d v v w x a to (room_of d.types row) of.formatted set.volume.formatted (λ plain. plain) (keeps-refl v) refl set.room done.keeps;
       }
 
 -- ---- the call
@@ -320,4 +321,4 @@ pub row-set-read : {A : Type 0} {x : A} (d : Database) (u v w : VolumeState) (pa
     → IsRowSet d v path row to w → IsRowSet d u path row to w
 row-set-read d u v w path row to read sound of done =
     let same = after-read d u v read sound in
-    row-set-after d u v w path row to of.formatted (keeps-same u v same.image read.call.size read.call.sizes) same.links done
+    row-set-after d u v w path row to of.formatted read.call.plain (keeps-same u v same.image read.call.size read.call.sizes) same.links done

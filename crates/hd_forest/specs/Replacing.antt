@@ -7,6 +7,7 @@ use Rattle.hd_dbd.specs.Types.{SegmentType}
 use Rattle.hd_dbd.specs.Forest.{Forest}
 use Rattle.hd_volume.specs.Headers.{header_of}
 use Rattle.hd_volume.specs.Volumes.{VolumeState}
+use Rattle.hd_volume.specs.Spacing.{IsPlain}
 use Rattle.hd_volume.specs.Rooms.{spare, HasHole}
 use Rattle.hd_volume.specs.Calls.{KeepsHoles}
 use Rattle.hd_prefix.specs.Fields.{code_of, bytes_of}
@@ -54,9 +55,9 @@ pub record IsRoomTaken (d : Database) (old : VolumeState) (a to need : ℕ) (new
   pub moves : size_with d.types ((links_of d.types old).code a) (length ((links_of d.types old).bytes a)) < need → to ≢ a
   pub rest : KeepsTheRest old new
   pub count : (header_of old.image).count ≤ (header_of new.image).count
-  pub grows : (header_of new.image).count ≤ (header_of old.image).count + 1
+  pub grows : (header_of new.image).count ≤ (header_of old.image).count + 2
   pub spares : spare old ≤ spare new + 1
-  pub in_hole : HasHole old need → spare new ≡ spare old
+  pub in_hole : IsPlain old → HasHole old need → spare new ≡ spare old
   pub holes : (n : ℕ) → need < n → HasHole old n → HasHole new (n - need)
   pub in_place : to ≡ a → (spare new ≡ spare old) × KeepsHoles old new
 

@@ -7,6 +7,7 @@ use Rattle.hd_dbd.specs.Prefixes.{size_with}
 use Rattle.hd_dbd.specs.Forest.{Forest}
 use Rattle.hd_volume.specs.Headers.{header_of}
 use Rattle.hd_volume.specs.Volumes.{VolumeState, IsKind, HasKinds}
+use Rattle.hd_volume.specs.Spacing.{IsPlain}
 use Rattle.hd_volume.specs.Rooms.{spare, HasHole}
 use Rattle.hd_volume.specs.Calls.{KeepsIndex, KeepsHoles}
 use Rattle.hd_links.specs.Links.{Links}
@@ -30,7 +31,8 @@ pub record KeepsTheRest (old new : VolumeState) : Type 0 where
   pub kinds : HasKinds old → HasKinds new
 
 -- The row was linked below h behind its twin y, or as the first of its type where y is 0, and stands at the address a: the
--- records, and each forest that they held, have it as a new leaf. A hole of its size is used where there is one.
+-- records, and each forest that they held, have it as a new leaf. A hole of its size is used where there is one and the volume
+-- keeps nothing free.
 pub record IsLinked (d : Database) (old : VolumeState) (h y : ℕ) (row : Segment) (a : ℕ) (new : VolumeState) : Type 0 where
   pub volume : IsVolumeOf d new
   pub some : 0 < a
@@ -39,9 +41,9 @@ pub record IsLinked (d : Database) (old : VolumeState) (h y : ℕ) (row : Segmen
   pub forest : (f : Forest Placed) → Holds d.types (links_of d.types old) f → Holds d.types (links_of d.types new) (with_leaf h y (record { address = a; segment = row }) f)
   pub rest : KeepsTheRest old new
   pub count : (header_of old.image).count ≤ (header_of new.image).count
-  pub grows : (header_of new.image).count ≤ (header_of old.image).count + 1
+  pub grows : (header_of new.image).count ≤ (header_of old.image).count + 2
   pub spares : spare old ≤ spare new + 1
-  pub in_hole : HasHole old (size_with d.types row.code (length row.bytes)) → spare new ≡ spare old
+  pub in_hole : IsPlain old → HasHole old (size_with d.types row.code (length row.bytes)) → spare new ≡ spare old
   pub holes : (n : ℕ) → size_with d.types row.code (length row.bytes) < n → HasHole old n → HasHole new (n - size_with d.types row.code (length row.bytes))
 
 -- The last row of the path was unlinked, with all below it, and their room is free: the records, and each forest that they

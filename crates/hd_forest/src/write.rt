@@ -1,10 +1,12 @@
 ghost use Rattle.std.specs.Prelude.{◌≡◌, ℕ, ◌+◌, ◌≤◌, ◌<◌, true, length, IsTrue, IfSome, OnOk};
 ghost use Rattle.hd_bytes.specs.Numbers.{number_at};
+ghost use Rattle.hd_dbd.specs.declared.hierarchy.FreeSpace.{FreeSpace};
 ghost use Rattle.hd_dbd.specs.Hierarchy.{Database};
 ghost use Rattle.hd_dbd.specs.Prefixes.{prefix_length};
 ghost use Rattle.hd_dbd.specs.DatabaseRules.{well_formed};
 ghost use Rattle.hd_dbd.specs.Refusals.{OnlyDevice};
 ghost use Rattle.hd_volume.specs.Volumes.{IsFormatted};
+ghost use Rattle.hd_volume.specs.Spacing.{LeavesSpace};
 ghost use Rattle.hd_volume.specs.Calls.{IsCall};
 ghost use Rattle.hd_prefix.specs.Pointers.{place_of};
 ghost use Rattle.hd_links.specs.Links.{IsSegment, is_child_type};
@@ -115,6 +117,7 @@ fn set_root<S: BlockStore>(volume: &mut Volume<S>, pointer: Pointer, address: u3
     requires formatted { IsTrue volume.old.is_sound → IsFormatted volume.old }
     ensures set { IsTrue volume.old.is_sound → (d : Database) → IsVolumeOf d volume.old → IsRecorded d volume.old (with_pointer (links_of d.types volume.old) pointer 0 address) volume.new }
     ensures rest { volume.new ≡ record volume.old { image = volume.new.image } }
+    ensures space { (spacing : FreeSpace) → LeavesSpace spacing volume.old → LeavesSpace spacing volume.new }
 {
     match pointer {
         Pointer::FirstChild(1) => volume.set_first_root(address),

@@ -8,6 +8,7 @@ use Rattle.hd_dbd.specs.Rows.{key_of}
 use Rattle.hd_dbd.specs.Forest.{Forest, empty, node}
 use Rattle.hd_volume.specs.Headers.{header_of}
 use Rattle.hd_volume.specs.Volumes.{VolumeState, HasKinds}
+use Rattle.hd_volume.specs.Spacing.{no_spacing}
 use Rattle.hd_volume.specs.Entries.{Entry}
 use Rattle.hd_volume.specs.Indexes.{root_key_length}
 use Rattle.hd_levels.specs.IndexSets.{index_entries, HasIndexOf}
@@ -44,4 +45,4 @@ HoldsRows d v rows = (placed : Forest Placed) × (rows_of placed ≡ rows) × Ho
 
 -- the volume that is loaded for a database from these bytes
 abbrev pub volume_of : Database → List ℕ → VolumeState
-volume_of d image = record { image = image; stored = image; is_sound = true; failures = 0; room = 0; size = d.block_size; sizes = stored_sizes d.types }
+volume_of d image = record { image = image; stored = image; is_sound = true; failures = 0; room = 0; size = d.block_size; sizes = stored_sizes d.types; spacing = no_spacing }

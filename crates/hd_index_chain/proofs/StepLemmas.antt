@@ -1,6 +1,6 @@
 -- Steps of a change of the index: what they keep of the volume.
 use Rattle.std.proofs.Common.{◌≡◌, ◌≢◌, ◌⊎◌, inl, inr, ℕ, ◌+◌, ◌*◌, ◌<◌, ◌≤◌, List, [], ◌∷◌, length, take, drop, replicate, slice_index, refl, sym, ap, ◌∙◌, arith, subst}
-use Rattle.std.proofs.lemmas.Bool.{cases_eq}
+use Rattle.std.proofs.lemmas.Bool.{cases_lt, cases_eq}
 use Rattle.std.proofs.lemmas.List.{append-nil, get_or-replicate}
 use Rattle.std.proofs.lemmas.Nat.{row_fits}
 use Rattle.hd_bytes.specs.Numbers.{number_at}
@@ -172,22 +172,22 @@ edit-spliced k u w n es h = record {
 
 module _ {u w : VolumeState} (m : ℕ) (same : AreSame u w) (f : IsFormatted u) (some : 0 < u.size) (t : IsTakenBlock u m 0 w) where
   taken-count : (header_of u.image).count ≤ (header_of w.image).count
-  taken-count = elim t.grows.count [ inl e ↦ omega arith | inr e ↦ (let x = e.1 in omega arith) ]
+  taken-count = elim t.grows.count [ inl e ↦ omega arith | inr e ↦ (let x = e.0 in let y = e.1 in omega arith) ]
 
-  -- by one at most
-  taken-more : (header_of w.image).count ≤ (header_of u.image).count + 1
-  taken-more = elim t.grows.count [ inl e ↦ omega arith | inr e ↦ (let x = e.1 in omega arith) ]
+  -- by two at most
+  taken-more : (header_of w.image).count ≤ (header_of u.image).count + 2 * 1
+  taken-more = elim t.grows.count [ inl e ↦ omega arith | inr e ↦ (let x = e.0 in let y = e.2 in omega arith) ]
 
   -- each block is still there
   taken-on : (b : ℕ) → HasBlock u.size u.image b → HasBlock w.size w.image b
   taken-on b there = there-on u w b f.header t.formatted.header some taken-count there
 
-  -- every other block was there
-  taken-back : (b : ℕ) → b ≢ m → HasBlock w.size w.image b → HasBlock u.size u.image b
+  -- every other block was there, or is free
+  taken-back : (b : ℕ) → b ≢ m → HasBlock w.size w.image b → HasBlock u.size u.image b ⊎ IsKind w 3 b
   taken-back b other there =
       let size = same.size in
       let low = below-count w b t.formatted.header (omega arith) there in
-      there-below u b f.header (elim t.grows.count [ inl e ↦ omega arith | inr e ↦ (let x = e.0 in let y = e.1 in omega arith) ])
+      elim (cases_lt b (header_of u.image).count) [ inl l ↦ inl (there-below u b f.header l) | inr h ↦ inr (t.grows.passed b h low other) ]
 
   -- the block was neither for data nor for the index
   taken-apart : (j b : ℕ) → j ≢ 3 → IsKind u j b → b ≢ m
@@ -205,18 +205,24 @@ module _ {u w : VolumeState} (m : ℕ) (same : AreSame u w) (f : IsFormatted u) 
   taken-kind-on : (j b : ℕ) → b ≢ m → IsKind u j b → IsKind w j b
   taken-kind-on j b other k = record { there = taken-on b k.there; later = k.later; kind_is = ap kind_of (t.others b k.there k.later other) ∙ k.kind_is }
 
-  -- another block had its kind
-  taken-kind-back : (j b : ℕ) → b ≢ m → IsKind w j b → IsKind u j b
-  taken-kind-back j b other k = (let old = taken-back b other k.there in record { there = old; later = k.later; kind_is = ap kind_of (sym (t.others b old k.later other)) ∙ k.kind_is })
+  -- another block had its kind, unless that is free
+  taken-kind-back : (j b : ℕ) → j ≢ 3 → b ≢ m → IsKind w j b → IsKind u j b
+  taken-kind-back j b kept other k = elim (taken-back b other k.there) [
+    | inl old ↦ record { there = old; later = k.later; kind_is = ap kind_of (sym (t.others b old k.later other)) ∙ k.kind_is }
+    | inr three ↦ absurd (kept (sym k.kind_is ∙ three.kind_is))
+  ]
 
   -- the kinds stay the three
   taken-kinds : HasKinds u → HasKinds w
   taken-kinds h b there later = elim (cases_eq b m) [
     | inl e ↦ inr (inl (let K : ℕ → Type 0 = λ i. IsKind w 2 i in subst K (sym e) t.is))
-    | inr other ↦ elim (h b (taken-back b other there) later) [
-      | inl one ↦ inl (taken-kind-on 1 b other one)
-      | inr (inl two) ↦ inr (inl (taken-kind-on 2 b other two))
-      | inr (inr three) ↦ inr (inr (taken-kind-on 3 b other three))
+    | inr other ↦ elim (taken-back b other there) [
+      | inr free ↦ inr (inr free)
+      | inl old ↦ elim (h b old later) [
+        | inl one ↦ inl (taken-kind-on 1 b other one)
+        | inr (inl two) ↦ inr (inl (taken-kind-on 2 b other two))
+        | inr (inr three) ↦ inr (inr (taken-kind-on 3 b other three))
+      ]
     ]
   ]
 
@@ -228,11 +234,11 @@ module _ {u w : VolumeState} (m : ℕ) (same : AreSame u w) (f : IsFormatted u) 
     formatted = t.formatted;
     others = λ b k p q. t.index b k;
     stay = λ b k. taken-kind-on 2 b (taken-apart 2 b (λ x. omega arith) k) k;
-    back = λ b k. elim (cases_eq b m) [ inl e ↦ inr e | inr other ↦ inl (taken-kind-back 2 b other k) ];
+    back = λ b k. elim (cases_eq b m) [ inl e ↦ inr e | inr other ↦ inl (taken-kind-back 2 b (λ x. omega arith) other k) ];
     change = record {
       segments = t.segments;
       data_blocks = λ b k. t.others b k.there k.later (taken-apart 1 b (λ x. omega arith) k);
-      others = λ b k. taken-kind-back 1 b (λ x. (let one : 2 ≡ 1 = sym t.is.kind_is ∙ ap (λ (i : ℕ). kind_of (block_at w i)) (sym x) ∙ k.kind_is in omega arith)) k;
+      others = λ b k. taken-kind-back 1 b (λ x. omega arith) (λ x. (let one : 2 ≡ 1 = sym t.is.kind_is ∙ ap (λ (i : ℕ). kind_of (block_at w i)) (sym x) ∙ k.kind_is in omega arith)) k;
       kinds = taken-kinds;
       count = taken-count;
       grows = taken-more;

@@ -119,9 +119,12 @@ module _ (d : Database) (v w : VolumeState) (f : Forest Placed) (key : List ℕ)
       (let less : spare v ≤ spare w + 1 = I.spares in
       omega (arith, less, enough, needed-kept d v w f 0 y a row key H I))
   entry-blocks (low, inr hole) =
-      (let same : spare w ≡ spare v = I.in_hole (hole-first d.types v row rest hole.0) in
-      let enough : blocks_for_entry d v key ≤ spare v = hole.1 in
-      omega (arith, same, enough, needed-kept d v w f 0 y a row key H I))
+      (let enough : blocks_for_entry d v key ≤ spare v = hole.1 in
+      let needed : blocks_for_entry d w key ≡ blocks_for_entry d v key = needed-kept d v w f 0 y a row key H I in
+      elim hole.2 [
+        | inl plain ↦ (let same : spare w ≡ spare v = I.in_hole plain (hole-first d.types v row rest hole.0) in omega (arith, same, enough, needed))
+        | inr none ↦ omega (arith, none, needed)
+      ])
 
   entry-room : HasRootRoomFor d v key (row ∷ rest) → (IsHighest w → ⊥) × (blocks_for_entry d w key ≤ spare w)
   entry-room room = (λ high. room.0 (highest-kept high), entry-blocks room)
@@ -202,6 +205,7 @@ module _ (d : Database) (v w : VolumeState) (S : HaveOneImage v w) where
       (let enough : blocks_for_entry d v key ≤ spare v = hole.1 in
           let needed : blocks_for_entry d w key ≡ blocks_for_entry d v key = needed-same (root_key_length d.types) v w key S.size S.image in
           omega (arith, enough, needed, one-spare one)),
+      elim hole.2 [ inl plain ↦ inl (S.plain plain) | inr none ↦ inr (needed-same (root_key_length d.types) v w key S.size S.image ∙ none) ],
     ),
   )
 

@@ -7,6 +7,7 @@ use Rattle.hd_dbd.specs.Prefixes.{size_with}
 use Rattle.hd_dbd.specs.Forest.{Forest}
 use Rattle.hd_calls.specs.Runs.{stored_sizes}
 use Rattle.hd_volume.specs.Volumes.{VolumeState}
+use Rattle.hd_volume.specs.Spacing.{IsPlain}
 use Rattle.hd_volume.specs.Rooms.{spare, HasHole}
 use Rattle.hd_volume.specs.Entries.{Entry}
 use Rattle.hd_volume.specs.Indexes.{root_key_length}
@@ -59,11 +60,12 @@ abbrev pub blocks_for_entry : Database → VolumeState → List ℕ → ℕ
 blocks_for_entry d v key = blocks_needed (root_key_length d.types) v key
 
 -- There is room for a root of the key, the rows below it, and the root's entry: the index may have a level more, the blocks that the entry
--- needs are to spare, and beside them one for each row, or one hole is as large as all rows together.
+-- needs are to spare, and beside them one for each row, or one hole is as large as all rows together. A hole counts only where the rows take no
+-- block that the entry needs: the volume keeps nothing free, or the entry needs none.
 abbrev pub HasRootRoomFor : Database → VolumeState → List ℕ → List Segment → Type 0
 HasRootRoomFor d v key rows =
     (IsHighest v → ⊥)
-    × ((length rows + blocks_for_entry d v key ≤ spare v) ⊎ (HasHole v (stored_sizes d.types rows) × (blocks_for_entry d v key ≤ spare v)))
+    × ((length rows + blocks_for_entry d v key ≤ spare v) ⊎ (HasHole v (stored_sizes d.types rows) × (blocks_for_entry d v key ≤ spare v) × (IsPlain v ⊎ (blocks_for_entry d v key ≡ 0))))
 
 -- Memory is reserved for a root, the rows below it, and the root's entry: for as many blocks as all may need.
 abbrev pub HasRootMemoryFor : VolumeState → List Segment → Type 0
@@ -115,6 +117,7 @@ pub record HaveOneImage (v w : VolumeState) : Type 0 where
   pub image : w.image ≡ v.image
   pub size : w.size ≡ v.size
   pub sizes : w.sizes ≡ v.sizes
+  pub plain : IsPlain v → IsPlain w
 
 -- Volumes of one image hold the same forest, and have the same room.
 abbrev pub OneImageIsOneVolume : Type 0

@@ -3,6 +3,7 @@
 use Rattle.std.specs.Prelude.{◌≡◌, ℕ, ◌-◌, true, List, [], ◌∷◌, ◌++◌, replicate, length, codes, Some}
 use Rattle.hd_dbd.specs.declared.facts.SegmentSize.TheVariants.{Fixed}
 use Rattle.hd_volume.specs.Volumes.{VolumeState}
+use Rattle.hd_volume.specs.Spacing.{no_spacing}
 use Rattle.hd_volume.specs.Entries.{Entry}
 use Rattle.hd_levels.specs.Maps.{address_from}
 use Rattle.hd_levels.specs.Ways.{leaf_of}
@@ -47,7 +48,7 @@ sample_image =
 
 -- the volume of an image of the sample
 abbrev pub volume_of : List ℕ → VolumeState
-volume_of image = record { image = image; stored = image; is_sound = true; failures = 0; room = 0; size = 128; sizes = Fixed 0 ∷ Fixed 40 ∷ Fixed 24 ∷ Fixed 16 ∷ Fixed 16 ∷ [] }
+volume_of image = record { image = image; stored = image; is_sound = true; failures = 0; room = 0; size = 128; sizes = Fixed 0 ∷ Fixed 40 ∷ Fixed 24 ∷ Fixed 16 ∷ Fixed 16 ∷ []; spacing = no_spacing }
 
 abbrev pub sample_volume : VolumeState
 sample_volume = volume_of sample_image

@@ -51,8 +51,14 @@ fn sample_types(alloc: Global) -> Result<Vec<SegType>, AllocError> {
 pub fn database(alloc: Global) -> Result<Dbd, DbdFault>
     ensures { IfOk result (λ dbd. dbd.block_size ≡ 128) }
 {
+    spaced_database(alloc, FreeSpace { fbff: 0, fspf: 0 })
+}
+
+/// The sample database of which a load leaves this free space.
+pub fn spaced_database(alloc: Global, frspc: FreeSpace) -> Result<Dbd, DbdFault>
+    ensures { IfOk result (λ dbd. dbd.block_size ≡ 128) }
+{
     let name = Name8::from_padded(*b"EDU     ").unwrap();
-    let frspc = FreeSpace { fbff: 0, fspf: 0 };
     let types = sample_types(alloc)?;
     Dbd::new(alloc, name, 128, frspc, types)
 }

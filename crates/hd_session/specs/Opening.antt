@@ -17,6 +17,7 @@ use Rattle.hd_calls.specs.Steps.{State, position_at}
 use Rattle.hd_calls.specs.NoLostUpdate.{opened}
 use Rattle.hd_volume.specs.Headers.{header_of}
 use Rattle.hd_volume.specs.Volumes.{VolumeState}
+use Rattle.hd_volume.specs.Spacing.{IsPlain}
 use Rattle.hd_volume.specs.Calls.{IsRead}
 use Rattle.hd_volume.specs.declared.header.TheConstants.{NEWEST_VERSION}
 use Rattle.hd_links.specs.Placed.{Placed, forest_of}
@@ -50,13 +51,14 @@ pub record StandsForState (d : Database) (v : VolumeState) (pcbs : List View) (k
   pub represents : Represents d v kept state
   pub loaders : LoadersArePastAll pcbs state
 
--- What a session keeps to: its program is made for its database and keeps to the rules, the sizes are that database's, something is kept of
--- each PCB; and while it is not broken and its store is sound, it stands for a state.
+-- What a session keeps to: its program is made for its database and keeps to the rules, the sizes are that database's, the volume
+-- keeps nothing free as it grows, something is kept of each PCB; and while it is not broken and its store is sound, it stands for a state.
 pub record IsSession (names : List TypeName) (s : SessionState) : Type 0 where
   pub made_for : names ≡ type_names s.database.types
   pub program : IsTrue (program_fits names s.pcbs)
   pub size : s.volume.size ≡ s.database.block_size
   pub sizes : s.volume.sizes ≡ stored_sizes s.database.types
+  pub plain : IsPlain s.volume
   pub one_each : length s.kept ≡ length s.pcbs
   pub stands : s.broken ≡ false → IsTrue s.volume.is_sound → StandsForState s.database s.volume s.pcbs s.kept
 

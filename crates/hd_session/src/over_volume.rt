@@ -3,6 +3,7 @@ ghost use Rattle.hd_dbd.specs.Facts.{stored_sizes};
 ghost use Rattle.hd_dbd.specs.Hierarchy.{longest_path};
 ghost use Rattle.hd_dbd.specs.Lengths.{some_vary};
 ghost use Rattle.hd_dbd.specs.ProgramRules.{type_names};
+ghost use Rattle.hd_volume.specs.Spacing.{IsPlain};
 ghost use Rattle.hd_volume.specs.Calls.{IsCall};
 ghost use Rattle.hd_volume.specs.Stores.{CountsDevice, StaysSound};
 ghost use Rattle.hd_calls.specs.Functions.{function_of};
@@ -50,7 +51,7 @@ impl<'a, S: BlockStore> Model for Session<'a, S> {
 
 impl<'a, S: BlockStore> Session<'a, S> {
     /// A session in which each PCB is before all rows, over a volume that passes a check, and that is empty where a PCB loads. A fault
-    /// gives the volume back.
+    /// gives the volume back. The volume is one that keeps nothing free as it grows: only loads do.
     pub fn open(
         alloc: Global,
         mut volume: Volume<S>,
@@ -58,6 +59,7 @@ impl<'a, S: BlockStore> Session<'a, S> {
         psb: &'a Psb,
     ) -> Result<Session<'a, S>, (Volume<S>, OpenFault)>
         requires size { (volume.size ≡ dbd.now.block_size) × (volume.sizes ≡ stored_sizes dbd.now.types) }
+        requires plain { IsPlain volume }
         requires matches { psb.now.made_for ≡ type_names dbd.now.types }
         ensures read { IsOpenRead volume result }
         ensures start { IfOk result (λ s. s ≡ session_at_start dbd.now psb.now.pcbs s.volume) }

@@ -10,6 +10,11 @@ use Rattle.hd_dbd.specs.Loads.{Loading, rows_loaded, image_before, IsLegalLoad}
 use Rattle.hd_volume.specs.Headers.{Header, header_of}
 use Rattle.hd_volume.specs.Volumes.{VolumeState}
 use Rattle.hd_volume.specs.Creates.{IsCreated}
+use Rattle.hd_volume.specs.Spacing.{HasLeft, LeavesSpace}
+use Rattle.hd_volume.proofs.MapLemmas.{space-same}
+use Rattle.hd_volume.proofs.JoinLemmas.{AreOne, one-formatted, one-segments}
+use Rattle.hd_dbd.specs.declared.hierarchy.FreeSpace.{FreeSpace}
+use Rattle.std.proofs.Math.Nat.{mul-le-mul_right}
 use Rattle.hd_image.specs.Holding.{HoldsRows, volume_of}
 use Rattle.hd_image.proofs.OneImage.{held-same}
 use Rattle.hd_volume.specs.Stores.{CountsFor, SoundFor}
@@ -54,20 +59,54 @@ load-version d largest rows v load = legal-version d [] load.loadings v load.leg
 
 -- the bytes of a volume that was loaded whole
 pub reloaded : (d : Database) (stream : List ℕ) (largest segments count blocks : ℕ) (v : VolumeState) (contents : List ℕ) → IsLoadedAll d stream largest count v → IsTrue v.is_sound
-    → v.size ≡ d.block_size → v.sizes ≡ stored_sizes d.types → contents ≡ v.image → blocks ≡ (header_of v.image).count → segments ≡ count
+    → v.size ≡ d.block_size → v.sizes ≡ stored_sizes d.types → HasLeft (record v { spacing = d.frspc }) → contents ≡ v.image → blocks ≡ (header_of v.image).count → segments ≡ count
     → IsReloaded d stream largest segments blocks contents
-reloaded d stream largest segments count blocks v contents all sound size sizes is counted segments-are =
+reloaded d stream largest segments count blocks v contents all sound size sizes left is counted segments-are =
     let load = all.load sound in
     let held = load-held d largest all.rows v load in
     record {
       rows = all.rows;
       stream_of = all.stream_of;
       holds = (held.0, held.1, held-same d v (volume_of d contents) is (sym size) (sym sizes) held.0 held.2);
+      space = space-same (record v { spacing = d.frspc }) (record (volume_of d contents) { spacing = d.frspc }) (sym size) (sym sizes) is refl left;
       version = ap (λ (im : List ℕ). (header_of im).version) is ∙ load-version d largest all.rows v load;
       largest_is = ap (λ (im : List ℕ). (header_of im).largest) is ∙ load-largest d largest all.rows v load;
       segments_are = segments-are ∙ all.counted;
       blocks_are = counted ∙ sym (ap (λ (im : List ℕ). (header_of im).count) is);
     }
+
+-- a new volume leaves whatever space it is to leave
+pub new-leaves : (block_size : ℕ) (v : VolumeState) (spacing : FreeSpace) → v.size ≡ block_size → 128 ≤ block_size → (IsTrue v.is_sound → length v.image ≡ block_size) → LeavesSpace spacing v
+new-leaves block_size v spacing size some one = record {
+  left = λ sound _ _. record {
+    blocks = λ n there later _. absurd (alone n there later (one sound));
+    bytes = λ n k. absurd (alone n k.there k.later (one sound));
+  };
+}
+  where
+    alone : (n : ℕ) → HasBlock v.size v.image n → 0 < n → length v.image ≡ block_size → ⊥
+    alone n there later whole = let more : 1 * v.size ≤ n * v.size = mul-le-mul_right v.size later in omega arith
+
+-- other space is left of it, and it is as new
+pub new-spaced : (name : List ℕ) (block_size largest : ℕ) (v w : VolumeState) → AreOne v w → w.stored ≡ v.stored → IsCreated name block_size largest v → IsCreated name block_size largest w
+new-spaced name block_size largest v w one stored new = record {
+  formatted = one-formatted one new.formatted;
+  header = ap header_of one.image ∙ new.header;
+  one = ap length one.image ∙ new.one;
+  stored = stored ∙ new.stored;
+  empty = λ a. one-segments one a ∙ new.empty a;
+}
+
+pub spaced-one : {v w : VolumeState} {spacing : FreeSpace} {room : ℕ} → w ≡ record v { spacing = spacing; room = room } → AreOne v w
+spaced-one e = record {
+  same = record { size = ap (λ (x : VolumeState). x.size) e; sizes = ap (λ (x : VolumeState). x.sizes) e };
+  image = ap (λ (x : VolumeState). x.image) e;
+}
+
+pub new-from : (name : List ℕ) (block_size largest : ℕ) (v w : VolumeState) {spacing : FreeSpace} {room : ℕ} → w ≡ record v { spacing = spacing; room = room }
+    → (IsTrue v.is_sound → IsCreated name block_size largest v) → IsTrue w.is_sound → IsCreated name block_size largest w
+new-from name block_size largest v w rest new now =
+    new-spaced name block_size largest v w (spaced-one rest) (ap (λ (x : VolumeState). x.stored) rest) (new (let sound : IsTrue v.is_sound = rw (ap (λ (x : VolumeState). x.is_sound) rest) at now in sound))
 
 -- it has a first block
 pub first-there : (d : Database) (largest : ℕ) (rows : List Segment) (v : VolumeState) → IsLoad d largest rows v → HasBlock v.size v.image 0

@@ -10,7 +10,6 @@ use Rattle.std.specs.Cmp.Lexicographic.{pointwise}
 use Rattle.hd_dbd.specs.Types.{SegmentType}
 use Rattle.hd_dbd.specs.Hierarchy.{Database, type_of}
 use Rattle.hd_dbd.specs.Rows.{row_fits}
-use Rattle.hd_dbd.specs.Segment.{Segment}
 use Rattle.hd_dbd.specs.Lengths.{length_fits}
 use Rattle.hd_dbd.proofs.TypeLengths.{type-row}
 use Rattle.hd_unload.specs.declared.fault.RecordFault.{RecordFault}

@@ -1,5 +1,5 @@
 -- How the records of a volume's rows are written one after another.
-use Rattle.std.proofs.Common.{◌≡◌, ℕ, suc, ◌+◌, ◌<◌, ◌≤◌, List, [], ◌∷◌, ◌++◌, length, take, drop, get_or, Bool, true, false, IsTrue, Option, Some, None, Ok, refl, sym, ap, subst, ◌∙◌, arith, inl, inr}
+use Rattle.std.proofs.Common.{◌≡◌, ℕ, suc, ◌+◌, ◌<◌, ◌≤◌, List, [], ◌∷◌, ◌++◌, length, take, drop, get_or, Bool, true, false, IsTrue, Option, Some, None, Ok, Err, refl, sym, ap, subst, ◌∙◌, arith, inl, inr}
 use Rattle.std.specs.Io.KnownBytes.{Appends}
 use Rattle.std.specs.Option.{option_map_or}
 use Rattle.std.proofs.KnownBytes.{Appends-nil, Appends-trans}
@@ -16,6 +16,7 @@ use Rattle.hd_dbd.proofs.TypeLengths.{type-room}
 use Rattle.hd_prefix.specs.Fields.{length_of}
 use Rattle.hd_volume.specs.Volumes.{VolumeState}
 use Rattle.hd_volume.specs.Calls.{IsRead}
+use Rattle.hd_volume.proofs.CallSteps.{read-err}
 use Rattle.hd_links.specs.Links.{Links, IsSegment, segment_at}
 use Rattle.hd_links.specs.Placed.{Placed}
 use Rattle.hd_links.specs.Steps.{rows_of}
@@ -28,9 +29,16 @@ use Rattle.hd_forest.proofs.Held.{held}
 use Rattle.hd_forest.proofs.Reading.{after-read}
 use Rattle.hd_forest.proofs.Walking.{walking, walked-there}
 use Rattle.hd_unload.specs.Streams.{head_bytes, record_bytes, records_bytes, end_bytes, unload_bytes}
-use Rattle.hd_unload.specs.Unloads.{IsTurn}
+use Rattle.hd_unload.specs.declared.fault.StreamFault.{StreamFault}
+use Rattle.hd_unload.specs.declared.fault.StreamFault.TheVariants as stream
+use Rattle.hd_unload.specs.Unloads.{IsTurn, stream_call}
 use Rattle.hd_unload.proofs.Reading.{nothing-behind}
 use Rattle.hd_unload.proofs.HeldStreams.{held-few}
+
+-- a write that was refused is a refusal of any write
+pub stream-err : {A B : Type 0} {u v : VolumeState} (e : StreamFault) → IsRead {T = A} u (stream_call (Err e)) v → IsRead {T = B} u (stream_call (Err e)) v
+stream-err stream.Device h = read-err h
+stream-err stream.Write h = read-err h
 
 -- a stored segment has no more bytes of its own than a record can say
 pub own-short : (d : Database) (c : ℕ) (s : List ℕ) → IsDatabase d → ((i : ℕ) → get_or s i 0 < 256) → length_of d.types c s < 65536

@@ -9,6 +9,7 @@ use Rattle.hd_dbd.specs.Loads.{Loading, rows_loaded, image_before, last_path, lo
 use Rattle.hd_volume.specs.Headers.{header_of}
 use Rattle.hd_volume.specs.Volumes.{VolumeState}
 use Rattle.hd_volume.specs.Rooms.{spare, HasHole}
+use Rattle.hd_volume.specs.Spacing.{HasLeft}
 use Rattle.hd_volume.specs.Creates.{IsCreated}
 use Rattle.hd_levels.specs.Needs.{entry_growth, IsHighest}
 use Rattle.hd_links.specs.Links.{IsSegment, segment_at}
@@ -53,12 +54,19 @@ pub record IsFullAt (d : Database) (stream : List ℕ) (largest n : ℕ) : Type 
   pub load : IsLoad d largest rows last
   pub room : LacksRoom d last row
 
--- The bytes are a volume of version 3 that holds the rows of the stream, with this largest count, so many segments and so many
--- blocks.
+-- The volume of these bytes leaves the free space of its database, as long as it may grow by two blocks: each block behind block 0 whose
+-- number is a multiple of the first number of FRSPC is free, and each data block has no two segments, or so many percent of its bytes free as
+-- the second says, rounded down.
+abbrev pub LeavesFreeSpace : Database → List ℕ → Type 0
+LeavesFreeSpace d image = HasLeft (record (volume_of d image) { spacing = d.frspc })
+
+-- The bytes are a volume of version 3 that holds the rows of the stream and leaves free space, with this largest count, so many segments and
+-- so many blocks.
 pub record IsReloaded (d : Database) (stream : List ℕ) (largest segments blocks : ℕ) (image : List ℕ) : Type 0 where
   pub rows : List Segment
   pub stream_of : IsStreamOf d stream rows
   pub holds : HoldsRows d (volume_of d image) rows
+  pub space : LeavesFreeSpace d image
   pub version : (header_of image).version ≡ 3
   pub largest_is : (header_of image).largest ≡ largest
   pub segments_are : segments ≡ length rows

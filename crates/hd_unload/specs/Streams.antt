@@ -1,5 +1,5 @@
 -- The unload stream: how rows are spelled, and what is wrong with bytes that spell none.
-use Rattle.std.specs.Prelude.{◌≡◌, ◌⊎◌, ℕ, ◌+◌, ◌-◌, ◌<◌, ◌^◌, List, [], ◌∷◌, ◌++◌, length, take, drop, codes, true, not, ◌&&◌, ◌==◌, nat_lt, nat_le, bytes_eq, cond, Option, Some, None, option_map, ◌≤◌}
+use Rattle.std.specs.Prelude.{◌≡◌, ◌⊎◌, ℕ, ◌+◌, ◌-◌, ◌<◌, ◌^◌, List, [], ◌∷◌, ◌++◌, length, take, drop, codes, true, not, ◌&&◌, ◌==◌, nat_lt, nat_le, bytes_eq, cond, Option, Some, None, option_map}
 use Rattle.std.specs.Option.{option_map_or, option_or}
 use Rattle.std.specs.Int.{w16, w32, to_be_bytes, from_be_bytes}
 use Rattle.hd_dbd.specs.declared.answer.LoadFault.{LoadFault}

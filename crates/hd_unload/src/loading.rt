@@ -6,6 +6,7 @@ ghost use Rattle.hd_dbd.specs.Segment.{Segment};
 ghost use Rattle.hd_dbd.specs.Rows.{row_fits, next_path};
 ghost use Rattle.hd_dbd.specs.Loads.{load_fault};
 ghost use Rattle.hd_volume.specs.Headers.{header_of};
+ghost use Rattle.hd_volume.specs.Spacing.{HasLeft, LeavesSpace};
 ghost use Rattle.hd_volume.specs.Calls.{IsCall};
 ghost use Rattle.hd_links.specs.LastRows.{segments_of};
 ghost use Rattle.hd_volume.specs.Creates.{IsCreated};
@@ -95,6 +96,8 @@ fn load_records<S: BlockStore>(
 ///
 /// The first record with a fault refuses the stream; `Full` comes at a record with which nothing is wrong where the volume has no
 /// room for it. A refusal gives the store back; unless an access failed, it has then no volume.
+///
+/// The volume leaves the database's free space (FRSPC), as long as it may grow by two blocks; after that the space is used.
 pub fn reload<S: BlockStore>(
     alloc: Global,
     dbd: &Dbd,
@@ -121,7 +124,8 @@ pub fn reload<S: BlockStore>(
     }
 }
 
-/// Loads the records of a stream into a new volume, and flushes it.
+/// Loads the records of a stream into a new volume, which leaves free space, and flushes it. Where that space was given up for want of memory,
+/// and the volume may still grow by two blocks, the answer is `Memory`.
 fn fill<S: BlockStore>(
     mut volume: Volume<S>,
     dbd: &Dbd,
@@ -134,10 +138,27 @@ fn fill<S: BlockStore>(
     ensures fault { IfErr result (λ e. ForItsStreams dbd.now records.now volume (λ stream largest. IsFaultOf dbd.now stream largest volume.is_sound e.1)) }
     ensures given { IfErr result (λ e. IsGivenFrom S.size S.contents S.is_sound S.failures volume e) }
 {
+    let _ = dbd.types();
+    volume.set_spacing(dbd.frspc());
     match load_records(&mut volume, dbd, records) {
-        Ok(segments) => finish(volume, segments),
+        Ok(segments) => {
+            if !has_left(&volume, dbd) {
+                return Err((volume.into_store(), ReloadFault::Memory));
+            }
+            finish(volume, segments)
+        }
         Err(fault) => Err((volume.into_store(), fault)),
     }
+}
+
+/// A loaded volume has left the database's free space: it did not give that up, or it may not grow by two blocks any more.
+fn has_left<S: BlockStore>(volume: &Volume<S>, dbd: &Dbd) -> bool
+    requires header { IsTrue volume.now.is_sound → HasBlock volume.now.size volume.now.image 0 }
+    requires space { LeavesSpace dbd.now.frspc volume.now }
+    ensures { result ≡ true → IsTrue volume.now.is_sound → HasLeft (record volume.now { spacing = dbd.now.frspc }) }
+{
+    volume.spacing() == dbd.frspc()
+        || volume.largest_count() < volume.block_count().saturating_add(2)
 }
 
 /// Flushes a loaded volume, whose header reaches the store last.

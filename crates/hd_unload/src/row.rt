@@ -6,7 +6,7 @@ ghost use Rattle.hd_dbd.specs.Segment.{Segment};
 ghost use Rattle.hd_dbd.specs.Rows.{row_fits, key_of, next_path};
 ghost use Rattle.hd_dbd.specs.Loads.{load_fault};
 ghost use Rattle.hd_dbd.specs.Refusals.{OnlyDevice, OnlyRoomOrDevice};
-ghost use Rattle.hd_volume.specs.Calls.{IsCall, IsRead};
+ghost use Rattle.hd_volume.specs.Calls.{IsCall};
 ghost use Rattle.hd_volume.specs.Indexes.{root_key_length};
 ghost use Rattle.hd_levels.specs.Needs.{entry_growth, IsHighest};
 ghost use Rattle.hd_volume.specs.Rooms.{spare};
@@ -19,7 +19,7 @@ use crate::path::{LoadPath, Loaded};
 use hd_dbd::{Dbd, Refused};
 use hd_forest::link;
 use hd_index::{blocks_needed, insert, is_highest};
-use hd_volume::{BlockStore, Volume};
+use hd_volume::{BlockStore, NO_SPACING, Volume};
 
 /// The key of a root, which is as long as the keys of the index.
 pub fn root_key<'a>(dbd: &Dbd, bytes: &'a [u8]) -> &'a [u8]
@@ -40,7 +40,8 @@ fn root_size(dbd: &Dbd, bytes: &[u8]) -> u16
 }
 
 /// Whether a volume lacks room for one root more: its index may have no level more, or its segment needs a block where no hole is as
-/// large, and its entry in the index may need others.
+/// large, and its entry in the index needs others. Where the entry needs all blocks that are to spare, a hole is all that is left for the
+/// segment, so nothing is kept free any more.
 fn lacks_room<S: BlockStore>(
     volume: &mut Volume<S>,
     dbd: &Dbd,
@@ -48,9 +49,10 @@ fn lacks_room<S: BlockStore>(
 ) -> Result<bool, Refused>
     requires fits { row_fits dbd.now.types (row_of 1 bytes.now) ≡ true }
     requires index { IsTrue volume.old.is_sound → IsIndexOf dbd.now volume.old }
-    ensures read { IsRead volume.old result volume.new }
+    ensures call { IsCall volume.old result volume.new }
+    ensures image { IsTrue volume.new.is_sound → volume.new.image ≡ volume.old.image }
     ensures lacks { IfOk result (λ b. IsTrue volume.old.is_sound → b ≡ true → (spare volume.old < 1 + entry_growth volume.old) ⊎ IsHighest volume.old) }
-    ensures room { IfOk result (λ b. IsTrue volume.old.is_sound → b ≡ false → HasRootRoom dbd.now volume.old (row_of 1 bytes.now)) }
+    ensures room { IfOk result (λ b. IsTrue volume.old.is_sound → b ≡ false → HasRootRoom dbd.now volume.new (row_of 1 bytes.now)) }
     ensures refusal { OnlyDevice result }
 {
     if is_highest(volume) {
@@ -64,6 +66,7 @@ fn lacks_room<S: BlockStore>(
     if entry + 1 <= spare {
         return Ok(false);
     }
+    volume.set_spacing(NO_SPACING);
     Ok(!volume.has_hole(root_size(dbd, bytes))?)
 }
 

@@ -14,4 +14,6 @@ mod linked_tests;
 #[cfg(test)]
 mod old_images;
 #[cfg(test)]
+mod spacing_tests;
+#[cfg(test)]
 mod unload_tests;

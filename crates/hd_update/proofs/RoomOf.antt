@@ -27,7 +27,7 @@ module _ (d : Database) (v : VolumeState) (rows : List Segment) (count total : �
 
   pub root_room_of : (key : List ℕ) → HasRootRoom d key count total v → HasRootRoomFor d v key rows
   root_room_of key (low, inl blocks) = (low, inl (subst (λ (n : ℕ). n + blocks_for_entry d v key ≤ spare v) many blocks))
-  root_room_of key (low, inr both) = (low, inr (subst (HasHole v) large both.0, both.1))
+  root_room_of key (low, inr both) = (low, inr (subst (HasHole v) large both.0, both.1, both.2))
 
 -- for one root
 pub one_root_room : (d : Database) (v : VolumeState) (key : List ℕ) (row : Segment) (total : ℕ) → total ≡ size_with d.types row.code (length row.bytes) → HasRootRoom d key 1 total v → HasRootRoomFor d v key (row ∷ [])

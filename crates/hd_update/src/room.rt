@@ -91,7 +91,8 @@ fn make_room_below<S: BlockStore>(
 }
 
 /// Whether a volume lacks room for so many rows of one path, which take so many bytes together, of which the first is a root of a key: the
-/// index may have no level more, or its entry may need blocks, and the rows need one each where no hole is as large as all together.
+/// index may have no level more, or its entry may need blocks, and the rows need one each where no hole is as large as all together. Where the
+/// volume keeps something free the rows may take blocks though there is a hole: the hole counts only where the entry needs none.
 pub fn lacks_room<S: BlockStore>(
     volume: &mut Volume<S>,
     dbd: &Dbd,
@@ -109,6 +110,7 @@ pub fn lacks_room<S: BlockStore>(
     if is_highest(volume) {
         return Ok(true);
     }
+    let leaves = volume.leaves_space();
     let spare = volume.spare();
     let entry = blocks_needed(volume, dbd, key)?;
     if spare < entry {
@@ -116,6 +118,9 @@ pub fn lacks_room<S: BlockStore>(
     }
     if count <= spare - entry {
         return Ok(false);
+    }
+    if leaves && entry > 0 {
+        return Ok(true);
     }
     Ok(!has_hole(volume, total)?)
 }

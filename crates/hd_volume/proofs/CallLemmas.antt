@@ -23,9 +23,11 @@ use Rattle.hd_volume.specs.Rooms.{free_below, largest_hole}
 use Rattle.hd_volume.specs.Spaces.{blocks_in, content_at, IsContent, IsSpaceOf, AreDivided}
 use Rattle.hd_volume.specs.Calls.{KeepsOthers, HasSegment, KeepsSize, IsWritten, IsFreed}
 use Rattle.hd_volume.proofs.MapLemmas.{IsFound, find-some, find-in, find-there}
+use Rattle.hd_volume.specs.Spacing as left
 use Rattle.hd_volume.proofs.ExtentLemmas.{IsUsed, used-is, segment-some}
+use Rattle.hd_volume.proofs.FreeLemmas.{stays-free, segment-parts}
 use Rattle.hd_volume.proofs.EditLemmas.{IsEdited, with-inside, write-edits, IsFreeIn, free-edits, largest-divided}
-use Rattle.hd_volume.proofs.FrameLemmas.{AreSame, HasChanged, block-seen, kind-on, other-blocks, other-segments, keeps-header, keeps-kinds, keeps-spare, keeps-formatted, keeps-holes, keeps-space, free-same}
+use Rattle.hd_volume.proofs.FrameLemmas.{AreSame, HasChanged, block-seen, kind-on, other-blocks, other-segments, keeps-header, keeps-kinds, keeps-spare, keeps-formatted, keeps-holes, keeps-free, keeps-space, free-same}
 use Rattle.hd_volume.proofs.SpaceLemmas.{whole-block}
 use Rattle.hd_dbd.specs.declared.facts.SegmentSize.{SegmentSize}
 use Rattle.hd_block.specs.Sizes.{size_at}
@@ -115,6 +117,8 @@ module _ (v w : VolumeState) (a o : ℕ) (bs : List ℕ) (f : IsFormatted v) (h 
         header = header;
         spares = keeps-spare c f.header header edited.kind;
         holes = keeps-holes c f.header edited.kind (λ _. (let e : largest_hole (parts_in v.sizes (block_of v.size w.image (a / v.size))) ≡ largest_hole (parts_in v.sizes (block_at v (a / v.size))) = ap largest_hole edited.parts in omega arith));
+        free = keeps-free c.same (a / v.size) (stays-free v.sizes (block_at v (a / v.size)) (block_of v.size w.image (a / v.size))
+            (λ p some none. some (segment-parts v.sizes (block_at v (a / v.size)) (block_of v.size w.image (a / v.size)) p edited.parts none)) (let e : left.free_bytes (parts_in v.sizes (block_of v.size w.image (a / v.size))) ≡ left.free_bytes (parts_in v.sizes (block_at v (a / v.size))) = ap left.free_bytes edited.parts in omega arith));
       }
 
   pub write-space : (space : Space) → IsSpaceOf v.size v.sizes v.image space → IsSpaceOf v.size v.sizes w.image space
@@ -252,6 +256,8 @@ module _ (v w : VolumeState) (a : ℕ) (f : IsFormatted v) (h : HasSegment v a 0
             let R : List ℕ → Type 0 = λ z. length z ≤ largest_hole (parts_in v.sizes (block_of v.size w.image (a / v.size))) in
             record { block = a / v.size; is_data = on; large = subst P (sym (block-seen c.same (a / v.size))) (subst Q (sym c.same.sizes) (subst R (sym same) freed-in.hole)) };
         holes = keeps-holes c f.header freed-in.kind (λ _. freed-in.holes);
+        free = keeps-free c.same (a / v.size) (stays-free v.sizes (block_at v (a / v.size)) (block_of v.size w.image (a / v.size))
+            (λ p some none. elim (cases_eq p (a % v.size)) [ inl e ↦ some (rw e freed-in.gone) | inr other ↦ some (freed-in.others p other ∙ none) ]) freed-in.free_bytes);
       }
 
   pub free-space : (space new-space : Space) (hole : ℕ) → IsSpaceOf v.size v.sizes v.image space → IsOpened space (a / v.size) hole new-space

@@ -18,7 +18,9 @@ use Rattle.hd_volume.specs.Records.{segment_in}
 use Rattle.hd_volume.specs.Rooms.{largest_hole}
 use Rattle.hd_volume.specs.Volumes.{HasExtents}
 use Rattle.hd_volume.specs.Edits.{IsTaken, IsGiven}
+use Rattle.hd_volume.specs.Spacing as left
 use Rattle.hd_volume.proofs.ExtentLemmas.{used-is, segment-is, segment-none, segment-same}
+use Rattle.hd_volume.proofs.FreeLemmas.{free-divided, take-free, fill-free, give-free}
 use Rattle.hd_dbd.specs.declared.facts.SegmentSize.{SegmentSize}
 use Rattle.hd_block.specs.Sizes.{size_at}
 
@@ -205,6 +207,7 @@ pub record IsPutIn (sizes : List SegmentSize) (b b' : List ℕ) (q : ℕ) (bs : 
   pub kind : slice_index b' 2 ≡ slice_index b 2
   pub holes : largest_hole (parts_in sizes b') ≤ largest_hole (parts_in sizes b)
   pub rest : (k : ℕ) → length bs < k → k ≤ largest_hole (parts_in sizes b) → k - length bs ≤ largest_hole (parts_in sizes b')
+  pub free_bytes : left.free_bytes (parts_in sizes b') + length bs ≡ left.free_bytes (parts_in sizes b)
 
 pub put-edits : (sizes : List SegmentSize) (b b1 : List ℕ) (xs : List Extent) (q : ℕ) (bs : List ℕ) → IsDivided sizes b xs → AreWhole xs → IsTaken sizes (length bs) b (Some q) b1
     → 8 ≤ length bs → size_at sizes bs 0 ≡ length bs → q + length bs ≤ length b1 → IsPutIn sizes b (with_bytes b1 q bs) q bs
@@ -241,6 +244,7 @@ put-edits sizes b b1 xs q bs h w t eight code fits =
       kind = c.below 2 (omega arith) ∙ sym (t.head 2 (omega arith) (omega arith));
       holes = rw (before, after) x.holes;
       rest = rw (before, after) x.rest;
+      free_bytes = (let one = free-divided sizes b xs h w in let two = free-divided sizes b2 ys divides x.whole in let e = fill-free q 8 (after_take n xs) in let k = take-free n 8 q xs found in omega arith);
     }
 
 -- ---- freeing a segment
@@ -345,6 +349,7 @@ pub record IsFreeIn (sizes : List SegmentSize) (b b' : List ℕ) (q n : ℕ) : T
   pub hole : n ≤ largest_hole (parts_in sizes b')
   pub holes : largest_hole (parts_in sizes b) ≤ largest_hole (parts_in sizes b')
   pub most : largest_hole (parts_in sizes b') ≤ length b'
+  pub free_bytes : left.free_bytes (parts_in sizes b) ≤ left.free_bytes (parts_in sizes b')
 
 pub free-edits : (sizes : List SegmentSize) (b b' : List ℕ) (xs : List Extent) (q n : ℕ) → IsDivided sizes b xs → AreWhole xs → UsedAt 8 xs q n → IsGiven sizes q n b b' → IsFreeIn sizes b b' q n
 free-edits sizes b b' xs q n h w u t =
@@ -363,6 +368,7 @@ free-edits sizes b b' xs q n h w u t =
       hole = rw after x.hole;
       holes = rw (before, after) x.holes;
       most = rw after (largest-within sizes b' 8 _ zs divides);
+      free_bytes = (let one = free-divided sizes b xs h w in let two = free-divided sizes b' zs divides x.whole in let e = give-free q 8 xs in omega arith);
     }
 
 none-by : (n p m : ℕ) (xs : List Extent) (big : Bool) → big ≡ nat_le n m → (hole_at n (p + m) xs ≡ None → largest_hole (parts_of (p + m) xs) < n) → cond big (Some p) (hole_at n (p + m) xs) ≡ None

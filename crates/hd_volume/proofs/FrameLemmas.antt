@@ -14,7 +14,8 @@ use Rattle.hd_volume.specs.Volumes.{VolumeState, block_at, kind_of, IsKind, HasE
 use Rattle.hd_volume.specs.Records.{find}
 use Rattle.hd_volume.specs.Rooms.{is_free, one_if, free_below, spare, largest_hole}
 use Rattle.hd_volume.specs.Spaces.{blocks_in, content_at, IsSpaceOf}
-use Rattle.hd_volume.specs.Calls.{KeepsHoles}
+use Rattle.hd_volume.specs.Spacing.{HasBytesFree}
+use Rattle.hd_volume.specs.Calls.{KeepsHoles, KeepsFree}
 use Rattle.hd_volume.proofs.MapLemmas.{past-end}
 use Rattle.hd_dbd.specs.declared.facts.SegmentSize.{SegmentSize}
 
@@ -61,6 +62,13 @@ module _ {v w : VolumeState} (s : AreSame v w) where
     later = h.later;
     kind_is = ap kind_of (block-seen n) ∙ same ∙ h.kind_is;
   }
+
+  -- a block in which no less is free
+  pub keeps-free : (n : ℕ) → ((need : ℕ) → HasBytesFree v.sizes need (block_at v n) → HasBytesFree v.sizes need (block_of v.size w.image n)) → KeepsFree v w n
+  keeps-free n h need before =
+      let P : List ℕ → Type 0 = λ b. HasBytesFree w.sizes need b in
+      let Q : List SegmentSize → Type 0 = λ z. HasBytesFree z need (block_of v.size w.image n) in
+      subst P (sym (block-seen n)) (subst Q (sym s.sizes) (h need before))
 
 -- Block n has changed, and no other.
 pub record HasChanged (v w : VolumeState) (n : ℕ) : Type 0 where

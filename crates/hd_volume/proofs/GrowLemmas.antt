@@ -214,9 +214,9 @@ module _ {v w : VolumeState} (g : IsGrown v w) (f : IsFormatted v) (positive : 0
               subst P (sym (block-seen g.same m)) (subst Q (sym g.same.sizes) (subst R (sym (grown-block m later apart)) (f.divided m old)));
         };
         is = record { there = rw g.same.size grown-there; later = some; kind_is = ap kind_of (block-seen g.same (header_of v.image).count) ∙ g.kind };
-        was = inr refl;
+        was = inr (omega arith);
         others = λ m there later. block-seen g.same m ∙ g.others m there (λ e. omega arith);
-        grows = record { count = inr (refl, counts); header = g.header ∙ (let e : record (header_of v.image) { count = (header_of v.image).count + 1 } ≡ record (header_of v.image) { count = (header_of w.image).count } = rw counts refl in e) };
+        grows = record { count = inr (counts, omega arith, omega arith); passed = λ m high low other. (let c = counts in absurd (omega arith)); header = g.header ∙ (let e : record (header_of v.image) { count = (header_of v.image).count + 1 } ≡ record (header_of v.image) { count = (header_of w.image).count } = rw counts refl in e) };
         segments = grown-segments;
         spares =
             let free = grown-free in

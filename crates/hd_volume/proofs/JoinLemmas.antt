@@ -1,5 +1,5 @@
 -- Steps of a volume one after another.
-use Rattle.std.proofs.Common.{◌/◌, ◌≡◌, ◌≢◌, ◌⊎◌, inl, inr, ℕ, ◌+◌, ◌*◌, ◌<◌, ◌≤◌, Bool, false, IsTrue, List, length, slice_index, slice_index_or, vec_len, Result, Ok, Err, IfOk, IfErr, refl, sym, ap, ◌∙◌, arith, subst}
+use Rattle.std.proofs.Common.{◌/◌, ◌≡◌, ◌≢◌, ◌⊎◌, inl, inr, ℕ, ◌+◌, ◌*◌, ◌<◌, ◌≤◌, Bool, false, IsTrue, List, length, slice_index_or, vec_len, Result, Ok, Err, IfOk, IfErr, refl, sym, ap, ◌∙◌, arith, subst}
 use Rattle.std.proofs.lemmas.Bool.{cases_lt, cases_eq}
 use Rattle.hd_bytes.specs.Blocks.{block_of, HasBlock}
 use Rattle.hd_block.specs.Walk.{parts_in}
@@ -9,8 +9,9 @@ use Rattle.hd_volume.specs.Volumes.{VolumeState, block_at, kind_of, IsKind, HasE
 use Rattle.hd_volume.specs.Rooms.{spare, largest_hole, HasHole}
 use Rattle.hd_dbd.specs.declared.answer.Refused.{Refused}
 use Rattle.hd_dbd.specs.declared.answer.Refused.TheVariants.{Memory, Full, Device, Broken, Area}
-use Rattle.hd_volume.specs.Stores.{CountsFor, SoundFor}
-use Rattle.hd_volume.specs.Calls.{IsCall, IsRead, KeepsHoles, KeepsSegments, MayGrow, IsPut, IsTakenBlock}
+use Rattle.hd_dbd.specs.Refusals.{OnlyMemory}
+use Rattle.hd_volume.specs.Stores.{CountsFor, SoundFor, StaysSound, RefusesGrowth}
+use Rattle.hd_volume.specs.Calls.{IsCall, IsRead, KeepsHoles, KeepsSegments, MayGrow, GrowsByOne, IsPut, IsTakenBlock}
 use Rattle.hd_volume.specs.declared.space.Space.{Space}
 use Rattle.hd_volume.specs.Spaces.{blocks_in, content_at, IsSpaceOf}
 use Rattle.hd_volume.proofs.CallLemmas.{looked-at}
@@ -19,6 +20,10 @@ use Rattle.hd_volume.specs.Steps as step
 use Rattle.hd_volume.proofs.FrameLemmas.{AreSame, block-seen}
 use Rattle.hd_volume.proofs.MapLemmas.{kind-there}
 use Rattle.std.proofs.lemmas.Nat.{row_fits}
+use Rattle.std.proofs.Math.Nat.{mul-le-mul_right}
+use Rattle.hd_volume.specs.Images.{ChangesBlock}
+use Rattle.hd_volume.specs.Spacing.{no_spacing, IsPlain, HasBytesFree}
+use Rattle.hd_dbd.specs.declared.hierarchy.FreeSpace.{FreeSpace}
 use Rattle.hd_volume.proofs.KindLemmas.{none-free, some-free}
 use Rattle.hd_dbd.specs.declared.facts.SegmentSize.{SegmentSize}
 
@@ -71,7 +76,7 @@ module _ {v w : VolumeState} (o : AreOne v w) where
   one-grows n =
       let same : header_of w.image ≡ header_of v.image = ap header_of o.image in
       let count : (header_of w.image).count ≡ (header_of v.image).count = ap (λ (h : Header). h.count) same in
-      record { count = inl count; header = same ∙ (let e : header_of v.image ≡ record (header_of v.image) { count = (header_of w.image).count } = rw count refl in e) }
+      record { count = inl count; passed = λ m high low other. absurd (omega arith); header = same ∙ (let e : header_of v.image ≡ record (header_of v.image) { count = (header_of w.image).count } = rw count refl in e) }
 
   -- a hole that was there
   pub ready-found : (n need : ℕ) → IsFormatted v → step.HasRoom v n need → step.IsReady v n need w
@@ -84,8 +89,9 @@ module _ {v w : VolumeState} (o : AreOne v w) where
     segments = one-segments;
     index = λ m k. one-block m;
     grows = one-grows n;
+    by_one = λ _. (let e : (header_of w.image).count ≡ (header_of v.image).count = ap (λ (i : List ℕ). (header_of i).count) o.image in omega arith);
     spares = (let e = one-spare in omega arith);
-    in_hole = λ _. one-spare;
+    in_hole = λ _ _. one-spare;
     holes = one-holes;
   }
 
@@ -102,21 +108,51 @@ module _ {v w : VolumeState} (o : AreOne v w) where
     holes = one-holes;
   }
 
+  -- as many bytes are free in a block
+  pub one-free : (n need : ℕ) → HasBytesFree v.sizes need (block_at v n) → HasBytesFree w.sizes need (block_at w n)
+  one-free n need h =
+      let P : List ℕ → Type 0 = λ b. HasBytesFree w.sizes need b in
+      let Q : List SegmentSize → Type 0 = λ z. HasBytesFree z need (block_at v n) in
+      subst P (sym (one-block n)) (subst Q (sym o.same.sizes) h)
+
+  pub one-count : (header_of w.image).count ≡ (header_of v.image).count
+  one-count = ap (λ (i : List ℕ). (header_of i).count) o.image
+
+  pub grows-after : {u : VolumeState} (n : ℕ) → MayGrow w n u → MayGrow v n u
+  grows-after {u} n g = record {
+    count = elim g.count [ inl e ↦ inl (e ∙ one-count) | inr e ↦ inr (e.0, rw one-count at e.1, rw one-count at e.2) ];
+    passed = λ m high low other. g.passed m (rw one-count high) low other;
+    header = (let H : List ℕ → Type 0 = λ i. header_of u.image ≡ record (header_of i) { count = (header_of u.image).count } in subst H o.image g.header);
+  }
+
   -- what follows a call that only read
   pub free-after : {u : VolumeState} (n : ℕ) → step.HasFree w n u → step.HasFree v n u
   free-after {u} n h = record {
     formatted = h.formatted;
     is = h.is;
-    was = elim h.was [ inl k ↦ inl (one-back 3 n k) | inr e ↦ inr (e ∙ ap (λ (i : List ℕ). (header_of i).count) o.image) ];
+    was = elim h.was [ inl k ↦ inl (one-back 3 n k) | inr e ↦ inr (rw one-count at e) ];
     others = λ m there later. h.others m (let l : length w.image ≡ length v.image = ap length o.image in rw o.same.size (omega arith)) later ∙ one-block m;
-    grows = record {
-      count = (let C : List ℕ → Type 0 = λ i. ((header_of u.image).count ≡ (header_of i).count) ⊎ ((n ≡ (header_of i).count) × ((header_of u.image).count ≡ (header_of i).count + 1)) in subst C o.image h.grows.count);
-      header = (let H : List ℕ → Type 0 = λ i. header_of u.image ≡ record (header_of i) { count = (header_of u.image).count } in subst H o.image h.grows.header);
-    };
+    grows = grows-after n h.grows;
     segments = λ b. h.segments b ∙ one-segments b;
     spares = h.spares ∙ one-spare;
     holes = λ k x. h.holes k (one-holes k x);
   }
+
+-- a block of a kind that is not the one that has changed
+pub kind-kept : {v w : VolumeState} {n : ℕ} → AreSame v w → ChangesBlock v.size n v.image w.image → (k m : ℕ) → m ≢ n → IsKind v k m → IsKind w k m
+kind-kept {v} {w} {n} s c k m other h = record {
+  there = (let t = h.there in let l = c.len in rw s.size (omega arith));
+  later = h.later;
+  kind_is = ap kind_of (block-seen s m ∙ c.others m h.there other) ∙ h.kind_is;
+}
+
+-- a block of a formatted volume is one that it counts
+pub counted : (v : VolumeState) (m : ℕ) → IsFormatted v → 0 < v.size → HasBlock v.size v.image m → m < (header_of v.image).count
+counted v m f some there =
+    elim (cases_lt m (header_of v.image).count) [
+      | inl low ↦ low
+      | inr high ↦ (let past : (header_of v.image).count * v.size ≤ m * v.size = mul-le-mul_right v.size high in let whole = f.header.whole in absurd (omega arith))
+    ]
 
 -- with no free block and no room to grow there is none to spare
 pub no-spare : (v : VolumeState) → IsFormatted v → 0 < v.size → (header_of v.image).largest ≤ (header_of v.image).count → ((m : ℕ) → IsKind v 3 m → ⊥) → spare v ≡ 0
@@ -131,22 +167,84 @@ no-spare v f positive full none =
 
 -- ---- a free block that becomes one for data, and a segment put into it
 
+-- a volume counts no fewer blocks than before
+pub grown-count : {u v : VolumeState} (n : ℕ) → MayGrow u n v → (header_of u.image).count ≤ (header_of v.image).count
+grown-count n g = elim g.count [ inl e ↦ omega arith | inr e ↦ (let a = e.0 in let b = e.1 in omega arith) ]
+
+-- what follows a change that leaves the header and every free block
+pub grows-through : {u v w : VolumeState} (n : ℕ) → MayGrow u n v → header_of w.image ≡ header_of v.image → ((m : ℕ) → m ≢ n → IsKind v 3 m → IsKind w 3 m) → MayGrow u n w
+grows-through {u} {v} {w} n g same stays =
+    let count : (header_of w.image).count ≡ (header_of v.image).count = ap (λ (x : Header). x.count) same in
+    record {
+      count = elim g.count [ inl e ↦ inl (count ∙ e) | inr e ↦ inr (count ∙ e.0, e.1, e.2) ];
+      passed = λ m high low other. stays m other (g.passed m high (rw count at low) other);
+      header = same ∙ g.header ∙ (let e : record (header_of u.image) { count = (header_of v.image).count } ≡ record (header_of u.image) { count = (header_of w.image).count } = rw count refl in e);
+    }
+
 -- a volume that was given a free block is no shorter
 free-longer : {u v : VolumeState} (n : ℕ) → IsFormatted u → step.HasFree u n v → v.size ≡ u.size → length u.image ≤ length v.image
 free-longer {u} {v} n f h size =
     let a = f.header.whole in
     let b : length v.image ≡ (header_of v.image).count * u.size = h.formatted.header.whole ∙ (let e : (header_of v.image).count * v.size ≡ (header_of v.image).count * u.size = rw size refl in e) in
-    elim h.grows.count [
-      | inl e ↦ (let same-count : (header_of v.image).count * u.size ≡ (header_of u.image).count * u.size = ap (λ (i : ℕ). i * u.size) e in omega arith)
-      | inr e ↦ (let more-count : (header_of v.image).count * u.size ≡ ((header_of u.image).count + 1) * u.size = ap (λ (i : ℕ). i * u.size) e.1 in omega arith)
-    ]
+    let more : (header_of u.image).count * u.size ≤ (header_of v.image).count * u.size = mul-le-mul_right u.size (grown-count n h.grows) in
+    omega arith
 
 -- and so are its blocks
 free-there : {u v : VolumeState} (n : ℕ) → IsFormatted u → step.HasFree u n v → v.size ≡ u.size → (k : ℕ) → HasBlock u.size u.image k → HasBlock v.size v.image k
 free-there n f h size k x = rw size (let l = free-longer n f h size in omega arith)
 
-pub ready-new : {u v w : VolumeState} (n need : ℕ) → AreSame v w → IsFormatted u → step.HasFree u n v → step.IsMade v n 1 w → step.HasRoom w n need → (HasHole u need → ⊥) → u.size ≡ v.size → step.IsReady u n need w
-ready-new {u} {v} {w} n need s f h m r none size =
+-- a free block behind another by which the volume has grown
+pub free-twice : {u v w : VolumeState} (m n : ℕ) → IsFormatted u → 0 < u.size → v.size ≡ u.size → w.size ≡ u.size → step.HasFree u m v → step.HasFree v n w → m ≡ (header_of u.image).count → n ≡ (header_of v.image).count
+    → step.HasFree u n w × (n ≡ (header_of u.image).count + 1)
+free-twice {u} {v} {w} m n f some size size' a b m-is n-is =
+    let v-some : 0 < v.size = rw size some in
+    let w-some : 0 < w.size = rw size' some in
+    let low = counted v m a.formatted v-some a.is.there in
+    let high = counted w n b.formatted w-some b.is.there in
+    let first : (header_of v.image).count ≡ m + 1 = elim a.grows.count [ inl e ↦ absurd (omega arith) | inr e ↦ e.0 ] in
+    let second : (header_of w.image).count ≡ n + 1 = elim b.grows.count [ inl e ↦ absurd (omega arith) | inr e ↦ e.0 ] in
+    let on = λ (k : ℕ) (x : HasBlock u.size u.image k). free-there m f a size k x in (
+      record {
+        formatted = b.formatted;
+        is = b.is;
+        was = inr (omega arith);
+        others = λ k there later. b.others k (on k there) later ∙ a.others k there later;
+        grows = record {
+          count = inr (second, omega arith, omega arith);
+          passed = λ k after before other.
+              let at : k ≡ m = omega arith in
+              let K : ℕ → Type 0 = λ i. IsKind w 3 i in
+              subst K (sym at) (record {
+                there = free-there n a.formatted b (size' ∙ sym size) m a.is.there;
+                later = a.is.later;
+                kind_is = ap kind_of (b.others m a.is.there a.is.later) ∙ a.is.kind_is;
+              });
+          header = b.grows.header ∙ ap (λ (h : Header). record h { count = (header_of w.image).count }) a.grows.header;
+        };
+        segments = λ x. b.segments x ∙ a.segments x;
+        spares = b.spares ∙ a.spares;
+        holes = λ k x. b.holes k (a.holes k x);
+      },
+      omega arith,
+    )
+
+-- what is free where nothing of the image changes before it and behind it
+pub free-between : {u v w x : VolumeState} (o : AreOne u v) (p : AreOne w x) (n : ℕ) → step.HasFree v n w → step.HasFree u n x
+free-between {u} {v} {w} {x} o p n h =
+    let g = free-after o n h in
+    record {
+      formatted = one-formatted p g.formatted;
+      is = one-kind p 3 n g.is;
+      was = g.was;
+      others = λ m there later. one-block p m ∙ g.others m there later;
+      grows = grows-through n g.grows (ap header_of p.image) (λ m other three. one-kind p 3 m three);
+      segments = λ b. one-segments p b ∙ g.segments b;
+      spares = one-spare p ∙ g.spares;
+      holes = λ k y. one-holes p k (g.holes k y);
+    }
+
+pub ready-new : {u v w : VolumeState} (n need : ℕ) → AreSame v w → IsFormatted u → step.HasFree u n v → step.IsMade v n 1 w → step.HasRoom w n need → (IsPlain u → HasHole u need → ⊥) → GrowsByOne u v → u.size ≡ v.size → step.IsReady u n need w
+ready-new {u} {v} {w} n need s f h m r none by_one size =
     let same : header_of w.image ≡ header_of v.image = m.header in
     let count : (header_of w.image).count ≡ (header_of v.image).count = ap (λ (x : Header). x.count) same in
     record {
@@ -163,12 +261,10 @@ ready-new {u} {v} {w} n need s f h m r none size =
           let three : kind_of (block_at v k) ≡ 3 = ap (λ (i : ℕ). kind_of (block_at v i)) e ∙ h.is.kind_is in omega arith) in
           let len : HasBlock v.size v.image k = kind-there v.size k (header_of v.image).count 2 v.image h.formatted.header.whole (λ e. omega arith) (ap kind_of first ∙ is.kind_is) in
           block-seen s k ∙ m.block.others k len apart ∙ first;
-      grows = record {
-        count = rw count h.grows.count;
-        header = same ∙ h.grows.header ∙ (let e : record (header_of u.image) { count = (header_of v.image).count } ≡ record (header_of u.image) { count = (header_of w.image).count } = rw count refl in e);
-      };
+      grows = grows-through n h.grows m.header (λ k apart three. kind-kept s m.block 3 k apart three);
+      by_one = λ plain. (let few = by_one plain in omega arith);
       spares = (let a = h.spares in let b = m.spares in omega arith);
-      in_hole = λ x. absurd (none x);
+      in_hole = λ p x. absurd (none p x);
       holes = λ k x. m.holes k (h.holes k x);
     }
 
@@ -183,7 +279,7 @@ put-from {u} {v} {w} n need a bs size s r p need-is =
     let count : (header_of w.image).count ≡ (header_of v.image).count = ap (λ (x : Header). x.count) same in
     record {
       formatted = p.formatted;
-      place = (let P : ℕ → Type 0 = λ k. IsKind u 1 k ⊎ IsKind u 3 k ⊎ (k ≡ (header_of u.image).count) in subst P (sym at) r.place);
+      place = (let P : ℕ → Type 0 = λ k. IsKind u 1 k ⊎ IsKind u 3 k ⊎ ((header_of u.image).count ≤ k) in subst P (sym at) r.place);
       blocks = λ k x later apart.
           let other : k ≢ n = λ e. apart (e ∙ sym at) in
           block-seen s k ∙ p.block.others k (ready-there k r size x) other ∙ r.blocks k x later other;
@@ -196,12 +292,10 @@ put-from {u} {v} {w} n need a bs size s r p need-is =
           let apart : k ≢ n = λ e. (let one : kind_of (block_at v k) ≡ 1 = ap (λ (i : ℕ). kind_of (block_at v i)) e ∙ r.room.is_data.kind_is in omega arith) in
           let there : HasBlock v.size v.image k = kind-there v.size k (header_of v.image).count 2 v.image r.formatted.header.whole (λ e. omega arith) two in
           block-seen s k ∙ p.block.others k there apart ∙ first;
-      grows = record {
-        count = (let C : ℕ → Type 0 = λ k. ((header_of v.image).count ≡ (header_of u.image).count) ⊎ ((k ≡ (header_of u.image).count) × ((header_of v.image).count ≡ (header_of u.image).count + 1)) in rw count (subst C (sym at) r.grows.count));
-        header = same ∙ r.grows.header ∙ (let e : record (header_of u.image) { count = (header_of v.image).count } ≡ record (header_of u.image) { count = (header_of w.image).count } = rw count refl in e);
-      };
+      grows = (let G : ℕ → Type 0 = λ k. MayGrow u k w in subst G (sym at) (grows-through n r.grows p.header (λ k apart three. kind-kept s p.block 3 k apart three)));
+      by_one = λ plain. (let few = r.by_one plain in omega arith);
       spares = (let x = r.spares in let y = p.spares in omega arith);
-      in_hole = λ h. (let P : ℕ → Type 0 = λ k. HasHole u k in p.spares ∙ r.in_hole (subst P (sym need-is) h));
+      in_hole = λ plain h. (let P : ℕ → Type 0 = λ k. HasHole u k in p.spares ∙ r.in_hole plain (subst P (sym need-is) h));
       holes = λ k more h. p.holes k more (r.holes k h);
     }
 
@@ -276,6 +370,12 @@ first-join u v w size a b =
 counts-join : (e : Refused) (a b c : ℕ) → b ≡ a → CountsFor e b c → CountsFor e a c
 counts-join e a b c same h = rw same at h
 
+-- space that was to be left still is, or no longer
+pub spacing-join : (a b c : FreeSpace) → (b ≡ a) ⊎ (b ≡ no_spacing) → (c ≡ b) ⊎ (c ≡ no_spacing) → (c ≡ a) ⊎ (c ≡ no_spacing)
+spacing-join a b c (inl x) (inl y) = inl (y ∙ x)
+spacing-join a b c (inr x) (inl y) = inr (y ∙ x)
+spacing-join a b c h (inr y) = inr y
+
 sound-join : (e : Refused) (a b c : Bool) → b ≡ a → SoundFor e b c → SoundFor e a c
 sound-join e a b c same h = rw same at h
 
@@ -287,6 +387,14 @@ was-sound Broken a b h s = rw (← h) s
 was-sound Area a b h s = rw (← h) s
 was-sound Device a b h s = (let none : IsTrue false = rw h at s in absurd (cc))
 
+-- a growth that is refused while the store stays sound leaves the image
+pub grow-kept : (e : Refused) (room : ℕ) (a b : Bool) (old new : List ℕ) → RefusesGrowth e room 1 → SoundFor e a b → IsTrue b → (e ≡ Memory → IsTrue a → new ≡ old) → IsTrue a × (new ≡ old)
+grow-kept Memory room a b old new r s now kept = (let before : IsTrue a = rw (← s) now in (before, kept refl before))
+grow-kept Full room a b old new r s now kept = absurd r
+grow-kept Device room a b old new r s now kept = (let none : IsTrue false = rw s at now in absurd (cc))
+grow-kept Broken room a b old new r s now kept = absurd r
+grow-kept Area room a b old new r s now kept = absurd r
+
 pub calls-join : {A B : Type 0} {u v w : VolumeState} {x : A} (r : Result B Refused) → IsCall {T = A} u (Ok x) v → IsCall {T = B} v r w → IsCall {T = B} u r w
 calls-join {A} {B} {u} {v} {w} (Ok y) a b = record {
   counts = b.counts ∙ a.counts;
@@ -294,6 +402,8 @@ calls-join {A} {B} {u} {v} {w} (Ok y) a b = record {
   size = b.size ∙ a.size;
   sizes = b.sizes ∙ a.sizes;
   first = λ s. first-join u v w a.size (a.first (rw (← b.sound) s)) (b.first s);
+  plain = λ p. b.plain (a.plain p);
+  space = λ s h. b.space s (a.space s h);
 }
 calls-join {A} {B} {u} {v} {w} (Err e) a b = record {
   counts = counts-join e u.failures v.failures w.failures a.counts b.counts;
@@ -301,7 +411,32 @@ calls-join {A} {B} {u} {v} {w} (Err e) a b = record {
   size = b.size ∙ a.size;
   sizes = b.sizes ∙ a.sizes;
   first = λ s. first-join u v w a.size (a.first (was-sound e v.is_sound w.is_sound b.sound s)) (b.first s);
+  plain = λ p. b.plain (a.plain p);
+  space = λ s h. b.space s (a.space s h);
 }
+
+-- the same of calls but for the space that is left
+pub step-of : {A : Type 0} {u v : VolumeState} {r : Result A Refused} → IsCall {T = A} u r v → step.IsStep {T = A} u r v
+step-of h = record { counts = h.counts; sound = h.sound; size = h.size; sizes = h.sizes; first = h.first }
+
+pub steps-join : {A B : Type 0} {u v w : VolumeState} {x : A} (r : Result B Refused) → step.IsStep {T = A} u (Ok x) v → step.IsStep {T = B} v r w → step.IsStep {T = B} u r w
+steps-join {A} {B} {u} {v} {w} (Ok y) a b = record {
+  counts = b.counts ∙ a.counts;
+  sound = b.sound ∙ a.sound;
+  size = b.size ∙ a.size;
+  sizes = b.sizes ∙ a.sizes;
+  first = λ s. first-join u v w a.size (a.first (rw (← b.sound) s)) (b.first s);
+}
+steps-join {A} {B} {u} {v} {w} (Err e) a b = record {
+  counts = counts-join e u.failures v.failures w.failures a.counts b.counts;
+  sound = sound-join e u.is_sound v.is_sound w.is_sound a.sound b.sound;
+  size = b.size ∙ a.size;
+  sizes = b.sizes ∙ a.sizes;
+  first = λ s. first-join u v w a.size (a.first (was-sound e v.is_sound w.is_sound b.sound s)) (b.first s);
+}
+
+pub read-step : {A : Type 0} {u v : VolumeState} {r : Result A Refused} → IsRead {T = A} u r v → step.IsStep {T = A} u r v
+read-step h = step-of h.call
 
 pub read-call : {A : Type 0} {u v : VolumeState} {r : Result A Refused} → IsRead {T = A} u r v → IsCall {T = A} u r v
 read-call h = h.call
@@ -309,26 +444,62 @@ read-call h = h.call
 pub read-one : {A : Type 0} {u v : VolumeState} {r : Result A Refused} → IsRead {T = A} u r v → IsTrue v.is_sound → AreOne u v
 read-one h s = record { same = record { size = h.call.size; sizes = h.call.sizes }; image = h.image s }
 
+-- a volume that was to leave no space still is not
+pub plain-read : {A : Type 0} {u v : VolumeState} {r : Result A Refused} → IsRead {T = A} u r v → IsPlain u → IsPlain v
+plain-read h plain = h.call.plain plain
+
+-- one image is one from either side, and so are three
+pub one-turned : {v w : VolumeState} → AreOne v w → AreOne w v
+one-turned o = record { same = record { size = sym o.same.size; sizes = sym o.same.sizes }; image = sym o.image }
+
+pub one-both : {u v w : VolumeState} → AreOne u v → AreOne v w → AreOne u w
+one-both o p = record { same = record { size = p.same.size ∙ o.same.size; sizes = p.same.sizes ∙ o.same.sizes }; image = p.image ∙ o.image }
+
+-- after a refusal for room a call goes on as if there had been none
+pub step-past : {A B : Type 0} {u v : VolumeState} {x : B} (e : Refused) → (e ≡ Full) ⊎ (e ≡ Memory) → step.IsStep {T = A} u (Err e) v → step.IsStep {T = B} u (Ok x) v
+step-past {A} {B} {u} {v} e (inl is) h = record {
+  counts = (let P : Refused → Type 0 = λ f. CountsFor f u.failures v.failures in subst P is h.counts);
+  sound = (let P : Refused → Type 0 = λ f. SoundFor f u.is_sound v.is_sound in subst P is h.sound);
+  size = h.size;
+  sizes = h.sizes;
+  first = h.first;
+}
+step-past {A} {B} {u} {v} e (inr is) h = record {
+  counts = (let P : Refused → Type 0 = λ f. CountsFor f u.failures v.failures in subst P is h.counts);
+  sound = (let P : Refused → Type 0 = λ f. SoundFor f u.is_sound v.is_sound in subst P is h.sound);
+  size = h.size;
+  sizes = h.sizes;
+  first = h.first;
+}
+
+-- what holds of any refusal
+pub err-all : {A E : Type 0} {P : Type 0} (r : Result A E) → P → IfErr r (λ _. P)
+err-all (Ok x) h = tt
+err-all (Err e) h = h
+
+-- a call that only want of memory may end leaves a sound store sound
+pub sound-on : {A : Type 0} (r : Result A Refused) → OnlyMemory r → (a b : Bool) → StaysSound r a b → IsTrue a → IsTrue b
+sound-on (Ok x) m a b h s = rw h s
+sound-on (Err e) m a b h s = (let P : Refused → Type 0 = λ f. SoundFor f a b in let same : b ≡ a = subst P m h in rw same s)
+
 -- what follows a call that only read
-pub ready-after : {v w u : VolumeState} (o : AreOne v w) (n need : ℕ) → step.IsReady w n need u → step.IsReady v n need u
-ready-after {v} {w} {u} o n need r = record {
+pub ready-after : {v w u : VolumeState} (o : AreOne v w) (n need : ℕ) → (IsPlain v → IsPlain w) → step.IsReady w n need u → step.IsReady v n need u
+ready-after {v} {w} {u} o n need plain-on r = record {
   formatted = r.formatted;
   place = elim r.place [
     | inl k ↦ inl (one-back o 1 n k)
     | inr (inl k) ↦ inr (inl (one-back o 3 n k))
-    | inr (inr e) ↦ inr (inr (e ∙ ap (λ (i : List ℕ). (header_of i).count) o.image))
+    | inr (inr e) ↦ inr (inr (rw (one-count o) at e))
   ];
   blocks = λ m x later other. r.blocks m (let l : length w.image ≡ length v.image = ap length o.image in rw o.same.size (omega arith)) later other ∙ one-block o m;
   longer = (let l : length w.image ≡ length v.image = ap length o.image in let m = r.longer in omega arith);
   room = r.room;
   segments = λ b. r.segments b ∙ one-segments o b;
   index = λ m k. r.index m (one-kind o 2 m k) ∙ one-block o m;
-  grows = record {
-    count = (let C : List ℕ → Type 0 = λ i. ((header_of u.image).count ≡ (header_of i).count) ⊎ ((n ≡ (header_of i).count) × ((header_of u.image).count ≡ (header_of i).count + 1)) in subst C o.image r.grows.count);
-    header = (let H : List ℕ → Type 0 = λ i. header_of u.image ≡ record (header_of i) { count = (header_of u.image).count } in subst H o.image r.grows.header);
-  };
+  grows = grows-after o n r.grows;
+  by_one = λ plain. (let few = r.by_one (plain-on plain) in let same = one-count o in omega arith);
   spares = (let e = one-spare o in let s = r.spares in omega arith);
-  in_hole = λ h. r.in_hole (one-holes o need h) ∙ one-spare o;
+  in_hole = λ plain h. r.in_hole (plain-on plain) (one-holes o need h) ∙ one-spare o;
   holes = λ k h. r.holes k (one-holes o k h);
 }
 
@@ -339,17 +510,11 @@ hole-after o need h =
 
 -- ---- a free block that becomes one for the index
 
-pub taken-block : {u v w : VolumeState} (n level : ℕ) → AreSame u v → AreSame v w → IsFormatted u → step.HasFree u n v → step.IsMadeIndex v n level w → IsTakenBlock u n level w
-taken-block {u} {v} {w} n level t s f h m =
+pub taken-block : {u v w : VolumeState} (n level : ℕ) → AreSame u v → AreSame v w → IsFormatted u → step.HasFree u n v → step.IsMadeIndex v n level w → GrowsByOne u v → IsTakenBlock u n level w
+taken-block {u} {v} {w} n level t s f h m by_one =
     let same : header_of w.image ≡ header_of v.image = m.made.header in
     let count : (header_of w.image).count ≡ (header_of v.image).count = ap (λ (x : Header). x.count) same in
-    let long : length u.image ≤ length v.image =
-    (let a = f.header.whole in
-    let b : length v.image ≡ (header_of v.image).count * u.size = h.formatted.header.whole ∙ (let e : (header_of v.image).count * v.size ≡ (header_of v.image).count * u.size = rw t.size refl in e) in
-    elim h.grows.count [
-      | inl e ↦ (let same-count : (header_of v.image).count * u.size ≡ (header_of u.image).count * u.size = ap (λ (k : ℕ). k * u.size) e in omega arith)
-      | inr e ↦ (let more-count : (header_of v.image).count * u.size ≡ ((header_of u.image).count + 1) * u.size = ap (λ (k : ℕ). k * u.size) e.1 in omega arith)
-    ]) in
+    let long : length u.image ≤ length v.image = free-longer n f h t.size in
     let there = λ (k : ℕ) (x : HasBlock u.size u.image k). (let y : HasBlock v.size v.image k = rw t.size (omega arith) in y) in
     let others = λ (k : ℕ) (x : HasBlock u.size u.image k) (later : 0 < k) (apart : k ≢ n). (let y : block_at w k ≡ block_at u k = block-seen s k ∙ m.made.block.others k (there k x) apart ∙ h.others k x later in y) in
     record {
@@ -365,10 +530,8 @@ taken-block {u} {v} {w} n level t s f h m =
           others k is.there is.later (λ e.
           (let two : kind_of (block_at v k) ≡ 2 = ap kind_of first ∙ is.kind_is in
           let three : kind_of (block_at v k) ≡ 3 = ap (λ (i : ℕ). kind_of (block_at v i)) e ∙ h.is.kind_is in omega arith));
-      grows = record {
-        count = rw count h.grows.count;
-        header = same ∙ h.grows.header ∙ (let e : record (header_of u.image) { count = (header_of v.image).count } ≡ record (header_of u.image) { count = (header_of w.image).count } = rw count refl in e);
-      };
+      grows = grows-through n h.grows m.made.header (λ k apart three. kind-kept s m.made.block 3 k apart three);
+      by_one = λ plain. (let few = by_one plain in omega arith);
       spares = (let a = h.spares in let b = m.made.spares in omega arith);
       holes = λ k x. m.made.holes k (h.holes k x);
     }

@@ -261,6 +261,13 @@ module _ (v w : VolumeState) (n high low : ℕ) (f : IsFormatted v) (free-is : I
         holes = made-holes c f data-was;
       }
 
+  -- no segment stands in it
+  pub data-none : step.HasNone w.sizes (block_at w n)
+  data-none =
+      let P : List ℕ → Type 0 = λ b. step.HasNone w.sizes b in
+      let Q : List SegmentSize → Type 0 = λ z. step.HasNone z (block_of v.size w.image n) in
+      subst P (sym (block-seen c.same n)) (subst Q (sym c.same.sizes) (λ p. segment-none v.sizes (block_of v.size w.image n) (free (v.size - 8) ∷ []) data-divides tt p (λ k u. u)))
+
   pub data-room : step.HasRoom w n (v.size - 8)
   data-room =
       let P : List ℕ → Type 0 = λ b. v.size - 8 ≤ largest_hole (parts_in w.sizes b) in

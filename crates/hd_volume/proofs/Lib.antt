@@ -1,5 +1,6 @@
 pub mod BufferLemmas
 pub mod ExtentLemmas
+pub mod FreeLemmas
 pub mod EditLemmas
 pub mod MapLemmas
 pub mod FrameLemmas
@@ -7,6 +8,7 @@ pub mod CallLemmas
 pub mod PutLemmas
 pub mod KindLemmas
 pub mod GrowLemmas
+pub mod SpacingLemmas
 pub mod JoinLemmas
 pub mod LawLemmas
 pub mod CreateLemmas

@@ -1,5 +1,5 @@
 -- A volume as a map.
-use Rattle.std.proofs.Common.{◌≡◌, ◌≢◌, inl, inr, ℕ, ◌+◌, ◌-◌, ◌*◌, ◌/◌, ◌%◌, ◌≤◌, cond, ◌==◌, min, List, [], length, slice_index, Option, Some, None, Ok, IsTrue, refl, sym, ap, ◌∙◌, arith, ne_eqb, subst}
+use Rattle.std.proofs.Common.{◌≡◌, ◌≢◌, inl, inr, ℕ, ◌+◌, ◌-◌, ◌*◌, ◌/◌, ◌%◌, ◌≤◌, cond, ◌==◌, min, List, [], length, Option, Some, None, Ok, IsTrue, refl, sym, ap, ◌∙◌, arith, ne_eqb, subst}
 use Rattle.std.proofs.lemmas.Bool.{cases_lt, cases_eq, eq-eqb}
 use Rattle.std.proofs.lemmas.Grind.{common_steps}
 use Rattle.std.proofs.lemmas.Nat.{row_fits}
@@ -7,7 +7,7 @@ use Rattle.std.proofs.Math.Nat.{min-eq_left, mul-le-mul_right}
 use Rattle.hd_bytes.specs.Ranges.{bytes_at}
 use Rattle.hd_bytes.specs.Blocks.{block_of, HasBlock}
 use Rattle.hd_volume.specs.Images.{KeepsFirst}
-use Rattle.hd_volume.specs.Buffers.{Buffered}
+use Rattle.hd_volume.specs.Buffers.{Buffered, IsFetch}
 use Rattle.hd_volume.specs.Headers.{header_of}
 use Rattle.hd_volume.specs.Volumes.{VolumeState, block_at, kind_of, IsKind, IsFormatted}
 use Rattle.hd_volume.specs.Records.{segment_in, find}
@@ -15,6 +15,8 @@ use Rattle.hd_volume.specs.Spaces.{volume_of}
 use Rattle.hd_volume.specs.Calls.{IsRead, HasSegment}
 use Rattle.hd_volume.proofs.ExtentLemmas.{used-is, segment-some}
 use Rattle.hd_dbd.specs.declared.facts.SegmentSize.{SegmentSize}
+use Rattle.hd_dbd.specs.declared.hierarchy.FreeSpace.{FreeSpace}
+use Rattle.hd_volume.specs.Spacing.{HasLeft}
 use Rattle.hd_block.specs.Sizes.{size_at}
 
 -- ---- blocks of a formatted volume
@@ -91,6 +93,20 @@ segment-read v address n at end b f h at_is b_is end_is =
 
 -- ---- a call that reads
 
+-- one image leaves the same space
+pub space-same : (v w : VolumeState) → w.size ≡ v.size → w.sizes ≡ v.sizes → w.image ≡ v.image → w.spacing ≡ v.spacing → HasLeft v → HasLeft w
+space-same v w size sizes image spacing h more =
+    let few : (header_of v.image).count + 2 ≤ (header_of v.image).largest = rw image at more in
+    let s = h few in
+    record {
+      blocks = λ n there later out.
+          let k = s.blocks n (rw (size, image) at there) later (rw spacing at out) in
+          record { there = there; later = later; kind_is = rw (size, image) k.kind_is };
+      bytes = λ n k.
+          let old : IsKind v 1 n = record { there = rw (size, image) at k.there; later = k.later; kind_is = rw (size, image) at k.kind_is } in
+          rw (size, sizes, image, spacing) (s.bytes n old);
+    }
+
 -- blocks of which only one was brought to hand
 pub record IsBrought (old new : Buffered) : Type 0 where
   pub sound : new.is_sound ≡ old.is_sound
@@ -101,19 +117,42 @@ pub record IsBrought (old new : Buffered) : Type 0 where
   pub stands : IsTrue old.is_sound → old.stored ≡ old.image → new.stored ≡ old.image
   pub first : IsTrue old.is_sound → KeepsFirst old.size old.stored new.stored
 
-pub is-read : {T : Type 0} (old new : Buffered) (sizes : List SegmentSize) (room room' : ℕ) (x : T) → IsBrought old new → room' ≡ room
-    → IsRead {T = T} (volume_of old sizes room) (Ok x) (volume_of new sizes room')
-is-read old new sizes room room' x h same =
+pub is-read : {T : Type 0} (old new : Buffered) (sizes : List SegmentSize) (spacing : FreeSpace) (room room' : ℕ) (x : T) → IsBrought old new → room' ≡ room
+    → IsRead {T = T} (volume_of old sizes spacing room) (Ok x) (volume_of new sizes spacing room')
+is-read old new sizes spacing room room' x h same =
     let before = λ (sound : IsTrue new.is_sound). (let s : IsTrue old.is_sound = rw (← h.sound) sound in s) in
     record {
-      call = record { counts = h.failures; sound = h.sound; size = h.size; sizes = refl; first = λ sound. h.first (before sound) };
+      call = record {
+        counts = h.failures;
+        sound = h.sound;
+        size = h.size;
+        sizes = refl;
+        first = λ sound. h.first (before sound);
+        plain = λ p. p;
+        space = λ s l. record { left = λ sound is. space-same (volume_of old sizes spacing room) (volume_of new sizes spacing room') h.size refl (h.image (before sound)) refl (l.left (before sound) is) };
+      };
       image = λ sound. h.image (before sound);
       stands = λ sound stood. h.stands (before sound) stood ∙ sym (h.image (before sound));
       room = same;
     }
 
 -- the same as a caller sees it
-pub is-read-seen : {T : Type 0} {x : T} (seen : VolumeState) (old new : Buffered) (sizes : List SegmentSize) (room room' : ℕ) → volume_of old sizes room ≡ seen → IsBrought old new → room' ≡ room
-    → IsRead {T = T} seen (Ok x) (volume_of new sizes room')
-is-read-seen {T} {x} seen old new sizes room room' view h same =
-    let P : VolumeState → Type 0 = λ v. IsRead {T = T} v (Ok x) (volume_of new sizes room') in subst P view (is-read old new sizes room room' x h same)
+pub is-read-seen : {T : Type 0} {x : T} (seen : VolumeState) (old new : Buffered) (sizes : List SegmentSize) (spacing : FreeSpace) (room room' : ℕ) → volume_of old sizes spacing room ≡ seen → IsBrought old new → room' ≡ room
+    → IsRead {T = T} seen (Ok x) (volume_of new sizes spacing room')
+is-read-seen {T} {x} seen old new sizes spacing room room' view h same =
+    let P : VolumeState → Type 0 = λ v. IsRead {T = T} v (Ok x) (volume_of new sizes spacing room') in subst P view (is-read old new sizes spacing room room' x h same)
+
+-- the same of calls that seek
+pub fetched-read : {T U : Type 0} (seen : VolumeState) (old new : Buffered) (sizes : List SegmentSize) (spacing : FreeSpace) (room room' : ℕ) (x : T) (y : U) → volume_of old sizes spacing room ≡ seen
+    → IsFetch {T = T} old (Ok x) new → room' ≡ room → IsRead {T = U} seen (Ok y) (volume_of new sizes spacing room')
+fetched-read {T} {U} seen old new sizes spacing room room' x y view f same =
+    let after = λ (sound : IsTrue old.is_sound). (let s : IsTrue new.is_sound = rw f.sound sound in s) in
+    is-read-seen seen old new sizes spacing room room' view (record {
+      sound = f.sound;
+      failures = f.counts;
+      size = f.size;
+      room = f.room;
+      image = λ sound. f.image (after sound);
+      stands = λ sound stood. f.stands (after sound) stood ∙ f.image (after sound);
+      first = λ sound. f.first (after sound);
+    }) same

@@ -1,5 +1,5 @@
 -- Putting a segment into a block.
-use Rattle.std.proofs.Common.{◌≡◌, ◌≢◌, inl, inr, ℕ, ◌+◌, ◌-◌, ◌*◌, ◌/◌, ◌%◌, ◌<◌, ◌≤◌, List, length, slice_index, Option, Some, None, IfSome, IfNone, sym, ap, ◌∙◌, arith, subst}
+use Rattle.std.proofs.Common.{◌≡◌, ◌≢◌, inl, inr, ℕ, ◌+◌, ◌-◌, ◌*◌, ◌/◌, ◌%◌, ◌<◌, ◌≤◌, List, length, Option, Some, None, IfSome, IfNone, sym, ap, ◌∙◌, arith, subst}
 use Rattle.std.proofs.lemmas.Bool.{cases_eq}
 use Rattle.std.proofs.lemmas.Nat.{div-mul-add, mod-mul-add}
 use Rattle.hd_bytes.specs.Ranges.{with_bytes}
@@ -16,6 +16,9 @@ use Rattle.hd_volume.specs.Records.{segment_in}
 use Rattle.hd_volume.specs.Rooms.{largest_hole, HasHole}
 use Rattle.hd_volume.specs.Spaces.{blocks_in, IsSpaceOf, AreDivided, IsSeen}
 use Rattle.hd_volume.specs.Steps as step
+use Rattle.hd_volume.specs.Spacing.{HasNoTwo}
+use Rattle.hd_volume.specs.Spacing as left
+use Rattle.hd_volume.proofs.FreeLemmas.{one-alone}
 use Rattle.hd_volume.proofs.MapLemmas.{find-in}
 use Rattle.hd_volume.proofs.EditLemmas.{IsPutIn, put-edits, none-large}
 use Rattle.hd_volume.proofs.FrameLemmas.{HasChanged, block-seen, kind-on, other-blocks, keeps-header, keeps-kinds, keeps-spare, keeps-formatted, keeps-space}
@@ -76,6 +79,14 @@ module _ (v w : VolumeState) (n a q : ℕ) (bs b1 : List ℕ) (f : IsFormatted v
             let P : List ℕ → Type 0 = λ b. k - length bs ≤ largest_hole (parts_in w.sizes b) in
             let Q : List SegmentSize → Type 0 = λ z. k - length bs ≤ largest_hole (parts_in z (block_of v.size w.image m)) in
             record { block = m; is_data = on; large = subst P (sym (block-seen c.same m)) (subst Q (sym c.same.sizes) large) };
+        alone = λ none.
+            let P : List ℕ → Type 0 = λ b. HasNoTwo w.sizes b in
+            let Q : List SegmentSize → Type 0 = λ z. HasNoTwo z (block_of v.size w.image n) in
+            subst P (sym (block-seen c.same n)) (subst Q (sym c.same.sizes) (one-alone v.sizes (block_of v.size w.image n) q (λ p other. put-block.others p other ∙ none p)));
+        free =
+            let P : List ℕ → Type 0 = λ b. left.free_bytes (parts_in w.sizes b) + length bs ≡ left.free_bytes (parts_in v.sizes (block_at v n)) in
+            let Q : List SegmentSize → Type 0 = λ z. left.free_bytes (parts_in z (block_of v.size w.image n)) + length bs ≡ left.free_bytes (parts_in v.sizes (block_at v n)) in
+            subst P (sym (block-seen c.same n)) (subst Q (sym c.same.sizes) put-block.free_bytes);
       }
 
   pub put-space : (space : Space) → IsSpaceOf v.size v.sizes v.image space → IsSpaceOf v.size v.sizes w.image space

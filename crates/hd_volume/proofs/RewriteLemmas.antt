@@ -12,13 +12,17 @@ use Rattle.hd_volume.specs.Records.{find}
 use Rattle.hd_volume.specs.Rooms.{spare}
 use Rattle.hd_volume.specs.Spaces.{IsSpaceOf}
 use Rattle.hd_volume.specs.Steps.{IsShorter}
-use Rattle.hd_volume.specs.Calls.{KeepsOthers, KeepsHoles, KeepsSize, HasSegment, IsWritten, IsFreed, IsPut, IsRewritten}
+use Rattle.hd_volume.specs.Calls.{KeepsOthers, KeepsHoles, KeepsFree, MayGrow, KeepsSize, HasSegment, IsWritten, IsFreed, IsPut, IsRewritten}
 use Rattle.hd_volume.proofs.MapLemmas.{IsFound, find-some, find-there, kind-there}
 use Rattle.hd_volume.proofs.ExtentLemmas.{segment-some}
 use Rattle.hd_volume.proofs.ShrinkLemmas.{IsShrunkIn, shrink-edits, with-all}
-use Rattle.hd_volume.proofs.FrameLemmas.{AreSame, HasChanged, block-seen, keeps-header, keeps-spare, keeps-formatted, keeps-holes}
+use Rattle.hd_volume.proofs.FrameLemmas.{AreSame, HasChanged, block-seen, keeps-header, keeps-spare, keeps-formatted, keeps-holes, keeps-free}
 use Rattle.hd_volume.proofs.CallLemmas.{find-new, keeps-others, write-writes, write-space, IsOpened, opened-space, looked-at}
-use Rattle.hd_volume.proofs.JoinLemmas.{AreOne, one-block, one-kind, one-back, one-segments, one-spare, one-holes}
+use Rattle.hd_volume.proofs.JoinLemmas.{AreOne, one-block, one-kind, one-back, one-segments, one-spare, one-holes, one-count, one-free, grows-after, grows-through, grown-count}
+use Rattle.hd_volume.specs.Spacing.{IsPlain}
+use Rattle.hd_volume.proofs.FreeLemmas.{stays-free}
+use Rattle.std.proofs.Math.Nat.{mul-le-mul_right}
+use Rattle.std.proofs.lemmas.Bool.{cases_eq}
 use Rattle.hd_block.specs.Sizes.{size_at}
 
 -- ---- in its place
@@ -26,8 +30,8 @@ use Rattle.hd_block.specs.Sizes.{size_at}
 -- a segment that was replaced in its place, in its block alone
 in-place : (v w : VolumeState) (a : ℕ) (bs : List ℕ) → AreSame v w → IsFormatted v → (h : HasSegment v a 0) → length bs ≤ length h.bytes → IsFormatted w
     → find w a ≡ Some bs → KeepsOthers v w a → ChangesBlock v.size (a / v.size) v.image w.image → header_of w.image ≡ header_of v.image → spare w ≡ spare v
-    → KeepsHoles v w → IsRewritten v a a bs w
-in-place v w a bs s f h fits fw is others c header spares holes =
+    → KeepsHoles v w → KeepsFree v w (a / v.size) → IsRewritten v a a bs w
+in-place v w a bs s f h fits fw is others c header spares holes free =
     let there = find-there v a 0 f h in
     let count : (header_of w.image).count ≡ (header_of v.image).count = ap (λ (x : Header). x.count) header in
     record {
@@ -44,9 +48,11 @@ in-place v w a bs s f h fits fw is others c header spares holes =
           omega arith);
       place = λ other. absurd (other refl);
       blocks = λ m t later x y. block-seen s m ∙ c.others m t x;
-      grows = record { count = inl count; header = header ∙ (let e : header_of v.image ≡ record (header_of v.image) { count = (header_of w.image).count } = rw count refl in e) };
+      grows = record { count = inl count; passed = λ m high low other. absurd (omega arith); header = header ∙ (let e : header_of v.image ≡ record (header_of v.image) { count = (header_of w.image).count } = rw count refl in e) };
+      by_one = λ _. omega arith;
       spares = omega arith;
-      in_hole = λ x. spares;
+      in_hole = λ plain x. spares;
+      free = λ e. free;
       in_place = λ x. (spares, holes);
       holes = λ n more x. let y = holes n x in let large = y.large in record { block = y.block; is_data = y.is_data; large = omega arith };
     }
@@ -71,7 +77,7 @@ module _ (v w : VolumeState) (a : ℕ) (bs : List ℕ) (f : IsFormatted v) (h : 
   pub same-rewrites : IsRewritten v a a bs w
   same-rewrites =
       let x : IsWritten v a 0 bs w = write-writes v w a 0 bs f long sized least c placed in
-      in-place v w a bs c.same f h (omega arith) x.formatted (x.is h.bytes h.is ∙ ap (λ (z : List ℕ). Some z) (all h.bytes h.is)) x.others x.block x.header x.spares x.holes
+      in-place v w a bs c.same f h (omega arith) x.formatted (x.is h.bytes h.is ∙ ap (λ (z : List ℕ). Some z) (all h.bytes h.is)) x.others x.block x.header x.spares x.holes x.free
 
   pub same-space : (space : Space) → IsSpaceOf v.size v.sizes v.image space → IsSpaceOf v.size v.sizes w.image space
   same-space = write-space v w a 0 bs f long sized least c placed
@@ -101,6 +107,8 @@ module _ (v w : VolumeState) (a : ℕ) (bs : List ℕ) (f : IsFormatted v) (h : 
       in-place v w a bs c.same f h (omega arith) (keeps-formatted c f.header f header shrunk.kind (λ _. record { extents = shrunk.extents; divides = shrunk.divides; whole = shrunk.whole }))
       (find-new v w c.same a later is ∙ shrunk.is) (keeps-others v w a c f.header positive later found.kind is shrunk.others) c.change header (keeps-spare c f.header header shrunk.kind)
       (keeps-holes c f.header shrunk.kind (λ _. shrunk.holes))
+      (keeps-free c.same (a / v.size) (stays-free v.sizes (block_at v (a / v.size)) (block_of v.size w.image (a / v.size))
+      (λ p some none. elim (cases_eq p (a % v.size)) [ inl e ↦ shrunk.was (rw e at none) | inr other ↦ some (shrunk.others p other ∙ none) ]) shrunk.free_bytes))
 
   pub shrink-space : (space new-space : Space) (hole : ℕ) → IsSpaceOf v.size v.sizes v.image space → IsOpened space (a / v.size) hole new-space
       → new-space.free ≡ space.free → new-space.lowest_free ≡ space.lowest_free → hole ≡ v.size → IsSpaceOf v.size v.sizes w.image new-space
@@ -117,10 +125,8 @@ put-longer : {u v : VolumeState} (n : ℕ) (bs : List ℕ) → IsFormatted u →
 put-longer {u} {v} n bs f p size =
     let a = f.header.whole in
     let b : length v.image ≡ (header_of v.image).count * u.size = p.formatted.header.whole ∙ (let e : (header_of v.image).count * v.size ≡ (header_of v.image).count * u.size = rw size refl in e) in
-    elim p.grows.count [
-      | inl e ↦ (let same : (header_of v.image).count * u.size ≡ (header_of u.image).count * u.size = ap (λ (i : ℕ). i * u.size) e in omega arith)
-      | inr e ↦ (let more : (header_of v.image).count * u.size ≡ ((header_of u.image).count + 1) * u.size = ap (λ (i : ℕ). i * u.size) e.1 in omega arith)
-    ]
+    let more : (header_of u.image).count * u.size ≤ (header_of v.image).count * u.size = mul-le-mul_right u.size (grown-count (n / u.size) p.grows) in
+    omega arith
 
 -- a segment is put where there was none
 put-apart : {u v : VolumeState} (a to : ℕ) (bs : List ℕ) → HasSegment u a 0 → IsPut u to bs v → to ≢ a
@@ -160,20 +166,19 @@ move-rewrites {u} {v} {w} a to bs f h shorter size s p r =
       blocks = λ m t later x y.
           let there : HasBlock v.size v.image m = rw size (omega arith) in
           block-seen s m ∙ r.block.others m there (λ e. x (e ∙ at)) ∙ p.blocks m t later y;
-      grows = record {
-        count = rw count p.grows.count;
-        header = same ∙ p.grows.header ∙ (let e : record (header_of u.image) { count = (header_of v.image).count } ≡ record (header_of u.image) { count = (header_of w.image).count } = rw count refl in e);
-      };
+      grows = grows-through (to / u.size) p.grows r.header (λ m other three. record { there = (let t = three.there in let l = r.block.len in rw s.size (omega arith)); later = three.later; kind_is = r.kinds m ∙ three.kind_is });
+      by_one = λ plain. (let few = p.by_one plain in omega arith);
       spares = let x = p.spares in let y = r.spares in omega arith;
-      in_hole = λ x. r.spares ∙ p.in_hole x;
+      in_hole = λ plain x. r.spares ∙ p.in_hole plain x;
+      free = λ e. absurd (apart e);
       in_place = λ e. absurd (apart e);
       holes = λ n more x. r.holes (n - length bs) (p.holes n more x);
     }
 
 -- ---- after a call that only read
 
-pub rewritten-after : {v w u : VolumeState} (o : AreOne v w) (a to : ℕ) (bs : List ℕ) → IsRewritten w a to bs u → IsRewritten v a to bs u
-rewritten-after {v} {w} {u} o a to bs r =
+pub rewritten-after : {v w u : VolumeState} (o : AreOne v w) → (IsPlain v → IsPlain w) → (a to : ℕ) (bs : List ℕ) → IsRewritten w a to bs u → IsRewritten v a to bs u
+rewritten-after {v} {w} {u} o plain-on a to bs r =
     let block : to / w.size ≡ to / v.size = ap (λ (z : ℕ). to / z) o.same.size in
     let from : a / w.size ≡ a / v.size = ap (λ (z : ℕ). a / z) o.same.size in
     record {
@@ -186,23 +191,20 @@ rewritten-after {v} {w} {u} o a to bs r =
       others = λ b x y. r.others b x y ∙ one-segments o b;
       index = λ n k. r.index n (one-kind o 2 n k) ∙ one-block o n;
       place = λ x.
-          let P : ℕ → Type 0 = λ n. IsKind v 1 n ⊎ IsKind v 3 n ⊎ (n ≡ (header_of v.image).count) in
+          let P : ℕ → Type 0 = λ n. IsKind v 1 n ⊎ IsKind v 3 n ⊎ ((header_of v.image).count ≤ n) in
           subst P block (elim (r.place x) [
             | inl k ↦ inl (one-back o 1 (to / w.size) k)
             | inr (inl k) ↦ inr (inl (one-back o 3 (to / w.size) k))
-            | inr (inr e) ↦ inr (inr (e ∙ ap (λ (i : List ℕ). (header_of i).count) o.image))
+            | inr (inr e) ↦ inr (inr (rw (one-count o) at e))
           ]);
       blocks = λ m t later x y.
           let there : HasBlock w.size w.image m = (let l : length w.image ≡ length v.image = ap length o.image in rw o.same.size (omega arith)) in
           r.blocks m there later (λ e. x (e ∙ from)) (λ e. y (e ∙ block)) ∙ one-block o m;
-      grows = record {
-        count = (let C : List ℕ → Type 0 = λ i. ((header_of u.image).count ≡ (header_of i).count) ⊎ ((to / v.size ≡ (header_of i).count) × ((header_of u.image).count ≡ (header_of i).count + 1)) in
-            let D : ℕ → Type 0 = λ n. ((header_of u.image).count ≡ (header_of w.image).count) ⊎ ((n ≡ (header_of w.image).count) × ((header_of u.image).count ≡ (header_of w.image).count + 1)) in
-            subst C o.image (subst D block r.grows.count));
-        header = (let H : List ℕ → Type 0 = λ i. header_of u.image ≡ record (header_of i) { count = (header_of u.image).count } in subst H o.image r.grows.header);
-      };
+      grows = (let G : ℕ → Type 0 = λ k. MayGrow v k u in subst G block (grows-after o (to / w.size) r.grows));
+      by_one = λ plain. (let few = r.by_one (plain-on plain) in let same = one-count o in omega arith);
       spares = let e = one-spare o in let x = r.spares in omega arith;
-      in_hole = λ h. r.in_hole (one-holes o (length bs) h) ∙ one-spare o;
+      in_hole = λ plain h. r.in_hole (plain-on plain) (one-holes o (length bs) h) ∙ one-spare o;
+      free = λ e. (let K : ℕ → Type 0 = λ n. KeepsFree v u n in subst K from (λ need h. r.free e need (one-free o (a / w.size) need h)));
       in_place = λ e. let p = r.in_place e in (p.0 ∙ one-spare o, λ n h. p.1 n (one-holes o n h));
       holes = λ n more h. r.holes n more (one-holes o n h);
     }

@@ -1,8 +1,8 @@
 -- A divided block of which a segment is made shorter.
-use Rattle.std.proofs.Common.{◌≡◌, ◌≢◌, inl, inr, ℕ, ◌+◌, ◌-◌, ◌%◌, ◌<◌, ◌≤◌, List, [], ◌∷◌, length, slice_index, Some, refl, sym, ap, ◌∙◌, arith, ne_eqb}
+use Rattle.std.proofs.Common.{◌≡◌, ◌≢◌, inl, inr, ℕ, ◌+◌, ◌-◌, ◌%◌, ◌<◌, ◌≤◌, List, [], ◌∷◌, length, slice_index, Option, Some, None, refl, sym, ap, ◌∙◌, arith, ne_eqb}
 use Rattle.std.proofs.lemmas.Bool.{eq-eqb}
 use Rattle.std.proofs.lemmas.Grind.{same_number_lists}
-use Rattle.hd_bytes.specs.Ranges.{with_bytes, ChangesOnly, AgreeOn}
+use Rattle.hd_bytes.specs.Ranges.{bytes_at, with_bytes, ChangesOnly, AgreeOn}
 use Rattle.hd_bytes.proofs.BlockLemmas.{agree-changed, agree-bytes_at, bytes-with}
 use Rattle.hd_bytes.proofs.NumberLemmas.{changes-with, length-with, number-below}
 use Rattle.hd_block.specs.Extents.{Extent, free, used, taken, Fill, IsDivided, AreWhole, UsedAt, TakenAt}
@@ -16,7 +16,9 @@ use Rattle.hd_block.proofs.PartLemmas.{parts-divided}
 use Rattle.hd_volume.specs.Records.{segment_in}
 use Rattle.hd_volume.specs.Rooms.{largest_hole}
 use Rattle.hd_volume.specs.Edits.{IsGiven}
+use Rattle.hd_volume.specs.Spacing as left
 use Rattle.hd_volume.proofs.ExtentLemmas.{used-is, segment-is, segment-same}
+use Rattle.hd_volume.proofs.FreeLemmas.{free-divided, shrink-free, give-free}
 use Rattle.hd_volume.proofs.EditLemmas.{before-is, largest-within, put-byte}
 use Rattle.hd_dbd.specs.declared.facts.SegmentSize.{SegmentSize}
 use Rattle.hd_block.specs.Sizes.{size_at}
@@ -105,6 +107,8 @@ pub record IsShrunkIn (sizes : List SegmentSize) (b b' : List ℕ) (q : ℕ) (bs
   pub kind : slice_index b' 2 ≡ slice_index b 2
   pub holes : largest_hole (parts_in sizes b) ≤ largest_hole (parts_in sizes b')
   pub most : largest_hole (parts_in sizes b') ≤ length b'
+  pub was : segment_in sizes b q ≢ None
+  pub free_bytes : left.free_bytes (parts_in sizes b) ≤ left.free_bytes (parts_in sizes b')
 
 pub shrink-edits : (sizes : List SegmentSize) (b b2 : List ℕ) (xs : List Extent) (q n : ℕ) (bs : List ℕ) → IsDivided sizes b xs → AreWhole xs → UsedAt 8 xs q n → 8 ≤ length bs → length bs % 8 ≡ 0
     → length bs < n → size_at sizes bs 0 ≡ length bs → IsGiven sizes (q + length bs) (n - length bs) (with_bytes b q bs) b2 → IsShrunkIn sizes b b2 q bs
@@ -147,6 +151,8 @@ shrink-edits sizes b b2 xs q n bs h w u some eighths less code t =
       kind = sym (t.head 2 (omega arith) (omega arith)) ∙ c.below 2 (omega arith);
       holes = rw (before, after) x.holes;
       most = rw after (largest-within sizes b2 8 _ zs divides);
+      was = λ e. (let some : ◌≡◌ {A = Option (List ℕ)} None (Some (bytes_at b q n)) = sym e ∙ segment-is sizes b xs h w q n u in absurd (cc));
+      free_bytes = (let one = free-divided sizes b xs h w in let two = free-divided sizes b2 zs divides x.whole in let e = shrink-free q m 8 xs in let g = give-free (q + m) 8 ys in omega arith);
     }
 
 -- bytes that are written over all of a list

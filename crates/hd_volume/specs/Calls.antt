@@ -3,22 +3,27 @@ use Rattle.std.specs.Prelude.{◌≡◌, ◌≢◌, ◌⊎◌, ℕ, ◌+◌, ◌
 use Rattle.hd_bytes.specs.Blocks.{HasBlock}
 use Rattle.hd_bytes.specs.Ranges.{with_bytes}
 use Rattle.hd_dbd.specs.declared.answer.Refused.{Refused}
+use Rattle.hd_dbd.specs.declared.hierarchy.FreeSpace.{FreeSpace}
 use Rattle.hd_volume.specs.Stores.{CountsDevice, StaysSound}
 use Rattle.hd_volume.specs.Images.{ChangesBlock, KeepsFirst}
 use Rattle.hd_volume.specs.Headers.{Header, header_of}
 use Rattle.hd_volume.specs.Volumes.{VolumeState, block_at, kind_of, IsKind, IsFormatted}
 use Rattle.hd_volume.specs.Records.{find}
 use Rattle.hd_volume.specs.Rooms.{spare, HasHole}
+use Rattle.hd_volume.specs.Spacing.{IsPlain, HasBytesFree, LeavesSpace}
 use Rattle.hd_block.specs.Sizes.{size_at}
 
 -- What every call does but a flush: Device is answered exactly where a failed access was counted; the sizes stay; and
--- while the store is sound, its own block 0 stays.
+-- while the store is sound, its own block 0 stays. A volume that keeps nothing free keeps nothing free afterwards; and what one is to keep free
+-- afterwards is free then, unless it was to be before and was not.
 pub record IsCall {T : Type 0} (old : VolumeState) (result : Result T Refused) (new : VolumeState) : Type 0 where
   pub counts : CountsDevice result old.failures new.failures
   pub sound : StaysSound result old.is_sound new.is_sound
   pub size : new.size ≡ old.size
   pub sizes : new.sizes ≡ old.sizes
   pub first : IsTrue new.is_sound → KeepsFirst old.size old.stored new.stored
+  pub plain : IsPlain old → IsPlain new
+  pub space : (spacing : FreeSpace) → LeavesSpace spacing old → LeavesSpace spacing new
 
 -- A call that changes nothing of the image; where the store has all of it, so it does afterwards.
 pub record IsRead {T : Type 0} (old : VolumeState) (result : Result T Refused) (new : VolumeState) : Type 0 where
@@ -53,6 +58,10 @@ KeepsIndex old new = (n : ℕ) → IsKind old 2 n → block_at new n ≡ block_a
 abbrev pub KeepsHoles : VolumeState → VolumeState → Type 0
 KeepsHoles old new = (n : ℕ) → HasHole old n → HasHole new n
 
+-- a data block that had no two segments, or so many bytes free, still has
+abbrev pub KeepsFree : VolumeState → VolumeState → ℕ → Type 0
+KeepsFree old new n = (need : ℕ) → HasBytesFree old.sizes need (block_at old n) → HasBytesFree new.sizes need (block_at new n)
+
 -- Bytes were written into the segment at an address, in its block alone.
 pub record IsWritten (old : VolumeState) (address offset : ℕ) (bytes : List ℕ) (new : VolumeState) : Type 0 where
   pub formatted : IsFormatted new
@@ -63,6 +72,7 @@ pub record IsWritten (old : VolumeState) (address offset : ℕ) (bytes : List �
   pub header : header_of new.image ≡ header_of old.image
   pub spares : spare new ≡ spare old
   pub holes : KeepsHoles old new
+  pub free : KeepsFree old new (address / old.size)
 
 -- The segment at an address was freed, in its block alone, which stays a data block; its bytes are room again.
 pub record IsFreed (old : VolumeState) (address : ℕ) (new : VolumeState) : Type 0 where
@@ -75,29 +85,40 @@ pub record IsFreed (old : VolumeState) (address : ℕ) (new : VolumeState) : Typ
   pub spares : spare new ≡ spare old
   pub hole : (s : List ℕ) → find old address ≡ Some s → HasHole new (length s)
   pub holes : KeepsHoles old new
+  pub free : KeepsFree old new (address / old.size)
 
--- The volume has not grown, or it has by block n.
+-- block n is the last of a volume, which has grown by it, or by it and the one before it
+abbrev pub IsLast : VolumeState → ℕ → VolumeState → Type 0
+IsLast old n new = ((header_of new.image).count ≡ n + 1) × ((header_of old.image).count ≤ n) × (n ≤ (header_of old.image).count + 1)
+
+-- The volume has not grown, or it has by block n, before which one may have been passed over: that one is free.
 pub record MayGrow (old : VolumeState) (n : ℕ) (new : VolumeState) : Type 0 where
-  pub count : ((header_of new.image).count ≡ (header_of old.image).count) ⊎ ((n ≡ (header_of old.image).count) × ((header_of new.image).count ≡ (header_of old.image).count + 1))
+  pub count : ((header_of new.image).count ≡ (header_of old.image).count) ⊎ IsLast old n new
+  pub passed : (m : ℕ) → (header_of old.image).count ≤ m → m < (header_of new.image).count → m ≢ n → IsKind new 3 m
   pub header : header_of new.image ≡ record (header_of old.image) { count = (header_of new.image).count }
 
+-- a volume that keeps nothing free has grown by one block at most
+abbrev pub GrowsByOne : VolumeState → VolumeState → Type 0
+GrowsByOne old new = IsPlain old → (header_of new.image).count ≤ (header_of old.image).count + 1
+
 -- A segment was put at an address where there was none, in a block that was for data, was free, or is new; no other block
--- but block 0 has changed. A hole of its size is used where there is one.
+-- but block 0 has changed. A hole of its size is used where there is one and the volume keeps nothing free.
 pub record IsPut (old : VolumeState) (address : ℕ) (bytes : List ℕ) (new : VolumeState) : Type 0 where
   pub formatted : IsFormatted new
-  pub place : IsKind old 1 (address / old.size) ⊎ IsKind old 3 (address / old.size) ⊎ (address / old.size ≡ (header_of old.image).count)
+  pub place : IsKind old 1 (address / old.size) ⊎ IsKind old 3 (address / old.size) ⊎ ((header_of old.image).count ≤ address / old.size)
   pub blocks : (m : ℕ) → HasBlock old.size old.image m → 0 < m → m ≢ address / old.size → block_at new m ≡ block_at old m
   pub was : find old address ≡ None
   pub is : find new address ≡ Some bytes
   pub others : KeepsOthers old new address
   pub index : KeepsIndex old new
   pub grows : MayGrow old (address / old.size) new
+  pub by_one : GrowsByOne old new
   pub spares : spare old ≤ spare new + 1
-  pub in_hole : HasHole old (length bytes) → spare new ≡ spare old
+  pub in_hole : IsPlain old → HasHole old (length bytes) → spare new ≡ spare old
   pub holes : (n : ℕ) → length bytes < n → HasHole old n → HasHole new (n - length bytes)
 
 -- The segment at an address was replaced by another, which stands at an address: the same one, or a new one where it does not fit
--- into the place of the old one, which then is room again. A hole of its size is used where there is one.
+-- into the place of the old one, which then is room again. A hole of its size is used where there is one and the volume keeps nothing free.
 pub record IsRewritten (old : VolumeState) (address to : ℕ) (bytes : List ℕ) (new : VolumeState) : Type 0 where
   pub formatted : IsFormatted new
   pub is : find new to ≡ Some bytes
@@ -107,18 +128,20 @@ pub record IsRewritten (old : VolumeState) (address to : ℕ) (bytes : List ℕ)
   pub others : (b : ℕ) → b ≢ address → b ≢ to → find new b ≡ find old b
   pub index : KeepsIndex old new
   pub data_block : IsKind new 1 (address / old.size)
-  pub place : to ≢ address → IsKind old 1 (to / old.size) ⊎ IsKind old 3 (to / old.size) ⊎ (to / old.size ≡ (header_of old.image).count)
+  pub place : to ≢ address → IsKind old 1 (to / old.size) ⊎ IsKind old 3 (to / old.size) ⊎ ((header_of old.image).count ≤ to / old.size)
   pub blocks : (m : ℕ) → HasBlock old.size old.image m → 0 < m → m ≢ address / old.size → m ≢ to / old.size → block_at new m ≡ block_at old m
   pub grows : MayGrow old (to / old.size) new
+  pub by_one : GrowsByOne old new
   pub spares : spare old ≤ spare new + 1
-  pub in_hole : HasHole old (length bytes) → spare new ≡ spare old
+  pub in_hole : IsPlain old → HasHole old (length bytes) → spare new ≡ spare old
   pub in_place : to ≡ address → (spare new ≡ spare old) × KeepsHoles old new
+  pub free : to ≡ address → KeepsFree old new (address / old.size)
   pub holes : (n : ℕ) → length bytes < n → HasHole old n → HasHole new (n - length bytes)
 
 -- Block n, which was free or is new, is an index block of a level; its count and its next block are 0.
 pub record IsTakenBlock (old : VolumeState) (n level : ℕ) (new : VolumeState) : Type 0 where
   pub formatted : IsFormatted new
-  pub was : (IsKind old 3 n) ⊎ (n ≡ (header_of old.image).count)
+  pub was : (IsKind old 3 n) ⊎ ((header_of old.image).count ≤ n)
   pub is : IsKind new 2 n
   pub level_is : slice_index (block_at new n) 3 ≡ level
   pub empty : (k : ℕ) → 4 ≤ k → k < 12 → slice_index (block_at new n) k ≡ 0
@@ -126,6 +149,7 @@ pub record IsTakenBlock (old : VolumeState) (n level : ℕ) (new : VolumeState) 
   pub segments : KeepsSegments old new
   pub index : KeepsIndex old new
   pub grows : MayGrow old n new
+  pub by_one : GrowsByOne old new
   pub spares : spare old ≡ spare new + 1
   pub holes : KeepsHoles old new
 

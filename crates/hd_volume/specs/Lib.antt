@@ -5,6 +5,7 @@ pub mod Buffers
 pub mod Headers
 pub mod Volumes
 pub mod Records
+pub mod Spacing
 pub mod Entries
 pub mod Indexes
 pub mod Rooms

@@ -1,5 +1,5 @@
 -- A volume as a finite map from addresses to segments.
-use Rattle.std.specs.Prelude.{ℕ, ◌/◌, ◌%◌, ◌==◌, cond, List, [], ◌∷◌, Option, Some, None, option_map, slice_index}
+use Rattle.std.specs.Prelude.{ℕ, ◌/◌, ◌%◌, ◌==◌, cond, List, [], ◌∷◌, Option, Some, None, option_map}
 use Rattle.hd_bytes.specs.Ranges.{bytes_at}
 use Rattle.hd_block.specs.Walk.{parts_in}
 use Rattle.hd_block.specs.declared.parts.Part.{Part}

@@ -1,5 +1,5 @@
 -- Room in a volume: blocks to spare, and holes in data blocks.
-use Rattle.std.specs.Prelude.{ℕ, zero, suc, ◌+◌, ◌-◌, ◌≤◌, ◌==◌, ◌&&◌, not, cond, Bool, List, [], ◌∷◌, max, slice_index}
+use Rattle.std.specs.Prelude.{ℕ, zero, suc, ◌+◌, ◌-◌, ◌≤◌, ◌==◌, ◌&&◌, not, cond, Bool, List, [], ◌∷◌, max}
 use Rattle.hd_block.specs.Walk.{parts_in}
 use Rattle.hd_block.specs.declared.parts.Part.{Part}
 use Rattle.hd_block.specs.declared.parts.Part.TheVariants.{Free, Used}

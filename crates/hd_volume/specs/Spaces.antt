@@ -1,5 +1,5 @@
 -- What a volume keeps of its blocks, so that no block is read in vain.
-use Rattle.std.specs.Prelude.{◌≡◌, ℕ, ◌+◌, ◌-◌, ◌*◌, ◌/◌, ◌%◌, ◌<◌, ◌≤◌, Bool, IsTrue, List, length, min, slice_index, slice_index_or, vec_len}
+use Rattle.std.specs.Prelude.{◌≡◌, ℕ, ◌+◌, ◌-◌, ◌*◌, ◌/◌, ◌%◌, ◌<◌, ◌≤◌, ◌==◌, ◌&&◌, cond, Bool, IsTrue, List, length, min, slice_index, slice_index_or, vec_len}
 use Rattle.std.specs.Vec.{vec_capacity}
 use Rattle.hd_block.specs.Walk.{parts_in}
 use Rattle.hd_volume.specs.declared.space.Content.{Content}
@@ -9,16 +9,26 @@ use Rattle.hd_volume.specs.Buffers.{Buffered}
 use Rattle.hd_volume.specs.Volumes.{VolumeState, kind_of, HasExtents}
 use Rattle.hd_volume.specs.Rooms.{free_below, largest_hole}
 use Rattle.hd_volume.specs.declared.load.TheConstants.{MOST_BLOCKS}
+use Rattle.hd_volume.specs.declared.spacing.TheConstants.{MOST_CALLS}
 use Rattle.hd_dbd.specs.declared.facts.SegmentSize.{SegmentSize}
+use Rattle.hd_dbd.specs.declared.hierarchy.FreeSpace.{FreeSpace}
 use Rattle.hd_block.specs.Sizes.{size_at}
 
--- the volume that blocks and stored sizes are, with room for so many growths
-abbrev pub volume_of : Buffered → List SegmentSize → ℕ → VolumeState
-volume_of b sizes room = record { image = b.image; stored = b.stored; is_sound = b.is_sound; failures = b.failures; room = room; size = b.size; sizes = sizes }
+-- the volume that blocks and stored sizes are, which keeps so much free, with room for so many calls
+abbrev pub volume_of : Buffered → List SegmentSize → FreeSpace → ℕ → VolumeState
+volume_of b sizes spacing room = record { image = b.image; stored = b.stored; is_sound = b.is_sound; failures = b.failures; room = room; size = b.size; sizes = sizes; spacing = spacing }
 
--- so many growths find memory, in the store and for what is kept of each block
-abbrev pub room_for : ℕ → ℕ → ℕ → ℕ
-room_for store_room len capacity = min store_room (capacity - len)
+-- nothing is to be kept free
+abbrev pub is_plain : FreeSpace → Bool
+is_plain spacing = spacing.fbff == 0 && spacing.fspf == 0
+
+-- For so many calls room by so many blocks is enough: a call may grow by two where some are kept free, and else by one.
+abbrev pub calls_for : FreeSpace → ℕ → ℕ
+calls_for spacing blocks = cond (is_plain spacing) blocks (min (blocks / 2) MOST_CALLS)
+
+-- so many calls that grow find memory, in the store and for what is kept of each block
+abbrev pub room_for : FreeSpace → ℕ → ℕ → ℕ → ℕ
+room_for spacing store_room len capacity = calls_for spacing (min store_room (capacity - len))
 
 -- how many blocks of an image are looked at: the whole ones, at most 65,536
 abbrev pub blocks_in : ℕ → List ℕ → ℕ

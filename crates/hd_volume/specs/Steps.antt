@@ -1,18 +1,40 @@
 -- The steps of which putting a segment and taking a block are made.
-use Rattle.std.specs.Prelude.{◌≡◌, ◌≢◌, ◌⊎◌, ℕ, ◌+◌, ◌-◌, ◌/◌, ◌<◌, ◌≤◌, List, [], ◌∷◌, length, Some, None, slice_index}
+use Rattle.std.specs.Prelude.{◌≡◌, ◌≢◌, ◌⊎◌, ℕ, ◌+◌, ◌-◌, ◌/◌, ◌<◌, ◌≤◌, IsTrue, List, [], ◌∷◌, length, Some, None, Result, slice_index}
 use Rattle.hd_bytes.specs.Blocks.{HasBlock}
 use Rattle.hd_block.specs.Walk.{parts_in}
-use Rattle.hd_volume.specs.Images.{ChangesBlock}
+use Rattle.hd_dbd.specs.declared.answer.Refused.{Refused}
+use Rattle.hd_dbd.specs.declared.facts.SegmentSize.{SegmentSize}
+use Rattle.hd_bytes.specs.Blocks.{block_of}
+use Rattle.hd_volume.specs.Stores.{CountsDevice, StaysSound}
+use Rattle.hd_volume.specs.Images.{ChangesBlock, KeepsFirst}
 use Rattle.hd_volume.specs.Headers.{header_of}
-use Rattle.hd_volume.specs.Volumes.{VolumeState, block_at, IsKind, IsFormatted}
-use Rattle.hd_volume.specs.Records.{find}
+use Rattle.hd_volume.specs.Volumes.{VolumeState, block_at, kind_of, IsKind, IsFormatted}
+use Rattle.hd_volume.specs.Records.{segment_in, find}
+use Rattle.hd_volume.specs.Spacing.{IsPlain, IsLeftOut, bytes_to_leave, free_bytes, HasNoTwo}
+use Rattle.hd_volume.specs.Spaces.{blocks_in}
 use Rattle.hd_volume.specs.Rooms.{spare, largest_hole, HasHole}
-use Rattle.hd_volume.specs.Calls.{KeepsOthers, KeepsSegments, KeepsIndex, KeepsHoles, MayGrow}
+use Rattle.hd_volume.specs.Calls.{KeepsOthers, KeepsSegments, KeepsIndex, KeepsHoles, MayGrow, GrowsByOne}
+
+-- What every call does, without a word on what is kept free.
+pub record IsStep {T : Type 0} (old : VolumeState) (result : Result T Refused) (new : VolumeState) : Type 0 where
+  pub counts : CountsDevice result old.failures new.failures
+  pub sound : StaysSound result old.is_sound new.is_sound
+  pub size : new.size ≡ old.size
+  pub sizes : new.sizes ≡ old.sizes
+  pub first : IsTrue new.is_sound → KeepsFirst old.size old.stored new.stored
+
+-- The volume keeps free what it kept, or nothing any more.
+abbrev pub KeepsSpacing : VolumeState → VolumeState → Type 0
+KeepsSpacing old new = (new.spacing ≡ old.spacing) ⊎ IsPlain new
 
 -- A data block has a hole of at least n bytes.
 pub record HasRoom (v : VolumeState) (n need : ℕ) : Type 0 where
   pub is_data : IsKind v 1 n
   pub large : need ≤ largest_hole (parts_in v.sizes (block_at v n))
+
+-- a block has no segment
+abbrev pub HasNone : List SegmentSize → List ℕ → Type 0
+HasNone sizes block = (p : ℕ) → segment_in sizes block p ≡ None
 
 -- A segment was put into the hole of data block n.
 pub record IsPutIn (old : VolumeState) (n address : ℕ) (bytes : List ℕ) (new : VolumeState) : Type 0 where
@@ -25,12 +47,14 @@ pub record IsPutIn (old : VolumeState) (n address : ℕ) (bytes : List ℕ) (new
   pub header : header_of new.image ≡ header_of old.image
   pub spares : spare new ≡ spare old
   pub holes : (k : ℕ) → length bytes < k → HasHole old k → HasHole new (k - length bytes)
+  pub alone : HasNone old.sizes (block_at old n) → HasNoTwo new.sizes (block_at new n)
+  pub free : free_bytes (parts_in new.sizes (block_at new n)) + length bytes ≡ free_bytes (parts_in old.sizes (block_at old n))
 
 -- Block n is free: it was, and nothing has changed, or the volume has grown by it.
 pub record HasFree (old : VolumeState) (n : ℕ) (new : VolumeState) : Type 0 where
   pub formatted : IsFormatted new
   pub is : IsKind new 3 n
-  pub was : (IsKind old 3 n) ⊎ (n ≡ (header_of old.image).count)
+  pub was : (IsKind old 3 n) ⊎ ((header_of old.image).count ≤ n)
   pub others : (m : ℕ) → HasBlock old.size old.image m → 0 < m → block_at new m ≡ block_at old m
   pub grows : MayGrow old n new
   pub segments : KeepsSegments old new
@@ -62,15 +86,16 @@ data_head high low = 0 ∷ 8 ∷ 1 ∷ 0 ∷ 0 ∷ 0 ∷ 0 ∷ 0 ∷ 0 ∷ 0 ∷
 -- Data block n has room for so many bytes. A hole that was there is used; else a free block or a new one has become it.
 pub record IsReady (old : VolumeState) (n need : ℕ) (new : VolumeState) : Type 0 where
   pub formatted : IsFormatted new
-  pub place : IsKind old 1 n ⊎ IsKind old 3 n ⊎ (n ≡ (header_of old.image).count)
+  pub place : IsKind old 1 n ⊎ IsKind old 3 n ⊎ ((header_of old.image).count ≤ n)
   pub blocks : (m : ℕ) → HasBlock old.size old.image m → 0 < m → m ≢ n → block_at new m ≡ block_at old m
   pub longer : length old.image ≤ length new.image
   pub room : HasRoom new n need
   pub segments : KeepsSegments old new
   pub index : KeepsIndex old new
   pub grows : MayGrow old n new
+  pub by_one : GrowsByOne old new
   pub spares : spare old ≤ spare new + 1
-  pub in_hole : HasHole old need → spare new ≡ spare old
+  pub in_hole : IsPlain old → HasHole old need → spare new ≡ spare old
   pub holes : KeepsHoles old new
 
 -- Free block n has become an index block of a level, with no entry and none behind it.
@@ -78,3 +103,22 @@ pub record IsMadeIndex (old : VolumeState) (n level : ℕ) (new : VolumeState) :
   pub made : IsMade old n 2 new
   pub level_is : slice_index (block_at new n) 3 ≡ level
   pub empty : (k : ℕ) → 4 ≤ k → k < 12 → slice_index (block_at new n) k ≡ 0
+
+-- a block has no segment, or so many bytes more free than are to be kept
+abbrev pub MayTake : List SegmentSize → ℕ → ℕ → List ℕ → Type 0
+MayTake sizes leave need block = HasNone sizes block ⊎ (leave + need ≤ free_bytes (parts_in sizes block))
+
+-- block n is for data, has a hole of so many bytes, and may take them and leave so many free
+abbrev pub HasSpacedHole : List SegmentSize → ℕ → List ℕ → ℕ → ℕ → ℕ → Type 0
+HasSpacedHole sizes size image need leave n =
+    (kind_of (block_of size image n) ≡ 1) × (need ≤ largest_hole (parts_in sizes (block_of size image n))) × MayTake sizes leave need (block_of size image n)
+
+-- block n is looked at, and is such a block
+abbrev pub IsSpacedAt : List SegmentSize → ℕ → List ℕ → ℕ → ℕ → ℕ → Type 0
+IsSpacedAt sizes size image need leave n = (0 < n) × (n < blocks_in size image) × HasSpacedHole sizes size image need leave n
+
+-- Where the volume may grow by two blocks, a segment of so many bytes may be put into block n, and what is to be kept free is.
+abbrev pub IsOpenFor : VolumeState → ℕ → ℕ → Type 0
+IsOpenFor v n need =
+    (header_of v.image).count + 2 ≤ (header_of v.image).largest
+    → (IsLeftOut v.spacing n → ⊥) × MayTake v.sizes (bytes_to_leave v.size v.spacing) need (block_at v n)

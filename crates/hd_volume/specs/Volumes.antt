@@ -4,6 +4,7 @@ use Rattle.hd_bytes.specs.Blocks.{block_of, HasBlock}
 use Rattle.hd_block.specs.Extents.{Extent, IsDivided, AreWhole}
 use Rattle.hd_volume.specs.Headers.{HasHeader}
 use Rattle.hd_dbd.specs.declared.facts.SegmentSize.{SegmentSize}
+use Rattle.hd_dbd.specs.declared.hierarchy.FreeSpace.{FreeSpace}
 
 pub record VolumeState : Type 0 where
   -- all bytes, as they will stand in the store once they are flushed
@@ -19,6 +20,8 @@ pub record VolumeState : Type 0 where
   -- the bytes of a block, and by code the bytes that the segments of a type take
   pub size : ℕ
   pub sizes : List SegmentSize
+  -- what it keeps free as it grows
+  pub spacing : FreeSpace
 
 -- the bytes of block n
 abbrev pub block_at : VolumeState → ℕ → List ℕ

@@ -1,5 +1,6 @@
 ghost use Rattle.std.specs.Prelude.{◌≡◌, ◌≤◌, ◌<◌, ◌*◌, [], length, replicate, IsTrue, IfOk, IfErr};
 ghost use Rattle.hd_dbd.specs.Facts.{stored_sizes};
+ghost use Rattle.hd_volume.specs.Spacing.{IsPlain};
 ghost use Rattle.hd_volume.specs.Creates.{IsCreated, IsGivenNew, head_list};
 ghost use Rattle.hd_volume.specs.declared.load.TheConstants.{MOST_BLOCKS};
 
@@ -22,7 +23,7 @@ impl<S: BlockStore> Volume<S> {
         requires empty { IsTrue (S.is_sound store) → S.contents store ≡ [] }
         requires bounds { (0 < largest) × (largest ≤ MOST_BLOCKS) }
         ensures created { IfOk result (λ v. IsTrue (S.is_sound store) → IsCreated dbd.now.name dbd.now.block_size largest v) }
-        ensures store { IfOk result (λ v. (v.is_sound ≡ S.is_sound store) × (v.failures ≡ S.failures store) × (v.size ≡ S.size store) × (v.sizes ≡ stored_sizes dbd.now.types)) }
+        ensures store { IfOk result (λ v. (v.is_sound ≡ S.is_sound store) × (v.failures ≡ S.failures store) × (v.size ≡ S.size store) × (v.sizes ≡ stored_sizes dbd.now.types) × IsPlain v) }
         ensures refusal { IfErr result (λ e. IsGivenNew S.size S.contents S.is_sound S.failures store e) }
     {
         if let Err(refused) = store.grow(1) {

@@ -1,9 +1,11 @@
 ghost use Rattle.std.specs.Prelude.{◌≡◌, ◌≤◌, IsTrue};
 ghost use Rattle.hd_bytes.specs.Blocks.{HasBlock};
 ghost use Rattle.hd_bytes.specs.Numbers.{number_at};
+ghost use Rattle.hd_dbd.specs.declared.hierarchy.FreeSpace.{FreeSpace};
 ghost use Rattle.hd_volume.specs.Headers.{header_of};
 ghost use Rattle.hd_volume.specs.Volumes.{IsFormatted};
 ghost use Rattle.hd_volume.specs.Calls.{HasNewHeader};
+ghost use Rattle.hd_volume.specs.Spacing.{LeavesSpace};
 
 use crate::blocks::Blocks;
 use crate::store::BlockStore;
@@ -50,6 +52,7 @@ impl<S: BlockStore> Volume<S> {
         requires formatted { IsTrue self.old.is_sound → IsFormatted self.old }
         ensures set { IsTrue self.old.is_sound → HasNewHeader self.old (record (header_of self.old.image) { first_root = address }) self.new }
         ensures rest { self.new ≡ record self.old { image = self.new.image } }
+        ensures space { (spacing : FreeSpace) → LeavesSpace spacing self.old → LeavesSpace spacing self.new }
     {
         self.blocks.write_head(FIRST_ROOT, address);
     }
@@ -59,6 +62,7 @@ impl<S: BlockStore> Volume<S> {
         requires formatted { IsTrue self.old.is_sound → IsFormatted self.old }
         ensures set { IsTrue self.old.is_sound → HasNewHeader self.old (record (header_of self.old.image) { last_root = address }) self.new }
         ensures rest { self.new ≡ record self.old { image = self.new.image } }
+        ensures space { (spacing : FreeSpace) → LeavesSpace spacing self.old → LeavesSpace spacing self.new }
     {
         self.blocks.write_head(LAST_ROOT, address);
     }
@@ -68,6 +72,7 @@ impl<S: BlockStore> Volume<S> {
         requires formatted { IsTrue self.old.is_sound → IsFormatted self.old }
         ensures set { IsTrue self.old.is_sound → HasNewHeader self.old (record (header_of self.old.image) { top = number }) self.new }
         ensures rest { self.new ≡ record self.old { image = self.new.image } }
+        ensures space { (spacing : FreeSpace) → LeavesSpace spacing self.old → LeavesSpace spacing self.new }
     {
         self.blocks.write_head(TOP, number);
     }
@@ -77,6 +82,7 @@ impl<S: BlockStore> Volume<S> {
         requires formatted { IsTrue self.old.is_sound → IsFormatted self.old }
         ensures set { IsTrue self.old.is_sound → HasNewHeader self.old (record (header_of self.old.image) { height = height }) self.new }
         ensures rest { self.new ≡ record self.old { image = self.new.image } }
+        ensures space { (spacing : FreeSpace) → LeavesSpace spacing self.old → LeavesSpace spacing self.new }
     {
         self.blocks.write_head(HEIGHT, height);
     }

@@ -16,6 +16,7 @@ mod puts;
 mod rewrite;
 mod seek;
 mod space;
+mod spacing;
 mod store;
 mod volume;
 
@@ -26,5 +27,6 @@ pub use law::{law_an_index_stays, law_segments_depend_on_data_blocks};
 pub use load::{MOST_BLOCKS, size_table};
 pub use memory::MemStore;
 pub use space::{DATA, FREE, INDEX};
+pub use spacing::NO_SPACING;
 pub use store::BlockStore;
 pub use volume::{COUNT, LARGEST, Volume};

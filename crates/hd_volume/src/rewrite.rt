@@ -3,7 +3,7 @@ ghost use Rattle.hd_dbd.specs.Refusals.{OnlyDevice, OnlyRoomOrDevice};
 ghost use Rattle.hd_volume.specs.Volumes.{IsFormatted};
 ghost use Rattle.hd_volume.specs.Rooms.{spare, HasHole, HasFreeBlock};
 ghost use Rattle.hd_volume.specs.Calls.{IsCall, IsRead, HasSegment, IsRewritten};
-ghost use Rattle.hd_volume.specs.Steps.{IsLengthAt, IsShorter};
+ghost use Rattle.hd_volume.specs.Steps.{IsStep, IsLengthAt, IsShorter};
 ghost use Rattle.hd_block.specs.Sizes.{size_at};
 
 use crate::space::open_block;
@@ -67,6 +67,24 @@ impl<S: BlockStore> Volume<S> {
         ensures refusal { OnlyDevice result }
         ensures room { self.new.room ≡ self.old.room }
     {
+        self.write_shorter(address, bytes, len)
+    }
+
+    /// The same, without a word on what is kept free.
+    fn write_shorter(&mut self, address: u32, bytes: &[u8], len: usize) -> Result<u32, Refused>
+        requires formatted { IsTrue self.old.is_sound → IsFormatted self.old }
+        requires there { IsTrue self.old.is_sound → HasSegment self.old address 0 }
+        requires length { IsTrue self.old.is_sound → IsLengthAt self.old address len }
+        requires fits { (length bytes.now ≤ len) × (len % 8 ≡ 0) }
+        requires whole { (0 < length bytes.now) × (size_at self.old.sizes bytes.now 0 ≡ length bytes.now) }
+        ensures step { IsStep self.old result self.new }
+        ensures spacing { self.new.spacing ≡ self.old.spacing }
+        ensures in_place { IfOk result (λ to. to ≡ address) }
+        ensures written { IfOk result (λ to. IsTrue self.old.is_sound → IsRewritten self.old address to bytes.now self.new) }
+        ensures some { 0 < self.old.size }
+        ensures refusal { OnlyDevice result }
+        ensures room { self.new.room ≡ self.old.room }
+    {
         let size = self.blocks.block_size();
         let (n, at) = self.blocks.place(address);
         self.blocks.fetch(n)?;
@@ -81,6 +99,7 @@ impl<S: BlockStore> Volume<S> {
         let rest = len - bytes.len();
         self.blocks.give(&self.sizes, end as u16, rest as u16);
         open_block(&mut self.space, n, size as u16);
+        self.hints.forget();
         Ok(address)
     }
 

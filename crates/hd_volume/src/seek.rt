@@ -77,7 +77,7 @@ fn try_block<S: BlockStore>(
 }
 
 /// What is kept of a block; nothing of one that is not there.
-fn content_of_block(space: &Space, n: u32) -> Content
+pub fn content_of_block(space: &Space, n: u32) -> Content
     ensures { result ≡ content_at space.now n }
 {
     let none = Content { kind: 0, hole: 0 };

@@ -78,7 +78,7 @@ pub fn set_content(space: &mut Space, n: u32, content: Content)
 }
 
 /// Makes each number at most n.
-fn lower(numbers: &mut Vec<u32>, n: u32)
+pub fn lower(numbers: &mut Vec<u32>, n: u32)
     ensures len { vec_len numbers.new ≡ vec_len numbers.old }
     ensures lower { (c : ℕ) → (slice_index numbers.new.items c ≤ slice_index numbers.old.items c) × (slice_index numbers.new.items c ≤ n) }
 {

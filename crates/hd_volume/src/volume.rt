@@ -1,4 +1,5 @@
-ghost use Rattle.std.specs.Prelude.{◌≡◌, ◌+◌, ◌%◌, ◌≤◌, ◌<◌, true, false, vec_len, IsTrue, length, min, slice_index, IfOk, IfErr, OnOk, Some};
+ghost use Rattle.std.specs.Vec.{vec_capacity};
+ghost use Rattle.std.specs.Prelude.{◌≡◌, ◌+◌, ◌-◌, ◌%◌, ◌≤◌, ◌<◌, true, false, vec_len, IsTrue, length, min, slice_index, IfOk, IfErr, OnOk, Some};
 ghost use Rattle.hd_bytes.specs.Blocks.{block_of, HasBlock};
 ghost use Rattle.hd_dbd.specs.Facts.{stored_sizes};
 ghost use Rattle.hd_dbd.specs.Refusals.{OnlyDevice, OnlyMemory};
@@ -7,16 +8,19 @@ ghost use Rattle.hd_bytes.specs.Numbers.{number_at};
 ghost use Rattle.hd_volume.specs.Headers.{header_of};
 ghost use Rattle.hd_volume.specs.Volumes.{IsFormatted, block_at};
 ghost use Rattle.hd_volume.specs.Records.{find};
+ghost use Rattle.hd_volume.specs.Spacing.{IsPlain};
+ghost use Rattle.hd_volume.specs.Steps.{IsStep};
 ghost use Rattle.hd_volume.specs.Calls.{IsCall, IsRead, HasSegment, KeepsSize, IsWritten, IsFreed};
 ghost use Rattle.hd_block.specs.Sizes.{size_at};
 
 use crate::blocks::Blocks;
 use crate::load::{size_table, survey};
 use crate::space::{Space, open_block};
+use crate::spacing::{Hints, MOST_CALLS, NO_SPACING};
 use crate::store::BlockStore;
 use hd_block::size_at;
 use hd_bytes::read_u32;
-use hd_dbd::{Dbd, Refused, SegmentSize};
+use hd_dbd::{Dbd, FreeSpace, Refused, SegmentSize};
 use std::alloc::Global;
 use std::marker::Model;
 
@@ -41,6 +45,8 @@ pub struct Volume<S: BlockStore> {
     pub(crate) blocks: Blocks<S>,
     pub(crate) space: Space,
     pub(crate) sizes: Vec<SegmentSize>,
+    pub(crate) spacing: FreeSpace,
+    pub(crate) hints: Hints,
 }
 
 impl<S: BlockStore> Model for Volume<S> {
@@ -51,7 +57,7 @@ impl<S: BlockStore> Model for Volume<S> {
 
     ghost Value = { VolumeState };
 
-    ghost view = { λ v. volume_of v.blocks v.sizes.items (room_for v.blocks.room (vec_len v.space.contents) (vec_capacity v.space.contents)) };
+    ghost view = { λ v. volume_of v.blocks v.sizes.items v.spacing (room_for v.spacing v.blocks.room (vec_len v.space.contents) (vec_capacity v.space.contents)) };
 
     ghost invariant = { λ v. IsKeptVolume v.blocks.size v.sizes.items v.blocks.image v.blocks.is_sound v.space };
 }
@@ -65,7 +71,7 @@ impl<S: BlockStore> Volume<S> {
     pub fn load(alloc: Global, store: S, dbd: &Dbd) -> Result<Volume<S>, (S, Refused)>
         requires { S.size store ≡ dbd.now.block_size }
         ensures image { IfOk result (λ v. IsTrue (S.is_sound store) → (v.image ≡ S.contents store) × (v.stored ≡ S.contents store)) }
-        ensures store { IfOk result (λ v. (v.is_sound ≡ S.is_sound store) × (v.failures ≡ S.failures store) × (v.size ≡ S.size store) × (v.sizes ≡ stored_sizes dbd.now.types)) }
+        ensures store { IfOk result (λ v. (v.is_sound ≡ S.is_sound store) × (v.failures ≡ S.failures store) × (v.size ≡ S.size store) × (v.sizes ≡ stored_sizes dbd.now.types) × IsPlain v) }
         ensures refusal { IfErr result (λ e. IsGivenBack S.size S.contents S.is_sound S.failures store e) }
     {
         let Ok(sizes) = size_table(alloc, dbd) else {
@@ -80,6 +86,8 @@ impl<S: BlockStore> Volume<S> {
                 blocks,
                 space,
                 sizes,
+                spacing: NO_SPACING,
+                hints: Hints::new(alloc),
             }),
             Err(refused) => Err((blocks.into_store(), refused)),
         }
@@ -109,6 +117,20 @@ impl<S: BlockStore> Volume<S> {
         ensures refusal { OnlyDevice result }
         ensures room { self.new.room ≡ self.old.room }
     {
+        self.write_segment(address, offset, bytes)
+    }
+
+    /// The same, without a word on what is kept free.
+    fn write_segment(&mut self, address: u32, offset: usize, bytes: &[u8]) -> Result<(), Refused>
+        requires formatted { IsTrue self.old.is_sound → IsFormatted self.old }
+        requires keeps_size { IsTrue self.old.is_sound → KeepsSize self.old address offset bytes.now }
+        requires there { IsTrue self.old.is_sound → HasSegment self.old address (offset + length bytes.now) }
+        ensures step { IsStep self.old result self.new }
+        ensures spacing { self.new.spacing ≡ self.old.spacing }
+        ensures written { OnOk result (IsTrue self.old.is_sound → IsWritten self.old address offset bytes.now self.new) }
+        ensures refusal { OnlyDevice result }
+        ensures room { self.new.room ≡ self.old.room }
+    {
         let size = self.blocks.block_size();
         let (n, at) = self.blocks.place(address);
         self.blocks.fetch(n)?;
@@ -128,6 +150,19 @@ impl<S: BlockStore> Volume<S> {
         ensures refusal { OnlyDevice result }
         ensures room { self.new.room ≡ self.old.room }
     {
+        self.free_segment(address)
+    }
+
+    /// The same, without a word on what is kept free.
+    fn free_segment(&mut self, address: u32) -> Result<(), Refused>
+        requires formatted { IsTrue self.old.is_sound → IsFormatted self.old }
+        requires there { IsTrue self.old.is_sound → HasSegment self.old address 0 }
+        ensures step { IsStep self.old result self.new }
+        ensures spacing { self.new.spacing ≡ self.old.spacing }
+        ensures freed { OnOk result (IsTrue self.old.is_sound → IsFreed self.old address self.new) }
+        ensures refusal { OnlyDevice result }
+        ensures room { self.new.room ≡ self.old.room }
+    {
         let size = self.blocks.block_size();
         let (n, at) = self.blocks.place(address);
         self.blocks.fetch(n)?;
@@ -137,6 +172,7 @@ impl<S: BlockStore> Volume<S> {
         }
         self.blocks.give(&self.sizes, at as u16, len as u16);
         open_block(&mut self.space, n, size as u16);
+        self.hints.forget();
         Ok(())
     }
 
@@ -199,7 +235,8 @@ impl<S: BlockStore> Volume<S> {
         head_number(&self.blocks, HEIGHT)
     }
 
-    /// Finds memory for so many calls of `put` and `take_block`. `Memory` leaves all as it was.
+    /// Finds memory for so many calls of `put` and `take_block`, each of which may grow by two blocks where some are kept free. `Memory` leaves
+    /// all as it was.
     pub fn reserve(&mut self, blocks: u32) -> Result<(), Refused>
         ensures call { IsCall self.old result self.new }
         ensures room { OnOk result (blocks ≤ self.new.room) }
@@ -208,10 +245,13 @@ impl<S: BlockStore> Volume<S> {
         ensures image { IsTrue self.new.is_sound → (self.new.image ≡ self.old.image) × (self.new.stored ≡ self.old.stored) }
         ensures refusal { OnlyMemory result }
     {
-        if self.space.contents.reserve(blocks as usize).is_err() {
+        if self.spacing == NO_SPACING {
+            return reserve_for(&mut self.blocks, &mut self.space, blocks);
+        }
+        if blocks > MOST_CALLS {
             return Err(Refused::Memory);
         }
-        self.blocks.reserve(blocks)
+        reserve_for(&mut self.blocks, &mut self.space, 2 * blocks)
     }
 
     /// Writes what is changed to the store, block 0 after all others.
@@ -222,6 +262,7 @@ impl<S: BlockStore> Volume<S> {
         ensures sound { StaysSound result self.old.is_sound self.new.is_sound }
         ensures size { self.new.size ≡ self.old.size }
         ensures sizes { self.new.sizes ≡ self.old.sizes }
+        ensures spacing { self.new.spacing ≡ self.old.spacing }
         ensures room { self.new.room ≡ self.old.room }
     {
         self.blocks.flush()
@@ -236,6 +277,29 @@ impl<S: BlockStore> Volume<S> {
     {
         self.blocks.into_store()
     }
+}
+
+/// Finds memory to grow by so many blocks, in the store and for what is kept of each. `Memory` leaves all as it was.
+fn reserve_for<S: BlockStore>(
+    blocks: &mut Blocks<S>,
+    space: &mut Space,
+    count: u32,
+) -> Result<(), Refused>
+    ensures room { OnOk result ((count ≤ blocks.new.room) × (count ≤ vec_capacity space.new.contents - vec_len space.new.contents)) }
+    ensures enough { IfErr result (λ _. min blocks.old.room (vec_capacity space.old.contents - vec_len space.old.contents) < count) }
+    ensures no_less { (blocks.old.room ≤ blocks.new.room) × (vec_capacity space.old.contents ≤ vec_capacity space.new.contents) }
+    ensures contents { (space.new.contents.items ≡ space.old.contents.items) × (vec_len space.new.contents ≡ vec_len space.old.contents) }
+    ensures kept { (space.new.lowest ≡ space.old.lowest) × (space.new.free ≡ space.old.free) × (space.new.lowest_free ≡ space.old.lowest_free) }
+    ensures image { IsTrue blocks.old.is_sound → (blocks.new.image ≡ blocks.old.image) × (blocks.new.stored ≡ blocks.old.stored) }
+    ensures refusal { OnlyMemory result }
+    ensures failures { blocks.new.failures ≡ blocks.old.failures }
+    ensures sound { blocks.new.is_sound ≡ blocks.old.is_sound }
+    ensures size { blocks.new.size ≡ blocks.old.size }
+{
+    if space.contents.reserve(count as usize).is_err() {
+        return Err(Refused::Memory);
+    }
+    blocks.reserve(count)
 }
 
 /// Where the segment at a place of a block ends, at most at the end of the block.

@@ -118,5 +118,5 @@ returns-clause-linked g c sound =
     let read = c.in_ok-behind.ensures.read.call in
     let now = sound-as w.is_sound v.is_sound (sym c.in_ok-address.ensures.call.sound) same.sound in
     link-done d u v w c.name_leaf.new.volume c.args.parent c.args.after c.in_ok-behind.behind c.in_ok-address.address row (c.requires.of sound).fit (c.requires.of sound) (c.requires.holds sound)
-    (c.requires.place sound) same.image read.size read.sizes (same.volume (c.requires.of sound)) (c.in_ok-behind.ensures.value sound)
+    (c.requires.place sound) same.image read.size read.sizes read.plain (same.volume (c.requires.of sound)) (c.in_ok-behind.ensures.value sound)
     (c.in_ok-address.ensures.put same.sound) (c.in_ok-name_leaf.ensures.named now)

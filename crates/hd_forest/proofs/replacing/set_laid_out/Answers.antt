@@ -36,7 +36,7 @@ returns-clause-set g c =
     let same = after-read d u v read sound in
     segment-set d u w c.args.address to row c.lay_out_over.new.room c.in_ok-lay_out_over.ensures.fit (c.requires.of sound)
     (c.rewrite.ensures.call.size ∙ read.call.size) (c.rewrite.ensures.call.sizes ∙ read.call.sizes) (c.requires.there sound) (c.requires.typed sound) (c.in_ok-lay_out_over.ensures.laid sound)
-    (rewritten-after (record { same = record { size = read.call.size; sizes = read.call.sizes }; image = same.image }) c.args.address to c.lay_out_over.new.room (rewritten same.sound)))
+    (rewritten-after (record { same = record { size = read.call.size; sizes = read.call.sizes }; image = same.image }) read.call.plain c.args.address to c.lay_out_over.new.room (rewritten same.sound)))
     c.rewrite.ensures.rewritten
 
 pub returns-clause-outgrown : goal.returns-clause-outgrown

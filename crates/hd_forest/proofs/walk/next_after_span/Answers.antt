@@ -1,4 +1,5 @@
 use Rattle.std.proofs.Common.{◌<◌, sym, subst, refl}
+use Rattle.hd_volume.proofs.CallSteps.{reads-join}
 use Rattle.hd_links.specs.Links.{Links, IsSegment}
 use Rattle.hd_image.specs.Records.{links_of}
 use Rattle.hd_forest.proofs.Reading.{links-kept, volume-kept}
@@ -18,3 +19,6 @@ step-requires-clause-there g c =
     let m : Links = links_of d.types u in
     let H = held d u (c.requires.of sound).fit (c.requires.of sound) (c.requires.holds sound) in
     subst (MayBe m) (sym (c.in_ok-address.ensures.value sound)) (span-may d.types m H.linked.typed refl c.args.path.now (c.requires.there sound)))
+
+pub returns-clause-read : goal.returns-clause-read
+returns-clause-read g c = reads-join c.step.result c.in_ok-address.ensures.read c.step.ensures.read

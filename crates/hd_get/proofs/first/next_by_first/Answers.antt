@@ -10,6 +10,7 @@ use Rattle.hd_calls.specs.declared.call.GetKind.TheVariants.{Next}
 use Rattle.hd_calls.specs.Gets.{search_start}
 use Rattle.hd_get.proofs.KeptPaths.{kept_told}
 use Rattle.hd_get.proofs.LoweredStarts.{path_lowered, none_lowered, leads_lowered, start_stays}
+use Rattle.hd_volume.proofs.CallSteps.{reads-join}
 use Rattle.hd_get.proofs.first.next_by_first.Goals as goal
 
 pub next-requires-clause-of : goal.next-requires-clause-of
@@ -38,3 +39,6 @@ returns-in-None-clause-value g c = if-ok-map c.next.result (λ path leads f q at
     subst (LeadsWithin d.types (links_of d.types v) f 0 (length (rows_of f)) path)
     (sym (start_stays d v f c.args.position.now q (c.requires.of at.sound) at.at ssas c.requires.descend none))
     (record { holds = at.at.holds; ends = L.ends; is = L.is })) c.next.ensures.value
+
+pub returns-in-None-clause-read : goal.returns-in-None-clause-read
+returns-in-None-clause-read g c = reads-join c.next.result c.in_ok-path.ensures.read c.next.ensures.read

@@ -7,6 +7,7 @@ use Rattle.hd_position.specs.Kept.{StandsFor}
 use Rattle.hd_get.specs.Gets.{IsOutcomeOf}
 use Rattle.hd_get.specs.Found.{sought_by}
 use Rattle.hd_get.proofs.Seeking.{position_told, position_back, position_kept, none_found, answer_missing}
+use Rattle.hd_volume.proofs.CallSteps.{reads-join}
 use Rattle.hd_get.proofs.getting.get.Goals as goal
 
 pub found-requires-clause-there : goal.found-requires-clause-there
@@ -26,3 +27,6 @@ returns-in-None-clause-value g c f q at =
     let none = none_found types f (sought_by c.args.call.now types (rows_of f) q) (sym c.in-None.is ∙ c.in_ok-path.ensures.value f q at) in
     subst (λ (r : Reply × Position). IsOutcomeOf c.missing.result r.0 × StandsFor types f c.missing.new.position r.1) (sym (answer_missing c.args.call.now types (rows_of f) q none))
     (c.missing.ensures types f q at.stands)
+
+pub returns-in-Some-clause-read : goal.returns-in-Some-clause-read
+returns-in-Some-clause-read g c = reads-join c.found.result c.in_ok-path.ensures.read c.found.ensures.read

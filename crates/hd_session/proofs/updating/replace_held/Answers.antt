@@ -1,4 +1,4 @@
-use Rattle.std.proofs.Common.{◌≡◌, ℕ, ◌-◌, ◌<◌, List, length, sym, ap, subst, ◌∙◌, refl, arith}
+use Rattle.std.proofs.Common.{◌≡◌, ℕ, ◌-◌, ◌<◌, List, length, sym, ap, subst, ◌∙◌, refl, arith, Ok}
 use Rattle.std.specs.Prelude.{slice_index_or}
 use Rattle.std.proofs.lemmas.Bool.{false≢true}
 use Rattle.std.proofs.lemmas.List.{get_or_default}
@@ -11,6 +11,8 @@ use Rattle.hd_update.proofs.Standing.{own_position}
 use Rattle.hd_session.specs.Replies.{reply_of}
 use Rattle.hd_session.specs.Sessions.{lowest_level}
 use Rattle.hd_session.proofs.UpdateReplies.{replaced_step}
+use Rattle.hd_volume.proofs.CallSteps.{call-ok}
+use Rattle.hd_volume.proofs.JoinLemmas.{calls-join}
 use Rattle.hd_session.proofs.updating.replace_held.Goals as goal
 
 pub give_level-requires-clause-there : goal.give_level-requires-clause-there
@@ -60,3 +62,6 @@ pub returns-in-Err-clause-area : goal.returns-in-Err-clause-area
 returns-in-Err-clause-area g c pcb st is sound R =
     let same = after-read c.args.dbd.now c.args.volume.now c.give_level.new.volume c.in_ok-given.ensures.read sound in
     c.in-Err.ensures.area pcb st is same.sound (represented c.args.dbd.now c.args.volume.now c.give_level.new.volume c.args.positions.now st c.in_ok-given.ensures.read sound R)
+
+pub returns-in-Ok-clause-call : goal.returns-in-Ok-clause-call
+returns-in-Ok-clause-call g c = calls-join (Ok c.told.result) c.in_ok-given.ensures.read.call (call-ok c.told.result c.in-Ok.ensures.call)

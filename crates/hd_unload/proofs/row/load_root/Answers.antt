@@ -3,9 +3,10 @@ use Rattle.std.proofs.lemmas.Result.{err_from_is_err_and}
 use Rattle.hd_dbd.specs.declared.answer.Refused.{Refused}
 use Rattle.hd_dbd.specs.declared.answer.Refused.TheVariants.{Full}
 use Rattle.hd_volume.specs.Rooms.{spare}
+use Rattle.hd_volume.specs.Calls.{IsCall}
 use Rattle.hd_volume.specs.Indexes.{root_key_length}
 use Rattle.hd_levels.specs.Needs.{IsHighest}
-use Rattle.hd_volume.proofs.CallSteps.{call-ok}
+use Rattle.hd_volume.proofs.CallSteps.{call-ok, call-err}
 use Rattle.hd_volume.proofs.JoinLemmas.{calls-join}
 use Rattle.hd_index.specs.Changes.{entries_for}
 use Rattle.hd_index.specs.Places.{blocks_needed}
@@ -67,3 +68,9 @@ returns-clause-loaded g c = λ sound.
     root-loaded c.args.dbd.now c.args.volume.now c.link.new.volume c.insert.new.volume c.args.after c.in_ok-address.address
     (blocks_needed key_length c.link.new.volume key) c.args.bytes.now key c.requires.fits (o.linked sound)
     e.call.size e.call.sizes (e.index after) c.root_key.ensures.key (e.entries after) (e.changed after) (e.spares after) (needed-most key_length c.link.new.volume key ready.0.index)
+
+pub returns-in_err-insert-clause-call : goal.returns-in_err-insert-clause-call
+returns-in_err-insert-clause-call g c =
+    let p = err_from_is_err_and c.from_residual-in_err-insert.result c.from_residual-in_err-insert.ensures.1 in
+    subst (λ (r : Result ℕ Refused). IsCall {T = ℕ} c.args.volume.now r c.insert.new.volume) (sym (p.1 ∙ ap Err p.2))
+    (calls-join _ c.in_ok-address.ensures.call (call-err c.in_err-insert.ensures.call))

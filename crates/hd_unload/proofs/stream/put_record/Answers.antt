@@ -1,7 +1,7 @@
-use Rattle.std.proofs.Common.{◌≡◌, ◌<◌, ℕ, List, length, ap, sym, subst, ◌∙◌, arith}
+use Rattle.std.proofs.Common.{◌<◌, ℕ, List, length, ap, sym, subst, ◌∙◌, arith}
 use Rattle.hd_dbd.specs.Types.{SegmentType}
 use Rattle.hd_bytes.proofs.BlockLemmas.{length-bytes_at}
-use Rattle.hd_prefix.specs.Fields.{IsWhole, bytes_of, length_of}
+use Rattle.hd_prefix.specs.Fields.{IsWhole, length_of}
 use Rattle.hd_prefix.specs.Layouts.{types_of, type_code}
 use Rattle.hd_unload.proofs.Writing.{own-short}
 use Rattle.hd_unload.proofs.stream.put_record.Goals as goal

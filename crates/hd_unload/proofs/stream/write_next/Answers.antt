@@ -1,13 +1,17 @@
-use Rattle.std.proofs.Common.{◌≡◌, ◌<◌, ℕ, Ok, true, refl, sym, subst, ◌∙◌, arith}
+use Rattle.std.proofs.Common.{◌≡◌, ◌<◌, ℕ, Bool, Result, Ok, Err, true, ap, refl, sym, subst, ◌∙◌, arith}
 use Rattle.std.specs.Io.KnownBytes.{Appends}
 use Rattle.std.proofs.lemmas.Bool.{false≢true}
+use Rattle.std.proofs.lemmas.Result.{err_from_is_err_and}
+use Rattle.hd_volume.specs.Calls.{IsRead}
 use Rattle.hd_volume.proofs.CallSteps.{read-ok, reads-join}
 use Rattle.hd_links.specs.Links.{Links, IsSegment, segment_at}
 use Rattle.hd_image.specs.Records.{links_of}
 use Rattle.hd_forest.specs.Walks.{tip}
 use Rattle.hd_forest.proofs.Reading.{after-read, links-kept, volume-kept}
 use Rattle.hd_unload.specs.Streams.{record_bytes}
-use Rattle.hd_unload.proofs.Writing.{tip-there, next-there}
+use Rattle.hd_unload.specs.declared.fault.StreamFault.{StreamFault}
+use Rattle.hd_unload.specs.Unloads.{stream_call}
+use Rattle.hd_unload.proofs.Writing.{tip-there, next-there, stream-err}
 use Rattle.hd_unload.proofs.stream.write_next.Goals as goal
 
 pub returns-then-address-eq0-clause-turn : goal.returns-then-address-eq0-clause-turn
@@ -57,3 +61,9 @@ returns-clause-turn g c = λ sound.
       );
       ended = λ e. absurd (false≢true (sym e));
     }
+
+pub returns-in_err-write_record-clause-read : goal.returns-in_err-write_record-clause-read
+returns-in_err-write_record-clause-read g c =
+    let p = err_from_is_err_and c.from_residual.result c.from_residual.ensures.1 in
+    subst (λ (r : Result Bool StreamFault). IsRead {T = Bool} c.args.volume.now (stream_call r) c.write_record.new.volume) (sym (p.1 ∙ ap Err p.2))
+    (reads-join _ c.in-Ok.ensures.read (stream-err _ c.in_err-write_record.ensures.read))

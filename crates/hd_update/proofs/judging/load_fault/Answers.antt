@@ -9,6 +9,7 @@ use Rattle.hd_volume.proofs.CallSteps.{if-ok}
 use Rattle.hd_links.specs.Placed.{Placed}
 use Rattle.hd_links.specs.LastRows.{last_on, segments_of}
 use Rattle.hd_update.proofs.LastPaths.{last_read, has_last_read}
+use Rattle.hd_volume.proofs.CallSteps.{reads-join}
 use Rattle.hd_update.proofs.judging.load_fault.Goals as goal
 
 -- what is asked of the segment at a place
@@ -31,3 +32,6 @@ returns-clause-value g c = if-ok c.fault_behind.result c.fault_behind.ensures.va
     value f (last_read d c.args.volume.now c.lacks_parent.new.volume c.in_ok-lacks_parent.ensures.read c.args.path.now f L)
     ∙ segment_asked (λ (s : Segment). order_fault d.types s row) (last_on f) (level d.types row - 1)
     ∙ sym (cond-false _ _ _ (sym (c.in_ok-lacks_parent.ensures.value f L) ∙ c.if-branch.false)))
+
+pub returns-clause-read : goal.returns-clause-read
+returns-clause-read g c = reads-join c.fault_behind.result c.in_ok-lacks_parent.ensures.read c.fault_behind.ensures.read

@@ -14,6 +14,7 @@ use Rattle.hd_calls.specs.Satisfies.{on_path_at}
 use Rattle.hd_calls.specs.Places.{is_plain, first_named, insert_parent}
 use Rattle.hd_get.proofs.Seeking.{position_told}
 use Rattle.hd_update.specs.Parents.{standing_parent}
+use Rattle.hd_volume.proofs.CallSteps.{reads-join}
 use Rattle.hd_update.proofs.parents.insert_parent.Goals as goal
 
 -- the parent is the one where the PCB stands, or else the first row that is named
@@ -69,3 +70,6 @@ returns-in-None-clause-value g c = if-ok-map c.first_named.result (λ path is f 
     (parent_is d.types (rows_of f) q.standing c.args.above.now c.args.code
     ∙ none_or d.types f (standing_parent d.types (rows_of f) q.standing c.args.above.now c.args.code) (first_named d.types (rows_of f) c.args.above.now)
     (sym c.in-None.is ∙ c.in_ok-path.ensures.value f q at)))) c.first_named.ensures.value
+
+pub returns-in-None-clause-read : goal.returns-in-None-clause-read
+returns-in-None-clause-read g c = reads-join c.first_named.result c.in_ok-path.ensures.read c.first_named.ensures.read

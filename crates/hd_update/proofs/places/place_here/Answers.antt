@@ -9,6 +9,7 @@ use Rattle.hd_update.proofs.PlaceBelow.{has_parent, found_below}
 use Rattle.hd_update.proofs.PlaceChains.{parent_kept, gap_told}
 use Rattle.hd_update.proofs.PlaceEqual.{equal_there, before_equal}
 use Rattle.hd_update.proofs.PlaceStanding.{none_found_before}
+use Rattle.hd_volume.proofs.CallSteps.{reads-join}
 use Rattle.hd_update.proofs.places.place_here.Goals as goal
 
 pub place_before_equal-requires : goal.place_before_equal-requires
@@ -42,3 +43,6 @@ returns-in-None-clause-value g c =
     (λ f q parent at at_parent below j equal many.
     none_found_before (λ i. is_equal_twin d.types (rows_of f) parent new i) (λ i. path_at d.types f i) j q.standing (sym c.in-None.is ∙ c.in_ok-equal.ensures.value f q parent at at_parent)) r
     (gap_told d c.args.volume.now c.standing_twin.new.volume c.in_ok-equal.ensures.read c.tip_of.result false new r value))
+
+pub returns-in-Some-clause-read : goal.returns-in-Some-clause-read
+returns-in-Some-clause-read g c = reads-join c.place_before_equal.result c.in_ok-equal.ensures.read c.place_before_equal.ensures.read

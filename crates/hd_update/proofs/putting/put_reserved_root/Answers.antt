@@ -39,7 +39,7 @@ link_root-requires-clause-can g c now =
         may = subst (λ (m : Links). MayLink d.types m 0 c.args.after row) (sym same.links) M.may;
       };
       others = [];
-      room = (one-volume d v w (record { image = same.image; size = read.call.size; sizes = read.call.sizes })).2 c.key_of-key.result.now (row ∷ [])
+      room = (one-volume d v w (record { image = same.image; size = read.call.size; sizes = read.call.sizes; plain = read.call.plain })).2 c.key_of-key.result.now (row ∷ [])
           (one_root_room d v c.key_of-key.result.now row c.row_size.result c.row_size.ensures.value (c.in_ok-lacks_room.ensures.room sound c.if-branch.false));
       memory =
           (let own : length (row ∷ []) + entry_growth v ≤ v.room = c.requires.memory sound in

@@ -45,7 +45,7 @@ returns-then-code-eq1-clause-made g c =
     subst (IsRoomMade d w) (sym F.rows)
     (record {
       root = λ one. (
-        (one-volume d v w (record { image = made.image now; size = made.call.size; sizes = made.call.sizes })).2 (key_of d.types first) (first ∷ rest)
+        (one-volume d v w (record { image = made.image now; size = made.call.size; sizes = made.call.sizes; plain = made.call.plain })).2 (key_of d.types first) (first ∷ rest)
             (subst (λ (k : List ℕ). HasRootRoomFor d v k (first ∷ rest)) c.key_of-key.ensures.value
             (root_room_of d v (first ∷ rest) (length ssas) c.sizes_of-total.result many large c.key_of-key.result.now (room sound))),
         subst (λ (n : ℕ). n + entry_growth w ≤ w.room) many (memory sound),
@@ -86,7 +86,7 @@ returns-else-code-eq1-clause-made g c =
     (record {
       root = λ one. absurd (c.if-code-eq1.false one);
       below = λ other. (
-        (one-volume d v w (record { image = made.image now; size = made.call.size; sizes = made.call.sizes })).1 (first ∷ rest)
+        (one-volume d v w (record { image = made.image now; size = made.call.size; sizes = made.call.sizes; plain = made.call.plain })).1 (first ∷ rest)
             (room_of d v (first ∷ rest) (length ssas) total many large (room sound)),
         memory_of d w (first ∷ rest) (length ssas) total many large kept,
       );

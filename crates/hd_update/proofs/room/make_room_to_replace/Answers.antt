@@ -43,6 +43,6 @@ returns-clause-made g c =
     let count = c.room_asked-count.result.0 in
     let total = c.room_asked-count.result.1 in
     let kept : (count ≤ w.room) ⊎ HasHole w total = elim (memory sound) [ inl blocks ↦ inl blocks | inr hole ↦ inr (hole_kept v w total (made.image now) made.call.size made.call.sizes hole) ] in (
-      (one-volume d v w (record { image = made.image now; size = made.call.size; sizes = made.call.sizes })).1 rows (room_of d v rows count total A.0 A.1 (room sound)),
+      (one-volume d v w (record { image = made.image now; size = made.call.size; sizes = made.call.sizes; plain = made.call.plain })).1 rows (room_of d v rows count total A.0 A.1 (room sound)),
       memory_of d w rows count total A.0 A.1 kept,
     )))

@@ -1,4 +1,5 @@
-use Rattle.std.proofs.Common.{◌≡◌, ◌<◌, ◌≤◌, IsTrue, subst, sym, ◌∙◌, arith}
+use Rattle.std.proofs.Common.{◌≡◌, ◌<◌, ◌≤◌, IsTrue, Result, Ok, Err, OnOk, subst, sym, ◌∙◌, arith}
+use Rattle.hd_dbd.specs.declared.answer.Refused.{Refused}
 use Rattle.hd_volume.specs.Indexes.{root_key_length}
 use Rattle.hd_levels.specs.Needs.{entry_growth}
 use Rattle.hd_index.proofs.NeedLemmas.{growth-same, few-grown}
@@ -21,3 +22,10 @@ returns-clause-memory g c =
     let count = c.requires.few in
     let enough : c.saturating_add-blocks.result ≤ x.room = room in
     omega arith))
+
+pub returns-clause-room : goal.returns-clause-room
+returns-clause-room g c = whatever c.reserve.result (λ sound. c.in_ok-lacks_room.ensures.room sound c.if-branch.false)
+  where
+    whatever : {A P : Type 0} (r : Result A Refused) → P → OnOk r P
+    whatever (Ok x) p = p
+    whatever (Err e) p = tt

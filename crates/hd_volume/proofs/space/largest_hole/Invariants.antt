@@ -1,4 +1,4 @@
-use Rattle.std.proofs.Common.{◌≡◌, max, slice_index}
+use Rattle.std.proofs.Common.{◌≡◌, max}
 use Rattle.hd_block.specs.Walk.{parts_in}
 use Rattle.hd_volume.specs.Rooms.{largest_hole}
 use Rattle.hd_volume.proofs.space.largest_hole.Given as goal

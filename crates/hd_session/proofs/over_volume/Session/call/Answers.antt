@@ -52,6 +52,7 @@ invariant_of-self g c =
         program = kept.program;
         size = e.call.size ∙ kept.size;
         sizes = e.call.sizes ∙ kept.sizes;
+        plain = e.call.plain kept.plain;
         one_each = ap (λ (ks : List Kept). length ks) same ∙ e.many ∙ ap (λ (ks : List Kept). length ks) c.deref_mut.ensures.value ∙ kept.one_each;
         stands = λ whole now.
             subst (λ (ks : List Kept). StandsForState d w pcbs ks) (sym same)
@@ -85,6 +86,7 @@ invariant_of-self-in_default g c =
         program = kept.program;
         size = e.call.size ∙ kept.size;
         sizes = e.call.sizes ∙ kept.sizes;
+        plain = e.call.plain kept.plain;
         one_each = ap (λ (ks : List Kept). length ks) same ∙ e.many ∙ ap (λ (ks : List Kept). length ks) c.deref_mut.ensures.value ∙ kept.one_each;
         stands = λ whole now.
             subst (λ (ks : List Kept). StandsForState d w pcbs ks) (sym same)

@@ -16,6 +16,7 @@ invariant_of-self g c =
         program = kept.program;
         size = flushed.size ∙ kept.size;
         sizes = flushed.sizes ∙ kept.sizes;
+        plain = flushed.spacing ∙ kept.plain;
         one_each = kept.one_each;
         stands = λ whole now.
             let sound : IsTrue c.self.inside.volume.is_sound = rw (← flushed.sound) now in

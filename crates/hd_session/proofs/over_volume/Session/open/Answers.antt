@@ -17,6 +17,7 @@ invariant_of-result g c =
         program = c.pcbs-pcbs.ensures.fit;
         size = read.call.size ∙ c.requires.size.0;
         sizes = read.call.sizes ∙ c.requires.size.1;
+        plain = read.call.plain c.requires.plain;
         one_each = one_each pcbs c.in-Ok.positions.items start;
         stands = λ whole now.
             let sound : IsTrue c.args.volume.is_sound = rw (← read.call.sound) now in

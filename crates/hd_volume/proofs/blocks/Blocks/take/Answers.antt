@@ -2,7 +2,6 @@ use Rattle.std.proofs.Common.{◌<◌, [], length, IsTrue, subst, sym, ap, ◌�
 use Rattle.hd_bytes.specs.Blocks.{block_of}
 use Rattle.hd_volume.specs.Buffers.{Buffered, put_in, image_of}
 use Rattle.hd_volume.specs.Images.{ChangesBlock}
-use Rattle.std.proofs.Common.{slice_index}
 use Rattle.hd_volume.specs.Edits.{IsTaken}
 use Rattle.hd_volume.proofs.BufferLemmas.{buffers-of, hand-block, hand-changes, hand-new, edited}
 use Rattle.hd_volume.proofs.blocks.Blocks.take.Goals as goal

@@ -12,8 +12,8 @@ use Rattle.hd_volume.proofs.volume.Volume.format.Goals as goal
 
 pub invariant_of-self : goal.invariant_of-self
 invariant_of-self g c =
-    let room : ℕ = room_for c.self.inside.blocks.room (vec_len c.self.inside.space.contents) (vec_capacity c.self.inside.space.contents) in
-    let v : VolumeState = volume_of c.self.inside.blocks c.self.inside.sizes.items room in
+    let room : ℕ = room_for c.self.inside.spacing c.self.inside.blocks.room (vec_len c.self.inside.space.contents) (vec_capacity c.self.inside.space.contents) in
+    let v : VolumeState = volume_of c.self.inside.blocks c.self.inside.sizes.items c.self.inside.spacing room in
     let O : VolumeState → Type 0 = λ u. IsTrue u.is_sound → length u.image ≡ u.size in
     let T : VolumeState → Type 0 = λ u. IsTrue u.is_sound → u.stored ≡ replicate (1 * u.size) 0 in
     let size : c.write_front.new.self.size ≡ v.size = ap (λ (b : Buffered). b.size) c.write_front.ensures.rest in
@@ -37,15 +37,15 @@ invariant_of-self g c =
 
 pub returns-clause-created : goal.returns-clause-created
 returns-clause-created g c =
-    let room : ℕ = room_for c.self.inside.blocks.room (vec_len c.self.inside.space.contents) (vec_capacity c.self.inside.space.contents) in
-    let v : VolumeState = volume_of c.self.inside.blocks c.self.inside.sizes.items room in
+    let room : ℕ = room_for c.self.inside.spacing c.self.inside.blocks.room (vec_len c.self.inside.space.contents) (vec_capacity c.self.inside.space.contents) in
+    let v : VolumeState = volume_of c.self.inside.blocks c.self.inside.sizes.items c.self.inside.spacing room in
     let O : VolumeState → Type 0 = λ u. IsTrue u.is_sound → length u.image ≡ u.size in
     let T : VolumeState → Type 0 = λ u. IsTrue u.is_sound → u.stored ≡ replicate (1 * u.size) 0 in
     let size : c.write_front.new.self.size ≡ v.size = ap (λ (b : Buffered). b.size) c.write_front.ensures.rest in
     let sound-is : c.write_front.new.self.is_sound ≡ v.is_sound = ap (λ (b : Buffered). b.is_sound) c.write_front.ensures.rest in
     let stored-is : c.write_front.new.self.stored ≡ v.stored = ap (λ (b : Buffered). b.stored) c.write_front.ensures.rest in
-    let room2 : ℕ = room_for c.write_front.new.self.room (vec_len c.self.inside.space.contents) (vec_capacity c.self.inside.space.contents) in
-    let w : VolumeState = volume_of c.write_front.new.self c.self.inside.sizes.items room2 in
+    let room2 : ℕ = room_for c.self.inside.spacing c.write_front.new.self.room (vec_len c.self.inside.space.contents) (vec_capacity c.self.inside.space.contents) in
+    let w : VolumeState = volume_of c.write_front.new.self c.self.inside.sizes.items c.self.inside.spacing room2 in
     let P : VolumeState → Type 0 = λ u. IsTrue u.is_sound → IsCreated c.args.name.now u.size c.args.largest w in
     subst P c.self.view_is
     (λ before.

@@ -1,69 +1,11 @@
-use Rattle.std.proofs.Common.{◌≡◌, ℕ, ◌<◌, ◌≤◌, [], ◌∷◌, vec_len, IsTrue, refl, subst, sym, ap, ◌∙◌, arith}
-use Rattle.std.specs.Vec.{vec_capacity}
-use Rattle.hd_bytes.specs.Blocks.{block_of}
-use Rattle.hd_bytes.specs.Ranges.{with_bytes}
-use Rattle.hd_volume.specs.Buffers.{Buffered}
-use Rattle.hd_volume.specs.Volumes.{VolumeState, block_at, IsKind, IsFormatted}
-use Rattle.hd_volume.specs.Calls.{IsGivenBlock}
-use Rattle.hd_volume.specs.Spaces.{volume_of, room_for, blocks_in}
-use Rattle.hd_volume.proofs.FrameLemmas.{HasChanged}
-use Rattle.hd_volume.proofs.CallLemmas.{changed-by}
-use Rattle.hd_volume.proofs.KindLemmas.{block-given, given-space}
-use Rattle.hd_volume.proofs.GrowLemmas.{free-most}
+use Rattle.std.proofs.Common.{inl}
+use Rattle.hd_volume.specs.Volumes.{VolumeState}
+use Rattle.hd_volume.proofs.SpacingLemmas.{device-call, on-ok-map, given-leaves}
 use Rattle.hd_volume.proofs.volume.Volume.give_block.Goals as goal
 
-pub invariant_of-self-2 : goal.invariant_of-self-2
-invariant_of-self-2 g c =
-    let room : ℕ = room_for c.self.inside.blocks.room (vec_len c.self.inside.space.contents) (vec_capacity c.self.inside.space.contents) in
-    let v : VolumeState = volume_of c.self.inside.blocks c.self.inside.sizes.items room in
-    let n : ℕ = c.args.n in
-    let F : VolumeState → Type 0 = λ u. IsTrue u.is_sound → IsFormatted u in
-    let K : VolumeState → Type 0 = λ u. IsTrue u.is_sound → IsKind u 2 n in
-    let size : c.write_hand.new.self.size ≡ v.size = ap (λ (b : Buffered). b.size) c.write_hand.ensures.rest ∙ c.fetch.ensures.size in
-    let sound-is : c.write_hand.new.self.is_sound ≡ v.is_sound = ap (λ (b : Buffered). b.is_sound) c.write_hand.ensures.rest ∙ c.in_ok-fetch.ensures.sound in
-    let w : VolumeState = volume_of c.write_hand.new.self c.self.inside.sizes.items room in
-    record {
-      least = rw size c.self.invariant.least;
-      most = rw size c.self.invariant.most;
-      eighths = rw size c.self.invariant.eighths;
-      fits = rw size c.self.invariant.fits;
-      small = rw c.empty_block.ensures.len c.self.invariant.small;
-      true_of = λ sound.
-          let before : IsTrue v.is_sound = rw (← sound-is) sound in
-          let f : IsFormatted v = subst F (sym c.self.view_is) c.requires.formatted before in
-          let k : IsKind v 2 n = subst K (sym c.self.view_is) c.requires.there before in
-          let now : IsTrue c.fetch.new.self.is_sound = rw c.in_ok-fetch.ensures.sound before in
-          let later = k.later in
-          let hand : c.fetch.new.self.hand ≡ n = c.in_ok-fetch.ensures.hand in
-          let some : 0 < c.fetch.new.self.hand = omega arith in
-          let image : c.fetch.new.self.image ≡ v.image = c.in_ok-fetch.ensures.image before in
-          let changed : HasChanged v w n = changed-by v w c.fetch.new.self.size c.fetch.new.self.hand n c.fetch.new.self.image size refl c.fetch.ensures.size image hand (c.write_hand.ensures.others now some) in
-          let new : block_of v.size w.image n ≡ with_bytes (block_at v n) 2 (3 ∷ []) = rw (c.fetch.ensures.size, image, hand) at (c.write_hand.ensures.block now some) in
-          let old = c.self.invariant.true_of before in
-          rw size (given-space v w n f k c.self.invariant.least changed new c.self.inside.space c.empty_block.new.space old c.empty_block.ensures.contents c.empty_block.ensures.len c.empty_block.ensures.lowest (c.empty_block.ensures.free (let l = old.free in let m = free-most v.size v.image (blocks_in v.size v.image) in let b : blocks_in v.size v.image ≤ 65536 = omega arith in omega arith)) c.empty_block.ensures.lowest_free.0 c.empty_block.ensures.lowest_free.1);
-    }
-
-pub returns-clause-given : goal.returns-clause-given
-returns-clause-given g c =
-    let room : ℕ = room_for c.self.inside.blocks.room (vec_len c.self.inside.space.contents) (vec_capacity c.self.inside.space.contents) in
-    let v : VolumeState = volume_of c.self.inside.blocks c.self.inside.sizes.items room in
-    let n : ℕ = c.args.n in
-    let F : VolumeState → Type 0 = λ u. IsTrue u.is_sound → IsFormatted u in
-    let K : VolumeState → Type 0 = λ u. IsTrue u.is_sound → IsKind u 2 n in
-    let size : c.write_hand.new.self.size ≡ v.size = ap (λ (b : Buffered). b.size) c.write_hand.ensures.rest ∙ c.fetch.ensures.size in
-    let sound-is : c.write_hand.new.self.is_sound ≡ v.is_sound = ap (λ (b : Buffered). b.is_sound) c.write_hand.ensures.rest ∙ c.in_ok-fetch.ensures.sound in
-    let room2 : ℕ = room_for c.write_hand.new.self.room (vec_len c.empty_block.new.space.contents) (vec_capacity c.empty_block.new.space.contents) in
-    let w : VolumeState = volume_of c.write_hand.new.self c.self.inside.sizes.items room2 in
-    let P : VolumeState → Type 0 = λ u. IsTrue u.is_sound → IsGivenBlock u n w in
-    subst P c.self.view_is
-    (λ before.
-    let f : IsFormatted v = subst F (sym c.self.view_is) c.requires.formatted before in
-    let k : IsKind v 2 n = subst K (sym c.self.view_is) c.requires.there before in
-    let now : IsTrue c.fetch.new.self.is_sound = rw c.in_ok-fetch.ensures.sound before in
-    let later = k.later in
-    let hand : c.fetch.new.self.hand ≡ n = c.in_ok-fetch.ensures.hand in
-    let some : 0 < c.fetch.new.self.hand = omega arith in
-    let image : c.fetch.new.self.image ≡ v.image = c.in_ok-fetch.ensures.image before in
-    let changed : HasChanged v w n = changed-by v w c.fetch.new.self.size c.fetch.new.self.hand n c.fetch.new.self.image size refl c.fetch.ensures.size image hand (c.write_hand.ensures.others now some) in
-    let new : block_of v.size w.image n ≡ with_bytes (block_at v n) 2 (3 ∷ []) = rw (c.fetch.ensures.size, image, hand) at (c.write_hand.ensures.block now some) in
-    block-given v w n f k c.self.invariant.least changed new)
+pub returns-clause-call : goal.returns-clause-call
+returns-clause-call g c =
+    let v : VolumeState = c.args.self.now in
+    let step = c.give_index.ensures.step in
+    device-call c.give_index.result step (inl c.give_index.ensures.spacing) c.give_index.ensures.refusal
+    (on-ok-map c.give_index.result (λ h sound. given-leaves v c.give_index.new.self c.args.n step.size step.sizes (inl c.give_index.ensures.spacing) (h sound)) c.give_index.ensures.given)

@@ -10,8 +10,8 @@ pub returns-then-self-eq0-clause-none : goal.returns-then-self-eq0-clause-none
 returns-then-self-eq0-clause-none g c =
     let P : VolumeState → Type 0 = λ v. IsTrue v.is_sound → (m : ℕ) → IsKind v 3 m → ⊥ in
     let F : VolumeState → Type 0 = λ u. IsTrue u.is_sound → IsFormatted u in
-    let room : ℕ = room_for c.self.inside.blocks.room (vec_len c.self.inside.space.contents) (vec_capacity c.self.inside.space.contents) in
-    let v : VolumeState = volume_of c.self.inside.blocks c.self.inside.sizes.items room in
+    let room : ℕ = room_for c.self.inside.spacing c.self.inside.blocks.room (vec_len c.self.inside.space.contents) (vec_capacity c.self.inside.space.contents) in
+    let v : VolumeState = volume_of c.self.inside.blocks c.self.inside.sizes.items c.self.inside.spacing room in
     let least = c.self.invariant.least in
     subst P c.self.view_is
     (λ sound m k.
@@ -32,8 +32,8 @@ invariant_of-self g c = record {
 pub returns-clause-found : goal.returns-clause-found
 returns-clause-found g c =
     let P : VolumeState → Type 0 = λ v. IsTrue v.is_sound → IsKind v 3 c.seek_free-n.result in
-    let room : ℕ = room_for c.self.inside.blocks.room (vec_len c.self.inside.space.contents) (vec_capacity c.self.inside.space.contents) in
-    let v : VolumeState = volume_of c.self.inside.blocks c.self.inside.sizes.items room in
+    let room : ℕ = room_for c.self.inside.spacing c.self.inside.blocks.room (vec_len c.self.inside.space.contents) (vec_capacity c.self.inside.space.contents) in
+    let v : VolumeState = volume_of c.self.inside.blocks c.self.inside.sizes.items c.self.inside.spacing room in
     let least = c.self.invariant.least in
     elim c.if-n-eq0.branch [
       | then-n-eq0 w ↦ rw w.result-is tt
@@ -47,8 +47,8 @@ pub returns-clause-none : goal.returns-clause-none
 returns-clause-none g c =
     let P : VolumeState → Type 0 = λ v. IsTrue v.is_sound → (m : ℕ) → IsKind v 3 m → ⊥ in
     let F : VolumeState → Type 0 = λ u. IsTrue u.is_sound → IsFormatted u in
-    let room : ℕ = room_for c.self.inside.blocks.room (vec_len c.self.inside.space.contents) (vec_capacity c.self.inside.space.contents) in
-    let v : VolumeState = volume_of c.self.inside.blocks c.self.inside.sizes.items room in
+    let room : ℕ = room_for c.self.inside.spacing c.self.inside.blocks.room (vec_len c.self.inside.space.contents) (vec_capacity c.self.inside.space.contents) in
+    let v : VolumeState = volume_of c.self.inside.blocks c.self.inside.sizes.items c.self.inside.spacing room in
     let least = c.self.invariant.least in
     elim c.if-n-eq0.branch [
       | then-n-eq0 w ↦ rw w.result-is (subst P c.self.view_is (λ sound m k.

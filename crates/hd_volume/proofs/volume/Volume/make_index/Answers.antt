@@ -13,14 +13,14 @@ use Rattle.hd_volume.proofs.volume.Volume.make_index.Goals as goal
 
 pub invariant_of-self-2 : goal.invariant_of-self-2
 invariant_of-self-2 g c =
-    let room : ℕ = room_for c.self.inside.blocks.room (vec_len c.self.inside.space.contents) (vec_capacity c.self.inside.space.contents) in
-    let v : VolumeState = volume_of c.self.inside.blocks c.self.inside.sizes.items room in
+    let room : ℕ = room_for c.self.inside.spacing c.self.inside.blocks.room (vec_len c.self.inside.space.contents) (vec_capacity c.self.inside.space.contents) in
+    let v : VolumeState = volume_of c.self.inside.blocks c.self.inside.sizes.items c.self.inside.spacing room in
     let n : ℕ = c.args.n in
     let F : VolumeState → Type 0 = λ u. IsTrue u.is_sound → IsFormatted u in
     let K : VolumeState → Type 0 = λ u. IsTrue u.is_sound → IsKind u 3 n in
     let size : c.write_hand.new.self.size ≡ v.size = ap (λ (b : Buffered). b.size) c.write_hand.ensures.rest ∙ c.fetch.ensures.size in
     let sound-is : c.write_hand.new.self.is_sound ≡ v.is_sound = ap (λ (b : Buffered). b.is_sound) c.write_hand.ensures.rest ∙ c.in_ok-fetch.ensures.sound in
-    let w : VolumeState = volume_of c.write_hand.new.self c.self.inside.sizes.items room in
+    let w : VolumeState = volume_of c.write_hand.new.self c.self.inside.sizes.items c.self.inside.spacing room in
     record {
       least = rw size c.self.invariant.least;
       most = rw size c.self.invariant.most;
@@ -44,15 +44,15 @@ invariant_of-self-2 g c =
 
 pub returns-clause-made : goal.returns-clause-made
 returns-clause-made g c =
-    let room : ℕ = room_for c.self.inside.blocks.room (vec_len c.self.inside.space.contents) (vec_capacity c.self.inside.space.contents) in
-    let v : VolumeState = volume_of c.self.inside.blocks c.self.inside.sizes.items room in
+    let room : ℕ = room_for c.self.inside.spacing c.self.inside.blocks.room (vec_len c.self.inside.space.contents) (vec_capacity c.self.inside.space.contents) in
+    let v : VolumeState = volume_of c.self.inside.blocks c.self.inside.sizes.items c.self.inside.spacing room in
     let n : ℕ = c.args.n in
     let F : VolumeState → Type 0 = λ u. IsTrue u.is_sound → IsFormatted u in
     let K : VolumeState → Type 0 = λ u. IsTrue u.is_sound → IsKind u 3 n in
     let size : c.write_hand.new.self.size ≡ v.size = ap (λ (b : Buffered). b.size) c.write_hand.ensures.rest ∙ c.fetch.ensures.size in
     let sound-is : c.write_hand.new.self.is_sound ≡ v.is_sound = ap (λ (b : Buffered). b.is_sound) c.write_hand.ensures.rest ∙ c.in_ok-fetch.ensures.sound in
-    let room2 : ℕ = room_for c.write_hand.new.self.room (vec_len c.fill_free.new.space.contents) (vec_capacity c.fill_free.new.space.contents) in
-    let w : VolumeState = volume_of c.write_hand.new.self c.self.inside.sizes.items room2 in
+    let room2 : ℕ = room_for c.self.inside.spacing c.write_hand.new.self.room (vec_len c.fill_free.new.space.contents) (vec_capacity c.fill_free.new.space.contents) in
+    let w : VolumeState = volume_of c.write_hand.new.self c.self.inside.sizes.items c.self.inside.spacing room2 in
     let P : VolumeState → Type 0 = λ u. IsTrue u.is_sound → IsMadeIndex u n c.args.level w in
     subst P c.self.view_is
     (λ before.

@@ -1,4 +1,4 @@
-use Rattle.std.proofs.Common.{◌≡◌, ℕ, ◌+◌, ◌*◌, ◌<◌, ◌≤◌, List, length, slice_index, vec_len, IsTrue, Some, None, refl, subst, sym, ap, ◌∙◌, arith}
+use Rattle.std.proofs.Common.{◌≡◌, ℕ, ◌+◌, ◌*◌, ◌<◌, ◌≤◌, List, length, vec_len, IsTrue, Some, None, refl, subst, sym, ap, ◌∙◌, arith}
 use Rattle.std.specs.Vec.{vec_capacity}
 use Rattle.hd_bytes.specs.Blocks.{block_of}
 use Rattle.hd_bytes.specs.Ranges.{with_bytes}
@@ -16,8 +16,8 @@ use Rattle.hd_block.specs.Sizes.{size_at}
 
 pub invariant_of-self-in-None : goal.invariant_of-self-in-None
 invariant_of-self-in-None g c =
-    let room : ℕ = room_for c.self.inside.blocks.room (vec_len c.self.inside.space.contents) (vec_capacity c.self.inside.space.contents) in
-    let v : VolumeState = volume_of c.self.inside.blocks c.self.inside.sizes.items room in
+    let room : ℕ = room_for c.self.inside.spacing c.self.inside.blocks.room (vec_len c.self.inside.space.contents) (vec_capacity c.self.inside.space.contents) in
+    let v : VolumeState = volume_of c.self.inside.blocks c.self.inside.sizes.items c.self.inside.spacing room in
     let n : ℕ = c.args.n in
     let bytes : List ℕ = c.args.bytes.now in
     let F : VolumeState → Type 0 = λ u. IsTrue u.is_sound → IsFormatted u in
@@ -48,8 +48,8 @@ invariant_of-self-in-None g c =
 
 pub returns-in-None-clause-placed : goal.returns-in-None-clause-placed
 returns-in-None-clause-placed g c sound =
-    let room : ℕ = room_for c.self.inside.blocks.room (vec_len c.self.inside.space.contents) (vec_capacity c.self.inside.space.contents) in
-    let v : VolumeState = volume_of c.self.inside.blocks c.self.inside.sizes.items room in
+    let room : ℕ = room_for c.self.inside.spacing c.self.inside.blocks.room (vec_len c.self.inside.space.contents) (vec_capacity c.self.inside.space.contents) in
+    let v : VolumeState = volume_of c.self.inside.blocks c.self.inside.sizes.items c.self.inside.spacing room in
     let n : ℕ = c.args.n in
     let bytes : List ℕ = c.args.bytes.now in
     let F : VolumeState → Type 0 = λ u. IsTrue u.is_sound → IsFormatted u in
@@ -71,15 +71,15 @@ returns-in-None-clause-placed g c sound =
 
 pub invariant_of-self-in-Some : goal.invariant_of-self-in-Some
 invariant_of-self-in-Some g c =
-    let room : ℕ = room_for c.self.inside.blocks.room (vec_len c.self.inside.space.contents) (vec_capacity c.self.inside.space.contents) in
-    let v : VolumeState = volume_of c.self.inside.blocks c.self.inside.sizes.items room in
+    let room : ℕ = room_for c.self.inside.spacing c.self.inside.blocks.room (vec_len c.self.inside.space.contents) (vec_capacity c.self.inside.space.contents) in
+    let v : VolumeState = volume_of c.self.inside.blocks c.self.inside.sizes.items c.self.inside.spacing room in
     let n : ℕ = c.args.n in
     let bytes : List ℕ = c.args.bytes.now in
     let F : VolumeState → Type 0 = λ u. IsTrue u.is_sound → IsFormatted u in
     let R : VolumeState → Type 0 = λ u. IsTrue u.is_sound → HasRoom u n (length bytes) in
     let W : VolumeState → Type 0 = λ u. (0 < length bytes) × (size_at u.sizes bytes 0 ≡ length bytes) in
     let whole = subst W (sym c.self.view_is) c.requires.whole in
-    let w : VolumeState = volume_of c.write_hand.new.self c.self.inside.sizes.items room in
+    let w : VolumeState = volume_of c.write_hand.new.self c.self.inside.sizes.items c.self.inside.spacing room in
     let size : c.write_hand.new.self.size ≡ v.size = ap (λ (b : Buffered). b.size) c.write_hand.ensures.rest ∙ (ap (λ (b : Buffered). b.size) c.take.ensures.rest ∙ c.fetch.ensures.size) in
     let sound-is : c.write_hand.new.self.is_sound ≡ v.is_sound = ap (λ (b : Buffered). b.is_sound) c.write_hand.ensures.rest ∙ (ap (λ (b : Buffered). b.is_sound) c.take.ensures.rest ∙ c.in_ok-fetch.ensures.sound) in
     record {
@@ -118,16 +118,16 @@ invariant_of-self-in-Some g c =
 
 pub returns-in-Some-clause-placed : goal.returns-in-Some-clause-placed
 returns-in-Some-clause-placed g c =
-    let room : ℕ = room_for c.self.inside.blocks.room (vec_len c.self.inside.space.contents) (vec_capacity c.self.inside.space.contents) in
-    let v : VolumeState = volume_of c.self.inside.blocks c.self.inside.sizes.items room in
+    let room : ℕ = room_for c.self.inside.spacing c.self.inside.blocks.room (vec_len c.self.inside.space.contents) (vec_capacity c.self.inside.space.contents) in
+    let v : VolumeState = volume_of c.self.inside.blocks c.self.inside.sizes.items c.self.inside.spacing room in
     let n : ℕ = c.args.n in
     let bytes : List ℕ = c.args.bytes.now in
     let F : VolumeState → Type 0 = λ u. IsTrue u.is_sound → IsFormatted u in
     let R : VolumeState → Type 0 = λ u. IsTrue u.is_sound → HasRoom u n (length bytes) in
     let W : VolumeState → Type 0 = λ u. (0 < length bytes) × (size_at u.sizes bytes 0 ≡ length bytes) in
     let whole = subst W (sym c.self.view_is) c.requires.whole in
-    let room2 : ℕ = room_for c.write_hand.new.self.room (vec_len c.self.inside.space.contents) (vec_capacity c.self.inside.space.contents) in
-    let w : VolumeState = volume_of c.write_hand.new.self c.self.inside.sizes.items room2 in
+    let room2 : ℕ = room_for c.self.inside.spacing c.write_hand.new.self.room (vec_len c.self.inside.space.contents) (vec_capacity c.self.inside.space.contents) in
+    let w : VolumeState = volume_of c.write_hand.new.self c.self.inside.sizes.items c.self.inside.spacing room2 in
     let size : c.write_hand.new.self.size ≡ v.size = ap (λ (b : Buffered). b.size) c.write_hand.ensures.rest ∙ (ap (λ (b : Buffered). b.size) c.take.ensures.rest ∙ c.fetch.ensures.size) in
     let sound-is : c.write_hand.new.self.is_sound ≡ v.is_sound = ap (λ (b : Buffered). b.is_sound) c.write_hand.ensures.rest ∙ (ap (λ (b : Buffered). b.is_sound) c.take.ensures.rest ∙ c.in_ok-fetch.ensures.sound) in
     let P : VolumeState → Type 0 = λ u. IsTrue u.is_sound → IsPutIn u n (n * c.block_size-size.result + c.from.result) bytes w in

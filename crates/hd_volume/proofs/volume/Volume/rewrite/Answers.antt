@@ -3,7 +3,7 @@ use Rattle.hd_dbd.specs.declared.answer.Refused.{Refused}
 use Rattle.hd_volume.specs.Volumes.{VolumeState}
 use Rattle.hd_volume.specs.Calls.{HasSegment, IsCall, IsRewritten}
 use Rattle.hd_volume.specs.Steps.{IsShorter}
-use Rattle.hd_volume.proofs.JoinLemmas.{AreOne, read-one, one-kind, one-segments, if-ok-map, if-err-map}
+use Rattle.hd_volume.proofs.JoinLemmas.{AreOne, read-one, plain-read, one-kind, one-segments, if-ok-map, if-err-map}
 use Rattle.hd_volume.proofs.RewriteLemmas.{rewritten-after}
 use Rattle.hd_volume.proofs.volume.Volume.rewrite.Goals as goal
 
@@ -15,7 +15,7 @@ returns-then-bytes-len-clause-rewritten g c =
     (λ to h sound.
     let now : IsTrue w.is_sound = rw c.in_ok-len.ensures.read.call.sound sound in
     let one : AreOne v w = read-one c.in_ok-len.ensures.read now in
-    rewritten-after one c.args.address to c.args.bytes.now (h now))
+    rewritten-after one (plain-read c.in_ok-len.ensures.read) c.args.address to c.args.bytes.now (h now))
     c.write_over.ensures.written
 
 pub returns-clause-rewritten : goal.returns-clause-rewritten
@@ -26,7 +26,7 @@ returns-clause-rewritten g c =
     (λ to h sound.
     let now : IsTrue w.is_sound = rw c.in_ok-len.ensures.read.call.sound sound in
     let one : AreOne v w = read-one c.in_ok-len.ensures.read now in
-    rewritten-after one c.args.address to c.args.bytes.now (h now))
+    rewritten-after one (plain-read c.in_ok-len.ensures.read) c.args.address to c.args.bytes.now (h now))
     c.move_segment.ensures.moved
 
 pub returns-clause-no_free : goal.returns-clause-no_free

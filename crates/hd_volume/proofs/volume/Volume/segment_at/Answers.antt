@@ -1,4 +1,4 @@
-use Rattle.std.proofs.Common.{◌≡◌, ℕ, ◌/◌, ◌%◌, ◌+◌, ◌<◌, length, min, slice_index, vec_len, IsTrue, refl, subst, sym, ap, ◌∙◌, arith}
+use Rattle.std.proofs.Common.{◌≡◌, ℕ, ◌/◌, ◌%◌, ◌+◌, ◌<◌, length, min, vec_len, IsTrue, refl, subst, sym, ap, ◌∙◌, arith}
 use Rattle.std.specs.Vec.{vec_capacity}
 use Rattle.hd_bytes.specs.Blocks.{block_of, HasBlock}
 use Rattle.hd_volume.specs.Volumes.{VolumeState, block_at}
@@ -33,8 +33,8 @@ returns g c =
     in
     let len : ℕ = vec_len c.self.inside.space.contents in
     let cap : ℕ = vec_capacity c.self.inside.space.contents in
-    let room : room_for c.fetch.new.self.room len cap ≡ room_for c.self.inside.blocks.room len cap = ap (λ (r : ℕ). room_for r len cap) c.fetch.ensures.room in (
-      (refl, λ _. tt, is-read-seen v c.self.inside.blocks c.fetch.new.self c.self.inside.sizes.items (room_for c.self.inside.blocks.room len cap) (room_for c.fetch.new.self.room len cap) c.self.view_is brought room),
+    let room : room_for c.self.inside.spacing c.fetch.new.self.room len cap ≡ room_for c.self.inside.spacing c.self.inside.blocks.room len cap = ap (λ (r : ℕ). room_for c.self.inside.spacing r len cap) c.fetch.ensures.room in (
+      (refl, λ _. tt, is-read-seen v c.self.inside.blocks c.fetch.new.self c.self.inside.sizes.items c.self.inside.spacing (room_for c.self.inside.spacing c.self.inside.blocks.room len cap) (room_for c.self.inside.spacing c.fetch.new.self.room len cap) c.self.view_is brought room),
       record {
         value = λ sound.
             let before : IsTrue c.self.inside.blocks.is_sound = (let Q : VolumeState → Type 0 = λ w. IsTrue w.is_sound in subst Q (sym c.self.view_is) sound) in

@@ -7,6 +7,7 @@ use Rattle.hd_volume.specs.Steps.{IsLengthAt}
 use Rattle.hd_volume.specs.Spaces.{volume_of, room_for}
 use Rattle.hd_volume.proofs.MapLemmas.{find-there}
 use Rattle.hd_volume.proofs.CallLemmas.{segment-size}
+use Rattle.hd_volume.proofs.MapLemmas.{IsBrought, is-read-seen}
 use Rattle.hd_volume.proofs.volume.Volume.segment_length.Goals as goal
 use Rattle.hd_block.specs.Sizes.{size_at}
 
@@ -20,8 +21,8 @@ fetch-requires g c = record {
 
 pub returns-clause-length : goal.returns-clause-length
 returns-clause-length g c =
-    let room : ℕ = room_for c.self.inside.blocks.room (vec_len c.self.inside.space.contents) (vec_capacity c.self.inside.space.contents) in
-    let v : VolumeState = volume_of c.self.inside.blocks c.self.inside.sizes.items room in
+    let room : ℕ = room_for c.self.inside.spacing c.self.inside.blocks.room (vec_len c.self.inside.space.contents) (vec_capacity c.self.inside.space.contents) in
+    let v : VolumeState = volume_of c.self.inside.blocks c.self.inside.sizes.items c.self.inside.spacing room in
     let a : ℕ = c.args.address in
     let F : VolumeState → Type 0 = λ u. IsTrue u.is_sound → IsFormatted u in
     let T : VolumeState → Type 0 = λ u. IsTrue u.is_sound → HasSegment u a 0 in
@@ -42,3 +43,21 @@ returns-clause-length g c =
     let code : size_at c.deref.result.now c.hand.result.now c.place-n.result.1 ≡ size_at v.sizes (block_at v (a / v.size)) (a % v.size) = rw (c.deref.ensures.value, block, at) refl in
     let one : h.bytes ≡ s = (let z : Some h.bytes ≡ Some s = sym h.is ∙ e in cc) in
     c.size_at.ensures ∙ code ∙ sized.0 ∙ ap length one)
+
+pub returns-clause-read : goal.returns-clause-read
+returns-clause-read g c =
+    let brought : IsBrought c.self.inside.blocks c.fetch.new.self =
+    record {
+      sound = c.in_ok-fetch.ensures.sound;
+      failures = c.in_ok-fetch.ensures.counts;
+      size = c.fetch.ensures.size;
+      room = c.fetch.ensures.room;
+      image = c.in_ok-fetch.ensures.image;
+      stands = c.in_ok-fetch.ensures.stands;
+      first = c.in_ok-fetch.ensures.first;
+    }
+    in
+    let len : ℕ = vec_len c.self.inside.space.contents in
+    let cap : ℕ = vec_capacity c.self.inside.space.contents in
+    let same : room_for c.self.inside.spacing c.fetch.new.self.room len cap ≡ room_for c.self.inside.spacing c.self.inside.blocks.room len cap = ap (λ (r : ℕ). room_for c.self.inside.spacing r len cap) c.fetch.ensures.room in
+    is-read-seen c.args.self.now c.self.inside.blocks c.fetch.new.self c.self.inside.sizes.items c.self.inside.spacing (room_for c.self.inside.spacing c.self.inside.blocks.room len cap) (room_for c.self.inside.spacing c.fetch.new.self.room len cap) c.self.view_is brought same

@@ -11,8 +11,8 @@ pub returns : goal.returns
 returns g c =
     let P : VolumeState → Type 0 = λ v. IsTrue v.is_sound → c.saturating_add.result ≡ spare v in
     let F : VolumeState → Type 0 = λ u. IsTrue u.is_sound → IsFormatted u in
-    let room : ℕ = room_for c.self.inside.blocks.room (vec_len c.self.inside.space.contents) (vec_capacity c.self.inside.space.contents) in
-    let v : VolumeState = volume_of c.self.inside.blocks c.self.inside.sizes.items room in
+    let room : ℕ = room_for c.self.inside.spacing c.self.inside.blocks.room (vec_len c.self.inside.space.contents) (vec_capacity c.self.inside.space.contents) in
+    let v : VolumeState = volume_of c.self.inside.blocks c.self.inside.sizes.items c.self.inside.spacing room in
     let least = c.self.invariant.least in
     subst P c.self.view_is
     (λ sound.

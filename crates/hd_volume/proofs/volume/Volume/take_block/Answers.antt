@@ -1,14 +1,11 @@
-use Rattle.std.proofs.Common.{IsTrue}
 use Rattle.hd_volume.specs.Volumes.{VolumeState}
-use Rattle.hd_volume.proofs.FrameLemmas.{AreSame}
-use Rattle.hd_volume.proofs.JoinLemmas.{taken-block}
+use Rattle.hd_volume.proofs.SpacingLemmas.{kept-call, on-ok-two, ok-both, taken-leaves}
 use Rattle.hd_volume.proofs.volume.Volume.take_block.Goals as goal
 
-pub returns-clause-taken : goal.returns-clause-taken
-returns-clause-taken g c sound =
+pub returns-clause-call : goal.returns-clause-call
+returns-clause-call g c =
     let v : VolumeState = c.args.self.now in
-    let m : VolumeState = c.free_block.new.self in
-    let now : IsTrue m.is_sound = rw c.in_ok-n.ensures.call.sound sound in
-    let first : AreSame v m = record { size = c.in_ok-n.ensures.call.size; sizes = c.in_ok-n.ensures.call.sizes } in
-    let second : AreSame m c.make_index.new.self = record { size = c.in_ok-make_index.ensures.call.size; sizes = c.in_ok-make_index.ensures.call.sizes } in
-    taken-block c.in_ok-n.n c.args.level first second (c.requires.formatted sound) (c.in_ok-n.ensures.free sound) (c.in_ok-make_index.ensures.made now)
+    let step = c.take_index.ensures.step in
+    kept-call c.take_index.result step c.take_index.ensures.spacing c.take_index.ensures.kept
+    (on-ok-two c.take_index.result (λ n x both sound. taken-leaves v c.take_index.new.self n c.args.level step.size step.sizes c.take_index.ensures.spacing (c.requires.formatted sound) both.0 (x sound) (both.1 sound))
+    c.take_index.ensures.taken (ok-both _ _ c.take_index.result c.take_index.ensures.some c.take_index.ensures.may))
