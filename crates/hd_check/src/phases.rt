@@ -16,7 +16,7 @@ ghost use Rattle.hd_check.specs.Joining.{NoneBefore, IsFirstFault, HasRightBlock
 ghost use Rattle.hd_check_blocks.specs.Finding.{WhereNone, WhereSome};
 
 use crate::levels::levels_fault;
-use hd_check_blocks::{Fault, Place, blocks_fault, header_fault};
+use hd_check_blocks::{Directory, Fault, Place, blocks_fault, header_fault};
 use hd_check_index::{
     block_forms_fault, entry_order_fault, sort_chain, twice_named_fault, unnamed_root_fault,
     unreached_block_fault, wrong_entry_fault,
@@ -54,6 +54,7 @@ fn image_fault<S: BlockStore>(
 fn twin_chains_fault<S: BlockStore>(
     alloc: Global,
     places: &[Place],
+    directory: &Directory,
     namings: &[Naming],
     forwards: &[u32],
     volume: &mut Volume<S>,
@@ -68,22 +69,23 @@ fn twin_chains_fault<S: BlockStore>(
     ensures some { WhereSome volume.old result (λ f. IsFirstFault dbd.now volume.old f) }
     ensures refusal { OnlyDeviceOrMemory result }
 {
-    let owners = owners_of(alloc, places, namings, forwards)?;
-    let found = twins_fault(places, namings, &owners, forwards, volume, dbd)?;
+    let owners = owners_of(alloc, places, directory, namings, forwards)?;
+    let found = twins_fault(places, directory, namings, &owners, forwards, volume, dbd)?;
     if found.is_some() {
         return Ok(found);
     }
-    let found = twin_keys_fault(places, namings, volume, dbd)?;
+    let found = twin_keys_fault(places, directory, namings, volume, dbd)?;
     if found.is_some() {
         return Ok(found);
     }
-    Ok(reached_fault(places, &owners))
+    Ok(reached_fault(places, directory, &owners))
 }
 
 /// The least fault of the pointers.
 fn pointers_fault<S: BlockStore>(
     alloc: Global,
     places: &[Place],
+    directory: &Directory,
     volume: &mut Volume<S>,
     dbd: &Dbd,
 ) -> Result<Option<Fault>, Refused>
@@ -95,15 +97,15 @@ fn pointers_fault<S: BlockStore>(
 {
     let mut forwards = Vec::new(alloc);
     let mut namings = Vec::new(alloc);
-    let found = records_fault(&mut forwards, &mut namings, places, volume, dbd)?;
+    let found = records_fault(&mut forwards, &mut namings, places, directory, volume, dbd)?;
     if found.is_some() {
         return Ok(found);
     }
-    let found = predecessors_fault(alloc, &mut namings, places)?;
+    let found = predecessors_fault(alloc, &mut namings, places, directory)?;
     if found.is_some() {
         return Ok(found);
     }
-    twin_chains_fault(alloc, places, &namings, &forwards, volume, dbd)
+    twin_chains_fault(alloc, places, directory, &namings, &forwards, volume, dbd)
 }
 
 /// The least fault of the order of a chain's keys; where there is none, its blocks are put in order of their numbers.
@@ -191,6 +193,7 @@ fn index_blocks_fault<S: BlockStore>(
 fn entries_fault<S: BlockStore>(
     alloc: Global,
     places: &[Place],
+    directory: &Directory,
     sequence: &[u32],
     volume: &mut Volume<S>,
     dbd: &Dbd,
@@ -204,7 +207,7 @@ fn entries_fault<S: BlockStore>(
     ensures refusal { OnlyDeviceOrMemory result }
 {
     let mut named = Vec::new(alloc);
-    let found = wrong_entry_fault(&mut named, sequence, places, volume, dbd)?;
+    let found = wrong_entry_fault(&mut named, sequence, places, directory, volume, dbd)?;
     if found.is_some() {
         return Ok(found);
     }
@@ -215,6 +218,7 @@ fn entries_fault<S: BlockStore>(
 fn index_fault<S: BlockStore>(
     alloc: Global,
     places: &[Place],
+    directory: &Directory,
     volume: &mut Volume<S>,
     dbd: &Dbd,
 ) -> Result<Option<Fault>, Refused>
@@ -230,7 +234,7 @@ fn index_fault<S: BlockStore>(
     if found.is_some() {
         return Ok(found);
     }
-    entries_fault(alloc, places, &sequence, volume, dbd)
+    entries_fault(alloc, places, directory, &sequence, volume, dbd)
 }
 
 /// The least fault of a volume; where there is none, its segments are noted.
@@ -253,9 +257,10 @@ pub fn first_fault<S: BlockStore>(
     if found.is_some() {
         return Ok(found);
     }
-    let found = pointers_fault(alloc, places, volume, dbd)?;
+    let directory = Directory::of(alloc, places)?;
+    let found = pointers_fault(alloc, places, &directory, volume, dbd)?;
     if found.is_some() {
         return Ok(found);
     }
-    index_fault(alloc, places, volume, dbd)
+    index_fault(alloc, places, &directory, volume, dbd)
 }

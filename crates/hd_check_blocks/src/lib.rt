@@ -4,6 +4,7 @@
 #![tactic(auto)]
 
 mod blocks;
+mod directory;
 mod fault;
 mod free_elements;
 mod header;
@@ -13,6 +14,7 @@ mod places;
 mod wrong_place;
 
 pub use blocks::blocks_fault;
+pub use directory::Directory;
 pub use fault::Fault;
 pub use header::header_fault;
 pub use keys::stored_key;

@@ -20,7 +20,7 @@ ghost use Rattle.hd_check_index.specs.IndexPhases.{IsSequence, AreNamed, AllName
 ghost use Rattle.hd_check_blocks.specs.Finding.{WhereNone, WhereSome};
 
 use crate::noted_blocks::block_address;
-use hd_check_blocks::{Fault, Place, code_at, stored_key};
+use hd_check_blocks::{Directory, Fault, Place, code_at, stored_key};
 use hd_dbd::{Dbd, Refused};
 use hd_entries::{copy_entry, entry_count, root_key_length};
 use hd_image::Line;
@@ -34,10 +34,10 @@ fn has_key(dbd: &Dbd, segment: &[u8], key: &[u8]) -> bool
 }
 
 /// Whether an address is that of a root.
-fn is_root(places: &[Place], address: u32) -> bool
+fn is_root(places: &[Place], directory: &Directory, address: u32) -> bool
     ensures { (d : Database) (v : VolumeState) → let m = links_of d.types v in ArePlaces d.types v places.now → result ≡ (not (address == 0) && m.here address && (m.code address == 1)) }
 {
-    match code_at(places, address) {
+    match code_at(places, directory, address) {
         Some(code) => code == 1,
         None => false,
     }
@@ -46,6 +46,7 @@ fn is_root(places: &[Place], address: u32) -> bool
 /// Whether an entry of a key and an address names a root of its key.
 fn names_root<S: BlockStore>(
     places: &[Place],
+    directory: &Directory,
     volume: &mut Volume<S>,
     dbd: &Dbd,
     key: &[u8],
@@ -57,7 +58,7 @@ fn names_root<S: BlockStore>(
     ensures value { IfOk result (λ b. IsTrue volume.old.is_sound → b ≡ names_a_root dbd.now (links_of dbd.now.types volume.old) (record { key = key.now; address = address })) }
     ensures refusal { OnlyDevice result }
 {
-    if !is_root(places, address) {
+    if !is_root(places, directory, address) {
         return Ok(false);
     }
     let segment = volume.segment_at(address)?;
@@ -67,6 +68,7 @@ fn names_root<S: BlockStore>(
 /// Whether the entry of an index block at an index names a root of its key, and its address.
 fn judge_entry<S: BlockStore>(
     places: &[Place],
+    directory: &Directory,
     volume: &mut Volume<S>,
     dbd: &Dbd,
     n: u32,
@@ -84,7 +86,14 @@ fn judge_entry<S: BlockStore>(
 {
     let key_length = root_key_length(dbd);
     let entry = copy_entry(volume, n, key_length, index)?;
-    let right = names_root(places, volume, dbd, &entry.key[..key_length], entry.address)?;
+    let right = names_root(
+        places,
+        directory,
+        volume,
+        dbd,
+        &entry.key[..key_length],
+        entry.address,
+    )?;
     Ok((right, entry.address))
 }
 
@@ -93,6 +102,7 @@ fn judge_entry<S: BlockStore>(
 fn wrong_entry<S: BlockStore>(
     named: &mut Vec<u32>,
     places: &[Place],
+    directory: &Directory,
     volume: &mut Volume<S>,
     dbd: &Dbd,
     n: u32,
@@ -110,7 +120,7 @@ fn wrong_entry<S: BlockStore>(
     let key_length = root_key_length(dbd);
     let count = entry_count(volume, n, key_length)?;
     for index in 0..count {
-        let (right, address) = judge_entry(places, volume, dbd, n, index)?;
+        let (right, address) = judge_entry(places, directory, volume, dbd, n, index)?;
         if !right {
             return Ok(Some(address));
         }
@@ -127,6 +137,7 @@ pub fn wrong_entry_fault<S: BlockStore>(
     named: &mut Vec<u32>,
     blocks: &[u32],
     places: &[Place],
+    directory: &Directory,
     volume: &mut Volume<S>,
     dbd: &Dbd,
 ) -> Result<Option<Fault>, Refused>
@@ -142,7 +153,7 @@ pub fn wrong_entry_fault<S: BlockStore>(
 {
     let size = volume.block_size() as u32;
     for block in blocks {
-        match wrong_entry(named, places, volume, dbd, *block)? {
+        match wrong_entry(named, places, directory, volume, dbd, *block)? {
             None => {}
             Some(address) => {
                 return Ok(Some(Fault::at(Line::WrongEntry, block_address(*block, size), address)));

@@ -9,7 +9,7 @@ ghost use Rattle.hd_check_pointers.specs.Tables.{nobody, AreOwners};
 ghost use Rattle.hd_check_pointers.specs.Matched.{OwnersStayRight, OwnersStayClosed, IfPreceded};
 
 use crate::namings::Naming;
-use hd_check_blocks::{Place, number_near};
+use hd_check_blocks::{Directory, Place, number_near};
 use hd_dbd::Refused;
 use std::alloc::Global;
 
@@ -17,11 +17,17 @@ use std::alloc::Global;
 pub(crate) const NOBODY: u32 = u32::MAX;
 
 /// Whether a segment of a code stands at an address: most likely that before the one of a number.
-pub fn stands_at(places: &[Place], number: usize, address: u32, code: u8) -> bool
+pub fn stands_at(
+    places: &[Place],
+    directory: &Directory,
+    number: usize,
+    address: u32,
+    code: u8,
+) -> bool
     ensures right { result ≡ true → IsPlaceOf (record { address = address; code = code }) places.now }
     ensures wrong { PlacesAscend places.now → result ≡ false → IsPlaceOf (record { address = address; code = code }) places.now → ⊥ }
 {
-    match number_near(places, address, number.saturating_sub(1)) {
+    match number_near(places, directory, address, number.saturating_sub(1)) {
         None => false,
         Some(found) => places[found].code == code,
     }
@@ -35,7 +41,14 @@ pub fn number_in(table: &[u32], number: usize) -> u32
 }
 
 /// Writes the owner of a chain of twins to each of its segments, from the one of a number on.
-fn own_twins(places: &[Place], forwards: &[u32], owners: &mut Vec<u32>, first: usize, owner: u32)
+fn own_twins(
+    places: &[Place],
+    directory: &Directory,
+    forwards: &[u32],
+    owners: &mut Vec<u32>,
+    first: usize,
+    owner: u32,
+)
     requires inside { (first < length places.now) × (length owners.old.items ≡ length places.now) }
     requires some { owner ≢ nobody }
     ensures as_many { length owners.new.items ≡ length places.now }
@@ -47,7 +60,7 @@ fn own_twins(places: &[Place], forwards: &[u32], owners: &mut Vec<u32>, first: u
     let mut number = first;
     while owners[number] == NOBODY {
         owners[number] = owner;
-        match number_near(places, number_in(forwards, number), number + 1) {
+        match number_near(places, directory, number_in(forwards, number), number + 1) {
             None => return,
             Some(twin) => number = twin,
         }
@@ -70,6 +83,7 @@ fn unowned(alloc: Global, count: usize) -> Result<Vec<u32>, Refused>
 pub fn owners_of(
     alloc: Global,
     places: &[Place],
+    directory: &Directory,
     namings: &[Naming],
     forwards: &[u32],
 ) -> Result<Vec<u32>, Refused>
@@ -80,8 +94,8 @@ pub fn owners_of(
     for first in 0..places.len().min(namings.len()) {
         let place = places[first];
         let holder = namings[first].holder;
-        if holder != NOBODY && !stands_at(places, first, holder, place.code) {
-            own_twins(places, forwards, &mut owners, first, holder);
+        if holder != NOBODY && !stands_at(places, directory, first, holder, place.code) {
+            own_twins(places, directory, forwards, &mut owners, first, holder);
         }
     }
     Ok(owners)

@@ -11,7 +11,7 @@ ghost use Rattle.hd_check_pointers.specs.Namings.{match_fault, first_unmatched, 
 ghost use Rattle.hd_check_pointers.specs.Matched.{OfNamed};
 
 use crate::namings::Naming;
-use hd_check_blocks::{Fault, Place, number_near};
+use hd_check_blocks::{Directory, Fault, Place, number_near};
 use hd_dbd::Refused;
 use hd_image::Line;
 use std::alloc::Global;
@@ -90,6 +90,7 @@ fn arrange(
     alloc: Global,
     namings: &[Naming],
     places: &[Place],
+    directory: &Directory,
 ) -> Result<Option<Vec<Naming>>, Refused>
     ensures places { IfOk result (λ o. IfSome o (λ table. NameTheirPlaces places.now table.items)) }
     ensures holders { IfOk result (λ o. IfSome o (λ table. HaveSameHolders places.now namings.now table.items)) }
@@ -98,7 +99,7 @@ fn arrange(
     let mut table = empty_table(alloc, places.len())?;
     let mut near = 0;
     for naming in namings {
-        let Some(number) = number_near(places, naming.target, near) else {
+        let Some(number) = number_near(places, directory, naming.target, near) else {
             return Ok(None);
         };
         if table[number].target != 0 {
@@ -118,13 +119,14 @@ pub fn predecessors_fault(
     alloc: Global,
     namings: &mut Vec<Naming>,
     places: &[Place],
+    directory: &Directory,
 ) -> Result<Option<Fault>, Refused>
     ensures none { OfNamed places.now namings.old.items (λ d v. IfOk result (λ o. IfNone o (PredecessorsAreOne d.types (links_of d.types v)))) }
     ensures table { OfNamed places.now namings.old.items (λ d v. IfOk result (λ o. IfNone o (ArePredecessors d.types (links_of d.types v) places.now namings.new.items))) }
     ensures some { OfNamed places.now namings.old.items (λ d v. IfOk result (λ o. IfSome o (λ f. IsLeastOf d v 4 f))) }
     ensures refusal { OnlyMemory result }
 {
-    if let Some(arranged) = arrange(alloc, namings, places)? {
+    if let Some(arranged) = arrange(alloc, namings, places, directory)? {
         *namings = arranged;
         return Ok(None);
     }

@@ -10,7 +10,7 @@ ghost use Rattle.hd_check_pointers.specs.Tables.{place_at};
 ghost use Rattle.hd_check_pointers.specs.Matched.{IfOwned};
 
 use crate::owners::NOBODY;
-use hd_check_blocks::{Fault, Place, number_near};
+use hd_check_blocks::{Directory, Fault, Place, number_near};
 use hd_image::Line;
 
 /// The owner of the chain in which the segment of a number is.
@@ -28,7 +28,7 @@ fn is_owned_as_before(owners: &[u32], number: usize) -> bool
 }
 
 /// Whether the segment of a number is reached from the header, from owner to owner.
-fn is_reached(places: &[Place], owners: &[u32], first: usize) -> bool
+fn is_reached(places: &[Place], directory: &Directory, owners: &[u32], first: usize) -> bool
     requires { first < length places.now }
     ensures right { (d : Database) (v : VolumeState) → IfOwned d v places.now owners.now (result ≡ true → (n : ℕ) × IsReached d.types (links_of d.types v) n (place_at places.now first).address) }
     ensures wrong { (d : Database) (v : VolumeState) → IfOwned d v places.now owners.now (result ≡ false → (n : ℕ) → IsReached d.types (links_of d.types v) n (place_at places.now first).address → ⊥) }
@@ -39,7 +39,7 @@ fn is_reached(places: &[Place], owners: &[u32], first: usize) -> bool
         if owner == 0 {
             return true;
         }
-        match number_near(places, owner, number.saturating_sub(1)) {
+        match number_near(places, directory, owner, number.saturating_sub(1)) {
             None => return false,
             Some(above) => number = above,
         }
@@ -48,7 +48,7 @@ fn is_reached(places: &[Place], owners: &[u32], first: usize) -> bool
 }
 
 /// The first segment that is not reached from the header.
-pub fn reached_fault(places: &[Place], owners: &[u32]) -> Option<Fault>
+pub fn reached_fault(places: &[Place], directory: &Directory, owners: &[u32]) -> Option<Fault>
     ensures none { (d : Database) (v : VolumeState) → let m = links_of d.types v in IfOwned d v places.now owners.now (IfNone result ((a : ℕ) → IsSegment m a → (n : ℕ) × IsReached d.types m n a)) }
     ensures some { (d : Database) (v : VolumeState) → IfOwned d v places.now owners.now (IfSome result (λ f. IsLeastOf d v 7 f)) }
 {
@@ -56,7 +56,7 @@ pub fn reached_fault(places: &[Place], owners: &[u32]) -> Option<Fault>
         if is_owned_as_before(owners, number) {
             continue;
         }
-        if !is_reached(places, owners, number) {
+        if !is_reached(places, directory, owners, number) {
             return Some(Fault::at(Line::NotReached, places[number].address, 0));
         }
     }

@@ -10,7 +10,7 @@ ghost use Rattle.hd_check_blocks.specs.Places.{ArePlaces};
 ghost use Rattle.hd_check_pointers.specs.Judging.{wrong_among, wrong_or, IsRecordRight, IsWrongRecord, IsPointerFault, OfStored, OfPlaced};
 ghost use Rattle.hd_check_pointers.specs.Matched.{IfRoots};
 
-use hd_check_blocks::{Fault, Place, code_near};
+use hd_check_blocks::{Directory, Fault, Place, code_near};
 use hd_dbd::Dbd;
 use hd_image::Line;
 use hd_prefix::{Layout, Pointer, delete_byte_of};
@@ -24,7 +24,7 @@ struct Wrong {
 }
 
 /// What is wrong with one pointer, which may name a segment of a type, and most likely that of a number.
-fn wrong_of(places: &[Place], near: usize, address: u32, code: u8) -> Wrong
+fn wrong_of(places: &[Place], directory: &Directory, near: usize, address: u32, code: u8) -> Wrong
     ensures { (d : Database) (v : VolumeState) → ArePlaces d.types v places.now → result ≡ wrong_among (links_of d.types v) (record { address = address; type_code = code } ∷ []) }
 {
     if address == 0 {
@@ -33,7 +33,7 @@ fn wrong_of(places: &[Place], near: usize, address: u32, code: u8) -> Wrong
             another: 0,
         };
     }
-    match code_near(places, address, near) {
+    match code_near(places, directory, address, near) {
         None => Wrong {
             nowhere: address,
             another: 0,
@@ -66,6 +66,7 @@ fn wrong_or(wrong: Wrong, more: Wrong) -> Wrong
 /// What is wrong with the pointers of a segment to its children of some types, where the next segment has a number.
 fn judge_children(
     places: &[Place],
+    directory: &Directory,
     next: usize,
     dbd: &Dbd,
     code: u8,
@@ -81,15 +82,22 @@ fn judge_children(
     let mut found = wrong;
     for child in types {
         let first = layout.read(segment, Pointer::FirstChild(*child));
-        found = wrong_or(found, wrong_of(places, next, first, *child));
+        found = wrong_or(found, wrong_of(places, directory, next, first, *child));
         let last = layout.read(segment, Pointer::LastChild(*child));
-        found = wrong_or(found, wrong_of(places, next, last, *child));
+        found = wrong_or(found, wrong_of(places, directory, next, last, *child));
     }
     found
 }
 
 /// What is wrong with the pointers of the segment of a number.
-fn judge_segment(places: &[Place], number: usize, dbd: &Dbd, code: u8, segment: &[u8]) -> Wrong
+fn judge_segment(
+    places: &[Place],
+    directory: &Directory,
+    number: usize,
+    dbd: &Dbd,
+    code: u8,
+    segment: &[u8],
+) -> Wrong
     requires own { code ≡ code_of segment.now }
     requires some { code ≢ 0 }
     requires whole { prefix_length dbd.now.types (code_of segment.now) ≤ length segment.now }
@@ -100,12 +108,14 @@ fn judge_segment(places: &[Place], number: usize, dbd: &Dbd, code: u8, segment: 
     let before = number.saturating_sub(1);
     let forward = wrong_of(
         places,
+        directory,
         behind,
         layout.read(segment, Pointer::TwinForward),
         code,
     );
     let backward = wrong_of(
         places,
+        directory,
         before,
         layout.read(segment, Pointer::TwinBackward),
         code,
@@ -113,6 +123,7 @@ fn judge_segment(places: &[Place], number: usize, dbd: &Dbd, code: u8, segment: 
     let twins = wrong_or(forward, backward);
     judge_children(
         places,
+        directory,
         behind,
         dbd,
         code,
@@ -125,6 +136,7 @@ fn judge_segment(places: &[Place], number: usize, dbd: &Dbd, code: u8, segment: 
 /// What is wrong with the segment of a number, which stands at an address.
 pub fn segment_pointers_fault(
     places: &[Place],
+    directory: &Directory,
     number: usize,
     dbd: &Dbd,
     address: u32,
@@ -141,7 +153,10 @@ pub fn segment_pointers_fault(
     if delete_byte != 0 {
         return Some(Fault::at(Line::Deleted, address, u32::from(delete_byte)));
     }
-    pointer_fault(address, judge_segment(places, number, dbd, code, segment))
+    pointer_fault(
+        address,
+        judge_segment(places, directory, number, dbd, code, segment),
+    )
 }
 
 /// The fault of a record with which so much is wrong.
@@ -159,12 +174,20 @@ fn pointer_fault(address: u32, wrong: Wrong) -> Option<Fault>
 }
 
 /// What is wrong with the header's first and last root.
-pub fn root_pointers_fault(places: &[Place], first: u32, last: u32) -> Option<Fault>
+pub fn root_pointers_fault(
+    places: &[Place],
+    directory: &Directory,
+    first: u32,
+    last: u32,
+) -> Option<Fault>
     ensures none { (d : Database) (v : VolumeState) → ArePlaces d.types v places.now → IfRoots v first last (IfNone result (IsRecordRight d.types (links_of d.types v) 0)) }
     ensures some { (d : Database) (v : VolumeState) → ArePlaces d.types v places.now → IfRoots v first last (IfSome result (λ f. IsWrongRecord d.types (links_of d.types v) 0 f)) }
 {
     pointer_fault(
         0,
-        wrong_or(wrong_of(places, 0, first, 1), wrong_of(places, 0, last, 1)),
+        wrong_or(
+            wrong_of(places, directory, 0, first, 1),
+            wrong_of(places, directory, 0, last, 1),
+        ),
     )
 }

@@ -14,7 +14,7 @@ ghost use Rattle.hd_check_blocks.specs.Finding.{WhereNone, WhereSome};
 
 use crate::namings::{Naming, note_naming, note_pointers};
 use crate::record_pointers::{root_pointers_fault, segment_pointers_fault};
-use hd_check_blocks::{Fault, Place};
+use hd_check_blocks::{Directory, Fault, Place};
 use hd_dbd::{Dbd, Refused};
 use hd_volume::{BlockStore, Volume};
 
@@ -23,6 +23,7 @@ fn record_fault<S: BlockStore>(
     forwards: &mut Vec<u32>,
     namings: &mut Vec<Naming>,
     places: &[Place],
+    directory: &Directory,
     number: usize,
     volume: &mut Volume<S>,
     dbd: &Dbd,
@@ -38,7 +39,7 @@ fn record_fault<S: BlockStore>(
     ensures refusal { OnlyDeviceOrMemory result }
 {
     let segment = volume.segment_at(address)?;
-    let fault = segment_pointers_fault(places, number, dbd, address, segment);
+    let fault = segment_pointers_fault(places, directory, number, dbd, address, segment);
     note_pointers(forwards, namings, dbd, address, segment)?;
     Ok(fault)
 }
@@ -49,6 +50,7 @@ pub fn records_fault<S: BlockStore>(
     forwards: &mut Vec<u32>,
     namings: &mut Vec<Naming>,
     places: &[Place],
+    directory: &Directory,
     volume: &mut Volume<S>,
     dbd: &Dbd,
 ) -> Result<Option<Fault>, Refused>
@@ -63,7 +65,7 @@ pub fn records_fault<S: BlockStore>(
     ensures refusal { OnlyDeviceOrMemory result }
 {
     let first = volume.first_root();
-    let roots = root_pointers_fault(places, first, volume.last_root());
+    let roots = root_pointers_fault(places, directory, first, volume.last_root());
     if roots.is_some() {
         return Ok(roots);
     }
@@ -74,6 +76,7 @@ pub fn records_fault<S: BlockStore>(
             forwards,
             namings,
             places,
+            directory,
             number,
             volume,
             dbd,

@@ -15,7 +15,7 @@ ghost use Rattle.hd_check_blocks.specs.Finding.{WhereNone, WhereSome};
 
 use crate::namings::Naming;
 use crate::owners::stands_at;
-use hd_check_blocks::{Fault, Place, stored_key};
+use hd_check_blocks::{Directory, Fault, Place, stored_key};
 use hd_dbd::{Dbd, Refused};
 use hd_image::Line;
 use hd_volume::{BlockStore, Volume};
@@ -103,6 +103,7 @@ fn twin_order_fault<S: BlockStore>(
 /// What is wrong with the key of the segment of a number, whose predecessor is given.
 fn key_fault<S: BlockStore>(
     places: &[Place],
+    directory: &Directory,
     volume: &mut Volume<S>,
     dbd: &Dbd,
     number: usize,
@@ -120,7 +121,7 @@ fn key_fault<S: BlockStore>(
     if !is_keyed(dbd, place.code) {
         return Ok(None);
     }
-    if !stands_at(places, number, holder, place.code) {
+    if !stands_at(places, directory, number, holder, place.code) {
         return Ok(None);
     }
     twin_order_fault(volume, dbd, holder, place)
@@ -129,6 +130,7 @@ fn key_fault<S: BlockStore>(
 /// The first twin whose key is less than that of the twin before it, or equal where it is unique.
 pub fn twin_keys_fault<S: BlockStore>(
     places: &[Place],
+    directory: &Directory,
     namings: &[Naming],
     volume: &mut Volume<S>,
     dbd: &Dbd,
@@ -141,7 +143,14 @@ pub fn twin_keys_fault<S: BlockStore>(
     ensures refusal { OnlyDevice result }
 {
     for number in 0..places.len().min(namings.len()) {
-        let found = key_fault(places, volume, dbd, number, namings[number].holder)?;
+        let found = key_fault(
+            places,
+            directory,
+            volume,
+            dbd,
+            number,
+            namings[number].holder,
+        )?;
         if found.is_some() {
             return Ok(found);
         }

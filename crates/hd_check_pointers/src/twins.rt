@@ -18,7 +18,7 @@ ghost use Rattle.hd_check_blocks.specs.Finding.{WhereNone, WhereSome};
 
 use crate::namings::Naming;
 use crate::owners::{number_in, stands_at};
-use hd_check_blocks::{Fault, Place, number_of};
+use hd_check_blocks::{Directory, Fault, Place, number_of};
 use hd_dbd::{Dbd, Refused};
 use hd_image::Line;
 use hd_prefix::{Layout, Pointer};
@@ -33,11 +33,11 @@ fn pointer_in(dbd: &Dbd, code: u8, segment: &[u8], pointer: Pointer) -> u32
 }
 
 /// The twin before the segment of a number, by its predecessor; 0 where that is a parent.
-fn twin_before(places: &[Place], number: usize, holder: u32) -> u32
+fn twin_before(places: &[Place], directory: &Directory, number: usize, holder: u32) -> u32
     requires within { number < length places.now }
     ensures { TellsTwinBefore places.now number holder result }
 {
-    if stands_at(places, number, holder, places[number].code) {
+    if stands_at(places, directory, number, holder, places[number].code) {
         return holder;
     }
     0
@@ -46,6 +46,7 @@ fn twin_before(places: &[Place], number: usize, holder: u32) -> u32
 /// Twin backward of the segment of a number, where it is kept and is not the twin before it.
 fn wrong_backward(
     places: &[Place],
+    directory: &Directory,
     dbd: &Dbd,
     number: usize,
     holder: u32,
@@ -61,7 +62,7 @@ fn wrong_backward(
         return None;
     }
     let backward = pointer_in(dbd, code, segment, Pointer::TwinBackward);
-    if backward == twin_before(places, number, holder) {
+    if backward == twin_before(places, directory, number, holder) {
         return None;
     }
     Some(backward)
@@ -70,6 +71,7 @@ fn wrong_backward(
 /// Whether the last child of a type that a parent names is the last twin of the chain from the first.
 fn is_last_right(
     places: &[Place],
+    directory: &Directory,
     forwards: &[u32],
     owners: &[u32],
     parent: u32,
@@ -82,7 +84,7 @@ fn is_last_right(
     if first == 0 {
         return last == 0;
     }
-    match number_of(places, last) {
+    match number_of(places, directory, last) {
         None => false,
         Some(number) => { number_in(forwards, number) == 0 && number_in(owners, number) == parent }
     }
@@ -91,6 +93,7 @@ fn is_last_right(
 /// The last child of a type that the segment of a number names, where it is kept and wrong.
 fn wrong_child(
     places: &[Place],
+    directory: &Directory,
     forwards: &[u32],
     owners: &[u32],
     dbd: &Dbd,
@@ -109,7 +112,15 @@ fn wrong_child(
     let place = places[number];
     let first = pointer_in(dbd, place.code, segment, Pointer::FirstChild(child));
     let last = pointer_in(dbd, place.code, segment, Pointer::LastChild(child));
-    if is_last_right(places, forwards, owners, place.address, first, last) {
+    if is_last_right(
+        places,
+        directory,
+        forwards,
+        owners,
+        place.address,
+        first,
+        last,
+    ) {
         return None;
     }
     Some(last)
@@ -118,6 +129,7 @@ fn wrong_child(
 /// The last child that the segment of a number names, of the first type of which it is kept and wrong.
 fn wrong_last(
     places: &[Place],
+    directory: &Directory,
     forwards: &[u32],
     owners: &[u32],
     dbd: &Dbd,
@@ -131,7 +143,9 @@ fn wrong_last(
 {
     let types = dbd.children_of(places[number].code);
     for child in types {
-        let wrong = wrong_child(places, forwards, owners, dbd, number, segment, *child);
+        let wrong = wrong_child(
+            places, directory, forwards, owners, dbd, number, segment, *child,
+        );
         if wrong.is_some() {
             return wrong;
         }
@@ -142,6 +156,7 @@ fn wrong_last(
 /// What is wrong with twin backward and last child of the segment of a number, whose predecessor is given.
 fn twin_pointers_fault(
     places: &[Place],
+    directory: &Directory,
     forwards: &[u32],
     owners: &[u32],
     dbd: &Dbd,
@@ -157,10 +172,10 @@ fn twin_pointers_fault(
     if segment.len() < dbd.prefix_length(place.code) as usize {
         return None;
     }
-    if let Some(backward) = wrong_backward(places, dbd, number, holder, segment) {
+    if let Some(backward) = wrong_backward(places, directory, dbd, number, holder, segment) {
         return Some(Fault::at(Line::WrongBackward, place.address, backward));
     }
-    match wrong_last(places, forwards, owners, dbd, number, segment) {
+    match wrong_last(places, directory, forwards, owners, dbd, number, segment) {
         None => None,
         Some(last) => Some(Fault::at(Line::WrongLast, place.address, last)),
     }
@@ -169,6 +184,7 @@ fn twin_pointers_fault(
 /// What is wrong with the header's last root.
 fn last_root_fault(
     places: &[Place],
+    directory: &Directory,
     forwards: &[u32],
     owners: &[u32],
     first: u32,
@@ -177,7 +193,7 @@ fn last_root_fault(
     ensures none { (d : Database) (v : VolumeState) → IfChained d v places.now forwards.now owners.now (IfRoots v first last (IfNone result (AreTwinsRight d.types (links_of d.types v) 0))) }
     ensures some { (d : Database) (v : VolumeState) → IfChained d v places.now forwards.now owners.now (IfRoots v first last (IfSome result (λ f. AreTwinsWrong d.types (links_of d.types v) 0 f))) }
 {
-    if is_last_right(places, forwards, owners, 0, first, last) {
+    if is_last_right(places, directory, forwards, owners, 0, first, last) {
         return None;
     }
     Some(Fault::at(Line::WrongLast, 0, last))
@@ -186,6 +202,7 @@ fn last_root_fault(
 /// What is wrong with the segment of a number, which is read.
 fn twin_links_fault<S: BlockStore>(
     places: &[Place],
+    directory: &Directory,
     forwards: &[u32],
     owners: &[u32],
     volume: &mut Volume<S>,
@@ -204,12 +221,15 @@ fn twin_links_fault<S: BlockStore>(
     ensures refusal { OnlyDevice result }
 {
     let segment = volume.segment_at(places[number].address)?;
-    Ok(twin_pointers_fault(places, forwards, owners, dbd, number, holder, segment))
+    Ok(twin_pointers_fault(
+        places, directory, forwards, owners, dbd, number, holder, segment,
+    ))
 }
 
 /// What is wrong with twin backward and last child, which must agree with the chains of twins.
 pub fn twins_fault<S: BlockStore>(
     places: &[Place],
+    directory: &Directory,
     namings: &[Naming],
     owners: &[u32],
     forwards: &[u32],
@@ -227,6 +247,7 @@ pub fn twins_fault<S: BlockStore>(
 {
     let roots = last_root_fault(
         places,
+        directory,
         forwards,
         owners,
         volume.first_root(),
@@ -237,7 +258,9 @@ pub fn twins_fault<S: BlockStore>(
     }
     for number in 0..places.len().min(namings.len()) {
         let holder = namings[number].holder;
-        let found = twin_links_fault(places, forwards, owners, volume, dbd, number, holder)?;
+        let found = twin_links_fault(
+            places, directory, forwards, owners, volume, dbd, number, holder,
+        )?;
         if found.is_some() {
             return Ok(found);
         }

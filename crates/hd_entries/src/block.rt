@@ -95,7 +95,8 @@ impl<'b> IndexBlock<'b> {
         compare_keys(self.key(index), key).is_lt()
     }
 
-    /// How many of its first entries are below a key. The last is looked at first, for new keys often come behind all others.
+    /// How many of its first entries are below a key. The last two are looked at first: new keys often come behind all others, and the way to
+    /// them goes by the last.
     pub fn place_of(&self, key: &[u8]) -> usize
         ensures most { result ≤ entry_count self.now.key_length self.now.bytes.now }
         ensures value { IfInOrder self.now.key_length self.now.bytes.now (result ≡ below_count key.now (entries_in self.now.key_length self.now.bytes.now)) }
@@ -124,12 +125,12 @@ impl<'b> IndexBlock<'b> {
     }
 }
 
-/// Which of the entries from one to before another is looked at next: the last of all at first, else one in the middle.
+/// Which of the entries from one to before another is looked at next: the last two of all at first, else one in the middle.
 fn middle_of(low: usize, high: usize, count: usize) -> usize
     requires { low < high }
     ensures { (low ≤ result) × (result < high) }
 {
-    if high == count {
+    if high >= count.saturating_sub(1) {
         high - 1
     } else {
         low + (high - low) / 2

@@ -18,7 +18,7 @@ use crate::judge::{parent_on, twin_on};
 use crate::path::{LoadPath, Loaded};
 use hd_dbd::{Dbd, Refused};
 use hd_forest::link;
-use hd_index::{blocks_needed, insert, is_highest};
+use hd_index::{blocks_needed, growth, insert, is_highest};
 use hd_volume::{BlockStore, NO_SPACING, Volume};
 
 /// The key of a root, which is as long as the keys of the index.
@@ -40,8 +40,8 @@ fn root_size(dbd: &Dbd, bytes: &[u8]) -> u16
 }
 
 /// Whether a volume lacks room for one root more: its index may have no level more, or its segment needs a block where no hole is as
-/// large, and its entry in the index needs others. Where the entry needs all blocks that are to spare, a hole is all that is left for the
-/// segment, so nothing is kept free any more.
+/// large, and its entry in the index needs others; where there are as many blocks to spare as it may need, nobody counts them. Where the entry
+/// needs all blocks that are to spare, a hole is all that is left for the segment, so nothing is kept free any more.
 fn lacks_room<S: BlockStore>(
     volume: &mut Volume<S>,
     dbd: &Dbd,
@@ -59,6 +59,10 @@ fn lacks_room<S: BlockStore>(
         return Ok(true);
     }
     let spare = u64::from(volume.spare());
+    let most = u64::from(growth(volume));
+    if most + 1 <= spare {
+        return Ok(false);
+    }
     let entry = u64::from(blocks_needed(volume, dbd, root_key(dbd, bytes))?);
     if spare < entry {
         return Ok(true);

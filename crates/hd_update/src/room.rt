@@ -112,6 +112,10 @@ pub fn lacks_room<S: BlockStore>(
     }
     let leaves = volume.leaves_space();
     let spare = volume.spare();
+    let most = u64::from(growth(volume));
+    if most + u64::from(count) <= u64::from(spare) {
+        return Ok(false);
+    }
     let entry = blocks_needed(volume, dbd, key)?;
     if spare < entry {
         return Ok(true);

@@ -21,7 +21,7 @@ pointers_fault-requires g c = record {
       let w : VolumeState = c.image_fault.new.volume in
       let sound = was-sound c.in_ok-found.ensures.read now in
       let B : HasRightBlocks d v c.image_fault.new.places.items = from-none c.in_ok-found.found (sym c.is_some.ensures ∙ c.if-is_some.false) (c.in_ok-found.ensures.none sound c.types-types.ensures.fit) in
-      right-same v w (read-one c.in_ok-found.ensures.read sound) d c.deref.result.now (subst (λ (l : List Place). HasRightBlocks d v l) (sym c.deref.ensures.value) B);
+      right-same v w (read-one c.in_ok-found.ensures.read sound) d c.deref-2.result.now (subst (λ (l : List Place). HasRightBlocks d v l) (sym c.deref-2.ensures.value) B);
 }
 
 pub returns-then-is_some-2-clause-some : goal.returns-then-is_some-2-clause-some
@@ -36,7 +36,7 @@ index_fault-requires-clause-right g c = λ now.
     let read = reads-join (Ok c.in_ok-found-2.found) c.in_ok-found.ensures.read c.in_ok-found-2.ensures.read in
     let sound = was-sound read now in
     let B : HasRightBlocks d v c.image_fault.new.places.items = from-none c.in_ok-found.found (sym c.is_some.ensures ∙ c.if-is_some.false) (c.in_ok-found.ensures.none sound c.types-types.ensures.fit) in
-    right-same v w (read-one read sound) d c.deref-2.result.now (subst (λ (l : List Place). HasRightBlocks d v l) (sym c.deref-2.ensures.value) B)
+    right-same v w (read-one read sound) d c.deref-3.result.now (subst (λ (l : List Place). HasRightBlocks d v l) (sym c.deref-3.ensures.value) B)
 
 pub index_fault-requires-clause-before : goal.index_fault-requires-clause-before
 index_fault-requires-clause-before g c = λ now.

@@ -1,5 +1,6 @@
 -- A root needs no more than its own block and the growth of the index.
 use Rattle.std.proofs.Common.{◌≡◌, ◌+◌, ◌≤◌, ℕ, List, IsTrue, Ok, Bool, true, false, not, refl, ap, arith, inl, sym, subst, ◌∙◌}
+use Rattle.hd_dbd.specs.Rows.{key_of}
 use Rattle.hd_volume.specs.Volumes.{VolumeState}
 use Rattle.hd_volume.specs.Indexes.{root_key_length}
 use Rattle.hd_volume.specs.Rooms.{spare, HasHole}
@@ -12,6 +13,22 @@ use Rattle.hd_unload.specs.Steps.{row_of}
 use Rattle.hd_unload.proofs.RoomRule.{size-alone}
 use Rattle.hd_unload.proofs.OneVolume.{room-same, plain-call, plain-one, hole-serves}
 use Rattle.hd_unload.proofs.row.lacks_room.Goals as goal
+
+pub returns-then-most-spare-clause-room : goal.returns-then-most-spare-clause-room
+returns-then-most-spare-clause-room g c = λ sound room.
+    let d = c.args.dbd.now in
+    let v : VolumeState = c.args.volume.now in
+    let key_length : ℕ = root_key_length d.types in
+    let index = (c.requires.index sound).index in
+    let key : List ℕ = key_of d.types (row_of 1 c.args.bytes.now) in
+    let needed = needed-most key_length v key index in
+    let bound = c.growth.ensures d sound (c.requires.index sound) in
+    let own = c.spare.ensures sound in
+    let wide = c.from-spare.ensures in
+    let whole = c.from-most.ensures in
+    let test = c.if-most-spare.true in
+    let enough : 1 + blocks_needed key_length v key ≤ spare v = omega arith in
+    (c.is_highest.ensures.low sound (formatted-of key_length v index).header.first c.if-is_highest.false, inl enough)
 
 pub returns-then-spare-entry-clause-lacks : goal.returns-then-spare-entry-clause-lacks
 returns-then-spare-entry-clause-lacks g c = λ sound lacks.

@@ -1,5 +1,5 @@
 -- A path that begins with a root needs no more than a block for each row and the growth of the index.
-use Rattle.std.proofs.Common.{◌≡◌, ◌⊎◌, ◌≤◌, ℕ, IsTrue, Bool, true, false, not, refl, sym, ◌∙◌, arith, inl, inr}
+use Rattle.std.proofs.Common.{◌≡◌, ◌⊎◌, ◌+◌, ◌≤◌, ℕ, IsTrue, Bool, true, false, not, refl, sym, ◌∙◌, arith, inl, inr}
 use Rattle.hd_volume.specs.Indexes.{root_key_length}
 use Rattle.hd_volume.specs.Rooms.{spare}
 use Rattle.hd_volume.specs.Spacing.{IsPlain}
@@ -9,6 +9,19 @@ use Rattle.hd_index.specs.Places.{blocks_needed}
 use Rattle.hd_index.proofs.NeedLemmas.{needed-most}
 use Rattle.hd_update.proofs.room.lacks_room.Goals.{else-leaves-via-then-leaves+else-entry-gt0, else-leaves-via-else-leaves}
 use Rattle.hd_update.proofs.room.lacks_room.Goals as goal
+
+pub returns-then-most-spare-clause-room : goal.returns-then-most-spare-clause-room
+returns-then-most-spare-clause-room g c = λ sound room.
+    let v = c.args.volume.now in
+    let key_length : ℕ = root_key_length c.args.dbd.now.types in
+    let index = (c.requires.index sound).index in
+    let needed = needed-most key_length v c.args.key.now index in
+    let bound = c.growth.ensures c.args.dbd.now sound (c.requires.index sound) in
+    let own = c.spare-spare.ensures sound in
+    let whole = c.from-most.ensures in
+    let test = c.if-most-spare.true in
+    let enough : c.args.count + blocks_needed key_length v c.args.key.now ≤ spare v = omega arith in
+    (c.is_highest.ensures.low sound (formatted-of key_length v index).header.first c.if-is_highest.false, inl enough)
 
 pub returns-then-spare-entry-clause-lacks : goal.returns-then-spare-entry-clause-lacks
 returns-then-spare-entry-clause-lacks g c = λ sound lacks.

@@ -3,20 +3,20 @@ use Rattle.std.proofs.lemmas.Bool.{cases_lt, cases_eq}
 use Rattle.hd_check_blocks.specs.declared.places.Place.{Place}
 use Rattle.hd_check_blocks.proofs.Lookups.{number-of, in-order}
 use Rattle.hd_check_blocks.specs.Places.{place_at}
-use Rattle.hd_check_blocks.proofs.lookup.number_of.Goals as goal
+use Rattle.hd_check_blocks.proofs.lookup.number_from.Goals as goal
 
 pub returns-then-place-address-clause-some : goal.returns-then-place-address-clause-some
 returns-then-place-address-clause-some c =
     let most = c.loop-low.invariant.most in
-    let test = c.loop-low-test.true in (omega arith, c.if-place-address.true)
+    let within = c.middle_of-middle.ensures in (omega arith, c.if-place-address.true)
 
 pub loop-low-preserved-then-place-address-2 : goal.loop-low-preserved-then-place-address-2
 loop-low-preserved-then-place-address-2 c =
     let ps : List Place = c.args.places.now in
-    let middle : ℕ = c.loop-low.low + (c.loop-low.high - c.loop-low.low) / 2 in
+    let middle : ℕ = c.middle_of-middle.result in
+    let within = c.middle_of-middle.ensures in
     let i = c.loop-low.invariant in
     let most = i.most in
-    let test = c.loop-low-test.true in
     let less : (place_at ps middle).address < c.args.address = c.if-place-address-2.true in
     record {
       order = omega arith;
@@ -31,10 +31,10 @@ loop-low-preserved-then-place-address-2 c =
 pub loop-low-preserved : goal.loop-low-preserved
 loop-low-preserved c =
     let ps : List Place = c.args.places.now in
-    let middle : ℕ = c.loop-low.low + (c.loop-low.high - c.loop-low.low) / 2 in
+    let middle : ℕ = c.middle_of-middle.result in
+    let within = c.middle_of-middle.ensures in
     let i = c.loop-low.invariant in
     let most = i.most in
-    let test = c.loop-low-test.true in
     let more : c.args.address < (place_at ps middle).address = (let ne = c.if-place-address.false in let low = c.if-place-address-2.false in omega arith) in
     record {
       order = omega arith;

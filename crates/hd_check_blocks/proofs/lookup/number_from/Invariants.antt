@@ -1,7 +1,7 @@
 use Rattle.std.proofs.Common.{ℕ, ◌-◌, ◌<◌, ◌≤◌, length}
 use Rattle.hd_check_blocks.specs.Places.{PlacesAscend}
 use Rattle.hd_check_blocks.specs.Places.{place_at}
-use Rattle.hd_check_blocks.proofs.lookup.number_of.Given as goal
+use Rattle.hd_check_blocks.proofs.lookup.number_from.Given as goal
 
 -- what is before the middle part stands before the address, and what is behind it behind the address
 abbrev pub invariant-loop-low : goal.invariant-loop-low

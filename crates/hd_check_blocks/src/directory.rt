@@ -1,0 +1,62 @@
+//! Where to look first for an address in the table of places.
+ghost use Rattle.std.specs.Prelude.{◌≤◌};
+ghost use Rattle.hd_dbd.specs.Refusals.{OnlyMemory};
+
+use crate::places::Place;
+use hd_dbd::Refused;
+use std::alloc::Global;
+
+/// How many places there are for each stretch of a directory, about.
+const PLACES: usize = 4;
+
+/// For each stretch of the addresses, from address 0 on, the number of the first place in it or behind it.
+///
+/// It only says where to look first: nothing is concluded from what it says.
+#[derive(Drop)]
+pub struct Directory {
+    firsts: Vec<u32>,
+    shift: u32,
+    ghost bounded: { shift ≤ 31 },
+}
+
+/// The shift by which addresses up to one fall into about so many stretches.
+fn shift_for(last: u32, stretches: u32) -> u32
+    ensures { result ≤ 31 }
+{
+    let wide = last / stretches.max(1);
+    (32 - wide.leading_zeros()).min(31)
+}
+
+impl Directory {
+    /// The directory of a table of places.
+    pub fn of(alloc: Global, places: &[Place]) -> Result<Directory, Refused>
+        ensures refusal { OnlyMemory result }
+    {
+        let last = places.last().map_or(0, |place| place.address);
+        let stretches = (places.len() / PLACES).min(u32::MAX as usize) as u32;
+        let shift = shift_for(last, stretches);
+        let mut firsts = Vec::new(alloc);
+        for number in 0..places.len() {
+            let stretch = (places[number].address >> shift) as usize;
+            fill(&mut firsts, stretch, number)?;
+        }
+        Ok(Directory { firsts, shift })
+    }
+
+    /// The number at which to look first for an address.
+    pub fn near(&self, address: u32) -> usize {
+        let stretch = (address >> self.shift) as usize;
+        self.firsts.get(stretch).copied().unwrap_or(0) as usize
+    }
+}
+
+/// Notes a number as the first of a stretch and of all before it that have none.
+fn fill(firsts: &mut Vec<u32>, stretch: usize, number: usize) -> Result<(), Refused>
+    ensures refusal { OnlyMemory result }
+{
+    let first = number.min(u32::MAX as usize) as u32;
+    for _ in firsts.len()..stretch.saturating_add(1) {
+        firsts.push(first).map_err(|_| Refused::Memory)?;
+    }
+    Ok(())
+}
