@@ -128,6 +128,7 @@ leaf-put d v w row y x a segment fit of size sizes leaf put =
       rest = rest-put of.formatted size some put;
       count = (count-put of.formatted size some put).0;
       grows = (count-put of.formatted size some put).1;
+      by_one = put.by_one;
       spares = put.spares;
       in_hole = λ plain h. put.in_hole plain (subst (λ n. HasHole v n) (sym leaf.size) h);
       holes = λ n more h. subst (λ k. HasHole w (n - k)) leaf.size (put.holes n (less _ _ _ leaf.size more) h);

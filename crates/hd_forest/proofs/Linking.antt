@@ -147,7 +147,8 @@ module _ (d : Database) (u v w x : VolumeState) (h y behind a : ℕ) (row : Segm
             (graph-up d.types (length u.image) (length u.image + a + 1) m (omega arith) (records-link d u fit of)) f holds h y p (may a link-free) (omega arith) link-records).1;
         rest = rest-trans ofv.formatted same.rest (rest-trans put.volume.formatted put.rest done.keeps.rest);
         count = no-less _ _ _ _ same.count put.count done.keeps.count;
-        grows = no-more _ _ _ _ same.count put.grows done.keeps.count;
+        grows = no-more _ _ _ _ 2 same.count put.grows done.keeps.count;
+        by_one = λ plain. no-more _ _ _ _ 1 same.count (put.by_one (plain-on plain)) done.keeps.count;
         spares = one-less _ _ _ _ same.spares put.spares done.keeps.spares;
         in_hole = λ plain hole. done.keeps.spares ∙ put.in_hole (plain-on plain) (same.holes _ hole) ∙ same.spares;
         holes = λ n more hole. done.keeps.holes _ (put.holes n more (same.holes n hole));
@@ -156,8 +157,8 @@ module _ (d : Database) (u v w x : VolumeState) (h y behind a : ℕ) (row : Segm
       no-less : (a b c d : ℕ) → b ≡ a → b ≤ c → d ≡ c → a ≤ d
       no-less a b c d e f g = omega arith
 
-      no-more : (a b c d : ℕ) → b ≡ a → c ≤ b + 2 → d ≡ c → d ≤ a + 2
-      no-more a b c d e f g = omega arith
+      no-more : (a b c d n : ℕ) → b ≡ a → c ≤ b + n → d ≡ c → d ≤ a + n
+      no-more a b c d n e f g = omega arith
 
       one-less : (a b c d : ℕ) → b ≡ a → b ≤ c + 1 → d ≡ c → a ≤ d + 1
       one-less a b c d e f g = omega arith

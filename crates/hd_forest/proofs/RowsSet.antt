@@ -57,6 +57,7 @@ room-between d u v w x a to need fv fw plain-on before same r behind =
       rest = rest-trans fv before.rest (rest-trans fw r.rest behind.rest);
       count = omega arith;
       grows = omega arith;
+      by_one = λ plain. (let o = r.by_one (plain-on plain) in omega arith);
       spares = omega arith;
       in_hole = λ plain hole. f ∙ r.in_hole (plain-on plain) (before.holes need hole) ∙ e;
       holes = λ n more hole. behind.holes _ (r.holes n more (before.holes n hole));

@@ -153,6 +153,7 @@ segment-set d v w a to row segment fit of size sizes there code with r =
         rest = rest-rewritten of.formatted size some r;
         count = (count-rewritten of.formatted size some r).0;
         grows = (count-rewritten of.formatted size some r).1;
+        by_one = r.by_one;
         spares = r.spares;
         in_hole = λ plain hole. r.in_hole plain (subst (HasHole v) (sym need) hole);
         holes = λ n more hole. subst (λ (k : ℕ). HasHole w (n - k)) need (r.holes n (omega (arith, need)) hole);

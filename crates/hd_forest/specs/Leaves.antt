@@ -7,6 +7,7 @@ use Rattle.hd_dbd.specs.Prefixes.{is_backward_kept, size_with}
 use Rattle.hd_volume.specs.Headers.{header_of}
 use Rattle.hd_volume.specs.Volumes.{VolumeState}
 use Rattle.hd_volume.specs.Spacing.{IsPlain}
+use Rattle.hd_volume.specs.Calls.{GrowsByOne}
 use Rattle.hd_volume.specs.Rooms.{spare, HasHole}
 use Rattle.hd_prefix.specs.declared.pointer.Pointer.TheVariants.{TwinForward, TwinBackward, FirstChild, LastChild}
 use Rattle.hd_prefix.specs.Fields.{code_of, delete_byte_of, pointer_of, bytes_of}
@@ -37,6 +38,7 @@ pub record IsLeafPut (d : Database) (old : VolumeState) (row : Segment) (y x a :
   pub rest : KeepsTheRest old new
   pub count : (header_of old.image).count ≤ (header_of new.image).count
   pub grows : (header_of new.image).count ≤ (header_of old.image).count + 2
+  pub by_one : GrowsByOne old new
   pub spares : spare old ≤ spare new + 1
   pub in_hole : IsPlain old → HasHole old (size_with d.types row.code (length row.bytes)) → spare new ≡ spare old
   pub holes : (n : ℕ) → size_with d.types row.code (length row.bytes) < n → HasHole old n → HasHole new (n - size_with d.types row.code (length row.bytes))

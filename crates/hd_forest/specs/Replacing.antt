@@ -9,7 +9,7 @@ use Rattle.hd_volume.specs.Headers.{header_of}
 use Rattle.hd_volume.specs.Volumes.{VolumeState}
 use Rattle.hd_volume.specs.Spacing.{IsPlain}
 use Rattle.hd_volume.specs.Rooms.{spare, HasHole}
-use Rattle.hd_volume.specs.Calls.{KeepsHoles}
+use Rattle.hd_volume.specs.Calls.{KeepsHoles, GrowsByOne}
 use Rattle.hd_prefix.specs.Fields.{code_of, bytes_of}
 use Rattle.hd_links.specs.Links.{Links}
 use Rattle.hd_links.specs.Placed.{Placed, Holds}
@@ -56,6 +56,7 @@ pub record IsRoomTaken (d : Database) (old : VolumeState) (a to need : ℕ) (new
   pub rest : KeepsTheRest old new
   pub count : (header_of old.image).count ≤ (header_of new.image).count
   pub grows : (header_of new.image).count ≤ (header_of old.image).count + 2
+  pub by_one : GrowsByOne old new
   pub spares : spare old ≤ spare new + 1
   pub in_hole : IsPlain old → HasHole old need → spare new ≡ spare old
   pub holes : (n : ℕ) → need < n → HasHole old n → HasHole new (n - need)

@@ -9,7 +9,7 @@ use Rattle.hd_volume.specs.Headers.{header_of}
 use Rattle.hd_volume.specs.Volumes.{VolumeState, IsKind, HasKinds}
 use Rattle.hd_volume.specs.Spacing.{IsPlain}
 use Rattle.hd_volume.specs.Rooms.{spare, HasHole}
-use Rattle.hd_volume.specs.Calls.{KeepsIndex, KeepsHoles}
+use Rattle.hd_volume.specs.Calls.{KeepsIndex, KeepsHoles, GrowsByOne}
 use Rattle.hd_links.specs.Links.{Links}
 use Rattle.hd_links.specs.Placed.{Placed, Holds}
 use Rattle.hd_links.specs.Changes.{Agree, linked, unlinked, with_leaf, without_span, CanLink, CanUnlink}
@@ -42,6 +42,7 @@ pub record IsLinked (d : Database) (old : VolumeState) (h y : ℕ) (row : Segmen
   pub rest : KeepsTheRest old new
   pub count : (header_of old.image).count ≤ (header_of new.image).count
   pub grows : (header_of new.image).count ≤ (header_of old.image).count + 2
+  pub by_one : GrowsByOne old new
   pub spares : spare old ≤ spare new + 1
   pub in_hole : IsPlain old → HasHole old (size_with d.types row.code (length row.bytes)) → spare new ≡ spare old
   pub holes : (n : ℕ) → size_with d.types row.code (length row.bytes) < n → HasHole old n → HasHole new (n - size_with d.types row.code (length row.bytes))
