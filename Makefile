@@ -1,9 +1,9 @@
 # `make` proves hd and leaves it at bin/hd; `make run` plays the sample deck; `make try` plays it unproved, in under a
-# minute; `make test` is the gate; `make examples` plays what the documents and examples show, and compares, and so the
-# words of FORMATS; `make bench` measures hd, and SQLite beside it; `make dli` makes hdrun, which runs programs that call
-# DL/I, and `make dli-test` tries it; `make install` puts the program and its manual pages below PREFIX, `make install-dli`
-# what programs want, and `make uninstall` takes them away.
-.PHONY: all run try test examples bench dli dli-test install uninstall install-dli clean
+# minute; `make test` is the gate, and `make edits` tries more edits than that; `make examples` plays what the documents and
+# examples show, and compares, and so the words of FORMATS; `make bench` measures hd, and SQLite beside it; `make dli` makes
+# hdrun, which runs programs that call DL/I, and `make dli-test` tries it; `make install` puts the program and its manual
+# pages below PREFIX, `make install-dli` what programs want, and `make uninstall` takes them away.
+.PHONY: all run try test edits examples bench dli dli-test install uninstall install-dli clean
 
 all: bin/hd
 
@@ -27,6 +27,15 @@ try:
 
 test:
 	rt ci
+
+# the gate tries the edits of must-fail; here those of must-fail/more join them, in a copy. OF=hd_lines tries those of one
+# crate alone
+edits:
+	rm -rf bin/edits
+	mkdir -p bin/edits
+	git ls-files -z | xargs -0 cp --parents -t bin/edits
+	for more in bin/edits/crates/*/must-fail/more; do mv $$more/*.edit $$more/..; done
+	cd bin/edits && rt must-fail $(OF)
 
 examples: bin/hd
 	python3 examples/words.py
