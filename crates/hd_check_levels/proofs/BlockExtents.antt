@@ -93,6 +93,32 @@ extent-both k x y es fs least greatest low high ex ey = record {
       ∙ cond-less k key x.least y.least less ∙ ap (λ (t : List ℕ). key_less key (take k t)) (sym low));
 }
 
+-- an extent is told by its keys alone
+extent-same : (k : ℕ) (x z : Extent) (es : List Entry) → take k z.least ≡ take k x.least → take k z.greatest ≡ take k x.greatest → IsExtent k x es → IsExtent k z es
+extent-same k x z es least greatest h = record {
+  greatest = λ key. h.greatest key ∙ ap (λ (t : List ℕ). not (key_less key t)) (sym greatest);
+  least = λ key. h.least key ∙ ap (λ (t : List ℕ). key_less key t) (sym least);
+}
+
+take-cond : (k : ℕ) (b : Bool) (one other : List ℕ) → cond b (take k one) (take k other) ≡ take k (cond b one other)
+take-cond k true one other = refl
+take-cond k false one other = refl
+
+-- of a part and one more, or of that alone
+pub extent-wider : (k : ℕ) (x y z : Extent) (es fs : List Entry) (least greatest : List ℕ) (first : Bool) → take k y.least ≡ least → take k y.greatest ≡ greatest
+    → take k z.least ≡ cond first least (cond (key_less (take k x.least) least) (take k x.least) least)
+    → take k z.greatest ≡ cond first greatest (cond (key_less (take k x.greatest) greatest) greatest (take k x.greatest))
+    → (first ≡ true → es ≡ []) → (first ≡ false → IsExtent k x es) → IsExtent k y fs → IsExtent k z (es ++ fs)
+extent-wider k x y z es fs least greatest true own_least own_greatest low high none some more =
+    subst (λ (t : List Entry). IsExtent k z (t ++ fs)) (sym (none refl)) (extent-same k y z fs (low ∙ sym own_least) (high ∙ sym own_greatest) more)
+extent-wider k x y z es fs least greatest false own_least own_greatest low high none some more =
+    let below : Bool = key_less (take k x.least) (take k y.least) in
+    let above : Bool = key_less (take k x.greatest) (take k y.greatest) in
+    let both : Extent = record { least = cond below x.least y.least; greatest = cond above y.greatest x.greatest } in
+    let l : take k z.least ≡ take k both.least = low ∙ ap (λ (t : List ℕ). cond (key_less (take k x.least) t) (take k x.least) t) (sym own_least) ∙ take-cond k below x.least y.least in
+    let g : take k z.greatest ≡ take k both.greatest = high ∙ ap (λ (t : List ℕ). cond (key_less (take k x.greatest) t) t (take k x.greatest)) (sym own_greatest) ∙ take-cond k above y.greatest x.greatest in
+    extent-same k both z (es ++ fs) l g (extent-both k x y es fs both.least both.greatest refl refl (some refl) more)
+
 -- ---- the extents of blocks
 
 -- there is one for each

@@ -17,56 +17,54 @@ pub struct Extent {
     pub greatest: [u8; 255],
 }
 
-/// The extent of one entry with a key.
-fn extent_of_key(key: &[u8]) -> Extent
+/// Puts a key at the front of a place; what stands behind it stays.
+fn put_key(place: &mut [u8; 255], key: &[u8])
     requires short { length key.now ≤ 255 }
-    ensures least { take (length key.now) result.least ≡ key.now }
-    ensures greatest { take (length key.now) result.greatest ≡ key.now }
+    ensures { take (length key.now) place.new ≡ key.now }
 {
-    let mut front = [0; 255];
-    front[..key.len()].copy_from_slice(key);
-    Extent {
-        least: front,
-        greatest: front,
+    place[..key.len()].copy_from_slice(key);
+}
+
+/// Puts a key in a place where it is the first, or is not above the one at the front.
+fn lessen(place: &mut [u8; 255], key: &[u8], is_first: bool)
+    requires short { length key.now ≤ 255 }
+    ensures { take (length key.now) place.new ≡ cond is_first key.now (cond (key_less (take (length key.now) place.old) key.now) (take (length key.now) place.old) key.now) }
+{
+    if is_first {
+        put_key(place, key);
+        return;
+    }
+    if compare_keys(&place[..key.len()], key).is_lt() {
+        return;
+    }
+    put_key(place, key);
+}
+
+/// Puts a key in a place where it is the first, or is above the one at the front.
+fn raise(place: &mut [u8; 255], key: &[u8], is_first: bool)
+    requires short { length key.now ≤ 255 }
+    ensures { take (length key.now) place.new ≡ cond is_first key.now (cond (key_less (take (length key.now) place.old) key.now) key.now (take (length key.now) place.old)) }
+{
+    if is_first {
+        put_key(place, key);
+        return;
+    }
+    if compare_keys(&place[..key.len()], key).is_lt() {
+        put_key(place, key);
     }
 }
 
-/// The lesser of two keys, each at the front.
-fn lesser_key(one: &[u8; 255], other: &[u8; 255], key_length: usize) -> [u8; 255]
+/// Widens the extent of so many entries or blocks by that of one more, whose least and greatest key are these.
+fn widen(count: usize, extent: &mut Extent, least: &[u8], greatest: &[u8], key_length: usize)
     requires short { key_length ≤ 255 }
-    ensures { result ≡ cond (key_less (take key_length one.now) (take key_length other.now)) one.now other.now }
+    requires whole { (length least.now ≡ key_length) × (length greatest.now ≡ key_length) }
+    ensures { (es fs : List Entry) (more : Extent) → take key_length more.least ≡ least.now → take key_length more.greatest ≡ greatest.now
+        → (count ≡ 0 → es ≡ []) → (0 < count → IsExtent key_length extent.old es) → IsExtent key_length more fs → IsExtent key_length extent.new (es ++ fs) }
 {
-    if compare_keys(&one[..key_length], &other[..key_length]).is_lt() {
-        *one
-    } else {
-        *other
-    }
-}
-
-/// The greater of two keys, each at the front.
-fn greater_key(one: &[u8; 255], other: &[u8; 255], key_length: usize) -> [u8; 255]
-    requires short { key_length ≤ 255 }
-    ensures { result ≡ cond (key_less (take key_length one.now) (take key_length other.now)) other.now one.now }
-{
-    if compare_keys(&one[..key_length], &other[..key_length]).is_lt() {
-        *other
-    } else {
-        *one
-    }
-}
-
-/// The extent of so many entries or blocks and one more.
-fn extent_with(count: usize, extent: &Extent, more: &Extent, key_length: usize) -> Extent
-    requires short { key_length ≤ 255 }
-    ensures { (es fs : List Entry) → (count ≡ 0 → es ≡ []) → (0 < count → IsExtent key_length extent.now es) → IsExtent key_length more.now fs → IsExtent key_length result (es ++ fs) }
-{
-    if count == 0 {
-        return *more;
-    }
-    Extent {
-        least: lesser_key(&extent.least, &more.least, key_length),
-        greatest: greater_key(&extent.greatest, &more.greatest, key_length),
-    }
+    let _ = key_length;
+    let is_first = count == 0;
+    lessen(&mut extent.least, least, is_first);
+    raise(&mut extent.greatest, greatest, is_first);
 }
 
 /// The extent of a block's own entries.
@@ -75,8 +73,8 @@ fn extent_of_entries(block: &IndexBlock) -> Extent
 {
     let mut extent = no_extent();
     for index in 0..block.count() {
-        let more = extent_of_key(block.key(index));
-        extent = extent_with(index, &extent, &more, block.key_length);
+        let key = block.key(index);
+        widen(index, &mut extent, key, key, block.key_length);
     }
     extent
 }
@@ -88,8 +86,14 @@ fn extent_of_blocks(blocks: &[Extent], key_length: usize) -> Extent
 {
     let mut extent = no_extent();
     for index in 0..blocks.len() {
-        let more = blocks[index];
-        extent = extent_with(index, &extent, &more, key_length);
+        let more = &blocks[index];
+        widen(
+            index,
+            &mut extent,
+            &more.least[..key_length],
+            &more.greatest[..key_length],
+            key_length,
+        );
     }
     extent
 }

@@ -1,4 +1,4 @@
-use Rattle.std.proofs.Common.{◌≡◌, ◌+◌, ◌++◌, ◌∷◌, [], ℕ, List, length, take, slice_index, sym, ap, subst, ◌∙◌, arith}
+use Rattle.std.proofs.Common.{◌≡◌, ◌+◌, ◌++◌, ◌∷◌, [], ℕ, List, length, take, slice_index, refl, sym, ap, subst, ◌∙◌, arith}
 use Rattle.std.proofs.lemmas.List.{take_more, take_all}
 use Rattle.hd_volume.specs.Entries.{Entry}
 use Rattle.hd_levels.specs.Levels.{entries_below}
@@ -17,9 +17,9 @@ loop-index-preserved c = record {
       let len = extents-length k b l ns c.args.blocks.now h in
       let more : take (i + 1) ns ≡ take i ns ++ (n ∷ []) = take_more ns i 0 (omega arith) in
       let both : entries_below b l (take (i + 1) ns) ≡ entries_below b l (take i ns) ++ entries_below b l (n ∷ []) = ap (entries_below b l) more ∙ entries-append b l (take i ns) (n ∷ []) in
-      let E : List Entry → Type 0 = λ t. IsExtent k c.extent_with-extent.result t in
+      let E : List Entry → Type 0 = λ t. IsExtent k c.widen.new.extent t in
       subst E (sym both)
-      (c.extent_with-extent.ensures (entries_below b l (take i ns)) (entries_below b l (n ∷ []))
+      (c.widen.ensures (entries_below b l (take i ns)) (entries_below b l (n ∷ [])) _ refl refl
       (λ z. ap (λ (j : ℕ). entries_below b l (take j ns)) z ∙ entries-none b l) (c.loop-index.invariant.extent b l ns h) (extents-at k b l ns c.args.blocks.now i _ h less)));
 }
 

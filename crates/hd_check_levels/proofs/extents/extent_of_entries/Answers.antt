@@ -1,8 +1,10 @@
-use Rattle.std.proofs.Common.{◌≡◌, ◌∷◌, [], ℕ, List, take, sym, ap, subst, ◌∙◌, arith}
+use Rattle.std.proofs.Common.{◌≡◌, ◌∷◌, [], ℕ, List, length, take, sym, ap, subst, ◌∙◌, arith}
+use Rattle.std.proofs.lemmas.List.{take_all}
 use Rattle.hd_bytes.specs.Numbers.{number_at}
 use Rattle.hd_volume.specs.Entries.{Entry, entries_at}
 use Rattle.hd_entries.specs.Fields.{entry_in}
 use Rattle.hd_entries.proofs.EntryLemmas.{entries-more}
+use Rattle.hd_check_levels.specs.declared.extents.Extent.{Extent}
 use Rattle.hd_check_levels.specs.Extents.{IsExtent}
 use Rattle.hd_check_levels.proofs.BlockExtents.{extent-one}
 use Rattle.hd_check_levels.proofs.extents.extent_of_entries.Goals as goal
@@ -14,14 +16,14 @@ loop-index-preserved c =
     let n : ℕ = c.loop-index.index in
     let es : List Entry = entries_at k b 12 n in
     let e : Entry = entry_in k b n in
-    let key = c.key.ensures.value in
-    let len = c.key.ensures.len in
-    let least : take k c.extent_of_key-more.result.least ≡ e.key = ap (λ (i : ℕ). take i c.extent_of_key-more.result.least) (sym len) ∙ c.extent_of_key-more.ensures.least ∙ key in
-    let greatest : take k c.extent_of_key-more.result.greatest ≡ e.key = ap (λ (i : ℕ). take i c.extent_of_key-more.result.greatest) (sym len) ∙ c.extent_of_key-more.ensures.greatest ∙ key in
-    let own = extent-one k c.extent_of_key-more.result e least greatest in
-    let E : List Entry → Type 0 = λ t. IsExtent k c.extent_with-extent.result t in
+    let key : List ℕ = c.key-key.result.now in
+    let len : length key ≡ k = c.key-key.ensures.len in
+    let x : Extent = record { least = key; greatest = key } in
+    let is : take k key ≡ e.key = ap (λ (i : ℕ). take i key) (sym len) ∙ take_all (length key) key (omega arith) ∙ c.key-key.ensures.value in
+    let own : take k key ≡ key = is ∙ sym c.key-key.ensures.value in
+    let E : List Entry → Type 0 = λ t. IsExtent k c.widen.new.extent t in
     record {
-      extent = λ some. subst E (sym (entries-more k b 12 n)) (c.extent_with-extent.ensures es (e ∷ []) (λ z. ap (entries_at k b 12) z) c.loop-index.invariant.extent own);
+      extent = λ some. subst E (sym (entries-more k b 12 n)) (c.widen.ensures es (e ∷ []) x own own (λ z. ap (entries_at k b 12) z) c.loop-index.invariant.extent (extent-one k x e is is));
     }
 
 pub returns : goal.returns
