@@ -1,14 +1,15 @@
 -- Keys of twins that are compared.
-use Rattle.std.specs.Prelude.{◌≡◌, ℕ, List, Bool, true, false, is_some}
+use Rattle.std.specs.Prelude.{◌≡◌, ◌≢◌, ℕ, List, Bool, true, false, is_some, take}
 use Rattle.std.specs.Option.{option_map_or}
 use Rattle.hd_dbd.specs.Types.{SegmentType}
 use Rattle.hd_dbd.specs.Hierarchy.{type_of}
-use Rattle.hd_dbd.specs.Rows.{twins_in_order}
+use Rattle.hd_dbd.specs.Rows.{key_of, twins_in_order}
 use Rattle.hd_links.specs.Links.{Links, segment_at}
 use Rattle.hd_image.specs.declared.line.Line.TheVariants.{OutOfOrder}
 use Rattle.hd_check_blocks.specs.declared.fault.Fault.{Fault}
 use Rattle.hd_links.specs.Pointers.{IsTwinBefore}
 use Rattle.hd_image.specs.PointerFaults.{IsOutOfOrder}
+use Rattle.hd_check_pointers.specs.declared.last_key.LastKey.{LastKey}
 
 -- the segments of the type of a code have a key
 abbrev pub is_keyed : List SegmentType → ℕ → Bool
@@ -29,3 +30,7 @@ IsOrderFault types m a before f = (f ≡ order_fault a before) × (twins_in_orde
 -- the fault is that of a key out of order, and the key of the segment behind this predecessor is
 abbrev pub IsKeyWrong : List SegmentType → Links → ℕ → ℕ → Fault → Type 0
 IsKeyWrong types m a holder f = (f ≡ order_fault a holder) × IsOutOfOrder types m a holder
+
+-- What was read last is the key of the segment at its address, unless that is 0.
+abbrev pub IsLastKey : List SegmentType → Links → LastKey → Type 0
+IsLastKey types m last = last.address ≢ 0 → take last.length last.key ≡ key_of types (segment_at m last.address)

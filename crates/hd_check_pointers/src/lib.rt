@@ -2,6 +2,7 @@
 //! order of twins (6), and which segments are reached (7).
 #![tactic(auto)]
 
+mod last_key;
 mod namings;
 mod owners;
 mod predecessors;

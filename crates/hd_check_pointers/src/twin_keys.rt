@@ -1,5 +1,5 @@
 //! Phase 6: the keys of twins are in order.
-ghost use Rattle.std.specs.Prelude.{◌≡◌, ◌≤◌, ◌<◌, length, take, true, IsTrue, IfOk};
+ghost use Rattle.std.specs.Prelude.{◌≡◌, ◌≤◌, ◌<◌, length, take, true, IsTrue, IfOk, OnOk};
 ghost use Rattle.hd_dbd.specs.Refusals.{OnlyDevice};
 ghost use Rattle.hd_dbd.specs.Rows.{key_of, keys_in_order, twins_in_order};
 ghost use Rattle.hd_volume.specs.Calls.{IsRead};
@@ -10,28 +10,16 @@ ghost use Rattle.hd_image.specs.PointerFaults.{IsOutOfOrder};
 ghost use Rattle.hd_check_blocks.specs.Phases.{IsLeastOf};
 ghost use Rattle.hd_check_pointers.specs.Tables.{place_at, ArePredecessors};
 ghost use Rattle.hd_check_pointers.specs.Matched.{IsMatched};
-ghost use Rattle.hd_check_pointers.specs.Keys.{is_keyed, IsKeyRight, order_fault, IsOrderFault, IsKeyWrong};
+ghost use Rattle.hd_check_pointers.specs.Keys.{is_keyed, IsLastKey, IsKeyRight, order_fault, IsOrderFault, IsKeyWrong};
 ghost use Rattle.hd_check_blocks.specs.Finding.{WhereNone, WhereSome};
 
+use crate::last_key::{LastKey, keep_key, no_key};
 use crate::namings::Naming;
 use crate::owners::stands_at;
 use hd_check_blocks::{Directory, Fault, Place, stored_key};
 use hd_dbd::{Dbd, Refused};
 use hd_image::Line;
 use hd_volume::{BlockStore, Volume};
-
-/// The most bytes that a key has.
-const LONGEST_KEY: usize = 255;
-
-/// Copies a key, as far as there is room for it, and answers its length.
-fn copy_key(room: &mut [u8; LONGEST_KEY], key: &[u8]) -> usize
-    ensures bound { result ≤ 255 }
-    ensures key { length key.now ≤ 255 → take result room.new ≡ key.now }
-{
-    let count = key.len().min(LONGEST_KEY);
-    room[..count].copy_from_slice(&key[..count]);
-    count
-}
 
 /// Whether the segments of a type have a key.
 fn is_keyed(dbd: &Dbd, code: u8) -> bool
@@ -40,45 +28,53 @@ fn is_keyed(dbd: &Dbd, code: u8) -> bool
     dbd.type_of(code).is_some_and(|kind| kind.key.is_some())
 }
 
-/// Copies the key of the segment at an address out of its block, and answers its length.
-fn copy_key_at<S: BlockStore>(
-    room: &mut [u8; LONGEST_KEY],
+/// Reads the key of the segment at an address, unless it was read last.
+fn read_key<S: BlockStore>(
+    last: &mut LastKey,
     volume: &mut Volume<S>,
     dbd: &Dbd,
     address: u32,
     code: u8,
-) -> Result<usize, Refused>
+) -> Result<(), Refused>
     requires of { IsTrue volume.old.is_sound → IsVolumeOf dbd.now volume.old }
     requires there { IsTrue volume.old.is_sound → IsSegment (links_of dbd.now.types volume.old) address × ((links_of dbd.now.types volume.old).code address ≡ code) }
+    requires known { IsTrue volume.old.is_sound → IsLastKey dbd.now.types (links_of dbd.now.types volume.old) last.old }
     ensures read { IsRead volume.old result volume.new }
-    ensures bound { IfOk result (λ n. n ≤ 255) }
-    ensures key { IfOk result (λ n. IsTrue volume.old.is_sound → take n room.new ≡ key_of dbd.now.types (segment_at (links_of dbd.now.types volume.old) address)) }
+    ensures key { OnOk result (IsTrue volume.old.is_sound → take last.new.length last.new.key ≡ key_of dbd.now.types (segment_at (links_of dbd.now.types volume.old) address)) }
     ensures refusal { OnlyDevice result }
 {
+    if last.address == address {
+        return Ok(());
+    }
     let segment = volume.segment_at(address)?;
-    Ok(copy_key(room, stored_key(dbd, code, segment)))
+    keep_key(last, address, stored_key(dbd, code, segment));
+    Ok(())
 }
 
-/// Whether the key of the segment at an address may come behind another.
-fn is_in_order_at<S: BlockStore>(
+/// Whether the key of a segment may come behind the last, whose place it takes.
+fn is_in_order<S: BlockStore>(
+    last: &mut LastKey,
     volume: &mut Volume<S>,
     dbd: &Dbd,
-    address: u32,
-    code: u8,
-    before: &[u8],
+    place: Place,
 ) -> Result<bool, Refused>
     requires of { IsTrue volume.old.is_sound → IsVolumeOf dbd.now volume.old }
-    requires there { IsTrue volume.old.is_sound → IsSegment (links_of dbd.now.types volume.old) address × ((links_of dbd.now.types volume.old).code address ≡ code) }
+    requires there { IsTrue volume.old.is_sound → IsSegment (links_of dbd.now.types volume.old) place.address × ((links_of dbd.now.types volume.old).code place.address ≡ place.code) }
     ensures read { IsRead volume.old result volume.new }
-    ensures right { IfOk result (λ b. IsTrue volume.old.is_sound → b ≡ keys_in_order dbd.now.types code before.now (key_of dbd.now.types (segment_at (links_of dbd.now.types volume.old) address))) }
+    ensures right { IfOk result (λ b. IsTrue volume.old.is_sound → b ≡ keys_in_order dbd.now.types place.code (take last.old.length last.old.key) (key_of dbd.now.types (segment_at (links_of dbd.now.types volume.old) place.address))) }
+    ensures known { OnOk result (IsTrue volume.old.is_sound → IsLastKey dbd.now.types (links_of dbd.now.types volume.old) last.new) }
     ensures refusal { OnlyDevice result }
 {
-    let segment = volume.segment_at(address)?;
-    Ok(dbd.keys_in_order(code, before, stored_key(dbd, code, segment)))
+    let segment = volume.segment_at(place.address)?;
+    let key = stored_key(dbd, place.code, segment);
+    let is_right = dbd.keys_in_order(place.code, &last.key[..last.length], key);
+    keep_key(last, place.address, key);
+    Ok(is_right)
 }
 
-/// What is wrong with the key of a segment behind the twin before it.
+/// What is wrong with the key of a segment behind the twin before it. Where nothing is, it is the last.
 fn twin_order_fault<S: BlockStore>(
+    last: &mut LastKey,
     volume: &mut Volume<S>,
     dbd: &Dbd,
     holder: u32,
@@ -87,21 +83,24 @@ fn twin_order_fault<S: BlockStore>(
     requires of { IsTrue volume.old.is_sound → IsVolumeOf dbd.now volume.old }
     requires before { IsTrue volume.old.is_sound → IsSegment (links_of dbd.now.types volume.old) holder × ((links_of dbd.now.types volume.old).code holder ≡ place.code) }
     requires there { IsTrue volume.old.is_sound → IsSegment (links_of dbd.now.types volume.old) place.address × ((links_of dbd.now.types volume.old).code place.address ≡ place.code) }
+    requires known { IsTrue volume.old.is_sound → IsLastKey dbd.now.types (links_of dbd.now.types volume.old) last.old }
     ensures read { IsRead volume.old result volume.new }
     ensures none { let m = links_of dbd.now.types volume.old in WhereNone volume.old result (twins_in_order dbd.now.types (segment_at m holder) (segment_at m place.address) ≡ true) }
     ensures some { WhereSome volume.old result (λ f. IsOrderFault dbd.now.types (links_of dbd.now.types volume.old) place.address holder f) }
+    ensures known { WhereNone volume.old result (IsLastKey dbd.now.types (links_of dbd.now.types volume.old) last.new) }
     ensures refusal { OnlyDevice result }
 {
-    let mut room = [0; LONGEST_KEY];
-    let count = copy_key_at(&mut room, volume, dbd, holder, place.code)?;
-    if is_in_order_at(volume, dbd, place.address, place.code, &room[..count])? {
+    read_key(last, volume, dbd, holder, place.code)?;
+    if is_in_order(last, volume, dbd, place)? {
         return Ok(None);
     }
     Ok(Some(Fault::at(Line::OutOfOrder, place.address, holder)))
 }
 
-/// What is wrong with the key of the segment of a number, whose predecessor is given.
+/// What is wrong with the key of the segment of a number, whose predecessor is given. The key that was read last spares an access where it is
+/// that of the twin before.
 fn key_fault<S: BlockStore>(
+    last: &mut LastKey,
     places: &[Place],
     directory: &Directory,
     volume: &mut Volume<S>,
@@ -112,7 +111,9 @@ fn key_fault<S: BlockStore>(
     requires within { number < length places.now }
     requires matched { IsTrue volume.old.is_sound → IsMatched dbd.now volume.old places.now }
     requires precedes { IsTrue volume.old.is_sound → Precedes dbd.now.types (links_of dbd.now.types volume.old) holder (place_at places.now number).address }
+    requires known { IsTrue volume.old.is_sound → IsLastKey dbd.now.types (links_of dbd.now.types volume.old) last.old }
     ensures read { IsRead volume.old result volume.new }
+    ensures known { WhereNone volume.old result (IsLastKey dbd.now.types (links_of dbd.now.types volume.old) last.new) }
     ensures none { WhereNone volume.old result (IsKeyRight dbd.now.types (links_of dbd.now.types volume.old) (place_at places.now number).address) }
     ensures some { WhereSome volume.old result (λ f. IsKeyWrong dbd.now.types (links_of dbd.now.types volume.old) (place_at places.now number).address holder f) }
     ensures refusal { OnlyDevice result }
@@ -124,7 +125,7 @@ fn key_fault<S: BlockStore>(
     if !stands_at(places, directory, number, holder, place.code) {
         return Ok(None);
     }
-    twin_order_fault(volume, dbd, holder, place)
+    twin_order_fault(last, volume, dbd, holder, place)
 }
 
 /// The first twin whose key is less than that of the twin before it, or equal where it is unique.
@@ -142,8 +143,10 @@ pub fn twin_keys_fault<S: BlockStore>(
     ensures some { WhereSome volume.old result (λ f. IsLeastOf dbd.now volume.old 6 f) }
     ensures refusal { OnlyDevice result }
 {
+    let mut last = no_key();
     for number in 0..places.len().min(namings.len()) {
         let found = key_fault(
+            &mut last,
             places,
             directory,
             volume,

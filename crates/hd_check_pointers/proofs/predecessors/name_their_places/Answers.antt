@@ -1,4 +1,4 @@
-use Rattle.std.proofs.Common.{◌<◌, length, arith}
+use Rattle.std.proofs.Common.{arith}
 use Rattle.hd_check_pointers.proofs.Arranging.{names-at}
 use Rattle.hd_check_pointers.proofs.predecessors.name_their_places.Goals as goal
 

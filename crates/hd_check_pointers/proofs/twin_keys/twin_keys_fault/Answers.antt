@@ -12,7 +12,7 @@ use Rattle.hd_image.proofs.OneImage.{links-same}
 use Rattle.hd_check_blocks.specs.declared.places.Place.{Place}
 use Rattle.hd_check_blocks.specs.Phases.{IsLeastOf}
 use Rattle.hd_check_pointers.specs.Tables.{place_at, naming_at}
-use Rattle.hd_check_pointers.specs.Keys.{IsKeyRight}
+use Rattle.hd_check_pointers.specs.Keys.{IsLastKey, IsKeyRight}
 use Rattle.hd_check_pointers.proofs.RecordSteps.{from-none}
 use Rattle.hd_check_pointers.proofs.PlaceNumbers.{matched-same}
 use Rattle.hd_check_pointers.proofs.KeyOrder.{order-least, keys-ascend}
@@ -23,6 +23,13 @@ key_fault-requires-clause-matched g c = λ now.
     let i = c.loop-number.invariant in
     let sound : IsTrue c.args.volume.now.is_sound = rw (← i.read.call.sound) now in
     matched-same c.args.dbd.now c.args.volume.now c.loop-number.volume c.args.places.now (i.read.image now) i.read.call.size i.read.call.sizes (c.requires.matched sound)
+
+pub key_fault-requires-clause-known : goal.key_fault-requires-clause-known
+key_fault-requires-clause-known g c = λ now.
+    let i = c.loop-number.invariant in
+    let types : List SegmentType = c.args.dbd.now.types in
+    let sound : IsTrue c.args.volume.now.is_sound = rw (← i.read.call.sound) now in
+    subst (λ (m : Links). IsLastKey types m c.loop-number.last) (sym (links-same types c.args.volume.now c.loop-number.volume (i.read.image now) i.read.call.size i.read.call.sizes)) (i.known sound)
 
 pub returns-then-is_some-clause-read : goal.returns-then-is_some-clause-read
 returns-then-is_some-clause-read g c = reads-join (Ok c.in_ok-found.found) c.loop-number.invariant.read c.in_ok-found.ensures.read
@@ -65,6 +72,11 @@ loop-number-preserved g c =
             let own : IsKeyRight types (links_of types w) (place_at ps n).address = from-none c.in_ok-found.found (sym c.is_some.ensures ∙ c.if-is_some.false) (c.in_ok-found.ensures.none now) in
             subst (λ (k : ℕ). IsKeyRight types (links_of types v) (place_at ps k).address) (sym at) (subst (λ (m : Links). IsKeyRight types m (place_at ps n).address) same own))
       ];
+      known = λ sound.
+          (let now : IsTrue w.is_sound = rw i.read.call.sound sound in
+          let same = links-same types v w (i.read.image now) i.read.call.size i.read.call.sizes in
+          let own : IsLastKey types (links_of types w) c.key_fault.new.last = from-none c.in_ok-found.found (sym c.is_some.ensures ∙ c.if-is_some.false) (c.in_ok-found.ensures.known now) in
+          subst (λ (m : Links). IsLastKey types m c.key_fault.new.last) same own);
     }
 
 pub returns-clause-none : goal.returns-clause-none
