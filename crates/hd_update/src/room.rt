@@ -113,7 +113,9 @@ pub fn lacks_room<S: BlockStore>(
     let leaves = volume.leaves_space();
     let spare = volume.spare();
     let most = u64::from(growth(volume));
-    if most + u64::from(count) <= u64::from(spare) {
+    let rows = u64::from(count);
+    let free = u64::from(spare);
+    if most + rows <= free {
         return Ok(false);
     }
     let entry = blocks_needed(volume, dbd, key)?;

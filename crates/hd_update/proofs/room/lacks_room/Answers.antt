@@ -10,8 +10,8 @@ use Rattle.hd_index.proofs.NeedLemmas.{needed-most}
 use Rattle.hd_update.proofs.room.lacks_room.Goals.{else-leaves-via-then-leaves+else-entry-gt0, else-leaves-via-else-leaves}
 use Rattle.hd_update.proofs.room.lacks_room.Goals as goal
 
-pub returns-then-most-spare-clause-room : goal.returns-then-most-spare-clause-room
-returns-then-most-spare-clause-room g c = λ sound room.
+pub returns-then-most-rows-clause-room : goal.returns-then-most-rows-clause-room
+returns-then-most-rows-clause-room g c = λ sound room.
     let v = c.args.volume.now in
     let key_length : ℕ = root_key_length c.args.dbd.now.types in
     let index = (c.requires.index sound).index in
@@ -19,7 +19,9 @@ returns-then-most-spare-clause-room g c = λ sound room.
     let bound = c.growth.ensures c.args.dbd.now sound (c.requires.index sound) in
     let own = c.spare-spare.ensures sound in
     let whole = c.from-most.ensures in
-    let test = c.if-most-spare.true in
+    let wide = c.from-rows.ensures in
+    let left = c.from-free.ensures in
+    let test = c.if-most-rows.true in
     let enough : c.args.count + blocks_needed key_length v c.args.key.now ≤ spare v = omega arith in
     (c.is_highest.ensures.low sound (formatted-of key_length v index).header.first c.if-is_highest.false, inl enough)
 
