@@ -28,13 +28,13 @@ try:
 test:
 	rt ci
 
-# the gate tries the edits of must-fail; here those of must-fail/more join them, in a copy. OF=hd_lines tries those of one
-# crate alone
+# the gate tries the edits of must-fail; here those of more-edits join them, in a copy. OF=hd_lines tries those of one crate
+# alone
 edits:
 	rm -rf bin/edits
 	mkdir -p bin/edits
 	git ls-files -z | xargs -0 cp --parents -t bin/edits
-	for more in bin/edits/crates/*/must-fail/more; do mv $$more/*.edit $$more/..; done
+	for more in bin/edits/crates/*/more-edits; do mkdir -p $$more/../must-fail && mv $$more/*.edit $$more/../must-fail; done
 	cd bin/edits && rt must-fail $(OF)
 
 examples: bin/hd
