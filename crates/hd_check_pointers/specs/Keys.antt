@@ -3,12 +3,13 @@ use Rattle.std.specs.Prelude.{◌≡◌, ◌≢◌, ℕ, List, Bool, true, false
 use Rattle.std.specs.Option.{option_map_or}
 use Rattle.hd_dbd.specs.Types.{SegmentType}
 use Rattle.hd_dbd.specs.Hierarchy.{type_of}
-use Rattle.hd_dbd.specs.Rows.{key_of, twins_in_order}
+use Rattle.hd_dbd.specs.Rows.{key_of, keys_in_order, twins_in_order}
 use Rattle.hd_links.specs.Links.{Links, segment_at}
 use Rattle.hd_image.specs.declared.line.Line.TheVariants.{OutOfOrder}
 use Rattle.hd_check_blocks.specs.declared.fault.Fault.{Fault}
 use Rattle.hd_links.specs.Pointers.{IsTwinBefore}
 use Rattle.hd_image.specs.PointerFaults.{IsOutOfOrder}
+use Rattle.hd_check_blocks.specs.declared.places.Place.{Place}
 use Rattle.hd_check_pointers.specs.declared.last_key.LastKey.{LastKey}
 
 -- the segments of the type of a code have a key
@@ -34,3 +35,7 @@ IsKeyWrong types m a holder f = (f ≡ order_fault a holder) × IsOutOfOrder typ
 -- What was read last is the key of the segment at its address, unless that is 0.
 abbrev pub IsLastKey : List SegmentType → Links → LastKey → Type 0
 IsLastKey types m last = last.address ≢ 0 → take last.length last.key ≡ key_of types (segment_at m last.address)
+
+-- the key of the segment at a place may come behind the one that was read last
+abbrev pub is_behind : List SegmentType → Links → LastKey → Place → Bool
+is_behind types m last place = keys_in_order types place.code (take last.length last.key) (key_of types (segment_at m place.address))

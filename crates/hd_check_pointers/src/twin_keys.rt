@@ -1,7 +1,7 @@
 //! Phase 6: the keys of twins are in order.
 ghost use Rattle.std.specs.Prelude.{◌≡◌, ◌≤◌, ◌<◌, length, take, true, IsTrue, IfOk, OnOk};
 ghost use Rattle.hd_dbd.specs.Refusals.{OnlyDevice};
-ghost use Rattle.hd_dbd.specs.Rows.{key_of, keys_in_order, twins_in_order};
+ghost use Rattle.hd_dbd.specs.Rows.{key_of, twins_in_order};
 ghost use Rattle.hd_volume.specs.Calls.{IsRead};
 ghost use Rattle.hd_links.specs.Links.{IsSegment, segment_at};
 ghost use Rattle.hd_links.specs.Pointers.{Precedes, KeysAscend};
@@ -10,7 +10,7 @@ ghost use Rattle.hd_image.specs.PointerFaults.{IsOutOfOrder};
 ghost use Rattle.hd_check_blocks.specs.Phases.{IsLeastOf};
 ghost use Rattle.hd_check_pointers.specs.Tables.{place_at, ArePredecessors};
 ghost use Rattle.hd_check_pointers.specs.Matched.{IsMatched};
-ghost use Rattle.hd_check_pointers.specs.Keys.{is_keyed, IsLastKey, IsKeyRight, order_fault, IsOrderFault, IsKeyWrong};
+ghost use Rattle.hd_check_pointers.specs.Keys.{is_keyed, IsLastKey, is_behind, IsKeyRight, order_fault, IsOrderFault, IsKeyWrong};
 ghost use Rattle.hd_check_blocks.specs.Finding.{WhereNone, WhereSome};
 
 use crate::last_key::{LastKey, keep_key, no_key};
@@ -61,7 +61,7 @@ fn is_in_order<S: BlockStore>(
     requires of { IsTrue volume.old.is_sound → IsVolumeOf dbd.now volume.old }
     requires there { IsTrue volume.old.is_sound → IsSegment (links_of dbd.now.types volume.old) place.address × ((links_of dbd.now.types volume.old).code place.address ≡ place.code) }
     ensures read { IsRead volume.old result volume.new }
-    ensures right { IfOk result (λ b. IsTrue volume.old.is_sound → b ≡ keys_in_order dbd.now.types place.code (take last.old.length last.old.key) (key_of dbd.now.types (segment_at (links_of dbd.now.types volume.old) place.address))) }
+    ensures right { IfOk result (λ b. IsTrue volume.old.is_sound → b ≡ is_behind dbd.now.types (links_of dbd.now.types volume.old) last.old place) }
     ensures known { OnOk result (IsTrue volume.old.is_sound → IsLastKey dbd.now.types (links_of dbd.now.types volume.old) last.new) }
     ensures refusal { OnlyDevice result }
 {
