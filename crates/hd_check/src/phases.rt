@@ -25,6 +25,7 @@ use hd_check_pointers::{
     Naming, owners_of, predecessors_fault, reached_fault, records_fault, twin_keys_fault,
     twins_fault,
 };
+use hd_check_walk::are_linked;
 use hd_dbd::{Dbd, Refused};
 use hd_volume::{BlockStore, Volume};
 use std::alloc::Global;
@@ -95,6 +96,9 @@ fn pointers_fault<S: BlockStore>(
     ensures some { WhereSome volume.old result (λ f. IsFirstFault dbd.now volume.old f) }
     ensures refusal { OnlyDeviceOrMemory result }
 {
+    if are_linked(alloc, places, directory, volume, dbd)? {
+        return Ok(None);
+    }
     let mut forwards = Vec::new(alloc);
     let mut namings = Vec::new(alloc);
     let found = records_fault(&mut forwards, &mut namings, places, directory, volume, dbd)?;

@@ -12,6 +12,7 @@ mod records;
 mod twin_keys;
 mod twins;
 
+pub use last_key::{LastKey, keep_key, no_key};
 pub use namings::Naming;
 pub use owners::owners_of;
 pub use predecessors::predecessors_fault;

@@ -1,0 +1,76 @@
+-- How far a walk along the pointers of a volume has come.
+use Rattle.std.specs.Prelude.{◌≡◌, ◌≢◌, ◌⊎◌, ℕ, ◌<◌, List, true, length, slice_index}
+use Rattle.hd_dbd.specs.Types.{SegmentType}
+use Rattle.hd_dbd.specs.Rows.{twins_in_order}
+use Rattle.hd_dbd.specs.Prefixes.{is_backward_kept}
+use Rattle.hd_volume.specs.Indexes.{IsAmong}
+use Rattle.hd_links.specs.Links.{Links, segment_at, is_child_type}
+use Rattle.hd_links.specs.Pointers.{IsTwinBefore, IsParentOfFirst, IsReached, IsInChain}
+use Rattle.hd_check_blocks.specs.declared.places.Place.{Place}
+use Rattle.hd_check_blocks.specs.Places.{place_at}
+use Rattle.hd_check_pointers.specs.Tables.{nobody}
+use Rattle.hd_check_pointers.specs.Twins.{AreLastsRight}
+
+-- the record h holds the segment at an address, which is of the type: a pointer of h led the walk there
+abbrev pub IsHeldBy : List Place → List ℕ → ℕ → ℕ → ℕ → Type 0
+IsHeldBy places holders h t p = (i : ℕ) × (i < length places) × (place_at places i ≡ record { address = p; code = t }) × (slice_index holders i ≡ h) × (h ≢ nobody)
+
+-- a pointer of h to a segment of the type is 0, or the walk followed it
+abbrev pub IsFollowed : List Place → List ℕ → ℕ → ℕ → ℕ → Type 0
+IsFollowed places holders h t p = (p ≡ 0) ⊎ IsHeldBy places holders h t p
+
+-- the number is that of the place of a segment of the type at an address, which nobody holds yet
+abbrev pub IsUnheld : List Place → List ℕ → ℕ → ℕ → ℕ → Type 0
+IsUnheld places holders i a t = (i < length places) × (place_at places i ≡ record { address = a; code = t }) × (slice_index holders i ≡ nobody)
+
+-- what is held stays held, by the same record
+abbrev pub StaysHeld : List ℕ → List ℕ → Type 0
+StaysHeld holders holders2 = (i : ℕ) → slice_index holders i ≢ nobody → slice_index holders2 i ≡ slice_index holders i
+
+-- The segment a is right behind its twin h: h names it as twin forward, both are of one type, its twin backward, where it is kept, names
+-- h, and its key is in order behind that of h.
+pub record IsRightTwin (types : List SegmentType) (m : Links) (h a : ℕ) : Type 0 where
+  pub names : IsTwinBefore m h a
+  pub typed : m.code a ≡ m.code h
+  pub backward : is_backward_kept types (m.code a) ≡ true → m.backward a ≡ h
+  pub key : twins_in_order types (segment_at m h) (segment_at m a) ≡ true
+
+-- The segment a is right as the first child of h: h names it so, it is of the type, and its twin backward, where it is kept, is 0.
+pub record IsRightFirst (types : List SegmentType) (m : Links) (h t a : ℕ) : Type 0 where
+  pub names : IsParentOfFirst types m h t a
+  pub typed : m.code a ≡ t
+  pub backward : is_backward_kept types (m.code a) ≡ true → m.backward a ≡ 0
+
+-- The segment a is right where the walk came to it from h: its delete byte is 0, and it is right behind its twin h, or as the first child
+-- of h.
+pub record IsRightBehind (types : List SegmentType) (m : Links) (h a : ℕ) : Type 0 where
+  pub delete_byte : m.delete_byte a ≡ 0
+  pub place : IsRightTwin types m h a ⊎ ((t : ℕ) × IsRightFirst types m h t a)
+
+-- The children of h are walked: each first child was followed, and each last child that is kept is the last twin of its chain.
+pub record AreChildrenWalked (types : List SegmentType) (m : Links) (places : List Place) (holders : List ℕ) (h : ℕ) : Type 0 where
+  pub firsts : (t : ℕ) → is_child_type types (m.code h) t ≡ true → IsFollowed places holders h t (m.first_child h t)
+  pub lasts : AreLastsRight types m h
+
+-- Each segment that is held is right behind its holder, and reached from the header; its twin forward was followed, unless it is the
+-- open one, at which the walk is; and its children are walked, unless its number waits, or is the one whose children are in hand. What
+-- waits is held.
+pub record IsWalked (types : List SegmentType) (m : Links) (places : List Place) (open_at in_hand : ℕ) (waiting holders : List ℕ) : Type 0 where
+  pub right : (i : ℕ) → i < length places → slice_index holders i ≢ nobody → IsRightBehind types m (slice_index holders i) (place_at places i).address
+  pub reached : (i : ℕ) → i < length places → slice_index holders i ≢ nobody → (n : ℕ) × IsReached types m n (place_at places i).address
+  pub forward : (i : ℕ) → i < length places → slice_index holders i ≢ nobody → (place_at places i).address ≢ open_at
+      → IsFollowed places holders (place_at places i).address (place_at places i).code (m.forward (place_at places i).address)
+  pub children : (i : ℕ) → i < length places → slice_index holders i ≢ nobody → i ≢ in_hand → (IsAmong i waiting → ⊥)
+      → AreChildrenWalked types m places holders (place_at places i).address
+  pub waits : (i : ℕ) → IsAmong i waiting → (i < length places) × (slice_index holders i ≢ nobody)
+
+-- A pointer of h leads to a, a segment of type t: twin forward, where h is the twin before it, and else first child. And h is reached.
+pub record LeadsTo (types : List SegmentType) (m : Links) (h t before a : ℕ) : Type 0 where
+  pub first : before ≡ 0 → IsParentOfFirst types m h t a
+  pub twin : before ≢ 0 → (before ≡ h) × IsTwinBefore m h a × (m.code h ≡ t)
+  pub reached : (n : ℕ) × IsReached types m n h
+
+-- The last twin of the chain from a first, 0 where that is 0.
+pub record IsEnd (m : Links) (first end : ℕ) : Type 0 where
+  pub some : 0 < first → IsInChain m first end × (m.forward end ≡ 0)
+  pub none : first ≡ 0 → end ≡ 0

@@ -1,0 +1,210 @@
+//! A walk from the header down.
+ghost use Rattle.std.specs.Prelude.{◌≡◌, ◌≢◌, ℕ, ◌<◌, length, slice_index, replicate, [], true, IsTrue, IfOk};
+ghost use Rattle.hd_dbd.specs.Refusals.{OnlyDevice, OnlyMemory, OnlyDeviceOrMemory};
+ghost use Rattle.hd_volume.specs.Calls.{IsRead};
+ghost use Rattle.hd_links.specs.Links.{IsSegment};
+ghost use Rattle.hd_links.specs.Pointers.{IsReached, AreLinked};
+ghost use Rattle.hd_image.specs.Records.{links_of, IsVolumeOf};
+ghost use Rattle.hd_check_blocks.specs.Places.{ArePlaces, place_at};
+ghost use Rattle.hd_check_blocks.specs.Finding.{WhereSome};
+ghost use Rattle.hd_check_pointers.specs.Tables.{nobody};
+ghost use Rattle.hd_check_pointers.specs.Keys.{IsLastKey};
+ghost use Rattle.hd_check_walk.specs.Walks.{StaysHeld, IsWalked, AreChildrenWalked};
+
+use crate::twins::{NOBODY, walk_twins};
+use hd_check_blocks::{Directory, Place};
+use hd_check_pointers::{LastKey, no_key};
+use hd_dbd::{Dbd, Refused};
+use hd_prefix::{Layout, Pointer};
+use hd_volume::{BlockStore, Volume};
+use std::alloc::Global;
+
+/// The first and the last child of a type that a segment names.
+#[derive(Clone, Copy)]
+struct Named {
+    first: u32,
+    last: u32,
+}
+
+/// The first and the last child of a type that the segment at a place names; the last is 0 where it is not kept.
+fn children_named<S: BlockStore>(
+    volume: &mut Volume<S>,
+    dbd: &Dbd,
+    place: Place,
+    child: u8,
+) -> Result<Option<Named>, Refused>
+    requires of { IsTrue volume.old.is_sound → IsVolumeOf dbd.now volume.old }
+    requires there { IsTrue volume.old.is_sound → IsSegment (links_of dbd.now.types volume.old) place.address × ((links_of dbd.now.types volume.old).code place.address ≡ place.code) }
+    ensures read { IsRead volume.old result volume.new }
+    ensures first { WhereSome volume.old result (λ n. n.first ≡ (links_of dbd.now.types volume.old).first_child place.address child) }
+    ensures last { WhereSome volume.old result (λ n. n.last ≡ (links_of dbd.now.types volume.old).last_child place.address child) }
+    ensures refusal { OnlyDevice result }
+{
+    let segment = volume.segment_at(place.address)?;
+    if segment.len() < dbd.prefix_length(place.code) as usize {
+        return Ok(None);
+    }
+    let layout = Layout::of(dbd, place.code);
+    Ok(Some(Named {
+        first: layout.read(segment, Pointer::FirstChild(child)),
+        last: layout.read(segment, Pointer::LastChild(child)),
+    }))
+}
+
+/// Walks along the chains of the children of the segment of a number; whether all of them are right.
+fn walk_children<S: BlockStore>(
+    holders: &mut Vec<u32>,
+    waiting: &mut Vec<usize>,
+    last: &mut LastKey,
+    places: &[Place],
+    directory: &Directory,
+    volume: &mut Volume<S>,
+    dbd: &Dbd,
+    number: usize,
+) -> Result<bool, Refused>
+    requires as_many { length holders.old.items ≡ length places.now }
+    requires of { IsTrue volume.old.is_sound → IsVolumeOf dbd.now volume.old }
+    requires places { IsTrue volume.old.is_sound → ArePlaces dbd.now.types volume.old places.now }
+    requires known { IsTrue volume.old.is_sound → IsLastKey dbd.now.types (links_of dbd.now.types volume.old) last.old }
+    requires reached { IsTrue volume.old.is_sound → (n : ℕ) × IsReached dbd.now.types (links_of dbd.now.types volume.old) n (place_at places.now number).address }
+    ensures read { IsRead volume.old result volume.new }
+    ensures as_many { length holders.new.items ≡ length places.now }
+    ensures known { IfOk result (λ b. IsTrue volume.old.is_sound → b ≡ true → IsLastKey dbd.now.types (links_of dbd.now.types volume.old) last.new) }
+    ensures kept { IfOk result (λ b. IsTrue volume.old.is_sound → b ≡ true → StaysHeld holders.old.items holders.new.items) }
+    ensures walked { IfOk result (λ b. IsTrue volume.old.is_sound → b ≡ true → IsWalked dbd.now.types (links_of dbd.now.types volume.old) places.now 0 number waiting.old.items holders.old.items → IsWalked dbd.now.types (links_of dbd.now.types volume.old) places.now 0 (length places.now) waiting.new.items holders.new.items) }
+    ensures refusal { OnlyDeviceOrMemory result }
+{
+    if number >= places.len() {
+        return Ok(false);
+    }
+    let place = places[number];
+    for child in dbd.children_of(place.code) {
+        let Some(named) = children_named(volume, dbd, place, *child)? else {
+            return Ok(false);
+        };
+        let found = walk_twins(
+            holders,
+            waiting,
+            last,
+            places,
+            directory,
+            volume,
+            dbd,
+            place.address,
+            *child,
+            named.first,
+            number.saturating_add(1),
+        )?;
+        let Some(end) = found else {
+            return Ok(false);
+        };
+        if dbd.keeps_last_child(*child) && end != named.last {
+            return Ok(false);
+        }
+    }
+    Ok(true)
+}
+
+/// Whether each segment is held.
+fn all_held(holders: &[u32]) -> bool
+    ensures { result ≡ true → (i : ℕ) → i < length holders.now → slice_index holders.now i ≢ nobody }
+{
+    for holder in holders {
+        if *holder == NOBODY {
+            return false;
+        }
+    }
+    true
+}
+
+/// The holders of so many segments before a walk.
+fn unheld(alloc: Global, count: usize) -> Result<Vec<u32>, Refused>
+    ensures none { IfOk result (λ holders. holders.items ≡ replicate count nobody) }
+    ensures refusal { OnlyMemory result }
+{
+    let Ok(holders) = vec![in alloc; NOBODY; count] else {
+        return Err(Refused::Memory);
+    };
+    Ok(holders)
+}
+
+/// Walks along the chain of the roots; whether all of them are right.
+fn walk_roots<S: BlockStore>(
+    holders: &mut Vec<u32>,
+    waiting: &mut Vec<usize>,
+    last: &mut LastKey,
+    places: &[Place],
+    directory: &Directory,
+    volume: &mut Volume<S>,
+    dbd: &Dbd,
+) -> Result<bool, Refused>
+    requires as_many { length holders.old.items ≡ length places.now }
+    requires of { IsTrue volume.old.is_sound → IsVolumeOf dbd.now volume.old }
+    requires places { IsTrue volume.old.is_sound → ArePlaces dbd.now.types volume.old places.now }
+    requires known { IsTrue volume.old.is_sound → IsLastKey dbd.now.types (links_of dbd.now.types volume.old) last.old }
+    ensures read { IsRead volume.old result volume.new }
+    ensures as_many { length holders.new.items ≡ length places.now }
+    ensures known { IfOk result (λ b. IsTrue volume.old.is_sound → b ≡ true → IsLastKey dbd.now.types (links_of dbd.now.types volume.old) last.new) }
+    ensures header { IfOk result (λ b. IsTrue volume.old.is_sound → b ≡ true → AreChildrenWalked dbd.now.types (links_of dbd.now.types volume.old) places.now holders.new.items 0) }
+    ensures walked { IfOk result (λ b. IsTrue volume.old.is_sound → b ≡ true → (in_hand : ℕ) → IsWalked dbd.now.types (links_of dbd.now.types volume.old) places.now 0 in_hand waiting.old.items holders.old.items → IsWalked dbd.now.types (links_of dbd.now.types volume.old) places.now 0 in_hand waiting.new.items holders.new.items) }
+    ensures refusal { OnlyDeviceOrMemory result }
+{
+    let first = volume.first_root();
+    let end = volume.last_root();
+    let found = walk_twins(
+        holders, waiting, last, places, directory, volume, dbd, 0, 1, first, 0,
+    )?;
+    match found {
+        None => Ok(false),
+        Some(last_root) => Ok(last_root == end),
+    }
+}
+
+/// Whether the segments of a volume whose blocks are right are linked, as far as one walk along their pointers tells: it sees each segment
+/// once. Where it comes to a pointer that is wrong it says no, and not what is wrong.
+pub fn are_linked<S: BlockStore>(
+    alloc: Global,
+    places: &[Place],
+    directory: &Directory,
+    volume: &mut Volume<S>,
+    dbd: &Dbd,
+) -> Result<bool, Refused>
+    requires of { IsTrue volume.old.is_sound → IsVolumeOf dbd.now volume.old }
+    requires places { IsTrue volume.old.is_sound → ArePlaces dbd.now.types volume.old places.now }
+    ensures read { IsRead volume.old result volume.new }
+    ensures linked { IfOk result (λ b. IsTrue volume.old.is_sound → b ≡ true → AreLinked dbd.now.types (links_of dbd.now.types volume.old)) }
+    ensures refusal { OnlyDeviceOrMemory result }
+{
+    let mut holders = unheld(alloc, places.len())?;
+    let mut waiting: Vec<usize> = Vec::new(alloc);
+    let mut last = no_key();
+    if !walk_roots(
+        &mut holders,
+        &mut waiting,
+        &mut last,
+        places,
+        directory,
+        volume,
+        dbd,
+    )? {
+        return Ok(false);
+    }
+    for _turn in 0..=places.len() {
+        let Some(number) = waiting.pop() else {
+            return Ok(all_held(&holders));
+        };
+        if !walk_children(
+            &mut holders,
+            &mut waiting,
+            &mut last,
+            places,
+            directory,
+            volume,
+            dbd,
+            number,
+        )? {
+            return Ok(false);
+        }
+    }
+    Ok(false)
+}
