@@ -2,7 +2,7 @@
 use Rattle.std.proofs.Common.{◌≡◌, ◌≢◌, ◌⊎◌, inl, inr, ℕ, suc, ◌<◌, List, [], ◌∷◌, ◌++◌, true, length, slice_index, slice_set, refl, sym, ap, subst, ◌∙◌, arith}
 use Rattle.std.proofs.lemmas.Bool.{cases_eq}
 use Rattle.hd_dbd.specs.Types.{SegmentType}
-use Rattle.hd_dbd.specs.Rows.{twins_in_order}
+use Rattle.hd_dbd.specs.Rows.{key_of, keys_in_order, twins_in_order}
 use Rattle.hd_dbd.specs.Prefixes.{is_backward_kept}
 use Rattle.hd_volume.specs.Indexes.{IsAmong}
 use Rattle.hd_volume.specs.Volumes.{VolumeState}
@@ -14,6 +14,7 @@ use Rattle.hd_check_blocks.specs.Places.{ArePlaces, place_at}
 use Rattle.hd_check_blocks.proofs.Lookups.{among}
 use Rattle.hd_check_pointers.specs.Tables.{nobody}
 use Rattle.hd_check_pointers.proofs.Owning.{set-same, set-other}
+use Rattle.hd_check_pointers.proofs.KeyOrder.{twins-by}
 use Rattle.hd_check_walk.specs.Walks.{IsHeldBy, IsFollowed, IsUnheld, StaysHeld, IsRightTwin, IsRightFirst, IsRightBehind, AreChildrenWalked, IsWalked, LeadsTo}
 use Rattle.hd_check_walk.specs.Reading.{IsChildless}
 use Rattle.hd_check_walk.proofs.Staying.{followed-stays, children-stay}
@@ -36,6 +37,14 @@ among-more m [] n (inr i) = absurd i
 among-more m (x ∷ ns) n (inl e) = inl (inl e)
 among-more m (x ∷ ns) n (inr i) = elim (among-more m ns n i) [ inl j ↦ inl (inr j) | inr e ↦ inr e ]
 
+-- twins are in order as the last key says that was read, which is that of the twin before
+pub key-behind : (types : List SegmentType) (m : Links) (last before h a t : ℕ) (key : List ℕ) → before ≢ 0 → last ≡ before → (last ≢ 0 → key ≡ key_of types (segment_at m last))
+    → before ≡ h → m.code h ≡ t → m.code a ≡ t → keys_in_order types t key (key_of types (segment_at m a)) ≡ true → twins_in_order types (segment_at m before) (segment_at m a) ≡ true
+key-behind types m last before h a t key not is known same code own right =
+    let read : key ≡ key_of types (segment_at m before) = known (λ z. not (sym is ∙ z)) ∙ ap (λ (x : ℕ). key_of types (segment_at m x)) is in
+    sym (twins-by types (segment_at m before) (segment_at m a) t (ap m.code same ∙ code) own)
+    ∙ ap (λ (k : List ℕ). keys_in_order types t k (key_of types (segment_at m a))) (sym read) ∙ right
+
 -- A segment names no children, and nothing more waits; or its number waits behind the others.
 abbrev pub WaitsOrNot : List SegmentType → Links → ℕ → ℕ → List ℕ → List ℕ → Type 0
 WaitsOrNot types m a n waiting waiting2 = ((waiting2 ≡ waiting) × IsChildless types m a) ⊎ (waiting2 ≡ waiting ++ n ∷ [])
@@ -53,24 +62,29 @@ module _ (types : List SegmentType) (v : VolumeState) (ps : List Place) (are : A
   pub coded : (i : ℕ) → i < length ps → (links_of types v).code (place_at ps i).address ≡ (place_at ps i).code
   coded i l = (are.there (place_at ps i) (among ps i l)).1
 
+  -- where nobody held it stands a segment of the type
+  pub there : (xs : List ℕ) (n a t : ℕ) → IsUnheld ps xs n a t → IsSegment (links_of types v) a × ((links_of types v).code a ≡ t)
+  there xs n a t new =
+      let at : (place_at ps n).address ≡ a = ap (λ (p : Place). p.address) new.1 in (
+        subst (IsSegment (links_of types v)) at (stands n new.0),
+        ap (links_of types v).code (sym at) ∙ coded n new.0 ∙ ap (λ (p : Place). p.code) new.1,
+      )
+
   module _ (xs : List ℕ) (n h t before a : ℕ) (many : length xs ≡ length ps) (new : IsUnheld ps xs n a t) (some : h ≢ nobody) (leads : LeadsTo types (links_of types v) h t before a) where
     -- the segment stands at the place of the number
     at : (place_at ps n).address ≡ a
     at = ap (λ (p : Place). p.address) new.1
 
     -- it is one of the type
-    pub there : IsSegment (links_of types v) a × ((links_of types v).code a ≡ t)
-    there = (
-      subst (IsSegment (links_of types v)) at (stands n new.0),
-      ap (links_of types v).code (sym at) ∙ coded n new.0 ∙ ap (λ (p : Place). p.code) new.1,
-    )
+    own : IsSegment (links_of types v) a × ((links_of types v).code a ≡ t)
+    own = there xs n a t new
 
     -- the record holds it then
     held : slice_index (slice_set xs n h) n ≡ h
     held = set-same xs n h (subst (λ (k : ℕ). n < k) (sym many) new.0)
 
     -- by a pointer that leads to a segment of its type
-    pub held-by : IsHeldBy ps (slice_set xs n h) h t a
+    held-by : IsHeldBy ps (slice_set xs n h) h t a
     held-by = (n, new.0, new.1, held, some)
 
     stays : StaysHeld xs (slice_set xs n h)
@@ -97,14 +111,14 @@ module _ (types : List SegmentType) (v : VolumeState) (ps : List Place) (are : A
           t,
           record {
             names = leads.first z;
-            typed = there.1;
-            backward = λ kept. backward (ap (is_backward_kept types) (sym there.1) ∙ kept) ∙ z;
+            typed = own.1;
+            backward = λ kept. backward (ap (is_backward_kept types) (sym own.1) ∙ kept) ∙ z;
           },
         )
         | inr not ↦ (let twin = leads.twin not in inl (record {
           names = twin.1;
-          typed = there.1 ∙ sym twin.2;
-          backward = λ kept. backward (ap (is_backward_kept types) (sym there.1) ∙ kept) ∙ twin.0;
+          typed = own.1 ∙ sym twin.2;
+          backward = λ kept. backward (ap (is_backward_kept types) (sym own.1) ∙ kept) ∙ twin.0;
           key = subst (λ (x : ℕ). twins_in_order types (segment_at (links_of types v) x) (segment_at (links_of types v) a) ≡ true) twin.0 (key not);
         }))
       ];
@@ -126,12 +140,12 @@ module _ (types : List SegmentType) (v : VolumeState) (ps : List Place) (are : A
     followed i l is =
         let not : before ≢ 0 = (λ z. (let s = (stands i l).some in omega arith)) in
         let twin = leads.twin not in
-        let own : h ≡ (place_at ps i).address = sym twin.0 ∙ sym is in
-        let code : t ≡ (place_at ps i).code = sym twin.2 ∙ ap (links_of types v).code own ∙ coded i l in
-        let next : a ≡ (links_of types v).forward (place_at ps i).address = sym twin.1.names ∙ ap (links_of types v).forward own in
+        let same : h ≡ (place_at ps i).address = sym twin.0 ∙ sym is in
+        let code : t ≡ (place_at ps i).code = sym twin.2 ∙ ap (links_of types v).code same ∙ coded i l in
+        let next : a ≡ (links_of types v).forward (place_at ps i).address = sym twin.1.names ∙ ap (links_of types v).forward same in
         inr (subst (λ (x : ℕ). IsHeldBy ps (slice_set xs n h) (place_at ps i).address (place_at ps i).code x) next
         (subst (λ (c : ℕ). IsHeldBy ps (slice_set xs n h) (place_at ps i).address c a) code
-        (subst (λ (k : ℕ). IsHeldBy ps (slice_set xs n h) k t a) own held-by)))
+        (subst (λ (k : ℕ). IsHeldBy ps (slice_set xs n h) k t a) same held-by)))
 
     -- what waited waits
     waited : (waiting waiting2 : List ℕ) (i : ℕ) → WaitsOrNot types (links_of types v) a n waiting waiting2 → IsAmong i waiting → IsAmong i waiting2
@@ -152,7 +166,7 @@ module _ (types : List SegmentType) (v : VolumeState) (ps : List Place) (are : A
       reached = λ i l known. elim (cases_eq i n) [
         | inl e ↦ (
           suc leads.reached.0,
-          subst (IsReached types (links_of types v) (suc leads.reached.0)) (sym (ap (λ (k : ℕ). (place_at ps k).address) e ∙ at)) (there.0, (h, leads.reached.1, precedes)),
+          subst (IsReached types (links_of types v) (suc leads.reached.0)) (sym (ap (λ (k : ℕ). (place_at ps k).address) e ∙ at)) (own.0, (h, leads.reached.1, precedes)),
         )
         | inr ne ↦ walked.reached i l (old i ne known)
       ];

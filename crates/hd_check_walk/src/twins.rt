@@ -1,6 +1,6 @@
 //! A walk along a chain of twins.
-ghost use Rattle.std.specs.Prelude.{◌≡◌, ◌≢◌, ℕ, ◌<◌, length, slice_set, slice_index, IsTrue, IfSome, IfOk};
-ghost use Rattle.hd_dbd.specs.Refusals.{OnlyDeviceOrMemory};
+ghost use Rattle.std.specs.Prelude.{◌≡◌, ◌≢◌, ℕ, ◌++◌, ◌∷◌, [], length, slice_set, true, false, IsTrue, IfSome, OnOk};
+ghost use Rattle.hd_dbd.specs.Refusals.{OnlyMemory, OnlyDeviceOrMemory};
 ghost use Rattle.hd_volume.specs.Calls.{IsRead};
 ghost use Rattle.hd_links.specs.Pointers.{IsParentOfFirst, IsReached};
 ghost use Rattle.hd_image.specs.Records.{links_of, IsVolumeOf};
@@ -51,6 +51,18 @@ struct Step {
     forward: u32,
 }
 
+/// Notes the number of a segment behind those that wait, unless it names no children.
+fn note_waiting(waiting: &mut Vec<usize>, number: usize, is_childless: bool) -> Result<(), Refused>
+    ensures waits { OnOk result (is_childless ≡ false → waiting.new.items ≡ waiting.old.items ++ (number ∷ [])) }
+    ensures childless { OnOk result (is_childless ≡ true → waiting.new.items ≡ waiting.old.items) }
+    ensures refusal { OnlyMemory result }
+{
+    if !is_childless {
+        waiting.push(number).map_err(|_| Refused::Memory)?;
+    }
+    Ok(())
+}
+
 /// Goes where a pointer of a record leads, to a segment of a type behind a twin, 0 for none; `None` where it is not right there. If it
 /// names children, its number waits for them to be walked.
 fn step_to<S: BlockStore>(
@@ -87,9 +99,7 @@ fn step_to<S: BlockStore>(
     let Some(seen) = look_at(last, dbd, code, segment, address, before) else {
         return Ok(None);
     };
-    if !seen.is_childless {
-        waiting.push(number).map_err(|_| Refused::Memory)?;
-    }
+    note_waiting(waiting, number, seen.is_childless)?;
     Ok(Some(Step {
         number,
         forward: seen.forward,
