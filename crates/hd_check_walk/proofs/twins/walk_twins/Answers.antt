@@ -1,0 +1,110 @@
+use Rattle.std.proofs.Common.{◌≡◌, ◌≢◌, ℕ, List, IsTrue, Ok, None, refl, sym, subst, ◌∙◌}
+use Rattle.hd_dbd.specs.Types.{SegmentType}
+use Rattle.hd_volume.specs.Volumes.{VolumeState}
+use Rattle.hd_volume.proofs.CallSteps.{read-none, read-ok, reads-join}
+use Rattle.hd_links.specs.Links.{Links}
+use Rattle.hd_image.specs.Records.{links_of}
+use Rattle.hd_image.proofs.OneImage.{links-same, volume-same}
+use Rattle.hd_check_blocks.specs.declared.places.Place.{Place}
+use Rattle.hd_check_blocks.proofs.PlaceLemmas.{places-same}
+use Rattle.hd_check_pointers.specs.Keys.{IsLastKey}
+use Rattle.hd_check_walk.specs.Walks.{IsHeldBy, StaysHeld, IsWalked, LeadsTo}
+use Rattle.hd_check_walk.proofs.Chains.{when-some, stays-join, on-first, leads-on, on-next, end-first, end-last, end-shut}
+use Rattle.hd_check_walk.proofs.twins.walk_twins.Goals as goal
+
+pub loop-turn-init : goal.loop-turn-init
+loop-turn-init g c = record {
+  read = read-none c.args.volume.now 0;
+  as_many = c.requires.as_many;
+  known = c.requires.known;
+  kept = λ sound i known. refl;
+  chain = λ sound. on-first c.args.dbd.now.types (links_of c.args.dbd.now.types c.args.volume.now) c.args.places.now c.args.holders.now.items c.args.parent c.args.code c.args.first;
+  walked = λ sound in_hand walked. walked;
+}
+
+pub returns-then-next-eq0-clause-first : goal.returns-then-next-eq0-clause-first
+returns-then-next-eq0-clause-first g c = λ sound.
+    let i = c.loop-turn.invariant in
+    end-first c.args.dbd.now.types c.args.volume.now c.args.places.now (c.requires.places sound) c.args.parent c.args.code c.args.first (c.requires.parent sound) (c.requires.reached sound) c.loop-turn.holders.items
+    c.loop-turn.before c.loop-turn.next c.if-next-eq0.true (i.chain sound)
+
+pub returns-then-next-eq0-clause-end : goal.returns-then-next-eq0-clause-end
+returns-then-next-eq0-clause-end g c = λ sound.
+    let i = c.loop-turn.invariant in
+    end-last c.args.dbd.now.types c.args.volume.now c.args.places.now (c.requires.places sound) c.args.parent c.args.code c.args.first (c.requires.parent sound) (c.requires.reached sound) c.loop-turn.holders.items
+    c.loop-turn.before c.loop-turn.next c.if-next-eq0.true (i.chain sound)
+
+pub returns-then-next-eq0-clause-walked : goal.returns-then-next-eq0-clause-walked
+returns-then-next-eq0-clause-walked g c = λ sound in_hand walked.
+    let i = c.loop-turn.invariant in
+    end-shut c.args.dbd.now.types c.args.volume.now c.args.places.now (c.requires.places sound) c.args.parent c.args.code c.args.first (c.requires.parent sound) (c.requires.reached sound) c.loop-turn.holders.items
+    c.loop-turn.waiting.items c.loop-turn.before c.loop-turn.next in_hand c.if-next-eq0.true (i.chain sound) (i.walked sound in_hand walked)
+
+pub step_to-requires-clause-of : goal.step_to-requires-clause-of
+step_to-requires-clause-of g c = λ now.
+    let i = c.loop-turn.invariant in
+    let sound : IsTrue c.args.volume.now.is_sound = rw (← i.read.call.sound) now in
+    volume-same c.args.dbd.now c.args.volume.now c.loop-turn.volume (i.read.image now) i.read.call.size i.read.call.sizes (c.requires.of sound)
+
+pub step_to-requires-clause-places : goal.step_to-requires-clause-places
+step_to-requires-clause-places g c = λ now.
+    let i = c.loop-turn.invariant in
+    let types : List SegmentType = c.args.dbd.now.types in
+    let sound : IsTrue c.args.volume.now.is_sound = rw (← i.read.call.sound) now in
+    places-same types c.args.volume.now c.loop-turn.volume c.args.places.now (links-same types c.args.volume.now c.loop-turn.volume (i.read.image now) i.read.call.size i.read.call.sizes) (c.requires.places sound)
+
+pub step_to-requires-clause-known : goal.step_to-requires-clause-known
+step_to-requires-clause-known g c = λ now.
+    let i = c.loop-turn.invariant in
+    let types : List SegmentType = c.args.dbd.now.types in
+    let sound : IsTrue c.args.volume.now.is_sound = rw (← i.read.call.sound) now in
+    subst (λ (m : Links). IsLastKey types m c.loop-turn.last) (sym (links-same types c.args.volume.now c.loop-turn.volume (i.read.image now) i.read.call.size i.read.call.sizes)) (i.known sound)
+
+pub returns-in_default-clause-read : goal.returns-in_default-clause-read
+returns-in_default-clause-read g c = read-ok None (reads-join (Ok c.in_ok-found.found) c.loop-turn.invariant.read c.in_ok-found.ensures.read)
+
+pub loop-turn-preserved : goal.loop-turn-preserved
+loop-turn-preserved g c =
+    let types : List SegmentType = c.args.dbd.now.types in
+    let v : VolumeState = c.args.volume.now in
+    let w : VolumeState = c.loop-turn.volume in
+    let m : Links = links_of types v in
+    let ps : List Place = c.args.places.now in
+    let i = c.loop-turn.invariant in
+    let xs : List ℕ = c.loop-turn.holders.items in
+    let ys : List ℕ = c.step_to.new.holders.items in
+    let before : ℕ = c.loop-turn.before in
+    let next : ℕ = c.loop-turn.next in
+    let holder : ℕ = c.holder_of-holder.result in
+    let found = c.in_ok-found.found in
+    let step = c.in-Some.step in
+    record {
+      read = read-ok 0 (reads-join (Ok found) i.read c.in_ok-found.ensures.read);
+      as_many = c.in_ok-found.ensures.as_many;
+      known = λ sound.
+          (let now : IsTrue w.is_sound = rw i.read.call.sound sound in
+          let same = links-same types v w (i.read.image now) i.read.call.size i.read.call.sizes in
+          subst (λ (l : Links). IsLastKey types l c.step_to.new.last) same (when-some _ found step c.in-Some.is (c.in_ok-found.ensures.known now)));
+      kept = λ sound.
+          (let now : IsTrue w.is_sound = rw i.read.call.sound sound in
+          stays-join c.args.holders.now.items xs ys (i.kept sound) (when-some _ found step c.in-Some.is (c.in_ok-found.ensures.kept now)));
+      chain = λ sound.
+          (let now : IsTrue w.is_sound = rw i.read.call.sound sound in
+          let same = links-same types v w (i.read.image now) i.read.call.size i.read.call.sizes in
+          let forward : step.forward ≡ m.forward next = subst (λ (l : Links). step.forward ≡ l.forward next) same (when-some _ found step c.in-Some.is (c.in_ok-found.ensures.forward now)) in
+          on-next types v ps (c.requires.places sound) c.args.parent c.args.code c.args.first (c.requires.parent sound) (c.requires.reached sound) xs ys before next holder step.forward c.if-next-eq0.false
+          (i.chain sound) c.holder_of-holder.ensures.parent c.holder_of-holder.ensures.twin (when-some _ found step c.in-Some.is (c.in_ok-found.ensures.kept now))
+          (when-some _ found step c.in-Some.is (c.in_ok-found.ensures.held now)) forward);
+      walked = λ sound in_hand walked.
+          (let now : IsTrue w.is_sound = rw i.read.call.sound sound in
+          let same = links-same types v w (i.read.image now) i.read.call.size i.read.call.sizes in
+          let leads = leads-on types v ps (c.requires.places sound) c.args.parent c.args.code c.args.first (c.requires.parent sound) (c.requires.reached sound) xs before next holder (i.chain sound)
+          c.holder_of-holder.ensures.parent c.holder_of-holder.ensures.twin in
+          let step_on : (in_hand : ℕ) → LeadsTo types m holder c.args.code before next → IsWalked types m ps before in_hand c.loop-turn.waiting.items xs → IsWalked types m ps next in_hand c.step_to.new.waiting.items ys =
+          subst (λ (l : Links). (in_hand : ℕ) → LeadsTo types l holder c.args.code before next → IsWalked types l ps before in_hand c.loop-turn.waiting.items xs → IsWalked types l ps next in_hand c.step_to.new.waiting.items ys)
+          same (when-some _ found step c.in-Some.is (c.in_ok-found.ensures.walked now)) in
+          step_on in_hand leads (i.walked sound in_hand walked));
+    }
+
+pub returns-in-Some-clause-read : goal.returns-in-Some-clause-read
+returns-in-Some-clause-read g c = read-ok None (reads-join (Ok c.in_ok-found.found) c.loop-turn.invariant.read c.in_ok-found.ensures.read)
