@@ -18,24 +18,7 @@ use Rattle.hd_check_pointers.proofs.KeyOrder.{twins-by}
 use Rattle.hd_check_walk.specs.Walks.{IsHeldBy, IsFollowed, IsUnheld, StaysHeld, IsRightTwin, IsRightFirst, IsRightBehind, AreChildrenWalked, IsWalked, LeadsTo}
 use Rattle.hd_check_walk.specs.Reading.{IsChildless}
 use Rattle.hd_check_walk.proofs.Staying.{followed-stays, children-stay}
-
--- what is among some is among these and one more
-pub among-front : (m : ℕ) (ns : List ℕ) (n : ℕ) → IsAmong m ns → IsAmong m (ns ++ n ∷ [])
-among-front m [] n i = absurd i
-among-front m (x ∷ ns) n (inl e) = inl e
-among-front m (x ∷ ns) n (inr i) = inr (among-front m ns n i)
-
--- and so is the one
-pub among-last : (ns : List ℕ) (n : ℕ) → IsAmong n (ns ++ n ∷ [])
-among-last [] n = inl refl
-among-last (x ∷ ns) n = inr (among-last ns n)
-
--- there is no other
-pub among-more : (m : ℕ) (ns : List ℕ) (n : ℕ) → IsAmong m (ns ++ n ∷ []) → IsAmong m ns ⊎ (m ≡ n)
-among-more m [] n (inl e) = inr e
-among-more m [] n (inr i) = absurd i
-among-more m (x ∷ ns) n (inl e) = inl (inl e)
-among-more m (x ∷ ns) n (inr i) = elim (among-more m ns n i) [ inl j ↦ inl (inr j) | inr e ↦ inr e ]
+use Rattle.hd_check_walk.proofs.Waiting.{among-more, among-front, among-last}
 
 -- twins are in order as the last key says that was read, which is that of the twin before
 pub key-behind : (types : List SegmentType) (m : Links) (last before h a t : ℕ) (key : List ℕ) → before ≢ 0 → last ≡ before → (last ≢ 0 → key ≡ key_of types (segment_at m last))

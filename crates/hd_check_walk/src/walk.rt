@@ -2,14 +2,15 @@
 ghost use Rattle.std.specs.Prelude.{◌≡◌, ◌≢◌, ℕ, ◌<◌, length, slice_index, replicate, [], true, IsTrue, IfOk};
 ghost use Rattle.hd_dbd.specs.Refusals.{OnlyDevice, OnlyMemory, OnlyDeviceOrMemory};
 ghost use Rattle.hd_volume.specs.Calls.{IsRead};
-ghost use Rattle.hd_links.specs.Links.{IsSegment};
+ghost use Rattle.hd_links.specs.Links.{IsSegment, is_child_type, is_last_kept};
 ghost use Rattle.hd_links.specs.Pointers.{IsReached, AreLinked};
 ghost use Rattle.hd_image.specs.Records.{links_of, IsVolumeOf};
 ghost use Rattle.hd_check_blocks.specs.Places.{ArePlaces, place_at};
 ghost use Rattle.hd_check_blocks.specs.Finding.{WhereSome};
 ghost use Rattle.hd_check_pointers.specs.Tables.{nobody};
+ghost use Rattle.hd_check_pointers.specs.Twins.{IsLastRight};
 ghost use Rattle.hd_check_pointers.specs.Keys.{IsLastKey};
-ghost use Rattle.hd_check_walk.specs.Walks.{StaysHeld, IsWalked, AreChildrenWalked};
+ghost use Rattle.hd_check_walk.specs.Walks.{IsFollowed, StaysHeld, IsWalked, AreChildrenWalked};
 
 use crate::twins::{NOBODY, walk_twins};
 use hd_check_blocks::{Directory, Place};
@@ -51,6 +52,65 @@ fn children_named<S: BlockStore>(
     }))
 }
 
+/// Whether the twin to which a walk came last is the last child that is named, where it is kept.
+fn is_last_named(dbd: &Dbd, child: u8, end: u32, last: u32) -> bool
+    ensures { result ≡ true → is_last_kept dbd.now.types child ≡ true → end ≡ last }
+{
+    !dbd.keeps_last_child(child) || end == last
+}
+
+/// Walks along the chain of the children of a type of the segment at a place, which are looked for at a number first; whether all of them
+/// are right.
+fn walk_type<S: BlockStore>(
+    holders: &mut Vec<u32>,
+    waiting: &mut Vec<usize>,
+    last: &mut LastKey,
+    places: &[Place],
+    directory: &Directory,
+    volume: &mut Volume<S>,
+    dbd: &Dbd,
+    place: Place,
+    child: u8,
+    near: usize,
+) -> Result<bool, Refused>
+    requires as_many { length holders.old.items ≡ length places.now }
+    requires of { IsTrue volume.old.is_sound → IsVolumeOf dbd.now volume.old }
+    requires places { IsTrue volume.old.is_sound → ArePlaces dbd.now.types volume.old places.now }
+    requires known { IsTrue volume.old.is_sound → IsLastKey dbd.now.types (links_of dbd.now.types volume.old) last.old }
+    requires there { IsTrue volume.old.is_sound → IsSegment (links_of dbd.now.types volume.old) place.address × ((links_of dbd.now.types volume.old).code place.address ≡ place.code) }
+    requires typed { IsTrue volume.old.is_sound → is_child_type dbd.now.types ((links_of dbd.now.types volume.old).code place.address) child ≡ true }
+    requires reached { IsTrue volume.old.is_sound → (n : ℕ) × IsReached dbd.now.types (links_of dbd.now.types volume.old) n place.address }
+    ensures read { IsRead volume.old result volume.new }
+    ensures as_many { length holders.new.items ≡ length places.now }
+    ensures known { IfOk result (λ b. IsTrue volume.old.is_sound → b ≡ true → IsLastKey dbd.now.types (links_of dbd.now.types volume.old) last.new) }
+    ensures kept { IfOk result (λ b. IsTrue volume.old.is_sound → b ≡ true → StaysHeld holders.old.items holders.new.items) }
+    ensures first { IfOk result (λ b. IsTrue volume.old.is_sound → b ≡ true → IsFollowed places.now holders.new.items place.address child ((links_of dbd.now.types volume.old).first_child place.address child)) }
+    ensures last { IfOk result (λ b. IsTrue volume.old.is_sound → b ≡ true → is_last_kept dbd.now.types child ≡ true → IsLastRight (links_of dbd.now.types volume.old) place.address child) }
+    ensures walked { IfOk result (λ b. IsTrue volume.old.is_sound → b ≡ true → (in_hand : ℕ) → IsWalked dbd.now.types (links_of dbd.now.types volume.old) places.now 0 in_hand waiting.old.items holders.old.items → IsWalked dbd.now.types (links_of dbd.now.types volume.old) places.now 0 in_hand waiting.new.items holders.new.items) }
+    ensures refusal { OnlyDeviceOrMemory result }
+{
+    let Some(named) = children_named(volume, dbd, place, child)? else {
+        return Ok(false);
+    };
+    let found = walk_twins(
+        holders,
+        waiting,
+        last,
+        places,
+        directory,
+        volume,
+        dbd,
+        place.address,
+        child,
+        named.first,
+        near,
+    )?;
+    match found {
+        None => Ok(false),
+        Some(end) => Ok(is_last_named(dbd, child, end, named.last)),
+    }
+}
+
 /// Walks along the chains of the children of the segment of a number; whether all of them are right.
 fn walk_children<S: BlockStore>(
     holders: &mut Vec<u32>,
@@ -79,10 +139,7 @@ fn walk_children<S: BlockStore>(
     }
     let place = places[number];
     for child in dbd.children_of(place.code) {
-        let Some(named) = children_named(volume, dbd, place, *child)? else {
-            return Ok(false);
-        };
-        let found = walk_twins(
+        if !walk_type(
             holders,
             waiting,
             last,
@@ -90,15 +147,10 @@ fn walk_children<S: BlockStore>(
             directory,
             volume,
             dbd,
-            place.address,
+            place,
             *child,
-            named.first,
             number.saturating_add(1),
-        )?;
-        let Some(end) = found else {
-            return Ok(false);
-        };
-        if dbd.keeps_last_child(*child) && end != named.last {
+        )? {
             return Ok(false);
         }
     }

@@ -1,7 +1,10 @@
-use Rattle.std.proofs.Common.{◌≡◌, ◌≢◌, ℕ, List, IsTrue, Ok, None, refl, sym, subst, ◌∙◌}
+use Rattle.std.proofs.Common.{◌≡◌, ◌≢◌, ℕ, List, IsTrue, Option, Result, Ok, Err, None, refl, sym, ap, subst, ◌∙◌}
+use Rattle.std.proofs.lemmas.Result.{err_from_is_err_and}
+use Rattle.hd_dbd.specs.declared.answer.Refused.{Refused}
 use Rattle.hd_dbd.specs.Types.{SegmentType}
 use Rattle.hd_volume.specs.Volumes.{VolumeState}
-use Rattle.hd_volume.proofs.CallSteps.{read-none, read-ok, reads-join}
+use Rattle.hd_volume.specs.Calls.{IsRead}
+use Rattle.hd_volume.proofs.CallSteps.{read-none, read-ok, read-err, reads-join}
 use Rattle.hd_links.specs.Links.{Links}
 use Rattle.hd_image.specs.Records.{links_of}
 use Rattle.hd_image.proofs.OneImage.{links-same, volume-same}
@@ -108,3 +111,9 @@ loop-turn-preserved g c =
 
 pub returns-in-Some-clause-read : goal.returns-in-Some-clause-read
 returns-in-Some-clause-read g c = read-ok None (reads-join (Ok c.in_ok-found.found) c.loop-turn.invariant.read c.in_ok-found.ensures.read)
+
+pub returns-in_err-found-clause-read : goal.returns-in_err-found-clause-read
+returns-in_err-found-clause-read g c =
+    let p = err_from_is_err_and c.from_residual.result c.from_residual.ensures.1 in
+    subst (λ (r : Result (Option ℕ) Refused). IsRead {T = Option ℕ} c.args.volume.now r c.step_to.new.volume) (sym (p.1 ∙ ap Err p.2))
+    (read-err (reads-join (Err c.in_err-found.field-0.0) c.loop-turn.invariant.read c.in_err-found.ensures.read))

@@ -1,0 +1,49 @@
+-- What is read of a segment that is lent.
+use Rattle.std.proofs.Common.{◌≡◌, ◌≢◌, ℕ, ◌≤◌, List, length, take, true, refl, sym, ap, ap₂, ◌∙◌}
+use Rattle.std.proofs.lemmas.List.{take_all}
+use Rattle.hd_dbd.specs.Types.{SegmentType}
+use Rattle.hd_dbd.specs.Prefixes.{children_of}
+use Rattle.hd_volume.specs.Volumes.{VolumeState}
+use Rattle.hd_prefix.specs.declared.pointer.Pointer.{Pointer}
+use Rattle.hd_prefix.specs.declared.pointer.Pointer.TheVariants.{FirstChild, LastChild}
+use Rattle.hd_prefix.specs.Fields.{code_of, pointer_of}
+use Rattle.hd_links.specs.Links.{child_types}
+use Rattle.hd_links.proofs.Types.{is_in}
+use Rattle.hd_image.specs.Records.{links_of}
+use Rattle.hd_check_blocks.specs.Lending.{IsLent}
+use Rattle.hd_check_pointers.proofs.ChildPointers.{first-read, last-read}
+use Rattle.hd_check_pointers.proofs.LastChildren.{listed}
+use Rattle.hd_check_walk.specs.Reading.{IsChildless}
+
+-- the bytes of a segment name no children of a type
+abbrev pub NamesNone : List SegmentType → ℕ → List ℕ → ℕ → Type 0
+NamesNone types code segment t = (pointer_of types code (FirstChild t) segment ≡ 0) × (pointer_of types code (LastChild t) segment ≡ 0)
+
+-- nor any of one of the first types of a list
+abbrev pub NamesNoneOf : List SegmentType → ℕ → List ℕ → List ℕ → ℕ → Type 0
+NamesNoneOf types code segment ts i = (t : ℕ) → is_in (take i ts) t ≡ true → NamesNone types code segment t
+
+-- what is read by a layout of a type of a database is what is read by its types and code
+pub layout-read : (types us : List SegmentType) (code k : ℕ) (pointer : Pointer) (segment : List ℕ) (x : ℕ) → us ≡ types → k ≡ code → x ≡ pointer_of us k pointer segment → x ≡ pointer_of types code pointer segment
+layout-read types us code k pointer segment x same own is = is ∙ ap₂ (λ (ts : List SegmentType) (c : ℕ). pointer_of ts c pointer segment) same own
+
+module _ (types : List SegmentType) (v : VolumeState) (a code : ℕ) (segment : List ℕ) (lent : IsLent types v a segment) (coded : (links_of types v).code a ≡ code) where
+  -- the code of a segment that is lent is that of its bytes
+  lent-own : code ≡ code_of segment
+  lent-own = sym coded ∙ ap code_of lent.stored
+
+  -- a first child that is read of a segment that is lent is that of its record
+  pub first-lent : (t x : ℕ) → x ≡ pointer_of types code (FirstChild t) segment → x ≡ (links_of types v).first_child a t
+  first-lent t x is = first-read types v a t code segment x lent.some lent.stored lent-own is
+
+  -- and so is a last child
+  pub last-lent : (t x : ℕ) → x ≡ pointer_of types code (LastChild t) segment → x ≡ (links_of types v).last_child a t
+  last-lent t x is = last-read types v a t code segment x lent.some lent.stored lent-own is
+
+  -- a segment whose bytes name no children of the types that are listed for its own names none
+  pub childless : (ts : List ℕ) (i : ℕ) → ts ≡ children_of types code → length ts ≤ i → NamesNoneOf types code segment ts i → IsChildless types (links_of types v) a
+  childless ts i list end none t child =
+      let some : code ≢ 0 = λ z. lent.typed (sym lent-own ∙ z) in
+      let all : child_types types ((links_of types v).code a) ≡ take i ts = ap (child_types types) coded ∙ listed types code ts some list ∙ sym (take_all i ts end) in
+      let zero = none t (sym (ap (λ (us : List ℕ). is_in us t) all) ∙ child) in
+      (sym (first-lent t (pointer_of types code (FirstChild t) segment) refl) ∙ zero.0, sym (last-lent t (pointer_of types code (LastChild t) segment) refl) ∙ zero.1)
