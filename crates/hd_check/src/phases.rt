@@ -82,8 +82,35 @@ fn twin_chains_fault<S: BlockStore>(
     Ok(reached_fault(places, directory, &owners))
 }
 
-/// The least fault of the pointers.
+/// The least fault of the pointers, phase by phase.
 fn pointers_fault<S: BlockStore>(
+    alloc: Global,
+    places: &[Place],
+    directory: &Directory,
+    volume: &mut Volume<S>,
+    dbd: &Dbd,
+) -> Result<Option<Fault>, Refused>
+    requires right { IsTrue volume.old.is_sound → HasRightBlocks dbd.now volume.old places.now }
+    ensures read { IsRead volume.old result volume.new }
+    ensures none { WhereNone volume.old result (AreLinked dbd.now.types (links_of dbd.now.types volume.old)) }
+    ensures some { WhereSome volume.old result (λ f. IsFirstFault dbd.now volume.old f) }
+    ensures refusal { OnlyDeviceOrMemory result }
+{
+    let mut forwards = Vec::new(alloc);
+    let mut namings = Vec::new(alloc);
+    let found = records_fault(&mut forwards, &mut namings, places, directory, volume, dbd)?;
+    if found.is_some() {
+        return Ok(found);
+    }
+    let found = predecessors_fault(alloc, &mut namings, places, directory)?;
+    if found.is_some() {
+        return Ok(found);
+    }
+    twin_chains_fault(alloc, places, directory, &namings, &forwards, volume, dbd)
+}
+
+/// The least fault of the pointers: none where one walk along them sees that all are right, and else what the phases find.
+fn links_fault<S: BlockStore>(
     alloc: Global,
     places: &[Place],
     directory: &Directory,
@@ -99,17 +126,7 @@ fn pointers_fault<S: BlockStore>(
     if are_linked(alloc, places, directory, volume, dbd)? {
         return Ok(None);
     }
-    let mut forwards = Vec::new(alloc);
-    let mut namings = Vec::new(alloc);
-    let found = records_fault(&mut forwards, &mut namings, places, directory, volume, dbd)?;
-    if found.is_some() {
-        return Ok(found);
-    }
-    let found = predecessors_fault(alloc, &mut namings, places, directory)?;
-    if found.is_some() {
-        return Ok(found);
-    }
-    twin_chains_fault(alloc, places, directory, &namings, &forwards, volume, dbd)
+    pointers_fault(alloc, places, directory, volume, dbd)
 }
 
 /// The least fault of the order of a chain's keys; where there is none, its blocks are put in order of their numbers.
@@ -262,7 +279,7 @@ pub fn first_fault<S: BlockStore>(
         return Ok(found);
     }
     let directory = Directory::of(alloc, places)?;
-    let found = pointers_fault(alloc, places, &directory, volume, dbd)?;
+    let found = links_fault(alloc, places, &directory, volume, dbd)?;
     if found.is_some() {
         return Ok(found);
     }

@@ -13,8 +13,8 @@ use Rattle.hd_check.proofs.OneStore.{IsOne, turned, right-same, formed-same, ent
 use Rattle.hd_check.proofs.Joined.{still-sound, was-sound, read-one, links-one, firsts-same, none-same, before-index}
 use Rattle.hd_check.proofs.phases.first_fault.Goals as goal
 
-pub pointers_fault-requires : goal.pointers_fault-requires
-pointers_fault-requires g c = record {
+pub links_fault-requires : goal.links_fault-requires
+links_fault-requires g c = record {
   right = λ now.
       let d : Database = c.args.dbd.now in
       let v : VolumeState = c.args.volume.now in
@@ -32,7 +32,7 @@ pub index_fault-requires-clause-right : goal.index_fault-requires-clause-right
 index_fault-requires-clause-right g c = λ now.
     let d : Database = c.args.dbd.now in
     let v : VolumeState = c.args.volume.now in
-    let w : VolumeState = c.pointers_fault.new.volume in
+    let w : VolumeState = c.links_fault.new.volume in
     let read = reads-join (Ok c.in_ok-found-2.found) c.in_ok-found.ensures.read c.in_ok-found-2.ensures.read in
     let sound = was-sound read now in
     let B : HasRightBlocks d v c.image_fault.new.places.items = from-none c.in_ok-found.found (sym c.is_some.ensures ∙ c.if-is_some.false) (c.in_ok-found.ensures.none sound c.types-types.ensures.fit) in
@@ -43,7 +43,7 @@ index_fault-requires-clause-before g c = λ now.
     let d : Database = c.args.dbd.now in
     let v : VolumeState = c.args.volume.now in
     let u : VolumeState = c.image_fault.new.volume in
-    let w : VolumeState = c.pointers_fault.new.volume in
+    let w : VolumeState = c.links_fault.new.volume in
     let read = reads-join (Ok c.in_ok-found-2.found) c.in_ok-found.ensures.read c.in_ok-found-2.ensures.read in
     let sound = was-sound read now in
     let e : IsOne v u = read-one c.in_ok-found.ensures.read sound in
@@ -57,7 +57,7 @@ returns-clause-none g c = if-ok c.index_fault.result c.index_fault.ensures.none
     let d : Database = c.args.dbd.now in
     let v : VolumeState = c.args.volume.now in
     let u : VolumeState = c.image_fault.new.volume in
-    let w : VolumeState = c.pointers_fault.new.volume in
+    let w : VolumeState = c.links_fault.new.volume in
     let read = reads-join (Ok c.in_ok-found-2.found) c.in_ok-found.ensures.read c.in_ok-found-2.ensures.read in
     let e : IsOne v w = read-one read sound in
     let B : HasRightBlocks d v c.image_fault.new.places.items = from-none c.in_ok-found.found (sym c.is_some.ensures ∙ c.if-is_some.false) (c.in_ok-found.ensures.none sound c.types-types.ensures.fit) in
@@ -74,4 +74,4 @@ pub returns-clause-some : goal.returns-clause-some
 returns-clause-some g c = if-ok c.index_fault.result c.index_fault.ensures.some
     (λ o some sound.
     let read = reads-join (Ok c.in_ok-found-2.found) c.in_ok-found.ensures.read c.in_ok-found-2.ensures.read in
-    firsts-same c.args.dbd.now c.args.volume.now c.pointers_fault.new.volume o (read-one read sound) (some (still-sound read sound)))
+    firsts-same c.args.dbd.now c.args.volume.now c.links_fault.new.volume o (read-one read sound) (some (still-sound read sound)))
