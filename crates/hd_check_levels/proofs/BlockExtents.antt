@@ -1,10 +1,12 @@
 -- The extents of entries and of blocks, put together.
-use Rattle.std.proofs.Common.{◌≡◌, ℕ, zero, suc, ◌<◌, ◌≤◌, ◌&&◌, not, cond, min, Bool, true, false, List, [], ◌∷◌, ◌++◌, length, take, drop, slice_index, slice_index_or, refl, sym, ap, ◌∙◌, subst, arith}
+use Rattle.std.proofs.Common.{◌≡◌, ℕ, zero, suc, ◌<◌, ◌≤◌, ◌&&◌, not, cond, min, Bool, true, false, List, [], ◌∷◌, ◌++◌, length, take, drop, slice_index, slice_index_or, Option, None, Some, refl, sym, ap, ◌∙◌, subst, arith}
+use Rattle.std.specs.Option.{option_map_or}
+use Rattle.std.proofs.lemmas.Bool.{and_parts}
 use Rattle.hd_volume.specs.Entries.{Entry}
-use Rattle.hd_volume.specs.Indexes.{key_less}
+use Rattle.hd_volume.specs.Indexes.{key_less, keys_ascend}
 use Rattle.hd_volume.proofs.KeyLemmas.{less-trans}
 use Rattle.hd_levels.specs.Levels.{IndexBlocks, named, entries_below}
-use Rattle.hd_levels.specs.LevelFaults.{is_up_to, is_below_all}
+use Rattle.hd_levels.specs.LevelFaults.{is_up_to, is_below_all, last_entry}
 use Rattle.hd_levels.proofs.Keys.{less-upto}
 use Rattle.hd_levels.proofs.Levels.{nil, named-append}
 use Rattle.hd_check_levels.specs.declared.extents.Extent.{Extent}
@@ -118,6 +120,47 @@ extent-wider k x y z es fs least greatest false own_least own_greatest low high 
     let l : take k z.least ≡ take k both.least = low ∙ ap (λ (t : List ℕ). cond (key_less (take k x.least) t) (take k x.least) t) (sym own_least) ∙ take-cond k below x.least y.least in
     let g : take k z.greatest ≡ take k both.greatest = high ∙ ap (λ (t : List ℕ). cond (key_less (take k x.greatest) t) t (take k x.greatest)) (sym own_greatest) ∙ take-cond k above y.greatest x.greatest in
     extent-same k both z (es ++ fs) l g (extent-both k x y es fs both.least both.greatest refl refl (some refl) more)
+
+-- ---- entries whose keys ascend
+
+-- one more with a key above the last
+pub ascend-more : (es : List Entry) (e : Entry) → keys_ascend es ≡ true → option_map_or (λ l. key_less l.key e.key) (last_entry None es) true ≡ true → keys_ascend (es ++ (e ∷ [])) ≡ true
+ascend-more [] e h less = refl
+ascend-more (x ∷ []) e h less = rw less refl
+ascend-more (x ∷ y ∷ ys) e h less =
+    let parts = and_parts (key_less x.key y.key) (keys_ascend (y ∷ ys)) h in
+    let more = ascend-more (y ∷ ys) e parts.1 less in
+    rw (parts.0, more) refl
+
+-- a key is below all just where it is below the first
+below-ascending : (key : List ℕ) (e : Entry) (es : List Entry) → keys_ascend (e ∷ es) ≡ true → is_below_all key (e ∷ es) ≡ key_less key e.key
+below-ascending key e [] h = and-true (key_less key e.key)
+below-ascending key e (f ∷ fs) h =
+    let parts = and_parts (key_less e.key f.key) (keys_ascend (f ∷ fs)) h in
+    ap (λ (b : Bool). key_less key e.key && b) (below-ascending key f fs parts.1)
+    ∙ and-left (key_less key e.key) (key_less key f.key) (λ less. less-trans key e.key f.key less parts.0)
+
+-- and none is above it just where the last is not
+up-ascending : (key : List ℕ) (e : Entry) (es : List Entry) (l : Entry) → keys_ascend (e ∷ es) ≡ true → last_entry (Some e) es ≡ Some l → is_up_to key (e ∷ es) ≡ not (key_less key l.key)
+up-ascending key e [] l h last = and-true (not (key_less key e.key)) ∙ ap (λ (o : Option Entry). not (key_less key (option_map_or (λ x. x.key) o []))) last
+up-ascending key e (f ∷ fs) l h last =
+    let parts = and_parts (key_less e.key f.key) (keys_ascend (f ∷ fs)) h in
+    let behind : is_up_to key (f ∷ fs) ≡ not (key_less key l.key) = up-ascending key f fs l parts.1 last in
+    ap (λ (b : Bool). not (key_less key e.key) && b) behind
+    ∙ nor-right (key_less key e.key) (key_less key l.key) (λ less. above-last (key_less key f.key) (is_up_to key fs) (key_less key l.key) (less-trans key e.key f.key less parts.0) behind)
+  where
+    above-last : (p q r : Bool) → p ≡ true → (not p && q) ≡ not r → r ≡ true
+    above-last true q true a b = refl
+    above-last true q false a b = b
+    above-last false q r a b = cc
+
+-- their extent is from the first to the last
+pub extent-ascending : (k : ℕ) (x : Extent) (e : Entry) (es : List Entry) (l : Entry) → keys_ascend (e ∷ es) ≡ true → last_entry (Some e) es ≡ Some l → take k x.least ≡ e.key → take k x.greatest ≡ l.key
+    → IsExtent k x (e ∷ es)
+extent-ascending k x e es l h last least greatest = record {
+  greatest = λ key. up-ascending key e es l h last ∙ ap (λ (t : List ℕ). not (key_less key t)) (sym greatest);
+  least = λ key. below-ascending key e es h ∙ ap (λ (t : List ℕ). key_less key t) (sym least);
+}
 
 -- ---- the extents of blocks
 

@@ -1,14 +1,17 @@
 -- What is found of the entries of a block, one by one.
 use Rattle.std.proofs.Common.{◌≡◌, ℕ, zero, suc, ◌+◌, ◌*◌, ◌-◌, ◌<◌, ◌≤◌, ◌&&◌, not, cond, Bool, true, false, List, [], ◌∷◌, ◌++◌, length, take, drop, slice_index_or, Option, None, Some, refl, sym, ap, ◌∙◌, subst, arith}
 use Rattle.std.specs.Prelude.{option_map}
+use Rattle.std.specs.Option.{option_map_or}
+use Rattle.std.proofs.lemmas.Bool.{and_parts}
 use Rattle.std.proofs.lemmas.List.{drop_more, drop_all}
 use Rattle.hd_volume.specs.Entries.{Entry, entries_at}
-use Rattle.hd_volume.specs.Indexes.{key_less}
-use Rattle.hd_entries.specs.Fields.{entry_in}
-use Rattle.hd_entries.proofs.EntryLemmas.{entries-drop}
+use Rattle.hd_volume.specs.Indexes.{key_less, is_below_first, keys_ascend}
+use Rattle.hd_bytes.specs.Ranges.{bytes_at}
+use Rattle.hd_entries.specs.Fields.{entry_in, entry_place}
+use Rattle.hd_entries.proofs.EntryLemmas.{entries-drop, entries-more}
 use Rattle.hd_levels.specs.Levels.{IndexBlocks, named}
 use Rattle.hd_levels.specs.LevelFaults.{last_entry, first_entry, first_wrong, is_right_entry, keeps_bounds}
-use Rattle.hd_levels.proofs.RowFaults.{first-append}
+use Rattle.hd_levels.proofs.RowFaults.{first-append, last-append}
 use Rattle.hd_check_levels.specs.declared.extents.Extent.{Extent}
 use Rattle.hd_check_levels.specs.BlockExtents.{AreExtents, AreBelow}
 use Rattle.hd_check_levels.specs.EntryOrders.{is_below_least, found_with, address_wrong}
@@ -86,6 +89,22 @@ wrong-more c l o (x ∷ es) e right =
     ∙ one-before (is_right_entry c l o x (first_entry es (Some e))) (first_wrong c l (Some x) (es ++ (e ∷ [])) right) (first_wrong c l (Some x) es (Some e))
     (is_right_entry c l (last_entry (Some x) es) e right) x e.address (wrong-more c l (Some x) es e right)
 
+-- ---- entries of level 0 whose keys ascend
+
+-- none of them is not right
+pub right-ascending : (c : IndexBlocks) (o : Option Entry) (es : List Entry) (right : Option Entry) → option_map_or (λ l. is_below_first l.key es) o true ≡ true → keys_ascend es ≡ true
+    → first_wrong c 0 o es right ≡ None
+right-ascending c o [] right above h = refl
+right-ascending c o (e ∷ es) right above h =
+    let parts = and_parts (is_below_first e.key es) (keys_ascend es) h in
+    let here : is_right_entry c 0 o e (first_entry es right) ≡ true = rw above refl in
+    rw here (right-ascending c (Some e) es right parts.0 parts.1)
+
+-- a key that is above that of the last is above the last
+pub above-last : (o : Option Entry) (before key : List ℕ) → option_map_or (λ (e : Entry). e.key) o before ≡ before → key_less before key ≡ true → option_map_or (λ (l : Entry). key_less l.key key) o true ≡ true
+above-last None before key is less = refl
+above-last (Some l) before key is less = ap (λ (t : List ℕ). key_less t key) is ∙ less
+
 -- ---- the entries of a block
 
 -- those from one on are it and those behind it
@@ -95,6 +114,16 @@ entries-from k b n i less =
     let behind : entries_at k b (12 + i * (k + 4) + k + 4) (n - (i + 1)) ≡ drop (i + 1) (entries_at k b 12 n) =
     ap (λ (p : ℕ). entries_at k b p (n - (i + 1))) (let e : 12 + i * (k + 4) + k + 4 ≡ 12 + (i + 1) * (k + 4) = omega arith in e) ∙ sym (entries-drop k b 12 (i + 1) n (omega arith)) in
     entries-drop k b 12 i n (omega arith) ∙ here ∙ ap (λ (t : List Entry). entry_in k b i ∷ t) behind
+
+-- the last of them
+pub last-in : (k : ℕ) (b : List ℕ) (count m : ℕ) (o : Option Entry) → count ≡ suc m → last_entry o (entries_at k b 12 count) ≡ Some (entry_in k b m)
+last-in k b count m o number =
+    ap (λ (n : ℕ). last_entry o (entries_at k b 12 n)) (let e : count ≡ m + 1 = omega arith in e)
+    ∙ ap (last_entry o) (entries-more k b 12 m) ∙ last-append o (entries_at k b 12 m) (entry_in k b m ∷ [])
+
+-- the key of the first
+pub first-key : (k : ℕ) (b : List ℕ) → bytes_at b (entry_place k 0) k ≡ bytes_at b 12 k
+first-key k b = ap (λ (p : ℕ). bytes_at b p k) (let e : entry_place k 0 ≡ 12 = omega arith in e)
 
 -- so it is where others stand behind the block
 pub drop-front : (i : ℕ) (es rs : List Entry) → i ≤ length es → drop i (es ++ rs) ≡ drop i es ++ rs

@@ -109,6 +109,18 @@ pub fn extent_below(block: &IndexBlock, level: u8, below: &[Extent]) -> Extent
     extent_of_blocks(&below[..count], block.key_length)
 }
 
+/// The extent from one key to another.
+pub fn extent_between(least: &[u8], greatest: &[u8]) -> Extent
+    requires short { (length least.now ≤ 255) × (length greatest.now ≤ 255) }
+    ensures least { take (length least.now) result.least ≡ least.now }
+    ensures greatest { take (length greatest.now) result.greatest ≡ greatest.now }
+{
+    let mut extent = no_extent();
+    put_key(&mut extent.least, least);
+    put_key(&mut extent.greatest, greatest);
+    extent
+}
+
 /// What stands where there is no entry yet.
 fn no_extent() -> Extent {
     Extent {

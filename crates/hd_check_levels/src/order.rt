@@ -4,18 +4,20 @@ ghost use Rattle.std.specs.Option.{option_map_or};
 ghost use Rattle.hd_dbd.specs.Refusals.{OnlyDevice, OnlyDeviceOrMemory};
 ghost use Rattle.hd_volume.specs.Volumes.{block_at};
 ghost use Rattle.hd_volume.specs.Entries.{Entry, entries_in};
-ghost use Rattle.hd_volume.specs.Indexes.{key_less};
+ghost use Rattle.hd_volume.specs.Indexes.{key_less, keys_ascend, is_below_first};
+ghost use Rattle.hd_entries.specs.Fields.{entry_count};
 ghost use Rattle.hd_volume.specs.Calls.{IsRead};
 ghost use Rattle.hd_levels.specs.IndexSets.{level_in, index_blocks};
 ghost use Rattle.hd_levels.specs.Faultless.{AreFormsRight};
 ghost use Rattle.hd_levels.specs.LevelFaults.{first_entry, keeps_bounds, is_right_entry, HasEntryOutOfOrder, StandsNowhere};
 ghost use Rattle.hd_check_levels.specs.Rows.{AreRows};
+ghost use Rattle.hd_check_levels.specs.Extents.{IsExtent};
 ghost use Rattle.hd_check_levels.specs.BlockExtents.{AreExtents, IsExtentBelow};
 ghost use Rattle.hd_check_levels.specs.Counted.{OfEntries, OfSomeEntries};
 ghost use Rattle.hd_check_levels.specs.EntryOrders.{IsLeft, is_below_least, found_with, IsFoundIn, IsLeftBehind, OfEntryAt, OfRow, IsWrongUpTo, IsLeastOf, lesser, standing_at};
 ghost use Rattle.hd_check_levels.specs.Judging.{IsFirst, WhereFound};
 
-use crate::extents::{Extent, extent_below};
+use crate::extents::{Extent, extent_below, extent_between};
 use crate::rows::Standing;
 use hd_dbd::{Refused, compare_keys};
 use hd_entries::{FIRST, IndexBlock};
@@ -128,6 +130,49 @@ struct Judged {
     count: usize,
 }
 
+/// Whether a block has entries and their keys ascend, the first of them above the one to its left.
+fn are_ascending(left: &Left, block: &IndexBlock) -> bool
+    ensures some { result ≡ true → 0 < entry_count block.now.key_length block.now.bytes.now }
+    ensures ascend { result ≡ true → OfEntries block.now (λ es. keys_ascend es ≡ true) }
+    ensures above { result ≡ true → OfEntries block.now (λ es. (o : Option Entry) → IsLeft block.now.key_length left.now o → option_map_or (λ l. is_below_first l.key es) o true ≡ true) }
+{
+    let count = block.count();
+    if count == 0 {
+        return false;
+    }
+    let mut before = block.key(0);
+    if !is_above(left, before, block.key_length) {
+        return false;
+    }
+    for index in 1..count {
+        let key = block.key(index);
+        if !compare_keys(before, key).is_lt() {
+            return false;
+        }
+        before = key;
+    }
+    true
+}
+
+/// Judges a block of level 0 whose keys ascend; the last key is kept.
+fn judge_ascending(left: &mut Left, block: &IndexBlock) -> Judged
+    requires some { 0 < entry_count block.now.key_length block.now.bytes.now }
+    ensures none { result.found ≡ None }
+    ensures left { OfEntries block.now (λ es. IsLeftBehind block.now.key_length left.old es left.new) }
+    ensures extent { OfEntries block.now (λ es. keys_ascend es ≡ true → IsExtent block.now.key_length result.extent es) }
+    ensures count { OfEntries block.now (λ es. result.count ≡ length es) }
+    ensures small { result.count ≤ 65535 }
+{
+    let count = block.count();
+    let greatest = block.key(count - 1);
+    keep_key(left, greatest);
+    Judged {
+        found: None,
+        extent: extent_between(block.key(0), greatest),
+        count,
+    }
+}
+
 /// Judges a block of a level, by the extents below it and below the blocks to its right; the last key is kept.
 fn judge_entries(left: &mut Left, block: &IndexBlock, level: u8, below: &[Extent]) -> Judged
     ensures found { OfEntries block.now (λ es. IsFoundIn block.now.key_length level left.old es below.now result.found) }
@@ -136,6 +181,9 @@ fn judge_entries(left: &mut Left, block: &IndexBlock, level: u8, below: &[Extent
     ensures count { OfEntries block.now (λ es. result.count ≡ length es) }
     ensures small { result.count ≤ 65535 }
 {
+    if level == 0 && are_ascending(left, block) {
+        return judge_ascending(left, block);
+    }
     let found = wrong_in(left, block, level, below);
     let extent = extent_below(block, level, below);
     let count = block.count();
