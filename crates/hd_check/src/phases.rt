@@ -228,7 +228,7 @@ fn entries_fault<S: BlockStore>(
     ensures refusal { OnlyDeviceOrMemory result }
 {
     let mut named = Vec::new(alloc);
-    let found = wrong_entry_fault(&mut named, sequence, places, directory, volume, dbd)?;
+    let found = wrong_entry_fault(alloc, &mut named, sequence, places, directory, volume, dbd)?;
     if found.is_some() {
         return Ok(found);
     }

@@ -1,16 +1,18 @@
 -- The entries of an index block, one by one, and what names a root.
-use Rattle.std.proofs.Common.{◌≡◌, inl, inr, ℕ, suc, ◌+◌, ◌-◌, ◌*◌, ◌<◌, List, [], ◌∷◌, ◌++◌, map, Bool, true, false, Option, Some, None, Ok, Err, refl, sym, ap, subst, ◌∙◌, arith, ne_eqb}
+use Rattle.std.proofs.Common.{◌≡◌, inl, inr, ℕ, suc, ◌+◌, ◌-◌, ◌*◌, ◌<◌, List, [], ◌∷◌, ◌++◌, map, Bool, true, false, Option, Some, None, Ok, Err, Result, IsTrue, refl, sym, ap, subst, ◌∙◌, arith, ne_eqb}
 use Rattle.std.specs.Prelude.{◌==◌, ◌&&◌, not, find, nat_eq, bytes_eq, option_map}
 use Rattle.std.specs.List.{list_all}
 use Rattle.std.proofs.lemmas.Bool.{cases_eq, cases_Bool, eq-eqb, eqb-true, and_parts, false≢true}
 use Rattle.hd_dbd.specs.Types.{SegmentType}
 use Rattle.hd_dbd.specs.Hierarchy.{Database}
 use Rattle.hd_dbd.specs.Rows.{key_of}
-use Rattle.hd_volume.specs.Volumes.{VolumeState, block_at}
+use Rattle.hd_volume.specs.Volumes.{VolumeState}
 use Rattle.hd_volume.specs.Entries.{Entry, entries_at}
 use Rattle.hd_prefix.specs.Fields.{code_of, bytes_of, IsWhole}
 use Rattle.hd_links.specs.Links.{Links, IsSegment, segment_at}
+use Rattle.hd_dbd.specs.declared.answer.Refused.{Refused}
 use Rattle.hd_dbd.specs.declared.answer.Refused.TheVariants.{Memory}
+use Rattle.hd_check_blocks.specs.Finding.{WhereNone, WhereSome}
 use Rattle.hd_volume.specs.Calls.{IsRead}
 use Rattle.hd_image.specs.Records.{links_of}
 use Rattle.hd_image.specs.IndexFaults.{names_a_root}
@@ -116,11 +118,22 @@ wrong-found test k b count i address before wrong low at =
     ap (λ (o : Option Entry). option_map (λ (e : Entry). e.address) o) found ∙ ap (λ (a : ℕ). Some a) (sym at)
 
 -- what is judged of an entry is so of the image
-pub judged-same : (d : Database) (v w : VolumeState) (n k i : ℕ) (b : Bool) → w.image ≡ v.image → w.size ≡ v.size → w.sizes ≡ v.sizes
-    → b ≡ names_a_root d (links_of d.types w) (entry_in k (block_at w n) i) → b ≡ names_a_root d (links_of d.types v) (entry_in k (block_at v n) i)
-judged-same d v w n k i b image size sizes h =
-    let same : block_at w n ≡ block_at v n = rw (size, image) refl in
-    h ∙ ap (λ (m : Links). names_a_root d m (entry_in k (block_at w n) i)) (links-same d.types v w image size sizes) ∙ ap (λ (x : List ℕ). names_a_root d (links_of d.types v) (entry_in k x i)) same
+pub judged-same : (d : Database) (v w : VolumeState) (key : List ℕ) (address : ℕ) (e : Entry) (b : Bool) → w.image ≡ v.image → w.size ≡ v.size → w.sizes ≡ v.sizes → key ≡ e.key → address ≡ e.address
+    → b ≡ names_a_root d (links_of d.types w) (record { key = key; address = address }) → b ≡ names_a_root d (links_of d.types v) e
+judged-same d v w key address e b image size sizes own at h =
+    h ∙ ap (λ (m : Links). names_a_root d m (record { key = key; address = address })) (links-same d.types v w image size sizes)
+    ∙ ap (λ (x : Entry). names_a_root d (links_of d.types v) x) (λ j. record { key = own j; address = at j })
+
+-- what is found in one state of a volume says what it does in another
+pub where-none : {P Q : Type 0} (v w : VolumeState) (r : Result (Option ℕ) Refused) → (IsTrue v.is_sound → IsTrue w.is_sound) → (IsTrue v.is_sound → P → Q) → WhereNone w r P → WhereNone v r Q
+where-none v w (Ok None) now f h = λ sound. f sound (h (now sound))
+where-none v w (Ok (Some a)) now f h = λ sound. tt
+where-none v w (Err e) now f h = tt
+
+pub where-some : {P Q : ℕ → Type 0} (v w : VolumeState) (r : Result (Option ℕ) Refused) → (IsTrue v.is_sound → IsTrue w.is_sound) → (IsTrue v.is_sound → (a : ℕ) → P a → Q a) → WhereSome w r P → WhereSome v r Q
+where-some v w (Ok None) now f h = λ sound. tt
+where-some v w (Ok (Some a)) now f h = λ sound. f sound a (h (now sound))
+where-some v w (Err e) now f h = tt
 
 -- a refusal for want of memory changes nothing that was read
 pub read-memory : {A B : Type 0} {u v : VolumeState} {x : A} → IsRead {T = A} u (Ok x) v → IsRead {T = B} u (Err Memory) v

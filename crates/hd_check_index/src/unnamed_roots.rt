@@ -1,5 +1,5 @@
 //! Phase 13: each root has an entry.
-ghost use Rattle.std.specs.Prelude.{◌≡◌, ◌<◌, ◌==◌, true, false, IfNone, IfSome};
+ghost use Rattle.std.specs.Prelude.{◌≡◌, ◌<◌, length, IfNone, IfSome};
 ghost use Rattle.std.specs.List.Sorted.{IsNonDecreasing};
 ghost use Rattle.hd_dbd.specs.Hierarchy.{Database};
 ghost use Rattle.hd_volume.specs.Volumes.{VolumeState};
@@ -11,14 +11,18 @@ ghost use Rattle.hd_check_index.specs.IndexPhases.{AreNamed, AreRootsAmong, IsFi
 use hd_check_blocks::{Fault, Place};
 use hd_image::Line;
 
-/// Whether an address is one of these, which are in order.
-fn is_named(named: &[u32], address: u32) -> bool
-    ensures right { IsNonDecreasing named.now → result ≡ true → IsAmong address named.now }
-    ensures wrong { IsNonDecreasing named.now → result ≡ false → IsAmong address named.now → ⊥ }
+/// Where an address stands among these, which are in order, if it is one of them. It is looked for at an index first.
+fn index_of(named: &[u32], address: u32, near: usize) -> Option<usize>
+    ensures some { IfSome result (λ i. i < length named.now) }
+    ensures right { IsNonDecreasing named.now → IfSome result (λ _. IsAmong address named.now) }
+    ensures wrong { IsNonDecreasing named.now → IfNone result (IsAmong address named.now → ⊥) }
 {
+    if near < named.len() && named[near] == address {
+        return Some(near);
+    }
     match named.binary_search(&address) {
-        Ok(_) => true,
-        Err(_) => false,
+        Ok(index) => Some(index),
+        Err(_) => None,
     }
 }
 
@@ -27,9 +31,13 @@ fn unnamed_root(named: &[u32], places: &[Place]) -> Option<u32>
     ensures none { IsNonDecreasing named.now → IfNone result (AreRootsAmong places.now named.now) }
     ensures some { IsNonDecreasing named.now → PlacesAscend places.now → IfSome result (λ a. IsFirstUnnamed places.now named.now a) }
 {
+    let mut near = 0;
     for place in places {
-        if place.code == 1 && !is_named(named, place.address) {
-            return Some(place.address);
+        if place.code == 1 {
+            match index_of(named, place.address, near) {
+                Some(index) => near = index + 1,
+                None => return Some(place.address),
+            }
         }
     }
     None

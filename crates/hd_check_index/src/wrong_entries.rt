@@ -1,7 +1,7 @@
 //! Phase 12: each entry names a root of its key.
-ghost use Rattle.std.specs.Prelude.{◌≡◌, ◌≤◌, ◌<◌, [], ◌++◌, ◌==◌, ◌&&◌, not, Some, map, bytes_eq, true, false, IsTrue, IfOk};
+ghost use Rattle.std.specs.Prelude.{◌≡◌, ◌≤◌, ◌<◌, [], ◌++◌, ◌==◌, ◌&&◌, not, Some, map, find, option_map, bytes_eq, true, IsTrue, IfOk};
 ghost use Rattle.std.specs.List.{list_all};
-ghost use Rattle.hd_bytes.specs.Numbers.{number_at};
+ghost use Rattle.hd_bytes.specs.Blocks.{HasBlock};
 ghost use Rattle.hd_dbd.specs.Refusals.{OnlyDevice, OnlyDeviceOrMemory};
 ghost use Rattle.hd_dbd.specs.Hierarchy.{Database};
 ghost use Rattle.hd_dbd.specs.Rows.{key_of};
@@ -15,30 +15,35 @@ ghost use Rattle.hd_image.specs.IndexFaults.{names_a_root};
 ghost use Rattle.hd_image.specs.Records.{links_of, IsVolumeOf};
 ghost use Rattle.hd_check_blocks.specs.Phases.{IsLeastOf};
 ghost use Rattle.hd_check_blocks.specs.Places.{ArePlaces};
-ghost use Rattle.hd_entries.specs.Fields.{entry_in};
-ghost use Rattle.hd_check_index.specs.IndexPhases.{IsSequence, AreNamed, AllNameRoots, first_wrong_in, entry_of};
+ghost use Rattle.hd_entries.specs.Fields.{CountFits};
+ghost use Rattle.hd_check_index.specs.IndexPhases.{IsSequence, AreNamed, AllNameRoots, first_wrong_in};
 ghost use Rattle.hd_check_blocks.specs.Finding.{WhereNone, WhereSome};
 
 use crate::noted_blocks::block_address;
-use hd_check_blocks::{Directory, Fault, Place, code_at, stored_key};
-use hd_dbd::{Dbd, Refused};
-use hd_entries::{copy_entry, entry_count, root_key_length};
+use hd_check_blocks::{Directory, Fault, Place, number_near, stored_key};
+use hd_dbd::{Dbd, Refused, compare_keys};
+use hd_entries::{FIRST, IndexBlock, root_key_length};
 use hd_image::Line;
 use hd_volume::{BlockStore, Volume};
+use std::alloc::Global;
 
 /// Whether a stored root has a key.
 fn has_key(dbd: &Dbd, segment: &[u8], key: &[u8]) -> bool
     ensures { IsWhole dbd.now.types 1 segment.now → result ≡ bytes_eq (key_of dbd.now.types (record { code = 1; bytes = bytes_of dbd.now.types 1 segment.now })) key.now }
 {
-    stored_key(dbd, 1, segment) == key
+    compare_keys(stored_key(dbd, 1, segment), key).is_eq()
 }
 
-/// Whether an address is that of a root.
-fn is_root(places: &[Place], directory: &Directory, address: u32) -> bool
+/// Whether an address is that of a root, which is looked for at a number first; that of the place behind it is kept then.
+fn is_root(places: &[Place], directory: &Directory, address: u32, near: &mut usize) -> bool
     ensures { (d : Database) (v : VolumeState) → let m = links_of d.types v in ArePlaces d.types v places.now → result ≡ (not (address == 0) && m.here address && (m.code address == 1)) }
 {
-    match code_at(places, directory, address) {
-        Some(code) => code == 1,
+    match number_near(places, directory, address, *near) {
+        Some(number) => {
+            *near = number + 1;
+            let place = places[number];
+            place.code == 1
+        }
         None => false,
     }
 }
@@ -47,6 +52,7 @@ fn is_root(places: &[Place], directory: &Directory, address: u32) -> bool
 fn names_root<S: BlockStore>(
     places: &[Place],
     directory: &Directory,
+    near: &mut usize,
     volume: &mut Volume<S>,
     dbd: &Dbd,
     key: &[u8],
@@ -58,51 +64,53 @@ fn names_root<S: BlockStore>(
     ensures value { IfOk result (λ b. IsTrue volume.old.is_sound → b ≡ names_a_root dbd.now (links_of dbd.now.types volume.old) (record { key = key.now; address = address })) }
     ensures refusal { OnlyDevice result }
 {
-    if !is_root(places, directory, address) {
+    if !is_root(places, directory, address, near) {
         return Ok(false);
     }
     let segment = volume.segment_at(address)?;
     Ok(has_key(dbd, segment, key))
 }
 
-/// Whether the entry of an index block at an index names a root of its key, and its address.
-fn judge_entry<S: BlockStore>(
+/// The address in the first entry of a copied block that names no root of its key; where there is none, the addresses of all are noted.
+fn wrong_among<S: BlockStore>(
+    named: &mut Vec<u32>,
     places: &[Place],
     directory: &Directory,
+    near: &mut usize,
     volume: &mut Volume<S>,
     dbd: &Dbd,
-    n: u32,
-    index: usize,
-) -> Result<(bool, u32), Refused>
+    block: &IndexBlock,
+) -> Result<Option<u32>, Refused>
     requires of { IsTrue volume.old.is_sound → IsVolumeOf dbd.now volume.old }
     requires places { IsTrue volume.old.is_sound → ArePlaces dbd.now.types volume.old places.now }
-    requires block { IsTrue volume.old.is_sound → IsEntryBlock (root_key_length dbd.now.types) volume.old n }
-    requires within { IsTrue volume.old.is_sound → index < number_at 2 (block_at volume.old n) 4 }
-    requires least { 12 ≤ volume.old.size }
     ensures read { IsRead volume.old result volume.new }
-    ensures value { IfOk result (λ j. IsTrue volume.old.is_sound → j.0 ≡ names_a_root dbd.now (links_of dbd.now.types volume.old) (entry_of dbd.now volume.old n index)) }
-    ensures address { IfOk result (λ j. IsTrue volume.old.is_sound → j.1 ≡ (entry_of dbd.now volume.old n index).address) }
-    ensures refusal { OnlyDevice result }
+    ensures none { WhereNone volume.old result (CountFits block.now.key_length block.now.bytes.now → list_all (λ e. names_a_root dbd.now (links_of dbd.now.types volume.old) e) (entries_in block.now.key_length block.now.bytes.now) ≡ true) }
+    ensures named { WhereNone volume.old result (CountFits block.now.key_length block.now.bytes.now → named.new.items ≡ named.old.items ++ map (λ e. e.address) (entries_in block.now.key_length block.now.bytes.now)) }
+    ensures some { WhereSome volume.old result (λ a. CountFits block.now.key_length block.now.bytes.now → option_map (λ e. e.address) (find (λ e. not (names_a_root dbd.now (links_of dbd.now.types volume.old) e)) (entries_in block.now.key_length block.now.bytes.now)) ≡ Some a) }
+    ensures refusal { OnlyDeviceOrMemory result }
 {
-    let key_length = root_key_length(dbd);
-    let entry = copy_entry(volume, n, key_length, index)?;
-    let right = names_root(
-        places,
-        directory,
-        volume,
-        dbd,
-        &entry.key[..key_length],
-        entry.address,
-    )?;
-    Ok((right, entry.address))
+    for index in 0..block.count() {
+        let key = block.key(index);
+        let address = block.address(index);
+        let right = names_root(places, directory, near, volume, dbd, key, address)?;
+        if !right {
+            return Ok(Some(address));
+        }
+        if named.push(address).is_err() {
+            return Err(Refused::Memory);
+        }
+    }
+    Ok(None)
 }
 
 /// The address in the first entry of an index block that names no root of its key; where there is none, the addresses of all
 /// are noted.
 fn wrong_entry<S: BlockStore>(
+    alloc: Global,
     named: &mut Vec<u32>,
     places: &[Place],
     directory: &Directory,
+    near: &mut usize,
     volume: &mut Volume<S>,
     dbd: &Dbd,
     n: u32,
@@ -118,22 +126,32 @@ fn wrong_entry<S: BlockStore>(
 {
     let least = volume.block_size();
     let key_length = root_key_length(dbd);
-    let count = entry_count(volume, n, key_length)?;
-    for index in 0..count {
-        let (right, address) = judge_entry(places, directory, volume, dbd, n, index)?;
-        if !right {
-            return Ok(Some(address));
-        }
-        if named.push(address).is_err() {
-            return Err(Refused::Memory);
-        }
+    let bytes = copied(alloc, volume, n)?;
+    if bytes.len() < FIRST {
+        return Ok(None);
     }
-    Ok(None)
+    let block = IndexBlock {
+        bytes: &bytes,
+        key_length,
+    };
+    wrong_among(named, places, directory, near, volume, dbd, &block)
+}
+
+/// The bytes of a block, copied.
+fn copied<S: BlockStore>(alloc: Global, volume: &mut Volume<S>, n: u32) -> Result<Vec<u8>, Refused>
+    requires there { IsTrue volume.old.is_sound → HasBlock volume.old.size volume.old.image n }
+    ensures read { IsRead volume.old result volume.new }
+    ensures value { IfOk result (λ bytes. IsTrue volume.old.is_sound → bytes.items ≡ block_at volume.old n) }
+    ensures refusal { OnlyDeviceOrMemory result }
+{
+    let bytes = volume.block(n)?;
+    Vec::from_slice(alloc, bytes).map_err(|_| Refused::Memory)
 }
 
 /// The first of the blocks that bear the index's entries with an entry that names no root of its key; where there is none, what the entries
 /// name is noted.
 pub fn wrong_entry_fault<S: BlockStore>(
+    alloc: Global,
     named: &mut Vec<u32>,
     blocks: &[u32],
     places: &[Place],
@@ -152,8 +170,11 @@ pub fn wrong_entry_fault<S: BlockStore>(
     ensures refusal { OnlyDeviceOrMemory result }
 {
     let size = volume.block_size() as u32;
+    let mut near = 0;
     for block in blocks {
-        match wrong_entry(named, places, directory, volume, dbd, *block)? {
+        match wrong_entry(
+            alloc, named, places, directory, &mut near, volume, dbd, *block,
+        )? {
             None => {}
             Some(address) => {
                 return Ok(Some(Fault::at(Line::WrongEntry, block_address(*block, size), address)));

@@ -1,10 +1,10 @@
-use Rattle.std.proofs.Common.{refl, arith}
+use Rattle.std.proofs.Common.{arith}
 use Rattle.hd_check_index.proofs.UnnamedRoots.{all-among, first-unnamed}
 use Rattle.hd_check_index.proofs.unnamed_roots.unnamed_root.Goals as goal
 
-pub returns-then-not-is_named-clause-some : goal.returns-then-not-is_named-clause-some
-returns-then-not-is_named-clause-some c = λ up ascend.
-    first-unnamed c.args.places.now c.args.named.now c.loop-place.place-index ascend c.loop-place-test.true c.if-place-eq1.true (c.if-not-is_named.ensures.wrong up refl) (c.loop-place.invariant up)
+pub returns-in-None-clause-some : goal.returns-in-None-clause-some
+returns-in-None-clause-some c = λ up ascend.
+    first-unnamed c.args.places.now c.args.named.now c.loop-place.place-index ascend c.loop-place-test.true c.if-place-eq1.true (c.in-None.ensures.wrong up) (c.loop-place.invariant up)
 
 pub returns-clause-none : goal.returns-clause-none
 returns-clause-none c = λ up.
