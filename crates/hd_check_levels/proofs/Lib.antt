@@ -3,6 +3,7 @@ pub mod EntryOrders
 pub mod RightBlocks
 pub mod RowOrders
 pub mod RowsUp
+pub mod KeyBytes
 pub mod NotedTables
 pub mod BlockForms
 pub mod TwiceNamed

@@ -130,6 +130,19 @@ struct Judged {
     count: usize,
 }
 
+/// Whether a key is less than another of its length: the first byte that differs decides.
+fn is_less(one: &[u8], other: &[u8]) -> bool
+    requires as_long { length one.now ≡ length other.now }
+    ensures { result ≡ key_less one.now other.now }
+{
+    for i in 0..one.len() {
+        if one[i] != other[i] {
+            return one[i] < other[i];
+        }
+    }
+    false
+}
+
 /// Whether a block has entries and their keys ascend, the first of them above the one to its left.
 fn are_ascending(left: &Left, block: &IndexBlock) -> bool
     ensures some { result ≡ true → 0 < entry_count block.now.key_length block.now.bytes.now }
@@ -146,7 +159,7 @@ fn are_ascending(left: &Left, block: &IndexBlock) -> bool
     }
     for index in 1..count {
         let key = block.key(index);
-        if !compare_keys(before, key).is_lt() {
+        if !is_less(before, key) {
             return false;
         }
         before = key;

@@ -1,5 +1,4 @@
 use Rattle.std.proofs.Common.{◌≡◌, ◌+◌, ◌-◌, ℕ, suc, List, Option, None, Some, true, refl, sym, ap, subst, ◌∙◌, arith}
-use Rattle.std.specs.Ordering.{is_lt}
 use Rattle.std.specs.Option.{option_map_or}
 use Rattle.hd_bytes.specs.Numbers.{number_at}
 use Rattle.hd_bytes.specs.Ranges.{bytes_at}
@@ -16,7 +15,11 @@ pub loop-index-init : goal.loop-index-init
 loop-index-init c = record {
   ascend = refl;
   last = sym (c.key-before.ensures.value ∙ first-key c.args.block.now.key_length c.args.block.now.bytes.now);
+  long = c.key-before.ensures.len;
 }
+
+pub is_less-requires : goal.is_less-requires
+is_less-requires c = record { as_long = c.loop-index.invariant.long ∙ sym c.key-key.ensures.len }
 
 pub loop-index-preserved : goal.loop-index-preserved
 loop-index-preserved c =
@@ -28,11 +31,12 @@ loop-index-preserved c =
     let i = c.loop-index.invariant in
     let own : c.key-key.result.now ≡ e.key = c.key-key.ensures.value in
     let less : key_less c.loop-index.before.now e.key ≡ true =
-    ap (λ (t : List ℕ). key_less c.loop-index.before.now t) (sym own) ∙ ap is_lt (sym c.compare_keys.ensures) ∙ sym c.is_lt.ensures ∙ c.if-not-is_lt.false in
+    ap (λ (t : List ℕ). key_less c.loop-index.before.now t) (sym own) ∙ sym c.is_less.ensures ∙ c.if-not-is_less.false in
     let last : last_entry None (entries_at k b 12 (n + 1)) ≡ Some e = last-in k b (n + 1) n None (let z : n + 1 ≡ suc n = omega arith in z) in
     record {
       ascend = ap keys_ascend (entries-more k b 12 n) ∙ ascend-more es e i.ascend (above-last (last_entry None es) c.loop-index.before.now e.key i.last less);
       last = ap (λ (o : Option Entry). option_map_or (λ (x : Entry). x.key) o c.key-key.result.now) last ∙ sym own;
+      long = c.key-key.ensures.len;
     }
 
 pub returns-clause-ascend : goal.returns-clause-ascend
