@@ -1,5 +1,6 @@
 pub mod ChainSteps
 pub mod Readings
+pub mod NotedParts
 pub mod HeaderFaults
 pub mod BlockFaults
 pub mod PlaceLemmas

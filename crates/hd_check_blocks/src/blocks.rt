@@ -1,56 +1,72 @@
 //! Phase 2: the blocks, one by one.
-ghost use Rattle.std.specs.Prelude.{◌≡◌, ◌≤◌, ◌<◌, ◌+◌, ◌*◌, ◌%◌, ◌++◌, ℕ, List, [], length, slice_index, IsTrue, IfNone, IfSome};
+ghost use Rattle.std.specs.Prelude.{◌≡◌, ◌≤◌, ◌<◌, ◌+◌, ◌*◌, ◌%◌, ◌++◌, ℕ, List, [], ◌==◌, cond, length, slice_index, IsTrue};
 ghost use Rattle.hd_bytes.specs.Blocks.{HasBlock};
-ghost use Rattle.hd_dbd.specs.Refusals.{OnlyDeviceOrMemory};
+ghost use Rattle.hd_dbd.specs.Refusals.{OnlyMemory, OnlyDeviceOrMemory};
 ghost use Rattle.hd_dbd.specs.Facts.{stored_sizes};
 ghost use Rattle.hd_block.specs.Sizes.{size_at};
+ghost use Rattle.hd_block.specs.Walk.{parts_in};
 ghost use Rattle.hd_volume.specs.Headers.{HasHeader};
 ghost use Rattle.hd_volume.specs.Volumes.{block_at, kind_of, HasExtents};
 ghost use Rattle.hd_volume.specs.Calls.{IsRead};
 ghost use Rattle.hd_check_blocks.specs.Phases.{IsRightBlock, IsWrongBlock, AreBlocksRight, IsLeastOf};
-ghost use Rattle.hd_check_blocks.specs.Places.{places_at, ArePlaces};
-ghost use Rattle.hd_check_blocks.specs.Finding.{WhereNone, WhereSome};
+ghost use Rattle.hd_check_blocks.specs.Places.{places_in, places_at, ArePlaces};
+ghost use Rattle.hd_check_blocks.specs.Finding.{WhereNone, WhereSome, IfFindsNone, IfFindsSome};
 ghost use Rattle.hd_volume.specs.declared.load.TheConstants.{MOST_BLOCKS};
 
 use crate::fault::Fault;
 use crate::free_elements::is_chain_right;
-use crate::places::{Place, note_segments};
+use crate::places::Place;
 use crate::wrong_place::wrong_place;
 use hd_dbd::{Dbd, Refused, SegmentSize};
 use hd_image::Line;
 use hd_volume::{BlockStore, DATA, FREE, INDEX, MOST_BLOCKS, Volume, size_table};
 use std::alloc::Global;
 
-/// What is wrong with a data block that begins at an address.
-fn data_fault(block: &[u8], sizes: &[SegmentSize], first: u32) -> Option<Fault>
+/// What is wrong with a data block that begins at an address. Where nothing is, its segments are noted.
+fn data_fault(
+    places: &mut Vec<Place>,
+    block: &[u8],
+    sizes: &[SegmentSize],
+    first: u32,
+) -> Result<Option<Fault>, Refused>
     requires size { (8 ≤ length block.now) × (length block.now ≤ 32768) × (length block.now % 8 ≡ 0) }
     requires eighths { (bytes : List ℕ) (place : ℕ) → size_at sizes.now bytes place % 8 ≡ 0 }
     requires data { kind_of block.now ≡ 1 }
     requires within { first + length block.now ≤ 4294967296 }
-    ensures none { IfNone result (HasExtents sizes.now block.now) }
-    ensures some { IfSome result (λ f. IsWrongBlock sizes.now block.now first f) }
+    ensures none { IfFindsNone result (HasExtents sizes.now block.now) }
+    ensures places { IfFindsNone result (places.new.items ≡ places.old.items ++ places_in block.now first (parts_in sizes.now block.now)) }
+    ensures some { IfFindsSome result (λ f. IsWrongBlock sizes.now block.now first f) }
+    ensures refusal { OnlyMemory result }
 {
     if !is_chain_right(block) {
-        return Some(Fault::at(Line::WrongChain, first, 0));
+        return Ok(Some(Fault::at(Line::WrongChain, first, 0)));
     }
-    match wrong_place(block, sizes) {
-        None => None,
-        Some(place) => Some(Fault::at(Line::WrongPlace, first + place as u32, 0)),
+    match wrong_place(places, block, sizes, first)? {
+        None => Ok(None),
+        Some(place) => Ok(Some(Fault::at(Line::WrongPlace, first + place as u32, 0))),
     }
 }
 
-/// What is wrong with a block, behind block 0, that begins at an address.
-fn block_fault(block: &[u8], sizes: &[SegmentSize], first: u32) -> Option<Fault>
+/// What is wrong with a block, behind block 0, that begins at an address. The segments of a data block with which nothing is wrong
+/// are noted.
+fn block_fault(
+    places: &mut Vec<Place>,
+    block: &[u8],
+    sizes: &[SegmentSize],
+    first: u32,
+) -> Result<Option<Fault>, Refused>
     requires size { (8 ≤ length block.now) × (length block.now ≤ 32768) × (length block.now % 8 ≡ 0) }
     requires eighths { (bytes : List ℕ) (place : ℕ) → size_at sizes.now bytes place % 8 ≡ 0 }
     requires within { first + length block.now ≤ 4294967296 }
-    ensures none { IfNone result (IsRightBlock sizes.now block.now) }
-    ensures some { IfSome result (λ f. IsWrongBlock sizes.now block.now first f) }
+    ensures none { IfFindsNone result (IsRightBlock sizes.now block.now) }
+    ensures places { IfFindsNone result (places.new.items ≡ places.old.items ++ cond (kind_of block.now == 1) (places_in block.now first (parts_in sizes.now block.now)) []) }
+    ensures some { IfFindsSome result (λ f. IsWrongBlock sizes.now block.now first f) }
+    ensures refusal { OnlyMemory result }
 {
     match block[2] {
-        DATA => data_fault(block, sizes, first),
-        INDEX | FREE => None,
-        _ => Some(Fault::at(Line::NoKind, first, 0)),
+        DATA => data_fault(places, block, sizes, first),
+        INDEX | FREE => Ok(None),
+        _ => Ok(Some(Fault::at(Line::NoKind, first, 0))),
     }
 }
 
@@ -77,11 +93,7 @@ fn stored_block_fault<S: BlockStore>(
     if block.len() != size {
         return Ok(None);
     }
-    let fault = block_fault(block, sizes, first);
-    if block[2] == DATA {
-        note_segments(places, block, sizes, first)?;
-    }
-    Ok(fault)
+    block_fault(places, block, sizes, first)
 }
 
 /// What is wrong with the blocks of a volume whose header is right; where nothing is, its segments are noted, in order of their
