@@ -83,8 +83,9 @@ fn refusal_of(refused: Refused) -> CheckFault
 /// Whether a volume holds a forest of its database. It passes exactly where it holds one, and then it holds no other; else its least
 /// fault is named, by phase, then by address, then by number. No byte is changed.
 ///
-/// The time is n log n in the pointers; each block is read at most three times, and one or two times more for each twin, or index
-/// entry, whose keys lie in different blocks.
+/// The time is n log n in the pointers. Each block is read once for its extents, and again each time that the walk along the pointers, or an
+/// index entry, comes to it from another. Where the walk sees a pointer that is wrong the phases read the blocks again, each at most three
+/// times, and one or two times more for each twin whose keys lie in different blocks.
 pub fn check<S: BlockStore>(
     alloc: Global,
     volume: &mut Volume<S>,

@@ -3,10 +3,11 @@
 use crate::judged::{Judged, comes_again, judge, reloaded};
 use crate::old_images::make_old;
 use hd_cache::Cached;
+use hd_check::check;
 use hd_dbd::Dbd;
 use hd_sample::{WAYS, byte_at, changed, root_database, root_stream, set_byte};
 use hd_unload::reload;
-use hd_volume::{FuseStore, MemStore};
+use hd_volume::{FuseStore, MemStore, Volume};
 use std::alloc::{AllocError, Global};
 use std::test::Fail;
 
@@ -145,5 +146,33 @@ fn a_reload_comes_to_each_block_three_times(rt: HostRuntime) -> Result<(), Fail>
     // 127 roots of 16 bytes fill a data block, and 290 keys one of the sequence set; above these 345 stand two, and the top
     assert_eq!(rt; blocks, 1 + 788 + 345 + 2 + 1);
     assert!(rt; accesses <= 3 * u64::from(blocks) + CACHED, "{accesses}");
+    Ok(())
+}
+
+/// The accesses of a check of the volume that is made of a stream, without a cache, with the load; and its blocks.
+fn check_costs(alloc: Global, dbd: &Dbd, stream: &[u8]) -> Option<(u64, u32)> {
+    let store = MemStore::new(dbd.block_size() as usize, Vec::new(alloc));
+    let Ok(made) = reload(alloc, dbd, stream, store, 65536) else {
+        return None;
+    };
+    let Ok(mut volume) = Volume::load(alloc, FuseStore::new(made.store, u64::MAX), dbd) else {
+        return None;
+    };
+    let Ok(passed) = check(alloc, &mut volume, dbd) else {
+        return None;
+    };
+    Some((volume.into_store().accesses(), passed.blocks))
+}
+
+/// Each block is read for its extents; each data block once more by the walk along the pointers, and once for the entries that name its
+/// roots; each index block at most five times more. Were the phases asked that name a wrong pointer, each data block would be read three times more.
+#[test]
+fn a_check_walks_once_along_the_pointers(rt: HostRuntime) -> Result<(), Fail> {
+    let alloc = rt.alloc();
+    let dbd = root_database(alloc, 2048, 3).expect(&rt, "a database");
+    let stream = root_stream(alloc, &dbd, 3, 100_000, 1)?;
+    let (accesses, blocks) = check_costs(alloc, &dbd, &stream).expect(&rt, "a check");
+    assert_eq!(rt; blocks, 1 + 788 + 345 + 2 + 1);
+    assert!(rt; accesses <= u64::from(blocks) + 2 * 788 + 5 * 348, "{accesses}");
     Ok(())
 }
