@@ -56,11 +56,12 @@ fn played<S: BlockStore + Drop, W: Write>(
     }
 }
 
-/// What is printed where an access fails in the first of two calls, and where one fails in the second.
+/// What is printed where an access fails in the first of two calls, and where one fails in the second. The first row's block may still be in
+/// memory from the check, so the first call goes on to the row below it.
 const FIRST_FAILS: &[u8] = b"1 1 GN   [!!] Device\n";
 
 const SECOND_FAILS: &[u8] =
-    b"1 1 GN   [  ] 01 COURSE   key=101 area=101ALGEB\n2 1 GN   [!!] Device\n";
+    b"1 1 GN   [  ] 02 CLASS    key=10101 area=01AB\n2 1 GN   [!!] Device\n";
 
 #[test]
 fn prints_the_call_in_which_an_access_fails(rt: HostRuntime) -> Result<(), Fail> {
@@ -70,7 +71,9 @@ fn prints_the_call_in_which_an_access_fails(rt: HostRuntime) -> Result<(), Fail>
     for passes in 0..100 {
         let mut out = Vec::new(alloc);
         let store = FuseStore::new(spread(alloc).expect(&rt, "memory"), passes);
-        let ended = played(alloc, b"L   2 GN\n", store, &mut out).expect(&rt, "memory");
+        let ended = played(alloc, b"L     GN   CLASS   \nL     GN\n", store, &mut out).expect(
+            &rt, "memory",
+        );
         if ended == Ok((2, 0)) {
             assert!(rt; first && second);
             return Ok(());
