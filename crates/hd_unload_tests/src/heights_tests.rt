@@ -164,8 +164,9 @@ fn check_costs(alloc: Global, dbd: &Dbd, stream: &[u8]) -> Option<(u64, u32)> {
     Some((volume.into_store().accesses(), passed.blocks))
 }
 
-/// Each block is read for its extents; each data block once more by the walk along the pointers, and once for the entries that name its
-/// roots; each index block at most five times more. Were the phases asked that name a wrong pointer, each data block would be read three times more.
+/// Each block is read for its extents; each data block once more by the walk along the pointers, and once or twice for the entries that name
+/// its roots; each index block at most eight times more. Were the phases asked that name a wrong pointer, each data block would be read three
+/// times more.
 #[test]
 fn a_check_walks_once_along_the_pointers(rt: HostRuntime) -> Result<(), Fail> {
     let alloc = rt.alloc();
@@ -173,6 +174,9 @@ fn a_check_walks_once_along_the_pointers(rt: HostRuntime) -> Result<(), Fail> {
     let stream = root_stream(alloc, &dbd, 3, 100_000, 1)?;
     let (accesses, blocks) = check_costs(alloc, &dbd, &stream).expect(&rt, "a check");
     assert_eq!(rt; blocks, 1 + 788 + 345 + 2 + 1);
-    assert!(rt; accesses <= u64::from(blocks) + 2 * 788 + 5 * 348, "{accesses}");
+    assert!(rt;
+        accesses <= u64::from(blocks) + 3 * 788 + 8 * 348,
+        "{accesses}"
+    );
     Ok(())
 }
