@@ -35,8 +35,11 @@ fn behind(block: &[u8], sizes: &[SegmentSize], at: Reading) -> Option<Reading>
         });
     }
     let size = size_at(block, sizes, at.place);
-    let end = at.place.saturating_add(size);
-    if size == 0 || end > block.len() || (at.place < at.next && at.next < end) {
+    if size == 0 || size > block.len() - at.place {
+        return None;
+    }
+    let end = at.place + size;
+    if at.place < at.next && at.next < end {
         return None;
     }
     Some(Reading {
