@@ -3,8 +3,6 @@
 
 mod block;
 mod format;
-mod reading;
 
 pub use block::{IndexBlock, Seen};
 pub use format::{ADDRESS, COUNT, FIRST, LEVEL, NEXT, entry_place, entry_room, root_key_length};
-pub use reading::{EntryCopy, copy_entry, entry_count};
