@@ -9,7 +9,7 @@ use Rattle.hd_image.specs.Records.{links_of}
 use Rattle.hd_check_blocks.specs.declared.places.Place.{Place}
 use Rattle.hd_check_blocks.specs.Places.{ArePlaces, place_at}
 use Rattle.hd_check_pointers.proofs.TwinChains.{chain-on, chain-some}
-use Rattle.hd_check_walk.specs.Walks.{IsHeldBy, IsFollowed, StaysHeld, IsWalked, LeadsTo, IsEnd}
+use Rattle.hd_check_walk.specs.Walks.{IsHeldBy, IsFollowed, StaysHeld, IsWalkedSoFar, LeadsTo, IsEnd}
 use Rattle.hd_check_walk.proofs.Staying.{held-stays}
 use Rattle.hd_check_walk.proofs.Steps.{stands, coded}
 
@@ -124,7 +124,7 @@ module _ (types : List SegmentType) (v : VolumeState) (ps : List Place) (are : A
 
     -- nothing is open there
     pub end-shut : (xs waiting : List ℕ) (before next in_hand : ℕ) → next ≡ 0 → IsOnChain types (links_of types v) ps xs h t first before next
-        → IsWalked types (links_of types v) ps before in_hand waiting xs → IsWalked types (links_of types v) ps 0 in_hand waiting xs
+        → IsWalkedSoFar types (links_of types v) ps before in_hand waiting xs → IsWalkedSoFar types (links_of types v) ps 0 in_hand waiting xs
     end-shut xs waiting before next in_hand over on walked = record {
       right = walked.right;
       reached = walked.reached;

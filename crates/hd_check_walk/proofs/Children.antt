@@ -18,7 +18,7 @@ use Rattle.hd_check_blocks.specs.declared.places.Place.{Place}
 use Rattle.hd_check_blocks.specs.Places.{place_at}
 use Rattle.hd_check_pointers.specs.Twins.{IsLastRight}
 use Rattle.hd_check_pointers.proofs.LastChildren.{hand-in, listed}
-use Rattle.hd_check_walk.specs.Walks.{IsFollowed, StaysHeld, AreChildrenWalked, IsWalked, IsEnd}
+use Rattle.hd_check_walk.specs.Walks.{IsFollowed, StaysHeld, AreChildrenWalked, IsWalkedSoFar, IsEnd}
 use Rattle.hd_check_walk.proofs.Staying.{followed-stays}
 
 -- The children of a type are walked: the first was followed, and the last, where it is kept, is the last twin of its chain.
@@ -62,7 +62,7 @@ module _ (types : List SegmentType) (m : Links) (ps : List Place) (xs ys : List 
 
 -- where the children in hand are walked none are in hand
 pub hand-walked : (types : List SegmentType) (m : Links) (ps : List Place) (xs waiting : List ℕ) (n other : ℕ) → AreChildrenWalked types m ps xs (place_at ps n).address
-    → IsWalked types m ps 0 n waiting xs → IsWalked types m ps 0 other waiting xs
+    → IsWalkedSoFar types m ps 0 n waiting xs → IsWalkedSoFar types m ps 0 other waiting xs
 hand-walked types m ps xs waiting n other all walked = record {
   right = walked.right;
   reached = walked.reached;

@@ -16,7 +16,7 @@ use Rattle.hd_check_blocks.proofs.Lookups.{among, number-of}
 use Rattle.hd_check_pointers.specs.Tables.{nobody}
 use Rattle.hd_check_pointers.proofs.PlaceNumbers.{one-number}
 use Rattle.hd_check_pointers.proofs.TwinChains.{chain-some, chain-rest}
-use Rattle.hd_check_walk.specs.Walks.{IsHeldBy, IsFollowed, IsRightBehind, AreChildrenWalked, IsWalked}
+use Rattle.hd_check_walk.specs.Walks.{IsHeldBy, IsFollowed, IsRightFrom, AreChildrenWalked, IsWalkedSoFar}
 
 -- A walk that is over: these are the places of all segments, each is held, child types come later than their parents, nothing waits, and
 -- the header's children and those of all segments are walked.
@@ -27,7 +27,7 @@ record IsOver (types : List SegmentType) (m : Links) (ps : List Place) (holders 
   held : (i : ℕ) → i < length ps → slice_index holders i ≢ nobody
   later : (c t : ℕ) → is_child_type types c t ≡ true → c < t
   roots : AreChildrenWalked types m ps holders 0
-  walked : IsWalked types m ps 0 (length ps) [] holders
+  walked : IsWalkedSoFar types m ps 0 (length ps) [] holders
 
 module _ (types : List SegmentType) (m : Links) (ps : List Place) (holders : List ℕ) (O : IsOver types m ps holders) where
   -- ---- what is known of a segment
@@ -81,14 +81,14 @@ module _ (types : List SegmentType) (m : Links) (ps : List Place) (holders : Lis
   ]
 
   -- each segment is right behind some record
-  right : (a : ℕ) → IsSegment m a → (h : ℕ) × IsRightBehind types m h a
-  right a s = (let n = number a s in (slice_index holders n.0, subst (λ (p : Place). IsRightBehind types m (slice_index holders n.0) p.address) n.2 (O.walked.right n.0 n.1 (O.held n.0 n.1))))
+  right : (a : ℕ) → IsSegment m a → (h : ℕ) × IsRightFrom types m h a
+  right a s = (let n = number a s in (slice_index holders n.0, subst (λ (p : Place). IsRightFrom types m (slice_index holders n.0) p.address) n.2 (O.walked.right n.0 n.1 (O.held n.0 n.1))))
 
   -- and behind each of its predecessors
-  right-behind : (h a : ℕ) → IsSegment m a → Precedes types m h a → IsRightBehind types m h a
+  right-behind : (h a : ℕ) → IsSegment m a → Precedes types m h a → IsRightFrom types m h a
   right-behind h a s prec =
       let x = (holds h a s prec).1 in
-      subst (λ (g : ℕ). IsRightBehind types m g a) x.3 (subst (λ (p : Place). IsRightBehind types m (slice_index holders x.0) p.address) x.2 (O.walked.right x.0 x.1 (O.held x.0 x.1)))
+      subst (λ (g : ℕ). IsRightFrom types m g a) x.3 (subst (λ (p : Place). IsRightFrom types m (slice_index holders x.0) p.address) x.2 (O.walked.right x.0 x.1 (O.held x.0 x.1)))
 
   -- ---- pointers are typed
 
@@ -107,7 +107,7 @@ module _ (types : List SegmentType) (m : Links) (ps : List Place) (holders : Lis
 
   -- twin backward of a segment names one of its type, or nothing
   backward-points : (a : ℕ) → IsSegment m a → is_backward_kept types (m.code a) ≡ true → PointsTo m (m.code a) (m.backward a)
-  backward-points a s kept some = elim (right a s).1.place [
+  backward-points a s kept some = elim (right a s).1.way [
     | inl twin ↦ (let e = twin.backward kept in (ap m.here e ∙ twin.names.holder.here, ap m.code e ∙ sym twin.typed))
     | inr first ↦ absurd (let e = first.1.backward kept in omega arith)
   ]
@@ -140,7 +140,7 @@ module _ (types : List SegmentType) (m : Links) (ps : List Place) (holders : Lis
 
   -- each segment has one
   some-precedes : (a : ℕ) → IsSegment m a → (h : ℕ) × Precedes types m h a
-  some-precedes a s = (let r = right a s in elim r.1.place [ inl twin ↦ (r.0, inl twin.names) | inr first ↦ (r.0, inr (first.0, first.1.names)) ])
+  some-precedes a s = (let r = right a s in elim r.1.way [ inl twin ↦ (r.0, inl twin.names) | inr first ↦ (r.0, inr (first.0, first.1.names)) ])
 
   -- and just one
   single : PredecessorsAreOne types m
@@ -158,15 +158,15 @@ module _ (types : List SegmentType) (m : Links) (ps : List Place) (holders : Lis
   -- twins link back
   back : TwinsLinkBack types m
   back = record {
-    twins = λ a h s kept b. elim (right-behind h a s (inl b)).place [ inl twin ↦ twin.backward kept | inr first ↦ absurd (not-both h first.0 a s first.1.names b) ];
-    firsts = λ a h t s kept p. elim (right-behind h a s (inr (t, p))).place [ inl twin ↦ absurd (not-both h t a s p twin.names) | inr first ↦ first.1.backward kept ];
+    twins = λ a h s kept b. elim (right-behind h a s (inl b)).way [ inl twin ↦ twin.backward kept | inr first ↦ absurd (not-both h first.0 a s first.1.names b) ];
+    firsts = λ a h t s kept p. elim (right-behind h a s (inr (t, p))).way [ inl twin ↦ absurd (not-both h t a s p twin.names) | inr first ↦ first.1.backward kept ];
     lasts = λ h t here child kept some. ((children h here).lasts t child kept).some some;
     no_lasts = λ h t here child kept none. ((children h here).lasts t child kept).none none;
   }
 
   -- keys ascend
   keys : KeysAscend types m
-  keys a h s b = elim (right-behind h a s (inl b)).place [ inl twin ↦ twin.key | inr first ↦ absurd (not-both h first.0 a s first.1.names b) ]
+  keys a h s b = elim (right-behind h a s (inl b)).way [ inl twin ↦ twin.key | inr first ↦ absurd (not-both h first.0 a s first.1.names b) ]
 
   -- each segment is reached
   reached : (a : ℕ) → IsSegment m a → (n : ℕ) × IsReached types m n a
@@ -179,7 +179,7 @@ module _ (types : List SegmentType) (m : Links) (ps : List Place) (holders : Lis
 -- the records of a volume are linked where a walk is over
 pub walked-linked : (d : Database) (v : VolumeState) (ps : List Place) (holders : List ℕ) → IsVolumeOf d v → ArePlaces d.types v ps → length holders ≡ length ps
     → ((i : ℕ) → i < length holders → slice_index holders i ≢ nobody) → AreChildrenWalked d.types (links_of d.types v) ps holders 0
-    → IsWalked d.types (links_of d.types v) ps 0 (length ps) [] holders → AreLinked d.types (links_of d.types v)
+    → IsWalkedSoFar d.types (links_of d.types v) ps 0 (length ps) [] holders → AreLinked d.types (links_of d.types v)
 walked-linked d v ps holders of places many held roots walked = linked d.types (links_of d.types v) ps holders (record {
   ascend = places.ascend;
   there = places.there;

@@ -15,7 +15,7 @@ use Rattle.hd_check_blocks.proofs.Lookups.{among}
 use Rattle.hd_check_pointers.specs.Tables.{nobody}
 use Rattle.hd_check_pointers.proofs.Owning.{set-same, set-other}
 use Rattle.hd_check_pointers.proofs.KeyOrder.{twins-by}
-use Rattle.hd_check_walk.specs.Walks.{IsHeldBy, IsFollowed, IsUnheld, StaysHeld, IsRightTwin, IsRightFirst, IsRightBehind, AreChildrenWalked, IsWalked, LeadsTo}
+use Rattle.hd_check_walk.specs.Walks.{IsHeldBy, IsFollowed, IsUnheld, StaysHeld, IsTwinRight, IsFirstRight, IsRightFrom, AreChildrenWalked, IsWalkedSoFar, LeadsTo}
 use Rattle.hd_check_walk.specs.Reading.{IsChildless}
 use Rattle.hd_check_walk.proofs.Staying.{followed-stays, children-stay}
 use Rattle.hd_check_walk.proofs.Waiting.{among-more, among-front, among-last}
@@ -86,10 +86,10 @@ module _ (types : List SegmentType) (v : VolumeState) (ps : List Place) (are : A
 
     -- the segment is right behind its holder
     right : (links_of types v).delete_byte a ≡ 0 → (is_backward_kept types t ≡ true → (links_of types v).backward a ≡ before)
-        → (before ≢ 0 → twins_in_order types (segment_at (links_of types v) before) (segment_at (links_of types v) a) ≡ true) → IsRightBehind types (links_of types v) h a
+        → (before ≢ 0 → twins_in_order types (segment_at (links_of types v) before) (segment_at (links_of types v) a) ≡ true) → IsRightFrom types (links_of types v) h a
     right deleted backward key = record {
       delete_byte = deleted;
-      place = elim (cases_eq before 0) [
+      way = elim (cases_eq before 0) [
         | inl z ↦ inr (
           t,
           record {
@@ -138,13 +138,13 @@ module _ (types : List SegmentType) (v : VolumeState) (ps : List Place) (are : A
     -- the walk has come to the segment
     pub step-walked : (in_hand : ℕ) (waiting waiting2 : List ℕ) → (links_of types v).delete_byte a ≡ 0 → (is_backward_kept types t ≡ true → (links_of types v).backward a ≡ before)
         → (before ≢ 0 → twins_in_order types (segment_at (links_of types v) before) (segment_at (links_of types v) a) ≡ true) → WaitsOrNot types (links_of types v) a n waiting waiting2
-        → IsWalked types (links_of types v) ps before in_hand waiting xs → IsWalked types (links_of types v) ps a in_hand waiting2 (slice_set xs n h)
+        → IsWalkedSoFar types (links_of types v) ps before in_hand waiting xs → IsWalkedSoFar types (links_of types v) ps a in_hand waiting2 (slice_set xs n h)
     step-walked in_hand waiting waiting2 deleted backward key waits walked = record {
       right = λ i l known. elim (cases_eq i n) [
-        | inl e ↦ subst (λ (k : ℕ). IsRightBehind types (links_of types v) (slice_index (slice_set xs n h) k) (place_at ps k).address) (sym e)
-            (subst (λ (x : ℕ). IsRightBehind types (links_of types v) (slice_index (slice_set xs n h) n) x) (sym at)
-            (subst (λ (x : ℕ). IsRightBehind types (links_of types v) x a) (sym held) (right deleted backward key)))
-        | inr ne ↦ subst (λ (x : ℕ). IsRightBehind types (links_of types v) x (place_at ps i).address) (sym (set-other xs n h i ne)) (walked.right i l (old i ne known))
+        | inl e ↦ subst (λ (k : ℕ). IsRightFrom types (links_of types v) (slice_index (slice_set xs n h) k) (place_at ps k).address) (sym e)
+            (subst (λ (x : ℕ). IsRightFrom types (links_of types v) (slice_index (slice_set xs n h) n) x) (sym at)
+            (subst (λ (x : ℕ). IsRightFrom types (links_of types v) x a) (sym held) (right deleted backward key)))
+        | inr ne ↦ subst (λ (x : ℕ). IsRightFrom types (links_of types v) x (place_at ps i).address) (sym (set-other xs n h i ne)) (walked.right i l (old i ne known))
       ];
       reached = λ i l known. elim (cases_eq i n) [
         | inl e ↦ (

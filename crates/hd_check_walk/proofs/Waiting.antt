@@ -9,7 +9,7 @@ use Rattle.hd_links.specs.Pointers.{IsReached}
 use Rattle.hd_check_blocks.specs.declared.places.Place.{Place}
 use Rattle.hd_check_blocks.specs.Places.{place_at}
 use Rattle.hd_check_pointers.specs.Tables.{nobody}
-use Rattle.hd_check_walk.specs.Walks.{IsWalked}
+use Rattle.hd_check_walk.specs.Walks.{IsWalkedSoFar}
 
 -- what is among some numbers and one more is among them, or it is that one
 pub among-more : (i : ℕ) (ns : List ℕ) (n : ℕ) → IsAmong i (ns ++ n ∷ []) → IsAmong i ns ⊎ (i ≡ n)
@@ -31,7 +31,7 @@ among-last (x ∷ ns) n = inr (among-last ns n)
 
 module _ (types : List SegmentType) (m : Links) (ps : List Place) (holders : List ℕ) where
   -- nothing is walked where nothing is held
-  pub none-walked : (open_at in_hand : ℕ) (waiting : List ℕ) → holders ≡ replicate (length ps) nobody → waiting ≡ [] → IsWalked types m ps open_at in_hand waiting holders
+  pub none-walked : (open_at in_hand : ℕ) (waiting : List ℕ) → holders ≡ replicate (length ps) nobody → waiting ≡ [] → IsWalkedSoFar types m ps open_at in_hand waiting holders
   none-walked open_at in_hand waiting none empty = record {
     right = λ i low held. absurd (held (unheld i low));
     reached = λ i low held. absurd (held (unheld i low));
@@ -44,7 +44,7 @@ module _ (types : List SegmentType) (m : Links) (ps : List Place) (holders : Lis
       unheld i low = ap (λ (xs : List ℕ). slice_index xs i) none ∙ get_or-replicate (length ps) i nobody 0 low
 
   -- of a number that waited last, the children are in hand, and it waits no more
-  pub in-hand : (n open_at : ℕ) (rest : List ℕ) → IsWalked types m ps open_at (length ps) (rest ++ n ∷ []) holders → IsWalked types m ps open_at n rest holders
+  pub in-hand : (n open_at : ℕ) (rest : List ℕ) → IsWalkedSoFar types m ps open_at (length ps) (rest ++ n ∷ []) holders → IsWalkedSoFar types m ps open_at n rest holders
   in-hand n open_at rest walked = record {
     right = walked.right;
     reached = walked.reached;
@@ -54,5 +54,5 @@ module _ (types : List SegmentType) (m : Links) (ps : List Place) (holders : Lis
   }
 
   -- and it is reached
-  pub waiting-reached : (n open_at in_hand : ℕ) (rest : List ℕ) → IsWalked types m ps open_at in_hand (rest ++ n ∷ []) holders → (k : ℕ) × IsReached types m k (place_at ps n).address
+  pub waiting-reached : (n open_at in_hand : ℕ) (rest : List ℕ) → IsWalkedSoFar types m ps open_at in_hand (rest ++ n ∷ []) holders → (k : ℕ) × IsReached types m k (place_at ps n).address
   waiting-reached n open_at in_hand rest walked = (let held = walked.waits n (among-last rest n) in walked.reached n held.0 held.1)

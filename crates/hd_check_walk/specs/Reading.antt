@@ -11,7 +11,7 @@ use Rattle.hd_check_blocks.specs.Lending.{IsLent}
 abbrev pub IsChildless : List SegmentType → Links → ℕ → Type 0
 IsChildless types m a = (t : ℕ) → is_child_type types (m.code a) t ≡ true → (m.first_child a t ≡ 0) × (m.last_child a t ≡ 0)
 
--- the fact holds of the records of each volume that lends these bytes of a segment of the code, at the address
+-- the fact holds of the records of each volume of the database that lends these bytes of a segment of the code, at the address
 abbrev pub OfRead : Database → ℕ → ℕ → List ℕ → (Links → Type 0) → Type 0
 OfRead d a code segment fact =
     (v : VolumeState) → IsVolumeOf d v → IsLent d.types v a segment → (links_of d.types v).code a ≡ code → fact (links_of d.types v)

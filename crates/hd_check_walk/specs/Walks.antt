@@ -11,11 +11,11 @@ use Rattle.hd_check_blocks.specs.Places.{place_at}
 use Rattle.hd_check_pointers.specs.Tables.{nobody}
 use Rattle.hd_check_pointers.specs.Twins.{AreLastsRight}
 
--- the record h holds the segment at an address, which is of the type: a pointer of h led the walk there
+-- by the table, the walk came to the segment of type t at address p from the record h, its holder
 abbrev pub IsHeldBy : List Place → List ℕ → ℕ → ℕ → ℕ → Type 0
 IsHeldBy places holders h t p = (i : ℕ) × (i < length places) × (place_at places i ≡ record { address = p; code = t }) × (slice_index holders i ≡ h) × (h ≢ nobody)
 
--- a pointer of h to a segment of the type is 0, or the walk followed it
+-- p, which is to name a segment of type t, is 0, or the walk came there from h
 abbrev pub IsFollowed : List Place → List ℕ → ℕ → ℕ → ℕ → Type 0
 IsFollowed places holders h t p = (p ≡ 0) ⊎ IsHeldBy places holders h t p
 
@@ -27,36 +27,37 @@ IsUnheld places holders i a t = (i < length places) × (place_at places i ≡ re
 abbrev pub StaysHeld : List ℕ → List ℕ → Type 0
 StaysHeld holders holders2 = (i : ℕ) → slice_index holders i ≢ nobody → slice_index holders2 i ≡ slice_index holders i
 
--- The segment a is right behind its twin h: h names it as twin forward, both are of one type, its twin backward, where it is kept, names
--- h, and its key is in order behind that of h.
-pub record IsRightTwin (types : List SegmentType) (m : Links) (h a : ℕ) : Type 0 where
+-- The segment a is right as the twin that comes after h: h names it as twin forward, both are of one type, its twin backward, where it is
+-- kept, names h, and its key, where the type has one, is in order after that of h.
+pub record IsTwinRight (types : List SegmentType) (m : Links) (h a : ℕ) : Type 0 where
   pub names : IsTwinBefore m h a
   pub typed : m.code a ≡ m.code h
   pub backward : is_backward_kept types (m.code a) ≡ true → m.backward a ≡ h
   pub key : twins_in_order types (segment_at m h) (segment_at m a) ≡ true
 
 -- The segment a is right as the first child of h: h names it so, it is of the type, and its twin backward, where it is kept, is 0.
-pub record IsRightFirst (types : List SegmentType) (m : Links) (h t a : ℕ) : Type 0 where
+pub record IsFirstRight (types : List SegmentType) (m : Links) (h t a : ℕ) : Type 0 where
   pub names : IsParentOfFirst types m h t a
   pub typed : m.code a ≡ t
   pub backward : is_backward_kept types (m.code a) ≡ true → m.backward a ≡ 0
 
--- The segment a is right where the walk came to it from h: its delete byte is 0, and it is right behind its twin h, or as the first child
+-- The segment a is right as the walk came to it from h: its delete byte is 0, and it is right as the twin after h, or as the first child
 -- of h.
-pub record IsRightBehind (types : List SegmentType) (m : Links) (h a : ℕ) : Type 0 where
+pub record IsRightFrom (types : List SegmentType) (m : Links) (h a : ℕ) : Type 0 where
   pub delete_byte : m.delete_byte a ≡ 0
-  pub place : IsRightTwin types m h a ⊎ ((t : ℕ) × IsRightFirst types m h t a)
+  pub way : IsTwinRight types m h a ⊎ ((t : ℕ) × IsFirstRight types m h t a)
 
--- The children of h are walked: each first child was followed, and each last child that is kept is the last twin of its chain.
+-- The children of h are walked: each first child was followed, and each last child that is kept is the last twin of its chain, or 0
+-- where first child is 0.
 pub record AreChildrenWalked (types : List SegmentType) (m : Links) (places : List Place) (holders : List ℕ) (h : ℕ) : Type 0 where
   pub firsts : (t : ℕ) → is_child_type types (m.code h) t ≡ true → IsFollowed places holders h t (m.first_child h t)
   pub lasts : AreLastsRight types m h
 
--- Each segment that is held is right behind its holder, and reached from the header; its twin forward was followed, unless it is the
--- open one, at which the walk is; and its children are walked, unless its number waits, or is the one whose children are in hand. What
--- waits is held.
-pub record IsWalked (types : List SegmentType) (m : Links) (places : List Place) (open_at in_hand : ℕ) (waiting holders : List ℕ) : Type 0 where
-  pub right : (i : ℕ) → i < length places → slice_index holders i ≢ nobody → IsRightBehind types m (slice_index holders i) (place_at places i).address
+-- Each segment to which the walk came is right as it came there, and reached from the header; its twin forward was followed, unless the
+-- walk stands at it (`open_at`, an address); its children are walked, unless its number waits, or is the one in hand. To what waits the walk
+-- came. Of the header's own children nothing is said.
+pub record IsWalkedSoFar (types : List SegmentType) (m : Links) (places : List Place) (open_at in_hand : ℕ) (waiting holders : List ℕ) : Type 0 where
+  pub right : (i : ℕ) → i < length places → slice_index holders i ≢ nobody → IsRightFrom types m (slice_index holders i) (place_at places i).address
   pub reached : (i : ℕ) → i < length places → slice_index holders i ≢ nobody → (n : ℕ) × IsReached types m n (place_at places i).address
   pub forward : (i : ℕ) → i < length places → slice_index holders i ≢ nobody → (place_at places i).address ≢ open_at
       → IsFollowed places holders (place_at places i).address (place_at places i).code (m.forward (place_at places i).address)
@@ -64,13 +65,14 @@ pub record IsWalked (types : List SegmentType) (m : Links) (places : List Place)
       → AreChildrenWalked types m places holders (place_at places i).address
   pub waits : (i : ℕ) → IsAmong i waiting → (i < length places) × (slice_index holders i ≢ nobody)
 
--- A pointer of h leads to a, a segment of type t: twin forward, where h is the twin before it, and else first child. And h is reached.
+-- A pointer of h names a, and its sort demands type t: twin forward, where `before` is not 0 and so is h, and else first child. And h is
+-- reached from the header.
 pub record LeadsTo (types : List SegmentType) (m : Links) (h t before a : ℕ) : Type 0 where
   pub first : before ≡ 0 → IsParentOfFirst types m h t a
   pub twin : before ≢ 0 → (before ≡ h) × IsTwinBefore m h a × (m.code h ≡ t)
   pub reached : (n : ℕ) × IsReached types m n h
 
--- The last twin of the chain from a first, 0 where that is 0.
+-- The segment `end` is the last twin of the chain from a first, or 0 where that is 0.
 pub record IsEnd (m : Links) (first end : ℕ) : Type 0 where
   pub some : 0 < first → IsInChain m first end × (m.forward end ≡ 0)
   pub none : first ≡ 0 → end ≡ 0

@@ -10,7 +10,7 @@ ghost use Rattle.hd_check_blocks.specs.Finding.{WhereSome};
 ghost use Rattle.hd_check_pointers.specs.Tables.{nobody};
 ghost use Rattle.hd_check_pointers.specs.Twins.{IsLastRight};
 ghost use Rattle.hd_check_pointers.specs.Keys.{IsLastKey};
-ghost use Rattle.hd_check_walk.specs.Walks.{IsFollowed, StaysHeld, IsWalked, AreChildrenWalked};
+ghost use Rattle.hd_check_walk.specs.Walks.{IsFollowed, StaysHeld, IsWalkedSoFar, AreChildrenWalked};
 
 use crate::twins::{NOBODY, walk_twins};
 use hd_check_blocks::{Directory, Place};
@@ -86,7 +86,7 @@ fn walk_type<S: BlockStore>(
     ensures kept { IfOk result (λ b. IsTrue volume.old.is_sound → b ≡ true → StaysHeld holders.old.items holders.new.items) }
     ensures first { IfOk result (λ b. IsTrue volume.old.is_sound → b ≡ true → IsFollowed places.now holders.new.items place.address child ((links_of dbd.now.types volume.old).first_child place.address child)) }
     ensures last { IfOk result (λ b. IsTrue volume.old.is_sound → b ≡ true → is_last_kept dbd.now.types child ≡ true → IsLastRight (links_of dbd.now.types volume.old) place.address child) }
-    ensures walked { IfOk result (λ b. IsTrue volume.old.is_sound → b ≡ true → (in_hand : ℕ) → IsWalked dbd.now.types (links_of dbd.now.types volume.old) places.now 0 in_hand waiting.old.items holders.old.items → IsWalked dbd.now.types (links_of dbd.now.types volume.old) places.now 0 in_hand waiting.new.items holders.new.items) }
+    ensures walked { IfOk result (λ b. IsTrue volume.old.is_sound → b ≡ true → (in_hand : ℕ) → IsWalkedSoFar dbd.now.types (links_of dbd.now.types volume.old) places.now 0 in_hand waiting.old.items holders.old.items → IsWalkedSoFar dbd.now.types (links_of dbd.now.types volume.old) places.now 0 in_hand waiting.new.items holders.new.items) }
     ensures refusal { OnlyDeviceOrMemory result }
 {
     let Some(named) = children_named(volume, dbd, place, child)? else {
@@ -131,7 +131,7 @@ fn walk_children<S: BlockStore>(
     ensures as_many { length holders.new.items ≡ length places.now }
     ensures known { IfOk result (λ b. IsTrue volume.old.is_sound → b ≡ true → IsLastKey dbd.now.types (links_of dbd.now.types volume.old) last.new) }
     ensures kept { IfOk result (λ b. IsTrue volume.old.is_sound → b ≡ true → StaysHeld holders.old.items holders.new.items) }
-    ensures walked { IfOk result (λ b. IsTrue volume.old.is_sound → b ≡ true → IsWalked dbd.now.types (links_of dbd.now.types volume.old) places.now 0 number waiting.old.items holders.old.items → IsWalked dbd.now.types (links_of dbd.now.types volume.old) places.now 0 (length places.now) waiting.new.items holders.new.items) }
+    ensures walked { IfOk result (λ b. IsTrue volume.old.is_sound → b ≡ true → IsWalkedSoFar dbd.now.types (links_of dbd.now.types volume.old) places.now 0 number waiting.old.items holders.old.items → IsWalkedSoFar dbd.now.types (links_of dbd.now.types volume.old) places.now 0 (length places.now) waiting.new.items holders.new.items) }
     ensures refusal { OnlyDeviceOrMemory result }
 {
     if number >= places.len() {
@@ -198,7 +198,7 @@ fn walk_roots<S: BlockStore>(
     ensures as_many { length holders.new.items ≡ length places.now }
     ensures known { IfOk result (λ b. IsTrue volume.old.is_sound → b ≡ true → IsLastKey dbd.now.types (links_of dbd.now.types volume.old) last.new) }
     ensures header { IfOk result (λ b. IsTrue volume.old.is_sound → b ≡ true → AreChildrenWalked dbd.now.types (links_of dbd.now.types volume.old) places.now holders.new.items 0) }
-    ensures walked { IfOk result (λ b. IsTrue volume.old.is_sound → b ≡ true → (in_hand : ℕ) → IsWalked dbd.now.types (links_of dbd.now.types volume.old) places.now 0 in_hand waiting.old.items holders.old.items → IsWalked dbd.now.types (links_of dbd.now.types volume.old) places.now 0 in_hand waiting.new.items holders.new.items) }
+    ensures walked { IfOk result (λ b. IsTrue volume.old.is_sound → b ≡ true → (in_hand : ℕ) → IsWalkedSoFar dbd.now.types (links_of dbd.now.types volume.old) places.now 0 in_hand waiting.old.items holders.old.items → IsWalkedSoFar dbd.now.types (links_of dbd.now.types volume.old) places.now 0 in_hand waiting.new.items holders.new.items) }
     ensures refusal { OnlyDeviceOrMemory result }
 {
     let first = volume.first_root();

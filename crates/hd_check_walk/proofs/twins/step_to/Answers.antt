@@ -7,7 +7,7 @@ use Rattle.hd_links.specs.Links.{Links, segment_at}
 use Rattle.hd_image.specs.Records.{links_of}
 use Rattle.hd_check_blocks.specs.declared.places.Place.{Place}
 use Rattle.hd_check_blocks.proofs.Lent.{has-segment, lent}
-use Rattle.hd_check_walk.specs.Walks.{StaysHeld, IsWalked}
+use Rattle.hd_check_walk.specs.Walks.{StaysHeld, IsWalkedSoFar}
 use Rattle.hd_check_walk.proofs.Steps.{WaitsOrNot, there, set-stays, step-walked, key-behind}
 use Rattle.hd_check_walk.proofs.twins.step_to.Goals as goal
 
@@ -53,7 +53,7 @@ returns-clause-walked g c = λ sound in_hand leads walked.
       | inl none ↦ inl (c.in_ok-note_waiting.ensures.childless none, seen.childless v of here own.1 none)
       | inr some ↦ inr (c.in_ok-note_waiting.ensures.waits some)
     ] in
-    subst (IsWalked d.types m ps a in_hand c.note_waiting.new.waiting.items) (sym c.in-Some.ensures.held)
+    subst (IsWalkedSoFar d.types m ps a in_hand c.note_waiting.new.waiting.items) (sym c.in-Some.ensures.held)
     (step-walked d.types v ps (c.requires.places sound) c.args.holders.now.items n c.args.holder c.args.code c.args.before a c.requires.as_many c.in-Some.ensures.unheld c.in-Some.ensures.some leads
     in_hand c.args.waiting.now.items c.note_waiting.new.waiting.items (seen.delete_byte v of here own.1) (seen.backward v of here own.1)
     (λ not. let b = seen.behind v of here own.1 not in

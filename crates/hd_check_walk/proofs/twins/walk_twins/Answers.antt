@@ -11,7 +11,7 @@ use Rattle.hd_image.proofs.OneImage.{links-same, volume-same}
 use Rattle.hd_check_blocks.specs.declared.places.Place.{Place}
 use Rattle.hd_check_blocks.proofs.PlaceLemmas.{places-same}
 use Rattle.hd_check_pointers.specs.Keys.{IsLastKey}
-use Rattle.hd_check_walk.specs.Walks.{IsHeldBy, StaysHeld, IsWalked, LeadsTo}
+use Rattle.hd_check_walk.specs.Walks.{IsHeldBy, StaysHeld, IsWalkedSoFar, LeadsTo}
 use Rattle.hd_check_walk.proofs.Chains.{when-some, stays-join, on-first, leads-on, on-next, end-first, end-last, end-shut}
 use Rattle.hd_check_walk.proofs.twins.walk_twins.Goals as goal
 
@@ -103,8 +103,8 @@ loop-turn-preserved g c =
           let same = links-same types v w (i.read.image now) i.read.call.size i.read.call.sizes in
           let leads = leads-on types v ps (c.requires.places sound) c.args.parent c.args.code c.args.first (c.requires.parent sound) (c.requires.reached sound) xs before next holder (i.chain sound)
           c.holder_of-holder.ensures.parent c.holder_of-holder.ensures.twin in
-          let step_on : (in_hand : ℕ) → LeadsTo types m holder c.args.code before next → IsWalked types m ps before in_hand c.loop-turn.waiting.items xs → IsWalked types m ps next in_hand c.step_to.new.waiting.items ys =
-          subst (λ (l : Links). (in_hand : ℕ) → LeadsTo types l holder c.args.code before next → IsWalked types l ps before in_hand c.loop-turn.waiting.items xs → IsWalked types l ps next in_hand c.step_to.new.waiting.items ys)
+          let step_on : (in_hand : ℕ) → LeadsTo types m holder c.args.code before next → IsWalkedSoFar types m ps before in_hand c.loop-turn.waiting.items xs → IsWalkedSoFar types m ps next in_hand c.step_to.new.waiting.items ys =
+          subst (λ (l : Links). (in_hand : ℕ) → LeadsTo types l holder c.args.code before next → IsWalkedSoFar types l ps before in_hand c.loop-turn.waiting.items xs → IsWalkedSoFar types l ps next in_hand c.step_to.new.waiting.items ys)
           same (when-some _ found step c.in-Some.is (c.in_ok-found.ensures.walked now)) in
           step_on in_hand leads (i.walked sound in_hand walked));
     }

@@ -17,7 +17,7 @@ use Rattle.hd_check_blocks.specs.Places.{place_at}
 use Rattle.hd_check_blocks.proofs.PlaceLemmas.{places-same}
 use Rattle.hd_check_pointers.specs.Tables.{nobody}
 use Rattle.hd_check_pointers.specs.Keys.{IsLastKey}
-use Rattle.hd_check_walk.specs.Walks.{IsWalked}
+use Rattle.hd_check_walk.specs.Walks.{IsWalkedSoFar}
 use Rattle.hd_check_walk.proofs.Staying.{children-stay}
 use Rattle.hd_check_walk.proofs.Waiting.{none-walked, in-hand, waiting-reached}
 use Rattle.hd_check_walk.proofs.Linked.{walked-linked}
@@ -52,7 +52,7 @@ returns-in_default-clause-linked g c = λ sound all.
     let held = subst (λ (xs : List ℕ). (k : ℕ) → k < length xs → slice_index xs k ≢ nobody) c.deref.ensures.value (c.all_held.ensures all) in
     let empty : c.loop-turn.waiting.items ≡ [] = nil_from_length c.loop-turn.waiting.items (sym c.loop-turn.waiting.ok.0 ∙ c.in_default.ensures.cases.0) in
     walked-linked d v ps hs (c.requires.of sound) (c.requires.places sound) i.as_many held (i.roots sound)
-    (subst (λ (ws : List ℕ). IsWalked d.types (links_of d.types v) ps 0 (length ps) ws hs) empty (i.walked sound))
+    (subst (λ (ws : List ℕ). IsWalkedSoFar d.types (links_of d.types v) ps 0 (length ps) ws hs) empty (i.walked sound))
 
 pub walk_children-requires-clause-as_many : goal.walk_children-requires-clause-as_many
 walk_children-requires-clause-as_many g c = c.loop-turn.invariant.as_many
@@ -92,7 +92,7 @@ walk_children-requires-clause-reached g c = λ now.
     let hs : List ℕ = c.loop-turn.holders.items in
     let rest : List ℕ = c.pop.new.self.items in
     let sound : IsTrue v.is_sound = rw (← i.read.call.sound) now in
-    let walked : IsWalked types (links_of types v) ps 0 (length ps) (rest ++ n ∷ []) hs = subst (λ (ws : List ℕ). IsWalked types (links_of types v) ps 0 (length ps) ws hs) c.in-Some.ensures.items (i.walked sound) in
+    let walked : IsWalkedSoFar types (links_of types v) ps 0 (length ps) (rest ++ n ∷ []) hs = subst (λ (ws : List ℕ). IsWalkedSoFar types (links_of types v) ps 0 (length ps) ws hs) c.in-Some.ensures.items (i.walked sound) in
     subst (λ (m : Links). (k : ℕ) × IsReached types m k (place_at ps n).address) (sym (links-same types v w (i.read.image now) i.read.call.size i.read.call.sizes))
     (waiting-reached types (links_of types v) ps hs n 0 (length ps) rest walked)
 
@@ -131,9 +131,9 @@ loop-turn-preserved g c =
       walked = λ sound.
           (let now : IsTrue w.is_sound = rw i.read.call.sound sound in
           let same = links-same types v w (i.read.image now) i.read.call.size i.read.call.sizes in
-          let before : IsWalked types (links_of types v) ps 0 (length ps) (rest ++ n ∷ []) hs = subst (λ (ws : List ℕ). IsWalked types (links_of types v) ps 0 (length ps) ws hs) c.in-Some.ensures.items (i.walked sound) in
-          let own : IsWalked types (links_of types w) ps 0 n rest hs = subst (λ (m : Links). IsWalked types m ps 0 n rest hs) (sym same) (in-hand types (links_of types v) ps hs n 0 rest before) in
-          subst (λ (m : Links). IsWalked types m ps 0 (length ps) c.walk_children.new.waiting.items hs2) same (e.walked now yes own));
+          let before : IsWalkedSoFar types (links_of types v) ps 0 (length ps) (rest ++ n ∷ []) hs = subst (λ (ws : List ℕ). IsWalkedSoFar types (links_of types v) ps 0 (length ps) ws hs) c.in-Some.ensures.items (i.walked sound) in
+          let own : IsWalkedSoFar types (links_of types w) ps 0 n rest hs = subst (λ (m : Links). IsWalkedSoFar types m ps 0 n rest hs) (sym same) (in-hand types (links_of types v) ps hs n 0 rest before) in
+          subst (λ (m : Links). IsWalkedSoFar types m ps 0 (length ps) c.walk_children.new.waiting.items hs2) same (e.walked now yes own));
     }
 
 pub returns-clause-read : goal.returns-clause-read

@@ -15,7 +15,7 @@ use Rattle.hd_check_blocks.specs.declared.places.Place.{Place}
 use Rattle.hd_check_blocks.specs.Places.{place_at}
 use Rattle.hd_check_blocks.proofs.PlaceLemmas.{places-same}
 use Rattle.hd_check_pointers.specs.Keys.{IsLastKey}
-use Rattle.hd_check_walk.specs.Walks.{IsWalked}
+use Rattle.hd_check_walk.specs.Walks.{IsWalkedSoFar}
 use Rattle.hd_check_walk.proofs.Chains.{stays-join}
 use Rattle.hd_check_walk.proofs.Steps.{stands, coded}
 use Rattle.hd_check_walk.proofs.Children.{IsTypeWalked, types-listed, hand-typed, walked-more, all-walked, hand-walked}
@@ -131,8 +131,8 @@ loop-child-preserved g c =
       walked = λ sound in_hand walked.
           (let now : IsTrue w.is_sound = rw i.read.call.sound sound in
           let same = links-same types v w (i.read.image now) i.read.call.size i.read.call.sizes in
-          let step_on : (in_hand : ℕ) → IsWalked types m ps 0 in_hand c.loop-child.waiting.items xs → IsWalked types m ps 0 in_hand c.walk_type.new.waiting.items ys =
-          subst (λ (l : Links). (in_hand : ℕ) → IsWalked types l ps 0 in_hand c.loop-child.waiting.items xs → IsWalked types l ps 0 in_hand c.walk_type.new.waiting.items ys) same (c.in_ok-walk_type.ensures.walked now right) in
+          let step_on : (in_hand : ℕ) → IsWalkedSoFar types m ps 0 in_hand c.loop-child.waiting.items xs → IsWalkedSoFar types m ps 0 in_hand c.walk_type.new.waiting.items ys =
+          subst (λ (l : Links). (in_hand : ℕ) → IsWalkedSoFar types l ps 0 in_hand c.loop-child.waiting.items xs → IsWalkedSoFar types l ps 0 in_hand c.walk_type.new.waiting.items ys) same (c.in_ok-walk_type.ensures.walked now right) in
           step_on in_hand (i.walked sound in_hand walked));
     }
 

@@ -9,7 +9,7 @@ use Rattle.hd_image.proofs.OneImage.{links-same, volume-same}
 use Rattle.hd_check_blocks.specs.declared.places.Place.{Place}
 use Rattle.hd_check_blocks.proofs.PlaceLemmas.{places-same}
 use Rattle.hd_check_pointers.specs.Keys.{IsLastKey}
-use Rattle.hd_check_walk.specs.Walks.{IsFollowed, IsWalked, IsEnd}
+use Rattle.hd_check_walk.specs.Walks.{IsFollowed, IsWalkedSoFar, IsEnd}
 use Rattle.hd_check_walk.proofs.Chains.{when-some}
 use Rattle.hd_check_walk.proofs.Children.{end-right}
 use Rattle.hd_check_walk.proofs.walk.walk_type.Goals as goal
@@ -100,5 +100,5 @@ returns-in-Some-found-clause-walked g c = λ sound yes_is.
     let read = c.in_ok-named.ensures.read in
     let now : IsTrue c.children_named.new.volume.is_sound = rw read.call.sound sound in
     let same = links-same types c.args.volume.now c.children_named.new.volume (read.image now) read.call.size read.call.sizes in
-    subst (λ (m : Links). (in_hand : ℕ) → IsWalked types m ps 0 in_hand c.args.waiting.now.items c.args.holders.now.items → IsWalked types m ps 0 in_hand c.walk_twins.new.waiting.items c.walk_twins.new.holders.items) same
+    subst (λ (m : Links). (in_hand : ℕ) → IsWalkedSoFar types m ps 0 in_hand c.args.waiting.now.items c.args.holders.now.items → IsWalkedSoFar types m ps 0 in_hand c.walk_twins.new.waiting.items c.walk_twins.new.holders.items) same
     (when-some _ c.in_ok-found.found c.in-Some-found.end c.in-Some-found.is (c.in_ok-found.ensures.walked now))
