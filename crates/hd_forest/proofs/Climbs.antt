@@ -1,5 +1,5 @@
 -- The climb along a path.
-use Rattle.std.proofs.Common.{◌≡◌, ℕ, zero, suc, ◌+◌, ◌-◌, ◌<◌, List, [], ◌∷◌, ◌++◌, length, take, slice_index, true, refl, sym, ap, subst, ◌∙◌, arith, inl, inr}
+use Rattle.std.proofs.Common.{◌≡◌, ◌≢◌, ℕ, zero, suc, ◌+◌, ◌-◌, ◌<◌, List, [], ◌∷◌, ◌++◌, length, take, slice_index, true, refl, sym, ap, subst, ◌∙◌, arith, inl, inr}
 use Rattle.std.specs.Prelude.{◌==◌, nat_lt}
 use Rattle.std.proofs.lemmas.List.{take_more}
 use Rattle.std.proofs.lemmas.Bool.{cond-false, le-ltb, eq-eqb, ne_eqb, cond-true}
@@ -136,3 +136,63 @@ moved-segments types m path a s may =
 -- and so does the step to the next row
 pub next-segments : (types : List SegmentType) (m : Links) → PointersAreTyped types m → m.here 0 ≡ true → (path : List ℕ) → AreSegments m path → AreSegments m (next_on types m path)
 next-segments types m typed header path s = moved-segments types m path (next_row types m path) s (next-may types m typed header path s)
+
+-- ---- what the last row of a path names
+
+-- behind no path is the first root
+pub first-root : (types : List SegmentType) (m : Links) → m.code 0 ≡ 0 → next_row types m [] ≡ m.first_child 0 1
+first-root types m header =
+    let kinds : child_types types (m.code 0) ≡ 1 ∷ [] = cond-true (m.code 0 == 0) _ _ (eq-eqb (m.code 0) 0 header) in
+    some-none (child_among m 0 (child_types types (m.code 0))) ∙ ap (child_among m 0) kinds ∙ some-none (m.first_child 0 1)
+  where
+    -- 0 adds nothing
+    some-none : (x : ℕ) → first_some x 0 ≡ x
+    some-none x = elim (zero_or x) [ inl z ↦ some_zero x 0 z ∙ sym z | inr p ↦ some_own x 0 p ]
+
+-- a path whose last address is 0 is none
+pub no-path : (m : Links) (path : List ℕ) → AreSegments m path → tip path ≡ 0 → path ≡ []
+no-path m [] s e = refl
+no-path m (a ∷ path) s e = absurd (let t = tip-some m 0 (a ∷ path) s (omega arith) in let some : 0 < tip (a ∷ path) = t.some in omega arith)
+
+-- and the last address of another is a segment's
+pub a-path : (m : Links) (path : List ℕ) → AreSegments m path → tip path ≢ 0 → (0 < length path) × IsSegment m (tip path)
+a-path m [] s ne = absurd (ne refl)
+a-path m (a ∷ path) s ne = (omega arith, tip-some m 0 (a ∷ path) s (omega arith))
+
+-- the next twin of the last row of a path, if there is one, is behind its span
+twin-behind : (types : List SegmentType) (m : Links) (h rest : ℕ) (path : List ℕ) → 0 < length path → 0 < m.forward (tip_from h path) → behind_from types m h rest path ≡ m.forward (tip_from h path)
+twin-behind types m h rest [] l some = absurd (omega arith)
+twin-behind types m h rest (a ∷ []) l some = some_own (m.forward a) (first_some (child_among m h (later_than (m.code a) (child_types types (m.code h)))) rest) some
+twin-behind types m h rest (a ∷ (b ∷ path)) l some = twin-behind types m a (behind_child types m h rest a) (b ∷ path) (omega arith) some
+
+-- what is not 0 is above it
+some-one : (x : ℕ) → x ≢ 0 → 0 < x
+some-one x ne = elim (zero_or x) [ inl z ↦ absurd (ne z) | inr p ↦ p ]
+
+-- where an address is not 0, a step leads to it
+moved-to : (types : List SegmentType) (m : Links) (path : List ℕ) (a : ℕ) → 0 < a → moved types m path a ≡ take (level_of types (m.code a) - 1) path ++ a ∷ []
+moved-to types m path a some = cond-false (a == 0) [] (take (level_of types (m.code a) - 1) path ++ a ∷ []) (ne_eqb a 0 (λ (e : a ≡ 0). omega arith))
+
+module _ (types : List SegmentType) (m : Links) (path : List ℕ) (last below : ℕ) (at : last ≡ tip path) (is : below ≡ child_among m last (child_types types (m.code last))) where
+  -- what was found below the last of a path
+  below-tip : below ≡ child_among m (tip path) (child_types types (m.code (tip path)))
+  below-tip = is ∙ ap (λ x. child_among m x (child_types types (m.code x))) at
+
+  -- where a row is below the last of a path, the first of them is next
+  pub next-below : below ≢ 0 → below ≡ next_row types m path
+  next-below some = below-tip ∙ sym (some_own (child_among m (tip path) (child_types types (m.code (tip path)))) (behind_span types m path) (subst (λ x. 0 < x) below-tip (some-one below some)))
+
+  -- where none is, what is behind its span
+  pub next-over : below ≡ 0 → behind_span types m path ≡ next_row types m path
+  next-over none = sym (some_zero (child_among m (tip path) (child_types types (m.code (tip path)))) (behind_span types m path) (sym below-tip ∙ none))
+
+  -- and that is its next twin, if there is one, of its type and so of its level
+  pub next-twin : PointersAreTyped types m → AreSegments m path → last ≢ 0 → (twin code : ℕ) → twin ≡ m.forward last → code ≡ m.code last → below ≡ 0 → twin ≢ 0
+      → take (level_of types code - 1) path ++ twin ∷ [] ≡ next_on types m path
+  next-twin typed s some twin code names own none more =
+      let P = a-path m path s (λ e. some (at ∙ e)) in
+      let named : twin ≡ m.forward (tip path) = names ∙ ap m.forward at in
+      let behind : 0 < m.forward (tip path) = subst (λ x. 0 < x) named (some-one twin more) in
+      ap (λ (c : ℕ). take (level_of types c - 1) path ++ twin ∷ []) (own ∙ ap m.code at ∙ sym (typed.forward (tip path) P.1 behind).1 ∙ ap m.code (sym named))
+      ∙ sym (moved-to types m path twin (some-one twin more))
+      ∙ ap (moved types m path) (named ∙ sym (twin-behind types m 0 0 path P.0 behind) ∙ next-over none)

@@ -1,12 +1,13 @@
 -- The first children that a segment of the records names.
-use Rattle.std.proofs.Common.{◌≡◌, ◌≢◌, ℕ, ◌<◌, List, [], ◌∷◌, length, cond, Option, refl, ap, ap₂, ◌∙◌, arith, ne_eqb}
+use Rattle.std.proofs.Common.{◌≡◌, ◌≢◌, ℕ, ◌<◌, ◌≤◌, Some, List, [], ◌∷◌, length, cond, Option, refl, sym, ap, ap₂, ◌∙◌, arith, ne_eqb}
 use Rattle.std.specs.Prelude.{◌==◌}
 use Rattle.std.proofs.lemmas.Bool.{cond-false}
 use Rattle.hd_dbd.specs.Types.{SegmentType}
 use Rattle.hd_dbd.specs.Hierarchy.{Database}
-use Rattle.hd_dbd.specs.Prefixes.{children_of}
+use Rattle.hd_dbd.specs.Prefixes.{children_of, prefix_length}
 use Rattle.hd_volume.specs.Headers.{header_of}
 use Rattle.hd_volume.specs.Volumes.{VolumeState}
+use Rattle.hd_volume.specs.Records.{find}
 use Rattle.hd_prefix.specs.declared.pointer.Pointer.TheVariants.{FirstChild}
 use Rattle.hd_prefix.specs.Fields.{code_of, pointer_of}
 use Rattle.hd_links.specs.Links.{Links, IsSegment, child_types}
@@ -17,6 +18,7 @@ use Rattle.hd_image.specs.Records.{links_of, stored_at, pointer_at, IsVolumeOf}
 use Rattle.hd_image.specs.Laws.{IsDatabase}
 use Rattle.hd_image.proofs.Found.{records-link}
 use Rattle.hd_forest.specs.Children.{child_in, comes_before, last_named, last_named_in}
+use Rattle.hd_forest.proofs.Reading.{lent}
 
 -- those of the records are those that the stored segment names
 pub child-stored : (types : List SegmentType) (v : VolumeState) (a : ℕ) (s ts : List ℕ) → a ≢ 0 → stored_at v a ≡ s → child_among (links_of types v) a ts ≡ child_in types s ts
@@ -42,3 +44,14 @@ types-stored d v a s fit of there is =
     let m : Links = links_of d.types v in
     let some : 0 < m.code a = segment_code d.types (ordered d.block_size d.frspc d.types fit) (length v.image) m (records-link d v fit of) a there in
     cond-false (m.code a == 0) (1 ∷ []) (children_of d.types (m.code a)) (ne_eqb (m.code a) 0 (λ (e : m.code a ≡ 0). omega arith)) ∙ ap (λ x. children_of d.types (code_of x)) is
+
+-- so the first row below a segment that is found is the first child that its bytes name
+pub below-found : (d : Database) (v : VolumeState) (a : ℕ) (s : List ℕ) → IsVolumeOf d v → IsSegment (links_of d.types v) a → find v a ≡ Some s
+    → (child code : ℕ) (kinds : List ℕ) → (prefix_length d.types (code_of s) ≤ length s → child ≡ child_in d.types s kinds) → kinds ≡ children_of d.types code → code ≡ code_of s
+    → child ≡ child_among (links_of d.types v) a (child_types d.types ((links_of d.types v).code a))
+below-found d v a s of there found child code kinds is all own =
+    let l = lent d v a s of.fit of there found in
+    let ne : a ≢ 0 = λ e. (let some : 0 < a = there.some in omega arith) in
+    is l.prefix
+    ∙ ap (child_in d.types s) (all ∙ ap (children_of d.types) own ∙ sym (types-stored d v a s of.fit of there l.stored))
+    ∙ sym (child-stored d.types v a s _ ne l.stored)

@@ -26,7 +26,7 @@ fn later_than(code: u8, types: &[u8]) -> &[u8]
 }
 
 /// The first child that a lent segment names, of some types in order, 0 for none.
-fn child_in(dbd: &Dbd, segment: &[u8], types: &[u8]) -> u32
+pub fn child_in(dbd: &Dbd, segment: &[u8], types: &[u8]) -> u32
     ensures { prefix_length dbd.now.types (code_of segment.now) ≤ length segment.now → result ≡ child_in dbd.now.types segment.now types.now }
 {
     for code in types {

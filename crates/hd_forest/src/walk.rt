@@ -1,17 +1,26 @@
 ghost use Rattle.std.specs.Prelude.{◌≡◌, ◌<◌, true, IsTrue, IfOk, IfErr, OnOk};
 ghost use Rattle.hd_dbd.specs.Refusals.{OnlyDevice};
 ghost use Rattle.hd_volume.specs.Calls.{IsRead};
-ghost use Rattle.hd_links.specs.Links.{IsSegment};
-ghost use Rattle.hd_links.specs.Steps.{behind_span, next_row};
+ghost use Rattle.hd_links.specs.Links.{IsSegment, child_types};
+ghost use Rattle.hd_links.specs.Steps.{behind_span, child_among};
 ghost use Rattle.hd_image.specs.Records.{links_of, IsVolumeOf};
 ghost use Rattle.hd_forest.specs.Walks.{AreSegments, HasForest, moved, next_on, next_after_span_on};
 ghost use Rattle.hd_forest.specs.Children.{beside};
 
-use crate::children::{below, below_later};
+use crate::children::{below_later, child_in};
 use crate::path::Path;
-use crate::read::{code_at, last_of, next_twin, tip_of};
+use crate::read::{code_at, code_in, last_of, next_twin, pointer_in, tip_of};
 use hd_dbd::{Dbd, Refused};
+use hd_prefix::Pointer;
 use hd_volume::{BlockStore, Volume};
+
+/// The first row below a segment, 0 for none; its next twin, 0 for none and where a row is below; and its code.
+#[derive(Clone, Copy)]
+struct Ahead {
+    below: u32,
+    twin: u32,
+    code: u8,
+}
 
 /// Goes from the last row of a path to the row behind it, and from no path to the first root; behind the last row is none.
 pub fn next_row<S: BlockStore>(
@@ -27,8 +36,20 @@ pub fn next_row<S: BlockStore>(
     ensures kept { IfErr result (λ _. path.new ≡ path.old) }
     ensures refusal { OnlyDevice result }
 {
-    let address = next_address(volume, dbd, path)?;
-    step(volume, dbd, path, address)
+    let last = tip_of(path);
+    if last == 0 {
+        let root = volume.first_root();
+        return step(volume, dbd, path, root);
+    }
+    let ahead = look_ahead(volume, dbd, last)?;
+    if ahead.below != 0 {
+        return step(volume, dbd, path, ahead.below);
+    }
+    if ahead.twin != 0 {
+        path.step(dbd.level(ahead.code), ahead.twin);
+        return Ok(());
+    }
+    next_after_span(volume, dbd, path)
 }
 
 /// Goes from the last row of a path to the row behind its span; behind the last there is none.
@@ -72,28 +93,32 @@ fn step<S: BlockStore>(
     Ok(())
 }
 
-/// The address of the row behind the last of a path, 0 for none: the first below it, or the one behind its span; of the
-/// first root where the path is empty.
-fn next_address<S: BlockStore>(
+/// What a segment names ahead of it in hierarchic sequence. One segment is read.
+fn look_ahead<S: BlockStore>(
     volume: &mut Volume<S>,
     dbd: &Dbd,
-    path: &Path,
-) -> Result<u32, Refused>
+    address: u32,
+) -> Result<Ahead, Refused>
     requires of { IsTrue volume.old.is_sound → IsVolumeOf dbd.now volume.old }
-    requires there { IsTrue volume.old.is_sound → AreSegments (links_of dbd.now.types volume.old) path.now }
+    requires there { IsTrue volume.old.is_sound → IsSegment (links_of dbd.now.types volume.old) address }
     ensures read { IsRead volume.old result volume.new }
-    ensures value { IfOk result (λ r. IsTrue volume.old.is_sound → r ≡ next_row dbd.now.types (links_of dbd.now.types volume.old) path.now) }
+    ensures below { let m = links_of dbd.now.types volume.old in IfOk result (λ r. IsTrue volume.old.is_sound → r.below ≡ child_among m address (child_types dbd.now.types (m.code address))) }
+    ensures twin { IfOk result (λ r. IsTrue volume.old.is_sound → r.below ≡ 0 → r.twin ≡ (links_of dbd.now.types volume.old).forward address) }
+    ensures code { IfOk result (λ r. IsTrue volume.old.is_sound → r.code ≡ (links_of dbd.now.types volume.old).code address) }
     ensures refusal { OnlyDevice result }
 {
-    let last = tip_of(path);
-    if last == 0 {
-        return Ok(volume.first_root());
+    let segment = volume.segment_at(address)?;
+    let code = code_in(segment);
+    let below = child_in(dbd, segment, dbd.children_of(code));
+    if below != 0 {
+        return Ok(Ahead {
+            below,
+            twin: 0,
+            code,
+        });
     }
-    let child = below(volume, dbd, last)?;
-    if child != 0 {
-        return Ok(child);
-    }
-    behind(volume, dbd, path)
+    let twin = pointer_in(dbd, segment, Pointer::TwinForward);
+    Ok(Ahead { below, twin, code })
 }
 
 /// The address of the row behind the span of the last row of a path, 0 for none: from the last row upward the first that
