@@ -155,7 +155,8 @@ fn check_costs(alloc: Global, dbd: &Dbd, stream: &[u8]) -> Option<(u64, u32)> {
     let Ok(made) = reload(alloc, dbd, stream, store, 65536) else {
         return None;
     };
-    let Ok(mut volume) = Volume::load(alloc, FuseStore::new(made.store, u64::MAX), dbd) else {
+    let store = MemStore::new(dbd.block_size() as usize, made.store.into_bytes());
+    let Ok(mut volume) = Volume::load(alloc, FuseStore::new(store, u64::MAX), dbd) else {
         return None;
     };
     let Ok(passed) = check(alloc, &mut volume, dbd) else {
