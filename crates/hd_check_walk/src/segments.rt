@@ -1,10 +1,8 @@
 //! What a walk asks of one segment.
-ghost use Rattle.std.specs.Prelude.{◌≡◌, ◌≢◌, ◌≤◌, ℕ, length, take, true, IfSome};
+ghost use Rattle.std.specs.Prelude.{◌≡◌, ◌≤◌, ℕ, length, true, IfSome};
 ghost use Rattle.hd_dbd.specs.Prefixes.{prefix_length, is_backward_kept};
-ghost use Rattle.hd_dbd.specs.Rows.{key_of, keys_in_order};
-ghost use Rattle.hd_links.specs.Links.{segment_at};
 ghost use Rattle.hd_check_pointers.specs.Keys.{IsLastKey};
-ghost use Rattle.hd_check_walk.specs.Reading.{IsChildless, OfRead};
+ghost use Rattle.hd_check_walk.specs.Reading.{IsChildless, IsAfterLast, OfRead};
 
 use hd_check_blocks::stored_key;
 use hd_check_pointers::{LastKey, keep_key};
@@ -43,7 +41,7 @@ fn is_key_right(
     address: u32,
     before: u32,
 ) -> bool
-    ensures behind { OfRead dbd.now address code segment.now (λ m. result ≡ true → before ≢ 0 → (last.old.address ≡ before) × (keys_in_order dbd.now.types code (take last.old.length last.old.key) (key_of dbd.now.types (segment_at m address)) ≡ true)) }
+    ensures behind { OfRead dbd.now address code segment.now (λ m. result ≡ true → IsAfterLast dbd.now.types m last.old before code address) }
     ensures known { OfRead dbd.now address code segment.now (λ m. result ≡ true → IsLastKey dbd.now.types m last.new) }
 {
     let key = stored_key(dbd, code, segment);
@@ -80,7 +78,7 @@ pub fn look_at(
 ) -> Option<Seen>
     ensures delete_byte { OfRead dbd.now address code segment.now (λ m. IfSome result (λ s. m.delete_byte address ≡ 0)) }
     ensures backward { OfRead dbd.now address code segment.now (λ m. IfSome result (λ s. is_backward_kept dbd.now.types code ≡ true → m.backward address ≡ before)) }
-    ensures behind { OfRead dbd.now address code segment.now (λ m. IfSome result (λ s. before ≢ 0 → (last.old.address ≡ before) × (keys_in_order dbd.now.types code (take last.old.length last.old.key) (key_of dbd.now.types (segment_at m address)) ≡ true))) }
+    ensures behind { OfRead dbd.now address code segment.now (λ m. IfSome result (λ s. IsAfterLast dbd.now.types m last.old before code address)) }
     ensures known { OfRead dbd.now address code segment.now (λ m. IfSome result (λ s. IsLastKey dbd.now.types m last.new)) }
     ensures forward { OfRead dbd.now address code segment.now (λ m. IfSome result (λ s. s.forward ≡ m.forward address)) }
     ensures childless { OfRead dbd.now address code segment.now (λ m. IfSome result (λ s. s.is_childless ≡ true → IsChildless dbd.now.types m address)) }

@@ -8,7 +8,7 @@ ghost use Rattle.hd_check_blocks.specs.Places.{ArePlaces};
 ghost use Rattle.hd_check_blocks.specs.Finding.{WhereSome};
 ghost use Rattle.hd_check_pointers.specs.Tables.{nobody};
 ghost use Rattle.hd_check_pointers.specs.Keys.{IsLastKey};
-ghost use Rattle.hd_check_walk.specs.Walks.{IsHeldBy, IsFollowed, IsUnheld, StaysHeld, IsWalkedSoFar, LeadsTo, IsEnd};
+ghost use Rattle.hd_check_walk.specs.Walks.{IsHeldBy, IsFollowed, IsUnheld, StaysHeld, IsWalkedSoFar, StepsOn, IsEnd};
 
 use crate::segments::look_at;
 use hd_check_blocks::{Directory, Place, number_near};
@@ -89,7 +89,7 @@ fn step_to<S: BlockStore>(
     ensures kept { WhereSome volume.old result (λ s. StaysHeld holders.old.items holders.new.items) }
     ensures held { WhereSome volume.old result (λ s. IsHeldBy places.now holders.new.items holder code address) }
     ensures forward { WhereSome volume.old result (λ s. s.forward ≡ (links_of dbd.now.types volume.old).forward address) }
-    ensures walked { WhereSome volume.old result (λ s. (in_hand : ℕ) → LeadsTo dbd.now.types (links_of dbd.now.types volume.old) holder code before address → IsWalkedSoFar dbd.now.types (links_of dbd.now.types volume.old) places.now before in_hand waiting.old.items holders.old.items → IsWalkedSoFar dbd.now.types (links_of dbd.now.types volume.old) places.now address in_hand waiting.new.items holders.new.items) }
+    ensures walked { WhereSome volume.old result (λ s. StepsOn dbd.now.types (links_of dbd.now.types volume.old) places.now holder code before address waiting.old.items holders.old.items waiting.new.items holders.new.items) }
     ensures refusal { OnlyDeviceOrMemory result }
 {
     let Some(number) = hold(holders, places, directory, near, address, code, holder) else {
