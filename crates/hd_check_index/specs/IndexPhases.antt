@@ -3,6 +3,7 @@ use Rattle.std.specs.Prelude.{◌==◌, Bool, true, false, ◌≡◌, ◌⊎◌,
 use Rattle.hd_bytes.specs.Numbers.{number_at}
 use Rattle.std.specs.List.{list_any, list_all}
 use Rattle.hd_dbd.specs.Hierarchy.{Database}
+use Rattle.hd_entries.specs.Fields.{CountFits}
 use Rattle.hd_image.specs.Records.{links_of, IsVolumeOf}
 use Rattle.hd_links.specs.Links.{IsSegment}
 use Rattle.hd_volume.specs.Entries.{Entry, entries_in}
@@ -205,3 +206,7 @@ OfFormed blocks forms top height room fact =
 -- the entry of block n at an index
 abbrev pub entry_of : Database → VolumeState → ℕ → ℕ → Entry
 entry_of d v n index = entry_in (root_key_length d.types) (block_at v n) index
+
+-- the fact holds of the entries of a block with these bytes, if it counts no more than find room
+abbrev pub OfCounted : ℕ → List ℕ → (List Entry → Type 0) → Type 0
+OfCounted key_length bytes fact = CountFits key_length bytes → fact (entries_in key_length bytes)

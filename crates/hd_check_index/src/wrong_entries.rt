@@ -15,8 +15,7 @@ ghost use Rattle.hd_image.specs.IndexFaults.{names_a_root};
 ghost use Rattle.hd_image.specs.Records.{links_of, IsVolumeOf};
 ghost use Rattle.hd_check_blocks.specs.Phases.{IsLeastOf};
 ghost use Rattle.hd_check_blocks.specs.Places.{ArePlaces};
-ghost use Rattle.hd_entries.specs.Fields.{CountFits};
-ghost use Rattle.hd_check_index.specs.IndexPhases.{IsSequence, AreNamed, AllNameRoots, first_wrong_in};
+ghost use Rattle.hd_check_index.specs.IndexPhases.{OfCounted, IsSequence, AreNamed, AllNameRoots, first_wrong_in};
 ghost use Rattle.hd_check_blocks.specs.Finding.{WhereNone, WhereSome};
 
 use crate::noted_blocks::block_address;
@@ -84,9 +83,9 @@ fn wrong_among<S: BlockStore>(
     requires of { IsTrue volume.old.is_sound → IsVolumeOf dbd.now volume.old }
     requires places { IsTrue volume.old.is_sound → ArePlaces dbd.now.types volume.old places.now }
     ensures read { IsRead volume.old result volume.new }
-    ensures none { WhereNone volume.old result (CountFits block.now.key_length block.now.bytes.now → list_all (λ e. names_a_root dbd.now (links_of dbd.now.types volume.old) e) (entries_in block.now.key_length block.now.bytes.now) ≡ true) }
-    ensures named { WhereNone volume.old result (CountFits block.now.key_length block.now.bytes.now → named.new.items ≡ named.old.items ++ map (λ e. e.address) (entries_in block.now.key_length block.now.bytes.now)) }
-    ensures some { WhereSome volume.old result (λ a. CountFits block.now.key_length block.now.bytes.now → option_map (λ e. e.address) (find (λ e. not (names_a_root dbd.now (links_of dbd.now.types volume.old) e)) (entries_in block.now.key_length block.now.bytes.now)) ≡ Some a) }
+    ensures none { WhereNone volume.old result (OfCounted block.now.key_length block.now.bytes.now (λ es. list_all (λ e. names_a_root dbd.now (links_of dbd.now.types volume.old) e) es ≡ true)) }
+    ensures named { WhereNone volume.old result (OfCounted block.now.key_length block.now.bytes.now (λ es. named.new.items ≡ named.old.items ++ map (λ e. e.address) es)) }
+    ensures some { WhereSome volume.old result (λ a. OfCounted block.now.key_length block.now.bytes.now (λ es. option_map (λ e. e.address) (find (λ e. not (names_a_root dbd.now (links_of dbd.now.types volume.old) e)) es) ≡ Some a)) }
     ensures refusal { OnlyDeviceOrMemory result }
 {
     for index in 0..block.count() {
