@@ -6,3 +6,4 @@ pub mod GiveLemmas
 pub mod FrameLemmas
 pub mod LawLemmas
 pub mod PartLemmas
+pub mod FreeParts

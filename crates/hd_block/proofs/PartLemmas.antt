@@ -1,5 +1,5 @@
 -- The parts that a reader of a block finds are those of its division.
-use Rattle.std.proofs.Common.{ne_eqb, ◌≡◌, ◌≢◌, ℕ, zero, suc, ◌+◌, ◌-◌, ◌<◌, ◌≤◌, ◌⊎◌, inl, inr, nat_le, ◌==◌, Bool, true, false, ◌&&◌, List, [], ◌∷◌, length, slice_index, refl, sym, ap, ◌∙◌, arith, cond}
+use Rattle.std.proofs.Common.{ne_eqb, ◌≡◌, ◌≢◌, ℕ, zero, suc, ◌+◌, ◌-◌, ◌<◌, ◌≤◌, ◌⊎◌, inl, inr, nat_le, ◌==◌, Bool, true, false, ◌&&◌, List, [], ◌∷◌, length, refl, sym, ap, ◌∙◌, arith, cond}
 use Rattle.std.proofs.lemmas.Bool.{eq-eqb, le-leb, lt-leb, leb-true, cases_lt}
 use Rattle.hd_bytes.specs.Numbers.{number_at}
 use Rattle.hd_block.specs.Extents.{Extent, free, used, taken, Fill, IsDivided, AreWhole}
@@ -30,9 +30,18 @@ and-left : (t u : Bool) → (t && u) ≡ true → t ≡ true
 and-left true u e = refl
 and-left false u e = e
 
+-- and the second
+and-right : (t u : Bool) → (t && u) ≡ true → u ≡ true
+and-right true u e = e
+and-right false u e = absurd (cc)
+
 -- what fits has room for an element
-fits-some : (b : List ℕ) (place n : ℕ) → part_fits b place n ≡ true → 8 ≤ n
+pub fits-some : (b : List ℕ) (place n : ℕ) → part_fits b place n ≡ true → 8 ≤ n
 fits-some b place n e = leb-true 8 n (and-left (nat_le 8 n) (nat_le (place + n) (length b)) e)
+
+-- and ends within the block
+pub fits-within : (b : List ℕ) (place n : ℕ) → part_fits b place n ≡ true → place + n ≤ length b
+fits-within b place n e = leb-true (place + n) (length b) (and-right (nat_le 8 n) (nat_le (place + n) (length b)) e)
 
 -- of two lists with one head where a test holds, and none elsewhere
 same-parts : (test : Bool) (x : Part) (xs ys : List Part) → (test ≡ true → xs ≡ ys) → cond test (x ∷ xs) [] ≡ cond test (x ∷ ys) []

@@ -1,5 +1,5 @@
 -- A segment's size depends on its own bytes alone.
-use Rattle.std.proofs.Common.{◌≡◌, ℕ, suc, drop, Option, Some, None, inl, inr, ◌*◌, ◌+◌, ◌%◌, ◌<◌, ◌≤◌, IsTrue, Bool, true, false, ◌&&◌, nat_le, cond, List, slice_index, refl, sym, ap, ◌∙◌, subst, arith}
+use Rattle.std.proofs.Common.{◌≡◌, ℕ, suc, drop, Option, Some, None, inl, inr, ◌*◌, ◌+◌, ◌%◌, ◌<◌, ◌≤◌, IsTrue, Bool, true, false, ◌&&◌, nat_le, cond, List, slice_index, refl, sym, ap, ◌∙◌, arith}
 use Rattle.std.specs.Prelude.{slice_index_or}
 use Rattle.std.specs.Option.{option_map_or}
 use Rattle.std.proofs.lemmas.Bool.{and_parts, and_from, leb-true, le-leb, cond-true, cases_lt}

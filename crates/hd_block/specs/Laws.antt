@@ -1,5 +1,5 @@
 -- Laws of divided blocks, whatever bytes the segments of each type take.
-use Rattle.std.specs.Prelude.{◌≡◌, ◌⊎◌, ℕ, ◌+◌, ◌-◌, ◌%◌, ◌<◌, ◌≤◌, List, slice_index}
+use Rattle.std.specs.Prelude.{◌≡◌, ◌⊎◌, ℕ, ◌+◌, ◌%◌, ◌<◌, ◌≤◌, List}
 use Rattle.hd_bytes.specs.Ranges.{ChangesOnly}
 use Rattle.hd_block.specs.Extents.{Extent, IsDivided, AreWhole, UsedAt, TakenAt}
 use Rattle.hd_block.specs.Changes.{after_fill, after_shrink}

@@ -1,5 +1,5 @@
 -- What a contract sees of a `Block`.
-use Rattle.std.specs.Prelude.{◌≡◌, ℕ, List, slice_index}
+use Rattle.std.specs.Prelude.{◌≡◌, ℕ, List}
 use Rattle.std.specs.Borrow.{GName}
 use Rattle.hd_block.specs.declared.block.Block.{Block}
 use Rattle.hd_dbd.specs.declared.facts.SegmentSize.{SegmentSize}

@@ -1,5 +1,5 @@
 -- What a reader of a block finds, whatever its bytes are: parts up to the first place where there is none that fits.
-use Rattle.std.specs.Prelude.{◌≡◌, ◌≤◌, ℕ, zero, suc, ◌+◌, ◌-◌, ◌==◌, ◌&&◌, nat_le, Bool, cond, List, [], ◌∷◌, length, slice_index}
+use Rattle.std.specs.Prelude.{◌≡◌, ⊤, ◌≤◌, ℕ, zero, suc, ◌+◌, ◌-◌, ◌==◌, ◌&&◌, nat_le, Bool, cond, List, [], ◌∷◌, length}
 use Rattle.hd_bytes.specs.Numbers.{number_at}
 use Rattle.hd_block.specs.declared.parts.Part.{Part}
 use Rattle.hd_block.specs.declared.parts.Step.{Step}
@@ -35,3 +35,9 @@ parts_in sizes bytes = parts_from sizes bytes 8 (number_at 2 bytes 0)
 abbrev pub IsFirstPart : List SegmentSize → List ℕ → ℕ → ℕ → Step → Type 0
 IsFirstPart sizes bytes place next s =
     (place + s.size ≤ length bytes) × (parts_from sizes bytes place next ≡ s.part ∷ parts_from sizes bytes (place + s.size) s.next)
+
+-- no free part of these has more than so many bytes
+abbrev pub HolesAreWithin : ℕ → List Part → Type 0
+HolesAreWithin most [] = ⊤
+HolesAreWithin most (Free p n ∷ parts) = (n ≤ most) × HolesAreWithin most parts
+HolesAreWithin most (Used p n ∷ parts) = HolesAreWithin most parts

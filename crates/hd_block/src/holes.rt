@@ -4,6 +4,7 @@ ghost use Rattle.hd_block.specs.Extents.{Extent, IsDivided, UsedAt};
 ghost use Rattle.hd_block.specs.Changes.{hole_at, after_take};
 ghost use Rattle.hd_block.specs.Parts.{largest_free, free_bytes};
 ghost use Rattle.hd_block.specs.Found.{IsFound};
+ghost use Rattle.hd_block.specs.Walk.{HolesAreWithin, parts_in};
 ghost use Rattle.hd_dbd.specs.declared.facts.SegmentSize.{SegmentSize};
 
 use crate::element::write_element;
@@ -46,10 +47,12 @@ fn find_hole(bytes: &[u8], size: u16) -> Option<Hole>
     None
 }
 
-/// The length of the largest free element, 0 where there is none; a chain that does not ascend ends the search.
+/// The length of the largest free element, 0 where there is none; a chain that does not ascend ends the search. In whatever bytes, no free part
+/// of theirs is longer.
 pub fn largest_free(bytes: &[u8]) -> u16
     requires { 8 ≤ length bytes.now }
-    ensures { (sizes : List SegmentSize) (xs : List Extent) → IsDivided sizes bytes.now xs → result ≡ largest_free xs }
+    ensures parts { (sizes : List SegmentSize) → HolesAreWithin result (parts_in sizes bytes.now) }
+    ensures largest { (sizes : List SegmentSize) (xs : List Extent) → IsDivided sizes bytes.now xs → result ≡ largest_free xs }
 {
     let mut largest = 0;
     let mut end = 8;

@@ -3,3 +3,4 @@ pub mod ShownLemmas
 pub mod StillLemmas
 pub mod TurnLemmas
 pub mod PassLemmas
+pub mod RunLemmas

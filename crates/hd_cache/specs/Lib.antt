@@ -1,3 +1,4 @@
 pub mod Contents
+pub mod Runs
 pub mod Turns
 pub mod Caches

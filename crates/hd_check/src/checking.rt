@@ -83,9 +83,11 @@ fn refusal_of(refused: Refused) -> CheckFault
 /// Whether a volume holds a forest of its database. It passes exactly where it holds one, and then it holds no other; else its least
 /// fault is named, by phase, then by address, then by number. No byte is changed.
 ///
-/// The time is n log n in the pointers. Each block is read once for its extents, and again each time that the walk along the pointers, or an
-/// index entry, comes to it from another. Where the walk sees a pointer that is wrong the phases read the blocks again, each at most three
-/// times, and one or two times more for each twin whose keys lie in different blocks.
+/// The time is n log n in the pointers. Each block is read once for its extents, and again each time that an index entry comes to it from another.
+/// At most 64 segments are looked at, whether they lie scattered. Where they do, each block is read once more, in order, for what its segments say; else
+/// again each time that the walk along the pointers comes to it from another, and for the segments that name children. Two twins are read once more where
+/// the first eight bytes of their keys do not tell their order. Where the walk sees a pointer that is wrong the phases read the blocks again, each at most
+/// three times, and one or two times more for each twin whose keys lie in different blocks.
 pub fn check<S: BlockStore>(
     alloc: Global,
     volume: &mut Volume<S>,

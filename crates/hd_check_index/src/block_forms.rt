@@ -6,6 +6,7 @@ ghost use Rattle.hd_volume.specs.Headers.{HasHeader, header_of};
 ghost use Rattle.hd_volume.specs.Volumes.{VolumeState, IsKind};
 ghost use Rattle.hd_volume.specs.Indexes.{root_key_length, entry_room};
 ghost use Rattle.hd_volume.specs.Calls.{IsRead};
+ghost use Rattle.hd_volume.specs.declared.load.TheConstants.{MOST_BLOCKS};
 ghost use Rattle.hd_image.specs.Records.{IsVolumeOf};
 ghost use Rattle.hd_image.specs.IndexFaults.{IsOfLevel, IsWrongTop};
 ghost use Rattle.hd_check_blocks.specs.Phases.{IsLeastOf};
@@ -31,6 +32,7 @@ fn note_block<S: BlockStore>(
     requires short { key_length ≤ 255 }
     requires there { IsTrue volume.old.is_sound → HasBlock volume.old.size volume.old.image n }
     requires later { 0 < n }
+    requires small { n < MOST_BLOCKS }
     requires least { 12 ≤ volume.old.size }
     requires as_many { length forms.old.items ≡ length blocks.old.items }
     ensures read { IsRead volume.old result volume.new }
@@ -38,8 +40,11 @@ fn note_block<S: BlockStore>(
     ensures noted { OnOk result (IsTrue volume.old.is_sound → IsNotedBlock volume.old n blocks.old.items forms.old.items blocks.new.items forms.new.items) }
     ensures refusal { OnlyDeviceOrMemory result }
 {
+    if volume.kind(n) != INDEX {
+        return Ok(());
+    }
     let bytes = volume.block(n)?;
-    if bytes.len() < FIRST || bytes[2] != INDEX {
+    if bytes.len() < FIRST {
         return Ok(());
     }
     let block = IndexBlock { bytes, key_length };

@@ -4,6 +4,7 @@ ghost use Rattle.hd_bytes.specs.Blocks.{HasBlock};
 ghost use Rattle.hd_dbd.specs.Refusals.{OnlyDeviceOrMemory};
 ghost use Rattle.hd_volume.specs.Headers.{HasHeader};
 ghost use Rattle.hd_volume.specs.Calls.{IsRead};
+ghost use Rattle.hd_volume.specs.declared.load.TheConstants.{MOST_BLOCKS};
 ghost use Rattle.hd_check_levels.specs.Tables.{AreIndexBlocks, BlocksAscend, IsBlockOf};
 ghost use Rattle.hd_check_levels.specs.NotedBlocks.{noted_at, IsNotedBehind};
 
@@ -28,13 +29,17 @@ fn note_block<S: BlockStore>(
 ) -> Result<(), Refused>
     requires there { IsTrue volume.old.is_sound → HasBlock volume.old.size volume.old.image n }
     requires later { 0 < n }
+    requires small { n < MOST_BLOCKS }
     requires least { 12 ≤ volume.old.size }
     ensures read { IsRead volume.old result volume.new }
     ensures noted { OnOk result (IsTrue volume.old.is_sound → IsNotedBehind volume.old n blocks.old.items blocks.new.items) }
     ensures refusal { OnlyDeviceOrMemory result }
 {
+    if volume.kind(n) != INDEX {
+        return Ok(());
+    }
     let bytes = volume.block(n)?;
-    if bytes.len() < FIRST || bytes[2] != INDEX {
+    if bytes.len() < FIRST {
         return Ok(());
     }
     let block = IndexBlock {

@@ -18,5 +18,5 @@ pub use owners::owners_of;
 pub use predecessors::predecessors_fault;
 pub use reached::reached_fault;
 pub use records::records_fault;
-pub use twin_keys::twin_keys_fault;
+pub use twin_keys::{is_keyed, twin_keys_fault, twin_order_fault};
 pub use twins::twins_fault;

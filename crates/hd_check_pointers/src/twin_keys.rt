@@ -22,7 +22,7 @@ use hd_image::Line;
 use hd_volume::{BlockStore, Volume};
 
 /// Whether the segments of a type have a key.
-fn is_keyed(dbd: &Dbd, code: u8) -> bool
+pub fn is_keyed(dbd: &Dbd, code: u8) -> bool
     ensures { result ≡ is_keyed dbd.now.types code }
 {
     dbd.type_of(code).is_some_and(|kind| kind.key.is_some())
@@ -73,7 +73,7 @@ fn is_in_order<S: BlockStore>(
 }
 
 /// What is wrong with the key of a segment behind the twin before it. Where nothing is, it is the last.
-fn twin_order_fault<S: BlockStore>(
+pub fn twin_order_fault<S: BlockStore>(
     last: &mut LastKey,
     volume: &mut Volume<S>,
     dbd: &Dbd,

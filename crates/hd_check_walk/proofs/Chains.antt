@@ -1,10 +1,10 @@
 -- A walk along a chain of twins.
-use Rattle.std.proofs.Common.{◌≡◌, ◌≢◌, inl, inr, ℕ, suc, ◌<◌, List, length, Option, Some, None, IfSome, refl, sym, ap, subst, ◌∙◌, arith}
+use Rattle.std.proofs.Common.{◌≡◌, ◌≢◌, inl, inr, ℕ, suc, List, Option, Some, None, IfSome, refl, sym, ap, subst, ◌∙◌, arith}
 use Rattle.std.proofs.lemmas.Bool.{cases_eq}
 use Rattle.hd_dbd.specs.Types.{SegmentType}
 use Rattle.hd_volume.specs.Volumes.{VolumeState}
 use Rattle.hd_links.specs.Links.{Links, IsSegment}
-use Rattle.hd_links.specs.Pointers.{IsParentOfFirst, IsTwinBefore, IsTwinAfter, IsInChain, IsReached, Precedes}
+use Rattle.hd_links.specs.Pointers.{IsParentOfFirst, IsTwinAfter, IsInChain, IsReached, Precedes}
 use Rattle.hd_image.specs.Records.{links_of}
 use Rattle.hd_check_blocks.specs.declared.places.Place.{Place}
 use Rattle.hd_check_blocks.specs.Places.{ArePlaces, place_at}

@@ -1,5 +1,6 @@
 -- The children of a segment, walked type by type.
 use Rattle.std.proofs.Common.{◌≡◌, ◌≢◌, ◌⊎◌, inl, inr, ℕ, ◌+◌, ◌<◌, ◌≤◌, List, drop, slice_index_or, length, true, refl, sym, ap, subst, ◌∙◌, arith}
+use Rattle.std.specs.Prelude.{slice_index}
 use Rattle.std.proofs.lemmas.Bool.{cases_eq, false≢true}
 use Rattle.std.proofs.lemmas.List.{drop_more}
 use Rattle.std.proofs.Math.ListN.{drop_of_length-le}
@@ -18,6 +19,8 @@ use Rattle.hd_check_blocks.specs.declared.places.Place.{Place}
 use Rattle.hd_check_blocks.specs.Places.{place_at}
 use Rattle.hd_check_pointers.specs.Twins.{IsLastRight}
 use Rattle.hd_check_pointers.proofs.LastChildren.{hand-in, listed}
+use Rattle.hd_check_walk.specs.declared.notes.Named.{Named}
+use Rattle.hd_check_walk.specs.Notes.{named_at, named_of, HasChildrenAt, IsChildNumber}
 use Rattle.hd_check_walk.specs.Walks.{IsFollowed, StaysHeld, AreChildrenWalked, IsWalkedSoFar, IsEnd}
 use Rattle.hd_check_walk.proofs.Staying.{followed-stays}
 
@@ -91,3 +94,13 @@ types-listed d v a c ts of s own list =
 -- the type in hand is one of them
 pub hand-typed : (types : List SegmentType) (m : Links) (h : ℕ) (ts : List ℕ) (i : ℕ) → i < length ts → child_types types (m.code h) ≡ ts → is_child_type types (m.code h) (slice_index_or ts i 0) ≡ true
 hand-typed types m h ts i within list = ap (λ (us : List ℕ). is_in us (slice_index_or ts i 0)) list ∙ hand-in types m h ts i within
+
+-- and comes behind so many others
+pub hand-numbered : (types : List SegmentType) (m : Links) (h : ℕ) (ts : List ℕ) (i j : ℕ) → i < length ts → child_types types (m.code h) ≡ ts → j ≡ i → IsChildNumber types m h j (slice_index_or ts i 0)
+hand-numbered types m h ts i j within list same = subst (λ (k : ℕ). IsChildNumber types m h k (slice_index_or ts i 0)) (sym same)
+    (subst (λ (us : List ℕ). (i < length us) × (slice_index_or ts i 0 ≡ slice_index us i)) (sym list) (within, refl))
+
+-- what is noted of the children of a type is what the segment names
+pub noted-named : (types : List SegmentType) (m : Links) (named : List Named) (p a j t : ℕ) (pair : Named) → HasChildrenAt types m named p a → IsChildNumber types m a j t → pair ≡ named_at named (p + j)
+    → pair ≡ named_of m a t
+noted-named types m named p a j t pair has child is = is ∙ has.each j child.0 ∙ ap (named_of m a) (sym child.1)

@@ -1,6 +1,9 @@
 pub mod Staying
 pub mod Waiting
 pub mod SegmentFacts
+pub mod Numbers
+pub mod Fronts
+pub mod Noted
 pub mod Steps
 pub mod Chains
 pub mod Children

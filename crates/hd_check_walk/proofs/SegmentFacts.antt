@@ -1,6 +1,7 @@
--- What is read of a segment that is lent.
-use Rattle.std.proofs.Common.{◌≡◌, ◌≢◌, ℕ, ◌≤◌, List, length, take, true, refl, sym, ap, ap₂, ◌∙◌}
-use Rattle.std.proofs.lemmas.List.{take_all}
+-- What is read and noted of a segment that is lent.
+use Rattle.std.proofs.Common.{◌≡◌, ◌≢◌, ℕ, ◌+◌, ◌<◌, ◌≤◌, List, ◌++◌, length, take, true, refl, sym, ap, ap₂, subst, ◌∙◌, arith}
+use Rattle.std.specs.Prelude.{slice_index}
+use Rattle.std.proofs.lemmas.List.{take_all, length-append, length-map, get_or-append-add, get_or-map}
 use Rattle.hd_dbd.specs.Types.{SegmentType}
 use Rattle.hd_dbd.specs.Prefixes.{children_of}
 use Rattle.hd_volume.specs.Volumes.{VolumeState}
@@ -13,7 +14,9 @@ use Rattle.hd_image.specs.Records.{links_of}
 use Rattle.hd_check_blocks.specs.Lending.{IsLent}
 use Rattle.hd_check_pointers.proofs.ChildPointers.{first-read, last-read}
 use Rattle.hd_check_pointers.proofs.LastChildren.{listed}
+use Rattle.hd_check_walk.specs.declared.notes.Named.{Named}
 use Rattle.hd_check_walk.specs.Reading.{IsChildless}
+use Rattle.hd_check_walk.specs.Notes.{named_in, named_at, named_of, HasChildrenAt}
 
 -- the bytes of a segment name no children of a type
 abbrev pub NamesNone : List SegmentType → ℕ → List ℕ → ℕ → Type 0
@@ -47,3 +50,24 @@ module _ (types : List SegmentType) (v : VolumeState) (a code : ℕ) (segment : 
       let all : child_types types ((links_of types v).code a) ≡ take i ts = ap (child_types types) coded ∙ listed types code ts some list ∙ sym (take_all i ts end) in
       let zero = none t (sym (ap (λ (us : List ℕ). is_in us t) all) ∙ child) in
       (sym (first-lent t (pointer_of types code (FirstChild t) segment) refl) ∙ zero.0, sym (last-lent t (pointer_of types code (LastChild t) segment) refl) ∙ zero.1)
+
+  -- its child types are those that are listed for its code
+  pub lent-types : child_types types ((links_of types v).code a) ≡ children_of types code
+  lent-types = ap (child_types types) coded ∙ listed types code (children_of types code) (λ z. lent.typed (sym lent-own ∙ z)) refl
+
+  -- what is noted behind others of the children that its bytes name is what its record names
+  pub has-children : (xs ys : List Named) (p : ℕ) → p ≡ length xs → ys ≡ xs ++ named_in types code segment (children_of types code) → HasChildrenAt types (links_of types v) ys p a
+  has-children xs ys p start is = subst (λ (l : List Named). HasChildrenAt types (links_of types v) l p a) (sym is) (record {
+    within = (let long = length-append xs (named_in types code segment (children_of types code)) in
+        let many : length (named_in types code segment (children_of types code)) ≡ length (children_of types code) = length-map (children_of types code) _ in
+        let all = ap length lent-types in omega arith);
+    each = λ j low.
+        (let ts : List ℕ = children_of types code in
+        let t : ℕ = slice_index ts j in
+        let within : j < length ts = subst (λ (us : List ℕ). j < length us) lent-types low in
+        let read : Named = record { first = pointer_of types code (FirstChild t) segment; last = pointer_of types code (LastChild t) segment } in
+        let at : named_at (xs ++ named_in types code segment ts) (p + j) ≡ read =
+        ap (λ (k : ℕ). named_at (xs ++ named_in types code segment ts) (k + j)) start ∙ get_or-append-add xs (named_in types code segment ts) j _ ∙ get_or-map _ ts j 0 _ within in
+        at ∙ ap₂ (λ (f l : ℕ). record { first = f; last = l }) (first-lent t read.first refl) (last-lent t read.last refl)
+        ∙ ap (λ (us : List ℕ). named_of (links_of types v) a (slice_index us j)) (sym lent-types));
+  })

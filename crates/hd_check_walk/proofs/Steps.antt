@@ -1,12 +1,12 @@
 -- One step of a walk, to a segment that nobody held.
-use Rattle.std.proofs.Common.{◌≡◌, ◌≢◌, ◌⊎◌, inl, inr, ℕ, suc, ◌<◌, List, [], ◌∷◌, ◌++◌, true, length, slice_index, slice_set, refl, sym, ap, subst, ◌∙◌, arith}
+use Rattle.std.proofs.Common.{◌≡◌, ◌≢◌, ◌⊎◌, inl, inr, ℕ, suc, ◌<◌, List, [], ◌∷◌, ◌++◌, true, length, slice_index, slice_set, sym, ap, subst, ◌∙◌, arith}
 use Rattle.std.proofs.lemmas.Bool.{cases_eq}
 use Rattle.hd_dbd.specs.Types.{SegmentType}
-use Rattle.hd_dbd.specs.Rows.{key_of, keys_in_order, twins_in_order}
+use Rattle.hd_dbd.specs.Rows.{twins_in_order}
 use Rattle.hd_dbd.specs.Prefixes.{is_backward_kept}
 use Rattle.hd_volume.specs.Indexes.{IsAmong}
 use Rattle.hd_volume.specs.Volumes.{VolumeState}
-use Rattle.hd_links.specs.Links.{Links, IsSegment, segment_at, is_child_type}
+use Rattle.hd_links.specs.Links.{Links, IsSegment, segment_at}
 use Rattle.hd_links.specs.Pointers.{Precedes, IsReached}
 use Rattle.hd_image.specs.Records.{links_of}
 use Rattle.hd_check_blocks.specs.declared.places.Place.{Place}
@@ -14,19 +14,12 @@ use Rattle.hd_check_blocks.specs.Places.{ArePlaces, place_at}
 use Rattle.hd_check_blocks.proofs.Lookups.{among}
 use Rattle.hd_check_pointers.specs.Tables.{nobody}
 use Rattle.hd_check_pointers.proofs.Owning.{set-same, set-other}
-use Rattle.hd_check_pointers.proofs.KeyOrder.{twins-by}
-use Rattle.hd_check_walk.specs.Walks.{IsHeldBy, IsFollowed, IsUnheld, StaysHeld, IsTwinRight, IsFirstRight, IsRightFrom, AreChildrenWalked, IsWalkedSoFar, LeadsTo}
+use Rattle.hd_check_walk.specs.Walks.{IsHeldBy, IsFollowed, IsUnheld, StaysHeld, IsRightFrom, AreChildrenWalked, IsWalkedSoFar, LeadsTo}
+use Rattle.hd_check_walk.specs.declared.notes.Note.{Note}
 use Rattle.hd_check_walk.specs.Reading.{IsChildless}
-use Rattle.hd_check_walk.proofs.Staying.{followed-stays, children-stay}
+use Rattle.hd_check_walk.specs.Notes.{IsNotedFor, AreNoted}
+use Rattle.hd_check_walk.proofs.Staying.{followed-stays, children-stay, childless-walked}
 use Rattle.hd_check_walk.proofs.Waiting.{among-more, among-front, among-last}
-
--- twins are in order as the last key says that was read, which is that of the twin before
-pub key-behind : (types : List SegmentType) (m : Links) (last before h a t : ℕ) (key : List ℕ) → before ≢ 0 → last ≡ before → (last ≢ 0 → key ≡ key_of types (segment_at m last))
-    → before ≡ h → m.code h ≡ t → m.code a ≡ t → keys_in_order types t key (key_of types (segment_at m a)) ≡ true → twins_in_order types (segment_at m before) (segment_at m a) ≡ true
-key-behind types m last before h a t key not is known same code own right =
-    let read : key ≡ key_of types (segment_at m before) = known (λ z. not (sym is ∙ z)) ∙ ap (λ (x : ℕ). key_of types (segment_at m x)) is in
-    sym (twins-by types (segment_at m before) (segment_at m a) t (ap m.code same ∙ code) own)
-    ∙ ap (λ (k : List ℕ). keys_in_order types t k (key_of types (segment_at m a))) (sym read) ∙ right
 
 -- A segment names no children, and nothing more waits; or its number waits behind the others.
 abbrev pub WaitsOrNot : List SegmentType → Links → ℕ → ℕ → List ℕ → List ℕ → Type 0
@@ -52,6 +45,10 @@ module _ (types : List SegmentType) (v : VolumeState) (ps : List Place) (are : A
         subst (IsSegment (links_of types v)) at (stands n new.0),
         ap (links_of types v).code (sym at) ∙ coded n new.0 ∙ ap (λ (p : Place). p.code) new.1,
       )
+
+  -- and what is noted for its number is what is seen of it
+  pub there-noted : (ns : List Note) (xs : List ℕ) (n a t : ℕ) → AreNoted types (links_of types v) ps ns → IsUnheld ps xs n a t → IsNotedFor types (links_of types v) ns n a
+  there-noted ns xs n a t noted new = subst (IsNotedFor types (links_of types v) ns n) (ap (λ (p : Place). p.address) new.1) (noted n)
 
   module _ (xs : List ℕ) (n h t before a : ℕ) (many : length xs ≡ length ps) (new : IsUnheld ps xs n a t) (some : h ≢ nobody) (leads : LeadsTo types (links_of types v) h t before a) where
     -- the segment stands at the place of the number
@@ -107,16 +104,6 @@ module _ (types : List SegmentType) (v : VolumeState) (ps : List Place) (are : A
       ];
     }
 
-    -- without children all of them are walked
-    childless : IsChildless types (links_of types v) a → AreChildrenWalked types (links_of types v) ps (slice_set xs n h) a
-    childless none = record {
-      firsts = λ u child. inl (none u child).0;
-      lasts = λ u child kept. record {
-        some = λ first. absurd (let z = (none u child).0 in omega arith);
-        none = λ z. (none u child).1;
-      };
-    }
-
     -- the twin forward of the twin before was followed
     followed : (i : ℕ) → i < length ps → (place_at ps i).address ≡ before
         → IsFollowed ps (slice_set xs n h) (place_at ps i).address (place_at ps i).code ((links_of types v).forward (place_at ps i).address)
@@ -162,7 +149,7 @@ module _ (types : List SegmentType) (v : VolumeState) (ps : List Place) (are : A
       ];
       children = λ i l known other idle. elim (cases_eq i n) [
         | inl e ↦ elim waits [
-          | inl w ↦ subst (λ (x : ℕ). AreChildrenWalked types (links_of types v) ps (slice_set xs n h) x) (sym (ap (λ (k : ℕ). (place_at ps k).address) e ∙ at)) (childless w.1)
+          | inl w ↦ subst (λ (x : ℕ). AreChildrenWalked types (links_of types v) ps (slice_set xs n h) x) (sym (ap (λ (k : ℕ). (place_at ps k).address) e ∙ at)) (childless-walked types (links_of types v) ps (slice_set xs n h) a w.1)
           | inr w ↦ absurd (idle (subst (λ (k : ℕ). IsAmong k waiting2) (sym e) (subst (IsAmong n) (sym w) (among-last waiting n))))
         ]
         | inr ne ↦ children-stay types (links_of types v) ps xs (slice_set xs n h) (place_at ps i).address stays

@@ -1,2 +1,4 @@
 pub mod Walks
 pub mod Reading
+pub mod Notes
+pub mod Twins

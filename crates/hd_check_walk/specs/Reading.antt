@@ -1,13 +1,13 @@
--- What a walk reads of a segment.
-use Rattle.std.specs.Prelude.{◌≡◌, ◌≢◌, ℕ, List, take, true}
+-- What is read of a segment.
+use Rattle.std.specs.Prelude.{◌≡◌, ℕ, List, ◌++◌, take, replicate, true}
 use Rattle.hd_dbd.specs.Types.{SegmentType}
 use Rattle.hd_dbd.specs.Hierarchy.{Database}
-use Rattle.hd_dbd.specs.Rows.{key_of, keys_in_order}
+use Rattle.hd_dbd.specs.Rows.{key_of}
 use Rattle.hd_volume.specs.Volumes.{VolumeState}
 use Rattle.hd_links.specs.Links.{Links, segment_at, is_child_type}
 use Rattle.hd_image.specs.Records.{links_of, IsVolumeOf}
 use Rattle.hd_check_blocks.specs.Lending.{IsLent}
-use Rattle.hd_check_pointers.specs.declared.last_key.LastKey.{LastKey}
+use Rattle.hd_check_walk.specs.declared.segments.Seen.{Seen}
 
 -- the segment names no children
 abbrev pub IsChildless : List SegmentType → Links → ℕ → Type 0
@@ -18,7 +18,14 @@ abbrev pub OfRead : Database → ℕ → ℕ → List ℕ → (Links → Type 0)
 OfRead d a code segment fact =
     (v : VolumeState) → IsVolumeOf d v → IsLent d.types v a segment → (links_of d.types v).code a ≡ code → fact (links_of d.types v)
 
--- behind a twin, its key was read last, and that of the segment a is in order after it
-abbrev pub IsAfterLast : List SegmentType → Links → LastKey → ℕ → ℕ → ℕ → Type 0
-IsAfterLast types m last before code a =
-    before ≢ 0 → (last.address ≡ before) × (keys_in_order types code (take last.length last.key) (key_of types (segment_at m a)) ≡ true)
+-- the first eight bytes of a key, zeros behind a shorter one
+abbrev pub key_front : List ℕ → List ℕ
+key_front key = take 8 (key ++ replicate 8 0)
+
+-- What is seen of the segment a is what it says, and its delete byte is 0.
+pub record IsAsSeen (types : List SegmentType) (m : Links) (seen : Seen) (a : ℕ) : Type 0 where
+  pub delete_byte : m.delete_byte a ≡ 0
+  pub forward : seen.forward ≡ m.forward a
+  pub backward : seen.backward ≡ m.backward a
+  pub front : seen.front ≡ key_front (key_of types (segment_at m a))
+  pub childless : seen.is_childless ≡ true → IsChildless types m a

@@ -72,10 +72,10 @@ pub record LeadsTo (types : List SegmentType) (m : Links) (h t before a : ℕ) :
   pub twin : before ≢ 0 → (before ≡ h) × IsTwinBefore m h a × (m.code h ≡ t)
   pub reached : (n : ℕ) × IsReached types m n h
 
--- where a pointer of h leads to a, the walk goes on from `before` to a, whichever children are in hand
-abbrev pub StepsOn : List SegmentType → Links → List Place → ℕ → ℕ → ℕ → ℕ → List ℕ → List ℕ → List ℕ → List ℕ → Type 0
-StepsOn types m places h t before a waiting holders waiting2 holders2 =
-    (in_hand : ℕ) → LeadsTo types m h t before a → IsWalkedSoFar types m places before in_hand waiting holders → IsWalkedSoFar types m places a in_hand waiting2 holders2
+-- the walk goes on from `before` to a, whichever children are in hand
+abbrev pub StepsOn : List SegmentType → Links → List Place → ℕ → ℕ → List ℕ → List ℕ → List ℕ → List ℕ → Type 0
+StepsOn types m places before a waiting holders waiting2 holders2 =
+    (in_hand : ℕ) → IsWalkedSoFar types m places before in_hand waiting holders → IsWalkedSoFar types m places a in_hand waiting2 holders2
 
 -- The segment `end` is the last twin of the chain from a first, or 0 where that is 0.
 pub record IsEnd (m : Links) (first end : ℕ) : Type 0 where

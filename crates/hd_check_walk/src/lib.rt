@@ -1,6 +1,8 @@
-//! One walk along the pointers of a volume, which sees each segment once where all of them are right.
+//! One walk along the pointers of a volume, over what was noted of its segments block by block where they lie scattered.
 #![tactic(auto)]
 
+mod notes;
+mod scattered;
 mod segments;
 mod twins;
 mod walk;

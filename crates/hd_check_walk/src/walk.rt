@@ -1,56 +1,25 @@
 //! A walk from the header down.
 ghost use Rattle.std.specs.Prelude.{◌≡◌, ◌≢◌, ℕ, ◌<◌, length, slice_index, replicate, [], true, IsTrue, IfOk};
-ghost use Rattle.hd_dbd.specs.Refusals.{OnlyDevice, OnlyMemory, OnlyDeviceOrMemory};
+ghost use Rattle.hd_dbd.specs.Refusals.{OnlyMemory, OnlyDeviceOrMemory};
 ghost use Rattle.hd_volume.specs.Calls.{IsRead};
 ghost use Rattle.hd_links.specs.Links.{IsSegment, is_child_type, is_last_kept};
 ghost use Rattle.hd_links.specs.Pointers.{IsReached, AreLinked};
 ghost use Rattle.hd_image.specs.Records.{links_of, IsVolumeOf};
 ghost use Rattle.hd_check_blocks.specs.Places.{ArePlaces, place_at};
-ghost use Rattle.hd_check_blocks.specs.Finding.{WhereSome};
 ghost use Rattle.hd_check_pointers.specs.Tables.{nobody};
 ghost use Rattle.hd_check_pointers.specs.Twins.{IsLastRight};
 ghost use Rattle.hd_check_pointers.specs.Keys.{IsLastKey};
+ghost use Rattle.hd_check_walk.specs.Notes.{IsChildNumber, AreNamedFor, AreNoted, AreChildrenNoted};
 ghost use Rattle.hd_check_walk.specs.Walks.{IsFollowed, StaysHeld, IsWalkedSoFar, AreChildrenWalked};
 
+use crate::notes::{Named, Note, children_named, note_segments};
+use crate::scattered::are_scattered;
 use crate::twins::{NOBODY, walk_twins};
 use hd_check_blocks::{Directory, Place};
 use hd_check_pointers::{LastKey, no_key};
 use hd_dbd::{Dbd, Refused};
-use hd_prefix::{Layout, Pointer};
 use hd_volume::{BlockStore, Volume};
 use std::alloc::Global;
-
-/// The first and the last child of a type that a segment names.
-#[derive(Clone, Copy)]
-struct Named {
-    first: u32,
-    last: u32,
-}
-
-/// The first and the last child of a type that the segment at a place names; the last is 0 where it is not kept.
-fn children_named<S: BlockStore>(
-    volume: &mut Volume<S>,
-    dbd: &Dbd,
-    place: Place,
-    child: u8,
-) -> Result<Option<Named>, Refused>
-    requires of { IsTrue volume.old.is_sound → IsVolumeOf dbd.now volume.old }
-    requires there { IsTrue volume.old.is_sound → IsSegment (links_of dbd.now.types volume.old) place.address × ((links_of dbd.now.types volume.old).code place.address ≡ place.code) }
-    ensures read { IsRead volume.old result volume.new }
-    ensures first { WhereSome volume.old result (λ n. n.first ≡ (links_of dbd.now.types volume.old).first_child place.address child) }
-    ensures last { WhereSome volume.old result (λ n. n.last ≡ (links_of dbd.now.types volume.old).last_child place.address child) }
-    ensures refusal { OnlyDevice result }
-{
-    let segment = volume.segment_at(place.address)?;
-    if segment.len() < dbd.prefix_length(place.code) as usize {
-        return Ok(None);
-    }
-    let layout = Layout::of(dbd, place.code);
-    Ok(Some(Named {
-        first: layout.read(segment, Pointer::FirstChild(child)),
-        last: layout.read(segment, Pointer::LastChild(child)),
-    }))
-}
 
 /// Whether the twin to which a walk came last is the last child that is named, where it is kept.
 fn is_last_named(dbd: &Dbd, child: u8, end: u32, last: u32) -> bool
@@ -59,27 +28,33 @@ fn is_last_named(dbd: &Dbd, child: u8, end: u32, last: u32) -> bool
     !dbd.keeps_last_child(child) || end == last
 }
 
-/// Walks along the chain of the children of a type of the segment at a place, which are looked for at a number first; whether all of them
-/// are right.
+/// Walks along the chain of the children of a type of the segment of a number, where so many of its child types come before this one; whether all
+/// of them are right.
 fn walk_type<S: BlockStore>(
     holders: &mut Vec<u32>,
     waiting: &mut Vec<usize>,
     last: &mut LastKey,
     places: &[Place],
+    notes: &[Note],
+    named: &[Named],
     directory: &Directory,
     volume: &mut Volume<S>,
     dbd: &Dbd,
+    number: usize,
     place: Place,
+    index: usize,
     child: u8,
-    near: usize,
 ) -> Result<bool, Refused>
     requires as_many { length holders.old.items ≡ length places.now }
     requires of { IsTrue volume.old.is_sound → IsVolumeOf dbd.now volume.old }
     requires places { IsTrue volume.old.is_sound → ArePlaces dbd.now.types volume.old places.now }
+    requires noted { IsTrue volume.old.is_sound → AreNoted dbd.now.types (links_of dbd.now.types volume.old) places.now notes.now }
     requires known { IsTrue volume.old.is_sound → IsLastKey dbd.now.types (links_of dbd.now.types volume.old) last.old }
     requires there { IsTrue volume.old.is_sound → IsSegment (links_of dbd.now.types volume.old) place.address × ((links_of dbd.now.types volume.old).code place.address ≡ place.code) }
     requires typed { IsTrue volume.old.is_sound → is_child_type dbd.now.types ((links_of dbd.now.types volume.old).code place.address) child ≡ true }
     requires reached { IsTrue volume.old.is_sound → (n : ℕ) × IsReached dbd.now.types (links_of dbd.now.types volume.old) n place.address }
+    requires child { IsTrue volume.old.is_sound → IsChildNumber dbd.now.types (links_of dbd.now.types volume.old) place.address index child }
+    requires children { IsTrue volume.old.is_sound → AreNamedFor dbd.now.types (links_of dbd.now.types volume.old) notes.now named.now number place.address }
     ensures read { IsRead volume.old result volume.new }
     ensures as_many { length holders.new.items ≡ length places.now }
     ensures known { IfOk result (λ b. IsTrue volume.old.is_sound → b ≡ true → IsLastKey dbd.now.types (links_of dbd.now.types volume.old) last.new) }
@@ -89,7 +64,7 @@ fn walk_type<S: BlockStore>(
     ensures walked { IfOk result (λ b. IsTrue volume.old.is_sound → b ≡ true → (in_hand : ℕ) → IsWalkedSoFar dbd.now.types (links_of dbd.now.types volume.old) places.now 0 in_hand waiting.old.items holders.old.items → IsWalkedSoFar dbd.now.types (links_of dbd.now.types volume.old) places.now 0 in_hand waiting.new.items holders.new.items) }
     ensures refusal { OnlyDeviceOrMemory result }
 {
-    let Some(named) = children_named(volume, dbd, place, child)? else {
+    let Some(pair) = children_named(notes, named, number, place, index, child, volume, dbd)? else {
         return Ok(false);
     };
     let found = walk_twins(
@@ -97,17 +72,18 @@ fn walk_type<S: BlockStore>(
         waiting,
         last,
         places,
+        notes,
         directory,
         volume,
         dbd,
         place.address,
         child,
-        named.first,
-        near,
+        pair.first,
+        number.saturating_add(1),
     )?;
     match found {
         None => Ok(false),
-        Some(end) => Ok(is_last_named(dbd, child, end, named.last)),
+        Some(end) => Ok(is_last_named(dbd, child, end, pair.last)),
     }
 }
 
@@ -117,6 +93,8 @@ fn walk_children<S: BlockStore>(
     waiting: &mut Vec<usize>,
     last: &mut LastKey,
     places: &[Place],
+    notes: &[Note],
+    named: &[Named],
     directory: &Directory,
     volume: &mut Volume<S>,
     dbd: &Dbd,
@@ -125,6 +103,8 @@ fn walk_children<S: BlockStore>(
     requires as_many { length holders.old.items ≡ length places.now }
     requires of { IsTrue volume.old.is_sound → IsVolumeOf dbd.now volume.old }
     requires places { IsTrue volume.old.is_sound → ArePlaces dbd.now.types volume.old places.now }
+    requires noted { IsTrue volume.old.is_sound → AreNoted dbd.now.types (links_of dbd.now.types volume.old) places.now notes.now }
+    requires children { IsTrue volume.old.is_sound → AreChildrenNoted dbd.now.types (links_of dbd.now.types volume.old) places.now notes.now named.now }
     requires known { IsTrue volume.old.is_sound → IsLastKey dbd.now.types (links_of dbd.now.types volume.old) last.old }
     requires reached { IsTrue volume.old.is_sound → (n : ℕ) × IsReached dbd.now.types (links_of dbd.now.types volume.old) n (place_at places.now number).address }
     ensures read { IsRead volume.old result volume.new }
@@ -138,21 +118,15 @@ fn walk_children<S: BlockStore>(
         return Ok(false);
     }
     let place = places[number];
+    let mut index: usize = 0;
     for child in dbd.children_of(place.code) {
         if !walk_type(
-            holders,
-            waiting,
-            last,
-            places,
-            directory,
-            volume,
-            dbd,
-            place,
-            *child,
-            number.saturating_add(1),
+            holders, waiting, last, places, notes, named, directory, volume, dbd, number, place,
+            index, *child,
         )? {
             return Ok(false);
         }
+        index += 1;
     }
     Ok(true)
 }
@@ -186,6 +160,7 @@ fn walk_roots<S: BlockStore>(
     waiting: &mut Vec<usize>,
     last: &mut LastKey,
     places: &[Place],
+    notes: &[Note],
     directory: &Directory,
     volume: &mut Volume<S>,
     dbd: &Dbd,
@@ -193,6 +168,7 @@ fn walk_roots<S: BlockStore>(
     requires as_many { length holders.old.items ≡ length places.now }
     requires of { IsTrue volume.old.is_sound → IsVolumeOf dbd.now volume.old }
     requires places { IsTrue volume.old.is_sound → ArePlaces dbd.now.types volume.old places.now }
+    requires noted { IsTrue volume.old.is_sound → AreNoted dbd.now.types (links_of dbd.now.types volume.old) places.now notes.now }
     requires known { IsTrue volume.old.is_sound → IsLastKey dbd.now.types (links_of dbd.now.types volume.old) last.old }
     ensures read { IsRead volume.old result volume.new }
     ensures as_many { length holders.new.items ≡ length places.now }
@@ -204,7 +180,7 @@ fn walk_roots<S: BlockStore>(
     let first = volume.first_root();
     let end = volume.last_root();
     let found = walk_twins(
-        holders, waiting, last, places, directory, volume, dbd, 0, 1, first, 0,
+        holders, waiting, last, places, notes, directory, volume, dbd, 0, 1, first, 0,
     )?;
     match found {
         None => Ok(false),
@@ -212,17 +188,20 @@ fn walk_roots<S: BlockStore>(
     }
 }
 
-/// Whether the segments of a volume whose blocks are right are linked, as far as one walk along their pointers tells: it sees each segment
-/// once. Where it comes to a pointer that is wrong it says no, and not what is wrong.
-pub fn are_linked<S: BlockStore>(
+/// Whether the segments of a volume are linked, as far as a walk tells, over what is noted of them.
+fn walk_volume<S: BlockStore>(
     alloc: Global,
     places: &[Place],
+    notes: &[Note],
+    named: &[Named],
     directory: &Directory,
     volume: &mut Volume<S>,
     dbd: &Dbd,
 ) -> Result<bool, Refused>
     requires of { IsTrue volume.old.is_sound → IsVolumeOf dbd.now volume.old }
     requires places { IsTrue volume.old.is_sound → ArePlaces dbd.now.types volume.old places.now }
+    requires noted { IsTrue volume.old.is_sound → AreNoted dbd.now.types (links_of dbd.now.types volume.old) places.now notes.now }
+    requires children { IsTrue volume.old.is_sound → AreChildrenNoted dbd.now.types (links_of dbd.now.types volume.old) places.now notes.now named.now }
     ensures read { IsRead volume.old result volume.new }
     ensures linked { IfOk result (λ b. IsTrue volume.old.is_sound → b ≡ true → AreLinked dbd.now.types (links_of dbd.now.types volume.old)) }
     ensures refusal { OnlyDeviceOrMemory result }
@@ -235,6 +214,7 @@ pub fn are_linked<S: BlockStore>(
         &mut waiting,
         &mut last,
         places,
+        notes,
         directory,
         volume,
         dbd,
@@ -250,6 +230,8 @@ pub fn are_linked<S: BlockStore>(
             &mut waiting,
             &mut last,
             places,
+            notes,
+            named,
             directory,
             volume,
             dbd,
@@ -259,4 +241,51 @@ pub fn are_linked<S: BlockStore>(
         }
     }
     Ok(false)
+}
+
+/// Notes the segments at these places if they lie scattered; no where one of them is not right by itself.
+fn note_scattered<S: BlockStore>(
+    notes: &mut Vec<Note>,
+    named: &mut Vec<Named>,
+    places: &[Place],
+    volume: &mut Volume<S>,
+    dbd: &Dbd,
+) -> Result<bool, Refused>
+    requires empty { notes.old.items ≡ [] }
+    requires of { IsTrue volume.old.is_sound → IsVolumeOf dbd.now volume.old }
+    requires places { IsTrue volume.old.is_sound → ArePlaces dbd.now.types volume.old places.now }
+    ensures read { IsRead volume.old result volume.new }
+    ensures noted { IfOk result (λ b. IsTrue volume.old.is_sound → b ≡ true → AreNoted dbd.now.types (links_of dbd.now.types volume.old) places.now notes.new.items) }
+    ensures children { IfOk result (λ b. IsTrue volume.old.is_sound → b ≡ true → AreChildrenNoted dbd.now.types (links_of dbd.now.types volume.old) places.now notes.new.items named.new.items) }
+    ensures refusal { OnlyDeviceOrMemory result }
+{
+    if !are_scattered(places, volume, dbd)? {
+        return Ok(true);
+    }
+    note_segments(notes, named, places, volume, dbd)
+}
+
+/// Whether the segments of a volume whose blocks are right are linked, as far as one walk along their pointers tells. Where they lie in order
+/// the walk reads each segment where it comes to it; where they lie scattered they are read before, block by block, and noted, and the walk goes over
+/// the notes. It reads two of them again only where the first eight bytes of a key are not less than those of the next twin's. Where it comes to a
+/// pointer that is wrong it says no, and not what is wrong.
+pub fn are_linked<S: BlockStore>(
+    alloc: Global,
+    places: &[Place],
+    directory: &Directory,
+    volume: &mut Volume<S>,
+    dbd: &Dbd,
+) -> Result<bool, Refused>
+    requires of { IsTrue volume.old.is_sound → IsVolumeOf dbd.now volume.old }
+    requires places { IsTrue volume.old.is_sound → ArePlaces dbd.now.types volume.old places.now }
+    ensures read { IsRead volume.old result volume.new }
+    ensures linked { IfOk result (λ b. IsTrue volume.old.is_sound → b ≡ true → AreLinked dbd.now.types (links_of dbd.now.types volume.old)) }
+    ensures refusal { OnlyDeviceOrMemory result }
+{
+    let mut notes = Vec::new(alloc);
+    let mut named = Vec::new(alloc);
+    if !note_scattered(&mut notes, &mut named, places, volume, dbd)? {
+        return Ok(false);
+    }
+    walk_volume(alloc, places, &notes, &named, directory, volume, dbd)
 }

@@ -1,17 +1,21 @@
 -- The climb along a path.
-use Rattle.std.proofs.Common.{◌≡◌, ◌≢◌, ℕ, zero, suc, ◌+◌, ◌-◌, ◌<◌, List, [], ◌∷◌, ◌++◌, length, take, slice_index, true, refl, sym, ap, subst, ◌∙◌, arith, inl, inr}
+use Rattle.std.proofs.Common.{◌≡◌, ◌≢◌, ℕ, zero, suc, ◌+◌, ◌-◌, ◌<◌, List, [], ◌∷◌, ◌++◌, length, take, slice_index, true, Option, Some, refl, sym, ap, subst, ◌∙◌, arith, inl, inr}
 use Rattle.std.specs.Prelude.{◌==◌, nat_lt}
 use Rattle.std.proofs.lemmas.List.{take_more}
 use Rattle.std.proofs.lemmas.Bool.{cond-false, le-ltb, eq-eqb, ne_eqb, cond-true}
 use Rattle.hd_dbd.specs.Types.{SegmentType}
-use Rattle.hd_dbd.specs.Hierarchy.{level_of}
-use Rattle.hd_links.specs.Links.{Links, IsSegment, child_types, is_child_type}
+use Rattle.hd_dbd.specs.Hierarchy.{level_of, parent_of}
+use Rattle.hd_dbd.specs.Rows.{row_fits}
+use Rattle.hd_dbd.proofs.LevelLaw.{Leveled, depth_below}
+use Rattle.hd_links.specs.Links.{Links, IsSegment, IsLinkGraph, segment_at, child_types, is_child_type}
 use Rattle.hd_links.specs.Pointers.{PointersAreTyped}
 use Rattle.hd_links.specs.Steps.{tip_from, first_some, child_among, later_than, behind_child, behind_from, behind_span, next_row}
-use Rattle.hd_links.proofs.Types.{types_ascend, is_in, in_head, in_tail}
+use Rattle.hd_links.proofs.Counts.{segment_code}
+use Rattle.hd_links.proofs.Types.{Ordered, types_ascend, is_in, in_head, in_tail, above_some}
 use Rattle.hd_links.proofs.Build.{zero_or}
 use Rattle.hd_links.proofs.Ways.{some_zero, some_own, some_both, behind_end, later_in}
-use Rattle.hd_forest.specs.Walks.{tip, AreSegments, moved, next_on}
+use Rattle.hd_forest.specs.Walks.{tip, parent_on, AreSegments, moved, next_on}
+use Rattle.hd_forest.specs.Children.{child_behind}
 
 -- ---- what stands beside a row
 
@@ -44,6 +48,23 @@ up types m path k l =
     ∙ behind_end types m 0 0 (take k path) a
     ∙ some_both (m.forward a) (child_among m h (later_than (m.code a) (child_types types (m.code h)))) (behind_span types m (take k path))
 
+-- a path is its front and its last row
+pub parted : (h : ℕ) (path : List ℕ) → 0 < length path → path ≡ take (length path - 1) path ++ tip_from h path ∷ []
+parted h [] some = absurd (omega arith)
+parted h (a ∷ []) some = refl
+parted h (a ∷ (b ∷ path)) some =
+    let e : length (a ∷ (b ∷ path)) - 1 ≡ suc (length (b ∷ path) - 1) = omega arith in
+    ap (λ (xs : List ℕ). a ∷ xs) (parted a (b ∷ path) (omega arith)) ∙ ap (λ n. take n (a ∷ (b ∷ path)) ++ tip_from a (b ∷ path) ∷ []) (sym e)
+
+-- behind the span of the last row of a path, which has no next twin, is the first row below its parent of a later type, or what is behind the parent's span
+pub behind-twins : (types : List SegmentType) (m : Links) (path : List ℕ) → 0 < length path → m.forward (tip path) ≡ 0
+    → behind_span types m path ≡ first_some (child_behind types m (parent_on path) (m.code (tip path))) (behind_span types m (take (length path - 1) path))
+behind-twins types m path some none =
+    let above : List ℕ = take (length path - 1) path in
+    ap (behind_span types m) (parted 0 path some)
+    ∙ behind_end types m 0 0 above (tip path)
+    ∙ some_zero (m.forward (tip path)) (first_some (child_behind types m (parent_on path) (m.code (tip path))) (behind_span types m above)) none
+
 -- ---- rows of the path, and where it goes, are segments
 
 -- each row of the path is a segment
@@ -58,7 +79,7 @@ tip-here m h [] here s = here
 tip-here m h (a ∷ path) here s = tip-here m a path s.0.here s.1
 
 -- so many rows of the path are segments
-take-segments : (m : Links) (k : ℕ) (path : List ℕ) → AreSegments m path → AreSegments m (take k path)
+pub take-segments : (m : Links) (k : ℕ) (path : List ℕ) → AreSegments m path → AreSegments m (take k path)
 take-segments m zero path s = tt
 take-segments m (suc k) [] s = tt
 take-segments m (suc k) (a ∷ path) s = (s.0, take-segments m k path s.1)
@@ -173,6 +194,31 @@ some-one x ne = elim (zero_or x) [ inl z ↦ absurd (ne z) | inr p ↦ p ]
 moved-to : (types : List SegmentType) (m : Links) (path : List ℕ) (a : ℕ) → 0 < a → moved types m path a ≡ take (level_of types (m.code a) - 1) path ++ a ∷ []
 moved-to types m path a some = cond-false (a == 0) [] (take (level_of types (m.code a) - 1) path ++ a ∷ []) (ne_eqb a 0 (λ (e : a ≡ 0). omega arith))
 
+-- the first child of some types in order, if there is one, is that of one of the types
+among-of : (m : Links) (h : ℕ) (ts : List ℕ) → 0 < child_among m h ts → (t : ℕ) × (is_in ts t ≡ true) × (m.first_child h t ≡ child_among m h ts)
+among-of m h [] l = absurd (omega arith)
+among-of m h (t ∷ ts) l = elim (zero_or (m.first_child h t)) [
+  | inl z ↦
+      (let same : first_some (m.first_child h t) (child_among m h ts) ≡ child_among m h ts = some_zero (m.first_child h t) (child_among m h ts) z in
+      let rest = among-of m h ts (subst (λ x. 0 < x) same l) in (rest.0, in_tail t rest.0 ts rest.1, rest.2 ∙ sym same))
+  | inr p ↦ (t, in_head t t ts refl, sym (some_own (m.first_child h t) (child_among m h ts) p))
+]
+
+-- the first row below a segment is of a type one level below the segment's
+pub level-below : (types : List SegmentType) (m : Links) (bound : ℕ) → Ordered types → Leveled types → IsLinkGraph types bound m → PointersAreTyped types m → (a below : ℕ) → IsSegment m a
+    → below ≡ child_among m a (child_types types (m.code a)) → 0 < below → level_of types (m.code below) ≡ level_of types (m.code a) + 1
+level-below types m bound O leveled G typed a below there is some =
+    let c = among-of m a (child_types types (m.code a)) (subst (λ x. 0 < x) is some) in
+    let t : ℕ = c.0 in
+    let own : m.first_child a t ≡ below = c.2 ∙ sym is in
+    let named = typed.first a t there.here c.1 (subst (λ x. 0 < x) (sym own) some) in
+    let code : m.code below ≡ t = ap m.code (sym own) ∙ named.1 in
+    let here : m.here below ≡ true = ap m.here (sym own) ∙ named.0 in
+    let fits : row_fits types (segment_at m below) ≡ true = G.fits below (record { some = some; here = here }) in
+    let parent : parent_of types (m.code below) ≡ Some (m.code a) =
+    O.parent (m.code a) (segment_at m below) fits (ap (is_child_type types (m.code a)) code ∙ c.1) ∙ above_some (m.code a) (segment_code types O bound m G a there) in
+    leveled.law (segment_at m below) fits ∙ ap (λ (o : Option ℕ). depth_below types o + 1) parent
+
 module _ (types : List SegmentType) (m : Links) (path : List ℕ) (last below : ℕ) (at : last ≡ tip path) (is : below ≡ child_among m last (child_types types (m.code last))) where
   -- what was found below the last of a path
   below-tip : below ≡ child_among m (tip path) (child_types types (m.code (tip path)))
@@ -181,6 +227,18 @@ module _ (types : List SegmentType) (m : Links) (path : List ℕ) (last below : 
   -- where a row is below the last of a path, the first of them is next
   pub next-below : below ≢ 0 → below ≡ next_row types m path
   next-below some = below-tip ∙ sym (some_own (child_among m (tip path) (child_types types (m.code (tip path)))) (behind_span types m path) (subst (λ x. 0 < x) below-tip (some-one below some)))
+
+  -- and it is a level below the last
+  pub next-deeper : (bound : ℕ) → Ordered types → Leveled types → IsLinkGraph types bound m → PointersAreTyped types m → AreSegments m path → tip path ≢ 0 → (code : ℕ) → code ≡ m.code last → below ≢ 0
+      → (take (level_of types code) path ++ below ∷ [] ≡ next_on types m path) × (level_of types (m.code below) ≡ level_of types code + 1)
+  next-deeper bound O leveled G typed s some code own more =
+      let level : level_of types (m.code below) ≡ level_of types code + 1 =
+      level-below types m bound O leveled G typed (tip path) below (a-path m path s some).1 below-tip (some-one below more) ∙ ap (λ c. level_of types c + 1) (sym (own ∙ ap m.code at)) in (
+        ap (λ (n : ℕ). take n path ++ below ∷ []) (let e : level_of types code ≡ level_of types (m.code below) - 1 = omega arith in e)
+            ∙ sym (moved-to types m path below (some-one below more))
+            ∙ ap (moved types m path) (next-below more),
+        level,
+      )
 
   -- where none is, what is behind its span
   pub next-over : below ≡ 0 → behind_span types m path ≡ next_row types m path
@@ -196,3 +254,16 @@ module _ (types : List SegmentType) (m : Links) (path : List ℕ) (last below : 
       ap (λ (c : ℕ). take (level_of types c - 1) path ++ twin ∷ []) (own ∙ ap m.code at ∙ sym (typed.forward (tip path) P.1 behind).1 ∙ ap m.code (sym named))
       ∙ sym (moved-to types m path twin (some-one twin more))
       ∙ ap (moved types m path) (named ∙ sym (twin-behind types m 0 0 path P.0 behind) ∙ next-over none)
+
+-- behind the span of a root that has no next twin is nothing
+pub behind-roots : (types : List SegmentType) (m : Links) (path : List ℕ) → AreSegments m path → m.code 0 ≡ 0 → 0 < m.code (tip path) → 0 < length path → m.forward (tip path) ≡ 0 → parent_on path ≡ 0
+    → behind_span types m path ≡ 0
+behind-roots types m path s header code some none root =
+    let above : List ℕ = take (length path - 1) path in
+    let a : ℕ = tip path in
+    let nothing : above ≡ [] = no-path m above (take-segments m (length path - 1) path s) root in
+    let later : child_behind types m (parent_on path) (m.code a) ≡ 0 =
+    sym (some_zero (m.forward a) (child_behind types m (parent_on path) (m.code a)) none) ∙ none-later types m (parent_on path) a root header code ∙ none in
+    behind-twins types m path some none
+    ∙ some_zero (child_behind types m (parent_on path) (m.code a)) (behind_span types m above) later
+    ∙ ap (behind_span types m) nothing

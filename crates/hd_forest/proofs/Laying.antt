@@ -1,14 +1,12 @@
 -- A new leaf as it is laid out, and put.
-use Rattle.std.proofs.Common.{◌≡◌, ℕ, ◌+◌, ◌-◌, ◌<◌, ◌≤◌, List, length, true, false, ◌==◌, slice_index, refl, sym, ap, subst, ◌∙◌, arith, Option, Some, None, IsTrue}
+use Rattle.std.proofs.Common.{◌≡◌, ℕ, ◌+◌, ◌-◌, ◌<◌, ◌≤◌, List, length, true, refl, sym, ap, subst, ◌∙◌, arith, Option, Some, None, IsTrue}
 use Rattle.std.specs.Prelude.{OnSome, MatchOption, option_map}
-use Rattle.std.specs.Option.{option_map_or}
-use Rattle.std.proofs.lemmas.Bool.{false≢true}
 use Rattle.hd_bytes.specs.Ranges.{ChangesOnly}
 use Rattle.hd_dbd.specs.declared.hierarchy.FreeSpace.{FreeSpace}
 use Rattle.hd_dbd.specs.Types.{SegmentType}
 use Rattle.hd_dbd.specs.Segment.{Segment}
 use Rattle.hd_dbd.specs.Hierarchy.{Database, type_of}
-use Rattle.hd_dbd.specs.Prefixes.{is_backward_kept, size_with}
+use Rattle.hd_dbd.specs.Prefixes.{is_backward_kept}
 use Rattle.hd_dbd.specs.Rows.{row_fits}
 use Rattle.hd_dbd.specs.Facts.{stored_sizes}
 use Rattle.hd_dbd.specs.DatabaseRules.{well_formed}
@@ -19,7 +17,7 @@ use Rattle.hd_volume.specs.Rooms.{HasHole}
 use Rattle.hd_volume.specs.Calls.{IsPut}
 use Rattle.hd_prefix.specs.declared.pointer.Pointer.TheVariants.{TwinForward, TwinBackward, FirstChild, LastChild}
 use Rattle.hd_prefix.specs.Pointers.{place_of}
-use Rattle.hd_prefix.specs.Fields.{bytes_of, new_segment, IsPointerSet, IsNewSegment}
+use Rattle.hd_prefix.specs.Fields.{new_segment, IsPointerSet, IsNewSegment}
 use Rattle.hd_prefix.proofs.Places.{inside_some}
 use Rattle.hd_prefix.proofs.Fitting.{row_prefix}
 use Rattle.hd_prefix.proofs.Sizes.{size_long}

@@ -1,5 +1,7 @@
 -- What is read of a volume's records, and what reading leaves of them.
-use Rattle.std.proofs.Common.{◌≡◌, ℕ, ◌≤◌, IsTrue, List, length, Ok, Some, sym, ap, subst, ◌∙◌, arith}
+use Rattle.std.proofs.Common.{◌≡◌, ℕ, ◌≤◌, IsTrue, List, length, Ok, Some, Option, ◌||◌, sym, ap, subst, ◌∙◌, arith}
+use Rattle.std.specs.Prelude.{◌==◌, is_some}
+use Rattle.std.proofs.Math.Bool.{or-true}
 use Rattle.hd_dbd.specs.Types.{SegmentType}
 use Rattle.hd_dbd.specs.Hierarchy.{Database, type_of}
 use Rattle.hd_dbd.specs.Lengths.{least_length}
@@ -12,7 +14,7 @@ use Rattle.hd_links.specs.Links.{Links, IsSegment}
 use Rattle.hd_links.specs.Placed.{Holds}
 use Rattle.hd_image.specs.Records.{links_of, IsVolumeOf, stored_at}
 use Rattle.hd_image.specs.Laws.{IsDatabase}
-use Rattle.hd_image.proofs.Found.{segment-found, stored-found}
+use Rattle.hd_image.proofs.Found.{found-of, segment-found, stored-found}
 use Rattle.hd_image.proofs.OneImage.{links-same, volume-same}
 use Rattle.hd_forest.specs.Walks.{HasForest}
 
@@ -56,6 +58,13 @@ pub record IsLent (types : List SegmentType) (v : VolumeState) (a : ℕ) (s : Li
 some-eq : {A : Type 0} (x y : A) → Some x ≡ Some y → x ≡ y
 some-eq x y e = cc
 
+-- what is found at an address is a segment there
+pub found-there : (d : Database) (v : VolumeState) (a : ℕ) (s : List ℕ) → IsVolumeOf d v → find v a ≡ Some s → IsSegment (links_of d.types v) a
+found-there d v a s of is = record {
+  some = (found-of d v a s of.fit of is).some;
+  here = ap (λ (o : Option (List ℕ)). (a == 0) || is_some o) is ∙ or-true (a == 0);
+}
+
 -- a segment that is found is lent whole
 pub lent : (d : Database) (v : VolumeState) (a : ℕ) (s : List ℕ) → IsDatabase d → IsVolumeOf d v → IsSegment (links_of d.types v) a → find v a ≡ Some s → IsLent d.types v a s
 lent d v a s fit of there is =
@@ -82,3 +91,7 @@ volume-kept d u v r of now = (let sound = sound-before u v r now in (after-read 
 -- and what was known of its records
 pub links-kept : {A : Type 0} {x : A} (d : Database) (P : Links → Type 0) (u v : VolumeState) → IsRead {T = A} u (Ok x) v → (IsTrue u.is_sound → P (links_of d.types u)) → IsTrue v.is_sound → P (links_of d.types v)
 links-kept d P u v r of now = (let sound = sound-before u v r now in subst P (sym (after-read d u v r sound).links) (of sound))
+
+-- and what is known of its records was so before
+pub links-before : {A : Type 0} {x : A} (d : Database) (P : Links → Type 0) (u v : VolumeState) → IsRead {T = A} u (Ok x) v → IsTrue u.is_sound → (IsTrue v.is_sound → P (links_of d.types v)) → P (links_of d.types u)
+links-before d P u v r sound is = (let s = after-read d u v r sound in subst P s.links (is s.sound))

@@ -1,13 +1,15 @@
 -- Paths of addresses, and the walk from row to row.
-use Rattle.std.specs.Prelude.{ℕ, zero, suc, ◌-◌, List, [], ◌∷◌, ◌++◌, length, take, ◌==◌, cond}
+use Rattle.std.specs.Prelude.{◌≡◌, ℕ, zero, suc, ◌-◌, List, [], ◌∷◌, ◌++◌, length, take, ◌==◌, cond, Some}
 use Rattle.hd_dbd.specs.Types.{SegmentType}
 use Rattle.hd_dbd.specs.Hierarchy.{Database, level_of}
 use Rattle.hd_dbd.specs.Forest.{Forest}
 use Rattle.hd_volume.specs.Volumes.{VolumeState}
-use Rattle.hd_links.specs.Links.{Links, IsSegment}
+use Rattle.hd_volume.specs.Records.{find}
+use Rattle.hd_links.specs.Links.{Links, IsSegment, child_types}
 use Rattle.hd_links.specs.Placed.{Placed, Holds}
-use Rattle.hd_links.specs.Steps.{tip_from, next_row, behind_span}
-use Rattle.hd_image.specs.Records.{links_of}
+use Rattle.hd_links.specs.Steps.{tip_from, child_among, next_row, behind_span}
+use Rattle.hd_image.specs.Records.{links_of, IsVolumeOf}
+use Rattle.hd_forest.specs.declared.walk.Ahead.{Ahead}
 
 -- the last address of a path, 0 for none
 abbrev pub tip : List ℕ → ℕ
@@ -39,6 +41,16 @@ next_after_span_on types m path = moved types m path (behind_span types m path)
 abbrev pub walked : List SegmentType → Links → ℕ → List ℕ
 walked types m zero = next_on types m []
 walked types m (suc n) = next_on types m (walked types m n)
+
+-- What the segment a names ahead of it: the first row below it, its next twin where none is below, and its code.
+pub record IsAhead (types : List SegmentType) (m : Links) (a : ℕ) (ahead : Ahead) : Type 0 where
+  pub below : ahead.below ≡ child_among m a (child_types types (m.code a))
+  pub twin : ahead.below ≡ 0 → ahead.twin ≡ m.forward a
+  pub code : ahead.code ≡ m.code a
+
+-- the fact holds of the records of each volume of the database that has these bytes as the segment at an address
+abbrev pub OfFound : Database → List ℕ → (Links → ℕ → Type 0) → Type 0
+OfFound d segment fact = (v : VolumeState) (a : ℕ) → IsVolumeOf d v → find v a ≡ Some segment → fact (links_of d.types v) a
 
 -- the volume's records hold a placed forest
 abbrev pub HasForest : Database → VolumeState → Type 0

@@ -25,4 +25,4 @@ pub use replacing::replace;
 pub use row::bytes_in;
 pub use twins::{TwinPlaces, forward_in, key_at, twin_from, twin_places};
 pub use unlink::unlink_span;
-pub use walk::{next_after_span, next_row};
+pub use walk::{Ahead, ahead_of, go_on, next_after_span, next_row};

@@ -77,6 +77,15 @@ impl Path {
         self.count = kept + 1;
     }
 
+    /// Goes to a row just below the row of a level: the rows down to that level stay. A path has at most 15.
+    pub fn step_below(&mut self, level: u8, address: u32)
+        ensures { level < 15 → self.new ≡ take level self.old ++ address ∷ [] }
+    {
+        let kept = (level as usize).min(self.count).min(MOST_LEVELS - 1);
+        self.addresses[kept] = address;
+        self.count = kept + 1;
+    }
+
     /// Goes down to a row below the last; at most 15 are kept.
     pub fn push(&mut self, address: u32)
         ensures { length self.old < 15 → self.new ≡ self.old ++ address ∷ [] }

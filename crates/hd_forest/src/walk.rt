@@ -1,22 +1,23 @@
 ghost use Rattle.std.specs.Prelude.{◌≡◌, ◌<◌, true, IsTrue, IfOk, IfErr, OnOk};
 ghost use Rattle.hd_dbd.specs.Refusals.{OnlyDevice};
 ghost use Rattle.hd_volume.specs.Calls.{IsRead};
-ghost use Rattle.hd_links.specs.Links.{IsSegment, child_types};
-ghost use Rattle.hd_links.specs.Steps.{behind_span, child_among};
+ghost use Rattle.hd_links.specs.Links.{IsSegment};
+ghost use Rattle.hd_links.specs.Steps.{behind_span};
 ghost use Rattle.hd_image.specs.Records.{links_of, IsVolumeOf};
-ghost use Rattle.hd_forest.specs.Walks.{AreSegments, HasForest, moved, next_on, next_after_span_on};
+ghost use Rattle.hd_forest.specs.Walks.{AreSegments, HasForest, IsAhead, OfFound, tip, moved, next_on, next_after_span_on};
 ghost use Rattle.hd_forest.specs.Children.{beside};
 
 use crate::children::{below_later, child_in};
 use crate::path::Path;
-use crate::read::{code_at, code_in, last_of, next_twin, pointer_in, tip_of};
+use crate::read::{code_at, code_in, last_of, parent_on, pointer_in, tip_of};
 use hd_dbd::{Dbd, Refused};
 use hd_prefix::Pointer;
 use hd_volume::{BlockStore, Volume};
 
-/// The first row below a segment, 0 for none; its next twin, 0 for none and where a row is below; and its code.
+/// What a segment names ahead of it in hierarchic sequence: the first row below it, 0 for none; its next twin, 0 for none, which says
+/// something only where no row is below; and its code.
 #[derive(Clone, Copy)]
-struct Ahead {
+pub struct Ahead {
     below: u32,
     twin: u32,
     code: u8,
@@ -42,14 +43,37 @@ pub fn next_row<S: BlockStore>(
         return step(volume, dbd, path, root);
     }
     let ahead = look_ahead(volume, dbd, last)?;
+    go_on(volume, dbd, path, ahead)
+}
+
+/// Goes from the last row of a path, which names this ahead of it, to the row behind it; behind the last row is none.
+pub fn go_on<S: BlockStore>(
+    volume: &mut Volume<S>,
+    dbd: &Dbd,
+    path: &mut Path,
+    ahead: Ahead,
+) -> Result<(), Refused>
+    requires of { IsTrue volume.old.is_sound → IsVolumeOf dbd.now volume.old }
+    requires holds { IsTrue volume.old.is_sound → HasForest dbd.now volume.old }
+    requires there { IsTrue volume.old.is_sound → AreSegments (links_of dbd.now.types volume.old) path.old }
+    requires some { 0 < tip path.old }
+    requires ahead { IsTrue volume.old.is_sound → IsAhead dbd.now.types (links_of dbd.now.types volume.old) (tip path.old) ahead }
+    ensures read { IsRead volume.old result volume.new }
+    ensures value { OnOk result (IsTrue volume.old.is_sound → path.new ≡ next_on dbd.now.types (links_of dbd.now.types volume.old) path.old) }
+    ensures kept { IfErr result (λ _. path.new ≡ path.old) }
+    ensures refusal { OnlyDevice result }
+{
+    let level = dbd.level(ahead.code);
     if ahead.below != 0 {
-        return step(volume, dbd, path, ahead.below);
-    }
-    if ahead.twin != 0 {
-        path.step(dbd.level(ahead.code), ahead.twin);
+        path.step_below(level, ahead.below);
         return Ok(());
     }
-    next_after_span(volume, dbd, path)
+    if ahead.twin != 0 {
+        path.step(level, ahead.twin);
+        return Ok(());
+    }
+    let address = behind_twins(volume, dbd, path, ahead.code)?;
+    step(volume, dbd, path, address)
 }
 
 /// Goes from the last row of a path to the row behind its span; behind the last there is none.
@@ -66,7 +90,7 @@ pub fn next_after_span<S: BlockStore>(
     ensures kept { IfErr result (λ _. path.new ≡ path.old) }
     ensures refusal { OnlyDevice result }
 {
-    let address = behind(volume, dbd, path)?;
+    let address = behind(volume, dbd, path.addresses())?;
     step(volume, dbd, path, address)
 }
 
@@ -93,7 +117,7 @@ fn step<S: BlockStore>(
     Ok(())
 }
 
-/// What a segment names ahead of it in hierarchic sequence. One segment is read.
+/// What the segment at an address names ahead of it. One segment is read.
 fn look_ahead<S: BlockStore>(
     volume: &mut Volume<S>,
     dbd: &Dbd,
@@ -102,35 +126,72 @@ fn look_ahead<S: BlockStore>(
     requires of { IsTrue volume.old.is_sound → IsVolumeOf dbd.now volume.old }
     requires there { IsTrue volume.old.is_sound → IsSegment (links_of dbd.now.types volume.old) address }
     ensures read { IsRead volume.old result volume.new }
-    ensures below { let m = links_of dbd.now.types volume.old in IfOk result (λ r. IsTrue volume.old.is_sound → r.below ≡ child_among m address (child_types dbd.now.types (m.code address))) }
-    ensures twin { IfOk result (λ r. IsTrue volume.old.is_sound → r.below ≡ 0 → r.twin ≡ (links_of dbd.now.types volume.old).forward address) }
-    ensures code { IfOk result (λ r. IsTrue volume.old.is_sound → r.code ≡ (links_of dbd.now.types volume.old).code address) }
+    ensures ahead { IfOk result (λ r. IsTrue volume.old.is_sound → IsAhead dbd.now.types (links_of dbd.now.types volume.old) address r) }
     ensures refusal { OnlyDevice result }
 {
     let segment = volume.segment_at(address)?;
+    Ok(ahead_of(dbd, segment))
+}
+
+/// What a stored segment names ahead of it. Nothing is read.
+pub fn ahead_of(dbd: &Dbd, segment: &[u8]) -> Ahead
+    ensures { OfFound dbd.now segment.now (λ m a. IsAhead dbd.now.types m a result) }
+{
     let code = code_in(segment);
     let below = child_in(dbd, segment, dbd.children_of(code));
     if below != 0 {
-        return Ok(Ahead {
+        return Ahead {
             below,
             twin: 0,
             code,
-        });
+        };
     }
     let twin = pointer_in(dbd, segment, Pointer::TwinForward);
-    Ok(Ahead { below, twin, code })
+    Ahead { below, twin, code }
 }
 
-/// The address of the row behind the span of the last row of a path, 0 for none: from the last row upward the first that
-/// has something beside it.
-fn behind<S: BlockStore>(volume: &mut Volume<S>, dbd: &Dbd, path: &Path) -> Result<u32, Refused>
+/// The address of the row behind the span of the last row of a path, which is of this type and has no next twin, 0 for none: the
+/// first row of a later type below its parent, else the row behind the parent's span; behind a root's there is none.
+fn behind_twins<S: BlockStore>(
+    volume: &mut Volume<S>,
+    dbd: &Dbd,
+    path: &Path,
+    code: u8,
+) -> Result<u32, Refused>
     requires of { IsTrue volume.old.is_sound → IsVolumeOf dbd.now volume.old }
     requires there { IsTrue volume.old.is_sound → AreSegments (links_of dbd.now.types volume.old) path.now }
+    requires some { 0 < tip path.now }
+    requires last { IsTrue volume.old.is_sound → code ≡ (links_of dbd.now.types volume.old).code (tip path.now) }
+    requires twin { IsTrue volume.old.is_sound → (links_of dbd.now.types volume.old).forward (tip path.now) ≡ 0 }
     ensures read { IsRead volume.old result volume.new }
     ensures value { IfOk result (λ r. IsTrue volume.old.is_sound → r ≡ behind_span dbd.now.types (links_of dbd.now.types volume.old) path.now) }
     ensures refusal { OnlyDevice result }
 {
+    let parent = parent_on(path);
+    if parent == 0 {
+        return Ok(0);
+    }
+    let later = below_later(volume, dbd, parent, code)?;
+    if later != 0 {
+        return Ok(later);
+    }
     let addresses = path.addresses();
+    behind(volume, dbd, &addresses[..addresses.len().saturating_sub(1)])
+}
+
+/// The address of the row behind the span of the last of a path's addresses, 0 for none: from the last upward the first that has
+/// something beside it.
+fn behind<S: BlockStore>(
+    volume: &mut Volume<S>,
+    dbd: &Dbd,
+    addresses: &[u32],
+) -> Result<u32, Refused>
+    requires of { IsTrue volume.old.is_sound → IsVolumeOf dbd.now volume.old }
+    requires there { IsTrue volume.old.is_sound → AreSegments (links_of dbd.now.types volume.old) addresses.now }
+    ensures read { IsRead volume.old result volume.new }
+    ensures value { IfOk result (λ r. IsTrue volume.old.is_sound → r ≡ behind_span dbd.now.types (links_of dbd.now.types volume.old) addresses.now) }
+    ensures refusal { OnlyDevice result }
+{
     let mut level = addresses.len();
     while level > 0 {
         level -= 1;
@@ -158,10 +219,27 @@ pub fn beside<S: BlockStore>(
     ensures value { IfOk result (λ r. IsTrue volume.old.is_sound → r ≡ beside dbd.now.types (links_of dbd.now.types volume.old) parent address) }
     ensures refusal { OnlyDevice result }
 {
-    let twin = next_twin(volume, dbd, address)?;
+    let (twin, code) = twin_and_code(volume, dbd, address)?;
     if twin != 0 || parent == 0 {
         return Ok(twin);
     }
-    let code = code_at(volume, dbd, address)?;
     below_later(volume, dbd, parent, code)
+}
+
+/// The next twin of the segment at an address, 0 for none, and its code. One segment is read.
+fn twin_and_code<S: BlockStore>(
+    volume: &mut Volume<S>,
+    dbd: &Dbd,
+    address: u32,
+) -> Result<(u32, u8), Refused>
+    requires of { IsTrue volume.old.is_sound → IsVolumeOf dbd.now volume.old }
+    requires there { IsTrue volume.old.is_sound → IsSegment (links_of dbd.now.types volume.old) address }
+    ensures read { IsRead volume.old result volume.new }
+    ensures twin { IfOk result (λ r. IsTrue volume.old.is_sound → r.0 ≡ (links_of dbd.now.types volume.old).forward address) }
+    ensures code { IfOk result (λ r. IsTrue volume.old.is_sound → r.1 ≡ (links_of dbd.now.types volume.old).code address) }
+    ensures refusal { OnlyDevice result }
+{
+    let segment = volume.segment_at(address)?;
+    let twin = pointer_in(dbd, segment, Pointer::TwinForward);
+    Ok((twin, code_in(segment)))
 }

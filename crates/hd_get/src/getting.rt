@@ -116,9 +116,9 @@ fn missing(call: &Get<'_>, position: &mut Position) -> Outcome
 /// row, whose path the position then has, and `taken` its levels that are returned. Where there is none, GN without a qualified argument
 /// answers GB, and every other get GE.
 ///
-/// One block is in hand, and a walk of GN over the whole database takes one access for each time that it comes to another. It comes to
-/// each row, and to a row again behind the last of its children of each type; so each block is read once where the rows of each root
-/// lie in one block, and the roots in order.
+/// Four blocks are in memory beside block 0, and a walk of GN over the whole database takes one access for each time that it comes to one
+/// that is not. It comes to each row, and to a row again behind the last of its children of each type; so each block is read once where the
+/// rows of each root lie in four blocks at most, and the roots in order.
 ///
 /// With arguments the rows that a get reads, each an access where it leads to another block:
 /// - GU by the root's key: a block of each level of the index (in version 1, its chain up to the key's), and the root found there. Below,

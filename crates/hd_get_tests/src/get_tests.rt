@@ -5,7 +5,7 @@ use hd_dbd::{Dbd, Name8, Pcb, Refused, Sens, Status};
 use hd_forest::tip_of;
 use hd_get::{Get, Outcome, get};
 use hd_position::Position;
-use hd_sample::{database, image};
+use hd_sample::{database, image, widened};
 use hd_ssa::resolve;
 use hd_volume::{BlockStore, FileStore, FuseStore, Volume};
 use std::alloc::{AllocError, Global};
@@ -163,7 +163,7 @@ fn run_on(
     let mut new = OpenOptions::new();
     new.read(true).write(true).create(true).truncate(true);
     let mut file = new.open(rt, "got")?;
-    file.write_all(&image())?;
+    file.write_all(&widened(&image()))?;
     run::<Brand>(rt.alloc(), file, Blank::new(1), dbd, passes)
 }
 
@@ -217,6 +217,8 @@ fn gets_rows_of_the_sample(rt: HostRuntime) -> Result<(), Fail> {
 fn refuses_with_device_at_each_access(rt: HostRuntime) -> Result<(), Fail> {
     let dbd = database(rt.alloc()).expect(&rt, "a database");
     let (_, all) = run_on(&rt, &dbd, u64::MAX)?;
+    // The eight that open the volume, and those of its blocks when they are come to.
+    assert!(rt; all > 8, "{all}");
     for passes in 0..all {
         let (seen, _) = run_on(&rt, &dbd, passes)?;
         assert_eq!(rt; seen.map(|_| ()), Err(Refused::Device));

@@ -2,7 +2,7 @@ ghost use Rattle.std.specs.Prelude.{◌≡◌, ◌<◌, ◌≤◌, ◌^◌, IfOk
 
 use crate::input::read_whole;
 use crate::stop::{Named, Stop, of_file};
-use hd_cache::Cached;
+use hd_cache::{Cached, ReadAhead};
 use hd_dbd::Dbd;
 use hd_gen::read_dbd;
 use hd_volume::FileStore;
@@ -138,14 +138,14 @@ pub fn open_volume<R: Files<File = File>>(
     Ok(file)
 }
 
-/// The blocks of a volume in a file, with a cache of so many before them, from 1 to 65,536.
+/// The blocks of a volume in a file, read ahead where they come in order, with a cache of so many before them, from 1 to 65,536.
 pub fn cached_blocks<L: Ledger>(
     alloc: Global,
     dbd: &Dbd,
     file: File,
     cache: u32,
     blank: Blank,
-) -> Result<Cached<FileStore<L>>, Stop>
+) -> Result<Cached<ReadAhead<FileStore<L>>>, Stop>
     requires name { blank.name ≡ L.name }
     requires parts { blank.parts ≡ L.parts }
     requires share { 0 < blank.parts }
@@ -156,7 +156,11 @@ pub fn cached_blocks<L: Ledger>(
         Ok(store) => store,
         Err(error) => return Err(Stop::file(Named::Volume, error)),
     };
-    match Cached::new(alloc, store, cache.clamp(1, 65_536) as usize) {
+    match Cached::new(
+        alloc,
+        ReadAhead::new(alloc, store),
+        cache.clamp(1, 65_536) as usize,
+    ) {
         Ok(cached) => Ok(cached),
         Err((_, refused)) => Err(Stop::from(refused)),
     }

@@ -254,13 +254,13 @@ fn courses(alloc: Global, count: u32) -> io::Result<Vec<u8>> {
 fn tells_how_far_each_command_is(rt: HostRuntime) -> Result<(), Fail> {
     fs::write(&rt, "told.dbd", DBD_SOURCE)?;
     fs::write(&rt, "told.psb", PSB_SOURCE)?;
-    fs::write(&rt, "told.deck", b"L 303 GN\n")?;
-    fs::write(&rt, "told.rows", &courses(rt.alloc(), 300)?)?;
+    fs::write(&rt, "told.deck", b"L 903 GN\n")?;
+    fs::write(&rt, "told.rows", &courses(rt.alloc(), 900)?)?;
     expect(
         &rt,
         &["stream", "told.dbd", "told.rows", "told.stream"],
         0,
-        b"made a stream of 300 segments\n",
+        b"made a stream of 900 segments\n",
         b"",
     )?;
     let reload = ["reload", "told.dbd", "told.stream", "told.volume", "1000"];
@@ -275,9 +275,9 @@ fn tells_how_far_each_command_is(rt: HostRuntime) -> Result<(), Fail> {
         fs::read(&rt, "told.stream")?.as_slice()
     );
     let deck = ["deck", "told.dbd", "told.psb", "told.volume", "told.deck"];
-    expect_told(&rt, &deck, 0, length / 128, 303)?;
-    let full = ["reload", "told.dbd", "told.stream", "told.volume", "40"];
-    expect_told(&rt, &full, 1, 40, 0)?;
+    expect_told(&rt, &deck, 0, length / 128, 903)?;
+    let full = ["reload", "told.dbd", "told.stream", "told.volume", "120"];
+    expect_told(&rt, &full, 1, 120, 0)?;
     remove(
         &rt,
         &[

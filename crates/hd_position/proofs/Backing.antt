@@ -1,5 +1,5 @@
 -- The way back from a row to the one before it.
-use Rattle.std.proofs.Common.{◌≡◌, ◌⊎◌, ℕ, suc, ◌-◌, ◌<◌, List, [], ◌∷◌, ◌++◌, length, take, true, cond, arith, ap, sym, ◌∙◌, subst, refl, inl, inr, Option, Some, None}
+use Rattle.std.proofs.Common.{◌≡◌, ◌⊎◌, ℕ, ◌<◌, List, [], ◌∷◌, ◌++◌, true, cond, arith, ap, sym, ◌∙◌, subst, refl, inl, inr, Option, Some, None}
 use Rattle.std.specs.Prelude.{◌==◌, nat_lt}
 use Rattle.std.proofs.lemmas.Bool.{cases_Bool, cond-true, cond-false, lt-ltb, le-ltb, eq-eqb, ne_eqb, false≢true}
 use Rattle.hd_dbd.specs.Types.{SegmentType}
@@ -99,14 +99,6 @@ leads_beside types m h (x ∷ path) a y down typed chain = (down.0, down.1, lead
 pub leads_up : (types : List SegmentType) (m : Links) (h : ℕ) (path rest : List ℕ) → LeadsDown types m h (path ++ rest) → LeadsDown types m h path
 leads_up types m h [] rest down = tt
 leads_up types m h (x ∷ path) rest down = (down.0, down.1, leads_up types m x path rest down.2)
-
--- a path is its front and its last row
-pub parted : (h : ℕ) (path : List ℕ) → 0 < length path → path ≡ take (length path - 1) path ++ tip_from h path ∷ []
-parted h [] some = absurd (omega arith)
-parted h (a ∷ []) some = refl
-parted h (a ∷ (b ∷ path)) some =
-    let e : length (a ∷ (b ∷ path)) - 1 ≡ suc (length (b ∷ path) - 1) = omega arith in
-    ap (λ (xs : List ℕ). a ∷ xs) (parted a (b ∷ path) (omega arith)) ∙ ap (λ n. take n (a ∷ (b ∷ path)) ++ tip_from a (b ∷ path) ∷ []) (sym e)
 
 -- the last row of a path with one more
 pub tip_end : (h : ℕ) (path : List ℕ) (a : ℕ) → tip_from h (path ++ a ∷ []) ≡ a

@@ -26,7 +26,8 @@ use Rattle.hd_position.specs.Backs.{EndsBelow, beside, from_on, IsLastChild, IsL
 use Rattle.hd_position.proofs.Leaves.{Grounds, grounds}
 use Rattle.hd_position.proofs.Before.{row_before, path_levels, leads_segment}
 use Rattle.hd_position.proofs.Ends.{last_before}
-use Rattle.hd_position.proofs.Backing.{IsLastNamed, last_is, from_none, from_child, leads_beside, leads_up, parted, tip_end}
+use Rattle.hd_forest.proofs.Climbs.{parted}
+use Rattle.hd_position.proofs.Backing.{IsLastNamed, last_is, from_none, from_child, leads_beside, leads_up, tip_end}
 
 module _ (types : List SegmentType) (bound : ℕ) (m : Links) (G : IsLinkGraph types bound m) (L : AreLinked types m) where
   -- ---- the last child of a row

@@ -3,7 +3,7 @@ use Rattle.std.specs.Prelude.{◌≡◌, ◌⊎◌, ℕ, ◌-◌, ◌<◌, List,
 use Rattle.hd_dbd.specs.Types.{SegmentType}
 use Rattle.hd_links.specs.Links.{Links, child_types, is_child_type}
 use Rattle.hd_links.specs.Pointers.{IsInChain}
-use Rattle.hd_links.specs.Steps.{LeadsDown, next_row, first_some, child_among, later_than}
+use Rattle.hd_links.specs.Steps.{LeadsDown, next_row, child_among, later_than}
 use Rattle.hd_forest.specs.Walks.{tip, parent_on}
 use Rattle.hd_forest.specs.Children.{comes_before}
 pub use Rattle.hd_forest.specs.Children.{beside}

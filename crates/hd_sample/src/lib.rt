@@ -12,4 +12,4 @@ pub use bytes::{WAYS, byte_at, changed, set_byte};
 pub use roots::{root_database, root_stream};
 pub use stream::{RECORDS, stream_of};
 pub use types::{database, segment_type, spaced_database};
-pub use volume::{image, put};
+pub use volume::{image, put, spread_image, widened};

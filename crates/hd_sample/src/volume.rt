@@ -41,3 +41,62 @@ pub fn image() -> [u8; 512] {
     }
     bytes
 }
+
+/// An image of four blocks with four free ones behind it. When the volume has been opened those are in memory, and the others are not.
+pub fn widened(image: &[u8; 512]) -> [u8; 1024] {
+    let mut bytes = [0; 1024];
+    bytes[..512].copy_from_slice(image);
+    bytes[15] = 8;
+    for n in 4..8 {
+        bytes[n * 128 + 2] = 3;
+    }
+    bytes
+}
+
+/// The bytes of a volume with the sample's rows, each in a block of its own with a hole behind it.
+const SPREAD: [(usize, &[u8]); 23] = [
+    (
+        0,
+        b"HDVOLUME\0\x03\0\x80\0\0\0\x09\0\0\0\x10EDU     \0\0\0\x88\0\0\x03\x88\0\0\0\x08\0\0\0\x01",
+    ),
+    (128, b"\0\x30\x01"),
+    (
+        136,
+        b"\x01\0\0\0\x03\x88\0\0\0\0\0\0\x01\x08\0\0\x02\x88\0\0\x03\x08\0\0\x03\x08101ALGEB",
+    ),
+    (176, b"\0\0\0\x50"),
+    (256, b"\0\x20\x01"),
+    (264, b"\x02\0\0\0\x02\x88\0\0\0\0\0\0\x01\x8801AB"),
+    (288, b"\0\0\0\x60"),
+    (384, b"\0\x18\x01"),
+    (392, b"\x03\0\0\0\x02\x08ADAM01"),
+    (408, b"\0\0\0\x68"),
+    (512, b"\0\x18\x01"),
+    (520, b"\x03\0\0\0\0\0EVE 02"),
+    (536, b"\0\0\0\x68"),
+    (640, b"\0\x20\x01"),
+    (648, b"\x02\0\0\0\0\0\0\0\x01\x08\0\0\0\x0002CD"),
+    (672, b"\0\0\0\x60"),
+    (768, b"\0\x18\x01"),
+    (776, b"\x04\0\0\0\0\0\0\0\0\0EULER"),
+    (792, b"\0\0\0\x68"),
+    (896, b"\0\x30\x01"),
+    (
+        904,
+        b"\x01\0\0\0\0\0\0\0\0\x88\0\0\0\0\0\0\0\0\0\0\0\0\0\0\0\x00205LOGIC",
+    ),
+    (944, b"\0\0\0\x50"),
+    (
+        1024,
+        b"\0\0\x02\0\0\x02\0\0\0\0\0\0101\0\0\0\x88205\0\0\x03\x88",
+    ),
+];
+
+/// The image of a volume of nine blocks with the sample's rows, each in a block of its own, which has more blocks than stay in memory.
+pub fn spread_image() -> [u8; 1152] {
+    let mut bytes = [0; 1152];
+    for row in &SPREAD {
+        put(&mut bytes, row.0, row.1);
+    }
+    bytes
+}

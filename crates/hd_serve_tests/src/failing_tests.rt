@@ -1,5 +1,5 @@
 use crate::frames::{answers_of, calls_of};
-use crate::program::{HELLO, database, sample, serve_over};
+use crate::program::{HELLO, database, sample, serve_over, spread};
 use crate::session_tests::{ANSWERS, CALLS};
 use hd_frames::FrameFault;
 use hd_serve::ServeFault;
@@ -16,7 +16,7 @@ fn tells_each_access_that_fails(rt: HostRuntime) -> Result<(), Fail> {
     let input = calls_of(alloc, CALLS).expect(&rt, "memory");
     let whole = answers_of(alloc, HELLO, ANSWERS).expect(&rt, "memory");
     for passes in 0..200 {
-        let store = FuseStore::new(sample(alloc, &dbd, 512, 0).expect(&rt, "memory"), passes);
+        let store = FuseStore::new(spread(alloc, &dbd).expect(&rt, "memory"), passes);
         let mut out = Vec::new(alloc);
         let ended = serve_over(alloc, &dbd, store, &mut input.as_slice(), &mut out).expect(
             &rt, "memory",

@@ -3,7 +3,7 @@ ghost use Rattle.hd_dbd.specs.ProgramRules.{type_names};
 
 use hd_dbd::{Dbd, Psb};
 use hd_gen::{read_dbd, read_psb};
-use hd_sample::image;
+use hd_sample::{image, spread_image};
 use hd_serve::{ServeFault, serve};
 use hd_volume::{BlockStore, MemStore};
 use std::alloc::Global;
@@ -73,6 +73,15 @@ pub fn sample(alloc: Global, dbd: &Dbd, place: usize, byte: u8) -> Option<MemSto
     if let Some(old) = bytes.get_mut(place) {
         *old = byte;
     }
+    Some(MemStore::new(dbd.block_size() as usize, bytes))
+}
+
+/// A store of the sample's rows, each in a block of its own; `None` where there is no memory for it.
+pub fn spread(alloc: Global, dbd: &Dbd) -> Option<MemStore>
+    ensures { IfSome result (λ store. store.size ≡ dbd.now.block_size) }
+{
+    let mut bytes = Vec::new(alloc);
+    bytes.extend_from_slice(&spread_image()).ok()?;
     Some(MemStore::new(dbd.block_size() as usize, bytes))
 }
 

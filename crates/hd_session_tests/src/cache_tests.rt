@@ -2,7 +2,7 @@
 ghost use Rattle.std.specs.Prelude.{◌≡◌};
 
 use crate::calling_tests::play_all;
-use crate::listed_calls::{program, sample, spread};
+use crate::listed_calls::{program, spread};
 use crate::run_tests::steps_of;
 use hd_cache::Cached;
 use hd_check::{CheckFault, check};
@@ -110,7 +110,7 @@ fn run_behind(alloc: Global, dbd: &Dbd, passes: u64) -> Option<(bool, bool)>
 {
     let psb = program(alloc, dbd)?;
     let steps = steps_of(alloc, DECK, &psb)?;
-    let store = sample(alloc)?;
+    let store = spread(alloc)?;
     let Ok(cached) = Cached::new(alloc, FuseStore::new(store, passes), CACHED) else {
         return None;
     };

@@ -1,6 +1,7 @@
 ghost use Rattle.std.specs.Prelude.{◌≡◌, ◌<◌, ◌≤◌, IfOk};
 ghost use Rattle.hd_dbd.specs.Facts.{stored_sizes};
 
+use crate::listed_calls::spread;
 use hd_commands::*;
 use hd_dbd::{Dbd, Refused};
 use hd_sample::{RECORDS, database, image, stream_of};
@@ -162,7 +163,7 @@ fn tells_of_each_access_that_fails(rt: HostRuntime) -> Result<(), Fail> {
     let alloc = rt.alloc();
     let dbd = database(alloc).expect(&rt, "a database");
     for passes in 0..200 {
-        let store = FuseStore::new(sample_store(alloc, 511, 0)?, passes);
+        let store = FuseStore::new(spread(alloc).expect(&rt, "memory"), passes);
         let done = unloaded(alloc, &dbd, store);
         if done.status == 0 {
             assert!(rt; passes > 10);

@@ -4,7 +4,7 @@ ghost use Rattle.hd_dbd.specs.Hierarchy.{longest_path};
 ghost use Rattle.hd_dbd.specs.ProgramRules.{type_names};
 
 use hd_dbd::{Dbd, Name8, Pcb, Psb, Refused, Sens, Status};
-use hd_sample::{image, put};
+use hd_sample::{image, spread_image};
 use hd_session::{Answer, Call, IoArea, Session};
 use hd_volume::{BlockStore, MemStore};
 use std::alloc::Global;
@@ -75,56 +75,13 @@ pub fn sample(alloc: Global) -> Option<MemStore>
     Some(MemStore::new(128, bytes))
 }
 
-/// The bytes of a volume with the sample's rows, each in a block of its own with a hole behind it.
-const SPREAD: [(usize, &[u8]); 23] = [
-    (
-        0,
-        b"HDVOLUME\0\x03\0\x80\0\0\0\x09\0\0\0\x10EDU     \0\0\0\x88\0\0\x03\x88\0\0\0\x08\0\0\0\x01",
-    ),
-    (128, b"\0\x30\x01"),
-    (
-        136,
-        b"\x01\0\0\0\x03\x88\0\0\0\0\0\0\x01\x08\0\0\x02\x88\0\0\x03\x08\0\0\x03\x08101ALGEB",
-    ),
-    (176, b"\0\0\0\x50"),
-    (256, b"\0\x20\x01"),
-    (264, b"\x02\0\0\0\x02\x88\0\0\0\0\0\0\x01\x8801AB"),
-    (288, b"\0\0\0\x60"),
-    (384, b"\0\x18\x01"),
-    (392, b"\x03\0\0\0\x02\x08ADAM01"),
-    (408, b"\0\0\0\x68"),
-    (512, b"\0\x18\x01"),
-    (520, b"\x03\0\0\0\0\0EVE 02"),
-    (536, b"\0\0\0\x68"),
-    (640, b"\0\x20\x01"),
-    (648, b"\x02\0\0\0\0\0\0\0\x01\x08\0\0\0\x0002CD"),
-    (672, b"\0\0\0\x60"),
-    (768, b"\0\x18\x01"),
-    (776, b"\x04\0\0\0\0\0\0\0\0\0EULER"),
-    (792, b"\0\0\0\x68"),
-    (896, b"\0\x30\x01"),
-    (
-        904,
-        b"\x01\0\0\0\0\0\0\0\0\x88\0\0\0\0\0\0\0\0\0\0\0\0\0\0\0\x00205LOGIC",
-    ),
-    (944, b"\0\0\0\x50"),
-    (
-        1024,
-        b"\0\0\x02\0\0\x02\0\0\0\0\0\0101\0\0\0\x88205\0\0\x03\x88",
-    ),
-];
-
 /// A store of a volume with the sample's rows, each in a block of its own: more blocks than stay in memory; `None` where there is no memory
 /// for it.
 pub fn spread(alloc: Global) -> Option<MemStore>
     ensures { IfSome result (λ store. store.size ≡ 128) }
 {
-    let mut image = [0; 1152];
-    for row in &SPREAD {
-        put(&mut image, row.0, row.1);
-    }
     let mut bytes = Vec::new(alloc);
-    bytes.extend_from_slice(&image).ok()?;
+    bytes.extend_from_slice(&spread_image()).ok()?;
     Some(MemStore::new(128, bytes))
 }
 

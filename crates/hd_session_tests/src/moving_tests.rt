@@ -35,9 +35,9 @@ const LEFT: &[Row<'_>] = &[
     (1, "307", 40),
 ];
 
-/// Calls over these rows, each with the front of its line and what it answers where no access fails. The first REPL moves a book on which the
-/// other PCB stands, into a block by which the volume grows; the second a course above a book on which it stands, into the place that the book
-/// had.
+/// Calls over these rows, each with the front of its line and what it answers where no access fails. The first REPL leaves a course where it
+/// stands, in a block that has to be written before the next one is done; that moves a book on which the other PCB stands, into a block by which
+/// the volume grows; and the third moves a course above a book on which it stands, into the place that the book had.
 const CALLS: &[(&str, &str, &str)] = &[
     (
         "S 2\nL     GN   BOOK    \n",
@@ -50,69 +50,79 @@ const CALLS: &[(&str, &str, &str)] = &[
         "[  ] 02 BOOK     key=101 area=\\x000B.............................................\n",
     ),
     (
-        "S 1\nL     GHN  BOOK    \n",
+        "S 1\nL     GHN  COURSE  \n",
         "3 1 GHN  ",
+        "[  ] 01 COURSE   key=101 area=\\x00(101...................................\n",
+    ),
+    (
+        "L     REPL\nH0028\nD101...................................\n",
+        "4 1 REPL ",
+        "[  ] 01 COURSE   key=101 area=\n",
+    ),
+    (
+        "L     GHN  BOOK    \n",
+        "5 1 GHN  ",
         "[  ] 02 BOOK     key=101 area=\\x000A.............................................\n",
     ),
     (
         "L     GHN  BOOK    \n",
-        "4 1 GHN  ",
+        "6 1 GHN  ",
         "[  ] 02 BOOK     key=101 area=\\x000B.............................................\n",
     ),
     (
         "L     REPL\nH0038\nDB.....................................................\n",
-        "5 1 REPL ",
+        "7 1 REPL ",
         "[  ] 02 BOOK     key=101 area=\n",
     ),
     (
         "S 2\nL     GN   BOOK    \n",
-        "6 2 GN   ",
+        "8 2 GN   ",
         "[  ] 02 BOOK     key=101 area=\\x000C.............................................\n",
     ),
     (
         "L     GN   BOOK    \n",
-        "7 2 GN   ",
+        "9 2 GN   ",
         "[  ] 02 BOOK     key=205 area=\\x000D.............................................\n",
     ),
     (
         "S 1\nL     GHN  COURSE  \n",
-        "8 1 GHN  ",
+        "10 1 GHN  ",
         "[  ] 01 COURSE   key=205 area=\\x00(205...................................\n",
     ),
     (
         "L     REPL\nH0030\nD205...........................................\n",
-        "9 1 REPL ",
+        "11 1 REPL ",
         "[  ] 01 COURSE   key=205 area=\n",
     ),
     (
         "S 2\nL     GN   COURSE  \n",
-        "10 2 GN   ",
+        "12 2 GN   ",
         "[  ] 01 COURSE   key=307 area=\\x00(307...................................\n",
     ),
     (
         "L     GU   COURSE  (NUM     EQ205)\n",
-        "11 2 GU   ",
+        "13 2 GU   ",
         "[  ] 01 COURSE   key=205 area=\\x000205...........................................\n",
     ),
     (
         "L     GN   BOOK    \n",
-        "12 2 GN   ",
+        "14 2 GN   ",
         "[  ] 02 BOOK     key=205 area=\\x000D.............................................\n",
     ),
     (
         "S 1\nL     GU   BOOK    \n",
-        "13 1 GU   ",
+        "15 1 GU   ",
         "[  ] 02 BOOK     key=101 area=\\x000A.............................................\n",
     ),
     (
         "L     GN   BOOK    \n",
-        "14 1 GN   ",
+        "16 1 GN   ",
         "[  ] 02 BOOK     key=101 area=\\x008B.....................................................\n",
     ),
 ];
 
-/// The places of the two REPLs among the calls.
-const REPLS: [usize; 2] = [4, 8];
+/// The places among the calls of the two REPLs that move a row.
+const REPLS: [usize; 2] = [6, 10];
 
 /// What a check says of the rows that the calls leave. The seven rows stand in a block each; three blocks more are the header, that of the
 /// index, and the one that the second row to move has left.
@@ -230,8 +240,8 @@ fn tells_of_each_access_that_fails_where_rows_move(rt: HostRuntime) -> Result<()
         let ended = run_in_fuse(alloc, &dbd, &volume, deck.as_bytes(), passes).expect(&rt, "a run");
         let (line, _) = checked(alloc, &dbd, &ended.store.bytes).expect(&rt, "a volume");
         if !ended.is_met {
-            assert_eq!(rt; ended.calls, Ok(14));
-            assert_eq!(rt; failed_call(&ended.lines), Some(14));
+            assert_eq!(rt; ended.calls, Ok(16));
+            assert_eq!(rt; failed_call(&ended.lines), Some(16));
             assert_eq!(rt; line.as_slice(), PASSES);
             assert_eq!(rt; has_rows(alloc, &dbd, &ended.store.bytes, LEFT), Some(true));
             assert!(rt; has_both(failed[0]) && has_both(failed[1]), "{failed:?}");

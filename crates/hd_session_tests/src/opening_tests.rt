@@ -1,6 +1,7 @@
 ghost use Rattle.std.specs.Prelude.{◌≡◌, IfSome};
 ghost use Rattle.hd_dbd.specs.ProgramRules.{type_names};
 
+use crate::listed_calls::spread;
 use hd_check::{Fault, Line};
 use hd_dbd::{Dbd, Name8, Pcb, Psb, Refused, Sens};
 use hd_sample::{database, image};
@@ -100,13 +101,13 @@ fn tells_why_it_is_not_opened(rt: HostRuntime) -> Result<(), Fail> {
     Ok(())
 }
 
-/// Why a session is not opened over the sample in a fuse that passes so many accesses, if there is a reason, and whether the fuse met the
-/// one that fails; `None` where the load already meets it.
+/// Why a session is not opened over the sample's rows, each in a block of its own, in a fuse that passes so many accesses, if there is a
+/// reason, and whether the fuse met the one that fails; `None` where the load already meets it.
 fn fused(alloc: Global, dbd: &Dbd, passes: u64) -> Option<(Option<OpenFault>, bool)>
     requires { dbd.now.block_size ≡ 128 }
 {
     let psb = program(alloc, dbd, "A")?;
-    let store = FuseStore::new(store_of(alloc, &[])?, passes);
+    let store = FuseStore::new(spread(alloc)?, passes);
     let volume = Volume::load(alloc, store, dbd).ok()?;
     match Session::open(alloc, volume, dbd, &psb) {
         Ok(session) => {
@@ -137,7 +138,10 @@ fn told_accesses(alloc: Global, dbd: &Dbd) -> Option<u32>
 fn each_access_that_fails_is_told(rt: HostRuntime) -> Result<(), Fail> {
     let dbd = database(rt.alloc()).expect(&rt, "a database");
     let told = told_accesses(rt.alloc(), &dbd);
-    assert!(rt; told.is_some_and(|count| count > 2 && count <= 16));
+    assert!(rt;
+        told.is_some_and(|count| count > 2 && count <= 24),
+        "{told:?}"
+    );
     Ok(())
 }
 

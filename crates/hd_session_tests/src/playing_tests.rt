@@ -2,6 +2,7 @@ ghost use Rattle.std.specs.Prelude.{◌≡◌, IfSome};
 ghost use Rattle.hd_dbd.specs.ProgramRules.{type_names};
 
 use crate::command_tests::{FullWriter, sample_store};
+use crate::listed_calls::spread;
 use hd_commands::{play_deck, status_of_calls};
 use hd_dbd::{Dbd, Name8, Pcb, Psb, Sens};
 use hd_deck::read_deck;
@@ -106,12 +107,12 @@ fn a_play_tells_of_each_access_that_fails(rt: HostRuntime) -> Result<(), Fail> {
     let dbd = database(alloc).expect(&rt, "a database");
     for passes in 0..100 {
         let mut out = Vec::new(alloc);
-        let store = FuseStore::new(sample_store(alloc, 511, 0)?, passes);
+        let store = FuseStore::new(spread(alloc).expect(&rt, "memory"), passes);
         let done = play_over(alloc, &dbd, "A", b"L   4 GN\n", store, &mut out).expect(
             &rt, "memory",
         );
         if done.status == 0 {
-            assert!(rt; passes > 5);
+            assert!(rt; passes > 10);
             return Ok(());
         }
         assert_eq!(rt; done.status, 3);

@@ -2,6 +2,7 @@ ghost use Rattle.std.specs.Prelude.{◌≡◌, ◌≤◌, length, All, IfSome};
 ghost use Rattle.hd_dbd.specs.ProgramRules.{type_names};
 ghost use Rattle.hd_deck.specs.StepText.{StepFits};
 
+use crate::listed_calls::spread;
 use hd_check::{Fault, Line};
 use hd_dbd::{Dbd, Name8, Pcb, Psb, Sens};
 use hd_deck::{RunFault, Step, read_deck, run};
@@ -107,10 +108,23 @@ fn run_over_sample<W: Write>(
     passes: u64,
     out: &mut W,
 ) -> Option<Ended> {
+    run_over(alloc, deck, edited(alloc, edit)?, passes, out)
+}
+
+/// The same over the volume of a store.
+fn run_over<W: Write>(
+    alloc: Global,
+    deck: &[u8],
+    store: MemStore,
+    passes: u64,
+    out: &mut W,
+) -> Option<Ended>
+    requires { store.size ≡ 128 }
+{
     let dbd = database(alloc).ok()?;
     let psb = program(alloc, &dbd)?;
     let steps = steps_of(alloc, deck, &psb)?;
-    let store = FuseStore::new(edited(alloc, edit)?, passes);
+    let store = FuseStore::new(store, passes);
     let (calls, store) = match run(alloc, store, &dbd, &psb, &steps, out) {
         Ok(end) => (Ok(end.calls), end.store),
         Err((store, fault)) => (Err(fault), store),
@@ -172,9 +186,8 @@ fn tells_each_access_that_fails(rt: HostRuntime) -> Result<(), Fail> {
     let alloc = rt.alloc();
     for passes in 0..100 {
         let mut out = Vec::new(alloc);
-        let ended = run_over_sample(alloc, b"L   9 GN\n", NO_EDIT, passes, &mut out).expect(
-            &rt, "memory",
-        );
+        let store = spread(alloc).expect(&rt, "memory");
+        let ended = run_over(alloc, b"L   9 GN\n", store, passes, &mut out).expect(&rt, "memory");
         let told = matches!(
             &ended.calls,
             Err(RunFault::Device | RunFault::Open(OpenFault::Device))

@@ -1,5 +1,5 @@
 -- How the records of a volume's rows are written one after another.
-use Rattle.std.proofs.Common.{◌≡◌, ℕ, suc, ◌+◌, ◌<◌, ◌≤◌, List, [], ◌∷◌, ◌++◌, length, take, drop, get_or, Bool, true, false, IsTrue, Option, Some, None, Ok, Err, refl, sym, ap, subst, ◌∙◌, arith, inl, inr}
+use Rattle.std.proofs.Common.{◌≡◌, ℕ, suc, ◌+◌, ◌<◌, ◌≤◌, List, [], ◌∷◌, ◌++◌, length, take, drop, get_or, Option, Some, None, Err, refl, sym, ap, subst, ◌∙◌, arith, inl, inr}
 use Rattle.std.specs.Io.KnownBytes.{Appends}
 use Rattle.std.specs.Option.{option_map_or}
 use Rattle.std.proofs.KnownBytes.{Appends-nil, Appends-trans}
@@ -26,12 +26,11 @@ use Rattle.hd_image.specs.Holding.{HoldsPlaced}
 use Rattle.hd_forest.specs.Walks.{tip, next_on, walked, AreSegments, HasForest}
 use Rattle.hd_forest.proofs.Climbs.{tip-some, next-segments}
 use Rattle.hd_forest.proofs.Held.{held}
-use Rattle.hd_forest.proofs.Reading.{after-read}
 use Rattle.hd_forest.proofs.Walking.{walking, walked-there}
 use Rattle.hd_unload.specs.Streams.{head_bytes, record_bytes, records_bytes, end_bytes, unload_bytes}
 use Rattle.hd_unload.specs.declared.fault.StreamFault.{StreamFault}
 use Rattle.hd_unload.specs.declared.fault.StreamFault.TheVariants as stream
-use Rattle.hd_unload.specs.Unloads.{IsTurn, stream_call}
+use Rattle.hd_unload.specs.Unloads.{stream_call}
 use Rattle.hd_unload.proofs.Reading.{nothing-behind}
 use Rattle.hd_unload.proofs.HeldStreams.{held-few}
 
@@ -75,28 +74,20 @@ next-there d v path new of holds there is =
     let m : Links = links_of d.types v in
     subst (AreSegments m) (sym is) (next-segments d.types m (held d v of.fit of holds).linked.typed refl path there)
 
--- a turn of the volume that was only read is one of the volume before
-pub turn-before : {A : Type 0} {x : A} (d : Database) (u v : VolumeState) (old new : List ℕ) (before after : Option (List ℕ)) (more is : Bool) → IsRead {T = A} u (Ok x) v → IsTrue u.is_sound → more ≡ is
-    → (IsTrue v.is_sound → IsTurn d.types (links_of d.types v) old before more new after) → IsTurn d.types (links_of d.types u) old before is new after
-turn-before d u v old new before after more is read sound same turn =
-    let s = after-read d u v read sound in
-    subst (λ (b : Bool). IsTurn d.types (links_of d.types u) old before b new after) same
-    (subst (λ (m : Links). IsTurn d.types m old before more new after) s.links (turn s.sound))
-
 -- the records of rows with one more
 records-one : (rows : List Segment) (new : Segment) → records_bytes (rows ++ new ∷ []) ≡ records_bytes rows ++ record_bytes new
 records-one [] new = nothing-behind (record_bytes new)
 records-one (r ∷ rows) new = ap (λ (xs : List ℕ). record_bytes r ++ xs) (records-one rows new) ∙ sym (append_assoc (record_bytes r) (records_bytes rows) (record_bytes new))
 
--- The records of so many rows of a placed forest were written, and from the path the walk goes on to the row of that number.
+-- The records of so many rows of a placed forest were written, and the walk stands on the row of that number.
 pub record IsWrittenTo (d : Database) (v : VolumeState) (f : Forest Placed) (count : ℕ) (path : List ℕ) (before after : Option (List ℕ)) : Type 0 where
   pub few : count ≤ length (rows_of f)
-  pub next : next_on d.types (links_of d.types v) path ≡ walked d.types (links_of d.types v) count
+  pub stands : path ≡ walked d.types (links_of d.types v) count
   pub stream : Appends before after (records_bytes (take count (rows_of f)))
 
 -- nothing is written at first
-pub written-none : (d : Database) (v : VolumeState) (f : Forest Placed) (out : Option (List ℕ)) → IsWrittenTo d v f 0 [] out out
-written-none d v f out = record { few = omega arith; next = refl; stream = Appends-nil out }
+pub written-none : (d : Database) (v : VolumeState) (f : Forest Placed) (path : List ℕ) (out : Option (List ℕ)) → path ≡ next_on d.types (links_of d.types v) [] → IsWrittenTo d v f 0 path out out
+written-none d v f path out is = record { few = omega arith; stands = is; stream = Appends-nil out }
 
 module _ (d : Database) (v : VolumeState) (f : Forest Placed) (h : HoldsPlaced d v f) (count : ℕ) (path : List ℕ) (before mid : Option (List ℕ)) (w : IsWrittenTo d v f count path before mid) where
   abbrev m : Links
@@ -109,41 +100,35 @@ module _ (d : Database) (v : VolumeState) (f : Forest Placed) (h : HoldsPlaced d
       let at : count ≡ length (rows_of f) = omega arith in
       ap (λ (n : ℕ). tip (walked d.types m n)) at ∙ ap tip (walking d v f h.volume.fit h.volume h.records).1
 
-  -- a turn writes the record of one row more
-  pub written-more : (new : List ℕ) (after : Option (List ℕ)) → IsTurn d.types m path mid true new after → IsWrittenTo d v f (count + 1) new before after
-  written-more new after t =
-      let stands : new ≡ walked d.types m count = t.next ∙ w.next in
-      let one = t.written refl in
+  -- where the record of the row that the walk stands on is written, and the walk goes on, that is one row more
+  pub written-more : (new : List ℕ) (after : Option (List ℕ)) → 0 < tip path → Appends mid after (record_bytes (segment_at m (tip path))) → new ≡ next_on d.types m path → IsWrittenTo d v f (count + 1) new before after
+  written-more new after some record-is next =
       let here : count < length (rows_of f) = elim (cases_lt count (length (rows_of f))) [
         | inl l ↦ l
-        | inr o ↦ absurd (let some = one.0 in let none : tip new ≡ 0 = ap tip stands ∙ nowhere-behind o in omega arith)
+        | inr o ↦ absurd (let none : tip path ≡ 0 = ap tip w.stands ∙ nowhere-behind o in omega arith)
       ] in
       let more : suc count ≡ count + 1 = omega arith in
-      let row : segment_at m (tip new) ≡ row_at (rows_of f) count = ap (λ (p : List ℕ). segment_at m (tip p)) stands ∙ ((walking d v f h.volume.fit h.volume h.records).0 count here).1 in
+      let row : segment_at m (tip path) ≡ row_at (rows_of f) count = ap (λ (p : List ℕ). segment_at m (tip p)) w.stands ∙ ((walking d v f h.volume.fit h.volume h.records).0 count here).1 in
       record {
         few = omega arith;
-        next = ap (next_on d.types m) stands ∙ ap (walked d.types m) more;
+        stands = next ∙ ap (next_on d.types m) w.stands ∙ ap (walked d.types m) more;
         stream = subst (Appends before after)
             (sym (ap records_bytes (take_more (rows_of f) count no_row here) ∙ records-one (take count (rows_of f)) (row_at (rows_of f) count)))
             (Appends-trans before mid after (records_bytes (take count (rows_of f))) (record_bytes (row_at (rows_of f) count)) w.stream
-            (subst (λ (r : Segment). Appends mid after (record_bytes r)) row one.1));
+            (subst (λ (r : Segment). Appends mid after (record_bytes r)) row record-is));
       }
 
-  -- where a turn comes to no row all are written
-  pub written-ended : (new : List ℕ) (after : Option (List ℕ)) → IsTurn d.types m path mid false new after → (count ≡ length (rows_of f)) × Appends before after (records_bytes (rows_of f))
-  written-ended new after t =
+  -- where the walk stands on no row all are written
+  pub written-ended : tip path ≡ 0 → (count ≡ length (rows_of f)) × Appends before mid (records_bytes (rows_of f))
+  written-ended none =
       let few = w.few in
       let all : count ≡ length (rows_of f) = elim (cases_lt count (length (rows_of f))) [
         | inl l ↦ absurd
             (let some = (walked-there d v f h.volume.fit h.volume h.records count l).some in
-            let none : tip (walked d.types m count) ≡ 0 = ap tip (sym (t.next ∙ w.next)) ∙ (t.ended refl).0 in
+            let nowhere : tip (walked d.types m count) ≡ 0 = ap tip (sym w.stands) ∙ none in
             omega arith)
         | inr o ↦ omega arith
-      ] in (
-        all,
-        subst (λ (after : Option (List ℕ)). Appends before after (records_bytes (rows_of f))) (sym (t.ended refl).1)
-            (subst (λ (rows : List Segment). Appends before mid (records_bytes rows)) (take_all count (rows_of f) (omega arith)) w.stream),
-      )
+      ] in (all, subst (λ (rows : List Segment). Appends before mid (records_bytes rows)) (take_all count (rows_of f) (omega arith)) w.stream)
 
   -- so many rows are fewer than the bytes of the image, and than 2 to the 32
   pub written-few : (count < length v.image) × (count < 4294967295)

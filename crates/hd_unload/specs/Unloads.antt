@@ -1,15 +1,12 @@
 -- What is written of a volume, and what the calls that write it say of its store.
-use Rattle.std.specs.Prelude.{◌≡◌, ◌<◌, ℕ, List, length, Bool, true, false, Option, Result, Ok, Err}
+use Rattle.std.specs.Prelude.{◌≡◌, ℕ, List, length, Option, Result, Ok, Err}
 use Rattle.std.specs.Io.KnownBytes.{Appends}
 use Rattle.hd_dbd.specs.declared.answer.Refused.{Refused}
 use Rattle.hd_dbd.specs.declared.answer.Refused.TheVariants as refused
-use Rattle.hd_dbd.specs.Types.{SegmentType}
 use Rattle.hd_dbd.specs.Hierarchy.{Database}
 use Rattle.hd_dbd.specs.Segment.{Segment}
 use Rattle.hd_volume.specs.Volumes.{VolumeState}
-use Rattle.hd_links.specs.Links.{Links, segment_at}
 use Rattle.hd_image.specs.Holding.{HoldsRows}
-use Rattle.hd_forest.specs.Walks.{tip, next_on, AreSegments}
 use Rattle.hd_check.specs.declared.checking.CheckFault.TheVariants as check
 use Rattle.hd_check.specs.declared.checking.Passed.{Passed}
 use Rattle.hd_check.specs.Checks.{IsPassed, IsFaultOf, as_call}
@@ -17,14 +14,7 @@ use Rattle.hd_unload.specs.declared.fault.StreamFault.{StreamFault}
 use Rattle.hd_unload.specs.declared.fault.StreamFault.TheVariants as stream
 use Rattle.hd_unload.specs.declared.unloading.UnloadFault.{UnloadFault}
 use Rattle.hd_unload.specs.declared.unloading.UnloadFault.TheVariants as unload
-use Rattle.hd_unload.specs.Streams.{record_bytes, unload_bytes}
-
--- The walk went on from a path to the next row: where there is one its record was written behind what stood there, and else nothing.
-pub record IsTurn (types : List SegmentType) (m : Links) (old : List ℕ) (before : Option (List ℕ)) (more : Bool) (new : List ℕ) (after : Option (List ℕ)) : Type 0 where
-  pub next : new ≡ next_on types m old
-  pub there : AreSegments m new
-  pub written : more ≡ true → (0 < tip new) × Appends before after (record_bytes (segment_at m (tip new)))
-  pub ended : more ≡ false → (tip new ≡ 0) × (after ≡ before)
+use Rattle.hd_unload.specs.Streams.{unload_bytes}
 
 -- The unload stream of the rows that the volume holds was written behind what stood there, and they are so many.
 pub record IsUnloaded (d : Database) (v : VolumeState) (before after : Option (List ℕ)) (segments : ℕ) : Type 0 where

@@ -9,14 +9,14 @@ ghost use Rattle.hd_links.specs.Placed.{Placed};
 ghost use Rattle.hd_links.specs.Steps.{rows_of};
 ghost use Rattle.hd_image.specs.Records.{links_of, IsVolumeOf};
 ghost use Rattle.hd_image.specs.Holding.{HoldsPlaced, HoldsRows};
-ghost use Rattle.hd_forest.specs.Walks.{AreSegments, HasForest};
+ghost use Rattle.hd_forest.specs.Walks.{AreSegments, HasForest, IsAhead, tip, next_on};
 ghost use Rattle.hd_unload.specs.Streams.{record_bytes, records_bytes, end_bytes, stored_row, IsWhole};
-ghost use Rattle.hd_unload.specs.Unloads.{IsTurn, IsUnloaded, stream_call};
+ghost use Rattle.hd_unload.specs.Unloads.{IsUnloaded, stream_call};
 
 use crate::fault::StreamFault;
 use crate::record::head_of;
 use hd_dbd::Dbd;
-use hd_forest::{Path, next_row, tip_of};
+use hd_forest::{Ahead, Path, ahead_of, go_on, next_row, tip_of};
 use hd_prefix::Layout;
 use hd_volume::{BlockStore, Volume};
 use std::io::Write;
@@ -66,46 +66,48 @@ fn put_record<W: Write>(dbd: &Dbd, segment: &[u8], out: &mut W) -> Result<(), St
     put_row(out, code, layout.bytes(segment))
 }
 
-/// Writes the record of the segment at an address.
+/// Writes the record of the segment at an address, and answers what it names ahead of it. One segment is read.
 fn write_record<S: BlockStore, W: Write>(
     volume: &mut Volume<S>,
     dbd: &Dbd,
     address: u32,
     out: &mut W,
-) -> Result<(), StreamFault>
+) -> Result<Ahead, StreamFault>
     requires of { IsTrue volume.old.is_sound → IsVolumeOf dbd.now volume.old }
     requires there { IsTrue volume.old.is_sound → IsSegment (links_of dbd.now.types volume.old) address }
     ensures read { IsRead volume.old (stream_call result) volume.new }
     ensures record { OnOk result (IsTrue volume.old.is_sound → Appends (W.contents out.old) (W.contents out.new) (record_bytes (segment_at (links_of dbd.now.types volume.old) address))) }
+    ensures ahead { IfOk result (λ r. IsTrue volume.old.is_sound → IsAhead dbd.now.types (links_of dbd.now.types volume.old) address r) }
 {
     match volume.segment_at(address) {
-        Ok(segment) => put_record(dbd, segment, out),
+        Ok(segment) => {
+            put_record(dbd, segment, out)?;
+            Ok(ahead_of(dbd, segment))
+        }
         Err(_) => Err(StreamFault::Device),
     }
 }
 
-/// Goes on to the next row, and writes its record; says whether there is one.
-fn write_next<S: BlockStore, W: Write>(
+/// Writes the record of the last row of a path, and goes on to the row behind it.
+fn write_and_go_on<S: BlockStore, W: Write>(
     volume: &mut Volume<S>,
     dbd: &Dbd,
     path: &mut Path,
     out: &mut W,
-) -> Result<bool, StreamFault>
+) -> Result<(), StreamFault>
     requires of { IsTrue volume.old.is_sound → IsVolumeOf dbd.now volume.old }
     requires holds { IsTrue volume.old.is_sound → HasForest dbd.now volume.old }
     requires there { IsTrue volume.old.is_sound → AreSegments (links_of dbd.now.types volume.old) path.old }
+    requires some { 0 < tip path.old }
     ensures read { IsRead volume.old (stream_call result) volume.new }
-    ensures turn { IfOk result (λ more. IsTrue volume.old.is_sound → IsTurn dbd.now.types (links_of dbd.now.types volume.old) path.old (W.contents out.old) more path.new (W.contents out.new)) }
+    ensures record { let m = links_of dbd.now.types volume.old in OnOk result (IsTrue volume.old.is_sound → Appends (W.contents out.old) (W.contents out.new) (record_bytes (segment_at m (tip path.old)))) }
+    ensures next { OnOk result (IsTrue volume.old.is_sound → path.new ≡ next_on dbd.now.types (links_of dbd.now.types volume.old) path.old) }
 {
-    let Ok(()) = next_row(volume, dbd, path) else {
-        return Err(StreamFault::Device);
-    };
-    let address = tip_of(path);
-    if address == 0 {
-        return Ok(false);
+    let ahead = write_record(volume, dbd, tip_of(path), out)?;
+    match go_on(volume, dbd, path, ahead) {
+        Ok(()) => Ok(()),
+        Err(_) => Err(StreamFault::Device),
     }
-    write_record(volume, dbd, address, out)?;
-    Ok(true)
 }
 
 /// Writes the records of a volume's rows in hierarchic sequence, and says how many they are.
@@ -121,19 +123,23 @@ fn write_records<S: BlockStore, W: Write>(
 {
     let most = volume.length().min(u64::from(u32::MAX)) as u32;
     let mut path = Path::new();
+    let Ok(()) = next_row(volume, dbd, &mut path) else {
+        return Err(StreamFault::Device);
+    };
     for count in 0..most {
-        let more = write_next(volume, dbd, &mut path, out)?;
-        if !more {
+        if tip_of(&path) == 0 {
             return Ok(count);
         }
+        write_and_go_on(volume, dbd, &mut path, out)?;
     }
     Ok(most)
 }
 
 /// Writes the unload stream of the forest that a volume holds, and says how many segments it has.
 ///
-/// A block is read when the walk comes to a row in it, and again when it goes back up to one. What is written goes out in small pieces: a
-/// writer with a buffer serves best.
+/// A row is read once for its record and for what it names ahead, and a parent again where the walk goes back up to it. A block is
+/// read when the walk comes to a row in it, and again when it goes back up to one in a block that is no longer in memory. What is written goes out in small pieces: a writer
+/// with a buffer serves best.
 pub fn write_stream<S: BlockStore, W: Write>(
     volume: &mut Volume<S>,
     dbd: &Dbd,

@@ -1,10 +1,11 @@
 //! Reloads and unloads with failed accesses behind a cache.
 ghost use Rattle.std.specs.Prelude.{◌≡◌};
 
+use crate::unload_tests::{MORE, image_of};
 use hd_cache::Cached;
 use hd_check::CheckFault;
 use hd_dbd::{Dbd, Refused};
-use hd_sample::{RECORDS, database, image, stream_of};
+use hd_sample::{RECORDS, database, stream_of};
 use hd_unload::{ReloadFault, UnloadFault, reload, unload};
 use hd_volume::{FuseStore, MemStore, Volume};
 use std::alloc::{AllocError, Global};
@@ -34,11 +35,14 @@ fn reload_behind(alloc: Global, dbd: &Dbd, passes: u64) -> Result<Told, AllocErr
     Ok(Some((fuse.accesses() > passes, is_refused || written.is_err())))
 }
 
-/// An unload of the sample behind a cache.
+/// An unload behind a cache of a volume that has more blocks than the cache and the volume keep in memory.
 fn unload_behind(alloc: Global, dbd: &Dbd, passes: u64) -> Result<Told, AllocError>
     requires { dbd.now.block_size ≡ 128 }
 {
-    let store = FuseStore::new(MemStore::new(128, image().to_vec(alloc)?), passes);
+    let Some(image) = image_of(alloc, MORE) else {
+        return Err(AllocError);
+    };
+    let store = FuseStore::new(MemStore::new(128, image), passes);
     let Ok(cached) = Cached::new(alloc, store, CACHED) else {
         return Err(AllocError);
     };
@@ -86,7 +90,7 @@ fn an_unload_behind_a_cache_tells_of_each_failed_access(rt: HostRuntime) -> Resu
         let (is_met, is_told) = told.expect(&rt, "no other refusal");
         assert!(rt; is_met == is_told, "{passes}");
         if !is_met {
-            assert!(rt; passes > 4);
+            assert!(rt; passes > 10);
             return Ok(());
         }
     }

@@ -2,7 +2,7 @@ ghost use Rattle.std.specs.Prelude.{◌≡◌, IfSome};
 
 use hd_check::*;
 use hd_dbd::Dbd;
-use hd_sample::{WAYS, changed, database, image, put};
+use hd_sample::{WAYS, changed, database, image, put, widened};
 use hd_volume::{FuseStore, MemStore, Volume};
 use std::alloc::Global;
 use std::test::Fail;
@@ -409,10 +409,20 @@ fn told_accesses(
 fn each_access_that_fails_is_told(rt: HostRuntime) -> Result<(), Fail> {
     let alloc = rt.alloc();
     let dbd = database(alloc).expect(&rt, "a database");
-    let sound = told_accesses(alloc, &dbd, &image(), passes());
-    assert!(rt; sound.is_some_and(|count| count > 2 && count <= 16));
-    let ringed = told_accesses(alloc, &dbd, &ring(), fault(Line::NotReached, 320, 0));
-    assert!(rt; ringed.is_some_and(|count| count > 2 && count <= 16));
+    let wide = Some(Ok(Passed {
+        blocks: 8,
+        segments: 7,
+        roots: 2,
+    }));
+    let sound = told_accesses(alloc, &dbd, &widened(&image()), wide);
+    assert!(rt; sound.is_some_and(|count| count > 2 && count <= 20));
+    let ringed = told_accesses(
+        alloc,
+        &dbd,
+        &widened(&ring()),
+        fault(Line::NotReached, 320, 0),
+    );
+    assert!(rt; ringed.is_some_and(|count| count > 2 && count <= 20));
     Ok(())
 }
 

@@ -1,13 +1,14 @@
 //! Volumes whose index has several levels, or several blocks in version 1: each with a byte changed, and a long one reloaded.
 
-use crate::judged::{Judged, comes_again, judge, reloaded};
+use crate::judged::{Judged, comes_again, costs_of_check, judge, reloaded};
 use crate::old_images::make_old;
 use hd_cache::Cached;
-use hd_check::check;
 use hd_dbd::Dbd;
-use hd_sample::{WAYS, byte_at, changed, root_database, root_stream, set_byte};
+use hd_sample::{
+    WAYS, byte_at, changed, database, root_database, root_stream, set_byte, stream_of,
+};
 use hd_unload::reload;
-use hd_volume::{FuseStore, MemStore, Volume};
+use hd_volume::{FuseStore, MemStore};
 use std::alloc::{AllocError, Global};
 use std::test::Fail;
 
@@ -155,19 +156,12 @@ fn check_costs(alloc: Global, dbd: &Dbd, stream: &[u8]) -> Option<(u64, u32)> {
     let Ok(made) = reload(alloc, dbd, stream, store, 65536) else {
         return None;
     };
-    let store = MemStore::new(dbd.block_size() as usize, made.store.into_bytes());
-    let Ok(mut volume) = Volume::load(alloc, FuseStore::new(store, u64::MAX), dbd) else {
-        return None;
-    };
-    let Ok(passed) = check(alloc, &mut volume, dbd) else {
-        return None;
-    };
-    Some((volume.into_store().accesses(), passed.blocks))
+    costs_of_check(alloc, dbd, made.store.into_bytes())
 }
 
 /// Each block is read for its extents; each data block once more by the walk along the pointers, and once or twice for the entries that name
-/// its roots; each index block at most eight times more. Were the phases asked that name a wrong pointer, each data block would be read three
-/// times more.
+/// its roots; each index block at most eight times more; and 64 roots are looked at to tell whether they lie scattered. Were they noted before
+/// the walk, or the phases asked that name a wrong pointer, each data block would be read once or three times more.
 #[test]
 fn a_check_walks_once_along_the_pointers(rt: HostRuntime) -> Result<(), Fail> {
     let alloc = rt.alloc();
@@ -176,8 +170,48 @@ fn a_check_walks_once_along_the_pointers(rt: HostRuntime) -> Result<(), Fail> {
     let (accesses, blocks) = check_costs(alloc, &dbd, &stream).expect(&rt, "a check");
     assert_eq!(rt; blocks, 1 + 788 + 345 + 2 + 1);
     assert!(rt;
-        accesses <= u64::from(blocks) + 3 * 788 + 8 * 348,
+        accesses <= u64::from(blocks) + 3 * 788 + 8 * 348 + 64,
         "{accesses}"
     );
     Ok(())
+}
+
+/// Where the keys of twins agree in their first eight bytes the walk reads their segments as well, each data block once more.
+#[test]
+fn a_check_reads_keys_that_begin_alike(rt: HostRuntime) -> Result<(), Fail> {
+    let alloc = rt.alloc();
+    let dbd = root_database(alloc, 2048, KEY_LENGTH).expect(&rt, "a database");
+    let stream = root_stream(alloc, &dbd, KEY_LENGTH, 2_000, 1)?;
+    let (accesses, blocks) = check_costs(alloc, &dbd, &stream).expect(&rt, "a check");
+    assert!(rt; accesses <= 10 * u64::from(blocks), "{accesses} {blocks}");
+    Ok(())
+}
+
+/// The stream of so many courses, each with a class and a student of it, and of as many segments.
+fn families(alloc: Global, courses: u8) -> Option<Vec<u8>> {
+    let mut records = Vec::new(alloc);
+    for number in 0..courses {
+        let (hundreds, tens, ones) = (number / 100, number / 10 % 10, number % 10);
+        records
+            .extend_from_slice(&[1, 0, 8, b'0' + hundreds, b'0' + tens, b'0' + ones])
+            .ok()?;
+        records
+            .extend_from_slice(b"TITLE\x02\0\x0401AB\x03\0\x06ADAM01")
+            .ok()?;
+    }
+    records.push(0).ok()?;
+    records
+        .extend_from_slice(&(u32::from(courses) * 3).to_be_bytes())
+        .ok()?;
+    stream_of(alloc, &records).ok()
+}
+
+/// Of many segments that lie in order the children that each names are looked for where the walk comes to it, and all are found.
+#[test]
+fn a_check_walks_to_the_children_of_many_segments(rt: HostRuntime) {
+    let alloc = rt.alloc();
+    let dbd = database(alloc).expect(&rt, "a database");
+    let stream = families(alloc, 250).expect(&rt, "a stream");
+    let (accesses, blocks) = check_costs(alloc, &dbd, &stream).expect(&rt, "a check");
+    assert!(rt; accesses <= 6 * u64::from(blocks), "{accesses} {blocks}");
 }

@@ -3,7 +3,7 @@
 use hd_check::{CheckFault, check};
 use hd_dbd::Dbd;
 use hd_unload::{UnloadFault, reload, unload};
-use hd_volume::{MemStore, Volume};
+use hd_volume::{FuseStore, MemStore, Volume};
 use std::alloc::{AllocError, Global};
 
 /// What is said of the bytes of a volume.
@@ -52,4 +52,16 @@ pub fn comes_again(alloc: Global, dbd: &Dbd, stream: &[u8]) -> Result<bool, Allo
         Judged::Passed(again) => again.as_slice() == stream,
         _ => false,
     })
+}
+
+/// The accesses of a check of a volume of these bytes, without a cache, with the load; and its blocks. `None` where it does not pass.
+pub fn costs_of_check(alloc: Global, dbd: &Dbd, image: Vec<u8>) -> Option<(u64, u32)> {
+    let store = MemStore::new(dbd.block_size() as usize, image);
+    let Ok(mut volume) = Volume::load(alloc, FuseStore::new(store, u64::MAX), dbd) else {
+        return None;
+    };
+    let Ok(passed) = check(alloc, &mut volume, dbd) else {
+        return None;
+    };
+    Some((volume.into_store().accesses(), passed.blocks))
 }

@@ -1,6 +1,7 @@
 ghost use Rattle.std.specs.Prelude.{◌≡◌, true, false};
 ghost use Rattle.hd_dbd.specs.Facts.{stored_sizes};
 
+use crate::judged::costs_of_check;
 use hd_check::{CheckFault, Fault, Line, Passed, check};
 use hd_dbd::{Dbd, Refused};
 use hd_forest::{Path, link, unlink_span};
@@ -156,4 +157,90 @@ fn a_volume_passes_without_an_unlinked_span(rt: HostRuntime) {
     let alloc = rt.alloc();
     let dbd = database(alloc).expect(&rt, "a database");
     assert_eq!(rt; judged(alloc, &dbd, Work::Unlinked), passes(4));
+}
+
+/// How many classes the course has of a volume whose segments lie scattered.
+const CLASSES: u8 = 150;
+
+/// The row of a class, whose key ascends with its number.
+fn class(number: u8) -> [u8; 4] {
+    [b'0' + number / 16, b'0' + number % 16, b'A', b'B']
+}
+
+/// The last of the first so many addresses that is not 0, or 0.
+fn last_before(addresses: &[u32], number: u8) -> u32 {
+    let mut last = 0;
+    for address in addresses.iter().take(number as usize) {
+        if *address != 0 {
+            last = *address;
+        }
+    }
+    last
+}
+
+/// Links a class, with a student of it, behind the last of a lesser number that is linked, and notes its address.
+fn link_class<S: BlockStore>(
+    volume: &mut Volume<S>,
+    dbd: &Dbd,
+    course: u32,
+    addresses: &mut [u32],
+    number: u8,
+) -> Result<(), Refused>
+    requires unsound { volume.old.is_sound ≡ false }
+    requires sizes { volume.old.sizes ≡ stored_sizes dbd.now.types }
+    ensures unsound { volume.new.is_sound ≡ false }
+    ensures size { volume.new.size ≡ volume.old.size }
+    ensures sizes { volume.new.sizes ≡ volume.old.sizes }
+{
+    let after = last_before(addresses, number);
+    let own = link_row(volume, dbd, course, after, 2, &class(number))?;
+    if let Some(place) = addresses.get_mut(number as usize) {
+        *place = own;
+    }
+    link_row(volume, dbd, own, 0, 3, b"ADAM01")?;
+    Ok(())
+}
+
+/// Links a course, and its classes in an order in which those behind one another come to lie far apart.
+fn link_scattered<S: BlockStore>(volume: &mut Volume<S>, dbd: &Dbd) -> Result<(), Refused>
+    requires unsound { volume.old.is_sound ≡ false }
+    requires size { volume.old.size ≡ dbd.now.block_size }
+    requires sizes { volume.old.sizes ≡ stored_sizes dbd.now.types }
+    ensures size { volume.new.size ≡ volume.old.size }
+    ensures sizes { volume.new.sizes ≡ volume.old.sizes }
+{
+    let course = link_row(volume, dbd, 0, 0, 1, b"101ALGEB")?;
+    enter(volume, dbd, b"101ALGEB", course)?;
+    let mut addresses = [0; CLASSES as usize];
+    let mut number: u8 = 0;
+    for _turn in 0..CLASSES {
+        link_class(volume, dbd, course, &mut addresses, number)?;
+        number = number.wrapping_add(37) % CLASSES;
+    }
+    Ok(())
+}
+
+/// The bytes of a volume whose segments lie scattered.
+fn scattered(alloc: Global, dbd: &Dbd) -> Option<Vec<u8>>
+    requires { dbd.now.block_size ≡ 128 }
+{
+    let Ok(mut volume) = Volume::create(alloc, store_after_a_failure(alloc), dbd, 128) else {
+        return None;
+    };
+    link_scattered(&mut volume, dbd).ok()?;
+    volume.flush().ok()?;
+    Some(volume.into_store().into_inner().into_bytes())
+}
+
+/// Of a volume whose segments lie scattered 64 of them are looked at to tell it; else each block is read at most three times: as it is loaded, for
+/// its extents, and for what its segments' pointers and keys say. A walk that read each segment where it comes to it would make an
+/// access for each class. The student that each class names is noted behind those of the classes before, and found.
+#[test]
+fn a_check_of_scattered_twins_reads_each_block_three_times(rt: HostRuntime) {
+    let alloc = rt.alloc();
+    let dbd = database(alloc).expect(&rt, "a database");
+    let image = scattered(alloc, &dbd).expect(&rt, "a volume");
+    let (accesses, blocks) = costs_of_check(alloc, &dbd, image).expect(&rt, "a check");
+    assert_eq!(rt; blocks, 1 + 1 + 51);
+    assert!(rt; accesses <= 3 * u64::from(blocks) + 64, "{accesses}");
 }

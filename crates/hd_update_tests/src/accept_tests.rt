@@ -6,7 +6,7 @@ use hd_calls::GetKind;
 use hd_dbd::{Dbd, Name8, Pcb, Refused, Sens, Status};
 use hd_forest::Path;
 use hd_position::{Levels, Position, stand};
-use hd_sample::{database, image};
+use hd_sample::{database, image, widened};
 use hd_volume::{BlockStore, FileStore, FuseStore, Volume};
 use std::alloc::{AllocError, Global};
 use std::fs::{self, File, OpenOptions};
@@ -172,7 +172,7 @@ fn run_on(rt: &HostRuntime, dbd: &Dbd, passes: u64) -> io::Result<(Result<Seen, 
     let mut new = OpenOptions::new();
     new.read(true).write(true).create(true).truncate(true);
     let mut file = new.open(rt, "tested")?;
-    file.write_all(&image())?;
+    file.write_all(&widened(&image()))?;
     run::<Brand>(rt.alloc(), file, Blank::new(1), dbd, passes)
 }
 
@@ -210,6 +210,8 @@ fn answers_the_first_test_that_fails(rt: HostRuntime) -> Result<(), Fail> {
 fn answers_device_at_each_access(rt: HostRuntime) -> Result<(), Fail> {
     let dbd = database(rt.alloc()).expect(&rt, "a database");
     let (_, all) = run_on(&rt, &dbd, u64::MAX)?;
+    // The eight that open the volume, and those of its blocks when they are come to.
+    assert!(rt; all > 8, "{all}");
     for passes in 0..all {
         let (seen, _) = run_on(&rt, &dbd, passes)?;
         assert_eq!(rt; seen.map(|_| ()), Err(Refused::Device));

@@ -7,7 +7,7 @@ use hd_forest::{Path, bytes_in, first_child};
 use hd_get::Outcome;
 use hd_index::find;
 use hd_position::{Levels, Position, row_on, stand};
-use hd_sample::{database, image};
+use hd_sample::{database, image, widened};
 use hd_ssa::resolve;
 use hd_update::{dlet, repl};
 use hd_volume::{BlockStore, FileStore, FuseStore, Volume};
@@ -357,7 +357,7 @@ fn run_on(
     let mut new = OpenOptions::new();
     new.read(true).write(true).create(true).truncate(true);
     let mut file = new.open(rt, name)?;
-    file.write_all(&image())?;
+    file.write_all(&widened(&image()))?;
     run::<Brand>(rt.alloc(), file, Blank::new(1), dbd, passes)
 }
 
@@ -387,6 +387,8 @@ fn replaces_and_deletes_held_rows(rt: HostRuntime) -> Result<(), Fail> {
 fn answers_device_at_each_access(rt: HostRuntime) -> Result<(), Fail> {
     let dbd = database(rt.alloc()).expect(&rt, "a database");
     let (_, all) = run_on(&rt, "broken", &dbd, u64::MAX)?;
+    // The eight that open the volume, and those of its blocks when they are come to.
+    assert!(rt; all > 8, "{all}");
     for passes in 0..all {
         let (seen, _) = run_on(&rt, "broken", &dbd, passes)?;
         assert_eq!(rt; seen.map(|_| ()), Err(Refused::Device));

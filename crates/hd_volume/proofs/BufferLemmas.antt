@@ -1,5 +1,5 @@
 -- A block in memory, and the image that it makes with a store.
-use Rattle.std.proofs.Common.{◌≡◌, ◌≢◌, ◌⊎◌, inl, inr, vec_len, true, false, Bool, cond, IsTrue, ℕ, zero, suc, ◌+◌, ◌-◌, ◌*◌, ◌<◌, ◌≤◌, List, ◌++◌, length, take, drop, get_or, refl, sym, ap, ◌∙◌, arith, replicate}
+use Rattle.std.proofs.Common.{◌≡◌, ◌≢◌, ◌⊎◌, inl, inr, vec_len, true, false, Bool, cond, ℕ, zero, suc, ◌+◌, ◌-◌, ◌*◌, ◌<◌, ◌≤◌, List, ◌++◌, length, take, drop, get_or, refl, sym, ap, ◌∙◌, arith, replicate}
 use Rattle.std.proofs.lemmas.List.{take_at, take-append-le, drop-append-le, append_assoc}
 use Rattle.std.proofs.lemmas.Bool.{cases_lt}
 use Rattle.std.proofs.lemmas.Grind.{common_steps, same_number_lists}
@@ -11,7 +11,7 @@ use Rattle.hd_bytes.specs.Ranges.{with_bytes}
 use Rattle.hd_bytes.specs.Blocks.{block_of, with_block, grown, HasBlock}
 use Rattle.hd_bytes.proofs.BlockLemmas.{with-own, length-with_block, own-with, other-with, block-grown, length-grown}
 use Rattle.hd_volume.specs.declared.buffer.Buffer.{Buffer}
-use Rattle.hd_volume.specs.Buffers.{put_in, put_pair, image_of, IsBuffer, AreBuffers, ArePair, AreKept, KeepsImage, number_of}
+use Rattle.hd_volume.specs.Buffers.{put_in, image_of, IsBuffer, AreBuffers, IsWrittenBack, number_of}
 use Rattle.hd_volume.specs.Images.{ChangesBlock}
 
 -- what holds of both outcomes of a test holds
@@ -24,7 +24,7 @@ put-length size c false n bytes len there = refl
 pub length-put_in : (size : ℕ) (c : List ℕ) (b : Buffer) → vec_len b.bytes ≡ size → IsBuffer size c b → length (put_in size c b) ≡ length c
 length-put_in size c b len h = put-length size c b.holds b.number b.bytes.items (sym b.bytes.ok.0 ∙ len) h.there
 
-put-other : (size : ℕ) (c : List ℕ) (holds : Bool) (n m : ℕ) (bytes : List ℕ) → length bytes ≡ size → (holds ≡ true → HasBlock size c n) → HasBlock size c m → (holds ≡ true → m ≢ n)
+pub put-other : (size : ℕ) (c : List ℕ) (holds : Bool) (n m : ℕ) (bytes : List ℕ) → length bytes ≡ size → (holds ≡ true → HasBlock size c n) → HasBlock size c m → (holds ≡ true → m ≢ n)
     → block_of size (cond holds (with_block size c n bytes) c) m ≡ block_of size c m
 put-other size c true n m bytes len there h other = other-with size n m c bytes (there refl) h len (other refl)
 put-other size c false n m bytes len there h other = refl
@@ -102,37 +102,6 @@ module _ {size : ℕ} {c : List ℕ} {head hand : Buffer} (k : Buffers size c he
   image-other m there some other =
       other-put_in size (put_in size c hand) head m k.head_len inner-head (rw inner-length there) (λ _ e. some (e ∙ k.head_number))
       ∙ other-put_in size c hand m k.hand_len k.are.in_hand there other
-
-module _ {size : ℕ} {c : List ℕ} {head hand aside : Buffer} (k : Buffers size c head hand) (len : vec_len aside.bytes ≡ size) (p : ArePair size c hand aside) where
-  pub aside-length : length (put_in size c aside) ≡ length c
-  aside-length = length-put_in size c aside len p.beside
-
-  -- the buffers over the store are such over its bytes with the block aside put in
-  pub over-aside : Buffers size (put_in size c aside) head hand
-  over-aside = record {
-    head_len = k.head_len;
-    hand_len = k.hand_len;
-    head_number = k.head_number;
-    are = record {
-      at_front =
-          stays-buffer size c (put_in size c aside) head k.head_number k.are.at_front aside-length
-          (λ there. other-put_in size c aside 0 len p.beside there (λ holds e. p.aside_later holds (sym e)));
-      in_hand =
-          still-buffer size c (put_in size c aside) hand k.are.in_hand aside-length
-          (λ holds. other-put_in size c aside hand.number len p.beside (k.are.in_hand.there holds) (p.apart holds));
-      first = λ there. k.are.first (rw (← aside-length) there);
-      later = k.are.later;
-    };
-  }
-
--- what is kept over the store, while it is sound
-pub stored-buffers : {store_size size : ℕ} {c : List ℕ} {is_sound : Bool} {head hand aside : Buffer} → AreKept store_size c is_sound size head hand aside → IsTrue is_sound → Buffers size c head hand
-stored-buffers k sound = record { head_len = k.head_len; hand_len = k.hand_len; head_number = k.head_number; are = k.ready sound }
-
--- and over its bytes with the block aside put in
-pub buffers-of : {store_size size : ℕ} {c : List ℕ} {is_sound : Bool} {head hand aside : Buffer} → AreKept store_size c is_sound size head hand aside → IsTrue is_sound
-    → Buffers size (put_in size c aside) head hand
-buffers-of k sound = over-aside (stored-buffers k sound) k.aside_len (k.pair sound)
 
 -- a vector that was overwritten by as many bytes has these
 pub refilled : (v : Vec ℕ Global) (ws : List ℕ) → length ws ≡ vec_len v → (with_items v ws).items ≡ ws
@@ -225,13 +194,13 @@ with-grown size n blocks c b h len =
     ∙ ap (λ (t : List ℕ). take at c ++ (b ++ t)) (drop-append-le (at + length b) c z all)
     ∙ ap (λ (t : List ℕ). take at c ++ t) (sym (append_assoc b (drop (at + length b) c) z)) ∙ sym (append_assoc (take at c) (b ++ drop (at + length b) c) z)
 
-put-grown : (size n blocks : ℕ) (c b : List ℕ) (holds : Bool) → (holds ≡ true → HasBlock size c n) → length b ≡ size
+pub put-grown : (size n blocks : ℕ) (c b : List ℕ) (holds : Bool) → (holds ≡ true → HasBlock size c n) → length b ≡ size
     → cond holds (with_block size (grown size c blocks) n b) (grown size c blocks) ≡ grown size (cond holds (with_block size c n b) c) blocks
 put-grown size n blocks c b true h len = with-grown size n blocks c b (h refl) len
 put-grown size n blocks c b false h len = refl
 
 -- a buffer stays one where the store grows
-grown-buffer : (size blocks : ℕ) (c : List ℕ) (b : Buffer) → IsBuffer size c b → IsBuffer size (grown size c blocks) b
+pub grown-buffer : (size blocks : ℕ) (c : List ℕ) (b : Buffer) → IsBuffer size c b → IsBuffer size (grown size c blocks) b
 grown-buffer size blocks c b h = record {
   there = λ holds. let t : HasBlock size c b.number = h.there holds in omega (arith, length-grown size blocks c);
   same = λ holds un. h.same holds un ∙ sym (block-grown size blocks b.number c (h.there holds));
@@ -256,13 +225,6 @@ module _ {size : ℕ} {c : List ℕ} {head hand : Buffer} (k : Buffers size c he
 
 -- ---- writing back
 
--- a buffer after it was written back
-pub record IsWritten (old new : Buffer) : Type 0 where
-  pub bytes : new.bytes ≡ old.bytes
-  pub number : new.number ≡ old.number
-  pub holds : new.holds ≡ old.holds
-  pub unchanged : new.holds ≡ true → new.changed ≡ false
-
 put-own : (size n : ℕ) (c bytes : List ℕ) (holds : Bool) → (holds ≡ true → HasBlock size c n) → (holds ≡ true → bytes ≡ block_of size c n) → cond holds (with_block size c n bytes) c ≡ c
 put-own size n c bytes true there same = rw (same refl) (with-own size n c (there refl))
 put-own size n c bytes false there same = refl
@@ -272,7 +234,7 @@ pub unchanged-put : (size : ℕ) (c : List ℕ) (b : Buffer) → IsBuffer size c
 unchanged-put size c b h un = put-own size b.number c b.bytes.items b.holds h.there (λ holds. h.same holds (un holds))
 
 -- a buffer that was written back is the store's
-pub written-buffer : {size : ℕ} {c : List ℕ} {b b' : Buffer} → vec_len b.bytes ≡ size → IsBuffer size c b → IsWritten b b' → IsBuffer size (put_in size c b) b'
+pub written-buffer : {size : ℕ} {c : List ℕ} {b b' : Buffer} → vec_len b.bytes ≡ size → IsBuffer size c b → IsWrittenBack b b' → IsBuffer size (put_in size c b) b'
 written-buffer {size} {c} {b} {b'} len h w =
     let long = length-put_in size c b len h in
     record {
@@ -280,7 +242,7 @@ written-buffer {size} {c} {b} {b'} len h w =
       same = λ holds un. ap (λ v. v.items) w.bytes ∙ sym (own-put_in size c b len h (sym w.holds ∙ holds)) ∙ ap (block_of size (put_in size c b)) (sym w.number);
     }
 
-module _ {size : ℕ} {c : List ℕ} {head hand hand' : Buffer} (k : Buffers size c head hand) (w : IsWritten hand hand') where
+module _ {size : ℕ} {c : List ℕ} {head hand hand' : Buffer} (k : Buffers size c head hand) (w : IsWrittenBack hand hand') where
   -- once the block in hand was written back
   pub hand-written : AreBuffers size (put_in size c hand) head hand'
   hand-written = record {
@@ -294,7 +256,7 @@ module _ {size : ℕ} {c : List ℕ} {head hand hand' : Buffer} (k : Buffers siz
   pub image-hand-written : image_of size (put_in size c hand) head hand' ≡ image_of size c head hand
   image-hand-written = ap (λ (t : List ℕ). put_in size t head) (unchanged-put size (put_in size c hand) hand' hand-written.in_hand w.unchanged)
 
-module _ {size : ℕ} {c : List ℕ} {head hand head' : Buffer} (k : Buffers size c head hand) (un : hand.holds ≡ true → hand.changed ≡ false) (w : IsWritten head head') where
+module _ {size : ℕ} {c : List ℕ} {head hand head' : Buffer} (k : Buffers size c head hand) (un : hand.holds ≡ true → hand.changed ≡ false) (w : IsWrittenBack head head') where
   -- once block 0 was written back too, the store has the image
   pub stored-image : put_in size c head ≡ image_of size c head hand
   stored-image = ap (λ (t : List ℕ). put_in size t head) (sym (unchanged-put size c hand k.are.in_hand un))
@@ -323,70 +285,11 @@ module _ {size : ℕ} {c : List ℕ} {head hand head' : Buffer} (k : Buffers siz
       ap (λ (t : List ℕ). put_in size t head') (unchanged-put size (put_in size c head) hand front-hand un)
       ∙ unchanged-put size (put_in size c head) head' head-written.at_front w.unchanged ∙ stored-image
 
-put-stands : (size n : ℕ) (c bytes : List ℕ) (holds : Bool) → (holds ≡ true → HasBlock size c n) → (holds ≡ true → block_of size c n ≡ bytes) → cond holds (with_block size c n bytes) c ≡ c
+pub put-stands : (size n : ℕ) (c bytes : List ℕ) (holds : Bool) → (holds ≡ true → HasBlock size c n) → (holds ≡ true → block_of size c n ≡ bytes) → cond holds (with_block size c n bytes) c ≡ c
 put-stands size n c bytes true there same = rw (← same refl) (with-own size n c (there refl))
 put-stands size n c bytes false there same = refl
 
--- where the image stands in the store, so does the block in hand
-pub hand-stands : {size : ℕ} {c : List ℕ} {head hand : Buffer} → Buffers size c head hand → c ≡ image_of size c head hand → put_in size c hand ≡ c
-hand-stands {size} {c} {head} {hand} k same =
-    put-stands size hand.number c hand.bytes.items hand.holds k.are.in_hand.there (λ holds. ap (λ (t : List ℕ). block_of size t hand.number) same ∙ image-hand k holds)
-
--- ---- the block aside
-
-module _ {size : ℕ} {c : List ℕ} {head hand aside : Buffer} (k : Buffers size c head hand) (len : vec_len aside.bytes ≡ size) (p : ArePair size c hand aside) where
-  -- the image's block aside
-  image-aside : aside.holds ≡ true → block_of size (image_of size (put_in size c aside) head hand) aside.number ≡ aside.bytes.items
-  image-aside holds =
-      let there : HasBlock size (put_in size c aside) aside.number = rw (aside-length k len p) (p.beside.there holds) in
-      image-other (over-aside k len p) aside.number there (p.aside_later holds) (λ held e. p.apart held holds (sym e)) ∙ own-put_in size c aside len p.beside holds
-
-  -- where the image stands in the store, so does the block aside
-  pub aside-stands : c ≡ image_of size (put_in size c aside) head hand → put_in size c aside ≡ c
-  aside-stands same =
-      put-stands size aside.number c aside.bytes.items aside.holds p.beside.there
-      (λ holds. ap (λ (t : List ℕ). block_of size t aside.number) same ∙ image-aside holds)
-
-  aside-image-length : length (image_of size (put_in size c aside) head hand) ≡ length c
-  aside-image-length = image-length (over-aside k len p) ∙ aside-length k len p
-
-  -- the block aside, once it was written back and the store has the image
-  aside-flushed : {aside' : Buffer} → IsWritten aside aside' → IsBuffer size (image_of size (put_in size c aside) head hand) aside'
-  aside-flushed {aside'} w =
-      let image : List ℕ = image_of size (put_in size c aside) head hand in
-      record {
-        there = λ holds. let t : HasBlock size c aside.number = p.beside.there (sym w.holds ∙ holds) in rw (w.number, aside-image-length) t;
-        same = λ holds un. ap (λ v. v.items) w.bytes ∙ sym (image-aside (sym w.holds ∙ holds)) ∙ ap (block_of size image) (sym w.number);
-      }
-
-  -- both buffers then
-  pub pair-flushed : {hand' aside' : Buffer} → IsWritten aside aside' → IsWritten hand hand' → IsBuffer size (image_of size (put_in size c aside) head hand) hand'
-      → ArePair size (image_of size (put_in size c aside) head hand) hand' aside'
-  pair-flushed w v h = record {
-    in_hand = h;
-    beside = aside-flushed w;
-    hand_later = λ holds. rw v.number (p.hand_later (sym v.holds ∙ holds));
-    aside_later = λ holds. rw w.number (p.aside_later (sym w.holds ∙ holds));
-    apart = λ held holds. rw (v.number, w.number) (p.apart (sym v.holds ∙ held) (sym w.holds ∙ holds));
-  }
-
-  -- the block aside is put in where it stands then
-  pub aside-put-flushed : {aside' : Buffer} → IsWritten aside aside' → put_in size (image_of size (put_in size c aside) head hand) aside' ≡ image_of size (put_in size c aside) head hand
-  aside-put-flushed {aside'} w = unchanged-put size (image_of size (put_in size c aside) head hand) aside' (aside-flushed w) w.unchanged
-
--- where the store grows
-pub grown-pair : {size : ℕ} {c : List ℕ} {hand aside : Buffer} → ArePair size c hand aside → (blocks : ℕ) → ArePair size (grown size c blocks) hand aside
-grown-pair {size} {c} {hand} {aside} p blocks = record {
-  in_hand = grown-buffer size blocks c hand p.in_hand;
-  beside = grown-buffer size blocks c aside p.beside;
-  hand_later = p.hand_later;
-  aside_later = p.aside_later;
-  apart = p.apart;
-}
-
--- the bytes with a buffer's block put in grow with the store
-pub put_in-grown : {size : ℕ} {c : List ℕ} (b : Buffer) → vec_len b.bytes ≡ size → IsBuffer size c b → (blocks : ℕ) → put_in size (grown size c blocks) b ≡ grown size (put_in size c b) blocks
-put_in-grown {size} {c} b len h blocks = put-grown size b.number blocks c b.bytes.items b.holds h.there (sym b.bytes.ok.0 ∙ len)
+-- ---- blocks that are put in in either order
 
 -- a byte before those that were put at a place
 byte-below : (c xs : List ℕ) (p k : ℕ) → p + length xs ≤ length c → k < p → get_or (with_bytes c p xs) k 0 ≡ get_or c k 0
@@ -466,7 +369,7 @@ with-both size n m c a b h l la lb other =
       | inr k ↦ let j : m < n = omega arith in sym (with-behind (m * size) (n * size) c b a (rw lb (row_fits m size n size j (omega arith))) (rw la h))
     ]
 
-put-both : (size n m : ℕ) (c a b : List ℕ) (x y : Bool) → (x ≡ true → HasBlock size c n) → (y ≡ true → HasBlock size c m) → length a ≡ size → length b ≡ size
+pub put-both : (size n m : ℕ) (c a b : List ℕ) (x y : Bool) → (x ≡ true → HasBlock size c n) → (y ≡ true → HasBlock size c m) → length a ≡ size → length b ≡ size
     → (x ≡ true → y ≡ true → n ≢ m)
     → cond y (with_block size (cond x (with_block size c n a) c) m b) (cond x (with_block size c n a) c)
     ≡ cond x (with_block size (cond y (with_block size c m b) c) n a) (cond y (with_block size c m b) c)
@@ -474,77 +377,3 @@ put-both size n m c a b true true h l la lb other = with-both size n m c a b (h 
 put-both size n m c a b true false h l la lb other = refl
 put-both size n m c a b false true h l la lb other = refl
 put-both size n m c a b false false h l la lb other = refl
-
-module _ {size : ℕ} {c : List ℕ} {hand aside : Buffer} (p : ArePair size c hand aside) where
-  -- the block aside and the block in hand in each other's place
-  pub pair-turned : ArePair size c aside hand
-  pair-turned = record {
-    in_hand = p.beside;
-    beside = p.in_hand;
-    hand_later = p.aside_later;
-    aside_later = p.hand_later;
-    apart = λ held holds e. p.apart holds held (sym e);
-  }
-
-  -- they make the same image
-  pub put-turned : vec_len hand.bytes ≡ size → vec_len aside.bytes ≡ size → put_pair size c aside hand ≡ put_pair size c hand aside
-  put-turned l m =
-      put-both size hand.number aside.number c hand.bytes.items aside.bytes.items hand.holds aside.holds p.in_hand.there p.beside.there (sym hand.bytes.ok.0 ∙ l)
-      (sym aside.bytes.ok.0 ∙ m) p.apart
-
--- a block was brought to the buffer that was aside, and the one that was in hand is aside
-pub record IsBrought (size : ℕ) (c d : List ℕ) (hand aside new : Buffer) : Type 0 where
-  pub len : length d ≡ length c
-  pub buffer : IsBuffer size d new
-  pub same : put_in size d new ≡ put_in size c aside
-  pub later : new.number ≢ 0
-  pub other : hand.holds ≡ true → hand.number ≢ new.number
-
-module _ {size : ℕ} {c d : List ℕ} {hand aside new : Buffer} (p : ArePair size c hand aside) (b : IsBrought size c d hand aside new) (l : vec_len aside.bytes ≡ size) (m : vec_len new.bytes ≡ size) where
-  pub pair-brought : ArePair size d new hand
-  pair-brought = record {
-    in_hand = b.buffer;
-    beside =
-        still-buffer size c d hand p.in_hand b.len
-        (λ holds.
-        let there : HasBlock size c hand.number = p.in_hand.there holds in
-        sym (other-put_in size d new hand.number m b.buffer (rw b.len there) (λ _. b.other holds)) ∙ ap (λ (t : List ℕ). block_of size t hand.number) b.same
-        ∙ other-put_in size c aside hand.number l p.beside there (p.apart holds));
-    hand_later = λ _. b.later;
-    aside_later = p.hand_later;
-    apart = λ _ holds e. b.other holds (sym e);
-  }
-
-  -- the image is as it was
-  pub put-brought : vec_len hand.bytes ≡ size → put_pair size d new hand ≡ put_pair size c hand aside
-  put-brought n = sym (put-turned pair-brought m n) ∙ ap (λ (t : List ℕ). put_in size t hand) b.same
-
--- The block aside was written back, then the block in hand, and then block 0; c, d, e and f are the store's bytes before and after each.
-pub record IsFlushed (size : ℕ) (c d e f : List ℕ) (head hand aside head' hand' aside' : Buffer) : Type 0 where
-  pub aside_written : IsWritten aside aside'
-  pub hand_written : IsWritten hand hand'
-  pub first : d ≡ put_in size c aside
-  pub second : e ≡ put_in size d hand
-  pub third : f ≡ image_of size e head hand'
-  pub image : KeepsImage size e head hand' f head'
-  pub ready : AreBuffers size f head' hand'
-
-module _ {size : ℕ} {c d e f : List ℕ} {head hand aside head' hand' aside' : Buffer} (k : Buffers size c head hand) (len : vec_len aside.bytes ≡ size) (p : ArePair size c hand aside)
-    (w : IsFlushed size c d e f head hand aside head' hand' aside') where
-  middle-image : image_of size e head hand' ≡ image_of size (put_in size c aside) head hand
-  middle-image =
-      ap (λ (t : List ℕ). image_of size t head hand') (w.second ∙ ap (λ (t : List ℕ). put_in size t hand) w.first)
-      ∙ image-hand-written (over-aside k len p) w.hand_written
-
-  -- the store has the image then
-  pub flushed-stored : f ≡ image_of size (put_in size c aside) head hand
-  flushed-stored = w.third ∙ middle-image
-
-  pub flushed-pair : ArePair size f hand' aside'
-  flushed-pair = rw flushed-stored (pair-flushed k len p w.aside_written w.hand_written (rw flushed-stored at w.ready.in_hand))
-
-  -- and the image is as it was
-  pub flushed-image : image_of size (put_in size f aside') head' hand' ≡ image_of size (put_in size c aside) head hand
-  flushed-image =
-      let put : put_in size f aside' ≡ f = rw flushed-stored (aside-put-flushed k len p w.aside_written) in
-      ap (λ (t : List ℕ). image_of size t head' hand') put ∙ w.image ∙ middle-image

@@ -1,4 +1,5 @@
 pub mod BufferLemmas
+pub mod AsideLemmas
 pub mod ExtentLemmas
 pub mod FreeLemmas
 pub mod EditLemmas

@@ -7,9 +7,18 @@ use Rattle.hd_bytes.specs.Blocks.{block_of, HasBlock}
 use Rattle.hd_bytes.specs.Numbers.{number_at}
 use Rattle.hd_bytes.proofs.BlockLemmas.{place-of, byte-in-block}
 use Rattle.hd_bytes.proofs.NumberLemmas.{number-same}
+use Rattle.hd_block.specs.declared.parts.Part.{Part}
+use Rattle.hd_block.specs.declared.parts.Part.TheVariants.{Free, Used}
+use Rattle.hd_block.specs.Walk.{HolesAreWithin}
 use Rattle.hd_volume.specs.declared.space.Content.{Content}
 use Rattle.hd_volume.specs.Volumes.{kind_of}
-use Rattle.hd_volume.specs.Rooms.{is_free, one_if, free_below}
+use Rattle.hd_volume.specs.Rooms.{is_free, one_if, free_below, largest_hole}
+
+-- no hole is larger than the free parts may be
+pub hole-within : (most : ℕ) (parts : List Part) → HolesAreWithin most parts → largest_hole parts ≤ most
+hole-within most [] h = omega arith
+hole-within most (Free p n ∷ parts) h = let rest = hole-within most parts h.1 in let own = h.0 in omega arith
+hole-within most (Used p n ∷ parts) h = hole-within most parts h
 
 -- a whole block is one of the image's
 pub has-block : (size n : ℕ) (image : List ℕ) → 0 < size → n < length image / size → HasBlock size image n

@@ -1,5 +1,6 @@
 -- Blocks of a store in memory, and the image that they and the store make.
-use Rattle.std.specs.Prelude.{◌≡◌, ◌≢◌, ℕ, ◌<◌, ◌≤◌, Bool, true, false, cond, IsTrue, List, Result, vec_len}
+use Rattle.std.specs.Prelude.{◌≡◌, ◌≢◌, ⊤, ℕ, ◌<◌, ◌≤◌, Bool, true, false, cond, IsTrue, List, [], ◌∷◌, ◌++◌, Result, vec_len}
+use Rattle.std.specs.List.{AllByRecursion}
 use Rattle.hd_bytes.specs.Blocks.{block_of, with_block, HasBlock}
 use Rattle.hd_dbd.specs.declared.answer.Refused.{Refused}
 use Rattle.hd_volume.specs.Stores.{CountsDevice, StaysSound}
@@ -14,9 +15,10 @@ put_in size contents b = cond b.holds (with_block size contents b.number b.bytes
 abbrev pub image_of : ℕ → List ℕ → Buffer → Buffer → List ℕ
 image_of size contents head hand = put_in size (put_in size contents hand) head
 
--- the store's bytes with the block aside and the block in hand put in
-abbrev pub put_pair : ℕ → List ℕ → Buffer → Buffer → List ℕ
-put_pair size contents hand aside = put_in size (put_in size contents aside) hand
+-- the bytes with the blocks of several buffers put in, that of the first last
+abbrev pub put_all : ℕ → List ℕ → List Buffer → List ℕ
+put_all size contents [] = contents
+put_all size contents (b ∷ rest) = put_in size (put_all size contents rest) b
 
 -- a buffer holds a block of the store, as it stands there unless it was changed
 pub record IsBuffer (size : ℕ) (contents : List ℕ) (b : Buffer) : Type 0 where
@@ -30,13 +32,43 @@ pub record AreBuffers (size : ℕ) (contents : List ℕ) (head hand : Buffer) : 
   pub first : HasBlock size contents 0 → head.holds ≡ true
   pub later : hand.holds ≡ true → hand.number ≢ 0
 
--- Two buffers are for later blocks than block 0, and never for the same one: one block is in hand, and one aside.
-pub record ArePair (size : ℕ) (contents : List ℕ) (hand aside : Buffer) : Type 0 where
-  pub in_hand : IsBuffer size contents hand
-  pub beside : IsBuffer size contents aside
-  pub hand_later : hand.holds ≡ true → hand.number ≢ 0
-  pub aside_later : aside.holds ≡ true → aside.number ≢ 0
-  pub apart : hand.holds ≡ true → aside.holds ≡ true → hand.number ≢ aside.number
+-- a buffer is as long as a block
+abbrev pub IsBlockLong : ℕ → Buffer → Type 0
+IsBlockLong size b = vec_len b.bytes ≡ size
+
+-- a buffer does not hold block n, or holds none
+abbrev pub HoldsNot : ℕ → Buffer → Type 0
+HoldsNot n b = b.holds ≡ true → b.number ≢ n
+
+-- no two buffers hold the same block
+abbrev pub AreApart : List Buffer → Type 0
+AreApart [] = ⊤
+AreApart (b ∷ rest) = (b.holds ≡ true → AllByRecursion (HoldsNot b.number) rest) × AreApart rest
+
+-- What buffers hold, if anything, are later blocks of the store than block 0, as they stand there unless they were changed, and no two the same.
+pub record AreLater (size : ℕ) (contents : List ℕ) (buffers : List Buffer) : Type 0 where
+  pub each : AllByRecursion (IsBuffer size contents) buffers
+  pub later : AllByRecursion (HoldsNot 0) buffers
+  pub apart : AreApart buffers
+
+-- One of the buffers came to the front; the others follow in the order in which they were.
+pub record IsMovedToFront (old new : List Buffer) : Type 0 where
+  pub before : List Buffer
+  pub front : Buffer
+  pub behind : List Buffer
+  pub were : old ≡ before ++ front ∷ behind
+  pub are : new ≡ front ∷ (before ++ behind)
+
+-- a buffer's block stands in the bytes, if it holds one
+abbrev pub IsInBytes : ℕ → List ℕ → Buffer → Type 0
+IsInBytes size contents b = put_in size contents b ≡ contents
+
+-- a buffer after it was written back: the same block and bytes, not changed any more
+pub record IsWrittenBack (old new : Buffer) : Type 0 where
+  pub bytes : new.bytes ≡ old.bytes
+  pub number : new.number ≡ old.number
+  pub holds : new.holds ≡ old.holds
+  pub unchanged : new.holds ≡ true → new.changed ≡ false
 
 -- What is seen of a store through buffers: all bytes as they will stand once they are written back, those of the store
 -- as they stand, the store's meanings, and the number of the block in hand, 0 for none.
@@ -54,16 +86,16 @@ abbrev pub number_of : Buffer → ℕ
 number_of b = cond b.holds b.number 0
 
 -- what buffers over a store keep
-pub record AreKept (store_size : ℕ) (contents : List ℕ) (is_sound : Bool) (size : ℕ) (head hand aside : Buffer) : Type 0 where
+pub record AreKept (store_size : ℕ) (contents : List ℕ) (is_sound : Bool) (size : ℕ) (head hand : Buffer) (aside : List Buffer) : Type 0 where
   pub same_size : store_size ≡ size
   pub some : 0 < size
   pub small : size ≤ 32768
   pub head_len : vec_len head.bytes ≡ size
   pub hand_len : vec_len hand.bytes ≡ size
-  pub aside_len : vec_len aside.bytes ≡ size
+  pub aside_len : AllByRecursion (IsBlockLong size) aside
   pub head_number : head.number ≡ 0
   pub ready : IsTrue is_sound → AreBuffers size contents head hand
-  pub pair : IsTrue is_sound → ArePair size contents hand aside
+  pub others : IsTrue is_sound → AreLater size contents (hand ∷ aside)
 
 -- A call that brings at most one block to hand, and changes nothing of the image; where the store has all of it, so it does
 -- afterwards.

@@ -1,4 +1,5 @@
-ghost use Rattle.std.specs.Prelude.{◌≡◌, ◌≢◌, ◌+◌, ◌/◌, ◌%◌, ◌≤◌, ◌<◌, true, false, vec_len, IsTrue, length, OnOk, IfOk, IfErr, IfSome, slice_index};
+ghost use Rattle.std.specs.Prelude.{◌≡◌, ◌+◌, ◌/◌, ◌%◌, ◌≤◌, ◌<◌, true, false, vec_len, IsTrue, length, ◌∷◌, OnOk, IfOk, IfErr, IfSome, slice_index};
+ghost use Rattle.std.specs.List.{AllByRecursion, AllZip};
 ghost use Rattle.hd_dbd.specs.Refusals.{OnlyDevice, OnlyMemory};
 ghost use Rattle.hd_bytes.specs.Blocks.{block_of, grown, HasBlock};
 ghost use Rattle.hd_bytes.specs.Ranges.{with_bytes};
@@ -6,7 +7,7 @@ ghost use Rattle.byteorder.specs.Endian.{big_bytes};
 ghost use Rattle.hd_volume.specs.Edits.{IsTaken, IsGiven};
 ghost use Rattle.hd_volume.specs.Stores.{CountsDevice, StaysSound, RefusesGrowth, IsGivenBack};
 ghost use Rattle.hd_volume.specs.Images.{ChangesBlock, KeepsFirst};
-ghost use Rattle.hd_volume.specs.Buffers.{AreBuffers, ArePair, put_in, put_pair, image_of, ChangesHand, ChangesHead, KeepsImage};
+ghost use Rattle.hd_volume.specs.Buffers.{AreBuffers, AreLater, IsBlockLong, HoldsNot, IsMovedToFront, IsInBytes, IsWrittenBack, put_all, image_of, ChangesHand, ChangesHead, KeepsImage};
 
 use crate::buffer::{Buffer, bring, write_back};
 use crate::store::BlockStore;
@@ -17,24 +18,27 @@ use std::alloc::{AllocError, Global};
 use std::marker::Model;
 use std::mem::swap;
 
-/// The blocks of a store, of which block 0 and two more are in memory: the one in hand, and the one that was in hand
-/// before.
+/// How many blocks that were in hand are kept in memory beside the one that is.
+const ASIDE: usize = 3;
+
+/// The blocks of a store, of which block 0 and four more are in memory: the one in hand, and those that were in hand
+/// before it, the last of them first.
 #[derive(Drop)]
 pub struct Blocks<S: BlockStore> {
     store: S,
     head: Buffer,
     hand: Buffer,
-    aside: Buffer,
+    aside: Vec<Buffer>,
     block_size: usize,
 }
 
 impl<S: BlockStore> Model for Blocks<S> {
-    ghost use Rattle.hd_volume.specs.Buffers.{Buffered, AreKept, put_in, image_of, number_of};
+    ghost use Rattle.hd_volume.specs.Buffers.{Buffered, AreKept, put_all, image_of, number_of};
 
     ghost Value = { Buffered };
 
     ghost view = { λ v. record {
-      image = image_of v.block_size (put_in v.block_size (S.contents v.store) v.aside) v.head v.hand;
+      image = image_of v.block_size (put_all v.block_size (S.contents v.store) v.aside.items) v.head v.hand;
       stored = S.contents v.store;
       is_sound = S.is_sound v.store;
       failures = S.failures v.store;
@@ -43,7 +47,7 @@ impl<S: BlockStore> Model for Blocks<S> {
       hand = number_of v.hand;
     } };
 
-    ghost invariant = { λ v. AreKept (S.size v.store) (S.contents v.store) (S.is_sound v.store) v.block_size v.head v.hand v.aside };
+    ghost invariant = { λ v. AreKept (S.size v.store) (S.contents v.store) (S.is_sound v.store) v.block_size v.head v.hand v.aside.items };
 }
 
 impl<S: BlockStore> Blocks<S> {
@@ -60,7 +64,7 @@ impl<S: BlockStore> Blocks<S> {
         let Ok(hand) = empty_buffer(alloc, block_size) else {
             return Err((store, Refused::Memory));
         };
-        let Ok(aside) = empty_buffer(alloc, block_size) else {
+        let Ok(aside) = empty_buffers(alloc, block_size) else {
             return Err((store, Refused::Memory));
         };
         if store.length() >= block_size as u64 {
@@ -153,6 +157,43 @@ impl<S: BlockStore> Blocks<S> {
         Ok(())
     }
 
+    /// The offset of an address that is in the block in hand; `None` says nothing. Nothing is divided.
+    fn offset_in_hand(&self, address: u32) -> Option<usize>
+        ensures hand { IfSome result (λ at. self.now.hand ≡ address / self.now.size) }
+        ensures offset { IfSome result (λ at. at ≡ address % self.now.size) }
+        ensures within { IfSome result (λ at. at < self.now.size) }
+    {
+        let size = self.block_size as u32;
+        let first = self.hand.number.checked_mul(size)?;
+        if !self.hand.holds || address < first || address - first >= size {
+            return None;
+        }
+        Some((address - first) as usize)
+    }
+
+    /// Brings the block that an address past block 0 is in to hand, and says the offset there.
+    pub fn reach(&mut self, address: u32) -> Result<usize, Refused>
+        requires there { IsTrue self.old.is_sound → (0 < address / self.old.size) × HasBlock self.old.size self.old.image (address / self.old.size) }
+        ensures offset { IfOk result (λ at. at ≡ address % self.old.size) }
+        ensures within { IfOk result (λ at. at < self.old.size) }
+        ensures image { OnOk result (IsTrue self.old.is_sound → self.new.image ≡ self.old.image) }
+        ensures stands { OnOk result (IsTrue self.old.is_sound → self.old.stored ≡ self.old.image → self.new.stored ≡ self.old.image) }
+        ensures hand { OnOk result (self.new.hand ≡ address / self.old.size) }
+        ensures first { OnOk result (IsTrue self.old.is_sound → KeepsFirst self.old.size self.old.stored self.new.stored) }
+        ensures refusal { OnlyDevice result }
+        ensures counts { CountsDevice result self.old.failures self.new.failures }
+        ensures sound { StaysSound result self.old.is_sound self.new.is_sound }
+        ensures size { self.new.size ≡ self.old.size }
+        ensures room { self.new.room ≡ self.old.room }
+    {
+        if let Some(at) = self.offset_in_hand(address) {
+            return Ok(at);
+        }
+        let (n, at) = self.place(address);
+        self.fetch(n)?;
+        Ok(at)
+    }
+
     /// The bytes of the block in hand.
     pub fn hand(&self) -> &[u8]
         ensures value { IsTrue self.now.is_sound → 0 < self.now.hand → result.now ≡ block_of self.now.size self.now.image self.now.hand }
@@ -231,7 +272,7 @@ impl<S: BlockStore> Blocks<S> {
         Ok(())
     }
 
-    /// Writes what is changed to the store: the block aside, the block in hand, and then block 0.
+    /// Writes what is changed to the store: the blocks aside, the block in hand, and then block 0.
     pub fn flush(&mut self) -> Result<(), Refused>
         ensures image { OnOk result (IsTrue self.old.is_sound → (self.new.image ≡ self.old.image) × (self.new.stored ≡ self.old.image)) }
         ensures refusal { OnlyDevice result }
@@ -240,7 +281,7 @@ impl<S: BlockStore> Blocks<S> {
         ensures size { self.new.size ≡ self.old.size }
         ensures room { self.new.room ≡ self.old.room }
     {
-        write_back(&mut self.store, &mut self.aside)?;
+        write_all(&mut self.store, &mut self.aside)?;
         write_back(&mut self.store, &mut self.hand)?;
         write_first(&mut self.store, &mut self.head, &self.hand)?;
         Ok(())
@@ -272,35 +313,84 @@ fn empty_buffer(alloc: Global, block_size: usize) -> Result<Buffer, AllocError>
     })
 }
 
-/// Brings a block that is not in hand to hand; the one that was in hand is aside then.
+/// As many of them as are kept aside.
+fn empty_buffers(alloc: Global, block_size: usize) -> Result<Vec<Buffer>, AllocError>
+    ensures len { IfOk result (λ v. AllByRecursion (IsBlockLong block_size) v.items) }
+    ensures empty { IfOk result (λ v. AllByRecursion (λ b. b.holds ≡ false) v.items) }
+{
+    let mut buffers = Vec::new(alloc);
+    for _ in 0..ASIDE {
+        buffers.push(empty_buffer(alloc, block_size)?)?;
+    }
+    Ok(buffers)
+}
+
+/// Brings a block that is not in hand to hand.
 fn bring_other<S: BlockStore>(
     store: &mut S,
     hand: &mut Buffer,
-    aside: &mut Buffer,
+    aside: &mut [Buffer],
     n: u32,
 ) -> Result<(), Refused>
-    requires len { (vec_len hand.old.bytes ≡ S.size store.old) × (vec_len aside.old.bytes ≡ S.size store.old) }
-    requires ready { IsTrue (S.is_sound store.old) → ArePair (S.size store.old) (S.contents store.old) hand.old aside.old }
+    requires len { AllByRecursion (IsBlockLong (S.size store.old)) (hand.old ∷ aside.old) }
+    requires ready { IsTrue (S.is_sound store.old) → AreLater (S.size store.old) (S.contents store.old) (hand.old ∷ aside.old) }
     requires there { IsTrue (S.is_sound store.old) → (0 < n) × HasBlock (S.size store.old) (S.contents store.old) n }
-    requires other { hand.old.holds ≡ true → hand.old.number ≢ n }
-    ensures contents { OnOk result (IsTrue (S.is_sound store.old) → put_pair (S.size store.old) (S.contents store.new) hand.new aside.new ≡ put_pair (S.size store.old) (S.contents store.old) hand.old aside.old) }
+    requires other { HoldsNot n hand.old }
+    ensures contents { OnOk result (IsTrue (S.is_sound store.old) → put_all (S.size store.old) (S.contents store.new) (hand.new ∷ aside.new) ≡ put_all (S.size store.old) (S.contents store.old) (hand.old ∷ aside.old)) }
     ensures length { OnOk result (IsTrue (S.is_sound store.old) → length (S.contents store.new) ≡ length (S.contents store.old)) }
     ensures first { OnOk result (IsTrue (S.is_sound store.old) → KeepsFirst (S.size store.old) (S.contents store.old) (S.contents store.new)) }
-    ensures stands { OnOk result (IsTrue (S.is_sound store.old) → put_in (S.size store.old) (S.contents store.old) aside.old ≡ S.contents store.old → S.contents store.new ≡ S.contents store.old) }
-    ensures ready { OnOk result (IsTrue (S.is_sound store.old) → ArePair (S.size store.old) (S.contents store.new) hand.new aside.new) }
+    ensures stands { OnOk result (IsTrue (S.is_sound store.old) → AllByRecursion (IsInBytes (S.size store.old) (S.contents store.old)) (hand.old ∷ aside.old) → S.contents store.new ≡ S.contents store.old) }
+    ensures ready { OnOk result (IsTrue (S.is_sound store.old) → AreLater (S.size store.old) (S.contents store.new) (hand.new ∷ aside.new)) }
     ensures holds { OnOk result ((hand.new.holds ≡ true) × (hand.new.number ≡ n)) }
-    ensures len { (vec_len hand.new.bytes ≡ S.size store.old) × (vec_len aside.new.bytes ≡ S.size store.old) }
+    ensures len { AllByRecursion (IsBlockLong (S.size store.old)) (hand.new ∷ aside.new) }
     ensures refusal { OnlyDevice result }
     ensures counts { CountsDevice result (S.failures store.old) (S.failures store.new) }
     ensures sound { StaysSound result (S.is_sound store.old) (S.is_sound store.new) }
     ensures size { S.size store.new ≡ S.size store.old }
     ensures room { S.room store.new ≡ S.room store.old }
 {
-    swap(hand, aside);
-    if hand.holds && hand.number == n {
+    if turn_to(hand, aside, n) {
         return Ok(());
     }
     bring(store, hand, n)?;
+    Ok(())
+}
+
+/// Turns the buffers until a block that is not in hand is, if one of them holds it; else all of them, so that the last is.
+fn turn_to(hand: &mut Buffer, aside: &mut [Buffer], n: u32) -> bool
+    requires other { HoldsNot n hand.old }
+    ensures turned { IsMovedToFront (hand.old ∷ aside.old) (hand.new ∷ aside.new) }
+    ensures found { result ≡ true → (hand.new.holds ≡ true) × (hand.new.number ≡ n) }
+    ensures none { result ≡ false → AllByRecursion (HoldsNot n) (hand.new ∷ aside.new) }
+{
+    let Some((first, rest)) = aside.split_first_mut() else {
+        return false;
+    };
+    swap(hand, first);
+    if hand.holds && hand.number == n {
+        return true;
+    }
+    turn_to(hand, rest, n)
+}
+
+/// Writes the blocks of several buffers to the store, those that were changed.
+fn write_all<S: BlockStore>(store: &mut S, buffers: &mut [Buffer]) -> Result<(), Refused>
+    requires len { AllByRecursion (IsBlockLong (S.size store.old)) buffers.old }
+    requires ready { IsTrue (S.is_sound store.old) → AreLater (S.size store.old) (S.contents store.old) buffers.old }
+    ensures contents { OnOk result (IsTrue (S.is_sound store.old) → S.contents store.new ≡ put_all (S.size store.old) (S.contents store.old) buffers.old) }
+    ensures written { OnOk result (AllZip IsWrittenBack buffers.old buffers.new) }
+    ensures len { AllByRecursion (IsBlockLong (S.size store.old)) buffers.new }
+    ensures refusal { OnlyDevice result }
+    ensures counts { CountsDevice result (S.failures store.old) (S.failures store.new) }
+    ensures sound { StaysSound result (S.is_sound store.old) (S.is_sound store.new) }
+    ensures size { S.size store.new ≡ S.size store.old }
+    ensures room { S.room store.new ≡ S.room store.old }
+{
+    let Some((first, rest)) = buffers.split_first_mut() else {
+        return Ok(());
+    };
+    write_back(store, first)?;
+    write_all(store, rest)?;
     Ok(())
 }
 

@@ -3,7 +3,7 @@ ghost use Rattle.hd_dbd.specs.Refusals.{OnlyDevice};
 ghost use Rattle.hd_volume.specs.Files.{Accesses, with_failure};
 ghost use Rattle.hd_volume.specs.Stores.{CountsDevice, RefusesGrowth, StaysSound};
 
-use crate::store::BlockStore;
+use crate::store::{BlockStore, RunStore};
 use hd_dbd::Refused;
 use std::fs::File;
 use std::io;
@@ -144,6 +144,22 @@ impl<L: Ledger> BlockStore for FileStore<L> {
                 self.length = length;
                 Ok(())
             }
+            Err(_) => Err(self.fail()),
+        }
+    }
+}
+
+impl<L: Ledger> RunStore for FileStore<L> {
+    fn read_run(&mut self, n: u32, buf: &mut [u8]) -> Result<(), Refused>
+        ensures accesses { Accesses result self.old self.new }
+        ensures len { length buf.new ≡ length buf.old }
+        ensures refusal { OnlyDevice result }
+        ensures counts { CountsDevice result self.old.failures self.new.failures }
+        ensures sound { StaysSound result false false }
+    {
+        let place = self.place_of(n);
+        match self.file.read_exact_at(buf, place) {
+            Ok(()) => Ok(()),
             Err(_) => Err(self.fail()),
         }
     }

@@ -1,10 +1,11 @@
-ghost use Rattle.std.specs.Prelude.{◌<◌, ◌≡◌, ◌+◌, ◌-◌, ◌≤◌, ◌&&◌, not, true, false, length, Err, IfErr, OnOk, IsTrue};
+ghost use Rattle.std.specs.Prelude.{◌<◌, ◌≡◌, ◌+◌, ◌-◌, ◌*◌, ◌≤◌, ◌&&◌, not, true, false, length, Err, IfErr, OnOk, IsTrue};
 ghost use Rattle.hd_dbd.specs.Refusals.{OnlyDevice, OnlyMemory};
 ghost use Rattle.hd_bytes.specs.Blocks.{grown, HasBlock};
+ghost use Rattle.hd_bytes.specs.Ranges.{bytes_at};
 ghost use Rattle.hd_volume.specs.Fuses.{fails_next, failed, after_access, Burns, ReadsBlock, WritesBlock};
 ghost use Rattle.hd_volume.specs.Stores.{CountsDevice, StaysSound, RefusesGrowth};
 
-use crate::store::BlockStore;
+use crate::store::{BlockStore, RunStore};
 use hd_dbd::Refused;
 use std::marker::Model;
 
@@ -177,5 +178,27 @@ impl<S: BlockStore> BlockStore for FuseStore<S> {
     {
         self.spend()?;
         self.inner.grow(blocks)
+    }
+}
+
+impl<S: RunStore> RunStore for FuseStore<S> {
+    fn read_run(&mut self, n: u32, buf: &mut [u8]) -> Result<(), Refused>
+        requires there { IsTrue (S.is_sound self.old.inner && not self.old.is_blown) → n * S.size self.old.inner + length buf.old ≤ length (S.contents self.old.inner) }
+        ensures burns { Burns S.failures S.is_sound self.old result self.new }
+        ensures counts { CountsDevice result (S.failures self.old.inner + failed self.old) (S.failures self.new.inner + failed self.new) }
+        ensures sound { StaysSound result (S.is_sound self.old.inner && not self.old.is_blown) (S.is_sound self.new.inner && not self.new.is_blown) }
+        ensures value { OnOk result (IsTrue (S.is_sound self.old.inner) → n * S.size self.old.inner + length buf.old ≤ length (S.contents self.old.inner) → buf.new ≡ bytes_at (S.contents self.old.inner) (n * S.size self.old.inner) (length buf.old)) }
+        ensures kept { OnOk result (IsTrue (S.is_sound self.old.inner) → S.contents self.new.inner ≡ S.contents self.old.inner) }
+        ensures len { length buf.new ≡ length buf.old }
+        ensures refusal { OnlyDevice result }
+        ensures size { S.size self.new.inner ≡ S.size self.old.inner }
+        ensures room { S.room self.new.inner ≡ S.room self.old.inner }
+    {
+        self.spend()?;
+        let size = self.inner.block_size() as u64;
+        if self.is_blown && u64::from(n) * size + buf.len() as u64 > self.inner.length() {
+            return Ok(());
+        }
+        self.inner.read_run(n, buf)
     }
 }

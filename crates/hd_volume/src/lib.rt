@@ -28,5 +28,5 @@ pub use load::{MOST_BLOCKS, size_table};
 pub use memory::MemStore;
 pub use space::{DATA, FREE, INDEX};
 pub use spacing::NO_SPACING;
-pub use store::BlockStore;
+pub use store::{BlockStore, RunStore};
 pub use volume::{COUNT, LARGEST, Volume};

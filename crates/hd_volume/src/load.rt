@@ -1,6 +1,7 @@
-ghost use Rattle.std.specs.Prelude.{◌≡◌, ◌+◌, ◌≤◌, ◌<◌, ◌==◌, ◌++◌, ◌∷◌, ◌%◌, [], ℕ, vec_len, slice_index, IsTrue, length, IfOk, OnOk, OnErr};
+ghost use Rattle.std.specs.Prelude.{◌≡◌, ◌+◌, ◌≤◌, ◌<◌, ◌==◌, ◌++◌, ◌∷◌, ◌%◌, [], ℕ, List, vec_len, slice_index, IsTrue, length, IfOk, OnOk, OnErr};
 ghost use Rattle.std.specs.Vec.{vec_capacity};
 ghost use Rattle.hd_bytes.specs.Blocks.{block_of, HasBlock};
+ghost use Rattle.hd_dbd.specs.declared.facts.SegmentSize.{SegmentSize};
 ghost use Rattle.hd_dbd.specs.Facts.{stored_sizes};
 ghost use Rattle.hd_dbd.specs.Refusals.{OnlyDevice, OnlyDeviceOrMemory, OnlyMemory};
 ghost use Rattle.hd_volume.specs.Stores.{CountsDevice, StaysSound};
@@ -53,7 +54,7 @@ pub fn survey<S: BlockStore>(
     let count = (blocks.length() / size).min(u64::from(MOST_BLOCKS)) as u32;
     let mut space = empty_space(alloc, greatest_size(sizes) / 8 + 1)?;
     for n in 0..count {
-        let content = survey_block(blocks, sizes, n)?;
+        let content = survey_block(blocks, n)?;
         note(&mut space, content)?;
     }
     Ok(space)
@@ -93,14 +94,10 @@ fn empty_space(alloc: Global, multiples: usize) -> Result<Space, Refused>
 }
 
 /// What is kept of a block, which is read; block 0 is left aside.
-fn survey_block<S: BlockStore>(
-    blocks: &mut Blocks<S>,
-    sizes: &[SegmentSize],
-    n: u32,
-) -> Result<Content, Refused>
+fn survey_block<S: BlockStore>(blocks: &mut Blocks<S>, n: u32) -> Result<Content, Refused>
     requires least { 8 ≤ blocks.old.size }
     requires there { IsTrue blocks.old.is_sound → HasBlock blocks.old.size blocks.old.image n }
-    ensures content { IfOk result (λ content. IsTrue blocks.old.is_sound → 0 < n → IsContent sizes.now (block_of blocks.old.size blocks.old.image n) content) }
+    ensures content { IfOk result (λ content. IsTrue blocks.old.is_sound → 0 < n → (sizes : List SegmentSize) → IsContent sizes (block_of blocks.old.size blocks.old.image n) content) }
     ensures first { IfOk result (λ content. n ≡ 0 → content.kind ≡ 0) }
     ensures image { OnOk result (IsTrue blocks.old.is_sound → blocks.new.image ≡ blocks.old.image) }
     ensures stands { OnOk result (IsTrue blocks.old.is_sound → blocks.old.stored ≡ blocks.old.image → blocks.new.stored ≡ blocks.old.image) }
@@ -114,7 +111,7 @@ fn survey_block<S: BlockStore>(
         return Ok(Content { kind: 0, hole: 0 });
     }
     blocks.fetch(n)?;
-    Ok(content_of(blocks.hand(), sizes))
+    Ok(content_of(blocks.hand()))
 }
 
 /// Notes the content of the next block.

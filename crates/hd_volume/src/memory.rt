@@ -1,6 +1,6 @@
 ghost use Rattle.std.specs.Prelude.{◌≡◌, ◌<◌, ◌≤◌, true};
 
-use crate::store::BlockStore;
+use crate::store::{BlockStore, RunStore};
 use hd_dbd::Refused;
 use std::marker::Model;
 
@@ -96,6 +96,14 @@ impl BlockStore for MemStore {
             return Err(Refused::Memory);
         }
         self.reserved = self.reserved.saturating_sub(blocks);
+        Ok(())
+    }
+}
+
+impl RunStore for MemStore {
+    fn read_run(&mut self, n: u32, buf: &mut [u8]) -> Result<(), Refused> {
+        let at = n as usize * self.block_size;
+        buf.copy_from_slice(&self.bytes[at..at + buf.len()]);
         Ok(())
     }
 }

@@ -1,12 +1,11 @@
-ghost use Rattle.std.specs.Prelude.{◌≡◌, ◌≤◌, ◌<◌, ◌+◌, ◌-◌, ℕ, ◌++◌, ◌∷◌, [], length, slice_index, slice_set, vec_len, OnOk, IfErr};
+ghost use Rattle.std.specs.Prelude.{◌≡◌, ◌≤◌, ◌<◌, ◌+◌, ◌-◌, ℕ, List, ◌++◌, ◌∷◌, [], length, slice_index, slice_set, vec_len, OnOk, IfErr};
 ghost use Rattle.hd_dbd.specs.Refusals.{OnlyMemory};
 ghost use Rattle.std.specs.Vec.{vec_capacity};
-ghost use Rattle.hd_block.specs.Walk.{parts_in};
-ghost use Rattle.hd_volume.specs.Rooms.{largest_hole};
+ghost use Rattle.hd_dbd.specs.declared.facts.SegmentSize.{SegmentSize};
 ghost use Rattle.hd_volume.specs.Spaces.{IsContent};
 
-use hd_block::{Part, Parts};
-use hd_dbd::{Refused, SegmentSize};
+use hd_block::largest_free;
+use hd_dbd::Refused;
 
 /// The kind of a data block.
 pub const DATA: u8 = 1;
@@ -34,31 +33,13 @@ pub struct Space {
     pub lowest_free: u32,
 }
 
-/// The length of the largest hole of a block.
-pub fn largest_hole(bytes: &[u8], sizes: &[SegmentSize]) -> u16
-    requires { (8 ≤ length bytes.now) × (length bytes.now ≤ 32768) }
-    ensures { result ≡ largest_hole (parts_in sizes.now bytes.now) }
-{
-    let mut largest = 0;
-    for part in Parts::new(bytes, sizes) {
-        if let Part::Free(_, len) = part {
-            largest = largest.max(len);
-        }
-    }
-    largest
-}
-
 /// What is kept of a block with these bytes.
-pub fn content_of(bytes: &[u8], sizes: &[SegmentSize]) -> Content
-    requires { (8 ≤ length bytes.now) × (length bytes.now ≤ 32768) }
-    ensures { IsContent sizes.now bytes.now result }
+pub fn content_of(bytes: &[u8]) -> Content
+    requires { 8 ≤ length bytes.now }
+    ensures { (sizes : List SegmentSize) → IsContent sizes bytes.now result }
 {
     let kind = bytes[2];
-    let hole = if kind == DATA {
-        largest_hole(bytes, sizes)
-    } else {
-        0
-    };
+    let hole = if kind == DATA { largest_free(bytes) } else { 0 };
     Content { kind, hole }
 }
 

@@ -1,6 +1,7 @@
-ghost use Rattle.std.specs.Prelude.{◌≡◌, ◌-◌, ◌<◌, ◌≤◌, ℕ, Bool, IsTrue, List, length, IfErr, OnOk};
+ghost use Rattle.std.specs.Prelude.{◌≡◌, ◌+◌, ◌-◌, ◌*◌, ◌<◌, ◌≤◌, ℕ, Bool, IsTrue, List, length, IfErr, OnOk};
 ghost use Rattle.hd_dbd.specs.Refusals.{OnlyDevice, OnlyMemory};
 ghost use Rattle.hd_bytes.specs.Blocks.{block_of, with_block, grown, HasBlock};
+ghost use Rattle.hd_bytes.specs.Ranges.{bytes_at};
 ghost use Rattle.hd_volume.specs.Stores.{CountsDevice, StaysSound, RefusesGrowth};
 
 use hd_dbd::Refused;
@@ -82,4 +83,19 @@ pub trait BlockStore {
         ensures counts { CountsDevice result (failures self.old) (failures self.new) }
         ensures sound { StaysSound result (is_sound self.old) (is_sound self.new) }
         ensures size { size self.new ≡ size self.old };
+}
+
+/// A store that can read several blocks at once.
+pub trait RunStore: BlockStore {
+    /// Reads the blocks from `n` on that fill `buf`, at once. `Device` is a failed access.
+    fn read_run(&mut self, n: u32, buf: &mut [u8]) -> Result<(), Refused>
+        requires there { IsTrue (Self.is_sound self.old) → n * Self.size self.old + length buf.old ≤ length (Self.contents self.old) }
+        ensures value { OnOk result (IsTrue (Self.is_sound self.old) → buf.new ≡ bytes_at (Self.contents self.old) (n * Self.size self.old) (length buf.old)) }
+        ensures len { length buf.new ≡ length buf.old }
+        ensures kept { OnOk result (IsTrue (Self.is_sound self.old) → Self.contents self.new ≡ Self.contents self.old) }
+        ensures refusal { OnlyDevice result }
+        ensures counts { CountsDevice result (Self.failures self.old) (Self.failures self.new) }
+        ensures sound { StaysSound result (Self.is_sound self.old) (Self.is_sound self.new) }
+        ensures size { Self.size self.new ≡ Self.size self.old }
+        ensures room { Self.room self.new ≡ Self.room self.old };
 }

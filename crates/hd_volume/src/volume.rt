@@ -6,7 +6,8 @@ ghost use Rattle.hd_dbd.specs.Refusals.{OnlyDevice, OnlyMemory};
 ghost use Rattle.hd_volume.specs.Stores.{CountsDevice, StaysSound, IsGivenBack};
 ghost use Rattle.hd_bytes.specs.Numbers.{number_at};
 ghost use Rattle.hd_volume.specs.Headers.{header_of};
-ghost use Rattle.hd_volume.specs.Volumes.{IsFormatted, block_at};
+ghost use Rattle.hd_volume.specs.Volumes.{IsFormatted, block_at, kind_of};
+ghost use Rattle.hd_volume.specs.declared.load.TheConstants.{MOST_BLOCKS};
 ghost use Rattle.hd_volume.specs.Records.{find};
 ghost use Rattle.hd_volume.specs.Spacing.{IsPlain};
 ghost use Rattle.hd_volume.specs.Steps.{IsStep};
@@ -39,7 +40,7 @@ pub const HEIGHT: usize = 40;
 
 /// A volume over a store: a finite map from addresses to segments, and blocks for an index.
 ///
-/// It keeps block 0 and two blocks more in memory, and a few bytes of each block.
+/// It keeps block 0 and four blocks more in memory, and a few bytes of each block.
 #[derive(Drop)]
 pub struct Volume<S: BlockStore> {
     pub(crate) blocks: Blocks<S>,
@@ -101,8 +102,7 @@ impl<S: BlockStore> Volume<S> {
         ensures* after { sem 𝓛 (Rests S.row S.BlockStore self.entry (λ new. IsRead self.old result new)) }
         ensures refusal { OnlyDevice result }
     {
-        let (n, at) = self.blocks.place(address);
-        self.blocks.fetch(n)?;
+        let at = self.blocks.reach(address)?;
         let end = segment_end(self.blocks.hand(), &self.sizes, at);
         Ok(&self.blocks.hand()[at..end])
     }
@@ -188,6 +188,16 @@ impl<S: BlockStore> Volume<S> {
         }
         self.blocks.fetch(n)?;
         Ok(self.blocks.hand())
+    }
+
+    /// The kind of a block behind block 0, one of the first 65,536. No block is read.
+    pub fn kind(&self, n: u32) -> u8
+        ensures { IsTrue self.now.is_sound → 0 < n → n < MOST_BLOCKS → HasBlock self.now.size self.now.image n → result ≡ kind_of (block_at self.now n) }
+    {
+        match self.space.contents.get(n as usize) {
+            Some(content) => content.kind,
+            None => 0,
+        }
     }
 
     /// The bytes of a block.

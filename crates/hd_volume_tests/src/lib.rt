@@ -2,6 +2,8 @@
 #![tactic(auto)]
 
 #[cfg(test)]
+mod ahead_tests;
+#[cfg(test)]
 mod block_tests;
 #[cfg(test)]
 mod cache_refusal_tests;

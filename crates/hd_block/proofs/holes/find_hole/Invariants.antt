@@ -1,4 +1,4 @@
-use Rattle.std.proofs.Common.{◌<◌, ◌≤◌, ◌+◌, ◌-◌, ◌≡◌, ◌⊎◌, ℕ, List, length}
+use Rattle.std.proofs.Common.{◌<◌, ◌≤◌, ◌+◌, ◌-◌, ◌≡◌, ◌⊎◌, List, length}
 use Rattle.hd_block.specs.Extents.{Extent, IsDivided}
 use Rattle.hd_block.specs.Found.{Progress, SeeksHole}
 use Rattle.hd_block.proofs.holes.find_hole.Given as goal

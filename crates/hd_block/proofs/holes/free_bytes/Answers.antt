@@ -1,4 +1,4 @@
-use Rattle.std.proofs.Common.{◌≡◌, ◌≢◌, ◌+◌, ◌≤◌, ℕ, length, arith, ap, ◌∙◌}
+use Rattle.std.proofs.Common.{◌≡◌, ◌≢◌, ◌+◌, arith}
 use Rattle.hd_bytes.specs.Numbers.{number_at}
 use Rattle.hd_block.proofs.Walk.{begins, stands, passes-unsummed, passes-summed, all-summed, fill-within, free-within}
 use Rattle.hd_block.specs.Parts.{free_bytes}

@@ -1,4 +1,4 @@
-use Rattle.std.proofs.Common.{◌≡◌, ◌≤◌, ◌+◌, ◌∙◌, inl, inr, length, slice_index, arith}
+use Rattle.std.proofs.Common.{◌≡◌, ◌≤◌, ◌+◌, ◌∙◌, inl, inr, length, arith}
 use Rattle.hd_bytes.specs.Numbers.{number_at}
 use Rattle.hd_block.proofs.PartLemmas.{from-end, from-none, from-free, from-used}
 use Rattle.hd_block.proofs.parts.read_part.Goals as goal

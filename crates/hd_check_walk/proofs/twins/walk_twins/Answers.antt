@@ -1,4 +1,4 @@
-use Rattle.std.proofs.Common.{◌≡◌, ◌≢◌, ℕ, List, IsTrue, Option, Result, Ok, Err, None, refl, sym, ap, subst, ◌∙◌}
+use Rattle.std.proofs.Common.{◌≡◌, ℕ, List, IsTrue, Option, Result, Ok, Err, None, refl, sym, ap, subst, ◌∙◌}
 use Rattle.std.proofs.lemmas.Result.{err_from_is_err_and}
 use Rattle.hd_dbd.specs.declared.answer.Refused.{Refused}
 use Rattle.hd_dbd.specs.Types.{SegmentType}
@@ -11,8 +11,10 @@ use Rattle.hd_image.proofs.OneImage.{links-same, volume-same}
 use Rattle.hd_check_blocks.specs.declared.places.Place.{Place}
 use Rattle.hd_check_blocks.proofs.PlaceLemmas.{places-same}
 use Rattle.hd_check_pointers.specs.Keys.{IsLastKey}
-use Rattle.hd_check_walk.specs.Walks.{IsHeldBy, StaysHeld, IsWalkedSoFar, LeadsTo}
-use Rattle.hd_check_walk.proofs.Chains.{when-some, stays-join, on-first, leads-on, on-next, end-first, end-last, end-shut}
+use Rattle.hd_check_walk.specs.Notes.{AreNoted}
+use Rattle.hd_check_walk.specs.Twins.{HasFront}
+use Rattle.hd_check_walk.specs.Walks.{IsWalkedSoFar, LeadsTo}
+use Rattle.hd_check_walk.proofs.Chains.{IsOnChain, when-some, stays-join, on-first, leads-on, on-next, end-first, end-last, end-shut}
 use Rattle.hd_check_walk.proofs.twins.walk_twins.Goals as goal
 
 pub loop-turn-init : goal.loop-turn-init
@@ -21,27 +23,30 @@ loop-turn-init g c = record {
   as_many = c.requires.as_many;
   known = c.requires.known;
   kept = λ sound i known. refl;
-  chain = λ sound. on-first c.args.dbd.now.types (links_of c.args.dbd.now.types c.args.volume.now) c.args.places.now c.args.holders.now.items c.args.parent c.args.code c.args.first;
-  walked = λ sound in_hand walked. walked;
+  chain = λ sound. subst (λ (b : ℕ). IsOnChain c.args.dbd.now.types (links_of c.args.dbd.now.types c.args.volume.now) c.args.places.now c.args.holders.now.items c.args.parent c.args.code c.args.first b c.args.first)
+      (sym c.no_twin-before.ensures) (on-first c.args.dbd.now.types (links_of c.args.dbd.now.types c.args.volume.now) c.args.places.now c.args.holders.now.items c.args.parent c.args.code c.args.first);
+  twin = λ sound not. absurd (not c.no_twin-before.ensures);
+  walked = λ sound in_hand walked. subst (λ (b : ℕ). IsWalkedSoFar c.args.dbd.now.types (links_of c.args.dbd.now.types c.args.volume.now) c.args.places.now b in_hand c.args.waiting.now.items c.args.holders.now.items)
+      (sym c.no_twin-before.ensures) walked;
 }
 
 pub returns-then-next-eq0-clause-first : goal.returns-then-next-eq0-clause-first
 returns-then-next-eq0-clause-first g c = λ sound.
     let i = c.loop-turn.invariant in
     end-first c.args.dbd.now.types c.args.volume.now c.args.places.now (c.requires.places sound) c.args.parent c.args.code c.args.first (c.requires.parent sound) (c.requires.reached sound) c.loop-turn.holders.items
-    c.loop-turn.before c.loop-turn.next c.if-next-eq0.true (i.chain sound)
+    c.loop-turn.before.address c.loop-turn.next c.if-next-eq0.true (i.chain sound)
 
 pub returns-then-next-eq0-clause-end : goal.returns-then-next-eq0-clause-end
 returns-then-next-eq0-clause-end g c = λ sound.
     let i = c.loop-turn.invariant in
     end-last c.args.dbd.now.types c.args.volume.now c.args.places.now (c.requires.places sound) c.args.parent c.args.code c.args.first (c.requires.parent sound) (c.requires.reached sound) c.loop-turn.holders.items
-    c.loop-turn.before c.loop-turn.next c.if-next-eq0.true (i.chain sound)
+    c.loop-turn.before.address c.loop-turn.next c.if-next-eq0.true (i.chain sound)
 
 pub returns-then-next-eq0-clause-walked : goal.returns-then-next-eq0-clause-walked
 returns-then-next-eq0-clause-walked g c = λ sound in_hand walked.
     let i = c.loop-turn.invariant in
     end-shut c.args.dbd.now.types c.args.volume.now c.args.places.now (c.requires.places sound) c.args.parent c.args.code c.args.first (c.requires.parent sound) (c.requires.reached sound) c.loop-turn.holders.items
-    c.loop-turn.waiting.items c.loop-turn.before c.loop-turn.next in_hand c.if-next-eq0.true (i.chain sound) (i.walked sound in_hand walked)
+    c.loop-turn.waiting.items c.loop-turn.before.address c.loop-turn.next in_hand c.if-next-eq0.true (i.chain sound) (i.walked sound in_hand walked)
 
 pub step_to-requires-clause-of : goal.step_to-requires-clause-of
 step_to-requires-clause-of g c = λ now.
@@ -63,6 +68,33 @@ step_to-requires-clause-known g c = λ now.
     let sound : IsTrue c.args.volume.now.is_sound = rw (← i.read.call.sound) now in
     subst (λ (m : Links). IsLastKey types m c.loop-turn.last) (sym (links-same types c.args.volume.now c.loop-turn.volume (i.read.image now) i.read.call.size i.read.call.sizes)) (i.known sound)
 
+pub step_to-requires-clause-noted : goal.step_to-requires-clause-noted
+step_to-requires-clause-noted g c = λ now.
+    let i = c.loop-turn.invariant in
+    let types : List SegmentType = c.args.dbd.now.types in
+    let sound : IsTrue c.args.volume.now.is_sound = rw (← i.read.call.sound) now in
+    subst (λ (m : Links). AreNoted types m c.args.places.now c.args.notes.now) (sym (links-same types c.args.volume.now c.loop-turn.volume (i.read.image now) i.read.call.size i.read.call.sizes)) (c.requires.noted sound)
+
+pub step_to-requires-clause-leads : goal.step_to-requires-clause-leads
+step_to-requires-clause-leads g c = λ now.
+    let i = c.loop-turn.invariant in
+    let types : List SegmentType = c.args.dbd.now.types in
+    let v : VolumeState = c.args.volume.now in
+    let sound : IsTrue v.is_sound = rw (← i.read.call.sound) now in
+    let before : ℕ = c.loop-turn.before.address in
+    let next : ℕ = c.loop-turn.next in
+    let holder : ℕ = c.holder_of-holder.result in
+    subst (λ (m : Links). LeadsTo types m holder c.args.code before next) (sym (links-same types v c.loop-turn.volume (i.read.image now) i.read.call.size i.read.call.sizes))
+    (leads-on types v c.args.places.now (c.requires.places sound) c.args.parent c.args.code c.args.first (c.requires.parent sound) (c.requires.reached sound) c.loop-turn.holders.items before next holder (i.chain sound)
+    c.holder_of-holder.ensures.parent c.holder_of-holder.ensures.twin)
+
+pub step_to-requires-clause-before : goal.step_to-requires-clause-before
+step_to-requires-clause-before g c = λ now some.
+    let i = c.loop-turn.invariant in
+    let types : List SegmentType = c.args.dbd.now.types in
+    let sound : IsTrue c.args.volume.now.is_sound = rw (← i.read.call.sound) now in
+    subst (λ (m : Links). HasFront types m c.args.code c.loop-turn.before) (sym (links-same types c.args.volume.now c.loop-turn.volume (i.read.image now) i.read.call.size i.read.call.sizes)) (i.twin sound some)
+
 pub returns-in_default-clause-read : goal.returns-in_default-clause-read
 returns-in_default-clause-read g c = read-ok None (reads-join (Ok c.in_ok-found.found) c.loop-turn.invariant.read c.in_ok-found.ensures.read)
 
@@ -76,11 +108,12 @@ loop-turn-preserved g c =
     let i = c.loop-turn.invariant in
     let xs : List ℕ = c.loop-turn.holders.items in
     let ys : List ℕ = c.step_to.new.holders.items in
-    let before : ℕ = c.loop-turn.before in
+    let before : ℕ = c.loop-turn.before.address in
     let next : ℕ = c.loop-turn.next in
     let holder : ℕ = c.holder_of-holder.result in
     let found = c.in_ok-found.found in
     let step = c.in-Some.step in
+    let at : IsTrue v.is_sound → step.twin.address ≡ next = λ sound. (let now : IsTrue w.is_sound = rw i.read.call.sound sound in (when-some _ found step c.in-Some.is (c.in_ok-found.ensures.twin now)).0) in
     record {
       read = read-ok 0 (reads-join (Ok found) i.read c.in_ok-found.ensures.read);
       as_many = c.in_ok-found.ensures.as_many;
@@ -95,18 +128,21 @@ loop-turn-preserved g c =
           (let now : IsTrue w.is_sound = rw i.read.call.sound sound in
           let same = links-same types v w (i.read.image now) i.read.call.size i.read.call.sizes in
           let forward : step.forward ≡ m.forward next = subst (λ (l : Links). step.forward ≡ l.forward next) same (when-some _ found step c.in-Some.is (c.in_ok-found.ensures.forward now)) in
-          on-next types v ps (c.requires.places sound) c.args.parent c.args.code c.args.first (c.requires.parent sound) (c.requires.reached sound) xs ys before next holder step.forward c.if-next-eq0.false
+          subst (λ (b : ℕ). IsOnChain types m ps ys c.args.parent c.args.code c.args.first b step.forward) (sym (at sound))
+          (on-next types v ps (c.requires.places sound) c.args.parent c.args.code c.args.first (c.requires.parent sound) (c.requires.reached sound) xs ys before next holder step.forward c.if-next-eq0.false
           (i.chain sound) c.holder_of-holder.ensures.parent c.holder_of-holder.ensures.twin (when-some _ found step c.in-Some.is (c.in_ok-found.ensures.kept now))
-          (when-some _ found step c.in-Some.is (c.in_ok-found.ensures.held now)) forward);
+          (when-some _ found step c.in-Some.is (c.in_ok-found.ensures.held now)) forward));
+      twin = λ sound not.
+          (let now : IsTrue w.is_sound = rw i.read.call.sound sound in
+          let same = links-same types v w (i.read.image now) i.read.call.size i.read.call.sizes in
+          subst (λ (l : Links). HasFront types l c.args.code step.twin) same (when-some _ found step c.in-Some.is (c.in_ok-found.ensures.twin now)).1);
       walked = λ sound in_hand walked.
           (let now : IsTrue w.is_sound = rw i.read.call.sound sound in
           let same = links-same types v w (i.read.image now) i.read.call.size i.read.call.sizes in
-          let leads = leads-on types v ps (c.requires.places sound) c.args.parent c.args.code c.args.first (c.requires.parent sound) (c.requires.reached sound) xs before next holder (i.chain sound)
-          c.holder_of-holder.ensures.parent c.holder_of-holder.ensures.twin in
-          let step_on : (in_hand : ℕ) → LeadsTo types m holder c.args.code before next → IsWalkedSoFar types m ps before in_hand c.loop-turn.waiting.items xs → IsWalkedSoFar types m ps next in_hand c.step_to.new.waiting.items ys =
-          subst (λ (l : Links). (in_hand : ℕ) → LeadsTo types l holder c.args.code before next → IsWalkedSoFar types l ps before in_hand c.loop-turn.waiting.items xs → IsWalkedSoFar types l ps next in_hand c.step_to.new.waiting.items ys)
+          let step_on : (in_hand : ℕ) → IsWalkedSoFar types m ps before in_hand c.loop-turn.waiting.items xs → IsWalkedSoFar types m ps next in_hand c.step_to.new.waiting.items ys =
+          subst (λ (l : Links). (in_hand : ℕ) → IsWalkedSoFar types l ps before in_hand c.loop-turn.waiting.items xs → IsWalkedSoFar types l ps next in_hand c.step_to.new.waiting.items ys)
           same (when-some _ found step c.in-Some.is (c.in_ok-found.ensures.walked now)) in
-          step_on in_hand leads (i.walked sound in_hand walked));
+          subst (λ (b : ℕ). IsWalkedSoFar types m ps b in_hand c.step_to.new.waiting.items ys) (sym (at sound)) (step_on in_hand (i.walked sound in_hand walked)));
     }
 
 pub returns-in-Some-clause-read : goal.returns-in-Some-clause-read

@@ -1,4 +1,4 @@
-use Rattle.std.proofs.Common.{◌≡◌, ◌<◌, inl, ℕ, List, Bool, IsTrue, Result, Ok, Err, length, slice_index_or, true, false, refl, sym, ap, subst, ◌∙◌, arith}
+use Rattle.std.proofs.Common.{◌≡◌, ◌<◌, inl, ℕ, ◌+◌, List, Bool, IsTrue, Result, Ok, Err, length, slice_index_or, true, false, refl, sym, ap, subst, ◌∙◌, arith}
 use Rattle.std.proofs.lemmas.Result.{err_from_is_err_and}
 use Rattle.hd_dbd.specs.Types.{SegmentType}
 use Rattle.hd_dbd.specs.Hierarchy.{Database}
@@ -6,23 +6,24 @@ use Rattle.hd_dbd.specs.declared.answer.Refused.{Refused}
 use Rattle.hd_volume.specs.Volumes.{VolumeState}
 use Rattle.hd_volume.specs.Calls.{IsRead}
 use Rattle.hd_volume.proofs.CallSteps.{read-none, read-ok, reads-join}
-use Rattle.hd_links.specs.Links.{Links, IsSegment, is_child_type}
+use Rattle.hd_links.specs.Links.{Links, is_child_type}
 use Rattle.hd_links.specs.Pointers.{IsReached}
-use Rattle.hd_links.proofs.Types.{is_in}
 use Rattle.hd_image.specs.Records.{links_of}
 use Rattle.hd_image.proofs.OneImage.{links-same, volume-same}
 use Rattle.hd_check_blocks.specs.declared.places.Place.{Place}
 use Rattle.hd_check_blocks.specs.Places.{place_at}
 use Rattle.hd_check_blocks.proofs.PlaceLemmas.{places-same}
 use Rattle.hd_check_pointers.specs.Keys.{IsLastKey}
+use Rattle.hd_check_walk.specs.Notes.{IsChildNumber, AreNamedFor, AreNoted}
 use Rattle.hd_check_walk.specs.Walks.{IsWalkedSoFar}
 use Rattle.hd_check_walk.proofs.Chains.{stays-join}
 use Rattle.hd_check_walk.proofs.Steps.{stands, coded}
-use Rattle.hd_check_walk.proofs.Children.{IsTypeWalked, types-listed, hand-typed, walked-more, all-walked, hand-walked}
+use Rattle.hd_check_walk.proofs.Children.{IsTypeWalked, types-listed, hand-typed, hand-numbered, walked-more, all-walked, hand-walked}
 use Rattle.hd_check_walk.proofs.walk.walk_children.Goals as goal
 
 pub loop-child-init : goal.loop-child-init
 loop-child-init g c = record {
+  index = refl;
   read = read-none c.args.volume.now 0;
   as_many = c.requires.as_many;
   known = c.requires.known;
@@ -50,6 +51,42 @@ walk_type-requires-clause-known g c = λ now.
     let types : List SegmentType = c.args.dbd.now.types in
     let sound : IsTrue c.args.volume.now.is_sound = rw (← i.read.call.sound) now in
     subst (λ (m : Links). IsLastKey types m c.loop-child.last) (sym (links-same types c.args.volume.now c.loop-child.volume (i.read.image now) i.read.call.size i.read.call.sizes)) (i.known sound)
+
+pub walk_type-requires-clause-noted : goal.walk_type-requires-clause-noted
+walk_type-requires-clause-noted g c = λ now.
+    let i = c.loop-child.invariant in
+    let types : List SegmentType = c.args.dbd.now.types in
+    let sound : IsTrue c.args.volume.now.is_sound = rw (← i.read.call.sound) now in
+    subst (λ (m : Links). AreNoted types m c.args.places.now c.args.notes.now) (sym (links-same types c.args.volume.now c.loop-child.volume (i.read.image now) i.read.call.size i.read.call.sizes)) (c.requires.noted sound)
+
+pub walk_type-requires-clause-children : goal.walk_type-requires-clause-children
+walk_type-requires-clause-children g c = λ now.
+    let i = c.loop-child.invariant in
+    let types : List SegmentType = c.args.dbd.now.types in
+    let n : ℕ = c.args.number in
+    let sound : IsTrue c.args.volume.now.is_sound = rw (← i.read.call.sound) now in
+    subst (λ (m : Links). AreNamedFor types m c.args.notes.now c.args.named.now n (place_at c.args.places.now n).address)
+    (sym (links-same types c.args.volume.now c.loop-child.volume (i.read.image now) i.read.call.size i.read.call.sizes)) (c.requires.children sound n)
+
+pub walk_type-requires-clause-child : goal.walk_type-requires-clause-child
+walk_type-requires-clause-child g c = λ now.
+    let i = c.loop-child.invariant in
+    let d : Database = c.args.dbd.now in
+    let v : VolumeState = c.args.volume.now in
+    let w : VolumeState = c.loop-child.volume in
+    let ps : List Place = c.args.places.now in
+    let n : ℕ = c.args.number in
+    let a : ℕ = (place_at ps n).address in
+    let ts : List ℕ = c.children_of-child-items.result.now in
+    let k : ℕ = c.loop-child.child-index in
+    let sound : IsTrue v.is_sound = rw (← i.read.call.sound) now in
+    let same = links-same d.types v w (i.read.image now) i.read.call.size i.read.call.sizes in
+    let test = c.if-number-places.false in
+    let within : n < length ps = omega arith in
+    let list = types-listed d v a (place_at ps n).code ts (c.requires.of sound) (stands d.types v ps (c.requires.places sound) n within) (coded d.types v ps (c.requires.places sound) n within)
+    c.children_of-child-items.ensures in
+    subst (λ (m : Links). IsChildNumber d.types m a c.loop-child.index (slice_index_or ts k 0)) (sym same)
+    (hand-numbered d.types (links_of d.types v) a ts k c.loop-child.index c.loop-child-test.true list i.index)
 
 pub walk_type-requires-clause-there : goal.walk_type-requires-clause-there
 walk_type-requires-clause-there g c = λ now.
@@ -113,6 +150,7 @@ loop-child-preserved g c =
     let a : ℕ = (place_at ps c.args.number).address in
     let right = c.if-not-branch.false in
     record {
+      index = ap (λ (j : ℕ). j + 1) i.index;
       read = read-ok 0 (reads-join (Ok c.in_ok-walk_type.field-0) i.read c.in_ok-walk_type.ensures.read);
       as_many = c.in_ok-walk_type.ensures.as_many;
       known = λ sound.

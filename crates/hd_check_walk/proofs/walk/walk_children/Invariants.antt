@@ -10,6 +10,7 @@ use Rattle.hd_check_walk.proofs.walk.walk_children.Given as goal
 -- the children of the types before are walked
 abbrev pub invariant-loop-child : goal.invariant-loop-child
 invariant-loop-child g l = record {
+  index : l.index ≡ l.child-index;
   read : IsRead {T = ℕ} l.fn.volume (Ok 0) l.volume;
   as_many : length l.holders.items ≡ length l.places;
   known : IsTrue l.fn.volume.is_sound → IsLastKey l.dbd.types (links_of l.dbd.types l.fn.volume) l.last;

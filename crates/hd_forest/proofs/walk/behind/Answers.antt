@@ -15,25 +15,24 @@ pub beside-requires-clause-there : goal.beside-requires-clause-there
 beside-requires-clause-there g c =
     let d = c.args.dbd.now in
     let u = c.args.volume.now in
-    let path = c.args.path.now in
+    let path = c.args.addresses.now in
     let k : ℕ = c.loop-level.level - 1 in
     let low = c.loop-level.invariant.low in
     let some = c.loop-level-test.true in
     let within : k < length path = omega arith in
-    links-kept d (λ (m : Links). IsSegment m (slice_index c.addresses-addresses.result.now k)) u c.loop-level.volume c.loop-level.invariant.read
-    (λ sound. subst (λ (xs : List ℕ). IsSegment (links_of d.types u) (slice_index xs k)) (sym c.addresses-addresses.ensures.value) (on-path (links_of d.types u) path k (c.requires.there sound) within))
+    links-kept d (λ (m : Links). IsSegment m (slice_index path k)) u c.loop-level.volume c.loop-level.invariant.read
+    (λ sound. on-path (links_of d.types u) path k (c.requires.there sound) within)
 
 pub beside-requires-clause-above : goal.beside-requires-clause-above
 beside-requires-clause-above g c =
     let d = c.args.dbd.now in
     let u = c.args.volume.now in
-    let path = c.args.path.now in
+    let path = c.args.addresses.now in
     let k : ℕ = c.loop-level.level - 1 in
     links-kept d (λ (m : Links). m.here c.last_of-parent.result ≡ true) u c.loop-level.volume c.loop-level.invariant.read
     (λ sound.
     let m : Links = links_of d.types u in
-    let e : c.last_of-parent.result ≡ tip (take k path) = c.last_of-parent.ensures ∙ ap (λ (xs : List ℕ). tip (take k xs)) c.addresses-addresses.ensures.value in
-    subst (λ x. m.here x ≡ true) (sym e) (above-here m path k refl (c.requires.there sound)))
+    subst (λ x. m.here x ≡ true) (sym c.last_of-parent.ensures) (above-here m path k refl (c.requires.there sound)))
 
 -- what was found beside the row of a level, or what follows the span of the one above
 one-up : (types : List SegmentType) (m : Links) (path : List ℕ) (level found a h : ℕ) → 0 < level → level ≤ length path → a ≡ slice_index path (level - 1) → h ≡ tip (take (level - 1) path)
@@ -48,18 +47,17 @@ returns-then-address-ne0-clause-value g c sound =
     let d = c.args.dbd.now in
     let u = c.args.volume.now in
     let m : Links = links_of d.types u in
-    let path = c.args.path.now in
+    let path = c.args.addresses.now in
     let inv = c.loop-level.invariant in
     let level : ℕ = c.loop-level.level in
     let same = after-read d u c.loop-level.volume inv.read sound in
     let found : ℕ = c.in_ok-address.address in
-    let a : ℕ = slice_index c.addresses-addresses.result.now (level - 1) in
+    let a : ℕ = slice_index path (level - 1) in
     let h : ℕ = c.last_of-parent.result in
     let is : found ≡ beside_of d.types m h a = c.in_ok-address.ensures.value same.sound ∙ ap (λ (k : Links). beside_of d.types k h a) same.links in
     let some : 0 < found = (let ne : found ≢ 0 = λ e. (let f = c.if-address-ne0.true in f e) in elim (zero_or found) [ inl z ↦ absurd (ne z) | inr p ↦ p ]) in
     sym (some_own found (behind_span d.types m (take (level - 1) path)) some)
-    ∙ sym (one-up d.types m path level found a h c.loop-level-test.true inv.low (ap (λ (xs : List ℕ). slice_index xs (level - 1)) c.addresses-addresses.ensures.value)
-    (c.last_of-parent.ensures ∙ ap (λ (xs : List ℕ). tip (take (level - 1) xs)) c.addresses-addresses.ensures.value) is)
+    ∙ sym (one-up d.types m path level found a h c.loop-level-test.true inv.low refl c.last_of-parent.ensures is)
     ∙ inv.left sound
 
 pub loop-level-preserved : goal.loop-level-preserved
@@ -67,11 +65,11 @@ loop-level-preserved g c =
     let d = c.args.dbd.now in
     let u = c.args.volume.now in
     let m : Links = links_of d.types u in
-    let path = c.args.path.now in
+    let path = c.args.addresses.now in
     let inv = c.loop-level.invariant in
     let level : ℕ = c.loop-level.level in
     let found : ℕ = c.in_ok-address.address in
-    let a : ℕ = slice_index c.addresses-addresses.result.now (level - 1) in
+    let a : ℕ = slice_index path (level - 1) in
     let h : ℕ = c.last_of-parent.result in
     record {
       read = read-ok 0 (reads-join (Ok found) inv.read c.in_ok-address.ensures.read);
@@ -80,7 +78,6 @@ loop-level-preserved g c =
           let same = after-read d u c.loop-level.volume inv.read sound in
           let is : found ≡ beside_of d.types m h a = c.in_ok-address.ensures.value same.sound ∙ ap (λ (k : Links). beside_of d.types k h a) same.links in
           sym (some_zero found (behind_span d.types m (take (level - 1) path)) c.if-address-ne0.false)
-          ∙ sym (one-up d.types m path level found a h c.loop-level-test.true inv.low (ap (λ (xs : List ℕ). slice_index xs (level - 1)) c.addresses-addresses.ensures.value)
-          (c.last_of-parent.ensures ∙ ap (λ (xs : List ℕ). tip (take (level - 1) xs)) c.addresses-addresses.ensures.value) is)
+          ∙ sym (one-up d.types m path level found a h c.loop-level-test.true inv.low refl c.last_of-parent.ensures is)
           ∙ inv.left sound;
     }

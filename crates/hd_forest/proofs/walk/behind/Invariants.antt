@@ -7,8 +7,8 @@ use Rattle.hd_forest.proofs.walk.behind.Given as goal
 abbrev pub invariant-loop-level : goal.invariant-loop-level
 invariant-loop-level g l = record {
   read : IsRead {T = ℕ} l.fn.volume (Ok 0) l.volume;
-  low : l.level ≤ length l.path;
-  left : IsTrue l.fn.volume.is_sound → behind_span l.dbd.types (links_of l.dbd.types l.fn.volume) (take l.level l.path) ≡ behind_span l.dbd.types (links_of l.dbd.types l.fn.volume) l.path;
+  low : l.level ≤ length l.addresses;
+  left : IsTrue l.fn.volume.is_sound → behind_span l.dbd.types (links_of l.dbd.types l.fn.volume) (take l.level l.addresses) ≡ behind_span l.dbd.types (links_of l.dbd.types l.fn.volume) l.addresses;
 }
 
 abbrev pub decreases-loop-level : goal.decreases-loop-level

@@ -1,4 +1,4 @@
-use Rattle.std.proofs.Common.{◌≡◌, ◌≢◌, ℕ, ◌<◌, Ok, length, sym, ap, subst, ◌∙◌, inl, inr}
+use Rattle.std.proofs.Common.{◌≡◌, ◌≢◌, ℕ, ◌<◌, length, sym, ap, subst, ◌∙◌, inl, inr}
 use Rattle.hd_links.specs.Links.{Links, child_types}
 use Rattle.hd_links.specs.Steps.{child_among, later_than}
 use Rattle.hd_links.proofs.Build.{zero_or}
@@ -20,7 +20,7 @@ returns-then-twin-ne0-clause-value g c sound =
     let m : Links = links_of d.types u in
     let a : ℕ = c.args.address in
     let h : ℕ = c.args.parent in
-    let twin : c.in_ok-twin.twin ≡ m.forward a = c.in_ok-twin.ensures.value sound in
+    let twin : c.in_ok-twin.twin ≡ m.forward a = c.in_ok-twin.ensures.twin sound in
     elim c.then-twin-ne0.branch [
       | then-twin-ne0-via-then-twin-ne0 w ↦
           (let ne : c.in_ok-twin.twin ≢ 0 = λ e. (let f = w.if-twin-ne0.true in f e) in
@@ -32,15 +32,11 @@ returns-then-twin-ne0-clause-value g c sound =
           twin ∙ sym (none-later d.types m h a w.if-parent-eq0.true G.header_code (segment_code d.types O (length u.image) m G a (c.requires.there sound))))
     ]
 
-pub code_at-requires-clause-of : goal.code_at-requires-clause-of
-code_at-requires-clause-of g c = volume-kept c.args.dbd.now c.args.volume.now c.next_twin.new.volume c.in_ok-twin.ensures.read c.requires.of
-
 pub below_later-requires-clause-of : goal.below_later-requires-clause-of
-below_later-requires-clause-of g c =
-    volume-kept c.args.dbd.now c.args.volume.now c.code_at.new.volume (reads-join (Ok c.in_ok-code.code) c.in_ok-twin.ensures.read c.in_ok-code.ensures.read) c.requires.of
+below_later-requires-clause-of g c = volume-kept c.args.dbd.now c.args.volume.now c.twin_and_code.new.volume c.in_ok-twin.ensures.read c.requires.of
 
 pub returns-clause-read : goal.returns-clause-read
-returns-clause-read g c = reads-join c.below_later.result (reads-join (Ok c.in_ok-code.code) c.in_ok-twin.ensures.read c.in_ok-code.ensures.read) c.below_later.ensures.read
+returns-clause-read g c = reads-join c.below_later.result c.in_ok-twin.ensures.read c.below_later.ensures.read
 
 pub returns-clause-value : goal.returns-clause-value
 returns-clause-value g c = if-ok c.below_later.result c.below_later.ensures.value
@@ -50,13 +46,10 @@ returns-clause-value g c = if-ok c.below_later.result c.below_later.ensures.valu
     let m : Links = links_of d.types u in
     let a : ℕ = c.args.address in
     let h : ℕ = c.args.parent in
-    let both = reads-join (Ok c.in_ok-code.code) c.in_ok-twin.ensures.read c.in_ok-code.ensures.read in
-    let one = after-read d u c.next_twin.new.volume c.in_ok-twin.ensures.read sound in
-    let two = after-read d u c.code_at.new.volume both sound in
-    let code : c.in_ok-code.code ≡ m.code a = c.in_ok-code.ensures.value one.sound ∙ ap (λ (k : Links). k.code a) one.links in
-    let none : m.forward a ≡ 0 = sym (c.in_ok-twin.ensures.value sound) ∙ c.if-twin-ne0.false in
+    let same = after-read d u c.twin_and_code.new.volume c.in_ok-twin.ensures.read sound in
+    let none : m.forward a ≡ 0 = sym (c.in_ok-twin.ensures.twin sound) ∙ c.if-twin-ne0.false in
     let rest : ℕ = child_among m h (later_than (m.code a) (child_types d.types (m.code h))) in
-    value two.sound
-    ∙ ap (λ (k : Links). child_among k h (later_than c.in_ok-code.code (child_types d.types (k.code h)))) two.links
-    ∙ ap (λ (x : ℕ). child_among m h (later_than x (child_types d.types (m.code h)))) code
+    value same.sound
+    ∙ ap (λ (k : Links). child_among k h (later_than c.in_ok-twin.code (child_types d.types (k.code h)))) same.links
+    ∙ ap (λ (x : ℕ). child_among m h (later_than x (child_types d.types (m.code h)))) (c.in_ok-twin.ensures.code sound)
     ∙ sym (some_zero (m.forward a) rest none))

@@ -21,7 +21,7 @@ loop-n-preserved g c =
     let same = λ (sound : IsTrue c.args.blocks.now.is_sound). (let s : block_of c.loop-n.blocks.size c.loop-n.blocks.image n ≡ block_of size image n = rw (inv.size, inv.image sound) refl in s) in
     let own = λ (sound : IsTrue c.args.blocks.now.is_sound) (some : 0 < n).
     (let P : List ℕ → Type 0 = λ b. IsContent c.args.sizes.now b x in
-    let s : P (block_of size image n) = subst P (same sound) (c.in_ok-content.ensures.content (sound-now sound) some) in s)
+    let s : P (block_of size image n) = subst P (same sound) (c.in_ok-content.ensures.content (sound-now sound) some c.args.sizes.now) in s)
     in
     record {
       is_sound = c.in_ok-content.ensures.sound ∙ inv.is_sound;

@@ -16,7 +16,7 @@ returns-clause-space g c sound =
     let block : c.hand.result.now ≡ block_of c.args.blocks.now.size c.args.blocks.now.image c.args.n =
     c.hand.ensures.value sound some ∙ (let e : block_of c.fetch.new.self.size c.fetch.new.self.image c.fetch.new.self.hand ≡ block_of c.args.blocks.now.size c.args.blocks.now.image c.args.n = rw (c.fetch.ensures.size, image, c.in_ok-fetch.ensures.hand) refl in e) in
     let hole = seen-hole c.args.blocks.now.size c.args.sizes.now c.args.blocks.now.image c.args.space.now c.args.n c.largest_free-hole.result c.hand.result.now
-    (c.requires.space_is before) (c.requires.divided before) there.0 there.1 is block c.largest_free-hole.ensures in
+    (c.requires.space_is before) (c.requires.divided before) there.0 there.1 is block c.largest_free-hole.ensures.largest in
     mended-space c.args.blocks.now.size c.args.sizes.now c.args.blocks.now.image c.args.space.now c.set_content.new.space c.args.n c.largest_free-hole.result
     (c.requires.space_is before) c.set_content.ensures.contents c.set_content.ensures.len c.set_content.ensures.lowest c.set_content.ensures.free c.set_content.ensures.lowest_free there.0 there.1 is hole
 
@@ -30,6 +30,6 @@ returns-clause-found g c before is-large =
     let block : c.hand.result.now ≡ block_of c.args.blocks.now.size c.args.blocks.now.image c.args.n =
     c.hand.ensures.value sound some ∙ (let e : block_of c.fetch.new.self.size c.fetch.new.self.image c.fetch.new.self.hand ≡ block_of c.args.blocks.now.size c.args.blocks.now.image c.args.n = rw (c.fetch.ensures.size, image, c.in_ok-fetch.ensures.hand) refl in e) in
     let hole = seen-hole c.args.blocks.now.size c.args.sizes.now c.args.blocks.now.image c.args.space.now c.args.n c.largest_free-hole.result c.hand.result.now
-    (c.requires.space_is before) (c.requires.divided before) there.0 there.1 is block c.largest_free-hole.ensures in
+    (c.requires.space_is before) (c.requires.divided before) there.0 there.1 is block c.largest_free-hole.ensures.largest in
     let large : c.args.size ≤ c.largest_free-hole.result = leb-true c.args.size c.largest_free-hole.result is-large in
     (sym ((c.requires.space_is before).contents c.args.n there.0 there.1).kind_is ∙ is, omega arith)

@@ -26,7 +26,7 @@ returns-clause-found g c before is-large =
     let three : c.hand-3.result.now ≡ b = c.hand-3.ensures.value sound some ∙ same in
     let kind = sym ((c.requires.space_is before).contents c.args.n there.0 there.1).kind_is ∙ is in
     let hole = seen-hole size c.args.sizes.now c.args.blocks.now.image c.args.space.now c.args.n c.largest_free.result c.hand-3.result.now
-    (c.requires.space_is before) (c.requires.divided before) there.0 there.1 is three c.largest_free.ensures in
+    (c.requires.space_is before) (c.requires.divided before) there.0 there.1 is three c.largest_free.ensures.largest in
     let large : c.args.size ≤ c.largest_free.result = leb-true c.args.size c.largest_free.result is-large in
     let x = c.requires.divided before c.args.n there.0 there.1 kind in
     let D : List ℕ → Type 0 = λ z. IsDivided c.args.sizes.now z x.extents in

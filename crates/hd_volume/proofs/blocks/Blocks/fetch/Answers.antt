@@ -1,13 +1,26 @@
-use Rattle.std.proofs.Common.{◌≡◌, ℕ, List, IsTrue, subst, ◌∙◌}
-use Rattle.hd_volume.specs.Buffers.{Buffered, put_in}
-use Rattle.hd_volume.proofs.BufferLemmas.{stored-buffers, aside-stands}
+use Rattle.std.proofs.Common.{◌≡◌, ℕ, ◌<◌, List, ◌∷◌, IsTrue, subst, sym, ◌∙◌, arith}
+use Rattle.std.specs.List.{AllByRecursion}
+use Rattle.hd_bytes.specs.Blocks.{HasBlock}
+use Rattle.hd_volume.specs.Buffers.{Buffered, IsInBytes}
+use Rattle.hd_volume.proofs.AsideLemmas.{stored-buffers, kept-length, aside-stand}
 use Rattle.hd_volume.proofs.blocks.Blocks.fetch.Goals as goal
+
+pub bring_other-requires-clause-there : goal.bring_other-requires-clause-there
+bring_other-requires-clause-there g c sound =
+    let P : Buffered → Type 0 = λ b. IsTrue b.is_sound → (0 < c.args.n) × HasBlock b.size b.image c.args.n in
+    let there = subst P (sym c.self.view_is) c.requires.there sound in
+    let here : HasBlock c.self.inside.block_size (g.S.BlockStore.contents c.self.inside.store) c.args.n = let n = kept-length c.self.invariant sound in let t = there.1 in omega arith in
+    (there.0, rw c.self.invariant.same_size here)
 
 pub returns-clause-stands : goal.returns-clause-stands
 returns-clause-stands g c =
     let P : Buffered → Type 0 = λ b. IsTrue b.is_sound → b.stored ≡ b.image → g.S.BlockStore.contents c.bring_other.new.store ≡ b.image in
     subst P c.self.view_is
     (λ sound same.
+    let size : ℕ = c.self.inside.block_size in
     let contents : List ℕ = g.S.BlockStore.contents c.self.inside.store in
-    let put : put_in c.self.inside.block_size contents c.self.inside.aside ≡ contents = aside-stands (stored-buffers c.self.invariant sound) c.self.invariant.aside_len (c.self.invariant.pair sound) same in
-    c.in_ok-bring_other.ensures.stands sound (rw c.self.invariant.same_size put) ∙ same)
+    let all : AllByRecursion (IsInBytes size contents) (c.self.inside.hand ∷ c.self.inside.aside.items) =
+    aside-stand (stored-buffers c.self.invariant sound) c.self.invariant.aside_len (c.self.invariant.others sound) same in
+    let over : AllByRecursion (IsInBytes (g.S.BlockStore.size c.self.inside.store) contents) (c.self.inside.hand ∷ c.deref_mut.result.now) =
+    rw c.deref_mut.ensures.value (subst (λ n. AllByRecursion (IsInBytes n contents) (c.self.inside.hand ∷ c.self.inside.aside.items)) (sym c.self.invariant.same_size) all) in
+    c.in_ok-bring_other.ensures.stands sound over ∙ same)

@@ -1,7 +1,8 @@
 use Rattle.std.proofs.Common.{◌≡◌, ◌<◌, [], IsTrue, subst, sym, ◌∙◌}
 use Rattle.hd_bytes.specs.Blocks.{block_of}
 use Rattle.hd_volume.specs.Buffers.{Buffered}
-use Rattle.hd_volume.proofs.BufferLemmas.{buffers-of, hand-block}
+use Rattle.hd_volume.proofs.AsideLemmas.{buffers-of}
+use Rattle.hd_volume.proofs.BufferLemmas.{hand-block}
 use Rattle.hd_volume.proofs.blocks.Blocks.hand.Goals as goal
 
 pub returns-clause-value : goal.returns-clause-value

@@ -1,19 +1,20 @@
 use Rattle.std.proofs.Common.{◌<◌, [], length, IsTrue, subst, sym, ap, ◌∙◌}
 use Rattle.hd_bytes.specs.Blocks.{block_of}
-use Rattle.hd_volume.specs.Buffers.{Buffered, put_in, image_of}
+use Rattle.hd_volume.specs.Buffers.{Buffered, put_all, image_of}
 use Rattle.hd_volume.specs.Images.{ChangesBlock}
 use Rattle.hd_volume.specs.Edits.{IsTaken}
-use Rattle.hd_volume.proofs.BufferLemmas.{buffers-of, hand-block, hand-changes, hand-new, edited}
+use Rattle.hd_volume.proofs.AsideLemmas.{buffers-of}
+use Rattle.hd_volume.proofs.BufferLemmas.{hand-block, hand-changes, hand-new, edited}
 use Rattle.hd_volume.proofs.blocks.Blocks.take.Goals as goal
 
 pub returns-clause-others : goal.returns-clause-others
 returns-clause-others g c =
-    let P : Buffered → Type 0 = λ b. IsTrue b.is_sound → 0 < b.hand → ChangesBlock b.size b.hand b.image (image_of c.self.inside.block_size (put_in c.self.inside.block_size (g.S.BlockStore.contents c.self.inside.store) c.self.inside.aside) c.self.inside.head (edited c.self.inside.hand c.take_from.new.bytes)) in
+    let P : Buffered → Type 0 = λ b. IsTrue b.is_sound → 0 < b.hand → ChangesBlock b.size b.hand b.image (image_of c.self.inside.block_size (put_all c.self.inside.block_size (g.S.BlockStore.contents c.self.inside.store) c.self.inside.aside.items) c.self.inside.head (edited c.self.inside.hand c.take_from.new.bytes)) in
     subst P c.self.view_is (λ sound some. hand-changes (buffers-of c.self.invariant sound) c.take_from.new.bytes some)
 
 pub returns-clause-block : goal.returns-clause-block
 returns-clause-block g c =
-    let P : Buffered → Type 0 = λ b. IsTrue b.is_sound → 0 < b.hand → IsTaken c.args.sizes.now c.args.size (block_of b.size b.image b.hand) c.take_from.result (block_of b.size (image_of c.self.inside.block_size (put_in c.self.inside.block_size (g.S.BlockStore.contents c.self.inside.store) c.self.inside.aside) c.self.inside.head (edited c.self.inside.hand c.take_from.new.bytes)) b.hand) in
+    let P : Buffered → Type 0 = λ b. IsTrue b.is_sound → 0 < b.hand → IsTaken c.args.sizes.now c.args.size (block_of b.size b.image b.hand) c.take_from.result (block_of b.size (image_of c.self.inside.block_size (put_all c.self.inside.block_size (g.S.BlockStore.contents c.self.inside.store) c.self.inside.aside.items) c.self.inside.head (edited c.self.inside.hand c.take_from.new.bytes)) b.hand) in
     subst P c.self.view_is
     (λ sound some.
     let k = buffers-of c.self.invariant sound in

@@ -1,0 +1,12 @@
+use Rattle.std.proofs.Common.{◌≡◌, ◌++◌, List, ℕ, drop, take, length, sym, ap, ◌∙◌, arith}
+use Rattle.std.specs.Prelude.{replicate}
+use Rattle.std.proofs.lemmas.List.{take_all}
+use Rattle.hd_check_walk.proofs.Fronts.{copied-front}
+use Rattle.hd_check_walk.proofs.segments.key_front.Goals as goal
+
+pub returns : goal.returns
+returns c =
+    let key : List ℕ = c.args.key.now in
+    let all : take (length key) key ≡ key = take_all (length key) key (omega arith) in
+    ap (λ (xs : List ℕ). xs ++ drop (length key) (replicate 8 0)) (c.copy_from_slice-2.ensures.after ∙ sym all)
+    ∙ copied-front (length key) key (omega arith) (omega arith) (λ l. omega arith)
