@@ -328,7 +328,7 @@ fn answers_over_a_damaged_index(rt: HostRuntime) -> Result<(), Fail> {
     Ok(())
 }
 
-/// Enters 40 keys in a falling order into a new volume whose store refuses an access, and takes one out.
+/// Enters 400 keys in a falling order into a new volume whose store refuses an access, and takes one out: more blocks than a volume keeps in memory.
 fn refused_access(alloc: Global, dbd: &Dbd, passes: u64) -> Result<(), Refused>
     requires size { dbd.now.block_size ≡ 128 }
     requires three { root_key_length dbd.now.types ≡ 3 }
@@ -337,8 +337,8 @@ fn refused_access(alloc: Global, dbd: &Dbd, passes: u64) -> Result<(), Refused>
     let Some(mut volume) = new_volume(alloc, store, dbd, 65536) else {
         return Err(Refused::Device);
     };
-    for n in 0..40 {
-        enter(&mut volume, dbd, &key_of(40 - n, 3)[..3], n)?;
+    for n in 0..400 {
+        enter(&mut volume, dbd, &key_of(400 - n, 3)[..3], n)?;
     }
     leave(&mut volume, dbd, &key_of(7, 3)[..3], true)?;
     volume.flush()
