@@ -7,9 +7,16 @@ use hd_dbd::Refused;
 use std::alloc::Global;
 
 /// How many places there are for each stretch of a directory, about.
-const PLACES: usize = 4;
+const PLACES: usize = 2;
 
-/// For each stretch of the addresses, from address 0 on, the number of the first place in it or behind it.
+/// Of how many places one is entered.
+const ENTERED: usize = 4;
+
+/// How many places are compared with an address at once.
+const COMPARED: usize = 8;
+
+/// For each stretch of the addresses, from address 0 on, the number of the first of the places entered in it or behind it. Of each few places
+/// one is entered.
 ///
 /// It only says where to look first: nothing is concluded from what it says.
 #[derive(Drop)]
@@ -36,17 +43,34 @@ impl Directory {
         let stretches = (places.len() / PLACES).min(u32::MAX as usize) as u32;
         let shift = shift_for(last, stretches);
         let mut firsts = Vec::new(alloc);
-        for number in 0..places.len() {
-            let stretch = (places[number].address >> shift) as usize;
-            fill(&mut firsts, stretch, number)?;
+        for turn in 0..places.len() / ENTERED + 1 {
+            let number = turn.saturating_mul(ENTERED);
+            if let Some(place) = places.get(number) {
+                fill(&mut firsts, (place.address >> shift) as usize, number)?;
+            }
         }
         Ok(Directory { firsts, shift })
     }
 
-    /// The number at which to look first for an address.
+    /// The number at which to look first for an address: no more than that of the first place in its stretch, and not far from it.
     pub fn near(&self, address: u32) -> usize {
         let stretch = (address >> self.shift) as usize;
-        self.firsts.get(stretch).copied().unwrap_or(0) as usize
+        let entered = self.firsts.get(stretch).copied().unwrap_or(0) as usize;
+        entered.saturating_sub(ENTERED - 1)
+    }
+
+    /// The number at which to look first for an address, by what stands near it: that of its place, if a segment stands there and its stretch has
+    /// few places. No branch depends on what stands where.
+    pub fn guess(&self, places: &[Place], address: u32) -> usize {
+        let first = self.near(address);
+        let Some(compared) = places.get(first..first.saturating_add(COMPARED)) else {
+            return first;
+        };
+        let mut below: usize = 0;
+        for place in compared {
+            below = below.saturating_add((place.address < address) as usize);
+        }
+        first.saturating_add(below)
     }
 }
 

@@ -19,6 +19,7 @@ ghost use Rattle.hd_check_walk.specs.Notes.{IsNotedFor, AreNoted};
 ghost use Rattle.hd_check_walk.specs.Walks.{IsHeldBy, IsFollowed, IsUnheld, StaysHeld, IsWalkedSoFar, LeadsTo, StepsOn, IsEnd};
 ghost use Rattle.hd_check_walk.specs.Twins.{HasFront, HaveFronts, IsKeyBehind};
 
+use crate::guide::Guide;
 use crate::notes::{Note, look_at};
 use crate::segments::{FRONT, Seen};
 use hd_check_blocks::{Directory, Place, number_near};
@@ -189,7 +190,7 @@ fn step_to<S: BlockStore>(
     last: &mut LastKey,
     places: &[Place],
     notes: &[Note],
-    directory: &Directory,
+    guide: Guide,
     volume: &mut Volume<S>,
     dbd: &Dbd,
     holder: u32,
@@ -215,6 +216,7 @@ fn step_to<S: BlockStore>(
     ensures walked { WhereSome volume.old result (λ s. StepsOn dbd.now.types (links_of dbd.now.types volume.old) places.now before.address address waiting.old.items holders.old.items waiting.new.items holders.new.items) }
     ensures refusal { OnlyDeviceOrMemory result }
 {
+    let directory = guide.directory;
     let Some(number) = hold(holders, places, directory, near, address, code, holder) else {
         return Ok(None);
     };
@@ -248,7 +250,7 @@ pub fn walk_twins<S: BlockStore>(
     last: &mut LastKey,
     places: &[Place],
     notes: &[Note],
-    directory: &Directory,
+    guide: Guide,
     volume: &mut Volume<S>,
     dbd: &Dbd,
     parent: u32,
@@ -281,15 +283,15 @@ pub fn walk_twins<S: BlockStore>(
         }
         let holder = holder_of(parent, before.address);
         let found = step_to(
-            holders, waiting, last, places, notes, directory, volume, dbd, holder, code, before,
-            next, near,
+            holders, waiting, last, places, notes, guide, volume, dbd, holder, code, before, next,
+            near,
         )?;
         let Some(step) = found else {
             return Ok(None);
         };
         before = step.twin;
         next = step.forward;
-        near = step.number.saturating_add(1);
+        near = guide.behind(step.number);
     }
     Ok(None)
 }

@@ -12,6 +12,7 @@ ghost use Rattle.hd_check_pointers.specs.Keys.{IsLastKey};
 ghost use Rattle.hd_check_walk.specs.Notes.{IsChildNumber, AreNamedFor, AreNoted, AreChildrenNoted};
 ghost use Rattle.hd_check_walk.specs.Walks.{IsFollowed, StaysHeld, IsWalkedSoFar, AreChildrenWalked};
 
+use crate::guide::{Guide, twin_numbers};
 use crate::notes::{Named, Note, children_named, note_segments};
 use crate::scattered::are_scattered;
 use crate::twins::{NOBODY, walk_twins};
@@ -37,7 +38,7 @@ fn walk_type<S: BlockStore>(
     places: &[Place],
     notes: &[Note],
     named: &[Named],
-    directory: &Directory,
+    guide: Guide,
     volume: &mut Volume<S>,
     dbd: &Dbd,
     number: usize,
@@ -73,7 +74,7 @@ fn walk_type<S: BlockStore>(
         last,
         places,
         notes,
-        directory,
+        guide,
         volume,
         dbd,
         place.address,
@@ -95,7 +96,7 @@ fn walk_children<S: BlockStore>(
     places: &[Place],
     notes: &[Note],
     named: &[Named],
-    directory: &Directory,
+    guide: Guide,
     volume: &mut Volume<S>,
     dbd: &Dbd,
     number: usize,
@@ -121,7 +122,7 @@ fn walk_children<S: BlockStore>(
     let mut index: usize = 0;
     for child in dbd.children_of(place.code) {
         if !walk_type(
-            holders, waiting, last, places, notes, named, directory, volume, dbd, number, place,
+            holders, waiting, last, places, notes, named, guide, volume, dbd, number, place,
             index, *child,
         )? {
             return Ok(false);
@@ -161,7 +162,7 @@ fn walk_roots<S: BlockStore>(
     last: &mut LastKey,
     places: &[Place],
     notes: &[Note],
-    directory: &Directory,
+    guide: Guide,
     volume: &mut Volume<S>,
     dbd: &Dbd,
 ) -> Result<bool, Refused>
@@ -180,7 +181,7 @@ fn walk_roots<S: BlockStore>(
     let first = volume.first_root();
     let end = volume.last_root();
     let found = walk_twins(
-        holders, waiting, last, places, notes, directory, volume, dbd, 0, 1, first, 0,
+        holders, waiting, last, places, notes, guide, volume, dbd, 0, 1, first, 0,
     )?;
     match found {
         None => Ok(false),
@@ -194,7 +195,7 @@ fn walk_volume<S: BlockStore>(
     places: &[Place],
     notes: &[Note],
     named: &[Named],
-    directory: &Directory,
+    guide: Guide,
     volume: &mut Volume<S>,
     dbd: &Dbd,
 ) -> Result<bool, Refused>
@@ -215,7 +216,7 @@ fn walk_volume<S: BlockStore>(
         &mut last,
         places,
         notes,
-        directory,
+        guide,
         volume,
         dbd,
     )? {
@@ -232,7 +233,7 @@ fn walk_volume<S: BlockStore>(
             places,
             notes,
             named,
-            directory,
+            guide,
             volume,
             dbd,
             number,
@@ -287,5 +288,10 @@ pub fn are_linked<S: BlockStore>(
     if !note_scattered(&mut notes, &mut named, places, volume, dbd)? {
         return Ok(false);
     }
-    walk_volume(alloc, places, &notes, &named, directory, volume, dbd)
+    let twins = twin_numbers(alloc, &notes, places, directory)?;
+    let guide = Guide {
+        directory,
+        twins: &twins,
+    };
+    walk_volume(alloc, places, &notes, &named, guide, volume, dbd)
 }
