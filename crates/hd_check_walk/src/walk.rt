@@ -122,8 +122,8 @@ fn walk_children<S: BlockStore>(
     let mut index: usize = 0;
     for child in dbd.children_of(place.code) {
         if !walk_type(
-            holders, waiting, last, places, notes, named, guide, volume, dbd, number, place,
-            index, *child,
+            holders, waiting, last, places, notes, named, guide, volume, dbd, number, place, index,
+            *child,
         )? {
             return Ok(false);
         }

@@ -6,6 +6,8 @@ mod cache_tests;
 #[cfg(test)]
 mod check_tests;
 #[cfg(test)]
+mod directory_tests;
+#[cfg(test)]
 mod heights_tests;
 #[cfg(test)]
 mod judged;
