@@ -14,7 +14,8 @@ use Rattle.hd_links.proofs.Counts.{segment_code}
 use Rattle.hd_links.proofs.Types.{Ordered, types_ascend, is_in, in_head, in_tail, above_some}
 use Rattle.hd_links.proofs.Build.{zero_or}
 use Rattle.hd_links.proofs.Ways.{some_zero, some_own, some_both, behind_end, later_in}
-use Rattle.hd_forest.specs.Walks.{tip, parent_on, AreSegments, moved, next_on}
+use Rattle.hd_forest.specs.declared.walk.Ahead.{Ahead}
+use Rattle.hd_forest.specs.Walks.{tip, parent_on, AreSegments, IsAhead, moved, next_on}
 use Rattle.hd_forest.specs.Children.{child_behind}
 
 -- ---- what stands beside a row
@@ -218,6 +219,14 @@ level-below types m bound O leveled G typed a below there is some =
     let parent : parent_of types (m.code below) ≡ Some (m.code a) =
     O.parent (m.code a) (segment_at m below) fits (ap (is_child_type types (m.code a)) code ∙ c.1) ∙ above_some (m.code a) (segment_code types O bound m G a there) in
     leveled.law (segment_at m below) fits ∙ ap (λ (o : Option ℕ). depth_below types o + 1) parent
+
+-- a segment that names no row ahead of it names none
+pub nothing-ahead : (types : List SegmentType) (m : Links) (a : ℕ) (ahead : Ahead) → IsAhead types m a ahead → ahead.below ≡ 0 → ahead.twin ≡ 0 → IsAhead types m a (record { below = 0; twin = 0; code = ahead.code })
+nothing-ahead types m a ahead is below twin = record {
+  below = sym below ∙ is.below;
+  twin = λ _. sym twin ∙ is.twin below;
+  code = is.code;
+}
 
 module _ (types : List SegmentType) (m : Links) (path : List ℕ) (last below : ℕ) (at : last ≡ tip path) (is : below ≡ child_among m last (child_types types (m.code last))) where
   -- what was found below the last of a path

@@ -9,7 +9,9 @@ use Rattle.hd_dbd.specs.Prefixes.{prefix_length}
 use Rattle.hd_volume.specs.Volumes.{VolumeState}
 use Rattle.hd_volume.specs.Records.{find}
 use Rattle.hd_volume.specs.Calls.{IsRead}
-use Rattle.hd_prefix.specs.Fields.{code_of, length_of, IsWhole}
+use Rattle.hd_prefix.specs.declared.pointer.Pointer.TheVariants.{TwinForward}
+use Rattle.hd_prefix.specs.Fields.{code_of, length_of, pointer_of, twin_forward_of, IsWhole}
+use Rattle.hd_prefix.proofs.Places.{forward_kept}
 use Rattle.hd_links.specs.Links.{Links, IsSegment}
 use Rattle.hd_links.specs.Placed.{Holds}
 use Rattle.hd_image.specs.Records.{links_of, IsVolumeOf, stored_at}
@@ -52,6 +54,8 @@ pub record IsLent (types : List SegmentType) (v : VolumeState) (a : ℕ) (s : Li
   pub stored : stored_at v a ≡ s
   pub prefix : prefix_length types (code_of s) ≤ length s
   pub whole : IsWhole types (code_of s) s
+  pub own : SegmentType
+  pub typed : type_of types (code_of s) ≡ Some own
   pub least : (t : SegmentType) → type_of types (code_of s) ≡ Some t → least_length t ≤ length_of types (code_of s) s
 
 -- two that are there and equal are one
@@ -77,8 +81,16 @@ lent d v a s fit of there is =
       stored = stored-found d v a h ∙ same;
       prefix = omega (arith, whole);
       whole = whole;
+      own = h.own;
+      typed = typed;
       least = λ t is. subst (λ u. least_length u ≤ length_of d.types (code_of s) s) (some-eq h.own t (sym typed ∙ is)) least;
     }
+
+-- whose twin forward is that of the records
+pub forward-lent : (types : List SegmentType) (v : VolumeState) (a : ℕ) (s : List ℕ) → IsLent types v a s → (twin : ℕ) → (6 ≤ length s → twin ≡ twin_forward_of s) → twin ≡ (links_of types v).forward a
+forward-lent types v a s l twin is =
+    let kept = forward_kept types (code_of s) l.own s l.typed in
+    is (omega (arith, kept.0, l.prefix)) ∙ sym kept.1 ∙ ap (λ x. pointer_of types (code_of x) TwinForward x) (sym l.stored)
 
 -- a store that is sound after a call that read was so before
 pub sound-before : {A : Type 0} {x : A} (u v : VolumeState) → IsRead {T = A} u (Ok x) v → IsTrue v.is_sound → IsTrue u.is_sound

@@ -2,7 +2,7 @@ ghost use Rattle.std.specs.Prelude.{◌≡◌, ◌<◌, ◌≤◌, true, length,
 ghost use Rattle.hd_dbd.specs.Prefixes.{prefix_length};
 ghost use Rattle.hd_dbd.specs.Refusals.{OnlyDevice};
 ghost use Rattle.hd_volume.specs.Calls.{IsRead};
-ghost use Rattle.hd_prefix.specs.Fields.{code_of, pointer_of};
+ghost use Rattle.hd_prefix.specs.Fields.{code_of, pointer_of, twin_forward_of};
 ghost use Rattle.hd_links.specs.Links.{IsSegment, is_child_type};
 ghost use Rattle.hd_links.specs.Steps.{LeadsDown};
 ghost use Rattle.hd_links.specs.Changes.{CanUnlink};
@@ -12,7 +12,7 @@ ghost use Rattle.hd_forest.specs.Twins.{IsTwinWithin, IsBehind};
 
 use crate::path::Path;
 use hd_dbd::{Dbd, Refused};
-use hd_prefix::{Layout, Pointer};
+use hd_prefix::{Layout, Pointer, twin_forward_of};
 use hd_volume::{BlockStore, Volume};
 
 /// The code of a lent segment, 0 for no bytes.
@@ -31,6 +31,16 @@ pub fn pointer_in(dbd: &Dbd, segment: &[u8], pointer: Pointer) -> u32
         return 0;
     }
     layout.read(segment, pointer)
+}
+
+/// The address in twin forward of a lent segment, 0 where it is too short to have one.
+pub fn twin_in(segment: &[u8]) -> u32
+    ensures { 6 ≤ length segment.now → result ≡ twin_forward_of segment.now }
+{
+    if segment.len() < 6 {
+        return 0;
+    }
+    twin_forward_of(segment)
 }
 
 /// The address in a pointer of the segment at an address, 0 for none and where it is not kept.

@@ -9,9 +9,8 @@ use hd_prefix::Layout;
 pub fn bytes_in<'a>(dbd: &Dbd, segment: &'a [u8]) -> &'a [u8]
     ensures { IsWhole dbd.now.types (code_of segment.now) segment.now → result.now ≡ bytes_of dbd.now.types (code_of segment.now) segment.now }
 {
-    let layout = Layout::of(dbd, code_in(segment));
-    if !layout.is_whole(segment) {
-        return &[];
+    match Layout::of(dbd, code_in(segment)).own_bytes(segment) {
+        Some(bytes) => bytes,
+        None => &[],
     }
-    layout.bytes(segment)
 }

@@ -1,5 +1,6 @@
-ghost use Rattle.std.specs.Prelude.{◌≡◌, ◌<◌, true, IsTrue, IfOk, IfErr, OnOk};
+ghost use Rattle.std.specs.Prelude.{◌≡◌, ◌<◌, true, IsTrue, IsFalse, IfOk, IfErr, OnOk};
 ghost use Rattle.hd_dbd.specs.Refusals.{OnlyDevice};
+ghost use Rattle.hd_volume.specs.Volumes.{VolumeState};
 ghost use Rattle.hd_volume.specs.Calls.{IsRead};
 ghost use Rattle.hd_links.specs.Links.{IsSegment};
 ghost use Rattle.hd_links.specs.Steps.{behind_span};
@@ -9,9 +10,8 @@ ghost use Rattle.hd_forest.specs.Children.{beside};
 
 use crate::children::{below_later, child_in};
 use crate::path::Path;
-use crate::read::{code_at, code_in, last_of, parent_on, pointer_in, tip_of};
+use crate::read::{code_at, code_in, last_of, parent_on, tip_of, twin_in};
 use hd_dbd::{Dbd, Refused};
-use hd_prefix::Pointer;
 use hd_volume::{BlockStore, Volume};
 
 /// What a segment names ahead of it in hierarchic sequence: the first row below it, 0 for none; its next twin, 0 for none, which says
@@ -43,7 +43,10 @@ pub fn next_row<S: BlockStore>(
         return step(volume, dbd, path, root);
     }
     let ahead = look_ahead(volume, dbd, last)?;
-    go_on(volume, dbd, path, ahead)
+    if step_ahead(dbd, path, ahead) {
+        return Ok(());
+    }
+    step_behind(volume, dbd, path, ahead.code)
 }
 
 /// Goes from the last row of a path, which names this ahead of it, to the row behind it; behind the last row is none.
@@ -63,16 +66,50 @@ pub fn go_on<S: BlockStore>(
     ensures kept { IfErr result (λ _. path.new ≡ path.old) }
     ensures refusal { OnlyDevice result }
 {
+    if step_ahead(dbd, path, ahead) {
+        return Ok(());
+    }
+    step_behind(volume, dbd, path, ahead.code)
+}
+
+/// Goes from the last row of a path, which names this ahead of it, to the first row below it or else to its next twin, and says
+/// whether there is one.
+fn step_ahead(dbd: &Dbd, path: &mut Path, ahead: Ahead) -> bool
+    ensures next { IsTrue result → (v : VolumeState) → IsVolumeOf dbd.now v → HasForest dbd.now v → AreSegments (links_of dbd.now.types v) path.old → 0 < tip path.old
+        → IsAhead dbd.now.types (links_of dbd.now.types v) (tip path.old) ahead → path.new ≡ next_on dbd.now.types (links_of dbd.now.types v) path.old }
+    ensures none { IsFalse result → (path.new ≡ path.old) × (ahead.below ≡ 0) × (ahead.twin ≡ 0) }
+{
     let level = dbd.level(ahead.code);
     if ahead.below != 0 {
         path.step_below(level, ahead.below);
-        return Ok(());
+        return true;
     }
     if ahead.twin != 0 {
         path.step(level, ahead.twin);
-        return Ok(());
+        return true;
     }
-    let address = behind_twins(volume, dbd, path, ahead.code)?;
+    false
+}
+
+/// Goes from the last row of a path, which is of this type and has no row below it and no next twin, to the row behind it; behind the
+/// last row is none.
+fn step_behind<S: BlockStore>(
+    volume: &mut Volume<S>,
+    dbd: &Dbd,
+    path: &mut Path,
+    code: u8,
+) -> Result<(), Refused>
+    requires of { IsTrue volume.old.is_sound → IsVolumeOf dbd.now volume.old }
+    requires holds { IsTrue volume.old.is_sound → HasForest dbd.now volume.old }
+    requires there { IsTrue volume.old.is_sound → AreSegments (links_of dbd.now.types volume.old) path.old }
+    requires some { 0 < tip path.old }
+    requires last { IsTrue volume.old.is_sound → IsAhead dbd.now.types (links_of dbd.now.types volume.old) (tip path.old) (record { below = 0; twin = 0; code = code }) }
+    ensures read { IsRead volume.old result volume.new }
+    ensures value { OnOk result (IsTrue volume.old.is_sound → path.new ≡ next_on dbd.now.types (links_of dbd.now.types volume.old) path.old) }
+    ensures kept { IfErr result (λ _. path.new ≡ path.old) }
+    ensures refusal { OnlyDevice result }
+{
+    let address = behind_twins(volume, dbd, path, code)?;
     step(volume, dbd, path, address)
 }
 
@@ -138,16 +175,11 @@ pub fn ahead_of(dbd: &Dbd, segment: &[u8]) -> Ahead
     ensures { OfFound dbd.now segment.now (λ m a. IsAhead dbd.now.types m a result) }
 {
     let code = code_in(segment);
-    let below = child_in(dbd, segment, dbd.children_of(code));
-    if below != 0 {
-        return Ahead {
-            below,
-            twin: 0,
-            code,
-        };
+    Ahead {
+        below: child_in(dbd, segment, dbd.children_of(code)),
+        twin: twin_in(segment),
+        code,
     }
-    let twin = pointer_in(dbd, segment, Pointer::TwinForward);
-    Ahead { below, twin, code }
 }
 
 /// The address of the row behind the span of the last row of a path, which is of this type and has no next twin, 0 for none: the
@@ -240,6 +272,5 @@ fn twin_and_code<S: BlockStore>(
     ensures refusal { OnlyDevice result }
 {
     let segment = volume.segment_at(address)?;
-    let twin = pointer_in(dbd, segment, Pointer::TwinForward);
-    Ok((twin, code_in(segment)))
+    Ok((twin_in(segment), code_in(segment)))
 }

@@ -124,6 +124,7 @@ impl<W: Write> Pieces<W> {
     fn write_behind(&mut self, bytes: &[u8]) -> io::Result<()>
         ensures bytes { OnOk result (Appends (contents_with W.contents self.old) (contents_with W.contents self.new) bytes.now) }
         ensures front { OnErr result (AppendsFront (contents_with W.contents self.old) (contents_with W.contents self.new) bytes.now) }
+        ensures gathered { OnOk result (length bytes.now ≤ 65536 → (self.new.bytes ≡ bytes.now) × (self.new.left ≡ 65536 - length bytes.now)) }
     {
         self.hand_on()?;
         if self.gathers(bytes) {
@@ -156,7 +157,7 @@ impl<W: Write> Write for Pieces<W> {
         ensures bytes { Keeps (contents_with W.contents self.old) (contents_with W.contents self.new) }
         ensures all { OnOk result ((self.new.bytes ≡ []) × (self.new.left ≡ 65536)) }
     {
-        self.hand_on()?;
+        self.write_behind(&[])?;
         self.inner.flush()
     }
 

@@ -14,6 +14,8 @@ use Rattle.hd_dbd.proofs.TypeLengths.{prefix-low}
 use Rattle.hd_prefix.specs.declared.pointer.Pointer.{Pointer}
 use Rattle.hd_prefix.specs.declared.pointer.Pointer.TheVariants.{TwinForward, TwinBackward, FirstChild, LastChild}
 use Rattle.hd_prefix.specs.Pointers.{is_child, place_of, IsApart}
+use Rattle.hd_prefix.specs.Fields.{pointer_of, twin_forward_of}
+use Rattle.hd_bytes.specs.Numbers.{number_at}
 use Rattle.hd_dbd.specs.Prefixes.{is_backward_kept, is_last_kept}
 use Rattle.hd_prefix.proofs.Children.{IsChild, child_is, prefix_is, child_before, child_inside}
 
@@ -226,3 +228,14 @@ pointers_low block_size frspc types c t fit child =
   where
     sums : (p y q : ℕ) → p + y ≤ q → 4 ≤ y → q ≤ 65535 → p + 4 ≤ 65535
     sums p y q e f g = omega arith
+
+-- the segments of a type have twin forward in their prefix, behind the delete byte
+pub forward_kept : (types : List SegmentType) (c : ℕ) (own : SegmentType) (segment : List ℕ) → type_of types c ≡ Some own
+    → (6 ≤ prefix_length types c) × (pointer_of types c TwinForward segment ≡ twin_forward_of segment)
+forward_kept types c own segment is = (
+  bound _ _ _ (prefix_is types c own is) (twins_some c own),
+  ap (λ (o : Option SegmentType). option_map_or (λ place. number_at 4 segment place) (option_map (λ _. 2) o) 0) is,
+)
+  where
+    bound : (l m n : ℕ) → l ≡ m + n → 6 ≤ m → 6 ≤ l
+    bound l m n e f = omega arith

@@ -17,6 +17,10 @@ code_of segment = slice_index segment 0
 abbrev pub delete_byte_of : List ℕ → ℕ
 delete_byte_of segment = slice_index segment 1
 
+-- twin forward is the number in the four bytes behind it, in the segments of every type
+abbrev pub twin_forward_of : List ℕ → ℕ
+twin_forward_of segment = number_at 4 segment 2
+
 -- a pointer is the number in the four bytes at its place; 0 where it is not kept
 abbrev pub pointer_of : List SegmentType → ℕ → Pointer → List ℕ → ℕ
 pointer_of types c pointer segment = option_map_or (λ place. number_at 4 segment place) (place_of types c pointer) 0

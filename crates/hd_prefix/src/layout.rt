@@ -1,4 +1,4 @@
-ghost use Rattle.std.specs.Prelude.{◌≡◌, ◌≢◌, ◌+◌, ◌≤◌, length, true, IfSome, OnSome, MatchOption, IsTrue, IsFalse};
+ghost use Rattle.std.specs.Prelude.{◌≡◌, ◌≢◌, ◌+◌, ◌≤◌, length, true, IfSome, OnSome, MatchOption, None, IsTrue, IsFalse};
 ghost use Rattle.hd_bytes.specs.Ranges.{ChangesOnly};
 ghost use Rattle.hd_dbd.specs.Prefixes.{prefix_length, size_with};
 ghost use Rattle.hd_dbd.specs.Rows.{row_fits};
@@ -47,6 +47,15 @@ impl<'a> Layout<'a> {
             Some(behind) => self.dbd.length_in(self.code, behind) <= behind.len(),
             None => false,
         }
+    }
+
+    /// The own bytes of a stored segment that has its prefix and all of these; `None` where it is shorter.
+    pub fn own_bytes<'s>(&self, segment: &'s [u8]) -> Option<&'s [u8]>
+        ensures whole { IfSome result (λ bytes. IsWhole (types_of self.now) (type_code self.now) segment.now × (bytes.now ≡ bytes_of (types_of self.now) (type_code self.now) segment.now)) }
+        ensures short { result ≡ None → IsWhole (types_of self.now) (type_code self.now) segment.now → ⊥ }
+    {
+        let behind = segment.get(self.prefix_length() as usize..)?;
+        behind.get(..self.dbd.length_in(self.code, behind))
     }
 
     /// Where a pointer stands in the prefix; `None` where the type does not keep it, or has no such child type. No two

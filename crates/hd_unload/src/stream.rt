@@ -59,11 +59,10 @@ fn put_record<W: Write>(dbd: &Dbd, segment: &[u8], out: &mut W) -> Result<(), St
 {
     let _ = dbd.types();
     let code = segment.first().copied().unwrap_or(0);
-    let layout = Layout::of(dbd, code);
-    if !layout.is_whole(segment) {
-        return Ok(());
+    match Layout::of(dbd, code).own_bytes(segment) {
+        Some(bytes) => put_row(out, code, bytes),
+        None => Ok(()),
     }
-    put_row(out, code, layout.bytes(segment))
 }
 
 /// Writes the record of the segment at an address, and answers what it names ahead of it. One segment is read.
