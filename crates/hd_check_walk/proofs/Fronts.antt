@@ -1,5 +1,5 @@
 -- The fronts of keys, which tell their order where they differ.
-use Rattle.std.proofs.Common.{◌≡◌, ℕ, zero, suc, ◌<◌, ◌≤◌, List, [], ◌∷◌, ◌++◌, length, take, drop, Bool, true, false, cond, Option, Some, None, refl, sym, ap, ◌∙◌, arith}
+use Rattle.std.proofs.Common.{◌≡◌, ℕ, zero, suc, ◌-◌, ◌<◌, ◌≤◌, List, [], ◌∷◌, ◌++◌, length, take, drop, Bool, true, false, cond, Option, Some, None, refl, sym, ap, ◌∙◌, arith}
 use Rattle.std.specs.Prelude.{replicate, ◌==◌, nat_lt}
 use Rattle.std.specs.Option.{option_map_or}
 use Rattle.std.specs.Ordering.{nat_cmp, is_lt, is_le, ordering_then}
@@ -54,6 +54,19 @@ copied-padded (suc n) (suc k) (x ∷ xs) low within all =
 -- a key that is copied over eight zeros makes its front
 pub copied-front : (k : ℕ) (key : List ℕ) → k ≤ 8 → k ≤ length key → (k < 8 → length key ≤ k) → take k key ++ drop k (replicate 8 0) ≡ key_front key
 copied-front k key low within all = copied-padded 8 k key low within all ∙ padded-is 8 8 key (omega arith)
+
+-- and so do its first four and its last four
+pub halves-front : (key one two : List ℕ) → 4 ≤ length key → length key < 8 → one ≡ take 4 key → two ≡ take (length key - (length key - 4)) (drop (length key - 4) key)
+    → take (length key - 4) (one ++ replicate 4 0) ++ (two ++ drop (length key - (length key - 4)) (drop (length key - 4) (one ++ replicate 4 0))) ≡ key_front key
+halves-front [] one two low high is last = absurd (omega arith)
+halves-front (a ∷ []) one two low high is last = absurd (omega arith)
+halves-front (a ∷ b ∷ []) one two low high is last = absurd (omega arith)
+halves-front (a ∷ b ∷ c ∷ []) one two low high is last = absurd (omega arith)
+halves-front (a ∷ b ∷ c ∷ d ∷ []) one two low high is last = rw (is, last) refl
+halves-front (a ∷ b ∷ c ∷ d ∷ e ∷ []) one two low high is last = rw (is, last) refl
+halves-front (a ∷ b ∷ c ∷ d ∷ e ∷ f ∷ []) one two low high is last = rw (is, last) refl
+halves-front (a ∷ b ∷ c ∷ d ∷ e ∷ f ∷ g ∷ []) one two low high is last = rw (is, last) refl
+halves-front (a ∷ b ∷ c ∷ d ∷ e ∷ f ∷ g ∷ h ∷ rest) one two low high is last = absurd (omega arith)
 
 -- where the first elements do not decide, the rest does
 then-less : (o a b : Ordering) → (a ≡ Less → b ≡ Less) → ordering_then o a ≡ Less → ordering_then o b ≡ Less

@@ -27,11 +27,15 @@ fn key_front(key: &[u8]) -> [u8; FRONT]
     ensures { result ≡ key_front key.now }
 {
     let mut front = [0; FRONT];
-    if key.len() >= FRONT {
+    let length = key.len();
+    if length >= FRONT {
         front.copy_from_slice(&key[..FRONT]);
-        return front;
+    } else if length >= 4 {
+        front[..4].copy_from_slice(&key[..4]);
+        front[length - 4..length].copy_from_slice(&key[length - 4..]);
+    } else {
+        front[..length].copy_from_slice(key);
     }
-    front[..key.len()].copy_from_slice(key);
     front
 }
 

@@ -195,7 +195,7 @@ fn walk_volume<S: BlockStore>(
     places: &[Place],
     notes: &[Note],
     named: &[Named],
-    guide: Guide,
+    directory: &Directory,
     volume: &mut Volume<S>,
     dbd: &Dbd,
 ) -> Result<bool, Refused>
@@ -207,6 +207,11 @@ fn walk_volume<S: BlockStore>(
     ensures linked { IfOk result (λ b. IsTrue volume.old.is_sound → b ≡ true → AreLinked dbd.now.types (links_of dbd.now.types volume.old)) }
     ensures refusal { OnlyDeviceOrMemory result }
 {
+    let twins = twin_numbers(alloc, notes, places, directory)?;
+    let guide = Guide {
+        directory,
+        twins: &twins,
+    };
     let mut holders = unheld(alloc, places.len())?;
     let mut waiting: Vec<usize> = Vec::new(alloc);
     let mut last = no_key();
@@ -288,10 +293,5 @@ pub fn are_linked<S: BlockStore>(
     if !note_scattered(&mut notes, &mut named, places, volume, dbd)? {
         return Ok(false);
     }
-    let twins = twin_numbers(alloc, &notes, places, directory)?;
-    let guide = Guide {
-        directory,
-        twins: &twins,
-    };
-    walk_volume(alloc, places, &notes, &named, guide, volume, dbd)
+    walk_volume(alloc, places, &notes, &named, directory, volume, dbd)
 }

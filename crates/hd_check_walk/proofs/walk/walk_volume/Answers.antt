@@ -50,7 +50,7 @@ returns-in_default-clause-linked g c = λ sound all.
     let ps : List Place = c.args.places.now in
     let i = c.loop-turn.invariant in
     let hs : List ℕ = c.loop-turn.holders.items in
-    let held = subst (λ (xs : List ℕ). (k : ℕ) → k < length xs → slice_index xs k ≢ nobody) c.deref.ensures.value (c.all_held.ensures all) in
+    let held = subst (λ (xs : List ℕ). (k : ℕ) → k < length xs → slice_index xs k ≢ nobody) c.deref-in_default.ensures.value (c.all_held.ensures all) in
     let empty : c.loop-turn.waiting.items ≡ [] = nil_from_length c.loop-turn.waiting.items (sym c.loop-turn.waiting.ok.0 ∙ c.in_default.ensures.cases.0) in
     walked-linked d v ps hs (c.requires.of sound) (c.requires.places sound) i.as_many held (i.roots sound)
     (subst (λ (ws : List ℕ). IsWalkedSoFar d.types (links_of d.types v) ps 0 (length ps) ws hs) empty (i.walked sound))
