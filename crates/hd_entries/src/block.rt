@@ -2,7 +2,7 @@ ghost use Rattle.std.specs.Prelude.{◌≡◌, ◌+◌, ◌≤◌, ◌<◌, leng
 ghost use Rattle.hd_bytes.specs.Numbers.{number_at};
 ghost use Rattle.hd_bytes.specs.Ranges.{bytes_at};
 ghost use Rattle.hd_volume.specs.Entries.{entries_in};
-ghost use Rattle.hd_volume.specs.Indexes.{entry_room, key_less};
+ghost use Rattle.hd_volume.specs.Indexes.{entry_room};
 ghost use Rattle.hd_entries.specs.Fields.{entry_place, entry_count, below_count};
 
 use crate::format::{COUNT, LEVEL, NEXT, entry_place, entry_room};
@@ -88,14 +88,6 @@ impl<'b> IndexBlock<'b> {
         read_u32(self.bytes, self.place(index) + self.key_length)
     }
 
-    /// The order of the key of an entry, and another key.
-    fn compare(&self, index: usize, key: &[u8]) -> Ordering
-        requires { index < entry_count self.now.key_length self.now.bytes.now }
-        ensures { result ≡ slice_cmp nat_cmp (bytes_at self.now.bytes.now (entry_place self.now.key_length index) self.now.key_length) key.now }
-    {
-        compare_keys(self.key(index), key)
-    }
-
     /// How many of its first entries are below a key. The last two are looked at first: new keys often come behind all others, and the way to
     /// them goes by the last.
     pub fn place_of(&self, key: &[u8]) -> usize
@@ -107,7 +99,7 @@ impl<'b> IndexBlock<'b> {
         let mut high = count;
         while low < high {
             let middle = middle_of(low, high, count);
-            match self.compare(middle, key) {
+            match compare_keys(self.key(middle), key) {
                 Ordering::Less => low = middle + 1,
                 Ordering::Equal => return middle,
                 Ordering::Greater => high = middle,
