@@ -1,5 +1,5 @@
 -- The block of the sequence set in which a key stands is the one that it leads to, and where that has room no block is needed.
-use Rattle.std.proofs.Common.{◌≡◌, ◌≢◌, ◌⊎◌, inl, inr, ℕ, zero, suc, ◌+◌, ◌-◌, ◌<◌, ◌≤◌, Bool, true, false, cond, List, [], ◌∷◌, ◌++◌, refl, sym, ap, ◌∙◌, subst, arith, ne_eqb}
+use Rattle.std.proofs.Common.{◌≡◌, ◌≢◌, ◌⊎◌, inl, inr, ℕ, zero, suc, ◌+◌, ◌-◌, Bool, true, false, cond, List, [], ◌∷◌, ◌++◌, refl, sym, ap, ◌∙◌, subst, arith, ne_eqb}
 use Rattle.std.specs.Prelude.{◌==◌}
 use Rattle.std.proofs.lemmas.Bool.{eq-eqb}
 use Rattle.std.proofs.lemmas.List.{append_assoc}
@@ -11,7 +11,7 @@ use Rattle.hd_volume.specs.Indexes.{IsAmong, entry_room, key_less, is_below_firs
 use Rattle.hd_levels.specs.Maps.{greatest_below, last_key}
 use Rattle.hd_levels.specs.Levels.{IndexBlocks, across, sequence_set, AreBelow, IsIndexSet}
 use Rattle.hd_levels.specs.Ways.{child_of, leaf_of, IsAround}
-use Rattle.hd_levels.specs.IndexSets.{index_blocks, top_level, top_blocks, index_entries, HasIndexSet}
+use Rattle.hd_levels.specs.IndexSets.{index_blocks, top_level, top_blocks, HasIndexSet}
 use Rattle.hd_levels.specs.Needs.{is_full, full_blocks, needed_by}
 use Rattle.hd_levels.specs.VolumeLaws.{IsRightBlock}
 use Rattle.hd_levels.proofs.Keys.{less-self, below-parts, first-behind}
