@@ -2,6 +2,10 @@
 use Rattle.std.proofs.Common.{◌≡◌, inl, inr, ℕ, zero, suc, ◌+◌, ◌*◌, ◌<◌, ◌≤◌, true, false, List, [], ◌∷◌, length, slice_index, Some, refl, sym, ap, subst, ◌∙◌, arith}
 use Rattle.std.specs.Prelude.{slice_get}
 use Rattle.std.proofs.lemmas.Bool.{and_parts, cases_Bool, cases_lt}
+use Rattle.std.proofs.lemmas.Map.Lookups.{exact_bytes}
+use Rattle.std.specs.Ordering.{nat_cmp, is_lt}
+use Rattle.std.specs.Cmp.Lexicographic.{slice_cmp}
+use Rattle.std.specs.declared.cmp.Ordering.TheVariants.{Equal}
 use Rattle.hd_bytes.specs.Numbers.{number_at}
 use Rattle.hd_bytes.specs.Ranges.{bytes_at}
 use Rattle.hd_volume.specs.Entries.{Entry, entries_at}
@@ -73,6 +77,12 @@ above-through k b key p n m j a here l low = elim (cases_lt m j) [
   | inl under ↦ not-below (bytes_at b (p + m * (k + 4)) k) (bytes_at b (p + j * (k + 4)) k) key (ascend-at k b p n m j a under low) here
   | inr over ↦ (let e : j ≡ m = omega arith in ap (λ (i : ℕ). key_less (bytes_at b (p + i * (k + 4)) k) key) e ∙ here)
 ]
+
+-- before an entry of a key are the entries below it
+pub equal-at : (k : ℕ) (b key : List ℕ) (p n m : ℕ) → keys_ascend (entries_at k b p n) ≡ true → m < n → slice_cmp nat_cmp (bytes_at b (p + m * (k + 4)) k) key ≡ Equal → below_count key (entries_at k b p n) ≡ m
+equal-at k b key p n m a low here =
+    let is : bytes_at b (p + m * (k + 4)) k ≡ key = exact_bytes (bytes_at b (p + m * (k + 4)) k) key here in
+    below-at k b key p n m (omega arith) (λ j l. subst (λ (z : List ℕ). key_less (bytes_at b (p + j * (k + 4)) k) z ≡ true) is (ascend-at k b p n j m a l low)) (λ l. ap is_lt here)
 
 -- the entry at a place of a block
 abbrev pub entry_of : ℕ → List ℕ → ℕ → Entry

@@ -2,12 +2,13 @@ ghost use Rattle.std.specs.Prelude.{◌≡◌, ◌+◌, ◌≤◌, ◌<◌, leng
 ghost use Rattle.hd_bytes.specs.Numbers.{number_at};
 ghost use Rattle.hd_bytes.specs.Ranges.{bytes_at};
 ghost use Rattle.hd_volume.specs.Entries.{entries_in};
-ghost use Rattle.hd_volume.specs.Indexes.{entry_room, key_less};
+ghost use Rattle.hd_volume.specs.Indexes.{entry_room};
 ghost use Rattle.hd_entries.specs.Fields.{entry_place, entry_count, below_count};
 
 use crate::format::{COUNT, LEVEL, NEXT, entry_place, entry_room};
 use hd_bytes::{read_u16, read_u32};
 use hd_dbd::compare_keys;
+use std::cmp::Ordering;
 
 /// An index block whose entries have keys of so many bytes: a view over its bytes, whatever they are.
 #[derive(Clone, Copy)]
@@ -87,14 +88,6 @@ impl<'b> IndexBlock<'b> {
         read_u32(self.bytes, self.place(index) + self.key_length)
     }
 
-    /// Whether the key of an entry is below another.
-    fn is_below(&self, index: usize, key: &[u8]) -> bool
-        requires { index < entry_count self.now.key_length self.now.bytes.now }
-        ensures { result ≡ key_less (bytes_at self.now.bytes.now (entry_place self.now.key_length index) self.now.key_length) key.now }
-    {
-        compare_keys(self.key(index), key).is_lt()
-    }
-
     /// How many of its first entries are below a key. The last two are looked at first: new keys often come behind all others, and the way to
     /// them goes by the last.
     pub fn place_of(&self, key: &[u8]) -> usize
@@ -106,10 +99,10 @@ impl<'b> IndexBlock<'b> {
         let mut high = count;
         while low < high {
             let middle = middle_of(low, high, count);
-            if self.is_below(middle, key) {
-                low = middle + 1;
-            } else {
-                high = middle;
+            match compare_keys(self.key(middle), key) {
+                Ordering::Less => low = middle + 1,
+                Ordering::Equal => return middle,
+                Ordering::Greater => high = middle,
             }
         }
         low

@@ -31,8 +31,9 @@ struct Cost {
 ///
 /// A search reads one block of each level, and `next_from` at most one more.
 ///
-/// An insert that takes no block goes down three times. The first time it looks for the greatest key below the new one, and reads of a level
-/// the block and perhaps its left neighbour; then it reads each block for its count; then it reads and writes each: five accesses a level.
+/// An insert that takes no block goes down at most three times. The first time it looks for the greatest key below the new one, and reads of a
+/// level the block and perhaps its left neighbour; then, where it came to a block without room or without that key, it reads each block for its
+/// count; then it reads and writes each: five accesses a level.
 /// One that takes blocks goes down once more, to see whether the key is above all others; that makes six. For each block it goes down
 /// twice, and makes ten accesses besides: it adds the block and reads it, copies entries to it by three for each 1,024 bytes, and
 /// reads and writes the block that is divided and the one above. These are not more than six a level, save in an index of two

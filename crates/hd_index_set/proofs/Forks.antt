@@ -5,7 +5,7 @@ use Rattle.std.proofs.lemmas.Bool.{ltb-true, ltb-false}
 use Rattle.hd_volume.specs.Headers.{header_of}
 use Rattle.hd_volume.specs.Volumes.{VolumeState, block_at}
 use Rattle.hd_volume.specs.Entries.{Entry, entries_in}
-use Rattle.hd_levels.specs.Levels.{IndexBlocks, named, entries_below}
+use Rattle.hd_levels.specs.Levels.{IndexBlocks, named, sequence_set, entries_below}
 use Rattle.hd_levels.specs.Ways.{child_of}
 use Rattle.hd_levels.specs.Neighbours.{last_of, last_child}
 use Rattle.hd_levels.specs.IndexSets.{next_in, index_blocks, top_level, HasIndexSet}
@@ -30,6 +30,7 @@ on-stand k v key l stand x s =
       around = s.around;
       left_is = s.left_is;
       whole = s.whole ∙ ap (entries_below (index_blocks k v) (top_level v)) (sym (top-is v s.some)) ∙ sym ((entries-below k v).1 x.version);
+      all = s.all ∙ ap (sequence_set (index_blocks k v) (top_level v)) (sym (top-is v s.some));
     }
 
 pub on-order : (k : ℕ) (v : VolumeState) (key : List ℕ) (l : ℕ) (stand : Stand) → HasIndexSet k v → IsOnWayIn k v key l stand → IsInOrder k v stand.block

@@ -3,6 +3,7 @@ pub mod Steps
 pub mod Searching
 pub mod Fronts
 pub mod Standing
+pub mod Leaves
 pub mod Filling
 pub mod WaysUp
 pub mod Cuts

@@ -1,16 +1,16 @@
 -- A walk down an index set beside the left neighbour.
-use Rattle.std.proofs.Common.{◌≡◌, ◌≢◌, ◌⊎◌, inl, inr, ℕ, suc, ◌<◌, cond, List, [], ◌∷◌, ◌++◌, Some, None, refl, sym, ap, ◌∙◌, subst, ne_eqb}
+use Rattle.std.proofs.Common.{◌≡◌, ◌≢◌, ◌⊎◌, inl, inr, ℕ, suc, ◌-◌, ◌<◌, cond, List, [], ◌∷◌, ◌++◌, Some, None, refl, sym, ap, ◌∙◌, subst, ne_eqb}
 use Rattle.std.specs.Prelude.{◌==◌}
 use Rattle.std.proofs.lemmas.Bool.{eq-eqb}
-use Rattle.hd_volume.specs.Headers.{header_of}
+use Rattle.hd_volume.specs.Headers.{Header, header_of}
 use Rattle.hd_volume.specs.Volumes.{VolumeState, block_at}
 use Rattle.hd_volume.specs.Entries.{Entry, entries_in}
 use Rattle.hd_volume.specs.Indexes.{IsAmong}
 use Rattle.hd_levels.specs.Maps.{greatest_below, last_key}
-use Rattle.hd_levels.specs.Levels.{IndexBlocks, across, named, entries_below, AreOnLevel, IsIndexSet}
+use Rattle.hd_levels.specs.Levels.{IndexBlocks, across, named, sequence_set, entries_below, AreOnLevel, IsIndexSet}
 use Rattle.hd_levels.specs.Ways.{child_of, IsAround, IsNamed}
 use Rattle.hd_levels.specs.Neighbours.{last_of, last_child}
-use Rattle.hd_levels.specs.IndexSets.{index_blocks, top_level, index_entries, HasIndexSet}
+use Rattle.hd_levels.specs.IndexSets.{index_blocks, top_level, top_blocks, index_entries, HasIndexSet}
 use Rattle.hd_levels.proofs.Levels.{on-parts, set-level, named-append}
 use Rattle.hd_levels.proofs.Descents.{around-down, names-about, top-around}
 use Rattle.hd_levels.proofs.Downs.{among-left, among-right, of-level}
@@ -95,6 +95,9 @@ stand-down k v key l stand below s block left =
       whole =
           ap (λ (i : ℕ). entries_below c l (named (across c s.before ++ front) ++ (i ∷ named (f.back ++ across c s.behind)))) is
           ∙ ap (entries_below c l) (sym (names-about c s.before n s.behind front f.entry f.back f.is)) ∙ s.whole;
+      all =
+          ap (λ (i : ℕ). sequence_set c l (named (across c s.before ++ front) ++ (i ∷ named (f.back ++ across c s.behind)))) is
+          ∙ ap (sequence_set c l) (sym (names-about c s.before n s.behind front f.entry f.back f.is)) ∙ s.all;
     }
 
 -- the front of a step names no 0: where its last name is 0 it is empty
@@ -137,6 +140,9 @@ stand-top k v key l stand x some left block level =
       whole =
           ap (λ (i : ℕ). entries_below c i (stand.block ∷ [])) level ∙ ap (λ (n : ℕ). entries_below c (top_level v) (n ∷ [])) block
           ∙ ap (entries_below c (top_level v)) (sym (top-is v some)) ∙ sym ((entries-below k v).1 x.version);
+      all =
+          ap (λ (i : ℕ). sequence_set c i (stand.block ∷ [])) level ∙ ap (λ (n : ℕ). sequence_set c (top_level v) (n ∷ [])) block
+          ∙ ap (sequence_set c (top_level v)) (sym (top-is v some));
     }
 
 -- the last key of some blocks is that of the last of them
@@ -193,4 +199,9 @@ stand-same k v w key l stand one es s =
       around = subst A (sym c) s.around;
       left_is = s.left_is;
       whole = ap (λ (b : IndexBlocks). entries_below b l (s.before ++ (stand.block ∷ s.behind))) c ∙ s.whole ∙ sym es;
+      all =
+          ap (λ (b : IndexBlocks). sequence_set b l (s.before ++ (stand.block ∷ s.behind))) c ∙ s.all
+          ∙ (let head : header_of w.image ≡ header_of v.image = ap header_of one.image in
+          ap (λ (b : IndexBlocks). sequence_set b (top_level v) (top_blocks v)) (sym c)
+          ∙ ap (λ (h : Header). sequence_set (index_blocks k w) (h.height - 1) (cond (h.top == 0) [] (h.top ∷ []))) (sym head));
     }

@@ -4,7 +4,7 @@ use Rattle.std.specs.Prelude.{bytes_eq}
 use Rattle.hd_volume.specs.Entries.{Entry}
 use Rattle.hd_volume.specs.Indexes.{is_below_first, keys_ascend, IsAmong}
 use Rattle.hd_levels.specs.Maps.{address_of}
-use Rattle.hd_levels.specs.Levels.{IndexBlocks, across, named, entries_below, AreBelow, IsIndexSet}
+use Rattle.hd_levels.specs.Levels.{IndexBlocks, across, named, sequence_set, entries_below, AreBelow, IsIndexSet}
 use Rattle.hd_levels.specs.Ways.{child_of, IsAround, IsNamed}
 use Rattle.hd_levels.specs.Changes.{IsLeft, entry_left, IsWayUp}
 use Rattle.hd_levels.specs.Chains.{first_of, AreLevelsLinked}
@@ -136,6 +136,7 @@ on-top c next h top key l stand some set linked left block level =
       around = subst A (sym block) (top-around c key h top set);
       left_is = left;
       whole = ap (λ (n : ℕ). entries_below c h (n ∷ [])) block;
+      all = ap (λ (n : ℕ). sequence_set c h (n ∷ [])) block;
       linked = subst L (sym block) linked;
       steps = 0;
       way = (refl, refl, block, refl, ap (λ (n : ℕ). n ∷ []) (sym block));
@@ -176,6 +177,7 @@ on-down c next h top key l stand below none s block left =
       around = down;
       left_is = left ∙ ap (λ (i : ℕ). last_of (last_child c i) (named front)) s.left_is ∙ sym beside;
       whole = ap (entries_below c l) (sym about) ∙ s.whole;
+      all = ap (sequence_set c l) (sym about) ∙ s.all;
       linked = subst L about s.linked.1;
       steps = suc s.steps;
       way = (s.before, n, s.behind, n ∷ [], step, s.way);

@@ -7,7 +7,7 @@ use Rattle.hd_volume.specs.Volumes.{VolumeState, block_at, IsKind, IsFormatted}
 use Rattle.hd_volume.specs.Rooms.{spare}
 use Rattle.hd_volume.specs.Entries.{Entry, entries_in}
 use Rattle.hd_volume.specs.Indexes.{entry_room, IsAmong}
-use Rattle.hd_levels.specs.Levels.{IndexBlocks, named, entries_below, IsIndexSet}
+use Rattle.hd_levels.specs.Levels.{IndexBlocks, named, sequence_set, entries_below, IsIndexSet}
 use Rattle.hd_levels.specs.Ways.{child_of, IsAround, IsNamed}
 use Rattle.hd_levels.specs.Changes.{OthersStay, IsLeft, entry_left}
 use Rattle.hd_levels.specs.Chains.{IsLinked, first_of, AreLevelsLinked}
@@ -66,6 +66,7 @@ pub record IsOnWay (c : IndexBlocks) (next : ℕ → ℕ) (h top : ℕ) (key : L
   pub around : IsAround c key l before stand.block behind
   pub left_is : stand.left ≡ last_of 0 before
   pub whole : entries_below c l (before ++ (stand.block ∷ behind)) ≡ entries_below c h (top ∷ [])
+  pub all : sequence_set c l (before ++ (stand.block ∷ behind)) ≡ sequence_set c h (top ∷ [])
   pub linked : AreLevelsLinked c next l (before ++ (stand.block ∷ behind))
   pub steps : ℕ
   pub way : IsLinkedWay c c next next h top steps l before stand.block behind (stand.block ∷ []) (top ∷ [])

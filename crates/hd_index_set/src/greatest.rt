@@ -8,7 +8,7 @@ ghost use Rattle.hd_entries.specs.Fields.{entry_count, entry_place, CountFits};
 ghost use Rattle.hd_entries.specs.Searches.{IfInOrder};
 ghost use Rattle.hd_levels.specs.IndexSets.{HasIndexSet};
 ghost use Rattle.hd_index_set.specs.Blocks.{IsInOrder};
-ghost use Rattle.hd_index_set.specs.Greatest.{IsLastOf, IsGreatestOf, IsGreatestBelow};
+ghost use Rattle.hd_index_set.specs.Greatest.{IsLastOf, IsGreatestOf, IsGreatestBelow, IsKnownLeaf, greatest_of};
 ghost use Rattle.hd_index_set.specs.Stands.{IsStand};
 ghost use Rattle.hd_index_set.specs.Changes.{WhereSound};
 
@@ -18,6 +18,14 @@ use crate::stand::{Stand, walk_down};
 use hd_dbd::Refused;
 use hd_entries::{FIRST, IndexBlock};
 use hd_volume::{BlockStore, Volume};
+
+/// The greatest key below another, at the front, if there is one, and the block of the sequence set that it leads to, 0 where that is not
+/// known.
+#[derive(Clone, Copy, Debug)]
+pub struct Lower {
+    pub key: Option<[u8; 255]>,
+    pub leaf: u32,
+}
 
 /// The key of an entry, copied to the front.
 pub fn key_copy(block: &IndexBlock, index: usize) -> [u8; 255]
@@ -98,21 +106,22 @@ pub fn last_in<S: BlockStore>(
     Ok(last_key_of(&IndexBlock { bytes, key_length }))
 }
 
-/// The greatest key of the index below a key, if there is one, at the front.
+/// The greatest key of the index below a key.
 pub fn greatest<S: BlockStore>(
     volume: &mut Volume<S>,
     key_length: usize,
     key: &[u8],
-) -> Result<Option<[u8; 255]>, Refused>
+) -> Result<Lower, Refused>
     requires short { key_length ≤ 255 }
     ensures read { IsRead volume.old result volume.new }
-    ensures value { IfOk result (λ r. IsTrue volume.old.is_sound → HasIndexSet key_length volume.old → IsGreatestBelow key_length volume.old key.now r) }
+    ensures value { WhereSound volume.old result (λ r. HasIndexSet key_length volume.old → IsGreatestBelow key_length volume.old key.now r.key) }
+    ensures leaf { WhereSound volume.old result (λ r. HasIndexSet key_length volume.old → IsKnownLeaf key_length volume.old (greatest_of key_length volume.old key.now) r.leaf) }
     ensures refusal { OnlyDevice result }
 {
     let top = volume.top();
     let height = volume.height();
     if top == 0 || height == 0 || height > MOST_LEVELS {
-        return Ok(None);
+        return Ok(Lower { key: None, leaf: 0 });
     }
     let start = Stand {
         left: 0,
@@ -129,16 +138,23 @@ fn greatest_about<S: BlockStore>(
     key_length: usize,
     stand: Stand,
     key: &[u8],
-) -> Result<Option<[u8; 255]>, Refused>
+) -> Result<Lower, Refused>
     requires short { key_length ≤ 255 }
     ensures read { IsRead volume.old result volume.new }
-    ensures value { WhereSound volume.old result (λ r. HasIndexSet key_length volume.old → IsStand key_length volume.old key.now 0 stand → IsGreatestBelow key_length volume.old key.now r) }
+    ensures value { WhereSound volume.old result (λ r. HasIndexSet key_length volume.old → IsStand key_length volume.old key.now 0 stand → IsGreatestBelow key_length volume.old key.now r.key) }
+    ensures leaf { WhereSound volume.old result (λ r. HasIndexSet key_length volume.old → IsStand key_length volume.old key.now 0 stand → IsKnownLeaf key_length volume.old (greatest_of key_length volume.old key.now) r.leaf) }
     ensures refusal { OnlyDevice result }
 {
     let own = greatest_in(volume, key_length, stand.block, key)?;
-    if own.is_some() || stand.left == 0 {
-        return Ok(own);
+    if own.is_some() {
+        return Ok(Lower {
+            key: own,
+            leaf: stand.block,
+        });
+    }
+    if stand.left == 0 {
+        return Ok(Lower { key: own, leaf: 0 });
     }
     let last = last_in(volume, key_length, stand.left)?;
-    Ok(last)
+    Ok(Lower { key: last, leaf: 0 })
 }

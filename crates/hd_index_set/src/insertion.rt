@@ -10,6 +10,7 @@ ghost use Rattle.hd_levels.specs.Maps.{address_of, greatest_below, with_entry};
 ghost use Rattle.hd_levels.specs.IndexSets.{index_entries, HasIndexSet};
 ghost use Rattle.hd_levels.specs.Needs.{entry_growth, needed_by, set_blocks_needed};
 ghost use Rattle.hd_index_set.specs.Changes.{IsIndexOf, entries_for, IsIndexChange, IsChanged, IsKeyEntered};
+ghost use Rattle.hd_index_set.specs.Greatest.{IsKnownLeaf};
 ghost use Rattle.hd_index_set.specs.Rooms.{IsReady, IsRefusedFor};
 
 use crate::behind::enter_behind;
@@ -17,7 +18,7 @@ use crate::descend::MOST_LEVELS;
 use crate::enter::enter_key;
 use crate::first::insert_first;
 use crate::greatest::greatest;
-use crate::need::{key_or, needed_for};
+use crate::need::{key_or, needed_at};
 use crate::room::make_room;
 use crate::search::is_above_all;
 use hd_dbd::{Dbd, Refused};
@@ -77,14 +78,16 @@ fn insert_key<S: BlockStore>(
         return insert_first(volume, key, address);
     }
     let below = greatest(volume, key_length, key)?;
-    let by = key_or(&below, key_length, key);
-    insert_by(volume, key_length, by, key, address)
+    let by = key_or(&below.key, key_length, key);
+    insert_by(volume, key_length, below.leaf, by, key, address)
 }
 
-/// Enters a new key down by the greatest key below it, or by itself where it is the least.
+/// Enters a new key down by the greatest key below it, or by itself where it is the least, which leads to
+/// this block of the sequence set if it is not 0.
 fn insert_by<S: BlockStore>(
     volume: &mut Volume<S>,
     key_length: usize,
+    leaf: u32,
     by: &[u8],
     key: &[u8],
     address: u32,
@@ -93,6 +96,7 @@ fn insert_by<S: BlockStore>(
     requires some { IsTrue volume.old.is_sound → 0 < (header_of volume.old.image).top }
     requires new { IsTrue volume.old.is_sound → address_of key.now (index_entries key_length volume.old) ≡ None }
     requires by { IsTrue volume.old.is_sound → by.now ≡ greatest_below key.now key.now (index_entries key_length volume.old) }
+    requires leaf { IsTrue volume.old.is_sound → IsKnownLeaf key_length volume.old by.now leaf }
     requires by_whole { length by.now ≡ key_length }
     requires whole { length key.now ≡ key_length }
     requires short { key_length ≤ 255 }
@@ -104,7 +108,7 @@ fn insert_by<S: BlockStore>(
     ensures refusal { OnlyRoomOrDevice result }
     ensures room { IsTrue volume.old.is_sound → IsTrue volume.new.is_sound → volume.old.room ≤ volume.new.room + needed_by key_length volume.old by.now }
 {
-    let needed = needed_for(volume, key_length, by)?;
+    let needed = needed_at(volume, key_length, leaf, by)?;
     prepare(volume, needed)?;
     enter_prepared(volume, key_length, by, needed, key, address)
 }

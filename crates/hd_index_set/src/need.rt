@@ -1,4 +1,4 @@
-ghost use Rattle.std.specs.Prelude.{◌≡◌, ◌≤◌, ◌+◌, ◌<◌, cond, nat_le, ℕ, length, take, IsTrue, IfOk};
+ghost use Rattle.std.specs.Prelude.{◌≡◌, ◌≢◌, ◌≤◌, true, false, ◌+◌, ◌<◌, cond, nat_le, ℕ, length, take, IsTrue, IfOk};
 ghost use Rattle.std.specs.Option.{option_map_or};
 ghost use Rattle.hd_dbd.specs.Refusals.{OnlyDevice};
 ghost use Rattle.hd_volume.specs.Calls.{IsRead};
@@ -10,6 +10,7 @@ ghost use Rattle.hd_levels.specs.Needs.{entry_growth, is_full, needed_by, set_bl
 ghost use Rattle.hd_levels.specs.VolumeLaws.{IsRightBlock};
 ghost use Rattle.hd_index_set.specs.Blocks.{IsInOrder, full_down};
 ghost use Rattle.hd_index_set.specs.Changes.{IsIndexOf, WhereSound};
+ghost use Rattle.hd_index_set.specs.Greatest.{IsKnownLeaf};
 
 use crate::descend::MOST_LEVELS;
 use crate::greatest::greatest;
@@ -55,9 +56,49 @@ fn blocks_for<S: BlockStore>(
     ensures refusal { OnlyDevice result }
 {
     let below = greatest(volume, key_length, key)?;
-    let by = key_or(&below, key_length, key);
+    let by = key_or(&below.key, key_length, key);
+    let needed = needed_at(volume, key_length, below.leaf, by)?;
+    Ok(needed)
+}
+
+/// The blocks that an entry needs where a key leads, to this block if it is not 0: none where that has room.
+pub fn needed_at<S: BlockStore>(
+    volume: &mut Volume<S>,
+    key_length: usize,
+    leaf: u32,
+    by: &[u8],
+) -> Result<u32, Refused>
+    requires short { key_length ≤ 255 }
+    requires leaf { IsTrue volume.old.is_sound → HasIndexSet key_length volume.old → IsKnownLeaf key_length volume.old by.now leaf }
+    ensures read { IsRead volume.old result volume.new }
+    ensures value { IfOk result (λ n. IsTrue volume.old.is_sound → HasIndexSet key_length volume.old → n ≡ needed_by key_length volume.old by.now) }
+    ensures refusal { OnlyDevice result }
+{
+    let room = has_room(volume, key_length, leaf)?;
+    if room {
+        return Ok(0);
+    }
     let needed = needed_for(volume, key_length, by)?;
     Ok(needed)
+}
+
+/// Whether a block has room for an entry more; not where it is 0.
+fn has_room<S: BlockStore>(
+    volume: &mut Volume<S>,
+    key_length: usize,
+    n: u32,
+) -> Result<bool, Refused>
+    requires short { key_length ≤ 255 }
+    ensures read { IsRead volume.old result volume.new }
+    ensures some { IfOk result (λ room. room ≡ true → n ≢ 0) }
+    ensures value { WhereSound volume.old result (λ room. room ≡ true → IsInOrder key_length volume.old n → is_full (index_blocks key_length volume.old) (entry_room key_length volume.old.size) n ≡ false) }
+    ensures refusal { OnlyDevice result }
+{
+    if n == 0 {
+        return Ok(false);
+    }
+    let run = full_run(volume, key_length, n, 0)?;
+    Ok(run == 0)
 }
 
 /// The blocks that an entry needs where a key leads.

@@ -150,7 +150,7 @@ impl<S: BlockStore> Blocks<S> {
         ensures size { self.new.size ≡ self.old.size }
         ensures room { self.new.room ≡ self.old.room }
     {
-        if self.hand.holds && self.hand.number == n {
+        if is_held(&self.hand, n) {
             return Ok(());
         }
         bring_other(&mut self.store, &mut self.hand, &mut self.aside, n)?;
@@ -190,7 +190,10 @@ impl<S: BlockStore> Blocks<S> {
             return Ok(at);
         }
         let (n, at) = self.place(address);
-        self.fetch(n)?;
+        if is_held(&self.hand, n) {
+            return Ok(at);
+        }
+        bring_other(&mut self.store, &mut self.hand, &mut self.aside, n)?;
         Ok(at)
     }
 
@@ -323,6 +326,14 @@ fn empty_buffers(alloc: Global, block_size: usize) -> Result<Vec<Buffer>, AllocE
         buffers.push(empty_buffer(alloc, block_size)?)?;
     }
     Ok(buffers)
+}
+
+/// Whether a buffer holds a block.
+fn is_held(buffer: &Buffer, n: u32) -> bool
+    ensures held { result ≡ true → (buffer.now.holds ≡ true) × (buffer.now.number ≡ n) }
+    ensures other { result ≡ false → HoldsNot n buffer.now }
+{
+    buffer.holds && buffer.number == n
 }
 
 /// Brings a block that is not in hand to hand.

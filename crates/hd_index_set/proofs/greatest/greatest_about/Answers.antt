@@ -1,4 +1,4 @@
-use Rattle.std.proofs.Common.{◌≡◌, ◌≢◌, inl, inr, ℕ, true, false, List, take, cond, Option, Some, None, IsTrue, refl, sym, ap, ◌∙◌, ne_eqb}
+use Rattle.std.proofs.Common.{◌≡◌, ◌≢◌, ℕ, true, false, List, [], take, cond, Option, Some, None, IsTrue, refl, sym, ap, ◌∙◌, ne_eqb}
 use Rattle.std.specs.Prelude.{◌==◌}
 use Rattle.std.specs.Option.{option_map_or, is_some}
 use Rattle.std.proofs.lemmas.Bool.{eq-eqb}
@@ -7,6 +7,7 @@ use Rattle.hd_volume.specs.Entries.{entries_in}
 use Rattle.hd_levels.specs.Maps.{greatest_below, last_key}
 use Rattle.hd_index_set.proofs.Searching.{order-same}
 use Rattle.hd_index_set.proofs.Standing.{block-order, left-order, stand-greatest}
+use Rattle.hd_index_set.proofs.Leaves.{known-leaf}
 use Rattle.hd_index_set.proofs.greatest.greatest_about.Goals as goal
 
 some-any : (k : ℕ) (o : Option (List ℕ)) (a b : List ℕ) → is_some o ≡ true → option_map_or (take k) o a ≡ option_map_or (take k) o b
@@ -24,13 +25,25 @@ returns-then-is_some-clause-value g c sound x s =
     let key = c.args.key.now in
     let left : ℕ = c.args.stand.left in
     let t : List ℕ = cond (left == 0) key (last_key key (entries_in k (block_at v left))) in
+    some-any k c.in_ok-own.own key t (sym c.is_some.ensures ∙ c.if-is_some.true) ∙ c.in_ok-own.ensures.value sound (block-order x s) t ∙ sym (stand-greatest k v key c.args.stand s)
+
+pub returns-then-is_some-clause-leaf : goal.returns-then-is_some-clause-leaf
+returns-then-is_some-clause-leaf g c sound x s =
+    let k : ℕ = c.args.key_length in
     let own = c.in_ok-own.ensures.value sound (block-order x s) in
-    elim c.then-is_some.either [
-      | inl some ↦ some-any k c.in_ok-own.own key t (sym c.is_some.ensures ∙ some) ∙ own t ∙ sym (stand-greatest k v key c.args.stand s)
-      | inr none ↦
-          (let e : t ≡ key = rw (eq-eqb left 0 none.1) refl in
-          own key ∙ ap (λ (z : List ℕ). greatest_below z key (entries_in k (block_at v c.args.stand.block))) (sym e) ∙ sym (stand-greatest k v key c.args.stand s))
-    ]
+    known-leaf k c.args.volume.now c.args.key.now c.args.stand (option_map_or (take k) c.in_ok-own.own []) x s
+    (λ other. some-any k c.in_ok-own.own [] other (sym c.is_some.ensures ∙ c.if-is_some.true) ∙ own other)
+
+pub returns-then-stand-eq0-clause-value : goal.returns-then-stand-eq0-clause-value
+returns-then-stand-eq0-clause-value g c sound x s =
+    let v = c.args.volume.now in
+    let k : ℕ = c.args.key_length in
+    let key = c.args.key.now in
+    let left : ℕ = c.args.stand.left in
+    let t : List ℕ = cond (left == 0) key (last_key key (entries_in k (block_at v left))) in
+    let e : t ≡ key = rw (eq-eqb left 0 c.if-stand-eq0.true) refl in
+    c.in_ok-own.ensures.value sound (block-order x s) key ∙ ap (λ (z : List ℕ). greatest_below z key (entries_in k (block_at v c.args.stand.block))) (sym e)
+    ∙ sym (stand-greatest k v key c.args.stand s)
 
 pub returns-clause-value : goal.returns-clause-value
 returns-clause-value g c sound x s =

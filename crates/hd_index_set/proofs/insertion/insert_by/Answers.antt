@@ -13,7 +13,7 @@ pub enter_prepared-requires-clause-index : goal.enter_prepared-requires-clause-i
 enter_prepared-requires-clause-index g c now =
     let call = c.in_ok-prepare.ensures.call in
     let read = c.in_ok-needed.ensures.read in
-    let before : IsTrue c.needed_for.new.volume.is_sound = rw (← call.sound) now in
+    let before : IsTrue c.needed_at.new.volume.is_sound = rw (← call.sound) now in
     let start : IsTrue c.args.volume.now.is_sound = rw (← read.call.sound) before in
     let one = one-after (read-one read before) (record { same = record { size = call.size; sizes = call.sizes }; image = c.in_ok-prepare.ensures.image now }) in
     (set-same c.args.key_length c.args.volume.now c.prepare.new.volume one (c.requires.index start)).0
@@ -29,7 +29,7 @@ returns-clause-changed g c =
     let call = c.in_ok-prepare.ensures.call in
     let read = c.in_ok-needed.ensures.read in
     let x = c.requires.index start in
-    let before : IsTrue c.needed_for.new.volume.is_sound = rw read.call.sound start in
+    let before : IsTrue c.needed_at.new.volume.is_sound = rw read.call.sound start in
     let ready : IsTrue p.is_sound = rw call.sound before in
     let one = one-after (read-one read before) (record { same = record { size = call.size; sizes = call.sizes }; image = c.in_ok-prepare.ensures.image ready }) in
     let e : Entry = record { key = c.args.key.now; address = c.args.address } in

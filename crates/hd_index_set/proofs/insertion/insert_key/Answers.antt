@@ -1,8 +1,10 @@
-use Rattle.std.proofs.Common.{◌≡◌, ◌<◌, IsTrue, ◌∙◌, arith}
+use Rattle.std.proofs.Common.{◌≡◌, ◌<◌, ℕ, List, IsTrue, sym, subst, ◌∙◌, arith}
 use Rattle.hd_volume.specs.Headers.{header_of}
 use Rattle.hd_volume.proofs.JoinLemmas.{read-one}
 use Rattle.hd_index_set.proofs.Searching.{set-same}
 use Rattle.hd_index_set.proofs.Inserting.{on-ok, if-err, found-change, first-refused, found-refused}
+use Rattle.hd_index_set.specs.Greatest.{IsKnownLeaf}
+use Rattle.hd_index_set.proofs.Leaves.{known-same}
 use Rattle.hd_index_set.proofs.insertion.insert_key.Goals as goal
 
 pub returns-then-top-eq0-clause-refused : goal.returns-then-top-eq0-clause-refused
@@ -43,3 +45,15 @@ returns-clause-refused g c =
     let now : IsTrue u.is_sound = rw read.call.sound start in
     let by = c.key_or-by.ensures ∙ c.in_ok-below.ensures.value start (c.requires.index start) in
     found-refused c.args.key_length v u c.args.key.now c.key_or-by.result.now e (read-one read now) read.room by (r now))
+
+pub insert_by-requires-clause-leaf : goal.insert_by-requires-clause-leaf
+insert_by-requires-clause-leaf g c now =
+    let v = c.args.volume.now in
+    let u = c.greatest.new.volume in
+    let k : ℕ = c.args.key_length in
+    let read = c.in_ok-below.ensures.read in
+    let start : IsTrue v.is_sound = rw (← read.call.sound) now in
+    let x = c.requires.index start in
+    let by = c.key_or-by.ensures ∙ c.in_ok-below.ensures.value start x in
+    let N : List ℕ → Type 0 = λ b. IsKnownLeaf k v b c.in_ok-below.below.leaf in
+    known-same k v u c.key_or-by.result.now c.in_ok-below.below.leaf (read-one read now) (subst N (sym by) (c.in_ok-below.ensures.leaf start x))
