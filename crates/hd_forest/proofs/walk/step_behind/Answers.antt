@@ -1,4 +1,4 @@
-use Rattle.std.proofs.Common.{ℕ, sym, ap, subst, ◌<◌, ◌∙◌, refl}
+use Rattle.std.proofs.Common.{sym, ap, subst, ◌<◌, ◌∙◌, refl}
 use Rattle.std.proofs.lemmas.Result.{on_ok_weaker}
 use Rattle.hd_links.specs.Links.{Links, IsSegment}
 use Rattle.hd_image.specs.Records.{links_of}

@@ -1,4 +1,4 @@
-use Rattle.std.proofs.Common.{◌≡◌, ℕ, List, length, ◌≤◌, ap, ◌∙◌, arith}
+use Rattle.std.proofs.Common.{ℕ, List, length, ◌≤◌, ap, ◌∙◌, arith}
 use Rattle.std.specs.Prelude.{replicate, slice_set}
 use Rattle.hd_bytes.specs.Ranges.{with_bytes}
 use Rattle.hd_dbd.specs.Prefixes.{prefix_length, size_with}
