@@ -6,7 +6,7 @@ use crate::places::Place;
 use hd_dbd::Refused;
 use std::alloc::Global;
 
-/// How many places there are for each stretch of a directory, about.
+/// How many places there are at least for each stretch of a directory, on the average.
 const PLACES: usize = 2;
 
 /// Of how many places one is entered.
@@ -15,8 +15,8 @@ const ENTERED: usize = 4;
 /// How many places are compared with an address at once.
 const COMPARED: usize = 8;
 
-/// For each stretch of the addresses, from address 0 on, the number of the first of the places entered in it or behind it. Of each few places
-/// one is entered.
+/// For each stretch of the addresses, from address 0 on, the number of the first of the places entered in it or behind it. Of each four places
+/// the first is entered, and the last of all.
 ///
 /// It only says where to look first: nothing is concluded from what it says.
 #[derive(Drop)]
@@ -26,7 +26,7 @@ pub struct Directory {
     ghost bounded: { shift ≤ 31 },
 }
 
-/// The shift by which addresses up to one fall into about so many stretches.
+/// The shift by which addresses up to one fall into at most so many stretches, or one more, and into half as many at least.
 fn shift_for(last: u32, stretches: u32) -> u32
     ensures { result ≤ 31 }
 {
@@ -49,20 +49,24 @@ impl Directory {
                 fill(&mut firsts, (place.address >> shift) as usize, number)?;
             }
         }
+        let stretch = (last >> shift) as usize;
+        fill(&mut firsts, stretch, places.len().saturating_sub(1))?;
         Ok(Directory { firsts, shift })
     }
 
-    /// The number at which to look first for an address: no more than that of the first place in its stretch, and not far from it.
+    /// The number at which to look first for an address up to that of the last place: no more than that of the first place in its stretch or
+    /// behind it, and not far from it.
     pub fn near(&self, address: u32) -> usize {
         let stretch = (address >> self.shift) as usize;
         let entered = self.firsts.get(stretch).copied().unwrap_or(0) as usize;
         entered.saturating_sub(ENTERED - 1)
     }
 
-    /// The number at which to look first for an address, by what stands near it: that of its place, if a segment stands there and its stretch has
-    /// few places. No branch depends on what stands where.
+    /// The number at which to look first for an address, by eight places from about where its stretch begins: that of its place, if a segment stands there
+    /// and its stretch has few places. No branch depends on what stands where.
     pub fn guess(&self, places: &[Place], address: u32) -> usize {
-        let first = self.near(address);
+        let last = places.len().saturating_sub(COMPARED);
+        let first = self.near(address).min(last);
         let Some(compared) = places.get(first..first.saturating_add(COMPARED)) else {
             return first;
         };

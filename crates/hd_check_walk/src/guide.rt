@@ -25,7 +25,7 @@ impl<'a> Guide<'a> {
     }
 }
 
-/// The numbers at which to look first for the twins forward of the segments that are noted. They are found apart from the walk, since there none waits for
+/// The numbers at which to look first for the twins forward of the segments that are noted. They are found apart from the walk, where no look-up waits for
 /// another.
 pub fn twin_numbers(
     alloc: Global,

@@ -31,6 +31,7 @@ fn key_front(key: &[u8]) -> [u8; FRONT]
     if length >= FRONT {
         front.copy_from_slice(&key[..FRONT]);
     } else if length >= 4 {
+        // Four bytes from each end, which may overlap.
         front[..4].copy_from_slice(&key[..4]);
         front[length - 4..length].copy_from_slice(&key[length - 4..]);
     } else {

@@ -21,8 +21,8 @@ pub fn key_in<'a>(segment: &SegType, bytes: &'a [u8]) -> &'a [u8]
     }
 }
 
-/// The order of two keys: that of the first bytes that differ. Of keys of one length eight bytes or four are compared at once, as the
-/// numbers that they make.
+/// The order of two keys: that of the first bytes that differ. Of keys of one length, four bytes or more, eight or four are compared at once,
+/// as the numbers that they make; the last eight or four may overlap those before.
 pub fn compare_keys(one: &[u8], other: &[u8]) -> Ordering
     ensures { result ≡ slice_cmp nat_cmp one.now other.now }
 {

@@ -157,6 +157,7 @@ impl<W: Write> Write for Pieces<W> {
         ensures bytes { Keeps (contents_with W.contents self.old) (contents_with W.contents self.new) }
         ensures all { OnOk result ((self.new.bytes ≡ []) × (self.new.left ≡ 65536)) }
     {
+        // By the function that a write calls that does not fit, which stays out of line so: a write that fits is short.
         self.write_behind(&[])?;
         self.inner.flush()
     }

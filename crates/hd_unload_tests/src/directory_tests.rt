@@ -30,7 +30,7 @@ fn not_guessed(alloc: Global, places: &[Place]) -> Result<usize, Refused> {
 }
 
 #[test]
-fn all_but_the_last_few_places_are_guessed(rt: HostRuntime) -> Result<(), Fail> {
+fn places_of_few_sizes_by_turns_are_guessed(rt: HostRuntime) -> Result<(), Fail> {
     for sizes in [
         &[16][..],
         &[24][..],
@@ -40,13 +40,13 @@ fn all_but_the_last_few_places_are_guessed(rt: HostRuntime) -> Result<(), Fail> 
     ] {
         let places = places_of(rt.alloc(), sizes, 1000).expect(&rt, "places");
         let missed = not_guessed(rt.alloc(), &places).expect(&rt, "a directory");
-        assert!(rt; missed < 16, "{missed} of {sizes:?}");
+        assert_eq!(rt; missed, 0, "{sizes:?}");
     }
     Ok(())
 }
 
 #[test]
-fn a_directory_of_few_places_guesses(rt: HostRuntime) -> Result<(), Fail> {
+fn a_guess_of_few_places_stays_in_the_table(rt: HostRuntime) -> Result<(), Fail> {
     for count in 0..9 {
         let places = places_of(rt.alloc(), &[16], count).expect(&rt, "places");
         let directory = Directory::of(rt.alloc(), &places).expect(&rt, "a directory");

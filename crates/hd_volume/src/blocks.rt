@@ -189,6 +189,7 @@ impl<S: BlockStore> Blocks<S> {
         if let Some(at) = self.offset_in_hand(address) {
             return Ok(at);
         }
+        // As `fetch` does, in a form that stays short.
         let (n, at) = self.place(address);
         if is_held(&self.hand, n) {
             return Ok(at);
