@@ -42,10 +42,10 @@ abbrev pub walked : List SegmentType → Links → ℕ → List ℕ
 walked types m zero = next_on types m []
 walked types m (suc n) = next_on types m (walked types m n)
 
--- What the segment a names ahead of it: the first row below it, its next twin where none is below, and its code.
+-- What the segment a names ahead of it: the first row below it, its next twin, 0 for none each, and its code.
 pub record IsAhead (types : List SegmentType) (m : Links) (a : ℕ) (ahead : Ahead) : Type 0 where
   pub below : ahead.below ≡ child_among m a (child_types types (m.code a))
-  pub twin : ahead.below ≡ 0 → ahead.twin ≡ m.forward a
+  pub twin : ahead.twin ≡ m.forward a
   pub code : ahead.code ≡ m.code a
 
 -- the fact holds of the records of each volume of the database that has these bytes as the segment at an address

@@ -14,8 +14,7 @@ use crate::read::{code_at, code_in, last_of, parent_on, tip_of, twin_in};
 use hd_dbd::{Dbd, Refused};
 use hd_volume::{BlockStore, Volume};
 
-/// What a segment names ahead of it in hierarchic sequence: the first row below it, 0 for none; its next twin, 0 for none, which says
-/// something only where no row is below; and its code.
+/// What a segment names ahead of it: the first row below it, its next twin, 0 for none each, and its code.
 #[derive(Clone, Copy)]
 pub struct Ahead {
     below: u32,
