@@ -1,5 +1,5 @@
 -- Paths of addresses, and the walk from row to row.
-use Rattle.std.specs.Prelude.{◌≡◌, ℕ, zero, suc, ◌-◌, List, [], ◌∷◌, ◌++◌, length, take, ◌==◌, cond, Some}
+use Rattle.std.specs.Prelude.{◌≡◌, ℕ, zero, suc, ◌<◌, ◌-◌, List, [], ◌∷◌, ◌++◌, length, take, ◌==◌, cond, Some}
 use Rattle.hd_dbd.specs.Types.{SegmentType}
 use Rattle.hd_dbd.specs.Hierarchy.{Database, level_of}
 use Rattle.hd_dbd.specs.Forest.{Forest}
@@ -55,3 +55,9 @@ OfFound d segment fact = (v : VolumeState) (a : ℕ) → IsVolumeOf d v → find
 -- the volume's records hold a placed forest
 abbrev pub HasForest : Database → VolumeState → Type 0
 HasForest d v = (f : Forest Placed) × Holds d.types (links_of d.types v) f
+
+-- wherever the last row of a path names this ahead of it, the new path leads to the row behind it
+abbrev pub IsNextBy : Database → Ahead → List ℕ → List ℕ → Type 0
+IsNextBy d ahead old new =
+    (v : VolumeState) → IsVolumeOf d v → HasForest d v → AreSegments (links_of d.types v) old → 0 < tip old → IsAhead d.types (links_of d.types v) (tip old) ahead
+        → new ≡ next_on d.types (links_of d.types v) old
