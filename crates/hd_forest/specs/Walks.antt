@@ -60,4 +60,4 @@ HasForest d v = (f : Forest Placed) × Holds d.types (links_of d.types v) f
 abbrev pub IsNextBy : Database → Ahead → List ℕ → List ℕ → Type 0
 IsNextBy d ahead old new =
     (v : VolumeState) → IsVolumeOf d v → HasForest d v → AreSegments (links_of d.types v) old → 0 < tip old → IsAhead d.types (links_of d.types v) (tip old) ahead
-        → new ≡ next_on d.types (links_of d.types v) old
+    → new ≡ next_on d.types (links_of d.types v) old
