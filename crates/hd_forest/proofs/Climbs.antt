@@ -224,7 +224,7 @@ level-below types m bound O leveled G typed a below there is some =
 pub nothing-ahead : (types : List SegmentType) (m : Links) (a : ℕ) (ahead : Ahead) → IsAhead types m a ahead → ahead.below ≡ 0 → ahead.twin ≡ 0 → IsAhead types m a (record { below = 0; twin = 0; code = ahead.code })
 nothing-ahead types m a ahead is below twin = record {
   below = sym below ∙ is.below;
-  twin = λ _. sym twin ∙ is.twin below;
+  twin = sym twin ∙ is.twin;
   code = is.code;
 }
 

@@ -1,5 +1,5 @@
 -- Paths of addresses, and the walk from row to row.
-use Rattle.std.specs.Prelude.{◌≡◌, ℕ, zero, suc, ◌-◌, List, [], ◌∷◌, ◌++◌, length, take, ◌==◌, cond, Some}
+use Rattle.std.specs.Prelude.{◌≡◌, ℕ, zero, suc, ◌<◌, ◌-◌, List, [], ◌∷◌, ◌++◌, length, take, ◌==◌, cond, Some}
 use Rattle.hd_dbd.specs.Types.{SegmentType}
 use Rattle.hd_dbd.specs.Hierarchy.{Database, level_of}
 use Rattle.hd_dbd.specs.Forest.{Forest}
@@ -42,10 +42,10 @@ abbrev pub walked : List SegmentType → Links → ℕ → List ℕ
 walked types m zero = next_on types m []
 walked types m (suc n) = next_on types m (walked types m n)
 
--- What the segment a names ahead of it: the first row below it, its next twin where none is below, and its code.
+-- What the segment a names ahead of it: the first row below it, its next twin, 0 for none each, and its code.
 pub record IsAhead (types : List SegmentType) (m : Links) (a : ℕ) (ahead : Ahead) : Type 0 where
   pub below : ahead.below ≡ child_among m a (child_types types (m.code a))
-  pub twin : ahead.below ≡ 0 → ahead.twin ≡ m.forward a
+  pub twin : ahead.twin ≡ m.forward a
   pub code : ahead.code ≡ m.code a
 
 -- the fact holds of the records of each volume of the database that has these bytes as the segment at an address
@@ -55,3 +55,9 @@ OfFound d segment fact = (v : VolumeState) (a : ℕ) → IsVolumeOf d v → find
 -- the volume's records hold a placed forest
 abbrev pub HasForest : Database → VolumeState → Type 0
 HasForest d v = (f : Forest Placed) × Holds d.types (links_of d.types v) f
+
+-- wherever the last row of a path names this ahead of it, the new path leads to the row behind it
+abbrev pub IsNextBy : Database → Ahead → List ℕ → List ℕ → Type 0
+IsNextBy d ahead old new =
+    (v : VolumeState) → IsVolumeOf d v → HasForest d v → AreSegments (links_of d.types v) old → 0 < tip old → IsAhead d.types (links_of d.types v) (tip old) ahead
+    → new ≡ next_on d.types (links_of d.types v) old

@@ -35,7 +35,8 @@ pub fn pointer_in(dbd: &Dbd, segment: &[u8], pointer: Pointer) -> u32
 
 /// The address in twin forward of a lent segment, 0 where it is too short to have one.
 pub fn twin_in(segment: &[u8]) -> u32
-    ensures { 6 ≤ length segment.now → result ≡ twin_forward_of segment.now }
+    ensures twin { 6 ≤ length segment.now → result ≡ twin_forward_of segment.now }
+    ensures short { length segment.now < 6 → result ≡ 0 }
 {
     if segment.len() < 6 {
         return 0;

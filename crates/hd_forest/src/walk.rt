@@ -1,11 +1,10 @@
 ghost use Rattle.std.specs.Prelude.{◌≡◌, ◌<◌, true, IsTrue, IsFalse, IfOk, IfErr, OnOk};
 ghost use Rattle.hd_dbd.specs.Refusals.{OnlyDevice};
-ghost use Rattle.hd_volume.specs.Volumes.{VolumeState};
 ghost use Rattle.hd_volume.specs.Calls.{IsRead};
 ghost use Rattle.hd_links.specs.Links.{IsSegment};
 ghost use Rattle.hd_links.specs.Steps.{behind_span};
 ghost use Rattle.hd_image.specs.Records.{links_of, IsVolumeOf};
-ghost use Rattle.hd_forest.specs.Walks.{AreSegments, HasForest, IsAhead, OfFound, tip, moved, next_on, next_after_span_on};
+ghost use Rattle.hd_forest.specs.Walks.{AreSegments, HasForest, IsAhead, IsNextBy, OfFound, tip, moved, next_on, next_after_span_on};
 ghost use Rattle.hd_forest.specs.Children.{beside};
 
 use crate::children::{below_later, child_in};
@@ -14,8 +13,7 @@ use crate::read::{code_at, code_in, last_of, parent_on, tip_of, twin_in};
 use hd_dbd::{Dbd, Refused};
 use hd_volume::{BlockStore, Volume};
 
-/// What a segment names ahead of it in hierarchic sequence: the first row below it, 0 for none; its next twin, 0 for none, which says
-/// something only where no row is below; and its code.
+/// What a segment names ahead of it: the first row below it, its next twin, 0 for none each, and its code.
 #[derive(Clone, Copy)]
 pub struct Ahead {
     below: u32,
@@ -43,6 +41,7 @@ pub fn next_row<S: BlockStore>(
         return step(volume, dbd, path, root);
     }
     let ahead = look_ahead(volume, dbd, last)?;
+    // As in `go_on`: two callers keep the climb out of line, so the common step is short.
     if step_ahead(dbd, path, ahead) {
         return Ok(());
     }
@@ -66,6 +65,7 @@ pub fn go_on<S: BlockStore>(
     ensures kept { IfErr result (λ _. path.new ≡ path.old) }
     ensures refusal { OnlyDevice result }
 {
+    // As in `next_row`: two callers keep the climb out of line, so the common step is short.
     if step_ahead(dbd, path, ahead) {
         return Ok(());
     }
@@ -73,10 +73,9 @@ pub fn go_on<S: BlockStore>(
 }
 
 /// Goes from the last row of a path, which names this ahead of it, to the first row below it or else to its next twin, and says
-/// whether there is one.
+/// whether there is such a row.
 fn step_ahead(dbd: &Dbd, path: &mut Path, ahead: Ahead) -> bool
-    ensures next { IsTrue result → (v : VolumeState) → IsVolumeOf dbd.now v → HasForest dbd.now v → AreSegments (links_of dbd.now.types v) path.old → 0 < tip path.old
-        → IsAhead dbd.now.types (links_of dbd.now.types v) (tip path.old) ahead → path.new ≡ next_on dbd.now.types (links_of dbd.now.types v) path.old }
+    ensures next { IsTrue result → IsNextBy dbd.now ahead path.old path.new }
     ensures none { IsFalse result → (path.new ≡ path.old) × (ahead.below ≡ 0) × (ahead.twin ≡ 0) }
 {
     let level = dbd.level(ahead.code);

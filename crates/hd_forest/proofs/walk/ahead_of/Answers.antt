@@ -12,6 +12,6 @@ returns c v a of found =
     let l = lent d v a s of.fit of there found in
     record {
       below = below-found d v a s of there found c.child_in.result c.code_in-code.result c.children_of.result.now c.child_in.ensures c.children_of.ensures c.code_in-code.ensures;
-      twin = λ none. forward-lent d.types v a s l c.twin_in.result c.twin_in.ensures;
+      twin = forward-lent d.types v a s l c.twin_in.result c.twin_in.ensures.twin;
       code = c.code_in-code.ensures ∙ ap code_of (sym l.stored);
     }

@@ -32,4 +32,4 @@ returns-then-ahead-ne0-2-clause-next c chosen v of holds there one names =
     c.step.ensures
     ∙ ap (λ (l : ℕ). take (l - 1) path ++ twin ∷ []) c.level-level.ensures.level
     ∙ next-twin d.types m path (tip path) c.args.ahead.below refl names.below H.linked.typed there some
-    twin c.args.ahead.code (names.twin c.if-ahead-ne0.false) names.code c.if-ahead-ne0.false (λ e. (let f = c.if-ahead-ne0-2.true in f e))
+    twin c.args.ahead.code names.twin names.code c.if-ahead-ne0.false (λ e. (let f = c.if-ahead-ne0-2.true in f e))

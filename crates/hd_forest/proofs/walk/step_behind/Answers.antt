@@ -13,7 +13,7 @@ pub behind_twins-requires-clause-last : goal.behind_twins-requires-clause-last
 behind_twins-requires-clause-last g c sound = (c.requires.last sound).code
 
 pub behind_twins-requires-clause-twin : goal.behind_twins-requires-clause-twin
-behind_twins-requires-clause-twin g c sound = sym ((c.requires.last sound).twin refl)
+behind_twins-requires-clause-twin g c sound = sym (c.requires.last sound).twin
 
 pub step-requires-clause-of : goal.step-requires-clause-of
 step-requires-clause-of g c = volume-kept c.args.dbd.now c.args.volume.now c.behind_twins.new.volume c.in_ok-address.ensures.read c.requires.of

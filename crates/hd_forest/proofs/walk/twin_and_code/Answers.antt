@@ -8,4 +8,4 @@ returns-clause-twin g c sound =
     let s = c.in_ok-segment.segment.now in
     let of = c.requires.of sound in
     let l = lent d v c.args.address s of.fit of (c.requires.there sound) (c.in_ok-segment.ensures.value sound) in
-    forward-lent d.types v c.args.address s l c.twin_in.result c.twin_in.ensures
+    forward-lent d.types v c.args.address s l c.twin_in.result c.twin_in.ensures.twin
