@@ -26,7 +26,7 @@ use Rattle.hd_index_set.specs.Stands.{IsStand}
 use Rattle.hd_index_set.specs.Greatest.{lower_key, IsKnownLeaf}
 use Rattle.hd_volume.proofs.JoinLemmas.{AreOne}
 use Rattle.hd_index_set.proofs.Searching.{right-order}
-use Rattle.hd_index_set.proofs.Standing.{stand-greatest}
+use Rattle.hd_index_set.proofs.Standing.{stand-blocks, stand-greatest}
 
 -- ---- the entry of a key
 
@@ -142,12 +142,12 @@ stand-leaf k v key stand g x s here =
     elim x.height [
       | inl none ↦
           (let empty : top_blocks v ≡ [] = rw (eq-eqb t 0 none.0) refl in
-          absurd (some-not s.before stand.block s.behind (s.all ∙ ap (sequence_set c h) empty ∙ sequence-none c h)))
+          absurd (some-not s.before stand.block s.behind (stand-blocks x s ∙ ap (sequence_set c h) empty ∙ sequence-none c h)))
       | inr some ↦
           (let S : List ℕ → Type 0 = λ ns. IsIndexSet c h ns in
           let A : List ℕ → Type 0 = λ ns. IsAmong stand.block ns in
           let leaf = leaf-is c g h t (subst S (top-is v some.0) x.set) in
-          let same : s.before ++ (stand.block ∷ s.behind) ≡ leaf.left ++ (leaf_of c g h t ∷ leaf.right) = s.all ∙ ap (sequence_set c h) (top-is v some.0) ∙ sym leaf.whole in
+          let same : s.before ++ (stand.block ∷ s.behind) ≡ leaf.left ++ (leaf_of c g h t ∷ leaf.right) = stand-blocks x s ∙ ap (sequence_set c h) (top-is v some.0) ∙ sym leaf.whole in
           own-block c g leaf.left (leaf_of c g h t) leaf.right stand.block leaf.around (subst A same (among-right stand.block s.before (stand.block ∷ s.behind) (inl refl))) here
           ∙ sym (leaf-some k v g some.0))
     ]
@@ -157,7 +157,7 @@ pub known-leaf : (k : ℕ) (v : VolumeState) (key : List ℕ) (stand : Stand) (g
     → ((other : List ℕ) → g ≡ greatest_below other key (entries_in k (block_at v stand.block))) → IsKnownLeaf k v (lower_key k v key) stand.block
 known-leaf k v key stand g x s all some =
     let t : List ℕ = cond (stand.left == 0) key (last_key key (entries_in k (block_at v stand.left))) in
-    let is : g ≡ lower_key k v key = all t ∙ sym (stand-greatest k v key stand s) in
+    let is : g ≡ lower_key k v key = all t ∙ sym (stand-greatest k v key stand x s) in
     stand-leaf k v key stand g x s (found-in key g (entries_in k (block_at v stand.block)) all) ∙ ap (leaf_at k v) is
 
 -- ---- what it needs
