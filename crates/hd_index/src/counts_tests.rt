@@ -15,6 +15,7 @@ enum Call {
     Find,
     NextFrom,
     Insert,
+    InsertBetween,
     Remove,
 }
 
@@ -32,12 +33,14 @@ struct Cost {
 /// A search reads one block of each level, and `next_from` at most one more.
 ///
 /// An insert that takes no block goes down at most three times. The first time it looks for the greatest key below the new one, and reads of a
-/// level the block and perhaps its left neighbour; then, where it came to a block without room or without that key, it reads each block for its
-/// count; then it reads and writes each: five accesses a level.
-/// One that takes blocks goes down once more, to see whether the key is above all others; that makes six. For each block it goes down
-/// twice, and makes ten accesses besides: it adds the block and reads it, copies entries to it by three for each 1,024 bytes, and
-/// reads and writes the block that is divided and the one above. These are not more than six a level, save in an index of two
+/// level the block and perhaps its left neighbour; then, where the block to which it came has no key below the new one, it reads each block for
+/// its count; then it reads and writes each: five accesses a level.
+/// One that takes blocks always makes this way too, and goes down once more, to see whether the key is above all others; that makes six. For
+/// each block it goes down twice, and makes ten accesses besides: it adds the block and reads it, copies entries to it by three for each 1,024
+/// bytes, and reads and writes the block that is divided and the one above. These are not more than six a level, save in an index of two
 /// levels, of which some blocks are still in hand where they would be read.
+/// One between two keys of a block that has room goes down twice and writes that block alone, of which it reads no left neighbour: three
+/// accesses a level. A way more would make at least one more than these.
 ///
 /// A removal reads of a level the block and perhaps its left neighbour, and of a block that is emptied seven more: the block itself three
 /// times, and its neighbour twice, which both are written.
@@ -48,6 +51,7 @@ fn most(call: Call, height: u32, taken: u32) -> u64 {
         Call::NextFrom => height + 1,
         Call::Insert if taken == 0 => 5 * height,
         Call::Insert => (6 * height).saturating_mul(u64::from(taken) + 1),
+        Call::InsertBetween => 3 * height,
         Call::Remove => 9 * height,
     }
 }
@@ -69,7 +73,7 @@ fn make(
     match call {
         Call::Find => find(volume, dbd, key),
         Call::NextFrom => next_from(volume, dbd, key),
-        Call::Insert => {
+        Call::Insert | Call::InsertBetween => {
             insert(volume, dbd, key, n.wrapping_add(1))?;
             Ok(None)
         }
@@ -262,6 +266,65 @@ fn each_call_makes_a_few_accesses_a_level(rt: HostRuntime) -> Result<(), Fail> {
                 assert!(rt; tally.fault.is_none(), "{steps:?}: {tally:?}");
                 assert!(rt; tally.height >= height, "{steps:?}: {tally:?}");
             }
+        }
+    }
+    Ok(())
+}
+
+/// Of the numbers from 0 on, so many of which fill a block of the sequence set, the one in the midst of each block.
+fn midst(alloc: Global, count: u16, room: u16) -> Result<Vec<(u32, Option<u32>)>, AllocError>
+    requires { 0 < room }
+{
+    let mut numbers = Vec::new(alloc);
+    for n in 0..count {
+        if n % room == room / 2 {
+            numbers.push((u32::from(n), None))?;
+        }
+    }
+    Ok(numbers)
+}
+
+/// Enters keys in ascending order into a new index, takes some of them out, and enters those again.
+fn again_of(
+    alloc: Global,
+    dbd: &Dbd,
+    key_length: usize,
+    entered: &[(u32, Option<u32>)],
+    again: &[(u32, Option<u32>)],
+) -> Option<[Tally; 3]>
+    requires long { root_key_length dbd.now.types ≡ key_length }
+    requires bounds { (0 < key_length) × (key_length ≤ 255) }
+{
+    let store = new_store(alloc, dbd)?;
+    let (store, first) = ask(alloc, store, dbd, key_length, Call::Insert, entered)?;
+    let (store, second) = ask(alloc, store, dbd, key_length, Call::Remove, again)?;
+    let (_, third) = ask(alloc, store, dbd, key_length, Call::InsertBetween, again)?;
+    Some([first, second, third])
+}
+
+/// Enters so many keys in ascending order, so many of which fill a block of the sequence set, and the one in the midst of each block again.
+fn again(alloc: Global, size: u16, key_length: u8, count: u16, room: u16) -> Option<[Tally; 3]> {
+    if key_length == 0 || count == 0 || room == 0 {
+        return None;
+    }
+    let entered = mixed(alloc, count, 1).ok()?;
+    let between = midst(alloc, count, room).ok()?;
+    let dbd = database(alloc, size as u32, key_length as u32).ok()?;
+    again_of(alloc, &dbd, key_length as usize, &entered, &between)
+}
+
+#[test]
+fn each_call_between_two_keys_goes_down_twice(rt: HostRuntime) -> Result<(), Fail> {
+    let alloc = rt.alloc();
+    for (size, key_length, count, room, height) in [
+        (128, 3, 1200u16, 16, 3),
+        (128, 34, 198, 3, 5),
+        (792, 255, 198, 3, 5),
+    ] {
+        let tallies = again(alloc, size, key_length, count, room).expect(&rt, "an index");
+        for tally in tallies {
+            assert!(rt; tally.fault.is_none(), "{tally:?}");
+            assert!(rt; tally.height >= height, "{tally:?}");
         }
     }
     Ok(())

@@ -5,12 +5,12 @@ use Rattle.std.proofs.lemmas.Bool.{ltb-true, ltb-false}
 use Rattle.hd_volume.specs.Headers.{header_of}
 use Rattle.hd_volume.specs.Volumes.{VolumeState, block_at}
 use Rattle.hd_volume.specs.Entries.{Entry, entries_in}
-use Rattle.hd_levels.specs.Levels.{IndexBlocks, named, sequence_set, entries_below}
+use Rattle.hd_levels.specs.Levels.{IndexBlocks, named, sequence_set}
 use Rattle.hd_levels.specs.Ways.{child_of}
 use Rattle.hd_levels.specs.Neighbours.{last_of, last_child}
 use Rattle.hd_levels.specs.IndexSets.{next_in, index_blocks, top_level, HasIndexSet}
 use Rattle.hd_levels.proofs.Levels.{on-parts, set-level}
-use Rattle.hd_levels.proofs.Volumes.{entries-below, top-is}
+use Rattle.hd_levels.proofs.Volumes.{top-is}
 use Rattle.hd_volume.proofs.JoinLemmas.{AreOne}
 use Rattle.hd_index_set.specs.declared.stand.Stand.{Stand}
 use Rattle.hd_index_set.specs.declared.way.Fork.{Fork}
@@ -18,7 +18,7 @@ use Rattle.hd_index_set.specs.declared.way.Way.{Way}
 use Rattle.hd_index_set.specs.Blocks.{IsInOrder}
 use Rattle.hd_index_set.specs.Stands.{front_of, IsStand}
 use Rattle.hd_index_set.specs.Removals.{IsBelow, IsThin, IsThinBelow, IsOnWay, IsOnWayIn, IsFork, IsWay}
-use Rattle.hd_index_set.proofs.Standing.{block-order}
+use Rattle.hd_index_set.proofs.Standing.{later-blocks, block-order}
 
 -- ---- where a walk stands
 
@@ -29,8 +29,7 @@ on-stand k v key l stand x s =
       behind = s.behind;
       around = s.around;
       left_is = s.left_is;
-      whole = s.whole ∙ ap (entries_below (index_blocks k v) (top_level v)) (sym (top-is v s.some)) ∙ sym ((entries-below k v).1 x.version);
-      all = s.all ∙ ap (sequence_set (index_blocks k v) (top_level v)) (sym (top-is v s.some));
+      whole = s.whole ∙ ap (sequence_set (index_blocks k v) (top_level v)) (sym (top-is v s.some)) ∙ sym (later-blocks k v x);
     }
 
 pub on-order : (k : ℕ) (v : VolumeState) (key : List ℕ) (l : ℕ) (stand : Stand) → HasIndexSet k v → IsOnWayIn k v key l stand → IsInOrder k v stand.block

@@ -1,9 +1,9 @@
 -- The block of the sequence set in which a key stands is the one that it leads to, and where that has room no block is needed.
-use Rattle.std.proofs.Common.{◌≡◌, ◌≢◌, ◌⊎◌, inl, inr, ℕ, zero, suc, ◌+◌, ◌-◌, Bool, true, false, cond, List, [], ◌∷◌, ◌++◌, refl, sym, ap, ◌∙◌, subst, arith, ne_eqb}
+use Rattle.std.proofs.Common.{◌≡◌, ◌≢◌, ◌⊎◌, inl, inr, ℕ, zero, suc, ◌+◌, ◌<◌, Bool, true, false, cond, List, [], ◌∷◌, ◌++◌, refl, sym, ap, ◌∙◌, subst, arith, ne_eqb}
 use Rattle.std.specs.Prelude.{◌==◌}
 use Rattle.std.proofs.lemmas.Bool.{eq-eqb}
 use Rattle.std.proofs.lemmas.List.{append_assoc}
-use Rattle.hd_volume.specs.Headers.{Header, header_of}
+use Rattle.hd_volume.specs.Headers.{header_of}
 use Rattle.hd_volume.specs.Volumes.{VolumeState, block_at}
 use Rattle.hd_volume.specs.Rooms.{one_if}
 use Rattle.hd_volume.specs.Entries.{Entry, entries_in}
@@ -21,12 +21,12 @@ use Rattle.hd_levels.proofs.Descents.{leaf-is}
 use Rattle.hd_levels.proofs.Fullness.{full-above}
 use Rattle.hd_levels.proofs.Volumes.{top-is, tops-right, children-right}
 use Rattle.hd_index_set.specs.declared.stand.Stand.{Stand}
-use Rattle.hd_index_set.specs.Blocks.{IsInOrder}
+use Rattle.hd_index_set.specs.Blocks.{IsInOrder, leaf_at}
 use Rattle.hd_index_set.specs.Stands.{IsStand}
-use Rattle.hd_index_set.specs.Greatest.{greatest_of, IsKnownLeaf}
+use Rattle.hd_index_set.specs.Greatest.{lower_key, IsKnownLeaf}
 use Rattle.hd_volume.proofs.JoinLemmas.{AreOne}
 use Rattle.hd_index_set.proofs.Searching.{right-order}
-use Rattle.hd_index_set.proofs.Standing.{stand-greatest}
+use Rattle.hd_index_set.proofs.Standing.{stand-blocks, stand-greatest}
 
 -- ---- the entry of a key
 
@@ -124,9 +124,17 @@ some-not : (xs : List ℕ) (y : ℕ) (ys : List ℕ) → xs ++ (y ∷ ys) ≡ []
 some-not [] y ys e = cc
 some-not (x ∷ xs) y ys e = cc
 
+-- where there is no top a key leads to no block
+leaf-none : (k : ℕ) (v : VolumeState) (key : List ℕ) → (header_of v.image).top ≡ 0 → leaf_at k v key ≡ 0
+leaf-none k v key none = ap (λ (b : Bool). cond b 0 (leaf_of (index_blocks k v) key (top_level v) (header_of v.image).top)) (eq-eqb (header_of v.image).top 0 none)
+
+-- else it leads down from the top
+leaf-some : (k : ℕ) (v : VolumeState) (key : List ℕ) → 0 < (header_of v.image).top → leaf_at k v key ≡ leaf_of (index_blocks k v) key (top_level v) (header_of v.image).top
+leaf-some k v key some = ap (λ (b : Bool). cond b 0 (leaf_of (index_blocks k v) key (top_level v) (header_of v.image).top)) (ne_eqb (header_of v.image).top 0 (λ e. (let l = some in omega arith)))
+
 -- the block where a walk ended, in which a key stands
 stand-leaf : (k : ℕ) (v : VolumeState) (key : List ℕ) (stand : Stand) (g : List ℕ) → HasIndexSet k v → IsStand k v key 0 stand → IsKeyIn g (entries_in k (block_at v stand.block))
-    → stand.block ≡ leaf_of (index_blocks k v) g (top_level v) (header_of v.image).top
+    → stand.block ≡ leaf_at k v g
 stand-leaf k v key stand g x s here =
     let c : IndexBlocks = index_blocks k v in
     let t : ℕ = (header_of v.image).top in
@@ -134,22 +142,23 @@ stand-leaf k v key stand g x s here =
     elim x.height [
       | inl none ↦
           (let empty : top_blocks v ≡ [] = rw (eq-eqb t 0 none.0) refl in
-          absurd (some-not s.before stand.block s.behind (s.all ∙ ap (sequence_set c h) empty ∙ sequence-none c h)))
+          absurd (some-not s.before stand.block s.behind (stand-blocks x s ∙ ap (sequence_set c h) empty ∙ sequence-none c h)))
       | inr some ↦
           (let S : List ℕ → Type 0 = λ ns. IsIndexSet c h ns in
           let A : List ℕ → Type 0 = λ ns. IsAmong stand.block ns in
           let leaf = leaf-is c g h t (subst S (top-is v some.0) x.set) in
-          let same : s.before ++ (stand.block ∷ s.behind) ≡ leaf.left ++ (leaf_of c g h t ∷ leaf.right) = s.all ∙ ap (sequence_set c h) (top-is v some.0) ∙ sym leaf.whole in
-          own-block c g leaf.left (leaf_of c g h t) leaf.right stand.block leaf.around (subst A same (among-right stand.block s.before (stand.block ∷ s.behind) (inl refl))) here)
+          let same : s.before ++ (stand.block ∷ s.behind) ≡ leaf.left ++ (leaf_of c g h t ∷ leaf.right) = stand-blocks x s ∙ ap (sequence_set c h) (top-is v some.0) ∙ sym leaf.whole in
+          own-block c g leaf.left (leaf_of c g h t) leaf.right stand.block leaf.around (subst A same (among-right stand.block s.before (stand.block ∷ s.behind) (inl refl))) here
+          ∙ sym (leaf-some k v g some.0))
     ]
 
 -- where the block has a key below one, the greatest of the index below that leads to it
 pub known-leaf : (k : ℕ) (v : VolumeState) (key : List ℕ) (stand : Stand) (g : List ℕ) → HasIndexSet k v → IsStand k v key 0 stand
-    → ((other : List ℕ) → g ≡ greatest_below other key (entries_in k (block_at v stand.block))) → IsKnownLeaf k v (greatest_of k v key) stand.block
+    → ((other : List ℕ) → g ≡ greatest_below other key (entries_in k (block_at v stand.block))) → IsKnownLeaf k v (lower_key k v key) stand.block
 known-leaf k v key stand g x s all some =
     let t : List ℕ = cond (stand.left == 0) key (last_key key (entries_in k (block_at v stand.left))) in
-    let is : g ≡ greatest_of k v key = all t ∙ sym (stand-greatest k v key stand s) in
-    stand-leaf k v key stand g x s (found-in key g (entries_in k (block_at v stand.block)) all) ∙ ap (λ (b : List ℕ). leaf_of (index_blocks k v) b (top_level v) (header_of v.image).top) is
+    let is : g ≡ lower_key k v key = all t ∙ sym (stand-greatest k v key stand x s) in
+    stand-leaf k v key stand g x s (found-in key g (entries_in k (block_at v stand.block)) all) ∙ ap (leaf_at k v) is
 
 -- ---- what it needs
 
@@ -157,18 +166,14 @@ leaf-right : (k : ℕ) (v : VolumeState) (key : List ℕ) (l n : ℕ) → HasInd
 leaf-right k v key zero n x right = right
 leaf-right k v key (suc l) n x right = leaf-right k v key l (child_of key (entries_in k (block_at v n))) x (children-right k v key l n x right)
 
--- where there is no top a key leads to no block
-no-leaf : (k : ℕ) (v : VolumeState) (key : List ℕ) (n : ℕ) → (header_of v.image).top ≡ 0 → (header_of v.image).height ≡ 0 → n ≡ leaf_of (index_blocks k v) key (top_level v) (header_of v.image).top → n ≡ 0
-no-leaf k v key n top height is = is ∙ ap (λ (h : ℕ). leaf_of (index_blocks k v) key (h - 1) (header_of v.image).top) height ∙ top
-
 -- the block that a key leads to is in order
 pub leaf-order : (k : ℕ) (v : VolumeState) (key : List ℕ) (n : ℕ) → HasIndexSet k v → IsKnownLeaf k v key n → n ≢ 0 → IsInOrder k v n
 leaf-order k v key n x known some =
     let R : ℕ → Type 0 = λ i. IsRightBlock k v 0 i in
     let is = known some in
     elim x.height [
-      | inl none ↦ absurd (some (no-leaf k v key n none.0 none.1 is))
-      | inr tall ↦ right-order k v 0 n (subst R (sym is) (leaf-right k v key (top_level v) (header_of v.image).top x (tops-right k v x tall.0)))
+      | inl none ↦ absurd (some (is ∙ leaf-none k v key none.0))
+      | inr tall ↦ right-order k v 0 n (subst R (sym (is ∙ leaf-some k v key tall.0)) (leaf-right k v key (top_level v) (header_of v.image).top x (tops-right k v x tall.0)))
     ]
 
 -- and where it is not full, no block is needed
@@ -179,9 +184,9 @@ leaf-needs k v key n x known some room =
     let h : ℕ = (header_of v.image).height in
     let is = known some in
     elim x.height [
-      | inl none ↦ absurd (some (no-leaf k v key n none.0 none.1 is))
+      | inl none ↦ absurd (some (is ∙ leaf-none k v key none.0))
       | inr tall ↦
-          (let low : full_blocks c (entry_room k v.size) key 0 (leaf_of c key (top_level v) t) ≡ 0 = ap one_if (ap (is_full c (entry_room k v.size)) (sym is) ∙ room) in
+          (let low : full_blocks c (entry_room k v.size) key 0 (leaf_of c key (top_level v) t) ≡ 0 = ap one_if (ap (is_full c (entry_room k v.size)) (sym (is ∙ leaf-some k v key tall.0)) ∙ room) in
           let all : full_blocks c (entry_room k v.size) key (top_level v) t ≡ 0 =
           full-above c (entry_room k v.size) key 0 0 (omega arith) (top_level v) (top_level v) t (omega arith) low in
           none-needed t (full_blocks c (entry_room k v.size) key (top_level v) t) h (λ e. (let l = tall.0 in omega arith)) all (λ e. (let l = tall.1 in omega arith)))
@@ -194,7 +199,5 @@ leaf-needs k v key n x known some room =
 
 pub known-same : (k : ℕ) (v w : VolumeState) (key : List ℕ) (n : ℕ) → AreOne v w → IsKnownLeaf k v key n → IsKnownLeaf k w key n
 known-same k v w key n one known some =
-    let c : index_blocks k w ≡ index_blocks k v = rw (one.same.size, one.image) refl in
-    let head : header_of w.image ≡ header_of v.image = ap header_of one.image in
-    known some ∙ ap (λ (b : IndexBlocks). leaf_of b key (top_level v) (header_of v.image).top) (sym c)
-    ∙ ap (λ (h : Header). leaf_of (index_blocks k w) key (h.height - 1) h.top) (sym head)
+    let same : leaf_at k w key ≡ leaf_at k v key = rw (one.same.size, one.image) refl in
+    known some ∙ sym same

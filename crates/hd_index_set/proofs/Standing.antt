@@ -1,16 +1,16 @@
 -- A walk down an index set beside the left neighbour.
-use Rattle.std.proofs.Common.{◌≡◌, ◌≢◌, ◌⊎◌, inl, inr, ℕ, suc, ◌-◌, ◌<◌, cond, List, [], ◌∷◌, ◌++◌, Some, None, refl, sym, ap, ◌∙◌, subst, ne_eqb}
+use Rattle.std.proofs.Common.{◌≡◌, ◌≢◌, ◌⊎◌, inl, inr, ℕ, suc, ◌<◌, Bool, cond, List, [], ◌∷◌, ◌++◌, Some, None, refl, sym, ap, ◌∙◌, subst, ne_eqb}
 use Rattle.std.specs.Prelude.{◌==◌}
 use Rattle.std.proofs.lemmas.Bool.{eq-eqb}
-use Rattle.hd_volume.specs.Headers.{Header, header_of}
+use Rattle.hd_volume.specs.Headers.{header_of}
 use Rattle.hd_volume.specs.Volumes.{VolumeState, block_at}
-use Rattle.hd_volume.specs.Entries.{Entry, entries_in}
+use Rattle.hd_volume.specs.Entries.{Entry, entries_in, entry_blocks}
 use Rattle.hd_volume.specs.Indexes.{IsAmong}
 use Rattle.hd_levels.specs.Maps.{greatest_below, last_key}
 use Rattle.hd_levels.specs.Levels.{IndexBlocks, across, named, sequence_set, entries_below, AreOnLevel, IsIndexSet}
 use Rattle.hd_levels.specs.Ways.{child_of, IsAround, IsNamed}
 use Rattle.hd_levels.specs.Neighbours.{last_of, last_child}
-use Rattle.hd_levels.specs.IndexSets.{index_blocks, top_level, top_blocks, index_entries, HasIndexSet}
+use Rattle.hd_levels.specs.IndexSets.{index_blocks, top_level, top_blocks, sequence_blocks, index_entries, HasIndexSet}
 use Rattle.hd_levels.proofs.Levels.{on-parts, set-level, named-append}
 use Rattle.hd_levels.proofs.Descents.{around-down, names-about, top-around}
 use Rattle.hd_levels.proofs.Downs.{among-left, among-right, of-level}
@@ -51,9 +51,22 @@ last-none c l (n ∷ ns) none on z = let e : Some l ≡ None = sym (last-level c
 
 -- ---- one step
 
+-- the sequence set of a later version is the one below the top
+pub later-blocks : (k : ℕ) (v : VolumeState) → HasIndexSet k v → sequence_blocks k v ≡ sequence_set (index_blocks k v) (top_level v) (top_blocks v)
+later-blocks k v x =
+    ap (λ (b : Bool). cond b (entry_blocks v) (sequence_set (index_blocks k v) (top_level v) (top_blocks v))) (ne_eqb (header_of v.image).version 1 x.version)
+
 module _ {k : ℕ} {v : VolumeState} {key : List ℕ} {l : ℕ} {stand : Stand} (x : HasIndexSet k v) (s : IsStand k v key l stand) where
   on-all : AreOnLevel (index_blocks k v) l (s.before ++ (stand.block ∷ s.behind))
   on-all = set-level (index_blocks k v) l (s.before ++ (stand.block ∷ s.behind)) s.around.set
+
+  -- the blocks of its level lead down to the sequence set below the top
+  pub stand-blocks : sequence_set (index_blocks k v) l (s.before ++ (stand.block ∷ s.behind)) ≡ sequence_set (index_blocks k v) (top_level v) (top_blocks v)
+  stand-blocks = s.whole ∙ later-blocks k v x
+
+  -- so they have the whole index below them
+  pub stand-entries : entries_below (index_blocks k v) l (s.before ++ (stand.block ∷ s.behind)) ≡ index_entries k v
+  stand-entries = ap (across (index_blocks k v)) stand-blocks ∙ sym ((entries-below k v).1 x.version)
 
   -- its block is in order
   pub block-order : IsInOrder k v stand.block
@@ -93,11 +106,8 @@ stand-down k v key l stand below s block left =
       around = subst A (sym is) down;
       left_is = left ∙ ap (λ (i : ℕ). last_of (last_child c i) (named front)) s.left_is ∙ sym beside;
       whole =
-          ap (λ (i : ℕ). entries_below c l (named (across c s.before ++ front) ++ (i ∷ named (f.back ++ across c s.behind)))) is
-          ∙ ap (entries_below c l) (sym (names-about c s.before n s.behind front f.entry f.back f.is)) ∙ s.whole;
-      all =
           ap (λ (i : ℕ). sequence_set c l (named (across c s.before ++ front) ++ (i ∷ named (f.back ++ across c s.behind)))) is
-          ∙ ap (sequence_set c l) (sym (names-about c s.before n s.behind front f.entry f.back f.is)) ∙ s.all;
+          ∙ ap (sequence_set c l) (sym (names-about c s.before n s.behind front f.entry f.back f.is)) ∙ s.whole;
     }
 
 -- the front of a step names no 0: where its last name is 0 it is empty
@@ -138,11 +148,8 @@ stand-top k v key l stand x some left block level =
       around = subst L (sym level) (subst B (sym block) (top-around c key (top_level v) (header_of v.image).top (subst S (top-is v some) x.set)));
       left_is = left;
       whole =
-          ap (λ (i : ℕ). entries_below c i (stand.block ∷ [])) level ∙ ap (λ (n : ℕ). entries_below c (top_level v) (n ∷ [])) block
-          ∙ ap (entries_below c (top_level v)) (sym (top-is v some)) ∙ sym ((entries-below k v).1 x.version);
-      all =
           ap (λ (i : ℕ). sequence_set c i (stand.block ∷ [])) level ∙ ap (λ (n : ℕ). sequence_set c (top_level v) (n ∷ [])) block
-          ∙ ap (sequence_set c (top_level v)) (sym (top-is v some));
+          ∙ ap (sequence_set c (top_level v)) (sym (top-is v some)) ∙ sym (later-blocks k v x);
     }
 
 -- the last key of some blocks is that of the last of them
@@ -169,14 +176,14 @@ last-across c l other n (m ∷ ns) on =
     last-some m (n ∷ ns) on = last-some n ns on.2
 
 -- the greatest key below a key, by the block where the walk ended and its left neighbour
-pub stand-greatest : (k : ℕ) (v : VolumeState) (key : List ℕ) (stand : Stand) → IsStand k v key 0 stand
+pub stand-greatest : (k : ℕ) (v : VolumeState) (key : List ℕ) (stand : Stand) → HasIndexSet k v → IsStand k v key 0 stand
     → greatest_below key key (index_entries k v)
     ≡ greatest_below (cond (stand.left == 0) key (last_key key (entries_in k (block_at v stand.left)))) key (entries_in k (block_at v stand.block))
-stand-greatest k v key stand s =
+stand-greatest k v key stand x s =
     let c : IndexBlocks = index_blocks k v in
     let n : ℕ = stand.block in
     let on = on-parts c 0 s.before (n ∷ s.behind) (set-level c 0 (s.before ++ (n ∷ s.behind)) s.around.set) in
-    ap (greatest_below key key) (sym s.whole) ∙ greatest-near c key s.before n s.behind s.around
+    ap (greatest_below key key) (sym (stand-entries x s)) ∙ greatest-near c key s.before n s.behind s.around
     ∙ ap (λ (t : List ℕ). greatest_below t key (c.entries n)) (by-left s.before on.0 ∙ ap (λ (i : ℕ). cond (i == 0) key (last_key key (c.entries i))) (sym s.left_is))
   where
     by-left : (ns : List ℕ) → AreOnLevel (index_blocks k v) 0 ns
@@ -189,19 +196,15 @@ stand-greatest k v key stand s =
 
 -- ---- one image
 
-pub stand-same : (k : ℕ) (v w : VolumeState) (key : List ℕ) (l : ℕ) (stand : Stand) → AreOne v w → index_entries k w ≡ index_entries k v → IsStand k v key l stand → IsStand k w key l stand
-stand-same k v w key l stand one es s =
+pub stand-same : (k : ℕ) (v w : VolumeState) (key : List ℕ) (l : ℕ) (stand : Stand) → AreOne v w → IsStand k v key l stand → IsStand k w key l stand
+stand-same k v w key l stand one s =
     let c : index_blocks k w ≡ index_blocks k v = rw (one.same.size, one.image) refl in
+    let blocks : sequence_blocks k w ≡ sequence_blocks k v = rw (one.same.size, one.image) refl in
     let A : IndexBlocks → Type 0 = λ b. IsAround b key l s.before stand.block s.behind in
     record {
       before = s.before;
       behind = s.behind;
       around = subst A (sym c) s.around;
       left_is = s.left_is;
-      whole = ap (λ (b : IndexBlocks). entries_below b l (s.before ++ (stand.block ∷ s.behind))) c ∙ s.whole ∙ sym es;
-      all =
-          ap (λ (b : IndexBlocks). sequence_set b l (s.before ++ (stand.block ∷ s.behind))) c ∙ s.all
-          ∙ (let head : header_of w.image ≡ header_of v.image = ap header_of one.image in
-          ap (λ (b : IndexBlocks). sequence_set b (top_level v) (top_blocks v)) (sym c)
-          ∙ ap (λ (h : Header). sequence_set (index_blocks k w) (h.height - 1) (cond (h.top == 0) [] (h.top ∷ []))) (sym head));
+      whole = ap (λ (b : IndexBlocks). sequence_set b l (s.before ++ (stand.block ∷ s.behind))) c ∙ s.whole ∙ sym blocks;
     }

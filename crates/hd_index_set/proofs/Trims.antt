@@ -220,7 +220,7 @@ leaf-trimmed k u w key stand x s more there h =
     let own = new-level k n 0 0 (next_in u n) (front ++ f.back) new is in
     let step = edit-step new.edit in
     let all : index_entries k u ≡ across c (s.before ++ (n ∷ s.behind)) =
-    (entries-below k u).1 x.version ∙ ap (entries_below c (top_level u)) (top-is u s.some) ∙ sym s.whole in
+    (entries-below k u).1 x.version ∙ ap (entries_below c (top_level u)) (top-is u s.some) ∙ sym (ap (across c) s.whole) in
     let found : address_of key es ≢ None = λ none. there (ap (address_of key) all ∙ (around-answers c key s.before n s.behind s.around).0 ∙ none) in
     let ascend = (of-level c 0 n (s.before ++ (n ∷ s.behind)) s.around.set (among-right n s.before (n ∷ s.behind) (inl refl))).ascend in
     let name : f.entry.key ≡ key = same-key f.entry.key key (found-front key es f ascend found) in
@@ -284,7 +284,7 @@ fork-trimmed k u w key l stand below x s more thin down there h =
     let only = thin-entry c l b thin-b in
     let gone : Entry = only.0 in
     let all : index_entries k u ≡ entries_below c l before ++ (gone ∷ entries_below c l behind) =
-    (entries-below k u).1 x.version ∙ ap (entries_below c (top_level u)) (top-is u s.some) ∙ sym s.whole ∙ ap (entries_below c l) about
+    (entries-below k u).1 x.version ∙ ap (entries_below c (top_level u)) (top-is u s.some) ∙ sym (ap (across c) s.whole) ∙ ap (entries_below c l) about
     ∙ entries-append c l before (b ∷ behind) ∙ ap (λ (t : List Entry). entries_below c l before ++ t) (entries-append c l (b ∷ []) behind ∙ ap (λ (t : List Entry). t ++ entries_below c l behind) only.1) in
     let ascend = ascend-parts (gone ∷ []) (entries_below c l behind)
     (ascend-parts (entries_below c l before) (gone ∷ entries_below c l behind)
@@ -390,7 +390,7 @@ pub leaf-address : (k : ℕ) (v : VolumeState) (key : List ℕ) (stand : Stand) 
 leaf-address k v key stand x s =
     let c : IndexBlocks = index_blocks k v in
     let all : index_entries k v ≡ across c (s.before ++ (stand.block ∷ s.behind)) =
-    (entries-below k v).1 x.version ∙ ap (entries_below c (top_level v)) (top-is v s.some) ∙ sym s.whole in
+    (entries-below k v).1 x.version ∙ ap (entries_below c (top_level v)) (top-is v s.some) ∙ sym (ap (across c) s.whole) in
     ap (address_of key) all ∙ (around-answers c key s.before stand.block s.behind s.around).0
 
 -- two reads are one

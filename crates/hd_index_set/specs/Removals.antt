@@ -58,15 +58,15 @@ IsLinkedWay c d old new h top (suc steps) l left n right kept kept_top =
     (left_up : List ℕ) × (p : ℕ) × (right_up kept_up : List ℕ) × IsStepUp c d old new l left n right kept left_up p right_up kept_up
     × IsLinkedWay c d old new h top steps (suc l) left_up p right_up kept_up kept_top
 
--- A walk down by a key from the top, which is of level h, stands at a block of a level.
+-- A walk down by a key from the top, which is of level h, stands at a block of a level; the blocks of its level lead down to all of the
+-- sequence set.
 pub record IsOnWay (c : IndexBlocks) (next : ℕ → ℕ) (h top : ℕ) (key : List ℕ) (l : ℕ) (stand : Stand) : Type 0 where
   pub some : 0 < top
   pub before : List ℕ
   pub behind : List ℕ
   pub around : IsAround c key l before stand.block behind
   pub left_is : stand.left ≡ last_of 0 before
-  pub whole : entries_below c l (before ++ (stand.block ∷ behind)) ≡ entries_below c h (top ∷ [])
-  pub all : sequence_set c l (before ++ (stand.block ∷ behind)) ≡ sequence_set c h (top ∷ [])
+  pub whole : sequence_set c l (before ++ (stand.block ∷ behind)) ≡ sequence_set c h (top ∷ [])
   pub linked : AreLevelsLinked c next l (before ++ (stand.block ∷ behind))
   pub steps : ℕ
   pub way : IsLinkedWay c c next next h top steps l before stand.block behind (stand.block ∷ []) (top ∷ [])

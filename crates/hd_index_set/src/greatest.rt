@@ -8,7 +8,7 @@ ghost use Rattle.hd_entries.specs.Fields.{entry_count, entry_place, CountFits};
 ghost use Rattle.hd_entries.specs.Searches.{IfInOrder};
 ghost use Rattle.hd_levels.specs.IndexSets.{HasIndexSet};
 ghost use Rattle.hd_index_set.specs.Blocks.{IsInOrder};
-ghost use Rattle.hd_index_set.specs.Greatest.{IsLastOf, IsGreatestOf, IsGreatestBelow, IsKnownLeaf, greatest_of};
+ghost use Rattle.hd_index_set.specs.Greatest.{IsLastOf, IsGreatestOf, IsGreatestBelow, IsKnownLeaf, lower_key};
 ghost use Rattle.hd_index_set.specs.Stands.{IsStand};
 ghost use Rattle.hd_index_set.specs.Changes.{WhereSound};
 
@@ -106,7 +106,7 @@ pub fn last_in<S: BlockStore>(
     Ok(last_key_of(&IndexBlock { bytes, key_length }))
 }
 
-/// The greatest key of the index below a key.
+/// The greatest key of the index below a key, and the block of the sequence set to which it leads, where that is known.
 pub fn greatest<S: BlockStore>(
     volume: &mut Volume<S>,
     key_length: usize,
@@ -115,7 +115,7 @@ pub fn greatest<S: BlockStore>(
     requires short { key_length ≤ 255 }
     ensures read { IsRead volume.old result volume.new }
     ensures value { WhereSound volume.old result (λ r. HasIndexSet key_length volume.old → IsGreatestBelow key_length volume.old key.now r.key) }
-    ensures leaf { WhereSound volume.old result (λ r. HasIndexSet key_length volume.old → IsKnownLeaf key_length volume.old (greatest_of key_length volume.old key.now) r.leaf) }
+    ensures leaf { WhereSound volume.old result (λ r. HasIndexSet key_length volume.old → IsKnownLeaf key_length volume.old (lower_key key_length volume.old key.now) r.leaf) }
     ensures refusal { OnlyDevice result }
 {
     let top = volume.top();
@@ -132,7 +132,8 @@ pub fn greatest<S: BlockStore>(
     Ok(found)
 }
 
-/// The greatest key below a key in the block where a walk down by it ended, or else the last one of its left neighbour.
+/// The greatest key of the index below a key, and the block of the sequence set to which it leads, where that is known. A walk stands at a
+/// block about the key: that one's greatest key below it is taken, or else the last one of its left neighbour.
 fn greatest_about<S: BlockStore>(
     volume: &mut Volume<S>,
     key_length: usize,
@@ -142,7 +143,7 @@ fn greatest_about<S: BlockStore>(
     requires short { key_length ≤ 255 }
     ensures read { IsRead volume.old result volume.new }
     ensures value { WhereSound volume.old result (λ r. HasIndexSet key_length volume.old → IsStand key_length volume.old key.now 0 stand → IsGreatestBelow key_length volume.old key.now r.key) }
-    ensures leaf { WhereSound volume.old result (λ r. HasIndexSet key_length volume.old → IsStand key_length volume.old key.now 0 stand → IsKnownLeaf key_length volume.old (greatest_of key_length volume.old key.now) r.leaf) }
+    ensures leaf { WhereSound volume.old result (λ r. HasIndexSet key_length volume.old → IsStand key_length volume.old key.now 0 stand → IsKnownLeaf key_length volume.old (lower_key key_length volume.old key.now) r.leaf) }
     ensures refusal { OnlyDevice result }
 {
     let own = greatest_in(volume, key_length, stand.block, key)?;

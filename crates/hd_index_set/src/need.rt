@@ -1,4 +1,4 @@
-ghost use Rattle.std.specs.Prelude.{◌≡◌, ◌≢◌, ◌≤◌, true, false, ◌+◌, ◌<◌, cond, nat_le, ℕ, length, take, IsTrue, IfOk};
+ghost use Rattle.std.specs.Prelude.{◌≡◌, ◌≢◌, ◌≤◌, false, not, ◌+◌, ◌<◌, cond, nat_le, ℕ, length, take, IsTrue, IfOk};
 ghost use Rattle.std.specs.Option.{option_map_or};
 ghost use Rattle.hd_dbd.specs.Refusals.{OnlyDevice};
 ghost use Rattle.hd_volume.specs.Calls.{IsRead};
@@ -61,7 +61,8 @@ fn blocks_for<S: BlockStore>(
     Ok(needed)
 }
 
-/// The blocks that an entry needs where a key leads, to this block if it is not 0: none where that has room.
+/// The blocks that an entry needs where a key leads; the block of the sequence set there is given, 0 where it is not known. None where it
+/// has room.
 pub fn needed_at<S: BlockStore>(
     volume: &mut Volume<S>,
     key_length: usize,
@@ -90,8 +91,8 @@ fn has_room<S: BlockStore>(
 ) -> Result<bool, Refused>
     requires short { key_length ≤ 255 }
     ensures read { IsRead volume.old result volume.new }
-    ensures some { IfOk result (λ room. room ≡ true → n ≢ 0) }
-    ensures value { WhereSound volume.old result (λ room. room ≡ true → IsInOrder key_length volume.old n → is_full (index_blocks key_length volume.old) (entry_room key_length volume.old.size) n ≡ false) }
+    ensures none { IfOk result (λ room. n ≡ 0 → room ≡ false) }
+    ensures value { WhereSound volume.old result (λ room. n ≢ 0 → IsInOrder key_length volume.old n → room ≡ not (is_full (index_blocks key_length volume.old) (entry_room key_length volume.old.size) n)) }
     ensures refusal { OnlyDevice result }
 {
     if n == 0 {

@@ -3,7 +3,7 @@ use Rattle.hd_volume.specs.Headers.{header_of}
 use Rattle.hd_levels.specs.Maps.{greatest_below}
 use Rattle.hd_levels.specs.IndexSets.{top_level}
 use Rattle.hd_volume.proofs.JoinLemmas.{read-one}
-use Rattle.hd_index_set.specs.Greatest.{greatest_of, IsKnownLeaf}
+use Rattle.hd_index_set.specs.Greatest.{lower_key, IsKnownLeaf}
 use Rattle.hd_index_set.proofs.Searching.{set-same, one-turned}
 use Rattle.hd_index_set.proofs.Standing.{stand-top, stand-same}
 use Rattle.hd_index_set.proofs.Leaves.{known-same}
@@ -25,7 +25,7 @@ returns-clause-value g c sound x =
     let now : IsTrue w.is_sound = rw c.in_ok-stand.ensures.read.call.sound sound in
     let one = read-one c.in_ok-stand.ensures.read now in
     let same = set-same k v w one x in
-    c.in_ok-found.ensures.value now same.0 (stand-same k v w key 0 c.in_ok-stand.stand one same.1 down) ∙ ap (greatest_below key key) same.1
+    c.in_ok-found.ensures.value now same.0 (stand-same k v w key 0 c.in_ok-stand.stand one down) ∙ ap (greatest_below key key) same.1
 
 pub returns-clause-leaf : goal.returns-clause-leaf
 returns-clause-leaf g c sound x =
@@ -45,4 +45,4 @@ returns-clause-leaf g c sound x =
     let same = set-same k v w one x in
     let N : List ℕ → Type 0 = λ b. IsKnownLeaf k v b c.in_ok-found.found.leaf in
     subst N (ap (greatest_below key key) same.1)
-    (known-same k w v (greatest_of k w key) c.in_ok-found.found.leaf (one-turned one) (c.in_ok-found.ensures.leaf now same.0 (stand-same k v w key 0 c.in_ok-stand.stand one same.1 down)))
+    (known-same k w v (lower_key k w key) c.in_ok-found.found.leaf (one-turned one) (c.in_ok-found.ensures.leaf now same.0 (stand-same k v w key 0 c.in_ok-stand.stand one down)))

@@ -25,7 +25,7 @@ returns-then-is_some-clause-value g c sound x s =
     let key = c.args.key.now in
     let left : ℕ = c.args.stand.left in
     let t : List ℕ = cond (left == 0) key (last_key key (entries_in k (block_at v left))) in
-    some-any k c.in_ok-own.own key t (sym c.is_some.ensures ∙ c.if-is_some.true) ∙ c.in_ok-own.ensures.value sound (block-order x s) t ∙ sym (stand-greatest k v key c.args.stand s)
+    some-any k c.in_ok-own.own key t (sym c.is_some.ensures ∙ c.if-is_some.true) ∙ c.in_ok-own.ensures.value sound (block-order x s) t ∙ sym (stand-greatest k v key c.args.stand x s)
 
 pub returns-then-is_some-clause-leaf : goal.returns-then-is_some-clause-leaf
 returns-then-is_some-clause-leaf g c sound x s =
@@ -43,7 +43,7 @@ returns-then-stand-eq0-clause-value g c sound x s =
     let t : List ℕ = cond (left == 0) key (last_key key (entries_in k (block_at v left))) in
     let e : t ≡ key = rw (eq-eqb left 0 c.if-stand-eq0.true) refl in
     c.in_ok-own.ensures.value sound (block-order x s) key ∙ ap (λ (z : List ℕ). greatest_below z key (entries_in k (block_at v c.args.stand.block))) (sym e)
-    ∙ sym (stand-greatest k v key c.args.stand s)
+    ∙ sym (stand-greatest k v key c.args.stand x s)
 
 pub returns-clause-value : goal.returns-clause-value
 returns-clause-value g c sound x s =
@@ -62,4 +62,4 @@ returns-clause-value g c sound x s =
     let some : left ≢ 0 = λ z. (let f = c.if-stand-eq0.false in f z) in
     let e : last_key key (entries_in k (block_at v left)) ≡ t = sym (ap (λ b. cond b key (last_key key (entries_in k (block_at v left)))) (ne_eqb left 0 some)) in
     c.in_ok-last.ensures.value now (order-same k v w left size image (left-order x s some)) key ∙ ap (λ (b : List ℕ). last_key key (entries_in k b)) same ∙ e
-    ∙ sym (none-any k c.in_ok-own.own t (sym c.is_some.ensures ∙ c.if-is_some.false)) ∙ own t ∙ sym (stand-greatest k v key c.args.stand s)
+    ∙ sym (none-any k c.in_ok-own.own t (sym c.is_some.ensures ∙ c.if-is_some.false)) ∙ own t ∙ sym (stand-greatest k v key c.args.stand x s)

@@ -1,4 +1,8 @@
-use Rattle.std.proofs.Common.{ℕ, IsTrue, ◌∙◌}
+use Rattle.std.proofs.Common.{◌≡◌, ◌≢◌, ℕ, true, false, IsTrue, sym, ◌∙◌}
+use Rattle.std.proofs.lemmas.Bool.{not-true}
+use Rattle.hd_volume.specs.Indexes.{entry_room}
+use Rattle.hd_levels.specs.IndexSets.{index_blocks}
+use Rattle.hd_levels.specs.Needs.{is_full}
 use Rattle.hd_volume.proofs.JoinLemmas.{read-one}
 use Rattle.hd_index_set.proofs.Searching.{set-same}
 use Rattle.hd_index_set.proofs.Filling.{needed-same}
@@ -10,8 +14,9 @@ returns-then-room-clause-value g c sound x =
     let v = c.args.volume.now in
     let k : ℕ = c.args.key_length in
     let known = c.requires.leaf sound x in
-    let some = c.in_ok-room.ensures.some c.if-room.true in
-    leaf-needs k v c.args.by.now c.args.leaf x known some (c.in_ok-room.ensures.value sound c.if-room.true (leaf-order k v c.args.by.now c.args.leaf x known some))
+    let some : c.args.leaf ≢ 0 = λ e. (let f : false ≡ true = sym (c.in_ok-room.ensures.none e) ∙ c.if-room.true in cc) in
+    let room = c.in_ok-room.ensures.value sound some (leaf-order k v c.args.by.now c.args.leaf x known some) in
+    leaf-needs k v c.args.by.now c.args.leaf x known some (not-true (is_full (index_blocks k v) (entry_room k v.size) c.args.leaf) (sym room ∙ c.if-room.true))
 
 pub returns-clause-value : goal.returns-clause-value
 returns-clause-value g c sound x =

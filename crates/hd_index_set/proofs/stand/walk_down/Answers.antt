@@ -30,8 +30,8 @@ loop-preserved g c =
           let now : IsTrue w.is_sound = rw inv.read.call.sound s in
           let one = read-one inv.read now in
           let same = set-same k v w one x in
-          let up = stand-same k v w key (suc less) c.loop.stand one same.1 (subst S more (inv.stands s x h)) in
-          stand-same k w v key less c.in_ok-stand.stand (one-turned one) (sym same.1) (c.in_ok-stand.ensures.stand now same.0 less up);
+          let up = stand-same k v w key (suc less) c.loop.stand one (subst S more (inv.stands s x h)) in
+          stand-same k w v key less c.in_ok-stand.stand (one-turned one) (c.in_ok-stand.ensures.stand now same.0 less up);
     }
 
 pub returns-clause-stand : goal.returns-clause-stand

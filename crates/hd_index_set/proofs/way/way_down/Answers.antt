@@ -45,7 +45,7 @@ loop-steps-preserved g c =
     (let now : IsTrue y.is_sound = rw both.call.sound s in
     let one = read-one both now in
     let same = set-same k v y one x in
-    let st = stand-same k v y key (suc less) c.loop-steps.stand one same.1 (on-stand k v key (suc less) c.loop-steps.stand x (up s x h)) in
+    let st = stand-same k v y key (suc less) c.loop-steps.stand one (on-stand k v key (suc less) c.loop-steps.stand x (up s x h)) in
     below-one k y v key c.loop-steps.stand c.in_ok-stand.stand (one-turned one) (c.in_ok-stand.ensures.below now same.0 less st)) in
     record {
       read = read-ok 0 (reads-join (Ok c.in_ok-stand.stand) both c.in_ok-stand.ensures.read);
