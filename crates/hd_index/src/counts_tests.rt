@@ -40,7 +40,8 @@ struct Cost {
 /// bytes, and reads and writes the block that is divided and the one above. These are not more than six a level, save in an index of two
 /// levels, of which some blocks are still in hand where they would be read.
 /// One between two keys of a block that has room goes down twice and writes that block alone, of which it reads no left neighbour: three
-/// accesses a level. A way more would make at least one more than these.
+/// accesses a level. A way more would make at least one more than these, save in an index of at most four levels, of which the blocks are
+/// still in hand.
 ///
 /// A removal reads of a level the block and perhaps its left neighbour, and of a block that is emptied seven more: the block itself three
 /// times, and its neighbour twice, which both are written.
@@ -314,7 +315,7 @@ fn again(alloc: Global, size: u16, key_length: u8, count: u16, room: u16) -> Opt
 }
 
 #[test]
-fn each_call_between_two_keys_goes_down_twice(rt: HostRuntime) -> Result<(), Fail> {
+fn each_insert_between_two_keys_goes_down_twice(rt: HostRuntime) -> Result<(), Fail> {
     let alloc = rt.alloc();
     for (size, key_length, count, room, height) in [
         (128, 3, 1200u16, 16, 3),
