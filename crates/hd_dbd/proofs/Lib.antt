@@ -18,5 +18,5 @@ pub mod Walks
 pub mod InSequence
 pub mod WorkedSample
 pub mod Loading
-mod KeyOrder
+pub mod KeyOrder
 mod Under
