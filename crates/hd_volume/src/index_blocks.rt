@@ -78,6 +78,18 @@ impl<S: BlockStore> Volume<S> {
         Ok(n)
     }
 
+    /// The block that was noted last, 0 for none. It only says where to look first: nothing is promised of it.
+    pub fn noted_block(&self) -> u32 {
+        self.noted
+    }
+
+    /// Notes a block, to be looked at first by the next call.
+    pub fn note_block(&mut self, n: u32)
+        ensures same { self.new ≡ self.old }
+    {
+        self.noted = n;
+    }
+
     /// Makes an index block free.
     pub fn give_block(&mut self, n: u32) -> Result<(), Refused>
         requires formatted { IsTrue self.old.is_sound → IsFormatted self.old }

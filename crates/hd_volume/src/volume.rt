@@ -48,6 +48,7 @@ pub struct Volume<S: BlockStore> {
     pub(crate) sizes: Vec<SegmentSize>,
     pub(crate) spacing: FreeSpace,
     pub(crate) hints: Hints,
+    pub(crate) noted: u32,
 }
 
 impl<S: BlockStore> Model for Volume<S> {
@@ -89,6 +90,7 @@ impl<S: BlockStore> Volume<S> {
                 sizes,
                 spacing: NO_SPACING,
                 hints: Hints::new(alloc),
+                noted: 0,
             }),
             Err(refused) => Err((blocks.into_store(), refused)),
         }
