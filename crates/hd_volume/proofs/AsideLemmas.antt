@@ -1,14 +1,17 @@
 -- Blocks in memory beside block 0, and the bytes that they make with a store.
-use Rattle.std.proofs.Common.{◌≡◌, ◌≢◌, true, false, Bool, IsTrue, ℕ, List, [], ◌∷◌, ◌++◌, length, drop, refl, sym, ap, subst, ◌∙◌, arith}
+use Rattle.std.proofs.Common.{◌≡◌, ◌≢◌, inl, inr, true, false, Bool, IsTrue, ℕ, ◌*◌, ◌<◌, List, [], ◌∷◌, ◌++◌, length, drop, replicate, refl, sym, ap, subst, ◌∙◌, arith}
+use Rattle.std.proofs.lemmas.Bool.{cases_eq}
 use Rattle.std.proofs.lemmas.List.{take_at}
 use Rattle.std.specs.List.{AllByRecursion, AllZip}
 use Rattle.std.specs.Vec.{with_items}
 use Rattle.std.specs.declared.vec.Vec.{Vec}
 use Rattle.std.specs.declared.alloc.Global.{Global}
 use Rattle.hd_bytes.specs.Blocks.{block_of, grown, HasBlock}
+use Rattle.hd_bytes.proofs.BlockLemmas.{length-grown, block-grown, new-block}
+use Rattle.hd_volume.specs.Images.{KeepsFirst}
 use Rattle.hd_volume.specs.declared.buffer.Buffer.{Buffer}
 use Rattle.hd_volume.specs.Buffers.{put_in, put_all, image_of, IsBuffer, AreBuffers, IsBlockLong, HoldsNot, AreApart, AreLater, IsMovedToFront, IsInBytes, IsWrittenBack, AreKept, KeepsImage}
-use Rattle.hd_volume.proofs.BufferLemmas.{Buffers, put-length, put-other, put-both, put-grown, put-stands, length-put_in, other-put_in, own-put_in, unchanged-put, still-buffer, stays-buffer, grown-buffer, image-length, image-hand-written}
+use Rattle.hd_volume.proofs.BufferLemmas.{Buffers, put-length, put-other, put-both, put-grown, put-stands, length-put_in, other-put_in, own-put_in, unchanged-put, still-buffer, stays-buffer, grown-buffer, grown-buffers, image-length, image-grown, image-hand-written}
 
 -- ---- one of them comes to the front
 
@@ -239,6 +242,24 @@ module _ {size : ℕ} {c d : List ℕ} {old new : Buffer} {aside : List Buffer} 
       sym (put-past size d new aside m b.buffer l.1 later-brought.each.1 (λ _. b.other)) ∙ ap (λ (t : List ℕ). put_all size t aside) b.same
       ∙ put-past size c old aside l.0 p.each.0 l.1 p.each.1 p.apart.0
 
+-- a buffer that was written back, and then has a block of the store that none of them holds
+pub written-brought : {size n : ℕ} {c d : List ℕ} {old new : Buffer} {aside : List Buffer} → IsBlockLong size old → IsBuffer size c old → d ≡ put_in size c old → AllByRecursion (HoldsNot n) (old ∷ aside)
+    → n ≢ 0 → HasBlock size c n → new.number ≡ n → new.bytes.items ≡ block_of size c n → new.changed ≡ false → IsBrought size c d old new aside
+written-brought {size} {n} {c} {d} {old} {new} {aside} l h is other later there number same un =
+    let len : length d ≡ length c = ap length is ∙ length-put_in size c old l h in
+    let stays : block_of size d n ≡ block_of size c n = ap (λ (t : List ℕ). block_of size t n) is ∙ other-put_in size c old n l h there (λ holds e. other.0 holds (sym e)) in
+    let b : IsBuffer size d new = record {
+      there = λ _. subst (HasBlock size d) (sym number) (rw len there);
+      same = λ _ _. same ∙ sym stays ∙ ap (block_of size d) (sym number);
+    } in
+    record {
+      len = len;
+      buffer = b;
+      same = unchanged-put size d new b (λ _. un) ∙ is;
+      later = λ e. later (sym number ∙ e);
+      other = subst (λ k. AllByRecursion (HoldsNot k) aside) (sym number) other.1;
+    }
+
 -- ---- they are written back
 
 module _ {size : ℕ} {c : List ℕ} {b : Buffer} (m : IsBlockLong size b) where
@@ -349,3 +370,81 @@ put_all-grown size c [] l h blocks = refl
 put_all-grown size c (b ∷ rest) l h blocks =
     ap (λ (t : List ℕ). put_in size t b) (put_all-grown size c rest l.1 h.1 blocks)
     ∙ put-grown size b.number blocks (put_all size c rest) b.bytes.items b.holds (λ holds. rw (length-put_all size c rest l.1 h.1) (h.0.there holds)) (sym b.bytes.ok.0 ∙ l.0)
+
+module _ {size store_size store_size' : ℕ} {c c' : List ℕ} {s s' : Bool} {head hand : Buffer} {aside : List Buffer} (k : AreKept store_size c s size head hand aside) where
+  -- what is kept over a store with a block 0 is kept where it grows
+  pub grown-kept : store_size' ≡ store_size → s' ≡ s → (IsTrue s → HasBlock size (image_of size (put_all size c aside) head hand) 0) → (blocks : ℕ) → (IsTrue s → c' ≡ grown store_size c blocks)
+      → AreKept store_size' c' s' size head hand aside
+  grown-kept same sound there blocks is = record {
+    same_size = same ∙ k.same_size;
+    some = k.some;
+    small = k.small;
+    head_len = k.head_len;
+    hand_len = k.hand_len;
+    aside_len = k.aside_len;
+    head_number = k.head_number;
+    ready = λ after.
+        let before : IsTrue s = rw (← sound) after in
+        let first : HasBlock size c 0 = let len = kept-length k before in let t = there before in omega arith in
+        rw (is before, k.same_size) (grown-buffers (stored-buffers k before) blocks first);
+    others = λ after.
+        let before : IsTrue s = rw (← sound) after in
+        rw (is before, k.same_size) (grown-later (k.others before) blocks);
+  }
+
+  -- and where another block came to hand
+  pub brought-kept : {hand' : Buffer} {aside' : List Buffer} → store_size' ≡ store_size → s' ≡ s → AllByRecursion (IsBlockLong store_size) (hand' ∷ aside') → (IsTrue s → length c' ≡ length c)
+      → (IsTrue s → KeepsFirst store_size c c') → (IsTrue s → AreLater store_size c' (hand' ∷ aside')) → AreKept store_size' c' s' size head hand' aside'
+  brought-kept {hand'} {aside'} same sound long len first later =
+      let long' : AllByRecursion (IsBlockLong size) (hand' ∷ aside') = subst (λ (z : ℕ). AllByRecursion (IsBlockLong z) (hand' ∷ aside')) k.same_size long in
+      let later' : IsTrue s → AreLater size c' (hand' ∷ aside') = subst (λ (z : ℕ). IsTrue s → AreLater z c' (hand' ∷ aside')) k.same_size later in
+      let first' : IsTrue s → KeepsFirst size c c' = subst (λ (z : ℕ). IsTrue s → KeepsFirst z c c') k.same_size first in
+      record {
+        same_size = same ∙ k.same_size;
+        some = k.some;
+        small = k.small;
+        head_len = k.head_len;
+        hand_len = long'.0;
+        aside_len = long'.1;
+        head_number = k.head_number;
+        ready = λ after.
+            let before : IsTrue s = rw (← sound) after in
+            let are : AreBuffers size c head hand = k.ready before in
+            let all : AreLater size c' (hand' ∷ aside') = later' before in
+            record {
+              at_front = stays-buffer size c c' head k.head_number are.at_front (len before) (first' before).first;
+              in_hand = all.each.0;
+              first = λ there. are.first (rw (← len before) there);
+              later = all.later.0;
+            };
+        others = λ after. later' (rw (← sound) after);
+      }
+
+-- the image is as it was then
+pub brought-image : {store_size size : ℕ} (c c' : List ℕ) (head hand hand' : Buffer) (aside aside' : List Buffer) → store_size ≡ size → put_all store_size c' (hand' ∷ aside') ≡ put_all store_size c (hand ∷ aside)
+    → image_of size (put_all size c' aside') head hand' ≡ image_of size (put_all size c aside) head hand
+brought-image {store_size} {size} c c' head hand hand' aside aside' sized same =
+    ap (λ (t : List ℕ). put_in size t head) (subst (λ (z : ℕ). put_all z c' (hand' ∷ aside') ≡ put_all z c (hand ∷ aside)) sized same)
+
+-- the image grows with the store
+pub kept-grown : {store_size size : ℕ} {c : List ℕ} {s : Bool} {head hand : Buffer} {aside : List Buffer} → AreKept store_size c s size head hand aside → IsTrue s → (blocks : ℕ)
+    → image_of size (put_all size (grown size c blocks) aside) head hand ≡ grown size (image_of size (put_all size c aside) head hand) blocks
+kept-grown {store_size} {size} {c} {s} {head} {hand} {aside} k sound blocks =
+    ap (λ (t : List ℕ). image_of size t head hand) (put_all-grown size c aside k.aside_len (k.others sound).each.1 blocks) ∙ image-grown (buffers-of k sound) blocks
+
+-- the block behind whole blocks, once there is one
+pub block-behind : (size n : ℕ) (c : List ℕ) → 0 < size → HasBlock size c 0 → length c ≡ n * size
+    → (0 < n) × HasBlock size (grown size c 1) n × (block_of size (grown size c 1) n ≡ replicate size 0)
+block-behind size n c positive first whole =
+    let some : 0 < n = elim (cases_eq n 0) [
+      | inl z ↦ (let none : n * size ≡ 0 = rw z (let e : 0 * size ≡ 0 = omega arith in e) in absurd (omega arith))
+      | inr s ↦ omega arith
+    ] in
+    let h : HasBlock size (grown size c 1) n = let len = length-grown size 1 c in omega arith in
+    (some, h, new-block size 1 n c (omega arith) h)
+
+-- block 0 is kept where the bytes grow first
+pub first-grown : {size : ℕ} {c d : List ℕ} (blocks : ℕ) → KeepsFirst size (grown size c blocks) d → KeepsFirst size c d
+first-grown {size} {c} {d} blocks k =
+    let more = length-grown size blocks c in
+    record { len = let l = k.len in omega arith; first = λ there. k.first (omega arith) ∙ block-grown size blocks 0 c there }

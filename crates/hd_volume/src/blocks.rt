@@ -1,4 +1,4 @@
-ghost use Rattle.std.specs.Prelude.{◌≡◌, ◌+◌, ◌/◌, ◌%◌, ◌≤◌, ◌<◌, true, false, vec_len, IsTrue, length, ◌∷◌, OnOk, IfOk, IfErr, IfSome, slice_index};
+ghost use Rattle.std.specs.Prelude.{◌≡◌, ◌≢◌, ℕ, ◌+◌, ◌*◌, ◌/◌, ◌%◌, ◌≤◌, ◌<◌, true, false, vec_len, IsTrue, length, ◌∷◌, replicate, None, OnOk, IfOk, IfErr, IfSome, slice_index};
 ghost use Rattle.std.specs.List.{AllByRecursion, AllZip};
 ghost use Rattle.hd_dbd.specs.Refusals.{OnlyDevice, OnlyMemory};
 ghost use Rattle.hd_bytes.specs.Blocks.{block_of, grown, HasBlock};
@@ -9,7 +9,7 @@ ghost use Rattle.hd_volume.specs.Stores.{CountsDevice, StaysSound, RefusesGrowth
 ghost use Rattle.hd_volume.specs.Images.{ChangesBlock, KeepsFirst};
 ghost use Rattle.hd_volume.specs.Buffers.{AreBuffers, AreLater, IsBlockLong, HoldsNot, IsMovedToFront, IsInBytes, IsWrittenBack, put_all, image_of, ChangesHand, ChangesHead, KeepsImage};
 
-use crate::buffer::{Buffer, bring, write_back};
+use crate::buffer::{Buffer, bring, hold_zeros, write_back};
 use crate::store::BlockStore;
 use hd_block::Block;
 use hd_bytes::{write_bytes, write_u32};
@@ -259,7 +259,8 @@ impl<S: BlockStore> Blocks<S> {
         self.store.reserve(blocks)
     }
 
-    /// Adds a block of zeros behind the last. `Memory`, only beyond the room reserved, leaves all as it was.
+    /// Adds a block of zeros behind the last, which is in hand then and not read, where the last was whole. `Memory`, only
+    /// beyond the room reserved, leaves all as it was.
     pub fn grow(&mut self) -> Result<(), Refused>
         requires there { IsTrue self.old.is_sound → HasBlock self.old.size self.old.image 0 }
         ensures image { OnOk result (IsTrue self.old.is_sound → self.new.image ≡ grown self.old.size self.old.image 1) }
@@ -271,9 +272,28 @@ impl<S: BlockStore> Blocks<S> {
         ensures counts { CountsDevice result self.old.failures self.new.failures }
         ensures sound { StaysSound result self.old.is_sound self.new.is_sound }
         ensures size { self.new.size ≡ self.old.size }
+        ensures hand { OnOk result (IsTrue self.old.is_sound → (n : ℕ) → n < 4294967296 → length self.old.image ≡ n * self.old.size → self.new.hand ≡ n) }
     {
+        let next = self.next_number();
         self.store.grow(1)?;
+        let Some(n) = next else {
+            return Ok(());
+        };
+        bring_zeros(&mut self.store, &mut self.hand, &mut self.aside, n)?;
         Ok(())
+    }
+
+    /// The number of a block that is added behind the last; `None` where the last is not whole, or the number too great.
+    fn next_number(&self) -> Option<u32>
+        ensures whole { IfSome result (λ n. IsTrue self.now.is_sound → length self.now.image ≡ n * self.now.size) }
+        ensures none { result ≡ None → IsTrue self.now.is_sound → (n : ℕ) → n < 4294967296 → length self.now.image ≢ n * self.now.size }
+    {
+        let size = self.block_size as u64;
+        let length = self.length();
+        if length % size != 0 {
+            return None;
+        }
+        u32::try_from(length / size).ok()
     }
 
     /// Writes what is changed to the store: the blocks aside, the block in hand, and then block 0.
@@ -365,6 +385,40 @@ fn bring_other<S: BlockStore>(
         return Ok(());
     }
     bring(store, hand, n)?;
+    Ok(())
+}
+
+/// Brings a block of zeros to hand, and reads nothing.
+fn bring_zeros<S: BlockStore>(
+    store: &mut S,
+    hand: &mut Buffer,
+    aside: &mut [Buffer],
+    n: u32,
+) -> Result<(), Refused>
+    requires len { AllByRecursion (IsBlockLong (S.size store.old)) (hand.old ∷ aside.old) }
+    requires ready { IsTrue (S.is_sound store.old) → AreLater (S.size store.old) (S.contents store.old) (hand.old ∷ aside.old) }
+    requires there { IsTrue (S.is_sound store.old) → (0 < n) × HasBlock (S.size store.old) (S.contents store.old) n }
+    requires zeros { IsTrue (S.is_sound store.old) → block_of (S.size store.old) (S.contents store.old) n ≡ replicate (S.size store.old) 0 }
+    ensures contents { OnOk result (IsTrue (S.is_sound store.old) → put_all (S.size store.old) (S.contents store.new) (hand.new ∷ aside.new) ≡ put_all (S.size store.old) (S.contents store.old) (hand.old ∷ aside.old)) }
+    ensures length { OnOk result (IsTrue (S.is_sound store.old) → length (S.contents store.new) ≡ length (S.contents store.old)) }
+    ensures first { OnOk result (IsTrue (S.is_sound store.old) → KeepsFirst (S.size store.old) (S.contents store.old) (S.contents store.new)) }
+    ensures ready { OnOk result (IsTrue (S.is_sound store.old) → AreLater (S.size store.old) (S.contents store.new) (hand.new ∷ aside.new)) }
+    ensures holds { OnOk result ((hand.new.holds ≡ true) × (hand.new.number ≡ n)) }
+    ensures len { AllByRecursion (IsBlockLong (S.size store.old)) (hand.new ∷ aside.new) }
+    ensures refusal { OnlyDevice result }
+    ensures counts { CountsDevice result (S.failures store.old) (S.failures store.new) }
+    ensures sound { StaysSound result (S.is_sound store.old) (S.is_sound store.new) }
+    ensures size { S.size store.new ≡ S.size store.old }
+    ensures room { S.room store.new ≡ S.room store.old }
+{
+    if is_held(hand, n) {
+        return Ok(());
+    }
+    if turn_to(hand, aside, n) {
+        return Ok(());
+    }
+    write_back(store, hand)?;
+    hold_zeros(hand, n);
     Ok(())
 }
 

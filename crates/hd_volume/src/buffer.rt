@@ -1,4 +1,4 @@
-ghost use Rattle.std.specs.Prelude.{◌≡◌, true, false, vec_len, IsTrue, length, OnOk};
+ghost use Rattle.std.specs.Prelude.{◌≡◌, true, false, vec_len, IsTrue, length, replicate, OnOk};
 ghost use Rattle.hd_dbd.specs.Refusals.{OnlyDevice};
 ghost use Rattle.hd_bytes.specs.Blocks.{HasBlock};
 ghost use Rattle.hd_volume.specs.Stores.{CountsDevice, StaysSound};
@@ -63,4 +63,18 @@ pub fn bring<S: BlockStore>(store: &mut S, buffer: &mut Buffer, n: u32) -> Resul
     buffer.holds = true;
     buffer.changed = false;
     Ok(())
+}
+
+/// Has the buffer hold a block of zeros. What it held is lost.
+pub fn hold_zeros(buffer: &mut Buffer, n: u32)
+    ensures bytes { buffer.new.bytes.items ≡ replicate (vec_len buffer.old.bytes) 0 }
+    ensures len { vec_len buffer.new.bytes ≡ vec_len buffer.old.bytes }
+    ensures number { buffer.new.number ≡ n }
+    ensures holds { buffer.new.holds ≡ true }
+    ensures unchanged { buffer.new.changed ≡ false }
+{
+    buffer.bytes.fill(0);
+    buffer.number = n;
+    buffer.holds = true;
+    buffer.changed = false;
 }
