@@ -175,8 +175,9 @@ fn reads_no_block_in_vain(rt: HostRuntime) -> Result<(), Fail> {
     let mut new = OpenOptions::new();
     new.read(true).write(true).create(true).truncate(true);
     let count = accesses(rt.alloc(), new.open(&rt, "puts")?, &dbd)?;
-    assert!(rt; count > 0 && count < 4000, "{count} accesses");
     let image = fs::read(&rt, "puts")?;
+    // block 0 is read; each block is added and written once
+    assert_eq!(rt; count, 1 + 2 * (image.len() as u64 / 128));
     assert_eq!(rt; image.get(..12), header(0).get(..12));
     assert_eq!(rt; image.get(16..48), header(0).get(16..48));
     fs::remove_file(&rt, "puts")?;
@@ -308,7 +309,7 @@ fn writes_block_0_after_all_others(rt: HostRuntime) -> Result<(), Fail> {
     for passes in 0..64 {
         let (failed, bytes) = filled(rt.alloc(), &old, &dbd, passes)?;
         if !failed {
-            assert!(rt; passes > 8 && bytes == new);
+            assert!(rt; passes > 7 && bytes == new);
             assert_eq!(rt; last.get(..128), old.get(..128));
             assert_eq!(rt; last.get(128..), new.get(128..));
             return Ok(());
