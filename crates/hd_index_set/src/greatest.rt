@@ -1,4 +1,6 @@
-ghost use Rattle.std.specs.Prelude.{◌≡◌, ◌≤◌, ◌<◌, take, IsTrue, IfOk};
+ghost use Rattle.std.specs.Prelude.{◌≡◌, ◌≤◌, ◌<◌, true, take, IsTrue, IfOk, slice_index};
+ghost use Rattle.std.specs.Option.{is_some};
+ghost use Rattle.hd_bytes.specs.Numbers.{number_at};
 ghost use Rattle.hd_bytes.specs.Ranges.{bytes_at};
 ghost use Rattle.hd_dbd.specs.Refusals.{OnlyDevice};
 ghost use Rattle.hd_volume.specs.Volumes.{block_at};
@@ -17,7 +19,7 @@ use crate::look::has_block;
 use crate::stand::{Stand, walk_down};
 use hd_dbd::Refused;
 use hd_entries::{FIRST, IndexBlock};
-use hd_volume::{BlockStore, Volume};
+use hd_volume::{BlockStore, INDEX, Volume};
 
 /// The greatest key below another, at the front, if there is one, and the block of the sequence set that it leads to, 0 where that is not
 /// known.
@@ -63,6 +65,27 @@ fn last_key_of(block: &IndexBlock) -> Option<[u8; 255]>
     key_before(block, block.count())
 }
 
+/// A block has the level and the next block of the last one of the sequence set.
+fn is_last(block: &IndexBlock) -> bool
+    ensures level { result ≡ true → slice_index block.now.bytes.now 3 ≡ 0 }
+    ensures next { result ≡ true → number_at 4 block.now.bytes.now 8 ≡ 0 }
+{
+    block.level() == 0 && block.next() == 0
+}
+
+/// The greatest key below a key in the last block of the sequence set, if a block is that and has one.
+fn greatest_in_last(block: &IndexBlock, key: &[u8]) -> Option<[u8; 255]>
+    ensures level { is_some result ≡ true → slice_index block.now.bytes.now 3 ≡ 0 }
+    ensures next { is_some result ≡ true → number_at 4 block.now.bytes.now 8 ≡ 0 }
+    ensures key { is_some result ≡ true → IfInOrder block.now.key_length block.now.bytes.now (IsGreatestOf block.now.key_length result key.now (entries_in block.now.key_length block.now.bytes.now)) }
+{
+    if is_last(block) {
+        greatest_key(block, key)
+    } else {
+        None
+    }
+}
+
 /// The greatest key below a key among those of a block, if there is one.
 fn greatest_in<S: BlockStore>(
     volume: &mut Volume<S>,
@@ -106,8 +129,57 @@ pub fn last_in<S: BlockStore>(
     Ok(last_key_of(&IndexBlock { bytes, key_length }))
 }
 
-/// The greatest key of the index below a key, and the block of the sequence set to which it leads, where that is known.
+/// The greatest key of the index below a key, where a block is the last one of the sequence set and has it: the key leads to that one.
+fn greatest_at_end<S: BlockStore>(
+    volume: &mut Volume<S>,
+    key_length: usize,
+    n: u32,
+    key: &[u8],
+) -> Result<Option<[u8; 255]>, Refused>
+    requires short { key_length ≤ 255 }
+    ensures read { IsRead volume.old result volume.new }
+    ensures value { WhereSound volume.old result (λ r. HasIndexSet key_length volume.old → is_some r ≡ true → IsGreatestBelow key_length volume.old key.now r) }
+    ensures leaf { WhereSound volume.old result (λ r. HasIndexSet key_length volume.old → is_some r ≡ true → IsKnownLeaf key_length volume.old (lower_key key_length volume.old key.now) n) }
+    ensures refusal { OnlyDevice result }
+{
+    if n == 0 || !has_block(volume, n) || volume.kind(n) != INDEX {
+        return Ok(None);
+    }
+    let bytes = volume.block(n)?;
+    if bytes.len() < FIRST {
+        return Ok(None);
+    }
+    Ok(greatest_in_last(&IndexBlock { bytes, key_length }, key))
+}
+
+/// The greatest key of the index below a key, and the block of the sequence set to which it leads, where that is known. The block that was
+/// noted is looked at first: where new keys come behind all others, it tells it alone.
 pub fn greatest<S: BlockStore>(
+    volume: &mut Volume<S>,
+    key_length: usize,
+    key: &[u8],
+) -> Result<Lower, Refused>
+    requires short { key_length ≤ 255 }
+    ensures read { IsRead volume.old result volume.new }
+    ensures value { WhereSound volume.old result (λ r. HasIndexSet key_length volume.old → IsGreatestBelow key_length volume.old key.now r.key) }
+    ensures leaf { WhereSound volume.old result (λ r. HasIndexSet key_length volume.old → IsKnownLeaf key_length volume.old (lower_key key_length volume.old key.now) r.leaf) }
+    ensures refusal { OnlyDevice result }
+{
+    let noted = volume.noted_block();
+    let last = greatest_at_end(volume, key_length, noted, key)?;
+    if last.is_some() {
+        return Ok(Lower {
+            key: last,
+            leaf: noted,
+        });
+    }
+    volume.note_block(0);
+    let found = greatest_down(volume, key_length, key)?;
+    Ok(found)
+}
+
+/// The same, by a walk down from the top.
+fn greatest_down<S: BlockStore>(
     volume: &mut Volume<S>,
     key_length: usize,
     key: &[u8],
