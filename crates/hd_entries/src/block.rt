@@ -56,8 +56,11 @@ impl<'b> IndexBlock<'b> {
         ensures within { entry_place self.now.key_length result ≤ length self.now.bytes.now }
         ensures small { result ≤ 65535 }
     {
-        let room = entry_room(self.key_length, self.bytes.len());
-        (self.stated_count() as usize).min(room)
+        let stated = self.stated_count() as usize;
+        if entry_place(self.key_length, stated) <= self.bytes.len() {
+            return stated;
+        }
+        entry_room(self.key_length, self.bytes.len())
     }
 
     /// Where one of its entries stands.

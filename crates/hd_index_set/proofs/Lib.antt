@@ -4,6 +4,7 @@ pub mod Searching
 pub mod Fronts
 pub mod Standing
 pub mod Leaves
+pub mod Lasts
 pub mod Filling
 pub mod WaysUp
 pub mod Cuts

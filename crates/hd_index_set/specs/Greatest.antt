@@ -1,11 +1,15 @@
 -- Keys that are found in a block or in an index: each at the front of some bytes, or none.
-use Rattle.std.specs.Prelude.{◌≡◌, ◌≢◌, ℕ, List, Option, take}
+use Rattle.std.specs.Prelude.{◌≡◌, ◌≢◌, ℕ, Bool, cond, List, Option, Some, None, take}
 use Rattle.std.specs.Option.{option_map_or}
 use Rattle.hd_volume.specs.Volumes.{VolumeState}
 use Rattle.hd_volume.specs.Entries.{Entry}
 use Rattle.hd_levels.specs.Maps.{greatest_below, last_key}
 use Rattle.hd_levels.specs.IndexSets.{index_entries}
 use Rattle.hd_index_set.specs.Blocks.{leaf_at}
+
+-- the key at the front of some bytes, where one was found
+abbrev pub found_key : Bool → List ℕ → Option (List ℕ)
+found_key is_some bytes = cond is_some (Some bytes) None
 
 -- This is the last key of some entries, if there is one.
 abbrev pub IsLastOf : ℕ → Option (List ℕ) → List Entry → Type 0

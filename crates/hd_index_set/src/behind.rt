@@ -1,4 +1,4 @@
-ghost use Rattle.std.specs.Prelude.{◌≡◌, ◌+◌, ◌≤◌, ◌<◌, ℕ, None, IsTrue, length, IfErr, OnOk};
+ghost use Rattle.std.specs.Prelude.{◌≡◌, ◌+◌, ◌≤◌, ◌<◌, ℕ, None, IsTrue, length, IfOk, IfErr, OnOk};
 ghost use Rattle.hd_dbd.specs.Refusals.{OnlyRoomOrDevice};
 ghost use Rattle.hd_volume.specs.Headers.{header_of};
 ghost use Rattle.hd_volume.specs.Volumes.{IsFormatted, block_at};
@@ -10,7 +10,7 @@ ghost use Rattle.hd_levels.specs.Levels.{AreBelow};
 ghost use Rattle.hd_levels.specs.IndexSets.{index_entries, HasIndexSet};
 ghost use Rattle.hd_levels.specs.Needs.{needed_by};
 ghost use Rattle.hd_index_edits.specs.Blocks.{IsLevelBlock};
-ghost use Rattle.hd_index_edits.specs.Edits.{IsRefused};
+ghost use Rattle.hd_index_edits.specs.Edits.{IsBegun, IsRefused};
 ghost use Rattle.hd_index_set.specs.Changes.{IsKeyEntered};
 ghost use Rattle.hd_index_set.specs.Comings.{MayCome};
 ghost use Rattle.hd_index_set.specs.Divisions.{IsEntryAt, IsLowestRoom};
@@ -24,6 +24,27 @@ use hd_dbd::Refused;
 use hd_entries::entry_room;
 use hd_index_edits::{add_entry, begin_block, set_entry_key, set_next};
 use hd_volume::{BlockStore, Volume};
+
+/// Begins a last block of the sequence set, with one entry, and notes it: the next new key may come there too.
+fn begin_last<S: BlockStore>(
+    volume: &mut Volume<S>,
+    key: &[u8],
+    address: u32,
+) -> Result<u32, Refused>
+    requires formatted { IsTrue volume.old.is_sound → IsFormatted volume.old }
+    requires short { length key.now ≤ 255 }
+    requires least { 128 ≤ volume.old.size }
+    requires most { volume.old.size ≤ 32768 }
+    requires fits { entry_place (length key.now) 1 ≤ volume.old.size }
+    ensures call { IsCall volume.old result volume.new }
+    ensures begun { IfOk result (λ m. IsTrue volume.old.is_sound → IsBegun volume.old 0 m key.now address 0 volume.new) }
+    ensures refused { IfErr result (λ e. IsRefused volume.old e volume.new) }
+    ensures room { IsTrue volume.new.is_sound → volume.old.room ≤ volume.new.room + 1 }
+{
+    let m = begin_block(volume, 0, key, address, 0)?;
+    volume.note_block(m);
+    Ok(m)
+}
 
 /// Hangs a new block with one entry behind the last block of the sequence set, under its parent, which has room.
 fn hang_behind<S: BlockStore>(
@@ -51,7 +72,7 @@ fn hang_behind<S: BlockStore>(
     ensures refused { IfErr result (λ e. IsRefused volume.old e volume.new) }
     ensures room { IsTrue volume.new.is_sound → volume.old.room ≤ volume.new.room + 1 }
 {
-    let m = begin_block(volume, 0, key, address, 0)?;
+    let m = begin_last(volume, key, address)?;
     set_next(volume, lead.child, m)?;
     set_entry_key(volume, p, lead.index, lead.count, last)?;
     add_entry(

@@ -31,11 +31,12 @@ pub struct Turn {
     pub is_low: bool,
 }
 
-/// A place in a block of the sequence set: how many entries stand before it, of so many.
+/// A place in a block of the sequence set: how many entries stand before it, of so many, and the block behind that one, 0 for none.
 #[derive(Clone, Copy, Debug)]
 struct Gap {
     index: usize,
     count: usize,
+    next: u32,
 }
 
 /// The turn of a block without an entry.
@@ -175,6 +176,18 @@ fn gap_in(block: &IndexBlock, key: &[u8]) -> Gap
     Gap {
         index: block.place_of(key),
         count: block.count(),
+        next: block.next(),
+    }
+}
+
+/// The place in a block without an entry.
+fn no_gap() -> Gap
+    ensures within { result.index ≤ result.count }
+{
+    Gap {
+        index: 0,
+        count: 0,
+        next: 0,
     }
 }
 
@@ -189,14 +202,23 @@ fn gap_at<S: BlockStore>(volume: &mut Volume<S>, n: u32, key: &[u8]) -> Result<G
 {
     let size = volume.block_size();
     if !has_block(volume, n) {
-        return Ok(Gap { index: 0, count: 0 });
+        return Ok(no_gap());
     }
     let bytes = volume.block(n)?;
     if bytes.len() != size {
-        return Ok(Gap { index: 0, count: 0 });
+        return Ok(no_gap());
     }
     let key_length = key.len();
     Ok(gap_in(&IndexBlock { bytes, key_length }, key))
+}
+
+/// Notes a block of the sequence set where a new key comes behind all others: the next one may come there too.
+fn note_end<S: BlockStore>(volume: &mut Volume<S>, n: u32, gap: Gap)
+    ensures same { volume.new ≡ volume.old }
+{
+    if gap.index == gap.count && gap.next == 0 {
+        volume.note_block(n);
+    }
 }
 
 /// Enters a new key at its place in a block of the sequence set that has room.
@@ -220,6 +242,7 @@ fn enter_at<S: BlockStore>(
 {
     let room = entry_room(key.len(), volume.block_size());
     if gap.count < room {
+        note_end(volume, n, gap);
         return add_entry(volume, n, gap.index, gap.count, key, address);
     }
     Ok(())

@@ -34,7 +34,7 @@ pub fn begin_top<S: BlockStore>(
     Ok(())
 }
 
-/// Enters the root of a new key where the index has no block yet.
+/// Enters the root of a new key where the index has no block yet. The block is noted: the next one may come there too.
 pub fn insert_first<S: BlockStore>(
     volume: &mut Volume<S>,
     key: &[u8],
@@ -49,5 +49,8 @@ pub fn insert_first<S: BlockStore>(
     ensures refused { IfErr result (λ e. IsRefused volume.old e volume.new) }
     ensures room { IsTrue volume.new.is_sound → volume.old.room ≤ volume.new.room + 1 }
 {
-    begin_top(volume, 0, key, address)
+    begin_top(volume, 0, key, address)?;
+    let top = volume.top();
+    volume.note_block(top);
+    Ok(())
 }

@@ -1,4 +1,5 @@
-ghost use Rattle.std.specs.Prelude.{◌≡◌, ◌≤◌, ◌<◌, take, IsTrue, IfOk};
+ghost use Rattle.std.specs.Prelude.{◌≡◌, ◌≤◌, ◌<◌, true, take, IsTrue, IfOk, slice_index};
+ghost use Rattle.hd_bytes.specs.Numbers.{number_at};
 ghost use Rattle.hd_bytes.specs.Ranges.{bytes_at};
 ghost use Rattle.hd_dbd.specs.Refusals.{OnlyDevice};
 ghost use Rattle.hd_volume.specs.Volumes.{block_at};
@@ -8,7 +9,7 @@ ghost use Rattle.hd_entries.specs.Fields.{entry_count, entry_place, CountFits};
 ghost use Rattle.hd_entries.specs.Searches.{IfInOrder};
 ghost use Rattle.hd_levels.specs.IndexSets.{HasIndexSet};
 ghost use Rattle.hd_index_set.specs.Blocks.{IsInOrder};
-ghost use Rattle.hd_index_set.specs.Greatest.{IsLastOf, IsGreatestOf, IsGreatestBelow, IsKnownLeaf, lower_key};
+ghost use Rattle.hd_index_set.specs.Greatest.{IsLastOf, IsGreatestOf, IsGreatestBelow, IsKnownLeaf, found_key, lower_key};
 ghost use Rattle.hd_index_set.specs.Stands.{IsStand};
 ghost use Rattle.hd_index_set.specs.Changes.{WhereSound};
 
@@ -17,14 +18,30 @@ use crate::look::has_block;
 use crate::stand::{Stand, walk_down};
 use hd_dbd::Refused;
 use hd_entries::{FIRST, IndexBlock};
-use hd_volume::{BlockStore, Volume};
+use hd_volume::{BlockStore, INDEX, Volume};
+
+/// Whether the index has a key below another, and the block of the sequence set that the greatest of those leads to, 0 where that is not
+/// known.
+#[derive(Clone, Copy, Debug)]
+pub struct Lower {
+    pub is_some: bool,
+    pub leaf: u32,
+}
 
 /// The greatest key below another, at the front, if there is one, and the block of the sequence set that it leads to, 0 where that is not
 /// known.
 #[derive(Clone, Copy, Debug)]
-pub struct Lower {
-    pub key: Option<[u8; 255]>,
-    pub leaf: u32,
+struct LowerKey {
+    key: Option<[u8; 255]>,
+    leaf: u32,
+}
+
+/// Copies the key of an entry to the front of some bytes.
+fn copy_key(block: &IndexBlock, index: usize, found: &mut [u8; 255])
+    requires { index < entry_count block.now.key_length block.now.bytes.now }
+    ensures { take block.now.key_length found.new ≡ bytes_at block.now.bytes.now (entry_place block.now.key_length index) block.now.key_length }
+{
+    found[..block.key_length].copy_from_slice(block.key(index));
 }
 
 /// The key of an entry, copied to the front.
@@ -33,7 +50,7 @@ pub fn key_copy(block: &IndexBlock, index: usize) -> [u8; 255]
     ensures { take block.now.key_length result ≡ bytes_at block.now.bytes.now (entry_place block.now.key_length index) block.now.key_length }
 {
     let mut key = [0; 255];
-    key[..block.key_length].copy_from_slice(block.key(index));
+    copy_key(block, index, &mut key);
     key
 }
 
@@ -61,6 +78,35 @@ fn last_key_of(block: &IndexBlock) -> Option<[u8; 255]>
     ensures { CountFits block.now.key_length block.now.bytes.now → IsLastOf block.now.key_length result (entries_in block.now.key_length block.now.bytes.now) }
 {
     key_before(block, block.count())
+}
+
+/// A block has the level and the next block of the last one of the sequence set.
+fn is_last(block: &IndexBlock) -> bool
+    ensures level { result ≡ true → slice_index block.now.bytes.now 3 ≡ 0 }
+    ensures next { result ≡ true → number_at 4 block.now.bytes.now 8 ≡ 0 }
+{
+    block.level() == 0 && block.next() == 0
+}
+
+/// Copies the greatest key below a key among those of the entries to the front of some bytes, and says whether there is one.
+fn copy_greatest(block: &IndexBlock, key: &[u8], found: &mut [u8; 255]) -> bool
+    ensures { IfInOrder block.now.key_length block.now.bytes.now (IsGreatestOf block.now.key_length (found_key result found.new) key.now (entries_in block.now.key_length block.now.bytes.now)) }
+{
+    let index = block.place_of(key);
+    if index == 0 {
+        return false;
+    }
+    copy_key(block, index - 1, found);
+    true
+}
+
+/// Copies the greatest key below a key in the last block of the sequence set, and says whether a block is that and has one.
+fn copy_greatest_in_last(block: &IndexBlock, key: &[u8], found: &mut [u8; 255]) -> bool
+    ensures level { result ≡ true → slice_index block.now.bytes.now 3 ≡ 0 }
+    ensures next { result ≡ true → number_at 4 block.now.bytes.now 8 ≡ 0 }
+    ensures key { result ≡ true → IfInOrder block.now.key_length block.now.bytes.now (IsGreatestOf block.now.key_length (found_key result found.new) key.now (entries_in block.now.key_length block.now.bytes.now)) }
+{
+    is_last(block) && copy_greatest(block, key, found)
 }
 
 /// The greatest key below a key among those of a block, if there is one.
@@ -106,12 +152,87 @@ pub fn last_in<S: BlockStore>(
     Ok(last_key_of(&IndexBlock { bytes, key_length }))
 }
 
-/// The greatest key of the index below a key, and the block of the sequence set to which it leads, where that is known.
+/// Copies the greatest key of the index below a key to the front of some bytes, and says whether it did: where a block is the last one of the
+/// sequence set and has it, the key leads to that one.
+fn copy_greatest_at_end<S: BlockStore>(
+    volume: &mut Volume<S>,
+    key_length: usize,
+    n: u32,
+    key: &[u8],
+    found: &mut [u8; 255],
+) -> Result<bool, Refused>
+    requires short { key_length ≤ 255 }
+    ensures read { IsRead volume.old result volume.new }
+    ensures value { WhereSound volume.old result (λ r. HasIndexSet key_length volume.old → r ≡ true → IsGreatestBelow key_length volume.old key.now (found_key r found.new)) }
+    ensures leaf { WhereSound volume.old result (λ r. HasIndexSet key_length volume.old → r ≡ true → IsKnownLeaf key_length volume.old (lower_key key_length volume.old key.now) n) }
+    ensures refusal { OnlyDevice result }
+{
+    if n == 0 || !has_block(volume, n) || volume.kind(n) != INDEX {
+        return Ok(false);
+    }
+    let bytes = volume.block(n)?;
+    if bytes.len() < FIRST {
+        return Ok(false);
+    }
+    Ok(copy_greatest_in_last(&IndexBlock { bytes, key_length }, key, found))
+}
+
+/// Copies the greatest key of the index below a key to the front of some bytes, and says whether there is one and the block of the sequence
+/// set to which it leads, where that is known. The block that was noted is looked at first: where new keys come behind all others, it tells it
+/// alone.
 pub fn greatest<S: BlockStore>(
     volume: &mut Volume<S>,
     key_length: usize,
     key: &[u8],
+    found: &mut [u8; 255],
 ) -> Result<Lower, Refused>
+    requires short { key_length ≤ 255 }
+    ensures read { IsRead volume.old result volume.new }
+    ensures value { WhereSound volume.old result (λ r. HasIndexSet key_length volume.old → IsGreatestBelow key_length volume.old key.now (found_key r.is_some found.new)) }
+    ensures leaf { WhereSound volume.old result (λ r. HasIndexSet key_length volume.old → IsKnownLeaf key_length volume.old (lower_key key_length volume.old key.now) r.leaf) }
+    ensures refusal { OnlyDevice result }
+{
+    let noted = volume.noted_block();
+    let is_some = copy_greatest_at_end(volume, key_length, noted, key, found)?;
+    if is_some {
+        return Ok(Lower {
+            is_some,
+            leaf: noted,
+        });
+    }
+    volume.note_block(0);
+    let lower = greatest_down(volume, key_length, key)?;
+    Ok(put_lower(&lower, found))
+}
+
+/// Copies a key that was found to the front of some bytes.
+fn put_lower(lower: &LowerKey, found: &mut [u8; 255]) -> Lower
+    ensures key { found_key result.is_some found.new ≡ lower.now.key }
+    ensures leaf { result.leaf ≡ lower.now.leaf }
+{
+    let leaf = lower.leaf;
+    match lower.key {
+        Some(key) => {
+            *found = key;
+            Lower {
+                is_some: true,
+                leaf,
+            }
+        }
+        None => Lower {
+            is_some: false,
+            leaf,
+        },
+    }
+}
+
+/// The greatest key of the index below a key, and the block of the sequence set to which it leads, where that is known, by a walk down from
+/// the top.
+fn greatest_down<S: BlockStore>(
+    volume: &mut Volume<S>,
+    key_length: usize,
+    key: &[u8],
+) -> Result<LowerKey, Refused>
     requires short { key_length ≤ 255 }
     ensures read { IsRead volume.old result volume.new }
     ensures value { WhereSound volume.old result (λ r. HasIndexSet key_length volume.old → IsGreatestBelow key_length volume.old key.now r.key) }
@@ -121,7 +242,7 @@ pub fn greatest<S: BlockStore>(
     let top = volume.top();
     let height = volume.height();
     if top == 0 || height == 0 || height > MOST_LEVELS {
-        return Ok(Lower { key: None, leaf: 0 });
+        return Ok(LowerKey { key: None, leaf: 0 });
     }
     let start = Stand {
         left: 0,
@@ -139,7 +260,7 @@ fn greatest_about<S: BlockStore>(
     key_length: usize,
     stand: Stand,
     key: &[u8],
-) -> Result<Lower, Refused>
+) -> Result<LowerKey, Refused>
     requires short { key_length ≤ 255 }
     ensures read { IsRead volume.old result volume.new }
     ensures value { WhereSound volume.old result (λ r. HasIndexSet key_length volume.old → IsStand key_length volume.old key.now 0 stand → IsGreatestBelow key_length volume.old key.now r.key) }
@@ -148,14 +269,14 @@ fn greatest_about<S: BlockStore>(
 {
     let own = greatest_in(volume, key_length, stand.block, key)?;
     if own.is_some() {
-        return Ok(Lower {
+        return Ok(LowerKey {
             key: own,
             leaf: stand.block,
         });
     }
     if stand.left == 0 {
-        return Ok(Lower { key: own, leaf: 0 });
+        return Ok(LowerKey { key: own, leaf: 0 });
     }
     let last = last_in(volume, key_length, stand.left)?;
-    Ok(Lower { key: last, leaf: 0 })
+    Ok(LowerKey { key: last, leaf: 0 })
 }

@@ -10,10 +10,10 @@ ghost use Rattle.hd_levels.specs.Needs.{entry_growth, is_full, needed_by, set_bl
 ghost use Rattle.hd_levels.specs.VolumeLaws.{IsRightBlock};
 ghost use Rattle.hd_index_set.specs.Blocks.{IsInOrder, full_down};
 ghost use Rattle.hd_index_set.specs.Changes.{IsIndexOf, WhereSound};
-ghost use Rattle.hd_index_set.specs.Greatest.{IsKnownLeaf};
+ghost use Rattle.hd_index_set.specs.Greatest.{IsKnownLeaf, found_key};
 
 use crate::descend::MOST_LEVELS;
-use crate::greatest::greatest;
+use crate::greatest::{Lower, greatest};
 use crate::look::{child, has_block};
 use hd_dbd::{Dbd, Refused};
 use hd_entries::{FIRST, IndexBlock, entry_room, root_key_length};
@@ -55,8 +55,9 @@ fn blocks_for<S: BlockStore>(
     ensures value { IfOk result (λ n. IsTrue volume.old.is_sound → HasIndexSet key_length volume.old → n ≡ set_blocks_needed key_length volume.old key.now) }
     ensures refusal { OnlyDevice result }
 {
-    let below = greatest(volume, key_length, key)?;
-    let by = key_or(&below.key, key_length, key);
+    let mut found = [0; 255];
+    let below = greatest(volume, key_length, key, &mut found)?;
+    let by = lower_or(below, &found, key_length, key);
     let needed = needed_at(volume, key_length, below.leaf, by)?;
     Ok(needed)
 }
@@ -130,6 +131,23 @@ pub fn key_or<'k>(found: &'k Option<[u8; 255]>, key_length: usize, key: &'k [u8]
     match found {
         Some(found) => &found[..key_length],
         None => key,
+    }
+}
+
+/// The greatest key below another, at the front of some bytes, or else the other.
+pub fn lower_or<'k>(
+    lower: Lower,
+    found: &'k [u8; 255],
+    key_length: usize,
+    key: &'k [u8],
+) -> &'k [u8]
+    requires short { key_length ≤ 255 }
+    ensures { result.now ≡ option_map_or (take key_length) (found_key lower.is_some found.now) key.now }
+{
+    if lower.is_some {
+        &found[..key_length]
+    } else {
+        key
     }
 }
 

@@ -19,7 +19,7 @@ set_next-requires-clause-there g c now =
 pub set_entry_key-requires-clause-formatted : goal.set_entry_key-requires-clause-formatted
 set_entry_key-requires-clause-formatted g c last =
     let u = c.args.volume.now in
-    let now : IsTrue c.begin_block.new.volume.is_sound = rw (← c.in_ok-set_next.ensures.call.sound) last in
+    let now : IsTrue c.begin_last.new.volume.is_sound = rw (← c.in_ok-set_next.ensures.call.sound) last in
     let sound : IsTrue u.is_sound = rw (← c.in_ok-m.ensures.call.sound) now in
     let least = c.requires.least in
     (c.in_ok-set_next.ensures.changed now (length c.args.key.now)
@@ -30,7 +30,7 @@ pub set_entry_key-requires-clause-block : goal.set_entry_key-requires-clause-blo
 set_entry_key-requires-clause-block g c last =
     let u = c.args.volume.now in
     let k : ℕ = length c.args.key.now in
-    let now : IsTrue c.begin_block.new.volume.is_sound = rw (← c.in_ok-set_next.ensures.call.sound) last in
+    let now : IsTrue c.begin_last.new.volume.is_sound = rw (← c.in_ok-set_next.ensures.call.sound) last in
     let sound : IsTrue u.is_sound = rw (← c.in_ok-m.ensures.call.sound) now in
     let least = c.requires.least in
     let own = lower-own c.args.key.now c.args.address c.args.p c.in_ok-m.m c.args.lead (c.requires.upper sound) (c.requires.lower sound) (c.requires.lead sound) (c.requires.formatted sound) (omega arith) (c.in_ok-m.ensures.begun sound) in
@@ -43,7 +43,7 @@ pub set_entry_key-requires-clause-count : goal.set_entry_key-requires-clause-cou
 set_entry_key-requires-clause-count g c last =
     let u = c.args.volume.now in
     let k : ℕ = length c.args.key.now in
-    let now : IsTrue c.begin_block.new.volume.is_sound = rw (← c.in_ok-set_next.ensures.call.sound) last in
+    let now : IsTrue c.begin_last.new.volume.is_sound = rw (← c.in_ok-set_next.ensures.call.sound) last in
     let sound : IsTrue u.is_sound = rw (← c.in_ok-m.ensures.call.sound) now in
     let least = c.requires.least in
     let own = lower-own c.args.key.now c.args.address c.args.p c.in_ok-m.m c.args.lead (c.requires.upper sound) (c.requires.lower sound) (c.requires.lead sound) (c.requires.formatted sound) (omega arith) (c.in_ok-m.ensures.begun sound) in
@@ -58,7 +58,7 @@ add_entry-requires-clause-count g c end =
     let k : ℕ = length c.args.key.now in
     let p : ℕ = c.args.p in
     let last : IsTrue y.is_sound = rw (← c.in_ok-set_entry_key.ensures.call.sound) end in
-    let now : IsTrue c.begin_block.new.volume.is_sound = rw (← c.in_ok-set_next.ensures.call.sound) last in
+    let now : IsTrue c.begin_last.new.volume.is_sound = rw (← c.in_ok-set_next.ensures.call.sound) last in
     let sound : IsTrue u.is_sound = rw (← c.in_ok-m.ensures.call.sound) now in
     let least = c.requires.least in
     let own = lower-own c.args.key.now c.args.address p c.in_ok-m.m c.args.lead (c.requires.upper sound) (c.requires.lower sound) (c.requires.lead sound) (c.requires.formatted sound) (omega arith) (c.in_ok-m.ensures.begun sound) in
@@ -81,7 +81,7 @@ returns-clause-hung g c =
     let A : List ℕ → ℕ → Type 0 = λ t i. HasNewEntries i x p (with_entry_at j (record { key = t; address = m }) (entries_in i (block_at x p))) (number_at 4 (block_at x p) 8) w in
     on-ok-map c.add_entry.result
     (λ (added : IsTrue x.is_sound → A behind (length behind)) (sound : IsTrue u.is_sound).
-    let now : IsTrue c.begin_block.new.volume.is_sound = rw c.in_ok-m.ensures.call.sound sound in
+    let now : IsTrue c.begin_last.new.volume.is_sound = rw c.in_ok-m.ensures.call.sound sound in
     let last : IsTrue y.is_sound = rw c.in_ok-set_next.ensures.call.sound now in
     let end : IsTrue x.is_sound = rw c.in_ok-set_entry_key.ensures.call.sound last in
     let least = c.requires.least in

@@ -1,15 +1,14 @@
-use Rattle.std.proofs.Common.{IsTrue, length, refl}
-use Rattle.hd_index_edits.proofs.CallLemmas.{on-ok-map}
-use Rattle.hd_index_set.specs.Divisions.{IsTopBegun}
+use Rattle.std.proofs.Common.{List, [], ◌∷◌, length, refl, sym, subst}
+use Rattle.hd_volume.specs.Volumes.{VolumeState}
+use Rattle.hd_volume.specs.Entries.{Entry}
+use Rattle.hd_index_set.specs.Changes.{IsChanged}
 use Rattle.hd_index_set.proofs.Tops.{first-made}
 use Rattle.hd_index_set.proofs.first.insert_first.Goals as goal
 
 pub returns-clause-changed : goal.returns-clause-changed
-returns-clause-changed g c =
+returns-clause-changed g c sound =
     let u = c.args.volume.now in
-    let w = c.begin_top.new.volume in
     let key = c.args.key.now in
-    on-ok-map c.begin_top.result
-    (λ (begun : IsTrue u.is_sound → IsTopBegun u 0 key c.args.address w) (sound : IsTrue u.is_sound).
-    first-made (length key) key c.args.address refl (c.requires.index sound) (c.requires.none sound) (begun sound))
-    c.begin_top.ensures.begun
+    let new : List Entry = record { key = key; address = c.args.address } ∷ [] in
+    let C : VolumeState → Type 0 = λ v. IsChanged (length key) u new 1 v in
+    subst C (sym c.note_block.ensures.same) (first-made (length key) key c.args.address refl (c.requires.index sound) (c.requires.none sound) (c.in_ok-begin_top.ensures.begun sound))

@@ -1,4 +1,4 @@
-use Rattle.std.proofs.Common.{◌≡◌, ◌≢◌, ℕ, true, false, List, [], take, cond, Option, Some, None, IsTrue, refl, sym, ap, ◌∙◌, ne_eqb}
+use Rattle.std.proofs.Common.{◌≡◌, ◌≢◌, ℕ, false, List, [], take, cond, Option, Some, None, IsTrue, refl, sym, ap, ◌∙◌, ne_eqb}
 use Rattle.std.specs.Prelude.{◌==◌}
 use Rattle.std.specs.Option.{option_map_or, is_some}
 use Rattle.std.proofs.lemmas.Bool.{eq-eqb}
@@ -8,11 +8,8 @@ use Rattle.hd_levels.specs.Maps.{greatest_below, last_key}
 use Rattle.hd_index_set.proofs.Searching.{order-same}
 use Rattle.hd_index_set.proofs.Standing.{block-order, left-order, stand-greatest}
 use Rattle.hd_index_set.proofs.Leaves.{known-leaf}
+use Rattle.hd_index_set.proofs.Lasts.{some-any}
 use Rattle.hd_index_set.proofs.greatest.greatest_about.Goals as goal
-
-some-any : (k : ℕ) (o : Option (List ℕ)) (a b : List ℕ) → is_some o ≡ true → option_map_or (take k) o a ≡ option_map_or (take k) o b
-some-any k None a b h = absurd (cc)
-some-any k (Some x) a b h = refl
 
 none-any : (k : ℕ) (o : Option (List ℕ)) (a : List ℕ) → is_some o ≡ false → option_map_or (take k) o a ≡ a
 none-any k None a h = refl
