@@ -12,11 +12,15 @@ use std::os::unix::fs::FileExt;
 use std::sync::ledger::{Blank, Book, Ledger, Share};
 
 /// Blocks in a file of any length. Nothing is promised of its bytes.
+///
+/// Once the file has a block it grows by the writes of those by which the store has grown; until one is written it is zeros, and no access is made for it.
 #[derive(Drop)]
 pub struct FileStore<L: Ledger> {
     file: File,
     block_size: usize,
     length: u64,
+    /// The bytes that the file has: up to there a block may have been written.
+    end: u64,
     failed: Book<L>,
     share: Share<L>,
 }
@@ -50,6 +54,7 @@ impl<L: Ledger> FileStore<L> {
             file,
             block_size,
             length,
+            end: length,
             failed,
             share,
         })
@@ -69,6 +74,34 @@ impl<L: Ledger> FileStore<L> {
         ensures { result ≡ n * self.now.size }
     {
         u64::from(n) * self.block_size as u64
+    }
+
+    /// How many of so many bytes from a place on are read from the file: all, but for those that the store has and the file has not yet.
+    fn count_read(&self, place: u64, count: usize) -> usize
+        ensures { result ≤ count }
+    {
+        if place.saturating_add(count as u64) > self.length {
+            return count;
+        }
+        self.end.saturating_sub(place).min(count as u64) as usize
+    }
+
+    /// Reads the bytes from a place on.
+    fn read_from(&mut self, place: u64, buf: &mut [u8]) -> Result<(), Refused>
+        ensures accesses { Accesses result self.old self.new }
+        ensures len { length buf.new ≡ length buf.old }
+        ensures refusal { OnlyDevice result }
+        ensures counts { CountsDevice result self.old.failures self.new.failures }
+    {
+        let count = self.count_read(place, buf.len());
+        buf[count..].fill(0);
+        if count == 0 {
+            return Ok(());
+        }
+        match self.file.read_exact_at(&mut buf[..count], place) {
+            Ok(()) => Ok(()),
+            Err(_) => Err(self.fail()),
+        }
     }
 }
 
@@ -101,10 +134,7 @@ impl<L: Ledger> BlockStore for FileStore<L> {
         ensures sound { StaysSound result false false }
     {
         let place = self.place_of(n);
-        match self.file.read_exact_at(buf, place) {
-            Ok(()) => Ok(()),
-            Err(_) => Err(self.fail()),
-        }
+        self.read_from(place, buf)
     }
 
     fn write(&mut self, n: u32, bytes: &[u8]) -> Result<(), Refused>
@@ -115,7 +145,10 @@ impl<L: Ledger> BlockStore for FileStore<L> {
     {
         let place = self.place_of(n);
         match self.file.write_all_at(bytes, place) {
-            Ok(()) => Ok(()),
+            Ok(()) => {
+                self.end = self.end.max(place.saturating_add(bytes.len() as u64));
+                Ok(())
+            }
             Err(_) => Err(self.fail()),
         }
     }
@@ -139,13 +172,16 @@ impl<L: Ledger> BlockStore for FileStore<L> {
         let Some(length) = self.length.checked_add(self.place_of(blocks)) else {
             return Err(self.fail());
         };
-        match self.file.set_len(length) {
-            Ok(()) => {
-                self.length = length;
-                Ok(())
+        // An empty file grows at once, so that one which can't grow says so before all else; so does a file with a part of a block at its end, for no
+        // block's write would make it so long.
+        if self.end == 0 || self.length % self.block_size as u64 != 0 {
+            if self.file.set_len(length).is_err() {
+                return Err(self.fail());
             }
-            Err(_) => Err(self.fail()),
+            self.end = length;
         }
+        self.length = length;
+        Ok(())
     }
 }
 
@@ -158,9 +194,6 @@ impl<L: Ledger> RunStore for FileStore<L> {
         ensures sound { StaysSound result false false }
     {
         let place = self.place_of(n);
-        match self.file.read_exact_at(buf, place) {
-            Ok(()) => Ok(()),
-            Err(_) => Err(self.fail()),
-        }
+        self.read_from(place, buf)
     }
 }

@@ -162,6 +162,36 @@ fn keeps_blocks_in_a_file(rt: HostRuntime) -> Result<(), Fail> {
     Ok(())
 }
 
+/// Grows by a block of four bytes and by three more, writes the third, and reads all of them at once.
+fn run_counted<L: Ledger>(file: File, blank: Blank) -> io::Result<(Result<(), Refused>, [u8; 16])>
+    requires name { blank.name ≡ L.name }
+    requires parts { blank.parts ≡ L.parts }
+    requires share { 0 < blank.parts }
+{
+    let mut store: FileStore<L> = FileStore::over(file, 4, blank)?;
+    let mut run = [7; 16];
+    let answer = store
+        .grow(1)
+        .and_then(|_| store.grow(3))
+        .and_then(|_| store.write(2, &[9; 4]))
+        .and_then(|_| store.read_run(0, &mut run));
+    Ok((answer, run))
+}
+
+#[test]
+fn a_file_grows_by_the_writes_of_its_blocks(rt: HostRuntime) -> Result<(), Fail> {
+    let mut new = OpenOptions::new();
+    new.read(true).write(true).create(true).truncate(true);
+    let file = new.open(&rt, "grown_blocks")?;
+    let (answer, run) = run_counted::<Brand>(file, Blank::new(1))?;
+    assert_eq!(rt; answer, Ok(()));
+    assert_eq!(rt; run, [0, 0, 0, 0, 0, 0, 0, 0, 9, 9, 9, 9, 0, 0, 0, 0]);
+    let bytes = fs::read(&rt, "grown_blocks")?;
+    assert_eq!(rt; bytes.len(), 12);
+    fs::remove_file(&rt, "grown_blocks")?;
+    Ok(())
+}
+
 #[test]
 fn takes_a_file_of_any_length(rt: HostRuntime) -> Result<(), Fail> {
     let mut new = OpenOptions::new();
