@@ -6,32 +6,39 @@ use crate::places::Place;
 use hd_dbd::Refused;
 use std::alloc::Global;
 
-/// How many places there are at least for each stretch of a directory, on the average.
-const PLACES: usize = 2;
+/// How many grains there are at most for each place, but for those of one stretch.
+const GRAINS: usize = 16;
 
-/// Of how many places one is entered.
-const ENTERED: usize = 4;
+/// A grain has at least 8 bytes, of which one segment at most has its first.
+const LEAST_SHIFT: u32 = 3;
 
-/// How many places are compared with an address at once.
-const COMPARED: usize = 8;
+/// How many grains a stretch has.
+const STRETCH: u32 = 64;
 
-/// For each stretch of the addresses, from address 0 on, the number of the first of the places entered in it or behind it. Of each four places
-/// the first is entered, and the last of all.
+/// A stretch of the addresses: in which of its grains a segment begins, a bit for each from the lowest on, and how many places come before it.
+#[derive(Clone, Copy)]
+struct Stretch {
+    starts: u64,
+    before: u32,
+}
+
+/// The stretches of the addresses from address 0 on, by which the places before an address are counted. Where segments lie thin a grain has more than 8 bytes,
+/// and more than one may begin in it.
 ///
 /// It only says where to look first: nothing is concluded from what it says.
 #[derive(Drop)]
 pub struct Directory {
-    firsts: Vec<u32>,
+    stretches: Vec<Stretch>,
     shift: u32,
     ghost bounded: { shift ≤ 31 },
 }
 
-/// The shift by which addresses up to one fall into at most so many stretches, or one more, and into half as many at least.
-fn shift_for(last: u32, stretches: u32) -> u32
+/// The shift by which addresses up to one fall into at most so many grains, or one more.
+fn shift_for(last: u32, grains: u32) -> u32
     ensures { result ≤ 31 }
 {
-    let wide = last / stretches.max(1);
-    (32 - wide.leading_zeros()).min(31)
+    let wide = last / grains.max(1);
+    (32 - wide.leading_zeros()).max(LEAST_SHIFT).min(31)
 }
 
 impl Directory {
@@ -40,51 +47,64 @@ impl Directory {
         ensures refusal { OnlyMemory result }
     {
         let last = places.last().map_or(0, |place| place.address);
-        let stretches = (places.len() / PLACES).min(u32::MAX as usize) as u32;
-        let shift = shift_for(last, stretches);
-        let mut firsts = Vec::new(alloc);
-        for turn in 0..places.len() / ENTERED + 1 {
-            let number = turn.saturating_mul(ENTERED);
-            if let Some(place) = places.get(number) {
-                fill(&mut firsts, (place.address >> shift) as usize, number)?;
+        let grains = places.len().saturating_mul(GRAINS).min(u32::MAX as usize) as u32;
+        let shift = shift_for(last, grains);
+        let mut stretches = Vec::new(alloc);
+        let count = ((last >> shift) / STRETCH).saturating_add(1);
+        stretches
+            .reserve(count as usize)
+            .map_err(|_| Refused::Memory)?;
+        let mut open = Stretch::behind(0);
+        let mut number: u32 = 0;
+        for place in places {
+            let grain = place.address >> shift;
+            let index = (grain / STRETCH) as usize;
+            if index != stretches.len() {
+                close(&mut stretches, open, index, number)?;
+                open = Stretch::behind(number);
             }
+            open.starts |= 1 << (grain % STRETCH);
+            number = number.saturating_add(1);
         }
-        let stretch = (last >> shift) as usize;
-        fill(&mut firsts, stretch, places.len().saturating_sub(1))?;
-        Ok(Directory { firsts, shift })
+        stretches.push(open).map_err(|_| Refused::Memory)?;
+        Ok(Directory { stretches, shift })
     }
 
-    /// The number at which to look first for an address up to that of the last place: no more than that of the first place in its stretch or
-    /// behind it, and not far from it.
+    /// The number at which to look first for an address up to that of the last place: how many places come before it, as far as no two begin in one grain,
+    /// and fewer where some do.
     pub fn near(&self, address: u32) -> usize {
-        let stretch = (address >> self.shift) as usize;
-        let entered = self.firsts.get(stretch).copied().unwrap_or(0) as usize;
-        entered.saturating_sub(ENTERED - 1)
-    }
-
-    /// The number at which to look first for an address, by eight places from about where its stretch begins: that of its place, if a segment stands there
-    /// and its stretch has few places. No branch depends on what stands where.
-    pub fn guess(&self, places: &[Place], address: u32) -> usize {
-        let last = places.len().saturating_sub(COMPARED);
-        let first = self.near(address).min(last);
-        let Some(compared) = places.get(first..first.saturating_add(COMPARED)) else {
-            return first;
-        };
-        let mut below: usize = 0;
-        for place in compared {
-            below = below.saturating_add((place.address < address) as usize);
+        let grain = address >> self.shift;
+        match self.stretches.get((grain / STRETCH) as usize) {
+            Some(stretch) => {
+                let below = stretch.starts & ((1 << (grain % STRETCH)) - 1);
+                (stretch.before as usize).saturating_add(below.count_ones() as usize)
+            }
+            None => 0,
         }
-        first.saturating_add(below)
     }
 }
 
-/// Notes a number as the first of a stretch and of all before it that have none.
-fn fill(firsts: &mut Vec<u32>, stretch: usize, number: usize) -> Result<(), Refused>
+impl Stretch {
+    /// A stretch in which no segment begins, behind so many places.
+    fn behind(before: u32) -> Stretch {
+        Stretch { starts: 0, before }
+    }
+}
+
+/// Notes a stretch, and those behind it up to an index, in which no segment begins; so many places come before them.
+fn close(
+    stretches: &mut Vec<Stretch>,
+    open: Stretch,
+    index: usize,
+    number: u32,
+) -> Result<(), Refused>
     ensures refusal { OnlyMemory result }
 {
-    let first = number.min(u32::MAX as usize) as u32;
-    for _ in firsts.len()..stretch.saturating_add(1) {
-        firsts.push(first).map_err(|_| Refused::Memory)?;
+    stretches.push(open).map_err(|_| Refused::Memory)?;
+    for _ in stretches.len()..index {
+        stretches
+            .push(Stretch::behind(number))
+            .map_err(|_| Refused::Memory)?;
     }
     Ok(())
 }

@@ -2,7 +2,7 @@
 ghost use Rattle.hd_dbd.specs.Refusals.{OnlyMemory};
 
 use crate::notes::Note;
-use hd_check_blocks::{Directory, Place};
+use hd_check_blocks::Directory;
 use hd_dbd::Refused;
 use std::alloc::Global;
 
@@ -30,7 +30,6 @@ impl<'a> Guide<'a> {
 pub fn twin_numbers(
     alloc: Global,
     notes: &[Note],
-    places: &[Place],
     directory: &Directory,
 ) -> Result<Vec<u32>, Refused>
     ensures refusal { OnlyMemory result }
@@ -38,7 +37,7 @@ pub fn twin_numbers(
     let mut twins = Vec::new(alloc);
     twins.reserve(notes.len()).map_err(|_| Refused::Memory)?;
     for note in notes {
-        let twin = directory.guess(places, note.forward);
+        let twin = directory.near(note.forward);
         twins
             .push(twin.min(u32::MAX as usize) as u32)
             .map_err(|_| Refused::Memory)?;

@@ -207,7 +207,7 @@ fn walk_volume<S: BlockStore>(
     ensures linked { IfOk result (λ b. IsTrue volume.old.is_sound → b ≡ true → AreLinked dbd.now.types (links_of dbd.now.types volume.old)) }
     ensures refusal { OnlyDeviceOrMemory result }
 {
-    let twins = twin_numbers(alloc, notes, places, directory)?;
+    let twins = twin_numbers(alloc, notes, directory)?;
     let guide = Guide {
         directory,
         twins: &twins,

@@ -17,41 +17,50 @@ fn places_of(alloc: Global, sizes: &[u32], count: u32) -> Option<Vec<Place>> {
     Some(places)
 }
 
-/// How many of the places are not guessed at once.
-fn not_guessed(alloc: Global, places: &[Place]) -> Result<usize, Refused> {
+/// By how much a directory tells too low a number for the address of a place, at most.
+fn most_below(alloc: Global, places: &[Place]) -> Result<usize, Refused> {
     let directory = Directory::of(alloc, places)?;
-    let mut missed: usize = 0;
+    let mut most: usize = 0;
     for number in 0..places.len() {
-        if directory.guess(places, places[number].address) != number {
-            missed = missed.saturating_add(1);
-        }
+        let told = directory.near(places[number].address);
+        most = most.max(number.wrapping_sub(told));
     }
-    Ok(missed)
+    Ok(most)
 }
 
 #[test]
-fn places_of_few_sizes_by_turns_are_guessed(rt: HostRuntime) -> Result<(), Fail> {
+fn places_of_few_sizes_by_turns_are_told(rt: HostRuntime) -> Result<(), Fail> {
     for sizes in [
         &[16][..],
         &[24][..],
         &[16, 64][..],
         &[16, 24, 40][..],
         &[1024][..],
+        &[32_768][..],
     ] {
         let places = places_of(rt.alloc(), sizes, 1000).expect(&rt, "places");
-        let missed = not_guessed(rt.alloc(), &places).expect(&rt, "a directory");
-        assert_eq!(rt; missed, 0, "{sizes:?}");
+        let most = most_below(rt.alloc(), &places).expect(&rt, "a directory");
+        assert_eq!(rt; most, 0, "{sizes:?}");
     }
     Ok(())
 }
 
 #[test]
-fn a_guess_of_few_places_stays_in_the_table(rt: HostRuntime) -> Result<(), Fail> {
+fn of_places_side_by_side_among_thin_ones_the_first_is_told(rt: HostRuntime) -> Result<(), Fail> {
+    let places = places_of(rt.alloc(), &[16, 100_000], 1000).expect(&rt, "places");
+    let most = most_below(rt.alloc(), &places).expect(&rt, "a directory");
+    assert_eq!(rt; most, 1);
+    Ok(())
+}
+
+#[test]
+fn a_number_told_of_few_places_stays_in_the_table(rt: HostRuntime) -> Result<(), Fail> {
     for count in 0..9 {
         let places = places_of(rt.alloc(), &[16], count).expect(&rt, "places");
         let directory = Directory::of(rt.alloc(), &places).expect(&rt, "a directory");
-        let guess = directory.guess(&places, 128);
-        assert!(rt; guess <= places.len(), "{guess} of {count}");
+        let told = directory.near(128);
+        assert!(rt; told <= places.len(), "{told} of {count}");
+        assert_eq!(rt; directory.near(u32::MAX), 0);
     }
     Ok(())
 }
