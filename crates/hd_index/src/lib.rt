@@ -5,6 +5,8 @@
 mod change;
 #[cfg(test)]
 mod counts_tests;
+#[cfg(test)]
+mod order_tests;
 mod search;
 
 pub use change::{blocks_needed, growth, insert, is_highest, remove, set};
