@@ -1,4 +1,4 @@
-ghost use Rattle.std.specs.Prelude.{◌≡◌, ◌≤◌, ◌<◌, true, take, IsTrue, IfOk, slice_index};
+ghost use Rattle.std.specs.Prelude.{◌≡◌, ◌≤◌, ◌<◌, true, false, take, IsTrue, IfOk, slice_index};
 ghost use Rattle.hd_bytes.specs.Numbers.{number_at};
 ghost use Rattle.hd_bytes.specs.Ranges.{bytes_at};
 ghost use Rattle.hd_dbd.specs.Refusals.{OnlyDevice};
@@ -28,16 +28,19 @@ pub struct Lower {
     pub leaf: u32,
 }
 
-/// The greatest key below another, at the front, if there is one, and the block of the sequence set that it leads to, 0 where that is not
-/// known.
-#[derive(Clone, Copy, Debug)]
-struct LowerKey {
-    key: Option<[u8; 255]>,
-    leaf: u32,
+/// What is known where the index has no key below another.
+fn no_lower() -> Lower
+    ensures none { result.is_some ≡ false }
+    ensures leaf { result.leaf ≡ 0 }
+{
+    Lower {
+        is_some: false,
+        leaf: 0,
+    }
 }
 
 /// Copies the key of an entry to the front of some bytes.
-fn copy_key(block: &IndexBlock, index: usize, found: &mut [u8; 255])
+fn copy_key_at(block: &IndexBlock, index: usize, found: &mut [u8; 255])
     requires { index < entry_count block.now.key_length block.now.bytes.now }
     ensures { take block.now.key_length found.new ≡ bytes_at block.now.bytes.now (entry_place block.now.key_length index) block.now.key_length }
 {
@@ -50,34 +53,34 @@ pub fn key_copy(block: &IndexBlock, index: usize) -> [u8; 255]
     ensures { take block.now.key_length result ≡ bytes_at block.now.bytes.now (entry_place block.now.key_length index) block.now.key_length }
 {
     let mut key = [0; 255];
-    copy_key(block, index, &mut key);
+    copy_key_at(block, index, &mut key);
     key
 }
 
-/// The key of the entry before an index, if there is one, at the front.
-fn key_before(block: &IndexBlock, index: usize) -> Option<[u8; 255]>
+/// Copies the key of the entry before an index to the front of some bytes, and says whether there is one.
+fn copy_key_before(block: &IndexBlock, index: usize, found: &mut [u8; 255]) -> bool
     requires { index ≤ entry_count block.now.key_length block.now.bytes.now }
-    ensures { CountFits block.now.key_length block.now.bytes.now → IsLastOf block.now.key_length result (take index (entries_in block.now.key_length block.now.bytes.now)) }
+    ensures { CountFits block.now.key_length block.now.bytes.now → IsLastOf block.now.key_length (found_key result found.new) (take index (entries_in block.now.key_length block.now.bytes.now)) }
 {
     if index == 0 {
-        None
-    } else {
-        Some(key_copy(block, index - 1))
+        return false;
     }
+    copy_key_at(block, index - 1, found);
+    true
 }
 
-/// The greatest key below a key among those of the entries, if there is one.
-fn greatest_key(block: &IndexBlock, key: &[u8]) -> Option<[u8; 255]>
-    ensures { IfInOrder block.now.key_length block.now.bytes.now (IsGreatestOf block.now.key_length result key.now (entries_in block.now.key_length block.now.bytes.now)) }
+/// Copies the greatest key below a key among those of the entries to the front of some bytes, and says whether there is one.
+fn copy_greatest(block: &IndexBlock, key: &[u8], found: &mut [u8; 255]) -> bool
+    ensures { IfInOrder block.now.key_length block.now.bytes.now (IsGreatestOf block.now.key_length (found_key result found.new) key.now (entries_in block.now.key_length block.now.bytes.now)) }
 {
-    key_before(block, block.place_of(key))
+    copy_key_before(block, block.place_of(key), found)
 }
 
-/// The last key, if there is an entry.
-fn last_key_of(block: &IndexBlock) -> Option<[u8; 255]>
-    ensures { CountFits block.now.key_length block.now.bytes.now → IsLastOf block.now.key_length result (entries_in block.now.key_length block.now.bytes.now) }
+/// Copies the last key to the front of some bytes, and says whether there is one.
+fn copy_last(block: &IndexBlock, found: &mut [u8; 255]) -> bool
+    ensures { CountFits block.now.key_length block.now.bytes.now → IsLastOf block.now.key_length (found_key result found.new) (entries_in block.now.key_length block.now.bytes.now) }
 {
-    key_before(block, block.count())
+    copy_key_before(block, block.count(), found)
 }
 
 /// A block has the level and the next block of the last one of the sequence set.
@@ -86,18 +89,6 @@ fn is_last(block: &IndexBlock) -> bool
     ensures next { result ≡ true → number_at 4 block.now.bytes.now 8 ≡ 0 }
 {
     block.level() == 0 && block.next() == 0
-}
-
-/// Copies the greatest key below a key among those of the entries to the front of some bytes, and says whether there is one.
-fn copy_greatest(block: &IndexBlock, key: &[u8], found: &mut [u8; 255]) -> bool
-    ensures { IfInOrder block.now.key_length block.now.bytes.now (IsGreatestOf block.now.key_length (found_key result found.new) key.now (entries_in block.now.key_length block.now.bytes.now)) }
-{
-    let index = block.place_of(key);
-    if index == 0 {
-        return false;
-    }
-    copy_key(block, index - 1, found);
-    true
 }
 
 /// Copies the greatest key below a key in the last block of the sequence set, and says whether a block is that and has one.
@@ -109,47 +100,49 @@ fn copy_greatest_in_last(block: &IndexBlock, key: &[u8], found: &mut [u8; 255]) 
     is_last(block) && copy_greatest(block, key, found)
 }
 
-/// The greatest key below a key among those of a block, if there is one.
+/// Copies the greatest key below a key among those of a block to the front of some bytes, and says whether there is one.
 fn greatest_in<S: BlockStore>(
     volume: &mut Volume<S>,
     key_length: usize,
     n: u32,
     key: &[u8],
-) -> Result<Option<[u8; 255]>, Refused>
+    found: &mut [u8; 255],
+) -> Result<bool, Refused>
     requires short { key_length ≤ 255 }
     ensures read { IsRead volume.old result volume.new }
-    ensures value { IfOk result (λ r. IsTrue volume.old.is_sound → IsInOrder key_length volume.old n → IsGreatestOf key_length r key.now (entries_in key_length (block_at volume.old n))) }
+    ensures value { IfOk result (λ r. IsTrue volume.old.is_sound → IsInOrder key_length volume.old n → IsGreatestOf key_length (found_key r found.new) key.now (entries_in key_length (block_at volume.old n))) }
     ensures refusal { OnlyDevice result }
 {
     if !has_block(volume, n) {
-        return Ok(None);
+        return Ok(false);
     }
     let bytes = volume.block(n)?;
     if bytes.len() < FIRST {
-        return Ok(None);
+        return Ok(false);
     }
-    Ok(greatest_key(&IndexBlock { bytes, key_length }, key))
+    Ok(copy_greatest(&IndexBlock { bytes, key_length }, key, found))
 }
 
-/// The last key of a block, if it has an entry.
+/// Copies the last key of a block to the front of some bytes, and says whether it has an entry.
 pub fn last_in<S: BlockStore>(
     volume: &mut Volume<S>,
     key_length: usize,
     n: u32,
-) -> Result<Option<[u8; 255]>, Refused>
+    found: &mut [u8; 255],
+) -> Result<bool, Refused>
     requires short { key_length ≤ 255 }
     ensures read { IsRead volume.old result volume.new }
-    ensures value { IfOk result (λ r. IsTrue volume.old.is_sound → IsInOrder key_length volume.old n → IsLastOf key_length r (entries_in key_length (block_at volume.old n))) }
+    ensures value { IfOk result (λ r. IsTrue volume.old.is_sound → IsInOrder key_length volume.old n → IsLastOf key_length (found_key r found.new) (entries_in key_length (block_at volume.old n))) }
     ensures refusal { OnlyDevice result }
 {
     if !has_block(volume, n) {
-        return Ok(None);
+        return Ok(false);
     }
     let bytes = volume.block(n)?;
     if bytes.len() < FIRST {
-        return Ok(None);
+        return Ok(false);
     }
-    Ok(last_key_of(&IndexBlock { bytes, key_length }))
+    Ok(copy_last(&IndexBlock { bytes, key_length }, found))
 }
 
 /// Copies the greatest key of the index below a key to the front of some bytes, and says whether it did: where a block is the last one of the
@@ -201,82 +194,65 @@ pub fn greatest<S: BlockStore>(
         });
     }
     volume.note_block(0);
-    let lower = greatest_down(volume, key_length, key)?;
-    Ok(put_lower(&lower, found))
+    let lower = greatest_down(volume, key_length, key, found)?;
+    Ok(lower)
 }
 
-/// Copies a key that was found to the front of some bytes.
-fn put_lower(lower: &LowerKey, found: &mut [u8; 255]) -> Lower
-    ensures key { found_key result.is_some found.new ≡ lower.now.key }
-    ensures leaf { result.leaf ≡ lower.now.leaf }
-{
-    let leaf = lower.leaf;
-    match lower.key {
-        Some(key) => {
-            *found = key;
-            Lower {
-                is_some: true,
-                leaf,
-            }
-        }
-        None => Lower {
-            is_some: false,
-            leaf,
-        },
-    }
-}
-
-/// The greatest key of the index below a key, and the block of the sequence set to which it leads, where that is known, by a walk down from
-/// the top.
+/// The same, by a walk down from the top.
 fn greatest_down<S: BlockStore>(
     volume: &mut Volume<S>,
     key_length: usize,
     key: &[u8],
-) -> Result<LowerKey, Refused>
+    found: &mut [u8; 255],
+) -> Result<Lower, Refused>
     requires short { key_length ≤ 255 }
     ensures read { IsRead volume.old result volume.new }
-    ensures value { WhereSound volume.old result (λ r. HasIndexSet key_length volume.old → IsGreatestBelow key_length volume.old key.now r.key) }
+    ensures value { WhereSound volume.old result (λ r. HasIndexSet key_length volume.old → IsGreatestBelow key_length volume.old key.now (found_key r.is_some found.new)) }
     ensures leaf { WhereSound volume.old result (λ r. HasIndexSet key_length volume.old → IsKnownLeaf key_length volume.old (lower_key key_length volume.old key.now) r.leaf) }
     ensures refusal { OnlyDevice result }
 {
     let top = volume.top();
     let height = volume.height();
     if top == 0 || height == 0 || height > MOST_LEVELS {
-        return Ok(LowerKey { key: None, leaf: 0 });
+        return Ok(no_lower());
     }
     let start = Stand {
         left: 0,
         block: top,
     };
     let stand = walk_down(volume, key_length, height - 1, start, key)?;
-    let found = greatest_about(volume, key_length, stand, key)?;
-    Ok(found)
+    let lower = greatest_about(volume, key_length, stand, key, found)?;
+    Ok(lower)
 }
 
-/// The greatest key of the index below a key, and the block of the sequence set to which it leads, where that is known. A walk stands at a
-/// block about the key: that one's greatest key below it is taken, or else the last one of its left neighbour.
+/// The same, where a walk stands at a block about the key: that one's greatest key below it is taken, or else the last one of its left
+/// neighbour.
 fn greatest_about<S: BlockStore>(
     volume: &mut Volume<S>,
     key_length: usize,
     stand: Stand,
     key: &[u8],
-) -> Result<LowerKey, Refused>
+    found: &mut [u8; 255],
+) -> Result<Lower, Refused>
     requires short { key_length ≤ 255 }
     ensures read { IsRead volume.old result volume.new }
-    ensures value { WhereSound volume.old result (λ r. HasIndexSet key_length volume.old → IsStand key_length volume.old key.now 0 stand → IsGreatestBelow key_length volume.old key.now r.key) }
+    ensures value { WhereSound volume.old result (λ r. HasIndexSet key_length volume.old → IsStand key_length volume.old key.now 0 stand → IsGreatestBelow key_length volume.old key.now (found_key r.is_some found.new)) }
     ensures leaf { WhereSound volume.old result (λ r. HasIndexSet key_length volume.old → IsStand key_length volume.old key.now 0 stand → IsKnownLeaf key_length volume.old (lower_key key_length volume.old key.now) r.leaf) }
     ensures refusal { OnlyDevice result }
 {
-    let own = greatest_in(volume, key_length, stand.block, key)?;
-    if own.is_some() {
-        return Ok(LowerKey {
-            key: own,
+    let own = greatest_in(volume, key_length, stand.block, key, found)?;
+    if own {
+        return Ok(Lower {
+            is_some: own,
             leaf: stand.block,
         });
     }
     if stand.left == 0 {
-        return Ok(LowerKey { key: own, leaf: 0 });
+        return Ok(no_lower());
     }
-    let last = last_in(volume, key_length, stand.left)?;
-    Ok(LowerKey { key: last, leaf: 0 })
+    let last = last_in(volume, key_length, stand.left, found)?;
+    Ok(Lower {
+        is_some: last,
+        leaf: 0,
+    })
 }

@@ -18,7 +18,7 @@ use crate::descend::MOST_LEVELS;
 use crate::enter::enter_key;
 use crate::first::insert_first;
 use crate::greatest::greatest;
-use crate::need::{lower_or, needed_at};
+use crate::need::{key_or, needed_at};
 use crate::room::make_room;
 use crate::search::is_above_all;
 use hd_dbd::{Dbd, Refused};
@@ -79,7 +79,7 @@ fn insert_key<S: BlockStore>(
     }
     let mut found = [0; 255];
     let below = greatest(volume, key_length, key, &mut found)?;
-    let by = lower_or(below, &found, key_length, key);
+    let by = key_or(below.is_some, &found, key_length, key);
     insert_by(volume, key_length, below.leaf, by, key, address)
 }
 

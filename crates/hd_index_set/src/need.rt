@@ -13,7 +13,7 @@ ghost use Rattle.hd_index_set.specs.Changes.{IsIndexOf, WhereSound};
 ghost use Rattle.hd_index_set.specs.Greatest.{IsKnownLeaf, found_key};
 
 use crate::descend::MOST_LEVELS;
-use crate::greatest::{Lower, greatest};
+use crate::greatest::greatest;
 use crate::look::{child, has_block};
 use hd_dbd::{Dbd, Refused};
 use hd_entries::{FIRST, IndexBlock, entry_room, root_key_length};
@@ -57,7 +57,7 @@ fn blocks_for<S: BlockStore>(
 {
     let mut found = [0; 255];
     let below = greatest(volume, key_length, key, &mut found)?;
-    let by = lower_or(below, &found, key_length, key);
+    let by = key_or(below.is_some, &found, key_length, key);
     let needed = needed_at(volume, key_length, below.leaf, by)?;
     Ok(needed)
 }
@@ -123,32 +123,12 @@ pub fn needed_for<S: BlockStore>(
     Ok(if full == height { full + 1 } else { full })
 }
 
-/// The key that was found, or else another.
-pub fn key_or<'k>(found: &'k Option<[u8; 255]>, key_length: usize, key: &'k [u8]) -> &'k [u8]
+/// The key at the front of some bytes, where one was found, or else another.
+pub fn key_or<'k>(is_some: bool, found: &'k [u8; 255], key_length: usize, key: &'k [u8]) -> &'k [u8]
     requires short { key_length ≤ 255 }
-    ensures { result.now ≡ option_map_or (take key_length) found.now key.now }
+    ensures { result.now ≡ option_map_or (take key_length) (found_key is_some found.now) key.now }
 {
-    match found {
-        Some(found) => &found[..key_length],
-        None => key,
-    }
-}
-
-/// The greatest key below another, at the front of some bytes, or else the other.
-pub fn lower_or<'k>(
-    lower: Lower,
-    found: &'k [u8; 255],
-    key_length: usize,
-    key: &'k [u8],
-) -> &'k [u8]
-    requires short { key_length ≤ 255 }
-    ensures { result.now ≡ option_map_or (take key_length) (found_key lower.is_some found.now) key.now }
-{
-    if lower.is_some {
-        &found[..key_length]
-    } else {
-        key
-    }
+    if is_some { &found[..key_length] } else { key }
 }
 
 /// How many blocks are full without a gap, from the sequence set up to a block so many levels above it, where a key leads down

@@ -95,8 +95,9 @@ fn add_top<S: BlockStore>(
     ensures room { IsTrue volume.new.is_sound → volume.old.room ≤ volume.new.room + 1 }
 {
     let top = volume.top();
-    let last = last_in(volume, key_length, top)?;
-    begin_top(volume, level, key_or(&last, key_length, by), top)
+    let mut found = [0; 255];
+    let last = last_in(volume, key_length, top, &mut found)?;
+    begin_top(volume, level, key_or(last, &found, key_length, by), top)
 }
 
 /// Divides a block under the lowest one that has room, which stands so many steps down from the top where a key leads.

@@ -1,5 +1,4 @@
-use Rattle.std.proofs.Common.{◌≡◌, ℕ, List, Option, take, IsTrue, ap, sym, subst, ◌∙◌}
-use Rattle.std.specs.Option.{option_map_or}
+use Rattle.std.proofs.Common.{◌≡◌, ℕ, List, IsTrue, ap, sym, subst, ◌∙◌}
 use Rattle.hd_volume.specs.Volumes.{VolumeState}
 use Rattle.hd_levels.specs.Maps.{greatest_below}
 use Rattle.hd_volume.proofs.JoinLemmas.{AreOne, read-one}
@@ -21,7 +20,7 @@ returns-clause-value g c sound x =
     let one = subst O (sym noted) (read-one read after) in
     let S : VolumeState → Type 0 = λ t. IsTrue t.is_sound in
     let same = set-same k v w one x in
-    ap (λ (o : Option (List ℕ)). option_map_or (take k) o key) c.put_lower.ensures.key ∙ c.in_ok-lower.ensures.value (subst S (sym noted) after) same.0 ∙ ap (greatest_below key key) same.1
+    c.in_ok-lower.ensures.value (subst S (sym noted) after) same.0 ∙ ap (greatest_below key key) same.1
 
 pub returns-clause-leaf : goal.returns-clause-leaf
 returns-clause-leaf g c sound x =
@@ -37,6 +36,5 @@ returns-clause-leaf g c sound x =
     let S : VolumeState → Type 0 = λ t. IsTrue t.is_sound in
     let same = set-same k v w one x in
     let N : List ℕ → Type 0 = λ b. IsKnownLeaf k v b c.in_ok-lower.lower.leaf in
-    let L : ℕ → Type 0 = λ n. IsKnownLeaf k v (lower_key k v key) n in
-    subst L (sym c.put_lower.ensures.leaf) (subst N (ap (greatest_below key key) same.1)
-    (known-same k w v (lower_key k w key) c.in_ok-lower.lower.leaf (one-turned one) (c.in_ok-lower.ensures.leaf (subst S (sym noted) after) same.0)))
+    subst N (ap (greatest_below key key) same.1)
+    (known-same k w v (lower_key k w key) c.in_ok-lower.lower.leaf (one-turned one) (c.in_ok-lower.ensures.leaf (subst S (sym noted) after) same.0))

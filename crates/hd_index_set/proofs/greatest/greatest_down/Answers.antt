@@ -25,7 +25,7 @@ returns-clause-value g c sound x =
     let now : IsTrue w.is_sound = rw c.in_ok-stand.ensures.read.call.sound sound in
     let one = read-one c.in_ok-stand.ensures.read now in
     let same = set-same k v w one x in
-    c.in_ok-found.ensures.value now same.0 (stand-same k v w key 0 c.in_ok-stand.stand one down) ∙ ap (greatest_below key key) same.1
+    c.in_ok-lower.ensures.value now same.0 (stand-same k v w key 0 c.in_ok-stand.stand one down) ∙ ap (greatest_below key key) same.1
 
 pub returns-clause-leaf : goal.returns-clause-leaf
 returns-clause-leaf g c sound x =
@@ -43,6 +43,6 @@ returns-clause-leaf g c sound x =
     let now : IsTrue w.is_sound = rw c.in_ok-stand.ensures.read.call.sound sound in
     let one = read-one c.in_ok-stand.ensures.read now in
     let same = set-same k v w one x in
-    let N : List ℕ → Type 0 = λ b. IsKnownLeaf k v b c.in_ok-found.found.leaf in
+    let N : List ℕ → Type 0 = λ b. IsKnownLeaf k v b c.in_ok-lower.lower.leaf in
     subst N (ap (greatest_below key key) same.1)
-    (known-same k w v (lower_key k w key) c.in_ok-found.found.leaf (one-turned one) (c.in_ok-found.ensures.leaf now same.0 (stand-same k v w key 0 c.in_ok-stand.stand one down)))
+    (known-same k w v (lower_key k w key) c.in_ok-lower.lower.leaf (one-turned one) (c.in_ok-lower.ensures.leaf now same.0 (stand-same k v w key 0 c.in_ok-stand.stand one down)))

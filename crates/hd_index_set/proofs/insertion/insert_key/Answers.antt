@@ -31,9 +31,9 @@ returns-clause-changed g c =
     (λ last start.
     let now : IsTrue u.is_sound = rw read.call.sound start in
     let x = c.requires.index start in
-    let by = c.lower_or-by.ensures ∙ c.in_ok-below.ensures.value start x in
+    let by = c.key_or-by.ensures ∙ c.in_ok-below.ensures.value start x in
     let some : 0 < v.size = (let three = c.requires.three in omega arith) in
-    found-change c.args.key_length v u c.insert_by.new.volume c.args.key.now c.lower_or-by.result.now (record { key = c.args.key.now; address = c.args.address }) x some (read-one read now) by (last now))
+    found-change c.args.key_length v u c.insert_by.new.volume c.args.key.now c.key_or-by.result.now (record { key = c.args.key.now; address = c.args.address }) x some (read-one read now) by (last now))
 
 pub returns-clause-refused : goal.returns-clause-refused
 returns-clause-refused g c =
@@ -43,8 +43,8 @@ returns-clause-refused g c =
     if-err c.insert_by.result c.insert_by.ensures.refused
     (λ e r start.
     let now : IsTrue u.is_sound = rw read.call.sound start in
-    let by = c.lower_or-by.ensures ∙ c.in_ok-below.ensures.value start (c.requires.index start) in
-    found-refused c.args.key_length v u c.args.key.now c.lower_or-by.result.now e (read-one read now) read.room by (r now))
+    let by = c.key_or-by.ensures ∙ c.in_ok-below.ensures.value start (c.requires.index start) in
+    found-refused c.args.key_length v u c.args.key.now c.key_or-by.result.now e (read-one read now) read.room by (r now))
 
 pub insert_by-requires-clause-leaf : goal.insert_by-requires-clause-leaf
 insert_by-requires-clause-leaf g c now =
@@ -54,6 +54,6 @@ insert_by-requires-clause-leaf g c now =
     let read = c.in_ok-below.ensures.read in
     let start : IsTrue v.is_sound = rw (← read.call.sound) now in
     let x = c.requires.index start in
-    let by = c.lower_or-by.ensures ∙ c.in_ok-below.ensures.value start x in
+    let by = c.key_or-by.ensures ∙ c.in_ok-below.ensures.value start x in
     let N : List ℕ → Type 0 = λ b. IsKnownLeaf k v b c.in_ok-below.below.leaf in
-    known-same k v u c.lower_or-by.result.now c.in_ok-below.below.leaf (read-one read now) (subst N (sym by) (c.in_ok-below.ensures.leaf start x))
+    known-same k v u c.key_or-by.result.now c.in_ok-below.below.leaf (read-one read now) (subst N (sym by) (c.in_ok-below.ensures.leaf start x))

@@ -14,8 +14,8 @@ returns-clause-value g c sound x =
     let k : ℕ = c.args.key_length in
     let now : IsTrue w.is_sound = rw c.in_ok-below.ensures.read.call.sound sound in
     let one = read-one c.in_ok-below.ensures.read now in
-    let by = c.lower_or-by.ensures ∙ c.in_ok-below.ensures.value sound x in
-    c.in_ok-needed.ensures.value now (set-same k v w one x).0 ∙ needed-same k v w c.lower_or-by.result.now one ∙ ap (needed_by k v) by
+    let by = c.key_or-by.ensures ∙ c.in_ok-below.ensures.value sound x in
+    c.in_ok-needed.ensures.value now (set-same k v w one x).0 ∙ needed-same k v w c.key_or-by.result.now one ∙ ap (needed_by k v) by
 
 pub needed_at-requires-clause-leaf : goal.needed_at-requires-clause-leaf
 needed_at-requires-clause-leaf g c now x =
@@ -26,6 +26,6 @@ needed_at-requires-clause-leaf g c now x =
     let sound : IsTrue v.is_sound = rw (← read.call.sound) now in
     let one = read-one read now in
     let before = (set-same k w v (one-turned one) x).0 in
-    let by = c.lower_or-by.ensures ∙ c.in_ok-below.ensures.value sound before in
+    let by = c.key_or-by.ensures ∙ c.in_ok-below.ensures.value sound before in
     let N : List ℕ → Type 0 = λ b. IsKnownLeaf k v b c.in_ok-below.below.leaf in
-    known-same k v w c.lower_or-by.result.now c.in_ok-below.below.leaf one (subst N (sym by) (c.in_ok-below.ensures.leaf sound before))
+    known-same k v w c.key_or-by.result.now c.in_ok-below.below.leaf one (subst N (sym by) (c.in_ok-below.ensures.leaf sound before))

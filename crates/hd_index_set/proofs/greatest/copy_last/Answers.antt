@@ -4,7 +4,7 @@ use Rattle.hd_volume.specs.Entries.{Entry, entries_in}
 use Rattle.hd_levels.specs.Maps.{last_key}
 use Rattle.hd_entries.proofs.BlockLemmas.{length-entries}
 use Rattle.hd_index_set.proofs.Fronts.{take-whole}
-use Rattle.hd_index_set.proofs.greatest.last_key_of.Goals as goal
+use Rattle.hd_index_set.proofs.greatest.copy_last.Goals as goal
 
 pub returns : goal.returns
 returns c fits other =
@@ -13,4 +13,4 @@ returns c fits other =
     let len : length (entries_in k b) ≡ number_at 2 b 4 = length-entries k b 12 (number_at 2 b 4) in
     let v = c.count.ensures.value in
     let all : c.count.result ≡ length (entries_in k b) = omega arith in
-    c.key_before.ensures fits other ∙ ap (λ (t : List Entry). last_key other t) (take-whole (entries_in k b) c.count.result all)
+    c.copy_key_before.ensures fits other ∙ ap (λ (t : List Entry). last_key other t) (take-whole (entries_in k b) c.count.result all)
