@@ -36,9 +36,9 @@ struct Cost {
 /// level the block and perhaps its left neighbour; then, where the block to which it came has no key below the new one, it reads each block for
 /// its count; then it reads and writes each: five accesses a level.
 /// One that takes blocks always makes this way too, and goes down once more, to see whether the key is above all others; that makes six. For
-/// each block it goes down twice, and makes ten accesses besides: it adds the block and reads it, copies entries to it by three for each 1,024
-/// bytes, and reads and writes the block that is divided and the one above. These are not more than six a level, save in an index of two
-/// levels, of which some blocks are still in hand where they would be read.
+/// each block it goes down twice, and makes nine accesses besides: it adds the block, copies entries to it by three for each 1,024 bytes, and
+/// reads and writes the block that is divided and the one above. These are not more than six a level, save in an index of two levels, of which
+/// some blocks are still in hand where they would be read.
 /// One between two keys of a block that has room goes down twice and writes that block alone, of which it reads no left neighbour: three
 /// accesses a level. A way more would make at least one more than these, save in an index of at most four levels, of which the blocks are
 /// still in hand.

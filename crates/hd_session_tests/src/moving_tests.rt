@@ -199,33 +199,35 @@ fn run_in_fuse(alloc: Global, dbd: &Dbd, volume: &[u8], deck: &[u8], passes: u64
     })
 }
 
-/// How many reads and how many writes came before an access failed in one call: the first time, and the last time.
+/// How many reads and how many writes came before an access failed: the first time in a call, and the first time behind it.
 #[derive(Clone, Copy, Debug)]
 struct Accesses {
-    first: (u32, u32),
-    last: (u32, u32),
+    before: Option<(u32, u32)>,
+    behind: Option<(u32, u32)>,
 }
 
-/// The same with one more failed access.
-fn with_one_more(before: Option<Accesses>, store: &Sparing) -> Accesses {
-    let now = (store.reads, store.writes);
-    match before {
-        Some(before) => Accesses {
-            first: before.first,
-            last: now,
+/// The same of the call at its own place with one more failed access, that of the call at a place.
+fn with_one_more(of: Accesses, own: usize, place: usize, store: &Sparing) -> Accesses {
+    let now = Some((store.reads, store.writes));
+    Accesses {
+        before: if place < own {
+            of.before
+        } else {
+            of.before.or(now)
         },
-        None => Accesses {
-            first: now,
-            last: now,
+        behind: if place <= own {
+            of.behind
+        } else {
+            of.behind.or(now)
         },
     }
 }
 
-/// Whether a read failed and a write failed: one more passed until the last time.
-fn has_both(accesses: Option<Accesses>) -> bool {
-    match accesses {
-        Some(of) => of.first.0 < of.last.0 && of.first.1 < of.last.1,
-        None => false,
+/// Whether a read of the call failed and a write: one of each passed until the first time behind it.
+fn has_both(of: Accesses) -> bool {
+    match (of.before, of.behind) {
+        (Some(before), Some(behind)) => before.0 < behind.0 && before.1 < behind.1,
+        _ => false,
     }
 }
 
@@ -235,7 +237,10 @@ fn tells_of_each_access_that_fails_where_rows_move(rt: HostRuntime) -> Result<()
     let dbd = database(alloc).expect(&rt, "a database");
     let volume = volume_of(alloc, &dbd, &records_of(alloc, ROWS)?)?;
     let deck = deck_of(alloc)?;
-    let mut failed: [Option<Accesses>; 2] = [None; 2];
+    let mut failed = [Accesses {
+        before: None,
+        behind: None,
+    }; 2];
     for passes in 0..2000 {
         let ended = run_in_fuse(alloc, &dbd, &volume, deck.as_bytes(), passes).expect(&rt, "a run");
         let (line, _) = checked(alloc, &dbd, &ended.store.bytes).expect(&rt, "a volume");
@@ -259,10 +264,8 @@ fn tells_of_each_access_that_fails_where_rows_move(rt: HostRuntime) -> Result<()
             assert_eq!(rt; ended.calls, Err(RunFault::Device));
             let place = failed_call(&ended.lines).expect(&rt, "the lines of the calls");
             for (number, own) in REPLS.iter().enumerate() {
-                if *own == place {
-                    if let Some(accesses) = failed.get_mut(number) {
-                        *accesses = Some(with_one_more(*accesses, &ended.store));
-                    }
+                if let Some(accesses) = failed.get_mut(number) {
+                    *accesses = with_one_more(*accesses, *own, place, &ended.store);
                 }
             }
         }

@@ -129,7 +129,7 @@ fn each_access_that_fails_is_told(rt: HostRuntime) -> Result<(), Fail> {
     for passes in 0..200 {
         match fused(alloc, &dbd, &whole, passes) {
             Some(true) => {
-                assert!(rt; passes > 10);
+                assert!(rt; passes > 8);
                 return Ok(());
             }
             Some(false) => {}
