@@ -2,7 +2,8 @@
 """Measures hd, and SQLite beside it where sqlite3, its library and gcc are there.
 
 Each command is run three times, alternating with SQLite's, and the least time of the three is shown with the greatest behind it. Times are
-processor time in seconds, memory is the peak in MB, and accesses are the system's reads and writes of the volume, counted by strace in a run of its own.
+processor time in seconds, with the least time by the clock behind them, memory is the peak in MB, and accesses are the system's reads and writes of the volume, counted by
+strace in a run of its own. "scattered" has the rows of "deep", put in at random by calls.
 The time of a call, and the ratio beside it, leave out what "open" takes: a deck of one call, which checks the volume first. The time to read the
 deck is in them.
 
@@ -17,6 +18,7 @@ import shutil
 import subprocess
 import sys
 import tempfile
+import time
 
 import shapes
 
@@ -31,14 +33,15 @@ create table book(num text, place integer, title text, primary key(num, place)) 
 
 
 def measured(words, **files):
-    """Processor time and peak memory of a command."""
+    """Processor time and peak memory of a command, and its time by the clock."""
     opened = {name: open(path, "rb" if name == "stdin" else "wb") for name, path in files.items()}
+    start = time.monotonic()
     process = subprocess.Popen(words, **{"stdout": subprocess.DEVNULL, **opened})
     _, status, usage = os.wait4(process.pid, 0)
     process.returncode = os.waitstatus_to_exitcode(status)
     if status != 0:
         sys.exit(f"{words}: status {process.returncode}")
-    return usage.ru_utime + usage.ru_stime, usage.ru_maxrss / 1024
+    return usage.ru_utime + usage.ru_stime, usage.ru_maxrss / 1024, time.monotonic() - start
 
 
 def apart(work):
@@ -73,11 +76,11 @@ class Row:
 
     def __init__(self, name, calls=0, opening=None):
         """So many calls, behind an opening of the volume that was measured before."""
-        self.name, self.calls, self.opening, self.hd, self.sqlite, self.memory, self.accesses = name, calls, opening, [], [], 0, 0
+        self.name, self.calls, self.opening, self.hd, self.wall, self.sqlite, self.memory, self.accesses = name, calls, opening, [], [], [], 0, 0
         self.counted = [0, 0]
 
     def show(self):
-        text = f"{self.name:12} {min(self.hd):7.2f} to {max(self.hd):5.2f} s {self.memory:6.1f} MB {self.accesses:9} accesses"
+        text = f"{self.name:12} {min(self.hd):7.3f} to {max(self.hd):6.3f} s, clock {min(self.wall):6.3f} {self.memory:6.1f} MB {self.accesses:9} accesses"
         least, other = min(self.hd), min(self.sqlite, default=0)
         if self.opening:
             least, other = least - min(self.opening.hd), other - min(self.opening.sqlite, default=0)
@@ -108,8 +111,9 @@ def play(row, hd, sqlite, volume, is_counted, before=lambda: None):
     """Runs both in turn."""
     for _ in range(RUNS):
         before()
-        time, memory = measured(hd)
-        row.hd.append(time)
+        processor, memory, wall = measured(hd)
+        row.hd.append(processor)
+        row.wall.append(wall)
         row.memory = max(row.memory, memory)
         if sqlite:
             row.sqlite.append(measured(*sqlite[0], **sqlite[1])[0])
@@ -129,13 +133,18 @@ def remove(*names):
 
 
 def write_rows(shape, segments):
-    rows = list(shapes.SHAPES[shape](segments))
+    """The database, and the rows of a shape as a stream; those that are to lie scattered as a deck, beside a stream without rows."""
+    is_scattered = shape == "scattered"
+    rows = list(shapes.SHAPES["deep" if is_scattered else shape](segments))
     print(f"{shape}, {len(rows)} segments", flush=True)
     for name, text in (("b.dbd", shapes.DBD), ("b.psb", shapes.PSB)):
         with open(name, "w") as file:
             file.write(text)
     with open("b.stream", "wb") as file:
-        file.write(shapes.stream(rows))
+        file.write(shapes.stream([] if is_scattered else rows))
+    if is_scattered:
+        with open("b.deck", "w") as file:
+            file.write(shapes.scattered(segments))
     import_sql(rows)
 
 
@@ -156,7 +165,13 @@ def measure(shape, segments, calls, has_sqlite, is_counted):
     def fresh():
         remove("b.volume", "b.sqlite")
 
-    play(Row("reload"), [HD, "reload", "b.dbd", "b.stream", "b.volume", "65536"], sqlite("b.sqlite", stdin="import.sql"), "b.volume", is_counted, fresh)
+    reload = [HD, "reload", "b.dbd", "b.stream", "b.volume", "65536"]
+    if shape == "scattered":
+        fresh()
+        measured(reload)
+        measured([HD, "deck", "--cache", "65536", "b.dbd", "b.psb", "b.volume", "b.deck"])
+    else:
+        play(Row("reload"), reload, sqlite("b.sqlite", stdin="import.sql"), "b.volume", is_counted, fresh)
     if has_sqlite and not os.path.exists("b.sqlite"):
         measured(["sqlite3", "b.sqlite"], stdin="import.sql")
     play(Row("check"), [HD, "check", "b.dbd", "b.volume"], sqlite("b.sqlite", "pragma integrity_check"), "b.volume", is_counted)
@@ -183,7 +198,8 @@ def measure(shape, segments, calls, has_sqlite, is_counted):
 def main():
     parser = argparse.ArgumentParser(description=__doc__.split("\n")[0])
     parser.add_argument("segments", nargs="*", type=int, default=[10_000, 200_000, 1_000_000])
-    parser.add_argument("--shape", choices=shapes.SHAPES, action="append")
+    all_shapes = [*shapes.SHAPES, "scattered"]
+    parser.add_argument("--shape", choices=all_shapes, action="append")
     parser.add_argument("--calls", type=int, default=100_000)
     parser.add_argument("--instructions", action="store_true")
     words = parser.parse_args()
@@ -195,7 +211,7 @@ def main():
         built = subprocess.run(["gcc", "-O2", "-o", "calls", os.path.join(source, "calls.c"), "-lsqlite3"], capture_output=True)
         has_sqlite = built.returncode == 0
     for segments in words.segments:
-        for shape in words.shape or shapes.SHAPES:
+        for shape in words.shape or all_shapes:
             measure(shape, segments, words.calls, has_sqlite, words.instructions)
     shutil.rmtree(folder)
 

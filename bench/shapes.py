@@ -111,6 +111,27 @@ def path(random_number, segments):
     )
 
 
+def scattered(segments):
+    """A deck that puts in the rows of `deep`, those of each type in random order behind all of its parents', so that they lie scattered."""
+    calls = {"COURSE": [], "CLASS": [], "STUD": []}
+    number = edition = ""
+    for name, text in deep(segments):
+        above = []
+        if name == "COURSE":
+            number = text[:7]
+        else:
+            above = [f"COURSE  (NUM     EQ{number})"]
+        if name == "CLASS":
+            edition = text[:2]
+        elif name == "STUD":
+            above.append(f"CLASS   (ED      EQ{edition})")
+        calls[name].append(call("ISRT", *above, f"{name:8}", area=text))
+    random_number = random.Random("scattered")
+    for rows in calls.values():
+        random_number.shuffle(rows)
+    return "".join(text for rows in calls.values() for text in rows)
+
+
 def scan(segments):
     """GN over all segments, and once more at the end."""
     whole, rest = divmod(segments + 1, 9999)
