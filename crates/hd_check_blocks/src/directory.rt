@@ -9,7 +9,7 @@ use std::alloc::Global;
 /// How many grains there are at most for each place, but for those of one stretch.
 const GRAINS: usize = 16;
 
-/// A grain has at least 8 bytes, of which one segment at most has its first.
+/// A grain has at least 8 bytes, in which one segment at most begins.
 const LEAST_SHIFT: u32 = 3;
 
 /// How many grains a stretch has.
@@ -33,7 +33,7 @@ pub struct Directory {
     ghost bounded: { shift ≤ 31 },
 }
 
-/// The shift by which addresses up to one fall into at most so many grains, or one more.
+/// The shift by which addresses up to one fall into at most so many grains, or one more; a grain has at least 8 bytes.
 fn shift_for(last: u32, grains: u32) -> u32
     ensures { result ≤ 31 }
 {
@@ -42,7 +42,7 @@ fn shift_for(last: u32, grains: u32) -> u32
 }
 
 impl Directory {
-    /// The directory of a table of places.
+    /// The directory of a table of places, whose addresses ascend.
     pub fn of(alloc: Global, places: &[Place]) -> Result<Directory, Refused>
         ensures refusal { OnlyMemory result }
     {
@@ -70,8 +70,8 @@ impl Directory {
         Ok(Directory { stretches, shift })
     }
 
-    /// The number at which to look first for an address up to that of the last place: how many places come before it, as far as no two begin in one grain,
-    /// and fewer where some do.
+    /// The number at which to look first for an address up to that of the last place: how many places come before its grain, and fewer where several of its
+    /// stretch begin in one grain.
     pub fn near(&self, address: u32) -> usize {
         let grain = address >> self.shift;
         match self.stretches.get((grain / STRETCH) as usize) {

@@ -1,4 +1,4 @@
--- Eight bytes are in order where the numbers that they make are.
+-- What tells two keys apart by their first eight bytes.
 use Rattle.std.proofs.Common.{◌≡◌, ℕ, ◌<◌, ◌≤◌, List, length, sym, ap₂, ◌∙◌, arith, get_or, w64}
 use Rattle.std.specs.Int.{from_be_bytes}
 use Rattle.std.specs.Ordering.{nat_cmp}

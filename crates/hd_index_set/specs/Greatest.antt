@@ -7,7 +7,7 @@ use Rattle.hd_levels.specs.Maps.{greatest_below, last_key}
 use Rattle.hd_levels.specs.IndexSets.{index_entries}
 use Rattle.hd_index_set.specs.Blocks.{leaf_at}
 
--- the key at the front of some bytes, where one was found
+-- some bytes with a key at their front, where one was found; else none
 abbrev pub found_key : Bool → List ℕ → Option (List ℕ)
 found_key is_some bytes = cond is_some (Some bytes) None
 

@@ -83,7 +83,7 @@ fn copy_last(block: &IndexBlock, found: &mut [u8; 255]) -> bool
     copy_key_before(block, block.count(), found)
 }
 
-/// A block has the level and the next block of the last one of the sequence set.
+/// A block is of level 0 and names no next block.
 fn is_last(block: &IndexBlock) -> bool
     ensures level { result ≡ true → slice_index block.now.bytes.now 3 ≡ 0 }
     ensures next { result ≡ true → number_at 4 block.now.bytes.now 8 ≡ 0 }
@@ -145,8 +145,8 @@ pub fn last_in<S: BlockStore>(
     Ok(copy_last(&IndexBlock { bytes, key_length }, found))
 }
 
-/// Copies the greatest key of the index below a key to the front of some bytes, and says whether it did: where a block is the last one of the
-/// sequence set and has it, the key leads to that one.
+/// Copies the greatest key of the index below a key to the front of some bytes, and says whether it did. It does where block n is the last of the
+/// sequence set and has a key below the given one; the greatest of those leads there.
 fn copy_greatest_at_end<S: BlockStore>(
     volume: &mut Volume<S>,
     key_length: usize,
@@ -171,8 +171,8 @@ fn copy_greatest_at_end<S: BlockStore>(
 }
 
 /// Copies the greatest key of the index below a key to the front of some bytes, and says whether there is one and the block of the sequence
-/// set to which it leads, where that is known. The block that was noted is looked at first: where new keys come behind all others, it tells it
-/// alone.
+/// set to which it leads, where that is known. The block that was noted is looked at first: where new keys come behind all others, that block
+/// alone tells it.
 pub fn greatest<S: BlockStore>(
     volume: &mut Volume<S>,
     key_length: usize,

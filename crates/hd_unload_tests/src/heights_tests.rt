@@ -135,18 +135,18 @@ fn reload_costs(alloc: Global, dbd: &Dbd, stream: &[u8]) -> Option<(u64, u32)> {
 }
 
 /// Roots in the order of their keys are put behind one another, and their keys behind one another into the index: a block that is full is not
-/// come to again. So each block is added, read and written, three accesses. Once block 0, which is not asked for again until the end, is
+/// come to again. So each block is added and written, two accesses. Once block 0, which is not asked for again until the end, is
 /// dropped from the full cache, and before it all others are written: those in use are so once more, and there are not more than the
 /// cache has.
 #[test]
-fn a_reload_comes_to_each_block_three_times(rt: HostRuntime) -> Result<(), Fail> {
+fn a_reload_comes_to_each_block_twice(rt: HostRuntime) -> Result<(), Fail> {
     let alloc = rt.alloc();
     let dbd = root_database(alloc, 2048, 3).expect(&rt, "a database");
     let stream = root_stream(alloc, &dbd, 3, 100_000, 1)?;
     let (accesses, blocks) = reload_costs(alloc, &dbd, &stream).expect(&rt, "a volume");
     // 127 roots of 16 bytes fill a data block, and 290 keys one of the sequence set; above these 345 stand two, and the top
     assert_eq!(rt; blocks, 1 + 788 + 345 + 2 + 1);
-    assert!(rt; accesses <= 3 * u64::from(blocks) + CACHED, "{accesses}");
+    assert!(rt; accesses <= 2 * u64::from(blocks) + CACHED, "{accesses}");
     Ok(())
 }
 

@@ -360,11 +360,11 @@ grown-each : (size : ℕ) (c : List ℕ) (blocks : ℕ) (bs : List Buffer) → A
 grown-each size c blocks [] h = tt
 grown-each size c blocks (b ∷ rest) h = (grown-buffer size blocks c b h.0, grown-each size c blocks rest h.1)
 
-pub grown-later : {size : ℕ} {c : List ℕ} {bs : List Buffer} → AreLater size c bs → (blocks : ℕ) → AreLater size (grown size c blocks) bs
+grown-later : {size : ℕ} {c : List ℕ} {bs : List Buffer} → AreLater size c bs → (blocks : ℕ) → AreLater size (grown size c blocks) bs
 grown-later {size} {c} {bs} p blocks = record { each = grown-each size c blocks bs p.each; later = p.later; apart = p.apart }
 
 -- the bytes with their blocks put in grow with it
-pub put_all-grown : (size : ℕ) (c : List ℕ) (bs : List Buffer) → AllByRecursion (IsBlockLong size) bs → AllByRecursion (IsBuffer size c) bs → (blocks : ℕ)
+put_all-grown : (size : ℕ) (c : List ℕ) (bs : List Buffer) → AllByRecursion (IsBlockLong size) bs → AllByRecursion (IsBuffer size c) bs → (blocks : ℕ)
     → put_all size (grown size c blocks) bs ≡ grown size (put_all size c bs) blocks
 put_all-grown size c [] l h blocks = refl
 put_all-grown size c (b ∷ rest) l h blocks =

@@ -13,13 +13,15 @@ use std::sync::ledger::{Blank, Book, Ledger, Share};
 
 /// Blocks in a file of any length. Nothing is promised of its bytes.
 ///
-/// Once the file has a block it grows by the writes of those by which the store has grown; until one is written it is zeros, and no access is made for it.
+/// A file grows by the writes of the blocks by which the store has grown. What lies behind the last one written is zeros, without a call of the system; a
+/// block that was passed over is read from the file, which has zeros there.
 #[derive(Drop)]
 pub struct FileStore<L: Ledger> {
     file: File,
     block_size: usize,
+    /// How many bytes the store has.
     length: u64,
-    /// The bytes that the file has: up to there a block may have been written.
+    /// How far the file was long, or has been written since.
     end: u64,
     failed: Book<L>,
     share: Share<L>,
@@ -76,7 +78,8 @@ impl<L: Ledger> FileStore<L> {
         u64::from(n) * self.block_size as u64
     }
 
-    /// How many of so many bytes from a place on are read from the file: all, but for those that the store has and the file has not yet.
+    /// How many of so many bytes from a place on are read from the file: all but those behind its end, which are zeros. Where they go past the store's end
+    /// all are, so that the file refuses them.
     fn count_read(&self, place: u64, count: usize) -> usize
         ensures { result ≤ count }
     {
@@ -172,7 +175,7 @@ impl<L: Ledger> BlockStore for FileStore<L> {
         let Some(length) = self.length.checked_add(self.place_of(blocks)) else {
             return Err(self.fail());
         };
-        // An empty file grows at once, so that one which can't grow says so before all else; so does a file with a part of a block at its end, for no
+        // Two grow at once: an empty file, so that one which can't grow says so before all else; and one with a part of a block at its end, for no
         // block's write would make it so long.
         if self.end == 0 || self.length % self.block_size as u64 != 0 {
             if self.file.set_len(length).is_err() {

@@ -78,12 +78,12 @@ impl<S: BlockStore> Volume<S> {
         Ok(n)
     }
 
-    /// The block that was noted last, 0 for none. It only says where to look first: nothing is promised of it.
+    /// The block of the index that was noted last, 0 for none. It only says where to look first: nothing is promised of it.
     pub fn noted_block(&self) -> u32 {
         self.noted
     }
 
-    /// Notes a block, to be looked at first by the next call.
+    /// Notes a block of the index, at which the next insert looks first; 0 forgets it.
     pub fn note_block(&mut self, n: u32)
         ensures same { self.new ≡ self.old }
     {

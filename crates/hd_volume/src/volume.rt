@@ -48,6 +48,7 @@ pub struct Volume<S: BlockStore> {
     pub(crate) sizes: Vec<SegmentSize>,
     pub(crate) spacing: FreeSpace,
     pub(crate) hints: Hints,
+    /// The block of the index at which an insert looks first, 0 for none.
     pub(crate) noted: u32,
 }
 

@@ -192,6 +192,43 @@ fn a_file_grows_by_the_writes_of_its_blocks(rt: HostRuntime) -> Result<(), Fail>
     Ok(())
 }
 
+/// Grows by a block of four bytes and by four more, writes the fourth, and reads the second, the fifth, and one behind all.
+fn reads_counted<L: Ledger>(
+    file: File,
+    blank: Blank,
+) -> io::Result<([Result<(), Refused>; 6], [[u8; 4]; 2])>
+    requires name { blank.name ≡ L.name }
+    requires parts { blank.parts ≡ L.parts }
+    requires share { 0 < blank.parts }
+{
+    let mut store: FileStore<L> = FileStore::over(file, 4, blank)?;
+    let mut over = [7; 4];
+    let mut last = [7; 4];
+    let answers = [
+        store.grow(1),
+        store.grow(4),
+        store.write(3, &[9; 4]),
+        store.read(1, &mut over),
+        store.read(4, &mut last),
+        store.read(5, &mut [0; 4]),
+    ];
+    Ok((answers, [over, last]))
+}
+
+#[test]
+fn blocks_that_were_not_written_are_zeros(rt: HostRuntime) -> Result<(), Fail> {
+    let mut new = OpenOptions::new();
+    new.read(true).write(true).create(true).truncate(true);
+    let file = new.open(&rt, "passed_blocks")?;
+    let (answers, blocks) = reads_counted::<Brand>(file, Blank::new(1))?;
+    let device = Err(Refused::Device);
+    assert_eq!(rt; answers, [Ok(()), Ok(()), Ok(()), Ok(()), Ok(()), device]);
+    assert_eq!(rt; blocks, [[0; 4]; 2]);
+    assert_eq!(rt; fs::read(&rt, "passed_blocks")?.len(), 16);
+    fs::remove_file(&rt, "passed_blocks")?;
+    Ok(())
+}
+
 #[test]
 fn takes_a_file_of_any_length(rt: HostRuntime) -> Result<(), Fail> {
     let mut new = OpenOptions::new();
@@ -201,6 +238,7 @@ fn takes_a_file_of_any_length(rt: HostRuntime) -> Result<(), Fail> {
     let filled = fill(file)?;
     assert_eq!(rt; filled.answers, PAST_THE_END);
     assert_eq!(rt; filled.length, 13);
+    assert_eq!(rt; fs::read(&rt, "odd_bytes")?.len(), 13);
     fs::remove_file(&rt, "odd_bytes")?;
     Ok(())
 }
