@@ -178,16 +178,19 @@ fn run_counted<L: Ledger>(file: File, blank: Blank) -> io::Result<(Result<(), Re
     Ok((answer, run))
 }
 
+fn run(file: File) -> io::Result<(Result<(), Refused>, [u8; 16])> {
+    run_counted::<Brand>(file, Blank::new(1))
+}
+
 #[test]
 fn a_file_grows_by_the_writes_of_its_blocks(rt: HostRuntime) -> Result<(), Fail> {
     let mut new = OpenOptions::new();
     new.read(true).write(true).create(true).truncate(true);
     let file = new.open(&rt, "grown_blocks")?;
-    let (answer, run) = run_counted::<Brand>(file, Blank::new(1))?;
+    let (answer, bytes) = run(file)?;
     assert_eq!(rt; answer, Ok(()));
-    assert_eq!(rt; run, [0, 0, 0, 0, 0, 0, 0, 0, 9, 9, 9, 9, 0, 0, 0, 0]);
-    let bytes = fs::read(&rt, "grown_blocks")?;
-    assert_eq!(rt; bytes.len(), 12);
+    assert_eq!(rt; bytes, [0, 0, 0, 0, 0, 0, 0, 0, 9, 9, 9, 9, 0, 0, 0, 0]);
+    assert_eq!(rt; fs::read(&rt, "grown_blocks")?.len(), 12);
     fs::remove_file(&rt, "grown_blocks")?;
     Ok(())
 }
@@ -215,12 +218,16 @@ fn reads_counted<L: Ledger>(
     Ok((answers, [over, last]))
 }
 
+fn reads(file: File) -> io::Result<([Result<(), Refused>; 6], [[u8; 4]; 2])> {
+    reads_counted::<Brand>(file, Blank::new(1))
+}
+
 #[test]
 fn blocks_that_were_not_written_are_zeros(rt: HostRuntime) -> Result<(), Fail> {
     let mut new = OpenOptions::new();
     new.read(true).write(true).create(true).truncate(true);
     let file = new.open(&rt, "passed_blocks")?;
-    let (answers, blocks) = reads_counted::<Brand>(file, Blank::new(1))?;
+    let (answers, blocks) = reads(file)?;
     let device = Err(Refused::Device);
     assert_eq!(rt; answers, [Ok(()), Ok(()), Ok(()), Ok(()), Ok(()), device]);
     assert_eq!(rt; blocks, [[0; 4]; 2]);
