@@ -1,4 +1,4 @@
-use crate::Pieces;
+use hd_pieces::Pieces;
 use std::alloc::{AllocError, Global};
 use std::io::{self, ErrorKind, Write};
 use std::test::Fail;
