@@ -31,7 +31,7 @@ DLI_TEST = $(if $(and $(shell command -v cobc),$(shell command -v $(CC))),dli-te
 # the program that the gate has proved plays the documents and the programs of other languages, before rt's last line ends all
 test:
 	mkdir -p bin
-	set -o pipefail; RT_JOBS=$(LANES) rt ci | tee bin/gate.log
+	TIMEFORMAT='%R s, and %U s of processors' && set -o pipefail && time RT_JOBS=$(LANES) rt ci | tee bin/gate.log
 	python3 make/stamp.py crates/hd/out/hd bin/hd
 	$(MAKE) --no-print-directory -o bin/hd examples $(DLI_TEST)
 	@$(if $(DLI_TEST),,echo 'No program in COBOL or C was tried: this machine has no cobc, or no C compiler.' >&2)
