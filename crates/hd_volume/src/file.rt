@@ -25,6 +25,8 @@ pub struct FileStore<L: Ledger> {
     end: u64,
     failed: Book<L>,
     share: Share<L>,
+    /// What the system said of the last access that it refused.
+    last_error: Option<io::Error>,
 }
 
 impl<L: Ledger> Model for FileStore<L> {
@@ -59,16 +61,31 @@ impl<L: Ledger> FileStore<L> {
             end: length,
             failed,
             share,
+            last_error: None,
         })
     }
 
-    /// Counts a failed access.
-    fn fail(&mut self) -> Refused
+    /// Counts an access that was not made as one that failed: for a store over this one, which refuses it.
+    pub fn refuse(&mut self) -> Refused
         ensures counts { self.new ≡ with_failure self.old }
         ensures device { result ≡ Refused.Device }
     {
         self.failed.add(&mut self.share, 1);
         Refused::Device
+    }
+
+    /// Counts an access that failed, and keeps what was said of it.
+    fn fail(&mut self, error: io::Error) -> Refused
+        ensures counts { self.new ≡ with_failure self.old }
+        ensures device { result ≡ Refused.Device }
+    {
+        self.last_error = Some(error);
+        self.refuse()
+    }
+
+    /// What the system said of the last access that it refused; `None` where it has refused none.
+    pub fn last_error(&self) -> Option<io::Error> {
+        self.last_error
     }
 
     /// The bytes before block `n`.
@@ -103,7 +120,7 @@ impl<L: Ledger> FileStore<L> {
         }
         match self.file.read_exact_at(&mut buf[..count], place) {
             Ok(()) => Ok(()),
-            Err(_) => Err(self.fail()),
+            Err(error) => Err(self.fail(error)),
         }
     }
 }
@@ -152,7 +169,7 @@ impl<L: Ledger> BlockStore for FileStore<L> {
                 self.end = self.end.max(place.saturating_add(bytes.len() as u64));
                 Ok(())
             }
-            Err(_) => Err(self.fail()),
+            Err(error) => Err(self.fail(error)),
         }
     }
 
@@ -173,13 +190,13 @@ impl<L: Ledger> BlockStore for FileStore<L> {
         ensures sound { StaysSound result false false }
     {
         let Some(length) = self.length.checked_add(self.place_of(blocks)) else {
-            return Err(self.fail());
+            return Err(self.refuse());
         };
         // Two grow at once: an empty file, so that one which can't grow says so before all else; and one with a part of a block at its end, for no
         // block's write would make it so long.
         if self.end == 0 || self.length % self.block_size as u64 != 0 {
-            if self.file.set_len(length).is_err() {
-                return Err(self.fail());
+            if let Err(error) = self.file.set_len(length) {
+                return Err(self.fail(error));
             }
             self.end = length;
         }
