@@ -131,7 +131,7 @@ impl Dbd {
             return Err(DbdFault::B2);
         }
         let levels = levels_of(alloc, &types)?;
-        if let Some(fault) = types_fault(block_size, &types, &levels) {
+        if let Some(fault) = types_fault(alloc, block_size, &types, &levels)? {
             return Err(fault);
         }
         let facts = facts_of(alloc, &types, &levels)?;
