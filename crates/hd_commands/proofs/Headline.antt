@@ -28,7 +28,6 @@ passes d image placed rows holds are = record {
       sym is.1
       ∙ ap forest_of (unique d.types (ordered d.block_size d.frspc d.types holds.volume.fit) (links_of d.types (volume_of d image)) is.0 placed is.2.records holds.records);
   rows_are = are;
-  no_fault = λ fault faulty. faulty.none placed holds;
 }
 
 -- the image behind a log holds the rows that the log ends with
@@ -36,6 +35,13 @@ last_holds : (d : Database) (pcbs : List View) (st : State) (entries : List (Ent
     → Holds (images_of d) last (last_state d.types pcbs st entries).rows
 last_holds d pcbs st [] last follow = follow
 last_holds d pcbs st (e ∷ es) last follow = last_holds d pcbs (next_state d.types pcbs st e) es last follow.2
+
+-- so it passes for them
+log_passes : (d : Database) (pcbs : List View) (st : State) (entries : List (Entry (List ℕ))) (last : List ℕ) → ImagesFollow (images_of d) d.types pcbs st entries last
+    → PassesFor d last (last_state d.types pcbs st entries).rows
+log_passes d pcbs st entries last follow =
+    let end = last_holds d pcbs st entries last follow in
+    passes d last end.1.placed (last_state d.types pcbs st entries).rows end.1.holds end.1.rows_are
 
 checks : (d : Database) → ChecksTellOneForest d
 checks d v passed is = (
@@ -46,7 +52,6 @@ checks d v passed is = (
 runs : (d : Database) → RunsAnswerTheirLogs d
 runs d pcbs image turns log left played =
     let held = played.holds in
-    let end = last_holds d pcbs (opened pcbs (sequence played.forest)) log.entries log.last played.legal.follows in
     record {
       rows = sequence played.forest;
       passed = passes d image held.0 (sequence played.forest) held.2 (ap sequence held.1);
@@ -54,11 +59,17 @@ runs d pcbs image turns log left played =
       legal = played.legal;
       lacking = played.lacking;
       passes = subst (λ (bytes : List ℕ). PassesFor d bytes (last_state d.types pcbs (opened pcbs (sequence played.forest)) log.entries).rows) played.ends
-          (passes d log.last end.1.placed (last_state d.types pcbs (opened pcbs (sequence played.forest)) log.entries).rows end.1.holds end.1.rows_are);
+          (log_passes d pcbs (opened pcbs (sequence played.forest)) log.entries log.last played.legal.follows);
     }
 
 reloads : (d : Database) → ReloadsPass d
 reloads d stream largest segments blocks image is = (is.rows, is.stream_of, passes d image is.holds.0 is.rows is.holds.2 is.holds.1)
 
 pub headline : (d : Database) → IsHeadline d
-headline d = record { checks = checks d; sessions = sessions_answer d; runs = runs d; reloads = reloads d }
+headline d = record {
+  checks = checks d;
+  sessions = sessions_answer d;
+  sessions_pass = λ pcbs image rows turns log is. log_passes d pcbs (opened pcbs rows) log.entries log.last is.legal.follows;
+  runs = runs d;
+  reloads = reloads d;
+}

@@ -1,5 +1,5 @@
 -- What the run of a deck comes to: the log of its calls, and what it leaves.
-use Rattle.std.specs.Prelude.{◌≡◌, ◌≢◌, IsTrue, ℕ, ◌<◌, ◌≤◌, List, length, take, filter, flat_map, replicate, All, Bool, true, false, Option, Some, None, Result, Ok, Err}
+use Rattle.std.specs.Prelude.{◌≡◌, ◌≢◌, IsTrue, ℕ, ◌<◌, ◌≤◌, List, length, take, filter, flat_map, replicate, Bool, true, false, Option, Some, None, Result, Ok, Err}
 use Rattle.std.specs.Io.KnownBytes.{Appends}
 use Rattle.hd_dbd.specs.declared.answer.Refused.{Refused}
 use Rattle.hd_dbd.specs.declared.answer.Refused.TheVariants as refused
@@ -17,7 +17,7 @@ use Rattle.hd_update.specs.States.{Represents}
 use Rattle.hd_session.specs.declared.request.Answer.{Answer}
 use Rattle.hd_session.specs.declared.opening.OpenFault.TheVariants as opening
 use Rattle.hd_session.specs.Opening.{SessionState, IsOpenFaultOf}
-use Rattle.hd_session.specs.Turns.{Turn, turns_in, LacksMemoryFairly, StaysWhole, AreMade}
+use Rattle.hd_session.specs.Turns.{Turn, turns_in, LackMemoryFairly, StaysWhole, AreMade}
 use Rattle.hd_deck.specs.declared.running.RunFault.{RunFault}
 use Rattle.hd_deck.specs.declared.running.RunFault.TheVariants as run
 use Rattle.hd_deck.specs.declared.playing.Stop.{Stop}
@@ -138,7 +138,7 @@ pub record IsPlayed (d : Database) (pcbs : List View) (bytes : List ℕ) (turns 
   pub one : (g : Forest Segment) → HoldsForest d (volume_of d bytes) g → g ≡ forest
   pub legal : IsLegalLog (images_of d) d.types pcbs bytes (opened pcbs (sequence forest)) log
   pub asked : turns_in log.entries ≡ turns
-  pub lacking : All (LacksMemoryFairly d.types) log.entries
+  pub lacking : LackMemoryFairly d.types pcbs (opened pcbs (sequence forest)) log.entries
   pub ends : log.last ≡ left
 
 -- A run that made all calls: their log, its lines, which were written, and how many of the calls found no memory.

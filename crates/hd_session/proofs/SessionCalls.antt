@@ -1,8 +1,8 @@
 -- A call of a session, from its step.
-use Rattle.std.proofs.Common.{◌≡◌, ◌≢◌, ℕ, ◌-◌, ◌<◌, ◌≤◌, List, [], ◌∷◌, ◌++◌, length, take, drop, Bool, true, Ok, Err, Option, Some, None, IsTrue, refl, sym, ap, ◌∙◌, subst, arith}
+use Rattle.std.proofs.Common.{◌≡◌, ◌≢◌, ◌⊎◌, inl, inr, ℕ, ◌-◌, ◌<◌, ◌≤◌, List, [], ◌∷◌, ◌++◌, length, take, drop, Bool, true, Ok, Err, Option, Some, None, IsTrue, refl, sym, ap, ◌∙◌, subst, arith}
 use Rattle.std.specs.Prelude.{Result, ◌==◌, IfOk, IfErr, IfSome, slice_get, slice_index_or}
 use Rattle.std.specs.Option.{option_map_or}
-use Rattle.std.proofs.lemmas.Bool.{cond-false, ne_eqb}
+use Rattle.std.proofs.lemmas.Bool.{cases_lt, cond-false, ne_eqb}
 use Rattle.std.proofs.lemmas.List.{append-nil, drop_all, take_all}
 use Rattle.std.proofs.lemmas.Option.{slice_get_read}
 use Rattle.hd_dbd.specs.Types.{SegmentType, View}
@@ -16,6 +16,9 @@ use Rattle.hd_dbd.specs.declared.answer.Refused.{Refused}
 use Rattle.hd_dbd.specs.declared.answer.Refused.TheVariants as refused
 use Rattle.hd_dbd.specs.declared.program.TypeName.{TypeName}
 use Rattle.hd_calls.specs.Access.{loads}
+use Rattle.hd_calls.specs.declared.call.Function.{Function}
+use Rattle.hd_calls.specs.declared.call.Function.TheVariants.{Get, Insert, Replace, Delete}
+use Rattle.hd_calls.specs.Functions.{function_of}
 use Rattle.hd_calls.specs.Runs.{view_of, effect_by, MayComeTo, ImageFollows, Follows, LacksRoom, change_of, state_after_outcome, rows_stored, inserts_root}
 use Rattle.hd_calls.specs.Steps.{State, Effect, answered, wrong_area, step, state_after}
 use Rattle.hd_volume.specs.Headers.{header_of}
@@ -26,13 +29,14 @@ use Rattle.hd_image.proofs.OneImage.{held-same}
 use Rattle.hd_keeping.specs.VolumeImages.{images_of}
 use Rattle.hd_position.specs.Kept.{Kept}
 use Rattle.hd_update.specs.Loading.{HasPassedAll}
-use Rattle.hd_update.specs.States.{Represents, StandForAll, IsAreaWrong, IsUndone}
+use Rattle.hd_update.specs.States.{Represents, StandForAll, IsAreaWrong, IsUndone, StoresSome}
 use Rattle.hd_session.specs.declared.request.Answer.{Answer}
 use Rattle.hd_session.specs.Buffer.{Buffer}
 use Rattle.hd_session.specs.Replies.{reply_of}
-use Rattle.hd_session.specs.Sessions.{IsStep, IsStepDone, IsUndoneUnlessDevice, IsRoomLacking, call_in}
+use Rattle.hd_session.specs.Sessions.{IsStep, IsStepDone, IsUndoneUnlessDevice, IsRoomLacking, IsMemoryLacking, call_in}
 use Rattle.hd_session.specs.Opening.{SessionState, LoadersArePastAll, StandsForState}
 use Rattle.hd_session.specs.Logged.{outcome_of, IsLogged}
+use Rattle.hd_session.specs.Turns.{MayLackMemory}
 use Rattle.hd_session.proofs.Loaders.{loaders_stay}
 
 -- ---- what is kept
@@ -177,6 +181,25 @@ module _ (d : Database) (pcbs : List View) (pcb : View) (number : ℕ) (call : C
 pub loader_past : (d : Database) (v : VolumeState) (pcbs : List View) (old : List Kept) (number : ℕ) (pcb : View) → view_of pcbs number ≡ Some pcb → (IsTrue v.is_sound → StandsForState d v pcbs old) → loads pcb ≡ true
     → HasPassedAll d v old number
 loader_past d v pcbs old number pcb is before loader sound = (let T = before sound in (T.state, T.represents, T.loaders number pcb is loader))
+
+-- a call that is no ISRT and has few arguments, or one of these
+takes : {A : Type 0} (f : Option Function) (n : ℕ) → (f ≢ Some Insert → n ≤ 4 → A) → (f ≡ Some Insert) ⊎ A ⊎ (4 < n)
+takes (Some Insert) n rest = inl refl
+takes (Some Replace) n rest = elim (cases_lt 4 n) [ inl more ↦ inr (inr more) | inr few ↦ inr (inl (rest (λ e. cc) few)) ]
+takes (Some Delete) n rest = elim (cases_lt 4 n) [ inl more ↦ inr (inr more) | inr few ↦ inr (inl (rest (λ e. cc) few)) ]
+takes (Some (Get kind hold)) n rest = elim (cases_lt 4 n) [ inl more ↦ inr (inr more) | inr few ↦ inr (inl (rest (λ e. cc) few)) ]
+takes None n rest = elim (cases_lt 4 n) [ inl more ↦ inr (inr more) | inr few ↦ inr (inl (rest (λ e. cc) few)) ]
+
+-- where memory was wanting, the call takes some, whatever state the session stood for
+pub may_lack : (d : Database) (pcbs : List View) (v : VolumeState) (old : List Kept) (broken : Bool) (s : SessionState) → record { database = d; pcbs = pcbs; volume = v; kept = old; broken = broken } ≡ s
+    → (pcb : View) (number : ℕ) (call : CallText) (result : Result Answer Refused) → view_of pcbs number ≡ Some pcb
+    → (function_of call.function ≢ Some Insert → length call.ssas ≤ 4 → IfErr result (λ e. IsMemoryLacking d v old (call_in d pcb number call) e))
+    → result ≡ Err refused.Memory → MayLackMemory s number call
+may_lack d pcbs v old broken s s_is pcb number call result is lacks memory =
+    subst (λ (x : SessionState). MayLackMemory x number call) s_is (λ st sound R.
+    takes (function_of call.function) (length call.ssas) (λ other few.
+    subst (λ (x : Effect). StoresSome st.rows x) (ap (λ (o : Option View). option_map_or (λ x. step d.types x st number call) o wrong_area) (sym is))
+    ((subst (λ (r : Result Answer Refused). IfErr r (λ e. IsMemoryLacking d v old (call_in d pcb number call) e)) memory (lacks other few)) st refl sound R)))
 
 -- what is said of a session's parts is said of the session
 pub call_logged : (d : Database) (pcbs : List View) (v : VolumeState) (old : List Kept) (broken : Bool) (s : SessionState) → record { database = d; pcbs = pcbs; volume = v; kept = old; broken = broken } ≡ s

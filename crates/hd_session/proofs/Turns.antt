@@ -1,23 +1,18 @@
 -- Calls of a session one after another, and the log that they come to.
-use Rattle.std.proofs.Common.{◌≡◌, ◌≢◌, ◌⊎◌, ℕ, ◌<◌, ◌≤◌, Bool, true, None, inl, inr, List, [], ◌∷◌, ◌++◌, length, false, Option, Some, Result, Ok, Err, IsTrue, All, ap, sym, ◌∙◌, subst, refl}
-use Rattle.std.specs.Prelude.{IfErr, IfSome}
+use Rattle.std.proofs.Common.{◌≡◌, ◌≢◌, ℕ, List, [], ◌∷◌, ◌++◌, length, false, Option, Some, Result, Ok, Err, IsTrue, ap, sym, ◌∙◌, subst, refl}
+use Rattle.std.specs.Prelude.{IfSome}
 use Rattle.std.proofs.lemmas.List.{length-map}
-use Rattle.std.proofs.lemmas.Bool.{cases_lt}
-use Rattle.std.proofs.lemmas.List.Elements.{All-nil, All-cons, All-append}
 use Rattle.hd_dbd.specs.declared.answer.Refused.{Refused}
 use Rattle.hd_dbd.specs.declared.answer.Refused.TheVariants as refused
 use Rattle.hd_dbd.specs.Types.{SegmentType, View}
 use Rattle.hd_dbd.specs.Hierarchy.{Database}
-use Rattle.hd_dbd.specs.Lengths.{some_vary}
-use Rattle.hd_calls.specs.declared.call.Function.{Function}
-use Rattle.hd_calls.specs.declared.call.Function.TheVariants.{Get, Insert, Replace, Delete}
-use Rattle.hd_calls.specs.Functions.{function_of}
-use Rattle.hd_dbd.specs.Calls.{CallText}
 use Rattle.hd_dbd.specs.Logs.{Outcome, memory, Entry}
 use Rattle.hd_calls.specs.Steps.{State}
 use Rattle.hd_calls.specs.Runs.{Images, Holds, IsRun, effect_by, state_after_outcome, next_state, last_state, image_at, ImagesFollow}
 use Rattle.hd_calls.specs.NoLostUpdate.{opened}
+use Rattle.hd_volume.specs.Headers.{header_of}
 use Rattle.hd_volume.specs.Volumes.{VolumeState}
+use Rattle.hd_image.proofs.OneImage.{held-same}
 use Rattle.hd_links.specs.Steps.{rows_of, addresses}
 use Rattle.hd_keeping.specs.VolumeImages.{images_of}
 use Rattle.hd_keeping.proofs.VolumeImages.{bytes-hold}
@@ -27,7 +22,7 @@ use Rattle.hd_session.specs.declared.request.Answer.{Answer}
 use Rattle.hd_session.specs.Buffer.{Buffer}
 use Rattle.hd_session.specs.Opening.{SessionState, session_at_start}
 use Rattle.hd_session.specs.Logged.{outcome_of, IsLogged}
-use Rattle.hd_session.specs.Turns.{Turn, turns_in, TakesMemory, LacksMemoryFairly, StaysWhole, IsTurnAnswered, AreMade, entry_of}
+use Rattle.hd_session.specs.Turns.{Turn, turns_in, LackMemoryFairly, StaysWhole, IsTurnAnswered, IsFlushed, AreMade, entry_of}
 use Rattle.hd_session.specs.Laws.{IsOpened, IsLegalLogOf, SessionsAnswer}
 
 -- ---- one call
@@ -48,32 +43,19 @@ made_none s st whole stands = record {
   begins = refl;
   runs = tt;
   follows = holds_state s.database s.volume s.kept st stands;
-  lacking = All-nil (LacksMemoryFairly s.database.types);
+  lacking = tt;
   represents = stands;
   whole = whole_none s whole;
 }
 
--- memory was wanting in vain but at an ISRT, a REPL where segments vary, or with more than four arguments
-takes : (f : Option Function) (vary : Bool) (n : ℕ) → (vary ≡ false → f ≢ Some Insert → n ≤ 4 → ⊥) → (f ≢ Some Insert → f ≢ Some Replace → n ≤ 4 → ⊥)
-    → (f ≡ Some Insert) ⊎ ((f ≡ Some Replace) × (vary ≡ true)) ⊎ (4 < n)
-takes (Some Insert) vary n fixed never = inl refl
-takes (Some Replace) true n fixed never = inr (inl (refl, refl))
-takes (Some Replace) false n fixed never = elim (cases_lt 4 n) [ inl more ↦ inr (inr more) | inr few ↦ absurd (fixed refl (λ e. cc) few) ]
-takes None vary n fixed never = elim (cases_lt 4 n) [ inl more ↦ inr (inr more) | inr few ↦ absurd (never (λ e. cc) (λ e. cc) few) ]
-takes (Some (Get kind hold)) vary n fixed never = elim (cases_lt 4 n) [ inl more ↦ inr (inr more) | inr few ↦ absurd (never (λ e. cc) (λ e. cc) few) ]
-takes (Some Delete) vary n fixed never = elim (cases_lt 4 n) [ inl more ↦ inr (inr more) | inr few ↦ absurd (never (λ e. cc) (λ e. cc) few) ]
-
-takes_where : (types : List SegmentType) (call : CallText) (io : Buffer) (result : Result Answer Refused)
-    → (some_vary types ≡ false → function_of call.function ≢ Some Insert → length call.ssas ≤ 4 → IfErr result (λ e. e ≢ refused.Memory))
-    → (function_of call.function ≢ Some Insert → function_of call.function ≢ Some Replace → length call.ssas ≤ 4 → IfErr result (λ e. e ≢ refused.Memory))
-    → outcome_of result io ≡ Some memory → TakesMemory types call
-takes_where types call io (Ok a) fixed never is = cc
-takes_where types call io (Err refused.Memory) fixed never is =
-    takes (function_of call.function) (some_vary types) (length call.ssas) (λ none other few. fixed none other few refl) (λ other more few. never other more few refl)
-takes_where types call io (Err refused.Full) fixed never is = cc
-takes_where types call io (Err refused.Device) fixed never is = cc
-takes_where types call io (Err refused.Broken) fixed never is = cc
-takes_where types call io (Err refused.Area) fixed never is = cc
+-- a call that came to want of memory was answered so
+lacked : (result : Result Answer Refused) (io : Buffer) → outcome_of result io ≡ Some memory → result ≡ Err refused.Memory
+lacked (Ok a) io is = cc
+lacked (Err refused.Memory) io is = refl
+lacked (Err refused.Full) io is = cc
+lacked (Err refused.Device) io is = cc
+lacked (Err refused.Broken) io is = cc
+lacked (Err refused.Area) io is = cc
 
 module _ (s t : SessionState) (turn : Turn) (io : Buffer) where
   -- a call that came to an outcome leaves the session whole
@@ -125,9 +107,7 @@ module _ (s t : SessionState) (turn : Turn) (io : Buffer) where
         begins = refl;
         runs = (made.pcb.0, made.pcb.1, logged.may, tt);
         follows = (holds_state s.database s.volume s.kept st stands, logged.follows, holds_state s.database t.volume t.kept after logged.represents);
-        lacking =
-            All-cons (LacksMemoryFairly s.database.types) (entry_of s turn o) []
-            (λ lacks. takes_where s.database.types turn.call io result (made.memory sound) made.never (is ∙ ap Some lacks)) (All-nil (LacksMemoryFairly s.database.types));
+        lacking = ((λ lacks. made.memory (lacked result io (is ∙ ap Some lacks)) st sound stands), tt);
         represents = logged.represents;
         whole = turn_whole result o made is;
       }
@@ -148,6 +128,11 @@ module _ {I : Type 0} where
       → IsRun types pcbs st (xs ++ ys)
   run_append types pcbs st [] ys f g = g
   run_append types pcbs st (x ∷ xs) ys f g = (f.0, f.1, f.2, run_append types pcbs (next_state types pcbs st x) xs ys f.3 g)
+
+  fair_append : (types : List SegmentType) (pcbs : List View) (st : State) (xs ys : List (Entry I)) → LackMemoryFairly types pcbs st xs
+      → LackMemoryFairly types pcbs (last_state types pcbs st xs) ys → LackMemoryFairly types pcbs st (xs ++ ys)
+  fair_append types pcbs st [] ys f g = g
+  fair_append types pcbs st (x ∷ xs) ys f g = (f.0, fair_append types pcbs (next_state types pcbs st x) xs ys f.1 g)
 
   image_at_append : (xs ys : List (Entry I)) (middle last : I) → image_at ys last ≡ middle → image_at (xs ++ ys) last ≡ image_at xs middle
   image_at_append [] ys middle last e = e
@@ -192,15 +177,54 @@ made_both s m t st xs ys es fs f g =
     let represents : Represents s.database t.volume t.kept (last_state s.database.types s.pcbs middle fs) =
     subst (λ (d : Database). Represents d t.volume t.kept (last_state d.types s.pcbs middle fs)) database
     (subst (λ (ps : List View). Represents m.database t.volume t.kept (last_state m.database.types ps middle fs)) pcbs g.represents) in
-    let lacking : All (LacksMemoryFairly s.database.types) fs = subst (λ (d : Database). All (LacksMemoryFairly d.types) fs) database g.lacking in
+    let lacking : LackMemoryFairly s.database.types s.pcbs middle fs =
+    subst (λ (d : Database). LackMemoryFairly d.types s.pcbs middle fs) database (subst (λ (ps : List View). LackMemoryFairly m.database.types ps middle fs) pcbs g.lacking) in
     record {
       asked = turns_in_append es fs ∙ ap (λ (ts : List Turn). ts ++ turns_in fs) f.asked ∙ ap (λ (ts : List Turn). xs ++ ts) g.asked;
       begins = image_at_append es fs m.volume.image t.volume.image g.begins ∙ f.begins;
       runs = run_append s.database.types s.pcbs st es fs f.runs runs;
       follows = images_append (images_of s.database) s.database.types s.pcbs st es fs m.volume.image t.volume.image f.follows g.begins follows;
-      lacking = All-append (LacksMemoryFairly s.database.types) es fs f.lacking lacking;
+      lacking = fair_append s.database.types s.pcbs st es fs f.lacking lacking;
       represents = rw (last_state_append s.database.types s.pcbs st es fs) represents;
       whole = whole_both s m t f.whole g.whole;
+    }
+
+-- what an image stands for, an equal one does
+same_image : (images : Images (List ℕ)) (types : List SegmentType) (pcbs : List View) (st : State) (es : List (Entry (List ℕ))) (old new : List ℕ) → new ≡ old
+    → ImagesFollow images types pcbs st es old → ImagesFollow images types pcbs st es new
+same_image images types pcbs st es old new is follows = subst (λ (i : List ℕ). ImagesFollow images types pcbs st es i) (sym is) follows
+
+-- a volume of an equal image stands for the same state
+represents_same : (d : Database) (v w : VolumeState) (kept : List Kept) (st : State) → w.image ≡ v.image → w.size ≡ v.size → w.sizes ≡ v.sizes → Represents d v kept st → Represents d w kept st
+represents_same d v w kept st image size sizes R = record {
+  later = subst (λ (i : List ℕ). (header_of i).version ≢ 1) (sym image) R.later;
+  placed = R.placed;
+  holds = held-same d v w image size sizes R.placed R.holds;
+  rows = R.rows;
+  positions = R.positions;
+}
+
+-- a flush makes no call
+pub made_flushed : (s m t : SessionState) (st : State) (turns : List Turn) (es : List (Entry (List ℕ))) → AreMade s st turns es m → IsFlushed m t → AreMade s st turns es t
+made_flushed s m t st turns es made flushed =
+    let end : State = last_state s.database.types s.pcbs st es in
+    let kept : t.kept ≡ m.kept = ap (λ (x : SessionState). x.kept) flushed.same in
+    record {
+      asked = made.asked;
+      begins = subst (λ (i : List ℕ). image_at es i ≡ s.volume.image) (sym flushed.image) made.begins;
+      runs = made.runs;
+      follows = same_image (images_of s.database) s.database.types s.pcbs st es m.volume.image t.volume.image flushed.image made.follows;
+      lacking = made.lacking;
+      represents = subst (λ (ks : List Kept). Represents s.database t.volume ks end) (sym kept)
+          (represents_same s.database m.volume t.volume m.kept end flushed.image flushed.sizes.0 flushed.sizes.1 made.represents);
+      whole = whole_both s m t made.whole (record {
+        database = ap (λ (x : SessionState). x.database) flushed.same;
+        pcbs = ap (λ (x : SessionState). x.pcbs) flushed.same;
+        whole = ap (λ (x : SessionState). x.broken) flushed.same;
+        failures = flushed.failures;
+        sound = flushed.sound;
+        size = flushed.sizes.0;
+      });
     }
 
 -- there are as many entries as calls
@@ -228,5 +252,6 @@ sessions_answer d = record {
   more = λ s m t st turns entries turn result io o is sound made answered comes.
       made_both s m t st turns (turn ∷ []) entries (entry_of m turn o ∷ []) made
       (made_one m t turn io (last_state s.database.types s.pcbs st entries) result o (rw made.whole.sound sound) (stands_after s m st turns entries made) answered comes);
+  flushed = λ s m t st turns entries is sound made flushed. made_flushed s m t st turns entries made flushed;
   legal = legal_log d;
 }

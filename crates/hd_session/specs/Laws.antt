@@ -1,5 +1,5 @@
 -- What the logs of sessions keep to.
-use Rattle.std.specs.Prelude.{◌≡◌, ℕ, List, [], ◌∷◌, ◌++◌, true, false, All, IsTrue, Some, Result, Ok}
+use Rattle.std.specs.Prelude.{◌≡◌, ℕ, List, [], ◌∷◌, ◌++◌, true, false, IsTrue, Some, Result, Ok}
 use Rattle.hd_dbd.specs.Types.{View}
 use Rattle.hd_dbd.specs.declared.answer.Refused.{Refused}
 use Rattle.hd_dbd.specs.Hierarchy.{Database}
@@ -17,7 +17,7 @@ use Rattle.hd_session.specs.declared.request.Answer.{Answer}
 use Rattle.hd_session.specs.Buffer.{Buffer}
 use Rattle.hd_session.specs.Opening.{SessionState, session_at_start, IsOpenedOver, IsOpenRead}
 use Rattle.hd_session.specs.Logged.{outcome_of}
-use Rattle.hd_session.specs.Turns.{Turn, turns_in, LacksMemoryFairly, IsTurnAnswered, AreMade, entry_of}
+use Rattle.hd_session.specs.Turns.{Turn, turns_in, LackMemoryFairly, IsTurnAnswered, IsFlushed, AreMade, entry_of}
 
 -- ---- no update is lost
 
@@ -46,6 +46,12 @@ OneMoreIsMade d =
     → s.database ≡ d → IsTrue s.volume.is_sound → AreMade s st turns entries m → IsTurnAnswered m turn result io t → outcome_of result io ≡ Some o
     → AreMade s st (turns ++ turn ∷ []) (entries ++ entry_of m turn o ∷ []) t
 
+-- a flush between calls makes none, and none undone
+abbrev pub FlushesMakeNoCall : Database → Type 0
+FlushesMakeNoCall d =
+    (s m t : SessionState) (st : State) (turns : List Turn) (entries : List (Entry (List ℕ)))
+    → s.database ≡ d → IsTrue s.volume.is_sound → AreMade s st turns entries m → IsFlushed m t → AreMade s st turns entries t
+
 -- A session was opened over a volume whose store is sound, as an opening answers it.
 pub record IsOpened (d : Database) (pcbs : List View) (v : VolumeState) (s : SessionState) : Type 0 where
   pub sound : IsTrue v.is_sound
@@ -58,7 +64,7 @@ pub record IsOpened (d : Database) (pcbs : List View) (v : VolumeState) (s : Ses
 pub record IsLegalLogOf (d : Database) (pcbs : List View) (image : List ℕ) (rows : List Segment) (turns : List Turn) (log : Log (List ℕ)) : Type 0 where
   pub legal : IsLegalLog (images_of d) d.types pcbs image (opened pcbs rows) log
   pub asked : turns_in log.entries ≡ turns
-  pub lacking : All (LacksMemoryFairly d.types) log.entries
+  pub lacking : LackMemoryFairly d.types pcbs (opened pcbs rows) log.entries
 
 -- calls that were made from a session's opening on come to a legal log, from the rows over which it was opened
 abbrev pub CallsFromOpeningAreLegal : Database → Type 0
@@ -68,10 +74,11 @@ CallsFromOpeningAreLegal d =
     → IsLegalLogOf d pcbs v.image (rows_of first.over.ready.placed) turns (record { entries = entries; last = t.volume.image })
 
 -- Sessions of a database answer their logs: where no call was made none is; each call that comes to an outcome, by whichever PCB, makes the list
--- one longer; and the list of those from the opening on is a legal log.
+-- one longer, and a flush leaves it; and the list of those from the opening on is a legal log.
 pub record SessionsAnswer (d : Database) : Type 0 where
   pub none : NoneIsMade d
   pub more : OneMoreIsMade d
+  pub flushed : FlushesMakeNoCall d
   pub legal : CallsFromOpeningAreLegal d
 
 -- it holds of every database

@@ -20,9 +20,9 @@ use Rattle.hd_get.specs.declared.outcome.Outcome.{Outcome}
 use Rattle.hd_get.specs.declared.outcome.Outcome.TheVariants.{Found, Missing}
 use Rattle.hd_update.specs.Calls.{replace_effect, delete_effect}
 use Rattle.hd_session.specs.Giving.{is_among}
-use Rattle.hd_update.specs.States.{Represents, IsUndone, LacksRoomFor}
+use Rattle.hd_update.specs.States.{Represents, IsUndone, LacksRoomFor, StoresSome}
 use Rattle.hd_dbd.specs.declared.answer.Refused.{Refused}
-use Rattle.hd_dbd.specs.declared.answer.Refused.TheVariants.{Device, Full}
+use Rattle.hd_dbd.specs.declared.answer.Refused.TheVariants.{Device, Full, Memory}
 
 -- ---- a call
 
@@ -100,3 +100,7 @@ IsUndoneUnlessDevice v old e w new = e ≢ Device → IsUndone v old w new
 -- was kept stood for.
 abbrev pub IsRoomLacking : Database → VolumeState → List Kept → (State → Effect) → Refused → Type 0
 IsRoomLacking d v old effect e = (st : State) → e ≡ Full → IsTrue v.is_sound → Represents d v old st → LacksRoomFor d v st.rows (effect st)
+
+-- Where the refusal is of memory, the call stores a row: it puts one in, or makes one longer.
+abbrev pub IsMemoryLacking : Database → VolumeState → List Kept → (State → Effect) → Refused → Type 0
+IsMemoryLacking d v old effect e = (st : State) → e ≡ Memory → IsTrue v.is_sound → Represents d v old st → StoresSome st.rows (effect st)

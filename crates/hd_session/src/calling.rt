@@ -1,7 +1,6 @@
 ghost use Rattle.std.specs.Prelude.{◌≡◌, ◌≢◌, ◌<◌, ◌≤◌, Ok, Some, length, true, false, IsTrue, IfOk, IfErr};
 ghost use Rattle.hd_dbd.specs.Facts.{stored_sizes};
 ghost use Rattle.hd_dbd.specs.Hierarchy.{longest_path};
-ghost use Rattle.hd_dbd.specs.Lengths.{some_vary};
 ghost use Rattle.hd_volume.specs.Calls.{IsCall};
 ghost use Rattle.hd_calls.specs.Access.{loads};
 ghost use Rattle.hd_calls.specs.Functions.{function_of};
@@ -15,7 +14,7 @@ ghost use Rattle.hd_session.specs.Replies.{reply_of};
 ghost use Rattle.hd_session.specs.Giving.{IsEmpty};
 ghost use Rattle.hd_session.specs.Above.{AreKeysOf};
 ghost use Rattle.hd_session.specs.Inserts.{AreArgumentsOf};
-ghost use Rattle.hd_session.specs.Sessions.{IsStepDone, IsUndoneUnlessDevice, IsRoomLacking, own_in, call_in};
+ghost use Rattle.hd_session.specs.Sessions.{IsStepDone, IsUndoneUnlessDevice, IsRoomLacking, IsMemoryLacking, own_in, call_in};
 
 use crate::above::KeysAbove;
 use crate::buffer::IoArea;
@@ -112,7 +111,7 @@ fn answer_accepted<S: BlockStore>(
     ensures area { IfErr result (λ e. IsAreaWrong dbd.now volume.old positions.old (own_in dbd.now pcb.now number call.now.area accepted.now) e) }
     ensures full { IfErr result (λ e. IsRoomLacking dbd.now volume.old positions.old (own_in dbd.now pcb.now number call.now.area accepted.now) e) }
     ensures refusal { IfErr result (λ e. e ≢ Refused.Broken) }
-    ensures memory { IsTrue volume.old.is_sound → some_vary dbd.now.types ≡ false → accepted.now.function ≢ Function.Insert → IfErr result (λ e. e ≢ Refused.Memory) }
+    ensures memory { accepted.now.function ≢ Function.Insert → IfErr result (λ e. IsMemoryLacking dbd.now volume.old positions.old (own_in dbd.now pcb.now number call.now.area accepted.now) e) }
     ensures never { accepted.now.function ≢ Function.Insert → accepted.now.function ≢ Function.Replace → IfErr result (λ e. e ≢ Refused.Memory) }
     ensures empty { IfErr result (λ _. IsEmpty io.new) }
     ensures same_room { io.new.room ≡ io.old.room }
@@ -170,7 +169,7 @@ pub fn call_step<S: BlockStore>(
     ensures area { IfErr result (λ e. IsAreaWrong dbd.now volume.old positions.old (call_in dbd.now pcb.now number call.now) e) }
     ensures full { IfErr result (λ e. IsRoomLacking dbd.now volume.old positions.old (call_in dbd.now pcb.now number call.now) e) }
     ensures refusal { IfErr result (λ e. e ≢ Refused.Broken) }
-    ensures memory { IsTrue volume.old.is_sound → some_vary dbd.now.types ≡ false → function_of call.now.function ≢ Some Function.Insert → length call.now.ssas ≤ 4 → IfErr result (λ e. e ≢ Refused.Memory) }
+    ensures memory { function_of call.now.function ≢ Some Function.Insert → length call.now.ssas ≤ 4 → IfErr result (λ e. IsMemoryLacking dbd.now volume.old positions.old (call_in dbd.now pcb.now number call.now) e) }
     ensures never { function_of call.now.function ≢ Some Function.Insert → function_of call.now.function ≢ Some Function.Replace → length call.now.ssas ≤ 4 → IfErr result (λ e. e ≢ Refused.Memory) }
     ensures empty { IfErr result (λ _. IsEmpty io.new) }
     ensures same_room { io.new.room ≡ io.old.room }

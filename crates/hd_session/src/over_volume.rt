@@ -1,7 +1,6 @@
-ghost use Rattle.std.specs.Prelude.{◌≡◌, ◌≢◌, ◌<◌, ◌≤◌, IsTrue, IfOk, IfErr, OnOk, Some, length, true, false};
+ghost use Rattle.std.specs.Prelude.{◌≡◌, ◌≢◌, ◌<◌, ◌≤◌, Err, IsTrue, IfOk, IfErr, OnOk, Some, length, true};
 ghost use Rattle.hd_dbd.specs.Facts.{stored_sizes};
 ghost use Rattle.hd_dbd.specs.Hierarchy.{longest_path};
-ghost use Rattle.hd_dbd.specs.Lengths.{some_vary};
 ghost use Rattle.hd_dbd.specs.ProgramRules.{type_names};
 ghost use Rattle.hd_volume.specs.Spacing.{IsPlain};
 ghost use Rattle.hd_volume.specs.Calls.{IsCall};
@@ -11,6 +10,7 @@ ghost use Rattle.hd_session.specs.Opening.{session_at_start, IsOpenedOver, IsOpe
 ghost use Rattle.hd_session.specs.Giving.{IsEmpty};
 ghost use Rattle.hd_session.specs.Sessions.{IsUndoneUnlessDevice};
 ghost use Rattle.hd_session.specs.Logged.{IsCallLogged};
+ghost use Rattle.hd_session.specs.Turns.{MayLackMemory};
 
 use crate::above::KeysAbove;
 use crate::buffer::IoArea;
@@ -96,8 +96,8 @@ impl<'a, S: BlockStore> Session<'a, S> {
     ///
     /// `Area`, `Full` and `Memory` change nothing: the I/O area's bytes have not the length that the call asks, the volume has no room for
     /// the rows, or no memory was found. `Device` says that an access failed in this call; from then on every call is `Broken`, whatever it
-    /// asks. GU, GN, GNP, their hold forms and DLET take no memory with four segment search arguments at most, and neither does REPL where
-    /// the segments of no type vary in length.
+    /// asks. With four segment search arguments at most, GU, GN, GNP, their hold forms and DLET take no memory, and neither does a REPL that
+    /// makes no row longer.
     pub fn call(&mut self, pcb: u8, call: &Call, io: &mut IoArea) -> Result<Answer, Refused>
         requires pcb { (0 < pcb) × (pcb ≤ length self.old.pcbs) }
         requires room { longest_path self.old.database.types ≤ io.old.room }
@@ -107,7 +107,7 @@ impl<'a, S: BlockStore> Session<'a, S> {
         ensures broken { self.old.broken ≡ was_broken result }
         ensures untouched { self.old.broken ≡ true → self.new ≡ self.old }
         ensures call { IsCall self.old.volume result self.new.volume }
-        ensures memory { IsTrue self.old.volume.is_sound → some_vary self.old.database.types ≡ false → function_of call.now.function ≢ Some Function.Insert → length call.now.ssas ≤ 4 → IfErr result (λ e. e ≢ Refused.Memory) }
+        ensures memory { result ≡ Err Refused.Memory → MayLackMemory self.old pcb call.now }
         ensures never { function_of call.now.function ≢ Some Function.Insert → function_of call.now.function ≢ Some Function.Replace → length call.now.ssas ≤ 4 → IfErr result (λ e. e ≢ Refused.Memory) }
         ensures empty { IfErr result (λ _. IsEmpty io.new) }
         ensures same_room { io.new.room ≡ io.old.room }

@@ -1,12 +1,11 @@
 ghost use Rattle.std.specs.Prelude.{◌≡◌, ◌≢◌, ◌<◌, ◌≤◌, length, take, false, IsTrue, IfOk, IfErr};
 ghost use Rattle.hd_dbd.specs.Facts.{stored_sizes};
 ghost use Rattle.hd_dbd.specs.Hierarchy.{longest_path};
-ghost use Rattle.hd_dbd.specs.Lengths.{some_vary};
 ghost use Rattle.hd_dbd.specs.Refusals.{OnlyDevice};
 ghost use Rattle.hd_volume.specs.Calls.{IsCall, IsRead};
 ghost use Rattle.hd_get.specs.Gets.{HasPosition};
 ghost use Rattle.hd_update.specs.States.{HasState, IsUndone, kept_of};
-ghost use Rattle.hd_update.specs.Calls.{IsReplaceAreaWrong, IsReplaceFull};
+ghost use Rattle.hd_update.specs.Calls.{IsReplaceAreaWrong, IsReplaceFull, ReplaceLengthens};
 ghost use Rattle.hd_session.specs.Replies.{reply_of};
 ghost use Rattle.hd_session.specs.Giving.{IsEmpty};
 ghost use Rattle.hd_session.specs.Sessions.{IsLevelGiven, IsTold, IsReplaceStep, IsDeleteStep, lowest_level, deleted_level};
@@ -107,7 +106,7 @@ pub fn answer_repl<S: BlockStore>(
     ensures undone { IfErr result (λ _. IsUndone volume.old positions.old volume.new positions.new) }
     ensures area { IfErr result (λ e. IsReplaceAreaWrong dbd.now volume.old positions.old number ssas.now area.now e) }
     ensures full { IfErr result (λ e. IsReplaceFull dbd.now volume.old positions.old number ssas.now area.now e) }
-    ensures memory { IsTrue volume.old.is_sound → some_vary dbd.now.types ≡ false → IfErr result (λ e. e ≢ Refused.Memory) }
+    ensures memory { IfErr result (λ e. e ≡ Refused.Memory → ReplaceLengthens dbd.now volume.old positions.old number ssas.now area.now) }
     ensures empty { IfErr result (λ _. IsEmpty io.new) }
     ensures same_room { io.new.room ≡ io.old.room }
     ensures many { length positions.new ≡ length positions.old }
@@ -140,7 +139,7 @@ fn replace_held<S: BlockStore>(
     ensures undone { IfErr result (λ _. IsUndone volume.old positions.old volume.new positions.new) }
     ensures area { IfErr result (λ e. IsReplaceAreaWrong dbd.now volume.old positions.old number ssas.now area.now e) }
     ensures full { IfErr result (λ e. IsReplaceFull dbd.now volume.old positions.old number ssas.now area.now e) }
-    ensures memory { IsTrue volume.old.is_sound → some_vary dbd.now.types ≡ false → IfErr result (λ e. e ≢ Refused.Memory) }
+    ensures memory { IfErr result (λ e. e ≡ Refused.Memory → ReplaceLengthens dbd.now volume.old positions.old number ssas.now area.now) }
     ensures empty { IfErr result (λ _. IsEmpty io.new) }
     ensures same_room { io.new.room ≡ io.old.room }
     ensures many { length positions.new ≡ length positions.old }

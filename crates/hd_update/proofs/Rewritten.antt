@@ -8,7 +8,6 @@ use Rattle.std.proofs.lemmas.Slice.Eq.{bytes_eq-Decides}
 use Rattle.hd_dbd.specs.Types.{SegmentType}
 use Rattle.hd_dbd.specs.Hierarchy.{Database, level_of}
 use Rattle.hd_dbd.specs.Segment.{Segment}
-use Rattle.hd_dbd.specs.Lengths.{some_vary}
 use Rattle.hd_dbd.specs.Rows.{key_of, row_fits}
 use Rattle.hd_dbd.specs.Paths.{row_at, no_row}
 use Rattle.hd_dbd.specs.Prefixes.{size_with}
@@ -16,7 +15,6 @@ use Rattle.hd_dbd.specs.declared.answer.Refused.{Refused}
 use Rattle.hd_dbd.specs.declared.answer.Refused.TheVariants.{Memory, Full, Device}
 use Rattle.hd_dbd.specs.Positions.{Position}
 use Rattle.hd_dbd.specs.Forest.{Forest}
-use Rattle.hd_dbd.proofs.FixedLengths.{equally-long}
 use Rattle.hd_calls.specs.Moves.{Rewrite, rewritten, is_rewritten, position_after_rewrite}
 use Rattle.hd_calls.specs.Runs.{is_longer, lengthens, row_with, rows_stored}
 use Rattle.hd_calls.specs.Steps.{keeps_key}
@@ -174,27 +172,6 @@ module _ (d : Database) (v : VolumeState) (f : Forest Placed) (area : List ℕ) 
   -- and its new bytes are the part of the area
   pub new_row_is : asked_row ≡ new_row
   new_row_is = ap₂ (λ (c : ℕ) (b : List ℕ). record { code = c; bytes = b }) of.code of.bytes
-
-  -- and where no segments vary it is as long as the row
-  pub as_long : some_vary d.types ≡ false → length w.bytes ≡ length (row_at (rows_of f) w.number).bytes
-  as_long none =
-      let G : IsLinkGraph d.types (length v.image) m = records-link d v holds.volume.fit holds.volume in
-      let row : Segment = row_at (rows_of f) w.number in
-      equally-long d.types (record { code = row.code; bytes = w.bytes }) row none refl (ap (λ (c : ℕ). row_fits d.types (record { code = c; bytes = w.bytes })) (sym of.code) ∙ of.fits)
-      (ap (row_fits d.types) (sym row_is) ∙ ap (row_fits d.types) row_in_place ∙ G.fits n.address row_stored)
-    where
-      row_in_place : stored_row ≡ segment_at m n.address
-      row_in_place = row_is ∙ sym (ap (segment_at m) of.address ∙ addressed.same w.number of.row)
-
--- no row is made longer then
-pub none_stored : (d : Database) (v : VolumeState) (f : Forest Placed) (area : List ℕ) (news : List NewBytes) (ws : List Rewrite) → HoldsPlaced d v f → some_vary d.types ≡ false
-    → AreRewritesOf d.types f area news ws → rows_stored (rows_of f) (rewritten ws) ≡ []
-none_stored d v f area [] [] holds none are = refl
-none_stored d v f area [] (w ∷ ws) holds none are = absurd are
-none_stored d v f area (n ∷ ns) [] holds none are = absurd are
-none_stored d v f area (n ∷ ns) (w ∷ ws) holds none are =
-    let long : length w.bytes ≡ length (row_at (rows_of f) w.number).bytes = as_long d v f area n w holds are.0 none in
-    stored_same (rows_of f) w ws (le-ltb (length (row_at (rows_of f) w.number).bytes) (length w.bytes) (omega arith)) ∙ none_stored d v f area ns ws holds none are.1
 
 -- ---- from row to row
 

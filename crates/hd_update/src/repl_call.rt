@@ -1,6 +1,5 @@
 ghost use Rattle.std.specs.Prelude.{◌≡◌, ◌≢◌, ◌<◌, ◌≤◌, length, true, IsTrue, IfOk, IfErr};
 ghost use Rattle.hd_dbd.specs.Facts.{stored_sizes};
-ghost use Rattle.hd_dbd.specs.Lengths.{some_vary};
 ghost use Rattle.hd_dbd.specs.Refusals.{OnlyRoomOrDevice};
 ghost use Rattle.hd_volume.specs.Calls.{IsCall};
 ghost use Rattle.hd_update.specs.States.{HasState, IsUndone, kept_of};
@@ -48,7 +47,6 @@ pub fn repl<S: BlockStore>(
     ensures area { IfErr result (λ e. IsReplaceAreaWrong dbd.now volume.old positions.old number ssas.now area.now e) }
     ensures full { IfErr result (λ e. IsReplaceFull dbd.now volume.old positions.old number ssas.now area.now e) }
     ensures memory { IfErr result (λ e. e ≡ Refused.Memory → ReplaceLengthens dbd.now volume.old positions.old number ssas.now area.now) }
-    ensures vary { IfErr result (λ e. e ≡ Refused.Memory → IsTrue volume.old.is_sound → some_vary dbd.now.types ≡ true) }
     ensures refusal { IfErr result (λ e. e ≢ Refused.Broken) }
 {
     let held = held_rows(volume, dbd, &positions[number - 1])?;
@@ -79,7 +77,6 @@ fn replace_held<S: BlockStore>(
     ensures undone { IfErr result (λ _. IsUndone volume.old positions.old volume.new positions.new) }
     ensures full { IfErr result (λ e. AreRewritesFull dbd.now volume.old positions.old number area.now news.now e) }
     ensures memory { IfErr result (λ e. e ≡ Refused.Memory → RewritesLengthen dbd.now volume.old positions.old number area.now news.now) }
-    ensures vary { IfErr result (λ e. e ≡ Refused.Memory → IsTrue volume.old.is_sound → some_vary dbd.now.types ≡ true) }
     ensures refusal { OnlyRoomOrDevice result }
 {
     if !keep_keys(volume, dbd, area, news)? {

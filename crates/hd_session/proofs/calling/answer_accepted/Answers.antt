@@ -1,11 +1,13 @@
-use Rattle.std.proofs.Common.{ℕ, refl, sym, ap, ◌∙◌, subst}
+use Rattle.std.proofs.Common.{◌≡◌, ℕ, refl, sym, ap, ◌∙◌, subst}
 use Rattle.hd_dbd.specs.Calls.{CallText}
+use Rattle.hd_dbd.specs.declared.answer.Refused.{Refused}
+use Rattle.hd_dbd.specs.declared.answer.Refused.TheVariants.{Device, Memory}
 use Rattle.hd_volume.proofs.CallSteps.{if-ok}
 use Rattle.hd_volume.proofs.JoinLemmas.{if-err-map}
 use Rattle.hd_calls.specs.declared.call.Function.TheVariants.{Get, Insert, Replace, Delete}
 use Rattle.hd_calls.specs.Steps.{AcceptedCall, Effect}
 use Rattle.hd_seek.proofs.Admitting.{resolved_descend}
-use Rattle.hd_update.specs.States.{LacksRoomFor}
+use Rattle.hd_update.specs.States.{LacksRoomFor, StoresSome}
 use Rattle.hd_session.specs.Sessions.{own_in}
 use Rattle.hd_session.proofs.KeysKnown.{nothing_known, if_ok_any}
 use Rattle.hd_session.proofs.OwnSteps.{step_as}
@@ -76,6 +78,14 @@ returns-in-Replace-clause-full g c = if-err-map c.answer_repl.result (λ e full 
     (own_is d c.args.pcb.now n st c.deref-in-Replace.result.now c.args.call.now.area Replace c.accepted.inside.function c.ssas-ssas.result.now c.accepted.inside.ssas c.args.accepted.now
     (c.deref-in-Replace.ensures.value ∙ ap (λ (x : CallText). x.area) c.call.view_is) c.ssas-ssas.ensures c.in-Replace.is c.accepted.view_is) (full c.args.pcb.now st is sound R)) c.answer_repl.ensures.full
 
+pub returns-in-Replace-clause-memory : goal.returns-in-Replace-clause-memory
+returns-in-Replace-clause-memory g c other = if-err-map c.answer_repl.result (λ e memory st is sound R.
+    let d = c.args.dbd.now in
+    let n : ℕ = c.args.number in
+    subst (λ (x : Effect). StoresSome st.rows x)
+    (own_is d c.args.pcb.now n st c.deref-in-Replace.result.now c.args.call.now.area Replace c.accepted.inside.function c.ssas-ssas.result.now c.accepted.inside.ssas c.args.accepted.now
+    (c.deref-in-Replace.ensures.value ∙ ap (λ (x : CallText). x.area) c.call.view_is) c.ssas-ssas.ensures c.in-Replace.is c.accepted.view_is) (memory is c.args.pcb.now st sound R)) c.answer_repl.ensures.memory
+
 pub returns-in-Delete-clause-done : goal.returns-in-Delete-clause-done
 returns-in-Delete-clause-done g c = if-ok c.answer_dlet.result c.answer_dlet.ensures.done (λ a done st sound R.
     let d = c.args.dbd.now in
@@ -83,6 +93,17 @@ returns-in-Delete-clause-done g c = if-ok c.answer_dlet.result c.answer_dlet.ens
     step_as d c.args.volume.now st n _ (own_in d c.args.pcb.now n c.args.call.now.area c.args.accepted.now st) c.answer_dlet.new.volume c.answer_dlet.new.positions
     (own_is d c.args.pcb.now n st c.args.call.now.area c.args.call.now.area Delete c.accepted.inside.function c.ssas-ssas.result.now c.accepted.inside.ssas c.args.accepted.now
     refl c.ssas-ssas.ensures c.in-Delete.is c.accepted.view_is) (done c.args.pcb.now st sound R))
+
+-- ---- memory, of which a get and a DLET take none
+
+no_memory : (e : Refused) → e ≡ Device → e ≡ Memory → ⊥
+no_memory e device memory = (let both : Device ≡ Memory = sym device ∙ memory in cc)
+
+pub returns-in-Get-clause-memory : goal.returns-in-Get-clause-memory
+returns-in-Get-clause-memory g c other = if-err-map c.answer_get.result (λ e device st is sound R. absurd (no_memory e device is)) c.answer_get.ensures.refusal
+
+pub returns-in-Delete-clause-memory : goal.returns-in-Delete-clause-memory
+returns-in-Delete-clause-memory g c other = if-err-map c.answer_dlet.result (λ e device st is sound R. absurd (no_memory e device is)) c.answer_dlet.ensures.refusal
 
 -- ---- what is known behind an update
 

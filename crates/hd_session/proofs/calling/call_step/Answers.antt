@@ -1,22 +1,24 @@
-use Rattle.std.proofs.Common.{◌≡◌, ◌≢◌, ℕ, ◌-◌, ◌<◌, List, length, map, Result, Ok, Err, IfErr, ap, sym, subst, ◌∙◌, arith}
+use Rattle.std.proofs.Common.{◌≡◌, ℕ, ◌-◌, ◌<◌, List, length, map, Some, Result, Ok, Err, IfErr, ap, sym, subst, ◌∙◌, arith}
 use Rattle.std.specs.Prelude.{slice_index_or}
 use Rattle.std.proofs.lemmas.List.{length-map}
 use Rattle.std.proofs.lemmas.Result.{err_from_is_err_and}
 use Rattle.hd_dbd.specs.declared.answer.Refused.{Refused}
 use Rattle.hd_dbd.specs.declared.answer.Refused.TheVariants.{Memory, Device}
+use Rattle.hd_dbd.specs.declared.answer.Status.{Status}
 use Rattle.hd_dbd.specs.Calls.{CallText}
 use Rattle.hd_volume.proofs.CallSteps.{if-ok}
 use Rattle.hd_volume.proofs.JoinLemmas.{if-err-map}
 use Rattle.hd_links.specs.Steps.{rows_of}
-use Rattle.hd_calls.specs.Steps.{Effect, accepted_call, position_at}
+use Rattle.hd_calls.specs.Functions.{function_of}
+use Rattle.hd_calls.specs.Steps.{AcceptedCall, Effect, accepted_call, position_at}
 use Rattle.hd_forest.proofs.Reading.{after-read, sound-before}
-use Rattle.hd_accept.specs.Tests.{AreResolved}
+use Rattle.hd_accept.specs.Tests.{AreResolved, IsNamed}
 use Rattle.hd_position.specs.Kept.{Kept, kept_start}
 use Rattle.hd_update.proofs.Answering.{represented}
 use Rattle.hd_update.proofs.Levels.{as_many}
 use Rattle.hd_update.proofs.Standing.{own_position, own_stands}
-use Rattle.hd_update.specs.States.{LacksRoomFor}
-use Rattle.hd_session.specs.Sessions.{own_in, call_in}
+use Rattle.hd_update.specs.States.{LacksRoomFor, StoresSome}
+use Rattle.hd_session.specs.Sessions.{IsMemoryLacking, own_in, call_in}
 use Rattle.hd_session.specs.declared.request.Answer.{Answer}
 use Rattle.hd_session.proofs.KeysKnown.{keys_kept}
 use Rattle.hd_session.proofs.OwnSteps.{step_as}
@@ -135,8 +137,25 @@ returns-in-Err-clause-known g c = keys_kept c.args.dbd.now c.args.volume.now c.a
 -- ---- memory
 
 pub returns-in_err-status-clause-memory : goal.returns-in_err-status-clause-memory
-returns-in_err-status-clause-memory g c sound none other few =
+returns-in_err-status-clause-memory g c other few =
+    let d = c.args.dbd.now in
     let p = err_from_is_err_and c.from_residual.result c.from_residual.ensures.1 in
     let many = ap length c.deref.ensures.value ∙ sym (length-map c.call.inside.ssas.items (λ s. s.items)) ∙ ap (λ (x : CallText). length x.ssas) c.call.view_is in
-    subst (λ (r : Result Answer Refused). IfErr r (λ e. e ≢ Memory)) (sym (p.1 ∙ ap Err p.2))
-    (λ is. let both : Memory ≡ Device = sym is ∙ c.in_err-status.ensures.memory (omega arith) in cc)
+    subst (λ (r : Result Answer Refused). IfErr r (λ e. IsMemoryLacking d c.args.volume.now c.args.positions.now (call_in d c.args.pcb.now c.args.number c.args.call.now) e)) (sym (p.1 ∙ ap Err p.2))
+    (λ st is sound R. absurd (let both : Memory ≡ Device = sym is ∙ c.in_err-status.ensures.memory (omega arith) in cc))
+
+pub returns-in-Ok-clause-memory : goal.returns-in-Ok-clause-memory
+returns-in-Ok-clause-memory g c other few =
+    let d = c.args.dbd.now in
+    let n : ℕ = c.args.number in
+    let u = c.args.volume.now in
+    let old : List Kept = c.args.positions.now in
+    let named : function_of c.args.call.now.function ≡ Some c.in-Ok.accepted.function =
+    sym (ap (λ (x : CallText). function_of x.function) c.call.view_is) ∙ subst (λ (r : Result AcceptedCall Status). IsNamed c.call.inside.func r) c.in-Ok.is c.in_ok-status.ensures.named in
+    if-err-map c.answer_accepted.result (λ e memory st is sound R.
+    let same = after-read d u c.accept.new.volume c.in_ok-status.ensures.read sound in
+    let at = own_position d u old st n R c.requires.number.0 c.requires.number.1 sound c.index-positions-number.result in
+    let tested : accepted_call (record { types = d.types; pcb = c.args.pcb.now }) (rows_of R.placed) (position_at st n) c.args.call.now ≡ Ok c.in-Ok.accepted = rw (← c.call.view_is, ← c.deref.ensures.value) (c.in_ok-status.ensures.value R.placed (position_at st n) c.call.inside.area.items at ∙ c.in-Ok.is) in
+    subst (λ (x : Effect). StoresSome st.rows x) (own_effect d c.args.pcb.now n c.args.call.now u old st R c.in-Ok.accepted tested)
+    (memory st is same.sound (represented d u c.accept.new.volume old st c.in_ok-status.ensures.read sound R)))
+    (c.answer_accepted.ensures.memory (λ is. other (named ∙ ap Some is)))

@@ -1,6 +1,5 @@
 use Rattle.std.proofs.Common.{◌≡◌, ℕ, ◌-◌, ◌<◌, List, length, sym, ap, subst, ◌∙◌, refl, arith, Ok}
 use Rattle.std.specs.Prelude.{slice_index_or}
-use Rattle.std.proofs.lemmas.Bool.{false≢true}
 use Rattle.std.proofs.lemmas.List.{get_or_default}
 use Rattle.hd_calls.specs.Steps.{position_at}
 use Rattle.hd_forest.proofs.Reading.{after-read, sound-before}
@@ -55,8 +54,9 @@ returns-in-Err-clause-full g c pcb st is sound R =
     lacks_before d v mid st.rows effect effect same.image refl (c.in-Err.ensures.full pcb st is same.sound (represented d v mid c.args.positions.now st c.in_ok-given.ensures.read sound R))
 
 pub returns-in-Err-clause-memory : goal.returns-in-Err-clause-memory
-returns-in-Err-clause-memory g c sound none is =
-    false≢true (sym none ∙ c.in-Err.ensures.vary is (after-read c.args.dbd.now c.args.volume.now c.give_level.new.volume c.in_ok-given.ensures.read sound).sound)
+returns-in-Err-clause-memory g c is pcb st sound R =
+    let same = after-read c.args.dbd.now c.args.volume.now c.give_level.new.volume c.in_ok-given.ensures.read sound in
+    c.in-Err.ensures.memory is pcb st same.sound (represented c.args.dbd.now c.args.volume.now c.give_level.new.volume c.args.positions.now st c.in_ok-given.ensures.read sound R)
 
 pub returns-in-Err-clause-area : goal.returns-in-Err-clause-area
 returns-in-Err-clause-area g c pcb st is sound R =

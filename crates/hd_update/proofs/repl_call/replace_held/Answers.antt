@@ -1,7 +1,6 @@
 use Rattle.std.proofs.Common.{◌≡◌, ℕ, ◌-◌, List, length, false, true, Ok, Err, IsTrue, IfErr, Result, sym, ap, subst, ◌∙◌, inl, inr, arith}
 use Rattle.std.proofs.lemmas.Result.{err_from_is_err_and}
 use Rattle.std.proofs.lemmas.Bool.{cases_Bool}
-use Rattle.hd_dbd.specs.Lengths.{some_vary}
 use Rattle.hd_dbd.specs.Segment.{Segment}
 use Rattle.hd_dbd.specs.declared.answer.Refused.{Refused}
 use Rattle.hd_dbd.specs.declared.answer.Refused.TheVariants.{Memory}
@@ -24,7 +23,6 @@ use Rattle.hd_update.specs.Positions.{all_after_rewrites, unheld_at}
 use Rattle.hd_update.specs.declared.replaced.ReplacedRow.{ReplacedRow}
 use Rattle.hd_update.proofs.Reading.{held_read, later_read}
 use Rattle.hd_update.proofs.AskedStates.{may_replace_asked, own_path}
-use Rattle.hd_update.proofs.Rewritten.{none_stored}
 use Rattle.hd_update.proofs.Answering.{key_changes, rows_replaced, replace_lacks, replace_stores}
 use Rattle.hd_update.proofs.repl_call.replace_held.Goals as goal
 
@@ -79,20 +77,6 @@ returns-in_err-make_room_to_replace-clause-memory g c =
     (λ is pcb st ws sound R A.
     let keys = sym c.if-not-branch.false ∙ c.in_ok-keep_keys.ensures.value R.placed ws sound R.holds A.are in
     replace_stores d pcb v old st c.args.number ws R c.requires.number.0 c.requires.number.1 keys (c.in_err-make_room_to_replace.ensures.longer R.placed ws A.are))
-
-pub returns-in_err-make_room_to_replace-clause-vary : goal.returns-in_err-make_room_to_replace-clause-vary
-returns-in_err-make_room_to_replace-clause-vary g c =
-    let d = c.args.dbd.now in
-    let v = c.args.volume.now in
-    let p = err_from_is_err_and c.from_residual-in_err-make_room_to_replace.result c.from_residual-in_err-make_room_to_replace.ensures.1 in
-    subst (λ (r : Result Outcome Refused). IfErr r (λ e. e ≡ Memory → IsTrue v.is_sound → some_vary d.types ≡ true)) (sym (p.1 ∙ ap Err p.2))
-    (λ is sound.
-    let T = c.requires.state sound in
-    let longer = c.in_err-make_room_to_replace.ensures.longer T.2.placed T.1 T.3.are in
-    elim (cases_Bool (some_vary d.types)) [
-      | inl some ↦ some
-      | inr none ↦ (let many = ap (λ (rows : List Segment). length rows) (none_stored d v T.2.placed c.args.area.now c.args.news.now T.1 T.2.holds none T.3.are) in absurd (omega arith))
-    ])
 
 pub replace_rows-requires-clause-may : goal.replace_rows-requires-clause-may
 replace_rows-requires-clause-may g c now =

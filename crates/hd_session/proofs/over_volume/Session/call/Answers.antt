@@ -7,12 +7,12 @@ use Rattle.hd_dbd.specs.declared.answer.Refused.TheVariants.{Device}
 use Rattle.hd_calls.specs.Runs.{view_of}
 use Rattle.hd_position.specs.Kept.{Kept}
 use Rattle.hd_update.specs.Loading.{HasPassedAll}
-use Rattle.hd_dbd.specs.Lengths.{some_vary}
 use Rattle.hd_session.specs.declared.request.Answer.{Answer}
 use Rattle.hd_session.specs.Opening.{SessionState, StandsForState}
 use Rattle.hd_session.specs.Above.{AreKeysOf}
 use Rattle.hd_session.proofs.KeysKnown.{nothing_known}
-use Rattle.hd_session.proofs.SessionCalls.{IsStepOf, its_view, kept_is, loader_past, call_logged, stands_behind}
+use Rattle.hd_session.specs.Sessions.{IsMemoryLacking, call_in}
+use Rattle.hd_session.proofs.SessionCalls.{IsStepOf, its_view, kept_is, loader_past, may_lack, call_logged, stands_behind}
 use Rattle.hd_session.proofs.over_volume.Session.call.Goals as goal
 
 pub call_step-answered-requires-clause-loader : goal.call_step-answered-requires-clause-loader
@@ -137,6 +137,14 @@ returns-in_default-clause-logged g c =
     call_logged d pcbs c.self.inside.volume old c.self.inside.broken c.args.self.now c.self.view_is pcb n c.args.call.now r io w new _ is S same
 
 pub returns-in-Err-clause-memory : goal.returns-in-Err-clause-memory
-returns-in-Err-clause-memory g c sound none other few =
-    c.call_step-answered.ensures.memory (subst IsTrue (sym (ap (λ (s : SessionState). s.volume.is_sound) c.self.view_is)) sound)
-    (ap (λ (s : SessionState). some_vary s.database.types) c.self.view_is ∙ none) other few
+returns-in-Err-clause-memory g c memory =
+    let d = c.self.inside.dbd.now in
+    let pcbs : List View = c.self.inside.psb.now.pcbs in
+    let n : ℕ = c.args.pcb in
+    let pcb : View = c.index-pcbs-number.result in
+    let within : n ≤ length pcbs = subst (λ (s : SessionState). n ≤ length s.pcbs) (sym c.self.view_is) c.requires.pcb.1 in
+    let is : view_of pcbs n ≡ Some pcb = its_view pcbs n pcb c.requires.pcb.0 within (c.index-pcbs-number.is ∙ ap (λ (ps : List View). slice_index_or ps (n - 1) pcb) c.pcbs-pcbs.ensures.pcbs) in
+    let r : Result Answer Refused = c.call_step-answered.result in
+    may_lack d pcbs c.self.inside.volume c.self.inside.positions.items c.self.inside.broken c.args.self.now c.self.view_is pcb n c.args.call.now r is (λ other few.
+    subst (λ (ks : List Kept). IfErr r (λ e. IsMemoryLacking d c.self.inside.volume ks (call_in d pcb n c.args.call.now) e)) c.deref_mut.ensures.value
+    (c.call_step-answered.ensures.memory other few)) memory
