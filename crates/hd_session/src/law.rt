@@ -7,10 +7,10 @@ pub fn law_no_lost_update()
 {}
 
 /// The calls that are made in a session, interleaved over its PCBs in whatever way, come to a legal log: it begins with the rows of the one forest
-/// that the volume holds and all PCBs before them, and has one entry for each call, in their order. Want of memory stands in it only at an ISRT or
-/// a call with more than four segment search arguments.
+/// that the volume holds and all PCBs before them, and has one entry for each call, in their order. Want of memory stands in it only at an ISRT, a
+/// REPL that makes a row longer, or a call with more than four segment search arguments.
 ///
-/// So a program that keeps to the contracts of `Session::open` and `Session::call` concludes it: from no call made, call by call, to the log.
+/// So a program that keeps to the contracts of `Session::open`, `call` and `flush` concludes it: from no call made, call by call, to the log.
 pub fn law_sessions_answer_their_logs()
     ensures { SessionsAnswerTheirLogs }
 {}
