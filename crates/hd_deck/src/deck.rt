@@ -7,35 +7,44 @@ use crate::reader::Reader;
 use crate::step::Step;
 use hd_lines::next_line;
 use std::alloc::Global;
+use std::fmt;
 use thiserror::Error;
 
 /// Why a deck is refused, with the number of the line, from 1. `Memory` says nothing of the deck.
 #[derive(Clone, Copy, Debug, Drop, PartialEq, Eq, Error)]
 pub enum DeckFault {
     /// A first column that begins no line of a deck.
-    #[error("line {0}, K1")]
     K1(usize),
     /// A function that is not one to four letters between blanks.
-    #[error("line {0}, K2")]
     K2(usize),
     /// A PCB number that is none of the program's.
-    #[error("line {0}, K3")]
     K3(usize),
     /// A line that belongs to a call, where no call is open.
-    #[error("line {0}, K4")]
     K4(usize),
     /// A repeat count that is not from 1 to 9,999.
-    #[error("line {0}, K5")]
     K5(usize),
     /// A line of more than 255 bytes.
-    #[error("line {0}, K6")]
     K6(usize),
     /// Bytes of an area that are not spelled by two hexadecimal digits each.
-    #[error("line {0}, K7")]
     K7(usize),
     /// No memory.
-    #[error("no memory")]
     Memory,
+}
+
+impl fmt::Display for DeckFault {
+    fn fmt<W: fmt::Write>(&self, f: &mut fmt::Formatter<W>) -> fmt::Result {
+        let (line, rule) = match *self {
+            DeckFault::K1(line) => (line, 1),
+            DeckFault::K2(line) => (line, 2),
+            DeckFault::K3(line) => (line, 3),
+            DeckFault::K4(line) => (line, 4),
+            DeckFault::K5(line) => (line, 5),
+            DeckFault::K6(line) => (line, 6),
+            DeckFault::K7(line) => (line, 7),
+            DeckFault::Memory => return f.write_str("no memory"),
+        };
+        write!(f, "line {line}, K{rule}")
+    }
 }
 
 /// The steps of a deck over a program with so many PCBs, or the first line with a fault, and in it the first fault.

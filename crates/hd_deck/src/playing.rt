@@ -113,7 +113,7 @@ fn play_step<S: BlockStore, W: Write>(
 }
 
 /// How many calls were made, and how many of them found no memory.
-#[derive(Clone, Copy, Debug)]
+#[derive(Clone, Copy)]
 pub(crate) struct Count {
     pub(crate) calls: u64,
     pub(crate) memory: u64,

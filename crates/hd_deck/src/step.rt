@@ -6,7 +6,7 @@ use std::alloc::AllocError;
 use std::marker::Model;
 
 /// A call of a deck, the number of its PCB, from 1, and how often it is made, from 1 to 9,999 times.
-#[derive(Debug, Drop)]
+#[derive(Drop)]
 pub struct Step {
     pub pcb: u8,
     pub repeat: u16,

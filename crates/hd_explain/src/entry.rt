@@ -2,7 +2,7 @@ ghost use Rattle.std.specs.Prelude.{◌≡◌};
 ghost use Rattle.hd_explain.specs.Entries.{name_of};
 
 /// What a word is.
-#[derive(Clone, Copy, Debug, PartialEq, Eq)]
+#[derive(Clone, Copy, PartialEq, Eq)]
 pub enum Kind {
     VolumeFault,
     SourceFault,
@@ -15,7 +15,7 @@ pub enum Kind {
 
 /// A word and its meaning: what it is, a summary of one line, and a text of one to five sentences, in lines of at most 100 characters that
 /// a line feed parts. The type of the texts is a parameter, since a clause can only so name a table of them.
-#[derive(Clone, Copy, Debug)]
+#[derive(Clone, Copy)]
 pub struct Entry<T> {
     pub word: T,
     pub kind: Kind,

@@ -6,11 +6,13 @@ pub const VOLUME_FAULTS: &[Explanation] = &[
         word: "1",
         kind: Kind::VolumeFault,
         summary: "the file is no whole volume of the DBD's block size",
-        text: "The file is shorter than a block, does not begin with HDVOLUME, is not as long as its count of\n\
-               blocks times the DBD's block size, or its largest count is below its count or above 65,536. It is\n\
-               another file, a copy that was cut short, a reload that was refused or broken off, or the DBD has\n\
-               another block size. Name the right files, or copy or reload again. The program's exit status 1 is\n\
-               told by hd explain exit1.",
+        text: "A program was ended while it changed the volume, or while it made it: reload the last unload stream,\n\
+               or bring back the last copy that passes. Or it is a file of another kind, as a DBD, a stream or\n\
+               another program's file, or the DBD has another block size: name the right files. Or it was cut, as a\n\
+               copy that was made while the file was written, or on a full disk: copy it again. The fault says that\n\
+               the file is shorter than a block, does not begin with HDVOLUME, is not as long as its count of\n\
+               blocks times the DBD's block size, or has a largest count that is below its count or above 65,536.\n\
+               The program's exit status 1 is told by hd explain exit1.",
     },
     Entry {
         word: "2",

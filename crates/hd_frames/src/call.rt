@@ -7,7 +7,7 @@ use std::alloc::{AllocError, Global};
 use std::marker::Model;
 
 /// What a right frame keeps to: PCBs are numbered from 1 to `pcbs`, and an I/O area has at most `area` bytes.
-#[derive(Clone, Copy, Debug)]
+#[derive(Clone, Copy)]
 pub struct Limits {
     pub pcbs: u8,
     pub area: usize,
@@ -15,7 +15,7 @@ pub struct Limits {
 
 /// A call as a frame has it: the number of its PCB, and what the program hands over: the function in four bytes, the segment search
 /// arguments, and the bytes of the I/O area.
-#[derive(Debug, Drop)]
+#[derive(Drop)]
 pub struct FramedCall {
     pub pcb: u8,
     pub func: [u8; 4],

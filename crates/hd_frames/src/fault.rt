@@ -1,36 +1,45 @@
 use std::alloc::AllocError;
+use std::fmt;
 use thiserror::Error;
 
 /// Why no call is read from an input.
 #[derive(Clone, Copy, Debug, Drop, PartialEq, Eq, Error)]
 pub enum FrameFault {
     /// The input could not be read.
-    #[error("device failed")]
     Read,
     /// No memory for the call.
-    #[error("no memory")]
     Memory,
     /// The input ends inside a frame.
-    #[error("input ends inside a frame")]
     Cut,
     /// The length of a body, in bytes, is more than that of any right one.
-    #[error("a body of {0} bytes")]
     Long(u32),
     /// A body ends before its parts do.
-    #[error("a body that ends before its parts")]
     Short,
     /// The first byte of a body is not that of a call.
-    #[error("a frame of kind {0}")]
     Kind(u8),
     /// The program has no PCB of this number.
-    #[error("no PCB {0}")]
     Pcb(u8),
     /// More than 15 segment search arguments.
-    #[error("{0} segment search arguments")]
     Ssas(u8),
     /// The length of an I/O area, in bytes, is more than that of any path of segments.
-    #[error("an area of {0} bytes")]
     Area(usize),
+}
+
+impl fmt::Display for FrameFault {
+    fn fmt<W: fmt::Write>(&self, f: &mut fmt::Formatter<W>) -> fmt::Result {
+        let (before, number, behind) = match *self {
+            FrameFault::Read => return f.write_str("device failed"),
+            FrameFault::Memory => return f.write_str("no memory"),
+            FrameFault::Cut => return f.write_str("input ends inside a frame"),
+            FrameFault::Long(bytes) => ("a body of ", bytes as usize, " bytes"),
+            FrameFault::Short => return f.write_str("a body that ends before its parts"),
+            FrameFault::Kind(kind) => ("a frame of kind ", usize::from(kind), ""),
+            FrameFault::Pcb(number) => ("no PCB ", usize::from(number), ""),
+            FrameFault::Ssas(count) => ("", usize::from(count), " segment search arguments"),
+            FrameFault::Area(bytes) => ("an area of ", bytes, " bytes"),
+        };
+        write!(f, "{before}{number}{behind}")
+    }
 }
 
 impl From<AllocError> for FrameFault {

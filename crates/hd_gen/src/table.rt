@@ -2,7 +2,7 @@ ghost use Rattle.std.specs.Prelude.{◌≡◌};
 ghost use Rattle.hd_gen.specs.Tables.{look_up, dbd_operations, psb_operations, operands_of, main_keyword, next_stage, is_complete};
 
 /// A statement of a source, by its operation.
-#[derive(Clone, Copy, Debug, PartialEq, Eq)]
+#[derive(Clone, Copy)]
 pub(crate) enum Operation {
     Dbd,
     Dataset,
@@ -18,7 +18,7 @@ pub(crate) enum Operation {
 }
 
 /// How far a source is read: the statement that came last, and what may follow it.
-#[derive(Clone, Copy, Debug, PartialEq, Eq)]
+#[derive(Clone, Copy)]
 pub(crate) enum Stage {
     Start,
     /// Behind DBD.
@@ -36,7 +36,7 @@ pub(crate) enum Stage {
 }
 
 /// What an operand means.
-#[derive(Clone, Copy, Debug, PartialEq, Eq)]
+#[derive(Clone, Copy)]
 pub(crate) enum Meaning {
     Name,
     Access,

@@ -8,7 +8,7 @@ ghost use Rattle.hd_gen.specs.Shapes.{words_of, value_of as shape_of};
 use hd_dbd::Name8;
 
 /// Why a value is refused: the tables do not show it, or it is no name or number.
-#[derive(Clone, Copy, Debug, PartialEq, Eq)]
+#[derive(Clone, Copy)]
 pub(crate) enum Wrong {
     NotSupported,
     IllFormed,

@@ -6,26 +6,35 @@ use crate::line::{Open, read_line};
 use crate::statement::Statement;
 use hd_lines::next_line;
 use std::alloc::Global;
+use std::fmt;
 use thiserror::Error;
 
 /// Why the lines of a source are refused, with the number of the line, from 1. `Memory` says nothing of the source.
 #[derive(Clone, Copy, Debug, Drop, PartialEq, Eq, Error)]
 pub enum LineFault {
     /// A line of more than 80 bytes.
-    #[error("line {0}, M1")]
     M1(usize),
     /// A byte that is not ASCII.
-    #[error("line {0}, M2")]
     M2(usize),
     /// A line that should continue the one before it and does not, or is missing.
-    #[error("line {0}, M3")]
     M3(usize),
     /// Operand text that is none.
-    #[error("line {0}, M4")]
     M4(usize),
     /// No memory.
-    #[error("no memory")]
     Memory,
+}
+
+impl fmt::Display for LineFault {
+    fn fmt<W: fmt::Write>(&self, f: &mut fmt::Formatter<W>) -> fmt::Result {
+        let (line, rule) = match *self {
+            LineFault::M1(line) => (line, 1),
+            LineFault::M2(line) => (line, 2),
+            LineFault::M3(line) => (line, 3),
+            LineFault::M4(line) => (line, 4),
+            LineFault::Memory => return f.write_str("no memory"),
+        };
+        write!(f, "line {line}, M{rule}")
+    }
 }
 
 /// The statements of a source in their order, or the first line with a fault, and in it the least number.

@@ -1,7 +1,7 @@
 use std::marker::Model;
 
 /// An operand `KEY=value`: its keyword, and what stands behind the equals sign, with its brackets and commas.
-#[derive(Debug, Drop)]
+#[derive(Drop)]
 pub struct Operand {
     pub keyword: Vec<u8>,
     pub value: Vec<u8>,
@@ -17,7 +17,7 @@ impl Model for Operand {
 
 /// A statement: its label and operation, either of which may be empty, its operands, and the number of its first line,
 /// from 1.
-#[derive(Debug, Drop)]
+#[derive(Drop)]
 pub struct Statement {
     pub label: Vec<u8>,
     pub operation: Vec<u8>,

@@ -1,48 +1,56 @@
 use std::alloc::{AllocError, AllocFailed};
+use std::fmt;
 use thiserror::Error;
 
 /// What is wrong with a line of a text of rows, or with a record of a table.
 #[derive(Clone, Copy, Debug, Drop, PartialEq, Eq, Error)]
 pub enum RowFault {
     /// The database has no type of the name, or of the table's code.
-    #[error("unknown segment type")]
     Type,
     /// The row does not stand below a row of its parent type, or a root stands below a row.
-    #[error("no row of the parent type above, by indentation")]
     Parent,
     /// The type has no field of the name, or no such bytes; a table has a column of which this is so.
-    #[error("unknown field or range")]
     Part,
     /// A value has more bytes than its field or range.
-    #[error("value too long")]
     Length,
     /// A byte of the segment is given twice, with different values.
-    #[error("bytes given twice with different values")]
     Differs,
     /// A quote without its fellow or inside a value, or an escape that is none.
-    #[error("bad quote or escape")]
     Value,
     /// A twin on an earlier line has the same key, which is unique.
-    #[error("key of a twin before it, and keys are unique")]
     Equal,
     /// More rows than a stream counts.
-    #[error("too many rows")]
     Count,
     /// A record of a table has more or fewer cells than the table has columns.
-    #[error("another number of cells than columns")]
     Cells,
     /// Another table of the type stands before it.
-    #[error("a second table of the type")]
     Twice,
     /// A type above the table's has no unique key, so the parents of its rows cannot be named.
-    #[error("a type above it has no unique key")]
     Nameless,
     /// A table has no column for the key of a type above it.
-    #[error("no column for the key of a type above")]
     Missing,
     /// No row has the keys that a record names as those of its parents.
-    #[error("no parent of these keys")]
     Orphan,
+}
+
+impl fmt::Display for RowFault {
+    fn fmt<W: fmt::Write>(&self, f: &mut fmt::Formatter<W>) -> fmt::Result {
+        f.write_str(match self {
+            RowFault::Type => "unknown segment type",
+            RowFault::Parent => "no row of the parent type above, by indentation",
+            RowFault::Part => "unknown field or range",
+            RowFault::Length => "value too long",
+            RowFault::Differs => "bytes given twice with different values",
+            RowFault::Value => "bad quote or escape",
+            RowFault::Equal => "key of a twin before it, and keys are unique",
+            RowFault::Count => "too many rows",
+            RowFault::Cells => "another number of cells than columns",
+            RowFault::Twice => "a second table of the type",
+            RowFault::Nameless => "a type above it has no unique key",
+            RowFault::Missing => "no column for the key of a type above",
+            RowFault::Orphan => "no parent of these keys",
+        })
+    }
 }
 
 /// Why a text is not made a stream. Lines count from 1.
@@ -64,7 +72,7 @@ pub enum TextFault {
 }
 
 /// Why a row is not read.
-#[derive(Clone, Copy, Debug, PartialEq, Eq)]
+#[derive(Clone, Copy)]
 pub enum Wrong {
     Row(RowFault),
     Memory,

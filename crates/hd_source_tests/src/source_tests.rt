@@ -1,4 +1,4 @@
-use hd_dbd::{DbdFault, Rule};
+use hd_dbd::{DbdFault, PsbFault, Rule};
 use hd_gen::{GenFault, read_dbd, read_psb};
 use hd_macro::LineFault;
 use std::alloc::Global;
@@ -268,4 +268,81 @@ fn refuses_a_million_brackets_in_a_value(rt: HostRuntime) {
     text.extend_from_slice(b"               )\n")
         .expect(&rt, "memory");
     assert_eq!(rt; fault_of(rt.alloc(), &text), Some(GenFault::G3(1)));
+}
+
+/// Adds so many FIELDs, each of another name.
+fn add_fields<R: AllocGlobal + Abort>(rt: &R, text: &mut Vec<u8>, count: u32) {
+    for place in 0..count {
+        let number = format!(in rt.alloc(); "{place:05}").expect(rt, "memory");
+        add(
+            rt,
+            text,
+            &[b" FIELD NAME=F", number.as_bytes(), b",BYTES=1,START=1"],
+        );
+    }
+}
+
+#[test]
+fn compares_the_last_of_three_thousand_fields_with_the_first(rt: HostRuntime) {
+    for (name, fault) in [
+        (b"LAST".as_slice(), None),
+        (b"F00000", Some(GenFault::Dbd(DbdFault::B7(1)))),
+    ] {
+        let mut text = begun(&rt, b"SIZE=1024");
+        add(&rt, &mut text, &[b" SEGM NAME=A,BYTES=8"]);
+        add(&rt, &mut text, &[b" FIELD NAME=(KEY,SEQ),BYTES=3,START=1"]);
+        add_fields(&rt, &mut text, 3_000);
+        add(
+            &rt,
+            &mut text,
+            &[b" FIELD NAME=", name, b",BYTES=1,START=1"],
+        );
+        add(&rt, &mut text, &[b" DBDGEN"]);
+        assert_eq!(rt; fault_of(rt.alloc(), &text), fault);
+    }
+}
+
+/// The fault of a PSB source for a chain of the types A, B and C, with one PCB of these SENSEGs and then so many of B.
+fn fault_of_sens<R: AllocGlobal + Abort>(rt: &R, sens: &[&[u8]], more: u32) -> Option<GenFault> {
+    let dbd = read_dbd(rt.alloc(), &chain(rt, 3)).expect(rt, "a database");
+    let mut text = Vec::new(rt.alloc());
+    add(rt, &mut text, &[b" PCB TYPE=DB,DBDNAME=DEEP,PROCOPT=G"]);
+    for operands in sens {
+        add(rt, &mut text, &[b" SENSEG ", operands]);
+    }
+    for _ in 0..more {
+        add(rt, &mut text, &[b" SENSEG NAME=B,PARENT=A"]);
+    }
+    add(rt, &mut text, &[b" PSBGEN"]);
+    read_psb(rt.alloc(), &text, &dbd).err()
+}
+
+/// SENSEGs, and the fault of a PCB that has them.
+const SENSEGS: &[(&[&[u8]], Option<PsbFault>)] = &[
+    (&[b"NAME=A", b"NAME=B,PARENT=A", b"NAME=C,PARENT=B"], None),
+    (&[b"NAME=A", b"NAME=B,PARENT=A"], None),
+    (&[b"NAME=A", b"NAME=D,PARENT=A"], Some(PsbFault::P1(1))),
+    (&[b"NAME=B,PARENT=A", b"NAME=D"], Some(PsbFault::P1(1))),
+    (&[b"NAME=B,PARENT=A"], Some(PsbFault::P2(1))),
+    (&[b"NAME=A", b"NAME=C,PARENT=B"], Some(PsbFault::P2(1))),
+    (&[b"NAME=A", b"NAME=B,PARENT=C"], Some(PsbFault::P2(1))),
+    (&[b"NAME=A", b"NAME=B"], Some(PsbFault::P2(1))),
+    (&[b"NAME=A,PARENT=A"], Some(PsbFault::P2(1))),
+    (&[b"NAME=B,PARENT=A", b"NAME=A"], Some(PsbFault::P3(1))),
+    (&[b"NAME=A", b"NAME=A"], Some(PsbFault::P3(1))),
+];
+
+#[test]
+fn names_the_first_fault_of_sensegs(rt: HostRuntime) {
+    for (sens, fault) in SENSEGS {
+        assert_eq!(rt; fault_of_sens(&rt, sens, 0), fault.map(GenFault::Psb));
+    }
+    assert_eq!(rt;
+        fault_of_sens(&rt, &[b"NAME=C,PARENT=B"], 10_000),
+        Some(GenFault::Psb(PsbFault::P2(1)))
+    );
+    assert_eq!(rt;
+        fault_of_sens(&rt, &[b"NAME=A", b"NAME=C,PARENT=B"], 10_000),
+        Some(GenFault::Psb(PsbFault::P3(1)))
+    );
 }
