@@ -1,10 +1,10 @@
 # `make run` plays the sample deck at once, by a build that is not proved; `make` proves hd and leaves it at bin/hd; `make test`
 # is the gate, with all that the documents and the programs of other languages show, and `make edits OF=NAME` tries more edits
 # of a crate than the gate does. `make examples` plays what the documents and examples show, and compares, and so the words of
-# FORMATS; `make bench` measures hd, and SQLite beside it; `make dli` makes hdrun, which runs programs that call DL/I, and
+# FORMATS; `make files-test` tries that nothing loses a file; `make bench` measures hd, and SQLite beside it; `make dli` makes hdrun, which runs programs that call DL/I, and
 # `make dli-test` tries it; `make install` puts the program and its manual pages below PREFIX, `make install-dli` what programs
 # want, and `make uninstall` takes them away.
-.PHONY: all run test edits examples bench dli dli-test install uninstall install-dli clean
+.PHONY: all run test files-test edits examples bench dli dli-test install uninstall install-dli clean
 
 SHELL = /bin/bash
 
@@ -24,6 +24,10 @@ run:
 
 # how many proofs the gate makes side by side: one a processor, and one for each 4 GB of memory
 LANES = $(shell awk -v cores=$$(nproc) '/MemAvailable/ { fit = int($$2 / 4000000); print (fit < 1) ? 1 : (fit < cores) ? fit : cores }' /proc/meminfo)
+
+# what ends a command, or fails beneath it, loses no file: real files, kills, a small disk, calls of the system that fail
+files-test: bin/hd
+	python3 tests/files_test.py bin
 
 # with COBOL and C on the machine, the gate tries their programs too
 DLI_TEST = $(if $(and $(shell command -v cobc),$(shell command -v $(CC))),dli-test)
