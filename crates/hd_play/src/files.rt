@@ -246,7 +246,10 @@ pub fn file_blocks<L: Ledger>(dbd: &Dbd, file: File, blank: Blank) -> Result<Fil
     ensures size { IfOk result (λ s. s.size ≡ dbd.now.block_size) }
 {
     let opened: io::Result<FileStore<L>> = FileStore::over(file, dbd.block_size() as usize, blank);
-    of_file(Named::Volume, opened)
+    match opened {
+        Ok(blocks) => Ok(blocks),
+        Err(error) => Err(Stop::file(Named::Volume, error)),
+    }
 }
 
 /// A store that is read ahead where its blocks come in order, with a cache of so many before it, from 1 to 65,536.

@@ -1,6 +1,4 @@
-ghost use Rattle.std.specs.Prelude.{◌≡◌, ◌<◌, [], false, length, IfErr, IfOk};
-ghost use Rattle.hd_dbd.specs.Refusals.{OnlyDevice};
-ghost use Rattle.hd_volume.specs.Stores.{CountsDevice, RefusesGrowth, StaysSound};
+ghost use Rattle.std.specs.Prelude.{◌≡◌, ◌<◌, ◌^◌, [], false, IfOk};
 
 use crate::files::{Identity, OpenVolume, another, file_blocks, sync};
 use crate::stop::{Named, Stop, of_file};

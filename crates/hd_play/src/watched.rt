@@ -21,25 +21,32 @@ impl<W: Write> Watched<W> {
         self.last_error
     }
 
-    /// Keeps what the system said, if it refused.
-    fn note<T>(&mut self, done: io::Result<T>) -> io::Result<T> {
-        if let Err(error) = &done {
-            if error.kind() != ErrorKind::Interrupted {
-                self.last_error = Some(*error);
-            }
+    /// Keeps what the system said. A write that is interrupted is made again.
+    fn keep(&mut self, error: io::Error) {
+        if error.kind() != ErrorKind::Interrupted {
+            self.last_error = Some(error);
         }
-        done
     }
 }
 
 impl<W: Write> Write for Watched<W> {
     fn write(&mut self, buf: &[u8]) -> io::Result<usize> {
-        let done = self.inner.write(buf);
-        self.note(done)
+        match self.inner.write(buf) {
+            Ok(count) => Ok(count),
+            Err(error) => {
+                self.keep(error);
+                Err(error)
+            }
+        }
     }
 
     fn flush(&mut self) -> io::Result<()> {
-        let done = self.inner.flush();
-        self.note(done)
+        match self.inner.flush() {
+            Ok(()) => Ok(()),
+            Err(error) => {
+                self.keep(error);
+                Err(error)
+            }
+        }
     }
 }
