@@ -1,41 +1,46 @@
-# `make` proves hd and leaves it at bin/hd; `make run` plays the sample deck; `make try` plays it unproved, in under a
-# minute; `make test` is the gate, and `make edits` tries more edits than that; `make examples` plays what the documents and
-# examples show, and compares, and so the words of FORMATS; `make bench` measures hd, and SQLite beside it; `make dli` makes
-# hdrun, which runs programs that call DL/I, and `make dli-test` tries it; `make install` puts the program and its manual
-# pages below PREFIX, `make install-dli` what programs want, and `make uninstall` takes them away.
-.PHONY: all run try test edits examples bench dli dli-test install uninstall install-dli clean
+# `make run` plays the sample deck at once, by a build that is not proved; `make` proves hd and leaves it at bin/hd; `make test`
+# is the gate, with all that the documents and the programs of other languages show, and `make edits OF=NAME` tries more edits
+# of a crate than the gate does. `make examples` plays what the documents and examples show, and compares, and so the words of
+# FORMATS; `make bench` measures hd, and SQLite beside it; `make dli` makes hdrun, which runs programs that call DL/I, and
+# `make dli-test` tries it; `make install` puts the program and its manual pages below PREFIX, `make install-dli` what programs
+# want, and `make uninstall` takes them away.
+.PHONY: all run test edits examples bench dli dli-test install uninstall install-dli clean
+
+SHELL = /bin/bash
 
 all: bin/hd
 
-CRATES = $(shell sed -n 's/^\([a-z_0-9]*\):.*/\1/p' crates.txt)
+# the crates of the program; the others are of tests
+CRATES = $(filter-out %_tests hd_sample,$(shell sed -n 's/^\([a-z_0-9]*\):.*/\1/p' crates.txt))
 SOURCES = $(foreach crate,$(CRATES),$(shell find crates/$(crate) -type f -not -path '*/out/*'))
 
-# every crate is proved, as many side by side as there are processors, before the program is linked
 bin/hd: crates.txt $(SOURCES)
-	rt all check --jobs $$(nproc) >/dev/null
-	cd crates/hd && rt run >/dev/null </dev/null
 	mkdir -p bin
-	cp crates/hd/out/hd bin/hd
-	@bin/hd --version 2>&1 | grep -qF "$$(rt version)" || echo 'hd --version names another toolchain than rt version' >&2
+	python3 make/prove.py bin/hd
 
-run: bin/hd
-	bin/hd <crates/hd/stdin
-
-try:
-	@echo 'This is the unproved build: it is run before any proof.' >&2
+run:
+	@echo 'This build is not proved: it is run before any proof. `make` proves hd, and says how long that takes.' >&2
 	cd crates/hd && rt try <stdin
 
-test:
-	rt ci
+# how many proofs the gate makes side by side: one a processor, and one for each 4 GB of memory
+LANES = $(shell awk -v cores=$$(nproc) '/MemAvailable/ { fit = int($$2 / 4000000); print (fit < 1) ? 1 : (fit < cores) ? fit : cores }' /proc/meminfo)
 
-# the gate tries the edits of must-fail; here those of more-edits join them, in a copy. OF=hd_lines tries those of one crate
-# alone
+# with COBOL and C on the machine, the gate tries their programs too
+DLI_TEST = $(if $(and $(shell command -v cobc),$(shell command -v $(CC))),dli-test)
+
+# the program that the gate has proved plays the documents and the programs of other languages, before rt's last line ends all
+test:
+	mkdir -p bin
+	TIMEFORMAT='%R s, and %U s of processors' && set -o pipefail && time RT_JOBS=$(LANES) rt ci | tee bin/gate.log
+	python3 make/stamp.py crates/hd/out/hd bin/hd
+	$(MAKE) --no-print-directory -o bin/hd examples $(DLI_TEST)
+	@$(if $(DLI_TEST),,echo 'No program in COBOL or C was tried: this machine has no cobc, or no C compiler.' >&2)
+	@tail -n 1 bin/gate.log
+
+# the edits of must-fail and those of more-edits of the crate OF, or of all crates, in a copy
 edits:
-	rm -rf bin/edits
-	mkdir -p bin/edits
-	git ls-files -z | xargs -0 cp --parents -t bin/edits
-	for more in bin/edits/crates/*/more-edits; do mkdir -p $$more/../must-fail && mv $$more/*.edit $$more/../must-fail; done
-	cd bin/edits && rt must-fail $(OF)
+	copy=$$(mktemp -d) && trap "rm -rf $$copy" EXIT && git ls-files -z | xargs -0 cp --parents -t $$copy && cd $$copy && \
+	for more in crates/*/more-edits; do mkdir -p $$more/../must-fail && mv $$more/*.edit $$more/../must-fail; done && rt must-fail $(OF)
 
 examples: bin/hd
 	python3 examples/words.py

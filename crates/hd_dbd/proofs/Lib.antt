@@ -1,4 +1,6 @@
 pub mod Names
+pub mod Distinct
+pub mod SeenParents
 pub mod LevelLaw
 pub mod Levels
 pub mod Tables

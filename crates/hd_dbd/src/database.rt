@@ -18,6 +18,7 @@ use crate::lengths::{length_fits, own_length};
 use crate::naming::Name8;
 use crate::rules::{block_size_fits, free_space_fits, types_fault};
 use std::alloc::{AllocError, Global};
+use std::fmt;
 use std::marker::Model;
 use thiserror::Error;
 
@@ -26,39 +27,47 @@ use thiserror::Error;
 #[derive(Clone, Copy, Debug, Drop, PartialEq, Eq, Error)]
 pub enum DbdFault {
     /// No segment type.
-    #[error("type 0, B1")]
     B1,
     /// More than 255 segment types.
-    #[error("type 0, B2")]
     B2,
     /// More than 15 levels.
-    #[error("type {0}, B3")]
     B3(u8),
     /// A parent that is no earlier type; a root with a parent.
-    #[error("type {0}, B4")]
     B4(u8),
     /// A segment, field or key without a byte; a least length of fewer than the two bytes that say how many there are, or of
     /// more than the segment has; or a field or key outside the shortest segment.
-    #[error("type {0}, B5")]
     B5(u8),
     /// A root without a unique key.
-    #[error("type {0}, B6")]
     B6(u8),
     /// A name that an earlier type has, or that two fields of the type have.
-    #[error("type {0}, B7")]
     B7(u8),
     /// A segment, or three entries of the index, that do not fit into a block.
-    #[error("type {0}, B8")]
     B8(u8),
     /// A key of more than 255 bytes.
-    #[error("type {0}, B9")]
     B9(u8),
     /// A block size that is no multiple of 8 from 128 to 32,768, or FRSPC out of range.
-    #[error("type 0, B10")]
     B10,
     /// No memory.
-    #[error("no memory")]
     Memory,
+}
+
+impl fmt::Display for DbdFault {
+    fn fmt<W: fmt::Write>(&self, f: &mut fmt::Formatter<W>) -> fmt::Result {
+        let (code, rule) = match *self {
+            DbdFault::B1 => (0, 1),
+            DbdFault::B2 => (0, 2),
+            DbdFault::B3(code) => (code, 3),
+            DbdFault::B4(code) => (code, 4),
+            DbdFault::B5(code) => (code, 5),
+            DbdFault::B6(code) => (code, 6),
+            DbdFault::B7(code) => (code, 7),
+            DbdFault::B8(code) => (code, 8),
+            DbdFault::B9(code) => (code, 9),
+            DbdFault::B10 => (0, 10),
+            DbdFault::Memory => return f.write_str("no memory"),
+        };
+        write!(f, "type {code}, B{rule}")
+    }
 }
 
 impl From<AllocError> for DbdFault {
@@ -75,7 +84,7 @@ impl From<AllocError> for DbdFault {
 /// A well-formed database description: its name, its block size and FRSPC, and its segment types.
 ///
 /// It also keeps what layers ask of a type again and again, so that nothing is worked out at an access.
-#[derive(Debug, Drop)]
+#[derive(Drop)]
 pub struct Dbd {
     name: Name8,
     block_size: u32,
@@ -131,7 +140,7 @@ impl Dbd {
             return Err(DbdFault::B2);
         }
         let levels = levels_of(alloc, &types)?;
-        if let Some(fault) = types_fault(block_size, &types, &levels) {
+        if let Some(fault) = types_fault(alloc, block_size, &types, &levels)? {
             return Err(fault);
         }
         let facts = facts_of(alloc, &types, &levels)?;

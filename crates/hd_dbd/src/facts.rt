@@ -9,7 +9,7 @@ use std::alloc::{AllocError, Global};
 
 /// What layers ask of a type again and again: its level, the length of its prefix, where its pointers stand in its
 /// parent's prefix, and the bytes that it takes in a block.
-#[derive(Clone, Copy, Debug)]
+#[derive(Clone, Copy)]
 pub struct TypeFacts {
     pub level: u8,
     pub prefix: u16,
@@ -18,7 +18,7 @@ pub struct TypeFacts {
 }
 
 /// The bytes that the segments of a type take in a block, prefix and padding included.
-#[derive(Clone, Copy, Debug, PartialEq, Eq)]
+#[derive(Clone, Copy, PartialEq, Eq)]
 pub enum SegmentSize {
     /// So many each; 0 where there is no type.
     Fixed(u16),

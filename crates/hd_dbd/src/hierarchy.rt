@@ -11,14 +11,14 @@ pub enum Rule {
 }
 
 /// FRSPC: each `fbff`th block is left free for growth (0 for none), and `fspf` percent of every other block.
-#[derive(Clone, Copy, Debug, PartialEq, Eq)]
+#[derive(Clone, Copy, PartialEq, Eq)]
 pub struct FreeSpace {
     pub fbff: u32,
     pub fspf: u32,
 }
 
 /// The sequence field of a type: its first byte, counted from 1, and its length in bytes.
-#[derive(Clone, Copy, Debug, PartialEq, Eq)]
+#[derive(Clone, Copy, PartialEq, Eq)]
 pub struct Key {
     pub start: u32,
     pub length: u32,
@@ -26,7 +26,7 @@ pub struct Key {
 }
 
 /// A field that a qualification may name: its first byte, counted from 1, and its length in bytes.
-#[derive(Clone, Copy, Debug, PartialEq, Eq)]
+#[derive(Clone, Copy, PartialEq, Eq)]
 pub struct Field {
     pub name: Name8,
     pub start: u32,
@@ -37,7 +37,7 @@ pub struct Field {
 /// parent type. `length` is that of its segments in bytes. Where there is a `least` they vary: each has from `least` to
 /// `length` bytes, and its first two say how many, themselves counted. `backward` and `last_pointer` say which pointers
 /// are kept: twin backward in each segment, and last child in each parent.
-#[derive(Debug, Drop)]
+#[derive(Drop)]
 pub struct SegType {
     pub name: Name8,
     pub parent: Option<u8>,

@@ -8,11 +8,12 @@ use crate::naming::Name8;
 use crate::procopt::gives_get;
 use crate::program_rules::program_fault;
 use std::alloc::{AllocError, Global};
+use std::fmt;
 use std::marker::Model;
 use thiserror::Error;
 
 /// SENSEG: a segment type that a PCB sees, its parent's name, and its own PROCOPT, if it has one.
-#[derive(Debug, Drop)]
+#[derive(Drop)]
 pub struct Sens {
     pub name: Name8,
     pub parent: Option<Name8>,
@@ -29,7 +30,7 @@ impl Model for Sens {
 }
 
 /// PCB: one view of a database, with the PROCOPT of the types that have none of their own.
-#[derive(Debug, Drop)]
+#[derive(Drop)]
 pub struct Pcb {
     pub procopt: String,
     pub sens: Vec<Sens>,
@@ -45,7 +46,7 @@ impl Model for Pcb {
 }
 
 /// The name of a segment type, and the code of its parent.
-#[derive(Clone, Copy, Debug, PartialEq, Eq)]
+#[derive(Clone, Copy, PartialEq, Eq)]
 pub struct TypeName {
     pub name: Name8,
     pub parent: Option<u8>,
@@ -56,32 +57,40 @@ pub struct TypeName {
 #[derive(Clone, Copy, Debug, Drop, PartialEq, Eq, Error)]
 pub enum PsbFault {
     /// A SENSEG that names no segment of the DBD.
-    #[error("pcb {0}, P1")]
     P1(u8),
     /// A SENSEG whose parent is not the DBD's, or is not seen.
-    #[error("pcb {0}, P2")]
     P2(u8),
     /// SENSEGs that are not in the order of the DBD, or of which one stands twice.
-    #[error("pcb {0}, P3")]
     P3(u8),
     /// A PROCOPT without a letter, with another letter, with P alone, with L and a letter but S, or with L on only one
     /// of PCB and SENSEG.
-    #[error("pcb {0}, P4")]
     P4(u8),
     /// A PCB that loads beside others.
-    #[error("pcb {0}, P5")]
     P5(u8),
     /// A PCB without SENSEG; 0 where there is no PCB, or more than 255.
-    #[error("pcb {0}, P6")]
     P6(u8),
     /// No memory.
-    #[error("no memory")]
     Memory,
+}
+
+impl fmt::Display for PsbFault {
+    fn fmt<W: fmt::Write>(&self, f: &mut fmt::Formatter<W>) -> fmt::Result {
+        let (number, rule) = match *self {
+            PsbFault::P1(number) => (number, 1),
+            PsbFault::P2(number) => (number, 2),
+            PsbFault::P3(number) => (number, 3),
+            PsbFault::P4(number) => (number, 4),
+            PsbFault::P5(number) => (number, 5),
+            PsbFault::P6(number) => (number, 6),
+            PsbFault::Memory => return f.write_str("no memory"),
+        };
+        write!(f, "pcb {number}, P{rule}")
+    }
 }
 
 /// A well-formed program specification block: its PCBs, and the names and parents of the types that they were made
 /// for.
-#[derive(Debug, Drop)]
+#[derive(Drop)]
 pub struct Psb {
     made_for: Vec<TypeName>,
     pcbs: Vec<Pcb>,

@@ -1,4 +1,4 @@
-ghost use Rattle.std.specs.Prelude.{◌≡◌, ◌<◌, ◌-◌, ◌&&◌, true, length, IsTrue, IfSome, IsNone, bytes_eq, option_copied, option_map, slice_get, find, position};
+ghost use Rattle.std.specs.Prelude.{◌≡◌, ◌<◌, ◌-◌, ◌||◌, not, true, length, IsTrue, IfSome, IsNone, bytes_eq, option_copied, option_map, slice_get, find, position};
 ghost use Rattle.std.specs.Option.{option_map_or, option_eq};
 ghost use Rattle.std.specs.List.{list_all};
 ghost use Rattle.hd_dbd.specs.ProgramRules.{code_named, parent_named, sees, seen_names_fit, parents_fit, order_fits, own_procopt_fits, procopts_fit, load_fits, program_fits};
@@ -61,25 +61,44 @@ fn seen_names_fit(names: &[TypeName], pcb: &Pcb) -> bool
         .all(|s| code_named(names, &s.name).is_some())
 }
 
-/// Whether a SENSEG has the parent of its type, and the PCB sees it.
-fn parent_fits(names: &[TypeName], pcb: &Pcb, sens: &Sens) -> bool
-    ensures { result ≡ (option_eq bytes_eq sens.now.parent (parent_named names.now sens.now.name)
-        && option_map_or (λ q. sees pcb.now q) sens.now.parent true) }
+/// Whether a SENSEG has the parent of its type.
+fn has_own_parent(names: &[TypeName], sens: &Sens) -> bool
+    ensures { result ≡ option_eq bytes_eq sens.now.parent (parent_named names.now sens.now.name) }
 {
-    if sens.parent != parent_named(names, &sens.name) {
-        return false;
-    }
-    match &sens.parent {
-        Some(parent) => sees(pcb, parent),
+    sens.parent == parent_named(names, &sens.name)
+}
+
+/// Whether each SENSEG has the parent of its type.
+fn have_own_parents(names: &[TypeName], pcb: &Pcb) -> bool
+    ensures { result ≡ list_all (λ s. option_eq bytes_eq s.parent (parent_named names.now s.name)) pcb.now.sens }
+{
+    pcb.sens.iter().all(|s| has_own_parent(names, s))
+}
+
+/// Whether the PCB sees the parent of a type, if it sees the type.
+fn sees_parent(names: &[TypeName], pcb: &Pcb, name: &Name8) -> bool
+    ensures { result ≡ option_map_or (λ q. not (sees pcb.now name.now) || sees pcb.now q) (parent_named names.now name.now) true }
+{
+    match parent_named(names, name) {
+        Some(parent) => !sees(pcb, name) || sees(pcb, &parent),
         None => true,
     }
 }
 
+/// Whether the PCB sees the parent of each type that it sees. The types are gone through, of which there are few, and not the
+/// SENSEGs.
+fn sees_parents(names: &[TypeName], pcb: &Pcb) -> bool
+    ensures { result ≡ list_all (λ t. option_map_or (λ q. not (sees pcb.now t.name) || sees pcb.now q) (parent_named names.now t.name) true) names.now }
+{
+    names.iter().all(|t| sees_parent(names, pcb, &t.name))
+}
+
 /// Whether each SENSEG has the parent of its type, and the PCB sees it.
 fn parents_fit(names: &[TypeName], pcb: &Pcb) -> bool
+    requires { IsTrue (seen_names_fit names.now pcb.now) }
     ensures { result ≡ parents_fit names.now pcb.now }
 {
-    pcb.sens.iter().all(|s| parent_fits(names, pcb, s))
+    have_own_parents(names, pcb) && sees_parents(names, pcb)
 }
 
 /// Whether the SENSEGs stand in the order of the database's types, and none twice.

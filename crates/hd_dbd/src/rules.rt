@@ -1,4 +1,4 @@
-ghost use Rattle.std.specs.Prelude.{◌≡◌, ◌+◌, ◌*◌, ◌≤◌, ◌<◌, ◌||◌, IsNone, IsTrue, bytes_eq, length, nat_le, not};
+ghost use Rattle.std.specs.Prelude.{◌≡◌, ◌+◌, ◌*◌, ◌≤◌, ◌<◌, ◌||◌, IfOk, IsNone, IsTrue, bytes_eq, length, map, nat_le, not};
 ghost use Rattle.std.specs.List.{list_any};
 ghost use Rattle.hd_dbd.specs.Hierarchy.{levels_of};
 ghost use Rattle.hd_dbd.specs.DatabaseRules.{block_size_fits, free_space_fits, parent_fits, part_fits, fields_fit, least_fits, parts_fit, root_key_fits, field_names_differ, names_fit, sizes_fit, key_length_fits, types_fit_from};
@@ -10,6 +10,7 @@ use crate::facts::{level_at, stored_size};
 use crate::hierarchy::{Field, FreeSpace, SegType};
 use crate::lengths::least_length;
 use crate::naming::Name8;
+use std::alloc::{AllocError, Global};
 
 pub fn block_size_fits(block_size: u32) -> bool
     ensures { result ≡ block_size_fits block_size }
@@ -90,21 +91,25 @@ fn root_key_fits(code: u8, segment: &SegType) -> bool
     code != 1 || segment.key.is_some_and(|key| key.unique)
 }
 
-fn has_field(fields: &[Field], name: &Name8) -> bool
-    ensures { result ≡ list_any (λ f. bytes_eq f.name name.now) fields.now }
+/// The names of fields, in their order.
+fn field_names(alloc: Global, fields: &[Field]) -> Result<Vec<[u8; 8]>, AllocError>
+    ensures { IfOk result (λ names. names.items ≡ map (λ f. f.name) fields.now) }
 {
-    fields.iter().any(|field| field.name == *name)
+    let mut names = Vec::with_capacity(alloc, fields.len())?;
+    for field in fields {
+        names.push(*field.name.bytes())?;
+    }
+    Ok(names)
 }
 
-fn field_names_differ(fields: &[Field]) -> bool
-    ensures { result ≡ field_names_differ fields.now }
+/// Whether no two fields have one name: in order of the bytes, equal names stand side by side.
+fn field_names_differ(alloc: Global, fields: &[Field]) -> Result<bool, AllocError>
+    ensures { IfOk result (λ differ. differ ≡ field_names_differ fields.now) }
 {
-    for (place, field) in fields.iter().enumerate() {
-        if has_field(&fields[place + 1..], &field.name) {
-            return false;
-        }
-    }
-    true
+    let mut names = field_names(alloc, fields)?;
+    names.sort_unstable();
+    names.dedup();
+    Ok(names.len() == fields.len())
 }
 
 fn has_type(types: &[SegType], name: &Name8) -> bool
@@ -114,11 +119,19 @@ fn has_type(types: &[SegType], name: &Name8) -> bool
 }
 
 /// Whether no earlier type has the type's name, and no two of its fields have one name.
-fn names_fit(types: &[SegType], code: u8, segment: &SegType) -> bool
+fn names_fit(
+    alloc: Global,
+    types: &[SegType],
+    code: u8,
+    segment: &SegType,
+) -> Result<bool, AllocError>
     requires { (0 < code) × (code ≤ length types.now) }
-    ensures { result ≡ names_fit types.now code segment.now }
+    ensures { IfOk result (λ fit. fit ≡ names_fit types.now code segment.now) }
 {
-    !has_type(&types[..code as usize - 1], &segment.name) && field_names_differ(&segment.fields)
+    if has_type(&types[..code as usize - 1], &segment.name) {
+        return Ok(false);
+    }
+    field_names_differ(alloc, &segment.fields)
 }
 
 /// Whether three entries of the index, with a key each, fit into a block.
@@ -148,53 +161,59 @@ fn key_length_fits(segment: &SegType) -> bool
 
 /// The first of the rules B3 to B9 that the type of a code breaks.
 fn type_fault(
+    alloc: Global,
     block_size: u32,
     types: &[SegType],
     levels: &[u8],
     code: u8,
     segment: &SegType,
-) -> Option<DbdFault>
+) -> Result<Option<DbdFault>, AllocError>
     requires count { length types.now ≤ 255 }
     requires levels { levels.now ≡ levels_of types.now }
     requires here { (0 < code) × (code ≤ length types.now) }
-    ensures { result ≡ type_fault block_size types.now code segment.now }
+    ensures { IfOk result (λ fault. fault ≡ type_fault block_size types.now code segment.now) }
 {
     if !level_fits(level_at(levels, code), code, segment) {
-        return Some(DbdFault::B3(code));
+        return Ok(Some(DbdFault::B3(code)));
     }
     if !parent_fits(code, segment) {
-        return Some(DbdFault::B4(code));
+        return Ok(Some(DbdFault::B4(code)));
     }
     if !parts_fit(segment) {
-        return Some(DbdFault::B5(code));
+        return Ok(Some(DbdFault::B5(code)));
     }
     if !root_key_fits(code, segment) {
-        return Some(DbdFault::B6(code));
+        return Ok(Some(DbdFault::B6(code)));
     }
-    if !names_fit(types, code, segment) {
-        return Some(DbdFault::B7(code));
+    if !names_fit(alloc, types, code, segment)? {
+        return Ok(Some(DbdFault::B7(code)));
     }
     if !sizes_fit(block_size, types, code, segment) {
-        return Some(DbdFault::B8(code));
+        return Ok(Some(DbdFault::B8(code)));
     }
     if !key_length_fits(segment) {
-        return Some(DbdFault::B9(code));
+        return Ok(Some(DbdFault::B9(code)));
     }
-    None
+    Ok(None)
 }
 
 /// The first of the rules B3 to B9 that the first type breaks that breaks one.
-pub fn types_fault(block_size: u32, types: &[SegType], levels: &[u8]) -> Option<DbdFault>
+pub fn types_fault(
+    alloc: Global,
+    block_size: u32,
+    types: &[SegType],
+    levels: &[u8],
+) -> Result<Option<DbdFault>, AllocError>
     requires count { length types.now ≤ 255 }
     requires levels { levels.now ≡ levels_of types.now }
-    ensures fault { result ≡ types_fault_from block_size types.now 1 types.now }
-    ensures none { IsNone result → IsTrue (types_fit_from block_size types.now 1 types.now) }
+    ensures fault { IfOk result (λ fault. fault ≡ types_fault_from block_size types.now 1 types.now) }
+    ensures none { IfOk result (λ fault. IsNone fault → IsTrue (types_fit_from block_size types.now 1 types.now)) }
 {
     for (place, segment) in types.iter().enumerate() {
-        let fault = type_fault(block_size, types, levels, place as u8 + 1, segment);
+        let fault = type_fault(alloc, block_size, types, levels, place as u8 + 1, segment)?;
         if fault.is_some() {
-            return fault;
+            return Ok(fault);
         }
     }
-    None
+    Ok(None)
 }

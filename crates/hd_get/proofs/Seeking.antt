@@ -19,6 +19,7 @@ use Rattle.hd_links.specs.Placed.{Placed, Holds}
 use Rattle.hd_links.specs.Steps.{rows_of, address_at, path_at}
 use Rattle.hd_image.specs.Records.{links_of}
 use Rattle.hd_image.proofs.OneImage.{held-same}
+use Rattle.hd_index.proofs.ChangeLemmas.{later-image}
 use Rattle.hd_forest.specs.Rows.{IsOnRow}
 use Rattle.hd_forest.proofs.Reading.{after-read, sound-before}
 use Rattle.hd_calls.specs.declared.call.GetKind.{GetKind}
@@ -53,14 +54,24 @@ use Rattle.hd_get.proofs.TakenLevels.{rows_taken, levels_ascend, satisfying_code
 pub position_told : {A : Type 0} {x : A} (d : Database) (u v : VolumeState) → IsRead {T = A} u (Ok x) v → (f : Forest Placed) (k : Kept) (q : Position) → IsPositionIn d u f k q → IsPositionIn d v f k q
 position_told d u v read f k q at =
     let same = after-read d u v read at.sound in
-    record { sound = same.sound; holds = held-same d u v same.image read.call.size read.call.sizes f at.holds; stands = at.stands }
+    record {
+      sound = same.sound;
+      later = later-image u v same.image at.later;
+      holds = held-same d u v same.image read.call.size read.call.sizes f at.holds;
+      stands = at.stands;
+    }
 
 -- and before it
 pub position_back : {A : Type 0} {x : A} (d : Database) (u v : VolumeState) → IsRead {T = A} u (Ok x) v → (f : Forest Placed) (k : Kept) (q : Position) → IsPositionIn d v f k q → IsPositionIn d u f k q
 position_back d u v read f k q at =
     let sound = sound-before u v read at.sound in
     let same = after-read d u v read sound in
-    record { sound = sound; holds = held-same d v u (sym same.image) (sym read.call.size) (sym read.call.sizes) f at.holds; stands = at.stands }
+    record {
+      sound = sound;
+      later = later-image v u (sym same.image) at.later;
+      holds = held-same d v u (sym same.image) (sym read.call.size) (sym read.call.sizes) f at.holds;
+      stands = at.stands;
+    }
 
 pub position_kept : {A : Type 0} {x : A} (d : Database) (u v : VolumeState) → IsRead {T = A} u (Ok x) v → (k : Kept) → HasPosition d u k → HasPosition d v k
 position_kept d u v read k has now = (let T = has (sound-before u v read now) in (T.0, T.1, position_told d u v read T.0 k T.1 T.2))

@@ -14,6 +14,7 @@ use Rattle.hd_volume.specs.Volumes.{VolumeState}
 use Rattle.hd_links.specs.Placed.{Placed}
 use Rattle.hd_links.specs.Steps.{rows_of}
 use Rattle.hd_image.specs.Holding.{HoldsPlaced}
+use Rattle.hd_index.specs.Changes.{IsLater}
 use Rattle.hd_position.specs.Kept.{Kept, StandsFor}
 use Rattle.hd_get.specs.declared.outcome.Outcome.{Outcome}
 use Rattle.hd_get.specs.declared.outcome.Outcome.TheVariants.{Found, Missing}
@@ -36,13 +37,14 @@ IsOutcomeOf (Missing status) reply = (reply.status ≡ status) × (is_done statu
 abbrev pub answer_to : GetCall → List SegmentType → List Segment → Position → Reply × Position
 answer_to c types rows q = get_step (record { types = types; pcb = c.pcb }) rows q c.kind c.hold c.ssas
 
--- The sound volume holds the forest, and what is kept of a PCB stands for the position in it.
+-- The sound volume, of version 2 or later, holds the forest, and what is kept of a PCB stands for the position in it.
 pub record IsPositionIn (d : Database) (v : VolumeState) (f : Forest Placed) (k : Kept) (q : Position) : Type 0 where
   pub sound : IsTrue v.is_sound
+  pub later : IsLater v
   pub holds : HoldsPlaced d v f
   pub stands : StandsFor d.types f k q
 
--- where the store is sound, the volume holds a forest in which what is kept of a PCB stands for a position
+-- where the store is sound, the volume, of version 2 or later, holds a forest in which what is kept of a PCB stands for a position
 abbrev pub HasPosition : Database → VolumeState → Kept → Type 0
 HasPosition d v k = IsTrue v.is_sound → (f : Forest Placed) × (q : Position) × IsPositionIn d v f k q
 

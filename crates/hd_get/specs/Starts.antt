@@ -12,6 +12,7 @@ use Rattle.hd_links.specs.Placed.{Placed, Holds}
 use Rattle.hd_links.specs.Steps.{rows_of}
 use Rattle.hd_image.specs.Records.{links_of}
 use Rattle.hd_image.specs.Holding.{HoldsPlaced}
+use Rattle.hd_index.specs.Changes.{IsLater}
 use Rattle.hd_keeping.specs.Roots.{is_root, key_at, is_root_from, first_row}
 use Rattle.hd_position.specs.Kept.{Kept}
 use Rattle.hd_position.specs.Gets.{IsAt}
@@ -68,9 +69,9 @@ root_from types rows key = unwrap_or (first_row rows (is_root_from types rows ke
 abbrev pub unique_start : List SegmentType → List Segment → List Ssa → ℕ
 unique_start types rows ssas = option_map_or (λ key. root_from types rows key) (least_root_key types ssas) 0
 
--- the sound volume holds a forest, and its index the forest's roots
+-- the sound volume holds a forest, and its index, which is an index set, the forest's roots
 abbrev pub HasRoots : Database → VolumeState → Type 0
-HasRoots d v = IsTrue v.is_sound → (f : Forest Placed) × HoldsPlaced d v f
+HasRoots d v = IsTrue v.is_sound → (f : Forest Placed) × HoldsPlaced d v f × IsLater v
 
 -- in each forest that the sound volume holds, the path leads to the first root from a key on
 abbrev pub LeadsToRoot : Database → VolumeState → List ℕ → List ℕ → Type 0

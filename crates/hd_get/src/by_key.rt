@@ -26,6 +26,7 @@ fn least_root_key<'a>(dbd: &Dbd, ssas: &[ResolvedSsa<'a>]) -> Option<&'a [u8]>
 
 /// The path of the first root whose key is not below a key; empty where there is none.
 fn root_from<S: BlockStore>(volume: &mut Volume<S>, dbd: &Dbd, key: &[u8]) -> Result<Path, Refused>
+    requires holds { HasRoots dbd.now volume.old }
     ensures read { IsRead volume.old result volume.new }
     ensures value { IfOk result (λ path. LeadsToRoot dbd.now volume.old key.now path) }
     ensures refusal { OnlyDevice result }

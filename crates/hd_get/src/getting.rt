@@ -121,7 +121,7 @@ fn missing(call: &Get<'_>, position: &mut Position) -> Outcome
 /// rows of each root lie in four blocks at most, and the roots in order.
 ///
 /// With arguments the rows that a get reads, each an access where it leads to another block:
-/// - GU by the root's key: a block of each level of the index (in version 1, its chain up to the key's), and the root found there. Below,
+/// - GU by the root's key: a block of each level of the index, and the root found there. Below,
 ///   the twins of each type on the way up to the one that is wanted, or to the first whose key is past what is asked.
 /// - Of a row that does not meet its argument that row alone, and nothing of its span; of a type off the way to the last argument's nothing.
 /// - With L and no qualification the last twin alone where the parent keeps its last child, else all twins; with a qualification all twins.

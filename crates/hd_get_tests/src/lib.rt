@@ -17,5 +17,3 @@ mod random_tests;
 mod sample_with_fields;
 #[cfg(test)]
 mod test_volumes;
-#[cfg(test)]
-mod worked_tests;

@@ -1,3 +1,12 @@
 pub mod Maps
-pub mod Changes
 pub mod Places
+pub mod Blocks
+pub mod Changes
+pub mod Rooms
+pub mod Divisions
+pub mod Searches
+pub mod Stands
+pub mod Greatest
+pub mod Removals
+pub mod Comings
+pub mod Behind

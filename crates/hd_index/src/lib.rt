@@ -1,18 +1,26 @@
-//! The root index of a volume: an ordered map from the roots' keys to their addresses. In version 1 it is one chain of blocks, and
-//! from version 2 on an index set stands above the sequence set.
+//! The root index of a volume of version 2 or later: an ordered map from the roots' keys to their addresses, in an index set above its
+//! sequence set.
 #![tactic(auto)]
 
-mod change;
-#[cfg(test)]
-mod counts_tests;
-#[cfg(test)]
-mod order_tests;
+mod address;
+mod behind;
+mod descend;
+mod dividing;
+mod enter;
+mod first;
+mod greatest;
+mod insertion;
+mod leave;
+mod look;
+mod need;
+mod room;
 mod search;
+mod stand;
+mod unlink;
+mod way;
 
-pub use change::{blocks_needed, growth, insert, is_highest, remove, set};
+pub use address::set;
+pub use insertion::insert;
+pub use leave::remove;
+pub use need::{blocks_needed, growth, is_highest};
 pub use search::{find, next_from};
-
-#[cfg(test)]
-mod test_volumes;
-#[cfg(test)]
-mod tests;

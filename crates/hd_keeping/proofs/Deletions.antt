@@ -42,6 +42,7 @@ spans-deleted d v w f path i H some within at I =
     record {
       holds = K;
       rows = L.0;
+      version = ap (λ (z : Header). z.version) I.rest.header;
       follows =
           follow d v w f g (deleted i (end_of d.types (rows_of f) i)) H K (ap (λ (z : Header). z.largest) I.rest.header)
           (let same : spare w ≡ spare v = I.spares in omega arith) L.1;
@@ -57,6 +58,7 @@ roots-deleted d v w x f path i H top within at I E room =
     record {
       holds = K;
       rows = L.0;
+      version = ap (λ (z : Header). z.version) E.change.header ∙ ap (λ (z : Header). z.version) I.rest.header;
       follows =
           follow d v x f g (deleted i e) H K (ap (λ (z : Header). z.largest) E.change.header ∙ ap (λ (z : Header). z.largest) I.rest.header)
           (let same : spare w ≡ spare v = I.spares in omega arith) L.1;

@@ -1,23 +1,19 @@
 -- The entries of roots where the roots stay, and lists of entries with one more.
-use Rattle.std.proofs.Common.{◌≡◌, ◌≢◌, ℕ, ◌≤◌, List, [], ◌∷◌, ◌++◌, length, true, ◌==◌, None, refl, sym, ap, ◌∙◌, arith, inl, inr, ne_eqb}
-use Rattle.std.specs.Prelude.{bytes_eq}
+use Rattle.std.proofs.Common.{◌≡◌, ◌≢◌, ℕ, List, [], ◌∷◌, ◌++◌, true, ◌==◌, None, refl, sym, ap, ◌∙◌, inl, inr, ne_eqb}
 use Rattle.std.proofs.lemmas.Bool.{and_parts, cases_eq, eq-eqb, cond-true, cond-false}
-use Rattle.std.proofs.lemmas.Slice.Eq.{bytes_eq-Decides}
 use Rattle.hd_dbd.specs.Types.{SegmentType}
 use Rattle.hd_dbd.specs.Rows.{key_of}
 use Rattle.hd_dbd.specs.Forest.{Forest, empty, node}
 use Rattle.hd_volume.specs.Entries.{Entry}
-use Rattle.hd_volume.specs.Indexes.{key_less, is_below_first, keys_ascend}
+use Rattle.hd_volume.specs.Indexes.{keys_ascend}
+use Rattle.hd_levels.proofs.Keys.{ascend-parts, ascend-below, ascend-above, address-behind, address-above, with-between, without-between}
 use Rattle.hd_links.specs.Links.{Links}
 use Rattle.hd_links.specs.Placed.{Placed, with_node, NodesLie}
 use Rattle.hd_links.specs.Changes.{change_below, with_children, rewritten, with_bytes, CanReplace}
 use Rattle.hd_links.proofs.Forms.{segment_is}
 use Rattle.hd_links.proofs.Joins.{join}
 use Rattle.hd_image.specs.Holding.{root_entries}
-use Rattle.hd_image.proofs.Sorted.{IsIn, first-less}
 use Rattle.hd_index.specs.Maps.{address_of, with_entry, without_key}
-use Rattle.hd_entries.specs.Fields.{below_count}
-use Rattle.hd_index.proofs.MapLemmas.{AreBelow, below-all, address-behind, with-behind, without-behind, address-above, ascend-parts}
 use Rattle.hd_keeping.specs.Entered.{entry_of}
 
 -- ---- the roots' entries
@@ -59,44 +55,15 @@ bytes-keep types m b (node p k n) a bytes s C =
 
 -- ---- an entry among others
 
--- it is one of them
-in-middle : (e : Entry) (xs ys : List Entry) → IsIn e (xs ++ e ∷ ys)
-in-middle e [] ys = inl refl
-in-middle e (x ∷ xs) ys = inr (in-middle e xs ys)
-
--- as many as there are to its left have lesser keys
-left-counted : (e : Entry) (xs ys : List Entry) → keys_ascend (xs ++ e ∷ ys) ≡ true → length xs ≤ below_count e.key xs
-left-counted e [] ys up = omega arith
-left-counted e (x ∷ xs) ys up =
-    let rest : length xs ≤ below_count e.key xs = left-counted e xs ys (and_parts _ _ up).1 in
-    let less : key_less x.key e.key ≡ true = first-less x (xs ++ e ∷ ys) e up (in-middle e xs ys) in
-    rw less (omega arith)
-
--- so all of them do
-before-below : (e : Entry) (xs ys : List Entry) → keys_ascend (xs ++ e ∷ ys) ≡ true → AreBelow e.key xs
-before-below e xs ys up = below-all e.key xs (left-counted e xs ys up)
-
--- and those to its right greater ones
-behind-above : (e : Entry) (xs ys : List Entry) → keys_ascend (xs ++ e ∷ ys) ≡ true → (is_below_first e.key ys ≡ true) × (keys_ascend ys ≡ true)
-behind-above e xs ys up = and_parts (is_below_first e.key ys) (keys_ascend ys) (ascend-parts xs (e ∷ ys) up).1
-
--- before greater keys a new entry comes first
-with-first : (e : Entry) (ys : List Entry) → is_below_first e.key ys ≡ true → with_entry e ys ≡ e ∷ ys
-with-first e [] low = refl
-with-first e (y ∷ ys) low = cond-true (key_less e.key y.key) (e ∷ y ∷ ys) (y ∷ with_entry e ys) low
-
 -- without it its key is new
 pub key-new : (e : Entry) (xs ys : List Entry) → keys_ascend (xs ++ e ∷ ys) ≡ true → address_of e.key (xs ++ ys) ≡ None
 key-new e xs ys up =
-    let above = behind-above e xs ys up in
-    address-behind e.key xs ys (before-below e xs ys up) ∙ address-above e.key ys above.0 above.1
+    address-behind e.key xs ys (ascend-below xs e ys up) ∙ address-above e.key ys (ascend-above xs e ys up) (and_parts _ _ (ascend-parts xs (e ∷ ys) up).1).1
 
 -- it goes in where it stands
 pub put-middle : (e : Entry) (xs ys : List Entry) → keys_ascend (xs ++ e ∷ ys) ≡ true → with_entry e (xs ++ ys) ≡ xs ++ e ∷ ys
-put-middle e xs ys up =
-    with-behind e xs ys (before-below e xs ys up) ∙ ap (λ (es : List Entry). xs ++ es) (with-first e ys (behind-above e xs ys up).0)
+put-middle e xs ys up = with-between e xs ys (ascend-below xs e ys up) (ascend-above xs e ys up)
 
 -- and its key takes it out
 pub out-middle : (e : Entry) (xs ys : List Entry) → keys_ascend (xs ++ e ∷ ys) ≡ true → without_key e.key (xs ++ e ∷ ys) ≡ xs ++ ys
-out-middle e xs ys up =
-    without-behind e.key xs (e ∷ ys) (before-below e xs ys up) ∙ ap (λ (es : List Entry). xs ++ es) (cond-true (bytes_eq e.key e.key) ys (e ∷ without_key e.key ys) ((bytes_eq-Decides e.key e.key).1 refl))
+out-middle e xs ys up = without-between e xs ys (ascend-below xs e ys up)

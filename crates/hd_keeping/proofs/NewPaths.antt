@@ -11,7 +11,7 @@ use Rattle.hd_dbd.specs.Rows.{row_fits, key_of}
 use Rattle.hd_dbd.specs.Forest.{Forest, sequence}
 use Rattle.hd_calls.specs.Moves.{inserted, put_in}
 use Rattle.hd_calls.specs.Runs.{has_root, blocks_for}
-use Rattle.hd_volume.specs.Headers.{Header}
+use Rattle.hd_volume.specs.Headers.{Header, header_of}
 use Rattle.hd_volume.specs.Volumes.{VolumeState}
 use Rattle.hd_volume.specs.Rooms.{spare}
 use Rattle.hd_volume.specs.Indexes.{root_key_length}
@@ -28,6 +28,7 @@ use Rattle.hd_image.proofs.Found.{records-link}
 use Rattle.hd_image.proofs.Roots.{header-child}
 use Rattle.hd_forest.proofs.Agreeing.{agree-trans}
 use Rattle.hd_index.proofs.NeedLemmas.{needed-most}
+use Rattle.hd_index.proofs.ChangeLemmas.{later-same}
 use Rattle.hd_keeping.specs.VolumeImages.{images_of}
 use Rattle.hd_keeping.specs.NewPaths.{HasNoChild, IsPathIn, PathsBeginBelowRows, PathsBeginWithRoots, PathsGoOn, PathsAreInsertions}
 use Rattle.hd_keeping.proofs.Leaves.{leaves-take, children-next}
@@ -104,6 +105,7 @@ begin-below d v w f h y n p H some P I =
       places = P.places ∙ one-in (addresses f) p.address n;
       childless = leaf.0;
       takes = leaf.1;
+      version = ap (λ (z : Header). z.version) I.rest.header;
       largest = ap (λ (z : Header). z.largest) I.rest.header;
       spares = (let less : spare v ≤ spare w + 1 = I.spares in omega arith);
     }
@@ -117,6 +119,8 @@ begin-roots d v w x f y n more p H may P I E room =
     let root : has_root (p.segment ∷ []) ≡ true = or_left (p.segment.code == 1) false (eq-eqb p.segment.code 1 (header-child d.types v p.segment.code typed)) in
     let growth : (images_of d).index_growth v.image ≡ entry_growth w
     = (have-room d v H.volume).1 ∙ sym (growth-kept d v w f 0 y p.address p.segment H I) in
+    let version : (header_of x.image).version ≡ (header_of v.image).version = ap (λ (z : Header). z.version) E.change.header ∙ ap (λ (z : Header). z.version) I.rest.header in
+    let new = linked-new d v w f y p.address p.segment H (later-same x v (sym version) E.index.index.version) may I in
     let needed : blocks_for (images_of d) v.image (p.segment ∷ []) (has_root (p.segment ∷ [])) ≡ 1 + entry_growth w
     = ap₂ (λ (b : Bool) (g : ℕ). 1 + cond b g 0) root growth in
     record {
@@ -127,8 +131,9 @@ begin-roots d v w x f y n more p H may P I E room =
       places = P.places ∙ one-in (addresses f) p.address n;
       childless = leaf.0;
       takes = leaf.1;
+      version = version;
       largest = ap (λ (z : Header). z.largest) E.change.header ∙ ap (λ (z : Header). z.largest) I.rest.header;
-      spares = (let less : spare v ≤ spare w + 1 = I.spares in omega (arith, less, room, needed, needed-most (root_key_length d.types) w (key_of d.types p.segment) (linked-new d v w f y p.address p.segment H may I).0.index));
+      spares = (let less : spare v ≤ spare w + 1 = I.spares in omega (arith, less, room, needed, needed-most (root_key_length d.types) w (key_of d.types p.segment) new.0.index));
     }
 
 -- ---- one row more
@@ -206,6 +211,7 @@ go-on d v w x f g n front last p W typed fits I =
           ∙ ap (λ (as_ : List ℕ). put_in n as_ (addresses f)) (sym (map_end (λ (q : Placed). q.address) new p));
       childless = leaf.0;
       takes = leaf.1;
+      version = ap (λ (z : Header). z.version) I.rest.header ∙ W.version;
       largest = ap (λ (z : Header). z.largest) I.rest.header ∙ W.largest;
       spares =
           (let before : spare v ≤ spare w + blocks_for (images_of d) v.image (segments_of new) (has_root (segments_of new)) = W.spares in

@@ -15,13 +15,16 @@ use Rattle.hd_volume.specs.Rooms.{spare, HasHole}
 use Rattle.hd_volume.specs.Entries.{Entry}
 use Rattle.hd_volume.specs.Indexes.{root_key_length}
 use Rattle.hd_levels.specs.Needs.{entry_growth, IsHighest}
+use Rattle.hd_levels.proofs.Versions.{set-of}
 use Rattle.hd_levels.proofs.StayingSets.{indexes-stay}
 use Rattle.hd_volume.proofs.JoinLemmas.{AreOne, one-spare, one-holes}
 use Rattle.hd_links.specs.Placed.{Placed}
 use Rattle.hd_image.specs.Holding.{HoldsPlaced}
 use Rattle.hd_image.proofs.OneImage.{held-same}
 use Rattle.hd_forest.specs.Updates.{IsLinked}
+use Rattle.hd_index.specs.Changes.{IsLater}
 use Rattle.hd_index.proofs.NeedLemmas.{needed-same, needed-stays}
+use Rattle.hd_index.proofs.ChangeLemmas.{later-same, version-kept}
 use Rattle.hd_keeping.specs.Entered.{IsEntered}
 use Rattle.hd_keeping.specs.Rooms.{HasRoomFor, HasMemoryFor, FirstRowsFindRoom, RoomLasts, blocks_for_entry, HasRootRoomFor, HasRootMemoryFor, FirstRootsFindRoom, RootEntriesFindRoom, RootRoomLasts, SetRowsLeaveRoom, SameEntriesLeaveRoom, HaveOneImage, OneImageIsOneVolume}
 
@@ -102,9 +105,10 @@ growth-kept d v w f h y a row H I =
     (indexes-stay (root_key_length d.types) v w H.index I.volume.formatted (I.volume.size ∙ sym H.volume.size) I.rest.header I.rest.index I.rest.others).2
 
 -- and what it needs for a key
-pub needed-kept : (d : Database) (v w : VolumeState) (f : Forest Placed) (h y a : ℕ) (row : Segment) (key : List ℕ) → HoldsPlaced d v f → IsLinked d v h y row a w
+pub needed-kept : (d : Database) (v w : VolumeState) (f : Forest Placed) (h y a : ℕ) (row : Segment) (key : List ℕ) → HoldsPlaced d v f → IsLater v → IsLinked d v h y row a w
     → blocks_for_entry d w key ≡ blocks_for_entry d v key
-needed-kept d v w f h y a row key H I = needed-stays (root_key_length d.types) v w key H.index I.volume.formatted (I.volume.size ∙ sym H.volume.size) I.rest.header I.rest.index I.rest.others
+needed-kept d v w f h y a row key H later I =
+    needed-stays (root_key_length d.types) v w key (set-of (root_key_length d.types) v H.index later) I.volume.formatted (I.volume.size ∙ sym H.volume.size) I.rest.header I.rest.index I.rest.others
 
 module _ (d : Database) (v w : VolumeState) (f : Forest Placed) (key : List ℕ) (y a : ℕ) (row : Segment) (rest : List Segment) (H : HoldsPlaced d v f) (I : IsLinked d v 0 y row a w) where
   -- a link leaves the height
@@ -114,34 +118,38 @@ module _ (d : Database) (v w : VolumeState) (f : Forest Placed) (key : List ℕ)
       let height : (header_of w.image).height ≡ (header_of v.image).height = ap (λ (z : Header). z.height) I.rest.header in
       (λ one. high.0 (version ∙ one), sym height ∙ high.1)
 
-  entry-blocks : HasRootRoomFor d v key (row ∷ rest) → blocks_for_entry d w key ≤ spare w
-  entry-blocks (low, inl enough) =
+  entry-blocks : IsLater v → HasRootRoomFor d v key (row ∷ rest) → blocks_for_entry d w key ≤ spare w
+  entry-blocks later (low, inl enough) =
       (let less : spare v ≤ spare w + 1 = I.spares in
-      omega (arith, less, enough, needed-kept d v w f 0 y a row key H I))
-  entry-blocks (low, inr hole) =
+      omega (arith, less, enough, needed-kept d v w f 0 y a row key H later I))
+  entry-blocks later (low, inr hole) =
       (let enough : blocks_for_entry d v key ≤ spare v = hole.1 in
-      let needed : blocks_for_entry d w key ≡ blocks_for_entry d v key = needed-kept d v w f 0 y a row key H I in
+      let needed : blocks_for_entry d w key ≡ blocks_for_entry d v key = needed-kept d v w f 0 y a row key H later I in
       elim hole.2 [
         | inl plain ↦ (let same : spare w ≡ spare v = I.in_hole plain (hole-first d.types v row rest hole.0) in omega (arith, same, enough, needed))
         | inr none ↦ omega (arith, none, needed)
       ])
 
-  entry-room : HasRootRoomFor d v key (row ∷ rest) → (IsHighest w → ⊥) × (blocks_for_entry d w key ≤ spare w)
-  entry-room room = (λ high. room.0 (highest-kept high), entry-blocks room)
+  entry-room : IsLater v → HasRootRoomFor d v key (row ∷ rest) → (IsHighest w → ⊥) × (blocks_for_entry d w key ≤ spare w)
+  entry-room later room = (λ high. room.0 (highest-kept high), entry-blocks later room)
 
   entry-memory : v.room ≤ w.room + 1 → HasRootMemoryFor v (row ∷ rest) → entry_growth w ≤ w.room
   entry-memory kept enough = omega (arith, kept, enough, growth-kept d v w f 0 y a row H I)
 
   module _ (x : VolumeState) (es : List Entry) (more : ℕ) (E : IsEntered d w es more x) where
+    -- the volume has an index set, now as before
+    later : IsLater v
+    later = later-same x v (sym (version-kept w x more E.change ∙ ap (λ (z : Header). z.version) I.rest.header)) E.index.index.version
+
     rest-room : spare w ≤ spare x + blocks_for_entry d w key → HasRootRoomFor d v key (row ∷ rest) → HasRoomFor d.types x rest
-    rest-room spares (low, inl enough) = inl (let less : spare v ≤ spare w + 1 = I.spares in omega (arith, spares, enough, less, needed-kept d v w f 0 y a row key H I))
+    rest-room spares (low, inl enough) = inl (let less : spare v ≤ spare w + 1 = I.spares in omega (arith, spares, enough, less, needed-kept d v w f 0 y a row key H later I))
     rest-room spares (low, inr hole) = inr (E.change.holes (stored_sizes d.types rest) (hole-left d v w 0 y a row rest I hole.0))
 
     rest-memory : v.room ≤ w.room + 1 → w.room ≤ x.room + entry_growth w → HasRootMemoryFor v (row ∷ rest) → HasMemoryFor d.types x rest
     rest-memory kept left enough = inl (omega (arith, kept, left, enough, growth-kept d v w f 0 y a row H I))
 
 pub entries-room : RootEntriesFindRoom
-entries-room d v w f key y a row rest H I = (entry-room d v w f key y a row rest H I, entry-memory d v w f key y a row rest H I)
+entries-room d v w f key y a row rest H later I = (entry-room d v w f key y a row rest H I later, entry-memory d v w f key y a row rest H I)
 
 pub root-room-lasts : RootRoomLasts
 root-room-lasts d v w x f es more key y a row rest H I E = (rest-room d v w f key y a row rest H I x es more E, rest-memory d v w f key y a row rest H I x es more E)

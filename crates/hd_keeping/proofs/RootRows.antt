@@ -33,7 +33,7 @@ use Rattle.hd_image.proofs.Found.{records-link}
 use Rattle.hd_image.proofs.Sorted.{IsIn}
 use Rattle.hd_image.proofs.RootEntries.{root-code, unique-less, roots-ascend, names-root, each-root}
 use Rattle.hd_index.specs.Maps.{address_of, address_from}
-use Rattle.hd_index.proofs.MapLemmas.{less-other}
+use Rattle.hd_levels.proofs.Keys.{less-other}
 use Rattle.hd_keeping.specs.Roots.{is_root, key_at, is_root_with, is_root_from, first_row, address_of_first}
 use Rattle.hd_keeping.specs.Found.{RootsAreOfTheFirstType, RootsStandAlone, RootsAscend, IndexAnswersRoots, FirstRootsFollowLesser}
 use Rattle.hd_keeping.proofs.EntriesFound.{HasKey, key-found, key-missing, IsLeast, least-found, all-lesser}

@@ -12,7 +12,7 @@ use Rattle.hd_dbd.specs.Forest.{Forest, empty, node}
 use Rattle.hd_volume.specs.Entries.{Entry}
 use Rattle.hd_volume.specs.Indexes.{key_less, keys_ascend}
 use Rattle.hd_volume.specs.Volumes.{VolumeState}
-use Rattle.hd_levels.proofs.Keys.{less-self}
+use Rattle.hd_levels.proofs.Keys.{less-self, less-other}
 use Rattle.hd_links.specs.Links.{segment_at, IsSegment}
 use Rattle.hd_links.specs.Placed.{Placed}
 use Rattle.hd_links.specs.Moves.{moved_to, with_address}
@@ -24,7 +24,6 @@ use Rattle.hd_image.specs.Records.{links_of}
 use Rattle.hd_image.specs.Holding.{root_entries, HoldsPlaced}
 use Rattle.hd_image.proofs.Sorted.{IsIn, first-less}
 use Rattle.hd_index.specs.Maps as map
-use Rattle.hd_index_chain.proofs.MapLemmas.{less-other}
 use Rattle.hd_forest.proofs.RowsSet.{address-same}
 use Rattle.hd_keeping.proofs.Volumes.{replacing-keeps}
 use Rattle.hd_keeping.proofs.RootRows.{RowOf, row-of, has-entry, up}

@@ -94,7 +94,7 @@ or-none false = refl
 -- ---- more than one
 
 pub setting-begins : SettingBegins
-setting-begins d v f H = record { held = H; holds = H; rows = refl; places = λ i _. refl; largest = refl; spares = omega arith }
+setting-begins d v f H = record { held = H; holds = H; rows = refl; places = λ i _. refl; version = refl; largest = refl; spares = omega arith }
 
 -- fewer bytes take no more room
 pub no-more-room : (types : List SegmentType) (c n k : ℕ) → n ≤ k → size_with types c n ≤ size_with types c k
@@ -189,6 +189,7 @@ module _ (d : Database) (v w x : VolumeState) (f g : Forest Placed) (ws : List R
     holds = set-row-held d w x g path row to W.holds can I keeps;
     rows = rows-set;
     places = places-set;
+    version = ap (λ (z : Header). z.version) I.room.rest.header ∙ W.version;
     largest = ap (λ (z : Header). z.largest) I.room.rest.header ∙ W.largest;
     spares = room-set;
   }
@@ -201,6 +202,7 @@ module _ (d : Database) (v w x : VolumeState) (f g : Forest Placed) (ws : List R
     holds = set-root-held d w x y g path row to W.holds can I code E;
     rows = rows-set;
     places = places-set;
+    version = ap (λ (z : Header). z.version) E.change.header ∙ ap (λ (z : Header). z.version) I.room.rest.header ∙ W.version;
     largest = ap (λ (z : Header). z.largest) E.change.header ∙ ap (λ (z : Header). z.largest) I.room.rest.header ∙ W.largest;
     spares = subst (λ (n : ℕ). spare v ≤ n + length (rows_stored (rows_of f) (rewritten (ws ++ record { number = i; bytes = row.bytes } ∷ [])))) (sym same) room-set;
   }

@@ -1,5 +1,5 @@
 -- What a volume holds after a change.
-use Rattle.std.proofs.Common.{false, ◌≡◌, ℕ, List, ◌==◌, cond, None, refl, sym, ap, subst, ◌∙◌}
+use Rattle.std.proofs.Common.{false, ◌≡◌, ℕ, List, ◌==◌, cond, None, refl, sym, ap, subst, ◌∙◌, inr}
 use Rattle.hd_dbd.specs.Types.{SegmentType}
 use Rattle.hd_dbd.specs.Hierarchy.{Database}
 use Rattle.hd_dbd.specs.Segment.{Segment}
@@ -10,7 +10,6 @@ use Rattle.hd_volume.specs.Volumes.{VolumeState}
 use Rattle.hd_volume.specs.Entries.{Entry}
 use Rattle.hd_volume.specs.Indexes.{root_key_length}
 use Rattle.hd_levels.proofs.StayingSets.{indexes-stay}
-use Rattle.hd_levels.proofs.Versions.{formatted-of}
 use Rattle.hd_links.specs.Links.{Links, IsLinkGraph, IsSegment, is_child_type, segment_at}
 use Rattle.hd_links.specs.Placed.{Placed, nowhere, Holds}
 use Rattle.hd_links.specs.Changes.{Agree, put_first, put_behind, take_out, with_leaf, without_span, CanUnlink}
@@ -24,6 +23,7 @@ use Rattle.hd_forest.specs.Walks.{tip, parent_on}
 use Rattle.hd_forest.specs.Updates.{MayLink, KeepsTheRest}
 use Rattle.hd_index.specs.Maps.{address_of, with_entry, without_key}
 use Rattle.hd_index.specs.Changes.{entries_for, IsIndexChange}
+use Rattle.hd_index.proofs.ChangeLemmas.{set-index, later-same}
 use Rattle.hd_keeping.specs.Entered.{entry_of, HoldsWith}
 use Rattle.hd_keeping.specs.Laws.{ChangesBelowKeepEntries, ReplacingKeepsEntries, HeldIsEntered, ForestChangesKeepEntries, IndexChangesKeepTheForest, LinkedBelowIsHeld, LinkedRootIsNew, LinkedRootIsHeld, EnteredRootIsHeld, UnlinkedBelowIsHeld, UnlinkedRootIsHeld, RemovedRootIsHeld}
 use Rattle.hd_keeping.proofs.Entries.{children-keep, bytes-keep}
@@ -91,12 +91,12 @@ agree-index d v w more C = records-stay d.types v w C.segments (ap (λ (z : Head
 
 pub index-changes : IndexChangesKeepTheForest
 index-changes d v w f before after more H E = record {
-  volume = record { fit = H.volume.fit; formatted = formatted-of (root_key_length d.types) w E.index.index; size = E.index.size; sizes = E.sizes ∙ H.volume.sizes };
+  volume = record { fit = H.volume.fit; formatted = E.index.index.formatted; size = E.index.size; sizes = E.sizes ∙ H.volume.sizes };
   version = subst (IsKnownVersion d.types) (sym (ap (λ (z : Header). z.version) E.change.header)) H.version;
   name = ap (λ (z : Header). z.name) E.change.header ∙ H.name;
   block_size = ap (λ (z : Header). z.block_size) E.change.header ∙ H.block_size;
   records = held-agree d.types _ (links_of d.types v) (links_of d.types w) f (records-link d v H.volume.fit H.volume) (agree-index d v w more E.change) H.records;
-  index = E.index.index;
+  index = inr E.index.index;
   entries = E.entries;
   kinds = E.change.kinds H.kinds;
 }
@@ -120,10 +120,10 @@ module _ (d : Database) (v : VolumeState) (f : Forest Placed) (y a : ℕ) (row :
   entry-goes-in = linking-enters d.block_size d.frspc d.types _ (links_of d.types v) f y root H.volume.fit (records-link d v H.volume.fit H.volume) H.records (may a free)
 
 pub linked-new : LinkedRootIsNew
-linked-new d v w f y a row H may I =
+linked-new d v w f y a row H later may I =
     let W : HoldsWith d w (with_leaf 0 y (record { address = a; segment = row }) f) (root_entries d.types f)
     = (forest-changes d v w f (root_entries d.types f) (entered d v f H)).0 0 y a row I in
-    (record { size = I.volume.size; index = W.index }, ap (address_of (key_of d.types row)) W.entries ∙ (entry-goes-in d v f y a row H may I.free).0)
+    (set-index d w I.volume.size W.index (later-same v w (ap (λ (z : Header). z.version) I.rest.header) later), ap (address_of (key_of d.types row)) W.entries ∙ (entry-goes-in d v f y a row H may I.free).0)
 
 pub linked-root : LinkedRootIsHeld
 linked-root d v w x f y a more row H may I E =

@@ -6,6 +6,7 @@ use Rattle.hd_dbd.specs.Paths.{end_of}
 use Rattle.hd_dbd.specs.Forest.{Forest}
 use Rattle.hd_calls.specs.Moves.{deleted, rows_after}
 use Rattle.hd_calls.specs.Runs.{Follows}
+use Rattle.hd_volume.specs.Headers.{header_of}
 use Rattle.hd_volume.specs.Volumes.{VolumeState}
 use Rattle.hd_volume.specs.Rooms.{spare}
 use Rattle.hd_links.specs.Links.{segment_at}
@@ -21,11 +22,12 @@ use Rattle.hd_index.specs.Changes.{entries_for}
 use Rattle.hd_keeping.specs.Entered.{IsEntered}
 use Rattle.hd_keeping.specs.VolumeImages.{images_of}
 
--- The rows from i to the end of its span have left the forest f, which the volume v held: the volume w holds g, the forest without
--- them, and its bytes follow by this deletion.
+-- The rows from i to the end of its span have left the forest f, which the volume v held: the volume w, of the same version, holds
+-- g, the forest without them, and its bytes follow by this deletion.
 pub record IsDeleted (d : Database) (v : VolumeState) (f : Forest Placed) (i : ℕ) (w : VolumeState) (g : Forest Placed) : Type 0 where
   pub holds : HoldsPlaced d w g
   pub rows : rows_of g ≡ rows_after (deleted i (end_of d.types (rows_of f) i)) (rows_of f)
+  pub version : (header_of w.image).version ≡ (header_of v.image).version
   pub follows : Follows (images_of d) (rows_of f) v.image (deleted i (end_of d.types (rows_of f) i)) (rows_of g) w.image
 
 -- A span below a row that was unlinked is deleted.

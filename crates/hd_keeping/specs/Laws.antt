@@ -17,7 +17,7 @@ use Rattle.hd_image.specs.Holding.{root_entries, HoldsPlaced}
 use Rattle.hd_forest.specs.Walks.{tip, parent_on}
 use Rattle.hd_forest.specs.Updates.{MayLink, IsLinked, IsUnlinked}
 use Rattle.hd_index.specs.Maps.{address_of, with_entry, without_key}
-use Rattle.hd_index.specs.Changes.{IsIndexOf, entries_for}
+use Rattle.hd_index.specs.Changes.{IsLater, IsIndexOf, entries_for}
 use Rattle.hd_keeping.specs.Entered.{entry_of, HoldsWith, IsEntered}
 
 -- ---- the entries of roots
@@ -79,10 +79,10 @@ LinkedBelowIsHeld =
     (d : Database) (v w : VolumeState) (f : Forest Placed) (h y a : ℕ) (row : Segment) → HoldsPlaced d v f → h ≢ 0
     → IsLinked d v h y row a w → HoldsPlaced d w (with_leaf h y (record { address = a; segment = row }) f)
 
--- Once a root is linked, wherever, the volume has its index, in which the root's key is new.
+-- Once a root is linked, wherever, a volume of version 2 or later has its index, in which the root's key is new.
 abbrev pub LinkedRootIsNew : Type 0
 LinkedRootIsNew =
-    (d : Database) (v w : VolumeState) (f : Forest Placed) (y a : ℕ) (row : Segment) → HoldsPlaced d v f
+    (d : Database) (v w : VolumeState) (f : Forest Placed) (y a : ℕ) (row : Segment) → HoldsPlaced d v f → IsLater v
     → MayLink d.types (links_of d.types v) 0 y row → IsLinked d v 0 y row a w
     → IsIndexOf d w × (address_of (key_of d.types row) (entries_for d w) ≡ None)
 

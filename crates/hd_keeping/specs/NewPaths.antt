@@ -52,8 +52,8 @@ FirstChildrenGoInNext =
 
 -- ---- a path
 
--- Rows were put in at number n of those of the forest f, which the volume v held, each below the one before: the volume w holds g,
--- the forest with them, and no more blocks were taken than they may need; the last of them has no child yet.
+-- Rows were put in at number n of those of the forest f, which the volume v held, each below the one before: the volume w, of the
+-- same version, holds g, the forest with them, and no more blocks were taken than they may need; the last of them has no child yet.
 pub record IsPathIn (d : Database) (v : VolumeState) (f : Forest Placed) (n : ℕ) (front : List Placed) (last : Placed) (w : VolumeState) (g : Forest Placed) : Type 0 where
   pub held : HoldsPlaced d v f
   pub holds : HoldsPlaced d w g
@@ -62,6 +62,7 @@ pub record IsPathIn (d : Database) (v : VolumeState) (f : Forest Placed) (n : �
   pub places : addresses g ≡ put_in n (map (λ p. p.address) (front ++ last ∷ [])) (addresses f)
   pub childless : HasNoChild d.types (links_of d.types w) last.address
   pub takes : TakesAChild d.types (links_of d.types w) last
+  pub version : (header_of w.image).version ≡ (header_of v.image).version
   pub largest : (header_of w.image).largest ≡ (header_of v.image).largest
   pub spares : spare v ≤ spare w + blocks_for (images_of d) v.image (segments_of (front ++ last ∷ [])) (has_root (segments_of (front ++ last ∷ [])))
 

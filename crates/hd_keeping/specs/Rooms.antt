@@ -18,6 +18,7 @@ use Rattle.hd_forest.specs.Walks.{tip}
 use Rattle.hd_forest.specs.Updates.{IsLinked}
 use Rattle.hd_forest.specs.Replacing.{IsRowSet}
 use Rattle.hd_index.specs.Places.{blocks_needed}
+use Rattle.hd_index.specs.Changes.{IsLater}
 use Rattle.hd_keeping.specs.Entered.{IsEntered}
 
 -- ---- one row
@@ -77,11 +78,11 @@ FirstRootsFindRoom =
     (d : Database) (v : VolumeState) (key : List ℕ) (row : Segment) (rest : List Segment)
     → (HasRootRoomFor d v key (row ∷ rest) → FindsNoRoom d.types v row → ⊥) × (HasRootMemoryFor v (row ∷ rest) → FindsNoMemory d.types v row → ⊥)
 
--- Once the root is linked, its entry finds both.
+-- Once the root is linked, its entry finds both, in a volume of version 2 or later.
 abbrev pub RootEntriesFindRoom : Type 0
 RootEntriesFindRoom =
     (d : Database) (v w : VolumeState) (f : Forest Placed) (key : List ℕ) (y a : ℕ) (row : Segment) (rest : List Segment)
-    → HoldsPlaced d v f → IsLinked d v 0 y row a w
+    → HoldsPlaced d v f → IsLater v → IsLinked d v 0 y row a w
     → (HasRootRoomFor d v key (row ∷ rest) → (IsHighest w → ⊥) × (blocks_for_entry d w key ≤ spare w))
     × (v.room ≤ w.room + 1 → HasRootMemoryFor v (row ∷ rest) → entry_growth w ≤ w.room)
 

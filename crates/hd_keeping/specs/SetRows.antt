@@ -47,13 +47,14 @@ SetRootIsHeld =
 
 -- ---- more than one
 
--- Rows of the forest f, which the volume v held, got other bytes in this order: the volume w holds g, the forest with them, each row but those
--- that were made longer where it stood, and no more blocks were taken than these may need.
+-- Rows of the forest f, which the volume v held, got other bytes in this order: the volume w, of the same version, holds g, the forest with
+-- them, each row but those that were made longer where it stood, and no more blocks were taken than these may need.
 pub record AreSet (d : Database) (v : VolumeState) (f : Forest Placed) (ws : List Rewrite) (w : VolumeState) (g : Forest Placed) : Type 0 where
   pub held : HoldsPlaced d v f
   pub holds : HoldsPlaced d w g
   pub rows : rows_of g ≡ rows_after (rewritten ws) (rows_of f)
   pub places : (i : ℕ) → lengthens (rows_of f) ws i ≡ false → address_at g i ≡ address_at f i
+  pub version : (header_of w.image).version ≡ (header_of v.image).version
   pub largest : (header_of w.image).largest ≡ (header_of v.image).largest
   pub spares : spare v ≤ spare w + length (rows_stored (rows_of f) (rewritten ws))
 

@@ -137,7 +137,7 @@ pub fn read_words(alloc: Global, words: &[String]) -> Result<(Request<'_>, Expla
 fn program<'a>(alloc: Global) -> Result<Command<'a>, Error> {
     let command = Command::new(alloc, "hd")
         .bin_name("hd")?
-        .version("0.1.0, proved with rattle-kit-13f logic dac8208d650f15bf")
+        .version("0.1.0, unproved: this is no build that `make` has proved")
         .about(
             "A hierarchical database. Without a command it plays a deck of DL/I calls, read from standard input, over a built-in sample database",
         )

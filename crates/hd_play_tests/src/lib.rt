@@ -10,6 +10,8 @@ mod deck_tests;
 #[cfg(test)]
 mod output_tests;
 #[cfg(test)]
+mod pieces_tests;
+#[cfg(test)]
 mod play_tests;
 #[cfg(test)]
 mod progress_tests;

@@ -22,7 +22,7 @@ use Rattle.hd_keeping.proofs.VolumeImages.{follow}
 use Rattle.hd_position.specs.Kept.{Kept, StandsFor}
 use Rattle.hd_get.specs.Gets.{GetCall, answer_to}
 use Rattle.hd_update.specs.States.{StandForAll, Represents}
-use Rattle.hd_update.proofs.Reading.{held_read}
+use Rattle.hd_update.proofs.Reading.{held_read, later_read}
 use Rattle.hd_session.specs.Sessions.{IsStep, get_in}
 
 -- ---- positions
@@ -72,6 +72,7 @@ get_stepped d u w old new st number c reply read sound R some within is stands =
       own = (answer_to c d.types st.rows q).1;
       is = ap (λ (r : Reply). answered r unchanged (answer_to c d.types st.rows q).1) (ap (λ (rows : List Segment). (answer_to c d.types rows q).0) (sym R.rows) ∙ sym is);
       represents = record {
+        later = later_read d u w read sound R.later;
         placed = R.placed;
         holds = held_read d u w read sound R.placed R.holds;
         rows = R.rows;

@@ -1,5 +1,5 @@
 -- A volume that is ready for a session, and the state that a session over it stands for.
-use Rattle.std.proofs.Common.{◌≡◌, ℕ, List, length, true, refl, sym, ap, ◌∙◌, subst}
+use Rattle.std.proofs.Common.{◌≡◌, ℕ, List, length, true, refl, sym, ap, ◌∙◌, subst, arith}
 use Rattle.std.specs.Prelude.{map}
 use Rattle.std.proofs.lemmas.List.{nil_from_length, length-map}
 use Rattle.hd_dbd.specs.Types.{View}
@@ -44,6 +44,10 @@ read_version d v w f H image size n own =
     let there : HasBlock w.size w.image 0 = rw (image, size) H.volume.formatted.header.first in
     own there ∙ ap (λ (i : List ℕ). (header_of i).version) image
 
+-- images that are one are of one version
+of_version : (old new : List ℕ) → new ≡ old → (header_of old).version ≡ (header_of new).version
+of_version old new is = ap (λ (i : List ℕ). (header_of i).version) (sym is)
+
 -- something is kept of each PCB
 pub one_each : (pcbs : List View) (kept : List Kept) → kept ≡ all_at_start pcbs → length kept ≡ length pcbs
 one_each pcbs kept is = ap (λ (ks : List Kept). length ks) is ∙ length-map pcbs (λ _. kept_start)
@@ -52,6 +56,7 @@ module _ (d : Database) (pcbs : List View) (v w : VolumeState) (image : w.image 
   -- a ready volume that was only read stands for all PCBs before its rows
   pub start_represents : (kept : List Kept) (r : IsReadyFor d pcbs v) → kept ≡ all_at_start pcbs → Represents d w kept (opened pcbs (rows_of r.placed))
   start_represents kept r is = record {
+    later = λ one. (let newest : (header_of v.image).version ≡ 3 = r.newest in let own : (header_of v.image).version ≡ 1 = of_version v.image w.image image ∙ one in omega arith);
     placed = r.placed;
     holds = held-same d v w image size sizes r.placed r.holds;
     rows = refl;
@@ -71,6 +76,7 @@ module _ (d : Database) (pcbs : List View) (v w : VolumeState) (image : w.image 
   same_state kept s = record {
     state = s.state;
     represents = record {
+      later = λ one. s.represents.later (of_version v.image w.image image ∙ one);
       placed = s.represents.placed;
       holds = held-same d v w image size sizes s.represents.placed s.represents.holds;
       rows = s.represents.rows;

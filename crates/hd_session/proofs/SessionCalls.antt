@@ -18,6 +18,7 @@ use Rattle.hd_dbd.specs.declared.program.TypeName.{TypeName}
 use Rattle.hd_calls.specs.Access.{loads}
 use Rattle.hd_calls.specs.Runs.{view_of, effect_by, MayComeTo, ImageFollows, Follows, LacksRoom, change_of, state_after_outcome, rows_stored, inserts_root}
 use Rattle.hd_calls.specs.Steps.{State, Effect, answered, wrong_area, step, state_after}
+use Rattle.hd_volume.specs.Headers.{header_of}
 use Rattle.hd_volume.specs.Volumes.{VolumeState}
 use Rattle.hd_volume.specs.Stores.{StaysSound}
 use Rattle.hd_links.specs.Placed.{Placed}
@@ -68,6 +69,7 @@ no_area e = cc
 -- a volume of the same image stands for the same state
 stays : (d : Database) (v w : VolumeState) (old new : List Kept) (st : State) → w.size ≡ v.size → w.sizes ≡ v.sizes → IsTrue w.is_sound → IsUndone v old w new → Represents d v old st → Represents d w new st
 stays d v w old new st size sizes now U R = subst (λ (ks : List Kept). Represents d w ks st) (sym U.kept) (record {
+  later = subst (λ (i : List ℕ). (header_of i).version ≢ 1) (sym (U.image now)) R.later;
   placed = R.placed;
   holds = held-same d v w (U.image now) size sizes R.placed R.holds;
   rows = R.rows;

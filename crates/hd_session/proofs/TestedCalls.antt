@@ -27,7 +27,7 @@ use Rattle.hd_keeping.specs.VolumeImages.{images_of}
 use Rattle.hd_position.specs.Kept.{Kept}
 use Rattle.hd_update.specs.Positions.{unheld_at}
 use Rattle.hd_update.specs.States.{Represents, LacksRoomFor}
-use Rattle.hd_update.proofs.Reading.{held_read}
+use Rattle.hd_update.proofs.Reading.{held_read, later_read}
 use Rattle.hd_update.proofs.Standing.{stay_unheld}
 use Rattle.hd_session.specs.Sessions.{IsStep, own_in, call_in}
 use Rattle.hd_session.proofs.OwnSteps.{same_follows, step_as}
@@ -121,6 +121,7 @@ bare_step d v w old st number status read sound R some within = record {
   own = unheld (position_at st number);
   is = refl;
   represents = record {
+    later = later_read d v w read sound R.later;
     placed = R.placed;
     holds = held_read d v w read sound R.placed R.holds;
     rows = R.rows;

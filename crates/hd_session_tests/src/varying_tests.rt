@@ -117,46 +117,6 @@ const ONE_BOOK: &[u8] = b"\x01\0\x08101ALGEB\x04\0\x05\0\x05ABC\0\0\0\0\x02";
 const ONE_PASSES: &[u8] = b"EDU passes: 3 blocks, 2 segments, 1 roots\n";
 
 #[test]
-fn gives_a_row_with_its_length(rt: HostRuntime) -> Result<(), Fail> {
-    expect(
-        &rt,
-        ONE_BOOK,
-        b"L     GU   BOOK    \n",
-        b"1 1 GU   [  ] 02 BOOK     key=101 area=\\x00\\x05ABC\n",
-        ONE_PASSES,
-    )
-}
-
-#[test]
-fn replaces_no_row_by_one_of_a_wrong_length(rt: HostRuntime) -> Result<(), Fail> {
-    for (deck, line) in [
-        (
-            b"L     GHU  BOOK    \nL     REPL\nH0003\nDA\nL     GU   BOOK    \n".as_slice(),
-            "2 1 REPL [V1] 00          key= area=\n",
-        ),
-        (
-            b"L     GHU  BOOK    \nL     REPL\nH000a\nDABCDEFGH\nL     GU   BOOK    \n",
-            "2 1 REPL [V1] 00          key= area=\n",
-        ),
-        (
-            b"L     GHU  BOOK    \nL     REPL\nH0009\nDABC\nL     GU   BOOK    \n",
-            "2 1 REPL [V1] 00          key= area=\n",
-        ),
-        (
-            b"L     GHU  BOOK    \nL     REPL\nH0005\nDABCD\nL     GU   BOOK    \n",
-            "2 1 REPL [!!] Area\n",
-        ),
-    ] {
-        let mut lines = String::new(rt.alloc());
-        lines.push_str("1 1 GHU  [  ] 02 BOOK     key=101 area=\\x00\\x05ABC\n")?;
-        lines.push_str(line)?;
-        lines.push_str("3 1 GU   [  ] 02 BOOK     key=101 area=\\x00\\x05ABC\n")?;
-        expect(&rt, ONE_BOOK, deck, lines.as_bytes(), ONE_PASSES)?;
-    }
-    Ok(())
-}
-
-#[test]
 fn moves_a_row_that_is_made_longer(rt: HostRuntime) -> Result<(), Fail> {
     expect(
         &rt,
@@ -165,40 +125,6 @@ fn moves_a_row_that_is_made_longer(rt: HostRuntime) -> Result<(), Fail> {
         b"1 1 GHU  [  ] 02 BOOK     key=101 area=\\x00\\x05ABC\n2 1 REPL [  ] 02 BOOK     key=101 area=\n3 1 GU   [  ] 02 BOOK     key=101 area=\\x00\\x09ABCDEFG\n",
         ONE_PASSES,
     )
-}
-
-#[test]
-fn goes_on_behind_a_row_that_another_pcb_moved(rt: HostRuntime) -> Result<(), Fail> {
-    expect(
-        &rt,
-        b"\x01\0\x08101ALGEB\x04\0\x04\0\x04AA\x04\0\x04\0\x04BB\0\0\0\0\x03",
-        b"S 2\nL     GU   BOOK    \nS 1\nL     GHU  BOOK    \nL     REPL\nH0009\nDAAAAAAA\nS 2\nL     GN   BOOK    \n",
-        b"1 2 GU   [  ] 02 BOOK     key=101 area=\\x00\\x04AA\n2 1 GHU  [  ] 02 BOOK     key=101 area=\\x00\\x04AA\n3 1 REPL [  ] 02 BOOK     key=101 area=\n4 2 GN   [  ] 02 BOOK     key=101 area=\\x00\\x04BB\n",
-        b"EDU passes: 3 blocks, 3 segments, 1 roots\n",
-    )
-}
-
-#[test]
-fn leaves_a_full_volume_as_it_was(rt: HostRuntime) -> Result<(), Fail> {
-    let alloc = rt.alloc();
-    let dbd = database(alloc).expect(&rt, "a database");
-    let records =
-        b"\x01\0\x08101ALGEB\x04\0\x04\0\x04AA\x04\0\x04\0\x04AA\x04\0\x04\0\x04AA\x04\0\x04\0\x04AA\x04\0\x04\0\x04AA\0\0\0\0\x06";
-    let (volume, err) = reloaded(alloc, &dbd, records, 3)?;
-    assert_eq!(rt; err.len(), 0);
-    let deck = b"L     GHU  BOOK    \nL     REPL\nH0009\nDAAAAAAA\n";
-    let (out, left) = played(alloc, &dbd, &volume, deck).expect(&rt, "a run");
-    assert_eq!(rt;
-        out.as_slice(),
-        b"1 1 GHU  [  ] 02 BOOK     key=101 area=\\x00\\x04AA\n2 1 REPL [!!] Full\n".as_slice()
-    );
-    assert_eq!(rt; left.as_slice(), volume.as_slice());
-    let (line, _) = checked(alloc, &dbd, &left).expect(&rt, "a volume");
-    assert_eq!(rt;
-        line.as_slice(),
-        b"EDU passes: 3 blocks, 6 segments, 1 roots\n".as_slice()
-    );
-    Ok(())
 }
 
 #[test]

@@ -13,7 +13,7 @@ use std::cmp::Ordering;
 use std::marker::Model;
 
 /// A field, an operator, and the value with which it is compared.
-#[derive(Debug, Drop)]
+#[derive(Drop)]
 pub struct Comparison<'a> {
     pub field: Field,
     pub operator: Operator,
@@ -29,7 +29,7 @@ impl<'a> Model for Comparison<'a> {
 }
 
 /// A comparison at the front of a text, and what stands behind it.
-#[derive(Debug, Drop)]
+#[derive(Drop)]
 pub struct ComparisonRead<'a> {
     pub comparison: Comparison<'a>,
     pub behind: &'a [u8],

@@ -10,7 +10,7 @@ use std::marker::Model;
 
 /// The head of a segment search argument: the segment's name and the command codes, with all that stands behind the opening bracket,
 /// if there is one.
-#[derive(Debug, Drop)]
+#[derive(Drop)]
 pub struct Ssa<'a> {
     pub name: Name8,
     pub commands: Commands,

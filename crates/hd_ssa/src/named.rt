@@ -14,7 +14,7 @@ use std::alloc::Global;
 use std::marker::Model;
 
 /// A head without its name, and the code of the type of that name, where the PCB sees one.
-#[derive(Debug, Drop)]
+#[derive(Drop)]
 pub struct Named<'a> {
     pub code: Option<u8>,
     pub commands: Commands,

@@ -14,7 +14,7 @@ use std::marker::Model;
 
 /// A qualification, by its text in the call and the type of which it speaks, and its comparison, where it has but one. It takes no
 /// memory: of several comparisons, whoever asks reads the text again.
-#[derive(Debug, Drop)]
+#[derive(Drop)]
 pub struct Qualification<'a> {
     segment: &'a SegType,
     text: &'a [u8],

@@ -4,7 +4,7 @@ use crate::comparison::ComparisonRead;
 use hd_dbd::Key;
 
 /// What is asked of each comparison of a group.
-#[derive(Clone, Copy, Debug)]
+#[derive(Clone, Copy)]
 pub enum Question<'b> {
     /// Whether it is true of a segment's bytes.
     IsTrue(&'b [u8]),

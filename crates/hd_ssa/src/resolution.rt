@@ -18,7 +18,7 @@ use std::alloc::Global;
 use std::marker::Model;
 
 /// A segment search argument with its type. What it asks of a segment stays text of the call.
-#[derive(Debug, Drop)]
+#[derive(Drop)]
 pub struct ResolvedSsa<'a> {
     code: u8,
     commands: Commands,

@@ -55,13 +55,13 @@ pub fn add_bytes(text: &mut String, bytes: &[u8]) -> Result<(), AllocError> {
     Ok(())
 }
 
-/// Status and area; the name of a refusal.
+/// The status in brackets, and the area; the name of a refusal.
 pub fn brief(alloc: Global, outcome: &Outcome) -> Result<String, AllocError> {
     let mut text = String::new(alloc);
     match outcome {
         Outcome::Refused(refused) => text.push_str(name_of(*refused))?,
         Outcome::Reply(reply) => {
-            text.push_str(code_of(reply.status))?;
+            write!(&mut text, "[{}]", code_of(reply.status))?;
             add_bytes(&mut text, &reply.area)?;
         }
     }

@@ -40,8 +40,41 @@ fn key(length: u32, unique: bool) -> Key {
     }
 }
 
+/// The type of the sample's books.
+#[derive(Clone, Copy)]
+pub enum Books {
+    /// Of five bytes, with this RULES.
+    Ruled(Rule),
+    /// Of 4 to 9 bytes.
+    Varying,
+}
+
+/// The type of books of a kind.
+fn books_of(alloc: Global, name: Name8, books: Books) -> SegType {
+    let (length, least, rule) = match books {
+        Books::Ruled(rule) => (5, None, rule),
+        Books::Varying => (9, Some(4), Rule::Last),
+    };
+    SegType {
+        name,
+        parent: Some(1),
+        length,
+        least,
+        key: None,
+        rule,
+        backward: true,
+        last_pointer: true,
+        fields: Vec::new(alloc),
+    }
+}
+
 /// Courses with their classes and books, and the students of each class; RULES of the books is handed in.
 pub fn database(alloc: Global, books: Rule) -> Result<Dbd, DbdFault> {
+    database_with(alloc, Books::Ruled(books))
+}
+
+/// The same with books of a kind.
+pub fn database_with(alloc: Global, books: Books) -> Result<Dbd, DbdFault> {
     let course = Name8::from_padded(*b"COURSE  ").unwrap();
     let class = Name8::from_padded(*b"CLASS   ").unwrap();
     let student = Name8::from_padded(*b"STUD    ").unwrap();
@@ -60,17 +93,7 @@ pub fn database(alloc: Global, books: Rule) -> Result<Dbd, DbdFault> {
         .push(keyed(alloc, student, Some(2), 6, person, key(4, false))?)
         .map_err(AllocError::from)?;
     types
-        .push(SegType {
-            name: book,
-            parent: Some(1),
-            length: 5,
-            least: None,
-            key: None,
-            rule: books,
-            backward: true,
-            last_pointer: true,
-            fields: Vec::new(alloc),
-        })
+        .push(books_of(alloc, book, books))
         .map_err(AllocError::from)?;
     let name = Name8::from_padded(*b"EDU     ").unwrap();
     Dbd::new(alloc, name, 128, FreeSpace { fbff: 0, fspf: 0 }, types)

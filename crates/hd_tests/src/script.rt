@@ -4,7 +4,7 @@ use crate::decks::Deck;
 use crate::model::Model;
 use crate::outcome::Outcome;
 use crate::printing::{add_bytes, brief, whole};
-use hd_dbd::{Dbd, Psb};
+use hd_dbd::{Dbd, Psb, Refused};
 use hd_session::Call;
 use std::alloc::{AllocError, Global};
 
@@ -40,13 +40,36 @@ fn call_of(alloc: Global, text: &[u8], area: &[u8]) -> Result<(u8, Call), AllocE
     for argument in text.split(|byte| *byte == b'/').skip(1) {
         ssas.push(argument.to_vec(alloc)?)?;
     }
-    let area = area.to_vec(alloc)?;
+    let area = area_of(alloc, area)?;
     Ok((pcb, Call { func, ssas, area }))
+}
+
+/// The number that a hexadecimal digit stands for, 0 for any other byte.
+fn digit(byte: u8) -> u8 {
+    match byte {
+        b'0'..=b'9' => byte - b'0',
+        b'a'..=b'f' => byte - b'a' + 10,
+        _ => 0,
+    }
+}
+
+/// The bytes of an area: those of the text, or those that it gives in hexadecimal behind a `#`.
+fn area_of(alloc: Global, text: &[u8]) -> Result<Vec<u8>, AllocError> {
+    if text.first() != Some(&b'#') {
+        return text.to_vec(alloc);
+    }
+    let mut area = Vec::new(alloc);
+    for pair in text[1..].chunks(2) {
+        let high = pair.first().copied().unwrap_or(0);
+        let low = pair.last().copied().unwrap_or(0);
+        area.push(digit(high) << 4 | digit(low))?;
+    }
+    Ok(area)
 }
 
 /// Says what is wrong where a line's call answers otherwise; no text where it answers as wanted.
 fn wrong(alloc: Global, line: Line<'_>, outcome: &Outcome) -> Result<String, AllocError> {
-    let told = if line.answer.first() == Some(&b'[') {
+    let told = if line.answer.get(4) == Some(&b' ') {
         whole(alloc, outcome)?
     } else {
         brief(alloc, outcome)?
@@ -60,8 +83,16 @@ fn wrong(alloc: Global, line: Line<'_>, outcome: &Outcome) -> Result<String, All
     Ok(text)
 }
 
-/// Plays the lines of a list through a model, and writes them into a deck; says the first that answers otherwise, and nothing where all answer
-/// as wanted.
+/// What came of the lines of a list.
+#[derive(Drop)]
+pub enum Played {
+    /// All answer as wanted; not all of them are refused.
+    Right { is_changed: bool },
+    /// The first that answers otherwise, as text.
+    Wrong(String),
+}
+
+/// Plays the lines of a list through a model, and writes them into a deck. A model has room for all: a call that is to be answered `Full` leaves it as it was.
 pub fn play_model(
     alloc: Global,
     dbd: &Dbd,
@@ -69,18 +100,23 @@ pub fn play_model(
     model: &mut Model,
     list: &[u8],
     deck: &mut Deck,
-) -> Result<String, AllocError> {
+) -> Result<Played, AllocError> {
+    let mut is_changed = false;
     for text in list.split(|byte| *byte == b'\n') {
         let line = line_of(text);
-        if !line.answer.is_empty() {
+        if !line.call.is_empty() {
             let (pcb, call) = call_of(alloc, line.call, line.area)?;
-            let outcome = model.answer(alloc, dbd, psb, pcb, &call)?;
+            let outcome = match line.answer {
+                b"Full" => Outcome::Refused(Refused::Full),
+                _ => model.answer(alloc, dbd, psb, pcb, &call)?,
+            };
             let wrong = wrong(alloc, line, &outcome)?;
             if !wrong.is_empty() {
-                return Ok(wrong);
+                return Ok(Played::Wrong(wrong));
             }
+            is_changed = is_changed || !matches!(outcome, Outcome::Refused(_));
             deck.add(alloc, pcb, &call, &whole(alloc, &outcome)?)?;
         }
     }
-    Ok(String::new(alloc))
+    Ok(Played::Right { is_changed })
 }

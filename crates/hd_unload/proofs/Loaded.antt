@@ -28,6 +28,7 @@ use Rattle.hd_image.specs.Holding.{HoldsPlaced}
 use Rattle.hd_image.proofs.Found.{records-link}
 use Rattle.hd_image.proofs.Roots.{header-child}
 use Rattle.hd_forest.specs.Updates.{MayLink, IsLinked}
+use Rattle.hd_index.proofs.ChangeLemmas.{later-same}
 use Rattle.hd_keeping.proofs.Volumes.{linked-below}
 use Rattle.hd_unload.specs.Loads.{IsLoadStep}
 use Rattle.hd_unload.specs.Steps.{IsLoadedTo, IsRowLoaded}
@@ -132,6 +133,7 @@ dependent-loaded d v w h y a row dependent fits I rows path L may parent twin =
     let E = last-at d v rows path row h y a L fits may parent twin I.free in
     record {
       loaded = record {
+        later = later-same v w (ap (λ (x : Header). x.version) I.rest.header) L.later;
         placed = with_leaf h y p L.placed;
         holds = linked-below d v w L.placed h y a row L.holds (parent-some d v h y p L.placed L.holds E dependent) I;
         rows_are = rows-grown d v w L.placed h y a row L.holds E I ∙ ap (λ (rs : List Segment). rs ++ row ∷ []) L.rows_are;

@@ -89,7 +89,7 @@ pub root-linked : (d : Database) (v w : VolumeState) (y a : ℕ) (bytes : List �
     → CanLoadRoot d v y (record { code = 1; bytes = bytes }) → IsLinked d v 0 y (record { code = 1; bytes = bytes }) a w
     → IsIndexOf d w × (address_of (key_of d.types (record { code = 1; bytes = bytes })) (entries_for d w) ≡ None)
 root-linked d v w y a bytes fits L I =
-    linked-new d v w L.2.placed y a (record { code = 1; bytes = bytes }) L.2.holds (may-link-root d v bytes y fits L) I
+    linked-new d v w L.2.placed y a (record { code = 1; bytes = bytes }) L.2.holds L.2.later (may-link-root d v bytes y fits L) I
 
 -- where the volume has room for a root it is not refused as full
 pub room-links : (d : Database) (v : VolumeState) (bytes : List ℕ) → HasRootRoom d v (row_of 1 bytes) → spare v ≡ 0 → (HasHole v (size_with d.types 1 (length bytes)) → ⊥) → ⊥
@@ -100,7 +100,7 @@ pub room-enters : (d : Database) (v w : VolumeState) (y a : ℕ) (bytes : List �
     → (spare w < blocks_needed (root_key_length d.types) w (key_of d.types (row_of 1 bytes))) ⊎ IsHighest w → ⊥
 room-enters d v w y a bytes L room I full =
     let key : List ℕ = key_of d.types (row_of 1 bytes) in
-    let there = (entries-room d v w L.2.placed key y a (row_of 1 bytes) [] L.2.holds I).0 room in
+    let there = (entries-room d v w L.2.placed key y a (row_of 1 bytes) [] L.2.holds L.2.later I).0 room in
     elim full [ inl few ↦ (let enough : blocks_needed (root_key_length d.types) w key ≤ spare w = there.1 in omega arith) | inr high ↦ there.0 high ]
 
 -- it is loaded once it is linked and entered
@@ -125,6 +125,7 @@ root-loaded d v w x y a more bytes key fits I size sizes index is entry C spares
     let lowest : level d.types row ≡ 1 = root-level d.block_size d.frspc d.types bytes L.holds.volume.fit fits in
     record {
       loaded = record {
+        later = index.index.version;
         placed = with_leaf 0 y p L.placed;
         holds = linked-root d v w x L.placed y a more row L.holds (may-link-root d v bytes y fits (rows, path, L, may, twin)) I X;
         rows_are = rows-grown d v w L.placed 0 y a row L.holds E I ∙ ap (λ (rs : List Segment). rs ++ row ∷ []) L.rows_are;

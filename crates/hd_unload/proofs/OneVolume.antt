@@ -19,6 +19,7 @@ use Rattle.hd_links.specs.Placed.{Placed}
 use Rattle.hd_image.specs.Records.{links_of}
 use Rattle.hd_image.proofs.OneImage.{links-same, held-same}
 use Rattle.hd_index.proofs.NeedLemmas as need
+use Rattle.hd_index.proofs.ChangeLemmas.{later-image}
 use Rattle.hd_keeping.proofs.Rooms.{one-volume}
 use Rattle.hd_unload.specs.Loads.{blocks_for}
 use Rattle.hd_unload.specs.Steps.{HasRootRoom, IsLoadedTo, IsRowLoaded}
@@ -26,6 +27,7 @@ use Rattle.hd_unload.specs.Steps.{HasRootRoom, IsLoadedTo, IsRowLoaded}
 -- the rows that it holds
 pub loaded-same : (d : Database) (v w : VolumeState) (rows : List Segment) (path : List Placed) → AreOne v w → IsLoadedTo d rows path v → IsLoadedTo d rows path w
 loaded-same d v w rows path o L = record {
+  later = later-image v w o.image L.later;
   placed = L.placed;
   holds = held-same d v w o.image o.same.size o.same.sizes L.placed L.holds;
   rows_are = L.rows_are;

@@ -10,6 +10,7 @@ use Rattle.hd_dbd.specs.Rows.{row_fits, next_path}
 use Rattle.hd_dbd.specs.Loads.{path_after, last_path, load_fault, Loading, rows_loaded, image_before, IsLegalLoad}
 use Rattle.hd_dbd.proofs.LevelLaw.{leveled}
 use Rattle.hd_dbd.proofs.Loading.{loaded_valid}
+use Rattle.hd_volume.specs.Headers.{Header, header_of}
 use Rattle.hd_volume.specs.Volumes.{VolumeState}
 use Rattle.hd_volume.specs.Creates.{IsCreated}
 use Rattle.hd_links.specs.Placed.{Placed}
@@ -193,7 +194,13 @@ read-none d stream records largest path v is fit none size sizes new = record {
   spells = record { is = is ∙ ap (λ (xs : List ℕ). xs ++ records) (sym (nothing-behind (head_bytes d))); valid = refl };
   last = ap segments_of none;
   load = λ sound. record { loadings = []; rows_are = refl; new = new sound; legal = (empty, refl, empty-holds d largest v fit size sizes (new sound)) };
-  loaded = λ sound. record { placed = empty; holds = empty-holds d largest v fit size sizes (new sound); rows_are = refl; last = sym none };
+  loaded = λ sound. record {
+    later = λ one. (let three : (header_of v.image).version ≡ 3 = ap (λ (h : Header). h.version) (new sound).header in omega arith);
+    placed = empty;
+    holds = empty-holds d largest v fit size sizes (new sound);
+    rows_are = refl;
+    last = sym none;
+  };
 }
   where
     empty-holds : (d : Database) (largest : ℕ) (v : VolumeState) → IsTrue (well_formed d.block_size d.frspc d.types) → v.size ≡ d.block_size → v.sizes ≡ stored_sizes d.types

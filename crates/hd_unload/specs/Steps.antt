@@ -13,12 +13,14 @@ use Rattle.hd_links.specs.Placed.{Placed}
 use Rattle.hd_links.specs.Steps.{rows_of}
 use Rattle.hd_links.specs.LastRows.{segments_of, last_on, parent_on_path, twin_on_path}
 use Rattle.hd_image.specs.Holding.{HoldsPlaced}
+use Rattle.hd_index.specs.Changes.{IsLater}
 use Rattle.hd_keeping.specs.Rooms.{HasRootRoomFor}
 use Rattle.hd_unload.specs.Loads.{IsLoadStep, IsLoad, LacksRoom}
 use Rattle.hd_unload.specs.Streams.{head_bytes, Spells, IsStreamOf}
 
--- The volume holds these rows, and this is the path of the last.
+-- The volume, of version 2 or later, holds these rows, and this is the path of the last.
 pub record IsLoadedTo (d : Database) (rows : List Segment) (path : List Placed) (v : VolumeState) : Type 0 where
+  pub later : IsLater v
   pub placed : Forest Placed
   pub holds : HoldsPlaced d v placed
   pub rows_are : rows_of placed ≡ rows

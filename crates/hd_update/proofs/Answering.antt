@@ -23,6 +23,7 @@ use Rattle.hd_links.specs.Changes.{without_span}
 use Rattle.hd_links.specs.Steps.{rows_of}
 use Rattle.hd_image.specs.Holding.{HoldsPlaced}
 use Rattle.hd_forest.proofs.Reading.{after-read}
+use Rattle.hd_index.proofs.ChangeLemmas.{later-same, later-image}
 use Rattle.hd_keeping.specs.VolumeImages.{images_of}
 use Rattle.hd_keeping.proofs.VolumeImages.{follow}
 use Rattle.hd_keeping.proofs.SetRows.{setting-follows}
@@ -35,7 +36,7 @@ use Rattle.hd_update.specs.Replacing.{AreReplaced}
 use Rattle.hd_update.specs.Deleting.{IsTakenOut}
 use Rattle.hd_update.specs.States.{Represents, IsAnswered, LacksRoomFor, StoresSome}
 use Rattle.hd_update.specs.declared.replaced.ReplacedRow.{ReplacedRow}
-use Rattle.hd_update.proofs.Reading.{held_read}
+use Rattle.hd_update.proofs.Reading.{held_read, later_read}
 use Rattle.hd_update.proofs.Standing.{all_moved_unheld, stay_unheld}
 
 -- ---- any effect
@@ -60,7 +61,8 @@ answered_before d v mid st number e o w kept image A = record {
 -- what stands for a state still does after calls that only read
 abbrev pub represented : {A : Type 0} {x : A} (d : Database) (u v : VolumeState) (kept : List Kept) (st : State) → IsRead {T = A} u (Ok x) v → IsTrue u.is_sound
     → Represents d u kept st → Represents d v kept st
-represented d u v kept st read sound R = record { placed = R.placed; holds = held_read d u v read sound R.placed R.holds; rows = R.rows; positions = R.positions }
+represented d u v kept st read sound R =
+    record { later = later_read d u v read sound R.later; placed = R.placed; holds = held_read d u v read sound R.placed R.holds; rows = R.rows; positions = R.positions }
 
 -- room lacks after calls that only read where it lacked before them
 pub lacks_before : (d : Database) (v mid : VolumeState) (rows : List Segment) (e e2 : Effect) → mid.image ≡ v.image → e2 ≡ e → LacksRoomFor d mid rows e → LacksRoomFor d v rows e2
@@ -95,6 +97,7 @@ bare_answered d v w old st number status read sound R some within none = record 
   is = refl;
   outcome_is = (refl, none);
   represents = record {
+    later = later_read d v w read sound R.later;
     placed = R.placed;
     holds = held_read d v w read sound R.placed R.holds;
     rows = R.rows;
@@ -146,6 +149,7 @@ module _ (d : Database) (pcb : View) (v : VolumeState) (old : List Kept) (st : S
           is = refl;
           outcome_is = (refl, refl);
           represents = record {
+            later = later-same mid w A.set.version (later-image v mid image R.later);
             placed = A.placed;
             holds = A.set.holds;
             rows = after;
@@ -211,6 +215,7 @@ module _ (d : Database) (pcb : View) (v : VolumeState) (old : List Kept) (st : S
     is = refl;
     outcome_is = (refl, refl);
     represents = record {
+      later = later-same mid w T.deleted.version (later-image v mid image R.later);
       placed = g;
       holds = T.deleted.holds;
       rows = T.deleted.rows;

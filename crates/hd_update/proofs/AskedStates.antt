@@ -21,6 +21,8 @@ use Rattle.hd_position.specs.Kept.{Kept}
 use Rattle.hd_links.specs.Steps.{rows_of}
 use Rattle.hd_position.specs.Kept.{kept_start, path_passed}
 use Rattle.hd_image.specs.Holding.{HoldsPlaced}
+use Rattle.hd_index.specs.Changes.{IsLater}
+use Rattle.hd_index.proofs.ChangeLemmas.{later-image}
 use Rattle.hd_image.proofs.OneImage.{held-same}
 use Rattle.hd_update.specs.Calls.{replace_effect, AreAsked}
 use Rattle.hd_update.specs.Held.{held_rows}
@@ -113,12 +115,13 @@ module _ (d : Database) (v : VolumeState) (old : List Kept) (st : State) (number
 module _ (d : Database) (v : VolumeState) (old : List Kept) (st : State) (number : ℕ) (R : Represents d v old st) (some : 0 < number) (within : number ≤ length old) (area : List ℕ) (news : List NewBytes)
     (ws : List Rewrite) (A : AreAsked d v old number area news st R ws) where
   -- the rewrites, in a volume of the same image that has room and memory for them
-  pub may_replace_asked : (mid w : VolumeState) (path : List ℕ) → HoldsPlaced d mid R.placed → w.image ≡ mid.image → w.size ≡ mid.size → w.sizes ≡ mid.sizes
+  pub may_replace_asked : (mid w : VolumeState) (path : List ℕ) → HoldsPlaced d mid R.placed → IsLater mid → w.image ≡ mid.image → w.size ≡ mid.size → w.sizes ≡ mid.sizes
       → true ≡ list_all (λ z. keeps_key d.types (rows_of R.placed) z) ws → path ≡ (kept_of old number).path → IsRoomMadeFor d.types area news w → MayReplaceAll d w path area news R.placed ws
-  may_replace_asked mid w path holds image size sizes keys is made =
+  may_replace_asked mid w path holds later image size sizes keys is made =
       let own = own_stands d v old st number R some within in
       let room = made R.placed ws A.are in
       record {
+        later = later-image mid w image later;
         holds = held-same d mid w image size sizes R.placed holds;
         are = A.are;
         keys = sym keys;

@@ -27,6 +27,7 @@ use Rattle.hd_image.specs.Records.{links_of}
 use Rattle.hd_forest.specs.Rows.{IsOnRow}
 use Rattle.hd_forest.specs.Walks.{tip}
 use Rattle.hd_forest.proofs.Reading.{after-read}
+use Rattle.hd_index.proofs.ChangeLemmas.{later-same}
 use Rattle.hd_keeping.specs.VolumeImages.{images_of}
 use Rattle.hd_keeping.proofs.NewPaths.{insertions}
 use Rattle.hd_position.specs.Inserts.{StandsOnNew}
@@ -38,7 +39,7 @@ use Rattle.hd_update.specs.Places.{IsPathOfParent}
 use Rattle.hd_update.specs.States.{Represents, IsAnswered, kept_of}
 use Rattle.hd_update.proofs.InsertedPaths.{put_first, put_new, path_new, parent_path}
 use Rattle.hd_update.proofs.LoadedStates.{one_goes}
-use Rattle.hd_update.proofs.Reading.{held_read}
+use Rattle.hd_update.proofs.Reading.{held_read, later_read}
 use Rattle.hd_update.proofs.Standing.{own_stands}
 
 -- ---- rows that went in
@@ -190,6 +191,7 @@ module _ (d : Database) (pcb : View) (v : VolumeState) (old : List Kept) (st : S
     is = refl;
     outcome_is = (refl, refl);
     represents = record {
+      later = later_read d w x read sound (later-same v w A.are.is_in.version R.later);
       placed = grown;
       holds = held_read d w x read sound grown A.are.is_in.holds;
       rows = rows_grown d v f above y rows own w A parent n P;

@@ -27,7 +27,7 @@ use Rattle.hd_image.specs.Holding.{HoldsPlaced}
 use Rattle.hd_forest.proofs.Reading.{after-read, sound-before}
 use Rattle.hd_position.proofs.LastPlaces.{last_paths}
 use Rattle.hd_update.specs.Loading.{IsLastPath, HasLastPath, code_on}
-use Rattle.hd_update.proofs.Reading.{held_read}
+use Rattle.hd_update.proofs.Reading.{held_read, later_read}
 
 -- ---- one forest
 
@@ -37,7 +37,7 @@ one_forest d v f g F G = unique d.types (ordered d.block_size d.frspc d.types F.
 
 -- after calls that only read it is the same path
 pub last_read : {A : Type 0} {x : A} (d : Database) (u v : VolumeState) → IsRead {T = A} u (Ok x) v → (path : List ℕ) (f : Forest Placed) → IsLastPath d u path f → IsLastPath d v path f
-last_read d u v read path f L = record { sound = (after-read d u v read L.sound).sound; holds = held_read d u v read L.sound f L.holds; is = L.is }
+last_read d u v read path f L = record { sound = (after-read d u v read L.sound).sound; later = later_read d u v read L.sound L.later; holds = held_read d u v read L.sound f L.holds; is = L.is }
 
 pub has_last_read : {A : Type 0} {x : A} (d : Database) (u v : VolumeState) → IsRead {T = A} u (Ok x) v → (path : List ℕ) → HasLastPath d u path → HasLastPath d v path
 has_last_read d u v read path has now = (let T = has (sound-before u v read now) in (T.0, last_read d u v read path T.0 T.1))

@@ -111,6 +111,7 @@ path_kept d v kept number k path some within has same sound =
       R.placed,
       record {
         sound = sound;
+        later = R.later;
         holds = R.holds;
         is = same ∙ at.stands.path ∙ ap (path_before d.types R.placed) all ∙ (last_paths d v R.placed R.holds.volume R.holds.records).0;
       },

@@ -31,6 +31,8 @@ use Rattle.hd_links.proofs.Numbers.{map_end, rows_length, rows_addressed}
 use Rattle.hd_links.proofs.Types.{ordered}
 use Rattle.hd_image.specs.Records.{links_of}
 use Rattle.hd_image.specs.Holding.{HoldsPlaced}
+use Rattle.hd_index.specs.Changes.{IsLater}
+use Rattle.hd_index.proofs.ChangeLemmas.{later-same}
 use Rattle.hd_image.proofs.Found.{records-link}
 use Rattle.hd_image.proofs.Roots.{header-child}
 use Rattle.hd_forest.specs.Rows.{IsOnRow}
@@ -47,7 +49,7 @@ use Rattle.hd_update.specs.Loading.{last_parent}
 use Rattle.hd_update.specs.Putting.{MayPut, IsPutIn}
 use Rattle.hd_update.specs.States.{StandForAll, Represents, IsAnswered, kept_of}
 use Rattle.hd_update.proofs.Answering.{answered_as}
-use Rattle.hd_update.proofs.Reading.{held_read}
+use Rattle.hd_update.proofs.Reading.{held_read, later_read}
 use Rattle.hd_update.proofs.Standing.{own_stands}
 
 -- ---- where a row goes in
@@ -61,12 +63,12 @@ comes_last d v f row a H fits may free =
     (records-link d v H.volume.fit H.volume) f H.records (record { address = a; segment = row }) fits may free (parent_of d.types row.code) refl
 
 -- so it may be put in there
-pub may_put : (d : Database) (v : VolumeState) (f : Forest Placed) (row : Segment) (h y : ℕ) → HoldsPlaced d v f → row_fits d.types row ≡ true
+pub may_put : (d : Database) (v : VolumeState) (f : Forest Placed) (row : Segment) (h y : ℕ) → HoldsPlaced d v f → IsLater v → row_fits d.types row ≡ true
     → load_fault d.types (segments_of (last_on f)) row ≡ None → h ≡ parent_on_path d.types (last_on f) row → y ≡ twin_on_path d.types (last_on f) row → MayPut d v h y row
-may_put d v f row h y H fits may parent twin =
+may_put d v f row h y H later fits may parent twin =
     subst (λ (x : ℕ). MayPut d v x y row) (sym parent)
     (subst (λ (x : ℕ). MayPut d v (parent_on_path d.types (last_on f) row) x row) (sym twin)
-    (record { placed = f; holds = H; may = λ a free. (comes_last d v f row a H fits may free).may }))
+    (record { later = later; placed = f; holds = H; may = λ a free. (comes_last d v f row a H fits may free).may }))
 
 got_or : (ps : List Placed) (n : ℕ) → unwrap_or (slice_get (map (λ (p : Placed). p.address) ps) n) 0 ≡ option_map_or (λ q. q.address) (slice_get ps n) 0
 got_or [] n = refl
@@ -235,6 +237,7 @@ module _ (d : Database) (pcb : View) (v : VolumeState) (old : List Kept) (st : S
     is = refl;
     outcome_is = (refl, refl);
     represents = record {
+      later = later_read d w x read sound (later-same v w P.is_in.version R.later);
       placed = grown;
       holds = held_read d w x read sound grown P.is_in.holds;
       rows = rows_are;

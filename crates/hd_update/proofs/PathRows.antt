@@ -16,6 +16,7 @@ use Rattle.hd_links.specs.Placed.{Placed}
 use Rattle.hd_links.specs.Changes.{with_leaf}
 use Rattle.hd_links.specs.LastRows.{segments_of}
 use Rattle.hd_image.proofs.OneImage.{links-same, held-same}
+use Rattle.hd_index.proofs.ChangeLemmas.{later-image}
 use Rattle.hd_forest.specs.Updates.{MayLink}
 use Rattle.hd_forest.specs.Walks.{tip}
 use Rattle.hd_keeping.specs.Rooms.{HasRoomFor, HasMemoryFor}
@@ -27,6 +28,7 @@ use Rattle.hd_update.proofs.RowsIn.{Begins, rows_begin, as_many_rows, tip_pushed
 
 pub may_same : (d : Database) (v w : VolumeState) (h y : ℕ) (row : Segment) → w.image ≡ v.image → w.size ≡ v.size → w.sizes ≡ v.sizes → MayPut d v h y row → MayPut d w h y row
 may_same d v w h y row image size sizes M = record {
+  later = later-image v w image M.later;
   placed = M.placed;
   holds = held-same d v w image size sizes M.placed M.holds;
   may = subst (λ (m : Links). MayLink d.types m h y row) (sym (links-same d.types v w image size sizes)) M.may;

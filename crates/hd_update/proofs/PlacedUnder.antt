@@ -21,6 +21,7 @@ use Rattle.hd_links.specs.Steps.{rows_of, address_at}
 use Rattle.hd_links.proofs.Types.{Ordered, ordered, above_some, code_some}
 use Rattle.hd_image.specs.Records.{links_of}
 use Rattle.hd_image.specs.Holding.{HoldsPlaced}
+use Rattle.hd_index.specs.Changes.{IsLater}
 use Rattle.hd_forest.specs.Walks.{tip}
 use Rattle.hd_keeping.proofs.RootTypes.{root-parent}
 use Rattle.hd_position.specs.Laws.{IsHeld}
@@ -153,10 +154,10 @@ module _ (d : Database) (v : VolumeState) (f : Forest Placed) (H : HoldsPlaced d
             (let some : 0 < address_at f q = (G.addressed.there q p.0).some in
             let is : tip above ≡ address_at f q = ap tip p.1 ∙ (G.steps q p.0).tip in absurd (omega arith))
 
-    pub placed_for : IsPlaceFor d v f above y (row ∷ rest) parent n
-    placed_for = record {
+    pub placed_for : IsLater v → IsPlaceFor d v f above y (row ∷ rest) parent n
+    placed_for later = record {
       path = path;
-      may = (root_alone, tip_there, record { placed = f; holds = H; may = at.may }, down);
+      may = (root_alone, tip_there, record { later = later; placed = f; holds = H; may = at.may }, down);
       at = at.at;
       stand = stand;
     }

@@ -67,10 +67,10 @@ module _ (d : Database) (v : VolumeState) (y : ℕ) (bytes key : List ℕ) (C : 
   pub entry_refused : (w : VolumeState) (a : ℕ) → IsLinked d v 0 y (record { code = 1; bytes = bytes }) a w → v.room ≤ w.room + 1
       → (e : Refused) → (e ≡ Memory) ⊎ (e ≡ Full) ⊎ (e ≡ Device) → (e ≡ Full → (spare w < blocks_needed (root_key_length d.types) w key) ⊎ IsHighest w) → (e ≡ Memory → w.room < entry_growth w) → e ≡ Device
   entry_refused w a I room e (inl memory) full few =
-      (let enough : entry_growth w ≤ w.room = (entries-room d v w C.root.placed key y a (record { code = 1; bytes = bytes }) C.others C.root.holds I).1 room C.memory in
+      (let enough : entry_growth w ≤ w.room = (entries-room d v w C.root.placed key y a (record { code = 1; bytes = bytes }) C.others C.root.holds C.root.later I).1 room C.memory in
       let less : w.room < entry_growth w = few memory in absurd (omega arith))
   entry_refused w a I room e (inr (inl is)) full few =
-      (let room : (IsHighest w → ⊥) × (blocks_for_entry d w key ≤ spare w) = (entries-room d v w C.root.placed key y a (record { code = 1; bytes = bytes }) C.others C.root.holds I).0 C.room in
+      (let room : (IsHighest w → ⊥) × (blocks_for_entry d w key ≤ spare w) = (entries-room d v w C.root.placed key y a (record { code = 1; bytes = bytes }) C.others C.root.holds C.root.later I).0 C.room in
       let enough : blocks_for_entry d w key ≤ spare w = room.1 in
       absurd (elim (full is) [ inl less ↦ omega arith | inr high ↦ room.0 high ]))
   entry_refused w a I room e (inr (inr device)) full few = device
@@ -99,6 +99,7 @@ put_before d v mid w f h y row a one holds P =
         places = P.is_in.places;
         childless = P.is_in.childless;
         takes = P.is_in.takes;
+        version = P.is_in.version ∙ ap (λ (x : List ℕ). (header_of x).version) one.image;
         largest = P.is_in.largest ∙ ap (λ (x : List ℕ). (header_of x).largest) one.image;
         spares =
             (let own : spare mid ≤ spare w + blocks_for (images_of d) mid.image rows (has_root rows) = P.is_in.spares in

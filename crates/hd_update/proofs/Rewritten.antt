@@ -35,6 +35,7 @@ use Rattle.hd_image.proofs.Found.{records-link}
 use Rattle.hd_volume.specs.Rooms.{spare, HasHole}
 use Rattle.hd_forest.specs.Walks.{tip}
 use Rattle.hd_forest.specs.Replacing.{Outgrows}
+use Rattle.hd_index.proofs.ChangeLemmas.{later-same}
 use Rattle.hd_keeping.specs.Rooms.{HasRoomFor, HasMemoryFor}
 use Rattle.hd_keeping.specs.SetRows.{AreSet}
 use Rattle.hd_keeping.proofs.SetRows.{rewrite-length, rewrite-other, setting-begins, setting-goes-on}
@@ -299,6 +300,7 @@ module _ (d : Database) (v x : VolumeState) (path area : List ℕ) (news : List 
 
   pub may_be_replaced : MayReplace d x part row
   may_be_replaced = record {
+    later = later-same v x R.set.version C.later;
     placed = g;
     holds = R.set.holds;
     down = (leads.0, leads.1);

@@ -70,6 +70,7 @@ module _ (d : Database) (v : VolumeState) (kept : List Kept) (st : State) (numbe
   pub own_position : IsTrue v.is_sound → (k : Kept) → IsPositionIn d v R.placed (slice_index_or kept (number - 1) k) (position_at st number)
   own_position sound k = record {
     sound = sound;
+    later = R.later;
     holds = R.holds;
     stands = subst (λ (x : Kept). StandsFor d.types R.placed x (position_at st number)) (get_or_default kept (number - 1) kept_start k (omega arith)) own_stands;
   }

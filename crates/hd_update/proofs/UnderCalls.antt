@@ -86,7 +86,8 @@ module _ (d : Database) (v : VolumeState) (old : List Kept) (st : State) (number
   pub placed : {A : Type 0} {x : A} (w : VolumeState) (y : ℕ) → IsRead {T = A} v (Ok x) w → IsPlaceOf d v f parent p.standing rule row (tip above) y → IsPlaceFor d w f above y rows parent n
   placed w y read P =
       subst (λ (rs : List Segment). IsPlaceFor d w f above y rs parent n) (sym rows_are)
-      (placed_for d w f (represented d v w old st read U.sound U.represents).holds above parent row rest U.path U.typed fits down p.standing rule y (place_read d v w f parent p.standing rule row (tip above) y read U.sound P))
+      (let R = represented d v w old st read U.sound U.represents in
+      placed_for d w f R.holds above parent row rest U.path U.typed fits down p.standing rule y (place_read d v w f parent p.standing rule row (tip above) y read U.sound P) R.later)
 
   -- there is no room
   pub lacks : (pcb : View) → is_key_taken d.types (rows_of f) parent row ≡ false → LacksRoom (images_of d) d.types v.image rows (has_root rows) → LacksRoomFor d v st.rows (insert_under (setting pcb) st.rows p rule parent rows)

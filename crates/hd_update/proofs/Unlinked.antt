@@ -8,6 +8,7 @@ use Rattle.hd_dbd.specs.Paths.{end_of}
 use Rattle.hd_dbd.specs.Forest.{Forest}
 use Rattle.hd_calls.specs.Moves.{deleted}
 use Rattle.hd_calls.specs.Runs.{Follows}
+use Rattle.hd_volume.specs.Headers.{Header, header_of}
 use Rattle.hd_volume.specs.Volumes.{VolumeState}
 use Rattle.hd_volume.specs.Calls.{IsRead}
 use Rattle.hd_volume.specs.Rooms.{spare}
@@ -24,6 +25,7 @@ use Rattle.hd_forest.proofs.Reading.{after-read}
 use Rattle.hd_forest.proofs.Walking.{steps-found}
 use Rattle.hd_index.specs.Maps.{without_key}
 use Rattle.hd_index.specs.Changes.{IsIndexOf, entries_for}
+use Rattle.hd_index.proofs.ChangeLemmas.{set-index, later-same}
 use Rattle.hd_keeping.specs.Entered.{IsEntered}
 use Rattle.hd_keeping.specs.Deletions.{IsDeleted}
 use Rattle.hd_keeping.specs.VolumeImages.{images_of}
@@ -33,7 +35,7 @@ use Rattle.hd_image.specs.Holding.{root_entries}
 use Rattle.hd_position.proofs.VolumeMoves.{held, unlinked_move}
 use Rattle.hd_position.proofs.Siblings.{down_there, some_there}
 use Rattle.hd_update.specs.Deleting.{IsPlacedOn, IsTakenOut}
-use Rattle.hd_update.proofs.Reading.{held_read}
+use Rattle.hd_update.proofs.Reading.{held_read, later_read}
 
 -- what holds once a call is done, by what it promises
 pub on_ok : {A : Type 0} {P Q : Type 0} (r : Result A Refused) → OnOk r P → (P → Q) → OnOk r Q
@@ -50,6 +52,7 @@ placed_read d u v read f path i at =
     let same = after-read d u v read at.sound in
     record {
       sound = same.sound;
+      later = later_read d u v read at.sound at.later;
       holds = held_read d u v read at.sound f at.holds;
       row = subst (λ (m : Links). IsOnRow d.types m f path i) (sym same.links) at.row;
     }
@@ -60,6 +63,7 @@ taken_before d v mid f path i w image T = record {
   deleted = record {
     holds = T.deleted.holds;
     rows = T.deleted.rows;
+    version = T.deleted.version ∙ ap (λ (x : List ℕ). (header_of x).version) image;
     follows = subst (λ (x : List ℕ). Follows (images_of d) (rows_of f) x (deleted i (end_of d.types (rows_of f) i)) (rows_of (without_span (parent_on path) (tip path) f)) w.image) image T.deleted.follows;
   };
   moves = T.moves;
@@ -92,7 +96,7 @@ module _ (d : Database) (v : VolumeState) (f : Forest Placed) (path : List ℕ) 
   pub index_there : (w : VolumeState) → IsUnlinked d v path w → IsIndexOf d w
   index_there w I =
       let W = (forest-changes d v w f (root_entries d.types f) (entered d v f at.holds)).1 path I in
-      record { size = I.volume.size; index = W.index }
+      set-index d w I.volume.size W.index (later-same v w (ap (λ (z : Header). z.version) I.rest.header) at.later)
 
   pub taken_root : (w x : VolumeState) → parent_on path ≡ 0 → IsUnlinked d v path w
       → IsEntered d w (without_key (key_of d.types (segment_at m (tip path))) (entries_for d w)) 0 x → spare w ≤ spare x → IsTakenOut d v f path i x

@@ -8,6 +8,7 @@ use Rattle.hd_links.specs.Placed.{Placed}
 use Rattle.hd_links.specs.Changes.{without_span}
 use Rattle.hd_image.specs.Records.{links_of}
 use Rattle.hd_image.specs.Holding.{HoldsPlaced}
+use Rattle.hd_index.specs.Changes.{IsLater}
 use Rattle.hd_forest.specs.Walks.{tip, parent_on}
 use Rattle.hd_forest.specs.Rows.{IsOnRow}
 use Rattle.hd_keeping.specs.Deletions.{IsDeleted}
@@ -19,9 +20,10 @@ abbrev pub taken_row : List Ssa → List HeldRow → Option HeldRow
 taken_row [] held = slice_get held 0
 taken_row (a ∷ ssas) held = find (λ h. h.code == a.code) held
 
--- The sound volume holds the forest, and the path is that of its row i.
+-- The sound volume, of version 2 or later, holds the forest, and the path is that of its row i.
 pub record IsPlacedOn (d : Database) (v : VolumeState) (f : Forest Placed) (path : List ℕ) (i : ℕ) : Type 0 where
   pub sound : IsTrue v.is_sound
+  pub later : IsLater v
   pub holds : HoldsPlaced d v f
   pub row : IsOnRow d.types (links_of d.types v) f path i
 

@@ -24,6 +24,7 @@ use Rattle.hd_links.specs.LastRows.{last_on, segments_of, parent_on_path, twin_o
 use Rattle.hd_links.specs.Links.{segment_at}
 use Rattle.hd_image.specs.Records.{links_of}
 use Rattle.hd_image.specs.Holding.{HoldsPlaced}
+use Rattle.hd_index.specs.Changes.{IsLater}
 use Rattle.hd_keeping.specs.VolumeImages.{images_of}
 use Rattle.hd_position.specs.Kept.{Kept}
 use Rattle.hd_get.specs.declared.outcome.Outcome.{Outcome}
@@ -63,9 +64,10 @@ IsLoadFull d v old number code area e =
 
 -- ---- the path of the last row
 
--- The sound volume holds the forest, and the path is that of its last row.
+-- The sound volume, of version 2 or later, holds the forest, and the path is that of its last row.
 pub record IsLastPath (d : Database) (v : VolumeState) (path : List ℕ) (f : Forest Placed) : Type 0 where
   pub sound : IsTrue v.is_sound
+  pub later : IsLater v
   pub holds : HoldsPlaced d v f
   pub is : path ≡ map (λ p. p.address) (last_on f)
 

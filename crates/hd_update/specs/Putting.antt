@@ -12,6 +12,7 @@ use Rattle.hd_links.specs.Changes.{with_leaf}
 use Rattle.hd_links.specs.Numbers.{LeafGoesInAt}
 use Rattle.hd_image.specs.Records.{links_of}
 use Rattle.hd_image.specs.Holding.{HoldsPlaced}
+use Rattle.hd_index.specs.Changes.{IsLater}
 use Rattle.hd_forest.specs.Updates.{MayLink}
 use Rattle.hd_keeping.specs.Rooms.{HasRoomFor, HasMemoryFor, HasRootRoomFor, HasRootMemoryFor}
 use Rattle.hd_keeping.specs.NewPaths.{IsPathIn}
@@ -19,8 +20,9 @@ use Rattle.hd_keeping.specs.VolumeImages.{images_of}
 use Rattle.hd_position.specs.Laws.{MovesUp}
 use Rattle.hd_get.specs.Starts.{HasRoots}
 
--- The volume holds a forest in which a row may be linked below h behind its twin y.
+-- The volume, of version 2 or later, holds a forest in which a row may be linked below h behind its twin y.
 pub record MayPut (d : Database) (v : VolumeState) (h y : ℕ) (row : Segment) : Type 0 where
+  pub later : IsLater v
   pub placed : Forest Placed
   pub holds : HoldsPlaced d v placed
   pub may : MayLink d.types (links_of d.types v) h y row

@@ -24,7 +24,7 @@ use Rattle.hd_image.specs.Holding.{HoldsPlaced}
 use Rattle.hd_forest.specs.Walks.{tip}
 use Rattle.hd_forest.specs.Replacing.{IsRowSet}
 use Rattle.hd_index.specs.Maps.{with_address}
-use Rattle.hd_index.specs.Changes.{entries_for}
+use Rattle.hd_index.specs.Changes.{IsLater, entries_for}
 use Rattle.hd_keeping.specs.Entered.{IsEntered}
 use Rattle.hd_keeping.specs.Rooms.{HasRoomFor, HasMemoryFor}
 use Rattle.hd_keeping.specs.SetRows.{KeepsEntry, AreSet}
@@ -124,8 +124,10 @@ MakeLonger types area news = (f : Forest Placed) (ws : List Rewrite) → AreRewr
 
 -- ---- one row
 
--- The last row of the path may get other bytes: the volume holds a forest, in which it is of the row's type, and its key stays.
+-- The last row of the path may get other bytes: the volume, of version 2 or later, holds a forest, in which it is of the row's type, and its
+-- key stays.
 pub record MayReplace (d : Database) (v : VolumeState) (path : List ℕ) (row : Segment) : Type 0 where
+  pub later : IsLater v
   pub placed : Forest Placed
   pub holds : HoldsPlaced d v placed
   pub down : (0 < length path) × LeadsDown d.types (links_of d.types v) 0 path
@@ -152,9 +154,10 @@ abbrev pub AreOnPath : List ℕ → List Rewrite → Type 0
 AreOnPath path [] = Unit {0}
 AreOnPath path (w ∷ ws) = (list_any (λ j. j == w.number) path ≡ true) × (list_any (λ z. z.number == w.number) ws ≡ false) × AreOnPath path ws
 
--- Rows of the forest f, which the volume holds, may get these new bytes: they are rows of one path, each keeps its key, and there are room
--- and memory for those that are made longer.
+-- Rows of the forest f, which the volume, of version 2 or later, holds, may get these new bytes: they are rows of one path, each keeps its
+-- key, and there are room and memory for those that are made longer.
 pub record MayReplaceAll (d : Database) (v : VolumeState) (path area : List ℕ) (news : List NewBytes) (f : Forest Placed) (ws : List Rewrite) : Type 0 where
+  pub later : IsLater v
   pub holds : HoldsPlaced d v f
   pub are : AreRewritesOf d.types f area news ws
   pub keys : list_all (λ w. keeps_key d.types (rows_of f) w) ws ≡ true

@@ -16,6 +16,7 @@ use Rattle.hd_volume.specs.Volumes.{VolumeState}
 use Rattle.hd_links.specs.Placed.{Placed}
 use Rattle.hd_links.specs.Steps.{rows_of}
 use Rattle.hd_image.specs.Holding.{HoldsPlaced}
+use Rattle.hd_index.specs.Changes.{IsLater}
 use Rattle.hd_keeping.specs.VolumeImages.{images_of}
 use Rattle.hd_position.specs.Kept.{Kept, StandsFor, kept_start}
 use Rattle.hd_get.specs.declared.outcome.Outcome.{Outcome}
@@ -30,8 +31,9 @@ StandForAll types f [] (q ∷ qs) = ⊥
 StandForAll types f (k ∷ ks) [] = ⊥
 StandForAll types f (k ∷ ks) (q ∷ qs) = StandsFor types f k q × StandForAll types f ks qs
 
--- The volume holds the rows of a state, placed somehow, and what is kept of the PCBs stands for its positions.
+-- The volume, of version 2 or later, holds the rows of a state, placed somehow, and what is kept of the PCBs stands for its positions.
 pub record Represents (d : Database) (v : VolumeState) (kept : List Kept) (st : State) : Type 0 where
+  pub later : IsLater v
   pub placed : Forest Placed
   pub holds : HoldsPlaced d v placed
   pub rows : rows_of placed ≡ st.rows

@@ -1,4 +1,4 @@
-//! Tests of blocks, segment prefixes, stores, volumes and the cache.
+//! Tests of blocks, segment prefixes, stores, volumes, the cache and the root index.
 #![tactic(auto)]
 
 #[cfg(test)]
@@ -11,6 +11,14 @@ mod cache_refusal_tests;
 mod cache_steps;
 #[cfg(test)]
 mod cache_tests;
+#[cfg(test)]
+mod index_counts_tests;
+#[cfg(test)]
+mod index_order_tests;
+#[cfg(test)]
+mod index_tests;
+#[cfg(test)]
+mod index_volumes;
 #[cfg(test)]
 mod prefix_tests;
 #[cfg(test)]

@@ -6,7 +6,6 @@ use Rattle.hd_volume.specs.Indexes.{root_key_length}
 use Rattle.hd_volume.specs.Rooms.{spare, HasHole}
 use Rattle.hd_volume.proofs.CallSteps.{call-ok}
 use Rattle.hd_volume.proofs.JoinLemmas.{AreOne, read-one, one-both, one-formatted, hole-after, calls-join}
-use Rattle.hd_levels.proofs.Versions.{formatted-of}
 use Rattle.hd_index.specs.Places.{blocks_needed}
 use Rattle.hd_index.proofs.NeedLemmas.{needed-most}
 use Rattle.hd_unload.specs.Steps.{row_of}
@@ -28,7 +27,7 @@ returns-then-most-spare-clause-room g c = λ sound room.
     let whole = c.from-most.ensures in
     let test = c.if-most-spare.true in
     let enough : 1 + blocks_needed key_length v key ≤ spare v = omega arith in
-    (c.is_highest.ensures.low sound (formatted-of key_length v index).header.first c.if-is_highest.false, inl enough)
+    (c.is_highest.ensures.low sound index.formatted.header.first c.if-is_highest.false, inl enough)
 
 pub returns-then-spare-entry-clause-lacks : goal.returns-then-spare-entry-clause-lacks
 returns-then-spare-entry-clause-lacks g c = λ sound lacks.
@@ -46,7 +45,7 @@ returns-then-entry-spare-clause-room g c = λ sound room.
     let need = c.in_ok-blocks_needed.ensures.value sound in
     let enough : 1 + blocks_needed key_length v c.root_key.result.now ≤ spare v = omega arith in
     room-same d v c.blocks_needed.new.volume (row_of 1 c.args.bytes.now) (read-one read now) read.call.plain (
-      c.is_highest.ensures.low sound (formatted-of key_length v (c.requires.index sound).index).header.first c.if-is_highest.false,
+      c.is_highest.ensures.low sound (c.requires.index sound).index.formatted.header.first c.if-is_highest.false,
       inl (subst (λ (key : List ℕ). 1 + blocks_needed key_length v key ≤ spare v) c.root_key.ensures.key enough),
     )
 
@@ -57,7 +56,7 @@ has_hole-requires g c = record {
       let rest = c.set_spacing.ensures.rest in
       let middle : IsTrue c.blocks_needed.new.volume.is_sound = rw (ap (λ (u : VolumeState). u.is_sound) rest) at now in
       let sound : IsTrue c.args.volume.now.is_sound = rw (← read.call.sound) middle in
-      one-formatted (one-both (read-one read middle) (plain-one rest)) (formatted-of (root_key_length c.args.dbd.now.types) c.args.volume.now (c.requires.index sound).index);
+      one-formatted (one-both (read-one read middle) (plain-one rest)) (c.requires.index sound).index.formatted;
 }
 
 pub returns-clause-call : goal.returns-clause-call
@@ -97,7 +96,7 @@ returns-clause-room g c = λ sound room.
     let few = c.if-entry-spare.false in
     let enough : blocks_needed key_length v c.root_key.result.now ≤ spare v = omega arith in
     hole-serves d v c.has_hole.new.self (row_of 1 c.args.bytes.now) (one-both before (read-one look last)) (look.call.plain (ap (λ (u : VolumeState). u.spacing) rest))
-    (c.is_highest.ensures.low sound (formatted-of key_length v (c.requires.index sound).index).header.first c.if-is_highest.false)
+    (c.is_highest.ensures.low sound (c.requires.index sound).index.formatted.header.first c.if-is_highest.false)
     (subst (HasHole v) (c.root_size.ensures ∙ sym (size-alone d.types (row_of 1 c.args.bytes.now))) hole)
     (subst (λ (key : List ℕ). blocks_needed key_length v key ≤ spare v) c.root_key.ensures.key enough)
   where

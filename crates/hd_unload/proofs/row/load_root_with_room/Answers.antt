@@ -1,10 +1,14 @@
 -- A look for room leaves the volume as it is.
 use Rattle.std.proofs.Common.{IsTrue, subst}
 use Rattle.hd_volume.proofs.CallSteps.{if-ok}
+use Rattle.hd_index.proofs.ChangeLemmas.{set-index}
 use Rattle.hd_unload.specs.Steps.{row_of}
 use Rattle.hd_unload.proofs.LoadedRoots.{lacks-beside}
 use Rattle.hd_unload.proofs.OneVolume.{loaded-same, row-same, call-one}
 use Rattle.hd_unload.proofs.row.load_root_with_room.Goals as goal
+
+pub lacks_room-requires-clause-index : goal.lacks_room-requires-clause-index
+lacks_room-requires-clause-index g c sound = (let L = (c.requires.can sound).2 in set-index c.args.dbd.now c.args.volume.now c.requires.sizes.0 L.holds.index L.later)
 
 pub returns-then-branch-clause-full : goal.returns-then-branch-clause-full
 returns-then-branch-clause-full g c = λ is sound.

@@ -19,7 +19,7 @@ delete_span-requires g c = record {
   there = λ now.
       (let sound = sound-before c.args.volume.now c.row_before.new.volume c.in_ok-before.ensures.read now in
       let T = c.requires.state sound in
-      (T.2.placed, T.1, placed_read c.args.dbd.now c.args.volume.now c.row_before.new.volume c.in_ok-before.ensures.read T.2.placed c.args.path.now T.1 (record { sound = sound; holds = T.2.holds; row = T.3 })));
+      (T.2.placed, T.1, placed_read c.args.dbd.now c.args.volume.now c.row_before.new.volume c.in_ok-before.ensures.read T.2.placed c.args.path.now T.1 (record { sound = sound; later = T.2.later; holds = T.2.holds; row = T.3 })));
 }
 
 pub returns-clause-done : goal.returns-clause-done
@@ -31,7 +31,7 @@ returns-clause-done g c pcb st i sound R on =
     let path : List ℕ = c.args.path.now in
     let old : List Kept = c.args.positions.now in
     let same = after-read d v mid c.in_ok-before.ensures.read sound in
-    let now : IsPlacedOn d mid R.placed path i = placed_read d v mid c.in_ok-before.ensures.read R.placed path i (record { sound = sound; holds = R.holds; row = on }) in
+    let now : IsPlacedOn d mid R.placed path i = placed_read d v mid c.in_ok-before.ensures.read R.placed path i (record { sound = sound; later = R.later; holds = R.holds; row = on }) in
     let before : c.in_ok-before.before ≡ path_before d.types R.placed i = c.in_ok-before.ensures.value sound R.placed i on in
     let left : c.leave_spans.new.positions ≡ all_without_row (tip path) (length path) (path_before d.types R.placed i) old
     = subst (λ (b : List ℕ). c.leave_spans.new.positions ≡ all_without_row (tip path) (length path) b old) before c.leave_spans.ensures in

@@ -10,7 +10,7 @@ use Rattle.hd_update.specs.Putting.{IsPutIn}
 use Rattle.hd_update.proofs.LastPaths.{last_read}
 use Rattle.hd_update.proofs.LoadedStates.{may_put, parent_is, root_parent_none, parent_there}
 use Rattle.hd_update.proofs.PutRoots.{put_before}
-use Rattle.hd_update.proofs.Reading.{held_read}
+use Rattle.hd_update.proofs.Reading.{held_read, later_read}
 use Rattle.hd_update.proofs.load_call.put_last.Goals as goal
 
 pub put_row-requires-clause-root : goal.put_row-requires-clause-root
@@ -34,7 +34,8 @@ put_row-requires-clause-may g c now =
     let w = c.last_twin.new.volume in
     let row : Segment = record { code = c.args.code; bytes = c.args.bytes.now } in
     let T = c.requires.may (sound-before v w c.in_ok-twin.ensures.read now) in
-    may_put d w T.0 row c.last_parent-parent.result c.in_ok-twin.twin (last_read d v w c.in_ok-twin.ensures.read c.args.path.now T.0 T.1).holds c.requires.fits T.2
+    let L = last_read d v w c.in_ok-twin.ensures.read c.args.path.now T.0 T.1 in
+    may_put d w T.0 row c.last_parent-parent.result c.in_ok-twin.twin L.holds L.later c.requires.fits T.2
     (c.last_parent-parent.ensures ∙ parent_is d.types c.args.path.now (last_on T.0) row T.1.is)
     (c.in_ok-twin.ensures.value T.0 T.1)
 
@@ -64,4 +65,4 @@ returns-clause-full g c = if-err-map c.put_row.result (λ e full is sound.
     let same = after-read d v w read sound in
     let T = c.requires.may sound in
     subst (λ (x : List ℕ). LacksRoom (images_of d) d.types x (row ∷ []) (has_root (row ∷ []))) same.image
-    (full is same.sound (λ _. (T.0, held_read d v w read sound T.0 T.1.holds))))) c.put_row.ensures.full
+    (full is same.sound (λ _. (T.0, held_read d v w read sound T.0 T.1.holds, later_read d v w read sound T.1.later))))) c.put_row.ensures.full

@@ -59,7 +59,8 @@ first_named-requires-clause-holds g c now =
     let u = c.args.volume.now in
     let v = c.standing_parent.new.volume in
     let T = c.requires.there (sound-before u v c.in_ok-path.ensures.read now) in
-    (T.0, (position_told d u v c.in_ok-path.ensures.read T.0 c.args.position.now T.1 T.2).holds)
+    let told = position_told d u v c.in_ok-path.ensures.read T.0 c.args.position.now T.1 T.2 in
+    (T.0, told.holds, told.later)
 
 pub returns-in-None-clause-value : goal.returns-in-None-clause-value
 returns-in-None-clause-value g c = if-ok-map c.first_named.result (λ path is f q at.

@@ -33,7 +33,7 @@ returns-then-ssas-eq1-clause-full g c = if-err-map c.put_row.result (λ e full.
     subst (λ (rows : List Segment). AreFullFor d c.args.volume.now rows e) (sym alone) full)) c.put_row.ensures.full
 
 pub make_room-requires-clause-holds : goal.make_room-requires-clause-holds
-make_room-requires-clause-holds g c sound = (let M = c.requires.may sound in (M.placed, M.holds))
+make_room-requires-clause-holds g c sound = (let M = c.requires.may sound in (M.placed, M.holds, M.later))
 
 pub put_first-requires-clause-may : goal.put_first-requires-clause-may
 put_first-requires-clause-may g c now =

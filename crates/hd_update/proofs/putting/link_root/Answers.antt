@@ -23,7 +23,7 @@ insert-requires-clause-index g c sound =
     let o = c.in_ok-address.ensures in
     let before : IsTrue c.args.volume.now.is_sound = subst IsTrue o.call.sound sound in
     let C = c.requires.can before in
-    (linked-new c.args.dbd.now c.args.volume.now c.link.new.volume C.root.placed c.args.after c.in_ok-address.address (record { code = 1; bytes = c.args.bytes.now }) C.root.holds C.root.may (o.linked before)).0
+    (linked-new c.args.dbd.now c.args.volume.now c.link.new.volume C.root.placed c.args.after c.in_ok-address.address (record { code = 1; bytes = c.args.bytes.now }) C.root.holds C.root.later C.root.may (o.linked before)).0
 
 pub insert-requires-clause-new : goal.insert-requires-clause-new
 insert-requires-clause-new g c sound =
@@ -31,7 +31,7 @@ insert-requires-clause-new g c sound =
     let before : IsTrue c.args.volume.now.is_sound = subst IsTrue o.call.sound sound in
     let C = c.requires.can before in
     ap (λ (k : List ℕ). address_of k (entries_for c.args.dbd.now c.link.new.volume)) c.requires.key
-    ∙ (linked-new c.args.dbd.now c.args.volume.now c.link.new.volume C.root.placed c.args.after c.in_ok-address.address (record { code = 1; bytes = c.args.bytes.now }) C.root.holds C.root.may (o.linked before)).1
+    ∙ (linked-new c.args.dbd.now c.args.volume.now c.link.new.volume C.root.placed c.args.after c.in_ok-address.address (record { code = 1; bytes = c.args.bytes.now }) C.root.holds C.root.later C.root.may (o.linked before)).1
 
 pub returns-in_err-insert-clause-only : goal.returns-in_err-insert-clause-only
 returns-in_err-insert-clause-only g c =

@@ -2,16 +2,20 @@ use Rattle.std.proofs.Common.{◌≡◌, ℕ, ◌+◌, ◌≤◌, [], ◌∷◌,
 use Rattle.hd_dbd.specs.Segment.{Segment}
 use Rattle.hd_levels.specs.Needs.{entry_growth}
 use Rattle.hd_index.proofs.NeedLemmas.{growth-same}
+use Rattle.hd_index.proofs.ChangeLemmas.{set-index}
 use Rattle.hd_volume.proofs.CallSteps.{if-ok}
 use Rattle.hd_links.specs.Links.{Links}
 use Rattle.hd_forest.specs.Updates.{MayLink}
 use Rattle.hd_forest.proofs.Reading.{after-read, sound-before}
 use Rattle.hd_keeping.proofs.RootTypes.{root-key-long}
 use Rattle.hd_keeping.proofs.Rooms.{one-volume}
-use Rattle.hd_update.proofs.Reading.{held_read}
+use Rattle.hd_update.proofs.Reading.{held_read, later_read}
 use Rattle.hd_update.proofs.PutRoots.{no_root_room, put_before}
 use Rattle.hd_update.proofs.RoomOf.{one_root_room}
 use Rattle.hd_update.proofs.putting.put_reserved_root.Goals as goal
+
+pub lacks_room-requires-clause-index : goal.lacks_room-requires-clause-index
+lacks_room-requires-clause-index g c sound = (let M = c.requires.may sound in set-index c.args.dbd.now c.args.volume.now c.requires.size M.holds.index M.later)
 
 pub returns-then-branch-clause-full : goal.returns-then-branch-clause-full
 returns-then-branch-clause-full g c is sound some =
@@ -34,6 +38,7 @@ link_root-requires-clause-can g c now =
     let row : Segment = record { code = 1; bytes = c.args.bytes.now } in
     record {
       root = record {
+        later = later_read d v w read sound M.later;
         placed = M.placed;
         holds = held_read d v w read sound M.placed M.holds;
         may = subst (λ (m : Links). MayLink d.types m 0 c.args.after row) (sym same.links) M.may;

@@ -9,6 +9,7 @@ use Rattle.hd_image.proofs.OneImage.{links-same, held-same}
 use Rattle.hd_forest.specs.Updates.{MayLink}
 use Rattle.hd_keeping.specs.VolumeImages.{images_of}
 use Rattle.hd_index.proofs.NeedLemmas.{growth-same, few-grown}
+use Rattle.hd_index.proofs.ChangeLemmas.{set-index, later-image}
 use Rattle.hd_update.proofs.PutRoots.{put_before}
 use Rattle.hd_update.proofs.putting.put_root.Goals as goal
 
@@ -21,6 +22,7 @@ put_reserved_root-requires-clause-may g c now =
     let sound : IsTrue v.is_sound = sound-back (Ok c.in_ok-reserve.field-0) v.is_sound w.is_sound o.call.sound now in
     let M = c.requires.may sound in
     record {
+      later = later-image v w (o.image now).0 M.later;
       placed = M.placed;
       holds = held-same d v w (o.image now).0 o.call.size o.call.sizes M.placed M.holds;
       may = subst (λ (m : Links). MayLink d.types m 0 c.args.after (record { code = 1; bytes = c.args.bytes.now })) (sym (links-same d.types v w (o.image now).0 o.call.size o.call.sizes)) M.may;
@@ -33,9 +35,10 @@ put_reserved_root-requires-clause-memory g c now =
     let o = c.in_ok-reserve.ensures in
     let sound : IsTrue v.is_sound = sound-back (Ok c.in_ok-reserve.field-0) v.is_sound w.is_sound o.call.sound now in
     let M = c.requires.may sound in
-    let own : c.growth.result ≡ entry_growth v = c.growth.ensures c.args.dbd.now sound (record { size = c.requires.size; index = M.holds.index }) in
+    let index = set-index c.args.dbd.now v c.requires.size M.holds.index M.later in
+    let own : c.growth.result ≡ entry_growth v = c.growth.ensures c.args.dbd.now sound index in
     let growth : entry_growth w ≡ entry_growth v = growth-same v w (o.image now).0 in
-    let few : entry_growth v < 1000 = few-grown (root_key_length c.args.dbd.now.types) v M.holds.index in
+    let few : entry_growth v < 1000 = few-grown (root_key_length c.args.dbd.now.types) v index.index in
     let more = c.saturating_add-blocks.ensures in
     let room : c.saturating_add-blocks.result ≤ w.room = o.room in
     omega arith
@@ -59,4 +62,4 @@ returns-clause-full g c = if-err-map c.put_reserved_root.result (λ e full is so
     let now : IsTrue w.is_sound = rw o.call.sound sound in
     let F = some sound in
     subst (λ (x : List ℕ). LacksRoom (images_of d) d.types x (record { code = 1; bytes = c.args.bytes.now } ∷ []) true) (o.image now).0
-    (full is now (λ _. (F.0, held-same d v w (o.image now).0 o.call.size o.call.sizes F.0 F.1))))) c.put_reserved_root.ensures.full
+    (full is now (λ _. (F.0, held-same d v w (o.image now).0 o.call.size o.call.sizes F.0 F.1, later-image v w (o.image now).0 F.2))))) c.put_reserved_root.ensures.full

@@ -22,7 +22,7 @@ use Rattle.hd_update.specs.Calls.{rewrites_effect, AreRewritesFull, RewritesLeng
 use Rattle.hd_update.specs.States.{IsAnswered}
 use Rattle.hd_update.specs.Positions.{all_after_rewrites, unheld_at}
 use Rattle.hd_update.specs.declared.replaced.ReplacedRow.{ReplacedRow}
-use Rattle.hd_update.proofs.Reading.{held_read}
+use Rattle.hd_update.proofs.Reading.{held_read, later_read}
 use Rattle.hd_update.proofs.AskedStates.{may_replace_asked, own_path}
 use Rattle.hd_update.proofs.Rewritten.{none_stored}
 use Rattle.hd_update.proofs.Answering.{key_changes, rows_replaced, replace_lacks, replace_stores}
@@ -108,7 +108,7 @@ replace_rows-requires-clause-may g c now =
       T.2.placed,
       T.1,
       may_replace_asked d v c.args.positions.now T.0 c.args.number T.2 c.requires.number.0 c.requires.number.1 c.args.area.now c.args.news.now T.1 T.3 mid w c.path.result.now
-          (held_read d v mid c.in_ok-keep_keys.ensures.read sound T.2.placed T.2.holds) (o.image now) o.call.size o.call.sizes keys
+          (held_read d v mid c.in_ok-keep_keys.ensures.read sound T.2.placed T.2.holds) (later_read d v mid c.in_ok-keep_keys.ensures.read sound T.2.later) (o.image now) o.call.size o.call.sizes keys
           (own_path c.args.positions.now c.args.number c.index-positions-number.result c.path.result.now c.requires.number.0 c.requires.number.1 c.path.ensures) (o.made after),
     )
 
@@ -130,7 +130,7 @@ returns-clause-done g c pcb st ws sound R A =
     let now : IsTrue x.is_sound = rw o.call.sound same.sound in
     let keys = sym c.if-not-branch.false ∙ c.in_ok-keep_keys.ensures.value R.placed ws sound R.holds A.are in
     let may = may_replace_asked d v old st c.args.number R c.requires.number.0 c.requires.number.1 c.args.area.now c.args.news.now ws A mid x c.path.result.now
-    (held_read d v mid c.in_ok-keep_keys.ensures.read sound R.placed R.holds) (o.image now) o.call.size o.call.sizes keys
+    (held_read d v mid c.in_ok-keep_keys.ensures.read sound R.placed R.holds) (later_read d v mid c.in_ok-keep_keys.ensures.read sound R.later) (o.image now) o.call.size o.call.sizes keys
     (own_path old c.args.number c.index-positions-number.result c.path.result.now c.requires.number.0 c.requires.number.1 c.path.ensures) (o.made same.sound) in
     subst (λ (kept : List Kept). IsAnswered d v st c.args.number (rewrites_effect d pcb c.args.number st ws) (Found Blank) w kept)
     (sym (subst (λ (kept : List Kept). c.end_hold-2.new.positions ≡ unheld_at c.args.number kept) (c.follow_all.ensures ∙ ap (λ (rows : List ReplacedRow). all_after_rewrites rows old) c.as_slice.ensures.value) c.end_hold-2.ensures))

@@ -1,12 +1,14 @@
 use Rattle.std.proofs.Common.{◌≡◌, ℕ, IsTrue, Ok, refl, sym, ap, subst, ◌∙◌, inl, inr}
 use Rattle.hd_dbd.specs.Rows.{key_of}
 use Rattle.hd_dbd.specs.Segment.{Segment}
+use Rattle.hd_volume.specs.Headers.{Header}
 use Rattle.hd_volume.proofs.CallSteps.{call-ok}
 use Rattle.hd_volume.proofs.JoinLemmas.{calls-join}
 use Rattle.hd_links.specs.Links.{segment_at}
 use Rattle.hd_image.specs.Records.{links_of}
 use Rattle.hd_forest.specs.Walks.{tip}
 use Rattle.hd_index.specs.Changes.{entries_for}
+use Rattle.hd_index.proofs.ChangeLemmas.{set-index, later-same}
 use Rattle.hd_index.specs.Maps.{with_address}
 use Rattle.hd_keeping.specs.SetRows.{KeepsEntry}
 use Rattle.hd_keeping.proofs.SetRows.{with-entries}
@@ -24,7 +26,7 @@ set-requires g c = record {
       let before : IsTrue v.is_sound = subst IsTrue o.call.sound sound in
       let M = c.requires.may before in
       let W = with-entries d v w M.placed c.args.path.now (record { code = c.args.code; bytes = c.args.bytes.now }) c.in_ok-to.to M.holds (o.set before) in
-      record { size = W.volume.size; index = W.index });
+      set-index d w W.volume.size W.index (later-same v w (ap (λ (z : Header). z.version) (o.set before).room.rest.header) M.later));
 }
 
 pub returns-in_ok-set-clause-call : goal.returns-in_ok-set-clause-call

@@ -4,7 +4,6 @@ use Rattle.hd_volume.specs.Indexes.{root_key_length}
 use Rattle.hd_volume.specs.Rooms.{spare}
 use Rattle.hd_volume.specs.Spacing.{IsPlain}
 use Rattle.hd_volume.proofs.JoinLemmas.{read-one, hole-after, one-formatted}
-use Rattle.hd_levels.proofs.Versions.{formatted-of}
 use Rattle.hd_index.specs.Places.{blocks_needed}
 use Rattle.hd_index.proofs.NeedLemmas.{needed-most}
 use Rattle.hd_update.proofs.room.lacks_room.Goals.{else-leaves-via-then-leaves+else-entry-gt0, else-leaves-via-else-leaves}
@@ -23,7 +22,7 @@ returns-then-most-rows-clause-room g c = λ sound room.
     let left = c.from-free.ensures in
     let test = c.if-most-rows.true in
     let enough : c.args.count + blocks_needed key_length v c.args.key.now ≤ spare v = omega arith in
-    (c.is_highest.ensures.low sound (formatted-of key_length v index).header.first c.if-is_highest.false, inl enough)
+    (c.is_highest.ensures.low sound index.formatted.header.first c.if-is_highest.false, inl enough)
 
 pub returns-then-spare-entry-clause-lacks : goal.returns-then-spare-entry-clause-lacks
 returns-then-spare-entry-clause-lacks g c = λ sound lacks.
@@ -46,7 +45,7 @@ pub has_hole-requires-clause-formatted : goal.has_hole-requires-clause-formatted
 has_hole-requires-clause-formatted g c now =
     let read = c.in_ok-entry.ensures.read in
     let sound : IsTrue c.args.volume.now.is_sound = rw (← read.call.sound) now in
-    one-formatted (read-one read now) (formatted-of (root_key_length c.args.dbd.now.types) c.args.volume.now (c.requires.index sound).index)
+    one-formatted (read-one read now) (c.requires.index sound).index.formatted
 
 pub returns-clause-lacks : goal.returns-clause-lacks
 returns-clause-lacks g c = λ sound lacks.
@@ -72,7 +71,7 @@ returns-clause-room g c = λ sound room.
       | else-leaves-via-then-leaves+else-entry-gt0 w ↦ inr (let none = w.if-entry-gt0.false in omega arith)
       | else-leaves-via-else-leaves w ↦ inl (c.leaves_space-leaves.ensures.no w.if-leaves.false)
     ] in (
-      c.is_highest.ensures.low sound (formatted-of key_length v (c.requires.index sound).index).header.first c.if-is_highest.false,
+      c.is_highest.ensures.low sound (c.requires.index sound).index.formatted.header.first c.if-is_highest.false,
       inr (hole, enough, used),
     )
   where

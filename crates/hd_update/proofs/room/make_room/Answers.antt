@@ -7,6 +7,7 @@ use Rattle.hd_calls.specs.Ssas.{Ssa}
 use Rattle.hd_levels.specs.Needs.{entry_growth, IsHighest}
 use Rattle.hd_volume.specs.Rooms.{spare, HasHole}
 use Rattle.hd_volume.proofs.JoinLemmas.{if-err-map}
+use Rattle.hd_index.proofs.ChangeLemmas.{set-index}
 use Rattle.hd_keeping.specs.Rooms.{HasRootRoomFor}
 use Rattle.hd_keeping.specs.VolumeImages.{images_of}
 use Rattle.hd_keeping.proofs.Rooms.{one-volume}
@@ -27,6 +28,9 @@ make_root_room-requires-clause-small g c =
     let most = (block_size-bounds c.args.dbd.now.block_size c.args.dbd.now.frspc c.args.dbd.now.types c.key_of-key.ensures.fit).1 in
     let own = c.requires.size in
     omega arith
+
+pub make_root_room-requires-clause-index : goal.make_root_room-requires-clause-index
+make_root_room-requires-clause-index g c sound = (let T = c.requires.holds sound in set-index c.args.dbd.now c.args.volume.now c.requires.size T.1.index T.2)
 
 pub returns-then-code-eq1-clause-made : goal.returns-then-code-eq1-clause-made
 returns-then-code-eq1-clause-made g c =

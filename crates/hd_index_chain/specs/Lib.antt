@@ -1,4 +1,0 @@
-pub mod Maps
-pub mod Changes
-pub mod Places
-pub mod Edits
