@@ -1,12 +1,14 @@
+use crate::beginning::Beginning;
 use crate::making::text_of;
-use crate::seeing::Sighted;
+use crate::output::ENDING as NEW_ENDING;
+use crate::seeing::{Sight, Sighted, VolumeLength};
 use crate::stop::{Named, Stop};
 use crate::words::Request;
 use hd_commands::Refusal;
 use hd_deck::put_shown;
 use hd_explain::explain;
 use std::alloc::Global;
-use std::io::{self, Write};
+use std::io::{self, ErrorKind, Write};
 
 /// Writes the lines that say more of why the program stops: the file, and what the system said of it, or the line of a text that is refused;
 /// and what the fault's word means.
@@ -19,45 +21,56 @@ pub fn advise_stop<E: Write>(
     match stop {
         Stop::Database(fault, source) => {
             let fault = format!(in alloc; "{fault}")?;
-            advise_text(request.name_of(Named::Dbd), &fault, source, err)
+            advise_text(request, Named::Dbd, &fault, source, err)
         }
         Stop::Program(fault, source) => {
             let fault = format!(in alloc; "{fault}")?;
-            advise_text(request.name_of(Named::Psb), &fault, source, err)
+            advise_text(request, Named::Psb, &fault, source, err)
         }
         Stop::Deck(fault, text, file) => {
             let fault = format!(in alloc; "{fault}")?;
-            advise_text(request.name_of(*file), &fault, text, err)
+            advise_text(request, *file, &fault, text, err)
         }
         Stop::Rows(_, line, text) => {
             let number = usize::try_from(*line).unwrap_or(usize::MAX);
             advise_line(request.name_of(Named::Rows), number, text, err)
         }
+        // Who closed a pipe wants no more of what goes there.
+        Stop::File(_, error) if error.kind() == ErrorKind::BrokenPipe => Ok(()),
         Stop::File(file, error) => {
             let said = format!(in alloc; "{error}")?;
-            let name = request.name_of(*file);
-            writeln!(err, "  {name}: {}", without_number(&said))
+            put_name(request.name_of(*file), err)?;
+            writeln!(err, ": {}", without_number(&said))
         }
-        Stop::InUse => {
-            let name = request.name_of(Named::Volume);
+        Stop::Beside(file, error) => {
+            let said = format!(in alloc; "{error}")?;
+            put_name(request.name_of(*file), err)?;
+            writeln!(err, "{NEW_ENDING}: {}", without_number(&said))
+        }
+        Stop::InUse(file) => {
+            put_name(request.name_of(*file), err)?;
             writeln!(
                 err,
-                "  {name}: another program uses it; try again when that one has ended"
+                ": another program uses it; try again when that one has ended"
             )
         }
         Stop::OverInput | Stop::Words | Stop::NoType | Stop::Table(_, _, _) => Ok(()),
         Stop::Frame(_) | Stop::Fields => Ok(()),
-        Stop::Refused(refusal) => advise_refusal(alloc, *refusal, None, err),
+        Stop::Refused(refusal) => advise_refusal(alloc, *refusal, None, request, err),
     }
 }
 
-/// Writes the line that says what the word of a refusal means, and which segment stands at the place of a fault.
+/// Writes the line that says what the word of a refusal means, and what is seen where it tells of a file.
 pub fn advise_refusal<E: Write>(
     alloc: Global,
     refusal: Refusal,
-    seen: Option<&Sighted>,
+    seen: Option<&Sight>,
+    request: &Request<'_>,
     err: &mut E,
 ) -> io::Result<()> {
+    if let Some(Sight::Kind(file, beginning)) = seen {
+        return advise_kind(request.name_of(*file), *file, *beginning, err);
+    }
     match refusal {
         Refusal::Fault(fault) => {
             let number = format!(in alloc; "{}", fault.number())?;
@@ -74,8 +87,56 @@ pub fn advise_refusal<E: Write>(
     }
 }
 
-/// Writes the line of a text that a fault names, and what the fault's word means.
-fn advise_text<E: Write>(name: &str, fault: &str, text: &[u8], err: &mut E) -> io::Result<()> {
+/// The most characters of a name that are looked at.
+const MOST_CHARACTERS: usize = 65_536;
+
+/// Writes the name of a file at the beginning of a line, so that each of its characters is seen: a control character as `\x` and hexadecimal digits.
+fn put_name<E: Write>(name: &str, err: &mut E) -> io::Result<()> {
+    write!(err, "  ")?;
+    for character in name.chars().take(MOST_CHARACTERS) {
+        if character.is_control() {
+            write!(err, "\\x{:02x}", u32::from(character))?;
+        } else {
+            write!(err, "{character}")?;
+        }
+    }
+    Ok(())
+}
+
+/// Writes that a file is something else than what its word wants.
+fn advise_kind<E: Write>(
+    name: &str,
+    file: Named,
+    beginning: Beginning,
+    err: &mut E,
+) -> io::Result<()> {
+    let Some(found) = beginning.words() else {
+        return Ok(());
+    };
+    let wanted = match file {
+        Named::Dbd => "DBD source",
+        Named::Psb => "PSB source",
+        Named::Volume => "volume",
+        Named::Stream => "unload stream",
+        _ => "deck",
+    };
+    put_name(name, err)?;
+    writeln!(err, ": this is {found}, and no {wanted}")
+}
+
+/// Writes the line of a text that a fault names, and what the fault's word means; or that it is no text but a volume or a stream.
+fn advise_text<E: Write>(
+    request: &Request<'_>,
+    file: Named,
+    fault: &str,
+    text: &[u8],
+    err: &mut E,
+) -> io::Result<()> {
+    let name = request.name_of(file);
+    let beginning = Beginning::of(text);
+    if let Beginning::Volume | Beginning::Stream = beginning {
+        return advise_kind(name, file, beginning, err);
+    }
     let word = word_of(fault);
     if let Some(number) = line_of(fault) {
         advise_line(name, number, text, err)?;
@@ -91,7 +152,8 @@ fn advise_text<E: Write>(name: &str, fault: &str, text: &[u8], err: &mut E) -> i
 
 /// Writes a line of a text, behind the name of the text's file and the line's number.
 fn advise_line<E: Write>(name: &str, number: usize, text: &[u8], err: &mut E) -> io::Result<()> {
-    write!(err, "  {name}:{number}: ")?;
+    put_name(name, err)?;
+    write!(err, ":{number}: ")?;
     let Ok(()) = put_shown(err, line_at(text, number)) else {
         return Ok(());
     };
@@ -110,21 +172,54 @@ fn advise_word<E: Write>(word: &str, err: &mut E) -> io::Result<()> {
     }
 }
 
-/// Writes what a fault of a volume means, and which segment stands at its place, if one is seen there.
-fn advise_fault<E: Write>(word: &str, seen: Option<&Sighted>, err: &mut E) -> io::Result<()> {
-    let (Some(entry), Some(seen)) = (explain(word), seen) else {
-        return advise_word(word, err);
+/// Writes what a fault of a volume means, and what is seen at its place.
+fn advise_fault<E: Write>(word: &str, seen: Option<&Sight>, err: &mut E) -> io::Result<()> {
+    let Some(entry) = explain(word) else {
+        return Ok(());
     };
-    write!(err, "  {}: {}; ", entry.word, entry.summary)?;
-    advise_segment(seen, err)?;
+    write!(err, "  {}: {}", entry.word, entry.summary)?;
+    match seen {
+        Some(Sight::Segment(segment)) => advise_segment(segment, err)?,
+        Some(Sight::Length(length)) => advise_length(*length, err)?,
+        Some(Sight::Kind(_, _)) | None => {}
+    }
     writeln!(err, "; hd explain {} says more", entry.word)
+}
+
+/// Writes how long a volume's file should be, where it is not so long.
+fn advise_length<E: Write>(length: VolumeLength, err: &mut E) -> io::Result<()> {
+    let VolumeLength {
+        found,
+        blocks,
+        size,
+        block_size,
+    } = length;
+    let asked = u64::from(blocks).saturating_mul(u64::from(size));
+    if found < u64::from(block_size) {
+        write!(
+            err,
+            "; the file has {found} bytes, and a block {block_size}"
+        )
+    } else if size != block_size {
+        write!(
+            err,
+            "; the header tells of blocks of {size} bytes, and the DBD of {block_size}"
+        )
+    } else if asked != found {
+        write!(
+            err,
+            "; the header asks for {blocks} blocks of {size} bytes, {asked} in all, and the file has {found}"
+        )
+    } else {
+        Ok(())
+    }
 }
 
 /// Writes where a segment stands, and its type and key.
 fn advise_segment<E: Write>(seen: &Sighted, err: &mut E) -> io::Result<()> {
     let address = seen.address;
     let name = text_of(&seen.name);
-    write!(err, "the segment at {address} is of type {name}")?;
+    write!(err, "; the segment at {address} is of type {name}")?;
     if seen.key.is_empty() {
         return Ok(());
     }

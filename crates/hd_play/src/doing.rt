@@ -8,15 +8,16 @@ use crate::reloading::reload_file;
 use crate::seeing::see_refused;
 use crate::serving::serve_file;
 use crate::showing::{show_database, show_volume};
-use crate::stop::{COMMAND_LINE, Stop};
+use crate::stop::{COMMAND_LINE, Named, Stop};
 use crate::unloading::unload_file;
+use crate::watched::Watched;
 use crate::words::{Explains, Request, read_words};
 use clap::error::ErrorKind;
 use hd_commands::{Ended, Refusal};
 use hd_progress::{Progress, Unmixed};
 use std::alloc::Global;
 use std::fs::File;
-use std::io::{Read, Write};
+use std::io::{self, Read, Write};
 use std::rt::Files;
 
 /// Does what the words behind the program's name ask for, and gives the status of the program: 0 done; 1 a fault in a volume or a
@@ -46,40 +47,80 @@ where
     O: Write,
     E: Write,
 {
-    let (request, explains) = match read_words(rt.alloc(), words) {
+    let (request, explains) = match asked_by(rt.alloc(), words, err) {
         Ok(asked) => asked,
-        Err(error) => {
-            if error.kind() == ErrorKind::OutOfMemory {
-                return stopped(&Stop::from(Refusal::Memory), err);
-            }
-            let _ = write!(err, "{error}");
-            return COMMAND_LINE;
-        }
+        Err(status) => return status,
     };
     let says_more = match explains {
         Explains::Always => true,
         Explains::Never => false,
         Explains::Auto => is_terminal,
     };
-    let mut out = Unmixed::output(out, progress);
+    let mut out = Watched::over(Unmixed::output(out, progress));
     let mut err = Unmixed::errors(err, progress);
     let performed = perform(rt, request, progress, input, &mut out, &mut err);
     progress.end();
-    match performed {
-        Ok(ended) => {
-            if let (true, Some(refusal)) = (says_more, ended.refusal) {
-                let seen = see_refused(rt, rt.alloc(), &request, refusal);
-                let _ = advise_refusal(rt.alloc(), refusal, seen.as_ref(), &mut err);
-            }
-            ended.status
+    let status = match &performed {
+        Ok(ended) => ended.status,
+        Err(stop) => stopped(stop, &mut err),
+    };
+    if says_more {
+        let _ = say_more(rt, performed, out.last_error(), &request, &mut err);
+    }
+    status
+}
+
+/// What the words ask for, and when more is said of a stop; or the status of the program where they are not understood, which is said.
+#[inline(never)] // What this one needs of the stack is no more taken when a command is at work.
+fn asked_by<'a, E: Write>(
+    alloc: Global,
+    words: &'a [String],
+    err: &mut E,
+) -> Result<(Request<'a>, Explains), u8> {
+    match read_words(alloc, words) {
+        Ok(asked) => Ok(asked),
+        Err(error) if error.kind() == ErrorKind::OutOfMemory => {
+            Err(stopped(&Stop::from(Refusal::Memory), err))
         }
-        Err(stop) => {
-            let status = stopped(&stop, &mut err);
-            if says_more {
-                let _ = advise_stop(rt.alloc(), &stop, &request, &mut err);
-            }
-            status
+        Err(error) => {
+            let _ = write!(err, "{error}");
+            Err(COMMAND_LINE)
         }
+    }
+}
+
+/// Says more of why a command did not do its work: of a failed access of which nothing else is known, what the system said of standard output.
+#[inline(never)] // As above.
+fn say_more<R, E>(
+    rt: &R,
+    performed: Result<Ended, Stop>,
+    said: Option<io::Error>,
+    request: &Request<'_>,
+    err: &mut E,
+) -> io::Result<()>
+where
+    R: Files<File = File> + AllocGlobal,
+    E: Write,
+{
+    let stop = match performed {
+        Ok(Ended { refusal: None, .. }) => return Ok(()),
+        Ok(
+            Ended {
+                refusal: Some(refusal),
+                ..
+            },
+        ) => Stop::Refused(refusal),
+        Err(stop) => stop,
+    };
+    match (stop, said) {
+        (Stop::Refused(Refusal::Device), Some(error)) => {
+            advise_stop(rt.alloc(), &Stop::File(Named::Output, error), request, err)
+        }
+        (Stop::Refused(refusal), _) => {
+            let seen = see_refused(rt, rt.alloc(), request, refusal);
+            advise_refusal(rt.alloc(), refusal, seen.as_ref(), request, err)
+        }
+        (stop, _) => advise_stop(rt.alloc(), &stop, request, err),
     }
 }
 
@@ -108,13 +149,17 @@ where
             volume,
             deck,
             cache,
-        } => play_file(rt, alloc, dbd, psb, volume, deck, cache, progress, out, err),
+            syncs,
+        } => play_file(
+            rt, alloc, dbd, psb, volume, deck, cache, syncs, progress, out, err,
+        ),
         Request::Serve {
             dbd,
             psb,
             volume,
             cache,
-        } => serve_file(rt, alloc, dbd, psb, volume, cache, input, out, err),
+            syncs,
+        } => serve_file(rt, alloc, dbd, psb, volume, cache, syncs, input, out, err),
         Request::Check { dbd, volume, cache } => check_file(
             rt, alloc, dbd, volume, cache, progress, out, err,
         ),
@@ -123,15 +168,19 @@ where
             volume,
             out: stream,
             cache,
-        } => unload_file(rt, alloc, dbd, volume, stream, cache, progress, out, err),
+            syncs,
+        } => unload_file(
+            rt, alloc, dbd, volume, stream, cache, syncs, progress, out, err,
+        ),
         Request::Reload {
             dbd,
             input,
             volume,
             blocks,
             cache,
+            syncs,
         } => reload_file(
-            rt, alloc, dbd, input, volume, blocks, cache, progress, out, err,
+            rt, alloc, dbd, input, volume, blocks, cache, syncs, progress, out, err,
         ),
         Request::Show {
             dbd,
@@ -143,7 +192,8 @@ where
             volume: Some(volume),
             picture,
             cache,
-        } => show_volume(rt, alloc, dbd, volume, picture, cache, out, err),
+            syncs,
+        } => show_volume(rt, alloc, dbd, volume, picture, cache, syncs, out, err),
         Request::Rows {
             dbd,
             volume,
@@ -155,13 +205,15 @@ where
             rows,
             out: stream,
             is_tables: false,
-        } => make_of_rows(rt, alloc, dbd, rows, stream, out),
+            syncs,
+        } => make_of_rows(rt, alloc, dbd, rows, stream, syncs, out),
         Request::Stream {
             dbd,
             rows,
             out: stream,
             is_tables: true,
-        } => make_of_tables(rt, alloc, dbd, rows, stream, out),
+            syncs,
+        } => make_of_tables(rt, alloc, dbd, rows, stream, syncs, out),
         Request::Explain { word } => explain_word(word, out, err),
     }
 }

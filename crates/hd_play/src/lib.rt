@@ -2,13 +2,18 @@
 #![tactic(auto)]
 
 mod advice;
+mod beginning;
 mod checking;
 mod doing;
+mod ending;
 mod explaining;
 mod files;
+mod held;
 mod input;
 mod listing;
 mod making;
+mod named_file;
+mod output;
 mod playing;
 mod reloading;
 mod sample;
@@ -18,6 +23,7 @@ mod showing;
 mod stop;
 mod unloading;
 mod verbs;
+mod watched;
 mod words;
 
 pub use doing::{play, stopped};

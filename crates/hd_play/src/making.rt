@@ -1,5 +1,7 @@
-use crate::files::{Identity, Rewritten, open_output, read_database, read_file};
-use crate::stop::{Named, Stop, of_file};
+use crate::files::{Identity, read_database, read_file};
+use crate::output::{Output, Wanted};
+use crate::stop::{Named, Stop};
+use crate::watched::Watched;
 use hd_commands::{Ended, Refusal};
 use hd_dbd::{Dbd, Name8, SegType};
 use hd_pieces::Pieces;
@@ -9,33 +11,56 @@ use std::fs::File;
 use std::io::{self, ErrorKind, Write};
 use std::rt::Files;
 
-/// The stream's file, which has what it had until the first record is written.
-fn records_into(alloc: Global, file: File) -> Result<Pieces<Rewritten>, Stop> {
-    match Pieces::new(alloc, Rewritten::over(file)) {
+/// A stream's file that is to be written, with what gathers its records.
+fn records_into<W: Write>(alloc: Global, file: &mut W) -> Result<Pieces<&mut W>, Stop> {
+    match Pieces::new(alloc, file) {
         Ok(records) => Ok(records),
         Err(_) => Err(Stop::from(Refusal::Memory)),
     }
 }
 
-/// Says how many segments a stream has that was made, when its file has all of it.
-fn end_stream<O: Write>(
+/// A stream that was made, once all of its records are handed on. What a refusal leaves gathered is not.
+fn handed_on<W: Write>(
+    made: Result<u32, TextFault>,
+    records: &mut Pieces<W>,
+) -> Result<u32, TextFault> {
+    let segments = made?;
+    match records.flush() {
+        Ok(()) => Ok(segments),
+        Err(_) => Err(TextFault::Write),
+    }
+}
+
+/// Gives a stream's file the name, and says how many segments the stream has.
+fn end_stream<R: Files<File = File>, O: Write>(
     segments: u32,
-    records: &mut Pieces<Rewritten>,
+    output: &mut Output<'_, R>,
     out: &mut O,
 ) -> Result<Ended, Stop> {
-    of_file(Named::Out, records.flush())?;
+    output.publish()?;
     writeln!(out, "made a stream of {segments} segments")?;
     Ok(Ended::with_status(0))
 }
 
+/// Where a stream is to go.
+fn wanted(stream: &str, syncs: bool) -> Wanted<'_> {
+    Wanted {
+        name: stream,
+        word: Named::Out,
+        is_read: false,
+        syncs,
+    }
+}
+
 /// Makes an unload stream, in a file, of a text of rows in another. The DBD is read and judged first, then the text is read, then the
-/// stream's file is opened; that is cut to nothing and written only when the whole text is judged. Says how many segments the stream has.
+/// stream's file is opened; only when the whole stream is written does it take the place of that file. Says how many segments the stream has.
 pub fn make_of_rows<R, O>(
     rt: &R,
     alloc: Global,
     dbd: &str,
     rows: &str,
     stream: &str,
+    syncs: bool,
     out: &mut O,
 ) -> Result<Ended, Stop>
 where
@@ -44,23 +69,28 @@ where
 {
     let (dbd, source) = read_database(rt, alloc, dbd)?;
     let (text, given) = read_file(rt, alloc, rows, Named::Rows)?;
-    let file = open_output(rt, stream, Named::Out, false, &[source, given])?;
-    let mut records = records_into(alloc, file)?;
-    match stream_of_rows(alloc, &dbd, &text, &mut records) {
-        Ok(segments) => end_stream(segments, &mut records, out),
-        // What a refusal leaves gathered is not written.
-        Err(fault) => Err(rows_refused(fault, text)),
+    let mut output = Output::open(rt, alloc, wanted(stream, syncs), &[source, given])?;
+    let mut file = Watched::over(&mut output);
+    let mut records = records_into(alloc, &mut file)?;
+    let made = stream_of_rows(alloc, &dbd, &text, &mut records);
+    let made = handed_on(made, &mut records);
+    drop(records);
+    let said = file.last_error();
+    drop(file);
+    match made {
+        Ok(segments) => end_stream(segments, &mut output, out),
+        Err(fault) => Err(rows_refused(fault, text, said)),
     }
 }
 
 /// Why a text of rows makes no stream.
-fn rows_refused(fault: TextFault, text: Vec<u8>) -> Stop {
+fn rows_refused(fault: TextFault, text: Vec<u8>, said: Option<io::Error>) -> Stop {
     match fault {
         TextFault::Row(fault, line) | TextFault::Table(fault, _, line) => {
             Stop::Rows(fault, line, text)
         }
         TextFault::Memory => Stop::from(Refusal::Memory),
-        TextFault::Write => Stop::from(Refusal::Device),
+        TextFault::Write => Stop::device(Named::Out, said),
     }
 }
 
@@ -160,6 +190,7 @@ pub fn make_of_tables<R, O>(
     dbd: &str,
     folder: &str,
     stream: &str,
+    syncs: bool,
     out: &mut O,
 ) -> Result<Ended, Stop>
 where
@@ -168,18 +199,23 @@ where
 {
     let (dbd, source) = read_database(rt, alloc, dbd)?;
     let tables = read_tables(rt, alloc, &dbd, source, folder)?;
-    let file = open_output(rt, stream, Named::Out, false, &tables.files)?;
-    let mut records = records_into(alloc, file)?;
+    let mut output = Output::open(rt, alloc, wanted(stream, syncs), &tables.files)?;
     let pairs = pairs_of(alloc, &tables)?;
-    match stream_of_tables(alloc, &dbd, &pairs, &mut records) {
-        Ok(segments) => end_stream(segments, &mut records, out),
-        // What a refusal leaves gathered is not written.
-        Err(fault) => Err(tables_refused(alloc, &dbd, fault)),
+    let mut file = Watched::over(&mut output);
+    let mut records = records_into(alloc, &mut file)?;
+    let made = stream_of_tables(alloc, &dbd, &pairs, &mut records);
+    let made = handed_on(made, &mut records);
+    drop(records);
+    let said = file.last_error();
+    drop(file);
+    match made {
+        Ok(segments) => end_stream(segments, &mut output, out),
+        Err(fault) => Err(tables_refused(alloc, &dbd, fault, said)),
     }
 }
 
 /// Why tables make no stream.
-fn tables_refused(alloc: Global, dbd: &Dbd, fault: TextFault) -> Stop {
+fn tables_refused(alloc: Global, dbd: &Dbd, fault: TextFault, said: Option<io::Error>) -> Stop {
     match fault {
         TextFault::Row(fault, line) => Stop::Rows(fault, line, Vec::new(alloc)),
         TextFault::Table(fault, code, line) => {
@@ -193,6 +229,6 @@ fn tables_refused(alloc: Global, dbd: &Dbd, fault: TextFault) -> Stop {
             }
         }
         TextFault::Memory => Stop::from(Refusal::Memory),
-        TextFault::Write => Stop::from(Refusal::Device),
+        TextFault::Write => Stop::device(Named::Out, said),
     }
 }

@@ -2,10 +2,13 @@ ghost use Rattle.std.specs.Prelude.{◌≡◌, ◌<◌, ◌≤◌, ◌^◌, leng
 ghost use Rattle.hd_dbd.specs.ProgramRules.{type_names};
 ghost use Rattle.hd_deck.specs.StepText.{StepFits};
 
+use crate::ending::{DEVICE_FAILED, LINE};
 use crate::files::{
-    Identity, blocks_for_calls, cached_blocks, open_volume, read_database, read_file,
+    Identity, OpenVolume, blocks_for_calls, cached, open_volume, read_database, read_file,
 };
+use crate::held::Held;
 use crate::input::read_whole;
+use crate::named_file::NamedFile;
 use crate::sample;
 use crate::stop::{Named, Stop};
 use hd_commands::{Ended, Refusal, play_deck, status_of_calls};
@@ -14,7 +17,6 @@ use hd_deck::{Step, read_deck};
 use hd_gen::read_psb;
 use hd_pieces::Pieces;
 use hd_progress::{Answers, Counted, Progress, Silent};
-use hd_volume::BlockStore;
 use std::alloc::Global;
 use std::fs::File;
 use std::io::{Read, Write};
@@ -31,31 +33,24 @@ fn count_calls(steps: &[Step]) -> u64 {
     calls
 }
 
-/// Plays a deck over the volume in a store; its lines go out in large pieces, and how many of its calls are answered is told. Says how it ended,
-/// and gives the store back.
-fn play_store<S: BlockStore, P: Progress, O: Write, E: Write>(
+/// The lines of a deck's calls, which go out in large pieces; how many of the calls are answered is told.
+fn lines_into<'p, O: Write, P: Progress>(
     alloc: Global,
-    dbd: &Dbd,
-    psb: &Psb,
+    out: &'p mut O,
     steps: &[Step],
-    store: S,
-    progress: &P,
-    out: &mut O,
-    err: &mut E,
-) -> (S, Result<Ended, Stop>)
-    requires size { S.size store ≡ dbd.now.block_size }
-    requires matches { psb.now.made_for ≡ type_names dbd.now.types }
-    requires steps { All (StepFits (length psb.now.pcbs)) steps.now }
-    requires count { length steps.now ≤ 2 ^ 30 }
-{
-    let Ok(pieces) = Pieces::new(alloc, out) else {
-        return (store, Err(Stop::from(Refusal::Memory)));
-    };
-    let mut lines = Answers::new(pieces, count_calls(steps), progress);
-    let (store, played) = play_deck(alloc, dbd, psb, steps, store, &mut lines, err);
+    progress: &'p P,
+) -> Result<Answers<'p, Pieces<&'p mut O>, P>, Stop> {
+    match Pieces::new(alloc, out) {
+        Ok(pieces) => Ok(Answers::new(pieces, count_calls(steps), progress)),
+        Err(_) => Err(Stop::from(Refusal::Memory)),
+    }
+}
+
+/// How a deck ended that was played: its calls made, so many of which found no memory, or refused.
+fn end_of(played: Result<u64, Ended>) -> Ended {
     match played {
-        Ok(memory) => (store, Ok(Ended::with_status(status_of_calls(memory)))),
-        Err(ended) => (store, Ok(ended)),
+        Ok(memory) => Ended::with_status(status_of_calls(memory)),
+        Err(ended) => ended,
     }
 }
 
@@ -77,8 +72,9 @@ pub fn play_sample<I: Read, O: Write, E: Write>(
         Err(fault) => return Err(Stop::deck(fault, text, Named::Input)),
     };
     let store = sample::volume(alloc, &dbd)?;
-    let (_, status) = play_store(alloc, &dbd, &psb, &steps, store, &Silent, out, err);
-    status
+    let mut lines = lines_into(alloc, out, &steps, &Silent)?;
+    let (_, played) = play_deck(alloc, &dbd, &psb, &steps, store, &mut lines, err);
+    Ok(end_of(played))
 }
 
 /// The program over a database that a file of its source describes.
@@ -115,17 +111,16 @@ fn read_steps<R: Files<File = File>>(
     }
 }
 
-/// The status of a deck that a failed access ended, and which said so.
-const DEVICE_FAILED: u8 = 3;
-
-/// Plays a deck over the volume in a file, with a ledger for the accesses that fail. Every block that the deck changed is then in the file.
-fn play_over<L: Ledger, P: Progress, O: Write, E: Write>(
+/// Plays a deck over the volume in a file, with a ledger for the accesses that fail. Every block that the deck changed is then in the file, and on the
+/// disk if that is wanted; only then the last lines of its calls go out.
+fn play_over<L: Ledger, R: Files<File = File>, P: Progress, O: Write, E: Write>(
     alloc: Global,
     dbd: &Dbd,
     psb: &Psb,
     steps: &[Step],
-    file: File,
+    volume: OpenVolume<'_, R>,
     cache: u32,
+    syncs: bool,
     blank: Blank,
     progress: &P,
     out: &mut O,
@@ -138,25 +133,37 @@ fn play_over<L: Ledger, P: Progress, O: Write, E: Write>(
     requires steps { All (StepFits (length psb.now.pcbs)) steps.now }
     requires count { length steps.now ≤ 2 ^ 30 }
 {
-    let store = cached_blocks::<L>(alloc, dbd, file, cache, blank)?;
-    let store = Counted::new(store, "playing", progress);
-    let (store, played) = play_store(alloc, dbd, psb, steps, store, progress, out, err);
-    let (_, written) = store.into_inner().into_store();
-    let ended = played?;
-    if ended.status != DEVICE_FAILED {
-        written?;
+    let store = NamedFile::<R, L>::over(volume, dbd, blank)?;
+    let store = Counted::new(cached(alloc, store, cache)?, "playing", progress);
+    let mut lines = Held::over(lines_into(alloc, out, steps, progress)?);
+    let mut said = Vec::with_capacity(alloc, LINE)?;
+    let (store, played) = play_deck(alloc, dbd, psb, steps, store, &mut lines, &mut said);
+    let (store, written) = store.into_inner().into_store();
+    let file = store.into_store();
+    let kept = file.keep(written, syncs);
+    let released = lines.release();
+    let ended = end_of(played);
+    match (ended.status, file.last_error()) {
+        (DEVICE_FAILED, Some(error)) => return Err(Stop::File(Named::Volume, error)),
+        (DEVICE_FAILED, None) => {}
+        _ => {
+            kept?;
+            released?;
+        }
     }
+    let _ = err.write_all(&said);
     Ok(ended)
 }
 
 /// As `play_over`, with a ledger of its own.
-fn play_over_file<P: Progress, O: Write, E: Write>(
+fn play_over_file<R: Files<File = File>, P: Progress, O: Write, E: Write>(
     alloc: Global,
     dbd: &Dbd,
     psb: &Psb,
     steps: &[Step],
-    file: File,
+    volume: OpenVolume<'_, R>,
     cache: u32,
+    syncs: bool,
     progress: &P,
     out: &mut O,
     err: &mut E,
@@ -165,13 +172,14 @@ fn play_over_file<P: Progress, O: Write, E: Write>(
     requires steps { All (StepFits (length psb.now.pcbs)) steps.now }
     requires count { length steps.now ≤ 2 ^ 30 }
 {
-    play_over::<Brand, P, O, E>(
+    play_over::<Brand, R, P, O, E>(
         alloc,
         dbd,
         psb,
         steps,
-        file,
+        volume,
         cache,
+        syncs,
         Blank::new(1),
         progress,
         out,
@@ -189,6 +197,7 @@ pub fn play_file<R, P, O, E>(
     volume: &str,
     deck: &str,
     cache: Option<u32>,
+    syncs: bool,
     progress: &P,
     out: &mut O,
     err: &mut E,
@@ -202,7 +211,9 @@ where
     let (dbd, source) = read_database(rt, alloc, dbd)?;
     let (psb, program) = read_program(rt, alloc, &dbd, psb)?;
     let (steps, text) = read_steps(rt, alloc, psb.pcbs().len() as u8, deck)?;
-    let file = open_volume(rt, volume, &[source, program, text])?;
+    let volume = open_volume(rt, volume, &[source, program, text])?;
     let kept = cache.unwrap_or(blocks_for_calls(&dbd));
-    play_over_file(alloc, &dbd, &psb, &steps, file, kept, progress, out, err)
+    play_over_file(
+        alloc, &dbd, &psb, &steps, volume, kept, syncs, progress, out, err,
+    )
 }

@@ -1,8 +1,8 @@
 ghost use Rattle.std.specs.Prelude.{◌≡◌, ◌<◌};
 
-use crate::files::{
-    CACHE, cached_blocks, empty, keep_alone, open_output, read_database, read_file,
-};
+use crate::ending::{DEVICE_FAILED, Lines};
+use crate::files::{CACHE, cached_blocks, read_database, read_file};
+use crate::output::{Output, Wanted};
 use crate::stop::{Named, Stop, of_file};
 use hd_commands::{Ended, reload_store};
 use hd_dbd::Dbd;
@@ -14,11 +14,8 @@ use std::marker::Brand;
 use std::rt::Files;
 use std::sync::ledger::{Blank, Ledger};
 
-/// Room for the line that says what a volume has.
-const LINE: usize = 256;
-
-/// Loads a stream into an empty file, with a ledger for the accesses that fail. What was done is said once the file has every block.
-fn fill<L: Ledger, P: Progress, O: Write, E: Write>(
+/// Loads a stream into an empty file, with a ledger for the accesses that fail. The file then has every block.
+fn fill<L: Ledger, P: Progress>(
     alloc: Global,
     dbd: &Dbd,
     stream: &[u8],
@@ -27,8 +24,7 @@ fn fill<L: Ledger, P: Progress, O: Write, E: Write>(
     blocks: u32,
     cache: u32,
     progress: &P,
-    out: &mut O,
-    err: &mut E,
+    lines: &mut Lines,
 ) -> Result<Ended, Stop>
     requires name { blank.name ≡ L.name }
     requires parts { blank.parts ≡ L.parts }
@@ -37,18 +33,26 @@ fn fill<L: Ledger, P: Progress, O: Write, E: Write>(
     let store = cached_blocks::<L>(alloc, dbd, file, cache, blank)?;
     let store = Counted::new(store, "reloading", progress);
     let most = blocks.clamp(1, 65_536);
-    let mut line = Vec::with_capacity(alloc, LINE)?;
-    let (store, ended) = reload_store(alloc, dbd, stream, store, most, &mut line, err);
-    let (_, written) = store.into_inner().into_store();
-    if ended.status == 0 {
-        written?;
-        out.write_all(&line)?;
+    let (store, ended) = reload_store(
+        alloc,
+        dbd,
+        stream,
+        store,
+        most,
+        &mut lines.out,
+        &mut lines.err,
+    );
+    let (store, written) = store.into_inner().into_store();
+    let said = store.into_store().last_error();
+    match ended.status {
+        0 if written.is_err() => Err(Stop::device(Named::Volume, said)),
+        DEVICE_FAILED => Err(Stop::device(Named::Volume, said)),
+        _ => Ok(ended),
     }
-    Ok(ended)
 }
 
 /// As `fill`, with a ledger of its own.
-fn fill_file<P: Progress, O: Write, E: Write>(
+fn fill_file<P: Progress>(
     alloc: Global,
     dbd: &Dbd,
     stream: &[u8],
@@ -56,10 +60,9 @@ fn fill_file<P: Progress, O: Write, E: Write>(
     blocks: u32,
     cache: u32,
     progress: &P,
-    out: &mut O,
-    err: &mut E,
+    lines: &mut Lines,
 ) -> Result<Ended, Stop> {
-    fill::<Brand, P, O, E>(
+    fill::<Brand, P>(
         alloc,
         dbd,
         stream,
@@ -68,13 +71,13 @@ fn fill_file<P: Progress, O: Write, E: Write>(
         blocks,
         cache,
         progress,
-        out,
-        err,
+        lines,
     )
 }
 
 /// Makes a volume file, of at most so many blocks, from 1 to 65,536, of the stream in a file. The DBD is read and judged first, then
-/// the stream is read, then the volume's file is made or cut to nothing; only then is the stream judged. Says how it ended.
+/// the stream is read, then the volume's file is opened; only then is the stream judged, and only when the whole volume is written does it take the
+/// place of the file. Says how it ended.
 pub fn reload_file<R, P, O, E>(
     rt: &R,
     alloc: Global,
@@ -83,6 +86,7 @@ pub fn reload_file<R, P, O, E>(
     volume: &str,
     blocks: u32,
     cache: Option<u32>,
+    syncs: bool,
     progress: &P,
     out: &mut O,
     err: &mut E,
@@ -95,18 +99,22 @@ where
 {
     let (dbd, source) = read_database(rt, alloc, dbd)?;
     let (stream, records) = read_file(rt, alloc, input, Named::Stream)?;
-    let file = open_output(rt, volume, Named::Volume, true, &[source, records])?;
-    keep_alone(&file)?;
-    of_file(Named::Volume, empty(&file))?;
-    fill_file(
-        alloc,
-        &dbd,
-        &stream,
-        file,
-        blocks,
-        cache.unwrap_or(CACHE),
-        progress,
-        out,
-        err,
-    )
+    let wanted = Wanted {
+        name: volume,
+        word: Named::Volume,
+        is_read: true,
+        syncs,
+    };
+    let mut output = Output::open(rt, alloc, wanted, &[source, records])?;
+    let file = of_file(Named::Volume, output.share())?;
+    let mut lines = Lines::new(alloc)?;
+    let cache = cache.unwrap_or(CACHE);
+    let ended = fill_file(
+        alloc, &dbd, &stream, file, blocks, cache, progress, &mut lines,
+    )?;
+    if ended.status == 0 {
+        output.publish()?;
+    }
+    lines.tell(out, err)?;
+    Ok(ended)
 }

@@ -1,9 +1,10 @@
 ghost use Rattle.std.specs.Prelude.{◌≡◌, ◌<◌};
 ghost use Rattle.hd_dbd.specs.ProgramRules.{type_names};
 
-use crate::files::{blocks_for_calls, cached_blocks, open_volume, read_database};
+use crate::files::{OpenVolume, blocks_for_calls, cached, open_volume, read_database};
+use crate::named_file::NamedFile;
 use crate::playing::read_program;
-use crate::stop::Stop;
+use crate::stop::{Named, Stop};
 use hd_commands::{Ended, Refusal, refuse, status_of_calls};
 use hd_dbd::{Dbd, Psb};
 use hd_deck::RunFault;
@@ -31,13 +32,15 @@ fn end_of<E: Write>(fault: ServeFault, err: &mut E) -> Result<Ended, Stop> {
     }
 }
 
-/// Serves calls over the volume in a file, with a ledger for the accesses that fail. Every block that they changed is then in the file.
-fn serve_over<L: Ledger, I: Read, O: Write, E: Write>(
+/// Serves calls over the volume in a file, with a ledger for the accesses that fail. Every block that they changed is then in the file, and on the disk
+/// if that is wanted.
+fn serve_over<L: Ledger, R: Files<File = File>, I: Read, O: Write, E: Write>(
     alloc: Global,
     dbd: &Dbd,
     psb: &Psb,
-    file: File,
+    volume: OpenVolume<'_, R>,
     cache: u32,
+    syncs: bool,
     blank: Blank,
     input: &mut I,
     out: &mut O,
@@ -48,39 +51,54 @@ fn serve_over<L: Ledger, I: Read, O: Write, E: Write>(
     requires share { 0 < blank.parts }
     requires matches { psb.now.made_for ≡ type_names dbd.now.types }
 {
-    let store = cached_blocks::<L>(alloc, dbd, file, cache, blank)?;
+    let store = NamedFile::<R, L>::over(volume, dbd, blank)?;
+    let store = cached(alloc, store, cache)?;
     let (store, served) = match serve(alloc, store, dbd, psb, input, out) {
         Ok(end) => (end.store, Ok(end.memory)),
         Err((store, fault)) => (store, Err(fault)),
     };
-    let (_, written) = store.into_store();
+    let (store, written) = store.into_store();
+    let file = store.into_store();
+    let kept = file.keep(written, syncs);
     match served {
-        Err(ServeFault::Device) => Err(Stop::from(Refusal::Device)),
+        Err(ServeFault::Device) => Err(Stop::device(Named::Volume, file.last_error())),
         Err(fault) => {
-            written?;
+            kept?;
             end_of(fault, err)
         }
         Ok(memory) => {
-            written?;
+            kept?;
             Ok(Ended::with_status(status_of_calls(memory)))
         }
     }
 }
 
 /// As `serve_over`, with a ledger of its own.
-fn serve_over_file<I: Read, O: Write, E: Write>(
+fn serve_over_file<R: Files<File = File>, I: Read, O: Write, E: Write>(
     alloc: Global,
     dbd: &Dbd,
     psb: &Psb,
-    file: File,
+    volume: OpenVolume<'_, R>,
     cache: u32,
+    syncs: bool,
     input: &mut I,
     out: &mut O,
     err: &mut E,
 ) -> Result<Ended, Stop>
     requires matches { psb.now.made_for ≡ type_names dbd.now.types }
 {
-    serve_over::<Brand, I, O, E>(alloc, dbd, psb, file, cache, Blank::new(1), input, out, err)
+    serve_over::<Brand, R, I, O, E>(
+        alloc,
+        dbd,
+        psb,
+        volume,
+        cache,
+        syncs,
+        Blank::new(1),
+        input,
+        out,
+        err,
+    )
 }
 
 /// Serves a program's calls over the volume in a file, which is changed in place: they come as frames from `input`, and each is answered by a frame on
@@ -93,6 +111,7 @@ pub fn serve_file<R, I, O, E>(
     psb: &str,
     volume: &str,
     cache: Option<u32>,
+    syncs: bool,
     input: &mut I,
     out: &mut O,
     err: &mut E,
@@ -105,7 +124,7 @@ where
 {
     let (dbd, source) = read_database(rt, alloc, dbd)?;
     let (psb, program) = read_program(rt, alloc, &dbd, psb)?;
-    let file = open_volume(rt, volume, &[source, program])?;
+    let volume = open_volume(rt, volume, &[source, program])?;
     let kept = cache.unwrap_or(blocks_for_calls(&dbd));
-    serve_over_file(alloc, &dbd, &psb, file, kept, input, out, err)
+    serve_over_file(alloc, &dbd, &psb, volume, kept, syncs, input, out, err)
 }

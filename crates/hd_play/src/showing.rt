@@ -1,7 +1,8 @@
 ghost use Rattle.std.specs.Prelude.{◌≡◌, ◌<◌};
 
 use crate::checking::load_volume;
-use crate::files::{CACHE, Rewritten, cached_blocks, open_output, open_read_volume, read_database};
+use crate::files::{CACHE, cached_blocks, open_read_volume, read_database};
+use crate::output::{Output, Wanted};
 use crate::stop::{Named, Stop, of_file};
 use hd_commands::{Ended, Refusal, check_volume};
 use hd_dbd::Dbd;
@@ -24,21 +25,28 @@ fn draw_text<O: Write>(alloc: Global, dbd: &Dbd, survey: &Survey, out: &mut O) -
     Ok(())
 }
 
-/// Draws a volume that was surveyed, as a picture in a file.
-fn draw_picture(alloc: Global, dbd: &Dbd, survey: &Survey, picture: Rewritten) -> Result<(), Stop> {
-    let Ok(mut lines) = Pieces::new(alloc, picture) else {
+/// Draws a volume that was surveyed, as a picture in a file, which then gets its name.
+fn draw_picture<R: Files<File = File>>(
+    alloc: Global,
+    dbd: &Dbd,
+    survey: &Survey,
+    mut picture: Output<'_, R>,
+) -> Result<(), Stop> {
+    let Ok(mut lines) = Pieces::new(alloc, &mut picture) else {
         return Err(Stop::from(Refusal::Memory));
     };
     of_file(Named::Picture, draw_svg(survey, dbd, &mut lines))?;
-    of_file(Named::Picture, lines.flush())
+    of_file(Named::Picture, lines.flush())?;
+    drop(lines);
+    picture.publish()
 }
 
 /// Draws the volume in a file, and judges it, with a ledger for the accesses that fail.
-fn show<L: Ledger, O: Write, E: Write>(
+fn show<L: Ledger, R: Files<File = File>, O: Write, E: Write>(
     alloc: Global,
     dbd: &Dbd,
     file: File,
-    picture: Option<Rewritten>,
+    picture: Option<Output<'_, R>>,
     cache: u32,
     blank: Blank,
     out: &mut O,
@@ -59,16 +67,16 @@ fn show<L: Ledger, O: Write, E: Write>(
 }
 
 /// As `show`, with a ledger of its own.
-fn show_file<O: Write, E: Write>(
+fn show_file<R: Files<File = File>, O: Write, E: Write>(
     alloc: Global,
     dbd: &Dbd,
     file: File,
-    picture: Option<Rewritten>,
+    picture: Option<Output<'_, R>>,
     cache: u32,
     out: &mut O,
     err: &mut E,
 ) -> Result<Ended, Stop> {
-    show::<Brand, O, E>(alloc, dbd, file, picture, cache, Blank::new(1), out, err)
+    show::<Brand, R, O, E>(alloc, dbd, file, picture, cache, Blank::new(1), out, err)
 }
 
 /// Draws the hierarchy that a DBD describes.
@@ -91,6 +99,7 @@ pub fn show_volume<R, O, E>(
     volume: &str,
     picture: Option<&str>,
     cache: Option<u32>,
+    syncs: bool,
     out: &mut O,
     err: &mut E,
 ) -> Result<Ended, Stop>
@@ -103,8 +112,13 @@ where
     let (file, image) = open_read_volume(rt, volume)?;
     let picture = match picture {
         Some(name) => {
-            let opened = open_output(rt, name, Named::Picture, false, &[source, image])?;
-            Some(Rewritten::over(opened))
+            let wanted = Wanted {
+                name,
+                word: Named::Picture,
+                is_read: false,
+                syncs,
+            };
+            Some(Output::open(rt, alloc, wanted, &[source, image])?)
         }
         None => None,
     };

@@ -25,6 +25,8 @@ pub enum Named {
     Picture,
     /// Standard input.
     Input,
+    /// Standard output.
+    Output,
 }
 
 /// The status where the command line is not understood, or would write over an input.
@@ -51,10 +53,13 @@ pub enum Stop {
     /// The system refused to open, to read or to write a file.
     #[error("device failed")]
     File(Named, io::Error),
+    /// The system refused to make a new file beside one, in which the result for it was to be written.
+    #[error("device failed")]
+    Beside(Named, io::Error),
     #[error("output file is also an input, nothing was changed")]
     OverInput,
     #[error("volume is in use")]
-    InUse,
+    InUse(Named),
     #[error("a word of the command line is not UTF-8")]
     Words,
     #[error("the database has no type of this name")]
@@ -102,6 +107,14 @@ impl Stop {
         }
     }
 
+    /// An access of a file failed while a command was at work; with what the system said of it, if that is known.
+    pub fn device(file: Named, said: Option<io::Error>) -> Stop {
+        match said {
+            Some(error) => Stop::File(file, error),
+            None => Stop::Refused(Refusal::Device),
+        }
+    }
+
     /// The words of the command line could not be read: one is no text, or there is no memory for them.
     pub fn words(error: &io::Error) -> Stop {
         match error.kind() {
@@ -116,7 +129,7 @@ impl Stop {
             Stop::Database(_, _) | Stop::Program(_, _) => 2,
             Stop::Deck(_, _, _) | Stop::Rows(_, _, _) | Stop::Table(_, _, _) => 2,
             Stop::Fields => 2,
-            Stop::File(_, _) | Stop::InUse | Stop::Frame(_) => 3,
+            Stop::File(_, _) | Stop::Beside(_, _) | Stop::InUse(_) | Stop::Frame(_) => 3,
             Stop::OverInput | Stop::Words | Stop::NoType => COMMAND_LINE,
             Stop::Refused(refusal) => refusal.status(),
         }

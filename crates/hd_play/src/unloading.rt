@@ -1,8 +1,11 @@
 ghost use Rattle.std.specs.Prelude.{◌≡◌, ◌<◌};
 
 use crate::checking::load_volume;
-use crate::files::{CACHE, Rewritten, cached_blocks, open_output, open_read_volume, read_database};
+use crate::ending::{DEVICE_FAILED, Lines};
+use crate::files::{CACHE, cached_blocks, open_read_volume, read_database};
+use crate::output::{Output, Wanted};
 use crate::stop::{Named, Stop};
+use crate::watched::Watched;
 use hd_commands::{Ended, Refusal, unload_volume};
 use hd_dbd::Dbd;
 use hd_pieces::Pieces;
@@ -14,17 +17,16 @@ use std::marker::Brand;
 use std::rt::Files;
 use std::sync::ledger::{Blank, Ledger};
 
-/// Unloads the volume in a file into another, with a ledger for the accesses that fail.
-fn copy<L: Ledger, P: Progress, O: Write, E: Write>(
+/// Unloads the volume in a file into a stream, with a ledger for the accesses that fail.
+fn copy<L: Ledger, W: Write, P: Progress>(
     alloc: Global,
     dbd: &Dbd,
     file: File,
-    stream: Rewritten,
+    stream: &mut W,
     cache: u32,
     blank: Blank,
     progress: &P,
-    out: &mut O,
-    err: &mut E,
+    lines: &mut Lines,
 ) -> Result<Ended, Stop>
     requires name { blank.name ≡ L.name }
     requires parts { blank.parts ≡ L.parts }
@@ -36,21 +38,27 @@ fn copy<L: Ledger, P: Progress, O: Write, E: Write>(
         return Err(Stop::from(Refusal::Memory));
     };
     // What a refusal leaves gathered is not written.
-    Ok(unload_volume(alloc, &mut volume, dbd, &mut records, out, err))
+    Ok(unload_volume(
+        alloc,
+        &mut volume,
+        dbd,
+        &mut records,
+        &mut lines.out,
+        &mut lines.err,
+    ))
 }
 
 /// As `copy`, with a ledger of its own.
-fn copy_file<P: Progress, O: Write, E: Write>(
+fn copy_file<W: Write, P: Progress>(
     alloc: Global,
     dbd: &Dbd,
     file: File,
-    stream: Rewritten,
+    stream: &mut W,
     cache: u32,
     progress: &P,
-    out: &mut O,
-    err: &mut E,
+    lines: &mut Lines,
 ) -> Result<Ended, Stop> {
-    copy::<Brand, P, O, E>(
+    copy::<Brand, W, P>(
         alloc,
         dbd,
         file,
@@ -58,14 +66,13 @@ fn copy_file<P: Progress, O: Write, E: Write>(
         cache,
         Blank::new(1),
         progress,
-        out,
-        err,
+        lines,
     )
 }
 
-/// Checks the volume in a file, which is opened for reading alone, and writes its unload stream into another, which is opened for
-/// writing alone. The DBD is read and judged first, then both files are opened; only then is the volume judged, and only when it has
-/// passed the other file is cut to nothing and written. Says how it ended.
+/// Checks the volume in a file, which is opened for reading alone, and writes its unload stream. The DBD is read and judged first, then the volume and
+/// the stream's file are opened; only then is the volume judged, and only when the whole stream is written does it take the place of the other file. Says
+/// how it ended.
 pub fn unload_file<R, P, O, E>(
     rt: &R,
     alloc: Global,
@@ -73,6 +80,7 @@ pub fn unload_file<R, P, O, E>(
     volume: &str,
     stream: &str,
     cache: Option<u32>,
+    syncs: bool,
     progress: &P,
     out: &mut O,
     err: &mut E,
@@ -85,15 +93,24 @@ where
 {
     let (dbd, source) = read_database(rt, alloc, dbd)?;
     let (file, image) = open_read_volume(rt, volume)?;
-    let stream = open_output(rt, stream, Named::Out, false, &[source, image])?;
-    copy_file(
-        alloc,
-        &dbd,
-        file,
-        Rewritten::over(stream),
-        cache.unwrap_or(CACHE),
-        progress,
-        out,
-        err,
-    )
+    let wanted = Wanted {
+        name: stream,
+        word: Named::Out,
+        is_read: false,
+        syncs,
+    };
+    let mut output = Output::open(rt, alloc, wanted, &[source, image])?;
+    let mut lines = Lines::new(alloc)?;
+    let mut stream = Watched::over(&mut output);
+    let cache = cache.unwrap_or(CACHE);
+    let ended = copy_file(alloc, &dbd, file, &mut stream, cache, progress, &mut lines)?;
+    let said = stream.last_error();
+    drop(stream);
+    match ended.status {
+        0 => output.publish()?,
+        DEVICE_FAILED if said.is_some() => return Err(Stop::device(Named::Out, said)),
+        _ => {}
+    }
+    lines.tell(out, err)?;
+    Ok(ended)
 }

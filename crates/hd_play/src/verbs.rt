@@ -75,6 +75,13 @@ const CACHE: Word = Word {
     kind: Kind::BlocksBehind("cache", "BLOCKS"),
 };
 
+/// That a command ends before what it wrote is on the disk.
+const NO_SYNC: Word = Word {
+    name: "NOSYNC",
+    help: "Do not wait until what is written is on the disk",
+    kind: Kind::Flag("no-sync"),
+};
+
 /// The commands, in the order of the help.
 pub const VERBS: &[Verb] = &[
     Verb {
@@ -90,12 +97,13 @@ pub const VERBS: &[Verb] = &[
                 kind: Kind::Needed,
             },
             CACHE,
+            NO_SYNC,
         ],
     },
     Verb {
         name: "serve",
         about: "Serves a program's DL/I calls over a volume, which it checks first: they come as frames on standard input",
-        words: &[DBD, PSB, CHANGED_VOLUME, CACHE],
+        words: &[DBD, PSB, CHANGED_VOLUME, CACHE, NO_SYNC],
     },
     Verb {
         name: "check",
@@ -110,10 +118,11 @@ pub const VERBS: &[Verb] = &[
             VOLUME,
             Word {
                 name: "OUT",
-                help: "The unload stream, made where there is none; it is cut to nothing and written when the volume has passed",
+                help: "The unload stream, made where there is none; a file that stands keeps what it has until the whole stream is written",
                 kind: Kind::Needed,
             },
             CACHE,
+            NO_SYNC,
         ],
     },
     Verb {
@@ -128,7 +137,7 @@ pub const VERBS: &[Verb] = &[
             },
             Word {
                 name: "VOLUME",
-                help: "The volume, made or cut to nothing first, even where the stream is refused",
+                help: "The volume, made where there is none; a file that stands keeps what it has until the whole volume is written",
                 kind: Kind::Needed,
             },
             Word {
@@ -137,6 +146,7 @@ pub const VERBS: &[Verb] = &[
                 kind: Kind::Blocks,
             },
             CACHE,
+            NO_SYNC,
         ],
     },
     Verb {
@@ -155,6 +165,7 @@ pub const VERBS: &[Verb] = &[
                 kind: Kind::Behind("svg", "FILE", Some("VOLUME")),
             },
             CACHE,
+            NO_SYNC,
         ],
     },
     Verb {
@@ -183,7 +194,7 @@ pub const VERBS: &[Verb] = &[
             },
             Word {
                 name: "OUT",
-                help: "The unload stream, made where there is none; it is cut to nothing and written when the text is read",
+                help: "The unload stream, made where there is none; a file that stands keeps what it has until the whole stream is written",
                 kind: Kind::Needed,
             },
             Word {
@@ -191,6 +202,7 @@ pub const VERBS: &[Verb] = &[
                 help: "IN is a folder with a table for each type, as hd rows --csv writes it, in TYPE.csv",
                 kind: Kind::Flag("csv"),
             },
+            NO_SYNC,
         ],
     },
     Verb {

@@ -3,8 +3,8 @@ use crate::verbs::{Kind, LEAST_BLOCKS, MOST_BLOCKS, VERBS, Verb, Word};
 use clap::{Arg, ArgAction, ArgMatches, Command, Error, value_parser};
 use std::alloc::Global;
 
-/// What the words of the command line ask for. All of them but `blocks`, `cache`, `table`, `is_tables` and `word` are names of files; `cache`
-/// says how many blocks of the volume are kept in memory, if the words say it.
+/// What the words of the command line ask for. All of them but `blocks`, `cache`, `syncs`, `table`, `is_tables` and `word` are names of files; `cache`
+/// says how many blocks of the volume are kept in memory, if the words say it, and `syncs` whether to wait until what is written is on the disk.
 #[derive(Clone, Copy)]
 pub enum Request<'a> {
     /// A deck over the sample.
@@ -16,6 +16,7 @@ pub enum Request<'a> {
         volume: &'a str,
         deck: &'a str,
         cache: Option<u32>,
+        syncs: bool,
     },
     /// Calls over a volume, by a program that sends them.
     Serve {
@@ -23,6 +24,7 @@ pub enum Request<'a> {
         psb: &'a str,
         volume: &'a str,
         cache: Option<u32>,
+        syncs: bool,
     },
     Check {
         dbd: &'a str,
@@ -34,6 +36,7 @@ pub enum Request<'a> {
         volume: &'a str,
         out: &'a str,
         cache: Option<u32>,
+        syncs: bool,
     },
     /// A volume of an unload stream, of at most so many blocks.
     Reload {
@@ -42,6 +45,7 @@ pub enum Request<'a> {
         volume: &'a str,
         blocks: u32,
         cache: Option<u32>,
+        syncs: bool,
     },
     /// A picture of a database, or of a volume, which goes into a file if one is named.
     Show {
@@ -49,6 +53,7 @@ pub enum Request<'a> {
         volume: Option<&'a str>,
         picture: Option<&'a str>,
         cache: Option<u32>,
+        syncs: bool,
     },
     /// The rows of a volume, or those of one type as a table.
     Rows {
@@ -63,6 +68,7 @@ pub enum Request<'a> {
         rows: &'a str,
         out: &'a str,
         is_tables: bool,
+        syncs: bool,
     },
     /// What a fault, status or refusal means, or a list of all.
     Explain {
@@ -74,6 +80,7 @@ impl<'a> Request<'a> {
     /// The name of one of the command's files, as the command line has it.
     pub fn name_of(&self, file: Named) -> &'a str {
         match (*self, file) {
+            (_, Named::Output) => "standard output",
             (Request::Deck { dbd, .. }, Named::Dbd) => dbd,
             (Request::Deck { psb, .. }, Named::Psb) => psb,
             (Request::Deck { volume, .. }, Named::Volume) => volume,
@@ -150,12 +157,14 @@ fn request_of<'a>(matches: &ArgMatches<'a>) -> Request<'a> {
         };
     }
     let dbd = given.get_str("DBD").unwrap_or("");
+    let syncs = !given.get_flag("NOSYNC");
     if name == "stream" {
         return Request::Stream {
             dbd,
             rows: given.get_str("IN").unwrap_or(""),
             out: given.get_str("OUT").unwrap_or(""),
             is_tables: given.get_flag("TABLES"),
+            syncs,
         };
     }
     let cache = given.get_one::<u32>("CACHE");
@@ -165,6 +174,7 @@ fn request_of<'a>(matches: &ArgMatches<'a>) -> Request<'a> {
             volume: given.get_str("VOLUME"),
             picture: given.get_str("FILE"),
             cache,
+            syncs,
         };
     }
     let volume = given.get_str("VOLUME").unwrap_or("");
@@ -183,6 +193,7 @@ fn request_of<'a>(matches: &ArgMatches<'a>) -> Request<'a> {
             volume,
             deck: given.get_str("DECK").unwrap_or(""),
             cache,
+            syncs,
         };
     }
     if name == "serve" {
@@ -191,6 +202,7 @@ fn request_of<'a>(matches: &ArgMatches<'a>) -> Request<'a> {
             psb: given.get_str("PSB").unwrap_or(""),
             volume,
             cache,
+            syncs,
         };
     }
     if name == "check" {
@@ -202,6 +214,7 @@ fn request_of<'a>(matches: &ArgMatches<'a>) -> Request<'a> {
             volume,
             out: given.get_str("OUT").unwrap_or(""),
             cache,
+            syncs,
         };
     }
     Request::Reload {
@@ -210,6 +223,7 @@ fn request_of<'a>(matches: &ArgMatches<'a>) -> Request<'a> {
         volume,
         blocks: given.get_one::<u32>("BLOCKS").unwrap_or(1),
         cache,
+        syncs,
     }
 }
 

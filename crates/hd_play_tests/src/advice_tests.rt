@@ -139,17 +139,63 @@ fn tells_the_segment_that_stops_an_unload_or_a_deck(rt: HostRuntime) -> Result<(
         "--explain=always",
     ];
     expect(&rt, &deck, 1, b"", lines)?;
-    remove(
-        &rt,
-        &[
-            "seen.dbd",
-            "seen.psb",
-            "seen.deck",
-            "seen.volume",
-            "seen.out",
-        ],
-    )?;
+    remove(&rt, &["seen.dbd", "seen.psb", "seen.deck", "seen.volume"])?;
     Ok(())
+}
+
+/// What stands in a file that is given for a volume, and the lines that tell of it.
+const NO_VOLUMES: &[(&[u8], &str)] = &[
+    (
+        b"HDUNLOAD\0\x01EDU     ",
+        "  kind.volume: this is an unload stream, and no volume\n",
+    ),
+    (
+        b"some text\n",
+        "  kind.volume: this is text, and no volume\n",
+    ),
+    (
+        b"HDVOLUME\0\x03\0\x80\0\0\0\x04",
+        "  1: the file is no whole volume of the DBD's block size; the file has 16 bytes, and a block 128; hd explain 1 says more\n",
+    ),
+    (
+        b"",
+        "  1: the file is no whole volume of the DBD's block size; the file has 0 bytes, and a block 128; hd explain 1 says more\n",
+    ),
+    (
+        b"\0\x01",
+        "  1: the file is no whole volume of the DBD's block size; hd explain 1 says more\n",
+    ),
+];
+
+#[test]
+fn tells_what_a_file_is_that_is_no_volume(rt: HostRuntime) -> Result<(), Fail> {
+    fs::write(&rt, "kind.dbd", DBD_SOURCE)?;
+    let words = ["--explain", "always", "check", "kind.dbd", "kind.volume"];
+    for (bytes, line) in NO_VOLUMES {
+        fs::write(&rt, "kind.volume", *bytes)?;
+        let end = play_words(&rt, &words)?;
+        assert!(rt; end.err.ends_with(line.as_bytes()), "{line}");
+        assert_eq!(rt; end.status, 1);
+    }
+    fs::write(&rt, "kind.volume", &sample_with(&[(15, b"\x05")]))?;
+    let end = play_words(&rt, &words)?;
+    assert!(rt;
+        end.err.ends_with(
+            b"; the header asks for 5 blocks of 128 bytes, 640 in all, and the file has 512; hd explain 1 says more\n"
+        )
+    );
+    let swapped = ["--explain", "always", "check", "kind.volume", "kind.dbd"];
+    let line = b"  kind.volume: this is a volume, and no DBD source\n";
+    assert!(rt; play_words(&rt, &swapped)?.err.ends_with(line));
+    remove(&rt, &["kind.dbd", "kind.volume"])?;
+    Ok(())
+}
+
+#[test]
+fn shows_control_characters_of_a_name(rt: HostRuntime) -> Result<(), Fail> {
+    let words = ["--explain", "always", "check", "lo\x1bst\n.dbd", "volume"];
+    let text = b"device failed\n  lo\\x1bst\\x0a.dbd: No such file or directory\n";
+    expect(&rt, &words, 3, b"", text)
 }
 
 #[test]

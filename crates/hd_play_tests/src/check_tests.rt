@@ -80,9 +80,9 @@ fn names_the_least_fault(rt: HostRuntime) -> Result<(), Fail> {
             b"",
             line.as_bytes(),
         )?;
-        assert!(rt; fs::read(&rt, "fault.out")?.is_empty());
+        assert!(rt; !fs::exists(&rt, "fault.out")?);
     }
-    remove(&rt, &["fault.dbd", "fault.volume", "fault.out"])?;
+    remove(&rt, &["fault.dbd", "fault.volume"])?;
     Ok(())
 }
 
@@ -137,7 +137,7 @@ fn takes_no_other_file_for_a_volume(rt: HostRuntime) -> Result<(), Fail> {
             line,
         )?;
     }
-    remove(&rt, &["none.dbd", "none.volume", "none.out"])?;
+    remove(&rt, &["none.dbd", "none.volume"])?;
     Ok(())
 }
 

@@ -8,6 +8,8 @@ mod check_tests;
 #[cfg(test)]
 mod deck_tests;
 #[cfg(test)]
+mod output_tests;
+#[cfg(test)]
 mod pieces_tests;
 #[cfg(test)]
 mod play_tests;

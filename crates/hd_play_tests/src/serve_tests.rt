@@ -2,6 +2,7 @@ use crate::testing::{Played, expect, remove, sample_with, words_of};
 use hd_play::{DBD_SOURCE, PSB_SOURCE, Silent, play};
 use std::alloc::{AllocError, Global};
 use std::fs::{self, File};
+use std::io::{self, Read};
 use std::rt::Files;
 use std::test::Fail;
 
@@ -55,6 +56,53 @@ fn served<R: Files<File = File> + AllocGlobal>(
     let mut err = Vec::new(rt.alloc());
     let status = play(rt, &words, false, &Silent, &mut input, &mut out, &mut err);
     Ok(Played { status, out, err })
+}
+
+/// A reader of frames that takes away the name of the volume before the first is read.
+#[derive(Drop)]
+struct Thief<'a, R: Files<File = File>> {
+    rt: &'a R,
+    frames: &'a [u8],
+    has_stolen: bool,
+}
+
+impl<R: Files<File = File>> Read for Thief<'_, R> {
+    fn read(&mut self, buf: &mut [u8]) -> io::Result<usize> {
+        if !self.has_stolen {
+            self.has_stolen = true;
+            fs::rename(self.rt, "served.volume", "stolen.volume")?;
+        }
+        self.frames.read(buf)
+    }
+}
+
+#[test]
+fn writes_no_volume_that_has_lost_its_name(rt: HostRuntime) -> Result<(), Fail> {
+    write_files(&rt, 3)?;
+    let words = words_of(
+        rt.alloc(),
+        &["serve", "served.dbd", "served.psb", "served.volume"],
+    )?;
+    let mut frames = Vec::new(rt.alloc());
+    frames.extend_from_slice(HOLD)?;
+    frames.extend_from_slice(DELETE)?;
+    let mut input = Thief {
+        rt: &rt,
+        frames: &frames,
+        has_stolen: false,
+    };
+    let mut out = Vec::new(rt.alloc());
+    let mut err = Vec::new(rt.alloc());
+    let status = play(&rt, &words, false, &Silent, &mut input, &mut out, &mut err);
+    assert_eq!(rt; status, 3);
+    assert_eq!(rt; err.as_slice(), b"device failed\n".as_slice());
+    assert_eq!(rt;
+        fs::read(&rt, "stolen.volume")?.as_slice(),
+        sample_with(&[(9, &[3])]).as_slice()
+    );
+    assert!(rt; !fs::exists(&rt, "served.volume")?);
+    remove(&rt, &["served.dbd", "served.psb", "stolen.volume"])?;
+    Ok(())
 }
 
 /// The bytes behind the first frame; none where there is no whole frame.
