@@ -27,6 +27,7 @@ sys.path.insert(0, os.path.join(os.path.dirname(HERE), "dli"))
 import hd as dli
 
 KILLS = 600
+STACK = 65_536
 NOBODY = 65534
 IN_USE = "volume is in use\n"
 DEVICE = "device failed\n"
@@ -81,20 +82,24 @@ class Place:
         self.folder = tempfile.mkdtemp(prefix="hd-files-")
         os.chmod(self.folder, 0o755)
         os.chdir(self.folder)
-        for name in ("parts.dbd", "parts.psb", "parts.rows"):
+        for name in ("parts.dbd", "parts.psb"):
             shutil.copy(os.path.join(PARTS, name), name)
         for name, roots in (("small", 20), ("large", 1500)):
             write(f"{name}.in", stream_of(roots))
             self.must("reload", "parts.dbd", f"{name}.in", f"{name}.volume", "4096")
             self.must("show", "parts.dbd", f"{name}.volume", "--svg", f"{name}.svg")
-        self.must("stream", "parts.dbd", "parts.rows", "rows.in")
+            write(f"{name}.rows", self.must("rows", "parts.dbd", f"{name}.volume").encode())
         write("change.deck", b"L     GHU  PART    (PARTNO  EQP00003)\nL     REPL\nD%-32b\nL     ISRT PART    *-\nD%-32b\n" % (b"P00003changed", b"P99999new"))
         write("get.deck", b"L     GU   PART\nL  20 GN\n")
-        self.results = [
-            ("reload", ["reload", "parts.dbd", "small.in", "OUT", "4096"], read("small.volume")),
-            ("unload", ["unload", "parts.dbd", "small.volume", "OUT"], read("small.in")),
-            ("stream", ["stream", "parts.dbd", "parts.rows", "OUT"], read("rows.in")),
-            ("show", ["show", "parts.dbd", "small.volume", "--svg", "OUT"], read("small.svg")),
+        self.results = self.results_of("small")
+
+    def results_of(self, size):
+        """The commands whose result replaces a file, OUT, with what it is to have then."""
+        return [
+            ("reload", ["reload", "parts.dbd", f"{size}.in", "OUT", "4096"], read(f"{size}.volume")),
+            ("unload", ["unload", "parts.dbd", f"{size}.volume", "OUT"], read(f"{size}.in")),
+            ("stream", ["stream", "parts.dbd", f"{size}.rows", "OUT"], read(f"{size}.in")),
+            ("show", ["show", "parts.dbd", f"{size}.volume", "--svg", "OUT"], read(f"{size}.svg")),
         ]
 
     def start(self, *words, **more):
@@ -115,6 +120,7 @@ class Place:
         done = self.run(*words)
         if done.status != 0:
             sys.exit(f"hd {' '.join(words)}: {done}")
+        return done.out
 
     def more(self, *words, **more):
         """The further lines with which hd ended."""
@@ -434,12 +440,12 @@ def try_kills(place):
         ("unload", lambda size: ["unload", "parts.dbd", f"{size}.volume", "killed.out"], "{}.in"),
     ):
         results = {size: read(whole.format(size)) for size in ("small", "large")}
-        lasts = time_of(place, words("large"))
+        lasts = time_of(place, [*words("large"), "--no-sync"])
         kept, killed, runs = "large", 0, 0
         while killed < KILLS and runs < 10 * KILLS:
             runs += 1
             size = chance.choice(("small", "large", "large"))
-            process = place.start(*words(size), *chance.choice(((), ("--no-sync",))))
+            process = place.start(*words(size), *chance.choice([()] + [("--no-sync",)] * 7))
             time.sleep(chance.uniform(0, lasts))
             process.kill()
             _, err = process.communicate()
@@ -598,12 +604,12 @@ def try_kinds(place):
             ["deck", good["dbd"], name, good["volume"], good["deck"]],
             ["deck", good["dbd"], good["psb"], name, good["deck"]],
             ["serve", good["dbd"], good["psb"], name],
-            ["stream", name, "parts.rows", "kinds.out"],
+            ["stream", name, "small.rows", "kinds.out"],
         ):
             done = place.more(*words)
             told = f"{DEVICE}  {name}: this is a {said}, where a file is wanted\n"
             expect(f"{' '.join(words)}", done == (3, "", told) and not os.path.exists("kinds.out"), done)
-    deck, rows = read("get.deck"), read("parts.rows")
+    deck, rows = read("get.deck"), read("small.rows")
     for words, text in ((["deck", good["dbd"], good["psb"], good["volume"], "/dev/stdin"], deck), (["stream", good["dbd"], "/dev/stdin", "kinds.out"], rows)):
         with place.start(*words, stdin=subprocess.PIPE) as process:
             _, err = process.communicate(text)
@@ -658,11 +664,26 @@ def try_further_lines(place):
         os.remove(name)
 
 
-# The stack
+# Memory and the stack
 
 
-def small_stack():
-    resource.setrlimit(resource.RLIMIT_STACK, (65_536, 65_536))
+def limit(which, most):
+    return lambda: resource.setrlimit(which, (most, most))
+
+
+def try_memory(place):
+    """A command that finds no memory leaves what was there."""
+    begins = next(most for most in range(1 << 20, 1 << 28, 1 << 16) if place.run("explain", "14", preexec_fn=limit(resource.RLIMIT_AS, most)).status == 0)
+    for name, words, whole in place.results_of("large"):
+        statuses = collections.Counter()
+        for most in range(begins, begins + (1 << 22), 1 << 15):
+            write("memory.out", b"older")
+            done = place.run(*to(words, "memory.out"), "--no-sync", preexec_fn=limit(resource.RLIMIT_AS, most))
+            statuses[done.status] += 1
+            expect(f"{name} in {most} bytes of memory", done.status in (0, 4) and read("memory.out") == (b"older" if done.status else whole), done)
+            expect(f"{name} in {most} bytes of memory leaves no other file", not os.path.exists("memory.out.hd-new"))
+        expect(f"{name} ends for want of memory, and does not with more", set(statuses) == {0, 4}, statuses)
+    os.remove("memory.out")
 
 
 def try_stack(place):
@@ -687,8 +708,8 @@ def try_stack(place):
         wanted = place.more(*to(words, "stack.out"))
         found = read("stack.out")
         shutil.copy("small.volume", "stack.volume")
-        done = place.more(*to(words, "stack.out"), preexec_fn=small_stack, env={"PATH": os.environ["PATH"]})
-        expect(f"hd {' '.join(words)} in 64 KiB of stack", done == wanted and read("stack.out") == found, done)
+        done = place.more(*to(words, "stack.out"), preexec_fn=limit(resource.RLIMIT_STACK, STACK), env={"PATH": os.environ["PATH"]})
+        expect(f"hd {' '.join(words)} in {STACK} bytes of stack", done == wanted and read("stack.out") == found, done)
     os.remove("stack.out")
 
 
@@ -709,6 +730,7 @@ def main():
             try_taken_names,
             try_kinds,
             try_further_lines,
+            try_memory,
             try_stack,
             try_kills,
         ]
