@@ -195,11 +195,11 @@ pub may_lack : (d : Database) (pcbs : List View) (v : VolumeState) (old : List K
     → (pcb : View) (number : ℕ) (call : CallText) (result : Result Answer Refused) → view_of pcbs number ≡ Some pcb
     → (function_of call.function ≢ Some Insert → length call.ssas ≤ 4 → IfErr result (λ e. IsMemoryLacking d v old (call_in d pcb number call) e))
     → result ≡ Err refused.Memory → MayLackMemory s number call
-may_lack d pcbs v old broken s s_is pcb number call result is lacks memory =
+may_lack d pcbs v old broken s s_is pcb number call result is lacks wanting =
     subst (λ (x : SessionState). MayLackMemory x number call) s_is (λ st sound R.
     takes (function_of call.function) (length call.ssas) (λ other few.
     subst (λ (x : Effect). StoresSome st.rows x) (ap (λ (o : Option View). option_map_or (λ x. step d.types x st number call) o wrong_area) (sym is))
-    ((subst (λ (r : Result Answer Refused). IfErr r (λ e. IsMemoryLacking d v old (call_in d pcb number call) e)) memory (lacks other few)) st refl sound R)))
+    ((subst (λ (r : Result Answer Refused). IfErr r (λ e. IsMemoryLacking d v old (call_in d pcb number call) e)) wanting (lacks other few)) st refl sound R)))
 
 -- what is said of a session's parts is said of the session
 pub call_logged : (d : Database) (pcbs : List View) (v : VolumeState) (old : List Kept) (broken : Bool) (s : SessionState) → record { database = d; pcbs = pcbs; volume = v; kept = old; broken = broken } ≡ s

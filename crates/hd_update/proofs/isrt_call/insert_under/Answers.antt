@@ -184,4 +184,4 @@ returns-clause-full g c = if-err-map c.insert_rows.result (λ e full pcb st pare
     let R = represented d v w old st read U.sound U.represents in
     lacks d v old st c.args.number c.requires.number.0 c.requires.number.1 c.args.parent.now c.args.rule row rest rows F.rows F.fits (go_down d.types c.code-code.result (drop 1 (codes_of c.args.ssas.now)) (drop (length c.front-bytes.result.now) c.args.area.now)
     (subst (λ (k : ℕ). StepDown d.types k (drop 1 (codes_of c.args.ssas.now))) (first_is c.args.ssas.now c.code-code.result F.codes) c.requires.down) F.rest) parent U pcb P.free
-    (subst (λ (image : List ℕ). LacksRoom (images_of d) d.types image rows (has_root rows)) same.image (full is same.sound (λ _. (R.placed, R.holds)))))) c.insert_rows.ensures.full
+    (subst (λ (image : List ℕ). LacksRoom (images_of d) d.types image rows (has_root rows)) same.image (full is same.sound (λ _. (R.placed, R.holds, R.later)))))) c.insert_rows.ensures.full
