@@ -26,8 +26,9 @@ PARTS = os.path.join(os.path.dirname(HERE), "examples", "parts")
 sys.path.insert(0, os.path.join(os.path.dirname(HERE), "dli"))
 import hd as dli
 
+# How often a reload, and an unload, is killed, and the bytes of stack in which every command runs.
 KILLS = 600
-STACK = 65_536
+STACK = 98_304
 NOBODY = 65534
 IN_USE = "volume is in use\n"
 DEVICE = "device failed\n"

@@ -16,7 +16,7 @@ fn main(rt: HostRuntime) -> ExitCode {
             words.as_slice(),
             is_terminal,
             &progress,
-            &mut rt.reader(),
+            &mut rt.stdin(),
             &mut io::writer(&rt),
             &mut rt.stderr(),
         ),
