@@ -18,7 +18,8 @@ use Rattle.hd_session.specs.Turns.{Turn, turns_in, LackMemoryFairly}
 use Rattle.hd_session.specs.Laws.{SessionsAnswer, IsLegalLogOf}
 use Rattle.hd_deck.specs.Runs.{IsPlayed}
 
--- An image passes for these rows: it holds one forest of the database and no other, whose hierarchic sequence they are.
+-- An image passes for these rows: it holds one forest of the database and no other, whose hierarchic sequence they are. It
+-- has no fault then, by `law_held_forests_have_no_fault` of `hd_image`.
 pub record PassesFor (d : Database) (image : List ℕ) (rows : List Segment) : Type 0 where
   pub forest : Forest Segment
   pub holds : HoldsForest d (volume_of d image) forest

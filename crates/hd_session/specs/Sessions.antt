@@ -101,6 +101,7 @@ IsUndoneUnlessDevice v old e w new = e ≢ Device → IsUndone v old w new
 abbrev pub IsRoomLacking : Database → VolumeState → List Kept → (State → Effect) → Refused → Type 0
 IsRoomLacking d v old effect e = (st : State) → e ≡ Full → IsTrue v.is_sound → Represents d v old st → LacksRoomFor d v st.rows (effect st)
 
--- Where the refusal is of memory, the call stores a row: it puts one in, or makes one longer.
+-- Where the refusal is of memory, the call stores a row, whatever state the sound volume and what was kept stood for: it puts one in, or makes one
+-- longer.
 abbrev pub IsMemoryLacking : Database → VolumeState → List Kept → (State → Effect) → Refused → Type 0
 IsMemoryLacking d v old effect e = (st : State) → e ≡ Memory → IsTrue v.is_sound → Represents d v old st → StoresSome st.rows (effect st)

@@ -62,7 +62,7 @@ pub record IsTurnAnswered (s : SessionState) (turn : Turn) (result : Result Answ
   pub same : t ≡ record s { volume = t.volume; kept = t.kept; broken = is_broken_by result }
   pub call : IsCall s.volume result t.volume
 
--- A session was flushed, as it answers a flush: its image stands in the store, and all else is as it was.
+-- A flush of a session was answered with Ok: its image stands in the store, and all else is as it was.
 pub record IsFlushed (s t : SessionState) : Type 0 where
   pub image : t.volume.image ≡ s.volume.image
   pub stored : t.volume.stored ≡ s.volume.image

@@ -97,7 +97,7 @@ impl<'a, S: BlockStore> Session<'a, S> {
     /// `Area`, `Full` and `Memory` change nothing: the I/O area's bytes have not the length that the call asks, the volume has no room for
     /// the rows, or no memory was found. `Device` says that an access failed in this call; from then on every call is `Broken`, whatever it
     /// asks. With four segment search arguments at most, GU, GN, GNP, their hold forms and DLET take no memory, and neither does a REPL that
-    /// makes no row longer.
+    /// makes no row longer over a store that gives back what was written.
     pub fn call(&mut self, pcb: u8, call: &Call, io: &mut IoArea) -> Result<Answer, Refused>
         requires pcb { (0 < pcb) × (pcb ≤ length self.old.pcbs) }
         requires room { longest_path self.old.database.types ≤ io.old.room }
