@@ -14,8 +14,8 @@ from stamp import stamp
 
 ROOT = os.path.dirname(os.path.dirname(os.path.abspath(__file__)))
 
-# Minutes of one processor for a thousand lines of Rattle, proved from nothing, as docs/MEASURED.md has them.
-MINUTES = 2.1
+# Minutes of one processor for a thousand lines of Rattle, proved from nothing, as all crates took them on a machine with other work.
+MINUTES = 3.6
 
 
 def crates_below(name):
