@@ -7,7 +7,7 @@ import os
 import subprocess
 import sys
 
-# What the program's text says (crates/hd_play), as long as what takes its place.
+# What the program's text says (crates/hd_program), as long as what takes its place.
 UNPROVED = b"unproved: this is no build that `make` has proved"
 
 

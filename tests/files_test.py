@@ -25,6 +25,7 @@ HERE = os.path.dirname(os.path.abspath(__file__))
 PARTS = os.path.join(os.path.dirname(HERE), "examples", "parts")
 sys.path.insert(0, os.path.join(os.path.dirname(HERE), "dli"))
 import hd as dli
+from playing import Count, Done, read, write
 
 # How often a reload, and an unload, is killed, and the bytes of stack in which every command runs.
 KILLS = 600
@@ -33,32 +34,8 @@ NOBODY = 65534
 IN_USE = "volume is in use\n"
 DEVICE = "device failed\n"
 
-tried = wrong = 0
-
-Done = collections.namedtuple("Done", "status out err")
-
-
-def expect(what, is_right, told=""):
-    """Counts a case, and tells of one that is wrong."""
-    global tried, wrong
-    tried += 1
-    if not is_right:
-        wrong += 1
-        print(f"WRONG {what}: {told}")
-
-
-def read(name):
-    """The bytes of a file; None where there is none."""
-    try:
-        with open(name, "rb") as file:
-            return file.read()
-    except FileNotFoundError:
-        return None
-
-
-def write(name, data):
-    with open(name, "wb") as file:
-        file.write(data)
+count = Count()
+expect = count.expect
 
 
 def files():
@@ -745,8 +722,7 @@ def main():
             print("no gcc: calls of the system that fail are left out")
     finally:
         place.remove()
-    print(f"{tried} cases, {wrong} wrong")
-    sys.exit(1 if wrong else 0)
+    sys.exit(count.status())
 
 
 if __name__ == "__main__":

@@ -1,7 +1,7 @@
 //! The program `hd`: plays decks of DL/I calls, checks, unloads and reloads volumes, draws them, writes their rows, and says what its words mean.
 #![tactic(auto)]
 
-use hd_play::{Stop, Terminal, play, stopped};
+use hd_program::{Stop, Terminal, play, stopped};
 use std::io::IsTerminal;
 use std::process::ExitCode;
 use std::{env, io};

@@ -11,9 +11,8 @@ use Rattle.hd_dbd.specs.Segment.{Segment}
 use Rattle.hd_dbd.specs.Paths.{row_at, level_at, path_of, path_above}
 use Rattle.hd_dbd.specs.Positions.{Position, Place, at_start}
 use Rattle.hd_dbd.specs.Calls.{Reply, bare}
-use Rattle.hd_dbd.specs.Views.{Setting}
+use Rattle.hd_dbd.specs.Views.{Setting, may}
 use Rattle.hd_dbd.specs.Letters.{gives_get}
-use Rattle.hd_calls.specs.Access.{may}
 use Rattle.hd_calls.specs.declared.call.GetKind.{GetKind}
 use Rattle.hd_calls.specs.declared.call.Function.{Function}
 use Rattle.hd_calls.specs.declared.call.Function.TheVariants.{Get}

@@ -26,3 +26,12 @@ pub mod Logging
 pub mod Replacing
 pub mod MixedLists
 pub mod WorkedLog
+pub mod OnPaths
+pub mod Admitting
+pub mod Failing
+pub mod SearchTwins
+pub mod SearchKeys
+pub mod SearchWays
+pub mod SearchLevels
+pub mod SearchStarts
+pub mod Beside

@@ -10,3 +10,10 @@ pub mod Runs
 pub mod Tags
 pub mod NoLostUpdate
 pub mod Laws
+pub mod Admits
+pub mod SearchSpans
+pub mod SearchKeys
+pub mod SearchTwins
+pub mod SearchWays
+pub mod SearchLevels
+pub mod SearchStarts

@@ -12,9 +12,8 @@ use Rattle.hd_dbd.specs.Segment.{Segment}
 use Rattle.hd_dbd.specs.Hierarchy.{part_of}
 use Rattle.hd_dbd.specs.Paths.{row_at, parent_row, path_of, is_twin}
 use Rattle.hd_dbd.specs.Letters.{gives_get}
-use Rattle.hd_dbd.specs.Views.{Setting}
+use Rattle.hd_dbd.specs.Views.{Setting, may}
 use Rattle.hd_dbd.specs.Searches.{first_from}
-use Rattle.hd_calls.specs.Access.{may}
 use Rattle.hd_calls.specs.Ssas.{Comparison, Ssa, target_code}
 
 -- ---- qualifications

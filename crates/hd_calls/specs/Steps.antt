@@ -17,9 +17,9 @@ use Rattle.hd_dbd.specs.Lengths.{length_in}
 use Rattle.hd_dbd.specs.Rows.{key_of, row_fits}
 use Rattle.hd_dbd.specs.Paths.{row_at, level_at, end_of}
 use Rattle.hd_dbd.specs.Positions.{Position, at_start}
-use Rattle.hd_dbd.specs.Letters.{gives_get}
-use Rattle.hd_dbd.specs.Views.{Setting, reads_some}
-use Rattle.hd_calls.specs.Access.{gives_insert, gives_replace, gives_delete, gives_path, may, loads}
+use Rattle.hd_dbd.specs.Letters.{gives_get, gives_insert, gives_replace, gives_delete, gives_path}
+use Rattle.hd_dbd.specs.Views.{Setting, reads_some, may}
+use Rattle.hd_calls.specs.Access.{loads}
 use Rattle.hd_dbd.specs.Calls.{CallText, Reply, bare, row_reply}
 use Rattle.hd_calls.specs.Functions.{function_of, result_and_then}
 use Rattle.hd_calls.specs.Ssas.{Ssa, resolve, target_code, above_target, first_inserted}

@@ -7,7 +7,7 @@ use Rattle.hd_dbd.specs.Hierarchy.{Database}
 use Rattle.hd_volume.specs.Headers.{header_of}
 use Rattle.hd_volume.specs.Volumes.{VolumeState}
 use Rattle.hd_volume.specs.Entries.{entries}
-use Rattle.hd_levels.specs.IndexSets.{sequence_blocks, index_entries}
+use Rattle.hd_index_blocks.specs.IndexSets.{sequence_blocks, index_entries}
 use Rattle.hd_volume.specs.Indexes.{root_key_length, keys_ascend, HasIndex}
 use Rattle.hd_links.specs.Links.{IsSegment}
 use Rattle.hd_links.specs.Pointers.{PointersAreTyped, PredecessorsAreOne, TwinsLinkBack, KeysAscend, IsReached}

@@ -4,15 +4,15 @@ use Rattle.hd_dbd.specs.Hierarchy.{Database}
 use Rattle.hd_volume.specs.Headers.{header_of}
 use Rattle.hd_volume.specs.Volumes.{VolumeState}
 use Rattle.hd_volume.specs.Indexes.{root_key_length, IsAmong}
-use Rattle.hd_levels.specs.LevelFaults as level
-use Rattle.hd_levels.specs.LevelFaults.{row_below, StandsBetween}
-use Rattle.hd_levels.specs.Faultless.{AreFormsRight, AreNamedOnce, AreAllReached}
-use Rattle.hd_levels.specs.IndexSets.{level_in, top_level}
-use Rattle.hd_levels.proofs.Volumes.{level-kind}
-use Rattle.hd_levels.proofs.Downs.{among-right}
-use Rattle.hd_levels.proofs.FormFaults.{forms-judged}
-use Rattle.hd_levels.proofs.LevelFaults.{names-judged, reach-judged}
-use Rattle.hd_levels.proofs.RowFaults.{levels-judged, row-level}
+use Rattle.hd_index_blocks.specs.LevelFaults as level
+use Rattle.hd_index_blocks.specs.LevelFaults.{row_below, StandsBetween}
+use Rattle.hd_index_blocks.specs.Faultless.{AreFormsRight, AreNamedOnce, AreAllReached}
+use Rattle.hd_index_blocks.specs.IndexSets.{level_in, top_level}
+use Rattle.hd_index_blocks.proofs.Volumes.{level-kind}
+use Rattle.hd_index_blocks.proofs.Downs.{among-right}
+use Rattle.hd_index_blocks.proofs.FormFaults.{forms-judged}
+use Rattle.hd_index_blocks.proofs.LevelFaults.{names-judged, reach-judged}
+use Rattle.hd_index_blocks.proofs.RowFaults.{levels-judged, row-level}
 use Rattle.hd_image.specs.Records.{IsVolumeOf}
 use Rattle.hd_image.specs.Right.{LevelsAreInOrder, IndexIsFormed, IndexIsInOrder}
 use Rattle.hd_image.specs.declared.line.Line.TheVariants.{WrongTop, WrongForm, NamedTwice, UnreachedBlock, WrongNext, EntryOutOfOrder}

@@ -9,19 +9,19 @@ use Rattle.hd_volume.specs.Headers.{header_of}
 use Rattle.hd_volume.specs.Volumes.{VolumeState}
 use Rattle.hd_volume.specs.Indexes.{root_key_length}
 use Rattle.hd_volume.proofs.PutLemmas.{if-none-map, if-some-map}
-use Rattle.hd_levels.specs.Faultless.{AreFormsRight, AreNamedOnce, AreAllReached}
-use Rattle.hd_levels.specs.LevelFaults as level
-use Rattle.hd_levels.specs.LevelFaults.{StandsNowhere}
-use Rattle.hd_levels.proofs.FormFaults.{forms-judged}
-use Rattle.hd_levels.proofs.LevelFaults.{names-judged, reach-judged}
-use Rattle.hd_levels.proofs.RowFaults.{levels-judged}
+use Rattle.hd_index_blocks.specs.Faultless.{AreFormsRight, AreNamedOnce, AreAllReached}
+use Rattle.hd_index_blocks.specs.LevelFaults as level
+use Rattle.hd_index_blocks.specs.LevelFaults.{StandsNowhere}
+use Rattle.hd_index_blocks.proofs.FormFaults.{forms-judged}
+use Rattle.hd_index_blocks.proofs.LevelFaults.{names-judged, reach-judged}
+use Rattle.hd_index_blocks.proofs.RowFaults.{levels-judged}
 use Rattle.hd_image.specs.Records.{IsVolumeOf}
 use Rattle.hd_image.specs.Right.{LevelsAreInOrder}
 use Rattle.hd_image.specs.declared.line.Line.{Line}
 use Rattle.hd_image.specs.declared.line.Line.TheVariants.{WrongTop, WrongForm, NamedTwice, UnreachedBlock, WrongNext, EntryOutOfOrder}
 use Rattle.hd_check_blocks.specs.declared.fault.Fault.{Fault}
 use Rattle.hd_check_blocks.specs.Phases.{IsLeastOf}
-use Rattle.hd_check_levels.specs.Judging.{IsFirst, IsFoundAt}
+use Rattle.hd_check_index.specs.Judging.{IsFirst, IsFoundAt}
 use Rattle.hd_check.specs.Joining.{NoneBefore, IsFirstFault}
 use Rattle.hd_check.proofs.EarlierFaults.{first-of}
 use Rattle.hd_check.proofs.LevelPhases.{top-least, form-least, twice-least, unreached-least, next-least, order-least, form-fits, twice-fits, unreached-fits, next-fits, order-fits}

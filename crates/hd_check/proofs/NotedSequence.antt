@@ -6,18 +6,18 @@ use Rattle.hd_volume.specs.Headers.{header_of}
 use Rattle.hd_volume.specs.Entries.{entry_blocks}
 use Rattle.hd_volume.specs.Volumes.{VolumeState, block_at, IsKind}
 use Rattle.hd_volume.specs.Indexes.{IsAmong}
-use Rattle.hd_levels.specs.Levels.{IndexBlocks, across, named, sequence_set, blocks_down}
-use Rattle.hd_levels.specs.LevelFaults.{row_below}
-use Rattle.hd_levels.specs.Faultless.{AreFormsRight}
-use Rattle.hd_levels.specs.IndexSets.{level_in, index_blocks, top_blocks, top_level, sequence_blocks}
-use Rattle.hd_levels.proofs.Downs.{among-parts}
-use Rattle.hd_levels.proofs.Volumes.{level-kind, level-of}
-use Rattle.hd_levels.proofs.RowFaults.{OnRows, rows-all, row-level}
+use Rattle.hd_index_blocks.specs.Levels.{IndexBlocks, across, named, sequence_set, blocks_down}
+use Rattle.hd_index_blocks.specs.LevelFaults.{row_below}
+use Rattle.hd_index_blocks.specs.Faultless.{AreFormsRight}
+use Rattle.hd_index_blocks.specs.IndexSets.{level_in, index_blocks, top_blocks, top_level, sequence_blocks}
+use Rattle.hd_index_blocks.proofs.Downs.{among-parts}
+use Rattle.hd_index_blocks.proofs.Volumes.{level-kind, level-of}
+use Rattle.hd_index_blocks.proofs.RowFaults.{OnRows, rows-all, row-level}
 use Rattle.hd_image.specs.Right.{SetIsFormed}
 use Rattle.hd_check_index.specs.IndexPhases.{NumbersAscend, IsSequence}
-use Rattle.hd_check_levels.specs.declared.table.NotedBlock.{NotedBlock}
-use Rattle.hd_check_levels.specs.Tables.{noted, BlocksAscend, IsBlockOf, AreIndexBlocks}
-use Rattle.hd_check_levels.specs.NotedBlocks.{noted_at}
+use Rattle.hd_check_index.specs.declared.table.NotedBlock.{NotedBlock}
+use Rattle.hd_check_index.specs.Tables.{noted, BlocksAscend, IsBlockOf, AreIndexBlocks}
+use Rattle.hd_check_index.specs.NotedBlocks.{noted_at}
 
 -- ---- the numbers of the blocks of level 0
 

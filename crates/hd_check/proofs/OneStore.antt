@@ -6,9 +6,9 @@ use Rattle.hd_dbd.specs.Hierarchy.{Database}
 use Rattle.hd_volume.specs.Headers.{HasHeader, header_of}
 use Rattle.hd_volume.specs.Volumes.{VolumeState, block_at, IsKind}
 use Rattle.hd_volume.specs.Entries.{entry_blocks}
-use Rattle.hd_levels.specs.LevelFaults as level
-use Rattle.hd_levels.specs.Faultless.{AreFormsRight, AreNamedOnce, AreAllReached}
-use Rattle.hd_levels.specs.IndexSets.{index_entries}
+use Rattle.hd_index_blocks.specs.LevelFaults as level
+use Rattle.hd_index_blocks.specs.Faultless.{AreFormsRight, AreNamedOnce, AreAllReached}
+use Rattle.hd_index_blocks.specs.IndexSets.{index_entries}
 use Rattle.hd_volume.specs.Indexes.{IsChain, root_key_length}
 use Rattle.hd_image.specs.Records.{links_of}
 use Rattle.hd_image.proofs.OneImage.{links-same, volume-same}
@@ -18,16 +18,16 @@ use Rattle.hd_image.specs.Standing.{Stands}
 use Rattle.hd_image.specs.declared.line.Line.{Line}
 use Rattle.hd_image.specs.declared.line.Line.TheVariants.{NoVolume, NoVersion, AnotherDatabase, WrongChain, WrongPlace, NoKind, Deleted, NamesNothing, NamesAnother, TwoPredecessors, NoPredecessor, WrongBackward, WrongLast, OutOfOrder, NotReached, WrongTop, WrongForm, NamedTwice, UnreachedBlock, WrongNext, EntryOutOfOrder, WrongEntry, NoEntry}
 use Rattle.hd_check_blocks.specs.declared.fault.Fault.{Fault}
-use Rattle.hd_check_index.specs.declared.noted_blocks.NotedBlock.{NotedBlock}
+use Rattle.hd_check_index.specs.declared.noted_blocks.ChainedBlock.{ChainedBlock}
 use Rattle.hd_check_blocks.specs.Phases.{AreBlocksRight, IsLeastOf}
 use Rattle.hd_check_index.specs.IndexPhases.{AreIndexBlocks, AreNamed, IsSequence}
 use Rattle.hd_check_blocks.specs.declared.places.Place.{Place}
-use Rattle.hd_check_levels.specs.declared.table.NotedBlock as noted
-use Rattle.hd_check_levels.specs.declared.rows.Standing.{Standing}
-use Rattle.hd_check_levels.specs.Tables as tables
-use Rattle.hd_check_levels.specs.Rows.{AreRows}
-use Rattle.hd_check_levels.proofs.NotedTables as of-table
-use Rattle.hd_check_levels.proofs.RowOrders.{forms-same}
+use Rattle.hd_check_index.specs.declared.table.NotedBlock as noted
+use Rattle.hd_check_index.specs.declared.rows.Standing.{Standing}
+use Rattle.hd_check_index.specs.Tables as tables
+use Rattle.hd_check_index.specs.Rows.{AreRows}
+use Rattle.hd_check_index.proofs.NotedTables as of-table
+use Rattle.hd_check_index.proofs.RowOrders.{forms-same}
 use Rattle.hd_check.specs.Joining.{HasRightBlocks, NamesAreRight}
 use Rattle.hd_check_blocks.proofs.PlaceLemmas.{places-same}
 
@@ -213,7 +213,7 @@ module _ (u v : VolumeState) (e : IsOne u v) where
   })
 
   -- and the table of its blocks
-  pub table-same : (bs : List NotedBlock) → AreIndexBlocks u bs → AreIndexBlocks v bs
+  pub table-same : (bs : List ChainedBlock) → AreIndexBlocks u bs → AreIndexBlocks v bs
   table-same bs h = subst (λ (w : VolumeState). AreIndexBlocks w bs) like-is (record {
     ascend = h.ascend;
     there = λ b i. (let t = h.there b i in (kind-like 2 b.number t.0, t.1));

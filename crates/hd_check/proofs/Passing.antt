@@ -35,7 +35,7 @@ use Rattle.hd_image.proofs.RightHolds.{right-holds}
 use Rattle.hd_image.proofs.NoFault.{no-fault}
 use Rattle.hd_check_blocks.specs.declared.fault.Fault.{Fault}
 use Rattle.hd_check_blocks.specs.declared.places.Place.{Place}
-use Rattle.hd_check.specs.declared.checking.Passed.{Passed}
+use Rattle.hd_check.specs.declared.checks.Passed.{Passed}
 use Rattle.hd_check_blocks.specs.Places.{IsPlaceOf, AreFrom, PlacesAscend, ArePlaces}
 use Rattle.hd_check.specs.Checks.{IsPassed, IsFaulty}
 use Rattle.hd_check.specs.Joining.{IsFirstFault, IsFoundRight, roots_among}

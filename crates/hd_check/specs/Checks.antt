@@ -13,9 +13,9 @@ use Rattle.hd_links.specs.LastRows.{roots_of}
 use Rattle.hd_image.specs.Holding.{HoldsPlaced, HoldsForest}
 use Rattle.hd_image.specs.Standing.{IsLeastFault}
 use Rattle.hd_check_blocks.specs.declared.fault.Fault.{Fault}
-use Rattle.hd_check.specs.declared.checking.Passed.{Passed}
-use Rattle.hd_check.specs.declared.checking.CheckFault.{CheckFault}
-use Rattle.hd_check.specs.declared.checking.CheckFault.TheVariants as check
+use Rattle.hd_check.specs.declared.checks.Passed.{Passed}
+use Rattle.hd_check.specs.declared.checks.CheckFault.{CheckFault}
+use Rattle.hd_check.specs.declared.checks.CheckFault.TheVariants as check
 
 -- The volume holds a forest and no other, of so many segments and so many roots, in so many blocks.
 pub record IsPassed (d : Database) (v : VolumeState) (passed : Passed) : Type 0 where

@@ -4,10 +4,10 @@ use Rattle.std.specs.List.{list_all}
 use Rattle.hd_dbd.specs.Hierarchy.{Database}
 use Rattle.hd_volume.specs.Headers.{header_of}
 use Rattle.hd_volume.specs.Volumes.{VolumeState}
-use Rattle.hd_levels.specs.Faultless.{AreFormsRight}
-use Rattle.hd_levels.specs.LevelFaults.{IsWrongNext, HasEntryOutOfOrder, StandsNowhere}
+use Rattle.hd_index_blocks.specs.Faultless.{AreFormsRight}
+use Rattle.hd_index_blocks.specs.LevelFaults.{IsWrongNext, HasEntryOutOfOrder, StandsNowhere}
 use Rattle.hd_volume.specs.Indexes.{root_key_length}
-use Rattle.hd_levels.specs.IndexSets.{index_entries}
+use Rattle.hd_index_blocks.specs.IndexSets.{index_entries}
 use Rattle.hd_links.specs.Pointers.{AreLinked}
 use Rattle.hd_image.specs.Records.{links_of, IsVolumeOf}
 use Rattle.hd_image.specs.IndexFaults.{names_a_root}
@@ -18,7 +18,7 @@ use Rattle.hd_check_blocks.specs.declared.fault.Fault.{Fault}
 use Rattle.hd_check_blocks.specs.declared.places.Place.{Place}
 use Rattle.hd_check_blocks.specs.Places.{ArePlaces}
 use Rattle.hd_check_index.specs.IndexPhases.{AllRootsNamed}
-use Rattle.hd_check_levels.specs.Judging.{IsFirst, IsFoundAt}
+use Rattle.hd_check_index.specs.Judging.{IsFirst, IsFoundAt}
 
 -- no fault of a phase before this one stands
 abbrev pub NoneBefore : Database → VolumeState → ℕ → Type 0

@@ -6,26 +6,23 @@ ghost use Rattle.hd_volume.specs.Headers.{header_of};
 ghost use Rattle.hd_volume.specs.Volumes.{VolumeState};
 ghost use Rattle.hd_volume.specs.Calls.{IsRead};
 ghost use Rattle.hd_volume.specs.Indexes.{root_key_length};
-ghost use Rattle.hd_levels.specs.Faultless.{AreFormsRight, AreNamedOnce, AreAllReached};
+ghost use Rattle.hd_index_blocks.specs.Faultless.{AreFormsRight, AreNamedOnce, AreAllReached};
 ghost use Rattle.hd_image.specs.Records.{IsVolumeOf};
 ghost use Rattle.hd_image.specs.Right.{SetIsFormed, LevelsAreInOrder, IndexIsFormed, IndexIsInOrder};
 ghost use Rattle.hd_check_blocks.specs.Phases.{IsLeastOf};
 ghost use Rattle.hd_check_blocks.specs.Finding.{WhereNone, WhereSome};
 ghost use Rattle.hd_check_index.specs.IndexPhases.{IsSequence};
-ghost use Rattle.hd_check_levels.specs.Tables.{AreIndexBlocks};
-ghost use Rattle.hd_check_levels.specs.Rows.{AreRows};
+ghost use Rattle.hd_check_index.specs.Tables.{AreIndexBlocks};
+ghost use Rattle.hd_check_index.specs.Rows.{AreRows};
 ghost use Rattle.hd_check.specs.Joining.{NoneBefore, IsFirstFault, OfOrdered};
 
 use hd_check_blocks::Fault;
-use hd_check_index::block_address;
-use hd_check_levels::{
-    NotedBlock, Standing, entry_out_of_order, is_top_right, note_blocks, rows_down, twice_named,
-    unreached, wrong_form, wrong_next,
-};
+use hd_check_index::{NotedBlock, Standing, block_address, entry_out_of_order, is_top_right, note_blocks, rows_down, twice_named, unreached, wrong_form, wrong_next};
 use hd_dbd::{Dbd, Refused};
-use hd_entries::root_key_length;
 use hd_image::Line;
-use hd_volume::{BlockStore, Volume};
+use hd_index_blocks::root_key_length;
+use hd_stores::BlockStore;
+use hd_volume::Volume;
 use std::alloc::Global;
 
 /// The fault of a line at the block that was found, if one was.

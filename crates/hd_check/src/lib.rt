@@ -3,10 +3,10 @@
 //! The phases stand in the crates below; here they are joined.
 #![tactic(auto)]
 
-mod checking;
+mod checks;
 mod levels;
 mod phases;
 
-pub use checking::{CheckFault, Passed, check};
+pub use checks::{CheckFault, Passed, check};
 pub use hd_check_blocks::Fault;
 pub use hd_image::Line;

@@ -30,6 +30,10 @@ IsWrongHeader d size len h f =
     ⊎ (((f ≡ record { line = NoVersion; address = 0; other = h.version }) × CountsImage size len h × (IsKnownVersion d.types h.version → ⊥))
     ⊎ ((f ≡ record { line = AnotherDatabase; address = 0; other = 0 }) × CountsImage size len h × IsKnownVersion d.types h.version × ((h.name ≢ d.name) ⊎ (h.block_size ≢ d.block_size))))
 
+-- a header counts the image, is of a version that is known, and names the database
+abbrev pub IsRightHead : Database → ℕ → ℕ → Header → Type 0
+IsRightHead d size len h = CountsImage size len h × IsKnownVersion d.types h.version × IsNamed d h
+
 -- The header is one of the database, and of a version that is known.
 pub record IsHeaderRight (d : Database) (v : VolumeState) : Type 0 where
   pub header : HasHeader d.block_size v.image

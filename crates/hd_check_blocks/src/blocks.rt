@@ -19,7 +19,8 @@ use crate::places::Place;
 use crate::wrong_place::wrong_place;
 use hd_dbd::{Dbd, Refused, SegmentSize};
 use hd_image::Line;
-use hd_volume::{BlockStore, DATA, FREE, INDEX, MOST_BLOCKS, Volume, size_table};
+use hd_stores::BlockStore;
+use hd_volume::{DATA, FREE, INDEX, MOST_BLOCKS, Volume, size_table};
 use std::alloc::Global;
 
 /// What is wrong with a data block that begins at an address. Where nothing is, its segments are noted.

@@ -4,17 +4,15 @@ ghost use Rattle.hd_dbd.specs.Refusals.{OnlyDevice};
 ghost use Rattle.hd_volume.specs.Headers.{header_of};
 ghost use Rattle.hd_volume.specs.Calls.{IsRead};
 ghost use Rattle.hd_image.specs.BlockFaults.{IsKnownVersion};
-ghost use Rattle.hd_check_blocks.specs.Phases.{CountsImage, IsNamed, IsWrongHeader, IsHeaderRight, IsLeastOf};
+ghost use Rattle.hd_check_blocks.specs.Phases.{CountsImage, IsNamed, IsRightHead, IsWrongHeader, IsHeaderRight, IsLeastOf};
 ghost use Rattle.hd_check_blocks.specs.Finding.{WhereNone, WhereSome};
 
 use crate::fault::Fault;
 use hd_bytes::{read_u16, read_u32};
 use hd_dbd::{Dbd, Refused};
 use hd_image::Line;
-use hd_volume::{
-    BLOCK_SIZE, BlockStore, COUNT, LARGEST, MARK, MOST_BLOCKS, NAME, NEWEST_VERSION, VERSION,
-    Volume,
-};
+use hd_stores::BlockStore;
+use hd_volume::{BLOCK_SIZE, COUNT, LARGEST, MARK, MOST_BLOCKS, NAME, NEWEST_VERSION, VERSION, Volume};
 
 /// Whether a header counts an image of so many bytes, in blocks of a size.
 fn counts_image(head: &[u8], size: u64, image_length: u64) -> bool
@@ -51,7 +49,7 @@ fn is_known(version: u16, dbd: &Dbd) -> bool
 /// What is wrong with a header of an image of so many bytes.
 fn head_fault(head: &[u8], size: u64, image_length: u64, dbd: &Dbd) -> Option<Fault>
     requires { size ≤ 32768 }
-    ensures none { 44 ≤ length head.now → IfNone result (CountsImage size image_length (header_of head.now) × IsKnownVersion dbd.now.types (header_of head.now).version × IsNamed dbd.now (header_of head.now)) }
+    ensures none { 44 ≤ length head.now → IfNone result (IsRightHead dbd.now size image_length (header_of head.now)) }
     ensures some { 44 ≤ length head.now → IfSome result (λ f. IsWrongHeader dbd.now size image_length (header_of head.now) f) }
 {
     if head.len() < 44 {

@@ -17,11 +17,11 @@ use Rattle.hd_volume.specs.Calls.{IsRead}
 use Rattle.hd_image.specs.Records.{links_of}
 use Rattle.hd_image.specs.IndexFaults.{names_a_root}
 use Rattle.hd_image.proofs.OneImage.{links-same}
-use Rattle.hd_entries.specs.Fields.{entry_in}
+use Rattle.hd_index_blocks.specs.Fields.{entry_in}
 use Rattle.hd_check_blocks.specs.declared.places.Place.{Place}
 use Rattle.hd_check_blocks.specs.Lending.{IsLent}
 use Rattle.hd_check_blocks.specs.Places.{IsPlaceOf, ArePlaces}
-use Rattle.hd_entries.proofs.EntryLemmas.{entries-split}
+use Rattle.hd_index_blocks.proofs.EntryLemmas.{entries-split}
 
 -- ---- three tests
 

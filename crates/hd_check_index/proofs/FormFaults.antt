@@ -7,7 +7,7 @@ use Rattle.hd_volume.specs.Headers.{header_of}
 use Rattle.hd_volume.specs.Volumes.{VolumeState, block_at, kind_of, IsKind}
 use Rattle.hd_volume.specs.Indexes.{root_key_length, entry_room}
 use Rattle.hd_image.specs.IndexFaults.{IsOfLevel, IsWrongTop, IsWrongForm}
-use Rattle.hd_check_index.specs.declared.noted_blocks.NotedBlock.{NotedBlock}
+use Rattle.hd_check_index.specs.declared.noted_blocks.ChainedBlock.{ChainedBlock}
 use Rattle.hd_check_index.specs.declared.noted_blocks.Form.{Form}
 use Rattle.hd_check_index.specs.IndexPhases.{IsBlockOf, AreIndexBlocks, AreForms, IsNotedBlock, index_block_of, index_block_at, form_at, IsTopRight, IsRightIndexBlock, IsFirstWrong, IsIndexRight}
 use Rattle.std.proofs.lemmas.Nat.{mul-le}
@@ -30,7 +30,7 @@ kind-same v w kind n image size h = record {
 }
 
 -- what is noted of a block is what the image says
-pub noted-same : (v w : VolumeState) (n : ℕ) (bs : List NotedBlock) (fs : List Form) (cs : List NotedBlock) (gs : List Form) → w.image ≡ v.image → w.size ≡ v.size
+pub noted-same : (v w : VolumeState) (n : ℕ) (bs : List ChainedBlock) (fs : List Form) (cs : List ChainedBlock) (gs : List Form) → w.image ≡ v.image → w.size ≡ v.size
     → IsNotedBlock w n bs fs cs gs → IsNotedBlock v n bs fs cs gs
 noted-same v w n bs fs cs gs image size (inl (k, blocks, forms)) =
     let same : block_at w n ≡ block_at v n = rw (size, image) refl in
@@ -44,7 +44,7 @@ noted-same v w n bs fs cs gs image size (inr (none, blocks, forms)) = inr (λ k.
 -- ---- levels
 
 -- a block that is noted with a level is of that level
-pub level-right : (v : VolumeState) (bs : List NotedBlock) (fs : List Form) (n level i : ℕ) → AreIndexBlocks v bs → AreForms v bs fs → i < length bs → (index_block_at bs i).number ≡ n
+pub level-right : (v : VolumeState) (bs : List ChainedBlock) (fs : List Form) (n level i : ℕ) → AreIndexBlocks v bs → AreForms v bs fs → i < length bs → (index_block_at bs i).number ≡ n
     → nat_eq (form_at fs i).level level ≡ true → IsOfLevel v level n
 level-right v bs fs n level i h f within is same =
     let t = h.there (index_block_at bs i) (among bs i within) in
@@ -52,7 +52,7 @@ level-right v bs fs n level i h f within is same =
     subst (λ (m : ℕ). IsOfLevel v level m) is (t.0, sym own ∙ eqb-true _ _ same)
 
 -- one that is noted with another is not
-pub level-wrong : (v : VolumeState) (bs : List NotedBlock) (fs : List Form) (n level i : ℕ) → AreForms v bs fs → i < length bs → (index_block_at bs i).number ≡ n
+pub level-wrong : (v : VolumeState) (bs : List ChainedBlock) (fs : List Form) (n level i : ℕ) → AreForms v bs fs → i < length bs → (index_block_at bs i).number ≡ n
     → nat_eq (form_at fs i).level level ≡ false → IsOfLevel v level n → ⊥
 level-wrong v bs fs n level i f within is other o =
     let own : (form_at fs i).level ≡ slice_index (block_at v (index_block_at bs i).number) 3 = ap (λ (x : Form). x.level) (form-is v bs fs i f within) in
@@ -60,26 +60,26 @@ level-wrong v bs fs n level i f within is other o =
     false≢true (sym other ∙ eq-eqb _ _ at)
 
 -- and one that is not noted is of no level
-pub level-none : (v : VolumeState) (bs : List NotedBlock) (n level : ℕ) → AreIndexBlocks v bs → ((b : NotedBlock) → IsBlockOf b bs → b.number ≡ n → ⊥) → IsOfLevel v level n → ⊥
+pub level-none : (v : VolumeState) (bs : List ChainedBlock) (n level : ℕ) → AreIndexBlocks v bs → ((b : ChainedBlock) → IsBlockOf b bs → b.number ≡ n → ⊥) → IsOfLevel v level n → ⊥
 level-none v bs n level h none o = none (index_block_of v n) (h.all n o.0) refl
 
 -- ---- the first wrong block
 
 -- all index blocks are right where those of the table are
-pub all-forms : (k : ℕ) (v : VolumeState) (bs : List NotedBlock) → AreIndexBlocks v bs → ((j : ℕ) → j < length bs → IsRightIndexBlock k v (index_block_at bs j).number) → (n : ℕ) → IsKind v 2 n → IsRightIndexBlock k v n
+pub all-forms : (k : ℕ) (v : VolumeState) (bs : List ChainedBlock) → AreIndexBlocks v bs → ((j : ℕ) → j < length bs → IsRightIndexBlock k v (index_block_at bs j).number) → (n : ℕ) → IsKind v 2 n → IsRightIndexBlock k v n
 all-forms k v bs h right n kind =
     let i = index-of (index_block_of v n) bs (h.all n kind) in
-    subst (IsRightIndexBlock k v) (ap (λ (b : NotedBlock). b.number) i.2) (right i.0 i.1)
+    subst (IsRightIndexBlock k v) (ap (λ (b : ChainedBlock). b.number) i.2) (right i.0 i.1)
 
 -- a block is the first wrong one where those before it in the table are right
-pub first-wrong : (k : ℕ) (v : VolumeState) (bs : List NotedBlock) (i : ℕ) → AreIndexBlocks v bs → i < length bs → ((j : ℕ) → j < i → IsRightIndexBlock k v (index_block_at bs j).number)
+pub first-wrong : (k : ℕ) (v : VolumeState) (bs : List ChainedBlock) (i : ℕ) → AreIndexBlocks v bs → i < length bs → ((j : ℕ) → j < i → IsRightIndexBlock k v (index_block_at bs j).number)
     → (IsRightIndexBlock k v (index_block_at bs i).number → ⊥) → IsFirstWrong k v (index_block_at bs i).number
 first-wrong k v bs i h within right wrong = (
   (h.there (index_block_at bs i) (among bs i within)).0,
   wrong,
   λ m less kind.
       (let j = index-of (index_block_of v m) bs (h.all m kind) in
-      let at : (index_block_at bs j.0).number ≡ m = ap (λ (b : NotedBlock). b.number) j.2 in
+      let at : (index_block_at bs j.0).number ≡ m = ap (λ (b : ChainedBlock). b.number) j.2 in
       let in-bs = j.1 in
       let before : j.0 < i = elim (cases_lt j.0 i) [
         | inl low ↦ low

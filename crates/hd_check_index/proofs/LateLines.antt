@@ -5,7 +5,7 @@ use Rattle.hd_dbd.specs.Hierarchy.{Database}
 use Rattle.hd_volume.specs.Headers.{header_of}
 use Rattle.hd_volume.specs.Volumes.{VolumeState}
 use Rattle.hd_volume.specs.Indexes.{root_key_length}
-use Rattle.hd_levels.specs.LevelFaults as level
+use Rattle.hd_index_blocks.specs.LevelFaults as level
 use Rattle.hd_image.specs.IndexFaults.{ByVersion, IsWrongTop, IsWrongForm, IsNamedTwice, IsUnreachedBlock, HasEntryOutOfOrder, HasWrongEntry, HasNoEntry}
 use Rattle.hd_image.specs.Standing.{Stands, phase_of, number_of}
 use Rattle.hd_image.specs.declared.line.Line.{Line}

@@ -1,3 +1,16 @@
+pub mod TwiceNumbers
+pub mod BlockExtents
+pub mod EntryOrders
+pub mod RightBlocks
+pub mod RowOrders
+pub mod RowsUp
+pub mod KeyBytes
+pub mod NotedTables
+pub mod BlockForms
+pub mod TwiceNamedBelow
+pub mod RowSteps
+pub mod Reached
+pub mod Followers
 pub mod IndexTables
 pub mod LateLines
 pub mod FormFaults

@@ -10,7 +10,7 @@ use Rattle.hd_bytes.specs.Numbers.{number_at}
 use Rattle.hd_dbd.specs.Hierarchy.{Database}
 use Rattle.hd_volume.specs.Volumes.{VolumeState, block_at}
 use Rattle.hd_volume.specs.Entries.{Entry, entries_in, entries_of}
-use Rattle.hd_levels.specs.IndexSets.{sequence_blocks, index_entries}
+use Rattle.hd_index_blocks.specs.IndexSets.{sequence_blocks, index_entries}
 use Rattle.hd_volume.specs.Indexes.{root_key_length, IsEntryBlock, IsChain, IsAmong}
 use Rattle.hd_image.specs.IndexFaults.{names_a_root}
 use Rattle.hd_links.specs.Links.{Links}

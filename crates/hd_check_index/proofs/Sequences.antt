@@ -8,12 +8,13 @@ use Rattle.hd_volume.specs.Headers.{header_of}
 use Rattle.hd_volume.specs.Volumes.{VolumeState, block_at, IsKind}
 use Rattle.hd_volume.specs.Entries.{entry_blocks}
 use Rattle.hd_volume.specs.Indexes.{IsEntryBlock, IsChain, IsAmong}
-use Rattle.hd_levels.specs.Chains.{IsLinked}
-use Rattle.hd_levels.specs.IndexSets.{next_in, sequence_blocks}
-use Rattle.hd_levels.proofs.Chains.{linked-once}
+use Rattle.hd_index_blocks.specs.Chains.{IsLinked}
+use Rattle.hd_index_blocks.specs.IndexSets.{next_in, sequence_blocks}
+use Rattle.hd_index_blocks.proofs.Chains.{linked-once}
 use Rattle.hd_image.specs.Right.{ChainIsFormed}
-use Rattle.hd_check_index.specs.IndexPhases.{NumbersAscend, IsSequence, IsTwice}
-use Rattle.hd_check_index.proofs.TwiceNamed.{twice-moved}
+use Rattle.hd_check_index.specs.Marks.{IsTwice}
+use Rattle.hd_check_index.specs.IndexPhases.{NumbersAscend, IsSequence}
+use Rattle.hd_check_index.proofs.TwiceNumbers.{twice-moved}
 use Rattle.hd_check_index.proofs.UnnamedRoots.{at-among, among-moved}
 use Rattle.hd_check_index.proofs.NamedEntries.{chain-block}
 

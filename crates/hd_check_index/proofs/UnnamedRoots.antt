@@ -7,7 +7,7 @@ use Rattle.std.proofs.lemmas.Bool.{cases_lt, cases_eq, cases_Bool, false≢true}
 use Rattle.std.proofs.lemmas.List.Sorted.{Contains-permutation, IsPermutation-sym}
 use Rattle.hd_dbd.specs.Hierarchy.{Database}
 use Rattle.hd_volume.specs.Volumes.{VolumeState}
-use Rattle.hd_levels.specs.IndexSets.{index_entries}
+use Rattle.hd_index_blocks.specs.IndexSets.{index_entries}
 use Rattle.hd_volume.specs.Indexes.{root_key_length, IsAmong}
 use Rattle.hd_links.specs.Links.{IsSegment}
 use Rattle.hd_image.specs.Records.{links_of}

@@ -16,9 +16,10 @@ use Rattle.hd_volume.proofs.KindLemmas.{below-count}
 use Rattle.hd_image.specs.Records.{IsVolumeOf}
 use Rattle.hd_image.specs.Right.{ChainIsFormed}
 use Rattle.hd_image.specs.declared.line.Line.TheVariants.{UnreachedBlock}
-use Rattle.hd_check_index.specs.declared.noted_blocks.NotedBlock.{NotedBlock}
+use Rattle.hd_check_index.specs.declared.noted_blocks.ChainedBlock.{ChainedBlock}
 use Rattle.hd_check_blocks.specs.Phases.{IsLeastOf}
-use Rattle.hd_check_index.specs.IndexPhases.{IsBlockOf, BlocksAscend, IsIndexRight, IsChainable, IsPath, AreMarks, AreMarkedBefore, IsWalked, mark_at, index_block_of, index_block_at}
+use Rattle.hd_check_index.specs.Marks.{AreMarkedBefore, mark_at}
+use Rattle.hd_check_index.specs.IndexPhases.{IsBlockOf, BlocksAscend, IsIndexRight, IsChainable, IsPath, AreMarks, IsWalked, index_block_of, index_block_at}
 use Rattle.hd_check_index.proofs.IndexTables.{among, index-of, in-order, one-index}
 use Rattle.hd_check_index.proofs.LateLines.{least-late, stands-10}
 
@@ -75,7 +76,7 @@ pub among-last : (ns : List ℕ) (n : ℕ) → IsAmong n (ns ++ (n ∷ []))
 among-last [] n = inl refl
 among-last (x ∷ xs) n = inr (among-last xs n)
 
-module _ (k : ℕ) (v : VolumeState) (bs : List NotedBlock) (top : ℕ) (h : IsChainable k v bs top) where
+module _ (k : ℕ) (v : VolumeState) (bs : List ChainedBlock) (top : ℕ) (h : IsChainable k v bs top) where
   -- two numbers of steps from the top block do not lead to one index block
   apart : (len i j : ℕ) → ((x : ℕ) → x < len → IsKind v 2 (to v top x)) → i < j → j ≤ len → IsKind v 2 (to v top j) → to v top i ≡ to v top j → ⊥
   apart len i zero kinds less within there same = omega arith
@@ -156,14 +157,14 @@ all-made (b ∷ bs) (suc i) all l = (let e = made-cons b bs in let f = few b in 
 -- ---- the walk
 
 -- The walk has come to a block after so many turns, and has marked the blocks before.
-pub record IsWalking (v : VolumeState) (top : ℕ) (bs : List NotedBlock) (chain : List ℕ) (marks : List Bool) (next turn : ℕ) : Type 0 where
+pub record IsWalking (v : VolumeState) (top : ℕ) (bs : List ChainedBlock) (chain : List ℕ) (marks : List Bool) (next turn : ℕ) : Type 0 where
   pub path : IsPath v top chain next
   pub turns : length chain ≡ turn
   pub counted : made marks ≡ turn
   pub are_marks : AreMarks bs chain marks
 
 -- at first nothing is marked
-pub walk-starts : (v : VolumeState) (top : ℕ) (bs : List NotedBlock) (chain : List ℕ) (marks : List Bool) → chain ≡ [] → marks ≡ replicate (length bs) false → IsWalking v top bs chain marks top 0
+pub walk-starts : (v : VolumeState) (top : ℕ) (bs : List ChainedBlock) (chain : List ℕ) (marks : List Bool) → chain ≡ [] → marks ≡ replicate (length bs) false → IsWalking v top bs chain marks top 0
 walk-starts v top bs chain marks none unmarked =
     let W : List ℕ → List Bool → Type 0 = λ ns ms. IsWalking v top bs ns ms top 0 in
     let start : W [] (replicate (length bs) false) = record {
@@ -177,7 +178,7 @@ walk-starts v top bs chain marks none unmarked =
     } in
     subst (λ (ns : List ℕ). W ns marks) (sym none) (subst (λ (ms : List Bool). W [] ms) (sym unmarked) start)
 
-module _ (k : ℕ) (v : VolumeState) (bs : List NotedBlock) (top : ℕ) (h : IsChainable k v bs top) (chain : List ℕ) (marks : List Bool) (next turn : ℕ) (many : length marks ≡ length bs)
+module _ (k : ℕ) (v : VolumeState) (bs : List ChainedBlock) (top : ℕ) (h : IsChainable k v bs top) (chain : List ℕ) (marks : List Bool) (next turn : ℕ) (many : length marks ≡ length bs)
     (w : IsWalking v top bs chain marks next turn) where
   -- a block of the table is noted, marked and left
   pub walk-goes-on : (at : ℕ) → at < length bs → (index_block_at bs at).number ≡ next → IsWalking v top bs (chain ++ (next ∷ [])) (slice_set marks at true) (index_block_at bs at).next (turn + 1)
@@ -213,7 +214,7 @@ module _ (k : ℕ) (v : VolumeState) (bs : List NotedBlock) (top : ℕ) (h : IsC
       }
 
   -- where no block of the table stands the walk has come to its end
-  pub walk-stops : turn ≤ length bs → ((b : NotedBlock) → IsBlockOf b bs → b.number ≡ next → ⊥) → IsWalked v top bs chain marks
+  pub walk-stops : turn ≤ length bs → ((b : ChainedBlock) → IsBlockOf b bs → b.number ≡ next → ⊥) → IsWalked v top bs chain marks
   walk-stops short none = elim (leads k v bs top h chain next w.path) [
     | inl z ↦ (let turns = w.turns in record { path = subst (IsPath v top chain) z w.path; short = omega arith; are_marks = w.are_marks })
     | inr kind ↦ absurd (none (index_block_of v next) (h.table.all next kind) refl)
@@ -229,7 +230,7 @@ module _ (k : ℕ) (v : VolumeState) (bs : List NotedBlock) (top : ℕ) (h : IsC
         let counted = w.counted in
         let m = all-made marks i.0 (omega arith) (omega arith) in
         let on : IsAmong (index_block_at bs i.0).number chain = w.are_marks.passed i.0 i.1 m in
-        absurd (new-block k v bs top h chain next w.path kind (subst (λ (b : NotedBlock). IsAmong b.number chain) i.2 on)))
+        absurd (new-block k v bs top h chain next w.path kind (subst (λ (b : ChainedBlock). IsAmong b.number chain) i.2 on)))
   ]
 
 -- ---- the chain
@@ -256,11 +257,11 @@ path-from v (suc more) s (n ∷ ns) p l =
     ∙ ap (λ (xs : List ℕ). n ∷ xs) (path-from v more (number_at 4 (block_at v n) 8) ns p.2 (omega arith))
 
 -- blocks that ascend below a number are fewer
-few-blocks : (a c : ℕ) (bs : List NotedBlock) → BlocksAscend a bs → a < c → ((b : NotedBlock) → IsBlockOf b bs → b.number < c) → a + length bs < c
+few-blocks : (a c : ℕ) (bs : List ChainedBlock) → BlocksAscend a bs → a < c → ((b : ChainedBlock) → IsBlockOf b bs → b.number < c) → a + length bs < c
 few-blocks a c [] h less below = omega arith
 few-blocks a c (b ∷ bs) h less below = (let f = h.0 in let r = few-blocks b.number c bs h.1 (below b (inl refl)) (λ x i. below x (inr i)) in omega arith)
 
-module _ (d : Database) (v : VolumeState) (bs : List NotedBlock) (top : ℕ) (h : IsChainable (root_key_length d.types) v bs top) (of : IsVolumeOf d v) (chain : List ℕ) (marks : List Bool)
+module _ (d : Database) (v : VolumeState) (bs : List ChainedBlock) (top : ℕ) (h : IsChainable (root_key_length d.types) v bs top) (of : IsVolumeOf d v) (chain : List ℕ) (marks : List Bool)
     (w : IsWalked v top bs chain marks) where
   -- the chain that was walked is the volume's
   pub walked-chain : chain ≡ entry_blocks v
@@ -283,7 +284,7 @@ module _ (d : Database) (v : VolumeState) (bs : List NotedBlock) (top : ℕ) (h 
         (subst (λ (s : ℕ). IsChain (root_key_length d.types) v s chain) h.top_is (path-chain (root_key_length d.types) v top chain h.right w.path));
     reached = λ n kind.
         (let i = index-of (index_block_of v n) bs (h.table.all n kind) in
-        subst (λ (ns : List ℕ). IsAmong n ns) walked-chain (subst (λ (b : NotedBlock). IsAmong b.number chain) i.2 (w.are_marks.passed i.0 i.1 (all i.0 i.1))));
+        subst (λ (ns : List ℕ). IsAmong n ns) walked-chain (subst (λ (b : ChainedBlock). IsAmong b.number chain) i.2 (w.are_marks.passed i.0 i.1 (all i.0 i.1))));
   }
 
   -- the first block with no mark is the least fault
@@ -301,7 +302,7 @@ module _ (d : Database) (v : VolumeState) (bs : List NotedBlock) (top : ℕ) (h 
         | inr high ↦ (let less : n * v.size ≤ m * v.size = mul-le n v.size m v.size high (omega arith) in omega arith)
         | inl low ↦
             (let j = index-of (index_block_of v m) bs (h.table.all m t.1) in
-            let own : (index_block_at bs j.0).number ≡ m = ap (λ (b : NotedBlock). b.number) j.2 in
+            let own : (index_block_at bs j.0).number ≡ m = ap (λ (b : ChainedBlock). b.number) j.2 in
             let j-within = j.1 in
             let earlier : j.0 < i = elim (cases_lt j.0 i) [
               | inl x ↦ x

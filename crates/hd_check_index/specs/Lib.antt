@@ -1,2 +1,13 @@
+pub mod Marks
+pub mod Tables
+pub mod Rows
+pub mod Extents
+pub mod BlockExtents
+pub mod EntryOrders
+pub mod Judging
+pub mod NotedBlocks
+pub mod NamedBlocks
+pub mod Standings
+pub mod Counted
 pub mod IndexPhases
 pub mod LeftKeys

@@ -8,9 +8,10 @@ ghost use Rattle.hd_volume.specs.Indexes.{root_key_length};
 ghost use Rattle.hd_image.specs.Records.{IsVolumeOf};
 ghost use Rattle.hd_image.specs.Right.{ChainIsFormed};
 ghost use Rattle.hd_check_blocks.specs.Phases.{IsLeastOf};
-ghost use Rattle.hd_check_index.specs.IndexPhases.{AreNamedOnce, IsChainable, IsWalked, AreMarkedBefore, mark_at, index_block_at, IfRightByBlock};
+ghost use Rattle.hd_check_index.specs.Marks.{AreMarkedBefore, mark_at};
+ghost use Rattle.hd_check_index.specs.IndexPhases.{AreNamedOnce, IsChainable, IsWalked, index_block_at, IfRightByBlock};
 
-use crate::noted_blocks::{NotedBlock, block_address, position_of};
+use crate::noted_blocks::{ChainedBlock, block_address, position_of};
 use hd_check_blocks::Fault;
 use hd_dbd::Refused;
 use hd_image::Line;
@@ -28,7 +29,7 @@ fn no_marks(alloc: Global, count: usize) -> Result<Vec<bool>, Refused>
 fn walk(
     chain: &mut Vec<u32>,
     marks: &mut Vec<bool>,
-    blocks: &[NotedBlock],
+    blocks: &[ChainedBlock],
     top: u32,
 ) -> Result<(), Refused>
     requires empty { chain.old.items ≡ [] }
@@ -52,7 +53,7 @@ fn walk(
 }
 
 /// The first of the blocks that has no mark.
-fn unmarked(blocks: &[NotedBlock], marks: &[bool]) -> Option<u32>
+fn unmarked(blocks: &[ChainedBlock], marks: &[bool]) -> Option<u32>
     requires as_many { length marks.now ≡ length blocks.now }
     ensures none { IfNone result (AreMarkedBefore (length blocks.now) marks.now) }
     ensures some { IfSome result (λ n. (i : ℕ) × (i < length blocks.now) × (n ≡ (index_block_at blocks.now i).number) × (mark_at marks.now i ≡ false) × AreMarkedBefore i marks.now) }
@@ -71,7 +72,7 @@ fn unmarked(blocks: &[NotedBlock], marks: &[bool]) -> Option<u32>
 pub fn unreached_block_fault(
     alloc: Global,
     chain: &mut Vec<u32>,
-    blocks: &[NotedBlock],
+    blocks: &[ChainedBlock],
     top: u32,
     size: u32,
 ) -> Result<Option<Fault>, Refused>

@@ -10,20 +10,22 @@ ghost use Rattle.hd_volume.specs.declared.load.TheConstants.{MOST_BLOCKS};
 ghost use Rattle.hd_image.specs.Records.{IsVolumeOf};
 ghost use Rattle.hd_image.specs.IndexFaults.{IsOfLevel, IsWrongTop};
 ghost use Rattle.hd_check_blocks.specs.Phases.{IsLeastOf};
-ghost use Rattle.hd_check_index.specs.IndexPhases.{AreIndexBlocks, AreForms, IsNotedBlock, IsTopRight, IsRightIndexBlock, IsFirstWrong, IsIndexRight, IfHeaded, IfSized, IfTabled, IfOwnForm, OfFormed};
+ghost use Rattle.hd_check_index.specs.Judging.{IfSized};
+ghost use Rattle.hd_check_index.specs.IndexPhases.{AreIndexBlocks, AreForms, IsNotedBlock, IsTopRight, IsRightIndexBlock, IsFirstWrong, IsIndexRight, IfHeaded, IfTabled, IfOwnForm, OfFormed};
 ghost use Rattle.hd_check_blocks.specs.Finding.{WhereNone, WhereSome};
 
-use crate::noted_blocks::{Form, NotedBlock, block_address, position_of};
+use crate::noted_blocks::{ChainedBlock, Form, block_address, position_of};
 use hd_check_blocks::Fault;
 use hd_dbd::{Dbd, Refused};
-use hd_entries::{FIRST, IndexBlock, entry_room, root_key_length};
 use hd_image::Line;
-use hd_volume::{BlockStore, INDEX, MOST_BLOCKS, Volume};
+use hd_index_blocks::{FIRST, IndexBlock, entry_room, root_key_length};
+use hd_stores::BlockStore;
+use hd_volume::{INDEX, MOST_BLOCKS, Volume};
 use std::alloc::Global;
 
 /// Notes block n, behind block 0, and its form, if it is an index block.
 fn note_block<S: BlockStore>(
-    blocks: &mut Vec<NotedBlock>,
+    blocks: &mut Vec<ChainedBlock>,
     forms: &mut Vec<Form>,
     volume: &mut Volume<S>,
     key_length: usize,
@@ -55,14 +57,14 @@ fn note_block<S: BlockStore>(
     let next = block.next();
     forms.push(form).map_err(|_| Refused::Memory)?;
     blocks
-        .push(NotedBlock { number: n, next })
+        .push(ChainedBlock { number: n, next })
         .map_err(|_| Refused::Memory)?;
     Ok(())
 }
 
 /// Notes the index blocks of a volume, in order of their numbers, and their forms.
 fn note_blocks<S: BlockStore>(
-    blocks: &mut Vec<NotedBlock>,
+    blocks: &mut Vec<ChainedBlock>,
     forms: &mut Vec<Form>,
     volume: &mut Volume<S>,
     key_length: usize,
@@ -86,7 +88,7 @@ fn note_blocks<S: BlockStore>(
 }
 
 /// Whether a number is that of an index block of a level.
-fn is_of_level(blocks: &[NotedBlock], forms: &[Form], number: u32, level: u8) -> bool
+fn is_of_level(blocks: &[ChainedBlock], forms: &[Form], number: u32, level: u8) -> bool
     requires as_many { length forms.now ≡ length blocks.now }
     ensures right { result ≡ true → (v : VolumeState) → IfTabled v blocks.now forms.now (IsOfLevel v level number) }
     ensures wrong { result ≡ false → (v : VolumeState) → IfTabled v blocks.now forms.now (IsOfLevel v level number → ⊥) }
@@ -101,7 +103,7 @@ fn is_of_level(blocks: &[NotedBlock], forms: &[Form], number: u32, level: u8) ->
 }
 
 /// Whether top and height name an index block of level 0 as the only level, or none.
-fn is_top_right(blocks: &[NotedBlock], forms: &[Form], top: u32, height: u32) -> bool
+fn is_top_right(blocks: &[ChainedBlock], forms: &[Form], top: u32, height: u32) -> bool
     requires as_many { length forms.now ≡ length blocks.now }
     ensures right { result ≡ true → (v : VolumeState) → IfTabled v blocks.now forms.now (IfHeaded v top height (IsTopRight v)) }
     ensures wrong { result ≡ false → (v : VolumeState) → IfTabled v blocks.now forms.now (IfHeaded v top height (IsWrongTop v 0 top)) }
@@ -114,11 +116,11 @@ fn is_top_right(blocks: &[NotedBlock], forms: &[Form], top: u32, height: u32) ->
 
 /// Whether an index block of a form is right, among the others.
 fn is_block_right(
-    blocks: &[NotedBlock],
+    blocks: &[ChainedBlock],
     forms: &[Form],
     height: u32,
     room: usize,
-    block: NotedBlock,
+    block: ChainedBlock,
     form: Form,
 ) -> bool
     requires as_many { length forms.now ≡ length blocks.now }
@@ -132,7 +134,7 @@ fn is_block_right(
 }
 
 /// The first index block whose form is wrong.
-fn wrong_form(blocks: &[NotedBlock], forms: &[Form], height: u32, room: usize) -> Option<u32>
+fn wrong_form(blocks: &[ChainedBlock], forms: &[Form], height: u32, room: usize) -> Option<u32>
     requires as_many { length forms.now ≡ length blocks.now }
     ensures none { (k : ℕ) (v : VolumeState) → IfTabled v blocks.now forms.now (IfSized k v height room (IfNone result ((n : ℕ) → IsKind v 2 n → IsRightIndexBlock k v n))) }
     ensures some { (k : ℕ) (v : VolumeState) → IfTabled v blocks.now forms.now (IfSized k v height room (IfSome result (λ n. IsFirstWrong k v n))) }
@@ -148,7 +150,7 @@ fn wrong_form(blocks: &[NotedBlock], forms: &[Form], height: u32, room: usize) -
 
 /// What is wrong with an index of these blocks and forms, whose header says this.
 fn form_fault(
-    blocks: &[NotedBlock],
+    blocks: &[ChainedBlock],
     forms: &[Form],
     top: u32,
     height: u32,
@@ -172,7 +174,7 @@ fn form_fault(
 /// noted, in order of their numbers.
 pub fn block_forms_fault<S: BlockStore>(
     alloc: Global,
-    blocks: &mut Vec<NotedBlock>,
+    blocks: &mut Vec<ChainedBlock>,
     volume: &mut Volume<S>,
     dbd: &Dbd,
 ) -> Result<Option<Fault>, Refused>

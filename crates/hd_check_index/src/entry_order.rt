@@ -12,14 +12,15 @@ ghost use Rattle.hd_image.specs.Right.{ChainIsFormed};
 ghost use Rattle.hd_check_blocks.specs.Phases.{IsLeastOf};
 ghost use Rattle.hd_check_index.specs.LeftKeys.{IsLeft, lesser, IsFirstNotAbove, IsLeftBehind, IsFoundWith};
 ghost use Rattle.hd_check_blocks.specs.Finding.{WhereNone, WhereSome};
-ghost use Rattle.hd_entries.specs.Fields.{CountFits};
+ghost use Rattle.hd_index_blocks.specs.Fields.{CountFits};
 
 use crate::noted_blocks::block_address;
 use hd_check_blocks::Fault;
 use hd_dbd::{Dbd, Refused, compare_keys};
-use hd_entries::{FIRST, IndexBlock, root_key_length};
 use hd_image::Line;
-use hd_volume::{BlockStore, Volume};
+use hd_index_blocks::{FIRST, IndexBlock, root_key_length};
+use hd_stores::BlockStore;
+use hd_volume::Volume;
 
 /// The key of the entry to the left, at the front, if there is one.
 #[derive(Clone, Copy)]

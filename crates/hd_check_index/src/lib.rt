@@ -1,13 +1,23 @@
 //! The phases of a check that judge the index: the form of its blocks (8), which of them are named (9) and reached (10), the
-//! order of the keys (11), what the entries name (12), and which roots they name (13).
+//! order of the keys (11), what the entries name (12), and which roots they name (13). Of a volume of version 1 the index is a chain of
+//! blocks; of a later one it is an index set.
 #![tactic(auto)]
 
 mod block_chain;
 mod block_forms;
 mod block_names;
 mod entry_order;
+mod extents;
+mod forms;
+mod names;
+mod next_blocks;
 mod noted_blocks;
+mod order;
+mod reach;
+mod rows;
 mod sequence;
+mod table;
+mod twice;
 mod unnamed_roots;
 mod wrong_entries;
 
@@ -15,7 +25,14 @@ pub use block_chain::unreached_block_fault;
 pub use block_forms::block_forms_fault;
 pub use block_names::twice_named_fault;
 pub use entry_order::entry_order_fault;
-pub use noted_blocks::{NotedBlock, block_address};
+pub use forms::{is_top_right, wrong_form};
+pub use names::twice_named;
+pub use next_blocks::wrong_next;
+pub use noted_blocks::{ChainedBlock, block_address};
+pub use order::entry_out_of_order;
+pub use reach::unreached;
+pub use rows::{Standing, rows_down};
 pub use sequence::sort_chain;
+pub use table::{NotedBlock, note_blocks};
 pub use unnamed_roots::unnamed_root_fault;
 pub use wrong_entries::wrong_entry_fault;

@@ -4,7 +4,7 @@ ghost use Rattle.hd_check_index.specs.IndexPhases.{BlocksAscend, IsBlockOf, inde
 
 /// An index block, by number, and the next one on its level, 0 for none.
 #[derive(Clone, Copy, Debug)]
-pub struct NotedBlock {
+pub struct ChainedBlock {
     pub number: u32,
     pub next: u32,
 }
@@ -17,9 +17,9 @@ pub struct Form {
 }
 
 /// Where the index block of a number stands among the others, if there is one.
-pub fn position_of(blocks: &[NotedBlock], number: u32) -> Option<usize>
+pub fn position_of(blocks: &[ChainedBlock], number: u32) -> Option<usize>
     ensures some { IfSome result (λ i. (i < length blocks.now) × ((index_block_at blocks.now i).number ≡ number)) }
-    ensures none { BlocksAscend 0 blocks.now → IfNone result ((b : NotedBlock) → IsBlockOf b blocks.now → b.number ≡ number → ⊥) }
+    ensures none { BlocksAscend 0 blocks.now → IfNone result ((b : ChainedBlock) → IsBlockOf b blocks.now → b.number ≡ number → ⊥) }
 {
     let mut low = 0;
     let mut high = blocks.len();

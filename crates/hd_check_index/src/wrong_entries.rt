@@ -1,5 +1,5 @@
 //! Phase 12: each entry names a root of its key.
-ghost use Rattle.std.specs.Prelude.{◌≡◌, ◌≤◌, ◌<◌, [], ◌++◌, ◌==◌, ◌&&◌, not, Some, map, find, option_map, bytes_eq, true, IsTrue, IfOk};
+ghost use Rattle.std.specs.Prelude.{◌≡◌, ◌<◌, [], ◌++◌, ◌==◌, ◌&&◌, not, Some, map, bytes_eq, true, IsTrue, IfOk};
 ghost use Rattle.std.specs.List.{list_all};
 ghost use Rattle.hd_bytes.specs.Blocks.{HasBlock};
 ghost use Rattle.hd_dbd.specs.Refusals.{OnlyDevice, OnlyDeviceOrMemory};
@@ -7,7 +7,7 @@ ghost use Rattle.hd_dbd.specs.Hierarchy.{Database};
 ghost use Rattle.hd_dbd.specs.Rows.{key_of};
 ghost use Rattle.hd_volume.specs.Volumes.{VolumeState, block_at};
 ghost use Rattle.hd_volume.specs.Entries.{entries_in};
-ghost use Rattle.hd_levels.specs.IndexSets.{index_entries};
+ghost use Rattle.hd_index_blocks.specs.IndexSets.{index_entries};
 ghost use Rattle.hd_volume.specs.Indexes.{root_key_length, IsEntryBlock};
 ghost use Rattle.hd_volume.specs.Calls.{IsRead};
 ghost use Rattle.hd_prefix.specs.Fields.{bytes_of, IsWhole};
@@ -15,15 +15,16 @@ ghost use Rattle.hd_image.specs.IndexFaults.{names_a_root};
 ghost use Rattle.hd_image.specs.Records.{links_of, IsVolumeOf};
 ghost use Rattle.hd_check_blocks.specs.Phases.{IsLeastOf};
 ghost use Rattle.hd_check_blocks.specs.Places.{ArePlaces};
-ghost use Rattle.hd_check_index.specs.IndexPhases.{OfCounted, IsSequence, AreNamed, AllNameRoots, first_wrong_in};
+ghost use Rattle.hd_check_index.specs.IndexPhases.{OfCounted, IsSequence, AreNamed, AllNameRoots, first_wrong_in, first_wrong_entry};
 ghost use Rattle.hd_check_blocks.specs.Finding.{WhereNone, WhereSome};
 
 use crate::noted_blocks::block_address;
 use hd_check_blocks::{Directory, Fault, Place, number_near, stored_key};
 use hd_dbd::{Dbd, Refused, compare_keys};
-use hd_entries::{FIRST, IndexBlock, root_key_length};
 use hd_image::Line;
-use hd_volume::{BlockStore, Volume};
+use hd_index_blocks::{FIRST, IndexBlock, root_key_length};
+use hd_stores::BlockStore;
+use hd_volume::Volume;
 use std::alloc::Global;
 
 /// Whether a stored root has a key.
@@ -85,7 +86,7 @@ fn wrong_among<S: BlockStore>(
     ensures read { IsRead volume.old result volume.new }
     ensures none { WhereNone volume.old result (OfCounted block.now.key_length block.now.bytes.now (λ es. list_all (λ e. names_a_root dbd.now (links_of dbd.now.types volume.old) e) es ≡ true)) }
     ensures named { WhereNone volume.old result (OfCounted block.now.key_length block.now.bytes.now (λ es. named.new.items ≡ named.old.items ++ map (λ e. e.address) es)) }
-    ensures some { WhereSome volume.old result (λ a. OfCounted block.now.key_length block.now.bytes.now (λ es. option_map (λ e. e.address) (find (λ e. not (names_a_root dbd.now (links_of dbd.now.types volume.old) e)) es) ≡ Some a)) }
+    ensures some { WhereSome volume.old result (λ a. OfCounted block.now.key_length block.now.bytes.now (λ es. first_wrong_entry dbd.now volume.old es ≡ Some a)) }
     ensures refusal { OnlyDeviceOrMemory result }
 {
     for index in 0..block.count() {

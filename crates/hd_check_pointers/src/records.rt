@@ -16,7 +16,8 @@ use crate::namings::{Naming, note_naming, note_pointers};
 use crate::record_pointers::{root_pointers_fault, segment_pointers_fault};
 use hd_check_blocks::{Directory, Fault, Place};
 use hd_dbd::{Dbd, Refused};
-use hd_volume::{BlockStore, Volume};
+use hd_stores::BlockStore;
+use hd_volume::Volume;
 
 /// What is wrong with the segment of a number, at an address. Its twin forward pointer, and the pointers by which it names others, are noted.
 fn record_fault<S: BlockStore>(

@@ -19,7 +19,8 @@ use crate::owners::stands_at;
 use hd_check_blocks::{Directory, Fault, Place, stored_key};
 use hd_dbd::{Dbd, Refused};
 use hd_image::Line;
-use hd_volume::{BlockStore, Volume};
+use hd_stores::BlockStore;
+use hd_volume::Volume;
 
 /// Whether the segments of a type have a key.
 pub fn is_keyed(dbd: &Dbd, code: u8) -> bool

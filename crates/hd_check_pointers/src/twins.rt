@@ -22,7 +22,8 @@ use hd_check_blocks::{Directory, Fault, Place, number_of};
 use hd_dbd::{Dbd, Refused};
 use hd_image::Line;
 use hd_prefix::{Layout, Pointer};
-use hd_volume::{BlockStore, Volume};
+use hd_stores::BlockStore;
+use hd_volume::Volume;
 
 /// A pointer of a stored segment of a type.
 fn pointer_in(dbd: &Dbd, code: u8, segment: &[u8], pointer: Pointer) -> u32

@@ -1,5 +1,5 @@
 -- Twins to which a walk comes, and the order of their keys.
-use Rattle.std.specs.Prelude.{◌≡◌, ℕ, List, true}
+use Rattle.std.specs.Prelude.{◌≡◌, ℕ, List, Bool, true}
 use Rattle.hd_dbd.specs.Types.{SegmentType}
 use Rattle.hd_dbd.specs.Rows.{key_of, twins_in_order}
 use Rattle.hd_links.specs.Links.{Links, IsSegment, segment_at}
@@ -19,3 +19,7 @@ HaveFronts types m code before twin = HasFront types m code before × HasFront t
 -- the key of the segment a may come behind that of the segment h
 abbrev pub IsKeyBehind : List SegmentType → Links → ℕ → ℕ → Type 0
 IsKeyBehind types m h a = twins_in_order types (segment_at m h) (segment_at m a) ≡ true
+
+-- where both are twins of the type of a code and it is told so, the key of the second may come behind that of the first
+abbrev pub TellsOrder : List SegmentType → Links → ℕ → Twin → Twin → Bool → Type 0
+TellsOrder types m code before twin told = HaveFronts types m code before twin → told ≡ true → IsKeyBehind types m before.address twin.address

@@ -1,5 +1,5 @@
 -- How far a walk along the pointers of a volume has come.
-use Rattle.std.specs.Prelude.{◌≡◌, ◌≢◌, ◌⊎◌, ℕ, ◌<◌, List, true, length, slice_index}
+use Rattle.std.specs.Prelude.{◌≡◌, ◌≢◌, ◌⊎◌, ℕ, ◌<◌, List, true, length, slice_index, Bool, Result, IfOk, IsTrue}
 use Rattle.hd_dbd.specs.Types.{SegmentType}
 use Rattle.hd_dbd.specs.Rows.{twins_in_order}
 use Rattle.hd_dbd.specs.Prefixes.{is_backward_kept}
@@ -10,6 +10,10 @@ use Rattle.hd_check_blocks.specs.declared.places.Place.{Place}
 use Rattle.hd_check_blocks.specs.Places.{place_at}
 use Rattle.hd_check_pointers.specs.Tables.{nobody}
 use Rattle.hd_check_pointers.specs.Twins.{AreLastsRight}
+use Rattle.hd_dbd.specs.declared.answer.Refused.{Refused}
+use Rattle.hd_volume.specs.Volumes.{VolumeState}
+use Rattle.hd_dbd.specs.Hierarchy.{Database}
+use Rattle.hd_image.specs.Records.{links_of}
 
 -- by the table, the walk came to the segment of type t at address p from the record h, its holder
 abbrev pub IsHeldBy : List Place → List ℕ → ℕ → ℕ → ℕ → Type 0
@@ -77,7 +81,20 @@ abbrev pub StepsOn : List SegmentType → Links → List Place → ℕ → ℕ �
 StepsOn types m places before a waiting holders waiting2 holders2 =
     (in_hand : ℕ) → IsWalkedSoFar types m places before in_hand waiting holders → IsWalkedSoFar types m places a in_hand waiting2 holders2
 
+-- the same, of the links of a volume
+abbrev pub StepsIn : Database → VolumeState → List Place → ℕ → ℕ → List ℕ → List ℕ → List ℕ → List ℕ → Type 0
+StepsIn d v places before a waiting holders waiting2 holders2 = StepsOn d.types (links_of d.types v) places before a waiting holders waiting2 holders2
+
 -- The segment `end` is the last twin of the chain from a first, or 0 where that is 0.
 pub record IsEnd (m : Links) (first end : ℕ) : Type 0 where
   pub some : 0 < first → IsInChain m first end × (m.forward end ≡ 0)
   pub none : first ≡ 0 → end ≡ 0
+
+-- the fact holds where a test that read a sound volume passed
+abbrev pub WhereTrue : VolumeState → Result Bool Refused → Type 0 → Type 0
+WhereTrue v result fact = IfOk result (λ b. IsTrue v.is_sound → b ≡ true → fact)
+
+-- the children of the record in hand were walked, and then none is in hand
+abbrev pub WalksOn : List SegmentType → Links → List Place → ℕ → List ℕ → List ℕ → List ℕ → List ℕ → Type 0
+WalksOn types m places in_hand waiting holders waiting2 holders2 =
+    IsWalkedSoFar types m places 0 in_hand waiting holders → IsWalkedSoFar types m places 0 (length places) waiting2 holders2

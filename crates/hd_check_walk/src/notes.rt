@@ -14,7 +14,8 @@ use crate::segments::{FRONT, Seen, seen_in};
 use hd_check_blocks::Place;
 use hd_dbd::{Dbd, Refused};
 use hd_prefix::{Layout, Pointer};
-use hd_volume::{BlockStore, Volume};
+use hd_stores::BlockStore;
+use hd_volume::Volume;
 
 /// Where the children of a segment that names none are noted: nowhere.
 pub const CHILDLESS: u32 = u32::MAX;

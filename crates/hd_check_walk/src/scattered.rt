@@ -8,7 +8,8 @@ ghost use Rattle.hd_check_blocks.specs.Places.{ArePlaces};
 use hd_check_blocks::Place;
 use hd_dbd::{Dbd, Refused};
 use hd_prefix::{Layout, Pointer};
-use hd_volume::{BlockStore, Volume};
+use hd_stores::BlockStore;
+use hd_volume::Volume;
 
 /// How many segments are looked at to tell whether a volume's segments lie scattered.
 const SAMPLES: usize = 64;

@@ -16,8 +16,8 @@ ghost use Rattle.hd_check_pointers.specs.Tables.{nobody};
 ghost use Rattle.hd_check_pointers.specs.Keys.{IsLastKey};
 ghost use Rattle.hd_check_walk.specs.Reading.{IsAsSeen};
 ghost use Rattle.hd_check_walk.specs.Notes.{IsNotedFor, AreNoted};
-ghost use Rattle.hd_check_walk.specs.Walks.{IsHeldBy, IsFollowed, IsUnheld, StaysHeld, IsWalkedSoFar, LeadsTo, StepsOn, IsEnd};
-ghost use Rattle.hd_check_walk.specs.Twins.{HasFront, HaveFronts, IsKeyBehind};
+ghost use Rattle.hd_check_walk.specs.Walks.{IsHeldBy, IsFollowed, IsUnheld, StaysHeld, LeadsTo, IsEnd, StepsIn};
+ghost use Rattle.hd_check_walk.specs.Twins.{HasFront, HaveFronts, IsKeyBehind, TellsOrder};
 
 use crate::guide::Guide;
 use crate::notes::{Note, look_at};
@@ -25,7 +25,8 @@ use crate::segments::{FRONT, Seen};
 use hd_check_blocks::{Directory, Place, number_near};
 use hd_check_pointers::{LastKey, is_keyed, twin_order_fault};
 use hd_dbd::{Dbd, Refused};
-use hd_volume::{BlockStore, Volume};
+use hd_stores::BlockStore;
+use hd_volume::Volume;
 
 /// The holder of a segment to which no pointer led so far: no record stands there.
 pub const NOBODY: u32 = u32::MAX;
@@ -106,7 +107,7 @@ fn is_less(one: [u8; FRONT], other: [u8; FRONT]) -> bool
 
 /// Whether the first eight bytes of the keys of two twins tell that the second may come behind the first: they are less, or there is no key.
 fn is_told(dbd: &Dbd, code: u8, before: &Twin, twin: &Twin) -> bool
-    ensures { (v : VolumeState) → IsVolumeOf dbd.now v → HaveFronts dbd.now.types (links_of dbd.now.types v) code before.now twin.now → result ≡ true → IsKeyBehind dbd.now.types (links_of dbd.now.types v) before.now.address twin.now.address }
+    ensures { (v : VolumeState) → IsVolumeOf dbd.now v → TellsOrder dbd.now.types (links_of dbd.now.types v) code before.now twin.now result }
 {
     is_less(before.front, twin.front) || !is_keyed(dbd, code)
 }
@@ -213,7 +214,7 @@ fn step_to<S: BlockStore>(
     ensures held { WhereSome volume.old result (λ s. IsHeldBy places.now holders.new.items holder code address) }
     ensures forward { WhereSome volume.old result (λ s. s.forward ≡ (links_of dbd.now.types volume.old).forward address) }
     ensures twin { WhereSome volume.old result (λ s. (s.twin.address ≡ address) × HasFront dbd.now.types (links_of dbd.now.types volume.old) code s.twin) }
-    ensures walked { WhereSome volume.old result (λ s. StepsOn dbd.now.types (links_of dbd.now.types volume.old) places.now before.address address waiting.old.items holders.old.items waiting.new.items holders.new.items) }
+    ensures walked { WhereSome volume.old result (λ s. StepsIn dbd.now volume.old places.now before.address address waiting.old.items holders.old.items waiting.new.items holders.new.items) }
     ensures refusal { OnlyDeviceOrMemory result }
 {
     let directory = guide.directory;
@@ -271,7 +272,7 @@ pub fn walk_twins<S: BlockStore>(
     ensures kept { WhereSome volume.old result (λ end. StaysHeld holders.old.items holders.new.items) }
     ensures first { WhereSome volume.old result (λ end. IsFollowed places.now holders.new.items parent code first) }
     ensures end { WhereSome volume.old result (λ end. IsEnd (links_of dbd.now.types volume.old) first end) }
-    ensures walked { WhereSome volume.old result (λ end. (in_hand : ℕ) → IsWalkedSoFar dbd.now.types (links_of dbd.now.types volume.old) places.now 0 in_hand waiting.old.items holders.old.items → IsWalkedSoFar dbd.now.types (links_of dbd.now.types volume.old) places.now 0 in_hand waiting.new.items holders.new.items) }
+    ensures walked { WhereSome volume.old result (λ end. StepsIn dbd.now volume.old places.now 0 0 waiting.old.items holders.old.items waiting.new.items holders.new.items) }
     ensures refusal { OnlyDeviceOrMemory result }
 {
     let mut before = no_twin();

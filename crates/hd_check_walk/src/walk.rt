@@ -10,7 +10,7 @@ ghost use Rattle.hd_check_pointers.specs.Tables.{nobody};
 ghost use Rattle.hd_check_pointers.specs.Twins.{IsLastRight};
 ghost use Rattle.hd_check_pointers.specs.Keys.{IsLastKey};
 ghost use Rattle.hd_check_walk.specs.Notes.{IsChildNumber, AreNamedFor, AreNoted, AreChildrenNoted};
-ghost use Rattle.hd_check_walk.specs.Walks.{IsFollowed, StaysHeld, IsWalkedSoFar, AreChildrenWalked};
+ghost use Rattle.hd_check_walk.specs.Walks.{IsFollowed, StaysHeld, AreChildrenWalked, WhereTrue, WalksOn, StepsIn};
 
 use crate::guide::{Guide, twin_numbers};
 use crate::notes::{Named, Note, children_named, note_segments};
@@ -19,7 +19,8 @@ use crate::twins::{NOBODY, walk_twins};
 use hd_check_blocks::{Directory, Place};
 use hd_check_pointers::{LastKey, no_key};
 use hd_dbd::{Dbd, Refused};
-use hd_volume::{BlockStore, Volume};
+use hd_stores::BlockStore;
+use hd_volume::Volume;
 use std::alloc::Global;
 
 /// Whether the twin to which a walk came last is the last child that is named, where it is kept.
@@ -58,11 +59,11 @@ fn walk_type<S: BlockStore>(
     requires children { IsTrue volume.old.is_sound → AreNamedFor dbd.now.types (links_of dbd.now.types volume.old) notes.now named.now number place.address }
     ensures read { IsRead volume.old result volume.new }
     ensures as_many { length holders.new.items ≡ length places.now }
-    ensures known { IfOk result (λ b. IsTrue volume.old.is_sound → b ≡ true → IsLastKey dbd.now.types (links_of dbd.now.types volume.old) last.new) }
-    ensures kept { IfOk result (λ b. IsTrue volume.old.is_sound → b ≡ true → StaysHeld holders.old.items holders.new.items) }
-    ensures first { IfOk result (λ b. IsTrue volume.old.is_sound → b ≡ true → IsFollowed places.now holders.new.items place.address child ((links_of dbd.now.types volume.old).first_child place.address child)) }
-    ensures last { IfOk result (λ b. IsTrue volume.old.is_sound → b ≡ true → is_last_kept dbd.now.types child ≡ true → IsLastRight (links_of dbd.now.types volume.old) place.address child) }
-    ensures walked { IfOk result (λ b. IsTrue volume.old.is_sound → b ≡ true → (in_hand : ℕ) → IsWalkedSoFar dbd.now.types (links_of dbd.now.types volume.old) places.now 0 in_hand waiting.old.items holders.old.items → IsWalkedSoFar dbd.now.types (links_of dbd.now.types volume.old) places.now 0 in_hand waiting.new.items holders.new.items) }
+    ensures known { WhereTrue volume.old result (IsLastKey dbd.now.types (links_of dbd.now.types volume.old) last.new) }
+    ensures kept { WhereTrue volume.old result (StaysHeld holders.old.items holders.new.items) }
+    ensures first { WhereTrue volume.old result (IsFollowed places.now holders.new.items place.address child ((links_of dbd.now.types volume.old).first_child place.address child)) }
+    ensures last { WhereTrue volume.old result (is_last_kept dbd.now.types child ≡ true → IsLastRight (links_of dbd.now.types volume.old) place.address child) }
+    ensures walked { WhereTrue volume.old result (StepsIn dbd.now volume.old places.now 0 0 waiting.old.items holders.old.items waiting.new.items holders.new.items) }
     ensures refusal { OnlyDeviceOrMemory result }
 {
     let Some(pair) = children_named(notes, named, number, place, index, child, volume, dbd)? else {
@@ -110,9 +111,9 @@ fn walk_children<S: BlockStore>(
     requires reached { IsTrue volume.old.is_sound → (n : ℕ) × IsReached dbd.now.types (links_of dbd.now.types volume.old) n (place_at places.now number).address }
     ensures read { IsRead volume.old result volume.new }
     ensures as_many { length holders.new.items ≡ length places.now }
-    ensures known { IfOk result (λ b. IsTrue volume.old.is_sound → b ≡ true → IsLastKey dbd.now.types (links_of dbd.now.types volume.old) last.new) }
-    ensures kept { IfOk result (λ b. IsTrue volume.old.is_sound → b ≡ true → StaysHeld holders.old.items holders.new.items) }
-    ensures walked { IfOk result (λ b. IsTrue volume.old.is_sound → b ≡ true → IsWalkedSoFar dbd.now.types (links_of dbd.now.types volume.old) places.now 0 number waiting.old.items holders.old.items → IsWalkedSoFar dbd.now.types (links_of dbd.now.types volume.old) places.now 0 (length places.now) waiting.new.items holders.new.items) }
+    ensures known { WhereTrue volume.old result (IsLastKey dbd.now.types (links_of dbd.now.types volume.old) last.new) }
+    ensures kept { WhereTrue volume.old result (StaysHeld holders.old.items holders.new.items) }
+    ensures walked { WhereTrue volume.old result (WalksOn dbd.now.types (links_of dbd.now.types volume.old) places.now number waiting.old.items holders.old.items waiting.new.items holders.new.items) }
     ensures refusal { OnlyDeviceOrMemory result }
 {
     if number >= places.len() {
@@ -173,9 +174,9 @@ fn walk_roots<S: BlockStore>(
     requires known { IsTrue volume.old.is_sound → IsLastKey dbd.now.types (links_of dbd.now.types volume.old) last.old }
     ensures read { IsRead volume.old result volume.new }
     ensures as_many { length holders.new.items ≡ length places.now }
-    ensures known { IfOk result (λ b. IsTrue volume.old.is_sound → b ≡ true → IsLastKey dbd.now.types (links_of dbd.now.types volume.old) last.new) }
-    ensures header { IfOk result (λ b. IsTrue volume.old.is_sound → b ≡ true → AreChildrenWalked dbd.now.types (links_of dbd.now.types volume.old) places.now holders.new.items 0) }
-    ensures walked { IfOk result (λ b. IsTrue volume.old.is_sound → b ≡ true → (in_hand : ℕ) → IsWalkedSoFar dbd.now.types (links_of dbd.now.types volume.old) places.now 0 in_hand waiting.old.items holders.old.items → IsWalkedSoFar dbd.now.types (links_of dbd.now.types volume.old) places.now 0 in_hand waiting.new.items holders.new.items) }
+    ensures known { WhereTrue volume.old result (IsLastKey dbd.now.types (links_of dbd.now.types volume.old) last.new) }
+    ensures header { WhereTrue volume.old result (AreChildrenWalked dbd.now.types (links_of dbd.now.types volume.old) places.now holders.new.items 0) }
+    ensures walked { WhereTrue volume.old result (StepsIn dbd.now volume.old places.now 0 0 waiting.old.items holders.old.items waiting.new.items holders.new.items) }
     ensures refusal { OnlyDeviceOrMemory result }
 {
     let first = volume.first_root();
@@ -204,7 +205,7 @@ fn walk_volume<S: BlockStore>(
     requires noted { IsTrue volume.old.is_sound → AreNoted dbd.now.types (links_of dbd.now.types volume.old) places.now notes.now }
     requires children { IsTrue volume.old.is_sound → AreChildrenNoted dbd.now.types (links_of dbd.now.types volume.old) places.now notes.now named.now }
     ensures read { IsRead volume.old result volume.new }
-    ensures linked { IfOk result (λ b. IsTrue volume.old.is_sound → b ≡ true → AreLinked dbd.now.types (links_of dbd.now.types volume.old)) }
+    ensures linked { WhereTrue volume.old result (AreLinked dbd.now.types (links_of dbd.now.types volume.old)) }
     ensures refusal { OnlyDeviceOrMemory result }
 {
     let twins = twin_numbers(alloc, notes, directory)?;
@@ -261,8 +262,8 @@ fn note_scattered<S: BlockStore>(
     requires of { IsTrue volume.old.is_sound → IsVolumeOf dbd.now volume.old }
     requires places { IsTrue volume.old.is_sound → ArePlaces dbd.now.types volume.old places.now }
     ensures read { IsRead volume.old result volume.new }
-    ensures noted { IfOk result (λ b. IsTrue volume.old.is_sound → b ≡ true → AreNoted dbd.now.types (links_of dbd.now.types volume.old) places.now notes.new.items) }
-    ensures children { IfOk result (λ b. IsTrue volume.old.is_sound → b ≡ true → AreChildrenNoted dbd.now.types (links_of dbd.now.types volume.old) places.now notes.new.items named.new.items) }
+    ensures noted { WhereTrue volume.old result (AreNoted dbd.now.types (links_of dbd.now.types volume.old) places.now notes.new.items) }
+    ensures children { WhereTrue volume.old result (AreChildrenNoted dbd.now.types (links_of dbd.now.types volume.old) places.now notes.new.items named.new.items) }
     ensures refusal { OnlyDeviceOrMemory result }
 {
     if !are_scattered(places, volume, dbd)? {
@@ -285,7 +286,7 @@ pub fn are_linked<S: BlockStore>(
     requires of { IsTrue volume.old.is_sound → IsVolumeOf dbd.now volume.old }
     requires places { IsTrue volume.old.is_sound → ArePlaces dbd.now.types volume.old places.now }
     ensures read { IsRead volume.old result volume.new }
-    ensures linked { IfOk result (λ b. IsTrue volume.old.is_sound → b ≡ true → AreLinked dbd.now.types (links_of dbd.now.types volume.old)) }
+    ensures linked { WhereTrue volume.old result (AreLinked dbd.now.types (links_of dbd.now.types volume.old)) }
     ensures refusal { OnlyDeviceOrMemory result }
 {
     let mut notes = Vec::new(alloc);

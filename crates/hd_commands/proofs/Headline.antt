@@ -15,7 +15,7 @@ use Rattle.hd_links.proofs.Unique.{unique}
 use Rattle.hd_image.specs.Records.{links_of}
 use Rattle.hd_image.specs.Holding.{HoldsPlaced, volume_of}
 use Rattle.hd_image.proofs.OneImage.{held-same}
-use Rattle.hd_keeping.specs.VolumeImages.{images_of}
+use Rattle.hd_changes.specs.VolumeImages.{images_of}
 use Rattle.hd_session.proofs.Turns.{sessions_answer}
 use Rattle.hd_commands.specs.Headline.{PassesFor, IsHeadline, ChecksTellOneForest, RunsAnswerTheirLogs, ReloadsPass}
 

@@ -3,22 +3,22 @@ use Rattle.std.proofs.Common.{◌<◌, ℕ, List, Bool, IsTrue, Err, inl, inr, r
 use Rattle.hd_dbd.specs.Types.{View}
 use Rattle.hd_dbd.specs.Hierarchy.{Database}
 use Rattle.hd_volume.specs.Volumes.{VolumeState}
-use Rattle.hd_volume.specs.Stores.{CountsFor}
+use Rattle.hd_stores.specs.Stores.{CountsFor}
 use Rattle.hd_volume.specs.Calls.{IsRead}
 use Rattle.hd_links.specs.Steps.{rows_of}
-use Rattle.hd_check.specs.declared.checking.CheckFault.{CheckFault}
-use Rattle.hd_check.specs.declared.checking.CheckFault.TheVariants as check
+use Rattle.hd_check.specs.declared.checks.CheckFault.{CheckFault}
+use Rattle.hd_check.specs.declared.checks.CheckFault.TheVariants as check
 use Rattle.hd_check.specs.Checks.{IsFaultOf, as_call}
 use Rattle.hd_unload.specs.declared.fault.ReloadFault.{ReloadFault}
 use Rattle.hd_unload.specs.declared.fault.ReloadFault.TheVariants as reload
-use Rattle.hd_unload.specs.declared.unloading.UnloadFault.{UnloadFault}
-use Rattle.hd_unload.specs.declared.unloading.UnloadFault.TheVariants as unload
+use Rattle.hd_unload.specs.declared.unloads.UnloadFault.{UnloadFault}
+use Rattle.hd_unload.specs.declared.unloads.UnloadFault.TheVariants as unload
 use Rattle.hd_unload.specs.Refusals.{refused_by}
 use Rattle.hd_unload.specs.Refusals as reloads
 use Rattle.hd_unload.specs.Unloads.{IsUnloadFaultOf, unload_call}
 use Rattle.hd_session.specs.declared.opening.OpenFault.TheVariants as opening
-use Rattle.hd_deck.specs.declared.running.RunFault.{RunFault}
-use Rattle.hd_deck.specs.declared.running.RunFault.TheVariants as run
+use Rattle.hd_deck.specs.declared.runs.RunFault.{RunFault}
+use Rattle.hd_deck.specs.declared.runs.RunFault.TheVariants as run
 use Rattle.hd_deck.specs.StepText.{StepText}
 use Rattle.hd_deck.specs.Runs.{turns_of, IsRunFaultOf, fault_refusal}
 use Rattle.hd_commands.specs.Refusals.{of_check, of_unload, of_reload, of_run}

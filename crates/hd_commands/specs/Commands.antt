@@ -5,12 +5,12 @@ use Rattle.hd_dbd.specs.Hierarchy.{Database}
 use Rattle.hd_dbd.specs.Segment.{Segment}
 use Rattle.hd_volume.specs.Volumes.{VolumeState}
 use Rattle.hd_image.specs.Holding.{HoldsRows}
-use Rattle.hd_check.specs.declared.checking.Passed.{Passed}
+use Rattle.hd_check.specs.declared.checks.Passed.{Passed}
 use Rattle.hd_check.specs.Checks.{IsPassed, IsFaulty}
 use Rattle.hd_unload.specs.Unloads.{IsUnloaded}
 use Rattle.hd_unload.specs.Streams.{IsRefusedAt}
 use Rattle.hd_unload.specs.Loads.{IsReloaded, IsFullAt}
-use Rattle.hd_commands.specs.declared.ending.Ended.{Ended}
+use Rattle.hd_commands.specs.declared.ended.Ended.{Ended}
 use Rattle.hd_commands.specs.declared.refusal.Refusal.{Refusal}
 use Rattle.hd_commands.specs.declared.refusal.Refusal.TheVariants.{Fault, Old, NotEmpty, Record, Full, Device, Memory}
 use Rattle.hd_commands.specs.Lines.{passed_line, unloaded_line, reloaded_line, refusal_line, status_of}

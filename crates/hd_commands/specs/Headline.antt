@@ -9,8 +9,8 @@ use Rattle.hd_calls.specs.Runs.{last_state, IsLegalLog}
 use Rattle.hd_calls.specs.NoLostUpdate.{opened}
 use Rattle.hd_volume.specs.Volumes.{VolumeState}
 use Rattle.hd_image.specs.Holding.{HoldsForest, volume_of}
-use Rattle.hd_keeping.specs.VolumeImages.{images_of}
-use Rattle.hd_check.specs.declared.checking.Passed.{Passed}
+use Rattle.hd_changes.specs.VolumeImages.{images_of}
+use Rattle.hd_check.specs.declared.checks.Passed.{Passed}
 use Rattle.hd_check.specs.Checks.{IsPassed}
 use Rattle.hd_unload.specs.Streams.{IsStreamOf}
 use Rattle.hd_unload.specs.Loads.{IsReloaded}

@@ -2,7 +2,7 @@
 use Rattle.std.specs.Prelude.{ℕ, List, [], ◌∷◌, ◌++◌, ◌==◌, take, codes, decimal}
 use Rattle.std.specs.List.{position_or_len}
 use Rattle.hd_image.specs.Standing.{number_of}
-use Rattle.hd_check.specs.declared.checking.Passed.{Passed}
+use Rattle.hd_check.specs.declared.checks.Passed.{Passed}
 use Rattle.hd_unload.specs.declared.fault.RecordFault.{RecordFault}
 use Rattle.hd_unload.specs.declared.fault.RecordFault.TheVariants.{U1, U2, U3, U4, LB, LC, LD, LE}
 use Rattle.hd_commands.specs.declared.refusal.Refusal.{Refusal}

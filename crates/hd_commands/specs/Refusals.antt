@@ -1,15 +1,15 @@
 -- Which refusal of a command a fault of the calls below is.
 use Rattle.hd_dbd.specs.declared.answer.Refused.{Refused}
 use Rattle.hd_dbd.specs.declared.answer.Refused.TheVariants as refused
-use Rattle.hd_check.specs.declared.checking.CheckFault.{CheckFault}
-use Rattle.hd_check.specs.declared.checking.CheckFault.TheVariants as check
-use Rattle.hd_unload.specs.declared.unloading.UnloadFault.{UnloadFault}
-use Rattle.hd_unload.specs.declared.unloading.UnloadFault.TheVariants as unload
+use Rattle.hd_check.specs.declared.checks.CheckFault.{CheckFault}
+use Rattle.hd_check.specs.declared.checks.CheckFault.TheVariants as check
+use Rattle.hd_unload.specs.declared.unloads.UnloadFault.{UnloadFault}
+use Rattle.hd_unload.specs.declared.unloads.UnloadFault.TheVariants as unload
 use Rattle.hd_unload.specs.declared.fault.ReloadFault.{ReloadFault}
 use Rattle.hd_unload.specs.declared.fault.ReloadFault.TheVariants as reload
 use Rattle.hd_session.specs.declared.opening.OpenFault.TheVariants as opening
-use Rattle.hd_deck.specs.declared.running.RunFault.{RunFault}
-use Rattle.hd_deck.specs.declared.running.RunFault.TheVariants as run
+use Rattle.hd_deck.specs.declared.runs.RunFault.{RunFault}
+use Rattle.hd_deck.specs.declared.runs.RunFault.TheVariants as run
 use Rattle.hd_commands.specs.declared.refusal.Refusal.{Refusal}
 use Rattle.hd_commands.specs.declared.refusal.Refusal.TheVariants.{Fault, Old, NotEmpty, Record, Full, Device, Memory}
 

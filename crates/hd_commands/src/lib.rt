@@ -1,19 +1,19 @@
 //! What `hd check`, `hd unload`, `hd reload` and `hd deck` do with what they were given open: judge it, print, and say the status.
 #![tactic(auto)]
 
-mod checking;
-mod ending;
+mod check_command;
+mod deck_command;
+mod ended;
 mod law;
 mod lines;
-mod playing;
 mod refusal;
-mod reloading;
-mod unloading;
+mod reload_command;
+mod unload_command;
 
-pub use checking::check_volume;
-pub use ending::{Ended, refuse};
+pub use check_command::check_volume;
+pub use deck_command::{play_deck, status_of_calls};
+pub use ended::{Ended, refuse};
 pub use law::law_headline;
-pub use playing::{play_deck, status_of_calls};
 pub use refusal::Refusal;
-pub use reloading::reload_store;
-pub use unloading::unload_volume;
+pub use reload_command::reload_store;
+pub use unload_command::unload_volume;

@@ -1,5 +1,5 @@
 -- Where no segments vary, no type has a least length.
-use Rattle.std.proofs.Common.{◌≡◌, ℕ, zero, suc, ◌-◌, List, [], ◌∷◌, Bool, true, false, ◌||◌, Option, Some, None, refl, subst}
+use Rattle.std.proofs.Common.{◌≡◌, ℕ, zero, suc, ◌-◌, List, [], ◌∷◌, Bool, true, false, Option, Some, None, refl, subst}
 use Rattle.std.specs.Prelude.{is_some, slice_get, ◌==◌, cond}
 use Rattle.std.proofs.lemmas.Bool.{or_parts}
 use Rattle.hd_dbd.specs.Types.{SegmentType}

@@ -1,6 +1,6 @@
 -- In a well-formed list of types each type's level is one more than its parent's.
 use Rattle.std.proofs.Common.{◌≡◌, ℕ, zero, suc, ◌+◌, ◌-◌, ◌<◌, List, [], ◌∷◌, ◌++◌, length, get_or, true, false, arith, ap, sym, ◌∙◌, Option, Some, None, refl, subst, IsTrue}
-use Rattle.std.specs.Prelude.{slice_get, slice_index, ◌==◌, option_and_then}
+use Rattle.std.specs.Prelude.{slice_get, slice_index, option_and_then}
 use Rattle.std.specs.Option.{option_map_or}
 use Rattle.std.proofs.lemmas.List.{length-append, get_or_at}
 use Rattle.std.proofs.lemmas.Option.{slice_get_within, slice_get-get_or}

@@ -1,11 +1,11 @@
 -- A row may be loaded behind valid rows just where they are valid with it.
-use Rattle.std.proofs.Common.{◌≡◌, ℕ, zero, suc, ◌+◌, ◌-◌, ◌<◌, ◌≤◌, List, [], ◌∷◌, ◌++◌, length, take, Bool, true, false, cond, arith, ap, ap₂, sym, ◌∙◌, Option, Some, None, refl, inl, inr, ◌⊎◌, Ordering, Less, Equal, Greater}
+use Rattle.std.proofs.Common.{◌≡◌, ℕ, zero, suc, ◌+◌, ◌-◌, ◌<◌, ◌≤◌, List, [], ◌∷◌, ◌++◌, length, take, Bool, true, false, cond, arith, ap, ap₂, sym, ◌∙◌, Option, Some, None, refl, inl, inr, Ordering, Less, Equal, Greater}
 use Rattle.std.specs.Prelude.{slice_get, ◌==◌, ◌&&◌, ◌||◌, not, nat_lt, option_and_then}
 use Rattle.std.specs.List.{list_any}
 use Rattle.std.specs.Option.{option_map_or}
 use Rattle.std.specs.Ordering.{nat_cmp, is_lt, is_le, is_eq, is_gt}
 use Rattle.std.specs.Cmp.Lexicographic.{slice_cmp}
-use Rattle.std.proofs.lemmas.Bool.{and_parts, and_from, eqb-true, eq-eqb, ne_eqb, lt-ltb, le-ltb, cases_order, cases_lt, cases_eq, cases_Bool, cond-true, cond-false, or_left, or_right}
+use Rattle.std.proofs.lemmas.Bool.{and_parts, and_from, eqb-true, eq-eqb, ne_eqb, lt-ltb, le-ltb, cases_order, cases_Bool, cond-true, cond-false, or_left, or_right}
 use Rattle.std.proofs.lemmas.List.{length-append, length-take-le}
 use Rattle.std.proofs.lemmas.Option.{slice_get_past}
 use Rattle.hd_dbd.specs.declared.hierarchy.Key.{Key}
@@ -14,8 +14,8 @@ use Rattle.hd_dbd.specs.declared.answer.LoadFault.TheVariants.{LB, LC, LD, LE}
 use Rattle.hd_dbd.specs.Types.{SegmentType}
 use Rattle.hd_dbd.specs.Segment.{Segment}
 use Rattle.hd_dbd.specs.Hierarchy.{type_of, parent_of, level_of, part_of, key_in}
-use Rattle.hd_dbd.specs.Rows.{valid_from, may_follow, next_path, level, row_fits, is_below, is_in_order, twins_in_order, siblings_in_order, key_of}
-use Rattle.hd_dbd.specs.Loads.{path_after, has_unique_key, lacks_parent, order_fault, load_fault}
+use Rattle.hd_dbd.specs.Rows.{valid_from, may_follow, next_path, level, row_fits, is_below, twins_in_order, siblings_in_order}
+use Rattle.hd_dbd.specs.Loads.{path_after, lacks_parent, order_fault, load_fault}
 use Rattle.hd_dbd.proofs.LevelLaw.{Leveled, depth_below, typed}
 use Rattle.hd_dbd.proofs.Forests.{low_after}
 use Rattle.hd_dbd.proofs.Twins.{path_kept, path_ends}

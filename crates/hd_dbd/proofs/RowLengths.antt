@@ -1,12 +1,12 @@
 -- No valid row is longer than the longest path.
-use Rattle.std.proofs.Common.{◌≡◌, ℕ, zero, suc, ◌+◌, ◌-◌, ◌≤◌, List, [], ◌∷◌, ◌++◌, length, true, false, arith, Option, Some, None, refl, ap, ◌∙◌, subst, sym}
-use Rattle.std.specs.Prelude.{IsTrue, slice_get, slice_index, ◌==◌}
+use Rattle.std.proofs.Common.{◌≡◌, ℕ, zero, suc, ◌+◌, ◌-◌, ◌≤◌, List, [], ◌∷◌, ◌++◌, length, true, arith, Some, refl, ap, ◌∙◌, subst, sym}
+use Rattle.std.specs.Prelude.{IsTrue, slice_get, slice_index}
 use Rattle.std.specs.Option.{option_map_or}
 use Rattle.std.proofs.lemmas.Bool.{and_parts}
 use Rattle.std.proofs.lemmas.List.{length-append, get_or_at}
 use Rattle.hd_dbd.specs.Types.{SegmentType}
 use Rattle.hd_dbd.specs.Segment.{Segment}
-use Rattle.hd_dbd.specs.Hierarchy.{weights_from, weights, greatest, longest_path, type_of}
+use Rattle.hd_dbd.specs.Hierarchy.{weights_from, weights, greatest, longest_path}
 use Rattle.hd_dbd.specs.Rows.{row_fits, valid, valid_from, next_path}
 use Rattle.hd_dbd.specs.Paths.{row_at}
 use Rattle.hd_dbd.proofs.Levels.{weights_front, type_within}

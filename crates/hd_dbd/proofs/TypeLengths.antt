@@ -1,6 +1,5 @@
 -- How many bytes a row of the database has.
-use Rattle.std.proofs.Common.{◌≡◌, ℕ, ◌+◌, ◌-◌, ◌*◌, ◌<◌, ◌≤◌, List, length, take, slice_index, Bool, true, false, ◌&&◌, nat_le, arith, Option, Some, None, refl, ap, sym, ◌∙◌, IsTrue}
-use Rattle.std.specs.Prelude.{nat_lt, ◌==◌}
+use Rattle.std.proofs.Common.{◌≡◌, ℕ, ◌+◌, ◌*◌, ◌<◌, ◌≤◌, List, length, take, slice_index, true, false, ◌&&◌, nat_le, arith, Option, Some, None, refl, ap, sym, ◌∙◌, IsTrue}
 use Rattle.std.specs.Option.{option_map_or}
 use Rattle.std.proofs.lemmas.Bool.{and_parts, and_from, leb-true, le-leb, ltb-true, eqb-true, eq-eqb}
 use Rattle.std.proofs.lemmas.List.{length-take-le, get_or-take}
@@ -12,7 +11,7 @@ use Rattle.hd_dbd.specs.Hierarchy.{type_of}
 use Rattle.hd_dbd.specs.Lengths.{least_length, said_length, own_length, length_in, length_fits}
 use Rattle.hd_dbd.specs.Prefixes.{twin_part, child_parts, prefix_length, size_with, stored_size}
 use Rattle.hd_dbd.specs.Rows.{row_fits}
-use Rattle.hd_dbd.specs.DatabaseRules.{part_fits, fields_fit, least_fits, parts_fit, type_fits, well_formed}
+use Rattle.hd_dbd.specs.DatabaseRules.{part_fits, parts_fit, type_fits, well_formed}
 use Rattle.hd_dbd.proofs.Fitting.{type_of-fits, size_bound, size_fits, types_fit}
 
 -- what a length that fits is: no less and no more than the type has, and what its first bytes say

@@ -1,5 +1,5 @@
 -- What a well-formed database keeps to. Each rule stands beside the number of its fault.
-use Rattle.std.specs.Prelude.{ℕ, ◌+◌, ◌*◌, ◌%◌, ◌-◌, List, [], ◌∷◌, length, take, Bool, true, false, not, ◌&&◌, ◌||◌, nat_le, nat_lt, ◌==◌, cond, bytes_eq, is_none}
+use Rattle.std.specs.Prelude.{ℕ, ◌+◌, ◌%◌, ◌-◌, List, [], ◌∷◌, length, take, Bool, true, false, not, ◌&&◌, ◌||◌, nat_le, nat_lt, ◌==◌, cond, bytes_eq, is_none}
 use Rattle.std.specs.Option.{option_map_or}
 use Rattle.std.specs.List.{list_any}
 use Rattle.hd_dbd.specs.declared.hierarchy.Field.{Field}

@@ -6,6 +6,22 @@ use Rattle.std.specs.List.{list_any, list_all}
 abbrev pub gives_get : List ℕ → Bool
 gives_get letters = list_any (λ b. b == 71 || b == 82 || b == 68 || b == 65) letters
 
+-- I or A
+abbrev pub gives_insert : List ℕ → Bool
+gives_insert letters = list_any (λ b. b == 73 || b == 65) letters
+
+-- R or A
+abbrev pub gives_replace : List ℕ → Bool
+gives_replace letters = list_any (λ b. b == 82 || b == 65) letters
+
+-- D or A
+abbrev pub gives_delete : List ℕ → Bool
+gives_delete letters = list_any (λ b. b == 68 || b == 65) letters
+
+-- P
+abbrev pub gives_path : List ℕ → Bool
+gives_path letters = list_any (λ b. b == 80) letters
+
 -- L
 abbrev pub gives_load : List ℕ → Bool
 gives_load letters = list_any (λ b. b == 76) letters

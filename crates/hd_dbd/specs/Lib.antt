@@ -12,11 +12,13 @@ pub mod Letters
 pub mod ProgramRules
 pub mod ProgramFaults
 pub mod Views
+pub mod Accesses
 pub mod Refusals
 pub mod Rows
 pub mod Paths
 pub mod Forest
 pub mod Positions
+pub mod Statuses
 pub mod Calls
 pub mod Searches
 pub mod Logs

@@ -1,10 +1,9 @@
 -- What one PCB sees, and what it may do there.
-use Rattle.std.specs.Prelude.{ℕ, List, Bool, Option, bytes_eq, find, option_map}
+use Rattle.std.specs.Prelude.{ℕ, List, Bool, false, Option, bytes_eq, find, option_map}
 use Rattle.std.specs.Option.{option_map_or}
 use Rattle.std.specs.List.{list_any}
-use Rattle.hd_dbd.specs.Types.{SegmentType}
-use Rattle.hd_dbd.specs.Types.{View}
-use Rattle.hd_dbd.specs.Types.{SeenType}
+use Rattle.hd_dbd.specs.Types.{SegmentType, View, SeenType}
+use Rattle.hd_dbd.specs.Hierarchy.{type_of}
 use Rattle.hd_dbd.specs.Letters.{gives_get}
 
 -- What stays the same in a session for one PCB: the database's types, and the PCB.
@@ -23,3 +22,7 @@ letters_for pcb name = option_map (λ s. letters_of pcb s) (find (λ s. bytes_eq
 -- some type that the PCB sees may be read
 abbrev pub reads_some : View → Bool
 reads_some pcb = list_any (λ s. gives_get (letters_of pcb s)) pcb.sens
+
+-- the type of this code is seen, and its letters give what is asked
+abbrev pub may : Setting → (List ℕ → Bool) → ℕ → Bool
+may s gives code = option_map_or (λ t. option_map_or gives (letters_for s.pcb t.name) false) (type_of s.types code) false

@@ -1,3 +1,6 @@
+ghost use Rattle.std.specs.Prelude.{◌≡◌};
+ghost use Rattle.hd_dbd.specs.Statuses.{status_text};
+
 /// The status code of a call, as DL/I puts it into the PCB. Blank, GA and GK mean done.
 #[derive(Clone, Copy, Debug, PartialEq, Eq)]
 pub enum Status {
@@ -45,4 +48,32 @@ pub enum Refused {
     Device,
     Broken,
     Area,
+}
+
+/// The two letters of a status, which are blanks where nothing is amiss.
+pub fn status_text(status: Status) -> &'static [u8; 2]
+    ensures { result.now ≡ status_text status }
+{
+    match status {
+        Status::Blank => b"  ",
+        Status::GA => b"GA",
+        Status::GK => b"GK",
+        Status::GB => b"GB",
+        Status::GE => b"GE",
+        Status::GP => b"GP",
+        Status::II => b"II",
+        Status::V1 => b"V1",
+        Status::DA => b"DA",
+        Status::DJ => b"DJ",
+        Status::LB => b"LB",
+        Status::LC => b"LC",
+        Status::LD => b"LD",
+        Status::LE => b"LE",
+        Status::AC => b"AC",
+        Status::AD => b"AD",
+        Status::AH => b"AH",
+        Status::AJ => b"AJ",
+        Status::AK => b"AK",
+        Status::AM => b"AM",
+    }
 }

@@ -3,6 +3,7 @@
 //! The definitions that every contract of `hd` cites stand in this crate's `specs/`.
 #![tactic(auto)]
 
+mod access;
 mod answer;
 mod database;
 mod facts;
@@ -17,7 +18,8 @@ mod program;
 mod program_rules;
 mod rules;
 
-pub use answer::{LoadFault, Refused, Status};
+pub use access::{Access, may};
+pub use answer::{LoadFault, Refused, Status, status_text};
 pub use database::{Dbd, DbdFault};
 pub use facts::{SegmentSize, type_of};
 pub use fault_law::{law_databases_have_no_fault, law_programs_have_no_fault};
@@ -30,5 +32,4 @@ pub use law::{
 };
 pub use lengths::{least_length, length_fits};
 pub use naming::Name8;
-pub use procopt::gives_get;
 pub use program::{Pcb, Psb, PsbFault, Sens};

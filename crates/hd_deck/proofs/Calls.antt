@@ -6,7 +6,7 @@ use Rattle.std.proofs.lemmas.List.{append-nil}
 use Rattle.hd_dbd.specs.declared.answer.Refused.{Refused}
 use Rattle.hd_dbd.specs.declared.answer.Refused.TheVariants as refused
 use Rattle.hd_dbd.specs.Logs.{Outcome, replied, area, full, memory}
-use Rattle.hd_session.specs.declared.request.Answer.{Answer}
+use Rattle.hd_session.specs.declared.call_and_answer.Answer.{Answer}
 use Rattle.hd_session.specs.Buffer.{Buffer}
 use Rattle.hd_session.specs.Replies.{reply_of}
 use Rattle.hd_session.specs.Opening.{SessionState}
@@ -15,7 +15,7 @@ use Rattle.hd_session.specs.Turns.{Turn, IsTurnAnswered, entry_of}
 use Rattle.hd_session.proofs.Turns.{made_none, made_one}
 use Rattle.hd_deck.specs.Printing.{head_text, outcome_text, answered_text, line_of}
 use Rattle.hd_deck.specs.Runs.{memory_of, memory_in, ArePlayed, PlaysAll, PlaysUntil}
-use Rattle.hd_deck.specs.declared.playing.Stop.TheVariants as stop
+use Rattle.hd_deck.specs.declared.plays.Stop.TheVariants as stop
 
 -- known bytes grow by nothing
 pub appends_none : (a : Option (List ℕ)) → Appends a a []

@@ -3,8 +3,8 @@ use Rattle.std.proofs.Common.{◌≡◌, IsTrue, ℕ, List, Option, Result, Ok, 
 use Rattle.std.specs.Prelude.{OnOk}
 use Rattle.std.specs.Result.{is_err}
 use Rattle.hd_session.specs.Opening.{SessionState}
-use Rattle.hd_deck.specs.declared.playing.Stop.{Stop}
-use Rattle.hd_deck.specs.declared.playing.Stop.TheVariants as stop
+use Rattle.hd_deck.specs.declared.plays.Stop.{Stop}
+use Rattle.hd_deck.specs.declared.plays.Stop.TheVariants as stop
 use Rattle.hd_session.specs.Turns.{Turn, StaysWhole}
 use Rattle.hd_deck.specs.Runs.{PlaysAll, PlaysUntil, StopsAt, PlaysOut, LeavesAt}
 

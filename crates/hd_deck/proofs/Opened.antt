@@ -16,8 +16,8 @@ use Rattle.hd_check.proofs.OneStore.{IsOne, turned, stands-same}
 use Rattle.hd_session.specs.declared.opening.OpenFault.{OpenFault}
 use Rattle.hd_session.specs.declared.opening.OpenFault.TheVariants as opening
 use Rattle.hd_session.specs.Opening.{SessionState, session_at_start, IsReadyFor, IsOpenedOver, IsOpenFaultOf, opening_call}
-use Rattle.hd_deck.specs.declared.playing.Stop.{Stop}
-use Rattle.hd_deck.specs.declared.playing.Stop.TheVariants as stop
+use Rattle.hd_deck.specs.declared.plays.Stop.{Stop}
+use Rattle.hd_deck.specs.declared.plays.Stop.TheVariants as stop
 use Rattle.hd_session.specs.Turns.{Turn, AreMade}
 use Rattle.hd_deck.specs.Runs.{ArePlayedOut, AreLeftInPart, PlaysOut, LeavesAt, IsPlayed, IsWholeRun, IsPlayedInPart, IsRunFaultOf, fault_of}
 

@@ -12,8 +12,8 @@ use Rattle.hd_session.proofs.Turns.{entries_count, stands_after, made_both}
 use Rattle.hd_deck.specs.StepText.{StepText}
 use Rattle.hd_deck.specs.Printing.{line_of, lines_from}
 use Rattle.hd_deck.specs.Runs.{step_turns, turns_of, is_memory, memory_in, ArePlayed, AreMadeUntil, PlaysAll, PlaysUntil}
-use Rattle.hd_deck.specs.declared.playing.Stop.{Stop}
-use Rattle.hd_deck.specs.declared.playing.Stop.TheVariants as stop
+use Rattle.hd_deck.specs.declared.plays.Stop.{Stop}
+use Rattle.hd_deck.specs.declared.plays.Stop.TheVariants as stop
 
 -- ---- lists of calls
 

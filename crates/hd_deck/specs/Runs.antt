@@ -12,16 +12,16 @@ use Rattle.hd_calls.specs.Steps.{State}
 use Rattle.hd_calls.specs.Runs.{IsLegalLog}
 use Rattle.hd_calls.specs.NoLostUpdate.{opened}
 use Rattle.hd_image.specs.Holding.{HoldsForest, volume_of}
-use Rattle.hd_keeping.specs.VolumeImages.{images_of}
+use Rattle.hd_changes.specs.VolumeImages.{images_of}
 use Rattle.hd_update.specs.States.{Represents}
-use Rattle.hd_session.specs.declared.request.Answer.{Answer}
+use Rattle.hd_session.specs.declared.call_and_answer.Answer.{Answer}
 use Rattle.hd_session.specs.declared.opening.OpenFault.TheVariants as opening
 use Rattle.hd_session.specs.Opening.{SessionState, IsOpenFaultOf}
 use Rattle.hd_session.specs.Turns.{Turn, turns_in, LackMemoryFairly, StaysWhole, AreMade}
-use Rattle.hd_deck.specs.declared.running.RunFault.{RunFault}
-use Rattle.hd_deck.specs.declared.running.RunFault.TheVariants as run
-use Rattle.hd_deck.specs.declared.playing.Stop.{Stop}
-use Rattle.hd_deck.specs.declared.playing.Stop.TheVariants as stop
+use Rattle.hd_deck.specs.declared.runs.RunFault.{RunFault}
+use Rattle.hd_deck.specs.declared.runs.RunFault.TheVariants as run
+use Rattle.hd_deck.specs.declared.plays.Stop.{Stop}
+use Rattle.hd_deck.specs.declared.plays.Stop.TheVariants as stop
 use Rattle.hd_deck.specs.StepText.{StepText}
 use Rattle.hd_deck.specs.Printing.{lines_from, print}
 
@@ -147,6 +147,10 @@ pub record IsWholeRun (d : Database) (pcbs : List View) (bytes : List ℕ) (turn
   pub played : IsPlayed d pcbs bytes turns log left
   pub printed : Appends old new (print log)
   pub memory : lacking ≡ memory_in log.entries
+
+-- the same, of the calls of some steps
+abbrev pub IsRunWhole : Database → List View → List ℕ → List StepText → Option (List ℕ) → Option (List ℕ) → ℕ → List ℕ → Type 0
+IsRunWhole d pcbs bytes steps old new lacking left = IsWholeRun d pcbs bytes (turns_of steps) old new lacking left
 
 -- A run of which the first calls were made, however many.
 pub record IsPlayedInPart (d : Database) (pcbs : List View) (bytes : List ℕ) (turns : List Turn) (left : List ℕ) : Type 0 where

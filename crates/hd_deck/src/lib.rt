@@ -4,13 +4,13 @@
 mod deck;
 mod hex;
 mod line;
-mod playing;
-mod printing;
+mod lines;
+mod plays;
 mod reader;
-mod running;
+mod runs;
 mod step;
 
 pub use deck::{DeckFault, read_deck};
-pub use printing::{WriteFault, print_answer, print_refusal, put_shown};
-pub use running::{RunEnd, RunFault, run};
+pub use lines::{WriteFault, print_answer, print_refusal, put_shown};
+pub use runs::{RunEnd, RunFault, run};
 pub use step::Step;

@@ -15,7 +15,8 @@ use crate::leaf::put_leaf;
 use crate::read::{first_child, next_twin};
 use crate::write::{set_following, set_preceding};
 use hd_dbd::{Dbd, Refused};
-use hd_volume::{BlockStore, Volume};
+use hd_stores::BlockStore;
+use hd_volume::Volume;
 
 /// Links a new row below a parent, 0 for a root, behind its preceding twin, 0 for none, and says its address. No memory is
 /// taken but what the volume may grow by.

@@ -11,7 +11,8 @@ ghost use Rattle.hd_forest.specs.Children.{child_in, comes_before, last_named_in
 use crate::read::{code_in, pointer_in};
 use hd_dbd::{Dbd, Refused};
 use hd_prefix::Pointer;
-use hd_volume::{BlockStore, Volume};
+use hd_stores::BlockStore;
+use hd_volume::Volume;
 
 /// The types that come behind a type, of some types in order.
 fn later_than(code: u8, types: &[u8]) -> &[u8]

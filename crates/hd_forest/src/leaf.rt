@@ -11,7 +11,8 @@ ghost use Rattle.hd_forest.specs.Leaves.{IsLeaf, IsLeafPut};
 
 use hd_dbd::{Dbd, Refused};
 use hd_prefix::{Layout, Pointer};
-use hd_volume::{BlockStore, Volume};
+use hd_stores::BlockStore;
+use hd_volume::Volume;
 
 /// The most bytes of a block, and so of a segment.
 pub const LARGEST_BLOCK: usize = 32768;

@@ -7,7 +7,7 @@ mod law;
 mod leaf;
 mod path;
 mod read;
-mod replacing;
+mod replacements;
 mod row;
 mod twins;
 mod unlink;
@@ -21,7 +21,7 @@ pub use path::Path;
 pub use read::{
     code_at, first_child, last_child, last_twin, next_twin, parent_on, prev_twin, tip_of,
 };
-pub use replacing::replace;
+pub use replacements::replace;
 pub use row::bytes_in;
 pub use twins::{TwinPlaces, forward_in, key_at, twin_from, twin_places};
 pub use unlink::unlink_span;

@@ -13,7 +13,8 @@ ghost use Rattle.hd_forest.specs.Twins.{IsTwinWithin, IsBehind};
 use crate::path::Path;
 use hd_dbd::{Dbd, Refused};
 use hd_prefix::{Layout, Pointer, twin_forward_of};
-use hd_volume::{BlockStore, Volume};
+use hd_stores::BlockStore;
+use hd_volume::Volume;
 
 /// The code of a lent segment, 0 for no bytes.
 pub fn code_in(segment: &[u8]) -> u8

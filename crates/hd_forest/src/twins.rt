@@ -15,7 +15,8 @@ use crate::read::code_at;
 use hd_bytes::read_u32;
 use hd_dbd::{Dbd, Refused, compare_keys};
 use hd_prefix::{Layout, Pointer};
-use hd_volume::{BlockStore, Volume};
+use hd_stores::BlockStore;
+use hd_volume::Volume;
 
 /// Where the stored segments of a type that has a key have twin forward and the key, and the key's length.
 #[derive(Clone, Copy, Debug)]

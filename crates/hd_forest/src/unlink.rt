@@ -16,7 +16,8 @@ use crate::read::{code_at, next_twin, parent_on, prev_twin, tip_of};
 use crate::walk::beside;
 use crate::write::{set_following, set_preceding};
 use hd_dbd::{Dbd, Refused};
-use hd_volume::{BlockStore, Volume};
+use hd_stores::BlockStore;
+use hd_volume::Volume;
 
 /// Unlinks the last row of a path, and frees it and all below it, however many.
 pub fn unlink_span<S: BlockStore>(

@@ -11,7 +11,8 @@ use crate::children::{below_later, child_in};
 use crate::path::Path;
 use crate::read::{code_at, code_in, last_of, parent_on, tip_of, twin_in};
 use hd_dbd::{Dbd, Refused};
-use hd_volume::{BlockStore, Volume};
+use hd_stores::BlockStore;
+use hd_volume::Volume;
 
 /// What a segment names ahead of it: the first row below it, its next twin, 0 for none each, and its code.
 #[derive(Clone, Copy)]

@@ -17,7 +17,8 @@ ghost use Rattle.hd_forest.specs.Sets.{following, preceding, IsTwinPlace, IsReco
 use hd_bytes::write_u32;
 use hd_dbd::{Dbd, Refused};
 use hd_prefix::{Layout, Pointer};
-use hd_volume::{BlockStore, Volume};
+use hd_stores::BlockStore;
+use hd_volume::Volume;
 
 /// Writes an address, 0 for none, into a pointer of a record of a type, code 0 for the header; nothing where the type does not
 /// keep it.

@@ -18,9 +18,9 @@ use Rattle.hd_forest.specs.Twins.{is_key_below}
 use Rattle.hd_calls.specs.Ssas.{Ssa, target_code}
 use Rattle.hd_calls.specs.Satisfies.{qualifies, is_last_so}
 use Rattle.hd_calls.proofs.Searches.{least_some, least_no}
-use Rattle.hd_seek.specs.Admits.{AreRowsOf, meets_own, admits, is_on_way}
-use Rattle.hd_seek.proofs.Failing.{spans_fail}
-use Rattle.hd_seek.proofs.Twins.{twins_fail, earlier_twins_fail}
+use Rattle.hd_calls.specs.Admits.{AreRowsOf, meets_own, admits, is_on_way}
+use Rattle.hd_calls.proofs.Failing.{spans_fail}
+use Rattle.hd_calls.proofs.SearchTwins.{twins_fail, earlier_twins_fail}
 use Rattle.hd_ssa.specs.LeastKeys.{least_key}
 use Rattle.hd_ssa.proofs.Bounds.{none_below}
 use Rattle.hd_get.specs.declared.verdict.Verdict.TheVariants.{Across, AcrossTo, Rest}

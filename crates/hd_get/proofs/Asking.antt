@@ -21,17 +21,17 @@ use Rattle.hd_calls.specs.Satisfies.{is_named}
 use Rattle.hd_calls.specs.Places.{end_below}
 use Rattle.hd_calls.proofs.Spans.{end_is}
 use Rattle.hd_calls.proofs.Searches.{least_some, least_no}
-use Rattle.hd_seek.specs.Admits.{NonePass, AreRowsOf, IsSearch, admits, is_on_way}
-use Rattle.hd_seek.specs.Keys.{is_past}
-use Rattle.hd_seek.specs.Twins.{next_twin}
-use Rattle.hd_seek.specs.Ways.{way_down, way_beside}
-use Rattle.hd_seek.proofs.OnPaths.{has, levels_are, sequence_is, spans_on, parent_code, root_code}
-use Rattle.hd_seek.proofs.Admitting.{named_admitted}
-use Rattle.hd_seek.proofs.Failing.{spans_fail, other_types_fail}
-use Rattle.hd_seek.proofs.Twins.{next_twins, twin_within}
-use Rattle.hd_seek.proofs.Keys.{past_keys_fail}
-use Rattle.hd_seek.proofs.Ways.{first_children, down_some, down_found, down_of, down_parts}
-use Rattle.hd_seek.proofs.Beside.{no_later_types, later_types}
+use Rattle.hd_calls.specs.Admits.{NonePass, AreRowsOf, IsSearch, admits, is_on_way}
+use Rattle.hd_calls.specs.SearchKeys.{is_past}
+use Rattle.hd_calls.specs.SearchTwins.{next_twin}
+use Rattle.hd_calls.specs.SearchWays.{way_down, way_beside}
+use Rattle.hd_calls.proofs.OnPaths.{has, levels_are, sequence_is, spans_on, parent_code, root_code}
+use Rattle.hd_calls.proofs.Admitting.{named_admitted}
+use Rattle.hd_calls.proofs.Failing.{spans_fail, other_types_fail}
+use Rattle.hd_calls.proofs.SearchTwins.{next_twins, twin_within}
+use Rattle.hd_calls.proofs.SearchKeys.{past_keys_fail}
+use Rattle.hd_calls.proofs.SearchWays.{first_children, down_some, down_found, down_of, down_parts}
+use Rattle.hd_calls.proofs.Beside.{no_later_types, later_types}
 use Rattle.hd_get.specs.declared.verdict.Verdict.TheVariants.{Found, Down, DownToLast, Across, Beside, BesideToLast, Rest}
 use Rattle.hd_get.specs.Searches.{is_above_admitted, twin_or_end, child_or_end, NonePassAcross, IsWayDown, IsJudged}
 use Rattle.hd_get.specs.Asking.{Asked, SsasSuit, may_read, is_asked, is_admitted, verdict_beside, verdict_beside_to, asks_last, goes_to_last, verdict_to, verdict_down}

@@ -15,14 +15,14 @@ use Rattle.hd_links.specs.Steps.{rows_of, address_at, path_at}
 use Rattle.hd_links.proofs.ValidRows.{held_valid}
 use Rattle.hd_image.specs.Records.{links_of}
 use Rattle.hd_image.specs.Holding.{HoldsPlaced}
-use Rattle.hd_keeping.specs.Roots.{is_root, is_root_from, first_row, address_of_first}
-use Rattle.hd_keeping.specs.Found.{AreRootsBelow}
-use Rattle.hd_keeping.proofs.RootRows.{follow-lesser, roots-alone}
+use Rattle.hd_changes.specs.Roots.{is_root, is_root_from, first_row, address_of_first}
+use Rattle.hd_changes.specs.Found.{AreRootsBelow}
+use Rattle.hd_changes.proofs.RootRows.{follow-lesser, roots-alone}
 use Rattle.hd_calls.specs.Ssas.{Ssa}
 use Rattle.hd_calls.specs.Satisfies.{is_named}
 use Rattle.hd_calls.proofs.Searches.{skipped}
-use Rattle.hd_seek.specs.Admits.{NonePass, AreRowsOf}
-use Rattle.hd_seek.proofs.Twins.{earlier_roots_fail}
+use Rattle.hd_calls.specs.Admits.{NonePass, AreRowsOf}
+use Rattle.hd_calls.proofs.SearchTwins.{earlier_roots_fail}
 use Rattle.hd_get.specs.Searches.{LeadsWithin, path_within, parent_path, MayBeginAt}
 use Rattle.hd_get.specs.Starts.{AreNamed, least_root_key, root_from, unique_start, RefusesRootsBelow}
 use Rattle.hd_get.proofs.Spans.{parent_span}

@@ -21,8 +21,8 @@ use Rattle.hd_links.specs.Steps.{rows_of, address_at, path_at, is_child_row, Row
 use Rattle.hd_links.proofs.Numbers.{map_end}
 use Rattle.hd_calls.specs.Gets.{first_child}
 use Rattle.hd_calls.specs.Satisfies.{is_child}
-use Rattle.hd_seek.specs.Admits.{NonePass}
-use Rattle.hd_seek.specs.Twins.{next_twin}
+use Rattle.hd_calls.specs.Admits.{NonePass}
+use Rattle.hd_calls.specs.SearchTwins.{next_twin}
 use Rattle.hd_get.specs.Searches.{is_above_admitted, NonePassAcross, path_within, parent_path, EndsAt, GoesAcross}
 use Rattle.hd_get.proofs.Spans.{one_option, nested, twin_is, twin_within, child_is, parent_within, parent_span, HasRisen, begins, rises, tops, crosses}
 

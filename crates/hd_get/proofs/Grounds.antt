@@ -8,7 +8,7 @@ use Rattle.hd_dbd.specs.Rows.{valid}
 use Rattle.hd_dbd.proofs.LevelLaw.{leveled}
 use Rattle.hd_dbd.proofs.Sequences.{walk}
 use Rattle.std.proofs.lemmas.List.{append-nil}
-use Rattle.hd_seek.specs.Admits.{AreRowsOf}
+use Rattle.hd_calls.specs.Admits.{AreRowsOf}
 use Rattle.hd_dbd.specs.Forest.{Forest}
 use Rattle.std.specs.Prelude.{Ok}
 use Rattle.hd_volume.specs.Volumes.{VolumeState}

@@ -7,7 +7,7 @@ use Rattle.hd_dbd.specs.Paths.{parent_row, end_of}
 use Rattle.hd_links.specs.Placed.{Placed}
 use Rattle.hd_links.specs.Steps.{rows_of}
 use Rattle.hd_calls.specs.Places.{end_below}
-use Rattle.hd_seek.specs.Admits.{NonePass}
+use Rattle.hd_calls.specs.Admits.{NonePass}
 use Rattle.hd_get.specs.declared.verdict.Verdict.{Verdict}
 use Rattle.hd_get.specs.declared.verdict.Verdict.TheVariants.{Found, Next, Over, Down, DownToLast, Across, AcrossTo, Beside, BesideToLast, Rest}
 use Rattle.hd_get.specs.Searches.{AllAdmitted, NonePassAcross, IsWayDown, IsWayToLast, IsWayAcross, IsWayBeside, IsWayBesideToLast, IsJudged}

@@ -19,7 +19,7 @@ use Rattle.hd_position.specs.Kept.{Kept, path_passed, row_on}
 use Rattle.hd_position.specs.Gets.{IsAt}
 use Rattle.hd_position.proofs.Rising.{row_on_map}
 use Rattle.hd_position.proofs.Leaving.{passed_below}
-use Rattle.hd_seek.specs.Admits.{AreRowsOf}
+use Rattle.hd_calls.specs.Admits.{AreRowsOf}
 use Rattle.hd_get.specs.Starts.{IsKeptIn}
 use Rattle.hd_get.proofs.Grounds.{Grounds, grounds, held_rows}
 use Rattle.hd_get.proofs.Starts.{on_below}

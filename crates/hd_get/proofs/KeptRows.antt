@@ -9,9 +9,9 @@ use Rattle.hd_dbd.specs.Paths.{row_at, level_at, path_above, path_of}
 use Rattle.hd_calls.specs.Satisfies.{on_path, on_path_at}
 use Rattle.hd_position.specs.Kept.{path_passed, row_on}
 use Rattle.hd_position.proofs.Lists.{last_on}
-use Rattle.hd_seek.specs.Admits.{AreRowsOf}
-use Rattle.hd_seek.proofs.OnPaths.{Spans, IsOnPath, spans_self, on_path_is, on_path_of, some_level}
-use Rattle.hd_seek.proofs.Levels.{path_length, path_at}
+use Rattle.hd_calls.specs.Admits.{AreRowsOf}
+use Rattle.hd_calls.proofs.OnPaths.{Spans, IsOnPath, spans_self, on_path_is, on_path_of, some_level}
+use Rattle.hd_calls.proofs.SearchLevels.{path_length, path_at}
 use Rattle.hd_get.proofs.RowsAbove.{row_above, take_all, take_size}
 
 -- a level at which something stands is on the path

@@ -22,13 +22,13 @@ use Rattle.hd_calls.specs.Satisfies.{qualifies, is_last_so, is_named, is_child}
 use Rattle.hd_calls.specs.Gets.{first_child}
 use Rattle.hd_calls.proofs.Searches.{least_some, least_no, least_passed}
 use Rattle.hd_calls.proofs.Spans.{end_is}
-use Rattle.hd_seek.specs.Admits.{NonePass, AreRowsOf, admits, meets_own, is_on_way}
-use Rattle.hd_seek.specs.Ways.{way_down}
-use Rattle.hd_seek.proofs.OnPaths.{levels_are, sequence_is, spans_parent, way_spans, child_under}
-use Rattle.hd_seek.proofs.Failing.{unnamed_by, spans_fail}
-use Rattle.hd_seek.proofs.Ways.{down_found, down_parts}
+use Rattle.hd_calls.specs.Admits.{NonePass, AreRowsOf, admits, meets_own, is_on_way}
+use Rattle.hd_calls.specs.SearchWays.{way_down}
+use Rattle.hd_calls.proofs.OnPaths.{levels_are, sequence_is, spans_parent, way_spans, child_under}
+use Rattle.hd_calls.proofs.Failing.{unnamed_by, spans_fail}
+use Rattle.hd_calls.proofs.SearchWays.{down_found, down_parts}
 use Rattle.hd_get.specs.Asking.{asks_last}
-use Rattle.hd_seek.specs.Twins.{next_twin}
+use Rattle.hd_calls.specs.SearchTwins.{next_twin}
 use Rattle.hd_get.specs.Searches.{EndsAt, child_or_end, GoesOn, GoesToLast, IsWayBesideToLast, is_above_admitted}
 use Rattle.hd_get.proofs.LastTwins.{last_so_unqualified}
 use Rattle.hd_get.proofs.Spans.{nested, parent_span, twin_is, child_is, one_option, above_child, above_parent}

@@ -15,7 +15,7 @@ use Rattle.hd_links.specs.Steps.{rows_of, address_at, StepsAreRows, RowsHaveAddr
 use Rattle.hd_calls.specs.Ssas.{Comparison, Ssa}
 use Rattle.hd_calls.specs.Satisfies.{is_true_of, qualifies, is_last_so}
 use Rattle.hd_calls.proofs.Searches.{least_some, least_no, skipped}
-use Rattle.hd_seek.specs.Twins.{next_twin}
+use Rattle.hd_calls.specs.SearchTwins.{next_twin}
 use Rattle.hd_get.proofs.Spans.{one_option}
 use Rattle.hd_get.proofs.Climbs.{twin_none, twin_some}
 use Rattle.hd_get.proofs.Turns.{none_from, here_from}

@@ -11,10 +11,10 @@ use Rattle.hd_dbd.specs.Hierarchy.{type_of}
 use Rattle.hd_dbd.specs.Paths.{row_at}
 use Rattle.hd_calls.specs.Ssas.{Comparison, Ssa}
 use Rattle.hd_calls.specs.Satisfies.{is_true_of, qualifies, is_last_so}
-use Rattle.hd_seek.specs.Keys.{are_groups_past, is_key_past, is_past}
-use Rattle.hd_seek.specs.Admits.{admits}
+use Rattle.hd_calls.specs.SearchKeys.{are_groups_past, is_key_past, is_past}
+use Rattle.hd_calls.specs.Admits.{admits}
 use Rattle.hd_get.specs.Asking.{qualifies_own, some_has_last}
-use Rattle.hd_seek.proofs.Keys.{groups_false}
+use Rattle.hd_calls.proofs.SearchKeys.{groups_false}
 
 module _ (types : List SegmentType) (rows : List Segment) (i : ℕ) where
   -- without a qualification it is not admitted

@@ -20,12 +20,12 @@ use Rattle.hd_calls.specs.Gets.{search_start, search_end, behind_parent}
 use Rattle.hd_position.specs.Kept.{Kept, path_passed, row_on}
 use Rattle.hd_position.specs.Gets.{IsAt}
 use Rattle.hd_position.proofs.Leaving.{passed_below}
-use Rattle.hd_seek.specs.Admits.{Descend}
-use Rattle.hd_seek.proofs.OnPaths.{Spans}
-use Rattle.hd_seek.proofs.Starts.{parents_first}
+use Rattle.hd_calls.specs.Admits.{Descend}
+use Rattle.hd_calls.proofs.OnPaths.{Spans}
+use Rattle.hd_calls.proofs.SearchStarts.{parents_first}
 use Rattle.hd_get.specs.Searches.{EndsAt, LeadsWithin}
 use Rattle.hd_forest.specs.Rows.{path_to}
-use Rattle.hd_seek.proofs.Levels.{path_length}
+use Rattle.hd_calls.proofs.SearchLevels.{path_length}
 use Rattle.hd_get.specs.First.{lowered_to, IsStartBehind}
 use Rattle.hd_get.proofs.Climbs.{stays}
 use Rattle.hd_get.proofs.Starts.{on_below, ends_whole}

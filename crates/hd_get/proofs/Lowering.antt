@@ -14,10 +14,10 @@ use Rattle.hd_calls.specs.Satisfies.{on_path_at}
 use Rattle.hd_calls.specs.Gets.{first_child, first_occurrence, search_start}
 use Rattle.hd_calls.proofs.Spans.{end_is}
 use Rattle.hd_position.specs.Kept.{path_passed, row_on}
-use Rattle.hd_seek.specs.Admits.{AreRowsOf, IsSearch}
-use Rattle.hd_seek.specs.Starts.{has_first, topmost_first}
-use Rattle.hd_seek.proofs.OnPaths.{Spans, level_below, some_level}
-use Rattle.hd_seek.proofs.Starts.{IsFirstChild, first_child_is, only_topmost, first_children_by_path}
+use Rattle.hd_calls.specs.Admits.{AreRowsOf, IsSearch}
+use Rattle.hd_calls.specs.SearchStarts.{has_first, topmost_first}
+use Rattle.hd_calls.proofs.OnPaths.{Spans, level_below, some_level}
+use Rattle.hd_calls.proofs.SearchStarts.{IsFirstChild, first_child_is, only_topmost, first_children_by_path}
 use Rattle.hd_get.specs.First.{first_passed, lowered_to, parent_level, is_level_from}
 use Rattle.hd_get.proofs.KeptRows.{path_row_is, last_passed, standing_on, standing_at}
 

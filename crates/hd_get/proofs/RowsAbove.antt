@@ -16,7 +16,7 @@ use Rattle.hd_forest.specs.Rows.{IsOnRow}
 use Rattle.hd_links.specs.Steps.{rows_of, address_at, path_at, RowsHaveAddresses}
 use Rattle.hd_calls.proofs.Searches.{skipped}
 use Rattle.hd_calls.proofs.Spans.{end_is}
-use Rattle.hd_seek.specs.Admits.{NonePass}
+use Rattle.hd_calls.specs.Admits.{NonePass}
 use Rattle.hd_get.specs.Searches.{EndsAt, LeadsWithin, path_within, is_above_admitted, MayBeginAt}
 use Rattle.hd_get.proofs.Spans.{nested, parent_span, parent_within, whole_admitted}
 use Rattle.hd_get.proofs.Climbs.{any_on_path, some_path}

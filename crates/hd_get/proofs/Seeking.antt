@@ -10,7 +10,7 @@ use Rattle.hd_dbd.specs.Paths.{row_at, level_at, path_of, end_of}
 use Rattle.hd_dbd.specs.Positions.{Position, Place, at_start}
 use Rattle.hd_dbd.specs.Calls.{bare}
 use Rattle.hd_dbd.specs.Searches.{least_within}
-use Rattle.hd_dbd.specs.Views.{Setting}
+use Rattle.hd_dbd.specs.Views.{Setting, may}
 use Rattle.hd_dbd.specs.Letters.{gives_get}
 use Rattle.hd_dbd.specs.Forest.{Forest}
 use Rattle.hd_volume.specs.Volumes.{VolumeState}
@@ -25,7 +25,6 @@ use Rattle.hd_forest.proofs.Reading.{after-read, sound-before}
 use Rattle.hd_calls.specs.declared.call.GetKind.{GetKind}
 use Rattle.hd_calls.specs.declared.call.GetKind.TheVariants.{Unique, Next, NextInParent}
 use Rattle.hd_calls.specs.Ssas.{Ssa, target_code}
-use Rattle.hd_calls.specs.Access.{may}
 use Rattle.hd_calls.specs.Satisfies.{satisfies, is_named}
 use Rattle.hd_calls.specs.Gets.{search_start, search_end, behind_parent, crossing, get_status, get_missing, get_found, unheld, path_rows}
 use Rattle.hd_calls.specs.NoLostUpdate.{is_done}
@@ -34,11 +33,11 @@ use Rattle.hd_calls.proofs.Fair.{satisfying_within}
 use Rattle.hd_position.specs.Kept.{Kept, AreRowsOn, Ascend, path_passed, row_on}
 use Rattle.hd_position.specs.Gets.{AreTaken}
 use Rattle.hd_position.proofs.Rising.{row_on_map}
-use Rattle.hd_seek.specs.Admits.{Descend, AreRowsOf}
+use Rattle.hd_calls.specs.Admits.{Descend, AreRowsOf}
 use Rattle.std.proofs.lemmas.Bool.{ne_eqb, and_parts}
 use Rattle.std.proofs.lemmas.List.{length-map}
-use Rattle.hd_seek.proofs.Levels.{path_length}
-use Rattle.hd_seek.proofs.OnPaths.{Spans, on_path_of}
+use Rattle.hd_calls.proofs.SearchLevels.{path_length}
+use Rattle.hd_calls.proofs.OnPaths.{Spans, on_path_of}
 use Rattle.hd_get.specs.Searches.{LeadsWithin}
 use Rattle.hd_get.specs.Starts.{IsKeptIn, BeginsUnique, LeadsToNext, LeadsToStart, StartsBelow}
 use Rattle.hd_get.specs.Gets.{GetCall, IsPositionIn, HasPosition, answer_to, levels_taken}

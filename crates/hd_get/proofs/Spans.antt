@@ -16,8 +16,8 @@ use Rattle.hd_calls.proofs.Searches.{least_some}
 use Rattle.hd_calls.proofs.Spans.{end_is, nearest_is}
 use Rattle.hd_calls.specs.Satisfies.{is_child}
 use Rattle.hd_calls.specs.Gets.{first_child}
-use Rattle.hd_seek.specs.Admits.{NonePass}
-use Rattle.hd_seek.specs.Twins.{next_twin}
+use Rattle.hd_calls.specs.Admits.{NonePass}
+use Rattle.hd_calls.specs.SearchTwins.{next_twin}
 use Rattle.hd_get.specs.Searches.{is_above_admitted, NonePassAcross}
 
 -- equal optional numbers

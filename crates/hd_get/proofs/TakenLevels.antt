@@ -20,9 +20,9 @@ use Rattle.hd_dbd.specs.Views.{Setting}
 use Rattle.hd_calls.proofs.Resolving.{under_level}
 use Rattle.hd_calls.proofs.SoundGets.{target_more, above_more}
 use Rattle.hd_position.specs.Kept.{row_on, Ascend, AreRowsOn}
-use Rattle.hd_seek.specs.Admits.{AreOnWay, Descend, AreRowsOf}
-use Rattle.hd_seek.proofs.OnPaths.{IsOnPath, spans_self, on_path_of, way_spans, some_level, levels_are}
-use Rattle.hd_seek.proofs.Ways.{on_way_all}
+use Rattle.hd_calls.specs.Admits.{AreOnWay, Descend, AreRowsOf}
+use Rattle.hd_calls.proofs.OnPaths.{IsOnPath, spans_self, on_path_of, way_spans, some_level, levels_are}
+use Rattle.hd_calls.proofs.SearchWays.{on_way_all}
 use Rattle.hd_get.specs.Gets.{levels_taken}
 use Rattle.hd_get.proofs.KeptRows.{on_path_level}
 

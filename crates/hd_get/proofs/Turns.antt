@@ -13,7 +13,7 @@ use Rattle.hd_calls.specs.Gets.{first_child}
 use Rattle.hd_calls.specs.Places.{end_below}
 use Rattle.hd_calls.proofs.Searches.{least_none, skipped}
 use Rattle.hd_calls.proofs.Spans.{end_is}
-use Rattle.hd_seek.specs.Admits.{NonePass}
+use Rattle.hd_calls.specs.Admits.{NonePass}
 use Rattle.hd_get.specs.Searches.{EndsAt, path_within, is_above_admitted, child_or_end, NonePassAcross, AllAdmitted, IsWayDown, IsWayAcross, IsWayBeside, GoesAcross, GoesDown, GoesOn, GoesTo, IsFound}
 use Rattle.hd_get.proofs.Spans.{one_option, nested, parent_span, parent_within, child_is, joined, above_same, above_parent, above_child, above_all}
 use Rattle.hd_get.proofs.Climbs.{some_path, path_is, up_is}

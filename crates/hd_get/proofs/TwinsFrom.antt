@@ -12,7 +12,7 @@ use Rattle.hd_links.specs.Placed.{Placed}
 use Rattle.hd_links.specs.Steps.{rows_of, address_at}
 use Rattle.hd_forest.specs.Twins.{twin_after, is_key_below, AreTwinsBelow, IsTwinFrom}
 use Rattle.hd_calls.proofs.Searches.{least_some, least_no, skipped}
-use Rattle.hd_seek.specs.Twins.{next_twin}
+use Rattle.hd_calls.specs.SearchTwins.{next_twin}
 use Rattle.hd_get.specs.Asking.{is_from, address_from}
 use Rattle.hd_get.proofs.Grounds.{Grounds}
 use Rattle.hd_get.proofs.LastTwins.{same_twins}

@@ -10,11 +10,11 @@ use Rattle.hd_dbd.specs.Letters.{gives_get}
 use Rattle.hd_dbd.specs.Forest.{Forest}
 use Rattle.hd_links.specs.Placed.{Placed}
 use Rattle.hd_links.specs.Steps.{rows_of}
-use Rattle.hd_calls.specs.Access.{may}
+use Rattle.hd_dbd.specs.Views.{may}
 use Rattle.hd_calls.specs.Satisfies.{satisfies}
-use Rattle.hd_seek.specs.Admits.{AreRowsOf}
-use Rattle.hd_seek.specs.Spans.{reads_some_below}
-use Rattle.hd_seek.proofs.Failing.{unread_spans_fail}
+use Rattle.hd_calls.specs.Admits.{AreRowsOf}
+use Rattle.hd_calls.specs.SearchSpans.{reads_some_below}
+use Rattle.hd_calls.proofs.Failing.{unread_spans_fail}
 use Rattle.hd_get.specs.declared.verdict.Verdict.TheVariants.{Found, Next, Over}
 use Rattle.hd_get.specs.Searches.{IsJudged, is_above_admitted}
 use Rattle.hd_get.specs.Asking.{verdict_plain}

@@ -8,7 +8,7 @@ use Rattle.hd_dbd.specs.Segment.{Segment}
 use Rattle.hd_prefix.specs.Fields.{code_of, bytes_of}
 use Rattle.hd_dbd.specs.Paths.{row_at, is_twin}
 use Rattle.hd_dbd.specs.Searches.{first_from}
-use Rattle.hd_dbd.specs.Views.{Setting}
+use Rattle.hd_dbd.specs.Views.{Setting, may}
 use Rattle.hd_dbd.specs.Letters.{gives_get}
 use Rattle.hd_dbd.specs.Forest.{Forest}
 use Rattle.hd_volume.specs.Volumes.{VolumeState}
@@ -17,17 +17,16 @@ use Rattle.hd_links.specs.Placed.{Placed}
 use Rattle.hd_links.specs.Steps.{rows_of, address_at}
 use Rattle.hd_image.specs.Records.{links_of}
 use Rattle.hd_forest.specs.Twins.{is_key_below}
-use Rattle.hd_calls.specs.Access.{may}
 use Rattle.hd_calls.specs.Ssas.{Ssa, target_code}
 use Rattle.hd_calls.specs.Satisfies.{is_named, qualifies}
-use Rattle.hd_seek.specs.Admits.{admits, meets_own, is_on_way, Descend}
-use Rattle.hd_seek.specs.Twins.{next_twin}
-use Rattle.hd_seek.specs.Keys.{is_past}
-use Rattle.hd_seek.specs.Spans.{reads_some_below}
-use Rattle.hd_seek.specs.Ways.{way_down, way_beside}
+use Rattle.hd_calls.specs.Admits.{admits, meets_own, is_on_way, Descend}
+use Rattle.hd_calls.specs.SearchTwins.{next_twin}
+use Rattle.hd_calls.specs.SearchKeys.{is_past}
+use Rattle.hd_calls.specs.SearchSpans.{reads_some_below}
+use Rattle.hd_calls.specs.SearchWays.{way_down, way_beside}
 use Rattle.hd_ssa.specs.LeastKeys.{least_key}
 use Rattle.hd_get.specs.Searches.{IsPathOf}
-use Rattle.hd_get.specs.declared.looking.Look.{Look}
+use Rattle.hd_get.specs.declared.look.Look.{Look}
 use Rattle.hd_get.specs.declared.verdict.Verdict.{Verdict}
 use Rattle.hd_get.specs.declared.verdict.Verdict.TheVariants.{Found, Next, Over, Down, DownToLast, Across, AcrossTo, Beside, BesideToLast, Rest}
 

@@ -16,7 +16,7 @@ use Rattle.hd_calls.specs.Ssas.{Ssa}
 use Rattle.hd_calls.specs.Satisfies.{on_path_at}
 use Rattle.hd_calls.specs.declared.call.GetKind.TheVariants.{NextInParent}
 use Rattle.hd_calls.specs.Gets.{first_child, first_occurrence, behind_parent, search_end}
-use Rattle.hd_seek.specs.Starts.{topmost_first}
+use Rattle.hd_calls.specs.SearchStarts.{topmost_first}
 use Rattle.hd_image.specs.Records.{links_of}
 use Rattle.hd_get.specs.Searches.{LeadsWithin}
 use Rattle.hd_get.specs.Starts.{IsKeptIn}

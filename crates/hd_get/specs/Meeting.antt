@@ -9,7 +9,7 @@ use Rattle.hd_links.specs.Steps.{rows_of}
 use Rattle.hd_image.specs.Records.{links_of}
 use Rattle.hd_calls.specs.Ssas.{Ssa}
 use Rattle.hd_calls.specs.Satisfies.{qualifies, is_last_so, meets}
-use Rattle.hd_seek.specs.Twins.{next_twin}
+use Rattle.hd_calls.specs.SearchTwins.{next_twin}
 use Rattle.hd_get.specs.Searches.{IsPathOf}
 
 -- where the store is sound, the address is that of a segment

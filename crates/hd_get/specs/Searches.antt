@@ -16,8 +16,8 @@ use Rattle.hd_image.specs.Records.{links_of, IsVolumeOf}
 use Rattle.hd_forest.specs.Rows.{IsOnRow, IsOnSomeRow}
 use Rattle.hd_calls.specs.Gets.{first_child}
 use Rattle.hd_calls.specs.Places.{end_below}
-use Rattle.hd_seek.specs.Admits.{NonePass}
-use Rattle.hd_seek.specs.Twins.{next_twin}
+use Rattle.hd_calls.specs.Admits.{NonePass}
+use Rattle.hd_calls.specs.SearchTwins.{next_twin}
 use Rattle.hd_get.specs.declared.verdict.Verdict.{Verdict}
 use Rattle.hd_get.specs.declared.verdict.Verdict.TheVariants.{Found, Next, Over, Down, DownToLast, Across, AcrossTo, Beside, BesideToLast, Rest}
 

@@ -13,7 +13,7 @@ use Rattle.hd_links.specs.Steps.{rows_of}
 use Rattle.hd_image.specs.Records.{links_of}
 use Rattle.hd_image.specs.Holding.{HoldsPlaced}
 use Rattle.hd_index.specs.Changes.{IsLater}
-use Rattle.hd_keeping.specs.Roots.{is_root, key_at, is_root_from, first_row}
+use Rattle.hd_changes.specs.Roots.{is_root, key_at, is_root_from, first_row}
 use Rattle.hd_position.specs.Kept.{Kept}
 use Rattle.hd_position.specs.Gets.{IsAt}
 use Rattle.hd_calls.specs.declared.call.GetKind.{GetKind}
@@ -21,7 +21,7 @@ use Rattle.hd_calls.specs.declared.call.GetKind.TheVariants.{Next, NextInParent}
 use Rattle.hd_calls.specs.Ssas.{Ssa}
 use Rattle.hd_calls.specs.Satisfies.{is_named}
 use Rattle.hd_calls.specs.Gets.{search_start, search_end}
-use Rattle.hd_seek.specs.Admits.{admits}
+use Rattle.hd_calls.specs.Admits.{admits}
 use Rattle.hd_ssa.specs.LeastKeys.{least_key}
 use Rattle.hd_get.specs.Searches.{LeadsWithin, MayBeginAt}
 

@@ -1,30 +1,17 @@
 ghost use Rattle.std.specs.Prelude.{◌≡◌, ◌&&◌};
 ghost use Rattle.hd_dbd.specs.Letters.{gives_get};
-ghost use Rattle.hd_calls.specs.Access.{may};
-ghost use Rattle.hd_seek.specs.Admits.{is_on_way};
-ghost use Rattle.hd_seek.specs.Spans.{reads_some_below};
+ghost use Rattle.hd_dbd.specs.Views.{may};
+ghost use Rattle.hd_calls.specs.Admits.{is_on_way};
+ghost use Rattle.hd_calls.specs.SearchSpans.{reads_some_below};
 
 use crate::ways::is_on_way;
-use hd_dbd::{Dbd, Pcb, gives_get};
-
-/// Whether the PCB sees the type of a code and may read it.
-pub fn may_get(dbd: &Dbd, pcb: &Pcb, code: u8) -> bool
-    ensures { result ≡ may (record { types = dbd.now.types; pcb = pcb.now }) gives_get code }
-{
-    let Some(segment) = dbd.type_of(code) else {
-        return false;
-    };
-    match pcb.letters_for(&segment.name) {
-        Some(letters) => gives_get(letters),
-        None => false,
-    }
-}
+use hd_dbd::{Access, Dbd, Pcb, may};
 
 /// Whether a type is another or depends on it, and the PCB may read it.
 fn reads_below(dbd: &Dbd, pcb: &Pcb, code: u8, other: u8) -> bool
     ensures { result ≡ (is_on_way dbd.now.types other code && may (record { types = dbd.now.types; pcb = pcb.now }) gives_get other) }
 {
-    is_on_way(dbd, other, code) && may_get(dbd, pcb, other)
+    is_on_way(dbd, other, code) && may(dbd, pcb, Access::Get, other)
 }
 
 /// Whether the PCB may read the type of a code, or one that depends on it. The types are looked at in order, up to the first that may

@@ -6,11 +6,12 @@ ghost use Rattle.hd_volume.specs.Calls.{IsRead};
 ghost use Rattle.hd_get.specs.Asking.{asks_last, goes_to_last, least_key_of, Admits, MeetsOwn, SeeksLater};
 ghost use Rattle.hd_get.specs.Searches.{IsOf, IsThere};
 
-use crate::meeting::{is_last_twin, meets};
+use crate::twin_tests::{is_last_twin, meets};
 use hd_dbd::{Dbd, Refused};
 use hd_forest::Path;
 use hd_ssa::ResolvedSsa;
-use hd_volume::{BlockStore, Volume};
+use hd_stores::BlockStore;
+use hd_volume::Volume;
 
 /// The code of the last argument's type.
 pub fn target_code(ssas: &[ResolvedSsa<'_>]) -> u8

@@ -4,12 +4,13 @@ ghost use Rattle.hd_volume.specs.Calls.{IsRead};
 ghost use Rattle.hd_get.specs.Searches.{IsOf};
 ghost use Rattle.hd_get.specs.Starts.{least_root_key, HasRoots, LeadsToRoot, LeadsToUnique, BeginsUnique, RefusesRootsBelow};
 
-use crate::starting::unique;
+use crate::search_starts::unique;
 use hd_dbd::{Dbd, Refused};
 use hd_forest::Path;
 use hd_index::next_from;
 use hd_ssa::ResolvedSsa;
-use hd_volume::{BlockStore, Volume};
+use hd_stores::BlockStore;
+use hd_volume::Volume;
 
 /// The key below which no root has what the first argument asks, if that is the root's and tells of one.
 fn least_root_key<'a>(dbd: &Dbd, ssas: &[ResolvedSsa<'a>]) -> Option<&'a [u8]>

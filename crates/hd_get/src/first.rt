@@ -4,20 +4,21 @@ ghost use Rattle.hd_volume.specs.Calls.{IsRead};
 ghost use Rattle.hd_image.specs.Records.{links_of};
 ghost use Rattle.hd_position.specs.Kept.{row_on};
 ghost use Rattle.hd_position.specs.Gets.{IsSomewhere};
-ghost use Rattle.hd_seek.specs.Admits.{Descend};
-ghost use Rattle.hd_seek.specs.Starts.{has_first, topmost_first};
+ghost use Rattle.hd_calls.specs.Admits.{Descend};
+ghost use Rattle.hd_calls.specs.SearchStarts.{has_first, topmost_first};
 ghost use Rattle.hd_get.specs.Searches.{IsOf};
 ghost use Rattle.hd_get.specs.Starts.{LeadsToNext, StartsBelow};
 ghost use Rattle.hd_get.specs.First.{IsParentLevel, IsLevelFrom, IsChildBelow, IsFirstPassed, IsLoweredTo, StartsBehind};
 
-use crate::standing::type_level;
-use crate::starting::{next, next_in_parent};
+use crate::search_starts::{next, next_in_parent};
 use crate::steps::stay_below;
+use crate::type_paths::type_level;
 use hd_dbd::{Dbd, Refused};
 use hd_forest::{Path, code_at, first_child, next_row, tip_of};
 use hd_position::{Position, row_on};
 use hd_ssa::ResolvedSsa;
-use hd_volume::{BlockStore, Volume};
+use hd_stores::BlockStore;
+use hd_volume::Volume;
 
 /// The first of some arguments in which F has effect: that has F, and is not the root's.
 fn topmost_first<'s, 'a>(ssas: &'s [ResolvedSsa<'a>]) -> Option<&'s ResolvedSsa<'a>>

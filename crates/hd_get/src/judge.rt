@@ -8,7 +8,8 @@ ghost use Rattle.hd_get.specs.Searches.{IsOf, IsThere, IsVerdict};
 use crate::verdict::Verdict;
 use hd_dbd::{Dbd, Refused};
 use hd_forest::Path;
-use hd_volume::{BlockStore, Volume};
+use hd_stores::BlockStore;
+use hd_volume::Volume;
 
 /// What a call asks of the rows: a test that a row passes or not, and whether a row is admitted, so that rows below it may pass.
 pub trait Judge {

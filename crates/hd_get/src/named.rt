@@ -4,16 +4,16 @@ ghost use Rattle.hd_volume.specs.Calls.{IsRead};
 ghost use Rattle.hd_get.specs.Searches.{IsOf, IsThere};
 ghost use Rattle.hd_get.specs.Asking.{may_read, verdict_beside, verdict_beside_to, verdict_to, verdict_down, verdict_from, GoesAcrossFrom};
 
-use crate::access::may_get;
 use crate::arguments::{goes_to_last, least_key_of, seeks_later, target_code};
 use crate::judge::Judge;
-use crate::looking::{admits_seen, look_at};
+use crate::look::{admits_seen, look_at};
 use crate::verdict::Verdict;
 use crate::ways::{is_on_way, way_beside, way_down};
-use hd_dbd::{Dbd, Pcb, Refused};
+use hd_dbd::{Access, Dbd, Pcb, Refused, may};
 use hd_forest::{Path, tip_of, twin_from};
 use hd_ssa::ResolvedSsa;
-use hd_volume::{BlockStore, Volume};
+use hd_stores::BlockStore;
+use hd_volume::Volume;
 use std::marker::Model;
 
 /// What a call with segment search arguments asks of a row: that they name it, and that the PCB, if there is one, may read it.
@@ -37,7 +37,7 @@ fn may_read(dbd: &Dbd, pcb: Option<&Pcb>, code: u8) -> bool
     ensures { result ≡ may_read (option_copied pcb.entry) dbd.now.types code }
 {
     match pcb {
-        Some(pcb) => may_get(dbd, pcb, code),
+        Some(pcb) => may(dbd, pcb, Access::Get, code),
         None => true,
     }
 }

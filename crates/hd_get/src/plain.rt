@@ -1,12 +1,13 @@
 ghost use Rattle.std.specs.Prelude.{◌≡◌};
 ghost use Rattle.hd_get.specs.Asking.{verdict_plain};
 
-use crate::access::{may_get, reads_some_below};
+use crate::access::reads_some_below;
 use crate::judge::Judge;
 use crate::verdict::Verdict;
-use hd_dbd::{Dbd, Pcb, Refused};
+use hd_dbd::{Access, Dbd, Pcb, Refused, may};
 use hd_forest::{Path, code_at, tip_of};
-use hd_volume::{BlockStore, Volume};
+use hd_stores::BlockStore;
+use hd_volume::Volume;
 use std::marker::Model;
 
 /// What a call without segment search arguments asks of a row: that the PCB may read it.
@@ -27,7 +28,7 @@ impl<'a> Model for Plain<'a> {
 fn verdict_plain(dbd: &Dbd, pcb: &Pcb, code: u8) -> Verdict
     ensures { result ≡ verdict_plain (record { types = dbd.now.types; pcb = pcb.now }) code }
 {
-    if may_get(dbd, pcb, code) {
+    if may(dbd, pcb, Access::Get, code) {
         Verdict::Found
     } else if reads_some_below(dbd, pcb, code) {
         Verdict::Next

@@ -11,7 +11,8 @@ ghost use Rattle.hd_get.specs.Searches.{IsOf, IsThere, IsPathOf, IsClimbed, Goes
 use crate::verdict::Verdict;
 use hd_dbd::{Dbd, Refused};
 use hd_forest::{Path, first_child, last_child, next_after_span, next_row, next_twin, tip_of};
-use hd_volume::{BlockStore, Volume};
+use hd_stores::BlockStore;
+use hd_volume::Volume;
 
 /// Leaves a path that leads past the dependents of the row at an address; the address 0 stands above all rows.
 pub(crate) fn stay_below(path: &mut Path, parent: u32)

@@ -1,6 +1,6 @@
 ghost use Rattle.std.specs.Prelude.{◌≡◌};
-ghost use Rattle.hd_seek.specs.Admits.{is_on_way};
-ghost use Rattle.hd_seek.specs.Ways.{way_down, way_beside};
+ghost use Rattle.hd_calls.specs.Admits.{is_on_way};
+ghost use Rattle.hd_calls.specs.SearchWays.{way_down, way_beside};
 
 use hd_dbd::Dbd;
 

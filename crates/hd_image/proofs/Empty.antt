@@ -11,8 +11,8 @@ use Rattle.hd_volume.specs.Headers.{Header, header_of}
 use Rattle.hd_volume.specs.Volumes.{VolumeState}
 use Rattle.hd_volume.specs.Creates.{IsCreated}
 use Rattle.hd_volume.specs.Indexes.{root_key_length}
-use Rattle.hd_levels.specs.IndexSets.{index_entries, HasIndexOf}
-use Rattle.hd_levels.proofs.NoBlocks.{set-empty, empty-entries}
+use Rattle.hd_index_blocks.specs.IndexSets.{index_entries, HasIndexOf}
+use Rattle.hd_index_blocks.proofs.NoBlocks.{set-empty, empty-entries}
 use Rattle.hd_links.specs.Links.{IsSegment}
 use Rattle.hd_links.specs.Placed.{Holds}
 use Rattle.hd_image.specs.Records.{links_of}

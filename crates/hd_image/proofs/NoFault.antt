@@ -11,10 +11,10 @@ use Rattle.hd_volume.specs.Headers.{header_of, HasHeader}
 use Rattle.hd_volume.specs.Volumes.{VolumeState}
 use Rattle.hd_volume.specs.Entries.{Entry}
 use Rattle.hd_volume.specs.Indexes.{root_key_length, HasIndex}
-use Rattle.hd_levels.specs.IndexSets.{sequence_blocks, index_entries}
-use Rattle.hd_levels.specs.LevelFaults.{HasNoFault}
-use Rattle.hd_levels.proofs.RowFaults.{faults-all}
-use Rattle.hd_levels.proofs.Versions.{chain-of, set-of}
+use Rattle.hd_index_blocks.specs.IndexSets.{sequence_blocks, index_entries}
+use Rattle.hd_index_blocks.specs.LevelFaults.{HasNoFault}
+use Rattle.hd_index_blocks.proofs.RowFaults.{faults-all}
+use Rattle.hd_index_blocks.proofs.Versions.{chain-of, set-of}
 use Rattle.hd_links.specs.Links.{Links, IsLinkGraph, segment_at}
 use Rattle.hd_links.specs.Placed.{Placed, nowhere}
 use Rattle.hd_links.specs.Pointers.{AreLinked}

@@ -6,7 +6,7 @@ use Rattle.hd_dbd.specs.Forest.{Forest}
 use Rattle.hd_volume.specs.Volumes.{VolumeState}
 use Rattle.hd_volume.specs.Indexes.{root_key_length}
 use Rattle.hd_volume.proofs.JoinLemmas.{one-formatted}
-use Rattle.hd_levels.proofs.StayingSets.{indexes-stay}
+use Rattle.hd_index_blocks.proofs.StayingSets.{indexes-stay}
 use Rattle.hd_links.specs.Placed.{Placed}
 use Rattle.hd_image.specs.Records.{links_of, IsVolumeOf}
 use Rattle.hd_image.specs.Holding.{HoldsPlaced}

@@ -11,9 +11,9 @@ use Rattle.hd_volume.specs.Headers.{HasHeader}
 use Rattle.hd_volume.specs.Volumes.{VolumeState, IsFormatted}
 use Rattle.hd_volume.specs.Entries.{Entry}
 use Rattle.hd_volume.specs.Indexes.{root_key_length, keys_ascend}
-use Rattle.hd_levels.specs.IndexSets.{index_entries, HasIndexOf}
-use Rattle.hd_levels.proofs.Volumes.{entries-ascend}
-use Rattle.hd_levels.proofs.Faultless.{sets-faultless}
+use Rattle.hd_index_blocks.specs.IndexSets.{index_entries, HasIndexOf}
+use Rattle.hd_index_blocks.proofs.Volumes.{entries-ascend}
+use Rattle.hd_index_blocks.proofs.Faultless.{sets-faultless}
 use Rattle.hd_links.specs.Links.{Links, IsSegment, IsLinkGraph, segment_at}
 use Rattle.hd_links.specs.Placed.{Placed, nowhere, Holds}
 use Rattle.hd_links.proofs.Types.{Ordered, ordered}

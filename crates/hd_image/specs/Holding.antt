@@ -11,7 +11,7 @@ use Rattle.hd_volume.specs.Volumes.{VolumeState, HasKinds}
 use Rattle.hd_volume.specs.Spacing.{no_spacing}
 use Rattle.hd_volume.specs.Entries.{Entry}
 use Rattle.hd_volume.specs.Indexes.{root_key_length}
-use Rattle.hd_levels.specs.IndexSets.{index_entries, HasIndexOf}
+use Rattle.hd_index_blocks.specs.IndexSets.{index_entries, HasIndexOf}
 use Rattle.hd_links.specs.Placed.{Placed, forest_of, Holds}
 use Rattle.hd_links.specs.Steps.{rows_of}
 use Rattle.hd_image.specs.Records.{links_of, IsVolumeOf}

@@ -12,7 +12,7 @@ use Rattle.hd_volume.specs.Headers.{header_of}
 use Rattle.hd_volume.specs.Volumes.{VolumeState, block_at, IsKind}
 use Rattle.hd_volume.specs.Entries.{Entry, entry_blocks, entries_in, entries_of}
 use Rattle.hd_volume.specs.Indexes.{root_key_length, entry_room, IsAmong, key_less}
-use Rattle.hd_levels.specs.IndexSets.{sequence_blocks, index_entries}
+use Rattle.hd_index_blocks.specs.IndexSets.{sequence_blocks, index_entries}
 use Rattle.hd_links.specs.Links.{Links, IsSegment, segment_at}
 use Rattle.hd_image.specs.Records.{links_of}
 

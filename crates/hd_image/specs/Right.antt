@@ -7,9 +7,9 @@ use Rattle.hd_volume.specs.Headers.{Header, HasHeader, header_of}
 use Rattle.hd_volume.specs.Volumes.{VolumeState, block_at, IsKind, HasExtents, HasKinds}
 use Rattle.hd_volume.specs.Entries.{entry_blocks, entries}
 use Rattle.hd_volume.specs.Indexes.{root_key_length, IsChain, IsAmong, keys_ascend}
-use Rattle.hd_levels.specs.Chains.{AreLevelsLinked}
-use Rattle.hd_levels.specs.IndexSets.{next_in, index_blocks, top_blocks, top_level, index_entries}
-use Rattle.hd_levels.specs.Faultless.{AreFormsRight, AreNamedOnce, AreAllReached, AreKeysRight}
+use Rattle.hd_index_blocks.specs.Chains.{AreLevelsLinked}
+use Rattle.hd_index_blocks.specs.IndexSets.{next_in, index_blocks, top_blocks, top_level, index_entries}
+use Rattle.hd_index_blocks.specs.Faultless.{AreFormsRight, AreNamedOnce, AreAllReached, AreKeysRight}
 use Rattle.hd_links.specs.Links.{IsSegment}
 use Rattle.hd_links.specs.Pointers.{AreLinked}
 use Rattle.hd_image.specs.Records.{links_of}

@@ -6,7 +6,7 @@ use Rattle.hd_volume.specs.Indexes.{root_key_length}
 use Rattle.hd_image.specs.Records.{links_of}
 use Rattle.hd_image.specs.BlockFaults.{IsNoVolume, IsOfNoVersion, IsOfAnother, IsWrongChain, IsWrongPlace, IsOfNoKind}
 use Rattle.hd_image.specs.PointerFaults.{IsDeleted, PointsNowhere, PointsToAnother, HasTwoPredecessors, HasNoPredecessor, IsWrongBackward, HasWrongLast, IsOutOfOrder, IsNotReached}
-use Rattle.hd_levels.specs.LevelFaults as level
+use Rattle.hd_index_blocks.specs.LevelFaults as level
 use Rattle.hd_image.specs.IndexFaults.{ByVersion, IsWrongTop, IsWrongForm, IsNamedTwice, IsUnreachedBlock, HasEntryOutOfOrder, HasWrongEntry, HasNoEntry}
 use Rattle.hd_image.specs.declared.line.Line.{Line}
 use Rattle.hd_image.specs.declared.line.Line.TheVariants.{NoVolume, NoVersion, AnotherDatabase, WrongChain, WrongPlace, NoKind, Deleted, NamesNothing, NamesAnother, TwoPredecessors, NoPredecessor, WrongBackward, WrongLast, OutOfOrder, NotReached, WrongTop, WrongForm, NamedTwice, UnreachedBlock, WrongNext, EntryOutOfOrder, WrongEntry, NoEntry}

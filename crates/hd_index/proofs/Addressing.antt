@@ -8,21 +8,21 @@ use Rattle.hd_volume.specs.Volumes.{VolumeState, block_at}
 use Rattle.hd_volume.specs.Entries.{Entry, entries_in}
 use Rattle.hd_volume.specs.Indexes.{key_less}
 use Rattle.hd_volume.proofs.JoinLemmas.{AreOne, one-spare}
-use Rattle.hd_entries.specs.Fields.{below_count}
-use Rattle.hd_entries.proofs.BlockLemmas.{length-entries}
-use Rattle.hd_levels.specs.Maps.{address_of, with_address}
-use Rattle.hd_levels.specs.Levels.{IndexBlocks, entries_below, IsIndexSet}
-use Rattle.hd_levels.specs.Ways.{leaf_of}
-use Rattle.hd_levels.specs.Changes.{OthersStay}
-use Rattle.hd_levels.specs.IndexSets.{level_in, next_in, index_blocks, top_blocks, top_level, index_entries, HasIndexSet}
-use Rattle.hd_levels.specs.VolumeLaws.{IsRightBlock}
-use Rattle.hd_levels.proofs.Keys.{less-other}
-use Rattle.hd_levels.proofs.Addresses.{addressed-none, addressed}
-use Rattle.hd_levels.proofs.Volumes.{level-of, entries-below, top-is}
-use Rattle.hd_levels.proofs.LeafAnswers.{leaves-answer-all}
-use Rattle.hd_index_edits.specs.Blocks.{with_address_at, IsIndexBlock}
-use Rattle.hd_index_edits.specs.Edits.{HasNewEntries, IsAddressChanged}
-use Rattle.hd_index_edits.proofs.EditLemmas.{one-block-at}
+use Rattle.hd_index_blocks.specs.Fields.{below_count}
+use Rattle.hd_index_blocks.proofs.BlockLemmas.{length-entries}
+use Rattle.hd_index_blocks.specs.Maps.{address_of, with_address}
+use Rattle.hd_index_blocks.specs.Levels.{IndexBlocks, entries_below, IsIndexSet}
+use Rattle.hd_index_blocks.specs.Ways.{leaf_of}
+use Rattle.hd_index_blocks.specs.Changes.{OthersStay}
+use Rattle.hd_index_blocks.specs.IndexSets.{level_in, next_in, index_blocks, top_blocks, top_level, index_entries, HasIndexSet}
+use Rattle.hd_index_blocks.specs.VolumeLaws.{IsRightBlock}
+use Rattle.hd_index_blocks.proofs.Keys.{less-other}
+use Rattle.hd_index_blocks.proofs.Addresses.{addressed-none, addressed}
+use Rattle.hd_index_blocks.proofs.Volumes.{level-of, entries-below, top-is}
+use Rattle.hd_index_blocks.proofs.LeafAnswers.{leaves-answer-all}
+use Rattle.hd_index.specs.EditedBlocks.{with_address_at, IsIndexBlock}
+use Rattle.hd_index.specs.Edits.{HasNewEntries, IsAddressChanged}
+use Rattle.hd_index.proofs.EditLemmas.{one-block-at}
 use Rattle.hd_index.specs.declared.address.Place.{Place}
 use Rattle.hd_index.specs.Blocks.{IsInOrder, leaf_at}
 use Rattle.hd_index.specs.Searches.{IsPlaceOf}

@@ -4,8 +4,8 @@ use Rattle.hd_dbd.specs.Hierarchy.{Database}
 use Rattle.hd_volume.specs.Headers.{Header, header_of}
 use Rattle.hd_volume.specs.Volumes.{VolumeState}
 use Rattle.hd_volume.specs.Indexes.{root_key_length}
-use Rattle.hd_levels.specs.IndexSets.{HasIndexOf}
-use Rattle.hd_levels.proofs.Versions.{set-of}
+use Rattle.hd_index_blocks.specs.IndexSets.{HasIndexOf}
+use Rattle.hd_index_blocks.proofs.Versions.{set-of}
 use Rattle.hd_index.specs.Changes.{IsLater, IsIndexOf, IsIndexChange}
 
 -- the index of such a volume is an index set

@@ -10,36 +10,36 @@ use Rattle.hd_volume.specs.Entries.{Entry, entries_in}
 use Rattle.hd_volume.specs.Indexes.{entry_room, key_less, is_below_first}
 use Rattle.hd_volume.proofs.JoinLemmas.{AreOne}
 use Rattle.hd_volume.proofs.KeyLemmas.{less-not}
-use Rattle.hd_entries.specs.Fields.{below_count}
-use Rattle.hd_entries.proofs.BlockLemmas.{length-entries}
-use Rattle.hd_levels.specs.Maps.{address_of, greatest_below, with_entry}
-use Rattle.hd_levels.specs.Levels.{IndexBlocks, across, named, entries_below, AreUpTo, AreBelow, IsIndexSet}
-use Rattle.hd_levels.specs.Ways.{child_of, leaf_of, IsAround, IsNamed, IsWayDown}
-use Rattle.hd_levels.specs.Changes.{KeepsIndexSet}
-use Rattle.hd_levels.specs.IndexSets.{level_in, next_in, index_blocks, top_blocks, top_level, index_entries, HasIndexSet}
-use Rattle.hd_levels.specs.Needs.{is_full, full_blocks, needed_by}
-use Rattle.hd_levels.specs.VolumeLaws.{StandOnce}
-use Rattle.hd_levels.proofs.Keys.{not-less}
-use Rattle.hd_levels.proofs.Levels.{named-append, same-below, set-stays}
-use Rattle.hd_levels.proofs.Raising.{raised}
-use Rattle.hd_levels.proofs.Staying.{way-stays}
-use Rattle.hd_levels.proofs.Entering.{entered}
-use Rattle.hd_levels.proofs.Descents.{names-of, top-around, way-around, around-answers}
-use Rattle.hd_levels.proofs.Downs.{IsOnLevel, of-level, among-right}
-use Rattle.hd_levels.proofs.Incoming.{comes-in, come-in}
-use Rattle.hd_levels.proofs.Volumes.{level-kind, entries-below, top-is, index-blocks-right}
-use Rattle.hd_index_edits.specs.Blocks.{level_of, with_entry_at, with_key_at, IsIndexBlock}
-use Rattle.hd_index_edits.specs.Edits.{HasNewEntries, IsKeyChanged}
-use Rattle.hd_index_edits.proofs.EditLemmas.{one-block-at}
-use Rattle.hd_index_edits.proofs.BlockBytes.{key-at}
+use Rattle.hd_index_blocks.specs.Fields.{below_count}
+use Rattle.hd_index_blocks.proofs.BlockLemmas.{length-entries}
+use Rattle.hd_index_blocks.specs.Maps.{address_of, greatest_below, with_entry}
+use Rattle.hd_index_blocks.specs.Levels.{IndexBlocks, across, named, entries_below, AreUpTo, AreBelow, IsIndexSet}
+use Rattle.hd_index_blocks.specs.Ways.{child_of, leaf_of, IsAround, IsNamed, IsWayDown}
+use Rattle.hd_index_blocks.specs.Changes.{KeepsIndexSet}
+use Rattle.hd_index_blocks.specs.IndexSets.{level_in, next_in, index_blocks, top_blocks, top_level, index_entries, HasIndexSet}
+use Rattle.hd_index_blocks.specs.Needs.{is_full, full_blocks, needed_by}
+use Rattle.hd_index_blocks.specs.VolumeLaws.{StandOnce}
+use Rattle.hd_index_blocks.proofs.Keys.{not-less}
+use Rattle.hd_index_blocks.proofs.Levels.{named-append, same-below, set-stays}
+use Rattle.hd_index_blocks.proofs.Raising.{raised}
+use Rattle.hd_index_blocks.proofs.Staying.{way-stays}
+use Rattle.hd_index_blocks.proofs.Entering.{entered}
+use Rattle.hd_index_blocks.proofs.Descents.{names-of, top-around, way-around, around-answers}
+use Rattle.hd_index_blocks.proofs.Downs.{IsOnLevel, of-level, among-right}
+use Rattle.hd_index_blocks.proofs.Incoming.{comes-in, come-in}
+use Rattle.hd_index_blocks.proofs.Volumes.{level-kind, entries-below, top-is, index-blocks-right}
+use Rattle.hd_index.specs.EditedBlocks.{level_of, with_entry_at, with_key_at, IsIndexBlock}
+use Rattle.hd_index.specs.Edits.{HasNewEntries, IsKeyChanged}
+use Rattle.hd_index.proofs.EditLemmas.{one-block-at}
+use Rattle.hd_index.proofs.BlockBytes.{key-at}
 use Rattle.hd_index.specs.declared.enter.Turn.{Turn}
 use Rattle.hd_index.specs.Changes.{IsChanged}
 use Rattle.hd_index.specs.Comings.{IsComing, MayCome, HasComeTo, IsTurnOf, IsRaised}
 use Rattle.hd_index.specs.Blocks.{IsInOrder}
 use Rattle.hd_index.proofs.Searching.{set-same, right-order}
-use Rattle.hd_levels.proofs.Naming.{names-once, entry-once}
-use Rattle.hd_levels.proofs.Coming.{not-self, way-steps, way-top, around-kept, named-kept, leaf-open}
-use Rattle.hd_levels.proofs.Paths.{leaf-upper}
+use Rattle.hd_index_blocks.proofs.Naming.{names-once, entry-once}
+use Rattle.hd_index_blocks.proofs.Coming.{not-self, way-steps, way-top, around-kept, named-kept, leaf-open}
+use Rattle.hd_index_blocks.proofs.Paths.{leaf-upper}
 use Rattle.hd_index.proofs.Leading.{leaf-more, child-raised, full-kept, needed-kept, greatest-low}
 use Rattle.hd_index.proofs.Parts.{length-with-key}
 use Rattle.hd_index.proofs.Filling.{needed-same}

@@ -8,26 +8,26 @@ use Rattle.hd_volume.specs.Headers.{Header, header_of}
 use Rattle.hd_volume.specs.Volumes.{VolumeState, block_at, kind_of, IsKind}
 use Rattle.hd_volume.specs.Entries.{Entry, entries_in}
 use Rattle.hd_volume.specs.Indexes.{entry_room, keys_ascend, IsAmong}
-use Rattle.hd_levels.specs.Maps.{without_key}
-use Rattle.hd_levels.specs.Levels.{IndexBlocks, across, named, entries_below, blocks_down, IsIndexSet}
-use Rattle.hd_levels.specs.Ways.{IsNamed}
-use Rattle.hd_levels.specs.Changes.{Stays, OthersStay, IsLeft, IsWayUp}
-use Rattle.hd_levels.specs.Chains.{IsLinked, first_of, AreLevelsLinked}
-use Rattle.hd_levels.specs.Linking.{IsRelinked}
-use Rattle.hd_levels.specs.Neighbours.{last_of, last_child}
-use Rattle.hd_levels.specs.Parents.{HasParent, ArePlaced}
-use Rattle.hd_levels.specs.IndexSets.{level_in, next_in, index_blocks, top_blocks, top_level, index_entries, HasIndexSet}
-use Rattle.hd_levels.proofs.Levels.{entries-none, on-parts, set-level}
-use Rattle.hd_levels.proofs.Sets.{blocks-once}
-use Rattle.hd_levels.proofs.Descents.{names-of}
-use Rattle.hd_levels.proofs.Downs.{among-parts, among-left, among-right, of-level, level-is}
-use Rattle.hd_levels.proofs.Neighbours.{left-named}
-use Rattle.hd_levels.proofs.Volumes.{entries-below, level-of, level-kind, top-is}
-use Rattle.hd_levels.proofs.Leaving.{left_out}
-use Rattle.hd_levels.proofs.Parents.{placed-reached}
-use Rattle.hd_levels.proofs.Unlinking.{chains-linked}
-use Rattle.hd_index_edits.specs.Blocks.{level_of}
-use Rattle.hd_index_edits.proofs.StepLemmas.{there-on, change-join}
+use Rattle.hd_index_blocks.specs.Maps.{without_key}
+use Rattle.hd_index_blocks.specs.Levels.{IndexBlocks, across, named, entries_below, blocks_down, IsIndexSet}
+use Rattle.hd_index_blocks.specs.Ways.{IsNamed}
+use Rattle.hd_index_blocks.specs.Changes.{Stays, OthersStay, IsLeft, IsWayUp}
+use Rattle.hd_index_blocks.specs.Chains.{IsLinked, first_of, AreLevelsLinked}
+use Rattle.hd_index_blocks.specs.Linking.{IsRelinked}
+use Rattle.hd_index_blocks.specs.Neighbours.{last_of, last_child}
+use Rattle.hd_index_blocks.specs.Parents.{HasParent, ArePlaced}
+use Rattle.hd_index_blocks.specs.IndexSets.{level_in, next_in, index_blocks, top_blocks, top_level, index_entries, HasIndexSet}
+use Rattle.hd_index_blocks.proofs.Levels.{entries-none, on-parts, set-level}
+use Rattle.hd_index_blocks.proofs.Sets.{blocks-once}
+use Rattle.hd_index_blocks.proofs.Descents.{names-of}
+use Rattle.hd_index_blocks.proofs.Downs.{among-parts, among-left, among-right, of-level, level-is}
+use Rattle.hd_index_blocks.proofs.Neighbours.{left-named}
+use Rattle.hd_index_blocks.proofs.Volumes.{entries-below, level-of, level-kind, top-is}
+use Rattle.hd_index_blocks.proofs.Leaving.{left_out}
+use Rattle.hd_index_blocks.proofs.Parents.{placed-reached}
+use Rattle.hd_index_blocks.proofs.Unlinking.{chains-linked}
+use Rattle.hd_index.specs.EditedBlocks.{level_of}
+use Rattle.hd_index.proofs.StepLemmas.{there-on, change-join}
 use Rattle.hd_index.specs.declared.stand.Stand.{Stand}
 use Rattle.hd_index.specs.Blocks.{IsInOrder}
 use Rattle.hd_index.specs.Changes.{IsChanged}

@@ -9,12 +9,12 @@ use Rattle.hd_volume.specs.Calls.{IsGivenBlock}
 use Rattle.hd_volume.specs.Entries.{entries_in}
 use Rattle.hd_volume.proofs.FrameLemmas.{AreSame}
 use Rattle.hd_volume.proofs.JoinLemmas.{AreOne, one-kind, one-segments, one-spare, one-holes}
-use Rattle.hd_levels.specs.IndexSets.{next_in}
-use Rattle.hd_index_edits.specs.Changes.{IsIndexChange}
-use Rattle.hd_index_edits.specs.Blocks.{level_of, IsIndexBlock, Bears, without_entry_at}
-use Rattle.hd_index_edits.specs.Edits.{IsEntryRemoved, IsNextChanged}
-use Rattle.hd_index_edits.proofs.EditLemmas.{edit-none, edit-before, edit-other, one-block-at, one-there, one-turned}
-use Rattle.hd_index_edits.proofs.StepLemmas.{count-header, three-header, change-join, edit-change, edit-step, same-level-block, own-level}
+use Rattle.hd_index_blocks.specs.IndexSets.{next_in}
+use Rattle.hd_index.specs.BlockChanges.{IsIndexChange}
+use Rattle.hd_index.specs.EditedBlocks.{level_of, IsIndexBlock, Bears, without_entry_at}
+use Rattle.hd_index.specs.Edits.{IsEntryRemoved, IsNextChanged}
+use Rattle.hd_index.proofs.EditLemmas.{edit-none, edit-before, edit-other, one-block-at, one-there, one-turned}
+use Rattle.hd_index.proofs.StepLemmas.{count-header, three-header, change-join, edit-change, edit-step, same-level-block, own-level}
 use Rattle.hd_index.specs.declared.stand.Stand.{Stand}
 use Rattle.hd_index.specs.Blocks.{IsInOrder}
 use Rattle.hd_index.specs.Removals.{IsPassed, IsDropped}

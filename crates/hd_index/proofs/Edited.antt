@@ -6,21 +6,21 @@ use Rattle.hd_volume.specs.Headers.{Header, header_of}
 use Rattle.hd_volume.specs.Volumes.{VolumeState, block_at}
 use Rattle.hd_volume.specs.Entries.{Entry, entries_in}
 use Rattle.hd_volume.proofs.JoinLemmas.{AreOne}
-use Rattle.hd_levels.specs.Levels.{IndexBlocks, named, entries_below, IsIndexSet}
-use Rattle.hd_levels.specs.Changes.{OthersStay, LowerStay, UpperStay}
-use Rattle.hd_levels.specs.Chains.{AreLevelsLinked}
-use Rattle.hd_levels.specs.Parents.{ArePlaced}
-use Rattle.hd_levels.specs.IndexSets.{level_in, next_in, index_blocks, top_blocks, top_level, index_entries, HasIndexSet}
-use Rattle.hd_levels.proofs.Volumes.{level-kind, entries-below}
-use Rattle.hd_levels.proofs.Downs.{level-is}
-use Rattle.hd_levels.proofs.Parents.{index-blocks-placed}
-use Rattle.hd_index_edits.specs.Edits.{HasNewEntries}
-use Rattle.hd_index_edits.proofs.EditLemmas.{one-block-at, edit-before}
-use Rattle.hd_index_edits.proofs.StepLemmas.{edit-step}
-use Rattle.hd_index_edits.specs.Blocks.{level_of, Bears}
+use Rattle.hd_index_blocks.specs.Levels.{IndexBlocks, named, entries_below, IsIndexSet}
+use Rattle.hd_index_blocks.specs.Changes.{OthersStay, LowerStay, UpperStay}
+use Rattle.hd_index_blocks.specs.Chains.{AreLevelsLinked}
+use Rattle.hd_index_blocks.specs.Parents.{ArePlaced}
+use Rattle.hd_index_blocks.specs.IndexSets.{level_in, next_in, index_blocks, top_blocks, top_level, index_entries, HasIndexSet}
+use Rattle.hd_index_blocks.proofs.Volumes.{level-kind, entries-below}
+use Rattle.hd_index_blocks.proofs.Downs.{level-is}
+use Rattle.hd_index_blocks.proofs.Parents.{index-blocks-placed}
+use Rattle.hd_index.specs.Edits.{HasNewEntries}
+use Rattle.hd_index.proofs.EditLemmas.{one-block-at, edit-before}
+use Rattle.hd_index.proofs.StepLemmas.{edit-step}
+use Rattle.hd_index.specs.EditedBlocks.{level_of, Bears}
 use Rattle.hd_index.specs.Changes.{IsChanged}
 use Rattle.hd_index.proofs.Steps.{other-stays, other-was, counts-stay, borne, assembled}
-use Rattle.hd_levels.proofs.Naming.{KeepNames, links-kept, placed-kept}
+use Rattle.hd_index_blocks.proofs.Naming.{KeepNames, links-kept, placed-kept}
 
 -- ---- one block of a level has other entries
 

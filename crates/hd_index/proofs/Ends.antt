@@ -9,32 +9,32 @@ use Rattle.hd_volume.specs.Entries.{Entry, entries_in}
 use Rattle.hd_volume.specs.Indexes.{entry_room, is_below_first}
 use Rattle.hd_volume.proofs.KeyLemmas.{less-not}
 use Rattle.hd_volume.proofs.JoinLemmas.{AreOne}
-use Rattle.hd_entries.proofs.BlockLemmas.{length-entries}
-use Rattle.hd_levels.specs.Needs.{is_full}
-use Rattle.hd_index_edits.proofs.EditLemmas.{one-block-at}
+use Rattle.hd_index_blocks.proofs.BlockLemmas.{length-entries}
+use Rattle.hd_index_blocks.specs.Needs.{is_full}
+use Rattle.hd_index.proofs.EditLemmas.{one-block-at}
 use Rattle.hd_index.specs.Blocks.{IsInOrder}
 use Rattle.hd_index.proofs.Searching.{right-order}
-use Rattle.hd_levels.specs.Maps.{address_of, greatest_below, with_entry}
-use Rattle.hd_levels.specs.Levels.{IndexBlocks, across, named, entries_below, AreBelow, AreOnLevel, IsIndexSet}
-use Rattle.hd_levels.specs.Ways.{child_of, leaf_of, IsAround, IsWayDown}
-use Rattle.hd_levels.specs.Changes.{Stays, UpperStay, KeepsIndexSet, IsDivided}
-use Rattle.hd_levels.specs.Chains.{IsLinked, first_of, AreLevelsLinked}
-use Rattle.hd_levels.specs.Parents.{ArePlaced}
-use Rattle.hd_levels.specs.IndexSets.{level_in, next_in, index_blocks, top_blocks, top_level, index_entries, HasIndexSet}
-use Rattle.hd_levels.proofs.Volumes.{level-of, level-kind, entries-below, top-is}
-use Rattle.hd_levels.proofs.Downs.{level-is}
-use Rattle.hd_levels.proofs.Entering.{entered}
-use Rattle.hd_levels.proofs.Dividing as dividing
-use Rattle.hd_levels.proofs.Linking.{divisions-linked, levels-on}
-use Rattle.hd_levels.proofs.Keys.{below-parts}
-use Rattle.hd_levels.proofs.Levels.{nil, on-parts, across-append}
-use Rattle.hd_levels.proofs.Coming.{way-steps}
-use Rattle.hd_levels.proofs.Descents.{way-around, around-answers}
-use Rattle.hd_levels.proofs.Parents.{index-blocks-placed}
-use Rattle.hd_levels.proofs.Paths.{change-lifted, leaf-upper}
-use Rattle.hd_levels.proofs.Placing.{divided-placed}
-use Rattle.hd_levels.proofs.Naming.{KeepNames, links-kept, placed-kept}
-use Rattle.hd_index.specs.declared.dividing.Lead.{Lead}
+use Rattle.hd_index_blocks.specs.Maps.{address_of, greatest_below, with_entry}
+use Rattle.hd_index_blocks.specs.Levels.{IndexBlocks, across, named, entries_below, AreBelow, AreOnLevel, IsIndexSet}
+use Rattle.hd_index_blocks.specs.Ways.{child_of, leaf_of, IsAround, IsWayDown}
+use Rattle.hd_index_blocks.specs.Changes.{Stays, UpperStay, KeepsIndexSet, IsDivided}
+use Rattle.hd_index_blocks.specs.Chains.{IsLinked, first_of, AreLevelsLinked}
+use Rattle.hd_index_blocks.specs.Parents.{ArePlaced}
+use Rattle.hd_index_blocks.specs.IndexSets.{level_in, next_in, index_blocks, top_blocks, top_level, index_entries, HasIndexSet}
+use Rattle.hd_index_blocks.proofs.Volumes.{level-of, level-kind, entries-below, top-is}
+use Rattle.hd_index_blocks.proofs.Downs.{level-is}
+use Rattle.hd_index_blocks.proofs.Entering.{entered}
+use Rattle.hd_index_blocks.proofs.Dividing as dividing
+use Rattle.hd_index_blocks.proofs.Linking.{divisions-linked, levels-on}
+use Rattle.hd_index_blocks.proofs.Keys.{below-parts}
+use Rattle.hd_index_blocks.proofs.Levels.{nil, on-parts, across-append}
+use Rattle.hd_index_blocks.proofs.Coming.{way-steps}
+use Rattle.hd_index_blocks.proofs.Descents.{way-around, around-answers}
+use Rattle.hd_index_blocks.proofs.Parents.{index-blocks-placed}
+use Rattle.hd_index_blocks.proofs.Paths.{change-lifted, leaf-upper}
+use Rattle.hd_index_blocks.proofs.Placing.{divided-placed}
+use Rattle.hd_index_blocks.proofs.Naming.{KeepNames, links-kept, placed-kept}
+use Rattle.hd_index.specs.declared.divisions.Lead.{Lead}
 use Rattle.hd_index.specs.Divisions.{IsEntryAt, IsLeadOf, IsLowestRoom}
 use Rattle.hd_index.specs.Comings.{MayCome}
 use Rattle.hd_index.specs.Changes.{IsChanged}

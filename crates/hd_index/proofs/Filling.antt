@@ -3,11 +3,11 @@ use Rattle.std.proofs.Common.{◌≡◌, ◌≢◌, inl, inr, ℕ, suc, ◌+◌,
 use Rattle.std.specs.Prelude.{◌==◌, ◌&&◌}
 use Rattle.std.proofs.lemmas.Bool.{cases_eq, eq-eqb}
 use Rattle.hd_volume.specs.Rooms.{one_if}
-use Rattle.hd_levels.specs.Levels.{IndexBlocks}
-use Rattle.hd_levels.specs.Ways.{child_of}
-use Rattle.hd_levels.specs.Needs.{is_full, full_blocks}
-use Rattle.hd_levels.proofs.Needs.{full-most}
-use Rattle.hd_levels.specs.Needs.{needed_by}
+use Rattle.hd_index_blocks.specs.Levels.{IndexBlocks}
+use Rattle.hd_index_blocks.specs.Ways.{child_of}
+use Rattle.hd_index_blocks.specs.Needs.{is_full, full_blocks}
+use Rattle.hd_index_blocks.proofs.Needs.{full-most}
+use Rattle.hd_index_blocks.specs.Needs.{needed_by}
 use Rattle.hd_volume.specs.Volumes.{VolumeState}
 use Rattle.hd_volume.proofs.JoinLemmas.{AreOne}
 

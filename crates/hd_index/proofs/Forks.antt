@@ -5,12 +5,12 @@ use Rattle.std.proofs.lemmas.Bool.{ltb-true, ltb-false}
 use Rattle.hd_volume.specs.Headers.{header_of}
 use Rattle.hd_volume.specs.Volumes.{VolumeState, block_at}
 use Rattle.hd_volume.specs.Entries.{Entry, entries_in}
-use Rattle.hd_levels.specs.Levels.{IndexBlocks, named, sequence_set}
-use Rattle.hd_levels.specs.Ways.{child_of}
-use Rattle.hd_levels.specs.Neighbours.{last_of, last_child}
-use Rattle.hd_levels.specs.IndexSets.{next_in, index_blocks, top_level, HasIndexSet}
-use Rattle.hd_levels.proofs.Levels.{on-parts, set-level}
-use Rattle.hd_levels.proofs.Volumes.{top-is}
+use Rattle.hd_index_blocks.specs.Levels.{IndexBlocks, named, sequence_set}
+use Rattle.hd_index_blocks.specs.Ways.{child_of}
+use Rattle.hd_index_blocks.specs.Neighbours.{last_of, last_child}
+use Rattle.hd_index_blocks.specs.IndexSets.{next_in, index_blocks, top_level, HasIndexSet}
+use Rattle.hd_index_blocks.proofs.Levels.{on-parts, set-level}
+use Rattle.hd_index_blocks.proofs.Volumes.{top-is}
 use Rattle.hd_volume.proofs.JoinLemmas.{AreOne}
 use Rattle.hd_index.specs.declared.stand.Stand.{Stand}
 use Rattle.hd_index.specs.declared.way.Fork.{Fork}

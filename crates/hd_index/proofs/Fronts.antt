@@ -3,11 +3,11 @@ use Rattle.std.proofs.Common.{◌≡◌, ◌≢◌, ◌⊎◌, inl, inr, ℕ, ze
 use Rattle.std.specs.Prelude.{slice_get, min}
 use Rattle.hd_volume.specs.Entries.{Entry}
 use Rattle.hd_volume.specs.Indexes.{key_less}
-use Rattle.hd_entries.specs.Fields.{below_count}
-use Rattle.hd_levels.specs.Maps.{greatest_below, last_key}
-use Rattle.hd_levels.specs.Levels.{named, AreBelow}
-use Rattle.hd_levels.specs.Ways.{child_of}
-use Rattle.hd_levels.specs.Neighbours.{last_of}
+use Rattle.hd_index_blocks.specs.Fields.{below_count}
+use Rattle.hd_index_blocks.specs.Maps.{greatest_below, last_key}
+use Rattle.hd_index_blocks.specs.Levels.{named, AreBelow}
+use Rattle.hd_index_blocks.specs.Ways.{child_of}
+use Rattle.hd_index_blocks.specs.Neighbours.{last_of}
 use Rattle.hd_index.specs.Stands.{front_of}
 
 -- they are as many as stand before the place that a key leads to

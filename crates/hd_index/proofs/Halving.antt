@@ -11,31 +11,31 @@ use Rattle.hd_volume.specs.Volumes.{VolumeState, block_at, IsKind}
 use Rattle.hd_volume.specs.Entries.{Entry, entries_in}
 use Rattle.hd_volume.specs.Indexes.{entry_room, IsAmong}
 use Rattle.hd_volume.proofs.JoinLemmas.{AreOne}
-use Rattle.hd_entries.specs.Fields.{entry_place, below_count}
-use Rattle.hd_entries.proofs.RoomLemmas.{room-most}
-use Rattle.hd_entries.proofs.BlockLemmas.{length-entries, get-within}
-use Rattle.hd_levels.specs.Levels.{IndexBlocks, across, named, entries_below, IsIndexSet}
-use Rattle.hd_levels.specs.Ways.{child_of, IsAround}
-use Rattle.hd_levels.specs.Changes.{Stays, KeepsIndexSet, IsDivided}
-use Rattle.hd_levels.specs.Chains.{AreLevelsLinked}
-use Rattle.hd_levels.specs.Parents.{ArePlaced}
-use Rattle.hd_levels.specs.IndexSets.{level_in, next_in, index_blocks, top_blocks, top_level, index_entries, HasIndexSet}
-use Rattle.hd_levels.specs.Needs.{is_full, full_blocks, needed_by}
-use Rattle.hd_levels.specs.VolumeLaws.{IsRightBlock}
-use Rattle.hd_levels.proofs.Needs.{full-most}
-use Rattle.hd_levels.proofs.Volumes.{level-of, level-kind, some-count, entries-below, top-is, children-right}
-use Rattle.hd_levels.proofs.Downs.{among-right, child-named, named-across, level-is}
-use Rattle.hd_levels.proofs.Descents.{top-around}
-use Rattle.hd_levels.proofs.Dividing as dividing
-use Rattle.hd_levels.proofs.Linking.{divisions-linked}
-use Rattle.hd_levels.proofs.Parents.{index-blocks-placed}
-use Rattle.hd_levels.proofs.Paths.{change-lifted, around-below, leaf-upper}
-use Rattle.hd_levels.proofs.Fullness.{full-block, child-full, full-above, divided-fewer}
-use Rattle.hd_levels.proofs.Placing.{divided-placed}
-use Rattle.hd_index.specs.declared.dividing.Lead.{Lead}
-use Rattle.hd_index.specs.declared.dividing.Cut.{Cut}
+use Rattle.hd_index_blocks.specs.Fields.{entry_place, below_count}
+use Rattle.hd_index_blocks.proofs.RoomLemmas.{room-most}
+use Rattle.hd_index_blocks.proofs.BlockLemmas.{length-entries, get-within}
+use Rattle.hd_index_blocks.specs.Levels.{IndexBlocks, across, named, entries_below, IsIndexSet}
+use Rattle.hd_index_blocks.specs.Ways.{child_of, IsAround}
+use Rattle.hd_index_blocks.specs.Changes.{Stays, KeepsIndexSet, IsDivided}
+use Rattle.hd_index_blocks.specs.Chains.{AreLevelsLinked}
+use Rattle.hd_index_blocks.specs.Parents.{ArePlaced}
+use Rattle.hd_index_blocks.specs.IndexSets.{level_in, next_in, index_blocks, top_blocks, top_level, index_entries, HasIndexSet}
+use Rattle.hd_index_blocks.specs.Needs.{is_full, full_blocks, needed_by}
+use Rattle.hd_index_blocks.specs.VolumeLaws.{IsRightBlock}
+use Rattle.hd_index_blocks.proofs.Needs.{full-most}
+use Rattle.hd_index_blocks.proofs.Volumes.{level-of, level-kind, some-count, entries-below, top-is, children-right}
+use Rattle.hd_index_blocks.proofs.Downs.{among-right, child-named, named-across, level-is}
+use Rattle.hd_index_blocks.proofs.Descents.{top-around}
+use Rattle.hd_index_blocks.proofs.Dividing as dividing
+use Rattle.hd_index_blocks.proofs.Linking.{divisions-linked}
+use Rattle.hd_index_blocks.proofs.Parents.{index-blocks-placed}
+use Rattle.hd_index_blocks.proofs.Paths.{change-lifted, around-below, leaf-upper}
+use Rattle.hd_index_blocks.proofs.Fullness.{full-block, child-full, full-above, divided-fewer}
+use Rattle.hd_index_blocks.proofs.Placing.{divided-placed}
+use Rattle.hd_index.specs.declared.divisions.Lead.{Lead}
+use Rattle.hd_index.specs.declared.divisions.Cut.{Cut}
 use Rattle.hd_index.specs.Divisions.{IsLowestRoom, IsLeadOf, IsCutOf, IsDividedUnder, IsRoomMade}
-use Rattle.hd_index_edits.proofs.EditLemmas.{one-block-at}
+use Rattle.hd_index.proofs.EditLemmas.{one-block-at}
 use Rattle.hd_index.specs.Blocks.{IsInOrder}
 use Rattle.hd_index.proofs.Searching.{right-order, right-same}
 use Rattle.hd_index.proofs.Places.{child-here}

@@ -7,10 +7,10 @@ use Rattle.hd_volume.specs.Volumes.{VolumeState, block_at, kind_of, IsKind, IsFo
 use Rattle.hd_volume.specs.Calls.{HasNewHeader}
 use Rattle.hd_volume.specs.Entries.{Entry, entries_in}
 use Rattle.hd_volume.proofs.FrameLemmas.{AreSame}
-use Rattle.hd_index_edits.specs.Changes.{IsIndexChange}
-use Rattle.hd_index_edits.specs.Blocks.{Bears}
-use Rattle.hd_index_edits.specs.Edits.{IsBegun}
-use Rattle.hd_index_edits.proofs.StepLemmas.{change-join, same-level-block}
+use Rattle.hd_index.specs.BlockChanges.{IsIndexChange}
+use Rattle.hd_index.specs.EditedBlocks.{Bears}
+use Rattle.hd_index.specs.Edits.{IsBegun}
+use Rattle.hd_index.proofs.StepLemmas.{change-join, same-level-block}
 use Rattle.hd_index.specs.Divisions.{IsTopBegun}
 
 -- the header alone has changed

@@ -10,13 +10,13 @@ use Rattle.hd_volume.specs.Rooms.{spare, free_blocks, HasFreeBlock}
 use Rattle.hd_volume.specs.Entries.{Entry}
 use Rattle.hd_volume.proofs.JoinLemmas.{AreOne, one-kind, one-segments, one-spare, one-holes}
 use Rattle.hd_volume.proofs.KindLemmas.{none-free}
-use Rattle.hd_levels.specs.Maps.{greatest_below, with_entry}
-use Rattle.hd_levels.specs.IndexSets.{index_entries, HasIndexSet}
-use Rattle.hd_levels.specs.Needs.{entry_growth, needed_by, set_blocks_needed, IsHighest}
-use Rattle.hd_levels.proofs.Needs.{few-needed}
-use Rattle.hd_index_edits.specs.Edits.{IsRefused}
-use Rattle.hd_index_edits.proofs.EditLemmas.{one-block-at, one-there}
-use Rattle.hd_index_edits.proofs.StepLemmas.{there-below, count-header, three-header, change-join}
+use Rattle.hd_index_blocks.specs.Maps.{greatest_below, with_entry}
+use Rattle.hd_index_blocks.specs.IndexSets.{index_entries, HasIndexSet}
+use Rattle.hd_index_blocks.specs.Needs.{entry_growth, needed_by, set_blocks_needed, IsHighest}
+use Rattle.hd_index_blocks.proofs.Needs.{few-needed}
+use Rattle.hd_index.specs.Edits.{IsRefused}
+use Rattle.hd_index.proofs.EditLemmas.{one-block-at, one-there}
+use Rattle.hd_index.proofs.StepLemmas.{there-below, count-header, three-header, change-join}
 use Rattle.hd_index.specs.Changes.{IsIndexChange, IsChanged}
 use Rattle.hd_index.specs.Rooms.{IsReady, IsRefusedFor}
 use Rattle.hd_index.proofs.Filling.{needed-same}

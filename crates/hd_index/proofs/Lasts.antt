@@ -11,18 +11,18 @@ use Rattle.hd_volume.specs.Volumes.{VolumeState, block_at, kind_of, IsKind}
 use Rattle.hd_volume.specs.Entries.{Entry, entries_in}
 use Rattle.hd_volume.specs.Indexes.{entry_room, key_less, keys_ascend, IsAmong}
 use Rattle.hd_volume.proofs.KindLemmas.{below-count}
-use Rattle.hd_entries.specs.Fields.{CountFits}
-use Rattle.hd_entries.specs.Searches.{IfInOrder}
-use Rattle.hd_levels.specs.Maps.{greatest_below, last_key}
-use Rattle.hd_levels.specs.Levels.{IndexBlocks, across, named, sequence_set, blocks_down, AreBelow, IsIndexSet}
-use Rattle.hd_levels.specs.Chains.{IsLinked, first_of}
-use Rattle.hd_levels.specs.Neighbours.{last_of}
-use Rattle.hd_levels.specs.IndexSets.{next_in, index_blocks, top_blocks, top_level, HasIndexSet}
-use Rattle.hd_levels.proofs.Keys.{ascend-below, below-less}
-use Rattle.hd_levels.proofs.Levels.{across-append}
-use Rattle.hd_levels.proofs.Downs.{among-parts, of-level, level-is}
-use Rattle.hd_levels.proofs.LeafAnswers.{sequence-linked}
-use Rattle.hd_levels.proofs.Volumes.{level-of, index-blocks-right}
+use Rattle.hd_index_blocks.specs.Fields.{CountFits}
+use Rattle.hd_index_blocks.specs.Searches.{IfInOrder}
+use Rattle.hd_index_blocks.specs.Maps.{greatest_below, last_key}
+use Rattle.hd_index_blocks.specs.Levels.{IndexBlocks, across, named, sequence_set, blocks_down, AreBelow, IsIndexSet}
+use Rattle.hd_index_blocks.specs.Chains.{IsLinked, first_of}
+use Rattle.hd_index_blocks.specs.Neighbours.{last_of}
+use Rattle.hd_index_blocks.specs.IndexSets.{next_in, index_blocks, top_blocks, top_level, HasIndexSet}
+use Rattle.hd_index_blocks.proofs.Keys.{ascend-below, below-less}
+use Rattle.hd_index_blocks.proofs.Levels.{across-append}
+use Rattle.hd_index_blocks.proofs.Downs.{among-parts, of-level, level-is}
+use Rattle.hd_index_blocks.proofs.LeafAnswers.{sequence-linked}
+use Rattle.hd_index_blocks.proofs.Volumes.{level-of, index-blocks-right}
 use Rattle.hd_index.specs.Stands.{IsStand}
 use Rattle.hd_index.specs.Greatest.{IsGreatestOf, IsGreatestBelow, IsKnownLeaf, lower_key}
 use Rattle.hd_index.proofs.Standing.{later-blocks, stand-greatest}

@@ -7,12 +7,12 @@ use Rattle.hd_volume.specs.Volumes.{VolumeState}
 use Rattle.hd_volume.specs.Entries.{Entry}
 use Rattle.hd_volume.specs.Indexes.{entry_room, key_less, IsAmong}
 use Rattle.hd_volume.proofs.KeyLemmas.{less-not}
-use Rattle.hd_levels.specs.Maps.{address_from, greatest_below}
-use Rattle.hd_levels.specs.Levels.{IndexBlocks, across, named, AreBelow, IsIndexSet}
-use Rattle.hd_levels.specs.Ways.{child_of, leaf_of}
-use Rattle.hd_levels.specs.IndexSets.{index_blocks, top_level}
-use Rattle.hd_levels.specs.Needs.{full_blocks, needed_by}
-use Rattle.hd_levels.proofs.Downs.{of-level, child-named, named-across}
+use Rattle.hd_index_blocks.specs.Maps.{address_from, greatest_below}
+use Rattle.hd_index_blocks.specs.Levels.{IndexBlocks, across, named, AreBelow, IsIndexSet}
+use Rattle.hd_index_blocks.specs.Ways.{child_of, leaf_of}
+use Rattle.hd_index_blocks.specs.IndexSets.{index_blocks, top_level}
+use Rattle.hd_index_blocks.specs.Needs.{full_blocks, needed_by}
+use Rattle.hd_index_blocks.proofs.Downs.{of-level, child-named, named-across}
 
 -- one step more leads to the child
 pub leaf-more : (c : IndexBlocks) (key : List ℕ) (steps n : ℕ) → leaf_of c key (suc steps) n ≡ child_of key (c.entries (leaf_of c key steps n))

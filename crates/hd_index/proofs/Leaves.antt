@@ -8,18 +8,18 @@ use Rattle.hd_volume.specs.Volumes.{VolumeState, block_at}
 use Rattle.hd_volume.specs.Rooms.{one_if}
 use Rattle.hd_volume.specs.Entries.{Entry, entries_in}
 use Rattle.hd_volume.specs.Indexes.{IsAmong, entry_room, key_less, is_below_first, keys_ascend}
-use Rattle.hd_levels.specs.Maps.{greatest_below, last_key}
-use Rattle.hd_levels.specs.Levels.{IndexBlocks, across, sequence_set, AreBelow, IsIndexSet}
-use Rattle.hd_levels.specs.Ways.{child_of, leaf_of, IsAround}
-use Rattle.hd_levels.specs.IndexSets.{index_blocks, top_level, top_blocks, HasIndexSet}
-use Rattle.hd_levels.specs.Needs.{is_full, full_blocks, needed_by}
-use Rattle.hd_levels.specs.VolumeLaws.{IsRightBlock}
-use Rattle.hd_levels.proofs.Keys.{less-self, below-parts, first-behind}
-use Rattle.hd_levels.proofs.Sets.{set-behind}
-use Rattle.hd_levels.proofs.Downs.{among-right}
-use Rattle.hd_levels.proofs.Descents.{leaf-is}
-use Rattle.hd_levels.proofs.Fullness.{full-above}
-use Rattle.hd_levels.proofs.Volumes.{top-is, tops-right, children-right}
+use Rattle.hd_index_blocks.specs.Maps.{greatest_below, last_key}
+use Rattle.hd_index_blocks.specs.Levels.{IndexBlocks, across, sequence_set, AreBelow, IsIndexSet}
+use Rattle.hd_index_blocks.specs.Ways.{child_of, leaf_of, IsAround}
+use Rattle.hd_index_blocks.specs.IndexSets.{index_blocks, top_level, top_blocks, HasIndexSet}
+use Rattle.hd_index_blocks.specs.Needs.{is_full, full_blocks, needed_by}
+use Rattle.hd_index_blocks.specs.VolumeLaws.{IsRightBlock}
+use Rattle.hd_index_blocks.proofs.Keys.{less-self, below-parts, first-behind}
+use Rattle.hd_index_blocks.proofs.Sets.{set-behind}
+use Rattle.hd_index_blocks.proofs.Downs.{among-right}
+use Rattle.hd_index_blocks.proofs.Descents.{leaf-is}
+use Rattle.hd_index_blocks.proofs.Fullness.{full-above}
+use Rattle.hd_index_blocks.proofs.Volumes.{top-is, tops-right, children-right}
 use Rattle.hd_index.specs.declared.stand.Stand.{Stand}
 use Rattle.hd_index.specs.Blocks.{IsInOrder, leaf_at}
 use Rattle.hd_index.specs.Stands.{IsStand}

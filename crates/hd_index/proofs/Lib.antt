@@ -1,3 +1,8 @@
+pub mod CallLemmas
+pub mod EditLemmas
+pub mod BlockBytes
+pub mod EntryEdits
+pub mod StepLemmas
 pub mod Places
 pub mod Steps
 pub mod Searching

@@ -3,10 +3,10 @@ use Rattle.std.proofs.Common.{◌≡◌, inl, inr, ℕ, ◌+◌, ◌<◌, ◌≤
 use Rattle.hd_volume.specs.Headers.{header_of}
 use Rattle.hd_volume.specs.Volumes.{VolumeState, IsKind, IsFormatted}
 use Rattle.hd_volume.specs.Calls.{KeepsIndex}
-use Rattle.hd_levels.specs.IndexSets.{HasIndexSet}
-use Rattle.hd_levels.specs.Needs.{entry_growth}
-use Rattle.hd_levels.proofs.Needs.{few-needed}
-use Rattle.hd_levels.proofs.StayingSets.{index-sets-stay}
+use Rattle.hd_index_blocks.specs.IndexSets.{HasIndexSet}
+use Rattle.hd_index_blocks.specs.Needs.{entry_growth}
+use Rattle.hd_index_blocks.proofs.Needs.{few-needed}
+use Rattle.hd_index_blocks.proofs.StayingSets.{index-sets-stay}
 use Rattle.hd_index.specs.Places.{blocks_needed}
 
 -- where a state has the image of another they are the same

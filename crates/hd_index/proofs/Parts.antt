@@ -6,10 +6,10 @@ use Rattle.hd_bytes.specs.Ranges.{bytes_at}
 use Rattle.hd_bytes.proofs.BlockLemmas.{length-bytes_at}
 use Rattle.hd_volume.specs.Entries.{Entry, entries_at}
 use Rattle.hd_volume.specs.Indexes.{key_less}
-use Rattle.hd_entries.specs.Fields.{below_count}
-use Rattle.hd_levels.specs.Levels.{AreBelow}
-use Rattle.hd_levels.specs.Maps.{last_key}
-use Rattle.hd_index_edits.specs.Blocks.{with_entry_at, with_key_at}
+use Rattle.hd_index_blocks.specs.Fields.{below_count}
+use Rattle.hd_index_blocks.specs.Levels.{AreBelow}
+use Rattle.hd_index_blocks.specs.Maps.{last_key}
+use Rattle.hd_index.specs.EditedBlocks.{with_entry_at, with_key_at}
 
 -- before it, itself, and behind it
 pub parts : (es : List Entry) (i : ℕ) (e : Entry) → slice_get es i ≡ Some e → es ≡ take i es ++ (e ∷ drop (suc i) es)

@@ -4,11 +4,11 @@ use Rattle.std.specs.Prelude.{slice_get, bytes_eq, min}
 use Rattle.std.proofs.lemmas.Bool.{and_parts}
 use Rattle.hd_volume.specs.Entries.{Entry}
 use Rattle.hd_volume.specs.Indexes.{key_less, is_below_first, keys_ascend}
-use Rattle.hd_entries.specs.Fields.{below_count}
-use Rattle.hd_levels.specs.Maps.{address_of, address_from}
-use Rattle.hd_levels.specs.Levels.{AreBelow}
-use Rattle.hd_levels.specs.Ways.{child_of}
-use Rattle.hd_levels.proofs.Keys.{less-other, not-less, first-less, address-above}
+use Rattle.hd_index_blocks.specs.Fields.{below_count}
+use Rattle.hd_index_blocks.specs.Maps.{address_of, address_from}
+use Rattle.hd_index_blocks.specs.Levels.{AreBelow}
+use Rattle.hd_index_blocks.specs.Ways.{child_of}
+use Rattle.hd_index_blocks.proofs.Keys.{less-other, not-less, first-less, address-above}
 
 -- no more are below a key than there are
 pub below-most : (k : List ℕ) (es : List Entry) → below_count k es ≤ length es

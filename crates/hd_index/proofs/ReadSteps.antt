@@ -10,16 +10,16 @@ use Rattle.hd_volume.specs.Calls.{IsCall, IsRead}
 use Rattle.hd_volume.proofs.CallSteps.{sound-back}
 use Rattle.hd_volume.proofs.JoinLemmas.{AreOne, one-kind, one-segments, one-spare, one-holes, read-one}
 use Rattle.hd_volume.specs.Indexes.{entry_room}
-use Rattle.hd_levels.specs.Ways.{leaf_of}
-use Rattle.hd_levels.specs.Needs.{is_full, full_blocks}
-use Rattle.hd_levels.specs.IndexSets.{index_blocks, index_entries, HasIndexSet}
-use Rattle.hd_index_edits.specs.Changes.{IsIndexChange}
-use Rattle.hd_index_edits.specs.Edits.{IsRefused}
-use Rattle.hd_index_edits.proofs.EditLemmas.{one-turned, one-there, one-block-at}
+use Rattle.hd_index_blocks.specs.Ways.{leaf_of}
+use Rattle.hd_index_blocks.specs.Needs.{is_full, full_blocks}
+use Rattle.hd_index_blocks.specs.IndexSets.{index_blocks, index_entries, HasIndexSet}
+use Rattle.hd_index.specs.BlockChanges.{IsIndexChange}
+use Rattle.hd_index.specs.Edits.{IsRefused}
+use Rattle.hd_index.proofs.EditLemmas.{one-turned, one-there, one-block-at}
 use Rattle.hd_index.specs.Changes.{IsChanged}
-use Rattle.hd_index_edits.specs.Blocks.{Bears}
-use Rattle.hd_index.specs.declared.dividing.Lead.{Lead}
-use Rattle.hd_index.specs.declared.dividing.Cut.{Cut}
+use Rattle.hd_index.specs.EditedBlocks.{Bears}
+use Rattle.hd_index.specs.declared.divisions.Lead.{Lead}
+use Rattle.hd_index.specs.declared.divisions.Cut.{Cut}
 use Rattle.hd_index.specs.Divisions.{IsDividedUnder, IsTopBegun, IsLowestRoom, IsRoomMade}
 use Rattle.hd_index.proofs.Searching.{set-same, right-same}
 use Rattle.hd_index.proofs.Filling.{needed-same}

@@ -7,17 +7,17 @@ use Rattle.hd_volume.specs.Headers.{Header, header_of}
 use Rattle.hd_volume.specs.Volumes.{VolumeState, block_at, kind_of}
 use Rattle.hd_volume.specs.Entries.{Entry, entries_in}
 use Rattle.hd_volume.specs.Indexes.{entry_room, key_less, keys_ascend}
-use Rattle.hd_levels.specs.Maps.{address_of, address_from}
-use Rattle.hd_levels.specs.Levels.{entries_below}
-use Rattle.hd_levels.specs.Ways.{leaf_of}
-use Rattle.hd_levels.specs.IndexSets.{next_in, index_blocks, top_blocks, top_level, index_entries, HasIndexSet}
-use Rattle.hd_levels.specs.VolumeLaws.{IsRightBlock}
-use Rattle.hd_levels.proofs.Levels.{entries-none}
-use Rattle.hd_levels.proofs.Volumes.{entries-below, level-of, level-kind, index-blocks-right}
-use Rattle.hd_levels.proofs.LeafAnswers.{leaves-answer-all}
-use Rattle.hd_levels.specs.Needs.{entry_growth, set_blocks_needed}
-use Rattle.hd_levels.proofs.Faultless.{sets-faultless}
-use Rattle.hd_levels.proofs.StayingSets.{index-sets-stay}
+use Rattle.hd_index_blocks.specs.Maps.{address_of, address_from}
+use Rattle.hd_index_blocks.specs.Levels.{entries_below}
+use Rattle.hd_index_blocks.specs.Ways.{leaf_of}
+use Rattle.hd_index_blocks.specs.IndexSets.{next_in, index_blocks, top_blocks, top_level, index_entries, HasIndexSet}
+use Rattle.hd_index_blocks.specs.VolumeLaws.{IsRightBlock}
+use Rattle.hd_index_blocks.proofs.Levels.{entries-none}
+use Rattle.hd_index_blocks.proofs.Volumes.{entries-below, level-of, level-kind, index-blocks-right}
+use Rattle.hd_index_blocks.proofs.LeafAnswers.{leaves-answer-all}
+use Rattle.hd_index_blocks.specs.Needs.{entry_growth, set_blocks_needed}
+use Rattle.hd_index_blocks.proofs.Faultless.{sets-faultless}
+use Rattle.hd_index_blocks.proofs.StayingSets.{index-sets-stay}
 use Rattle.hd_volume.proofs.JoinLemmas.{AreOne, one-formatted, one-kind}
 use Rattle.hd_index.specs.declared.look.Sight.{Sight}
 use Rattle.hd_index.specs.Blocks.{IsInOrder, leaf_at}

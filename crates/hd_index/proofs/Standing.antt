@@ -6,17 +6,17 @@ use Rattle.hd_volume.specs.Headers.{header_of}
 use Rattle.hd_volume.specs.Volumes.{VolumeState, block_at}
 use Rattle.hd_volume.specs.Entries.{Entry, entries_in, entry_blocks}
 use Rattle.hd_volume.specs.Indexes.{IsAmong}
-use Rattle.hd_levels.specs.Maps.{greatest_below, last_key}
-use Rattle.hd_levels.specs.Levels.{IndexBlocks, across, named, sequence_set, entries_below, AreOnLevel, IsIndexSet}
-use Rattle.hd_levels.specs.Ways.{child_of, IsAround, IsNamed}
-use Rattle.hd_levels.specs.Neighbours.{last_of, last_child}
-use Rattle.hd_levels.specs.IndexSets.{index_blocks, top_level, top_blocks, sequence_blocks, index_entries, HasIndexSet}
-use Rattle.hd_levels.proofs.Levels.{on-parts, set-level, named-append}
-use Rattle.hd_levels.proofs.Descents.{around-down, names-about, top-around}
-use Rattle.hd_levels.proofs.Downs.{among-left, among-right, of-level}
-use Rattle.hd_levels.proofs.Neighbours.{left-named}
-use Rattle.hd_levels.proofs.Volumes.{entries-below, right-block, top-is}
-use Rattle.hd_levels.proofs.Incoming.{greatest-near}
+use Rattle.hd_index_blocks.specs.Maps.{greatest_below, last_key}
+use Rattle.hd_index_blocks.specs.Levels.{IndexBlocks, across, named, sequence_set, entries_below, AreOnLevel, IsIndexSet}
+use Rattle.hd_index_blocks.specs.Ways.{child_of, IsAround, IsNamed}
+use Rattle.hd_index_blocks.specs.Neighbours.{last_of, last_child}
+use Rattle.hd_index_blocks.specs.IndexSets.{index_blocks, top_level, top_blocks, sequence_blocks, index_entries, HasIndexSet}
+use Rattle.hd_index_blocks.proofs.Levels.{on-parts, set-level, named-append}
+use Rattle.hd_index_blocks.proofs.Descents.{around-down, names-about, top-around}
+use Rattle.hd_index_blocks.proofs.Downs.{among-left, among-right, of-level}
+use Rattle.hd_index_blocks.proofs.Neighbours.{left-named}
+use Rattle.hd_index_blocks.proofs.Volumes.{entries-below, right-block, top-is}
+use Rattle.hd_index_blocks.proofs.Incoming.{greatest-near}
 use Rattle.hd_index.specs.declared.stand.Stand.{Stand}
 use Rattle.hd_index.specs.Blocks.{IsInOrder}
 use Rattle.hd_index.specs.Stands.{front_of, IsStand}

@@ -6,15 +6,15 @@ use Rattle.hd_volume.specs.Headers.{header_of}
 use Rattle.hd_volume.specs.Volumes.{VolumeState, block_at, IsKind, IsFormatted}
 use Rattle.hd_volume.specs.Entries.{Entry, entries_in}
 use Rattle.hd_volume.specs.Indexes.{entry_room}
-use Rattle.hd_levels.specs.Levels.{IsIndexSet}
-use Rattle.hd_levels.specs.Changes.{Stays}
-use Rattle.hd_levels.specs.Chains.{AreLevelsLinked}
-use Rattle.hd_levels.specs.Parents.{ArePlaced}
-use Rattle.hd_levels.specs.IndexSets.{level_in, next_in, index_blocks, top_blocks, top_level, IsHeightRight, HasIndexSet}
-use Rattle.hd_levels.proofs.Volumes.{level-of, level-kind}
-use Rattle.hd_levels.proofs.Parents.{placed-reached}
-use Rattle.hd_index_edits.specs.Blocks.{Bears}
-use Rattle.hd_index_edits.specs.Edits.{IsIndexStep}
+use Rattle.hd_index_blocks.specs.Levels.{IsIndexSet}
+use Rattle.hd_index_blocks.specs.Changes.{Stays}
+use Rattle.hd_index_blocks.specs.Chains.{AreLevelsLinked}
+use Rattle.hd_index_blocks.specs.Parents.{ArePlaced}
+use Rattle.hd_index_blocks.specs.IndexSets.{level_in, next_in, index_blocks, top_blocks, top_level, IsHeightRight, HasIndexSet}
+use Rattle.hd_index_blocks.proofs.Volumes.{level-of, level-kind}
+use Rattle.hd_index_blocks.proofs.Parents.{placed-reached}
+use Rattle.hd_index.specs.EditedBlocks.{Bears}
+use Rattle.hd_index.specs.Edits.{IsIndexStep}
 
 -- ---- index blocks with the same bytes
 

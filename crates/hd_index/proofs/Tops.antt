@@ -6,24 +6,24 @@ use Rattle.hd_volume.specs.Headers.{Header, header_of}
 use Rattle.hd_volume.specs.Volumes.{VolumeState, block_at, IsKind}
 use Rattle.hd_volume.specs.Entries.{Entry, entries_in}
 use Rattle.hd_volume.specs.Indexes.{entry_room, keys_ascend, IsAmong}
-use Rattle.hd_entries.specs.Fields.{entry_place}
-use Rattle.hd_entries.proofs.RoomLemmas.{room-most}
-use Rattle.hd_levels.specs.Maps.{last_key}
-use Rattle.hd_levels.specs.Levels.{IndexBlocks, across, named, entries_below, blocks_down, IsIndexSet}
-use Rattle.hd_levels.specs.Ways.{child_of}
-use Rattle.hd_levels.specs.Changes.{Stays, LowerStay}
-use Rattle.hd_levels.specs.Chains.{AreLevelsLinked}
-use Rattle.hd_levels.specs.Parents.{ArePlaced}
-use Rattle.hd_levels.specs.IndexSets.{level_in, next_in, index_blocks, top_blocks, top_level, index_entries, HasIndexSet}
-use Rattle.hd_levels.specs.Needs.{is_full, full_blocks}
-use Rattle.hd_levels.proofs.Levels.{nil}
-use Rattle.hd_levels.proofs.Volumes.{level-of, level-kind, some-count, entries-below, none-down, top-is, tops-right}
-use Rattle.hd_levels.proofs.Dividing.{topped}
-use Rattle.hd_levels.proofs.Linking.{links-lower}
-use Rattle.hd_levels.proofs.Parents.{index-blocks-placed}
-use Rattle.hd_levels.proofs.Fullness.{same-room, full-lower, not-full}
-use Rattle.hd_levels.proofs.Placing.{topped-placed}
-use Rattle.hd_index_edits.specs.Blocks.{Bears}
+use Rattle.hd_index_blocks.specs.Fields.{entry_place}
+use Rattle.hd_index_blocks.proofs.RoomLemmas.{room-most}
+use Rattle.hd_index_blocks.specs.Maps.{last_key}
+use Rattle.hd_index_blocks.specs.Levels.{IndexBlocks, across, named, entries_below, blocks_down, IsIndexSet}
+use Rattle.hd_index_blocks.specs.Ways.{child_of}
+use Rattle.hd_index_blocks.specs.Changes.{Stays, LowerStay}
+use Rattle.hd_index_blocks.specs.Chains.{AreLevelsLinked}
+use Rattle.hd_index_blocks.specs.Parents.{ArePlaced}
+use Rattle.hd_index_blocks.specs.IndexSets.{level_in, next_in, index_blocks, top_blocks, top_level, index_entries, HasIndexSet}
+use Rattle.hd_index_blocks.specs.Needs.{is_full, full_blocks}
+use Rattle.hd_index_blocks.proofs.Levels.{nil}
+use Rattle.hd_index_blocks.proofs.Volumes.{level-of, level-kind, some-count, entries-below, none-down, top-is, tops-right}
+use Rattle.hd_index_blocks.proofs.Dividing.{topped}
+use Rattle.hd_index_blocks.proofs.Linking.{links-lower}
+use Rattle.hd_index_blocks.proofs.Parents.{index-blocks-placed}
+use Rattle.hd_index_blocks.proofs.Fullness.{same-room, full-lower, not-full}
+use Rattle.hd_index_blocks.proofs.Placing.{topped-placed}
+use Rattle.hd_index.specs.EditedBlocks.{Bears}
 use Rattle.hd_index.specs.Changes.{IsChanged}
 use Rattle.hd_index.specs.Divisions.{IsTopBegun, IsRoomMade}
 use Rattle.hd_index.proofs.Parts.{last-of-some}

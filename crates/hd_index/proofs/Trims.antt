@@ -12,24 +12,24 @@ use Rattle.hd_volume.specs.Entries.{Entry, entries_in}
 use Rattle.hd_volume.specs.Indexes.{entry_room, keys_ascend, IsAmong}
 use Rattle.hd_volume.proofs.FrameLemmas.{AreSame}
 use Rattle.hd_volume.proofs.JoinLemmas.{AreOne, one-spare}
-use Rattle.hd_levels.specs.Maps.{address_of, without_key}
-use Rattle.hd_levels.specs.Levels.{IndexBlocks, across, named, entries_below, IsIndexSet}
-use Rattle.hd_levels.specs.Ways.{IsNamed}
-use Rattle.hd_levels.specs.Chains.{AreLevelsLinked}
-use Rattle.hd_levels.specs.Neighbours.{last_of, last_child}
-use Rattle.hd_levels.specs.IndexSets.{level_in, next_in, index_blocks, top_blocks, top_level, index_entries, HasIndexSet}
-use Rattle.hd_levels.proofs.Keys.{ascend-parts}
-use Rattle.hd_levels.proofs.Levels.{named-append, on-parts, set-level, entries-append}
-use Rattle.hd_levels.proofs.Sets.{set-ascends}
-use Rattle.hd_levels.proofs.Descents.{around-down, around-answers, names-about}
-use Rattle.hd_levels.proofs.Downs.{among-parts, among-left, among-right, of-level, level-is}
-use Rattle.hd_levels.proofs.Neighbours.{left-named}
-use Rattle.hd_levels.proofs.Volumes.{entries-below, level-of, level-kind, top-is}
-use Rattle.hd_levels.proofs.Parents.{index-blocks-placed}
-use Rattle.hd_index_edits.specs.Blocks.{level_of, without_entry_at}
-use Rattle.hd_index_edits.specs.Edits.{HasNewEntries, IsEntryRemoved}
-use Rattle.hd_index_edits.proofs.EditLemmas.{one-block-at}
-use Rattle.hd_index_edits.proofs.StepLemmas.{change-join, edit-step}
+use Rattle.hd_index_blocks.specs.Maps.{address_of, without_key}
+use Rattle.hd_index_blocks.specs.Levels.{IndexBlocks, across, named, entries_below, IsIndexSet}
+use Rattle.hd_index_blocks.specs.Ways.{IsNamed}
+use Rattle.hd_index_blocks.specs.Chains.{AreLevelsLinked}
+use Rattle.hd_index_blocks.specs.Neighbours.{last_of, last_child}
+use Rattle.hd_index_blocks.specs.IndexSets.{level_in, next_in, index_blocks, top_blocks, top_level, index_entries, HasIndexSet}
+use Rattle.hd_index_blocks.proofs.Keys.{ascend-parts}
+use Rattle.hd_index_blocks.proofs.Levels.{named-append, on-parts, set-level, entries-append}
+use Rattle.hd_index_blocks.proofs.Sets.{set-ascends}
+use Rattle.hd_index_blocks.proofs.Descents.{around-down, around-answers, names-about}
+use Rattle.hd_index_blocks.proofs.Downs.{among-parts, among-left, among-right, of-level, level-is}
+use Rattle.hd_index_blocks.proofs.Neighbours.{left-named}
+use Rattle.hd_index_blocks.proofs.Volumes.{entries-below, level-of, level-kind, top-is}
+use Rattle.hd_index_blocks.proofs.Parents.{index-blocks-placed}
+use Rattle.hd_index.specs.EditedBlocks.{level_of, without_entry_at}
+use Rattle.hd_index.specs.Edits.{HasNewEntries, IsEntryRemoved}
+use Rattle.hd_index.proofs.EditLemmas.{one-block-at}
+use Rattle.hd_index.proofs.StepLemmas.{change-join, edit-step}
 use Rattle.hd_index.specs.declared.stand.Stand.{Stand}
 use Rattle.hd_index.specs.Changes.{IsChanged}
 use Rattle.hd_index.specs.Stands.{front_of}

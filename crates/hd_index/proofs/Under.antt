@@ -5,12 +5,12 @@ use Rattle.hd_bytes.specs.Numbers.{number_at}
 use Rattle.hd_volume.specs.Headers.{Header, header_of}
 use Rattle.hd_volume.specs.Volumes.{VolumeState, block_at, IsKind, IsFormatted}
 use Rattle.hd_volume.specs.Entries.{Entry, entries_in}
-use Rattle.hd_entries.proofs.BlockLemmas.{length-entries}
-use Rattle.hd_index_edits.specs.Blocks.{level_of, with_entry_at, with_key_at, IsLevelBlock, IsIndexBlock, Bears}
-use Rattle.hd_index_edits.specs.Edits.{HasNewEntries, IsHalved}
-use Rattle.hd_index_edits.proofs.StepLemmas.{change-join, edit-step, same-level-block, own-level, bears-kept}
-use Rattle.hd_index.specs.declared.dividing.Lead.{Lead}
-use Rattle.hd_index.specs.declared.dividing.Cut.{Cut}
+use Rattle.hd_index_blocks.proofs.BlockLemmas.{length-entries}
+use Rattle.hd_index.specs.EditedBlocks.{level_of, with_entry_at, with_key_at, IsLevelBlock, IsIndexBlock, Bears}
+use Rattle.hd_index.specs.Edits.{HasNewEntries, IsHalved}
+use Rattle.hd_index.proofs.StepLemmas.{change-join, edit-step, same-level-block, own-level, bears-kept}
+use Rattle.hd_index.specs.declared.divisions.Lead.{Lead}
+use Rattle.hd_index.specs.declared.divisions.Cut.{Cut}
 use Rattle.hd_index.specs.Divisions.{IsEntryAt, IsDividedUnder}
 use Rattle.hd_index.proofs.Parts.{with-key-parts, put-behind, length-with-key}
 

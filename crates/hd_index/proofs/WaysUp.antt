@@ -3,19 +3,19 @@ use Rattle.std.proofs.Common.{◌≡◌, ◌≢◌, ◌⊎◌, inl, inr, ℕ, ze
 use Rattle.std.specs.Prelude.{bytes_eq}
 use Rattle.hd_volume.specs.Entries.{Entry}
 use Rattle.hd_volume.specs.Indexes.{is_below_first, keys_ascend, IsAmong}
-use Rattle.hd_levels.specs.Maps.{address_of}
-use Rattle.hd_levels.specs.Levels.{IndexBlocks, across, named, sequence_set, entries_below, AreBelow, IsIndexSet}
-use Rattle.hd_levels.specs.Ways.{child_of, IsAround, IsNamed}
-use Rattle.hd_levels.specs.Changes.{IsLeft, entry_left, IsWayUp}
-use Rattle.hd_levels.specs.Chains.{first_of, AreLevelsLinked}
-use Rattle.hd_levels.specs.Linking.{IsRelinked}
-use Rattle.hd_levels.specs.Neighbours.{last_of, last_child}
-use Rattle.hd_levels.proofs.Keys.{not-less, first-less, ascend-parts, ascend-above, address-behind, address-above}
-use Rattle.hd_levels.proofs.Levels.{on-parts, set-level}
-use Rattle.hd_levels.proofs.Descents.{around-down, names-about, top-around}
-use Rattle.hd_levels.proofs.Downs.{among-parts, among-left, among-right, of-level}
-use Rattle.hd_levels.proofs.Neighbours.{left-named}
-use Rattle.hd_levels.proofs.Unlinking.{levels-linked}
+use Rattle.hd_index_blocks.specs.Maps.{address_of}
+use Rattle.hd_index_blocks.specs.Levels.{IndexBlocks, across, named, sequence_set, entries_below, AreBelow, IsIndexSet}
+use Rattle.hd_index_blocks.specs.Ways.{child_of, IsAround, IsNamed}
+use Rattle.hd_index_blocks.specs.Changes.{IsLeft, entry_left, IsWayUp}
+use Rattle.hd_index_blocks.specs.Chains.{first_of, AreLevelsLinked}
+use Rattle.hd_index_blocks.specs.Linking.{IsRelinked}
+use Rattle.hd_index_blocks.specs.Neighbours.{last_of, last_child}
+use Rattle.hd_index_blocks.proofs.Keys.{not-less, first-less, ascend-parts, ascend-above, address-behind, address-above}
+use Rattle.hd_index_blocks.proofs.Levels.{on-parts, set-level}
+use Rattle.hd_index_blocks.proofs.Descents.{around-down, names-about, top-around}
+use Rattle.hd_index_blocks.proofs.Downs.{among-parts, among-left, among-right, of-level}
+use Rattle.hd_index_blocks.proofs.Neighbours.{left-named}
+use Rattle.hd_index_blocks.proofs.Unlinking.{levels-linked}
 use Rattle.hd_index.specs.declared.stand.Stand.{Stand}
 use Rattle.hd_index.specs.Stands.{front_of}
 use Rattle.hd_index.specs.Removals.{IsThin, IsStepUp, IsLinkedWay, IsOnWay}

@@ -5,9 +5,9 @@ use Rattle.hd_volume.specs.Headers.{header_of}
 use Rattle.hd_volume.specs.Rooms.{spare}
 use Rattle.hd_volume.specs.Volumes.{VolumeState, block_at, IsKind, IsFormatted}
 use Rattle.hd_volume.specs.Entries.{Entry, entries_in}
-use Rattle.hd_index_edits.specs.Blocks.{Bears}
-use Rattle.hd_index_edits.specs.Changes.{IsIndexChange}
-use Rattle.hd_index.specs.declared.dividing.Lead.{Lead}
+use Rattle.hd_index.specs.EditedBlocks.{Bears}
+use Rattle.hd_index.specs.BlockChanges.{IsIndexChange}
+use Rattle.hd_index.specs.declared.divisions.Lead.{Lead}
 
 -- A new block with one entry stands behind the block of the sequence set that an entry of block p names: p has an entry for each of the two, the
 -- first with the last key of the old block.

@@ -7,9 +7,9 @@ use Rattle.hd_volume.specs.Rooms.{spare}
 use Rattle.hd_volume.specs.Volumes.{VolumeState}
 use Rattle.hd_volume.specs.Entries.{Entry}
 use Rattle.hd_volume.specs.Indexes.{root_key_length}
-use Rattle.hd_levels.specs.IndexSets.{index_entries, HasIndexSet}
-use Rattle.hd_levels.specs.Maps.{with_entry, without_key, with_address}
-pub use Rattle.hd_index_edits.specs.Changes.{IsIndexChange}
+use Rattle.hd_index_blocks.specs.IndexSets.{index_entries, HasIndexSet}
+use Rattle.hd_index_blocks.specs.Maps.{with_entry, without_key, with_address}
+pub use Rattle.hd_index.specs.BlockChanges.{IsIndexChange}
 
 -- The volume is of version 2 or later: its index, if it has one, is an index set.
 abbrev pub IsLater : VolumeState → Type 0

@@ -4,12 +4,12 @@ use Rattle.hd_volume.specs.Headers.{header_of}
 use Rattle.hd_volume.specs.Volumes.{VolumeState}
 use Rattle.hd_volume.specs.Entries.{Entry}
 use Rattle.hd_volume.specs.Indexes.{key_less}
-use Rattle.hd_levels.specs.Maps.{address_of, greatest_below}
-use Rattle.hd_levels.specs.Levels.{entries_below}
-use Rattle.hd_levels.specs.Ways.{child_of, leaf_of, IsAround, IsWayDown}
-use Rattle.hd_levels.specs.IndexSets.{index_blocks, top_level, index_entries, HasIndexSet}
-use Rattle.hd_levels.specs.Needs.{needed_by}
-use Rattle.hd_index_edits.specs.Edits.{IsKeyChanged}
+use Rattle.hd_index_blocks.specs.Maps.{address_of, greatest_below}
+use Rattle.hd_index_blocks.specs.Levels.{entries_below}
+use Rattle.hd_index_blocks.specs.Ways.{child_of, leaf_of, IsAround, IsWayDown}
+use Rattle.hd_index_blocks.specs.IndexSets.{index_blocks, top_level, index_entries, HasIndexSet}
+use Rattle.hd_index_blocks.specs.Needs.{needed_by}
+use Rattle.hd_index.specs.Edits.{IsKeyChanged}
 use Rattle.hd_index.specs.declared.enter.Turn.{Turn}
 use Rattle.hd_index.specs.Changes.{IsChanged}
 

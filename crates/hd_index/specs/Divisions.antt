@@ -6,18 +6,18 @@ use Rattle.hd_volume.specs.Headers.{header_of}
 use Rattle.hd_volume.specs.Rooms.{spare}
 use Rattle.hd_volume.specs.Volumes.{VolumeState, block_at, IsKind, IsFormatted}
 use Rattle.hd_volume.specs.Entries.{entries_in}
-use Rattle.hd_entries.specs.Fields.{below_count}
+use Rattle.hd_index_blocks.specs.Fields.{below_count}
 use Rattle.hd_volume.specs.Indexes.{entry_room}
-use Rattle.hd_levels.specs.Ways.{leaf_of}
-use Rattle.hd_levels.specs.IndexSets.{index_blocks, top_level, index_entries}
-use Rattle.hd_levels.specs.Needs.{is_full, needed_by}
-use Rattle.hd_levels.specs.VolumeLaws.{IsRightBlock}
-use Rattle.hd_index_edits.specs.Blocks.{Bears}
-use Rattle.hd_index_edits.specs.Changes.{IsIndexChange}
+use Rattle.hd_index_blocks.specs.Ways.{leaf_of}
+use Rattle.hd_index_blocks.specs.IndexSets.{index_blocks, top_level, index_entries}
+use Rattle.hd_index_blocks.specs.Needs.{is_full, needed_by}
+use Rattle.hd_index_blocks.specs.VolumeLaws.{IsRightBlock}
+use Rattle.hd_index.specs.EditedBlocks.{Bears}
+use Rattle.hd_index.specs.BlockChanges.{IsIndexChange}
 use Rattle.hd_index.specs.Blocks.{full_down}
 use Rattle.hd_index.specs.Changes.{IsChanged}
-use Rattle.hd_index.specs.declared.dividing.Lead.{Lead}
-use Rattle.hd_index.specs.declared.dividing.Cut.{Cut}
+use Rattle.hd_index.specs.declared.divisions.Lead.{Lead}
+use Rattle.hd_index.specs.declared.divisions.Cut.{Cut}
 
 -- Block p of the level above one, so many steps down from the top where a key leads, has room, and all below it where the key leads are full.
 pub record IsLowestRoom (key_length : ℕ) (v : VolumeState) (by : List ℕ) (l p : ℕ) : Type 0 where

@@ -2,9 +2,9 @@
 use Rattle.std.specs.Prelude.{◌≡◌, ◌≢◌, ℕ, Bool, cond, List, Option, Some, None, take}
 use Rattle.std.specs.Option.{option_map_or}
 use Rattle.hd_volume.specs.Volumes.{VolumeState}
-use Rattle.hd_volume.specs.Entries.{Entry}
-use Rattle.hd_levels.specs.Maps.{greatest_below, last_key}
-use Rattle.hd_levels.specs.IndexSets.{index_entries}
+use Rattle.hd_volume.specs.Entries.{Entry, entries_in}
+use Rattle.hd_index_blocks.specs.Maps.{greatest_below, last_key}
+use Rattle.hd_index_blocks.specs.IndexSets.{index_entries}
 use Rattle.hd_index.specs.Blocks.{leaf_at}
 
 -- some bytes with a key at their front, where one was found; else none
@@ -30,3 +30,7 @@ IsGreatestBelow key_length v key found = option_map_or (take key_length) found k
 -- Block n, if it is not 0, is the one of the sequence set that a key leads to.
 abbrev pub IsKnownLeaf : ℕ → VolumeState → List ℕ → ℕ → Type 0
 IsKnownLeaf key_length v key n = n ≢ 0 → n ≡ leaf_at key_length v key
+
+-- This is the greatest key below a key in the bytes of a block, if there is one.
+abbrev pub IsGreatestIn : ℕ → Option (List ℕ) → List ℕ → List ℕ → Type 0
+IsGreatestIn key_length found key bytes = IsGreatestOf key_length found key (entries_in key_length bytes)

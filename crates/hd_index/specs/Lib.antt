@@ -1,3 +1,6 @@
+pub mod EditedBlocks
+pub mod BlockChanges
+pub mod Edits
 pub mod Maps
 pub mod Places
 pub mod Blocks

@@ -1,5 +1,5 @@
 -- Blocks that go from an index set with an entry, and what is left.
-use Rattle.std.specs.Prelude.{◌≡◌, ◌≢◌, ◌⊎◌, ℕ, zero, suc, ◌<◌, ◌≤◌, List, [], ◌∷◌, ◌++◌, length, Some}
+use Rattle.std.specs.Prelude.{◌≡◌, ◌≢◌, ◌⊎◌, ℕ, zero, suc, ◌<◌, ◌≤◌, List, [], ◌∷◌, ◌++◌, length, Some, cond, nat_lt}
 use Rattle.hd_bytes.specs.Numbers.{number_at}
 use Rattle.hd_bytes.specs.Blocks.{HasBlock}
 use Rattle.hd_volume.specs.Headers.{header_of}
@@ -7,20 +7,22 @@ use Rattle.hd_volume.specs.Volumes.{VolumeState, block_at, IsKind, IsFormatted}
 use Rattle.hd_volume.specs.Rooms.{spare}
 use Rattle.hd_volume.specs.Entries.{Entry, entries_in}
 use Rattle.hd_volume.specs.Indexes.{entry_room, IsAmong}
-use Rattle.hd_levels.specs.Levels.{IndexBlocks, named, sequence_set, entries_below, IsIndexSet}
-use Rattle.hd_levels.specs.Ways.{child_of, IsAround, IsNamed}
-use Rattle.hd_levels.specs.Changes.{OthersStay, IsLeft, entry_left}
-use Rattle.hd_levels.specs.Chains.{IsLinked, first_of, AreLevelsLinked}
-use Rattle.hd_levels.specs.Linking.{IsRelinked}
-use Rattle.hd_levels.specs.Neighbours.{last_of, last_child}
-use Rattle.hd_levels.specs.Parents.{HasParent}
-use Rattle.hd_levels.specs.IndexSets.{level_in, next_in, index_blocks, top_blocks, top_level, IsHeightRight, HasIndexSet}
-use Rattle.hd_index_edits.specs.Blocks.{level_of, Bears}
-use Rattle.hd_index_edits.specs.Changes.{IsIndexChange}
+use Rattle.hd_index_blocks.specs.Levels.{IndexBlocks, named, sequence_set, entries_below, IsIndexSet}
+use Rattle.hd_index_blocks.specs.Ways.{child_of, IsAround, IsNamed}
+use Rattle.hd_index_blocks.specs.Changes.{OthersStay, IsLeft, entry_left}
+use Rattle.hd_index_blocks.specs.Chains.{IsLinked, first_of, AreLevelsLinked}
+use Rattle.hd_index_blocks.specs.Linking.{IsRelinked}
+use Rattle.hd_index_blocks.specs.Neighbours.{last_of, last_child}
+use Rattle.hd_index_blocks.specs.Parents.{HasParent}
+use Rattle.hd_index_blocks.specs.IndexSets.{level_in, next_in, index_blocks, top_blocks, top_level, IsHeightRight, HasIndexSet}
+use Rattle.hd_index.specs.EditedBlocks.{level_of, Bears}
+use Rattle.hd_index.specs.BlockChanges.{IsIndexChange}
 use Rattle.hd_index.specs.declared.stand.Stand.{Stand}
 use Rattle.hd_index.specs.declared.way.Fork.{Fork}
 use Rattle.hd_index.specs.declared.way.Way.{Way}
 use Rattle.hd_index.specs.Stands.{front_of}
+use Rattle.hd_index.specs.Changes.{IsKeyRemoved}
+use Rattle.hd_index.specs.Blocks.{entries_of}
 
 -- ---- a step down
 
@@ -152,3 +154,16 @@ pub record IsCut (key_length : ℕ) (old : VolumeState) (gone : Entry) (kept_top
 -- So it is cut off of some index set.
 abbrev pub IsCutOff : ℕ → VolumeState → ℕ → Stand → Type 0
 IsCutOff key_length v l stand = (old : VolumeState) × (gone : Entry) × (kept_top : List ℕ) × IsCut key_length old gone kept_top v l stand
+
+-- Whatever index set was left without its last entry of a key, it has the key no more.
+abbrev pub RemovesCut : ℕ → VolumeState → ℕ → Stand → VolumeState → Type 0
+RemovesCut key_length v levels start new =
+    (old : VolumeState) (gone : Entry) (kept_top : List ℕ) → IsCut key_length old gone kept_top v levels start → IsKeyRemoved key_length old gone.key new
+
+-- the lower of a fork above a block and the block, where that has more than one entry
+abbrev pub lower_fork_of : ℕ → VolumeState → Fork → ℕ → Stand → Fork
+lower_fork_of key_length v above level stand = cond (nat_lt 1 (length (entries_of key_length v stand.block))) (record { level = level; stand = stand }) above
+
+-- the fact holds where a block is on the way of a key, so many levels above the sequence set of an index set
+abbrev pub IfOnWay : ℕ → VolumeState → List ℕ → ℕ → Stand → Type 0 → Type 0
+IfOnWay key_length v key levels start fact = HasIndexSet key_length v → IsOnWayIn key_length v key levels start → fact

@@ -2,9 +2,9 @@
 use Rattle.std.specs.Prelude.{◌≡◌, ◌≢◌, ℕ, List, length, None}
 use Rattle.hd_volume.specs.Volumes.{VolumeState, block_at}
 use Rattle.hd_volume.specs.Entries.{Entry, entries_in}
-use Rattle.hd_levels.specs.Maps.{address_of, address_from, with_address}
-use Rattle.hd_levels.specs.IndexSets.{index_entries}
-use Rattle.hd_index_edits.specs.Blocks.{with_address_at}
+use Rattle.hd_index_blocks.specs.Maps.{address_of, address_from, with_address}
+use Rattle.hd_index_blocks.specs.IndexSets.{index_entries}
+use Rattle.hd_index.specs.EditedBlocks.{with_address_at}
 use Rattle.hd_index.specs.declared.look.Sight.{Sight}
 use Rattle.hd_index.specs.declared.address.Place.{Place}
 use Rattle.hd_index.specs.Blocks.{IsInOrder}

@@ -3,10 +3,10 @@ use Rattle.std.specs.Prelude.{◌≡◌, ℕ, cond, List, [], ◌∷◌, ◌++�
 use Rattle.hd_volume.specs.Volumes.{VolumeState}
 use Rattle.hd_volume.specs.Entries.{Entry}
 use Rattle.hd_volume.specs.Indexes.{key_less}
-use Rattle.hd_levels.specs.Levels.{sequence_set}
-use Rattle.hd_levels.specs.Ways.{IsAround}
-use Rattle.hd_levels.specs.Neighbours.{last_of}
-use Rattle.hd_levels.specs.IndexSets.{index_blocks, sequence_blocks}
+use Rattle.hd_index_blocks.specs.Levels.{sequence_set}
+use Rattle.hd_index_blocks.specs.Ways.{IsAround}
+use Rattle.hd_index_blocks.specs.Neighbours.{last_of}
+use Rattle.hd_index_blocks.specs.IndexSets.{index_blocks, sequence_blocks, HasIndexSet}
 use Rattle.hd_index.specs.declared.stand.Stand.{Stand}
 
 -- the entries before the one that a key leads to: the first whose key is not below it, or the last
@@ -23,3 +23,7 @@ pub record IsStand (key_length : ℕ) (v : VolumeState) (key : List ℕ) (l : �
   pub around : IsAround (index_blocks key_length v) key l before stand.block behind
   pub left_is : stand.left ≡ last_of 0 before
   pub whole : sequence_set (index_blocks key_length v) l (before ++ (stand.block ∷ behind)) ≡ sequence_blocks key_length v
+
+-- the fact holds where a walk stands at a block of the sequence set of an index set, about a key
+abbrev pub IfAbout : ℕ → VolumeState → List ℕ → Stand → Type 0 → Type 0
+IfAbout key_length v key stand fact = HasIndexSet key_length v → IsStand key_length v key 0 stand → fact

@@ -5,20 +5,21 @@ ghost use Rattle.hd_volume.specs.Rooms.{spare};
 ghost use Rattle.hd_volume.specs.Volumes.{block_at};
 ghost use Rattle.hd_volume.specs.Calls.{IsCall, IsRead};
 ghost use Rattle.hd_volume.specs.Entries.{entries_in};
-ghost use Rattle.hd_entries.specs.Fields.{entry_place};
-ghost use Rattle.hd_entries.specs.Searches.{IfInOrder};
-ghost use Rattle.hd_levels.specs.Maps.{address_of, with_address};
-ghost use Rattle.hd_levels.specs.IndexSets.{HasIndexSet};
-ghost use Rattle.hd_index.specs.Blocks.{IsInOrder};
+ghost use Rattle.hd_index_blocks.specs.Fields.{entry_place};
+ghost use Rattle.hd_index_blocks.specs.Searches.{IfInOrder};
+ghost use Rattle.hd_index_blocks.specs.Maps.{address_of, with_address};
+ghost use Rattle.hd_index_blocks.specs.IndexSets.{HasIndexSet};
+ghost use Rattle.hd_index.specs.Blocks.{IsInOrder, entries_of};
 ghost use Rattle.hd_index.specs.Changes.{IsIndexOf, entries_for, IsIndexChange, IsKeySet, WhereSound};
 ghost use Rattle.hd_index.specs.Searches.{IsPlaceOf};
 
 use crate::descend::leaf;
+use crate::edit::set_entry_address;
 use crate::look::has_block;
 use hd_dbd::{Dbd, Refused};
-use hd_entries::{IndexBlock, root_key_length};
-use hd_index_edits::set_entry_address;
-use hd_volume::{BlockStore, Volume};
+use hd_index_blocks::{IndexBlock, root_key_length};
+use hd_stores::BlockStore;
+use hd_volume::Volume;
 
 /// Where the entry of a key stands in its block: at an index, of so many.
 #[derive(Clone, Copy, Debug)]
@@ -98,7 +99,7 @@ fn place_at<S: BlockStore>(
     requires short { key_length ≤ 255 }
     ensures read { IsRead volume.old result volume.new }
     ensures none { WhereSound volume.old result (λ found. IsInOrder key_length volume.old n → found ≡ None → address_of key.now (entries_in key_length (block_at volume.old n)) ≡ None) }
-    ensures place { IfOk result (λ found. IfSome found (λ place. IsTrue volume.old.is_sound → IsInOrder key_length volume.old n → IsPlaceOf key.now (entries_in key_length (block_at volume.old n)) place)) }
+    ensures place { IfOk result (λ found. IfSome found (λ place. IsTrue volume.old.is_sound → IsInOrder key_length volume.old n → IsPlaceOf key.now (entries_of key_length volume.old n) place)) }
     ensures within { IfOk result (λ found. IfSome found (λ place. place.index < place.count)) }
     ensures small { IfOk result (λ found. IfSome found (λ place. place.count ≤ 65535)) }
     ensures fits { IfOk result (λ found. IfSome found (λ place. entry_place key_length place.count ≤ volume.old.size)) }

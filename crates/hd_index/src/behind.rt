@@ -4,26 +4,28 @@ ghost use Rattle.hd_volume.specs.Headers.{header_of};
 ghost use Rattle.hd_volume.specs.Volumes.{IsFormatted, block_at};
 ghost use Rattle.hd_volume.specs.Calls.{IsCall};
 ghost use Rattle.hd_volume.specs.Indexes.{entry_room};
-ghost use Rattle.hd_entries.specs.Fields.{entry_place};
-ghost use Rattle.hd_levels.specs.Maps.{address_of, greatest_below};
-ghost use Rattle.hd_levels.specs.Levels.{AreBelow};
-ghost use Rattle.hd_levels.specs.IndexSets.{index_entries, HasIndexSet};
-ghost use Rattle.hd_levels.specs.Needs.{needed_by};
-ghost use Rattle.hd_index_edits.specs.Blocks.{IsLevelBlock};
-ghost use Rattle.hd_index_edits.specs.Edits.{IsBegun, IsRefused};
+ghost use Rattle.hd_index_blocks.specs.Fields.{entry_place};
+ghost use Rattle.hd_index_blocks.specs.Maps.{address_of, greatest_below};
+ghost use Rattle.hd_index_blocks.specs.Levels.{AreBelow};
+ghost use Rattle.hd_index_blocks.specs.IndexSets.{index_entries, HasIndexSet};
+ghost use Rattle.hd_index_blocks.specs.Needs.{needed_by};
+ghost use Rattle.hd_index.specs.EditedBlocks.{IsLevelBlock};
+ghost use Rattle.hd_index.specs.Edits.{IsBegun, IsRefused};
 ghost use Rattle.hd_index.specs.Changes.{IsKeyEntered};
 ghost use Rattle.hd_index.specs.Comings.{MayCome};
 ghost use Rattle.hd_index.specs.Divisions.{IsEntryAt, IsLowestRoom};
 ghost use Rattle.hd_index.specs.Rooms.{IsReady};
 ghost use Rattle.hd_index.specs.Behind.{IsHungBehind};
 
+use crate::begin::begin_block;
 use crate::descend::{MOST_LEVELS, descend};
-use crate::dividing::{Lead, front_of, lead_of};
+use crate::divisions::{Lead, front_of, lead_of};
+use crate::edit::{add_entry, set_entry_key, set_next};
 use crate::enter::come_down;
 use hd_dbd::Refused;
-use hd_entries::entry_room;
-use hd_index_edits::{add_entry, begin_block, set_entry_key, set_next};
-use hd_volume::{BlockStore, Volume};
+use hd_index_blocks::entry_room;
+use hd_stores::BlockStore;
+use hd_volume::Volume;
 
 /// Begins a last block of the sequence set, with one entry, and notes it: the next new key may come there too.
 fn begin_last<S: BlockStore>(

@@ -1,14 +1,14 @@
-ghost use Rattle.std.specs.Prelude.{◌≡◌, ◌+◌, ◌≤◌, ℕ, IsTrue, IfOk};
+ghost use Rattle.std.specs.Prelude.{◌≡◌, ◌≤◌, IsTrue, IfOk};
 ghost use Rattle.hd_dbd.specs.Refusals.{OnlyDevice};
 ghost use Rattle.hd_volume.specs.Calls.{IsRead};
-ghost use Rattle.hd_levels.specs.IndexSets.{HasIndexSet};
-ghost use Rattle.hd_levels.specs.VolumeLaws.{IsRightBlock};
-ghost use Rattle.hd_index.specs.Blocks.{leaf_at, IsLeadDown};
+ghost use Rattle.hd_index_blocks.specs.IndexSets.{HasIndexSet};
+ghost use Rattle.hd_index.specs.Blocks.{leaf_at, LeadsDown};
 ghost use Rattle.hd_index.specs.Changes.{WhereSound};
 
 use crate::look::child;
 use hd_dbd::Refused;
-use hd_volume::{BlockStore, Volume};
+use hd_stores::BlockStore;
+use hd_volume::Volume;
 
 /// An index has at most so many levels.
 pub const MOST_LEVELS: u32 = 64;
@@ -23,7 +23,7 @@ pub fn descend<S: BlockStore>(
 ) -> Result<u32, Refused>
     requires short { key_length ≤ 255 }
     ensures read { IsRead volume.old result volume.new }
-    ensures value { WhereSound volume.old result (λ m. HasIndexSet key_length volume.old → (l : ℕ) → IsRightBlock key_length volume.old (levels + l) n → IsLeadDown key_length volume.old key.now levels l n m) }
+    ensures value { WhereSound volume.old result (λ m. HasIndexSet key_length volume.old → LeadsDown key_length volume.old key.now levels n m) }
     ensures refusal { OnlyDevice result }
 {
     let mut below = n;

@@ -4,22 +4,23 @@ ghost use Rattle.hd_dbd.specs.Refusals.{OnlyDevice};
 ghost use Rattle.hd_volume.specs.Volumes.{block_at, IsKind, IsFormatted};
 ghost use Rattle.hd_volume.specs.Calls.{IsCall, IsRead};
 ghost use Rattle.hd_volume.specs.Entries.{entries_in};
-ghost use Rattle.hd_entries.specs.Fields.{entry_place, below_count, CountFits};
-ghost use Rattle.hd_entries.specs.Searches.{IfInOrder};
-ghost use Rattle.hd_levels.specs.Maps.{address_of, greatest_below};
-ghost use Rattle.hd_levels.specs.IndexSets.{index_entries, HasIndexSet};
-ghost use Rattle.hd_levels.specs.Needs.{needed_by};
-ghost use Rattle.hd_index_edits.specs.Blocks.{IsIndexBlock};
+ghost use Rattle.hd_index_blocks.specs.Fields.{entry_place, below_count, CountFits};
+ghost use Rattle.hd_index_blocks.specs.Searches.{IfInOrder};
+ghost use Rattle.hd_index_blocks.specs.Maps.{address_of, greatest_below};
+ghost use Rattle.hd_index_blocks.specs.IndexSets.{index_entries, HasIndexSet};
+ghost use Rattle.hd_index_blocks.specs.Needs.{needed_by};
+ghost use Rattle.hd_index.specs.EditedBlocks.{IsIndexBlock};
 ghost use Rattle.hd_index.specs.Blocks.{IsInOrder, OfSomeInOrder};
 ghost use Rattle.hd_index.specs.Changes.{IsKeyEntered, WhereSound};
 ghost use Rattle.hd_index.specs.Comings.{MayCome, WhereNoneIsNeeded, HasComeTo, IsTurnOf, IsRaised};
 
 use crate::descend::MOST_LEVELS;
+use crate::edit::{add_entry, set_entry_key};
 use crate::look::has_block;
 use hd_dbd::{Refused, compare_keys};
-use hd_entries::{IndexBlock, entry_room};
-use hd_index_edits::{add_entry, set_entry_key};
-use hd_volume::{BlockStore, Volume};
+use hd_index_blocks::{IndexBlock, entry_room};
+use hd_stores::BlockStore;
+use hd_volume::Volume;
 
 /// Where a key leads in an upper block: the entry at an index, of so many, the block that it names, and whether its key is below a
 /// new one.

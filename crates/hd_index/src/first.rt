@@ -2,15 +2,16 @@ ghost use Rattle.std.specs.Prelude.{◌≡◌, ◌+◌, ◌≤◌, ◌∷◌, []
 ghost use Rattle.hd_volume.specs.Headers.{header_of};
 ghost use Rattle.hd_volume.specs.Volumes.{IsFormatted};
 ghost use Rattle.hd_volume.specs.Calls.{IsCall};
-ghost use Rattle.hd_entries.specs.Fields.{entry_place};
-ghost use Rattle.hd_levels.specs.IndexSets.{HasIndexSet};
-ghost use Rattle.hd_index_edits.specs.Edits.{IsRefused};
+ghost use Rattle.hd_index_blocks.specs.Fields.{entry_place};
+ghost use Rattle.hd_index_blocks.specs.IndexSets.{HasIndexSet};
+ghost use Rattle.hd_index.specs.Edits.{IsRefused};
 ghost use Rattle.hd_index.specs.Changes.{IsChanged};
 ghost use Rattle.hd_index.specs.Divisions.{IsTopBegun};
 
+use crate::begin::begin_block;
 use hd_dbd::Refused;
-use hd_index_edits::begin_block;
-use hd_volume::{BlockStore, Volume};
+use hd_stores::BlockStore;
+use hd_volume::Volume;
 
 /// Takes a new block of a level, with one entry, and makes it the top.
 pub fn begin_top<S: BlockStore>(

@@ -5,20 +5,21 @@ ghost use Rattle.hd_dbd.specs.Refusals.{OnlyDevice};
 ghost use Rattle.hd_volume.specs.Volumes.{block_at};
 ghost use Rattle.hd_volume.specs.Calls.{IsRead};
 ghost use Rattle.hd_volume.specs.Entries.{entries_in};
-ghost use Rattle.hd_entries.specs.Fields.{entry_count, entry_place, CountFits};
-ghost use Rattle.hd_entries.specs.Searches.{IfInOrder};
-ghost use Rattle.hd_levels.specs.IndexSets.{HasIndexSet};
-ghost use Rattle.hd_index.specs.Blocks.{IsInOrder};
-ghost use Rattle.hd_index.specs.Greatest.{IsLastOf, IsGreatestOf, IsGreatestBelow, IsKnownLeaf, found_key, lower_key};
-ghost use Rattle.hd_index.specs.Stands.{IsStand};
+ghost use Rattle.hd_index_blocks.specs.Fields.{entry_count, entry_place, CountFits};
+ghost use Rattle.hd_index_blocks.specs.Searches.{IfInOrder};
+ghost use Rattle.hd_index_blocks.specs.IndexSets.{HasIndexSet};
+ghost use Rattle.hd_index.specs.Blocks.{IsInOrder, entries_of};
+ghost use Rattle.hd_index.specs.Greatest.{IsLastOf, IsGreatestOf, IsGreatestBelow, IsKnownLeaf, found_key, lower_key, IsGreatestIn};
+ghost use Rattle.hd_index.specs.Stands.{IfAbout};
 ghost use Rattle.hd_index.specs.Changes.{WhereSound};
 
 use crate::descend::MOST_LEVELS;
 use crate::look::has_block;
 use crate::stand::{Stand, walk_down};
 use hd_dbd::Refused;
-use hd_entries::{FIRST, IndexBlock};
-use hd_volume::{BlockStore, INDEX, Volume};
+use hd_index_blocks::{FIRST, IndexBlock};
+use hd_stores::BlockStore;
+use hd_volume::{INDEX, Volume};
 
 /// Whether the index has a key below another, and the block of the sequence set that the greatest of those leads to, 0 where that is not
 /// known.
@@ -71,7 +72,7 @@ fn copy_key_before(block: &IndexBlock, index: usize, found: &mut [u8; 255]) -> b
 
 /// Copies the greatest key below a key among those of the entries to the front of some bytes, and says whether there is one.
 fn copy_greatest(block: &IndexBlock, key: &[u8], found: &mut [u8; 255]) -> bool
-    ensures { IfInOrder block.now.key_length block.now.bytes.now (IsGreatestOf block.now.key_length (found_key result found.new) key.now (entries_in block.now.key_length block.now.bytes.now)) }
+    ensures { IfInOrder block.now.key_length block.now.bytes.now (IsGreatestIn block.now.key_length (found_key result found.new) key.now block.now.bytes.now) }
 {
     copy_key_before(block, block.place_of(key), found)
 }
@@ -95,7 +96,7 @@ fn is_last(block: &IndexBlock) -> bool
 fn copy_greatest_in_last(block: &IndexBlock, key: &[u8], found: &mut [u8; 255]) -> bool
     ensures level { result ≡ true → slice_index block.now.bytes.now 3 ≡ 0 }
     ensures next { result ≡ true → number_at 4 block.now.bytes.now 8 ≡ 0 }
-    ensures key { result ≡ true → IfInOrder block.now.key_length block.now.bytes.now (IsGreatestOf block.now.key_length (found_key result found.new) key.now (entries_in block.now.key_length block.now.bytes.now)) }
+    ensures key { result ≡ true → IfInOrder block.now.key_length block.now.bytes.now (IsGreatestIn block.now.key_length (found_key result found.new) key.now block.now.bytes.now) }
 {
     is_last(block) && copy_greatest(block, key, found)
 }
@@ -110,7 +111,7 @@ fn greatest_in<S: BlockStore>(
 ) -> Result<bool, Refused>
     requires short { key_length ≤ 255 }
     ensures read { IsRead volume.old result volume.new }
-    ensures value { IfOk result (λ r. IsTrue volume.old.is_sound → IsInOrder key_length volume.old n → IsGreatestOf key_length (found_key r found.new) key.now (entries_in key_length (block_at volume.old n))) }
+    ensures value { IfOk result (λ r. IsTrue volume.old.is_sound → IsInOrder key_length volume.old n → IsGreatestOf key_length (found_key r found.new) key.now (entries_of key_length volume.old n)) }
     ensures refusal { OnlyDevice result }
 {
     if !has_block(volume, n) {
@@ -236,8 +237,8 @@ fn greatest_about<S: BlockStore>(
 ) -> Result<Lower, Refused>
     requires short { key_length ≤ 255 }
     ensures read { IsRead volume.old result volume.new }
-    ensures value { WhereSound volume.old result (λ r. HasIndexSet key_length volume.old → IsStand key_length volume.old key.now 0 stand → IsGreatestBelow key_length volume.old key.now (found_key r.is_some found.new)) }
-    ensures leaf { WhereSound volume.old result (λ r. HasIndexSet key_length volume.old → IsStand key_length volume.old key.now 0 stand → IsKnownLeaf key_length volume.old (lower_key key_length volume.old key.now) r.leaf) }
+    ensures value { WhereSound volume.old result (λ r. IfAbout key_length volume.old key.now stand (IsGreatestBelow key_length volume.old key.now (found_key r.is_some found.new))) }
+    ensures leaf { WhereSound volume.old result (λ r. IfAbout key_length volume.old key.now stand (IsKnownLeaf key_length volume.old (lower_key key_length volume.old key.now) r.leaf)) }
     ensures refusal { OnlyDevice result }
 {
     let own = greatest_in(volume, key_length, stand.block, key, found)?;

@@ -5,10 +5,10 @@ ghost use Rattle.hd_volume.specs.Rooms.{spare, free_blocks};
 ghost use Rattle.hd_volume.specs.Volumes.{IsFormatted};
 ghost use Rattle.hd_volume.specs.Calls.{IsCall};
 ghost use Rattle.hd_volume.specs.Indexes.{root_key_length};
-ghost use Rattle.hd_entries.specs.Fields.{entry_place};
-ghost use Rattle.hd_levels.specs.Maps.{address_of, greatest_below, with_entry};
-ghost use Rattle.hd_levels.specs.IndexSets.{index_entries, HasIndexSet};
-ghost use Rattle.hd_levels.specs.Needs.{entry_growth, needed_by, set_blocks_needed, IsHighest};
+ghost use Rattle.hd_index_blocks.specs.Fields.{entry_place};
+ghost use Rattle.hd_index_blocks.specs.Maps.{address_of, greatest_below, with_entry};
+ghost use Rattle.hd_index_blocks.specs.IndexSets.{index_entries, HasIndexSet};
+ghost use Rattle.hd_index_blocks.specs.Needs.{entry_growth, needed_by, set_blocks_needed, IsHighest};
 ghost use Rattle.hd_index.specs.Places.{blocks_needed};
 ghost use Rattle.hd_index.specs.Changes.{IsIndexOf, entries_for, IsIndexChange, IsChanged, IsKeyEntered};
 ghost use Rattle.hd_index.specs.Greatest.{IsKnownLeaf};
@@ -23,8 +23,9 @@ use crate::need::{key_or, needed_at};
 use crate::room::make_room;
 use crate::search::is_above_all;
 use hd_dbd::{Dbd, Refused};
-use hd_entries::root_key_length;
-use hd_volume::{BlockStore, Volume};
+use hd_index_blocks::root_key_length;
+use hd_stores::BlockStore;
+use hd_volume::Volume;
 
 /// Enters the root of a new key.
 ///

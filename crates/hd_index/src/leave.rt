@@ -6,25 +6,26 @@ ghost use Rattle.hd_volume.specs.Rooms.{spare};
 ghost use Rattle.hd_volume.specs.Volumes.{IsFormatted, block_at};
 ghost use Rattle.hd_volume.specs.Calls.{IsCall, IsRead};
 ghost use Rattle.hd_volume.specs.Entries.{entries_in};
-ghost use Rattle.hd_entries.specs.Fields.{CountFits, entry_place};
-ghost use Rattle.hd_entries.specs.Searches.{IfInOrder};
-ghost use Rattle.hd_levels.specs.Maps.{address_of, without_key};
-ghost use Rattle.hd_levels.specs.IndexSets.{index_blocks, index_entries, top_level, HasIndexSet};
-ghost use Rattle.hd_index_edits.specs.Edits.{IsEntryRemoved};
+ghost use Rattle.hd_index_blocks.specs.Fields.{CountFits, entry_place};
+ghost use Rattle.hd_index_blocks.specs.Searches.{IfInOrder};
+ghost use Rattle.hd_index_blocks.specs.Maps.{address_of, without_key};
+ghost use Rattle.hd_index_blocks.specs.IndexSets.{index_blocks, index_entries, top_level, HasIndexSet};
+ghost use Rattle.hd_index.specs.Edits.{IsEntryRemoved};
 ghost use Rattle.hd_index.specs.Blocks.{IsInOrder};
 ghost use Rattle.hd_index.specs.Changes.{IsIndexOf, entries_for, IsIndexChange, IsKeyRemoved};
 ghost use Rattle.hd_index.specs.Stands.{front_of};
 ghost use Rattle.hd_index.specs.Removals.{IsThin, IsThinBelow, IsOnWayIn, IsWay};
 
 use crate::descend::MOST_LEVELS;
+use crate::edit::remove_entry;
 use crate::look::{has_block, look};
 use crate::stand::{Stand, step_down};
 use crate::unlink::drop_way;
 use crate::way::{Fork, Way, way_down};
 use hd_dbd::{Dbd, Refused};
-use hd_entries::{FIRST, IndexBlock, root_key_length};
-use hd_index_edits::remove_entry;
-use hd_volume::{BlockStore, Volume};
+use hd_index_blocks::{FIRST, IndexBlock, root_key_length};
+use hd_stores::BlockStore;
+use hd_volume::Volume;
 
 /// Takes the root of a key out of the index; a key that it does not have leaves it as it is.
 pub fn remove<S: BlockStore>(volume: &mut Volume<S>, dbd: &Dbd, key: &[u8]) -> Result<(), Refused>

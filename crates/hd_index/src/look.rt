@@ -5,14 +5,15 @@ ghost use Rattle.hd_dbd.specs.Refusals.{OnlyDevice};
 ghost use Rattle.hd_volume.specs.Volumes.{block_at};
 ghost use Rattle.hd_volume.specs.Calls.{IsRead};
 ghost use Rattle.hd_volume.specs.Entries.{entries_in};
-ghost use Rattle.hd_entries.specs.Searches.{IfInOrder};
-ghost use Rattle.hd_levels.specs.Maps.{address_of, address_from};
-ghost use Rattle.hd_levels.specs.Ways.{child_of};
+ghost use Rattle.hd_index_blocks.specs.Searches.{IfInOrder};
+ghost use Rattle.hd_index_blocks.specs.Maps.{address_of, address_from};
+ghost use Rattle.hd_index_blocks.specs.Ways.{child_of};
 ghost use Rattle.hd_index.specs.Blocks.{IsInOrder};
 
 use hd_dbd::Refused;
-use hd_entries::{FIRST, IndexBlock};
-use hd_volume::{BlockStore, Volume};
+use hd_index_blocks::{FIRST, IndexBlock};
+use hd_stores::BlockStore;
+use hd_volume::Volume;
 
 /// What a block says of a key: the address at the key, that at the least key that is not below it, and the next block on
 /// the level, 0 for none.

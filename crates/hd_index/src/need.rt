@@ -1,16 +1,15 @@
-ghost use Rattle.std.specs.Prelude.{◌≡◌, ◌≢◌, ◌≤◌, true, false, not, ◌+◌, ◌<◌, cond, nat_le, ℕ, length, take, IsTrue, IfOk};
+ghost use Rattle.std.specs.Prelude.{◌≡◌, ◌≢◌, ◌≤◌, true, false, not, ◌+◌, ◌<◌, length, take, IsTrue, IfOk};
 ghost use Rattle.std.specs.Option.{option_map_or};
 ghost use Rattle.hd_bytes.specs.Blocks.{HasBlock};
 ghost use Rattle.hd_dbd.specs.Hierarchy.{Database};
 ghost use Rattle.hd_dbd.specs.Refusals.{OnlyDevice};
 ghost use Rattle.hd_volume.specs.Calls.{IsRead};
-ghost use Rattle.hd_volume.specs.Entries.{entries_in};
 ghost use Rattle.hd_volume.specs.Indexes.{entry_room, root_key_length};
-ghost use Rattle.hd_entries.specs.Fields.{CountFits};
-ghost use Rattle.hd_levels.specs.IndexSets.{index_blocks, HasIndexSet};
-ghost use Rattle.hd_levels.specs.Needs.{entry_growth, is_full, needed_by, set_blocks_needed, IsHighest};
-ghost use Rattle.hd_levels.specs.VolumeLaws.{IsRightBlock};
-ghost use Rattle.hd_index.specs.Blocks.{IsInOrder, full_down};
+ghost use Rattle.hd_index_blocks.specs.Fields.{CountFits};
+ghost use Rattle.hd_index_blocks.specs.IndexSets.{index_blocks, HasIndexSet};
+ghost use Rattle.hd_index_blocks.specs.Needs.{entry_growth, is_full, needed_by, set_blocks_needed, IsHighest};
+ghost use Rattle.hd_index_blocks.specs.VolumeLaws.{IsRightBlock};
+ghost use Rattle.hd_index.specs.Blocks.{IsInOrder, full_down, has_all_entries, run_with};
 ghost use Rattle.hd_index.specs.Changes.{IsIndexOf, IsLater, WhereSound};
 ghost use Rattle.hd_index.specs.Places.{blocks_needed};
 ghost use Rattle.hd_index.specs.Greatest.{IsKnownLeaf, found_key};
@@ -19,8 +18,9 @@ use crate::descend::MOST_LEVELS;
 use crate::greatest::greatest;
 use crate::look::{child, has_block};
 use hd_dbd::{Dbd, Refused};
-use hd_entries::{FIRST, IndexBlock, entry_room, root_key_length};
-use hd_volume::{BlockStore, Volume};
+use hd_index_blocks::{FIRST, IndexBlock, entry_room, root_key_length};
+use hd_stores::BlockStore;
+use hd_volume::Volume;
 
 /// Whether the index of a volume has as many levels as it may have: then an insert may be refused as `Full`, whatever is to spare.
 pub fn is_highest<S: BlockStore>(volume: &Volume<S>) -> bool
@@ -31,7 +31,7 @@ pub fn is_highest<S: BlockStore>(volume: &Volume<S>) -> bool
 }
 
 /// The blocks that an insert may need: one for each level, and a new top.
-#[tactic(auto, unfolding(hd_levels::specs::Needs::entry_growth))]
+#[tactic(auto, unfolding(hd_index_blocks::specs::Needs::entry_growth))]
 pub fn growth<S: BlockStore>(volume: &Volume<S>) -> u32
     ensures { (d : Database) → IsTrue volume.now.is_sound → IsIndexOf d volume.now → result ≡ entry_growth volume.now }
 {
@@ -170,7 +170,7 @@ fn full_blocks<S: BlockStore>(
 
 /// A block has as many entries as find room.
 fn is_full_in(block: &IndexBlock) -> bool
-    ensures { CountFits block.now.key_length block.now.bytes.now → result ≡ nat_le (entry_room block.now.key_length (length block.now.bytes.now)) (length (entries_in block.now.key_length block.now.bytes.now)) }
+    ensures { CountFits block.now.key_length block.now.bytes.now → result ≡ has_all_entries block.now.key_length block.now.bytes.now }
 {
     block.count() >= entry_room(block.key_length, block.bytes.len())
 }
@@ -185,7 +185,7 @@ fn full_run<S: BlockStore>(
     requires short { key_length ≤ 255 }
     requires few { run < 64 }
     ensures read { IsRead volume.old result volume.new }
-    ensures value { WhereSound volume.old result (λ full. IsInOrder key_length volume.old n → full ≡ cond (is_full (index_blocks key_length volume.old) (entry_room key_length volume.old.size) n) (run + 1) 0) }
+    ensures value { WhereSound volume.old result (λ full. IsInOrder key_length volume.old n → full ≡ run_with key_length volume.old n run) }
     ensures most { IfOk result (λ full. full ≤ run + 1) }
     ensures refusal { OnlyDevice result }
 {

@@ -1,22 +1,23 @@
 ghost use Rattle.std.specs.Prelude.{◌≡◌, ◌+◌, ◌≤◌, ◌<◌, true, IsTrue, length, IfErr, OnOk};
 ghost use Rattle.hd_volume.specs.Headers.{header_of};
 ghost use Rattle.hd_volume.specs.Calls.{IsCall};
-ghost use Rattle.hd_entries.specs.Fields.{entry_place};
-ghost use Rattle.hd_levels.specs.IndexSets.{top_level, index_entries, HasIndexSet};
-ghost use Rattle.hd_levels.specs.Needs.{needed_by};
-ghost use Rattle.hd_index_edits.specs.Edits.{IsRefused};
+ghost use Rattle.hd_index_blocks.specs.Fields.{entry_place};
+ghost use Rattle.hd_index_blocks.specs.IndexSets.{top_level, index_entries, HasIndexSet};
+ghost use Rattle.hd_index_blocks.specs.Needs.{needed_by};
+ghost use Rattle.hd_index.specs.Edits.{IsRefused};
 ghost use Rattle.hd_index.specs.Blocks.{full_down};
 ghost use Rattle.hd_index.specs.Changes.{IsChanged};
 ghost use Rattle.hd_index.specs.Divisions.{IsLowestRoom, IsRoomMade};
 
 use crate::descend::{MOST_LEVELS, descend};
-use crate::dividing::{Cut, Lead, cut_of, divide_under, lead_of};
+use crate::divisions::{Cut, Lead, cut_of, divide_under, lead_of};
 use crate::first::begin_top;
 use crate::greatest::last_in;
 use crate::need::{key_or, needed_for};
 use hd_dbd::Refused;
-use hd_entries::entry_room;
-use hd_volume::{BlockStore, Volume};
+use hd_index_blocks::entry_room;
+use hd_stores::BlockStore;
+use hd_volume::Volume;
 
 /// Takes one of the blocks that an entry needs where a key leads: the highest of the full blocks from the sequence set up is
 /// divided under its parent, or a new top is put over the old one where all are full.

@@ -1,17 +1,18 @@
 ghost use Rattle.std.specs.Prelude.{◌≡◌, ◌≤◌, true, IsTrue, IfOk};
 ghost use Rattle.hd_dbd.specs.Refusals.{OnlyDevice};
 ghost use Rattle.hd_volume.specs.Calls.{IsRead};
-ghost use Rattle.hd_levels.specs.Maps.{address_of, address_from};
-ghost use Rattle.hd_levels.specs.Levels.{AreBelow};
-ghost use Rattle.hd_levels.specs.IndexSets.{index_entries, HasIndexSet};
+ghost use Rattle.hd_index_blocks.specs.Maps.{address_of, address_from};
+ghost use Rattle.hd_index_blocks.specs.Levels.{AreBelow};
+ghost use Rattle.hd_index_blocks.specs.IndexSets.{index_entries, HasIndexSet};
 ghost use Rattle.hd_index.specs.Changes.{IsIndexOf, entries_for, WhereSound};
 ghost use Rattle.hd_index.specs.Searches.{IsSightOf};
 
 use crate::descend::leaf;
 use crate::look::{Sight, look, no_sight};
 use hd_dbd::{Dbd, Refused};
-use hd_entries::root_key_length;
-use hd_volume::{BlockStore, Volume};
+use hd_index_blocks::root_key_length;
+use hd_stores::BlockStore;
+use hd_volume::Volume;
 
 /// The address of the root of a key, if there is one.
 ///

@@ -3,12 +3,12 @@ ghost use Rattle.hd_dbd.specs.Refusals.{OnlyDevice};
 ghost use Rattle.hd_volume.specs.Volumes.{block_at};
 ghost use Rattle.hd_volume.specs.Calls.{IsRead};
 ghost use Rattle.hd_volume.specs.Entries.{entries_in};
-ghost use Rattle.hd_entries.specs.Fields.{entry_count, CountFits};
-ghost use Rattle.hd_entries.specs.Searches.{IfInOrder};
-ghost use Rattle.hd_levels.specs.Levels.{named};
-ghost use Rattle.hd_levels.specs.Ways.{child_of};
-ghost use Rattle.hd_levels.specs.Neighbours.{last_of};
-ghost use Rattle.hd_levels.specs.IndexSets.{HasIndexSet};
+ghost use Rattle.hd_index_blocks.specs.Fields.{entry_count, CountFits};
+ghost use Rattle.hd_index_blocks.specs.Searches.{IfInOrder};
+ghost use Rattle.hd_index_blocks.specs.Levels.{named};
+ghost use Rattle.hd_index_blocks.specs.Ways.{child_of};
+ghost use Rattle.hd_index_blocks.specs.Neighbours.{last_of};
+ghost use Rattle.hd_index_blocks.specs.IndexSets.{HasIndexSet};
 ghost use Rattle.hd_index.specs.Blocks.{IsInOrder};
 ghost use Rattle.hd_index.specs.Stands.{front_of, IsStand};
 ghost use Rattle.hd_index.specs.Removals.{IsBelow};
@@ -16,8 +16,9 @@ ghost use Rattle.hd_index.specs.Changes.{WhereSound};
 
 use crate::look::has_block;
 use hd_dbd::Refused;
-use hd_entries::{FIRST, IndexBlock};
-use hd_volume::{BlockStore, Volume};
+use hd_index_blocks::{FIRST, IndexBlock};
+use hd_stores::BlockStore;
+use hd_volume::Volume;
 
 /// A block, and its left neighbour on its level, 0 for none.
 #[derive(Clone, Copy, Debug)]

@@ -1,22 +1,22 @@
-ghost use Rattle.std.specs.Prelude.{◌≡◌, ◌≢◌, ◌≤◌, ℕ, List, IsTrue, IfOk, OnOk};
+ghost use Rattle.std.specs.Prelude.{◌≡◌, ◌≢◌, ◌≤◌, ℕ, IsTrue, IfOk, OnOk};
 ghost use Rattle.hd_dbd.specs.Refusals.{OnlyDevice};
-ghost use Rattle.hd_volume.specs.Volumes.{VolumeState, IsFormatted, IsKind};
-ghost use Rattle.hd_volume.specs.Entries.{Entry};
+ghost use Rattle.hd_volume.specs.Volumes.{IsFormatted, IsKind};
 ghost use Rattle.hd_volume.specs.Calls.{IsCall, IsRead};
-ghost use Rattle.hd_levels.specs.Neighbours.{last_child};
-ghost use Rattle.hd_levels.specs.IndexSets.{next_in, index_blocks};
-ghost use Rattle.hd_index_edits.specs.Blocks.{IsIndexBlock};
+ghost use Rattle.hd_index_blocks.specs.Neighbours.{last_child};
+ghost use Rattle.hd_index_blocks.specs.IndexSets.{next_in, index_blocks};
+ghost use Rattle.hd_index.specs.EditedBlocks.{IsIndexBlock};
 ghost use Rattle.hd_index.specs.Blocks.{IsInOrder};
-ghost use Rattle.hd_index.specs.Changes.{IsKeyRemoved, WhereSound};
-ghost use Rattle.hd_index.specs.Removals.{IsPassed, IsDropped, IsCut, IsCutOff};
+ghost use Rattle.hd_index.specs.Changes.{WhereSound};
+ghost use Rattle.hd_index.specs.Removals.{IsPassed, IsDropped, IsCutOff, RemovesCut};
 
+use crate::edit::set_next;
 use crate::look::has_block;
 use crate::stand::{Stand, last_child};
 use hd_bytes::read_u32;
 use hd_dbd::Refused;
-use hd_entries::{FIRST, NEXT};
-use hd_index_edits::set_next;
-use hd_volume::{BlockStore, Volume};
+use hd_index_blocks::{FIRST, NEXT};
+use hd_stores::BlockStore;
+use hd_volume::Volume;
 
 /// The block behind a block on its level, 0 for none.
 fn next_of<S: BlockStore>(volume: &mut Volume<S>, n: u32) -> Result<u32, Refused>
@@ -99,7 +99,7 @@ pub fn drop_way<S: BlockStore>(
     requires cut { IsTrue volume.old.is_sound → IsCutOff key_length volume.old levels start }
     requires short { key_length ≤ 255 }
     ensures call { IsCall volume.old result volume.new }
-    ensures changed { OnOk result (IsTrue volume.old.is_sound → (old : VolumeState) (gone : Entry) (kept_top : List ℕ) → IsCut key_length old gone kept_top volume.old levels start → IsKeyRemoved key_length old gone.key volume.new) }
+    ensures changed { OnOk result (IsTrue volume.old.is_sound → RemovesCut key_length volume.old levels start volume.new) }
     ensures refusal { OnlyDevice result }
     ensures room { volume.new.room ≡ volume.old.room }
 {

@@ -1,19 +1,19 @@
-ghost use Rattle.std.specs.Prelude.{◌≡◌, ◌≤◌, nat_lt, cond, length, IsTrue, IfOk};
+ghost use Rattle.std.specs.Prelude.{◌≡◌, ◌≤◌, nat_lt, length, IsTrue, IfOk};
 ghost use Rattle.hd_dbd.specs.Refusals.{OnlyDevice};
 ghost use Rattle.hd_volume.specs.Volumes.{block_at};
 ghost use Rattle.hd_volume.specs.Calls.{IsRead};
 ghost use Rattle.hd_volume.specs.Entries.{entries_in};
-ghost use Rattle.hd_entries.specs.Fields.{CountFits};
-ghost use Rattle.hd_levels.specs.IndexSets.{HasIndexSet};
+ghost use Rattle.hd_index_blocks.specs.Fields.{CountFits};
 ghost use Rattle.hd_index.specs.Blocks.{IsInOrder};
-ghost use Rattle.hd_index.specs.Removals.{IsOnWayIn, IsWay};
+ghost use Rattle.hd_index.specs.Removals.{IsWay, lower_fork_of, IfOnWay};
 ghost use Rattle.hd_index.specs.Changes.{WhereSound};
 
 use crate::look::has_block;
 use crate::stand::{Stand, step_down};
 use hd_dbd::Refused;
-use hd_entries::{FIRST, IndexBlock};
-use hd_volume::{BlockStore, Volume};
+use hd_index_blocks::{FIRST, IndexBlock};
+use hd_stores::BlockStore;
+use hd_volume::Volume;
 
 /// A block on a way down that has more than one entry, and its level; its number is 0 where there is none.
 #[derive(Clone, Copy, Debug)]
@@ -67,7 +67,7 @@ fn lower_fork<S: BlockStore>(
 ) -> Result<Fork, Refused>
     requires short { key_length ≤ 255 }
     ensures read { IsRead volume.old result volume.new }
-    ensures value { WhereSound volume.old result (λ fork. IsInOrder key_length volume.old stand.block → fork ≡ cond (nat_lt 1 (length (entries_in key_length (block_at volume.old stand.block)))) (record { level = level; stand = stand }) above) }
+    ensures value { WhereSound volume.old result (λ fork. IsInOrder key_length volume.old stand.block → fork ≡ lower_fork_of key_length volume.old above level stand) }
     ensures refusal { OnlyDevice result }
 {
     let more = has_more(volume, key_length, stand.block)?;
@@ -84,7 +84,7 @@ pub fn way_down<S: BlockStore>(
 ) -> Result<Way, Refused>
     requires short { key_length ≤ 255 }
     ensures read { IsRead volume.old result volume.new }
-    ensures way { WhereSound volume.old result (λ way. HasIndexSet key_length volume.old → IsOnWayIn key_length volume.old key.now levels start → IsWay key_length volume.old key.now levels start.block way) }
+    ensures way { WhereSound volume.old result (λ way. IfOnWay key_length volume.old key.now levels start (IsWay key_length volume.old key.now levels start.block way)) }
     ensures refusal { OnlyDevice result }
 {
     let mut stand = start;

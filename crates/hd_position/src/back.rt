@@ -11,7 +11,8 @@ ghost use Rattle.hd_position.specs.Backs.{IsExtended, IsLastOrNone, IsSiblingBef
 
 use hd_dbd::{Dbd, Refused};
 use hd_forest::{Path, code_at, last_child_type, last_twin, parent_on, prev_twin, tip_of};
-use hd_volume::{BlockStore, Volume};
+use hd_stores::BlockStore;
+use hd_volume::Volume;
 
 /// The address of the last child of a segment, where a type is given of those of the types before it; 0 for none.
 fn last_child_before<S: BlockStore>(

@@ -10,7 +10,8 @@ use crate::position::{LastType, Position};
 use hd_calls::GetKind;
 use hd_dbd::{Dbd, Refused};
 use hd_forest::{Path, code_at, next_row, tip_of};
-use hd_volume::{BlockStore, Volume};
+use hd_stores::BlockStore;
+use hd_volume::Volume;
 
 /// The path of the row behind those that a PCB has passed, empty behind the last row. At most the rows on its own path are read and
 /// the one that is found; no memory is taken.

@@ -11,7 +11,8 @@ use crate::position::{Position, row_on};
 use hd_calls::GetKind;
 use hd_dbd::{Dbd, Refused};
 use hd_forest::Path;
-use hd_volume::{BlockStore, Volume};
+use hd_stores::BlockStore;
+use hd_volume::Volume;
 
 /// Whether the last row of a path is below a PCB's parentage row.
 fn is_below_parent(position: &Position, path: &Path) -> bool

@@ -45,19 +45,25 @@ fn csv_line(
     cells.flush()
 }
 
+/// A comma behind the name before, if there is one.
+fn begin_name(line: &mut Vec<u8>) -> Result<(), AllocError> {
+    if line.is_empty() {
+        return Ok(());
+    }
+    line.extend_from_slice(b",")
+}
+
 /// The names of the columns as a line of CSV. None of them has to be quoted.
 fn names_line(line: &mut Vec<u8>, kept: &[Kept], columns: &[Part]) -> Result<(), AllocError> {
     line.clear();
     for kept in kept {
+        begin_name(line)?;
         line.extend_from_slice(without_padding(kept.above.name.bytes()))?;
         line.extend_from_slice(b".")?;
         kept.above.key.push_label(line)?;
-        line.extend_from_slice(b",")?;
     }
-    for (place, part) in columns.iter().enumerate() {
-        if place > 0 {
-            line.extend_from_slice(b",")?;
-        }
+    for part in columns {
+        begin_name(line)?;
         part.push_label(line)?;
     }
     line.extend_from_slice(b"\n")
@@ -88,9 +94,9 @@ impl Table {
         })
     }
 
-    /// Writes the line of the columns' names.
+    /// Writes the line of the columns' names: the keys above, and the parts of the type, of which one whose segments are two bytes has none.
     pub fn put_names<W: Write>(&mut self, out: &mut W) -> io::Result<()> {
-        if self.columns.is_empty() {
+        if self.kept.is_empty() && self.columns.is_empty() {
             return Ok(());
         }
         names_line(&mut self.line, &self.kept, &self.columns)?;

@@ -7,7 +7,7 @@ use Rattle.std.proofs.lemmas.List.{append-nil}
 use Rattle.hd_dbd.specs.declared.answer.Refused.{Refused}
 use Rattle.hd_dbd.specs.declared.answer.Refused.TheVariants as refused
 use Rattle.hd_dbd.specs.Logs.{Outcome, replied, area, full, memory, Entry}
-use Rattle.hd_session.specs.declared.request.Answer.{Answer}
+use Rattle.hd_session.specs.declared.call_and_answer.Answer.{Answer}
 use Rattle.hd_session.specs.Buffer.{Buffer}
 use Rattle.hd_session.specs.Replies.{reply_of}
 use Rattle.hd_session.specs.Opening.{SessionState}
@@ -15,7 +15,7 @@ use Rattle.hd_session.specs.Logged.{outcome_of}
 use Rattle.hd_session.specs.Turns.{Turn, IsTurnAnswered, entry_of}
 use Rattle.hd_session.proofs.Turns.{made_none, made_one, turn_whole}
 use Rattle.hd_deck.specs.Runs.{memory_of, memory_in}
-use Rattle.hd_frames.specs.Frames.{frame_bytes}
+use Rattle.hd_serve.specs.Frames.{frame_bytes}
 use Rattle.hd_serve.specs.Serves.{outcome_bytes, answered_bytes, AreServed, ServesAll, MakesAll}
 
 -- no call was made

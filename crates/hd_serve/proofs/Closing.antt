@@ -4,9 +4,9 @@ use Rattle.std.specs.Prelude.{OnOk}
 use Rattle.std.specs.Result.{is_err}
 use Rattle.hd_session.specs.Opening.{SessionState}
 use Rattle.hd_session.specs.Turns.{Turn, StaysWhole}
-use Rattle.hd_frames.specs.declared.call.Limits.{Limits}
-use Rattle.hd_serve.specs.declared.serving.Stop.{Stop}
-use Rattle.hd_serve.specs.declared.serving.Stop.TheVariants as stop
+use Rattle.hd_serve.specs.declared.call.Limits.{Limits}
+use Rattle.hd_serve.specs.declared.desk.Stop.{Stop}
+use Rattle.hd_serve.specs.declared.desk.Stop.TheVariants as stop
 use Rattle.hd_serve.specs.Serves.{ServesAll, MakesAll, ServesOut, MakesOut, StopsAt, IsServedToTheEnd, ServesUntil, IsServedOut, LeavesAt}
 
 module _ (s t : SessionState) (left : List ℕ) (closed : IsTrue t.volume.is_sound → left ≡ t.volume.image) (whole : StaysWhole s t) where

@@ -1,3 +1,10 @@
+mod Answers
+mod Ssas
+mod CallFrames
+mod Frames
+mod LongestKeys
+mod Apart
+mod AnswersApart
 mod Calls
 mod Turns
 mod SoFar

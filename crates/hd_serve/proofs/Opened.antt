@@ -15,11 +15,11 @@ use Rattle.hd_image.proofs.OneImage.{held-same}
 use Rattle.hd_session.specs.Opening.{SessionState, session_at_start, IsReadyFor, IsOpenedOver}
 use Rattle.hd_session.specs.Turns.{Turn, AreMade}
 use Rattle.hd_deck.specs.Runs.{IsPlayed}
-use Rattle.hd_frames.specs.declared.call.Limits.{Limits}
-use Rattle.hd_frames.specs.Frames.{frame_bytes}
-use Rattle.hd_frames.specs.Hello.{hello_bytes}
-use Rattle.hd_serve.specs.declared.serving.Stop.{Stop}
-use Rattle.hd_serve.specs.declared.serving.Stop.TheVariants as stop
+use Rattle.hd_serve.specs.declared.call.Limits.{Limits}
+use Rattle.hd_serve.specs.Frames.{frame_bytes}
+use Rattle.hd_serve.specs.Hello.{hello_bytes}
+use Rattle.hd_serve.specs.declared.desk.Stop.{Stop}
+use Rattle.hd_serve.specs.declared.desk.Stop.TheVariants as stop
 use Rattle.hd_serve.specs.Serves.{limits_of, AreServedOut, AreMadeOut, ServesOut, MakesOut, IsServedOut, LeavesAt, IsAnswered, IsWholeService, IsServeFaultOf, fault_of}
 
 -- A session was opened over the volume of a sound store's bytes.

@@ -7,20 +7,20 @@ use Rattle.std.proofs.lemmas.List.{append-nil}
 use Rattle.std.proofs.lemmas.List.Elements.{All-nil, All-push}
 use Rattle.hd_session.specs.Opening.{SessionState}
 use Rattle.hd_session.specs.Turns.{Turn}
-use Rattle.hd_frames.specs.declared.call.Limits.{Limits}
-use Rattle.hd_frames.specs.declared.fault.FrameFault.{FrameFault}
-use Rattle.hd_frames.specs.declared.fault.FrameFault.TheVariants.{Read}
-use Rattle.hd_frames.specs.Frames.{frame_bytes, call_bytes, CallFits, IsWrong}
-use Rattle.hd_serve.specs.declared.serving.Count.{Count}
-use Rattle.hd_serve.specs.declared.serving.Stop.{Stop}
-use Rattle.hd_serve.specs.declared.serving.Stop.TheVariants as stop
-use Rattle.hd_serve.specs.Serves.{framed, frames_of, AreAsked, Ends, GoesWrong, GoesOn, ServesAll, MakesAll, IsServedNext, IsMadeNext, StopsNext, IsServedToTheEnd, IsMadeInPart, IsServedInPart, ServesUntil}
+use Rattle.hd_serve.specs.declared.call.Limits.{Limits}
+use Rattle.hd_serve.specs.declared.fault.FrameFault.{FrameFault}
+use Rattle.hd_serve.specs.declared.fault.FrameFault.TheVariants.{Read}
+use Rattle.hd_serve.specs.Frames.{frame_bytes, call_bytes, CallFits, IsWrong}
+use Rattle.hd_serve.specs.declared.desk.Count.{Count}
+use Rattle.hd_serve.specs.declared.desk.Stop.{Stop}
+use Rattle.hd_serve.specs.declared.desk.Stop.TheVariants as stop
+use Rattle.hd_serve.specs.Serves.{frames_of, AreAsked, Ends, GoesWrong, GoesOn, ServesAll, MakesAll, IsServedNext, IsMadeNext, StopsNext, IsServedToTheEnd, IsMadeInPart, IsServedInPart, ServesUntil}
 use Rattle.hd_serve.proofs.Calls.{served_none, made_nothing}
 use Rattle.hd_serve.proofs.Turns.{frames_append, served_both, served_then_made, served_behind}
 
 -- ---- what the input was
 
-module _ (limits : Limits) (turns : List Turn) (right : All (λ t. CallFits limits (framed t)) turns) where
+module _ (limits : Limits) (turns : List Turn) (right : All (λ t. CallFits limits t) turns) where
   -- all that there was
   pub asked_all : (a b : Option (List ℕ)) → Consumes a b (frames_of turns) → IsAtEnd b → AreAsked limits a turns Ends
   asked_all None b taken end = record { right = right; spelled = tt }
@@ -44,7 +44,7 @@ module _ (limits : Limits) (turns : List Turn) (right : All (λ t. CallFits limi
 -- So many calls were taken from the input, and all of them were served.
 pub record AreServedSoFar (limits : Limits) (s : SessionState) (input left old new : Option (List ℕ)) (calls lacking : ℕ) (t : SessionState) : Type 0 where
   pub turns : List Turn
-  pub right : All (λ t. CallFits limits (framed t)) turns
+  pub right : All (λ t. CallFits limits t) turns
   pub taken : Consumes input left (frames_of turns)
   pub count : calls ≡ length turns
   pub serves : ServesAll s turns [] old new lacking t
@@ -52,24 +52,24 @@ pub record AreServedSoFar (limits : Limits) (s : SessionState) (input left old n
 pub none_so_far : (limits : Limits) (s : SessionState) (input out : Option (List ℕ)) → s.broken ≡ false → AreServedSoFar limits s input input out out 0 0 s
 none_so_far limits s input out whole = record {
   turns = [];
-  right = All-nil (λ t. CallFits limits (framed t));
+  right = All-nil (λ t. CallFits limits t);
   taken = Consumes-nil input;
   count = refl;
   serves = served_none s out whole;
 }
 
-taken_more : (turns : List Turn) (turn : Turn) (a b c : Option (List ℕ)) → Consumes a b (frames_of turns) → Consumes b c (frame_bytes (call_bytes (framed turn))) → Consumes a c (frames_of (turns ++ turn ∷ []))
+taken_more : (turns : List Turn) (turn : Turn) (a b c : Option (List ℕ)) → Consumes a b (frames_of turns) → Consumes b c (frame_bytes (call_bytes turn)) → Consumes a c (frames_of (turns ++ turn ∷ []))
 taken_more turns turn a b c f g =
     subst (λ (bytes : List ℕ). Consumes a c bytes)
-    (ap (λ (bytes : List ℕ). frames_of turns ++ bytes) (sym (append-nil (frame_bytes (call_bytes (framed turn))))) ∙ sym (frames_append turns (turn ∷ [])))
-    (Consumes-trans a b c (frames_of turns) (frame_bytes (call_bytes (framed turn))) f g)
+    (ap (λ (bytes : List ℕ). frames_of turns ++ bytes) (sym (append-nil (frame_bytes (call_bytes turn)))) ∙ sym (frames_append turns (turn ∷ [])))
+    (Consumes-trans a b c (frames_of turns) (frame_bytes (call_bytes turn)) f g)
 
 module _ (limits : Limits) (s m t : SessionState) (input left old mid new : Option (List ℕ)) (calls lacking : ℕ) (so_far : AreServedSoFar limits s input left old mid calls lacking m) where
   -- one call more
   pub one_more : (after : Option (List ℕ)) (k n : ℕ) → n ≡ calls + 1 → IsServedNext limits m left after mid new k t → AreServedSoFar limits s input after old new n (lacking + k) t
   one_more after k n is next = record {
     turns = so_far.turns ++ next.turn ∷ [];
-    right = All-push (λ t. CallFits limits (framed t)) so_far.turns next.turn so_far.right next.right;
+    right = All-push (λ t. CallFits limits t) so_far.turns next.turn so_far.right next.right;
     taken = taken_more so_far.turns next.turn input left after so_far.taken next.taken;
     count = is ∙ ap (λ (c : ℕ). c + 1) so_far.count ∙ sym (length-append so_far.turns (next.turn ∷ []));
     serves = served_both s m t so_far.turns (next.turn ∷ []) [] old mid new lacking k so_far.serves next.serves;
@@ -86,7 +86,7 @@ module _ (limits : Limits) (s m t : SessionState) (input left old mid new : Opti
   made_next : IsMadeNext limits m left t → IsMadeInPart limits s input t
   made_next next = record {
     turns = so_far.turns ++ next.turn ∷ [];
-    asked = asked_on limits (so_far.turns ++ next.turn ∷ []) (All-push (λ t. CallFits limits (framed t)) so_far.turns next.turn so_far.right next.right) input next.after
+    asked = asked_on limits (so_far.turns ++ next.turn ∷ []) (All-push (λ t. CallFits limits t) so_far.turns next.turn so_far.right next.right) input next.after
         (taken_more so_far.turns next.turn input left next.after so_far.taken next.taken);
     makes = served_then_made s m t so_far.turns (next.turn ∷ []) [] old mid lacking so_far.serves next.makes;
   }
@@ -127,6 +127,6 @@ module _ (limits : Limits) (s t : SessionState) (input : Option (List ℕ)) (hea
 pub none_made : (limits : Limits) (s : SessionState) (input : Option (List ℕ)) → s.broken ≡ false → IsMadeInPart limits s input s
 none_made limits s input whole = record {
   turns = [];
-  asked = asked_on limits [] (All-nil (λ t. CallFits limits (framed t))) input input (Consumes-nil input);
+  asked = asked_on limits [] (All-nil (λ t. CallFits limits t)) input input (Consumes-nil input);
   makes = made_nothing s whole;
 }

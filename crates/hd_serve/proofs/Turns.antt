@@ -10,14 +10,14 @@ use Rattle.hd_session.specs.Opening.{SessionState}
 use Rattle.hd_session.specs.Turns.{Turn, AreMade}
 use Rattle.hd_session.proofs.Turns.{stands_after, made_both}
 use Rattle.hd_deck.specs.Runs.{is_memory, memory_in}
-use Rattle.hd_frames.specs.Frames.{frame_bytes, call_bytes}
-use Rattle.hd_serve.specs.Serves.{framed, frames_of, outcome_bytes, answers_of, AreServed, ServesAll, MakesAll}
+use Rattle.hd_serve.specs.Frames.{frame_bytes, call_bytes}
+use Rattle.hd_serve.specs.Serves.{frames_of, outcome_bytes, answers_of, AreServed, ServesAll, MakesAll}
 
 -- the frames of some calls and then of others
 pub frames_append : (xs ys : List Turn) → frames_of (xs ++ ys) ≡ frames_of xs ++ frames_of ys
 frames_append [] ys = refl
 frames_append (x ∷ xs) ys =
-    ap (λ (bytes : List ℕ). frame_bytes (call_bytes (framed x)) ++ bytes) (frames_append xs ys) ∙ sym (append_assoc (frame_bytes (call_bytes (framed x))) (frames_of xs) (frames_of ys))
+    ap (λ (bytes : List ℕ). frame_bytes (call_bytes x) ++ bytes) (frames_append xs ys) ∙ sym (append_assoc (frame_bytes (call_bytes x)) (frames_of xs) (frames_of ys))
 
 module _ {I : Type 0} where
   -- the answers of some entries and then of others

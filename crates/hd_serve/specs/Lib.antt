@@ -1,1 +1,5 @@
+pub mod Frames
+pub mod Answers
+pub mod Hello
+pub mod Laws
 pub mod Serves

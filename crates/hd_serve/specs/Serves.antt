@@ -1,6 +1,6 @@
 -- What serving a program's calls comes to: the calls that came in frames, the log of them, the answers, and what is left.
 use Rattle.std.specs.Prelude.{◌≡◌, ◌≢◌, IsTrue, ℕ, ◌<◌, List, [], ◌∷◌, ◌++◌, length, flat_map, All, Bool, true, false, Option, Some, None, Result, Ok, Err, IfSome}
-use Rattle.std.specs.Io.KnownBytes.{Appends, Consumes, IsAtEnd}
+use Rattle.std.specs.Io.KnownBytes.{Appends, Consumes, IsAtEnd, prepend_known}
 use Rattle.hd_dbd.specs.declared.answer.Refused.{Refused}
 use Rattle.hd_dbd.specs.declared.answer.Refused.TheVariants as refused
 use Rattle.hd_dbd.specs.Types.{View}
@@ -9,35 +9,33 @@ use Rattle.hd_dbd.specs.Logs.{Outcome, replied, area, full, memory, Entry, Log}
 use Rattle.hd_calls.specs.Steps.{State}
 use Rattle.hd_image.specs.Holding.{volume_of}
 use Rattle.hd_update.specs.States.{Represents}
-use Rattle.hd_session.specs.declared.request.Answer.{Answer}
+use Rattle.hd_session.specs.declared.call_and_answer.Answer.{Answer}
 use Rattle.hd_session.specs.declared.opening.OpenFault.TheVariants as opening
 use Rattle.hd_session.specs.Buffer.{Buffer}
 use Rattle.hd_session.specs.Replies.{reply_of}
 use Rattle.hd_session.specs.Opening.{SessionState, IsOpenFaultOf}
 use Rattle.hd_session.specs.Turns.{Turn, StaysWhole, AreMade}
 use Rattle.hd_deck.specs.Runs.{memory_in, Breaks, IsPlayed}
-use Rattle.hd_frames.specs.declared.call.Limits.{Limits}
-use Rattle.hd_frames.specs.declared.fault.FrameFault.{FrameFault}
-use Rattle.hd_frames.specs.CallFrame.{CallFrame}
-use Rattle.hd_frames.specs.Frames.{frame_bytes, call_bytes, CallFits, IsWrong}
-use Rattle.hd_frames.specs.Answers.{answer_bytes, refusal_bytes}
-use Rattle.hd_frames.specs.Hello.{hello_bytes, hello_fits}
-use Rattle.hd_serve.specs.declared.answering.Halt.{Halt}
-use Rattle.hd_serve.specs.declared.answering.Halt.TheVariants as halt
-use Rattle.hd_serve.specs.declared.serving.Stop.{Stop}
-use Rattle.hd_serve.specs.declared.serving.Stop.TheVariants as stop
-use Rattle.hd_serve.specs.declared.running.ServeFault.{ServeFault}
-use Rattle.hd_serve.specs.declared.running.ServeFault.TheVariants as serve
+use Rattle.hd_serve.specs.declared.call.Limits.{Limits}
+use Rattle.hd_serve.specs.declared.fault.FrameFault.{FrameFault}
+use Rattle.hd_serve.specs.Frames.{frame_bytes, call_bytes, CallFits, IsWrong}
+use Rattle.hd_serve.specs.Answers.{answer_bytes, refusal_bytes}
+use Rattle.hd_serve.specs.Hello.{hello_bytes, hello_fits}
+use Rattle.hd_serve.specs.declared.answered_calls.Halt.{Halt}
+use Rattle.hd_serve.specs.declared.answered_calls.Halt.TheVariants as halt
+use Rattle.hd_serve.specs.declared.desk.Stop.{Stop}
+use Rattle.hd_serve.specs.declared.desk.Stop.TheVariants as stop
+use Rattle.hd_serve.specs.declared.service.ServeFault.{ServeFault}
+use Rattle.hd_serve.specs.declared.service.ServeFault.TheVariants as serve
+use Rattle.hd_serve.specs.declared.desk.Desk.{Desk}
+use Rattle.hd_serve.specs.declared.desk.Count.{Count}
+use Rattle.hd_serve.specs.declared.service.ServeEnd.{ServeEnd}
 
 -- ---- frames
 
--- a call of a PCB, as its frame has it
-abbrev pub framed : Turn → CallFrame
-framed t = record { pcb = t.pcb; call = t.call }
-
 -- the frames of calls, one behind the other
 abbrev pub frames_of : List Turn → List ℕ
-frames_of turns = flat_map (λ t. frame_bytes (call_bytes (framed t))) turns
+frames_of turns = flat_map (λ t. frame_bytes (call_bytes t)) turns
 
 -- the body of the frame that says what a call came to
 abbrev pub outcome_bytes : Outcome → List ℕ
@@ -61,7 +59,7 @@ limits_of d pcbs = record { pcbs = length pcbs; area = longest_path d.types }
 
 -- The input begins with the frames of these calls, each a right one, and this is so of what is behind them.
 pub record AreAsked (limits : Limits) (input : Option (List ℕ)) (turns : List Turn) (Behind : List ℕ → Type 0) : Type 0 where
-  pub right : All (λ t. CallFits limits (framed t)) turns
+  pub right : All (λ t. CallFits limits t) turns
   pub spelled : IfSome input (λ bytes. (rest : List ℕ) × (bytes ≡ frames_of turns ++ rest) × Behind rest)
 
 -- the input ends
@@ -106,16 +104,16 @@ IsHalted s halt.Write t = StaysWhole s t
 -- One call was taken from the input and served.
 pub record IsServedNext (limits : Limits) (s : SessionState) (before after old new : Option (List ℕ)) (lacking : ℕ) (t : SessionState) : Type 0 where
   pub turn : Turn
-  pub right : CallFits limits (framed turn)
-  pub taken : Consumes before after (frame_bytes (call_bytes (framed turn)))
+  pub right : CallFits limits turn
+  pub taken : Consumes before after (frame_bytes (call_bytes turn))
   pub serves : ServesAll s (turn ∷ []) [] old new lacking t
 
 -- One call was taken from the input and made; its answer was not written.
 pub record IsMadeNext (limits : Limits) (s : SessionState) (before : Option (List ℕ)) (t : SessionState) : Type 0 where
   pub turn : Turn
-  pub right : CallFits limits (framed turn)
+  pub right : CallFits limits turn
   pub after : Option (List ℕ)
-  pub taken : Consumes before after (frame_bytes (call_bytes (framed turn)))
+  pub taken : Consumes before after (frame_bytes (call_bytes turn))
   pub makes : MakesAll s (turn ∷ []) t
 
 -- what a stop at the next call says
@@ -274,3 +272,32 @@ fault_refusal serve.Memory = refused.Memory
 fault_refusal serve.Device = refused.Device
 fault_refusal serve.Write = refused.Memory
 fault_refusal (serve.Frame e) = refused.Memory
+
+-- ---- at a desk, by what it has read and the rest of the input
+
+-- what was read of the input and is no call yet, and the rest
+abbrev pub unread : Desk → Option (List ℕ) → Option (List ℕ)
+unread desk rest = prepend_known desk.buffer rest
+
+-- one call was taken and served, where there was one
+abbrev pub IsNextAt : Desk → SessionState → Option (List ℕ) → Desk → Option (List ℕ) → Option (List ℕ) → Option (List ℕ) → Option ℕ → SessionState → Type 0
+IsNextAt desk s before desk2 after old new served t = IfSome served (λ lacking. IsServedNext desk.limits s (unread desk before) (unread desk2 after) old new lacking t)
+
+-- all calls were taken and served
+abbrev pub IsDeskServed : Desk → SessionState → Option (List ℕ) → List ℕ → Option (List ℕ) → Option (List ℕ) → Count → SessionState → Type 0
+IsDeskServed desk s rest head old new n t = IsServedToTheEnd desk.limits s (unread desk rest) head old new n.calls n.memory t
+
+-- and these bytes are left
+abbrev pub IsDeskServedOut : Desk → SessionState → Option (List ℕ) → List ℕ → Option (List ℕ) → Option (List ℕ) → ℕ → ℕ → List ℕ → Type 0
+IsDeskServedOut desk s rest head old new calls lacking left = IsServedOut desk.limits s (unread desk rest) head old new calls lacking left
+
+-- what a stop says of the calls and of the bytes that are left
+abbrev pub LeavesDeskAt : Desk → SessionState → Option (List ℕ) → List ℕ → Option (List ℕ) → Option (List ℕ) → Stop → List ℕ → Type 0
+LeavesDeskAt desk s rest head old new stop left = LeavesAt desk.limits s (unread desk rest) head old new stop left
+
+-- ---- over a store, by what serving ended with
+
+-- serving went on to the end of the input
+abbrev pub IsServiceEnd : {S : Type 0} → (S → List ℕ) → (S → Bool) → Database → List View → S → Option (List ℕ) → Option (List ℕ) → Option (List ℕ) → ServeEnd S → Type 0
+IsServiceEnd contents is_sound d pcbs store input old new e =
+    IsWholeService d pcbs (is_sound store) (contents store) input old new e.calls e.memory (contents e.store)

@@ -21,7 +21,7 @@ use Rattle.hd_links.specs.Steps.{rows_of, address_at}
 use Rattle.hd_image.specs.Records.{links_of}
 use Rattle.hd_forest.specs.Rows.{IsOnRow}
 use Rattle.hd_position.specs.Kept.{Kept, StandsFor, path_passed}
-use Rattle.hd_seek.specs.Admits.{Descend}
+use Rattle.hd_calls.specs.Admits.{Descend}
 use Rattle.hd_get.specs.declared.outcome.Outcome.TheVariants.{Found}
 use Rattle.hd_get.specs.Gets.{GetCall, IsOutcomeOf, IsPositionIn, answer_to, levels_taken}
 use Rattle.hd_get.specs.Found.{sought_by}

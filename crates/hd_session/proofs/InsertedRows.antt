@@ -20,7 +20,7 @@ use Rattle.hd_links.specs.Steps.{rows_of, address_at}
 use Rattle.hd_image.specs.Records.{links_of}
 use Rattle.hd_forest.specs.Rows.{IsOnRow}
 use Rattle.hd_forest.proofs.Reading.{after-read}
-use Rattle.hd_keeping.specs.VolumeImages.{images_of}
+use Rattle.hd_changes.specs.VolumeImages.{images_of}
 use Rattle.hd_position.specs.Kept.{Kept, StandsFor, path_passed}
 use Rattle.hd_get.specs.declared.outcome.Outcome.TheVariants.{Found}
 use Rattle.hd_update.specs.States.{StandForAll, IsAnswered}

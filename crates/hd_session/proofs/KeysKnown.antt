@@ -17,7 +17,7 @@ use Rattle.hd_links.specs.Links.{Links, segment_at}
 use Rattle.hd_image.specs.Records.{links_of}
 use Rattle.hd_forest.specs.Rows.{IsOnRow}
 use Rattle.hd_forest.proofs.Reading.{after-read, links-kept}
-use Rattle.hd_session.specs.declared.request.Answer.{Answer}
+use Rattle.hd_session.specs.declared.call_and_answer.Answer.{Answer}
 use Rattle.hd_session.specs.Buffer.{Buffer}
 use Rattle.hd_session.specs.Giving.{IsEmpty, IsAnswerOf, HasAdded, is_among, bytes_at, with_path}
 use Rattle.hd_session.specs.Above.{Above, above_nothing, AreKeysIn, AreKeysOf, AreNoted, is_begun_by, are_below}

@@ -16,7 +16,8 @@ use Rattle.hd_image.specs.Records.{links_of, IsVolumeOf}
 use Rattle.hd_forest.specs.Rows.{IsOnRow, IsOnSomeRow}
 use Rattle.hd_position.specs.Kept.{Kept}
 use Rattle.hd_get.specs.declared.outcome.Outcome.TheVariants.{Found, Missing}
-use Rattle.hd_update.specs.Loading.{HasPassedAll, InsertsOne, IsLoadDone, load_effect}
+use Rattle.hd_update.specs.Inserting.{insert_effect}
+use Rattle.hd_update.specs.Loading.{HasPassedAll, InsertsOne, IsLoadDone}
 use Rattle.hd_update.specs.States.{IsAnswered}
 use Rattle.hd_update.proofs.LoadSteps.{load_answers}
 use Rattle.hd_session.specs.Giving.{IsGiven}
@@ -25,26 +26,26 @@ use Rattle.hd_session.proofs.InsertedRows.{on_inserted, inserted_step}
 
 module _ (d : Database) (pcb : View) (ssas : List Ssa) (code : ℕ) (area : List ℕ) (I : InsertsOne pcb ssas code) (typed : is_some (type_of d.types code) ≡ true) (v : VolumeState) (st : State)
     (number : ℕ) (status : Status) (w : VolumeState) (new : List Kept) (k : Kept) (some : 0 < number) (within : number ≤ length new)
-    (A : IsAnswered d v st number (load_effect d pcb number ssas area st) (Found status) w new) where
+    (A : IsAnswered d v st number (insert_effect d pcb number ssas area st) (Found status) w new) where
   abbrev row : Segment
   row = record { code = code; bytes = area }
 
-  is : load_effect d pcb number ssas area st ≡ insert_at (record { types = d.types; pcb = pcb }) st.rows (position_at st number) (row ∷ []) (length st.rows)
+  is : insert_effect d pcb number ssas area st ≡ insert_at (record { types = d.types; pcb = pcb }) st.rows (position_at st number) (row ∷ []) (length st.rows)
   is = (load_answers d code area pcb ssas I st number A.reply A.change A.own A.is).found (ap is_done A.outcome_is.0 ∙ A.outcome_is.1)
 
   -- the PCB has its path
   pub on_loaded : IsOnRow d.types (links_of d.types w) A.represents.placed (slice_index_or new (number - 1) k).path (length st.rows + 1 - 1)
-  on_loaded = on_inserted d pcb v st number status w new k some within (load_effect d pcb number ssas area st) (row ∷ []) (length st.rows) (omega arith) is A
+  on_loaded = on_inserted d pcb v st number status w new k some within (insert_effect d pcb number ssas area st) (row ∷ []) (length st.rows) (omega arith) is A
 
   -- so what a call gives that reads it there is the answer
   pub loaded_step : {B : Type 0} {b : B} (x : VolumeState) (path levels : List ℕ) (reply : Reply) → IsRead {T = B} w (Ok b) x → IsTrue w.is_sound
-      → path ≡ (slice_index_or new (number - 1) k).path → levels ≡ [] → IsGiven d w path levels Blank reply → IsStep d v st number (load_effect d pcb number ssas area st) reply x new
-  loaded_step = inserted_step d pcb v st number status w new k some within (load_effect d pcb number ssas area st) (row ∷ []) (length st.rows) (omega arith) is A
+      → path ≡ (slice_index_or new (number - 1) k).path → levels ≡ [] → IsGiven d w path levels Blank reply → IsStep d v st number (insert_effect d pcb number ssas area st) reply x new
+  loaded_step = inserted_step d pcb v st number status w new k some within (insert_effect d pcb number ssas area st) (row ∷ []) (length st.rows) (omega arith) is A
 
 -- a load that may not be answers a status alone
 pub missed_step : (d : Database) (pcb : View) (ssas : List Ssa) (code : ℕ) (area : List ℕ) → InsertsOne pcb ssas code → is_some (type_of d.types code) ≡ true → (v : VolumeState) (st : State)
     (number : ℕ) (status : Status) (w : VolumeState) (new : List Kept) (reply : Reply) → reply ≡ bare status
-    → IsAnswered d v st number (load_effect d pcb number ssas area st) (Missing status) w new → IsStep d v st number (load_effect d pcb number ssas area st) reply w new
+    → IsAnswered d v st number (insert_effect d pcb number ssas area st) (Missing status) w new → IsStep d v st number (insert_effect d pcb number ssas area st) reply w new
 missed_step d pcb ssas code area I typed v st number status w new reply none A = record {
   change = A.change;
   own = A.own;

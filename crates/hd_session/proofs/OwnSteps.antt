@@ -17,8 +17,8 @@ use Rattle.hd_links.specs.Placed.{Placed}
 use Rattle.hd_links.specs.Steps.{rows_of}
 use Rattle.hd_image.specs.Holding.{HoldsPlaced}
 use Rattle.hd_forest.proofs.Reading.{after-read}
-use Rattle.hd_keeping.specs.VolumeImages.{images_of}
-use Rattle.hd_keeping.proofs.VolumeImages.{follow}
+use Rattle.hd_changes.specs.VolumeImages.{images_of}
+use Rattle.hd_changes.proofs.VolumeImages.{follow}
 use Rattle.hd_position.specs.Kept.{Kept, StandsFor}
 use Rattle.hd_get.specs.Gets.{GetCall, answer_to}
 use Rattle.hd_update.specs.States.{StandForAll, Represents}

@@ -16,7 +16,7 @@ use Rattle.hd_links.proofs.ValidRows.{held_valid}
 use Rattle.hd_image.specs.Records.{links_of}
 use Rattle.hd_image.specs.Holding.{HoldsPlaced}
 use Rattle.hd_image.proofs.OneImage.{held-same}
-use Rattle.hd_check.specs.declared.checking.Passed.{Passed}
+use Rattle.hd_check.specs.declared.checks.Passed.{Passed}
 use Rattle.hd_check.specs.Checks.{IsPassed}
 use Rattle.hd_calls.specs.NoLostUpdate.{opened}
 use Rattle.hd_position.specs.Kept.{Kept, kept_start}

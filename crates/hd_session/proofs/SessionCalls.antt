@@ -23,14 +23,14 @@ use Rattle.hd_calls.specs.Runs.{view_of, effect_by, MayComeTo, ImageFollows, Fol
 use Rattle.hd_calls.specs.Steps.{State, Effect, answered, wrong_area, step, state_after}
 use Rattle.hd_volume.specs.Headers.{header_of}
 use Rattle.hd_volume.specs.Volumes.{VolumeState}
-use Rattle.hd_volume.specs.Stores.{StaysSound}
+use Rattle.hd_stores.specs.Stores.{StaysSound}
 use Rattle.hd_links.specs.Placed.{Placed}
 use Rattle.hd_image.proofs.OneImage.{held-same}
-use Rattle.hd_keeping.specs.VolumeImages.{images_of}
+use Rattle.hd_changes.specs.VolumeImages.{images_of}
 use Rattle.hd_position.specs.Kept.{Kept}
 use Rattle.hd_update.specs.Loading.{HasPassedAll}
 use Rattle.hd_update.specs.States.{Represents, StandForAll, IsAreaWrong, IsUndone, StoresSome}
-use Rattle.hd_session.specs.declared.request.Answer.{Answer}
+use Rattle.hd_session.specs.declared.call_and_answer.Answer.{Answer}
 use Rattle.hd_session.specs.Buffer.{Buffer}
 use Rattle.hd_session.specs.Replies.{reply_of}
 use Rattle.hd_session.specs.Sessions.{IsStep, IsStepDone, IsUndoneUnlessDevice, IsRoomLacking, IsMemoryLacking, call_in}

@@ -23,7 +23,7 @@ use Rattle.hd_volume.specs.Volumes.{VolumeState}
 use Rattle.hd_volume.specs.Calls.{IsRead}
 use Rattle.hd_links.specs.Steps.{rows_of}
 use Rattle.hd_forest.proofs.Reading.{after-read}
-use Rattle.hd_keeping.specs.VolumeImages.{images_of}
+use Rattle.hd_changes.specs.VolumeImages.{images_of}
 use Rattle.hd_position.specs.Kept.{Kept}
 use Rattle.hd_update.specs.Positions.{unheld_at}
 use Rattle.hd_update.specs.States.{Represents, LacksRoomFor}

@@ -14,11 +14,11 @@ use Rattle.hd_volume.specs.Headers.{header_of}
 use Rattle.hd_volume.specs.Volumes.{VolumeState}
 use Rattle.hd_image.proofs.OneImage.{held-same}
 use Rattle.hd_links.specs.Steps.{rows_of, addresses}
-use Rattle.hd_keeping.specs.VolumeImages.{images_of}
-use Rattle.hd_keeping.proofs.VolumeImages.{bytes-hold}
+use Rattle.hd_changes.specs.VolumeImages.{images_of}
+use Rattle.hd_changes.proofs.VolumeImages.{bytes-hold}
 use Rattle.hd_position.specs.Kept.{Kept}
 use Rattle.hd_update.specs.States.{Represents}
-use Rattle.hd_session.specs.declared.request.Answer.{Answer}
+use Rattle.hd_session.specs.declared.call_and_answer.Answer.{Answer}
 use Rattle.hd_session.specs.Buffer.{Buffer}
 use Rattle.hd_session.specs.Opening.{SessionState, session_at_start}
 use Rattle.hd_session.specs.Logged.{outcome_of, IsLogged}

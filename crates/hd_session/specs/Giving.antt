@@ -17,7 +17,7 @@ use Rattle.hd_image.specs.Records.{links_of}
 use Rattle.hd_calls.specs.Gets.{bytes_of}
 use Rattle.hd_forest.specs.Rows.{IsOnRow}
 use Rattle.hd_position.specs.Kept.{AreRowsOn, Ascend}
-use Rattle.hd_session.specs.declared.request.Answer.{Answer}
+use Rattle.hd_session.specs.declared.call_and_answer.Answer.{Answer}
 use Rattle.hd_session.specs.Buffer.{Buffer, KEY_ROOM}
 use Rattle.hd_session.specs.Replies.{reply_of}
 

@@ -11,9 +11,9 @@ use Rattle.hd_calls.specs.Tags.{Moment, moments, tagged_at_start}
 use Rattle.hd_calls.specs.NoLostUpdate.{is_update, opened, GoesBack}
 use Rattle.hd_volume.specs.Volumes.{VolumeState}
 use Rattle.hd_links.specs.Steps.{rows_of}
-use Rattle.hd_keeping.specs.VolumeImages.{images_of}
+use Rattle.hd_changes.specs.VolumeImages.{images_of}
 use Rattle.hd_update.specs.States.{Represents}
-use Rattle.hd_session.specs.declared.request.Answer.{Answer}
+use Rattle.hd_session.specs.declared.call_and_answer.Answer.{Answer}
 use Rattle.hd_session.specs.Buffer.{Buffer}
 use Rattle.hd_session.specs.Opening.{SessionState, session_at_start, IsOpenedOver, IsOpenRead}
 use Rattle.hd_session.specs.Logged.{outcome_of}

@@ -1,3 +1,5 @@
+pub mod Accesses
+pub mod Tests
 pub mod Buffer
 pub mod Replies
 pub mod Giving

@@ -9,10 +9,10 @@ use Rattle.hd_dbd.specs.Logs.{Outcome, replied, area, full, memory}
 use Rattle.hd_calls.specs.Steps.{State}
 use Rattle.hd_calls.specs.Runs.{effect_by, MayComeTo, ImageFollows, state_after_outcome}
 use Rattle.hd_volume.specs.Volumes.{VolumeState}
-use Rattle.hd_keeping.specs.VolumeImages.{images_of}
+use Rattle.hd_changes.specs.VolumeImages.{images_of}
 use Rattle.hd_position.specs.Kept.{Kept}
 use Rattle.hd_update.specs.States.{Represents}
-use Rattle.hd_session.specs.declared.request.Answer.{Answer}
+use Rattle.hd_session.specs.declared.call_and_answer.Answer.{Answer}
 use Rattle.hd_session.specs.Buffer.{Buffer}
 use Rattle.hd_session.specs.Replies.{reply_of}
 use Rattle.hd_session.specs.Opening.{SessionState}

@@ -23,7 +23,7 @@ use Rattle.hd_volume.specs.declared.header.TheConstants.{NEWEST_VERSION}
 use Rattle.hd_links.specs.Placed.{Placed, forest_of}
 use Rattle.hd_links.specs.Steps.{rows_of}
 use Rattle.hd_image.specs.Holding.{HoldsPlaced, HoldsForest, HoldsRows}
-use Rattle.hd_check.specs.declared.checking.CheckFault.TheVariants as check
+use Rattle.hd_check.specs.declared.checks.CheckFault.TheVariants as check
 use Rattle.hd_check.specs.Checks.{IsFaultOf}
 use Rattle.hd_position.specs.Kept.{Kept, kept_start}
 use Rattle.hd_update.specs.States.{Represents}

@@ -1,6 +1,6 @@
 -- The reply that an answer is.
 use Rattle.hd_dbd.specs.Calls.{Reply}
-use Rattle.hd_session.specs.declared.request.Answer.{Answer}
+use Rattle.hd_session.specs.declared.call_and_answer.Answer.{Answer}
 use Rattle.hd_session.specs.Buffer.{Buffer}
 
 -- an answer with the bytes beside it

@@ -1,5 +1,5 @@
 -- What a call of a session comes to.
-use Rattle.std.specs.Prelude.{◌≡◌, ◌≢◌, IsTrue, ℕ, ◌-◌, List, [], ◌∷◌, length, cond, Some, slice_index}
+use Rattle.std.specs.Prelude.{◌≡◌, ◌≢◌, IsTrue, ℕ, ◌-◌, List, [], ◌∷◌, length, cond, Some, slice_index, ◌≤◌}
 use Rattle.hd_dbd.specs.Types.{SegmentType, View}
 use Rattle.hd_dbd.specs.Hierarchy.{Database, level_of}
 use Rattle.hd_dbd.specs.Positions.{Position}
@@ -13,7 +13,7 @@ use Rattle.hd_calls.specs.Runs.{Follows}
 use Rattle.hd_volume.specs.Volumes.{VolumeState}
 use Rattle.hd_links.specs.Placed.{Placed}
 use Rattle.hd_links.specs.Steps.{rows_of}
-use Rattle.hd_keeping.specs.VolumeImages.{images_of}
+use Rattle.hd_changes.specs.VolumeImages.{images_of}
 use Rattle.hd_position.specs.Kept.{Kept, StandsFor, row_on, path_passed}
 use Rattle.hd_get.specs.Gets.{GetCall, IsPositionIn, answer_to}
 use Rattle.hd_get.specs.declared.outcome.Outcome.{Outcome}
@@ -23,6 +23,8 @@ use Rattle.hd_session.specs.Giving.{is_among}
 use Rattle.hd_update.specs.States.{Represents, IsUndone, LacksRoomFor, StoresSome}
 use Rattle.hd_dbd.specs.declared.answer.Refused.{Refused}
 use Rattle.hd_dbd.specs.declared.answer.Refused.TheVariants.{Device, Full, Memory}
+use Rattle.hd_calls.specs.Functions.{function_of}
+use Rattle.hd_calls.specs.declared.call.Function.TheVariants.{Insert}
 
 -- ---- a call
 
@@ -105,3 +107,7 @@ IsRoomLacking d v old effect e = (st : State) → e ≡ Full → IsTrue v.is_sou
 -- longer.
 abbrev pub IsMemoryLacking : Database → VolumeState → List Kept → (State → Effect) → Refused → Type 0
 IsMemoryLacking d v old effect e = (st : State) → e ≡ Memory → IsTrue v.is_sound → Represents d v old st → StoresSome st.rows (effect st)
+
+-- the fact holds of a call that is no ISRT and has four arguments at most
+abbrev pub IfFewNoInsert : CallText → Type 0 → Type 0
+IfFewNoInsert call fact = function_of call.function ≢ Some Insert → length call.ssas ≤ 4 → fact

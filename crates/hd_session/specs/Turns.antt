@@ -10,9 +10,9 @@ use Rattle.hd_calls.specs.Functions.{function_of}
 use Rattle.hd_calls.specs.Steps.{State}
 use Rattle.hd_calls.specs.Runs.{IsRun, effect_by, next_state, last_state, image_at, ImagesFollow}
 use Rattle.hd_volume.specs.Calls.{IsCall}
-use Rattle.hd_keeping.specs.VolumeImages.{images_of}
+use Rattle.hd_changes.specs.VolumeImages.{images_of}
 use Rattle.hd_update.specs.States.{Represents, StoresSome}
-use Rattle.hd_session.specs.declared.request.Answer.{Answer}
+use Rattle.hd_session.specs.declared.call_and_answer.Answer.{Answer}
 use Rattle.hd_session.specs.Buffer.{Buffer}
 use Rattle.hd_session.specs.Opening.{SessionState, is_broken_by}
 use Rattle.hd_session.specs.Logged.{IsCallLogged}

@@ -1,22 +1,29 @@
-//! Sessions: the calls of the PCBs of one program over a volume, with their answers.
+//! Sessions: the calls of the PCBs of one program over a volume, with their answers, and the tests that a call must pass before its own
+//! work is done.
 #![tactic(auto)]
 
 mod above;
+mod accepted;
 mod buffer;
-mod calling;
-mod getting;
-mod giving;
-mod inserting;
+mod call_and_answer;
+mod calls;
+mod functions;
+mod get_answers;
+mod given_rows;
+mod insert_answers;
 mod law;
-mod loading;
+mod load_answers;
 mod opening;
-mod over_volume;
-mod request;
-mod updating;
+mod parent;
+mod permissions;
+mod session;
+mod tests_by_function;
+mod update_answers;
 
+pub use accepted::{Accepted, accept};
 pub use buffer::IoArea;
-pub use giving::give;
+pub use call_and_answer::{Answer, Call};
+pub use given_rows::give;
 pub use law::{law_no_lost_update, law_sessions_answer_their_logs};
 pub use opening::OpenFault;
-pub use over_volume::Session;
-pub use request::{Answer, Call};
+pub use session::Session;

@@ -7,7 +7,8 @@ use hd_check::{CheckFault, Fault, check};
 use hd_dbd::{Dbd, Pcb};
 use hd_position::Position;
 use hd_ssa::loads;
-use hd_volume::{BlockStore, NEWEST_VERSION, Volume};
+use hd_stores::BlockStore;
+use hd_volume::{NEWEST_VERSION, Volume};
 use std::alloc::{AllocError, Global};
 
 /// Why a session is not opened.

@@ -4,13 +4,13 @@ ghost use Rattle.std.specs.Prelude.{◌≡◌};
 use crate::calling_tests::play_all;
 use crate::listed_calls::{program, spread};
 use crate::run_tests::steps_of;
-use hd_cache::Cached;
 use hd_check::{CheckFault, check};
 use hd_dbd::Dbd;
 use hd_deck::{RunFault, run};
 use hd_sample::database;
 use hd_session::{IoArea, OpenFault, Session};
-use hd_volume::{FuseStore, MemStore, Volume};
+use hd_stores::{Cached, FuseStore, MemStore};
+use hd_volume::Volume;
 use std::alloc::{AllocError, Global};
 use std::test::Fail;
 

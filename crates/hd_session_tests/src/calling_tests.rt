@@ -5,7 +5,8 @@ use crate::listed_calls::{is_answer, play, program, spread};
 use hd_dbd::{Dbd, Refused};
 use hd_sample::database;
 use hd_session::{IoArea, Session};
-use hd_volume::{BlockStore, FuseStore, Volume};
+use hd_stores::{BlockStore, FuseStore};
+use hd_volume::Volume;
 use std::alloc::Global;
 use std::test::Fail;
 

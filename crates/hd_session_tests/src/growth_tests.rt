@@ -7,7 +7,8 @@ use crate::stores::{SIZE, Sparing};
 use hd_dbd::{Dbd, Refused, Status};
 use hd_sample::database;
 use hd_session::{Call, IoArea, Session};
-use hd_volume::{BlockStore, Volume};
+use hd_stores::BlockStore;
+use hd_volume::Volume;
 use std::alloc::{AllocError, Global};
 use std::test::Fail;
 

@@ -10,7 +10,8 @@ use crate::stores::{SIZE, Sparing};
 use crate::varying_tests::volume_of;
 use hd_dbd::Dbd;
 use hd_session::{Call, IoArea, Session};
-use hd_volume::{BlockStore, Volume};
+use hd_stores::BlockStore;
+use hd_volume::Volume;
 use std::alloc::{AllocError, Global};
 use std::test::Fail;
 

@@ -6,7 +6,7 @@ ghost use Rattle.hd_dbd.specs.ProgramRules.{type_names};
 use hd_dbd::{Dbd, Name8, Pcb, Psb, Refused, Sens, Status};
 use hd_sample::{image, spread_image};
 use hd_session::{Answer, Call, IoArea, Session};
-use hd_volume::{BlockStore, MemStore};
+use hd_stores::{BlockStore, MemStore};
 use std::alloc::Global;
 
 /// The sample's types that the PCB sees, each with its parent.

@@ -4,8 +4,9 @@ ghost use Rattle.std.specs.Prelude.{◌≡◌, IfOk};
 
 use hd_dbd::{Dbd, DbdFault, Field, FreeSpace, Key, Name8, SegType};
 use hd_sample::{segment_type, stream_of};
+use hd_stores::MemStore;
 use hd_unload::unload;
-use hd_volume::{MemStore, Volume};
+use hd_volume::Volume;
 use std::alloc::{AllocError, Global};
 
 /// A row: the code of its type, what stands behind its length, and its length; dots fill it.

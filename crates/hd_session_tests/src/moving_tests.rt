@@ -9,7 +9,7 @@ use crate::varying_tests::{checked, volume_of};
 use hd_dbd::Dbd;
 use hd_deck::{RunFault, run};
 use hd_session::OpenFault;
-use hd_volume::FuseStore;
+use hd_stores::FuseStore;
 use std::alloc::{AllocError, Global};
 use std::test::Fail;
 

@@ -6,7 +6,8 @@ use hd_check::{Fault, Line};
 use hd_dbd::{Dbd, Name8, Pcb, Psb, Refused, Sens};
 use hd_sample::{database, image};
 use hd_session::{OpenFault, Session};
-use hd_volume::{FuseStore, MemStore, Volume};
+use hd_stores::{FuseStore, MemStore};
+use hd_volume::Volume;
 use std::alloc::Global;
 use std::test::Fail;
 

@@ -7,7 +7,7 @@ use hd_commands::{play_deck, status_of_calls};
 use hd_dbd::{Dbd, Name8, Pcb, Psb, Sens};
 use hd_deck::read_deck;
 use hd_sample::database;
-use hd_volume::{BlockStore, FuseStore};
+use hd_stores::{BlockStore, FuseStore};
 use std::alloc::Global;
 use std::io::Write;
 use std::test::Fail;

@@ -6,7 +6,7 @@ use crate::run_tests::{edited, steps_of};
 use hd_dbd::{Dbd, Name8, Pcb, Psb, Refused, Sens};
 use hd_deck::{RunFault, run};
 use hd_sample::{database, image};
-use hd_volume::{BlockStore, FuseStore};
+use hd_stores::{BlockStore, FuseStore};
 use std::alloc::Global;
 use std::io::Write;
 use std::test::Fail;

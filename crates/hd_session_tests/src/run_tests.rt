@@ -8,7 +8,7 @@ use hd_dbd::{Dbd, Name8, Pcb, Psb, Sens};
 use hd_deck::{RunFault, Step, read_deck, run};
 use hd_sample::{database, image};
 use hd_session::OpenFault;
-use hd_volume::{FuseStore, MemStore};
+use hd_stores::{FuseStore, MemStore};
 use std::alloc::Global;
 use std::io::{self, ErrorKind, Write};
 use std::test::Fail;

@@ -3,7 +3,7 @@
 ghost use Rattle.std.specs.Prelude.{◌≡◌, [], false, length};
 
 use hd_dbd::Refused;
-use hd_volume::BlockStore;
+use hd_stores::BlockStore;
 
 /// The bytes of a block.
 pub const SIZE: usize = 128;

@@ -6,7 +6,7 @@ use crate::survey::{BlockUse, Kind, TypeUse};
 use crate::twins::{Twin, note_parent, note_segment, note_twin};
 use hd_block::{Part, Parts};
 use hd_dbd::{Dbd, Refused, SegmentSize};
-use hd_entries::{FIRST, IndexBlock, entry_place, entry_room, root_key_length};
+use hd_index_blocks::{FIRST, IndexBlock, entry_place, entry_room, root_key_length};
 use hd_prefix::{Layout, Pointer};
 use hd_volume::{DATA, FREE, INDEX, MARK};
 

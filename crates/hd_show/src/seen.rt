@@ -12,7 +12,8 @@ ghost use Rattle.hd_show.specs.Sights.{sight_of, sight_at, sight_in};
 use hd_block::{Part, Parts};
 use hd_dbd::{Dbd, Refused, SegmentSize};
 use hd_prefix::Layout;
-use hd_volume::{BlockStore, DATA, Volume, size_table};
+use hd_stores::BlockStore;
+use hd_volume::{DATA, Volume, size_table};
 use std::alloc::Global;
 
 /// A segment that was found in a volume: the code of its type, and its key, without bytes where the type has none.

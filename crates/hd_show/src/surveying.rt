@@ -9,8 +9,9 @@ use crate::blocks::{Found, note_block};
 use crate::survey::{Survey, TypeUse};
 use crate::twins::{count_chains, note_parent};
 use hd_dbd::{Dbd, Refused, SegmentSize};
-use hd_entries::{FIRST, entry_place, entry_room, root_key_length};
-use hd_volume::{BlockStore, MOST_BLOCKS, Volume, size_table};
+use hd_index_blocks::{FIRST, entry_place, entry_room, root_key_length};
+use hd_stores::BlockStore;
+use hd_volume::{MOST_BLOCKS, Volume, size_table};
 use std::alloc::Global;
 
 /// Surveys a volume, whatever its bytes are: each block is read once, in order, and nothing is changed. At most 65,536 whole

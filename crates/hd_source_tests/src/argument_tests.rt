@@ -1,37 +1,38 @@
-use crate::making::{Chance, chain, chain_name, chain_pcb, database, pcb};
-use crate::plain::{self, PlainHead, kind_at};
+//! Arguments whose answers the rules give.
+use crate::sources::{CHAIN, CHAIN_PSB, DBD, LOADER, PSB};
 use hd_calls::{Function, GetKind};
-use hd_dbd::{Dbd, Pcb, SegType, Status};
-use hd_ssa::{ResolvedSsa, SsaFault, resolve};
+use hd_dbd::{Dbd, Pcb, Psb, Status};
+use hd_gen::{read_dbd, read_psb};
+use hd_ssa::{SsaFault, resolve};
 use std::alloc::{AllocError, Global};
 use std::test::Fail;
 
 const GET: Function = Function::Get(GetKind::Unique, false);
 
-/// The rows on which qualifications are tried, of each type.
-const ROWS: &[&[u8]] = &[
-    b"101ALGEB",
-    b"1)1LOGIC",
-    b"205LOGIC",
-    b"150(*+&)",
-    b"01AB",
-    b"02CD",
-    b"))03",
-    b"ADAM01",
-    b"EVE 02",
-];
+/// The function of a letter.
+pub fn function_of(letter: u8) -> Function {
+    match letter {
+        b'I' => Function::Insert,
+        b'R' => Function::Replace,
+        b'D' => Function::Delete,
+        _ => GET,
+    }
+}
 
-/// The arguments of a call.
-fn texts(alloc: Global, ssas: &[&[u8]]) -> Result<Vec<Vec<u8>>, AllocError> {
+/// The arguments of a call, behind each of which stands a slash.
+fn texts(alloc: Global, line: &[u8]) -> Result<Vec<Vec<u8>>, AllocError> {
     let mut list = Vec::new(alloc);
-    for ssa in ssas {
+    let Some((b'/', front)) = line.split_last() else {
+        return Ok(list);
+    };
+    for ssa in front.split(|byte| *byte == b'/') {
         list.push(Vec::from_slice(alloc, ssa)?)?;
     }
     Ok(list)
 }
 
 /// The status that arguments are answered with: blank where they mean something.
-fn status_of(
+pub fn status_of(
     alloc: Global,
     dbd: &Dbd,
     pcb: &Pcb,
@@ -45,349 +46,147 @@ fn status_of(
     }
 }
 
+/// The two characters of the statuses that arguments are answered with.
+fn code_of(status: Status) -> [u8; 2] {
+    match status {
+        Status::Blank => *b"  ",
+        Status::AC => *b"AC",
+        Status::AJ => *b"AJ",
+        Status::AK => *b"AK",
+        _ => *b"??",
+    }
+}
+
+/// Calls, each in a line: G, I, R or D for the function; P for the PCB that may do all, S for the one that sees no students, L for the one that loads; the
+/// status that is the answer to its arguments; and these, each with a slash behind it.
+const CALLS: &[u8] = b"GP   \x20
+GP    COURSE  /
+GP    COURSE  *DFLN- whatever/
+GP    COURSE  *(NUM     EQ101)whatever/
+GP AJ COURSE/
+GP AJ  COURSE /
+GP AJ COU RSE /
+GP AJ COURSE  X/
+GP AJ COURSE  *P/
+GP AJ CLASS   (ED      XX02)/
+GP AJ CLASS   (ED      EQ02/
+GP AJ CLASS   (ED      EQ0/
+GP AJ CLASS   (ED      EQ02,ED      EQ02)/
+GP AJ CLASS   (ED     /
+GP AK CLASS   (NAME    EQ02)/
+GP AK CLASS   (NAME    XX02)/
+GP AC CLAS    /
+GP AC STUD    /CLASS   /
+GP AC CLASS   /BOOK    /
+GP AC CLASS   (NAME    EQ02)/CLAS    /
+GP AJ CLASS   (NAME    EQ02)/BOOK    X/
+IP AJ CLASS   (ED      EQ01)/
+IP AC COURSE  /STUD    /
+IP    CLASS   (ED      EQ01)/STUD    /
+RP AJ CLASS   (ED      EQ01)/
+DP AJ COURSE  /CLASS   /
+GS AC STUD    /
+IL AJ COURSE  /CLASS   /
+GS AC COURSE  /COURSE  /COURSE  /COURSE  /COURSE  /COURSE  /COURSE  /COURSE  /COURSE  /COURSE  /COURSE  /COURSE  /COURSE  /COURSE  /COURSE  /COURSE  /";
+
+/// The PCB of a letter.
+fn pcb_of<'a>(psb: &'a Psb, loader: &'a Psb, letter: u8) -> Option<&'a Pcb> {
+    match letter {
+        b'P' => psb.pcbs().first(),
+        b'S' => psb.pcbs().get(1),
+        _ => loader.pcbs().first(),
+    }
+}
+
+/// Whether the answer to the arguments of a line is what the line says.
+fn is_answered(
+    alloc: Global,
+    dbd: &Dbd,
+    psb: &Psb,
+    loader: &Psb,
+    line: &[u8],
+) -> Result<bool, Fail> {
+    let Some(([letter, program, _, first, second, _], rest)) = line.split_first_chunk::<6>() else {
+        return Err(Fail::from("a line"));
+    };
+    let pcb = pcb_of(psb, loader, *program).ok_or("a PCB")?;
+    let ssas = texts(alloc, rest)?;
+    let status = status_of(alloc, dbd, pcb, function_of(*letter), &ssas)?;
+    Ok(code_of(status) == [*first, *second])
+}
+
 #[test]
 fn answers_the_first_fault(rt: HostRuntime) -> Result<(), Fail> {
-    let dbd = database(rt.alloc())?;
-    let all = pcb(rt.alloc(), "AP", None)?;
-    let cases: [(Function, &[&[u8]], Status); 26] = [
-        (GET, &[], Status::Blank),
-        (GET, &[b"COURSE  "], Status::Blank),
-        (GET, &[b"COURSE  *DFLN- whatever"], Status::Blank),
-        (GET, &[b"COURSE  *(NUM     EQ101)whatever"], Status::Blank),
-        (GET, &[b"COURSE"], Status::AJ),
-        (GET, &[b" COURSE "], Status::AJ),
-        (GET, &[b"COU RSE "], Status::AJ),
-        (GET, &[b"COURSE  X"], Status::AJ),
-        (GET, &[b"COURSE  *P"], Status::AJ),
-        (GET, &[b"CLASS   (ED      XX02)"], Status::AJ),
-        (GET, &[b"CLASS   (ED      EQ02"], Status::AJ),
-        (GET, &[b"CLASS   (ED      EQ0"], Status::AJ),
-        (GET, &[b"CLASS   (ED      EQ02,ED      EQ02)"], Status::AJ),
-        (GET, &[b"CLASS   (ED     "], Status::AJ),
-        (GET, &[b"CLASS   (NAME    EQ02)"], Status::AK),
-        (GET, &[b"CLASS   (NAME    XX02)"], Status::AK),
-        (GET, &[b"CLAS    "], Status::AC),
-        (GET, &[b"STUD    ", b"CLASS   "], Status::AC),
-        (GET, &[b"CLASS   ", b"BOOK    "], Status::AC),
-        (GET, &[b"CLASS   (NAME    EQ02)", b"CLAS    "], Status::AC),
-        (GET, &[b"CLASS   (NAME    EQ02)", b"BOOK    X"], Status::AJ),
-        (Function::Insert, &[b"CLASS   (ED      EQ01)"], Status::AJ),
-        (Function::Insert, &[b"COURSE  ", b"STUD    "], Status::AC),
-        (
-            Function::Insert,
-            &[b"CLASS   (ED      EQ01)", b"STUD    "],
-            Status::Blank,
-        ),
-        (Function::Replace, &[b"CLASS   (ED      EQ01)"], Status::AJ),
-        (Function::Delete, &[b"COURSE  ", b"CLASS   "], Status::AJ),
-    ];
-    for (function, ssas, want) in cases {
-        let given = texts(rt.alloc(), ssas)?;
-        let status = status_of(rt.alloc(), &dbd, &all, function, &given)?;
-        assert!(rt; status == want, "{function:?} {status:?} {want:?}");
+    let dbd = read_dbd(rt.alloc(), DBD)?;
+    let psb = read_psb(rt.alloc(), PSB, &dbd)?;
+    let loader = read_psb(rt.alloc(), LOADER, &dbd)?;
+    for (number, line) in CALLS.split(|byte| *byte == b'\n').enumerate() {
+        assert!(rt;
+            is_answered(rt.alloc(), &dbd, &psb, &loader, line)?,
+            "at {number}"
+        );
     }
     Ok(())
 }
 
-#[test]
-fn counts_arguments_and_asks_the_program(rt: HostRuntime) -> Result<(), Fail> {
-    let dbd = database(rt.alloc())?;
-    let some = pcb(rt.alloc(), "A", Some(2))?;
-    let load = pcb(rt.alloc(), "L", None)?;
-    let student = texts(rt.alloc(), &[b"STUD    "])?;
-    assert!(rt; status_of(rt.alloc(), &dbd, &some, GET, &student)? == Status::AC);
-    let two = texts(rt.alloc(), &[b"COURSE  ", b"CLASS   "])?;
-    assert!(rt; status_of(rt.alloc(), &dbd, &load, Function::Insert, &two)? == Status::AJ);
-    let mut many = Vec::new(rt.alloc());
-    for _ in 0..16 {
-        many.push(Vec::from_slice(rt.alloc(), b"COURSE  ")?)?;
-    }
-    assert!(rt; status_of(rt.alloc(), &dbd, &some, GET, &many)? == Status::AC);
-    Ok(())
+/// Arguments for courses; a row; whether it has the qualification, and whether it is past it; and the least key, empty where there is none.
+const QUALIFIED: &[u8] = b"COURSE  /101ALGEB/+/-/
+COURSE  (NUM     EQ101)/101ALGEB/+/-/101
+COURSE  (NUM      =101)/100ALGEB/-/-/101
+COURSE  (NUM     = 101)/102ALGEB/-/+/101
+COURSE  (NUM     >=150)/205LOGIC/+/-/150
+COURSE  (NUM     =<150)/150LOGIC/+/-/
+COURSE  (NUM     < 150)/150LOGIC/-/+/
+COURSE  (NUM     > 150)/150LOGIC/-/-/150
+COURSE  (NUM     NE150)/150LOGIC/-/-/
+COURSE  (TITLE   EQLOGIC)/205LOGIC/+/-/
+COURSE  (NUM     EQ101+NUM     EQ205)/205LOGIC/+/-/101
+COURSE  (NUM     EQ101|NUM     EQ205)/206LOGIC/-/+/101
+COURSE  (NUM     GE101&NUM     LT150)/205LOGIC/-/+/101
+COURSE  (NUM     GE101*NUM     GT150+NUM     EQ160)/155LOGIC/+/-/150
+COURSE  (NUM     EQ101+TITLE   EQLOGIC)/205LOGIC/+/-/
+COURSE  (NUM     EQ101+NUM     EQ205*TITLE   EQALGEB)/101LOGIC/+/-/101";
+
+/// Whether the argument of a line does what the line says.
+fn is_judged(alloc: Global, dbd: &Dbd, pcb: &Pcb, line: &[u8]) -> Result<bool, Fail> {
+    let mut cells = line.split(|byte| *byte == b'/');
+    let mut ssas = Vec::new(alloc);
+    ssas.push(Vec::from_slice(alloc, cells.next().unwrap_or(b""))?)?;
+    let row = cells.next().unwrap_or(b"");
+    let holds = cells.next() == Some(b"+");
+    let is_past = cells.next() == Some(b"+");
+    let least = cells.next().filter(|least| !least.is_empty());
+    let resolved = resolve(alloc, GET, &ssas, pcb, dbd)?;
+    let (Some(ssa), Some(root)) = (resolved.ssas().first(), dbd.type_of(1)) else {
+        return Err(Fail::from("an argument"));
+    };
+    let key = root.key.ok_or("a key")?;
+    let alike = ssa.holds(row) == holds && ssa.is_past(root, row) == is_past;
+    Ok(alike && ssa.least_key(key) == least)
 }
 
 #[test]
 fn judges_rows(rt: HostRuntime) -> Result<(), Fail> {
-    let dbd = database(rt.alloc())?;
-    let all = pcb(rt.alloc(), "A", None)?;
-    // The argument; a row with whether it has the qualification and is past it; and the least key.
-    let cases: [(&[u8], &[u8], bool, bool, Option<&[u8]>); 16] = [
-        (b"COURSE  ", b"101ALGEB", true, false, None),
-        (
-            b"COURSE  (NUM     EQ101)",
-            b"101ALGEB",
-            true,
-            false,
-            Some(b"101"),
-        ),
-        (
-            b"COURSE  (NUM      =101)",
-            b"100ALGEB",
-            false,
-            false,
-            Some(b"101"),
-        ),
-        (
-            b"COURSE  (NUM     = 101)",
-            b"102ALGEB",
-            false,
-            true,
-            Some(b"101"),
-        ),
-        (
-            b"COURSE  (NUM     >=150)",
-            b"205LOGIC",
-            true,
-            false,
-            Some(b"150"),
-        ),
-        (b"COURSE  (NUM     =<150)", b"150LOGIC", true, false, None),
-        (b"COURSE  (NUM     < 150)", b"150LOGIC", false, true, None),
-        (
-            b"COURSE  (NUM     > 150)",
-            b"150LOGIC",
-            false,
-            false,
-            Some(b"150"),
-        ),
-        (b"COURSE  (NUM     NE150)", b"150LOGIC", false, false, None),
-        (b"COURSE  (TITLE   EQLOGIC)", b"205LOGIC", true, false, None),
-        (
-            b"COURSE  (NUM     EQ101+NUM     EQ205)",
-            b"205LOGIC",
-            true,
-            false,
-            Some(b"101"),
-        ),
-        (
-            b"COURSE  (NUM     EQ101|NUM     EQ205)",
-            b"206LOGIC",
-            false,
-            true,
-            Some(b"101"),
-        ),
-        (
-            b"COURSE  (NUM     GE101&NUM     LT150)",
-            b"205LOGIC",
-            false,
-            true,
-            Some(b"101"),
-        ),
-        (
-            b"COURSE  (NUM     GE101*NUM     GT150+NUM     EQ160)",
-            b"155LOGIC",
-            true,
-            false,
-            Some(b"150"),
-        ),
-        (
-            b"COURSE  (NUM     EQ101+TITLE   EQLOGIC)",
-            b"205LOGIC",
-            true,
-            false,
-            None,
-        ),
-        (
-            b"COURSE  (NUM     EQ101+NUM     EQ205*TITLE   EQALGEB)",
-            b"101LOGIC",
-            true,
-            false,
-            Some(b"101"),
-        ),
-    ];
-    let root = dbd.type_of(1).ok_or("no root")?;
-    let key = root.key.ok_or("no key")?;
-    for (text, row, holds, past, least) in cases {
-        let given = texts(rt.alloc(), &[text])?;
-        let resolved = resolve(rt.alloc(), GET, &given, &all, &dbd)?;
-        for ssa in resolved.ssas() {
-            assert!(rt; ssa.holds(row) == holds);
-            assert!(rt; ssa.is_past(root, row) == past);
-            assert!(rt; ssa.least_key(key) == least);
-        }
+    let dbd = read_dbd(rt.alloc(), DBD)?;
+    let psb = read_psb(rt.alloc(), PSB, &dbd)?;
+    let pcb = psb.pcbs().first().ok_or("a PCB")?;
+    for (number, line) in QUALIFIED.split(|byte| *byte == b'\n').enumerate() {
+        assert!(rt; is_judged(rt.alloc(), &dbd, pcb, line)?, "at {number}");
     }
-    Ok(())
-}
-
-/// Whether an argument is resolved to what a plain head says.
-fn is_alike(ssa: &ResolvedSsa<'_>, head: &PlainHead<'_>) -> bool {
-    let codes = ssa.commands();
-    let given = [codes.path, codes.first, codes.last, codes.excepted];
-    let place = usize::from(ssa.code()).checked_sub(1);
-    place == head.place && given == head.codes && ssa.is_qualified() == head.text.is_some()
-}
-
-/// Whether an argument judges a row of its type as the rules do.
-fn judges(ssa: &ResolvedSsa<'_>, head: &PlainHead<'_>, row: &[u8]) -> bool {
-    match (kind_at(head.place), head.text) {
-        (Some(kind), Some(text)) => plain::truth(kind, text, row) == Ok(ssa.holds(row)),
-        _ => ssa.holds(row),
-    }
-}
-
-/// Whether no row behind one that is past has the qualification, and no row below the least key.
-fn passes_over(ssa: &ResolvedSsa<'_>, segment: &SegType, row: &[u8], later: &[u8]) -> bool {
-    let behind = ssa.is_past(segment, row) && later.cmp(row).is_ge();
-    let below = match segment.key.and_then(|key| ssa.least_key(key)) {
-        Some(least) => later.cmp(least).is_lt(),
-        None => false,
-    };
-    !(behind || below) || !ssa.holds(later)
-}
-
-/// Whether an argument does to all rows of its type what the rules say.
-fn agrees(dbd: &Dbd, ssa: &ResolvedSsa<'_>, head: &PlainHead<'_>) -> bool {
-    let Some(segment) = dbd.type_of(ssa.code()) else {
-        return false;
-    };
-    for row in ROWS {
-        if row.len() == segment.length as usize {
-            if !judges(ssa, head, row) {
-                return false;
-            }
-            for later in ROWS {
-                if later.len() == row.len() && !passes_over(ssa, segment, row, later) {
-                    return false;
-                }
-            }
-        }
-    }
-    is_alike(ssa, head)
-}
-
-/// A PCB of the tests: whether it loads, and the type that it does not see.
-#[derive(Clone, Copy)]
-struct Program<'a> {
-    pcb: &'a Pcb,
-    loads: bool,
-    hidden: Option<usize>,
-}
-
-/// How the answer to a call's arguments stands to that of the rules: both mean something, or both are one status, or they differ.
-#[derive(Clone, Copy, PartialEq, Eq)]
-enum Verdict {
-    Resolved,
-    Refused,
-    Different,
-}
-
-/// Whether each argument does what its plain head says.
-fn all_agree(dbd: &Dbd, ssas: &[ResolvedSsa<'_>], heads: &[PlainHead<'_>]) -> bool {
-    if ssas.len() != heads.len() {
-        return false;
-    }
-    for (place, ssa) in ssas.iter().enumerate() {
-        if !agrees(dbd, ssa, &heads[place]) {
-            return false;
-        }
-    }
-    true
-}
-
-/// What is found, where the rules give these heads.
-fn beside_heads(
-    alloc: Global,
-    dbd: &Dbd,
-    program: &Program<'_>,
-    function: Function,
-    ssas: &[Vec<u8>],
-    heads: &[PlainHead<'_>],
-) -> Verdict {
-    match resolve(alloc, function, ssas, program.pcb, dbd) {
-        Ok(resolved) => {
-            if all_agree(dbd, resolved.ssas(), heads) {
-                Verdict::Resolved
-            } else {
-                Verdict::Different
-            }
-        }
-        Err(_) => Verdict::Different,
-    }
-}
-
-/// What is found beside what the rules give.
-fn compared(
-    alloc: Global,
-    dbd: &Dbd,
-    program: &Program<'_>,
-    function: Function,
-    ssas: &[Vec<u8>],
-) -> Result<Verdict, SsaFault> {
-    let Ok(wanted) = plain::resolve(alloc, function, ssas, program.loads, program.hidden) else {
-        return Err(SsaFault::Memory);
-    };
-    match wanted {
-        Ok(heads) => Ok(beside_heads(alloc, dbd, program, function, ssas, &heads)),
-        Err(wanted) => {
-            if status_of(alloc, dbd, program.pcb, function, ssas)? == wanted {
-                Ok(Verdict::Refused)
-            } else {
-                Ok(Verdict::Different)
-            }
-        }
-    }
-}
-
-#[test]
-fn agrees_with_the_rules(rt: HostRuntime) -> Result<(), Fail> {
-    let dbd = database(rt.alloc())?;
-    let all = pcb(rt.alloc(), "A", None)?;
-    let some = pcb(rt.alloc(), "A", Some(2))?;
-    let load = pcb(rt.alloc(), "L", None)?;
-    let programs = [
-        Program {
-            pcb: &all,
-            loads: false,
-            hidden: None,
-        },
-        Program {
-            pcb: &some,
-            loads: false,
-            hidden: Some(2),
-        },
-        Program {
-            pcb: &load,
-            loads: true,
-            hidden: None,
-        },
-    ];
-    let functions = [
-        GET,
-        GET,
-        Function::Insert,
-        Function::Replace,
-        Function::Delete,
-    ];
-    let mut chance = Chance::new();
-    let mut resolved = 0_u32;
-    for round in 0..2000_usize {
-        let ssas = chance.arguments(rt.alloc())?;
-        let program = &programs[round % 3];
-        let verdict = compared(rt.alloc(), &dbd, program, functions[round % 5], &ssas)?;
-        assert!(rt; verdict != Verdict::Different, "round {round}");
-        if verdict == Verdict::Resolved {
-            resolved = resolved.saturating_add(1);
-        }
-    }
-    assert!(rt; resolved > 400, "{resolved}");
     Ok(())
 }
 
 #[test]
 fn resolves_as_many_as_there_are_levels(rt: HostRuntime) -> Result<(), Fail> {
-    let dbd = chain(rt.alloc())?;
-    let pcb = chain_pcb(rt.alloc())?;
+    let dbd = read_dbd(rt.alloc(), CHAIN)?;
+    let psb = read_psb(rt.alloc(), CHAIN_PSB, &dbd)?;
+    let pcb = psb.pcbs().first().ok_or("a PCB")?;
     let mut ssas = Vec::new(rt.alloc());
-    for code in 1..16 {
-        ssas.push(Vec::from_slice(rt.alloc(), &chain_name(code))?)?;
-        let count = count_of(rt.alloc(), &dbd, &pcb, &ssas);
-        assert_eq!(rt; count, Ok(code as usize));
+    for segment in dbd.types() {
+        ssas.push(Vec::from_slice(rt.alloc(), segment.name.bytes())?)?;
+        let resolved = resolve(rt.alloc(), GET, &ssas, pcb, &dbd)?;
+        assert_eq!(rt; resolved.ssas().len(), ssas.len());
     }
+    assert_eq!(rt; ssas.len(), 15);
     Ok(())
-}
-
-/// How many arguments a get's mean.
-fn count_of(alloc: Global, dbd: &Dbd, pcb: &Pcb, ssas: &[Vec<u8>]) -> Result<usize, SsaFault> {
-    let resolved = resolve(alloc, GET, ssas, pcb, dbd)?;
-    Ok(resolved.ssas().len())
 }

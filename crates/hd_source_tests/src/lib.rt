@@ -1,15 +1,18 @@
-//! Tests of the readers of text: statements, DBD and PSB sources, segment search arguments, and the words that are explained.
+//! Tests of the readers of text: statements, DBD and PSB sources, segment search arguments, and rows as text. What the program shows of them is played by
+//! `tests/program_test.py`.
 #![tactic(auto)]
 
 #[cfg(test)]
 mod argument_tests;
 #[cfg(test)]
-mod explain_tests;
-#[cfg(test)]
-mod making;
+mod chance;
 #[cfg(test)]
 mod plain;
 #[cfg(test)]
+mod rows_tests;
+#[cfg(test)]
+mod rule_tests;
+#[cfg(test)]
 mod source_tests;
 #[cfg(test)]
-mod statement_tests;
+mod sources;

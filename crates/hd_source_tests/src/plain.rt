@@ -4,18 +4,14 @@ use hd_dbd::Status;
 use std::alloc::{AllocError, Global};
 use std::cmp::Ordering;
 
-/// A type of the tests: its name, its parent's place, and its fields with their places from 0.
+/// A field of the tests: its name, its place from 0, and its length.
+type PlainField = (&'static [u8], u8, u8);
+
+/// A type of the tests: its name, its parent's place, and its fields.
 pub struct PlainType {
     pub name: &'static [u8],
     pub parent: Option<usize>,
     pub fields: &'static [PlainField],
-}
-
-/// A field of the tests.
-pub struct PlainField {
-    pub name: &'static [u8],
-    pub start: u8,
-    pub length: u8,
 }
 
 /// Courses with their classes and books, and the students of each class.
@@ -23,36 +19,17 @@ pub const TYPES: &[PlainType] = &[
     PlainType {
         name: b"COURSE  ",
         parent: None,
-        fields: &[
-            PlainField {
-                name: b"NUM     ",
-                start: 0,
-                length: 3,
-            },
-            PlainField {
-                name: b"TITLE   ",
-                start: 3,
-                length: 5,
-            },
-        ],
+        fields: &[(b"NUM     ", 0, 3), (b"TITLE   ", 3, 5)],
     },
     PlainType {
         name: b"CLASS   ",
         parent: Some(0),
-        fields: &[PlainField {
-            name: b"ED      ",
-            start: 0,
-            length: 2,
-        }],
+        fields: &[(b"ED      ", 0, 2)],
     },
     PlainType {
         name: b"STUD    ",
         parent: Some(1),
-        fields: &[PlainField {
-            name: b"SNAME   ",
-            start: 0,
-            length: 4,
-        }],
+        fields: &[(b"SNAME   ", 0, 4)],
     },
     PlainType {
         name: b"BOOK    ",
@@ -126,7 +103,7 @@ fn comparison<'a>(
     let field = kind
         .fields
         .iter()
-        .find(|field| field.name == name)
+        .find(|field| field.0 == name)
         .ok_or(Status::AK)?;
     let (sign, rest) = rest.split_at_checked(2).ok_or(Status::AJ)?;
     let wanted: &[Ordering] = match sign {
@@ -138,9 +115,9 @@ fn comparison<'a>(
         b"NE" => &[Ordering::Less, Ordering::Greater],
         _ => return Err(Status::AJ),
     };
-    let length = usize::from(field.length);
+    let length = usize::from(field.2);
     let (value, behind) = rest.split_at_checked(length).ok_or(Status::AJ)?;
-    let start = usize::from(field.start);
+    let start = usize::from(field.1);
     let part = row.get(start..start + length).unwrap_or(&[]);
     Ok((wanted.contains(&part.cmp(value)), behind))
 }

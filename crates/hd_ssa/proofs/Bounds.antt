@@ -15,7 +15,7 @@ use Rattle.hd_calls.specs.declared.call.Operator.{Operator}
 use Rattle.hd_calls.specs.declared.call.Operator.TheVariants.{Equal, AtLeast, AtMost, Greater, Less, NotEqual}
 use Rattle.hd_calls.specs.Ssas.{Comparison, Ssa}
 use Rattle.hd_calls.specs.Satisfies.{is_true_of, accepts}
-use Rattle.hd_seek.specs.Keys.{is_of_key}
+use Rattle.hd_calls.specs.SearchKeys.{is_of_key}
 use Rattle.hd_ssa.specs.LeastKeys.{is_less, refuses_below, bound_of, greater_of, lesser_of, greatest_bound, least_bound, least_key, NoneQualifiesBelow}
 
 no_and : (b : Bool) → (b && false) ≡ false

@@ -9,7 +9,7 @@ use Rattle.hd_calls.specs.declared.call.Operator.{Operator}
 use Rattle.hd_calls.specs.declared.call.Operator.TheVariants.{Equal, AtLeast, AtMost, Greater, Less, NotEqual}
 use Rattle.hd_calls.specs.Ssas.{Comparison, Ssa}
 use Rattle.hd_calls.specs.Satisfies.{qualifies}
-use Rattle.hd_seek.specs.Keys.{is_of_key}
+use Rattle.hd_calls.specs.SearchKeys.{is_of_key}
 
 -- the first key is less than the second
 abbrev pub is_less : List ℕ → List ℕ → Bool

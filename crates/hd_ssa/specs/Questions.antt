@@ -2,7 +2,7 @@
 use Rattle.std.specs.Prelude.{Bool, not}
 use Rattle.hd_calls.specs.Ssas.{Comparison}
 use Rattle.hd_calls.specs.Satisfies.{is_true_of}
-use Rattle.hd_seek.specs.Keys.{is_comparison_past}
+use Rattle.hd_calls.specs.SearchKeys.{is_comparison_past}
 use Rattle.hd_ssa.specs.declared.question.Question.{Question}
 use Rattle.hd_ssa.specs.declared.question.Question.TheVariants.{IsTrue, IsNotPast}
 

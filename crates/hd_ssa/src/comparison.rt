@@ -4,7 +4,7 @@ ghost use Rattle.std.specs.Cmp.Lexicographic.{slice_cmp};
 ghost use Rattle.hd_dbd.specs.Hierarchy.{part_of};
 ghost use Rattle.hd_calls.specs.Ssas.{operator_of, read_comparison, begins_with, is_close, is_and, is_or};
 ghost use Rattle.hd_calls.specs.Satisfies.{accepts, is_true_of};
-ghost use Rattle.hd_seek.specs.Keys.{refuses_from, is_of_key, is_comparison_past};
+ghost use Rattle.hd_calls.specs.SearchKeys.{refuses_from, is_of_key, is_comparison_past};
 ghost use Rattle.hd_ssa.specs.LeastKeys.{refuses_below, bound_of};
 
 use hd_calls::Operator;

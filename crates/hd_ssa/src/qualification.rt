@@ -2,7 +2,7 @@ ghost use Rattle.std.specs.Prelude.{◌≡◌, ◌∷◌, [], Ok, Err, Some, Non
 ghost use Rattle.std.specs.List.{list_any, list_all};
 ghost use Rattle.hd_calls.specs.Ssas.{read_qualification};
 ghost use Rattle.hd_calls.specs.Satisfies.{is_true_of};
-ghost use Rattle.hd_seek.specs.Keys.{are_groups_past};
+ghost use Rattle.hd_calls.specs.SearchKeys.{are_groups_past};
 ghost use Rattle.hd_ssa.specs.Texts.{groups_in, single_of};
 ghost use Rattle.hd_ssa.specs.Questions.{passes};
 ghost use Rattle.hd_ssa.specs.LeastKeys.{bound_of, greater_of, lesser_of, least_bound};

@@ -4,7 +4,7 @@ ghost use Rattle.hd_dbd.specs.Views.{Setting};
 ghost use Rattle.hd_calls.specs.Access.{loads};
 ghost use Rattle.hd_calls.specs.Ssas.{first_inserted_head, unqualified, heads_suit, steps_down, types_suit, read_ssa, read_ssas, resolve};
 ghost use Rattle.hd_calls.specs.Satisfies.{qualifies};
-ghost use Rattle.hd_seek.specs.Keys.{is_key_past};
+ghost use Rattle.hd_calls.specs.SearchKeys.{is_key_past};
 ghost use Rattle.hd_ssa.specs.LeastKeys.{least_key, NoneQualifiesBelow};
 ghost use Rattle.hd_ssa.specs.Named.{heads_in, code_below, codes_down, resolve_named};
 

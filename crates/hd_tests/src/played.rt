@@ -1,88 +1,79 @@
-//! Calls of a session, and what comes of its volume.
+//! Decks, played over the bytes of a volume.
 
-ghost use Rattle.std.specs.Prelude.{◌≡◌, ◌<◌, ◌≤◌, length, IfOk, IfSome};
+use hd_dbd::{Dbd, Psb};
+use hd_deck::{read_deck, run};
+use hd_stores::{BlockStore, Cached, FuseStore, MemStore};
+use hd_unload::reload;
+use std::alloc::Global;
 
-use crate::contents::stream_of;
-use crate::outcome::{Outcome, Reply};
-use crate::rows::Row;
-use hd_check::check;
-use hd_dbd::Dbd;
-use hd_session::{Call, IoArea, Session};
-use hd_unload::{reload, unload};
-use hd_volume::{MemStore, Volume};
-use std::alloc::{AllocError, Global};
+/// The longest text of a deck that is played.
+const MOST_BYTES: usize = 10_000;
 
-/// A call of a session, with key and area.
-pub fn ask(
-    alloc: Global,
-    session: &mut Session<'_, MemStore>,
-    pcb: u8,
-    call: &Call,
-) -> Result<Outcome, AllocError>
-    requires pcb { (0 < pcb) × (pcb ≤ length session.old.pcbs) }
-    ensures pcbs { session.new.pcbs ≡ session.old.pcbs }
-{
-    let mut io = IoArea::new(alloc, session.dbd())?;
-    match session.call(pcb, call, &mut io) {
-        Ok(answer) => Ok(Outcome::Reply(Reply {
-            status: answer.status,
-            level: answer.level,
-            segment: answer.segment,
-            key: io.key().to_vec(alloc)?,
-            area: io.area().to_vec(alloc)?,
-        })),
-        Err(refused) => Ok(Outcome::Refused(refused)),
-    }
+/// What a deck printed, the bytes of the volume that it left, and the accesses that it made, with those of its opening and its closing.
+#[derive(Drop)]
+pub struct Played {
+    pub lines: Vec<u8>,
+    pub image: Vec<u8>,
+    pub accesses: u64,
 }
 
-/// A store with a volume of these rows; `None` where they have no room.
-pub fn store_of(
-    alloc: Global,
-    dbd: &Dbd,
-    rows: &[Row],
-    largest: u32,
-) -> Result<Option<(MemStore, u32)>, AllocError>
-    requires largest { (0 < largest) × (largest ≤ 65536) }
-    ensures size { IfOk result (λ made. IfSome made (λ m. m.0.size ≡ dbd.now.block_size)) }
-{
-    let stream = stream_of(alloc, dbd, rows)?;
+/// The bytes of a volume of the rows of a stream, and how many blocks it has.
+pub fn volume_of(alloc: Global, dbd: &Dbd, stream: &[u8]) -> Option<(Vec<u8>, u32)> {
     let store = MemStore::new(dbd.block_size() as usize, Vec::new(alloc));
-    match reload(alloc, dbd, &stream, store, largest) {
-        Ok(reloaded) => Ok(Some((reloaded.store, reloaded.blocks))),
-        Err(_) => Ok(None),
-    }
+    let reloaded = reload(alloc, dbd, stream, store, 65536).ok()?;
+    Some((reloaded.store.into_bytes(), reloaded.blocks))
 }
 
-/// What is wrong with the volume of a store that is to hold these rows: nothing where the checker passes it with their numbers, and
-/// its unload stream is that of the rows.
-pub fn fault_of(
+/// Plays a deck over a store, which comes back; `None` where the deck is refused, or the run has a fault.
+fn run_over<S: BlockStore + Drop>(
     alloc: Global,
     dbd: &Dbd,
-    rows: &[Row],
-    store: MemStore,
-) -> Result<&'static str, AllocError>
-    requires size { store.size ≡ dbd.now.block_size }
-{
-    let Ok(mut volume) = Volume::load(alloc, store, dbd) else {
-        return Err(AllocError);
+    psb: &Psb,
+    store: S,
+    deck: &[u8],
+    lines: &mut Vec<u8>,
+) -> Option<S> {
+    if !psb.matches(dbd) || deck.len() > MOST_BYTES {
+        return None;
+    }
+    let steps = read_deck(alloc, deck, psb.pcbs().len() as u8).ok()?;
+    if store.block_size() != dbd.block_size() as usize {
+        return None;
+    }
+    let Ok(end) = run(alloc, store, dbd, psb, &steps, lines) else {
+        return None;
     };
-    let roots = rows.iter().filter(|row| row.code == 1).count();
-    match check(alloc, &mut volume, dbd) {
-        Ok(passed) => {
-            if passed.segments as usize != rows.len() || passed.roots as usize != roots {
-                return Ok("check counts otherwise");
-            }
-        }
-        Err(_) => return Ok("check does not pass"),
-    }
-    let mut out = Vec::new(alloc);
-    match unload(alloc, &mut volume, dbd, &mut out) {
-        Ok(segments) => {
-            if segments as usize != rows.len() || out != stream_of(alloc, dbd, rows)? {
-                return Ok("unload gives another stream");
-            }
-        }
-        Err(_) => return Ok("unload is refused"),
-    }
-    Ok("")
+    Some(end.store)
+}
+
+/// Plays a deck over the bytes of a volume, below a cache of so many blocks, or of none.
+pub fn play(
+    alloc: Global,
+    dbd: &Dbd,
+    psb: &Psb,
+    image: &[u8],
+    deck: &[u8],
+    blocks: usize,
+) -> Option<Played> {
+    let store = MemStore::new(dbd.block_size() as usize, image.to_vec(alloc).ok()?);
+    let plain = FuseStore::new(store, u64::MAX);
+    let mut lines = Vec::new(alloc);
+    let left = if blocks == 0 {
+        run_over(alloc, dbd, psb, plain, deck, &mut lines)?
+    } else {
+        let Ok(cached) = Cached::new(alloc, plain, blocks.clamp(1, 65536)) else {
+            return None;
+        };
+        let cached = run_over(alloc, dbd, psb, cached, deck, &mut lines)?;
+        let (store, written) = cached.into_store();
+        written.ok()?;
+        store
+    };
+    let accesses = left.accesses();
+    let image = left.into_inner().into_bytes();
+    Some(Played {
+        lines,
+        image,
+        accesses,
+    })
 }

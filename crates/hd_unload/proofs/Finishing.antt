@@ -17,7 +17,7 @@ use Rattle.hd_dbd.specs.declared.hierarchy.FreeSpace.{FreeSpace}
 use Rattle.std.proofs.Math.Nat.{mul-le-mul_right}
 use Rattle.hd_image.specs.Holding.{HoldsRows, volume_of}
 use Rattle.hd_image.proofs.OneImage.{held-same}
-use Rattle.hd_volume.specs.Stores.{CountsFor, SoundFor}
+use Rattle.hd_stores.specs.Stores.{CountsFor, SoundFor}
 use Rattle.hd_volume.specs.Images.{KeepsFirst}
 use Rattle.hd_unload.specs.declared.fault.ReloadFault.{ReloadFault}
 use Rattle.hd_unload.specs.declared.fault.ReloadFault.TheVariants.{Device}

@@ -29,7 +29,7 @@ use Rattle.hd_image.proofs.Found.{records-link}
 use Rattle.hd_image.proofs.Roots.{header-child}
 use Rattle.hd_forest.specs.Updates.{MayLink, IsLinked}
 use Rattle.hd_index.proofs.ChangeLemmas.{later-same}
-use Rattle.hd_keeping.proofs.Volumes.{linked-below}
+use Rattle.hd_changes.proofs.Volumes.{linked-below}
 use Rattle.hd_unload.specs.Loads.{IsLoadStep}
 use Rattle.hd_unload.specs.Steps.{IsLoadedTo, IsRowLoaded}
 

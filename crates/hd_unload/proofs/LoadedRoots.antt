@@ -16,7 +16,7 @@ use Rattle.hd_volume.specs.Volumes.{VolumeState}
 use Rattle.hd_volume.specs.Rooms.{spare, HasHole}
 use Rattle.hd_volume.specs.Entries.{Entry}
 use Rattle.hd_volume.specs.Indexes.{root_key_length}
-use Rattle.hd_levels.specs.Needs.{entry_growth, IsHighest}
+use Rattle.hd_index_blocks.specs.Needs.{entry_growth, IsHighest}
 use Rattle.hd_links.specs.Placed.{Placed}
 use Rattle.hd_links.specs.Changes.{with_leaf}
 use Rattle.hd_links.specs.LastRows.{last_on, segments_of, parent_on_path, twin_on_path, IsLoadedLast}
@@ -26,10 +26,10 @@ use Rattle.hd_forest.specs.Updates.{MayLink, IsLinked}
 use Rattle.hd_index.specs.Changes.{IsIndexOf, entries_for, IsIndexChange}
 use Rattle.hd_index.specs.Maps.{address_of, with_entry}
 use Rattle.hd_index.specs.Places.{blocks_needed}
-use Rattle.hd_keeping.specs.Entered.{entry_of, IsEntered}
-use Rattle.hd_keeping.proofs.RootTypes.{root-parent, root-level}
-use Rattle.hd_keeping.proofs.Rooms.{growth-kept, first-roots, entries-room}
-use Rattle.hd_keeping.proofs.Volumes.{agree-index, linked-new, linked-root}
+use Rattle.hd_changes.specs.Entered.{entry_of, IsEntered}
+use Rattle.hd_changes.proofs.RootTypes.{root-parent, root-level}
+use Rattle.hd_changes.proofs.Rooms.{growth-kept, first-roots, entries-room}
+use Rattle.hd_changes.proofs.Volumes.{agree-index, linked-new, linked-root}
 use Rattle.hd_unload.specs.Loads.{IsLoadStep, LacksRoom}
 use Rattle.hd_unload.specs.Steps.{row_of, CanLoadRoot, HasRootRoom, IsLoadedTo, IsRowLoaded}
 use Rattle.hd_unload.proofs.Loaded.{stays-agree, last-at, may-link, rows-grown, segments-kept}

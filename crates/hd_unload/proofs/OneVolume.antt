@@ -9,9 +9,9 @@ use Rattle.hd_volume.specs.Spacing.{no_spacing, IsPlain}
 use Rattle.hd_volume.specs.Images.{KeepsFirst}
 use Rattle.hd_volume.specs.Calls.{IsCall}
 use Rattle.hd_volume.specs.Rooms.{spare, HasHole}
-use Rattle.hd_levels.specs.Needs.{IsHighest}
+use Rattle.hd_index_blocks.specs.Needs.{IsHighest}
 use Rattle.hd_calls.specs.Runs.{stored_sizes}
-use Rattle.hd_keeping.specs.Rooms.{blocks_for_entry}
+use Rattle.hd_changes.specs.Rooms.{blocks_for_entry}
 use Rattle.hd_volume.proofs.JoinLemmas.{AreOne, one-spare, one-holes}
 use Rattle.hd_volume.proofs.SpacingLemmas.{plain-space}
 use Rattle.hd_links.specs.Links.{Links, IsSegment, segment_at}
@@ -20,7 +20,7 @@ use Rattle.hd_image.specs.Records.{links_of}
 use Rattle.hd_image.proofs.OneImage.{links-same, held-same}
 use Rattle.hd_index.proofs.NeedLemmas as need
 use Rattle.hd_index.proofs.ChangeLemmas.{later-image}
-use Rattle.hd_keeping.proofs.Rooms.{one-volume}
+use Rattle.hd_changes.proofs.Rooms.{one-volume}
 use Rattle.hd_unload.specs.Loads.{blocks_for}
 use Rattle.hd_unload.specs.Steps.{HasRootRoom, IsLoadedTo, IsRowLoaded}
 

@@ -8,8 +8,8 @@ use Rattle.hd_dbd.specs.Prefixes.{size_with}
 use Rattle.hd_calls.specs.Runs.{has_root, stored_sizes}
 use Rattle.hd_volume.specs.Volumes.{VolumeState}
 use Rattle.hd_volume.specs.Rooms.{spare, HasHole}
-use Rattle.hd_levels.specs.Needs.{entry_growth}
-use Rattle.hd_keeping.proofs.VolumeImages.{lacking-room}
+use Rattle.hd_index_blocks.specs.Needs.{entry_growth}
+use Rattle.hd_changes.proofs.VolumeImages.{lacking-room}
 use Rattle.hd_unload.specs.Laws.{LoadsAndCallsShareARule}
 
 -- one row is a root where its code is the first

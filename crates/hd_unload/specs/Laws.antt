@@ -8,7 +8,7 @@ use Rattle.hd_image.specs.Records.{IsVolumeOf}
 use Rattle.hd_image.specs.Laws.{IsDatabase}
 use Rattle.hd_image.specs.Holding.{HoldsRows}
 use Rattle.hd_unload.specs.declared.fault.RecordFault.{RecordFault}
-use Rattle.hd_keeping.specs.VolumeImages.{images_of}
+use Rattle.hd_changes.specs.VolumeImages.{images_of}
 use Rattle.hd_unload.specs.Loads.{LacksRoom}
 use Rattle.hd_unload.specs.Streams.{unload_bytes, IsStreamOf, IsRefusedAt}
 

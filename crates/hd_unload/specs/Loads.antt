@@ -11,7 +11,7 @@ use Rattle.hd_volume.specs.Volumes.{VolumeState}
 use Rattle.hd_volume.specs.Rooms.{spare, HasHole}
 use Rattle.hd_volume.specs.Spacing.{HasLeft}
 use Rattle.hd_volume.specs.Creates.{IsCreated}
-use Rattle.hd_levels.specs.Needs.{entry_growth, IsHighest}
+use Rattle.hd_index_blocks.specs.Needs.{entry_growth, IsHighest}
 use Rattle.hd_links.specs.Links.{IsSegment, segment_at}
 use Rattle.hd_image.specs.Records.{links_of}
 use Rattle.hd_image.specs.Holding.{HoldsRows, volume_of}
@@ -71,6 +71,10 @@ pub record IsReloaded (d : Database) (stream : List ℕ) (largest segments block
   pub largest_is : (header_of image).largest ≡ largest
   pub segments_are : segments ≡ length rows
   pub blocks_are : blocks ≡ (header_of image).count
+
+-- the stream is one of rows, so many
+abbrev pub HasRecords : Database → List ℕ → ℕ → Type 0
+HasRecords d stream n = (rows : List Segment) × IsStreamOf d stream rows × (n ≡ length rows)
 
 -- no one takes these bytes for a volume: there is no block 0, or it is zeros
 abbrev pub HasNoHeader : ℕ → List ℕ → Type 0

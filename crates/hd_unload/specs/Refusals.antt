@@ -7,7 +7,7 @@ use Rattle.hd_dbd.specs.Segment.{Segment}
 use Rattle.hd_dbd.specs.Loads.{load_fault}
 use Rattle.hd_volume.specs.Volumes.{VolumeState}
 use Rattle.hd_volume.specs.Images.{KeepsFirst}
-use Rattle.hd_volume.specs.Stores.{CountsFor, SoundFor}
+use Rattle.hd_stores.specs.Stores.{CountsFor, SoundFor}
 use Rattle.hd_unload.specs.declared.fault.ReloadFault.{ReloadFault}
 use Rattle.hd_unload.specs.declared.fault.ReloadFault.TheVariants.{Record, Full, Memory, Device}
 use Rattle.hd_unload.specs.Streams.{refusal_of, IsRefusedAt}

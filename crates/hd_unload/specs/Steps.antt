@@ -14,7 +14,7 @@ use Rattle.hd_links.specs.Steps.{rows_of}
 use Rattle.hd_links.specs.LastRows.{segments_of, last_on, parent_on_path, twin_on_path}
 use Rattle.hd_image.specs.Holding.{HoldsPlaced}
 use Rattle.hd_index.specs.Changes.{IsLater}
-use Rattle.hd_keeping.specs.Rooms.{HasRootRoomFor}
+use Rattle.hd_changes.specs.Rooms.{HasRootRoomFor}
 use Rattle.hd_unload.specs.Loads.{IsLoadStep, IsLoad, LacksRoom}
 use Rattle.hd_unload.specs.Streams.{head_bytes, Spells, IsStreamOf}
 

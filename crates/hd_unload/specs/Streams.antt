@@ -13,6 +13,8 @@ use Rattle.hd_unload.specs.declared.fault.RecordFault.{RecordFault}
 use Rattle.hd_unload.specs.declared.fault.RecordFault.TheVariants.{U1, U2, U3, U4, LB, LC, LD, LE}
 use Rattle.hd_prefix.specs.Fields.{code_of, bytes_of, IsWhole as IsWholeOf}
 use Rattle.hd_dbd.specs.Lengths.{least_length, length_fits}
+use Rattle.std.specs.Io.KnownBytes.{Appends}
+use Rattle.hd_links.specs.Links.{Links, segment_at}
 
 -- ---- spelling
 
@@ -117,3 +119,7 @@ stored_row types segment = record { code = code_of segment; bytes = bytes_of typ
 -- a stored segment has its prefix and its own bytes
 abbrev pub IsWhole : List SegmentType → List ℕ → Type 0
 IsWhole types segment = IsWholeOf types (code_of segment) segment
+
+-- the record of the segment at an address was written
+abbrev pub WritesRecord : Links → ℕ → Option (List ℕ) → Option (List ℕ) → Type 0
+WritesRecord m address old new = Appends old new (record_bytes (segment_at m address))

@@ -7,13 +7,13 @@ use Rattle.hd_dbd.specs.Hierarchy.{Database}
 use Rattle.hd_dbd.specs.Segment.{Segment}
 use Rattle.hd_volume.specs.Volumes.{VolumeState}
 use Rattle.hd_image.specs.Holding.{HoldsRows}
-use Rattle.hd_check.specs.declared.checking.CheckFault.TheVariants as check
-use Rattle.hd_check.specs.declared.checking.Passed.{Passed}
+use Rattle.hd_check.specs.declared.checks.CheckFault.TheVariants as check
+use Rattle.hd_check.specs.declared.checks.Passed.{Passed}
 use Rattle.hd_check.specs.Checks.{IsPassed, IsFaultOf, as_call}
 use Rattle.hd_unload.specs.declared.fault.StreamFault.{StreamFault}
 use Rattle.hd_unload.specs.declared.fault.StreamFault.TheVariants as stream
-use Rattle.hd_unload.specs.declared.unloading.UnloadFault.{UnloadFault}
-use Rattle.hd_unload.specs.declared.unloading.UnloadFault.TheVariants as unload
+use Rattle.hd_unload.specs.declared.unloads.UnloadFault.{UnloadFault}
+use Rattle.hd_unload.specs.declared.unloads.UnloadFault.TheVariants as unload
 use Rattle.hd_unload.specs.Streams.{unload_bytes}
 
 -- The unload stream of the rows that the volume holds was written behind what stood there, and they are so many.

@@ -4,19 +4,19 @@
 mod fault;
 mod judge;
 mod law;
-mod loading;
 mod path;
 mod record;
+mod reloads;
 mod row;
 mod stream;
-mod unloading;
+mod unloads;
 
 pub use fault::{RecordFault, ReloadFault, StreamFault};
 pub use law::{
     law_held_rows_have_a_stream, law_loads_and_calls_share_a_rule, law_streams_are_not_refused,
     law_streams_spell_one_list,
 };
-pub use loading::{Reloaded, reload};
+pub use reloads::{Reloaded, reload};
 pub use row::root_key;
 pub use stream::write_stream;
-pub use unloading::{UnloadFault, unload};
+pub use unloads::{UnloadFault, unload};

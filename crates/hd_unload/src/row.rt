@@ -8,7 +8,7 @@ ghost use Rattle.hd_dbd.specs.Loads.{load_fault};
 ghost use Rattle.hd_dbd.specs.Refusals.{OnlyDevice, OnlyRoomOrDevice};
 ghost use Rattle.hd_volume.specs.Calls.{IsCall};
 ghost use Rattle.hd_volume.specs.Indexes.{root_key_length};
-ghost use Rattle.hd_levels.specs.Needs.{entry_growth, IsHighest};
+ghost use Rattle.hd_index_blocks.specs.Needs.{entry_growth, IsHighest};
 ghost use Rattle.hd_volume.specs.Rooms.{spare};
 ghost use Rattle.hd_links.specs.LastRows.{segments_of};
 ghost use Rattle.hd_index.specs.Changes.{IsIndexOf};
@@ -19,7 +19,8 @@ use crate::path::{LoadPath, Loaded};
 use hd_dbd::{Dbd, Refused};
 use hd_forest::link;
 use hd_index::{blocks_needed, growth, insert, is_highest};
-use hd_volume::{BlockStore, NO_SPACING, Volume};
+use hd_stores::BlockStore;
+use hd_volume::{NO_SPACING, Volume};
 
 /// The key of a root, which is as long as the keys of the index.
 pub fn root_key<'a>(dbd: &Dbd, bytes: &'a [u8]) -> &'a [u8]

@@ -1,16 +1,15 @@
-ghost use Rattle.std.specs.Prelude.{◌≡◌, ◌≤◌, ◌<◌, List, length, IsTrue, IfOk, IfErr, OnOk};
+ghost use Rattle.std.specs.Prelude.{◌≡◌, ◌<◌, List, length, IsTrue, IfOk, IfErr, OnOk};
 ghost use Rattle.std.specs.Io.KnownBytes.{Appends};
 ghost use Rattle.hd_dbd.specs.Forest.{Forest};
 ghost use Rattle.hd_dbd.specs.Segment.{Segment};
 ghost use Rattle.hd_volume.specs.Calls.{IsRead};
-ghost use Rattle.hd_prefix.specs.Fields.{code_of};
 ghost use Rattle.hd_links.specs.Links.{IsSegment, segment_at};
 ghost use Rattle.hd_links.specs.Placed.{Placed};
 ghost use Rattle.hd_links.specs.Steps.{rows_of};
 ghost use Rattle.hd_image.specs.Records.{links_of, IsVolumeOf};
 ghost use Rattle.hd_image.specs.Holding.{HoldsPlaced, HoldsRows};
 ghost use Rattle.hd_forest.specs.Walks.{AreSegments, HasForest, IsAhead, tip, next_on};
-ghost use Rattle.hd_unload.specs.Streams.{record_bytes, records_bytes, end_bytes, stored_row, IsWhole};
+ghost use Rattle.hd_unload.specs.Streams.{record_bytes, records_bytes, end_bytes, stored_row, IsWhole, WritesRecord};
 ghost use Rattle.hd_unload.specs.Unloads.{IsUnloaded, stream_call};
 
 use crate::fault::StreamFault;
@@ -18,7 +17,8 @@ use crate::record::head_of;
 use hd_dbd::Dbd;
 use hd_forest::{Ahead, Path, ahead_of, go_on, next_row, tip_of};
 use hd_prefix::Layout;
-use hd_volume::{BlockStore, Volume};
+use hd_stores::BlockStore;
+use hd_volume::Volume;
 use std::io::Write;
 
 /// Writes all of the bytes.
@@ -99,7 +99,7 @@ fn write_and_go_on<S: BlockStore, W: Write>(
     requires there { IsTrue volume.old.is_sound → AreSegments (links_of dbd.now.types volume.old) path.old }
     requires some { 0 < tip path.old }
     ensures read { IsRead volume.old (stream_call result) volume.new }
-    ensures record { let m = links_of dbd.now.types volume.old in OnOk result (IsTrue volume.old.is_sound → Appends (W.contents out.old) (W.contents out.new) (record_bytes (segment_at m (tip path.old)))) }
+    ensures record { OnOk result (IsTrue volume.old.is_sound → WritesRecord (links_of dbd.now.types volume.old) (tip path.old) (W.contents out.old) (W.contents out.new)) }
     ensures next { OnOk result (IsTrue volume.old.is_sound → path.new ≡ next_on dbd.now.types (links_of dbd.now.types volume.old) path.old) }
 {
     let ahead = write_record(volume, dbd, tip_of(path), out)?;

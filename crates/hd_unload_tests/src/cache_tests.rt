@@ -2,12 +2,12 @@
 ghost use Rattle.std.specs.Prelude.{◌≡◌};
 
 use crate::unload_tests::{MORE, image_of};
-use hd_cache::Cached;
 use hd_check::CheckFault;
 use hd_dbd::{Dbd, Refused};
 use hd_sample::{RECORDS, database, stream_of};
+use hd_stores::{Cached, FuseStore, MemStore};
 use hd_unload::{ReloadFault, UnloadFault, reload, unload};
-use hd_volume::{FuseStore, MemStore, Volume};
+use hd_volume::Volume;
 use std::alloc::{AllocError, Global};
 use std::test::Fail;
 

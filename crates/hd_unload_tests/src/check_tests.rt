@@ -3,7 +3,8 @@ ghost use Rattle.std.specs.Prelude.{◌≡◌, IfSome};
 use hd_check::*;
 use hd_dbd::Dbd;
 use hd_sample::{WAYS, changed, database, image, put, widened};
-use hd_volume::{FuseStore, MemStore, Volume};
+use hd_stores::{FuseStore, MemStore};
+use hd_volume::Volume;
 use std::alloc::Global;
 use std::test::Fail;
 

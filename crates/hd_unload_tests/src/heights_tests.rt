@@ -2,13 +2,10 @@
 
 use crate::judged::{Judged, comes_again, costs_of_check, judge, reloaded};
 use crate::old_images::make_old;
-use hd_cache::Cached;
 use hd_dbd::Dbd;
-use hd_sample::{
-    WAYS, byte_at, changed, database, root_database, root_stream, set_byte, stream_of,
-};
+use hd_sample::{WAYS, byte_at, changed, database, root_database, root_stream, set_byte, stream_of};
+use hd_stores::{Cached, FuseStore, MemStore};
 use hd_unload::reload;
-use hd_volume::{FuseStore, MemStore};
 use std::alloc::{AllocError, Global};
 use std::test::Fail;
 

@@ -2,8 +2,9 @@
 
 use hd_check::{CheckFault, check};
 use hd_dbd::Dbd;
+use hd_stores::{FuseStore, MemStore};
 use hd_unload::{UnloadFault, reload, unload};
-use hd_volume::{FuseStore, MemStore, Volume};
+use hd_volume::Volume;
 use std::alloc::{AllocError, Global};
 
 /// What is said of the bytes of a volume.

@@ -7,8 +7,9 @@ use hd_dbd::{Dbd, Refused};
 use hd_forest::{Path, link, unlink_span};
 use hd_index::insert;
 use hd_sample::database;
+use hd_stores::{BlockStore, FuseStore, MemStore};
 use hd_unload::root_key;
-use hd_volume::{BlockStore, FuseStore, MemStore, Volume};
+use hd_volume::Volume;
 use std::alloc::Global;
 
 /// A store without blocks that has failed once, so that no contract says anything of it; from now on it serves each access.

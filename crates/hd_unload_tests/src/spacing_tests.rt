@@ -3,8 +3,9 @@ ghost use Rattle.std.specs.Prelude.{◌≡◌, ◌≤◌, ◌<◌, IfSome};
 use hd_check::{Passed, check};
 use hd_dbd::{Dbd, DbdFault, FreeSpace};
 use hd_sample::{RECORDS, database, spaced_database, stream_of};
+use hd_stores::{FuseStore, MemStore};
 use hd_unload::*;
-use hd_volume::{FuseStore, MemStore, Volume};
+use hd_volume::Volume;
 use std::alloc::Global;
 use std::test::Fail;
 

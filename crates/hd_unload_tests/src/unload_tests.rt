@@ -3,8 +3,9 @@ ghost use Rattle.std.specs.Prelude.{◌≡◌, ◌≤◌, ◌<◌, ◌^◌, [], 
 use hd_check::{CheckFault, Fault, Line};
 use hd_dbd::{Dbd, Refused};
 use hd_sample::{RECORDS, database, image, stream_of};
+use hd_stores::{BlockStore, FuseStore, MemStore};
 use hd_unload::*;
-use hd_volume::{BlockStore, FuseStore, MemStore, Volume};
+use hd_volume::Volume;
 use std::alloc::{AllocError, Global};
 use std::io::{self, ErrorKind, Write};
 use std::test::Fail;

@@ -24,9 +24,9 @@ use Rattle.hd_links.specs.Steps.{rows_of}
 use Rattle.hd_image.specs.Holding.{HoldsPlaced}
 use Rattle.hd_forest.proofs.Reading.{after-read}
 use Rattle.hd_index.proofs.ChangeLemmas.{later-same, later-image}
-use Rattle.hd_keeping.specs.VolumeImages.{images_of}
-use Rattle.hd_keeping.proofs.VolumeImages.{follow}
-use Rattle.hd_keeping.proofs.SetRows.{setting-follows}
+use Rattle.hd_changes.specs.VolumeImages.{images_of}
+use Rattle.hd_changes.proofs.VolumeImages.{follow}
+use Rattle.hd_changes.proofs.SetRows.{setting-follows}
 use Rattle.hd_forest.specs.Walks.{tip, parent_on}
 use Rattle.hd_position.specs.Kept.{Kept, path_before, without_row}
 use Rattle.hd_get.specs.declared.outcome.Outcome.{Outcome}

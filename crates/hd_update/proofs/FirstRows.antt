@@ -4,7 +4,7 @@ use Rattle.hd_dbd.specs.Hierarchy.{Database}
 use Rattle.hd_dbd.specs.Rows.{key_of}
 use Rattle.hd_dbd.specs.Segment.{Segment}
 use Rattle.hd_volume.specs.Volumes.{VolumeState}
-use Rattle.hd_keeping.specs.Rooms.{HasRootRoomFor, HasRootMemoryFor}
+use Rattle.hd_changes.specs.Rooms.{HasRootRoomFor, HasRootMemoryFor}
 use Rattle.hd_update.specs.Putting.{LastsBelowRoot}
 use Rattle.hd_update.specs.NewRows.{HasRoomAndMemory, LastsForOthers, LastsBelow}
 

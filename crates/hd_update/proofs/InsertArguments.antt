@@ -22,8 +22,8 @@ use Rattle.hd_calls.proofs.FairCalls.{and_then_ok, or_ok}
 use Rattle.hd_calls.proofs.Resolving.{IsResolvedCall, resolved_call}
 use Rattle.hd_calls.proofs.SoundInserts.{ChainCodes, above_code, chain_drop, resolved_typed, same_commands}
 use Rattle.hd_links.proofs.Types.{above_some}
-use Rattle.hd_seek.specs.Admits.{Descend}
-use Rattle.hd_seek.proofs.Admitting.{resolved_descend}
+use Rattle.hd_calls.specs.Admits.{Descend}
+use Rattle.hd_calls.proofs.Admitting.{resolved_descend}
 use Rattle.hd_update.specs.Inserting.{AreInsertArguments, StepDown, IsTargetAbove}
 use Rattle.hd_update.proofs.ParentsAsked.{child_of}
 

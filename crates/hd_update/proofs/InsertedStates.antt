@@ -28,8 +28,8 @@ use Rattle.hd_forest.specs.Rows.{IsOnRow}
 use Rattle.hd_forest.specs.Walks.{tip}
 use Rattle.hd_forest.proofs.Reading.{after-read}
 use Rattle.hd_index.proofs.ChangeLemmas.{later-same}
-use Rattle.hd_keeping.specs.VolumeImages.{images_of}
-use Rattle.hd_keeping.proofs.NewPaths.{insertions}
+use Rattle.hd_changes.specs.VolumeImages.{images_of}
+use Rattle.hd_changes.proofs.NewPaths.{insertions}
 use Rattle.hd_position.specs.Inserts.{StandsOnNew}
 use Rattle.hd_position.specs.Kept.{Kept, StandsFor}
 use Rattle.hd_get.specs.declared.outcome.Outcome.TheVariants.{Found}

@@ -26,7 +26,7 @@ use Rattle.hd_calls.specs.NoLostUpdate.{is_done}
 use Rattle.hd_calls.specs.Steps.{State, Effect, answered, wrong_area, bare_answer, position_at, new_row, with_parts, new_rows, insert_at, insert_or_load, load_step}
 use Rattle.hd_calls.specs.Runs.{LacksRoom, has_root}
 use Rattle.hd_calls.proofs.Areas.{IsCut, cut, nothing_left, part_in_front, new_row_fits}
-use Rattle.hd_keeping.specs.VolumeImages.{images_of}
+use Rattle.hd_changes.specs.VolumeImages.{images_of}
 use Rattle.hd_volume.specs.Volumes.{VolumeState}
 use Rattle.hd_volume.specs.Calls.{IsRead}
 use Rattle.hd_links.specs.Placed.{Placed}
@@ -34,7 +34,8 @@ use Rattle.hd_links.specs.Steps.{rows_of}
 use Rattle.hd_position.specs.Kept.{Kept, path_before}
 use Rattle.hd_position.proofs.LastPlaces.{last_paths}
 use Rattle.hd_get.specs.declared.outcome.Outcome.TheVariants.{Missing}
-use Rattle.hd_update.specs.Loading.{HasPassedAll, load_effect, InsertsOne, HasLastPath, IsLastPath, IsLoadFault}
+use Rattle.hd_update.specs.Inserting.{insert_effect}
+use Rattle.hd_update.specs.Loading.{HasPassedAll, InsertsOne, HasLastPath, IsLastPath, IsLoadFault}
 use Rattle.hd_update.specs.NewRows.{parts_in, are_rows_in}
 use Rattle.hd_update.specs.Positions.{unheld_at}
 use Rattle.hd_update.specs.States.{Represents, IsAnswered, LacksRoomFor}
@@ -83,19 +84,19 @@ module _ (d : Database) (code : ℕ) (area : List ℕ) (pcb : View) (ssas : List
   abbrev by_parts : List ℕ → Result (List (List ℕ)) AreaFault → Effect
   by_parts codes r = with_parts p r (λ parts. insert_or_load setting st.rows p ssas (new_rows codes parts))
 
-  by_type : (r : Result (List (List ℕ)) AreaFault) → parts_in d.types (code ∷ []) area ≡ r → load_effect d pcb number ssas area st ≡ by_parts (code ∷ []) r
+  by_type : (r : Result (List (List ℕ)) AreaFault) → parts_in d.types (code ∷ []) area ≡ r → insert_effect d pcb number ssas area st ≡ by_parts (code ∷ []) r
   by_type r is = ap (λ (codes : List ℕ). by_parts codes (parts_in d.types codes area)) I.1 ∙ ap (by_parts (code ∷ [])) is
 
   -- of an area that is one row
-  pub loads_row : IsOneRow d.types code area → load_effect d pcb number ssas area st ≡ load_step setting st.rows p row
+  pub loads_row : IsOneRow d.types code area → insert_effect d pcb number ssas area st ≡ load_step setting st.rows p row
   loads_row one = by_type (Ok (area ∷ [])) one.parts ∙ cond-true _ _ _ I.0
 
   -- of one of which bytes lack or are left over
-  pub loads_none : parts_in d.types (code ∷ []) area ≡ Err Bytes → load_effect d pcb number ssas area st ≡ wrong_area
+  pub loads_none : parts_in d.types (code ∷ []) area ≡ Err Bytes → insert_effect d pcb number ssas area st ≡ wrong_area
   loads_none is = by_type (Err Bytes) is
 
   -- of one with a row of a wrong length
-  pub row_wrong : parts_in d.types (code ∷ []) area ≡ Err Length → load_effect d pcb number ssas area st ≡ bare_answer p V1
+  pub row_wrong : parts_in d.types (code ∷ []) area ≡ Err Length → insert_effect d pcb number ssas area st ≡ bare_answer p V1
   row_wrong is = by_type (Err Length) is
 
 -- ---- the path of the last row
@@ -188,13 +189,13 @@ module _ (d : Database) (code : ℕ) (area : List ℕ) (pcb : View) (ssas : List
   }
   answers_by (Some fault) e = misses (status_of_load fault) (fault_undone fault) e
 
-  pub load_answers : load_effect d pcb number ssas area st ≡ answered reply change own → LoadAnswers (load_effect d pcb number ssas area st) behind reply
+  pub load_answers : insert_effect d pcb number ssas area st ≡ answered reply change own → LoadAnswers (insert_effect d pcb number ssas area st) behind reply
   load_answers is = by (parts_in d.types (code ∷ []) area) refl
     where
-      as_effect : (e : Effect) → load_effect d pcb number ssas area st ≡ e → (e ≡ answered reply change own → LoadAnswers e behind reply) → LoadAnswers (load_effect d pcb number ssas area st) behind reply
+      as_effect : (e : Effect) → insert_effect d pcb number ssas area st ≡ e → (e ≡ answered reply change own → LoadAnswers e behind reply) → LoadAnswers (insert_effect d pcb number ssas area st) behind reply
       as_effect e same answers = subst (λ (x : Effect). LoadAnswers x behind reply) (sym same) (answers (sym same ∙ is))
 
-      by : (r : Result (List (List ℕ)) AreaFault) → parts_in d.types (code ∷ []) area ≡ r → LoadAnswers (load_effect d pcb number ssas area st) behind reply
+      by : (r : Result (List (List ℕ)) AreaFault) → parts_in d.types (code ∷ []) area ≡ r → LoadAnswers (insert_effect d pcb number ssas area st) behind reply
       by (Ok parts) parts_are =
           as_effect (by_fault (load_fault d.types (last_path d.types st.rows) loaded)) (loads_row d code area pcb ssas I st number (one_part d.types code area parts parts_are))
           (answers_by (load_fault d.types (last_path d.types st.rows) loaded))
@@ -207,7 +208,7 @@ module _ (d : Database) (code : ℕ) (area : List ℕ) (pcb : View) (ssas : List
 pub load_lacks : (d : Database) (pcb : View) (number code : ℕ) (ssas : List Ssa) (area : List ℕ) (v : VolumeState) (st : State) → InsertsOne pcb ssas code
     → IsOneRow d.types code area → load_fault d.types (last_path d.types st.rows) (record { code = code; bytes = area }) ≡ None
     → LacksRoom (images_of d) d.types v.image (record { code = code; bytes = area } ∷ []) (has_root (record { code = code; bytes = area } ∷ []))
-    → LacksRoomFor d v st.rows (load_effect d pcb number ssas area st)
+    → LacksRoomFor d v st.rows (insert_effect d pcb number ssas area st)
 load_lacks d pcb number code ssas area v st I one none lacks =
     let s : Setting = record { types = d.types; pcb = pcb } in
     let p : Position = position_at st number in

@@ -37,9 +37,9 @@ use Rattle.hd_image.proofs.Found.{records-link}
 use Rattle.hd_image.proofs.Roots.{header-child}
 use Rattle.hd_forest.specs.Rows.{IsOnRow}
 use Rattle.hd_forest.proofs.Reading.{after-read}
-use Rattle.hd_keeping.specs.VolumeImages.{images_of}
-use Rattle.hd_keeping.proofs.NewPaths.{insertions}
-use Rattle.hd_keeping.proofs.RootTypes.{root-parent}
+use Rattle.hd_changes.specs.VolumeImages.{images_of}
+use Rattle.hd_changes.proofs.NewPaths.{insertions}
+use Rattle.hd_changes.proofs.RootTypes.{root-parent}
 use Rattle.hd_position.specs.Inserts.{StandsOnNew}
 use Rattle.hd_position.specs.Kept.{Kept, StandsFor, path_before}
 use Rattle.hd_position.specs.Laws.{MovesUp}

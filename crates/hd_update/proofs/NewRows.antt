@@ -10,7 +10,7 @@ use Rattle.hd_dbd.specs.Rows.{row_fits}
 use Rattle.hd_dbd.specs.Segment.{Segment}
 use Rattle.hd_dbd.specs.Forest.{Forest}
 use Rattle.hd_calls.specs.Moves.{position_after_insert}
-use Rattle.hd_volume.specs.Stores.{StaysSound}
+use Rattle.hd_stores.specs.Stores.{StaysSound}
 use Rattle.hd_volume.specs.Volumes.{VolumeState}
 use Rattle.hd_volume.specs.Rooms.{spare, HasHole}
 use Rattle.hd_links.specs.Links.{is_child_type}
@@ -18,9 +18,9 @@ use Rattle.hd_links.specs.Placed.{Placed}
 use Rattle.hd_links.specs.Changes.{with_leaf}
 use Rattle.hd_image.specs.Records.{links_of}
 use Rattle.hd_forest.specs.Updates.{IsLinked}
-use Rattle.hd_keeping.specs.Rooms.{HasRoomFor, HasMemoryFor}
-use Rattle.hd_keeping.proofs.NewPaths.{go-on, goes-next}
-use Rattle.hd_keeping.proofs.Rooms.{first-rows, room-lasts}
+use Rattle.hd_changes.specs.Rooms.{HasRoomFor, HasMemoryFor}
+use Rattle.hd_changes.proofs.NewPaths.{go-on, goes-next}
+use Rattle.hd_changes.proofs.Rooms.{first-rows, room-lasts}
 use Rattle.hd_position.specs.Kept.{StandsFor}
 use Rattle.hd_position.specs.Laws.{MovesUp}
 use Rattle.hd_position.proofs.Adding.{insertions_add}

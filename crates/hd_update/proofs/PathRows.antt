@@ -19,7 +19,7 @@ use Rattle.hd_image.proofs.OneImage.{links-same, held-same}
 use Rattle.hd_index.proofs.ChangeLemmas.{later-image}
 use Rattle.hd_forest.specs.Updates.{MayLink}
 use Rattle.hd_forest.specs.Walks.{tip}
-use Rattle.hd_keeping.specs.Rooms.{HasRoomFor, HasMemoryFor}
+use Rattle.hd_changes.specs.Rooms.{HasRoomFor, HasMemoryFor}
 use Rattle.hd_update.specs.Putting.{MayPut, IsPutIn}
 use Rattle.hd_update.specs.NewRows.{codes_of, are_rows_in, rows_in, places_of, AreIn, AreMore, ArePutIn, GoDown, TakeMore}
 use Rattle.hd_update.proofs.RowsIn.{Begins, rows_begin, as_many_rows, tip_pushed}

@@ -27,9 +27,9 @@ use Rattle.hd_image.specs.Records.{links_of}
 use Rattle.hd_image.specs.Holding.{HoldsPlaced}
 use Rattle.hd_index.specs.Maps.{address_from}
 use Rattle.hd_index.specs.Changes.{entries_for}
-use Rattle.hd_keeping.specs.Roots.{is_root, key_at, is_root_from, first_row}
-use Rattle.hd_keeping.specs.Found.{AreRootsBelow}
-use Rattle.hd_keeping.proofs.RootRows.{follow-lesser, roots-alone, index-answers}
+use Rattle.hd_changes.specs.Roots.{is_root, key_at, is_root_from, first_row}
+use Rattle.hd_changes.specs.Found.{AreRootsBelow}
+use Rattle.hd_changes.proofs.RootRows.{follow-lesser, roots-alone, index-answers}
 use Rattle.hd_forest.specs.Twins.{IsBehind}
 use Rattle.hd_update.specs.declared.places.Side.TheVariants.{Before, Behind}
 use Rattle.hd_update.specs.Places.{IsTypeBelow, IsGap, side_of, side_at}

@@ -23,7 +23,7 @@ use Rattle.hd_image.specs.Records.{links_of}
 use Rattle.hd_image.specs.Holding.{HoldsPlaced}
 use Rattle.hd_index.specs.Changes.{IsLater}
 use Rattle.hd_forest.specs.Walks.{tip}
-use Rattle.hd_keeping.proofs.RootTypes.{root-parent}
+use Rattle.hd_changes.proofs.RootTypes.{root-parent}
 use Rattle.hd_position.specs.Laws.{IsHeld}
 use Rattle.hd_position.proofs.Before.{path_levels}
 use Rattle.hd_position.proofs.Leaves.{Grounds, grounds}

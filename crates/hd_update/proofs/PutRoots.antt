@@ -12,7 +12,7 @@ use Rattle.hd_volume.specs.Headers.{header_of}
 use Rattle.hd_volume.specs.Volumes.{VolumeState}
 use Rattle.hd_volume.specs.Rooms.{spare, HasHole}
 use Rattle.hd_volume.specs.Indexes.{root_key_length}
-use Rattle.hd_levels.specs.Needs.{entry_growth, IsHighest}
+use Rattle.hd_index_blocks.specs.Needs.{entry_growth, IsHighest}
 use Rattle.hd_volume.proofs.JoinLemmas.{AreOne, one-spare}
 use Rattle.hd_links.specs.Links.{Links}
 use Rattle.hd_links.specs.Placed.{Placed}
@@ -24,12 +24,12 @@ use Rattle.hd_forest.specs.Updates.{MayLink, IsLinked}
 use Rattle.hd_index.specs.Changes.{entries_for}
 use Rattle.hd_index.specs.Maps.{with_entry}
 use Rattle.hd_index.specs.Places.{blocks_needed}
-use Rattle.hd_keeping.specs.Entered.{IsEntered}
-use Rattle.hd_keeping.specs.Rooms.{blocks_for_entry}
-use Rattle.hd_keeping.specs.VolumeImages.{images_of}
-use Rattle.hd_keeping.proofs.NewPaths.{begin-roots}
-use Rattle.hd_keeping.proofs.Rooms.{first-roots, entries-room}
-use Rattle.hd_keeping.proofs.VolumeImages.{lacking-room}
+use Rattle.hd_changes.specs.Entered.{IsEntered}
+use Rattle.hd_changes.specs.Rooms.{blocks_for_entry}
+use Rattle.hd_changes.specs.VolumeImages.{images_of}
+use Rattle.hd_changes.proofs.NewPaths.{begin-roots}
+use Rattle.hd_changes.proofs.Rooms.{first-roots, entries-room}
+use Rattle.hd_changes.proofs.VolumeImages.{lacking-room}
 use Rattle.hd_position.proofs.VolumeMoves.{linked_move}
 use Rattle.hd_update.specs.Putting.{IsPutIn, CanPutRoot}
 

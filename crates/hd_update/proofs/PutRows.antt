@@ -7,14 +7,14 @@ use Rattle.hd_dbd.specs.Forest.{Forest}
 use Rattle.hd_calls.specs.Runs.{LacksRoom, has_root, stored_sizes}
 use Rattle.hd_volume.specs.Volumes.{VolumeState}
 use Rattle.hd_volume.specs.Rooms.{spare, HasHole}
-use Rattle.hd_levels.specs.Needs.{entry_growth}
+use Rattle.hd_index_blocks.specs.Needs.{entry_growth}
 use Rattle.hd_links.specs.Placed.{Placed}
 use Rattle.hd_image.specs.Records.{links_of, IsVolumeOf}
 use Rattle.hd_image.specs.Holding.{HoldsPlaced}
 use Rattle.hd_forest.specs.Updates.{MayLink, IsLinked}
-use Rattle.hd_keeping.specs.VolumeImages.{images_of}
-use Rattle.hd_keeping.proofs.NewPaths.{begin-below}
-use Rattle.hd_keeping.proofs.VolumeImages.{lacking-room}
+use Rattle.hd_changes.specs.VolumeImages.{images_of}
+use Rattle.hd_changes.proofs.NewPaths.{begin-below}
+use Rattle.hd_changes.proofs.VolumeImages.{lacking-room}
 use Rattle.hd_position.proofs.VolumeMoves.{linked_move}
 use Rattle.hd_update.specs.Putting.{IsPutIn}
 

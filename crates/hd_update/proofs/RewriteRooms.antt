@@ -20,9 +20,9 @@ use Rattle.hd_links.specs.Steps.{rows_of}
 use Rattle.hd_image.specs.Records.{links_of}
 use Rattle.hd_forest.specs.Walks.{tip}
 use Rattle.hd_forest.specs.Replacing.{Outgrows}
-use Rattle.hd_keeping.specs.Rooms.{HasRoomFor, HasMemoryFor}
-use Rattle.hd_keeping.proofs.Rooms.{sizes-more, first-rows, set-rows-leave-room, same-entries-leave-room}
-use Rattle.hd_keeping.proofs.SetRows.{no-more-room}
+use Rattle.hd_changes.specs.Rooms.{HasRoomFor, HasMemoryFor}
+use Rattle.hd_changes.proofs.Rooms.{sizes-more, first-rows, set-rows-leave-room, same-entries-leave-room}
+use Rattle.hd_changes.proofs.SetRows.{no-more-room}
 use Rattle.hd_update.specs.Replacing.{part_for, IsRewriteOf, IsReplacedTo}
 use Rattle.hd_update.specs.declared.rewrites.NewBytes.{NewBytes}
 

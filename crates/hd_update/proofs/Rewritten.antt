@@ -34,9 +34,9 @@ use Rattle.hd_volume.specs.Rooms.{spare, HasHole}
 use Rattle.hd_forest.specs.Walks.{tip}
 use Rattle.hd_forest.specs.Replacing.{Outgrows}
 use Rattle.hd_index.proofs.ChangeLemmas.{later-same}
-use Rattle.hd_keeping.specs.Rooms.{HasRoomFor, HasMemoryFor}
-use Rattle.hd_keeping.specs.SetRows.{AreSet}
-use Rattle.hd_keeping.proofs.SetRows.{rewrite-length, rewrite-other, setting-begins, setting-goes-on}
+use Rattle.hd_changes.specs.Rooms.{HasRoomFor, HasMemoryFor}
+use Rattle.hd_changes.specs.SetRows.{AreSet}
+use Rattle.hd_changes.proofs.SetRows.{rewrite-length, rewrite-other, setting-begins, setting-goes-on}
 use Rattle.hd_position.specs.Kept.{Kept, StandsFor, path_passed, path_before, after_rewrite, moved_row}
 use Rattle.hd_position.proofs.Moving.{moving_keeps}
 use Rattle.hd_position.proofs.Rewriting.{rewriting_ends, rewrites_add}

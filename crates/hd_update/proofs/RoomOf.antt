@@ -7,13 +7,13 @@ use Rattle.hd_dbd.specs.Prefixes.{size_with}
 use Rattle.hd_dbd.specs.Segment.{Segment}
 use Rattle.hd_calls.specs.Runs.{LacksRoom, has_root, stored_sizes}
 use Rattle.hd_volume.specs.Volumes.{VolumeState}
-use Rattle.hd_levels.specs.Needs.{entry_growth, IsHighest}
+use Rattle.hd_index_blocks.specs.Needs.{entry_growth, IsHighest}
 use Rattle.hd_volume.specs.Rooms.{spare, HasHole}
 use Rattle.hd_volume.proofs.JoinLemmas.{AreOne, hole-after}
 use Rattle.hd_image.specs.Records.{IsVolumeOf}
-use Rattle.hd_keeping.specs.VolumeImages.{images_of}
-use Rattle.hd_keeping.proofs.VolumeImages.{lacking-room}
-use Rattle.hd_keeping.specs.Rooms.{HasRoomFor, HasMemoryFor, HasRootRoomFor, blocks_for_entry}
+use Rattle.hd_changes.specs.VolumeImages.{images_of}
+use Rattle.hd_changes.proofs.VolumeImages.{lacking-room}
+use Rattle.hd_changes.specs.Rooms.{HasRoomFor, HasMemoryFor, HasRootRoomFor, blocks_for_entry}
 use Rattle.hd_update.specs.Room.{HasRoom, HasRootRoom}
 
 module _ (d : Database) (v : VolumeState) (rows : List Segment) (count total : ℕ) (many : count ≡ length rows) (large : total ≡ stored_sizes d.types rows) where

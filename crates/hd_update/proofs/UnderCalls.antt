@@ -24,7 +24,7 @@ use Rattle.hd_links.specs.Steps.{rows_of}
 use Rattle.hd_forest.specs.Updates.{MayLink}
 use Rattle.hd_forest.specs.Walks.{tip}
 use Rattle.hd_forest.proofs.Reading.{after-read}
-use Rattle.hd_keeping.specs.VolumeImages.{images_of}
+use Rattle.hd_changes.specs.VolumeImages.{images_of}
 use Rattle.hd_position.specs.Kept.{Kept}
 use Rattle.hd_get.specs.Gets.{IsPositionIn}
 use Rattle.hd_update.specs.Inserting.{IsUnder, insert_under, IsPlaceFor}

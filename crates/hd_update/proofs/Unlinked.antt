@@ -26,11 +26,11 @@ use Rattle.hd_forest.proofs.Walking.{steps-found}
 use Rattle.hd_index.specs.Maps.{without_key}
 use Rattle.hd_index.specs.Changes.{IsIndexOf, entries_for}
 use Rattle.hd_index.proofs.ChangeLemmas.{set-index, later-same}
-use Rattle.hd_keeping.specs.Entered.{IsEntered}
-use Rattle.hd_keeping.specs.Deletions.{IsDeleted}
-use Rattle.hd_keeping.specs.VolumeImages.{images_of}
-use Rattle.hd_keeping.proofs.Deletions.{spans-deleted, roots-deleted}
-use Rattle.hd_keeping.proofs.Volumes.{forest-changes, entered}
+use Rattle.hd_changes.specs.Entered.{IsEntered}
+use Rattle.hd_changes.specs.Deletions.{IsDeleted}
+use Rattle.hd_changes.specs.VolumeImages.{images_of}
+use Rattle.hd_changes.proofs.Deletions.{spans-deleted, roots-deleted}
+use Rattle.hd_changes.proofs.Volumes.{forest-changes, entered}
 use Rattle.hd_image.specs.Holding.{root_entries}
 use Rattle.hd_position.proofs.VolumeMoves.{held, unlinked_move}
 use Rattle.hd_position.proofs.Siblings.{down_there, some_there}

@@ -11,7 +11,7 @@ use Rattle.hd_image.specs.Holding.{HoldsPlaced}
 use Rattle.hd_index.specs.Changes.{IsLater}
 use Rattle.hd_forest.specs.Walks.{tip, parent_on}
 use Rattle.hd_forest.specs.Rows.{IsOnRow}
-use Rattle.hd_keeping.specs.Deletions.{IsDeleted}
+use Rattle.hd_changes.specs.Deletions.{IsDeleted}
 use Rattle.hd_position.specs.Laws.{MovesDown}
 use Rattle.hd_update.specs.declared.held.HeldRow.{HeldRow}
 

@@ -13,6 +13,7 @@ use Rattle.hd_image.specs.Records.{links_of}
 use Rattle.hd_position.specs.Kept.{Kept, row_on}
 use Rattle.hd_get.specs.Gets.{IsPositionIn}
 use Rattle.hd_update.specs.declared.held.HeldRow.{HeldRow}
+use Rattle.hd_prefix.specs.Fields.{code_of, bytes_of}
 
 -- the address and the code of row i, and how many bytes it has
 abbrev pub held_row : Forest Placed → ℕ → HeldRow
@@ -40,3 +41,11 @@ IsRowAt d v path level row =
 -- wherever what is kept stands for a position, these are the rows that it holds
 abbrev pub AreHeld : Database → VolumeState → Kept → List HeldRow → Type 0
 AreHeld d v k rows = (f : Forest Placed) (q : Position) → IsPositionIn d v f k q → rows ≡ held_rows f q.held
+
+-- the row that a segment at an address is
+abbrev pub row_in_segment : List SegmentType → ℕ → List ℕ → HeldRow
+row_in_segment types address segment = record { address = address; code = code_of segment; length = length (bytes_of types (code_of segment) segment) }
+
+-- the row at an address
+abbrev pub row_stored : Links → ℕ → HeldRow
+row_stored m address = record { address = address; code = m.code address; length = length (m.bytes address) }

@@ -1,5 +1,5 @@
 -- What ISRT comes to.
-use Rattle.std.specs.Prelude.{◌≡◌, ℕ, zero, suc, ◌+◌, ◌<◌, List, [], ◌∷◌, length, true, false, cond, Option, Some, None, option_map, Ok, IsTrue}
+use Rattle.std.specs.Prelude.{◌≡◌, ℕ, zero, suc, ◌+◌, ◌<◌, List, [], ◌∷◌, length, true, false, cond, Option, Some, None, option_map, Ok, IsTrue, slice_index}
 use Rattle.std.specs.Option.{option_map_or}
 use Rattle.hd_dbd.specs.declared.hierarchy.Rule.{Rule}
 use Rattle.hd_dbd.specs.declared.answer.Status.TheVariants.{II}
@@ -27,7 +27,7 @@ use Rattle.hd_forest.specs.Walks.{tip}
 use Rattle.hd_position.specs.Kept.{Kept}
 use Rattle.hd_get.specs.Gets.{IsPositionIn}
 use Rattle.hd_get.specs.declared.outcome.Outcome.{Outcome}
-use Rattle.hd_update.specs.NewRows.{MayPutThem}
+use Rattle.hd_update.specs.NewRows.{MayPutThem, rows_in}
 use Rattle.hd_update.specs.Places.{IsPathOfParent, IsTypeBelow}
 use Rattle.hd_update.specs.States.{LacksRoomFor, Represents, IsAnswered, IsCallDone, IsAreaWrong}
 
@@ -145,3 +145,8 @@ abbrev pub AreInserted : Database → VolumeState → List Kept → ℕ → List
 AreInserted d v old number above y rows outcome w new =
     (pcb : View) (st : State) (parent : Option ℕ) (n : ℕ) → IsTrue v.is_sound → (R : Represents d v old st) → IsPlaceFor d v R.placed above y rows parent n
     → IsAnswered d v st number (insert_at (record { types = d.types; pcb = pcb }) st.rows (position_at st number) rows n) outcome w new
+
+-- the rows of an area, of these types, were put in below a parent by a rule
+abbrev pub AreInsertedFrom : Database → VolumeState → List Kept → ℕ → List ℕ → List ℕ → Rule → List ℕ → Outcome → VolumeState → List Kept → Type 0
+AreInsertedFrom d v old number above codes rule area outcome w new =
+    AreInsertedUnder d v old number above (slice_index codes 0) rule (rows_in d.types codes area) outcome w new

@@ -25,10 +25,11 @@ use Rattle.hd_links.specs.Links.{segment_at}
 use Rattle.hd_image.specs.Records.{links_of}
 use Rattle.hd_image.specs.Holding.{HoldsPlaced}
 use Rattle.hd_index.specs.Changes.{IsLater}
-use Rattle.hd_keeping.specs.VolumeImages.{images_of}
+use Rattle.hd_changes.specs.VolumeImages.{images_of}
 use Rattle.hd_position.specs.Kept.{Kept}
 use Rattle.hd_get.specs.declared.outcome.Outcome.{Outcome}
 use Rattle.hd_update.specs.Putting.{IsPutIn}
+use Rattle.hd_update.specs.Inserting.{insert_effect}
 use Rattle.hd_update.specs.States.{Represents, IsAnswered, IsCallDone, IsAreaWrong, LacksRoomFor}
 
 -- ---- the call
@@ -38,10 +39,6 @@ abbrev pub HasPassedAll : Database → VolumeState → List Kept → ℕ → Typ
 HasPassedAll d v kept number =
     IsTrue v.is_sound → (st : State) × Represents d v kept st × ((position_at st number).passed ≡ length st.rows)
 
--- what ISRT of one argument does in a state under a PCB that loads
-abbrev pub load_effect : Database → View → ℕ → List Ssa → List ℕ → State → Effect
-load_effect d pcb number ssas area st = insert_step (record { types = d.types; pcb = pcb }) st.rows (position_at st number) ssas area
-
 -- the PCB loads, and the arguments insert one row of this type
 abbrev pub InsertsOne : View → List Ssa → ℕ → Type 0
 InsertsOne pcb ssas code = (loads pcb ≡ true) × (inserted_codes ssas ≡ code ∷ [])
@@ -49,18 +46,18 @@ InsertsOne pcb ssas code = (loads pcb ≡ true) × (inserted_codes ssas ≡ code
 -- the row was loaded, under whatever PCB that loads and arguments that insert one row of the type
 abbrev pub IsLoadDone : Database → VolumeState → List Kept → ℕ → ℕ → List ℕ → Outcome → VolumeState → List Kept → Type 0
 IsLoadDone d v old number code area outcome w new =
-    (pcb : View) (ssas : List Ssa) → InsertsOne pcb ssas code → IsCallDone d v old number (load_effect d pcb number ssas area) outcome w new
+    (pcb : View) (ssas : List Ssa) → InsertsOne pcb ssas code → IsCallDone d v old number (insert_effect d pcb number ssas area) outcome w new
 
 -- where a load was refused for the area, that has a wrong length
 abbrev pub IsLoadAreaWrong : Database → VolumeState → List Kept → ℕ → ℕ → List ℕ → Refused → Type 0
 IsLoadAreaWrong d v old number code area e =
-    (pcb : View) (ssas : List Ssa) → InsertsOne pcb ssas code → IsAreaWrong d v old (load_effect d pcb number ssas area) e
+    (pcb : View) (ssas : List Ssa) → InsertsOne pcb ssas code → IsAreaWrong d v old (insert_effect d pcb number ssas area) e
 
 -- a load is refused as Full only where it would be answered with blanks, and room lacks for its row
 abbrev pub IsLoadFull : Database → VolumeState → List Kept → ℕ → ℕ → List ℕ → Refused → Type 0
 IsLoadFull d v old number code area e =
     (pcb : View) (ssas : List Ssa) (st : State) → InsertsOne pcb ssas code → e ≡ Full → IsTrue v.is_sound → Represents d v old st
-    → LacksRoomFor d v st.rows (load_effect d pcb number ssas area st)
+    → LacksRoomFor d v st.rows (insert_effect d pcb number ssas area st)
 
 -- ---- the path of the last row
 

@@ -18,8 +18,8 @@ use Rattle.hd_links.specs.LastRows.{segments_of}
 use Rattle.hd_links.specs.Numbers.{LeafGoesInAt}
 use Rattle.hd_image.specs.Holding.{HoldsPlaced}
 use Rattle.hd_forest.specs.Walks.{tip}
-use Rattle.hd_keeping.specs.NewPaths.{IsPathIn}
-use Rattle.hd_keeping.specs.Rooms.{HasRoomFor, HasMemoryFor, HasRootRoomFor, HasRootMemoryFor}
+use Rattle.hd_changes.specs.NewPaths.{IsPathIn}
+use Rattle.hd_changes.specs.Rooms.{HasRoomFor, HasMemoryFor, HasRootRoomFor, HasRootMemoryFor}
 use Rattle.hd_position.specs.Kept.{Kept, StandsFor}
 use Rattle.hd_update.specs.Putting.{MayPut}
 

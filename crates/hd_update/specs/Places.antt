@@ -27,7 +27,7 @@ use Rattle.hd_forest.specs.Walks.{tip, parent_on, HasForest}
 use Rattle.hd_forest.specs.Rows.{IsOnRow}
 use Rattle.hd_forest.specs.Twins.{IsBehind}
 use Rattle.hd_forest.specs.Updates.{MayLink}
-use Rattle.hd_keeping.specs.Roots.{is_root_from, first_row}
+use Rattle.hd_changes.specs.Roots.{is_root_from, first_row}
 use Rattle.hd_position.specs.Kept.{Kept, row_on}
 use Rattle.hd_get.specs.Gets.{IsPositionIn}
 use Rattle.hd_update.specs.declared.places.Side.{Side}

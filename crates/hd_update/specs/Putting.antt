@@ -14,9 +14,9 @@ use Rattle.hd_image.specs.Records.{links_of}
 use Rattle.hd_image.specs.Holding.{HoldsPlaced}
 use Rattle.hd_index.specs.Changes.{IsLater}
 use Rattle.hd_forest.specs.Updates.{MayLink}
-use Rattle.hd_keeping.specs.Rooms.{HasRoomFor, HasMemoryFor, HasRootRoomFor, HasRootMemoryFor}
-use Rattle.hd_keeping.specs.NewPaths.{IsPathIn}
-use Rattle.hd_keeping.specs.VolumeImages.{images_of}
+use Rattle.hd_changes.specs.Rooms.{HasRoomFor, HasMemoryFor, HasRootRoomFor, HasRootMemoryFor}
+use Rattle.hd_changes.specs.NewPaths.{IsPathIn}
+use Rattle.hd_changes.specs.VolumeImages.{images_of}
 use Rattle.hd_position.specs.Laws.{MovesUp}
 use Rattle.hd_get.specs.Starts.{HasRoots}
 

@@ -25,10 +25,10 @@ use Rattle.hd_forest.specs.Walks.{tip}
 use Rattle.hd_forest.specs.Replacing.{IsRowSet}
 use Rattle.hd_index.specs.Maps.{with_address}
 use Rattle.hd_index.specs.Changes.{IsLater, entries_for}
-use Rattle.hd_keeping.specs.Entered.{IsEntered}
-use Rattle.hd_keeping.specs.Rooms.{HasRoomFor, HasMemoryFor}
-use Rattle.hd_keeping.specs.SetRows.{KeepsEntry, AreSet}
-use Rattle.hd_keeping.specs.VolumeImages.{images_of}
+use Rattle.hd_changes.specs.Entered.{IsEntered}
+use Rattle.hd_changes.specs.Rooms.{HasRoomFor, HasMemoryFor}
+use Rattle.hd_changes.specs.SetRows.{KeepsEntry, AreSet}
+use Rattle.hd_changes.specs.VolumeImages.{images_of}
 use Rattle.hd_position.specs.Kept.{Kept, StandsFor, path_passed, path_before}
 use Rattle.hd_update.specs.Positions.{after_rewrites}
 use Rattle.hd_update.specs.declared.held.HeldRow.{HeldRow}

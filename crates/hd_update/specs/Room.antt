@@ -4,8 +4,8 @@ use Rattle.hd_dbd.specs.Hierarchy.{Database}
 use Rattle.hd_volume.specs.Volumes.{VolumeState}
 use Rattle.hd_volume.specs.Spacing.{IsPlain}
 use Rattle.hd_volume.specs.Rooms.{spare, HasHole}
-use Rattle.hd_levels.specs.Needs.{IsHighest}
-use Rattle.hd_keeping.specs.Rooms.{blocks_for_entry}
+use Rattle.hd_index_blocks.specs.Needs.{IsHighest}
+use Rattle.hd_changes.specs.Rooms.{blocks_for_entry}
 
 -- for so many rows below another: there is a block for each, or one hole is as large as all of them together
 abbrev pub HasRoom : ℕ → ℕ → VolumeState → Type 0

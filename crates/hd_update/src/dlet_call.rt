@@ -5,7 +5,7 @@ ghost use Rattle.hd_update.specs.States.{HasState, IsUndone};
 ghost use Rattle.hd_update.specs.Deleting.{taken_row};
 ghost use Rattle.hd_update.specs.Calls.{IsDeleteDone, HasPath, IsRowDeleted};
 
-use crate::deleting::delete_span;
+use crate::deletions::delete_span;
 use crate::held::{HeldRow, held_rows};
 use crate::paths::path_up_to;
 use crate::positions::{end_hold, leave_spans};
@@ -14,7 +14,8 @@ use hd_forest::Path;
 use hd_get::Outcome;
 use hd_position::{Position, row_before};
 use hd_ssa::ResolvedSsa;
-use hd_volume::{BlockStore, Volume};
+use hd_stores::BlockStore;
+use hd_volume::Volume;
 
 /// DLET by the PCB of a number, counted from 1: the row that it holds of the argument's type, or the highest that it holds, leaves with
 /// all that depends on it, seen or not. DJ where it holds no such row. Every PCB that was on one of these rows goes back, parentage and

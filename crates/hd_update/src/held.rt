@@ -1,17 +1,18 @@
 ghost use Rattle.std.specs.Prelude.{◌≡◌, ◌<◌, ◌≤◌, [], ◌∷◌, ◌++◌, length, IsTrue, IfOk};
 ghost use Rattle.hd_dbd.specs.Refusals.{OnlyDevice};
 ghost use Rattle.hd_volume.specs.Calls.{IsRead};
-ghost use Rattle.hd_prefix.specs.Fields.{code_of, bytes_of, IsWhole};
+ghost use Rattle.hd_prefix.specs.Fields.{code_of, IsWhole};
 ghost use Rattle.hd_image.specs.Records.{links_of};
 ghost use Rattle.hd_get.specs.Gets.{HasPosition};
 ghost use Rattle.hd_get.specs.Meeting.{IsStored};
 ghost use Rattle.hd_get.specs.Searches.{IsOf};
-ghost use Rattle.hd_update.specs.Held.{HasRowAt, IsRowAt, AreHeld};
+ghost use Rattle.hd_update.specs.Held.{HasRowAt, IsRowAt, AreHeld, row_in_segment, row_stored};
 
 use hd_dbd::{Dbd, Refused};
 use hd_forest::{Path, bytes_in};
 use hd_position::{Position, row_on};
-use hd_volume::{BlockStore, Volume};
+use hd_stores::BlockStore;
+use hd_volume::Volume;
 use std::marker::Model;
 
 /// A row that a PCB holds: its address, the code of its type, and how many bytes it has.
@@ -76,7 +77,7 @@ impl HeldRows {
 
 /// The row at an address, of which this is the lent segment.
 fn row_in(dbd: &Dbd, address: u32, segment: &[u8]) -> HeldRow
-    ensures { IsWhole dbd.now.types (code_of segment.now) segment.now → result ≡ record { address = address; code = code_of segment.now; length = length (bytes_of dbd.now.types (code_of segment.now) segment.now) } }
+    ensures { IsWhole dbd.now.types (code_of segment.now) segment.now → result ≡ row_in_segment dbd.now.types address segment.now }
 {
     HeldRow {
         address,
@@ -94,7 +95,7 @@ fn stored_row<S: BlockStore>(
     requires of { IsOf dbd.now volume.old }
     requires there { IsStored dbd.now volume.old address }
     ensures read { IsRead volume.old result volume.new }
-    ensures value { IfOk result (λ row. IsTrue volume.old.is_sound → row ≡ record { address = address; code = (links_of dbd.now.types volume.old).code address; length = length ((links_of dbd.now.types volume.old).bytes address) }) }
+    ensures value { IfOk result (λ row. IsTrue volume.old.is_sound → row ≡ row_stored (links_of dbd.now.types volume.old) address) }
     ensures refusal { OnlyDevice result }
 {
     let segment = volume.segment_at(address)?;

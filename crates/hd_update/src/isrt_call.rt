@@ -1,4 +1,4 @@
-ghost use Rattle.std.specs.Prelude.{◌≡◌, ◌≢◌, ◌+◌, ◌<◌, ◌≤◌, ◌∷◌, length, drop, is_some, None, true, IsTrue, IfOk, IfErr};
+ghost use Rattle.std.specs.Prelude.{◌≡◌, ◌≢◌, ◌+◌, ◌<◌, ◌≤◌, length, drop, is_some, None, true, IsTrue, IfOk, IfErr};
 ghost use Rattle.hd_dbd.specs.Facts.{stored_sizes};
 ghost use Rattle.hd_dbd.specs.Hierarchy.{type_of};
 ghost use Rattle.hd_dbd.specs.DatabaseRules.{well_formed};
@@ -6,11 +6,11 @@ ghost use Rattle.hd_dbd.specs.Refusals.{OnlyDevice, OnlyRoomOrDevice};
 ghost use Rattle.hd_volume.specs.Calls.{IsCall, IsRead};
 ghost use Rattle.hd_calls.specs.Places.{rule_under, rule_of};
 ghost use Rattle.hd_calls.specs.Ssas.{first_inserted};
-ghost use Rattle.hd_seek.specs.Admits.{Descend};
+ghost use Rattle.hd_calls.specs.Admits.{Descend};
 ghost use Rattle.hd_get.specs.Gets.{HasPosition};
 ghost use Rattle.hd_update.specs.NewRows.{codes_of, first_code, are_rows_in, rows_in};
 ghost use Rattle.hd_update.specs.Putting.{AreFullFor};
-ghost use Rattle.hd_update.specs.Inserting.{AreInsertArguments, IsInsertDone, IsInsertAreaWrong, IsInsertFull, StepDown, IsTargetAbove, IsParentAsked, HasParentFor, AreInsertedUnder, IsFullUnder, HasPlaceFor, AreInserted};
+ghost use Rattle.hd_update.specs.Inserting.{AreInsertArguments, IsInsertDone, IsInsertAreaWrong, IsInsertFull, StepDown, IsTargetAbove, IsParentAsked, HasParentFor, IsFullUnder, HasPlaceFor, AreInserted, AreInsertedFrom};
 ghost use Rattle.hd_update.specs.States.{HasState, IsUndone};
 
 use crate::area::{answer_fault, area_fault, front};
@@ -24,7 +24,8 @@ use hd_forest::Path;
 use hd_get::Outcome;
 use hd_position::{Position, stand_on_new};
 use hd_ssa::ResolvedSsa;
-use hd_volume::{BlockStore, Volume};
+use hd_stores::BlockStore;
+use hd_volume::Volume;
 
 /// The place of the first argument whose type is inserted: the first with D, or else the last.
 pub fn first_inserted(ssas: &[ResolvedSsa<'_>]) -> usize
@@ -138,7 +139,7 @@ fn insert_under<S: BlockStore>(
     requires long { are_rows_in dbd.now.types (codes_of ssas.now) area.now ≡ true }
     requires parent { HasParentFor dbd.now volume.old positions.old parent.now (first_code ssas.now) }
     ensures call { IsCall volume.old result volume.new }
-    ensures done { IfOk result (λ o. AreInsertedUnder dbd.now volume.old positions.old number parent.now (first_code ssas.now) rule (rows_in dbd.now.types (codes_of ssas.now) area.now) o volume.new positions.new) }
+    ensures done { IfOk result (λ o. AreInsertedFrom dbd.now volume.old positions.old number parent.now (codes_of ssas.now) rule area.now o volume.new positions.new) }
     ensures undone { IfErr result (λ _. IsUndone volume.old positions.old volume.new positions.new) }
     ensures full { IfErr result (λ e. IsFullUnder dbd.now volume.old positions.old number parent.now (first_code ssas.now) rule (rows_in dbd.now.types (codes_of ssas.now) area.now) e) }
     ensures refusal { OnlyRoomOrDevice result }

@@ -2,22 +2,22 @@
 #![tactic(auto)]
 
 mod area;
-mod deleting;
+mod deletions;
 mod dlet_call;
 mod held;
 mod isrt_call;
-mod judging;
 mod load_call;
+mod load_rule;
 mod new_rows;
 mod parents;
 mod paths;
 mod places;
 mod positions;
 mod put_path;
-mod putting;
+mod puts;
 mod repl_call;
 mod replaced;
-mod replacing;
+mod replacements;
 mod rewrites;
 mod room;
 
@@ -27,6 +27,6 @@ pub use isrt_call::{first_inserted, isrt};
 pub use load_call::load_row;
 pub use parents::insert_parent;
 pub use places::place_below;
-pub use putting::put_row;
+pub use puts::put_row;
 pub use repl_call::repl;
 pub use rewrites::is_excepted;

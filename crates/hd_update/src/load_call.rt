@@ -8,14 +8,15 @@ ghost use Rattle.hd_update.specs.Loading.{HasPassedAll, MayLoad, PutsLast, IsRow
 ghost use Rattle.hd_update.specs.States.{IsUndone};
 
 use crate::area::{answer_fault, row_fault};
-use crate::judging::{last_parent, last_twin, load_fault, status_of};
+use crate::load_rule::{last_parent, last_twin, load_fault, status_of};
 use crate::positions::end_hold;
-use crate::putting::put_row;
+use crate::puts::put_row;
 use hd_dbd::{Dbd, Refused, Status};
 use hd_forest::Path;
 use hd_get::Outcome;
 use hd_position::{Position, stand_on_new};
-use hd_volume::{BlockStore, Volume};
+use hd_stores::BlockStore;
+use hd_volume::Volume;
 
 /// Puts in a row behind all rows, where nothing forbids it, and says its address. The path is that of the last row.
 fn put_last<S: BlockStore>(

@@ -8,11 +8,12 @@ ghost use Rattle.hd_update.specs.Putting.{PutsIn, MayPut};
 ghost use Rattle.hd_update.specs.NewRows.{codes_of, are_rows_in, rows_in, TakeMore, TakesMore, GoesInBelow, GoInBelow, LastsForOthers, LastsBelow, HasRoomBelow};
 
 use crate::area::front;
-use crate::putting::link_root;
+use crate::puts::link_root;
 use hd_dbd::{Dbd, Refused};
 use hd_forest::{Path, link, tip_of};
 use hd_ssa::ResolvedSsa;
-use hd_volume::{BlockStore, Volume};
+use hd_stores::BlockStore;
+use hd_volume::Volume;
 
 /// Puts in the first row of a path below a parent, 0 for a root, behind its preceding twin, 0 for none, where there are room and memory for
 /// it and the rows below; says its address.

@@ -3,7 +3,7 @@ ghost use Rattle.std.specs.List.{list_all};
 ghost use Rattle.hd_dbd.specs.Refusals.{OnlyDevice};
 ghost use Rattle.hd_volume.specs.Calls.{IsRead};
 ghost use Rattle.hd_calls.specs.Places.{is_plain};
-ghost use Rattle.hd_seek.specs.Admits.{Descend};
+ghost use Rattle.hd_calls.specs.Admits.{Descend};
 ghost use Rattle.hd_get.specs.Gets.{HasPosition};
 ghost use Rattle.hd_update.specs.Parents.{IsStandingParent, IsInsertParent};
 
@@ -12,7 +12,8 @@ use hd_forest::Path;
 use hd_get::{first_named, type_path};
 use hd_position::Position;
 use hd_ssa::ResolvedSsa;
-use hd_volume::{BlockStore, Volume};
+use hd_stores::BlockStore;
+use hd_volume::Volume;
 
 /// Whether an argument names no more than a type: it has neither a qualification nor L.
 fn is_plain(ssa: &ResolvedSsa<'_>) -> bool

@@ -12,15 +12,13 @@ ghost use Rattle.hd_get.specs.Searches.{IsOf};
 ghost use Rattle.hd_get.specs.Starts.{HasRoots};
 ghost use Rattle.hd_update.specs.Places.{has_key, side_of, side_at, IsGapBelow, HasParent, is_equal_at, standing_path, IsStandingTwin, HasRowOf, IsBeforeEqual, HasNextRoot, HasPlace, IsPlaceBelow};
 
-use crate::judging::key_order;
+use crate::load_rule::key_order;
 use hd_dbd::{Dbd, Refused, Rule, compare_keys};
-use hd_forest::{
-    Path, TwinPlaces, code_at, first_child, forward_in, key_at, last_twin, parent_on, prev_twin,
-    tip_of, twin_places,
-};
+use hd_forest::{Path, TwinPlaces, code_at, first_child, forward_in, key_at, last_twin, parent_on, prev_twin, tip_of, twin_places};
 use hd_index::next_from;
 use hd_position::{Position, row_on};
-use hd_volume::{BlockStore, Volume};
+use hd_stores::BlockStore;
+use hd_volume::Volume;
 use std::cmp::Ordering;
 
 /// Where a new row goes beside a twin.

@@ -8,12 +8,13 @@ ghost use Rattle.hd_update.specs.NewRows.{codes_of, are_rows_in, rows_in, IsRoom
 
 use crate::area::front;
 use crate::new_rows::{put_first, put_others};
-use crate::putting::put_row;
+use crate::puts::put_row;
 use crate::room::make_room;
 use hd_dbd::{Dbd, Refused};
 use hd_forest::{Path, tip_of};
 use hd_ssa::ResolvedSsa;
-use hd_volume::{BlockStore, Volume};
+use hd_stores::BlockStore;
+use hd_volume::Volume;
 
 /// Puts in the first of the rows of these arguments, which an area has one behind the other, below a parent, 0 for a root, behind its
 /// preceding twin, 0 for none, and says its address; there are room and memory for all, or nothing is changed. A row alone needs no room made

@@ -9,14 +9,15 @@ ghost use Rattle.hd_update.specs.Replacing.{AreInArea};
 use crate::area::answer_fault;
 use crate::held::held_rows;
 use crate::positions::{end_hold, follow_all};
-use crate::replacing::{keep_keys, replace_rows};
+use crate::replacements::{keep_keys, replace_rows};
 use crate::rewrites::{NewBytes, rewrites_of};
 use crate::room::make_room_to_replace;
 use hd_dbd::{Dbd, Refused, Status};
 use hd_get::Outcome;
 use hd_position::Position;
 use hd_ssa::ResolvedSsa;
-use hd_volume::{BlockStore, Volume};
+use hd_stores::BlockStore;
+use hd_volume::Volume;
 
 /// REPL by the PCB of a number, counted from 1, once its tests are passed: the I/O area is the rows that it holds, one behind the other. V1
 /// where the new bytes of a row whose type varies have a wrong length, DA where the key of a row would change. Each row that no argument

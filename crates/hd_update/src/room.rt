@@ -5,7 +5,7 @@ ghost use Rattle.hd_dbd.specs.Refusals.{OnlyDevice, OnlyRoomOrDevice};
 ghost use Rattle.hd_dbd.specs.Rows.{row_fits};
 ghost use Rattle.hd_calls.specs.Runs.{stored_sizes};
 ghost use Rattle.hd_volume.specs.Calls.{IsCall, IsRead};
-ghost use Rattle.hd_levels.specs.Needs.{entry_growth, IsHighest};
+ghost use Rattle.hd_index_blocks.specs.Needs.{entry_growth, IsHighest};
 ghost use Rattle.hd_volume.specs.Rooms.{spare, HasHole};
 ghost use Rattle.hd_volume.specs.Volumes.{IsFormatted};
 ghost use Rattle.hd_index.specs.Changes.{IsIndexOf};
@@ -20,7 +20,8 @@ use crate::rewrites::{NewBytes, part_for};
 use hd_dbd::{Dbd, Refused};
 use hd_index::{blocks_needed, growth, is_highest};
 use hd_ssa::ResolvedSsa;
-use hd_volume::{BlockStore, Volume};
+use hd_stores::BlockStore;
+use hd_volume::Volume;
 
 /// The bytes that a row takes in a block, with its prefix and rounded up.
 pub fn row_size(dbd: &Dbd, code: u8, bytes: &[u8]) -> u32

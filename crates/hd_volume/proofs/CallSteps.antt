@@ -1,7 +1,7 @@
 -- Calls of a volume one after another.
 use Rattle.std.proofs.Common.{ℕ, Bool, IsTrue, List, Result, Ok, Err, IfOk, ◌≡◌, refl, subst, ◌∙◌, arith}
 use Rattle.hd_dbd.specs.declared.answer.Refused.{Refused}
-use Rattle.hd_volume.specs.Stores.{StaysSound}
+use Rattle.hd_stores.specs.Stores.{StaysSound}
 use Rattle.hd_volume.specs.Images.{KeepsFirst}
 use Rattle.hd_volume.specs.Volumes.{VolumeState}
 use Rattle.hd_volume.specs.Calls.{IsCall, IsRead}

@@ -10,7 +10,7 @@ use Rattle.hd_volume.specs.Rooms.{spare, largest_hole, HasHole}
 use Rattle.hd_dbd.specs.declared.answer.Refused.{Refused}
 use Rattle.hd_dbd.specs.declared.answer.Refused.TheVariants.{Memory, Full, Device, Broken, Area}
 use Rattle.hd_dbd.specs.Refusals.{OnlyMemory}
-use Rattle.hd_volume.specs.Stores.{CountsFor, SoundFor, StaysSound, RefusesGrowth}
+use Rattle.hd_stores.specs.Stores.{CountsFor, SoundFor, StaysSound, RefusesGrowth}
 use Rattle.hd_volume.specs.Calls.{IsCall, IsRead, KeepsHoles, KeepsSegments, MayGrow, GrowsByOne, IsPut, IsTakenBlock}
 use Rattle.hd_volume.specs.declared.space.Space.{Space}
 use Rattle.hd_volume.specs.Spaces.{blocks_in, content_at, IsSpaceOf}

@@ -13,7 +13,7 @@ use Rattle.hd_volume.specs.Headers.{Header, header_of}
 use Rattle.hd_volume.specs.Volumes.{VolumeState, block_at, kind_of, IsKind, IsFormatted}
 use Rattle.hd_volume.specs.Spacing.{no_spacing, IsPlain, IsLeftOut, bytes_to_leave, HasBytesFree, HasSpace, HasLeft, LeavesSpace}
 use Rattle.hd_volume.specs.Images.{ChangesBlock, KeepsFirst}
-use Rattle.hd_volume.specs.Stores.{CountsFor, SoundFor}
+use Rattle.hd_stores.specs.Stores.{CountsFor, SoundFor}
 use Rattle.hd_volume.specs.Calls.{IsCall, KeepsFree, MayGrow, IsWritten, IsFreed, IsPut, IsRewritten, IsTakenBlock, IsGivenBlock, IsWrittenBlock, HasNewHeader}
 use Rattle.hd_volume.specs.Steps.{IsStep, KeepsSpacing, HasNone, MayTake, IsOpenFor}
 use Rattle.hd_volume.specs.Steps as step

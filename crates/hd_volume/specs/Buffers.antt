@@ -3,7 +3,7 @@ use Rattle.std.specs.Prelude.{◌≡◌, ◌≢◌, ⊤, ℕ, ◌<◌, ◌≤◌
 use Rattle.std.specs.List.{AllByRecursion}
 use Rattle.hd_bytes.specs.Blocks.{block_of, with_block, HasBlock}
 use Rattle.hd_dbd.specs.declared.answer.Refused.{Refused}
-use Rattle.hd_volume.specs.Stores.{CountsDevice, StaysSound}
+use Rattle.hd_stores.specs.Stores.{CountsDevice, StaysSound}
 use Rattle.hd_volume.specs.Images.{KeepsFirst}
 use Rattle.hd_volume.specs.declared.buffer.Buffer.{Buffer}
 
@@ -62,6 +62,14 @@ pub record IsMovedToFront (old new : List Buffer) : Type 0 where
 -- a buffer's block stands in the bytes, if it holds one
 abbrev pub IsInBytes : ℕ → List ℕ → Buffer → Type 0
 IsInBytes size contents b = put_in size contents b ≡ contents
+
+-- the bytes with the block in hand and those aside put in are the same
+abbrev pub KeepsShown : ℕ → List ℕ → Buffer → List Buffer → List ℕ → Buffer → List Buffer → Type 0
+KeepsShown size old hand aside new hand2 aside2 = put_all size new (hand2 ∷ aside2) ≡ put_all size old (hand ∷ aside)
+
+-- the block in hand and those aside stand in the bytes
+abbrev pub AreInBytes : ℕ → List ℕ → Buffer → List Buffer → Type 0
+AreInBytes size contents hand aside = AllByRecursion (IsInBytes size contents) (hand ∷ aside)
 
 -- a buffer after it was written back: the same block and bytes, not changed any more
 pub record IsWrittenBack (old new : Buffer) : Type 0 where

@@ -4,7 +4,7 @@ use Rattle.hd_bytes.specs.Blocks.{HasBlock}
 use Rattle.hd_bytes.specs.Ranges.{with_bytes}
 use Rattle.hd_dbd.specs.declared.answer.Refused.{Refused}
 use Rattle.hd_dbd.specs.declared.hierarchy.FreeSpace.{FreeSpace}
-use Rattle.hd_volume.specs.Stores.{CountsDevice, StaysSound}
+use Rattle.hd_stores.specs.Stores.{CountsDevice, StaysSound}
 use Rattle.hd_volume.specs.Images.{ChangesBlock, KeepsFirst}
 use Rattle.hd_volume.specs.Headers.{Header, header_of}
 use Rattle.hd_volume.specs.Volumes.{VolumeState, block_at, kind_of, IsKind, IsFormatted}

@@ -2,7 +2,7 @@
 use Rattle.std.specs.Prelude.{◌≡◌, ◌⊎◌, ℕ, ◌*◌, ◌/◌, ◌%◌, Bool, IsTrue, List, [], ◌∷◌, length, replicate, slice_index, codes, None}
 use Rattle.hd_dbd.specs.declared.answer.Refused.{Refused}
 use Rattle.hd_dbd.specs.declared.answer.Refused.TheVariants.{Memory, Device}
-use Rattle.hd_volume.specs.Stores.{CountsFor, SoundFor}
+use Rattle.hd_stores.specs.Stores.{CountsFor, SoundFor}
 use Rattle.hd_volume.specs.Headers.{Header, header_of}
 use Rattle.hd_volume.specs.Volumes.{VolumeState, IsFormatted}
 use Rattle.hd_volume.specs.Records.{find}

@@ -2,7 +2,7 @@
 use Rattle.std.specs.Prelude.{⊤}
 use Rattle.std.specs.Borrow.{Fml, RattleType, MutBor, follows_so}
 use mathlib.Core.Option.{none}
-use Rattle.hd_volume.specs.declared.store.BlockStore as store
+use Rattle.hd_stores.specs.declared.store.BlockStore as store
 use Rattle.hd_volume.specs.Volumes.{VolumeState}
 use Rattle.hd_volume.specs.contracts.volume.Volume.{the_row}
 

@@ -1,4 +1,3 @@
-pub mod Stores
 pub mod Images
 pub mod Edits
 pub mod Buffers
@@ -15,6 +14,3 @@ pub mod Steps
 pub mod Laws
 pub mod Creates
 pub mod Lends
-pub mod Memory
-pub mod Fuses
-pub mod Files

@@ -5,7 +5,7 @@ use Rattle.hd_block.specs.Walk.{parts_in}
 use Rattle.hd_dbd.specs.declared.answer.Refused.{Refused}
 use Rattle.hd_dbd.specs.declared.facts.SegmentSize.{SegmentSize}
 use Rattle.hd_bytes.specs.Blocks.{block_of}
-use Rattle.hd_volume.specs.Stores.{CountsDevice, StaysSound}
+use Rattle.hd_stores.specs.Stores.{CountsDevice, StaysSound}
 use Rattle.hd_volume.specs.Images.{ChangesBlock, KeepsFirst}
 use Rattle.hd_volume.specs.Headers.{header_of}
 use Rattle.hd_volume.specs.Volumes.{VolumeState, block_at, kind_of, IsKind, IsFormatted}
@@ -107,6 +107,10 @@ pub record IsMadeIndex (old : VolumeState) (n level : ℕ) (new : VolumeState) :
 -- a block has no segment, or so many bytes more free than are to be kept
 abbrev pub MayTake : List SegmentSize → ℕ → ℕ → List ℕ → Type 0
 MayTake sizes leave need block = HasNone sizes block ⊎ (leave + need ≤ free_bytes (parts_in sizes block))
+
+-- data block n has a hole of so many bytes and keeps free what is to be kept, if they are taken
+abbrev pub HasSpacedRoom : VolumeState → ℕ → ℕ → Type 0
+HasSpacedRoom v need n = HasRoom v n need × MayTake v.sizes (bytes_to_leave v.size v.spacing) need (block_at v n)
 
 -- block n is for data, has a hole of so many bytes, and may take them and leave so many free
 abbrev pub HasSpacedHole : List SegmentSize → ℕ → List ℕ → ℕ → ℕ → ℕ → Type 0

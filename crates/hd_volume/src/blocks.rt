@@ -5,15 +5,15 @@ ghost use Rattle.hd_bytes.specs.Blocks.{block_of, grown, HasBlock};
 ghost use Rattle.hd_bytes.specs.Ranges.{with_bytes};
 ghost use Rattle.byteorder.specs.Endian.{big_bytes};
 ghost use Rattle.hd_volume.specs.Edits.{IsTaken, IsGiven};
-ghost use Rattle.hd_volume.specs.Stores.{CountsDevice, StaysSound, RefusesGrowth, IsGivenBack};
+ghost use Rattle.hd_stores.specs.Stores.{CountsDevice, StaysSound, RefusesGrowth, IsGivenBack};
 ghost use Rattle.hd_volume.specs.Images.{ChangesBlock, KeepsFirst};
-ghost use Rattle.hd_volume.specs.Buffers.{AreBuffers, AreLater, IsBlockLong, HoldsNot, IsMovedToFront, IsInBytes, IsWrittenBack, put_all, image_of, ChangesHand, ChangesHead, KeepsImage};
+ghost use Rattle.hd_volume.specs.Buffers.{AreBuffers, AreLater, IsBlockLong, HoldsNot, IsMovedToFront, AreInBytes, IsWrittenBack, put_all, KeepsShown, image_of, ChangesHand, ChangesHead, KeepsImage};
 
 use crate::buffer::{Buffer, bring, hold_zeros, write_back};
-use crate::store::BlockStore;
 use hd_block::Block;
 use hd_bytes::{write_bytes, write_u32};
 use hd_dbd::{Refused, SegmentSize};
+use hd_stores::BlockStore;
 use std::alloc::{AllocError, Global};
 use std::marker::Model;
 use std::mem::swap;
@@ -368,10 +368,10 @@ fn bring_other<S: BlockStore>(
     requires ready { IsTrue (S.is_sound store.old) → AreLater (S.size store.old) (S.contents store.old) (hand.old ∷ aside.old) }
     requires there { IsTrue (S.is_sound store.old) → (0 < n) × HasBlock (S.size store.old) (S.contents store.old) n }
     requires other { HoldsNot n hand.old }
-    ensures contents { OnOk result (IsTrue (S.is_sound store.old) → put_all (S.size store.old) (S.contents store.new) (hand.new ∷ aside.new) ≡ put_all (S.size store.old) (S.contents store.old) (hand.old ∷ aside.old)) }
+    ensures contents { OnOk result (IsTrue (S.is_sound store.old) → KeepsShown (S.size store.old) (S.contents store.old) hand.old aside.old (S.contents store.new) hand.new aside.new) }
     ensures length { OnOk result (IsTrue (S.is_sound store.old) → length (S.contents store.new) ≡ length (S.contents store.old)) }
     ensures first { OnOk result (IsTrue (S.is_sound store.old) → KeepsFirst (S.size store.old) (S.contents store.old) (S.contents store.new)) }
-    ensures stands { OnOk result (IsTrue (S.is_sound store.old) → AllByRecursion (IsInBytes (S.size store.old) (S.contents store.old)) (hand.old ∷ aside.old) → S.contents store.new ≡ S.contents store.old) }
+    ensures stands { OnOk result (IsTrue (S.is_sound store.old) → AreInBytes (S.size store.old) (S.contents store.old) hand.old aside.old → S.contents store.new ≡ S.contents store.old) }
     ensures ready { OnOk result (IsTrue (S.is_sound store.old) → AreLater (S.size store.old) (S.contents store.new) (hand.new ∷ aside.new)) }
     ensures holds { OnOk result ((hand.new.holds ≡ true) × (hand.new.number ≡ n)) }
     ensures len { AllByRecursion (IsBlockLong (S.size store.old)) (hand.new ∷ aside.new) }
@@ -399,7 +399,7 @@ fn bring_zeros<S: BlockStore>(
     requires ready { IsTrue (S.is_sound store.old) → AreLater (S.size store.old) (S.contents store.old) (hand.old ∷ aside.old) }
     requires there { IsTrue (S.is_sound store.old) → (0 < n) × HasBlock (S.size store.old) (S.contents store.old) n }
     requires zeros { IsTrue (S.is_sound store.old) → block_of (S.size store.old) (S.contents store.old) n ≡ replicate (S.size store.old) 0 }
-    ensures contents { OnOk result (IsTrue (S.is_sound store.old) → put_all (S.size store.old) (S.contents store.new) (hand.new ∷ aside.new) ≡ put_all (S.size store.old) (S.contents store.old) (hand.old ∷ aside.old)) }
+    ensures contents { OnOk result (IsTrue (S.is_sound store.old) → KeepsShown (S.size store.old) (S.contents store.old) hand.old aside.old (S.contents store.new) hand.new aside.new) }
     ensures length { OnOk result (IsTrue (S.is_sound store.old) → length (S.contents store.new) ≡ length (S.contents store.old)) }
     ensures first { OnOk result (IsTrue (S.is_sound store.old) → KeepsFirst (S.size store.old) (S.contents store.old) (S.contents store.new)) }
     ensures ready { OnOk result (IsTrue (S.is_sound store.old) → AreLater (S.size store.old) (S.contents store.new) (hand.new ∷ aside.new)) }

@@ -1,11 +1,11 @@
 ghost use Rattle.std.specs.Prelude.{◌≡◌, true, false, vec_len, IsTrue, length, replicate, OnOk};
 ghost use Rattle.hd_dbd.specs.Refusals.{OnlyDevice};
 ghost use Rattle.hd_bytes.specs.Blocks.{HasBlock};
-ghost use Rattle.hd_volume.specs.Stores.{CountsDevice, StaysSound};
+ghost use Rattle.hd_stores.specs.Stores.{CountsDevice, StaysSound};
 ghost use Rattle.hd_volume.specs.Buffers.{put_in, IsBuffer, KeepsStoredHead};
 
-use crate::store::BlockStore;
 use hd_dbd::Refused;
+use hd_stores::BlockStore;
 
 /// A block of a store in memory, if it holds one.
 #[derive(Drop)]

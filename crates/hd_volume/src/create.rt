@@ -5,9 +5,9 @@ ghost use Rattle.hd_volume.specs.Creates.{IsCreated, IsGivenNew, head_list};
 ghost use Rattle.hd_volume.specs.declared.load.TheConstants.{MOST_BLOCKS};
 
 use crate::header::NEWEST_VERSION;
-use crate::store::BlockStore;
 use crate::volume::Volume;
 use hd_dbd::{Dbd, Refused};
+use hd_stores::BlockStore;
 use std::alloc::Global;
 
 impl<S: BlockStore> Volume<S> {

@@ -8,9 +8,9 @@ ghost use Rattle.hd_volume.specs.Calls.{HasNewHeader};
 ghost use Rattle.hd_volume.specs.Spacing.{LeavesSpace};
 
 use crate::blocks::Blocks;
-use crate::store::BlockStore;
 use crate::volume::{COUNT, FIRST_ROOT, HEIGHT, LARGEST, LAST_ROOT, TOP, Volume, head_number};
 use hd_bytes::read_u16;
+use hd_stores::BlockStore;
 
 /// The first eight bytes of a volume.
 pub const MARK: [u8; 8] = *b"HDVOLUME";

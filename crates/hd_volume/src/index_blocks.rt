@@ -9,9 +9,9 @@ ghost use Rattle.hd_volume.specs.Spacing.{IsLeftOut};
 ghost use Rattle.hd_volume.specs.Steps.{IsStep, KeepsSpacing, IsMadeIndex};
 
 use crate::space::{Content, FREE, INDEX, empty_block, fill_free};
-use crate::store::BlockStore;
 use crate::volume::Volume;
 use hd_dbd::Refused;
+use hd_stores::BlockStore;
 
 impl<S: BlockStore> Volume<S> {
     /// Makes a free block an index block of a level, with no entry.

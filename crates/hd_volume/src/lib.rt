@@ -1,32 +1,23 @@
-//! A volume over a store of blocks: a finite map from addresses to segments, and blocks for an index. Stores are in
-//! memory, in a file, or a fuse that fails one access of the store below it.
+//! A volume over a store of blocks: a finite map from addresses to segments, and blocks for an index.
 #![tactic(auto)]
 
 mod blocks;
 mod buffer;
 mod create;
-mod file;
-mod fuse;
 mod header;
 mod index_blocks;
 mod law;
 mod load;
-mod memory;
 mod puts;
 mod rewrite;
 mod seek;
 mod space;
 mod spacing;
-mod store;
 mod volume;
 
-pub use file::FileStore;
-pub use fuse::FuseStore;
 pub use header::{BLOCK_SIZE, MARK, NAME, NEWEST_VERSION, VERSION};
 pub use law::{law_an_index_stays, law_segments_depend_on_data_blocks};
 pub use load::{MOST_BLOCKS, size_table};
-pub use memory::MemStore;
 pub use space::{DATA, FREE, INDEX};
 pub use spacing::NO_SPACING;
-pub use store::{BlockStore, RunStore};
 pub use volume::{COUNT, LARGEST, Volume};

@@ -4,15 +4,15 @@ ghost use Rattle.hd_bytes.specs.Blocks.{block_of, HasBlock};
 ghost use Rattle.hd_dbd.specs.declared.facts.SegmentSize.{SegmentSize};
 ghost use Rattle.hd_dbd.specs.Facts.{stored_sizes};
 ghost use Rattle.hd_dbd.specs.Refusals.{OnlyDevice, OnlyDeviceOrMemory, OnlyMemory};
-ghost use Rattle.hd_volume.specs.Stores.{CountsDevice, StaysSound};
+ghost use Rattle.hd_stores.specs.Stores.{CountsDevice, StaysSound};
 ghost use Rattle.hd_volume.specs.Rooms.{one_if};
 ghost use Rattle.hd_volume.specs.Spaces.{IsSpaceOf, IsContent, AreSizes};
 ghost use Rattle.hd_volume.specs.declared.load.TheConstants.{MOST_BLOCKS};
 
 use crate::blocks::Blocks;
 use crate::space::{Content, FREE, Space, content_of};
-use crate::store::BlockStore;
 use hd_dbd::{Dbd, Refused, SegmentSize};
+use hd_stores::BlockStore;
 use std::alloc::{AllocError, Global};
 
 /// The most blocks that a volume has.

@@ -12,9 +12,9 @@ ghost use Rattle.hd_block.specs.Sizes.{size_at};
 use crate::load::MOST_BLOCKS;
 use crate::seek::{seek_free, seek_hole, seek_size};
 use crate::space::{Content, DATA, FREE, add_free, fill_free, make_room};
-use crate::store::BlockStore;
 use crate::volume::{COUNT, LARGEST, Volume, head_number};
 use hd_dbd::Refused;
+use hd_stores::BlockStore;
 
 impl<S: BlockStore> Volume<S> {
     /// Puts a segment into the hole of a data block.

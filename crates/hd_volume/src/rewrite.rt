@@ -7,10 +7,10 @@ ghost use Rattle.hd_volume.specs.Steps.{IsStep, IsLengthAt, IsShorter};
 ghost use Rattle.hd_block.specs.Sizes.{size_at};
 
 use crate::space::open_block;
-use crate::store::BlockStore;
 use crate::volume::Volume;
 use hd_block::size_at;
 use hd_dbd::Refused;
+use hd_stores::BlockStore;
 
 impl<S: BlockStore> Volume<S> {
     /// Replaces the segment at an address by another of its type, its prefix first and padded to a multiple of 8, and says where it

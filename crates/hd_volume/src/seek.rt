@@ -6,9 +6,9 @@ ghost use Rattle.hd_volume.specs.declared.load.TheConstants.{MOST_BLOCKS};
 
 use crate::blocks::Blocks;
 use crate::space::{Content, DATA, FREE, Space, set_content};
-use crate::store::BlockStore;
 use hd_block::largest_free;
 use hd_dbd::{Refused, SegmentSize};
+use hd_stores::BlockStore;
 
 /// The lowest data block with a hole of at least so many bytes, a multiple of 8, if there is one. Blocks that can't have one are
 /// not read.

@@ -3,11 +3,11 @@ ghost use Rattle.std.specs.Prelude.{◌≡◌, ◌≢◌, ◌⊎◌, ℕ, ◌+�
 ghost use Rattle.hd_dbd.specs.Refusals.{OnlyDevice};
 ghost use Rattle.hd_volume.specs.Buffers.{IsFetch};
 ghost use Rattle.hd_volume.specs.Headers.{header_of};
-ghost use Rattle.hd_volume.specs.Volumes.{IsFormatted, block_at};
+ghost use Rattle.hd_volume.specs.Volumes.{IsFormatted};
 ghost use Rattle.hd_volume.specs.Calls.{IsRead};
-ghost use Rattle.hd_volume.specs.Spacing.{no_spacing, IsPlain, IsLeftOut, bytes_to_leave};
+ghost use Rattle.hd_volume.specs.Spacing.{no_spacing, IsPlain, IsLeftOut};
 ghost use Rattle.hd_volume.specs.Spaces.{IsSpaceOf, AreDivided, blocks_in};
-ghost use Rattle.hd_volume.specs.Steps.{IsStep, KeepsSpacing, HasRoom, HasFree, MayTake, IsSpacedAt, HasSpacedHole};
+ghost use Rattle.hd_volume.specs.Steps.{IsStep, KeepsSpacing, HasFree, IsSpacedAt, HasSpacedHole, HasSpacedRoom};
 ghost use Rattle.hd_volume.specs.declared.load.TheConstants.{MOST_BLOCKS};
 ghost use Rattle.hd_volume.specs.declared.spacing.TheConstants.{MOST_CALLS};
 ghost use Rattle.hd_block.specs.Sizes.{size_at};
@@ -16,10 +16,10 @@ use crate::blocks::Blocks;
 use crate::load::MOST_BLOCKS;
 use crate::seek::content_of_block;
 use crate::space::{DATA, Space, lower};
-use crate::store::BlockStore;
 use crate::volume::Volume;
 use hd_block::{free_bytes, largest_free};
 use hd_dbd::{FreeSpace, Refused, SegmentSize};
+use hd_stores::BlockStore;
 use std::alloc::Global;
 
 /// Nothing is kept free.
@@ -326,7 +326,7 @@ impl<S: BlockStore> Volume<S> {
         requires formatted { IsTrue self.old.is_sound → IsFormatted self.old }
         requires whole { (0 < length bytes.now) × (size_at self.old.sizes bytes.now 0 ≡ length bytes.now) }
         ensures read { IsRead self.old result self.new }
-        ensures found { IfOk result (λ o. IsTrue self.old.is_sound → IfSome o (λ n. HasRoom self.old n (length bytes.now) × MayTake self.old.sizes (bytes_to_leave self.old.size self.old.spacing) (length bytes.now) (block_at self.old n))) }
+        ensures found { IfOk result (λ o. IsTrue self.old.is_sound → IfSome o (HasSpacedRoom self.old (length bytes.now))) }
         ensures small { IfOk result (λ o. IfSome o (λ n. n < MOST_BLOCKS)) }
         ensures spacing { self.new.spacing ≡ self.old.spacing }
         ensures fits { length bytes.now + 8 ≤ self.old.size }

@@ -3,7 +3,7 @@ ghost use Rattle.std.specs.Prelude.{◌≡◌, ◌+◌, ◌-◌, ◌%◌, ◌≤
 ghost use Rattle.hd_bytes.specs.Blocks.{block_of, HasBlock};
 ghost use Rattle.hd_dbd.specs.Facts.{stored_sizes};
 ghost use Rattle.hd_dbd.specs.Refusals.{OnlyDevice, OnlyMemory};
-ghost use Rattle.hd_volume.specs.Stores.{CountsDevice, StaysSound, IsGivenBack};
+ghost use Rattle.hd_stores.specs.Stores.{CountsDevice, StaysSound, IsGivenBack};
 ghost use Rattle.hd_bytes.specs.Numbers.{number_at};
 ghost use Rattle.hd_volume.specs.Headers.{header_of};
 ghost use Rattle.hd_volume.specs.Volumes.{IsFormatted, block_at, kind_of};
@@ -18,10 +18,10 @@ use crate::blocks::Blocks;
 use crate::load::{size_table, survey};
 use crate::space::{Space, open_block};
 use crate::spacing::{Hints, MOST_CALLS, NO_SPACING};
-use crate::store::BlockStore;
 use hd_block::size_at;
 use hd_bytes::read_u32;
 use hd_dbd::{Dbd, FreeSpace, Refused, SegmentSize};
+use hd_stores::BlockStore;
 use std::alloc::Global;
 use std::marker::Model;
 

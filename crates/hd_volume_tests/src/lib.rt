@@ -1,27 +1,29 @@
-//! Tests of blocks, segment prefixes, stores, volumes, the cache and the root index.
+//! Tests of blocks, segment prefixes, stores, volumes, the cache, the root index, linked segments, and positions.
 #![tactic(auto)]
 
 #[cfg(test)]
-mod ahead_tests;
-#[cfg(test)]
 mod block_tests;
-#[cfg(test)]
-mod cache_refusal_tests;
-#[cfg(test)]
-mod cache_steps;
 #[cfg(test)]
 mod cache_tests;
 #[cfg(test)]
-mod index_counts_tests;
+mod chance;
 #[cfg(test)]
-mod index_order_tests;
+mod index;
 #[cfg(test)]
 mod index_tests;
 #[cfg(test)]
-mod index_volumes;
+mod list_tests;
 #[cfg(test)]
-mod prefix_tests;
+mod lists;
+#[cfg(test)]
+mod plain_list;
+#[cfg(test)]
+mod random_tests;
 #[cfg(test)]
 mod store_tests;
 #[cfg(test)]
-mod volume_tests;
+mod stores;
+#[cfg(test)]
+mod text;
+#[cfg(test)]
+mod trial;

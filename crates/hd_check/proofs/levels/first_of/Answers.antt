@@ -1,8 +1,8 @@
 use Rattle.std.proofs.Common.{ℕ, Option, IfSome, ◌≤◌, subst}
 use Rattle.hd_volume.specs.Indexes.{root_key_length}
 use Rattle.hd_volume.proofs.PutLemmas.{if-some-map}
-use Rattle.hd_levels.specs.LevelFaults as level
-use Rattle.hd_check_levels.specs.Judging.{IsFoundAt}
+use Rattle.hd_index_blocks.specs.LevelFaults as level
+use Rattle.hd_check_index.specs.Judging.{IsFoundAt}
 use Rattle.hd_check.proofs.LevelsFound.{next-fault, order-alone, order-before}
 use Rattle.hd_check.proofs.levels.first_of.Goals as goal
 

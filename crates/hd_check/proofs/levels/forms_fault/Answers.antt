@@ -2,9 +2,9 @@ use Rattle.std.proofs.Common.{◌≡◌, ℕ, refl, subst}
 use Rattle.hd_dbd.specs.Hierarchy.{Database}
 use Rattle.hd_volume.specs.Headers.{header_of}
 use Rattle.hd_volume.specs.Volumes.{VolumeState}
-use Rattle.hd_levels.specs.LevelFaults as level
+use Rattle.hd_index_blocks.specs.LevelFaults as level
 use Rattle.hd_image.specs.Records.{IsVolumeOf}
-use Rattle.hd_check_levels.specs.Judging.{IsFoundAt}
+use Rattle.hd_check_index.specs.Judging.{IsFoundAt}
 use Rattle.hd_check.proofs.LevelsFound.{forms-found}
 use Rattle.hd_check.proofs.levels.forms_fault.Goals as goal
 

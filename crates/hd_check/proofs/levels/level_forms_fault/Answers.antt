@@ -3,8 +3,8 @@ use Rattle.hd_volume.specs.Volumes.{VolumeState}
 use Rattle.hd_volume.specs.Indexes.{root_key_length}
 use Rattle.hd_volume.proofs.CallSteps.{if-ok}
 use Rattle.hd_volume.proofs.PutLemmas.{if-none-map}
-use Rattle.hd_check_levels.specs.declared.table.NotedBlock.{NotedBlock}
-use Rattle.hd_check_levels.specs.Tables.{AreIndexBlocks}
+use Rattle.hd_check_index.specs.declared.table.NotedBlock.{NotedBlock}
+use Rattle.hd_check_index.specs.Tables.{AreIndexBlocks}
 use Rattle.hd_check.proofs.OneStore.{IsOne, turned, level-forms-same, level-table-same}
 use Rattle.hd_check.proofs.Joined.{still-sound, was-sound, read-one, firsts-same, none-same}
 use Rattle.hd_check.proofs.levels.level_forms_fault.Goals as goal

@@ -1,8 +1,8 @@
 use Rattle.std.proofs.Common.{ℕ, subst}
 use Rattle.hd_dbd.specs.Hierarchy.{Database}
 use Rattle.hd_volume.specs.Volumes.{VolumeState}
-use Rattle.hd_levels.specs.LevelFaults as level
-use Rattle.hd_check_levels.specs.Judging.{IsFoundAt}
+use Rattle.hd_index_blocks.specs.LevelFaults as level
+use Rattle.hd_check_index.specs.Judging.{IsFoundAt}
 use Rattle.hd_check.proofs.LevelsFound.{names-found}
 use Rattle.hd_check.proofs.levels.level_names_fault.Goals as goal
 

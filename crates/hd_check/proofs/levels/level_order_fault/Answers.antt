@@ -2,9 +2,9 @@ use Rattle.std.proofs.Common.{ℕ, IfNone, IfSome, subst}
 use Rattle.hd_dbd.specs.Hierarchy.{Database}
 use Rattle.hd_volume.specs.Volumes.{VolumeState}
 use Rattle.hd_volume.specs.Indexes.{root_key_length}
-use Rattle.hd_levels.specs.LevelFaults as level
-use Rattle.hd_levels.specs.LevelFaults.{StandsNowhere}
-use Rattle.hd_check_levels.specs.Judging.{IsFirst}
+use Rattle.hd_index_blocks.specs.LevelFaults as level
+use Rattle.hd_index_blocks.specs.LevelFaults.{StandsNowhere}
+use Rattle.hd_check_index.specs.Judging.{IsFirst}
 use Rattle.hd_check.proofs.Joined.{found-here}
 use Rattle.hd_check.proofs.levels.level_order_fault.Goals as goal
 

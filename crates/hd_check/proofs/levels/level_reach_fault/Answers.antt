@@ -2,8 +2,8 @@ use Rattle.std.proofs.Common.{ℕ, List, sym, subst}
 use Rattle.hd_dbd.specs.Hierarchy.{Database}
 use Rattle.hd_volume.specs.Volumes.{VolumeState}
 use Rattle.hd_volume.specs.Indexes.{root_key_length}
-use Rattle.hd_check_levels.specs.declared.rows.Standing.{Standing}
-use Rattle.hd_check_levels.specs.Rows.{AreRows}
+use Rattle.hd_check_index.specs.declared.rows.Standing.{Standing}
+use Rattle.hd_check_index.specs.Rows.{AreRows}
 use Rattle.hd_check.proofs.LevelsFound.{reach-found}
 use Rattle.hd_check.proofs.levels.level_reach_fault.Goals as goal
 

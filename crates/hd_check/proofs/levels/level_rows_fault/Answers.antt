@@ -4,10 +4,10 @@ use Rattle.hd_volume.specs.Volumes.{VolumeState}
 use Rattle.hd_volume.specs.Indexes.{root_key_length}
 use Rattle.hd_volume.proofs.CallSteps.{reads-join, if-ok}
 use Rattle.hd_volume.proofs.PutLemmas.{if-none-map}
-use Rattle.hd_levels.specs.Faultless.{AreNamedOnce, AreAllReached}
+use Rattle.hd_index_blocks.specs.Faultless.{AreNamedOnce, AreAllReached}
 use Rattle.hd_image.proofs.OneImage.{volume-same}
-use Rattle.hd_check_levels.specs.declared.rows.Standing.{Standing}
-use Rattle.hd_check_levels.specs.Rows.{AreRows}
+use Rattle.hd_check_index.specs.declared.rows.Standing.{Standing}
+use Rattle.hd_check_index.specs.Rows.{AreRows}
 use Rattle.hd_check_pointers.proofs.RecordSteps.{from-none}
 use Rattle.hd_check.proofs.OneStore.{IsOne, turned, level-forms-same, level-table-same, reached-same, rows-same, levels-same}
 use Rattle.hd_check.proofs.LevelPhases.{level-10, level-11}

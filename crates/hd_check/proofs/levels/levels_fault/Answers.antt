@@ -2,10 +2,10 @@ use Rattle.std.proofs.Common.{inr, ℕ, List, sym, subst, ◌∙◌}
 use Rattle.hd_dbd.specs.Hierarchy.{Database}
 use Rattle.hd_volume.specs.Volumes.{VolumeState}
 use Rattle.hd_volume.specs.Indexes.{root_key_length}
-use Rattle.hd_levels.specs.Faultless.{AreFormsRight}
+use Rattle.hd_index_blocks.specs.Faultless.{AreFormsRight}
 use Rattle.hd_image.specs.Right.{SetIsFormed, LevelsAreInOrder}
-use Rattle.hd_check_levels.specs.declared.table.NotedBlock.{NotedBlock}
-use Rattle.hd_check_levels.specs.Tables.{AreIndexBlocks}
+use Rattle.hd_check_index.specs.declared.table.NotedBlock.{NotedBlock}
+use Rattle.hd_check_index.specs.Tables.{AreIndexBlocks}
 use Rattle.hd_check_pointers.proofs.RecordSteps.{from-none}
 use Rattle.hd_check.proofs.OneStore.{IsOne, turned, set-formed-same, level-forms-same, level-table-same, levels-same}
 use Rattle.hd_check.proofs.LevelPhases.{level-9}

@@ -1,8 +1,8 @@
 use Rattle.std.proofs.Common.{inl, inr, ℕ, List, ap, ◌∙◌}
 use Rattle.std.proofs.lemmas.Bool.{cases_eq}
 use Rattle.std.proofs.lemmas.List.{take_all}
-use Rattle.hd_check_levels.specs.declared.table.NotedBlock.{NotedBlock}
-use Rattle.hd_check_levels.specs.NotedBlocks.{noted_at}
+use Rattle.hd_check_index.specs.declared.table.NotedBlock.{NotedBlock}
+use Rattle.hd_check_index.specs.NotedBlocks.{noted_at}
 use Rattle.hd_check.proofs.NotedSequence.{low_numbers, low-more, high-more, low-sequence}
 use Rattle.hd_check.proofs.levels.note_sequence.Goals as goal
 

@@ -10,7 +10,7 @@ use Rattle.hd_volume.proofs.PutLemmas.{if-none-map}
 use Rattle.hd_image.specs.Records.{IsVolumeOf}
 use Rattle.hd_image.proofs.OneImage.{volume-same}
 use Rattle.hd_image.specs.Right.{ChainIsFormed}
-use Rattle.hd_check_index.specs.declared.noted_blocks.NotedBlock.{NotedBlock}
+use Rattle.hd_check_index.specs.declared.noted_blocks.ChainedBlock.{ChainedBlock}
 use Rattle.hd_check_index.specs.IndexPhases.{AreIndexBlocks, IsIndexRight, AreNamedOnce}
 use Rattle.hd_check.specs.Joining.{NoneBefore}
 use Rattle.hd_check_pointers.proofs.RecordSteps.{from-none}
@@ -34,7 +34,7 @@ returns-then-is_some-2-clause-some g c = λ sound.
     let is-none = sym c.is_some.ensures ∙ c.if-is_some.false in
     let right : IsIndexRight k v = from-none c.in_ok-found.found is-none (c.in_ok-found.ensures.none sound) in
     let all : AreIndexBlocks v c.block_forms_fault.new.blocks.items = from-none c.in_ok-found.found is-none (c.in_ok-found.ensures.blocks sound) in
-    let table : AreIndexBlocks v c.deref.result.now = subst (λ (l : List NotedBlock). AreIndexBlocks v l) (sym c.deref.ensures.value) all in
+    let table : AreIndexBlocks v c.deref.result.now = subst (λ (l : List ChainedBlock). AreIndexBlocks v l) (sym c.deref.ensures.value) all in
     let size = c.block_size-size.ensures.value ∙ e.size in
     found-here d v 9 c.in_ok-found-2.found (none-9 d v (c.requires.before sound) right) (c.in_ok-found-2.ensures.some d v table top right V size)
 
@@ -50,10 +50,10 @@ returns-then-is_some-3-clause-some g c = λ sound.
     let is-none = sym c.is_some.ensures ∙ c.if-is_some.false in
     let right : IsIndexRight k v = from-none c.in_ok-found.found is-none (c.in_ok-found.ensures.none sound) in
     let all : AreIndexBlocks v c.block_forms_fault.new.blocks.items = from-none c.in_ok-found.found is-none (c.in_ok-found.ensures.blocks sound) in
-    let table : AreIndexBlocks v c.deref.result.now = subst (λ (l : List NotedBlock). AreIndexBlocks v l) (sym c.deref.ensures.value) all in
+    let table : AreIndexBlocks v c.deref.result.now = subst (λ (l : List ChainedBlock). AreIndexBlocks v l) (sym c.deref.ensures.value) all in
     let size = c.block_size-size.ensures.value ∙ e.size in
     let once : AreNamedOnce v = from-none c.in_ok-found-2.found (sym c.is_some-2.ensures ∙ c.if-is_some-2.false) (c.in_ok-found-2.ensures.none d v table top right V) in
-    let table-2 : AreIndexBlocks v c.deref-2.result.now = subst (λ (l : List NotedBlock). AreIndexBlocks v l) (sym c.deref-2.ensures.value) all in
+    let table-2 : AreIndexBlocks v c.deref-2.result.now = subst (λ (l : List ChainedBlock). AreIndexBlocks v l) (sym c.deref-2.ensures.value) all in
     found-here d v 10 c.in_ok-found-3.found (none-10 d v (none-9 d v (c.requires.before sound) right) right.version once) (c.in_ok-found-3.ensures.some d v table-2 top right once V size)
 
 pub chain_order_fault-requires-clause-of : goal.chain_order_fault-requires-clause-of
@@ -83,9 +83,9 @@ chain_order_fault-requires-clause-formed g c = λ now.
     let is-none = sym c.is_some.ensures ∙ c.if-is_some.false in
     let right : IsIndexRight k v = from-none c.in_ok-found.found is-none (c.in_ok-found.ensures.none sound) in
     let all : AreIndexBlocks v c.block_forms_fault.new.blocks.items = from-none c.in_ok-found.found is-none (c.in_ok-found.ensures.blocks sound) in
-    let table : AreIndexBlocks v c.deref.result.now = subst (λ (l : List NotedBlock). AreIndexBlocks v l) (sym c.deref.ensures.value) all in
+    let table : AreIndexBlocks v c.deref.result.now = subst (λ (l : List ChainedBlock). AreIndexBlocks v l) (sym c.deref.ensures.value) all in
     let once : AreNamedOnce v = from-none c.in_ok-found-2.found (sym c.is_some-2.ensures ∙ c.if-is_some-2.false) (c.in_ok-found-2.ensures.none d v table top right V) in
-    let table-2 : AreIndexBlocks v c.deref-2.result.now = subst (λ (l : List NotedBlock). AreIndexBlocks v l) (sym c.deref-2.ensures.value) all in
+    let table-2 : AreIndexBlocks v c.deref-2.result.now = subst (λ (l : List ChainedBlock). AreIndexBlocks v l) (sym c.deref-2.ensures.value) all in
     let formed : ChainIsFormed k v = from-none c.in_ok-found-3.found (sym c.is_some-3.ensures ∙ c.if-is_some-3.false) (c.in_ok-found-3.ensures.none d v table-2 top right once V) in
     chain-formed-same v w e k formed
 
@@ -102,9 +102,9 @@ chain_order_fault-requires-clause-chain g c = λ now.
     let is-none = sym c.is_some.ensures ∙ c.if-is_some.false in
     let right : IsIndexRight k v = from-none c.in_ok-found.found is-none (c.in_ok-found.ensures.none sound) in
     let all : AreIndexBlocks v c.block_forms_fault.new.blocks.items = from-none c.in_ok-found.found is-none (c.in_ok-found.ensures.blocks sound) in
-    let table : AreIndexBlocks v c.deref.result.now = subst (λ (l : List NotedBlock). AreIndexBlocks v l) (sym c.deref.ensures.value) all in
+    let table : AreIndexBlocks v c.deref.result.now = subst (λ (l : List ChainedBlock). AreIndexBlocks v l) (sym c.deref.ensures.value) all in
     let once : AreNamedOnce v = from-none c.in_ok-found-2.found (sym c.is_some-2.ensures ∙ c.if-is_some-2.false) (c.in_ok-found-2.ensures.none d v table top right V) in
-    let table-2 : AreIndexBlocks v c.deref-2.result.now = subst (λ (l : List NotedBlock). AreIndexBlocks v l) (sym c.deref-2.ensures.value) all in
+    let table-2 : AreIndexBlocks v c.deref-2.result.now = subst (λ (l : List ChainedBlock). AreIndexBlocks v l) (sym c.deref-2.ensures.value) all in
     let chain : c.unreached_block_fault.new.chain.items ≡ entry_blocks v = from-none c.in_ok-found-3.found (sym c.is_some-3.ensures ∙ c.if-is_some-3.false) (c.in_ok-found-3.ensures.chain d v table-2 top right once V) in
     chain ∙ sym (bearers-same v w e)
 
@@ -121,9 +121,9 @@ chain_order_fault-requires-clause-before g c = λ now.
     let is-none = sym c.is_some.ensures ∙ c.if-is_some.false in
     let right : IsIndexRight k v = from-none c.in_ok-found.found is-none (c.in_ok-found.ensures.none sound) in
     let all : AreIndexBlocks v c.block_forms_fault.new.blocks.items = from-none c.in_ok-found.found is-none (c.in_ok-found.ensures.blocks sound) in
-    let table : AreIndexBlocks v c.deref.result.now = subst (λ (l : List NotedBlock). AreIndexBlocks v l) (sym c.deref.ensures.value) all in
+    let table : AreIndexBlocks v c.deref.result.now = subst (λ (l : List ChainedBlock). AreIndexBlocks v l) (sym c.deref.ensures.value) all in
     let once : AreNamedOnce v = from-none c.in_ok-found-2.found (sym c.is_some-2.ensures ∙ c.if-is_some-2.false) (c.in_ok-found-2.ensures.none d v table top right V) in
-    let table-2 : AreIndexBlocks v c.deref-2.result.now = subst (λ (l : List NotedBlock). AreIndexBlocks v l) (sym c.deref-2.ensures.value) all in
+    let table-2 : AreIndexBlocks v c.deref-2.result.now = subst (λ (l : List ChainedBlock). AreIndexBlocks v l) (sym c.deref-2.ensures.value) all in
     let formed : ChainIsFormed k v = from-none c.in_ok-found-3.found (sym c.is_some-3.ensures ∙ c.if-is_some-3.false) (c.in_ok-found-3.ensures.none d v table-2 top right once V) in
     none-same d 11 v w e (none-11 d v (none-10 d v (none-9 d v (c.requires.before sound) right) right.version once) right.version formed)
 
@@ -140,9 +140,9 @@ returns-clause-none g c = if-ok c.chain_order_fault.result c.chain_order_fault.e
     let is-none = sym c.is_some.ensures ∙ c.if-is_some.false in
     let right : IsIndexRight k v = from-none c.in_ok-found.found is-none (c.in_ok-found.ensures.none sound) in
     let all : AreIndexBlocks v c.block_forms_fault.new.blocks.items = from-none c.in_ok-found.found is-none (c.in_ok-found.ensures.blocks sound) in
-    let table : AreIndexBlocks v c.deref.result.now = subst (λ (l : List NotedBlock). AreIndexBlocks v l) (sym c.deref.ensures.value) all in
+    let table : AreIndexBlocks v c.deref.result.now = subst (λ (l : List ChainedBlock). AreIndexBlocks v l) (sym c.deref.ensures.value) all in
     let once : AreNamedOnce v = from-none c.in_ok-found-2.found (sym c.is_some-2.ensures ∙ c.if-is_some-2.false) (c.in_ok-found-2.ensures.none d v table top right V) in
-    let table-2 : AreIndexBlocks v c.deref-2.result.now = subst (λ (l : List NotedBlock). AreIndexBlocks v l) (sym c.deref-2.ensures.value) all in
+    let table-2 : AreIndexBlocks v c.deref-2.result.now = subst (λ (l : List ChainedBlock). AreIndexBlocks v l) (sym c.deref-2.ensures.value) all in
     let formed : ChainIsFormed k v = from-none c.in_ok-found-3.found (sym c.is_some-3.ensures ∙ c.if-is_some-3.false) (c.in_ok-found-3.ensures.none d v table-2 top right once V) in
     let keys = none (still-sound c.in_ok-found.ensures.read sound) in
     let one : (header_of v.image).version ≡ 1 = right.version in

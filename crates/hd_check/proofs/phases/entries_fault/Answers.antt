@@ -5,7 +5,7 @@ use Rattle.hd_volume.specs.Volumes.{VolumeState}
 use Rattle.hd_volume.specs.Indexes.{root_key_length}
 use Rattle.hd_volume.proofs.CallSteps.{read-ok}
 use Rattle.hd_volume.proofs.PutLemmas.{if-none-map}
-use Rattle.hd_levels.specs.IndexSets.{index_entries}
+use Rattle.hd_index_blocks.specs.IndexSets.{index_entries}
 use Rattle.hd_image.specs.Records.{links_of}
 use Rattle.hd_image.specs.IndexFaults.{names_a_root}
 use Rattle.hd_check_index.specs.IndexPhases.{AreNamed}

@@ -1,4 +1,4 @@
-use Rattle.hd_check_index.specs.IndexPhases.{AreMarkedBefore}
+use Rattle.hd_check_index.specs.Marks.{AreMarkedBefore}
 use Rattle.hd_check_index.proofs.block_chain.unmarked.Given as goal
 
 -- the marks before are made

@@ -1,8 +1,9 @@
 use Rattle.std.proofs.Common.{◌≡◌, ◌*◌, ◌<◌, ℕ, List, Bool, false, length, sym, ap, subst, ◌∙◌}
 use Rattle.hd_volume.specs.Indexes.{root_key_length}
-use Rattle.hd_check_index.specs.declared.noted_blocks.NotedBlock.{NotedBlock}
+use Rattle.hd_check_index.specs.declared.noted_blocks.ChainedBlock.{ChainedBlock}
 use Rattle.hd_check_blocks.specs.Phases.{IsLeastOf}
-use Rattle.hd_check_index.specs.IndexPhases.{IsChainable, AreMarkedBefore, IsWalked, mark_at, index_block_at}
+use Rattle.hd_check_index.specs.Marks.{AreMarkedBefore, mark_at}
+use Rattle.hd_check_index.specs.IndexPhases.{IsChainable, IsWalked, index_block_at}
 use Rattle.hd_check_index.proofs.IndexTables.{among}
 use Rattle.hd_check_index.proofs.FormFaults.{place-fits}
 use Rattle.hd_check_index.proofs.Walks.{walked-chain, walked-formed, unmarked-least}
@@ -11,7 +12,7 @@ use Rattle.hd_image.specs.declared.line.Line.TheVariants.{UnreachedBlock}
 
 pub returns-in-None-clause-none : goal.returns-in-None-clause-none
 returns-in-None-clause-none c = λ d v table top right once of.
-    let bs : List NotedBlock = c.args.blocks.now in
+    let bs : List ChainedBlock = c.args.blocks.now in
     let h : IsChainable (root_key_length d.types) v bs c.args.top = record { table = table; top_is = top; right = right; once = once } in
     let view : c.deref.result.now ≡ c.walk.new.marks.items = c.deref.ensures.value in
     walked-formed d v bs c.args.top h of c.walk.new.chain.items c.walk.new.marks.items (c.in_ok-walk.ensures.walked (root_key_length d.types) v h)
@@ -19,13 +20,13 @@ returns-in-None-clause-none c = λ d v table top right once of.
 
 pub returns-in-None-clause-chain : goal.returns-in-None-clause-chain
 returns-in-None-clause-chain c = λ d v table top right once of.
-    let bs : List NotedBlock = c.args.blocks.now in
+    let bs : List ChainedBlock = c.args.blocks.now in
     let h : IsChainable (root_key_length d.types) v bs c.args.top = record { table = table; top_is = top; right = right; once = once } in
     walked-chain d v bs c.args.top h of c.walk.new.chain.items c.walk.new.marks.items (c.in_ok-walk.ensures.walked (root_key_length d.types) v h)
 
 pub returns-clause-some : goal.returns-clause-some
 returns-clause-some c = λ d v table top right once of size.
-    let bs : List NotedBlock = c.args.blocks.now in
+    let bs : List ChainedBlock = c.args.blocks.now in
     let h : IsChainable (root_key_length d.types) v bs c.args.top = record { table = table; top_is = top; right = right; once = once } in
     let view : c.deref.result.now ≡ c.walk.new.marks.items = c.deref.ensures.value in
     let walked : IsWalked v c.args.top bs c.walk.new.chain.items c.walk.new.marks.items = c.in_ok-walk.ensures.walked (root_key_length d.types) v h in

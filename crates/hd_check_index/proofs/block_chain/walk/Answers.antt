@@ -1,5 +1,5 @@
 use Rattle.std.proofs.Common.{rules, ◌≡◌, ◌+◌, ℕ, List, ◌∷◌, [], ◌++◌, true, slice_set, length-set, sym, subst, ◌∙◌, arith}
-use Rattle.hd_check_index.specs.declared.noted_blocks.NotedBlock.{NotedBlock}
+use Rattle.hd_check_index.specs.declared.noted_blocks.ChainedBlock.{ChainedBlock}
 use Rattle.hd_check_index.specs.IndexPhases.{index_block_at}
 use Rattle.hd_check_index.proofs.Walks.{IsWalking, walk-goes-on, walk-stops, walk-ends}
 use Rattle.hd_check_index.proofs.block_chain.walk.Goals as goal
@@ -13,7 +13,7 @@ returns-in-None-clause-walked c = λ k v h.
 pub loop-turn-preserved : goal.loop-turn-preserved
 loop-turn-preserved c =
     let i = c.loop-turn.invariant in
-    let bs : List NotedBlock = c.args.blocks.now in
+    let bs : List ChainedBlock = c.args.blocks.now in
     let pushed : c.push.new.self.items ≡ c.loop-turn.chain.items ++ (c.loop-turn.next ∷ []) = search rules in
     record {
       as_many = length-set c.loop-turn.marks.items c.in-Some.at true ∙ i.as_many;

@@ -2,17 +2,19 @@ use Rattle.std.proofs.Common.{◌≡◌, ◌*◌, ◌<◌, ℕ, List, sym, ap, s
 use Rattle.std.specs.List.Sorted.{IsPermutation, IsNonDecreasing}
 use Rattle.std.proofs.lemmas.List.Sorted.{IsNonDecreasingBy-from_sort, IsPermutation-sym}
 use Rattle.hd_volume.specs.Indexes.{root_key_length}
-use Rattle.hd_check_index.specs.declared.noted_blocks.NotedBlock.{NotedBlock}
+use Rattle.hd_check_index.specs.declared.noted_blocks.ChainedBlock.{ChainedBlock}
 use Rattle.hd_check_blocks.specs.Phases.{IsLeastOf}
-use Rattle.hd_check_index.specs.IndexPhases.{IsTwice, names_of}
+use Rattle.hd_check_index.specs.Marks.{IsTwice}
+use Rattle.hd_check_index.specs.IndexPhases.{names_of}
 use Rattle.hd_check_index.proofs.FormFaults.{place-fits}
-use Rattle.hd_check_index.proofs.TwiceNamed.{twice-moved, named-once, twice-kind, twice-least}
+use Rattle.hd_check_index.proofs.TwiceNumbers.{twice-moved}
+use Rattle.hd_check_index.proofs.TwiceNamed.{named-once, twice-kind, twice-least}
 use Rattle.hd_check_index.proofs.block_names.twice_named_fault.Goals as goal
 use Rattle.hd_image.specs.declared.line.Line.TheVariants.{NamedTwice}
 
 pub returns-in-None-clause-none : goal.returns-in-None-clause-none
 returns-in-None-clause-none c = λ d v h top right of.
-    let bs : List NotedBlock = c.args.blocks.now in
+    let bs : List ChainedBlock = c.args.blocks.now in
     let s : List ℕ = c.sort_unstable.new.self.items in
     let view : c.deref.result.now ≡ s = c.deref.ensures.value in
     let up : IsNonDecreasing s = IsNonDecreasingBy-from_sort (λ x. x) s c.sort_unstable.ensures.sorted in
@@ -22,7 +24,7 @@ returns-in-None-clause-none c = λ d v h top right of.
 
 pub returns-clause-some : goal.returns-clause-some
 returns-clause-some c = λ d v h top right of size.
-    let bs : List NotedBlock = c.args.blocks.now in
+    let bs : List ChainedBlock = c.args.blocks.now in
     let n : ℕ = c.in-Some.n in
     let s : List ℕ = c.sort_unstable.new.self.items in
     let view : c.deref.result.now ≡ s = c.deref.ensures.value in

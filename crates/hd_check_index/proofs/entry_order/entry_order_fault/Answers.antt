@@ -12,7 +12,7 @@ use Rattle.hd_check_index.specs.LeftKeys.{IsLeft, lesser}
 use Rattle.hd_check_index.proofs.FormFaults.{place-fits}
 use Rattle.hd_check_index.proofs.UnnamedRoots.{at-among}
 use Rattle.hd_check_index.proofs.NamedEntries.{chain-block}
-use Rattle.hd_entries.proofs.BlockLemmas.{entry-block-same}
+use Rattle.hd_index_blocks.proofs.BlockLemmas.{entry-block-same}
 use Rattle.hd_check_index.proofs.OrderSteps.{address-of, left-of, out-of-order, left-more, IsLeastBefore, least-step, none-out-of-order, some-out-of-order}
 use Rattle.hd_check_index.proofs.entry_order.entry_order_fault.Goals as goal
 use Rattle.hd_image.specs.declared.line.Line.TheVariants.{EntryOutOfOrder}

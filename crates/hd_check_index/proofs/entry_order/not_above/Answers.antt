@@ -2,9 +2,9 @@ use Rattle.std.proofs.Common.{◌≡◌, ◌+◌, arith, ◌++◌, ◌∷◌, []
 use Rattle.hd_bytes.specs.Numbers.{number_at}
 use Rattle.hd_volume.specs.Entries.{Entry, entries_at}
 use Rattle.hd_image.specs.IndexFaults.{last_entry, first_not_above}
-use Rattle.hd_entries.specs.Fields.{entry_in}
+use Rattle.hd_index_blocks.specs.Fields.{entry_in}
 use Rattle.hd_check_index.specs.LeftKeys.{IsLeft}
-use Rattle.hd_entries.proofs.EntryLemmas.{entries-more}
+use Rattle.hd_index_blocks.proofs.EntryLemmas.{entries-more}
 use Rattle.hd_check_index.proofs.OrderSteps.{address-of, last-append}
 use Rattle.hd_check_index.proofs.entry_order.not_above.Goals as goal
 

@@ -1,13 +1,13 @@
 use Rattle.std.proofs.Common.{◌≡◌, ◌<◌, ◌+◌, ◌-◌, ◌/◌, ℕ, List, inl, inr, arith, sym, ap, subst}
 use Rattle.std.proofs.lemmas.Bool.{cases_lt, cases_eq}
-use Rattle.hd_check_index.specs.declared.noted_blocks.NotedBlock.{NotedBlock}
+use Rattle.hd_check_index.specs.declared.noted_blocks.ChainedBlock.{ChainedBlock}
 use Rattle.hd_check_index.specs.IndexPhases.{index_block_at}
 use Rattle.hd_check_index.proofs.IndexTables.{index-of, in-order}
 use Rattle.hd_check_index.proofs.noted_blocks.position_of.Goals as goal
 
 pub loop-low-preserved-then-block-number-2 : goal.loop-low-preserved-then-block-number-2
 loop-low-preserved-then-block-number-2 c =
-    let bs : List NotedBlock = c.args.blocks.now in
+    let bs : List ChainedBlock = c.args.blocks.now in
     let middle : ℕ = c.loop-low.low + (c.loop-low.high - c.loop-low.low) / 2 in
     let i = c.loop-low.invariant in
     let most = i.most in
@@ -25,7 +25,7 @@ loop-low-preserved-then-block-number-2 c =
 
 pub loop-low-preserved : goal.loop-low-preserved
 loop-low-preserved c =
-    let bs : List NotedBlock = c.args.blocks.now in
+    let bs : List ChainedBlock = c.args.blocks.now in
     let middle : ℕ = c.loop-low.low + (c.loop-low.high - c.loop-low.low) / 2 in
     let i = c.loop-low.invariant in
     let most = i.most in
@@ -43,11 +43,11 @@ loop-low-preserved c =
 
 pub returns-clause-none : goal.returns-clause-none
 returns-clause-none c = λ up b is same.
-    let bs : List NotedBlock = c.args.blocks.now in
+    let bs : List ChainedBlock = c.args.blocks.now in
     let i = c.loop-low.invariant in
     let end = c.loop-low-test.false in
     let n = index-of b bs is in
-    let at : (index_block_at bs n.0).number ≡ b.number = ap (λ (x : NotedBlock). x.number) n.2 in
+    let at : (index_block_at bs n.0).number ≡ b.number = ap (λ (x : ChainedBlock). x.number) n.2 in
     elim (cases_lt n.0 c.loop-low.low) [
       | inl low ↦ (let l = i.below up n.0 low in absurd (omega arith))
       | inr high ↦ (let within = n.1 in let a = i.above up n.0 (omega arith) within in absurd (omega arith))

@@ -7,9 +7,9 @@ use Rattle.hd_volume.proofs.CallSteps.{read-ok, reads-join}
 use Rattle.hd_image.specs.IndexFaults.{names_a_root}
 use Rattle.hd_image.specs.Records.{links_of}
 use Rattle.hd_image.proofs.OneImage.{links-same, volume-same}
-use Rattle.hd_entries.specs.Fields.{entry_in}
+use Rattle.hd_index_blocks.specs.Fields.{entry_in}
 use Rattle.hd_check_blocks.proofs.PlaceLemmas.{places-same}
-use Rattle.hd_entries.proofs.EntryLemmas.{entries-more}
+use Rattle.hd_index_blocks.proofs.EntryLemmas.{entries-more}
 use Rattle.hd_check_index.proofs.EntrySteps.{all-more, addresses-more, wrong-found, judged-same, read-memory}
 use Rattle.hd_check_index.proofs.wrong_entries.wrong_among.Goals as goal
 

@@ -11,7 +11,7 @@ use Rattle.hd_links.specs.Links.{Links}
 use Rattle.hd_image.specs.IndexFaults.{names_a_root}
 use Rattle.hd_image.specs.Records.{links_of}
 use Rattle.hd_image.proofs.OneImage.{links-same, volume-same}
-use Rattle.hd_entries.specs.Fields.{CountFits}
+use Rattle.hd_index_blocks.specs.Fields.{CountFits}
 use Rattle.hd_check_blocks.proofs.PlaceLemmas.{places-same}
 use Rattle.hd_check_index.proofs.EntrySteps.{where-none, where-some}
 use Rattle.hd_check_index.proofs.wrong_entries.wrong_entry.Goals as goal

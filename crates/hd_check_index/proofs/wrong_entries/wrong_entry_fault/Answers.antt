@@ -13,7 +13,7 @@ use Rattle.hd_image.proofs.OneImage.{links-same, volume-same}
 use Rattle.hd_check_blocks.specs.Phases.{IsLeastOf}
 use Rattle.hd_check_blocks.proofs.PlaceLemmas.{places-same}
 use Rattle.hd_check_index.proofs.FormFaults.{place-fits}
-use Rattle.hd_entries.proofs.BlockLemmas.{entry-block-same}
+use Rattle.hd_index_blocks.proofs.BlockLemmas.{entry-block-same}
 use Rattle.hd_check_index.proofs.NamedEntries.{named-more, table-entries, table-all, table-named, entry-least, all-same, found-same, addresses-same}
 use Rattle.hd_check_index.proofs.wrong_entries.wrong_entry_fault.Goals as goal
 use Rattle.hd_image.specs.declared.line.Line.TheVariants.{WrongEntry}

@@ -1,4 +1,4 @@
-use Rattle.std.proofs.Common.{◌≡◌, List, ℕ, ap₂, ◌∙◌, arith, rules}
+use Rattle.std.proofs.Common.{ap₂, ◌∙◌, arith, rules}
 use Rattle.std.specs.Ordering.{nat_cmp}
 use Rattle.hd_dbd.proofs.KeyOrder.{four-order}
 use Rattle.hd_dbd.proofs.keys.compare_four.Goals as goal

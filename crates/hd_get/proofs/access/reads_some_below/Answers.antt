@@ -2,9 +2,9 @@ use Rattle.std.proofs.Common.{◌≡◌, ℕ, ◌+◌, ◌-◌, ◌<◌, ◌≤�
 use Rattle.std.specs.Prelude.{◌&&◌, is_some}
 use Rattle.std.proofs.lemmas.Bool.{cases_lt}
 use Rattle.hd_dbd.specs.Letters.{gives_get}
-use Rattle.hd_calls.specs.Access.{may}
+use Rattle.hd_dbd.specs.Views.{may}
 use Rattle.hd_calls.proofs.Searches.{least_passed, least_none}
-use Rattle.hd_seek.specs.Admits.{is_on_way}
+use Rattle.hd_calls.specs.Admits.{is_on_way}
 use Rattle.hd_get.proofs.access.reads_some_below.Goals as goal
 
 pub loop-place-init : goal.loop-place-init

@@ -1,8 +1,8 @@
 use Rattle.std.proofs.Common.{◌≡◌, ◌+◌, length}
 use Rattle.std.specs.Prelude.{◌&&◌}
 use Rattle.hd_dbd.specs.Letters.{gives_get}
-use Rattle.hd_calls.specs.Access.{may}
-use Rattle.hd_seek.specs.Admits.{NonePass, is_on_way}
+use Rattle.hd_dbd.specs.Views.{may}
+use Rattle.hd_calls.specs.Admits.{NonePass, is_on_way}
 use Rattle.hd_get.proofs.access.reads_some_below.Given as goal
 
 -- none of the types looked at is one

@@ -6,7 +6,7 @@ use Rattle.hd_links.specs.Steps.{rows_of}
 use Rattle.hd_forest.specs.Rows.{IsOnSomeRow}
 use Rattle.hd_forest.proofs.Reading.{links-kept, volume-kept}
 use Rattle.hd_calls.specs.Ssas.{Ssa}
-use Rattle.hd_seek.specs.Admits.{admits, meets_own}
+use Rattle.hd_calls.specs.Admits.{admits, meets_own}
 use Rattle.hd_get.proofs.Grounds.{told_before}
 use Rattle.hd_get.proofs.arguments.admits.Goals as goal
 

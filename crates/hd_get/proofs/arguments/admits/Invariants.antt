@@ -4,7 +4,7 @@ use Rattle.hd_dbd.specs.Paths.{row_at}
 use Rattle.hd_volume.specs.Calls.{IsRead}
 use Rattle.hd_links.specs.Placed.{Placed}
 use Rattle.hd_links.specs.Steps.{rows_of}
-use Rattle.hd_seek.specs.Admits.{admits}
+use Rattle.hd_calls.specs.Admits.{admits}
 use Rattle.hd_get.specs.Searches.{IsPathOf}
 use Rattle.hd_get.proofs.arguments.admits.Given as goal
 

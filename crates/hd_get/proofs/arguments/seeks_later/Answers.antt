@@ -1,7 +1,7 @@
 use Rattle.std.proofs.Common.{ap, sym, ◌∙◌}
 use Rattle.std.specs.Prelude.{◌&&◌, not, is_none}
 use Rattle.hd_links.specs.Steps.{rows_of}
-use Rattle.hd_seek.specs.Twins.{next_twin}
+use Rattle.hd_calls.specs.SearchTwins.{next_twin}
 use Rattle.hd_get.proofs.arguments.seeks_later.Goals as goal
 
 pub returns-clause-value : goal.returns-clause-value

@@ -8,8 +8,8 @@ use Rattle.hd_image.specs.Holding.{HoldsPlaced}
 use Rattle.hd_index.specs.Maps.{address_from}
 use Rattle.hd_index.specs.Changes.{IsLater, IsIndexOf, entries_for}
 use Rattle.hd_index.proofs.ChangeLemmas.{set-index}
-use Rattle.hd_keeping.specs.Roots.{is_root_from, address_of_first}
-use Rattle.hd_keeping.proofs.RootRows.{index-answers}
+use Rattle.hd_changes.specs.Roots.{is_root_from, address_of_first}
+use Rattle.hd_changes.proofs.RootRows.{index-answers}
 use Rattle.hd_get.proofs.ByKey.{root_path}
 use Rattle.hd_get.proofs.by_key.root_from.Goals as goal
 

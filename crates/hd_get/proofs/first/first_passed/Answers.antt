@@ -14,7 +14,7 @@ use Rattle.hd_image.specs.Records.{links_of, IsVolumeOf}
 use Rattle.hd_forest.proofs.Reading.{links-kept, volume-kept}
 use Rattle.hd_position.specs.Kept.{Kept}
 use Rattle.hd_position.specs.Gets.{IsAt, IsSomewhere}
-use Rattle.hd_seek.specs.Starts.{has_first}
+use Rattle.hd_calls.specs.SearchStarts.{has_first}
 use Rattle.hd_calls.specs.Ssas.{Ssa}
 use Rattle.hd_calls.specs.Gets.{first_child}
 use Rattle.hd_get.specs.First.{first_passed, parent_level, is_level_from}

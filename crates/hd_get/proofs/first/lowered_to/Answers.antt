@@ -4,7 +4,7 @@ use Rattle.std.proofs.lemmas.Bool.{cases_Bool, cond-true, cond-false}
 use Rattle.hd_volume.proofs.JoinLemmas.{if-ok-map}
 use Rattle.hd_links.specs.Steps.{rows_of, path_at}
 use Rattle.hd_calls.specs.Ssas.{Ssa}
-use Rattle.hd_seek.specs.Starts.{has_first}
+use Rattle.hd_calls.specs.SearchStarts.{has_first}
 use Rattle.hd_get.specs.First.{first_passed}
 use Rattle.hd_get.proofs.first.lowered_to.Goals as goal
 

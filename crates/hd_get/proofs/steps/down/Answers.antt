@@ -6,7 +6,7 @@ use Rattle.hd_image.specs.Records.{links_of}
 use Rattle.hd_forest.specs.Rows.{IsOnSomeRow}
 use Rattle.hd_forest.proofs.Reading.{links-kept, volume-kept}
 use Rattle.hd_get.proofs.Grounds.{grounds, tip_is, tip_there, short_path, told_before}
-use Rattle.hd_index_edits.proofs.CallLemmas.{on-ok-map}
+use Rattle.hd_index.proofs.CallLemmas.{on-ok-map}
 use Rattle.hd_get.proofs.Climbs.{child_none, child_some}
 use Rattle.hd_get.proofs.Turns.{turned_aside, turned_down}
 use Rattle.hd_get.proofs.steps.down.Goals as goal

@@ -9,7 +9,7 @@ use Rattle.hd_image.specs.Records.{links_of}
 use Rattle.hd_forest.specs.Rows.{IsOnSomeRow}
 use Rattle.hd_forest.proofs.Reading.{links-kept, volume-kept}
 use Rattle.hd_get.proofs.Grounds.{grounds, tip_is, tip_there, last_behind, short_path_by, told_before}
-use Rattle.hd_index_edits.proofs.CallLemmas.{on-ok-map}
+use Rattle.hd_index.proofs.CallLemmas.{on-ok-map}
 use Rattle.hd_get.proofs.LastChildren.{child_parts, last_none, last_some, turned_to_child}
 use Rattle.hd_get.proofs.Turns.{turned_aside}
 use Rattle.hd_get.specs.Searches.{child_or_end}

@@ -4,7 +4,7 @@ use Rattle.hd_dbd.specs.Types.{SegmentType}
 use Rattle.hd_dbd.specs.Paths.{parent_row}
 use Rattle.hd_links.specs.Steps.{rows_of, path_at}
 use Rattle.hd_image.specs.Records.{links_of}
-use Rattle.hd_index_edits.proofs.CallLemmas.{on-ok-map}
+use Rattle.hd_index.proofs.CallLemmas.{on-ok-map}
 use Rattle.hd_get.specs.Searches.{parent_path, GoesOn}
 use Rattle.hd_get.proofs.Spans.{parent_span}
 use Rattle.hd_get.proofs.Climbs.{up_is, some_path, empty_is, full_path, parent_at, parent_there}

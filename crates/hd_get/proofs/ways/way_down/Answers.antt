@@ -7,8 +7,8 @@ use Rattle.hd_dbd.specs.Types.{SegmentType}
 use Rattle.hd_dbd.specs.Hierarchy.{parent_of, is_under, is_under_within}
 use Rattle.hd_dbd.proofs.LevelLaw.{Leveled, leveled}
 use Rattle.hd_dbd.proofs.Names.{option_eq-Decides}
-use Rattle.hd_seek.specs.Ways.{way_down}
-use Rattle.hd_seek.proofs.Ways.{parent_under, way_through, down_some, down_of}
+use Rattle.hd_calls.specs.SearchWays.{way_down}
+use Rattle.hd_calls.proofs.SearchWays.{parent_under, way_through, down_some, down_of}
 use Rattle.hd_get.proofs.ways.way_down.Goals as goal
 
 -- a type that the other does not depend on has no way down to it

@@ -1,6 +1,6 @@
 use Rattle.std.proofs.Common.{◌≡◌, true}
 use Rattle.hd_dbd.specs.Hierarchy.{is_under, is_under_within}
-use Rattle.hd_seek.specs.Admits.{is_on_way}
+use Rattle.hd_calls.specs.Admits.{is_on_way}
 use Rattle.hd_get.proofs.ways.way_down.Given as goal
 
 abbrev pub decreases-loop-levels : goal.decreases-loop-levels

@@ -3,9 +3,9 @@ use Rattle.std.specs.Prelude.{slice_get, bytes_eq}
 use Rattle.std.proofs.lemmas.Bool.{not-true, not-false}
 use Rattle.hd_bytes.specs.Numbers.{number_at}
 use Rattle.hd_volume.specs.Entries.{Entry, entries_in}
-use Rattle.hd_entries.specs.Fields.{below_count}
-use Rattle.hd_entries.proofs.BlockLemmas.{entry_of, length-entries, entry-get}
-use Rattle.hd_index_edits.specs.Blocks.{with_address_at}
+use Rattle.hd_index_blocks.specs.Fields.{below_count}
+use Rattle.hd_index_blocks.proofs.BlockLemmas.{entry_of, length-entries, entry-get}
+use Rattle.hd_index.specs.EditedBlocks.{with_address_at}
 use Rattle.hd_index.proofs.Places.{below-all, address-past, address-none}
 use Rattle.hd_index.proofs.Addressing.{address-set}
 use Rattle.hd_index.proofs.address.place_in.Goals.{then-index-count-via-then-index-count, then-index-count-via-else-index-count+then-ne}

@@ -2,8 +2,8 @@ use Rattle.std.proofs.Common.{ℕ, Option, IsTrue, IfSome, sym, ◌∙◌, subst
 use Rattle.hd_volume.specs.Volumes.{block_at}
 use Rattle.hd_volume.specs.Entries.{entries_in}
 use Rattle.hd_volume.proofs.JoinLemmas.{read-one}
-use Rattle.hd_index_edits.specs.Edits.{IsAddressChanged}
-use Rattle.hd_index_edits.proofs.CallLemmas.{on-ok-map}
+use Rattle.hd_index.specs.Edits.{IsAddressChanged}
+use Rattle.hd_index.proofs.CallLemmas.{on-ok-map}
 use Rattle.hd_index.specs.declared.address.Place.{Place}
 use Rattle.hd_index.specs.Blocks.{IsInOrder}
 use Rattle.hd_index.specs.Searches.{IsPlaceOf}

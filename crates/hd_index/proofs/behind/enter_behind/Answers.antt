@@ -3,10 +3,10 @@ use Rattle.hd_dbd.specs.declared.answer.Refused.{Refused}
 use Rattle.hd_volume.specs.Headers.{header_of}
 use Rattle.hd_volume.specs.Entries.{Entry}
 use Rattle.hd_volume.proofs.JoinLemmas.{calls-join}
-use Rattle.hd_levels.specs.Maps.{with_entry}
-use Rattle.hd_levels.specs.IndexSets.{top_level, index_entries, HasIndexSet}
-use Rattle.hd_index_edits.specs.Edits.{IsRefused}
-use Rattle.hd_index_edits.proofs.CallLemmas.{on-ok-map}
+use Rattle.hd_index_blocks.specs.Maps.{with_entry}
+use Rattle.hd_index_blocks.specs.IndexSets.{top_level, index_entries, HasIndexSet}
+use Rattle.hd_index.specs.Edits.{IsRefused}
+use Rattle.hd_index.proofs.CallLemmas.{on-ok-map}
 use Rattle.hd_index.specs.Changes.{IsChanged}
 use Rattle.hd_index.specs.Comings.{MayCome}
 use Rattle.hd_index.proofs.Comings.{coming-some, come-top}

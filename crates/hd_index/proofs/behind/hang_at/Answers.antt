@@ -2,10 +2,10 @@ use Rattle.std.proofs.Common.{◌≡◌, inl, inr, ℕ, List, IsTrue, length, ap
 use Rattle.hd_volume.specs.Indexes.{entry_room}
 use Rattle.hd_volume.specs.Entries.{Entry}
 use Rattle.hd_volume.proofs.JoinLemmas.{calls-join, one-formatted, read-one}
-use Rattle.hd_levels.specs.Maps.{with_entry}
-use Rattle.hd_levels.specs.Levels.{AreBelow}
-use Rattle.hd_levels.specs.IndexSets.{index_entries}
-use Rattle.hd_index_edits.proofs.CallLemmas.{on-ok-map}
+use Rattle.hd_index_blocks.specs.Maps.{with_entry}
+use Rattle.hd_index_blocks.specs.Levels.{AreBelow}
+use Rattle.hd_index_blocks.specs.IndexSets.{index_entries}
+use Rattle.hd_index.proofs.CallLemmas.{on-ok-map}
 use Rattle.hd_index.specs.Behind.{IsHungBehind}
 use Rattle.hd_index.specs.Changes.{IsChanged}
 use Rattle.hd_index.proofs.Searching.{right-order, set-same}

@@ -2,9 +2,9 @@ use Rattle.std.proofs.Common.{◌+◌, ℕ, IsTrue, List, length, subst, sym, ar
 use Rattle.hd_bytes.specs.Numbers.{number_at}
 use Rattle.hd_volume.specs.Volumes.{block_at}
 use Rattle.hd_volume.specs.Entries.{entries_in}
-use Rattle.hd_index_edits.specs.Blocks.{with_entry_at, with_key_at, IsIndexBlock}
-use Rattle.hd_index_edits.specs.Edits.{HasNewEntries}
-use Rattle.hd_index_edits.proofs.CallLemmas.{on-ok-map}
+use Rattle.hd_index.specs.EditedBlocks.{with_entry_at, with_key_at, IsIndexBlock}
+use Rattle.hd_index.specs.Edits.{HasNewEntries}
+use Rattle.hd_index.proofs.CallLemmas.{on-ok-map}
 use Rattle.hd_index.proofs.Hanging.{lower-block, lower-own, upper-block, upper-count, key-count, hung-behind}
 use Rattle.hd_index.proofs.behind.hang_behind.Goals as goal
 

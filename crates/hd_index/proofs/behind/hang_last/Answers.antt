@@ -3,14 +3,14 @@ use Rattle.hd_volume.specs.Headers.{header_of}
 use Rattle.hd_volume.specs.Indexes.{entry_room}
 use Rattle.hd_volume.specs.Entries.{Entry}
 use Rattle.hd_volume.proofs.JoinLemmas.{read-one}
-use Rattle.hd_levels.specs.Maps.{with_entry}
-use Rattle.hd_levels.specs.Ways.{leaf_of}
-use Rattle.hd_levels.specs.IndexSets.{index_blocks, top_level, index_entries}
-use Rattle.hd_levels.specs.Needs.{is_full, full_blocks}
-use Rattle.hd_levels.specs.VolumeLaws.{IsRightBlock}
-use Rattle.hd_levels.proofs.Volumes.{tops-right}
-use Rattle.hd_levels.proofs.Fullness.{room-found}
-use Rattle.hd_index_edits.proofs.CallLemmas.{on-ok-map}
+use Rattle.hd_index_blocks.specs.Maps.{with_entry}
+use Rattle.hd_index_blocks.specs.Ways.{leaf_of}
+use Rattle.hd_index_blocks.specs.IndexSets.{index_blocks, top_level, index_entries}
+use Rattle.hd_index_blocks.specs.Needs.{is_full, full_blocks}
+use Rattle.hd_index_blocks.specs.VolumeLaws.{IsRightBlock}
+use Rattle.hd_index_blocks.proofs.Volumes.{tops-right}
+use Rattle.hd_index_blocks.proofs.Fullness.{room-found}
+use Rattle.hd_index.proofs.CallLemmas.{on-ok-map}
 use Rattle.hd_index.specs.Changes.{IsChanged}
 use Rattle.hd_index.proofs.Searching.{set-same}
 use Rattle.hd_index.proofs.Comings.{may-same}

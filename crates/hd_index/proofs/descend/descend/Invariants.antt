@@ -1,8 +1,8 @@
 use Rattle.std.proofs.Common.{◌≡◌, ◌+◌, ◌-◌, ℕ, IsTrue, Ok}
 use Rattle.hd_volume.specs.Calls.{IsRead}
-use Rattle.hd_levels.specs.Ways.{leaf_of}
-use Rattle.hd_levels.specs.IndexSets.{index_blocks, HasIndexSet}
-use Rattle.hd_levels.specs.VolumeLaws.{IsRightBlock}
+use Rattle.hd_index_blocks.specs.Ways.{leaf_of}
+use Rattle.hd_index_blocks.specs.IndexSets.{index_blocks, HasIndexSet}
+use Rattle.hd_index_blocks.specs.VolumeLaws.{IsRightBlock}
 use Rattle.hd_index.proofs.descend.descend.Given as goal
 
 abbrev pub invariant-loop : goal.invariant-loop

@@ -1,10 +1,10 @@
 use Rattle.std.proofs.Common.{◌≡◌, ◌+◌, ◌-◌, ◌<◌, ℕ, ap, subst, sym, ◌∙◌, arith, cond, ne_eqb}
 use Rattle.std.specs.Prelude.{◌==◌}
 use Rattle.hd_volume.specs.Headers.{header_of}
-use Rattle.hd_levels.specs.Ways.{leaf_of}
-use Rattle.hd_levels.specs.IndexSets.{index_blocks, top_level}
-use Rattle.hd_levels.specs.VolumeLaws.{IsRightBlock}
-use Rattle.hd_levels.proofs.Volumes.{tops-right}
+use Rattle.hd_index_blocks.specs.Ways.{leaf_of}
+use Rattle.hd_index_blocks.specs.IndexSets.{index_blocks, top_level}
+use Rattle.hd_index_blocks.specs.VolumeLaws.{IsRightBlock}
+use Rattle.hd_index_blocks.proofs.Volumes.{tops-right}
 use Rattle.hd_index.proofs.descend.leaf.Goals as goal
 
 pub returns-clause-value : goal.returns-clause-value

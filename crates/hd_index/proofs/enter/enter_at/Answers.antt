@@ -2,11 +2,11 @@ use Rattle.std.proofs.Common.{◌≡◌, ◌<◌, ℕ, List, IsTrue, OnOk, lengt
 use Rattle.hd_volume.specs.Volumes.{VolumeState, IsFormatted, block_at}
 use Rattle.hd_volume.specs.Entries.{Entry, entries_in}
 use Rattle.hd_volume.specs.Indexes.{entry_room}
-use Rattle.hd_levels.specs.IndexSets.{next_in}
-use Rattle.hd_levels.specs.Needs.{needed_by}
-use Rattle.hd_index_edits.specs.Blocks.{IsIndexBlock, with_entry_at}
-use Rattle.hd_index_edits.specs.Edits.{HasNewEntries, IsEntryAdded}
-use Rattle.hd_index_edits.proofs.CallLemmas.{on-ok-map}
+use Rattle.hd_index_blocks.specs.IndexSets.{next_in}
+use Rattle.hd_index_blocks.specs.Needs.{needed_by}
+use Rattle.hd_index.specs.EditedBlocks.{IsIndexBlock, with_entry_at}
+use Rattle.hd_index.specs.Edits.{HasNewEntries, IsEntryAdded}
+use Rattle.hd_index.proofs.CallLemmas.{on-ok-map}
 use Rattle.hd_index.specs.Comings.{MayCome}
 use Rattle.hd_index.proofs.Comings.{known-block, leaf-entered, leaf-room}
 use Rattle.hd_index.proofs.enter.enter_at.Goals as goal

@@ -1,10 +1,10 @@
 use Rattle.std.proofs.Common.{◌≡◌, ◌-◌, ℕ, List, IsTrue, length, refl, sym, ◌∙◌, subst, arith}
 use Rattle.hd_volume.specs.Headers.{header_of}
 use Rattle.hd_volume.specs.Entries.{Entry}
-use Rattle.hd_levels.specs.Maps.{with_entry}
-use Rattle.hd_levels.specs.IndexSets.{top_level, index_entries, HasIndexSet}
-use Rattle.hd_levels.specs.Needs.{needed_by}
-use Rattle.hd_index_edits.proofs.CallLemmas.{on-ok-map}
+use Rattle.hd_index_blocks.specs.Maps.{with_entry}
+use Rattle.hd_index_blocks.specs.IndexSets.{top_level, index_entries, HasIndexSet}
+use Rattle.hd_index_blocks.specs.Needs.{needed_by}
+use Rattle.hd_index.proofs.CallLemmas.{on-ok-map}
 use Rattle.hd_index.specs.Changes.{IsChanged}
 use Rattle.hd_index.specs.Comings.{MayCome}
 use Rattle.hd_index.proofs.Inserting.{changed-join}

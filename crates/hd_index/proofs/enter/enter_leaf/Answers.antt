@@ -3,12 +3,12 @@ use Rattle.hd_bytes.specs.Numbers.{number_at}
 use Rattle.hd_volume.specs.Volumes.{block_at}
 use Rattle.hd_volume.specs.Entries.{Entry, entries_in}
 use Rattle.hd_volume.proofs.JoinLemmas.{read-one, one-kind}
-use Rattle.hd_entries.specs.Fields.{below_count}
-use Rattle.hd_levels.specs.Maps.{with_entry}
-use Rattle.hd_levels.specs.IndexSets.{index_entries}
-use Rattle.hd_levels.specs.Needs.{needed_by}
-use Rattle.hd_index_edits.proofs.CallLemmas.{on-ok-map}
-use Rattle.hd_index_edits.proofs.EditLemmas.{one-block-at}
+use Rattle.hd_index_blocks.specs.Fields.{below_count}
+use Rattle.hd_index_blocks.specs.Maps.{with_entry}
+use Rattle.hd_index_blocks.specs.IndexSets.{index_entries}
+use Rattle.hd_index_blocks.specs.Needs.{needed_by}
+use Rattle.hd_index.proofs.CallLemmas.{on-ok-map}
+use Rattle.hd_index.proofs.EditLemmas.{one-block-at}
 use Rattle.hd_index.specs.Changes.{IsChanged}
 use Rattle.hd_index.specs.Comings.{MayCome}
 use Rattle.hd_index.proofs.Searching.{set-same}

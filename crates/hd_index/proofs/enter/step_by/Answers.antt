@@ -3,8 +3,8 @@ use Rattle.hd_bytes.specs.Numbers.{number_at}
 use Rattle.hd_volume.specs.Volumes.{block_at}
 use Rattle.hd_volume.specs.Entries.{entries_in}
 use Rattle.hd_volume.proofs.JoinLemmas.{read-one, one-formatted, one-kind}
-use Rattle.hd_entries.proofs.BlockLemmas.{length-entries}
-use Rattle.hd_index_edits.proofs.EditLemmas.{one-block-at}
+use Rattle.hd_index_blocks.proofs.BlockLemmas.{length-entries}
+use Rattle.hd_index.proofs.EditLemmas.{one-block-at}
 use Rattle.hd_index.proofs.Searching.{set-same}
 use Rattle.hd_index.proofs.Comings.{known-order, known-block, step-come}
 use Rattle.hd_index.proofs.enter.step_by.Goals as goal

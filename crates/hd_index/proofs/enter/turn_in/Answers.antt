@@ -4,8 +4,8 @@ use Rattle.std.specs.Ordering.{is_lt}
 use Rattle.hd_bytes.specs.Numbers.{number_at}
 use Rattle.hd_volume.specs.Entries.{entries_in}
 use Rattle.hd_volume.specs.Indexes.{key_less}
-use Rattle.hd_entries.specs.Fields.{below_count}
-use Rattle.hd_entries.proofs.BlockLemmas.{entry_of, length-entries, entry-get}
+use Rattle.hd_index_blocks.specs.Fields.{below_count}
+use Rattle.hd_index_blocks.proofs.BlockLemmas.{entry_of, length-entries, entry-get}
 use Rattle.hd_index.proofs.Places.{child-here}
 use Rattle.hd_index.proofs.enter.turn_in.Goals as goal
 

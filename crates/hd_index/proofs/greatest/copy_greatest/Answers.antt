@@ -1,6 +1,6 @@
 use Rattle.std.proofs.Common.{ℕ, take, ap, sym, ◌∙◌}
 use Rattle.hd_volume.specs.Entries.{entries_in}
-use Rattle.hd_levels.specs.Maps.{last_key}
+use Rattle.hd_index_blocks.specs.Maps.{last_key}
 use Rattle.hd_index.proofs.Fronts.{greatest-taken}
 use Rattle.hd_index.proofs.greatest.copy_greatest.Goals as goal
 

@@ -2,8 +2,8 @@ use Rattle.std.proofs.Common.{◌≡◌, ◌+◌, ◌*◌, ◌-◌, ℕ, suc, ta
 use Rattle.std.specs.Prelude.{slice_get}
 use Rattle.hd_bytes.specs.Numbers.{number_at}
 use Rattle.hd_volume.specs.Entries.{Entry, entries_in}
-use Rattle.hd_levels.specs.Maps.{last_key}
-use Rattle.hd_entries.proofs.BlockLemmas.{entry_of, entry-get}
+use Rattle.hd_index_blocks.specs.Maps.{last_key}
+use Rattle.hd_index_blocks.proofs.BlockLemmas.{entry_of, entry-get}
 use Rattle.hd_index.proofs.Fronts.{key-taken}
 use Rattle.hd_index.proofs.greatest.copy_key_before.Goals as goal
 

@@ -1,6 +1,6 @@
 use Rattle.std.proofs.Common.{◌≡◌, ℕ, List, IsTrue, ap, sym, subst, ◌∙◌}
 use Rattle.hd_volume.specs.Volumes.{VolumeState}
-use Rattle.hd_levels.specs.Maps.{greatest_below}
+use Rattle.hd_index_blocks.specs.Maps.{greatest_below}
 use Rattle.hd_volume.proofs.JoinLemmas.{AreOne, read-one}
 use Rattle.hd_index.specs.Greatest.{lower_key, IsKnownLeaf}
 use Rattle.hd_index.proofs.Searching.{set-same, one-turned}

@@ -4,7 +4,7 @@ use Rattle.std.specs.Option.{option_map_or, is_some}
 use Rattle.std.proofs.lemmas.Bool.{eq-eqb}
 use Rattle.hd_volume.specs.Volumes.{block_at}
 use Rattle.hd_volume.specs.Entries.{entries_in}
-use Rattle.hd_levels.specs.Maps.{greatest_below, last_key}
+use Rattle.hd_index_blocks.specs.Maps.{greatest_below, last_key}
 use Rattle.hd_index.proofs.Searching.{order-same}
 use Rattle.hd_index.proofs.Standing.{block-order, left-order, stand-greatest}
 use Rattle.hd_index.proofs.Leaves.{known-leaf}

@@ -1,7 +1,7 @@
 use Rattle.std.proofs.Common.{◌≡◌, ◌-◌, ◌<◌, ℕ, List, IsTrue, refl, ap, subst, ◌∙◌, arith}
 use Rattle.hd_volume.specs.Headers.{header_of}
-use Rattle.hd_levels.specs.Maps.{greatest_below}
-use Rattle.hd_levels.specs.IndexSets.{top_level}
+use Rattle.hd_index_blocks.specs.Maps.{greatest_below}
+use Rattle.hd_index_blocks.specs.IndexSets.{top_level}
 use Rattle.hd_volume.proofs.JoinLemmas.{read-one}
 use Rattle.hd_index.specs.Greatest.{lower_key, IsKnownLeaf}
 use Rattle.hd_index.proofs.Searching.{set-same, one-turned}

@@ -4,8 +4,8 @@ use Rattle.std.proofs.lemmas.Result.{err_from_is_err_and}
 use Rattle.hd_dbd.specs.declared.answer.Refused.{Refused}
 use Rattle.hd_dbd.specs.declared.answer.Refused.TheVariants.{Device}
 use Rattle.hd_volume.specs.Entries.{Entry}
-use Rattle.hd_levels.specs.Maps.{with_entry}
-use Rattle.hd_levels.specs.IndexSets.{index_entries}
+use Rattle.hd_index_blocks.specs.Maps.{with_entry}
+use Rattle.hd_index_blocks.specs.IndexSets.{index_entries}
 use Rattle.hd_index.specs.Changes.{IsChanged}
 use Rattle.hd_index.proofs.Inserting.{on-ok, changed-join, ready-device}
 use Rattle.hd_index.proofs.insertion.divide_and_enter.Goals as goal

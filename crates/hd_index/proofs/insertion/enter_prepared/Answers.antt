@@ -1,7 +1,7 @@
 use Rattle.std.proofs.Common.{◌-◌, ℕ, List, IsTrue, subst, arith}
 use Rattle.hd_volume.specs.Entries.{Entry}
-use Rattle.hd_levels.specs.Maps.{with_entry}
-use Rattle.hd_levels.specs.IndexSets.{index_entries}
+use Rattle.hd_index_blocks.specs.Maps.{with_entry}
+use Rattle.hd_index_blocks.specs.IndexSets.{index_entries}
 use Rattle.hd_index.specs.Changes.{IsChanged}
 use Rattle.hd_index.proofs.Inserting.{on-ok, changed-join}
 use Rattle.hd_index.proofs.insertion.enter_prepared.Goals as goal

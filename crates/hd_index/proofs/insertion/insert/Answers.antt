@@ -1,7 +1,7 @@
 use Rattle.std.proofs.Common.{◌≡◌, ℕ, ap, subst, arith}
 use Rattle.hd_volume.specs.Indexes.{root_key_length}
-use Rattle.hd_levels.specs.Needs.{set_blocks_needed}
-use Rattle.hd_levels.proofs.Needs.{few-needed}
+use Rattle.hd_index_blocks.specs.Needs.{set_blocks_needed}
+use Rattle.hd_index_blocks.proofs.Needs.{few-needed}
 use Rattle.hd_index.specs.Rooms.{IsRefusedFor}
 use Rattle.hd_index.proofs.Inserting.{if-err, insert-full, insert-memory}
 use Rattle.hd_index.proofs.insertion.insert.Goals as goal

@@ -1,8 +1,8 @@
 use Rattle.std.proofs.Common.{ℕ, List, IsTrue, subst}
 use Rattle.hd_volume.specs.Entries.{Entry}
 use Rattle.hd_volume.proofs.JoinLemmas.{read-one}
-use Rattle.hd_levels.specs.Maps.{with_entry}
-use Rattle.hd_levels.specs.IndexSets.{index_entries}
+use Rattle.hd_index_blocks.specs.Maps.{with_entry}
+use Rattle.hd_index_blocks.specs.IndexSets.{index_entries}
 use Rattle.hd_index.specs.Changes.{IsChanged}
 use Rattle.hd_index.proofs.Searching.{set-same}
 use Rattle.hd_index.proofs.Inserting.{one-after, on-ok}

@@ -6,8 +6,8 @@ use Rattle.hd_dbd.specs.declared.answer.Refused.TheVariants.{Device}
 use Rattle.hd_volume.specs.Calls.{IsCall}
 use Rattle.hd_volume.proofs.JoinLemmas.{calls-join}
 use Rattle.hd_volume.proofs.CallSteps.{call-ok, call-none, sound-back}
-use Rattle.hd_levels.specs.IndexSets.{index_entries}
-use Rattle.hd_levels.specs.Needs.{needed_by}
+use Rattle.hd_index_blocks.specs.IndexSets.{index_entries}
+use Rattle.hd_index_blocks.specs.Needs.{needed_by}
 use Rattle.hd_index.specs.Changes.{IsChanged}
 use Rattle.hd_index.specs.Rooms.{IsReady}
 use Rattle.hd_index.proofs.Inserting.{unchanged, changed-on, ready-step, ready-device}

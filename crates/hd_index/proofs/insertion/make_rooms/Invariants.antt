@@ -1,8 +1,8 @@
 use Rattle.std.proofs.Common.{◌≡◌, ◌+◌, ◌≤◌, ◌<◌, ℕ, IsTrue, Ok}
 use Rattle.hd_volume.specs.Headers.{header_of}
 use Rattle.hd_volume.specs.Calls.{IsCall}
-use Rattle.hd_levels.specs.IndexSets.{index_entries}
-use Rattle.hd_levels.specs.Needs.{needed_by}
+use Rattle.hd_index_blocks.specs.IndexSets.{index_entries}
+use Rattle.hd_index_blocks.specs.Needs.{needed_by}
 use Rattle.hd_index.specs.Changes.{IsChanged}
 use Rattle.hd_index.specs.Rooms.{IsReady}
 use Rattle.hd_index.proofs.insertion.make_rooms.Given as goal

@@ -1,8 +1,8 @@
 use Rattle.std.proofs.Common.{◌≡◌, ℕ, List, IsTrue, refl, ap, subst, arith}
 use Rattle.hd_volume.specs.Volumes.{VolumeState}
 use Rattle.hd_volume.proofs.FrameLemmas.{AreSame}
-use Rattle.hd_levels.specs.Maps.{without_key}
-use Rattle.hd_levels.specs.IndexSets.{index_entries}
+use Rattle.hd_index_blocks.specs.Maps.{without_key}
+use Rattle.hd_index_blocks.specs.IndexSets.{index_entries}
 use Rattle.hd_index.specs.Changes.{IsChanged}
 use Rattle.hd_index.proofs.Trims.{all-cleared}
 use Rattle.hd_index.proofs.leave.clear.Goals as goal

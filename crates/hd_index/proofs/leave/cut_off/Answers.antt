@@ -2,9 +2,9 @@ use Rattle.std.proofs.Common.{◌≡◌, ◌-◌, ℕ, suc, List, length, IsTrue
 use Rattle.hd_volume.specs.Volumes.{block_at}
 use Rattle.hd_volume.specs.Entries.{entries_in}
 use Rattle.hd_volume.proofs.JoinLemmas.{read-one}
-use Rattle.hd_levels.specs.Maps.{without_key}
-use Rattle.hd_levels.specs.IndexSets.{index_blocks, index_entries}
-use Rattle.hd_index_edits.proofs.EditLemmas.{one-block-at}
+use Rattle.hd_index_blocks.specs.Maps.{without_key}
+use Rattle.hd_index_blocks.specs.IndexSets.{index_blocks, index_entries}
+use Rattle.hd_index.proofs.EditLemmas.{one-block-at}
 use Rattle.hd_index.specs.Changes.{IsChanged}
 use Rattle.hd_index.specs.Stands.{front_of}
 use Rattle.hd_index.specs.Removals.{IsThinBelow, IsOnWayIn}

@@ -1,9 +1,9 @@
 use Rattle.std.proofs.Common.{◌≡◌, ◌-◌, ◌<◌, ℕ, IsTrue, refl, sym, ap, ◌∙◌, arith}
 use Rattle.hd_volume.specs.Headers.{header_of}
 use Rattle.hd_volume.proofs.JoinLemmas.{read-one}
-use Rattle.hd_levels.specs.Maps.{address_of, without_key}
-use Rattle.hd_levels.specs.IndexSets.{top_level, index_entries}
-use Rattle.hd_index_edits.proofs.CallLemmas.{on-ok-map}
+use Rattle.hd_index_blocks.specs.Maps.{address_of, without_key}
+use Rattle.hd_index_blocks.specs.IndexSets.{top_level, index_entries}
+use Rattle.hd_index.proofs.CallLemmas.{on-ok-map}
 use Rattle.hd_index.specs.declared.stand.Stand.{Stand}
 use Rattle.hd_index.specs.Changes.{IsChanged}
 use Rattle.hd_index.proofs.Searching.{set-same, order-same}

@@ -3,8 +3,8 @@ use Rattle.std.specs.Prelude.{min}
 use Rattle.std.proofs.lemmas.List.{length-take-le}
 use Rattle.hd_bytes.specs.Numbers.{number_at}
 use Rattle.hd_volume.specs.Entries.{Entry, entries_in}
-use Rattle.hd_entries.specs.Fields.{below_count}
-use Rattle.hd_entries.proofs.BlockLemmas.{length-entries}
+use Rattle.hd_index_blocks.specs.Fields.{below_count}
+use Rattle.hd_index_blocks.proofs.BlockLemmas.{length-entries}
 use Rattle.hd_index.proofs.Fronts.{front-take}
 use Rattle.hd_index.proofs.leave.spot_in.Goals as goal
 

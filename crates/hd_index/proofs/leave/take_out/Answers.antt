@@ -3,7 +3,7 @@ use Rattle.hd_bytes.specs.Numbers.{number_at}
 use Rattle.hd_volume.specs.Volumes.{block_at}
 use Rattle.hd_volume.specs.Entries.{entries_in}
 use Rattle.hd_volume.proofs.JoinLemmas.{read-one}
-use Rattle.hd_entries.proofs.BlockLemmas.{length-entries}
+use Rattle.hd_index_blocks.proofs.BlockLemmas.{length-entries}
 use Rattle.hd_index.specs.Stands.{front_of}
 use Rattle.hd_index.proofs.Fronts.{front-fewer}
 use Rattle.hd_index.proofs.Drops.{removed-before}

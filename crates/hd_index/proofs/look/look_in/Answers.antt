@@ -2,8 +2,8 @@ use Rattle.std.proofs.Common.{◌≡◌, ◌+◌, ◌*◌, ◌≤◌, ℕ, List,
 use Rattle.std.specs.Prelude.{slice_get, bytes_eq}
 use Rattle.hd_bytes.specs.Numbers.{number_at}
 use Rattle.hd_volume.specs.Entries.{Entry, entries_in}
-use Rattle.hd_entries.specs.Fields.{below_count}
-use Rattle.hd_entries.proofs.BlockLemmas.{entry_of, length-entries, entry-get}
+use Rattle.hd_index_blocks.specs.Fields.{below_count}
+use Rattle.hd_index_blocks.proofs.BlockLemmas.{entry_of, length-entries, entry-get}
 use Rattle.hd_index.proofs.Places.{below-all, address-past, from-past, from-here, address-here, address-none}
 use Rattle.hd_index.proofs.look.look_in.Goals as goal
 

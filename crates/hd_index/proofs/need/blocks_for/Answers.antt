@@ -1,5 +1,5 @@
 use Rattle.std.proofs.Common.{ℕ, List, IsTrue, ap, sym, subst, ◌∙◌}
-use Rattle.hd_levels.specs.Needs.{needed_by}
+use Rattle.hd_index_blocks.specs.Needs.{needed_by}
 use Rattle.hd_volume.proofs.JoinLemmas.{read-one}
 use Rattle.hd_index.proofs.Searching.{set-same, one-turned}
 use Rattle.hd_index.proofs.Filling.{needed-same}

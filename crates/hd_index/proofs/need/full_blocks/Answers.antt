@@ -2,11 +2,11 @@ use Rattle.std.proofs.Common.{◌≡◌, ◌+◌, ◌-◌, ℕ, List, cond, suc,
 use Rattle.hd_volume.specs.Volumes.{block_at}
 use Rattle.hd_volume.specs.Entries.{entries_in}
 use Rattle.hd_volume.specs.Indexes.{entry_room}
-use Rattle.hd_levels.specs.Ways.{child_of}
-use Rattle.hd_levels.specs.IndexSets.{index_blocks, HasIndexSet}
-use Rattle.hd_levels.specs.Needs.{is_full, full_blocks}
-use Rattle.hd_levels.specs.VolumeLaws.{IsRightBlock}
-use Rattle.hd_levels.proofs.Volumes.{children-right}
+use Rattle.hd_index_blocks.specs.Ways.{child_of}
+use Rattle.hd_index_blocks.specs.IndexSets.{index_blocks, HasIndexSet}
+use Rattle.hd_index_blocks.specs.Needs.{is_full, full_blocks}
+use Rattle.hd_index_blocks.specs.VolumeLaws.{IsRightBlock}
+use Rattle.hd_index_blocks.proofs.Volumes.{children-right}
 use Rattle.hd_volume.proofs.CallSteps.{reads-join, read-ok, read-none}
 use Rattle.hd_index.proofs.Searching.{right-order, order-same}
 use Rattle.hd_index.proofs.Filling.{with_run, full-step, full-end, full-top}

@@ -1,9 +1,9 @@
 use Rattle.std.proofs.Common.{◌≡◌, ◌-◌, ◌≤◌, ℕ, IsTrue, Ok}
 use Rattle.hd_volume.specs.Calls.{IsRead}
 use Rattle.hd_volume.specs.Indexes.{entry_room}
-use Rattle.hd_levels.specs.IndexSets.{index_blocks, HasIndexSet}
-use Rattle.hd_levels.specs.Needs.{full_blocks}
-use Rattle.hd_levels.specs.VolumeLaws.{IsRightBlock}
+use Rattle.hd_index_blocks.specs.IndexSets.{index_blocks, HasIndexSet}
+use Rattle.hd_index_blocks.specs.Needs.{full_blocks}
+use Rattle.hd_index_blocks.specs.VolumeLaws.{IsRightBlock}
 use Rattle.hd_index.proofs.Filling.{with_run}
 use Rattle.hd_index.proofs.need.full_blocks.Given as goal
 

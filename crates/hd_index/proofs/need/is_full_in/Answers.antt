@@ -3,7 +3,7 @@ use Rattle.std.specs.Prelude.{nat_le}
 use Rattle.hd_bytes.specs.Numbers.{number_at}
 use Rattle.hd_volume.specs.Entries.{entries_in}
 use Rattle.hd_volume.specs.Indexes.{entry_room}
-use Rattle.hd_entries.proofs.BlockLemmas.{length-entries}
+use Rattle.hd_index_blocks.proofs.BlockLemmas.{length-entries}
 use Rattle.hd_index.proofs.need.is_full_in.Goals as goal
 
 pub returns : goal.returns

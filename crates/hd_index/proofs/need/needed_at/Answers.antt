@@ -1,8 +1,8 @@
 use Rattle.std.proofs.Common.{◌≡◌, ◌≢◌, ℕ, true, false, IsTrue, sym, ◌∙◌}
 use Rattle.std.proofs.lemmas.Bool.{not-true}
 use Rattle.hd_volume.specs.Indexes.{entry_room}
-use Rattle.hd_levels.specs.IndexSets.{index_blocks}
-use Rattle.hd_levels.specs.Needs.{is_full}
+use Rattle.hd_index_blocks.specs.IndexSets.{index_blocks}
+use Rattle.hd_index_blocks.specs.Needs.{is_full}
 use Rattle.hd_volume.proofs.JoinLemmas.{read-one}
 use Rattle.hd_index.proofs.Searching.{set-same}
 use Rattle.hd_index.proofs.Filling.{needed-same}

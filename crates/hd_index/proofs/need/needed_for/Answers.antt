@@ -5,10 +5,10 @@ use Rattle.hd_volume.specs.Headers.{header_of}
 use Rattle.hd_volume.specs.Volumes.{VolumeState}
 use Rattle.hd_volume.specs.Rooms.{one_if}
 use Rattle.hd_volume.specs.Indexes.{entry_room}
-use Rattle.hd_levels.specs.IndexSets.{index_blocks, top_level, HasIndexSet}
-use Rattle.hd_levels.specs.Needs.{full_blocks}
-use Rattle.hd_levels.specs.VolumeLaws.{IsRightBlock}
-use Rattle.hd_levels.proofs.Volumes.{tops-right}
+use Rattle.hd_index_blocks.specs.IndexSets.{index_blocks, top_level, HasIndexSet}
+use Rattle.hd_index_blocks.specs.Needs.{full_blocks}
+use Rattle.hd_index_blocks.specs.VolumeLaws.{IsRightBlock}
+use Rattle.hd_index_blocks.proofs.Volumes.{tops-right}
 use Rattle.hd_index.proofs.need.needed_for.Goals as goal
 
 -- the blocks that are full

@@ -1,17 +1,17 @@
 use Rattle.std.proofs.Common.{◌≡◌, ◌∙◌, ℕ, IsTrue, length, ap, sym, subst, arith}
 use Rattle.hd_bytes.specs.Numbers.{number_at}
 use Rattle.hd_bytes.proofs.BlockLemmas.{length-block}
-use Rattle.hd_entries.proofs.RoomLemmas.{room-within}
+use Rattle.hd_index_blocks.proofs.RoomLemmas.{room-within}
 use Rattle.hd_index.specs.Blocks.{IsInOrder}
 use Rattle.hd_index.proofs.Parts.{last-length}
 use Rattle.hd_volume.specs.Headers.{header_of}
 use Rattle.hd_volume.specs.Volumes.{block_at}
 use Rattle.hd_volume.specs.Entries.{entries_in}
 use Rattle.hd_volume.proofs.JoinLemmas.{read-one}
-use Rattle.hd_levels.specs.Maps.{last_key}
-use Rattle.hd_levels.specs.IndexSets.{top_level}
-use Rattle.hd_levels.proofs.Volumes.{tops-right}
-use Rattle.hd_index_edits.proofs.CallLemmas.{on-ok-map}
+use Rattle.hd_index_blocks.specs.Maps.{last_key}
+use Rattle.hd_index_blocks.specs.IndexSets.{top_level}
+use Rattle.hd_index_blocks.proofs.Volumes.{tops-right}
+use Rattle.hd_index.proofs.CallLemmas.{on-ok-map}
 use Rattle.hd_index.specs.Divisions.{IsTopBegun}
 use Rattle.hd_index.proofs.Searching.{right-order}
 use Rattle.hd_index.proofs.ReadSteps.{begun-before, refused-before}

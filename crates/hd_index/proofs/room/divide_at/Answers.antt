@@ -3,8 +3,8 @@ use Rattle.hd_bytes.specs.Numbers.{number_at}
 use Rattle.hd_volume.specs.Indexes.{entry_room}
 use Rattle.hd_volume.proofs.CallSteps.{reads-join}
 use Rattle.hd_volume.proofs.JoinLemmas.{one-formatted, read-one}
-use Rattle.hd_index_edits.proofs.CallLemmas.{on-ok-map}
-use Rattle.hd_index_edits.proofs.EditLemmas.{one-block-at}
+use Rattle.hd_index.proofs.CallLemmas.{on-ok-map}
+use Rattle.hd_index.proofs.EditLemmas.{one-block-at}
 use Rattle.hd_index.specs.Divisions.{IsDividedUnder}
 use Rattle.hd_index.proofs.Searching.{right-same}
 use Rattle.hd_index.proofs.ReadSteps.{divided-before, refused-before}

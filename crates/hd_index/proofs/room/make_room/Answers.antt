@@ -1,6 +1,6 @@
 use Rattle.std.proofs.Common.{IsTrue}
 use Rattle.hd_volume.proofs.JoinLemmas.{read-one}
-use Rattle.hd_index_edits.proofs.CallLemmas.{on-ok-map}
+use Rattle.hd_index.proofs.CallLemmas.{on-ok-map}
 use Rattle.hd_index.specs.Divisions.{IsRoomMade}
 use Rattle.hd_index.proofs.Searching.{set-same}
 use Rattle.hd_index.proofs.ReadSteps.{room-before}

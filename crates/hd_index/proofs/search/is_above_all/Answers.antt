@@ -1,8 +1,8 @@
 use Rattle.std.proofs.Common.{◌≡◌, false, Option, None, Some, ℕ, IsTrue, sym, ap, ◌∙◌, not}
 use Rattle.std.specs.Option.{is_some}
 use Rattle.hd_volume.proofs.JoinLemmas.{read-one}
-use Rattle.hd_levels.specs.Maps.{address_from}
-use Rattle.hd_levels.specs.IndexSets.{index_entries}
+use Rattle.hd_index_blocks.specs.Maps.{address_from}
+use Rattle.hd_index_blocks.specs.IndexSets.{index_entries}
 use Rattle.hd_index.proofs.Leading.{none-from}
 use Rattle.hd_index.proofs.Searching.{set-same, sight-same}
 use Rattle.hd_index.proofs.search.is_above_all.Goals as goal

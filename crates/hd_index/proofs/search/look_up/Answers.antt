@@ -2,7 +2,7 @@ use Rattle.std.proofs.Common.{◌≡◌, ◌≢◌, ℕ, List, IsTrue, refl, ap,
 use Rattle.hd_bytes.specs.Numbers.{number_at}
 use Rattle.hd_volume.specs.Volumes.{block_at}
 use Rattle.hd_volume.specs.Entries.{entries_in}
-use Rattle.hd_levels.specs.Maps.{address_of, address_from}
+use Rattle.hd_index_blocks.specs.Maps.{address_of, address_from}
 use Rattle.hd_index.proofs.Searching.{none-seen, leaf-seen, order-same}
 use Rattle.hd_index.proofs.search.look_up.Goals as goal
 

@@ -1,6 +1,6 @@
 use Rattle.std.proofs.Common.{ℕ, IsTrue, sym, ap, ◌∙◌, subst}
-use Rattle.hd_levels.specs.Maps.{address_from}
-use Rattle.hd_levels.specs.IndexSets.{index_entries, HasIndexSet}
+use Rattle.hd_index_blocks.specs.Maps.{address_from}
+use Rattle.hd_index_blocks.specs.IndexSets.{index_entries, HasIndexSet}
 use Rattle.hd_volume.proofs.JoinLemmas.{read-one}
 use Rattle.hd_index.proofs.Searching.{set-same, sight-same}
 use Rattle.hd_index.proofs.search.next_from.Goals as goal

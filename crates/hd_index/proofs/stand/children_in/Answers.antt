@@ -2,12 +2,12 @@ use Rattle.std.proofs.Common.{◌≡◌, ◌+◌, ◌*◌, ◌-◌, ◌<◌, ℕ
 use Rattle.std.specs.Prelude.{slice_get, min}
 use Rattle.hd_bytes.specs.Numbers.{number_at}
 use Rattle.hd_volume.specs.Entries.{Entry, entries_at, entries_in}
-use Rattle.hd_entries.specs.Fields.{below_count}
-use Rattle.hd_levels.specs.Levels.{named}
-use Rattle.hd_levels.specs.Ways.{child_of}
-use Rattle.hd_levels.specs.Neighbours.{last_of}
+use Rattle.hd_index_blocks.specs.Fields.{below_count}
+use Rattle.hd_index_blocks.specs.Levels.{named}
+use Rattle.hd_index_blocks.specs.Ways.{child_of}
+use Rattle.hd_index_blocks.specs.Neighbours.{last_of}
 use Rattle.hd_index.specs.Stands.{front_of}
-use Rattle.hd_entries.proofs.BlockLemmas.{entry_of, length-entries, entry-get}
+use Rattle.hd_index_blocks.proofs.BlockLemmas.{entry_of, length-entries, entry-get}
 use Rattle.hd_index.proofs.Places.{child-here}
 use Rattle.hd_index.proofs.Fronts.{front-take}
 use Rattle.hd_index.proofs.stand.children_in.Goals as goal

@@ -1,9 +1,9 @@
 use Rattle.std.proofs.Common.{◌≡◌, List, length, ap, ◌∙◌, arith}
 use Rattle.hd_bytes.specs.Numbers.{number_at}
 use Rattle.hd_volume.specs.Entries.{Entry, entries_in}
-use Rattle.hd_levels.specs.Levels.{named}
-use Rattle.hd_levels.specs.Neighbours.{last_of}
-use Rattle.hd_entries.proofs.BlockLemmas.{length-entries}
+use Rattle.hd_index_blocks.specs.Levels.{named}
+use Rattle.hd_index_blocks.specs.Neighbours.{last_of}
+use Rattle.hd_index_blocks.proofs.BlockLemmas.{length-entries}
 use Rattle.hd_index.proofs.Fronts.{take-whole}
 use Rattle.hd_index.proofs.stand.last_name.Goals as goal
 

@@ -2,9 +2,9 @@ use Rattle.std.proofs.Common.{◌≡◌, ◌+◌, ◌*◌, ◌-◌, ℕ, suc, ta
 use Rattle.std.specs.Prelude.{slice_get}
 use Rattle.hd_bytes.specs.Numbers.{number_at}
 use Rattle.hd_volume.specs.Entries.{Entry, entries_in}
-use Rattle.hd_levels.specs.Levels.{named}
-use Rattle.hd_levels.specs.Neighbours.{last_of}
-use Rattle.hd_entries.proofs.BlockLemmas.{entry_of, entry-get}
+use Rattle.hd_index_blocks.specs.Levels.{named}
+use Rattle.hd_index_blocks.specs.Neighbours.{last_of}
+use Rattle.hd_index_blocks.proofs.BlockLemmas.{entry_of, entry-get}
 use Rattle.hd_index.proofs.Fronts.{names-taken}
 use Rattle.hd_index.proofs.stand.name_before.Goals as goal
 

@@ -1,9 +1,9 @@
 use Rattle.std.proofs.Common.{◌≡◌, ◌≢◌, inl, inr, ℕ, List, IsTrue, refl, sym, ap, ◌∙◌}
 use Rattle.hd_volume.specs.Volumes.{block_at}
 use Rattle.hd_volume.specs.Entries.{entries_in}
-use Rattle.hd_levels.specs.Levels.{named}
-use Rattle.hd_levels.specs.Neighbours.{last_of, last_child}
-use Rattle.hd_levels.specs.IndexSets.{index_blocks}
+use Rattle.hd_index_blocks.specs.Levels.{named}
+use Rattle.hd_index_blocks.specs.Neighbours.{last_of, last_child}
+use Rattle.hd_index_blocks.specs.IndexSets.{index_blocks}
 use Rattle.hd_index.specs.Stands.{front_of}
 use Rattle.hd_index.proofs.Searching.{order-same}
 use Rattle.hd_index.proofs.Standing.{block-order, left-order, stand-down, front-none, last-other, no-child, some-child}

@@ -1,6 +1,6 @@
 use Rattle.std.proofs.Common.{◌-◌, ℕ, IsTrue, Ok}
 use Rattle.hd_volume.specs.Calls.{IsRead}
-use Rattle.hd_levels.specs.IndexSets.{HasIndexSet}
+use Rattle.hd_index_blocks.specs.IndexSets.{HasIndexSet}
 use Rattle.hd_index.specs.Stands.{IsStand}
 use Rattle.hd_index.proofs.stand.walk_down.Given as goal
 

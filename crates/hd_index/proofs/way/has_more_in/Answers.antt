@@ -2,7 +2,7 @@ use Rattle.std.proofs.Common.{◌≡◌, ℕ, length, ap, arith}
 use Rattle.std.specs.Prelude.{nat_lt}
 use Rattle.hd_bytes.specs.Numbers.{number_at}
 use Rattle.hd_volume.specs.Entries.{entries_in}
-use Rattle.hd_entries.proofs.BlockLemmas.{length-entries}
+use Rattle.hd_index_blocks.proofs.BlockLemmas.{length-entries}
 use Rattle.hd_index.proofs.way.has_more_in.Goals as goal
 
 pub returns : goal.returns

@@ -4,7 +4,7 @@ use Rattle.hd_volume.specs.Volumes.{block_at}
 use Rattle.hd_volume.specs.Entries.{entries_in}
 use Rattle.hd_volume.proofs.CallSteps.{reads-join, read-ok, read-none}
 use Rattle.hd_volume.proofs.JoinLemmas.{read-one}
-use Rattle.hd_levels.specs.IndexSets.{index_blocks, HasIndexSet}
+use Rattle.hd_index_blocks.specs.IndexSets.{index_blocks, HasIndexSet}
 use Rattle.hd_index.specs.declared.way.Fork.{Fork}
 use Rattle.hd_index.specs.Removals.{IsThin, IsOnWayIn}
 use Rattle.hd_index.proofs.Searching.{set-same, one-turned, order-same}

@@ -1,6 +1,6 @@
 use Rattle.std.proofs.Common.{◌-◌, ℕ, IsTrue, Ok}
 use Rattle.hd_volume.specs.Calls.{IsRead}
-use Rattle.hd_levels.specs.IndexSets.{index_blocks, HasIndexSet}
+use Rattle.hd_index_blocks.specs.IndexSets.{index_blocks, HasIndexSet}
 use Rattle.hd_index.specs.Removals.{IsThin, IsOnWayIn}
 use Rattle.hd_index.proofs.Forks.{IsForkOver}
 use Rattle.hd_index.proofs.way.way_down.Given as goal

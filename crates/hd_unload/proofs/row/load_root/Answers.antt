@@ -5,7 +5,7 @@ use Rattle.hd_dbd.specs.declared.answer.Refused.TheVariants.{Full}
 use Rattle.hd_volume.specs.Rooms.{spare}
 use Rattle.hd_volume.specs.Calls.{IsCall}
 use Rattle.hd_volume.specs.Indexes.{root_key_length}
-use Rattle.hd_levels.specs.Needs.{IsHighest}
+use Rattle.hd_index_blocks.specs.Needs.{IsHighest}
 use Rattle.hd_volume.proofs.CallSteps.{call-ok, call-err}
 use Rattle.hd_volume.proofs.JoinLemmas.{calls-join}
 use Rattle.hd_index.specs.Changes.{entries_for}

@@ -1,5 +1,5 @@
 use Rattle.std.proofs.Common.{ℕ, List, length, ap, ◌∙◌}
-use Rattle.hd_keeping.proofs.RootTypes.{root-key-long}
+use Rattle.hd_changes.proofs.RootTypes.{root-key-long}
 use Rattle.hd_unload.proofs.row.root_key.Goals as goal
 
 pub returns-clause-whole : goal.returns-clause-whole

@@ -1,5 +1,5 @@
 use Rattle.std.proofs.Common.{◌≡◌, refl, sym, ap, ◌∙◌}
-use Rattle.hd_volume.specs.Memory.{Bytes}
+use Rattle.hd_stores.specs.Memory.{Bytes}
 use Rattle.hd_image.specs.Holding.{volume_of}
 use Rattle.hd_image.proofs.OneImage.{held-same}
 use Rattle.hd_unload_tests.proofs.unload_tests.copied.Goals as goal

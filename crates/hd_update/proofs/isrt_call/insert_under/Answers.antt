@@ -13,7 +13,7 @@ use Rattle.hd_volume.proofs.JoinLemmas.{if-err-map, calls-join}
 use Rattle.hd_links.specs.Steps.{rows_of}
 use Rattle.hd_forest.specs.Walks.{tip}
 use Rattle.hd_forest.proofs.Reading.{after-read, sound-before}
-use Rattle.hd_keeping.specs.VolumeImages.{images_of}
+use Rattle.hd_changes.specs.VolumeImages.{images_of}
 use Rattle.hd_position.specs.Kept.{Kept}
 use Rattle.hd_get.specs.declared.outcome.Outcome.TheVariants.{Missing}
 use Rattle.hd_update.specs.Inserting.{IsUnder, StepDown, insert_under}

@@ -8,11 +8,12 @@ use Rattle.hd_calls.specs.Steps.{Effect, bare_answer, position_at, load_step}
 use Rattle.hd_volume.proofs.CallSteps.{if-ok, read-none}
 use Rattle.hd_volume.proofs.JoinLemmas.{if-err-map}
 use Rattle.hd_forest.proofs.Reading.{after-read, sound-before}
-use Rattle.hd_keeping.specs.VolumeImages.{images_of}
+use Rattle.hd_changes.specs.VolumeImages.{images_of}
 use Rattle.hd_position.specs.Kept.{Kept}
 use Rattle.hd_get.specs.declared.outcome.Outcome.{Outcome}
 use Rattle.hd_get.specs.declared.outcome.Outcome.TheVariants.{Missing}
-use Rattle.hd_update.specs.Loading.{load_effect, HasLastPath}
+use Rattle.hd_update.specs.Inserting.{insert_effect}
+use Rattle.hd_update.specs.Loading.{HasLastPath}
 use Rattle.hd_update.specs.NewRows.{parts_in}
 use Rattle.hd_update.specs.Positions.{unheld_at}
 use Rattle.hd_update.specs.States.{IsAnswered}
@@ -29,7 +30,7 @@ returns-in-Some-clause-done g c = if-ok c.answer_fault.result c.answer_fault.ens
     let area : List ℕ = c.args.area.now in
     let old : List Kept = c.args.positions.now in
     let n : ℕ = c.args.number in
-    let effect : Effect = load_effect d pcb n ssas area st in
+    let effect : Effect = insert_effect d pcb n ssas area st in
     let fault = at_fault (parts_in d.types (c.args.code ∷ []) area) c.in-Some.fault (sym c.row_fault.ensures ∙ c.in-Some.is) ∙ ap Err short.0 in
     subst (λ (kept : List Kept). IsAnswered d v st n effect o v kept) (sym short.2)
     (subst (λ (outcome : Outcome). IsAnswered d v st n effect outcome v (unheld_at n old)) (sym short.1)
@@ -61,9 +62,9 @@ returns-in-Some-2-clause-done g c pcb ssas I st sound R =
     = path_kept d v old n c.index-positions-number.result c.copy-path.result c.requires.number.0 c.requires.number.1 c.requires.last (c.copy-path.ensures ∙ c.path.ensures) in
     let fault : load_fault d.types (last_path d.types st.rows) row ≡ Some c.in-Some-2.fault
     = fault_in d v old st c.copy-path.result row c.in_ok-fault.field-0 last c.in_ok-fault.ensures.value sound R ∙ c.in-Some-2.is in
-    subst (λ (kept : List Kept). IsAnswered d v st n (load_effect d pcb n ssas c.args.area.now st) (Missing c.status_of.result) w kept) (sym c.end_hold.ensures)
-    (subst (λ (status : Status). IsAnswered d v st n (load_effect d pcb n ssas c.args.area.now st) (Missing status) w (unheld_at n old)) (sym c.status_of.ensures)
-    (answered_as d v st n (load_step (record { types = d.types; pcb = pcb }) st.rows (position_at st n) row) (load_effect d pcb n ssas c.args.area.now st)
+    subst (λ (kept : List Kept). IsAnswered d v st n (insert_effect d pcb n ssas c.args.area.now st) (Missing c.status_of.result) w kept) (sym c.end_hold.ensures)
+    (subst (λ (status : Status). IsAnswered d v st n (insert_effect d pcb n ssas c.args.area.now st) (Missing status) w (unheld_at n old)) (sym c.status_of.ensures)
+    (answered_as d v st n (load_step (record { types = d.types; pcb = pcb }) st.rows (position_at st n) row) (insert_effect d pcb n ssas c.args.area.now st)
     (Missing (status_of_load c.in-Some-2.fault)) w (unheld_at n old)
     (loads_row d c.args.code c.args.area.now pcb ssas I st n (one_row d.types c.args.code c.args.area.now (faultless (parts_in d.types (c.args.code ∷ []) c.args.area.now) (sym c.row_fault.ensures ∙ c.in_default.is))))
     (fault_answered d pcb v w old st n row c.in-Some-2.fault c.in_ok-fault.ensures.read sound R c.requires.number.0 c.requires.number.1 fault)))
@@ -89,7 +90,7 @@ returns-clause-done g c = if-ok c.load_behind.result c.load_behind.ensures.done 
     let n : ℕ = c.args.number in
     let row : Segment = record { code = c.args.code; bytes = c.args.area.now } in
     let same = after-read d v mid c.in_ok-fault.ensures.read sound in
-    answered_as d v st n (load_step (record { types = d.types; pcb = pcb }) st.rows (position_at st n) row) (load_effect d pcb n ssas c.args.area.now st) o w c.load_behind.new.positions
+    answered_as d v st n (load_step (record { types = d.types; pcb = pcb }) st.rows (position_at st n) row) (insert_effect d pcb n ssas c.args.area.now st) o w c.load_behind.new.positions
     (loads_row d c.args.code c.args.area.now pcb ssas I st n (one_row d.types c.args.code c.args.area.now (faultless (parts_in d.types (c.args.code ∷ []) c.args.area.now) (sym c.row_fault.ensures ∙ c.in_default.is))))
     (answered_before d v mid st n (load_step (record { types = d.types; pcb = pcb }) st.rows (position_at st n) row) o w c.load_behind.new.positions same.image
     (done pcb st same.sound (represented d v mid old st c.in_ok-fault.ensures.read sound R))))

@@ -5,7 +5,7 @@ use Rattle.hd_volume.proofs.CallSteps.{if-ok}
 use Rattle.hd_volume.proofs.JoinLemmas.{if-err-map}
 use Rattle.hd_links.specs.LastRows.{last_on, parent_on_path, twin_on_path}
 use Rattle.hd_forest.proofs.Reading.{after-read, sound-before}
-use Rattle.hd_keeping.specs.VolumeImages.{images_of}
+use Rattle.hd_changes.specs.VolumeImages.{images_of}
 use Rattle.hd_update.specs.Putting.{IsPutIn}
 use Rattle.hd_update.proofs.LastPaths.{last_read}
 use Rattle.hd_update.proofs.LoadedStates.{may_put, parent_is, root_parent_none, parent_there}

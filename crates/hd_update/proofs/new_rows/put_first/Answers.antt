@@ -2,7 +2,7 @@ use Rattle.std.proofs.Common.{◌≡◌, ℕ, List, true, IsTrue, sym, ap, subst
 use Rattle.hd_dbd.specs.Rows.{row_fits}
 use Rattle.hd_dbd.specs.Segment.{Segment}
 use Rattle.hd_volume.proofs.CallSteps.{if-ok}
-use Rattle.hd_keeping.proofs.RootTypes.{root-key-long}
+use Rattle.hd_changes.proofs.RootTypes.{root-key-long}
 use Rattle.hd_update.specs.Putting.{MayPut, IsPutIn}
 use Rattle.hd_update.proofs.FirstRows.{root_room, lasts_root, lasts_below}
 use Rattle.hd_update.proofs.NewRows.{row_refused, room_left, if_ok_sound, if_err_all}

@@ -14,7 +14,7 @@ use Rattle.hd_image.specs.Records.{links_of}
 use Rattle.hd_forest.specs.Walks.{tip, parent_on}
 use Rattle.hd_forest.specs.Twins.{IsBehind}
 use Rattle.hd_forest.proofs.Reading.{after-read, volume-kept, links-kept}
-use Rattle.hd_keeping.proofs.RootRows.{follow-lesser}
+use Rattle.hd_changes.proofs.RootRows.{follow-lesser}
 use Rattle.hd_update.specs.declared.places.Side.TheVariants.{Before, Behind, Taken}
 use Rattle.hd_update.specs.Places.{side_at}
 use Rattle.hd_update.proofs.TwinGaps.{ground}

@@ -9,7 +9,7 @@ use Rattle.hd_volume.proofs.JoinLemmas.{calls-join, read-call}
 use Rattle.hd_links.specs.Steps.{rows_of}
 use Rattle.hd_volume.specs.Calls.{IsCall}
 use Rattle.hd_forest.proofs.Reading.{after-read, sound-before}
-use Rattle.hd_keeping.specs.VolumeImages.{images_of}
+use Rattle.hd_changes.specs.VolumeImages.{images_of}
 use Rattle.hd_position.specs.Kept.{Kept}
 use Rattle.hd_calls.specs.Moves.{rewritten}
 use Rattle.hd_calls.specs.Runs.{LacksRoom, rows_stored}

@@ -4,13 +4,13 @@ use Rattle.hd_dbd.specs.Segment.{Segment}
 use Rattle.hd_dbd.proofs.StoredSizes.{block_size-bounds}
 use Rattle.hd_calls.specs.Runs.{LacksRoom, has_root, stored_sizes}
 use Rattle.hd_calls.specs.Ssas.{Ssa}
-use Rattle.hd_levels.specs.Needs.{entry_growth, IsHighest}
+use Rattle.hd_index_blocks.specs.Needs.{entry_growth, IsHighest}
 use Rattle.hd_volume.specs.Rooms.{spare, HasHole}
 use Rattle.hd_volume.proofs.JoinLemmas.{if-err-map}
 use Rattle.hd_index.proofs.ChangeLemmas.{set-index}
-use Rattle.hd_keeping.specs.Rooms.{HasRootRoomFor}
-use Rattle.hd_keeping.specs.VolumeImages.{images_of}
-use Rattle.hd_keeping.proofs.Rooms.{one-volume}
+use Rattle.hd_changes.specs.Rooms.{HasRootRoomFor}
+use Rattle.hd_changes.specs.VolumeImages.{images_of}
+use Rattle.hd_changes.proofs.Rooms.{one-volume}
 use Rattle.hd_update.specs.NewRows.{codes_of, rows_in, IsRoomMade}
 use Rattle.hd_update.proofs.NewRows.{on_ok_sound}
 use Rattle.hd_update.proofs.PathRows.{first_and_others}

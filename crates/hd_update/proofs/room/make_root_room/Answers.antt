@@ -1,7 +1,7 @@
 use Rattle.std.proofs.Common.{◌≡◌, ◌<◌, ◌≤◌, IsTrue, Result, Ok, Err, OnOk, subst, sym, ◌∙◌, arith}
 use Rattle.hd_dbd.specs.declared.answer.Refused.{Refused}
 use Rattle.hd_volume.specs.Indexes.{root_key_length}
-use Rattle.hd_levels.specs.Needs.{entry_growth}
+use Rattle.hd_index_blocks.specs.Needs.{entry_growth}
 use Rattle.hd_index.proofs.NeedLemmas.{growth-same, few-grown}
 use Rattle.hd_update.proofs.NewRows.{on_ok_sound}
 use Rattle.hd_update.proofs.room.make_root_room.Goals as goal

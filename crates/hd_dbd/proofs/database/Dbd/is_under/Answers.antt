@@ -1,5 +1,5 @@
 -- The parent takes the type's place, with one level less above it.
-use Rattle.std.proofs.Common.{◌≡◌, ◌∙◌, arith, sym}
+use Rattle.std.proofs.Common.{◌∙◌, arith, sym}
 use Rattle.hd_dbd.proofs.Under.{under-parent}
 use Rattle.hd_dbd.proofs.database.Dbd.is_under.Goals as goal
 

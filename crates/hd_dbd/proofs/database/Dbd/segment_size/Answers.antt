@@ -1,9 +1,7 @@
-use Rattle.std.proofs.Common.{◌≡◌, ℕ, ◌+◌, ◌≤◌, List, arith, ap, sym, ◌∙◌, Option, Some, IsTrue, Fits, w16}
+use Rattle.std.proofs.Common.{◌≡◌, ℕ, arith, ap, sym, ◌∙◌, Option, Some}
 use Rattle.std.specs.Option.{option_map_or}
 use Rattle.hd_dbd.specs.Hierarchy.{Database}
 use Rattle.hd_dbd.specs.Types.{SegmentType}
-use Rattle.hd_dbd.specs.Prefixes.{stored_size, size_with}
-use Rattle.hd_dbd.specs.DatabaseRules.{well_formed}
 use Rattle.hd_dbd.specs.Lengths.{least_length}
 use Rattle.hd_dbd.proofs.TypeLengths.{type-lengths, type-room}
 use Rattle.hd_dbd.proofs.database.Dbd.segment_size.Goals as goal

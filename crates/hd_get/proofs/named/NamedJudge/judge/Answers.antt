@@ -1,7 +1,7 @@
 use Rattle.std.proofs.Common.{◌≡◌, ℕ, List, Bool, true, false, Ok, refl, sym, ap, ap₂, subst, ◌∙◌}
 use Rattle.std.specs.Prelude.{◌==◌, ◌&&◌, not, is_none, option_copied}
 use Rattle.std.proofs.lemmas.Bool.{eq-eqb, false≢true}
-use Rattle.hd_seek.specs.Twins.{next_twin}
+use Rattle.hd_calls.specs.SearchTwins.{next_twin}
 use Rattle.hd_dbd.specs.Hierarchy.{Database}
 use Rattle.hd_dbd.specs.Forest.{Forest}
 use Rattle.hd_dbd.specs.Paths.{row_at}
@@ -15,9 +15,9 @@ use Rattle.hd_forest.specs.Walks.{tip}
 use Rattle.hd_forest.specs.Rows.{IsOnSomeRow}
 use Rattle.hd_forest.proofs.Reading.{links-kept, volume-kept}
 use Rattle.hd_calls.specs.Ssas.{Ssa, target_code}
-use Rattle.hd_seek.specs.Admits.{admits, is_on_way}
-use Rattle.hd_seek.specs.Keys.{is_past}
-use Rattle.hd_get.specs.declared.looking.Look.{Look}
+use Rattle.hd_calls.specs.Admits.{admits, is_on_way}
+use Rattle.hd_calls.specs.SearchKeys.{is_past}
+use Rattle.hd_get.specs.declared.look.Look.{Look}
 use Rattle.hd_get.specs.declared.verdict.Verdict.TheVariants.{BesideToLast, Rest}
 use Rattle.hd_get.specs.Searches.{IsPathOf, IsJudged}
 use Rattle.hd_get.specs.Asking.{Asked, is_asked, is_admitted, goes_to_last, look_of, verdict_beside, verdict_down, verdict_across}

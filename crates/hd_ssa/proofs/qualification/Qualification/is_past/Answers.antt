@@ -1,7 +1,7 @@
 use Rattle.std.proofs.Common.{List, ap, ◌∙◌}
 use Rattle.std.specs.Prelude.{not}
 use Rattle.hd_calls.specs.Ssas.{Comparison}
-use Rattle.hd_seek.specs.Keys.{is_comparison_past, are_groups_past}
+use Rattle.hd_calls.specs.SearchKeys.{is_comparison_past, are_groups_past}
 use Rattle.hd_ssa.specs.Texts.{groups_in}
 use Rattle.hd_ssa.proofs.Past.{all_past}
 use Rattle.hd_ssa.proofs.qualification.Qualification.is_past.Goals as goal

@@ -1,4 +1,0 @@
-pub mod Contents
-pub mod Runs
-pub mod Turns
-pub mod Caches

@@ -1,0 +1,107 @@
+//! Phase 9: no index block is named twice.
+ghost use Rattle.std.specs.Prelude.{◌≡◌, ◌≤◌, ◌<◌, ◌++◌, IsTrue, OnOk, IfOk};
+ghost use Rattle.hd_bytes.specs.Blocks.{HasBlock};
+ghost use Rattle.hd_dbd.specs.Refusals.{OnlyMemory, OnlyDeviceOrMemory};
+ghost use Rattle.hd_volume.specs.Headers.{header_of};
+ghost use Rattle.hd_volume.specs.Entries.{entries_in};
+ghost use Rattle.hd_volume.specs.Calls.{IsRead};
+ghost use Rattle.hd_index_blocks.specs.Levels.{named};
+ghost use Rattle.hd_index_blocks.specs.Faultless.{IsFormRight, AreFormsRight};
+ghost use Rattle.hd_index_blocks.specs.LevelFaults.{IsNamedTwice};
+ghost use Rattle.hd_index_blocks.specs.Fields.{CountFits};
+ghost use Rattle.hd_check_index.specs.Tables.{AreIndexBlocks};
+ghost use Rattle.hd_check_index.specs.NamedBlocks.{names_in, names_of};
+ghost use Rattle.hd_check_index.specs.Judging.{IsFoundAt, WhereFound};
+
+use crate::table::NotedBlock;
+use crate::twice::first_twice;
+use hd_dbd::Refused;
+use hd_index_blocks::{FIRST, IndexBlock};
+use hd_stores::BlockStore;
+use hd_volume::Volume;
+use std::alloc::Global;
+
+/// Puts what the entries of an upper block name behind other names.
+fn push_names(names: &mut Vec<u32>, upper: &IndexBlock) -> Result<(), Refused>
+    ensures names { OnOk result (CountFits upper.now.key_length upper.now.bytes.now → names.new.items ≡ names.old.items ++ named (entries_in upper.now.key_length upper.now.bytes.now)) }
+    ensures refusal { OnlyMemory result }
+{
+    for index in 0..upper.count() {
+        names
+            .push(upper.address(index))
+            .map_err(|_| Refused::Memory)?;
+    }
+    Ok(())
+}
+
+/// Puts what an index block names, if it is of a level above level 0, behind other names.
+fn add_names<S: BlockStore>(
+    names: &mut Vec<u32>,
+    volume: &mut Volume<S>,
+    key_length: usize,
+    block: NotedBlock,
+) -> Result<(), Refused>
+    requires short { key_length ≤ 255 }
+    requires least { 12 ≤ volume.old.size }
+    requires there { IsTrue volume.old.is_sound → HasBlock volume.old.size volume.old.image block.number }
+    requires right { IsTrue volume.old.is_sound → IsFormRight key_length volume.old block.level block.number }
+    ensures read { IsRead volume.old result volume.new }
+    ensures names { OnOk result (IsTrue volume.old.is_sound → names.new.items ≡ names.old.items ++ names_in key_length volume.old block) }
+    ensures refusal { OnlyDeviceOrMemory result }
+{
+    if block.level == 0 {
+        return Ok(());
+    }
+    let bytes = volume.block(block.number)?;
+    if bytes.len() < FIRST {
+        return Ok(());
+    }
+    let upper = IndexBlock { bytes, key_length };
+    push_names(names, &upper)?;
+    Ok(())
+}
+
+/// The blocks that are named, 0 for none: the top block, and those that upper entries name.
+fn names_of<S: BlockStore>(
+    alloc: Global,
+    volume: &mut Volume<S>,
+    blocks: &[NotedBlock],
+    key_length: usize,
+    top: u32,
+) -> Result<Vec<u32>, Refused>
+    requires short { key_length ≤ 255 }
+    requires blocks { IsTrue volume.old.is_sound → AreIndexBlocks volume.old blocks.now }
+    requires forms { IsTrue volume.old.is_sound → AreFormsRight key_length volume.old }
+    ensures read { IsRead volume.old result volume.new }
+    ensures value { IfOk result (λ names. IsTrue volume.old.is_sound → names.items ≡ names_of key_length volume.old top blocks.now) }
+    ensures refusal { OnlyDeviceOrMemory result }
+{
+    let least = volume.block_size();
+    let mut names = Vec::new(alloc);
+    names.push(top).map_err(|_| Refused::Memory)?;
+    for block in blocks {
+        add_names(&mut names, volume, key_length, *block)?;
+    }
+    Ok(names)
+}
+
+/// The first index block that is named twice, by the header as the top or by upper entries.
+pub fn twice_named<S: BlockStore>(
+    alloc: Global,
+    volume: &mut Volume<S>,
+    blocks: &[NotedBlock],
+    key_length: usize,
+    top: u32,
+) -> Result<Option<u32>, Refused>
+    requires short { key_length ≤ 255 }
+    requires blocks { IsTrue volume.old.is_sound → AreIndexBlocks volume.old blocks.now }
+    requires forms { IsTrue volume.old.is_sound → AreFormsRight key_length volume.old }
+    requires top { IsTrue volume.old.is_sound → top ≡ (header_of volume.old.image).top }
+    ensures read { IsRead volume.old result volume.new }
+    ensures found { WhereFound volume.old result (λ found. IsFoundAt volume.old (IsNamedTwice key_length volume.old) found) }
+    ensures refusal { OnlyDeviceOrMemory result }
+{
+    let mut names = names_of(alloc, volume, blocks, key_length, top)?;
+    names.sort_unstable();
+    Ok(first_twice(&names))
+}

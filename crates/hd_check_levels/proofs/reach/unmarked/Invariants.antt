@@ -1,6 +1,0 @@
-use Rattle.hd_check_levels.specs.Standings.{AreMarkedBefore}
-use Rattle.hd_check_levels.proofs.reach.unmarked.Given as goal
-
--- the marks before are made
-abbrev pub invariant-loop-i : goal.invariant-loop-i
-invariant-loop-i l = AreMarkedBefore l.i l.marks

@@ -1,0 +1,82 @@
+ghost use Rattle.std.specs.Prelude.{◌≡◌, ◌≢◌, ◌^◌, ◌≤◌, length, All, IfOk, IfErr, OnOk};
+ghost use Rattle.hd_dbd.specs.ProgramRules.{type_names};
+ghost use Rattle.hd_deck.specs.StepText.{StepFits};
+ghost use Rattle.hd_commands.specs.Commands.{IsRefused};
+ghost use Rattle.hd_commands.specs.Plays.{status_of_calls, PlaysInPrint, PlaySays};
+
+use crate::ended::{Ended, refuse};
+use crate::refusal::Refusal;
+use hd_dbd::{Dbd, Psb};
+use hd_deck::{RunFault, Step, run};
+use hd_stores::BlockStore;
+use std::alloc::Global;
+use std::io::Write;
+
+/// The status of the program where all calls of a deck were made, so many of which found no memory: 4 if any did, else 0.
+pub fn status_of_calls(memory: u64) -> u8
+    ensures { result ≡ status_of_calls memory }
+{
+    if memory > 0 { 4 } else { 0 }
+}
+
+/// Plays a deck over the volume in a store, and prints what its calls answer. Says how many of them found no memory.
+fn play_and_print<S: BlockStore, O: Write>(
+    alloc: Global,
+    dbd: &Dbd,
+    psb: &Psb,
+    steps: &[Step],
+    store: S,
+    out: &mut O,
+) -> (S, Result<u64, Refusal>)
+    requires size { S.size store ≡ dbd.now.block_size }
+    requires matches { psb.now.made_for ≡ type_names dbd.now.types }
+    requires steps { All (StepFits (length psb.now.pcbs)) steps.now }
+    requires count { length steps.now ≤ 2 ^ 30 }
+    ensures played { IfOk result.1 (PlaysInPrint S.is_sound S.contents dbd.now psb.now.pcbs steps.now store result.0 (O.contents out.old) (O.contents out.new)) }
+    ensures failures { OnOk result.1 (S.failures result.0 ≡ S.failures store) }
+    ensures refused { IfErr result.1 (PlaySays S.is_sound S.failures S.contents dbd.now psb.now.pcbs steps.now store result.0) }
+    ensures silent { IfErr result.1 (λ e. e ≢ Refusal.Device → out.new ≡ out.old) }
+    ensures size { S.size result.0 ≡ S.size store }
+{
+    match run(alloc, store, dbd, psb, steps, out) {
+        Ok(end) => match out.flush() {
+            Ok(()) => (end.store, Ok(end.memory)),
+            Err(_) => (end.store, Err(Refusal::Device)),
+        },
+        Err((store, fault)) => {
+            if matches!(fault, RunFault::Device | RunFault::Write) {
+                let _ = out.flush();
+            }
+            (store, Err(Refusal::of_run(fault)))
+        }
+    }
+}
+
+/// Plays a deck over the volume in a store, and says on `out` what its calls answer, or on `err` why they were not all made. Where they were,
+/// says how many of them found no memory. The store is given back.
+pub fn play_deck<S: BlockStore, O: Write, E: Write>(
+    alloc: Global,
+    dbd: &Dbd,
+    psb: &Psb,
+    steps: &[Step],
+    store: S,
+    out: &mut O,
+    err: &mut E,
+) -> (S, Result<u64, Ended>)
+    requires size { S.size store ≡ dbd.now.block_size }
+    requires matches { psb.now.made_for ≡ type_names dbd.now.types }
+    requires steps { All (StepFits (length psb.now.pcbs)) steps.now }
+    requires count { length steps.now ≤ 2 ^ 30 }
+    ensures played { IfOk result.1 (PlaysInPrint S.is_sound S.contents dbd.now psb.now.pcbs steps.now store result.0 (O.contents out.old) (O.contents out.new)) }
+    ensures failures { OnOk result.1 (S.failures result.0 ≡ S.failures store) }
+    ensures quiet { OnOk result.1 (err.new ≡ err.old) }
+    ensures refused { IfErr result.1 (λ e. IsRefused (PlaySays S.is_sound S.failures S.contents dbd.now psb.now.pcbs steps.now store result.0) e (E.contents err.old) (E.contents err.new)) }
+    ensures silent { IfErr result.1 (λ e. e.status ≢ 3 → out.new ≡ out.old) }
+    ensures size { S.size result.0 ≡ S.size store }
+{
+    let (store, played) = play_and_print(alloc, dbd, psb, steps, store, out);
+    match played {
+        Ok(memory) => (store, Ok(memory)),
+        Err(refusal) => (store, Err(refuse(refusal, err))),
+    }
+}

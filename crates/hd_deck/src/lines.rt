@@ -1,0 +1,236 @@
+ghost use Rattle.std.specs.Prelude.{◌≡◌, ◌<◌, ◌++◌, unwrap_or, replicate, codes, decimal, OnOk};
+ghost use Rattle.std.specs.List.{list_all};
+ghost use Rattle.std.specs.Io.KnownBytes.{Appends};
+ghost use Rattle.hd_dbd.specs.Logs.{replied};
+ghost use Rattle.hd_session.specs.Replies.{reply_of};
+ghost use Rattle.hd_deck.specs.Printing.{hex_digit, is_plain, shown, shown_byte, two_digits, head_text, bracket_text, place_text, outcome_text, refused_text, refusal_text, answered_text};
+
+use hd_dbd::{Name8, Refused, Status, status_text};
+use hd_session::{Answer, IoArea};
+use itoa::Buffer;
+use std::io::Write;
+use thiserror::Error;
+
+/// A write failed. How much went out before it is not known.
+#[derive(Clone, Copy, Debug, Drop, PartialEq, Eq, Error)]
+#[error("write failed")]
+pub struct WriteFault;
+
+/// Writes all of the bytes.
+fn put<W: Write>(out: &mut W, bytes: &[u8]) -> Result<(), WriteFault>
+    ensures { OnOk result (Appends (W.contents out.old) (W.contents out.new) bytes.now) }
+{
+    match out.write_all(bytes) {
+        Ok(()) => Ok(()),
+        Err(_) => Err(WriteFault),
+    }
+}
+
+fn hex_digit(n: u8) -> u8
+    requires { n < 16 }
+    ensures { result ≡ hex_digit n }
+{
+    if n < 10 { b'0' + n } else { b'a' - 10 + n }
+}
+
+/// Whether a byte is printed as it is.
+fn is_plain(byte: u8) -> bool
+    ensures { result ≡ is_plain byte }
+{
+    byte != b'\\' && 32 <= byte && byte <= 126
+}
+
+/// Whether all bytes are printed as they are.
+fn are_plain(bytes: &[u8]) -> bool
+    ensures { result ≡ list_all is_plain bytes.now }
+{
+    bytes.iter().all(|byte| is_plain(*byte))
+}
+
+/// Writes bytes so that each is seen: 32 to 126 as they are, but a backslash doubled, and any other as `\x` and two hexadecimal digits.
+pub fn put_shown<W: Write>(out: &mut W, bytes: &[u8]) -> Result<(), WriteFault>
+    ensures { OnOk result (Appends (W.contents out.old) (W.contents out.new) (shown bytes.now)) }
+{
+    if are_plain(bytes) {
+        return put(out, bytes);
+    }
+    put_each(out, bytes)
+}
+
+/// Writes bytes one by one, so that each is seen.
+fn put_each<W: Write>(out: &mut W, bytes: &[u8]) -> Result<(), WriteFault>
+    ensures { OnOk result (Appends (W.contents out.old) (W.contents out.new) (shown bytes.now)) }
+{
+    for byte in bytes {
+        put_shown_byte(out, *byte)?;
+    }
+    Ok(())
+}
+
+fn put_shown_byte<W: Write>(out: &mut W, byte: u8) -> Result<(), WriteFault>
+    ensures { OnOk result (Appends (W.contents out.old) (W.contents out.new) (shown_byte byte)) }
+{
+    match byte {
+        b'\\' => put(out, b"\\\\"),
+        32..=126 => put(out, &[byte]),
+        _ => put(
+            out,
+            &[b'\\', b'x', hex_digit(byte / 16), hex_digit(byte % 16)],
+        ),
+    }
+}
+
+/// The PCB and the function, as they stand behind the number of a call, for a PCB of one digit.
+fn short_head(pcb: u8, function: &[u8; 4]) -> [u8; 7]
+    requires { pcb < 10 }
+    ensures { result ≡ codes " " ++ decimal pcb ++ codes " " ++ function.now }
+{
+    let [first, second, third, fourth] = *function;
+    [b' ', b'0' + pcb, b' ', first, second, third, fourth]
+}
+
+/// Writes the PCB and the function, as they stand behind the number of a call.
+fn put_function<W: Write>(out: &mut W, pcb: u8, function: &[u8; 4]) -> Result<(), WriteFault>
+    ensures { OnOk result (Appends (W.contents out.old) (W.contents out.new) (codes " " ++ decimal pcb ++ codes " " ++ function.now)) }
+{
+    if pcb < 10 {
+        return put(out, &short_head(pcb, function));
+    }
+    put(out, b" ")?;
+    put(out, Buffer::new().format(pcb).as_bytes())?;
+    put(out, b" ")?;
+    put(out, function)
+}
+
+/// Writes the number of the call, the PCB and the function.
+fn put_head<W: Write>(
+    out: &mut W,
+    number: u64,
+    pcb: u8,
+    function: &[u8; 4],
+) -> Result<(), WriteFault>
+    ensures { OnOk result (Appends (W.contents out.old) (W.contents out.new) (head_text number pcb function.now)) }
+{
+    put(out, Buffer::new().format(number).as_bytes())?;
+    put_function(out, pcb, function)
+}
+
+/// A number below 100 in two digits.
+fn two_digits(number: u8) -> [u8; 2]
+    ensures { result ≡ two_digits number }
+{
+    [b'0' + number / 10, b'0' + number % 10]
+}
+
+/// A segment's name, and blanks where there is none.
+fn segment_text(segment: &Option<Name8>) -> &[u8; 8]
+    ensures { result.now ≡ unwrap_or segment.now (replicate 8 32) }
+{
+    match segment {
+        Some(name) => name.bytes(),
+        None => b"        ",
+    }
+}
+
+/// The status in its brackets, level and segment, and the word before the key.
+fn place_bytes(status: Status, level: u8, segment: &Option<Name8>) -> [u8; 22]
+    ensures { result ≡ bracket_text status ++ place_text level segment.now ++ codes " key=" }
+{
+    let [s, t] = *status_text(status);
+    let [tens, ones] = two_digits(level);
+    let [a, b, c, d, e, f, g, h] = *segment_text(segment);
+    [
+        b' ', b'[', s, t, b']', b' ', tens, ones, b' ', a, b, c, d, e, f, g, h, b' ', b'k', b'e',
+        b'y', b'=',
+    ]
+}
+
+/// Writes key and area, from the key's bytes on.
+fn put_bytes<W: Write>(out: &mut W, io: &IoArea) -> Result<(), WriteFault>
+    ensures { OnOk result (Appends (W.contents out.old) (W.contents out.new) (shown io.now.key ++ codes " area=" ++ shown io.now.area ++ codes "\n")) }
+{
+    put_shown(out, io.key())?;
+    put(out, b" area=")?;
+    put_shown(out, io.area())?;
+    put(out, b"\n")
+}
+
+/// Writes an answer, from its status on.
+fn put_answer<W: Write>(out: &mut W, answer: &Answer, io: &IoArea) -> Result<(), WriteFault>
+    ensures { OnOk result (Appends (W.contents out.old) (W.contents out.new) (outcome_text (replied (reply_of answer.now io.now)))) }
+{
+    put(
+        out,
+        &place_bytes(answer.status, answer.level, &answer.segment),
+    )?;
+    put_bytes(out, io)
+}
+
+/// Writes the line of one call that was answered: the call's number, from 1, its PCB's number and its function, then
+/// status, level, segment, key and area.
+pub fn print_answer<W: Write>(
+    out: &mut W,
+    number: u64,
+    pcb: u8,
+    function: &[u8; 4],
+    answer: &Answer,
+    io: &IoArea,
+) -> Result<(), WriteFault>
+    ensures { OnOk result (Appends (W.contents out.old) (W.contents out.new)
+        (head_text number pcb function.now ++ outcome_text (replied (reply_of answer.now io.now)))) }
+{
+    put_head(out, number, pcb, function)?;
+    put_answer(out, answer, io)
+}
+
+fn refused_text(refused: Refused) -> &'static [u8]
+    ensures { result.now ≡ refused_text refused }
+{
+    match refused {
+        Refused::Memory => b"Memory",
+        Refused::Full => b"Full",
+        Refused::Device => b"Device",
+        Refused::Broken => b"Broken",
+        Refused::Area => b"Area",
+    }
+}
+
+/// Writes a refusal, from its brackets on.
+fn put_refusal<W: Write>(out: &mut W, refused: Refused) -> Result<(), WriteFault>
+    ensures { OnOk result (Appends (W.contents out.old) (W.contents out.new) (refusal_text refused)) }
+{
+    put(out, b" [!!] ")?;
+    put(out, refused_text(refused))?;
+    put(out, b"\n")
+}
+
+/// Writes the line of one call that was refused: the call's number, from 1, its PCB's number and its function, then the refusal's name.
+pub fn print_refusal<W: Write>(
+    out: &mut W,
+    number: u64,
+    pcb: u8,
+    function: &[u8; 4],
+    refused: Refused,
+) -> Result<(), WriteFault>
+    ensures { OnOk result (Appends (W.contents out.old) (W.contents out.new) (head_text number pcb function.now ++ refusal_text refused)) }
+{
+    put_head(out, number, pcb, function)?;
+    put_refusal(out, refused)
+}
+
+/// Writes the line of one call.
+pub(crate) fn print_outcome<W: Write>(
+    out: &mut W,
+    number: u64,
+    pcb: u8,
+    function: &[u8; 4],
+    answered: &Result<Answer, Refused>,
+    io: &IoArea,
+) -> Result<(), WriteFault>
+    ensures { OnOk result (Appends (W.contents out.old) (W.contents out.new) (head_text number pcb function.now ++ answered_text answered.now io.now)) }
+{
+    match answered {
+        Ok(answer) => print_answer(out, number, pcb, function, answer, io),
+        Err(refused) => print_refusal(out, number, pcb, function, *refused),
+    }
+}

@@ -1,3 +1,0 @@
-pub mod RoomLemmas
-pub mod BlockLemmas
-pub mod EntryLemmas

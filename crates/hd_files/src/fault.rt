@@ -1,0 +1,68 @@
+use crate::named::Named;
+use hd_dbd::Refused;
+use std::alloc::{AllocError, AllocFailed};
+use std::io::{self, ErrorKind};
+
+/// Why a file could not be used.
+#[derive(Debug, Drop)]
+pub enum FileFault {
+    /// The system refused to open, to read or to write a file.
+    File(Named, io::Error),
+    /// The system refused to make a new file beside one, in which the result for it was to be written.
+    Beside(Named, io::Error),
+    /// Another program uses it, or another file has taken its name.
+    InUse(Named),
+    /// A file for a result is also read.
+    OverInput,
+    /// There is no memory for its bytes, or for the blocks that are kept of it.
+    Memory,
+    /// An access failed, and what the system said of it is not known.
+    Device,
+}
+
+impl FileFault {
+    /// A file could not be opened, read or written, or there is no memory for its bytes.
+    pub fn file(file: Named, error: io::Error) -> FileFault {
+        match error.kind() {
+            ErrorKind::OutOfMemory => FileFault::Memory,
+            _ => FileFault::File(file, error),
+        }
+    }
+
+    /// An access of a file failed while a command was at work; with what the system said of it, if that is known.
+    pub fn device(file: Named, said: Option<io::Error>) -> FileFault {
+        match said {
+            Some(error) => FileFault::File(file, error),
+            None => FileFault::Device,
+        }
+    }
+}
+
+/// What was done with a file, or why it could not be.
+pub fn of_file<T>(file: Named, done: io::Result<T>) -> Result<T, FileFault> {
+    match done {
+        Ok(value) => Ok(value),
+        Err(error) => Err(FileFault::file(file, error)),
+    }
+}
+
+impl From<Refused> for FileFault {
+    fn from(refused: Refused) -> FileFault {
+        match refused {
+            Refused::Memory => FileFault::Memory,
+            _ => FileFault::Device,
+        }
+    }
+}
+
+impl From<AllocError> for FileFault {
+    fn from(_error: AllocError) -> FileFault {
+        FileFault::Memory
+    }
+}
+
+impl<T: Drop> From<AllocFailed<T>> for FileFault {
+    fn from(_error: AllocFailed<T>) -> FileFault {
+        FileFault::Memory
+    }
+}

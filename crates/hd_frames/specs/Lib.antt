@@ -1,5 +1,0 @@
-pub mod CallFrame
-pub mod Frames
-pub mod Answers
-pub mod Hello
-pub mod Laws

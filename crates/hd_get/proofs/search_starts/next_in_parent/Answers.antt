@@ -1,0 +1,32 @@
+use Rattle.std.proofs.Common.{◌≡◌, ℕ, List, [], Some, None, Option, sym, ap₂, subst, ◌∙◌}
+use Rattle.hd_image.specs.Records.{links_of}
+use Rattle.hd_position.specs.Kept.{Kept, row_on}
+use Rattle.hd_get.specs.Starts.{LeadsToStart}
+use Rattle.hd_calls.specs.declared.call.GetKind.TheVariants.{NextInParent}
+use Rattle.hd_get.proofs.Grounds.{grounds}
+use Rattle.hd_get.proofs.Starts.{leads_below, parent_there}
+use Rattle.hd_get.proofs.search_starts.next_in_parent.Goals as goal
+
+-- what was read on the kept path at the level of parentage
+read_there : (k : Kept) (path : List ℕ) (level : ℕ) (o : Option ℕ) → path ≡ k.path → level ≡ k.parent → o ≡ row_on path level → row_on k.path k.parent ≡ o
+read_there k path level o e l is = sym (is ∙ ap₂ (λ (xs : List ℕ) (n : ℕ). row_on xs n) e l)
+
+pub returns-in_default-clause-value : goal.returns-in_default-clause-value
+returns-in_default-clause-value g c f q at =
+    let k : Kept = c.args.position.now in
+    let e = read_there k c.path.result.now c.parent.result None c.path.ensures c.parent.ensures c.in_default.ensures in record {
+      parent = parent_there c.args.dbd.now.types f k q at.at.stands None e;
+      leads = tt;
+    }
+
+pub returns-clause-value : goal.returns-clause-value
+returns-clause-value g c f q at =
+    let d = c.args.dbd.now in
+    let v = c.args.volume.now in
+    let k : Kept = c.args.position.now in
+    let G = grounds d v f (c.requires.of at.sound) at.at.holds in
+    let e = read_there k c.path.result.now c.parent.result (Some c.in-Some.parent) c.path.ensures c.parent.ensures (sym c.in-Some.is ∙ c.row_on.ensures) in record {
+      parent = parent_there d.types f k q at.at.stands (Some c.in-Some.parent) e;
+      leads = subst (LeadsToStart NextInParent d v [] f q c.in-Some.parent) (sym c.stay_below.ensures)
+          (leads_below d.types f k q at.at.stands (links_of d.types v) G.addressed c.in_ok-path.path c.in-Some.parent e (c.in_ok-path.ensures.value at.sound f q at.at));
+    }

@@ -1,0 +1,20 @@
+use Rattle.std.proofs.Common.{◌≡◌, ◌+◌, ◌*◌, ℕ, IsTrue, length, refl, subst}
+use Rattle.hd_bytes.specs.Ranges.{with_bytes}
+use Rattle.hd_volume.specs.Volumes.{block_at}
+use Rattle.hd_index.specs.Edits.{HasNewBytes}
+use Rattle.hd_index.proofs.CallLemmas.{on-ok-map}
+use Rattle.hd_index.proofs.EntryEdits.{key-edit}
+use Rattle.hd_index.proofs.edit.set_entry_key.Goals as goal
+
+pub returns-clause-changed : goal.returns-clause-changed
+returns-clause-changed g c =
+    let u = c.args.volume.now in
+    let w = c.write_part.new.volume in
+    let k : ℕ = length c.args.key.now in
+    let n : ℕ = c.args.n in
+    let place : c.entry_place.result ≡ 12 + c.args.index * (k + 4) = c.entry_place.ensures in
+    on-ok-map c.write_part.result
+    (λ (last : IsTrue u.is_sound → HasNewBytes u n (with_bytes (block_at u n) c.entry_place.result c.args.key.now) w) (sound : IsTrue u.is_sound).
+    let W : ℕ → Type 0 = λ p. HasNewBytes u n (with_bytes (block_at u n) p c.args.key.now) w in
+    key-edit k u w n c.args.index c.args.count c.args.key.now (c.requires.block sound) (c.requires.count sound) c.requires.index c.requires.fits refl (subst W place (last sound)))
+    c.write_part.ensures.written

@@ -1,5 +1,0 @@
-use Rattle.hd_keeping.proofs.Rooms.{one-volume}
-use Rattle.hd_keeping.proofs.law.law_one_image_is_one_volume.Goals as goal
-
-pub returns : goal.returns
-returns c = one-volume

@@ -1,5 +1,0 @@
-use Rattle.hd_keeping.proofs.Rooms.{same-entries-leave-room}
-use Rattle.hd_keeping.proofs.law.law_same_entries_leave_room.Goals as goal
-
-pub returns : goal.returns
-returns c = same-entries-leave-room

@@ -1,5 +1,0 @@
-use Rattle.hd_keeping.proofs.Rooms.{set-rows-leave-room}
-use Rattle.hd_keeping.proofs.law.law_set_rows_leave_room.Goals as goal
-
-pub returns : goal.returns
-returns c = set-rows-leave-room

@@ -1,5 +1,0 @@
-use Rattle.hd_levels.proofs.Chains.{linked-once}
-use Rattle.hd_levels.proofs.law.law_chains_have_blocks_once.Goals as goal
-
-pub returns : goal.returns
-returns g = linked-once

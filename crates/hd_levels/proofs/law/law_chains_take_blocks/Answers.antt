@@ -1,5 +1,0 @@
-use Rattle.hd_levels.proofs.Chains.{linked-new}
-use Rattle.hd_levels.proofs.law.law_chains_take_blocks.Goals as goal
-
-pub returns : goal.returns
-returns g = linked-new

@@ -1,5 +1,0 @@
-use Rattle.hd_levels.proofs.Linking.{divisions-linked}
-use Rattle.hd_levels.proofs.law.law_divisions_stay_linked.Goals as goal
-
-pub returns : goal.returns
-returns g = divisions-linked

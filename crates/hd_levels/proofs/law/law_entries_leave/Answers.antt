@@ -1,5 +1,0 @@
-use Rattle.hd_levels.proofs.Leaving.{left_out}
-use Rattle.hd_levels.proofs.law.law_entries_leave.Goals as goal
-
-pub returns : goal.returns
-returns g = left_out

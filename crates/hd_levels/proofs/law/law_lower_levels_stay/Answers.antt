@@ -1,5 +1,0 @@
-use Rattle.hd_levels.proofs.Levels.{set-stays}
-use Rattle.hd_levels.proofs.law.law_lower_levels_stay.Goals as goal
-
-pub returns : goal.returns
-returns g c d l i ns lower less set = set-stays c d l lower i less ns set

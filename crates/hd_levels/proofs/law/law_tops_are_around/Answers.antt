@@ -1,5 +1,0 @@
-use Rattle.hd_levels.proofs.Descents.{top-around}
-use Rattle.hd_levels.proofs.law.law_tops_are_around.Goals as goal
-
-pub returns : goal.returns
-returns g = top-around

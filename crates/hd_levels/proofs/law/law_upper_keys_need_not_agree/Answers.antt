@@ -1,5 +1,0 @@
-use Rattle.hd_levels.proofs.WorkedIndex.{agree-not}
-use Rattle.hd_levels.proofs.law.law_upper_keys_need_not_agree.Goals as goal
-
-pub returns : goal.returns
-returns g = agree-not

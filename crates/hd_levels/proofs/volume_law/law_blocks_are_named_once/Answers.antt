@@ -1,5 +1,0 @@
-use Rattle.hd_levels.proofs.Volumes.{named-once}
-use Rattle.hd_levels.proofs.volume_law.law_blocks_are_named_once.Goals as goal
-
-pub returns : goal.returns
-returns g = named-once

@@ -1,5 +1,0 @@
-use Rattle.hd_levels.proofs.Volumes.{children-right}
-use Rattle.hd_levels.proofs.volume_law.law_children_are_right.Goals as goal
-
-pub returns : goal.returns
-returns g = children-right

@@ -1,5 +1,0 @@
-use Rattle.hd_levels.proofs.RowFaults.{faults-all}
-use Rattle.hd_levels.proofs.volume_law.law_faults_are_all.Goals as goal
-
-pub returns : goal.returns
-returns g = faults-all

@@ -1,5 +1,0 @@
-use Rattle.hd_levels.proofs.Needs.{few-needed}
-use Rattle.hd_levels.proofs.volume_law.law_few_blocks_are_needed.Goals as goal
-
-pub returns : goal.returns
-returns g = few-needed

@@ -1,5 +1,0 @@
-use Rattle.hd_levels.proofs.Parents.{index-blocks-placed}
-use Rattle.hd_levels.proofs.volume_law.law_index_blocks_are_placed.Goals as goal
-
-pub returns : goal.returns
-returns g = index-blocks-placed

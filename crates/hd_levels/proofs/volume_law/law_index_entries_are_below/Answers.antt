@@ -1,5 +1,0 @@
-use Rattle.hd_levels.proofs.Volumes.{entries-below}
-use Rattle.hd_levels.proofs.volume_law.law_index_entries_are_below.Goals as goal
-
-pub returns : goal.returns
-returns g = entries-below

@@ -1,5 +1,0 @@
-use Rattle.hd_levels.proofs.Volumes.{entries-ascend}
-use Rattle.hd_levels.proofs.volume_law.law_index_entries_ascend.Goals as goal
-
-pub returns : goal.returns
-returns g = entries-ascend

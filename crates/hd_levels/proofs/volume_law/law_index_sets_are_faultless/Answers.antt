@@ -1,5 +1,0 @@
-use Rattle.hd_levels.proofs.Faultless.{sets-faultless}
-use Rattle.hd_levels.proofs.volume_law.law_index_sets_are_faultless.Goals as goal
-
-pub returns : goal.returns
-returns g = sets-faultless

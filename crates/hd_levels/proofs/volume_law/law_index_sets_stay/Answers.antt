@@ -1,5 +1,0 @@
-use Rattle.hd_levels.proofs.StayingSets.{index-sets-stay}
-use Rattle.hd_levels.proofs.volume_law.law_index_sets_stay.Goals as goal
-
-pub returns : goal.returns
-returns g = index-sets-stay

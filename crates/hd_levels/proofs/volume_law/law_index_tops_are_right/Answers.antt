@@ -1,5 +1,0 @@
-use Rattle.hd_levels.proofs.Volumes.{tops-right}
-use Rattle.hd_levels.proofs.volume_law.law_index_tops_are_right.Goals as goal
-
-pub returns : goal.returns
-returns g = tops-right

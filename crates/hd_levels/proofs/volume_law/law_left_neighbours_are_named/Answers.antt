@@ -1,5 +1,0 @@
-use Rattle.hd_levels.proofs.Neighbours.{left-named}
-use Rattle.hd_levels.proofs.volume_law.law_left_neighbours_are_named.Goals as goal
-
-pub returns : goal.returns
-returns g = left-named

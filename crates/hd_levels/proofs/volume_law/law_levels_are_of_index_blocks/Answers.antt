@@ -1,5 +1,0 @@
-use Rattle.hd_levels.proofs.Volumes.{levels-are}
-use Rattle.hd_levels.proofs.volume_law.law_levels_are_of_index_blocks.Goals as goal
-
-pub returns : goal.returns
-returns g = levels-are

@@ -1,5 +1,0 @@
-use Rattle.hd_levels.proofs.WorkedVolumes.{one-has}
-use Rattle.hd_levels.proofs.volume_law.law_one_level_has_index_set.Goals as goal
-
-pub returns : goal.returns
-returns g = one-has

@@ -1,5 +1,0 @@
-use Rattle.hd_levels.proofs.Parents.{placed-reached}
-use Rattle.hd_levels.proofs.volume_law.law_placed_blocks_are_reached.Goals as goal
-
-pub returns : goal.returns
-returns g = placed-reached

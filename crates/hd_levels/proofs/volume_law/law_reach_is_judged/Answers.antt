@@ -1,5 +1,0 @@
-use Rattle.hd_levels.proofs.LevelFaults.{reach-judged}
-use Rattle.hd_levels.proofs.volume_law.law_reach_is_judged.Goals as goal
-
-pub returns : goal.returns
-returns g = reach-judged

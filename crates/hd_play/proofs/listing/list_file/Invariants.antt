@@ -1,4 +1,0 @@
-use Rattle.hd_play.proofs.listing.list_file.Given as goal
-
-abbrev pub ghosts-list : goal.ghosts-list
-ghosts-list g a = record { name = a.blank.name; parts = a.blank.parts }

@@ -1,4 +1,0 @@
-use Rattle.hd_play.proofs.seeing.see_file.Given as goal
-
-abbrev pub ghosts-see : goal.ghosts-see
-ghosts-see a = record { name = a.blank.name; parts = a.blank.parts }

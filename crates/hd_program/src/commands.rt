@@ -1,0 +1,225 @@
+use crate::advice::{advise_refusal, advise_stop};
+use crate::check_command::check_file;
+use crate::deck_command::{play_file, play_sample};
+use crate::explain_command::explain_word;
+use crate::reload_command::reload_file;
+use crate::rows_command::list_rows;
+use crate::serve_command::serve_file;
+use crate::show_command::{show_database, show_volume};
+use crate::sights::see_refused;
+use crate::stop::{COMMAND_LINE, Stop};
+use crate::stream_command::{make_of_rows, make_of_tables};
+use crate::unload_command::unload_file;
+use clap::error::ErrorKind;
+use hd_commands::{Ended, Refusal};
+use hd_files::{Named, Watched};
+use hd_output::{Progress, Unmixed};
+use hd_words::{Explains, Request, read_words};
+use std::alloc::Global;
+use std::fs::File;
+use std::io::{self, Read, Write};
+use std::rt::Files;
+
+/// Does what the words behind the program's name ask for, and gives the status of the program: 0 done; 1 a fault in a volume or a
+/// stream, no room for it, or a volume that is not empty for a load; 2 a text refused; 3 a failed read or write; 4 no memory, in a deck also
+/// for one call; 64 a command line that is not understood, help among them, whose text is `clap`'s, or one that would write over what it
+/// reads.
+///
+/// Without words it reads a deck from `input` and plays it over the sample database, in memory. `deck` plays one over a volume, `serve` answers
+/// the calls that come as frames from `input`, `check` judges
+/// a volume, `unload` writes its unload stream, and `reload` makes a volume of one; `show` draws a database or a volume, `rows` writes a volume's
+/// rows, and `stream` makes an unload stream of rows; `explain` says what a fault, status or refusal means. What the calls answer, and what was
+/// done, goes to `out`; why the program ended early goes to `err`, a line, and where that is a terminal or the words say so, further lines that
+/// say more. How far a long command is goes to `progress`, and is taken away before a line and at the end.
+pub fn play<R, P, I, O, E>(
+    rt: &R,
+    words: &[String],
+    is_terminal: bool,
+    progress: &P,
+    input: &mut I,
+    out: &mut O,
+    err: &mut E,
+) -> u8
+where
+    R: Files<File = File> + AllocGlobal,
+    P: Progress,
+    I: Read,
+    O: Write,
+    E: Write,
+{
+    let (request, explains) = match asked_by(rt.alloc(), words, err) {
+        Ok(asked) => asked,
+        Err(status) => return status,
+    };
+    let says_more = match explains {
+        Explains::Always => true,
+        Explains::Never => false,
+        Explains::Auto => is_terminal,
+    };
+    let mut out = Watched::over(Unmixed::output(out, progress));
+    let mut err = Unmixed::errors(err, progress);
+    let performed = perform(rt, request, progress, input, &mut out, &mut err);
+    progress.end();
+    let status = match &performed {
+        Ok(ended) => ended.status,
+        Err(stop) => stopped(stop, &mut err),
+    };
+    if says_more {
+        let _ = say_more(rt, performed, out.last_error(), &request, &mut err);
+    }
+    status
+}
+
+/// What the words ask for, and when more is said of a stop; or the status of the program where they are not understood, which is said.
+#[inline(never)] // What this one needs of the stack is no more taken when a command is at work.
+fn asked_by<'a, E: Write>(
+    alloc: Global,
+    words: &'a [String],
+    err: &mut E,
+) -> Result<(Request<'a>, Explains), u8> {
+    match read_words(alloc, words) {
+        Ok(asked) => Ok(asked),
+        Err(error) if error.kind() == ErrorKind::OutOfMemory => {
+            Err(stopped(&Stop::from(Refusal::Memory), err))
+        }
+        Err(error) => {
+            let _ = write!(err, "{error}");
+            Err(COMMAND_LINE)
+        }
+    }
+}
+
+/// Says more of why a command did not do its work: of a failed access of which nothing else is known, what the system said of standard output.
+#[inline(never)] // As above.
+fn say_more<R, E>(
+    rt: &R,
+    performed: Result<Ended, Stop>,
+    said: Option<io::Error>,
+    request: &Request<'_>,
+    err: &mut E,
+) -> io::Result<()>
+where
+    R: Files<File = File> + AllocGlobal,
+    E: Write,
+{
+    let stop = match performed {
+        Ok(Ended { refusal: None, .. }) => return Ok(()),
+        Ok(
+            Ended {
+                refusal: Some(refusal),
+                ..
+            },
+        ) => Stop::Refused(refusal),
+        Err(stop) => stop,
+    };
+    match (stop, said) {
+        (Stop::Refused(Refusal::Device), Some(error)) => {
+            advise_stop(rt.alloc(), &Stop::File(Named::Output, error), request, err)
+        }
+        (Stop::Refused(refusal), _) => {
+            let seen = see_refused(rt, rt.alloc(), request, refusal);
+            advise_refusal(rt.alloc(), refusal, seen.as_ref(), request, err)
+        }
+        (stop, _) => advise_stop(rt.alloc(), &stop, request, err),
+    }
+}
+
+/// Does what is asked for, and says how it ended.
+fn perform<R, P, I, O, E>(
+    rt: &R,
+    request: Request<'_>,
+    progress: &P,
+    input: &mut I,
+    out: &mut O,
+    err: &mut E,
+) -> Result<Ended, Stop>
+where
+    R: Files<File = File> + AllocGlobal,
+    P: Progress,
+    I: Read,
+    O: Write,
+    E: Write,
+{
+    let alloc = rt.alloc();
+    match request {
+        Request::Sample => play_sample(alloc, input, out, err),
+        Request::Deck {
+            dbd,
+            psb,
+            volume,
+            deck,
+            cache,
+            syncs,
+        } => play_file(
+            rt, alloc, dbd, psb, volume, deck, cache, syncs, progress, out, err,
+        ),
+        Request::Serve {
+            dbd,
+            psb,
+            volume,
+            cache,
+            syncs,
+        } => serve_file(rt, alloc, dbd, psb, volume, cache, syncs, input, out, err),
+        Request::Check { dbd, volume, cache } => check_file(
+            rt, alloc, dbd, volume, cache, progress, out, err,
+        ),
+        Request::Unload {
+            dbd,
+            volume,
+            out: stream,
+            cache,
+            syncs,
+        } => unload_file(
+            rt, alloc, dbd, volume, stream, cache, syncs, progress, out, err,
+        ),
+        Request::Reload {
+            dbd,
+            input,
+            volume,
+            blocks,
+            cache,
+            syncs,
+        } => reload_file(
+            rt, alloc, dbd, input, volume, blocks, cache, syncs, progress, out, err,
+        ),
+        Request::Show {
+            dbd,
+            volume: None,
+            ..
+        } => show_database(rt, alloc, dbd, out),
+        Request::Show {
+            dbd,
+            volume: Some(volume),
+            picture,
+            cache,
+            syncs,
+        } => show_volume(rt, alloc, dbd, volume, picture, cache, syncs, out, err),
+        Request::Rows {
+            dbd,
+            volume,
+            table,
+            cache,
+        } => list_rows(rt, alloc, dbd, volume, table, cache, out, err),
+        Request::Stream {
+            dbd,
+            rows,
+            out: stream,
+            is_tables: false,
+            syncs,
+        } => make_of_rows(rt, alloc, dbd, rows, stream, syncs, out),
+        Request::Stream {
+            dbd,
+            rows,
+            out: stream,
+            is_tables: true,
+            syncs,
+        } => make_of_tables(rt, alloc, dbd, rows, stream, syncs, out),
+        Request::Explain { word } => explain_word(word, out, err),
+    }
+}
+
+/// Says why the program stops, and gives its status.
+pub fn stopped<E: Write>(stop: &Stop, err: &mut E) -> u8 {
+    let _ = writeln!(err, "{stop}");
+    stop.status()
+}

@@ -1,0 +1,217 @@
+ghost use Rattle.std.specs.Prelude.{◌≡◌, ◌<◌, ◌≤◌, ◌^◌, length, All, IfOk};
+ghost use Rattle.hd_dbd.specs.ProgramRules.{type_names};
+ghost use Rattle.hd_deck.specs.StepText.{StepFits};
+
+use crate::dbd_source::{blocks_for_calls, read_database};
+use crate::lines::{DEVICE_FAILED, LINE};
+use crate::sample;
+use crate::stop::Stop;
+use hd_commands::{Ended, Refusal, play_deck, status_of_calls};
+use hd_dbd::{Dbd, Psb};
+use hd_deck::{Step, read_deck};
+use hd_files::{
+    Held, Identity, Named, NamedFile, OpenVolume, cached, open_volume, read_file, read_whole,
+};
+use hd_gen::read_psb;
+use hd_output::{Answers, Pieces, Progress, Silent};
+use hd_stores::Counted;
+use std::alloc::Global;
+use std::fs::File;
+use std::io::{Read, Write};
+use std::marker::Brand;
+use std::rt::Files;
+use std::sync::ledger::{Blank, Ledger};
+
+/// How many calls a deck has.
+fn count_calls(steps: &[Step]) -> u64 {
+    let mut calls = 0u64;
+    for step in steps {
+        calls = calls.saturating_add(u64::from(step.repeat));
+    }
+    calls
+}
+
+/// The lines of a deck's calls, which go out in large pieces; how many of the calls are answered is told.
+fn lines_into<'p, O: Write, P: Progress>(
+    alloc: Global,
+    out: &'p mut O,
+    steps: &[Step],
+    progress: &'p P,
+) -> Result<Answers<'p, Pieces<&'p mut O>, P>, Stop> {
+    match Pieces::new(alloc, out) {
+        Ok(pieces) => Ok(Answers::new(pieces, count_calls(steps), progress)),
+        Err(_) => Err(Stop::from(Refusal::Memory)),
+    }
+}
+
+/// How a deck ended that was played: its calls made, so many of which found no memory, or refused.
+fn end_of(played: Result<u64, Ended>) -> Ended {
+    match played {
+        Ok(memory) => Ended::with_status(status_of_calls(memory)),
+        Err(ended) => ended,
+    }
+}
+
+/// Plays the deck that a reader holds over the sample, in memory. Says how it ended.
+pub fn play_sample<I: Read, O: Write, E: Write>(
+    alloc: Global,
+    input: &mut I,
+    out: &mut O,
+    err: &mut E,
+) -> Result<Ended, Stop> {
+    let dbd = sample::database(alloc).map_err(|fault| Stop::database(fault, Vec::new(alloc)))?;
+    let psb = sample::program(alloc, &dbd).map_err(|fault| Stop::program(fault, Vec::new(alloc)))?;
+    let text = match read_whole(alloc, input) {
+        Ok(text) => text,
+        Err(error) => return Err(Stop::file(Named::Input, error)),
+    };
+    let steps = match read_deck(alloc, &text, psb.pcbs().len() as u8) {
+        Ok(steps) => steps,
+        Err(fault) => return Err(Stop::deck(fault, text, Named::Input)),
+    };
+    let store = sample::volume(alloc, &dbd)?;
+    let mut lines = lines_into(alloc, out, &steps, &Silent)?;
+    let (_, played) = play_deck(alloc, &dbd, &psb, &steps, store, &mut lines, err);
+    Ok(end_of(played))
+}
+
+/// The program over a database that a file of its source describes.
+pub fn read_program<R: Files<File = File>>(
+    rt: &R,
+    alloc: Global,
+    dbd: &Dbd,
+    name: &str,
+) -> Result<(Psb, Identity), Stop>
+    ensures { IfOk result (λ p. p.0.made_for ≡ type_names dbd.now.types) }
+{
+    let (source, identity) = read_file(rt, alloc, name, Named::Psb)?;
+    match read_psb(alloc, &source, dbd) {
+        Ok(psb) => Ok((psb, identity)),
+        Err(fault) => Err(Stop::program(fault, source)),
+    }
+}
+
+/// The steps that a file of a deck has, for a program of so many PCBs.
+fn read_steps<R: Files<File = File>>(
+    rt: &R,
+    alloc: Global,
+    pcbs: u8,
+    name: &str,
+) -> Result<(Vec<Step>, Identity), Stop>
+    requires { 0 < pcbs }
+    ensures fit { IfOk result (λ s. All (StepFits pcbs) s.0.items) }
+    ensures few { IfOk result (λ s. length s.0.items ≤ 2 ^ 30) }
+{
+    let (text, identity) = read_file(rt, alloc, name, Named::Deck)?;
+    match read_deck(alloc, &text, pcbs) {
+        Ok(steps) => Ok((steps, identity)),
+        Err(fault) => Err(Stop::deck(fault, text, Named::Deck)),
+    }
+}
+
+/// Plays a deck over the volume in a file, with a ledger for the accesses that fail. Every block that the deck changed is then in the file, and on the
+/// disk if that is wanted; only then the last lines of its calls go out.
+fn play_over<L: Ledger, R: Files<File = File>, P: Progress, O: Write, E: Write>(
+    alloc: Global,
+    dbd: &Dbd,
+    psb: &Psb,
+    steps: &[Step],
+    volume: OpenVolume<'_, R>,
+    cache: u32,
+    syncs: bool,
+    blank: Blank,
+    progress: &P,
+    out: &mut O,
+    err: &mut E,
+) -> Result<Ended, Stop>
+    requires name { blank.name ≡ L.name }
+    requires parts { blank.parts ≡ L.parts }
+    requires share { 0 < blank.parts }
+    requires matches { psb.now.made_for ≡ type_names dbd.now.types }
+    requires steps { All (StepFits (length psb.now.pcbs)) steps.now }
+    requires count { length steps.now ≤ 2 ^ 30 }
+{
+    let store = NamedFile::<R, L>::over(volume, dbd, blank)?;
+    let store = Counted::new(cached(alloc, store, cache)?, "playing", progress);
+    let mut lines = Held::over(lines_into(alloc, out, steps, progress)?);
+    let mut said = Vec::with_capacity(alloc, LINE)?;
+    let (store, played) = play_deck(alloc, dbd, psb, steps, store, &mut lines, &mut said);
+    let (store, written) = store.into_inner().into_store();
+    let file = store.into_store();
+    let kept = file.keep(written, syncs);
+    let released = lines.release();
+    let ended = end_of(played);
+    match (ended.status, file.last_error()) {
+        (DEVICE_FAILED, Some(error)) => return Err(Stop::File(Named::Volume, error)),
+        (DEVICE_FAILED, None) => {}
+        _ => {
+            kept?;
+            released?;
+        }
+    }
+    let _ = err.write_all(&said);
+    Ok(ended)
+}
+
+/// As `play_over`, with a ledger of its own.
+fn play_over_file<R: Files<File = File>, P: Progress, O: Write, E: Write>(
+    alloc: Global,
+    dbd: &Dbd,
+    psb: &Psb,
+    steps: &[Step],
+    volume: OpenVolume<'_, R>,
+    cache: u32,
+    syncs: bool,
+    progress: &P,
+    out: &mut O,
+    err: &mut E,
+) -> Result<Ended, Stop>
+    requires matches { psb.now.made_for ≡ type_names dbd.now.types }
+    requires steps { All (StepFits (length psb.now.pcbs)) steps.now }
+    requires count { length steps.now ≤ 2 ^ 30 }
+{
+    play_over::<Brand, R, P, O, E>(
+        alloc,
+        dbd,
+        psb,
+        steps,
+        volume,
+        cache,
+        syncs,
+        Blank::new(1),
+        progress,
+        out,
+        err,
+    )
+}
+
+/// Plays the deck in a file over the volume in another, which is changed in place. The DBD, the PSB and the deck are read and judged first,
+/// in this order, then the volume is opened; only then is it judged. Says how it ended.
+pub fn play_file<R, P, O, E>(
+    rt: &R,
+    alloc: Global,
+    dbd: &str,
+    psb: &str,
+    volume: &str,
+    deck: &str,
+    cache: Option<u32>,
+    syncs: bool,
+    progress: &P,
+    out: &mut O,
+    err: &mut E,
+) -> Result<Ended, Stop>
+where
+    R: Files<File = File>,
+    P: Progress,
+    O: Write,
+    E: Write,
+{
+    let (dbd, source) = read_database(rt, alloc, dbd)?;
+    let (psb, program) = read_program(rt, alloc, &dbd, psb)?;
+    let (steps, text) = read_steps(rt, alloc, psb.pcbs().len() as u8, deck)?;
+    let volume = open_volume(rt, volume, &[source, program, text])?;
+    let kept = cache.unwrap_or(blocks_for_calls(&dbd));
+    play_over_file(
+        alloc, &dbd, &psb, &steps, volume, kept, syncs, progress, out, err,
+    )
+}

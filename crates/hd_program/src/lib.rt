@@ -1,0 +1,26 @@
+//! What `hd` does with the words of its command line: the files that they name are opened, and the commands play over them.
+#![tactic(auto)]
+
+mod advice;
+mod beginning;
+mod check_command;
+mod commands;
+mod dbd_source;
+mod deck_command;
+mod explain_command;
+mod lines;
+mod reload_command;
+mod rows_command;
+mod sample;
+mod serve_command;
+mod show_command;
+mod sights;
+mod stop;
+mod stream_command;
+mod unload_command;
+
+pub use commands::{play, stopped};
+pub use hd_files::Named;
+pub use hd_output::{Progress, Silent, Terminal};
+pub use sample::{DBD_SOURCE, PSB_SOURCE, database, program};
+pub use stop::{COMMAND_LINE, Stop};

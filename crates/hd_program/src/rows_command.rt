@@ -1,0 +1,115 @@
+ghost use Rattle.std.specs.Prelude.{◌≡◌, ◌<◌};
+ghost use Rattle.hd_dbd.specs.Facts.{stored_sizes};
+
+use crate::check_command::load_volume;
+use crate::dbd_source::{CACHE, read_database};
+use crate::stop::Stop;
+use hd_commands::{Ended, Refusal, refuse};
+use hd_dbd::Dbd;
+use hd_files::{Watched, cached_blocks, open_read_volume};
+use hd_output::Pieces;
+use hd_rows::{Form, RowWriter, code_named};
+use hd_stores::BlockStore;
+use hd_unload::{UnloadFault, unload};
+use hd_volume::Volume;
+use std::alloc::Global;
+use std::fs::File;
+use std::io::{self, ErrorKind, Write};
+use std::marker::Brand;
+use std::rt::Files;
+use std::sync::ledger::{Blank, Ledger};
+
+/// Why the rows of a volume were not written: a writer of rows that finds no memory for one refuses a write.
+fn refusal_of(fault: UnloadFault, said: Option<io::Error>) -> Refusal {
+    match said {
+        Some(error) if error.kind() == ErrorKind::OutOfMemory && fault == UnloadFault::Write => {
+            Refusal::Memory
+        }
+        _ => Refusal::of_unload(fault),
+    }
+}
+
+/// Checks a volume, and writes its stream to a writer of rows.
+fn unload_into<S: BlockStore, W: Write + Drop>(
+    alloc: Global,
+    volume: &mut Volume<S>,
+    dbd: &Dbd,
+    rows: W,
+) -> Result<(), Refusal>
+    requires { (volume.old.size ≡ dbd.now.block_size) × (volume.old.sizes ≡ stored_sizes dbd.now.types) }
+{
+    let mut rows = Watched::over(rows);
+    match unload(alloc, volume, dbd, &mut rows) {
+        Ok(_) => Ok(()),
+        Err(fault) => Err(refusal_of(fault, rows.last_error())),
+    }
+}
+
+/// Checks the volume in a file, and writes its rows as text, with a ledger for the accesses that fail.
+fn list<L: Ledger, O: Write, E: Write>(
+    alloc: Global,
+    dbd: &Dbd,
+    file: File,
+    form: Form,
+    cache: u32,
+    blank: Blank,
+    out: &mut O,
+    err: &mut E,
+) -> Result<Ended, Stop>
+    requires name { blank.name ≡ L.name }
+    requires parts { blank.parts ≡ L.parts }
+    requires share { 0 < blank.parts }
+{
+    let store = cached_blocks::<L>(alloc, dbd, file, cache, blank)?;
+    let mut volume = load_volume(alloc, dbd, store)?;
+    let Ok(mut lines) = Pieces::new(alloc, out) else {
+        return Err(Stop::from(Refusal::Memory));
+    };
+    let rows = RowWriter::new(alloc, dbd, form, &mut lines)?;
+    match unload_into(alloc, &mut volume, dbd, rows) {
+        Ok(()) => Ok(Ended::with_status(0)),
+        Err(refusal) => Ok(refuse(refusal, err)),
+    }
+}
+
+/// As `list`, with a ledger of its own.
+fn list_file<O: Write, E: Write>(
+    alloc: Global,
+    dbd: &Dbd,
+    file: File,
+    form: Form,
+    cache: u32,
+    out: &mut O,
+    err: &mut E,
+) -> Result<Ended, Stop> {
+    list::<Brand, O, E>(alloc, dbd, file, form, cache, Blank::new(1), out, err)
+}
+
+/// Checks the volume in a file, which is opened for reading alone, and writes its rows in hierarchic sequence, a line each; or those of one
+/// type as CSV. The DBD is read and judged first. Nothing is written before the volume has passed.
+pub fn list_rows<R, O, E>(
+    rt: &R,
+    alloc: Global,
+    dbd: &str,
+    volume: &str,
+    table: Option<&str>,
+    cache: Option<u32>,
+    out: &mut O,
+    err: &mut E,
+) -> Result<Ended, Stop>
+where
+    R: Files<File = File>,
+    O: Write,
+    E: Write,
+{
+    let (dbd, _) = read_database(rt, alloc, dbd)?;
+    let form = match table {
+        Some(name) => match code_named(&dbd, name.as_bytes()) {
+            Some(code) => Form::Table(code),
+            None => return Err(Stop::NoType),
+        },
+        None => Form::Rows,
+    };
+    let (file, _) = open_read_volume(rt, volume)?;
+    list_file(alloc, &dbd, file, form, cache.unwrap_or(CACHE), out, err)
+}

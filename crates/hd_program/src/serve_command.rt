@@ -1,0 +1,129 @@
+ghost use Rattle.std.specs.Prelude.{◌≡◌, ◌<◌};
+ghost use Rattle.hd_dbd.specs.ProgramRules.{type_names};
+
+use crate::dbd_source::{blocks_for_calls, read_database};
+use crate::deck_command::read_program;
+use crate::stop::Stop;
+use hd_commands::{Ended, Refusal, refuse, status_of_calls};
+use hd_dbd::{Dbd, Psb};
+use hd_deck::RunFault;
+use hd_files::{Named, NamedFile, OpenVolume, cached, open_volume};
+use hd_serve::{FrameFault, ServeFault, serve};
+use std::alloc::Global;
+use std::fs::File;
+use std::io::{Read, Write};
+use std::marker::Brand;
+use std::rt::Files;
+use std::sync::ledger::{Blank, Ledger};
+
+/// How serving ended that did not go on to the end of its input: a volume that is refused is told as a deck tells it.
+fn end_of<E: Write>(fault: ServeFault, err: &mut E) -> Result<Ended, Stop> {
+    match fault {
+        ServeFault::Open(fault) => Ok(refuse(Refusal::of_run(RunFault::Open(fault)), err)),
+        ServeFault::Hello => Err(Stop::Fields),
+        ServeFault::Memory | ServeFault::Frame(FrameFault::Memory) => Err(Stop::from(
+            Refusal::Memory,
+        )),
+        ServeFault::Device | ServeFault::Write | ServeFault::Frame(FrameFault::Read) => Err(
+            Stop::from(Refusal::Device),
+        ),
+        ServeFault::Frame(fault) => Err(Stop::Frame(fault)),
+    }
+}
+
+/// Serves calls over the volume in a file, with a ledger for the accesses that fail. Every block that they changed is then in the file, and on the disk
+/// if that is wanted.
+fn serve_over<L: Ledger, R: Files<File = File>, I: Read, O: Write, E: Write>(
+    alloc: Global,
+    dbd: &Dbd,
+    psb: &Psb,
+    volume: OpenVolume<'_, R>,
+    cache: u32,
+    syncs: bool,
+    blank: Blank,
+    input: &mut I,
+    out: &mut O,
+    err: &mut E,
+) -> Result<Ended, Stop>
+    requires name { blank.name ≡ L.name }
+    requires parts { blank.parts ≡ L.parts }
+    requires share { 0 < blank.parts }
+    requires matches { psb.now.made_for ≡ type_names dbd.now.types }
+{
+    let store = NamedFile::<R, L>::over(volume, dbd, blank)?;
+    let store = cached(alloc, store, cache)?;
+    let (store, served) = match serve(alloc, store, dbd, psb, input, out) {
+        Ok(end) => (end.store, Ok(end.memory)),
+        Err((store, fault)) => (store, Err(fault)),
+    };
+    let (store, written) = store.into_store();
+    let file = store.into_store();
+    let kept = file.keep(written, syncs);
+    match served {
+        Err(ServeFault::Device) => Err(Stop::device(Named::Volume, file.last_error())),
+        Err(fault) => {
+            kept?;
+            end_of(fault, err)
+        }
+        Ok(memory) => {
+            kept?;
+            Ok(Ended::with_status(status_of_calls(memory)))
+        }
+    }
+}
+
+/// As `serve_over`, with a ledger of its own.
+fn serve_over_file<R: Files<File = File>, I: Read, O: Write, E: Write>(
+    alloc: Global,
+    dbd: &Dbd,
+    psb: &Psb,
+    volume: OpenVolume<'_, R>,
+    cache: u32,
+    syncs: bool,
+    input: &mut I,
+    out: &mut O,
+    err: &mut E,
+) -> Result<Ended, Stop>
+    requires matches { psb.now.made_for ≡ type_names dbd.now.types }
+{
+    serve_over::<Brand, R, I, O, E>(
+        alloc,
+        dbd,
+        psb,
+        volume,
+        cache,
+        syncs,
+        Blank::new(1),
+        input,
+        out,
+        err,
+    )
+}
+
+/// Serves a program's calls over the volume in a file, which is changed in place: they come as frames from `input`, and each is answered by a frame on
+/// `out`. The DBD and the PSB are read and judged first, then the volume is opened, and no other program opens it until the end of the input; only
+/// then is it judged. Says how it ended.
+pub fn serve_file<R, I, O, E>(
+    rt: &R,
+    alloc: Global,
+    dbd: &str,
+    psb: &str,
+    volume: &str,
+    cache: Option<u32>,
+    syncs: bool,
+    input: &mut I,
+    out: &mut O,
+    err: &mut E,
+) -> Result<Ended, Stop>
+where
+    R: Files<File = File>,
+    I: Read,
+    O: Write,
+    E: Write,
+{
+    let (dbd, source) = read_database(rt, alloc, dbd)?;
+    let (psb, program) = read_program(rt, alloc, &dbd, psb)?;
+    let volume = open_volume(rt, volume, &[source, program])?;
+    let kept = cache.unwrap_or(blocks_for_calls(&dbd));
+    serve_over_file(alloc, &dbd, &psb, volume, kept, syncs, input, out, err)
+}

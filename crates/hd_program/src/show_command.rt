@@ -1,0 +1,127 @@
+ghost use Rattle.std.specs.Prelude.{◌≡◌, ◌<◌};
+
+use crate::check_command::load_volume;
+use crate::dbd_source::{CACHE, read_database};
+use crate::stop::Stop;
+use hd_commands::{Ended, Refusal, check_volume};
+use hd_dbd::Dbd;
+use hd_files::{Named, Output, Wanted, cached_blocks, of_file, open_read_volume};
+use hd_output::Pieces;
+use hd_show::{Survey, draw_database, draw_svg, draw_volume, survey_volume};
+use std::alloc::Global;
+use std::fs::File;
+use std::io::Write;
+use std::marker::Brand;
+use std::rt::Files;
+use std::sync::ledger::{Blank, Ledger};
+
+/// Draws a volume that was surveyed, as text.
+fn draw_text<O: Write>(alloc: Global, dbd: &Dbd, survey: &Survey, out: &mut O) -> Result<(), Stop> {
+    let Ok(mut lines) = Pieces::new(alloc, out) else {
+        return Err(Stop::from(Refusal::Memory));
+    };
+    draw_volume(survey, dbd, &mut lines)?;
+    lines.flush()?;
+    Ok(())
+}
+
+/// Draws a volume that was surveyed, as a picture in a file, which then gets its name.
+fn draw_picture<R: Files<File = File>>(
+    alloc: Global,
+    dbd: &Dbd,
+    survey: &Survey,
+    mut picture: Output<'_, R>,
+) -> Result<(), Stop> {
+    let Ok(mut lines) = Pieces::new(alloc, &mut picture) else {
+        return Err(Stop::from(Refusal::Memory));
+    };
+    of_file(Named::Picture, draw_svg(survey, dbd, &mut lines))?;
+    of_file(Named::Picture, lines.flush())?;
+    drop(lines);
+    picture.publish()?;
+    Ok(())
+}
+
+/// Draws the volume in a file, and judges it, with a ledger for the accesses that fail.
+fn show<L: Ledger, R: Files<File = File>, O: Write, E: Write>(
+    alloc: Global,
+    dbd: &Dbd,
+    file: File,
+    picture: Option<Output<'_, R>>,
+    cache: u32,
+    blank: Blank,
+    out: &mut O,
+    err: &mut E,
+) -> Result<Ended, Stop>
+    requires name { blank.name ≡ L.name }
+    requires parts { blank.parts ≡ L.parts }
+    requires share { 0 < blank.parts }
+{
+    let store = cached_blocks::<L>(alloc, dbd, file, cache, blank)?;
+    let mut volume = load_volume(alloc, dbd, store)?;
+    let survey = survey_volume(alloc, &mut volume, dbd)?;
+    match picture {
+        Some(picture) => draw_picture(alloc, dbd, &survey, picture)?,
+        None => draw_text(alloc, dbd, &survey, out)?,
+    }
+    Ok(check_volume(alloc, &mut volume, dbd, out, err))
+}
+
+/// As `show`, with a ledger of its own.
+fn show_file<R: Files<File = File>, O: Write, E: Write>(
+    alloc: Global,
+    dbd: &Dbd,
+    file: File,
+    picture: Option<Output<'_, R>>,
+    cache: u32,
+    out: &mut O,
+    err: &mut E,
+) -> Result<Ended, Stop> {
+    show::<Brand, R, O, E>(alloc, dbd, file, picture, cache, Blank::new(1), out, err)
+}
+
+/// Draws the hierarchy that a DBD describes.
+pub fn show_database<R, O>(rt: &R, alloc: Global, dbd: &str, out: &mut O) -> Result<Ended, Stop>
+where
+    R: Files<File = File>,
+    O: Write,
+{
+    let (dbd, _) = read_database(rt, alloc, dbd)?;
+    draw_database(&dbd, out)?;
+    Ok(Ended::with_status(0))
+}
+
+/// Draws the volume in a file, which is opened for reading alone, as text, or as a picture into another file; and judges it. The DBD is read
+/// and judged first, then the files are opened. A volume with a fault is drawn as far as it can be read.
+pub fn show_volume<R, O, E>(
+    rt: &R,
+    alloc: Global,
+    dbd: &str,
+    volume: &str,
+    picture: Option<&str>,
+    cache: Option<u32>,
+    syncs: bool,
+    out: &mut O,
+    err: &mut E,
+) -> Result<Ended, Stop>
+where
+    R: Files<File = File>,
+    O: Write,
+    E: Write,
+{
+    let (dbd, source) = read_database(rt, alloc, dbd)?;
+    let (file, image) = open_read_volume(rt, volume)?;
+    let picture = match picture {
+        Some(name) => {
+            let wanted = Wanted {
+                name,
+                word: Named::Picture,
+                is_read: false,
+                syncs,
+            };
+            Some(Output::open(rt, alloc, wanted, &[source, image])?)
+        }
+        None => None,
+    };
+    show_file(alloc, &dbd, file, picture, cache.unwrap_or(CACHE), out, err)
+}

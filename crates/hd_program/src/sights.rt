@@ -1,0 +1,171 @@
+ghost use Rattle.std.specs.Prelude.{◌≡◌, ◌<◌};
+
+use crate::beginning::Beginning;
+use crate::check_command::load_volume;
+use crate::dbd_source::{CACHE, read_database};
+use crate::stop::Stop;
+use hd_commands::Refusal;
+use hd_dbd::{Dbd, Name8};
+use hd_files::{Named, cached_blocks, open, open_read_volume};
+use hd_show::see_segment;
+use hd_unload::RecordFault;
+use hd_words::Request;
+use std::alloc::Global;
+use std::fs::{File, OpenOptions};
+use std::io;
+use std::marker::Brand;
+use std::os::unix::fs::FileExt;
+use std::rt::Files;
+use std::sync::ledger::{Blank, Ledger};
+
+/// What is seen in a file of which a refusal tells.
+#[derive(Drop)]
+pub enum Sight {
+    /// The segment at the place of a fault.
+    Segment(Sighted),
+    /// What the file of this word is, which is something else than what is wanted.
+    Kind(Named, Beginning),
+    /// How long a volume's file is.
+    Length(VolumeLength),
+}
+
+/// How long a volume's file is, how many blocks of how many bytes its header tells of, and how many bytes a block of the database has.
+#[derive(Clone, Copy)]
+pub struct VolumeLength {
+    pub found: u64,
+    pub blocks: u32,
+    pub size: u32,
+    pub block_size: u32,
+}
+
+/// A segment that stands where a fault of a volume is: its address, the name of its type, and its key, without bytes where the type has none.
+#[derive(Drop)]
+pub struct Sighted {
+    pub address: u32,
+    pub name: Name8,
+    pub key: Vec<u8>,
+}
+
+/// The segment of which a refusal tells: that at the place of the fault, or for an entry of the index that at the address in the entry.
+fn address_of(refusal: Refusal) -> Option<u32> {
+    match refusal {
+        Refusal::Fault(fault) => match fault.number() {
+            6..=14 | 18 => Some(fault.address),
+            17 => Some(fault.other),
+            _ => None,
+        },
+        _ => None,
+    }
+}
+
+/// Whether a refusal says that a file is no whole volume.
+fn is_of_file(refusal: Refusal) -> bool {
+    match refusal {
+        Refusal::Fault(fault) => fault.number() == 1,
+        _ => false,
+    }
+}
+
+/// Sees the segment at an address of the volume in a file, with a ledger for the accesses that fail.
+fn see<L: Ledger>(
+    alloc: Global,
+    dbd: &Dbd,
+    file: File,
+    address: u32,
+    blank: Blank,
+) -> Result<Option<Sighted>, Stop>
+    requires name { blank.name ≡ L.name }
+    requires parts { blank.parts ≡ L.parts }
+    requires share { 0 < blank.parts }
+{
+    let store = cached_blocks::<L>(alloc, dbd, file, CACHE, blank)?;
+    let mut volume = load_volume(alloc, dbd, store)?;
+    let Some(seen) = see_segment(alloc, &mut volume, dbd, address)? else {
+        return Ok(None);
+    };
+    let Some(segment) = dbd.type_of(seen.code) else {
+        return Ok(None);
+    };
+    Ok(Some(Sighted {
+        address,
+        name: segment.name,
+        key: seen.key,
+    }))
+}
+
+/// As `see`, with a ledger of its own.
+fn see_file(alloc: Global, dbd: &Dbd, file: File, address: u32) -> Result<Option<Sighted>, Stop> {
+    see::<Brand>(alloc, dbd, file, address, Blank::new(1))
+}
+
+/// How many bytes of a file are looked at to tell what it is.
+const HEAD: usize = 64;
+
+/// The first bytes of a file, and how many they are.
+fn head_of(file: &File) -> io::Result<([u8; HEAD], usize)> {
+    let mut head = [0; HEAD];
+    let count = file.read_at(&mut head, 0)?;
+    Ok((head, count))
+}
+
+/// What a file is whose first bytes are read, where it is something else than what its word wants.
+fn kind_of(word: Named, beginning: Beginning) -> Option<Sight> {
+    match beginning {
+        Beginning::Unknown => None,
+        _ => Some(Sight::Kind(word, beginning)),
+    }
+}
+
+/// How long a volume's file is, with what its header and the database tell of it.
+fn length_of(file: &File, head: &[u8; HEAD], dbd: &Dbd) -> io::Result<VolumeLength> {
+    let [_, _, _, _, _, _, _, _, _, _, s1, s0, b3, b2, b1, b0, ..] = *head;
+    Ok(VolumeLength {
+        found: file.metadata()?.len(),
+        blocks: u32::from_be_bytes([b3, b2, b1, b0]),
+        size: u32::from(u16::from_be_bytes([s1, s0])),
+        block_size: dbd.block_size(),
+    })
+}
+
+/// What the file is that was given for a volume and is none; or how long the volume is.
+fn see_volume(file: &File, dbd: &Dbd) -> io::Result<Option<Sight>> {
+    let (head, count) = head_of(file)?;
+    match Beginning::of(head.get(..count).unwrap_or(&[])) {
+        Beginning::Volume => Ok(Some(Sight::Length(length_of(file, &head, dbd)?))),
+        _ if count == 0 => Ok(Some(Sight::Length(length_of(file, &head, dbd)?))),
+        beginning => Ok(kind_of(Named::Volume, beginning)),
+    }
+}
+
+/// What the file is that was given for an unload stream and is none.
+fn see_stream<R: Files<File = File>>(rt: &R, name: &str) -> io::Result<Option<Sight>> {
+    let mut options = OpenOptions::new();
+    options.read(true);
+    let (head, count) = head_of(&open(rt, &options, name)?)?;
+    let beginning = Beginning::of(head.get(..count).unwrap_or(&[]));
+    Ok(kind_of(Named::Stream, beginning))
+}
+
+/// What is seen where the refusal of a command tells of its volume, or of its stream. The file is opened once more, for reading alone; `None` where
+/// the refusal tells of nothing that can be seen, and where nothing can be read.
+pub fn see_refused<R: Files<File = File>>(
+    rt: &R,
+    alloc: Global,
+    request: &Request<'_>,
+    refusal: Refusal,
+) -> Option<Sight> {
+    if let Refusal::Record(RecordFault::U1, _) = refusal {
+        return see_stream(rt, request.name_of(Named::Stream)).ok()?;
+    }
+    let address = address_of(refusal);
+    if address.is_none() && !is_of_file(refusal) {
+        return None;
+    }
+    let (dbd, _) = read_database(rt, alloc, request.name_of(Named::Dbd)).ok()?;
+    let (file, _) = open_read_volume(rt, request.name_of(Named::Volume)).ok()?;
+    let Some(address) = address else {
+        return see_volume(&file, &dbd).ok()?;
+    };
+    let seen = see_file(alloc, &dbd, file, address).ok()??;
+    Some(Sight::Segment(seen))
+}

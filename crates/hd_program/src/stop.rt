@@ -1,0 +1,154 @@
+use hd_commands::Refusal;
+use hd_dbd::Refused;
+use hd_deck::DeckFault;
+use hd_files::{FileFault, Named};
+use hd_gen::GenFault;
+use hd_rows::RowFault;
+use hd_serve::FrameFault;
+use std::alloc::{AllocError, AllocFailed};
+use std::io::{self, ErrorKind};
+use thiserror::Error;
+
+/// The status where the command line is not understood, or would write over an input.
+pub const COMMAND_LINE: u8 = 64;
+
+/// Why the program ended without having done its work. Its text is the line on standard error.
+#[derive(Debug, Drop, Error)]
+pub enum Stop {
+    /// The DBD's source has a fault; with the source.
+    #[error("DBD refused: {0}")]
+    Database(GenFault, Vec<u8>),
+    /// The PSB's source has a fault; with the source.
+    #[error("PSB refused: {0}")]
+    Program(GenFault, Vec<u8>),
+    /// The deck has a fault; with the deck, and the file that it stands in.
+    #[error("DECK refused: {0}")]
+    Deck(DeckFault, Vec<u8>, Named),
+    /// A text of rows has a fault on a line; with the text.
+    #[error("IN refused: line {1}, {0}")]
+    Rows(RowFault, u64, Vec<u8>),
+    /// A table has a fault on a line; with the name of its type.
+    #[error("IN refused: {1}.csv, line {2}, {0}")]
+    Table(RowFault, String, u64),
+    /// The system refused to open, to read or to write a file.
+    #[error("device failed")]
+    File(Named, io::Error),
+    /// The system refused to make a new file beside one, in which the result for it was to be written.
+    #[error("device failed")]
+    Beside(Named, io::Error),
+    #[error("output file is also an input, nothing was changed")]
+    OverInput,
+    #[error("volume is in use")]
+    InUse(Named),
+    #[error("a word of the command line is not UTF-8")]
+    Words,
+    #[error("the database has no type of this name")]
+    NoType,
+    /// A frame of the program whose calls are served is no right one.
+    #[error("frame refused: {0}")]
+    Frame(FrameFault),
+    /// A type's fields can't be told to a program whose calls are to be served.
+    #[error("DBD refused: a type has more than 255 fields")]
+    Fields,
+    #[error("{0}")]
+    Refused(Refusal),
+}
+
+impl Stop {
+    /// The DBD's source is refused, or could not be read for want of memory.
+    pub fn database(fault: GenFault, source: Vec<u8>) -> Stop {
+        match fault {
+            GenFault::Memory => Stop::Refused(Refusal::Memory),
+            _ => Stop::Database(fault, source),
+        }
+    }
+
+    /// The PSB's source is refused, or could not be read for want of memory.
+    pub fn program(fault: GenFault, source: Vec<u8>) -> Stop {
+        match fault {
+            GenFault::Memory => Stop::Refused(Refusal::Memory),
+            _ => Stop::Program(fault, source),
+        }
+    }
+
+    /// The deck in a file is refused, or could not be read for want of memory.
+    pub fn deck(fault: DeckFault, text: Vec<u8>, file: Named) -> Stop {
+        match fault {
+            DeckFault::Memory => Stop::Refused(Refusal::Memory),
+            _ => Stop::Deck(fault, text, file),
+        }
+    }
+
+    /// A file could not be opened, read or written, or there is no memory for its bytes.
+    pub fn file(file: Named, error: io::Error) -> Stop {
+        Stop::from(FileFault::file(file, error))
+    }
+
+    /// An access of a file failed while a command was at work; with what the system said of it, if that is known.
+    pub fn device(file: Named, said: Option<io::Error>) -> Stop {
+        Stop::from(FileFault::device(file, said))
+    }
+
+    /// The words of the command line could not be read: one is no text, or there is no memory for them.
+    pub fn words(error: &io::Error) -> Stop {
+        match error.kind() {
+            ErrorKind::OutOfMemory => Stop::Refused(Refusal::Memory),
+            _ => Stop::Words,
+        }
+    }
+
+    /// The status with which the program ends.
+    pub fn status(&self) -> u8 {
+        match self {
+            Stop::Database(_, _) | Stop::Program(_, _) => 2,
+            Stop::Deck(_, _, _) | Stop::Rows(_, _, _) | Stop::Table(_, _, _) => 2,
+            Stop::Fields => 2,
+            Stop::File(_, _) | Stop::Beside(_, _) | Stop::InUse(_) | Stop::Frame(_) => 3,
+            Stop::OverInput | Stop::Words | Stop::NoType => COMMAND_LINE,
+            Stop::Refused(refusal) => refusal.status(),
+        }
+    }
+}
+
+impl From<FileFault> for Stop {
+    fn from(fault: FileFault) -> Stop {
+        match fault {
+            FileFault::File(file, error) => Stop::File(file, error),
+            FileFault::Beside(file, error) => Stop::Beside(file, error),
+            FileFault::InUse(file) => Stop::InUse(file),
+            FileFault::OverInput => Stop::OverInput,
+            FileFault::Memory => Stop::Refused(Refusal::Memory),
+            FileFault::Device => Stop::Refused(Refusal::Device),
+        }
+    }
+}
+
+impl From<Refusal> for Stop {
+    fn from(refusal: Refusal) -> Stop {
+        Stop::Refused(refusal)
+    }
+}
+
+impl From<Refused> for Stop {
+    fn from(refused: Refused) -> Stop {
+        Stop::Refused(Refusal::of_refused(refused))
+    }
+}
+
+impl From<io::Error> for Stop {
+    fn from(_error: io::Error) -> Stop {
+        Stop::Refused(Refusal::Device)
+    }
+}
+
+impl From<AllocError> for Stop {
+    fn from(_error: AllocError) -> Stop {
+        Stop::Refused(Refusal::Memory)
+    }
+}
+
+impl<T: Drop> From<AllocFailed<T>> for Stop {
+    fn from(_error: AllocFailed<T>) -> Stop {
+        Stop::Refused(Refusal::Memory)
+    }
+}

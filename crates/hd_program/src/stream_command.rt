@@ -1,0 +1,233 @@
+use crate::dbd_source::read_database;
+use crate::stop::Stop;
+use hd_commands::{Ended, Refusal};
+use hd_dbd::{Dbd, Name8, SegType};
+use hd_files::{FileFault, Identity, Named, Output, Wanted, Watched, read_file};
+use hd_output::Pieces;
+use hd_rows::{TextFault, stream_of_rows, stream_of_tables};
+use std::alloc::{AllocError, Global};
+use std::fs::File;
+use std::io::{self, ErrorKind, Write};
+use std::rt::Files;
+
+/// A stream's file that is to be written, with what gathers its records.
+fn records_into<W: Write>(alloc: Global, file: &mut W) -> Result<Pieces<&mut W>, Stop> {
+    match Pieces::new(alloc, file) {
+        Ok(records) => Ok(records),
+        Err(_) => Err(Stop::from(Refusal::Memory)),
+    }
+}
+
+/// A stream that was made, once all of its records are handed on. What a refusal leaves gathered is not.
+fn handed_on<W: Write>(
+    made: Result<u32, TextFault>,
+    records: &mut Pieces<W>,
+) -> Result<u32, TextFault> {
+    let segments = made?;
+    match records.flush() {
+        Ok(()) => Ok(segments),
+        Err(_) => Err(TextFault::Write),
+    }
+}
+
+/// Gives a stream's file the name, and says how many segments the stream has.
+fn end_stream<R: Files<File = File>, O: Write>(
+    segments: u32,
+    output: &mut Output<'_, R>,
+    out: &mut O,
+) -> Result<Ended, Stop> {
+    output.publish()?;
+    writeln!(out, "made a stream of {segments} segments")?;
+    Ok(Ended::with_status(0))
+}
+
+/// Where a stream is to go.
+fn wanted(stream: &str, syncs: bool) -> Wanted<'_> {
+    Wanted {
+        name: stream,
+        word: Named::Out,
+        is_read: false,
+        syncs,
+    }
+}
+
+/// Makes an unload stream, in a file, of a text of rows in another. The DBD is read and judged first, then the text is read, then the
+/// stream's file is opened; only when the whole stream is written does it take the place of that file. Says how many segments the stream has.
+pub fn make_of_rows<R, O>(
+    rt: &R,
+    alloc: Global,
+    dbd: &str,
+    rows: &str,
+    stream: &str,
+    syncs: bool,
+    out: &mut O,
+) -> Result<Ended, Stop>
+where
+    R: Files<File = File>,
+    O: Write,
+{
+    let (dbd, source) = read_database(rt, alloc, dbd)?;
+    let (text, given) = read_file(rt, alloc, rows, Named::Rows)?;
+    let mut output = Output::open(rt, alloc, wanted(stream, syncs), &[source, given])?;
+    let mut file = Watched::over(&mut output);
+    let mut records = records_into(alloc, &mut file)?;
+    let made = stream_of_rows(alloc, &dbd, &text, &mut records);
+    let made = handed_on(made, &mut records);
+    drop(records);
+    let said = file.last_error();
+    drop(file);
+    match made {
+        Ok(segments) => end_stream(segments, &mut output, out),
+        Err(fault) => Err(rows_refused(fault, text, said)),
+    }
+}
+
+/// Why a text of rows makes no stream.
+fn rows_refused(fault: TextFault, text: Vec<u8>, said: Option<io::Error>) -> Stop {
+    match fault {
+        TextFault::Row(fault, line) | TextFault::Table(fault, _, line) => {
+            Stop::Rows(fault, line, text)
+        }
+        TextFault::Memory => Stop::from(Refusal::Memory),
+        TextFault::Write => Stop::device(Named::Out, said),
+    }
+}
+
+/// The tables in a folder: for each the code of its type and the bytes of its file; and all files that the command reads.
+#[derive(Drop)]
+struct Tables {
+    codes: Vec<u8>,
+    texts: Vec<Vec<u8>>,
+    files: Vec<Identity>,
+}
+
+/// The name of a type without its padding.
+pub fn text_of(name: &Name8) -> &str {
+    match str::from_utf8(name.bytes()) {
+        Ok(text) => text.trim_end(),
+        Err(_) => "",
+    }
+}
+
+/// The bytes of a file, if it is there.
+fn read_if_there<R: Files<File = File>>(
+    rt: &R,
+    alloc: Global,
+    name: &str,
+) -> Result<Option<(Vec<u8>, Identity)>, Stop> {
+    match read_file(rt, alloc, name, Named::Rows) {
+        Ok(read) => Ok(Some(read)),
+        Err(FileFault::File(file, error)) => {
+            if error.kind() == ErrorKind::NotFound {
+                return Ok(None);
+            }
+            Err(Stop::File(file, error))
+        }
+        Err(fault) => Err(Stop::from(fault)),
+    }
+}
+
+/// Adds the table of a type in a folder, if there is one.
+fn add_table<R: Files<File = File>>(
+    rt: &R,
+    alloc: Global,
+    tables: &mut Tables,
+    segment: &SegType,
+    code: u8,
+    folder: &str,
+) -> Result<(), Stop> {
+    let name = text_of(&segment.name);
+    let file = format!(in alloc; "{folder}/{name}.csv")?;
+    if let Some((text, identity)) = read_if_there(rt, alloc, &file)? {
+        tables.codes.push(code)?;
+        tables.texts.push(text)?;
+        tables.files.push(identity)?;
+    }
+    Ok(())
+}
+
+/// The tables in a folder, those of the types of a database.
+fn read_tables<R: Files<File = File>>(
+    rt: &R,
+    alloc: Global,
+    dbd: &Dbd,
+    source: Identity,
+    folder: &str,
+) -> Result<Tables, Stop> {
+    let mut tables = Tables {
+        codes: Vec::new(alloc),
+        texts: Vec::new(alloc),
+        files: Vec::new(alloc),
+    };
+    tables.files.push(source)?;
+    let mut code = 0u8;
+    for segment in dbd.types() {
+        code = code.saturating_add(1);
+        add_table(rt, alloc, &mut tables, segment, code, folder)?;
+    }
+    if tables.codes.is_empty() {
+        let error = io::Error::from(ErrorKind::NotFound);
+        return Err(Stop::File(Named::Rows, error));
+    }
+    Ok(tables)
+}
+
+/// The codes of tables, each with the bytes of its table.
+fn pairs_of<'a>(alloc: Global, tables: &'a Tables) -> Result<Vec<(u8, &'a [u8])>, AllocError> {
+    let mut pairs = Vec::new(alloc);
+    for (code, text) in tables.codes.iter().zip(&tables.texts) {
+        pairs.push((*code, text.as_slice()))?;
+    }
+    Ok(pairs)
+}
+
+/// Makes an unload stream, in a file, of the tables in a folder, each in a file that has the name of its type and the ending `.csv`. All
+/// else is as with a text of rows.
+pub fn make_of_tables<R, O>(
+    rt: &R,
+    alloc: Global,
+    dbd: &str,
+    folder: &str,
+    stream: &str,
+    syncs: bool,
+    out: &mut O,
+) -> Result<Ended, Stop>
+where
+    R: Files<File = File>,
+    O: Write,
+{
+    let (dbd, source) = read_database(rt, alloc, dbd)?;
+    let tables = read_tables(rt, alloc, &dbd, source, folder)?;
+    let mut output = Output::open(rt, alloc, wanted(stream, syncs), &tables.files)?;
+    let pairs = pairs_of(alloc, &tables)?;
+    let mut file = Watched::over(&mut output);
+    let mut records = records_into(alloc, &mut file)?;
+    let made = stream_of_tables(alloc, &dbd, &pairs, &mut records);
+    let made = handed_on(made, &mut records);
+    drop(records);
+    let said = file.last_error();
+    drop(file);
+    match made {
+        Ok(segments) => end_stream(segments, &mut output, out),
+        Err(fault) => Err(tables_refused(alloc, &dbd, fault, said)),
+    }
+}
+
+/// Why tables make no stream.
+fn tables_refused(alloc: Global, dbd: &Dbd, fault: TextFault, said: Option<io::Error>) -> Stop {
+    match fault {
+        TextFault::Row(fault, line) => Stop::Rows(fault, line, Vec::new(alloc)),
+        TextFault::Table(fault, code, line) => {
+            let name = match dbd.type_of(code) {
+                Some(segment) => segment.name,
+                None => return Stop::Rows(fault, line, Vec::new(alloc)),
+            };
+            match String::from_str(alloc, text_of(&name)) {
+                Ok(name) => Stop::Table(fault, name, line),
+                Err(_) => Stop::from(Refusal::Memory),
+            }
+        }
+        TextFault::Memory => Stop::from(Refusal::Memory),
+        TextFault::Write => Stop::device(Named::Out, said),
+    }
+}

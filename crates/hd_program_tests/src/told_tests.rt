@@ -1,0 +1,179 @@
+//! That commands tell how far they are, and take it away before a line and at the end.
+use crate::words::words_of;
+use hd_program::{DBD_SOURCE, PSB_SOURCE, Progress, Silent, play};
+use std::cell::Cell;
+use std::fs::{self, File};
+use std::io::{self, Write};
+use std::process::Abort;
+use std::rt::Files;
+use std::test::Fail;
+
+/// What was told, and whether something is shown.
+#[derive(Drop)]
+struct Told {
+    tells: Cell<u64>,
+    accesses: Cell<u64>,
+    blocks: Cell<u64>,
+    answered: Cell<u64>,
+    calls: Cell<u64>,
+    is_shown: Cell<bool>,
+}
+
+impl Told {
+    fn nothing() -> Told {
+        Told {
+            tells: Cell::new(0),
+            accesses: Cell::new(0),
+            blocks: Cell::new(0),
+            answered: Cell::new(0),
+            calls: Cell::new(0),
+            is_shown: Cell::new(false),
+        }
+    }
+}
+
+impl Progress for Told {
+    fn tell(&self, _doing: &str, accesses: u64, blocks: u64) {
+        self.tells.set(self.tells.get().saturating_add(1));
+        self.accesses.set(accesses);
+        self.blocks.set(blocks);
+        self.is_shown.set(true);
+    }
+
+    fn answered(&self, answered: u64, calls: u64) {
+        self.answered.set(answered);
+        self.calls.set(calls);
+    }
+
+    fn end(&self) {
+        self.is_shown.set(false);
+    }
+
+    fn end_before_output(&self) {
+        self.end();
+    }
+}
+
+/// A writer that notes whether it is written to while progress is shown.
+#[derive(Drop)]
+struct Line<'t> {
+    told: &'t Told,
+    count: usize,
+    is_mixed: bool,
+}
+
+impl<'t> Write for Line<'t> {
+    fn write(&mut self, buf: &[u8]) -> io::Result<usize> {
+        self.is_mixed = self.is_mixed || self.told.is_shown.get();
+        self.count = self.count.saturating_add(buf.len());
+        Ok(buf.len())
+    }
+
+    fn flush(&mut self) -> io::Result<()> {
+        Ok(())
+    }
+}
+
+/// The words end with a status; meanwhile progress is told of a volume of so many blocks at most, and of so many calls, all of which are answered, and none
+/// of it is seen beside a line or at the end.
+fn expect_told<R: Files<File = File> + AllocGlobal + Abort>(
+    rt: &R,
+    line: &str,
+    status: u8,
+    blocks: u64,
+    calls: u64,
+) -> Result<(), Fail> {
+    let given = words_of(rt.alloc(), line)?;
+    let told = Told::nothing();
+    let mut input: &[u8] = b"";
+    let mut out = Line {
+        told: &told,
+        count: 0,
+        is_mixed: false,
+    };
+    let mut err = Line {
+        told: &told,
+        count: 0,
+        is_mixed: false,
+    };
+    let ended = play(rt, &given, false, &told, &mut input, &mut out, &mut err);
+    assert_eq!(rt; ended, status, "{line}");
+    let tells = told.tells.get();
+    assert!(rt;
+        tells > 0 && told.accesses.get() == tells.saturating_mul(256),
+        "{line}"
+    );
+    assert!(rt; told.blocks.get() <= blocks, "{line}");
+    assert_eq!(rt; (told.answered.get(), told.calls.get()), (calls, calls));
+    assert!(rt;
+        !(told.is_shown.get() || out.is_mixed || err.is_mixed),
+        "{line}"
+    );
+    assert_eq!(rt; (out.count > 0, err.count > 0), (status == 0, status != 0));
+    Ok(())
+}
+
+/// Commands, the statuses with which they end, the most blocks of which they tell, if not those of the volume, and the calls of which they tell.
+const COMMANDS: &[(&str, u8, Option<u64>, u64)] = &[
+    (
+        "reload told.dbd told.stream told.volume 1000",
+        0,
+        Some(1000),
+        0,
+    ),
+    ("check told.dbd told.volume", 0, None, 0),
+    ("unload told.dbd told.volume told.out", 0, None, 0),
+    ("deck told.dbd told.psb told.volume told.deck", 0, None, 903),
+    (
+        "reload told.dbd told.stream told.volume 120",
+        1,
+        Some(120),
+        0,
+    ),
+];
+
+/// The files of a database with 900 courses.
+fn write_files<R: Files<File = File> + AllocGlobal + Abort>(rt: &R) -> Result<(), Fail> {
+    fs::write(rt, "told.dbd", DBD_SOURCE)?;
+    fs::write(rt, "told.psb", PSB_SOURCE)?;
+    fs::write(rt, "told.deck", b"L 903 GN\n")?;
+    let mut rows = Vec::new(rt.alloc());
+    for number in 0..900u32 {
+        writeln!(rows, "COURSE NUM={:03}", number)?;
+    }
+    fs::write(rt, "told.rows", &rows)?;
+    let words = words_of(rt.alloc(), "stream told.dbd told.rows told.stream")?;
+    let mut input: &[u8] = b"";
+    let mut out = Vec::new(rt.alloc());
+    let mut err = Vec::new(rt.alloc());
+    let status = play(rt, &words, false, &Silent, &mut input, &mut out, &mut err);
+    assert_eq!(rt; status, 0);
+    Ok(())
+}
+
+/// The volume with another byte in its first segment.
+fn damage<R: Files<File = File> + AllocGlobal>(rt: &R) -> Result<(), Fail> {
+    let mut bytes = fs::read(rt, "told.volume")?;
+    if let Some(byte) = bytes.get_mut(137) {
+        *byte = 1;
+    }
+    fs::write(rt, "told.volume", &bytes)?;
+    Ok(())
+}
+
+#[test]
+fn tells_how_far_each_command_is(rt: HostRuntime) -> Result<(), Fail> {
+    write_files(&rt)?;
+    for (line, status, most, calls) in COMMANDS {
+        let blocks = match most {
+            Some(most) => *most,
+            None => fs::metadata(&rt, "told.volume")?.len() / 128,
+        };
+        expect_told(&rt, line, *status, blocks, *calls)?;
+    }
+    let made = fs::read(&rt, "told.out")?;
+    assert!(rt; made == fs::read(&rt, "told.stream")?);
+    damage(&rt)?;
+    let line = "check told.dbd told.volume --explain=always";
+    expect_told(&rt, line, 1, 1000, 0)
+}

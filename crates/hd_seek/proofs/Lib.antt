@@ -1,9 +1,0 @@
-pub mod OnPaths
-pub mod Admitting
-pub mod Failing
-pub mod Twins
-pub mod Keys
-pub mod Ways
-pub mod Levels
-pub mod Starts
-pub mod Beside

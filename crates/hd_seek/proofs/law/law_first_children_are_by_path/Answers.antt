@@ -1,5 +1,0 @@
-use Rattle.hd_seek.proofs.Starts.{first_children_by_path}
-use Rattle.hd_seek.proofs.law.law_first_children_are_by_path.Goals as goal
-
-pub returns : goal.returns
-returns c = first_children_by_path

@@ -1,5 +1,0 @@
-use Rattle.hd_seek.proofs.Beside.{later_types}
-use Rattle.hd_seek.proofs.law.law_later_types_follow.Goals as goal
-
-pub returns : goal.returns
-returns c = later_types

@@ -1,5 +1,0 @@
-use Rattle.hd_seek.proofs.Beside.{no_later_types}
-use Rattle.hd_seek.proofs.law.law_no_later_types_fail.Goals as goal
-
-pub returns : goal.returns
-returns c = no_later_types

@@ -1,0 +1,50 @@
+-- The bytes of an answer's frame, part by part.
+use Rattle.std.proofs.Common.{◌≡◌, ℕ, ◌+◌, List, [], ◌∷◌, ◌++◌, length, refl, sym, ap, ◌∙◌, arith, append_assoc, length-append}
+use Rattle.std.specs.Prelude.{replicate, unwrap_or}
+use Rattle.std.specs.Int.{w16, w32, to_be_bytes}
+use Rattle.hd_dbd.specs.declared.answer.Status.{Status}
+use Rattle.hd_dbd.specs.declared.answer.Status.TheVariants.{Blank, GA, GK, GB, GE, GP, II, V1, DA, DJ, LB, LC, LD, LE, AC, AD, AH, AJ, AK, AM}
+use Rattle.hd_dbd.specs.Calls.{Reply}
+use Rattle.hd_serve.specs.Frames.{frame_bytes}
+use Rattle.hd_dbd.specs.Statuses.{status_text}
+use Rattle.hd_serve.specs.Answers.{answer_bytes}
+
+-- a status has two letters
+pub two-letters : (s : Status) → length (status_text s) ≡ 2
+two-letters Blank = refl
+two-letters GA = refl
+two-letters GK = refl
+two-letters GB = refl
+two-letters GE = refl
+two-letters GP = refl
+two-letters II = refl
+two-letters V1 = refl
+two-letters DA = refl
+two-letters DJ = refl
+two-letters LB = refl
+two-letters LC = refl
+two-letters LD = refl
+two-letters LE = refl
+two-letters AC = refl
+two-letters AD = refl
+two-letters AH = refl
+two-letters AJ = refl
+two-letters AK = refl
+two-letters AM = refl
+
+parts : (head status name digits key area : List ℕ) (level : ℕ)
+    → ((((((head ++ 0 ∷ []) ++ status) ++ level ∷ []) ++ name) ++ digits) ++ key) ++ area ≡ head ++ (0 ∷ (status ++ level ∷ (name ++ (digits ++ (key ++ area)))))
+parts head status name digits key area level = simp append_assoc
+
+long : (status name digits key area : List ℕ) (level : ℕ) → length status ≡ 2 → length name ≡ 8 → length digits ≡ 2
+    → length (0 ∷ (status ++ level ∷ (name ++ (digits ++ (key ++ area))))) ≡ 14 + length key + length area
+long status name digits key area level s n d = simp length-append (omega arith)
+
+-- the parts of an answer, one behind the other, are its frame
+pub answer-spelled : (r : Reply) (size : ℕ) (name : List ℕ) → name ≡ unwrap_or r.segment (replicate 8 32) → length name ≡ 8 → size ≡ 14 + length r.key + length r.area
+    → ((((((to_be_bytes w32 size ++ 0 ∷ []) ++ status_text r.status) ++ r.level ∷ []) ++ name) ++ to_be_bytes w16 (length r.key)) ++ r.key) ++ r.area ≡ frame_bytes (answer_bytes r)
+answer-spelled r size name is eight sum =
+    parts (to_be_bytes w32 size) (status_text r.status) name (to_be_bytes w16 (length r.key)) r.key r.area r.level
+    ∙ ap (λ (n : ℕ). to_be_bytes w32 n ++ (0 ∷ (status_text r.status ++ r.level ∷ (name ++ (to_be_bytes w16 (length r.key) ++ (r.key ++ r.area))))))
+    (sum ∙ sym (long (status_text r.status) name (to_be_bytes w16 (length r.key)) r.key r.area r.level (two-letters r.status) eight refl))
+    ∙ ap (λ (xs : List ℕ). frame_bytes (0 ∷ (status_text r.status ++ r.level ∷ (xs ++ (to_be_bytes w16 (length r.key) ++ (r.key ++ r.area)))))) is

@@ -1,0 +1,93 @@
+-- Frames of calls: how they are spelled, and what is wrong with bytes that spell none.
+use Rattle.std.specs.Prelude.{◌≡◌, ◌≢◌, ℕ, zero, suc, ◌+◌, ◌<◌, ◌≤◌, ◌^◌, List, [], ◌∷◌, ◌++◌, length, take, drop, flat_map, All, Bool, ◌||◌, ◌==◌, nat_lt, cond, slice_index, Option, Some, None, option_map, Result, Ok, Err, IfSome}
+use Rattle.std.specs.Int.{w16, w32, to_be_bytes, from_be_bytes}
+use Rattle.std.specs.Io.KnownBytes.{Consumes}
+use Rattle.hd_serve.specs.declared.call.Limits.{Limits}
+use Rattle.hd_serve.specs.declared.fault.FrameFault.{FrameFault}
+use Rattle.hd_serve.specs.declared.fault.FrameFault.TheVariants.{Read, Memory, Cut, Long, Short, Kind, Pcb, Ssas, Area}
+use Rattle.hd_session.specs.Turns.{Turn}
+
+-- ---- spelling
+
+-- a frame: the length of its body in four bytes, and the body
+abbrev pub frame_bytes : List ℕ → List ℕ
+frame_bytes body = to_be_bytes w32 (length body) ++ body
+
+-- a segment search argument: its length in two bytes, and its bytes
+abbrev pub ssa_bytes : List ℕ → List ℕ
+ssa_bytes ssa = to_be_bytes w16 (length ssa) ++ ssa
+
+-- the body of a call's frame: 1, the PCB, the function in four bytes, the number of arguments, each argument, and the area
+abbrev pub call_bytes : Turn → List ℕ
+call_bytes c = 1 ∷ c.pcb ∷ (c.call.function ++ length c.call.ssas ∷ (flat_map ssa_bytes c.call.ssas ++ c.call.area))
+
+-- What has a right frame: a call of one of the PCBs, with a function of four bytes, at most 15 arguments of at most 65,535 bytes, and an area of
+-- no more bytes than the limit.
+pub record CallFits (limits : Limits) (c : Turn) : Type 0 where
+  pub some_pcb : 0 < c.pcb
+  pub known_pcb : c.pcb ≤ limits.pcbs
+  pub function : length c.call.function ≡ 4
+  pub few : length c.call.ssas ≤ 15
+  pub short : All (λ ssa. length ssa < 2 ^ 16) c.call.ssas
+  pub fits : length c.call.area ≤ limits.area
+
+-- more bytes than the body of a right frame has: 7, 15 arguments of 65,537 each, and the longest area
+abbrev pub is_long : Limits → ℕ → Bool
+is_long limits size = nat_lt (983062 + limits.area) size
+
+-- ---- what is wrong
+
+-- the arguments in front of some bytes, so many, and what is behind them; none where the bytes end before
+abbrev pub ssas_in : ℕ → List ℕ → Option (List (List ℕ) × List ℕ)
+ssas_in zero bytes = Some ([], bytes)
+ssas_in (suc n) bytes =
+    cond (nat_lt (length bytes) (2 + from_be_bytes w16 bytes)) None
+    (option_map (λ r. (take (from_be_bytes w16 bytes) (drop 2 bytes) ∷ r.0, r.1)) (ssas_in n (drop (2 + from_be_bytes w16 bytes) bytes)))
+
+-- Some bytes begin with an argument, and this is behind it.
+pub record IsSsaSplit (bytes ssa rest : List ℕ) : Type 0 where
+  pub long : 2 + from_be_bytes w16 bytes ≤ length bytes
+  pub front : ssa ≡ take (from_be_bytes w16 bytes) (drop 2 bytes)
+  pub behind : rest ≡ drop (2 + from_be_bytes w16 bytes) bytes
+
+-- the call of a PCB and a function with such arguments, and the area behind them
+abbrev pub with_ssas : Limits → ℕ → List ℕ → Option (List (List ℕ) × List ℕ) → Result Turn FrameFault
+with_ssas limits pcb function None = Err Short
+with_ssas limits pcb function (Some r) =
+    cond (nat_lt limits.area (length r.1)) (Err (Area (length r.1)))
+    (Ok (record { pcb = pcb; call = record { function = function; ssas = r.0; area = r.1 } }))
+
+-- the call of the body of a frame, or the first fault in it
+abbrev pub call_in : Limits → List ℕ → Result Turn FrameFault
+call_in limits body =
+    cond (nat_lt (length body) 7) (Err Short)
+    (cond (slice_index body 0 == 1)
+    (cond (slice_index body 1 == 0 || nat_lt limits.pcbs (slice_index body 1)) (Err (Pcb (slice_index body 1)))
+    (cond (nat_lt 15 (slice_index body 6)) (Err (Ssas (slice_index body 6)))
+    (with_ssas limits (slice_index body 1) (take 4 (drop 2 body)) (ssas_in (slice_index body 6) (drop 7 body)))))
+    (Err (Kind (slice_index body 0))))
+
+-- the fault, if it is one
+abbrev pub fault_of : Result Turn FrameFault → Option FrameFault
+fault_of (Ok c) = None
+fault_of (Err e) = Some e
+
+-- what is wrong with the frame in front of an input; none where there is no byte. An input that ends too early has a cut frame.
+abbrev pub frame_fault : Limits → List ℕ → Option FrameFault
+frame_fault limits bytes =
+    cond (length bytes == 0) None
+    (cond (nat_lt (length bytes) 4) (Some Cut)
+    (cond (is_long limits (from_be_bytes w32 bytes)) (Some (Long (from_be_bytes w32 bytes)))
+    (cond (nat_lt (length bytes) (4 + from_be_bytes w32 bytes)) (Some Cut)
+    (fault_of (call_in limits (take (from_be_bytes w32 bytes) (drop 4 bytes)))))))
+
+-- ---- what is read
+
+-- The input began with the frame of this call, which is a right one, and just that was taken.
+pub record IsCallRead (limits : Limits) (before : Option (List ℕ)) (c : Turn) (after : Option (List ℕ)) : Type 0 where
+  pub fits : CallFits limits c
+  pub taken : Consumes before after (frame_bytes (call_bytes c))
+
+-- the fault is that of the frame in front of the input; a failed read and want of memory say nothing
+abbrev pub IsWrong : Limits → Option (List ℕ) → FrameFault → Type 0
+IsWrong limits input e = e ≢ Read → e ≢ Memory → IfSome input (λ bytes. frame_fault limits bytes ≡ Some e)

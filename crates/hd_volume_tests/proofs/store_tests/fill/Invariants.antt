@@ -1,4 +1,0 @@
-use Rattle.hd_volume_tests.proofs.store_tests.fill.Given as goal
-
-abbrev pub ghosts-fill_counted : goal.ghosts-fill_counted
-ghosts-fill_counted a = record { name = a.blank.name; parts = a.blank.parts }
