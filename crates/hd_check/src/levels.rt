@@ -17,7 +17,10 @@ ghost use Rattle.hd_check_index.specs.Rows.{AreRows};
 ghost use Rattle.hd_check.specs.Joining.{NoneBefore, IsFirstFault, OfOrdered};
 
 use hd_check_blocks::Fault;
-use hd_check_index::{NotedBlock, Standing, block_address, entry_out_of_order, is_top_right, note_blocks, rows_down, twice_named, unreached, wrong_form, wrong_next};
+use hd_check_index::{
+    NotedBlock, Standing, block_address, entry_out_of_order, is_top_right, note_blocks, rows_down,
+    twice_named, unreached, wrong_form, wrong_next,
+};
 use hd_dbd::{Dbd, Refused};
 use hd_image::Line;
 use hd_index_blocks::root_key_length;

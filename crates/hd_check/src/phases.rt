@@ -17,8 +17,14 @@ ghost use Rattle.hd_check_blocks.specs.Finding.{WhereNone, WhereSome};
 
 use crate::levels::levels_fault;
 use hd_check_blocks::{Directory, Fault, Place, blocks_fault, header_fault};
-use hd_check_index::{block_forms_fault, entry_order_fault, sort_chain, twice_named_fault, unnamed_root_fault, unreached_block_fault, wrong_entry_fault};
-use hd_check_pointers::{Naming, owners_of, predecessors_fault, reached_fault, records_fault, twin_keys_fault, twins_fault};
+use hd_check_index::{
+    block_forms_fault, entry_order_fault, sort_chain, twice_named_fault, unnamed_root_fault,
+    unreached_block_fault, wrong_entry_fault,
+};
+use hd_check_pointers::{
+    Naming, owners_of, predecessors_fault, reached_fault, records_fault, twin_keys_fault,
+    twins_fault,
+};
 use hd_check_walk::are_linked;
 use hd_dbd::{Dbd, Refused};
 use hd_stores::BlockStore;

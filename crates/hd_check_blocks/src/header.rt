@@ -12,7 +12,9 @@ use hd_bytes::{read_u16, read_u32};
 use hd_dbd::{Dbd, Refused};
 use hd_image::Line;
 use hd_stores::BlockStore;
-use hd_volume::{BLOCK_SIZE, COUNT, LARGEST, MARK, MOST_BLOCKS, NAME, NEWEST_VERSION, VERSION, Volume};
+use hd_volume::{
+    BLOCK_SIZE, COUNT, LARGEST, MARK, MOST_BLOCKS, NAME, NEWEST_VERSION, VERSION, Volume,
+};
 
 /// Whether a header counts an image of so many bytes, in blocks of a size.
 fn counts_image(head: &[u8], size: u64, image_length: u64) -> bool

@@ -3,7 +3,9 @@
 use crate::judged::{Judged, comes_again, costs_of_check, judge, reloaded};
 use crate::old_images::make_old;
 use hd_dbd::Dbd;
-use hd_sample::{WAYS, byte_at, changed, database, root_database, root_stream, set_byte, stream_of};
+use hd_sample::{
+    WAYS, byte_at, changed, database, root_database, root_stream, set_byte, stream_of,
+};
 use hd_stores::{Cached, FuseStore, MemStore};
 use hd_unload::reload;
 use std::alloc::{AllocError, Global};

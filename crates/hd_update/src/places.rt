@@ -14,7 +14,10 @@ ghost use Rattle.hd_update.specs.Places.{has_key, side_of, side_at, IsGapBelow, 
 
 use crate::load_rule::key_order;
 use hd_dbd::{Dbd, Refused, Rule, compare_keys};
-use hd_forest::{Path, TwinPlaces, code_at, first_child, forward_in, key_at, last_twin, parent_on, prev_twin, tip_of, twin_places};
+use hd_forest::{
+    Path, TwinPlaces, code_at, first_child, forward_in, key_at, last_twin, parent_on, prev_twin,
+    tip_of, twin_places,
+};
 use hd_index::next_from;
 use hd_position::{Position, row_on};
 use hd_stores::BlockStore;
