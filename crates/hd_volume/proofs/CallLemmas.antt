@@ -119,6 +119,7 @@ module _ (v w : VolumeState) (a o : ℕ) (bs : List ℕ) (f : IsFormatted v) (h 
         holes = keeps-holes c f.header edited.kind (λ _. (let e : largest_hole (parts_in v.sizes (block_of v.size w.image (a / v.size))) ≡ largest_hole (parts_in v.sizes (block_at v (a / v.size))) = ap largest_hole edited.parts in omega arith));
         free = keeps-free c.same (a / v.size) (stays-free v.sizes (block_at v (a / v.size)) (block_of v.size w.image (a / v.size))
             (λ p some none. some (segment-parts v.sizes (block_at v (a / v.size)) (block_of v.size w.image (a / v.size)) p edited.parts none)) (let e : left.free_bytes (parts_in v.sizes (block_of v.size w.image (a / v.size))) ≡ left.free_bytes (parts_in v.sizes (block_at v (a / v.size))) = ap left.free_bytes edited.parts in omega arith));
+        unused = λ k l u. edited.unused k l u ∙ ap (λ (b : List ℕ). slice_index b k) (sym (block-seen c.same (a / v.size)));
       }
 
   pub write-space : (space : Space) → IsSpaceOf v.size v.sizes v.image space → IsSpaceOf v.size v.sizes w.image space
@@ -258,6 +259,7 @@ module _ (v w : VolumeState) (a : ℕ) (f : IsFormatted v) (h : HasSegment v a 0
         holes = keeps-holes c f.header freed-in.kind (λ _. freed-in.holes);
         free = keeps-free c.same (a / v.size) (stays-free v.sizes (block_at v (a / v.size)) (block_of v.size w.image (a / v.size))
             (λ p some none. elim (cases_eq p (a % v.size)) [ inl e ↦ some (rw e freed-in.gone) | inr other ↦ some (freed-in.others p other ∙ none) ]) freed-in.free_bytes);
+        unused = λ k l u. freed-in.unused k l u ∙ ap (λ (b : List ℕ). slice_index b k) (sym (block-seen c.same (a / v.size)));
       }
 
   pub free-space : (space new-space : Space) (hole : ℕ) → IsSpaceOf v.size v.sizes v.image space → IsOpened space (a / v.size) hole new-space

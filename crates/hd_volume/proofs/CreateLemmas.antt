@@ -1,7 +1,7 @@
 -- A new volume.
-use Rattle.std.proofs.Common.{◌≡◌, ◌≢◌, inl, inr, ℕ, ◌*◌, ◌/◌, ◌<◌, ◌≤◌, List, [], ◌∷◌, length, take, drop, replicate, slice_index, None, refl, sym, ap, ◌∙◌, arith, ne_eqb}
+use Rattle.std.proofs.Common.{◌≡◌, ◌≢◌, inl, inr, ℕ, ◌-◌, ◌*◌, ◌/◌, ◌<◌, ◌≤◌, List, [], ◌∷◌, length, take, drop, replicate, slice_index, None, refl, sym, ap, ◌∙◌, arith, ne_eqb}
 use Rattle.std.proofs.lemmas.Bool.{cases_eq, eq-eqb}
-use Rattle.std.proofs.lemmas.List.{take_all}
+use Rattle.std.proofs.lemmas.List.{take_all, drop-replicate}
 use Rattle.std.proofs.Math.Nat.{mul-div_cancel, mul-le-mul_right}
 use Rattle.hd_bytes.specs.Numbers.{number_at}
 use Rattle.hd_bytes.specs.Ranges.{bytes_at, with_bytes}
@@ -66,9 +66,17 @@ only-space size sizes a b space positive la lb h =
       lowest_free = λ n some low below. absurd (omega arith);
     }
 
+-- behind its head a volume of zeros has zeros
+zeros-behind : (b name : List ℕ) (size largest : ℕ) → b ≡ replicate (1 * size) 0 → drop 44 (with_bytes b 0 (head_list name size largest)) ≡ replicate (size - 44) 0
+zeros-behind b name size largest zeros =
+    let past : drop 44 (with_bytes b 0 (head_list name size largest)) ≡ drop 44 b = refl in
+    let one : 1 * size ≡ size = omega arith in
+    past ∙ ap (drop 44) (zeros ∙ ap (λ (k : ℕ). replicate k 0) one) ∙ drop-replicate 44 size 0
+
 pub created : (w : VolumeState) (b name : List ℕ) (size largest : ℕ) → 44 ≤ size → w.size ≡ size → length name ≡ 8 → length w.image ≡ size → length b ≡ size
-    → block_of size w.image 0 ≡ with_bytes b 0 (head_list name size largest) → 0 < largest → largest ≤ 65536 → w.stored ≡ replicate (1 * size) 0 → IsCreated name size largest w
-created w b name size largest least size-is len one long block some most stored =
+    → block_of size w.image 0 ≡ with_bytes b 0 (head_list name size largest) → 0 < largest → largest ≤ 65536 → w.stored ≡ replicate (1 * size) 0
+    → b ≡ replicate (1 * size) 0 → IsCreated name size largest w
+created w b name size largest least size-is len one long block some most stored zeros =
     let there : HasBlock size w.image 0 = omega arith in
     let b' : List ℕ = with_bytes b 0 (head_list name size largest) in
     let long' : length b' ≡ size = length-with b (head_list name size largest) 0 (omega arith) ∙ long in
@@ -90,6 +98,7 @@ created w b name size largest least size-is len one long block some most stored 
       };
       header = header;
       one = one;
+      behind = ap (drop 44) (sym (own-block size w.image one) ∙ block) ∙ zeros-behind b name size largest zeros;
       stored = stored;
       empty = λ a. elim (cases_eq (a / size) 0) [
         | inl z ↦ (let e : find w a ≡ None = rw (size-is, eq-eqb (a / size) 0 z) refl in e)

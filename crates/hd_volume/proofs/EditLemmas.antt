@@ -2,7 +2,7 @@
 use Rattle.std.proofs.Common.{◌≡◌, ◌≢◌, ◌⊎◌, inl, inr, ℕ, ◌+◌, ◌-◌, ◌<◌, ◌≤◌, Bool, true, false, cond, ◌==◌, nat_le, max, List, [], ◌∷◌, length, slice_index, Some, None, refl, sym, ap, ◌∙◌, arith, subst}
 use Rattle.std.proofs.lemmas.Bool.{cases_lt, eq-eqb, eqb-true, leb-true, leb-false}
 use Rattle.std.proofs.lemmas.Grind.{common_steps, same_number_lists}
-use Rattle.hd_bytes.specs.Ranges.{bytes_at, with_bytes, ChangesOnly}
+use Rattle.hd_bytes.specs.Ranges.{bytes_at, with_bytes, ChangesOnly, AgreeOn}
 use Rattle.hd_bytes.proofs.BlockLemmas.{length-bytes_at, byte-at, agree-changed, bytes-with}
 use Rattle.hd_bytes.proofs.NumberLemmas.{changes-with, length-with, number-below}
 use Rattle.hd_block.specs.Extents.{Extent, free, used, taken, Fill, IsDivided, AreWhole, UsedAt, TakenAt}
@@ -60,6 +60,7 @@ pub record IsEdited (sizes : List SegmentSize) (b b' : List ℕ) (xs : List Exte
   pub others : (p : ℕ) → p ≢ q → segment_in sizes b' p ≡ segment_in sizes b p
   pub parts : parts_in sizes b' ≡ parts_in sizes b
   pub kind : slice_index b' 2 ≡ slice_index b 2
+  pub unused : AgreeOn 3 5 b b'
 
 pub write-edits : (sizes : List SegmentSize) (b : List ℕ) (xs : List Extent) (q n o : ℕ) (bs : List ℕ) → IsDivided sizes b xs → AreWhole xs → UsedAt 8 xs q n → size_at sizes (with_bytes b (q + o) bs) q ≡ n → o + length bs ≤ n
     → IsEdited sizes b (with_bytes b (q + o) bs) xs q n o bs
@@ -85,6 +86,7 @@ write-edits sizes b xs q n o bs h w u keeps within =
           )) (λ m v. v);
       parts = parts-divided sizes b' xs divides w ∙ sym (parts-divided sizes b xs h w);
       kind = c.below 2 (omega arith);
+      unused = λ j l h. sym (c.below j (omega arith));
     }
 
 -- ---- putting a segment into a hole
@@ -205,6 +207,7 @@ pub record IsPutIn (sizes : List SegmentSize) (b b' : List ℕ) (q : ℕ) (bs : 
   pub is : segment_in sizes b' q ≡ Some bs
   pub others : (p : ℕ) → p ≢ q → segment_in sizes b' p ≡ segment_in sizes b p
   pub kind : slice_index b' 2 ≡ slice_index b 2
+  pub unused : AgreeOn 3 5 b b'
   pub holes : largest_hole (parts_in sizes b') ≤ largest_hole (parts_in sizes b)
   pub rest : (k : ℕ) → length bs < k → k ≤ largest_hole (parts_in sizes b) → k - length bs ≤ largest_hole (parts_in sizes b')
   pub free_bytes : left.free_bytes (parts_in sizes b') + length bs ≡ left.free_bytes (parts_in sizes b)
@@ -242,6 +245,7 @@ put-edits sizes b b1 xs q bs h w t eight code fits =
           ))
           (λ m v. elim (x.back p m v) [ inl u ↦ u | inr e ↦ absurd (other e.0) ]);
       kind = c.below 2 (omega arith) ∙ sym (t.head 2 (omega arith) (omega arith));
+      unused = λ k l h. t.head k (omega arith) (omega arith) ∙ sym (c.below k (omega arith));
       holes = rw (before, after) x.holes;
       rest = rw (before, after) x.rest;
       free_bytes = (let one = free-divided sizes b xs h w in let two = free-divided sizes b2 ys divides x.whole in let e = fill-free q 8 (after_take n xs) in let k = take-free n 8 q xs found in omega arith);
@@ -346,6 +350,7 @@ pub record IsFreeIn (sizes : List SegmentSize) (b b' : List ℕ) (q n : ℕ) : T
   pub gone : segment_in sizes b' q ≡ None
   pub others : (p : ℕ) → p ≢ q → segment_in sizes b' p ≡ segment_in sizes b p
   pub kind : slice_index b' 2 ≡ slice_index b 2
+  pub unused : AgreeOn 3 5 b b'
   pub hole : n ≤ largest_hole (parts_in sizes b')
   pub holes : largest_hole (parts_in sizes b) ≤ largest_hole (parts_in sizes b')
   pub most : largest_hole (parts_in sizes b') ≤ length b'
@@ -365,6 +370,7 @@ free-edits sizes b b' xs q n h w u t =
       gone = segment-none sizes b' zs divides x.whole q x.gone;
       others = λ p other. segment-same sizes b b' xs zs h divides w x.whole p (λ m v. (x.on p m v other, t.others xs p m h (inl u) v other)) (λ m v. x.back p m v);
       kind = sym (t.head 2 (omega arith) (omega arith));
+      unused = λ k l h. t.head k (omega arith) (omega arith);
       hole = rw after x.hole;
       holes = rw (before, after) x.holes;
       most = rw after (largest-within sizes b' 8 _ zs divides);

@@ -1,5 +1,5 @@
 -- Steps of a volume one after another.
-use Rattle.std.proofs.Common.{◌/◌, ◌≡◌, ◌≢◌, ◌⊎◌, inl, inr, ℕ, ◌+◌, ◌*◌, ◌<◌, ◌≤◌, Bool, false, IsTrue, List, length, slice_index_or, vec_len, Result, Ok, Err, IfOk, IfErr, refl, sym, ap, ◌∙◌, arith, subst}
+use Rattle.std.proofs.Common.{◌/◌, ◌≡◌, ◌≢◌, ◌⊎◌, inl, inr, ℕ, ◌+◌, ◌*◌, ◌<◌, ◌≤◌, Bool, false, IsTrue, List, length, slice_index, slice_index_or, vec_len, Result, Ok, Err, IfOk, IfErr, refl, sym, ap, ◌∙◌, arith, subst}
 use Rattle.std.proofs.lemmas.Bool.{cases_lt, cases_eq}
 use Rattle.hd_bytes.specs.Blocks.{block_of, HasBlock}
 use Rattle.hd_block.specs.Walk.{parts_in}
@@ -11,7 +11,7 @@ use Rattle.hd_dbd.specs.declared.answer.Refused.{Refused}
 use Rattle.hd_dbd.specs.declared.answer.Refused.TheVariants.{Memory, Full, Device, Broken, Area}
 use Rattle.hd_dbd.specs.Refusals.{OnlyMemory}
 use Rattle.hd_stores.specs.Stores.{CountsFor, SoundFor, StaysSound, RefusesGrowth}
-use Rattle.hd_volume.specs.Calls.{IsCall, IsRead, KeepsHoles, KeepsSegments, MayGrow, GrowsByOne, IsPut, IsTakenBlock}
+use Rattle.hd_volume.specs.Calls.{IsCall, IsRead, KeepsHoles, KeepsSegments, KeepsUnused, HasUnused, AreZero, MayGrow, GrowsByOne, IsPut, IsTakenBlock}
 use Rattle.hd_volume.specs.declared.space.Space.{Space}
 use Rattle.hd_volume.specs.Spaces.{blocks_in, content_at, IsSpaceOf}
 use Rattle.hd_volume.proofs.CallLemmas.{looked-at}
@@ -78,6 +78,9 @@ module _ {v w : VolumeState} (o : AreOne v w) where
       let count : (header_of w.image).count ≡ (header_of v.image).count = ap (λ (h : Header). h.count) same in
       record { count = inl count; passed = λ m high low other. absurd (omega arith); header = same ∙ (let e : header_of v.image ≡ record (header_of v.image) { count = (header_of w.image).count } = rw count refl in e) }
 
+  pub one-unused : (n : ℕ) → KeepsUnused v w n
+  one-unused n k l u = ap (λ (b : List ℕ). slice_index b k) (sym (one-block n))
+
   -- a hole that was there
   pub ready-found : (n need : ℕ) → IsFormatted v → step.HasRoom v n need → step.IsReady v n need w
   ready-found n need f r = record {
@@ -93,6 +96,7 @@ module _ {v w : VolumeState} (o : AreOne v w) where
     spares = (let e = one-spare in omega arith);
     in_hole = λ _ _. one-spare;
     holes = one-holes;
+    unused = (λ _. one-unused n, λ none. absurd (none r.is_data));
   }
 
   -- a free block that was there
@@ -243,8 +247,8 @@ free-between {u} {v} {w} {x} o p n h =
       holes = λ k y. one-holes p k (g.holes k y);
     }
 
-pub ready-new : {u v w : VolumeState} (n need : ℕ) → AreSame v w → IsFormatted u → step.HasFree u n v → step.IsMade v n 1 w → step.HasRoom w n need → (IsPlain u → HasHole u need → ⊥) → GrowsByOne u v → u.size ≡ v.size → step.IsReady u n need w
-ready-new {u} {v} {w} n need s f h m r none by_one size =
+pub ready-new : {u v w : VolumeState} (n need : ℕ) → AreSame v w → IsFormatted u → step.HasFree u n v → step.IsMade v n 1 w → step.HasRoom w n need → (IsPlain u → HasHole u need → ⊥) → GrowsByOne u v → u.size ≡ v.size → 0 < u.size → AreZero 3 5 (block_at w n) → step.IsReady u n need w
+ready-new {u} {v} {w} n need s f h m r none by_one size some zeros =
     let same : header_of w.image ≡ header_of v.image = m.header in
     let count : (header_of w.image).count ≡ (header_of v.image).count = ap (λ (x : Header). x.count) same in
     record {
@@ -266,11 +270,26 @@ ready-new {u} {v} {w} n need s f h m r none by_one size =
       spares = (let a = h.spares in let b = m.spares in omega arith);
       in_hole = λ p x. absurd (none p x);
       holes = λ k x. m.holes k (h.holes k x);
+      unused = (
+        λ is. absurd (elim h.was [
+          | inl three ↦ (let one = is.kind_is in let k = three.kind_is in omega arith)
+          | inr past ↦ (let low = counted u n f some is.there in omega arith)
+        ]),
+        λ _. zeros,
+      );
     }
 
 -- the blocks of a volume that was made ready are still there
 ready-there : {u v : VolumeState} {n need : ℕ} (k : ℕ) → step.IsReady u n need v → v.size ≡ u.size → HasBlock u.size u.image k → HasBlock v.size v.image k
 ready-there k r size x = rw size (let l = r.longer in omega arith)
+
+-- what is unused in a block stays so where it is kept behind a step
+pub unused-on : (u v w : VolumeState) (n : ℕ) → HasUnused u v n → KeepsUnused v w n → HasUnused u w n
+unused-on u v w n h kept = (λ is k l b. h.0 is k l b ∙ kept k l b, λ none k l b. sym (kept k l b) ∙ h.1 none k l b)
+
+-- and behind a step that changes nothing of the image
+pub unused-after : {v w : VolumeState} (u : VolumeState) (o : AreOne v w) (n : ℕ) → HasUnused w u n → HasUnused v u n
+unused-after u o n h = (λ is k l b. one-unused o n k l b ∙ h.0 (one-kind o 1 n is) k l b, λ none. h.1 (λ is. none (one-back o 1 n is)))
 
 pub put-from : {u v w : VolumeState} (n need a : ℕ) (bs : List ℕ) → v.size ≡ u.size → AreSame v w → step.IsReady u n need v → step.IsPutIn v n a bs w → need ≡ length bs → IsPut u a bs w
 put-from {u} {v} {w} n need a bs size s r p need-is =
@@ -297,6 +316,7 @@ put-from {u} {v} {w} n need a bs size s r p need-is =
       spares = (let x = r.spares in let y = p.spares in omega arith);
       in_hole = λ plain h. (let P : ℕ → Type 0 = λ k. HasHole u k in p.spares ∙ r.in_hole plain (subst P (sym need-is) h));
       holes = λ k more h. p.holes k more (r.holes k h);
+      unused = (let P : ℕ → Type 0 = λ k. HasUnused u w k in subst P (sym at) (unused-on u v w n r.unused p.unused));
     }
 
 -- ---- seeking a free block
@@ -501,6 +521,7 @@ ready-after {v} {w} {u} o n need plain-on r = record {
   spares = (let e = one-spare o in let s = r.spares in omega arith);
   in_hole = λ plain h. r.in_hole (plain-on plain) (one-holes o need h) ∙ one-spare o;
   holes = λ k h. r.holes k (one-holes o k h);
+  unused = unused-after u o n r.unused;
 }
 
 -- and no hole that was not there

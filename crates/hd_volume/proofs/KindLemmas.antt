@@ -20,7 +20,7 @@ use Rattle.hd_volume.specs.Volumes.{VolumeState, block_at, kind_of, IsKind, HasE
 use Rattle.hd_volume.specs.Records.{segment_in, find}
 use Rattle.hd_volume.specs.Rooms.{spare, is_free, one_if, free_below, largest_hole}
 use Rattle.hd_volume.specs.Spaces.{blocks_in, content_at, IsContent, IsSpaceOf}
-use Rattle.hd_volume.specs.Calls.{KeepsHoles, KeepsSegments}
+use Rattle.hd_volume.specs.Calls.{KeepsHoles, KeepsSegments, AreZero}
 use Rattle.hd_volume.specs.Steps as step
 use Rattle.hd_volume.specs.Calls as call
 use Rattle.hd_volume.proofs.EditLemmas.{put-byte}
@@ -208,6 +208,18 @@ fresh-number : (b : List ℕ) (high low : ℕ) → (number_at 2 (with_bytes b 0 
 unfolding number_at
 fresh-number b high low = (refl, omega arith, refl, refl)
 
+-- the bytes behind the kind of a fresh block
+fresh-zeros : (b : List ℕ) (high low k : ℕ) → 3 ≤ k → k < 8 → slice_index (with_bytes b 0 (data_head high low)) k ≡ 0
+fresh-zeros b high low zero l u = absurd (omega arith)
+fresh-zeros b high low (suc zero) l u = absurd (omega arith)
+fresh-zeros b high low (suc (suc zero)) l u = absurd (omega arith)
+fresh-zeros b high low (suc (suc (suc zero))) l u = refl
+fresh-zeros b high low (suc (suc (suc (suc zero)))) l u = refl
+fresh-zeros b high low (suc (suc (suc (suc (suc zero))))) l u = refl
+fresh-zeros b high low (suc (suc (suc (suc (suc (suc zero)))))) l u = refl
+fresh-zeros b high low (suc (suc (suc (suc (suc (suc (suc zero))))))) l u = refl
+fresh-zeros b high low (suc (suc (suc (suc (suc (suc (suc (suc k)))))))) l u = absurd (omega arith)
+
 pub fresh-divides : (sizes : List SegmentSize) (b : List ℕ) (size high low : ℕ) → length b ≡ size → 128 ≤ size → size % 8 ≡ 0 → high * 256 + low ≡ size - 8
     → IsDivided sizes (with_bytes b 0 (data_head high low)) (free (size - 8) ∷ [])
 fresh-divides sizes b size high low len least whole is =
@@ -260,6 +272,12 @@ module _ (v w : VolumeState) (n high low : ℕ) (f : IsFormatted v) (free-is : I
             omega arith;
         holes = made-holes c f data-was;
       }
+
+  -- bytes 3 to 7 of it are 0
+  pub data-unused : AreZero 3 5 (block_at w n)
+  data-unused k l u =
+      let zeros : slice_index (with_bytes (block_at v n) 0 (data_head high low)) k ≡ 0 = fresh-zeros (block_at v n) high low k l u in
+      ap (λ (b : List ℕ). slice_index b k) (block-seen c.same n ∙ new) ∙ zeros
 
   -- no segment stands in it
   pub data-none : step.HasNone w.sizes (block_at w n)

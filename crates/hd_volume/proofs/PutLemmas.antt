@@ -1,5 +1,5 @@
 -- Putting a segment into a block.
-use Rattle.std.proofs.Common.{◌≡◌, ◌≢◌, inl, inr, ℕ, ◌+◌, ◌-◌, ◌*◌, ◌/◌, ◌%◌, ◌<◌, ◌≤◌, List, length, Option, Some, None, IfSome, IfNone, sym, ap, ◌∙◌, arith, subst}
+use Rattle.std.proofs.Common.{◌≡◌, ◌≢◌, inl, inr, ℕ, ◌+◌, ◌-◌, ◌*◌, ◌/◌, ◌%◌, ◌<◌, ◌≤◌, List, length, slice_index, Option, Some, None, IfSome, IfNone, sym, ap, ◌∙◌, arith, subst}
 use Rattle.std.proofs.lemmas.Bool.{cases_eq}
 use Rattle.std.proofs.lemmas.Nat.{div-mul-add, mod-mul-add}
 use Rattle.hd_bytes.specs.Ranges.{with_bytes}
@@ -87,6 +87,7 @@ module _ (v w : VolumeState) (n a q : ℕ) (bs b1 : List ℕ) (f : IsFormatted v
             let P : List ℕ → Type 0 = λ b. left.free_bytes (parts_in w.sizes b) + length bs ≡ left.free_bytes (parts_in v.sizes (block_at v n)) in
             let Q : List SegmentSize → Type 0 = λ z. left.free_bytes (parts_in z (block_of v.size w.image n)) + length bs ≡ left.free_bytes (parts_in v.sizes (block_at v n)) in
             subst P (sym (block-seen c.same n)) (subst Q (sym c.same.sizes) put-block.free_bytes);
+        unused = λ k l u. put-block.unused k l u ∙ ap (λ (b : List ℕ). slice_index b k) (sym (block-seen c.same n));
       }
 
   pub put-space : (space : Space) → IsSpaceOf v.size v.sizes v.image space → IsSpaceOf v.size v.sizes w.image space

@@ -1,5 +1,5 @@
 -- A segment of a volume that is replaced by another.
-use Rattle.std.proofs.Common.{◌≡◌, ◌≢◌, ◌⊎◌, inl, inr, ℕ, ◌+◌, ◌-◌, ◌*◌, ◌/◌, ◌%◌, ◌<◌, ◌≤◌, List, length, Option, Some, None, refl, sym, ap, ◌∙◌, arith, subst}
+use Rattle.std.proofs.Common.{◌≡◌, ◌≢◌, ◌⊎◌, inl, inr, ℕ, ◌+◌, ◌-◌, ◌*◌, ◌/◌, ◌%◌, ◌<◌, ◌≤◌, List, length, slice_index, Option, Some, None, refl, sym, ap, ◌∙◌, arith, subst}
 use Rattle.hd_bytes.specs.Ranges.{with_bytes}
 use Rattle.hd_bytes.specs.Blocks.{block_of, HasBlock}
 use Rattle.hd_bytes.proofs.BlockLemmas.{length-block}
@@ -12,13 +12,13 @@ use Rattle.hd_volume.specs.Records.{find}
 use Rattle.hd_volume.specs.Rooms.{spare}
 use Rattle.hd_volume.specs.Spaces.{IsSpaceOf}
 use Rattle.hd_volume.specs.Steps.{IsShorter}
-use Rattle.hd_volume.specs.Calls.{KeepsOthers, KeepsHoles, KeepsFree, MayGrow, KeepsSize, HasSegment, IsWritten, IsFreed, IsPut, IsRewritten}
+use Rattle.hd_volume.specs.Calls.{KeepsOthers, KeepsHoles, KeepsFree, KeepsUnused, HasUnused, MayGrow, KeepsSize, HasSegment, IsWritten, IsFreed, IsPut, IsRewritten}
 use Rattle.hd_volume.proofs.MapLemmas.{IsFound, find-some, find-there, kind-there}
 use Rattle.hd_volume.proofs.ExtentLemmas.{segment-some}
 use Rattle.hd_volume.proofs.ShrinkLemmas.{IsShrunkIn, shrink-edits, with-all}
 use Rattle.hd_volume.proofs.FrameLemmas.{AreSame, HasChanged, block-seen, keeps-header, keeps-spare, keeps-formatted, keeps-holes, keeps-free}
 use Rattle.hd_volume.proofs.CallLemmas.{find-new, keeps-others, write-writes, write-space, IsOpened, opened-space, looked-at}
-use Rattle.hd_volume.proofs.JoinLemmas.{AreOne, one-block, one-kind, one-back, one-segments, one-spare, one-holes, one-count, one-free, grows-after, grows-through, grown-count}
+use Rattle.hd_volume.proofs.JoinLemmas.{AreOne, one-block, one-kind, one-back, one-segments, one-spare, one-holes, one-count, one-free, unused-on, unused-after, grows-after, grows-through, grown-count}
 use Rattle.hd_volume.specs.Spacing.{IsPlain}
 use Rattle.hd_volume.proofs.FreeLemmas.{stays-free}
 use Rattle.std.proofs.Math.Nat.{mul-le-mul_right}
@@ -30,8 +30,8 @@ use Rattle.hd_block.specs.Sizes.{size_at}
 -- a segment that was replaced in its place, in its block alone
 in-place : (v w : VolumeState) (a : ℕ) (bs : List ℕ) → AreSame v w → IsFormatted v → (h : HasSegment v a 0) → length bs ≤ length h.bytes → IsFormatted w
     → find w a ≡ Some bs → KeepsOthers v w a → ChangesBlock v.size (a / v.size) v.image w.image → header_of w.image ≡ header_of v.image → spare w ≡ spare v
-    → KeepsHoles v w → KeepsFree v w (a / v.size) → IsRewritten v a a bs w
-in-place v w a bs s f h fits fw is others c header spares holes free =
+    → KeepsHoles v w → KeepsFree v w (a / v.size) → KeepsUnused v w (a / v.size) → IsRewritten v a a bs w
+in-place v w a bs s f h fits fw is others c header spares holes free unused =
     let there = find-there v a 0 f h in
     let count : (header_of w.image).count ≡ (header_of v.image).count = ap (λ (x : Header). x.count) header in
     record {
@@ -55,6 +55,7 @@ in-place v w a bs s f h fits fw is others c header spares holes free =
       free = λ e. free;
       in_place = λ x. (spares, holes);
       holes = λ n more x. let y = holes n x in let large = y.large in record { block = y.block; is_data = y.is_data; large = omega arith };
+      unused = (λ _. unused, λ none. absurd (none there));
     }
 
 -- one of as many bytes
@@ -77,7 +78,7 @@ module _ (v w : VolumeState) (a : ℕ) (bs : List ℕ) (f : IsFormatted v) (h : 
   pub same-rewrites : IsRewritten v a a bs w
   same-rewrites =
       let x : IsWritten v a 0 bs w = write-writes v w a 0 bs f long sized least c placed in
-      in-place v w a bs c.same f h (omega arith) x.formatted (x.is h.bytes h.is ∙ ap (λ (z : List ℕ). Some z) (all h.bytes h.is)) x.others x.block x.header x.spares x.holes x.free
+      in-place v w a bs c.same f h (omega arith) x.formatted (x.is h.bytes h.is ∙ ap (λ (z : List ℕ). Some z) (all h.bytes h.is)) x.others x.block x.header x.spares x.holes x.free x.unused
 
   pub same-space : (space : Space) → IsSpaceOf v.size v.sizes v.image space → IsSpaceOf v.size v.sizes w.image space
   same-space = write-space v w a 0 bs f long sized least c placed
@@ -109,6 +110,7 @@ module _ (v w : VolumeState) (a : ℕ) (bs : List ℕ) (f : IsFormatted v) (h : 
       (keeps-holes c f.header shrunk.kind (λ _. shrunk.holes))
       (keeps-free c.same (a / v.size) (stays-free v.sizes (block_at v (a / v.size)) (block_of v.size w.image (a / v.size))
       (λ p some none. elim (cases_eq p (a % v.size)) [ inl e ↦ shrunk.was (rw e at none) | inr other ↦ some (shrunk.others p other ∙ none) ]) shrunk.free_bytes))
+      (λ k l u. shrunk.unused k l u ∙ ap (λ (b : List ℕ). slice_index b k) (sym (block-seen c.same (a / v.size))))
 
   pub shrink-space : (space new-space : Space) (hole : ℕ) → IsSpaceOf v.size v.sizes v.image space → IsOpened space (a / v.size) hole new-space
       → new-space.free ≡ space.free → new-space.lowest_free ≡ space.lowest_free → hole ≡ v.size → IsSpaceOf v.size v.sizes w.image new-space
@@ -134,6 +136,12 @@ put-apart {u} {v} a to bs h p e =
     let none : ◌≡◌ {A = Option (List ℕ)} None (Some h.bytes) = sym p.was ∙ ap (λ (i : ℕ). find u i) e ∙ h.is in
     let f : ⊥ = cc in
     f
+
+-- its block is there
+put-block : {u v : VolumeState} (to : ℕ) (bs : List ℕ) → IsPut u to bs v → v.size ≡ u.size → HasBlock v.size v.image (to / u.size)
+put-block {v = v} to bs p size =
+    let k = find-there v to 0 p.formatted (record { bytes = bs; is = p.is; long = omega arith }) in
+    subst (λ (z : ℕ). HasBlock v.size v.image (to / z)) size k.there
 
 -- so the old one still stands
 pub put-there : {u v : VolumeState} (a to : ℕ) (bs : List ℕ) → HasSegment u a 0 → IsPut u to bs v → HasSegment v a 0
@@ -173,6 +181,10 @@ move-rewrites {u} {v} {w} a to bs f h shorter size s p r =
       free = λ e. absurd (apart e);
       in_place = λ e. absurd (apart e);
       holes = λ n more x. r.holes (n - length bs) (p.holes n more x);
+      unused = unused-on u v w (to / u.size) p.unused (elim (cases_eq (to / u.size) (a / v.size)) [
+        | inl same ↦ (let K : ℕ → Type 0 = λ k. KeepsUnused v w k in subst K (sym same) r.unused)
+        | inr other ↦ λ k l b. ap (λ (z : List ℕ). slice_index z k) (sym (block-seen s (to / u.size) ∙ r.block.others (to / u.size) (put-block to bs p size) other))
+      ]);
     }
 
 -- ---- after a call that only read
@@ -207,4 +219,5 @@ rewritten-after {v} {w} {u} o plain-on a to bs r =
       free = λ e. (let K : ℕ → Type 0 = λ n. KeepsFree v u n in subst K from (λ need h. r.free e need (one-free o (a / w.size) need h)));
       in_place = λ e. let p = r.in_place e in (p.0 ∙ one-spare o, λ n h. p.1 n (one-holes o n h));
       holes = λ n more h. r.holes n more (one-holes o n h);
+      unused = (let P : ℕ → Type 0 = λ n. HasUnused v u n in subst P block (unused-after u o (to / w.size) r.unused));
     }

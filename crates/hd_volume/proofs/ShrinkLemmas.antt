@@ -105,6 +105,7 @@ pub record IsShrunkIn (sizes : List SegmentSize) (b b' : List ℕ) (q : ℕ) (bs
   pub is : segment_in sizes b' q ≡ Some bs
   pub others : (p : ℕ) → p ≢ q → segment_in sizes b' p ≡ segment_in sizes b p
   pub kind : slice_index b' 2 ≡ slice_index b 2
+  pub unused : AgreeOn 3 5 b b'
   pub holes : largest_hole (parts_in sizes b) ≤ largest_hole (parts_in sizes b')
   pub most : largest_hole (parts_in sizes b') ≤ length b'
   pub was : segment_in sizes b q ≢ None
@@ -149,6 +150,7 @@ shrink-edits sizes b b2 xs q n bs h w u some eighths less code t =
           ))
           (λ l v. x.back p l v other);
       kind = sym (t.head 2 (omega arith) (omega arith)) ∙ c.below 2 (omega arith);
+      unused = λ j l h. sym (c.below j (omega arith)) ∙ t.head j (omega arith) (omega arith);
       holes = rw (before, after) x.holes;
       most = rw after (largest-within sizes b2 8 _ zs divides);
       was = λ e. (let some : ◌≡◌ {A = Option (List ℕ)} None (Some (bytes_at b q n)) = sym e ∙ segment-is sizes b xs h w q n u in absurd (cc));

@@ -1,7 +1,7 @@
 -- What the calls of a volume do to it.
 use Rattle.std.specs.Prelude.{◌≡◌, ◌≢◌, ◌⊎◌, ℕ, ◌+◌, ◌-◌, ◌/◌, ◌<◌, ◌≤◌, IsTrue, List, length, Some, None, Result, slice_index}
 use Rattle.hd_bytes.specs.Blocks.{HasBlock}
-use Rattle.hd_bytes.specs.Ranges.{with_bytes}
+use Rattle.hd_bytes.specs.Ranges.{with_bytes, AgreeOn}
 use Rattle.hd_dbd.specs.declared.answer.Refused.{Refused}
 use Rattle.hd_dbd.specs.declared.hierarchy.FreeSpace.{FreeSpace}
 use Rattle.hd_stores.specs.Stores.{CountsDevice, StaysSound}
@@ -62,6 +62,18 @@ KeepsHoles old new = (n : ℕ) → HasHole old n → HasHole new n
 abbrev pub KeepsFree : VolumeState → VolumeState → ℕ → Type 0
 KeepsFree old new n = (need : ℕ) → HasBytesFree old.sizes need (block_at old n) → HasBytesFree new.sizes need (block_at new n)
 
+-- so many bytes at a place of a block are 0
+abbrev pub AreZero : ℕ → ℕ → List ℕ → Type 0
+AreZero place n block = (k : ℕ) → place ≤ k → k < place + n → slice_index block k ≡ 0
+
+-- bytes 3 to 7 of a block stay
+abbrev pub KeepsUnused : VolumeState → VolumeState → ℕ → Type 0
+KeepsUnused old new n = AgreeOn 3 5 (block_at old n) (block_at new n)
+
+-- Bytes 3 to 7 of block n, which is for data now, are those that it had where it was for data before; where it was not, they are 0.
+abbrev pub HasUnused : VolumeState → VolumeState → ℕ → Type 0
+HasUnused old new n = (IsKind old 1 n → KeepsUnused old new n) × ((IsKind old 1 n → ⊥) → AreZero 3 5 (block_at new n))
+
 -- Bytes were written into the segment at an address, in its block alone.
 pub record IsWritten (old : VolumeState) (address offset : ℕ) (bytes : List ℕ) (new : VolumeState) : Type 0 where
   pub formatted : IsFormatted new
@@ -73,6 +85,7 @@ pub record IsWritten (old : VolumeState) (address offset : ℕ) (bytes : List �
   pub spares : spare new ≡ spare old
   pub holes : KeepsHoles old new
   pub free : KeepsFree old new (address / old.size)
+  pub unused : KeepsUnused old new (address / old.size)
 
 -- The segment at an address was freed, in its block alone, which stays a data block; its bytes are room again.
 pub record IsFreed (old : VolumeState) (address : ℕ) (new : VolumeState) : Type 0 where
@@ -86,6 +99,7 @@ pub record IsFreed (old : VolumeState) (address : ℕ) (new : VolumeState) : Typ
   pub hole : (s : List ℕ) → find old address ≡ Some s → HasHole new (length s)
   pub holes : KeepsHoles old new
   pub free : KeepsFree old new (address / old.size)
+  pub unused : KeepsUnused old new (address / old.size)
 
 -- block n is the last of a volume, which has grown by it, or by it and the one before it
 abbrev pub IsLast : VolumeState → ℕ → VolumeState → Type 0
@@ -116,6 +130,7 @@ pub record IsPut (old : VolumeState) (address : ℕ) (bytes : List ℕ) (new : V
   pub spares : spare old ≤ spare new + 1
   pub in_hole : IsPlain old → HasHole old (length bytes) → spare new ≡ spare old
   pub holes : (n : ℕ) → length bytes < n → HasHole old n → HasHole new (n - length bytes)
+  pub unused : HasUnused old new (address / old.size)
 
 -- The segment at an address was replaced by another, which stands at an address: the same one, or a new one where it does not fit
 -- into the place of the old one, which then is room again. A hole of its size is used where there is one and the volume keeps nothing free.
@@ -137,6 +152,7 @@ pub record IsRewritten (old : VolumeState) (address to : ℕ) (bytes : List ℕ)
   pub in_place : to ≡ address → (spare new ≡ spare old) × KeepsHoles old new
   pub free : to ≡ address → KeepsFree old new (address / old.size)
   pub holes : (n : ℕ) → length bytes < n → HasHole old n → HasHole new (n - length bytes)
+  pub unused : HasUnused old new (to / old.size)
 
 -- Block n, which was free or is new, is an index block of a level; its count and its next block are 0.
 pub record IsTakenBlock (old : VolumeState) (n level : ℕ) (new : VolumeState) : Type 0 where

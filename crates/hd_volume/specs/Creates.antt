@@ -1,5 +1,5 @@
 -- A new volume.
-use Rattle.std.specs.Prelude.{◌≡◌, ◌⊎◌, ℕ, ◌*◌, ◌/◌, ◌%◌, Bool, IsTrue, List, [], ◌∷◌, length, replicate, slice_index, codes, None}
+use Rattle.std.specs.Prelude.{◌≡◌, ◌⊎◌, ℕ, ◌-◌, ◌*◌, ◌/◌, ◌%◌, Bool, IsTrue, List, [], ◌∷◌, length, drop, replicate, slice_index, codes, None}
 use Rattle.hd_dbd.specs.declared.answer.Refused.{Refused}
 use Rattle.hd_dbd.specs.declared.answer.Refused.TheVariants.{Memory, Device}
 use Rattle.hd_stores.specs.Stores.{CountsFor, SoundFor}
@@ -30,12 +30,13 @@ head_list name size largest =
     ∷ slice_index name 0 ∷ slice_index name 1 ∷ slice_index name 2 ∷ slice_index name 3 ∷ slice_index name 4 ∷ slice_index name 5 ∷ slice_index name 6 ∷ slice_index name 7
     ∷ 0 ∷ 0 ∷ 0 ∷ 0 ∷ 0 ∷ 0 ∷ 0 ∷ 0 ∷ 0 ∷ 0 ∷ 0 ∷ 0 ∷ 0 ∷ 0 ∷ 0 ∷ 0 ∷ []
 
--- A volume of one block with this header. Until it is flushed its store has one block of zeros, which no one takes for a
+-- A volume of one block with this header, and zeros behind it. Until it is flushed its store has one block of zeros, which no one takes for a
 -- volume.
 pub record IsCreated (name : List ℕ) (size largest : ℕ) (v : VolumeState) : Type 0 where
   pub formatted : IsFormatted v
   pub header : header_of v.image ≡ new_header name size largest
   pub one : length v.image ≡ size
+  pub behind : drop 44 v.image ≡ replicate (size - 44) 0
   pub stored : v.stored ≡ replicate (1 * size) 0
   pub empty : (address : ℕ) → find v address ≡ None
 

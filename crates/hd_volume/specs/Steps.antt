@@ -13,7 +13,7 @@ use Rattle.hd_volume.specs.Records.{segment_in, find}
 use Rattle.hd_volume.specs.Spacing.{IsPlain, IsLeftOut, bytes_to_leave, free_bytes, HasNoTwo}
 use Rattle.hd_volume.specs.Spaces.{blocks_in}
 use Rattle.hd_volume.specs.Rooms.{spare, largest_hole, HasHole}
-use Rattle.hd_volume.specs.Calls.{KeepsOthers, KeepsSegments, KeepsIndex, KeepsHoles, MayGrow, GrowsByOne}
+use Rattle.hd_volume.specs.Calls.{KeepsOthers, KeepsSegments, KeepsIndex, KeepsHoles, KeepsUnused, HasUnused, MayGrow, GrowsByOne}
 
 -- What every call does, without a word on what is kept free.
 pub record IsStep {T : Type 0} (old : VolumeState) (result : Result T Refused) (new : VolumeState) : Type 0 where
@@ -49,6 +49,7 @@ pub record IsPutIn (old : VolumeState) (n address : ℕ) (bytes : List ℕ) (new
   pub holes : (k : ℕ) → length bytes < k → HasHole old k → HasHole new (k - length bytes)
   pub alone : HasNone old.sizes (block_at old n) → HasNoTwo new.sizes (block_at new n)
   pub free : free_bytes (parts_in new.sizes (block_at new n)) + length bytes ≡ free_bytes (parts_in old.sizes (block_at old n))
+  pub unused : KeepsUnused old new n
 
 -- Block n is free: it was, and nothing has changed, or the volume has grown by it.
 pub record HasFree (old : VolumeState) (n : ℕ) (new : VolumeState) : Type 0 where
@@ -97,6 +98,7 @@ pub record IsReady (old : VolumeState) (n need : ℕ) (new : VolumeState) : Type
   pub spares : spare old ≤ spare new + 1
   pub in_hole : IsPlain old → HasHole old need → spare new ≡ spare old
   pub holes : KeepsHoles old new
+  pub unused : HasUnused old new n
 
 -- Free block n has become an index block of a level, with no entry and none behind it.
 pub record IsMadeIndex (old : VolumeState) (n level : ℕ) (new : VolumeState) : Type 0 where

@@ -42,6 +42,7 @@ impl<S: BlockStore> Volume<S> {
     fn format(&mut self, name: &[u8; 8], largest: u32)
         requires one { IsTrue self.old.is_sound → length self.old.image ≡ self.old.size }
         requires stored { IsTrue self.old.is_sound → self.old.stored ≡ replicate (1 * self.old.size) 0 }
+        requires zeros { IsTrue self.old.is_sound → self.old.image ≡ replicate (1 * self.old.size) 0 }
         requires bounds { (0 < largest) × (largest ≤ MOST_BLOCKS) }
         requires eight { length name.now ≡ 8 }
         ensures rest { self.new ≡ record self.old { image = self.new.image } }

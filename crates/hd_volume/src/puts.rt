@@ -3,7 +3,7 @@ ghost use Rattle.hd_dbd.specs.Refusals.{OnlyDevice, OnlyRoomOrDevice};
 ghost use Rattle.hd_volume.specs.Headers.{header_of};
 ghost use Rattle.hd_volume.specs.Volumes.{IsFormatted, IsKind, block_at};
 ghost use Rattle.hd_volume.specs.Rooms.{spare, HasHole, HasFreeBlock};
-ghost use Rattle.hd_volume.specs.Calls.{IsCall, IsRead, IsPut, GrowsByOne};
+ghost use Rattle.hd_volume.specs.Calls.{IsCall, IsRead, IsPut, GrowsByOne, AreZero};
 ghost use Rattle.hd_volume.specs.Spacing.{IsPlain, IsLeftOut, HasLeft};
 ghost use Rattle.hd_volume.specs.Steps.{IsStep, KeepsSpacing, IsOpenFor, HasNone, HasRoom, IsPutIn, HasFree, IsMade, IsReady, data_head};
 ghost use Rattle.hd_volume.specs.declared.load.TheConstants.{MOST_BLOCKS};
@@ -71,6 +71,7 @@ impl<S: BlockStore> Volume<S> {
         ensures made { OnOk result (IsTrue self.old.is_sound → IsMade self.old n 1 self.new) }
         ensures has_room { OnOk result (IsTrue self.old.is_sound → HasRoom self.new n (self.old.size - 8)) }
         ensures empty { OnOk result (IsTrue self.old.is_sound → HasNone self.new.sizes (block_at self.new n)) }
+        ensures unused { OnOk result (IsTrue self.old.is_sound → AreZero 3 5 (block_at self.new n)) }
         ensures refusal { OnlyDevice result }
         ensures room { self.new.room ≡ self.old.room }
     {

@@ -7,7 +7,7 @@ use Rattle.hd_volume.specs.Buffers.{Buffered}
 use Rattle.hd_volume.specs.Volumes.{VolumeState}
 use Rattle.hd_volume.specs.Creates.{IsCreated, head_list}
 use Rattle.hd_volume.specs.Spaces.{volume_of, room_for}
-use Rattle.hd_volume.proofs.CreateLemmas.{only-space, created}
+use Rattle.hd_volume.proofs.CreateLemmas.{only-space, own-block, created}
 use Rattle.hd_volume.proofs.volume.Volume.format.Goals as goal
 
 pub invariant_of-self : goal.invariant_of-self
@@ -46,6 +46,7 @@ returns-clause-created g c =
     let stored-is : c.write_front.new.self.stored ≡ v.stored = ap (λ (b : Buffered). b.stored) c.write_front.ensures.rest in
     let room2 : ℕ = room_for c.self.inside.spacing c.write_front.new.self.room (vec_len c.self.inside.space.contents) (vec_capacity c.self.inside.space.contents) in
     let w : VolumeState = volume_of c.write_front.new.self c.self.inside.sizes.items c.self.inside.spacing room2 in
+    let Z : VolumeState → Type 0 = λ u. IsTrue u.is_sound → u.image ≡ replicate (1 * u.size) 0 in
     let P : VolumeState → Type 0 = λ u. IsTrue u.is_sound → IsCreated c.args.name.now u.size c.args.largest w in
     subst P c.self.view_is
     (λ before.
@@ -57,4 +58,5 @@ returns-clause-created g c =
     let bytes : block_of v.size w.image 0 ≡ with_bytes (block_of v.size v.image 0) 0 (head_list c.args.name.now v.size c.args.largest) =
     c.write_front.ensures.block before first ∙ ap (λ (t : List ℕ). with_bytes (block_of v.size v.image 0) 0 t) (c.head_bytes.ensures ∙ ap (λ (k : ℕ). head_list c.args.name.now k c.args.largest) c.block_size-size.ensures.value) in
     created w (block_of v.size v.image 0) c.args.name.now v.size c.args.largest (omega arith) size c.requires.eight (len ∙ one) (length-block v.size 0 v.image first) bytes c.requires.bounds.0 c.requires.bounds.1
-    (stored-is ∙ subst T (sym c.self.view_is) c.requires.stored before))
+    (stored-is ∙ subst T (sym c.self.view_is) c.requires.stored before)
+    (own-block v.size v.image one ∙ subst Z (sym c.self.view_is) c.requires.zeros before))

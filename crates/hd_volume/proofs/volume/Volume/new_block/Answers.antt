@@ -15,4 +15,4 @@ returns-clause-ready g c sound need fits none =
     let large = room.large in
     let r : HasRoom w c.in_ok-n.n need = record { is_data = room.is_data; large = omega arith } in
     let same : AreSame m w = record { size = c.in_ok-make_data.ensures.step.size; sizes = c.in_ok-make_data.ensures.step.sizes } in
-    ready-new c.in_ok-n.n need same (c.requires.formatted sound) (c.in_ok-n.ensures.free sound) (c.in_ok-make_data.ensures.made now) r none (c.in_ok-n.ensures.by_one sound) (sym size)
+    ready-new c.in_ok-n.n need same (c.requires.formatted sound) (c.in_ok-n.ensures.free sound) (c.in_ok-make_data.ensures.made now) r none (c.in_ok-n.ensures.by_one sound) (sym size) (omega arith) (c.in_ok-make_data.ensures.unused now)
