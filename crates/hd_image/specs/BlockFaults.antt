@@ -7,6 +7,7 @@ use Rattle.hd_bytes.specs.Numbers.{number_at}
 use Rattle.hd_dbd.specs.Types.{SegmentType}
 use Rattle.hd_dbd.specs.Hierarchy.{Database}
 use Rattle.hd_dbd.specs.Lengths.{some_vary}
+use Rattle.hd_volume.specs.declared.header.TheConstants.{NEWEST_VERSION}
 use Rattle.hd_volume.specs.Headers.{header_of, HasHeader}
 use Rattle.hd_volume.specs.Volumes.{VolumeState, block_at, kind_of, IsKind}
 use Rattle.hd_volume.specs.Indexes.{IsAmong}
@@ -19,9 +20,9 @@ use Rattle.hd_block.specs.Sizes.{size_at}
 abbrev pub IsNoVolume : Database → VolumeState → ℕ → ℕ → Type 0
 IsNoVolume d v address other = (HasHeader d.block_size v.image → ⊥) × (address ≡ 0) × (other ≡ 0)
 
--- a version that is known: 3, and where no segments vary also 1, where the index is a chain, and 2
+-- a version that is known: the newest, and where no segments vary also 1, where the index is a chain, and 2
 abbrev pub IsKnownVersion : List SegmentType → ℕ → Type 0
-IsKnownVersion types version = (version ≡ 3) ⊎ ((some_vary types ≡ false) × ((version ≡ 1) ⊎ (version ≡ 2)))
+IsKnownVersion types version = (version ≡ NEWEST_VERSION) ⊎ ((some_vary types ≡ false) × ((version ≡ 1) ⊎ (version ≡ 2)))
 
 -- 2: its version is not known
 abbrev pub IsOfNoVersion : Database → VolumeState → ℕ → ℕ → Type 0

@@ -6,6 +6,7 @@ use Rattle.hd_dbd.specs.Prefixes.{size_with}
 use Rattle.hd_dbd.specs.Segment.{Segment}
 use Rattle.hd_dbd.specs.Rows.{row_fits}
 use Rattle.hd_dbd.specs.Loads.{Loading, rows_loaded, image_before, last_path, load_fault, IsLegalLoad}
+use Rattle.hd_volume.specs.declared.header.TheConstants.{NEWEST_VERSION}
 use Rattle.hd_volume.specs.Headers.{header_of}
 use Rattle.hd_volume.specs.Volumes.{VolumeState}
 use Rattle.hd_volume.specs.Rooms.{spare, HasHole}
@@ -60,14 +61,14 @@ pub record IsFullAt (d : Database) (stream : List ℕ) (largest n : ℕ) : Type 
 abbrev pub LeavesFreeSpace : Database → List ℕ → Type 0
 LeavesFreeSpace d image = HasLeft (record (volume_of d image) { spacing = d.frspc })
 
--- The bytes are a volume of version 3 that holds the rows of the stream and leaves free space, with this largest count, so many segments and
+-- The bytes are a volume of the newest version that holds the rows of the stream and leaves free space, with this largest count, so many segments and
 -- so many blocks.
 pub record IsReloaded (d : Database) (stream : List ℕ) (largest segments blocks : ℕ) (image : List ℕ) : Type 0 where
   pub rows : List Segment
   pub stream_of : IsStreamOf d stream rows
   pub holds : HoldsRows d (volume_of d image) rows
   pub space : LeavesFreeSpace d image
-  pub version : (header_of image).version ≡ 3
+  pub version : (header_of image).version ≡ NEWEST_VERSION
   pub largest_is : (header_of image).largest ≡ largest
   pub segments_are : segments ≡ length rows
   pub blocks_are : blocks ≡ (header_of image).count

@@ -3,15 +3,16 @@ use Rattle.std.specs.Prelude.{◌≡◌, ◌⊎◌, ℕ, ◌-◌, ◌*◌, ◌/�
 use Rattle.hd_dbd.specs.declared.answer.Refused.{Refused}
 use Rattle.hd_dbd.specs.declared.answer.Refused.TheVariants.{Memory, Device}
 use Rattle.hd_stores.specs.Stores.{CountsFor, SoundFor}
+use Rattle.hd_volume.specs.declared.header.TheConstants.{NEWEST_VERSION}
 use Rattle.hd_volume.specs.Headers.{Header, header_of}
 use Rattle.hd_volume.specs.Volumes.{VolumeState, IsFormatted}
 use Rattle.hd_volume.specs.Records.{find}
 
--- the header of a new volume: version 3, one block, no roots and no index
+-- the header of a new volume: the newest version, one block, no roots and no index
 abbrev pub new_header : List ℕ → ℕ → ℕ → Header
 new_header name size largest = record {
   mark = codes "HDVOLUME";
-  version = 3;
+  version = NEWEST_VERSION;
   block_size = size;
   count = 1;
   largest = largest;

@@ -16,7 +16,7 @@ use Rattle.hd_forest.specs.Walks.{tip, parent_on}
 use Rattle.hd_forest.specs.Sets.{named, IsTwinPlace, IsRecorded}
 use Rattle.hd_forest.specs.Replacing.{IsSegmentSet}
 use Rattle.hd_forest.proofs.Reading.{after-read, sound-before, volume-kept, links-kept}
-use Rattle.hd_forest.proofs.Keeping.{keeps-same}
+use Rattle.hd_forest.proofs.Keeping.{keeps-same, free-seen}
 use Rattle.hd_forest.proofs.Naming.{sound-as}
 use Rattle.hd_forest.proofs.RowsSet.{outgrown, MayMove, may-move-after, before-there, behind-there, move-done, row-set-read}
 use Rattle.hd_forest.proofs.replacements.move_row.Goals as goal
@@ -54,6 +54,18 @@ returns-in_err-to-clause-call g c =
     let p = err_from_is_err_and c.from_residual-in_err-to.result c.from_residual-in_err-to.ensures.1 in
     subst (λ (r : Result ℕ Refused). IsCall c.args.volume.now r c.set_segment.new.volume) (sym (p.1 ∙ ap Err p.2))
     (calls-join (Err c.in_err-to.field-0.0) (reads-join (Ok c.in_ok-behind.behind) c.in_ok-before.ensures.read c.in_ok-behind.ensures.read).call c.in_err-to.ensures.call)
+
+pub returns-in_err-to-clause-no_free : goal.returns-in_err-to-clause-no_free
+returns-in_err-to-clause-no_free g c =
+    let d = c.args.dbd.now in
+    let u : VolumeState = c.args.volume.now in
+    let v : VolumeState = c.next_twin.new.volume in
+    let two = reads-join (Ok c.in_ok-behind.behind) c.in_ok-before.ensures.read c.in_ok-behind.ensures.read in
+    let p = err_from_is_err_and c.from_residual-in_err-to.result c.from_residual-in_err-to.ensures.1 in
+    subst (λ (r : Result ℕ Refused). IfErr r (λ e. e ≡ Memory → IsTrue u.is_sound → HasFreeBlock u → ⊥)) (sym (p.1 ∙ ap Err p.2))
+    (λ memory sound free.
+    let same = after-read d u v two sound in
+    c.in_err-to.ensures.no_free memory same.sound (free-seen u v same.image two.call.size free))
 
 pub returns-in_err-to-clause-no_hole : goal.returns-in_err-to-clause-no_hole
 returns-in_err-to-clause-no_hole g c =

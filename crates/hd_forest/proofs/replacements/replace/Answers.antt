@@ -15,7 +15,7 @@ use Rattle.hd_image.specs.Records.{stored_at, links_of, IsVolumeOf}
 use Rattle.hd_forest.specs.Walks.{tip}
 use Rattle.hd_forest.specs.Replacing.{room_of, Outgrows, IsSegmentSet, IsRowSet}
 use Rattle.hd_forest.proofs.Reading.{after-read, sound-before, volume-kept, links-kept}
-use Rattle.hd_forest.proofs.Keeping.{keeps-same}
+use Rattle.hd_forest.proofs.Keeping.{keeps-same, free-seen}
 use Rattle.hd_forest.proofs.Naming.{sound-as}
 use Rattle.hd_forest.proofs.RowsSet.{outgrown, ingrown, stored-after, row-stays, row-set-read}
 use Rattle.hd_forest.proofs.replacements.replace.Goals as goal
@@ -124,6 +124,17 @@ returns-then-branch-clause-set g c =
     row-set-read d u v c.move_row.new.volume c.args.path.now (record { code = c.args.code; bytes = c.args.bytes.now }) to read sound (same.volume (c.requires.of sound)) (done same.sound))
     c.move_row.ensures.set
 
+pub returns-then-branch-clause-no_free : goal.returns-then-branch-clause-no_free
+returns-then-branch-clause-no_free g c =
+    IfErr-weaker c.move_row.result _ _ (λ e none memory sound free.
+    let d = c.args.dbd.now in
+    let u = c.args.volume.now in
+    let v = c.outgrows.new.volume in
+    let read = c.in_ok-outgrows.ensures.read in
+    let same = after-read d u v read sound in
+    none memory same.sound (free-seen u v same.image read.call.size free))
+    c.move_row.ensures.no_free
+
 pub returns-then-branch-clause-no_hole : goal.returns-then-branch-clause-no_hole
 returns-then-branch-clause-no_hole g c =
     IfErr-weaker c.move_row.result _ _ (λ e none memory sound hole.
@@ -156,6 +167,17 @@ returns-clause-set g c =
     row-set-read d u v w path row to read sound of
     (row-stays d v w path row to of.fit of (same.forest (c.requires.holds sound)) can (set.room.stays (ingrown d v (tip path) size of.fit of can.there low)) set))
     c.set_segment.ensures.set
+
+pub returns-clause-no_free : goal.returns-clause-no_free
+returns-clause-no_free g c =
+    IfErr-weaker c.set_segment.result _ _ (λ e none memory sound free.
+    let d = c.args.dbd.now in
+    let u = c.args.volume.now in
+    let v = c.outgrows.new.volume in
+    let read = c.in_ok-outgrows.ensures.read in
+    let same = after-read d u v read sound in
+    none memory same.sound (free-seen u v same.image read.call.size free))
+    c.set_segment.ensures.no_free
 
 pub returns-clause-no_hole : goal.returns-clause-no_hole
 returns-clause-no_hole g c =
