@@ -12,3 +12,5 @@ pub mod Deletions
 pub mod Holes
 pub mod SetEntries
 pub mod SetRows
+pub mod RoomOf
+pub mod Plain

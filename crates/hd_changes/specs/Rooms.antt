@@ -33,9 +33,13 @@ FindsNoMemory types v row = (v.room ≡ 0) × (HasHole v (size_with types row.co
 
 -- ---- rows of which none is a root
 
--- There is room for the rows: as many blocks are to spare, or one hole is as large as all of them together.
+-- There is room for so many rows, which take so many bytes together: as many blocks are to spare, or one hole is as large as all of them.
+abbrev pub HasRoom : ℕ → ℕ → VolumeState → Type 0
+HasRoom count total v = (count ≤ spare v) ⊎ HasHole v total
+
+-- there is room for the rows
 abbrev pub HasRoomFor : List SegmentType → VolumeState → List Segment → Type 0
-HasRoomFor types v rows = (length rows ≤ spare v) ⊎ HasHole v (stored_sizes types rows)
+HasRoomFor types v rows = HasRoom (length rows) (stored_sizes types rows) v
 
 -- Memory is reserved for the rows: for as many blocks, or one hole is as large as all of them together.
 abbrev pub HasMemoryFor : List SegmentType → VolumeState → List Segment → Type 0
@@ -60,13 +64,17 @@ RoomLasts =
 abbrev pub blocks_for_entry : Database → VolumeState → List ℕ → ℕ
 blocks_for_entry d v key = blocks_needed (root_key_length d.types) v key
 
--- There is room for a root of the key, the rows below it, and the root's entry: the index may have a level more, the blocks that the entry
--- needs are to spare, and beside them one for each row, or one hole is as large as all rows together. A hole counts only where the rows take no
--- block that the entry needs: the volume keeps nothing free, or the entry needs none.
-abbrev pub HasRootRoomFor : Database → VolumeState → List ℕ → List Segment → Type 0
-HasRootRoomFor d v key rows =
+-- There is room for so many rows, which take so many bytes together, of which the first is a root of the key, and for the root's entry: the
+-- index may have a level more, the blocks that the entry needs are to spare, and beside them one for each row, or one hole is as large as all
+-- rows. A hole counts only where the rows take no block that the entry needs: the volume keeps nothing free, or the entry needs none.
+abbrev pub HasRootRoom : Database → List ℕ → ℕ → ℕ → VolumeState → Type 0
+HasRootRoom d key count total v =
     (IsHighest v → ⊥)
-    × ((length rows + blocks_for_entry d v key ≤ spare v) ⊎ (HasHole v (stored_sizes d.types rows) × (blocks_for_entry d v key ≤ spare v) × (IsPlain v ⊎ (blocks_for_entry d v key ≡ 0))))
+    × ((count + blocks_for_entry d v key ≤ spare v) ⊎ (HasHole v total × (blocks_for_entry d v key ≤ spare v) × (IsPlain v ⊎ (blocks_for_entry d v key ≡ 0))))
+
+-- there is room for a root of the key, the rows below it, and the root's entry
+abbrev pub HasRootRoomFor : Database → VolumeState → List ℕ → List Segment → Type 0
+HasRootRoomFor d v key rows = HasRootRoom d key (length rows) (stored_sizes d.types rows) v
 
 -- Memory is reserved for a root, the rows below it, and the root's entry: for as many blocks as all may need.
 abbrev pub HasRootMemoryFor : VolumeState → List Segment → Type 0

@@ -1,10 +1,10 @@
 -- The bytes of volumes as the images that a log of calls speaks of.
-use Rattle.std.specs.Prelude.{◌≡◌, ◌↔◌, ◌⊎◌, ℕ, ◌+◌, ◌<◌, ◌≤◌, List, length, true, Bool, cond}
+use Rattle.std.specs.Prelude.{◌≡◌, ◌↔◌, ◌⊎◌, ℕ, ◌+◌, ◌<◌, ◌≤◌, List, [], ◌∷◌, length, true, Bool, cond}
 use Rattle.hd_dbd.specs.Hierarchy.{Database}
 use Rattle.hd_dbd.specs.Segment.{Segment}
 use Rattle.hd_dbd.specs.Forest.{Forest}
 use Rattle.hd_calls.specs.Moves.{Change}
-use Rattle.hd_calls.specs.Runs.{Images, stored_sizes, rows_stored, inserts_root, blocks_for, AddressesFollow, LacksRoom, Follows}
+use Rattle.hd_calls.specs.Runs.{Images, stored_sizes, rows_stored, has_root, inserts_root, blocks_for, AddressesFollow, LacksRoom, Follows}
 use Rattle.hd_volume.specs.Headers.{header_of}
 use Rattle.hd_volume.specs.Volumes.{VolumeState}
 use Rattle.hd_volume.specs.Rooms.{spare, HasHole}
@@ -52,6 +52,10 @@ LackingRoomIsTheRule =
     (d : Database) (v : VolumeState) (rows : List Segment) (root : Bool) → IsVolumeOf d v
     → LacksRoom (images_of d) d.types v.image rows root
     ↔ (((spare v < length rows + cond root (entry_growth v) 0) ⊎ ((root ≡ true) × IsHighest v)) × ((root ≡ true) ⊎ (HasHole v (stored_sizes d.types rows) → ⊥)))
+
+-- a volume's bytes lack room for one row more
+abbrev pub LacksRoomForRow : Database → VolumeState → Segment → Type 0
+LacksRoomForRow d v row = LacksRoom (images_of d) d.types v.image (row ∷ []) (has_root (row ∷ []))
 
 -- A volume's bytes follow from those before by a change of the rows where the largest count stays, no more blocks were taken than the
 -- change may need, and the addresses of the two forests follow.

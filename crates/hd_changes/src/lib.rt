@@ -1,9 +1,10 @@
-//! What a volume holds after each change of its forest and of its index, and what the index answers of its rows.
+//! What a volume holds after each change of its forest and of its index, what the index answers of its rows, and whether there is room for new rows.
 //!
 //! The definitions stand in this crate's `specs/`, the laws in `law`.
 #![tactic(auto)]
 
 mod law;
+mod room;
 
 pub use law::{
     law_changed_volumes_hold, law_changes_are_apart, law_changes_keep_entries,
@@ -14,3 +15,4 @@ pub use law::{
     law_settings_add_up, law_the_index_answers_roots, law_unlinked_spans_are_deleted,
     law_volumes_are_images,
 };
+pub use room::{has_hole, lacks_room, row_size};

@@ -1,5 +1,5 @@
 -- A session over a volume: what it keeps to, and how it is opened, flushed and closed.
-use Rattle.std.specs.Prelude.{◌≡◌, ◌≢◌, ℕ, ◌<◌, List, [], length, map, IsTrue, Bool, true, false, Some, Result, Ok, Err}
+use Rattle.std.specs.Prelude.{◌≡◌, ◌≢◌, ℕ, ◌<◌, ◌≤◌, List, [], length, map, IsTrue, Bool, true, false, Some, Result, Ok, Err}
 use Rattle.std.specs.List.{list_any}
 use Rattle.hd_dbd.specs.declared.answer.Refused.{Refused}
 use Rattle.hd_dbd.specs.declared.answer.Refused.TheVariants as refused
@@ -18,7 +18,7 @@ use Rattle.hd_calls.specs.NoLostUpdate.{opened}
 use Rattle.hd_volume.specs.Headers.{header_of}
 use Rattle.hd_volume.specs.Volumes.{VolumeState}
 use Rattle.hd_volume.specs.Spacing.{IsPlain}
-use Rattle.hd_volume.specs.Calls.{IsRead}
+use Rattle.hd_volume.specs.Calls.{IsCall, IsRead}
 use Rattle.hd_volume.specs.declared.header.TheConstants.{NEWEST_VERSION}
 use Rattle.hd_links.specs.Placed.{Placed, forest_of}
 use Rattle.hd_links.specs.Steps.{rows_of}
@@ -110,9 +110,17 @@ opening_call (Err opening.NotEmptyForLoad) = Err refused.Memory
 opening_call (Err opening.Memory) = Err refused.Memory
 opening_call (Err opening.Device) = Err refused.Device
 
--- the volume was only read; it is in the session, or it was given back beside the fault
+-- The volume was only read and is in the session, where it keeps nothing free as it grows.
+pub record IsReadPlain (v : VolumeState) (s : SessionState) : Type 0 where
+  pub call : IsCall v (Ok s) s.volume
+  pub image : IsTrue s.volume.is_sound → s.volume.image ≡ v.image
+  pub stands : IsTrue s.volume.is_sound → v.stored ≡ v.image → s.volume.stored ≡ s.volume.image
+  pub plain : IsPlain s.volume
+  pub room : v.room ≤ s.volume.room
+
+-- the volume was only read; it is in the session, or it was given back beside the fault as it was
 abbrev pub IsOpenRead : VolumeState → Result SessionState (VolumeState × OpenFault) → Type 0
-IsOpenRead v (Ok s) = IsRead v (Ok s) s.volume
+IsOpenRead v (Ok s) = IsReadPlain v s
 IsOpenRead v (Err given) = IsRead v (opening_call {T = SessionState} (Err given.1)) given.0
 
 -- ---- failed accesses

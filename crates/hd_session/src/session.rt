@@ -2,7 +2,6 @@ ghost use Rattle.std.specs.Prelude.{◌≡◌, ◌≢◌, ◌<◌, ◌≤◌, Er
 ghost use Rattle.hd_dbd.specs.Facts.{stored_sizes};
 ghost use Rattle.hd_dbd.specs.Hierarchy.{longest_path};
 ghost use Rattle.hd_dbd.specs.ProgramRules.{type_names};
-ghost use Rattle.hd_volume.specs.Spacing.{IsPlain};
 ghost use Rattle.hd_volume.specs.Calls.{IsCall};
 ghost use Rattle.hd_stores.specs.Stores.{CountsDevice, StaysSound};
 ghost use Rattle.hd_calls.specs.Functions.{function_of};
@@ -21,7 +20,7 @@ use hd_calls::Function;
 use hd_dbd::{Dbd, Psb, Refused};
 use hd_position::Position;
 use hd_stores::BlockStore;
-use hd_volume::Volume;
+use hd_volume::{NO_SPACING, Volume};
 use std::alloc::Global;
 use std::marker::Model;
 
@@ -52,7 +51,7 @@ impl<'a, S: BlockStore> Model for Session<'a, S> {
 
 impl<'a, S: BlockStore> Session<'a, S> {
     /// A session in which each PCB is before all rows, over a volume that passes a check, and that is empty where a PCB loads. A fault
-    /// gives the volume back. The volume is one that keeps nothing free as it grows: only loads do.
+    /// gives the volume back as it was. In a session it keeps nothing free as it grows: only loads do.
     pub fn open(
         alloc: Global,
         mut volume: Volume<S>,
@@ -60,7 +59,6 @@ impl<'a, S: BlockStore> Session<'a, S> {
         psb: &'a Psb,
     ) -> Result<Session<'a, S>, (Volume<S>, OpenFault)>
         requires size { (volume.size ≡ dbd.now.block_size) × (volume.sizes ≡ stored_sizes dbd.now.types) }
-        requires plain { IsPlain volume }
         requires matches { psb.now.made_for ≡ type_names dbd.now.types }
         ensures read { IsOpenRead volume result }
         ensures start { IfOk result (λ s. s ≡ session_at_start dbd.now psb.now.pcbs s.volume) }
@@ -72,15 +70,18 @@ impl<'a, S: BlockStore> Session<'a, S> {
             return Err((volume, fault));
         }
         match start_positions(alloc, pcbs) {
-            Ok(positions) => Ok(Session {
-                volume,
-                dbd,
-                psb,
-                positions,
-                above: KeysAbove::new(alloc),
-                broken: false,
-                alloc,
-            }),
+            Ok(positions) => {
+                volume.set_spacing(NO_SPACING);
+                Ok(Session {
+                    volume,
+                    dbd,
+                    psb,
+                    positions,
+                    above: KeysAbove::new(alloc),
+                    broken: false,
+                    alloc,
+                })
+            }
             Err(_) => Err((volume, OpenFault::Memory)),
         }
     }

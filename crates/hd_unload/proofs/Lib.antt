@@ -10,4 +10,3 @@ pub mod Streaming
 pub mod HeldStreams
 pub mod Accepting
 pub mod OneVolume
-pub mod RoomRule

@@ -42,32 +42,6 @@ room-same d v w row o plain room = (one-volume d v w (record { image = o.image; 
 pub call-one : {v w : VolumeState} → w.size ≡ v.size → w.sizes ≡ v.sizes → w.image ≡ v.image → AreOne v w
 call-one size sizes image = record { same = record { size = size; sizes = sizes }; image = image }
 
--- a volume that keeps nothing free any more is a call behind
-pub plain-call : {T : Type 0} {v w : VolumeState} (x : T) → w ≡ record v { spacing = no_spacing; room = w.room } → IsCall {T = T} v (Ok x) w
-plain-call {v = v} {w = w} x rest = record {
-  counts = ap (λ (u : VolumeState). u.failures) rest;
-  sound = ap (λ (u : VolumeState). u.is_sound) rest;
-  size = ap (λ (u : VolumeState). u.size) rest;
-  sizes = ap (λ (u : VolumeState). u.sizes) rest;
-  first = λ _. subst (λ (s : List ℕ). KeepsFirst v.size v.stored s) (sym (ap (λ (u : VolumeState). u.stored) rest)) (record { len = omega arith; first = λ _. refl });
-  plain = λ _. ap (λ (u : VolumeState). u.spacing) rest;
-  space = λ s _. record { left = λ _ _. plain-space w (ap (λ (u : VolumeState). u.spacing) rest) };
-}
-
-pub plain-one : {v w : VolumeState} → w ≡ record v { spacing = no_spacing; room = w.room } → AreOne v w
-plain-one rest = record {
-  same = record { size = ap (λ (u : VolumeState). u.size) rest; sizes = ap (λ (u : VolumeState). u.sizes) rest };
-  image = ap (λ (u : VolumeState). u.image) rest;
-}
-
--- a hole that a root may use, and blocks enough for its entry
-pub hole-serves : (d : Database) (v x : VolumeState) (row : Segment) → AreOne v x → IsPlain x → (IsHighest v → ⊥) → HasHole v (stored_sizes d.types (row ∷ []))
-    → blocks_for_entry d v (key_of d.types row) ≤ spare v → HasRootRoom d x row
-hole-serves d v x row o plain low hole enough =
-    let same : AreOne v (record v { spacing = no_spacing }) = record { same = record { size = refl; sizes = refl }; image = refl } in
-    let here : HasHole (record v { spacing = no_spacing }) (stored_sizes d.types (row ∷ [])) = one-holes same (stored_sizes d.types (row ∷ [])) hole in
-    room-same d (record v { spacing = no_spacing }) x row (record { same = record { size = o.same.size; sizes = o.same.sizes }; image = o.image }) (λ _. plain) (low, inr (here, enough, inl refl))
-
 -- the blocks that a row may need
 growth-same : (v w : VolumeState) (row : Segment) → w.image ≡ v.image → blocks_for w row ≡ blocks_for v row
 growth-same v w row image = ap (λ (n : ℕ). 1 + cond (row.code == 1) n 0) (need.growth-same v w image)

@@ -1,15 +1,11 @@
--- Laws of the unload stream, and of the room for what is loaded.
-use Rattle.std.specs.Prelude.{◌≡◌, ◌↔◌, ℕ, List, [], ◌∷◌, length}
+-- Laws of the unload stream.
+use Rattle.std.specs.Prelude.{◌≡◌, ℕ, List, length}
 use Rattle.hd_dbd.specs.Hierarchy.{Database}
 use Rattle.hd_dbd.specs.Segment.{Segment}
-use Rattle.hd_calls.specs.Runs.{has_root, LacksRoom as LacksRoomForRows}
 use Rattle.hd_volume.specs.Volumes.{VolumeState}
-use Rattle.hd_image.specs.Records.{IsVolumeOf}
 use Rattle.hd_image.specs.Laws.{IsDatabase}
 use Rattle.hd_image.specs.Holding.{HoldsRows}
 use Rattle.hd_unload.specs.declared.fault.RecordFault.{RecordFault}
-use Rattle.hd_changes.specs.VolumeImages.{images_of}
-use Rattle.hd_unload.specs.Loads.{LacksRoom}
 use Rattle.hd_unload.specs.Streams.{unload_bytes, IsStreamOf, IsRefusedAt}
 
 -- A stream of a database spells one list of rows.
@@ -25,9 +21,3 @@ StreamsAreNotRefused =
 -- The rows that a volume holds have a stream, so what is unloaded can be reloaded.
 abbrev pub HeldRowsHaveAStream : Type 0
 HeldRowsHaveAStream = (d : Database) (v : VolumeState) (rows : List Segment) → HoldsRows d v rows → IsStreamOf d (unload_bytes d rows) rows
-
--- A volume lacks room for a row that is loaded just where its bytes lack room for it as a row that a call puts in.
-abbrev pub LoadsAndCallsShareARule : Type 0
-LoadsAndCallsShareARule =
-    (d : Database) (v : VolumeState) (row : Segment) → IsVolumeOf d v
-    → LacksRoom d v row ↔ LacksRoomForRows (images_of d) d.types v.image (row ∷ []) (has_root (row ∷ []))

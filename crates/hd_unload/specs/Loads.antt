@@ -2,20 +2,20 @@
 use Rattle.std.specs.Prelude.{◌≡◌, ◌⊎◌, ℕ, ◌+◌, ◌<◌, ◌≤◌, List, [], ◌++◌, length, true, None, ◌==◌, cond, replicate}
 use Rattle.hd_bytes.specs.Blocks.{block_of}
 use Rattle.hd_dbd.specs.Hierarchy.{Database}
-use Rattle.hd_dbd.specs.Prefixes.{size_with}
 use Rattle.hd_dbd.specs.Segment.{Segment}
 use Rattle.hd_dbd.specs.Rows.{row_fits}
 use Rattle.hd_dbd.specs.Loads.{Loading, rows_loaded, image_before, last_path, load_fault, IsLegalLoad}
 use Rattle.hd_volume.specs.declared.header.TheConstants.{NEWEST_VERSION}
 use Rattle.hd_volume.specs.Headers.{header_of}
 use Rattle.hd_volume.specs.Volumes.{VolumeState}
-use Rattle.hd_volume.specs.Rooms.{spare, HasHole}
+use Rattle.hd_volume.specs.Rooms.{spare}
 use Rattle.hd_volume.specs.Spacing.{HasLeft}
 use Rattle.hd_volume.specs.Creates.{IsCreated}
-use Rattle.hd_index_blocks.specs.Needs.{entry_growth, IsHighest}
+use Rattle.hd_index_blocks.specs.Needs.{entry_growth}
 use Rattle.hd_links.specs.Links.{IsSegment, segment_at}
 use Rattle.hd_image.specs.Records.{links_of}
 use Rattle.hd_image.specs.Holding.{HoldsRows, volume_of}
+use Rattle.hd_changes.specs.VolumeImages.{LacksRoomForRow}
 use Rattle.hd_unload.specs.Streams.{record_bytes, Spells, IsStreamOf}
 
 -- the blocks that a row may need: one, and for a root those of one entry more
@@ -36,12 +36,6 @@ pub record IsLoad (d : Database) (largest : ℕ) (rows : List Segment) (last : V
   pub new : IsCreated d.name d.block_size largest (image_before loadings last)
   pub legal : IsLegalLoad (HoldsRows d) (IsLoadStep d) d.types [] loadings last
 
--- A volume lacks room for a row: fewer blocks are to spare than it may need, or it is a root and the index may have no level more; and it is a
--- root, or no hole is as large.
-pub record LacksRoom (d : Database) (v : VolumeState) (row : Segment) : Type 0 where
-  pub blocks : (spare v < blocks_for v row) ⊎ ((row.code ≡ 1) × IsHighest v)
-  pub holes : (row.code ≡ 1) ⊎ (HasHole v (size_with d.types row.code (length row.bytes)) → ⊥)
-
 -- The stream has a record with which nothing is wrong, and for which a legal load of just the records before left no room.
 pub record IsFullAt (d : Database) (stream : List ℕ) (largest n : ℕ) : Type 0 where
   pub rows : List Segment
@@ -53,7 +47,7 @@ pub record IsFullAt (d : Database) (stream : List ℕ) (largest n : ℕ) : Type 
   pub may : load_fault d.types (last_path d.types rows) row ≡ None
   pub last : VolumeState
   pub load : IsLoad d largest rows last
-  pub room : LacksRoom d last row
+  pub room : LacksRoomForRow d last row
 
 -- The volume of these bytes leaves the free space of its database, as long as it may grow by two blocks: each block behind block 0 whose
 -- number is a multiple of the first number of FRSPC is free, and each data block has no two segments, or so many percent of its bytes free as

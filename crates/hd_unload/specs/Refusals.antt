@@ -8,10 +8,11 @@ use Rattle.hd_dbd.specs.Loads.{load_fault}
 use Rattle.hd_volume.specs.Volumes.{VolumeState}
 use Rattle.hd_volume.specs.Images.{KeepsFirst}
 use Rattle.hd_stores.specs.Stores.{CountsFor, SoundFor}
+use Rattle.hd_changes.specs.VolumeImages.{LacksRoomForRow}
 use Rattle.hd_unload.specs.declared.fault.ReloadFault.{ReloadFault}
 use Rattle.hd_unload.specs.declared.fault.ReloadFault.TheVariants.{Record, Full, Memory, Device}
 use Rattle.hd_unload.specs.Streams.{refusal_of, IsRefusedAt}
-use Rattle.hd_unload.specs.Loads.{LacksRoom, IsFullAt, HasNoHeader}
+use Rattle.hd_unload.specs.Loads.{IsFullAt, HasNoHeader}
 
 -- the refusal of a call that a fault stands for, as far as the store goes: only Device says that an access failed
 abbrev pub refused_by : ReloadFault → Refused
@@ -28,7 +29,7 @@ as_call (Err e) = Err (refused_by e)
 -- What a fault says of one record of a number, whose row would come behind the last row of a path.
 abbrev pub IsFaultOfRow : Database → List Segment → Segment → ℕ → VolumeState → ReloadFault → Type 0
 IsFaultOfRow d path row number v (Record fault n) = (n ≡ number) × (option_map refusal_of (load_fault d.types path row) ≡ Some fault)
-IsFaultOfRow d path row number v (Full n) = (n ≡ number) × (load_fault d.types path row ≡ None) × (IsTrue v.is_sound → LacksRoom d v row)
+IsFaultOfRow d path row number v (Full n) = (n ≡ number) × (load_fault d.types path row ≡ None) × (IsTrue v.is_sound → LacksRoomForRow d v row)
 IsFaultOfRow d path row number v Memory = Unit {0}
 IsFaultOfRow d path row number v Device = Unit {0}
 

@@ -15,7 +15,8 @@ use Rattle.hd_links.specs.LastRows.{segments_of, last_on, parent_on_path, twin_o
 use Rattle.hd_image.specs.Holding.{HoldsPlaced}
 use Rattle.hd_index.specs.Changes.{IsLater}
 use Rattle.hd_changes.specs.Rooms.{HasRootRoomFor}
-use Rattle.hd_unload.specs.Loads.{IsLoadStep, IsLoad, LacksRoom}
+use Rattle.hd_changes.specs.VolumeImages.{LacksRoomForRow}
+use Rattle.hd_unload.specs.Loads.{IsLoadStep, IsLoad}
 use Rattle.hd_unload.specs.Streams.{head_bytes, Spells, IsStreamOf}
 
 -- The volume, of version 2 or later, holds these rows, and this is the path of the last.
@@ -71,7 +72,7 @@ IsLoadedBehind d old path row path_then new =
 
 -- A load is refused as full only where the volume lacks room for the row.
 abbrev pub IsFullFor : Database → VolumeState → Segment → Refused → Type 0
-IsFullFor d v row e = e ≡ Full → IsTrue v.is_sound → LacksRoom d v row
+IsFullFor d v row e = e ≡ Full → IsTrue v.is_sound → LacksRoomForRow d v row
 
 -- So many records of the stream were loaded into a new volume of a largest count: the rest of the stream is left, and this is the
 -- path of the last row.

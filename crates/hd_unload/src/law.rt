@@ -1,4 +1,4 @@
-ghost use Rattle.hd_unload.specs.Laws.{StreamsSpellOneList, StreamsAreNotRefused, HeldRowsHaveAStream, LoadsAndCallsShareARule};
+ghost use Rattle.hd_unload.specs.Laws.{StreamsSpellOneList, StreamsAreNotRefused, HeldRowsHaveAStream};
 
 /// A stream of a database spells one list of rows.
 pub fn law_streams_spell_one_list()
@@ -13,9 +13,4 @@ pub fn law_streams_are_not_refused()
 /// The rows that a volume holds have a stream, so what is unloaded can be reloaded.
 pub fn law_held_rows_have_a_stream()
     ensures { HeldRowsHaveAStream }
-{}
-
-/// A volume lacks room for a row that is loaded just where it lacks room for it as a row that a call puts in.
-pub fn law_loads_and_calls_share_a_rule()
-    ensures { LoadsAndCallsShareARule }
 {}

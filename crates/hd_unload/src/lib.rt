@@ -13,8 +13,7 @@ mod unloads;
 
 pub use fault::{RecordFault, ReloadFault, StreamFault};
 pub use law::{
-    law_held_rows_have_a_stream, law_loads_and_calls_share_a_rule, law_streams_are_not_refused,
-    law_streams_spell_one_list,
+    law_held_rows_have_a_stream, law_streams_are_not_refused, law_streams_spell_one_list,
 };
 pub use reloads::{Reloaded, reload};
 pub use row::root_key;

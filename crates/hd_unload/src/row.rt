@@ -16,9 +16,10 @@ ghost use Rattle.hd_unload.specs.Steps.{row_of, HasRootRoom, CanLoadRoot, CanLoa
 
 use crate::judge::{parent_on, twin_on};
 use crate::path::{LoadPath, Loaded};
+use hd_changes::{lacks_room, row_size};
 use hd_dbd::{Dbd, Refused};
 use hd_forest::link;
-use hd_index::{blocks_needed, growth, insert, is_highest};
+use hd_index::{blocks_needed, growth, insert};
 use hd_stores::BlockStore;
 use hd_volume::{NO_SPACING, Volume};
 
@@ -31,48 +32,26 @@ pub fn root_key<'a>(dbd: &Dbd, bytes: &'a [u8]) -> &'a [u8]
     dbd.key_of(1, bytes)
 }
 
-/// The bytes that a root takes as a segment.
-fn root_size(dbd: &Dbd, bytes: &[u8]) -> u16
-    requires { row_fits dbd.now.types (row_of 1 bytes.now) ≡ true }
-    ensures { result ≡ size_with dbd.now.types 1 (length bytes.now) }
-{
-    let _ = dbd.types();
-    dbd.size_with(1, bytes.len()) as u16
-}
-
-/// Whether a volume lacks room for one root more: its index may have no level more, or its segment needs a block where no hole is as
-/// large, and its entry in the index needs others; where there are as many blocks to spare as it may need, nobody counts them. Where the entry
-/// needs all blocks that are to spare, a hole is all that is left for the segment, so nothing is kept free any more.
-fn lacks_room<S: BlockStore>(
+/// Keeps nothing free any more where a root's entry in the index needs all blocks that are to spare: a hole is all that is left for its segment then.
+fn stop_spacing<S: BlockStore>(
     volume: &mut Volume<S>,
     dbd: &Dbd,
     bytes: &[u8],
-) -> Result<bool, Refused>
+) -> Result<(), Refused>
     requires fits { row_fits dbd.now.types (row_of 1 bytes.now) ≡ true }
     requires index { IsTrue volume.old.is_sound → IsIndexOf dbd.now volume.old }
     ensures call { IsCall volume.old result volume.new }
     ensures image { IsTrue volume.new.is_sound → volume.new.image ≡ volume.old.image }
-    ensures lacks { IfOk result (λ b. IsTrue volume.old.is_sound → b ≡ true → (spare volume.old < 1 + entry_growth volume.old) ⊎ IsHighest volume.old) }
-    ensures room { IfOk result (λ b. IsTrue volume.old.is_sound → b ≡ false → HasRootRoom dbd.now volume.new (row_of 1 bytes.now)) }
     ensures refusal { OnlyDevice result }
 {
-    if is_highest(volume) {
-        return Ok(true);
+    if !volume.leaves_space() || growth(volume) < volume.spare() {
+        return Ok(());
     }
-    let spare = u64::from(volume.spare());
-    let most = u64::from(growth(volume));
-    if most + 1 <= spare {
-        return Ok(false);
+    let entry = blocks_needed(volume, dbd, root_key(dbd, bytes))?;
+    if entry == volume.spare() {
+        volume.set_spacing(NO_SPACING);
     }
-    let entry = u64::from(blocks_needed(volume, dbd, root_key(dbd, bytes))?);
-    if spare < entry {
-        return Ok(true);
-    }
-    if entry + 1 <= spare {
-        return Ok(false);
-    }
-    volume.set_spacing(NO_SPACING);
-    Ok(!volume.has_hole(root_size(dbd, bytes))?)
+    Ok(())
 }
 
 /// Links a root behind the last one, and enters it into the index, which have room for it.
@@ -111,7 +90,14 @@ fn load_root_with_room<S: BlockStore>(
     ensures full { IfErr result (λ e. IsFullFor dbd.now volume.old (row_of 1 bytes.now) e) }
     ensures refusal { OnlyRoomOrDevice result }
 {
-    if lacks_room(volume, dbd, bytes)? {
+    stop_spacing(volume, dbd, bytes)?;
+    if lacks_room(
+        volume,
+        dbd,
+        root_key(dbd, bytes),
+        1,
+        row_size(dbd, 1, bytes),
+    )? {
         return Err(Refused::Full);
     }
     load_root(volume, dbd, after, bytes)

@@ -17,7 +17,6 @@ pub mod PutRoots
 pub mod LastPaths
 pub mod LoadedStates
 pub mod NewRows
-pub mod RoomOf
 pub mod PathRows
 pub mod InsertedPaths
 pub mod InsertedStates

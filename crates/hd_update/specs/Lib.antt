@@ -8,7 +8,6 @@ pub mod Deleting
 pub mod Putting
 pub mod Loading
 pub mod NewRows
-pub mod Room
 pub mod Places
 pub mod Parents
 pub mod Inserting

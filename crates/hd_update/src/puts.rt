@@ -9,7 +9,7 @@ ghost use Rattle.hd_index.specs.Changes.{IsIndexOf};
 ghost use Rattle.hd_changes.specs.Rooms.{HasRootRoomFor, HasRootMemoryFor};
 ghost use Rattle.hd_update.specs.Putting.{PutsIn, IsFullFor, MayPut, CanPutRoot, LastsBelowRoot};
 
-use crate::room::{lacks_room, row_size};
+use hd_changes::{lacks_room, row_size};
 use hd_dbd::{Dbd, Refused};
 use hd_forest::link;
 use hd_index::{growth, insert};

@@ -6,7 +6,7 @@ use Rattle.hd_dbd.specs.Hierarchy.{Database}
 use Rattle.hd_dbd.specs.Segment.{Segment}
 use Rattle.hd_dbd.specs.Prefixes.{size_with}
 use Rattle.hd_volume.specs.Volumes.{VolumeState}
-use Rattle.hd_volume.specs.Rooms.{HasHole}
+use Rattle.hd_volume.specs.Rooms.{HasHole, HasFreeBlock}
 use Rattle.hd_volume.specs.Calls.{IsCall}
 use Rattle.hd_volume.proofs.JoinLemmas.{calls-join}
 use Rattle.hd_volume.proofs.CallSteps.{call-ok, reads-join}

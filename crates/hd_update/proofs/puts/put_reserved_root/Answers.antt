@@ -11,7 +11,7 @@ use Rattle.hd_changes.proofs.RootTypes.{root-key-long}
 use Rattle.hd_changes.proofs.Rooms.{one-volume}
 use Rattle.hd_update.proofs.Reading.{held_read, later_read}
 use Rattle.hd_update.proofs.PutRoots.{no_root_room, put_before}
-use Rattle.hd_update.proofs.RoomOf.{one_root_room}
+use Rattle.hd_changes.proofs.RoomOf.{one_root_room}
 use Rattle.hd_update.proofs.puts.put_reserved_root.Goals as goal
 
 pub lacks_room-requires-clause-index : goal.lacks_room-requires-clause-index

@@ -14,7 +14,7 @@ use Rattle.hd_changes.proofs.Rooms.{one-volume}
 use Rattle.hd_update.specs.NewRows.{codes_of, rows_in, IsRoomMade}
 use Rattle.hd_update.proofs.NewRows.{on_ok_sound}
 use Rattle.hd_update.proofs.PathRows.{first_and_others}
-use Rattle.hd_update.proofs.RoomOf.{room_of, memory_of, root_room_of, no_rows_room, no_root_rows_room, hole_kept}
+use Rattle.hd_changes.proofs.RoomOf.{room_of, memory_of, root_room_of, no_rows_room, no_root_rows_room, hole_kept}
 use Rattle.hd_update.proofs.room.make_room.Goals as goal
 
 pub make_room_below-requires-clause-small : goal.make_room_below-requires-clause-small

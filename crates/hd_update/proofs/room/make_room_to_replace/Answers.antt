@@ -8,7 +8,7 @@ use Rattle.hd_links.specs.Steps.{rows_of}
 use Rattle.hd_changes.proofs.Rooms.{one-volume}
 use Rattle.hd_changes.proofs.VolumeImages.{lacking-room}
 use Rattle.hd_update.proofs.NewRows.{on_ok_sound}
-use Rattle.hd_update.proofs.RoomOf.{room_of, memory_of, hole_kept}
+use Rattle.hd_changes.proofs.RoomOf.{room_of, memory_of, hole_kept}
 use Rattle.hd_update.proofs.room.make_room_to_replace.Goals as goal
 
 pub make_room_below-requires-clause-small : goal.make_room_below-requires-clause-small

@@ -7,7 +7,7 @@ use Rattle.hd_dbd.specs.Segment.{Segment}
 use Rattle.hd_dbd.proofs.Fitting.{size_bound, size_fits, types_fit}
 use Rattle.hd_dbd.proofs.TypeLengths.{row-size}
 use Rattle.std.specs.Prelude.{IsTrue}
-use Rattle.hd_update.proofs.room.row_size.Goals as goal
+use Rattle.hd_changes.proofs.room.row_size.Goals as goal
 
 -- no row takes more than a block has
 row_small : (d : Database) (row : Segment) → IsTrue (well_formed d.block_size d.frspc d.types) → row_fits d.types row ≡ true → (size_with d.types row.code (length row.bytes) ≤ 65535) × (length row.bytes ≤ 65535)

@@ -1,6 +1,6 @@
 use Rattle.std.proofs.Common.{◌≤◌, arith}
 use Rattle.hd_changes.proofs.Holes.{hole_small}
-use Rattle.hd_update.proofs.room.has_hole.Goals as goal
+use Rattle.hd_changes.proofs.room.has_hole.Goals as goal
 
 pub returns-then-size-gt65535-clause-none : goal.returns-then-size-gt65535-clause-none
 returns-then-size-gt65535-clause-none g c sound is hole =

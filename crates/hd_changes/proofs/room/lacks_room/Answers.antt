@@ -6,8 +6,8 @@ use Rattle.hd_volume.specs.Spacing.{IsPlain}
 use Rattle.hd_volume.proofs.JoinLemmas.{read-one, hole-after, one-formatted}
 use Rattle.hd_index.specs.Places.{blocks_needed}
 use Rattle.hd_index.proofs.NeedLemmas.{needed-most}
-use Rattle.hd_update.proofs.room.lacks_room.Goals.{else-leaves-via-then-leaves+else-entry-gt0, else-leaves-via-else-leaves}
-use Rattle.hd_update.proofs.room.lacks_room.Goals as goal
+use Rattle.hd_changes.proofs.room.lacks_room.Goals.{else-leaves-via-then-leaves+else-entry-gt0, else-leaves-via-else-leaves}
+use Rattle.hd_changes.proofs.room.lacks_room.Goals as goal
 
 pub returns-then-most-rows-clause-room : goal.returns-then-most-rows-clause-room
 returns-then-most-rows-clause-room g c = λ sound room.

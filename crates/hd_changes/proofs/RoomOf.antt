@@ -1,7 +1,8 @@
--- Room for rows, by their number and the bytes that they take together.
+-- Room for rows, by their number and the bytes that they take together; and where it is refused, it lacks.
 use Rattle.std.proofs.Common.{◌≡◌, ◌⊎◌, ℕ, ◌+◌, ◌<◌, ◌≤◌, List, [], ◌∷◌, length, true, cond, refl, sym, subst, ◌∙◌, inl, inr, arith}
 use Rattle.std.specs.Prelude.{◌==◌}
 use Rattle.std.proofs.lemmas.Bool.{eq-eqb, or_left, cond-true}
+use Rattle.hd_dbd.specs.Types.{SegmentType}
 use Rattle.hd_dbd.specs.Hierarchy.{Database}
 use Rattle.hd_dbd.specs.Prefixes.{size_with}
 use Rattle.hd_dbd.specs.Segment.{Segment}
@@ -13,8 +14,7 @@ use Rattle.hd_volume.proofs.JoinLemmas.{AreOne, hole-after}
 use Rattle.hd_image.specs.Records.{IsVolumeOf}
 use Rattle.hd_changes.specs.VolumeImages.{images_of}
 use Rattle.hd_changes.proofs.VolumeImages.{lacking-room}
-use Rattle.hd_changes.specs.Rooms.{HasRoomFor, HasMemoryFor, HasRootRoomFor, blocks_for_entry}
-use Rattle.hd_update.specs.Room.{HasRoom, HasRootRoom}
+use Rattle.hd_changes.specs.Rooms.{HasRoom, HasRoomFor, HasMemoryFor, HasRootRoom, HasRootRoomFor, blocks_for_entry}
 
 module _ (d : Database) (v : VolumeState) (rows : List Segment) (count total : ℕ) (many : count ≡ length rows) (large : total ≡ stored_sizes d.types rows) where
   pub room_of : HasRoom count total v → HasRoomFor d.types v rows
@@ -29,10 +29,14 @@ module _ (d : Database) (v : VolumeState) (rows : List Segment) (count total : �
   root_room_of key (low, inl blocks) = (low, inl (subst (λ (n : ℕ). n + blocks_for_entry d v key ≤ spare v) many blocks))
   root_room_of key (low, inr both) = (low, inr (subst (HasHole v) large both.0, both.1, both.2))
 
+-- one row takes what it takes
+pub size_alone : (types : List SegmentType) (row : Segment) → stored_sizes types (row ∷ []) ≡ size_with types row.code (length row.bytes)
+size_alone types row = omega arith
+
 -- for one root
 pub one_root_room : (d : Database) (v : VolumeState) (key : List ℕ) (row : Segment) (total : ℕ) → total ≡ size_with d.types row.code (length row.bytes) → HasRootRoom d key 1 total v → HasRootRoomFor d v key (row ∷ [])
 one_root_room d v key row total total_is room =
-    root_room_of d v (row ∷ []) 1 total refl (let own : ℕ = size_with d.types row.code (length row.bytes) in total_is ∙ (let e : own ≡ 0 + own = omega arith in e)) key room
+    root_room_of d v (row ∷ []) 1 total refl (total_is ∙ sym (size_alone d.types row)) key room
 
 -- ---- rows refused
 
