@@ -3,6 +3,7 @@ use Rattle.std.proofs.lemmas.Result.{IfOk-weaker, IfErr-weaker}
 use Rattle.hd_dbd.specs.Segment.{Segment}
 use Rattle.hd_volume.proofs.RewriteLemmas.{rewritten-after}
 use Rattle.hd_links.specs.Links.{Links, IsSegment}
+use Rattle.hd_forest.proofs.Keeping.{free-seen}
 use Rattle.hd_forest.proofs.Reading.{after-read, sound-before}
 use Rattle.hd_forest.proofs.SegmentsSet.{row-whole, stands, row-longer, segment-set}
 use Rattle.hd_forest.proofs.replacements.set_laid_out.Goals as goal
@@ -51,3 +52,14 @@ returns-clause-outgrown g c =
     row-longer d u v c.args.address row c.lay_out_over.new.room c.in_ok-lay_out_over.ensures.fit (c.requires.of sound)
     (record { same = record { size = read.call.size; sizes = read.call.sizes }; image = same.image }) (c.requires.there sound) c.in_ok-lay_out_over.ensures.row.size (longer other same.sound))
     c.rewrite.ensures.longer
+
+pub returns-clause-no_free : goal.returns-clause-no_free
+returns-clause-no_free g c =
+    IfErr-weaker c.rewrite.result _ _ (λ e none memory sound free.
+    let d = c.args.dbd.now in
+    let u = c.args.volume.now in
+    let v = c.lay_out_over.new.volume in
+    let read = c.in_ok-lay_out_over.ensures.read in
+    let same = after-read d u v read sound in
+    none memory same.sound (free-seen u v same.image read.call.size free))
+    c.rewrite.ensures.no_free
