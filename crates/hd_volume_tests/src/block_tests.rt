@@ -47,9 +47,10 @@ fn reads_and_joins_the_parts_of_a_block(rt: HostRuntime) {
 #[test]
 fn takes_a_hole_behind_one_that_is_too_small(rt: HostRuntime) {
     let mut bytes = sample_block();
-    let mut block = Block::new(&mut bytes, &SIZES);
-    block.give(8, 16);
-    assert_eq!(rt; block.take(24), Some(64));
+    Block::new(&mut bytes, &SIZES).give(8, 16);
+    assert_eq!(rt; &bytes[..2], b"\0\x08".as_slice());
+    assert_eq!(rt; &bytes[8..16], b"\0\x40\0\x10\0\0\0\0".as_slice());
+    assert_eq!(rt; Block::new(&mut bytes, &SIZES).take(24), Some(64));
     assert_eq!(rt; &bytes[..2], b"\0\x08".as_slice());
     assert_eq!(rt; &bytes[8..16], b"\0\x58\0\x10\0\0\0\0".as_slice());
     assert_eq!(rt; &bytes[88..96], b"\0\0\0\x28\0\0\0\0".as_slice());
