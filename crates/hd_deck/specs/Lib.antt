@@ -3,3 +3,5 @@ pub mod Deck
 pub mod Lines
 pub mod Printing
 pub mod Runs
+pub mod Spelling
+pub mod Canonical

@@ -3,6 +3,7 @@
 
 mod deck;
 mod hex;
+mod law;
 mod line;
 mod lines;
 mod plays;
@@ -11,6 +12,7 @@ mod runs;
 mod step;
 
 pub use deck::{DeckFault, read_deck};
+pub use law::{law_spelling_reads_back, law_steps_are_spelled};
 pub use lines::{WriteFault, print_answer, print_refusal, put_shown};
 pub use runs::{RunEnd, RunFault, run};
 pub use step::Step;
