@@ -394,9 +394,11 @@ def try_turned_bits(place):
     place.end()
 
 
-def missing_end(lines, end):
-    """The fault of a source's first lines, without the line that ends it: G2 at the line behind the last; and where that line should go on, M3 there."""
-    return (f"line {lines + 1}, " + ("M3" if end.endswith(b"X\n") else "G2")).encode()
+def missing_end(source):
+    """The fault of a source's first lines, without the line that ends it, at the line behind the last: M3 where the last goes on by column 72, else G2."""
+    lines = source.splitlines()
+    goes_on = lines and lines[-1][71:].strip() != b""
+    return f"line {len(lines) + 1}, {'M3' if goes_on else 'G2'}".encode()
 
 
 def try_cut_sources(place):
@@ -413,7 +415,7 @@ def try_cut_sources(place):
         is_whole = done.status == 0 and done.out.startswith(b"Database EDU, blocks of 128 bytes, 4 segment types\n")
         is_refused = done.status == 2 and done.out == b"" and re.fullmatch(rb"DBD refused: (line|type) \d+, [A-Z]\d+\n", done.err)
         if dbd[:end].endswith(b"\n") and b"DBDGEN" not in dbd[:end]:
-            is_refused = is_refused and done.err == b"DBD refused: " + missing_end(len(dbd[:end].splitlines()), dbd[:end]) + b"\n"
+            is_refused = is_refused and done.err == b"DBD refused: " + missing_end(dbd[:end]) + b"\n"
         wholes += is_whole
         place.count.expect(f"the DBD's first {end} bytes", is_whole or is_refused, done)
     place.count.expect("a DBD without its last bytes is read", wholes > 0)
@@ -422,7 +424,7 @@ def try_cut_sources(place):
         done = play("deck", "edu.dbd", "cut.psb", "edu.volume", "third.deck", "--no-sync")
         is_refused = done.status == 2 and done.out == b"" and re.fullmatch(rb"PSB refused: (line|pcb) \d+, [A-Z]\d\n", done.err)
         if psb[:end].endswith(b"\n") and b"PSBGEN" not in psb[:end]:
-            is_refused = is_refused and done.err == b"PSB refused: " + missing_end(len(psb[:end].splitlines()), psb[:end]) + b"\n"
+            is_refused = is_refused and done.err == b"PSB refused: " + missing_end(psb[:end]) + b"\n"
         is_whole = done == (0, b"1 3 GN   [  ] 01 COURSE   key=101 area=101ALGEB\n", b"")
         if is_whole:
             is_whole = play("deck", "edu.dbd", "cut.psb", "edu.volume", "fourth.deck") == (2, b"", b"DECK refused: line 1, K3\n")
