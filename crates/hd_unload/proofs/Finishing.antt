@@ -93,6 +93,7 @@ new-spaced name block_size largest v w one stored new = record {
   formatted = one-formatted one new.formatted;
   header = ap header_of one.image ∙ new.header;
   one = ap length one.image ∙ new.one;
+  behind = ap (drop 44) one.image ∙ new.behind;
   stored = stored ∙ new.stored;
   empty = λ a. one-segments one a ∙ new.empty a;
 }

@@ -20,7 +20,7 @@ use Rattle.hd_index_blocks.specs.Needs.{entry_growth, IsHighest}
 use Rattle.hd_links.specs.Placed.{Placed}
 use Rattle.hd_links.specs.Changes.{with_leaf}
 use Rattle.hd_links.specs.LastRows.{last_on, segments_of, parent_on_path, twin_on_path, IsLoadedLast}
-use Rattle.hd_image.specs.Records.{links_of}
+use Rattle.hd_image.specs.Records.{links_of, IsVolumeOf}
 use Rattle.hd_image.specs.Holding.{HoldsPlaced}
 use Rattle.hd_forest.specs.Updates.{MayLink, IsLinked}
 use Rattle.hd_index.specs.Changes.{IsIndexOf, entries_for, IsIndexChange}
@@ -30,7 +30,9 @@ use Rattle.hd_changes.specs.Entered.{entry_of, IsEntered}
 use Rattle.hd_changes.proofs.RootTypes.{root-parent, root-level}
 use Rattle.hd_changes.proofs.Rooms.{growth-kept, first-roots, entries-room}
 use Rattle.hd_changes.proofs.Volumes.{agree-index, linked-new, linked-root}
-use Rattle.hd_unload.specs.Loads.{IsLoadStep, LacksRoom}
+use Rattle.hd_changes.specs.VolumeImages.{LacksRoomForRow}
+use Rattle.hd_changes.proofs.RoomOf.{no_root_rows_room}
+use Rattle.hd_unload.specs.Loads.{IsLoadStep}
 use Rattle.hd_unload.specs.Steps.{row_of, CanLoadRoot, HasRootRoom, IsLoadedTo, IsRowLoaded}
 use Rattle.hd_unload.proofs.Loaded.{stays-agree, last-at, may-link, rows-grown, segments-kept}
 
@@ -50,9 +52,8 @@ may-link-root d v bytes y fits L =
     may-link d v (record { code = 1; bytes = bytes }) 0 y fits (L.0, L.1, L.2, L.3, root-place d.block_size d.frspc d.types bytes L.1 L.2.holds.volume.fit, L.4)
 
 -- there is no room for it where fewer blocks are to spare than it and the index may need, or the index may have no level more
-pub lacks-beside : (d : Database) (v : VolumeState) (bytes : List ℕ) → (spare v < 1 + entry_growth v) ⊎ IsHighest v → LacksRoom d v (record { code = 1; bytes = bytes })
-lacks-beside d v bytes (inl lacks) = record { blocks = inl lacks; holes = inl refl }
-lacks-beside d v bytes (inr high) = record { blocks = inr (refl, high); holes = inl refl }
+pub lacks-beside : (d : Database) (v : VolumeState) (bytes : List ℕ) → IsVolumeOf d v → (spare v < 1 + entry_growth v) ⊎ IsHighest v → LacksRoomForRow d v (record { code = 1; bytes = bytes })
+lacks-beside d v bytes V few = no_root_rows_room d v (record { code = 1; bytes = bytes }) [] V refl few
 
 -- a volume in which it was linked behind the last root, and then one in which it was entered into the index
 module _ (d : Database) (v w x : VolumeState) (f : Forest Placed) (y a : ℕ) (bytes : List ℕ) (H : HoldsPlaced d v f)

@@ -1,19 +1,13 @@
 -- Two states of one image: what is loaded in the one is loaded in the other.
-use Rattle.std.proofs.Common.{◌≡◌, ℕ, ◌+◌, ◌≤◌, cond, ◌==◌, List, [], ◌∷◌, Ok, inl, inr, refl, sym, ap, subst, ◌∙◌, arith}
+use Rattle.std.proofs.Common.{◌≡◌, ℕ, ◌+◌, cond, ◌==◌, List, [], ◌∷◌, ap, subst, ◌∙◌, arith}
 use Rattle.hd_dbd.specs.Hierarchy.{Database}
 use Rattle.hd_dbd.specs.Segment.{Segment}
 use Rattle.hd_dbd.specs.Rows.{key_of}
 use Rattle.hd_volume.specs.Headers.{header_of}
 use Rattle.hd_volume.specs.Volumes.{VolumeState}
-use Rattle.hd_volume.specs.Spacing.{no_spacing, IsPlain}
-use Rattle.hd_volume.specs.Images.{KeepsFirst}
-use Rattle.hd_volume.specs.Calls.{IsCall}
-use Rattle.hd_volume.specs.Rooms.{spare, HasHole}
-use Rattle.hd_index_blocks.specs.Needs.{IsHighest}
-use Rattle.hd_calls.specs.Runs.{stored_sizes}
-use Rattle.hd_changes.specs.Rooms.{blocks_for_entry}
-use Rattle.hd_volume.proofs.JoinLemmas.{AreOne, one-spare, one-holes}
-use Rattle.hd_volume.proofs.SpacingLemmas.{plain-space}
+use Rattle.hd_volume.specs.Spacing.{IsPlain}
+use Rattle.hd_volume.specs.Rooms.{spare}
+use Rattle.hd_volume.proofs.JoinLemmas.{AreOne, one-spare}
 use Rattle.hd_links.specs.Links.{Links, IsSegment, segment_at}
 use Rattle.hd_links.specs.Placed.{Placed}
 use Rattle.hd_image.specs.Records.{links_of}

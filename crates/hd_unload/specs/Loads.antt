@@ -1,5 +1,5 @@
 -- What loading rows does to a volume, and when it lacks room.
-use Rattle.std.specs.Prelude.{◌≡◌, ◌⊎◌, ℕ, ◌+◌, ◌<◌, ◌≤◌, List, [], ◌++◌, length, true, None, ◌==◌, cond, replicate}
+use Rattle.std.specs.Prelude.{◌≡◌, ◌⊎◌, ℕ, ◌+◌, ◌≤◌, List, [], ◌++◌, length, true, None, ◌==◌, cond, replicate}
 use Rattle.hd_bytes.specs.Blocks.{block_of}
 use Rattle.hd_dbd.specs.Hierarchy.{Database}
 use Rattle.hd_dbd.specs.Segment.{Segment}

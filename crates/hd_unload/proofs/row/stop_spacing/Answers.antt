@@ -1,0 +1,1 @@
+-- The volume has the image that it had, whether something is kept free on or not.
