@@ -1,6 +1,7 @@
 ghost use Rattle.std.specs.Prelude.{◌≡◌, ◌<◌, IfOk};
 ghost use Rattle.hd_dbd.specs.Facts.{stored_sizes};
 
+use crate::console::Console;
 use crate::dbd_source::{CACHE, read_database};
 use crate::stop::Stop;
 use hd_commands::{Ended, check_volume};
@@ -32,48 +33,45 @@ pub fn load_volume<S: BlockStore + Drop>(
 }
 
 /// Checks the volume in a file, with a ledger for the accesses that fail.
-fn judge<L: Ledger, P: Progress, O: Write, E: Write>(
-    alloc: Global,
+fn judge<L: Ledger, R: Files<File = File>, P: Progress, O: Write, E: Write>(
+    console: &mut Console<'_, R, P, O, E>,
     dbd: &Dbd,
     file: File,
     cache: u32,
     blank: Blank,
-    progress: &P,
-    out: &mut O,
-    err: &mut E,
 ) -> Result<Ended, Stop>
     requires name { blank.name ≡ L.name }
     requires parts { blank.parts ≡ L.parts }
     requires share { 0 < blank.parts }
 {
-    let store = cached_blocks::<L>(alloc, dbd, file, cache, blank)?;
-    let mut volume = load_volume(alloc, dbd, Counted::new(store, "checking", progress))?;
-    Ok(check_volume(alloc, &mut volume, dbd, out, err))
+    let store = cached_blocks::<L>(console.alloc, dbd, file, cache, blank)?;
+    let store = Counted::new(store, "checking", console.progress);
+    let mut volume = load_volume(console.alloc, dbd, store)?;
+    Ok(check_volume(
+        console.alloc,
+        &mut volume,
+        dbd,
+        &mut *console.out,
+        &mut *console.err,
+    ))
 }
 
 /// As `judge`, with a ledger of its own.
-fn judge_file<P: Progress, O: Write, E: Write>(
-    alloc: Global,
+fn judge_file<R: Files<File = File>, P: Progress, O: Write, E: Write>(
+    console: &mut Console<'_, R, P, O, E>,
     dbd: &Dbd,
     file: File,
     cache: u32,
-    progress: &P,
-    out: &mut O,
-    err: &mut E,
 ) -> Result<Ended, Stop> {
-    judge::<Brand, P, O, E>(alloc, dbd, file, cache, Blank::new(1), progress, out, err)
+    judge::<Brand, R, P, O, E>(console, dbd, file, cache, Blank::new(1))
 }
 
 /// Checks the volume in a file, which is opened for reading alone. The DBD is read and judged first. Says how it ended.
 pub fn check_file<R, P, O, E>(
-    rt: &R,
-    alloc: Global,
+    console: &mut Console<'_, R, P, O, E>,
     dbd: &str,
     volume: &str,
     cache: Option<u32>,
-    progress: &P,
-    out: &mut O,
-    err: &mut E,
 ) -> Result<Ended, Stop>
 where
     R: Files<File = File>,
@@ -81,15 +79,7 @@ where
     O: Write,
     E: Write,
 {
-    let (dbd, _) = read_database(rt, alloc, dbd)?;
-    let (file, _) = open_read_volume(rt, volume)?;
-    judge_file(
-        alloc,
-        &dbd,
-        file,
-        cache.unwrap_or(CACHE),
-        progress,
-        out,
-        err,
-    )
+    let (dbd, _) = read_database(console.rt, console.alloc, dbd)?;
+    let (file, _) = open_read_volume(console.rt, volume)?;
+    judge_file(console, &dbd, file, cache.unwrap_or(CACHE))
 }

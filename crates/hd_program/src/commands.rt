@@ -1,5 +1,6 @@
 use crate::advice::{advise_refusal, advise_stop};
 use crate::check_command::check_file;
+use crate::console::Console;
 use crate::deck_command::{play_file, play_sample};
 use crate::explain_command::explain_word;
 use crate::reload_command::reload_file;
@@ -58,7 +59,14 @@ where
     };
     let mut out = Watched::over(Unmixed::output(out, progress));
     let mut err = Unmixed::errors(err, progress);
-    let performed = perform(rt, request, progress, input, &mut out, &mut err);
+    let mut console = Console {
+        rt,
+        alloc: rt.alloc(),
+        progress,
+        out: &mut out,
+        err: &mut err,
+    };
+    let performed = perform(&mut console, request, input);
     progress.end();
     let status = match &performed {
         Ok(ended) => ended.status,
@@ -126,23 +134,20 @@ where
 
 /// Does what is asked for, and says how it ended.
 fn perform<R, P, I, O, E>(
-    rt: &R,
+    console: &mut Console<'_, R, P, O, E>,
     request: Request<'_>,
-    progress: &P,
     input: &mut I,
-    out: &mut O,
-    err: &mut E,
 ) -> Result<Ended, Stop>
 where
-    R: Files<File = File> + AllocGlobal,
+    R: Files<File = File>,
     P: Progress,
     I: Read,
     O: Write,
     E: Write,
 {
-    let alloc = rt.alloc();
+    let (rt, alloc) = (console.rt, console.alloc);
     match request {
-        Request::Sample => play_sample(alloc, input, out, err),
+        Request::Sample => play_sample(console, input),
         Request::Deck {
             dbd,
             psb,
@@ -150,28 +155,22 @@ where
             deck,
             cache,
             syncs,
-        } => play_file(
-            rt, alloc, dbd, psb, volume, deck, cache, syncs, progress, out, err,
-        ),
+        } => play_file(console, dbd, psb, volume, deck, cache, syncs),
         Request::Serve {
             dbd,
             psb,
             volume,
             cache,
             syncs,
-        } => serve_file(rt, alloc, dbd, psb, volume, cache, syncs, input, out, err),
-        Request::Check { dbd, volume, cache } => check_file(
-            rt, alloc, dbd, volume, cache, progress, out, err,
-        ),
+        } => serve_file(console, dbd, psb, volume, cache, syncs, input),
+        Request::Check { dbd, volume, cache } => check_file(console, dbd, volume, cache),
         Request::Unload {
             dbd,
             volume,
             out: stream,
             cache,
             syncs,
-        } => unload_file(
-            rt, alloc, dbd, volume, stream, cache, syncs, progress, out, err,
-        ),
+        } => unload_file(console, dbd, volume, stream, cache, syncs),
         Request::Reload {
             dbd,
             input,
@@ -179,42 +178,40 @@ where
             blocks,
             cache,
             syncs,
-        } => reload_file(
-            rt, alloc, dbd, input, volume, blocks, cache, syncs, progress, out, err,
-        ),
+        } => reload_file(console, dbd, input, volume, blocks, cache, syncs),
         Request::Show {
             dbd,
             volume: None,
             ..
-        } => show_database(rt, alloc, dbd, out),
+        } => show_database(rt, alloc, dbd, &mut *console.out),
         Request::Show {
             dbd,
             volume: Some(volume),
             picture,
             cache,
             syncs,
-        } => show_volume(rt, alloc, dbd, volume, picture, cache, syncs, out, err),
+        } => show_volume(console, dbd, volume, picture, cache, syncs),
         Request::Rows {
             dbd,
             volume,
             table,
             cache,
-        } => list_rows(rt, alloc, dbd, volume, table, cache, out, err),
+        } => list_rows(console, dbd, volume, table, cache),
         Request::Stream {
             dbd,
             rows,
             out: stream,
             is_tables: false,
             syncs,
-        } => make_of_rows(rt, alloc, dbd, rows, stream, syncs, out),
+        } => make_of_rows(rt, alloc, dbd, rows, stream, syncs, &mut *console.out),
         Request::Stream {
             dbd,
             rows,
             out: stream,
             is_tables: true,
             syncs,
-        } => make_of_tables(rt, alloc, dbd, rows, stream, syncs, out),
-        Request::Explain { word } => explain_word(word, out, err),
+        } => make_of_tables(rt, alloc, dbd, rows, stream, syncs, &mut *console.out),
+        Request::Explain { word } => explain_word(word, &mut *console.out, &mut *console.err),
     }
 }
 

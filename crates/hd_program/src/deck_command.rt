@@ -2,6 +2,7 @@ ghost use Rattle.std.specs.Prelude.{◌≡◌, ◌<◌, ◌≤◌, ◌^◌, leng
 ghost use Rattle.hd_dbd.specs.ProgramRules.{type_names};
 ghost use Rattle.hd_deck.specs.StepText.{StepFits};
 
+use crate::console::{Console, Keeping};
 use crate::dbd_source::{blocks_for_calls, read_database};
 use crate::lines::{DEVICE_FAILED, LINE};
 use crate::sample;
@@ -53,12 +54,18 @@ fn end_of(played: Result<u64, Ended>) -> Ended {
 }
 
 /// Plays the deck that a reader holds over the sample, in memory. Says how it ended.
-pub fn play_sample<I: Read, O: Write, E: Write>(
-    alloc: Global,
+pub fn play_sample<R, P, I, O, E>(
+    console: &mut Console<'_, R, P, O, E>,
     input: &mut I,
-    out: &mut O,
-    err: &mut E,
-) -> Result<Ended, Stop> {
+) -> Result<Ended, Stop>
+where
+    R: Files<File = File>,
+    P: Progress,
+    I: Read,
+    O: Write,
+    E: Write,
+{
+    let alloc = console.alloc;
     let dbd = sample::database(alloc).map_err(|fault| Stop::database(fault, Vec::new(alloc)))?;
     let psb = sample::program(alloc, &dbd).map_err(|fault| Stop::program(fault, Vec::new(alloc)))?;
     let text = match read_whole(alloc, input) {
@@ -70,8 +77,16 @@ pub fn play_sample<I: Read, O: Write, E: Write>(
         Err(fault) => return Err(Stop::deck(fault, text, Named::Input)),
     };
     let store = sample::volume(alloc, &dbd)?;
-    let mut lines = lines_into(alloc, out, &steps, &Silent)?;
-    let (_, played) = play_deck(alloc, &dbd, &psb, &steps, store, &mut lines, err);
+    let mut lines = lines_into(alloc, &mut *console.out, &steps, &Silent)?;
+    let (_, played) = play_deck(
+        alloc,
+        &dbd,
+        &psb,
+        &steps,
+        store,
+        &mut lines,
+        &mut *console.err,
+    );
     Ok(end_of(played))
 }
 
@@ -112,17 +127,13 @@ fn read_steps<R: Files<File = File>>(
 /// Plays a deck over the volume in a file, with a ledger for the accesses that fail. Every block that the deck changed is then in the file, and on the
 /// disk if that is wanted; only then the last lines of its calls go out.
 fn play_over<L: Ledger, R: Files<File = File>, P: Progress, O: Write, E: Write>(
-    alloc: Global,
+    console: &mut Console<'_, R, P, O, E>,
     dbd: &Dbd,
     psb: &Psb,
     steps: &[Step],
     volume: OpenVolume<'_, R>,
-    cache: u32,
-    syncs: bool,
+    keeping: Keeping,
     blank: Blank,
-    progress: &P,
-    out: &mut O,
-    err: &mut E,
 ) -> Result<Ended, Stop>
     requires name { blank.name ≡ L.name }
     requires parts { blank.parts ≡ L.parts }
@@ -131,14 +142,15 @@ fn play_over<L: Ledger, R: Files<File = File>, P: Progress, O: Write, E: Write>(
     requires steps { All (StepFits (length psb.now.pcbs)) steps.now }
     requires count { length steps.now ≤ 2 ^ 30 }
 {
+    let (alloc, progress) = (console.alloc, console.progress);
     let store = NamedFile::<R, L>::over(volume, dbd, blank)?;
-    let store = Counted::new(cached(alloc, store, cache)?, "playing", progress);
-    let mut lines = Held::over(lines_into(alloc, out, steps, progress)?);
+    let store = Counted::new(cached(alloc, store, keeping.cache)?, "playing", progress);
+    let mut lines = Held::over(lines_into(alloc, &mut *console.out, steps, progress)?);
     let mut said = Vec::with_capacity(alloc, LINE)?;
     let (store, played) = play_deck(alloc, dbd, psb, steps, store, &mut lines, &mut said);
     let (store, written) = store.into_inner().into_store();
     let file = store.into_store();
-    let kept = file.keep(written, syncs);
+    let kept = file.keep(written, keeping.syncs);
     let released = lines.release();
     let ended = end_of(played);
     match (ended.status, file.last_error()) {
@@ -149,56 +161,36 @@ fn play_over<L: Ledger, R: Files<File = File>, P: Progress, O: Write, E: Write>(
             released?;
         }
     }
-    let _ = err.write_all(&said);
+    let _ = console.err.write_all(&said);
     Ok(ended)
 }
 
 /// As `play_over`, with a ledger of its own.
 fn play_over_file<R: Files<File = File>, P: Progress, O: Write, E: Write>(
-    alloc: Global,
+    console: &mut Console<'_, R, P, O, E>,
     dbd: &Dbd,
     psb: &Psb,
     steps: &[Step],
     volume: OpenVolume<'_, R>,
-    cache: u32,
-    syncs: bool,
-    progress: &P,
-    out: &mut O,
-    err: &mut E,
+    keeping: Keeping,
 ) -> Result<Ended, Stop>
     requires matches { psb.now.made_for ≡ type_names dbd.now.types }
     requires steps { All (StepFits (length psb.now.pcbs)) steps.now }
     requires count { length steps.now ≤ 2 ^ 30 }
 {
-    play_over::<Brand, R, P, O, E>(
-        alloc,
-        dbd,
-        psb,
-        steps,
-        volume,
-        cache,
-        syncs,
-        Blank::new(1),
-        progress,
-        out,
-        err,
-    )
+    play_over::<Brand, R, P, O, E>(console, dbd, psb, steps, volume, keeping, Blank::new(1))
 }
 
 /// Plays the deck in a file over the volume in another, which is changed in place. The DBD, the PSB and the deck are read and judged first,
 /// in this order, then the volume is opened; only then is it judged. Says how it ended.
 pub fn play_file<R, P, O, E>(
-    rt: &R,
-    alloc: Global,
+    console: &mut Console<'_, R, P, O, E>,
     dbd: &str,
     psb: &str,
     volume: &str,
     deck: &str,
     cache: Option<u32>,
     syncs: bool,
-    progress: &P,
-    out: &mut O,
-    err: &mut E,
 ) -> Result<Ended, Stop>
 where
     R: Files<File = File>,
@@ -206,12 +198,18 @@ where
     O: Write,
     E: Write,
 {
+    let (rt, alloc) = (console.rt, console.alloc);
     let (dbd, source) = read_database(rt, alloc, dbd)?;
     let (psb, program) = read_program(rt, alloc, &dbd, psb)?;
     let (steps, text) = read_steps(rt, alloc, psb.pcbs().len() as u8, deck)?;
     let volume = open_volume(rt, volume, &[source, program, text])?;
-    let kept = cache.unwrap_or(blocks_for_calls(&dbd));
+    let cache = cache.unwrap_or(blocks_for_calls(&dbd));
     play_over_file(
-        alloc, &dbd, &psb, &steps, volume, kept, syncs, progress, out, err,
+        console,
+        &dbd,
+        &psb,
+        &steps,
+        volume,
+        Keeping { cache, syncs },
     )
 }

@@ -5,6 +5,7 @@ mod advice;
 mod beginning;
 mod check_command;
 mod commands;
+mod console;
 mod dbd_source;
 mod deck_command;
 mod explain_command;

@@ -1,5 +1,6 @@
 ghost use Rattle.std.specs.Prelude.{◌≡◌, ◌<◌};
 
+use crate::console::Console;
 use crate::dbd_source::{CACHE, read_database};
 use crate::lines::{DEVICE_FAILED, Lines};
 use crate::stop::Stop;
@@ -80,17 +81,13 @@ fn fill_file<P: Progress>(
 /// the stream is read, then the volume's file is opened; only then is the stream judged, and only when the whole volume is written does it take the
 /// place of the file. Says how it ended.
 pub fn reload_file<R, P, O, E>(
-    rt: &R,
-    alloc: Global,
+    console: &mut Console<'_, R, P, O, E>,
     dbd: &str,
     input: &str,
     volume: &str,
     blocks: u32,
     cache: Option<u32>,
     syncs: bool,
-    progress: &P,
-    out: &mut O,
-    err: &mut E,
 ) -> Result<Ended, Stop>
 where
     R: Files<File = File>,
@@ -98,6 +95,7 @@ where
     O: Write,
     E: Write,
 {
+    let (rt, alloc) = (console.rt, console.alloc);
     let (dbd, source) = read_database(rt, alloc, dbd)?;
     let (stream, records) = read_file(rt, alloc, input, Named::Stream)?;
     let wanted = Wanted {
@@ -110,12 +108,13 @@ where
     let file = of_file(Named::Volume, output.share())?;
     let mut lines = Lines::new(alloc)?;
     let cache = cache.unwrap_or(CACHE);
+    let progress = console.progress;
     let ended = fill_file(
         alloc, &dbd, &stream, file, blocks, cache, progress, &mut lines,
     )?;
     if ended.status == 0 {
         output.publish()?;
     }
-    lines.tell(out, err)?;
+    lines.tell(&mut *console.out, &mut *console.err)?;
     Ok(ended)
 }

@@ -2,12 +2,13 @@ ghost use Rattle.std.specs.Prelude.{◌≡◌, ◌<◌};
 ghost use Rattle.hd_dbd.specs.Facts.{stored_sizes};
 
 use crate::check_command::load_volume;
+use crate::console::Console;
 use crate::dbd_source::{CACHE, read_database};
 use crate::stop::Stop;
 use hd_commands::{Ended, Refusal, refuse};
 use hd_dbd::Dbd;
 use hd_files::{Watched, cached_blocks, open_read_volume};
-use hd_output::Pieces;
+use hd_output::{Pieces, Progress};
 use hd_rows::{Form, RowWriter, code_named};
 use hd_stores::BlockStore;
 use hd_unload::{UnloadFault, unload};
@@ -87,21 +88,20 @@ fn list_file<O: Write, E: Write>(
 
 /// Checks the volume in a file, which is opened for reading alone, and writes its rows in hierarchic sequence, a line each; or those of one
 /// type as CSV. The DBD is read and judged first. Nothing is written before the volume has passed.
-pub fn list_rows<R, O, E>(
-    rt: &R,
-    alloc: Global,
+pub fn list_rows<R, P, O, E>(
+    console: &mut Console<'_, R, P, O, E>,
     dbd: &str,
     volume: &str,
     table: Option<&str>,
     cache: Option<u32>,
-    out: &mut O,
-    err: &mut E,
 ) -> Result<Ended, Stop>
 where
     R: Files<File = File>,
+    P: Progress,
     O: Write,
     E: Write,
 {
+    let (rt, alloc) = (console.rt, console.alloc);
     let (dbd, _) = read_database(rt, alloc, dbd)?;
     let form = match table {
         Some(name) => match code_named(&dbd, name.as_bytes()) {
@@ -111,5 +111,14 @@ where
         None => Form::Rows,
     };
     let (file, _) = open_read_volume(rt, volume)?;
-    list_file(alloc, &dbd, file, form, cache.unwrap_or(CACHE), out, err)
+    let cache = cache.unwrap_or(CACHE);
+    list_file(
+        alloc,
+        &dbd,
+        file,
+        form,
+        cache,
+        &mut *console.out,
+        &mut *console.err,
+    )
 }

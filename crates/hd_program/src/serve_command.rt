@@ -1,6 +1,7 @@
 ghost use Rattle.std.specs.Prelude.{◌≡◌, ◌<◌};
 ghost use Rattle.hd_dbd.specs.ProgramRules.{type_names};
 
+use crate::console::{Console, Keeping};
 use crate::dbd_source::{blocks_for_calls, read_database};
 use crate::deck_command::read_program;
 use crate::stop::Stop;
@@ -8,8 +9,8 @@ use hd_commands::{Ended, Refusal, refuse, status_of_calls};
 use hd_dbd::{Dbd, Psb};
 use hd_deck::RunFault;
 use hd_files::{Named, NamedFile, OpenVolume, cached, open_volume};
+use hd_output::Progress;
 use hd_serve::{FrameFault, ServeFault, serve};
-use std::alloc::Global;
 use std::fs::File;
 use std::io::{Read, Write};
 use std::marker::Brand;
@@ -33,37 +34,35 @@ fn end_of<E: Write>(fault: ServeFault, err: &mut E) -> Result<Ended, Stop> {
 
 /// Serves calls over the volume in a file, with a ledger for the accesses that fail. Every block that they changed is then in the file, and on the disk
 /// if that is wanted.
-fn serve_over<L: Ledger, R: Files<File = File>, I: Read, O: Write, E: Write>(
-    alloc: Global,
+fn serve_over<L: Ledger, R: Files<File = File>, P: Progress, I: Read, O: Write, E: Write>(
+    console: &mut Console<'_, R, P, O, E>,
     dbd: &Dbd,
     psb: &Psb,
     volume: OpenVolume<'_, R>,
-    cache: u32,
-    syncs: bool,
+    keeping: Keeping,
     blank: Blank,
     input: &mut I,
-    out: &mut O,
-    err: &mut E,
 ) -> Result<Ended, Stop>
     requires name { blank.name ≡ L.name }
     requires parts { blank.parts ≡ L.parts }
     requires share { 0 < blank.parts }
     requires matches { psb.now.made_for ≡ type_names dbd.now.types }
 {
+    let alloc = console.alloc;
     let store = NamedFile::<R, L>::over(volume, dbd, blank)?;
-    let store = cached(alloc, store, cache)?;
-    let (store, served) = match serve(alloc, store, dbd, psb, input, out) {
+    let store = cached(alloc, store, keeping.cache)?;
+    let (store, served) = match serve(alloc, store, dbd, psb, input, &mut *console.out) {
         Ok(end) => (end.store, Ok(end.memory)),
         Err((store, fault)) => (store, Err(fault)),
     };
     let (store, written) = store.into_store();
     let file = store.into_store();
-    let kept = file.keep(written, syncs);
+    let kept = file.keep(written, keeping.syncs);
     match served {
         Err(ServeFault::Device) => Err(Stop::device(Named::Volume, file.last_error())),
         Err(fault) => {
             kept?;
-            end_of(fault, err)
+            end_of(fault, &mut *console.err)
         }
         Ok(memory) => {
             kept?;
@@ -73,57 +72,42 @@ fn serve_over<L: Ledger, R: Files<File = File>, I: Read, O: Write, E: Write>(
 }
 
 /// As `serve_over`, with a ledger of its own.
-fn serve_over_file<R: Files<File = File>, I: Read, O: Write, E: Write>(
-    alloc: Global,
+fn serve_over_file<R: Files<File = File>, P: Progress, I: Read, O: Write, E: Write>(
+    console: &mut Console<'_, R, P, O, E>,
     dbd: &Dbd,
     psb: &Psb,
     volume: OpenVolume<'_, R>,
-    cache: u32,
-    syncs: bool,
+    keeping: Keeping,
     input: &mut I,
-    out: &mut O,
-    err: &mut E,
 ) -> Result<Ended, Stop>
     requires matches { psb.now.made_for ≡ type_names dbd.now.types }
 {
-    serve_over::<Brand, R, I, O, E>(
-        alloc,
-        dbd,
-        psb,
-        volume,
-        cache,
-        syncs,
-        Blank::new(1),
-        input,
-        out,
-        err,
-    )
+    serve_over::<Brand, R, P, I, O, E>(console, dbd, psb, volume, keeping, Blank::new(1), input)
 }
 
 /// Serves a program's calls over the volume in a file, which is changed in place: they come as frames from `input`, and each is answered by a frame on
 /// `out`. The DBD and the PSB are read and judged first, then the volume is opened, and no other program opens it until the end of the input; only
 /// then is it judged. Says how it ended.
-pub fn serve_file<R, I, O, E>(
-    rt: &R,
-    alloc: Global,
+pub fn serve_file<R, P, I, O, E>(
+    console: &mut Console<'_, R, P, O, E>,
     dbd: &str,
     psb: &str,
     volume: &str,
     cache: Option<u32>,
     syncs: bool,
     input: &mut I,
-    out: &mut O,
-    err: &mut E,
 ) -> Result<Ended, Stop>
 where
     R: Files<File = File>,
+    P: Progress,
     I: Read,
     O: Write,
     E: Write,
 {
+    let (rt, alloc) = (console.rt, console.alloc);
     let (dbd, source) = read_database(rt, alloc, dbd)?;
     let (psb, program) = read_program(rt, alloc, &dbd, psb)?;
     let volume = open_volume(rt, volume, &[source, program])?;
-    let kept = cache.unwrap_or(blocks_for_calls(&dbd));
-    serve_over_file(alloc, &dbd, &psb, volume, kept, syncs, input, out, err)
+    let cache = cache.unwrap_or(blocks_for_calls(&dbd));
+    serve_over_file(console, &dbd, &psb, volume, Keeping { cache, syncs }, input)
 }

@@ -1,12 +1,13 @@
 ghost use Rattle.std.specs.Prelude.{◌≡◌, ◌<◌};
 
 use crate::check_command::load_volume;
+use crate::console::Console;
 use crate::dbd_source::{CACHE, read_database};
 use crate::stop::Stop;
 use hd_commands::{Ended, Refusal, check_volume};
 use hd_dbd::Dbd;
 use hd_files::{Named, Output, Wanted, cached_blocks, of_file, open_read_volume};
-use hd_output::Pieces;
+use hd_output::{Pieces, Progress};
 use hd_show::{Survey, draw_database, draw_svg, draw_volume, survey_volume};
 use std::alloc::Global;
 use std::fs::File;
@@ -93,22 +94,21 @@ where
 
 /// Draws the volume in a file, which is opened for reading alone, as text, or as a picture into another file; and judges it. The DBD is read
 /// and judged first, then the files are opened. A volume with a fault is drawn as far as it can be read.
-pub fn show_volume<R, O, E>(
-    rt: &R,
-    alloc: Global,
+pub fn show_volume<R, P, O, E>(
+    console: &mut Console<'_, R, P, O, E>,
     dbd: &str,
     volume: &str,
     picture: Option<&str>,
     cache: Option<u32>,
     syncs: bool,
-    out: &mut O,
-    err: &mut E,
 ) -> Result<Ended, Stop>
 where
     R: Files<File = File>,
+    P: Progress,
     O: Write,
     E: Write,
 {
+    let (rt, alloc) = (console.rt, console.alloc);
     let (dbd, source) = read_database(rt, alloc, dbd)?;
     let (file, image) = open_read_volume(rt, volume)?;
     let picture = match picture {
@@ -123,5 +123,14 @@ where
         }
         None => None,
     };
-    show_file(alloc, &dbd, file, picture, cache.unwrap_or(CACHE), out, err)
+    let cache = cache.unwrap_or(CACHE);
+    show_file(
+        alloc,
+        &dbd,
+        file,
+        picture,
+        cache,
+        &mut *console.out,
+        &mut *console.err,
+    )
 }

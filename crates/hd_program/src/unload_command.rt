@@ -1,6 +1,7 @@
 ghost use Rattle.std.specs.Prelude.{◌≡◌, ◌<◌};
 
 use crate::check_command::load_volume;
+use crate::console::Console;
 use crate::dbd_source::{CACHE, read_database};
 use crate::lines::{DEVICE_FAILED, Lines};
 use crate::stop::Stop;
@@ -73,16 +74,12 @@ fn copy_file<W: Write, P: Progress>(
 /// the stream's file are opened; only then is the volume judged, and only when the whole stream is written does it take the place of the other file. Says
 /// how it ended.
 pub fn unload_file<R, P, O, E>(
-    rt: &R,
-    alloc: Global,
+    console: &mut Console<'_, R, P, O, E>,
     dbd: &str,
     volume: &str,
     stream: &str,
     cache: Option<u32>,
     syncs: bool,
-    progress: &P,
-    out: &mut O,
-    err: &mut E,
 ) -> Result<Ended, Stop>
 where
     R: Files<File = File>,
@@ -90,6 +87,7 @@ where
     O: Write,
     E: Write,
 {
+    let (rt, alloc) = (console.rt, console.alloc);
     let (dbd, source) = read_database(rt, alloc, dbd)?;
     let (file, image) = open_read_volume(rt, volume)?;
     let wanted = Wanted {
@@ -102,6 +100,7 @@ where
     let mut lines = Lines::new(alloc)?;
     let mut stream = Watched::over(&mut output);
     let cache = cache.unwrap_or(CACHE);
+    let progress = console.progress;
     let ended = copy_file(alloc, &dbd, file, &mut stream, cache, progress, &mut lines)?;
     let said = stream.last_error();
     drop(stream);
@@ -110,6 +109,6 @@ where
         DEVICE_FAILED if said.is_some() => return Err(Stop::device(Named::Out, said)),
         _ => {}
     }
-    lines.tell(out, err)?;
+    lines.tell(&mut *console.out, &mut *console.err)?;
     Ok(ended)
 }
