@@ -2,10 +2,10 @@
 # is the gate, with all that tests play over the proved program and that the documents and the programs of other languages show, and `make edits OF=NAME` tries more edits
 # of a crate than the gate does. `make examples` plays what the documents and examples show, and compares, and so the words of
 # FORMATS; `make program-test` plays hd over many cases of words, files and standard input; `make calls-test` compares worked lists and random decks
-# with a plain list of rows; `make files-test` tries that nothing loses a file; `make bench` measures hd, and SQLite beside it; `make dli` makes hdrun, which runs programs that call DL/I, and
+# with a plain list of rows; `make files-test` tries that nothing loses a file; `make definitions` lists each word of the specs; `make bench` measures hd, and SQLite beside it; `make dli` makes hdrun, which runs programs that call DL/I, and
 # `make dli-test` tries it; `make install` puts the program and its manual pages below PREFIX, `make install-dli` what programs
 # want, and `make uninstall` takes them away.
-.PHONY: all run test program-test calls-test files-test edits examples bench dli dli-test install uninstall install-dli clean
+.PHONY: all run test program-test calls-test files-test edits examples definitions bench dli dli-test install uninstall install-dli clean
 
 SHELL = /bin/bash
 
@@ -56,8 +56,14 @@ edits:
 	for more in crates/*/more-edits; do mkdir -p $$more/../must-fail && mv $$more/*.edit $$more/../must-fail; done && rt must-fail $(OF)
 
 examples: bin/hd
+	python3 docs/definitions.py --check
 	python3 examples/words.py
 	python3 examples/check.py docs/USING.md examples/edu examples/*/README.md examples/hospital/DAMAGED.md
+
+# each word of the specs with its sentence and its file
+definitions:
+	mkdir -p bin
+	python3 docs/definitions.py >bin/definitions.md
 
 bench: bin/hd
 	python3 bench/bench.py

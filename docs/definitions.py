@@ -2,6 +2,7 @@
 """Lists the words that contracts cite: each public definition of the crates' specs, with its comment, its shape and its file.
 
     docs/definitions.py [PART ..]     all, or those whose name has one of these parts; a crate's name stands for all of its words
+    docs/definitions.py --check       asks whether the words of docs/DEFINITIONS.md stand in the files that it names
 """
 import os
 import re
@@ -57,5 +58,28 @@ def listed(parts):
     return lines
 
 
+def lost():
+    """The words of docs/DEFINITIONS.md that do not stand where it says, each with its line."""
+    found = []
+    with open(f"{ROOT}/docs/DEFINITIONS.md", encoding="utf-8") as it:
+        for number, line in enumerate(it, 1):
+            row = re.fullmatch(r"\| (.*?) \| .* \| `(hd_\w+)`: (\w+) \|", line.strip())
+            if row is None:
+                continue
+            path = f"{ROOT}/crates/{row[2]}/specs/{row[3]}.antt"
+            there = {word for word, _ in words_of(path)} if os.path.exists(path) else set()
+            found += [f"docs/DEFINITIONS.md:{number}: {word} does not stand in {row[2]}/specs/{row[3]}" for word in re.findall(r"`(\w+)`", row[1]) if word not in there]
+    return found
+
+
+def main(words):
+    if words == ["--check"]:
+        found = lost()
+        print("\n".join(found) or "each word of docs/DEFINITIONS.md stands where it says")
+        return bool(found)
+    print("\n".join(listed(words)))
+    return False
+
+
 if __name__ == "__main__":
-    print("\n".join(listed(sys.argv[1:])))
+    sys.exit(main(sys.argv[1:]))
