@@ -65,7 +65,7 @@ L     GHU  COURSE  (NUM     EQ101)/C          CLASS   (ED      EQ01);L     GHU  
 L     GHU  COURSE  (NUM     EQ101)/C          CLASS   (ED      EQ01);L     GHU  COURSE  (NUM     EQ101)/C          CLASS   (ED      EQ01)/L     DLET;0;10;4
 %0;717;1,1,8,101ALGEB/2,1,4,01AB/3,5000,6,ADAM01
 ;L5002 GN;700;750
-;L     GHU  COURSE  (NUM     EQ101)/C          CLASS   (ED      EQ01)/C          STUD    *-/L     REPL/DADAM99/L     GHU  COURSE  (NUM     EQ101)/C          CLASS   (ED      EQ01)/C          STUD    *-/L     DLET;0;100
+;L     GHU  COURSE  (NUM     EQ101)/C          CLASS   (ED      EQ01)/C          STUD    /L     REPL/DADAM99/L     GHU  COURSE  (NUM     EQ101)/C          CLASS   (ED      EQ01)/C          STUD    /L     DLET;0;100
 %1;0;1~,1,45,0001/2~,50,53,
 L  25 GHN  BOOK    ;L  25 GHN  BOOK    /L     REPL/H0035/D...................................................;1;1
 L  25 GHN  BOOK    ;L  25 GHN  BOOK    /L     REPL/H001e/D............................;1;1
