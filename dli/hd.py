@@ -195,8 +195,11 @@ class Pcb:
         return self.session.call("DLET", self.number, *ssas)
 
     def segments(self, *ssas):
-        """The segments behind the position that satisfy the arguments, one after the other; ValueError at a status but GE and GB."""
-        return iter(lambda: self._next(self.gn, ssas), None)
+        """The segments that satisfy the arguments, from the start of the database on, wherever the PCB stands; ValueError at a status but GE and GB."""
+        answer = self._next(self.gu, ssas)
+        while answer:
+            yield answer
+            answer = self._next(self.gn, ssas)
 
     def dependents(self, *ssas):
         """The segments behind the position that satisfy the arguments, below the one that the last gu or gn gave; ValueError as there."""

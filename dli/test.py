@@ -108,7 +108,17 @@ def samples(place):
     expect("the rows after all programs", rows.stdout == text("rows.after"), rows.stdout)
     done = place.run("python3", os.path.join(SAMPLES, "reorder.py"), os.path.join(PARTS, "parts.dbd"), os.path.join(SAMPLES, "PARTRPT.psb"), "parts.volume")
     expect("reorder.py prints what it should", done.stdout == text("reorder"), done.stdout)
+    done = place.run("python3", "-c", TWICE, os.path.join(PARTS, "parts.dbd"), os.path.join(SAMPLES, "PARTRPT.psb"), "parts.volume")
+    there = [line for line in rows.stdout.splitlines() if "WHOUSE=HAM " in line]
+    expect("segments begin at the start each time", done.stdout == f"{len(there)} True\n" and len(there) > 1, done.stdout)
 
+
+# Iterates twice over the stock of a warehouse, each time from wherever the time before has ended.
+TWICE = """import hd, sys
+with hd.open(*sys.argv[1:]) as session:
+    first, again = ([stock.area for stock in session.pcb(1).segments(hd.ssa("STOCK", WHOUSE="HAM"))] for _ in range(2))
+    print(len(first), first == again)
+"""
 
 ENTRIES = """CBLTDLI [  ] 01 PART     CG2040 Cog, 40 teeth     
 PLITDLI [  ] 01 PART     CG2040 Cog, 40 teeth     
