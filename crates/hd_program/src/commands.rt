@@ -59,14 +59,7 @@ where
     };
     let mut out = Watched::over(Unmixed::output(out, progress));
     let mut err = Unmixed::errors(err, progress);
-    let mut console = Console {
-        rt,
-        alloc: rt.alloc(),
-        progress,
-        out: &mut out,
-        err: &mut err,
-    };
-    let performed = perform(&mut console, request, input);
+    let performed = perform(rt, request, progress, input, &mut out, &mut err);
     progress.end();
     let status = match &performed {
         Ok(ended) => ended.status,
@@ -132,8 +125,34 @@ where
     }
 }
 
-/// Does what is asked for, and says how it ended.
-fn perform<R, P, I, O, E>(
+/// Does what is asked for, with these streams, and says how it ended.
+fn perform<'c, R, P, I, O, E>(
+    rt: &'c R,
+    request: Request<'_>,
+    progress: &'c P,
+    input: &mut I,
+    out: &'c mut O,
+    err: &'c mut E,
+) -> Result<Ended, Stop>
+where
+    R: Files<File = File> + AllocGlobal,
+    P: Progress,
+    I: Read,
+    O: Write,
+    E: Write,
+{
+    let mut console = Console {
+        rt,
+        alloc: rt.alloc(),
+        progress,
+        out,
+        err,
+    };
+    command(&mut console, request, input)
+}
+
+/// The command that is asked for.
+fn command<R, P, I, O, E>(
     console: &mut Console<'_, R, P, O, E>,
     request: Request<'_>,
     input: &mut I,
