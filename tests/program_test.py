@@ -7,7 +7,7 @@ The cases lie in tests/cases/*.txt, a few by subject. A case begins with `== ` a
 own, which has the files of cases/sample.txt, and those that stand before the first case. Lines with `#` in column 1 and empty lines say nothing.
 
     text NAME               makes a file of the lines `| ` that follow; `|1-17 ` is such a line for each number, written for %d, %03d and so on
-    bytes NAME LENGTH       makes a file of zeros, with bytes in hexadecimal at the places that the lines `| ` name
+    bytes NAME LENGTH       makes a file of zeros, with bytes in hexadecimal at the places that the lines `| ` name; 3.2 is byte 2 of block 3, of 128 bytes
     copy FROM TO 9=03 ..    a copy with other bytes from the places on; FROM and TO may be one file
     cut NAME LENGTH         leaves the first bytes of a file
     line NAME 3 TEXT        puts other text in place of a line
@@ -20,7 +20,8 @@ own, which has the files of cases/sample.txt, and those that stand before the fi
                             `hd serve`). So !begins, !ends, !has, !some. An empty TEXT stands for no output
     = 3                     its status, which else is 0
     is NAME none            no file has the name; also: is NAME as OTHER, is NAME mode 0640, is NAME link, is NAME begins TEXT, is NAME ends TEXT,
-                            is NAME counts 4 TEXT (it has the text four times), is NAME pairs <a </a> (it has both equally often)
+                            is NAME counts 4 TEXT (it has the text four times), is NAME pairs <a </a> (it has both equally often), is NAME with 9=03 ..
+                            (it has these bytes from the places on)
     is NAME text            a file has just the lines `| ` that follow
     : CELL | CELL           a line of a table: the case is played for each with its cells in place of {1} and {2}, and counts so often
 
@@ -69,16 +70,25 @@ def numbered(text, number):
     return re.sub(r"%0?\d*d", lambda form: form[0] % number, text)
 
 
-def lines_of(given):
-    """The bytes that lines of a text stand for."""
-    made = b""
+def texts_of(given):
+    """The lines of a text, of which some stand for one for each number."""
     for head, text in given:
         if head:
             first, last = head.split("-")
-            made += b"".join(line_of(numbered(text, number)) for number in range(int(first), int(last) + 1))
+            yield from (numbered(text, number) for number in range(int(first), int(last) + 1))
         else:
-            made += line_of(text)
-    return made
+            yield text
+
+
+def lines_of(given):
+    """The bytes that lines of a text stand for."""
+    return b"".join(line_of(text) for text in texts_of(given))
+
+
+def place_of(text):
+    """A place, by its number or by the block of 128 bytes and the byte in it."""
+    block, _, byte = text.rpartition(".")
+    return 128 * int(block or 0) + int(byte)
 
 
 def edited(data, edits):
@@ -86,8 +96,8 @@ def edited(data, edits):
     data = bytearray(data)
     for edit in edits:
         place, new = edit.split("=")
-        new = bytes.fromhex(new)
-        data[int(place) : int(place) + len(new)] = new
+        place, new = place_of(place), bytes.fromhex(new)
+        data[place : place + len(new)] = new
     return bytes(data)
 
 
@@ -264,7 +274,7 @@ class Case:
         if verb == "text":
             self.making = (lambda given: write(name, lines_of(given)), [])
         elif verb == "bytes":
-            rows = lambda given: [text.replace(" ", "=", 1).replace(" ", "") for _, text in given]
+            rows = lambda given: [text.replace(" ", "=", 1).replace(" ", "") for text in texts_of(given)]
             self.making = (lambda given: write(name, edited(bytes(int(more[0])), rows(given))), [])
         elif verb == "copy":
             write(more[0], edited(read(name), more[1:]))
@@ -308,6 +318,8 @@ class Case:
             self.differs(f"{name}: {' '.join(more[1:])}", found.count(unescaped(" ".join(more[1:]))), int(more[0]))
         elif how == "pairs":
             self.differs(f"{name}: {more[1]}", found.count(unescaped(more[1])), found.count(unescaped(more[0])))
+        elif how == "with":
+            self.differs(name, found, edited(found, more))
         elif how in ("begins", "ends"):
             tests = {"begins": found.startswith, "ends": found.endswith}
             self.told += "" if tests[how](text) else f"\n  {name} {how} with{shown(text)}\n  but is{shown(found)}"
@@ -391,6 +403,48 @@ def try_turned_bits(place):
         if statuses == [0, 0]:
             statuses.append(place.player.run("reload", "edu.dbd", "bit.stream", "bit.again", "16", "--no-sync").status)
         place.count.expect(f"a turned bit of byte {at}", statuses in ([0, 0, 0], [1, 1]), statuses)
+    place.end()
+
+
+# The records of the sample's stream begin at these bytes, and its end at the last.
+RECORDS = (18, 29, 36, 45, 54, 61, 69, 80)
+
+
+def try_cut_files(place):
+    """The sample volume and its stream end at each of their bytes: the one is no volume, and of the other the record is named that is not whole."""
+    place.begin()
+    volume, stream = read("old.volume"), read("edu.stream")
+    for end in range(len(volume)):
+        write("cut.volume", volume[:end])
+        done = place.player.run("check", "edu.dbd", "cut.volume")
+        place.count.expect(f"the volume's first {end} bytes", done == (1, b"", b"fault 1 at 0, other 0\n"), done)
+    for end in range(len(stream)):
+        write("cut.stream", stream[:end])
+        done = place.player.run("reload", "edu.dbd", "cut.stream", "cut.again", "16", "--no-sync")
+        record = sum(start <= end for start in RECORDS)
+        is_right = done == (1, b"", b"reload refused: U2 at record %d\n" % record) and read("cut.again") is None
+        place.count.expect(f"the stream's first {end} bytes", is_right, done)
+    place.end()
+
+
+def blocks_for(roots):
+    """The header; a data block for three courses; an index block for sixteen keys; and one above these where they are several."""
+    return 1 + -(-roots // 3) + -(-roots // 16) + (roots > 16)
+
+
+def try_roots(place):
+    """Roots take no block that they do not need, and so many suffice; with one less the first is refused that needs it."""
+    place.begin()
+    for count in range(1, 41):
+        records = b"".join(b"\1\0\x08%03dALGEB" % number for number in range(count))
+        write("roots.stream", b"HDUNLOAD\0\1EDU     " + records + struct.pack(">BI", 0, count))
+        blocks = blocks_for(count)
+        first = next(roots for roots in range(1, count + 1) if blocks_for(roots) == blocks)
+        made = (0, b"reloaded %d segments into %d blocks\n" % (count, blocks), b"")
+        refused = (1, b"", b"reload refused: Full at record %d\n" % first)
+        for largest, wanted in ((65536, made), (blocks, made), (blocks - 1, refused)):
+            done = place.player.run("reload", "edu.dbd", "roots.stream", "roots.volume", str(largest), "--no-sync")
+            place.count.expect(f"{count} roots in at most {largest} blocks", done == wanted, done)
     place.end()
 
 
@@ -482,7 +536,7 @@ def main(words):
                 if not words[1:] or any(part in case for part in words[1:]):
                     place.play(case, rows, cases[0][2] + lines)
         if not words[1:]:
-            for trial in (try_turned_bits, try_cut_sources, try_explanations, try_lost_names):
+            for trial in (try_turned_bits, try_cut_files, try_roots, try_cut_sources, try_explanations, try_lost_names):
                 trial(place)
     finally:
         place.remove()

@@ -2,20 +2,18 @@
 #![tactic(auto)]
 
 #[cfg(test)]
-mod cache_tests;
+mod change_tests;
 #[cfg(test)]
-mod check_tests;
+mod cost_tests;
 #[cfg(test)]
 mod directory_tests;
 #[cfg(test)]
-mod heights_tests;
-#[cfg(test)]
-mod judged;
+mod images;
 #[cfg(test)]
 mod linked_tests;
 #[cfg(test)]
-mod old_images;
+mod stores;
 #[cfg(test)]
-mod spacing_tests;
+mod trial;
 #[cfg(test)]
-mod unload_tests;
+mod trial_tests;
