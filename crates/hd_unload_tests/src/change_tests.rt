@@ -37,17 +37,8 @@ fn verdict(alloc: Global, dbd: &Dbd, work: u8, image: &[u8]) -> Option<bool> {
     }
 }
 
-/// A byte changed in a way: in one of all 255, or of twelve.
-fn changed_byte(byte: u8, way: u8, ways: u8) -> u8 {
-    if ways == u8::MAX {
-        byte.wrapping_add(way).wrapping_add(1)
-    } else {
-        changed(byte, way)
-    }
-}
-
-/// How many changes of a volume pass and how many do not, where each byte is changed in so many ways; and the first that is judged as it should not be, by
-/// its place and way.
+/// How many changes of a volume pass and how many do not, where each byte is changed in so many ways, or to all others; and the first that is judged as
+/// it should not be, by its place and way.
 fn change_each(
     alloc: Global,
     dbd: &Dbd,
@@ -59,7 +50,11 @@ fn change_each(
     'places: for place in 0..image.len() {
         let own = byte_at(image, place);
         'ways: for way in 0..ways {
-            let byte = changed_byte(own, way, ways);
+            let byte = if ways == u8::MAX {
+                own.wrapping_add(way).wrapping_add(1)
+            } else {
+                changed(own, way)
+            };
             if byte != own {
                 set_byte(image, place, byte);
                 match verdict(alloc, dbd, work, image) {
