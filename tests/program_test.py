@@ -486,6 +486,24 @@ def try_cut_sources(place):
     place.end()
 
 
+def try_cut_decks(place):
+    """A deck with a line of each kind ends at each of its bytes: it is played, or refused by its last line."""
+    place.begin()
+    deck = b"* courses\nS 2\nL   3 GU   COURSE  (NUM     EQ101)\nC          CLASS   *-\n\nL     REPL\nD01XY\nH4142\nL     GN\n"
+    gets = b"".join(b"%d 2 GU   [  ] 02 CLASS    key=10101 area=01AB\n" % number for number in (1, 2, 3))
+    for end in range(len(deck) + 1):
+        write("cut.deck", deck[:end])
+        done = place.player.run("deck", "edu.dbd", "edu.psb", "edu.volume", "cut.deck")
+        refused = b"DECK refused: line %d, K" % (deck[:end].count(b"\n") + 1)
+        is_refused = done.status == 2 and done.out == b"" and done.err[:-2] == refused
+        calls = 3 * deck[:end].count(b"L   3 G") + len(re.findall(rb"L     [A-Z]", deck[:end]))
+        is_whole = done.status == 0 and done.out.count(b"\n") == calls and done.err == b""
+        place.count.expect(f"the deck's first {end} bytes", is_whole or is_refused, done)
+    last = b"4 2 REPL [DJ] 00          key= area=\n5 2 GN   [  ] 03 STUD     key=10101ADAM area=ADAM01\n"
+    place.count.expect("the whole deck", done == (0, gets + last, b""), done)
+    place.end()
+
+
 # The words of the documents: faults of volumes, sources, decks and streams, statuses, refusals and exit statuses, some in the other case.
 EXPLAINED = """1 2 3 4 5 6 7 8 9 10 11 12 13 14 15 16 17 18 19 20 M1 M2 M3 M4 G1 G2 G3 G4 G5 B1 B2 B3 B4 B5 B6 B7 B8 B9 B10 P1 P2 P3 P4 P5 P6
     K1 K2 K3 K4 K5 K6 K7 U1 U2 U3 U4 Blank ga GK gb GE GP II V1 DA DJ LB LC LD LE AC AD AH AJ AK AM full AREA Memory Device Broken
@@ -536,7 +554,7 @@ def main(words):
                 if not words[1:] or any(part in case for part in words[1:]):
                     place.play(case, rows, cases[0][2] + lines)
         if not words[1:]:
-            for trial in (try_turned_bits, try_cut_files, try_roots, try_cut_sources, try_explanations, try_lost_names):
+            for trial in (try_turned_bits, try_cut_files, try_roots, try_cut_sources, try_cut_decks, try_explanations, try_lost_names):
                 trial(place)
     finally:
         place.remove()

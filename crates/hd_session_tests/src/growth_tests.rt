@@ -1,216 +1,358 @@
-//! Calls in which a growth of the store finds no memory.
-ghost use Rattle.std.specs.Prelude.{◌≡◌, ◌<◌, ◌≤◌, length};
-ghost use Rattle.hd_dbd.specs.Hierarchy.{longest_path};
+//! Growths of the store that find no memory, in sessions and in decks.
 
-use crate::listed_calls::{program, sample};
-use crate::stores::{SIZE, Sparing};
-use hd_dbd::{Dbd, Refused, Status};
-use hd_sample::database;
-use hd_session::{Call, IoArea, Session};
-use hd_stores::BlockStore;
-use hd_volume::Volume;
-use std::alloc::{AllocError, Global};
-use std::test::Fail;
+use crate::acts::{Act, DONE, NO_MEMORY};
+use crate::sources::{Base, Holds};
+use crate::trial::{Bench, Refusing, Row, Told, are_told, bench_of, lines_in, nothing, outcome};
+use hd_sample::put;
+use std::process::Abort;
 
-/// The sample in a store in which a growth finds no memory.
-fn sample_sparing(alloc: Global, refused: u32) -> Result<Sparing, AllocError> {
-    let Some(store) = sample(alloc) else {
-        return Err(AllocError);
+/// Short rows: several go into one block.
+const SHORT: &[u8] =
+    b"HDUNLOAD\0\x01EDU     \x01\0\x05\0\x05101\x02\0\x04\0\x04AA\x02\0\x04\0\x04BB\x02\0\x04\0\x04ZZ\x01\0\x05\0\x05205\x02\0\x04\0\x04CC\x02\0\x04\0\x04DD\x02\0\x04\0\x04ZZ\x01\0\x05\0\x05307\x02\0\x04\0\x04EE\x02\0\x04\0\x04FF\x02\0\x04\0\x04ZZ\0\0\0\0\x0c";
+
+/// REPLs that make a course and its first book longer, and then its second book: each of these rows takes a whole block.
+const LENGTHEN: &[u8] = b"L     GHU  COURSE  *D(NUM     EQ101)
+C          BOOK    *-
+L     REPL
+H0066
+D101.................................................................................................
+H006e
+DAA..........................................................................................................
+L     GHN  BOOK    *-
+L     REPL
+H006e
+DBB..........................................................................................................
+L     GHU  COURSE  *D(NUM     EQ205)
+C          BOOK    *-
+L     REPL
+H0066
+D205.................................................................................................
+H006e
+DCC..........................................................................................................
+L     GHN  BOOK    *-
+L     REPL
+H006e
+DDD..........................................................................................................
+L     GHU  COURSE  *D(NUM     EQ307)
+C          BOOK    *-
+L     REPL
+H0066
+D307.................................................................................................
+H006e
+DEE..........................................................................................................
+L     GHN  BOOK    *-
+L     REPL
+H006e
+DFF..........................................................................................................
+";
+
+const LONGER_LINES: &[u8] = b"1 1 GHU  [  ] 02 BOOK     key=101 area=\\x00\\x05101\\x00\\x04AA
+2 1 REPL [  ] 02 BOOK     key=101 area=
+3 1 GHN  [  ] 02 BOOK     key=101 area=\\x00\\x04BB
+4 1 REPL [  ] 02 BOOK     key=101 area=
+5 1 GHU  [  ] 02 BOOK     key=205 area=\\x00\\x05205\\x00\\x04CC
+6 1 REPL [  ] 02 BOOK     key=205 area=
+7 1 GHN  [  ] 02 BOOK     key=205 area=\\x00\\x04DD
+8 1 REPL [  ] 02 BOOK     key=205 area=
+9 1 GHU  [  ] 02 BOOK     key=307 area=\\x00\\x05307\\x00\\x04EE
+10 1 REPL [  ] 02 BOOK     key=307 area=
+11 1 GHN  [  ] 02 BOOK     key=307 area=\\x00\\x04FF
+12 1 REPL [  ] 02 BOOK     key=307 area=
+";
+
+/// ISRTs of rows that take a block each, of a path of two of them, and of a short one. One of a root finds memory for two blocks of the
+/// index too, one on its level and one above it, which the next calls may take.
+const INSERT: &[u8] = b"L     ISRT COURSE  *-
+H0066
+D401.................................................................................................
+L     ISRT COURSE  (NUM     EQ401)
+C          BOOK    *-
+H006e
+DAA..........................................................................................................
+L     ISRT COURSE  (NUM     EQ401)
+C          BOOK    *-
+H0004
+DBB
+L     ISRT COURSE  *D
+C          BOOK    *-
+H0066
+D402.................................................................................................
+H006e
+DCC..........................................................................................................
+L     ISRT COURSE  (NUM     EQ205)
+C          BOOK    *-
+H006e
+DDD..........................................................................................................
+L     ISRT COURSE  (NUM     EQ307)
+C          BOOK    *-
+H006e
+DEE..........................................................................................................
+L     ISRT COURSE  (NUM     EQ307)
+C          BOOK    *-
+H006e
+DFF..........................................................................................................
+L     ISRT COURSE  (NUM     EQ307)
+C          BOOK    *-
+H006e
+DGG..........................................................................................................
+L     ISRT COURSE  *-
+H0066
+D403.................................................................................................
+";
+
+const INSERTED_LINES: &[u8] = b"1 1 ISRT [  ] 01 COURSE   key=401 area=
+2 1 ISRT [  ] 02 BOOK     key=401 area=
+3 1 ISRT [  ] 02 BOOK     key=401 area=
+4 1 ISRT [  ] 02 BOOK     key=402 area=
+5 1 ISRT [  ] 02 BOOK     key=205 area=
+6 1 ISRT [  ] 02 BOOK     key=307 area=
+7 1 ISRT [  ] 02 BOOK     key=307 area=
+8 1 ISRT [  ] 02 BOOK     key=307 area=
+9 1 ISRT [  ] 01 COURSE   key=403 area=
+";
+
+/// So many calls in a session, of which one that finds no memory is made again, or is the last.
+fn session(most: usize, again: bool) -> Act {
+    Act::Session { most, again }
+}
+
+/// Sessions in which each growth finds no memory in turn.
+const SESSIONS: &[Row] = &[
+    Row {
+        act: Act::Session {
+            most: usize::MAX,
+            again: true,
+        },
+        base: Base::Long,
+        holds: Holds::Rows(SHORT),
+        given: LENGTHEN,
+        lines: LONGER_LINES,
+        least: 6,
+        in_calls: [0, 0],
+        calls: &[2, 4, 6, 8, 10, 12],
+    },
+    Row {
+        act: Act::Session {
+            most: usize::MAX,
+            again: true,
+        },
+        base: Base::Long,
+        holds: Holds::Rows(SHORT),
+        given: INSERT,
+        lines: INSERTED_LINES,
+        least: 5,
+        in_calls: [0, 0],
+        calls: &[1, 4, 7, 8, 9],
+    },
+];
+
+/// Where a growth finds no memory nothing is changed, and made again the call is answered, and the volume has the bytes, as if it had not been made before. The number
+/// of the call.
+fn expect_unchanged<R: AllocGlobal + Abort>(
+    rt: &R,
+    bench: &Bench<'_>,
+    plain: &Told,
+    growth: u32,
+) -> usize {
+    let refusing = Refusing {
+        growth,
+        ..nothing(session(usize::MAX, true))
     };
-    Ok(Sparing::new(store.into_bytes(), refused))
-}
-
-/// How many segments are put in, books and courses by turns: they take several blocks.
-const SEGMENTS: u8 = 24;
-
-/// A call of a function with arguments and an area.
-pub(crate) fn plain_call(
-    alloc: Global,
-    func: &[u8; 4],
-    ssas: &[&[u8]],
-    area: &[u8],
-) -> Result<Call, AllocError> {
-    let mut given = Vec::new(alloc);
-    for ssa in ssas {
-        given.push(ssa.to_vec(alloc)?)?;
-    }
-    Ok(Call {
-        func: *func,
-        ssas: given,
-        area: area.to_vec(alloc)?,
-    })
-}
-
-/// An ISRT of a book below the first course, or of a course, by its number.
-fn insertion(alloc: Global, number: u8) -> Result<Call, AllocError> {
-    let digit = b'A'.wrapping_add(number);
-    if number % 2 == 0 {
-        let book = [b'B', b'O', b'O', b'K', digit];
-        plain_call(alloc, b"ISRT", &[b"COURSE  ", b"BOOK    "], &book)
-    } else {
-        let course = [b'3', b'0', digit, b'T', b'I', b'T', b'L', b'E'];
-        plain_call(alloc, b"ISRT", &[b"COURSE  "], &course)
-    }
-}
-
-/// What a call by the first PCB comes to.
-#[derive(Clone, Copy, Debug, PartialEq, Eq)]
-pub(crate) enum Made {
-    /// Two blanks.
-    Done,
-    Memory,
-    Other,
-}
-
-/// Makes a call by the first PCB.
-pub(crate) fn make<S: BlockStore>(
-    session: &mut Session<'_, S>,
-    call: &Call,
-    io: &mut IoArea,
-) -> Made
-    requires one { 0 < length session.old.pcbs }
-    requires room { longest_path session.old.database.types ≤ io.old.room }
-    ensures same { (session.new.pcbs ≡ session.old.pcbs) × (session.new.database ≡ session.old.database) }
-    ensures room { io.new.room ≡ io.old.room }
-{
-    match session.call(1, call, io) {
-        Ok(answer) => {
-            if answer.status == Status::Blank {
-                Made::Done
-            } else {
-                Made::Other
-            }
-        }
-        Err(Refused::Memory) => Made::Memory,
-        Err(_) => Made::Other,
-    }
-}
-
-/// Puts all segments in, each call made again where it finds no memory, and says how often that was; `None` where one is answered otherwise.
-fn insert_all<S: BlockStore>(
-    alloc: Global,
-    session: &mut Session<'_, S>,
-    io: &mut IoArea,
-) -> Result<Option<u32>, AllocError>
-    requires one { 0 < length session.old.pcbs }
-    requires room { longest_path session.old.database.types ≤ io.old.room }
-{
-    let mut memory = 0u32;
-    for number in 0..SEGMENTS {
-        let call = insertion(alloc, number)?;
-        let mut made = make(session, &call, io);
-        if made == Made::Memory {
-            memory = memory.saturating_add(1);
-            made = make(session, &call, io);
-        }
-        if made != Made::Done {
-            return Ok(None);
-        }
-    }
-    Ok(Some(memory))
-}
-
-/// The bytes that are left once all segments are put in, and how often a call was made again.
-fn inserted(alloc: Global, dbd: &Dbd, refused: u32) -> Result<Option<(Vec<u8>, u32)>, AllocError>
-    requires size { dbd.now.block_size ≡ 128 }
-{
-    let Some(psb) = program(alloc, dbd) else {
-        return Err(AllocError);
+    let again = outcome(rt.alloc(), bench, refusing).expect(rt, "memory");
+    assert_eq!(rt; again.end, NO_MEMORY, "growth {growth}");
+    assert!(rt;
+        again.out == plain.out && again.bytes == plain.bytes,
+        "growth {growth}"
+    );
+    let refusing = Refusing {
+        growth,
+        ..nothing(session(usize::MAX, false))
     };
-    let store = sample_sparing(alloc, refused)?;
-    let mut io = IoArea::new(alloc, dbd)?;
-    let _count = psb.pcbs().len();
-    let Ok(volume) = Volume::load(alloc, store, dbd) else {
-        return Err(AllocError);
-    };
-    let Ok(mut session) = Session::open(alloc, volume, dbd, &psb) else {
-        return Ok(None);
-    };
-    let Some(memory) = insert_all(alloc, &mut session, &mut io)? else {
-        return Ok(None);
-    };
-    let (store, closed) = session.close();
-    if closed.is_err() {
-        return Ok(None);
+    let stopped = outcome(rt.alloc(), bench, refusing).expect(rt, "memory");
+    assert_eq!(rt; stopped.end, NO_MEMORY, "growth {growth}");
+    let made = lines_in(&stopped.out);
+    let before = outcome(rt.alloc(), bench, nothing(session(made, false))).expect(rt, "memory");
+    assert_eq!(rt; before.end, DONE, "growth {growth}");
+    assert!(rt;
+        stopped.out == before.out && stopped.bytes == before.bytes,
+        "growth {growth}"
+    );
+    made.saturating_add(1)
+}
+
+/// The calls in which growths found no memory, of all growths in turn.
+fn refuse_each<R: AllocGlobal + Abort>(rt: &R, bench: &Bench<'_>) -> Vec<(usize, u8)> {
+    let plain = outcome(rt.alloc(), bench, nothing(bench.row.act)).expect(rt, "memory");
+    assert_eq!(rt; plain.end, DONE);
+    assert_eq!(rt; plain.out.as_slice(), bench.row.lines);
+    let mut told = Vec::new(rt.alloc());
+    for growth in 0..plain.growths {
+        let call = expect_unchanged(rt, bench, &plain, growth);
+        told.push((call, b'g')).expect(rt, "memory");
     }
-    Ok(Some((store.bytes, memory)))
+    told
 }
 
 #[test]
-fn changes_nothing_where_a_growth_finds_no_memory(rt: HostRuntime) -> Result<(), Fail> {
-    let alloc = rt.alloc();
-    let dbd = database(alloc).expect(&rt, "a database");
-    let (plain, none) = inserted(alloc, &dbd, u32::MAX)?.expect(&rt, "all put in");
-    assert_eq!(rt; none, 0);
-    assert!(rt; plain.len() > 8 * SIZE);
-    for refused in 0..100 {
-        let (left, memory) = inserted(alloc, &dbd, refused)?.expect(&rt, "all put in");
-        assert!(rt; left == plain, "growth {refused}");
-        if memory == 0 {
-            assert!(rt; refused > 4, "{refused} growths");
-            return Ok(());
-        }
-        assert_eq!(rt; memory, 1);
+fn changes_nothing_where_a_growth_finds_no_memory(rt: HostRuntime) {
+    for row in SESSIONS {
+        let bench = bench_of(rt.alloc(), row).expect(&rt, "a volume");
+        let told = refuse_each(&rt, &bench);
+        assert!(rt;
+            told.len() >= row.least && are_told(&told, row.calls, b'g'),
+            "{told:?}"
+        );
     }
-    assert!(rt; false, "no end");
-    Ok(())
 }
 
-/// Holds a class, and puts books in until one finds no memory for a growth: a REPL is then answered as if that call had not been, and so is the
-/// same ISRT. `None` where one is answered otherwise, or no growth is refused.
-fn hold_and_insert<S: BlockStore>(
-    alloc: Global,
-    session: &mut Session<'_, S>,
-    io: &mut IoArea,
-) -> Result<Option<()>, AllocError>
-    requires one { 0 < length session.old.pcbs }
-    requires room { longest_path session.old.database.types ≤ io.old.room }
-{
-    let hold = plain_call(alloc, b"GHU ", &[b"CLASS   "], b"")?;
-    let insert = plain_call(alloc, b"ISRT", &[b"COURSE  ", b"BOOK    "], b"GAUSS")?;
-    let replace = plain_call(alloc, b"REPL", &[], b"01XY")?;
-    for _turn in 0..SEGMENTS {
-        if make(session, &hold, io) != Made::Done {
-            return Ok(None);
-        }
-        let made = make(session, &insert, io);
-        if made == Made::Memory {
-            let replaced = make(session, &replace, io);
-            let again = make(session, &insert, io);
-            let goes_on = replaced == Made::Done && again == Made::Done;
-            return Ok(if goes_on { Some(()) } else { None });
-        }
-        if made != Made::Done {
-            return Ok(None);
-        }
-    }
-    Ok(None)
+/// The sample's rows and two more, which fill their blocks.
+const FULL: &[u8] =
+    b"HDUNLOAD\0\x01EDU     \x01\0\x08101ALGEB\x02\0\x0401AB\x03\0\x06ADAM01\x03\0\x06EVE 02\x02\0\x0402CD\x04\0\x05EULER\x01\0\x08205LOGIC\x01\0\x08307MUSIC\x02\0\x0401EF\0\0\0\0\x09";
+
+/// A course.
+const ONE: &[u8] = b"HDUNLOAD\0\x01EDU     \x01\0\x08\0\x08101ABC\0\0\0\0\x01";
+
+/// A course is held, a book that takes a block is put in below it, and the course is replaced; and so once more.
+const TWICE: &[u8] = b"L     GHU  COURSE  *-
+L     ISRT COURSE  *-
+C          BOOK    *-
+H006e
+DAA..........................................................................................................
+L     REPL
+H0008
+D101XYZ
+L     GHU  COURSE  *-
+L     ISRT COURSE  *-
+C          BOOK    *-
+H006e
+DBB..........................................................................................................
+L     REPL
+H0008
+D101XYZ
+";
+
+/// A deck as `hd deck` plays it, and what it prints where a growth finds no memory.
+#[derive(Drop)]
+struct Lacking {
+    base: Base,
+    rows: &'static [u8],
+    deck: &'static [u8],
+    growth: u32,
+    lines: &'static [u8],
+    /// The bytes at a place by which the volume is then another; nothing is said of one that is longer.
+    left: Option<(usize, &'static [u8])>,
 }
 
-/// Whether a hold lasts through a call that finds no memory.
-fn holds_through(alloc: Global, dbd: &Dbd, refused: u32) -> Result<bool, AllocError>
-    requires size { dbd.now.block_size ≡ 128 }
-{
-    let Some(psb) = program(alloc, dbd) else {
-        return Err(AllocError);
-    };
-    let store = sample_sparing(alloc, refused)?;
-    let mut io = IoArea::new(alloc, dbd)?;
-    let _count = psb.pcbs().len();
-    let Ok(volume) = Volume::load(alloc, store, dbd) else {
-        return Err(AllocError);
-    };
-    let Ok(mut session) = Session::open(alloc, volume, dbd, &psb) else {
-        return Ok(false);
-    };
-    Ok(hold_and_insert(alloc, &mut session, &mut io)?.is_some())
-}
+/// A call that finds no memory changes nothing and ends no hold, and the calls behind it go on.
+const DECKS: &[Lacking] = &[
+    Lacking {
+        base: Base::Sample,
+        rows: FULL,
+        deck: b"L     ISRT COURSE  *-
+D301HISTO
+L     GN
+",
+        growth: 0,
+        lines: b"1 1 ISRT [!!] Memory
+2 1 GN   [  ] 01 COURSE   key=101 area=101ALGEB
+",
+        left: Some((0, b"HDVOLUME")),
+    },
+    Lacking {
+        base: Base::Sample,
+        rows: FULL,
+        deck: b"L     GHU  CLASS   *-
+L     ISRT COURSE  *-
+C          BOOK    *-
+DGAUSS
+L     REPL
+D01XY
+L     GU   CLASS   *-
+",
+        growth: 0,
+        lines: b"1 1 GHU  [  ] 02 CLASS    key=10101 area=01AB
+2 1 ISRT [!!] Memory
+3 1 REPL [  ] 02 CLASS    key=10101 area=
+4 1 GU   [  ] 02 CLASS    key=10101 area=01XY
+",
+        left: Some((190, b"01XY")),
+    },
+    Lacking {
+        base: Base::Sample,
+        rows: FULL,
+        deck: b"L     GHU  CLASS   *-
+L   2 ISRT COURSE  *-
+C          BOOK    *-
+DGAUSS
+L     REPL
+D01XY
+L     GU   BOOK    *-
+L     GN   BOOK    *-
+",
+        growth: 0,
+        lines: b"1 1 GHU  [  ] 02 CLASS    key=10101 area=01AB
+2 1 ISRT [!!] Memory
+3 1 ISRT [  ] 02 BOOK     key=101 area=
+4 1 REPL [DJ] 00          key= area=
+5 1 GU   [  ] 02 BOOK     key=101 area=EULER
+6 1 GN   [  ] 02 BOOK     key=101 area=GAUSS
+",
+        left: None,
+    },
+    Lacking {
+        base: Base::Long,
+        rows: ONE,
+        deck: TWICE,
+        growth: 0,
+        lines: b"1 1 GHU  [  ] 01 COURSE   key=101 area=\\x00\\x08101ABC
+2 1 ISRT [!!] Memory
+3 1 REPL [  ] 01 COURSE   key=101 area=
+4 1 GHU  [  ] 01 COURSE   key=101 area=\\x00\\x08101XYZ
+5 1 ISRT [  ] 02 BOOK     key=101 area=
+6 1 REPL [DJ] 00          key= area=
+",
+        left: None,
+    },
+    Lacking {
+        base: Base::Long,
+        rows: ONE,
+        deck: TWICE,
+        growth: 1,
+        lines: b"1 1 GHU  [  ] 01 COURSE   key=101 area=\\x00\\x08101ABC
+2 1 ISRT [  ] 02 BOOK     key=101 area=
+3 1 REPL [DJ] 00          key= area=
+4 1 GHU  [  ] 01 COURSE   key=101 area=\\x00\\x08101ABC
+5 1 ISRT [!!] Memory
+6 1 REPL [  ] 01 COURSE   key=101 area=
+",
+        left: None,
+    },
+];
 
 #[test]
-fn a_call_that_finds_no_memory_ends_no_hold(rt: HostRuntime) -> Result<(), Fail> {
-    let alloc = rt.alloc();
-    let dbd = database(alloc).expect(&rt, "a database");
-    assert!(rt; holds_through(alloc, &dbd, 0)?);
-    assert!(rt; holds_through(alloc, &dbd, 1)?);
-    Ok(())
+fn a_deck_goes_on_where_a_growth_finds_no_memory(rt: HostRuntime) {
+    for lacking in DECKS {
+        let row = Row {
+            act: Act::Deck,
+            base: lacking.base,
+            holds: Holds::Rows(lacking.rows),
+            given: lacking.deck,
+            lines: lacking.lines,
+            least: 1,
+            in_calls: [0, 0],
+            calls: &[],
+        };
+        let mut bench = bench_of(rt.alloc(), &row).expect(&rt, "a volume");
+        let refusing = Refusing {
+            growth: lacking.growth,
+            ..nothing(row.act)
+        };
+        let made = outcome(rt.alloc(), &bench, refusing).expect(&rt, "memory");
+        assert_eq!(rt; (made.end, made.err.len()), (NO_MEMORY, 0));
+        assert_eq!(rt; made.out.as_slice(), row.lines);
+        if let Some((place, bytes)) = lacking.left {
+            put(&mut bench.bytes, place, bytes);
+            assert!(rt; made.bytes == bench.bytes);
+        }
+    }
 }

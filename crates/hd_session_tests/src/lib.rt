@@ -1,49 +1,27 @@
-//! Tests of sessions, decks, what the commands do over a store, and serving over frames.
+//! Tests of sessions, decks, what the commands do over a store, and serving over frames, where accesses, growths, reads and writes are refused.
 #![tactic(auto)]
 
 #[cfg(test)]
-mod cache_tests;
+mod access_tests;
 #[cfg(test)]
-mod calling_tests;
+mod acts;
 #[cfg(test)]
-mod command_tests;
-#[cfg(test)]
-mod cut_tests;
-#[cfg(test)]
-mod deck_tests;
-#[cfg(test)]
-mod failing_tests;
-#[cfg(test)]
-mod frames;
-#[cfg(test)]
-mod giving_tests;
+mod flush_tests;
 #[cfg(test)]
 mod growth_tests;
 #[cfg(test)]
-mod hello_tests;
+mod rows;
 #[cfg(test)]
-mod lengthening_tests;
+mod serve_act;
 #[cfg(test)]
-mod listed_calls;
+mod session_act;
 #[cfg(test)]
-mod long_rows;
-#[cfg(test)]
-mod moving_tests;
-#[cfg(test)]
-mod opening_tests;
-#[cfg(test)]
-mod playing_tests;
-#[cfg(test)]
-mod program;
-#[cfg(test)]
-mod refusal_tests;
-#[cfg(test)]
-mod run_tests;
-#[cfg(test)]
-mod session_tests;
+mod sources;
 #[cfg(test)]
 mod stores;
 #[cfg(test)]
-mod varying_tests;
+mod stream_tests;
 #[cfg(test)]
-mod wrong_tests;
+mod streams;
+#[cfg(test)]
+mod trial;

@@ -1,9 +1,11 @@
-//! A store in memory that counts what is asked of it, and may find no memory to grow.
+//! A store in memory that notes what is asked of it, and may find no memory to grow.
 
-ghost use Rattle.std.specs.Prelude.{◌≡◌, [], false, length};
+ghost use Rattle.std.specs.Prelude.{◌≡◌, [], false};
 
 use hd_dbd::Refused;
+use hd_sample::put;
 use hd_stores::BlockStore;
+use std::alloc::Global;
 
 /// The bytes of a block.
 pub const SIZE: usize = 128;
@@ -12,22 +14,22 @@ pub const SIZE: usize = 128;
 #[derive(Drop)]
 pub struct Sparing {
     pub bytes: Vec<u8>,
-    pub reads: u32,
-    pub writes: u32,
+    /// A letter for each access: of a `r`ead, a `w`rite or a `g`rowth.
+    pub log: Vec<u8>,
+    /// How many growths beyond the reserved room were asked for.
+    pub growths: u32,
     room: u32,
-    growths: u32,
     refused: u32,
 }
 
 impl Sparing {
     /// A store of these bytes.
-    pub fn new(bytes: Vec<u8>, refused: u32) -> Sparing {
+    pub fn new(alloc: Global, bytes: Vec<u8>, refused: u32) -> Sparing {
         Sparing {
             bytes,
-            reads: 0,
-            writes: 0,
-            room: 0,
+            log: Vec::new(alloc),
             growths: 0,
+            room: 0,
             refused,
         }
     }
@@ -39,31 +41,6 @@ impl Sparing {
         let number = self.growths;
         self.growths = number.saturating_add(1);
         number == self.refused
-    }
-}
-
-/// Fills a buffer with the bytes of an image from a place on.
-fn fill_from(buf: &mut [u8], image: &[u8], start: usize)
-    ensures { length buf.new ≡ length buf.old }
-{
-    for (place, byte) in buf.iter_mut().enumerate() {
-        *byte = image.get(start.saturating_add(place)).copied().unwrap_or(0);
-    }
-}
-
-/// Puts bytes into an image from a place on.
-fn put_from(image: &mut [u8], start: usize, bytes: &[u8]) {
-    for (place, byte) in bytes.iter().enumerate() {
-        if let Some(own) = image.get_mut(start.saturating_add(place)) {
-            *own = *byte;
-        }
-    }
-}
-
-/// Adds blocks of zeros.
-fn lengthen(bytes: &mut Vec<u8>, blocks: u32) {
-    for _ in 0..blocks {
-        let _ = bytes.extend_from_slice(&[0; SIZE]);
     }
 }
 
@@ -87,14 +64,21 @@ impl BlockStore for Sparing {
     }
 
     fn read(&mut self, n: u32, buf: &mut [u8]) -> Result<(), Refused> {
-        self.reads = self.reads.saturating_add(1);
-        fill_from(buf, &self.bytes, n as usize * SIZE);
+        let _ = self.log.push(b'r');
+        let start = n as usize * SIZE;
+        for (place, byte) in buf.iter_mut().enumerate() {
+            *byte = self
+                .bytes
+                .get(start.saturating_add(place))
+                .copied()
+                .unwrap_or(0);
+        }
         Ok(())
     }
 
     fn write(&mut self, n: u32, bytes: &[u8]) -> Result<(), Refused> {
-        self.writes = self.writes.saturating_add(1);
-        put_from(&mut self.bytes, n as usize * SIZE, bytes);
+        let _ = self.log.push(b'w');
+        put(&mut self.bytes, n as usize * SIZE, bytes);
         Ok(())
     }
 
@@ -113,7 +97,9 @@ impl BlockStore for Sparing {
         if blocks > self.room && self.is_next_refused() {
             return Err(Refused::Memory);
         }
-        lengthen(&mut self.bytes, blocks);
+        let _ = self.log.push(b'g');
+        let length = self.bytes.len().saturating_add(blocks as usize * SIZE);
+        let _ = self.bytes.resize(length, 0);
         self.room = self.room.saturating_sub(blocks);
         Ok(())
     }

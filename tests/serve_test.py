@@ -1,0 +1,281 @@
+#!/usr/bin/env python3
+"""Plays `hd serve`: what it writes is compared with frames that are put together here, as docs/FORMATS.md has them.
+
+    tests/serve_test.py PROGRAM
+
+The last line tells how many cases there were, and how many were wrong; the status is 1 if any was.
+"""
+import os
+import select
+import subprocess
+import sys
+
+sys.dont_write_bytecode = True
+from playing import Count, Done, read, write
+from program_test import Place, Player
+
+# Frames, from their layout
+
+
+def number(value, size):
+    return value.to_bytes(size, "big")
+
+
+def counted(data, size=2):
+    """Bytes behind their number."""
+    return number(len(data), size) + data
+
+
+def frame(*parts):
+    return counted(b"".join(parts), 4)
+
+
+def hello(types, pcbs):
+    """The first frame, of types and PCBs."""
+    told = [b"HD", number(1, 2), number(len(pcbs), 1), number(len(types), 1)]
+    for name, level, varies, most, least, fields in types:
+        told += [b"%-8b" % name, number(level, 1), number(varies, 1), number(most, 2), number(least, 2), number(len(fields), 1)]
+        told += [b"%-8b" % field + number(length, 2) for field, length in fields]
+    for database, letters, segments, key in pcbs:
+        told += [b"%-8b" % database, b"%-4b" % letters[:4], number(segments, 2), number(key, 2)]
+    return frame(*told)
+
+
+def call(pcb, function, *ssas, area=b"", kind=1):
+    return frame(number(kind, 1), number(pcb, 1), b"%-4b" % function, number(len(ssas), 1), *map(counted, ssas), area)
+
+
+def answer(status, level=0, name=b"", key=b"", area=b""):
+    return frame(b"\0", b"%-2b" % status, number(level, 1), b"%-8b" % name, counted(key), area)
+
+
+def refusal(number_of_it):
+    return frame(number(number_of_it, 1), b"  ", number(0, 1), b" " * 8, counted(b""))
+
+
+AREA = 2
+
+# A program of the sample database: its first PCB sees all, and the second, which has five letters, no students.
+PSB = b"""         PCB   TYPE=DB,DBDNAME=EDU,PROCOPT=AP
+         SENSEG NAME=COURSE,PARENT=0
+         SENSEG NAME=CLASS,PARENT=COURSE
+         SENSEG NAME=STUD,PARENT=CLASS
+         SENSEG NAME=BOOK,PARENT=COURSE
+         PCB   TYPE=DB,DBDNAME=EDU,PROCOPT=GIRDP
+         SENSEG NAME=COURSE,PARENT=0
+         SENSEG NAME=CLASS,PARENT=COURSE
+         SENSEG NAME=BOOK,PARENT=COURSE
+         PSBGEN LANG=COBOL,PSBNAME=EDUP
+"""
+
+HELLO = hello(
+    [
+        (b"COURSE", 1, 0, 8, 8, [(b"NUM", 3)]),
+        (b"CLASS", 2, 0, 4, 4, [(b"ED", 2)]),
+        (b"STUD", 3, 0, 6, 6, [(b"SNAME", 4)]),
+        (b"BOOK", 2, 0, 5, 5, []),
+    ],
+    [(b"EDU", b"AP", 4, 9), (b"EDU", b"GIRDP", 3, 5)],
+)
+
+# Calls of all nine functions and of another, and what they answer by the rules of DL/I
+CLASS01 = b"CLASS   (ED      EQ01)"
+TALK = [
+    (call(1, b"GU", b"COURSE  *D(NUM     EQ101)", b"BOOK    "), answer(b"", 2, b"BOOK", b"101", b"101ALGEBEULER")),
+    (call(1, b"GU", CLASS01), answer(b"", 2, b"CLASS", b"10101", b"01AB")),
+    (call(1, b"GNP"), answer(b"", 3, b"STUD", b"10101ADAM", b"ADAM01")),
+    (call(1, b"GN"), answer(b"", 3, b"STUD", b"10101EVE ", b"EVE 02")),
+    (call(2, b"GN"), answer(b"", 1, b"COURSE", b"101", b"101ALGEB")),
+    (call(2, b"GN", b"STUD    "), answer(b"AC")),
+    (call(1, b"GHU", b"STUD    (SNAME   EQADAM)"), answer(b"", 3, b"STUD", b"10101ADAM", b"ADAM01")),
+    (call(1, b"REPL", area=b"ADAM77"), answer(b"", 3, b"STUD", b"10101ADAM")),
+    (call(1, b"GHN"), answer(b"", 3, b"STUD", b"10101EVE ", b"EVE 02")),
+    (call(1, b"REPL", area=b"EVE"), refusal(AREA)),
+    (call(1, b"ISRT", CLASS01, b"STUD    ", area=b"CARL03"), answer(b"", 3, b"STUD", b"10101CARL")),
+    (call(1, b"GU", CLASS01), answer(b"", 2, b"CLASS", b"10101", b"01AB")),
+    (call(1, b"GHNP", b"STUD    "), answer(b"", 3, b"STUD", b"10101ADAM", b"ADAM77")),
+    (call(1, b"DLET"), answer(b"", 3, b"STUD", b"10101ADAM")),
+    (call(1, b"DLET"), answer(b"DJ")),
+    (call(1, b"GXX"), answer(b"AD")),
+    (call(2, b"GN", b"CLASS   "), answer(b"", 2, b"CLASS", b"10101", b"01AB")),
+]
+
+# The rows that they leave, as an unload stream
+LEFT = b"HDUNLOAD\0\1EDU     " + b"".join(
+    number(code, 1) + counted(row)
+    for code, row in [(1, b"101ALGEB"), (2, b"01AB"), (3, b"CARL03"), (3, b"EVE 02"), (2, b"02CD"), (4, b"EULER"), (1, b"205LOGIC")]
+) + b"\0" + number(7, 4)
+
+# A call and its answer, byte by byte
+GET = (b"\0\0\0\x11\1\1GU  \1\0\x08CLASS   ", b"\0\0\0\x17\0  \2CLASS   \0\x051010101AB")
+
+# Two sessions, of which the second goes on where the first ended
+FIRST = [
+    (call(1, b"GHU", b"STUD    "), answer(b"", 3, b"STUD", b"10101ADAM", b"ADAM01")),
+    (call(1, b"REPL", area=b"ADAM77"), answer(b"", 3, b"STUD", b"10101ADAM")),
+]
+SECOND = [(call(1, b"GU", b"STUD    "), answer(b"", 3, b"STUD", b"10101ADAM", b"ADAM77"))]
+
+# The bytes of the longest path, and of the longest right body: fifteen arguments as long as two bytes say, and that path
+PATH = 8 + 4 + 6
+BODY = 7 + 15 * (2 + 65535) + PATH
+
+# Calls at the limits of a frame: the longest area, which no type has; the most arguments, of which the second is no argument; and both as long as they may be, where
+# the second names the type of the first
+LIMITS = [
+    (call(1, b"ISRT", b"COURSE  ", area=b"abcdefghijklmnopqr"), refusal(AREA)),
+    (call(2, b"GU", b"COURSE  ", *[b""] * 14), answer(b"AJ")),
+    (call(2, b"GU", *[b"%-65535b" % b"COURSE"] * 15, area=b"x" * PATH), answer(b"AC")),
+]
+
+# Frames that are no right ones, and what is said of each
+WRONG = [
+    (frame(b""), "a body that ends before its parts"),
+    (frame(b"\1\1GU  "), "a body that ends before its parts"),
+    (call(1, b"GU", kind=0), "a frame of kind 0"),
+    (frame(b"\2\x09GU  \xff"), "a frame of kind 2"),
+    (call(0, b"GU"), "no PCB 0"),
+    (frame(b"\1\3GU  \xff"), "no PCB 3"),
+    (frame(b"\1\1GU  \x10"), "16 segment search arguments"),
+    (frame(b"\1\1GU  \1"), "a body that ends before its parts"),
+    (frame(b"\1\1GU  \1\0"), "a body that ends before its parts"),
+    (frame(b"\1\1GU  \1\0\x08CLASS  "), "a body that ends before its parts"),
+    (call(1, b"ISRT", area=b"a" * (PATH + 1)), "an area of 19 bytes"),
+    (number(BODY + 1, 4) + b"\1\1GU  \0", "a body of 983081 bytes"),
+    (b"\xff\xff\xff\xff", "a body of 4294967295 bytes"),
+    (number(BODY, 4) + b"\1\1GU  \0", "input ends inside a frame"),
+    (b"\0", "input ends inside a frame"),
+]
+
+
+def asked(talk):
+    return b"".join(one for one, _ in talk)
+
+
+def told(talk):
+    return HELLO + b"".join(one for _, one in talk)
+
+
+class Trial:
+    """Sessions over the volume of the sample, which is a new one each time."""
+
+    def __init__(self, program, count):
+        self.place, self.count = Place(Player(program), count), count
+
+    def begin(self):
+        self.place.begin()
+        write("edu.psb", PSB)
+
+    def serve(self, given):
+        return self.place.player.run("serve", "edu.dbd", "edu.psb", "edu.volume", given=given)
+
+    def leaves(self, given, wanted, what):
+        """A session over a new volume ends as it is to; the bytes of the volume that it leaves."""
+        self.begin()
+        done = self.serve(given)
+        self.count.expect(what, done == wanted, f"{wanted} is wanted, {done} seen")
+        left = read("edu.volume")
+        self.place.end()
+        return left
+
+    def play_talks(self):
+        """Nothing, a call byte by byte, all calls, and those at the limits of frames; and a session that goes on where another ended."""
+        for what, talk in [("no call", []), ("a call byte by byte", [GET]), ("all functions", TALK), ("limits", LIMITS)]:
+            self.leaves(asked(talk), Done(0, told(talk), b""), what)
+        self.begin()
+        for what, talk in [("a first session", FIRST), ("a second session", SECOND)]:
+            self.count.expect(what, self.serve(asked(talk)) == Done(0, told(talk), b""))
+        self.place.end()
+
+    def play_left(self):
+        """The calls leave just their rows."""
+        self.begin()
+        self.serve(asked(TALK))
+        done = self.place.player.run("unload", "edu.dbd", "edu.volume", "left.stream")
+        self.count.expect("the rows that are left", done.status == 0 and read("left.stream") == LEFT, read("left.stream"))
+        self.place.end()
+
+    def play_cuts(self):
+        """The calls end at each of their bytes: those that are whole are answered, and the volume has what they did."""
+        given, cut = asked(TALK), b"frame refused: input ends inside a frame\n"
+        ends = [len(asked(TALK[:calls])) for calls in range(len(TALK) + 1)]
+        self.begin()
+        left = read("edu.volume")
+        self.place.end()
+        for length in range(len(given) + 1):
+            whole = sum(end <= length for end in ends) - 1
+            is_cut = length > ends[whole]
+            wanted = Done(3, told(TALK[:whole]), cut) if is_cut else Done(0, told(TALK[:whole]), b"")
+            image = self.leaves(given[:length], wanted, f"the first {length} bytes")
+            self.count.expect(f"what the first {length} bytes leave", image == left or whole and not is_cut)
+            left = image
+
+    def play_wrong(self):
+        """A frame that is no right one ends the session, behind the answers of the calls before it."""
+        for wrong, text in WRONG:
+            behind = b"" if text.startswith("input") else asked([GET])
+            wanted = Done(3, told([GET]), f"frame refused: {text}\n".encode())
+            self.leaves(asked([GET]) + wrong + behind, wanted, f"the frame {wrong[:40]}")
+
+    def play_refused(self):
+        """Nothing is written, and nothing read, where the volume has a fault."""
+        self.begin()
+        image = bytearray(read("edu.volume"))
+        image[177] = 1
+        write("edu.volume", bytes(image))
+        near, far = os.pipe()
+        os.write(far, GET[0])
+        os.close(far)
+        done = subprocess.run([self.place.player.program, "serve", "edu.dbd", "edu.psb", "edu.volume"], stdin=near, capture_output=True, timeout=60)
+        ended = (done.returncode, done.stdout, done.stderr)
+        self.count.expect("a fault of the volume", ended == (1, b"", b"fault 6 at 176, other 1\n"), ended)
+        self.count.expect("a call that is not read", os.read(near, 1000) == GET[0])
+        os.close(near)
+        self.place.end()
+
+    def play_in_turn(self, most):
+        """A program sends its next call, at most so many bytes in a piece, when the last is answered: no answer waits for what follows."""
+        self.begin()
+        words = [self.place.player.program, "serve", "edu.dbd", "edu.psb", "edu.volume"]
+        with subprocess.Popen(words, stdin=subprocess.PIPE, stdout=subprocess.PIPE, stderr=subprocess.PIPE, bufsize=0) as server:
+            is_right = taken(server.stdout, len(HELLO)) == HELLO
+            for given, wanted in TALK:
+                for start in range(0, len(given), most):
+                    server.stdin.write(given[start : start + most])
+                is_right = is_right and taken(server.stdout, len(wanted)) == wanted
+            rest, err = server.communicate(timeout=60)
+        self.count.expect(f"calls in turn, {most} bytes in a piece", is_right and (rest, err, server.returncode) == (b"", b"", 0), (rest, err))
+        self.place.end()
+
+
+def taken(stream, length):
+    """So many bytes, or those that came before a minute without any."""
+    data = b""
+    while len(data) < length and select.select([stream], [], [], 60)[0]:
+        part = os.read(stream.fileno(), length - len(data))
+        if not part:
+            break
+        data += part
+    return data
+
+
+def main(words):
+    if len(words) != 1:
+        sys.exit(__doc__)
+    count = Count()
+    trial = Trial(words[0], count)
+    try:
+        trial.play_talks()
+        trial.play_left()
+        trial.play_cuts()
+        trial.play_wrong()
+        trial.play_refused()
+        trial.play_in_turn(1000)
+        trial.play_in_turn(1)
+    finally:
+        trial.place.remove()
+    return count.status()
+
+
+if __name__ == "__main__":
+    sys.exit(main(sys.argv[1:]))
