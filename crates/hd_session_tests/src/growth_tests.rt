@@ -209,6 +209,10 @@ fn changes_nothing_where_a_growth_finds_no_memory(rt: HostRuntime) {
 const FULL: &[u8] =
     b"HDUNLOAD\0\x01EDU     \x01\0\x08101ALGEB\x02\0\x0401AB\x03\0\x06ADAM01\x03\0\x06EVE 02\x02\0\x0402CD\x04\0\x05EULER\x01\0\x08205LOGIC\x01\0\x08307MUSIC\x02\0\x0401EF\0\0\0\0\x09";
 
+/// A course, a class and three students, which leave a hole of 8 bytes.
+const STUDENTS: &[u8] =
+    b"HDUNLOAD\0\x01EDU     \x01\0\x08101ALGEB\x02\0\x0401AB\x03\0\x06ADAM01\x03\0\x06CARL03\x03\0\x06EVE 02\0\0\0\0\x05";
+
 /// A course.
 const ONE: &[u8] = b"HDUNLOAD\0\x01EDU     \x01\0\x08\0\x08101ABC\0\0\0\0\x01";
 
@@ -245,6 +249,29 @@ struct Lacking {
 
 /// A call that finds no memory changes nothing and ends no hold, and the calls behind it go on.
 const DECKS: &[Lacking] = &[
+    Lacking {
+        base: Base::Sample,
+        rows: STUDENTS,
+        deck: b"L     GHU  CLASS   (ED      EQ01)
+L     ISRT CLASS   (ED      EQ01)
+C          STUD    
+DDORA04
+L     REPL
+D01XY
+L     ISRT CLASS   (ED      EQ01)
+C          STUD    
+DDORA04
+L     GU   CLASS   
+",
+        growth: 0,
+        lines: b"1 1 GHU  [  ] 02 CLASS    key=10101 area=01AB
+2 1 ISRT [!!] Memory
+3 1 REPL [  ] 02 CLASS    key=10101 area=
+4 1 ISRT [  ] 03 STUD     key=10101DORA area=
+5 1 GU   [  ] 02 CLASS    key=10101 area=01XY
+",
+        left: None,
+    },
     Lacking {
         base: Base::Sample,
         rows: FULL,
