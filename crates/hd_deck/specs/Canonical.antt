@@ -1,4 +1,4 @@
--- One spelling of steps as a deck, for each list of steps that can be spelled.
+-- One spelling of steps as a deck, for each list of steps whose arguments end with no carriage return, which a line loses.
 use Rattle.std.specs.Prelude.{◌≡◌, ℕ, ◌+◌, ◌-◌, ◌/◌, ◌%◌, ◌≤◌, List, [], ◌∷◌, ◌++◌, length, map, flat_map, replicate, Bool, true, not, ◌&&◌, nat_lt, nat_le, ◌==◌, cond, All, Ok, codes, decimal, slice_index}
 use Rattle.std.specs.List.{list_all}
 use Rattle.hd_deck.specs.StepText.{StepText, StepFits}
@@ -32,7 +32,7 @@ hex_digits (b ∷ bytes) = hex_digit (b / 16) ∷ hex_digit (b % 16) ∷ hex_dig
 abbrev pub area_spelling : List ℕ → List ℕ
 area_spelling bytes = codes "H" ++ hex_digits bytes
 
--- a byte in front of the first piece, if that has fewer than 127
+-- a byte in front of the first piece if that has fewer than 127, else a piece of its own
 abbrev pub onto_pieces : ℕ → List (List ℕ) → List (List ℕ)
 onto_pieces b [] = (b ∷ []) ∷ []
 onto_pieces b (piece ∷ more) = cond (nat_lt (length piece) 127) ((b ∷ piece) ∷ more) ((b ∷ []) ∷ piece ∷ more)
@@ -60,7 +60,8 @@ is_kept bytes = list_all (λ b. not (b == 10)) bytes && not (slice_index bytes (
 abbrev pub is_argument : List ℕ → Bool
 is_argument ssa = nat_le (length ssa) 244 && is_kept ssa
 
--- A step that can be spelled: its PCB is one of so many, its function has four columns, and a line has room for each of its arguments.
+-- A step that is spelled here: its PCB is one of so many, it is made from 1 to 9,999 times, its function has four columns, letters and then blanks, a line
+-- has room for each of its arguments, which has no line feed and ends with no carriage return, and its area is bytes.
 pub record CanBeSpelled (pcbs : ℕ) (s : StepText) : Type 0 where
   pub fits : StepFits pcbs s
   pub function_columns : length s.call.function ≡ 4
@@ -68,6 +69,6 @@ pub record CanBeSpelled (pcbs : ℕ) (s : StepText) : Type 0 where
   pub arguments_fit : list_all is_argument s.call.ssas ≡ true
   pub area_is_bytes : list_all (λ b. nat_lt b 256) s.call.area ≡ true
 
--- What spells steps is read as these steps.
+-- What spells steps is read as these steps, over as many PCBs as a program may have.
 abbrev pub SpellingReadsBack : Type 0
 SpellingReadsBack = (pcbs : ℕ) (steps : List StepText) → pcbs ≤ 255 → All (CanBeSpelled pcbs) steps → deck pcbs (spelling steps) ≡ Ok steps

@@ -70,7 +70,7 @@ pub data IsSpelled : List ℕ → Statement → Type 0 where
       → IsSpelled line (call k (call_text function [] []))
   l_line_with_argument : {head ssa function : List ℕ} {k : ℕ} → IsHead head k function → 0 < length ssa
       → IsSpelled (head ++ ssa) (call k (call_text function (ssa ∷ []) []))
-  -- an argument from column 12 on, and bytes of the area, as they stand or by hexadecimal digits
+  -- an argument from column 12 on, empty where the line ends before that; and bytes of the area, as they stand or by hexadecimal digits
   c_line : {text : List ℕ} → IsSpelled (codes "C" ++ text) (argument (drop 10 text))
   d_line : {bytes : List ℕ} → IsSpelled (codes "D" ++ bytes) (area_bytes bytes)
   h_line : {digits bytes : List ℕ} → IsHex digits bytes → IsSpelled (codes "H" ++ digits) (area_bytes bytes)

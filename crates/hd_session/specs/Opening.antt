@@ -110,7 +110,7 @@ opening_call (Err opening.NotEmptyForLoad) = Err refused.Memory
 opening_call (Err opening.Memory) = Err refused.Memory
 opening_call (Err opening.Device) = Err refused.Device
 
--- The volume was only read and is in the session, where it keeps nothing free as it grows.
+-- The volume was only read and is in the session, where it keeps nothing free as it grows, and has no less room.
 pub record IsReadPlain (v : VolumeState) (s : SessionState) : Type 0 where
   pub call : IsCall v (Ok s) s.volume
   pub image : IsTrue s.volume.is_sound → s.volume.image ≡ v.image
@@ -118,7 +118,7 @@ pub record IsReadPlain (v : VolumeState) (s : SessionState) : Type 0 where
   pub plain : IsPlain s.volume
   pub room : v.room ≤ s.volume.room
 
--- the volume was only read; it is in the session, or it was given back beside the fault as it was
+-- the volume was only read; it is in the session, or it was given back beside the fault
 abbrev pub IsOpenRead : VolumeState → Result SessionState (VolumeState × OpenFault) → Type 0
 IsOpenRead v (Ok s) = IsReadPlain v s
 IsOpenRead v (Err given) = IsRead v (opening_call {T = SessionState} (Err given.1)) given.0

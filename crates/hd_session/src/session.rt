@@ -51,7 +51,7 @@ impl<'a, S: BlockStore> Model for Session<'a, S> {
 
 impl<'a, S: BlockStore> Session<'a, S> {
     /// A session in which each PCB is before all rows, over a volume that passes a check, and that is empty where a PCB loads. A fault
-    /// gives the volume back as it was. In a session it keeps nothing free as it grows: only loads do.
+    /// gives the volume back. In a session it keeps nothing free as it grows: only loads do.
     pub fn open(
         alloc: Global,
         mut volume: Volume<S>,

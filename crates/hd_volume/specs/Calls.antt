@@ -180,7 +180,7 @@ pub record IsGivenBlock (old : VolumeState) (n : ℕ) (new : VolumeState) : Type
   pub spares : spare new ≡ spare old + 1
   pub holes : KeepsHoles old new
 
--- The header has these fields, and all else of the image stays.
+-- The header has these fields, and all blocks but block 0 stay.
 pub record HasNewHeader (old : VolumeState) (header : Header) (new : VolumeState) : Type 0 where
   pub formatted : IsFormatted old → IsFormatted new
   pub is : header_of new.image ≡ header
