@@ -19,10 +19,10 @@ def sample(books):
 
 
 def program(name, types):
-    """A program that loads, or the sample's: the first PCB may get paths, and the third sees no students."""
+    """The sample's program, whose first PCB may get paths, and whose third sees no students; or PCBs of these letters."""
     seen = dict.fromkeys(types)
-    if name == "LOAD":
-        return [("L", seen)]
+    if name != "EDUP":
+        return [(letters, seen) for letters in name.split("+")]
     return [("AP", seen), ("A", seen), ("A", {type: None for type in types if type.name != "STUD"})]
 
 
@@ -70,7 +70,8 @@ def fault(hd, game):
 
 def is_of_program(game):
     """Whether a list is played over the sample of hd itself."""
-    return game.blocks == 16 and len(game.rows) == 7 and game.database.types[3].rule == "HERE"
+    types = game.database.types
+    return game.blocks == 16 and len(game.rows) == 7 and types[3].rule == "HERE" and game.pcbs == program("EDUP", types)
 
 
 def fault_in_memory(hd, game):

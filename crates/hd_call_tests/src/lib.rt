@@ -2,26 +2,20 @@
 #![tactic(auto)]
 
 #[cfg(test)]
-mod accept_tests;
+mod bases;
 #[cfg(test)]
-mod access_tests;
+mod calls;
 #[cfg(test)]
-mod change_tests;
+mod count_tests;
 #[cfg(test)]
-mod get_tests;
+mod list_tests;
 #[cfg(test)]
-mod isrt_tests;
+mod outcomes;
 #[cfg(test)]
-mod load_tests;
+mod searches;
 #[cfg(test)]
-mod named_tests;
+mod stores;
 #[cfg(test)]
-mod parents_tests;
+mod text;
 #[cfg(test)]
-mod place_tests;
-#[cfg(test)]
-mod place_volumes;
-#[cfg(test)]
-mod sample_with_fields;
-#[cfg(test)]
-mod test_volumes;
+mod trial;
