@@ -22,7 +22,7 @@ bin/hd: crates.txt $(SOURCES)
 
 run:
 	@echo 'This build is not proved: it is run before any proof. `make` proves hd, and says how long that takes.' >&2
-	cd crates/hd && rt try <stdin
+	@cd crates/hd && rt try <stdin
 
 # how many proofs the gate makes side by side: one a processor, and one for each 4 GB of memory
 LANES = $(shell awk -v cores=$$(nproc) '/MemAvailable/ { fit = int($$2 / 4000000); print (fit < 1) ? 1 : (fit < cores) ? fit : cores }' /proc/meminfo)
