@@ -2,6 +2,7 @@
 use Rattle.std.specs.Prelude.{ℕ, ◌<◌, Bool, List, Option, IsTrue}
 use Rattle.hd_stores.specs.declared.entries.Entry.{Entry}
 use Rattle.hd_stores.specs.Contents.{AreWhole, AreCoherent}
+use Rattle.hd_stores.specs.Stores.{Committed}
 
 -- All bytes as they are read, those of the store as they stand, and the store's meanings.
 pub record CacheState : Type 0 where
@@ -10,6 +11,7 @@ pub record CacheState : Type 0 where
   pub is_sound : Bool
   pub failures : ℕ
   pub room : ℕ
+  pub committed : Committed
   pub size : ℕ
 
 -- what each cache keeps

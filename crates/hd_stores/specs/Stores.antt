@@ -1,5 +1,5 @@
 -- What the calls of a block store say of its count of failures and of its soundness, by what they answer.
-use Rattle.std.specs.Prelude.{◌≡◌, ◌⊎◌, ℕ, ◌<◌, Bool, false, IsTrue, List, Result, MatchResult}
+use Rattle.std.specs.Prelude.{◌≡◌, ◌⊎◌, ℕ, ◌<◌, Bool, false, IsTrue, List, [], Result, MatchResult}
 use Rattle.hd_dbd.specs.declared.answer.Refused.{Refused}
 use Rattle.hd_dbd.specs.declared.answer.Refused.TheVariants.{Memory, Full, Device, Broken, Area}
 
@@ -26,6 +26,25 @@ SoundFor Area old new = new ≡ old
 abbrev pub StaysSound : {T : Type 0} → Result T Refused → Bool → Bool → Type 0
 StaysSound result old new = MatchResult result (λ _. new ≡ old) (λ e. SoundFor e old new)
 
+-- What a crash leaves of a store at any moment since this one: the image of its last commit, or that of a commit which was tried since then and
+-- failed. Where none was, the two are one.
+pub record Committed : Type 0 where
+  pub image : List ℕ
+  pub tried : List ℕ
+  pub since : ℕ
+
+-- that of a store which has no commits
+abbrev pub uncommitted : Committed
+uncommitted = record { image = []; tried = []; since = 0 }
+
+-- A commit is done: the contents stay, and a crash from now on leaves them.
+abbrev pub IsCommit : Bool → List ℕ → List ℕ → Committed → Type 0
+IsCommit is_sound old new committed = IsTrue is_sound → (new ≡ old) × (committed.image ≡ old) × (committed.tried ≡ old)
+
+-- A commit failed: a crash leaves what it would have left before, or the contents too.
+abbrev pub FailsCommit : Bool → List ℕ → Committed → Committed → Type 0
+FailsCommit is_sound contents old new = (new ≡ old) ⊎ IsTrue is_sound × (new ≡ record old { tried = contents })
+
 -- a growth is refused at a failed access, or for memory beyond the room reserved
 abbrev pub RefusesGrowth : Refused → ℕ → ℕ → Type 0
 RefusesGrowth Memory room blocks = room < blocks
@@ -35,9 +54,10 @@ RefusesGrowth Broken room blocks = ⊥
 RefusesGrowth Area room blocks = ⊥
 
 -- A store that is given back with a refusal: nothing was changed for want of memory, or an access failed.
-pub record IsGivenBack {S : Type 0} (size : S → ℕ) (contents : S → List ℕ) (is_sound : S → Bool) (failures : S → ℕ) (old : S) (given : S × Refused) : Type 0 where
+pub record IsGivenBack {S : Type 0} (size : S → ℕ) (contents : S → List ℕ) (is_sound : S → Bool) (failures : S → ℕ) (committed : S → Committed) (old : S) (given : S × Refused) : Type 0 where
   pub refusal : (given.1 ≡ Memory) ⊎ (given.1 ≡ Device)
   pub counts : CountsFor given.1 (failures old) (failures given.0)
   pub sound : SoundFor given.1 (is_sound old) (is_sound given.0)
   pub kept : given.1 ≡ Memory → IsTrue (is_sound old) → contents given.0 ≡ contents old
   pub size_kept : size given.0 ≡ size old
+  pub committed_kept : committed given.0 ≡ committed old

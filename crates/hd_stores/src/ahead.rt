@@ -90,6 +90,7 @@ fn reads_ahead<S: RunStore>(
     ensures refusal { OnlyDevice result }
     ensures counts { CountsDevice result (S.failures store.old) (S.failures store.new) }
     ensures sound { StaysSound result (S.is_sound store.old) (S.is_sound store.new) }
+    ensures committed { S.committed store.new ≡ S.committed store.old }
     ensures size { S.size store.new ≡ S.size store.old }
     ensures room { S.room store.new ≡ S.room store.old }
 {
@@ -110,6 +111,8 @@ impl<S: RunStore> BlockStore for ReadAhead<S> {
     ghost failures = { λ s. S.failures s };
 
     ghost room = { λ s. S.room s };
+
+    ghost committed = { λ s. S.committed s };
 
     fn block_size(&self) -> usize {
         self.store.block_size()

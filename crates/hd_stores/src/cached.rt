@@ -1,11 +1,11 @@
-ghost use Rattle.std.specs.Prelude.{◌≡◌, ◌<◌, ◌≤◌, IsTrue, IfErr, IfOk, OnOk};
+ghost use Rattle.std.specs.Prelude.{◌≡◌, ◌<◌, ◌≤◌, IsTrue, IfErr, IfOk, OnOk, OnErr};
 ghost use Rattle.hd_dbd.specs.Refusals.{OnlyDevice};
-ghost use Rattle.hd_stores.specs.Stores.{CountsDevice, StaysSound};
+ghost use Rattle.hd_stores.specs.Stores.{IsCommit, FailsCommit, CountsDevice, StaysSound};
 
 use crate::entries::Entry;
 use crate::pass::{read_block, write_block};
 use crate::settle::settle_all;
-use crate::store::BlockStore;
+use crate::store::{BlockStore, CommitStore};
 use hd_dbd::Refused;
 use lru::LruCache;
 use std::alloc::Global;
@@ -35,6 +35,7 @@ impl<S: BlockStore> Model for Cached<S> {
       is_sound = S.is_sound c.store;
       failures = S.failures c.store;
       room = S.room c.store;
+      committed = S.committed c.store;
       size = S.size c.store;
     } };
 
@@ -49,6 +50,7 @@ impl<S: BlockStore> Cached<S> {
         ensures contents { IfOk result (λ c. IsTrue (S.is_sound store) → c.contents ≡ S.contents store) }
         ensures stored { IfOk result (λ c. (c.stored ≡ S.contents store) × (c.size ≡ S.size store)) }
         ensures store { IfOk result (λ c. (c.is_sound ≡ S.is_sound store) × (c.failures ≡ S.failures store) × (c.room ≡ S.room store)) }
+        ensures committed { IfOk result (λ c. c.committed ≡ S.committed store) }
         ensures err { IfErr result (λ e. e ≡ (store, Refused.Memory)) }
     {
         let _size = store.block_size();
@@ -72,6 +74,7 @@ impl<S: BlockStore> Cached<S> {
         ensures refusal { OnlyDevice result }
         ensures counts { CountsDevice result self.old.failures self.new.failures }
         ensures sound { StaysSound result self.old.is_sound self.new.is_sound }
+        ensures committed { self.new.committed ≡ self.old.committed }
         ensures size { self.new.size ≡ self.old.size }
         ensures room { self.new.room ≡ self.old.room }
     {
@@ -85,6 +88,7 @@ impl<S: BlockStore> Cached<S> {
         ensures refusal { OnlyDevice result.1 }
         ensures counts { CountsDevice result.1 self.failures (S.failures result.0) }
         ensures sound { StaysSound result.1 self.is_sound (S.is_sound result.0) }
+        ensures committed { S.committed result.0 ≡ self.committed }
         ensures size { S.size result.0 ≡ self.size }
         ensures room { S.room result.0 ≡ self.room }
     {
@@ -104,6 +108,8 @@ impl<S: BlockStore> BlockStore for Cached<S> {
     ghost failures = { λ c. c.failures };
 
     ghost room = { λ c. c.room };
+
+    ghost committed = { λ c. c.committed };
 
     fn block_size(&self) -> usize {
         self.store.block_size()
@@ -127,5 +133,20 @@ impl<S: BlockStore> BlockStore for Cached<S> {
 
     fn grow(&mut self, blocks: u32) -> Result<(), Refused> {
         self.store.grow(blocks)
+    }
+}
+
+impl<S: CommitStore> CommitStore for Cached<S> {
+    fn commit(&mut self) -> Result<(), Refused>
+        ensures committed { OnOk result (IsCommit self.old.is_sound self.old.contents self.new.contents self.new.committed) }
+        ensures fails { OnErr result (FailsCommit self.old.is_sound self.old.contents self.old.committed self.new.committed) }
+        ensures refusal { OnlyDevice result }
+        ensures counts { CountsDevice result self.old.failures self.new.failures }
+        ensures sound { StaysSound result self.old.is_sound self.new.is_sound }
+        ensures size { self.new.size ≡ self.old.size }
+        ensures room { self.new.room ≡ self.old.room }
+    {
+        settle_all(&mut self.store, &mut self.cache)?;
+        self.store.commit()
     }
 }

@@ -81,6 +81,8 @@ impl<'p, S: BlockStore, P: Progress> BlockStore for Counted<'p, S, P> {
 
     ghost room = { λ c. S.room c.inner };
 
+    ghost committed = { λ c. S.committed c.inner };
+
     fn block_size(&self) -> usize {
         self.inner.block_size()
     }
@@ -99,6 +101,7 @@ impl<'p, S: BlockStore, P: Progress> BlockStore for Counted<'p, S, P> {
         ensures refusal { OnlyDevice result }
         ensures counts { CountsDevice result (S.failures self.old.inner) (S.failures self.new.inner) }
         ensures sound { StaysSound result (S.is_sound self.old.inner) (S.is_sound self.new.inner) }
+        ensures committed { S.committed self.new.inner ≡ S.committed self.old.inner }
         ensures size { S.size self.new.inner ≡ S.size self.old.inner }
         ensures room { S.room self.new.inner ≡ S.room self.old.inner }
     {
@@ -115,6 +118,7 @@ impl<'p, S: BlockStore, P: Progress> BlockStore for Counted<'p, S, P> {
         ensures refusal { OnlyDevice result }
         ensures counts { CountsDevice result (S.failures self.old.inner) (S.failures self.new.inner) }
         ensures sound { StaysSound result (S.is_sound self.old.inner) (S.is_sound self.new.inner) }
+        ensures committed { S.committed self.new.inner ≡ S.committed self.old.inner }
         ensures size { S.size self.new.inner ≡ S.size self.old.inner }
         ensures room { S.room self.new.inner ≡ S.room self.old.inner }
     {
@@ -132,6 +136,7 @@ impl<'p, S: BlockStore, P: Progress> BlockStore for Counted<'p, S, P> {
         ensures refusal { OnlyMemory result }
         ensures failures { S.failures self.new.inner ≡ S.failures self.old.inner }
         ensures sound { S.is_sound self.new.inner ≡ S.is_sound self.old.inner }
+        ensures committed { S.committed self.new.inner ≡ S.committed self.old.inner }
         ensures size { S.size self.new.inner ≡ S.size self.old.inner }
     {
         self.inner.reserve(blocks)
@@ -146,6 +151,7 @@ impl<'p, S: BlockStore, P: Progress> BlockStore for Counted<'p, S, P> {
         ensures room_kept { IfErr result (λ e. e ≡ Refused.Memory → S.room self.new.inner ≡ S.room self.old.inner) }
         ensures counts { CountsDevice result (S.failures self.old.inner) (S.failures self.new.inner) }
         ensures sound { StaysSound result (S.is_sound self.old.inner) (S.is_sound self.new.inner) }
+        ensures committed { S.committed self.new.inner ≡ S.committed self.old.inner }
         ensures size { S.size self.new.inner ≡ S.size self.old.inner }
     {
         self.note();

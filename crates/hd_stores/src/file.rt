@@ -1,7 +1,7 @@
 ghost use Rattle.std.specs.Prelude.{◌≡◌, ◌+◌, ◌*◌, ◌<◌, ◌≤◌, ◌^◌, [], false, length, IfErr, IfOk, OnOk, OnErr};
 ghost use Rattle.hd_dbd.specs.Refusals.{OnlyDevice};
 ghost use Rattle.hd_stores.specs.Files.{Accesses, with_failure};
-ghost use Rattle.hd_stores.specs.Stores.{CountsDevice, RefusesGrowth, StaysSound};
+ghost use Rattle.hd_stores.specs.Stores.{uncommitted, CountsDevice, RefusesGrowth, StaysSound};
 
 use crate::store::{BlockStore, RunStore};
 use hd_dbd::Refused;
@@ -135,6 +135,8 @@ impl<L: Ledger> BlockStore for FileStore<L> {
     ghost failures = { λ s. s.failures };
 
     ghost room = { λ _. 2 ^ 32 };
+
+    ghost committed = { λ _. uncommitted };
 
     fn block_size(&self) -> usize {
         self.block_size

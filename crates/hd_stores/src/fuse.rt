@@ -98,6 +98,8 @@ impl<S: BlockStore> BlockStore for FuseStore<S> {
 
     ghost room = { λ f. S.room f.inner };
 
+    ghost committed = { λ f. S.committed f.inner };
+
     fn block_size(&self) -> usize {
         self.inner.block_size()
     }
@@ -119,6 +121,7 @@ impl<S: BlockStore> BlockStore for FuseStore<S> {
         ensures kept { OnOk result (IsTrue (S.is_sound self.old.inner) → S.contents self.new.inner ≡ S.contents self.old.inner) }
         ensures len { length buf.new ≡ length buf.old }
         ensures refusal { OnlyDevice result }
+        ensures committed { S.committed self.new.inner ≡ S.committed self.old.inner }
         ensures size { S.size self.new.inner ≡ S.size self.old.inner }
         ensures room { S.room self.new.inner ≡ S.room self.old.inner }
     {
@@ -139,6 +142,7 @@ impl<S: BlockStore> BlockStore for FuseStore<S> {
         ensures value { OnOk result (WritesBlock (S.is_sound self.old.inner) (S.size self.old.inner) (S.contents self.old.inner) n bytes.now (S.contents self.new.inner)) }
         ensures len { OnOk result (IsTrue (S.is_sound self.old.inner) → length (S.contents self.new.inner) ≡ length (S.contents self.old.inner)) }
         ensures refusal { OnlyDevice result }
+        ensures committed { S.committed self.new.inner ≡ S.committed self.old.inner }
         ensures size { S.size self.new.inner ≡ S.size self.old.inner }
         ensures room { S.room self.new.inner ≡ S.room self.old.inner }
     {
@@ -159,6 +163,7 @@ impl<S: BlockStore> BlockStore for FuseStore<S> {
         ensures refusal { OnlyMemory result }
         ensures failures { S.failures self.new.inner ≡ S.failures self.old.inner }
         ensures sound { S.is_sound self.new.inner ≡ S.is_sound self.old.inner }
+        ensures committed { S.committed self.new.inner ≡ S.committed self.old.inner }
         ensures size { S.size self.new.inner ≡ S.size self.old.inner }
     {
         self.inner.reserve(blocks)
@@ -173,6 +178,7 @@ impl<S: BlockStore> BlockStore for FuseStore<S> {
         ensures refusal { IfErr result (λ e. RefusesGrowth e (S.room self.old.inner) blocks) }
         ensures kept { IfErr result (λ e. e ≡ Refused.Memory → IsTrue (S.is_sound self.old.inner) → S.contents self.new.inner ≡ S.contents self.old.inner) }
         ensures room_kept { IfErr result (λ e. e ≡ Refused.Memory → S.room self.new.inner ≡ S.room self.old.inner) }
+        ensures committed { S.committed self.new.inner ≡ S.committed self.old.inner }
         ensures size { S.size self.new.inner ≡ S.size self.old.inner }
     {
         self.spend()?;
@@ -190,6 +196,7 @@ impl<S: RunStore> RunStore for FuseStore<S> {
         ensures kept { OnOk result (IsTrue (S.is_sound self.old.inner) → S.contents self.new.inner ≡ S.contents self.old.inner) }
         ensures len { length buf.new ≡ length buf.old }
         ensures refusal { OnlyDevice result }
+        ensures committed { S.committed self.new.inner ≡ S.committed self.old.inner }
         ensures size { S.size self.new.inner ≡ S.size self.old.inner }
         ensures room { S.room self.new.inner ≡ S.room self.old.inner }
     {

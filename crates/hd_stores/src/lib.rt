@@ -20,4 +20,4 @@ pub use counted::Counted;
 pub use file::FileStore;
 pub use fuse::FuseStore;
 pub use memory::MemStore;
-pub use store::{BlockStore, RunStore};
+pub use store::{BlockStore, CommitStore, RunStore};

@@ -1,4 +1,5 @@
 ghost use Rattle.std.specs.Prelude.{◌≡◌, ◌<◌, ◌≤◌, true};
+ghost use Rattle.hd_stores.specs.Stores.{uncommitted};
 
 use crate::store::{BlockStore, RunStore};
 use hd_dbd::Refused;
@@ -56,6 +57,8 @@ impl BlockStore for MemStore {
     ghost failures = { λ _. 0 };
 
     ghost room = { λ s. s.room };
+
+    ghost committed = { λ _. uncommitted };
 
     fn block_size(&self) -> usize {
         self.block_size

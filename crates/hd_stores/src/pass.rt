@@ -34,6 +34,7 @@ pub fn read_block<S: BlockStore>(
     ensures refusal { OnlyDevice result }
     ensures counts { CountsDevice result (S.failures store.old) (S.failures store.new) }
     ensures sound { StaysSound result (S.is_sound store.old) (S.is_sound store.new) }
+    ensures committed { S.committed store.new ≡ S.committed store.old }
     ensures size { S.size store.new ≡ S.size store.old }
     ensures room { S.room store.new ≡ S.room store.old }
 {
@@ -66,6 +67,7 @@ pub fn write_block<S: BlockStore>(
     ensures refusal { OnlyDevice result }
     ensures counts { CountsDevice result (S.failures store.old) (S.failures store.new) }
     ensures sound { StaysSound result (S.is_sound store.old) (S.is_sound store.new) }
+    ensures committed { S.committed store.new ≡ S.committed store.old }
     ensures size { S.size store.new ≡ S.size store.old }
     ensures room { S.room store.new ≡ S.room store.old }
 {
@@ -100,6 +102,7 @@ fn write_straight<S: BlockStore>(
     ensures refusal { OnlyDevice result }
     ensures counts { CountsDevice result (S.failures store.old) (S.failures store.new) }
     ensures sound { StaysSound result (S.is_sound store.old) (S.is_sound store.new) }
+    ensures committed { S.committed store.new ≡ S.committed store.old }
     ensures size { S.size store.new ≡ S.size store.old }
     ensures room { S.room store.new ≡ S.room store.old }
 {

@@ -60,6 +60,7 @@ pub fn fill<S: RunStore>(store: &mut S, run: &mut Run, n: u32, count: u32) -> Re
     ensures refusal { OnlyDevice result }
     ensures counts { CountsDevice result (S.failures store.old) (S.failures store.new) }
     ensures sound { StaysSound result (S.is_sound store.old) (S.is_sound store.new) }
+    ensures committed { S.committed store.new ≡ S.committed store.old }
     ensures size { S.size store.new ≡ S.size store.old }
     ensures room { S.room store.new ≡ S.room store.old }
 {
@@ -86,6 +87,7 @@ fn read_front<S: RunStore>(
     ensures refusal { OnlyDevice result }
     ensures counts { CountsDevice result (S.failures store.old) (S.failures store.new) }
     ensures sound { StaysSound result (S.is_sound store.old) (S.is_sound store.new) }
+    ensures committed { S.committed store.new ≡ S.committed store.old }
     ensures size { S.size store.new ≡ S.size store.old }
     ensures room { S.room store.new ≡ S.room store.old }
 {

@@ -34,6 +34,7 @@ pub fn settle<S: BlockStore>(
     ensures refusal { OnlyDevice result }
     ensures counts { CountsDevice result (S.failures store.old) (S.failures store.new) }
     ensures sound { StaysSound result (S.is_sound store.old) (S.is_sound store.new) }
+    ensures committed { S.committed store.new ≡ S.committed store.old }
     ensures size { S.size store.new ≡ S.size store.old }
     ensures room { S.room store.new ≡ S.room store.old }
 {
@@ -62,6 +63,7 @@ fn turn<S: BlockStore>(store: &mut S, cache: &mut LruCache<u32, Entry>) -> Resul
     ensures refusal { OnlyDevice result }
     ensures counts { CountsDevice result (S.failures store.old) (S.failures store.new) }
     ensures sound { StaysSound result (S.is_sound store.old) (S.is_sound store.new) }
+    ensures committed { S.committed store.new ≡ S.committed store.old }
     ensures size { S.size store.new ≡ S.size store.old }
     ensures room { S.room store.new ≡ S.room store.old }
 {
@@ -94,6 +96,7 @@ pub fn settle_others<S: BlockStore>(
     ensures refusal { OnlyDevice result }
     ensures counts { CountsDevice result (S.failures store.old) (S.failures store.new) }
     ensures sound { StaysSound result (S.is_sound store.old) (S.is_sound store.new) }
+    ensures committed { S.committed store.new ≡ S.committed store.old }
     ensures size { S.size store.new ≡ S.size store.old }
     ensures room { S.room store.new ≡ S.room store.old }
 {
@@ -119,6 +122,7 @@ pub fn settle_all<S: BlockStore>(
     ensures refusal { OnlyDevice result }
     ensures counts { CountsDevice result (S.failures store.old) (S.failures store.new) }
     ensures sound { StaysSound result (S.is_sound store.old) (S.is_sound store.new) }
+    ensures committed { S.committed store.new ≡ S.committed store.old }
     ensures size { S.size store.new ≡ S.size store.old }
     ensures room { S.room store.new ≡ S.room store.old }
 {
@@ -146,6 +150,7 @@ pub fn make_room<S: BlockStore>(
     ensures refusal { OnlyDevice result }
     ensures counts { CountsDevice result (S.failures store.old) (S.failures store.new) }
     ensures sound { StaysSound result (S.is_sound store.old) (S.is_sound store.new) }
+    ensures committed { S.committed store.new ≡ S.committed store.old }
     ensures size { S.size store.new ≡ S.size store.old }
     ensures room { S.room store.new ≡ S.room store.old }
 {

@@ -1,8 +1,8 @@
-ghost use Rattle.std.specs.Prelude.{◌≡◌, ◌+◌, ◌-◌, ◌*◌, ◌<◌, ◌≤◌, ℕ, Bool, IsTrue, List, length, IfErr, OnOk};
+ghost use Rattle.std.specs.Prelude.{◌≡◌, ◌+◌, ◌-◌, ◌*◌, ◌<◌, ◌≤◌, ℕ, Bool, IsTrue, List, length, IfErr, OnOk, OnErr};
 ghost use Rattle.hd_dbd.specs.Refusals.{OnlyDevice, OnlyMemory};
 ghost use Rattle.hd_bytes.specs.Blocks.{block_of, with_block, grown, HasBlock};
 ghost use Rattle.hd_bytes.specs.Ranges.{bytes_at};
-ghost use Rattle.hd_stores.specs.Stores.{CountsDevice, StaysSound, RefusesGrowth};
+ghost use Rattle.hd_stores.specs.Stores.{Committed, IsCommit, FailsCommit, CountsDevice, StaysSound, RefusesGrowth};
 
 use hd_dbd::Refused;
 
@@ -25,6 +25,9 @@ pub trait BlockStore {
     /// Growths by so many blocks in all find memory.
     ghost room: { Self → ℕ };
 
+    /// What a crash leaves of the store, which no call here changes.
+    ghost committed: { Self → Committed };
+
     /// The bytes of a block, 1 to 32,768.
     fn block_size(&self) -> usize
         ensures value { result ≡ size self.now }
@@ -45,6 +48,7 @@ pub trait BlockStore {
         ensures refusal { OnlyDevice result }
         ensures counts { CountsDevice result (failures self.old) (failures self.new) }
         ensures sound { StaysSound result (is_sound self.old) (is_sound self.new) }
+        ensures committed { committed self.new ≡ committed self.old }
         ensures size { size self.new ≡ size self.old }
         ensures room { room self.new ≡ room self.old };
 
@@ -57,6 +61,7 @@ pub trait BlockStore {
         ensures refusal { OnlyDevice result }
         ensures counts { CountsDevice result (failures self.old) (failures self.new) }
         ensures sound { StaysSound result (is_sound self.old) (is_sound self.new) }
+        ensures committed { committed self.new ≡ committed self.old }
         ensures size { size self.new ≡ size self.old }
         ensures room { room self.new ≡ room self.old };
 
@@ -70,6 +75,7 @@ pub trait BlockStore {
         ensures refusal { OnlyMemory result }
         ensures failures { failures self.new ≡ failures self.old }
         ensures sound { is_sound self.new ≡ is_sound self.old }
+        ensures committed { committed self.new ≡ committed self.old }
         ensures size { size self.new ≡ size self.old };
 
     /// Adds so many blocks of zeros. `Memory`, only beyond the room reserved, leaves all as it was; `Device` is a
@@ -82,6 +88,7 @@ pub trait BlockStore {
         ensures room_kept { IfErr result (λ e. e ≡ Refused.Memory → room self.new ≡ room self.old) }
         ensures counts { CountsDevice result (failures self.old) (failures self.new) }
         ensures sound { StaysSound result (is_sound self.old) (is_sound self.new) }
+        ensures committed { committed self.new ≡ committed self.old }
         ensures size { size self.new ≡ size self.old };
 }
 
@@ -93,6 +100,22 @@ pub trait RunStore: BlockStore {
         ensures value { OnOk result (IsTrue (Self.is_sound self.old) → buf.new ≡ bytes_at (Self.contents self.old) (n * Self.size self.old) (length buf.old)) }
         ensures len { length buf.new ≡ length buf.old }
         ensures kept { OnOk result (IsTrue (Self.is_sound self.old) → Self.contents self.new ≡ Self.contents self.old) }
+        ensures refusal { OnlyDevice result }
+        ensures counts { CountsDevice result (Self.failures self.old) (Self.failures self.new) }
+        ensures sound { StaysSound result (Self.is_sound self.old) (Self.is_sound self.new) }
+        ensures committed { Self.committed self.new ≡ Self.committed self.old }
+        ensures size { Self.size self.new ≡ Self.size self.old }
+        ensures room { Self.room self.new ≡ Self.room self.old };
+}
+
+/// A store whose bytes can be made to last, all at once.
+pub trait CommitStore: BlockStore {
+    /// Makes the contents last: from `Ok` on a crash leaves them, whenever it comes.
+    ///
+    /// `Device` is a failed access. Then a crash leaves what it would have left before, or the contents; the next opening tells which.
+    fn commit(&mut self) -> Result<(), Refused>
+        ensures committed { OnOk result (IsCommit (Self.is_sound self.old) (Self.contents self.old) (Self.contents self.new) (Self.committed self.new)) }
+        ensures fails { OnErr result (FailsCommit (Self.is_sound self.old) (Self.contents self.old) (Self.committed self.old) (Self.committed self.new)) }
         ensures refusal { OnlyDevice result }
         ensures counts { CountsDevice result (Self.failures self.old) (Self.failures self.new) }
         ensures sound { StaysSound result (Self.is_sound self.old) (Self.is_sound self.new) }

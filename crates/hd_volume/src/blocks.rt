@@ -147,6 +147,7 @@ impl<S: BlockStore> Blocks<S> {
         ensures refusal { OnlyDevice result }
         ensures counts { CountsDevice result self.old.failures self.new.failures }
         ensures sound { StaysSound result self.old.is_sound self.new.is_sound }
+        ensures committed { self.new.committed ≡ self.old.committed }
         ensures size { self.new.size ≡ self.old.size }
         ensures room { self.new.room ≡ self.old.room }
     {
@@ -183,6 +184,7 @@ impl<S: BlockStore> Blocks<S> {
         ensures refusal { OnlyDevice result }
         ensures counts { CountsDevice result self.old.failures self.new.failures }
         ensures sound { StaysSound result self.old.is_sound self.new.is_sound }
+        ensures committed { self.new.committed ≡ self.old.committed }
         ensures size { self.new.size ≡ self.old.size }
         ensures room { self.new.room ≡ self.old.room }
     {
@@ -254,6 +256,7 @@ impl<S: BlockStore> Blocks<S> {
         ensures refusal { OnlyMemory result }
         ensures failures { self.new.failures ≡ self.old.failures }
         ensures sound { self.new.is_sound ≡ self.old.is_sound }
+        ensures committed { self.new.committed ≡ self.old.committed }
         ensures size { self.new.size ≡ self.old.size }
     {
         self.store.reserve(blocks)
@@ -271,6 +274,7 @@ impl<S: BlockStore> Blocks<S> {
         ensures first { IsTrue self.new.is_sound → KeepsFirst self.old.size self.old.stored self.new.stored }
         ensures counts { CountsDevice result self.old.failures self.new.failures }
         ensures sound { StaysSound result self.old.is_sound self.new.is_sound }
+        ensures committed { self.new.committed ≡ self.old.committed }
         ensures size { self.new.size ≡ self.old.size }
         ensures hand { OnOk result (IsTrue self.old.is_sound → (n : ℕ) → n < 4294967296 → length self.old.image ≡ n * self.old.size → self.new.hand ≡ n) }
     {
@@ -302,6 +306,7 @@ impl<S: BlockStore> Blocks<S> {
         ensures refusal { OnlyDevice result }
         ensures counts { CountsDevice result self.old.failures self.new.failures }
         ensures sound { StaysSound result self.old.is_sound self.new.is_sound }
+        ensures committed { self.new.committed ≡ self.old.committed }
         ensures size { self.new.size ≡ self.old.size }
         ensures room { self.new.room ≡ self.old.room }
     {
@@ -316,6 +321,7 @@ impl<S: BlockStore> Blocks<S> {
         ensures contents { S.contents result ≡ self.stored }
         ensures sound { S.is_sound result ≡ self.is_sound }
         ensures failures { S.failures result ≡ self.failures }
+        ensures committed { S.committed result ≡ self.committed }
         ensures size { S.size result ≡ self.size }
         ensures room { S.room result ≡ self.room }
     {
@@ -378,6 +384,7 @@ fn bring_other<S: BlockStore>(
     ensures refusal { OnlyDevice result }
     ensures counts { CountsDevice result (S.failures store.old) (S.failures store.new) }
     ensures sound { StaysSound result (S.is_sound store.old) (S.is_sound store.new) }
+    ensures committed { S.committed store.new ≡ S.committed store.old }
     ensures size { S.size store.new ≡ S.size store.old }
     ensures room { S.room store.new ≡ S.room store.old }
 {
@@ -408,6 +415,7 @@ fn bring_zeros<S: BlockStore>(
     ensures refusal { OnlyDevice result }
     ensures counts { CountsDevice result (S.failures store.old) (S.failures store.new) }
     ensures sound { StaysSound result (S.is_sound store.old) (S.is_sound store.new) }
+    ensures committed { S.committed store.new ≡ S.committed store.old }
     ensures size { S.size store.new ≡ S.size store.old }
     ensures room { S.room store.new ≡ S.room store.old }
 {
@@ -449,6 +457,7 @@ fn write_all<S: BlockStore>(store: &mut S, buffers: &mut [Buffer]) -> Result<(),
     ensures refusal { OnlyDevice result }
     ensures counts { CountsDevice result (S.failures store.old) (S.failures store.new) }
     ensures sound { StaysSound result (S.is_sound store.old) (S.is_sound store.new) }
+    ensures committed { S.committed store.new ≡ S.committed store.old }
     ensures size { S.size store.new ≡ S.size store.old }
     ensures room { S.room store.new ≡ S.room store.old }
 {
@@ -478,6 +487,7 @@ fn write_first<S: BlockStore>(
     ensures refusal { OnlyDevice result }
     ensures counts { CountsDevice result (S.failures store.old) (S.failures store.new) }
     ensures sound { StaysSound result (S.is_sound store.old) (S.is_sound store.new) }
+    ensures committed { S.committed store.new ≡ S.committed store.old }
     ensures size { S.size store.new ≡ S.size store.old }
     ensures room { S.room store.new ≡ S.room store.old }
 {

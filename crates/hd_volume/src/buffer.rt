@@ -29,6 +29,7 @@ pub fn write_back<S: BlockStore>(store: &mut S, buffer: &mut Buffer) -> Result<(
     ensures refusal { OnlyDevice result }
     ensures counts { CountsDevice result (S.failures store.old) (S.failures store.new) }
     ensures sound { StaysSound result (S.is_sound store.old) (S.is_sound store.new) }
+    ensures committed { S.committed store.new ≡ S.committed store.old }
     ensures size { S.size store.new ≡ S.size store.old }
     ensures room { S.room store.new ≡ S.room store.old }
 {
@@ -54,6 +55,7 @@ pub fn bring<S: BlockStore>(store: &mut S, buffer: &mut Buffer, n: u32) -> Resul
     ensures refusal { OnlyDevice result }
     ensures counts { CountsDevice result (S.failures store.old) (S.failures store.new) }
     ensures sound { StaysSound result (S.is_sound store.old) (S.is_sound store.new) }
+    ensures committed { S.committed store.new ≡ S.committed store.old }
     ensures size { S.size store.new ≡ S.size store.old }
     ensures room { S.room store.new ≡ S.room store.old }
 {

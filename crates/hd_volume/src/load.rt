@@ -47,6 +47,7 @@ pub fn survey<S: BlockStore>(
     ensures refusal { OnlyDeviceOrMemory result }
     ensures counts { CountsDevice result blocks.old.failures blocks.new.failures }
     ensures sound { StaysSound result blocks.old.is_sound blocks.new.is_sound }
+    ensures committed { blocks.new.committed ≡ blocks.old.committed }
     ensures size { blocks.new.size ≡ blocks.old.size }
     ensures room { blocks.new.room ≡ blocks.old.room }
 {
@@ -104,6 +105,7 @@ fn survey_block<S: BlockStore>(blocks: &mut Blocks<S>, n: u32) -> Result<Content
     ensures refusal { OnlyDevice result }
     ensures counts { CountsDevice result blocks.old.failures blocks.new.failures }
     ensures sound { StaysSound result blocks.old.is_sound blocks.new.is_sound }
+    ensures committed { blocks.new.committed ≡ blocks.old.committed }
     ensures size { blocks.new.size ≡ blocks.old.size }
     ensures room { blocks.new.room ≡ blocks.old.room }
 {

@@ -273,6 +273,7 @@ impl<S: BlockStore> Volume<S> {
         ensures refusal { OnlyDevice result }
         ensures counts { CountsDevice result self.old.failures self.new.failures }
         ensures sound { StaysSound result self.old.is_sound self.new.is_sound }
+        ensures committed { self.new.committed ≡ self.old.committed }
         ensures size { self.new.size ≡ self.old.size }
         ensures sizes { self.new.sizes ≡ self.old.sizes }
         ensures spacing { self.new.spacing ≡ self.old.spacing }
@@ -286,6 +287,7 @@ impl<S: BlockStore> Volume<S> {
         ensures contents { S.contents result ≡ self.stored }
         ensures sound { S.is_sound result ≡ self.is_sound }
         ensures failures { S.failures result ≡ self.failures }
+        ensures committed { S.committed result ≡ self.committed }
         ensures size { S.size result ≡ self.size }
     {
         self.blocks.into_store()
@@ -307,6 +309,7 @@ fn reserve_for<S: BlockStore>(
     ensures refusal { OnlyMemory result }
     ensures failures { blocks.new.failures ≡ blocks.old.failures }
     ensures sound { blocks.new.is_sound ≡ blocks.old.is_sound }
+    ensures committed { blocks.new.committed ≡ blocks.old.committed }
     ensures size { blocks.new.size ≡ blocks.old.size }
 {
     if space.contents.reserve(count as usize).is_err() {
