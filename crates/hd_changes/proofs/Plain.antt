@@ -12,6 +12,7 @@ pub plain-call : {T : Type 0} {v w : VolumeState} (x : T) → w ≡ record v { s
 plain-call {v = v} {w = w} x rest = record {
   counts = ap (λ (u : VolumeState). u.failures) rest;
   sound = ap (λ (u : VolumeState). u.is_sound) rest;
+  committed = ap (λ (u : VolumeState). u.committed) rest;
   size = ap (λ (u : VolumeState). u.size) rest;
   sizes = ap (λ (u : VolumeState). u.sizes) rest;
   first = λ _. subst (λ (s : List ℕ). KeepsFirst v.size v.stored s) (sym (ap (λ (u : VolumeState). u.stored) rest)) (record { len = omega arith; first = λ _. refl });

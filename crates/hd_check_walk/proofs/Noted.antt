@@ -105,7 +105,7 @@ note-is types m seen note children a is none s = subst (λ (n : Note). IsNoted t
 -- a refusal for want of memory changes nothing that was read
 pub read-memory : {A B : Type 0} {u v : VolumeState} {x : A} → IsRead {T = A} u (Ok x) v → IsRead {T = B} u (Err Memory) v
 read-memory h = record {
-  call = record { counts = h.call.counts; sound = h.call.sound; size = h.call.size; sizes = h.call.sizes; first = h.call.first; plain = h.call.plain; space = h.call.space };
+  call = record { counts = h.call.counts; sound = h.call.sound; committed = h.call.committed; size = h.call.size; sizes = h.call.sizes; first = h.call.first; plain = h.call.plain; space = h.call.space };
   image = h.image;
   stands = h.stands;
   room = h.room;

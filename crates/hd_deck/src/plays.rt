@@ -48,6 +48,7 @@ fn play_call<S: BlockStore, W: Write>(
     ensures few { IfOk result (λ lacking. lacking ≤ 1) }
     ensures whole { OnOk result (StaysWhole session.old session.new) }
     ensures stops { IfErr result (λ e. StopsAt session.old e session.new) }
+    ensures committed { session.new.volume.committed ≡ session.old.volume.committed }
     ensures same_room { io.new.room ≡ io.old.room }
 {
     let answered = session.call(pcb, call, io);
@@ -80,6 +81,7 @@ fn play_calls<S: BlockStore, W: Write>(
     ensures few { IfOk result (λ lacking. lacking ≤ repeat) }
     ensures whole { OnOk result (StaysWhole session.old session.new) }
     ensures stops { IfErr result (λ e. StopsAt session.old e session.new) }
+    ensures committed { session.new.volume.committed ≡ session.old.volume.committed }
     ensures same_room { io.new.room ≡ io.old.room }
 {
     let mut lacking = 0u64;
@@ -107,6 +109,7 @@ fn play_step<S: BlockStore, W: Write>(
     ensures few { IfOk result (λ lacking. lacking ≤ step.now.repeat) }
     ensures whole { OnOk result (StaysWhole session.old session.new) }
     ensures stops { IfErr result (λ e. StopsAt session.old e session.new) }
+    ensures committed { session.new.volume.committed ≡ session.old.volume.committed }
     ensures same_room { io.new.room ≡ io.old.room }
 {
     play_calls(session, step.pcb, &step.call, step.repeat, number, io, out)
@@ -135,6 +138,7 @@ pub(crate) fn play_steps<S: BlockStore, W: Write>(
     ensures until { IfErr result (λ e. PlaysUntil session.old (turns_of steps.now) e session.new) }
     ensures whole { OnOk result (StaysWhole session.old session.new) }
     ensures stops { IfErr result (λ e. StopsAt session.old e session.new) }
+    ensures committed { session.new.volume.committed ≡ session.old.volume.committed }
 {
     let mut calls = 0u64;
     let mut memory = 0u64;

@@ -62,6 +62,8 @@ fn play_and_close<S: BlockStore, W: Write>(
     ensures counts { IfErr result (λ e. CountsFor (fault_refusal (fault_of e.1)) session.entry.volume.failures (S.failures e.0)) }
     ensures sound { IfOk result (λ e. S.is_sound e.store ≡ session.entry.volume.is_sound) }
     ensures stays_sound { IfErr result (λ e. SoundFor (fault_refusal (fault_of e.1)) session.entry.volume.is_sound (S.is_sound e.0)) }
+    ensures committed { IfOk result (λ e. S.committed e.store ≡ session.entry.volume.committed) }
+    ensures given_committed { IfErr result (λ e. S.committed e.0 ≡ session.entry.volume.committed) }
     ensures size { IfOk result (λ e. S.size e.store ≡ session.entry.volume.size) }
     ensures given_size { IfErr result (λ e. S.size e.0 ≡ session.entry.volume.size) }
 {
@@ -107,6 +109,8 @@ pub fn run<S: BlockStore, W: Write>(
     ensures counts { IfErr result (λ e. CountsFor (fault_refusal e.1) (S.failures store) (S.failures e.0)) }
     ensures sound { IfOk result (λ e. S.is_sound e.store ≡ S.is_sound store) }
     ensures stays_sound { IfErr result (λ e. SoundFor (fault_refusal e.1) (S.is_sound store) (S.is_sound e.0)) }
+    ensures committed { IfOk result (λ e. S.committed e.store ≡ S.committed store) }
+    ensures given_committed { IfErr result (λ e. S.committed e.0 ≡ S.committed store) }
     ensures size { IfOk result (λ e. S.size e.store ≡ S.size store) }
     ensures given_size { IfErr result (λ e. S.size e.0 ≡ S.size store) }
 {

@@ -6,6 +6,7 @@ use Rattle.hd_dbd.specs.Segment.{Segment}
 use Rattle.hd_dbd.specs.Facts.{stored_sizes}
 use Rattle.hd_dbd.specs.Rows.{key_of}
 use Rattle.hd_dbd.specs.Forest.{Forest, empty, node}
+use Rattle.hd_stores.specs.Stores.{uncommitted}
 use Rattle.hd_volume.specs.Headers.{header_of}
 use Rattle.hd_volume.specs.Volumes.{VolumeState, HasKinds}
 use Rattle.hd_volume.specs.Spacing.{no_spacing}
@@ -45,4 +46,4 @@ HoldsRows d v rows = (placed : Forest Placed) × (rows_of placed ≡ rows) × Ho
 
 -- the volume that is loaded for a database from these bytes
 abbrev pub volume_of : Database → List ℕ → VolumeState
-volume_of d image = record { image = image; stored = image; is_sound = true; failures = 0; room = 0; size = d.block_size; sizes = stored_sizes d.types; spacing = no_spacing }
+volume_of d image = record { image = image; stored = image; is_sound = true; failures = 0; room = 0; committed = uncommitted; size = d.block_size; sizes = stored_sizes d.types; spacing = no_spacing }

@@ -2,6 +2,7 @@
 -- blocks 4 and 5 with an entry each; and the four blocks of the documents' own image, of which block 3 is the whole index.
 use Rattle.std.specs.Prelude.{◌≡◌, ℕ, ◌-◌, true, List, [], ◌∷◌, ◌++◌, replicate, length, codes, Some}
 use Rattle.hd_dbd.specs.declared.facts.SegmentSize.TheVariants.{Fixed}
+use Rattle.hd_stores.specs.Stores.{uncommitted}
 use Rattle.hd_volume.specs.Volumes.{VolumeState}
 use Rattle.hd_volume.specs.Spacing.{no_spacing}
 use Rattle.hd_volume.specs.Entries.{Entry}
@@ -48,7 +49,7 @@ sample_image =
 
 -- the volume of an image of the sample
 abbrev pub volume_of : List ℕ → VolumeState
-volume_of image = record { image = image; stored = image; is_sound = true; failures = 0; room = 0; size = 128; sizes = Fixed 0 ∷ Fixed 40 ∷ Fixed 24 ∷ Fixed 16 ∷ Fixed 16 ∷ []; spacing = no_spacing }
+volume_of image = record { image = image; stored = image; is_sound = true; failures = 0; room = 0; committed = uncommitted; size = 128; sizes = Fixed 0 ∷ Fixed 40 ∷ Fixed 24 ∷ Fixed 16 ∷ Fixed 16 ∷ []; spacing = no_spacing }
 
 abbrev pub sample_volume : VolumeState
 sample_volume = volume_of sample_image

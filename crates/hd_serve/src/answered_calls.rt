@@ -72,6 +72,7 @@ pub(crate) fn answer_call<S: BlockStore, W: Write>(
     ensures whole { OnOk result (StaysWhole session.old session.new) }
     ensures halts { IfErr result (λ e. HaltsAt session.old (record { pcb = pcb; call = call.now }) e session.new) }
     ensures stops { IfErr result (λ e. IsHalted session.old e session.new) }
+    ensures committed { session.new.volume.committed ≡ session.old.volume.committed }
     ensures same_room { io.new.room ≡ io.old.room }
 {
     let answered = session.call(pcb, call, io);

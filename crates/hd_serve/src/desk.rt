@@ -46,6 +46,7 @@ fn serve_next<S: BlockStore, I: Read, W: Write>(
     ensures stop { IfErr result (λ e. StopsNext desk.old.limits session.old (unread desk.old (I.remaining input.old)) (W.contents out.old) (W.contents out.new) e session.new) }
     ensures whole { OnOk result (StaysWhole session.old session.new) }
     ensures stops { IfErr result (λ e. StopsAt session.old e session.new) }
+    ensures committed { session.new.volume.committed ≡ session.old.volume.committed }
     ensures same { (desk.new.limits ≡ desk.old.limits) × (desk.new.io.room ≡ desk.old.io.room) }
 {
     let next = match desk.buffer.next_call(input, desk.limits) {
@@ -88,6 +89,7 @@ fn serve_calls<S: BlockStore, I: Read, W: Write>(
     ensures until { IfErr result (λ e. ServesUntil desk.old.limits session.old (unread desk.old (I.remaining input.old)) [] (W.contents out.old) (W.contents out.new) e session.new) }
     ensures whole { OnOk result (StaysWhole session.old session.new) }
     ensures stops { IfErr result (λ e. StopsAt session.old e session.new) }
+    ensures committed { session.new.volume.committed ≡ session.old.volume.committed }
 {
     let mut memory = 0u64;
     for calls in 0..u64::MAX {
@@ -114,6 +116,7 @@ pub(crate) fn serve_all<S: BlockStore, I: Read, W: Write>(
     ensures until { IfErr result (λ e. ServesUntil desk.old.limits session.old (unread desk.old (I.remaining input.old)) hello.now (W.contents out.old) (W.contents out.new) e session.new) }
     ensures whole { OnOk result (StaysWhole session.old session.new) }
     ensures stops { IfErr result (λ e. StopsAt session.old e session.new) }
+    ensures committed { session.new.volume.committed ≡ session.old.volume.committed }
 {
     match put_frame(out, hello) {
         Ok(()) => serve_calls(session, desk, input, out),

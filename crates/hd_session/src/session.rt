@@ -1,9 +1,9 @@
-ghost use Rattle.std.specs.Prelude.{◌≡◌, ◌≢◌, ◌<◌, ◌≤◌, Err, IsTrue, IfOk, IfErr, OnOk, Some, length, true};
+ghost use Rattle.std.specs.Prelude.{◌≡◌, ◌≢◌, ◌<◌, ◌≤◌, Err, IsTrue, IfOk, IfErr, OnOk, OnErr, Some, length, true};
 ghost use Rattle.hd_dbd.specs.Facts.{stored_sizes};
 ghost use Rattle.hd_dbd.specs.Hierarchy.{longest_path};
 ghost use Rattle.hd_dbd.specs.ProgramRules.{type_names};
 ghost use Rattle.hd_volume.specs.Calls.{IsCall};
-ghost use Rattle.hd_stores.specs.Stores.{CountsDevice, StaysSound};
+ghost use Rattle.hd_stores.specs.Stores.{IsCommit, FailsCommit, CountsDevice, StaysSound};
 ghost use Rattle.hd_calls.specs.Functions.{function_of};
 ghost use Rattle.hd_session.specs.Opening.{session_at_start, IsOpenedOver, IsOpenFaultOf, IsOpenRead, was_broken, is_broken_by, OnlyDeviceOrBroken};
 ghost use Rattle.hd_session.specs.Giving.{IsEmpty};
@@ -19,7 +19,7 @@ use crate::opening::{OpenFault, start_positions, test_volume};
 use hd_calls::Function;
 use hd_dbd::{Dbd, Psb, Refused};
 use hd_position::Position;
-use hd_stores::BlockStore;
+use hd_stores::{BlockStore, CommitStore};
 use hd_volume::{NO_SPACING, Volume};
 use std::alloc::Global;
 use std::marker::Model;
@@ -147,6 +147,7 @@ impl<'a, S: BlockStore> Session<'a, S> {
         ensures refusal { OnlyDeviceOrBroken result }
         ensures counts { CountsDevice result self.old.volume.failures self.new.volume.failures }
         ensures sound { StaysSound result self.old.volume.is_sound self.new.volume.is_sound }
+        ensures committed { self.new.volume.committed ≡ self.old.volume.committed }
         ensures sizes { (self.new.volume.size ≡ self.old.volume.size) × (self.new.volume.sizes ≡ self.old.volume.sizes) }
     {
         if self.broken {
@@ -170,9 +171,40 @@ impl<'a, S: BlockStore> Session<'a, S> {
         ensures refusal { OnlyDeviceOrBroken result.1 }
         ensures counts { CountsDevice result.1 self.entry.volume.failures (S.failures result.0) }
         ensures sound { StaysSound result.1 self.entry.volume.is_sound (S.is_sound result.0) }
+        ensures committed { S.committed result.0 ≡ self.entry.volume.committed }
         ensures size { S.size result.0 ≡ self.entry.volume.size }
     {
         let flushed = self.flush();
         (self.volume.into_store(), flushed)
+    }
+}
+
+impl<'a, S: CommitStore> Session<'a, S> {
+    /// Makes what the calls so far have changed last: from `Ok` on a crash leaves it, whenever it comes. Positions, parentage and what is held stay.
+    ///
+    /// After `Device` a crash leaves what it would have left before, or these rows; the next opening tells which.
+    pub fn commit(&mut self) -> Result<(), Refused>
+        ensures flushed { OnOk result (IsTrue self.old.volume.is_sound → (self.new.volume.image ≡ self.old.volume.image) × (self.new.volume.stored ≡ self.old.volume.image)) }
+        ensures committed { OnOk result (IsCommit self.old.volume.is_sound self.old.volume.image self.new.volume.image self.new.volume.committed) }
+        ensures fails { OnErr result (FailsCommit self.old.volume.is_sound self.old.volume.image self.old.volume.committed self.new.volume.committed) }
+        ensures same { self.new ≡ record self.old { volume = self.new.volume; broken = is_broken_by result } }
+        ensures broken { self.old.broken ≡ was_broken result }
+        ensures untouched { self.old.broken ≡ true → self.new ≡ self.old }
+        ensures refusal { OnlyDeviceOrBroken result }
+        ensures counts { CountsDevice result self.old.volume.failures self.new.volume.failures }
+        ensures sound { StaysSound result self.old.volume.is_sound self.new.volume.is_sound }
+        ensures sizes { (self.new.volume.size ≡ self.old.volume.size) × (self.new.volume.sizes ≡ self.old.volume.sizes) }
+    {
+        if self.broken {
+            return Err(Refused::Broken);
+        }
+        match self.volume.commit() {
+            Ok(()) => Ok(()),
+            Err(refused) => {
+                self.above.forget();
+                self.broken = true;
+                Err(refused)
+            }
+        }
     }
 }

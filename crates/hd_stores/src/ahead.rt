@@ -5,7 +5,7 @@ ghost use Rattle.hd_stores.specs.Stores.{CountsDevice, StaysSound};
 ghost use Rattle.hd_stores.specs.Runs.{IsReadAhead};
 
 use crate::run::{Run, copy_out, fill, forget, no_run};
-use crate::store::{BlockStore, RunStore};
+use crate::store::{BlockStore, CommitStore, RunStore};
 use hd_dbd::Refused;
 use std::alloc::Global;
 use std::marker::Model;
@@ -147,5 +147,11 @@ impl<S: RunStore> BlockStore for ReadAhead<S> {
 
     fn grow(&mut self, blocks: u32) -> Result<(), Refused> {
         self.store.grow(blocks)
+    }
+}
+
+impl<S: RunStore + CommitStore> CommitStore for ReadAhead<S> {
+    fn commit(&mut self) -> Result<(), Refused> {
+        self.store.commit()
     }
 }

@@ -19,14 +19,14 @@ sound-back (Err e) a b h s = was-sound e a b h s
 
 -- what a call answers matters only where it refuses
 pub call-ok : {A B : Type 0} {u v : VolumeState} {x : A} (y : B) → IsCall {T = A} u (Ok x) v → IsCall {T = B} u (Ok y) v
-call-ok y h = record { counts = h.counts; sound = h.sound; size = h.size; sizes = h.sizes; first = h.first; plain = h.plain; space = h.space }
+call-ok y h = record { counts = h.counts; sound = h.sound; committed = h.committed; size = h.size; sizes = h.sizes; first = h.first; plain = h.plain; space = h.space }
 
 pub read-ok : {A B : Type 0} {u v : VolumeState} {x : A} (y : B) → IsRead {T = A} u (Ok x) v → IsRead {T = B} u (Ok y) v
 read-ok y h = record { call = call-ok y h.call; image = h.image; stands = h.stands; room = h.room }
 
 -- a refusal is one of any call
 pub call-err : {A B : Type 0} {u v : VolumeState} {e : Refused} → IsCall {T = A} u (Err e) v → IsCall {T = B} u (Err e) v
-call-err h = record { counts = h.counts; sound = h.sound; size = h.size; sizes = h.sizes; first = h.first; plain = h.plain; space = h.space }
+call-err h = record { counts = h.counts; sound = h.sound; committed = h.committed; size = h.size; sizes = h.sizes; first = h.first; plain = h.plain; space = h.space }
 
 pub read-err : {A B : Type 0} {u v : VolumeState} {e : Refused} → IsRead {T = A} u (Err e) v → IsRead {T = B} u (Err e) v
 read-err h = record { call = call-err h.call; image = h.image; stands = h.stands; room = h.room }
@@ -36,7 +36,7 @@ first-same size a = record { len = omega arith; first = λ h. refl }
 
 -- no call at all
 pub call-none : {A : Type 0} (u : VolumeState) (x : A) → IsCall {T = A} u (Ok x) u
-call-none u x = record { counts = refl; sound = refl; size = refl; sizes = refl; first = λ s. first-same u.size u.stored; plain = λ p. p; space = λ s h. h }
+call-none u x = record { counts = refl; sound = refl; committed = refl; size = refl; sizes = refl; first = λ s. first-same u.size u.stored; plain = λ p. p; space = λ s h. h }
 
 pub read-none : {A : Type 0} (u : VolumeState) (x : A) → IsRead {T = A} u (Ok x) u
 read-none u x = record { call = call-none u x; image = λ s. refl; stands = λ s h. h; room = refl }
@@ -67,6 +67,7 @@ fetched-any {T} seen old new sizes spacing room room' (Err e) view f same =
       call = record {
         counts = f.counts;
         sound = f.sound;
+        committed = f.committed;
         size = f.size;
         sizes = refl;
         first = f.first;

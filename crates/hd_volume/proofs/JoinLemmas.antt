@@ -419,6 +419,7 @@ pub calls-join : {A B : Type 0} {u v w : VolumeState} {x : A} (r : Result B Refu
 calls-join {A} {B} {u} {v} {w} (Ok y) a b = record {
   counts = b.counts ∙ a.counts;
   sound = b.sound ∙ a.sound;
+  committed = b.committed ∙ a.committed;
   size = b.size ∙ a.size;
   sizes = b.sizes ∙ a.sizes;
   first = λ s. first-join u v w a.size (a.first (rw (← b.sound) s)) (b.first s);
@@ -428,6 +429,7 @@ calls-join {A} {B} {u} {v} {w} (Ok y) a b = record {
 calls-join {A} {B} {u} {v} {w} (Err e) a b = record {
   counts = counts-join e u.failures v.failures w.failures a.counts b.counts;
   sound = sound-join e u.is_sound v.is_sound w.is_sound a.sound b.sound;
+  committed = b.committed ∙ a.committed;
   size = b.size ∙ a.size;
   sizes = b.sizes ∙ a.sizes;
   first = λ s. first-join u v w a.size (a.first (was-sound e v.is_sound w.is_sound b.sound s)) (b.first s);
@@ -437,12 +439,13 @@ calls-join {A} {B} {u} {v} {w} (Err e) a b = record {
 
 -- the same of calls but for the space that is left
 pub step-of : {A : Type 0} {u v : VolumeState} {r : Result A Refused} → IsCall {T = A} u r v → step.IsStep {T = A} u r v
-step-of h = record { counts = h.counts; sound = h.sound; size = h.size; sizes = h.sizes; first = h.first }
+step-of h = record { counts = h.counts; sound = h.sound; committed = h.committed; size = h.size; sizes = h.sizes; first = h.first }
 
 pub steps-join : {A B : Type 0} {u v w : VolumeState} {x : A} (r : Result B Refused) → step.IsStep {T = A} u (Ok x) v → step.IsStep {T = B} v r w → step.IsStep {T = B} u r w
 steps-join {A} {B} {u} {v} {w} (Ok y) a b = record {
   counts = b.counts ∙ a.counts;
   sound = b.sound ∙ a.sound;
+  committed = b.committed ∙ a.committed;
   size = b.size ∙ a.size;
   sizes = b.sizes ∙ a.sizes;
   first = λ s. first-join u v w a.size (a.first (rw (← b.sound) s)) (b.first s);
@@ -450,6 +453,7 @@ steps-join {A} {B} {u} {v} {w} (Ok y) a b = record {
 steps-join {A} {B} {u} {v} {w} (Err e) a b = record {
   counts = counts-join e u.failures v.failures w.failures a.counts b.counts;
   sound = sound-join e u.is_sound v.is_sound w.is_sound a.sound b.sound;
+  committed = b.committed ∙ a.committed;
   size = b.size ∙ a.size;
   sizes = b.sizes ∙ a.sizes;
   first = λ s. first-join u v w a.size (a.first (was-sound e v.is_sound w.is_sound b.sound s)) (b.first s);
@@ -480,6 +484,7 @@ pub step-past : {A B : Type 0} {u v : VolumeState} {x : B} (e : Refused) → (e 
 step-past {A} {B} {u} {v} e (inl is) h = record {
   counts = (let P : Refused → Type 0 = λ f. CountsFor f u.failures v.failures in subst P is h.counts);
   sound = (let P : Refused → Type 0 = λ f. SoundFor f u.is_sound v.is_sound in subst P is h.sound);
+  committed = h.committed;
   size = h.size;
   sizes = h.sizes;
   first = h.first;
@@ -487,6 +492,7 @@ step-past {A} {B} {u} {v} e (inl is) h = record {
 step-past {A} {B} {u} {v} e (inr is) h = record {
   counts = (let P : Refused → Type 0 = λ f. CountsFor f u.failures v.failures in subst P is h.counts);
   sound = (let P : Refused → Type 0 = λ f. SoundFor f u.is_sound v.is_sound in subst P is h.sound);
+  committed = h.committed;
   size = h.size;
   sizes = h.sizes;
   first = h.first;

@@ -111,6 +111,7 @@ space-same v w size sizes image spacing h more =
 pub record IsBrought (old new : Buffered) : Type 0 where
   pub sound : new.is_sound ≡ old.is_sound
   pub failures : new.failures ≡ old.failures
+  pub committed : new.committed ≡ old.committed
   pub size : new.size ≡ old.size
   pub room : new.room ≡ old.room
   pub image : IsTrue old.is_sound → new.image ≡ old.image
@@ -125,6 +126,7 @@ is-read old new sizes spacing room room' x h same =
       call = record {
         counts = h.failures;
         sound = h.sound;
+        committed = h.committed;
         size = h.size;
         sizes = refl;
         first = λ sound. h.first (before sound);
@@ -150,6 +152,7 @@ fetched-read {T} {U} seen old new sizes spacing room room' x y view f same =
     is-read-seen seen old new sizes spacing room room' view (record {
       sound = f.sound;
       failures = f.counts;
+      committed = f.committed;
       size = f.size;
       room = f.room;
       image = λ sound. f.image (after sound);

@@ -282,12 +282,13 @@ header-space {v} {w} header size sizes spacing sound count largest set =
 pub device-call : {A : Type 0} {u w : VolumeState} (r : Result A Refused) → IsStep {T = A} u r w → KeepsSpacing u w → OnlyDevice r → OnOk r (IsTrue u.is_sound → HasLeft u → HasLeft w) → IsCall {T = A} u r w
 device-call {A} {u} {w} (Ok x) s k d h =
     let back = λ (now : IsTrue w.is_sound). (let b : IsTrue u.is_sound = rw (← s.sound) now in b) in
-    record { counts = s.counts; sound = s.sound; size = s.size; sizes = s.sizes; first = s.first; plain = plain-on u w k; space = left-on back k (λ now. h (back now)) }
+    record { counts = s.counts; sound = s.sound; committed = s.committed; size = s.size; sizes = s.sizes; first = s.first; plain = plain-on u w k; space = left-on back k (λ now. h (back now)) }
 device-call {A} {u} {w} (Err e) s k d h =
     let gone : w.is_sound ≡ false = (let P : Refused → Type 0 = λ f. SoundFor f u.is_sound w.is_sound in subst P d s.sound) in
     record {
       counts = s.counts;
       sound = s.sound;
+      committed = s.committed;
       size = s.size;
       sizes = s.sizes;
       first = s.first;
@@ -300,10 +301,11 @@ pub kept-call : {A : Type 0} {u w : VolumeState} (r : Result A Refused) → IsSt
     → IsCall {T = A} u r w
 kept-call {A} {u} {w} (Ok x) s k d h =
     let back = λ (now : IsTrue w.is_sound). (let b : IsTrue u.is_sound = rw (← s.sound) now in b) in
-    record { counts = s.counts; sound = s.sound; size = s.size; sizes = s.sizes; first = s.first; plain = plain-on u w k; space = left-on back k (λ now. h (back now)) }
+    record { counts = s.counts; sound = s.sound; committed = s.committed; size = s.size; sizes = s.sizes; first = s.first; plain = plain-on u w k; space = left-on back k (λ now. h (back now)) }
 kept-call {A} {u} {w} (Err e) s k d h = record {
   counts = s.counts;
   sound = s.sound;
+  committed = s.committed;
   size = s.size;
   sizes = s.sizes;
   first = s.first;
@@ -311,12 +313,13 @@ kept-call {A} {u} {w} (Err e) s k d h = record {
   space = left-on (λ now. was-sound e u.is_sound w.is_sound s.sound now) k (λ now. by-spacing u w k (λ same. space-same u w s.size s.sizes (d now) same));
 }
 
-memory-one : {A : Type 0} {u w : VolumeState} (r : Result A Refused) → OnlyMemory r → w.failures ≡ u.failures → w.is_sound ≡ u.is_sound → w.size ≡ u.size → w.sizes ≡ u.sizes
+memory-one : {A : Type 0} {u w : VolumeState} (r : Result A Refused) → OnlyMemory r → w.failures ≡ u.failures → w.is_sound ≡ u.is_sound → w.committed ≡ u.committed → w.size ≡ u.size → w.sizes ≡ u.sizes
     → (IsTrue w.is_sound → KeepsFirst u.size u.stored w.stored) → (IsPlain u → IsPlain w) → ((s : FreeSpace) → LeavesSpace s u → LeavesSpace s w) → IsCall {T = A} u r w
-memory-one (Ok x) m failures sound size sizes first plain space = record { counts = failures; sound = sound; size = size; sizes = sizes; first = first; plain = plain; space = space }
-memory-one {A} {u} {w} (Err e) m failures sound size sizes first plain space = record {
+memory-one (Ok x) m failures sound committed size sizes first plain space = record { counts = failures; sound = sound; committed = committed; size = size; sizes = sizes; first = first; plain = plain; space = space }
+memory-one {A} {u} {w} (Err e) m failures sound committed size sizes first plain space = record {
   counts = (let P : Refused → Type 0 = λ f. CountsFor f u.failures w.failures in subst P (sym m) failures);
   sound = (let P : Refused → Type 0 = λ f. SoundFor f u.is_sound w.is_sound in subst P (sym m) sound);
+  committed = committed;
   size = size;
   sizes = sizes;
   first = first;
@@ -325,9 +328,9 @@ memory-one {A} {u} {w} (Err e) m failures sound size sizes first plain space = r
 }
 
 -- one that only want of memory may end, and that changes no byte
-pub memory-call : {A : Type 0} {u w : VolumeState} (r : Result A Refused) → OnlyMemory r → w.failures ≡ u.failures → w.is_sound ≡ u.is_sound → w.size ≡ u.size → w.sizes ≡ u.sizes → w.spacing ≡ u.spacing
+pub memory-call : {A : Type 0} {u w : VolumeState} (r : Result A Refused) → OnlyMemory r → w.failures ≡ u.failures → w.is_sound ≡ u.is_sound → w.committed ≡ u.committed → w.size ≡ u.size → w.sizes ≡ u.sizes → w.spacing ≡ u.spacing
     → (IsTrue u.is_sound → (w.image ≡ u.image) × (w.stored ≡ u.stored)) → IsCall {T = A} u r w
-memory-call {A} {u} {w} r m failures sound size sizes spacing same =
+memory-call {A} {u} {w} r m failures sound committed size sizes spacing same =
     let back = λ (now : IsTrue w.is_sound). (let b : IsTrue u.is_sound = rw (← sound) now in b) in
     let first = λ (now : IsTrue w.is_sound). (let P : List ℕ → Type 0 = λ s. KeepsFirst u.size u.stored s in subst P (sym (same (back now)).1) (record { len = omega arith; first = λ there. refl })) in
-    memory-one r m failures sound size sizes first (λ p. spacing ∙ p) (left-on back (inl spacing) (λ now. space-same u w size sizes (same (back now)).0 spacing))
+    memory-one r m failures sound committed size sizes first (λ p. spacing ∙ p) (left-on back (inl spacing) (λ now. space-same u w size sizes (same (back now)).0 spacing))

@@ -3,7 +3,7 @@ use Rattle.std.specs.Prelude.{◌≡◌, ◌≢◌, ⊤, ℕ, ◌<◌, ◌≤◌
 use Rattle.std.specs.List.{AllByRecursion}
 use Rattle.hd_bytes.specs.Blocks.{block_of, with_block, HasBlock}
 use Rattle.hd_dbd.specs.declared.answer.Refused.{Refused}
-use Rattle.hd_stores.specs.Stores.{CountsDevice, StaysSound}
+use Rattle.hd_stores.specs.Stores.{Committed, CountsDevice, StaysSound}
 use Rattle.hd_volume.specs.Images.{KeepsFirst}
 use Rattle.hd_volume.specs.declared.buffer.Buffer.{Buffer}
 
@@ -86,6 +86,7 @@ pub record Buffered : Type 0 where
   pub is_sound : Bool
   pub failures : ℕ
   pub room : ℕ
+  pub committed : Committed
   pub size : ℕ
   pub hand : ℕ
 
@@ -110,6 +111,7 @@ pub record AreKept (store_size : ℕ) (contents : List ℕ) (is_sound : Bool) (s
 pub record IsFetch {T : Type 0} (old : Buffered) (result : Result T Refused) (new : Buffered) : Type 0 where
   pub counts : CountsDevice result old.failures new.failures
   pub sound : StaysSound result old.is_sound new.is_sound
+  pub committed : new.committed ≡ old.committed
   pub size : new.size ≡ old.size
   pub room : new.room ≡ old.room
   pub image : IsTrue new.is_sound → new.image ≡ old.image

@@ -13,12 +13,13 @@ use Rattle.hd_volume.specs.Rooms.{spare, HasHole}
 use Rattle.hd_volume.specs.Spacing.{IsPlain, HasBytesFree, LeavesSpace}
 use Rattle.hd_block.specs.Sizes.{size_at}
 
--- What every call does but a flush: Device is answered exactly where a failed access was counted; the sizes stay; and
+-- What every call does but a flush and a commit: Device is answered exactly where a failed access was counted; what a crash leaves and the sizes stay; and
 -- while the store is sound, its own block 0 stays. A volume that keeps nothing free keeps nothing free afterwards; and what one is to keep free
 -- afterwards is free then, unless it was to be before and was not.
 pub record IsCall {T : Type 0} (old : VolumeState) (result : Result T Refused) (new : VolumeState) : Type 0 where
   pub counts : CountsDevice result old.failures new.failures
   pub sound : StaysSound result old.is_sound new.is_sound
+  pub committed : new.committed ≡ old.committed
   pub size : new.size ≡ old.size
   pub sizes : new.sizes ≡ old.sizes
   pub first : IsTrue new.is_sound → KeepsFirst old.size old.stored new.stored

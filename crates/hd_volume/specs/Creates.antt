@@ -2,7 +2,7 @@
 use Rattle.std.specs.Prelude.{◌≡◌, ◌⊎◌, ℕ, ◌-◌, ◌*◌, ◌/◌, ◌%◌, Bool, IsTrue, List, [], ◌∷◌, length, drop, replicate, slice_index, codes, None}
 use Rattle.hd_dbd.specs.declared.answer.Refused.{Refused}
 use Rattle.hd_dbd.specs.declared.answer.Refused.TheVariants.{Memory, Device}
-use Rattle.hd_stores.specs.Stores.{CountsFor, SoundFor}
+use Rattle.hd_stores.specs.Stores.{Committed, CountsFor, SoundFor}
 use Rattle.hd_volume.specs.declared.header.TheConstants.{NEWEST_VERSION}
 use Rattle.hd_volume.specs.Headers.{Header, header_of}
 use Rattle.hd_volume.specs.Volumes.{VolumeState, IsFormatted}
@@ -42,9 +42,10 @@ pub record IsCreated (name : List ℕ) (size largest : ℕ) (v : VolumeState) : 
   pub empty : (address : ℕ) → find v address ≡ None
 
 -- A store that was empty is given back with a refusal: after Memory it is empty, or one block of zeros.
-pub record IsGivenNew {S : Type 0} (size : S → ℕ) (contents : S → List ℕ) (is_sound : S → Bool) (failures : S → ℕ) (old : S) (given : S × Refused) : Type 0 where
+pub record IsGivenNew {S : Type 0} (size : S → ℕ) (contents : S → List ℕ) (is_sound : S → Bool) (failures : S → ℕ) (committed : S → Committed) (old : S) (given : S × Refused) : Type 0 where
   pub refusal : (given.1 ≡ Memory) ⊎ (given.1 ≡ Device)
   pub counts : CountsFor given.1 (failures old) (failures given.0)
   pub sound : SoundFor given.1 (is_sound old) (is_sound given.0)
   pub kept : given.1 ≡ Memory → IsTrue (is_sound old) → (contents given.0 ≡ []) ⊎ (contents given.0 ≡ replicate (1 * size old) 0)
   pub size_kept : size given.0 ≡ size old
+  pub committed_kept : committed given.0 ≡ committed old

@@ -16,7 +16,7 @@ use Rattle.hd_block.specs.Sizes.{size_at}
 
 -- the volume that blocks and stored sizes are, which keeps so much free, with room for so many calls
 abbrev pub volume_of : Buffered → List SegmentSize → FreeSpace → ℕ → VolumeState
-volume_of b sizes spacing room = record { image = b.image; stored = b.stored; is_sound = b.is_sound; failures = b.failures; room = room; size = b.size; sizes = sizes; spacing = spacing }
+volume_of b sizes spacing room = record { image = b.image; stored = b.stored; is_sound = b.is_sound; failures = b.failures; room = room; committed = b.committed; size = b.size; sizes = sizes; spacing = spacing }
 
 -- nothing is to be kept free
 abbrev pub is_plain : FreeSpace → Bool

@@ -19,6 +19,7 @@ use Rattle.hd_volume.specs.Calls.{KeepsOthers, KeepsSegments, KeepsIndex, KeepsH
 pub record IsStep {T : Type 0} (old : VolumeState) (result : Result T Refused) (new : VolumeState) : Type 0 where
   pub counts : CountsDevice result old.failures new.failures
   pub sound : StaysSound result old.is_sound new.is_sound
+  pub committed : new.committed ≡ old.committed
   pub size : new.size ≡ old.size
   pub sizes : new.sizes ≡ old.sizes
   pub first : IsTrue new.is_sound → KeepsFirst old.size old.stored new.stored

@@ -2,6 +2,7 @@
 use Rattle.std.specs.Prelude.{◌≡◌, ◌⊎◌, ℕ, ◌<◌, Bool, List, slice_index}
 use Rattle.hd_bytes.specs.Blocks.{block_of, HasBlock}
 use Rattle.hd_block.specs.Extents.{Extent, IsDivided, AreWhole}
+use Rattle.hd_stores.specs.Stores.{Committed}
 use Rattle.hd_volume.specs.Headers.{HasHeader}
 use Rattle.hd_dbd.specs.declared.facts.SegmentSize.{SegmentSize}
 use Rattle.hd_dbd.specs.declared.hierarchy.FreeSpace.{FreeSpace}
@@ -17,6 +18,8 @@ pub record VolumeState : Type 0 where
   pub failures : ℕ
   -- so many calls that add a block find memory
   pub room : ℕ
+  -- what a crash leaves of the store, at any moment since its last commit
+  pub committed : Committed
   -- the bytes of a block, and by code the bytes that the segments of a type take
   pub size : ℕ
   pub sizes : List SegmentSize

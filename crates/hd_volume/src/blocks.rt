@@ -1,11 +1,11 @@
-ghost use Rattle.std.specs.Prelude.{◌≡◌, ◌≢◌, ℕ, ◌+◌, ◌*◌, ◌/◌, ◌%◌, ◌≤◌, ◌<◌, true, false, vec_len, IsTrue, length, ◌∷◌, replicate, None, OnOk, IfOk, IfErr, IfSome, slice_index};
+ghost use Rattle.std.specs.Prelude.{◌≡◌, ◌≢◌, ℕ, ◌+◌, ◌*◌, ◌/◌, ◌%◌, ◌≤◌, ◌<◌, true, false, vec_len, IsTrue, length, ◌∷◌, replicate, None, OnOk, OnErr, IfOk, IfErr, IfSome, slice_index};
 ghost use Rattle.std.specs.List.{AllByRecursion, AllZip};
 ghost use Rattle.hd_dbd.specs.Refusals.{OnlyDevice, OnlyMemory};
 ghost use Rattle.hd_bytes.specs.Blocks.{block_of, grown, HasBlock};
 ghost use Rattle.hd_bytes.specs.Ranges.{with_bytes};
 ghost use Rattle.byteorder.specs.Endian.{big_bytes};
 ghost use Rattle.hd_volume.specs.Edits.{IsTaken, IsGiven};
-ghost use Rattle.hd_stores.specs.Stores.{CountsDevice, StaysSound, RefusesGrowth, IsGivenBack};
+ghost use Rattle.hd_stores.specs.Stores.{IsCommit, FailsCommit, CountsDevice, StaysSound, RefusesGrowth, IsGivenBack};
 ghost use Rattle.hd_volume.specs.Images.{ChangesBlock, KeepsFirst};
 ghost use Rattle.hd_volume.specs.Buffers.{AreBuffers, AreLater, IsBlockLong, HoldsNot, IsMovedToFront, AreInBytes, IsWrittenBack, put_all, KeepsShown, image_of, ChangesHand, ChangesHead, KeepsImage};
 
@@ -13,7 +13,7 @@ use crate::buffer::{Buffer, bring, hold_zeros, write_back};
 use hd_block::Block;
 use hd_bytes::{write_bytes, write_u32};
 use hd_dbd::{Refused, SegmentSize};
-use hd_stores::BlockStore;
+use hd_stores::{BlockStore, CommitStore};
 use std::alloc::{AllocError, Global};
 use std::marker::Model;
 use std::mem::swap;
@@ -43,6 +43,7 @@ impl<S: BlockStore> Model for Blocks<S> {
       is_sound = S.is_sound v.store;
       failures = S.failures v.store;
       room = S.room v.store;
+      committed = S.committed v.store;
       size = v.block_size;
       hand = number_of v.hand;
     } };
@@ -54,8 +55,8 @@ impl<S: BlockStore> Blocks<S> {
     /// The blocks of a store, whose block 0 is read if it has one. A refusal gives the store back.
     pub fn new(alloc: Global, mut store: S) -> Result<Blocks<S>, (S, Refused)>
         ensures image { IfOk result (λ b. IsTrue (S.is_sound store) → (b.image ≡ S.contents store) × (b.stored ≡ S.contents store)) }
-        ensures store { IfOk result (λ b. (b.is_sound ≡ S.is_sound store) × (b.failures ≡ S.failures store) × (b.room ≡ S.room store) × (b.size ≡ S.size store)) }
-        ensures refusal { IfErr result (λ e. IsGivenBack S.size S.contents S.is_sound S.failures store e) }
+        ensures store { IfOk result (λ b. (b.is_sound ≡ S.is_sound store) × (b.failures ≡ S.failures store) × (b.room ≡ S.room store) × (b.committed ≡ S.committed store) × (b.size ≡ S.size store)) }
+        ensures refusal { IfErr result (λ e. IsGivenBack S.size S.contents S.is_sound S.failures S.committed store e) }
     {
         let block_size = store.block_size();
         let Ok(mut head) = empty_buffer(alloc, block_size) else {
@@ -326,6 +327,23 @@ impl<S: BlockStore> Blocks<S> {
         ensures room { S.room result ≡ self.room }
     {
         self.store
+    }
+}
+
+impl<S: CommitStore> Blocks<S> {
+    /// Writes what is changed to the store, and makes it last. `Device` is a failed access.
+    pub fn commit(&mut self) -> Result<(), Refused>
+        ensures committed { OnOk result (IsCommit self.old.is_sound self.old.image self.new.image self.new.committed) }
+        ensures stored { OnOk result (IsTrue self.old.is_sound → self.new.stored ≡ self.old.image) }
+        ensures fails { OnErr result (FailsCommit self.old.is_sound self.old.image self.old.committed self.new.committed) }
+        ensures refusal { OnlyDevice result }
+        ensures counts { CountsDevice result self.old.failures self.new.failures }
+        ensures sound { StaysSound result self.old.is_sound self.new.is_sound }
+        ensures size { self.new.size ≡ self.old.size }
+        ensures room { self.new.room ≡ self.old.room }
+    {
+        self.flush()?;
+        self.store.commit()
     }
 }
 

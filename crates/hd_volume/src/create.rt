@@ -23,8 +23,8 @@ impl<S: BlockStore> Volume<S> {
         requires empty { IsTrue (S.is_sound store) → S.contents store ≡ [] }
         requires bounds { (0 < largest) × (largest ≤ MOST_BLOCKS) }
         ensures created { IfOk result (λ v. IsTrue (S.is_sound store) → IsCreated dbd.now.name dbd.now.block_size largest v) }
-        ensures store { IfOk result (λ v. (v.is_sound ≡ S.is_sound store) × (v.failures ≡ S.failures store) × (v.size ≡ S.size store) × (v.sizes ≡ stored_sizes dbd.now.types) × IsPlain v) }
-        ensures refusal { IfErr result (λ e. IsGivenNew S.size S.contents S.is_sound S.failures store e) }
+        ensures store { IfOk result (λ v. (v.is_sound ≡ S.is_sound store) × (v.failures ≡ S.failures store) × (v.committed ≡ S.committed store) × (v.size ≡ S.size store) × (v.sizes ≡ stored_sizes dbd.now.types) × IsPlain v) }
+        ensures refusal { IfErr result (λ e. IsGivenNew S.size S.contents S.is_sound S.failures S.committed store e) }
     {
         if let Err(refused) = store.grow(1) {
             return Err((store, refused));

@@ -1,9 +1,9 @@
 ghost use Rattle.std.specs.Vec.{vec_capacity};
-ghost use Rattle.std.specs.Prelude.{◌≡◌, ◌+◌, ◌-◌, ◌%◌, ◌≤◌, ◌<◌, true, false, vec_len, IsTrue, length, min, slice_index, IfOk, IfErr, OnOk, Some};
+ghost use Rattle.std.specs.Prelude.{◌≡◌, ◌+◌, ◌-◌, ◌%◌, ◌≤◌, ◌<◌, true, false, vec_len, IsTrue, length, min, slice_index, IfOk, IfErr, OnOk, OnErr, Some};
 ghost use Rattle.hd_bytes.specs.Blocks.{block_of, HasBlock};
 ghost use Rattle.hd_dbd.specs.Facts.{stored_sizes};
 ghost use Rattle.hd_dbd.specs.Refusals.{OnlyDevice, OnlyMemory};
-ghost use Rattle.hd_stores.specs.Stores.{CountsDevice, StaysSound, IsGivenBack};
+ghost use Rattle.hd_stores.specs.Stores.{IsCommit, FailsCommit, CountsDevice, StaysSound, IsGivenBack};
 ghost use Rattle.hd_bytes.specs.Numbers.{number_at};
 ghost use Rattle.hd_volume.specs.Headers.{header_of};
 ghost use Rattle.hd_volume.specs.Volumes.{IsFormatted, block_at, kind_of};
@@ -21,7 +21,7 @@ use crate::spacing::{Hints, MOST_CALLS, NO_SPACING};
 use hd_block::size_at;
 use hd_bytes::read_u32;
 use hd_dbd::{Dbd, FreeSpace, Refused, SegmentSize};
-use hd_stores::BlockStore;
+use hd_stores::{BlockStore, CommitStore};
 use std::alloc::Global;
 use std::marker::Model;
 
@@ -74,8 +74,8 @@ impl<S: BlockStore> Volume<S> {
     pub fn load(alloc: Global, store: S, dbd: &Dbd) -> Result<Volume<S>, (S, Refused)>
         requires { S.size store ≡ dbd.now.block_size }
         ensures image { IfOk result (λ v. IsTrue (S.is_sound store) → (v.image ≡ S.contents store) × (v.stored ≡ S.contents store)) }
-        ensures store { IfOk result (λ v. (v.is_sound ≡ S.is_sound store) × (v.failures ≡ S.failures store) × (v.size ≡ S.size store) × (v.sizes ≡ stored_sizes dbd.now.types) × IsPlain v) }
-        ensures refusal { IfErr result (λ e. IsGivenBack S.size S.contents S.is_sound S.failures store e) }
+        ensures store { IfOk result (λ v. (v.is_sound ≡ S.is_sound store) × (v.failures ≡ S.failures store) × (v.committed ≡ S.committed store) × (v.size ≡ S.size store) × (v.sizes ≡ stored_sizes dbd.now.types) × IsPlain v) }
+        ensures refusal { IfErr result (λ e. IsGivenBack S.size S.contents S.is_sound S.failures S.committed store e) }
     {
         let Ok(sizes) = size_table(alloc, dbd) else {
             return Err((store, Refused::Memory));
@@ -291,6 +291,24 @@ impl<S: BlockStore> Volume<S> {
         ensures size { S.size result ≡ self.size }
     {
         self.blocks.into_store()
+    }
+}
+
+impl<S: CommitStore> Volume<S> {
+    /// Writes what is changed to the store, and makes it last: from `Ok` on a crash leaves this image. `Device` is a failed access.
+    pub fn commit(&mut self) -> Result<(), Refused>
+        ensures committed { OnOk result (IsCommit self.old.is_sound self.old.image self.new.image self.new.committed) }
+        ensures stored { OnOk result (IsTrue self.old.is_sound → self.new.stored ≡ self.old.image) }
+        ensures fails { OnErr result (FailsCommit self.old.is_sound self.old.image self.old.committed self.new.committed) }
+        ensures refusal { OnlyDevice result }
+        ensures counts { CountsDevice result self.old.failures self.new.failures }
+        ensures sound { StaysSound result self.old.is_sound self.new.is_sound }
+        ensures size { self.new.size ≡ self.old.size }
+        ensures sizes { self.new.sizes ≡ self.old.sizes }
+        ensures spacing { self.new.spacing ≡ self.old.spacing }
+        ensures room { self.new.room ≡ self.old.room }
+    {
+        self.blocks.commit()
     }
 }
 

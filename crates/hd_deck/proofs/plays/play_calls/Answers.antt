@@ -16,6 +16,7 @@ loop-made-init g c = record {
   plays = played_none c.args.session.now c.args.number (g.W.Write.contents c.args.out.now) c.requires.whole;
   few = omega arith;
   whole = whole_none c.args.session.now c.requires.whole;
+  committed = refl;
   room = refl;
 }
 
@@ -34,6 +35,7 @@ loop-made-preserved g c =
           (g.W.Write.contents c.play_call.new.out) c.loop-made.lacking c.in_ok-more.more number c.loop-made.invariant.plays c.in_ok-more.ensures.plays);
       few = omega (arith, c.loop-made.invariant.few, c.in_ok-more.ensures.few);
       whole = whole_both s m new c.loop-made.invariant.whole c.in_ok-more.ensures.whole;
+      committed = c.in_ok-more.ensures.committed ∙ c.loop-made.invariant.committed;
       room = c.in_ok-more.ensures.same_room ∙ c.loop-made.invariant.room;
     }
 

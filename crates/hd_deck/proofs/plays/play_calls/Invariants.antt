@@ -11,5 +11,6 @@ invariant-loop-made g l =
       plays : PlaysAll l.fn.session (replicate l.made t) l.number (g.W.Write.contents l.fn.out) (g.W.Write.contents l.out) l.lacking l.session;
       few : l.lacking ≤ l.made;
       whole : StaysWhole l.fn.session l.session;
+      committed : l.session.volume.committed ≡ l.fn.session.volume.committed;
       room : l.io.room ≡ l.fn.io.room;
     }

@@ -20,6 +20,7 @@ loop-step-init g c = record {
   few = omega arith;
   less = omega arith;
   whole = whole_none c.args.session.now c.requires.whole;
+  committed = refl;
   room = refl;
 }
 
@@ -53,6 +54,7 @@ loop-step-preserved g c =
       few = omega (arith, fits.few_calls, c.loop-step.invariant.few, repeats);
       less = omega (arith, c.loop-step.invariant.less, c.in_ok-lacking.ensures.few, repeats);
       whole = whole_both s m new c.loop-step.invariant.whole c.in_ok-lacking.ensures.whole;
+      committed = c.in_ok-lacking.ensures.committed ∙ c.loop-step.invariant.committed;
       room = c.in_ok-lacking.ensures.same_room ∙ c.loop-step.invariant.room;
     }
 

@@ -11,5 +11,6 @@ invariant-loop-step g l = record {
   few : l.calls ≤ 9999 * l.step-index;
   less : l.memory ≤ l.calls;
   whole : StaysWhole l.fn.session l.session;
+  committed : l.session.volume.committed ≡ l.fn.session.volume.committed;
   room : l.io.room ≡ l.fn.io.room;
 }

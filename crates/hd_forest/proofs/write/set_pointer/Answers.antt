@@ -10,6 +10,7 @@ returns-then-holder-eq0-clause-call g c =
     record {
       counts = ap (λ (v : VolumeState). v.failures) rest;
       sound = ap (λ (v : VolumeState). v.is_sound) rest;
+      committed = ap (λ (v : VolumeState). v.committed) rest;
       size = ap (λ (v : VolumeState). v.size) rest;
       sizes = ap (λ (v : VolumeState). v.sizes) rest;
       first = λ sound. subst (λ (s : List ℕ). KeepsFirst u.size u.stored s) (sym (ap (λ (v : VolumeState). v.stored) rest)) (record { len = omega arith; first = λ there. refl });

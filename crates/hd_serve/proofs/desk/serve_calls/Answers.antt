@@ -15,6 +15,7 @@ loop-calls-init g c = record {
   so_far = none_so_far c.args.desk.now.limits c.args.session.now (prepend_known c.args.desk.now.buffer (g.I.Read.remaining c.args.input.now)) (g.W.Write.contents c.args.out.now) c.requires.whole;
   few = omega arith;
   whole = whole_none c.args.session.now c.requires.whole;
+  committed = refl;
   limits = refl;
   room = refl;
 }
@@ -40,6 +41,7 @@ loop-calls-preserved g c =
           (subst (λ (x : Limits). IsServedNext x m left after mid new k t) same next);
       few = omega (arith, few, c.loop-calls.invariant.few);
       whole = whole_both s m t c.loop-calls.invariant.whole c.in_ok-lacking.ensures.whole;
+      committed = c.in_ok-lacking.ensures.committed ∙ c.loop-calls.invariant.committed;
       limits = c.serve_next.ensures.same.0 ∙ same;
       room = c.serve_next.ensures.same.1 ∙ c.loop-calls.invariant.room;
     }

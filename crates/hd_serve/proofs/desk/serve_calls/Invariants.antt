@@ -11,6 +11,7 @@ invariant-loop-calls g l = record {
       (g.W.Write.contents l.fn.out) (g.W.Write.contents l.out) l.calls l.memory l.session;
   few : l.memory ≤ l.calls;
   whole : StaysWhole l.fn.session l.session;
+  committed : l.session.volume.committed ≡ l.fn.session.volume.committed;
   limits : l.desk.limits ≡ l.fn.desk.limits;
   room : l.desk.io.room ≡ l.fn.desk.io.room;
 }

@@ -8,6 +8,7 @@ abbrev pub invariant-turns : goal.invariant-turns
 invariant-turns g l = record {
   failures : g.S.BlockStore.failures l.store ≡ g.S.BlockStore.failures l.fn.store;
   is_sound : g.S.BlockStore.is_sound l.store ≡ g.S.BlockStore.is_sound l.fn.store;
+  committed : g.S.BlockStore.committed l.store ≡ g.S.BlockStore.committed l.fn.store;
   size : g.S.BlockStore.size l.store ≡ g.S.BlockStore.size l.fn.store;
   room : g.S.BlockStore.room l.store ≡ g.S.BlockStore.room l.fn.store;
   shown : IsTrue (g.S.BlockStore.is_sound l.fn.store) → shown (g.S.BlockStore.size l.fn.store) (g.S.BlockStore.contents l.store) (entry_of l.cache) ≡ shown (g.S.BlockStore.size l.fn.store) (g.S.BlockStore.contents l.fn.store) (entry_of l.fn.cache);

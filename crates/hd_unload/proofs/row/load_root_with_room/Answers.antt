@@ -21,7 +21,7 @@ stop_spacing-requires-clause-index g c sound = (let L = (c.requires.can sound).2
 pub returns-then-branch-clause-call : goal.returns-then-branch-clause-call
 returns-then-branch-clause-call g c =
     let j = calls-join (Ok c.in_ok-lacks_room.field-0) c.in_ok-stop_spacing.ensures.call c.in_ok-lacks_room.ensures.read.call in
-    record { counts = j.counts; sound = j.sound; size = j.size; sizes = j.sizes; first = j.first; plain = j.plain; space = j.space }
+    record { counts = j.counts; sound = j.sound; committed = j.committed; size = j.size; sizes = j.sizes; first = j.first; plain = j.plain; space = j.space }
 
 pub lacks_room-requires-clause-index : goal.lacks_room-requires-clause-index
 lacks_room-requires-clause-index g c now =

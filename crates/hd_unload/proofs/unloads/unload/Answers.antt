@@ -47,7 +47,7 @@ pub returns-in-Ok-2-clause-read : goal.returns-in-Ok-2-clause-read
 returns-in-Ok-2-clause-read g c =
     let last = c.in-Ok-write_stream.ensures.read in
     reads-join (Err Full) c.in-Ok.ensures.read (record {
-      call = record { counts = last.call.counts; sound = last.call.sound; size = last.call.size; sizes = last.call.sizes; first = last.call.first; plain = last.call.plain; space = last.call.space };
+      call = record { counts = last.call.counts; sound = last.call.sound; committed = last.call.committed; size = last.call.size; sizes = last.call.sizes; first = last.call.first; plain = last.call.plain; space = last.call.space };
       image = last.image;
       stands = last.stands;
       room = last.room;

@@ -50,7 +50,7 @@ returns-in_err-make_room_to_replace-clause-call g c =
     let p = err_from_is_err_and c.from_residual-in_err-make_room_to_replace.result c.from_residual-in_err-make_room_to_replace.ensures.1 in
     subst (λ (r : Result Outcome Refused). IsCall c.args.volume.now r c.make_room_to_replace.new.volume) (sym (p.1 ∙ ap Err p.2))
     (let I = calls-join (Err c.in_err-make_room_to_replace.field-0.0) (read-call c.in_ok-keep_keys.ensures.read) c.in_err-make_room_to_replace.ensures.call in
-    record { counts = I.counts; sound = I.sound; size = I.size; sizes = I.sizes; first = I.first; plain = I.plain; space = I.space })
+    record { counts = I.counts; sound = I.sound; committed = I.committed; size = I.size; sizes = I.sizes; first = I.first; plain = I.plain; space = I.space })
 
 pub returns-in_err-make_room_to_replace-clause-full : goal.returns-in_err-make_room_to_replace-clause-full
 returns-in_err-make_room_to_replace-clause-full g c =

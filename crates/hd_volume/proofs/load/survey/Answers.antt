@@ -26,6 +26,7 @@ loop-n-preserved g c =
     record {
       is_sound = c.in_ok-content.ensures.sound ∙ inv.is_sound;
       failures = c.in_ok-content.ensures.counts ∙ inv.failures;
+      committed = c.survey_block.ensures.committed ∙ inv.committed;
       size = c.survey_block.ensures.size ∙ inv.size;
       room = c.survey_block.ensures.room ∙ inv.room;
       image = λ sound. c.in_ok-content.ensures.image (sound-now sound) ∙ inv.image sound;

@@ -8,6 +8,7 @@ abbrev pub invariant-loop-n : goal.invariant-loop-n
 invariant-loop-n g l = record {
   is_sound : l.blocks.is_sound ≡ l.fn.blocks.is_sound;
   failures : l.blocks.failures ≡ l.fn.blocks.failures;
+  committed : l.blocks.committed ≡ l.fn.blocks.committed;
   size : l.blocks.size ≡ l.fn.blocks.size;
   room : l.blocks.room ≡ l.fn.blocks.room;
   image : IsTrue l.fn.blocks.is_sound → l.blocks.image ≡ l.fn.blocks.image;

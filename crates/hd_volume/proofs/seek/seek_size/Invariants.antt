@@ -7,6 +7,7 @@ abbrev pub invariant-loop-n : goal.invariant-loop-n
 invariant-loop-n g l = record {
   failures : l.blocks.failures ≡ l.fn.blocks.failures;
   is_sound : l.blocks.is_sound ≡ l.fn.blocks.is_sound;
+  committed : l.blocks.committed ≡ l.fn.blocks.committed;
   size : l.blocks.size ≡ l.fn.blocks.size;
   room : l.blocks.room ≡ l.fn.blocks.room;
   image : IsTrue l.fn.blocks.is_sound → l.blocks.image ≡ l.fn.blocks.image;

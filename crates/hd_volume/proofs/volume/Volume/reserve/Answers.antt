@@ -14,4 +14,4 @@ returns-clause-call g c =
     let w : VolumeState = volume_of c.reserve_for-2.new.blocks c.self.inside.sizes.items c.self.inside.spacing room2 in
     let P : VolumeState → Type 0 = λ u. IsCall {T = Unit {0}} u c.reserve_for-2.result w in
     let e = c.reserve_for-2.ensures in
-    subst P c.self.view_is (memory-call {u = v} {w = w} c.reserve_for-2.result e.refusal e.failures e.sound e.size refl refl e.image)
+    subst P c.self.view_is (memory-call {u = v} {w = w} c.reserve_for-2.result e.refusal e.failures e.sound e.committed e.size refl refl e.image)

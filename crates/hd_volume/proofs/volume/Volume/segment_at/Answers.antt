@@ -23,6 +23,7 @@ returns g c =
     record {
       sound = c.in_ok-at.ensures.sound;
       failures = c.in_ok-at.ensures.counts;
+      committed = c.reach.ensures.committed;
       size = c.reach.ensures.size;
       room = c.reach.ensures.room;
       image = c.in_ok-at.ensures.image;

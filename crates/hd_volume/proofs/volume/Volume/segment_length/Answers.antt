@@ -50,6 +50,7 @@ returns-clause-read g c =
     record {
       sound = c.in_ok-fetch.ensures.sound;
       failures = c.in_ok-fetch.ensures.counts;
+      committed = c.fetch.ensures.committed;
       size = c.fetch.ensures.size;
       room = c.fetch.ensures.room;
       image = c.in_ok-fetch.ensures.image;

@@ -1,0 +1,29 @@
+use Rattle.std.proofs.Common.{IsTrue, sym, subst, ◌∙◌}
+use Rattle.hd_links.specs.Links.{Links}
+use Rattle.hd_image.proofs.OneImage.{links-same}
+use Rattle.hd_session.specs.Above.{AreKeysIn}
+use Rattle.hd_session.proofs.Ready.{same_state}
+use Rattle.hd_session.proofs.session.Session.commit.Goals as goal
+
+-- a commit leaves the image
+pub invariant_of-self : goal.invariant_of-self
+invariant_of-self g c =
+    let kept = c.self.invariant.0 in
+    let done = c.in-Ok.ensures in
+    let d = c.self.inside.dbd.now in (
+      record {
+        made_for = kept.made_for;
+        program = kept.program;
+        size = done.size ∙ kept.size;
+        sizes = done.sizes ∙ kept.sizes;
+        plain = done.spacing ∙ kept.plain;
+        one_each = kept.one_each;
+        stands = λ whole now.
+            let sound : IsTrue c.self.inside.volume.is_sound = rw (← done.sound) now in
+            same_state d c.self.inside.psb.now.pcbs c.self.inside.volume c.commit.new.self (done.committed sound).0 done.size done.sizes
+            c.self.inside.positions.items (kept.stands whole sound);
+      },
+      λ now.
+          let sound : IsTrue c.self.inside.volume.is_sound = rw (← done.sound) now in
+          subst (λ (m : Links). AreKeysIn d.types m c.self.inside.above) (sym (links-same d.types c.self.inside.volume c.commit.new.self (done.committed sound).0 done.size done.sizes)) (c.self.invariant.1 sound),
+    )
