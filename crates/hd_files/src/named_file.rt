@@ -1,4 +1,5 @@
 ghost use Rattle.std.specs.Prelude.{◌≡◌, ◌<◌, ◌^◌, [], false, IfOk};
+ghost use Rattle.hd_stores.specs.Stores.{uncommitted};
 
 use crate::fault::{FileFault, of_file};
 use crate::files::{Identity, OpenVolume, another, file_blocks, sync};
@@ -93,6 +94,8 @@ impl<'a, R: Files<File = File>, L: Ledger> BlockStore for NamedFile<'a, R, L> {
     ghost failures = { λ n. n.failures };
 
     ghost room = { λ _. 2 ^ 32 };
+
+    ghost committed = { λ _. uncommitted };
 
     fn block_size(&self) -> usize {
         self.blocks.block_size()
