@@ -1,4 +1,5 @@
 //! A store in memory, of which no contract says anything, and which may find no memory to grow.
+ghost use Rattle.hd_stores.specs.Stores.{uncommitted};
 ghost use Rattle.std.specs.Prelude.{[], false};
 
 use hd_dbd::Refused;
@@ -27,6 +28,8 @@ impl BlockStore for Sparing {
     ghost failures = { λ _. 0 };
 
     ghost room = { λ s. s.room };
+
+    ghost committed = { λ _. uncommitted };
 
     fn block_size(&self) -> usize {
         SIZE

@@ -1,5 +1,6 @@
 //! A store in memory that notes what is asked of it, and may find no memory to grow.
 
+ghost use Rattle.hd_stores.specs.Stores.{uncommitted};
 ghost use Rattle.std.specs.Prelude.{◌≡◌, [], false};
 
 use hd_dbd::Refused;
@@ -54,6 +55,8 @@ impl BlockStore for Sparing {
     ghost failures = { λ _. 0 };
 
     ghost room = { λ s. s.room };
+
+    ghost committed = { λ _. uncommitted };
 
     fn block_size(&self) -> usize {
         SIZE

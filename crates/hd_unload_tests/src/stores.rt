@@ -1,4 +1,5 @@
 //! A store that turns into another, and a writer that fails.
+ghost use Rattle.hd_stores.specs.Stores.{uncommitted};
 ghost use Rattle.std.specs.Prelude.{◌≡◌, ◌^◌, [], false};
 
 use hd_dbd::Refused;
@@ -23,6 +24,8 @@ impl BlockStore for Turning {
     ghost failures = { λ _. 0 };
 
     ghost room = { λ _. 2 ^ 32 };
+
+    ghost committed = { λ _. uncommitted };
 
     fn block_size(&self) -> usize {
         128

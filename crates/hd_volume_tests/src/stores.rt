@@ -1,4 +1,5 @@
 //! Stores of blocks of four bytes, and steps that they take.
+ghost use Rattle.hd_stores.specs.Stores.{uncommitted};
 ghost use Rattle.std.specs.Prelude.{◌≡◌, ◌≤◌, IsTrue, IfOk, true};
 ghost use Rattle.hd_bytes.specs.Blocks.{HasBlock};
 
@@ -25,6 +26,8 @@ impl BlockStore for Watched {
     ghost failures = { λ _. 0 };
 
     ghost room = { λ _. 0 };
+
+    ghost committed = { λ _. uncommitted };
 
     fn block_size(&self) -> usize {
         self.inner.block_size()
