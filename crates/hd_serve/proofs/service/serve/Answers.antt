@@ -16,7 +16,7 @@ returns-in-Err-open-clause-fault g c = λ sound.
     let loaded = c.in-Ok-load.ensures.image sound in
     let store = c.in-Ok-load.ensures.store in
     let whole : IsTrue v.is_sound = rw store.0 sound in (
-      fault_of_bytes d c.args.psb.now.pcbs (g.S.BlockStore.contents c.args.store) v loaded.0 (store.2 ∙ c.requires.size) store.3 c.in-Err-open.fault (c.in-Err-open.ensures.fault whole),
+      fault_of_bytes d c.args.psb.now.pcbs (g.S.BlockStore.contents c.args.store) v loaded.0 (store.3 ∙ c.requires.size) store.4 c.in-Err-open.fault (c.in-Err-open.ensures.fault whole),
       λ other. c.into_store.ensures.contents ∙ left_by_opening v c.in-Err-open.volume c.in-Err-open.fault c.in-Err-open.ensures.read whole (loaded.1 ∙ sym loaded.0) other ∙ loaded.0,
     )
 
@@ -40,8 +40,8 @@ returns-in-Ok-serve_and_close-clause-served g c =
     let then : IsTrue s.volume.is_sound = rw read.call.sound whole in
     record {
       image = loaded.0;
-      size = store.2 ∙ c.requires.size;
-      sizes = store.3;
+      size = store.3 ∙ c.requires.size;
+      sizes = store.4;
       start = c.in-Ok-open.ensures.start;
       sound = then;
       now = read.image then ∙ loaded.0;
@@ -72,8 +72,8 @@ returns-clause-fault g c =
     let then : IsTrue s.volume.is_sound = rw read.call.sound whole in
     record {
       image = loaded.0;
-      size = store.2 ∙ c.requires.size;
-      sizes = store.3;
+      size = store.3 ∙ c.requires.size;
+      sizes = store.4;
       start = c.in-Ok-open.ensures.start;
       sound = then;
       now = read.image then ∙ loaded.0;

@@ -14,7 +14,7 @@ pub returns-in-Ok-create-clause-given : goal.returns-in-Ok-create-clause-given
 returns-in-Ok-create-clause-given g c =
     let o = c.in-Ok-create.ensures in
     IfErr-weaker c.fill.result _ _
-    (λ e h. given-up c.args.dbd.now c.args.largest c.in-Ok-create.volume c.args.store _ _ _ _ e o.store.0 o.store.1 (o.store.2, o.store.3) c.requires.size o.created h) c.fill.ensures.given
+    (λ e h. given-up c.args.dbd.now c.args.largest c.in-Ok-create.volume c.args.store _ _ _ _ e o.store.0 o.store.1 (o.store.3, o.store.4) c.requires.size o.created h) c.fill.ensures.given
 
 pub returns-in-Ok-create-clause-records : goal.returns-in-Ok-create-clause-records
 returns-in-Ok-create-clause-records g c =
