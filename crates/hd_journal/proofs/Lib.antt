@@ -1,0 +1,11 @@
+pub mod Bytes
+pub mod Moments
+pub mod Opens
+pub mod Steps
+pub mod Heads
+pub mod Publishes
+pub mod Puts
+pub mod FrameLemmas
+pub mod ReadLemmas
+pub mod FindLemmas
+pub mod JournalLemmas

@@ -1,0 +1,7 @@
+pub mod Disk
+pub mod Log
+pub mod States
+pub mod Framed
+pub mod Finds
+pub mod Journals
+pub mod Shows

@@ -1,0 +1,124 @@
+-- A log, byte by byte, and the image that a log and a volume stand for.
+--   0         the gate: 1 if the log counts
+--   1 to 8    the mark HDVOLLOG
+--   9, 10     the version, 1
+--   11 to 14  the bytes of a block
+--   15 to 18  how many frames there are
+--   19 to 26  how many bytes of the volume count
+--   27 to 34  how many bytes the image has
+--   35 to 42  the device of the volume's file
+--   43 to 50  the file's number there
+--   51 on     the frames: the number of a block, of four bytes, and its bytes
+use Rattle.std.specs.Prelude.{◌≡◌, ◌≢◌, ℕ, zero, suc, ◌+◌, ◌*◌, ◌/◌, ◌%◌, ◌<◌, ◌≤◌, ◌==◌, nat_lt, nat_le, Bool, true, ◌&&◌, if◌then◌else◌, List, map, length, slice_index}
+use Rattle.std.specs.List.{range_with_len}
+use Rattle.hd_bytes.specs.Numbers.{number_at}
+use Rattle.hd_journal.specs.declared.head.Head.{Head}
+
+-- the head of a log
+abbrev pub head_of : List ℕ → Head
+head_of log = record {
+  size = number_at 4 log 11;
+  count = number_at 4 log 15;
+  base = number_at 8 log 19;
+  len = number_at 8 log 27;
+  device = number_at 8 log 35;
+  number = number_at 8 log 43;
+}
+
+-- HDVOLLOG, as a number of eight bytes
+abbrev pub mark : ℕ
+mark = 5207381967729610567
+
+-- the log has the mark
+abbrev pub has_mark : List ℕ → Bool
+has_mark log = number_at 8 log 1 == mark
+
+-- the log is one of this version
+abbrev pub is_marked : List ℕ → Bool
+is_marked log = has_mark log && number_at 2 log 9 == 1
+
+-- Bytes that stand in a log from byte 1 on have the mark, the version and the numbers of a head.
+pub record IsHeadAt (bytes : List ℕ) (head : Head) : Type 0 where
+  pub mark_is : number_at 8 bytes 0 ≡ mark
+  pub version_is : number_at 2 bytes 8 ≡ 1
+  pub size_is : number_at 4 bytes 10 ≡ head.size
+  pub count_is : number_at 4 bytes 14 ≡ head.count
+  pub base_is : number_at 8 bytes 18 ≡ head.base
+  pub len_is : number_at 8 bytes 26 ≡ head.len
+  pub device_is : number_at 8 bytes 34 ≡ head.device
+  pub number_is : number_at 8 bytes 42 ≡ head.number
+
+-- where frame i begins
+abbrev pub frame_at : ℕ → ℕ → ℕ
+frame_at size i = 51 + i * (size + 4)
+
+-- the block whose bytes frame i has
+abbrev pub block_no : ℕ → List ℕ → ℕ → ℕ
+block_no size log i = number_at 4 log (frame_at size i)
+
+-- byte k of an image that has this one without the log, once the first n frames are put in, one after the other
+abbrev pub byte_from : ℕ → List ℕ → ℕ → ℕ → ℕ → ℕ
+byte_from size log zero k byte = byte
+byte_from size log (suc i) k byte = if block_no size log i == k / size then slice_index log (frame_at size i + 4 + k % size) else byte_from size log i k byte
+
+-- byte k without the log: the volume's where it counts, and 0 behind that
+abbrev pub base_byte : ℕ → List ℕ → ℕ → ℕ
+base_byte base volume k = if nat_lt k base then slice_index volume k else 0
+
+-- byte k of the image that the frames of a log and a volume make
+abbrev pub image_byte : Head → List ℕ → List ℕ → ℕ → ℕ
+image_byte head log volume k = byte_from head.size log head.count k (base_byte head.base volume k)
+
+-- the image that the frames of a log and a volume make, by a head
+unfoldable pub image : Head → List ℕ → List ℕ → List ℕ
+image head log volume = map (image_byte head log volume) (range_with_len 0 head.len)
+
+-- the sizes that a head tells fit a log and a volume of these lengths
+abbrev pub fits : Head → ℕ → ℕ → Bool
+fits head log_len volume_len =
+    nat_lt 0 head.size && (nat_le head.size 32768 && (nat_le (frame_at head.size head.count) log_len && (nat_le head.base volume_len && nat_le head.base head.len)))
+
+-- the log counts
+abbrev pub is_open : List ℕ → List ℕ → Bool
+is_open log volume = (slice_index log 0 == 1) && (is_marked log && fits (head_of log) (length log) (length volume))
+
+-- what a log and a volume stand for, whatever a crash made of them
+unfoldable pub recovered : List ℕ → List ℕ → List ℕ
+recovered log volume = if is_open log volume then image (head_of log) log volume else volume
+
+-- a log of another version may count
+pub record IsForeign (log : List ℕ) : Type 0 where
+  pub long : 11 ≤ length log
+  pub gate : slice_index log 0 ≡ 1
+  pub marked : has_mark log ≡ true
+  pub version : number_at 2 log 9 ≢ 1
+
+-- there is a gate, and it is shut
+pub record IsShut (log : List ℕ) : Type 0 where
+  pub some : 0 < length log
+  pub gate : slice_index log 0 ≢ 1
+
+-- the frames are there, and the volume too as far as it counts
+pub record Fits (head : Head) (log volume : List ℕ) : Type 0 where
+  pub some : 0 < head.size
+  pub small : head.size ≤ 32768
+  pub frames : frame_at head.size head.count ≤ length log
+  pub base : head.base ≤ length volume
+  pub grows : head.base ≤ head.len
+
+-- with the frames put in, it makes the same image as the first volume
+pub record Spares (head : Head) (log first volume : List ℕ) : Type 0 where
+  pub base : head.base ≤ length volume
+  pub each : (k : ℕ) → k < head.base → byte_from head.size log head.count k (slice_index volume k) ≡ byte_from head.size log head.count k (slice_index first k)
+
+-- the first i frames are put in, and zeros stand behind the base
+pub record HasFrames (head : Head) (log first : List ℕ) (i : ℕ) (volume : List ℕ) : Type 0 where
+  pub long : head.len ≤ length volume
+  pub each : (k : ℕ) → k < head.len → slice_index volume k ≡ byte_from head.size log i k (base_byte head.base first k)
+
+-- The head stands in a log that has the frames of another.
+pub record IsWritten (head : Head) (first log : List ℕ) : Type 0 where
+  pub marked : is_marked log ≡ true
+  pub is_head : head_of log ≡ head
+  pub frames : frame_at head.size head.count ≤ length log
+  pub each : (i : ℕ) → 51 ≤ i → i < frame_at head.size head.count → slice_index log i ≡ slice_index first i

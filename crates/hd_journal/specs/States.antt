@@ -1,0 +1,58 @@
+-- What the steps of a commit and of a recovery leave.
+use Rattle.std.specs.Prelude.{◌≡◌, ◌⊎◌, ℕ, ◌<◌, ◌≤◌, List, length, slice_index}
+use Rattle.hd_journal.specs.Disk.{State, Torn, HasLog, HasVolume, Leaves}
+use Rattle.hd_journal.specs.Log.{image, recovered, IsShut, IsWritten, Fits, Spares}
+use Rattle.hd_journal.specs.declared.head.Head.{Head}
+
+-- the log is as it was, and the volume makes the same image with it
+abbrev pub IsSpared : Head → List ℕ → List ℕ → List ℕ → List ℕ → Type 0
+IsSpared head log first l v = (l ≡ log) × Spares head log first v
+
+-- a log whose gate is being shut
+abbrev pub MayShut : List ℕ → List ℕ → Type 0
+MayShut old new = (new ≡ old) ⊎ ((IsShut old → ⊥) × Torn 0 1 old new)
+
+-- the pair stands for this image
+abbrev pub StandsFor : List ℕ → List ℕ → List ℕ → Type 0
+StandsFor image log volume = recovered log volume ≡ image
+
+-- the pair stands for the one image or for the other
+abbrev pub StandsForEither : List ℕ → List ℕ → List ℕ → List ℕ → Type 0
+StandsForEither before after log volume = (recovered log volume ≡ before) ⊎ (recovered log volume ≡ after)
+
+-- the volume is on the disk, and the gate is shut there, whatever else stands in the log
+pub record IsSettled (s : State) : Type 0 where
+  pub volume : HasVolume s
+  pub shut : (l v : List ℕ) → s.may_leave l v → IsShut l
+
+-- the volume and the log are on the disk
+pub record IsStill (s : State) : Type 0 where
+  pub volume : HasVolume s
+  pub log : HasLog s
+
+-- each outcome of a crash is spared, beside a first volume
+abbrev pub IsSparing : Head → List ℕ → State → Type 0
+IsSparing head first s = (l v : List ℕ) → s.may_leave l v → IsSpared head s.log first l v
+
+-- The log stays, and a crash at any moment leaves a volume that makes the same image as the first.
+pub record Redoes (head : Head) (first : List ℕ) (old new : State) : Type 0 where
+  pub log : new.log ≡ old.log
+  pub spares : (l v : List ℕ) → new.may_leave l v → IsSpared head old.log first l v
+  pub leaves : Leaves (IsSpared head old.log first) old new
+
+-- the volume is as it was below the base, and zeros stand from there to a place
+pub record IsFilled (head : Head) (old new : State) (at : ℕ) : Type 0 where
+  pub redoes : Redoes head old.volume old new
+  pub above : head.base ≤ at
+  pub below : at ≤ head.len
+  pub within : at ≤ length new.volume
+  pub kept : (k : ℕ) → k < head.base → slice_index new.volume k ≡ slice_index old.volume k
+  pub zeros : (k : ℕ) → head.base ≤ k → k < at → slice_index new.volume k ≡ 0
+
+-- The log is open under this head, on a still disk, and has the frames that it had before.
+pub record IsOpened (head : Head) (old new : State) : Type 0 where
+  pub gate : slice_index new.log 0 ≡ 1
+  pub written : IsWritten head old.log new.log
+  pub fits : Fits head new.log new.volume
+  pub still : IsStill new
+  pub volume : new.volume ≡ old.volume

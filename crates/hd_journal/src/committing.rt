@@ -1,0 +1,57 @@
+ghost use Rattle.std.specs.Prelude.{◌≡◌, ◌+◌, ◌<◌, ◌≤◌, ◌^◌, ℕ, IsTrue, List, length, replicate, slice_index, OnOk};
+ghost use Rattle.hd_journal.specs.Disk.{Leaves};
+ghost use Rattle.hd_journal.specs.Log.{image, Fits};
+ghost use Rattle.hd_journal.specs.States.{IsSettled, IsOpened, StandsFor, StandsForEither};
+
+use crate::disk::{Disk, Failed};
+use crate::gate::shut;
+use crate::head::{Head, OPEN, SHUT_LEN, put_head};
+use crate::redoing::redo;
+
+/// Writes the head of a log whose frames are there, and opens the gate.
+///
+/// A crash at any moment leaves the volume as it is, or the image, and after `Ok` the image.
+pub fn publish<D: Disk>(disk: &mut D, head: Head) -> Result<(), Failed>
+    requires usable { IsTrue (D.is_usable disk.old) }
+    requires settled { IsTrue D.is_honest → IsSettled (D.state disk.old) }
+    requires fits { IsTrue D.is_honest → Fits head (D.state disk.old).log (D.state disk.old).volume }
+    ensures usable { OnOk result (IsTrue (D.is_usable disk.new)) }
+    ensures opened { OnOk result (IsTrue D.is_honest → IsOpened head (D.state disk.old) (D.state disk.new)) }
+    ensures volume { IsTrue D.is_honest → (D.state disk.new).volume ≡ (D.state disk.old).volume }
+    ensures same { IsTrue D.is_honest → image head (D.state disk.new).log (D.state disk.new).volume ≡ image head (D.state disk.old).log (D.state disk.old).volume }
+    ensures leaves { IsTrue D.is_honest → Leaves (StandsForEither (D.state disk.old).volume (image head (D.state disk.old).log (D.state disk.old).volume)) (D.state disk.old) (D.state disk.new) }
+{
+    let mut bytes = [0u8; SHUT_LEN];
+    put_head(&mut bytes, head);
+    disk.write_log(1, &bytes)?;
+    disk.sync_log()?;
+    disk.write_log(0, &[OPEN])?;
+    disk.sync_log()
+}
+
+/// Copies the frames of an open log to the volume, and shuts the gate.
+///
+/// A crash at any moment leaves the image.
+pub fn finish<D: Disk>(
+    disk: &mut D,
+    head: Head,
+    zeros: &[u8],
+    frame: &mut [u8],
+) -> Result<(), Failed>
+    requires usable { IsTrue (D.is_usable disk.old) }
+    requires some { 0 < head.size }
+    requires small { head.size ≤ 32768 }
+    requires frame { length frame.old ≡ head.size + 4 }
+    requires zeros { zeros.now ≡ replicate head.size 0 }
+    requires open { IsTrue D.is_honest → IsOpened head (D.state disk.old) (D.state disk.old) }
+    ensures usable { OnOk result (IsTrue (D.is_usable disk.new)) }
+    ensures frame { length frame.new ≡ length frame.old }
+    ensures done { OnOk result (IsTrue D.is_honest → (D.state disk.new).volume ≡ image head (D.state disk.old).log (D.state disk.old).volume) }
+    ensures settled { OnOk result (IsTrue D.is_honest → IsSettled (D.state disk.new)) }
+    ensures longer { IsTrue D.is_honest → length (D.state disk.old).log ≤ length (D.state disk.new).log }
+    ensures same { IsTrue D.is_honest → image head (D.state disk.new).log (D.state disk.new).volume ≡ image head (D.state disk.old).log (D.state disk.old).volume }
+    ensures leaves { IsTrue D.is_honest → Leaves (StandsFor (image head (D.state disk.old).log (D.state disk.old).volume)) (D.state disk.old) (D.state disk.new) }
+{
+    redo(disk, head, zeros, frame)?;
+    shut(disk)
+}

@@ -1,0 +1,373 @@
+ghost use Rattle.std.specs.Prelude.{◌≡◌, ◌≢◌, ◌⊎◌, ◌+◌, ◌-◌, ◌*◌, ◌<◌, ◌≤◌, ◌^◌, ℕ, true, false, IsTrue, List, length, replicate, slice_index, slice_set, IfErr, OnOk, OnErr};
+
+use crate::committing::{finish, publish};
+use crate::disk::{Disk, Failed};
+use crate::frames::{append_frame, clear, overwrite_frame};
+use crate::head::Head;
+use crate::reading::read_bytes;
+use hd_dbd::Refused;
+
+/// The most blocks that a store has.
+const MOST_BLOCKS: u64 = 1 << 32;
+
+/// How far the bytes of the last commit are.
+#[derive(Clone, Copy, Debug, PartialEq, Eq)]
+pub enum Stage {
+    /// The gate is shut: the volume has them, and the frames what was written since.
+    Collecting,
+    /// The gate is open: the frames are theirs, and the volume waits for them.
+    Published,
+    /// A commit failed: the volume has them, or the frames have.
+    Doubtful,
+}
+
+/// Blocks over a volume and its log.
+#[derive(Drop)]
+pub struct Journal<D: Disk> {
+    pub disk: D,
+    /// The head that a commit would write, or has written.
+    pub head: Head,
+    /// Of each block one more than its frame, or 0.
+    pub places: Vec<u32>,
+    /// So many blocks more find memory.
+    pub reserved: usize,
+    /// A block of zeros.
+    pub zeros: Vec<u8>,
+    /// Room for a frame.
+    pub frame: Vec<u8>,
+    /// The moment of the last commit.
+    pub since: u64,
+    pub stage: Stage,
+    /// A call of the disk failed.
+    pub failed: bool,
+}
+
+/// The same head with no frame, over a volume of so many bytes.
+pub fn fresh(head: Head, len: u64) -> Head
+    ensures { result ≡ record head { count = 0; base = len; len = len } }
+{
+    Head {
+        size: head.size,
+        count: 0,
+        base: len,
+        len,
+        device: head.device,
+        number: head.number,
+    }
+}
+
+impl<D: Disk> Journal<D> {
+    ghost use Rattle.hd_bytes.specs.Blocks.{with_block, grown, HasBlock};
+    ghost use Rattle.hd_bytes.specs.Ranges.{bytes_at};
+    ghost use Rattle.hd_journal.specs.Disk.{Leaves};
+    ghost use Rattle.hd_journal.specs.States.{StandsForEither, IsSettled};
+    ghost use Rattle.hd_journal.specs.Journals.{IsJournal, contents_of, committed_of};
+
+    /// All bytes.
+    pub fn length(&self) -> u64
+        ensures { result ≡ length (contents_of D.state self.now) }
+    {
+        self.head.len
+    }
+
+    /// Reads the bytes from block `n` on that fill `buf`.
+    pub fn read(&mut self, n: u32, buf: &mut [u8]) -> Result<(), Failed>
+        requires kept { IsJournal D.is_honest D.is_usable D.state self.old }
+        ensures kept { IsJournal D.is_honest D.is_usable D.state self.new }
+        ensures len { length buf.new ≡ length buf.old }
+        ensures ok { OnOk result ((self.new.failed ≡ false) × (self.old.failed ≡ false)) }
+        ensures err { OnErr result (self.new.failed ≡ true) }
+        ensures value { OnOk result (IsTrue D.is_honest → buf.new ≡ bytes_at (contents_of D.state self.old) (n * self.old.head.size) (length buf.old)) }
+        ensures contents { OnOk result (IsTrue D.is_honest → contents_of D.state self.new ≡ contents_of D.state self.old) }
+        ensures committed { IsTrue D.is_honest → committed_of D.state self.new ≡ committed_of D.state self.old }
+        ensures since { self.new.since ≡ self.old.since }
+        ensures size { self.new.head.size ≡ self.old.head.size }
+        ensures reserved { self.new.reserved ≡ self.old.reserved }
+    {
+        let at = u64::from(n) * u64::from(self.head.size);
+        if self.failed || at > self.head.len || buf.len() as u64 > self.head.len - at {
+            self.failed = true;
+            return Err(Failed);
+        }
+        let Ok(()) = read_bytes(&self.disk, self.head, &self.places, n, buf) else {
+            self.failed = true;
+            return Err(Failed);
+        };
+        Ok(())
+    }
+
+    /// Writes block `n`, to the log alone.
+    pub fn write(&mut self, n: u32, bytes: &[u8]) -> Result<(), Failed>
+        requires kept { IsJournal D.is_honest D.is_usable D.state self.old }
+        requires whole { length bytes.now ≡ self.old.head.size }
+        ensures kept { IsJournal D.is_honest D.is_usable D.state self.new }
+        ensures ok { OnOk result ((self.new.failed ≡ false) × (self.old.failed ≡ false)) }
+        ensures err { OnErr result (self.new.failed ≡ true) }
+        ensures value { OnOk result (IsTrue D.is_honest → contents_of D.state self.new ≡ with_block self.old.head.size (contents_of D.state self.old) n bytes.now) }
+        ensures len { OnOk result (IsTrue D.is_honest → length (contents_of D.state self.new) ≡ length (contents_of D.state self.old)) }
+        ensures committed { IsTrue D.is_honest → committed_of D.state self.new ≡ committed_of D.state self.old }
+        ensures since { self.new.since ≡ self.old.since }
+        ensures size { self.new.head.size ≡ self.old.head.size }
+        ensures reserved { self.new.reserved ≡ self.old.reserved }
+    {
+        self.settle()?;
+        if n as usize >= self.places.len() || self.head.count == u32::MAX {
+            self.failed = true;
+            return Err(Failed);
+        }
+        let place = self.places[n as usize];
+        if place == 0 {
+            self.append(n, bytes)
+        } else {
+            self.replace(n, place, bytes)
+        }
+    }
+
+    /// Writes a frame behind the others.
+    fn append(&mut self, n: u32, bytes: &[u8]) -> Result<(), Failed>
+        requires kept { IsJournal D.is_honest D.is_usable D.state self.old }
+        requires well { self.old.failed ≡ false }
+        requires collecting { self.old.stage ≡ Stage.Collecting }
+        requires whole { length bytes.now ≡ self.old.head.size }
+        requires there { n < length self.old.places.items }
+        requires few { self.old.head.count < 4294967295 }
+        requires none { slice_index self.old.places.items n ≡ 0 }
+        ensures kept { IsJournal D.is_honest D.is_usable D.state self.new }
+        ensures ok { OnOk result ((self.new.failed ≡ false) × (self.old.failed ≡ false)) }
+        ensures err { OnErr result (self.new.failed ≡ true) }
+        ensures value { OnOk result (IsTrue D.is_honest → contents_of D.state self.new ≡ with_block self.old.head.size (contents_of D.state self.old) n bytes.now) }
+        ensures len { OnOk result (IsTrue D.is_honest → length (contents_of D.state self.new) ≡ length (contents_of D.state self.old)) }
+        ensures committed { IsTrue D.is_honest → committed_of D.state self.new ≡ committed_of D.state self.old }
+        ensures since { self.new.since ≡ self.old.since }
+        ensures size { self.new.head.size ≡ self.old.head.size }
+        ensures reserved { self.new.reserved ≡ self.old.reserved }
+    {
+        let Ok(()) = append_frame(&mut self.disk, self.head, n, bytes, &mut self.frame) else {
+            self.failed = true;
+            return Err(Failed);
+        };
+        let place = self.head.count + 1;
+        self.places[n as usize] = place;
+        self.head.count = place;
+        Ok(())
+    }
+
+    /// Writes over the frame of a block.
+    fn replace(&mut self, n: u32, place: u32, bytes: &[u8]) -> Result<(), Failed>
+        requires kept { IsJournal D.is_honest D.is_usable D.state self.old }
+        requires well { self.old.failed ≡ false }
+        requires collecting { self.old.stage ≡ Stage.Collecting }
+        requires whole { length bytes.now ≡ self.old.head.size }
+        requires there { n < length self.old.places.items }
+        requires is { slice_index self.old.places.items n ≡ place }
+        requires some { place ≢ 0 }
+        ensures kept { IsJournal D.is_honest D.is_usable D.state self.new }
+        ensures ok { OnOk result ((self.new.failed ≡ false) × (self.old.failed ≡ false)) }
+        ensures err { OnErr result (self.new.failed ≡ true) }
+        ensures value { OnOk result (IsTrue D.is_honest → contents_of D.state self.new ≡ with_block self.old.head.size (contents_of D.state self.old) n bytes.now) }
+        ensures len { OnOk result (IsTrue D.is_honest → length (contents_of D.state self.new) ≡ length (contents_of D.state self.old)) }
+        ensures committed { IsTrue D.is_honest → committed_of D.state self.new ≡ committed_of D.state self.old }
+        ensures since { self.new.since ≡ self.old.since }
+        ensures size { self.new.head.size ≡ self.old.head.size }
+        ensures reserved { self.new.reserved ≡ self.old.reserved }
+    {
+        let Ok(()) = overwrite_frame(&mut self.disk, self.head, place, bytes) else {
+            self.failed = true;
+            return Err(Failed);
+        };
+        Ok(())
+    }
+
+    /// Finds memory for so many blocks more.
+    pub fn reserve(&mut self, blocks: u32) -> Result<(), Refused>
+        requires kept { IsJournal D.is_honest D.is_usable D.state self.old }
+        ensures kept { IsJournal D.is_honest D.is_usable D.state self.new }
+        ensures room { OnOk result (blocks ≤ self.new.reserved) }
+        ensures no_less { self.old.reserved ≤ self.new.reserved }
+        ensures refusal { IfErr result (λ e. (e ≡ Refused.Memory) × (self.old.reserved < blocks) × (self.new.reserved ≡ self.old.reserved)) }
+        ensures contents { contents_of D.state self.new ≡ contents_of D.state self.old }
+        ensures committed { committed_of D.state self.new ≡ committed_of D.state self.old }
+        ensures failed { self.new.failed ≡ self.old.failed }
+        ensures size { self.new.head.size ≡ self.old.head.size }
+        ensures disk { self.new.disk ≡ self.old.disk }
+    {
+        let blocks = blocks as usize;
+        if blocks <= self.reserved {
+            return Ok(());
+        }
+        if self.places.reserve(blocks).is_err() {
+            return Err(Refused::Memory);
+        }
+        self.reserved = blocks;
+        Ok(())
+    }
+
+    /// Adds so many blocks of zeros, with no access but that of `settle`.
+    pub fn grow(&mut self, blocks: u32) -> Result<(), Refused>
+        requires kept { IsJournal D.is_honest D.is_usable D.state self.old }
+        ensures kept { IsJournal D.is_honest D.is_usable D.state self.new }
+        ensures ok { OnOk result ((self.new.failed ≡ false) × (self.old.failed ≡ false)) }
+        ensures refusal { IfErr result (λ e. (e ≡ Refused.Device) × (self.new.failed ≡ true)
+            ⊎ (e ≡ Refused.Memory) × (self.old.reserved < blocks) × (self.new.failed ≡ self.old.failed) × (self.new.reserved ≡ self.old.reserved)
+            × (IsTrue D.is_honest → contents_of D.state self.new ≡ contents_of D.state self.old)) }
+        ensures room { OnOk result (self.old.reserved - blocks ≤ self.new.reserved) }
+        ensures value { OnOk result (IsTrue D.is_honest → contents_of D.state self.new ≡ grown self.old.head.size (contents_of D.state self.old) blocks) }
+        ensures committed { IsTrue D.is_honest → committed_of D.state self.new ≡ committed_of D.state self.old }
+        ensures since { self.new.since ≡ self.old.since }
+        ensures size { self.new.head.size ≡ self.old.head.size }
+    {
+        let Ok(()) = self.settle() else {
+            return Err(Refused::Device);
+        };
+        let more = u64::from(blocks) * u64::from(self.head.size);
+        let Some(len) = self.head.len.checked_add(more) else {
+            self.failed = true;
+            return Err(Refused::Device);
+        };
+        if self.places.len() as u64 > MOST_BLOCKS - u64::from(blocks) {
+            self.failed = true;
+            return Err(Refused::Device);
+        }
+        let places = self.places.len() + blocks as usize;
+        let Ok(()) = self.places.resize(places, 0) else {
+            return Err(Refused::Memory);
+        };
+        self.reserved = self.reserved.saturating_sub(blocks as usize);
+        self.head.len = len;
+        Ok(())
+    }
+
+    /// Forgets all that was written since the last commit, with no access.
+    pub fn roll_back(&mut self)
+        requires kept { IsJournal D.is_honest D.is_usable D.state self.old }
+        ensures kept { IsJournal D.is_honest D.is_usable D.state self.new }
+        ensures failed { self.new.failed ≡ self.old.failed }
+        ensures disk { self.new.disk ≡ self.old.disk }
+        ensures value { self.old.failed ≡ false → IsTrue D.is_honest → contents_of D.state self.new ≡ (committed_of D.state self.old).image }
+        ensures committed { IsTrue D.is_honest → committed_of D.state self.new ≡ committed_of D.state self.old }
+        ensures dead { self.old.failed ≡ true → self.new ≡ self.old }
+        ensures since { self.new.since ≡ self.old.since }
+        ensures size { self.new.head.size ≡ self.old.head.size }
+        ensures reserved { self.new.reserved ≡ self.old.reserved }
+    {
+        if self.failed {
+            return;
+        }
+        match self.stage {
+            Stage::Published | Stage::Doubtful => {}
+            Stage::Collecting => {
+                let whole = (self.head.base / u64::from(self.head.size)) as usize;
+                let blocks = whole.min(self.places.len());
+                clear(&mut self.places, blocks);
+                self.head = fresh(self.head, self.head.base);
+            }
+        }
+    }
+
+    /// Copies the frames of the last commit to the volume, if they still wait in the log, and shuts the gate.
+    pub fn settle(&mut self) -> Result<(), Failed>
+        requires kept { IsJournal D.is_honest D.is_usable D.state self.old }
+        ensures kept { IsJournal D.is_honest D.is_usable D.state self.new }
+        ensures ok { OnOk result ((self.new.failed ≡ false) × (self.old.failed ≡ false)) }
+        ensures err { OnErr result (self.new.failed ≡ true) }
+        ensures collecting { OnOk result (self.new.stage ≡ Stage.Collecting) }
+        ensures contents { OnOk result (IsTrue D.is_honest → contents_of D.state self.new ≡ contents_of D.state self.old) }
+        ensures committed { IsTrue D.is_honest → committed_of D.state self.new ≡ committed_of D.state self.old }
+        ensures since { self.new.since ≡ self.old.since }
+        ensures size { self.new.head.size ≡ self.old.head.size }
+        ensures reserved { self.new.reserved ≡ self.old.reserved }
+    {
+        if self.failed {
+            return Err(Failed);
+        }
+        match self.stage {
+            Stage::Collecting | Stage::Doubtful => Ok(()),
+            Stage::Published => self.copy_back(),
+        }
+    }
+
+    /// Copies the frames of an open log to the volume, and shuts the gate.
+    fn copy_back(&mut self) -> Result<(), Failed>
+        requires kept { IsJournal D.is_honest D.is_usable D.state self.old }
+        requires well { self.old.failed ≡ false }
+        requires published { self.old.stage ≡ Stage.Published }
+        ensures kept { IsJournal D.is_honest D.is_usable D.state self.new }
+        ensures ok { OnOk result ((self.new.failed ≡ false) × (self.old.failed ≡ false)) }
+        ensures err { OnErr result (self.new.failed ≡ true) }
+        ensures collecting { OnOk result (self.new.stage ≡ Stage.Collecting) }
+        ensures contents { IsTrue D.is_honest → contents_of D.state self.new ≡ contents_of D.state self.old }
+        ensures committed { IsTrue D.is_honest → committed_of D.state self.new ≡ committed_of D.state self.old }
+        ensures since { self.new.since ≡ self.old.since }
+        ensures size { self.new.head.size ≡ self.old.head.size }
+        ensures reserved { self.new.reserved ≡ self.old.reserved }
+    {
+        let Ok(()) = finish(&mut self.disk, self.head, &self.zeros, &mut self.frame) else {
+            self.failed = true;
+            return Err(Failed);
+        };
+        let blocks = self.places.len();
+        clear(&mut self.places, blocks);
+        self.head = fresh(self.head, self.head.len);
+        self.stage = Stage::Collecting;
+        Ok(())
+    }
+
+    /// Makes all that was written last. A crash at any moment leaves the image of the last commit or the contents, and after
+    /// `Ok` the contents.
+    pub fn commit(&mut self) -> Result<(), Failed>
+        requires kept { IsJournal D.is_honest D.is_usable D.state self.old }
+        ensures kept { IsJournal D.is_honest D.is_usable D.state self.new }
+        ensures ok { OnOk result ((self.new.failed ≡ false) × (self.old.failed ≡ false)) }
+        ensures err { OnErr result (self.new.failed ≡ true) }
+        ensures contents { IsTrue D.is_honest → contents_of D.state self.new ≡ contents_of D.state self.old }
+        ensures committed { OnOk result (IsTrue D.is_honest → ((committed_of D.state self.new).image ≡ contents_of D.state self.old)
+            × ((committed_of D.state self.new).tried ≡ contents_of D.state self.old)) }
+        ensures fails { OnErr result (self.old.failed ≡ false → IsTrue D.is_honest → committed_of D.state self.new ≡ record (committed_of D.state self.old) { tried = contents_of D.state self.old }) }
+        ensures since { OnErr result (self.new.since ≡ self.old.since) }
+        ensures leaves { self.old.failed ≡ false → IsTrue D.is_honest
+            → Leaves (StandsForEither (committed_of D.state self.old).image (contents_of D.state self.old)) (D.state self.old.disk) (D.state self.new.disk) }
+        ensures dead { self.old.failed ≡ true → self.new ≡ self.old }
+        ensures size { self.new.head.size ≡ self.old.head.size }
+        ensures reserved { self.new.reserved ≡ self.old.reserved }
+    {
+        if self.failed {
+            return Err(Failed);
+        }
+        match self.stage {
+            Stage::Published | Stage::Doubtful => Ok(()),
+            Stage::Collecting => {
+                if self.head.count == 0 && self.head.len == self.head.base {
+                    return Ok(());
+                }
+                self.publish_frames()
+            }
+        }
+    }
+
+    /// Writes the head behind the frames that were collected, and opens the gate.
+    fn publish_frames(&mut self) -> Result<(), Failed>
+        requires kept { IsJournal D.is_honest D.is_usable D.state self.old }
+        requires well { self.old.failed ≡ false }
+        requires collecting { self.old.stage ≡ Stage.Collecting }
+        ensures kept { IsJournal D.is_honest D.is_usable D.state self.new }
+        ensures ok { OnOk result ((self.new.failed ≡ false) × (self.old.failed ≡ false)) }
+        ensures err { OnErr result (self.new.failed ≡ true) }
+        ensures contents { IsTrue D.is_honest → contents_of D.state self.new ≡ contents_of D.state self.old }
+        ensures committed { OnOk result (IsTrue D.is_honest → ((committed_of D.state self.new).image ≡ contents_of D.state self.old)
+            × ((committed_of D.state self.new).tried ≡ contents_of D.state self.old)) }
+        ensures fails { OnErr result (IsTrue D.is_honest → committed_of D.state self.new ≡ record (committed_of D.state self.old) { tried = contents_of D.state self.old }) }
+        ensures since { OnErr result (self.new.since ≡ self.old.since) }
+        ensures leaves { IsTrue D.is_honest → Leaves (StandsForEither (committed_of D.state self.old).image (contents_of D.state self.old)) (D.state self.old.disk) (D.state self.new.disk) }
+        ensures size { self.new.head.size ≡ self.old.head.size }
+        ensures reserved { self.new.reserved ≡ self.old.reserved }
+    {
+        let Ok(()) = publish(&mut self.disk, self.head) else {
+            self.failed = true;
+            self.stage = Stage::Doubtful;
+            return Err(Failed);
+        };
+        self.stage = Stage::Published;
+        self.since = self.disk.moment();
+        Ok(())
+    }
+}

@@ -1,0 +1,21 @@
+//! Blocks over a volume and its log, so that a crash at any moment leaves the bytes of the last commit.
+#![tactic(auto)]
+
+mod committing;
+mod disk;
+mod finding;
+mod frames;
+mod gate;
+mod head;
+mod journal;
+mod journaled;
+mod opening;
+mod reading;
+mod recovery;
+mod redoing;
+
+pub use disk::{Disk, Failed};
+pub use finding::{Found, find_log, is_open};
+pub use head::MARK;
+pub use journaled::Journaled;
+pub use recovery::{Unopened, recover, steady};
