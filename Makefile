@@ -2,11 +2,11 @@
 # is the gate, with all that tests play over the proved program and that the documents and the programs of other languages show, and `make edits OF=NAME` tries more edits
 # of a crate than the gate does. `make examples` plays what the documents and examples show, and compares, and so the words of
 # FORMATS; `make program-test` plays hd over many cases of words, files and standard input; `make serve-test` plays frames of `hd serve`; `make calls-test`
-# compares worked lists and random decks with a plain list of rows; `make files-test` tries that nothing loses a file; `make definitions` lists each word of
+# compares worked lists and random decks with a plain list of rows; `make files-test` tries that nothing loses a file, and `make crash-test` that a crash leaves the last commit; `make definitions` lists each word of
 # the specs; `make bench` measures hd, and SQLite beside it; `make dli` makes hdrun, which runs programs that call DL/I, and
 # `make dli-test` tries it; `make install` puts the program and its manual pages below PREFIX, `make install-dli` what programs
 # want, and `make uninstall` takes them away.
-.PHONY: all run test program-test serve-test calls-test files-test edits examples definitions bench dli dli-test install uninstall install-dli clean
+.PHONY: all run test program-test serve-test calls-test files-test crash-test edits examples definitions bench dli dli-test install uninstall install-dli clean
 
 SHELL = /bin/bash
 
@@ -30,6 +30,10 @@ LANES = $(shell awk -v cores=$$(nproc) '/MemAvailable/ { fit = int($$2 / 4000000
 # what ends a command, or fails beneath it, loses no file: real files, kills, a small disk, calls of the system that fail
 files-test: bin/hd
 	python3 tests/files_test.py bin
+
+# a crash at any moment leaves the last commit: traces of runs that are cut, with writes lost and torn, and kills. IMAGES and KILLS say how many
+crash-test: bin/hd
+	python3 tests/crash_test.py bin --images $(or $(IMAGES),2000) --kills $(or $(KILLS),200)
 
 # what hd prints and leaves, and its statuses, for the cases of tests/cases
 program-test: bin/hd

@@ -359,6 +359,7 @@ def try_full_disk(place):
         write("grow.deck", lines)
         done = place.more("deck", "parts.dbd", "parts.psb", "disk/volume", "grow.deck")
         expect("a deck on a full disk", done.status == 3 and done.err == f"{DEVICE}  disk/volume: No space left on device\n", done[::2])
+        expect("a deck on a full disk leaves the last commit", place.passes("disk/volume") and read("disk/volume") == read("small.volume"))
     finally:
         subprocess.run(["umount", "disk"], check=True)
         os.rmdir("disk")
@@ -497,22 +498,32 @@ def ends_well(do, call, done, is_whole):
 
 
 def try_failed_calls_of_decks(place, shim):
-    """A deck of which a call of the system failed never says that it did its work, unless it did."""
+    """Each call of the system that a deck makes fails in turn, is short, or is the last. The volume is as it was or as the deck leaves it, and that where the
+    deck says that it did its work, or could not write its lines."""
     words = ["deck", "parts.dbd", "parts.psb", "failed.volume", "change.deck"]
     shutil.copy("small.volume", "failed.volume")
     whole, calls = shim.calls(words)
-    changed = read("failed.volume")
-    expect("a deck changes its volume", whole.status == 0 and changed != read("small.volume") and place.passes("failed.volume"), whole)
+    old, new = read("small.volume"), read("failed.volume")
+    expect("a deck changes its volume", whole.status == 0 and old != new and place.passes("failed.volume"), whole)
     for do in (5, 28, "short", "kill"):
         for at, call in enumerate(calls, 1):
             shutil.copy("small.volume", "failed.volume")
             done = shim.run(words, at, do)
+            recovered = place.run("recover", "parts.dbd", "failed.volume")
+            found = read("failed.volume")
             case = f"a deck with call {at} of {len(calls)}, {call[0]} {os.path.basename(call[1])}, made {do}"
-            is_done = read("failed.volume") == changed
-            expect(f"{case}, does not lie", (done == whole and is_done) if do == "short" else done.status in (3, -signal.SIGKILL), done)
-            if call[0] == "write" and call[1] == "output":
-                expect(f"{case}, has written its volume before", is_done)
+            expect(f"{case}, ends as it may", done == whole if do == "short" else done.status == -signal.SIGKILL if do == "kill" else done.status in (0, 3), done)
+            expect(f"{case}, is whole or was not", found in (old, new) and recovered.status == 0, recovered)
+            is_written = call == ("write", "output")
+            expect(f"{case}, does not lie", found == new or done.status != 0 and not is_written, (done, recovered))
+            expect(f"{case}, leaves no log behind a recovery", not os.path.exists("failed.volume-log"))
     os.remove("failed.volume")
+
+
+def steps_of(calls):
+    """The calls that write a file or wait for one, each once where it is made again at once."""
+    steps = [call for call in calls if call[0] in ("pwrite", "fsync", "unlink") or call == ("write", "output")]
+    return [step for at, step in enumerate(steps) if at == 0 or step != steps[at - 1]]
 
 
 def try_syncs(place, shim):
@@ -536,15 +547,18 @@ def try_syncs(place, shim):
             _, calls = shim.calls(to(words, "synced.out") + ["--no-sync"])
             expect(f"{name} --no-sync does not sync", "fsync" not in [call[0] for call in calls] and "rename" in [call[0] for call in calls], calls)
     volume = os.path.join(folder, "synced.volume")
-    for deck, syncs in (("change.deck", 1), ("get.deck", 0)):
+    log = volume + "-log"
+    committed = [("fsync", log), ("pwrite", log), ("fsync", log)]
+    copied = [("fsync", volume), ("pwrite", log), ("fsync", log), ("unlink", log)]
+    for deck, wanted in (
+        ("change.deck", [("fsync", volume), ("fsync", folder), ("pwrite", log), *committed, ("write", "output"), ("pwrite", volume), *copied]),
+        ("get.deck", [("fsync", volume), ("write", "output")]),
+    ):
         shutil.copy("small.volume", "synced.volume")
         words = ["deck", "parts.dbd", "parts.psb", "synced.volume", deck]
         _, calls = shim.calls(words)
-        expect(f"{deck} syncs {syncs} times", calls.count(("fsync", volume)) == syncs and [call[0] for call in calls].count("fsync") == syncs, calls)
-        if syncs:
-            at = calls.index(("fsync", volume))
-            writes = [place for place, call in enumerate(calls) if call[0] == "pwrite"]
-            expect("a deck syncs what it wrote before it says what its calls answered", max(writes) < at < calls.index(("write", "output")), calls)
+        found = steps_of(calls)
+        expect(f"{deck} commits before it says what its calls answered, and copies behind that", found == wanted, found)
         shutil.copy("small.volume", "synced.volume")
         _, calls = shim.calls(words + ["--no-sync"])
         expect(f"{deck} --no-sync does not sync", "fsync" not in [call[0] for call in calls], calls)
@@ -557,7 +571,7 @@ def try_syncs(place, shim):
     write("calls", struct.pack(">I", len(call)) + call)
     with open("calls", "rb") as file:
         done, calls = shim.calls(["serve", "parts.dbd", "parts.psb", "synced.volume"], stdin=file)
-    expect("serve syncs at its end", done.status == 0 and calls[-1] == ("fsync", volume) and place.passes("synced.volume"), calls)
+    expect("serve commits at its end", done.status == 0 and steps_of(calls)[-8:] == [*committed, ("pwrite", volume), *copied] and place.passes("synced.volume"), steps_of(calls))
     for name in ("synced.volume", "synced.out", "calls"):
         os.remove(name)
 

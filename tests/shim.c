@@ -3,6 +3,7 @@
  *     HD_SHIM_AT=N     the call, from 1; 0 for none
  *     HD_SHIM_DO=WHAT  kill: the program is killed before it; short: it reads or writes half of what it might; a number: it fails with this error
  *     HD_SHIM_LOG=FILE each call gets a line in this file: its name, and its file
+ *     HD_SHIM_TRACE=FILE each call that was done and that changes a file, or waits for one, gets a record in this file, with the bytes that it wrote
  */
 #define _GNU_SOURCE
 #include <dlfcn.h>
@@ -40,6 +41,30 @@ static void tell(const char *call, const char *file)
     int length = snprintf(line, sizeof line, "%s %s\n", call, file);
     syscall(SYS_write, to, line, length);
     syscall(SYS_close, to);
+}
+
+/* A record: a letter, then in eight bytes each the place or length, how long the name is and how many bytes there are; then the name and the bytes. */
+static void trace(char letter, const char *name, long place, const void *bytes, size_t count)
+{
+    const char *file = getenv("HD_SHIM_TRACE");
+    if (!file)
+        return;
+    int saved = errno;
+    long numbers[3] = {place, strlen(name), count};
+    long to = syscall(SYS_open, file, O_WRONLY | O_CREAT | O_APPEND, 0600);
+    syscall(SYS_write, to, &letter, 1);
+    syscall(SYS_write, to, numbers, sizeof numbers);
+    syscall(SYS_write, to, name, numbers[1]);
+    syscall(SYS_write, to, bytes, count);
+    syscall(SYS_close, to);
+    errno = saved;
+}
+
+static void trace_of(char letter, int descriptor, long place, const void *bytes, size_t count)
+{
+    char name[4096];
+    if (getenv("HD_SHIM_TRACE"))
+        trace(letter, name_of(descriptor, name), place, bytes, count);
 }
 
 /* What becomes of a call: NOTHING, SHORT, or the number of an error. */
@@ -83,7 +108,10 @@ int open(const char *name, int flags, ...)
     va_end(more);
     int becomes = turn("open", name);
     FAILS(becomes, -1)
-    return REAL(open)(name, flags, mode);
+    int opened = REAL(open)(name, flags, mode);
+    if (opened >= 0 && flags & O_EXCL)
+        trace_of('C', opened, 0, "", 0);
+    return opened;
 }
 
 ssize_t read(int descriptor, void *bytes, size_t count)
@@ -105,6 +133,8 @@ ssize_t write(int descriptor, const void *bytes, size_t count)
     char name[4096];
     int becomes = descriptor == 1 ? turn("write", "output") : turn("write", descriptor == 2 ? "errors" : name_of(descriptor, name));
     FAILS(becomes, -1)
+    if (descriptor == 1)
+        trace('O', "output", 0, bytes, part(becomes, count));
     return REAL(write)(descriptor, bytes, part(becomes, count));
 }
 
@@ -112,21 +142,30 @@ ssize_t pwrite(int descriptor, const void *bytes, size_t count, off_t place)
 {
     int becomes = turn_of("pwrite", descriptor);
     FAILS(becomes, -1)
-    return REAL(pwrite)(descriptor, bytes, part(becomes, count), place);
+    ssize_t done = REAL(pwrite)(descriptor, bytes, part(becomes, count), place);
+    if (done > 0)
+        trace_of('W', descriptor, place, bytes, done);
+    return done;
 }
 
 int ftruncate(int descriptor, off_t length)
 {
     int becomes = turn_of("ftruncate", descriptor);
     FAILS(becomes, -1)
-    return REAL(ftruncate)(descriptor, length);
+    int done = REAL(ftruncate)(descriptor, length);
+    if (done == 0)
+        trace_of('T', descriptor, length, "", 0);
+    return done;
 }
 
 int fsync(int descriptor)
 {
     int becomes = turn_of("fsync", descriptor);
     FAILS(becomes, -1)
-    return REAL(fsync)(descriptor);
+    int done = REAL(fsync)(descriptor);
+    if (done == 0)
+        trace_of('S', descriptor, 0, "", 0);
+    return done;
 }
 
 int flock(int descriptor, int how)
@@ -161,7 +200,10 @@ int unlink(const char *name)
 {
     int becomes = turn("unlink", name);
     FAILS(becomes, -1)
-    return REAL(unlink)(name);
+    int done = REAL(unlink)(name);
+    if (done == 0)
+        trace('U', name, 0, "", 0);
+    return done;
 }
 
 char *realpath(const char *name, char *path)

@@ -1,15 +1,15 @@
 -- The headline.
-use Rattle.std.proofs.Common.{◌≡◌, ℕ, List, [], ◌∷◌, refl, ap, sym, ◌∙◌, subst}
+use Rattle.std.proofs.Common.{◌≡◌, ℕ, List, [], ◌∷◌, take, inl, inr, refl, ap, sym, ◌∙◌, subst}
 use Rattle.hd_dbd.specs.Types.{View}
 use Rattle.hd_dbd.specs.Hierarchy.{Database}
 use Rattle.hd_dbd.specs.Segment.{Segment}
 use Rattle.hd_dbd.specs.Forest.{Forest, sequence}
-use Rattle.hd_dbd.specs.Logs.{Entry}
+use Rattle.hd_dbd.specs.Logs.{Entry, Log}
 use Rattle.hd_calls.specs.Steps.{State}
 use Rattle.hd_calls.specs.NoLostUpdate.{opened}
 use Rattle.hd_calls.specs.Runs.{Holds, ImagesFollow, last_state, next_state}
 use Rattle.hd_links.specs.Placed.{Placed, forest_of}
-use Rattle.hd_links.specs.Steps.{rows_of}
+use Rattle.hd_links.specs.Steps.{rows_of, addresses}
 use Rattle.hd_links.proofs.Types.{ordered}
 use Rattle.hd_links.proofs.Unique.{unique}
 use Rattle.hd_image.specs.Records.{links_of}
@@ -17,7 +17,8 @@ use Rattle.hd_image.specs.Holding.{HoldsPlaced, volume_of}
 use Rattle.hd_image.proofs.OneImage.{held-same}
 use Rattle.hd_changes.specs.VolumeImages.{images_of}
 use Rattle.hd_session.proofs.Turns.{sessions_answer}
-use Rattle.hd_commands.specs.Headline.{PassesFor, IsHeadline, ChecksTellOneForest, RunsAnswerTheirLogs, ReloadsPass}
+use Rattle.hd_commands.specs.Headline.{PassesFor, IsAnsweredRun, IsHeadline, ChecksTellOneForest, RunsAnswerTheirLogs, ReloadsPass}
+use Rattle.hd_commands.specs.Crashes.{CrashesLeaveForests}
 
 -- an image that holds a placed forest passes for its rows
 passes : (d : Database) (image : List ℕ) (placed : Forest Placed) (rows : List Segment) → HoldsPlaced d (volume_of d image) placed → rows_of placed ≡ rows → PassesFor d image rows
@@ -61,6 +62,28 @@ runs d pcbs image turns log left played =
       passes = subst (λ (bytes : List ℕ). PassesFor d bytes (last_state d.types pcbs (opened pcbs (sequence played.forest)) log.entries).rows) played.ends
           (log_passes d pcbs (opened pcbs (sequence played.forest)) log.entries log.last played.legal.follows);
     }
+
+-- a unit of which no call was made
+none_made : (d : Database) (pcbs : List View) (image : List ℕ) (rows : List Segment) → PassesFor d image rows
+    → IsAnsweredRun d pcbs image [] (record { entries = []; last = image }) image
+none_made d pcbs image rows passed =
+    let held = passed.holds in
+    let placed : Forest Placed = held.0 in
+    let are : rows_of placed ≡ rows = ap sequence held.1 ∙ passed.rows_are in
+    record {
+      rows = rows;
+      passed = passed;
+      asked = refl;
+      legal = record { begins = refl; runs = tt; follows = (addresses placed, record { placed = placed; holds = held.2; rows_are = are; places_are = refl }) };
+      lacking = tt;
+      passes = passed;
+    }
+
+pub crashes : (d : Database) → CrashesLeaveForests d
+crashes d pcbs image rows turns left passed (inl same) =
+    let none : Log (List ℕ) = record { entries = []; last = image } in
+    (0, none, subst (λ (bytes : List ℕ). IsAnsweredRun d pcbs image (take 0 turns) none bytes) (sym same) (none_made d pcbs image rows passed))
+crashes d pcbs image rows turns left passed (inr part) = (part.made, part.log, runs d pcbs image (take part.made turns) part.log left part.played)
 
 reloads : (d : Database) → ReloadsPass d
 reloads d stream largest segments blocks image is = (is.rows, is.stream_of, passes d image is.holds.0 is.rows is.holds.2 is.holds.1)

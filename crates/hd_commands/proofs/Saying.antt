@@ -3,7 +3,7 @@ use Rattle.std.proofs.Common.{◌<◌, ℕ, List, Bool, IsTrue, Err, inl, inr, r
 use Rattle.hd_dbd.specs.Types.{View}
 use Rattle.hd_dbd.specs.Hierarchy.{Database}
 use Rattle.hd_volume.specs.Volumes.{VolumeState}
-use Rattle.hd_stores.specs.Stores.{CountsFor}
+use Rattle.hd_stores.specs.Stores.{CountsFor, SoundFor}
 use Rattle.hd_volume.specs.Calls.{IsRead}
 use Rattle.hd_links.specs.Steps.{rows_of}
 use Rattle.hd_check.specs.declared.checks.CheckFault.{CheckFault}
@@ -50,12 +50,13 @@ unload-says d u v unload.Changed says read = inr (λ sound. absurd (says sound))
 -- a run's fault does
 pub play-says : {S : Type 0} (is_sound : S → Bool) (failures : S → ℕ) (contents : S → List ℕ) (d : Database) (pcbs : List View) (steps : List StepText) (old new : S) (fault : RunFault)
     → (IsTrue (is_sound old) → IsRunFaultOf d pcbs (contents old) (turns_of steps) (contents new) fault) → CountsFor (fault_refusal fault) (failures old) (failures new)
+    → SoundFor (fault_refusal fault) (is_sound old) (is_sound new)
     → PlaySays is_sound failures contents d pcbs steps old new (of_run fault)
-play-says is_sound failures contents d pcbs steps old new (run.Open (opening.Check fault)) says counts = λ sound. let told = says sound in (told.0, told.1 (λ e. cc))
-play-says is_sound failures contents d pcbs steps old new (run.Open (opening.Old version)) says counts = λ sound. let told = says sound in (told.0, told.1 (λ e. cc))
-play-says is_sound failures contents d pcbs steps old new (run.Open opening.NotEmptyForLoad) says counts = λ sound. let told = says sound in (told.0, told.1 (λ e. cc))
-play-says is_sound failures contents d pcbs steps old new (run.Open opening.Memory) says counts = λ sound. let told = says sound in told.1 (λ e. cc)
-play-says is_sound failures contents d pcbs steps old new (run.Open opening.Device) says counts = inl counts
-play-says is_sound failures contents d pcbs steps old new run.Memory says counts = says
-play-says is_sound failures contents d pcbs steps old new run.Device says counts = inl counts
-play-says is_sound failures contents d pcbs steps old new run.Write says counts = inr says
+play-says is_sound failures contents d pcbs steps old new (run.Open (opening.Check fault)) says counts stays = λ sound. let told = says sound in (told.0, told.1 (λ e. cc))
+play-says is_sound failures contents d pcbs steps old new (run.Open (opening.Old version)) says counts stays = λ sound. let told = says sound in (told.0, told.1 (λ e. cc))
+play-says is_sound failures contents d pcbs steps old new (run.Open opening.NotEmptyForLoad) says counts stays = λ sound. let told = says sound in (told.0, told.1 (λ e. cc))
+play-says is_sound failures contents d pcbs steps old new (run.Open opening.Memory) says counts stays = λ sound. let told = says sound in told.1 (λ e. cc)
+play-says is_sound failures contents d pcbs steps old new (run.Open opening.Device) says counts sound = inl (counts, sound)
+play-says is_sound failures contents d pcbs steps old new run.Memory says counts sound = says
+play-says is_sound failures contents d pcbs steps old new run.Device says counts sound = inl (counts, sound)
+play-says is_sound failures contents d pcbs steps old new run.Write says counts sound = inr says

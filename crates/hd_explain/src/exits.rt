@@ -29,7 +29,9 @@ pub const EXIT_STATUSES: &[Explanation] = &[
         summary: "a file failed, or is in use",
         text: "A file could not be opened, a read or a write failed, or an input is too long: device failed. Or\n\
                another program has the volume: volume is in use. Look at the files' names and rights, and at the\n\
-               room on the disk. Where hd deck ended so, let hd check judge the volume.",
+               room on the disk. Where hd deck or hd serve ended so, the volume is as it was before; had the\n\
+               commit begun, it may have all that was changed, and the next command says which. A log that is\n\
+               refused stands in a file of the volume's name and -log: hd recover copies it by word.",
     },
     Entry {
         word: "exit4",

@@ -1,5 +1,6 @@
 use crate::named::Named;
 use hd_dbd::Refused;
+use hd_journal::Unopened;
 use std::alloc::{AllocError, AllocFailed};
 use std::io::{self, ErrorKind};
 
@@ -12,6 +13,12 @@ pub enum FileFault {
     Beside(Named, io::Error),
     /// Another program uses it, or another file has taken its name.
     InUse(Named),
+    /// The log beside a volume has commits of another volume.
+    OtherVolume,
+    /// The log beside a volume is of a version that is not known.
+    OtherVersion,
+    /// Commits of a volume stand in its log alone, and the system refuses to write the volume.
+    Waiting(io::Error),
     /// A file for a result is also read.
     OverInput,
     /// There is no memory for its bytes, or for the blocks that are kept of it.
@@ -26,6 +33,16 @@ impl FileFault {
         match error.kind() {
             ErrorKind::OutOfMemory => FileFault::Memory,
             _ => FileFault::File(file, error),
+        }
+    }
+
+    /// The files of a volume could not be opened as such; with what the system said of the access that it refused, if that is known.
+    pub fn unopened(unopened: Unopened, said: Option<io::Error>) -> FileFault {
+        match unopened {
+            Unopened::Device => FileFault::device(Named::Volume, said),
+            Unopened::Memory => FileFault::Memory,
+            Unopened::OtherVolume => FileFault::OtherVolume,
+            Unopened::OtherVersion => FileFault::OtherVersion,
         }
     }
 

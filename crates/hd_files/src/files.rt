@@ -27,6 +27,11 @@ impl Identity {
             number: metadata.ino(),
         }
     }
+
+    /// The device that the file is on, and its number there.
+    pub fn parts(&self) -> (u64, u64) {
+        (self.device, self.number)
+    }
 }
 
 /// The greatest descriptor of a standard stream.
@@ -173,8 +178,8 @@ pub fn be_named<R: Files<File = File>>(
     }
 }
 
-/// A volume that is read and not changed, and that other programs may read meanwhile.
-pub fn open_read_volume<R: Files<File = File>>(
+/// A volume as it stands, which is read and not changed, and that other programs may read meanwhile.
+pub fn open_shared<R: Files<File = File>>(
     rt: &R,
     name: &str,
 ) -> Result<(File, Identity), FileFault> {

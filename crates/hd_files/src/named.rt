@@ -4,6 +4,8 @@ pub enum Named {
     Dbd,
     Psb,
     Volume,
+    /// The log of a volume.
+    Log,
     Deck,
     /// The unload stream that is read.
     Stream,

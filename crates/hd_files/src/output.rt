@@ -1,5 +1,6 @@
 use crate::fault::{FileFault, of_file};
 use crate::files::{Identity, another, be_named, be_regular, keep_alone, open, sync};
+use crate::log_file::{LOG_ENDING, remove_log};
 use crate::named::Named;
 use std::alloc::Global;
 use std::fs::{self, File, Metadata, OpenOptions};
@@ -44,6 +45,8 @@ struct Place<'a, R: Files<File = File>> {
     rt: &'a R,
     new: String,
     name: String,
+    /// The log of the volume that has the name, if the result is a volume.
+    log: Option<String>,
     /// The file that has the name, locked, and which it is.
     replaced: Option<(File, Identity)>,
     /// The folder of both names, where it is to be synced.
@@ -57,6 +60,7 @@ impl<R: Files<File = File>> Drop for Place<'_, R> {
             rt: _,
             new: _new,
             name: _name,
+            log: _log,
             replaced: _replaced,
             folder: _folder,
         } = self;
@@ -80,10 +84,14 @@ impl<'a, R: Files<File = File>> Place<'a, R> {
     fn take_name(self, word: Named) -> Result<Option<File>, FileFault> {
         self.be_unchanged(word)?;
         of_file(word, fs::rename(self.rt, &self.new, &self.name))?;
+        if let Some(log) = &self.log {
+            of_file(Named::Log, remove_log(self.rt, log))?;
+        }
         let Place {
             rt: _,
             new: _new,
             name: _name,
+            log: _log,
             replaced: _replaced,
             folder,
         } = self;
@@ -225,6 +233,10 @@ fn beside<'a, R: Files<File = File>>(
     inputs: &[Identity],
 ) -> Result<Output<'a, R>, FileFault> {
     let new = format!(in alloc; "{name}{ENDING}")?;
+    let log = match wanted.word {
+        Named::Volume => Some(format!(in alloc; "{name}{LOG_ENDING}")?),
+        _ => None,
+    };
     let folder = match wanted.syncs {
         true => Some(of_file(wanted.word, open_folder(rt, &name))?),
         false => None,
@@ -242,6 +254,7 @@ fn beside<'a, R: Files<File = File>>(
             rt,
             new,
             name,
+            log,
             replaced,
             folder,
         }),
@@ -309,8 +322,8 @@ fn open_left<R: Files<File = File>>(rt: &R, name: &str) -> io::Result<(File, Ide
     Ok((left, Identity::of(&metadata)))
 }
 
-/// Gives a new file the owner and the rights of the one whose place it is to take, as far as this program may.
-fn make_like(file: &File, replaced: &Metadata) {
+/// Gives a new file the owner and the rights of another, whose place it is to take or beside which it is to stand, as far as this program may.
+pub fn make_like(file: &File, replaced: &Metadata) {
     let group = Some(replaced.gid());
     if fchown(file, Some(replaced.uid()), group).is_err() {
         let _ = fchown(file, None, group);
@@ -319,7 +332,7 @@ fn make_like(file: &File, replaced: &Metadata) {
 }
 
 /// Opens the folder that has a file.
-fn open_folder<R: Files<File = File>>(rt: &R, name: &str) -> io::Result<File> {
+pub fn open_folder<R: Files<File = File>>(rt: &R, name: &str) -> io::Result<File> {
     let folder = match Path::new(name).parent() {
         Some(folder) => folder.as_str(),
         None => "",

@@ -5,7 +5,7 @@ use crate::stream_command::text_of;
 use hd_commands::Refusal;
 use hd_deck::put_shown;
 use hd_explain::explain;
-use hd_files::{ENDING as NEW_ENDING, Named};
+use hd_files::{ENDING as NEW_ENDING, LOG_ENDING, Named};
 use hd_words::Request;
 use std::alloc::Global;
 use std::io::{self, ErrorKind, Write};
@@ -39,7 +39,7 @@ pub fn advise_stop<E: Write>(
         Stop::File(_, error) if error.kind() == ErrorKind::BrokenPipe => Ok(()),
         Stop::File(file, error) => {
             let said = format!(in alloc; "{error}")?;
-            put_name(request.name_of(*file), err)?;
+            put_file(request, *file, err)?;
             writeln!(err, ": {}", without_number(&said))
         }
         Stop::Beside(file, error) => {
@@ -52,6 +52,26 @@ pub fn advise_stop<E: Write>(
             writeln!(
                 err,
                 ": another program uses it; try again when that one has ended"
+            )
+        }
+        Stop::OtherVolume => {
+            put_file(request, Named::Log, err)?;
+            writeln!(
+                err,
+                ": it was written beside another file; if the two belong together, name it to hd recover, and else remove it"
+            )
+        }
+        Stop::OtherVersion => {
+            put_file(request, Named::Log, err)?;
+            writeln!(err, ": another version of hd wrote it, which can copy it into the volume")
+        }
+        Stop::Waiting(error) => {
+            let said = format!(in alloc; "{error}")?;
+            put_file(request, Named::Volume, err)?;
+            writeln!(
+                err,
+                ": {}; who may write it copies the log by hd recover",
+                without_number(&said)
             )
         }
         Stop::OverInput | Stop::Words | Stop::NoType | Stop::Table(_, _, _) => Ok(()),
@@ -84,6 +104,18 @@ pub fn advise_refusal<E: Write>(
         Refusal::Old(_) | Refusal::NotEmpty => advise_word("exit1", err),
         Refusal::Device => advise_word("exit3", err),
         Refusal::Memory => advise_word("exit4", err),
+    }
+}
+
+/// Writes the name of one of a command's files at the beginning of a line; a log that was not named has that of the volume.
+fn put_file<E: Write>(request: &Request<'_>, file: Named, err: &mut E) -> io::Result<()> {
+    match (file, request) {
+        (Named::Log, Request::Recover { log: Some(log), .. }) => put_name(log, err),
+        (Named::Log, _) => {
+            put_name(request.name_of(Named::Volume), err)?;
+            write!(err, "{LOG_ENDING}")
+        }
+        _ => put_name(request.name_of(file), err),
     }
 }
 

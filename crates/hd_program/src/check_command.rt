@@ -4,9 +4,10 @@ ghost use Rattle.hd_dbd.specs.Facts.{stored_sizes};
 use crate::console::Console;
 use crate::dbd_source::{CACHE, read_database};
 use crate::stop::Stop;
+use crate::volume_store::open_to_read;
 use hd_commands::{Ended, check_volume};
 use hd_dbd::Dbd;
-use hd_files::{cached_blocks, open_read_volume};
+use hd_files::{cached_blocks};
 use hd_output::Progress;
 use hd_stores::{BlockStore, Counted};
 use hd_volume::Volume;
@@ -80,6 +81,6 @@ where
     E: Write,
 {
     let (dbd, _) = read_database(console.rt, console.alloc, dbd)?;
-    let (file, _) = open_read_volume(console.rt, volume)?;
+    let (file, _) = open_to_read(console, volume)?;
     judge_file(console, &dbd, file, cache.unwrap_or(CACHE))
 }

@@ -3,6 +3,7 @@ use crate::check_command::check_file;
 use crate::console::Console;
 use crate::deck_command::{play_file, play_sample};
 use crate::explain_command::explain_word;
+use crate::recover_command::recover_file;
 use crate::reload_command::reload_file;
 use crate::rows_command::list_rows;
 use crate::serve_command::serve_file;
@@ -28,7 +29,7 @@ use std::rt::Files;
 ///
 /// Without words it reads a deck from `input` and plays it over the sample database, in memory. `deck` plays one over a volume, `serve` answers
 /// the calls that come as frames from `input`, `check` judges
-/// a volume, `unload` writes its unload stream, and `reload` makes a volume of one; `show` draws a database or a volume, `rows` writes a volume's
+/// a volume, `recover` copies into one what stands in its log alone, `unload` writes its unload stream, and `reload` makes a volume of one; `show` draws a database or a volume, `rows` writes a volume's
 /// rows, and `stream` makes an unload stream of rows; `explain` says what a fault, status or refusal means. What the calls answer, and what was
 /// done, goes to `out`; why the program ended early goes to `err`, a line, and where that is a terminal or the words say so, further lines that
 /// say more. How far a long command is goes to `progress`, and is taken away before a line and at the end.
@@ -183,6 +184,12 @@ where
             syncs,
         } => serve_file(console, dbd, psb, volume, cache, syncs, input),
         Request::Check { dbd, volume, cache } => check_file(console, dbd, volume, cache),
+        Request::Recover {
+            dbd,
+            volume,
+            log,
+            cache,
+        } => recover_file(console, dbd, volume, log, cache),
         Request::Unload {
             dbd,
             volume,

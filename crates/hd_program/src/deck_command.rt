@@ -7,15 +7,13 @@ use crate::dbd_source::{blocks_for_calls, read_database};
 use crate::lines::{DEVICE_FAILED, LINE};
 use crate::sample;
 use crate::stop::Stop;
-use hd_commands::{Ended, Refusal, play_deck, status_of_calls};
+use crate::volume_store::{close_store, open_store, tell_waiting};
+use hd_commands::{Ended, Refusal, play_deck, play_unit, status_of_calls};
 use hd_dbd::{Dbd, Psb};
 use hd_deck::{Step, read_deck};
-use hd_files::{
-    Held, Identity, Named, NamedFile, OpenVolume, cached, open_volume, read_file, read_whole,
-};
+use hd_files::{Held, Identity, Named, OpenVolume, open_volume, read_file, read_whole};
 use hd_gen::read_psb;
 use hd_output::{Answers, Pieces, Progress, Silent};
-use hd_stores::Counted;
 use std::alloc::Global;
 use std::fs::File;
 use std::io::{Read, Write};
@@ -124,8 +122,8 @@ fn read_steps<R: Files<File = File>>(
     }
 }
 
-/// Plays a deck over the volume in a file, with a ledger for the accesses that fail. Every block that the deck changed is then in the file, and on the
-/// disk if that is wanted; only then the last lines of its calls go out.
+/// Plays a deck as one unit over the volume in a file and its log, with a ledger for the accesses that fail. What its calls changed is then committed, on
+/// the disk if that is wanted; only then the last lines of its calls go out.
 fn play_over<L: Ledger, R: Files<File = File>, P: Progress, O: Write, E: Write>(
     console: &mut Console<'_, R, P, O, E>,
     dbd: &Dbd,
@@ -143,22 +141,22 @@ fn play_over<L: Ledger, R: Files<File = File>, P: Progress, O: Write, E: Write>(
     requires count { length steps.now ≤ 2 ^ 30 }
 {
     let (alloc, progress) = (console.alloc, console.progress);
-    let store = NamedFile::<R, L>::over(volume, dbd, blank)?;
-    let store = Counted::new(cached(alloc, store, keeping.cache)?, "playing", progress);
+    let store = open_store::<L, R, P, O, E>(console, dbd, volume, keeping.syncs, blank)?;
     let mut lines = Held::over(lines_into(alloc, &mut *console.out, steps, progress)?);
     let mut said = Vec::with_capacity(alloc, LINE)?;
-    let (store, played) = play_deck(alloc, dbd, psb, steps, store, &mut lines, &mut said);
-    let (store, written) = store.into_inner().into_store();
-    let file = store.into_store();
-    let kept = file.keep(written, keeping.syncs);
+    let cache = keeping.cache.clamp(1, 65_536) as usize;
+    let (store, played) = play_unit(
+        alloc, dbd, psb, steps, store, cache, progress, &mut lines, &mut said,
+    );
     let released = lines.release();
     let ended = end_of(played);
-    match (ended.status, file.last_error()) {
+    let (settled, error) = close_store(store);
+    match (ended.status, error) {
         (DEVICE_FAILED, Some(error)) => return Err(Stop::File(Named::Volume, error)),
         (DEVICE_FAILED, None) => {}
         _ => {
-            kept?;
             released?;
+            tell_waiting(settled, &mut *console.err);
         }
     }
     let _ = console.err.write_all(&said);
@@ -181,7 +179,7 @@ fn play_over_file<R: Files<File = File>, P: Progress, O: Write, E: Write>(
     play_over::<Brand, R, P, O, E>(console, dbd, psb, steps, volume, keeping, Blank::new(1))
 }
 
-/// Plays the deck in a file over the volume in another, which is changed in place. The DBD, the PSB and the deck are read and judged first,
+/// Plays the deck in a file over the volume in another, as one unit. The DBD, the PSB and the deck are read and judged first,
 /// in this order, then the volume is opened; only then is it judged. Says how it ended.
 pub fn play_file<R, P, O, E>(
     console: &mut Console<'_, R, P, O, E>,

@@ -10,6 +10,7 @@ mod dbd_source;
 mod deck_command;
 mod explain_command;
 mod lines;
+mod recover_command;
 mod reload_command;
 mod rows_command;
 mod sample;
@@ -19,6 +20,7 @@ mod sights;
 mod stop;
 mod stream_command;
 mod unload_command;
+mod volume_store;
 
 pub use commands::{play, stopped};
 pub use hd_files::Named;

@@ -5,9 +5,10 @@ use crate::check_command::load_volume;
 use crate::console::Console;
 use crate::dbd_source::{CACHE, read_database};
 use crate::stop::Stop;
+use crate::volume_store::open_to_read;
 use hd_commands::{Ended, Refusal, refuse};
 use hd_dbd::Dbd;
-use hd_files::{Watched, cached_blocks, open_read_volume};
+use hd_files::{Watched, cached_blocks};
 use hd_output::{Pieces, Progress};
 use hd_rows::{Form, RowWriter, code_named};
 use hd_stores::BlockStore;
@@ -110,7 +111,7 @@ where
         },
         None => Form::Rows,
     };
-    let (file, _) = open_read_volume(rt, volume)?;
+    let (file, _) = open_to_read(console, volume)?;
     let cache = cache.unwrap_or(CACHE);
     list_file(
         alloc,

@@ -5,12 +5,14 @@ use crate::console::{Console, Keeping};
 use crate::dbd_source::{blocks_for_calls, read_database};
 use crate::deck_command::read_program;
 use crate::stop::Stop;
+use crate::volume_store::{close_store, open_store, tell_waiting};
 use hd_commands::{Ended, Refusal, refuse, status_of_calls};
 use hd_dbd::{Dbd, Psb};
 use hd_deck::RunFault;
-use hd_files::{Named, NamedFile, OpenVolume, cached, open_volume};
+use hd_files::{Named, OpenVolume, cached, open_volume};
 use hd_output::Progress;
 use hd_serve::{FrameFault, ServeFault, serve};
+use hd_stores::CommitStore;
 use std::fs::File;
 use std::io::{Read, Write};
 use std::marker::Brand;
@@ -32,7 +34,7 @@ fn end_of<E: Write>(fault: ServeFault, err: &mut E) -> Result<Ended, Stop> {
     }
 }
 
-/// Serves calls over the volume in a file, with a ledger for the accesses that fail. Every block that they changed is then in the file, and on the disk
+/// Serves calls as one unit over the volume in a file and its log, with a ledger for the accesses that fail. What they changed is then committed, on the disk
 /// if that is wanted.
 fn serve_over<L: Ledger, R: Files<File = File>, P: Progress, I: Read, O: Write, E: Write>(
     console: &mut Console<'_, R, P, O, E>,
@@ -49,25 +51,27 @@ fn serve_over<L: Ledger, R: Files<File = File>, P: Progress, I: Read, O: Write, 
     requires matches { psb.now.made_for ≡ type_names dbd.now.types }
 {
     let alloc = console.alloc;
-    let store = NamedFile::<R, L>::over(volume, dbd, blank)?;
+    let store = open_store::<L, R, P, O, E>(console, dbd, volume, keeping.syncs, blank)?;
     let store = cached(alloc, store, keeping.cache)?;
     let (store, served) = match serve(alloc, store, dbd, psb, input, &mut *console.out) {
         Ok(end) => (end.store, Ok(end.memory)),
         Err((store, fault)) => (store, Err(fault)),
     };
-    let (store, written) = store.into_store();
-    let file = store.into_store();
-    let kept = file.keep(written, keeping.syncs);
+    let (ahead, written) = store.into_store();
+    let mut store = ahead.into_store();
+    // A store of which an access failed refuses the commit.
+    let committed = match written {
+        Ok(()) => store.commit(),
+        Err(refused) => Err(refused),
+    };
+    let (settled, error) = close_store(store);
+    if committed.is_err() {
+        return Err(Stop::device(Named::Volume, error));
+    }
+    tell_waiting(settled, &mut *console.err);
     match served {
-        Err(ServeFault::Device) => Err(Stop::device(Named::Volume, file.last_error())),
-        Err(fault) => {
-            kept?;
-            end_of(fault, &mut *console.err)
-        }
-        Ok(memory) => {
-            kept?;
-            Ok(Ended::with_status(status_of_calls(memory)))
-        }
+        Err(fault) => end_of(fault, &mut *console.err),
+        Ok(memory) => Ok(Ended::with_status(status_of_calls(memory))),
     }
 }
 
@@ -85,7 +89,7 @@ fn serve_over_file<R: Files<File = File>, P: Progress, I: Read, O: Write, E: Wri
     serve_over::<Brand, R, P, I, O, E>(console, dbd, psb, volume, keeping, Blank::new(1), input)
 }
 
-/// Serves a program's calls over the volume in a file, which is changed in place: they come as frames from `input`, and each is answered by a frame on
+/// Serves a program's calls over the volume in a file, as one unit: they come as frames from `input`, and each is answered by a frame on
 /// `out`. The DBD and the PSB are read and judged first, then the volume is opened, and no other program opens it until the end of the input; only
 /// then is it judged. Says how it ended.
 pub fn serve_file<R, P, I, O, E>(

@@ -4,9 +4,10 @@ use crate::check_command::load_volume;
 use crate::console::Console;
 use crate::dbd_source::{CACHE, read_database};
 use crate::stop::Stop;
+use crate::volume_store::open_to_read;
 use hd_commands::{Ended, Refusal, check_volume};
 use hd_dbd::Dbd;
-use hd_files::{Named, Output, Wanted, cached_blocks, of_file, open_read_volume};
+use hd_files::{Named, Output, Wanted, cached_blocks, of_file};
 use hd_output::{Pieces, Progress};
 use hd_show::{Survey, draw_database, draw_svg, draw_volume, survey_volume};
 use std::alloc::Global;
@@ -110,7 +111,7 @@ where
 {
     let (rt, alloc) = (console.rt, console.alloc);
     let (dbd, source) = read_database(rt, alloc, dbd)?;
-    let (file, image) = open_read_volume(rt, volume)?;
+    let (file, image) = open_to_read(console, volume)?;
     let picture = match picture {
         Some(name) => {
             let wanted = Wanted {

@@ -6,7 +6,7 @@ use crate::dbd_source::{CACHE, read_database};
 use crate::stop::Stop;
 use hd_commands::Refusal;
 use hd_dbd::{Dbd, Name8};
-use hd_files::{Named, cached_blocks, open, open_read_volume};
+use hd_files::{Named, cached_blocks, open, open_shared};
 use hd_show::see_segment;
 use hd_unload::RecordFault;
 use hd_words::Request;
@@ -162,7 +162,7 @@ pub fn see_refused<R: Files<File = File>>(
         return None;
     }
     let (dbd, _) = read_database(rt, alloc, request.name_of(Named::Dbd)).ok()?;
-    let (file, _) = open_read_volume(rt, request.name_of(Named::Volume)).ok()?;
+    let (file, _) = open_shared(rt, request.name_of(Named::Volume)).ok()?;
     let Some(address) = address else {
         return see_volume(&file, &dbd).ok()?;
     };

@@ -40,6 +40,14 @@ pub enum Stop {
     OverInput,
     #[error("volume is in use")]
     InUse(Named),
+    /// The log beside a volume has commits of another file.
+    #[error("log of another volume")]
+    OtherVolume,
+    #[error("log of another version")]
+    OtherVersion,
+    /// The system refuses to write a volume, some commits of which stand in its log alone.
+    #[error("the last commit stands in the log alone")]
+    Waiting(io::Error),
     #[error("a word of the command line is not UTF-8")]
     Words,
     #[error("the database has no type of this name")]
@@ -104,6 +112,7 @@ impl Stop {
             Stop::Deck(_, _, _) | Stop::Rows(_, _, _) | Stop::Table(_, _, _) => 2,
             Stop::Fields => 2,
             Stop::File(_, _) | Stop::Beside(_, _) | Stop::InUse(_) | Stop::Frame(_) => 3,
+            Stop::OtherVolume | Stop::OtherVersion | Stop::Waiting(_) => 3,
             Stop::OverInput | Stop::Words | Stop::NoType => COMMAND_LINE,
             Stop::Refused(refusal) => refusal.status(),
         }
@@ -116,6 +125,9 @@ impl From<FileFault> for Stop {
             FileFault::File(file, error) => Stop::File(file, error),
             FileFault::Beside(file, error) => Stop::Beside(file, error),
             FileFault::InUse(file) => Stop::InUse(file),
+            FileFault::OtherVolume => Stop::OtherVolume,
+            FileFault::OtherVersion => Stop::OtherVersion,
+            FileFault::Waiting(error) => Stop::Waiting(error),
             FileFault::OverInput => Stop::OverInput,
             FileFault::Memory => Stop::Refused(Refusal::Memory),
             FileFault::Device => Stop::Refused(Refusal::Device),

@@ -5,9 +5,10 @@ use crate::console::Console;
 use crate::dbd_source::{CACHE, read_database};
 use crate::lines::{DEVICE_FAILED, Lines};
 use crate::stop::Stop;
+use crate::volume_store::open_to_read;
 use hd_commands::{Ended, Refusal, unload_volume};
 use hd_dbd::Dbd;
-use hd_files::{Named, Output, Wanted, Watched, cached_blocks, open_read_volume};
+use hd_files::{Named, Output, Wanted, Watched, cached_blocks};
 use hd_output::{Pieces, Progress};
 use hd_stores::Counted;
 use std::alloc::Global;
@@ -89,7 +90,7 @@ where
 {
     let (rt, alloc) = (console.rt, console.alloc);
     let (dbd, source) = read_database(rt, alloc, dbd)?;
-    let (file, image) = open_read_volume(rt, volume)?;
+    let (file, image) = open_to_read(console, volume)?;
     let wanted = Wanted {
         name: stream,
         word: Named::Out,

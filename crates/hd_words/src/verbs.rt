@@ -57,7 +57,7 @@ const PSB: Word = Word {
 /// A volume over which calls are made.
 const CHANGED_VOLUME: Word = Word {
     name: "VOLUME",
-    help: "The volume, which is changed in place",
+    help: "The volume, which is changed as one unit: what is left by an end in the midst is as it was",
     kind: Kind::Needed,
 };
 
@@ -109,6 +109,24 @@ pub const VERBS: &[Verb] = &[
         name: "check",
         about: "Says whether a volume is sound, or names its first fault",
         words: &[DBD, VOLUME, CACHE],
+    },
+    Verb {
+        name: "recover",
+        about: "Copies the commits that stand in a volume's log into the volume, and checks it",
+        words: &[
+            DBD,
+            Word {
+                name: "VOLUME",
+                help: "The volume, into which the commits are copied",
+                kind: Kind::Needed,
+            },
+            Word {
+                name: "LOG",
+                help: "The log; if it is not given, VOLUME-log. It is taken for this volume's, though it was written beside another file, as where both were copied",
+                kind: Kind::Optional,
+            },
+            CACHE,
+        ],
     },
     Verb {
         name: "unload",

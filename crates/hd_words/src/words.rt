@@ -31,6 +31,13 @@ pub enum Request<'a> {
         volume: &'a str,
         cache: Option<u32>,
     },
+    /// The commits in a volume's log, or in a file that is named for it, copied into the volume.
+    Recover {
+        dbd: &'a str,
+        volume: &'a str,
+        log: Option<&'a str>,
+        cache: Option<u32>,
+    },
     Unload {
         dbd: &'a str,
         volume: &'a str,
@@ -90,6 +97,8 @@ impl<'a> Request<'a> {
             (Request::Serve { volume, .. }, Named::Volume) => volume,
             (Request::Check { dbd, .. }, Named::Dbd) => dbd,
             (Request::Check { volume, .. }, Named::Volume) => volume,
+            (Request::Recover { dbd, .. }, Named::Dbd) => dbd,
+            (Request::Recover { volume, .. }, Named::Volume) => volume,
             (Request::Unload { dbd, .. }, Named::Dbd) => dbd,
             (Request::Unload { volume, .. }, Named::Volume) => volume,
             (Request::Unload { out, .. }, Named::Out) => out,
@@ -207,6 +216,14 @@ fn request_of<'a>(matches: &ArgMatches<'a>) -> Request<'a> {
     }
     if name == "check" {
         return Request::Check { dbd, volume, cache };
+    }
+    if name == "recover" {
+        return Request::Recover {
+            dbd,
+            volume,
+            log: given.get_str("LOG"),
+            cache,
+        };
     }
     if name == "unload" {
         return Request::Unload {

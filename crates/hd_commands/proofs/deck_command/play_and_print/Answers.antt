@@ -29,4 +29,4 @@ pub returns-after-matches-clause-refused : goal.returns-after-matches-clause-ref
 returns-after-matches-clause-refused g c =
     rw c.of_run.ensures
     (play-says g.S.BlockStore.is_sound g.S.BlockStore.failures g.S.BlockStore.contents c.args.dbd.now c.args.psb.now.pcbs c.args.steps.now c.args.store c.in-Err.store c.in-Err.fault
-    c.in-Err.ensures.fault c.in-Err.ensures.counts)
+    c.in-Err.ensures.fault c.in-Err.ensures.counts c.in-Err.ensures.stays_sound)
