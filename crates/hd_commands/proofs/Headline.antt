@@ -8,6 +8,7 @@ use Rattle.hd_dbd.specs.Logs.{Entry, Log}
 use Rattle.hd_calls.specs.Steps.{State}
 use Rattle.hd_calls.specs.NoLostUpdate.{opened}
 use Rattle.hd_calls.specs.Runs.{Holds, ImagesFollow, last_state, next_state}
+use Rattle.hd_stores.specs.Stores.{Committed}
 use Rattle.hd_links.specs.Placed.{Placed, forest_of}
 use Rattle.hd_links.specs.Steps.{rows_of, addresses}
 use Rattle.hd_links.proofs.Types.{ordered}
@@ -18,7 +19,7 @@ use Rattle.hd_image.proofs.OneImage.{held-same}
 use Rattle.hd_changes.specs.VolumeImages.{images_of}
 use Rattle.hd_session.proofs.Turns.{sessions_answer}
 use Rattle.hd_commands.specs.Headline.{PassesFor, IsAnsweredRun, IsHeadline, ChecksTellOneForest, RunsAnswerTheirLogs, ReloadsPass}
-use Rattle.hd_commands.specs.Crashes.{CrashesLeaveForests}
+use Rattle.hd_commands.specs.Crashes.{UnitsLeaveForests, FailedCommitsTryForests, IsCrashLaw}
 
 -- an image that holds a placed forest passes for its rows
 passes : (d : Database) (image : List ℕ) (placed : Forest Placed) (rows : List Segment) → HoldsPlaced d (volume_of d image) placed → rows_of placed ≡ rows → PassesFor d image rows
@@ -79,11 +80,27 @@ none_made d pcbs image rows passed =
       passes = passed;
     }
 
-pub crashes : (d : Database) → CrashesLeaveForests d
-crashes d pcbs image rows turns left passed (inl same) =
+units : (d : Database) → UnitsLeaveForests d
+units d pcbs image rows turns left passed (inl same) =
     let none : Log (List ℕ) = record { entries = []; last = image } in
     (0, none, subst (λ (bytes : List ℕ). IsAnsweredRun d pcbs image (take 0 turns) none bytes) (sym same) (none_made d pcbs image rows passed))
-crashes d pcbs image rows turns left passed (inr part) = (part.made, part.log, runs d pcbs image (take part.made turns) part.log left part.played)
+units d pcbs image rows turns left passed (inr part) = (part.made, part.log, runs d pcbs image (take part.made turns) part.log left part.played)
+
+tries : (d : Database) → FailedCommitsTryForests d
+tries d pcbs image rows turns log is_sound old new legal (inl same) = inl same
+tries d pcbs image rows turns log is_sound old new legal (inr failed) =
+    inr (ap (λ (c : Committed). c.image) failed.1,
+    subst (λ (bytes : List ℕ). PassesFor d bytes (last_state d.types pcbs (opened pcbs rows) log.entries).rows) (sym (ap (λ (c : Committed). c.tried) failed.1))
+        (log_passes d pcbs (opened pcbs rows) log.entries log.last legal.legal.follows))
+
+pub crash_law : (d : Database) → IsCrashLaw d
+crash_law d = record {
+  units = units d;
+  commits = λ pcbs image rows turns log is_sound new committed legal sound done.
+      subst (λ (bytes : List ℕ). PassesFor d bytes (last_state d.types pcbs (opened pcbs rows) log.entries).rows) (sym (done sound).1)
+      (log_passes d pcbs (opened pcbs rows) log.entries log.last legal.legal.follows);
+  failures = tries d;
+}
 
 reloads : (d : Database) → ReloadsPass d
 reloads d stream largest segments blocks image is = (is.rows, is.stream_of, passes d image is.holds.0 is.rows is.holds.2 is.holds.1)

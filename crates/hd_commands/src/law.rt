@@ -1,6 +1,5 @@
-ghost use Rattle.hd_dbd.specs.Hierarchy.{Database};
 ghost use Rattle.hd_commands.specs.Headline.{Headline};
-ghost use Rattle.hd_commands.specs.Crashes.{CrashesLeaveForests};
+ghost use Rattle.hd_commands.specs.Crashes.{CrashLaw};
 
 /// The headline: if a check passes a volume, that holds exactly one forest of the database; every interleaved list of calls by the PCBs of any
 /// program, in a session or in the run of a deck, then answers the segments, keys and statuses that hierarchic sequence over that forest defines;
@@ -12,12 +11,15 @@ pub fn law_headline()
     ensures { Headline }
 {}
 
-/// The law of crashes: where a volume's image passes, a crash at any moment of a unit of calls leaves files that stand for an image which passes too, for the
-/// rows before the unit or for those behind its calls; and from the answer of the commit on, whenever it comes, for those alone.
+/// The law of crashes: take a volume and a log that stand for an image which passes; play any interleaved list of calls, with commits among them; whatever
+/// moment the machine stops at, the files left stand for an image that passes, with the forest of the last commit that was answered, or, where a commit was
+/// under way, with that one's.
 ///
-/// Its parts begin where the contracts of the functions end. `hd_journal::Journaled::open` says that the store has the image which the volume and its log
-/// stand for. `crash` of `play_unit` says, for a disk that keeps what was synced, which two images a crash at any moment since then leaves; `left` and `lasts`
-/// say what those images are; and this law says that both pass. A crash while the files are opened leaves what they stood for (`leaves` of `open`).
-pub fn law_crashes_leave_forests()
-    ensures { (d : Database) → CrashesLeaveForests d }
+/// Its parts begin where the contracts of the functions end, over any disk that keeps what was synced. `open` of `hd_journal::Journaled` says that the store
+/// has the image for which the files stand, and that a crash while they are opened leaves it. `assure` says that a crash at any moment since the last commit
+/// leaves the image of that commit, or of one that was tried since and failed; `commit` (`leaves`), that one at any moment of a commit leaves the old or the
+/// new. No other call changes which images these are: `committed` of every call of a store, up to those of a session. `play_unit` says it of a deck that is
+/// one unit (`crash`, `left`, `lasts`), and `commit` of a session says which image its commit makes last, or tries. This law says that all these images pass.
+pub fn law_crashes_leave_commits()
+    ensures { CrashLaw }
 {}

@@ -15,7 +15,7 @@ pub use check_command::check_volume;
 pub use deck_command::{play_deck, status_of_calls};
 pub use deck_unit::play_unit;
 pub use ended::{Ended, refuse};
-pub use law::{law_crashes_leave_forests, law_headline};
+pub use law::{law_crashes_leave_commits, law_headline};
 pub use refusal::Refusal;
 pub use reload_command::reload_store;
 pub use unload_command::unload_volume;

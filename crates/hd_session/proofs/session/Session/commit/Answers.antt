@@ -1,7 +1,9 @@
 use Rattle.std.proofs.Common.{IsTrue, sym, subst, ◌∙◌}
 use Rattle.hd_links.specs.Links.{Links}
 use Rattle.hd_image.proofs.OneImage.{links-same}
+use Rattle.hd_stores.specs.Stores.{IsCommit}
 use Rattle.hd_session.specs.Above.{AreKeysIn}
+use Rattle.hd_session.specs.Opening.{SessionState}
 use Rattle.hd_session.proofs.Ready.{same_state}
 use Rattle.hd_session.proofs.session.Session.commit.Goals as goal
 
@@ -27,3 +29,9 @@ invariant_of-self g c =
           let sound : IsTrue c.self.inside.volume.is_sound = rw (← done.sound) now in
           subst (λ (m : Links). AreKeysIn d.types m c.self.inside.above) (sym (links-same d.types c.self.inside.volume c.commit.new.self (done.committed sound).0 done.size done.sizes)) (c.self.invariant.1 sound),
     )
+
+-- what it makes last is the image from before
+pub returns-in-Ok-clause-committed : goal.returns-in-Ok-clause-committed
+returns-in-Ok-clause-committed g c =
+    let P : SessionState → Type 0 = λ s. IsCommit s.volume.is_sound s.volume.image c.commit.new.self.image c.commit.new.self.committed in
+    subst P c.self.view_is c.in-Ok.ensures.committed
