@@ -1,2 +1,3 @@
 mod Saying
+mod Units
 pub mod Headline

@@ -1,5 +1,5 @@
 -- What a crash leaves of a volume while a deck is played over it as one unit.
-use Rattle.std.specs.Prelude.{◌≡◌, ◌⊎◌, ℕ, Bool, IsTrue, List, take}
+use Rattle.std.specs.Prelude.{◌≡◌, ◌⊎◌, ℕ, Bool, true, IsTrue, List, take}
 use Rattle.hd_dbd.specs.Types.{View}
 use Rattle.hd_dbd.specs.Hierarchy.{Database}
 use Rattle.hd_dbd.specs.Segment.{Segment}
@@ -21,6 +21,10 @@ LeavesEither s since before after = (log volume : List ℕ) → s.left_since sin
 -- What a unit of calls makes of an image, whole or not at all: it is as it was, or it is what the first calls left, however many.
 abbrev pub IsLeftBy : Database → List View → List ℕ → List Turn → List ℕ → Type 0
 IsLeftBy d pcbs image turns left = (left ≡ image) ⊎ IsPlayedInPart d pcbs image turns left
+
+-- A commit was tried of these contents, if that was wanted of a sound store, or what a crash leaves is as it was.
+abbrev pub MayHaveTried : Bool → Bool → List ℕ → Committed → Committed → Type 0
+MayHaveTried wanted is_sound contents old new = (new.tried ≡ old.tried) ⊎ (wanted ≡ true) × IsTrue is_sound × (new.tried ≡ contents)
 
 -- where an image passes, what a unit of calls makes of it passes too, for the rows that a legal log of the first of the calls ends with, however many
 abbrev pub UnitsLeaveForests : Database → Type 0

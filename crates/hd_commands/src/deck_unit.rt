@@ -1,15 +1,17 @@
-ghost use Rattle.std.specs.Prelude.{◌≡◌, ◌≢◌, ◌×◌, ◌^◌, ◌<◌, ◌≤◌, length, All, IsTrue, IfOk, IfErr, OnOk};
+ghost use Rattle.std.specs.Prelude.{◌≡◌, ◌≢◌, ◌^◌, ◌<◌, ◌≤◌, length, All, IsTrue, true, Some, IfOk, IfErr, OnOk};
 ghost use Rattle.hd_dbd.specs.ProgramRules.{type_names};
 ghost use Rattle.hd_deck.specs.Runs.{turns_of};
 ghost use Rattle.hd_deck.specs.StepText.{StepFits};
 ghost use Rattle.hd_commands.specs.Commands.{IsRefused};
-ghost use Rattle.hd_commands.specs.Crashes.{LeavesEither, IsLeftBy};
+ghost use Rattle.hd_dbd.specs.Refusals.{OnlyDevice};
+ghost use Rattle.hd_stores.specs.Stores.{IsCommit, CountsDevice, StaysSound};
+ghost use Rattle.hd_commands.specs.Crashes.{LeavesEither, IsLeftBy, MayHaveTried};
 ghost use Rattle.hd_commands.specs.Plays.{PlaysInPrint, UnitSays};
 
 use crate::deck_command::play_deck;
 use crate::ended::{Ended, refuse};
 use crate::refusal::Refusal;
-use hd_dbd::{Dbd, Psb};
+use hd_dbd::{Dbd, Psb, Refused};
 use hd_deck::Step;
 use hd_journal::{Disk, Journaled};
 use hd_output::Progress;
@@ -17,6 +19,40 @@ use hd_stores::{Cached, CommitStore, Counted, ReadAhead};
 use std::alloc::Global;
 use std::io::Write;
 use std::sync::ledger::Ledger;
+
+/// Whether what a play left is to last: it made all calls, or some up to a line that could not be written. Where an access failed instead, the store
+/// refuses it.
+fn is_wanted(played: &Result<u64, Ended>) -> bool
+    ensures { result ≡ true → IfErr played.now (λ e. e.refusal ≡ Some Refusal.Device) }
+{
+    match played {
+        Ok(_) => true,
+        Err(ended) => ended.refusal == Some(Refusal::Device),
+    }
+}
+
+/// Makes last what was written, if that is wanted.
+fn commit_if<D: Disk, L: Ledger>(
+    store: &mut Journaled<D, L>,
+    wanted: bool,
+) -> Result<(), Refused>
+    ensures crash { IsTrue D.is_honest → store.old.committed.tried ≡ store.old.committed.image → LeavesEither (D.state store.new.disk) store.old.committed.since store.old.committed.image store.new.committed.tried }
+    ensures tried { IsTrue D.is_honest → MayHaveTried wanted store.old.is_sound store.old.contents store.old.committed store.new.committed }
+    ensures contents { OnOk result (IsTrue store.old.is_sound → store.new.contents ≡ store.old.contents) }
+    ensures lasts { OnOk result (wanted ≡ true → IsCommit store.old.is_sound store.old.contents store.new.contents store.new.committed) }
+    ensures refusal { OnlyDevice result }
+    ensures counts { CountsDevice result store.old.failures store.new.failures }
+    ensures sound { StaysSound result store.old.is_sound store.new.is_sound }
+    ensures size { store.new.size ≡ store.old.size }
+{
+    store.assure();
+    if !wanted {
+        return Ok(());
+    }
+    let committed = store.commit();
+    store.assure();
+    committed
+}
 
 /// Plays a deck as one unit over a volume and its log, through a cache of so many blocks, and makes last what its calls made of the volume. Says what
 /// the calls answer on `out`, or on `err` why they were not all made. Where they were, says how many of them found no memory.
@@ -57,20 +93,10 @@ pub fn play_unit<D: Disk, L: Ledger, P: Progress, O: Write, E: Write>(
     let (store, played) = play_deck(alloc, dbd, psb, steps, store, out, err);
     let (ahead, written) = store.into_inner().into_store();
     let mut store = ahead.into_store();
-    store.assure();
-    match (played, written) {
-        (Ok(memory), Ok(())) => match store.commit() {
-            Ok(()) => (store, Ok(memory)),
-            Err(_) => (store, Err(refuse(Refusal::Device, err))),
-        },
-        (Ok(_), Err(_)) => (store, Err(refuse(Refusal::Device, err))),
-        (Err(ended), Ok(())) => {
-            // What was called before a line that could not be written lasts; a store of which an access failed refuses it.
-            if ended.refusal == Some(Refusal::Device) {
-                let _ = store.commit();
-            }
-            (store, Err(ended))
-        }
-        (Err(ended), Err(_)) => (store, Err(ended)),
+    let wanted = written.is_ok() && is_wanted(&played);
+    let committed = commit_if(&mut store, wanted);
+    match (played, written.is_ok() && committed.is_ok()) {
+        (Ok(_), false) => (store, Err(refuse(Refusal::Device, err))),
+        (played, _) => (store, played),
     }
 }

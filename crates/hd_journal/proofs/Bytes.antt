@@ -1,14 +1,13 @@
 -- The bytes that the frames of a log make.
-use Rattle.std.proofs.Common.{◌≡◌, ◌≢◌, inl, inr, ℕ, zero, suc, ◌+◌, ◌*◌, ◌<◌, ◌≤◌, ◌/◌, ◌%◌, List, length, get_or, slice_index, refl, sym, ap, ◌∙◌, arith}
-use Rattle.std.proofs.lemmas.Bool.{cases_eq, cases_lt, eq-eqb, ne_eqb, lt-ltb, ltb-true, false_from_ne_true}
+use Rattle.std.proofs.Common.{Bool, true, false, ◌≡◌, ◌≢◌, inl, inr, ℕ, zero, suc, ◌+◌, ◌*◌, ◌<◌, ◌≤◌, ◌/◌, ◌%◌, List, length, slice_index, refl, sym, ap, ◌∙◌, arith}
+use Rattle.std.proofs.lemmas.Bool.{true≢false, cases_eq, cases_lt, eq-eqb, ne_eqb, lt-ltb, ltb-true, false_from_ne_true}
 use Rattle.std.proofs.lemmas.Grind.{same_number_lists}
 use Rattle.std.proofs.lemmas.List.FromFn.{length-map-range_with_len, get_or-map-range_with_len}
-use Rattle.hd_bytes.specs.Ranges.{bytes_at}
 use Rattle.hd_bytes.proofs.NumberLemmas.{number-same}
-use Rattle.hd_bytes.proofs.BlockLemmas.{byte-at, place-of, elsewhere}
+use Rattle.hd_bytes.proofs.BlockLemmas.{place-of, elsewhere}
 use Rattle.hd_journal.specs.Disk.{Torn, Cut}
 use Rattle.hd_journal.specs.declared.head.Head.{Head}
-use Rattle.hd_journal.specs.Log.{frame_at, block_no, byte_from, base_byte, image_byte, image, Spares, HasFrames}
+use Rattle.hd_journal.specs.Log.{HasFirst, frame_at, block_no, byte_from, base_byte, image_byte, image, Spares, HasFrames}
 
 -- ---- one more frame
 
@@ -68,8 +67,8 @@ same-image h l m v w same =
     byte-of-image h l v k (omega arith) ∙ same k (omega arith) ∙ sym (byte-of-image h m w k (omega arith)))
 
 -- a volume that is spared makes the same image
-pub spared-image : (h : Head) (log first v : List ℕ) → Spares h log first v → image h log v ≡ image h log first
-spared-image h log first v s =
+pub spared-image : (h : Head) (z : Bool) (log first v : List ℕ) → Spares h z log first v → image h log v ≡ image h log first
+spared-image h z log first v s =
     same-image h log log v first (λ k low.
     elim (cases_lt k h.base) [
       | inl in_base ↦
@@ -79,16 +78,12 @@ spared-image h log first v s =
           ap (byte_from h.size log h.count k) (base-behind h.base v k le ∙ sym (base-behind h.base first k le))
     ])
 
--- once all frames are put in, the volume has the image's bytes
-pub framed-image : (h : Head) (log first v : List ℕ) → HasFrames h log first h.count v → (k : ℕ) → k < h.len → slice_index v k ≡ image_byte h log first k
-framed-image h log first v f k low = f.each k low
-
 -- a volume that is cut to the length of the image, and has its bytes, is it
-pub is-image : (h : Head) (log first v w : List ℕ) → HasFrames h log first h.count v → Cut h.len v w → length w ≡ h.len → w ≡ image h log first
+pub is-image : (h : Head) (log first v w : List ℕ) → HasFrames h 0 log first h.count v → Cut h.len v w → length w ≡ h.len → w ≡ image h log first
 is-image h log first v w f cut len =
     same_number_lists _ _ (len ∙ sym (length-image h log first)) (λ k low.
     let long = f.long in
-    cut.below k (omega arith) (omega arith) ∙ f.each k (omega arith) ∙ sym (byte-of-image h log first k (omega arith)))
+    cut.below k (omega arith) (omega arith) ∙ f.each k (omega arith) (omega arith) ∙ sym (byte-of-image h log first k (omega arith)))
 
 -- the image, in the place of the volume, makes itself
 pub image-again : (h : Head) (log first : List ℕ) → h.base ≤ h.len → image h log (image h log first) ≡ image h log first
@@ -117,61 +112,112 @@ image-again h log first grows =
 -- ---- the steps of a redo
 
 -- at first
-pub spares-first : (h : Head) (log first : List ℕ) → h.base ≤ length first → Spares h log first first
-spares-first h log first base = record { base = base; each = λ k low. refl }
+pub spares-first : (h : Head) (log first : List ℕ) → h.base ≤ length first → Spares h false log first first
+spares-first h log first base = record { base = base; each = λ k low. refl; first_byte = λ e. absurd (true≢false (sym e)) }
+
+-- what is spared and shut is spared
+pub spares-open : (h : Head) (z : Bool) (log first v : List ℕ) → Spares h z log first v → Spares h false log first v
+spares-open h z log first v s = record { base = s.base; each = s.each; first_byte = λ e. absurd (true≢false (sym e)) }
+
+-- a write behind the first byte leaves it
+byte-kept : (z : Bool) (v w : List ℕ) (at n : ℕ) → Torn at n v w → (z ≡ true → 0 < at) → (z ≡ true → (0 < length v) × (slice_index v 0 ≡ 0)) → z ≡ true → (0 < length w) × (slice_index w 0 ≡ 0)
+byte-kept z v w at n torn behind was e =
+    let there = (was e).0 in
+    let l = torn.no_shorter in
+    (omega arith, torn.below 0 there (behind e) ∙ (was e).1)
 
 -- a write behind the base
-pub spares-behind : (h : Head) (log first v w : List ℕ) (at n : ℕ) → Spares h log first v → h.base ≤ at → Torn at n v w → Spares h log first w
-spares-behind h log first v w at n s behind torn =
-    record { base = (let b = s.base in let l = torn.no_shorter in omega arith); each = λ k low. (let b = s.base in ap (byte_from h.size log h.count k) (torn.below k (omega arith) (omega arith)) ∙ s.each k low) }
+pub spares-behind : (h : Head) (z : Bool) (log first v w : List ℕ) (at n : ℕ) → Spares h z log first v → h.base ≤ at → (z ≡ true → 0 < at) → Torn at n v w → Spares h z log first w
+spares-behind h z log first v w at n s above behind torn = record {
+  base = (let b = s.base in let l = torn.no_shorter in omega arith);
+  each = λ k low. (let b = s.base in ap (byte_from h.size log h.count k) (torn.below k (omega arith) (omega arith)) ∙ s.each k low);
+  first_byte = byte-kept z v w at n torn behind s.first_byte;
+}
 
--- a write of a block that has a frame
-pub spares-frame : (h : Head) (log first v w : List ℕ) (i : ℕ) → 0 < h.size → i < h.count → Spares h log first v → Torn (block_no h.size log i * h.size) h.size v w → Spares h log first w
-spares-frame h log first v w i some few s torn = record {
+-- a write within a block that has a frame
+pub spares-frame : (h : Head) (z : Bool) (log first v w : List ℕ) (i at n : ℕ) → 0 < h.size → i < h.count → Spares h z log first v → block_no h.size log i * h.size ≤ at → at + n ≤ block_no h.size log i * h.size + h.size
+    → (z ≡ true → 0 < at) → Torn at n v w → Spares h z log first w
+spares-frame h z log first v w i at n some few s from to behind torn = record {
   base = (let b = s.base in let l = torn.no_shorter in omega arith);
   each = λ k low.
       let b = s.base in
-      let n : ℕ = block_no h.size log i in
-      elim (cases_eq (k / h.size) n) [
+      let m : ℕ = block_no h.size log i in
+      elim (cases_eq (k / h.size) m) [
         | inl own ↦ covered h.size log h.count k (slice_index w k) (slice_index first k) i few (sym own)
         | inr other ↦
-            let same : slice_index w k ≡ slice_index v k = elim (elsewhere h.size k n some other) [
-              | inl l ↦ torn.below k (omega arith) l
-              | inr u ↦ torn.above k (omega arith) u
+            let same : slice_index w k ≡ slice_index v k = elim (elsewhere h.size k m some other) [
+              | inl l ↦ torn.below k (omega arith) (omega arith)
+              | inr u ↦ torn.above k (omega arith) (omega arith)
             ] in
             ap (byte_from h.size log h.count k) same ∙ s.each k low
       ];
+  first_byte = byte-kept z v w at n torn behind s.first_byte;
+}
+
+-- a write of the first byte, whose block has a frame
+pub spares-byte : (h : Head) (z : Bool) (log first v w : List ℕ) (byte : ℕ) → HasFirst h.size log h.count byte → Spares h z log first v → Torn 0 1 v w → Spares h false log first w
+spares-byte h z log first v w byte has s torn = record {
+  base = (let b = s.base in let l = torn.no_shorter in omega arith);
+  each = λ k low.
+      let b = s.base in
+      elim (cases_eq k 0) [
+        | inl front ↦ ap (λ (m : ℕ). byte_from h.size log h.count m (slice_index w k)) front ∙ has.is (slice_index w k) ∙ sym (has.is (slice_index first k)) ∙ ap (λ (m : ℕ). byte_from h.size log h.count m (slice_index first k)) (sym front)
+        | inr later ↦ ap (byte_from h.size log h.count k) (torn.above k (omega arith) (omega (arith, later))) ∙ s.each k low
+      ];
+  first_byte = λ e. absurd (true≢false (sym e));
 }
 
 -- a change of the length to that of the image
-pub spares-cut : (h : Head) (log first v w : List ℕ) → h.base ≤ h.len → Spares h log first v → Cut h.len v w → Spares h log first w
-spares-cut h log first v w grows s cut = record {
+pub spares-cut : (h : Head) (z : Bool) (log first v w : List ℕ) → h.base ≤ h.len → (z ≡ true → 0 < h.len) → Spares h z log first v → Cut h.len v w → Spares h z log first w
+spares-cut h z log first v w grows some s cut = record {
   base = (let b = s.base in let l = cut.no_shorter in omega arith);
   each = λ k low. (let b = s.base in ap (byte_from h.size log h.count k) (cut.below k (omega arith) (omega arith)) ∙ s.each k low);
+  first_byte = λ e. (let there = (s.first_byte e).0 in let l = cut.no_shorter in let len = some e in (omega arith, cut.below 0 there len ∙ (s.first_byte e).1));
 }
 
 -- one frame more
-pub has-frame : (h : Head) (log first v w : List ℕ) (i : ℕ) → 0 < h.size → HasFrames h log first i v → Torn (block_no h.size log i * h.size) h.size v w
-    → bytes_at w (block_no h.size log i * h.size) h.size ≡ bytes_at log (frame_at h.size i + 4) h.size
-    → block_no h.size log i * h.size + h.size ≤ length w → frame_at h.size i + 4 + h.size ≤ length log → HasFrames h log first (suc i) w
-has-frame h log first v w i some f torn wrote fits there = record {
+pub has-frame : (h : Head) (from : ℕ) (log first v w : List ℕ) (i at n : ℕ) → 0 < h.size → HasFrames h from log first i v → block_no h.size log i * h.size ≤ at → at + n ≤ block_no h.size log i * h.size + h.size → Torn at n v w
+    → ((j : ℕ) → j < h.size → from ≤ block_no h.size log i * h.size + j → slice_index w (block_no h.size log i * h.size + j) ≡ slice_index log (frame_at h.size i + 4 + j)) → HasFrames h from log first (suc i) w
+has-frame h from log first v w i at n some f first_at last_at torn wrote = record {
   long = (let a = f.long in let b = torn.no_shorter in omega arith);
-  each = λ k low.
+  each = λ k above low.
       let long = f.long in
-      let n : ℕ = block_no h.size log i in
-      elim (cases_eq (k / h.size) n) [
+      let m : ℕ = block_no h.size log i in
+      elim (cases_eq (k / h.size) m) [
         | inl own ↦
             let j : ℕ = k % h.size in
             let in_block : j < h.size = omega arith in
-            let place : n * h.size + j ≡ k = ap (λ (m : ℕ). m * h.size + j) (sym own) ∙ place-of h.size k some in
-            ap (slice_index w) (sym place) ∙ sym (byte-at w (n * h.size) h.size j fits in_block)
-            ∙ ap (λ (xs : List ℕ). get_or xs j 0) wrote ∙ byte-at log (frame_at h.size i + 4) h.size j there in_block
-            ∙ sym (frame-own h.size log i k (base_byte h.base first k) (sym own))
+            let place : m * h.size + j ≡ k = ap (λ (m : ℕ). m * h.size + j) (sym own) ∙ place-of h.size k some in
+            ap (slice_index w) (sym place) ∙ wrote j in_block (omega (arith, place, above)) ∙ sym (frame-own h.size log i k (base_byte h.base first k) (sym own))
         | inr other ↦
-            let same : slice_index w k ≡ slice_index v k = elim (elsewhere h.size k n some other) [
-              | inl l ↦ torn.below k (omega arith) l
-              | inr u ↦ torn.above k (omega arith) u
+            let same : slice_index w k ≡ slice_index v k = elim (elsewhere h.size k m some other) [
+              | inl l ↦ torn.below k (omega arith) (omega arith)
+              | inr u ↦ torn.above k (omega arith) (omega arith)
             ] in
-            same ∙ f.each k low ∙ sym (frame-other h.size log i k (base_byte h.base first k) (λ e. other (sym e)))
+            same ∙ f.each k above low ∙ sym (frame-other h.size log i k (base_byte h.base first k) (λ e. other (sym e)))
       ];
 }
+
+-- frames that are put in from one byte on are so from a later one on
+pub has-behind : (h : Head) (from to : ℕ) (log first v : List ℕ) (i : ℕ) → from ≤ to → HasFrames h from log first i v → HasFrames h to log first i v
+has-behind h from to log first v i le f = record { long = f.long; each = λ k above low. f.each k (omega arith) low }
+
+-- a volume that is cut to the length of the image has its bytes, from a byte on
+pub image-behind : (h : Head) (from : ℕ) (log first v w : List ℕ) → HasFrames h from log first h.count v → Cut h.len v w → (k : ℕ) → from ≤ k → k < h.len → slice_index w k ≡ slice_index (image h log first) k
+image-behind h from log first v w f cut k above low = (let long = f.long in cut.below k (omega arith) low ∙ f.each k above low ∙ sym (byte-of-image h log first k low))
+
+-- and is the image once its first byte is the image's
+pub image-whole : (h : Head) (log first v w : List ℕ) (byte : ℕ) → HasFirst h.size log h.count byte → 0 < h.len → length v ≡ h.len → ((k : ℕ) → 1 ≤ k → k < h.len → slice_index v k ≡ slice_index (image h log first) k) → Torn 0 1 v w → slice_index w 0 ≡ byte → w ≡ image h log first
+image-whole h log first v w byte has some len behind torn is =
+    let up = torn.no_shorter in
+    let down = torn.no_longer in
+    let long : length w ≡ h.len = omega (arith, len) in
+    same_number_lists _ _ (long ∙ sym (length-image h log first)) (λ k low.
+    elim (cases_eq k 0) [
+      | inl front ↦ ap (slice_index w) front ∙ is ∙ sym (has.is (base_byte h.base first 0)) ∙ sym (byte-of-image h log first 0 some) ∙ ap (slice_index (image h log first)) (sym front)
+      | inr later ↦ torn.above k (omega (arith, len, long, low)) (omega (arith, later)) ∙ behind k (omega (arith, later)) (omega (arith, long, low))
+    ])
+
+-- bytes that are all the image's are the image
+pub image-all : (h : Head) (log first w : List ℕ) → length w ≡ h.len → ((k : ℕ) → 0 ≤ k → k < h.len → slice_index w k ≡ slice_index (image h log first) k) → w ≡ image h log first
+image-all h log first w len each = same_number_lists _ _ (len ∙ sym (length-image h log first)) (λ k low. each k (omega arith) (omega (arith, len, low)))

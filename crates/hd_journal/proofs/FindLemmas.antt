@@ -1,5 +1,5 @@
 -- What a log is found to be, by the bytes that were read.
-use Rattle.std.proofs.Common.{◌≡◌, ◌≢◌, ℕ, ◌<◌, ◌≤◌, true, false, ◌&&◌, ◌==◌, List, length, slice_index, refl, sym, ◌∙◌, inl, inr, arith}
+use Rattle.std.proofs.Common.{◌≡◌, ◌≢◌, ℕ, ◌≤◌, true, false, ◌&&◌, ◌==◌, List, length, slice_index, refl, sym, ◌∙◌, inl, inr}
 use Rattle.std.proofs.lemmas.Bool.{and_parts, and_from, eq-eqb, eqb-true, cases_Bool}
 use Rattle.hd_bytes.specs.Numbers.{number_at}
 use Rattle.hd_journal.specs.declared.head.Head.{Head}
@@ -7,7 +7,6 @@ use Rattle.hd_journal.specs.declared.finding.Stamp.{Stamp}
 use Rattle.hd_journal.specs.declared.finding.Stamp.TheVariants.{Absent, Foreign, Current}
 use Rattle.hd_journal.specs.Log.{mark, head_of, has_mark, is_marked, fits, is_open, IsForeign}
 use Rattle.hd_journal.specs.Finds.{Stamps}
-use Rattle.hd_journal.proofs.Opens.{fits-parts}
 
 -- a log that counts has the mark
 pub open-marked : (log volume : List ℕ) → is_open log volume ≡ true → (slice_index log 0 ≡ 1) × (number_at 8 log 1 ≡ mark)
@@ -41,14 +40,3 @@ open-fits log volume head m n is e f g = rw (eq-eqb _ _ is.1, is.2, e, f, g) ref
 -- and is not one of another
 pub not-foreign : (log volume : List ℕ) → Stamps Current log volume → IsForeign log → ⊥
 not-foreign log volume is other = other.version (eqb-true _ _ (and_parts (has_mark log) (number_at 2 log 9 == 1) is.2).1)
-
--- a short log does not count
-pub short-closed : (log volume : List ℕ) → length log < 51 → is_open log volume ≡ false
-short-closed log volume short = elim (cases_Bool (is_open log volume)) [
-  | inl e ↦ absurd (
-      let parts = and_parts (slice_index log 0 == 1) (is_marked log && fits (head_of log) (length log) (length volume)) e in
-      let more = and_parts (is_marked log) (fits (head_of log) (length log) (length volume)) parts.1 in
-      let frames = (fits-parts (head_of log) log volume more.1).frames in
-      omega (arith, frames, short))
-  | inr e ↦ e
-]

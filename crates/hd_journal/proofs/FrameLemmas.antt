@@ -397,7 +397,3 @@ safe-on a b since image tried safe leaves = record {
   past = (let p = safe.past in let q = leaves.later in omega arith);
   each = λ l v left. ⊎_elim (λ past. safe.each l v past) (λ p. p) (leaves.each since l v safe.past left);
 }
-
--- what is safe beside one image is so beside another
-pub safe-either : (a : State) (since : ℕ) (image tried : List ℕ) → IsSafe a since image image → IsSafe a since image tried
-safe-either a since image tried safe = record { past = safe.past; each = λ l v left. inl (⊎_elim (λ e. e) (λ e. e) (safe.each l v left)) }

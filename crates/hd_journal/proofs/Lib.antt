@@ -9,3 +9,6 @@ pub mod FrameLemmas
 pub mod ReadLemmas
 pub mod FindLemmas
 pub mod JournalLemmas
+pub mod Kept
+pub mod ShutLemmas
+pub mod FirstLemmas

@@ -27,18 +27,14 @@ pub not-open : (log volume : List ℕ) → is_open log volume ≡ false → reco
 unfolding recovered
 not-open log volume e = rw e refl
 
-pub is-open : (log volume : List ℕ) → is_open log volume ≡ true → recovered log volume ≡ image (head_of log) log volume
-unfolding recovered
-is-open log volume e = rw e refl
-
 pub shut : (log volume : List ℕ) → slice_index log 0 ≢ 1 → recovered log volume ≡ volume
 shut log volume gate = not-open log volume (and_left _ _ (ne_eqb _ _ gate))
 
 -- a volume that is spared by an open log
-pub spared : (log first v : List ℕ) → slice_index log 0 ≡ 1 → is_marked log ≡ true → Fits (head_of log) log first → Spares (head_of log) log first v → recovered log v ≡ recovered log first
+pub spared : (log first v : List ℕ) → slice_index log 0 ≡ 1 → is_marked log ≡ true → Fits (head_of log) log first → Spares (head_of log) false log first v → recovered log v ≡ recovered log first
 spared log first v gate marked f s =
     opened log v gate marked (record { some = f.some; small = f.small; frames = f.frames; base = s.base; grows = f.grows })
-    ∙ spared-image (head_of log) log first v s ∙ sym (opened log first gate marked f)
+    ∙ spared-image (head_of log) false log first v s ∙ sym (opened log first gate marked f)
 
 -- the image in the place of the volume
 pub done-again : (log first : List ℕ) → slice_index log 0 ≡ 1 → is_marked log ≡ true → Fits (head_of log) log first → recovered log (image (head_of log) log first) ≡ image (head_of log) log first

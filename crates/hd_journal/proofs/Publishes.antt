@@ -165,10 +165,10 @@ module _ (head : Head) (s : State) (o : IsOpened head s s) where
   pub opened-recovers : recovered s.log s.volume ≡ image head s.log s.volume
   opened-recovers = opened s.log s.volume o.gate o.written.marked head-fits ∙ ap (λ (k : Head). image k s.log s.volume) o.written.is_head
 
-  pub spared-stands : (l v : List ℕ) → IsSpared head s.log s.volume l v → StandsFor (image head s.log s.volume) l v
+  pub spared-stands : (l v : List ℕ) → IsSpared head false s.log s.volume l v → StandsFor (image head s.log s.volume) l v
   spared-stands l v h =
       ap (λ (k : List ℕ). recovered k v) h.0
-      ∙ spared s.log s.volume v o.gate o.written.marked head-fits (subst (λ (k : Head). Spares k s.log s.volume v) (sym o.written.is_head) h.1)
+      ∙ spared s.log s.volume v o.gate o.written.marked head-fits (subst (λ (k : Head). Spares k false s.log s.volume v) (sym o.written.is_head) h.1)
       ∙ opened-recovers
 
   pub shut-stands : (log volume : List ℕ) → log ≡ s.log → volume ≡ image head s.log s.volume → (l v : List ℕ) → MayShut log l × (v ≡ volume) → StandsFor (image head s.log s.volume) l v
@@ -178,8 +178,8 @@ module _ (head : Head) (s : State) (o : IsOpened head s s) where
       ap (recovered l) h.1 ∙ shutting log l volume again h.0 ∙ done
 
   -- a volume that is spared makes the same image
-  pub spared-same : (l v : List ℕ) → IsSpared head s.log s.volume l v → image head l v ≡ image head s.log s.volume
-  spared-same l v h = ap (λ (k : List ℕ). image head k v) h.0 ∙ spared-image head s.log s.volume v h.1
+  pub spared-same : (l v : List ℕ) → IsSpared head false s.log s.volume l v → image head l v ≡ image head s.log s.volume
+  spared-same l v h = ap (λ (k : List ℕ). image head k v) h.0 ∙ spared-image head false s.log s.volume v h.1
 
   -- and so does the image, whether or not the gate is shut
   pub shut-same : (log volume : List ℕ) → log ≡ s.log → volume ≡ image head s.log s.volume → (l v : List ℕ) → MayShut log l × (v ≡ volume) → image head l v ≡ image head s.log s.volume
@@ -220,6 +220,3 @@ opened-self head a e o = record {
   still = o.still;
   volume = refl;
 }
-
-pub image-self : (head : Head) (a e : State) → IsOpened head a e → image head e.log e.volume ≡ image head a.log a.volume
-image-self head a e o = ap (image head e.log) o.volume ∙ opened-image head a e o

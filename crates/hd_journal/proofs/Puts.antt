@@ -4,11 +4,10 @@ use Rattle.std.proofs.lemmas.Bool.{cases_eq, cases_lt}
 use Rattle.std.proofs.lemmas.Grind.{same_number_lists, common_steps}
 use Rattle.std.proofs.lemmas.List.{get_or-replicate}
 use Rattle.hd_bytes.specs.Ranges.{with_bytes}
-use Rattle.hd_bytes.specs.Blocks.{block_of, with_block, grown, HasBlock}
-use Rattle.hd_bytes.proofs.BlockLemmas.{byte-in-block, length-block, length-with_block, length-grown, place-of, elsewhere}
-use Rattle.hd_journal.specs.declared.head.Head.{Head}
-use Rattle.hd_journal.specs.Log.{frame_at, block_no, byte_from, image_byte, image}
-use Rattle.hd_journal.proofs.Bytes.{frame-own, frame-other, byte-of-image}
+use Rattle.hd_bytes.specs.Blocks.{with_block, grown, HasBlock}
+use Rattle.hd_bytes.proofs.BlockLemmas.{length-with_block, length-grown, place-of, elsewhere}
+use Rattle.hd_journal.specs.Log.{frame_at, block_no, byte_from}
+use Rattle.hd_journal.proofs.Bytes.{frame-own, frame-other}
 
 -- ---- which frame a byte is from
 
@@ -67,15 +66,6 @@ block-put size n old new bytes some there len same others own =
           others k (omega (arith, same)) other
           ∙ sym (at-other (n * size) k old bytes (omega (arith, len)) (elim (elsewhere size k n some other) [ inl l ↦ inl l | inr u ↦ inr (omega (arith, len, u)) ]))
     ])
-
--- a block whose bytes are known
-pub block-is : (size n : ℕ) (c bytes : List ℕ) → HasBlock size c n → length bytes ≡ size → ((j : ℕ) → j < size → slice_index bytes j ≡ slice_index c (n * size + j)) → bytes ≡ block_of size c n
-block-is size n c bytes there len own =
-    same_number_lists _ _ (len ∙ sym (length-block size n c there)) (λ j low. own j (omega (arith, len)) ∙ sym (byte-in-block size n j c there (omega (arith, len))))
-
--- the byte of an image by its block and its place there
-pub image-at : (h : Head) (l v : List ℕ) (n j : ℕ) → j < h.size → n * h.size + j < h.len → slice_index (image h l v) (n * h.size + j) ≡ image_byte h l v (n * h.size + j)
-image-at h l v n j inner low = byte-of-image h l v (n * h.size + j) low
 
 zero-behind : (c : List ℕ) (m k : ℕ) → length c ≤ k → k < length c + m → get_or (c ++ replicate m 0) k 0 ≡ 0
 zero-behind c m k h l = grind (arith, common_steps, get_or-replicate {A = ℕ})

@@ -14,14 +14,6 @@ use Rattle.hd_journal.specs.Framed.{IsFramed}
 use Rattle.hd_journal.proofs.Bytes.{length-image, base-within}
 use Rattle.hd_journal.proofs.FrameLemmas.{frame-in-log, frame-byte, bare-byte, block-behind}
 
--- a part that is counted begins within the bytes
-pub part-low : (len size i : ℕ) → 0 < size → i < len / size + min 1 (len % size) → i * size < len
-part-low len size i some low =
-    let c : ℕ = len / size + min 1 (len % size) in
-    let above = (div_ceil_times len size some).1 in
-    let r : i * size + size ≤ c * size = row_fits i size c size low (omega arith) in
-    omega (arith, r, above)
-
 -- a block of which a byte is read is one of those that are counted
 pub block-counted : (n size len k : ℕ) → 0 < size → k < n * size + len → k / size < n + (len / size + min 1 (len % size))
 block-counted n size len k some low =
@@ -91,3 +83,7 @@ all-read whole new p len fits long each =
 -- a byte of a part that was read into its place
 pub part-byte : (first count k : ℕ) (old new : List ℕ) → first + count ≤ length old → length new ≡ count → first ≤ k → k < first + count → get_or (put_mid first (first + count - first) old new) k 0 ≡ get_or new (k - first) 0
 part-byte first count k old new fits long from low = search (rules, places)
+
+-- a byte that was read behind a frame's number
+pub behind-number : (old new : List ℕ) (j : ℕ) → length new ≡ length old - 4 → 4 + j < length old → get_or (put_mid 4 (length old - 4) old new) (4 + j) 0 ≡ get_or new j 0
+behind-number old new j long low = search (rules, places)

@@ -1,6 +1,6 @@
 -- What each call of a redo leaves.
-use Rattle.std.proofs.Common.{◌≡◌, inl, inr, ℕ, ◌+◌, ◌-◌, ◌*◌, ◌<◌, ◌≤◌, min, List, length, get_or, slice_index, replicate, take, drop, add-one, refl, sym, ap, ◌∙◌, subst, arith}
-use Rattle.std.proofs.lemmas.Bool.{cases_lt}
+use Rattle.std.proofs.Common.{Bool, true, false, ◌&&◌, ◌==◌, ◌≡◌, inl, inr, ℕ, ◌+◌, ◌-◌, ◌*◌, ◌<◌, ◌≤◌, min, List, length, get_or, slice_index, replicate, take, drop, add-one, refl, sym, ap, ◌∙◌, subst, arith}
+use Rattle.std.proofs.lemmas.Bool.{cases_lt, cases_eq, cases_Bool, ne_eqb}
 use Rattle.std.proofs.lemmas.Grind.{common_steps, same_number_lists}
 use Rattle.std.proofs.lemmas.List.{get_or-replicate, length-replicate, get_or-drop, take_all}
 use Rattle.hd_bytes.specs.Ranges.{bytes_at}
@@ -10,10 +10,10 @@ use Rattle.hd_bytes.proofs.BlockLemmas.{byte-at, length-bytes_at}
 use Rattle.std.proofs.lemmas.Nat.{row_fits}
 use Rattle.hd_journal.specs.Disk.{State, Torn, WritesVolume, CutsVolume, Syncs, HasVolume, Leaves}
 use Rattle.hd_journal.specs.declared.head.Head.{Head}
-use Rattle.hd_journal.specs.Log.{frame_at, block_no, Fits, Spares, HasFrames}
+use Rattle.hd_journal.specs.Log.{written_from, skipped, HasFirst, frame_at, block_no, Spares, HasFrames}
 use Rattle.hd_journal.specs.States.{IsSpared, IsSparing, Redoes, IsFilled, IsStill}
-use Rattle.hd_journal.proofs.Bytes.{base-within, base-behind, spares-first, spares-behind, spares-frame, spares-cut, has-frame}
-use Rattle.hd_journal.proofs.Moments.{started, goes_on, followed}
+use Rattle.hd_journal.proofs.Bytes.{spares-byte, spares-open, spares-first, spares-behind, spares-frame, spares-cut, has-frame}
+use Rattle.hd_journal.proofs.Moments.{started, goes_on, followed, weakened}
 
 -- bytes that are there stand within the list
 pub inside : (v xs : List ℕ) (at n : ℕ) → bytes_at v at n ≡ xs → length xs ≡ n → 0 < n → at + n ≤ length v
@@ -21,73 +21,64 @@ inside v xs at n e len some = (let l : length (bytes_at v at n) ≡ n = ap lengt
 
 -- ---- a redo, call by call
 
-pub redoes-first : (h : Head) (first : List ℕ) (s : State) → IsSparing h first s → Redoes h first s s
-redoes-first h first s sparing = record { log = refl; spares = sparing; leaves = started (IsSpared h s.log first) s }
+pub redoes-first : (h : Head) (z : Bool) (first : List ℕ) (s : State) → IsSparing h z first s → Redoes h z first s s
+redoes-first h z first s sparing = record { log = refl; spares = sparing; leaves = started (IsSpared h z s.log first) s }
 
 -- each redo can be followed by another
-pub sparing-still : (h : Head) (first : List ℕ) {a b : State} → Redoes h first a b → IsSparing h first b
-sparing-still h first {a = a} {b = b} r = λ l v may. subst (λ (log : List ℕ). IsSpared h log first l v) (sym r.log) (r.spares l v may)
+pub sparing-still : (h : Head) (z : Bool) (first : List ℕ) {a b : State} → Redoes h z first a b → IsSparing h z first b
+sparing-still h z first {a = a} {b = b} r = λ l v may. subst (λ (log : List ℕ). IsSpared h z log first l v) (sym r.log) (r.spares l v may)
 
-pub redoes-more : (h : Head) (first : List ℕ) {a b c : State} → Redoes h first a b → Redoes h first b c → Redoes h first a c
-redoes-more h first {a = a} {b = b} {c = c} r s = record {
+pub redoes-more : (h : Head) (z : Bool) (first : List ℕ) {a b c : State} → Redoes h z first a b → Redoes h z first b c → Redoes h z first a c
+redoes-more h z first {a = a} {b = b} {c = c} r s = record {
   log = s.log ∙ r.log;
-  spares = λ l v may. subst (λ (log : List ℕ). IsSpared h log first l v) r.log (s.spares l v may);
-  leaves = followed (IsSpared h a.log first) r.leaves (subst (λ (log : List ℕ). Leaves (IsSpared h log first) b c) r.log s.leaves);
+  spares = λ l v may. subst (λ (log : List ℕ). IsSpared h z log first l v) r.log (s.spares l v may);
+  leaves = followed (IsSpared h z a.log first) r.leaves (subst (λ (log : List ℕ). Leaves (IsSpared h z log first) b c) r.log s.leaves);
 }
 
 -- a write to the volume that spares what is spared
-pub redoes-write : (h : Head) (first : List ℕ) {a b : State} (at n : ℕ) → IsSparing h first a → WritesVolume at n a b
-    → ((v w : List ℕ) → Spares h a.log first v → Torn at n v w → Spares h a.log first w) → Redoes h first a b
-redoes-write h first {a = a} {b = b} at n sparing w keeps =
-    let spared : (l v : List ℕ) → b.may_leave l v → IsSpared h a.log first l v = λ l v may.
+pub redoes-write : (h : Head) (z : Bool) (first : List ℕ) {a b : State} (at n : ℕ) → IsSparing h z first a → WritesVolume at n a b
+    → ((v w : List ℕ) → Spares h z a.log first v → Torn at n v w → Spares h z a.log first w) → Redoes h z first a b
+redoes-write h z first {a = a} {b = b} at n sparing w keeps =
+    let spared : (l v : List ℕ) → b.may_leave l v → IsSpared h z a.log first l v = λ l v may.
     (let was = w.crash l v may in let s = sparing l was.0 was.1 in (s.0, keeps was.0 v s.1 was.2)) in
-    record { log = w.log; spares = spared; leaves = goes_on (IsSpared h a.log first) (started (IsSpared h a.log first) a) w.time spared }
+    record { log = w.log; spares = spared; leaves = goes_on (IsSpared h z a.log first) (started (IsSpared h z a.log first) a) w.time spared }
 
-pub redoes-cut : (h : Head) (first : List ℕ) {a b : State} → h.base ≤ h.len → IsSparing h first a → CutsVolume h.len a b → Redoes h first a b
-redoes-cut h first {a = a} {b = b} grows sparing w =
-    let spared : (l v : List ℕ) → b.may_leave l v → IsSpared h a.log first l v = λ l v may.
-    (let was = w.crash l v may in let s = sparing l was.0 was.1 in (s.0, spares-cut h a.log first was.0 v grows s.1 was.2)) in
-    record { log = w.log; spares = spared; leaves = goes_on (IsSpared h a.log first) (started (IsSpared h a.log first) a) w.time spared }
+pub redoes-cut : (h : Head) (z : Bool) (first : List ℕ) {a b : State} → h.base ≤ h.len → (z ≡ true → 0 < h.len) → IsSparing h z first a → CutsVolume h.len a b → Redoes h z first a b
+redoes-cut h z first {a = a} {b = b} grows some sparing w =
+    let spared : (l v : List ℕ) → b.may_leave l v → IsSpared h z a.log first l v = λ l v may.
+    (let was = w.crash l v may in let s = sparing l was.0 was.1 in (s.0, spares-cut h z a.log first was.0 v grows some s.1 was.2)) in
+    record { log = w.log; spares = spared; leaves = goes_on (IsSpared h z a.log first) (started (IsSpared h z a.log first) a) w.time spared }
 
-pub redoes-sync : (h : Head) (first : List ℕ) {a b : State} → IsSparing h first a → Syncs a b → Redoes h first a b
-redoes-sync h first {a = a} {b = b} sparing w =
-    let spared : (l v : List ℕ) → b.may_leave l v → IsSpared h a.log first l v = λ l v may. sparing l v (w.crash l v may) in
-    record { log = w.log; spares = spared; leaves = goes_on (IsSpared h a.log first) (started (IsSpared h a.log first) a) w.time spared }
+pub redoes-sync : (h : Head) (z : Bool) (first : List ℕ) {a b : State} → IsSparing h z first a → Syncs a b → Redoes h z first a b
+redoes-sync h z first {a = a} {b = b} sparing w =
+    let spared : (l v : List ℕ) → b.may_leave l v → IsSpared h z a.log first l v = λ l v may. sparing l v (w.crash l v may) in
+    record { log = w.log; spares = spared; leaves = goes_on (IsSpared h z a.log first) (started (IsSpared h z a.log first) a) w.time spared }
 
 -- at first a still disk is spared
-pub sparing-first : (h : Head) (s : State) → h.base ≤ length s.volume → IsStill s → IsSparing h s.volume s
+pub sparing-first : (h : Head) (s : State) → h.base ≤ length s.volume → IsStill s → IsSparing h false s.volume s
 sparing-first h s base still = λ l v may.
     let at_v = still.volume l v may in
-    (still.log l v may, subst (λ (w : List ℕ). Spares h s.log s.volume w) (sym at_v) (spares-first h s.log s.volume base))
+    (still.log l v may, subst (λ (w : List ℕ). Spares h false s.log s.volume w) (sym at_v) (spares-first h s.log s.volume base))
 
 -- ---- the fill
 
-pub filled-first : (h : Head) (s : State) → Fits h s.log s.volume → IsSparing h s.volume s → IsFilled h s s h.base
-filled-first h s f sparing = record {
-  redoes = redoes-first h s.volume s sparing;
-  above = omega arith;
-  below = f.grows;
-  within = f.base;
-  kept = λ k low. refl;
-  zeros = λ k low high. absurd (omega arith);
-}
-
 -- a write that fails or succeeds
-pub filling : (h : Head) (s a b : State) (at n : ℕ) → IsFilled h s a at → WritesVolume at n a b → Redoes h s.volume s b
-filling h s a b at n f w =
-    redoes-more h s.volume f.redoes (redoes-write h s.volume at n (sparing-still h s.volume f.redoes) w
-    (λ v x spared torn. spares-behind h a.log s.volume v x at n spared f.above torn))
+pub filling : (h : Head) (z : Bool) (s a b : State) (at n : ℕ) → IsFilled h z s a at → WritesVolume at n a b → Redoes h z s.volume s b
+filling h z s a b at n f w =
+    redoes-more h z s.volume f.redoes (redoes-write h z s.volume at n (sparing-still h z s.volume f.redoes) w
+    (λ v x spared torn. spares-behind h z a.log s.volume v x at n spared f.above f.behind torn))
 
-pub filled-more : (h : Head) (s a b : State) (at n size : ℕ) → 0 < n → n ≤ h.len - at → IsFilled h s a at → WritesVolume at n a b → bytes_at b.volume at n ≡ replicate n 0 → IsFilled h s b (at + n)
-filled-more h s a b at n size some fits f w wrote =
+pub filled-more : (h : Head) (z : Bool) (s a b : State) (at n size : ℕ) → 0 < n → n ≤ h.len - at → IsFilled h z s a at → WritesVolume at n a b → bytes_at b.volume at n ≡ replicate n 0 → IsFilled h z s b (at + n)
+filled-more h z s a b at n size some fits f w wrote =
     let torn = w.volume in
     let above = f.above in
     let below = f.below in
     let within = f.within in
     let inner = inside b.volume (replicate n 0) at n wrote (length-replicate n 0) some in
     record {
-      redoes = filling h s a b at n f w;
+      redoes = filling h z s a b at n f w;
       above = omega arith;
+      behind = λ e. (let b = f.behind e in omega arith);
       below = omega arith;
       within = inner;
       kept = λ k low. torn.below k (omega arith) (omega arith) ∙ f.kept k low;
@@ -101,59 +92,92 @@ filled-more h s a b at n size some fits f w wrote =
       ];
     }
 
-pub filled-all : (h : Head) (s a : State) (at : ℕ) → IsFilled h s a at → h.len ≤ at → HasFrames h s.log s.volume 0 a.volume
-filled-all h s a at f end = record {
-  long = (let w = f.within in omega arith);
-  each = λ k low. (let below = f.below in elim (cases_lt k h.base) [
-    | inl in_base ↦ f.kept k in_base ∙ sym (base-within h.base s.volume k in_base)
-    | inr behind ↦ f.zeros k (omega arith) (omega arith) ∙ sym (base-behind h.base s.volume k (omega arith))
-  ]);
-}
-
 -- ---- the copy
 
 -- the number of a frame that was read
 pub frame-number : (log buf : List ℕ) (p n : ℕ) → 4 ≤ n → p + n ≤ length log → buf ≡ bytes_at log p n → number_at 4 buf 0 ≡ number_at 4 log p
 frame-number log buf p n some fits is = number-moved 4 p 0 log buf (λ k low. ap (slice_index buf) (let e : 0 + k ≡ k = omega arith in e) ∙ ap (λ (xs : List ℕ). get_or xs k 0) is ∙ byte-at log p n k fits (omega arith))
 
-byte-behind : (buf : List ℕ) (k : ℕ) → k < length buf - 4 → get_or (take (length buf - 4) (drop 4 buf)) k 0 ≡ get_or buf (4 + k) 0
-byte-behind buf k low =
-    let len : length (drop 4 buf) ≡ length buf - 4 = grind (arith, common_steps) in
-    ap (λ (xs : List ℕ). get_or xs k 0) (take_all (length buf - 4) (drop 4 buf) (omega arith)) ∙ get_or-drop 4 buf k 0
+byte-behind : (buf : List ℕ) (p k : ℕ) → k < length buf - p → get_or (take (length buf - p) (drop p buf)) k 0 ≡ get_or buf (p + k) 0
+byte-behind buf p k low =
+    let len : length (drop p buf) ≡ length buf - p = grind (arith, common_steps) in
+    ap (λ (xs : List ℕ). get_or xs k 0) (take_all (length buf - p) (drop p buf) (omega arith)) ∙ get_or-drop p buf k 0
 
--- its block
-pub frame-block : (log buf : List ℕ) (p size : ℕ) → p + (size + 4) ≤ length log → buf ≡ bytes_at log p (size + 4) → take (length buf - 4) (drop 4 buf) ≡ bytes_at log (p + 4) size
-frame-block log buf p size fits is =
+-- a byte of its block
+pub frame-block : (log buf : List ℕ) (p size skip k : ℕ) → p + (size + 4) ≤ length log → buf ≡ bytes_at log p (size + 4) → k < length buf - (4 + skip) → get_or (take (length buf - (4 + skip)) (drop (4 + skip) buf)) k 0 ≡ slice_index log (p + 4 + (skip + k))
+frame-block log buf p size skip k fits is low =
     let len : length buf ≡ size + 4 = ap length is ∙ length-bytes_at log p (size + 4) fits in
-    let other = length-bytes_at log (p + 4) size (omega arith) in
-    let rest : length (drop 4 buf) ≡ length buf - 4 = grind (arith, common_steps) in let mine : length (take (length buf - 4) (drop 4 buf)) ≡ size = ap length (take_all (length buf - 4) (drop 4 buf) (omega arith)) ∙ rest ∙ omega arith in
-    same_number_lists _ _ (mine ∙ sym other) (λ k low.
-    let u : k < size = omega arith in
-    byte-behind buf k (omega arith) ∙ ap (λ (xs : List ℕ). get_or xs (4 + k) 0) is ∙ byte-at log p (size + 4) (4 + k) fits (omega arith)
-    ∙ ap (slice_index log) (let e : p + (4 + k) ≡ p + 4 + k = omega arith in e) ∙ sym (byte-at log (p + 4) size k (omega arith) u))
+    byte-behind buf (4 + skip) k low ∙ ap (λ (xs : List ℕ). get_or xs (4 + skip + k) 0) is ∙ byte-at log p (size + 4) (4 + skip + k) fits (omega (arith, len, low))
+    ∙ ap (slice_index log) (let e : p + (4 + skip + k) ≡ p + 4 + (skip + k) = omega arith in e)
 
 pub frame-there : (h : Head) (log : List ℕ) (i : ℕ) → i < h.count → frame_at h.size h.count ≤ length log → frame_at h.size i + (h.size + 4) ≤ length log
 frame-there h log i few there = (let r : i * (h.size + 4) + (h.size + 4) ≤ h.count * (h.size + 4) = row_fits i (h.size + 4) h.count (h.size + 4) few (omega arith) in omega arith)
 
-pub copy-redoes : (h : Head) (first : List ℕ) {a b : State} (i at n : ℕ) → 0 < h.size → i < h.count → IsSparing h first a → WritesVolume at n a b → at ≡ block_no h.size a.log i * h.size → n ≡ h.size → Redoes h first a b
-copy-redoes h first {a = a} {b = b} i at n some few sparing w place len =
-    redoes-write h first at n sparing w (λ v x s torn. spares-frame h a.log first v x i some few s (subst (λ (m : ℕ). Torn m h.size v x) place (subst (λ (m : ℕ). Torn at m v x) len torn)))
+-- what is passed over of a block, and what is not
+skip-few : (z : Bool) (m : ℕ) → skipped z m ≤ 1
+skip-few z m = elim (cases_Bool (z && m == 0)) [ inl e ↦ (let s : skipped z m ≡ 1 = rw e refl in omega (arith, s)) | inr e ↦ (let s : skipped z m ≡ 0 = rw e refl in omega (arith, s)) ]
 
-pub copy-frames : (h : Head) (first : List ℕ) {a b : State} (i at n : ℕ) (xs : List ℕ) → 0 < h.size → i < h.count → frame_at h.size h.count ≤ length a.log → WritesVolume at n a b
-    → at ≡ block_no h.size a.log i * h.size → n ≡ h.size → bytes_at b.volume at n ≡ xs → length xs ≡ n → xs ≡ bytes_at a.log (frame_at h.size i + 4) h.size
-    → HasFrames h a.log first i a.volume → HasFrames h a.log first (i + 1) b.volume
-copy-frames h first {a = a} {b = b} i at n xs some few there w place len wrote long is f =
-    let torn : Torn (block_no h.size a.log i * h.size) h.size a.volume b.volume = subst (λ (m : ℕ). Torn m h.size a.volume b.volume) place (subst (λ (m : ℕ). Torn at m a.volume b.volume) len w.volume) in
-    let now : bytes_at b.volume (block_no h.size a.log i * h.size) h.size ≡ bytes_at a.log (frame_at h.size i + 4) h.size =
-    ap (λ (m : ℕ). bytes_at b.volume m h.size) (sym place) ∙ ap (bytes_at b.volume at) (sym len) ∙ wrote ∙ is in
-    let in_log = frame-there h a.log i few there in
-    let inner = inside b.volume xs at n wrote long (omega arith) in
-    subst (λ (m : ℕ). HasFrames h a.log first m b.volume) (sym (add-one i))
-    (has-frame h a.log first a.volume b.volume i some f torn now (omega (arith, inner, place, len)) (omega (arith, in_log)))
+skip-behind : (z : Bool) (m size : ℕ) → 0 < size → z ≡ true → 0 < m * size + skipped z m
+skip-behind z m size some e = elim (cases_eq m 0) [
+  | inl nought ↦ (let s : skipped z m ≡ 1 = rw (e, nought) refl in omega (arith, s))
+  | inr nonzero ↦ (let r : 0 * size + size ≤ m * size = row_fits 0 size m size (omega (arith, nonzero)) (omega arith) in omega (arith, r))
+]
+
+skip-there : (z : Bool) (m size j : ℕ) → 0 < size → written_from z ≤ m * size + j → skipped z m ≤ j
+skip-there z m size j some above = elim (cases_Bool z) [
+  | inl e ↦ elim (cases_eq m 0) [
+    | inl nought ↦ (let s : skipped z m ≡ 1 = rw (e, nought) refl in let c : written_from z ≡ 1 = rw e refl in let p : m * size ≡ 0 * size = ap (λ (x : ℕ). x * size) nought in omega (arith, s, c, p, above))
+    | inr nonzero ↦ (let s : skipped z m ≡ 0 = rw (e, ne_eqb _ _ nonzero) refl in omega (arith, s))
+  ]
+  | inr e ↦ (let s : skipped z m ≡ 0 = rw e refl in omega (arith, s))
+]
+
+pub copy-redoes : (h : Head) (z : Bool) (first : List ℕ) {a b : State} (i at n : ℕ) → 0 < h.size → i < h.count → IsSparing h z first a → WritesVolume at n a b
+    → at ≡ block_no h.size a.log i * h.size + skipped z (block_no h.size a.log i) → n + skipped z (block_no h.size a.log i) ≡ h.size → Redoes h z first a b
+copy-redoes h z first {a = a} {b = b} i at n some few sparing w place len =
+    let skip = skip-behind z (block_no h.size a.log i) h.size some in
+    redoes-write h z first at n sparing w (λ v x s torn. spares-frame h z a.log first v x i at n some few s (omega (arith, place)) (omega (arith, place, len)) (λ e. let k = skip e in omega (arith, place, k)) torn)
+
+pub copy-frames : (h : Head) (z : Bool) (first : List ℕ) {a b : State} (i at n : ℕ) (xs : List ℕ) → 0 < h.size → i < h.count → WritesVolume at n a b
+    → at ≡ block_no h.size a.log i * h.size + skipped z (block_no h.size a.log i) → n + skipped z (block_no h.size a.log i) ≡ h.size → bytes_at b.volume at n ≡ xs → length xs ≡ n
+    → ((k : ℕ) → k < n → get_or xs k 0 ≡ slice_index a.log (frame_at h.size i + 4 + (skipped z (block_no h.size a.log i) + k)))
+    → HasFrames h (written_from z) a.log first i a.volume → HasFrames h (written_from z) a.log first (i + 1) b.volume
+copy-frames h z first {a = a} {b = b} i at n xs some few w place len wrote long is f =
+    let m : ℕ = block_no h.size a.log i in
+    let skip : ℕ = skipped z m in
+    subst (λ (q : ℕ). HasFrames h (written_from z) a.log first q b.volume) (sym (add-one i))
+    (has-frame h (written_from z) a.log first a.volume b.volume i at n some f (omega (arith, place)) (omega (arith, place, len)) w.volume (λ j low above.
+    let behind : skip ≤ j = skip-there z m h.size j some above in
+    let k : ℕ = j - skip in
+    let low_k : k < n = omega (arith, behind, low, len) in
+    let inner = inside b.volume xs at n wrote long (omega (arith, low_k)) in
+    let e : m * h.size + j ≡ at + k = omega (arith, place, behind) in
+    let q : skip + k ≡ j = omega (arith, behind) in
+    ap (slice_index b.volume) e ∙ sym (byte-at b.volume at n k inner low_k) ∙ ap (λ (ys : List ℕ). get_or ys k 0) wrote ∙ is k low_k ∙ ap (λ (x : ℕ). slice_index a.log (frame_at h.size i + 4 + x)) q))
 
 pub first-zeros : (n m : ℕ) → n ≤ m → take {A = ℕ} n (replicate m 0) ≡ replicate n 0
 first-zeros n m low = same_number_lists _ _ (grind (arith, common_steps)) (λ k u. grind (arith, common_steps, get_or-replicate {A = ℕ}))
 
 -- once the volume is synced, the disk is still
-pub still-synced : (h : Head) (first : List ℕ) {a b : State} → Redoes h first a b → HasVolume b → IsStill b
-still-synced h first {a = a} {b = b} r durable = record { volume = durable; log = λ l v may. (sparing-still h first r l v may).0 }
+pub still-synced : (h : Head) (z : Bool) (first : List ℕ) {a b : State} → Redoes h z first a b → HasVolume b → IsStill b
+still-synced h z first {a = a} {b = b} r durable = record { volume = durable; log = λ l v may. (sparing-still h z first r l v may).0 }
+
+-- ---- the first byte
+
+-- a write of the first byte, whose block has a frame
+pub redoes-byte : (h : Head) (z : Bool) (first : List ℕ) {a b : State} (byte : ℕ) → HasFirst h.size a.log h.count byte → IsSparing h z first a → WritesVolume 0 1 a b → Redoes h false first a b
+redoes-byte h z first {a = a} {b = b} byte has sparing w =
+    let spared : (l v : List ℕ) → b.may_leave l v → IsSpared h false a.log first l v = λ l v may.
+    (let was = w.crash l v may in let s = sparing l was.0 was.1 in (s.0, spares-byte h z a.log first was.0 v byte has s.1 was.2)) in
+    record { log = w.log; spares = spared; leaves = goes_on (IsSpared h false a.log first) (started (IsSpared h false a.log first) a) w.time spared }
+
+-- what was redone behind a shut byte was redone
+pub redoes-open : (h : Head) (z : Bool) (first : List ℕ) {a b : State} → Redoes h z first a b → Redoes h false first a b
+redoes-open h z first {a = a} {b = b} r = record {
+  log = r.log;
+  spares = λ l v may. (let s = r.spares l v may in (s.0, spares-open h z a.log first v s.1));
+  leaves = weakened r.leaves (λ l v s. (s.0, spares-open h z a.log first v s.1));
+}
+
+pub sparing-open : (h : Head) (z : Bool) (first : List ℕ) (s : State) → IsSparing h z first s → IsSparing h false first s
+sparing-open h z first s sparing = λ l v may. (let p = sparing l v may in (p.0, spares-open h z s.log first v p.1))

@@ -1,5 +1,5 @@
 -- What a journal keeps.
-use Rattle.std.specs.Prelude.{◌≡◌, ◌≢◌, ℕ, ◌+◌, ◌<◌, ◌≤◌, Bool, false, IsTrue, List, replicate, vec_len}
+use Rattle.std.specs.Prelude.{◌≡◌, ◌≢◌, ℕ, ◌+◌, ◌<◌, ◌≤◌, Bool, false, IsTrue, List, length, slice_index, replicate, vec_len}
 use Rattle.std.specs.Vec.{vec_capacity}
 use Rattle.hd_stores.specs.Stores.{Committed}
 use Rattle.hd_journal.specs.Disk.{State}
@@ -47,4 +47,5 @@ pub record IsJournal {D : Type 0} (is_honest : Bool) (is_usable : D → Bool) (s
   pub framed : j.failed ≡ false → IsTrue is_honest → IsFramed (state j.disk) j.head j.places.items
   pub collecting : j.failed ≡ false → IsTrue is_honest → j.stage ≡ Collecting → IsSettled (state j.disk)
   pub published : j.failed ≡ false → IsTrue is_honest → j.stage ≡ Published → IsOpened j.head (state j.disk) (state j.disk)
+  pub first : j.failed ≡ false → j.stage ≡ Published → 0 < length j.places.items → slice_index j.places.items 0 ≢ 0
   pub safe : IsTrue is_honest → IsSafe (state j.disk) j.since (committed_of state j).image (committed_of state j).tried

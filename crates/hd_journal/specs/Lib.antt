@@ -5,3 +5,4 @@ pub mod Framed
 pub mod Finds
 pub mod Journals
 pub mod Shows
+pub mod Past

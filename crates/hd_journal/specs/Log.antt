@@ -9,7 +9,7 @@
 --   35 to 42  the device of the volume's file
 --   43 to 50  the file's number there
 --   51 on     the frames: the number of a block, of four bytes, and its bytes
-use Rattle.std.specs.Prelude.{◌≡◌, ◌≢◌, ℕ, zero, suc, ◌+◌, ◌*◌, ◌/◌, ◌%◌, ◌<◌, ◌≤◌, ◌==◌, nat_lt, nat_le, Bool, true, ◌&&◌, if◌then◌else◌, List, map, length, slice_index}
+use Rattle.std.specs.Prelude.{◌≡◌, ◌≢◌, ℕ, zero, suc, ◌+◌, ◌*◌, ◌/◌, ◌%◌, ◌<◌, ◌≤◌, ◌==◌, nat_lt, nat_le, Bool, true, ◌&&◌, cond, if◌then◌else◌, List, map, length, slice_index}
 use Rattle.std.specs.List.{range_with_len}
 use Rattle.hd_bytes.specs.Numbers.{number_at}
 use Rattle.hd_journal.specs.declared.head.Head.{Head}
@@ -106,15 +106,31 @@ pub record Fits (head : Head) (log volume : List ℕ) : Type 0 where
   pub base : head.base ≤ length volume
   pub grows : head.base ≤ head.len
 
--- with the frames put in, it makes the same image as the first volume
-pub record Spares (head : Head) (log first volume : List ℕ) : Type 0 where
+-- With the frames put in, it makes the same image as the first volume. While it is shut its first byte is 0.
+pub record Spares (head : Head) (is_shut : Bool) (log first volume : List ℕ) : Type 0 where
   pub base : head.base ≤ length volume
   pub each : (k : ℕ) → k < head.base → byte_from head.size log head.count k (slice_index volume k) ≡ byte_from head.size log head.count k (slice_index first k)
+  pub first_byte : is_shut ≡ true → (0 < length volume) × (slice_index volume 0 ≡ 0)
 
--- the first i frames are put in, and zeros stand behind the base
-pub record HasFrames (head : Head) (log first : List ℕ) (i : ℕ) (volume : List ℕ) : Type 0 where
+-- the first i frames are put in from byte `from` on, and zeros stand behind the base
+pub record HasFrames (head : Head) (from : ℕ) (log first : List ℕ) (i : ℕ) (volume : List ℕ) : Type 0 where
   pub long : head.len ≤ length volume
-  pub each : (k : ℕ) → k < head.len → slice_index volume k ≡ byte_from head.size log i k (base_byte head.base first k)
+  pub each : (k : ℕ) → from ≤ k → k < head.len → slice_index volume k ≡ byte_from head.size log i k (base_byte head.base first k)
+
+-- Of the first i frames one has block 0, and its first byte as the last of them has it is this.
+pub record HasFirst (size : ℕ) (log : List ℕ) (i byte : ℕ) : Type 0 where
+  pub frame : ℕ
+  pub low : frame < i
+  pub own : block_no size log frame ≡ 0
+  pub is : (other : ℕ) → byte_from size log i 0 other ≡ byte
+
+-- the byte from which a volume is written
+abbrev pub written_from : Bool → ℕ
+written_from is_shut = cond is_shut 1 0
+
+-- how many bytes at the front of a frame's block are passed over
+abbrev pub skipped : Bool → ℕ → ℕ
+skipped is_shut number = cond (is_shut && number == 0) 1 0
 
 -- The head stands in a log that has the frames of another.
 pub record IsWritten (head : Head) (first log : List ℕ) : Type 0 where

@@ -1,12 +1,20 @@
 -- What the steps of a commit and of a recovery leave.
-use Rattle.std.specs.Prelude.{◌≡◌, ◌⊎◌, ℕ, ◌<◌, ◌≤◌, List, length, slice_index}
+use Rattle.std.specs.Prelude.{Bool, true, ◌≡◌, ◌⊎◌, ℕ, ◌<◌, ◌≤◌, List, length, slice_index}
 use Rattle.hd_journal.specs.Disk.{State, Torn, HasLog, HasVolume, Leaves}
 use Rattle.hd_journal.specs.Log.{image, recovered, IsShut, IsWritten, Fits, Spares}
 use Rattle.hd_journal.specs.declared.head.Head.{Head}
 
 -- the log is as it was, and the volume makes the same image with it
-abbrev pub IsSpared : Head → List ℕ → List ℕ → List ℕ → List ℕ → Type 0
-IsSpared head log first l v = (l ≡ log) × Spares head log first v
+abbrev pub IsSpared : Head → Bool → List ℕ → List ℕ → List ℕ → List ℕ → Type 0
+IsSpared head is_shut log first l v = (l ≡ log) × Spares head is_shut log first v
+
+-- two volumes differ in their first byte at most
+abbrev pub SameBehind : List ℕ → List ℕ → Type 0
+SameBehind a b = (k : ℕ) → 1 ≤ k → slice_index b k ≡ slice_index a k
+
+-- but for its first byte a volume is the first or the last, or that byte is 0
+abbrev pub IsShutBetween : List ℕ → List ℕ → List ℕ → List ℕ → Type 0
+IsShutBetween first last l v = SameBehind first v ⊎ (slice_index v 0 ≡ 0) ⊎ SameBehind last v
 
 -- a log whose gate is being shut
 abbrev pub MayShut : List ℕ → List ℕ → Type 0
@@ -31,19 +39,20 @@ pub record IsStill (s : State) : Type 0 where
   pub log : HasLog s
 
 -- each outcome of a crash is spared, beside a first volume
-abbrev pub IsSparing : Head → List ℕ → State → Type 0
-IsSparing head first s = (l v : List ℕ) → s.may_leave l v → IsSpared head s.log first l v
+abbrev pub IsSparing : Head → Bool → List ℕ → State → Type 0
+IsSparing head is_shut first s = (l v : List ℕ) → s.may_leave l v → IsSpared head is_shut s.log first l v
 
 -- The log stays, and a crash at any moment leaves a volume that makes the same image as the first.
-pub record Redoes (head : Head) (first : List ℕ) (old new : State) : Type 0 where
+pub record Redoes (head : Head) (is_shut : Bool) (first : List ℕ) (old new : State) : Type 0 where
   pub log : new.log ≡ old.log
-  pub spares : (l v : List ℕ) → new.may_leave l v → IsSpared head old.log first l v
-  pub leaves : Leaves (IsSpared head old.log first) old new
+  pub spares : (l v : List ℕ) → new.may_leave l v → IsSpared head is_shut old.log first l v
+  pub leaves : Leaves (IsSpared head is_shut old.log first) old new
 
 -- the volume is as it was below the base, and zeros stand from there to a place
-pub record IsFilled (head : Head) (old new : State) (at : ℕ) : Type 0 where
-  pub redoes : Redoes head old.volume old new
+pub record IsFilled (head : Head) (is_shut : Bool) (old new : State) (at : ℕ) : Type 0 where
+  pub redoes : Redoes head is_shut old.volume old new
   pub above : head.base ≤ at
+  pub behind : is_shut ≡ true → 0 < at
   pub below : at ≤ head.len
   pub within : at ≤ length new.volume
   pub kept : (k : ℕ) → k < head.base → slice_index new.volume k ≡ slice_index old.volume k

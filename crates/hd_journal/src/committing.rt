@@ -1,7 +1,7 @@
-ghost use Rattle.std.specs.Prelude.{◌≡◌, ◌+◌, ◌<◌, ◌≤◌, ◌^◌, ℕ, IsTrue, List, length, replicate, slice_index, OnOk};
+ghost use Rattle.std.specs.Prelude.{◌≡◌, ◌+◌, ◌<◌, ◌≤◌, ℕ, IsTrue, length, replicate, OnOk};
 ghost use Rattle.hd_journal.specs.Disk.{Leaves};
-ghost use Rattle.hd_journal.specs.Log.{image, Fits};
-ghost use Rattle.hd_journal.specs.States.{IsSettled, IsOpened, StandsFor, StandsForEither};
+ghost use Rattle.hd_journal.specs.Log.{block_no, image, Fits};
+ghost use Rattle.hd_journal.specs.States.{IsSettled, IsOpened, IsShutBetween, StandsFor, StandsForEither};
 
 use crate::disk::{Disk, Failed};
 use crate::gate::shut;
@@ -31,7 +31,7 @@ pub fn publish<D: Disk>(disk: &mut D, head: Head) -> Result<(), Failed>
 
 /// Copies the frames of an open log to the volume, and shuts the gate.
 ///
-/// A crash at any moment leaves the image.
+/// A crash at any moment leaves the image. Where block 0 has a frame, a volume that is not whole has 0 as its first byte.
 pub fn finish<D: Disk>(
     disk: &mut D,
     head: Head,
@@ -51,6 +51,8 @@ pub fn finish<D: Disk>(
     ensures longer { IsTrue D.is_honest → length (D.state disk.old).log ≤ length (D.state disk.new).log }
     ensures same { IsTrue D.is_honest → image head (D.state disk.new).log (D.state disk.new).volume ≡ image head (D.state disk.old).log (D.state disk.old).volume }
     ensures leaves { IsTrue D.is_honest → Leaves (StandsFor (image head (D.state disk.old).log (D.state disk.old).volume)) (D.state disk.old) (D.state disk.new) }
+    ensures shut { IsTrue D.is_honest → 0 < head.len → (i : ℕ) → i < head.count → block_no head.size (D.state disk.old).log i ≡ 0
+        → Leaves (IsShutBetween (D.state disk.old).volume (image head (D.state disk.old).log (D.state disk.old).volume)) (D.state disk.old) (D.state disk.new) }
 {
     redo(disk, head, zeros, frame)?;
     shut(disk)

@@ -1,9 +1,11 @@
-ghost use Rattle.std.specs.Prelude.{◌≡◌, ◌≢◌, ◌==◌, ◌&&◌, ◌+◌, ◌<◌, ◌≤◌, ◌^◌, true, false, ℕ, IsTrue, List, length, slice_index, IfOk};
-ghost use Rattle.hd_journal.specs.Log.{mark, head_of, fits, is_open, recovered};
+ghost use Rattle.std.specs.Prelude.{◌≡◌, ◌≢◌, IsTrue, length, IfOk};
+ghost use Rattle.hd_journal.specs.Log.{mark, fits, is_open};
 ghost use Rattle.hd_journal.specs.Finds.{Stamps, Finds, HasSizes};
 
 use crate::disk::{Disk, Failed};
-use crate::head::{HEAD_LEN, Head, MARK, NUMBERS_LEN, OPEN, STAMP_LEN, VERSION, frame_place, read_head, read_u64};
+use crate::head::{
+    HEAD_LEN, Head, MARK, NUMBERS_LEN, OPEN, STAMP_LEN, VERSION, frame_place, read_head, read_u64,
+};
 use hd_bytes::read_u16;
 
 /// What the gate, the mark and the version of a log say.

@@ -1,4 +1,4 @@
-ghost use Rattle.std.specs.Prelude.{◌≡◌, ◌≢◌, ◌+◌, ◌-◌, ◌*◌, ◌<◌, ◌≤◌, ◌^◌, ℕ, IsTrue, List, length, replicate, slice_index, vec_len, OnOk};
+ghost use Rattle.std.specs.Prelude.{◌≡◌, ◌≢◌, ◌+◌, ◌-◌, ◌<◌, ◌≤◌, ℕ, IsTrue, length, replicate, slice_index, vec_len, OnOk};
 ghost use Rattle.std.specs.Vec.{vec_capacity};
 ghost use Rattle.hd_bytes.specs.Ranges.{bytes_at};
 ghost use Rattle.hd_bytes.specs.Numbers.{number_at};
@@ -40,6 +40,18 @@ pub fn append_frame<D: Disk>(
     ensures writes { IsTrue D.is_honest → WritesLog (frame_at head.size head.count) (head.size + 4) (D.state disk.old) (D.state disk.new) }
 {
     put_frame(frame, n, bytes);
+    write_frame(disk, head, frame)
+}
+
+/// Writes a whole frame behind those that there are.
+pub fn write_frame<D: Disk>(disk: &mut D, head: Head, frame: &[u8]) -> Result<(), Failed>
+    requires usable { IsTrue (D.is_usable disk.old) }
+    requires small { head.size ≤ 32768 }
+    requires frame { length frame.now ≡ head.size + 4 }
+    ensures usable { OnOk result (IsTrue (D.is_usable disk.new)) }
+    ensures value { OnOk result (IsTrue D.is_honest → bytes_at (D.state disk.new).log (frame_at head.size head.count) (head.size + 4) ≡ frame.now) }
+    ensures writes { IsTrue D.is_honest → WritesLog (frame_at head.size head.count) (head.size + 4) (D.state disk.old) (D.state disk.new) }
+{
     disk.write_log(frame_place(head, head.count), frame)
 }
 

@@ -1,6 +1,6 @@
-ghost use Rattle.std.specs.Prelude.{◌≡◌, ◌≢◌, ◌⊎◌, ◌+◌, ◌-◌, ◌*◌, ◌<◌, ◌≤◌, ◌^◌, ℕ, true, false, IsTrue, List, length, replicate, slice_index, slice_set, IfErr, OnOk, OnErr};
+ghost use Rattle.std.specs.Prelude.{◌≡◌, ◌≢◌, ◌⊎◌, ◌-◌, ◌*◌, ◌<◌, ◌≤◌, true, false, IsTrue, length, slice_index, IfErr, OnOk, OnErr};
 
-use crate::committing::{finish, publish};
+use crate::committing::finish;
 use crate::disk::{Disk, Failed};
 use crate::frames::{append_frame, clear, overwrite_frame};
 use crate::head::Head;
@@ -57,10 +57,10 @@ pub fn fresh(head: Head, len: u64) -> Head
 }
 
 impl<D: Disk> Journal<D> {
-    ghost use Rattle.hd_bytes.specs.Blocks.{with_block, grown, HasBlock};
+    ghost use Rattle.hd_bytes.specs.Blocks.{with_block, grown};
     ghost use Rattle.hd_bytes.specs.Ranges.{bytes_at};
     ghost use Rattle.hd_journal.specs.Disk.{Leaves};
-    ghost use Rattle.hd_journal.specs.States.{StandsForEither, IsSettled};
+    ghost use Rattle.hd_journal.specs.States.{IsShutBetween};
     ghost use Rattle.hd_journal.specs.Journals.{IsJournal, contents_of, committed_of};
 
     /// All bytes.
@@ -298,6 +298,8 @@ impl<D: Disk> Journal<D> {
         ensures contents { IsTrue D.is_honest → contents_of D.state self.new ≡ contents_of D.state self.old }
         ensures committed { IsTrue D.is_honest → committed_of D.state self.new ≡ committed_of D.state self.old }
         ensures since { self.new.since ≡ self.old.since }
+        ensures shut { IsTrue D.is_honest → 0 < length self.old.places.items
+            → Leaves (IsShutBetween (D.state self.old.disk).volume (contents_of D.state self.old)) (D.state self.old.disk) (D.state self.new.disk) }
         ensures size { self.new.head.size ≡ self.old.head.size }
         ensures reserved { self.new.reserved ≡ self.old.reserved }
     {
@@ -309,65 +311,6 @@ impl<D: Disk> Journal<D> {
         clear(&mut self.places, blocks);
         self.head = fresh(self.head, self.head.len);
         self.stage = Stage::Collecting;
-        Ok(())
-    }
-
-    /// Makes all that was written last. A crash at any moment leaves the image of the last commit or the contents, and after
-    /// `Ok` the contents.
-    pub fn commit(&mut self) -> Result<(), Failed>
-        requires kept { IsJournal D.is_honest D.is_usable D.state self.old }
-        ensures kept { IsJournal D.is_honest D.is_usable D.state self.new }
-        ensures ok { OnOk result ((self.new.failed ≡ false) × (self.old.failed ≡ false)) }
-        ensures err { OnErr result (self.new.failed ≡ true) }
-        ensures contents { IsTrue D.is_honest → contents_of D.state self.new ≡ contents_of D.state self.old }
-        ensures committed { OnOk result (IsTrue D.is_honest → ((committed_of D.state self.new).image ≡ contents_of D.state self.old)
-            × ((committed_of D.state self.new).tried ≡ contents_of D.state self.old)) }
-        ensures fails { OnErr result (self.old.failed ≡ false → IsTrue D.is_honest → committed_of D.state self.new ≡ record (committed_of D.state self.old) { tried = contents_of D.state self.old }) }
-        ensures since { OnErr result (self.new.since ≡ self.old.since) }
-        ensures leaves { self.old.failed ≡ false → IsTrue D.is_honest
-            → Leaves (StandsForEither (committed_of D.state self.old).image (contents_of D.state self.old)) (D.state self.old.disk) (D.state self.new.disk) }
-        ensures dead { self.old.failed ≡ true → self.new ≡ self.old }
-        ensures size { self.new.head.size ≡ self.old.head.size }
-        ensures reserved { self.new.reserved ≡ self.old.reserved }
-    {
-        if self.failed {
-            return Err(Failed);
-        }
-        match self.stage {
-            Stage::Published | Stage::Doubtful => Ok(()),
-            Stage::Collecting => {
-                if self.head.count == 0 && self.head.len == self.head.base {
-                    return Ok(());
-                }
-                self.publish_frames()
-            }
-        }
-    }
-
-    /// Writes the head behind the frames that were collected, and opens the gate.
-    fn publish_frames(&mut self) -> Result<(), Failed>
-        requires kept { IsJournal D.is_honest D.is_usable D.state self.old }
-        requires well { self.old.failed ≡ false }
-        requires collecting { self.old.stage ≡ Stage.Collecting }
-        ensures kept { IsJournal D.is_honest D.is_usable D.state self.new }
-        ensures ok { OnOk result ((self.new.failed ≡ false) × (self.old.failed ≡ false)) }
-        ensures err { OnErr result (self.new.failed ≡ true) }
-        ensures contents { IsTrue D.is_honest → contents_of D.state self.new ≡ contents_of D.state self.old }
-        ensures committed { OnOk result (IsTrue D.is_honest → ((committed_of D.state self.new).image ≡ contents_of D.state self.old)
-            × ((committed_of D.state self.new).tried ≡ contents_of D.state self.old)) }
-        ensures fails { OnErr result (IsTrue D.is_honest → committed_of D.state self.new ≡ record (committed_of D.state self.old) { tried = contents_of D.state self.old }) }
-        ensures since { OnErr result (self.new.since ≡ self.old.since) }
-        ensures leaves { IsTrue D.is_honest → Leaves (StandsForEither (committed_of D.state self.old).image (contents_of D.state self.old)) (D.state self.old.disk) (D.state self.new.disk) }
-        ensures size { self.new.head.size ≡ self.old.head.size }
-        ensures reserved { self.new.reserved ≡ self.old.reserved }
-    {
-        let Ok(()) = publish(&mut self.disk, self.head) else {
-            self.failed = true;
-            self.stage = Stage::Doubtful;
-            return Err(Failed);
-        };
-        self.stage = Stage::Published;
-        self.since = self.disk.moment();
         Ok(())
     }
 }

@@ -1,8 +1,6 @@
-ghost use Rattle.std.specs.Prelude.{◌≡◌, ◌⊎◌, ◌+◌, ◌-◌, ◌*◌, ◌<◌, ◌≤◌, ◌&&◌, not, true, false, IsTrue, length, IfOk, IfErr, OnOk, OnErr};
-ghost use Rattle.hd_dbd.specs.Refusals.{OnlyDevice, OnlyMemory};
-ghost use Rattle.hd_bytes.specs.Blocks.{block_of, with_block, grown, HasBlock};
-ghost use Rattle.hd_bytes.specs.Ranges.{bytes_at};
-ghost use Rattle.hd_stores.specs.Stores.{IsCommit, FailsCommit, CountsDevice, StaysSound, RefusesGrowth};
+ghost use Rattle.std.specs.Prelude.{◌≡◌, ◌+◌, ◌<◌, ◌≤◌, ◌&&◌, not, true, false, IsTrue, IfOk, IfErr, OnOk, OnErr};
+ghost use Rattle.hd_dbd.specs.Refusals.{OnlyDevice};
+ghost use Rattle.hd_stores.specs.Stores.{IsCommit, FailsCommit, CountsDevice, StaysSound};
 ghost use Rattle.hd_journal.specs.Disk.{Leaves};
 ghost use Rattle.hd_journal.specs.Log.{recovered, IsForeign};
 ghost use Rattle.hd_journal.specs.States.{StandsFor, StandsForEither, IsSettled};
@@ -80,9 +78,11 @@ impl<D: Disk, L: Ledger> Journaled<D, L> {
         }
     }
 
-    /// A crash at any moment since the last commit leaves its image, or that of a commit which was tried since then and failed.
+    /// A crash at any moment since the last commit leaves its image, or that of a commit which was tried since then and failed. A store over an honest
+    /// disk is sound until an access fails.
     pub fn assure(&self)
-        ensures { IsTrue D.is_honest → IsSafe (D.state self.now.disk) self.now.committed.since self.now.committed.image self.now.committed.tried }
+        ensures safe { IsTrue D.is_honest → IsSafe (D.state self.now.disk) self.now.committed.since self.now.committed.image self.now.committed.tried }
+        ensures sound { self.now.is_sound ≡ (D.is_honest && not self.now.failed) }
     {
         let _ = &self.journal;
     }
@@ -206,7 +206,7 @@ impl<D: Disk, L: Ledger> CommitStore for Journaled<D, L> {
         ensures committed { OnOk result (IsCommit self.old.is_sound self.old.contents self.new.contents self.new.committed) }
         ensures fails { OnErr result (FailsCommit self.old.is_sound self.old.contents self.old.committed self.new.committed) }
         ensures leaves { self.old.failed ≡ false → IsTrue D.is_honest → Leaves (StandsForEither self.old.committed.image self.old.contents) (D.state self.old.disk) (D.state self.new.disk) }
-        ensures dead { self.old.failed ≡ true → self.new.disk ≡ self.old.disk }
+        ensures dead { self.old.failed ≡ true → (self.new.disk ≡ self.old.disk) × (self.new.committed ≡ self.old.committed) }
         ensures refusal { OnlyDevice result }
         ensures counts { CountsDevice result self.old.failures self.new.failures }
         ensures sound { StaysSound result self.old.is_sound self.new.is_sound }

@@ -1,10 +1,12 @@
-ghost use Rattle.std.specs.Prelude.{◌≡◌, ◌≢◌, ◌+◌, ◌-◌, ◌*◌, ◌<◌, ◌≤◌, ◌^◌, ℕ, false, IsTrue, List, length, replicate, slice_index, OnOk};
+ghost use Rattle.std.specs.Prelude.{◌≡◌, ◌≢◌, ◌+◌, ◌-◌, ◌*◌, ◌<◌, ◌≤◌, ℕ, IsTrue, length, slice_index, OnOk};
 ghost use Rattle.hd_bytes.specs.Ranges.{bytes_at};
+ghost use Rattle.hd_bytes.specs.Numbers.{number_at};
 ghost use Rattle.hd_journal.specs.Log.{frame_at, base_byte, image};
 ghost use Rattle.hd_journal.specs.Framed.{IsFramed};
 
 use crate::disk::{Disk, Failed};
 use crate::head::{Head, frame_place};
+use hd_bytes::write_u32;
 
 /// How many of so many bytes from a place on are the volume's.
 fn count_base(base: u64, at: u64, len: usize) -> usize
@@ -143,4 +145,28 @@ pub fn read_bytes<D: Disk>(
         return disk.read_volume(at, buf);
     }
     read_parts(disk, head, places, n, buf)
+}
+
+/// Makes a frame of block 0, with its bytes as they are read.
+pub fn read_first<D: Disk>(
+    disk: &D,
+    head: Head,
+    places: &[u32],
+    frame: &mut [u8],
+) -> Result<(), Failed>
+    requires some { 0 < head.size }
+    requires small { head.size ≤ 32768 }
+    requires frame { length frame.old ≡ head.size + 4 }
+    requires framed { IsTrue D.is_honest → IsFramed (D.state disk.now) head places.now }
+    ensures len { length frame.new ≡ length frame.old }
+    ensures number { OnOk result (number_at 4 frame.new 0 ≡ 0) }
+    ensures block { OnOk result (IsTrue D.is_honest → (j : ℕ) → j < head.size
+        → slice_index frame.new (4 + j) ≡ slice_index (image head (D.state disk.now).log (D.state disk.now).volume) j) }
+{
+    if u64::from(head.size) > head.len {
+        return Err(Failed);
+    }
+    read_bytes(disk, head, places, 0, &mut frame[4..])?;
+    write_u32(frame, 0, 0);
+    Ok(())
 }

@@ -1,4 +1,4 @@
-ghost use Rattle.std.specs.Prelude.{◌≡◌, ◌⊎◌, ◌≤◌, ◌<◌, ◌+◌, IsTrue, length, IfErr, OnOk};
+ghost use Rattle.std.specs.Prelude.{◌≡◌, ◌⊎◌, ◌≤◌, ◌<◌, IsTrue, IfErr, OnOk};
 ghost use Rattle.hd_journal.specs.Disk.{Leaves};
 ghost use Rattle.hd_journal.specs.Log.{image, recovered, IsForeign};
 ghost use Rattle.hd_journal.specs.States.{IsStill, IsSettled, IsOpened, StandsFor};

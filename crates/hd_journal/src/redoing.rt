@@ -1,7 +1,7 @@
-ghost use Rattle.std.specs.Prelude.{◌≡◌, ◌+◌, ◌<◌, ◌≤◌, ℕ, IsTrue, List, length, replicate, OnOk};
-ghost use Rattle.hd_journal.specs.Disk.{HasLog, HasVolume};
-ghost use Rattle.hd_journal.specs.Log.{frame_at, image, Fits, HasFrames};
-ghost use Rattle.hd_journal.specs.States.{IsStill, IsSparing, Redoes};
+ghost use Rattle.std.specs.Prelude.{◌≡◌, ◌≢◌, ◌+◌, ◌<◌, ◌≤◌, None, true, false, ℕ, IsTrue, List, length, replicate, slice_index, IfOk, IfSome, OnOk};
+ghost use Rattle.hd_journal.specs.Disk.{Leaves};
+ghost use Rattle.hd_journal.specs.Log.{frame_at, block_no, image, skipped, written_from, Fits, HasFrames, HasFirst};
+ghost use Rattle.hd_journal.specs.States.{IsStill, IsSparing, IsShutBetween, Redoes};
 
 use crate::disk::{Disk, Failed};
 use crate::head::{Head, frame_place};
@@ -18,18 +18,54 @@ fn share(left: u64, most: usize) -> usize
     left.min(most as u64) as usize
 }
 
-/// Writes zeros to the volume from its base to the end of the image.
-fn fill<D: Disk>(disk: &mut D, head: Head, zeros: &[u8]) -> Result<(), Failed>
+/// Where frame `i` has block 0, its first byte.
+fn first_of<D: Disk>(disk: &D, head: Head, i: u32) -> Result<Option<u8>, Failed>
+    requires some { 0 < head.size }
+    requires small { head.size ≤ 32768 }
+    requires low { i < head.count }
+    requires frames { IsTrue D.is_honest → frame_at head.size head.count ≤ length (D.state disk.now).log }
+    ensures own { IfOk result (λ o. IfSome o (λ byte. IsTrue D.is_honest → (block_no head.size (D.state disk.now).log i ≡ 0)
+        × (byte ≡ slice_index (D.state disk.now).log (frame_at head.size i + 4)))) }
+    ensures other { IfOk result (λ o. o ≡ None → IsTrue D.is_honest → block_no head.size (D.state disk.now).log i ≢ 0) }
+{
+    let mut bytes = [0u8; 5];
+    disk.read_log(frame_place(head, i), &mut bytes)?;
+    if read_u32(&bytes, 0) != 0 {
+        return Ok(None);
+    }
+    Ok(Some(bytes[4]))
+}
+
+/// The first byte of block 0 as the frames have it, where one has that block.
+fn first_byte<D: Disk>(disk: &D, head: Head) -> Result<Option<u8>, Failed>
+    requires some { 0 < head.size }
+    requires small { head.size ≤ 32768 }
+    requires frames { IsTrue D.is_honest → frame_at head.size head.count ≤ length (D.state disk.now).log }
+    ensures first { IfOk result (λ o. IfSome o (λ byte. IsTrue D.is_honest → HasFirst head.size (D.state disk.now).log head.count byte)) }
+    ensures none { IfOk result (λ o. o ≡ None → IsTrue D.is_honest → (i : ℕ) → i < head.count → block_no head.size (D.state disk.now).log i ≢ 0) }
+{
+    let mut found = None;
+    for i in 0..head.count {
+        if let Some(byte) = first_of(disk, head, i)? {
+            found = Some(byte);
+        }
+    }
+    Ok(found)
+}
+
+/// Writes zeros to the volume from its base to the end of the image, but not to its first byte where that is shut.
+fn fill<D: Disk>(disk: &mut D, head: Head, is_shut: bool, zeros: &[u8]) -> Result<(), Failed>
     requires usable { IsTrue (D.is_usable disk.old) }
     requires some { 0 < head.size }
     requires zeros { zeros.now ≡ replicate head.size 0 }
+    requires len { is_shut ≡ true → 0 < head.len }
     requires fits { IsTrue D.is_honest → Fits head (D.state disk.old).log (D.state disk.old).volume }
-    requires sparing { IsTrue D.is_honest → IsSparing head (D.state disk.old).volume (D.state disk.old) }
+    requires sparing { IsTrue D.is_honest → IsSparing head is_shut (D.state disk.old).volume (D.state disk.old) }
     ensures usable { OnOk result (IsTrue (D.is_usable disk.new)) }
-    ensures filled { OnOk result (IsTrue D.is_honest → HasFrames head (D.state disk.old).log (D.state disk.old).volume 0 (D.state disk.new).volume) }
-    ensures redoes { IsTrue D.is_honest → Redoes head (D.state disk.old).volume (D.state disk.old) (D.state disk.new) }
+    ensures filled { OnOk result (IsTrue D.is_honest → HasFrames head 0 (D.state disk.old).log (D.state disk.old).volume 0 (D.state disk.new).volume) }
+    ensures redoes { IsTrue D.is_honest → Redoes head is_shut (D.state disk.old).volume (D.state disk.old) (D.state disk.new) }
 {
-    let mut at = head.base;
+    let mut at = head.base.max(u64::from(is_shut));
     while at < head.len {
         let n = share(head.len - at, head.size as usize);
         disk.write_volume(at, &zeros[..n])?;
@@ -38,61 +74,148 @@ fn fill<D: Disk>(disk: &mut D, head: Head, zeros: &[u8]) -> Result<(), Failed>
     Ok(())
 }
 
-/// Writes the block of frame `i` to the volume.
-fn copy_frame<D: Disk>(disk: &mut D, head: Head, i: u32, buf: &mut [u8]) -> Result<(), Failed>
+/// How many bytes at the front of a frame's block are passed over: the first of block 0 where that is shut.
+fn skip_of(is_shut: bool, number: u32) -> usize
+    ensures { result ≡ skipped is_shut number }
+{
+    if is_shut && number == 0 { 1 } else { 0 }
+}
+
+/// Writes the block of frame `i` to the volume, but not to its first byte where that is shut.
+fn copy_frame<D: Disk>(
+    disk: &mut D,
+    head: Head,
+    i: u32,
+    is_shut: bool,
+    frame: &mut [u8],
+) -> Result<(), Failed>
     requires usable { IsTrue (D.is_usable disk.old) }
     requires some { 0 < head.size }
     requires small { head.size ≤ 32768 }
-    requires buf { length buf.old ≡ head.size + 4 }
+    requires frame { length frame.old ≡ head.size + 4 }
     requires low { i < head.count }
     requires frames { IsTrue D.is_honest → frame_at head.size head.count ≤ length (D.state disk.old).log }
     ensures usable { OnOk result (IsTrue (D.is_usable disk.new)) }
-    ensures buf { length buf.new ≡ length buf.old }
+    ensures frame { length frame.new ≡ length frame.old }
     ensures log { IsTrue D.is_honest → (D.state disk.new).log ≡ (D.state disk.old).log }
-    ensures copied { OnOk result (IsTrue D.is_honest → (first : List ℕ) → HasFrames head (D.state disk.old).log first i (D.state disk.old).volume
-        → HasFrames head (D.state disk.old).log first (i + 1) (D.state disk.new).volume) }
-    ensures redoes { IsTrue D.is_honest → (first : List ℕ) → IsSparing head first (D.state disk.old) → Redoes head first (D.state disk.old) (D.state disk.new) }
+    ensures copied { OnOk result (IsTrue D.is_honest → (first : List ℕ) → HasFrames head (written_from is_shut) (D.state disk.old).log first i (D.state disk.old).volume
+        → HasFrames head (written_from is_shut) (D.state disk.old).log first (i + 1) (D.state disk.new).volume) }
+    ensures redoes { IsTrue D.is_honest → (first : List ℕ) → IsSparing head is_shut first (D.state disk.old) → Redoes head is_shut first (D.state disk.old) (D.state disk.new) }
 {
-    disk.read_log(frame_place(head, i), buf)?;
-    let number = read_u32(buf, 0);
-    disk.write_volume(u64::from(number) * u64::from(head.size), &buf[4..])
+    disk.read_log(frame_place(head, i), frame)?;
+    let number = read_u32(frame, 0);
+    let skip = skip_of(is_shut, number);
+    disk.write_volume(
+        u64::from(number) * u64::from(head.size) + skip as u64,
+        &frame[4 + skip..],
+    )
 }
 
-/// Writes the blocks of all frames to the volume.
-fn copy<D: Disk>(disk: &mut D, head: Head, buf: &mut [u8]) -> Result<(), Failed>
+/// Writes the blocks of all frames to the volume, but not to its first byte where that is shut.
+fn copy<D: Disk>(disk: &mut D, head: Head, is_shut: bool, frame: &mut [u8]) -> Result<(), Failed>
     requires usable { IsTrue (D.is_usable disk.old) }
     requires some { 0 < head.size }
     requires small { head.size ≤ 32768 }
-    requires buf { length buf.old ≡ head.size + 4 }
+    requires frame { length frame.old ≡ head.size + 4 }
     requires frames { IsTrue D.is_honest → frame_at head.size head.count ≤ length (D.state disk.old).log }
     ensures usable { OnOk result (IsTrue (D.is_usable disk.new)) }
+    ensures frame { length frame.new ≡ length frame.old }
     ensures log { IsTrue D.is_honest → (D.state disk.new).log ≡ (D.state disk.old).log }
-    ensures copied { OnOk result (IsTrue D.is_honest → (first : List ℕ) → HasFrames head (D.state disk.old).log first 0 (D.state disk.old).volume
-        → HasFrames head (D.state disk.old).log first head.count (D.state disk.new).volume) }
-    ensures redoes { IsTrue D.is_honest → (first : List ℕ) → IsSparing head first (D.state disk.old) → Redoes head first (D.state disk.old) (D.state disk.new) }
+    ensures copied { OnOk result (IsTrue D.is_honest → (first : List ℕ) → HasFrames head (written_from is_shut) (D.state disk.old).log first 0 (D.state disk.old).volume
+        → HasFrames head (written_from is_shut) (D.state disk.old).log first head.count (D.state disk.new).volume) }
+    ensures redoes { IsTrue D.is_honest → (first : List ℕ) → IsSparing head is_shut first (D.state disk.old) → Redoes head is_shut first (D.state disk.old) (D.state disk.new) }
 {
     for i in 0..head.count {
-        copy_frame(disk, head, i, buf)?;
+        copy_frame(disk, head, i, is_shut, frame)?;
     }
     Ok(())
 }
 
-/// Makes the volume the image that its log and its head say, and syncs it.
-pub fn redo<D: Disk>(disk: &mut D, head: Head, zeros: &[u8], buf: &mut [u8]) -> Result<(), Failed>
+/// Makes the volume the image that its log and its head say, but for its first byte where that is shut, and syncs it.
+fn put_frames<D: Disk>(
+    disk: &mut D,
+    head: Head,
+    is_shut: bool,
+    zeros: &[u8],
+    frame: &mut [u8],
+) -> Result<(), Failed>
     requires usable { IsTrue (D.is_usable disk.old) }
     requires some { 0 < head.size }
     requires small { head.size ≤ 32768 }
-    requires buf { length buf.old ≡ head.size + 4 }
+    requires frame { length frame.old ≡ head.size + 4 }
+    requires zeros { zeros.now ≡ replicate head.size 0 }
+    requires len { is_shut ≡ true → 0 < head.len }
+    requires fits { IsTrue D.is_honest → Fits head (D.state disk.old).log (D.state disk.old).volume }
+    requires sparing { IsTrue D.is_honest → IsSparing head is_shut (D.state disk.old).volume (D.state disk.old) }
+    ensures usable { OnOk result (IsTrue (D.is_usable disk.new)) }
+    ensures frame { length frame.new ≡ length frame.old }
+    ensures long { OnOk result (IsTrue D.is_honest → length (D.state disk.new).volume ≡ head.len) }
+    ensures done { OnOk result (IsTrue D.is_honest → (k : ℕ) → written_from is_shut ≤ k → k < head.len
+        → slice_index (D.state disk.new).volume k ≡ slice_index (image head (D.state disk.old).log (D.state disk.old).volume) k) }
+    ensures still { OnOk result (IsTrue D.is_honest → IsStill (D.state disk.new)) }
+    ensures redoes { IsTrue D.is_honest → Redoes head is_shut (D.state disk.old).volume (D.state disk.old) (D.state disk.new) }
+{
+    fill(disk, head, is_shut, zeros)?;
+    copy(disk, head, is_shut, frame)?;
+    disk.set_volume_len(head.len)?;
+    disk.sync_volume()
+}
+
+/// Makes the volume the image that its log and its head say, whose first byte is this, and syncs it. While it goes on that byte is 0.
+fn redo_shut<D: Disk>(
+    disk: &mut D,
+    head: Head,
+    byte: u8,
+    zeros: &[u8],
+    frame: &mut [u8],
+) -> Result<(), Failed>
+    requires usable { IsTrue (D.is_usable disk.old) }
+    requires some { 0 < head.size }
+    requires small { head.size ≤ 32768 }
+    requires frame { length frame.old ≡ head.size + 4 }
+    requires zeros { zeros.now ≡ replicate head.size 0 }
+    requires len { 0 < head.len }
+    requires fits { IsTrue D.is_honest → Fits head (D.state disk.old).log (D.state disk.old).volume }
+    requires still { IsTrue D.is_honest → IsStill (D.state disk.old) }
+    requires first { IsTrue D.is_honest → HasFirst head.size (D.state disk.old).log head.count byte }
+    ensures usable { OnOk result (IsTrue (D.is_usable disk.new)) }
+    ensures frame { length frame.new ≡ length frame.old }
+    ensures done { OnOk result (IsTrue D.is_honest → (D.state disk.new).volume ≡ image head (D.state disk.old).log (D.state disk.old).volume) }
+    ensures still { OnOk result (IsTrue D.is_honest → IsStill (D.state disk.new)) }
+    ensures redoes { IsTrue D.is_honest → Redoes head false (D.state disk.old).volume (D.state disk.old) (D.state disk.new) }
+    ensures shut { IsTrue D.is_honest → Leaves (IsShutBetween (D.state disk.old).volume (image head (D.state disk.old).log (D.state disk.old).volume)) (D.state disk.old) (D.state disk.new) }
+{
+    disk.write_volume(0, &[0])?;
+    disk.sync_volume()?;
+    put_frames(disk, head, true, zeros, frame)?;
+    disk.write_volume(0, &[byte])?;
+    disk.sync_volume()
+}
+
+/// Makes the volume the image that its log and its head say, and syncs it.
+///
+/// While it goes on the volume's first byte is 0 where block 0 has a frame, so that a volume alone is not taken for one.
+pub fn redo<D: Disk>(disk: &mut D, head: Head, zeros: &[u8], frame: &mut [u8]) -> Result<(), Failed>
+    requires usable { IsTrue (D.is_usable disk.old) }
+    requires some { 0 < head.size }
+    requires small { head.size ≤ 32768 }
+    requires frame { length frame.old ≡ head.size + 4 }
     requires zeros { zeros.now ≡ replicate head.size 0 }
     requires fits { IsTrue D.is_honest → Fits head (D.state disk.old).log (D.state disk.old).volume }
     requires still { IsTrue D.is_honest → IsStill (D.state disk.old) }
     ensures usable { OnOk result (IsTrue (D.is_usable disk.new)) }
+    ensures frame { length frame.new ≡ length frame.old }
     ensures done { OnOk result (IsTrue D.is_honest → (D.state disk.new).volume ≡ image head (D.state disk.old).log (D.state disk.old).volume) }
     ensures still { OnOk result (IsTrue D.is_honest → IsStill (D.state disk.new)) }
-    ensures redoes { IsTrue D.is_honest → Redoes head (D.state disk.old).volume (D.state disk.old) (D.state disk.new) }
+    ensures redoes { IsTrue D.is_honest → Redoes head false (D.state disk.old).volume (D.state disk.old) (D.state disk.new) }
+    ensures shut { IsTrue D.is_honest → 0 < head.len → (i : ℕ) → i < head.count → block_no head.size (D.state disk.old).log i ≡ 0
+        → Leaves (IsShutBetween (D.state disk.old).volume (image head (D.state disk.old).log (D.state disk.old).volume)) (D.state disk.old) (D.state disk.new) }
 {
-    fill(disk, head, zeros)?;
-    copy(disk, head, buf)?;
-    disk.set_volume_len(head.len)?;
-    disk.sync_volume()
+    match first_byte(disk, head)? {
+        Some(byte) if head.len > 0 => redo_shut(disk, head, byte, zeros, frame),
+        _ => {
+            put_frames(disk, head, false, zeros, frame)?;
+            Ok(())
+        }
+    }
 }

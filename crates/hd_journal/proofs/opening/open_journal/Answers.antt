@@ -27,6 +27,7 @@ returns-clause-kept g c =
           subst (λ (xs : List ℕ). IsFramed b (fresh blank c.in-Ok.len) xs) items (subst (λ (n : ℕ). IsFramed b (fresh blank n) (replicate p 0)) (sym len) is);
       collecting = λ e h s. c.in-Ok.ensures.settled h;
       published = λ e h s. absurd (collecting≢published s);
+      first = λ e s. absurd (collecting≢published s);
       safe = λ h. subst (λ (t : ℕ). IsSafe b t b.volume b.volume) (sym (c.moment-since.ensures h)) (safe-now b (c.in-Ok.ensures.settled h) (g.met.D.Disk.only_now c.prepare.new.disk));
     }
 

@@ -19,5 +19,5 @@ loop-at-preserved g c = (
       let was = c.loop-at.invariant.2 h in
       let writes = subst (λ (m : ℕ). WritesVolume c.loop-at.at m (g.D.Disk.state c.loop-at.disk) (g.D.Disk.state c.write_volume.new.self)) len (c.write_volume.ensures.writes h) in
       let wrote = ap (bytes_at (g.D.Disk.state c.write_volume.new.self).volume c.loop-at.at) (sym len) ∙ c.in_ok-write_volume.ensures.value h ∙ is in
-      filled-more c.args.head (g.D.Disk.state c.args.disk.now) (g.D.Disk.state c.loop-at.disk) (g.D.Disk.state c.write_volume.new.self) c.loop-at.at n c.args.head.size some fits was writes wrote,
+      filled-more c.args.head c.args.is_shut (g.D.Disk.state c.args.disk.now) (g.D.Disk.state c.loop-at.disk) (g.D.Disk.state c.write_volume.new.self) c.loop-at.at n c.args.head.size some fits was writes wrote,
 )

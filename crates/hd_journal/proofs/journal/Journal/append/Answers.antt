@@ -23,6 +23,7 @@ returns-in_default-clause-kept g c =
       framed = λ e. absurd (true≢false e);
       collecting = λ e. absurd (true≢false e);
       published = λ e. absurd (true≢false e);
+      first = λ e. absurd (true≢false e);
       safe = λ h. collecting-safe b j.since j.stage b.volume _ c.requires.collecting
           (safe-still a b (frame_at j.head.size j.head.count) (j.head.size + 4) j.since (omega arith) (k.collecting c.requires.well h c.requires.collecting)
           (safe-collecting a j.since j.stage a.volume _ c.requires.collecting (k.safe h)) (c.append_frame.ensures.writes h));
@@ -47,6 +48,7 @@ returns-clause-kept g c =
           (c.in-Ok.ensures.value h) long c.append_frame.ensures.number c.requires.whole (λ i low. c.append_frame.ensures.block i (omega (arith, c.requires.whole, low)));
       collecting = λ e h p. settled-still a b (frame_at j.head.size j.head.count) (j.head.size + 4) (omega arith) (k.collecting c.requires.well h c.requires.collecting) (c.append_frame.ensures.writes h);
       published = λ e h p. absurd (collecting≢published (sym c.requires.collecting ∙ p));
+      first = λ e p. absurd (collecting≢published (sym c.requires.collecting ∙ p));
       safe = λ h. collecting-safe b j.since j.stage b.volume _ c.requires.collecting
           (safe-still a b (frame_at j.head.size j.head.count) (j.head.size + 4) j.since (omega arith) (k.collecting c.requires.well h c.requires.collecting)
           (safe-collecting a j.since j.stage a.volume _ c.requires.collecting (k.safe h)) (c.append_frame.ensures.writes h));

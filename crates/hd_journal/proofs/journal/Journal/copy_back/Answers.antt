@@ -37,6 +37,7 @@ returns-clause-kept g c =
           subst (λ (xs : List ℕ). IsFramed b c.fresh-self.result xs) items at-head;
       collecting = λ e h p. c.in-Ok.ensures.settled h;
       published = λ e h p. absurd (collecting≢published p);
+      first = λ e p. absurd (collecting≢published p);
       safe = λ h.
           let is : IsSafe b j.since (image j.head a.log a.volume) (image j.head a.log a.volume) =
           safe-on a b j.since (image j.head a.log a.volume) (image j.head a.log a.volume) (safe-published a j.since j.stage a.volume _ c.requires.published (k.safe h)) (weakened (c.finish.ensures.leaves h) (λ l v p. inl p)) in

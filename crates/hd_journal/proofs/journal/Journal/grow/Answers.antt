@@ -30,6 +30,7 @@ returns-clause-kept g c =
           (grown-framed a j.head j.places.items c.args.blocks (k.framed well h)));
       collecting = λ e h p. k.collecting well h c.in-Ok.ensures.collecting;
       published = λ e h p. absurd (collecting≢published (sym c.in-Ok.ensures.collecting ∙ p));
+      first = λ e p. absurd (collecting≢published (sym c.in-Ok.ensures.collecting ∙ p));
       safe = λ h. collecting-safe a j.since j.stage a.volume _ c.in-Ok.ensures.collecting (safe-collecting a j.since j.stage a.volume _ c.in-Ok.ensures.collecting (k.safe h));
     }
 

@@ -23,6 +23,7 @@ returns-clause-kept g c =
       framed = λ e h. opened-framed a b j.head j.places.items (k.framed c.requires.well h) (c.in-Ok.ensures.opened h);
       collecting = λ e h p. absurd (collecting≢published (sym p));
       published = λ e h p. opened-self j.head a b (c.in-Ok.ensures.opened h);
+      first = λ e p. c.requires.first;
       safe = λ h. subst (λ (t : ℕ). IsSafe b t (image j.head b.log b.volume) (image j.head b.log b.volume)) (sym (c.moment-self.ensures h))
           (safe-open b j.head (opened-self j.head a b (c.in-Ok.ensures.opened h)) (g.met.D.Disk.only_now c.publish.new.disk));
     }

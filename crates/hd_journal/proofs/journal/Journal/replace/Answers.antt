@@ -25,6 +25,7 @@ returns-in_default-clause-kept g c =
       framed = λ e. absurd (true≢false e);
       collecting = λ e. absurd (true≢false e);
       published = λ e. absurd (true≢false e);
+      first = λ e. absurd (true≢false e);
       safe = λ h. collecting-safe b j.since j.stage b.volume _ c.requires.collecting
           (safe-still a b (frame_at j.head.size (c.args.place - 1) + 4) j.head.size j.since (omega arith) (k.collecting c.requires.well h c.requires.collecting)
           (safe-collecting a j.since j.stage a.volume _ c.requires.collecting (k.safe h)) (c.overwrite_frame.ensures.writes h));
@@ -49,6 +50,7 @@ returns-clause-kept g c =
           (subst (λ (p : ℕ). bytes_at b.log (frame_at j.head.size (p - 1) + 4) j.head.size ≡ c.args.bytes.now) (sym c.requires.is) (c.in-Ok.ensures.value h)) c.requires.whole;
       collecting = λ e h p. settled-still a b (frame_at j.head.size (c.args.place - 1) + 4) j.head.size (omega arith) (k.collecting c.requires.well h c.requires.collecting) (c.overwrite_frame.ensures.writes h);
       published = λ e h p. absurd (collecting≢published (sym c.requires.collecting ∙ p));
+      first = λ e p. absurd (collecting≢published (sym c.requires.collecting ∙ p));
       safe = λ h. collecting-safe b j.since j.stage b.volume _ c.requires.collecting
           (safe-still a b (frame_at j.head.size (c.args.place - 1) + 4) j.head.size j.since (omega arith) (k.collecting c.requires.well h c.requires.collecting)
           (safe-collecting a j.since j.stage a.volume _ c.requires.collecting (k.safe h)) (c.overwrite_frame.ensures.writes h));
