@@ -89,9 +89,11 @@ units d pcbs image rows turns left passed (inr part) = (part.made, part.log, run
 tries : (d : Database) → FailedCommitsTryForests d
 tries d pcbs image rows turns log is_sound old new legal (inl same) = inl same
 tries d pcbs image rows turns log is_sound old new legal (inr failed) =
-    inr (ap (λ (c : Committed). c.image) failed.1,
-    subst (λ (bytes : List ℕ). PassesFor d bytes (last_state d.types pcbs (opened pcbs rows) log.entries).rows) (sym (ap (λ (c : Committed). c.tried) failed.1))
-        (log_passes d pcbs (opened pcbs rows) log.entries log.last legal.legal.follows))
+    inr (
+      ap (λ (c : Committed). c.image) failed.1,
+      subst (λ (bytes : List ℕ). PassesFor d bytes (last_state d.types pcbs (opened pcbs rows) log.entries).rows) (sym (ap (λ (c : Committed). c.tried) failed.1))
+          (log_passes d pcbs (opened pcbs rows) log.entries log.last legal.legal.follows),
+    )
 
 pub crash_law : (d : Database) → IsCrashLaw d
 crash_law d = record {

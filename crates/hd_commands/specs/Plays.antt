@@ -34,8 +34,3 @@ PlaySays is_sound failures contents d pcbs steps old new (Full n) = ⊥
 PlaySays is_sound failures contents d pcbs steps old new Device =
     (failures old < failures new) × (is_sound new ≡ false) ⊎ (IsTrue (is_sound old) → IsPlayedInPart d pcbs (contents old) (turns_of steps) (contents new))
 PlaySays is_sound failures contents d pcbs steps old new Memory = IsTrue (is_sound old) → contents new ≡ contents old
-
--- The same of a play as one unit, behind which an access may fail too: then nothing is said but that it did.
-abbrev pub UnitSays : {S : Type 0} → (S → Bool) → (S → ℕ) → (S → List ℕ) → Database → List View → List StepText → S → S → Refusal → Type 0
-UnitSays is_sound failures contents d pcbs steps old new refusal =
-    (failures old < failures new) × (is_sound new ≡ false) ⊎ PlaySays is_sound failures contents d pcbs steps old new refusal

@@ -36,7 +36,6 @@ fn play_and_print<S: BlockStore, O: Write>(
     ensures failures { OnOk result.1 (S.failures result.0 ≡ S.failures store) }
     ensures refused { IfErr result.1 (PlaySays S.is_sound S.failures S.contents dbd.now psb.now.pcbs steps.now store result.0) }
     ensures silent { IfErr result.1 (λ e. e ≢ Refusal.Device → out.new ≡ out.old) }
-    ensures no_fewer { S.failures store ≤ S.failures result.0 }
     ensures sound { IsTrue (S.is_sound result.0) → IsTrue (S.is_sound store) }
     ensures committed { S.committed result.0 ≡ S.committed store }
     ensures size { S.size result.0 ≡ S.size store }
@@ -75,7 +74,6 @@ pub fn play_deck<S: BlockStore, O: Write, E: Write>(
     ensures quiet { OnOk result.1 (err.new ≡ err.old) }
     ensures refused { IfErr result.1 (λ e. IsRefused (PlaySays S.is_sound S.failures S.contents dbd.now psb.now.pcbs steps.now store result.0) e (E.contents err.old) (E.contents err.new)) }
     ensures silent { IfErr result.1 (λ e. e.status ≢ 3 → out.new ≡ out.old) }
-    ensures no_fewer { S.failures store ≤ S.failures result.0 }
     ensures sound { IsTrue (S.is_sound result.0) → IsTrue (S.is_sound store) }
     ensures committed { S.committed result.0 ≡ S.committed store }
     ensures size { S.size result.0 ≡ S.size store }

@@ -1,12 +1,9 @@
-ghost use Rattle.std.specs.Prelude.{◌≡◌, ◌≢◌, ◌^◌, ◌<◌, ◌≤◌, length, All, IsTrue, true, Some, IfOk, IfErr, OnOk};
+ghost use Rattle.std.specs.Prelude.{◌≡◌, ◌≢◌, ◌^◌, ◌<◌, ◌≤◌, length, All, IsTrue, true, Some, IfOk, IfErr, OnOk, OnErr};
 ghost use Rattle.hd_dbd.specs.ProgramRules.{type_names};
-ghost use Rattle.hd_deck.specs.Runs.{turns_of};
 ghost use Rattle.hd_deck.specs.StepText.{StepFits};
-ghost use Rattle.hd_commands.specs.Commands.{IsRefused};
 ghost use Rattle.hd_dbd.specs.Refusals.{OnlyDevice};
 ghost use Rattle.hd_stores.specs.Stores.{IsCommit, CountsDevice, StaysSound};
-ghost use Rattle.hd_commands.specs.Crashes.{LeavesEither, IsLeftBy, MayHaveTried};
-ghost use Rattle.hd_commands.specs.Plays.{PlaysInPrint, UnitSays};
+ghost use Rattle.hd_commands.specs.Crashes.{LeavesEither, MayHaveTried};
 
 use crate::deck_command::play_deck;
 use crate::ended::{Ended, refuse};
@@ -20,22 +17,22 @@ use std::alloc::Global;
 use std::io::Write;
 use std::sync::ledger::Ledger;
 
-/// Whether what a play left is to last: it made all calls, or some up to a line that could not be written. Where an access failed instead, the store
-/// refuses it.
-fn is_wanted(played: &Result<u64, Ended>) -> bool
-    ensures { result ≡ true → IfErr played.now (λ e. e.refusal ≡ Some Refusal.Device) }
+/// Whether what a play left is to last: all of it has reached the store, and it made all calls, or some up to a line that could not be written. Where an
+/// access failed instead, the store refuses it.
+fn is_wanted(played: &Result<u64, Ended>, written: &Result<(), Refused>) -> bool
+    ensures played { result ≡ true → IfErr played.now (λ e. e.refusal ≡ Some Refusal.Device) }
+    ensures written { result ≡ true → OnErr written.now ⊥ }
+    ensures all { OnOk played.now (OnOk written.now (result ≡ true)) }
 {
-    match played {
-        Ok(_) => true,
-        Err(ended) => ended.refusal == Some(Refusal::Device),
+    match (played, written) {
+        (_, Err(_)) => false,
+        (Ok(_), Ok(())) => true,
+        (Err(ended), Ok(())) => ended.refusal == Some(Refusal::Device),
     }
 }
 
 /// Makes last what was written, if that is wanted.
-fn commit_if<D: Disk, L: Ledger>(
-    store: &mut Journaled<D, L>,
-    wanted: bool,
-) -> Result<(), Refused>
+fn commit_if<D: Disk, L: Ledger>(store: &mut Journaled<D, L>, wanted: bool) -> Result<(), Refused>
     ensures crash { IsTrue D.is_honest → store.old.committed.tried ≡ store.old.committed.image → LeavesEither (D.state store.new.disk) store.old.committed.since store.old.committed.image store.new.committed.tried }
     ensures tried { IsTrue D.is_honest → MayHaveTried wanted store.old.is_sound store.old.contents store.old.committed store.new.committed }
     ensures contents { OnOk result (IsTrue store.old.is_sound → store.new.contents ≡ store.old.contents) }
@@ -52,6 +49,43 @@ fn commit_if<D: Disk, L: Ledger>(
     let committed = store.commit();
     store.assure();
     committed
+}
+
+/// Plays a deck over a store through a cache of so many blocks, and gives the store back with what it was answered, and whether all that the cache had has
+/// reached it.
+fn play_through<D: Disk, L: Ledger, P: Progress, O: Write, E: Write>(
+    alloc: Global,
+    dbd: &Dbd,
+    psb: &Psb,
+    steps: &[Step],
+    store: Journaled<D, L>,
+    cache: usize,
+    progress: &P,
+    out: &mut O,
+    err: &mut E,
+) -> (Journaled<D, L>, Result<u64, Ended>, Result<(), Refused>)
+    requires size { store.size ≡ dbd.now.block_size }
+    requires matches { psb.now.made_for ≡ type_names dbd.now.types }
+    requires steps { All (StepFits (length psb.now.pcbs)) steps.now }
+    requires count { length steps.now ≤ 2 ^ 30 }
+    requires cache { (0 < cache) × (cache ≤ 65536) }
+    ensures committed { result.0.committed ≡ store.committed }
+    ensures failures { OnOk result.2 (OnOk result.1 (result.0.failures ≡ store.failures)) }
+    ensures quiet { OnOk result.1 (err.new ≡ err.old) }
+    ensures silent { IfErr result.1 (λ e. e.status ≢ 3 → out.new ≡ out.old) }
+    ensures size { result.0.size ≡ store.size }
+{
+    let store = match Cached::new(alloc, ReadAhead::new(alloc, store), cache) {
+        Ok(cached) => Counted::new(cached, "playing", progress),
+        Err((ahead, _)) => return (
+            ahead.into_store(),
+            Err(refuse(Refusal::Memory, err)),
+            Ok(()),
+        ),
+    };
+    let (store, played) = play_deck(alloc, dbd, psb, steps, store, out, err);
+    let (ahead, written) = store.into_inner().into_store();
+    (ahead.into_store(), played, written)
 }
 
 /// Plays a deck as one unit over a volume and its log, through a cache of so many blocks, and makes last what its calls made of the volume. Says what
@@ -76,27 +110,23 @@ pub fn play_unit<D: Disk, L: Ledger, P: Progress, O: Write, E: Write>(
     requires steps { All (StepFits (length psb.now.pcbs)) steps.now }
     requires count { length steps.now ≤ 2 ^ 30 }
     requires cache { (0 < cache) × (cache ≤ 65536) }
-    ensures crash { IsTrue store.is_sound → LeavesEither (D.state result.0.disk) store.committed.since store.committed.image result.0.committed.tried }
-    ensures left { IsTrue store.is_sound → store.committed.tried ≡ store.contents → IsLeftBy dbd.now psb.now.pcbs store.contents (turns_of steps.now) result.0.committed.tried }
-    ensures lasts { OnOk result.1 (IsTrue store.is_sound → (result.0.committed.image ≡ result.0.contents) × (result.0.committed.tried ≡ result.0.contents)) }
-    ensures played { IfOk result.1 (PlaysInPrint (λ s. s.is_sound) (λ s. s.contents) dbd.now psb.now.pcbs steps.now store result.0 (O.contents out.old) (O.contents out.new)) }
+    ensures crash { IsTrue D.is_honest → store.committed.tried ≡ store.committed.image → LeavesEither (D.state result.0.disk) store.committed.since store.committed.image result.0.committed.tried }
+    ensures lasts { OnOk result.1 (IsTrue result.0.is_sound → (result.0.committed.image ≡ result.0.contents) × (result.0.committed.tried ≡ result.0.contents)) }
     ensures failures { OnOk result.1 (result.0.failures ≡ store.failures) }
     ensures quiet { OnOk result.1 (err.new ≡ err.old) }
-    ensures refused { IfErr result.1 (λ e. IsRefused (UnitSays (λ s. s.is_sound) (λ s. s.failures) (λ s. s.contents) dbd.now psb.now.pcbs steps.now store result.0) e (E.contents err.old) (E.contents err.new)) }
     ensures silent { IfErr result.1 (λ e. e.status ≢ 3 → out.new ≡ out.old) }
     ensures size { result.0.size ≡ store.size }
 {
-    let store = match Cached::new(alloc, ReadAhead::new(alloc, store), cache) {
-        Ok(cached) => Counted::new(cached, "playing", progress),
-        Err((ahead, _)) => return (ahead.into_store(), Err(refuse(Refusal::Memory, err))),
-    };
-    let (store, played) = play_deck(alloc, dbd, psb, steps, store, out, err);
-    let (ahead, written) = store.into_inner().into_store();
-    let mut store = ahead.into_store();
-    let wanted = written.is_ok() && is_wanted(&played);
+    let (mut store, played, written) = play_through(
+        alloc, dbd, psb, steps, store, cache, progress, out, err,
+    );
+    let wanted = is_wanted(&played, &written);
     let committed = commit_if(&mut store, wanted);
-    match (played, written.is_ok() && committed.is_ok()) {
-        (Ok(_), false) => (store, Err(refuse(Refusal::Device, err))),
-        (played, _) => (store, played),
+    match played {
+        Err(ended) => (store, Err(ended)),
+        Ok(memory) => match (written, committed) {
+            (Ok(()), Ok(())) => (store, Ok(memory)),
+            _ => (store, Err(refuse(Refusal::Device, err))),
+        },
     }
 }
