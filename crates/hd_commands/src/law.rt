@@ -19,7 +19,7 @@ pub fn law_headline()
 /// has the image for which the files stand, and that a crash while they are opened leaves it. `assure` says that a crash at any moment since the last commit
 /// leaves the image of that commit, or of one that was tried since and failed; `commit` (`leaves`), that one at any moment of a commit leaves the old or the
 /// new. No other call changes which images these are: `committed` of every call of a store, up to those of a session. `play_unit` says it of a deck that is
-/// one unit (`crash`, `left`, `lasts`), and `commit` of a session says which image its commit makes last, or tries. This law says that all these images pass.
+/// one unit (`crash`, `lasts`), and `commit` of a session says which image its commit makes last, or tries. This law says that all these images pass.
 pub fn law_crashes_leave_commits()
     ensures { CrashLaw }
 {}
