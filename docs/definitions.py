@@ -11,7 +11,7 @@ import sys
 ROOT = os.path.dirname(os.path.dirname(os.path.abspath(__file__)))
 
 # What begins a definition. Constructors and fields follow it, and are shown with it only where it has no comment of its own.
-BEGINS = re.compile(r"\s*(?:abbrev pub|pub abbrev|pub record|pub data|pub) (?:record |data )?([^\s:(]+)")
+BEGINS = re.compile(r"\s*(?:abbrev pub|unfoldable pub|pub abbrev|pub record|pub data|pub) (?:record |data )?([^\s:(]+)")
 FIELD = re.compile(r"\s+pub (\S+) :")
 
 
