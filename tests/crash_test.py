@@ -5,8 +5,8 @@
 
 Decks, served programs and recovery itself run with a shim that keeps each write, change of a length, sync, new name and removed name, in order. Then
 images are made: the run is cut at some moment, and each write behind the last sync of its file is there, is lost, or is torn, in any mix. Each image is
-unloaded, which recovers it first: the stream must be the one from before the run or the one behind it, and behind the answer of the commit the latter. Beside
-that, runs are killed at random moments.
+unloaded, which recovers it first: the stream must be the one from before the run or the one behind it, and behind the answer of the commit the latter. A volume that
+lost its log has one of the two or a fault. Beside that, runs are killed at random moments.
 
 Its last line tells how many cases there were, and how many were wrong; its status is 1 if any was.
 """
@@ -217,6 +217,19 @@ def try_images(place, what, rng, trace, before, old, new, images):
     return seen
 
 
+def try_parted(place, what, rng, trace, before, old, new, images):
+    """Images of a run whose log is lost: the volume is as it was, or as it is then, or it has a fault; it never passes half new."""
+    for _ in range(images):
+        cut = rng.randrange(len(trace) + 1)
+        disk = Disk(*before)
+        for record in trace[:cut]:
+            disk.play(record)
+        place.put(disk.left(rng)[0], None)
+        found = place.stream()
+        is_right = found in (old, new) if isinstance(found, bytes) else found.returncode == 1
+        expect(f"{what} cut at {cut} of {len(trace)} without its log", is_right, found if not isinstance(found, bytes) else "a stream that never was")
+
+
 def traced(place, words, **more):
     """The records of a run with the shim."""
     os.path.exists("trace") and os.remove("trace")
@@ -237,6 +250,7 @@ def try_decks(place, rng, images, runs):
             expect(f"{what} leaves no log", not os.path.exists(LOG))
             seen = try_images(place, what, rng, trace, (place.first, None), old, new, images)
             expect(f"{what} is seen as it was and as it is then", {True, False} <= seen or old == new, seen)
+            try_parted(place, what, rng, trace, (place.first, None), old, new, images // 4)
             try_recovery(place, f"recovery of {what}", rng, trace, old, new, images // 4)
 
 
