@@ -63,7 +63,10 @@ pub fn advise_stop<E: Write>(
         }
         Stop::OtherVersion => {
             put_file(request, Named::Log, err)?;
-            writeln!(err, ": another version of hd wrote it, which can copy it into the volume")
+            writeln!(
+                err,
+                ": another version of hd wrote it, which can copy it into the volume"
+            )
         }
         Stop::Waiting(error) => {
             let said = format!(in alloc; "{error}")?;

@@ -7,7 +7,7 @@ use crate::stop::Stop;
 use crate::volume_store::open_to_read;
 use hd_commands::{Ended, check_volume};
 use hd_dbd::Dbd;
-use hd_files::{cached_blocks};
+use hd_files::cached_blocks;
 use hd_output::Progress;
 use hd_stores::{BlockStore, Counted};
 use hd_volume::Volume;

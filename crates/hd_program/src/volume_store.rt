@@ -73,7 +73,10 @@ pub fn close_store<L: Ledger, R: Files<File = File>>(
 /// Tells that commits could not be copied into the volume yet.
 pub fn tell_waiting<E: Write>(settled: Result<(), ()>, err: &mut E) {
     if settled.is_err() {
-        let _ = writeln!(err, "the commit stands in the log alone: the next command copies it into the volume");
+        let _ = writeln!(
+            err,
+            "the commit stands in the log alone: the next command copies it into the volume"
+        );
     }
 }
 
