@@ -93,7 +93,7 @@ fn play_through<D: Disk, L: Ledger, P: Progress, O: Write, E: Write>(
 ///
 /// From `Ok` on a crash leaves what the calls left, whenever it comes. Until then, and behind a refusal, it leaves the volume as it was before the deck,
 /// or what the calls left: never what only a part of a call made. Where a line could not be written, what was called before is made last; where an
-/// access failed, nothing is.
+/// access failed, nothing is. That the image which lasts is the one that the calls left is not a clause yet: `crash` and `lasts` speak of the store's.
 pub fn play_unit<D: Disk, L: Ledger, P: Progress, O: Write, E: Write>(
     alloc: Global,
     dbd: &Dbd,
