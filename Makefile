@@ -1,12 +1,12 @@
 # `make run` plays the sample deck at once, by a build that is not proved; `make` proves hd and leaves it at bin/hd; `make test`
 # is the gate, with all that tests play over the proved program and that the documents and the programs of other languages show, and `make edits OF=NAME` tries more edits
 # of a crate than the gate does. `make examples` plays what the documents and examples show, and compares, and so the words of
-# FORMATS; `make program-test` plays hd over many cases of words, files and standard input; `make serve-test` plays frames of `hd serve`; `make calls-test`
+# FORMATS; `make program-test` plays hd over many cases of words, files and standard input; `make serve-test` plays frames of `hd serve`, and `make commits-test` programs that commit, take back and are killed; `make calls-test`
 # compares worked lists and random decks with a plain list of rows; `make files-test` tries that nothing loses a file, and `make crash-test` that a crash leaves the last commit; `make definitions` lists each word of
 # the specs; `make bench` measures hd, and SQLite beside it; `make dli` makes hdrun, which runs programs that call DL/I, and
 # `make dli-test` tries it; `make install` puts the program and its manual pages below PREFIX, `make install-dli` what programs
 # want, and `make uninstall` takes them away.
-.PHONY: all run test program-test serve-test calls-test files-test crash-test edits examples definitions bench dli dli-test install uninstall install-dli clean
+.PHONY: all run test program-test serve-test commits-test calls-test files-test crash-test edits examples definitions bench dli dli-test install uninstall install-dli clean
 
 SHELL = /bin/bash
 
@@ -43,6 +43,10 @@ program-test: bin/hd
 serve-test: bin/hd
 	python3 tests/serve_test.py bin/hd
 
+# programs that commit, take back, end and are killed, beside a plain list of rows. GAMES says how many
+commits-test: bin/hd
+	python3 tests/commits_test.py bin/hd $(GAMES)
+
 # worked lists and random decks, each line of which a plain list of rows answers too
 calls-test: bin/hd
 	python3 tests/calls_test.py bin/hd
@@ -55,7 +59,7 @@ test:
 	mkdir -p bin
 	TIMEFORMAT='%R s, and %U s of processors' && set -o pipefail && time RT_JOBS=$(LANES) rt ci | tee bin/gate.log
 	python3 make/stamp.py crates/hd/out/hd bin/hd
-	$(MAKE) --no-print-directory -o bin/hd program-test serve-test calls-test examples $(DLI_TEST)
+	$(MAKE) --no-print-directory -o bin/hd program-test serve-test commits-test calls-test examples $(DLI_TEST)
 	@$(if $(DLI_TEST),,echo 'No program in COBOL or C was tried: this machine has no cobc, or no C compiler.' >&2)
 	@tail -n 1 bin/gate.log
 
@@ -77,7 +81,7 @@ definitions:
 bench: bin/hd
 	python3 bench/bench.py
 
-DLI = $(addprefix dli/,server.c database.c call.c entries.c trace.c hdrun.c)
+DLI = $(addprefix dli/,server.c database.c call.c io_pcb.c entries.c trace.c hdrun.c)
 
 # programs in COBOL and C call what hdrun exports
 bin/hdrun: $(DLI) dli/dli.h dli/include/ims.h
@@ -88,6 +92,7 @@ dli: bin/hdrun
 
 dli-test: bin/hd bin/hdrun
 	python3 dli/test.py bin
+	empty=$$(mktemp -d) && trap "rmdir $$empty" EXIT && python3 examples/check.py docs/PROGRAMS.md $$empty
 
 PREFIX ?= /usr/local
 BIN = $(DESTDIR)$(PREFIX)/bin

@@ -118,7 +118,7 @@ static void send_call(const struct pcb *pcb, const char *function, const struct 
 }
 
 /* What the server says where it can't answer. IMS ends a program that its database can't serve. */
-static void refused(unsigned outcome)
+_Noreturn void refused(unsigned outcome)
 {
     static const char *const why[] = {
         "",
@@ -168,25 +168,6 @@ static unsigned take_answer(struct pcb *pcb, unsigned char *area)
     return answer[3];
 }
 
-/* A call of the I/O PCB: a batch program's checkpoints are blanks, and other calls have no place here. */
-struct io_mask {
-    char terminal[8], reserved[2], status[2], rest[48];
-};
-
-static struct io_mask io;
-
-void *io_pcb(void)
-{
-    memset(&io, ' ', sizeof io);
-    return &io;
-}
-
-static void io_call(const char *function)
-{
-    int is_known = !memcmp(function, "CHKP", 4) || !memcmp(function, "XRST", 4);
-    memcpy(io.status, is_known ? "  " : "AD", 2);
-}
-
 void dli_call(int count, void **at)
 {
     struct argument arguments[MOST_SSAS];
@@ -194,8 +175,8 @@ void dli_call(int count, void **at)
 
     if (count < 2)
         abend("a DL/I call with fewer than two parameters");
-    if (at[1] == (void *)&io) {
-        io_call(at[0]);
+    if (is_io_pcb(at[1])) {
+        io_call(count, at);
         return;
     }
     struct pcb *pcb = pcb_of(at[1]);

@@ -34,9 +34,9 @@ static const unsigned char *read_type(struct type *into, const unsigned char *at
     into->fields = at[14];
     into->field = fresh(into->fields, sizeof *into->field);
     at += 15;
-    for (unsigned place = 0; place < into->fields; place++, at += 10) {
+    for (unsigned place = 0; place < into->fields; place++, at += 12) {
         memcpy(into->field[place].name, at, 8);
-        into->field[place].length = number_in(at + 8, 2);
+        into->field[place].length = number_in(at + 10, 2);
     }
     return at;
 }
@@ -60,7 +60,7 @@ static const unsigned char *read_pcb(struct pcb *into, const unsigned char *at, 
 
 void database_read(const unsigned char *hello, size_t length)
 {
-    if (length < 6 || memcmp(hello, "HD", 2) || number_in(hello + 2, 2) != 1)
+    if (length < 6 || memcmp(hello, "HD", 2) || number_in(hello + 2, 2) != 2)
         abend("hd serve speaks another language than hdrun: they are of different versions");
     pcbs = hello[4];
     types = hello[5];
@@ -73,6 +73,12 @@ void database_read(const unsigned char *hello, size_t length)
         at = read_pcb(pcb + place, at, place + 1);
         __pcblist[place] = pcb[place].mask;
     }
+}
+
+void database_release(void)
+{
+    for (int place = 0; place < pcbs; place++)
+        pcb[place].held = 0;
 }
 
 int database_pcbs(void)

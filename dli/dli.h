@@ -10,7 +10,7 @@ enum { MOST_FRAME = 1 << 20, MOST_SSAS = 15, MOST_LEVELS = 15, MOST_PCBS = 255 }
 
 /* server.c: `hd serve` on two pipes. */
 
-/* Ends the program as an abend does: says why, has the server close the volume, and exits with 16. */
+/* Ends the program as an abend does: says why, has the server go back to the last commit, and exits with 16. */
 _Noreturn void abend(const char *format, ...) __attribute__((format(printf, 1, 2)));
 
 /* Starts the server over its words, of which the last is NULL, and gives its first frame; the program's exit status where it ended before that. */
@@ -21,6 +21,10 @@ void server_send(unsigned char *frame, size_t length);
 
 /* The next frame from the server, which stands until the next one is asked for. */
 const unsigned char *server_receive(size_t *length);
+
+/* Asks for a commit or a roll back, and gives what is answered: DONE, or the number of a refusal. */
+enum { COMMIT = 2, ROLL_BACK = 3, DONE = 6 };
+unsigned server_request(unsigned kind);
 
 /* Closes the server's input, waits for its end, and gives its exit status; 0 where there is none. */
 int server_end(void);
@@ -75,8 +79,13 @@ void mask_number(const struct pcb *pcb, uint32_t *place, uint32_t number);
 const struct type *type_named(const char *name);
 const struct field *field_named(const struct type *type, const char *name);
 
-/* The I/O PCB of a batch program, whose calls are answered here. */
+/* io_pcb.c: the I/O PCB of a batch program, by which it commits and takes back. */
 void *io_pcb(void);
+int is_io_pcb(const void *mask);
+void io_call(int count, void **at);
+
+/* Forgets what the PCBs hold. */
+void database_release(void);
 
 /* trace.c: calls as a deck, and answers as the lines of `hd deck`, into files; NULL for none. */
 struct text {
@@ -87,6 +96,12 @@ struct text {
 void trace_into(const char *deck_path, const char *answers_path);
 void trace_call(int pcb, const char *function, int count, const struct text *ssas, const unsigned char *area, size_t length);
 void trace_answer(const unsigned char *answer, size_t length);
+
+/* Makes last what the program has changed so far; positions stay. Ends the program where that can't be done. */
+void commit(void);
+
+/* Ends the program where the server can't answer, by the number of its refusal. */
+_Noreturn void refused(unsigned outcome);
 
 /* call.c: a call of a program. at[0] is the function, at[1] the PCB, at[2] the I/O area, and then come SSAs. */
 void dli_call(int count, void **at);

@@ -64,6 +64,12 @@ ENTRY(CBLTDLI)
 ENTRY(PLITDLI)
 ENTRY(CEETDLI)
 
+/* Calls by an application interface block are not known here. */
+int AIBTDLI(void)
+{
+    abend("AIBTDLI is not there: call CBLTDLI, PLITDLI or CEETDLI with a PCB");
+}
+
 /* What ctdli of ims.h becomes: a call with the count of its parameters, which answers 0 at a blank status, and else its two letters. */
 int hd_ctdli(int count, ...)
 {

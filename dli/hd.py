@@ -10,9 +10,14 @@
         pcb.repl("HAM000027")
 
 A call answers an Answer: its status (two letters, "  " where all is well), level, segment, key and area. Statuses are no exceptions, for programs
-decide by them; Refused is raised where the database can't answer at all, and Ended where `hd serve` has ended. The volume is written when the
-session is closed, which `with` does.
+decide by them; Refused is raised where the database can't answer at all, and Ended where `hd serve` has ended.
+
+What the calls changed lasts from a commit on: session.commit(), session.close(), and the end of `with`. session.rollback() goes back to the last one, and so
+does a `with` that an exception leaves, and a program that is killed.
+
+The fields of a segment have names: part["PARTNO"] is a field's bytes, and part.changed(COLOUR="blue") the area with another value in it, padded with blanks.
 """
+import contextlib
 import os
 import struct
 import subprocess
@@ -20,13 +25,40 @@ from collections import namedtuple
 
 __all__ = ["open", "ssa", "Session", "Pcb", "Answer", "Field", "SegmentType", "Refused", "Ended"]
 
-Answer = namedtuple("Answer", "status level segment key area")
-Answer.__doc__ = "What a call answers: status, level, segment's name, concatenated key, and the bytes of its I/O area."
-
-Field = namedtuple("Field", "name length")
+Field = namedtuple("Field", "name start length")
+Field.__doc__ = "A field: its name, the place of its first byte in the segment, from 1, and its length in bytes."
 SegmentType = namedtuple("SegmentType", "name level length fields")
+SegmentType.__doc__ = "A segment type: its name, its level from 1, the most bytes that a segment has, and its fields by name."
 
 BLANK = "  "
+
+
+class Answer(namedtuple("Answer", "status level segment key area")):
+    """What a call answers: status, level, segment's name, concatenated key, and the bytes of its I/O area.
+
+    answer["NAME"] is a field's bytes; KeyError where the segment's type has no such field. answer.fields has the fields by name. They are those of one
+    segment: of an area that a path call filled with several they are of no use.
+    """
+
+    fields = {}
+
+    def __getitem__(self, name):
+        if not isinstance(name, str):
+            return super().__getitem__(name)
+        field = self.fields[name]
+        return self.area[field.start - 1 : field.start - 1 + field.length]
+
+    def changed(self, **values):
+        """The area with other values in some fields, each padded with blanks behind; ValueError where one is longer than its field."""
+        area = bytearray(self.area)
+        for name, value in values.items():
+            field = self.fields[name]
+            value = _bytes(value)
+            if len(value) > field.length:
+                raise ValueError(f"{name} has {field.length} bytes, and the value {len(value)}")
+            area[field.start - 1 : field.start - 1 + field.length] = value.ljust(field.length)
+        return bytes(area)
+
 
 _OUTCOMES = {
     1: "the volume is full, and nothing was inserted",
@@ -71,12 +103,15 @@ def ssa(segment, codes="", **fields):
     return text + b"(" + b"&".join(_name(field) + b"EQ" + _bytes(value) for field, value in fields.items()) + b")"
 
 
+_COMMIT, _ROLL_BACK, _DONE = 2, 3, 6
+
+
 class Session:
     """A program's view of a database, while `hd serve` has its volume open."""
 
     def __init__(self, dbd, psb, volume, program=None):
-        words = [program or os.environ.get("HD", "hd"), "serve", dbd, psb, volume]
-        self._server = subprocess.Popen([os.fspath(word) for word in words], stdin=subprocess.PIPE, stdout=subprocess.PIPE, bufsize=-1)
+        words = [program or os.environ.get("HD", "hd"), "serve", "--commit-on-request", dbd, psb, volume]
+        self._server = subprocess.Popen([os.fspath(word) for word in words], stdin=subprocess.PIPE, stdout=subprocess.PIPE, bufsize=-1, start_new_session=True)
         self._read_hello(self._receive())
 
     def _read_exact(self, count):
@@ -97,7 +132,7 @@ class Session:
             raise Ended(f"hd serve ended with status {self._server.wait()}") from None
 
     def _read_hello(self, hello):
-        if hello[:2] != b"HD" or hello[2:4] != b"\0\1":
+        if hello[:2] != b"HD" or hello[2:4] != b"\0\2":
             raise Ended("hd serve is of another version than hd.py")
         pcbs, types = hello[4], hello[5]
         at = 6
@@ -105,12 +140,13 @@ class Session:
         for _ in range(types):
             name, level, _, most, _, count = struct.unpack_from(">8sBBHHB", hello, at)
             at += 15
-            fields = []
+            fields = {}
             for _ in range(count):
-                field, length = struct.unpack_from(">8sH", hello, at)
-                fields.append(Field(field.decode().rstrip(), length))
-                at += 10
+                field, start, length = struct.unpack_from(">8sHH", hello, at)
+                fields[field.decode().rstrip()] = Field(field.decode().rstrip(), start, length)
+                at += 12
             self.types.append(SegmentType(name.decode().rstrip(), level, most, fields))
+        self._fields = {type.name: type.fields for type in self.types}
         self.pcbs = []
         for number in range(1, pcbs + 1):
             database, procopt, sensitive, longest = struct.unpack_from(">8s4sHH", hello, at)
@@ -131,10 +167,39 @@ class Session:
         if answer[0]:
             raise Refused(_OUTCOMES.get(answer[0], f"outcome {answer[0]}"))
         status, level, segment, length = struct.unpack_from(">2sB8sH", answer, 1)
-        return Answer(status.decode(), level, segment.decode().rstrip(), answer[14 : 14 + length], answer[14 + length :])
+        segment = segment.decode().rstrip()
+        answered = Answer(status.decode(), level, segment, answer[14 : 14 + length], answer[14 + length :])
+        answered.fields = self._fields.get(segment, {})
+        return answered
+
+    def _request(self, kind):
+        self._send(bytes([kind]))
+        answer = self._receive()
+        if answer[0] != _DONE:
+            raise Refused(_OUTCOMES.get(answer[0], f"outcome {answer[0]}"))
+
+    def commit(self):
+        """Makes last what the calls so far have changed: whatever happens from now on, it is there. Positions stay."""
+        self._request(_COMMIT)
+
+    def rollback(self):
+        """Takes back what the calls have changed since the last commit. Every PCB is at the start then, and holds nothing."""
+        self._request(_ROLL_BACK)
 
     def close(self):
-        """Has the server write the volume, and waits for its end."""
+        """Commits, and waits for the end of the server."""
+        if self._server.stdin.closed:
+            return
+        try:
+            self.commit()
+        except (Refused, Ended):
+            with contextlib.suppress(Ended):
+                self._end()
+            raise
+        self._end()
+
+    def _end(self):
+        """Waits for the end of the server, which goes back to the last commit."""
         if self._server.stdin.closed:
             return
         try:
@@ -148,8 +213,11 @@ class Session:
     def __enter__(self):
         return self
 
-    def __exit__(self, *_):
-        self.close()
+    def __exit__(self, kind, *_):
+        if kind is None:
+            self.close()
+        else:
+            self._end()
 
 
 class Pcb:

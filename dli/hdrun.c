@@ -97,6 +97,8 @@ static void read_region(char *region, struct run *run)
         usage("the program has a name of one to eight letters");
     run->program = program;
     run->psb_name = psb && *psb ? psb : program;
+    if (region && strspn(region, ",") < strlen(region))
+        fprintf(stderr, "hdrun: of the region's words those behind the PSB are not read: %s\n", region);
 }
 
 /* Where the file behind an option is kept, or NULL where the word is no such option. */
@@ -166,7 +168,7 @@ static void find_files(struct run *run)
 static void start_server(const struct run *run)
 {
     char *hd = getenv("HD") ? getenv("HD") : "hd";
-    char *words[] = {hd, "serve", run->dbd, run->psb, run->volume, NULL};
+    char *words[] = {hd, "--explain", "always", "serve", "--commit-on-request", run->dbd, run->psb, run->volume, NULL};
     unsigned char *hello;
     size_t length;
     int status = server_start(words, &hello, &length);
@@ -176,9 +178,28 @@ static void start_server(const struct run *run)
     database_read(hello, length);
 }
 
-/* The end of a program, by its return or by STOP RUN: the server writes what it has, and says whether it could. */
+/* Whether the program stopped at an error or a signal, of which its own library tells. */
+static int has_failed;
+
+static int on_error(char *why)
+{
+    (void)why;
+    has_failed = 1;
+    return 1;
+}
+
+static void on_signal(int number)
+{
+    (void)number;
+    has_failed = 1;
+}
+
+/* The end of a program, by its return or by STOP RUN: what it has changed is made last. Where its library found an error, or where a signal ended it, nothing is, and the
+   server goes back to the last commit. */
 static void at_end(void)
 {
+    if (!has_failed)
+        commit();
     int status = server_end();
 
     if (status) {
@@ -200,6 +221,27 @@ static int list_pcbs(const struct run *run, int is_big_endian)
     return count + first;
 }
 
+/* GnuCOBOL looks for subprograms where its own variable says: in the program library, unless that is set. */
+static void find_subprograms(void)
+{
+    const char *folder = getenv("HD_PGMLIB");
+    if (folder)
+        setenv("COB_LIBRARY_PATH", folder, 0);
+}
+
+/* GnuCOBOL ends a program at an error as at STOP RUN, and so at some signals, but tells of both before. */
+static void hear_of_failures(void)
+{
+    int (*of_errors)(const void *, const void *) = (int (*)(const void *, const void *))dlsym(RTLD_DEFAULT, "cob_sys_error_proc");
+    void (*of_signals)(void (*)(int)) = (void (*)(void (*)(int)))dlsym(RTLD_DEFAULT, "cob_reg_sighnd");
+    int (*handler)(char *) = on_error;
+
+    if (of_errors)
+        of_errors("\0", &handler);
+    if (of_signals)
+        of_signals(on_signal);
+}
+
 static int run_cobol(const struct run *run, const char *entry)
 {
     void (*begin)(int, char **) = (void (*)(int, char **))dlsym(RTLD_DEFAULT, "cob_init");
@@ -208,7 +250,9 @@ static int run_cobol(const struct run *run, const char *entry)
 
     if (!begin || !call)
         abend("%s is a COBOL program without GnuCOBOL's library", run->program);
+    find_subprograms();
     begin(0, NULL);
+    hear_of_failures();
     return call(entry, count, __pcblist);
 }
 

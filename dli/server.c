@@ -59,7 +59,7 @@ void abend(const char *format, ...)
 
 static void lost(void)
 {
-    abend("hd serve has ended before the program; hd check says what the volume is");
+    abend("hd serve has ended before the program; the volume is that of the last commit");
 }
 
 static void send_all(const unsigned char *bytes, size_t length)
@@ -129,6 +129,29 @@ void server_send(unsigned char *frame, size_t length)
     send_all(frame, length + 4);
 }
 
+unsigned server_request(unsigned kind)
+{
+    unsigned char request[5] = {0, 0, 0, 0, (unsigned char)kind};
+    size_t length;
+
+    server_send(request, 1);
+    const unsigned char *answer = server_receive(&length);
+    return length < 1 ? 255 : answer[0];
+}
+
+/* The server has a process group of its own, so that no signal from a terminal ends it: it ends when the pipe does. */
+static int spawn(char *const words[], const posix_spawn_file_actions_t *actions)
+{
+    posix_spawnattr_t attributes;
+
+    posix_spawnattr_init(&attributes);
+    posix_spawnattr_setflags(&attributes, POSIX_SPAWN_SETPGROUP);
+    posix_spawnattr_setpgroup(&attributes, 0);
+    int why = posix_spawnp(&server, words[0], actions, &attributes, words, environ);
+    posix_spawnattr_destroy(&attributes);
+    return why;
+}
+
 int server_start(char *const words[], unsigned char **hello, size_t *length)
 {
     int down[2], up[2];
@@ -141,7 +164,7 @@ int server_start(char *const words[], unsigned char **hello, size_t *length)
     posix_spawn_file_actions_init(&actions);
     posix_spawn_file_actions_adddup2(&actions, down[0], 0);
     posix_spawn_file_actions_adddup2(&actions, up[1], 1);
-    int why = posix_spawnp(&server, words[0], &actions, NULL, words, environ);
+    int why = spawn(words, &actions);
     posix_spawn_file_actions_destroy(&actions);
     close(down[0]);
     close(up[1]);

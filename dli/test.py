@@ -3,10 +3,11 @@
 
     dli/test.py FOLDER      FOLDER has hdrun, as `make dli` leaves it in bin; hd is looked for there too
 
-Every program's calls are played once more as a deck over the volume that it began with, and answer the same. Then programs that die, servers that
+Every program's calls are played once more as a deck over the volume that it began with, and answer the same. Then programs that commit and take back, programs that die, servers that
 are killed and two programs at once are tried. It wants gcc, cobc and python3, and installs nothing.
 """
 import os
+import random
 import shutil
 import signal
 import subprocess
@@ -161,6 +162,10 @@ def refusals(place):
     done = place.run("hdrun", "DLI,STRANGER,PARTRPT")
     expect("a PCB that is none", done.returncode == 16 and "U0476" in done.stdout, done.stdout)
     place.check("a PCB that is none")
+    done = place.run("hdrun", "DLI,AIBCALL,PARTRPT")
+    expect("a call by an AIB", done.returncode == 16 and "AIBTDLI is not there" in done.stdout, done.stdout)
+    done = place.run("hdrun", "DLI,PARTRPT,PARTRPT,0001,Y")
+    expect("words behind the PSB are told", done.returncode == 0 and "not read: 0001,Y" in done.stdout, done.stdout)
 
 
 def deaths(place):
@@ -184,6 +189,107 @@ def deaths(place):
     full = place.run("hdrun", "DLI,FILLING,PARTLOAD")
     expect("a full volume ends the program", full.returncode == 16 and "U0844" in full.stdout, full.stdout)
     place.check("a full volume")
+
+
+# What CHECKPT prints for each thing that DOING asks for, its status, and how many parts are there then.
+ENDS = {
+    "GOBACK": ("XRST [  ]\nCHKP [  ]\n", 0, 18),
+    "STOP": ("XRST [  ]\nCHKP [  ]\n", 0, 18),
+    "STATS": ("XRST [  ]\nCHKP [  ]\nSTAT [AD]\n", 0, 18),
+    "ROLB": ("XRST [  ]\nCHKP [  ]\nROLB [  ]\nGN [  ] 000001          \n", 0, 17),
+    "ROLL": ("XRST [  ]\nCHKP [  ]\n", 16, 15),
+    "ABEND": ("XRST [  ]\nCHKP [  ]\n", 1, 15),
+}
+
+
+def parts_in(place):
+    """The numbers of the parts of the volume, once no server has it any more."""
+    for _ in range(100):
+        rows = place.run("hd", "rows", "--explain", "never", os.path.join(PARTS, "parts.dbd"), "parts.volume")
+        if "volume is in use" not in rows.stdout:
+            break
+        time.sleep(0.05)
+    return [line.split("PARTNO=")[1][:6] for line in rows.stdout.splitlines() if "PARTNO=" in line]
+
+
+def numbers(count):
+    return [f"{number:06}" for number in range(1, count + 1)]
+
+
+def commits(place):
+    """Programs that take checkpoints: what lasts is what they committed, however they end."""
+    psb = os.path.join(HERE, "tests", "CHECKPT.psb")
+    for doing, (printed, status, count) in ENDS.items():
+        place.fresh()
+        done = place.run("hdrun", "--psb", psb, "DLI,CHECKPT", DOING=doing)
+        said = "".join(line for line in done.stdout.splitlines(True) if line[4:5] == " " and line[5:6] == "[" or line.startswith("GN"))
+        expect(f"{doing} prints what it should", said == printed, done.stdout)
+        expect(f"{doing} ends with its status", done.returncode == status, f"{done.returncode} {done.stdout}")
+        expect(f"{doing} leaves what was committed", parts_in(place) == numbers(count), done.stdout)
+        expect(f"{doing} is told", (count < 18) == ("taken back" in done.stdout) or doing == "ROLB", done.stdout)
+    random.seed(1)
+    killed(place, "COBOL", 100, lambda: place.start("hdrun", "--psb", psb, "DLI,CHECKPT", DOING="RUN"))
+    words = (os.path.join(PARTS, "parts.dbd"), psb, "parts.volume")
+    killed(place, "Python", 50, lambda: place.start("python3", "-u", "-c", RUN, *words))
+    place.fresh()
+    done = place.run("python3", "-c", TAKEN_BACK, *words)
+    expect("Python takes back", (done.returncode, done.stdout.splitlines()[:2]) == (1, ["000001", "back"]), done.stdout)
+    expect("Python leaves what was committed", parts_in(place) == numbers(12), done.stdout)
+
+
+def killed(place, language, times, start):
+    """A program that commits every ten parts, and is killed at a random moment, or its server is, or it is interrupted: what is left is that of its last commit,
+    or of the one that was under way."""
+    place.fresh(most="4096")
+    for turn in range(times):
+        place.fresh(most="4096")
+        program = start()
+        told = 0
+        for _ in range(random.randrange(8)):
+            line = program.stdout.readline()
+            told = int(line[:6]) if line[:6].isdigit() else told
+        time.sleep(random.random() * 0.01)
+        servers = subprocess.run(["pgrep", "-P", str(program.pid)], stdout=subprocess.PIPE, encoding="ascii").stdout.split()
+        if turn % 3 == 1 and servers:
+            os.kill(int(servers[0]), signal.SIGKILL)
+        else:
+            program.send_signal(signal.SIGINT if turn % 3 == 2 else signal.SIGKILL)
+        said, _ = program.communicate(timeout=60)
+        told = max([told] + [int(line[:6]) for line in said.splitlines() if line[:6].isdigit()])
+        there = parts_in(place)
+        expect(f"{language}, killed: {told} were told, {len(there)} are there", there in (numbers(told), numbers(told + 10)), said)
+        place.check(f"{language}, killed")
+
+
+# Inserts parts, and commits every ten.
+RUN = """import hd, sys
+session = hd.open(*sys.argv[1:])
+for number in range(1, 900001):
+    session.pcb(1).isrt(hd.ssa("PART"), area=b"%06d" % number + b" " * 26)
+    if number % 10 == 0:
+        session.commit()
+        print(f"{number:06}")
+"""
+
+# Commits, takes back, and leaves by an exception.
+TAKEN_BACK = """import hd, sys
+with hd.open(*sys.argv[1:]) as session:
+    pcb = session.pcb(1)
+    insert = lambda number: pcb.isrt(hd.ssa("PART"), area=b"%06d" % number + b" " * 26)
+    for number in range(1, 11):
+        insert(number)
+    session.commit()
+    for number in range(11, 15):
+        insert(number)
+    session.rollback()
+    print(pcb.gn()["PARTNO"].decode())
+    for number in range(11, 13):
+        insert(number)
+    session.commit()
+    insert(13)
+    print("back", flush=True)
+    raise ValueError("an exception leaves the with")
+"""
 
 
 def full_disk(place):
@@ -216,6 +322,7 @@ def main(words):
         samples(place)
         entries(place)
         refusals(place)
+        commits(place)
         deaths(place)
         full_disk(place)
     print(f"{tried - failed} passed, {failed} failed")

@@ -3,9 +3,9 @@
 
     examples/check.py PAGE [FOLDER] ..
 
-A command is a line of a set-off text (four blanks) that begins with `$ `; what it prints on standard output and standard error stands below it. The
-commands of a page are played one after another, in a copy of FOLDER, or else of the folder that the page lies in, with the program of this
-repository as `hd`.
+A command is a line of a set-off text (four blanks, or seven in a list) that begins with `$ `; what it prints on standard output and standard error stands below it. The
+commands of a page are played one after another, in a copy of FOLDER, or else of the folder that the page lies in, with the programs of this
+repository as `hd` and `hdrun`, and its folder as CHECKOUT.
 """
 import os
 import shutil
@@ -19,13 +19,14 @@ ROOT = os.path.dirname(os.path.dirname(os.path.abspath(__file__)))
 def sessions(text):
     """The commands of a page, each with the number of its line and with the lines that it prints."""
     found = []
-    inside = False
+    inside, off = False, 4
     for number, line in enumerate(text.split("\n"), 1):
-        if line.startswith("    $ "):
-            found.append((number, line[6:], []))
+        if line.startswith(("    $ ", "       $ ")):
+            off = line.index("$")
+            found.append((number, line[off + 2 :], []))
             inside = True
-        elif inside and line.startswith("    "):
-            found[-1][2].append(line[4:])
+        elif inside and line.startswith(" " * off):
+            found[-1][2].append(line[off:])
         elif inside and line == "":
             found[-1][2].append("")
         else:
@@ -49,8 +50,9 @@ def play(page, folder):
         work = os.path.join(place, "work")
         shutil.copytree(folder, work)
         os.makedirs(os.path.join(place, "bin"))
-        os.symlink(os.path.join(ROOT, "bin", "hd"), os.path.join(place, "bin", "hd"))
-        environment = dict(os.environ, PATH=os.path.join(place, "bin") + ":" + os.environ["PATH"], LC_ALL="C.UTF-8")
+        for program in ("hd", "hdrun"):
+            os.symlink(os.path.join(ROOT, "bin", program), os.path.join(place, "bin", program))
+        environment = dict(os.environ, CHECKOUT=ROOT, PATH=os.path.join(place, "bin") + ":" + os.environ["PATH"], LC_ALL="C.UTF-8")
         for number, command, lines in found:
             done = subprocess.run(["sh", "-c", command], cwd=work, env=environment, stdout=subprocess.PIPE, stderr=subprocess.STDOUT, timeout=600)
             printed = trimmed(done.stdout.decode("utf-8", "replace").split("\n"))

@@ -549,8 +549,8 @@ def try_syncs(place, shim):
     volume = os.path.join(folder, "synced.volume")
     log = volume + "-log"
     committed = [("fsync", log), ("pwrite", log), ("fsync", log)]
-    # The first byte is shut, the blocks are copied, the first byte is written; each is waited for.
-    copied = 3 * [("pwrite", volume), ("fsync", volume)] + [("pwrite", log), ("fsync", log), ("unlink", log)]
+    # The log is synced once more, the first byte is shut, the blocks are copied, the first byte is written; each is waited for.
+    copied = [("fsync", log)] + 3 * [("pwrite", volume), ("fsync", volume)] + [("pwrite", log), ("fsync", log), ("unlink", log)]
     for deck, wanted in (
         ("change.deck", [("fsync", volume), ("fsync", folder), ("pwrite", log), *committed, ("write", "output"), *copied]),
         ("get.deck", [("fsync", volume), ("write", "output")]),
@@ -572,7 +572,8 @@ def try_syncs(place, shim):
     write("calls", struct.pack(">I", len(call)) + call)
     with open("calls", "rb") as file:
         done, calls = shim.calls(["serve", "parts.dbd", "parts.psb", "synced.volume"], stdin=file)
-    expect("serve commits at its end", done.status == 0 and steps_of(calls)[-12:] == [*committed, *copied] and place.passes("synced.volume"), steps_of(calls))
+    # (two syncs of the log, one behind the other, are one step)
+    expect("serve commits at its end", done.status == 0 and steps_of(calls)[-12:] == [*committed, *copied[1:]] and place.passes("synced.volume"), steps_of(calls))
     for name in ("synced.volume", "synced.out", "calls"):
         os.remove(name)
 

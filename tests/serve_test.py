@@ -32,10 +32,10 @@ def frame(*parts):
 
 def hello(types, pcbs):
     """The first frame, of types and PCBs."""
-    told = [b"HD", number(1, 2), number(len(pcbs), 1), number(len(types), 1)]
+    told = [b"HD", number(2, 2), number(len(pcbs), 1), number(len(types), 1)]
     for name, level, varies, most, least, fields in types:
         told += [b"%-8b" % name, number(level, 1), number(varies, 1), number(most, 2), number(least, 2), number(len(fields), 1)]
-        told += [b"%-8b" % field + number(length, 2) for field, length in fields]
+        told += [b"%-8b" % field + number(start, 2) + number(length, 2) for field, start, length in fields]
     for database, letters, segments, key in pcbs:
         told += [b"%-8b" % database, b"%-4b" % letters[:4], number(segments, 2), number(key, 2)]
     return frame(*told)
@@ -55,6 +55,9 @@ def refusal(number_of_it):
 
 AREA = 2
 
+# What is asked beside calls, and what both are answered
+COMMIT, ROLL_BACK, DONE = frame(b"\2"), frame(b"\3"), frame(b"\6")
+
 # A program of the sample database: its first PCB sees all, and the second, which has five letters, no students.
 PSB = b"""         PCB   TYPE=DB,DBDNAME=EDU,PROCOPT=AP
          SENSEG NAME=COURSE,PARENT=0
@@ -70,9 +73,9 @@ PSB = b"""         PCB   TYPE=DB,DBDNAME=EDU,PROCOPT=AP
 
 HELLO = hello(
     [
-        (b"COURSE", 1, 0, 8, 8, [(b"NUM", 3)]),
-        (b"CLASS", 2, 0, 4, 4, [(b"ED", 2)]),
-        (b"STUD", 3, 0, 6, 6, [(b"SNAME", 4)]),
+        (b"COURSE", 1, 0, 8, 8, [(b"NUM", 1, 3)]),
+        (b"CLASS", 2, 0, 4, 4, [(b"ED", 1, 2)]),
+        (b"STUD", 3, 0, 6, 6, [(b"SNAME", 1, 4)]),
         (b"BOOK", 2, 0, 5, 5, []),
     ],
     [(b"EDU", b"AP", 4, 9), (b"EDU", b"GIRDP", 3, 5)],
@@ -100,6 +103,9 @@ TALK = [
     (call(2, b"GN", b"CLASS   "), answer(b"", 2, b"CLASS", b"10101", b"01AB")),
 ]
 
+# How many of them are answered where the first has changed something
+FIRST_CHANGE = 8
+
 # The rows that they leave, as an unload stream
 LEFT = b"HDUNLOAD\0\1EDU     " + b"".join(
     number(code, 1) + counted(row)
@@ -115,6 +121,43 @@ FIRST = [
     (call(1, b"REPL", area=b"ADAM77"), answer(b"", 3, b"STUD", b"10101ADAM")),
 ]
 SECOND = [(call(1, b"GU", b"STUD    "), answer(b"", 3, b"STUD", b"10101ADAM", b"ADAM77"))]
+
+# What is committed, and what is taken back. A commit leaves the PCBs where they are, and what is held; behind a roll back they are before all rows
+HOLD = call(1, b"GHU", CLASS01, b"STUD    ")
+
+
+def held(age):
+    return answer(b"", 3, b"STUD", b"10101ADAM", b"ADAM" + age)
+
+
+REPLACED = answer(b"", 3, b"STUD", b"10101ADAM")
+UNITS = [
+    (HOLD, held(b"01")),
+    (COMMIT, DONE),
+    (call(1, b"REPL", area=b"ADAM02"), REPLACED),
+    (call(1, b"GHN"), answer(b"", 3, b"STUD", b"10101EVE ", b"EVE 02")),
+    (COMMIT, DONE),
+    (COMMIT, DONE),
+    (call(1, b"DLET"), answer(b"", 3, b"STUD", b"10101EVE ")),
+    (HOLD, held(b"02")),
+    (call(1, b"REPL", area=b"ADAM03"), REPLACED),
+    (ROLL_BACK, DONE),
+    (call(1, b"REPL", area=b"ADAM04"), answer(b"DJ")),
+    (call(1, b"GN", b"CLASS   "), answer(b"", 2, b"CLASS", b"10101", b"01AB")),
+    (call(1, b"GNP"), answer(b"", 3, b"STUD", b"10101ADAM", b"ADAM02")),
+    (ROLL_BACK, DONE),
+    (ROLL_BACK, DONE),
+    (call(1, b"GHU", b"STUD    (SNAME   EQEVE )"), answer(b"", 3, b"STUD", b"10101EVE ", b"EVE 02")),
+    (COMMIT, DONE),
+    (call(1, b"REPL", area=b"EVE 05"), answer(b"", 3, b"STUD", b"10101EVE ")),
+]
+
+# The students that they leave, where the end of the input is a commit and where it is none
+ROWS = {True: (b"ADAM02", b"EVE 05"), False: (b"ADAM02", b"EVE 02")}
+
+# What is said of an input that ends inside a frame, and of what was changed before it
+CUT = b"frame refused: input ends inside a frame\n"
+BACK = b"taken back: what was changed since the last commit is gone\n"
 
 # The bytes of the longest path, and of the longest right body: fifteen arguments as long as two bytes say, and that path
 PATH = 8 + 4 + 6
@@ -133,7 +176,11 @@ WRONG = [
     (frame(b""), "a body that ends before its parts"),
     (frame(b"\1\1GU  "), "a body that ends before its parts"),
     (call(1, b"GU", kind=0), "a frame of kind 0"),
-    (frame(b"\2\x09GU  \xff"), "a frame of kind 2"),
+    (call(1, b"GU", kind=6), "a frame of kind 6"),
+    (frame(b"\6"), "a body that ends before its parts"),
+    (frame(b"\2\x09GU  \xff"), "a frame of kind 2 with further bytes"),
+    (frame(b"\2\2"), "a frame of kind 2 with further bytes"),
+    (frame(b"\3\0"), "a frame of kind 3 with further bytes"),
     (call(0, b"GU"), "no PCB 0"),
     (frame(b"\1\3GU  \xff"), "no PCB 3"),
     (frame(b"\1\1GU  \x10"), "16 segment search arguments"),
@@ -196,19 +243,31 @@ class Trial:
         self.place.end()
 
     def play_cuts(self):
-        """The calls end at each of their bytes: those that are whole are answered, and the volume has what they did."""
-        given, cut = asked(TALK), b"frame refused: input ends inside a frame\n"
+        """The calls end at each of their bytes: those that are whole are answered, and where no frame is cut the volume has what they did."""
+        given = asked(TALK)
         ends = [len(asked(TALK[:calls])) for calls in range(len(TALK) + 1)]
         self.begin()
-        left = read("edu.volume")
+        first = read("edu.volume")
         self.place.end()
         for length in range(len(given) + 1):
             whole = sum(end <= length for end in ends) - 1
             is_cut = length > ends[whole]
-            wanted = Done(3, told(TALK[:whole]), cut) if is_cut else Done(0, told(TALK[:whole]), b"")
+            said = CUT if whole < FIRST_CHANGE else BACK + CUT
+            wanted = Done(3, told(TALK[:whole]), said) if is_cut else Done(0, told(TALK[:whole]), b"")
             image = self.leaves(given[:length], wanted, f"the first {length} bytes")
-            self.count.expect(f"what the first {length} bytes leave", image == left or whole and not is_cut)
-            left = image
+            self.count.expect(f"what the first {length} bytes leave", image == first or whole and not is_cut)
+
+    def play_units(self):
+        """What was committed stays, and what was taken back is gone; the end of the input commits, and a cut frame does not."""
+        for is_whole, behind in [(True, b""), (False, b"\0")]:
+            self.begin()
+            done = self.serve(asked(UNITS) + behind)
+            wanted = Done(0, told(UNITS), b"") if is_whole else Done(3, told(UNITS), BACK + CUT)
+            self.count.expect("commits and roll backs", done == wanted, f"{wanted} is wanted, {done} seen")
+            self.place.player.run("unload", "edu.dbd", "edu.volume", "left.stream")
+            left = read("left.stream")
+            self.count.expect("the rows that commits leave", all(counted(row) in left for row in ROWS[is_whole]), left)
+            self.place.end()
 
     def play_wrong(self):
         """A frame that is no right one ends the session, behind the answers of the calls before it."""
@@ -233,18 +292,18 @@ class Trial:
         os.close(near)
         self.place.end()
 
-    def play_in_turn(self, most):
-        """A program sends its next call, at most so many bytes in a piece, when the last is answered: no answer waits for what follows."""
+    def play_in_turn(self, talk, most):
+        """A program sends its next request, at most so many bytes in a piece, when the last is answered: no answer waits for what follows."""
         self.begin()
         words = [self.place.player.program, "serve", "edu.dbd", "edu.psb", "edu.volume"]
         with subprocess.Popen(words, stdin=subprocess.PIPE, stdout=subprocess.PIPE, stderr=subprocess.PIPE, bufsize=0) as server:
             is_right = taken(server.stdout, len(HELLO)) == HELLO
-            for given, wanted in TALK:
+            for given, wanted in talk:
                 for start in range(0, len(given), most):
                     server.stdin.write(given[start : start + most])
                 is_right = is_right and taken(server.stdout, len(wanted)) == wanted
             rest, err = server.communicate(timeout=60)
-        self.count.expect(f"calls in turn, {most} bytes in a piece", is_right and (rest, err, server.returncode) == (b"", b"", 0), (rest, err))
+        self.count.expect(f"requests in turn, {most} bytes in a piece", is_right and (rest, err, server.returncode) == (b"", b"", 0), (rest, err))
         self.place.end()
 
 
@@ -268,10 +327,12 @@ def main(words):
         trial.play_talks()
         trial.play_left()
         trial.play_cuts()
+        trial.play_units()
         trial.play_wrong()
         trial.play_refused()
-        trial.play_in_turn(1000)
-        trial.play_in_turn(1)
+        for talk in [TALK, UNITS]:
+            trial.play_in_turn(talk, 1000)
+            trial.play_in_turn(talk, 1)
     finally:
         trial.place.remove()
     return count.status()

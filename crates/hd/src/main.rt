@@ -2,7 +2,7 @@
 #![tactic(auto)]
 
 use hd_program::{Stop, Terminal, play, stopped};
-use std::io::IsTerminal;
+use std::io::{IsTerminal, Write};
 use std::process::ExitCode;
 use std::{env, io};
 
@@ -11,18 +11,31 @@ fn main(rt: HostRuntime) -> ExitCode {
     let has_output = rt.stdout().is_terminal();
     let progress = Terminal::new(rt.alloc(), &rt, rt.stderr(), is_terminal, has_output);
     let status = match words_of(&rt) {
-        Ok(words) => play(
-            &rt,
-            words.as_slice(),
-            is_terminal,
-            &progress,
-            &mut rt.stdin(),
-            &mut io::writer(&rt),
-            &mut rt.stderr(),
-        ),
+        Ok(words) => {
+            if words.is_empty() && rt.stdin().is_terminal() {
+                tell_that_it_waits(&mut rt.stderr());
+            }
+            play(
+                &rt,
+                words.as_slice(),
+                is_terminal,
+                &progress,
+                &mut rt.stdin(),
+                &mut io::writer(&rt),
+                &mut rt.stderr(),
+            )
+        }
         Err(error) => stopped(&Stop::words(&error), &mut rt.stderr()),
     };
     ExitCode::from(status)
+}
+
+/// Says on a terminal that a deck is read there.
+fn tell_that_it_waits<E: Write>(err: &mut E) {
+    let _ = writeln!(
+        err,
+        "a deck of calls is read from the terminal, to its end by Ctrl-D; hd --help lists the commands"
+    );
 }
 
 /// The words behind the program's name.

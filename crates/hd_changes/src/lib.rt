@@ -1,9 +1,11 @@
-//! What a volume holds after each change of its forest and of its index, what the index answers of its rows, and whether there is room for new rows.
+//! What a volume holds after each change of its forest and of its index, what the index answers of its rows, whether there is
+//! room for new rows, and whether a row may be loaded behind another.
 //!
 //! The definitions stand in this crate's `specs/`, the laws in `law`.
 #![tactic(auto)]
 
 mod law;
+mod load_order;
 mod room;
 
 pub use law::{
@@ -15,4 +17,5 @@ pub use law::{
     law_settings_add_up, law_the_index_answers_roots, law_unlinked_spans_are_deleted,
     law_volumes_are_images,
 };
+pub use load_order::order_fault;
 pub use room::{has_hole, lacks_room, row_size};

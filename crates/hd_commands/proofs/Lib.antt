@@ -1,3 +1,4 @@
 mod Saying
+mod UnitSaying
 mod Units
 pub mod Headline

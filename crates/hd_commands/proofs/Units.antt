@@ -1,5 +1,5 @@
 -- What a crash leaves of a unit of calls.
-use Rattle.std.proofs.Common.{◌≡◌, ◌≤◌, ◌⊎◌, ℕ, List, Bool, true, false, IsTrue, Result, Ok, Err, inl, inr, sym, ◌∙◌, ap, subst, refl}
+use Rattle.std.proofs.Common.{◌≡◌, ◌⊎◌, ℕ, List, Bool, true, false, IsTrue, Result, Ok, Err, inl, inr, sym, ◌∙◌, ap, subst, refl}
 use Rattle.std.specs.Prelude.{not, OnOk, OnErr}
 use Rattle.hd_dbd.specs.declared.answer.Refused.{Refused}
 use Rattle.hd_stores.specs.Stores.{Committed, IsCommit, FailsCommit}

@@ -1,12 +1,14 @@
 -- What a crash leaves of a volume while a deck is played over it as one unit.
-use Rattle.std.specs.Prelude.{◌≡◌, ◌⊎◌, ℕ, Bool, true, IsTrue, List, take}
+use Rattle.std.specs.Prelude.{◌≡◌, ◌⊎◌, ℕ, Bool, true, IsTrue, List, take, Result, OnOk}
+use Rattle.hd_dbd.specs.declared.answer.Refused.{Refused}
+use Rattle.hd_dbd.specs.Refusals.{OnlyDevice}
 use Rattle.hd_dbd.specs.Types.{View}
 use Rattle.hd_dbd.specs.Hierarchy.{Database}
 use Rattle.hd_dbd.specs.Segment.{Segment}
 use Rattle.hd_dbd.specs.Logs.{Log}
 use Rattle.hd_calls.specs.NoLostUpdate.{opened}
 use Rattle.hd_calls.specs.Runs.{last_state}
-use Rattle.hd_stores.specs.Stores.{Committed, IsCommit, FailsCommit}
+use Rattle.hd_stores.specs.Stores.{Committed, IsCommit, FailsCommit, CountsDevice, StaysSound}
 use Rattle.hd_session.specs.Turns.{Turn}
 use Rattle.hd_session.specs.Laws.{IsLegalLogOf}
 use Rattle.hd_deck.specs.Runs.{IsPlayedInPart}
@@ -21,6 +23,13 @@ LeavesEither s since before after = (log volume : List ℕ) → s.left_since sin
 -- What a unit of calls makes of an image, whole or not at all: it is as it was, or it is what the first calls left, however many.
 abbrev pub IsLeftBy : Database → List View → List ℕ → List Turn → List ℕ → Type 0
 IsLeftBy d pcbs image turns left = (left ≡ image) ⊎ IsPlayedInPart d pcbs image turns left
+
+-- All that a cache had has reached the store below, or an access failed.
+pub record IsWritten (result : Result Unit Refused) (is_sound : Bool) (failures : ℕ) (contents : List ℕ) (new_is_sound : Bool) (new_failures : ℕ) (new_contents : List ℕ) : Type 0 where
+  pub refusal : OnlyDevice result
+  pub counts : CountsDevice result failures new_failures
+  pub sound : StaysSound result is_sound new_is_sound
+  pub contents_kept : OnOk result (IsTrue is_sound → new_contents ≡ contents)
 
 -- A commit was tried of these contents, if that was wanted of a sound store, or what a crash leaves is as it was.
 abbrev pub MayHaveTried : Bool → Bool → List ℕ → Committed → Committed → Type 0

@@ -34,3 +34,21 @@ PlaySays is_sound failures contents d pcbs steps old new (Full n) = ⊥
 PlaySays is_sound failures contents d pcbs steps old new Device =
     (failures old < failures new) × (is_sound new ≡ false) ⊎ (IsTrue (is_sound old) → IsPlayedInPart d pcbs (contents old) (turns_of steps) (contents new))
 PlaySays is_sound failures contents d pcbs steps old new Memory = IsTrue (is_sound old) → contents new ≡ contents old
+
+-- Meanwhile no access of a store failed, or one did: it was counted, and the store is not sound any more.
+abbrev pub FailsOrStays : {S : Type 0} → (S → Bool) → (S → ℕ) → S → S → Type 0
+FailsOrStays is_sound failures old new = (is_sound new ≡ is_sound old) × (failures new ≡ failures old) ⊎ (failures old < failures new) × (is_sound new ≡ false)
+
+-- What a refusal of a deck that is played as one unit says of its store: what the refusal of a play says, or that an access failed behind it.
+abbrev pub UnitSays : {S : Type 0} → (S → Bool) → (S → ℕ) → (S → List ℕ) → Database → List View → List StepText → S → S → Refusal → Type 0
+UnitSays is_sound failures contents d pcbs steps old new (Fault fault) =
+    (failures old < failures new) × (is_sound new ≡ false) ⊎ PlaySays is_sound failures contents d pcbs steps old new (Fault fault)
+UnitSays is_sound failures contents d pcbs steps old new (Old version) =
+    (failures old < failures new) × (is_sound new ≡ false) ⊎ PlaySays is_sound failures contents d pcbs steps old new (Old version)
+UnitSays is_sound failures contents d pcbs steps old new NotEmpty =
+    (failures old < failures new) × (is_sound new ≡ false) ⊎ PlaySays is_sound failures contents d pcbs steps old new NotEmpty
+UnitSays is_sound failures contents d pcbs steps old new (Record fault n) = ⊥
+UnitSays is_sound failures contents d pcbs steps old new (Full n) = ⊥
+UnitSays is_sound failures contents d pcbs steps old new Device = PlaySays is_sound failures contents d pcbs steps old new Device
+UnitSays is_sound failures contents d pcbs steps old new Memory =
+    (failures old < failures new) × (is_sound new ≡ false) ⊎ PlaySays is_sound failures contents d pcbs steps old new Memory

@@ -1,8 +1,8 @@
-ghost use Rattle.std.specs.Prelude.{◌≡◌, ◌≢◌, ◌^◌, ◌≤◌, length, All, IsTrue, IfOk, IfErr, OnOk};
+ghost use Rattle.std.specs.Prelude.{◌≡◌, ◌≢◌, ◌^◌, ◌≤◌, length, All, IfOk, IfErr, OnOk};
 ghost use Rattle.hd_dbd.specs.ProgramRules.{type_names};
 ghost use Rattle.hd_deck.specs.StepText.{StepFits};
 ghost use Rattle.hd_commands.specs.Commands.{IsRefused};
-ghost use Rattle.hd_commands.specs.Plays.{status_of_calls, PlaysInPrint, PlaySays};
+ghost use Rattle.hd_commands.specs.Plays.{status_of_calls, PlaysInPrint, PlaySays, FailsOrStays};
 
 use crate::ended::{Ended, refuse};
 use crate::refusal::Refusal;
@@ -36,7 +36,7 @@ fn play_and_print<S: BlockStore, O: Write>(
     ensures failures { OnOk result.1 (S.failures result.0 ≡ S.failures store) }
     ensures refused { IfErr result.1 (PlaySays S.is_sound S.failures S.contents dbd.now psb.now.pcbs steps.now store result.0) }
     ensures silent { IfErr result.1 (λ e. e ≢ Refusal.Device → out.new ≡ out.old) }
-    ensures sound { IsTrue (S.is_sound result.0) → IsTrue (S.is_sound store) }
+    ensures accesses { FailsOrStays S.is_sound S.failures store result.0 }
     ensures committed { S.committed result.0 ≡ S.committed store }
     ensures size { S.size result.0 ≡ S.size store }
 {
@@ -74,7 +74,7 @@ pub fn play_deck<S: BlockStore, O: Write, E: Write>(
     ensures quiet { OnOk result.1 (err.new ≡ err.old) }
     ensures refused { IfErr result.1 (λ e. IsRefused (PlaySays S.is_sound S.failures S.contents dbd.now psb.now.pcbs steps.now store result.0) e (E.contents err.old) (E.contents err.new)) }
     ensures silent { IfErr result.1 (λ e. e.status ≢ 3 → out.new ≡ out.old) }
-    ensures sound { IsTrue (S.is_sound result.0) → IsTrue (S.is_sound store) }
+    ensures accesses { FailsOrStays S.is_sound S.failures store result.0 }
     ensures committed { S.committed result.0 ≡ S.committed store }
     ensures size { S.size result.0 ≡ S.size store }
 {

@@ -1,9 +1,12 @@
-ghost use Rattle.std.specs.Prelude.{◌≡◌, ◌≢◌, ◌^◌, ◌<◌, ◌≤◌, length, All, IsTrue, true, Some, IfOk, IfErr, OnOk, OnErr};
+ghost use Rattle.std.specs.Prelude.{◌≡◌, ◌≢◌, ◌^◌, ◌<◌, ◌≤◌, length, All, IsTrue, true, false, Some, IfOk, IfErr, OnOk, OnErr};
 ghost use Rattle.hd_dbd.specs.ProgramRules.{type_names};
 ghost use Rattle.hd_deck.specs.StepText.{StepFits};
 ghost use Rattle.hd_dbd.specs.Refusals.{OnlyDevice};
 ghost use Rattle.hd_stores.specs.Stores.{IsCommit, CountsDevice, StaysSound};
-ghost use Rattle.hd_commands.specs.Crashes.{LeavesEither, MayHaveTried};
+ghost use Rattle.hd_deck.specs.Runs.{turns_of};
+ghost use Rattle.hd_commands.specs.Commands.{IsRefused};
+ghost use Rattle.hd_commands.specs.Crashes.{LeavesEither, MayHaveTried, IsLeftBy, IsWritten};
+ghost use Rattle.hd_commands.specs.Plays.{PlaysInPrint, UnitSays, FailsOrStays};
 
 use crate::deck_command::play_deck;
 use crate::ended::{Ended, refuse};
@@ -51,6 +54,35 @@ fn commit_if<D: Disk, L: Ledger>(store: &mut Journaled<D, L>, wanted: bool) -> R
     committed
 }
 
+/// A store behind a cache of so many blocks, which reads ahead. Where there is no memory it is given back.
+fn open_cache<D: Disk, L: Ledger>(
+    alloc: Global,
+    store: Journaled<D, L>,
+    cache: usize,
+) -> Result<Cached<ReadAhead<Journaled<D, L>>>, Journaled<D, L>>
+    requires cache { (0 < cache) × (cache ≤ 65536) }
+    ensures contents { IfOk result (λ c. IsTrue store.is_sound → c.contents ≡ store.contents) }
+    ensures accesses { IfOk result (λ c. (c.is_sound ≡ store.is_sound) × (c.failures ≡ store.failures)) }
+    ensures kept { IfOk result (λ c. (c.committed ≡ store.committed) × (c.size ≡ store.size)) }
+    ensures given { IfErr result (λ given. given ≡ store) }
+{
+    match Cached::new(alloc, ReadAhead::new(alloc, store), cache) {
+        Ok(cached) => Ok(cached),
+        Err((ahead, _)) => Err(ahead.into_store()),
+    }
+}
+
+/// The store behind a cache, and whether all that this had has reached it. `Device` is a failed access.
+fn close_cache<D: Disk, L: Ledger>(
+    cached: Cached<ReadAhead<Journaled<D, L>>>,
+) -> (Journaled<D, L>, Result<(), Refused>)
+    ensures written { IsWritten result.1 cached.is_sound cached.failures cached.contents result.0.is_sound result.0.failures result.0.contents }
+    ensures kept { (result.0.committed ≡ cached.committed) × (result.0.size ≡ cached.size) }
+{
+    let (ahead, written) = cached.into_store();
+    (ahead.into_store(), written)
+}
+
 /// Plays a deck over a store through a cache of so many blocks, and gives the store back with what it was answered, and whether all that the cache had has
 /// reached it.
 fn play_through<D: Disk, L: Ledger, P: Progress, O: Write, E: Write>(
@@ -69,23 +101,22 @@ fn play_through<D: Disk, L: Ledger, P: Progress, O: Write, E: Write>(
     requires steps { All (StepFits (length psb.now.pcbs)) steps.now }
     requires count { length steps.now ≤ 2 ^ 30 }
     requires cache { (0 < cache) × (cache ≤ 65536) }
-    ensures committed { result.0.committed ≡ store.committed }
+    ensures played { IfOk result.1 (λ memory. OnOk result.2 (PlaysInPrint (λ s. s.is_sound) (λ s. s.contents) dbd.now psb.now.pcbs steps.now store result.0 (O.contents out.old) (O.contents out.new) memory)) }
+    ensures refused { IfErr result.1 (λ e. IsRefused (UnitSays (λ s. s.is_sound) (λ s. s.failures) (λ s. s.contents) dbd.now psb.now.pcbs steps.now store result.0) e (E.contents err.old) (E.contents err.new)) }
+    ensures unwritten { OnErr result.2 ((store.failures < result.0.failures) × (result.0.is_sound ≡ false)) }
+    ensures accesses { FailsOrStays (λ s. s.is_sound) (λ s. s.failures) store result.0 }
     ensures failures { OnOk result.2 (OnOk result.1 (result.0.failures ≡ store.failures)) }
     ensures quiet { OnOk result.1 (err.new ≡ err.old) }
     ensures silent { IfErr result.1 (λ e. e.status ≢ 3 → out.new ≡ out.old) }
-    ensures size { result.0.size ≡ store.size }
+    ensures kept { (result.0.committed ≡ store.committed) × (result.0.size ≡ store.size) }
 {
-    let store = match Cached::new(alloc, ReadAhead::new(alloc, store), cache) {
+    let counted = match open_cache(alloc, store, cache) {
         Ok(cached) => Counted::new(cached, "playing", progress),
-        Err((ahead, _)) => return (
-            ahead.into_store(),
-            Err(refuse(Refusal::Memory, err)),
-            Ok(()),
-        ),
+        Err(store) => return (store, Err(refuse(Refusal::Memory, err)), Ok(())),
     };
-    let (store, played) = play_deck(alloc, dbd, psb, steps, store, out, err);
-    let (ahead, written) = store.into_inner().into_store();
-    (ahead.into_store(), played, written)
+    let (counted, played) = play_deck(alloc, dbd, psb, steps, counted, out, err);
+    let (store, written) = close_cache(counted.into_inner());
+    (store, played, written)
 }
 
 /// Plays a deck as one unit over a volume and its log, through a cache of so many blocks, and makes last what its calls made of the volume. Says what
@@ -93,7 +124,7 @@ fn play_through<D: Disk, L: Ledger, P: Progress, O: Write, E: Write>(
 ///
 /// From `Ok` on a crash leaves what the calls left, whenever it comes. Until then, and behind a refusal, it leaves the volume as it was before the deck,
 /// or what the calls left: never what only a part of a call made. Where a line could not be written, what was called before is made last; where an
-/// access failed, nothing is. That the image which lasts is the one that the calls left is not a clause yet: `crash` and `lasts` speak of the store's.
+/// access failed, nothing is.
 pub fn play_unit<D: Disk, L: Ledger, P: Progress, O: Write, E: Write>(
     alloc: Global,
     dbd: &Dbd,
@@ -111,6 +142,10 @@ pub fn play_unit<D: Disk, L: Ledger, P: Progress, O: Write, E: Write>(
     requires count { length steps.now ≤ 2 ^ 30 }
     requires cache { (0 < cache) × (cache ≤ 65536) }
     ensures crash { IsTrue D.is_honest → store.committed.tried ≡ store.committed.image → LeavesEither (D.state result.0.disk) store.committed.since store.committed.image result.0.committed.tried }
+    ensures left { IsTrue store.is_sound → IsTrue D.is_honest → store.committed.tried ≡ store.contents → IsLeftBy dbd.now psb.now.pcbs store.contents (turns_of steps.now) result.0.committed.tried }
+    ensures played { IfOk result.1 (λ memory. PlaysInPrint (λ s. s.is_sound) (λ s. s.contents) dbd.now psb.now.pcbs steps.now store result.0 (O.contents out.old) (O.contents out.new) memory) }
+    ensures refused { IfErr result.1 (λ e. IsRefused (UnitSays (λ s. s.is_sound) (λ s. s.failures) (λ s. s.contents) dbd.now psb.now.pcbs steps.now store result.0) e (E.contents err.old) (E.contents err.new)) }
+    ensures accesses { FailsOrStays (λ s. s.is_sound) (λ s. s.failures) store result.0 }
     ensures lasts { OnOk result.1 (IsTrue result.0.is_sound → (result.0.committed.image ≡ result.0.contents) × (result.0.committed.tried ≡ result.0.contents)) }
     ensures failures { OnOk result.1 (result.0.failures ≡ store.failures) }
     ensures quiet { OnOk result.1 (err.new ≡ err.old) }
@@ -124,9 +159,12 @@ pub fn play_unit<D: Disk, L: Ledger, P: Progress, O: Write, E: Write>(
     let committed = commit_if(&mut store, wanted);
     match played {
         Err(ended) => (store, Err(ended)),
-        Ok(memory) => match (written, committed) {
-            (Ok(()), Ok(())) => (store, Ok(memory)),
-            _ => (store, Err(refuse(Refusal::Device, err))),
+        Ok(memory) => match written {
+            Err(_) => (store, Err(refuse(Refusal::Device, err))),
+            Ok(()) => match committed {
+                Err(_) => (store, Err(refuse(Refusal::Device, err))),
+                Ok(()) => (store, Ok(memory)),
+            },
         },
     }
 }

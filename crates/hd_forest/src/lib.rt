@@ -19,7 +19,7 @@ pub use children::last_child_type;
 pub use law::{law_steps_go_to_rows, law_walking_gives_the_sequence};
 pub use path::Path;
 pub use read::{
-    code_at, first_child, last_child, last_twin, next_twin, parent_on, prev_twin, tip_of,
+    code_at, code_in, first_child, last_child, last_twin, next_twin, parent_on, prev_twin, tip_of,
 };
 pub use replacements::replace;
 pub use row::bytes_in;

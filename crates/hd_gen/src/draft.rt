@@ -7,7 +7,7 @@ use crate::fault::GenFault;
 use crate::given::Given;
 use crate::table::Operation;
 use hd_dbd::{Field, FreeSpace, Key, Name8, Pcb, SegType, Sens};
-use std::alloc::{AllocError, Global};
+use std::alloc::Global;
 use std::marker::Model;
 
 /// What a source says so far: a database's name, once it is known, its block size and free space, and its types; or a
@@ -107,7 +107,7 @@ fn with_segment(
         return Err(GenFault::G5(line));
     };
     let segment = segment_type(alloc, &draft.types, given, name, length);
-    add_type(&mut draft.types, segment)?;
+    push(&mut draft.types, segment)?;
     Ok(draft)
 }
 
@@ -207,14 +207,18 @@ fn add_field(types: &mut Vec<SegType>, field: Field, given: &Given<'_>) -> Resul
         return Ok(());
     };
     let segment = with_type_field(segment, field, given)?;
-    add_type(types, segment)
+    push(types, segment)
 }
 
-fn add_type(types: &mut Vec<SegType>, segment: SegType) -> Result<(), GenFault>
-    ensures types { IfOk result (λ _. types.new.items ≡ types.old.items ++ segment ∷ []) }
+/// Adds an item behind the others.
+fn push<T: Drop>(items: &mut Vec<T>, item: T) -> Result<(), GenFault>
+    ensures items { IfOk result (λ _. items.new.items ≡ items.old.items ++ item ∷ []) }
     ensures memory { IfErr result (λ e. e ≡ GenFault.Memory) }
 {
-    types.push(segment).map_err(|_| GenFault::Memory)
+    match items.push(item) {
+        Ok(()) => Ok(()),
+        Err(_) => Err(GenFault::Memory),
+    }
 }
 
 /// A type with one field more, which may be its key.
@@ -233,7 +237,7 @@ fn with_type_field(
             unique,
         });
     }
-    segment.fields.push(field).map_err(|_| GenFault::Memory)?;
+    push(&mut segment.fields, field)?;
     Ok(segment)
 }
 
@@ -253,10 +257,10 @@ fn with_pcb(
         return Err(GenFault::G5(line));
     }
     let pcb = Pcb {
-        procopt: String::from_str(alloc, letters).map_err(|_| GenFault::Memory)?,
+        procopt: text_of(alloc, letters)?,
         sens: Vec::new(alloc),
     };
-    add_pcb(&mut draft.pcbs, pcb)?;
+    push(&mut draft.pcbs, pcb)?;
     Ok(draft)
 }
 
@@ -291,14 +295,7 @@ fn add_seen(
         return Ok(());
     };
     let pcb = with_seen(alloc, pcb, name, given)?;
-    add_pcb(pcbs, pcb)
-}
-
-fn add_pcb(pcbs: &mut Vec<Pcb>, pcb: Pcb) -> Result<(), GenFault>
-    ensures pcbs { IfOk result (λ _. pcbs.new.items ≡ pcbs.old.items ++ pcb ∷ []) }
-    ensures memory { IfErr result (λ e. e ≡ GenFault.Memory) }
-{
-    pcbs.push(pcb).map_err(|_| GenFault::Memory)
+    push(pcbs, pcb)
 }
 
 /// A PCB that sees one type more.
@@ -306,22 +303,34 @@ fn with_seen(alloc: Global, mut pcb: Pcb, name: Name8, given: &Given<'_>) -> Res
     ensures seen { IfOk result (λ p. p ≡ with_seen given.now name pcb) }
     ensures memory { IfErr result (λ e. e ≡ GenFault.Memory) }
 {
-    let procopt = letters(alloc, given).map_err(|_| GenFault::Memory)?;
+    let procopt = letters(alloc, given)?;
     let sens = Sens {
         name,
         parent: given.parent.name,
         procopt,
     };
-    pcb.sens.push(sens).map_err(|_| GenFault::Memory)?;
+    push(&mut pcb.sens, sens)?;
     Ok(pcb)
 }
 
 /// The letters of a PROCOPT, if there is one.
-fn letters(alloc: Global, given: &Given<'_>) -> Result<Option<String>, AllocError>
-    ensures { IfOk result (λ t. option_map string_bytes t ≡ given.now.procopt) }
+fn letters(alloc: Global, given: &Given<'_>) -> Result<Option<String>, GenFault>
+    ensures letters { IfOk result (λ t. option_map string_bytes t ≡ given.now.procopt) }
+    ensures memory { IfErr result (λ e. e ≡ GenFault.Memory) }
 {
     match given.procopt {
-        Some(letters) => Ok(Some(String::from_str(alloc, letters)?)),
+        Some(letters) => Ok(Some(text_of(alloc, letters)?)),
         None => Ok(None),
+    }
+}
+
+/// A text of one's own.
+fn text_of(alloc: Global, text: &str) -> Result<String, GenFault>
+    ensures text { IfOk result (λ t. string_bytes t ≡ text.now) }
+    ensures memory { IfErr result (λ e. e ≡ GenFault.Memory) }
+{
+    match String::from_str(alloc, text) {
+        Ok(text) => Ok(text),
+        Err(_) => Err(GenFault::Memory),
     }
 }

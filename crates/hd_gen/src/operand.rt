@@ -115,8 +115,10 @@ fn parent_of_words(words: Words<'_>) -> Result<Parent, Wrong>
     match words {
         Words::One(name) => named_parent(name, false),
         Words::Two(name, pointer) => {
-            let last_pointer = child_pointer(pointer).ok_or(Wrong::NotSupported)?;
-            named_parent(name, last_pointer)
+            match child_pointer(pointer) {
+                Some(last_pointer) => named_parent(name, last_pointer),
+                None => Err(Wrong::NotSupported),
+            }
         }
         _ => Err(Wrong::NotSupported),
     }
@@ -228,8 +230,10 @@ pub(crate) fn field_in(value: Value<'_>) -> Result<FieldName, Wrong>
         Value::Word(name) | Value::Listed(Words::One(name)) => named_field(name, None),
         Value::Listed(Words::Two(name, b"SEQ")) => named_field(name, Some(true)),
         Value::Listed(Words::Three(name, b"SEQ", word)) => {
-            let unique = sequence_field(word).ok_or(Wrong::NotSupported)?;
-            named_field(name, Some(unique))
+            match sequence_field(word) {
+                Some(unique) => named_field(name, Some(unique)),
+                None => Err(Wrong::NotSupported),
+            }
         }
         _ => Err(Wrong::NotSupported),
     }

@@ -215,7 +215,10 @@ pub(crate) fn number_of(word: &[u8]) -> Result<u32, Wrong>
     if word.is_empty() || !are_digits(word) {
         return Err(Wrong::IllFormed);
     }
-    u32::try_from(value_of(word)).map_err(|_| Wrong::IllFormed)
+    match u32::try_from(value_of(word)) {
+        Ok(number) => Ok(number),
+        Err(_) => Err(Wrong::IllFormed),
+    }
 }
 
 fn are_digits(word: &[u8]) -> bool

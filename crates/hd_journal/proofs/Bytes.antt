@@ -3,11 +3,27 @@ use Rattle.std.proofs.Common.{Bool, true, false, ◌≡◌, ◌≢◌, inl, inr,
 use Rattle.std.proofs.lemmas.Bool.{true≢false, cases_eq, cases_lt, eq-eqb, ne_eqb, lt-ltb, ltb-true, false_from_ne_true}
 use Rattle.std.proofs.lemmas.Grind.{same_number_lists}
 use Rattle.std.proofs.lemmas.List.FromFn.{length-map-range_with_len, get_or-map-range_with_len}
+use Rattle.std.proofs.lemmas.Nat.{row_fits}
 use Rattle.hd_bytes.proofs.NumberLemmas.{number-same}
 use Rattle.hd_bytes.proofs.BlockLemmas.{place-of, elsewhere}
 use Rattle.hd_journal.specs.Disk.{Torn, Cut}
 use Rattle.hd_journal.specs.declared.head.Head.{Head}
 use Rattle.hd_journal.specs.Log.{HasFirst, frame_at, block_no, byte_from, base_byte, image_byte, image, Spares, HasFrames}
+
+-- ---- where slots stand
+
+pub frame-next : (size i : ℕ) → frame_at size (suc i) ≡ frame_at size i + (size + 4)
+frame-next size i = omega arith
+
+-- an earlier slot ends before a later one begins
+pub frame-before : (size i j : ℕ) → i < j → frame_at size i + (size + 4) ≤ frame_at size j
+frame-before size i j low = (let r : i * (size + 4) + (size + 4) ≤ j * (size + 4) = row_fits i (size + 4) j (size + 4) low (omega arith) in omega arith)
+
+pub frame-up-to : (size i j : ℕ) → i ≤ j → frame_at size i ≤ frame_at size j
+frame-up-to size i j le = elim (cases_eq i j) [
+  | inl same ↦ (let e : frame_at size i ≡ frame_at size j = ap (frame_at size) same in omega (arith, e))
+  | inr other ↦ (let r = frame-before size i j (omega (arith, le, other)) in omega (arith, r))
+]
 
 -- ---- one more frame
 
@@ -85,6 +101,21 @@ is-image h log first v w f cut len =
     let long = f.long in
     cut.below k (omega arith) (omega arith) ∙ f.each k (omega arith) (omega arith) ∙ sym (byte-of-image h log first k (omega arith)))
 
+-- frames that were put in before are put in again
+pub twice : (size : ℕ) (log : List ℕ) (n m k b : ℕ) → m ≤ n → byte_from size log n k (byte_from size log m k b) ≡ byte_from size log n k b
+twice size log zero m k b le = ap (λ (i : ℕ). byte_from size log i k b) (let none : m ≡ 0 = omega (arith, le) in none)
+twice size log (suc n) m k b le =
+    elim (cases_eq (block_no size log n) (k / size)) [
+      | inl own ↦ frame-own size log n k (byte_from size log m k b) own ∙ sym (frame-own size log n k b own)
+      | inr other ↦
+          let earlier : byte_from size log n k (byte_from size log m k b) ≡ byte_from size log n k b = elim (cases_eq m (suc n)) [
+            | inl all ↦
+                ap (λ (i : ℕ). byte_from size log n k (byte_from size log i k b)) all ∙ ap (byte_from size log n k) (frame-other size log n k b other) ∙ twice size log n n k b (omega arith)
+            | inr fewer ↦ twice size log n m k b (omega (arith, le, fewer))
+          ] in
+          frame-other size log n k (byte_from size log m k b) other ∙ earlier ∙ sym (frame-other size log n k b other)
+    ]
+
 -- the image, in the place of the volume, makes itself
 pub image-again : (h : Head) (log first : List ℕ) → h.base ≤ h.len → image h log (image h log first) ≡ image h log first
 image-again h log first grows =
@@ -92,22 +123,11 @@ image-again h log first grows =
     elim (cases_lt k h.base) [
       | inl in_base ↦
           ap (byte_from h.size log h.count k) (base-within h.base (image h log first) k in_base ∙ byte-of-image h log first k low)
-          ∙ twice h.size log h.count k (base_byte h.base first k)
+          ∙ twice h.size log h.count h.count k (base_byte h.base first k) (omega arith)
       | inr behind ↦
           let le : h.base ≤ k = omega arith in
           ap (byte_from h.size log h.count k) (base-behind h.base (image h log first) k le ∙ sym (base-behind h.base first k le))
     ])
-  where
-    twice : (size : ℕ) (log : List ℕ) (n k b : ℕ) → byte_from size log n k (byte_from size log n k b) ≡ byte_from size log n k b
-    twice size log zero k b = refl
-    twice size log (suc n) k b =
-        elim (cases_eq (block_no size log n) (k / size)) [
-          | inl own ↦ frame-own size log n k (byte_from size log (suc n) k b) own ∙ sym (frame-own size log n k b own)
-          | inr other ↦
-              frame-other size log n k (byte_from size log (suc n) k b) other
-              ∙ ap (byte_from size log n k) (frame-other size log n k b other)
-              ∙ twice size log n k b ∙ sym (frame-other size log n k b other)
-        ]
 
 -- ---- the steps of a redo
 

@@ -5,18 +5,14 @@ use Rattle.hd_bytes.specs.Ranges.{bytes_at}
 use Rattle.hd_bytes.specs.Numbers.{number_at}
 use Rattle.hd_bytes.specs.Blocks.{block_of, HasBlock}
 use Rattle.hd_bytes.proofs.BlockLemmas.{length-block, byte-in-block, with-own}
-use Rattle.hd_journal.specs.Disk.{State, WritesLog, Leaves}
+use Rattle.hd_journal.specs.Disk.{State, WritesLog}
 use Rattle.hd_journal.specs.declared.head.Head.{Head}
 use Rattle.hd_journal.specs.Log.{frame_at, image}
-use Rattle.hd_journal.specs.States.{IsSettled, StandsFor}
 use Rattle.hd_journal.specs.Framed.{IsFramed}
 use Rattle.hd_journal.proofs.Bytes.{length-image}
 use Rattle.hd_journal.proofs.FrameLemmas.{more-framed, more-image}
-use Rattle.hd_journal.proofs.Moments.{started, goes_on}
-use Rattle.hd_journal.proofs.Opens.{shut}
-use Rattle.hd_journal.proofs.Publishes.{behind}
 
-module _ (a b : State) (h : Head) (places frame : List ℕ) (o : IsFramed a h places) (low : 0 < length places) (none : slice_index places 0 ≡ 0) (w : WritesLog (frame_at h.size h.count) (h.size + 4) a b)
+module _ (a b : State) (h : Head) (places frame : List ℕ) (o : IsFramed a h places) (low : 0 < length places) (w : WritesLog (frame_at h.size h.count) (h.size + 4) a b)
     (wrote : bytes_at b.log (frame_at h.size h.count) (h.size + 4) ≡ frame) (long : length frame ≡ h.size + 4) (number : number_at 4 frame 0 ≡ 0) (block : (j : ℕ) → j < h.size → slice_index frame (4 + j) ≡ slice_index (image h a.log a.volume) j) where
   abbrev whole : List ℕ
   whole = image h a.log a.volume
@@ -28,11 +24,7 @@ module _ (a b : State) (h : Head) (places frame : List ℕ) (o : IsFramed a h pl
   same j u = block j u ∙ ap (slice_index whole) (let e : j ≡ 0 * h.size + j = omega arith in e) ∙ sym (byte-in-block h.size 0 j whole there u)
 
   pub first-framed : IsFramed b (record h { count = h.count + 1 }) (slice_set places 0 (h.count + 1))
-  first-framed = more-framed a b h places (block_of h.size whole 0) frame 0 o low none w wrote long number (length-block h.size 0 whole there) same
+  first-framed = more-framed a b h places (block_of h.size whole 0) frame 0 o low w wrote long number (length-block h.size 0 whole there) same
 
   pub first-image : image (record h { count = h.count + 1 }) b.log b.volume ≡ whole
-  first-image = more-image a b h places (block_of h.size whole 0) frame 0 o low none w wrote long number (length-block h.size 0 whole there) same ∙ with-own h.size 0 whole there
-
--- a write behind a shut gate leaves the volume standing
-pub behind-leaves : (a b : State) (at n : ℕ) → 0 < at → IsSettled a → WritesLog at n a b → Leaves (StandsFor a.volume) a b
-behind-leaves a b at n some settled w = goes_on (StandsFor a.volume) (started (StandsFor a.volume) a) w.time (λ l v may. let is = behind a b at n some settled w l v may in shut l v is.0.gate ∙ is.1)
+  first-image = more-image a b h places (block_of h.size whole 0) frame 0 o low w wrote long number (length-block h.size 0 whole there) same ∙ with-own h.size 0 whole there

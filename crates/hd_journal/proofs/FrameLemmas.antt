@@ -1,5 +1,5 @@
 -- What a write, a growth, a roll back and a commit leave of the frames.
-use Rattle.std.proofs.Common.{◌≡◌, ◌≢◌, inl, inr, ⊎_elim, ℕ, suc, ◌+◌, ◌-◌, ◌*◌, ◌<◌, ◌≤◌, ◌/◌, ◌%◌, List, ◌++◌, length, get_or, slice_index, slice_set, replicate, take, refl, sym, ap, ◌∙◌, subst, arith, add-one}
+use Rattle.std.proofs.Common.{◌≡◌, ◌≢◌, inl, inr, ℕ, ◌+◌, ◌-◌, ◌*◌, ◌<◌, ◌≤◌, ◌/◌, ◌%◌, List, ◌++◌, length, get_or, slice_index, slice_set, replicate, take, refl, sym, ap, ◌∙◌, subst, arith, add-one}
 use Rattle.std.proofs.lemmas.Bool.{cases_eq, cases_lt}
 use Rattle.std.proofs.lemmas.Grind.{same_number_lists, common_steps}
 use Rattle.std.proofs.lemmas.List.{take_all, get_or-replicate, length-replicate, get_or-set_same, get_or-set_other}
@@ -9,47 +9,28 @@ use Rattle.hd_bytes.specs.Numbers.{number_at}
 use Rattle.hd_bytes.specs.Blocks.{with_block, grown}
 use Rattle.hd_bytes.proofs.NumberLemmas.{number-same}
 use Rattle.hd_bytes.proofs.BlockLemmas.{byte-at, place-of}
-use Rattle.hd_journal.specs.Disk.{State, WritesLog, Leaves}
+use Rattle.hd_journal.specs.Disk.{State, WritesLog}
 use Rattle.hd_journal.specs.declared.head.Head.{Head}
-use Rattle.hd_journal.specs.Log.{frame_at, block_no, byte_from, base_byte, image, recovered}
-use Rattle.hd_journal.specs.States.{IsSettled, IsOpened, StandsForEither}
-use Rattle.hd_journal.specs.Framed.{IsFramed, IsSafe}
-use Rattle.hd_journal.proofs.Bytes.{frame-own, frame-other, same-frames, base-within, base-behind, length-image, byte-of-image}
-use Rattle.hd_journal.proofs.Puts.{from-none, from-one, from-same, block-put, image-grown}
-use Rattle.hd_journal.proofs.Heads.{moved, same-heads}
-use Rattle.hd_journal.proofs.Opens.{shut}
-use Rattle.hd_journal.proofs.Publishes.{behind, opened-recovers}
+use Rattle.hd_journal.specs.Log.{frame_at, block_no, no_block, gate_at, byte_from, base_byte, image, SameSlots, IsGate}
+use Rattle.hd_journal.specs.States.{SameBehind}
+use Rattle.hd_journal.specs.Framed.{fresh, AreFrames, IsFramed}
+use Rattle.hd_journal.proofs.Bytes.{frame-next, frame-before, frame-own, frame-other, same-frames, base-within, base-behind, length-image, byte-of-image, twice}
+use Rattle.hd_journal.proofs.Puts.{from-none, from-last, from-same, block-put, image-grown}
+use Rattle.hd_journal.proofs.Heads.{moved}
+use Rattle.hd_journal.proofs.Slots.{slots-bytes, block-few, places-few, place-low, frames-slots, image-slots}
 use Rattle.hd_journal.proofs.Steps.{inside}
 
--- ---- a write behind the gate
+-- ---- the last frame of a block
 
-pub settled-still : (a b : State) (at n : ℕ) → 0 < at → IsSettled a → WritesLog at n a b → IsSettled b
-settled-still a b at n some settled w = record {
-  volume = λ l v may. (behind a b at n some settled w l v may).1 ∙ sym w.volume;
-  shut = λ l v may. (behind a b at n some settled w l v may).0;
-}
-
-pub safe-still : (a b : State) (at n since : ℕ) → 0 < at → IsSettled a → IsSafe a since a.volume a.volume → WritesLog at n a b → IsSafe b since b.volume b.volume
-safe-still a b at n since some settled safe w = record {
-  past = (let p = safe.past in let q = w.time.later in omega arith);
-  each = λ l v left.
-      ⊎_elim (λ past. inl (⊎_elim (λ e. e) (λ e. e) (safe.each l v past) ∙ sym w.volume))
-      (λ now. let is = behind a b at n some settled w l v now in inl (shut l v is.0.gate ∙ is.1 ∙ sym w.volume))
-      (w.time.nothing_else since l v safe.past left);
-}
-
--- ---- where frames stand
-
-pub frame-next : (size i : ℕ) → frame_at size (suc i) ≡ frame_at size i + (size + 4)
-frame-next size i = omega arith
-
--- an earlier frame ends before a later one begins
-pub frame-before : (size i j : ℕ) → i < j → frame_at size i + (size + 4) ≤ frame_at size j
-frame-before size i j low = (let r : i * (size + 4) + (size + 4) ≤ j * (size + 4) = row_fits i (size + 4) j (size + 4) low (omega arith) in omega arith)
+pub place-latest : (size len count : ℕ) (log places : List ℕ) (n i : ℕ) → AreFrames size count log places → n < length places → length places * size ≤ len → 16 ≤ size → len ≤ no_block * size → i < count → block_no size log i ≡ n → i ≤ slice_index places n - 1
+place-latest size len count log places n i f low blocks wide few u is = elim (f.placed i u) [
+  | inl gate ↦ (let m = places-few size (length places) len wide blocks few in absurd (omega (arith, low, m, is, gate)))
+  | inr has ↦ (let q : i < slice_index places (block_no size log i) = has.1 in let e : slice_index places (block_no size log i) ≡ slice_index places n = ap (slice_index places) is in omega (arith, q, e))
+]
 
 -- ---- one frame more
 
-module _ (a b : State) (h : Head) (places bytes buf : List ℕ) (n : ℕ) (o : IsFramed a h places) (low : n < length places) (none : slice_index places n ≡ 0) (w : WritesLog (frame_at h.size h.count) (h.size + 4) a b)
+module _ (a b : State) (h : Head) (places bytes buf : List ℕ) (n : ℕ) (o : IsFramed a h places) (low : n < length places) (w : WritesLog (frame_at h.size h.count) (h.size + 4) a b)
     (wrote : bytes_at b.log (frame_at h.size h.count) (h.size + 4) ≡ buf) (long : length buf ≡ h.size + 4) (number : number_at 4 buf 0 ≡ n) (len : length bytes ≡ h.size) (block : (j : ℕ) → j < h.size → slice_index buf (4 + j) ≡ slice_index bytes j) where
   abbrev pub more : Head
   more = record h { count = h.count + 1 }
@@ -69,30 +50,33 @@ module _ (a b : State) (h : Head) (places bytes buf : List ℕ) (n : ℕ) (o : I
   new-number : block_no h.size b.log h.count ≡ n
   new-number = (let e : at + 0 ≡ at = omega arith in ap (number_at 4 b.log) (sym e) ∙ sym (moved b.log buf at (h.size + 4) 0 4 wrote there (omega arith)) ∙ number)
 
-  not-there : (i : ℕ) → i < h.count → block_no h.size a.log i ≢ n
-  not-there i u same = (let p = o.frames.placed i u in let q : slice_index places n ≡ i + 1 = ap (slice_index places) (sym same) ∙ p.1 in omega (arith, q, none))
-
   length-set : (xs : List ℕ) (i x : ℕ) → length (slice_set xs i x) ≡ length xs
   length-set xs i x = grind (arith, common_steps)
 
   pub more-framed : IsFramed b more (slice_set places n (h.count + 1))
   more-framed = record {
-    fits = (let f = o.fits in record { some = f.some; small = f.small; frames = (let e = frame-next h.size h.count in omega (arith, there)); base = (let q : length b.volume ≡ length a.volume = ap length w.volume in let k = f.base in omega arith); grows = f.grows });
+    fits = (let f = o.fits in record { some = f.some; small = f.small; frames = (let e = frame-next h.size h.count in omega (arith, there)); base = (let q : length b.volume ≡ length a.volume = ap length w.volume in let k = f.base in omega arith); grows = f.grows; few = f.few });
     whole = o.whole ∙ ap length (sym w.volume);
     frames = record {
       placed = λ i u. elim (cases_eq i h.count) [
         | inl last ↦
-            let no : block_no h.size b.log i ≡ n = ap (block_no h.size b.log) last ∙ new-number in (
-              (let e = length-set places n (h.count + 1) in omega (arith, no, low)),
-              ap (slice_index (slice_set places n (h.count + 1))) no ∙ get_or-set_same places n (h.count + 1) 0 low ∙ ap (λ (m : ℕ). m + 1) (sym last),
-            )
+            let no : block_no h.size b.log i ≡ n = ap (block_no h.size b.log) last ∙ new-number in
+            let is : slice_index (slice_set places n (h.count + 1)) (block_no h.size b.log i) ≡ h.count + 1 = ap (slice_index (slice_set places n (h.count + 1))) no ∙ get_or-set_same places n (h.count + 1) 0 low in
+            inr ((let e = length-set places n (h.count + 1) in omega (arith, e, no, low)), omega (arith, u, is))
         | inr earlier ↦
-            let v : i < h.count = omega (arith, earlier) in
+            let v : i < h.count = omega (arith, earlier, u) in
             let no = old-number i v in
-            let p = o.frames.placed i v in (
-              (let e = length-set places n (h.count + 1) in omega (arith, no, p.0)),
-              ap (slice_index (slice_set places n (h.count + 1))) no ∙ get_or-set_other places n (block_no h.size a.log i) (h.count + 1) 0 (not-there i v) ∙ p.1,
-            )
+            elim (o.frames.placed i v) [
+              | inl gate ↦ inl (no ∙ gate)
+              | inr has ↦
+                  let p = has.0 in
+                  let q = has.1 in
+                  let behind : i < slice_index (slice_set places n (h.count + 1)) (block_no h.size b.log i) = elim (cases_eq (block_no h.size a.log i) n) [
+                    | inl same ↦ (let is : slice_index (slice_set places n (h.count + 1)) (block_no h.size b.log i) ≡ h.count + 1 = ap (slice_index (slice_set places n (h.count + 1))) (no ∙ same) ∙ get_or-set_same places n (h.count + 1) 0 low in omega (arith, v, is))
+                    | inr other ↦ (let is : slice_index (slice_set places n (h.count + 1)) (block_no h.size b.log i) ≡ slice_index places (block_no h.size a.log i) = ap (slice_index (slice_set places n (h.count + 1))) no ∙ get_or-set_other places n (block_no h.size a.log i) (h.count + 1) 0 other in omega (arith, q, is))
+                  ] in
+                  inr ((let e = length-set places n (h.count + 1) in omega (arith, e, no, p)), behind)
+            ]
       ];
       there = λ m u some. elim (cases_eq m n) [
         | inl is ↦
@@ -116,10 +100,12 @@ module _ (a b : State) (h : Head) (places bytes buf : List ℕ) (n : ℕ) (o : I
     blocks = (let e = length-set places n (h.count + 1) in let k = o.blocks in subst (λ (m : ℕ). m * h.size ≤ h.len) (sym e) k);
   }
 
+  some : 0 < h.size
+  some = (let s = o.fits.some in omega (arith, s))
+
   pub more-image : image more b.log b.volume ≡ with_block h.size (image h a.log a.volume) n bytes
   more-image =
       let il = length-image h a.log a.volume in
-      let some = o.fits.some in
       let r : n * h.size + h.size ≤ length places * h.size = row_fits n h.size (length places) h.size low (omega arith) in
       let k = o.blocks in
       block-put h.size n (image h a.log a.volume) (image more b.log b.volume) bytes some (omega (arith, il, r, k)) len (length-image more b.log b.volume ∙ sym il)
@@ -144,6 +130,23 @@ module _ (a b : State) (h : Head) (places bytes buf : List ℕ) (n : ℕ) (o : I
       ∙ sym (byte-at b.log at (h.size + 4) (4 + j) there (omega arith))
       ∙ ap (λ (xs : List ℕ). get_or xs (4 + j) 0) wrote ∙ block j inner)
 
+-- ---- a shut gate
+
+pub gate-written : (h : Head) (log zeros buf : List ℕ) → 16 ≤ h.size → zeros ≡ replicate h.size 0 → bytes_at log (frame_at h.size h.count) (h.size + 4) ≡ buf → length buf ≡ h.size + 4 → number_at 4 buf 0 ≡ no_block
+    → ((j : ℕ) → j < length zeros → slice_index buf (4 + j) ≡ slice_index zeros j) → IsGate h log
+gate-written h log zeros buf wide are wrote long number block =
+    let at : ℕ = frame_at h.size h.count in
+    let there = inside log buf at (h.size + 4) wrote long (omega arith) in
+    let next : frame_at h.size (h.count + 1) ≡ at + (h.size + 4) = omega arith in
+    let len : length zeros ≡ h.size = ap length are ∙ length-replicate h.size 0 in
+    let zero : slice_index buf (4 + 0) ≡ 0 = block 0 (omega (arith, len, wide)) ∙ ap (λ (xs : List ℕ). get_or xs 0 0) are ∙ get_or-replicate h.size 0 0 0 (omega (arith, wide)) in
+    let byte : slice_index log (at + (4 + 0)) ≡ 0 = sym (byte-at log at (h.size + 4) (4 + 0) there (omega arith)) ∙ ap (λ (xs : List ℕ). get_or xs (4 + 0) 0) wrote ∙ zero in
+    record {
+      there = omega (arith, there, next);
+      sign = ap (number_at 4 log) (let e : at ≡ at + 0 = omega arith in e) ∙ sym (moved log buf at (h.size + 4) 0 4 wrote there (omega arith)) ∙ number;
+      shut = λ one. (let e : gate_at h ≡ at + (4 + 0) = omega arith in let both : 1 ≡ 0 = sym one ∙ ap (slice_index log) e ∙ byte in omega (arith, both));
+    }
+
 -- ---- a frame overwritten
 
 module _ (a b : State) (h : Head) (places bytes : List ℕ) (n : ℕ) (o : IsFramed a h places) (low : n < length places) (has : slice_index places n ≢ 0)
@@ -152,7 +155,7 @@ module _ (a b : State) (h : Head) (places bytes : List ℕ) (n : ℕ) (o : IsFra
   frame = slice_index places n - 1
 
   frame-low : frame < h.count
-  frame-low = (let p = (o.frames.there n low has).0 in let q : 0 < slice_index places n = elim (cases_eq (slice_index places n) 0) [ inl z ↦ absurd (has z) | inr z ↦ omega (arith, z) ] in omega (arith, p, q))
+  frame-low = place-low h.size h.count a.log places n o.frames low has
 
   frame-is : block_no h.size a.log frame ≡ n
   frame-is = (o.frames.there n low has).1
@@ -181,31 +184,36 @@ module _ (a b : State) (h : Head) (places bytes : List ℕ) (n : ℕ) (o : IsFra
             ap (slice_index b.log) (sym e) ∙ apart i j u other (omega arith) ∙ ap (slice_index a.log) e
       ])
 
-  -- no other frame has the block
-  alone : (i : ℕ) → i < h.count → block_no h.size a.log i ≡ n → i ≡ frame
-  alone i u is = (let p = (o.frames.placed i u).1 in let q : slice_index places n ≡ i + 1 = ap (slice_index places) (sym is) ∙ p in omega (arith, q))
+  -- no later frame has the block
+  latest : (i : ℕ) → i < h.count → block_no h.size a.log i ≡ n → i ≤ frame
+  latest i u is = place-latest h.size h.len h.count a.log places n i o.frames low o.blocks o.fits.some o.fits.few u is
+
+  wide : 0 < h.size
+  wide = (let s = o.fits.some in omega (arith, s))
+
+  same-numbers : AreFrames h.size h.count b.log places
+  same-numbers = record {
+    placed = λ i u. elim (o.frames.placed i u) [
+      | inl gate ↦ inl (same-number i u ∙ gate)
+      | inr has ↦ inr (subst (λ (m : ℕ). (m < length places) × (i < slice_index places m)) (sym (same-number i u)) has)
+    ];
+    there = λ m u some. (let p = o.frames.there m u some in (p.0, same-number (slice_index places m - 1) (place-low h.size h.count a.log places m o.frames u some) ∙ p.1));
+  }
 
   pub put-framed : IsFramed b h places
   put-framed = record {
-    fits = (let f = o.fits in record { some = f.some; small = f.small; frames = (let l = w.log.no_shorter in let k = f.frames in omega arith); base = (let q : length b.volume ≡ length a.volume = ap length w.volume in let k = f.base in omega arith); grows = f.grows });
+    fits = (let f = o.fits in record { some = f.some; small = f.small; frames = (let l = w.log.no_shorter in let k = f.frames in omega arith); base = (let q : length b.volume ≡ length a.volume = ap length w.volume in let k = f.base in omega arith); grows = f.grows; few = f.few });
     whole = o.whole ∙ ap length (sym w.volume);
-    frames = record {
-      placed = λ i u. (let e = same-number i u in let p = o.frames.placed i u in ((let q = p.0 in omega (arith, e, q)), ap (slice_index places) e ∙ p.1));
-      there = λ m u some.
-          let p = o.frames.there m u some in
-          let q : 0 < slice_index places m = elim (cases_eq (slice_index places m) 0) [ inl z ↦ absurd (some z) | inr z ↦ omega (arith, z) ] in
-          let r = p.0 in (p.0, same-number (slice_index places m - 1) (omega (arith, q, r)) ∙ p.1);
-    };
+    frames = same-numbers;
     blocks = o.blocks;
   }
 
   pub put-image : image h b.log b.volume ≡ with_block h.size (image h a.log a.volume) n bytes
   put-image =
       let il = length-image h a.log a.volume in
-      let some = o.fits.some in
       let r : n * h.size + h.size ≤ length places * h.size = row_fits n h.size (length places) h.size low (omega arith) in
       let k = o.blocks in
-      block-put h.size n (image h a.log a.volume) (image h b.log b.volume) bytes some (omega (arith, il, r, k)) len (length-image h b.log b.volume ∙ sym il)
+      block-put h.size n (image h a.log a.volume) (image h b.log b.volume) bytes wide (omega (arith, il, r, k)) len (length-image h b.log b.volume ∙ sym il)
       (λ k u other.
       let v : k < h.len = omega (arith, il, u) in
       let inner : k % h.size < h.size = omega arith in
@@ -223,7 +231,7 @@ module _ (a b : State) (h : Head) (places bytes : List ℕ) (n : ℕ) (o : IsFra
       let m : k % h.size ≡ j = mod-mul-add n h.size j inner in
       let there : frame_at h.size frame + 4 + h.size ≤ length b.log = (let e = in-log frame frame-low in let l = w.log.no_shorter in omega arith) in
       byte-of-image h b.log b.volume k v
-      ∙ from-one h.size b.log h.count frame k (base_byte h.base b.volume k) frame-low (same-number frame frame-low ∙ frame-is ∙ sym q) (λ i u own. alone i u (sym (same-number i u) ∙ own ∙ q))
+      ∙ from-last h.size b.log h.count frame k (base_byte h.base b.volume k) frame-low (same-number frame frame-low ∙ frame-is ∙ sym q) (λ i u own. latest i u (sym (same-number i u) ∙ own ∙ q))
       ∙ ap (λ (i : ℕ). slice_index b.log (frame_at h.size frame + 4 + i)) m
       ∙ sym (byte-at b.log (frame_at h.size frame + 4) h.size j there inner)
       ∙ ap (λ (xs : List ℕ). get_or xs j 0) wrote)
@@ -253,8 +261,8 @@ module _ (a : State) (h : Head) (places : List ℕ) (o : IsFramed a h places) wh
       let d : k / h.size ≡ n = div-mul-add n h.size j inner in
       let m : k % h.size ≡ j = mod-mul-add n h.size j inner in
       byte-of-image h a.log a.volume k v
-      ∙ from-one h.size a.log h.count i k (base_byte h.base a.volume k) few (p.1 ∙ sym d)
-      (λ x u own. (let y = (o.frames.placed x u).1 in let z : slice_index places n ≡ x + 1 = ap (slice_index places) (sym (own ∙ d)) ∙ y in omega (arith, z)))
+      ∙ from-last h.size a.log h.count i k (base_byte h.base a.volume k) few (p.1 ∙ sym d)
+      (λ x u own. place-latest h.size h.len h.count a.log places n x o.frames low o.blocks o.fits.some o.fits.few u (own ∙ d))
       ∙ ap (λ (x : ℕ). slice_index a.log (frame_at h.size i + 4 + x)) m
 
   -- a byte of a block that has none
@@ -265,12 +273,18 @@ module _ (a : State) (h : Head) (places : List ℕ) (o : IsFramed a h places) wh
       let d : k / h.size ≡ n = div-mul-add n h.size j inner in
       byte-of-image h a.log a.volume k v
       ∙ from-none h.size a.log h.count k (base_byte h.base a.volume k) (λ i u own.
-      let p = o.frames.placed i u in
-      let is : block_no h.size a.log i ≡ n = own ∙ d in
-      let low : n < length places = (let q = p.0 in omega (arith, q, is)) in
-      let z : slice_index places n ≡ i + 1 = ap (slice_index places) (sym is) ∙ p.1 in
-      let y = none low in
-      omega (arith, z, y))
+      let wide = o.fits.some in
+      elim (o.frames.placed i u) [
+        | inl gate ↦ absurd (block-few h.size h.len k (omega (arith, wide)) v o.fits.few (sym own ∙ gate))
+        | inr has ↦
+            let is : block_no h.size a.log i ≡ n = own ∙ d in
+            let p = has.0 in
+            let q = has.1 in
+            let low : n < length places = omega (arith, p, is) in
+            let y = none low in
+            let z : slice_index places (block_no h.size a.log i) ≡ slice_index places n = ap (slice_index places) is in
+            absurd (omega (arith, q, z, y))
+      ])
 
 -- ---- a growth
 
@@ -293,12 +307,20 @@ length-more xs m = grind (arith, common_steps)
 abbrev pub longer : Head → ℕ → Head
 longer h blocks = record h { len = h.len + blocks * h.size }
 
-pub grown-framed : (a : State) (h : Head) (places : List ℕ) (blocks : ℕ) → IsFramed a h places → IsFramed a (longer h blocks) (places ++ replicate blocks 0)
-grown-framed a h places blocks o = record {
-  fits = (let f = o.fits in record { some = f.some; small = f.small; frames = f.frames; base = f.base; grows = (let g = f.grows in omega arith) });
+pub grown-framed : (a : State) (h : Head) (places : List ℕ) (blocks : ℕ) → h.len + blocks * h.size ≤ no_block * h.size → IsFramed a h places → IsFramed a (longer h blocks) (places ++ replicate blocks 0)
+grown-framed a h places blocks few o = record {
+  fits = (let f = o.fits in record { some = f.some; small = f.small; frames = f.frames; base = f.base; grows = (let g = f.grows in omega arith); few = few });
   whole = o.whole;
   frames = record {
-    placed = λ i u. (let p = o.frames.placed i u in let q = p.0 in let l = length-more places blocks in (omega (arith, q, l), get-before places blocks (block_no h.size a.log i) p.0 ∙ p.1));
+    placed = λ i u. elim (o.frames.placed i u) [
+      | inl gate ↦ inl gate
+      | inr has ↦
+          let q = has.0 in
+          let p = has.1 in
+          let l = length-more places blocks in
+          let e = get-before places blocks (block_no h.size a.log i) has.0 in
+          inr (omega (arith, q, l), omega (arith, p, e))
+    ];
     there = λ m u some. elim (cases_lt m (length places)) [
       | inl old ↦ (let e = get-before places blocks m old in let p = o.frames.there m old (λ z. some (e ∙ z)) in ((let q = p.0 in omega (arith, e, q)), ap (λ (x : ℕ). block_no h.size a.log (x - 1)) e ∙ p.1))
       | inr new ↦ absurd (some (get-behind places blocks m (omega (arith, new)) (let l = length-more places blocks in omega (arith, u, l))))
@@ -308,43 +330,38 @@ grown-framed a h places blocks o = record {
 }
 
 -- all places of a growth lie behind the image
-pub grown-image : (a : State) (h : Head) (places : List ℕ) (blocks : ℕ) → IsFramed a h places → image (longer h blocks) a.log a.volume ≡ grown h.size (image h a.log a.volume) blocks
-grown-image a h places blocks o =
+pub grown-image : (a : State) (h : Head) (places : List ℕ) (blocks : ℕ) → h.len + blocks * h.size ≤ no_block * h.size → IsFramed a h places → image (longer h blocks) a.log a.volume ≡ grown h.size (image h a.log a.volume) blocks
+grown-image a h places blocks few o =
     let il = length-image h a.log a.volume in
     let nl = length-image (longer h blocks) a.log a.volume in
+    let wide = o.fits.some in
     image-grown h.size blocks (image h a.log a.volume) (image (longer h blocks) a.log a.volume) (omega (arith, il, nl))
     (λ k u. byte-of-image (longer h blocks) a.log a.volume k (omega (arith, il, u)) ∙ sym (byte-of-image h a.log a.volume k (omega (arith, il, u))))
     (λ k u v.
     let g = o.fits.grows in
     byte-of-image (longer h blocks) a.log a.volume k (omega (arith, nl, v))
     ∙ from-none h.size a.log h.count k (base_byte h.base a.volume k)
-    (λ i x own.
-    let p = (o.frames.placed i x).0 in
-    let q = block-behind h.size (length places) k o.fits.some (let b = o.blocks in omega (arith, il, u, b)) in
-    omega (arith, own, p, q))
+    (λ i x own. elim (o.frames.placed i x) [
+      | inl gate ↦ absurd (block-few h.size (h.len + blocks * h.size) k (omega (arith, wide)) (omega (arith, nl, v)) few (sym own ∙ gate))
+      | inr has ↦
+          let p = has.0 in
+          let q = block-behind h.size (length places) k (omega (arith, wide)) (let b = o.blocks in omega (arith, il, u, b)) in
+          absurd (omega (arith, own, p, q))
+    ])
     ∙ base-behind h.base a.volume k (omega (arith, il, u, g)))
 
 -- what `resize` gives
 pub resized : (xs ys : List ℕ) (p q n : ℕ) → ys ≡ take p xs ++ replicate q 0 → length xs ≤ p → q ≡ n → xs ++ replicate n 0 ≡ ys
 resized xs ys p q n is le e = ap (λ (l : List ℕ). l ++ replicate n 0) (sym (take_all p xs le)) ∙ ap (λ (m : ℕ). take p xs ++ replicate m 0) (sym e) ∙ sym is
 
--- ---- a roll back, and what stands after a commit
-
-abbrev pub fresh : Head → ℕ → Head
-fresh h len = record h { count = 0; base = len; len = len }
-
-pub fresh-image : (a : State) (old : Head) → image (fresh old (length a.volume)) a.log a.volume ≡ a.volume
-fresh-image a old =
-    let h : Head = fresh old (length a.volume) in
-    let il = length-image h a.log a.volume in
-    same_number_lists _ _ il (λ k u. byte-of-image h a.log a.volume k (omega (arith, il, u)) ∙ base-within h.base a.volume k (omega (arith, il, u)))
+-- ---- a head of no slots
 
 length-zeros : (p : ℕ) → length {A = ℕ} (replicate p 0) ≡ p
 length-zeros p = length-replicate p 0
 
-pub fresh-framed : (a : State) (h : Head) (p : ℕ) → 0 < h.size → h.size ≤ 32768 → 51 ≤ length a.log → p * h.size ≤ length a.volume → IsFramed a (fresh h (length a.volume)) (replicate p 0)
-fresh-framed a h p some small long blocks = record {
-  fits = record { some = some; small = small; frames = (let e : 51 + 0 * (h.size + 4) ≤ length a.log = omega arith in e); base = omega arith; grows = omega arith };
+pub fresh-framed : (a : State) (h : Head) (p : ℕ) → 16 ≤ h.size → h.size ≤ 32768 → 51 ≤ length a.log → p * h.size ≤ length a.volume → length a.volume ≤ no_block * h.size → IsFramed a (fresh h (length a.volume)) (replicate p 0)
+fresh-framed a h p some small long blocks few = record {
+  fits = record { some = some; small = small; frames = (let e : 51 + 0 * (h.size + 4) ≤ length a.log = omega arith in e); base = omega arith; grows = omega arith; few = few };
   whole = refl;
   frames = record {
     placed = λ i u. absurd (omega arith);
@@ -353,47 +370,45 @@ fresh-framed a h p some small long blocks = record {
   blocks = (let l = length-zeros p in subst (λ (m : ℕ). m * h.size ≤ length a.volume) (sym l) blocks);
 }
 
--- without a frame, and as long as the volume, the image is the volume
-pub bare-image : (a : State) (h : Head) (places : List ℕ) → IsFramed a h places → h.count ≡ 0 → h.len ≡ h.base → image h a.log a.volume ≡ a.volume
-bare-image a h places f none same =
-    ap (λ (x : Head). image x a.log a.volume) (same-heads h (fresh h (length a.volume)) refl none f.whole (same ∙ f.whole) refl refl) ∙ fresh-image a h
+-- ---- the frames of the last commit are copied to the volume
 
--- frames stay where they are while the gate is opened
-pub opened-framed : (a e : State) (h : Head) (places : List ℕ) → IsFramed a h places → IsOpened h a e → IsFramed e h places
-opened-framed a e h places f o = record {
-  fits = o.fits;
-  whole = f.whole ∙ ap length (sym o.volume);
-  frames = record {
-    placed = λ i u. (let n = numbers i u in let p = f.frames.placed i u in ((let q = p.0 in omega (arith, n, q)), ap (slice_index places) n ∙ p.1));
-    there = λ m u some.
-        let p = f.frames.there m u some in
-        let q : 0 < slice_index places m = elim (cases_eq (slice_index places m) 0) [ inl z ↦ absurd (some z) | inr z ↦ omega (arith, z) ] in
-        let r = p.0 in (p.0, numbers (slice_index places m - 1) (omega (arith, q, r)) ∙ p.1);
-  };
-  blocks = f.blocks;
-}
-  where
-    numbers : (i : ℕ) → i < h.count → block_no h.size e.log i ≡ block_no h.size a.log i
-    numbers i u = (let b = frame-before h.size i h.count u in number-same 4 (frame_at h.size i) e.log a.log (λ k l m. o.written.each k (omega arith) (omega arith)))
+module _ (a b : State) (last : Head) (kept places : List ℕ) (count len : ℕ) (o : IsFramed a last kept) (later : last.count ≤ count) (longer : last.len ≤ len) (p : IsFramed a (record last { count = count; len = len }) places)
+    (up : length a.log ≤ length b.log) (same : SameBehind a.log b.log) (done : b.volume ≡ image last a.log a.volume) where
+  abbrev head : Head
+  head = record last { count = count; len = len }
 
--- ---- moments
+  abbrev based : Head
+  based = record last { count = count; base = last.len; len = len }
 
--- at this moment a settled disk is safe
-pub safe-now : (a : State) → IsSettled a → ((l v : List ℕ) → a.left_since a.moment l v → a.may_leave l v) → IsSafe a a.moment a.volume a.volume
-safe-now a settled now = record { past = omega arith; each = λ l v left. (let may = now l v left in inl (shut l v (settled.shut l v may).gate ∙ settled.volume l v may)) }
+  slots : SameSlots last.size count a.log b.log
+  slots = slots-bytes last.size count a.log b.log (λ i l u. same i (omega (arith, l)))
 
--- and so is one whose log is open
-pub safe-open : (a : State) (h : Head) → IsOpened h a a → ((l v : List ℕ) → a.left_since a.moment l v → a.may_leave l v) → IsSafe a a.moment (image h a.log a.volume) (image h a.log a.volume)
-safe-open a h o now = record {
-  past = omega arith;
-  each = λ l v left.
-      let may = now l v left in
-      inl (ap (λ (k : List ℕ). recovered k v) (o.still.log l v may) ∙ ap (recovered a.log) (o.still.volume l v may) ∙ opened-recovers h a o);
-}
+  volume-len : length b.volume ≡ last.len
+  volume-len = ap length done ∙ length-image last a.log a.volume
 
--- what a run leaves is as safe as what was before
-pub safe-on : (a b : State) (since : ℕ) (image tried : List ℕ) → IsSafe a since image tried → Leaves (StandsForEither image tried) a b → IsSafe b since image tried
-safe-on a b since image tried safe leaves = record {
-  past = (let p = safe.past in let q = leaves.later in omega arith);
-  each = λ l v left. ⊎_elim (λ past. safe.each l v past) (λ p. p) (leaves.each since l v safe.past left);
-}
+  pub copied-framed : IsFramed b based places
+  copied-framed = record {
+    fits = (let f = p.fits in let q = volume-len in let k = f.frames in record { some = f.some; small = f.small; frames = omega (arith, k, up); base = omega (arith, q); grows = longer; few = f.few });
+    whole = sym volume-len;
+    frames = frames-slots last.size count a.log b.log places slots p.frames;
+    blocks = p.blocks;
+  }
+
+  pub copied-image : image based b.log b.volume ≡ image head a.log a.volume
+  copied-image =
+      let il = length-image based b.log b.volume in
+      ap (λ (v : List ℕ). image based b.log v) done ∙ image-slots based a.log b.log (image last a.log a.volume) p.fits.some p.fits.few slots
+      ∙ same_number_lists _ _ (length-image based a.log (image last a.log a.volume) ∙ sym (length-image head a.log a.volume)) (λ k u.
+      let nl = length-image based a.log (image last a.log a.volume) in
+      let v : k < len = omega (arith, nl, u) in
+      byte-of-image based a.log (image last a.log a.volume) k v
+      ∙ elim (cases_lt k last.len) [
+        | inl in_base ↦
+            ap (byte_from last.size a.log count k) (base-within last.len (image last a.log a.volume) k in_base ∙ byte-of-image last a.log a.volume k in_base)
+            ∙ twice last.size a.log count last.count k (base_byte last.base a.volume k) later
+        | inr behind ↦
+            let g = o.fits.grows in
+            let le : last.len ≤ k = omega (arith, behind) in
+            ap (byte_from last.size a.log count k) (base-behind last.len (image last a.log a.volume) k le ∙ sym (base-behind last.base a.volume k (omega (arith, g, le))))
+      ]
+      ∙ sym (byte-of-image head a.log a.volume k v))

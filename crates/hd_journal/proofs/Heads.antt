@@ -6,7 +6,7 @@ use Rattle.hd_bytes.specs.Numbers.{number_at}
 use Rattle.hd_bytes.proofs.NumberLemmas.{number-same, number-moved}
 use Rattle.hd_bytes.proofs.BlockLemmas.{byte-at}
 use Rattle.hd_journal.specs.declared.head.Head.{Head}
-use Rattle.hd_journal.specs.Log.{head_of, is_marked, fits, IsHeadAt}
+use Rattle.hd_journal.specs.Log.{first_head, is_marked, fits, IsHeadAt}
 
 -- heads of the same numbers are the same
 pub same-heads : (a b : Head) → a.size ≡ b.size → a.count ≡ b.count → a.base ≡ b.base → a.len ≡ b.len → a.device ≡ b.device → a.number ≡ b.number → a ≡ b
@@ -14,10 +14,10 @@ same-heads a b e f g h i j =
     let all : record { size = a.size; count = a.count; base = a.base; len = a.len; device = a.device; number = a.number } ≡ record { size = b.size; count = b.count; base = b.base; len = b.len; device = b.device; number = b.number } = rw (e, f, g, h, i, j) refl in
     all
 
--- logs that differ in nothing but the gate and the frames have the same head
-pub same-head : (a b : List ℕ) → ((i : ℕ) → 1 ≤ i → i < 51 → slice_index a i ≡ slice_index b i) → head_of a ≡ head_of b
-same-head a b same =
-    same-heads (head_of a) (head_of b)
+-- logs that differ in nothing but the gate and the slots have the same first head
+pub same-first : (a b : List ℕ) → ((i : ℕ) → 1 ≤ i → i < 51 → slice_index a i ≡ slice_index b i) → first_head a ≡ first_head b
+same-first a b same =
+    same-heads (first_head a) (first_head b)
     (number-same 4 11 a b (λ i l u. same i (omega arith) (omega arith)))
     (number-same 4 15 a b (λ i l u. same i (omega arith) (omega arith)))
     (number-same 8 19 a b (λ i l u. same i (omega arith) (omega arith)))
@@ -37,9 +37,9 @@ moved log bytes at len p n is fits low =
     ap (λ (xs : List ℕ). get_or xs (p + k) 0) (sym is) ∙ byte-at log at len (p + k) fits (omega arith) ∙ ap (slice_index log) (let e : at + (p + k) ≡ at + p + k = omega arith in e))
 
 -- a head that was written behind the gate
-pub head-written : (log bytes : List ℕ) (head : Head) → bytes_at log 1 50 ≡ bytes → 51 ≤ length log → IsHeadAt bytes head → head_of log ≡ head
+pub head-written : (log bytes : List ℕ) (head : Head) → bytes_at log 1 50 ≡ bytes → 51 ≤ length log → IsHeadAt bytes head → first_head log ≡ head
 head-written log bytes head is long h =
-    same-heads (head_of log) head
+    same-heads (first_head log) head
     (sym (moved log bytes 1 50 10 4 is long (omega arith)) ∙ h.size_is)
     (sym (moved log bytes 1 50 14 4 is long (omega arith)) ∙ h.count_is)
     (sym (moved log bytes 1 50 18 8 is long (omega arith)) ∙ h.base_is)
@@ -55,9 +55,9 @@ mark-written log bytes head is long h =
 -- a head that was read
 pub head-read : (log bytes : List ℕ) (head : Head) → bytes ≡ bytes_at log 11 40 → 51 ≤ length log
     → head.size ≡ number_at 4 bytes 0 → head.count ≡ number_at 4 bytes 4 → head.base ≡ number_at 8 bytes 8 → head.len ≡ number_at 8 bytes 16
-    → head.device ≡ number_at 8 bytes 24 → head.number ≡ number_at 8 bytes 32 → head ≡ head_of log
+    → head.device ≡ number_at 8 bytes 24 → head.number ≡ number_at 8 bytes 32 → head ≡ first_head log
 head-read log bytes head is long e f g h i j =
-    same-heads head (head_of log)
+    same-heads head (first_head log)
     (e ∙ moved log bytes 11 40 0 4 (sym is) long (omega arith))
     (f ∙ moved log bytes 11 40 4 4 (sym is) long (omega arith))
     (g ∙ moved log bytes 11 40 8 8 (sym is) long (omega arith))

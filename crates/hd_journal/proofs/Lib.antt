@@ -3,8 +3,13 @@ pub mod Moments
 pub mod Opens
 pub mod Steps
 pub mod Heads
+pub mod Commits
 pub mod Publishes
+pub mod Published
+pub mod Continues
+pub mod Held
 pub mod Puts
+pub mod Slots
 pub mod FrameLemmas
 pub mod ReadLemmas
 pub mod FindLemmas

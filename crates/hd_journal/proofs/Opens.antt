@@ -1,6 +1,6 @@
 -- When a log counts, and what the pair then stands for.
 use Rattle.std.proofs.Common.{◌≡◌, ◌≢◌, inl, inr, ℕ, true, false, List, length, slice_index, refl, sym, ◌∙◌, arith}
-use Rattle.std.proofs.lemmas.Bool.{and_parts, and_from, eq-eqb, ne_eqb, lt-ltb, le-leb, ltb-true, leb-true, cases_eq, cases_Bool, and_left}
+use Rattle.std.proofs.lemmas.Bool.{and_parts, and_from, eq-eqb, ne_eqb, le-leb, leb-true, cases_eq, cases_Bool, and_left}
 use Rattle.std.proofs.lemmas.Grind.{same_number_lists}
 use Rattle.hd_journal.specs.declared.head.Head.{Head}
 use Rattle.hd_journal.specs.Log.{head_of, image, fits, is_marked, is_open, recovered, Fits, Spares}
@@ -13,11 +13,12 @@ fits-parts h log volume e =
     let b = and_parts _ _ a.1 in
     let c = and_parts _ _ b.1 in
     let d = and_parts _ _ c.1 in
-    record { some = ltb-true _ _ a.0; small = leb-true _ _ b.0; frames = leb-true _ _ c.0; base = leb-true _ _ d.0; grows = leb-true _ _ d.1 }
+    let f = and_parts _ _ d.1 in
+    record { some = leb-true _ _ a.0; small = leb-true _ _ b.0; frames = leb-true _ _ c.0; base = leb-true _ _ d.0; grows = leb-true _ _ f.0; few = leb-true _ _ f.1 }
 
 pub fits-from : (h : Head) (log volume : List ℕ) → Fits h log volume → fits h (length log) (length volume) ≡ true
 fits-from h log volume f =
-    and_from _ _ (lt-ltb _ _ f.some) (and_from _ _ (le-leb _ _ f.small) (and_from _ _ (le-leb _ _ f.frames) (and_from _ _ (le-leb _ _ f.base) (le-leb _ _ f.grows))))
+    and_from _ _ (le-leb _ _ f.some) (and_from _ _ (le-leb _ _ f.small) (and_from _ _ (le-leb _ _ f.frames) (and_from _ _ (le-leb _ _ f.base) (and_from _ _ (le-leb _ _ f.grows) (le-leb _ _ f.few)))))
 
 pub opened : (log volume : List ℕ) → slice_index log 0 ≡ 1 → is_marked log ≡ true → Fits (head_of log) log volume → recovered log volume ≡ image (head_of log) log volume
 unfolding recovered
@@ -33,14 +34,14 @@ shut log volume gate = not-open log volume (and_left _ _ (ne_eqb _ _ gate))
 -- a volume that is spared by an open log
 pub spared : (log first v : List ℕ) → slice_index log 0 ≡ 1 → is_marked log ≡ true → Fits (head_of log) log first → Spares (head_of log) false log first v → recovered log v ≡ recovered log first
 spared log first v gate marked f s =
-    opened log v gate marked (record { some = f.some; small = f.small; frames = f.frames; base = s.base; grows = f.grows })
+    opened log v gate marked (record { some = f.some; small = f.small; frames = f.frames; base = s.base; grows = f.grows; few = f.few })
     ∙ spared-image (head_of log) false log first v s ∙ sym (opened log first gate marked f)
 
 -- the image in the place of the volume
 pub done-again : (log first : List ℕ) → slice_index log 0 ≡ 1 → is_marked log ≡ true → Fits (head_of log) log first → recovered log (image (head_of log) log first) ≡ image (head_of log) log first
 done-again log first gate marked f =
     let len = length-image (head_of log) log first in
-    opened log (image (head_of log) log first) gate marked (record { some = f.some; small = f.small; frames = f.frames; base = (let g = f.grows in omega arith); grows = f.grows })
+    opened log (image (head_of log) log first) gate marked (record { some = f.some; small = f.small; frames = f.frames; base = (let g = f.grows in omega arith); grows = f.grows; few = f.few })
     ∙ image-again (head_of log) log first f.grows
 
 -- a gate that is being shut, over a volume that the open log leaves as it is

@@ -16,16 +16,16 @@ pub from-none : (size : ℕ) (log : List ℕ) (m k b : ℕ) → ((i : ℕ) → i
 from-none size log zero k b none = refl
 from-none size log (suc m) k b none = frame-other size log m k b (none m (omega arith)) ∙ from-none size log m k b (λ i low. none i (omega arith))
 
--- frame j alone has it
-pub from-one : (size : ℕ) (log : List ℕ) (m j k b : ℕ) → j < m → block_no size log j ≡ k / size → ((i : ℕ) → i < m → block_no size log i ≡ k / size → i ≡ j)
+-- frame j is the last that has it
+pub from-last : (size : ℕ) (log : List ℕ) (m j k b : ℕ) → j < m → block_no size log j ≡ k / size → ((i : ℕ) → i < m → block_no size log i ≡ k / size → i ≤ j)
     → byte_from size log m k b ≡ slice_index log (frame_at size j + 4 + k % size)
-from-one size log zero j k b low own one = absurd (omega arith)
-from-one size log (suc m) j k b low own one =
+from-last size log zero j k b low own late = absurd (omega arith)
+from-last size log (suc m) j k b low own late =
     elim (cases_eq (block_no size log m) (k / size)) [
-      | inl here ↦ frame-own size log m k b here ∙ ap (λ (i : ℕ). slice_index log (frame_at size i + 4 + k % size)) (one m (omega arith) here)
+      | inl here ↦ frame-own size log m k b here ∙ ap (λ (i : ℕ). slice_index log (frame_at size i + 4 + k % size)) (let le = late m (omega arith) here in let same : m ≡ j = omega (arith, le, low) in same)
       | inr other ↦
           let less : j < m = elim (cases_eq j m) [ inl same ↦ absurd (other (ap (block_no size log) (sym same) ∙ own)) | inr u ↦ omega (arith, u) ] in
-          frame-other size log m k b other ∙ from-one size log m j k b less own (λ i u here. one i (omega arith) here)
+          frame-other size log m k b other ∙ from-last size log m j k b less own (λ i u here. late i (omega arith) here)
     ]
 
 -- two logs that agree on the numbers, and on the frames of the byte's block

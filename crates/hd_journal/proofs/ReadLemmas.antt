@@ -54,7 +54,8 @@ module _ (a : State) (h : Head) (places : List ℕ) (o : IsFramed a h places) wh
   plain-read n len new below none is =
       let base = o.fits.base in
       let grows = o.fits.grows in
-      let some = o.fits.some in
+      let wide = o.fits.some in
+      let some : 0 < h.size = omega (arith, wide) in
       let il = length-image h a.log a.volume in
       let in_image : n * h.size + len ≤ length (image h a.log a.volume) = omega (arith, il, below, grows) in
       let in_volume : n * h.size + len ≤ length a.volume = omega (arith, below, base) in

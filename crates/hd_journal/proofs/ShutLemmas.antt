@@ -94,6 +94,7 @@ module _ (h : Head) (a b c d e f : State) (byte : ℕ) (fits : Fits h a.log a.vo
         frames = subst (λ (l : List ℕ). frame_at h.size h.count ≤ length l) (sym redoes-synced.log) fits.frames;
         base = spared-c.base;
         grows = fits.grows;
+        few = fits.few;
       }
 
       pub sparing-shut : IsSparing h true c.volume c

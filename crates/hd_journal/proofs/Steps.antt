@@ -10,10 +10,11 @@ use Rattle.hd_bytes.proofs.BlockLemmas.{byte-at, length-bytes_at}
 use Rattle.std.proofs.lemmas.Nat.{row_fits}
 use Rattle.hd_journal.specs.Disk.{State, Torn, WritesVolume, CutsVolume, Syncs, HasVolume, Leaves}
 use Rattle.hd_journal.specs.declared.head.Head.{Head}
-use Rattle.hd_journal.specs.Log.{written_from, skipped, HasFirst, frame_at, block_no, Spares, HasFrames}
+use Rattle.hd_journal.specs.Log.{written_from, skipped, HasFirst, frame_at, block_no, no_block, byte_from, base_byte, Spares, HasFrames}
 use Rattle.hd_journal.specs.States.{IsSpared, IsSparing, Redoes, IsFilled, IsStill}
-use Rattle.hd_journal.proofs.Bytes.{spares-byte, spares-open, spares-first, spares-behind, spares-frame, spares-cut, has-frame}
+use Rattle.hd_journal.proofs.Bytes.{frame-other, spares-byte, spares-open, spares-first, spares-behind, spares-frame, spares-cut, has-frame}
 use Rattle.hd_journal.proofs.Moments.{started, goes_on, followed, weakened}
+use Rattle.hd_journal.proofs.Slots.{block-few}
 
 -- bytes that are there stand within the list
 pub inside : (v xs : List ℕ) (at n : ℕ) → bytes_at v at n ≡ xs → length xs ≡ n → 0 < n → at + n ≤ length v
@@ -154,6 +155,15 @@ copy-frames h z first {a = a} {b = b} i at n xs some few w place len wrote long 
     let e : m * h.size + j ≡ at + k = omega (arith, place, behind) in
     let q : skip + k ≡ j = omega (arith, behind) in
     ap (slice_index b.volume) e ∙ sym (byte-at b.volume at n k inner low_k) ∙ ap (λ (ys : List ℕ). get_or ys k 0) wrote ∙ is k low_k ∙ ap (λ (x : ℕ). slice_index a.log (frame_at h.size i + 4 + x)) q))
+
+-- the slot of a gate has no frame
+pub gate-frames : (h : Head) (from : ℕ) (log first v : List ℕ) (i : ℕ) → 0 < h.size → h.len ≤ no_block * h.size → block_no h.size log i ≡ no_block → HasFrames h from log first i v → HasFrames h from log first (i + 1) v
+gate-frames h from log first v i some few gate f = record {
+  long = f.long;
+  each = λ k above low.
+      f.each k above low ∙ sym (frame-other h.size log i k (base_byte h.base first k) (λ e. block-few h.size h.len k some low few (sym e ∙ gate)))
+      ∙ ap (λ (m : ℕ). byte_from h.size log m k (base_byte h.base first k)) (sym (add-one i));
+}
 
 pub first-zeros : (n m : ℕ) → n ≤ m → take {A = ℕ} n (replicate m 0) ≡ replicate n 0
 first-zeros n m low = same_number_lists _ _ (grind (arith, common_steps)) (λ k u. grind (arith, common_steps, get_or-replicate {A = ℕ}))

@@ -1,5 +1,5 @@
 -- What a log is found to be, and what an opening tells of it.
-use Rattle.std.specs.Prelude.{◌≡◌, ℕ, ◌<◌, ◌≤◌, true, false, List, length, slice_index}
+use Rattle.std.specs.Prelude.{◌≡◌, ℕ, ◌≤◌, true, false, List, length, slice_index}
 use Rattle.hd_journal.specs.Disk.{State}
 use Rattle.hd_journal.specs.Log.{head_of, is_marked, is_open, IsForeign}
 use Rattle.hd_journal.specs.declared.finding.Stamp.{Stamp}
@@ -25,7 +25,7 @@ Finds (Open head) log volume = (is_open log volume ≡ true) × (head ≡ head_o
 abbrev pub HasSizes : Found → Type 0
 HasSizes Nothing = Unit {0}
 HasSizes Other = Unit {0}
-HasSizes (Open head) = (0 < head.size) × (head.size ≤ 32768)
+HasSizes (Open head) = (16 ≤ head.size) × (head.size ≤ 32768)
 
 -- a log that is refused is as it was, and so is the volume
 abbrev pub RefusesLog : Unopened → State → State → Type 0

@@ -1,13 +1,13 @@
 -- The frames of a log over a volume, and where each block stands.
-use Rattle.std.specs.Prelude.{◌≡◌, ◌≢◌, ℕ, ◌+◌, ◌-◌, ◌*◌, ◌<◌, ◌≤◌, List, length, slice_index}
+use Rattle.std.specs.Prelude.{◌≡◌, ◌≢◌, ◌⊎◌, ℕ, ◌-◌, ◌*◌, ◌<◌, ◌≤◌, List, length, slice_index}
 use Rattle.hd_journal.specs.Disk.{State}
-use Rattle.hd_journal.specs.Log.{block_no, Fits}
+use Rattle.hd_journal.specs.Log.{block_no, no_block, Fits}
 use Rattle.hd_journal.specs.States.{StandsForEither}
 use Rattle.hd_journal.specs.declared.head.Head.{Head}
 
--- Each block's place is one more than its frame, or 0 where it has none.
+-- Each block's place is one more than the slot of its last frame, or 0 where it has none.
 pub record AreFrames (size count : ℕ) (log places : List ℕ) : Type 0 where
-  pub placed : (i : ℕ) → i < count → (block_no size log i < length places) × (slice_index places (block_no size log i) ≡ i + 1)
+  pub placed : (i : ℕ) → i < count → (block_no size log i ≡ no_block) ⊎ (block_no size log i < length places) × (i < slice_index places (block_no size log i))
   pub there : (n : ℕ) → n < length places → slice_index places n ≢ 0 → (slice_index places n ≤ count) × (block_no size log (slice_index places n - 1) ≡ n)
 
 -- the frames of a log over a volume that counts as it is
@@ -16,6 +16,14 @@ pub record IsFramed (s : State) (head : Head) (places : List ℕ) : Type 0 where
   pub whole : head.base ≡ length s.volume
   pub frames : AreFrames head.size head.count s.log places
   pub blocks : length places * head.size ≤ head.len
+
+-- a head of no slots over a volume of so many bytes
+abbrev pub fresh : Head → ℕ → Head
+fresh head len = record head { count = 0; base = len; len = len }
+
+-- a head without its last slot, which is the gate behind its commits
+abbrev pub before : Head → Head
+before last = record last { count = last.count - 1 }
 
 -- a crash at any moment since this one leaves a pair that stands for the one image or for the other
 pub record IsSafe (s : State) (since : ℕ) (image tried : List ℕ) : Type 0 where

@@ -1,7 +1,7 @@
 -- What the steps of a commit and of a recovery leave.
-use Rattle.std.specs.Prelude.{Bool, true, ◌≡◌, ◌⊎◌, ℕ, ◌<◌, ◌≤◌, List, length, slice_index}
+use Rattle.std.specs.Prelude.{Bool, true, ◌≡◌, ◌⊎◌, ℕ, ◌+◌, ◌<◌, ◌≤◌, List, length, slice_index}
 use Rattle.hd_journal.specs.Disk.{State, Torn, HasLog, HasVolume, Leaves}
-use Rattle.hd_journal.specs.Log.{image, recovered, IsShut, IsWritten, Fits, Spares}
+use Rattle.hd_journal.specs.Log.{frame_at, gate_at, head_of, is_marked, image, recovered, IsShut, Ends, Fits, Spares}
 use Rattle.hd_journal.specs.declared.head.Head.{Head}
 
 -- the log is as it was, and the volume makes the same image with it
@@ -58,10 +58,23 @@ pub record IsFilled (head : Head) (is_shut : Bool) (old new : State) (at : ℕ) 
   pub kept : (k : ℕ) → k < head.base → slice_index new.volume k ≡ slice_index old.volume k
   pub zeros : (k : ℕ) → head.base ≤ k → k < at → slice_index new.volume k ≡ 0
 
--- The log is open under this head, on a still disk, and has the frames that it had before.
-pub record IsOpened (head : Head) (old new : State) : Type 0 where
-  pub gate : slice_index new.log 0 ≡ 1
-  pub written : IsWritten head old.log new.log
-  pub fits : Fits head new.log new.volume
-  pub still : IsStill new
-  pub volume : new.volume ≡ old.volume
+-- The log counts, under this head, on a still disk.
+pub record IsOpened (head : Head) (s : State) : Type 0 where
+  pub gate : slice_index s.log 0 ≡ 1
+  pub marked : is_marked s.log ≡ true
+  pub is_head : head_of s.log ≡ head
+  pub fits : Fits head s.log s.volume
+  pub still : IsStill s
+
+-- A log is the same as another up to the gate behind the commits of this head, whose slot is there.
+pub record Begins (head : Head) (log l : List ℕ) : Type 0 where
+  pub there : frame_at head.size (head.count + 1) ≤ length l
+  pub each : (i : ℕ) → i ≤ gate_at head → slice_index l i ≡ slice_index log i
+
+-- The log is open and ends with this head, and as much of it is on the disk, and the volume, whatever else stands behind it in the log.
+pub record IsPublished (head : Head) (s : State) : Type 0 where
+  pub gate : slice_index s.log 0 ≡ 1
+  pub ends : Ends head s.log
+  pub fits : Fits head s.log s.volume
+  pub volume : HasVolume s
+  pub log : (l v : List ℕ) → s.may_leave l v → Begins head s.log l

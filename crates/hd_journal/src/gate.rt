@@ -1,7 +1,7 @@
 ghost use Rattle.std.specs.Prelude.{◌≤◌, length, ◌≡◌, true, false, ℕ, IsTrue, List, IfOk, OnOk};
 ghost use Rattle.hd_journal.specs.Disk.{Leaves};
 ghost use Rattle.hd_journal.specs.Log.{IsShut};
-ghost use Rattle.hd_journal.specs.States.{IsStill, MayShut};
+ghost use Rattle.hd_journal.specs.States.{SameBehind, IsStill, MayShut};
 
 use crate::disk::{Disk, Failed};
 use crate::head::OPEN;
@@ -27,6 +27,7 @@ pub fn shut<D: Disk>(disk: &mut D) -> Result<(), Failed>
     ensures shut { OnOk result (IsTrue D.is_honest → IsShut (D.state disk.new).log) }
     ensures still { OnOk result (IsTrue D.is_honest → IsStill (D.state disk.new)) }
     ensures longer { IsTrue D.is_honest → length (D.state disk.old).log ≤ length (D.state disk.new).log }
+    ensures behind { IsTrue D.is_honest → SameBehind (D.state disk.old).log (D.state disk.new).log }
     ensures volume { IsTrue D.is_honest → (D.state disk.new).volume ≡ (D.state disk.old).volume }
     ensures outcomes { IsTrue D.is_honest → (l v : List ℕ) → (D.state disk.new).may_leave l v → MayShut (D.state disk.old).log l × (v ≡ (D.state disk.old).volume) }
     ensures leaves { IsTrue D.is_honest → Leaves (λ l v. MayShut (D.state disk.old).log l × (v ≡ (D.state disk.old).volume)) (D.state disk.old) (D.state disk.new) }

@@ -19,21 +19,30 @@ pub const STAMP_LEN: usize = 11;
 /// The bytes of a head behind them.
 pub const NUMBERS_LEN: usize = HEAD_LEN - STAMP_LEN;
 
-/// The gate of a log that counts. Of one that does not it is any other byte.
+/// The bytes of a gate's slot that mean something.
+pub const GATE_LEN: usize = 17;
+
+/// The gate of a log that counts, or of a commit. Of one that does not it is any other byte.
 pub const OPEN: u8 = 1;
 
 /// What stands behind the gate: HDVOLLOG.
 pub const MARK: u64 = 5207381967729610567;
 
 /// The version of the log's form.
-pub const VERSION: u16 = 1;
+pub const VERSION: u16 = 2;
 
-/// What the head of a log tells.
+/// The fewest bytes of a block. A gate's slot needs them.
+pub const LEAST_SIZE: u32 = 16;
+
+/// What the slot of a gate has in place of a block's number. No block has it.
+pub const NO_BLOCK: u32 = u32::MAX;
+
+/// What the head of a log tells, and the gates of the commits behind the first.
 #[derive(Clone, Copy, Debug, PartialEq, Eq)]
 pub struct Head {
     /// The bytes of a block.
     pub size: u32,
-    /// How many frames there are.
+    /// How many slots there are.
     pub count: u32,
     /// How many bytes of the volume count.
     pub base: u64,
@@ -45,7 +54,7 @@ pub struct Head {
     pub number: u64,
 }
 
-/// Where frame `i` begins in a log.
+/// Where slot `i` begins in a log.
 pub fn frame_place(head: Head, i: u32) -> u64
     requires small { head.size ≤ 32768 }
     ensures { result ≡ frame_at head.size i }

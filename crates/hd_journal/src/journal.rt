@@ -1,23 +1,24 @@
-ghost use Rattle.std.specs.Prelude.{◌≡◌, ◌≢◌, ◌⊎◌, ◌-◌, ◌*◌, ◌<◌, ◌≤◌, true, false, IsTrue, length, slice_index, IfErr, OnOk, OnErr};
+ghost use Rattle.std.specs.Prelude.{◌≡◌, ◌⊎◌, ◌-◌, ◌*◌, ◌<◌, ◌≤◌, true, false, IsTrue, length, slice_index, IfErr, OnOk, OnErr};
 
-use crate::committing::finish;
+use crate::copying::copy_commits;
 use crate::disk::{Disk, Failed};
-use crate::frames::{append_frame, clear, overwrite_frame};
+use crate::finding::most_len;
+use crate::frames::{append_frame, before, clear, copy_places, fresh, overwrite_frame};
 use crate::head::Head;
 use crate::reading::read_bytes;
 use hd_dbd::Refused;
 
-/// The most blocks that a store has.
-const MOST_BLOCKS: u64 = 1 << 32;
+/// So many bytes of frames wait in a log at most when a write comes behind a commit. A longer log is copied to the volume first.
+pub const LOG_LIMIT: u64 = 4 << 20;
 
 /// How far the bytes of the last commit are.
 #[derive(Clone, Copy, Debug, PartialEq, Eq)]
 pub enum Stage {
-    /// The gate is shut: the volume has them, and the frames what was written since.
+    /// The log's gate is shut: the volume has them, and the frames are of what was written since.
     Collecting,
-    /// The gate is open: the frames are theirs, and the volume waits for them.
+    /// The log's gate is open: the frames up to a shut gate are theirs, and those behind it are of what was written since.
     Published,
-    /// A commit failed: the volume has them, or the frames have.
+    /// A commit failed: it counts, or the one before is the last.
     Doubtful,
 }
 
@@ -25,10 +26,14 @@ pub enum Stage {
 #[derive(Drop)]
 pub struct Journal<D: Disk> {
     pub disk: D,
-    /// The head that a commit would write, or has written.
+    /// The head that a commit of all that was written would make.
     pub head: Head,
-    /// Of each block one more than its frame, or 0.
+    /// Of each block one more than the slot of its last frame, or 0.
     pub places: Vec<u32>,
+    /// The head of the last commit, the slot of the gate behind it counted.
+    pub last: Head,
+    /// The places as they were then.
+    pub kept: Vec<u32>,
     /// So many blocks more find memory.
     pub reserved: usize,
     /// A block of zeros.
@@ -42,26 +47,12 @@ pub struct Journal<D: Disk> {
     pub failed: bool,
 }
 
-/// The same head with no frame, over a volume of so many bytes.
-pub fn fresh(head: Head, len: u64) -> Head
-    ensures { result ≡ record head { count = 0; base = len; len = len } }
-{
-    Head {
-        size: head.size,
-        count: 0,
-        base: len,
-        len,
-        device: head.device,
-        number: head.number,
-    }
-}
-
 impl<D: Disk> Journal<D> {
     ghost use Rattle.hd_bytes.specs.Blocks.{with_block, grown};
     ghost use Rattle.hd_bytes.specs.Ranges.{bytes_at};
     ghost use Rattle.hd_journal.specs.Disk.{Leaves};
     ghost use Rattle.hd_journal.specs.States.{IsShutBetween};
-    ghost use Rattle.hd_journal.specs.Journals.{IsJournal, contents_of, committed_of};
+    ghost use Rattle.hd_journal.specs.Journals.{IsJournal, contents_of, last_of, committed_of};
 
     /// All bytes.
     pub fn length(&self) -> u64
@@ -110,28 +101,26 @@ impl<D: Disk> Journal<D> {
         ensures size { self.new.head.size ≡ self.old.head.size }
         ensures reserved { self.new.reserved ≡ self.old.reserved }
     {
-        self.settle()?;
+        self.make_room()?;
         if n as usize >= self.places.len() || self.head.count == u32::MAX {
             self.failed = true;
             return Err(Failed);
         }
         let place = self.places[n as usize];
-        if place == 0 {
+        if place <= self.last.count {
             self.append(n, bytes)
         } else {
             self.replace(n, place, bytes)
         }
     }
 
-    /// Writes a frame behind the others.
+    /// Writes a frame behind the other slots.
     fn append(&mut self, n: u32, bytes: &[u8]) -> Result<(), Failed>
         requires kept { IsJournal D.is_honest D.is_usable D.state self.old }
         requires well { self.old.failed ≡ false }
-        requires collecting { self.old.stage ≡ Stage.Collecting }
         requires whole { length bytes.now ≡ self.old.head.size }
         requires there { n < length self.old.places.items }
         requires few { self.old.head.count < 4294967295 }
-        requires none { slice_index self.old.places.items n ≡ 0 }
         ensures kept { IsJournal D.is_honest D.is_usable D.state self.new }
         ensures ok { OnOk result ((self.new.failed ≡ false) × (self.old.failed ≡ false)) }
         ensures err { OnErr result (self.new.failed ≡ true) }
@@ -152,15 +141,14 @@ impl<D: Disk> Journal<D> {
         Ok(())
     }
 
-    /// Writes over the frame of a block.
+    /// Writes over the frame of a block, which no commit has.
     fn replace(&mut self, n: u32, place: u32, bytes: &[u8]) -> Result<(), Failed>
         requires kept { IsJournal D.is_honest D.is_usable D.state self.old }
         requires well { self.old.failed ≡ false }
-        requires collecting { self.old.stage ≡ Stage.Collecting }
         requires whole { length bytes.now ≡ self.old.head.size }
         requires there { n < length self.old.places.items }
         requires is { slice_index self.old.places.items n ≡ place }
-        requires some { place ≢ 0 }
+        requires new { self.old.last.count < place }
         ensures kept { IsJournal D.is_honest D.is_usable D.state self.new }
         ensures ok { OnOk result ((self.new.failed ≡ false) × (self.old.failed ≡ false)) }
         ensures err { OnErr result (self.new.failed ≡ true) }
@@ -198,11 +186,15 @@ impl<D: Disk> Journal<D> {
         if self.places.reserve(blocks).is_err() {
             return Err(Refused::Memory);
         }
+        let more = self.places.len() - self.kept.len() + blocks;
+        if self.kept.reserve(more).is_err() {
+            return Err(Refused::Memory);
+        }
         self.reserved = blocks;
         Ok(())
     }
 
-    /// Adds so many blocks of zeros, with no access but that of `settle`.
+    /// Adds so many blocks of zeros, with no access but those of `make_room`.
     pub fn grow(&mut self, blocks: u32) -> Result<(), Refused>
         requires kept { IsJournal D.is_honest D.is_usable D.state self.old }
         ensures kept { IsJournal D.is_honest D.is_usable D.state self.new }
@@ -216,25 +208,37 @@ impl<D: Disk> Journal<D> {
         ensures since { self.new.since ≡ self.old.since }
         ensures size { self.new.head.size ≡ self.old.head.size }
     {
-        let Ok(()) = self.settle() else {
+        let Ok(()) = self.make_room() else {
             return Err(Refused::Device);
         };
+        self.reserve(blocks)?;
         let more = u64::from(blocks) * u64::from(self.head.size);
         let Some(len) = self.head.len.checked_add(more) else {
             self.failed = true;
             return Err(Refused::Device);
         };
-        if self.places.len() as u64 > MOST_BLOCKS - u64::from(blocks) {
+        if len > most_len(self.head) {
             self.failed = true;
             return Err(Refused::Device);
         }
-        let places = self.places.len() + blocks as usize;
+        let Some(places) = self.places.len().checked_add(blocks as usize) else {
+            self.failed = true;
+            return Err(Refused::Device);
+        };
         let Ok(()) = self.places.resize(places, 0) else {
             return Err(Refused::Memory);
         };
         self.reserved = self.reserved.saturating_sub(blocks as usize);
         self.head.len = len;
         Ok(())
+    }
+
+    /// Whether anything was written since the last commit.
+    pub fn is_changed(&self) -> bool
+        requires kept { IsJournal D.is_honest D.is_usable D.state self.now }
+        ensures same { result ≡ false → contents_of D.state self.now ≡ last_of D.state self.now }
+    {
+        self.head.count > self.last.count || self.head.len > self.last.len
     }
 
     /// Forgets all that was written since the last commit, with no access.
@@ -249,19 +253,14 @@ impl<D: Disk> Journal<D> {
         ensures since { self.new.since ≡ self.old.since }
         ensures size { self.new.head.size ≡ self.old.head.size }
         ensures reserved { self.new.reserved ≡ self.old.reserved }
+        ensures stage { self.new.stage ≡ self.old.stage }
+        ensures head { self.old.failed ≡ false → self.new.head ≡ self.old.last }
     {
         if self.failed {
             return;
         }
-        match self.stage {
-            Stage::Published | Stage::Doubtful => {}
-            Stage::Collecting => {
-                let whole = (self.head.base / u64::from(self.head.size)) as usize;
-                let blocks = whole.min(self.places.len());
-                clear(&mut self.places, blocks);
-                self.head = fresh(self.head, self.head.base);
-            }
-        }
+        copy_places(&mut self.places, &self.kept);
+        self.head = self.last;
     }
 
     /// Copies the frames of the last commit to the volume, if they still wait in the log, and shuts the gate.
@@ -276,17 +275,19 @@ impl<D: Disk> Journal<D> {
         ensures since { self.new.since ≡ self.old.since }
         ensures size { self.new.head.size ≡ self.old.head.size }
         ensures reserved { self.new.reserved ≡ self.old.reserved }
+        ensures volume { OnOk result (IsTrue D.is_honest → (D.state self.new.disk).volume ≡ (committed_of D.state self.new).image) }
     {
         if self.failed {
             return Err(Failed);
         }
         match self.stage {
             Stage::Collecting | Stage::Doubtful => Ok(()),
+            Stage::Published if self.is_idle() => self.start_anew(),
             Stage::Published => self.copy_back(),
         }
     }
 
-    /// Copies the frames of an open log to the volume, and shuts the gate.
+    /// Copies the frames of the commits of an open log to the volume, and shuts the gate. What was written since stays in the log.
     fn copy_back(&mut self) -> Result<(), Failed>
         requires kept { IsJournal D.is_honest D.is_usable D.state self.old }
         requires well { self.old.failed ≡ false }
@@ -295,22 +296,82 @@ impl<D: Disk> Journal<D> {
         ensures ok { OnOk result ((self.new.failed ≡ false) × (self.old.failed ≡ false)) }
         ensures err { OnErr result (self.new.failed ≡ true) }
         ensures collecting { OnOk result (self.new.stage ≡ Stage.Collecting) }
-        ensures contents { IsTrue D.is_honest → contents_of D.state self.new ≡ contents_of D.state self.old }
+        ensures contents { OnOk result (IsTrue D.is_honest → contents_of D.state self.new ≡ contents_of D.state self.old) }
         ensures committed { IsTrue D.is_honest → committed_of D.state self.new ≡ committed_of D.state self.old }
         ensures since { self.new.since ≡ self.old.since }
-        ensures shut { IsTrue D.is_honest → 0 < length self.old.places.items
-            → Leaves (IsShutBetween (D.state self.old.disk).volume (contents_of D.state self.old)) (D.state self.old.disk) (D.state self.new.disk) }
+        ensures shut { IsTrue D.is_honest → 0 < length self.old.kept.items
+            → Leaves (IsShutBetween (D.state self.old.disk).volume (last_of D.state self.old)) (D.state self.old.disk) (D.state self.new.disk) }
         ensures size { self.new.head.size ≡ self.old.head.size }
         ensures reserved { self.new.reserved ≡ self.old.reserved }
+        ensures volume { OnOk result (IsTrue D.is_honest → (D.state self.new.disk).volume ≡ (committed_of D.state self.new).image) }
+        ensures bare { OnOk result (self.new.last.count ≡ 0) }
     {
-        let Ok(()) = finish(&mut self.disk, self.head, &self.zeros, &mut self.frame) else {
+        let Ok(()) = copy_commits(
+            &mut self.disk,
+            before(self.last),
+            &self.zeros,
+            &mut self.frame,
+        ) else {
             self.failed = true;
             return Err(Failed);
         };
-        let blocks = self.places.len();
-        clear(&mut self.places, blocks);
-        self.head = fresh(self.head, self.head.len);
+        let blocks = self.kept.len();
+        clear(&mut self.kept, blocks);
+        self.head.base = self.last.len;
+        self.last = fresh(self.last, self.last.len);
         self.stage = Stage::Collecting;
+        Ok(())
+    }
+
+    /// Whether nothing was written since the last commit.
+    pub fn is_idle(&self) -> bool
+        ensures { IsTrue result → (self.now.head.count ≡ self.now.last.count) × (self.now.head.len ≡ self.now.last.len) }
+    {
+        self.head.count == self.last.count && self.head.len == self.last.len
+    }
+
+    /// Copies the frames of the commits of an open log to the volume, behind which nothing was written, and begins the log anew.
+    fn start_anew(&mut self) -> Result<(), Failed>
+        requires kept { IsJournal D.is_honest D.is_usable D.state self.old }
+        requires well { self.old.failed ≡ false }
+        requires published { self.old.stage ≡ Stage.Published }
+        requires idle { (self.old.head.count ≡ self.old.last.count) × (self.old.head.len ≡ self.old.last.len) }
+        ensures kept { IsJournal D.is_honest D.is_usable D.state self.new }
+        ensures ok { OnOk result ((self.new.failed ≡ false) × (self.old.failed ≡ false)) }
+        ensures err { OnErr result (self.new.failed ≡ true) }
+        ensures collecting { OnOk result (self.new.stage ≡ Stage.Collecting) }
+        ensures bare { OnOk result (self.new.head.count ≡ 0) }
+        ensures contents { OnOk result (IsTrue D.is_honest → contents_of D.state self.new ≡ contents_of D.state self.old) }
+        ensures committed { IsTrue D.is_honest → committed_of D.state self.new ≡ committed_of D.state self.old }
+        ensures volume { OnOk result (IsTrue D.is_honest → (D.state self.new.disk).volume ≡ (committed_of D.state self.new).image) }
+        ensures since { self.new.since ≡ self.old.since }
+        ensures size { self.new.head.size ≡ self.old.head.size }
+        ensures reserved { self.new.reserved ≡ self.old.reserved }
+    {
+        self.copy_back()?;
+        self.roll_back();
+        Ok(())
+    }
+
+    /// Begins the log anew, once its frames are copied, where it is longer than its limit and nothing was written since the last commit.
+    fn make_room(&mut self) -> Result<(), Failed>
+        requires kept { IsJournal D.is_honest D.is_usable D.state self.old }
+        ensures kept { IsJournal D.is_honest D.is_usable D.state self.new }
+        ensures ok { OnOk result ((self.new.failed ≡ false) × (self.old.failed ≡ false)) }
+        ensures err { OnErr result (self.new.failed ≡ true) }
+        ensures contents { OnOk result (IsTrue D.is_honest → contents_of D.state self.new ≡ contents_of D.state self.old) }
+        ensures committed { IsTrue D.is_honest → committed_of D.state self.new ≡ committed_of D.state self.old }
+        ensures since { self.new.since ≡ self.old.since }
+        ensures size { self.new.head.size ≡ self.old.head.size }
+        ensures reserved { self.new.reserved ≡ self.old.reserved }
+    {
+        if self.failed {
+            return Err(Failed);
+        }
+        let len = u64::from(self.head.count) * (u64::from(self.head.size) + 4);
+        if len > LOG_LIMIT && self.is_idle() {
+            return self.settle();
+        }
         Ok(())
     }
 }

@@ -49,7 +49,7 @@ impl<D: Disk, L: Ledger> Journaled<D, L> {
         blank: Blank,
     ) -> Result<Journaled<D, L>, (D, Unopened)>
         requires usable { IsTrue (D.is_usable disk) }
-        requires some { 0 < size }
+        requires some { 16 ≤ size }
         requires small { size ≤ 32768 }
         requires name { blank.name ≡ L.name }
         requires parts { blank.parts ≡ L.parts }
@@ -112,6 +112,13 @@ impl<D: Disk, L: Ledger> Journaled<D, L> {
             Ok(()) => Ok(()),
             Err(_) => Err(self.refuse()),
         }
+    }
+
+    /// Whether anything was written since the last commit.
+    pub fn is_changed(&self) -> bool
+        ensures { result ≡ false → IsTrue self.now.is_sound → self.now.contents ≡ self.now.committed.image }
+    {
+        self.journal.is_changed()
     }
 
     /// Forgets all that was written since the last commit, with no access. Where an access has failed nothing changes.

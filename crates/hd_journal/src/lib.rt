@@ -2,8 +2,10 @@
 #![tactic(auto)]
 
 mod committing;
+mod copying;
 mod disk;
 mod finding;
+mod following;
 mod frames;
 mod gate;
 mod head;
@@ -19,6 +21,7 @@ mod redoing;
 pub use disk::{Disk, Failed};
 pub use finding::{Found, find_log, is_open};
 pub use head::MARK;
+pub use journal::LOG_LIMIT;
 pub use journaled::Journaled;
 pub use memory_disk::MemoryDisk;
 pub use recovery::{Unopened, recover, steady};

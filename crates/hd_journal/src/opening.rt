@@ -1,4 +1,4 @@
-ghost use Rattle.std.specs.Prelude.{◌≡◌, ◌<◌, ◌≤◌, false, IsTrue, length, IfOk, IfErr, OnOk};
+ghost use Rattle.std.specs.Prelude.{◌≡◌, ◌≤◌, false, IsTrue, length, IfOk, IfErr, OnOk};
 ghost use Rattle.hd_journal.specs.Disk.{Leaves};
 ghost use Rattle.hd_journal.specs.Log.{recovered, IsForeign};
 ghost use Rattle.hd_journal.specs.States.{IsSettled, StandsFor};
@@ -6,6 +6,7 @@ ghost use Rattle.hd_journal.specs.Finds.{RefusesLog};
 ghost use Rattle.hd_journal.specs.Journals.{IsJournal, contents_of, committed_of};
 
 use crate::disk::{Disk, Failed};
+use crate::finding::most_len;
 use crate::head::{HEAD_LEN, Head, SHUT_LEN};
 use crate::journal::{Journal, Stage};
 use crate::recovery::{Unopened, recover, steady};
@@ -61,7 +62,7 @@ pub fn open_journal<D: Disk>(
     size: u32,
 ) -> Result<Journal<D>, (D, Unopened)>
     requires usable { IsTrue (D.is_usable disk) }
-    requires some { 0 < size }
+    requires some { 16 ≤ size }
     requires small { size ≤ 32768 }
     ensures kept { IfOk result (λ j. IsJournal D.is_honest D.is_usable D.state j) }
     ensures fresh { IfOk result (λ j. (j.failed ≡ false) × (j.head.size ≡ size) × (j.reserved ≡ 0)) }
@@ -79,16 +80,6 @@ pub fn open_journal<D: Disk>(
         Ok(len) => len,
         Err(e) => return Err((disk, e)),
     };
-    let blocks = (len / u64::from(size)) as usize;
-    let Ok(places) = vec![in alloc; 0u32; blocks] else {
-        return Err((disk, Unopened::Memory));
-    };
-    let Ok(zeros) = vec![in alloc; 0u8; size as usize] else {
-        return Err((disk, Unopened::Memory));
-    };
-    let Ok(frame) = vec![in alloc; 0u8; size as usize + 4] else {
-        return Err((disk, Unopened::Memory));
-    };
     let since = disk.moment();
     let head = Head {
         size,
@@ -98,10 +89,28 @@ pub fn open_journal<D: Disk>(
         device,
         number,
     };
+    if len > most_len(head) {
+        return Err((disk, Unopened::Device));
+    }
+    let blocks = (len / u64::from(size)) as usize;
+    let Ok(places) = vec![in alloc; 0u32; blocks] else {
+        return Err((disk, Unopened::Memory));
+    };
+    let Ok(kept) = vec![in alloc; 0u32; blocks] else {
+        return Err((disk, Unopened::Memory));
+    };
+    let Ok(zeros) = vec![in alloc; 0u8; size as usize] else {
+        return Err((disk, Unopened::Memory));
+    };
+    let Ok(frame) = vec![in alloc; 0u8; size as usize + 4] else {
+        return Err((disk, Unopened::Memory));
+    };
     Ok(Journal {
         disk,
         head,
         places,
+        last: head,
+        kept,
         reserved: 0,
         zeros,
         frame,

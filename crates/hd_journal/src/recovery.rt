@@ -42,7 +42,7 @@ fn redo_log<D: Disk>(alloc: Global, disk: &mut D, head: Head) -> Result<(), Unop
     requires usable { IsTrue (D.is_usable disk.old) }
     requires some { 0 < head.size }
     requires small { head.size ≤ 32768 }
-    requires open { IsTrue D.is_honest → IsOpened head (D.state disk.old) (D.state disk.old) }
+    requires open { IsTrue D.is_honest → IsOpened head (D.state disk.old) }
     ensures usable { OnOk result (IsTrue (D.is_usable disk.new)) }
     ensures image { OnOk result (IsTrue D.is_honest → (D.state disk.new).volume ≡ image head (D.state disk.old).log (D.state disk.old).volume) }
     ensures settled { OnOk result (IsTrue D.is_honest → IsSettled (D.state disk.new)) }

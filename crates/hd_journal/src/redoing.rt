@@ -1,10 +1,10 @@
-ghost use Rattle.std.specs.Prelude.{◌≡◌, ◌≢◌, ◌+◌, ◌<◌, ◌≤◌, None, true, false, ℕ, IsTrue, List, length, replicate, slice_index, IfOk, IfSome, OnOk};
+ghost use Rattle.std.specs.Prelude.{◌≡◌, ◌≢◌, ◌+◌, ◌*◌, ◌<◌, ◌≤◌, None, true, false, ℕ, IsTrue, List, length, replicate, slice_index, IfOk, IfSome, OnOk};
 ghost use Rattle.hd_journal.specs.Disk.{Leaves};
-ghost use Rattle.hd_journal.specs.Log.{frame_at, block_no, image, skipped, written_from, Fits, HasFrames, HasFirst};
+ghost use Rattle.hd_journal.specs.Log.{frame_at, block_no, no_block, image, skipped, written_from, Fits, HasFrames, HasFirst};
 ghost use Rattle.hd_journal.specs.States.{IsStill, IsSparing, IsShutBetween, Redoes};
 
 use crate::disk::{Disk, Failed};
-use crate::head::{Head, frame_place};
+use crate::head::{Head, NO_BLOCK, frame_place};
 use hd_bytes::read_u32;
 
 /// So many as are left, and at most so many.
@@ -18,7 +18,7 @@ fn share(left: u64, most: usize) -> usize
     left.min(most as u64) as usize
 }
 
-/// Where frame `i` has block 0, its first byte.
+/// Where slot `i` has block 0, its first byte.
 fn first_of<D: Disk>(disk: &D, head: Head, i: u32) -> Result<Option<u8>, Failed>
     requires some { 0 < head.size }
     requires small { head.size ≤ 32768 }
@@ -81,7 +81,7 @@ fn skip_of(is_shut: bool, number: u32) -> usize
     if is_shut && number == 0 { 1 } else { 0 }
 }
 
-/// Writes the block of frame `i` to the volume, but not to its first byte where that is shut.
+/// Writes the block of slot `i` to the volume, if it is a frame, but not to its first byte where that is shut.
 fn copy_frame<D: Disk>(
     disk: &mut D,
     head: Head,
@@ -95,6 +95,7 @@ fn copy_frame<D: Disk>(
     requires frame { length frame.old ≡ head.size + 4 }
     requires low { i < head.count }
     requires frames { IsTrue D.is_honest → frame_at head.size head.count ≤ length (D.state disk.old).log }
+    requires few { IsTrue D.is_honest → head.len ≤ no_block * head.size }
     ensures usable { OnOk result (IsTrue (D.is_usable disk.new)) }
     ensures frame { length frame.new ≡ length frame.old }
     ensures log { IsTrue D.is_honest → (D.state disk.new).log ≡ (D.state disk.old).log }
@@ -104,6 +105,9 @@ fn copy_frame<D: Disk>(
 {
     disk.read_log(frame_place(head, i), frame)?;
     let number = read_u32(frame, 0);
+    if number == NO_BLOCK {
+        return Ok(());
+    }
     let skip = skip_of(is_shut, number);
     disk.write_volume(
         u64::from(number) * u64::from(head.size) + skip as u64,
@@ -118,6 +122,7 @@ fn copy<D: Disk>(disk: &mut D, head: Head, is_shut: bool, frame: &mut [u8]) -> R
     requires small { head.size ≤ 32768 }
     requires frame { length frame.old ≡ head.size + 4 }
     requires frames { IsTrue D.is_honest → frame_at head.size head.count ≤ length (D.state disk.old).log }
+    requires few { IsTrue D.is_honest → head.len ≤ no_block * head.size }
     ensures usable { OnOk result (IsTrue (D.is_usable disk.new)) }
     ensures frame { length frame.new ≡ length frame.old }
     ensures log { IsTrue D.is_honest → (D.state disk.new).log ≡ (D.state disk.old).log }

@@ -57,7 +57,8 @@ fn list<S: BlockStore>(store: &mut S, bytes: &mut Vec<u8>) -> Result<(), Refused
     Ok(())
 }
 
-/// Three commits, the second of which also grows, by a block that is written and two that are not; then changes that are given up.
+/// Four commits: the first three in one log, the second of which also grows, by a block that is written and two that are not; the fourth was begun
+/// before the log was copied. Between the first two, and at the end, changes that are given up.
 fn work<L: Ledger>(store: &mut Journaled<TornDisk, L>, done: &mut usize) -> Result<(), Refused> {
     fill(store, 1, 7)?;
     fill(store, 2, 8)?;
@@ -65,15 +66,23 @@ fn work<L: Ledger>(store: &mut Journaled<TornDisk, L>, done: &mut usize) -> Resu
     store.commit()?;
     *done = 1;
     store.commit()?;
+    fill(store, 2, 77)?;
+    store.grow(2)?;
+    fill(store, 3, 66)?;
+    store.roll_back();
     fill(store, 0, 1)?;
     store.grow(3)?;
     fill(store, 4, 5)?;
     store.commit()?;
     *done = 2;
+    fill(store, 2, 6)?;
     fill(store, 2, 3)?;
     store.commit()?;
     *done = 3;
+    fill(store, 1, 11)?;
     store.settle()?;
+    store.commit()?;
+    *done = 4;
     fill(store, 2, 4)?;
     store.grow(1)?;
     store.roll_back();
@@ -81,11 +90,12 @@ fn work<L: Ledger>(store: &mut Journaled<TornDisk, L>, done: &mut usize) -> Resu
 }
 
 /// The first bytes of the blocks before the work, and behind each of its commits.
-const STAGES: [&[u8]; 4] = [
+const STAGES: [&[u8]; 5] = [
     &[100, 101, 102],
     &[100, 9, 8],
     &[1, 9, 8, 0, 5, 0],
     &[1, 9, 3, 0, 5, 0],
+    &[1, 11, 3, 0, 5, 0],
 ];
 
 /// Opens a disk, works, and gives the disk back with the number of commits that were told.
@@ -187,7 +197,7 @@ fn three_blocks(alloc: Global) -> Result<Vec<u8>, Fail> {
 fn leaves_a_commit_whatever_call_is_the_last(rt: HostRuntime) -> Result<(), Fail> {
     let alloc = rt.alloc();
     let first = three_blocks(alloc)?;
-    let mut kept = [0u32; 4];
+    let mut kept = [0u32; 5];
     for calls in 0..60u64 {
         for seed in 0..27u64 {
             for again in 0..12u64 {
@@ -202,7 +212,7 @@ fn leaves_a_commit_whatever_call_is_the_last(rt: HostRuntime) -> Result<(), Fail
                 let mut found = Vec::new(alloc);
                 let (_, unopened) = look_once(alloc, third, &mut found);
                 assert!(rt; unopened.is_none());
-                let next = done.saturating_add(1).min(3);
+                let next = done.saturating_add(1).min(4);
                 assert!(rt; is_stage(&found, done) || is_stage(&found, next));
                 if let Some(count) = kept.get_mut(done) {
                     *count = count.saturating_add(1);
@@ -216,31 +226,47 @@ fn leaves_a_commit_whatever_call_is_the_last(rt: HostRuntime) -> Result<(), Fail
     Ok(())
 }
 
-/// An opening takes two syncs, and one more where the log has no gate; a commit two, and the first write behind it four more: the
-/// volume's first byte is shut, the frames are copied, it is opened, and the gate is shut. What waits in the log is seen by a program that only reads.
+/// What was counted after an opening, a commit, another with nothing written, a write, a commit of it, and a copy with a commit of nothing behind it.
+#[derive(Drop)]
+struct Counts {
+    syncs: [u64; 6],
+    log_writes: [u64; 6],
+    /// The log counts.
+    waits: [bool; 6],
+    /// The volume stayed until the copy.
+    stayed: bool,
+}
+
+/// An opening takes two syncs, and one more where the log has no gate; a commit two, and a write behind it none. A copy takes five: the log is synced,
+/// the volume's first byte is shut, the frames are copied, it is opened, and the gate is shut. Besides its frames a commit writes a shut gate, what it
+/// has, and the open gate; the first of a log a frame of block 0 too. What waits in the log is seen by a program that only reads.
 #[test]
-fn copies_at_the_first_write_behind_a_commit(rt: HostRuntime) -> Result<(), Fail> {
+fn adds_commits_to_a_log(rt: HostRuntime) -> Result<(), Fail> {
     let alloc = rt.alloc();
     let first = three_blocks(alloc)?;
     let disk = TornDisk::over(alloc, &[], &first, 1000)?;
-    let (syncs, waits, same) = count_once(alloc, disk)?;
-    assert_eq!(rt; syncs, [3, 5, 5, 9]);
-    assert_eq!(rt; waits, [false, true, true, false]);
-    assert!(rt; same);
+    let counts = count_once(alloc, disk)?;
+    assert_eq!(rt; counts.syncs, [3, 5, 5, 5, 7, 12]);
+    assert_eq!(rt; counts.log_writes, [2, 7, 7, 8, 11, 12]);
+    assert_eq!(rt; counts.waits, [false, true, true, true, true, false]);
+    assert!(rt; counts.stayed);
     Ok(())
 }
 
-fn count_once(alloc: Global, disk: TornDisk) -> Result<([u64; 4], [bool; 4], bool), Refused> {
-    count_syncs::<Brand>(alloc, disk, Blank::new(1))
+fn count_once(alloc: Global, disk: TornDisk) -> Result<Counts, Refused> {
+    count_calls::<Brand>(alloc, disk, Blank::new(1))
 }
 
-/// The syncs after the opening, a commit, another with nothing written, and a write; whether the log counts there; and whether the volume stayed
-/// until the write.
-fn count_syncs<L: Ledger>(
-    alloc: Global,
-    disk: TornDisk,
-    blank: Blank,
-) -> Result<([u64; 4], [bool; 4], bool), Refused>
+/// Counts at one place what was done so far.
+fn count<L: Ledger>(store: &Journaled<TornDisk, L>, counts: &mut Counts, place: usize) {
+    if place < 6 {
+        counts.syncs[place] = store.disk().syncs;
+        counts.log_writes[place] = store.disk().log_writes;
+        counts.waits[place] = is_open(store.disk()) == Ok(true);
+    }
+}
+
+fn count_calls<L: Ledger>(alloc: Global, disk: TornDisk, blank: Blank) -> Result<Counts, Refused>
     requires name { blank.name ≡ L.name }
     requires parts { blank.parts ≡ L.parts }
     requires share { 0 < blank.parts }
@@ -249,21 +275,28 @@ fn count_syncs<L: Ledger>(
         Ok(store) => store,
         Err(_) => return Err(Refused::Broken),
     };
-    let mut syncs = [store.disk().syncs; 4];
-    let mut waits = [is_open(store.disk()) == Ok(true); 4];
+    let mut counts = Counts {
+        syncs: [0; 6],
+        log_writes: [0; 6],
+        waits: [false; 6],
+        stayed: false,
+    };
+    count(&store, &mut counts, 0);
     fill(&mut store, 1, 9)?;
     store.commit()?;
-    syncs[1] = store.disk().syncs;
-    waits[1] = is_open(store.disk()) == Ok(true);
+    count(&store, &mut counts, 1);
     store.commit()?;
-    syncs[2] = store.disk().syncs;
-    waits[2] = is_open(store.disk()) == Ok(true);
-    let same = store.disk().volume.now.get(16) == Some(&101);
+    count(&store, &mut counts, 2);
     fill(&mut store, 1, 7)?;
-    syncs[3] = store.disk().syncs;
-    waits[3] = is_open(store.disk()) == Ok(true);
-    let copied = store.disk().volume.now.get(16) == Some(&9);
-    Ok((syncs, waits, same && copied))
+    count(&store, &mut counts, 3);
+    store.commit()?;
+    count(&store, &mut counts, 4);
+    let same = store.disk().volume.now.get(16) == Some(&101);
+    store.settle()?;
+    store.commit()?;
+    count(&store, &mut counts, 5);
+    counts.stayed = same && store.disk().volume.now.get(16) == Some(&7);
+    Ok(counts)
 }
 
 /// A disk that stands behind its second commit, with its gate open.
@@ -291,9 +324,9 @@ fn commit_once<L: Ledger>(alloc: Global, disk: TornDisk, blank: Blank) -> Result
     Ok(store.into_disk())
 }
 
-/// The head of a log behind a commit of block 1, with a frame of block 0 behind that of block 1, over a volume of 48 bytes.
+/// The head of a log whose first commit has a frame of block 1 and one of block 0 behind it, over a volume of 48 bytes.
 const HEAD: &[u8; 51] =
-    b"\x01HDVOLLOG\0\x01\0\0\0\x10\0\0\0\x02\0\0\0\0\0\0\0\x30\0\0\0\0\0\0\0\x30\0\0\0\0\0\0\0\x03\0\0\0\0\0\0\0\x05";
+    b"\x01HDVOLLOG\0\x02\0\0\0\x10\0\0\0\x02\0\0\0\0\0\0\0\x30\0\0\0\0\0\0\0\x30\0\0\0\0\0\0\0\x03\0\0\0\0\0\0\0\x05";
 
 #[test]
 fn writes_a_log_byte_by_byte(rt: HostRuntime) -> Result<(), Fail> {
@@ -302,7 +335,8 @@ fn writes_a_log_byte_by_byte(rt: HostRuntime) -> Result<(), Fail> {
     assert_eq!(rt; log.get(..51), Some(HEAD.as_slice()));
     assert_eq!(rt; log.get(51..56), Some(b"\0\0\0\x01\x09".as_slice()));
     assert_eq!(rt; log.get(71..76), Some(b"\0\0\0\0d".as_slice()));
-    assert_eq!(rt; log.len(), 91);
+    assert_eq!(rt; log.get(91..96), Some(b"\xff\xff\xff\xff\0".as_slice()));
+    assert_eq!(rt; log.len(), 111);
     Ok(())
 }
 
@@ -318,12 +352,12 @@ fn refuses_the_log_of_another(rt: HostRuntime) -> Result<(), Fail> {
     assert!(rt; disk.volume.now.get(16) == Some(&101));
     assert!(rt; disk.log.now.first() == Some(&1));
     disk.number = 5;
-    change(&mut disk.log.now, 10, 2);
+    change(&mut disk.log.now, 10, 1);
     let (mut disk, unopened) = look_once(alloc, disk, &mut none);
     assert!(rt; unopened == Some(Unopened::OtherVersion));
     assert!(rt; disk.volume.now.get(16) == Some(&101));
     assert!(rt; none.is_empty());
-    change(&mut disk.log.now, 10, 1);
+    change(&mut disk.log.now, 10, 2);
     let (_, unopened) = look_once(alloc, disk, &mut none);
     assert!(rt; unopened.is_none());
     assert_eq!(rt; none.as_slice(), [100, 9, 102].as_slice());
@@ -344,6 +378,115 @@ fn takes_other_bytes_for_no_log(rt: HostRuntime) -> Result<(), Fail> {
         assert!(rt; disk.log.now.first() != Some(&1));
     }
     Ok(())
+}
+
+/// The slots behind that head: the frames of its commit, and two commits more, of a frame each, the second of which lengthens the image by a block.
+/// The gate behind them is shut.
+const SLOTS: [&[u8; 20]; 7] = [
+    b"\0\0\0\x01\t\t\t\t\t\t\t\t\t\t\t\t\t\t\t\t",
+    b"\0\0\0\0dddddddddddddddd",
+    b"\xff\xff\xff\xff\x01\0\0\0\x01\0\0\0\0\0\0\0\x30abc",
+    b"\0\0\0\x02gggggggggggggggg",
+    b"\xff\xff\xff\xff\x01\0\0\0\x01\0\0\0\0\0\0\0\x40abc",
+    b"\0\0\0\x03hhhhhhhhhhhhhhhh",
+    b"\xff\xff\xff\xff\0\0\0\0\0\0\0\0\0\0\0\0\0\0\0\0",
+];
+
+/// So many bytes of that log, a place whose byte is changed to another, and the blocks that it then stands for.
+const LOGS: [(usize, usize, u8, &[u8]); 11] = [
+    (191, 0, 1, b"d\tgh"),
+    // it ends behind its last frame, or within it
+    (171, 0, 1, b"d\tgh"),
+    (170, 0, 1, b"d\tg"),
+    // a gate is shut
+    (191, 135, 0, b"d\tg"),
+    (191, 95, 77, b"d\tf"),
+    // a gate's slot has another number
+    (191, 91, 0, b"d\tf"),
+    // the image is shorter than the one before, or longer than blocks have numbers
+    (191, 147, 0x2f, b"d\tg"),
+    (191, 143, 16, b"d\tg"),
+    // one of the frames is a gate, or is not there
+    (191, 139, 2, b"d\tgh"),
+    (191, 139, 3, b"d\tg"),
+    // the log's gate is shut
+    (191, 0, 0, b"def"),
+];
+
+#[test]
+fn reads_logs_of_several_commits(rt: HostRuntime) -> Result<(), Fail> {
+    let alloc = rt.alloc();
+    let first = three_blocks(alloc)?;
+    for (len, place, byte, blocks) in LOGS {
+        let mut bytes = Vec::new(alloc);
+        bytes.extend_from_slice(HEAD)?;
+        for slot in &SLOTS {
+            bytes.extend_from_slice(*slot)?;
+        }
+        bytes.truncate(len);
+        change(&mut bytes, place, byte);
+        let disk = TornDisk::over(alloc, &bytes, &first, 1000)?;
+        let mut found = Vec::new(alloc);
+        let (disk, unopened) = look_once(alloc, disk, &mut found);
+        assert!(rt; unopened.is_none());
+        assert_eq!(rt; found.as_slice(), blocks);
+        assert!(rt; has_bytes(&disk.volume.now, blocks));
+    }
+    Ok(())
+}
+
+const LARGE: usize = 32768;
+
+/// Writes block 0 of a store of large blocks full of a byte.
+fn fill_large<S: BlockStore>(store: &mut S, byte: u8) -> Result<(), Refused> {
+    if !has_large(store) {
+        return Err(Refused::Broken);
+    }
+    store.write(0, &[byte; LARGE])
+}
+
+/// Whether a store has a block of 32,768 bytes.
+fn has_large<S: BlockStore>(store: &S) -> bool
+    ensures size { IsTrue result → S.size store.now ≡ 32768 }
+    ensures there { IsTrue result → IsTrue (S.is_sound store.now) → HasBlock (S.size store.now) (S.contents store.now) 0 }
+{
+    store.block_size() == LARGE && 32768 <= store.length()
+}
+
+/// A log of more than 4 MiB of slots is copied at the first write behind a commit, and not before: each commit has a frame and a gate, of 32,772 bytes.
+#[test]
+fn copies_a_log_above_its_limit(rt: HostRuntime) -> Result<(), Fail> {
+    let alloc = rt.alloc();
+    let mut first = Vec::new(alloc);
+    first.resize(LARGE, 100)?;
+    let disk = TornDisk::over(alloc, &[], &first, 1000)?;
+    let commits = fill_once(alloc, disk)?;
+    assert_eq!(rt; commits, 64);
+    Ok(())
+}
+
+fn fill_once(alloc: Global, disk: TornDisk) -> Result<u64, Refused> {
+    count_commits::<Brand>(alloc, disk, Blank::new(1))
+}
+
+/// How many commits a log has had when a write begins it anew.
+fn count_commits<L: Ledger>(alloc: Global, disk: TornDisk, blank: Blank) -> Result<u64, Refused>
+    requires name { blank.name ≡ L.name }
+    requires parts { blank.parts ≡ L.parts }
+    requires share { 0 < blank.parts }
+{
+    let mut store = match Journaled::<TornDisk, L>::open(alloc, disk, LARGE as u32, blank) {
+        Ok(store) => store,
+        Err(_) => return Err(Refused::Broken),
+    };
+    for commits in 0..99 {
+        fill_large(&mut store, 7)?;
+        if store.disk().volume.now.first() == Some(&7) {
+            return Ok(commits);
+        }
+        store.commit()?;
+    }
+    Err(Refused::Full)
 }
 
 /// Runs are read from frames and from the volume, with zeros behind it, and with a part of a block at the end.

@@ -24,6 +24,8 @@ pub struct TornDisk {
     pub number: u64,
     /// So many syncs were done.
     pub syncs: u64,
+    /// So many writes to the log were done.
+    pub log_writes: u64,
 }
 
 fn copy(alloc: Global, bytes: &[u8]) -> Result<Vec<u8>, Failed> {
@@ -94,6 +96,7 @@ impl TornDisk {
             calls_left: calls,
             number: 5,
             syncs: 0,
+            log_writes: 0,
         })
     }
 
@@ -146,6 +149,7 @@ impl Disk for TornDisk {
 
     fn write_log(&mut self, at: u64, bytes: &[u8]) -> Result<(), Failed> {
         put(&mut self.log.now, at, bytes)?;
+        self.log_writes = self.log_writes.saturating_add(1);
         self.spend()
     }
 

@@ -180,9 +180,10 @@ where
             dbd,
             psb,
             volume,
+            end_commits,
             cache,
             syncs,
-        } => serve_file(console, dbd, psb, volume, cache, syncs, input),
+        } => serve_file(console, dbd, psb, volume, end_commits, cache, syncs, input),
         Request::Check { dbd, volume, cache } => check_file(console, dbd, volume, cache),
         Request::Recover {
             dbd,

@@ -10,11 +10,12 @@ pub struct Behind<'a> {
 
 /// The text without the ends of lines at its front.
 pub fn without_ends(text: &[u8]) -> &[u8] {
-    let ends = text
-        .iter()
-        .take_while(|b| **b == b'\n' || **b == b'\r')
-        .count();
-    text.get(ends..).unwrap_or(&[])
+    for place in 0..text.len() {
+        if text[place] != b'\n' && text[place] != b'\r' {
+            return &text[place..];
+        }
+    }
+    &[]
 }
 
 /// The text without a line feed at its front.

@@ -27,26 +27,46 @@ pub fn keys_length(above: &[Above]) -> u32 {
 /// The types above a type, the root first, each of which must have a unique key.
 pub fn parents_above(alloc: Global, dbd: &Dbd, code: u8) -> Result<Vec<Above>, Wrong> {
     let above = keys_above(alloc, dbd, code)?;
-    let levels = (dbd.level(code) as usize).saturating_sub(1);
-    if above.len() != levels || above.iter().any(|key| !dbd.has_unique_key(key.code)) {
-        return Err(Wrong::Row(RowFault::Nameless));
+    if are_unique(dbd, &above, dbd.level(code)) {
+        Ok(above)
+    } else {
+        Err(Wrong::Row(RowFault::Nameless))
     }
-    Ok(above)
+}
+
+/// Whether the types above one of a level all have a key, and a unique one.
+fn are_unique(dbd: &Dbd, above: &[Above], level: u8) -> bool {
+    for key in above {
+        if !dbd.has_unique_key(key.code) {
+            return false;
+        }
+    }
+    above.len() == (level as usize).saturating_sub(1)
 }
 
 /// The key of a type above, by the name of the type and that of its key.
 fn key_column(dbd: &Dbd, above: &[Above], name: &[u8], label: &[u8]) -> Option<Column> {
     let code = code_named(dbd, name)?;
     let part = part_named(dbd.type_of(code)?, label)?;
-    let place = above.iter().position(|key| key.code == code)?;
-    let key = above.get(place)?.key;
+    let mut start = 0u32;
+    for key in above {
+        if key.code == code {
+            return column_of_key(key.key, part, start);
+        }
+        start = start.saturating_add(key.key.length);
+    }
+    None
+}
+
+/// The column of a key, whose bytes begin at a place of the keys, where the part that is named has its bytes.
+fn column_of_key(key: Part, part: Part, start: u32) -> Option<Column> {
     if part.start != key.start || part.length != key.length {
         return None;
     }
     Some(Column {
         part: Part {
             name: None,
-            start: keys_length(above.get(..place)?),
+            start,
             length: key.length,
             is_open: false,
         },
@@ -67,9 +87,12 @@ fn column_named(dbd: &Dbd, code: u8, above: &[Above], name: &[u8]) -> Option<Col
 
 /// Whether none of the columns gives the bytes of keys from a place on.
 fn lacks_key(columns: &[Column], start: u32) -> bool {
-    columns
-        .iter()
-        .all(|column| !column.is_key || column.part.start != start)
+    for column in columns {
+        if column.is_key && column.part.start == start {
+            return false;
+        }
+    }
+    true
 }
 
 /// Whether the key of a type above has no column.

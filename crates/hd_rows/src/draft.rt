@@ -1,5 +1,5 @@
 use crate::fault::RowFault;
-use crate::part::{LENGTH_BYTES, Part};
+use crate::part::Part;
 use std::alloc::{AllocError, Global};
 
 /// A segment while its values are read: its bytes, which of them a value gave, and where the last of these ends. The others are blanks.
@@ -36,17 +36,14 @@ impl Draft {
 
     /// Gives the byte at a place.
     fn put_byte(&mut self, place: usize, byte: u8) -> Result<(), RowFault> {
-        let Some(target) = self.bytes.get_mut(place) else {
+        if place >= self.bytes.len() || place >= self.is_given.len() {
             return Err(RowFault::Part);
-        };
-        let Some(is_given) = self.is_given.get_mut(place) else {
-            return Err(RowFault::Part);
-        };
-        if *is_given && *target != byte {
+        }
+        if self.is_given[place] && self.bytes[place] != byte {
             return Err(RowFault::Differs);
         }
-        *target = byte;
-        *is_given = true;
+        self.bytes[place] = byte;
+        self.is_given[place] = true;
         Ok(())
     }
 
@@ -72,13 +69,8 @@ impl Draft {
     /// How many bytes the segment has: as many as its first bytes say where they are given, else as far as the values go, and at least the
     /// least.
     fn length(&self, least: usize) -> usize {
-        let is_said = self
-            .is_given
-            .iter()
-            .take(LENGTH_BYTES as usize)
-            .all(|given| *given);
-        match self.bytes.as_slice() {
-            [high, low, ..] if is_said => u16::from_be_bytes([*high, *low]) as usize,
+        match (self.bytes.as_slice(), self.is_given.as_slice()) {
+            ([high, low, ..], [true, true, ..]) => u16::from_be_bytes([*high, *low]) as usize,
             _ => self.end.max(least),
         }
     }

@@ -43,9 +43,13 @@ fn are_equal(dbd: &Dbd, before: &Entry<'_>, after: &Entry<'_>) -> bool {
 /// The least number of a row whose key an earlier twin has, where keys are unique.
 pub fn first_equal(dbd: &Dbd, entries: &[Entry<'_>]) -> Option<u32> {
     let mut least: Option<u32> = None;
-    for (before, after) in entries.iter().zip(entries.iter().skip(1)) {
-        if are_equal(dbd, before, after) && least.is_none_or(|number| after.number < number) {
-            least = Some(after.number);
+    for place in 1..entries.len() {
+        let number = entries[place].number;
+        if are_equal(dbd, &entries[place - 1], &entries[place]) {
+            least = match least {
+                Some(before) if before <= number => Some(before),
+                _ => Some(number),
+            };
         }
     }
     least

@@ -6,7 +6,7 @@ use std::alloc::{AllocError, Global};
 
 /// Bytes of a segment that a text gives by one name: a field, or a range without a name. `start` counts from 0. An open range has as many
 /// bytes, at most `length`, as the segment has from there on.
-#[derive(Clone, Copy, Debug, PartialEq, Eq)]
+#[derive(Clone, Copy)]
 pub struct Part {
     pub name: Option<Name8>,
     pub start: u32,
@@ -15,7 +15,7 @@ pub struct Part {
 }
 
 /// How many bytes of a segment that varies in length say how many it has.
-pub const LENGTH_BYTES: u32 = 2;
+const LENGTH_BYTES: u32 = 2;
 
 /// So many bytes from a place, as far as they go.
 pub fn bytes_at(bytes: &[u8], start: usize, length: usize) -> &[u8] {
@@ -150,14 +150,14 @@ fn number(digits: &[u8]) -> Option<u32> {
 fn range_named(segment: &SegType, name: &[u8]) -> Option<Part> {
     let dash = memchr(b'-', name)?;
     let from = number(&name[..dash])?.checked_sub(1)?;
-    if segment.least.is_some() && name[dash + 1..].is_empty() {
+    let last = &name[dash + 1..];
+    if last.is_empty() && segment.least.is_some() {
         return range(from, segment.length, true);
     }
-    let last = number(&name[dash + 1..])?;
-    if last > segment.length {
-        return None;
+    match number(last) {
+        Some(last) if last <= segment.length => range(from, last, false),
+        _ => None,
     }
-    range(from, last, false)
 }
 
 /// The part of a type that a text calls by a name: a field's, or the first and last byte of any range, or an open one's first.

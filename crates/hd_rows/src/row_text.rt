@@ -20,12 +20,12 @@ pub struct LineForm {
 }
 
 /// A part with a blank, its name and an equals sign.
-fn with_label(alloc: Global, part: Part) -> Result<Labelled, AllocError> {
+fn with_label(alloc: Global, part: &Part) -> Result<Labelled, AllocError> {
     let mut label = Vec::new(alloc);
     label.extend_from_slice(b" ")?;
     part.push_label(&mut label)?;
     label.extend_from_slice(b"=")?;
-    Ok(Labelled { part, label })
+    Ok(Labelled { part: *part, label })
 }
 
 /// The form of the lines of a type on a level: two blanks for each level above it, and the type's name.
@@ -36,7 +36,8 @@ fn form_of(alloc: Global, segment: &SegType, level: u8) -> Result<LineForm, Allo
     }
     head.extend_from_slice(without_padding(segment.name.bytes()))?;
     let mut parts = Vec::new(alloc);
-    for part in parts_of(alloc, segment)? {
+    let all = parts_of(alloc, segment)?;
+    for part in &all {
         parts.push(with_label(alloc, part)?)?;
     }
     Ok(LineForm { head, parts })

@@ -23,8 +23,11 @@ pub struct Rows {
 
 /// The bytes of a type's key, 0 without one.
 pub fn key_length(dbd: &Dbd, code: u8) -> usize {
-    match dbd.type_of(code) {
-        Some(segment) => segment.key.map_or(0, |key| key.length as usize),
+    let Some(segment) = dbd.type_of(code) else {
+        return 0;
+    };
+    match &segment.key {
+        Some(key) => key.length as usize,
         None => 0,
     }
 }

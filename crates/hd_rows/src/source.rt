@@ -72,15 +72,45 @@ fn put_rows<S: Source, W: Write>(
     let mut count = 0u32;
     for _ in 0..entries.len() {
         let Some(entry) = entries.get(place) else {
-            return Ok(count);
+            break;
         };
         put_entry(rows, source, entry, &mut bytes, out)?;
         count = count.saturating_add(1);
         match next_place(entries, &firsts, &mut path, place)? {
             Some(next) => place = next,
-            None => return Ok(count),
+            None => break,
         }
     }
+    Ok(count)
+}
+
+/// The fault of rows that were read, if they have one: a key that an earlier twin has comes first.
+fn fault_of<S: Source>(
+    dbd: &Dbd,
+    rows: &Rows,
+    entries: &[Entry<'_>],
+    source: &S,
+) -> Option<TextFault> {
+    if let Some(number) = first_equal(dbd, entries) {
+        if let Some(row) = rows.row(number) {
+            return Some(source.fault_at(&row, RowFault::Equal));
+        }
+    }
+    rows.fault
+}
+
+/// Writes the unload stream of rows without a fault, and says how many they are.
+fn put_stream<S: Source, W: Write>(
+    alloc: Global,
+    dbd: &Dbd,
+    rows: &Rows,
+    entries: &[Entry<'_>],
+    source: &mut S,
+    out: &mut W,
+) -> Result<u32, TextFault> {
+    put_head(out, dbd)?;
+    let count = put_rows(alloc, rows, entries, source, out)?;
+    put_end(out, count)?;
     Ok(count)
 }
 
@@ -93,16 +123,8 @@ pub fn write_rows<S: Source, W: Write>(
     out: &mut W,
 ) -> Result<u32, TextFault> {
     let entries = entries_of(alloc, dbd, rows)?;
-    if let Some(number) = first_equal(dbd, &entries) {
-        if let Some(row) = rows.row(number) {
-            return Err(source.fault_at(&row, RowFault::Equal));
-        }
+    match fault_of(dbd, rows, &entries, source) {
+        Some(fault) => Err(fault),
+        None => put_stream(alloc, dbd, rows, &entries, source, out),
     }
-    if let Some(fault) = rows.fault {
-        return Err(fault);
-    }
-    put_head(out, dbd)?;
-    let count = put_rows(alloc, rows, &entries, source, out)?;
-    put_end(out, count)?;
-    Ok(count)
 }

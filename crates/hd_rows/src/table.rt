@@ -7,7 +7,7 @@ use crate::part::bytes_at;
 use crate::rows::Rows;
 use crate::text::line_at;
 use hd_dbd::Dbd;
-use std::alloc::Global;
+use std::alloc::{AllocError, Global};
 
 /// A table of a type's rows: its text, its columns, and what is needed again for each record.
 #[derive(Drop)]
@@ -18,9 +18,53 @@ pub struct TableReader<'a> {
     length: u32,
     least: Option<u32>,
     columns: Vec<Column>,
+    record: Record,
+}
+
+/// A record while its cells are read: the cell that was read last, the keys of its parents, and its segment.
+#[derive(Drop)]
+struct Record {
     cell: Vec<u8>,
     keys: Draft,
     segment: Draft,
+}
+
+impl Record {
+    /// Begins a record of keys and a segment of so many bytes.
+    fn begin(&mut self, keys_length: u32, length: u32) -> Result<(), AllocError> {
+        self.segment.begin(length as usize)?;
+        self.keys.begin(keys_length as usize)
+    }
+
+    /// Takes the cell of a column at the front of a text.
+    fn take_cell<'t>(&mut self, column: &Column, text: &'t [u8]) -> Result<Behind<'t>, Wrong> {
+        let behind = read_cell(text, &mut self.cell)?;
+        if column.is_key {
+            self.keys.put(column.part, &self.cell)?;
+        } else {
+            self.segment.put(column.part, &self.cell)?;
+        }
+        Ok(behind)
+    }
+
+    /// Takes the cells of all columns at the front of a text; gives what follows.
+    fn take_cells<'t>(&mut self, columns: &[Column], text: &'t [u8]) -> Result<&'t [u8], Wrong> {
+        let mut behind = Behind {
+            rest: text,
+            is_last: false,
+        };
+        for column in columns {
+            if behind.is_last {
+                return Err(Wrong::Row(RowFault::Cells));
+            }
+            behind = self.take_cell(column, behind.rest)?;
+        }
+        if behind.is_last {
+            Ok(behind.rest)
+        } else {
+            Err(Wrong::Row(RowFault::Cells))
+        }
+    }
 }
 
 impl<'a> TableReader<'a> {
@@ -37,15 +81,12 @@ impl<'a> TableReader<'a> {
             length,
             least,
             columns: Vec::new(alloc),
-            cell: Vec::new(alloc),
-            keys: Draft::new(alloc),
-            segment: Draft::new(alloc),
+            record: Record {
+                cell: Vec::new(alloc),
+                keys: Draft::new(alloc),
+                segment: Draft::new(alloc),
+            },
         }
-    }
-
-    /// The bytes of the segment that was read last.
-    pub fn bytes(&self) -> &[u8] {
-        self.segment.bytes()
     }
 
     /// A fault at the record that begins at a place.
@@ -72,46 +113,25 @@ impl<'a> TableReader<'a> {
         Ok(rest)
     }
 
-    /// Takes the cell of a column at the front of a text.
-    fn take_cell<'t>(&mut self, column: Column, text: &'t [u8]) -> Result<Behind<'t>, Wrong> {
-        let behind = read_cell(text, &mut self.cell)?;
-        if column.is_key {
-            self.keys.put(column.part, &self.cell)?;
-        } else {
-            self.segment.put(column.part, &self.cell)?;
-        }
-        Ok(behind)
-    }
-
     /// Takes the record at the front of a text; gives what follows.
     fn take<'t>(&mut self, text: &'t [u8]) -> Result<&'t [u8], Wrong> {
-        self.segment.begin(self.length as usize)?;
-        self.keys.begin(self.keys_length as usize)?;
-        let mut left = text;
-        let mut is_last = false;
-        for place in 0..self.columns.len() {
-            let Some(column) = self.columns.get(place).copied() else {
-                return Err(Wrong::Row(RowFault::Cells));
-            };
-            if is_last {
-                return Err(Wrong::Row(RowFault::Cells));
-            }
-            let behind = self.take_cell(column, left)?;
-            left = behind.rest;
-            is_last = behind.is_last;
-        }
-        if !is_last {
-            return Err(Wrong::Row(RowFault::Cells));
-        }
+        self.record.begin(self.keys_length, self.length)?;
+        let left = self.record.take_cells(&self.columns, text)?;
         if let Some(least) = self.least {
-            self.segment.end(least)?;
+            self.record.segment.end(least)?;
         }
         Ok(left)
     }
 
-    /// Reads the record that begins at a place.
-    pub fn read_at(&mut self, place: usize) -> Result<(), Wrong> {
-        self.take(bytes_at(self.text, place, self.text.len()))?;
+    /// Reads the record that begins at a place, and gives the bytes of its segment.
+    pub fn read_at(&mut self, place: usize, bytes: &mut Vec<u8>) -> Result<(), TextFault> {
+        match self.take(bytes_at(self.text, place, self.text.len())) {
+            Ok(_) => {}
+            Err(Wrong::Memory) => return Err(TextFault::Memory),
+            Err(Wrong::Row(fault)) => return Err(self.fault_at(place, fault)),
+        }
+        bytes.clear();
+        bytes.extend_from_slice(self.record.segment.bytes())?;
         Ok(())
     }
 
@@ -119,8 +139,14 @@ impl<'a> TableReader<'a> {
     fn add<'t>(&mut self, dbd: &Dbd, rows: &mut Rows, text: &'t [u8]) -> Result<&'t [u8], Wrong> {
         let rest = self.take(text)?;
         rows.next_number()?;
-        rows.keys.extend_from_slice(self.keys.bytes())?;
-        rows.add(dbd, self.place_of(text), 0, self.code, self.segment.bytes())?;
+        rows.keys.extend_from_slice(self.record.keys.bytes())?;
+        rows.add(
+            dbd,
+            self.place_of(text),
+            0,
+            self.code,
+            self.record.segment.bytes(),
+        )?;
         Ok(rest)
     }
 

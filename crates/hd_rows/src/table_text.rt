@@ -2,10 +2,10 @@ use crate::above::{Above, keys_above};
 use crate::naming::without_padding;
 use crate::part::{Part, columns_of};
 use crate::value::{shown, shown_part};
-use csv::{Error, Writer};
+use csv::Writer;
 use hd_dbd::Dbd;
 use std::alloc::{AllocError, Global};
-use std::io::{self, ErrorKind, Write};
+use std::io::{self, Write};
 
 /// A type above the table's, and the key of its last row.
 #[derive(Drop)]
@@ -14,16 +14,57 @@ struct Kept {
     key: Vec<u8>,
 }
 
+impl Kept {
+    /// Keeps the key of a row of the type.
+    fn keep(&mut self, bytes: &[u8]) -> Result<(), AllocError> {
+        self.key.clear();
+        self.key.extend_from_slice(self.above.key.bytes_in(bytes))
+    }
+}
+
 /// The types above a type that have a key, without a row.
 fn kept_above(alloc: Global, dbd: &Dbd, code: u8) -> Result<Vec<Kept>, AllocError> {
     let mut kept = Vec::new(alloc);
-    for above in keys_above(alloc, dbd, code)? {
+    let keys = keys_above(alloc, dbd, code)?;
+    for above in &keys {
         kept.push(Kept {
-            above,
+            above: *above,
             key: Vec::new(alloc),
         })?;
     }
     Ok(kept)
+}
+
+/// Writes a cell of a line of CSV.
+fn put_cell(cells: &mut Writer<&mut Vec<u8>>, cell: &[u8]) -> Result<(), AllocError> {
+    match cells.write_field(cell) {
+        Ok(()) => Ok(()),
+        Err(_) => Err(AllocError),
+    }
+}
+
+/// Writes the end of a line of CSV.
+fn put_line_end(cells: &mut Writer<&mut Vec<u8>>) -> Result<(), AllocError> {
+    if cells.end_record().is_ok() && cells.flush().is_ok() {
+        return Ok(());
+    }
+    Err(AllocError)
+}
+
+/// Writes the cells of a row of a table.
+fn put_cells(
+    cells: &mut Writer<&mut Vec<u8>>,
+    kept: &[Kept],
+    columns: &[Part],
+    bytes: &[u8],
+) -> Result<(), AllocError> {
+    for kept in kept {
+        put_cell(cells, shown(&kept.key))?;
+    }
+    for part in columns {
+        put_cell(cells, shown_part(part, bytes))?;
+    }
+    put_line_end(cells)
 }
 
 /// A row of a table as a line of CSV.
@@ -32,17 +73,10 @@ fn csv_line(
     kept: &[Kept],
     columns: &[Part],
     bytes: &[u8],
-) -> Result<(), Error> {
+) -> Result<(), AllocError> {
     line.clear();
     let mut cells = Writer::from_writer(line);
-    for kept in kept {
-        cells.write_field(shown(&kept.key))?;
-    }
-    for part in columns {
-        cells.write_field(shown_part(part, bytes))?;
-    }
-    cells.end_record()?;
-    cells.flush()
+    put_cells(&mut cells, kept, columns, bytes)
 }
 
 /// A comma behind the name before, if there is one.
@@ -107,8 +141,7 @@ impl Table {
     fn keep_key(&mut self, code: u8, bytes: &[u8]) -> io::Result<()> {
         for kept in &mut self.kept {
             if kept.above.code == code {
-                kept.key.clear();
-                kept.key.extend_from_slice(kept.above.key.bytes_in(bytes))?;
+                kept.keep(bytes)?;
             }
         }
         Ok(())
@@ -119,9 +152,7 @@ impl Table {
         if code != self.code {
             return self.keep_key(code, bytes);
         }
-        if csv_line(&mut self.line, &self.kept, &self.columns, bytes).is_err() {
-            return Err(io::Error::from(ErrorKind::OutOfMemory));
-        }
+        csv_line(&mut self.line, &self.kept, &self.columns, bytes)?;
         out.write_all(&self.line)
     }
 }

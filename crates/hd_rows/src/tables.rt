@@ -1,4 +1,4 @@
-use crate::fault::{RowFault, TextFault, Wrong};
+use crate::fault::{RowFault, TextFault};
 use crate::parents::find_parents;
 use crate::rows::{Row, Rows, key_length};
 use crate::source::{Source, write_rows};
@@ -15,19 +15,11 @@ struct TableTexts<'a> {
 
 impl Source for TableTexts<'_> {
     fn read(&mut self, row: &Row, bytes: &mut Vec<u8>) -> Result<(), TextFault> {
-        let Some(place) = self.tables.iter().position(|table| table.code == row.code) else {
-            return Ok(());
-        };
-        let Some(table) = self.tables.get_mut(place) else {
-            return Ok(());
-        };
-        match table.read_at(row.start) {
-            Ok(()) => {}
-            Err(Wrong::Memory) => return Err(TextFault::Memory),
-            Err(Wrong::Row(fault)) => return Err(table.fault_at(row.start, fault)),
+        for table in &mut self.tables {
+            if table.code == row.code {
+                return table.read_at(row.start, bytes);
+            }
         }
-        bytes.clear();
-        bytes.extend_from_slice(table.bytes())?;
         Ok(())
     }
 
@@ -95,16 +87,26 @@ fn read_type<'a>(
 
 /// The first table of no type, or of the type of one before it.
 fn tables_fault(dbd: &Dbd, tables: &[(u8, &[u8])]) -> Option<TextFault> {
-    for (place, table) in tables.iter().enumerate() {
-        let code = table.0;
+    for place in 0..tables.len() {
+        let code = tables[place].0;
         if dbd.type_of(code).is_none() {
             return Some(TextFault::Table(RowFault::Type, code, 1));
         }
-        if tables[..place].iter().any(|before| before.0 == code) {
+        if has_table(&tables[..place], code) {
             return Some(TextFault::Table(RowFault::Twice, code, 1));
         }
     }
     None
+}
+
+/// Whether one of the tables is of a type.
+fn has_table(tables: &[(u8, &[u8])], code: u8) -> bool {
+    for table in tables {
+        if table.0 == code {
+            return true;
+        }
+    }
+    false
 }
 
 /// Writes the unload stream of the rows that tables spell, and says how many they are.

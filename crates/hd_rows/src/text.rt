@@ -17,6 +17,16 @@ struct Open {
     code: u8,
 }
 
+/// How many rows at the front of a path are indented less.
+fn levels_above(path: &[Open], indentation: usize) -> usize {
+    for place in 0..path.len() {
+        if path[place].indentation >= indentation {
+            return place;
+        }
+    }
+    path.len()
+}
+
 /// The number of the parent of a row with an indentation, 0 for a root. Rows indented as far or farther leave the path.
 fn parent_on(
     path: &mut Vec<Open>,
@@ -24,11 +34,7 @@ fn parent_on(
     indentation: usize,
     code: u8,
 ) -> Result<u32, RowFault> {
-    let above = path
-        .iter()
-        .take_while(|open| open.indentation < indentation)
-        .count();
-    path.truncate(above);
+    path.truncate(levels_above(path, indentation));
     match (path.last().copied(), dbd.parent_of(code)) {
         (None, None) => Ok(0),
         (Some(open), Some(parent)) if open.code == parent => Ok(open.number),
@@ -38,8 +44,13 @@ fn parent_on(
 
 /// The number of the line, from 1, on which the byte at a place stands.
 pub fn line_at(text: &[u8], place: usize) -> u64 {
-    let before = bytes_at(text, 0, place);
-    (before.iter().filter(|b| **b == b'\n').count() as u64).saturating_add(1)
+    let mut line = 1u64;
+    for byte in bytes_at(text, 0, place) {
+        if *byte == b'\n' {
+            line = line.saturating_add(1);
+        }
+    }
+    line
 }
 
 /// The text of rows, a line each.
@@ -105,7 +116,7 @@ fn read_text(alloc: Global, dbd: &Dbd, text: &[u8]) -> Result<Rows, TextFault> {
     let mut left = without_mark(text);
     for count in 0..text.len() {
         if left.is_empty() {
-            return Ok(rows);
+            break;
         }
         let start = text.len().saturating_sub(left.len());
         let (line, behind) = next_line(left);
@@ -114,7 +125,7 @@ fn read_text(alloc: Global, dbd: &Dbd, text: &[u8]) -> Result<Rows, TextFault> {
             Err(Wrong::Memory) => return Err(TextFault::Memory),
             Err(Wrong::Row(fault)) => {
                 rows.fault = Some(TextFault::Row(fault, count as u64 + 1));
-                return Ok(rows);
+                break;
             }
         }
     }

@@ -3,9 +3,19 @@ use crate::naming::without_padding;
 use crate::part::Part;
 use std::io::{self, Write};
 
+/// Whether all bytes of a value are text.
+fn is_text(value: &[u8]) -> bool {
+    for byte in value {
+        if !matches!(*byte, 32..=126) {
+            return false;
+        }
+    }
+    true
+}
+
 /// A value as a text shows it: text loses the blanks at its end, with which a reader pads it; other bytes stay whole.
 pub fn shown(value: &[u8]) -> &[u8] {
-    if value.iter().all(|b| matches!(*b, 32..=126)) {
+    if is_text(value) {
         without_padding(value)
     } else {
         value
@@ -43,9 +53,19 @@ fn put_byte<W: Write>(out: &mut W, byte: u8) -> io::Result<()> {
     }
 }
 
+/// Whether each byte stands for itself between quotes.
+fn are_plain(bytes: &[u8]) -> bool {
+    for byte in bytes {
+        if !is_plain(*byte) {
+            return false;
+        }
+    }
+    true
+}
+
 /// Writes the bytes of a value.
 fn put_bytes<W: Write>(out: &mut W, bytes: &[u8]) -> io::Result<()> {
-    if bytes.iter().all(|b| is_plain(*b)) {
+    if are_plain(bytes) {
         return out.write_all(bytes);
     }
     for byte in bytes {
@@ -54,9 +74,19 @@ fn put_bytes<W: Write>(out: &mut W, bytes: &[u8]) -> io::Result<()> {
     Ok(())
 }
 
+/// Whether a value is empty, or has a blank or a quote.
+fn wants_quotes(value: &[u8]) -> bool {
+    for byte in value {
+        if *byte == b' ' || *byte == b'"' {
+            return true;
+        }
+    }
+    value.is_empty()
+}
+
 /// Writes a value of a row's line, in quotes where it is empty or has a blank or a quote.
 pub fn put_value<W: Write>(out: &mut W, value: &[u8]) -> io::Result<()> {
-    if !value.is_empty() && value.iter().all(|b| *b != b' ' && *b != b'"') {
+    if !wants_quotes(value) {
         return put_bytes(out, value);
     }
     out.write_all(b"\"")?;
@@ -82,20 +112,23 @@ fn hex_value(digit: u8) -> Option<u8> {
 
 /// The byte that two hexadecimal digits spell.
 fn hex_step(left: &[u8]) -> Option<Step<'_>> {
-    let (high, behind) = left.split_first()?;
-    let (low, behind) = behind.split_first()?;
-    let byte = hex_value(*high)?
-        .checked_mul(16)?
-        .checked_add(hex_value(*low)?)?;
-    Some(Step::Byte(byte, behind))
+    let [high, low, behind @ ..] = left else {
+        return None;
+    };
+    match (hex_value(*high), hex_value(*low)) {
+        (Some(high), Some(low)) => {
+            let byte = high.saturating_mul(16).saturating_add(low);
+            Some(Step::Byte(byte, behind))
+        }
+        _ => None,
+    }
 }
 
 /// The byte that an escape spells, behind its backslash.
 fn escaped_step(left: &[u8]) -> Option<Step<'_>> {
-    let (byte, behind) = left.split_first()?;
-    match *byte {
-        b'\\' | b'"' => Some(Step::Byte(*byte, behind)),
-        b'x' => hex_step(behind),
+    match left {
+        [byte @ (b'\\' | b'"'), behind @ ..] => Some(Step::Byte(*byte, behind)),
+        [b'x', behind @ ..] => hex_step(behind),
         _ => None,
     }
 }

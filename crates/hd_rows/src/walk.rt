@@ -23,18 +23,16 @@ pub fn firsts_of(alloc: Global, entries: &[Entry<'_>]) -> Result<Vec<usize>, All
 
 /// The place of the first entry below a row.
 fn first_below(entries: &[Entry<'_>], firsts: &[usize], number: u32) -> Option<usize> {
-    let place = *firsts.get(number as usize)?;
-    if entries.get(place)?.parent == number {
-        Some(place)
-    } else {
-        None
+    match firsts.get(number as usize) {
+        Some(place) if *place < entries.len() && entries[*place].parent == number => Some(*place),
+        _ => None,
     }
 }
 
 /// The place of the entry behind another, below the same parent.
 fn next_below(entries: &[Entry<'_>], place: usize) -> Option<usize> {
-    let next = place.checked_add(1)?;
-    if entries.get(next)?.parent == entries.get(place)?.parent {
+    let next = place.saturating_add(1);
+    if next < entries.len() && entries[next].parent == entries[place].parent {
         Some(next)
     } else {
         None

@@ -6,7 +6,7 @@ use std::alloc::{AllocError, Global};
 use std::io::{self, ErrorKind, Write};
 
 /// How rows are written.
-#[derive(Clone, Copy, Debug, PartialEq, Eq)]
+#[derive(Clone, Copy)]
 pub enum Form {
     /// All rows, a line each.
     Rows,
@@ -15,7 +15,7 @@ pub enum Form {
 }
 
 /// What comes next of a stream.
-#[derive(Clone, Copy, PartialEq, Eq)]
+#[derive(Clone, Copy)]
 enum Stage {
     Head,
     Records,
@@ -134,7 +134,7 @@ impl<'a, W: Write> RowWriter<'a, W> {
 
     /// Judges the header of a stream.
     fn take_head(&mut self) -> io::Result<()> {
-        if bytes_differ(&self.record, b"HDUNLOAD\0\x01", self.name.bytes()) {
+        if !are_in_a_row(&self.record, b"HDUNLOAD\0\x01", self.name.bytes()) {
             return Err(no_stream());
         }
         self.stage = Stage::Records;
@@ -143,7 +143,7 @@ impl<'a, W: Write> RowWriter<'a, W> {
 
     /// Judges the end of a stream, and flushes the writer below.
     fn take_end(&mut self) -> io::Result<()> {
-        if self.record.get(1..) != Some(&self.count.to_be_bytes()[..]) {
+        if !are_in_a_row(&self.record, &[0], &self.count.to_be_bytes()) {
             return Err(no_stream());
         }
         self.stage = Stage::Ended;
@@ -161,19 +161,12 @@ impl<'a, W: Write> RowWriter<'a, W> {
 
     /// Takes a header or a record that is whole.
     fn take_whole(&mut self) -> io::Result<()> {
-        match self.stage {
-            Stage::Ended => return Err(no_stream()),
-            Stage::Head => self.take_head()?,
-            Stage::Records => {
-                if self.record.first() == Some(&0) {
-                    self.take_end()?;
-                } else {
-                    self.take_row()?;
-                }
-            }
+        match (self.stage, self.record.as_slice()) {
+            (Stage::Ended, _) => Err(no_stream()),
+            (Stage::Head, _) => self.take_head(),
+            (Stage::Records, [0, ..]) => self.take_end(),
+            (Stage::Records, _) => self.take_row(),
         }
-        self.record.clear();
-        Ok(())
     }
 }
 
@@ -192,9 +185,9 @@ fn is_record(record: &[u8], lengths: &[(u32, Option<u32>)]) -> bool {
     }
 }
 
-/// Whether bytes are not two parts in a row.
-fn bytes_differ(bytes: &[u8], front: &[u8], back: &[u8]) -> bool {
-    bytes.get(..front.len()) != Some(front) || bytes.get(front.len()..) != Some(back)
+/// Whether bytes are two parts in a row.
+fn are_in_a_row(bytes: &[u8], front: &[u8], back: &[u8]) -> bool {
+    bytes_at(bytes, 0, front.len()) == front && bytes_at(bytes, front.len(), bytes.len()) == back
 }
 
 impl<W: Write> Write for RowWriter<'_, W> {
@@ -204,6 +197,7 @@ impl<W: Write> Write for RowWriter<'_, W> {
         self.record.extend_from_slice(&buf[..taken])?;
         if self.record.len() >= self.wanted() {
             self.take_whole()?;
+            self.record.clear();
         }
         Ok(taken)
     }

@@ -1,17 +1,19 @@
 -- What an answer's bytes say.
-use Rattle.std.proofs.Common.{◌≡◌, ℕ, suc, ◌≤◌, List, [], ◌∷◌, ◌++◌, length, take, drop, get_or, cond, Option, Some, None, refl, sym, ap, ◌∙◌, arith}
+use Rattle.std.proofs.Common.{◌≡◌, ◌≢◌, ℕ, suc, ◌≤◌, List, [], ◌∷◌, ◌++◌, length, take, drop, get_or, cond, Option, Some, None, refl, sym, ap, ◌∙◌, arith}
 use Rattle.std.specs.Prelude.{IsTrue, IfSome, ◌==◌, ◌&&◌, codes, bytes_eq, replicate, unwrap_or}
 use Rattle.std.specs.Int.{w16, to_be_bytes, from_be_bytes}
 use Rattle.std.proofs.lemmas.Bool.{cond-false, and_parts, eqb-true, ne_eqb, leb-true}
 use Rattle.std.proofs.lemmas.List.{take_at, drop_at}
 use Rattle.std.proofs.lemmas.Nat.{from_be_bytes-to_be_bytes_2}
+use Rattle.hd_dbd.specs.declared.answer.Refused.{Refused}
+use Rattle.hd_dbd.specs.declared.answer.Refused.TheVariants as refused
 use Rattle.hd_dbd.specs.declared.answer.Status.{Status}
 use Rattle.hd_dbd.specs.declared.answer.Status.TheVariants.{Blank, GA, GK, GB, GE, GP, II, V1, DA, DJ, LB, LC, LD, LE, AC, AD, AH, AJ, AK, AM}
 use Rattle.hd_dbd.specs.Naming.{is_name, is_letter, is_name_rest}
 use Rattle.hd_dbd.specs.Calls.{Reply}
 use Rattle.hd_dbd.specs.Statuses.{status_text}
-use Rattle.hd_serve.specs.Answers.{answer_bytes}
-use Rattle.hd_serve.specs.Laws.{CanBeTold}
+use Rattle.hd_serve.specs.Answers.{answer_bytes, refusal_bytes, done_bytes}
+use Rattle.hd_serve.specs.Laws.{CanBeTold, DoneIsToldApart}
 use Rattle.hd_serve.proofs.Answers.{two-letters}
 
 -- the status of two letters
@@ -100,3 +102,14 @@ answers-apart r s f g same =
 
     same-reply : (q t : Reply) → q.status ≡ t.status → q.level ≡ t.level → q.segment ≡ t.segment → q.key ≡ t.key → q.area ≡ t.area → q ≡ t
     same-reply q t a b c d e = (λ i. record { status = a i; level = b i; segment = c i; key = d i; area = e i })
+
+-- the first bytes of an answer and of a refusal are not that of done
+pub done-apart : DoneIsToldApart
+done-apart = (λ r. (λ e. cc), refusal-apart)
+  where
+    refusal-apart : (e : Refused) → refusal_bytes e ≢ done_bytes
+    refusal-apart refused.Full = λ e. cc
+    refusal-apart refused.Area = λ e. cc
+    refusal-apart refused.Memory = λ e. cc
+    refusal-apart refused.Device = λ e. cc
+    refusal-apart refused.Broken = λ e. cc

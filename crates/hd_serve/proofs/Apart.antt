@@ -11,9 +11,12 @@ use Rattle.hd_serve.specs.declared.call.Limits.{Limits}
 use Rattle.hd_serve.specs.declared.fault.FrameFault.{FrameFault}
 use Rattle.hd_serve.specs.declared.fault.FrameFault.TheVariants.{Cut, Long}
 use Rattle.hd_session.specs.Turns.{Turn}
-use Rattle.hd_serve.specs.Frames.{frame_bytes, ssa_bytes, call_bytes, CallFits, is_long, call_in, fault_of, frame_fault}
+use Rattle.hd_serve.specs.declared.request.FramedRequest.{FramedRequest}
+use Rattle.hd_serve.specs.declared.request.FramedRequest.TheVariants as asks
+use Rattle.hd_serve.specs.Frames.{frame_bytes, ssa_bytes, call_bytes, CallFits, request_bytes, RequestFits, is_long, request_in, fault_of, frame_fault}
 use Rattle.hd_serve.specs.Laws.{BeginWithFrame}
-use Rattle.hd_serve.proofs.CallFrames.{AreBytes, behind, call-right, call-read}
+use Rattle.hd_serve.proofs.CallFrames.{AreBytes, behind}
+use Rattle.hd_serve.proofs.RequestFrames.{request-right, request-read}
 use Rattle.hd_serve.proofs.Frames.{four-spelled, whole-fault}
 
 -- all of some bytes, and each that there is, or 0
@@ -31,7 +34,7 @@ ssas-short [] h = omega arith
 ssas-short (ssa ∷ ssas) h = omega (arith, h.0, ssas-short ssas h.1, length-append (ssa_bytes ssa) (flat_map ssa_bytes ssas))
 
 -- so many bytes has the body of a right call at most
-pub call-short : (limits : Limits) (c : Turn) → CallFits limits c → length (call_bytes c) ≤ 983062 + limits.area
+call-short : (limits : Limits) (c : Turn) → CallFits limits c → length (call_bytes c) ≤ 983062 + limits.area
 call-short limits c fits =
     omega (
       arith,
@@ -43,50 +46,56 @@ call-short limits c fits =
       fits.fits,
     )
 
--- the number in front of a frame is the length of its body
-size-of : (limits : Limits) (c : Turn) (rest : List ℕ) → limits.area < 2 ^ 31 → CallFits limits c → from_be_bytes w32 (frame_bytes (call_bytes c) ++ rest) ≡ length (call_bytes c)
-size-of limits c rest few fits = from_be_bytes-to_be_bytes_4 (length (call_bytes c)) (omega (arith, call-short limits c fits))
+-- and that of a right request
+request-short : (limits : Limits) (r : FramedRequest) → RequestFits limits r → length (request_bytes r) ≤ 983062 + limits.area
+request-short limits (asks.Call c) fits = call-short limits c fits
+request-short limits asks.Commit fits = omega arith
+request-short limits asks.RollBack fits = omega arith
 
--- nothing is wrong with the frame of a right call
-pub none-wrong : (limits : Limits) (c : Turn) (rest : List ℕ) → limits.area < 2 ^ 31 → CallFits limits c → frame_fault limits (frame_bytes (call_bytes c) ++ rest) ≡ None
-none-wrong limits c rest few fits =
-    let bytes : List ℕ = frame_bytes (call_bytes c) ++ rest in
-    let size : from_be_bytes w32 bytes ≡ length (call_bytes c) = size-of limits c rest few fits in
-    let long : length bytes ≡ 4 + length (call_bytes c) + length rest = omega (arith, length-append (call_bytes c) rest) in
+-- the number in front of a frame is the length of its body
+size-of : (limits : Limits) (r : FramedRequest) (rest : List ℕ) → limits.area < 2 ^ 31 → RequestFits limits r → from_be_bytes w32 (frame_bytes (request_bytes r) ++ rest) ≡ length (request_bytes r)
+size-of limits r rest few fits = from_be_bytes-to_be_bytes_4 (length (request_bytes r)) (omega (arith, request-short limits r fits))
+
+-- nothing is wrong with the frame of a right request
+pub none-wrong : (limits : Limits) (r : FramedRequest) (rest : List ℕ) → limits.area < 2 ^ 31 → RequestFits limits r → frame_fault limits (frame_bytes (request_bytes r) ++ rest) ≡ None
+none-wrong limits r rest few fits =
+    let bytes : List ℕ = frame_bytes (request_bytes r) ++ rest in
+    let size : from_be_bytes w32 bytes ≡ length (request_bytes r) = size-of limits r rest few fits in
+    let long : length bytes ≡ 4 + length (request_bytes r) + length rest = omega (arith, length-append (request_bytes r) rest) in
     let whole : 4 + from_be_bytes w32 bytes ≤ length bytes = omega (arith, size, long) in
-    let short : is_long limits (from_be_bytes w32 bytes) ≡ false = le-ltb (983062 + limits.area) (from_be_bytes w32 bytes) (omega (arith, size, call-short limits c fits)) in
+    let short : is_long limits (from_be_bytes w32 bytes) ≡ false = le-ltb (983062 + limits.area) (from_be_bytes w32 bytes) (omega (arith, size, request-short limits r fits)) in
     whole-fault limits bytes whole short
-    ∙ ap (λ (n : ℕ). fault_of (call_in limits (take n (call_bytes c ++ rest)))) size
-    ∙ ap (λ (xs : List ℕ). fault_of (call_in limits xs)) (take_at (call_bytes c) rest (length (call_bytes c)) refl)
-    ∙ ap fault_of (call-read limits c fits)
+    ∙ ap (λ (n : ℕ). fault_of (request_in limits (take n (request_bytes r ++ rest)))) size
+    ∙ ap (λ (xs : List ℕ). fault_of (request_in limits xs)) (take_at (request_bytes r) rest (length (request_bytes r)) refl)
+    ∙ ap fault_of (request-read limits r fits)
 
 kept : (b : Bool) (x : FrameFault) (o : Option FrameFault) → cond b (Some x) o ≡ None → (b ≡ false) × (o ≡ None)
 kept true x o e = cc
 kept false x o e = (refl, e)
 
-no-fault : (r : Result Turn FrameFault) → fault_of r ≡ None → (c : Turn) × (r ≡ Ok c)
-no-fault (Ok c) e = (c, refl)
+no-fault : (o : Result FramedRequest FrameFault) → fault_of o ≡ None → (r : FramedRequest) × (o ≡ Ok r)
+no-fault (Ok r) e = (r, refl)
 no-fault (Err x) e = cc
 
--- bytes with which nothing is wrong begin with the frame of a right call, if there are any
+-- bytes with which nothing is wrong begin with the frame of a right request, if there are any
 pub none-begins : (limits : Limits) (bytes : List ℕ) → AreBytes bytes → frame_fault limits bytes ≡ None → (bytes ≡ []) ⊎ BeginWithFrame limits bytes
 none-begins limits [] all none = inl refl
 none-begins limits (b ∷ bs) all none =
     let bytes : List ℕ = b ∷ bs in
     let size : ℕ = from_be_bytes w32 bytes in
     let body : List ℕ = take size (drop 4 bytes) in
-    let later : Option FrameFault = cond (is_long limits size) (Some (Long size)) (cond (nat_lt (length bytes) (4 + size)) (Some Cut) (fault_of (call_in limits body))) in
+    let later : Option FrameFault = cond (is_long limits size) (Some (Long size)) (cond (nat_lt (length bytes) (4 + size)) (Some Cut) (fault_of (request_in limits body))) in
     let some : frame_fault limits bytes ≡ cond (nat_lt (length bytes) 4) (Some Cut) later =
     cond-false (length bytes == 0) None (cond (nat_lt (length bytes) 4) (Some Cut) later) (ne_eqb (length bytes) 0 (λ e. omega arith)) in
     let four = kept (nat_lt (length bytes) 4) Cut later (sym some ∙ none) in
-    let short = kept (is_long limits size) (Long size) (cond (nat_lt (length bytes) (4 + size)) (Some Cut) (fault_of (call_in limits body))) four.1 in
-    let whole = kept (nat_lt (length bytes) (4 + size)) Cut (fault_of (call_in limits body)) short.1 in
-    let found = no-fault (call_in limits body) whole.1 in
+    let short = kept (is_long limits size) (Long size) (cond (nat_lt (length bytes) (4 + size)) (Some Cut) (fault_of (request_in limits body))) four.1 in
+    let whole = kept (nat_lt (length bytes) (4 + size)) Cut (fault_of (request_in limits body)) short.1 in
+    let found = no-fault (request_in limits body) whole.1 in
     let there : 4 + size ≤ length bytes = ltb-false (length bytes) (4 + size) whole.0 in
     let len : length body ≡ size = length-take-le size (drop 4 bytes) (omega (arith, length-drop 4 bytes)) in
-    let right = call-right limits body found.0 (front size (drop 4 bytes) (behind 4 bytes all)) found.1 in
+    let right = request-right limits found.0 body (front size (drop 4 bytes) (behind 4 bytes all)) found.1 in
     inr (record {
-      call = found.0;
+      request = found.0;
       fits = right.1;
       rest = drop size (drop 4 bytes);
       spelled = sym (take-append-drop 4 bytes)
@@ -103,16 +112,16 @@ none-begins limits (b ∷ bs) all none =
     front (suc n) (x ∷ xs) h (suc i) = front n xs (λ j. h (suc j)) i
 
 -- a frame and what is behind it are told from another
-pub one-call : (limits : Limits) (a b : Turn) (x y : List ℕ) → limits.area < 2 ^ 31 → CallFits limits a → CallFits limits b → frame_bytes (call_bytes a) ++ x ≡ frame_bytes (call_bytes b) ++ y
+pub one-request : (limits : Limits) (a b : FramedRequest) (x y : List ℕ) → limits.area < 2 ^ 31 → RequestFits limits a → RequestFits limits b → frame_bytes (request_bytes a) ++ x ≡ frame_bytes (request_bytes b) ++ y
     → (a ≡ b) × (x ≡ y)
-one-call limits a b x y few f g same =
-    let m : ℕ = length (call_bytes a) in
-    let size : m ≡ length (call_bytes b) = sym (size-of limits a x few f) ∙ ap (from_be_bytes w32) same ∙ size-of limits b y few g in
-    let bodies : call_bytes a ++ x ≡ call_bytes b ++ y = ap (drop 4) same in
-    let body : call_bytes a ≡ call_bytes b = sym (take_at (call_bytes a) x m refl) ∙ ap (take m) bodies ∙ take_at (call_bytes b) y m (sym size) in (
-      ok-same a b (sym (call-read limits a f) ∙ ap (call_in limits) body ∙ call-read limits b g),
-      sym (drop_at (call_bytes a) x m refl) ∙ ap (drop m) bodies ∙ drop_at (call_bytes b) y m (sym size),
+one-request limits a b x y few f g same =
+    let m : ℕ = length (request_bytes a) in
+    let size : m ≡ length (request_bytes b) = sym (size-of limits a x few f) ∙ ap (from_be_bytes w32) same ∙ size-of limits b y few g in
+    let bodies : request_bytes a ++ x ≡ request_bytes b ++ y = ap (drop 4) same in
+    let body : request_bytes a ≡ request_bytes b = sym (take_at (request_bytes a) x m refl) ∙ ap (take m) bodies ∙ take_at (request_bytes b) y m (sym size) in (
+      ok-same a b (sym (request-read limits a f) ∙ ap (request_in limits) body ∙ request-read limits b g),
+      sym (drop_at (request_bytes a) x m refl) ∙ ap (drop m) bodies ∙ drop_at (request_bytes b) y m (sym size),
     )
   where
-    ok-same : (c d : Turn) → ◌≡◌ {A = Result Turn FrameFault} (Ok c) (Ok d) → c ≡ d
-    ok-same c d e = cc
+    ok-same : (r d : FramedRequest) → ◌≡◌ {A = Result FramedRequest FrameFault} (Ok r) (Ok d) → r ≡ d
+    ok-same r d e = cc

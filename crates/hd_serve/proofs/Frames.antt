@@ -10,8 +10,8 @@ use Rattle.std.proofs.lemmas.Nat.{be_bytes_4}
 use Rattle.hd_serve.specs.declared.call.Limits.{Limits}
 use Rattle.hd_serve.specs.declared.fault.FrameFault.{FrameFault}
 use Rattle.hd_serve.specs.declared.fault.FrameFault.TheVariants.{Memory}
-use Rattle.hd_session.specs.Turns.{Turn}
-use Rattle.hd_serve.specs.Frames.{frame_bytes, call_bytes, CallFits, is_long, call_in, fault_of, frame_fault, IsCallRead, IsWrong}
+use Rattle.hd_serve.specs.declared.request.FramedRequest.{FramedRequest}
+use Rattle.hd_serve.specs.Frames.{frame_bytes, request_bytes, RequestFits, is_long, request_in, fault_of, frame_fault, IsRequestRead, IsWrong}
 use Rattle.hd_serve.proofs.CallFrames.{AreBytes}
 
 -- the number in front of bytes is that of their first four
@@ -39,7 +39,7 @@ four-spelled (a ∷ b ∷ c ∷ d ∷ xs) n all long is = sym (be_bytes_4 (a ∷
 
 -- what is wrong with a frame that is whole is what is wrong with its body
 pub whole-fault : (limits : Limits) (bytes : List ℕ) → 4 + from_be_bytes w32 bytes ≤ length bytes → is_long limits (from_be_bytes w32 bytes) ≡ false
-    → frame_fault limits bytes ≡ fault_of (call_in limits (take (from_be_bytes w32 bytes) (drop 4 bytes)))
+    → frame_fault limits bytes ≡ fault_of (request_in limits (take (from_be_bytes w32 bytes) (drop 4 bytes)))
 whole-fault limits bytes long fits =
     cond-false (length bytes == 0) _ _ (ne_eqb (length bytes) 0 (λ e. omega arith))
     ∙ cond-false (nat_lt (length bytes) 4) _ _ (le-ltb (length bytes) 4 (omega arith))
@@ -80,27 +80,27 @@ module _ (limits : Limits) (m b : Option (List ℕ)) (first now body : List ℕ)
       subst (λ (o : Option (List ℕ)). Consumes (Some u) (prepend_known (drop end now) o) (frame_bytes body)) (sym h.4)
       (h.3 ∙ ap (λ (xs : List ℕ). xs ++ h.1) (frame-in u h.0 h.1 h.2 h.3) ∙ append_assoc (frame_bytes body) (drop end now) h.1)
 
-  -- the call of the frame in front is read, and the frame is taken
-  pub call-taken : (a : Option (List ℕ)) (c : Turn) → Keeps a (prepend_known first m) → Keeps (prepend_known first m) (prepend_known now b) → (body ≡ call_bytes c) × CallFits limits c
-      → IsCallRead limits a c (prepend_known (drop end now) b)
-  call-taken a c kept again right = record {
+  -- the request of the frame in front is read, and the frame is taken
+  pub request-taken : (a : Option (List ℕ)) (r : FramedRequest) → Keeps a (prepend_known first m) → Keeps (prepend_known first m) (prepend_known now b) → (body ≡ request_bytes r) × RequestFits limits r
+      → IsRequestRead limits a r (prepend_known (drop end now) b)
+  request-taken a r kept again right = record {
     fits = right.1;
     taken = subst (λ (xs : List ℕ). Consumes a (prepend_known (drop end now) b) (frame_bytes xs)) right.0 (taken a (in-front a m b first now kept again));
   }
 
-  fault-in : (u x y : List ℕ) → u ≡ first ++ x → u ≡ now ++ y → is_long limits size ≡ false → frame_fault limits u ≡ fault_of (call_in limits body)
+  fault-in : (u x y : List ℕ) → u ≡ first ++ x → u ≡ now ++ y → is_long limits size ≡ false → frame_fault limits u ≡ fault_of (request_in limits body)
   fault-in u x y f g short =
       let front : from_be_bytes w32 u ≡ size = ap (from_be_bytes w32) f ∙ size-in-front first x four ∙ sym number in
       let long : 4 + from_be_bytes w32 u ≤ length u = omega (arith, front, ap (λ (xs : List ℕ). length xs) g, length-append now y) in
       whole-fault limits u long (ap (is_long limits) front ∙ short)
-      ∙ ap (λ (n : ℕ). fault_of (call_in limits (take n (drop 4 u)))) front
-      ∙ ap (λ (xs : List ℕ). fault_of (call_in limits (take size xs))) (ap (drop 4) g ∙ drop-append-le 4 now y (omega arith))
-      ∙ ap (λ (xs : List ℕ). fault_of (call_in limits xs)) (take-append-le size (drop 4 now) y (omega (arith, length-drop 4 now)) ∙ sym body-in)
+      ∙ ap (λ (n : ℕ). fault_of (request_in limits (take n (drop 4 u)))) front
+      ∙ ap (λ (xs : List ℕ). fault_of (request_in limits (take size xs))) (ap (drop 4) g ∙ drop-append-le 4 now y (omega arith))
+      ∙ ap (λ (xs : List ℕ). fault_of (request_in limits xs)) (take-append-le size (drop 4 now) y (omega (arith, length-drop 4 now)) ∙ sym body-in)
 
   -- what is wrong with its body is what is wrong with the frame in front
-  pub call-wrong : (a : Option (List ℕ)) (e : FrameFault) → Keeps a (prepend_known first m) → Keeps (prepend_known first m) (prepend_known now b) → is_long limits size ≡ false
-      → (e ≢ Memory → call_in limits body ≡ Err e) → IsWrong limits a e
-  call-wrong a e kept again short is = λ other memory. known a (in-front a m b first now kept again) memory
+  pub request-wrong : (a : Option (List ℕ)) (e : FrameFault) → Keeps a (prepend_known first m) → Keeps (prepend_known first m) (prepend_known now b) → is_long limits size ≡ false
+      → (e ≢ Memory → request_in limits body ≡ Err e) → IsWrong limits a e
+  request-wrong a e kept again short is = λ other memory. known a (in-front a m b first now kept again) memory
     where
       known : (o : Option (List ℕ)) → IfSome o (λ u. (x : List ℕ) × (y : List ℕ) × (u ≡ first ++ x) × (u ≡ now ++ y) × (b ≡ Some y)) → e ≢ Memory → IfSome o (λ bytes. frame_fault limits bytes ≡ Some e)
       known None h memory = tt

@@ -1,12 +1,14 @@
 mod Answers
 mod Ssas
 mod CallFrames
+mod RequestFrames
 mod Frames
 mod LongestKeys
 mod Apart
 mod AnswersApart
-mod Calls
-mod Turns
+mod OneRequest
+mod MoreRequests
+mod Nexts
 mod SoFar
 mod Closing
 mod Opened

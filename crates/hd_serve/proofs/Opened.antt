@@ -1,99 +1,115 @@
 -- Serving over the volume of a store's bytes.
-use Rattle.std.proofs.Common.{◌≡◌, IsTrue, ℕ, List, [], Bool, Option, sym, ap, ◌∙◌, subst, refl}
-use Rattle.std.specs.Io.KnownBytes.{prepend_known}
-use Rattle.std.proofs.KnownBytes.{prepend_known-nil}
+use Rattle.std.proofs.Common.{◌≡◌, ◌⊎◌, IsTrue, ℕ, List, [], Bool, true, false, Option, inl, inr, sym, ap, ◌∙◌, subst, refl}
 use Rattle.hd_dbd.specs.Types.{View}
 use Rattle.hd_dbd.specs.Hierarchy.{Database}
 use Rattle.hd_dbd.specs.Facts.{stored_sizes}
-use Rattle.hd_dbd.specs.Logs.{Entry, Log}
+use Rattle.hd_dbd.specs.Logs.{Entry}
 use Rattle.hd_calls.specs.NoLostUpdate.{opened}
+use Rattle.hd_stores.specs.Stores.{Committed, FailsCommit}
 use Rattle.hd_volume.specs.Volumes.{VolumeState}
 use Rattle.hd_links.specs.Placed.{forest_of}
 use Rattle.hd_links.specs.Steps.{rows_of}
 use Rattle.hd_image.specs.Holding.{volume_of}
 use Rattle.hd_image.proofs.OneImage.{held-same}
-use Rattle.hd_session.specs.Opening.{SessionState, session_at_start, IsReadyFor, IsOpenedOver}
+use Rattle.hd_session.specs.Opening.{SessionState, session_at_start, IsOpenedOver}
 use Rattle.hd_session.specs.Turns.{Turn, AreMade}
 use Rattle.hd_deck.specs.Runs.{IsPlayed}
 use Rattle.hd_serve.specs.declared.call.Limits.{Limits}
-use Rattle.hd_serve.specs.Frames.{frame_bytes}
-use Rattle.hd_serve.specs.Hello.{hello_bytes}
+use Rattle.hd_serve.specs.declared.desk.Ending.{Ending}
 use Rattle.hd_serve.specs.declared.desk.Stop.{Stop}
 use Rattle.hd_serve.specs.declared.desk.Stop.TheVariants as stop
-use Rattle.hd_serve.specs.Serves.{limits_of, AreServedOut, AreMadeOut, ServesOut, MakesOut, IsServedOut, LeavesAt, IsAnswered, IsWholeService, IsServeFaultOf, fault_of}
+use Rattle.hd_serve.specs.Requests.{Request, calls_in, committed_by, Lasts}
+use Rattle.hd_serve.specs.Serves.{limits_of, AreDone, AreServedOut, AreDoneOut, AreBrokenOut, ServesOut, DoesOut, BreaksOut, Stored, Leaves, IsServedOut, LeavesAt, IsDone, IsAnswered, IsDoneUntilFailure, IsWholeService, IsServeFaultOf, fault_of}
 
--- A session was opened over the volume of a sound store's bytes.
-pub record IsOpenedWith (d : Database) (pcbs : List View) (bytes : List ℕ) (v : VolumeState) (s : SessionState) : Type 0 where
-  pub image : v.image ≡ bytes
+-- A session was opened over the volume of a sound store.
+pub record IsOpenedWith (d : Database) (pcbs : List View) (store : Stored) (v : VolumeState) (s : SessionState) : Type 0 where
+  pub image : v.image ≡ store.bytes
   pub size : v.size ≡ d.block_size
   pub sizes : v.sizes ≡ stored_sizes d.types
   pub start : s ≡ session_at_start d pcbs s.volume
   pub sound : IsTrue s.volume.is_sound
-  pub now : s.volume.image ≡ bytes
+  pub now : s.volume.image ≡ store.bytes
+  pub committed : s.volume.committed ≡ store.committed
   pub over : IsOpenedOver d pcbs v s
 
-module _ (d : Database) (pcbs : List View) (bytes : List ℕ) (v : VolumeState) (s : SessionState) (given : IsOpenedWith d pcbs bytes v s) where
+-- what a commit that failed leaves, over a sound store
+fails_soundly : (sound : Bool) (contents : List ℕ) (old new : Committed) → FailsCommit sound contents old new → FailsCommit true contents old new
+fails_soundly true contents old new h = h
+fails_soundly false contents old new (inl same) = inl same
+fails_soundly false contents old new (inr tried) = cc
+
+module _ (d : Database) (pcbs : List View) (store : Stored) (v : VolumeState) (s : SessionState) (given : IsOpenedWith d pcbs store v s) where
   there : IsOpenedOver d pcbs v (session_at_start d pcbs s.volume)
   there = subst (λ (r : SessionState). IsOpenedOver d pcbs v r) given.start given.over
 
   is_played : (turns : List Turn) (entries : List (Entry (List ℕ))) (t : SessionState) (left : List ℕ)
       → AreMade (session_at_start d pcbs s.volume) (opened pcbs (rows_of there.ready.placed)) turns entries t → t.volume.image ≡ left
-      → IsPlayed d pcbs bytes turns (record { entries = entries; last = t.volume.image }) left
+      → IsPlayed d pcbs store.bytes turns (record { entries = entries; last = t.volume.image }) left
   is_played turns entries t left made ends = record {
     forest = forest_of there.ready.placed;
-    holds = (there.ready.placed, refl, held-same d v (volume_of d bytes) (sym given.image) (sym given.size) (sym given.sizes) there.ready.placed there.ready.holds);
-    one = λ g h. there.ready.one g (h.0, h.1, held-same d (volume_of d bytes) v given.image given.size given.sizes h.0 h.2);
+    holds = (there.ready.placed, refl, held-same d v (volume_of d store.bytes) (sym given.image) (sym given.size) (sym given.sizes) there.ready.placed there.ready.holds);
+    one = λ g h. there.ready.one g (h.0, h.1, held-same d (volume_of d store.bytes) v given.image given.size given.sizes h.0 h.2);
     legal = record { begins = made.begins ∙ given.now; runs = made.runs; follows = made.follows };
     asked = made.asked;
     lacking = made.lacking;
     ends = ends;
   }
 
-  -- calls that were served in it were answered
-  pub answered : (turns : List Turn) (old new : Option (List ℕ)) (lacking : ℕ) (left : List ℕ) → ServesOut s turns (frame_bytes (hello_bytes d pcbs)) old new lacking left
-      → IsAnswered d pcbs bytes turns old new lacking left
-  answered turns old new lacking left serves =
-      let p : AreServedOut (session_at_start d pcbs s.volume) (opened pcbs (rows_of there.ready.placed)) turns (frame_bytes (hello_bytes d pcbs)) old new lacking left =
-      (subst (λ (r : SessionState). ServesOut r turns (frame_bytes (hello_bytes d pcbs)) old new lacking left) given.start serves) (opened pcbs (rows_of there.ready.placed)) given.sound there.represents in
+  -- requests that were carried out in it came to a log, and to what a crash leaves
+  is_done : (requests : List Request) (entries : List (Entry (List ℕ))) (t : SessionState) (left : Stored)
+      → AreDone (session_at_start d pcbs s.volume) (opened pcbs (rows_of there.ready.placed)) requests entries t → Leaves t left → IsDone d pcbs store requests left
+  is_done requests entries t left done leaves = record {
+    log = record { entries = entries; last = t.volume.image };
+    played = is_played (calls_in requests) entries t left.bytes done.made leaves.0;
+    lasts = subst (λ (c : Committed). Lasts (committed_by requests entries t.volume.image) c left.committed) given.committed
+        (subst (λ (c : Committed). Lasts (committed_by requests entries t.volume.image) s.volume.committed c) leaves.1 done.lasts);
+  }
+
+  -- those that were served were answered
+  pub answered : (requests : List Request) (first : List ℕ) (old new : Option (List ℕ)) (lacking : ℕ) (left : Stored) → ServesOut s requests first old new lacking left
+      → IsAnswered d pcbs store requests first old new lacking left
+  unfolding is_done
+  answered requests first old new lacking left serves =
+      let p : AreServedOut (session_at_start d pcbs s.volume) (opened pcbs (rows_of there.ready.placed)) requests first old new lacking left =
+      (subst (λ (r : SessionState). ServesOut r requests first old new lacking left) given.start serves) (opened pcbs (rows_of there.ready.placed)) given.sound there.represents in
+      record { done = is_done requests p.served.entries p.last left p.served.done p.leaves; written = p.served.written; memory = p.served.memory }
+
+  pub carried_out : (requests : List Request) (left : Stored) → DoesOut s requests left → IsDone d pcbs store requests left
+  carried_out requests left does =
+      let p : AreDoneOut (session_at_start d pcbs s.volume) (opened pcbs (rows_of there.ready.placed)) requests left =
+      (subst (λ (r : SessionState). DoesOut r requests left) given.start does) (opened pcbs (rows_of there.ready.placed)) given.sound there.represents in
+      is_done requests p.entries p.last left p.done p.leaves
+
+  -- and so were those before a failed access
+  pub failed_behind : (requests : List Request) (left : Stored) → BreaksOut s requests left → IsDoneUntilFailure d pcbs store requests left
+  failed_behind requests left breaks =
+      let p : AreBrokenOut (session_at_start d pcbs s.volume) (opened pcbs (rows_of there.ready.placed)) requests left =
+      (subst (λ (r : SessionState). BreaksOut r requests left) given.start breaks) (opened pcbs (rows_of there.ready.placed)) given.sound there.represents in
+      let last : Stored = record { bytes = p.last.volume.image; committed = p.last.volume.committed } in
       record {
-        log = record { entries = p.served.entries; last = p.last.volume.image };
-        played = is_played turns p.served.entries p.last left p.served.made p.ends;
-        written = p.served.written;
-        memory = p.served.memory;
+        last = last;
+        done = is_done requests p.entries p.last last p.done (refl, refl);
+        fails = fails_soundly p.last.volume.is_sound p.last.volume.image p.last.volume.committed left.committed p.fails;
       }
 
-  -- and those that were made came to a log
-  pub logged : (turns : List Turn) (left : List ℕ) → MakesOut s turns left → (log : Log (List ℕ)) × IsPlayed d pcbs bytes turns log left
-  logged turns left makes =
-      let p : AreMadeOut (session_at_start d pcbs s.volume) (opened pcbs (rows_of there.ready.placed)) turns left =
-      (subst (λ (r : SessionState). MakesOut r turns left) given.start makes) (opened pcbs (rows_of there.ready.placed)) given.sound there.represents in
-      (record { entries = p.entries; last = p.last.volume.image }, is_played turns p.entries p.last left p.made p.ends)
-
-module _ (d : Database) (pcbs : List View) (sound : Bool) (bytes : List ℕ) (v : VolumeState) (s : SessionState) (given : IsTrue sound → IsOpenedWith d pcbs bytes v s) (input old new : Option (List ℕ)) (left : List ℕ) where
-  -- serving to the end of the input
-  pub whole_service : (calls lacking : ℕ) → IsServedOut (limits_of d pcbs) s input (frame_bytes (hello_bytes d pcbs)) old new calls lacking left → IsWholeService d pcbs sound bytes input old new calls lacking left
-  whole_service calls lacking p = record {
-    turns = p.turns;
+module _ (d : Database) (pcbs : List View) (sound : Bool) (store : Stored) (v : VolumeState) (s : SessionState) (given : IsTrue sound → IsOpenedWith d pcbs store v s) (input : Option (List ℕ)) (first : List ℕ) (old new : Option (List ℕ)) (left : Stored) where
+  -- serving to the end of the session
+  pub whole_service : (e : Ending) (after : Option (List ℕ)) (calls lacking : ℕ) → IsServedOut (limits_of d pcbs) s e input after first old new calls lacking left
+      → IsWholeService d pcbs sound store e input after first old new calls lacking left
+  whole_service e after calls lacking p = record {
+    requests = p.requests;
     asked = p.asked;
     count = p.count;
-    answered = λ is. answered d pcbs bytes v s (given is) p.turns old new lacking left p.serves;
+    answered = λ is. answered d pcbs store v s (given is) p.requests first old new lacking left p.serves;
   }
 
   -- serving until a stop
-  pub fault_at : (e : Stop) → LeavesAt (limits_of d pcbs) s input (frame_bytes (hello_bytes d pcbs)) old new e left → IsServeFaultOf d pcbs sound bytes input old new left (fault_of e)
-  fault_at stop.Device p = tt
-  fault_at stop.Write p = record { turns = p.turns; asked = p.asked; made = λ is. logged d pcbs bytes v s (given is) p.turns left p.makes }
+  pub fault_at : (e : Stop) → LeavesAt (limits_of d pcbs) s input first old new e left → IsServeFaultOf d pcbs sound store input first old new left (fault_of e)
+  fault_at stop.Device p = inr (record { requests = p.requests; asked = p.asked; done = λ is. failed_behind d pcbs store v s (given is) p.requests left p.breaks })
+  fault_at stop.Write p = record { requests = p.requests; asked = p.asked; done = λ is. carried_out d pcbs store v s (given is) p.requests left p.does }
   fault_at (stop.Frame e) p = record {
-    turns = p.turns;
+    requests = p.requests;
     asked = p.asked;
     lacking = p.lacking;
-    answered = λ is. answered d pcbs bytes v s (given is) p.turns old new p.lacking left p.serves;
+    answered = λ is. answered d pcbs store v s (given is) p.requests first old new p.lacking left p.serves;
   }
-
--- what is so of a first frame, of an input behind an empty buffer, and of limits, is so of those of the database and the program
-pub as_told : (d : Database) (pcbs : List View) (limits : Limits) (buffer head : List ℕ) (known : Option (List ℕ)) (P : Limits → Option (List ℕ) → List ℕ → Type 0)
-    → limits ≡ limits_of d pcbs → buffer ≡ [] → head ≡ frame_bytes (hello_bytes d pcbs) → P limits (prepend_known buffer known) head → P (limits_of d pcbs) known (frame_bytes (hello_bytes d pcbs))
-as_told d pcbs limits buffer head known P same empty hello p =
-    subst (λ (h : List ℕ). P (limits_of d pcbs) known h) hello
-    (subst (λ (o : Option (List ℕ)). P (limits_of d pcbs) o head) (ap (λ (xs : List ℕ). prepend_known xs known) empty ∙ prepend_known-nil known)
-    (subst (λ (l : Limits). P l (prepend_known buffer known) head) same p))

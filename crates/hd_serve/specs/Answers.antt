@@ -1,5 +1,5 @@
 -- Frames of answers.
-use Rattle.std.specs.Prelude.{ℕ, List, ◌∷◌, ◌++◌, length, codes, replicate, unwrap_or}
+use Rattle.std.specs.Prelude.{ℕ, List, [], ◌∷◌, ◌++◌, length, codes, replicate, unwrap_or}
 use Rattle.std.specs.Int.{w16, to_be_bytes}
 use Rattle.hd_dbd.specs.declared.answer.Refused.{Refused}
 use Rattle.hd_dbd.specs.declared.answer.Refused.TheVariants.{Memory, Full, Device, Broken, Area}
@@ -22,3 +22,7 @@ refused_number Broken = 5
 -- the body of a refusal's frame: its number, and behind it what an answer without segment, key and area has
 abbrev pub refusal_bytes : Refused → List ℕ
 refusal_bytes refused = refused_number refused ∷ (codes "  " ++ 0 ∷ (replicate 8 32 ++ to_be_bytes w16 0))
+
+-- the body of the frame that says that a commit or a roll back is done: 6
+abbrev pub done_bytes : List ℕ
+done_bytes = 6 ∷ []

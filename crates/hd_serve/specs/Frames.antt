@@ -1,10 +1,12 @@
--- Frames of calls: how they are spelled, and what is wrong with bytes that spell none.
+-- Frames of requests: how they are spelled, and what is wrong with bytes that spell none.
 use Rattle.std.specs.Prelude.{◌≡◌, ◌≢◌, ℕ, zero, suc, ◌+◌, ◌<◌, ◌≤◌, ◌^◌, List, [], ◌∷◌, ◌++◌, length, take, drop, flat_map, All, Bool, ◌||◌, ◌==◌, nat_lt, cond, slice_index, Option, Some, None, option_map, Result, Ok, Err, IfSome}
 use Rattle.std.specs.Int.{w16, w32, to_be_bytes, from_be_bytes}
 use Rattle.std.specs.Io.KnownBytes.{Consumes}
 use Rattle.hd_serve.specs.declared.call.Limits.{Limits}
 use Rattle.hd_serve.specs.declared.fault.FrameFault.{FrameFault}
-use Rattle.hd_serve.specs.declared.fault.FrameFault.TheVariants.{Read, Memory, Cut, Long, Short, Kind, Pcb, Ssas, Area}
+use Rattle.hd_serve.specs.declared.fault.FrameFault.TheVariants.{Read, Memory, Cut, Long, Short, Extra, Kind, Pcb, Ssas, Area}
+use Rattle.hd_serve.specs.declared.request.FramedRequest.{FramedRequest}
+use Rattle.hd_serve.specs.declared.request.FramedRequest.TheVariants as asks
 use Rattle.hd_session.specs.Turns.{Turn}
 
 -- ---- spelling
@@ -21,6 +23,12 @@ ssa_bytes ssa = to_be_bytes w16 (length ssa) ++ ssa
 abbrev pub call_bytes : Turn → List ℕ
 call_bytes c = 1 ∷ c.pcb ∷ (c.call.function ++ length c.call.ssas ∷ (flat_map ssa_bytes c.call.ssas ++ c.call.area))
 
+-- the body of a request's frame: that of its call, 2 for a commit, and 3 for a roll back
+abbrev pub request_bytes : FramedRequest → List ℕ
+request_bytes (asks.Call c) = call_bytes c
+request_bytes asks.Commit = 2 ∷ []
+request_bytes asks.RollBack = 3 ∷ []
+
 -- What has a right frame: a call of one of the PCBs, with a function of four bytes, at most 15 arguments of at most 65,535 bytes, and an area of
 -- no more bytes than the limit.
 pub record CallFits (limits : Limits) (c : Turn) : Type 0 where
@@ -30,6 +38,12 @@ pub record CallFits (limits : Limits) (c : Turn) : Type 0 where
   pub few : length c.call.ssas ≤ 15
   pub short : All (λ ssa. length ssa < 2 ^ 16) c.call.ssas
   pub fits : length c.call.area ≤ limits.area
+
+-- a right request: its call is a right one; a commit and a roll back are always right
+abbrev pub RequestFits : Limits → FramedRequest → Type 0
+RequestFits limits (asks.Call c) = CallFits limits c
+RequestFits limits asks.Commit = Unit {0}
+RequestFits limits asks.RollBack = Unit {0}
 
 -- more bytes than the body of a right frame has: 7, 15 arguments of 65,537 each, and the longest area
 abbrev pub is_long : Limits → ℕ → Bool
@@ -67,9 +81,24 @@ call_in limits body =
     (with_ssas limits (slice_index body 1) (take 4 (drop 2 body)) (ssas_in (slice_index body 6) (drop 7 body)))))
     (Err (Kind (slice_index body 0))))
 
+-- the request of a call, if one was read
+abbrev pub request_of_call : Result Turn FrameFault → Result FramedRequest FrameFault
+request_of_call (Ok c) = Ok (asks.Call c)
+request_of_call (Err e) = Err e
+
+-- the request of a kind that is all of the body
+abbrev pub alone : FramedRequest → ℕ → List ℕ → Result FramedRequest FrameFault
+alone r kind body = cond (length body == 1) (Ok r) (Err (Extra kind))
+
+-- the request of the body of a frame, or the first fault in it
+abbrev pub request_in : Limits → List ℕ → Result FramedRequest FrameFault
+request_in limits body =
+    cond (slice_index body 0 == 2) (alone asks.Commit 2 body)
+    (cond (slice_index body 0 == 3) (alone asks.RollBack 3 body) (request_of_call (call_in limits body)))
+
 -- the fault, if it is one
-abbrev pub fault_of : Result Turn FrameFault → Option FrameFault
-fault_of (Ok c) = None
+abbrev pub fault_of : Result FramedRequest FrameFault → Option FrameFault
+fault_of (Ok r) = None
 fault_of (Err e) = Some e
 
 -- what is wrong with the frame in front of an input; none where there is no byte. An input that ends too early has a cut frame.
@@ -79,14 +108,14 @@ frame_fault limits bytes =
     (cond (nat_lt (length bytes) 4) (Some Cut)
     (cond (is_long limits (from_be_bytes w32 bytes)) (Some (Long (from_be_bytes w32 bytes)))
     (cond (nat_lt (length bytes) (4 + from_be_bytes w32 bytes)) (Some Cut)
-    (fault_of (call_in limits (take (from_be_bytes w32 bytes) (drop 4 bytes)))))))
+    (fault_of (request_in limits (take (from_be_bytes w32 bytes) (drop 4 bytes)))))))
 
 -- ---- what is read
 
--- The input began with the frame of this call, which is a right one, and just that was taken.
-pub record IsCallRead (limits : Limits) (before : Option (List ℕ)) (c : Turn) (after : Option (List ℕ)) : Type 0 where
-  pub fits : CallFits limits c
-  pub taken : Consumes before after (frame_bytes (call_bytes c))
+-- The input began with the frame of this request, which is a right one, and just that was taken.
+pub record IsRequestRead (limits : Limits) (before : Option (List ℕ)) (r : FramedRequest) (after : Option (List ℕ)) : Type 0 where
+  pub fits : RequestFits limits r
+  pub taken : Consumes before after (frame_bytes (request_bytes r))
 
 -- the fault is that of the frame in front of the input; a failed read and want of memory say nothing
 abbrev pub IsWrong : Limits → Option (List ℕ) → FrameFault → Type 0

@@ -8,9 +8,9 @@ use Rattle.hd_dbd.specs.Types.{SegmentType, View}
 use Rattle.hd_dbd.specs.Hierarchy.{Database, weights, level_of, greatest}
 use Rattle.hd_dbd.specs.Lengths.{least_length}
 
--- a field: its name and its length
+-- a field: its name, the place of its first byte, from 1, and its length
 abbrev pub field_bytes : Field → List ℕ
-field_bytes f = f.name ++ to_be_bytes w16 f.length
+field_bytes f = f.name ++ (to_be_bytes w16 f.start ++ to_be_bytes w16 f.length)
 
 -- the type of a code: its name and level; 1 where its segments vary in length, else 0; the most and the least bytes of them; and its fields
 abbrev pub type_bytes : List SegmentType → ℕ → SegmentType → List ℕ
@@ -43,13 +43,13 @@ abbrev pub pcb_bytes : Database → View → List ℕ
 pcb_bytes d pcb =
     d.name ++ (procopt_bytes pcb.procopt ++ (to_be_bytes w16 (length pcb.sens) ++ to_be_bytes w16 (longest_key d.types pcb)))
 
--- the body of the first frame: the mark, version 1, the number of PCBs and of types, the types, and the PCBs
+-- the body of the first frame: the mark, version 2, the number of PCBs and of types, the types, and the PCBs
 abbrev pub hello_bytes : Database → List View → List ℕ
-hello_bytes d pcbs = codes "HD" ++ (to_be_bytes w16 1 ++ length pcbs ∷ length d.types ∷ (types_bytes d.types 1 d.types ++ flat_map (pcb_bytes d) pcbs))
+hello_bytes d pcbs = codes "HD" ++ (to_be_bytes w16 2 ++ length pcbs ∷ length d.types ∷ (types_bytes d.types 1 d.types ++ flat_map (pcb_bytes d) pcbs))
 
 -- each number has room in its place
 abbrev pub field_fits : Field → Bool
-field_fits f = nat_lt f.length 65536
+field_fits f = nat_lt f.start 65536 && nat_lt f.length 65536
 
 abbrev pub type_fits : SegmentType → Bool
 type_fits t = nat_lt t.length 65536 && nat_lt (least_length t) 65536 && nat_lt (length t.fields) 256 && list_all field_fits t.fields

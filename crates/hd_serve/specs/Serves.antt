@@ -1,12 +1,14 @@
--- What serving a program's calls comes to: the calls that came in frames, the log of them, the answers, and what is left.
-use Rattle.std.specs.Prelude.{◌≡◌, ◌≢◌, IsTrue, ℕ, ◌<◌, List, [], ◌∷◌, ◌++◌, length, flat_map, All, Bool, true, false, Option, Some, None, Result, Ok, Err, IfSome}
+-- What serving a program's requests comes to: the requests that came in frames, the log of their calls, what their commits made last, the answers, and
+-- what is left.
+use Rattle.std.specs.Prelude.{◌≡◌, ◌≢◌, ◌⊎◌, IsTrue, ℕ, ◌<◌, ◌≤◌, List, [], ◌∷◌, ◌++◌, length, All, Bool, true, false, Option, Some, None, Result, Ok, Err, IfSome}
 use Rattle.std.specs.Io.KnownBytes.{Appends, Consumes, IsAtEnd, prepend_known}
 use Rattle.hd_dbd.specs.declared.answer.Refused.{Refused}
 use Rattle.hd_dbd.specs.declared.answer.Refused.TheVariants as refused
 use Rattle.hd_dbd.specs.Types.{View}
 use Rattle.hd_dbd.specs.Hierarchy.{Database, longest_path}
-use Rattle.hd_dbd.specs.Logs.{Outcome, replied, area, full, memory, Entry, Log}
+use Rattle.hd_dbd.specs.Logs.{Entry, Log}
 use Rattle.hd_calls.specs.Steps.{State}
+use Rattle.hd_stores.specs.Stores.{Committed, FailsCommit}
 use Rattle.hd_image.specs.Holding.{volume_of}
 use Rattle.hd_update.specs.States.{Represents}
 use Rattle.hd_session.specs.declared.call_and_answer.Answer.{Answer}
@@ -14,57 +16,53 @@ use Rattle.hd_session.specs.declared.opening.OpenFault.TheVariants as opening
 use Rattle.hd_session.specs.Buffer.{Buffer}
 use Rattle.hd_session.specs.Replies.{reply_of}
 use Rattle.hd_session.specs.Opening.{SessionState, IsOpenFaultOf}
-use Rattle.hd_session.specs.Turns.{Turn, StaysWhole, AreMade}
+use Rattle.hd_session.specs.Turns.{StaysWhole, AreMade}
 use Rattle.hd_deck.specs.Runs.{memory_in, Breaks, IsPlayed}
 use Rattle.hd_serve.specs.declared.call.Limits.{Limits}
 use Rattle.hd_serve.specs.declared.fault.FrameFault.{FrameFault}
-use Rattle.hd_serve.specs.Frames.{frame_bytes, call_bytes, CallFits, IsWrong}
+use Rattle.hd_serve.specs.declared.request.FramedRequest.TheVariants as asks
+use Rattle.hd_serve.specs.Frames.{frame_bytes, request_bytes, RequestFits, IsWrong}
 use Rattle.hd_serve.specs.Answers.{answer_bytes, refusal_bytes}
-use Rattle.hd_serve.specs.Hello.{hello_bytes, hello_fits}
+use Rattle.hd_serve.specs.Requests.{Request, framed, calls_in, frames_of, answers_to, committed_by, Lasts}
+use Rattle.hd_serve.specs.Hello.{hello_fits}
+use Rattle.hd_serve.specs.Services.{ServiceState}
 use Rattle.hd_serve.specs.declared.answered_calls.Halt.{Halt}
 use Rattle.hd_serve.specs.declared.answered_calls.Halt.TheVariants as halt
 use Rattle.hd_serve.specs.declared.desk.Stop.{Stop}
 use Rattle.hd_serve.specs.declared.desk.Stop.TheVariants as stop
+use Rattle.hd_serve.specs.declared.desk.Ending.{Ending}
+use Rattle.hd_serve.specs.declared.desk.Ending.TheVariants as ending
+use Rattle.hd_serve.specs.declared.desk.Next.{Next}
+use Rattle.hd_serve.specs.declared.desk.Next.TheVariants as next
 use Rattle.hd_serve.specs.declared.service.ServeFault.{ServeFault}
 use Rattle.hd_serve.specs.declared.service.ServeFault.TheVariants as serve
 use Rattle.hd_serve.specs.declared.desk.Desk.{Desk}
-use Rattle.hd_serve.specs.declared.desk.Count.{Count}
-use Rattle.hd_serve.specs.declared.service.ServeEnd.{ServeEnd}
+use Rattle.hd_serve.specs.declared.answered_calls.Count.{Count}
 
--- ---- frames
-
--- the frames of calls, one behind the other
-abbrev pub frames_of : List Turn → List ℕ
-frames_of turns = flat_map (λ t. frame_bytes (call_bytes t)) turns
-
--- the body of the frame that says what a call came to
-abbrev pub outcome_bytes : Outcome → List ℕ
-outcome_bytes (replied r) = answer_bytes r
-outcome_bytes area = refusal_bytes refused.Area
-outcome_bytes full = refusal_bytes refused.Full
-outcome_bytes memory = refusal_bytes refused.Memory
+-- ---- the input
 
 -- the body of the frame that says what a call answered
 abbrev pub answered_bytes : Result Answer Refused → Buffer → List ℕ
 answered_bytes (Ok a) b = answer_bytes (reply_of a b)
 answered_bytes (Err e) b = refusal_bytes e
 
--- the frames of the answers of entries, one behind the other
-abbrev pub answers_of : {Image : Type 0} → List (Entry Image) → List ℕ
-answers_of entries = flat_map (λ e. frame_bytes (outcome_bytes e.outcome)) entries
-
 -- what a right frame keeps to, where calls are made by the PCBs of a program
 abbrev pub limits_of : Database → List View → Limits
 limits_of d pcbs = record { pcbs = length pcbs; area = longest_path d.types }
 
--- The input begins with the frames of these calls, each a right one, and this is so of what is behind them.
-pub record AreAsked (limits : Limits) (input : Option (List ℕ)) (turns : List Turn) (Behind : List ℕ → Type 0) : Type 0 where
-  pub right : All (λ t. CallFits limits t) turns
-  pub spelled : IfSome input (λ bytes. (rest : List ℕ) × (bytes ≡ frames_of turns ++ rest) × Behind rest)
+-- The input begins with the frames of these requests, each a right one, and this is so of what is behind them.
+pub record AreAsked (limits : Limits) (input : Option (List ℕ)) (requests : List Request) (Behind : List ℕ → Type 0) : Type 0 where
+  pub right : All (λ r. RequestFits limits (framed r)) requests
+  pub spelled : IfSome input (λ bytes. (rest : List ℕ) × (bytes ≡ frames_of requests ++ rest) × Behind rest)
 
--- the input ends
-abbrev pub Ends : List ℕ → Type 0
-Ends rest = rest ≡ []
+-- the input ends, or a roll back's frame comes, which is taken
+abbrev pub EndsBy : Ending → Option (List ℕ) → Option (List ℕ) → Type 0
+EndsBy ending.Input before after = IsAtEnd before
+EndsBy ending.RollBack before after = Consumes before after (frame_bytes (request_bytes asks.RollBack))
+
+-- so a session ends, and this is unread then
+abbrev pub Ends : Ending → Option (List ℕ) → List ℕ → Type 0
+Ends e after rest = EndsBy e (Some rest) after
 
 -- a frame begins that is no right one
 abbrev pub GoesWrong : Limits → FrameFault → List ℕ → Type 0
@@ -76,50 +74,76 @@ GoesOn rest = Unit {0}
 
 -- ---- in a session
 
--- The calls were made, and behind some bytes their answers were written; and so many of them found no memory.
-pub record AreServed (s : SessionState) (st : State) (turns : List Turn) (head : List ℕ) (old new : Option (List ℕ)) (lacking : ℕ) (t : SessionState) : Type 0 where
+-- Requests were carried out: their calls came to these entries, and a crash leaves what the last commit among them made last.
+pub record AreDone (s : SessionState) (st : State) (requests : List Request) (entries : List (Entry (List ℕ))) (t : SessionState) : Type 0 where
+  pub made : AreMade s st (calls_in requests) entries t
+  pub lasts : Lasts (committed_by requests entries t.volume.image) s.volume.committed t.volume.committed
+
+-- Requests were carried out, and behind some bytes their answers were written; and so many of the calls found no memory.
+pub record AreServed (s : SessionState) (st : State) (requests : List Request) (head : List ℕ) (old new : Option (List ℕ)) (lacking : ℕ) (t : SessionState) : Type 0 where
   pub entries : List (Entry (List ℕ))
-  pub made : AreMade s st turns entries t
-  pub written : Appends old new (head ++ answers_of entries)
+  pub done : AreDone s st requests entries t
+  pub written : Appends old new (head ++ answers_to requests entries)
   pub memory : lacking ≡ memory_in entries
 
--- whatever state the session stood for, the calls were served from it
-abbrev pub ServesAll : SessionState → List Turn → List ℕ → Option (List ℕ) → Option (List ℕ) → ℕ → SessionState → Type 0
-ServesAll s turns head old new lacking t = (st : State) → IsTrue s.volume.is_sound → Represents s.database s.volume s.kept st → AreServed s st turns head old new lacking t
+-- Requests were carried out, and then an access failed: maybe in a commit, and then a crash may leave the image behind them too.
+pub record AreBroken (s : SessionState) (st : State) (requests : List Request) (t : SessionState) : Type 0 where
+  pub last : SessionState
+  pub entries : List (Entry (List ℕ))
+  pub done : AreDone s st requests entries last
+  pub fails : FailsCommit last.volume.is_sound last.volume.image last.volume.committed t.volume.committed
 
--- whatever state the session stood for, the calls were made from it, their answers written or not
-abbrev pub MakesAll : SessionState → List Turn → SessionState → Type 0
-MakesAll s turns t = (st : State) → IsTrue s.volume.is_sound → Represents s.database s.volume s.kept st → (entries : List (Entry (List ℕ))) × AreMade s st turns entries t
+-- whatever state the session stood for, the requests were served from it
+abbrev pub ServesAll : SessionState → List Request → List ℕ → Option (List ℕ) → Option (List ℕ) → ℕ → SessionState → Type 0
+ServesAll s requests head old new lacking t = (st : State) → IsTrue s.volume.is_sound → Represents s.database s.volume s.kept st → AreServed s st requests head old new lacking t
 
--- what a halt at a call says of it: it was made, where its answer was not written; a failed access says nothing
-abbrev pub HaltsAt : SessionState → Turn → Halt → SessionState → Type 0
-HaltsAt s turn halt.Device t = Unit {0}
-HaltsAt s turn halt.Write t = MakesAll s (turn ∷ []) t
+-- whatever state the session stood for, the requests were carried out from it, their answers written or not
+abbrev pub DoesAll : SessionState → List Request → SessionState → Type 0
+DoesAll s requests t = (st : State) → IsTrue s.volume.is_sound → Represents s.database s.volume s.kept st → (entries : List (Entry (List ℕ))) × AreDone s st requests entries t
+
+-- whatever state the session stood for, the requests were carried out from it, and then an access failed
+abbrev pub BreaksBehind : SessionState → List Request → SessionState → Type 0
+BreaksBehind s requests t = (st : State) → IsTrue s.volume.is_sound → Represents s.database s.volume s.kept st → AreBroken s st requests t
+
+-- what a failed access leaves for a crash: what there was, or, where it was one of a commit, the image of the session too
+abbrev pub FailsIn : SessionState → SessionState → Type 0
+FailsIn s t = FailsCommit s.volume.is_sound s.volume.image s.volume.committed t.volume.committed
+
+-- what a halt at a request says of it: it was carried out, where its answer was not written; where an access failed, what a crash leaves
+abbrev pub HaltsAt : SessionState → Request → Halt → SessionState → Type 0
+HaltsAt s request halt.Device t = FailsIn s t
+HaltsAt s request halt.Write t = DoesAll s (request ∷ []) t
 
 -- and of the session
 abbrev pub IsHalted : SessionState → Halt → SessionState → Type 0
 IsHalted s halt.Device t = Breaks s t
 IsHalted s halt.Write t = StaysWhole s t
 
--- One call was taken from the input and served.
-pub record IsServedNext (limits : Limits) (s : SessionState) (before after old new : Option (List ℕ)) (lacking : ℕ) (t : SessionState) : Type 0 where
-  pub turn : Turn
-  pub right : CallFits limits turn
-  pub taken : Consumes before after (frame_bytes (call_bytes turn))
-  pub serves : ServesAll s (turn ∷ []) [] old new lacking t
+-- One request was served, which is so many calls, and so many of them found no memory.
+pub record IsServed (s : SessionState) (request : Request) (old new : Option (List ℕ)) (calls lacking : ℕ) (t : SessionState) : Type 0 where
+  pub count : calls ≡ length (calls_in (request ∷ []))
+  pub few : lacking ≤ calls
+  pub serves : ServesAll s (request ∷ []) [] old new lacking t
 
--- One call was taken from the input and made; its answer was not written.
-pub record IsMadeNext (limits : Limits) (s : SessionState) (before : Option (List ℕ)) (t : SessionState) : Type 0 where
-  pub turn : Turn
-  pub right : CallFits limits turn
+-- One request was taken from the input and served.
+pub record IsServedNext (limits : Limits) (s : SessionState) (before after old new : Option (List ℕ)) (calls lacking : ℕ) (t : SessionState) : Type 0 where
+  pub request : Request
+  pub right : RequestFits limits (framed request)
+  pub taken : Consumes before after (frame_bytes (request_bytes (framed request)))
+  pub served : IsServed s request old new calls lacking t
+
+-- One request was taken from the input and carried out; its answer was not written.
+pub record IsDoneNext (limits : Limits) (s : SessionState) (before : Option (List ℕ)) (t : SessionState) : Type 0 where
+  pub request : Request
+  pub right : RequestFits limits (framed request)
   pub after : Option (List ℕ)
-  pub taken : Consumes before after (frame_bytes (call_bytes turn))
-  pub makes : MakesAll s (turn ∷ []) t
+  pub taken : Consumes before after (frame_bytes (request_bytes (framed request)))
+  pub does : DoesAll s (request ∷ []) t
 
--- what a stop at the next call says
+-- what a stop at the next request says
 abbrev pub StopsNext : Limits → SessionState → Option (List ℕ) → Option (List ℕ) → Option (List ℕ) → Stop → SessionState → Type 0
-StopsNext limits s before old new stop.Device t = Unit {0}
-StopsNext limits s before old new stop.Write t = IsMadeNext limits s before t
+StopsNext limits s before old new stop.Device t = FailsIn s t
+StopsNext limits s before old new stop.Write t = IsDoneNext limits s before t
 StopsNext limits s before old new (stop.Frame e) t = IsWrong limits before e × (t ≡ s) × (new ≡ old)
 
 -- what a stop says of the session
@@ -128,128 +152,182 @@ StopsAt s stop.Device t = Breaks s t
 StopsAt s stop.Write t = StaysWhole s t
 StopsAt s (stop.Frame e) t = StaysWhole s t
 
--- The input was the frames of calls, and all of them were served.
-pub record IsServedToTheEnd (limits : Limits) (s : SessionState) (input : Option (List ℕ)) (head : List ℕ) (old new : Option (List ℕ)) (calls lacking : ℕ) (t : SessionState) : Type 0 where
-  pub turns : List Turn
-  pub asked : AreAsked limits input turns Ends
-  pub count : calls ≡ length turns
-  pub serves : ServesAll s turns head old new lacking t
+-- The input was the frames of requests up to the end of the session, and all of them were served.
+pub record IsServedToTheEnd (limits : Limits) (s : SessionState) (e : Ending) (input after : Option (List ℕ)) (head : List ℕ) (old new : Option (List ℕ)) (calls lacking : ℕ) (t : SessionState) : Type 0 where
+  pub requests : List Request
+  pub asked : AreAsked limits input requests (Ends e after)
+  pub count : calls ≡ length (calls_in requests)
+  pub serves : ServesAll s requests head old new lacking t
 
--- The input began with the frames of calls, and all of them were made; the answers of all but the last were written.
-pub record IsMadeInPart (limits : Limits) (s : SessionState) (input : Option (List ℕ)) (t : SessionState) : Type 0 where
-  pub turns : List Turn
-  pub asked : AreAsked limits input turns GoesOn
-  pub makes : MakesAll s turns t
+-- The input began with the frames of requests, and all of them were carried out; the answers of all but the last were written.
+pub record IsDoneInPart (limits : Limits) (s : SessionState) (input : Option (List ℕ)) (t : SessionState) : Type 0 where
+  pub requests : List Request
+  pub asked : AreAsked limits input requests GoesOn
+  pub does : DoesAll s requests t
 
--- The input began with the frames of calls, and all of them were served; then came a wrong one.
+-- The input began with the frames of requests, all of them were carried out, and then an access failed.
+pub record IsBrokenInPart (limits : Limits) (s : SessionState) (input : Option (List ℕ)) (t : SessionState) : Type 0 where
+  pub requests : List Request
+  pub asked : AreAsked limits input requests GoesOn
+  pub breaks : BreaksBehind s requests t
+
+-- The input began with the frames of requests, and all of them were served; then came a wrong one.
 pub record IsServedInPart (limits : Limits) (s : SessionState) (input : Option (List ℕ)) (head : List ℕ) (old new : Option (List ℕ)) (e : FrameFault) (t : SessionState) : Type 0 where
-  pub turns : List Turn
-  pub asked : AreAsked limits input turns (GoesWrong limits e)
+  pub requests : List Request
+  pub asked : AreAsked limits input requests (GoesWrong limits e)
   pub lacking : ℕ
-  pub serves : ServesAll s turns head old new lacking t
+  pub serves : ServesAll s requests head old new lacking t
 
--- what a stop says of the calls
+-- what a stop says of the requests
 abbrev pub ServesUntil : Limits → SessionState → Option (List ℕ) → List ℕ → Option (List ℕ) → Option (List ℕ) → Stop → SessionState → Type 0
-ServesUntil limits s input head old new stop.Device t = Unit {0}
-ServesUntil limits s input head old new stop.Write t = IsMadeInPart limits s input t
+ServesUntil limits s input head old new stop.Device t = IsBrokenInPart limits s input t
+ServesUntil limits s input head old new stop.Write t = IsDoneInPart limits s input t
 ServesUntil limits s input head old new (stop.Frame e) t = IsServedInPart limits s input head old new e t
 
 -- ---- a session that is closed
 
--- The calls were served, and the bytes that are left are those behind the last.
-pub record AreServedOut (s : SessionState) (st : State) (turns : List Turn) (head : List ℕ) (old new : Option (List ℕ)) (lacking : ℕ) (left : List ℕ) : Type 0 where
-  pub last : SessionState
-  pub served : AreServed s st turns head old new lacking last
-  pub ends : last.volume.image ≡ left
+-- What stands in a store: its bytes, and what a crash leaves of it.
+pub record Stored : Type 0 where
+  pub bytes : List ℕ
+  pub committed : Committed
 
--- The calls were made, and the bytes that are left are those behind the last.
-pub record AreMadeOut (s : SessionState) (st : State) (turns : List Turn) (left : List ℕ) : Type 0 where
+-- what a session leaves in its store when it is closed
+abbrev pub Leaves : SessionState → Stored → Type 0
+Leaves t left = (t.volume.image ≡ left.bytes) × (t.volume.committed ≡ left.committed)
+
+-- The requests were served, and the last of them left this.
+pub record AreServedOut (s : SessionState) (st : State) (requests : List Request) (head : List ℕ) (old new : Option (List ℕ)) (lacking : ℕ) (left : Stored) : Type 0 where
+  pub last : SessionState
+  pub served : AreServed s st requests head old new lacking last
+  pub leaves : Leaves last left
+
+-- The requests were carried out, and the last of them left this.
+pub record AreDoneOut (s : SessionState) (st : State) (requests : List Request) (left : Stored) : Type 0 where
   pub last : SessionState
   pub entries : List (Entry (List ℕ))
-  pub made : AreMade s st turns entries last
-  pub ends : last.volume.image ≡ left
+  pub done : AreDone s st requests entries last
+  pub leaves : Leaves last left
 
--- whatever state the session stood for, the calls were served from it, and these bytes are left
-abbrev pub ServesOut : SessionState → List Turn → List ℕ → Option (List ℕ) → Option (List ℕ) → ℕ → List ℕ → Type 0
-ServesOut s turns head old new lacking left = (st : State) → IsTrue s.volume.is_sound → Represents s.database s.volume s.kept st → AreServedOut s st turns head old new lacking left
+-- The requests were carried out, and then an access failed: of what is left something is said only for a crash.
+pub record AreBrokenOut (s : SessionState) (st : State) (requests : List Request) (left : Stored) : Type 0 where
+  pub last : SessionState
+  pub entries : List (Entry (List ℕ))
+  pub done : AreDone s st requests entries last
+  pub fails : FailsCommit last.volume.is_sound last.volume.image last.volume.committed left.committed
 
--- whatever state the session stood for, the calls were made from it, and these bytes are left
-abbrev pub MakesOut : SessionState → List Turn → List ℕ → Type 0
-MakesOut s turns left = (st : State) → IsTrue s.volume.is_sound → Represents s.database s.volume s.kept st → AreMadeOut s st turns left
+-- whatever state the session stood for, the requests were served from it, and this is left
+abbrev pub ServesOut : SessionState → List Request → List ℕ → Option (List ℕ) → Option (List ℕ) → ℕ → Stored → Type 0
+ServesOut s requests head old new lacking left = (st : State) → IsTrue s.volume.is_sound → Represents s.database s.volume s.kept st → AreServedOut s st requests head old new lacking left
 
--- The input was the frames of calls, all of them were served, and these bytes are left.
-pub record IsServedOut (limits : Limits) (s : SessionState) (input : Option (List ℕ)) (head : List ℕ) (old new : Option (List ℕ)) (calls lacking : ℕ) (left : List ℕ) : Type 0 where
-  pub turns : List Turn
-  pub asked : AreAsked limits input turns Ends
-  pub count : calls ≡ length turns
-  pub serves : ServesOut s turns head old new lacking left
+-- whatever state the session stood for, the requests were carried out from it, and this is left
+abbrev pub DoesOut : SessionState → List Request → Stored → Type 0
+DoesOut s requests left = (st : State) → IsTrue s.volume.is_sound → Represents s.database s.volume s.kept st → AreDoneOut s st requests left
 
--- The input began with the frames of calls, all of them were made, and these bytes are left.
-pub record IsMadeOut (limits : Limits) (s : SessionState) (input : Option (List ℕ)) (left : List ℕ) : Type 0 where
-  pub turns : List Turn
-  pub asked : AreAsked limits input turns GoesOn
-  pub makes : MakesOut s turns left
+-- whatever state the session stood for, the requests were carried out from it, an access failed, and this is left
+abbrev pub BreaksOut : SessionState → List Request → Stored → Type 0
+BreaksOut s requests left = (st : State) → IsTrue s.volume.is_sound → Represents s.database s.volume s.kept st → AreBrokenOut s st requests left
 
--- The input began with the frames of calls, all of them were served, then came a wrong one, and these bytes are left.
-pub record IsServedOutUntil (limits : Limits) (s : SessionState) (input : Option (List ℕ)) (head : List ℕ) (old new : Option (List ℕ)) (e : FrameFault) (left : List ℕ) : Type 0 where
-  pub turns : List Turn
-  pub asked : AreAsked limits input turns (GoesWrong limits e)
+-- The input was the frames of requests up to the end of the session, all of them were served, and this is left.
+pub record IsServedOut (limits : Limits) (s : SessionState) (e : Ending) (input after : Option (List ℕ)) (head : List ℕ) (old new : Option (List ℕ)) (calls lacking : ℕ) (left : Stored) : Type 0 where
+  pub requests : List Request
+  pub asked : AreAsked limits input requests (Ends e after)
+  pub count : calls ≡ length (calls_in requests)
+  pub serves : ServesOut s requests head old new lacking left
+
+-- The input began with the frames of requests, all of them were carried out, and this is left.
+pub record IsDoneOut (limits : Limits) (s : SessionState) (input : Option (List ℕ)) (left : Stored) : Type 0 where
+  pub requests : List Request
+  pub asked : AreAsked limits input requests GoesOn
+  pub does : DoesOut s requests left
+
+-- The input began with the frames of requests, all of them were carried out, an access failed, and this is left.
+pub record IsBrokenOut (limits : Limits) (s : SessionState) (input : Option (List ℕ)) (left : Stored) : Type 0 where
+  pub requests : List Request
+  pub asked : AreAsked limits input requests GoesOn
+  pub breaks : BreaksOut s requests left
+
+-- The input began with the frames of requests, all of them were served, then came a wrong one, and this is left.
+pub record IsServedOutUntil (limits : Limits) (s : SessionState) (input : Option (List ℕ)) (head : List ℕ) (old new : Option (List ℕ)) (e : FrameFault) (left : Stored) : Type 0 where
+  pub requests : List Request
+  pub asked : AreAsked limits input requests (GoesWrong limits e)
   pub lacking : ℕ
-  pub serves : ServesOut s turns head old new lacking left
+  pub serves : ServesOut s requests head old new lacking left
 
--- what a stop says of the calls and of the bytes that are left
-abbrev pub LeavesAt : Limits → SessionState → Option (List ℕ) → List ℕ → Option (List ℕ) → Option (List ℕ) → Stop → List ℕ → Type 0
-LeavesAt limits s input head old new stop.Device left = Unit {0}
-LeavesAt limits s input head old new stop.Write left = IsMadeOut limits s input left
+-- what a stop says of the requests and of what is left
+abbrev pub LeavesAt : Limits → SessionState → Option (List ℕ) → List ℕ → Option (List ℕ) → Option (List ℕ) → Stop → Stored → Type 0
+LeavesAt limits s input head old new stop.Device left = IsBrokenOut limits s input left
+LeavesAt limits s input head old new stop.Write left = IsDoneOut limits s input left
 LeavesAt limits s input head old new (stop.Frame e) left = IsServedOutUntil limits s input head old new e left
 
 -- ---- over a store
 
--- A store's bytes held one forest; the calls came to a legal log from it, and the bytes that are left are those behind its last entry (IsPlayed);
--- and behind the first frame the answers of its entries were written.
-pub record IsAnswered (d : Database) (pcbs : List View) (bytes : List ℕ) (turns : List Turn) (old new : Option (List ℕ)) (lacking : ℕ) (left : List ℕ) : Type 0 where
+-- A store's bytes held one forest; the calls among the requests came to a legal log from it, and the bytes that are left are those behind its last
+-- entry (IsPlayed); and a crash leaves the image that the last commit found, or, where none was asked for, what it would have left before.
+pub record IsDone (d : Database) (pcbs : List View) (store : Stored) (requests : List Request) (left : Stored) : Type 0 where
   pub log : Log (List ℕ)
-  pub played : IsPlayed d pcbs bytes turns log left
-  pub written : Appends old new (frame_bytes (hello_bytes d pcbs) ++ answers_of log.entries)
-  pub memory : lacking ≡ memory_in log.entries
+  pub played : IsPlayed d pcbs store.bytes (calls_in requests) log left.bytes
+  pub lasts : Lasts (committed_by requests log.entries log.last) store.committed left.committed
 
--- Serving went on to the end of the input: this was the frames of calls, and over a sound store all of them were answered; how many they were,
--- and how many found no memory.
-pub record IsWholeService (d : Database) (pcbs : List View) (sound : Bool) (bytes : List ℕ) (input old new : Option (List ℕ)) (calls lacking : ℕ) (left : List ℕ) : Type 0 where
-  pub turns : List Turn
-  pub asked : AreAsked (limits_of d pcbs) input turns Ends
-  pub count : calls ≡ length turns
-  pub answered : IsTrue sound → IsAnswered d pcbs bytes turns old new lacking left
+-- The requests were carried out, and behind the first frame the answers were written that their log gives; so many of the calls found no memory.
+pub record IsAnswered (d : Database) (pcbs : List View) (store : Stored) (requests : List Request) (first : List ℕ) (old new : Option (List ℕ)) (lacking : ℕ) (left : Stored) : Type 0 where
+  pub done : IsDone d pcbs store requests left
+  pub written : Appends old new (first ++ answers_to requests done.log.entries)
+  pub memory : lacking ≡ memory_in done.log.entries
 
--- Serving ended at a wrong frame: before it the input was the frames of calls, and over a sound store all of them were answered.
-pub record IsServiceUntil (d : Database) (pcbs : List View) (sound : Bool) (bytes : List ℕ) (input old new : Option (List ℕ)) (e : FrameFault) (left : List ℕ) : Type 0 where
-  pub turns : List Turn
-  pub asked : AreAsked (limits_of d pcbs) input turns (GoesWrong (limits_of d pcbs) e)
+-- The requests were carried out, and then an access failed: a crash leaves what it would have left before that, or, where it was one of a commit, the
+-- image behind the requests.
+pub record IsDoneUntilFailure (d : Database) (pcbs : List View) (store : Stored) (requests : List Request) (left : Stored) : Type 0 where
+  pub last : Stored
+  pub done : IsDone d pcbs store requests last
+  pub fails : FailsCommit true last.bytes last.committed left.committed
+
+-- Serving went on to the end of the session: up to there the input was the frames of requests, and over a sound store all of them were answered; how many
+-- calls there were, and how many found no memory.
+pub record IsWholeService (d : Database) (pcbs : List View) (sound : Bool) (store : Stored) (e : Ending) (input after : Option (List ℕ)) (first : List ℕ) (old new : Option (List ℕ)) (calls lacking : ℕ) (left : Stored) : Type 0 where
+  pub requests : List Request
+  pub asked : AreAsked (limits_of d pcbs) input requests (Ends e after)
+  pub count : calls ≡ length (calls_in requests)
+  pub answered : IsTrue sound → IsAnswered d pcbs store requests first old new lacking left
+
+-- Serving ended at a wrong frame: before it the input was the frames of requests, and over a sound store all of them were answered.
+pub record IsServiceUntil (d : Database) (pcbs : List View) (sound : Bool) (store : Stored) (input : Option (List ℕ)) (first : List ℕ) (old new : Option (List ℕ)) (e : FrameFault) (left : Stored) : Type 0 where
+  pub requests : List Request
+  pub asked : AreAsked (limits_of d pcbs) input requests (GoesWrong (limits_of d pcbs) e)
   pub lacking : ℕ
-  pub answered : IsTrue sound → IsAnswered d pcbs bytes turns old new lacking left
+  pub answered : IsTrue sound → IsAnswered d pcbs store requests first old new lacking left
 
--- Serving ended at a frame that could not be written: the input began with the frames of calls, and over a sound store all of them were made.
-pub record IsServiceInPart (d : Database) (pcbs : List View) (sound : Bool) (bytes : List ℕ) (input : Option (List ℕ)) (left : List ℕ) : Type 0 where
-  pub turns : List Turn
-  pub asked : AreAsked (limits_of d pcbs) input turns GoesOn
-  pub made : IsTrue sound → (log : Log (List ℕ)) × IsPlayed d pcbs bytes turns log left
+-- Serving ended at a frame that could not be written: the input began with the frames of requests, and over a sound store all of them were carried out.
+pub record IsServiceInPart (d : Database) (pcbs : List View) (sound : Bool) (store : Stored) (input : Option (List ℕ)) (left : Stored) : Type 0 where
+  pub requests : List Request
+  pub asked : AreAsked (limits_of d pcbs) input requests GoesOn
+  pub done : IsTrue sound → IsDone d pcbs store requests left
+
+-- Serving ended at a failed access: the input began with the frames of requests, and over a sound store all of them were carried out before it.
+pub record IsServiceUntilFailure (d : Database) (pcbs : List View) (sound : Bool) (store : Stored) (input : Option (List ℕ)) (left : Stored) : Type 0 where
+  pub requests : List Request
+  pub asked : AreAsked (limits_of d pcbs) input requests GoesOn
+  pub done : IsTrue sound → IsDoneUntilFailure d pcbs store requests left
 
 -- What a fault says: what refused the opening, a program that can't be told, and want of memory came before the first frame, and changed nothing; a
--- failed access says nothing; before a frame that was not written, or a wrong one, calls were served.
-abbrev pub IsServeFaultOf : Database → List View → Bool → List ℕ → Option (List ℕ) → Option (List ℕ) → Option (List ℕ) → List ℕ → ServeFault → Type 0
-IsServeFaultOf d pcbs sound bytes input old new left (serve.Open fault) =
-    IsTrue sound → IsOpenFaultOf d pcbs (volume_of d bytes) fault × (fault ≢ opening.Device → left ≡ bytes)
-IsServeFaultOf d pcbs sound bytes input old new left serve.Hello = (hello_fits d pcbs ≡ false) × (IsTrue sound → left ≡ bytes)
-IsServeFaultOf d pcbs sound bytes input old new left serve.Memory = IsTrue sound → left ≡ bytes
-IsServeFaultOf d pcbs sound bytes input old new left serve.Device = Unit {0}
-IsServeFaultOf d pcbs sound bytes input old new left serve.Write = IsServiceInPart d pcbs sound bytes input left
-IsServeFaultOf d pcbs sound bytes input old new left (serve.Frame e) = IsServiceUntil d pcbs sound bytes input old new e left
+-- failed access came before the first request, or behind some; before a frame that was not written, or a wrong one, requests were served.
+abbrev pub IsServeFaultOf : Database → List View → Bool → Stored → Option (List ℕ) → List ℕ → Option (List ℕ) → Option (List ℕ) → Stored → ServeFault → Type 0
+IsServeFaultOf d pcbs sound store input first old new left (serve.Open fault) =
+    (left.committed ≡ store.committed) × (IsTrue sound → IsOpenFaultOf d pcbs (volume_of d store.bytes) fault × (fault ≢ opening.Device → left.bytes ≡ store.bytes))
+IsServeFaultOf d pcbs sound store input first old new left serve.Hello = ⊥
+IsServeFaultOf d pcbs sound store input first old new left serve.Memory = (left.committed ≡ store.committed) × (IsTrue sound → left.bytes ≡ store.bytes)
+IsServeFaultOf d pcbs sound store input first old new left serve.Device = (left.committed ≡ store.committed) ⊎ IsServiceUntilFailure d pcbs sound store input left
+IsServeFaultOf d pcbs sound store input first old new left serve.Write = IsServiceInPart d pcbs sound store input left
+IsServeFaultOf d pcbs sound store input first old new left (serve.Frame e) = IsServiceUntil d pcbs sound store input first old new e left
 
 -- the fault that ends serving at a stop
 abbrev pub fault_of : Stop → ServeFault
 fault_of stop.Device = serve.Device
 fault_of stop.Write = serve.Write
 fault_of (stop.Frame e) = serve.Frame e
+
+-- why a service can't begin: a program that can't be told, as a number has no room in its frame, or want of memory
+abbrev pub NoService : Database → List View → ServeFault → Type 0
+NoService d pcbs e = ((e ≡ serve.Hello) × (hello_fits d pcbs ≡ false)) ⊎ (e ≡ serve.Memory)
 
 -- the fault came before the first frame
 abbrev pub IsBeforeCalls : ServeFault → Type 0
@@ -275,29 +353,36 @@ fault_refusal (serve.Frame e) = refused.Memory
 
 -- ---- at a desk, by what it has read and the rest of the input
 
--- what was read of the input and is no call yet, and the rest
+-- what was read of the input and is no request yet, and the rest
 abbrev pub unread : Desk → Option (List ℕ) → Option (List ℕ)
 unread desk rest = prepend_known desk.buffer rest
 
--- one call was taken and served, where there was one
-abbrev pub IsNextAt : Desk → SessionState → Option (List ℕ) → Desk → Option (List ℕ) → Option (List ℕ) → Option (List ℕ) → Option ℕ → SessionState → Type 0
-IsNextAt desk s before desk2 after old new served t = IfSome served (λ lacking. IsServedNext desk.limits s (unread desk before) (unread desk2 after) old new lacking t)
+-- what the next frame came to: a request was served, or the session ends, and then nothing else is changed
+abbrev pub ComesTo : Limits → SessionState → Option (List ℕ) → Option (List ℕ) → Option (List ℕ) → Option (List ℕ) → Next → SessionState → Type 0
+ComesTo limits s before after old new (next.Served n) t = IsServedNext limits s before after old new n.calls n.memory t
+ComesTo limits s before after old new (next.Ends e) t = EndsBy e before after × (t ≡ s) × (new ≡ old)
 
--- all calls were taken and served
-abbrev pub IsDeskServed : Desk → SessionState → Option (List ℕ) → List ℕ → Option (List ℕ) → Option (List ℕ) → Count → SessionState → Type 0
-IsDeskServed desk s rest head old new n t = IsServedToTheEnd desk.limits s (unread desk rest) head old new n.calls n.memory t
+-- a request that was served, or the stop at it
+abbrev pub next_of : Result Count Halt → Result Next Stop
+next_of (Ok count) = Ok (next.Served count)
+next_of (Err halt.Device) = Err stop.Device
+next_of (Err halt.Write) = Err stop.Write
 
--- and these bytes are left
-abbrev pub IsDeskServedOut : Desk → SessionState → Option (List ℕ) → List ℕ → Option (List ℕ) → Option (List ℕ) → ℕ → ℕ → List ℕ → Type 0
-IsDeskServedOut desk s rest head old new calls lacking left = IsServedOut desk.limits s (unread desk rest) head old new calls lacking left
-
--- what a stop says of the calls and of the bytes that are left
-abbrev pub LeavesDeskAt : Desk → SessionState → Option (List ℕ) → List ℕ → Option (List ℕ) → Option (List ℕ) → Stop → List ℕ → Type 0
-LeavesDeskAt desk s rest head old new stop left = LeavesAt desk.limits s (unread desk rest) head old new stop left
+-- all requests were taken and served
+abbrev pub IsDeskServed : Desk → SessionState → Option (List ℕ) → Desk → Option (List ℕ) → List ℕ → Option (List ℕ) → Option (List ℕ) → Ending × Count → SessionState → Type 0
+IsDeskServed desk s rest desk2 rest2 head old new n t = IsServedToTheEnd desk.limits s n.0 (unread desk rest) (unread desk2 rest2) head old new n.1.calls n.1.memory t
 
 -- ---- over a store, by what serving ended with
 
--- serving went on to the end of the input
-abbrev pub IsServiceEnd : {S : Type 0} → (S → List ℕ) → (S → Bool) → Database → List View → S → Option (List ℕ) → Option (List ℕ) → Option (List ℕ) → ServeEnd S → Type 0
-IsServiceEnd contents is_sound d pcbs store input old new e =
-    IsWholeService d pcbs (is_sound store) (contents store) input old new e.calls e.memory (contents e.store)
+-- what stands in a store
+abbrev pub stored_in : {S : Type 0} → (S → List ℕ) → (S → Committed) → S → Stored
+stored_in contents committed store = record { bytes = contents store; committed = committed store }
+
+-- a service was made for a database and the PCBs of a program
+pub record IsServiceFor (d : Database) (pcbs : List View) (service : ServiceState) : Type 0 where
+  pub limits : service.limits ≡ limits_of d pcbs
+  pub room : service.room ≡ longest_path d.types
+
+-- what a service has read of the input and is no request yet, and the rest
+abbrev pub unread_by : ServiceState → Option (List ℕ) → Option (List ℕ)
+unread_by service rest = prepend_known service.unread rest

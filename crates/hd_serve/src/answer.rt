@@ -3,7 +3,7 @@ ghost use Rattle.std.specs.Int.{w32, to_be_bytes};
 ghost use Rattle.std.specs.Io.KnownBytes.{Appends};
 ghost use Rattle.hd_serve.specs.Frames.{frame_bytes};
 ghost use Rattle.hd_dbd.specs.Statuses.{status_text};
-ghost use Rattle.hd_serve.specs.Answers.{refused_number, answer_bytes, refusal_bytes};
+ghost use Rattle.hd_serve.specs.Answers.{refused_number, answer_bytes, refusal_bytes, done_bytes};
 
 use crate::fault::WriteFault;
 use crate::output::put_frame;
@@ -127,4 +127,14 @@ pub fn put_refusal<W: Write>(out: &mut W, refused: Refused) -> Result<(), WriteF
     ensures { OnOk result (Appends (W.contents out.old) (W.contents out.new) (frame_bytes (refusal_bytes refused))) }
 {
     put_frame(out, &refusal_frame(refused))
+}
+
+/// The frame that says that a commit or a roll back is done.
+pub(crate) const DONE: [u8; 5] = [0, 0, 0, 1, 6];
+
+/// Writes in a frame, in one piece, that a commit is done, and sends it out.
+pub fn put_done<W: Write>(out: &mut W) -> Result<(), WriteFault>
+    ensures { OnOk result (Appends (W.contents out.old) (W.contents out.new) (frame_bytes done_bytes)) }
+{
+    put_frame(out, &DONE)
 }

@@ -1,6 +1,6 @@
 ghost use Rattle.std.specs.Prelude.{◌≡◌, ◌≢◌, ◌+◌, ◌<◌, length, map, option_map, IfOk, IfErr, IfSome, IfNone, Ok, Err};
 ghost use Rattle.std.specs.Int.{w16, from_be_bytes};
-ghost use Rattle.hd_serve.specs.Frames.{IsSsaSplit, CallFits, ssas_in, call_in, call_bytes};
+ghost use Rattle.hd_serve.specs.Frames.{IsSsaSplit, ssas_in, call_in};
 
 use crate::fault::FrameFault;
 use std::alloc::{AllocError, Global};
@@ -68,17 +68,11 @@ fn read_ssas(
 }
 
 /// The call of the body of a frame, or what is wrong with it: the first fault, from the front.
-pub fn read_call(alloc: Global, body: &[u8], limits: Limits) -> Result<FramedCall, FrameFault>
-    ensures ok { IfOk result (λ c. call_in limits body.now ≡ Ok c) }
-    ensures right { IfOk result (λ c. (body.now ≡ call_bytes c) × CallFits limits c) }
-    ensures err { IfErr result (λ e. e ≢ FrameFault.Memory → call_in limits body.now ≡ Err e) }
-{
-    let call = read_parts(alloc, body, limits)?;
-    Ok(call)
-}
-
-/// The parts of the body of a frame, or the first fault in it.
-fn read_parts(alloc: Global, body: &[u8], limits: Limits) -> Result<FramedCall, FrameFault>
+pub(crate) fn read_call(
+    alloc: Global,
+    body: &[u8],
+    limits: Limits,
+) -> Result<FramedCall, FrameFault>
     ensures ok { IfOk result (λ c. call_in limits body.now ≡ Ok c) }
     ensures err { IfErr result (λ e. e ≢ FrameFault.Memory → call_in limits body.now ≡ Err e) }
 {

@@ -1,19 +1,20 @@
-ghost use Rattle.std.specs.Prelude.{◌≡◌, ◌<◌, ◌≤◌, [], length, false, OnOk, IfOk, IfErr, IfSome, IfNone};
-ghost use Rattle.std.specs.Io.KnownBytes.{IsAtEnd};
+ghost use Rattle.std.specs.Prelude.{◌≡◌, ◌<◌, ◌≤◌, [], length, false, OnOk, IfOk, IfErr};
 ghost use Rattle.hd_dbd.specs.Hierarchy.{longest_path};
 ghost use Rattle.hd_session.specs.Turns.{StaysWhole};
-ghost use Rattle.hd_serve.specs.Serves.{StopsNext, StopsAt, ServesUntil, IsNextAt, IsDeskServed, unread};
+ghost use Rattle.hd_serve.specs.Serves.{StopsNext, StopsAt, ServesUntil, ComesTo, IsDeskServed, next_of, unread};
 
-use crate::answered_calls::{Halt, answer_call};
-use crate::call::{FramedCall, Limits};
+use crate::answered_calls::{Count, Halt, answer_framed};
+use crate::call::Limits;
+use crate::commits::answer_commit;
 use crate::fault::FrameFault;
 use crate::input::FrameBuffer;
 use crate::output::put_frame;
-use hd_session::{Call, IoArea, Session};
-use hd_stores::BlockStore;
+use crate::request::FramedRequest;
+use hd_session::{IoArea, Session};
+use hd_stores::CommitStore;
 use std::io::{Read, Write};
 
-/// Why the calls in a session end before the input does: an access of the store failed, a frame was not written, or a frame is no right one.
+/// Why the requests of a session end before it does: an access of the store failed, a frame was not written, or a frame is no right one.
 #[derive(Clone, Copy, Debug, Drop, PartialEq, Eq)]
 pub(crate) enum Stop {
     Device,
@@ -21,7 +22,23 @@ pub(crate) enum Stop {
     Frame(FrameFault),
 }
 
-/// What is kept from call to call: what was read of the input and is no call yet, what its frames keep to, and room for answers.
+/// Why a session that served all its requests ended.
+#[derive(Clone, Copy, Debug, Drop, PartialEq, Eq)]
+pub enum Ending {
+    /// The input ended between two frames.
+    Input,
+    /// A roll back was asked for. It is done once the store is rolled back, and answered by the first frame of the next session.
+    RollBack,
+}
+
+/// What the next frame came to: a request was served, which was so many calls; or the session ends.
+#[derive(Clone, Copy, Debug)]
+pub(crate) enum Next {
+    Served(Count),
+    Ends(Ending),
+}
+
+/// What is kept from request to request: what was read of the input and is no request yet, what its frames keep to, and room for answers.
 #[derive(Drop)]
 pub(crate) struct Desk {
     pub(crate) buffer: FrameBuffer,
@@ -30,96 +47,100 @@ pub(crate) struct Desk {
     pub(crate) line: Vec<u8>,
 }
 
-/// Takes the next call from the input, makes it and answers it; `None` where the input ends.
-fn serve_next<S: BlockStore, I: Read, W: Write>(
-    session: &mut Session<'_, S>,
-    desk: &mut Desk,
-    input: &mut I,
-    out: &mut W,
-) -> Result<Option<u64>, Stop>
-    requires pcbs { desk.old.limits.pcbs ≤ length session.old.pcbs }
-    requires room { longest_path session.old.database.types ≤ desk.old.io.room }
-    requires whole { session.old.broken ≡ false }
-    ensures next { IfOk result (λ o. IsNextAt desk.old session.old (I.remaining input.old) desk.new (I.remaining input.new) (W.contents out.old) (W.contents out.new) o session.new) }
-    ensures few { IfOk result (λ o. IfSome o (λ lacking. lacking ≤ 1)) }
-    ensures end { IfOk result (λ o. IfNone o (IsAtEnd (unread desk.old (I.remaining input.old)) × (session.new ≡ session.old) × (out.new ≡ out.old))) }
-    ensures stop { IfErr result (λ e. StopsNext desk.old.limits session.old (unread desk.old (I.remaining input.old)) (W.contents out.old) (W.contents out.new) e session.new) }
-    ensures whole { OnOk result (StaysWhole session.old session.new) }
-    ensures stops { IfErr result (λ e. StopsAt session.old e session.new) }
-    ensures committed { session.new.volume.committed ≡ session.old.volume.committed }
-    ensures same { (desk.new.limits ≡ desk.old.limits) × (desk.new.io.room ≡ desk.old.io.room) }
+/// A request that was served, or why all end at it.
+fn next_of(served: Result<Count, Halt>) -> Result<Next, Stop>
+    ensures { result ≡ next_of served }
 {
-    let next = match desk.buffer.next_call(input, desk.limits) {
-        Ok(Some(framed)) => framed,
-        Ok(None) => return Ok(None),
-        Err(fault) => return Err(Stop::Frame(fault)),
-    };
-    let FramedCall {
-        pcb,
-        func,
-        ssas,
-        area,
-    } = next;
-    let call = Call { func, ssas, area };
-    match answer_call(session, pcb, &call, &mut desk.io, &mut desk.line, out) {
-        Ok(lacking) => Ok(Some(lacking)),
+    match served {
+        Ok(count) => Ok(Next::Served(count)),
         Err(Halt::Device) => Err(Stop::Device),
         Err(Halt::Write) => Err(Stop::Write),
     }
 }
 
-/// How many calls were made, and how many of them found no memory.
-#[derive(Clone, Copy, Debug)]
-pub(crate) struct Count {
-    pub(crate) calls: u64,
-    pub(crate) memory: u64,
-}
-
-/// The calls of the input one after another, each answered before the next is read, until the input ends.
-fn serve_calls<S: BlockStore, I: Read, W: Write>(
+/// Takes the next request from the input, carries it out and answers it. A roll back is only taken: it ends the session.
+fn serve_next<S: CommitStore, I: Read, W: Write>(
     session: &mut Session<'_, S>,
     desk: &mut Desk,
     input: &mut I,
     out: &mut W,
-) -> Result<Count, Stop>
+) -> Result<Next, Stop>
     requires pcbs { desk.old.limits.pcbs ≤ length session.old.pcbs }
     requires room { longest_path session.old.database.types ≤ desk.old.io.room }
     requires whole { session.old.broken ≡ false }
-    ensures serves { IfOk result (λ n. IsDeskServed desk.old session.old (I.remaining input.old) [] (W.contents out.old) (W.contents out.new) n session.new) }
+    ensures next { IfOk result (λ n. ComesTo desk.old.limits session.old (unread desk.old (I.remaining input.old)) (unread desk.new (I.remaining input.new)) (W.contents out.old) (W.contents out.new) n session.new) }
+    ensures stop { IfErr result (λ e. StopsNext desk.old.limits session.old (unread desk.old (I.remaining input.old)) (W.contents out.old) (W.contents out.new) e session.new) }
+    ensures whole { OnOk result (StaysWhole session.old session.new) }
+    ensures stops { IfErr result (λ e. StopsAt session.old e session.new) }
+    ensures same { (desk.new.limits ≡ desk.old.limits) × (desk.new.io.room ≡ desk.old.io.room) }
+{
+    let request = match desk.buffer.next_request(input, desk.limits) {
+        Ok(Some(request)) => request,
+        Ok(None) => return Ok(Next::Ends(Ending::Input)),
+        Err(fault) => return Err(Stop::Frame(fault)),
+    };
+    match request {
+        FramedRequest::Call(call) => next_of(answer_framed(
+            session,
+            call,
+            &mut desk.io,
+            &mut desk.line,
+            out,
+        )),
+        FramedRequest::Commit => next_of(answer_commit(session, out)),
+        FramedRequest::RollBack => Ok(Next::Ends(Ending::RollBack)),
+    }
+}
+
+/// The requests of the input one after another, each answered before the next is read, until the session ends; why it does, and the calls among them.
+fn serve_requests<S: CommitStore, I: Read, W: Write>(
+    session: &mut Session<'_, S>,
+    desk: &mut Desk,
+    input: &mut I,
+    out: &mut W,
+) -> Result<(Ending, Count), Stop>
+    requires pcbs { desk.old.limits.pcbs ≤ length session.old.pcbs }
+    requires room { longest_path session.old.database.types ≤ desk.old.io.room }
+    requires whole { session.old.broken ≡ false }
+    ensures serves { IfOk result (λ n. IsDeskServed desk.old session.old (I.remaining input.old) desk.new (I.remaining input.new) [] (W.contents out.old) (W.contents out.new) n session.new) }
     ensures until { IfErr result (λ e. ServesUntil desk.old.limits session.old (unread desk.old (I.remaining input.old)) [] (W.contents out.old) (W.contents out.new) e session.new) }
     ensures whole { OnOk result (StaysWhole session.old session.new) }
     ensures stops { IfErr result (λ e. StopsAt session.old e session.new) }
-    ensures committed { session.new.volume.committed ≡ session.old.volume.committed }
+    ensures same { (desk.new.limits ≡ desk.old.limits) × (desk.new.io.room ≡ desk.old.io.room) }
 {
+    let mut calls = 0u64;
     let mut memory = 0u64;
-    for calls in 0..u64::MAX {
+    'requests: for _ in 0..u64::MAX {
         match serve_next(session, desk, input, out)? {
-            Some(lacking) => memory += lacking,
-            None => return Ok(Count { calls, memory }),
+            Next::Served(count) => {
+                calls += count.calls;
+                memory += count.memory;
+            }
+            Next::Ends(ending) => return Ok((ending, Count { calls, memory })),
         }
     }
     Err(Stop::Frame(FrameFault::Read))
 }
 
-/// Writes the first frame, and then serves the calls of the input.
-pub(crate) fn serve_all<S: BlockStore, I: Read, W: Write>(
+/// Writes the first frame, and then serves the requests of the input.
+pub(crate) fn serve_all<S: CommitStore, I: Read, W: Write>(
     session: &mut Session<'_, S>,
     desk: &mut Desk,
-    hello: &[u8],
+    first: &[u8],
     input: &mut I,
     out: &mut W,
-) -> Result<Count, Stop>
+) -> Result<(Ending, Count), Stop>
     requires pcbs { desk.old.limits.pcbs ≤ length session.old.pcbs }
     requires room { longest_path session.old.database.types ≤ desk.old.io.room }
     requires whole { session.old.broken ≡ false }
-    ensures serves { IfOk result (λ n. IsDeskServed desk.old session.old (I.remaining input.old) hello.now (W.contents out.old) (W.contents out.new) n session.new) }
-    ensures until { IfErr result (λ e. ServesUntil desk.old.limits session.old (unread desk.old (I.remaining input.old)) hello.now (W.contents out.old) (W.contents out.new) e session.new) }
+    ensures serves { IfOk result (λ n. IsDeskServed desk.old session.old (I.remaining input.old) desk.new (I.remaining input.new) first.now (W.contents out.old) (W.contents out.new) n session.new) }
+    ensures until { IfErr result (λ e. ServesUntil desk.old.limits session.old (unread desk.old (I.remaining input.old)) first.now (W.contents out.old) (W.contents out.new) e session.new) }
     ensures whole { OnOk result (StaysWhole session.old session.new) }
     ensures stops { IfErr result (λ e. StopsAt session.old e session.new) }
-    ensures committed { session.new.volume.committed ≡ session.old.volume.committed }
+    ensures same { (desk.new.limits ≡ desk.old.limits) × (desk.new.io.room ≡ desk.old.io.room) }
 {
-    match put_frame(out, hello) {
-        Ok(()) => serve_calls(session, desk, input, out),
+    match put_frame(out, first) {
+        Ok(()) => serve_requests(session, desk, input, out),
         Err(_) => Err(Stop::Write),
     }
 }

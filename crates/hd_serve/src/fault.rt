@@ -2,12 +2,12 @@ use std::alloc::AllocError;
 use std::fmt;
 use thiserror::Error;
 
-/// Why no call is read from an input.
+/// Why no request is read from an input.
 #[derive(Clone, Copy, Debug, Drop, PartialEq, Eq, Error)]
 pub enum FrameFault {
     /// The input could not be read.
     Read,
-    /// No memory for the call.
+    /// No memory for the request.
     Memory,
     /// The input ends inside a frame.
     Cut,
@@ -15,7 +15,9 @@ pub enum FrameFault {
     Long(u32),
     /// A body ends before its parts do.
     Short,
-    /// The first byte of a body is not that of a call.
+    /// A commit's or a roll back's body, which has this kind, goes on behind it.
+    Extra(u8),
+    /// The first byte of a body is not that of a request.
     Kind(u8),
     /// The program has no PCB of this number.
     Pcb(u8),
@@ -33,6 +35,11 @@ impl fmt::Display for FrameFault {
             FrameFault::Cut => return f.write_str("input ends inside a frame"),
             FrameFault::Long(bytes) => ("a body of ", bytes as usize, " bytes"),
             FrameFault::Short => return f.write_str("a body that ends before its parts"),
+            FrameFault::Extra(kind) => (
+                "a frame of kind ",
+                usize::from(kind),
+                " with further bytes",
+            ),
             FrameFault::Kind(kind) => ("a frame of kind ", usize::from(kind), ""),
             FrameFault::Pcb(number) => ("no PCB ", usize::from(number), ""),
             FrameFault::Ssas(count) => ("", usize::from(count), " segment search arguments"),

@@ -54,6 +54,7 @@ fn push_field(bytes: &mut Vec<u8>, field: &Field) -> Result<(), HelloFault>
     ensures large { IfErr result (λ e. e ≡ HelloFault.Large → field_fits field.now ≡ false) }
 {
     bytes.extend_from_slice(field.name.bytes())?;
+    push_u16(bytes, field.start as usize)?;
     push_u16(bytes, field.length as usize)
 }
 
@@ -227,11 +228,11 @@ fn push_pcbs(
 
 /// Adds the mark, the version, and how many PCBs and types follow.
 fn push_head(bytes: &mut Vec<u8>, pcbs: usize, types: usize) -> Result<(), HelloFault>
-    ensures bytes { OnOk result (bytes.new.items ≡ bytes.old.items ++ (72 ∷ 68 ∷ 0 ∷ 1 ∷ pcbs ∷ types ∷ [])) }
+    ensures bytes { OnOk result (bytes.new.items ≡ bytes.old.items ++ (72 ∷ 68 ∷ 0 ∷ 2 ∷ pcbs ∷ types ∷ [])) }
     ensures fits { OnOk result ((pcbs < 256) × (types < 256)) }
     ensures large { IfErr result (λ e. e ≡ HelloFault.Large → (256 ≤ pcbs) ⊎ (256 ≤ types)) }
 {
-    bytes.extend_from_slice(&[b'H', b'D', 0, 1])?;
+    bytes.extend_from_slice(&[b'H', b'D', 0, 2])?;
     push_u8(bytes, pcbs)?;
     push_u8(bytes, types)
 }

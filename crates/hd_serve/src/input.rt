@@ -1,10 +1,11 @@
 ghost use Rattle.std.specs.Prelude.{◌≡◌, ◌⊎◌, ◌<◌, ◌≤◌, [], Some, length, take, drop, unwrap_or, IfOk, IfErr, IfSome, IfNone, OnOk};
 ghost use Rattle.std.specs.Int.{w32, from_be_bytes, to_be_bytes};
 ghost use Rattle.std.specs.Io.KnownBytes.{Consumes, IsAtEnd, Keeps, prepend_known};
-ghost use Rattle.hd_serve.specs.Frames.{is_long, IsCallRead, IsWrong};
+ghost use Rattle.hd_serve.specs.Frames.{is_long, IsRequestRead, IsWrong};
 
-use crate::call::{FramedCall, Limits, read_call};
+use crate::call::Limits;
 use crate::fault::FrameFault;
+use crate::request::{FramedRequest, read_request};
 use std::alloc::{AllocError, Global};
 use std::io::{ErrorKind, Read};
 use std::marker::Model;
@@ -120,14 +121,14 @@ impl FrameBuffer {
         })
     }
 
-    /// The call of the next frame, or `None` where the input ends before one. No more is read than what there is once the frame is whole, so
-    /// a call can be answered before the next one comes. After a fault nothing more is read as a frame.
-    pub fn next_call<I: Read>(
+    /// The request of the next frame, or `None` where the input ends before one. No more is read than what there is once the frame is whole, so
+    /// a request can be answered before the next one comes. After a fault nothing more is read as a frame.
+    pub fn next_request<I: Read>(
         &mut self,
         input: &mut I,
         limits: Limits,
-    ) -> Result<Option<FramedCall>, FrameFault>
-        ensures call { IfOk result (λ o. IfSome o (λ c. IsCallRead limits (prepend_known self.old (I.remaining input.old)) c (prepend_known self.new (I.remaining input.new)))) }
+    ) -> Result<Option<FramedRequest>, FrameFault>
+        ensures request { IfOk result (λ o. IfSome o (λ r. IsRequestRead limits (prepend_known self.old (I.remaining input.old)) r (prepend_known self.new (I.remaining input.new)))) }
         ensures end { IfOk result (λ o. IfNone o (IsAtEnd (prepend_known self.old (I.remaining input.old)))) }
         ensures wrong { IfErr result (λ e. IsWrong limits (prepend_known self.old (I.remaining input.old)) e) }
     {
@@ -146,8 +147,8 @@ impl FrameBuffer {
         if self.bytes.len() < end {
             return Err(FrameFault::Cut);
         }
-        let call = read_call(self.alloc, &self.bytes[4..end], limits)?;
+        let request = read_request(self.alloc, &self.bytes[4..end], limits)?;
         drop_front(&mut self.bytes, end);
-        Ok(Some(call))
+        Ok(Some(request))
     }
 }

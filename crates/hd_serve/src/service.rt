@@ -1,23 +1,27 @@
-ghost use Rattle.std.specs.Prelude.{◌≡◌, ◌⊎◌, ◌≤◌, [], length, false, IfOk, IfErr};
+ghost use Rattle.std.specs.Prelude.{◌≡◌, ◌≤◌, [], length, false, option_map, unwrap_or, IfOk, IfErr};
+ghost use Rattle.std.specs.Io.KnownBytes.{prepend_known};
 ghost use Rattle.hd_dbd.specs.Hierarchy.{longest_path};
 ghost use Rattle.hd_dbd.specs.ProgramRules.{type_names};
 ghost use Rattle.hd_stores.specs.Stores.{CountsFor, SoundFor};
 ghost use Rattle.hd_serve.specs.Frames.{frame_bytes};
-ghost use Rattle.hd_serve.specs.Hello.{hello_bytes, hello_fits};
-ghost use Rattle.hd_serve.specs.Serves.{limits_of, IsServeFaultOf, IsBeforeCalls, fault_of, fault_refusal, IsDeskServedOut, LeavesDeskAt, IsServiceEnd};
+ghost use Rattle.hd_serve.specs.Answers.{done_bytes};
+ghost use Rattle.hd_serve.specs.Hello.{hello_bytes};
+ghost use Rattle.hd_serve.specs.Serves.{limits_of, IsServeFaultOf, IsBeforeCalls, NoService, fault_of, fault_refusal, IsServedOut, LeavesAt, IsWholeService, IsServiceFor, stored_in, unread, unread_by};
 
-use crate::desk::{Desk, Stop, serve_all};
+use crate::answer::DONE;
+use crate::desk::{Desk, Ending, Stop, serve_all};
 use crate::fault::{FrameFault, HelloFault};
 use crate::hello::{hello_frame, limits_of};
 use crate::input::FrameBuffer;
 use hd_dbd::{Dbd, Psb, Refused};
 use hd_session::{IoArea, OpenFault, Session};
-use hd_stores::BlockStore;
+use hd_stores::CommitStore;
 use hd_volume::Volume;
 use std::alloc::{AllocError, Global};
 use std::io::{Read, Write};
+use std::marker::Model;
 
-/// Why serving ended before the input did.
+/// Why serving ended before its session did.
 #[derive(Clone, Copy, Debug, Drop, PartialEq, Eq)]
 pub enum ServeFault {
     /// The session was not opened; no frame was written.
@@ -28,18 +32,38 @@ pub enum ServeFault {
     Memory,
     /// An access of the store failed.
     Device,
-    /// A frame was not written. The calls that were made are in the store.
+    /// A frame was not written. The requests that were taken are carried out.
     Write,
-    /// A frame of the input is no right one. The calls before it are answered, and in the store.
+    /// A frame of the input is no right one. The requests before it are carried out and answered.
     Frame(FrameFault),
 }
 
-/// How serving ended at the end of the input: how many calls there were, how many of them found no memory, and the store.
+/// How a session ended: why, how many calls there were, how many of them found no memory, and the store.
 #[derive(Drop)]
 pub struct ServeEnd<S> {
+    pub ending: Ending,
     pub calls: u64,
     pub memory: u64,
     pub store: S,
+}
+
+/// What serves a program from session to session: what it has read of the input and is no request yet, and the frame that comes first in the next
+/// session. That is the one which tells the types and the PCBs, and behind a roll back the one which says that it is done.
+#[derive(Drop)]
+pub struct Service {
+    hello: Option<Vec<u8>>,
+    desk: Desk,
+}
+
+impl Model for Service {
+    ghost use Rattle.std.specs.Prelude.{option_map, unwrap_or};
+    ghost use Rattle.hd_serve.specs.Frames.{frame_bytes};
+    ghost use Rattle.hd_serve.specs.Answers.{done_bytes};
+    ghost use Rattle.hd_serve.specs.Services.{ServiceState};
+
+    ghost Value = { ServiceState };
+
+    ghost view = { λ s. record { unread = s.desk.buffer; first = unwrap_or (option_map (λ v. v.items) s.hello) (frame_bytes done_bytes); limits = s.desk.limits; room = s.desk.io.room } };
 }
 
 fn fault_of(stop: Stop) -> ServeFault
@@ -55,7 +79,7 @@ fn fault_of(stop: Stop) -> ServeFault
 /// The bytes of an answer's frame beside its area: its length, 14 bytes, and a key of 255 bytes on each of 15 levels, and of one more.
 const ANSWER: usize = 4_098;
 
-/// What is kept from call to call, before the first.
+/// What is kept from request to request, before the first.
 fn new_desk(alloc: Global, dbd: &Dbd, psb: &Psb) -> Result<Desk, AllocError>
     ensures buffer { IfOk result (λ k. k.buffer ≡ []) }
     ensures limits { IfOk result (λ k. k.limits ≡ limits_of dbd.now psb.now.pcbs) }
@@ -70,54 +94,45 @@ fn new_desk(alloc: Global, dbd: &Dbd, psb: &Psb) -> Result<Desk, AllocError>
     })
 }
 
-/// The first frame, and what is kept from call to call.
-fn prepare(alloc: Global, dbd: &Dbd, psb: &Psb) -> Result<(Vec<u8>, Desk), ServeFault>
-    ensures hello { IfOk result (λ p. p.0.items ≡ frame_bytes (hello_bytes dbd.now psb.now.pcbs)) }
-    ensures buffer { IfOk result (λ p. p.1.buffer ≡ []) }
-    ensures limits { IfOk result (λ p. p.1.limits ≡ limits_of dbd.now psb.now.pcbs) }
-    ensures room { IfOk result (λ p. p.1.io.room ≡ longest_path dbd.now.types) }
-    ensures fault { IfErr result (λ e. ((e ≡ ServeFault.Hello) × (hello_fits dbd.now psb.now.pcbs ≡ false)) ⊎ (e ≡ ServeFault.Memory)) }
+/// The first frame of a session.
+fn first_frame(hello: &Option<Vec<u8>>) -> &[u8]
+    ensures { result.now ≡ unwrap_or (option_map (λ v. v.items) hello.now) (frame_bytes done_bytes) }
 {
-    let hello = match hello_frame(alloc, dbd, psb) {
-        Ok(hello) => hello,
-        Err(HelloFault::Large) => return Err(ServeFault::Hello),
-        Err(HelloFault::Memory) => return Err(ServeFault::Memory),
-    };
-    match new_desk(alloc, dbd, psb) {
-        Ok(desk) => Ok((hello, desk)),
-        Err(_) => Err(ServeFault::Memory),
+    match hello {
+        Some(frame) => frame,
+        None => &DONE,
     }
 }
 
-/// Serves the calls of the input in a session, and closes it.
-fn serve_and_close<S: BlockStore, I: Read, W: Write>(
+/// Serves the requests of the input in a session, and closes it.
+fn serve_and_close<S: CommitStore, I: Read, W: Write>(
     mut session: Session<'_, S>,
     desk: &mut Desk,
-    hello: &[u8],
+    first: &[u8],
     input: &mut I,
     out: &mut W,
 ) -> Result<ServeEnd<S>, (S, Stop)>
     requires pcbs { desk.old.limits.pcbs ≤ length session.pcbs }
     requires room { longest_path session.database.types ≤ desk.old.io.room }
     requires whole { session.broken ≡ false }
-    ensures serves { IfOk result (λ e. IsDeskServedOut desk.old session.entry (I.remaining input.old) hello.now (W.contents out.old) (W.contents out.new) e.calls e.memory (S.contents e.store)) }
-    ensures leaves { IfErr result (λ e. LeavesDeskAt desk.old session.entry (I.remaining input.old) hello.now (W.contents out.old) (W.contents out.new) e.1 (S.contents e.0)) }
+    ensures serves { IfOk result (λ e. IsServedOut desk.old.limits session.entry e.ending (unread desk.old (I.remaining input.old)) (unread desk.new (I.remaining input.new)) first.now (W.contents out.old) (W.contents out.new) e.calls e.memory (stored_in S.contents S.committed e.store)) }
+    ensures leaves { IfErr result (λ e. LeavesAt desk.old.limits session.entry (unread desk.old (I.remaining input.old)) first.now (W.contents out.old) (W.contents out.new) e.1 (stored_in S.contents S.committed e.0)) }
     ensures failures { IfOk result (λ e. S.failures e.store ≡ session.entry.volume.failures) }
     ensures counts { IfErr result (λ e. CountsFor (fault_refusal (fault_of e.1)) session.entry.volume.failures (S.failures e.0)) }
     ensures sound { IfOk result (λ e. S.is_sound e.store ≡ session.entry.volume.is_sound) }
     ensures stays_sound { IfErr result (λ e. SoundFor (fault_refusal (fault_of e.1)) session.entry.volume.is_sound (S.is_sound e.0)) }
-    ensures committed { IfOk result (λ e. S.committed e.store ≡ session.entry.volume.committed) }
-    ensures given_committed { IfErr result (λ e. S.committed e.0 ≡ session.entry.volume.committed) }
     ensures size { IfOk result (λ e. S.size e.store ≡ session.entry.volume.size) }
     ensures given_size { IfErr result (λ e. S.size e.0 ≡ session.entry.volume.size) }
+    ensures same { (desk.new.limits ≡ desk.old.limits) × (desk.new.io.room ≡ desk.old.io.room) }
 {
-    let served = serve_all(&mut session, desk, hello, input, out);
+    let served = serve_all(&mut session, desk, first, input, out);
     let (store, closed) = session.close();
     if closed.is_err() {
         return Err((store, Stop::Device));
     }
     match served {
-        Ok(count) => Ok(ServeEnd {
+        Ok((ending, count)) => Ok(ServeEnd {
+            ending,
             calls: count.calls,
             memory: count.memory,
             store,
@@ -126,40 +141,32 @@ fn serve_and_close<S: BlockStore, I: Read, W: Write>(
     }
 }
 
-/// Serves a program's calls in a session over the volume of a store: writes the first frame, which tells the types and the PCBs; then reads calls
-/// as frames from the input, makes each and writes the frame of its answer, in one piece, before it reads the next; and closes the session where the
-/// input ends between two frames.
-///
-/// A call that is refused for its area, for room or for memory is answered so, and serving goes on. `Open`, `Hello` and `Memory` come before the
-/// first frame, and nothing is written or read then. `Device` ends serving at the failed access; where that was one of a call, the call is answered
-/// so, if the writer takes the frame. `Write` ends it at a frame that was not written, and `Frame` at one that is no right call, after the session
-/// is closed: what was answered before is in the store.
-pub fn serve<S: BlockStore, I: Read, W: Write>(
+/// Opens a session over the volume of a store, and serves the requests of the input in it.
+fn serve_session<S: CommitStore, I: Read, W: Write>(
     alloc: Global,
     store: S,
     dbd: &Dbd,
     psb: &Psb,
+    desk: &mut Desk,
+    first: &[u8],
     input: &mut I,
     out: &mut W,
 ) -> Result<ServeEnd<S>, (S, ServeFault)>
     requires size { S.size store ≡ dbd.now.block_size }
     requires matches { psb.now.made_for ≡ type_names dbd.now.types }
-    ensures served { IfOk result (λ e. IsServiceEnd S.contents S.is_sound dbd.now psb.now.pcbs store (I.remaining input.old) (W.contents out.old) (W.contents out.new) e) }
-    ensures fault { IfErr result (λ e. IsServeFaultOf dbd.now psb.now.pcbs (S.is_sound store) (S.contents store) (I.remaining input.old) (W.contents out.old) (W.contents out.new) (S.contents e.0) e.1) }
-    ensures early { IfErr result (λ e. IsBeforeCalls e.1 → (out.new ≡ out.old) × (input.new ≡ input.old)) }
+    requires limits { desk.old.limits ≡ limits_of dbd.now psb.now.pcbs }
+    requires room { desk.old.io.room ≡ longest_path dbd.now.types }
+    ensures served { IfOk result (λ e. IsWholeService dbd.now psb.now.pcbs (S.is_sound store) (stored_in S.contents S.committed store) e.ending (unread desk.old (I.remaining input.old)) (unread desk.new (I.remaining input.new)) first.now (W.contents out.old) (W.contents out.new) e.calls e.memory (stored_in S.contents S.committed e.store)) }
+    ensures fault { IfErr result (λ e. IsServeFaultOf dbd.now psb.now.pcbs (S.is_sound store) (stored_in S.contents S.committed store) (unread desk.old (I.remaining input.old)) first.now (W.contents out.old) (W.contents out.new) (stored_in S.contents S.committed e.0) e.1) }
+    ensures early { IfErr result (λ e. IsBeforeCalls e.1 → (out.new ≡ out.old) × (input.new ≡ input.old) × (desk.new ≡ desk.old)) }
     ensures failures { IfOk result (λ e. S.failures e.store ≡ S.failures store) }
     ensures counts { IfErr result (λ e. CountsFor (fault_refusal e.1) (S.failures store) (S.failures e.0)) }
     ensures sound { IfOk result (λ e. S.is_sound e.store ≡ S.is_sound store) }
     ensures stays_sound { IfErr result (λ e. SoundFor (fault_refusal e.1) (S.is_sound store) (S.is_sound e.0)) }
-    ensures committed { IfOk result (λ e. S.committed e.store ≡ S.committed store) }
-    ensures given_committed { IfErr result (λ e. S.committed e.0 ≡ S.committed store) }
     ensures size { IfOk result (λ e. S.size e.store ≡ S.size store) }
     ensures given_size { IfErr result (λ e. S.size e.0 ≡ S.size store) }
+    ensures same { (desk.new.limits ≡ desk.old.limits) × (desk.new.io.room ≡ desk.old.io.room) }
 {
-    let (hello, mut desk) = match prepare(alloc, dbd, psb) {
-        Ok(prepared) => prepared,
-        Err(fault) => return Err((store, fault)),
-    };
     let volume = match Volume::load(alloc, store, dbd) {
         Ok(volume) => volume,
         Err((store, Refused::Device)) => return Err((store, ServeFault::Device)),
@@ -169,8 +176,75 @@ pub fn serve<S: BlockStore, I: Read, W: Write>(
         Ok(session) => session,
         Err((volume, fault)) => return Err((volume.into_store(), ServeFault::Open(fault))),
     };
-    match serve_and_close(session, &mut desk, &hello, input, out) {
+    match serve_and_close(session, desk, first, input, out) {
         Ok(end) => Ok(end),
         Err((store, stop)) => Err((store, fault_of(stop))),
+    }
+}
+
+impl Service {
+    /// A service of a database and a program, before its first session. It can't be `Hello` or `Memory` later on.
+    pub fn new(alloc: Global, dbd: &Dbd, psb: &Psb) -> Result<Service, ServeFault>
+        ensures first { IfOk result (λ s. s.first ≡ frame_bytes (hello_bytes dbd.now psb.now.pcbs)) }
+        ensures unread { IfOk result (λ s. s.unread ≡ []) }
+        ensures made_for { IfOk result (IsServiceFor dbd.now psb.now.pcbs) }
+        ensures fault { IfErr result (NoService dbd.now psb.now.pcbs) }
+    {
+        let hello = match hello_frame(alloc, dbd, psb) {
+            Ok(hello) => hello,
+            Err(HelloFault::Large) => return Err(ServeFault::Hello),
+            Err(HelloFault::Memory) => return Err(ServeFault::Memory),
+        };
+        match new_desk(alloc, dbd, psb) {
+            Ok(desk) => Ok(Service {
+                hello: Some(hello),
+                desk,
+            }),
+            Err(_) => Err(ServeFault::Memory),
+        }
+    }
+
+    /// Serves a program in a session over the volume of a store: writes the first frame; then reads requests as frames from the input, carries each out and
+    /// writes the frame of its answer, in one piece, before it reads the next; and closes the session where the input ends between two frames, or a
+    /// roll back is asked for. For a roll back the caller rolls the store back and serves on: this is answered by the first frame of the next session.
+    ///
+    /// A call that is refused for its area, for room or for memory is answered so, and serving goes on. `Open` and `Memory` come before the first
+    /// frame, and nothing is written or read then; `Hello` never comes. `Device` ends serving at the failed access; where that was one of a call
+    /// or of a commit, it is answered so, if the writer takes the frame. `Write` ends it at a frame that was not written, and `Frame` at one that is
+    /// no right request, after the session is closed: what was answered before is in the store, and what was committed lasts.
+    pub fn serve<S: CommitStore, I: Read, W: Write>(
+        &mut self,
+        alloc: Global,
+        store: S,
+        dbd: &Dbd,
+        psb: &Psb,
+        input: &mut I,
+        out: &mut W,
+    ) -> Result<ServeEnd<S>, (S, ServeFault)>
+        requires size { S.size store ≡ dbd.now.block_size }
+        requires matches { psb.now.made_for ≡ type_names dbd.now.types }
+        requires made_for { IsServiceFor dbd.now psb.now.pcbs self.old }
+        ensures served { IfOk result (λ e. IsWholeService dbd.now psb.now.pcbs (S.is_sound store) (stored_in S.contents S.committed store) e.ending (unread_by self.old (I.remaining input.old)) (unread_by self.new (I.remaining input.new)) self.old.first (W.contents out.old) (W.contents out.new) e.calls e.memory (stored_in S.contents S.committed e.store)) }
+        ensures fault { IfErr result (λ e. IsServeFaultOf dbd.now psb.now.pcbs (S.is_sound store) (stored_in S.contents S.committed store) (unread_by self.old (I.remaining input.old)) self.old.first (W.contents out.old) (W.contents out.new) (stored_in S.contents S.committed e.0) e.1) }
+        ensures early { IfErr result (λ e. IsBeforeCalls e.1 → (out.new ≡ out.old) × (input.new ≡ input.old) × (self.new ≡ self.old)) }
+        ensures next { IfOk result (λ e. e.ending ≡ Ending.RollBack → self.new.first ≡ frame_bytes done_bytes) }
+        ensures made_for { IsServiceFor dbd.now psb.now.pcbs self.new }
+        ensures failures { IfOk result (λ e. S.failures e.store ≡ S.failures store) }
+        ensures counts { IfErr result (λ e. CountsFor (fault_refusal e.1) (S.failures store) (S.failures e.0)) }
+        ensures sound { IfOk result (λ e. S.is_sound e.store ≡ S.is_sound store) }
+        ensures stays_sound { IfErr result (λ e. SoundFor (fault_refusal e.1) (S.is_sound store) (S.is_sound e.0)) }
+        ensures size { IfOk result (λ e. S.size e.store ≡ S.size store) }
+        ensures given_size { IfErr result (λ e. S.size e.0 ≡ S.size store) }
+    {
+        let first = first_frame(&self.hello);
+        match serve_session(alloc, store, dbd, psb, &mut self.desk, first, input, out) {
+            Ok(end) => {
+                if end.ending == Ending::RollBack {
+                    self.hello = None;
+                }
+                Ok(end)
+            }
+            Err(given) => Err(given),
+        }
     }
 }

@@ -10,6 +10,8 @@ mod flush_tests;
 #[cfg(test)]
 mod growth_tests;
 #[cfg(test)]
+mod lasting;
+#[cfg(test)]
 mod rows;
 #[cfg(test)]
 mod serve_act;

@@ -1,10 +1,10 @@
 ghost use Rattle.std.specs.Prelude.{◌≡◌, []};
-ghost use Rattle.hd_dbd.specs.Loads.{lacks_parent, order_fault, load_fault};
+ghost use Rattle.hd_dbd.specs.Loads.{lacks_parent, load_fault};
 ghost use Rattle.hd_links.specs.LastRows.{segments_of, parent_on_path, twin_on_path};
-ghost use Rattle.hd_unload.specs.Paths.{placed_of};
 
-use crate::path::{LoadPath, Loaded};
-use hd_dbd::{Dbd, LoadFault, compare_keys};
+use crate::path::LoadPath;
+use hd_changes::order_fault;
+use hd_dbd::{Dbd, LoadFault};
 
 /// Whether the parent type of a row is not on the path of the row loaded last.
 fn lacks_parent(path: &LoadPath<'_>, dbd: &Dbd, code: u8) -> bool
@@ -14,29 +14,6 @@ fn lacks_parent(path: &LoadPath<'_>, dbd: &Dbd, code: u8) -> bool
         None => false,
         Some(parent) => !path.has_type(parent),
     }
-}
-
-/// Why a row may not be loaded behind the one before it below its parent, if there is a reason.
-fn order_fault(dbd: &Dbd, before: Loaded<'_>, code: u8, bytes: &[u8]) -> Option<LoadFault>
-    ensures { result ≡ order_fault dbd.now.types (placed_of before.entry).segment (record { code = code; bytes = bytes.now }) }
-{
-    if code < before.code {
-        return Some(LoadFault::LE);
-    }
-    if before.code < code {
-        return None;
-    }
-    let order = compare_keys(
-        dbd.key_of(before.code, before.bytes),
-        dbd.key_of(code, bytes),
-    );
-    if dbd.has_unique_key(code) && order.is_eq() {
-        return Some(LoadFault::LB);
-    }
-    if order.is_gt() {
-        return Some(LoadFault::LC);
-    }
-    None
 }
 
 /// Why a row may not be loaded behind the last row of a path, if there is a reason.
@@ -49,7 +26,7 @@ pub fn load_fault(path: &LoadPath<'_>, dbd: &Dbd, code: u8, bytes: &[u8]) -> Opt
     let place = (dbd.level(code) as usize).saturating_sub(1);
     match path.row(place) {
         None => None,
-        Some(before) => order_fault(dbd, before, code, bytes),
+        Some(before) => order_fault(dbd, before.code, before.bytes, code, bytes),
     }
 }
 

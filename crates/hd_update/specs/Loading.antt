@@ -1,19 +1,18 @@
 -- A row that is loaded behind all others.
-use Rattle.std.specs.Prelude.{◌≡◌, ℕ, ◌-◌, List, [], ◌∷◌, length, map, IsTrue, true, Bool, ◌&&◌, cond, Option, Some, None, option_map, option_and_then, unwrap_or, slice_get}
+use Rattle.std.specs.Prelude.{◌≡◌, ℕ, ◌-◌, List, [], ◌∷◌, length, map, IsTrue, true, Bool, Option, None, option_map, option_and_then, unwrap_or, slice_get}
 use Rattle.std.specs.Option.{option_map_or}
-use Rattle.std.specs.Ordering.{nat_cmp, is_eq, is_gt}
+use Rattle.std.specs.Ordering.{nat_cmp}
 use Rattle.std.specs.Cmp.Lexicographic.{slice_cmp}
 use Rattle.std.specs.declared.cmp.Ordering.{Ordering}
 use Rattle.hd_dbd.specs.Types.{SegmentType, View}
 use Rattle.hd_dbd.specs.declared.answer.LoadFault.{LoadFault}
-use Rattle.hd_dbd.specs.declared.answer.LoadFault.TheVariants.{LB, LC}
 use Rattle.hd_dbd.specs.declared.answer.Refused.{Refused}
 use Rattle.hd_dbd.specs.declared.answer.Refused.TheVariants.{Full}
 use Rattle.hd_dbd.specs.Hierarchy.{Database, parent_of, level_of}
 use Rattle.hd_dbd.specs.Segment.{Segment}
 use Rattle.hd_dbd.specs.Rows.{level, key_of}
 use Rattle.hd_dbd.specs.Forest.{Forest}
-use Rattle.hd_dbd.specs.Loads.{has_unique_key, lacks_parent, order_fault, load_fault}
+use Rattle.hd_dbd.specs.Loads.{lacks_parent, order_fault, load_fault}
 use Rattle.hd_calls.specs.Ssas.{Ssa}
 use Rattle.hd_calls.specs.Access.{loads}
 use Rattle.hd_calls.specs.Runs.{has_root, LacksRoom}
@@ -107,10 +106,6 @@ last_parent types path code = option_map_or (λ _. unwrap_or (slice_get path (le
 -- how the key of the segment at an address stands to a row's
 abbrev pub IsKeyOrder : Database → VolumeState → ℕ → Segment → Ordering → Type 0
 IsKeyOrder d v a row order = order ≡ slice_cmp nat_cmp (key_of d.types (segment_at (links_of d.types v) a)) (key_of d.types row)
-
--- why a row of a type may not be loaded behind its twin, by how the twin's key stands to its own
-abbrev pub key_fault : List SegmentType → ℕ → Ordering → Option LoadFault
-key_fault types code order = cond (has_unique_key types code && is_eq order) (Some LB) (cond (is_gt order) (Some LC) None)
 
 -- ---- once nothing forbids it
 

@@ -6,10 +6,11 @@ ghost use Rattle.hd_links.specs.Links.{segment_at};
 ghost use Rattle.hd_image.specs.Records.{links_of};
 ghost use Rattle.hd_get.specs.Meeting.{IsStored};
 ghost use Rattle.hd_get.specs.Searches.{IsOf};
-ghost use Rattle.hd_update.specs.Loading.{HasLastPath, IsCodeOn, IsKeyOrder, SaysParentLacks, IsLoadFault, IsOrderFault, IsLastTwin, key_fault, last_parent};
+ghost use Rattle.hd_update.specs.Loading.{HasLastPath, IsCodeOn, IsKeyOrder, SaysParentLacks, IsLoadFault, IsOrderFault, IsLastTwin, last_parent};
 
+use hd_changes::order_fault;
 use hd_dbd::{Dbd, LoadFault, Refused, Status, compare_keys};
-use hd_forest::{Path, bytes_in, code_at};
+use hd_forest::{Path, bytes_in, code_at, code_in};
 use hd_stores::BlockStore;
 use hd_volume::Volume;
 use std::cmp::Ordering;
@@ -96,21 +97,8 @@ pub fn key_order<S: BlockStore>(
     Ok(compare_keys(before, dbd.key_of(code, bytes)))
 }
 
-/// Why a row may not be loaded behind the twin with a key that so stands to its own, if there is a reason.
-fn key_fault(dbd: &Dbd, code: u8, order: Ordering) -> Option<LoadFault>
-    ensures { result ≡ key_fault dbd.now.types code order }
-{
-    if dbd.has_unique_key(code) && order.is_eq() {
-        return Some(LoadFault::LB);
-    }
-    if order.is_gt() {
-        return Some(LoadFault::LC);
-    }
-    None
-}
-
 /// Why a row may not be loaded behind the one at an address, the last below its parent, if there is a reason.
-fn order_fault<S: BlockStore>(
+fn order_fault_at<S: BlockStore>(
     volume: &mut Volume<S>,
     dbd: &Dbd,
     address: u32,
@@ -123,15 +111,8 @@ fn order_fault<S: BlockStore>(
     ensures value { IfOk result (λ r. IsTrue volume.old.is_sound → r ≡ order_fault dbd.now.types (segment_at (links_of dbd.now.types volume.old) address) (record { code = code; bytes = bytes.now })) }
     ensures refusal { OnlyDevice result }
 {
-    let before = code_at(volume, dbd, address)?;
-    if code < before {
-        return Ok(Some(LoadFault::LE));
-    }
-    if before < code {
-        return Ok(None);
-    }
-    let order = key_order(volume, dbd, address, code, bytes)?;
-    Ok(key_fault(dbd, code, order))
+    let segment = volume.segment_at(address)?;
+    Ok(order_fault(dbd, code_in(segment), bytes_in(dbd, segment), code, bytes))
 }
 
 /// Why a row may not be loaded behind the last row of the path of the last row at its own level, if there is a reason.
@@ -150,7 +131,7 @@ fn fault_behind<S: BlockStore>(
     let place = (dbd.level(code) as usize).saturating_sub(1);
     match address_on(path, place) {
         None => Ok(None),
-        Some(address) => order_fault(volume, dbd, address, code, bytes),
+        Some(address) => order_fault_at(volume, dbd, address, code, bytes),
     }
 }
 

@@ -82,6 +82,13 @@ const NO_SYNC: Word = Word {
     kind: Kind::Flag("no-sync"),
 };
 
+/// That the end of the input commits nothing.
+const COMMIT_ON_REQUEST: Word = Word {
+    name: "ONREQUEST",
+    help: "Commit only what a request asks for: what was changed behind the last one is taken back where the input ends",
+    kind: Kind::Flag("commit-on-request"),
+};
+
 /// The commands, in the order of the help.
 pub const VERBS: &[Verb] = &[
     Verb {
@@ -103,7 +110,7 @@ pub const VERBS: &[Verb] = &[
     Verb {
         name: "serve",
         about: "Serves a program's DL/I calls over a volume, which it checks first: they come as frames on standard input",
-        words: &[DBD, PSB, CHANGED_VOLUME, CACHE, NO_SYNC],
+        words: &[DBD, PSB, CHANGED_VOLUME, COMMIT_ON_REQUEST, CACHE, NO_SYNC],
     },
     Verb {
         name: "check",

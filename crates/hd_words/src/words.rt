@@ -3,7 +3,7 @@ use clap::{Arg, ArgAction, ArgMatches, Command, Error, value_parser};
 use hd_files::Named;
 use std::alloc::Global;
 
-/// What the words of the command line ask for. All of them but `blocks`, `cache`, `syncs`, `table`, `is_tables` and `word` are names of files; `cache`
+/// What the words of the command line ask for. All of them but `blocks`, `cache`, `end_commits`, `syncs`, `table`, `is_tables` and `word` are names of files; `cache`
 /// says how many blocks of the volume are kept in memory, if the words say it, and `syncs` whether to wait until what is written is on the disk.
 #[derive(Clone, Copy)]
 pub enum Request<'a> {
@@ -18,11 +18,12 @@ pub enum Request<'a> {
         cache: Option<u32>,
         syncs: bool,
     },
-    /// Calls over a volume, by a program that sends them.
+    /// Calls over a volume, by a program that sends them. Its end commits what they changed, or only its requests do.
     Serve {
         dbd: &'a str,
         psb: &'a str,
         volume: &'a str,
+        end_commits: bool,
         cache: Option<u32>,
         syncs: bool,
     },
@@ -210,6 +211,7 @@ fn request_of<'a>(matches: &ArgMatches<'a>) -> Request<'a> {
             dbd,
             psb: given.get_str("PSB").unwrap_or(""),
             volume,
+            end_commits: !given.get_flag("ONREQUEST"),
             cache,
             syncs,
         };

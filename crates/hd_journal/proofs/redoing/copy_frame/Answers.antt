@@ -1,9 +1,21 @@
-use Rattle.std.proofs.Common.{rules, ◌≡◌, ◌+◌, ◌*◌, ℕ, length, slice_index, refl, ap, ◌∙◌, arith}
+use Rattle.std.proofs.Common.{rules, ◌≡◌, ◌+◌, ◌*◌, ℕ, length, slice_index, refl, sym, ap, ◌∙◌, arith}
 use Rattle.std.proofs.lemmas.Result.{on_ok_weaker}
 use Rattle.hd_bytes.specs.Ranges.{bytes_at}
-use Rattle.hd_journal.specs.Log.{frame_at, block_no, skipped}
-use Rattle.hd_journal.proofs.Steps.{frame-number, frame-block, frame-there, copy-redoes, copy-frames}
+use Rattle.hd_journal.specs.Log.{frame_at, block_no, no_block, skipped, written_from}
+use Rattle.hd_journal.proofs.Steps.{frame-number, frame-block, frame-there, copy-redoes, copy-frames, gate-frames}
 use Rattle.hd_journal.proofs.redoing.copy_frame.Goals as goal
+
+pub returns-then-number-clause-copied : goal.returns-then-number-clause-copied
+returns-then-number-clause-copied g c h first frames =
+    let s = g.D.Disk.state c.args.disk.now in
+    let head = c.args.head in
+    let place : ℕ = frame_at head.size c.args.i in
+    let at : c.frame_place.result ≡ place = c.frame_place.ensures in
+    let there = frame-there head s.log c.args.i c.requires.low (c.requires.frames h) in
+    let is = c.in_ok-read_log.ensures.value h ∙ ap (λ (m : ℕ). bytes_at s.log m (length c.args.frame.now)) at ∙ ap (bytes_at s.log place) c.requires.frame in
+    let number : c.read_u32-number.result ≡ block_no head.size s.log c.args.i = c.read_u32-number.ensures ∙ frame-number s.log c.read_log.new.buf place (head.size + 4) (omega arith) there is in
+    let none : c.read_u32-number.result ≡ no_block = search rules in
+    gate-frames head (written_from c.args.is_shut) s.log first s.volume c.args.i c.requires.some (c.requires.few h) (sym number ∙ none) frames
 
 pub returns-clause-redoes : goal.returns-clause-redoes
 returns-clause-redoes g c h first sparing =

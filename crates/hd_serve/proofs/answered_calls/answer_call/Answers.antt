@@ -1,6 +1,6 @@
 use Rattle.std.proofs.Common.{sym}
 use Rattle.hd_session.specs.Turns.{Turn, IsTurnAnswered}
-use Rattle.hd_serve.proofs.Calls.{serves_one, made_before_write}
+use Rattle.hd_serve.proofs.OneRequest.{serves_one, made_before_write}
 use Rattle.hd_serve.proofs.answered_calls.answer_call.Goals as goal
 
 pub returns-in-Ok-clause-serves : goal.returns-in-Ok-clause-serves

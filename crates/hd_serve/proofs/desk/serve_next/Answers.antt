@@ -1,37 +1,27 @@
-use Rattle.std.proofs.Common.{◌≡◌, ℕ, List, Option, map, sym, subst}
-use Rattle.std.specs.Io.KnownBytes.{Consumes, prepend_known}
-use Rattle.hd_session.specs.Turns.{Turn}
+use Rattle.std.proofs.Common.{◌≡◌, ℕ, List, Option, Result, sym, subst}
+use Rattle.std.specs.Prelude.{IfErr}
+use Rattle.std.specs.Io.KnownBytes.{prepend_known}
+use Rattle.hd_session.specs.Opening.{SessionState}
 use Rattle.hd_serve.specs.declared.call.Limits.{Limits}
-use Rattle.hd_serve.specs.Frames.{frame_bytes, call_bytes, CallFits, IsCallRead}
+use Rattle.hd_serve.specs.declared.desk.Next.{Next}
+use Rattle.hd_serve.specs.declared.desk.Stop.{Stop}
+use Rattle.hd_serve.specs.declared.request.FramedRequest.TheVariants as asks
+use Rattle.hd_serve.specs.Frames.{IsRequestRead}
+use Rattle.hd_serve.specs.Requests.{ask}
+use Rattle.hd_serve.specs.Serves.{StopsNext}
+use Rattle.hd_serve.proofs.Nexts.{stops_next}
 use Rattle.hd_serve.proofs.desk.serve_next.Goals as goal
 
-pub returns-in-Ok-clause-next : goal.returns-in-Ok-clause-next
-returns-in-Ok-clause-next g c =
+pub returns-in-Call-clause-stop : goal.returns-in-Call-clause-stop
+returns-in-Call-clause-stop g c =
     let limits : Limits = c.args.desk.now.limits in
+    let s : SessionState = c.args.session.now in
+    let t : SessionState = c.answer_framed.new.session in
     let before : Option (List ℕ) = prepend_known c.args.desk.now.buffer (g.I.Read.remaining c.args.input.now) in
-    let after : Option (List ℕ) = prepend_known c.next_call.new.self (g.I.Read.remaining c.next_call.new.input) in
-    let turn : Turn = record { pcb = c.next.inside.pcb; call = record { function = c.next.inside.func; ssas = map (λ s. s.items) c.next.inside.ssas.items; area = c.next.inside.area.items } } in
-    let read : IsCallRead limits before c.in-Ok-Some.framed after = rw c.in-Ok-Some.field-0-is at c.in-Ok-Some.ensures.call in
-    let same : turn ≡ c.in-Ok-Some.framed = c.next.view_is in
-    record {
-      turn = turn;
-      right = subst (λ (f : Turn). CallFits limits f) (sym same) read.fits;
-      taken = subst (λ (f : Turn). Consumes before after (frame_bytes (call_bytes f))) (sym same) read.taken;
-      serves = c.in-Ok.ensures.serves;
-    }
-
-pub returns-clause-stop : goal.returns-clause-stop
-returns-clause-stop g c =
-    let limits : Limits = c.args.desk.now.limits in
-    let before : Option (List ℕ) = prepend_known c.args.desk.now.buffer (g.I.Read.remaining c.args.input.now) in
-    let after : Option (List ℕ) = prepend_known c.next_call.new.self (g.I.Read.remaining c.next_call.new.input) in
-    let turn : Turn = record { pcb = c.next.inside.pcb; call = record { function = c.next.inside.func; ssas = map (λ s. s.items) c.next.inside.ssas.items; area = c.next.inside.area.items } } in
-    let read : IsCallRead limits before c.in-Ok-Some.framed after = rw c.in-Ok-Some.field-0-is at c.in-Ok-Some.ensures.call in
-    let same : turn ≡ c.in-Ok-Some.framed = c.next.view_is in
-    record {
-      turn = turn;
-      right = subst (λ (f : Turn). CallFits limits f) (sym same) read.fits;
-      after = after;
-      taken = subst (λ (f : Turn). Consumes before after (frame_bytes (call_bytes f))) (sym same) read.taken;
-      makes = rw c.in-Err-Write.field-0-is at c.in-Err-Write.ensures.halts;
-    }
+    let after : Option (List ℕ) = prepend_known c.next_request.new.self (g.I.Read.remaining c.next_request.new.input) in
+    let old : Option (List ℕ) = g.W.Write.contents c.args.out.now in
+    let new : Option (List ℕ) = g.W.Write.contents c.answer_framed.new.out in
+    let some : IsRequestRead limits before c.in-Ok-Some.request after = rw c.in-Ok-Some.field-0-is at c.in-Ok-Some.ensures.request in
+    let read : IsRequestRead limits before (asks.Call c.in-Call.call) after = rw c.in-Call.is at some in
+    subst (λ (o : Result Next Stop). IfErr o (λ e. StopsNext limits s before old new e t)) (sym c.next_of.ensures)
+    (stops_next limits s t before after old new (ask c.in-Call.call) read.fits read.taken c.answer_framed.result c.answer_framed.ensures.halts)

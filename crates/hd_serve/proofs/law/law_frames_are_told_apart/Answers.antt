@@ -6,5 +6,5 @@ use Rattle.hd_serve.proofs.law.law_frames_are_told_apart.Goals as goal
 pub returns : goal.returns
 returns c = λ limits bytes few all. (
   none-begins limits bytes (bytes-from bytes all),
-  elim [ inl empty ↦ ap (frame_fault limits) empty | inr begins ↦ ap (frame_fault limits) begins.spelled ∙ none-wrong limits begins.call begins.rest few begins.fits ],
+  elim [ inl empty ↦ ap (frame_fault limits) empty | inr begins ↦ ap (frame_fault limits) begins.spelled ∙ none-wrong limits begins.request begins.rest few begins.fits ],
 )

@@ -10,8 +10,8 @@ use Rattle.std.specs.Prelude.{slice_get}
 use Rattle.hd_update.proofs.LastPaths.{stored_on, none_on}
 use Rattle.hd_update.proofs.load_rule.fault_behind.Goals as goal
 
-pub order_fault-requires-clause-there : goal.order_fault-requires-clause-there
-order_fault-requires-clause-there g c sound =
+pub order_fault_at-requires-clause-there : goal.order_fault_at-requires-clause-there
+order_fault_at-requires-clause-there g c sound =
     let T = c.requires.last sound in
     (stored_on c.args.dbd.now c.args.volume.now c.args.path.now T.0 T.1 c.args.path.now refl c.saturating_sub-place.result c.in-Some.address c.in-Some.ensures).there
 
@@ -24,7 +24,7 @@ returns-in-None-clause-value g c f L =
     (ap (slice_get (last_on f)) (sym place) ∙ none_on d c.args.volume.now c.args.path.now f L c.args.path.now refl c.saturating_sub-place.result c.in-None.ensures))
 
 pub returns-in-Some-clause-value : goal.returns-in-Some-clause-value
-returns-in-Some-clause-value g c = if-ok c.order_fault.result c.order_fault.ensures.value (λ r value f L.
+returns-in-Some-clause-value g c = if-ok c.order_fault_at.result c.order_fault_at.ensures.value (λ r value f L.
     let d = c.args.dbd.now in
     let row : Segment = record { code = c.args.code; bytes = c.args.bytes.now } in
     let place : c.saturating_sub-place.result ≡ level_of d.types c.args.code - 1 = c.saturating_sub-place.ensures ∙ ap (λ (n : ℕ). n - 1) c.level.ensures.level in

@@ -1,19 +1,21 @@
-use Rattle.std.proofs.Common.{rules, ◌≡◌, ◌+◌, ◌*◌, ℕ, List, ◌++◌, replicate, refl, sym, ap, ◌∙◌, subst}
+use Rattle.std.proofs.Common.{rules, ◌≡◌, ◌≤◌, ◌+◌, ◌*◌, ℕ, List, ◌++◌, replicate, refl, sym, ap, ◌∙◌, subst, arith}
 use Rattle.hd_bytes.specs.Blocks.{grown}
-use Rattle.hd_journal.specs.Log.{image}
-use Rattle.hd_journal.specs.Framed.{IsFramed}
+use Rattle.hd_journal.specs.declared.head.Head.{Head}
+use Rattle.hd_journal.specs.Log.{no_block, image}
+use Rattle.hd_journal.specs.Framed.{IsFramed, IsSafe}
 use Rattle.hd_journal.proofs.FrameLemmas.{resized, grown-framed, grown-image}
-use Rattle.hd_journal.proofs.JournalLemmas.{collecting≢published, safe-collecting, collecting-safe}
+use Rattle.hd_journal.proofs.Held.{safe-sure, tried-sure, committed-same}
 use Rattle.hd_journal.proofs.journal.Journal.grow.Goals as goal
 
 pub returns-clause-kept : goal.returns-clause-kept
 returns-clause-kept g c =
-    let j = c.settle.new.self in
-    let k = c.settle.ensures.kept in
+    let j = c.reserve.new.self in
+    let k = c.reserve.ensures.kept in
     let a = g.D.Disk.state j.disk in
-    let well = c.in-Ok.ensures.ok.0 in
+    let well = c.reserve.ensures.failed ∙ c.in-Ok.ensures.ok.0 in
     let more : c.from.result * c.from-2.result ≡ c.args.blocks * j.head.size = rw (c.from.ensures, c.from-2.ensures) refl in
     let len : j.head.len + c.args.blocks * j.head.size ≡ c.in-Some.len = search (rules, more) in
+    let few : c.in-Some.len ≤ no_block * j.head.size = search (rules, c.most_len.ensures) in
     let items : j.places.items ++ replicate c.args.blocks 0 ≡ c.resize.new.self.items =
     resized j.places.items c.resize.new.self.items _ _ c.args.blocks c.in-Ok-resize.ensures.items (search rules) (search rules) in
     record {
@@ -22,25 +24,42 @@ returns-clause-kept g c =
       zeros = k.zeros;
       frame = k.frame;
       room = search rules;
+      kept_room = search rules;
+      fewer = search rules;
+      same = ap (λ (x : Head). record x { len = c.in-Some.len }) k.same;
+      later = k.later;
+      longer = (let l = k.longer in omega (arith, l, len));
       usable = k.usable;
       sure = k.sure;
       framed = λ e h.
           subst (λ (xs : List ℕ). IsFramed a (record j.head { len = c.in-Some.len }) xs) items
           (subst (λ (n : ℕ). IsFramed a (record j.head { len = n }) (j.places.items ++ replicate c.args.blocks 0)) len
-          (grown-framed a j.head j.places.items c.args.blocks (k.framed well h)));
-      collecting = λ e h p. k.collecting well h c.in-Ok.ensures.collecting;
-      published = λ e h p. absurd (collecting≢published (sym c.in-Ok.ensures.collecting ∙ p));
-      first = λ e p. absurd (collecting≢published (sym c.in-Ok.ensures.collecting ∙ p));
-      safe = λ h. collecting-safe a j.since j.stage a.volume _ c.in-Ok.ensures.collecting (safe-collecting a j.since j.stage a.volume _ c.in-Ok.ensures.collecting (k.safe h));
+          (grown-framed a j.head j.places.items c.args.blocks (omega (arith, few, len)) (k.framed well h)));
+      last = k.last;
+      holds = k.holds;
+      first = k.first;
+      safe = λ h.
+          let was = safe-sure a j.stage j.since (image j.last a.log a.volume) _ (k.sure well) (k.safe h) in
+          subst (IsSafe a j.since (image j.last a.log a.volume)) (sym (tried-sure j.stage (image j.last a.log a.volume) _ (k.sure well))) was;
     }
 
 pub returns-clause-value : goal.returns-clause-value
 returns-clause-value g c h =
-    let j = c.settle.new.self in
-    let k = c.settle.ensures.kept in
+    let j = c.reserve.new.self in
+    let k = c.reserve.ensures.kept in
     let a = g.D.Disk.state j.disk in
     let more : c.from.result * c.from-2.result ≡ c.args.blocks * j.head.size = rw (c.from.ensures, c.from-2.ensures) refl in
     let len : j.head.len + c.args.blocks * j.head.size ≡ c.in-Some.len = search (rules, more) in
-    ap (λ (n : ℕ). image (record j.head { len = n }) a.log a.volume) (sym len) ∙ grown-image a j.head j.places.items c.args.blocks (k.framed c.in-Ok.ensures.ok.0 h)
-    ∙ ap (λ (n : ℕ). grown n (image j.head a.log a.volume) c.args.blocks) c.settle.ensures.size
-    ∙ ap (λ (xs : List ℕ). grown c.args.self.now.head.size xs c.args.blocks) (c.in-Ok.ensures.contents h)
+    let few : c.in-Some.len ≤ no_block * j.head.size = search (rules, c.most_len.ensures) in
+    ap (λ (n : ℕ). image (record j.head { len = n }) a.log a.volume) (sym len)
+    ∙ grown-image a j.head j.places.items c.args.blocks (omega (arith, few, len)) (k.framed (c.reserve.ensures.failed ∙ c.in-Ok.ensures.ok.0) h)
+    ∙ ap (λ (n : ℕ). grown n (image j.head a.log a.volume) c.args.blocks) (c.reserve.ensures.size ∙ c.make_room.ensures.size)
+    ∙ ap (λ (xs : List ℕ). grown c.args.self.now.head.size xs c.args.blocks) (c.reserve.ensures.contents ∙ c.in-Ok.ensures.contents h)
+
+pub returns-clause-committed : goal.returns-clause-committed
+returns-clause-committed g c h =
+    let j = c.reserve.new.self in
+    let k = c.reserve.ensures.kept in
+    let a = g.D.Disk.state j.disk in
+    committed-same j.stage (image j.last a.log a.volume) (image j.last a.log a.volume) _ _ j.since (k.sure (c.reserve.ensures.failed ∙ c.in-Ok.ensures.ok.0)) refl
+    ∙ c.reserve.ensures.committed ∙ c.make_room.ensures.committed h

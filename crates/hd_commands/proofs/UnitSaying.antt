@@ -1,0 +1,237 @@
+-- What is known of a store behind a play is known of it behind a write of all that a cache had, and behind a commit.
+use Rattle.std.proofs.Common.{◌≡◌, ◌<◌, ◌≤◌, ◌⊎◌, ℕ, List, Bool, true, false, IsTrue, Result, Ok, Err, Some, Option, inl, inr, sym, ◌∙◌, ap, subst, arith, length}
+use Rattle.std.specs.Prelude.{OnOk, OnErr, IfOk, IfErr, unwrap_or}
+use Rattle.std.proofs.lemmas.List.{take_all}
+use Rattle.hd_dbd.specs.declared.answer.Refused.{Refused}
+use Rattle.hd_dbd.specs.declared.answer.Refused.TheVariants as refused
+use Rattle.hd_dbd.specs.Types.{View}
+use Rattle.hd_dbd.specs.Hierarchy.{Database}
+use Rattle.hd_stores.specs.Stores.{Committed, CountsFor, SoundFor}
+use Rattle.hd_image.specs.Holding.{volume_of}
+use Rattle.hd_check.specs.Checks.{IsFaulty}
+use Rattle.hd_session.specs.Turns.{Turn}
+use Rattle.hd_session.specs.declared.opening.OpenFault.TheVariants as opening
+use Rattle.hd_session.specs.Opening.{IsOpenFaultOf}
+use Rattle.hd_deck.specs.StepText.{StepText}
+use Rattle.hd_deck.specs.Runs.{turns_of, IsPlayed, IsWholeRun, IsPlayedInPart}
+use Rattle.hd_commands.specs.declared.refusal.Refusal.{Refusal}
+use Rattle.hd_commands.specs.declared.refusal.Refusal.TheVariants.{Fault, Old, NotEmpty, Record, Full, Device, Memory}
+use Rattle.std.specs.Io.KnownBytes.{Appends}
+use Rattle.hd_commands.specs.Lines.{refusal_line}
+use Rattle.hd_commands.specs.declared.ended.Ended.{Ended}
+use Rattle.hd_commands.specs.Commands.{IsRefused}
+use Rattle.hd_commands.specs.Crashes.{IsLeftBy, MayHaveTried, IsWritten}
+use Rattle.hd_commands.specs.Plays.{PlaysInPrint, PlaySays, UnitSays, FailsOrStays}
+
+-- an access failed, or none did, by the refusal
+pub fails-or-stays : (e : Refused) (m n : ℕ) (a b : Bool) → CountsFor e m n → SoundFor e a b → (b ≡ a) × (n ≡ m) ⊎ (m < n) × (b ≡ false)
+fails-or-stays refused.Memory m n a b counts sound = inl (sound, counts)
+fails-or-stays refused.Full m n a b counts sound = inl (sound, counts)
+fails-or-stays refused.Device m n a b counts sound = inr (counts, sound)
+fails-or-stays refused.Broken m n a b counts sound = inl (sound, counts)
+fails-or-stays refused.Area m n a b counts sound = inl (sound, counts)
+
+-- what a play says is what a unit says, before anything else failed
+pub unit-of-play : {S : Type 0} (is_sound : S → Bool) (failures : S → ℕ) (contents : S → List ℕ) (d : Database) (pcbs : List View) (steps : List StepText) (old new : S) (r : Refusal)
+    → PlaySays is_sound failures contents d pcbs steps old new r → UnitSays is_sound failures contents d pcbs steps old new r
+unit-of-play is_sound failures contents d pcbs steps old new (Fault fault) says = inr says
+unit-of-play is_sound failures contents d pcbs steps old new (Old version) says = inr says
+unit-of-play is_sound failures contents d pcbs steps old new NotEmpty says = inr says
+unit-of-play is_sound failures contents d pcbs steps old new (Record fault n) says = says
+unit-of-play is_sound failures contents d pcbs steps old new (Full n) says = says
+unit-of-play is_sound failures contents d pcbs steps old new Device says = says
+unit-of-play is_sound failures contents d pcbs steps old new Memory says = inr says
+
+-- where an access failed, the refusal of a unit says no more
+says-failed : {S T : Type 0} (is_sound : S → Bool) (failures : S → ℕ) (contents : S → List ℕ) (is_sound' : T → Bool) (failures' : T → ℕ) (contents' : T → List ℕ)
+    (d : Database) (pcbs : List View) (steps : List StepText) (old new : S) (old' new' : T) (r : Refusal)
+    → (failures' old' < failures' new') × (is_sound' new' ≡ false) → UnitSays is_sound failures contents d pcbs steps old new r → UnitSays is_sound' failures' contents' d pcbs steps old' new' r
+says-failed is_sound failures contents is_sound' failures' contents' d pcbs steps old new old' new' (Fault fault) failed says = inl failed
+says-failed is_sound failures contents is_sound' failures' contents' d pcbs steps old new old' new' (Old version) failed says = inl failed
+says-failed is_sound failures contents is_sound' failures' contents' d pcbs steps old new old' new' NotEmpty failed says = inl failed
+says-failed is_sound failures contents is_sound' failures' contents' d pcbs steps old new old' new' (Record fault n) failed says = says
+says-failed is_sound failures contents is_sound' failures' contents' d pcbs steps old new old' new' (Full n) failed says = says
+says-failed is_sound failures contents is_sound' failures' contents' d pcbs steps old new old' new' Device failed says = inl failed
+says-failed is_sound failures contents is_sound' failures' contents' d pcbs steps old new old' new' Memory failed says = inl failed
+
+-- where none did, it says the same of two stores of which the same is known
+says-alike : {S T : Type 0} (is_sound : S → Bool) (failures : S → ℕ) (contents : S → List ℕ) (is_sound' : T → Bool) (failures' : T → ℕ) (contents' : T → List ℕ)
+    (d : Database) (pcbs : List View) (steps : List StepText) (old new : S) (old' new' : T) (r : Refusal)
+    → is_sound' old' ≡ is_sound old → (IsTrue (is_sound' old') → (contents' old' ≡ contents old) × (contents' new' ≡ contents new))
+    → ((failures old < failures new) × (is_sound new ≡ false) → (failures' old' < failures' new') × (is_sound' new' ≡ false)) → UnitSays is_sound failures contents d pcbs steps old new r → UnitSays is_sound' failures' contents' d pcbs steps old' new' r
+says-alike is_sound failures contents is_sound' failures' contents' d pcbs steps old new old' new' (Fault fault) sound bytes failed (inl was) = inl (failed was)
+says-alike is_sound failures contents is_sound' failures' contents' d pcbs steps old new old' new' (Fault fault) sound bytes failed (inr says) = inr (λ now.
+    let told = says (subst IsTrue sound now) in
+    let same = bytes now in
+    (subst (λ (b : List ℕ). IsFaulty d (volume_of d b) fault) (sym same.0) told.0, same.1 ∙ told.1 ∙ sym same.0))
+says-alike is_sound failures contents is_sound' failures' contents' d pcbs steps old new old' new' (Old version) sound bytes failed (inl was) = inl (failed was)
+says-alike is_sound failures contents is_sound' failures' contents' d pcbs steps old new old' new' (Old version) sound bytes failed (inr says) = inr (λ now.
+    let told = says (subst IsTrue sound now) in
+    let same = bytes now in
+    (subst (λ (b : List ℕ). IsOpenFaultOf d pcbs (volume_of d b) (opening.Old version)) (sym same.0) told.0, same.1 ∙ told.1 ∙ sym same.0))
+says-alike is_sound failures contents is_sound' failures' contents' d pcbs steps old new old' new' NotEmpty sound bytes failed (inl was) = inl (failed was)
+says-alike is_sound failures contents is_sound' failures' contents' d pcbs steps old new old' new' NotEmpty sound bytes failed (inr says) = inr (λ now.
+    let told = says (subst IsTrue sound now) in
+    let same = bytes now in
+    (subst (λ (b : List ℕ). IsOpenFaultOf d pcbs (volume_of d b) opening.NotEmptyForLoad) (sym same.0) told.0, same.1 ∙ told.1 ∙ sym same.0))
+says-alike is_sound failures contents is_sound' failures' contents' d pcbs steps old new old' new' (Record fault n) sound bytes failed says = says
+says-alike is_sound failures contents is_sound' failures' contents' d pcbs steps old new old' new' (Full n) sound bytes failed says = says
+says-alike is_sound failures contents is_sound' failures' contents' d pcbs steps old new old' new' Device sound bytes failed (inl was) = inl (failed was)
+says-alike is_sound failures contents is_sound' failures' contents' d pcbs steps old new old' new' Device sound bytes failed (inr says) = inr (λ now.
+    let told = says (subst IsTrue sound now) in
+    let same = bytes now in
+    subst (λ (b : List ℕ). IsPlayedInPart d pcbs b (turns_of steps) (contents' new')) (sym same.0)
+    (subst (λ (b : List ℕ). IsPlayedInPart d pcbs (contents old) (turns_of steps) b) (sym same.1) told))
+says-alike is_sound failures contents is_sound' failures' contents' d pcbs steps old new old' new' Memory sound bytes failed (inl was) = inl (failed was)
+says-alike is_sound failures contents is_sound' failures' contents' d pcbs steps old new old' new' Memory sound bytes failed (inr says) = inr (λ now.
+    let told = says (subst IsTrue sound now) in
+    let same = bytes now in
+    same.1 ∙ told ∙ sym same.0)
+
+-- what a write that failed says of the store below
+write-fails : (e : Refused) (is_sound : Bool) (failures : ℕ) (contents : List ℕ) (is_sound' : Bool) (failures' : ℕ) (contents' : List ℕ)
+    → IsWritten (Err e) is_sound failures contents is_sound' failures' contents' → (failures < failures') × (is_sound' ≡ false)
+write-fails e is_sound failures contents is_sound' failures' contents' w = (
+  subst (λ (r : Refused). CountsFor r failures failures') w.refusal w.counts,
+  subst (λ (r : Refused). SoundFor r is_sound is_sound') w.refusal w.sound,
+)
+
+-- so it is of the store before
+pub unwritten : (result : Result Unit Refused) (is_sound : Bool) (failures : ℕ) (contents : List ℕ) (is_sound' : Bool) (failures' : ℕ) (contents' : List ℕ) (before : ℕ)
+    → before ≤ failures → IsWritten result is_sound failures contents is_sound' failures' contents' → OnErr result ((before < failures') × (is_sound' ≡ false))
+unwritten (Ok x) is_sound failures contents is_sound' failures' contents' before less w = tt
+unwritten (Err e) is_sound failures contents is_sound' failures' contents' before less w =
+    let fails = write-fails e is_sound failures contents is_sound' failures' contents' w in
+    (omega (arith, less, fails.0), fails.1)
+
+-- failed accesses are counted
+pub no-fewer : {S : Type 0} (is_sound : S → Bool) (failures : S → ℕ) (old new : S) → FailsOrStays is_sound failures old new → failures old ≤ failures new
+no-fewer is_sound failures old new (inl stays) = omega (arith, stays.1)
+no-fewer is_sound failures old new (inr fails) = omega (arith, fails.0)
+
+-- behind a write an access has failed, or none has
+pub accesses-on : {S T : Type 0} (is_sound : S → Bool) (failures : S → ℕ) (is_sound' : T → Bool) (failures' : T → ℕ) (old new : S) (old' new' : T) (contents contents' : List ℕ) (result : Result Unit Refused)
+    → is_sound' old' ≡ is_sound old → failures' old' ≡ failures old → IsWritten result (is_sound new) (failures new) contents (is_sound' new') (failures' new') contents'
+    → FailsOrStays is_sound failures old new → FailsOrStays is_sound' failures' old' new'
+accesses-on is_sound failures is_sound' failures' old new old' new' contents contents' (Ok x) sound count w (inl stays) = inl (w.sound ∙ stays.0 ∙ sym sound, w.counts ∙ stays.1 ∙ sym count)
+accesses-on is_sound failures is_sound' failures' old new old' new' contents contents' (Ok x) sound count w (inr fails) = inr (omega (arith, w.counts, fails.0, count), w.sound ∙ fails.1)
+accesses-on is_sound failures is_sound' failures' old new old' new' contents contents' (Err e) sound count w accesses =
+    let less : failures old ≤ failures new = no-fewer is_sound failures old new accesses in
+    let fails = write-fails e (is_sound new) (failures new) contents (is_sound' new') (failures' new') contents' w in
+    inr (omega (arith, less, fails.0, count), fails.1)
+
+-- behind a write a refusal says what it said before
+pub says-on : {S T : Type 0} (is_sound : S → Bool) (failures : S → ℕ) (contents : S → List ℕ) (is_sound' : T → Bool) (failures' : T → ℕ) (contents' : T → List ℕ)
+    (d : Database) (pcbs : List View) (steps : List StepText) (old new : S) (old' new' : T) (result : Result Unit Refused) (r : Refusal)
+    → is_sound' old' ≡ is_sound old → failures' old' ≡ failures old → (IsTrue (is_sound' old') → contents' old' ≡ contents old)
+    → IsWritten result (is_sound new) (failures new) (contents new) (is_sound' new') (failures' new') (contents' new')
+    → FailsOrStays is_sound failures old new → UnitSays is_sound failures contents d pcbs steps old new r → UnitSays is_sound' failures' contents' d pcbs steps old' new' r
+says-on is_sound failures contents is_sound' failures' contents' d pcbs steps old new old' new' (Ok x) r sound count bytes w (inl stays) says =
+    says-alike is_sound failures contents is_sound' failures' contents' d pcbs steps old new old' new' r sound
+    (λ now. (bytes now, w.contents_kept (subst IsTrue (sym stays.0) (subst IsTrue sound now))))
+    (λ fails. (omega (arith, w.counts, fails.0, count), w.sound ∙ fails.1)) says
+says-on is_sound failures contents is_sound' failures' contents' d pcbs steps old new old' new' (Ok x) r sound count bytes w (inr fails) says =
+    says-failed is_sound failures contents is_sound' failures' contents' d pcbs steps old new old' new' r (omega (arith, w.counts, fails.0, count), w.sound ∙ fails.1) says
+says-on is_sound failures contents is_sound' failures' contents' d pcbs steps old new old' new' (Err e) r sound count bytes w accesses says =
+    let less : failures old ≤ failures new = no-fewer is_sound failures old new accesses in
+    let fails = write-fails e (is_sound new) (failures new) (contents new) (is_sound' new') (failures' new') (contents' new') w in
+    says-failed is_sound failures contents is_sound' failures' contents' d pcbs steps old new old' new' r (omega (arith, less, fails.0, count), fails.1) says
+
+-- behind a write that is done the calls that were played are those that were played before
+pub plays-on : {S T : Type 0} (is_sound : S → Bool) (failures : S → ℕ) (contents : S → List ℕ) (is_sound' : T → Bool) (failures' : T → ℕ) (contents' : T → List ℕ)
+    (d : Database) (pcbs : List View) (steps : List StepText) (old new : S) (old' new' : T) (before after : Option (List ℕ)) (lacking : ℕ) (result : Result Unit Refused)
+    → is_sound' old' ≡ is_sound old → (IsTrue (is_sound' old') → contents' old' ≡ contents old)
+    → IsWritten result (is_sound new) (failures new) (contents new) (is_sound' new') (failures' new') (contents' new')
+    → FailsOrStays is_sound failures old new → failures new ≡ failures old → PlaysInPrint is_sound contents d pcbs steps old new before after lacking
+    → OnOk result (PlaysInPrint is_sound' contents' d pcbs steps old' new' before after lacking)
+plays-on is_sound failures contents is_sound' failures' contents' d pcbs steps old new old' new' before after lacking (Ok x) sound bytes w (inl stays) none played = λ now.
+    let then : IsTrue (is_sound old) = subst IsTrue sound now in
+    subst (λ (b : List ℕ). IsWholeRun d pcbs b (turns_of steps) before after lacking (contents' new')) (sym (bytes now))
+    (subst (λ (b : List ℕ). IsWholeRun d pcbs (contents old) (turns_of steps) before after lacking b) (sym (w.contents_kept (subst IsTrue (sym stays.0) then))) (played then))
+plays-on is_sound failures contents is_sound' failures' contents' d pcbs steps old new old' new' before after lacking (Ok x) sound bytes w (inr fails) none played = absurd (omega (arith, none, fails.0))
+plays-on is_sound failures contents is_sound' failures' contents' d pcbs steps old new old' new' before after lacking (Err e) sound bytes w accesses none played = tt
+
+-- all calls are some of them
+whole-in-part : (d : Database) (pcbs : List View) (bytes : List ℕ) (turns : List Turn) (before after : Option (List ℕ)) (lacking : ℕ) (left : List ℕ)
+    → IsWholeRun d pcbs bytes turns before after lacking left → IsPlayedInPart d pcbs bytes turns left
+whole-in-part d pcbs bytes turns before after lacking left run = record {
+  made = length turns;
+  some = omega arith;
+  log = run.log;
+  played = subst (λ (made : List Turn). IsPlayed d pcbs bytes made run.log left) (sym (take_all (length turns) turns (omega arith))) run.played;
+}
+
+false-true : false ≡ true → ⊥
+false-true e = cc
+
+-- where a commit was wanted, calls were made, all of them or the first, and what they left is what was tried
+wanted-left : {T : Type 0} (is_sound : T → Bool) (failures : T → ℕ) (contents : T → List ℕ) (d : Database) (pcbs : List View) (steps : List StepText) (old new : T)
+    (played : Result ℕ Ended) (written : Result Unit Refused) (before after told_before told_after : Option (List ℕ)) → IsTrue (is_sound old) → IsTrue (is_sound new)
+    → IfErr played (λ e. e.refusal ≡ Some Device) → OnErr written ⊥
+    → IfOk played (λ lacking. OnOk written (PlaysInPrint is_sound contents d pcbs steps old new before after lacking))
+    → IfErr played (λ e. IsRefused (UnitSays is_sound failures contents d pcbs steps old new) e told_before told_after)
+    → IsPlayedInPart d pcbs (contents old) (turns_of steps) (contents new)
+wanted-left is_sound failures contents d pcbs steps old new (Ok lacking) (Ok x) before after told_before told_after sound now write reach plays refused =
+    whole-in-part d pcbs (contents old) (turns_of steps) before after lacking (contents new) (plays sound)
+wanted-left is_sound failures contents d pcbs steps old new (Ok lacking) (Err e) before after told_before told_after sound now write reach plays refused = absurd reach
+wanted-left is_sound failures contents d pcbs steps old new (Err e) (Err f) before after told_before told_after sound now write reach plays refused = absurd reach
+wanted-left is_sound failures contents d pcbs steps old new (Err e) (Ok x) before after told_before told_after sound now write reach plays refused =
+    let device : refused.refusal ≡ Device = ap (λ (o : Option Refusal). unwrap_or o Device) (sym refused.named ∙ write) in
+    by-device (subst (λ (r : Refusal). UnitSays is_sound failures contents d pcbs steps old new r) device refused.says)
+  where
+    by-device : UnitSays is_sound failures contents d pcbs steps old new Device → IsPlayedInPart d pcbs (contents old) (turns_of steps) (contents new)
+    by-device (inl fails) = absurd (false-true (sym fails.1 ∙ now))
+    by-device (inr says) = says sound
+
+-- what a crash may leave of a unit is what it was before, or what calls of the deck left
+pub left-by : {T : Type 0} (is_sound : T → Bool) (failures : T → ℕ) (contents : T → List ℕ) (d : Database) (pcbs : List View) (steps : List StepText) (old new : T)
+    (played : Result ℕ Ended) (written : Result Unit Refused) (before after told_before told_after : Option (List ℕ)) (wanted : Bool) (was then : Committed) → IsTrue (is_sound old)
+    → was.tried ≡ contents old → MayHaveTried wanted (is_sound new) (contents new) was then
+    → (wanted ≡ true → IfErr played (λ e. e.refusal ≡ Some Device)) → (wanted ≡ true → OnErr written ⊥)
+    → IfOk played (λ lacking. OnOk written (PlaysInPrint is_sound contents d pcbs steps old new before after lacking))
+    → IfErr played (λ e. IsRefused (UnitSays is_sound failures contents d pcbs steps old new) e told_before told_after)
+    → IsLeftBy d pcbs (contents old) (turns_of steps) then.tried
+left-by is_sound failures contents d pcbs steps old new played written before after told_before told_after wanted was then sound begins (inl same) write reach plays refused = inl (same ∙ begins)
+left-by is_sound failures contents d pcbs steps old new played written before after told_before told_after wanted was then sound begins (inr tried) write reach plays refused =
+    inr (subst (λ (b : List ℕ). IsPlayedInPart d pcbs (contents old) (turns_of steps) b) (sym tried.2)
+    (wanted-left is_sound failures contents d pcbs steps old new played written before after told_before told_after sound tried.1 (write tried.0) (reach tried.0) plays refused))
+
+-- a command that was refused, where what one refusal says another says too
+pub refused-on : (result : Result ℕ Ended) (A B : Refusal → Type 0) (before after : Option (List ℕ)) → ((r : Refusal) → A r → B r)
+    → IfErr result (λ e. IsRefused A e before after) → IfErr result (λ e. IsRefused B e before after)
+refused-on (Ok x) A B before after says is = tt
+refused-on (Err e) A B before after says is = record { refusal = is.refusal; named = is.named; says = says is.refusal is.says; status = is.status; line = is.line }
+
+-- what is said of an Ok is so where a call answers it, and so with an Err
+pub on-ok : {A B P : Type 0} (result : Result A B) (x : A) → result ≡ Ok x → OnOk result P → P
+on-ok {P = P} result x is holds = subst (λ r. OnOk r P) is holds
+
+pub if-ok : {A B : Type 0} (P : A → Type 0) (result : Result A B) (x : A) → result ≡ Ok x → IfOk result P → P x
+if-ok P result x is holds = subst (λ r. IfOk r P) is holds
+
+pub on-err : {A B P : Type 0} (result : Result A B) (e : B) → result ≡ Err e → OnErr result P → P
+on-err {P = P} result e is holds = subst (λ r. OnErr r P) is holds
+
+-- the same of a refusal
+pub refused-as : (result : Result ℕ Ended) (ended : Ended) (A B : Refusal → Type 0) (before after : Option (List ℕ)) → result ≡ Err ended → ((r : Refusal) → A r → B r)
+    → IfErr result (λ e. IsRefused A e before after) → IsRefused B ended before after
+refused-as result ended A B before after is says refused = subst (λ (r : Result ℕ Ended). IfErr r (λ e. IsRefused B e before after)) is (refused-on result A B before after says refused)
+
+-- an access that failed before a write has failed behind it
+pub fails-on : (result : Result Unit Refused) (is_sound : Bool) (failures : ℕ) (contents : List ℕ) (is_sound' : Bool) (failures' : ℕ) (contents' : List ℕ) (before : ℕ)
+    → IsWritten result is_sound failures contents is_sound' failures' contents' → (before < failures) × (is_sound ≡ false) → (before < failures') × (is_sound' ≡ false)
+fails-on (Ok x) is_sound failures contents is_sound' failures' contents' before w fails = (omega (arith, w.counts, fails.0), w.sound ∙ fails.1)
+fails-on (Err e) is_sound failures contents is_sound' failures' contents' before w fails =
+    let more = write-fails e is_sound failures contents is_sound' failures' contents' w in
+    (omega (arith, fails.0, more.0), more.1)
+
+-- a command that was refused for a failed access, behind work that said nothing
+pub device-refused : {W : Type 0} (contents : W → Option (List ℕ)) (A : Refusal → Type 0) (ended : Ended) (first before after : W) → ended.status ≡ 3 → ended.refusal ≡ Some Device
+    → (ended.told ≡ true → Appends (contents before) (contents after) (refusal_line Device)) → before ≡ first → A Device → IsRefused A ended (contents first) (contents after)
+device-refused contents A ended first before after status named line same says = record {
+  refusal = Device;
+  named = named;
+  says = says;
+  status = status;
+  line = λ told. subst (λ w. Appends (contents w) (contents after) (refusal_line Device)) same (line told);
+}
