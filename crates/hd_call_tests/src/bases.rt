@@ -2,7 +2,7 @@
 
 use crate::stores::{SIZE, Sparing};
 use crate::text::{cut, is_end, is_slash, number_of};
-use hd_dbd::{Dbd, DbdFault, Field, FreeSpace, Key, Name8, Pcb, Rule, SegType, Sens};
+use hd_dbd::{DataType, Dbd, DbdFault, Field, FreeSpace, Key, Name8, Pcb, Rule, SegType, Sens};
 use hd_sample::{image, put, stream_of, widened};
 use hd_unload::reload;
 use std::alloc::{AllocError, Global};
@@ -111,6 +111,7 @@ fn type_in(alloc: Global, line: &[u8], width: usize) -> Result<SegType, AllocErr
             name: name_at(line, 21),
             start: 1,
             length: key,
+            data_type: DataType::Character,
         })?;
     }
     Ok(own)

@@ -1,4 +1,5 @@
 pub mod Naming
+pub mod DataTypes
 pub mod Types
 pub mod Segment
 pub mod Hierarchy

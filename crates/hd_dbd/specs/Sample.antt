@@ -1,6 +1,7 @@
 -- The sample database of the documents, for worked equations: courses with their classes and books, and the students of
 -- each class; a program over it with three PCBs, the last of which sees no students; and its rows.
 use Rattle.std.specs.Prelude.{ℕ, List, [], ◌∷◌, true, false, Option, Some, None, codes}
+use Rattle.hd_dbd.specs.declared.hierarchy.DataType.TheVariants.{Character}
 use Rattle.hd_dbd.specs.declared.hierarchy.Field.{Field}
 use Rattle.hd_dbd.specs.declared.hierarchy.Rule.TheVariants.{Last, Here}
 use Rattle.hd_dbd.specs.Types.{SegmentType, SeenType, View}
@@ -9,7 +10,7 @@ use Rattle.hd_dbd.specs.Segment.{Segment}
 
 -- a field at the front of a segment
 abbrev pub front_field : List ℕ → ℕ → Field
-front_field name count = record { name = name; start = 1; length = count }
+front_field name count = record { name = name; start = 1; length = count; data_type = Character }
 
 -- the segment types
 abbrev pub sample_types : List SegmentType

@@ -25,12 +25,41 @@ pub struct Key {
     pub unique: bool,
 }
 
-/// A field that a qualification may name: its first byte, counted from 1, and its length in bytes.
+/// What the bytes of a field are, by its `TYPE`: `C`, `X`, `P`, `F` and `H`. Comparisons do not ask for it; programs and tables do.
+#[derive(Clone, Copy, PartialEq, Eq)]
+pub enum DataType {
+    Character,
+    Hexadecimal,
+    Packed,
+    Fullword,
+    Halfword,
+}
+
+impl DataType {
+    ghost use Rattle.std.specs.Prelude.{◌≡◌};
+    ghost use Rattle.hd_dbd.specs.DataTypes.{type_letter};
+
+    /// The letter of `TYPE`.
+    pub fn letter(self) -> u8
+        ensures { result ≡ type_letter self }
+    {
+        match self {
+            DataType::Character => b'C',
+            DataType::Hexadecimal => b'X',
+            DataType::Packed => b'P',
+            DataType::Fullword => b'F',
+            DataType::Halfword => b'H',
+        }
+    }
+}
+
+/// A field that a qualification may name: its first byte, counted from 1, its length in bytes, and what they are.
 #[derive(Clone, Copy, PartialEq, Eq)]
 pub struct Field {
     pub name: Name8,
     pub start: u32,
     pub length: u32,
+    pub data_type: DataType,
 }
 
 /// A segment type. Its code is its place among the types of the database, from 1, and `parent` is the code of its

@@ -23,7 +23,7 @@ pub use answer::{LoadFault, Refused, Status, status_text};
 pub use database::{Dbd, DbdFault};
 pub use facts::{SegmentSize, type_of};
 pub use fault_law::{law_databases_have_no_fault, law_programs_have_no_fault};
-pub use hierarchy::{Field, FreeSpace, Key, Rule, SegType};
+pub use hierarchy::{DataType, Field, FreeSpace, Key, Rule, SegType};
 pub use keys::{compare_keys, key_in};
 pub use law::{
     law_levels_follow_parents, law_loaded_rows_are_valid, law_paths_follow_parents,

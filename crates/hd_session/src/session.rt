@@ -185,7 +185,7 @@ impl<'a, S: CommitStore> Session<'a, S> {
     /// After `Device` a crash leaves what it would have left before, or these rows; the next opening tells which.
     pub fn commit(&mut self) -> Result<(), Refused>
         ensures flushed { OnOk result (IsTrue self.old.volume.is_sound → (self.new.volume.image ≡ self.old.volume.image) × (self.new.volume.stored ≡ self.old.volume.image)) }
-        ensures committed { OnOk result (IsCommit self.old.volume.is_sound self.old.volume.image self.new.volume.image self.new.volume.committed) }
+        ensures committed { OnOk result (IsCommit self.old.volume.is_sound self.old.volume.image self.new.volume.image self.old.volume.committed self.new.volume.committed) }
         ensures fails { OnErr result (FailsCommit self.old.volume.is_sound self.old.volume.image self.old.volume.committed self.new.volume.committed) }
         ensures same { self.new ≡ record self.old { volume = self.new.volume; broken = is_broken_by result } }
         ensures broken { self.old.broken ≡ was_broken result }

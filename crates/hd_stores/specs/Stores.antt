@@ -1,5 +1,5 @@
 -- What the calls of a block store say of its count of failures and of its soundness, by what they answer.
-use Rattle.std.specs.Prelude.{◌≡◌, ◌⊎◌, ℕ, ◌<◌, Bool, false, IsTrue, List, [], Result, MatchResult}
+use Rattle.std.specs.Prelude.{◌≡◌, ◌⊎◌, ℕ, ◌<◌, Bool, false, IsTrue, List, [], ◌∷◌, Result, MatchResult}
 use Rattle.hd_dbd.specs.declared.answer.Refused.{Refused}
 use Rattle.hd_dbd.specs.declared.answer.Refused.TheVariants.{Memory, Full, Device, Broken, Area}
 
@@ -26,20 +26,31 @@ SoundFor Area old new = new ≡ old
 abbrev pub StaysSound : {T : Type 0} → Result T Refused → Bool → Bool → Type 0
 StaysSound result old new = MatchResult result (λ _. new ≡ old) (λ e. SoundFor e old new)
 
+-- A commit that was done: a crash at any moment since this one leaves its image, or that of a later commit.
+pub record Commit : Type 0 where
+  pub image : List ℕ
+  pub since : ℕ
+
 -- What a crash leaves of a store at any moment since this one: the image of its last commit, or that of a commit which was tried since then and
--- failed. Where none was, the two are one.
+-- failed. Where none was, the two are one. The commits before the last, the later ones first, say it of earlier moments; the first is the opening.
 pub record Committed : Type 0 where
   pub image : List ℕ
   pub tried : List ℕ
   pub since : ℕ
+  pub before : List Commit
+
+-- the last commit, and those before it
+abbrev pub commits_of : Committed → List Commit
+commits_of c = record { image = c.image; since = c.since } ∷ c.before
 
 -- that of a store which has no commits
 abbrev pub uncommitted : Committed
-uncommitted = record { image = []; tried = []; since = 0 }
+uncommitted = record { image = []; tried = []; since = 0; before = [] }
 
--- A commit is done: the contents stay, and a crash from now on leaves them.
-abbrev pub IsCommit : Bool → List ℕ → List ℕ → Committed → Type 0
-IsCommit is_sound old new committed = IsTrue is_sound → (new ≡ old) × (committed.image ≡ old) × (committed.tried ≡ old)
+-- A commit is done: the contents stay, a crash from now on leaves them, and the commits until now are those before it.
+abbrev pub IsCommit : Bool → List ℕ → List ℕ → Committed → Committed → Type 0
+IsCommit is_sound contents new_contents old new =
+    IsTrue is_sound → (new_contents ≡ contents) × (new.image ≡ contents) × (new.tried ≡ contents) × (new.before ≡ commits_of old)
 
 -- A commit failed: a crash leaves what it would have left before, or the contents too.
 abbrev pub FailsCommit : Bool → List ℕ → Committed → Committed → Type 0

@@ -138,7 +138,7 @@ impl<S: BlockStore> BlockStore for Cached<S> {
 
 impl<S: CommitStore> CommitStore for Cached<S> {
     fn commit(&mut self) -> Result<(), Refused>
-        ensures committed { OnOk result (IsCommit self.old.is_sound self.old.contents self.new.contents self.new.committed) }
+        ensures committed { OnOk result (IsCommit self.old.is_sound self.old.contents self.new.contents self.old.committed self.new.committed) }
         ensures fails { OnErr result (FailsCommit self.old.is_sound self.old.contents self.old.committed self.new.committed) }
         ensures refusal { OnlyDevice result }
         ensures counts { CountsDevice result self.old.failures self.new.failures }

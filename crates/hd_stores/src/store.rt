@@ -114,7 +114,7 @@ pub trait CommitStore: BlockStore {
     ///
     /// `Device` is a failed access. Then a crash leaves what it would have left before, or the contents; the next opening tells which.
     fn commit(&mut self) -> Result<(), Refused>
-        ensures committed { OnOk result (IsCommit (Self.is_sound self.old) (Self.contents self.old) (Self.contents self.new) (Self.committed self.new)) }
+        ensures committed { OnOk result (IsCommit (Self.is_sound self.old) (Self.contents self.old) (Self.contents self.new) (Self.committed self.old) (Self.committed self.new)) }
         ensures fails { OnErr result (FailsCommit (Self.is_sound self.old) (Self.contents self.old) (Self.committed self.old) (Self.committed self.new)) }
         ensures refusal { OnlyDevice result }
         ensures counts { CountsDevice result (Self.failures self.old) (Self.failures self.new) }

@@ -333,7 +333,7 @@ impl<S: BlockStore> Blocks<S> {
 impl<S: CommitStore> Blocks<S> {
     /// Writes what is changed to the store, and makes it last. `Device` is a failed access.
     pub fn commit(&mut self) -> Result<(), Refused>
-        ensures committed { OnOk result (IsCommit self.old.is_sound self.old.image self.new.image self.new.committed) }
+        ensures committed { OnOk result (IsCommit self.old.is_sound self.old.image self.new.image self.old.committed self.new.committed) }
         ensures stored { OnOk result (IsTrue self.old.is_sound → self.new.stored ≡ self.old.image) }
         ensures fails { OnErr result (FailsCommit self.old.is_sound self.old.image self.old.committed self.new.committed) }
         ensures refusal { OnlyDevice result }

@@ -297,7 +297,7 @@ impl<S: BlockStore> Volume<S> {
 impl<S: CommitStore> Volume<S> {
     /// Writes what is changed to the store, and makes it last: from `Ok` on a crash leaves this image. `Device` is a failed access.
     pub fn commit(&mut self) -> Result<(), Refused>
-        ensures committed { OnOk result (IsCommit self.old.is_sound self.old.image self.new.image self.new.committed) }
+        ensures committed { OnOk result (IsCommit self.old.is_sound self.old.image self.new.image self.old.committed self.new.committed) }
         ensures stored { OnOk result (IsTrue self.old.is_sound → self.new.stored ≡ self.old.image) }
         ensures fails { OnErr result (FailsCommit self.old.is_sound self.old.image self.old.committed self.new.committed) }
         ensures refusal { OnlyDevice result }

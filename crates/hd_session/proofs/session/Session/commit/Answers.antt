@@ -33,5 +33,5 @@ invariant_of-self g c =
 -- what it makes last is the image from before
 pub returns-in-Ok-clause-committed : goal.returns-in-Ok-clause-committed
 returns-in-Ok-clause-committed g c =
-    let P : SessionState → Type 0 = λ s. IsCommit s.volume.is_sound s.volume.image c.commit.new.self.image c.commit.new.self.committed in
+    let P : SessionState → Type 0 = λ s. IsCommit s.volume.is_sound s.volume.image c.commit.new.self.image s.volume.committed c.commit.new.self.committed in
     subst P c.self.view_is c.in-Ok.ensures.committed
