@@ -229,10 +229,6 @@ impl<'a, R: Files<File = File>> Disk for VolumeFiles<'a, R> {
         self.owner
     }
 
-    fn moment(&self) -> u64 {
-        0
-    }
-
     fn log_len(&self) -> Result<u64, Failed> {
         match &self.log {
             Some(log) => length_of(log),
@@ -285,6 +281,10 @@ impl<'a, R: Files<File = File>> Disk for VolumeFiles<'a, R> {
     fn sync_volume(&mut self) -> Result<(), Failed> {
         let done = self.wait_for(&self.volume.file);
         self.note(done)
+    }
+
+    fn mark(&mut self, _is_first: bool) -> Result<(), Failed> {
+        Ok(())
     }
 
     ghost seen_may_stay = { λ _. tt };

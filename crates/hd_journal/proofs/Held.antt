@@ -2,19 +2,20 @@
 use Rattle.std.proofs.Common.{◌≡◌, ◌≢◌, inl, ⊎_elim, ℕ, ◌+◌, ◌-◌, ◌*◌, ◌<◌, ◌≤◌, List, length, slice_index, refl, sym, ap, ◌∙◌, subst, arith}
 use Rattle.std.proofs.lemmas.Nat.{row_fits}
 use Rattle.hd_stores.specs.Stores.{Committed}
-use Rattle.hd_journal.specs.Disk.{State, WritesLog, Leaves}
+use Rattle.hd_journal.specs.Disk.{Mark, State, WritesLog, Leaves}
 use Rattle.hd_journal.specs.declared.head.Head.{Head}
 use Rattle.hd_journal.specs.declared.journal.Stage.{Stage}
 use Rattle.hd_journal.specs.declared.journal.Stage.TheVariants.{Collecting, Published, Doubtful}
 use Rattle.hd_journal.specs.Log.{frame_at, block_no, no_block, image, recovered, SameSlots}
 use Rattle.hd_journal.specs.Framed.{before, fresh, IsFramed, IsSafe}
 use Rattle.hd_journal.specs.States.{StandsFor, StandsForEither, SameBehind, IsPublished}
-use Rattle.hd_journal.specs.Journals.{Holds, tried_in}
+use Rattle.hd_journal.specs.Journals.{Holds, tried_in, committed_in}
 use Rattle.hd_journal.proofs.Bytes.{frame-before, frame-up-to}
 use Rattle.hd_journal.proofs.Heads.{same-heads}
 use Rattle.hd_journal.proofs.JournalLemmas.{collecting≢published, collecting≢doubtful}
 use Rattle.hd_journal.proofs.Opens.{shut}
-use Rattle.hd_journal.proofs.Moments.{started, goes_on, weakened}
+use Rattle.hd_journal.proofs.Moments.{started, goes_on}
+use Rattle.hd_journal.proofs.Safety.{safe-runs}
 use Rattle.hd_journal.proofs.Slots.{slots-bytes, slots-fewer, slots-beyond, place-low, image-slots, framed-slots, gate-image, gate-framed, fresh-image}
 use Rattle.hd_journal.proofs.Publishes.{settled-still}
 use Rattle.hd_journal.proofs.Published.{published-stands, published-write}
@@ -79,32 +80,20 @@ tried-sure Collecting last whole sure = refl
 tried-sure Published last whole sure = refl
 tried-sure Doubtful last whole sure = absurd (sure refl)
 
-abbrev record_pair : List ℕ → List ℕ → ℕ → Committed
-record_pair image tried since = record { image = image; tried = tried; since = since }
-
-pub committed-same : (stage : Stage) (a b v w : List ℕ) (since : ℕ) → stage ≢ Doubtful → b ≡ a
-    → record_pair b (tried_in stage b w) since ≡ record_pair a (tried_in stage a v) since
-committed-same stage a b v w since sure same = rw (tried-sure stage b w sure, tried-sure stage a v sure, same) refl
+pub committed-same : (stage : Stage) (a b v w : List ℕ) (marks marks' : List Mark) → stage ≢ Doubtful → b ≡ a → marks' ≡ marks
+    → committed_in b (tried_in stage b w) marks' ≡ committed_in a (tried_in stage a v) marks
+committed-same stage a b v w marks marks' sure same also = rw (tried-sure stage b w sure, tried-sure stage a v sure, same, also) refl
 
 pub write-leaves : (stage : Stage) (last : Head) (kept : List ℕ) (a b : State) (at n : ℕ) → stage ≢ Doubtful → IsFramed a last kept → frame_at last.size last.count ≤ at → Holds stage last a → WritesLog at n a b → Leaves (StandsFor (image last a.log a.volume)) a b
 write-leaves stage last kept a b at n sure o behind h w =
     goes_on (StandsFor (image last a.log a.volume)) (started (StandsFor (image last a.log a.volume)) a) w.time
     (λ l v may. held-stands stage last b sure (held-write stage last a b at n behind h w) l v may ∙ write-image last kept a b at n o behind w)
 
-pub write-safe : (stage : Stage) (last : Head) (kept : List ℕ) (a b : State) (at n since : ℕ) (v w : List ℕ) → stage ≢ Doubtful → IsFramed a last kept → frame_at last.size last.count ≤ at → Holds stage last a → WritesLog at n a b
-    → IsSafe a since (image last a.log a.volume) (tried_in stage (image last a.log a.volume) v) → IsSafe b since (image last b.log b.volume) (tried_in stage (image last b.log b.volume) w)
-write-safe stage last kept a b at n since v w sure o behind h writes safe =
-    let same = write-image last kept a b at n o behind writes in
-    let before : IsSafe a since (image last a.log a.volume) (image last a.log a.volume) = subst (IsSafe a since (image last a.log a.volume)) (tried-sure stage (image last a.log a.volume) v sure) safe in
-    let runs = write-leaves stage last kept a b at n sure o behind h writes in
-    let after : IsSafe b since (image last a.log a.volume) (image last a.log a.volume) = safe-leaves a b since (image last a.log a.volume) before runs in
-    subst (IsSafe b since (image last b.log b.volume)) (sym (tried-sure stage (image last b.log b.volume) w sure)) (subst (λ (x : List ℕ). IsSafe b since x x) (sym same) after)
-  where
-    safe-leaves : (a b : State) (since : ℕ) (image : List ℕ) → IsSafe a since image image → Leaves (StandsFor image) a b → IsSafe b since image image
-    safe-leaves a b since image safe leaves = record {
-      past = (let p = safe.past in let q = leaves.later in omega (arith, p, q));
-      each = λ l v left. ⊎_elim (λ past. safe.each l v past) (λ p. inl p) (leaves.each since l v safe.past left);
-    }
+-- a run that changes none of them is safe
+pub safe-same : (stage : Stage) (a b : State) (x y v w : List ℕ) → stage ≢ Doubtful → y ≡ x → Leaves (StandsFor x) a b
+    → IsSafe (committed_in x (tried_in stage x v) a.marks) a → IsSafe (committed_in y (tried_in stage y w) b.marks) b
+safe-same stage a b x y v w sure same runs safe =
+    subst (λ (c : Committed). IsSafe c b) (sym (committed-same stage x y v w a.marks b.marks sure same runs.marks)) (safe-runs a b (committed_in x (tried_in stage x v) a.marks) runs safe)
 
 -- ---- a publication
 
@@ -130,22 +119,6 @@ module _ (a b : State) (head : Head) (places : List ℕ) (o : IsFramed a head pl
     pub gated-held : Holds Published (gated head) b
     gated-held = (omega arith, subst (λ (n : ℕ). IsPublished (record head { count = n }) b) (let e : head.count ≡ head.count + 1 - 1 = omega arith in e) p)
 
--- what a publication leaves
-pub publish-safe : (a b : State) (since : ℕ) (x y : List ℕ) → IsSafe a since x x → Leaves (StandsForEither x y) a b → IsSafe b since x y
-publish-safe a b since x y safe leaves = record {
-  past = (let p = safe.past in let q = leaves.later in omega (arith, p, q));
-  each = λ l v left. ⊎_elim (λ past. ⊎_elim (λ e. inl e) (λ e. inl e) (safe.each l v past)) (λ p. p) (leaves.each since l v safe.past left);
-}
-
--- and a copy to the volume
-pub copy-safe : (a b : State) (since : ℕ) (x y : List ℕ) → IsSafe a since x x → Leaves (StandsFor x) a b → y ≡ x → IsSafe b since y y
-copy-safe a b since x y safe leaves same =
-    let after : IsSafe b since x x = publish-safe a b since x x safe (weakened leaves (λ l v e. inl e)) in
-    subst (λ (z : List ℕ). IsSafe b since z z) (sym same) after
-
-pub safe-sure : (s : State) (stage : Stage) (since : ℕ) (x y : List ℕ) → stage ≢ Doubtful → IsSafe s since x (tried_in stage x y) → IsSafe s since x x
-safe-sure s stage since x y sure safe = subst (IsSafe s since x) (tried-sure stage x y sure) safe
-
 -- the gate's slot behind the last commit stays, and changes nothing
 pub copied-last : (last : Head) (kept : List ℕ) (a b : State) → 0 < last.count → IsFramed a last kept → IsPublished (before last) a → length a.log ≤ length b.log → SameBehind a.log b.log
     → image (before last) b.log b.volume ≡ image (before last) a.log a.volume → image last b.log b.volume ≡ image last a.log a.volume
@@ -165,7 +138,3 @@ first-low last kept a some o p there has =
     let r : 0 * last.size + last.size ≤ length kept * last.size = row_fits 0 last.size (length kept) last.size there (omega arith) in
     let other : slice_index kept 0 - 1 ≢ last.count - 1 = λ is. (let e : no_block ≡ 0 = sym p.ends.gate.sign ∙ ap (block_no last.size a.log) (sym is) ∙ own in omega (arith, e)) in
     (omega (arith, low, other, some), own, omega (arith, r, wide, blocks))
-
--- at this moment what a crash leaves is the last commit
-pub safe-now : (stage : Stage) (last : Head) (s : State) → stage ≢ Doubtful → Holds stage last s → ((l v : List ℕ) → s.left_since s.moment l v → s.may_leave l v) → IsSafe s s.moment (image last s.log s.volume) (image last s.log s.volume)
-safe-now stage last s sure h now = record { past = omega arith; each = λ l v left. inl (held-stands stage last s sure h l v (now l v left)) }

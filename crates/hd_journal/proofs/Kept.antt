@@ -1,6 +1,6 @@
 -- One more pair joins those that a disk has had.
 use Rattle.std.proofs.Common.{◌≡◌, ◌⊎◌, inl, inr, ⊎_elim, ℕ, zero, suc, ◌≤◌, List, [], ◌∷◌, ◌++◌, length, drop, refl, sym, ◌∙◌, subst, arith, length-append}
-use Rattle.hd_journal.specs.Disk.{State, Torn, Cut, Elapses, WritesLog, WritesVolume, CutsVolume}
+use Rattle.hd_journal.specs.Disk.{Mark, State, Torn, Cut, Elapses, WritesLog, WritesVolume, CutsVolume}
 use Rattle.hd_journal.specs.declared.memory_disk.Pair.{Pair}
 use Rattle.hd_journal.specs.Past.{HadBeen, state_in}
 
@@ -25,13 +25,14 @@ drop_push (suc t) [] p le = absurd (omega arith)
 drop_push (suc t) (q ∷ past) p le = drop_push t past p (omega arith)
 
 pub elapses-same : (s : State) → Elapses s s
-elapses-same s = record { later = omega arith; nothing_else = λ t l v le left. inl left; keeps = λ t l v le left. left }
+elapses-same s = record { later = omega arith; nothing_else = λ t l v le left. inl left; keeps = λ t l v le left. left; marks = refl }
 
-elapses-push : (past : List Pair) (p : Pair) (log volume log' volume' : List ℕ) → p.log.items ≡ log → p.volume.items ≡ volume → Elapses (state_in past log volume) (state_in (past ++ p ∷ []) log' volume')
-elapses-push past p log volume log' volume' a b = record {
+elapses-push : (past : List Pair) (p : Pair) (log volume log' volume' : List ℕ) (marks : List Mark) → p.log.items ≡ log → p.volume.items ≡ volume → Elapses (state_in past log volume marks) (state_in (past ++ p ∷ []) log' volume' marks)
+elapses-push past p log volume log' volume' marks a b = record {
   later = omega (arith, length-append past (p ∷ []));
   nothing_else = λ t l v le left. ⊎_elim (λ now. inr now) (λ had. inl (was t l v (adds (drop t past) p l v (subst (λ (ps : List Pair). HadBeen ps l v) (drop_push t past p le) had)))) left;
   keeps = λ t l v le left. inr (subst (λ (ps : List Pair). HadBeen ps l v) (sym (drop_push t past p le)) (⊎_elim (λ now. newest (drop t past) p l v (now.0 ∙ sym a) (now.1 ∙ sym b)) (keeps (drop t past) p l v) left));
+  marks = refl;
 }
   where
     was : (t : ℕ) (l v : List ℕ) → HadBeen (drop t past) l v ⊎ ((l ≡ p.log.items) × (v ≡ p.volume.items)) → ((l ≡ log) × (v ≡ volume)) ⊎ HadBeen (drop t past) l v
@@ -45,9 +46,9 @@ pub record IsKept (past : List Pair) (log volume : List ℕ) (later : List Pair)
   pub volume_is : pair.volume.items ≡ volume
   pub pushed : later ≡ past ++ pair ∷ []
 
-pub elapses-to : {past later : List Pair} {log volume : List ℕ} (log' volume' : List ℕ) → IsKept past log volume later → Elapses (state_in past log volume) (state_in later log' volume')
-elapses-to {past} {later} {log} {volume} log' volume' k =
-    subst (λ (ps : List Pair). Elapses (state_in past log volume) (state_in ps log' volume')) (sym k.pushed) (elapses-push past k.pair log volume log' volume' k.log_is k.volume_is)
+pub elapses-to : {past later : List Pair} {log volume : List ℕ} {marks : List Mark} (log' volume' : List ℕ) → IsKept past log volume later → Elapses (state_in past log volume marks) (state_in later log' volume' marks)
+elapses-to {past} {later} {log} {volume} {marks} log' volume' k =
+    subst (λ (ps : List Pair). Elapses (state_in past log volume marks) (state_in ps log' volume' marks)) (sym k.pushed) (elapses-push past k.pair log volume log' volume' marks k.log_is k.volume_is)
 
 torn-same : (at n : ℕ) (c : List ℕ) → Torn at n c c
 torn-same at n c = record { no_shorter = omega arith; no_longer = omega arith; below = λ i l u. refl; above = λ i l u. refl }
@@ -55,7 +56,7 @@ torn-same at n c = record { no_shorter = omega arith; no_longer = omega arith; b
 cut-same : (n : ℕ) (c : List ℕ) → Cut n c c
 cut-same n c = record { no_shorter = omega arith; no_longer = omega arith; below = λ i l u. refl }
 
-pub writes-log : {past later : List Pair} {log volume log' : List ℕ} (at n : ℕ) → IsKept past log volume later → Torn at n log log' → WritesLog at n (state_in past log volume) (state_in later log' volume)
+pub writes-log : {past later : List Pair} {log volume log' : List ℕ} {marks : List Mark} (at n : ℕ) → IsKept past log volume later → Torn at n log log' → WritesLog at n (state_in past log volume marks) (state_in later log' volume marks)
 writes-log {past} {later} {log} {volume} {log'} at n k torn = record {
   log = torn;
   volume = refl;
@@ -63,7 +64,7 @@ writes-log {past} {later} {log} {volume} {log'} at n k torn = record {
   time = elapses-to log' volume k;
 }
 
-pub writes-volume : {past later : List Pair} {log volume volume' : List ℕ} (at n : ℕ) → IsKept past log volume later → Torn at n volume volume' → WritesVolume at n (state_in past log volume) (state_in later log volume')
+pub writes-volume : {past later : List Pair} {log volume volume' : List ℕ} {marks : List Mark} (at n : ℕ) → IsKept past log volume later → Torn at n volume volume' → WritesVolume at n (state_in past log volume marks) (state_in later log volume' marks)
 writes-volume {past} {later} {log} {volume} {volume'} at n k torn = record {
   log = refl;
   volume = torn;
@@ -71,7 +72,7 @@ writes-volume {past} {later} {log} {volume} {volume'} at n k torn = record {
   time = elapses-to log volume' k;
 }
 
-pub cuts-volume : {past later : List Pair} {log volume volume' : List ℕ} (n : ℕ) → IsKept past log volume later → Cut n volume volume' → CutsVolume n (state_in past log volume) (state_in later log volume')
+pub cuts-volume : {past later : List Pair} {log volume volume' : List ℕ} {marks : List Mark} (n : ℕ) → IsKept past log volume later → Cut n volume volume' → CutsVolume n (state_in past log volume marks) (state_in later log volume' marks)
 cuts-volume {past} {later} {log} {volume} {volume'} n k cut = record {
   log = refl;
   volume = cut;

@@ -1,5 +1,7 @@
 pub mod Bytes
 pub mod Moments
+pub mod Safety
+pub mod Marking
 pub mod Opens
 pub mod Steps
 pub mod Heads

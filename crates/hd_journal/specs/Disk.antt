@@ -1,14 +1,21 @@
 -- What the calls of a disk with a log and a volume do to the two files, and what a crash may make of them.
-use Rattle.std.specs.Prelude.{◌≡◌, ◌⊎◌, ℕ, ◌+◌, ◌<◌, ◌≤◌, min, max, List, [], length, slice_index}
+use Rattle.std.specs.Prelude.{◌≡◌, ◌⊎◌, ℕ, ◌+◌, ◌<◌, ◌≤◌, Bool, cond, min, max, List, [], ◌∷◌, length, slice_index}
+
+-- What stood in the two files when a commit was done, and the moment.
+pub record Mark : Type 0 where
+  pub moment : ℕ
+  pub log : List ℕ
+  pub volume : List ℕ
 
 -- The bytes that reads return, the pairs of contents that a crash at this moment may leave, the moment, a number that does not fall,
--- and the pairs that a crash at some moment from a given one on might have left.
+-- the pairs that a crash at some moment from a given one on might have left, and the marks of the commits, the last first.
 pub record State : Type 1 where
   pub log : List ℕ
   pub volume : List ℕ
   pub may_leave : List ℕ → List ℕ → Type 0
   pub moment : ℕ
   pub left_since : ℕ → List ℕ → List ℕ → Type 0
+  pub marks : List Mark
 
 -- after a write of n bytes at a place: anything in that range and past the old end, the same elsewhere
 pub record Torn (at n : ℕ) (old new : List ℕ) : Type 0 where
@@ -23,11 +30,12 @@ pub record Cut (n : ℕ) (old new : List ℕ) : Type 0 where
   pub no_longer : length new ≤ max (length old) n
   pub below : (i : ℕ) → i < length old → i < n → slice_index new i ≡ slice_index old i
 
--- Time goes on. A crash since an earlier moment might have left what it might have left before, or what it may leave now.
+-- Time goes on, and no commit is done. A crash since an earlier moment might have left what it might have left before, or what it may leave now.
 pub record Elapses (old new : State) : Type 0 where
   pub later : old.moment ≤ new.moment
   pub nothing_else : (t : ℕ) (l v : List ℕ) → t ≤ old.moment → new.left_since t l v → old.left_since t l v ⊎ new.may_leave l v
   pub keeps : (t : ℕ) (l v : List ℕ) → t ≤ old.moment → old.left_since t l v → new.left_since t l v
+  pub marks : new.marks ≡ old.marks
 
 -- a write of n bytes to the log, whether or not it succeeds
 pub record WritesLog (at n : ℕ) (old new : State) : Type 0 where
@@ -57,6 +65,16 @@ pub record Syncs (old new : State) : Type 0 where
   pub crash : (l v : List ℕ) → new.may_leave l v → old.may_leave l v
   pub time : Elapses old new
 
+-- A commit is marked, the first of a journal or one more. Nothing else changes.
+pub record Marks (is_first : Bool) (old new : State) : Type 0 where
+  pub log : new.log ≡ old.log
+  pub volume : new.volume ≡ old.volume
+  pub moment : new.moment ≡ old.moment
+  pub crash : (l v : List ℕ) → new.may_leave l v → old.may_leave l v
+  pub nothing_else : (t : ℕ) (l v : List ℕ) → new.left_since t l v → old.left_since t l v
+  pub keeps : (t : ℕ) (l v : List ℕ) → old.left_since t l v → new.left_since t l v
+  pub marks : new.marks ≡ record { moment = old.moment; log = old.log; volume = old.volume } ∷ cond is_first [] old.marks
+
 -- a crash leaves the log, or the volume, as reads return it
 abbrev pub HasLog : State → Type 0
 HasLog s = (l v : List ℕ) → s.may_leave l v → l ≡ s.log
@@ -64,11 +82,17 @@ HasLog s = (l v : List ℕ) → s.may_leave l v → l ≡ s.log
 abbrev pub HasVolume : State → Type 0
 HasVolume s = (l v : List ℕ) → s.may_leave l v → v ≡ s.volume
 
--- A crash between the two, at any moment, leaves a pair that has P.
-pub record Leaves (P : List ℕ → List ℕ → Type 0) (old new : State) : Type 0 where
+-- A crash between the two, at any moment, leaves a pair that has P. Commits may be marked meanwhile.
+pub record LeavesMeanwhile (P : List ℕ → List ℕ → Type 0) (old new : State) : Type 0 where
   pub later : old.moment ≤ new.moment
   pub each : (t : ℕ) (l v : List ℕ) → t ≤ old.moment → new.left_since t l v → old.left_since t l v ⊎ P l v
 
+-- the same, and none is
+pub record Leaves (P : List ℕ → List ℕ → Type 0) (old new : State) : Type 0 where
+  pub later : old.moment ≤ new.moment
+  pub each : (t : ℕ) (l v : List ℕ) → t ≤ old.moment → new.left_since t l v → old.left_since t l v ⊎ P l v
+  pub marks : new.marks ≡ old.marks
+
 -- what is said of a disk that is not honest
 abbrev pub nothing : State
-nothing = record { log = []; volume = []; may_leave = λ l v. Unit {0}; moment = 0; left_since = λ t l v. Unit {0} }
+nothing = record { log = []; volume = []; may_leave = λ l v. Unit {0}; moment = 0; left_since = λ t l v. Unit {0}; marks = [] }

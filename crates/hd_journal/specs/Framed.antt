@@ -1,8 +1,9 @@
 -- The frames of a log over a volume, and where each block stands.
-use Rattle.std.specs.Prelude.{◌≡◌, ◌≢◌, ◌⊎◌, ℕ, ◌-◌, ◌*◌, ◌<◌, ◌≤◌, List, length, slice_index}
+use Rattle.std.specs.Prelude.{◌≡◌, ◌≢◌, ◌⊎◌, ℕ, ◌-◌, ◌*◌, ◌<◌, ◌≤◌, List, [], ◌∷◌, length, slice_index}
+use Rattle.hd_stores.specs.Stores.{Commit, Committed, commits_of}
 use Rattle.hd_journal.specs.Disk.{State}
 use Rattle.hd_journal.specs.Log.{block_no, no_block, Fits}
-use Rattle.hd_journal.specs.States.{StandsForEither}
+use Rattle.hd_journal.specs.States.{StandsFor}
 use Rattle.hd_journal.specs.declared.head.Head.{Head}
 
 -- Each block's place is one more than the slot of its last frame, or 0 where it has none.
@@ -25,7 +26,22 @@ fresh head len = record head { count = 0; base = len; len = len }
 abbrev pub before : Head → Head
 before last = record last { count = last.count - 1 }
 
--- a crash at any moment since this one leaves a pair that stands for the one image or for the other
-pub record IsSafe (s : State) (since : ℕ) (image tried : List ℕ) : Type 0 where
+-- the pair stands for one of these images
+abbrev pub StandsForOneOf : List (List ℕ) → List ℕ → List ℕ → Type 0
+StandsForOneOf [] log volume = ⊥
+StandsForOneOf (image ∷ images) log volume = StandsFor image log volume ⊎ StandsForOneOf images log volume
+
+-- a crash at any moment since this one leaves a pair that stands for one of these images
+pub record LeavesOneOf (images : List (List ℕ)) (since : ℕ) (s : State) : Type 0 where
   pub past : since ≤ s.moment
-  pub each : (l v : List ℕ) → s.left_since since l v → StandsForEither image tried l v
+  pub each : (l v : List ℕ) → s.left_since since l v → StandsForOneOf images l v
+
+-- A crash at any moment since one of these commits, of which the later come first, leaves its image or that of a later one: of another of them, or one of
+-- the images that came behind them all.
+abbrev pub AreSafe : List (List ℕ) → List Commit → State → Type 0
+AreSafe later [] s = Unit {0}
+AreSafe later (commit ∷ earlier) s = LeavesOneOf (commit.image ∷ later) commit.since s × AreSafe (commit.image ∷ later) earlier s
+
+-- since each commit a crash leaves its image or that of a later one, or, behind the last, that of one which was tried and failed
+abbrev pub IsSafe : Committed → State → Type 0
+IsSafe committed s = AreSafe (committed.tried ∷ []) (commits_of committed) s

@@ -1,9 +1,9 @@
 -- What a journal keeps.
-use Rattle.std.specs.Prelude.{◌≡◌, ◌≢◌, ℕ, ◌+◌, ◌<◌, ◌≤◌, Bool, false, IsTrue, List, length, slice_index, replicate, vec_len}
+use Rattle.std.specs.Prelude.{◌≡◌, ◌≢◌, ℕ, ◌+◌, ◌<◌, ◌≤◌, Bool, false, IsTrue, List, [], ◌∷◌, map, length, slice_index, replicate, vec_len}
 use Rattle.std.specs.Vec.{vec_capacity}
-use Rattle.hd_stores.specs.Stores.{Committed}
-use Rattle.hd_journal.specs.Disk.{State}
-use Rattle.hd_journal.specs.Log.{image}
+use Rattle.hd_stores.specs.Stores.{Commit, Committed, commits_of}
+use Rattle.hd_journal.specs.Disk.{Mark, State}
+use Rattle.hd_journal.specs.Log.{image, recovered}
 use Rattle.hd_journal.specs.States.{IsSettled, IsPublished}
 use Rattle.hd_journal.specs.Framed.{fresh, before, IsFramed, IsSafe}
 use Rattle.hd_journal.specs.declared.head.Head.{Head}
@@ -31,12 +31,38 @@ tried_in Collecting last whole = last
 tried_in Published last whole = last
 tried_in Doubtful last whole = whole
 
--- what a crash leaves of them
+-- the commit of a mark
+abbrev pub commit_of : Mark → Commit
+commit_of m = record { image = recovered m.log m.volume; since = m.moment }
+
+-- since the last mark, and the commits of those before it
+abbrev pub since_in : List Mark → ℕ
+since_in [] = 0
+since_in (m ∷ marks) = m.moment
+
+abbrev pub before_in : List Mark → List Commit
+before_in [] = []
+before_in (m ∷ marks) = map commit_of marks
+
+-- the last mark is of this image
+abbrev pub IsMarked : List ℕ → List Mark → Type 0
+IsMarked image [] = ⊥
+IsMarked image (m ∷ marks) = recovered m.log m.volume ≡ image
+
+-- what a crash leaves, where the last commit has this image and that one was tried since
+abbrev pub committed_in : List ℕ → List ℕ → List Mark → Committed
+committed_in image tried marks = record { image = image; tried = tried; since = since_in marks; before = before_in marks }
+
+-- a commit of these bytes is done, behind those that were
+abbrev pub IsCommitted : List ℕ → Committed → Committed → Type 0
+IsCommitted contents old new = (new.image ≡ contents) × (new.tried ≡ contents) × (new.before ≡ commits_of old)
+
+-- what it leaves of a journal
 abbrev pub committed_of : {D : Type 0} → (D → State) → Journal D → Committed
-committed_of state j = record { image = last_of state j; tried = tried_in j.stage (last_of state j) (contents_of state j); since = j.since }
+committed_of state j = committed_in (last_of state j) (tried_in j.stage (last_of state j) (contents_of state j)) (state j.disk).marks
 
 -- A journal that has not failed has the frames of its blocks in its log, and before them those of the last commit, which a crash leaves.
--- Whether or not it has failed, it is safe since that commit.
+-- Whether or not it has failed, that commit is the last that was marked, and it is safe.
 pub record IsJournal {D : Type 0} (is_honest : Bool) (is_usable : D → Bool) (state : D → State) (j : Journal D) : Type 0 where
   pub some : 16 ≤ j.head.size
   pub small : j.head.size ≤ 32768
@@ -54,4 +80,5 @@ pub record IsJournal {D : Type 0} (is_honest : Bool) (is_usable : D → Bool) (s
   pub last : j.failed ≡ false → IsTrue is_honest → IsFramed (state j.disk) j.last j.kept.items
   pub holds : j.failed ≡ false → IsTrue is_honest → Holds j.stage j.last (state j.disk)
   pub first : j.failed ≡ false → j.stage ≡ Published → 0 < length j.kept.items → slice_index j.kept.items 0 ≢ 0
-  pub safe : IsTrue is_honest → IsSafe (state j.disk) j.since (committed_of state j).image (committed_of state j).tried
+  pub marked : IsTrue is_honest → IsMarked (last_of state j) (state j.disk).marks
+  pub safe : IsTrue is_honest → IsSafe (committed_of state j) (state j.disk)

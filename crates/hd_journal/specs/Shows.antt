@@ -1,6 +1,6 @@
 -- What callers see of a journal.
-use Rattle.std.specs.Prelude.{ℕ, ◌<◌, Bool, ◌&&◌, not, cond, List, []}
-use Rattle.hd_stores.specs.Stores.{Committed}
+use Rattle.std.specs.Prelude.{ℕ, ◌<◌, Bool, ◌&&◌, not, cond, List}
+use Rattle.hd_stores.specs.Stores.{Committed, uncommitted}
 use Rattle.hd_journal.specs.Disk.{State}
 use Rattle.hd_journal.specs.Journals.{contents_of, committed_of, IsJournal}
 use Rattle.hd_journal.specs.declared.journal.Journal.{Journal}
@@ -16,16 +16,12 @@ pub record Shown (D : Type 0) : Type 0 where
   pub room : ℕ
   pub disk : D
 
--- what a journal over a disk that is not honest says of commits
-abbrev pub unknown : ℕ → Committed
-unknown since = record { image = []; tried = []; since = since }
-
 -- what a journal shows, with so many failed accesses
 abbrev pub shown_of : {D : Type 0} → Bool → (D → State) → Journal D → ℕ → Shown D
 shown_of is_honest state j failures = record {
   size = j.head.size;
   contents = contents_of state j;
-  committed = cond is_honest (committed_of state j) (unknown j.since);
+  committed = cond is_honest (committed_of state j) uncommitted;
   is_sound = is_honest && not j.failed;
   failed = j.failed;
   failures = failures;

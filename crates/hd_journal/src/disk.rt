@@ -1,6 +1,6 @@
-ghost use Rattle.std.specs.Prelude.{◌≡◌, ◌≤◌, ℕ, Bool, IsTrue, List, length, IfOk, OnOk};
+ghost use Rattle.std.specs.Prelude.{◌≡◌, ◌≤◌, ℕ, Bool, IsTrue, List, length, IfOk, OnOk, OnErr};
 ghost use Rattle.hd_bytes.specs.Ranges.{bytes_at};
-ghost use Rattle.hd_journal.specs.Disk.{State, WritesLog, WritesVolume, CutsVolume, Syncs, HasLog, HasVolume};
+ghost use Rattle.hd_journal.specs.Disk.{State, WritesLog, WritesVolume, CutsVolume, Syncs, Marks, HasLog, HasVolume};
 
 /// A call of a disk failed. What stands in its files is known no more, but for what a crash may leave.
 #[derive(Clone, Copy, Debug, PartialEq, Eq)]
@@ -21,10 +21,6 @@ pub trait Disk {
 
     /// The device and the number there of the volume's file, by which its log knows it.
     fn identity(&self) -> (u64, u64);
-
-    /// The moment, as a count of the calls so far.
-    fn moment(&self) -> u64
-        ensures { IsTrue is_honest → result ≡ (state self.now).moment };
 
     /// The bytes of the log.
     fn log_len(&self) -> Result<u64, Failed>
@@ -78,6 +74,13 @@ pub trait Disk {
         ensures usable { OnOk result (IsTrue (is_usable self.new)) }
         ensures durable { OnOk result (IsTrue is_honest → HasVolume (state self.new)) }
         ensures syncs { IsTrue is_honest → Syncs (state self.old) (state self.new) };
+
+    /// A commit is done, the first of a journal or one more. There is nothing to do: what a crash leaves, and since which commit, is for the proof alone.
+    fn mark(&mut self, is_first: bool) -> Result<(), Failed>
+        requires { IsTrue (is_usable self.old) }
+        ensures usable { OnOk result (IsTrue (is_usable self.new)) }
+        ensures marks { OnOk result (IsTrue is_honest → Marks is_first (state self.old) (state self.new)) }
+        ensures fails { OnErr result (IsTrue is_honest → Syncs (state self.old) (state self.new)) };
 
     /// A process that dies leaves what it had written, so that is one of the outcomes.
     ghost seen_may_stay: { (disk : Self) → (state disk).may_leave (state disk).log (state disk).volume };

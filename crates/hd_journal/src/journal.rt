@@ -40,8 +40,6 @@ pub struct Journal<D: Disk> {
     pub zeros: Vec<u8>,
     /// Room for a frame.
     pub frame: Vec<u8>,
-    /// The moment of the last commit.
-    pub since: u64,
     pub stage: Stage,
     /// A call of the disk failed.
     pub failed: bool,
@@ -71,7 +69,6 @@ impl<D: Disk> Journal<D> {
         ensures value { OnOk result (IsTrue D.is_honest → buf.new ≡ bytes_at (contents_of D.state self.old) (n * self.old.head.size) (length buf.old)) }
         ensures contents { OnOk result (IsTrue D.is_honest → contents_of D.state self.new ≡ contents_of D.state self.old) }
         ensures committed { IsTrue D.is_honest → committed_of D.state self.new ≡ committed_of D.state self.old }
-        ensures since { self.new.since ≡ self.old.since }
         ensures size { self.new.head.size ≡ self.old.head.size }
         ensures reserved { self.new.reserved ≡ self.old.reserved }
     {
@@ -97,7 +94,6 @@ impl<D: Disk> Journal<D> {
         ensures value { OnOk result (IsTrue D.is_honest → contents_of D.state self.new ≡ with_block self.old.head.size (contents_of D.state self.old) n bytes.now) }
         ensures len { OnOk result (IsTrue D.is_honest → length (contents_of D.state self.new) ≡ length (contents_of D.state self.old)) }
         ensures committed { IsTrue D.is_honest → committed_of D.state self.new ≡ committed_of D.state self.old }
-        ensures since { self.new.since ≡ self.old.since }
         ensures size { self.new.head.size ≡ self.old.head.size }
         ensures reserved { self.new.reserved ≡ self.old.reserved }
     {
@@ -127,7 +123,6 @@ impl<D: Disk> Journal<D> {
         ensures value { OnOk result (IsTrue D.is_honest → contents_of D.state self.new ≡ with_block self.old.head.size (contents_of D.state self.old) n bytes.now) }
         ensures len { OnOk result (IsTrue D.is_honest → length (contents_of D.state self.new) ≡ length (contents_of D.state self.old)) }
         ensures committed { IsTrue D.is_honest → committed_of D.state self.new ≡ committed_of D.state self.old }
-        ensures since { self.new.since ≡ self.old.since }
         ensures size { self.new.head.size ≡ self.old.head.size }
         ensures reserved { self.new.reserved ≡ self.old.reserved }
     {
@@ -155,7 +150,6 @@ impl<D: Disk> Journal<D> {
         ensures value { OnOk result (IsTrue D.is_honest → contents_of D.state self.new ≡ with_block self.old.head.size (contents_of D.state self.old) n bytes.now) }
         ensures len { OnOk result (IsTrue D.is_honest → length (contents_of D.state self.new) ≡ length (contents_of D.state self.old)) }
         ensures committed { IsTrue D.is_honest → committed_of D.state self.new ≡ committed_of D.state self.old }
-        ensures since { self.new.since ≡ self.old.since }
         ensures size { self.new.head.size ≡ self.old.head.size }
         ensures reserved { self.new.reserved ≡ self.old.reserved }
     {
@@ -205,7 +199,6 @@ impl<D: Disk> Journal<D> {
         ensures room { OnOk result (self.old.reserved - blocks ≤ self.new.reserved) }
         ensures value { OnOk result (IsTrue D.is_honest → contents_of D.state self.new ≡ grown self.old.head.size (contents_of D.state self.old) blocks) }
         ensures committed { IsTrue D.is_honest → committed_of D.state self.new ≡ committed_of D.state self.old }
-        ensures since { self.new.since ≡ self.old.since }
         ensures size { self.new.head.size ≡ self.old.head.size }
     {
         let Ok(()) = self.make_room() else {
@@ -250,7 +243,6 @@ impl<D: Disk> Journal<D> {
         ensures value { self.old.failed ≡ false → IsTrue D.is_honest → contents_of D.state self.new ≡ (committed_of D.state self.old).image }
         ensures committed { IsTrue D.is_honest → committed_of D.state self.new ≡ committed_of D.state self.old }
         ensures dead { self.old.failed ≡ true → self.new ≡ self.old }
-        ensures since { self.new.since ≡ self.old.since }
         ensures size { self.new.head.size ≡ self.old.head.size }
         ensures reserved { self.new.reserved ≡ self.old.reserved }
         ensures stage { self.new.stage ≡ self.old.stage }
@@ -272,7 +264,6 @@ impl<D: Disk> Journal<D> {
         ensures collecting { OnOk result (self.new.stage ≡ Stage.Collecting) }
         ensures contents { OnOk result (IsTrue D.is_honest → contents_of D.state self.new ≡ contents_of D.state self.old) }
         ensures committed { IsTrue D.is_honest → committed_of D.state self.new ≡ committed_of D.state self.old }
-        ensures since { self.new.since ≡ self.old.since }
         ensures size { self.new.head.size ≡ self.old.head.size }
         ensures reserved { self.new.reserved ≡ self.old.reserved }
         ensures volume { OnOk result (IsTrue D.is_honest → (D.state self.new.disk).volume ≡ (committed_of D.state self.new).image) }
@@ -298,7 +289,6 @@ impl<D: Disk> Journal<D> {
         ensures collecting { OnOk result (self.new.stage ≡ Stage.Collecting) }
         ensures contents { OnOk result (IsTrue D.is_honest → contents_of D.state self.new ≡ contents_of D.state self.old) }
         ensures committed { IsTrue D.is_honest → committed_of D.state self.new ≡ committed_of D.state self.old }
-        ensures since { self.new.since ≡ self.old.since }
         ensures shut { IsTrue D.is_honest → 0 < length self.old.kept.items
             → Leaves (IsShutBetween (D.state self.old.disk).volume (last_of D.state self.old)) (D.state self.old.disk) (D.state self.new.disk) }
         ensures size { self.new.head.size ≡ self.old.head.size }
@@ -344,7 +334,6 @@ impl<D: Disk> Journal<D> {
         ensures contents { OnOk result (IsTrue D.is_honest → contents_of D.state self.new ≡ contents_of D.state self.old) }
         ensures committed { IsTrue D.is_honest → committed_of D.state self.new ≡ committed_of D.state self.old }
         ensures volume { OnOk result (IsTrue D.is_honest → (D.state self.new.disk).volume ≡ (committed_of D.state self.new).image) }
-        ensures since { self.new.since ≡ self.old.since }
         ensures size { self.new.head.size ≡ self.old.head.size }
         ensures reserved { self.new.reserved ≡ self.old.reserved }
     {
@@ -361,7 +350,6 @@ impl<D: Disk> Journal<D> {
         ensures err { OnErr result (self.new.failed ≡ true) }
         ensures contents { OnOk result (IsTrue D.is_honest → contents_of D.state self.new ≡ contents_of D.state self.old) }
         ensures committed { IsTrue D.is_honest → committed_of D.state self.new ≡ committed_of D.state self.old }
-        ensures since { self.new.since ≡ self.old.since }
         ensures size { self.new.head.size ≡ self.old.head.size }
         ensures reserved { self.new.reserved ≡ self.old.reserved }
     {

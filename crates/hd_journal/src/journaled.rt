@@ -1,7 +1,7 @@
-ghost use Rattle.std.specs.Prelude.{◌≡◌, ◌+◌, ◌<◌, ◌≤◌, ◌&&◌, not, true, false, IsTrue, IfOk, IfErr, OnOk, OnErr};
+ghost use Rattle.std.specs.Prelude.{◌≡◌, ◌+◌, ◌<◌, ◌≤◌, [], ◌&&◌, not, true, false, IsTrue, IfOk, IfErr, OnOk, OnErr};
 ghost use Rattle.hd_dbd.specs.Refusals.{OnlyDevice};
 ghost use Rattle.hd_stores.specs.Stores.{IsCommit, FailsCommit, CountsDevice, StaysSound};
-ghost use Rattle.hd_journal.specs.Disk.{Leaves};
+ghost use Rattle.hd_journal.specs.Disk.{Leaves, LeavesMeanwhile};
 ghost use Rattle.hd_journal.specs.Log.{recovered, IsForeign};
 ghost use Rattle.hd_journal.specs.States.{StandsFor, StandsForEither, IsSettled};
 ghost use Rattle.hd_journal.specs.Framed.{IsSafe};
@@ -60,8 +60,9 @@ impl<D: Disk, L: Ledger> Journaled<D, L> {
         ensures image { IfOk result (λ s. IsTrue D.is_honest → s.committed.image ≡ recovered (D.state disk).log (D.state disk).volume) }
         ensures tried { IfOk result (λ s. IsTrue D.is_honest → s.committed.tried ≡ recovered (D.state disk).log (D.state disk).volume) }
         ensures since { IfOk result (λ s. IsTrue D.is_honest → s.committed.since ≡ (D.state s.disk).moment) }
+        ensures before { IfOk result (λ s. IsTrue D.is_honest → s.committed.before ≡ []) }
         ensures own { IfOk result (λ _. IsTrue D.is_honest → IsForeign (D.state disk).log → ⊥) }
-        ensures leaves { IfOk result (λ s. IsTrue D.is_honest → Leaves (StandsFor (recovered (D.state disk).log (D.state disk).volume)) (D.state disk) (D.state s.disk)) }
+        ensures leaves { IfOk result (λ s. IsTrue D.is_honest → LeavesMeanwhile (StandsFor (recovered (D.state disk).log (D.state disk).volume)) (D.state disk) (D.state s.disk)) }
         ensures refusal { IfErr result (λ e. IsTrue D.is_honest → RefusesLog e.1 (D.state disk) (D.state e.0)) }
         ensures fails { IfErr result (λ e. IsTrue D.is_honest → Leaves (StandsFor (recovered (D.state disk).log (D.state disk).volume)) (D.state disk) (D.state e.0)) }
     {
@@ -78,10 +79,10 @@ impl<D: Disk, L: Ledger> Journaled<D, L> {
         }
     }
 
-    /// A crash at any moment since the last commit leaves its image, or that of a commit which was tried since then and failed. A store over an honest
-    /// disk is sound until an access fails.
+    /// A crash at any moment since the opening, or since a commit, leaves the image of that or of a later commit, and behind the last also that of one which
+    /// was tried and failed. A store over an honest disk is sound until an access fails.
     pub fn assure(&self)
-        ensures safe { IsTrue D.is_honest → IsSafe (D.state self.now.disk) self.now.committed.since self.now.committed.image self.now.committed.tried }
+        ensures safe { IsTrue D.is_honest → IsSafe self.now.committed (D.state self.now.disk) }
         ensures sound { self.now.is_sound ≡ (D.is_honest && not self.now.failed) }
     {
         let _ = &self.journal;
@@ -210,9 +211,9 @@ impl<D: Disk, L: Ledger> RunStore for Journaled<D, L> {
 
 impl<D: Disk, L: Ledger> CommitStore for Journaled<D, L> {
     fn commit(&mut self) -> Result<(), Refused>
-        ensures committed { OnOk result (IsCommit self.old.is_sound self.old.contents self.new.contents self.new.committed) }
+        ensures committed { OnOk result (IsCommit self.old.is_sound self.old.contents self.new.contents self.old.committed self.new.committed) }
         ensures fails { OnErr result (FailsCommit self.old.is_sound self.old.contents self.old.committed self.new.committed) }
-        ensures leaves { self.old.failed ≡ false → IsTrue D.is_honest → Leaves (StandsForEither self.old.committed.image self.old.contents) (D.state self.old.disk) (D.state self.new.disk) }
+        ensures leaves { self.old.failed ≡ false → IsTrue D.is_honest → LeavesMeanwhile (StandsForEither self.old.committed.image self.old.contents) (D.state self.old.disk) (D.state self.new.disk) }
         ensures dead { self.old.failed ≡ true → (self.new.disk ≡ self.old.disk) × (self.new.committed ≡ self.old.committed) }
         ensures refusal { OnlyDevice result }
         ensures counts { CountsDevice result self.old.failures self.new.failures }

@@ -17,6 +17,7 @@ mod publishing;
 mod reading;
 mod recovery;
 mod redoing;
+mod standing;
 
 pub use disk::{Disk, Failed};
 pub use finding::{Found, find_log, is_open};

@@ -1,14 +1,23 @@
-ghost use Rattle.std.specs.Prelude.{◌≡◌, ◌++◌, ◌∷◌, [], true, length, refl, OnOk, OnErr, IfOk};
+ghost use Rattle.std.specs.Prelude.{◌≡◌, ◌++◌, ◌∷◌, [], map, true, length, refl, OnOk, OnErr, IfOk};
 ghost use Rattle.std.proofs.Common.{inl};
 ghost use Rattle.hd_bytes.specs.Ranges.{bytes_at};
 ghost use Rattle.hd_journal.specs.Disk.{Torn, Cut};
 
 use crate::disk::{Disk, Failed};
+use crate::standing::stand;
 use std::alloc::{AllocError, Global};
 
 /// A log and a volume as they were.
 #[derive(Drop)]
 pub struct Pair {
+    pub log: Vec<u8>,
+    pub volume: Vec<u8>,
+}
+
+/// A log and a volume as they stood when a commit was done, and the moment.
+#[derive(Drop)]
+pub struct Stood {
+    pub moment: u64,
     pub log: Vec<u8>,
     pub volume: Vec<u8>,
 }
@@ -22,6 +31,7 @@ pub struct MemoryDisk {
     log: Vec<u8>,
     volume: Vec<u8>,
     past: Vec<Pair>,
+    marks: Vec<Stood>,
 }
 
 impl MemoryDisk {
@@ -35,6 +45,7 @@ impl MemoryDisk {
             log,
             volume,
             past: Vec::new(alloc),
+            marks: Vec::new(alloc),
         }
     }
 }
@@ -77,20 +88,16 @@ fn keep(alloc: Global, past: &mut Vec<Pair>, log: &[u8], volume: &[u8]) -> Resul
 }
 
 impl Disk for MemoryDisk {
-    ghost use Rattle.hd_journal.specs.Past.{state_in, only_pair};
+    ghost use Rattle.hd_journal.specs.Past.{state_in, mark_shown, only_pair};
 
     ghost is_honest = { true };
 
     ghost is_usable = { λ _. true };
 
-    ghost state = { λ m. state_in m.past.items m.log.items m.volume.items };
+    ghost state = { λ m. state_in m.past.items m.log.items m.volume.items (map mark_shown m.marks.items) };
 
     fn identity(&self) -> (u64, u64) {
         (0, 0)
-    }
-
-    fn moment(&self) -> u64 {
-        self.past.len() as u64
     }
 
     fn log_len(&self) -> Result<u64, Failed> {
@@ -157,6 +164,21 @@ impl Disk for MemoryDisk {
     }
 
     fn sync_volume(&mut self) -> Result<(), Failed> {
+        Ok(())
+    }
+
+    fn mark(&mut self, is_first: bool) -> Result<(), Failed> {
+        let moment = self.past.len() as u64;
+        let Ok(()) = stand(
+            self.alloc,
+            &mut self.marks,
+            moment,
+            &self.log,
+            &self.volume,
+            is_first,
+        ) else {
+            return Err(Failed);
+        };
         Ok(())
     }
 

@@ -1,5 +1,5 @@
-ghost use Rattle.std.specs.Prelude.{◌≡◌, ◌≤◌, false, IsTrue, length, IfOk, IfErr, OnOk};
-ghost use Rattle.hd_journal.specs.Disk.{Leaves};
+ghost use Rattle.std.specs.Prelude.{◌≡◌, ◌≤◌, [], false, IsTrue, length, IfOk, IfErr, OnOk};
+ghost use Rattle.hd_journal.specs.Disk.{Leaves, LeavesMeanwhile};
 ghost use Rattle.hd_journal.specs.Log.{recovered, IsForeign};
 ghost use Rattle.hd_journal.specs.States.{IsSettled, StandsFor};
 ghost use Rattle.hd_journal.specs.Finds.{RefusesLog};
@@ -69,9 +69,10 @@ pub fn open_journal<D: Disk>(
     ensures contents { IfOk result (λ j. IsTrue D.is_honest → contents_of D.state j ≡ recovered (D.state disk).log (D.state disk).volume) }
     ensures image { IfOk result (λ j. IsTrue D.is_honest → (committed_of D.state j).image ≡ recovered (D.state disk).log (D.state disk).volume) }
     ensures tried { IfOk result (λ j. IsTrue D.is_honest → (committed_of D.state j).tried ≡ recovered (D.state disk).log (D.state disk).volume) }
-    ensures since { IfOk result (λ j. IsTrue D.is_honest → j.since ≡ (D.state j.disk).moment) }
+    ensures since { IfOk result (λ j. IsTrue D.is_honest → (committed_of D.state j).since ≡ (D.state j.disk).moment) }
+    ensures before { IfOk result (λ j. IsTrue D.is_honest → (committed_of D.state j).before ≡ []) }
     ensures own { IfOk result (λ _. IsTrue D.is_honest → IsForeign (D.state disk).log → ⊥) }
-    ensures leaves { IfOk result (λ j. IsTrue D.is_honest → Leaves (StandsFor (recovered (D.state disk).log (D.state disk).volume)) (D.state disk) (D.state j.disk)) }
+    ensures leaves { IfOk result (λ j. IsTrue D.is_honest → LeavesMeanwhile (StandsFor (recovered (D.state disk).log (D.state disk).volume)) (D.state disk) (D.state j.disk)) }
     ensures refusal { IfErr result (λ e. IsTrue D.is_honest → RefusesLog e.1 (D.state disk) (D.state e.0)) }
     ensures fails { IfErr result (λ e. IsTrue D.is_honest → Leaves (StandsFor (recovered (D.state disk).log (D.state disk).volume)) (D.state disk) (D.state e.0)) }
 {
@@ -80,7 +81,6 @@ pub fn open_journal<D: Disk>(
         Ok(len) => len,
         Err(e) => return Err((disk, e)),
     };
-    let since = disk.moment();
     let head = Head {
         size,
         count: 0,
@@ -105,6 +105,9 @@ pub fn open_journal<D: Disk>(
     let Ok(frame) = vec![in alloc; 0u8; size as usize + 4] else {
         return Err((disk, Unopened::Memory));
     };
+    let Ok(()) = disk.mark(true) else {
+        return Err((disk, Unopened::Device));
+    };
     Ok(Journal {
         disk,
         head,
@@ -114,7 +117,6 @@ pub fn open_journal<D: Disk>(
         reserved: 0,
         zeros,
         frame,
-        since,
         stage: Stage::Collecting,
         failed: false,
     })

@@ -50,9 +50,9 @@ fn publish<D: Disk>(
 }
 
 impl<D: Disk> Journal<D> {
-    ghost use Rattle.hd_journal.specs.Disk.{Leaves};
+    ghost use Rattle.hd_journal.specs.Disk.{Leaves, LeavesMeanwhile};
     ghost use Rattle.hd_journal.specs.States.{StandsFor, StandsForEither};
-    ghost use Rattle.hd_journal.specs.Journals.{IsJournal, contents_of, committed_of};
+    ghost use Rattle.hd_journal.specs.Journals.{IsJournal, IsCommitted, contents_of, committed_of};
 
     /// Makes all that was written last. A crash at any moment leaves the image of the last commit or the contents, and after
     /// `Ok` the contents.
@@ -62,13 +62,11 @@ impl<D: Disk> Journal<D> {
         ensures ok { OnOk result ((self.new.failed ≡ false) × (self.old.failed ≡ false)) }
         ensures err { OnErr result (self.new.failed ≡ true) }
         ensures contents { OnOk result (IsTrue D.is_honest → contents_of D.state self.new ≡ contents_of D.state self.old) }
-        ensures committed { OnOk result (IsTrue D.is_honest → ((committed_of D.state self.new).image ≡ contents_of D.state self.old)
-            × ((committed_of D.state self.new).tried ≡ contents_of D.state self.old)) }
+        ensures committed { OnOk result (IsTrue D.is_honest → IsCommitted (contents_of D.state self.old) (committed_of D.state self.old) (committed_of D.state self.new)) }
         ensures fails { OnErr result (self.old.failed ≡ false → IsTrue D.is_honest → (committed_of D.state self.new ≡ committed_of D.state self.old)
             ⊎ (committed_of D.state self.new ≡ record (committed_of D.state self.old) { tried = contents_of D.state self.old })) }
-        ensures since { OnErr result (self.new.since ≡ self.old.since) }
         ensures leaves { self.old.failed ≡ false → IsTrue D.is_honest
-            → Leaves (StandsForEither (committed_of D.state self.old).image (contents_of D.state self.old)) (D.state self.old.disk) (D.state self.new.disk) }
+            → LeavesMeanwhile (StandsForEither (committed_of D.state self.old).image (contents_of D.state self.old)) (D.state self.old.disk) (D.state self.new.disk) }
         ensures dead { self.old.failed ≡ true → self.new ≡ self.old }
         ensures size { self.new.head.size ≡ self.old.head.size }
         ensures reserved { self.new.reserved ≡ self.old.reserved }
@@ -77,10 +75,32 @@ impl<D: Disk> Journal<D> {
             return Err(Failed);
         }
         if self.is_idle() {
-            return Ok(());
+            return self.mark();
         }
         self.frame_first()?;
         self.publish_frames()
+    }
+
+    /// Counts a commit of what the last one has made last.
+    fn mark(&mut self) -> Result<(), Failed>
+        requires kept { IsJournal D.is_honest D.is_usable D.state self.old }
+        requires well { self.old.failed ≡ false }
+        requires idle { (self.old.head.count ≡ self.old.last.count) × (self.old.head.len ≡ self.old.last.len) }
+        ensures kept { IsJournal D.is_honest D.is_usable D.state self.new }
+        ensures ok { OnOk result ((self.new.failed ≡ false) × (self.old.failed ≡ false)) }
+        ensures err { OnErr result (self.new.failed ≡ true) }
+        ensures contents { IsTrue D.is_honest → contents_of D.state self.new ≡ contents_of D.state self.old }
+        ensures committed { OnOk result (IsTrue D.is_honest → IsCommitted (contents_of D.state self.old) (committed_of D.state self.old) (committed_of D.state self.new)) }
+        ensures fails { OnErr result (IsTrue D.is_honest → committed_of D.state self.new ≡ committed_of D.state self.old) }
+        ensures leaves { IsTrue D.is_honest → LeavesMeanwhile (StandsForEither (committed_of D.state self.old).image (contents_of D.state self.old)) (D.state self.old.disk) (D.state self.new.disk) }
+        ensures size { self.new.head.size ≡ self.old.head.size }
+        ensures reserved { self.new.reserved ≡ self.old.reserved }
+    {
+        let Ok(()) = self.disk.mark(false) else {
+            self.failed = true;
+            return Err(Failed);
+        };
+        Ok(())
     }
 
     /// Writes a frame of block 0 behind the others, where it has none: the first byte of a volume is shut while frames are copied to it.
@@ -93,7 +113,6 @@ impl<D: Disk> Journal<D> {
         ensures first { OnOk result (0 < length self.new.places.items → slice_index self.new.places.items 0 ≢ 0) }
         ensures contents { OnOk result (IsTrue D.is_honest → contents_of D.state self.new ≡ contents_of D.state self.old) }
         ensures committed { IsTrue D.is_honest → committed_of D.state self.new ≡ committed_of D.state self.old }
-        ensures since { self.new.since ≡ self.old.since }
         ensures leaves { IsTrue D.is_honest → Leaves (StandsFor (committed_of D.state self.old).image) (D.state self.old.disk) (D.state self.new.disk) }
         ensures size { self.new.head.size ≡ self.old.head.size }
         ensures reserved { self.new.reserved ≡ self.old.reserved }
@@ -128,12 +147,10 @@ impl<D: Disk> Journal<D> {
         ensures ok { OnOk result ((self.new.failed ≡ false) × (self.old.failed ≡ false)) }
         ensures err { OnErr result (self.new.failed ≡ true) }
         ensures contents { IsTrue D.is_honest → contents_of D.state self.new ≡ contents_of D.state self.old }
-        ensures committed { OnOk result (IsTrue D.is_honest → ((committed_of D.state self.new).image ≡ contents_of D.state self.old)
-            × ((committed_of D.state self.new).tried ≡ contents_of D.state self.old)) }
+        ensures committed { OnOk result (IsTrue D.is_honest → IsCommitted (contents_of D.state self.old) (committed_of D.state self.old) (committed_of D.state self.new)) }
         ensures fails { OnErr result (IsTrue D.is_honest → (committed_of D.state self.new ≡ committed_of D.state self.old)
             ⊎ (committed_of D.state self.new ≡ record (committed_of D.state self.old) { tried = contents_of D.state self.old })) }
-        ensures since { OnErr result (self.new.since ≡ self.old.since) }
-        ensures leaves { IsTrue D.is_honest → Leaves (StandsForEither (committed_of D.state self.old).image (contents_of D.state self.old)) (D.state self.old.disk) (D.state self.new.disk) }
+        ensures leaves { IsTrue D.is_honest → LeavesMeanwhile (StandsForEither (committed_of D.state self.old).image (contents_of D.state self.old)) (D.state self.old.disk) (D.state self.new.disk) }
         ensures size { self.new.head.size ≡ self.old.head.size }
         ensures reserved { self.new.reserved ≡ self.old.reserved }
     {
@@ -153,11 +170,15 @@ impl<D: Disk> Journal<D> {
             self.stage = Stage::Doubtful;
             return Err(Failed);
         };
+        let Ok(()) = self.disk.mark(false) else {
+            self.failed = true;
+            self.stage = Stage::Doubtful;
+            return Err(Failed);
+        };
         self.head.count += 1;
         self.last = self.head;
         copy_places(&mut self.kept, &self.places);
         self.stage = Stage::Published;
-        self.since = self.disk.moment();
         Ok(())
     }
 }

@@ -127,10 +127,6 @@ impl Disk for TornDisk {
         (3, self.number)
     }
 
-    fn moment(&self) -> u64 {
-        0
-    }
-
     fn log_len(&self) -> Result<u64, Failed> {
         Ok(self.log.now.len() as u64)
     }
@@ -176,6 +172,10 @@ impl Disk for TornDisk {
         self.spend()?;
         self.syncs = self.syncs.saturating_add(1);
         self.volume.synced = copy(self.alloc, &self.volume.now)?;
+        Ok(())
+    }
+
+    fn mark(&mut self, _is_first: bool) -> Result<(), Failed> {
         Ok(())
     }
 

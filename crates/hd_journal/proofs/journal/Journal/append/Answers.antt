@@ -4,7 +4,8 @@ use Rattle.hd_journal.specs.declared.head.Head.{Head}
 use Rattle.hd_journal.specs.Log.{frame_at, image}
 use Rattle.hd_journal.proofs.Bytes.{length-image}
 use Rattle.hd_journal.proofs.FrameLemmas.{more-framed, more-image}
-use Rattle.hd_journal.proofs.Held.{behind-last, committed-same, write-framed, write-image, write-safe, held-write}
+use Rattle.hd_journal.proofs.Held.{behind-last, committed-same, write-framed, write-image, safe-same, held-write, write-leaves}
+use Rattle.hd_journal.proofs.Safety.{marks-same}
 use Rattle.hd_journal.proofs.journal.Journal.append.Goals as goal
 
 pub returns-in_default-clause-kept : goal.returns-in_default-clause-kept
@@ -31,7 +32,8 @@ returns-in_default-clause-kept g c =
       last = λ e. absurd (true≢false e);
       holds = λ e. absurd (true≢false e);
       first = λ e. absurd (true≢false e);
-      safe = λ h. write-safe j.stage j.last j.kept.items a b (frame_at j.head.size j.head.count) (j.head.size + 4) j.since _ _ (k.sure c.requires.well) (k.last c.requires.well h) behind (k.holds c.requires.well h) (c.append_frame.ensures.writes h) (k.safe h);
+      marked = λ h. marks-same (image j.last a.log a.volume) (image j.last b.log b.volume) a.marks b.marks (write-image j.last j.kept.items a b (frame_at j.head.size j.head.count) (j.head.size + 4) (k.last c.requires.well h) behind (c.append_frame.ensures.writes h)) (c.append_frame.ensures.writes h).time.marks (k.marked h);
+      safe = λ h. safe-same j.stage a b (image j.last a.log a.volume) (image j.last b.log b.volume) _ _ (k.sure c.requires.well) (write-image j.last j.kept.items a b (frame_at j.head.size j.head.count) (j.head.size + 4) (k.last c.requires.well h) behind (c.append_frame.ensures.writes h)) (write-leaves j.stage j.last j.kept.items a b (frame_at j.head.size j.head.count) (j.head.size + 4) (k.sure c.requires.well) (k.last c.requires.well h) behind (k.holds c.requires.well h) (c.append_frame.ensures.writes h)) (k.safe h);
     }
 
 pub returns-clause-kept : goal.returns-clause-kept
@@ -59,7 +61,8 @@ returns-clause-kept g c =
       last = λ e h. write-framed j.last j.kept.items a b (frame_at j.head.size j.head.count) (j.head.size + 4) (k.last c.requires.well h) behind (c.append_frame.ensures.writes h);
       holds = λ e h. held-write j.stage j.last a b (frame_at j.head.size j.head.count) (j.head.size + 4) behind (k.holds c.requires.well h) (c.append_frame.ensures.writes h);
       first = k.first;
-      safe = λ h. write-safe j.stage j.last j.kept.items a b (frame_at j.head.size j.head.count) (j.head.size + 4) j.since _ _ (k.sure c.requires.well) (k.last c.requires.well h) behind (k.holds c.requires.well h) (c.append_frame.ensures.writes h) (k.safe h);
+      marked = λ h. marks-same (image j.last a.log a.volume) (image j.last b.log b.volume) a.marks b.marks (write-image j.last j.kept.items a b (frame_at j.head.size j.head.count) (j.head.size + 4) (k.last c.requires.well h) behind (c.append_frame.ensures.writes h)) (c.append_frame.ensures.writes h).time.marks (k.marked h);
+      safe = λ h. safe-same j.stage a b (image j.last a.log a.volume) (image j.last b.log b.volume) _ _ (k.sure c.requires.well) (write-image j.last j.kept.items a b (frame_at j.head.size j.head.count) (j.head.size + 4) (k.last c.requires.well h) behind (c.append_frame.ensures.writes h)) (write-leaves j.stage j.last j.kept.items a b (frame_at j.head.size j.head.count) (j.head.size + 4) (k.sure c.requires.well) (k.last c.requires.well h) behind (k.holds c.requires.well h) (c.append_frame.ensures.writes h)) (k.safe h);
     }
 
 pub returns-in_default-clause-committed : goal.returns-in_default-clause-committed
@@ -69,7 +72,7 @@ returns-in_default-clause-committed g c h =
     let a = g.D.Disk.state j.disk in
     let b = g.D.Disk.state c.append_frame.new.disk in
     let behind = behind-last j.head j.last j.head.count k.same k.later in
-    committed-same j.stage (image j.last a.log a.volume) (image j.last b.log b.volume) _ _ j.since (k.sure c.requires.well) (write-image j.last j.kept.items a b (frame_at j.head.size j.head.count) (j.head.size + 4) (k.last c.requires.well h) behind (c.append_frame.ensures.writes h))
+    committed-same j.stage (image j.last a.log a.volume) (image j.last b.log b.volume) _ _ a.marks b.marks (k.sure c.requires.well) (write-image j.last j.kept.items a b (frame_at j.head.size j.head.count) (j.head.size + 4) (k.last c.requires.well h) behind (c.append_frame.ensures.writes h)) (c.append_frame.ensures.writes h).time.marks
 
 pub returns-clause-committed : goal.returns-clause-committed
 returns-clause-committed g c h =
@@ -78,7 +81,7 @@ returns-clause-committed g c h =
     let a = g.D.Disk.state j.disk in
     let b = g.D.Disk.state c.append_frame.new.disk in
     let behind = behind-last j.head j.last j.head.count k.same k.later in
-    committed-same j.stage (image j.last a.log a.volume) (image j.last b.log b.volume) _ _ j.since (k.sure c.requires.well) (write-image j.last j.kept.items a b (frame_at j.head.size j.head.count) (j.head.size + 4) (k.last c.requires.well h) behind (c.append_frame.ensures.writes h))
+    committed-same j.stage (image j.last a.log a.volume) (image j.last b.log b.volume) _ _ a.marks b.marks (k.sure c.requires.well) (write-image j.last j.kept.items a b (frame_at j.head.size j.head.count) (j.head.size + 4) (k.last c.requires.well h) behind (c.append_frame.ensures.writes h)) (c.append_frame.ensures.writes h).time.marks
 
 pub returns-clause-value : goal.returns-clause-value
 returns-clause-value g c h =

@@ -5,11 +5,13 @@ use Rattle.hd_journal.specs.Disk.{Leaves}
 use Rattle.hd_journal.specs.States.{StandsFor, IsShutBetween}
 use Rattle.hd_journal.specs.Log.{image}
 use Rattle.hd_journal.specs.Framed.{fresh, before, IsFramed, IsSafe}
+use Rattle.hd_journal.specs.Journals.{committed_in}
 use Rattle.hd_journal.proofs.Bytes.{length-image}
 use Rattle.hd_journal.proofs.Slots.{fresh-image}
 use Rattle.hd_journal.proofs.FrameLemmas.{fresh-framed, copied-framed, copied-image}
 use Rattle.hd_journal.proofs.JournalLemmas.{collecting≢published, collecting≢doubtful}
-use Rattle.hd_journal.proofs.Held.{before-image, copied-last, first-low, safe-sure, copy-safe, tried-sure, committed-same}
+use Rattle.hd_journal.proofs.Held.{before-image, copied-last, first-low, safe-same, tried-sure, committed-same}
+use Rattle.hd_journal.proofs.Safety.{marks-same}
 use Rattle.hd_journal.proofs.journal.Journal.copy_back.Goals as goal
 
 pub returns-in_default-clause-kept : goal.returns-in_default-clause-kept
@@ -35,15 +37,18 @@ returns-in_default-clause-kept g c =
       last = λ e. absurd (true≢false e);
       holds = λ e. absurd (true≢false e);
       first = λ e. absurd (true≢false e);
+      marked = λ h.
+          let held = (rw c.requires.published at (k.holds c.requires.well)) h in
+          let o = k.last c.requires.well h in
+          let last = copied-last j.last j.kept.items a b held.0 o held.1 (c.copy_commits.ensures.longer h) (c.copy_commits.ensures.behind h) (ap (λ (x : Head). image x b.log b.volume) (sym c.before-2.ensures) ∙ c.copy_commits.ensures.same h ∙ ap (λ (x : Head). image x a.log a.volume) c.before-2.ensures) in
+          marks-same (image j.last a.log a.volume) (image j.last b.log b.volume) a.marks b.marks last (c.copy_commits.ensures.leaves h).marks (k.marked h);
       safe = λ h.
           let held = (rw c.requires.published at (k.holds c.requires.well)) h in
           let o = k.last c.requires.well h in
           let last = copied-last j.last j.kept.items a b held.0 o held.1 (c.copy_commits.ensures.longer h) (c.copy_commits.ensures.behind h) (ap (λ (x : Head). image x b.log b.volume) (sym c.before-2.ensures) ∙ c.copy_commits.ensures.same h ∙ ap (λ (x : Head). image x a.log a.volume) c.before-2.ensures) in
           let leaves : Leaves (StandsFor (image j.last a.log a.volume)) a b =
           subst (λ (x : List ℕ). Leaves (StandsFor x) a b) (ap (λ (x : Head). image x a.log a.volume) c.before-2.ensures ∙ sym (before-image j.last a held.0 held.1)) (c.copy_commits.ensures.leaves h) in
-          let was = safe-sure a j.stage j.since (image j.last a.log a.volume) _ (k.sure c.requires.well) (k.safe h) in
-          let is = copy-safe a b j.since (image j.last a.log a.volume) (image j.last b.log b.volume) was leaves last in
-          subst (IsSafe b j.since (image j.last b.log b.volume)) (sym (tried-sure j.stage (image j.last b.log b.volume) _ (k.sure c.requires.well))) is;
+          safe-same j.stage a b (image j.last a.log a.volume) (image j.last b.log b.volume) _ _ (k.sure c.requires.well) last leaves (k.safe h);
     }
 
 pub returns-in_default-clause-committed : goal.returns-in_default-clause-committed
@@ -54,7 +59,7 @@ returns-in_default-clause-committed g c h =
     let b = g.D.Disk.state c.copy_commits.new.disk in
     let held = (rw c.requires.published at (k.holds c.requires.well)) h in
     let o = k.last c.requires.well h in
-    committed-same j.stage (image j.last a.log a.volume) (image j.last b.log b.volume) _ _ j.since (k.sure c.requires.well) (copied-last j.last j.kept.items a b held.0 o held.1 (c.copy_commits.ensures.longer h) (c.copy_commits.ensures.behind h) (ap (λ (x : Head). image x b.log b.volume) (sym c.before-2.ensures) ∙ c.copy_commits.ensures.same h ∙ ap (λ (x : Head). image x a.log a.volume) c.before-2.ensures))
+    committed-same j.stage (image j.last a.log a.volume) (image j.last b.log b.volume) _ _ a.marks b.marks (k.sure c.requires.well) (copied-last j.last j.kept.items a b held.0 o held.1 (c.copy_commits.ensures.longer h) (c.copy_commits.ensures.behind h) (ap (λ (x : Head). image x b.log b.volume) (sym c.before-2.ensures) ∙ c.copy_commits.ensures.same h ∙ ap (λ (x : Head). image x a.log a.volume) c.before-2.ensures)) (c.copy_commits.ensures.leaves h).marks
 
 pub returns-in_default-clause-shut : goal.returns-in_default-clause-shut
 returns-in_default-clause-shut g c h some =
@@ -128,6 +133,12 @@ returns-clause-kept g c =
           let long : length b.volume ≡ j.last.len = ap length done ∙ length-image j.last a.log a.volume in
           (c.in-Ok.ensures.settled h, last_is ∙ sym (ap (λ (x : Head). fresh x (length b.volume)) last_is ∙ ap (fresh j.last) long));
       first = λ e p. absurd (collecting≢published p);
+      marked = λ h.
+          let held = (rw c.requires.published at (k.holds c.requires.well)) h in
+          let done : b.volume ≡ image j.last a.log a.volume = c.in-Ok.ensures.done h ∙ ap (λ (x : Head). image x a.log a.volume) c.before-2.ensures ∙ sym (before-image j.last a held.0 held.1) in
+          let long : length b.volume ≡ j.last.len = ap length done ∙ length-image j.last a.log a.volume in
+          let last : image c.fresh-self.result b.log b.volume ≡ image j.last a.log a.volume = ap (λ (x : Head). image x b.log b.volume) (last_is ∙ ap (fresh j.last) (sym long)) ∙ fresh-image b j.last ∙ done in
+          marks-same (image j.last a.log a.volume) (image c.fresh-self.result b.log b.volume) a.marks b.marks last (c.copy_commits.ensures.leaves h).marks (k.marked h);
       safe = λ h.
           let held = (rw c.requires.published at (k.holds c.requires.well)) h in
           let done : b.volume ≡ image j.last a.log a.volume = c.in-Ok.ensures.done h ∙ ap (λ (x : Head). image x a.log a.volume) c.before-2.ensures ∙ sym (before-image j.last a held.0 held.1) in
@@ -135,8 +146,8 @@ returns-clause-kept g c =
           let last : image c.fresh-self.result b.log b.volume ≡ image j.last a.log a.volume = ap (λ (x : Head). image x b.log b.volume) (last_is ∙ ap (fresh j.last) (sym long)) ∙ fresh-image b j.last ∙ done in
           let leaves : Leaves (StandsFor (image j.last a.log a.volume)) a b =
           subst (λ (x : List ℕ). Leaves (StandsFor x) a b) (ap (λ (x : Head). image x a.log a.volume) c.before-2.ensures ∙ sym (before-image j.last a held.0 held.1)) (c.copy_commits.ensures.leaves h) in
-          let was = safe-sure a j.stage j.since (image j.last a.log a.volume) _ (k.sure c.requires.well) (k.safe h) in
-          copy-safe a b j.since (image j.last a.log a.volume) (image c.fresh-self.result b.log b.volume) was leaves last;
+          subst (λ (x : List ℕ). IsSafe (committed_in (image c.fresh-self.result b.log b.volume) x b.marks) b) (tried-sure j.stage (image c.fresh-self.result b.log b.volume) (image j.head a.log a.volume) (k.sure c.requires.well))
+          (safe-same j.stage a b (image j.last a.log a.volume) (image c.fresh-self.result b.log b.volume) _ (image j.head a.log a.volume) (k.sure c.requires.well) last leaves (k.safe h));
     }
 
 pub returns-clause-contents : goal.returns-clause-contents
@@ -164,7 +175,7 @@ returns-clause-committed g c h =
     let done : b.volume ≡ image j.last a.log a.volume = c.in-Ok.ensures.done h ∙ ap (λ (x : Head). image x a.log a.volume) c.before-2.ensures ∙ sym (before-image j.last a held.0 held.1) in
     let long : length b.volume ≡ j.last.len = ap length done ∙ length-image j.last a.log a.volume in
     let last : image c.fresh-self.result b.log b.volume ≡ image j.last a.log a.volume = ap (λ (x : Head). image x b.log b.volume) (last_is ∙ ap (fresh j.last) (sym long)) ∙ fresh-image b j.last ∙ done in
-    rw (tried-sure j.stage (image j.last a.log a.volume) (image j.head a.log a.volume) (k.sure c.requires.well), last) refl
+    rw (tried-sure j.stage (image j.last a.log a.volume) (image j.head a.log a.volume) (k.sure c.requires.well), last, (c.copy_commits.ensures.leaves h).marks) refl
 
 pub returns-clause-volume : goal.returns-clause-volume
 returns-clause-volume g c h =

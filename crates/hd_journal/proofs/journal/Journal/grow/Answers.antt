@@ -3,8 +3,9 @@ use Rattle.hd_bytes.specs.Blocks.{grown}
 use Rattle.hd_journal.specs.declared.head.Head.{Head}
 use Rattle.hd_journal.specs.Log.{no_block, image}
 use Rattle.hd_journal.specs.Framed.{IsFramed, IsSafe}
+use Rattle.hd_journal.specs.Journals.{committed_in}
 use Rattle.hd_journal.proofs.FrameLemmas.{resized, grown-framed, grown-image}
-use Rattle.hd_journal.proofs.Held.{safe-sure, tried-sure, committed-same}
+use Rattle.hd_journal.proofs.Held.{tried-sure, committed-same}
 use Rattle.hd_journal.proofs.journal.Journal.grow.Goals as goal
 
 pub returns-clause-kept : goal.returns-clause-kept
@@ -38,9 +39,8 @@ returns-clause-kept g c =
       last = k.last;
       holds = k.holds;
       first = k.first;
-      safe = λ h.
-          let was = safe-sure a j.stage j.since (image j.last a.log a.volume) _ (k.sure well) (k.safe h) in
-          subst (IsSafe a j.since (image j.last a.log a.volume)) (sym (tried-sure j.stage (image j.last a.log a.volume) _ (k.sure well))) was;
+      marked = k.marked;
+      safe = λ h. subst (λ (x : List ℕ). IsSafe (committed_in (image j.last a.log a.volume) x a.marks) a) (tried-sure j.stage (image j.last a.log a.volume) _ (k.sure well) ∙ sym (tried-sure j.stage (image j.last a.log a.volume) _ (k.sure well))) (k.safe h);
     }
 
 pub returns-clause-value : goal.returns-clause-value
@@ -61,5 +61,5 @@ returns-clause-committed g c h =
     let j = c.reserve.new.self in
     let k = c.reserve.ensures.kept in
     let a = g.D.Disk.state j.disk in
-    committed-same j.stage (image j.last a.log a.volume) (image j.last a.log a.volume) _ _ j.since (k.sure (c.reserve.ensures.failed ∙ c.in-Ok.ensures.ok.0)) refl
+    committed-same j.stage (image j.last a.log a.volume) (image j.last a.log a.volume) _ _ a.marks a.marks (k.sure (c.reserve.ensures.failed ∙ c.in-Ok.ensures.ok.0)) refl refl
     ∙ c.reserve.ensures.committed ∙ c.make_room.ensures.committed h

@@ -5,7 +5,8 @@ use Rattle.hd_journal.specs.Disk.{WritesLog}
 use Rattle.hd_journal.specs.Log.{frame_at, image}
 use Rattle.hd_journal.proofs.Bytes.{length-image}
 use Rattle.hd_journal.proofs.FrameLemmas.{put-framed, put-image}
-use Rattle.hd_journal.proofs.Held.{place-behind, committed-same, write-framed, write-image, write-safe, held-write}
+use Rattle.hd_journal.proofs.Held.{place-behind, committed-same, write-framed, write-image, safe-same, held-write, write-leaves}
+use Rattle.hd_journal.proofs.Safety.{marks-same}
 use Rattle.hd_journal.proofs.journal.Journal.replace.Goals as goal
 
 pub returns-in_default-clause-kept : goal.returns-in_default-clause-kept
@@ -32,7 +33,8 @@ returns-in_default-clause-kept g c =
       last = λ e. absurd (true≢false e);
       holds = λ e. absurd (true≢false e);
       first = λ e. absurd (true≢false e);
-      safe = λ h. write-safe j.stage j.last j.kept.items a b (frame_at j.head.size (c.args.place - 1) + 4) j.head.size j.since _ _ (k.sure c.requires.well) (k.last c.requires.well h) behind (k.holds c.requires.well h) (c.overwrite_frame.ensures.writes h) (k.safe h);
+      marked = λ h. marks-same (image j.last a.log a.volume) (image j.last b.log b.volume) a.marks b.marks (write-image j.last j.kept.items a b (frame_at j.head.size (c.args.place - 1) + 4) j.head.size (k.last c.requires.well h) behind (c.overwrite_frame.ensures.writes h)) (c.overwrite_frame.ensures.writes h).time.marks (k.marked h);
+      safe = λ h. safe-same j.stage a b (image j.last a.log a.volume) (image j.last b.log b.volume) _ _ (k.sure c.requires.well) (write-image j.last j.kept.items a b (frame_at j.head.size (c.args.place - 1) + 4) j.head.size (k.last c.requires.well h) behind (c.overwrite_frame.ensures.writes h)) (write-leaves j.stage j.last j.kept.items a b (frame_at j.head.size (c.args.place - 1) + 4) j.head.size (k.sure c.requires.well) (k.last c.requires.well h) behind (k.holds c.requires.well h) (c.overwrite_frame.ensures.writes h)) (k.safe h);
     }
 
 pub returns-clause-kept : goal.returns-clause-kept
@@ -61,7 +63,8 @@ returns-clause-kept g c =
       last = λ e h. write-framed j.last j.kept.items a b (frame_at j.head.size (c.args.place - 1) + 4) j.head.size (k.last c.requires.well h) behind (c.overwrite_frame.ensures.writes h);
       holds = λ e h. held-write j.stage j.last a b (frame_at j.head.size (c.args.place - 1) + 4) j.head.size behind (k.holds c.requires.well h) (c.overwrite_frame.ensures.writes h);
       first = k.first;
-      safe = λ h. write-safe j.stage j.last j.kept.items a b (frame_at j.head.size (c.args.place - 1) + 4) j.head.size j.since _ _ (k.sure c.requires.well) (k.last c.requires.well h) behind (k.holds c.requires.well h) (c.overwrite_frame.ensures.writes h) (k.safe h);
+      marked = λ h. marks-same (image j.last a.log a.volume) (image j.last b.log b.volume) a.marks b.marks (write-image j.last j.kept.items a b (frame_at j.head.size (c.args.place - 1) + 4) j.head.size (k.last c.requires.well h) behind (c.overwrite_frame.ensures.writes h)) (c.overwrite_frame.ensures.writes h).time.marks (k.marked h);
+      safe = λ h. safe-same j.stage a b (image j.last a.log a.volume) (image j.last b.log b.volume) _ _ (k.sure c.requires.well) (write-image j.last j.kept.items a b (frame_at j.head.size (c.args.place - 1) + 4) j.head.size (k.last c.requires.well h) behind (c.overwrite_frame.ensures.writes h)) (write-leaves j.stage j.last j.kept.items a b (frame_at j.head.size (c.args.place - 1) + 4) j.head.size (k.sure c.requires.well) (k.last c.requires.well h) behind (k.holds c.requires.well h) (c.overwrite_frame.ensures.writes h)) (k.safe h);
     }
 
 pub returns-in_default-clause-committed : goal.returns-in_default-clause-committed
@@ -71,7 +74,7 @@ returns-in_default-clause-committed g c h =
     let a = g.D.Disk.state j.disk in
     let b = g.D.Disk.state c.overwrite_frame.new.disk in
     let behind = place-behind j.head j.last c.args.place k.same c.requires.new in
-    committed-same j.stage (image j.last a.log a.volume) (image j.last b.log b.volume) _ _ j.since (k.sure c.requires.well) (write-image j.last j.kept.items a b (frame_at j.head.size (c.args.place - 1) + 4) j.head.size (k.last c.requires.well h) behind (c.overwrite_frame.ensures.writes h))
+    committed-same j.stage (image j.last a.log a.volume) (image j.last b.log b.volume) _ _ a.marks b.marks (k.sure c.requires.well) (write-image j.last j.kept.items a b (frame_at j.head.size (c.args.place - 1) + 4) j.head.size (k.last c.requires.well h) behind (c.overwrite_frame.ensures.writes h)) (c.overwrite_frame.ensures.writes h).time.marks
 
 pub returns-clause-committed : goal.returns-clause-committed
 returns-clause-committed g c h =
@@ -80,7 +83,7 @@ returns-clause-committed g c h =
     let a = g.D.Disk.state j.disk in
     let b = g.D.Disk.state c.overwrite_frame.new.disk in
     let behind = place-behind j.head j.last c.args.place k.same c.requires.new in
-    committed-same j.stage (image j.last a.log a.volume) (image j.last b.log b.volume) _ _ j.since (k.sure c.requires.well) (write-image j.last j.kept.items a b (frame_at j.head.size (c.args.place - 1) + 4) j.head.size (k.last c.requires.well h) behind (c.overwrite_frame.ensures.writes h))
+    committed-same j.stage (image j.last a.log a.volume) (image j.last b.log b.volume) _ _ a.marks b.marks (k.sure c.requires.well) (write-image j.last j.kept.items a b (frame_at j.head.size (c.args.place - 1) + 4) j.head.size (k.last c.requires.well h) behind (c.overwrite_frame.ensures.writes h)) (c.overwrite_frame.ensures.writes h).time.marks
 
 pub returns-clause-value : goal.returns-clause-value
 returns-clause-value g c h =
