@@ -10,7 +10,7 @@ use Rattle.hd_calls.specs.NoLostUpdate.{opened}
 use Rattle.hd_calls.specs.Runs.{Holds, ImagesFollow, last_state, next_state}
 use Rattle.hd_stores.specs.Stores.{Committed}
 use Rattle.hd_links.specs.Placed.{Placed, forest_of}
-use Rattle.hd_links.specs.Steps.{rows_of, addresses}
+use Rattle.hd_links.specs.Steps.{rows_of}
 use Rattle.hd_links.proofs.Types.{ordered}
 use Rattle.hd_links.proofs.Unique.{unique}
 use Rattle.hd_image.specs.Records.{links_of}
@@ -20,6 +20,7 @@ use Rattle.hd_changes.specs.VolumeImages.{images_of}
 use Rattle.hd_session.proofs.Turns.{sessions_answer}
 use Rattle.hd_commands.specs.Headline.{PassesFor, IsAnsweredRun, IsHeadline, ChecksTellOneForest, RunsAnswerTheirLogs, ReloadsPass}
 use Rattle.hd_commands.specs.Crashes.{UnitsLeaveForests, FailedCommitsTryForests, IsCrashLaw}
+use Rattle.hd_commands.proofs.Commits.{crashes}
 
 -- an image that holds a placed forest passes for its rows
 passes : (d : Database) (image : List ℕ) (placed : Forest Placed) (rows : List Segment) → HoldsPlaced d (volume_of d image) placed → rows_of placed ≡ rows → PassesFor d image rows
@@ -64,27 +65,8 @@ runs d pcbs image turns log left played =
           (log_passes d pcbs (opened pcbs (sequence played.forest)) log.entries log.last played.legal.follows);
     }
 
--- a unit of which no call was made
-none_made : (d : Database) (pcbs : List View) (image : List ℕ) (rows : List Segment) → PassesFor d image rows
-    → IsAnsweredRun d pcbs image [] (record { entries = []; last = image }) image
-none_made d pcbs image rows passed =
-    let held = passed.holds in
-    let placed : Forest Placed = held.0 in
-    let are : rows_of placed ≡ rows = ap sequence held.1 ∙ passed.rows_are in
-    record {
-      rows = rows;
-      passed = passed;
-      asked = refl;
-      legal = record { begins = refl; runs = tt; follows = (addresses placed, record { placed = placed; holds = held.2; rows_are = are; places_are = refl }) };
-      lacking = tt;
-      passes = passed;
-    }
-
 units : (d : Database) → UnitsLeaveForests d
-units d pcbs image rows turns left passed (inl same) =
-    let none : Log (List ℕ) = record { entries = []; last = image } in
-    (0, none, subst (λ (bytes : List ℕ). IsAnsweredRun d pcbs image (take 0 turns) none bytes) (sym same) (none_made d pcbs image rows passed))
-units d pcbs image rows turns left passed (inr part) = (part.made, part.log, runs d pcbs image (take part.made turns) part.log left part.played)
+units d pcbs image turns left part = (part.made, part.log, runs d pcbs image (take part.made turns) part.log left part.played)
 
 tries : (d : Database) → FailedCommitsTryForests d
 tries d pcbs image rows turns log is_sound old new legal (inl same) = inl same
@@ -98,10 +80,11 @@ tries d pcbs image rows turns log is_sound old new legal (inr failed) =
 pub crash_law : (d : Database) → IsCrashLaw d
 crash_law d = record {
   units = units d;
-  commits = λ pcbs image rows turns log is_sound new committed legal sound done.
+  commits = λ pcbs image rows turns log is_sound new old committed legal sound done.
       subst (λ (bytes : List ℕ). PassesFor d bytes (last_state d.types pcbs (opened pcbs rows) log.entries).rows) (sym (done sound).1)
       (log_passes d pcbs (opened pcbs rows) log.entries log.last legal.legal.follows);
   failures = tries d;
+  crashes = crashes d;
 }
 
 reloads : (d : Database) → ReloadsPass d

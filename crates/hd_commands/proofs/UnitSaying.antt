@@ -20,7 +20,7 @@ use Rattle.std.specs.Io.KnownBytes.{Appends}
 use Rattle.hd_commands.specs.Lines.{refusal_line}
 use Rattle.hd_commands.specs.declared.ended.Ended.{Ended}
 use Rattle.hd_commands.specs.Commands.{IsRefused}
-use Rattle.hd_commands.specs.Crashes.{IsLeftBy, MayHaveTried, IsWritten}
+use Rattle.hd_commands.specs.Crashes.{Commits, UnitCommits, MayCommit, IsWritten}
 use Rattle.hd_commands.specs.Plays.{PlaysInPrint, PlaySays, UnitSays, FailsOrStays}
 
 -- an access failed, or none did, by the refusal
@@ -183,18 +183,21 @@ wanted-left is_sound failures contents d pcbs steps old new (Err e) (Ok x) befor
     by-device (inl fails) = absurd (false-true (sym fails.1 ∙ now))
     by-device (inr says) = says sound
 
--- what a crash may leave of a unit is what it was before, or what calls of the deck left
-pub left-by : {T : Type 0} (is_sound : T → Bool) (failures : T → ℕ) (contents : T → List ℕ) (d : Database) (pcbs : List View) (steps : List StepText) (old new : T)
-    (played : Result ℕ Ended) (written : Result Unit Refused) (before after told_before told_after : Option (List ℕ)) (wanted : Bool) (was then : Committed) → IsTrue (is_sound old)
-    → was.tried ≡ contents old → MayHaveTried wanted (is_sound new) (contents new) was then
+-- what is committed of a unit is what calls of the deck left
+pub unit-commits : {T : Type 0} (is_sound : T → Bool) (failures : T → ℕ) (contents : T → List ℕ) (d : Database) (pcbs : List View) (steps : List StepText) (old new : T)
+    (played : Result ℕ Ended) (written : Result Unit Refused) (before after told_before told_after : Option (List ℕ)) (wanted : Bool) (first was then : Committed) → IsTrue (is_sound old)
+    → was ≡ first → MayCommit wanted (is_sound new) (contents new) was then
     → (wanted ≡ true → IfErr played (λ e. e.refusal ≡ Some Device)) → (wanted ≡ true → OnErr written ⊥)
     → IfOk played (λ lacking. OnOk written (PlaysInPrint is_sound contents d pcbs steps old new before after lacking))
     → IfErr played (λ e. IsRefused (UnitSays is_sound failures contents d pcbs steps old new) e told_before told_after)
-    → IsLeftBy d pcbs (contents old) (turns_of steps) then.tried
-left-by is_sound failures contents d pcbs steps old new played written before after told_before told_after wanted was then sound begins (inl same) write reach plays refused = inl (same ∙ begins)
-left-by is_sound failures contents d pcbs steps old new played written before after told_before told_after wanted was then sound begins (inr tried) write reach plays refused =
-    inr (subst (λ (b : List ℕ). IsPlayedInPart d pcbs (contents old) (turns_of steps) b) (sym tried.2)
-    (wanted-left is_sound failures contents d pcbs steps old new played written before after told_before told_after sound tried.1 (write tried.0) (reach tried.0) plays refused))
+    → UnitCommits d pcbs (contents old) (turns_of steps) first then
+unit-commits is_sound failures contents d pcbs steps old new played written before after told_before told_after wanted first was then sound begins (inl same) write reach plays refused = inl (same ∙ begins)
+unit-commits is_sound failures contents d pcbs steps old new played written before after told_before told_after wanted first was then sound begins (inr may) write reach plays refused =
+    inr (
+      contents new,
+      wanted-left is_sound failures contents d pcbs steps old new played written before after told_before told_after sound may.0 (write may.0) (reach may.0) plays refused,
+      subst (λ (k : Committed). Commits (contents new) k then) begins may.2,
+    )
 
 -- a command that was refused, where what one refusal says another says too
 pub refused-on : (result : Result ℕ Ended) (A B : Refusal → Type 0) (before after : Option (List ℕ)) → ((r : Refusal) → A r → B r)

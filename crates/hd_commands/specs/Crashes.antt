@@ -1,5 +1,5 @@
 -- What a crash leaves of a volume while a deck is played over it as one unit.
-use Rattle.std.specs.Prelude.{◌≡◌, ◌⊎◌, ℕ, Bool, true, IsTrue, List, take, Result, OnOk}
+use Rattle.std.specs.Prelude.{◌≡◌, ◌⊎◌, ℕ, Bool, true, IsTrue, List, [], ◌∷◌, map, take, Result, OnOk}
 use Rattle.hd_dbd.specs.declared.answer.Refused.{Refused}
 use Rattle.hd_dbd.specs.Refusals.{OnlyDevice}
 use Rattle.hd_dbd.specs.Types.{View}
@@ -8,21 +8,23 @@ use Rattle.hd_dbd.specs.Segment.{Segment}
 use Rattle.hd_dbd.specs.Logs.{Log}
 use Rattle.hd_calls.specs.NoLostUpdate.{opened}
 use Rattle.hd_calls.specs.Runs.{last_state}
-use Rattle.hd_stores.specs.Stores.{Committed, IsCommit, FailsCommit, CountsDevice, StaysSound}
+use Rattle.hd_stores.specs.Stores.{Commit, Committed, commits_of, IsCommit, FailsCommit, CountsDevice, StaysSound}
 use Rattle.hd_session.specs.Turns.{Turn}
 use Rattle.hd_session.specs.Laws.{IsLegalLogOf}
 use Rattle.hd_deck.specs.Runs.{IsPlayedInPart}
 use Rattle.hd_journal.specs.Disk.{State}
-use Rattle.hd_journal.specs.States.{StandsForEither}
+use Rattle.hd_journal.specs.Log.{recovered}
+use Rattle.hd_journal.specs.Framed.{IsSafe}
+use Rattle.hd_journal.specs.Journals.{IsCommitted}
 use Rattle.hd_commands.specs.Headline.{PassesFor, IsAnsweredRun}
 
--- A crash at any moment from this one on leaves a log and a volume that stand for the one image or for the other.
-abbrev pub LeavesEither : State → ℕ → List ℕ → List ℕ → Type 0
-LeavesEither s since before after = (log volume : List ℕ) → s.left_since since log volume → StandsForEither before after log volume
+-- A commit of these contents is done, behind those that were, or it was tried and failed.
+abbrev pub Commits : List ℕ → Committed → Committed → Type 0
+Commits contents old new = IsCommitted contents old new ⊎ (new ≡ record old { tried = contents })
 
--- What a unit of calls makes of an image, whole or not at all: it is as it was, or it is what the first calls left, however many.
-abbrev pub IsLeftBy : Database → List View → List ℕ → List Turn → List ℕ → Type 0
-IsLeftBy d pcbs image turns left = (left ≡ image) ⊎ IsPlayedInPart d pcbs image turns left
+-- What a unit of calls adds to the commits of a store that had this image: nothing, or one commit of what the first of its calls left, however many.
+abbrev pub UnitCommits : Database → List View → List ℕ → List Turn → Committed → Committed → Type 0
+UnitCommits d pcbs image turns old new = (new ≡ old) ⊎ (left : List ℕ) × IsPlayedInPart d pcbs image turns left × Commits left old new
 
 -- All that a cache had has reached the store below, or an access failed.
 pub record IsWritten (result : Result Unit Refused) (is_sound : Bool) (failures : ℕ) (contents : List ℕ) (new_is_sound : Bool) (new_failures : ℕ) (new_contents : List ℕ) : Type 0 where
@@ -31,21 +33,21 @@ pub record IsWritten (result : Result Unit Refused) (is_sound : Bool) (failures 
   pub sound : StaysSound result is_sound new_is_sound
   pub contents_kept : OnOk result (IsTrue is_sound → new_contents ≡ contents)
 
--- A commit was tried of these contents, if that was wanted of a sound store, or what a crash leaves is as it was.
-abbrev pub MayHaveTried : Bool → Bool → List ℕ → Committed → Committed → Type 0
-MayHaveTried wanted is_sound contents old new = (new.tried ≡ old.tried) ⊎ (wanted ≡ true) × IsTrue is_sound × (new.tried ≡ contents)
+-- A store commits these contents, if that is wanted and it is sound, or nothing.
+abbrev pub MayCommit : Bool → Bool → List ℕ → Committed → Committed → Type 0
+MayCommit wanted is_sound contents old new = (new ≡ old) ⊎ (wanted ≡ true) × IsTrue is_sound × Commits contents old new
 
--- where an image passes, what a unit of calls makes of it passes too, for the rows that a legal log of the first of the calls ends with, however many
+-- what the first of a unit's calls left of an image passes, for the rows that a legal log of them ends with
 abbrev pub UnitsLeaveForests : Database → Type 0
 UnitsLeaveForests d =
-    (pcbs : List View) (image : List ℕ) (rows : List Segment) (turns : List Turn) (left : List ℕ) → PassesFor d image rows → IsLeftBy d pcbs image turns left
+    (pcbs : List View) (image : List ℕ) (turns : List Turn) (left : List ℕ) → IsPlayedInPart d pcbs image turns left
     → (made : ℕ) × (log : Log (List ℕ)) × IsAnsweredRun d pcbs image (take made turns) log left
 
 -- what a commit of a session makes last passes, for the rows that the log of the session's calls ends with
 abbrev pub CommitsLastForests : Database → Type 0
 CommitsLastForests d =
-    (pcbs : List View) (image : List ℕ) (rows : List Segment) (turns : List Turn) (log : Log (List ℕ)) (is_sound : Bool) (new : List ℕ) (committed : Committed)
-    → IsLegalLogOf d pcbs image rows turns log → IsTrue is_sound → IsCommit is_sound log.last new committed
+    (pcbs : List View) (image : List ℕ) (rows : List Segment) (turns : List Turn) (log : Log (List ℕ)) (is_sound : Bool) (new : List ℕ) (old committed : Committed)
+    → IsLegalLogOf d pcbs image rows turns log → IsTrue is_sound → IsCommit is_sound log.last new old committed
     → PassesFor d committed.image (last_state d.types pcbs (opened pcbs rows) log.entries).rows
 
 -- what a commit that failed may have left besides what was left before, passes for them too
@@ -55,12 +57,29 @@ FailedCommitsTryForests d =
     → IsLegalLogOf d pcbs image rows turns log → FailsCommit is_sound log.last old new
     → (new ≡ old) ⊎ (new.image ≡ old.image) × PassesFor d new.tried (last_state d.types pcbs (opened pcbs rows) log.entries).rows
 
--- The law of crashes, of a database: whatever image a crash leaves, of a unit of calls, or of a session with commits among its calls, passes, for the rows of
--- the last commit or for those of the one that was under way.
+-- each of these images passes, for rows of its own
+abbrev pub AllPass : Database → List (List ℕ) → Type 0
+AllPass d [] = Unit {0}
+AllPass d (image ∷ images) = ((rows : List Segment) × PassesFor d image rows) × AllPass d images
+
+-- what a crash leaves at any moment since one of these commits stands for an image that passes
+abbrev pub LeavesForests : Database → State → List Commit → Type 0
+LeavesForests d s [] = Unit {0}
+LeavesForests d s (commit ∷ commits) =
+    ((log volume : List ℕ) → s.left_since commit.since log volume → (rows : List Segment) × PassesFor d (recovered log volume) rows) × LeavesForests d s commits
+
+-- where the images of all commits of a safe store pass, so does what a crash leaves at any moment since the first: it is one of them
+abbrev pub SafeCommitsLeaveForests : Database → Type 0
+SafeCommitsLeaveForests d =
+    (committed : Committed) (s : State) → AllPass d (committed.tried ∷ map (λ c. c.image) (commits_of committed)) → IsSafe committed s → LeavesForests d s (commits_of committed)
+
+-- The law of crashes, of a database: the images that commits make last, of units of calls and of sessions with commits among their calls, pass for the rows
+-- that the calls so far left; and whenever a crash comes, it leaves the image of a commit that was not before it, or of the one that was under way.
 pub record IsCrashLaw (d : Database) : Type 0 where
   pub units : UnitsLeaveForests d
   pub commits : CommitsLastForests d
   pub failures : FailedCommitsTryForests d
+  pub crashes : SafeCommitsLeaveForests d
 
 -- it holds of every database
 abbrev pub CrashLaw : Type 0

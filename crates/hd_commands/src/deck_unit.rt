@@ -3,9 +3,11 @@ ghost use Rattle.hd_dbd.specs.ProgramRules.{type_names};
 ghost use Rattle.hd_deck.specs.StepText.{StepFits};
 ghost use Rattle.hd_dbd.specs.Refusals.{OnlyDevice};
 ghost use Rattle.hd_stores.specs.Stores.{IsCommit, CountsDevice, StaysSound};
+ghost use Rattle.hd_journal.specs.Framed.{IsSafe};
+ghost use Rattle.hd_journal.specs.Journals.{IsCommitted};
 ghost use Rattle.hd_deck.specs.Runs.{turns_of};
 ghost use Rattle.hd_commands.specs.Commands.{IsRefused};
-ghost use Rattle.hd_commands.specs.Crashes.{LeavesEither, MayHaveTried, IsLeftBy, IsWritten};
+ghost use Rattle.hd_commands.specs.Crashes.{MayCommit, UnitCommits, IsWritten};
 ghost use Rattle.hd_commands.specs.Plays.{PlaysInPrint, UnitSays, FailsOrStays};
 
 use crate::deck_command::play_deck;
@@ -36,10 +38,10 @@ fn is_wanted(played: &Result<u64, Ended>, written: &Result<(), Refused>) -> bool
 
 /// Makes last what was written, if that is wanted.
 fn commit_if<D: Disk, L: Ledger>(store: &mut Journaled<D, L>, wanted: bool) -> Result<(), Refused>
-    ensures crash { IsTrue D.is_honest → store.old.committed.tried ≡ store.old.committed.image → LeavesEither (D.state store.new.disk) store.old.committed.since store.old.committed.image store.new.committed.tried }
-    ensures tried { IsTrue D.is_honest → MayHaveTried wanted store.old.is_sound store.old.contents store.old.committed store.new.committed }
+    ensures crash { IsTrue D.is_honest → IsSafe store.new.committed (D.state store.new.disk) }
+    ensures commits { IsTrue D.is_honest → MayCommit wanted store.old.is_sound store.old.contents store.old.committed store.new.committed }
     ensures contents { OnOk result (IsTrue store.old.is_sound → store.new.contents ≡ store.old.contents) }
-    ensures lasts { OnOk result (wanted ≡ true → IsCommit store.old.is_sound store.old.contents store.new.contents store.new.committed) }
+    ensures lasts { OnOk result (wanted ≡ true → IsCommit store.old.is_sound store.old.contents store.new.contents store.old.committed store.new.committed) }
     ensures refusal { OnlyDevice result }
     ensures counts { CountsDevice result store.old.failures store.new.failures }
     ensures sound { StaysSound result store.old.is_sound store.new.is_sound }
@@ -123,8 +125,8 @@ fn play_through<D: Disk, L: Ledger, P: Progress, O: Write, E: Write>(
 /// the calls answer on `out`, or on `err` why they were not all made. Where they were, says how many of them found no memory.
 ///
 /// From `Ok` on a crash leaves what the calls left, whenever it comes. Until then, and behind a refusal, it leaves the volume as it was before the deck,
-/// or what the calls left: never what only a part of a call made. Where a line could not be written, what was called before is made last; where an
-/// access failed, nothing is.
+/// or what the calls left: never what only a part of a call made. Of a moment before the deck it leaves what the commits before it say. Where a line
+/// could not be written, what was called before is made last; where an access failed, nothing is.
 pub fn play_unit<D: Disk, L: Ledger, P: Progress, O: Write, E: Write>(
     alloc: Global,
     dbd: &Dbd,
@@ -141,12 +143,12 @@ pub fn play_unit<D: Disk, L: Ledger, P: Progress, O: Write, E: Write>(
     requires steps { All (StepFits (length psb.now.pcbs)) steps.now }
     requires count { length steps.now ≤ 2 ^ 30 }
     requires cache { (0 < cache) × (cache ≤ 65536) }
-    ensures crash { IsTrue D.is_honest → store.committed.tried ≡ store.committed.image → LeavesEither (D.state result.0.disk) store.committed.since store.committed.image result.0.committed.tried }
-    ensures left { IsTrue store.is_sound → IsTrue D.is_honest → store.committed.tried ≡ store.contents → IsLeftBy dbd.now psb.now.pcbs store.contents (turns_of steps.now) result.0.committed.tried }
+    ensures crash { IsTrue D.is_honest → IsSafe result.0.committed (D.state result.0.disk) }
+    ensures commits { IsTrue store.is_sound → IsTrue D.is_honest → UnitCommits dbd.now psb.now.pcbs store.contents (turns_of steps.now) store.committed result.0.committed }
     ensures played { IfOk result.1 (λ memory. PlaysInPrint (λ s. s.is_sound) (λ s. s.contents) dbd.now psb.now.pcbs steps.now store result.0 (O.contents out.old) (O.contents out.new) memory) }
     ensures refused { IfErr result.1 (λ e. IsRefused (UnitSays (λ s. s.is_sound) (λ s. s.failures) (λ s. s.contents) dbd.now psb.now.pcbs steps.now store result.0) e (E.contents err.old) (E.contents err.new)) }
     ensures accesses { FailsOrStays (λ s. s.is_sound) (λ s. s.failures) store result.0 }
-    ensures lasts { OnOk result.1 (IsTrue result.0.is_sound → (result.0.committed.image ≡ result.0.contents) × (result.0.committed.tried ≡ result.0.contents)) }
+    ensures lasts { OnOk result.1 (IsTrue result.0.is_sound → IsCommitted result.0.contents store.committed result.0.committed) }
     ensures failures { OnOk result.1 (result.0.failures ≡ store.failures) }
     ensures quiet { OnOk result.1 (err.new ≡ err.old) }
     ensures silent { IfErr result.1 (λ e. e.status ≢ 3 → out.new ≡ out.old) }

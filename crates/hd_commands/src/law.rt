@@ -16,10 +16,11 @@ pub fn law_headline()
 /// under way, with that one's.
 ///
 /// Its parts begin where the contracts of the functions end, over any disk that keeps what was synced. `open` of `hd_journal::Journaled` says that the store
-/// has the image for which the files stand, and that a crash while they are opened leaves it. `assure` says that a crash at any moment since the last commit
-/// leaves the image of that commit, or of one that was tried since and failed; `commit` (`leaves`), that one at any moment of a commit leaves the old or the
-/// new. No other call changes which images these are: `committed` of every call of a store, up to those of a session. `play_unit` says it of a deck that is
-/// one unit (`crash`, `lasts`), and `commit` of a session says which image its commit makes last, or tries. This law says that all these images pass.
+/// has the image for which the files stand, and that a crash while they are opened leaves it. `assure` says that a crash at any moment since the opening, or
+/// since a commit, leaves the image of that or of a later commit, and behind the last also that of one which was tried and failed; `commit` (`leaves`), that
+/// one at any moment of a commit leaves the old or the new. No other call changes which images these are: `committed` of every call of a store, up to those
+/// of a session. `commit` of a session says which image its commit makes last, or tries, and `play_unit` (`crash`, `commits`, `lasts`) says all of it of a
+/// deck that is one unit. This law says that all these images pass, and so whatever a crash leaves.
 pub fn law_crashes_leave_commits()
     ensures { CrashLaw }
 {}

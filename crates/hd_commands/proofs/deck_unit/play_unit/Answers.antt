@@ -1,14 +1,14 @@
 use Rattle.std.proofs.Common.{inl, ap, ◌∙◌, refl}
 use Rattle.hd_stores.specs.Stores.{Committed}
-use Rattle.hd_commands.proofs.UnitSaying.{left-by, accesses-on, says-on, plays-on, refused-as, no-fewer, unwritten, fails-on, device-refused, on-ok, if-ok, on-err}
+use Rattle.hd_commands.proofs.UnitSaying.{unit-commits, accesses-on, says-on, plays-on, refused-as, no-fewer, unwritten, fails-on, device-refused, on-ok, if-ok, on-err}
 use Rattle.hd_commands.proofs.deck_unit.play_unit.Goals as goal
 
-pub returns-in-Err-clause-left : goal.returns-in-Err-clause-left
-returns-in-Err-clause-left g c sound honest begins =
+pub returns-in-Err-clause-commits : goal.returns-in-Err-clause-commits
+returns-in-Err-clause-commits g c sound honest =
     let through = c.play_through-store in
-    left-by (λ s. s.is_sound) (λ s. s.failures) (λ s. s.contents) c.args.dbd.now c.args.psb.now.pcbs c.args.steps.now c.args.store through.result.0 through.result.1 through.result.2 _ _ _ _
-    c.is_wanted-wanted.result through.result.0.committed c.commit_if-committed.new.store.committed sound (ap (λ (k : Committed). k.tried) through.ensures.kept.0 ∙ begins)
-    (c.commit_if-committed.ensures.tried honest) c.is_wanted-wanted.ensures.played c.is_wanted-wanted.ensures.written through.ensures.played through.ensures.refused
+    unit-commits (λ s. s.is_sound) (λ s. s.failures) (λ s. s.contents) c.args.dbd.now c.args.psb.now.pcbs c.args.steps.now c.args.store through.result.0 through.result.1 through.result.2 _ _ _ _
+    c.is_wanted-wanted.result c.args.store.committed through.result.0.committed c.commit_if-committed.new.store.committed sound through.ensures.kept.0
+    (c.commit_if-committed.ensures.commits honest) c.is_wanted-wanted.ensures.played c.is_wanted-wanted.ensures.written through.ensures.played through.ensures.refused
 
 pub returns-in-Err-clause-accesses : goal.returns-in-Err-clause-accesses
 returns-in-Err-clause-accesses g c =
@@ -18,12 +18,12 @@ returns-in-Err-clause-accesses g c =
     commit.result refl refl (record { refusal = commit.ensures.refusal; counts = commit.ensures.counts; sound = commit.ensures.sound; contents_kept = commit.ensures.contents })
     through.ensures.accesses
 
-pub returns-in-Err-written-clause-left : goal.returns-in-Err-written-clause-left
-returns-in-Err-written-clause-left g c sound honest begins =
+pub returns-in-Err-written-clause-commits : goal.returns-in-Err-written-clause-commits
+returns-in-Err-written-clause-commits g c sound honest =
     let through = c.play_through-store in
-    left-by (λ s. s.is_sound) (λ s. s.failures) (λ s. s.contents) c.args.dbd.now c.args.psb.now.pcbs c.args.steps.now c.args.store through.result.0 through.result.1 through.result.2 _ _ _ _
-    c.is_wanted-wanted.result through.result.0.committed c.commit_if-committed.new.store.committed sound (ap (λ (k : Committed). k.tried) through.ensures.kept.0 ∙ begins)
-    (c.commit_if-committed.ensures.tried honest) c.is_wanted-wanted.ensures.played c.is_wanted-wanted.ensures.written through.ensures.played through.ensures.refused
+    unit-commits (λ s. s.is_sound) (λ s. s.failures) (λ s. s.contents) c.args.dbd.now c.args.psb.now.pcbs c.args.steps.now c.args.store through.result.0 through.result.1 through.result.2 _ _ _ _
+    c.is_wanted-wanted.result c.args.store.committed through.result.0.committed c.commit_if-committed.new.store.committed sound through.ensures.kept.0
+    (c.commit_if-committed.ensures.commits honest) c.is_wanted-wanted.ensures.played c.is_wanted-wanted.ensures.written through.ensures.played through.ensures.refused
 
 pub returns-in-Err-written-clause-accesses : goal.returns-in-Err-written-clause-accesses
 returns-in-Err-written-clause-accesses g c =
@@ -33,12 +33,12 @@ returns-in-Err-written-clause-accesses g c =
     commit.result refl refl (record { refusal = commit.ensures.refusal; counts = commit.ensures.counts; sound = commit.ensures.sound; contents_kept = commit.ensures.contents })
     through.ensures.accesses
 
-pub returns-in-Err-committed-clause-left : goal.returns-in-Err-committed-clause-left
-returns-in-Err-committed-clause-left g c sound honest begins =
+pub returns-in-Err-committed-clause-commits : goal.returns-in-Err-committed-clause-commits
+returns-in-Err-committed-clause-commits g c sound honest =
     let through = c.play_through-store in
-    left-by (λ s. s.is_sound) (λ s. s.failures) (λ s. s.contents) c.args.dbd.now c.args.psb.now.pcbs c.args.steps.now c.args.store through.result.0 through.result.1 through.result.2 _ _ _ _
-    c.is_wanted-wanted.result through.result.0.committed c.commit_if-committed.new.store.committed sound (ap (λ (k : Committed). k.tried) through.ensures.kept.0 ∙ begins)
-    (c.commit_if-committed.ensures.tried honest) c.is_wanted-wanted.ensures.played c.is_wanted-wanted.ensures.written through.ensures.played through.ensures.refused
+    unit-commits (λ s. s.is_sound) (λ s. s.failures) (λ s. s.contents) c.args.dbd.now c.args.psb.now.pcbs c.args.steps.now c.args.store through.result.0 through.result.1 through.result.2 _ _ _ _
+    c.is_wanted-wanted.result c.args.store.committed through.result.0.committed c.commit_if-committed.new.store.committed sound through.ensures.kept.0
+    (c.commit_if-committed.ensures.commits honest) c.is_wanted-wanted.ensures.played c.is_wanted-wanted.ensures.written through.ensures.played through.ensures.refused
 
 pub returns-in-Err-committed-clause-accesses : goal.returns-in-Err-committed-clause-accesses
 returns-in-Err-committed-clause-accesses g c =
@@ -48,12 +48,12 @@ returns-in-Err-committed-clause-accesses g c =
     commit.result refl refl (record { refusal = commit.ensures.refusal; counts = commit.ensures.counts; sound = commit.ensures.sound; contents_kept = commit.ensures.contents })
     through.ensures.accesses
 
-pub returns-in-Ok-committed-clause-left : goal.returns-in-Ok-committed-clause-left
-returns-in-Ok-committed-clause-left g c sound honest begins =
+pub returns-in-Ok-committed-clause-commits : goal.returns-in-Ok-committed-clause-commits
+returns-in-Ok-committed-clause-commits g c sound honest =
     let through = c.play_through-store in
-    left-by (λ s. s.is_sound) (λ s. s.failures) (λ s. s.contents) c.args.dbd.now c.args.psb.now.pcbs c.args.steps.now c.args.store through.result.0 through.result.1 through.result.2 _ _ _ _
-    c.is_wanted-wanted.result through.result.0.committed c.commit_if-committed.new.store.committed sound (ap (λ (k : Committed). k.tried) through.ensures.kept.0 ∙ begins)
-    (c.commit_if-committed.ensures.tried honest) c.is_wanted-wanted.ensures.played c.is_wanted-wanted.ensures.written through.ensures.played through.ensures.refused
+    unit-commits (λ s. s.is_sound) (λ s. s.failures) (λ s. s.contents) c.args.dbd.now c.args.psb.now.pcbs c.args.steps.now c.args.store through.result.0 through.result.1 through.result.2 _ _ _ _
+    c.is_wanted-wanted.result c.args.store.committed through.result.0.committed c.commit_if-committed.new.store.committed sound through.ensures.kept.0
+    (c.commit_if-committed.ensures.commits honest) c.is_wanted-wanted.ensures.played c.is_wanted-wanted.ensures.written through.ensures.played through.ensures.refused
 
 pub returns-in-Ok-committed-clause-accesses : goal.returns-in-Ok-committed-clause-accesses
 returns-in-Ok-committed-clause-accesses g c =
