@@ -1,13 +1,12 @@
 -- Some requests, and then others.
-use Rattle.std.proofs.Common.{◌≡◌, ℕ, suc, ◌+◌, List, [], ◌∷◌, ◌++◌, length, IsTrue, Bool, true, false, Option, Some, None, ap, sym, ◌∙◌, subst, refl, arith}
-use Rattle.std.specs.Option.{option_or}
+use Rattle.std.proofs.Common.{◌≡◌, ℕ, suc, ◌+◌, List, [], ◌∷◌, ◌++◌, length, IsTrue, Bool, true, false, Option, ap, sym, ◌∙◌, subst, refl, arith}
 use Rattle.std.specs.Io.KnownBytes.{Appends}
 use Rattle.std.proofs.KnownBytes.{Appends-trans}
 use Rattle.std.proofs.lemmas.List.{append_assoc}
 use Rattle.hd_dbd.specs.Logs.{Entry}
 use Rattle.hd_calls.specs.Steps.{State}
 use Rattle.hd_calls.specs.Runs.{last_state, image_at}
-use Rattle.hd_stores.specs.Stores.{Committed}
+use Rattle.hd_stores.specs.Stores.{Committed, commits_of}
 use Rattle.hd_session.specs.Opening.{SessionState}
 use Rattle.hd_session.specs.Turns.{Turn, AreMade}
 use Rattle.hd_session.proofs.Turns.{stands_after, made_both, entries_count}
@@ -48,26 +47,16 @@ module _ {I : Type 0} where
   image_at_append [] ys middle last e = e
   image_at_append (x ∷ xs) ys middle last e = refl
 
-  -- the last of three
-  last_of : (x y z : Option I) → option_or (option_or x y) z ≡ option_or x (option_or y z)
-  last_of None y z = refl
-  last_of (Some i) y z = refl
-
-  or_none : (x : Option I) → x ≡ option_or x None
-  or_none None = refl
-  or_none (Some i) = refl
-
-  -- the image of the last commit among some requests and then others
+  -- the images that the commits found among some requests and then others
   pub committed_append : (xs ys : List Request) (es fs : List (Entry I)) (middle last : I) → length es ≡ length (calls_in xs) → image_at fs last ≡ middle
-      → committed_by (xs ++ ys) (es ++ fs) last ≡ option_or (committed_by ys fs last) (committed_by xs es middle)
-  committed_append [] ys [] fs middle last same is = or_none (committed_by ys fs last)
+      → committed_by (xs ++ ys) (es ++ fs) last ≡ committed_by xs es middle ++ committed_by ys fs last
+  committed_append [] ys [] fs middle last same is = refl
   committed_append [] ys (e ∷ es) fs middle last same is = absurd (omega (arith, same))
   committed_append (ask turn ∷ xs) ys [] fs middle last same is = absurd (omega (arith, same))
   committed_append (ask turn ∷ xs) ys (e ∷ es) fs middle last same is = committed_append xs ys es fs middle last (omega (arith, same)) is
   committed_append (commit ∷ xs) ys es fs middle last same is =
-      ap (λ (o : Option I). option_or o (Some (image_at (es ++ fs) last))) (committed_append xs ys es fs middle last same is)
-      ∙ ap (λ (i : I). option_or (option_or (committed_by ys fs last) (committed_by xs es middle)) (Some i)) (image_at_append es fs middle last is)
-      ∙ last_of (committed_by ys fs last) (committed_by xs es middle) (Some (image_at es middle))
+      ap (λ (i : I). i ∷ committed_by (xs ++ ys) (es ++ fs) last) (image_at_append es fs middle last is)
+      ∙ ap (λ (images : List I). image_at es middle ∷ images) (committed_append xs ys es fs middle last same is)
 
   memory_of_one : (x : Entry I) (xs ys : List (Entry I)) (b : Bool) → is_memory x.outcome ≡ b → memory_in (xs ++ ys) ≡ memory_in xs + memory_in ys
       → memory_in (x ∷ (xs ++ ys)) ≡ memory_in (x ∷ xs) + memory_in ys
@@ -79,17 +68,17 @@ module _ {I : Type 0} where
   memory_in_append [] ys = let e : memory_in ys ≡ 0 + memory_in ys = omega arith in e
   memory_in_append (x ∷ xs) ys = memory_of_one x xs ys (is_memory x.outcome) refl (memory_in_append xs ys)
 
--- an image lasts, and then maybe another
-lasts_both : (first then : Option (List ℕ)) (a b c : Committed) → Lasts first a b → Lasts then b c → Lasts (option_or then first) a c
-lasts_both first None a b c f g = subst (λ (x : Committed). Lasts first a x) (sym g) f
-lasts_both first (Some image) a b c f g = g
+-- some images last, and then others
+lasts_both : (first then : List (List ℕ)) (a b c : Committed) → Lasts first a b → Lasts then b c → Lasts (first ++ then) a c
+lasts_both [] then a b c f g = subst (λ (x : Committed). Lasts then x c) f g
+lasts_both (image ∷ first) then a b c f g = (f.0, lasts_both first then (record { image = image; tried = image; since = f.0; before = commits_of a }) b c f.1 g)
 
 module _ (s m t : SessionState) (st : State) (xs ys : List Request) (es fs : List (Entry (List ℕ))) where
   -- some requests were carried out, and then others
   done_both : AreDone s st xs es m → AreDone m (last_state s.database.types s.pcbs st es) ys fs t → AreDone s st (xs ++ ys) (es ++ fs) t
   done_both f g = record {
     made = subst (λ (ts : List Turn). AreMade s st ts (es ++ fs) t) (sym (calls_append xs ys)) (made_both s m t st (calls_in xs) (calls_in ys) es fs f.made g.made);
-    lasts = subst (λ (o : Option (List ℕ)). Lasts o s.volume.committed t.volume.committed)
+    lasts = subst (λ (images : List (List ℕ)). Lasts images s.volume.committed t.volume.committed)
         (sym (committed_append xs ys es fs m.volume.image t.volume.image (entries_count s m st (calls_in xs) es f.made) g.made.begins))
         (lasts_both (committed_by xs es m.volume.image) (committed_by ys fs t.volume.image) s.volume.committed m.volume.committed t.volume.committed f.lasts g.lasts);
   }

@@ -8,6 +8,7 @@ use Rattle.hd_dbd.specs.declared.answer.Refused.{Refused}
 use Rattle.hd_dbd.specs.declared.answer.Refused.TheVariants as refused
 use Rattle.hd_dbd.specs.Logs.{Outcome, replied, area, full, memory, Entry}
 use Rattle.hd_calls.specs.Steps.{State}
+use Rattle.hd_stores.specs.Stores.{Commit, Committed, commits_of}
 use Rattle.hd_update.specs.States.{Represents}
 use Rattle.hd_session.specs.declared.call_and_answer.Answer.{Answer}
 use Rattle.hd_session.specs.Buffer.{Buffer}
@@ -19,7 +20,7 @@ use Rattle.hd_session.proofs.Turns.{made_none, made_one, made_flushed}
 use Rattle.hd_deck.specs.Runs.{memory_of, memory_in}
 use Rattle.hd_serve.specs.Frames.{frame_bytes}
 use Rattle.hd_serve.specs.Answers.{done_bytes}
-use Rattle.hd_serve.specs.Requests.{Request, ask, commit, outcome_bytes}
+use Rattle.hd_serve.specs.Requests.{Request, ask, commit, outcome_bytes, Lasts}
 use Rattle.hd_serve.specs.Serves.{answered_bytes, AreDone, AreServed, ServesAll, DoesAll}
 
 -- nothing was asked for
@@ -67,12 +68,21 @@ made_before_write s t turn b lacking result answered few =
 -- A commit of a session was done: it flushed the session, and a crash leaves its image.
 pub record IsCommitted (s t : SessionState) : Type 0 where
   pub flushed : IsFlushed s t
-  pub lasts : (t.volume.committed.image ≡ t.volume.image) × (t.volume.committed.tried ≡ t.volume.image)
+  pub lasts : (t.volume.committed.image ≡ t.volume.image) × (t.volume.committed.tried ≡ t.volume.image) × (t.volume.committed.before ≡ commits_of s.volume.committed)
+
+-- so that image lasts
+one_lasts : (old new : Committed) (image : List ℕ) → (new.image ≡ image) × (new.tried ≡ image) × (new.before ≡ commits_of old) → Lasts (image ∷ []) old new
+one_lasts old new image done = (
+  new.since,
+  ap (λ (x : List ℕ). record { image = x; tried = new.tried; since = new.since; before = new.before }) done.0
+      ∙ ap (λ (x : List ℕ). record { image = image; tried = x; since = new.since; before = new.before }) done.1
+      ∙ ap (λ (xs : List Commit). record { image = image; tried = image; since = new.since; before = xs }) done.2,
+)
 
 module _ (s t : SessionState) (whole : s.broken ≡ false) (done : IsTrue s.volume.is_sound → IsCommitted s t) where
   -- it makes no call
   no_call : (st : State) → IsTrue s.volume.is_sound → Represents s.database s.volume s.kept st → AreDone s st (commit ∷ []) [] t
-  no_call st sound stands = record { made = made_flushed s s t st [] [] (made_none s st whole stands) (done sound).flushed; lasts = (done sound).lasts }
+  no_call st sound stands = record { made = made_flushed s s t st [] [] (made_none s st whole stands) (done sound).flushed; lasts = one_lasts s.volume.committed t.volume.committed t.volume.image (done sound).lasts }
 
   pub does_commit : DoesAll s (commit ∷ []) t
   does_commit = λ st sound stands. ([], no_call st sound stands)

@@ -1,10 +1,9 @@
 -- What a program asks for in a session, and what is answered and lasts by what its calls came to.
-use Rattle.std.specs.Prelude.{◌≡◌, List, [], ◌∷◌, ◌++◌, ℕ, flat_map, Option, Some, None}
-use Rattle.std.specs.Option.{option_or}
+use Rattle.std.specs.Prelude.{◌≡◌, List, [], ◌∷◌, ◌++◌, ℕ, flat_map}
 use Rattle.hd_dbd.specs.declared.answer.Refused.TheVariants as refused
 use Rattle.hd_dbd.specs.Logs.{Outcome, replied, area, full, memory, Entry}
 use Rattle.hd_calls.specs.Runs.{image_at}
-use Rattle.hd_stores.specs.Stores.{Committed}
+use Rattle.hd_stores.specs.Stores.{Committed, commits_of}
 use Rattle.hd_session.specs.Turns.{Turn}
 use Rattle.hd_serve.specs.declared.request.FramedRequest.{FramedRequest}
 use Rattle.hd_serve.specs.declared.request.FramedRequest.TheVariants as asks
@@ -46,15 +45,15 @@ module _ {Image : Type 0} where
   answers_to (ask turn ∷ requests) (e ∷ entries) = frame_bytes (outcome_bytes e.outcome) ++ answers_to requests entries
   answers_to (commit ∷ requests) entries = frame_bytes done_bytes ++ answers_to requests entries
 
-  -- the image that the last commit among requests found, where their calls came to these entries and the last image: that before the call behind the
-  -- commit, or the last where there is none; and none where no commit is asked for
-  abbrev pub committed_by : List Request → List (Entry Image) → Image → Option Image
-  committed_by [] entries last = None
-  committed_by (ask turn ∷ requests) [] last = None
+  -- the images that the commits among requests found, in their order, where their calls came to these entries and the last image: each that before the
+  -- call behind the commit, or the last where there is none
+  abbrev pub committed_by : List Request → List (Entry Image) → Image → List Image
+  committed_by [] entries last = []
+  committed_by (ask turn ∷ requests) [] last = []
   committed_by (ask turn ∷ requests) (e ∷ entries) last = committed_by requests entries last
-  committed_by (commit ∷ requests) entries last = option_or (committed_by requests entries last) (Some (image_at entries last))
+  committed_by (commit ∷ requests) entries last = image_at entries last ∷ committed_by requests entries last
 
--- a crash leaves this image, which a commit made last; where none did, it leaves what it would have left before
-abbrev pub Lasts : Option (List ℕ) → Committed → Committed → Type 0
-Lasts None old new = new ≡ old
-Lasts (Some image) old new = (new.image ≡ image) × (new.tried ≡ image)
+-- commits made these images last, one behind the other; where there was none, a crash leaves what it would have left before
+abbrev pub Lasts : List (List ℕ) → Committed → Committed → Type 0
+Lasts [] old new = new ≡ old
+Lasts (image ∷ images) old new = (since : ℕ) × Lasts images (record { image = image; tried = image; since = since; before = commits_of old }) new

@@ -262,7 +262,8 @@ LeavesAt limits s input head old new (stop.Frame e) left = IsServedOutUntil limi
 -- ---- over a store
 
 -- A store's bytes held one forest; the calls among the requests came to a legal log from it, and the bytes that are left are those behind its last
--- entry (IsPlayed); and a crash leaves the image that the last commit found, or, where none was asked for, what it would have left before.
+-- entry (IsPlayed); and each commit among the requests made last the image that it found, in their order: where none was asked for, a crash leaves what
+-- it would have left before.
 pub record IsDone (d : Database) (pcbs : List View) (store : Stored) (requests : List Request) (left : Stored) : Type 0 where
   pub log : Log (List ℕ)
   pub played : IsPlayed d pcbs store.bytes (calls_in requests) log left.bytes

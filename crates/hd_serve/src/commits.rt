@@ -1,9 +1,9 @@
-ghost use Rattle.std.specs.Prelude.{◌≡◌, false, Some, IsTrue, OnOk, IfOk, IfErr};
+ghost use Rattle.std.specs.Prelude.{◌≡◌, false, IsTrue, OnOk, IfOk, IfErr};
 ghost use Rattle.std.specs.Io.KnownBytes.{Appends};
 ghost use Rattle.hd_session.specs.Turns.{StaysWhole};
 ghost use Rattle.hd_serve.specs.Frames.{frame_bytes};
 ghost use Rattle.hd_serve.specs.Answers.{done_bytes};
-ghost use Rattle.hd_serve.specs.Requests.{commit, Lasts};
+ghost use Rattle.hd_serve.specs.Requests.{commit};
 ghost use Rattle.hd_serve.specs.Serves.{IsServed, HaltsAt, IsHalted};
 
 use crate::answer::{put_done, put_refusal};
@@ -18,7 +18,7 @@ fn tell_done<S: CommitStore, W: Write>(
     session: &Session<'_, S>,
     out: &mut W,
 ) -> Result<(), WriteFault>
-    requires lasts { IsTrue session.now.volume.is_sound → Lasts (Some session.now.volume.image) session.now.volume.committed session.now.volume.committed }
+    requires lasts { IsTrue session.now.volume.is_sound → (session.now.volume.committed.image ≡ session.now.volume.image) × (session.now.volume.committed.tried ≡ session.now.volume.image) }
     ensures { OnOk result (Appends (W.contents out.old) (W.contents out.new) (frame_bytes done_bytes)) }
 {
     let _ = session;

@@ -10,7 +10,7 @@ returns-in-Ok-clause-served g c =
     let e = c.in_default.ensures in
     let done : IsTrue s.volume.is_sound → IsCommitted s t = λ sound. record {
       flushed = record { image = (e.flushed sound).0; stored = (e.flushed sound).1; same = e.same; failures = e.counts; sound = e.sound; sizes = e.sizes };
-      lasts = ((e.committed sound).1 ∙ sym (e.committed sound).0, (e.committed sound).2 ∙ sym (e.committed sound).0);
+      lasts = ((e.committed sound).1 ∙ sym (e.committed sound).0, (e.committed sound).2 ∙ sym (e.committed sound).0, (e.committed sound).3);
     } in
     record { count = refl; few = omega arith; serves = serves_commit s t c.requires.whole done (g.W.Write.contents c.args.out.now) (g.W.Write.contents c.tell_done.new.out) c.in-Ok.ensures }
 
@@ -21,6 +21,6 @@ returns-in-Err-tell_done-clause-halts g c =
     let e = c.in_default.ensures in
     let done : IsTrue s.volume.is_sound → IsCommitted s t = λ sound. record {
       flushed = record { image = (e.flushed sound).0; stored = (e.flushed sound).1; same = e.same; failures = e.counts; sound = e.sound; sizes = e.sizes };
-      lasts = ((e.committed sound).1 ∙ sym (e.committed sound).0, (e.committed sound).2 ∙ sym (e.committed sound).0);
+      lasts = ((e.committed sound).1 ∙ sym (e.committed sound).0, (e.committed sound).2 ∙ sym (e.committed sound).0, (e.committed sound).3);
     } in
     does_commit s t c.requires.whole done
