@@ -188,11 +188,11 @@ spares-byte h z log first v w byte has s torn = record {
 }
 
 -- a change of the length to that of the image
-pub spares-cut : (h : Head) (z : Bool) (log first v w : List ℕ) → h.base ≤ h.len → (z ≡ true → 0 < h.len) → Spares h z log first v → Cut h.len v w → Spares h z log first w
-spares-cut h z log first v w grows some s cut = record {
+pub spares-cut : (h : Head) (z : Bool) (log first v w : List ℕ) (len : ℕ) → h.base ≤ len → (z ≡ true → 0 < len) → Spares h z log first v → Cut len v w → Spares h z log first w
+spares-cut h z log first v w len grows some s cut = record {
   base = (let b = s.base in let l = cut.no_shorter in omega arith);
   each = λ k low. (let b = s.base in ap (byte_from h.size log h.count k) (cut.below k (omega arith) (omega arith)) ∙ s.each k low);
-  first_byte = λ e. (let there = (s.first_byte e).0 in let l = cut.no_shorter in let len = some e in (omega arith, cut.below 0 there len ∙ (s.first_byte e).1));
+  first_byte = λ e. (let there = (s.first_byte e).0 in let l = cut.no_shorter in let long = some e in (omega arith, cut.below 0 there long ∙ (s.first_byte e).1));
 }
 
 -- one frame more

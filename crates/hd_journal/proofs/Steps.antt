@@ -8,11 +8,11 @@ use Rattle.hd_bytes.specs.Numbers.{number_at}
 use Rattle.hd_bytes.proofs.NumberLemmas.{number-moved}
 use Rattle.hd_bytes.proofs.BlockLemmas.{byte-at, length-bytes_at}
 use Rattle.std.proofs.lemmas.Nat.{row_fits}
-use Rattle.hd_journal.specs.Disk.{State, Torn, WritesVolume, CutsVolume, Syncs, HasVolume, Leaves}
+use Rattle.hd_journal.specs.Disk.{State, Torn, WritesVolume, CutsVolume, Syncs, HasVolume, HasZeros, Leaves}
 use Rattle.hd_journal.specs.declared.head.Head.{Head}
 use Rattle.hd_journal.specs.Log.{written_from, skipped, HasFirst, frame_at, block_no, no_block, byte_from, base_byte, Spares, HasFrames}
-use Rattle.hd_journal.specs.States.{IsSpared, IsSparing, Redoes, IsFilled, IsStill}
-use Rattle.hd_journal.proofs.Bytes.{frame-other, spares-byte, spares-open, spares-first, spares-behind, spares-frame, spares-cut, has-frame}
+use Rattle.hd_journal.specs.States.{IsSpared, IsSparing, Redoes, IsStill}
+use Rattle.hd_journal.proofs.Bytes.{frame-other, spares-byte, spares-open, spares-first, spares-behind, spares-frame, spares-cut, has-frame, base-within, base-behind}
 use Rattle.hd_journal.proofs.Moments.{started, goes_on, followed, weakened}
 use Rattle.hd_journal.proofs.Slots.{block-few}
 
@@ -44,10 +44,10 @@ redoes-write h z first {a = a} {b = b} at n sparing w keeps =
     (let was = w.crash l v may in let s = sparing l was.0 was.1 in (s.0, keeps was.0 v s.1 was.2)) in
     record { log = w.log; spares = spared; leaves = goes_on (IsSpared h z a.log first) (started (IsSpared h z a.log first) a) w.time spared }
 
-pub redoes-cut : (h : Head) (z : Bool) (first : List ℕ) {a b : State} → h.base ≤ h.len → (z ≡ true → 0 < h.len) → IsSparing h z first a → CutsVolume h.len a b → Redoes h z first a b
-redoes-cut h z first {a = a} {b = b} grows some sparing w =
+pub redoes-cut : (h : Head) (z : Bool) (first : List ℕ) {a b : State} (len : ℕ) → h.base ≤ len → (z ≡ true → 0 < len) → IsSparing h z first a → CutsVolume len a b → Redoes h z first a b
+redoes-cut h z first {a = a} {b = b} len grows some sparing w =
     let spared : (l v : List ℕ) → b.may_leave l v → IsSpared h z a.log first l v = λ l v may.
-    (let was = w.crash l v may in let s = sparing l was.0 was.1 in (s.0, spares-cut h z a.log first was.0 v grows some s.1 was.2)) in
+    (let was = w.crash l v may in let s = sparing l was.0 was.1 in (s.0, spares-cut h z a.log first was.0 v len grows some s.1 was.2)) in
     record { log = w.log; spares = spared; leaves = goes_on (IsSpared h z a.log first) (started (IsSpared h z a.log first) a) w.time spared }
 
 pub redoes-sync : (h : Head) (z : Bool) (first : List ℕ) {a b : State} → IsSparing h z first a → Syncs a b → Redoes h z first a b
@@ -61,37 +61,30 @@ sparing-first h s base still = λ l v may.
     let at_v = still.volume l v may in
     (still.log l v may, subst (λ (w : List ℕ). Spares h false s.log s.volume w) (sym at_v) (spares-first h s.log s.volume base))
 
--- ---- the fill
+-- ---- the length
 
--- a write that fails or succeeds
-pub filling : (h : Head) (z : Bool) (s a b : State) (at n : ℕ) → IsFilled h z s a at → WritesVolume at n a b → Redoes h z s.volume s b
-filling h z s a b at n f w =
-    redoes-more h z s.volume f.redoes (redoes-write h z s.volume at n (sparing-still h z s.volume f.redoes) w
-    (λ v x spared torn. spares-behind h z a.log s.volume v x at n spared f.above f.behind torn))
+-- a volume that was cut, and made longer
+pub lengthened : (h : Head) (z : Bool) (s a b : State) (at : ℕ) → h.base ≤ at → at ≤ h.len → h.base ≤ length s.volume → ((k : ℕ) → h.base ≤ k → k < at → (k < length s.volume) × (slice_index s.volume k ≡ 0))
+    → CutsVolume at s a → length a.volume ≡ at → CutsVolume h.len a b → length b.volume ≡ h.len → HasZeros (length a.volume) h.len b.volume → HasFrames h 0 s.log s.volume 0 b.volume
+lengthened h z s a b at above below base shut cut short more long zeros = record {
+  long = omega (arith, long);
+  each = λ k from low. elim (cases_lt k h.base) [
+    | inl in_base ↦
+        more.volume.below k (omega (arith, short, in_base, above)) low ∙ cut.volume.below k (omega (arith, in_base, base)) (omega (arith, in_base, above)) ∙ sym (base-within h.base s.volume k in_base)
+    | inr behind ↦ elim (cases_lt k at) [
+      | inl in_front ↦
+          (let f = shut k behind in_front in more.volume.below k (omega (arith, short, in_front)) low ∙ cut.volume.below k f.0 in_front ∙ f.1 ∙ sym (base-behind h.base s.volume k behind))
+      | inr new ↦ zeros k (omega (arith, short, new)) low ∙ sym (base-behind h.base s.volume k behind)
+    ]
+  ];
+}
 
-pub filled-more : (h : Head) (z : Bool) (s a b : State) (at n size : ℕ) → 0 < n → n ≤ h.len - at → IsFilled h z s a at → WritesVolume at n a b → bytes_at b.volume at n ≡ replicate n 0 → IsFilled h z s b (at + n)
-filled-more h z s a b at n size some fits f w wrote =
-    let torn = w.volume in
-    let above = f.above in
-    let below = f.below in
-    let within = f.within in
-    let inner = inside b.volume (replicate n 0) at n wrote (length-replicate n 0) some in
-    record {
-      redoes = filling h z s a b at n f w;
-      above = omega arith;
-      behind = λ e. (let b = f.behind e in omega arith);
-      below = omega arith;
-      within = inner;
-      kept = λ k low. torn.below k (omega arith) (omega arith) ∙ f.kept k low;
-      zeros = λ k low high. elim (cases_lt k at) [
-        | inl old ↦ torn.below k (omega arith) old ∙ f.zeros k low old
-        | inr new ↦
-            let j : ℕ = k - at in
-            let is : at + j ≡ k = omega arith in
-            let in_n : j < n = omega arith in
-            ap (slice_index b.volume) (sym is) ∙ sym (byte-at b.volume at n j inner in_n) ∙ ap (λ (xs : List ℕ). get_or xs j 0) wrote ∙ get_or-replicate n j 0 0 in_n
-      ];
-    }
+-- one that has its length
+pub unlengthened : (h : Head) (s : State) → h.base ≡ h.len → h.base ≤ length s.volume → HasFrames h 0 s.log s.volume 0 s.volume
+unlengthened h s same base = record {
+  long = omega (arith, same, base);
+  each = λ k from low. sym (base-within h.base s.volume k (omega (arith, same, low)));
+}
 
 -- ---- the copy
 
@@ -164,9 +157,6 @@ gate-frames h from log first v i some few gate f = record {
       f.each k above low ∙ sym (frame-other h.size log i k (base_byte h.base first k) (λ e. block-few h.size h.len k some low few (sym e ∙ gate)))
       ∙ ap (λ (m : ℕ). byte_from h.size log m k (base_byte h.base first k)) (sym (add-one i));
 }
-
-pub first-zeros : (n m : ℕ) → n ≤ m → take {A = ℕ} n (replicate m 0) ≡ replicate n 0
-first-zeros n m low = same_number_lists _ _ (grind (arith, common_steps)) (λ k u. grind (arith, common_steps, get_or-replicate {A = ℕ}))
 
 -- once the volume is synced, the disk is still
 pub still-synced : (h : Head) (z : Bool) (first : List ℕ) {a b : State} → Redoes h z first a b → HasVolume b → IsStill b

@@ -58,6 +58,10 @@ pub record CutsVolume (n : ℕ) (old new : State) : Type 0 where
   pub crash : (l v : List ℕ) → new.may_leave l v → (w : List ℕ) × old.may_leave l w × Cut n w v
   pub time : Elapses old new
 
+-- from one place up to another there are zeros
+abbrev pub HasZeros : ℕ → ℕ → List ℕ → Type 0
+HasZeros from end bytes = (k : ℕ) → from ≤ k → k < end → slice_index bytes k ≡ 0
+
 -- a sync of one of the files
 pub record Syncs (old new : State) : Type 0 where
   pub log : new.log ≡ old.log

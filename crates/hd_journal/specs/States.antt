@@ -48,16 +48,6 @@ pub record Redoes (head : Head) (is_shut : Bool) (first : List ℕ) (old new : S
   pub spares : (l v : List ℕ) → new.may_leave l v → IsSpared head is_shut old.log first l v
   pub leaves : Leaves (IsSpared head is_shut old.log first) old new
 
--- the volume is as it was below the base, and zeros stand from there to a place
-pub record IsFilled (head : Head) (is_shut : Bool) (old new : State) (at : ℕ) : Type 0 where
-  pub redoes : Redoes head is_shut old.volume old new
-  pub above : head.base ≤ at
-  pub behind : is_shut ≡ true → 0 < at
-  pub below : at ≤ head.len
-  pub within : at ≤ length new.volume
-  pub kept : (k : ℕ) → k < head.base → slice_index new.volume k ≡ slice_index old.volume k
-  pub zeros : (k : ℕ) → head.base ≤ k → k < at → slice_index new.volume k ≡ 0
-
 -- The log counts, under this head, on a still disk.
 pub record IsOpened (head : Head) (s : State) : Type 0 where
   pub gate : slice_index s.log 0 ≡ 1

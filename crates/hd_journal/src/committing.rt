@@ -44,17 +44,11 @@ pub fn publish_first<D: Disk>(
 /// Copies the frames of an open log to the volume, and shuts the gate.
 ///
 /// A crash at any moment leaves the image. Where block 0 has a frame, a volume that is not whole has 0 as its first byte.
-pub fn finish<D: Disk>(
-    disk: &mut D,
-    head: Head,
-    zeros: &[u8],
-    frame: &mut [u8],
-) -> Result<(), Failed>
+pub fn finish<D: Disk>(disk: &mut D, head: Head, frame: &mut [u8]) -> Result<(), Failed>
     requires usable { IsTrue (D.is_usable disk.old) }
     requires some { 0 < head.size }
     requires small { head.size ≤ 32768 }
     requires frame { length frame.old ≡ head.size + 4 }
-    requires zeros { zeros.now ≡ replicate head.size 0 }
     requires open { IsTrue D.is_honest → IsOpened head (D.state disk.old) }
     ensures usable { OnOk result (IsTrue (D.is_usable disk.new)) }
     ensures frame { length frame.new ≡ length frame.old }
@@ -67,6 +61,6 @@ pub fn finish<D: Disk>(
     ensures shut { IsTrue D.is_honest → 0 < head.len → (i : ℕ) → i < head.count → block_no head.size (D.state disk.old).log i ≡ 0
         → Leaves (IsShutBetween (D.state disk.old).volume (image head (D.state disk.old).log (D.state disk.old).volume)) (D.state disk.old) (D.state disk.new) }
 {
-    redo(disk, head, zeros, frame)?;
+    redo(disk, head, frame)?;
     shut(disk)
 }

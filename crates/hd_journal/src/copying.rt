@@ -1,4 +1,4 @@
-ghost use Rattle.std.specs.Prelude.{◌≡◌, ◌+◌, ◌<◌, ◌≤◌, ℕ, IsTrue, length, replicate, OnOk};
+ghost use Rattle.std.specs.Prelude.{◌≡◌, ◌+◌, ◌<◌, ◌≤◌, ℕ, IsTrue, length, OnOk};
 ghost use Rattle.hd_journal.specs.Disk.{Leaves};
 ghost use Rattle.hd_journal.specs.Log.{block_no, image};
 ghost use Rattle.hd_journal.specs.States.{IsSettled, IsPublished, SameBehind, IsShutBetween, StandsFor};
@@ -10,17 +10,11 @@ use crate::head::Head;
 /// Copies the frames of the commits of a log to the volume, and shuts the gate. What stands behind them in the log stays there.
 ///
 /// A crash at any moment leaves the image. Where block 0 has a frame, a volume that is not whole has 0 as its first byte.
-pub fn copy_commits<D: Disk>(
-    disk: &mut D,
-    head: Head,
-    zeros: &[u8],
-    frame: &mut [u8],
-) -> Result<(), Failed>
+pub fn copy_commits<D: Disk>(disk: &mut D, head: Head, frame: &mut [u8]) -> Result<(), Failed>
     requires usable { IsTrue (D.is_usable disk.old) }
     requires some { 0 < head.size }
     requires small { head.size ≤ 32768 }
     requires frame { length frame.old ≡ head.size + 4 }
-    requires zeros { zeros.now ≡ replicate head.size 0 }
     requires published { IsTrue D.is_honest → IsPublished head (D.state disk.old) }
     ensures usable { OnOk result (IsTrue (D.is_usable disk.new)) }
     ensures frame { length frame.new ≡ length frame.old }
@@ -34,5 +28,5 @@ pub fn copy_commits<D: Disk>(
         → Leaves (IsShutBetween (D.state disk.old).volume (image head (D.state disk.old).log (D.state disk.old).volume)) (D.state disk.old) (D.state disk.new) }
 {
     disk.sync_log()?;
-    finish(disk, head, zeros, frame)
+    finish(disk, head, frame)
 }

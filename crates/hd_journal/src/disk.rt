@@ -1,6 +1,6 @@
 ghost use Rattle.std.specs.Prelude.{◌≡◌, ◌≤◌, ℕ, Bool, IsTrue, List, length, IfOk, OnOk, OnErr};
 ghost use Rattle.hd_bytes.specs.Ranges.{bytes_at};
-ghost use Rattle.hd_journal.specs.Disk.{State, WritesLog, WritesVolume, CutsVolume, Syncs, Marks, HasLog, HasVolume};
+ghost use Rattle.hd_journal.specs.Disk.{State, WritesLog, WritesVolume, CutsVolume, Syncs, Marks, HasLog, HasVolume, HasZeros};
 
 /// A call of a disk failed. What stands in its files is known no more, but for what a crash may leave.
 #[derive(Clone, Copy, Debug, PartialEq, Eq)]
@@ -54,11 +54,12 @@ pub trait Disk {
         ensures value { OnOk result (IsTrue is_honest → bytes_at (state self.new).volume at (length bytes.now) ≡ bytes.now) }
         ensures writes { IsTrue is_honest → WritesVolume at (length bytes.now) (state self.old) (state self.new) };
 
-    /// Makes the volume so many bytes long.
+    /// Makes the volume so many bytes long, with zeros behind its end.
     fn set_volume_len(&mut self, len: u64) -> Result<(), Failed>
         requires { IsTrue (is_usable self.old) }
         ensures usable { OnOk result (IsTrue (is_usable self.new)) }
         ensures value { OnOk result (IsTrue is_honest → length (state self.new).volume ≡ len) }
+        ensures zeros { OnOk result (IsTrue is_honest → HasZeros (length (state self.old).volume) len (state self.new).volume) }
         ensures cuts { IsTrue is_honest → CutsVolume len (state self.old) (state self.new) };
 
     /// Puts the log on the disk.

@@ -296,12 +296,7 @@ impl<D: Disk> Journal<D> {
         ensures volume { OnOk result (IsTrue D.is_honest → (D.state self.new.disk).volume ≡ (committed_of D.state self.new).image) }
         ensures bare { OnOk result (self.new.last.count ≡ 0) }
     {
-        let Ok(()) = copy_commits(
-            &mut self.disk,
-            before(self.last),
-            &self.zeros,
-            &mut self.frame,
-        ) else {
+        let Ok(()) = copy_commits(&mut self.disk, before(self.last), &mut self.frame) else {
             self.failed = true;
             return Err(Failed);
         };

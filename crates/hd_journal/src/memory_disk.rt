@@ -1,7 +1,7 @@
 ghost use Rattle.std.specs.Prelude.{◌≡◌, ◌++◌, ◌∷◌, [], map, true, length, refl, OnOk, OnErr, IfOk};
 ghost use Rattle.std.proofs.Common.{inl};
 ghost use Rattle.hd_bytes.specs.Ranges.{bytes_at};
-ghost use Rattle.hd_journal.specs.Disk.{Torn, Cut};
+ghost use Rattle.hd_journal.specs.Disk.{Torn, Cut, HasZeros};
 
 use crate::disk::{Disk, Failed};
 use crate::standing::stand;
@@ -68,6 +68,7 @@ fn overwritten(alloc: Global, file: &[u8], at: usize, bytes: &[u8]) -> Result<Ve
 fn resized(alloc: Global, file: &[u8], len: usize) -> Result<Vec<u8>, AllocError>
     ensures len { IfOk result (λ new. length new.items ≡ len) }
     ensures cut { IfOk result (λ new. Cut len file.now new.items) }
+    ensures zeros { IfOk result (λ new. HasZeros (length file.now) len new.items) }
 {
     let mut new = file.to_vec(alloc)?;
     new.resize(len, 0)?;

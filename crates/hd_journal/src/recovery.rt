@@ -49,14 +49,10 @@ fn redo_log<D: Disk>(alloc: Global, disk: &mut D, head: Head) -> Result<(), Unop
     ensures refusal { IfErr result (λ e. (e ≡ Unopened.Device) ⊎ (e ≡ Unopened.Memory)) }
     ensures leaves { IsTrue D.is_honest → Leaves (StandsFor (image head (D.state disk.old).log (D.state disk.old).volume)) (D.state disk.old) (D.state disk.new) }
 {
-    let size = head.size as usize;
-    let Ok(zeros) = vec![in alloc; 0u8; size] else {
+    let Ok(mut frame) = vec![in alloc; 0u8; head.size as usize + 4] else {
         return Err(Unopened::Memory);
     };
-    let Ok(mut frame) = vec![in alloc; 0u8; size + 4] else {
-        return Err(Unopened::Memory);
-    };
-    let Ok(()) = finish(disk, head, &zeros, &mut frame) else {
+    let Ok(()) = finish(disk, head, &mut frame) else {
         return Err(Unopened::Device);
     };
     Ok(())

@@ -1,4 +1,4 @@
-ghost use Rattle.std.specs.Prelude.{◌≡◌, ◌≢◌, ◌+◌, ◌*◌, ◌<◌, ◌≤◌, None, true, false, ℕ, IsTrue, List, length, replicate, slice_index, IfOk, IfSome, OnOk};
+ghost use Rattle.std.specs.Prelude.{◌≡◌, ◌≢◌, ◌+◌, ◌*◌, ◌<◌, ◌≤◌, None, true, false, ℕ, IsTrue, List, length, slice_index, IfOk, IfSome, OnOk};
 ghost use Rattle.hd_journal.specs.Disk.{Leaves};
 ghost use Rattle.hd_journal.specs.Log.{frame_at, block_no, no_block, image, skipped, written_from, Fits, HasFrames, HasFirst};
 ghost use Rattle.hd_journal.specs.States.{IsStill, IsSparing, IsShutBetween, Redoes};
@@ -6,17 +6,6 @@ ghost use Rattle.hd_journal.specs.States.{IsStill, IsSparing, IsShutBetween, Red
 use crate::disk::{Disk, Failed};
 use crate::head::{Head, NO_BLOCK, frame_place};
 use hd_bytes::read_u32;
-
-/// So many as are left, and at most so many.
-fn share(left: u64, most: usize) -> usize
-    requires left { 0 < left }
-    requires most { 0 < most }
-    ensures within { result ≤ left }
-    ensures few { result ≤ most }
-    ensures some { 0 < result }
-{
-    left.min(most as u64) as usize
-}
 
 /// Where slot `i` has block 0, its first byte.
 fn first_of<D: Disk>(disk: &D, head: Head, i: u32) -> Result<Option<u8>, Failed>
@@ -53,11 +42,23 @@ fn first_byte<D: Disk>(disk: &D, head: Head) -> Result<Option<u8>, Failed>
     Ok(found)
 }
 
-/// Writes zeros to the volume from its base to the end of the image, but not to its first byte where that is shut.
-fn fill<D: Disk>(disk: &mut D, head: Head, is_shut: bool, zeros: &[u8]) -> Result<(), Failed>
+/// How many bytes at the front of the volume stay: those of its base, and the first where that is shut.
+fn front_of(head: Head, is_shut: bool) -> u64
+    ensures base { head.base ≤ result }
+    ensures first { is_shut ≡ true → 0 < result }
+    ensures within { head.base ≤ head.len → (is_shut ≡ true → 0 < head.len) → result ≤ head.len }
+    ensures other { (k : ℕ) → head.base ≤ k → k < result → (is_shut ≡ true) × (k ≡ 0) }
+{
+    if is_shut && head.base == 0 {
+        1
+    } else {
+        head.base
+    }
+}
+
+/// Makes the volume as long as the image, with zeros behind its base, but for its first byte where that is shut.
+fn lengthen<D: Disk>(disk: &mut D, head: Head, is_shut: bool) -> Result<(), Failed>
     requires usable { IsTrue (D.is_usable disk.old) }
-    requires some { 0 < head.size }
-    requires zeros { zeros.now ≡ replicate head.size 0 }
     requires len { is_shut ≡ true → 0 < head.len }
     requires fits { IsTrue D.is_honest → Fits head (D.state disk.old).log (D.state disk.old).volume }
     requires sparing { IsTrue D.is_honest → IsSparing head is_shut (D.state disk.old).volume (D.state disk.old) }
@@ -65,13 +66,11 @@ fn fill<D: Disk>(disk: &mut D, head: Head, is_shut: bool, zeros: &[u8]) -> Resul
     ensures filled { OnOk result (IsTrue D.is_honest → HasFrames head 0 (D.state disk.old).log (D.state disk.old).volume 0 (D.state disk.new).volume) }
     ensures redoes { IsTrue D.is_honest → Redoes head is_shut (D.state disk.old).volume (D.state disk.old) (D.state disk.new) }
 {
-    let mut at = head.base.max(u64::from(is_shut));
-    while at < head.len {
-        let n = share(head.len - at, head.size as usize);
-        disk.write_volume(at, &zeros[..n])?;
-        at += n as u64;
+    if head.base == head.len {
+        return Ok(());
     }
-    Ok(())
+    disk.set_volume_len(front_of(head, is_shut))?;
+    disk.set_volume_len(head.len)
 }
 
 /// How many bytes at the front of a frame's block are passed over: the first of block 0 where that is shut.
@@ -141,14 +140,12 @@ fn put_frames<D: Disk>(
     disk: &mut D,
     head: Head,
     is_shut: bool,
-    zeros: &[u8],
     frame: &mut [u8],
 ) -> Result<(), Failed>
     requires usable { IsTrue (D.is_usable disk.old) }
     requires some { 0 < head.size }
     requires small { head.size ≤ 32768 }
     requires frame { length frame.old ≡ head.size + 4 }
-    requires zeros { zeros.now ≡ replicate head.size 0 }
     requires len { is_shut ≡ true → 0 < head.len }
     requires fits { IsTrue D.is_honest → Fits head (D.state disk.old).log (D.state disk.old).volume }
     requires sparing { IsTrue D.is_honest → IsSparing head is_shut (D.state disk.old).volume (D.state disk.old) }
@@ -160,25 +157,18 @@ fn put_frames<D: Disk>(
     ensures still { OnOk result (IsTrue D.is_honest → IsStill (D.state disk.new)) }
     ensures redoes { IsTrue D.is_honest → Redoes head is_shut (D.state disk.old).volume (D.state disk.old) (D.state disk.new) }
 {
-    fill(disk, head, is_shut, zeros)?;
+    lengthen(disk, head, is_shut)?;
     copy(disk, head, is_shut, frame)?;
     disk.set_volume_len(head.len)?;
     disk.sync_volume()
 }
 
 /// Makes the volume the image that its log and its head say, whose first byte is this, and syncs it. While it goes on that byte is 0.
-fn redo_shut<D: Disk>(
-    disk: &mut D,
-    head: Head,
-    byte: u8,
-    zeros: &[u8],
-    frame: &mut [u8],
-) -> Result<(), Failed>
+fn redo_shut<D: Disk>(disk: &mut D, head: Head, byte: u8, frame: &mut [u8]) -> Result<(), Failed>
     requires usable { IsTrue (D.is_usable disk.old) }
     requires some { 0 < head.size }
     requires small { head.size ≤ 32768 }
     requires frame { length frame.old ≡ head.size + 4 }
-    requires zeros { zeros.now ≡ replicate head.size 0 }
     requires len { 0 < head.len }
     requires fits { IsTrue D.is_honest → Fits head (D.state disk.old).log (D.state disk.old).volume }
     requires still { IsTrue D.is_honest → IsStill (D.state disk.old) }
@@ -192,7 +182,7 @@ fn redo_shut<D: Disk>(
 {
     disk.write_volume(0, &[0])?;
     disk.sync_volume()?;
-    put_frames(disk, head, true, zeros, frame)?;
+    put_frames(disk, head, true, frame)?;
     disk.write_volume(0, &[byte])?;
     disk.sync_volume()
 }
@@ -200,12 +190,11 @@ fn redo_shut<D: Disk>(
 /// Makes the volume the image that its log and its head say, and syncs it.
 ///
 /// While it goes on the volume's first byte is 0 where block 0 has a frame, so that a volume alone is not taken for one.
-pub fn redo<D: Disk>(disk: &mut D, head: Head, zeros: &[u8], frame: &mut [u8]) -> Result<(), Failed>
+pub fn redo<D: Disk>(disk: &mut D, head: Head, frame: &mut [u8]) -> Result<(), Failed>
     requires usable { IsTrue (D.is_usable disk.old) }
     requires some { 0 < head.size }
     requires small { head.size ≤ 32768 }
     requires frame { length frame.old ≡ head.size + 4 }
-    requires zeros { zeros.now ≡ replicate head.size 0 }
     requires fits { IsTrue D.is_honest → Fits head (D.state disk.old).log (D.state disk.old).volume }
     requires still { IsTrue D.is_honest → IsStill (D.state disk.old) }
     ensures usable { OnOk result (IsTrue (D.is_usable disk.new)) }
@@ -217,9 +206,9 @@ pub fn redo<D: Disk>(disk: &mut D, head: Head, zeros: &[u8], frame: &mut [u8]) -
         → Leaves (IsShutBetween (D.state disk.old).volume (image head (D.state disk.old).log (D.state disk.old).volume)) (D.state disk.old) (D.state disk.new) }
 {
     match first_byte(disk, head)? {
-        Some(byte) if head.len > 0 => redo_shut(disk, head, byte, zeros, frame),
+        Some(byte) if head.len > 0 => redo_shut(disk, head, byte, frame),
         _ => {
-            put_frames(disk, head, false, zeros, frame)?;
+            put_frames(disk, head, false, frame)?;
             Ok(())
         }
     }

@@ -155,7 +155,7 @@ impl Disk for TornDisk {
     }
 
     fn set_volume_len(&mut self, len: u64) -> Result<(), Failed> {
-        let Ok(()) = self.volume.now.resize(len as usize, 0xdd) else {
+        let Ok(()) = self.volume.now.resize(len as usize, 0) else {
             return Err(Failed);
         };
         self.spend()
