@@ -5,9 +5,11 @@
 
 #include <ctype.h>
 #include <dlfcn.h>
+#include <errno.h>
 #include <stdio.h>
 #include <stdlib.h>
 #include <string.h>
+#include <sys/wait.h>
 #include <unistd.h>
 
 static const char USAGE[] =
@@ -29,35 +31,66 @@ static const char USAGE[] =
     "\n"
     "HD names the program hd where it is not found by that name. The status is the program's; 16 is that of a run that was ended.\n";
 
-/* A file's text, of which a source statement's operands are read. */
-static char *text_of(const char *path)
+static char *program_hd(void)
 {
-    FILE *file = fopen(path, "r");
-    if (!file) {
-        perror(path);
-        exit(16);
-    }
-    char *text = calloc(1, MOST_FRAME + 1);
-    if (!text || (!fread(text, 1, MOST_FRAME, file) && ferror(file))) {
-        perror(path);
-        exit(16);
-    }
-    fclose(file);
-    return text;
+    return getenv("HD") ? getenv("HD") : "hd";
 }
 
-/* The word behind an operand's name and '=', at most eight letters; empty where the source has none. */
-static void operand(const char *source, const char *name, char word[9])
+/* The operands of a source, as `hd operands` lists them: the line, the operation, the keyword and the value. A source that hd refuses ends the run. */
+static char *operands_of(char *path)
 {
-    const char *at = strstr(source, name);
-    size_t length = 0;
+    char *words[] = {program_hd(), "--explain", "always", "operands", path, NULL};
+    size_t length = 0, room = 1 << 16;
+    char *lines = malloc(room);
+    int ends[2], status;
+    pid_t child;
 
-    if (at)
-        for (at += strlen(name); length < 8 && (isalnum((unsigned char)at[length]) || strchr("@#$", at[length])); length++)
-            if (!at[length])
-                break;
-    memcpy(word, at ? at : "", length);
-    word[length] = 0;
+    if (!lines || pipe(ends) || (child = fork()) < 0) {
+        perror("hdrun");
+        exit(16);
+    }
+    if (!child) {
+        dup2(ends[1], 1);
+        close(ends[0]);
+        close(ends[1]);
+        execvp(words[0], words);
+        perror(words[0]);
+        _exit(127);
+    }
+    close(ends[1]);
+    for (ssize_t got; (got = read(ends[0], lines + length, room - length - 1)) > 0 || (got < 0 && errno == EINTR);) {
+        length += got > 0 ? (size_t)got : 0;
+        if (room - length < 2 && !(lines = realloc(lines, room *= 2)))
+            exit(16);
+    }
+    close(ends[0]);
+    while (waitpid(child, &status, 0) < 0 && errno == EINTR)
+        ;
+    if (!WIFEXITED(status) || WEXITSTATUS(status))
+        exit(16);
+    lines[length] = 0;
+    return lines;
+}
+
+/* The value of the first operand of an operation by a keyword, at most eight letters; empty where the source has none. */
+static void operand(const char *lines, const char *operation, const char *keyword, char word[9])
+{
+    const char *end;
+
+    word[0] = 0;
+    for (; (end = strchr(lines, '\n')); lines = end + 1) {
+        const char *at = lines + strspn(lines, "0123456789") + 1;
+        size_t length;
+        if (strncmp(at, operation, strlen(operation)) || *(at += strlen(operation)) != ' ')
+            continue;
+        if (strncmp(++at, keyword, strlen(keyword)) || *(at += strlen(keyword)) != ' ')
+            continue;
+        at++;
+        length = (size_t)(end - at) < 8 ? (size_t)(end - at) : 8;
+        memcpy(word, at, length);
+        word[length] = 0;
+        return;
+    }
 }
 
 /* A member of a library: NAME.EXTENSION in the folder that a variable names, or the same in small letters. */
@@ -146,16 +179,19 @@ static void find_files(struct run *run)
 
     if (!run->psb)
         run->psb = member("HD_PSBLIB", run->psb_name, "psb");
-    char *source = text_of(run->psb);
-    run->has_io_pcb = strstr(source, "CMPAT=YES") != NULL;
-    operand(source, "DBDNAME=", name);
+    char *source = operands_of(run->psb);
+    operand(source, "PSBGEN", "CMPAT", name);
+    run->has_io_pcb = !strcmp(name, "YES");
+    operand(source, "PCB", "DBDNAME", name);
+    if (!*name)
+        operand(source, "PCB", "NAME", name);
     if (!run->dbd)
         run->dbd = member("HD_DBDLIB", name, "dbd");
     free(source);
     if (run->volume)
         return;
-    source = text_of(run->dbd);
-    operand(source, "DD1=", name);
+    source = operands_of(run->dbd);
+    operand(source, "DATASET", "DD1", name);
     free(source);
     snprintf(variable, sizeof variable, "DD_%s", name);
     run->volume = getenv(variable);
@@ -167,8 +203,7 @@ static void find_files(struct run *run)
 
 static void start_server(const struct run *run)
 {
-    char *hd = getenv("HD") ? getenv("HD") : "hd";
-    char *words[] = {hd, "--explain", "always", "serve", "--commit-on-request", run->dbd, run->psb, run->volume, NULL};
+    char *words[] = {program_hd(), "--explain", "always", "serve", "--commit-on-request", run->dbd, run->psb, run->volume, NULL};
     unsigned char *hello;
     size_t length;
     int status = server_start(words, &hello, &length);

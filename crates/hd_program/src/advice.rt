@@ -27,6 +27,10 @@ pub fn advise_stop<E: Write>(
             let fault = format!(in alloc; "{fault}")?;
             advise_text(request, Named::Psb, &fault, source, err)
         }
+        Stop::Source(fault, source) => {
+            let fault = format!(in alloc; "{fault}")?;
+            advise_text(request, Named::Dbd, &fault, source, err)
+        }
         Stop::Deck(fault, text, file) => {
             let fault = format!(in alloc; "{fault}")?;
             advise_text(request, *file, &fault, text, err)

@@ -3,6 +3,7 @@ use crate::check_command::check_file;
 use crate::console::Console;
 use crate::deck_command::{play_file, play_sample};
 use crate::explain_command::explain_word;
+use crate::operands_command::list_operands;
 use crate::recover_command::recover_file;
 use crate::reload_command::reload_file;
 use crate::rows_command::list_rows;
@@ -238,6 +239,7 @@ where
             is_tables: true,
             syncs,
         } => make_of_tables(rt, alloc, dbd, rows, stream, syncs, &mut *console.out),
+        Request::Operands { source } => list_operands(rt, alloc, source, &mut *console.out),
         Request::Explain { word } => explain_word(word, &mut *console.out, &mut *console.err),
     }
 }

@@ -10,6 +10,7 @@ mod dbd_source;
 mod deck_command;
 mod explain_command;
 mod lines;
+mod operands_command;
 mod recover_command;
 mod reload_command;
 mod rows_command;

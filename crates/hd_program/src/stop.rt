@@ -3,6 +3,7 @@ use hd_dbd::Refused;
 use hd_deck::DeckFault;
 use hd_files::{FileFault, Named};
 use hd_gen::GenFault;
+use hd_macro::LineFault;
 use hd_rows::RowFault;
 use hd_serve::FrameFault;
 use std::alloc::{AllocError, AllocFailed};
@@ -21,6 +22,9 @@ pub enum Stop {
     /// The PSB's source has a fault; with the source.
     #[error("PSB refused: {0}")]
     Program(GenFault, Vec<u8>),
+    /// A line of a source has a fault; with the source.
+    #[error("source refused: {0}")]
+    Source(LineFault, Vec<u8>),
     /// The deck has a fault; with the deck, and the file that it stands in.
     #[error("DECK refused: {0}")]
     Deck(DeckFault, Vec<u8>, Named),
@@ -79,6 +83,14 @@ impl Stop {
         }
     }
 
+    /// The lines of a source are refused, or could not be read for want of memory.
+    pub fn source(fault: LineFault, text: Vec<u8>) -> Stop {
+        match fault {
+            LineFault::Memory => Stop::Refused(Refusal::Memory),
+            _ => Stop::Source(fault, text),
+        }
+    }
+
     /// The deck in a file is refused, or could not be read for want of memory.
     pub fn deck(fault: DeckFault, text: Vec<u8>, file: Named) -> Stop {
         match fault {
@@ -108,7 +120,7 @@ impl Stop {
     /// The status with which the program ends.
     pub fn status(&self) -> u8 {
         match self {
-            Stop::Database(_, _) | Stop::Program(_, _) => 2,
+            Stop::Database(_, _) | Stop::Program(_, _) | Stop::Source(_, _) => 2,
             Stop::Deck(_, _, _) | Stop::Rows(_, _, _) | Stop::Table(_, _, _) => 2,
             Stop::Fields => 2,
             Stop::File(_, _) | Stop::Beside(_, _) | Stop::InUse(_) | Stop::Frame(_) => 3,

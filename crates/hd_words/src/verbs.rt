@@ -231,6 +231,15 @@ pub const VERBS: &[Verb] = &[
         ],
     },
     Verb {
+        name: "operands",
+        about: "Lists the operands of a DBD or PSB source, one on a line, for scripts",
+        words: &[Word {
+            name: "SOURCE",
+            help: "The file with the source",
+            kind: Kind::Needed,
+        }],
+    },
+    Verb {
         name: "explain",
         about: "Says what a fault, status or refusal means; without a word it lists them all",
         words: &[Word {

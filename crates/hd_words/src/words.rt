@@ -78,6 +78,10 @@ pub enum Request<'a> {
         is_tables: bool,
         syncs: bool,
     },
+    /// The operands of a source.
+    Operands {
+        source: &'a str,
+    },
     /// What a fault, status or refusal means, or a list of all.
     Explain {
         word: Option<&'a str>,
@@ -114,6 +118,7 @@ impl<'a> Request<'a> {
             (Request::Stream { dbd, .. }, Named::Dbd) => dbd,
             (Request::Stream { rows, .. }, Named::Rows) => rows,
             (Request::Stream { out, .. }, Named::Out) => out,
+            (Request::Operands { source }, Named::Dbd) => source,
             _ => "standard input",
         }
     }
@@ -164,6 +169,11 @@ fn request_of<'a>(matches: &ArgMatches<'a>) -> Request<'a> {
     if name == "explain" {
         return Request::Explain {
             word: given.get_str("WORD"),
+        };
+    }
+    if name == "operands" {
+        return Request::Operands {
+            source: given.get_str("SOURCE").unwrap_or(""),
         };
     }
     let dbd = given.get_str("DBD").unwrap_or("");
