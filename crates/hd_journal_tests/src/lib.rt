@@ -2,6 +2,14 @@
 #![tactic(auto)]
 
 #[cfg(test)]
-mod journal_tests;
+mod blocks;
+#[cfg(test)]
+mod call_tests;
+#[cfg(test)]
+mod disks;
+#[cfg(test)]
+mod log_tests;
+#[cfg(test)]
+mod stop_tests;
 #[cfg(test)]
 mod torn_disk;

@@ -1,4 +1,4 @@
-use Rattle.hd_journal_tests.proofs.journal_tests.run_once.Given as goal
+use Rattle.hd_journal_tests.proofs.stop_tests.run_once.Given as goal
 
 abbrev pub ghosts-run : goal.ghosts-run
 ghosts-run a = record { name = a.blank.name; parts = a.blank.parts }
