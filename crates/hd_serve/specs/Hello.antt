@@ -4,13 +4,14 @@ use Rattle.std.specs.Option.{option_map_or}
 use Rattle.std.specs.List.{list_all}
 use Rattle.std.specs.Int.{w16, to_be_bytes}
 use Rattle.hd_dbd.specs.declared.hierarchy.Field.{Field}
+use Rattle.hd_dbd.specs.DataTypes.{type_letter}
 use Rattle.hd_dbd.specs.Types.{SegmentType, View}
 use Rattle.hd_dbd.specs.Hierarchy.{Database, weights, level_of, greatest}
 use Rattle.hd_dbd.specs.Lengths.{least_length}
 
--- a field: its name, the place of its first byte, from 1, and its length
+-- a field: its name, the place of its first byte, from 1, its length, and the letter of its TYPE
 abbrev pub field_bytes : Field → List ℕ
-field_bytes f = f.name ++ (to_be_bytes w16 f.start ++ to_be_bytes w16 f.length)
+field_bytes f = f.name ++ (to_be_bytes w16 f.start ++ (to_be_bytes w16 f.length ++ type_letter f.data_type ∷ []))
 
 -- the type of a code: its name and level; 1 where its segments vary in length, else 0; the most and the least bytes of them; and its fields
 abbrev pub type_bytes : List SegmentType → ℕ → SegmentType → List ℕ

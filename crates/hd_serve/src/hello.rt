@@ -55,7 +55,9 @@ fn push_field(bytes: &mut Vec<u8>, field: &Field) -> Result<(), HelloFault>
 {
     bytes.extend_from_slice(field.name.bytes())?;
     push_u16(bytes, field.start as usize)?;
-    push_u16(bytes, field.length as usize)
+    push_u16(bytes, field.length as usize)?;
+    bytes.extend_from_slice(&[field.data_type.letter()])?;
+    Ok(())
 }
 
 /// Adds fields.
