@@ -195,7 +195,7 @@ unit-commits is_sound failures contents d pcbs steps old new played written befo
 unit-commits is_sound failures contents d pcbs steps old new played written before after told_before told_after wanted first was then sound begins (inr may) write reach plays refused =
     inr (
       contents new,
-      wanted-left is_sound failures contents d pcbs steps old new played written before after told_before told_after sound may.0 (write may.0) (reach may.0) plays refused,
+      wanted-left is_sound failures contents d pcbs steps old new played written before after told_before told_after sound may.1 (write may.0) (reach may.0) plays refused,
       subst (λ (k : Committed). Commits (contents new) k then) begins may.2,
     )
 

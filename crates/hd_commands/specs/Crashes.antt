@@ -1,5 +1,5 @@
 -- What a crash leaves of a volume while a deck is played over it as one unit.
-use Rattle.std.specs.Prelude.{◌≡◌, ◌⊎◌, ℕ, Bool, true, IsTrue, List, [], ◌∷◌, map, take, Result, OnOk}
+use Rattle.std.specs.Prelude.{◌≡◌, ◌⊎◌, ℕ, Bool, true, IsTrue, List, [], ◌∷◌, take, Result, OnOk}
 use Rattle.hd_dbd.specs.declared.answer.Refused.{Refused}
 use Rattle.hd_dbd.specs.Refusals.{OnlyDevice}
 use Rattle.hd_dbd.specs.Types.{View}
@@ -8,13 +8,12 @@ use Rattle.hd_dbd.specs.Segment.{Segment}
 use Rattle.hd_dbd.specs.Logs.{Log}
 use Rattle.hd_calls.specs.NoLostUpdate.{opened}
 use Rattle.hd_calls.specs.Runs.{last_state}
-use Rattle.hd_stores.specs.Stores.{Commit, Committed, commits_of, IsCommit, FailsCommit, CountsDevice, StaysSound}
+use Rattle.hd_stores.specs.Stores.{Committed, IsCommit, FailsCommit, CountsDevice, StaysSound}
 use Rattle.hd_session.specs.Turns.{Turn}
 use Rattle.hd_session.specs.Laws.{IsLegalLogOf}
 use Rattle.hd_deck.specs.Runs.{IsPlayedInPart}
-use Rattle.hd_journal.specs.Disk.{State}
 use Rattle.hd_journal.specs.Log.{recovered}
-use Rattle.hd_journal.specs.Framed.{IsSafe}
+use Rattle.hd_journal.specs.Framed.{StandsForOneOf}
 use Rattle.hd_journal.specs.Journals.{IsCommitted}
 use Rattle.hd_commands.specs.Headline.{PassesFor, IsAnsweredRun}
 
@@ -62,24 +61,18 @@ abbrev pub AllPass : Database → List (List ℕ) → Type 0
 AllPass d [] = Unit {0}
 AllPass d (image ∷ images) = ((rows : List Segment) × PassesFor d image rows) × AllPass d images
 
--- what a crash leaves at any moment since one of these commits stands for an image that passes
-abbrev pub LeavesForests : Database → State → List Commit → Type 0
-LeavesForests d s [] = Unit {0}
-LeavesForests d s (commit ∷ commits) =
-    ((log volume : List ℕ) → s.left_since commit.since log volume → (rows : List Segment) × PassesFor d (recovered log volume) rows) × LeavesForests d s commits
-
--- where the images of all commits of a safe store pass, so does what a crash leaves at any moment since the first: it is one of them
-abbrev pub SafeCommitsLeaveForests : Database → Type 0
-SafeCommitsLeaveForests d =
-    (committed : Committed) (s : State) → AllPass d (committed.tried ∷ map (λ c. c.image) (commits_of committed)) → IsSafe committed s → LeavesForests d s (commits_of committed)
+-- where the images of commits pass, so does what a crash leaves that stands for one of them
+abbrev pub CommitsLeaveForests : Database → Type 0
+CommitsLeaveForests d =
+    (images : List (List ℕ)) (log volume : List ℕ) → AllPass d images → StandsForOneOf images log volume → (rows : List Segment) × PassesFor d (recovered log volume) rows
 
 -- The law of crashes, of a database: the images that commits make last, of units of calls and of sessions with commits among their calls, pass for the rows
--- that the calls so far left; and whenever a crash comes, it leaves the image of a commit that was not before it, or of the one that was under way.
+-- that the calls so far left; and so does whatever stands for one of these images, as all does that a crash leaves.
 pub record IsCrashLaw (d : Database) : Type 0 where
   pub units : UnitsLeaveForests d
   pub commits : CommitsLastForests d
   pub failures : FailedCommitsTryForests d
-  pub crashes : SafeCommitsLeaveForests d
+  pub crashes : CommitsLeaveForests d
 
 -- it holds of every database
 abbrev pub CrashLaw : Type 0
