@@ -1,12 +1,16 @@
 -- Worked sources, computed by the definitions themselves: an edit of a definition that changes what a source says is
 -- refused here.
 use Rattle.std.proofs.Common.{◌≡◌, ℕ, List, [], ◌∷◌, ◌++◌, refl}
-use Rattle.std.specs.Prelude.{codes, Some, Ok, Err}
+use Rattle.std.specs.Prelude.{codes, Some, Result, Ok, Err}
 use Rattle.hd_dbd.specs.declared.database.DbdFault.TheVariants.{B5, B6, B10}
+use Rattle.hd_dbd.specs.declared.hierarchy.DataType.{DataType}
+use Rattle.hd_dbd.specs.declared.hierarchy.DataType.TheVariants.{Character, Hexadecimal, Packed, Fullword, Halfword}
 use Rattle.hd_dbd.specs.declared.program.PsbFault.TheVariants.{P1, P4}
+use Rattle.hd_dbd.specs.Hierarchy.{Database}
 use Rattle.hd_dbd.specs.ProgramRules.{type_names}
 use Rattle.hd_dbd.specs.Types.{SegmentType}
 use Rattle.hd_dbd.specs.Sample.{sample_types, sample_database, sample_pcbs}
+use Rattle.hd_gen.specs.declared.fault.GenFault.{GenFault}
 use Rattle.hd_gen.specs.declared.fault.GenFault.TheVariants.{G1, G2, G3, G4, G5, Dbd, Psb}
 use Rattle.hd_gen.specs.Sources.{dbd_of, psb_of}
 
@@ -89,6 +93,44 @@ pair_of_a_word = refl
 -- a field does not vary
 pub pair_of_a_field : dbd_of (source_with dataset root (codes "         FIELD NAME=(NUM,SEQ,U),BYTES=(3,2),START=1\n") end) ≡ Err (G3 5)
 pair_of_a_field = refl
+
+-- what the bytes of a field are, characters where its TYPE is not given; another letter, and brackets, are not supported
+abbrev first_field_has : DataType → List SegmentType → List SegmentType
+first_field_has k [] = []
+first_field_has k (t ∷ ts) = record { name = t.name; parent = t.parent; length = t.length; least = t.least; key = t.key; rule = t.rule; backward = t.backward; last_pointer = t.last_pointer; fields = record { name = codes "NUM     "; start = 1; length = 3; data_type = k } ∷ [] } ∷ ts
+
+abbrev field_of : List ℕ → List ℕ
+field_of operand = codes "         FIELD NAME=(NUM,SEQ,U),BYTES=3,START=1" ++ operand ++ codes "\n"
+
+abbrev first_field_in : List ℕ → Result Database GenFault
+first_field_in operand = dbd_of (source_with dataset root (field_of operand) end)
+
+abbrev sample_with : DataType → Result Database GenFault
+sample_with k = Ok (record { name = sample_database.name; block_size = 128; frspc = sample_database.frspc; types = first_field_has k sample_types })
+
+pub type_not_given : first_field_in [] ≡ Ok sample_database
+type_not_given = refl
+
+pub type_c : first_field_in (codes ",TYPE=C") ≡ sample_with Character
+type_c = refl
+
+pub type_x : first_field_in (codes ",TYPE=X") ≡ sample_with Hexadecimal
+type_x = refl
+
+pub type_p : first_field_in (codes ",TYPE=P") ≡ sample_with Packed
+type_p = refl
+
+pub type_f : first_field_in (codes ",TYPE=F") ≡ sample_with Fullword
+type_f = refl
+
+pub type_h : first_field_in (codes ",TYPE=H") ≡ sample_with Halfword
+type_h = refl
+
+pub type_of_no_bytes : first_field_in (codes ",TYPE=Z") ≡ Err (G3 5)
+type_of_no_bytes = refl
+
+pub type_in_brackets : first_field_in (codes ",TYPE=(P)") ≡ Err (G3 5)
+type_in_brackets = refl
 
 -- a parent that is no name
 pub number_for_parent : dbd_of (source_with dataset (codes "         SEGM  NAME=COURSE,PARENT=1,BYTES=8\n") field end) ≡ Err (G4 3)

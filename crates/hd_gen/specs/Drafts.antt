@@ -1,6 +1,7 @@
 -- What a source says so far, statement by statement.
 use Rattle.std.specs.Prelude.{ℕ, ◌+◌, List, [], ◌∷◌, ◌++◌, take, Bool, true, false, ◌&&◌, Option, Some, None, option_map, position, Result, Ok, Err, bytes_eq}
-use Rattle.std.specs.Option.{option_map_or, option_or}
+use Rattle.std.specs.Option.{option_map_or, option_or, unwrap_or}
+use Rattle.hd_dbd.specs.declared.hierarchy.DataType.TheVariants.{Character}
 use Rattle.hd_dbd.specs.declared.hierarchy.FreeSpace.{FreeSpace}
 use Rattle.hd_dbd.specs.declared.hierarchy.Key.{Key}
 use Rattle.hd_dbd.specs.Types.{SegmentType, View}
@@ -55,10 +56,13 @@ segment_type types g name len =
 abbrev pub key_given : Given → ℕ → ℕ → Option Key
 key_given g start len = option_map (λ u. record { start = start; length = len; unique = u }) g.unique
 
--- a type with one field more, which may be its key
+-- a type with one field more, which may be its key; without TYPE its bytes are characters
 abbrev pub with_type_field : Given → List ℕ → ℕ → ℕ → SegmentType → SegmentType
 with_type_field g name start len t =
-    record t { fields = t.fields ++ record { name = name; start = start; length = len } ∷ []; key = option_or (key_given g start len) t.key }
+    record t {
+      fields = t.fields ++ record { name = name; start = start; length = len; data_type = unwrap_or g.data_type Character } ∷ [];
+      key = option_or (key_given g start len) t.key;
+    }
 
 -- a PCB that sees one type more
 abbrev pub with_seen : Given → List ℕ → View → View

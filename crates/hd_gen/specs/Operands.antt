@@ -4,6 +4,7 @@ use Rattle.std.specs.Option.{option_map_or}
 use Rattle.std.specs.List.{list_any}
 use Rattle.std.specs.Result.{result_map_both}
 use Rattle.hd_macro.specs.Statements.{OperandText}
+use Rattle.hd_dbd.specs.declared.hierarchy.DataType.{DataType}
 use Rattle.hd_dbd.specs.declared.hierarchy.FreeSpace.{FreeSpace}
 use Rattle.hd_dbd.specs.declared.hierarchy.Rule.{Rule}
 use Rattle.hd_dbd.specs.declared.hierarchy.Rule.TheVariants.{Last}
@@ -18,7 +19,7 @@ use Rattle.hd_gen.specs.declared.table.Meaning.TheVariants as meanings
 use Rattle.hd_gen.specs.declared.value.Wrong.{Wrong}
 use Rattle.hd_gen.specs.declared.value.Wrong.TheVariants.{NotSupported, IllFormed}
 use Rattle.hd_gen.specs.Tables.{look_up, operands_of, main_keyword, positionings, usual_block_size}
-use Rattle.hd_gen.specs.Values.{Value, value_in, only_if, name_in, number_in, bytes_in, is_access, block_size_in, free_space_in, parent_in, seen_parent_in, twins_in, rule_in, field_in, is_data_type, index_in, is_word, database_in, letters_in}
+use Rattle.hd_gen.specs.Values.{Value, value_in, only_if, name_in, number_in, bytes_in, is_access, block_size_in, free_space_in, parent_in, seen_parent_in, twins_in, rule_in, field_in, data_type_in, index_in, is_word, database_in, letters_in}
 use Rattle.hd_lines.specs.Reading.{then}
 
 -- What the operands of a statement give. Without them POINTER is TWIN, RULES is LAST, a PARENT is 0, the child pointer is
@@ -37,6 +38,7 @@ pub record Given : Type 0 where
   -- for a sequence field, whether it is unique
   pub unique : Option Bool
   pub start : Option ℕ
+  pub data_type : Option DataType
   -- TYPE=DB stands in a PCB
   pub has_type : Bool
   pub has_database_name : Bool
@@ -56,6 +58,7 @@ nothing_given =
       rule = Last;
       unique = None;
       start = None;
+      data_type = None;
       has_type = false;
       has_database_name = false;
       procopt = None;
@@ -79,7 +82,7 @@ with_value c meanings.Twins g v = then (twins_in c.is_root v) (λ x. Ok (record 
 with_value c meanings.Rules g v = then (rule_in v) (λ x. Ok (record g { rule = x }))
 with_value c meanings.FieldName g v = then (field_in v) (λ f. with_field c.has_key g f)
 with_value c meanings.Start g v = then (number_in v) (λ x. Ok (record g { start = Some x }))
-with_value c meanings.DataType g v = then (only_if (is_data_type v)) (λ _. Ok g)
+with_value c meanings.DataType g v = then (data_type_in v) (λ k. Ok (record g { data_type = Some k }))
 with_value c meanings.IndexSegment g v = then (index_in v) (λ x. Ok (record g { name = Some x }))
 with_value c meanings.IndexPointer g v = then (only_if (is_word (codes "INDX" ∷ []) v)) (λ _. Ok g)
 with_value c meanings.DatabaseType g v = then (only_if (is_word (codes "DB" ∷ []) v)) (λ _. Ok (record g { has_type = true }))

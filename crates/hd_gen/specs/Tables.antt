@@ -1,5 +1,7 @@
 -- The statements of DBD and PSB sources, their order, and their operands.
 use Rattle.std.specs.Prelude.{ℕ, List, [], ◌∷◌, Bool, true, false, cond, Option, Some, None, option_map, find, bytes_eq, codes}
+use Rattle.hd_dbd.specs.declared.hierarchy.DataType.{DataType}
+use Rattle.hd_dbd.specs.declared.hierarchy.DataType.TheVariants as types
 use Rattle.hd_dbd.specs.declared.hierarchy.Rule.{Rule}
 use Rattle.hd_dbd.specs.declared.hierarchy.Rule.TheVariants.{First, Last, Here}
 use Rattle.hd_gen.specs.declared.table.Operation.{Operation}
@@ -122,12 +124,15 @@ twin_rules = entry (codes "FIRST") First ∷ entry (codes "LAST") Last ∷ entry
 abbrev pub sequence_fields : List (Entry Bool)
 sequence_fields = entry (codes "U") true ∷ entry (codes "M") false ∷ []
 
--- the words that may stand behind HIDAM in ACCESS, for TYPE of a FIELD, and for POS
+-- TYPE of a FIELD: what its bytes are
+abbrev pub data_types : List (Entry DataType)
+data_types =
+    entry (codes "C") types.Character ∷ entry (codes "X") types.Hexadecimal ∷ entry (codes "P") types.Packed
+    ∷ entry (codes "F") types.Fullword ∷ entry (codes "H") types.Halfword ∷ []
+
+-- the words that may stand behind HIDAM in ACCESS, and for POS
 abbrev pub access_methods : List (List ℕ)
 access_methods = codes "VSAM" ∷ codes "OSAM" ∷ []
-
-abbrev pub data_types : List (List ℕ)
-data_types = codes "C" ∷ codes "X" ∷ codes "P" ∷ codes "F" ∷ codes "H" ∷ []
 
 abbrev pub positionings : List (List ℕ)
 positionings = codes "S" ∷ codes "SINGLE" ∷ []

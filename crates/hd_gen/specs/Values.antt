@@ -5,6 +5,7 @@ use Rattle.std.specs.Option.{ok_or, option_map_or}
 use Rattle.std.specs.List.{list_any, list_all, slice_split, position_or_len}
 use Rattle.hd_lines.specs.Digits.{is_digit, value_of}
 use Rattle.hd_lines.specs.Reading.{then}
+use Rattle.hd_dbd.specs.declared.hierarchy.DataType.{DataType}
 use Rattle.hd_dbd.specs.declared.hierarchy.FreeSpace.{FreeSpace}
 use Rattle.hd_dbd.specs.declared.hierarchy.Rule.{Rule}
 use Rattle.hd_dbd.specs.Naming.{is_name}
@@ -183,9 +184,9 @@ field_in (listed (three w s u)) =
 field_in value = Err NotSupported
 
 -- TYPE of a FIELD: C, X, P, F or H
-abbrev pub is_data_type : Value → Bool
-is_data_type (word w) = is_one_of data_types w
-is_data_type value = false
+abbrev pub data_type_in : Value → Result DataType Wrong
+data_type_in (word w) = ok_or (look_up data_types w) NotSupported
+data_type_in value = Err NotSupported
 
 -- NAME of an LCHILD: (segment,dbd)
 abbrev pub index_in : Value → Result (List ℕ) Wrong

@@ -6,7 +6,7 @@ ghost use Rattle.hd_gen.specs.Drafts.{empty_draft, code_of, segment_type, with_l
 use crate::fault::GenFault;
 use crate::given::Given;
 use crate::table::Operation;
-use hd_dbd::{Field, FreeSpace, Key, Name8, Pcb, SegType, Sens};
+use hd_dbd::{DataType, Field, FreeSpace, Key, Name8, Pcb, SegType, Sens};
 use std::alloc::Global;
 use std::marker::Model;
 
@@ -188,25 +188,26 @@ fn with_field(line: usize, mut draft: Draft, given: &Given<'_>) -> Result<Draft,
     let Some(start) = given.start else {
         return Err(GenFault::G5(line));
     };
-    let field = Field {
-        name,
-        start,
-        length,
-    };
-    add_field(&mut draft.types, field, given)?;
+    add_field(&mut draft.types, name, start, length, given)?;
     Ok(draft)
 }
 
 /// Gives the last type one field more.
 #[tactic(auto, using(crate::proofs::Lasts::with_last_is))]
-fn add_field(types: &mut Vec<SegType>, field: Field, given: &Given<'_>) -> Result<(), GenFault>
-    ensures types { IfOk result (λ _. types.new.items ≡ with_last (λ t. with_type_field given.now field.name field.start field.length t) types.old.items) }
+fn add_field(
+    types: &mut Vec<SegType>,
+    name: Name8,
+    start: u32,
+    length: u32,
+    given: &Given<'_>,
+) -> Result<(), GenFault>
+    ensures types { IfOk result (λ _. types.new.items ≡ with_last (λ t. with_type_field given.now name start length t) types.old.items) }
     ensures memory { IfErr result (λ e. e ≡ GenFault.Memory) }
 {
     let Some(segment) = types.pop() else {
         return Ok(());
     };
-    let segment = with_type_field(segment, field, given)?;
+    let segment = with_type_field(segment, name, start, length, given)?;
     push(types, segment)
 }
 
@@ -221,22 +222,30 @@ fn push<T: Drop>(items: &mut Vec<T>, item: T) -> Result<(), GenFault>
     }
 }
 
-/// A type with one field more, which may be its key.
+/// A type with one field more, which may be its key; without TYPE its bytes are characters.
 fn with_type_field(
     mut segment: SegType,
-    field: Field,
+    name: Name8,
+    start: u32,
+    length: u32,
     given: &Given<'_>,
 ) -> Result<SegType, GenFault>
-    ensures field { IfOk result (λ t. t ≡ with_type_field given.now field.name field.start field.length segment) }
+    ensures field { IfOk result (λ t. t ≡ with_type_field given.now name start length segment) }
     ensures memory { IfErr result (λ e. e ≡ GenFault.Memory) }
 {
     if let Some(unique) = given.unique {
         segment.key = Some(Key {
-            start: field.start,
-            length: field.length,
+            start,
+            length,
             unique,
         });
     }
+    let field = Field {
+        name,
+        start,
+        length,
+        data_type: given.data_type.unwrap_or(DataType::Character),
+    };
     push(&mut segment.fields, field)?;
     Ok(segment)
 }

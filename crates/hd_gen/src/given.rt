@@ -8,13 +8,13 @@ ghost use Rattle.hd_lines.specs.Reading.{then};
 
 use crate::fault::GenFault;
 use crate::operand::{
-    FieldName, Parent, block_size_in, bytes_in, database_in, field_in, free_space_in, index_in,
-    is_access, is_data_type, is_database_type, is_index_pointer, is_positioning, letters_in,
-    name_in, number_in, parent_in, rule_in, seen_parent_in, twins_in,
+    FieldName, Parent, block_size_in, bytes_in, data_type_in, database_in, field_in, free_space_in,
+    index_in, is_access, is_database_type, is_index_pointer, is_positioning, letters_in, name_in,
+    number_in, parent_in, rule_in, seen_parent_in, twins_in,
 };
 use crate::table::{Meaning, Operation, main_keyword, meaning_of};
 use crate::value::{Value, Wrong, value_in};
-use hd_dbd::{FreeSpace, Name8, Rule};
+use hd_dbd::{DataType, FreeSpace, Name8, Rule};
 use hd_macro::Operand;
 use std::marker::Model;
 
@@ -43,6 +43,7 @@ pub(crate) struct Given<'a> {
     /// For a sequence field, whether it is unique.
     pub unique: Option<bool>,
     pub start: Option<u32>,
+    pub data_type: Option<DataType>,
     /// TYPE=DB stands in a PCB.
     pub has_type: bool,
     pub has_database_name: bool,
@@ -67,6 +68,7 @@ impl<'a> Model for Given<'a> {
       rule = g.rule;
       unique = g.unique;
       start = g.start;
+      data_type = g.data_type;
       has_type = g.has_type;
       has_database_name = g.has_database_name;
       procopt = option_copied g.procopt;
@@ -93,6 +95,7 @@ fn nothing_given<'a>() -> Given<'a>
         rule: Rule::Last,
         unique: None,
         start: None,
+        data_type: None,
         has_type: false,
         has_database_name: false,
         procopt: None,
@@ -150,15 +153,13 @@ fn with_value<'a>(
         Meaning::Rules => given.rule = rule_in(value)?,
         Meaning::FieldName => return with_field(context.has_key, given, field_in(value)?),
         Meaning::Start => given.start = Some(number_in(value)?),
+        Meaning::DataType => given.data_type = Some(data_type_in(value)?),
         Meaning::IndexSegment => given.name = Some(index_in(value)?),
         Meaning::DatabaseType => given.has_type = only_if(is_database_type(value))?,
         Meaning::Procopt => given.procopt = Some(letters_in(value)?),
         Meaning::DatabaseName => {
             database_in(context.database, value)?;
             given.has_database_name = true;
-        }
-        Meaning::DataType => {
-            only_if(is_data_type(value))?;
         }
         Meaning::IndexPointer => {
             only_if(is_index_pointer(value))?;

@@ -3,11 +3,11 @@ ghost use Rattle.std.specs.List.{list_all};
 ghost use Rattle.std.specs.Result.{result_map_both};
 ghost use Rattle.hd_gen.specs.Shapes.{value_of, words_of};
 ghost use Rattle.hd_gen.specs.Tables.{look_up, child_pointers, twins, twin_pointers, twin_rules, sequence_fields, access_methods, data_types, positionings};
-ghost use Rattle.hd_gen.specs.Values.{word, name_of, is_one_of, name_in, number_in, bytes_in, is_access, block_size_in, free_space_in, parent_of_words, parent_in, seen_parent_in, twins_in, rule_in, field_in, is_data_type, index_in, is_word, database_in, letters_in};
+ghost use Rattle.hd_gen.specs.Values.{word, name_of, is_one_of, name_in, number_in, bytes_in, is_access, block_size_in, free_space_in, parent_of_words, parent_in, seen_parent_in, twins_in, rule_in, field_in, data_type_in, index_in, is_word, database_in, letters_in};
 ghost use Rattle.hd_lines.specs.Reading.{then};
 
 use crate::value::{Value, Words, Wrong, name_of, number_of};
-use hd_dbd::{FreeSpace, Name8, Rule};
+use hd_dbd::{DataType, FreeSpace, Name8, Rule};
 
 /// A type's parent, if it has one, and whether its parent keeps last child.
 #[derive(Clone, Copy)]
@@ -259,11 +259,27 @@ fn sequence_field(word: &[u8]) -> Option<bool>
     }
 }
 
-/// Whether this is a TYPE of a FIELD: C, X, P, F or H.
-pub(crate) fn is_data_type(value: Value<'_>) -> bool
-    ensures { result ≡ is_data_type (value_of value.entry) }
+/// TYPE of a FIELD: C, X, P, F or H.
+pub(crate) fn data_type_in(value: Value<'_>) -> Result<DataType, Wrong>
+    ensures { result ≡ data_type_in (value_of value.entry) }
 {
-    matches!(value, Value::Word(b"C" | b"X" | b"P" | b"F" | b"H"))
+    match value {
+        Value::Word(word) => data_type(word).ok_or(Wrong::NotSupported),
+        _ => Err(Wrong::NotSupported),
+    }
+}
+
+fn data_type(word: &[u8]) -> Option<DataType>
+    ensures { result ≡ look_up data_types word.now }
+{
+    match word {
+        b"C" => Some(DataType::Character),
+        b"X" => Some(DataType::Hexadecimal),
+        b"P" => Some(DataType::Packed),
+        b"F" => Some(DataType::Fullword),
+        b"H" => Some(DataType::Halfword),
+        _ => None,
+    }
 }
 
 /// The segment in NAME of an LCHILD, (segment,dbd).
