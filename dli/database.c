@@ -34,7 +34,7 @@ static const unsigned char *read_type(struct type *into, const unsigned char *at
     into->fields = at[14];
     into->field = fresh(into->fields, sizeof *into->field);
     at += 15;
-    for (unsigned place = 0; place < into->fields; place++, at += 12) {
+    for (unsigned place = 0; place < into->fields; place++, at += 13) {
         memcpy(into->field[place].name, at, 8);
         into->field[place].length = number_in(at + 10, 2);
     }

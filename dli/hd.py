@@ -15,7 +15,8 @@ decide by them; Refused is raised where the database can't answer at all, and En
 What the calls changed lasts from a commit on: session.commit(), session.close(), and the end of `with`. session.rollback() goes back to the last one, and so
 does a `with` that an exception leaves, and a program that is killed.
 
-The fields of a segment have names: part["PARTNO"] is a field's bytes, and part.changed(COLOUR="blue") the area with another value in it, padded with blanks.
+The fields of a segment have names, and a value is what its TYPE in the DBD says: part["COLOUR"] is text where that is C, and stock["ONHAND"] a number where it is
+P, F or H; part.changed(COLOUR="blue") is the area with another value. Field says which values there are.
 """
 import contextlib
 import os
@@ -25,8 +26,56 @@ from collections import namedtuple
 
 __all__ = ["open", "ssa", "Session", "Pcb", "Answer", "Field", "SegmentType", "Refused", "Ended"]
 
-Field = namedtuple("Field", "name start length")
-Field.__doc__ = "A field: its name, the place of its first byte in the segment, from 1, and its length in bytes."
+
+class Field(namedtuple("Field", "name start length type")):
+    """A field: its name, the place of its first byte in the segment, from 1, its length in bytes, and the letter of its TYPE.
+
+    C: text, or bytes, of at most its length; read as text without the blanks at its end.
+    X: bytes, or text, of at most its length; read as all its bytes.
+    P: a number in packed decimal: a digit in each half of a byte but the last, which is the sign.
+    F, H: a number in binary, signed, of the field's length, the greatest byte first.
+
+    Text is in Latin-1. A value of C or X that is shorter than its field is padded with blanks.
+    """
+
+    def value(self, data):
+        """The value that a field's bytes are; ValueError where they are no number of its TYPE."""
+        if self.type == "C":
+            return data.decode("latin-1").rstrip(" ")
+        if self.type == "X":
+            return data
+        number = None
+        if len(data) == self.length:
+            number = _packed_number(data) if self.type == "P" else int.from_bytes(data, "big", signed=True)
+        if number is None:
+            raise ValueError(f"{self.name} holds no {self._said()}: {data!r}")
+        return number
+
+    def bytes(self, value):
+        """A field's bytes for a value, as an argument of a call wants them too; ValueError where it has no room in the field."""
+        if isinstance(value, int) == (self.type in "CX"):
+            raise TypeError(f"{self.name} takes {'text or bytes' if self.type in 'CX' else 'a number'}, TYPE={self.type}, and not {value!r}")
+        if self.type in "CX":
+            data = _bytes(value)
+            if len(data) > self.length:
+                raise ValueError(f"{self.name} has {self.length} bytes, and the value {len(data)}")
+            return data.ljust(self.length)
+        least, most = self._bounds()
+        if not least <= value <= most:
+            raise ValueError(f"{self.name} takes {least} to {most}, as a {self._said()}, and not {value}")
+        return _packed(value, self.length) if self.type == "P" else value.to_bytes(self.length, "big", signed=True)
+
+    def _bounds(self):
+        """The least and the greatest number that the field has room for."""
+        if self.type == "P":
+            most = 10 ** (2 * self.length - 1) - 1
+            return -most, most
+        return -(1 << (8 * self.length - 1)), (1 << (8 * self.length - 1)) - 1
+
+    def _said(self):
+        return f"{'packed' if self.type == 'P' else 'binary'} number of {self.length} bytes"
+
+
 SegmentType = namedtuple("SegmentType", "name level length fields")
 SegmentType.__doc__ = "A segment type: its name, its level from 1, the most bytes that a segment has, and its fields by name."
 
@@ -36,8 +85,8 @@ BLANK = "  "
 class Answer(namedtuple("Answer", "status level segment key area")):
     """What a call answers: status, level, segment's name, concatenated key, and the bytes of its I/O area.
 
-    answer["NAME"] is a field's bytes; KeyError where the segment's type has no such field. answer.fields has the fields by name. They are those of one
-    segment: of an area that a path call filled with several they are of no use.
+    answer["NAME"] is a field's value by its TYPE (see Field); KeyError where the segment's type has no such field, ValueError where a field holds no number of its
+    TYPE. answer.fields has the fields by name. They are those of one segment: of an area that a path call filled with several they are of no use.
     """
 
     fields = {}
@@ -46,17 +95,17 @@ class Answer(namedtuple("Answer", "status level segment key area")):
         if not isinstance(name, str):
             return super().__getitem__(name)
         field = self.fields[name]
-        return self.area[field.start - 1 : field.start - 1 + field.length]
+        return field.value(self.area[field.start - 1 : field.start - 1 + field.length])
 
     def changed(self, **values):
-        """The area with other values in some fields, each padded with blanks behind; ValueError where one is longer than its field."""
+        """The area with other values in some fields, by their TYPEs (see Field); ValueError where a value has no room in its field, or the area lacks the field."""
         area = bytearray(self.area)
         for name, value in values.items():
             field = self.fields[name]
-            value = _bytes(value)
-            if len(value) > field.length:
-                raise ValueError(f"{name} has {field.length} bytes, and the value {len(value)}")
-            area[field.start - 1 : field.start - 1 + field.length] = value.ljust(field.length)
+            end = field.start - 1 + field.length
+            if end > len(area):
+                raise ValueError(f"{name} ends at byte {end}, and the area has {len(area)}")
+            area[field.start - 1 : end] = field.bytes(value)
         return bytes(area)
 
 
@@ -78,7 +127,23 @@ class Ended(Exception):
 
 
 def _bytes(text):
+    """The bytes of text or of bytes. A number has none without a field, which says how it is written."""
+    if isinstance(text, int):
+        raise TypeError(f"text or bytes are wanted, and not {text}: Field.bytes has those of a number")
     return text.encode("latin-1") if isinstance(text, str) else bytes(text)
+
+
+def _packed_number(data):
+    """The number of a packed decimal, or None: the last half byte is the sign, A, C, E and F for plus, B and D for minus."""
+    digits = data.hex()
+    if not digits or not digits[:-1].isdecimal() or digits[-1] not in "abcdef":
+        return None
+    return -int(digits[:-1]) if digits[-1] in "bd" else int(digits[:-1])
+
+
+def _packed(number, length):
+    """A number as a packed decimal, with C or D for its sign."""
+    return bytes.fromhex(f"{abs(number):0{2 * length - 1}}{'d' if number < 0 else 'c'}")
 
 
 def _name(text):
@@ -92,8 +157,8 @@ def _name(text):
 def ssa(segment, codes="", **fields):
     """A segment search argument: a segment, its command codes, and fields that are to be equal to values.
 
-    ssa("PART") is any part, ssa("PART", "D", PARTNO="CG2040") is part CG2040 with its bytes in the area. An argument of another form is written by
-    hand: b"PART    (PARTNO  >=CG2040&COLOUR  = steel   )".
+    ssa("PART") is any part, ssa("PART", "D", PARTNO="CG2040") is part CG2040 with its bytes in the area. A value is text or bytes, as long as its field:
+    Field.bytes makes them of any value. An argument of another form is written by hand: b"PART    (PARTNO  >=CG2040&COLOUR  = steel   )".
     """
     text = _name(segment)
     if codes:
@@ -107,7 +172,7 @@ _COMMIT, _ROLL_BACK, _DONE = 2, 3, 6
 
 
 class Session:
-    """A program's view of a database, while `hd serve` has its volume open."""
+    """A program's view of a database, while `hd serve` has its volume open: its segment types (types) and its PCBs (pcbs), each in the order of its source."""
 
     def __init__(self, dbd, psb, volume, program=None):
         words = [program or os.environ.get("HD", "hd"), "serve", "--commit-on-request", dbd, psb, volume]
@@ -142,9 +207,9 @@ class Session:
             at += 15
             fields = {}
             for _ in range(count):
-                field, start, length = struct.unpack_from(">8sHH", hello, at)
-                fields[field.decode().rstrip()] = Field(field.decode().rstrip(), start, length)
-                at += 12
+                field, start, length, letter = struct.unpack_from(">8sHHc", hello, at)
+                fields[field.decode().rstrip()] = Field(field.decode().rstrip(), start, length, letter.decode())
+                at += 13
             self.types.append(SegmentType(name.decode().rstrip(), level, most, fields))
         self._fields = {type.name: type.fields for type in self.types}
         self.pcbs = []
@@ -221,7 +286,7 @@ class Session:
 
 
 class Pcb:
-    """A program communication block: a position in a database, with the calls that a program makes by it."""
+    """A program communication block: a position in a database, with the calls that a program makes by it. It has its number, its database and its PROCOPT."""
 
     def __init__(self, session, number, database, procopt):
         self.session, self.number, self.database, self.procopt = session, number, database, procopt

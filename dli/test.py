@@ -3,8 +3,8 @@
 
     dli/test.py FOLDER      FOLDER has hdrun, as `make dli` leaves it in bin; hd is looked for there too
 
-Every program's calls are played once more as a deck over the volume that it began with, and answer the same. Then programs that commit and take back, programs that die, servers that
-are killed and two programs at once are tried. It wants gcc, cobc and python3, and installs nothing.
+Every program's calls are played once more as a deck over the volume that it began with, and answer the same. Then fields by their names in Python, programs that commit and take back,
+programs that die, servers that are killed and two programs at once are tried. It wants gcc, cobc and python3, and installs nothing.
 """
 import os
 import random
@@ -16,6 +16,10 @@ import tempfile
 import time
 
 HERE = os.path.dirname(os.path.abspath(__file__))
+sys.dont_write_bytecode = True
+sys.path.insert(0, HERE)
+import hd
+
 SAMPLES = os.path.join(HERE, "samples")
 PARTS = os.path.join(os.path.dirname(HERE), "examples", "parts")
 
@@ -41,6 +45,7 @@ class Place:
 
     def __init__(self, folder, programs):
         self.folder = folder
+        self.programs = programs
         self.environment = dict(
             os.environ,
             PATH=programs + ":" + os.environ["PATH"],
@@ -282,7 +287,7 @@ with hd.open(*sys.argv[1:]) as session:
     for number in range(11, 15):
         insert(number)
     session.rollback()
-    print(pcb.gn()["PARTNO"].decode())
+    print(pcb.gn()["PARTNO"])
     for number in range(11, 13):
         insert(number)
     session.commit()
@@ -290,6 +295,169 @@ with hd.open(*sys.argv[1:]) as session:
     print("back", flush=True)
     raise ValueError("an exception leaves the with")
 """
+
+
+KINDS_DBD = """         DBD   NAME=KINDS,ACCESS=(HIDAM,VSAM)
+         DATASET DD1=KINDSDD,SIZE=512
+         SEGM  NAME=KIND,PARENT=0,BYTES=21
+         FIELD NAME=(NUMBER,SEQ,U),BYTES=2,START=1,TYPE=H
+         FIELD NAME=TEXT,BYTES=4,START=3,TYPE=C
+         FIELD NAME=BITS,BYTES=3,START=7,TYPE=X
+         FIELD NAME=AMOUNT,BYTES=3,START=10,TYPE=P
+         FIELD NAME=SMALL,BYTES=1,START=13,TYPE=P
+         FIELD NAME=WHOLE,BYTES=4,START=14,TYPE=F
+         FIELD NAME=HALF,BYTES=2,START=18,TYPE=H
+         FIELD NAME=PLAIN,BYTES=2,START=20
+         DBDGEN
+"""
+
+KINDS_PSB = """         PCB   TYPE=DB,DBDNAME=KINDS,PROCOPT=A
+         SENSEG NAME=KIND,PARENT=0
+         PSBGEN LANG=COBOL,PSBNAME=KINDSP
+"""
+
+# The bytes of a segment behind its number, with all fields blank or 0; and the place in a segment at which each field begins
+KIND = b"    " + bytes(3) + b"\0\0\x0c" + b"\x0c" + bytes(4) + bytes(2) + b"  "
+BEGIN = {"TEXT": 2, "BITS": 6, "AMOUNT": 9, "SMALL": 12, "WHOLE": 13, "HALF": 17, "PLAIN": 19}
+
+# A field, its bytes and its value: read and written; only read, since for the value other bytes are written; only written, since for the bytes another value is read. A
+# packed decimal has a digit in each half of a byte, and in the last one a sign: C, A, E and F for plus, D and B for minus. A binary number is in two's complement.
+VALUES = r"""
+TEXT    both    41422020    'AB'
+TEXT    both    41424344    'ABCD'
+TEXT    both    20204120    '  A'
+TEXT    both    20202020    ''
+TEXT    both    c4d62020    'ÄÖ'
+TEXT    both    41000000    'A\0\0\0'
+TEXT    write   41422020    b'AB'
+TEXT    write   41422020    'AB '
+BITS    both    0020ff      b'\0 \xff'
+BITS    both    414220      b'AB '
+BITS    write   414220      'AB'
+BITS    write   ff2020      b'\xff'
+PLAIN   both    4120        'A'
+AMOUNT  both    00000c      0
+AMOUNT  both    00001c      1
+AMOUNT  both    00001d      -1
+AMOUNT  both    12345c      12345
+AMOUNT  both    12345d      -12345
+AMOUNT  both    99999c      99999
+AMOUNT  both    99999d      -99999
+AMOUNT  read    00027a      27
+AMOUNT  read    00027b      -27
+AMOUNT  read    00027e      27
+AMOUNT  read    00027f      27
+AMOUNT  read    00000d      0
+SMALL   both    9c          9
+SMALL   both    9d          -9
+WHOLE   both    00000001    1
+WHOLE   both    00000100    256
+WHOLE   both    7fffffff    2147483647
+WHOLE   both    80000000    -2147483648
+WHOLE   both    ffffffff    -1
+WHOLE   both    fffffefe    -258
+HALF    both    0102        258
+HALF    both    7fff        32767
+HALF    both    8000        -32768
+HALF    both    ffff        -1
+"""
+
+# Bytes that are no value of their field, and values that a field does not take, with the error that is raised and what it says
+NO_VALUES = r"""
+AMOUNT  read    202020      ValueError  AMOUNT holds no packed number of 3 bytes: b'   '
+AMOUNT  read    000000      ValueError  AMOUNT holds no packed number of 3 bytes: b'\x00\x00\x00'
+AMOUNT  read    000279      ValueError  AMOUNT holds no packed number of 3 bytes: b'\x00\x02y'
+AMOUNT  read    0a027c      ValueError  AMOUNT holds no packed number of 3 bytes: b'\n\x02|'
+AMOUNT  read    f0f2c7      ValueError  AMOUNT holds no packed number of 3 bytes: b'\xf0\xf2\xc7'
+SMALL   read    cc          ValueError  SMALL holds no packed number of 1 bytes: b'\xcc'
+AMOUNT  write   100000      ValueError  AMOUNT takes -99999 to 99999
+AMOUNT  write   -100000     ValueError  AMOUNT takes -99999 to 99999
+SMALL   write   10          ValueError  SMALL takes -9 to 9
+WHOLE   write   2147483648  ValueError  WHOLE takes -2147483648 to 2147483647
+WHOLE   write   -2147483649 ValueError  WHOLE takes -2147483648 to 2147483647
+HALF    write   32768       ValueError  HALF takes -32768 to 32767
+HALF    write   -32769      ValueError  HALF takes -32768 to 32767
+TEXT    write   'ABCDE'     ValueError  TEXT has 4 bytes, and the value 5
+BITS    write   b'ABCD'     ValueError  BITS has 3 bytes, and the value 4
+TEXT    write   5           TypeError   TEXT takes text or bytes, TYPE=C, and not 5
+BITS    write   5           TypeError   BITS takes text or bytes, TYPE=X, and not 5
+AMOUNT  write   '27'        TypeError   AMOUNT takes a number, TYPE=P, and not '27'
+WHOLE   write   2.5         TypeError   WHOLE takes a number, TYPE=F, and not 2.5
+HALF    write   b'ab'       TypeError   HALF takes a number, TYPE=H, and not b'ab'
+NOWHERE write   5           KeyError    NOWHERE
+"""
+
+
+def table(text):
+    """The lines of a table, in four columns."""
+    return [line.split(None, 3) for line in text.split("\n") if line]
+
+
+def raised(call):
+    """The error that a call raises, with what it says."""
+    try:
+        return f"no error, but {call()!r}"
+    except (ValueError, TypeError, KeyError) as error:
+        return f"{type(error).__name__} {error}"
+
+
+class Row:
+    """A segment KIND, whose bytes are stored and read again."""
+
+    def __init__(self, session, number):
+        self.pcb, self.number = session.pcb(1), number.to_bytes(2, "big", signed=True)
+        self.this = hd.ssa("KIND", NUMBER=session.types[0].fields["NUMBER"].bytes(number))
+        self.blank = self.number + KIND
+        self.pcb.isrt(hd.ssa("KIND"), area=self.blank)
+
+    def area(self, field, data):
+        """The blank segment with these bytes in a field."""
+        begin = BEGIN[field]
+        return self.blank[:begin] + data + self.blank[begin + len(data) :]
+
+    def stored(self, area):
+        self.pcb.ghu(self.this)
+        self.pcb.repl(area)
+        return self.pcb.ghu(self.this)
+
+
+def fields(place):
+    """Fields by their names in Python, by the TYPE of each: what is read of bytes, and what is written for a value."""
+    for name, text in (("kinds.dbd", KINDS_DBD), ("kinds.psb", KINDS_PSB)):
+        with open(place.path(name), "w", encoding="ascii") as file:
+            file.write(text)
+    made = [place.run("hd", "stream", "kinds.dbd", "/dev/null", "kinds.stream"), place.run("hd", "reload", "kinds.dbd", "kinds.stream", "kinds.volume", "64")]
+    expect("a volume for fields", [done.returncode for done in made] == [0, 0], made[0].stdout + made[1].stdout)
+    words = [place.path(name) for name in ("kinds.dbd", "kinds.psb", "kinds.volume")]
+    with hd.open(*words, program=os.path.join(place.programs, "hd")) as session:
+        told = list(session.types[0].fields.values())
+        expect("each TYPE is told", "".join(field.type for field in told) == "HCXPPFHC" and told[5] == ("WHOLE", 14, 4, "F"), told)
+        lines = table(VALUES)
+        for number, (field, ways, data, value) in enumerate(lines, -len(lines) // 2):
+            row, value = Row(session, number), eval(value)
+            area = row.area(field, bytes.fromhex(data))
+            expect(f"the key {number}", row.stored(row.blank)["NUMBER"] == number)
+            if ways != "write":
+                found = row.stored(area)[field]
+                expect(f"{field} of {data}", type(found) is type(value) and found == value, f"{value!r} is wanted, {found!r} seen")
+            if ways != "read":
+                found = row.stored(row.stored(row.blank).changed(**{field: value})).area
+                expect(f"{field} with {value!r}", found == area, f"{area!r} is wanted, {found!r} seen")
+        row = Row(session, 1000)
+        for field, way, given, error in table(NO_VALUES):
+            if way == "read":
+                said = raised(lambda: row.stored(row.area(field, bytes.fromhex(given)))[field])
+            else:
+                said = raised(lambda: row.stored(row.blank).changed(**{field: eval(given)}))
+            kind, words = error.split(None, 1)
+            expect(f"{way} {given} in {field}", said.startswith(kind) and words in said, said)
+        expect("a number as an argument", raised(lambda: hd.ssa("KIND", NUMBER=5)).startswith("TypeError text or bytes are wanted, and not 5"))
+        replaced = row.pcb.repl(row.blank)
+        expect("an answer without an area", raised(lambda: replaced["WHOLE"]) == "ValueError WHOLE holds no binary number of 4 bytes: b''", replaced)
+        expect("the same, changed", raised(lambda: replaced.changed(WHOLE=1)) == "ValueError WHOLE ends at byte 17, and the area has 0", replaced)
+        both = row.stored(row.stored(row.blank).changed(AMOUNT=-7, TEXT="neg"))
+        expect("two fields at once", (both["AMOUNT"], both["TEXT"], both["WHOLE"]) == (-7, "neg", 0), both)
+    expect("the volume of fields passes", place.run("hd", "check", "kinds.dbd", "kinds.volume").returncode == 0)
 
 
 def full_disk(place):
@@ -320,6 +488,7 @@ def main(words):
         place = Place(folder, programs)
         place.compile()
         samples(place)
+        fields(place)
         entries(place)
         refusals(place)
         commits(place)

@@ -35,7 +35,7 @@ def hello(types, pcbs):
     told = [b"HD", number(2, 2), number(len(pcbs), 1), number(len(types), 1)]
     for name, level, varies, most, least, fields in types:
         told += [b"%-8b" % name, number(level, 1), number(varies, 1), number(most, 2), number(least, 2), number(len(fields), 1)]
-        told += [b"%-8b" % field + number(start, 2) + number(length, 2) for field, start, length in fields]
+        told += [b"%-8b" % field + number(start, 2) + number(length, 2) + letter for field, start, length, letter in fields]
     for database, letters, segments, key in pcbs:
         told += [b"%-8b" % database, b"%-4b" % letters[:4], number(segments, 2), number(key, 2)]
     return frame(*told)
@@ -73,13 +73,30 @@ PSB = b"""         PCB   TYPE=DB,DBDNAME=EDU,PROCOPT=AP
 
 HELLO = hello(
     [
-        (b"COURSE", 1, 0, 8, 8, [(b"NUM", 1, 3)]),
-        (b"CLASS", 2, 0, 4, 4, [(b"ED", 1, 2)]),
-        (b"STUD", 3, 0, 6, 6, [(b"SNAME", 1, 4)]),
+        (b"COURSE", 1, 0, 8, 8, [(b"NUM", 1, 3, b"C")]),
+        (b"CLASS", 2, 0, 4, 4, [(b"ED", 1, 2, b"C")]),
+        (b"STUD", 3, 0, 6, 6, [(b"SNAME", 1, 4, b"C")]),
         (b"BOOK", 2, 0, 5, 5, []),
     ],
     [(b"EDU", b"AP", 4, 9), (b"EDU", b"GIRDP", 3, 5)],
 )
+
+# A database with a field of each TYPE, and one of none, and what is told of it
+KINDS = b"""         DBD   NAME=KINDS,ACCESS=HIDAM
+         SEGM  NAME=KIND,PARENT=0,BYTES=300
+         FIELD NAME=(NUMBER,SEQ,U),BYTES=2,START=1,TYPE=H
+         FIELD NAME=TEXT,BYTES=256,START=3,TYPE=C
+         FIELD NAME=BITS,BYTES=3,START=259,TYPE=X
+         FIELD NAME=AMOUNT,BYTES=3,START=262,TYPE=P
+         FIELD NAME=WHOLE,BYTES=4,START=265,TYPE=F
+         FIELD NAME=PLAIN,BYTES=1,START=300
+         DBDGEN
+"""
+KINDS_PSB = b"""         PCB   TYPE=DB,DBDNAME=KINDS,PROCOPT=G
+         SENSEG NAME=KIND
+         PSBGEN
+"""
+FIELDS = [(b"NUMBER", 1, 2, b"H"), (b"TEXT", 3, 256, b"C"), (b"BITS", 259, 3, b"X"), (b"AMOUNT", 262, 3, b"P"), (b"WHOLE", 265, 4, b"F"), (b"PLAIN", 300, 1, b"C")]
 
 # Calls of all nine functions and of another, and what they answer by the rules of DL/I
 CLASS01 = b"CLASS   (ED      EQ01)"
@@ -234,6 +251,18 @@ class Trial:
             self.count.expect(what, self.serve(asked(talk)) == Done(0, told(talk), b""))
         self.place.end()
 
+    def play_types(self):
+        """The first frame tells the TYPE of each field."""
+        self.begin()
+        write("kinds.dbd", KINDS)
+        write("kinds.psb", KINDS_PSB)
+        self.place.player.run("stream", "kinds.dbd", "/dev/null", "kinds.stream")
+        self.place.player.run("reload", "kinds.dbd", "kinds.stream", "kinds.volume", "4")
+        done = self.place.player.run("serve", "kinds.dbd", "kinds.psb", "kinds.volume")
+        wanted = Done(0, hello([(b"KIND", 1, 0, 300, 300, FIELDS)], [(b"KINDS", b"G", 1, 2)]), b"")
+        self.count.expect("TYPEs in the first frame", done == wanted, f"{wanted} is wanted, {done} seen")
+        self.place.end()
+
     def play_left(self):
         """The calls leave just their rows."""
         self.begin()
@@ -325,6 +354,7 @@ def main(words):
     trial = Trial(words[0], count)
     try:
         trial.play_talks()
+        trial.play_types()
         trial.play_left()
         trial.play_cuts()
         trial.play_units()

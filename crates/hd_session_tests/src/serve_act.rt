@@ -37,10 +37,10 @@ pub const FRAMES: &[&[u8]] = &[
 ];
 
 /// The frame that tells the sample and its program, and those of the answers, by the rules of DL/I.
-pub const ANSWERS: &[u8] = b"\0\0\0\x86HD\0\x02\x02\x04\
-    COURSE  \x01\0\0\x08\0\x08\x01NUM     \0\x01\0\x03\
-    CLASS   \x02\0\0\x04\0\x04\x01ED      \0\x01\0\x02\
-    STUD    \x03\0\0\x06\0\x06\x01SNAME   \0\x01\0\x04\
+pub const ANSWERS: &[u8] = b"\0\0\0\x89HD\0\x02\x02\x04\
+    COURSE  \x01\0\0\x08\0\x08\x01NUM     \0\x01\0\x03C\
+    CLASS   \x02\0\0\x04\0\x04\x01ED      \0\x01\0\x02C\
+    STUD    \x03\0\0\x06\0\x06\x01SNAME   \0\x01\0\x04C\
     BOOK    \x02\0\0\x05\0\x05\0\
     EDU     AP  \0\x04\0\x09\
     EDU     GIRD\0\x03\0\x05\
