@@ -40,7 +40,10 @@ pub fn note_block(
             _ => whole(Kind::Damaged),
         }
     };
-    found.blocks.push(own).map_err(|_| Refused::Memory)
+    match found.blocks.push(own) {
+        Ok(()) => Ok(()),
+        Err(_) => Err(Refused::Memory),
+    }
 }
 
 /// A block of a kind in which nothing is counted.

@@ -1,6 +1,7 @@
 //! The picture of a database: its types as a tree, one line each.
 
-use crate::text::{digits, name_text, put, put_blanks, put_count, put_left, put_number};
+use crate::ink::Ink;
+use crate::text::{digits, name_text};
 use crate::tree::{Order, branch_width, put_branches, put_passing_all};
 use hd_dbd::{Dbd, Field, Name8, Rule, SegType};
 use std::io::{self, Write};
@@ -48,39 +49,39 @@ impl Widths {
 /// Draws a database: a line with its name, its block size and the number of its types, and then a line for each type in
 /// hierarchic order, indented below its parent. Further lines have the fields that do not fit into it.
 pub fn draw_database<W: Write>(dbd: &Dbd, out: &mut W) -> io::Result<()> {
-    put_title(dbd, out)?;
+    let mut ink = Ink::new(out);
+    put_title(dbd, &mut ink);
     let widths = widths_of(dbd);
-    put_headings(&widths, out)?;
+    put_headings(&widths, &mut ink);
     for code in Order::of(dbd) {
-        put_type(dbd, code, &widths, out)?;
+        put_type(dbd, code, &widths, &mut ink);
     }
-    Ok(())
+    ink.finish()
 }
 
-fn put_title<W: Write>(dbd: &Dbd, out: &mut W) -> io::Result<()> {
-    put(out, "Database ")?;
-    out.write_all(name_text(dbd.name()))?;
-    put(out, ", blocks of ")?;
-    put_number(out, u64::from(dbd.block_size()))?;
-    put(out, " bytes, ")?;
-    let types = dbd.types().len();
-    put_number(out, types as u64)?;
-    put(
-        out,
-        if types == 1 {
-            " segment type\n\n"
-        } else {
-            " segment types\n\n"
-        },
-    )
+fn put_title<W: Write>(dbd: &Dbd, ink: &mut Ink<'_, W>) {
+    ink.put(b"Database ");
+    ink.put(name_text(dbd.name()));
+    let types = dbd.types().len() as u64;
+    ink.fill(
+        b", blocks of $ bytes, $ segment type",
+        &[u64::from(dbd.block_size()), types],
+    );
+    if types != 1 {
+        ink.put(b"s");
+    }
+    ink.put(b"\n\n");
 }
 
 /// The name of a type's key, where one of its fields is the key.
 fn key_name(segment: &SegType) -> Option<&Name8> {
     let key = segment.key?;
-    let field = segment.fields.iter().find(|field| field.start == key.start
-        && field.length == key.length)?;
-    Some(&field.name)
+    for field in &segment.fields {
+        if field.start == key.start && field.length == key.length {
+            return Some(&field.name);
+        }
+    }
+    None
 }
 
 /// Whether a field is another than the key.
@@ -89,6 +90,16 @@ fn is_other(segment: &SegType, field: &Field) -> bool {
         Some(name) => *name != field.name,
         None => true,
     }
+}
+
+/// Whether a type has a field but its key.
+fn has_others(segment: &SegType) -> bool {
+    for field in &segment.fields {
+        if is_other(segment, field) {
+            return true;
+        }
+    }
+    false
 }
 
 /// The last column of a field or key.
@@ -103,10 +114,8 @@ fn range_width(start: u32, length: u32) -> usize {
         .saturating_add(1)
 }
 
-fn put_range<W: Write>(start: u32, length: u32, out: &mut W) -> io::Result<()> {
-    put_number(out, u64::from(start))?;
-    put(out, "-")?;
-    put_number(out, last_column(start, length))
+fn put_range<W: Write>(start: u32, length: u32, ink: &mut Ink<'_, W>) {
+    ink.fill(b"$-$", &[u64::from(start), last_column(start, length)]);
 }
 
 /// How many columns the bytes of a type's segments take.
@@ -121,29 +130,31 @@ fn bytes_width(segment: &SegType) -> usize {
 }
 
 /// Writes how many bytes a type's segments have, and where they vary the fewest before.
-fn put_bytes<W: Write>(segment: &SegType, widths: &Widths, out: &mut W) -> io::Result<()> {
-    put_blanks(out, widths.bytes.saturating_sub(bytes_width(segment)))?;
+fn put_bytes<W: Write>(segment: &SegType, widths: &Widths, ink: &mut Ink<'_, W>) {
+    ink.blanks(widths.bytes.saturating_sub(bytes_width(segment)));
     if let Some(least) = segment.least {
-        put_number(out, u64::from(least))?;
-        put(out, "-")?;
+        ink.fill(b"$-", &[u64::from(least)]);
     }
-    put_number(out, u64::from(segment.length))
+    ink.number(u64::from(segment.length));
 }
 
 /// The widths, with room for one type more.
 fn widened(widths: Widths, level: u8, segment: &SegType) -> Widths {
     let tree = branch_width(level).saturating_add(name_text(&segment.name).len());
-    let name = key_name(segment).map_or(0, |name| name_text(name).len());
-    let range = segment
-        .key
-        .map_or(0, |key| range_width(key.start, key.length));
+    let name = match key_name(segment) {
+        Some(name) => name_text(name).len(),
+        None => 0,
+    };
+    let range = match segment.key {
+        Some(key) => range_width(key.start, key.length),
+        None => 0,
+    };
     Widths {
         tree: widths.tree.max(tree),
         bytes: widths.bytes.max(bytes_width(segment)),
         name: widths.name.max(name),
         range: widths.range.max(range),
-        has_fields: widths.has_fields
-            || segment.fields.iter().any(|field| is_other(segment, field)),
+        has_fields: widths.has_fields || has_others(segment),
     }
 }
 
@@ -163,31 +174,30 @@ fn widths_of(dbd: &Dbd) -> Widths {
     widths
 }
 
-fn put_headings<W: Write>(widths: &Widths, out: &mut W) -> io::Result<()> {
-    put_left(out, b"Segment", widths.tree)?;
-    put(out, "  Level  ")?;
-    put_blanks(out, widths.bytes.saturating_sub(5))?;
-    put(out, "Bytes  ")?;
-    put_left(out, b"Key", widths.key())?;
-    put(out, "  Rule   Twins              In parent")?;
+fn put_headings<W: Write>(widths: &Widths, ink: &mut Ink<'_, W>) {
+    ink.left(b"Segment", widths.tree);
+    ink.put(b"  Level  ");
+    ink.blanks(widths.bytes.saturating_sub(5));
+    ink.put(b"Bytes  ");
+    ink.left(b"Key", widths.key());
+    ink.put(b"  Rule   Twins              In parent");
     if widths.has_fields {
-        put(out, "    Other fields")?;
+        ink.put(b"    Other fields");
     }
-    put(out, "\n")
+    ink.put(b"\n");
 }
 
 /// Writes the line of a type, and further lines for the fields that do not fit into it.
-fn put_type<W: Write>(dbd: &Dbd, code: u8, widths: &Widths, out: &mut W) -> io::Result<()> {
+fn put_type<W: Write>(dbd: &Dbd, code: u8, widths: &Widths, ink: &mut Ink<'_, W>) {
     let Some(segment) = dbd.type_of(code) else {
-        return Ok(());
+        return;
     };
-    put_tree(dbd, code, segment, widths, out)?;
-    put_key(segment, widths, out)?;
-    put_rule(segment, out)?;
-    put_twins(dbd.keeps_backward(code), out)?;
-    put_parent(dbd.keeps_last_child(code), out)?;
-    put_fields(dbd, code, segment, widths, out)?;
-    put(out, "\n")
+    put_tree(dbd, code, segment, widths, ink);
+    put_key(segment, widths, ink);
+    ink.put(rule_text(segment));
+    put_pointers(dbd.keeps_backward(code), dbd.keeps_last_child(code), ink);
+    put_fields(dbd, code, segment, widths, ink);
+    ink.put(b"\n");
 }
 
 /// Writes the branches and the name of a type, its level and its bytes.
@@ -196,68 +206,63 @@ fn put_tree<W: Write>(
     code: u8,
     segment: &SegType,
     widths: &Widths,
-    out: &mut W,
-) -> io::Result<()> {
+    ink: &mut Ink<'_, W>,
+) {
     let level = dbd.level(code);
-    put_branches(dbd, code, out)?;
+    put_branches(dbd, code, ink);
     let width = widths.tree.saturating_sub(branch_width(level));
-    put_left(out, name_text(&segment.name), width)?;
-    put_count(out, u64::from(level), 7)?;
-    put(out, "  ")?;
-    put_bytes(segment, widths, out)?;
-    put(out, "  ")
+    ink.left(name_text(&segment.name), width);
+    ink.count(u64::from(level), 7);
+    ink.put(b"  ");
+    put_bytes(segment, widths, ink);
+    ink.put(b"  ");
 }
 
-fn put_key<W: Write>(segment: &SegType, widths: &Widths, out: &mut W) -> io::Result<()> {
+fn put_key<W: Write>(segment: &SegType, widths: &Widths, ink: &mut Ink<'_, W>) {
     let Some(key) = segment.key else {
-        return put_left(out, b"none", widths.key());
+        ink.left(b"none", widths.key());
+        return;
     };
     match key_name(segment) {
-        Some(name) => put_left(out, name_text(name), widths.name)?,
-        None => put_blanks(out, widths.name)?,
+        Some(name) => ink.left(name_text(name), widths.name),
+        None => ink.blanks(widths.name),
     }
-    put(out, " ")?;
-    put_range(key.start, key.length, out)?;
+    ink.put(b" ");
+    put_range(key.start, key.length, ink);
     let width = range_width(key.start, key.length);
-    put_blanks(out, widths.range.saturating_sub(width))?;
-    put(
-        out,
+    ink.blanks(widths.range.saturating_sub(width));
+    ink.put(if key.unique {
+        b" unique    "
+    } else {
+        b" not unique"
+    });
+}
+
+/// The rule for a new twin of equal key, which a type with a unique key has no use for.
+fn rule_text(segment: &SegType) -> &'static [u8] {
+    if let Some(key) = segment.key {
         if key.unique {
-            " unique    "
-        } else {
-            " not unique"
-        },
-    )
-}
-
-/// Writes the rule for a new twin of equal key, which a type with a unique key has no use for.
-fn put_rule<W: Write>(segment: &SegType, out: &mut W) -> io::Result<()> {
-    if segment.key.is_some_and(|key| key.unique) {
-        return put(out, "         ");
+            return b"         ";
+        }
     }
-    put(
-        out,
-        match segment.rule {
-            Rule::First => "  FIRST  ",
-            Rule::Last => "  LAST   ",
-            Rule::Here => "  HERE   ",
-        },
-    )
+    match segment.rule {
+        Rule::First => b"  FIRST  ",
+        Rule::Last => b"  LAST   ",
+        Rule::Here => b"  HERE   ",
+    }
 }
 
-fn put_twins<W: Write>(backward: bool, out: &mut W) -> io::Result<()> {
-    put(
-        out,
-        if backward {
-            "forward, backward"
-        } else {
-            "forward          "
-        },
-    )
-}
-
-fn put_parent<W: Write>(last: bool, out: &mut W) -> io::Result<()> {
-    put(out, if last { "  first, last" } else { "  first" })
+/// Writes which pointers twins have, and which their parent has.
+fn put_pointers<W: Write>(backward: bool, last: bool, ink: &mut Ink<'_, W>) {
+    ink.put(if backward {
+        b"forward, backward"
+    } else {
+        b"forward          "
+    });
+    ink.put(b"  first");
+    if last {
+        ink.put(b", last");
+    }
 }
 
 /// Writes the fields of a type but the key, as many as fit into a line.
@@ -266,17 +271,18 @@ fn put_fields<W: Write>(
     code: u8,
     segment: &SegType,
     widths: &Widths,
-    out: &mut W,
-) -> io::Result<()> {
+    ink: &mut Ink<'_, W>,
+) {
     let mut used = 0;
     for field in &segment.fields {
         if is_other(segment, field) {
-            put_gap(dbd, code, widths, field, used, out)?;
-            put_field(field, out)?;
+            put_gap(dbd, code, widths, field, used, ink);
+            ink.put(name_text(&field.name));
+            ink.put(b" ");
+            put_range(field.start, field.length, ink);
             used = used_behind(widths, field, used);
         }
     }
-    Ok(())
 }
 
 /// The columns of a field.
@@ -314,21 +320,14 @@ fn put_gap<W: Write>(
     widths: &Widths,
     field: &Field,
     used: usize,
-    out: &mut W,
-) -> io::Result<()> {
+    ink: &mut Ink<'_, W>,
+) {
     if used == 0 {
-        let blanks = if dbd.keeps_last_child(code) { 2 } else { 8 };
-        return put_blanks(out, blanks);
+        ink.blanks(if dbd.keeps_last_child(code) { 2 } else { 8 });
+    } else if fits_behind(widths, field, used) {
+        ink.put(b", ");
+    } else {
+        ink.put(b",\n");
+        put_passing_all(dbd, code, widths.before_fields(), ink);
     }
-    if fits_behind(widths, field, used) {
-        return put(out, ", ");
-    }
-    put(out, ",\n")?;
-    put_passing_all(dbd, code, widths.before_fields(), out)
-}
-
-fn put_field<W: Write>(field: &Field, out: &mut W) -> io::Result<()> {
-    out.write_all(name_text(&field.name))?;
-    put(out, " ")?;
-    put_range(field.start, field.length, out)
 }

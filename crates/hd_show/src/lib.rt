@@ -6,6 +6,7 @@ mod blocks;
 mod cells;
 mod damage;
 mod database;
+mod ink;
 mod markup;
 mod seen;
 mod survey;

@@ -17,7 +17,7 @@ use hd_volume::{DATA, Volume, size_table};
 use std::alloc::Global;
 
 /// A segment that was found in a volume: the code of its type, and its key, without bytes where the type has none.
-#[derive(Debug, Drop, PartialEq, Eq)]
+#[derive(Drop)]
 pub struct Seen {
     pub code: u8,
     pub key: Vec<u8>,

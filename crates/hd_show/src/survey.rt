@@ -5,7 +5,7 @@ use hd_dbd::Dbd;
 
 /// What a block is: the header, a data block, an index block of a level, a free block, or a block that reads as none of
 /// these.
-#[derive(Clone, Copy, Debug, PartialEq, Eq)]
+#[derive(Clone, Copy, PartialEq)]
 pub enum Kind {
     Header,
     Data,
@@ -15,7 +15,7 @@ pub enum Kind {
 }
 
 /// A block: what it is, and the bytes in it that segments or entries of the index take.
-#[derive(Clone, Copy, Debug)]
+#[derive(Clone, Copy)]
 pub struct BlockUse {
     pub kind: Kind,
     pub used: u16,
@@ -24,7 +24,7 @@ pub struct BlockUse {
 /// The segments of a type: how many they are, the bytes that they take in data blocks, and of these their own; how many parents
 /// have such children, in how many twin chains they stand, and how many are in the longest. Of damage, the twin forward
 /// pointers that name no segment of the type, and the chains that come upon a segment that is passed already.
-#[derive(Clone, Copy, Debug)]
+#[derive(Clone, Copy)]
 pub struct TypeUse {
     pub segments: u32,
     pub stored: u64,
@@ -58,7 +58,7 @@ pub struct Survey {
 }
 
 /// Blocks of one kind: how many they are, and the bytes in them that segments or entries take.
-#[derive(Clone, Copy, Debug)]
+#[derive(Clone, Copy)]
 pub struct Tally {
     pub blocks: u64,
     pub used: u64,
@@ -66,7 +66,7 @@ pub struct Tally {
 
 /// The segments of a type or of all types: how many they are, the bytes that they take in data blocks, and of these the
 /// bytes of prefixes and of data, the rest being padding; and how many twin chains there are.
-#[derive(Clone, Copy, Debug)]
+#[derive(Clone, Copy)]
 pub struct TypeBytes {
     pub segments: u64,
     pub stored: u64,

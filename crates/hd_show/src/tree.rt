@@ -2,9 +2,9 @@
 
 ghost use Rattle.std.specs.Iterator.{at_most};
 
-use crate::text::{put, put_blanks};
+use crate::ink::Ink;
 use hd_dbd::Dbd;
-use std::io::{self, Write};
+use std::io::Write;
 
 /// The most levels that a database has.
 const LEVELS: usize = 15;
@@ -12,10 +12,12 @@ const LEVELS: usize = 15;
 /// The next type below the same parent, if there is one.
 fn later_sibling(dbd: &Dbd, code: u8) -> Option<u8> {
     let parent = dbd.parent_of(code)?;
-    dbd.children_of(parent)
-        .iter()
-        .copied()
-        .find(|child| *child > code)
+    for child in dbd.children_of(parent) {
+        if *child > code {
+            return Some(*child);
+        }
+    }
+    None
 }
 
 /// The codes of a database's types in hierarchic order: each type stands behind its parent, with all that is below it.
@@ -78,45 +80,30 @@ fn type_above(dbd: &Dbd, code: u8, level: u8) -> u8 {
     above
 }
 
-/// Writes the branches that pass a type on a level, to its later siblings.
-fn put_passing<W: Write>(dbd: &Dbd, code: u8, level: u8, out: &mut W) -> io::Result<()> {
-    match later_sibling(dbd, type_above(dbd, code, level)) {
-        Some(_) => put(out, "|  "),
-        None => put(out, "   "),
+/// Writes the branches that pass a type on the levels below the first, up to one, to its later siblings.
+fn put_passing<W: Write>(dbd: &Dbd, code: u8, last: u8, ink: &mut Ink<'_, W>) {
+    for level in 2..=last {
+        let passes = later_sibling(dbd, type_above(dbd, code, level)).is_some();
+        ink.put(if passes { b"|  " } else { b"   " });
     }
 }
 
 /// Writes the branches that lead to a type: three columns a level below the first.
-pub fn put_branches<W: Write>(dbd: &Dbd, code: u8, out: &mut W) -> io::Result<()> {
+pub fn put_branches<W: Write>(dbd: &Dbd, code: u8, ink: &mut Ink<'_, W>) {
     let own = dbd.level(code);
-    for level in 2..own {
-        put_passing(dbd, code, level, out)?;
+    if own >= 2 {
+        put_passing(dbd, code, own - 1, ink);
+        ink.put(b"+- ");
     }
-    if own < 2 {
-        return Ok(());
-    }
-    put(out, "+- ")
 }
 
 /// Writes the branches that pass a further line of a type, padded to a width.
-pub fn put_passing_all<W: Write>(dbd: &Dbd, code: u8, width: usize, out: &mut W) -> io::Result<()> {
+pub fn put_passing_all<W: Write>(dbd: &Dbd, code: u8, width: usize, ink: &mut Ink<'_, W>) {
     let own = dbd.level(code);
-    for level in 2..own {
-        put_passing(dbd, code, level, out)?;
-    }
-    if own >= 2 {
-        put_passing(dbd, code, own, out)?;
-    }
-    let below = if dbd.children_of(code).is_empty() {
-        b" "
-    } else {
-        b"|"
-    };
-    out.write_all(below)?;
-    put_blanks(
-        out,
-        width.saturating_sub(branch_width(own)).saturating_sub(1),
-    )
+    put_passing(dbd, code, own, ink);
+    let is_leaf = dbd.children_of(code).is_empty();
+    ink.put(if is_leaf { b" " } else { b"|" });
+    ink.blanks(width.saturating_sub(branch_width(own).saturating_add(1)));
 }
 
 /// The columns of the branches that lead to a type of a level.

@@ -35,7 +35,10 @@ pub fn note_twin(twins: &mut Vec<Twin>, address: u32, forward: u32, code: u8) ->
         named: false,
         walked: false,
     };
-    twins.push(twin).map_err(|_| Refused::Memory)
+    match twins.push(twin) {
+        Ok(()) => Ok(()),
+        Err(_) => Err(Refused::Memory),
+    }
 }
 
 /// Counts the twin chains of all types. The segments stand in the order of their addresses; each is passed once.
