@@ -4,7 +4,7 @@
 # FORMATS; `make program-test` plays hd over many cases of words, files and standard input; `make install-test` installs it into folders of its own; `make serve-test` plays frames of `hd serve`, and `make commits-test` programs that commit, take back and are killed; `make calls-test`
 # compares worked lists and random decks with a plain list of rows; `make files-test` tries that nothing loses a file, and `make crash-test` that a crash leaves the last commit; `make definitions` lists each word of
 # the specs; `make bench` measures hd, and SQLite beside it; `make dli` makes hdrun, which runs programs that call DL/I, and
-# `make dli-test` tries it; `make install` puts the program and its manual pages below PREFIX, `make install-dli` what programs
+# `make dli-test` tries it; `make install` puts the program, its manual pages and what shells complete below PREFIX, `make install-dli` what programs
 # want, hd.py where Python looks for modules, and `make uninstall` takes them away.
 .PHONY: all run test program-test install-test serve-test commits-test calls-test files-test crash-test edits examples definitions bench dli dli-test has-room install uninstall install-dli clean
 
@@ -103,6 +103,9 @@ PYTHON ?= python3
 BIN = $(DESTDIR)$(PREFIX)/bin
 MAN = $(DESTDIR)$(PREFIX)/share/man
 INCLUDE = $(DESTDIR)$(PREFIX)/include
+# where bash and zsh look for what they complete behind hd
+BASH_COMPLETION = $(DESTDIR)$(PREFIX)/share/bash-completion/completions
+ZSH_COMPLETION = $(DESTDIR)$(PREFIX)/share/zsh/site-functions
 # the folder in which Python looks for modules; where PREFIX is given, one below it
 MODULES = $(PYTHON) make/modules.py $(if $(filter file,$(origin PREFIX)),,'$(PREFIX)')
 
@@ -110,19 +113,24 @@ bin/hd-formats.5: docs/manual.py docs/FORMATS.md
 	mkdir -p bin
 	python3 docs/manual.py docs/FORMATS.md >$@
 
+bin/hd.bash bin/hd.zsh: bin/hd.%: bin/hd make/completion.py make/commands.py
+	python3 make/completion.py $* bin/hd >$@
+
 # whether another program has hd's place, as hexdump of the package bsdextrautils has it in /usr/bin; FORCE=1 takes the place of any
 IS_OTHER = [ -e $(BIN)/hd ] && ! $(BIN)/hd --version </dev/null 2>&1 | grep -q '^hd [0-9]'
 
 has-room:
 	@if [ "$(FORCE)" != 1 ] && $(IS_OTHER); then echo '$(BIN)/hd is another program, and stays: give another PREFIX, or FORCE=1 to replace it' >&2; exit 1; fi
 
-install: has-room bin/hd bin/hd-formats.5
+install: has-room bin/hd bin/hd-formats.5 bin/hd.bash bin/hd.zsh
 	install -D -m 755 bin/hd $(BIN)/hd
 	install -D -m 644 docs/hd.1 $(MAN)/man1/hd.1
 	install -D -m 644 bin/hd-formats.5 $(MAN)/man5/hd-formats.5
+	install -D -m 644 bin/hd.bash $(BASH_COMPLETION)/hd
+	install -D -m 644 bin/hd.zsh $(ZSH_COMPLETION)/_hd
 
 uninstall:
-	if ! { $(IS_OTHER); }; then rm -f $(BIN)/hd; fi
+	if ! { $(IS_OTHER); }; then rm -f $(BIN)/hd $(BASH_COMPLETION)/hd $(ZSH_COMPLETION)/_hd; fi
 	rm -f $(MAN)/man1/hd.1 $(MAN)/man5/hd-formats.5
 	rm -f $(BIN)/hdrun $(MAN)/man1/hdrun.1 $(INCLUDE)/ims.h
 	place="$(DESTDIR)$$($(MODULES))" && rm -f "$$place"/hd.py "$$place"/__pycache__/hd.*.pyc

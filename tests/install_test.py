@@ -25,9 +25,48 @@ FILES = {
     "bin/hd",
     "share/man/man1/hd.1",
     "share/man/man5/hd-formats.5",
+    "share/bash-completion/completions/hd",
+    "share/zsh/site-functions/_hd",
 }
 # What `make install-dli` leaves there, beside hd.py.
 DLI_FILES = {"bin/hdrun", "share/man/man1/hdrun.1", "include/ims.h"}
+
+# What bash completes behind words, of which the last is typed in part or not yet; FILES stands for names of files.
+COMPLETED = """
+hd |deck serve check recover unload reload show rows stream explain
+hd re|recover reload
+hd --e|--explain
+hd --explain |always never auto
+hd --explain = n|never
+hd --explain always ch|check
+hd check |FILES
+hd check edu.dbd |FILES
+hd check edu.dbd edu.volume |
+hd check edu.dbd --c|--cache
+hd check --cache |
+hd check --cache = |
+hd check --cache 9 edu.dbd |FILES
+hd check --cache = 9 edu.dbd edu.volume |
+hd --explain = always deck a b c |FILES
+hd reload edu.dbd edu.stream |FILES
+hd reload edu.dbd edu.stream edu.volume |
+hd recover edu.dbd edu.volume |FILES
+hd rows --csv |
+hd stream --csv |FILES
+hd stream --|--csv --explain --no-sync --help
+hd serve --com|--commit-on-request
+hd show --svg |FILES
+hd explain Fu|Full
+hd explain GB |
+hd nothing |
+"""
+
+# A shell that completes the words of its command line.
+SHELL = """
+source "$1" && shift && compopt() { found=; } && found=FILES && COMP_WORDS=("$@") COMP_CWORD=$(($# - 1)) &&
+_hd hd "${COMP_WORDS[COMP_CWORD]}" "${COMP_WORDS[COMP_CWORD - 1]}"
+echo "${COMPREPLY[*]:-$found}"
+"""
 
 count = Count()
 expect = count.expect
@@ -59,12 +98,25 @@ def program(place):
         expect(what, done.returncode == 0 and files(place) == FILES, f"{done.stdout}{files(place)}")
     said = subprocess.run([os.path.join(place, "bin/hd"), "--version"], stderr=subprocess.PIPE, encoding="utf-8", timeout=60).stderr
     expect("the program runs from there", said.startswith("hd "), said)
+    completion(os.path.join(place, "share/bash-completion/completions/hd"))
     done = make("uninstall", f"PREFIX={place}")
     expect("uninstall leaves nothing", done.returncode == 0 and not files(place), f"{done.stdout}{files(place)}")
     done = make("install", f"DESTDIR={place}/stage")
     expect("install into a stage", done.returncode == 0 and files(f"{place}/stage/usr/local") == FILES, done.stdout)
     make("uninstall", f"DESTDIR={place}/stage")
     expect("uninstall from a stage leaves nothing", not files(place), f"{files(place)}")
+
+
+def completion(script):
+    """What bash completes, and that the script of zsh is one, where there is a zsh."""
+    for line in COMPLETED.strip().split("\n"):
+        typed, _, wanted = line.partition("|")
+        done = subprocess.run(["bash", "--norc", "-c", SHELL, "bash", script, *typed.split(" ")], stdout=subprocess.PIPE, stderr=subprocess.STDOUT, encoding="utf-8", timeout=60)
+        expect(f"completes {typed}", done.stdout == wanted + "\n", done.stdout)
+    if shutil.which("zsh"):
+        place = os.path.dirname(os.path.dirname(os.path.dirname(script)))
+        done = subprocess.run(["zsh", "-n", f"{place}/zsh/site-functions/_hd"], stdout=subprocess.PIPE, stderr=subprocess.STDOUT, encoding="utf-8", timeout=60)
+        expect("the completion of zsh is read", (done.returncode, done.stdout) == (0, ""), done.stdout)
 
 
 def other(place):
