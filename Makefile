@@ -1,7 +1,7 @@
 # `make run` plays the sample deck at once, by a build that is not proved; `make` proves hd and leaves it at bin/hd; `make test`
 # is the gate, with all that tests play over the proved program and that the documents and the programs of other languages show, and `make edits OF=NAME` tries more edits
-# of a crate than the gate does. `make examples` plays what the documents and examples show, and compares, and so the words of
-# FORMATS; `make program-test` plays hd over many cases of words, files and standard input; `make install-test` installs it into folders of its own; `make serve-test` plays frames of `hd serve`, and `make commits-test` programs that commit, take back and are killed; `make calls-test`
+# of a crate than the gate does. `make examples` plays what the documents, the manual page and examples show, and compares, and so the words of
+# FORMATS and how hd is called; `make program-test` plays hd over many cases of words, files and standard input; `make install-test` installs it into folders of its own; `make serve-test` plays frames of `hd serve`, and `make commits-test` programs that commit, take back and are killed; `make calls-test`
 # compares worked lists and random decks with a plain list of rows; `make files-test` tries that nothing loses a file, and `make crash-test` that a crash leaves the last commit; `make definitions` lists each word of
 # the specs; `make bench` measures hd, and SQLite beside it; `make dli` makes hdrun, which runs programs that call DL/I, and
 # `make dli-test` tries it; `make install` puts the program, its manual pages and what shells complete below PREFIX, `make install-dli` what programs
@@ -75,7 +75,8 @@ edits:
 examples: bin/hd
 	python3 docs/definitions.py --check
 	python3 examples/words.py
-	python3 examples/check.py docs/USING.md examples/edu examples/*/README.md examples/hospital/DAMAGED.md
+	python3 examples/usage.py
+	python3 examples/check.py docs/USING.md examples/edu + README.md + docs/hd.1 docs/IMS.md examples/parts examples/*/README.md examples/hospital/DAMAGED.md
 
 # each word of the specs with its sentence and its file
 definitions:
