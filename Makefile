@@ -76,7 +76,7 @@ examples: bin/hd
 	python3 docs/definitions.py --check
 	python3 examples/words.py
 	python3 examples/usage.py
-	python3 examples/check.py docs/USING.md examples/edu + README.md + docs/hd.1 docs/IMS.md examples/parts examples/*/README.md examples/hospital/DAMAGED.md
+	python3 examples/check.py docs/USING.md examples/edu + README.md + docs/hd.1 docs/OPERATING.md examples/edu docs/IMS.md examples/parts examples/*/README.md examples/hospital/DAMAGED.md
 
 # each word of the specs with its sentence and its file
 definitions:
