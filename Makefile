@@ -1,4 +1,4 @@
-# `make run` plays the sample deck at once, by a build that is not proved; `make` proves hd and leaves it at bin/hd; `make test`
+# `make run` plays the sample deck, by a build that is not proved and stays in bin/unproved, and `make try IN=examples/edu WORDS='show edu.dbd'` any command; `make` proves hd and leaves it at bin/hd; `make test`
 # is the gate, with all that tests play over the proved program and that the documents and the programs of other languages show, and `make edits OF=NAME` tries more edits
 # of a crate than the gate does. `make examples` plays what the documents, the manual page and examples show, and compares, and so the words of
 # FORMATS and how hd is called; `make program-test` plays hd over many cases of words, files and standard input; `make install-test` installs it into folders of its own; `make serve-test` plays frames of `hd serve`, and `make commits-test` programs that commit, take back and are killed; `make calls-test`
@@ -6,7 +6,7 @@
 # the specs; `make bench` measures hd, and SQLite beside it; `make dli` makes hdrun, which runs programs that call DL/I, and
 # `make dli-test` tries it; `make install` puts the program, its manual pages and what shells complete below PREFIX, `make install-dli` what programs
 # want, hd.py where Python looks for modules, and `make uninstall` takes them away.
-.PHONY: all run test program-test install-test serve-test commits-test calls-test files-test crash-test edits examples definitions bench dli dli-test has-room install uninstall install-dli clean
+.PHONY: all run try test program-test install-test serve-test commits-test calls-test files-test crash-test edits examples definitions bench dli dli-test has-room install uninstall install-dli clean
 
 SHELL = /bin/bash
 
@@ -20,9 +20,24 @@ bin/hd: crates.txt $(SOURCES)
 	mkdir -p bin
 	python3 make/prove.py bin/hd
 
-run:
-	@echo 'This build is not proved: it is run before any proof. `make` proves hd, and says how long that takes.' >&2
-	@cd crates/hd && rt try <stdin
+# hd before any proof; what a proof alone needs does not make it anew
+bin/unproved/hd: crates.txt $(filter %.rt,$(SOURCES)) make/unproved.py
+	@echo 'Building hd without a proof, which takes two minutes and more on a busy machine.' >&2
+	@mkdir -p bin/unproved
+	@python3 make/unproved.py $@
+
+UNPROVED = @echo 'This build is not proved: it is run before any proof. `make` proves hd, and says how long that takes.' >&2
+
+run: bin/unproved/hd
+	$(UNPROVED)
+	@bin/unproved/hd <crates/hd/stdin
+
+# any command: WORDS are the words behind hd, as a shell reads them, and names of files in them are those of the folder IN, or else of the one in which make is called
+IN ?= $(or $(PWD),.)
+
+try: bin/unproved/hd
+	$(UNPROVED)
+	@cd '$(IN)' && '$(CURDIR)/bin/unproved/hd' $(WORDS)
 
 # how many proofs the gate makes side by side: one a processor, and one for each 4 GB of memory
 LANES = $(shell awk -v cores=$$(nproc) '/MemAvailable/ { fit = int($$2 / 4000000); print (fit < 1) ? 1 : (fit < cores) ? fit : cores }' /proc/meminfo)
