@@ -5,6 +5,7 @@
 
 Nothing is built. What is not there is said, and left out.
 """
+import contextlib
 import os
 import shutil
 import subprocess
@@ -33,7 +34,7 @@ DLI_FILES = {"bin/hdrun", "share/man/man1/hdrun.1", "include/ims.h"}
 
 # What bash completes behind words, of which the last is typed in part or not yet; FILES stands for names of files.
 COMPLETED = """
-hd |deck serve check recover unload reload show rows stream explain
+hd s|serve show stream
 hd re|recover reload
 hd --e|--explain
 hd --explain |always never auto
@@ -183,6 +184,10 @@ def main(words):
         tries += [modules, environment]
     else:
         print("(install-dli is not tried: there is no hdrun)")
+    # make is told that the program is old, and would not make these anew
+    for name in ("hd.bash", "hd.zsh"):
+        with contextlib.suppress(FileNotFoundError):
+            os.remove(os.path.join(ROOT, "bin", name))
     for one in tries:
         with tempfile.TemporaryDirectory(prefix="hd-install-") as place:
             one(os.path.join(os.path.realpath(place), "place"))
