@@ -10,6 +10,9 @@
 
 SHELL = /bin/bash
 
+# no half of a file stays where what writes it fails
+.DELETE_ON_ERROR:
+
 all: bin/hd
 
 # the crates of the program; the others are of tests
