@@ -147,6 +147,7 @@ install: has-room bin/hd bin/hd-formats.5 bin/hd.bash bin/hd.zsh
 	install -D -m 644 bin/hd-formats.5 $(MAN)/man5/hd-formats.5
 	install -D -m 644 bin/hd.bash $(BASH_COMPLETION)/hd
 	install -D -m 644 bin/hd.zsh $(ZSH_COMPLETION)/_hd
+	@if [ -z "$(DESTDIR)" ] && ! [ "$$(command -v hd)" -ef $(BIN)/hd ]; then echo 'PATH finds another hd, or none, before this one: $(BIN)' >&2; fi
 
 uninstall:
 	if ! { $(IS_OTHER); }; then rm -f $(BIN)/hd $(BASH_COMPLETION)/hd $(ZSH_COMPLETION)/_hd; fi

@@ -97,6 +97,10 @@ def program(place):
     for what in ("install", "a second install"):
         done = make("install", f"PREFIX={place}")
         expect(what, done.returncode == 0 and files(place) == FILES, f"{done.stdout}{files(place)}")
+    told = f"PATH finds another hd, or none, before this one: {place}/bin\n"
+    expect("a folder that PATH does not have first is told", done.stdout.endswith(told), done.stdout)
+    done = make("install", f"PREFIX={place}", PATH=f"{place}/bin:{os.environ['PATH']}")
+    expect("and no other", done.returncode == 0 and told not in done.stdout, done.stdout)
     said = subprocess.run([os.path.join(place, "bin/hd"), "--version"], stderr=subprocess.PIPE, encoding="utf-8", timeout=60).stderr
     expect("the program runs from there", said.startswith("hd "), said)
     completion(os.path.join(place, "share/bash-completion/completions/hd"))
