@@ -7,5 +7,5 @@ with hd.open("parts.dbd", "parts.psb", "parts.volume") as session:
         print(part.key.decode(), stock)
     held = pcb.ghu(hd.ssa("PART", PARTNO="CG2040"), hd.ssa("STOCK", WHOUSE="HAM"))
     answer = pcb.repl(held.changed(ONHAND="000027"))
-    print(held["ONHAND"].decode(), repr(answer.status))
+    print(held.area.decode(), repr(answer.status))
     session.commit()
