@@ -1,14 +1,17 @@
-# `make run` plays the sample deck at once, by a build that is not proved; `make` proves hd and leaves it at bin/hd; `make test`
+# `make run` plays the sample deck, by a build that is not proved and stays in bin/unproved, and `make try IN=examples/edu WORDS='show edu.dbd'` any command; `make` proves hd and leaves it at bin/hd; `make test`
 # is the gate, with all that tests play over the proved program and that the documents and the programs of other languages show, and `make edits OF=NAME` tries more edits
-# of a crate than the gate does. `make examples` plays what the documents and examples show, and compares, and so the words of
-# FORMATS; `make program-test` plays hd over many cases of words, files and standard input; `make serve-test` plays frames of `hd serve`, and `make commits-test` programs that commit, take back and are killed; `make calls-test`
+# of a crate than the gate does. `make examples` plays what the documents, the manual page and examples show, and compares, and so the words of
+# FORMATS and how hd is called; `make program-test` plays hd over many cases of words, files and standard input; `make install-test` installs it into folders of its own; `make serve-test` plays frames of `hd serve`, and `make commits-test` programs that commit, take back and are killed; `make calls-test`
 # compares worked lists and random decks with a plain list of rows; `make files-test` tries that nothing loses a file, and `make crash-test` that a crash leaves the last commit; `make definitions` lists each word of
 # the specs; `make bench` measures hd, and SQLite beside it; `make dli` makes hdrun, which runs programs that call DL/I, and
-# `make dli-test` tries it; `make install` puts the program and its manual pages below PREFIX, `make install-dli` what programs
-# want, and `make uninstall` takes them away.
-.PHONY: all run test program-test serve-test commits-test calls-test files-test crash-test edits examples definitions bench dli dli-test install uninstall install-dli clean
+# `make dli-test` tries it; `make install` puts the program, its manual pages and what shells complete below PREFIX, `make install-dli` what programs
+# want, hd.py where Python looks for modules, and `make uninstall` takes them away.
+.PHONY: all run try test program-test install-test serve-test commits-test calls-test files-test crash-test edits examples definitions bench dli dli-test has-room install uninstall install-dli clean
 
 SHELL = /bin/bash
+
+# no half of a file stays where what writes it fails
+.DELETE_ON_ERROR:
 
 all: bin/hd
 
@@ -20,9 +23,24 @@ bin/hd: crates.txt $(SOURCES)
 	mkdir -p bin
 	python3 make/prove.py bin/hd
 
-run:
-	@echo 'This build is not proved: it is run before any proof. `make` proves hd, and says how long that takes.' >&2
-	@cd crates/hd && rt try <stdin
+# hd before any proof; what a proof alone needs does not make it anew
+bin/unproved/hd: crates.txt $(filter %.rt,$(SOURCES)) make/unproved.py
+	@echo 'Building hd without a proof, which takes two minutes and more on a busy machine.' >&2
+	@mkdir -p bin/unproved
+	@python3 make/unproved.py $@
+
+UNPROVED = @echo 'This build is not proved: it is run before any proof. `make` proves hd, and says how long that takes.' >&2
+
+run: bin/unproved/hd
+	$(UNPROVED)
+	@bin/unproved/hd <crates/hd/stdin
+
+# any command: WORDS are the words behind hd, as a shell reads them, and names of files in them are those of the folder IN, or else of the one in which make is called
+IN ?= $(or $(PWD),.)
+
+try: bin/unproved/hd
+	$(UNPROVED)
+	@cd '$(IN)' && '$(CURDIR)/bin/unproved/hd' $(WORDS)
 
 # how many proofs the gate makes side by side: one a processor, and one for each 4 GB of memory
 LANES = $(shell awk -v cores=$$(nproc) '/MemAvailable/ { fit = int($$2 / 4000000); print (fit < 1) ? 1 : (fit < cores) ? fit : cores }' /proc/meminfo)
@@ -38,6 +56,10 @@ crash-test: bin/hd
 # what hd prints and leaves, and its statuses, for the cases of tests/cases
 program-test: bin/hd
 	python3 tests/program_test.py bin/hd
+
+# what make install and install-dli leave, and uninstall takes away
+install-test: bin/hd $(if $(shell command -v $(CC)),bin/hdrun)
+	python3 tests/install_test.py bin
 
 # frames of calls, and of what is no call, to hd serve
 serve-test: bin/hd
@@ -59,7 +81,7 @@ test:
 	mkdir -p bin
 	TIMEFORMAT='%R s, and %U s of processors' && set -o pipefail && time RT_JOBS=$(LANES) rt ci | tee bin/gate.log
 	python3 make/stamp.py crates/hd/out/hd bin/hd
-	$(MAKE) --no-print-directory -o bin/hd program-test serve-test commits-test calls-test examples $(DLI_TEST)
+	$(MAKE) --no-print-directory -o bin/hd program-test install-test serve-test commits-test calls-test examples $(DLI_TEST)
 	@$(if $(DLI_TEST),,echo 'No program in COBOL or C was tried: this machine has no cobc, or no C compiler.' >&2)
 	@tail -n 1 bin/gate.log
 
@@ -71,7 +93,8 @@ edits:
 examples: bin/hd
 	python3 docs/definitions.py --check
 	python3 examples/words.py
-	python3 examples/check.py docs/USING.md examples/edu examples/*/README.md examples/hospital/DAMAGED.md
+	python3 examples/usage.py
+	python3 examples/check.py docs/USING.md examples/edu + README.md + docs/hd.1 docs/OPERATING.md examples/edu docs/IMS.md examples/parts examples/*/README.md examples/hospital/DAMAGED.md
 
 # each word of the specs with its sentence and its file
 definitions:
@@ -95,28 +118,51 @@ dli-test: bin/hd bin/hdrun
 	empty=$$(mktemp -d) && trap "rmdir $$empty" EXIT && python3 examples/check.py docs/PROGRAMS.md $$empty
 
 PREFIX ?= /usr/local
+PYTHON ?= python3
 BIN = $(DESTDIR)$(PREFIX)/bin
 MAN = $(DESTDIR)$(PREFIX)/share/man
+INCLUDE = $(DESTDIR)$(PREFIX)/include
+# where bash and zsh look for what they complete behind hd
+BASH_COMPLETION = $(DESTDIR)$(PREFIX)/share/bash-completion/completions
+ZSH_COMPLETION = $(DESTDIR)$(PREFIX)/share/zsh/site-functions
+# the folder in which Python looks for modules; where PREFIX is given, one below it
+MODULES = $(PYTHON) make/modules.py $(if $(filter file,$(origin PREFIX)),,'$(PREFIX)')
 
 bin/hd-formats.5: docs/manual.py docs/FORMATS.md
 	mkdir -p bin
 	python3 docs/manual.py docs/FORMATS.md >$@
 
-install: bin/hd bin/hd-formats.5
+bin/hd.bash bin/hd.zsh: bin/hd.%: bin/hd make/completion.py make/commands.py
+	python3 make/completion.py $* bin/hd >$@
+
+# whether another program has hd's place, as hexdump of the package bsdextrautils has it in /usr/bin; FORCE=1 takes the place of any
+IS_OTHER = [ -e $(BIN)/hd ] && ! $(BIN)/hd --version </dev/null 2>&1 | grep -q '^hd [0-9]'
+
+has-room:
+	@if [ "$(FORCE)" != 1 ] && $(IS_OTHER); then echo '$(BIN)/hd is another program, and stays: give another PREFIX, or FORCE=1 to replace it' >&2; exit 1; fi
+
+install: has-room bin/hd bin/hd-formats.5 bin/hd.bash bin/hd.zsh
 	install -D -m 755 bin/hd $(BIN)/hd
 	install -D -m 644 docs/hd.1 $(MAN)/man1/hd.1
 	install -D -m 644 bin/hd-formats.5 $(MAN)/man5/hd-formats.5
+	install -D -m 644 bin/hd.bash $(BASH_COMPLETION)/hd
+	install -D -m 644 bin/hd.zsh $(ZSH_COMPLETION)/_hd
+	@if [ -z "$(DESTDIR)" ] && ! [ "$$(command -v hd)" -ef $(BIN)/hd ]; then echo 'PATH finds another hd, or none, before this one: $(BIN)' >&2; fi
 
 uninstall:
-	rm -f $(BIN)/hd $(MAN)/man1/hd.1 $(MAN)/man5/hd-formats.5
-	rm -f $(BIN)/hdrun $(MAN)/man1/hdrun.1 $(DESTDIR)$(PREFIX)/include/ims.h $(DESTDIR)$(PREFIX)/share/hd/hd.py
+	if ! { $(IS_OTHER); }; then rm -f $(BIN)/hd $(BASH_COMPLETION)/hd $(ZSH_COMPLETION)/_hd; fi
+	rm -f $(MAN)/man1/hd.1 $(MAN)/man5/hd-formats.5
+	rm -f $(BIN)/hdrun $(MAN)/man1/hdrun.1 $(INCLUDE)/ims.h
+	place="$(DESTDIR)$$($(MODULES))" && rm -f "$$place"/hd.py "$$place"/__pycache__/hd.*.pyc
 
-# what programs in COBOL, C and Python want, beside hd
+# what programs in COBOL, C and Python want, beside hd; the last line is told where Python does not look for modules there
 install-dli: bin/hdrun
 	install -D -m 755 bin/hdrun $(BIN)/hdrun
 	install -D -m 644 dli/hdrun.1 $(MAN)/man1/hdrun.1
-	install -D -m 644 dli/include/ims.h $(DESTDIR)$(PREFIX)/include/ims.h
-	install -D -m 644 dli/hd.py $(DESTDIR)$(PREFIX)/share/hd/hd.py
+	install -D -m 644 dli/include/ims.h $(INCLUDE)/ims.h
+	place="$(DESTDIR)$$($(MODULES))" && install -D -m 644 dli/hd.py "$$place/hd.py"
+	@place="$$($(MODULES))" && if [ -z "$(DESTDIR)" ] && ! (cd / && $(PYTHON) -c 'import sys; sys.exit(sys.argv[1] not in sys.path)' "$$place"); then \
+	echo "Python does not look for hd.py there by itself: PYTHONPATH=$$place" >&2; fi
 
 clean:
 	rm -rf bin crates/*/out

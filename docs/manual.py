@@ -3,7 +3,7 @@
 
     docs/manual.py docs/FORMATS.md >hd-formats.5
 
-It knows what the page has: headings, paragraphs, tables, texts that are set off by four blanks, and words in backquotes.
+It knows what the page has: headings, paragraphs, lists, tables, texts that are set off by four blanks, and words in backquotes.
 """
 import re
 import sys
@@ -15,12 +15,17 @@ def inline(text):
     text = re.sub(r"\[([^]]*)\]\([^)]*\)", r"\1", text)
     text = re.sub(r"`([^`]*)`", r"\\fB\1\\fR", text)
     text = re.sub(r"\*([^*\s][^*]*)\*", r"\\fI\1\\fR", text)
-    return re.sub(r"^([.'])", r"\\&\1", text)
+    return spelled(text)
 
 
 def plain(text):
     """A line that is set off, as it is."""
-    text = text.replace("\\", "\\e").replace("-", "\\-")
+    return spelled(text.replace("\\", "\\e").replace("-", "\\-"))
+
+
+def spelled(text):
+    """A text that begins no request of the formatter's, its letters beyond ASCII by their numbers."""
+    text = "".join(letter if letter.isascii() else f"\\[u{ord(letter):04X}]" for letter in text)
     return re.sub(r"^([.'])", r"\\&\1", text)
 
 
@@ -35,6 +40,15 @@ def table(rows):
     for row in rows[2:]:
         first, *rest = cells(row)
         lines += [".TP", inline(first) or "\\&", inline("; ".join(cell for cell in rest if cell)) or "\\&"]
+    return lines
+
+
+def points(rows):
+    """The points of a list, whose further lines are indented."""
+    lines = []
+    for row in rows:
+        lines += [".IP \\(bu 2"] if row.startswith("- ") else []
+        lines += [inline(row.removeprefix("- ").strip())]
     return lines
 
 
@@ -54,6 +68,8 @@ def page(name, section, text):
             lines += [".SS " + inline(rows[0][4:])]
         elif rows[0].startswith("|"):
             lines += table(rows)
+        elif rows[0].startswith("- "):
+            lines += points(rows)
         elif rows[0].startswith("    "):
             lines += [".PP", ".in +4n", ".EX", *(plain(row[4:]) for row in rows), ".EE", ".in"]
         else:
