@@ -146,6 +146,32 @@ def entries(place):
     expect("an I/O PCB answers checkpoints", (done.returncode, done.stdout) == (0, IO_PCB), done.stdout)
 
 
+# PCBs in other words, each of which is that of PARTRPT.psb
+PCBS = """
+* PCB TYPE=DB,DBDNAME=NONE   CMPAT=YES
+         PCB   TYPE=DB,NAME=PARTS,PROCOPT=G,KEYLEN=16   DBDNAME=NONE
+
+         PCB   TYPE=DB,PROCOPT=G,                                      X
+               DBDNAME=PARTS,KEYLEN=16
+"""
+
+
+def sources(place):
+    """PSBs in other words, and one that hd refuses: hdrun reads them as hd does."""
+    with open(os.path.join(SAMPLES, "PARTRPT.psb"), encoding="ascii") as file:
+        _, rest = file.read().split("\n", 1)
+    as_it_is = place.run("hdrun", "DLI,PARTRPT")
+    for pcb in PCBS.strip("\n").split("\n\n"):
+        with open(place.path("other.psb"), "w", encoding="ascii") as file:
+            file.write(f"{pcb}\n{rest}")
+        done = place.run("hdrun", "--psb", "other.psb", "DLI,PARTRPT")
+        expect(f"a PSB with {pcb}", (done.returncode, done.stdout) == (0, as_it_is.stdout), done.stdout)
+    with open(place.path("other.psb"), "w", encoding="ascii") as file:
+        file.write(f"{' ' * 80}X\n{rest}")
+    done = place.run("hdrun", "--psb", "other.psb", "DLI,PARTRPT")
+    expect("a PSB that is refused", done.returncode == 16 and "source refused: line 1, M1" in done.stdout, done.stdout)
+
+
 def refusals(place):
     """What is said where no program is run, and by programs that call what DL/I does not answer."""
     for words, part in (
@@ -490,6 +516,7 @@ def main(words):
         samples(place)
         fields(place)
         entries(place)
+        sources(place)
         refusals(place)
         commits(place)
         deaths(place)
