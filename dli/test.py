@@ -280,7 +280,7 @@ def killed(place, language, times, start):
             line = program.stdout.readline()
             told = int(line[:6]) if line[:6].isdigit() else told
         time.sleep(random.random() * 0.01)
-        servers = subprocess.run(["pgrep", "-P", str(program.pid)], stdout=subprocess.PIPE, encoding="ascii").stdout.split()
+        servers = subprocess.run(["pgrep", "-P", str(program.pid), "-f", " serve "], stdout=subprocess.PIPE, encoding="ascii").stdout.split()
         if turn % 3 == 1 and servers:
             os.kill(int(servers[0]), signal.SIGKILL)
         else:
