@@ -32,7 +32,7 @@ pub record IsWritten (result : Result Unit Refused) (is_sound : Bool) (failures 
   pub sound : StaysSound result is_sound new_is_sound
   pub contents_kept : OnOk result (IsTrue is_sound → new_contents ≡ contents)
 
--- A store commits these contents, if that is wanted and it is sound, or nothing.
+-- A store that is sound may commit these contents, done or tried, if that is wanted; else nothing is committed.
 abbrev pub MayCommit : Bool → Bool → List ℕ → Committed → Committed → Type 0
 MayCommit wanted is_sound contents old new = (new ≡ old) ⊎ (wanted ≡ true) × IsTrue is_sound × Commits contents old new
 
@@ -49,7 +49,7 @@ CommitsLastForests d =
     → IsLegalLogOf d pcbs image rows turns log → IsTrue is_sound → IsCommit is_sound log.last new old committed
     → PassesFor d committed.image (last_state d.types pcbs (opened pcbs rows) log.entries).rows
 
--- what a commit that failed may have left besides what was left before, passes for them too
+-- what a commit that failed may leave besides what was left before, passes for the rows that the log ends with too
 abbrev pub FailedCommitsTryForests : Database → Type 0
 FailedCommitsTryForests d =
     (pcbs : List View) (image : List ℕ) (rows : List Segment) (turns : List Turn) (log : Log (List ℕ)) (is_sound : Bool) (old new : Committed)
@@ -67,7 +67,7 @@ CommitsLeaveForests d =
     (images : List (List ℕ)) (log volume : List ℕ) → AllPass d images → StandsForOneOf images log volume → (rows : List Segment) × PassesFor d (recovered log volume) rows
 
 -- The law of crashes, of a database: the images that commits make last, of units of calls and of sessions with commits among their calls, pass for the rows
--- that the calls so far left; and so does whatever stands for one of these images, as all does that a crash leaves.
+-- that the calls so far left; and where images pass, so does whatever stands for one of them, as all does that a crash leaves of a safe store.
 pub record IsCrashLaw (d : Database) : Type 0 where
   pub units : UnitsLeaveForests d
   pub commits : CommitsLastForests d

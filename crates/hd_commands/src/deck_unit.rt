@@ -124,9 +124,9 @@ fn play_through<D: Disk, L: Ledger, P: Progress, O: Write, E: Write>(
 /// Plays a deck as one unit over a volume and its log, through a cache of so many blocks, and makes last what its calls made of the volume. Says what
 /// the calls answer on `out`, or on `err` why they were not all made. Where they were, says how many of them found no memory.
 ///
-/// From `Ok` on a crash leaves what the calls left, whenever it comes. Until then, and behind a refusal, it leaves the volume as it was before the deck,
-/// or what the calls left: never what only a part of a call made. Of a moment before the deck it leaves what the commits before it say. Where a line
-/// could not be written, what was called before is made last; where an access failed, nothing is.
+/// From `Ok` on a crash leaves what the calls left, whenever it comes. Until then, and behind a refusal, it leaves the last commit's image, which is that
+/// before the deck where all of that was committed, or what the calls left: never what only a part of a call made. Of a moment before the deck it
+/// leaves what the commits before it say. Where a line could not be written, what was called before is committed too.
 pub fn play_unit<D: Disk, L: Ledger, P: Progress, O: Write, E: Write>(
     alloc: Global,
     dbd: &Dbd,

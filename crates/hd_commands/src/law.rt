@@ -20,7 +20,7 @@ pub fn law_headline()
 /// since a commit, leaves the image of that or of a later commit, and behind the last also that of one which was tried and failed; `commit` (`leaves`), that
 /// one at any moment of a commit leaves the old or the new. No other call changes which images these are: `committed` of every call of a store, up to those
 /// of a session. `commit` of a session says which image its commit makes last, or tries, and `play_unit` (`crash`, `commits`, `lasts`) says all of it of a
-/// deck that is one unit, as `serve` of `hd_serve::Service` (`lasts`) says of a served program which image each of its commits makes last. This law says that
+/// deck that is one unit, as `serve` of `hd_serve::Service` (`IsDone`) says of a served program which image each of its commits makes last. This law says that
 /// all these images pass, and so does whatever a crash leaves.
 pub fn law_crashes_leave_commits()
     ensures { CrashLaw }

@@ -7,8 +7,8 @@ pub record Mark : Type 0 where
   pub log : List ℕ
   pub volume : List ℕ
 
--- The bytes that reads return, the pairs of contents that a crash at this moment may leave, the moment, a number that does not fall,
--- the pairs that a crash at some moment from a given one on might have left, and the marks of the commits, the last first.
+-- The bytes that reads return; the pairs of contents that a crash at this moment may leave; the moment, which is a number that does not fall;
+-- the pairs that a crash at some moment from a given one on might have left; and the marks of the commits, the last first.
 pub record State : Type 1 where
   pub log : List ℕ
   pub volume : List ℕ
@@ -86,12 +86,12 @@ HasLog s = (l v : List ℕ) → s.may_leave l v → l ≡ s.log
 abbrev pub HasVolume : State → Type 0
 HasVolume s = (l v : List ℕ) → s.may_leave l v → v ≡ s.volume
 
--- A crash between the two, at any moment, leaves a pair that has P. Commits may be marked meanwhile.
+-- A crash between the old state and the new, at any moment, leaves a pair that has P. Commits may be marked meanwhile.
 pub record LeavesMeanwhile (P : List ℕ → List ℕ → Type 0) (old new : State) : Type 0 where
   pub later : old.moment ≤ new.moment
   pub each : (t : ℕ) (l v : List ℕ) → t ≤ old.moment → new.left_since t l v → old.left_since t l v ⊎ P l v
 
--- the same, and none is
+-- the same, and no commit is marked
 pub record Leaves (P : List ℕ → List ℕ → Type 0) (old new : State) : Type 0 where
   pub later : old.moment ≤ new.moment
   pub each : (t : ℕ) (l v : List ℕ) → t ≤ old.moment → new.left_since t l v → old.left_since t l v ⊎ P l v

@@ -31,13 +31,13 @@ abbrev pub StandsForOneOf : List (List ℕ) → List ℕ → List ℕ → Type 0
 StandsForOneOf [] log volume = ⊥
 StandsForOneOf (image ∷ images) log volume = StandsFor image log volume ⊎ StandsForOneOf images log volume
 
--- a crash at any moment since this one leaves a pair that stands for one of these images
+-- a crash at any moment since this one, which has passed, leaves a pair that stands for one of these images
 pub record LeavesOneOf (images : List (List ℕ)) (since : ℕ) (s : State) : Type 0 where
   pub past : since ≤ s.moment
   pub each : (l v : List ℕ) → s.left_since since l v → StandsForOneOf images l v
 
--- A crash at any moment since one of these commits, of which the later come first, leaves its image or that of a later one: of another of them, or one of
--- the images that came behind them all.
+-- A crash at any moment since one of these commits, the later of which come first, leaves its image or a later one: that of another of them, or one of the
+-- images that came behind all of them.
 abbrev pub AreSafe : List (List ℕ) → List Commit → State → Type 0
 AreSafe later [] s = Unit {0}
 AreSafe later (commit ∷ earlier) s = LeavesOneOf (commit.image ∷ later) commit.since s × AreSafe (commit.image ∷ later) earlier s

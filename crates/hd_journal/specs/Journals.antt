@@ -35,7 +35,7 @@ tried_in Doubtful last whole = whole
 abbrev pub commit_of : Mark → Commit
 commit_of m = record { image = recovered m.log m.volume; since = m.moment }
 
--- since the last mark, and the commits of those before it
+-- the moment of the last mark, and the commits of the marks before it
 abbrev pub since_in : List Mark → ℕ
 since_in [] = 0
 since_in (m ∷ marks) = m.moment
@@ -49,7 +49,7 @@ abbrev pub IsMarked : List ℕ → List Mark → Type 0
 IsMarked image [] = ⊥
 IsMarked image (m ∷ marks) = recovered m.log m.volume ≡ image
 
--- what a crash leaves, where the last commit has this image and that one was tried since
+-- what a crash leaves, where the last commit has the first image and a commit of the second was tried since
 abbrev pub committed_in : List ℕ → List ℕ → List Mark → Committed
 committed_in image tried marks = record { image = image; tried = tried; since = since_in marks; before = before_in marks }
 
@@ -57,7 +57,7 @@ committed_in image tried marks = record { image = image; tried = tried; since = 
 abbrev pub IsCommitted : List ℕ → Committed → Committed → Type 0
 IsCommitted contents old new = (new.image ≡ contents) × (new.tried ≡ contents) × (new.before ≡ commits_of old)
 
--- what it leaves of a journal
+-- what a crash leaves of a journal
 abbrev pub committed_of : {D : Type 0} → (D → State) → Journal D → Committed
 committed_of state j = committed_in (last_of state j) (tried_in j.stage (last_of state j) (contents_of state j)) (state j.disk).marks
 

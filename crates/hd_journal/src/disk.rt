@@ -54,7 +54,7 @@ pub trait Disk {
         ensures value { OnOk result (IsTrue is_honest → bytes_at (state self.new).volume at (length bytes.now) ≡ bytes.now) }
         ensures writes { IsTrue is_honest → WritesVolume at (length bytes.now) (state self.old) (state self.new) };
 
-    /// Makes the volume so many bytes long, with zeros behind its end.
+    /// Makes the volume so many bytes long, with zeros behind its old end.
     fn set_volume_len(&mut self, len: u64) -> Result<(), Failed>
         requires { IsTrue (is_usable self.old) }
         ensures usable { OnOk result (IsTrue (is_usable self.new)) }

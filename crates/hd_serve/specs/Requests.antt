@@ -45,8 +45,8 @@ module _ {Image : Type 0} where
   answers_to (ask turn ∷ requests) (e ∷ entries) = frame_bytes (outcome_bytes e.outcome) ++ answers_to requests entries
   answers_to (commit ∷ requests) entries = frame_bytes done_bytes ++ answers_to requests entries
 
-  -- the images that the commits among requests found, in their order, where their calls came to these entries and the last image: each that before the
-  -- call behind the commit, or the last where there is none
+  -- The images that the commits among requests found, in their order. Their calls came to these entries, and left the last image: a commit found the image
+  -- before the call that follows it, or the last image where none does.
   abbrev pub committed_by : List Request → List (Entry Image) → Image → List Image
   committed_by [] entries last = []
   committed_by (ask turn ∷ requests) [] last = []

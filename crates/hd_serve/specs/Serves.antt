@@ -74,7 +74,7 @@ GoesOn rest = Unit {0}
 
 -- ---- in a session
 
--- Requests were carried out: their calls came to these entries, and a crash leaves what the last commit among them made last.
+-- Requests were carried out: their calls came to these entries, and each commit among them made last the image that it found.
 pub record AreDone (s : SessionState) (st : State) (requests : List Request) (entries : List (Entry (List ℕ))) (t : SessionState) : Type 0 where
   pub made : AreMade s st (calls_in requests) entries t
   pub lasts : Lasts (committed_by requests entries t.volume.image) s.volume.committed t.volume.committed
@@ -159,7 +159,7 @@ pub record IsServedToTheEnd (limits : Limits) (s : SessionState) (e : Ending) (i
   pub count : calls ≡ length (calls_in requests)
   pub serves : ServesAll s requests head old new lacking t
 
--- The input began with the frames of requests, and all of them were carried out; the answers of all but the last were written.
+-- The input began with the frames of requests, and all of them were carried out.
 pub record IsDoneInPart (limits : Limits) (s : SessionState) (input : Option (List ℕ)) (t : SessionState) : Type 0 where
   pub requests : List Request
   pub asked : AreAsked limits input requests GoesOn

@@ -31,8 +31,8 @@ pub record Commit : Type 0 where
   pub image : List ℕ
   pub since : ℕ
 
--- What a crash leaves of a store at any moment since this one: the image of its last commit, or that of a commit which was tried since then and
--- failed. Where none was, the two are one. The commits before the last, the later ones first, say it of earlier moments; the first is the opening.
+-- What a crash leaves of a store from its last commit on: the image of that, or of a commit which was tried since then and failed; where none was, the two
+-- images are one. The commits before the last, the later ones first, say it of earlier moments; the earliest is the opening.
 pub record Committed : Type 0 where
   pub image : List ℕ
   pub tried : List ℕ
@@ -47,7 +47,7 @@ commits_of c = record { image = c.image; since = c.since } ∷ c.before
 abbrev pub uncommitted : Committed
 uncommitted = record { image = []; tried = []; since = 0; before = [] }
 
--- A commit is done: the contents stay, a crash from now on leaves them, and the commits until now are those before it.
+-- A commit is done: the contents stay and are the image that a crash leaves, and the commits until now are those before it.
 abbrev pub IsCommit : Bool → List ℕ → List ℕ → Committed → Committed → Type 0
 IsCommit is_sound contents new_contents old new =
     IsTrue is_sound → (new_contents ≡ contents) × (new.image ≡ contents) × (new.tried ≡ contents) × (new.before ≡ commits_of old)
