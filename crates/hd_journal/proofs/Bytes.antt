@@ -146,14 +146,6 @@ byte-kept z v w at n torn behind was e =
     let l = torn.no_shorter in
     (omega arith, torn.below 0 there (behind e) ∙ (was e).1)
 
--- a write behind the base
-pub spares-behind : (h : Head) (z : Bool) (log first v w : List ℕ) (at n : ℕ) → Spares h z log first v → h.base ≤ at → (z ≡ true → 0 < at) → Torn at n v w → Spares h z log first w
-spares-behind h z log first v w at n s above behind torn = record {
-  base = (let b = s.base in let l = torn.no_shorter in omega arith);
-  each = λ k low. (let b = s.base in ap (byte_from h.size log h.count k) (torn.below k (omega arith) (omega arith)) ∙ s.each k low);
-  first_byte = byte-kept z v w at n torn behind s.first_byte;
-}
-
 -- a write within a block that has a frame
 pub spares-frame : (h : Head) (z : Bool) (log first v w : List ℕ) (i at n : ℕ) → 0 < h.size → i < h.count → Spares h z log first v → block_no h.size log i * h.size ≤ at → at + n ≤ block_no h.size log i * h.size + h.size
     → (z ≡ true → 0 < at) → Torn at n v w → Spares h z log first w

@@ -1,5 +1,5 @@
 -- What a crash leaves behind the last commit of a journal, by its stage.
-use Rattle.std.proofs.Common.{◌≡◌, ◌≢◌, inl, ⊎_elim, ℕ, ◌+◌, ◌-◌, ◌*◌, ◌<◌, ◌≤◌, List, length, slice_index, refl, sym, ap, ◌∙◌, subst, arith}
+use Rattle.std.proofs.Common.{◌≡◌, ◌≢◌, ℕ, ◌+◌, ◌-◌, ◌*◌, ◌<◌, ◌≤◌, List, length, slice_index, refl, sym, ap, ◌∙◌, subst, arith}
 use Rattle.std.proofs.lemmas.Nat.{row_fits}
 use Rattle.hd_stores.specs.Stores.{Committed}
 use Rattle.hd_journal.specs.Disk.{Mark, State, WritesLog, Leaves}
@@ -8,7 +8,7 @@ use Rattle.hd_journal.specs.declared.journal.Stage.{Stage}
 use Rattle.hd_journal.specs.declared.journal.Stage.TheVariants.{Collecting, Published, Doubtful}
 use Rattle.hd_journal.specs.Log.{frame_at, block_no, no_block, image, recovered, SameSlots}
 use Rattle.hd_journal.specs.Framed.{before, fresh, IsFramed, IsSafe}
-use Rattle.hd_journal.specs.States.{StandsFor, StandsForEither, SameBehind, IsPublished}
+use Rattle.hd_journal.specs.States.{StandsFor, SameBehind, IsPublished}
 use Rattle.hd_journal.specs.Journals.{Holds, tried_in, committed_in}
 use Rattle.hd_journal.proofs.Bytes.{frame-before, frame-up-to}
 use Rattle.hd_journal.proofs.Heads.{same-heads}

@@ -1,17 +1,16 @@
 -- A commit is marked: what a journal keeps goes over, and what a crash leaves is known.
-use Rattle.std.proofs.Common.{◌≡◌, ◌≢◌, ℕ, ◌<◌, ◌≤◌, Bool, false, List, [], ◌∷◌, length, slice_index, refl, sym, ap, ◌∙◌, subst}
+use Rattle.std.proofs.Common.{◌≡◌, ℕ, ◌≤◌, Bool, false, List, ◌∷◌, length, slice_index, refl, sym, ap, ◌∙◌, subst}
 use Rattle.hd_stores.specs.Stores.{Commit, Committed, commits_of}
 use Rattle.hd_journal.specs.declared.head.Head.{Head}
 use Rattle.hd_journal.specs.declared.journal.Stage.{Stage}
 use Rattle.hd_journal.specs.declared.journal.Stage.TheVariants.{Collecting, Published, Doubtful}
 use Rattle.hd_journal.specs.Disk.{Mark, State, Syncs, Marks, HasVolume}
-use Rattle.hd_journal.specs.Log.{image, recovered, Fits, Ends}
+use Rattle.hd_journal.specs.Log.{image, Fits, Ends}
 use Rattle.hd_journal.specs.States.{IsSettled, IsPublished, Begins, StandsFor}
 use Rattle.hd_journal.specs.Framed.{before, fresh, AreFrames, IsFramed, IsSafe}
-use Rattle.hd_journal.specs.Journals.{Holds, tried_in, commit_of, since_in, before_in, IsMarked, committed_in}
+use Rattle.hd_journal.specs.Journals.{Holds, before_in, IsMarked, committed_in}
 use Rattle.hd_journal.proofs.Moments.{synced, meanwhile}
 use Rattle.hd_journal.proofs.Safety.{safe-marks, safe-unmarked, marks-before}
-use Rattle.hd_journal.proofs.Held.{held-stands, tried-sure}
 
 abbrev pub mark_of : State → Mark
 mark_of s = record { moment = s.moment; log = s.log; volume = s.volume }

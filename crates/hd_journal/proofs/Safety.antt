@@ -1,11 +1,10 @@
 -- What a run leaves of the commits that were done.
-use Rattle.std.proofs.Common.{◌≡◌, ◌⊎◌, inl, inr, ⊎_elim, ℕ, ◌≤◌, Bool, true, false, List, [], ◌∷◌, map, refl, sym, ap, ◌∙◌, subst, arith}
+use Rattle.std.proofs.Common.{◌≡◌, inl, inr, ⊎_elim, ℕ, Bool, true, false, List, [], ◌∷◌, map, sym, ap, ◌∙◌, subst, arith}
 use Rattle.hd_stores.specs.Stores.{Commit, Committed, commits_of}
 use Rattle.hd_journal.specs.Disk.{Mark, State, Marks, Leaves, LeavesMeanwhile}
-use Rattle.hd_journal.specs.Log.{recovered}
 use Rattle.hd_journal.specs.States.{StandsFor, StandsForEither}
 use Rattle.hd_journal.specs.Framed.{StandsForOneOf, LeavesOneOf, AreSafe, IsSafe}
-use Rattle.hd_journal.specs.Journals.{commit_of, since_in, before_in, IsMarked, committed_in}
+use Rattle.hd_journal.specs.Journals.{commit_of, IsMarked, committed_in}
 use Rattle.hd_journal.proofs.Moments.{started, meanwhile, marked}
 
 -- each pair that stands for one of the first stands for one of the second

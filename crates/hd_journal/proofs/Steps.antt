@@ -1,8 +1,8 @@
 -- What each call of a redo leaves.
-use Rattle.std.proofs.Common.{Bool, true, false, ◌&&◌, ◌==◌, ◌≡◌, inl, inr, ℕ, ◌+◌, ◌-◌, ◌*◌, ◌<◌, ◌≤◌, min, List, length, get_or, slice_index, replicate, take, drop, add-one, refl, sym, ap, ◌∙◌, subst, arith}
+use Rattle.std.proofs.Common.{Bool, true, false, ◌&&◌, ◌==◌, ◌≡◌, inl, inr, ℕ, ◌+◌, ◌-◌, ◌*◌, ◌<◌, ◌≤◌, min, List, length, get_or, slice_index, take, drop, add-one, refl, sym, ap, ◌∙◌, subst, arith}
 use Rattle.std.proofs.lemmas.Bool.{cases_lt, cases_eq, cases_Bool, ne_eqb}
-use Rattle.std.proofs.lemmas.Grind.{common_steps, same_number_lists}
-use Rattle.std.proofs.lemmas.List.{get_or-replicate, length-replicate, get_or-drop, take_all}
+use Rattle.std.proofs.lemmas.Grind.{common_steps}
+use Rattle.std.proofs.lemmas.List.{get_or-drop, take_all}
 use Rattle.hd_bytes.specs.Ranges.{bytes_at}
 use Rattle.hd_bytes.specs.Numbers.{number_at}
 use Rattle.hd_bytes.proofs.NumberLemmas.{number-moved}
@@ -12,7 +12,7 @@ use Rattle.hd_journal.specs.Disk.{State, Torn, WritesVolume, CutsVolume, Syncs, 
 use Rattle.hd_journal.specs.declared.head.Head.{Head}
 use Rattle.hd_journal.specs.Log.{written_from, skipped, HasFirst, frame_at, block_no, no_block, byte_from, base_byte, Spares, HasFrames}
 use Rattle.hd_journal.specs.States.{IsSpared, IsSparing, Redoes, IsStill}
-use Rattle.hd_journal.proofs.Bytes.{frame-other, spares-byte, spares-open, spares-first, spares-behind, spares-frame, spares-cut, has-frame, base-within, base-behind}
+use Rattle.hd_journal.proofs.Bytes.{frame-other, spares-byte, spares-open, spares-first, spares-frame, spares-cut, has-frame, base-within, base-behind}
 use Rattle.hd_journal.proofs.Moments.{started, goes_on, followed, weakened}
 use Rattle.hd_journal.proofs.Slots.{block-few}
 

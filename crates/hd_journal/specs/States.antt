@@ -1,5 +1,5 @@
 -- What the steps of a commit and of a recovery leave.
-use Rattle.std.specs.Prelude.{Bool, true, ◌≡◌, ◌⊎◌, ℕ, ◌+◌, ◌<◌, ◌≤◌, List, length, slice_index}
+use Rattle.std.specs.Prelude.{Bool, true, ◌≡◌, ◌⊎◌, ℕ, ◌+◌, ◌≤◌, List, length, slice_index}
 use Rattle.hd_journal.specs.Disk.{State, Torn, HasLog, HasVolume, Leaves}
 use Rattle.hd_journal.specs.Log.{frame_at, gate_at, head_of, is_marked, image, recovered, IsShut, Ends, Fits, Spares}
 use Rattle.hd_journal.specs.declared.head.Head.{Head}

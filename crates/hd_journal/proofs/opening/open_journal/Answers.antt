@@ -12,7 +12,7 @@ use Rattle.hd_journal.proofs.JournalLemmas.{collectingâ‰¢published, collectingâ‰
 use Rattle.hd_journal.proofs.Held.{held-stands}
 use Rattle.hd_journal.proofs.Moments.{meanwhile, marked}
 use Rattle.hd_journal.proofs.Safety.{safe-first}
-use Rattle.hd_journal.proofs.Marking.{mark_of, image-over, framed-over, held-marked, mark-stands}
+use Rattle.hd_journal.proofs.Marking.{image-over, framed-over, held-marked, mark-stands}
 use Rattle.hd_journal.proofs.opening.open_journal.Goals as goal
 
 pub returns-clause-kept : goal.returns-clause-kept

@@ -1,4 +1,4 @@
-use Rattle.std.proofs.Common.{◌≡◌, ◌<◌, ℕ, length, slice_index, sym, ap, ◌∙◌, subst}
+use Rattle.std.proofs.Common.{◌<◌, ℕ, length, slice_index, sym, ap, ◌∙◌, subst}
 use Rattle.hd_journal.proofs.JournalLemmas.{ok-both}
 use Rattle.hd_journal.proofs.Steps.{redoes-first, redoes-more, redoes-cut, sparing-still, lengthened, unlengthened}
 use Rattle.hd_journal.proofs.redoing.lengthen.Goals as goal

@@ -1,10 +1,10 @@
-use Rattle.std.proofs.Common.{rules, ◌≡◌, ℕ, List, false, map, refl, sym, ap, ◌∙◌, subst}
+use Rattle.std.proofs.Common.{◌≡◌, ℕ, List, false, sym, ap, ◌∙◌, subst}
 use Rattle.std.proofs.lemmas.Bool.{true≢false}
 use Rattle.hd_journal.specs.Disk.{Marks, Syncs}
 use Rattle.hd_journal.specs.declared.head.Head.{Head}
 use Rattle.hd_journal.specs.Log.{image}
 use Rattle.hd_journal.specs.Framed.{IsSafe}
-use Rattle.hd_journal.specs.Journals.{tried_in, committed_in}
+use Rattle.hd_journal.specs.Journals.{committed_in}
 use Rattle.hd_journal.proofs.Held.{held-stands, tried-sure, unwritten, committed-same}
 use Rattle.hd_journal.proofs.Moments.{started, meanwhile, marked, synced, weakened}
 use Rattle.hd_journal.proofs.Safety.{marks-same}
